@@ -1,0 +1,18 @@
+//! The plain types that all layers share, and the definitions of tokens and texts (docs/language.md).
+#![tactic(auto)]
+
+mod byte_list;
+mod fault;
+mod limits;
+mod outcome;
+mod token;
+mod value;
+mod words;
+
+pub use byte_list::ByteList;
+pub use fault::{Code, Fault, Memory, Stop};
+pub use limits::{BODY_NAMES, GREATEST_NUMBER, MOST_STEPS, NAME_BYTES, SOURCE_BYTES, USUAL_STEPS};
+pub use outcome::{EndNumbers, Ended, Trap};
+pub use token::{Kind, Token};
+pub use value::{Val, Vals};
+pub use words::{Keyword, Manager, Sign};
