@@ -13,6 +13,36 @@ pub enum Code {
     Number,
     /// `E03 name`: a name of more than 64 bytes
     Name,
+    /// `E10 syntax`: a token that the grammar doesn't take there
+    Syntax,
+    /// `E11 nesting`: a bracket too deep
+    Nesting,
+    /// `E12 limit`: one too many of what a limit counts
+    Limit,
+    /// `E20 unknown`: a name that nothing has
+    Unknown,
+    /// `E21 duplicate`: a name that is there already
+    Duplicate,
+    /// `E22 bad type`: a type that can't stand there
+    BadType,
+    /// `E30 mismatch`: a type other than the one expected
+    Mismatch,
+    /// `E31 unavailable`: an `iso` variable that is gone or lent
+    Unavailable,
+    /// `E32 capability`: a reference that doesn't permit it
+    Capability,
+    /// `E33 outside window`: a variable that can't be assigned there
+    OutsideWindow,
+    /// `E34 loop`: a loop that may consume what was ready at its head
+    Loop,
+    /// `E35 arity`: another number of arguments than of parameters
+    Arity,
+    /// `E36 iso field`: an `iso` field used as a value
+    IsoField,
+    /// `E37 return`: a `return` that is missing or misplaced
+    Return,
+    /// `E38 call target`: a call whose result goes into a field
+    CallTarget,
     /// `E90 not built`: a form of the language that can't be run yet
     NotBuilt,
 }

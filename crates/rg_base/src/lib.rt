@@ -11,8 +11,11 @@ mod words;
 
 pub use byte_list::ByteList;
 pub use fault::{Code, Fault, Memory, Stop};
-pub use limits::{BODY_NAMES, GREATEST_NUMBER, MOST_STEPS, NAME_BYTES, SOURCE_BYTES, USUAL_STEPS};
+pub use limits::{
+    BODY_NAMES, BRACKETS, CLASS_FIELDS, CLASS_METHODS, CLASSES, GREATEST_NUMBER, MOST_STEPS,
+    NAME_BYTES, PARAMETERS, SOURCE_BYTES, STATEMENT_SIGNS, USUAL_STEPS,
+};
 pub use outcome::{EndNumbers, Ended, Trap};
 pub use token::{Kind, Token};
 pub use value::{Val, Vals};
-pub use words::{Keyword, Manager, Sign};
+pub use words::{Cap, Keyword, Manager, Sign};

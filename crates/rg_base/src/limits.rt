@@ -9,8 +9,26 @@ pub const NAME_BYTES: usize = 64;
 /// The greatest number that a source can write: the greatest `i64`.
 pub const GREATEST_NUMBER: u64 = 9_223_372_036_854_775_807;
 
-/// The most names of one body: `self`, the parameters, and those of `let` and `enter`.
+/// The most `{` and `(` that are open together: it bounds the depth of all that follows a tree.
+pub const BRACKETS: usize = 64;
+
+/// The most classes of a program.
+pub const CLASSES: usize = 1_024;
+
+/// The most fields of a class.
+pub const CLASS_FIELDS: usize = 64;
+
+/// The most methods of a class.
+pub const CLASS_METHODS: usize = 64;
+
+/// The most parameters of a method, `self` not counted.
+pub const PARAMETERS: usize = 16;
+
+/// The most names of one body: `self`, the parameters, and those of `let` and `enter`. A frame has no more slots.
 pub const BODY_NAMES: usize = 256;
+
+/// The most signs of two operands, `and` and `or` from a statement's first token to the next one's.
+pub const STATEMENT_SIGNS: usize = 512;
 
 /// The most steps that a command can ask for.
 pub const MOST_STEPS: u64 = 1_000_000_000;

@@ -1,4 +1,19 @@
-//! Reserved words, signs, managers (docs/language.md, "Tokens").
+//! Reserved words, signs, capabilities, managers (docs/language.md, "Tokens").
+
+/// What a reference permits.
+#[derive(Clone, Copy, Debug, PartialEq, Eq)]
+pub enum Cap {
+    /// `mut`: into the active region
+    Mut,
+    /// `tmp`: to a temporary
+    Tmp,
+    /// `paused`: into an open region, read only
+    Paused,
+    /// `imm`: to a frozen object
+    Imm,
+    /// `iso`: the one owner of a closed region
+    Iso,
+}
 
 /// Who frees the objects of a region.
 #[derive(Clone, Copy, Debug, PartialEq, Eq)]

@@ -1,0 +1,25 @@
+-- Counts of faults, and what sources and sinks tell of their content.
+use Rattle.std.specs.Prelude.{◌≡◌, ℕ, ◌-◌, ◌^◌, ◌<◌, ◌≤◌, ◌⊎◌, List, ◌++◌, Option, Some, None}
+
+-- a count of faults rose in a call: it is greater after the call than before, or stands at the greatest u64
+abbrev pub Rose : ℕ → ℕ → Type 0
+Rose old new = (old < new) ⊎ (2 ^ 64 - 1 ≤ new)
+
+-- where the content is told, these bytes came to its end
+abbrev pub Appends : Option (List ℕ) → Option (List ℕ) → List ℕ → Type 0
+Appends None new bytes = new ≡ None
+Appends (Some old) new bytes = new ≡ Some (old ++ bytes)
+
+-- the first list is a prefix of the second
+pub record IsPrefix (part whole : List ℕ) : Type 0 where
+  pub rest : List ℕ
+  pub whole_is : whole ≡ part ++ rest
+
+-- where the content is told, a prefix of these bytes came to its end
+abbrev pub AppendsPart : Option (List ℕ) → Option (List ℕ) → List ℕ → Type 0
+AppendsPart old new bytes = (part : List ℕ) × IsPrefix part bytes × Appends old new part
+
+-- where the content is told, these bytes were at its front and are gone
+abbrev pub Gives : Option (List ℕ) → Option (List ℕ) → List ℕ → Type 0
+Gives None new bytes = new ≡ None
+Gives (Some old) new bytes = (rest : List ℕ) × (old ≡ bytes ++ rest) × (new ≡ Some rest)

@@ -1,0 +1,5 @@
+//! A call that was refused by the outside.
+
+/// The call failed: the count of faults of the object that it was made on rose in it.
+#[derive(Clone, Copy, Debug, PartialEq, Eq)]
+pub struct Failed;
