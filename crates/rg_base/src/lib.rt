@@ -15,7 +15,7 @@ pub use limits::{
     BODY_NAMES, BRACKETS, CLASS_FIELDS, CLASS_METHODS, CLASSES, GREATEST_NUMBER, MOST_STEPS,
     NAME_BYTES, PARAMETERS, SOURCE_BYTES, STATEMENT_SIGNS, USUAL_STEPS,
 };
-pub use outcome::{EndNumbers, Ended, Trap};
+pub use outcome::{EndNumbers, Ended, Outcome, Trap};
 pub use token::{Kind, Token};
 pub use value::{Val, Vals};
 pub use words::{Cap, Keyword, Manager, Sign};

@@ -1,4 +1,6 @@
-//! How a run ends, and its numbers.
+//! How a step and a run end, and the numbers of a run.
+
+use crate::value::Val;
 
 /// Why a step stops the program (docs/language.md, "Steps").
 #[derive(Clone, Copy, Debug, PartialEq, Eq)]
@@ -15,6 +17,23 @@ pub enum Trap {
     End,
     /// `depth`: too many frames
     Depth,
+}
+
+/// What a step did.
+#[derive(Clone, Copy, Debug, PartialEq, Eq)]
+pub enum Outcome {
+    /// items are left
+    Running,
+    /// the step printed a value, and items are left
+    Printed(Val),
+    /// no item is left
+    Done,
+    /// the step stopped the program, at a line counted from 1; it changed nothing
+    Trap { kind: Trap, line: u64 },
+    /// the source of input numbers failed; the step changed nothing
+    InputFault,
+    /// no memory was found; the step changed nothing
+    Memory,
 }
 
 /// How a run of at most so many steps ends.

@@ -1,0 +1,4 @@
+pub mod State
+pub mod Plain
+pub mod Machine
+pub mod Runs
