@@ -7,6 +7,6 @@ mod sink;
 mod source;
 
 pub use failed::Failed;
-pub use files::{Files, Taken};
+pub use files::{Files, Taken, take_all};
 pub use sink::{Sink, put_all};
 pub use source::Source;
