@@ -1,0 +1,16 @@
+use Rattle.std.proofs.Common.{refl, inr, ◌∙◌, ap, Err, []}
+use Rattle.reggio.specs.Settled.{source_fault, memory}
+use Rattle.reggio.proofs.AnswerLemmas.{long-settles, settles-read}
+use Rattle.reggio.proofs.top.run_file.Goals as goal
+
+pub returns-in-Err-SourceFault-clause-settles : goal.returns-in-Err-SourceFault-clause-settles
+returns-in-Err-SourceFault-clause-settles g c = inr (source_fault, (c.requires, refl))
+
+pub returns-in-Err-Long-clause-settles : goal.returns-in-Err-Long-clause-settles
+returns-in-Err-Long-clause-settles g c = long-settles _ _ _ _ (c.take_all.ensures.long (c.in-Err-Long.is ∙ ap Err c.in-Err-Long.field-0-is)) c.requires
+
+pub returns-in-Err-Memory-clause-settles : goal.returns-in-Err-Memory-clause-settles
+returns-in-Err-Memory-clause-settles g c = inr (memory, (c.requires, refl))
+
+pub returns-in-Ok-clause-source_fault : goal.returns-in-Ok-clause-source_fault
+returns-in-Ok-clause-source_fault g c = λ e. absurd (settles-read _ _ _ _ _ _ (c.run_source.ensures.settles []) e)

@@ -1,0 +1,50 @@
+-- The commands that words give (docs/language.md, "The command line").
+use Rattle.std.specs.Prelude.{ℕ, ◌==◌, Bool, true, false, not, ◌&&◌, if◌then◌else◌, nat_le, List, [], ◌∷◌, length, Option, Some, None, option_map, bytes_eq, codes}
+use Rattle.std.specs.List.{list_all}
+use Rattle.rg_base.specs.declared.limits.TheConstants.{MOST_STEPS, USUAL_STEPS}
+use Rattle.rg_base.specs.Pieces.{is_digit}
+use Rattle.rg_base.specs.Tokens.{value_of}
+
+-- a command with its numbers
+pub data Command : Type 0 where
+  -- run FILE --steps N
+  run : (file : List ℕ) → (steps : ℕ) → Command
+
+-- the file that a command names
+abbrev pub file_of : Command → List ℕ
+file_of (run file steps) = file
+
+-- the most steps that a command asks for
+abbrev pub steps_of : Command → ℕ
+steps_of (run file steps) = steps
+
+-- whether a word can name a file: it isn't empty and doesn't begin with -
+abbrev pub is_file : List ℕ → Bool
+is_file [] = false
+is_file (b ∷ bs) = not (b == 45)
+
+-- whether a word writes a number: 1 to 10 digits
+abbrev pub is_number : List ℕ → Bool
+is_number word = nat_le 1 (length word) && nat_le (length word) 10 && list_all is_digit word
+
+-- the value of digits, up to a limit
+abbrev pub value_up_to : List ℕ → ℕ → Option ℕ
+value_up_to digits most = if nat_le (value_of digits) most then Some (value_of digits) else None
+
+-- the number that a word writes, up to a limit
+abbrev pub number_in : List ℕ → ℕ → Option ℕ
+number_in word most = if is_number word then value_up_to word most else None
+
+-- the number of steps that the words behind the file ask for
+abbrev pub steps_in : List (List ℕ) → Option ℕ
+steps_in [] = Some USUAL_STEPS
+steps_in (option ∷ []) = None
+steps_in (option ∷ number ∷ []) = if bytes_eq option (codes "--steps") then number_in number MOST_STEPS else None
+steps_in (option ∷ number ∷ more ∷ rest) = None
+
+-- The command that words give, if they give one. They don't include the program's name.
+abbrev pub command : List (List ℕ) → Option Command
+command [] = None
+command (name ∷ []) = None
+command (name ∷ file ∷ options) =
+    if bytes_eq name (codes "run") && is_file file then option_map (λ n. run file n) (steps_in options) else None

@@ -1,0 +1,57 @@
+-- What the layers under the top call have answered and left, by the status.
+use Rattle.std.specs.Prelude.{◌≡◌, ℕ, ◌⊎◌, List, Option}
+use Rattle.rg_base.specs.declared.limits.TheConstants.{SOURCE_BYTES}
+use Rattle.rg_base.specs.declared.outcome.Ended.{Ended}
+use Rattle.rg_base.specs.declared.outcome.Ended.TheVariants as ended
+use Rattle.rg_base.specs.Text.{text}
+use Rattle.rg_io.specs.Content.{Appends}
+use Rattle.rg_io.specs.Files.{Told, HasFile, HasLongFile}
+use Rattle.rg_parse.specs.Tree.{Program}
+use Rattle.rg_run.specs.Plain.{plain}
+use Rattle.rg_run.specs.Machine.{Kept}
+use Rattle.rg_run.specs.Runs.{output_after, ShowsRan}
+use Rattle.reggio.specs.declared.status.Status.{Status}
+use Rattle.reggio.specs.declared.status.Status.TheVariants as status
+use Rattle.reggio.specs.Commands.{Command, file_of, steps_of}
+use Rattle.reggio.specs.Expected.{too_long, faulty, spelt, Means, status_of}
+use Rattle.reggio.specs.Headline.{Untouched, CutOffAt}
+
+-- the status of a run
+abbrev pub status_of_ended : Ended → Status
+status_of_ended ended.Done = status.Done
+status_of_ended ended.Spent = status.Spent
+status_of_ended (ended.Trap kind line) = status.Trap kind line
+status_of_ended ended.InputFault = status.InputFault
+status_of_ended ended.OutputFault = status.OutputFault
+status_of_ended ended.Memory = status.Memory
+
+-- a whole run of the program that the source spells, with that status
+pub record RanWhole (c : Command) (source : List ℕ) (s : Status) (old new : Option (List ℕ)) (m : Kept) : Type 0 where
+  pub program : Program
+  pub means : Means source (spelt program)
+  pub status_is : s ≡ status_of (plain program (steps_of c)).ending
+  pub wrote : Appends old new (text (output_after program (steps_of c)))
+  pub shows : ShowsRan program m (plain program (steps_of c))
+
+-- what was answered to a source
+abbrev pub Settles : Command → List ℕ → Status → (old new : Option (List ℕ)) → Kept → Type 0
+Settles c source status.Done old new m = RanWhole c source status.Done old new m
+Settles c source (status.Refused f) old new m = Means source (faulty f) × Untouched m old new
+Settles c source status.Usage old new m = ⊥
+Settles c source (status.Trap kind line) old new m = RanWhole c source (status.Trap kind line) old new m
+Settles c source status.Spent old new m = RanWhole c source status.Spent old new m
+Settles c source status.SourceFault old new m = ⊥
+Settles c source status.InputFault old new m = ⊥
+Settles c source status.OutputFault old new m = Untouched m old new ⊎ CutOffAt c source m old new
+Settles c source status.Memory old new m = Untouched m old new ⊎ CutOffAt c source m old new
+Settles c source status.Long old new m = Means source too_long × Untouched m old new
+
+-- no source came to be read
+pub data Unread (told : Option Told) (c : Command) : Status → Type 0 where
+  source_fault : Unread told c status.SourceFault
+  memory : Unread told c status.Memory
+
+-- what was answered to a file
+abbrev pub SettlesFile : Option Told → Command → Status → (old new : Option (List ℕ)) → Kept → Type 0
+SettlesFile told c s old new m =
+    ((source : List ℕ) × HasFile told (file_of c) source × Settles c source s old new m) ⊎ (Unread told c s × Untouched m old new)

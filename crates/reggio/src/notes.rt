@@ -1,0 +1,143 @@
+//! The texts of the statuses, given to the notes (docs/language.md, "Statuses"). Nothing here takes memory.
+
+ghost use Rattle.std.specs.Prelude.{◌≡◌, ◌+◌, ◌≤◌, ◌⊎◌, [], ◌∷◌, ◌++◌, length, decimal, OnOk, OnErr};
+ghost use Rattle.arrayvec.specs.ArrayVec.{array_vec_len};
+ghost use Rattle.rg_base.specs.Diagnostics.{code_text};
+ghost use Rattle.rg_io.specs.Content.{Rose, Appends, AppendsPart};
+ghost use Rattle.reggio.specs.Headline.{TookNotes};
+ghost use Rattle.reggio.specs.Statuses.{status_text, trap_text};
+
+use crate::status::Status;
+use arrayvec::ArrayVec;
+use rg_base::{Code, Trap};
+use rg_io::{Failed, Sink, put_all};
+
+/// How the program is called.
+pub(crate) const USAGE: &[u8] = b"usage: reggio run FILE [--steps N] [--every N] [--report]; check FILE; fmt FILE; code FILE; plain FILE [--steps N]; bulk N\n";
+
+/// A code with its word.
+fn code_words(code: Code) -> &'static [u8]
+    ensures words { result.now ≡ code_text code }
+    ensures short { length result.now ≤ 20 }
+{
+    match code {
+        Code::Byte => b"E01 byte",
+        Code::Number => b"E02 number",
+        Code::Name => b"E03 name",
+        Code::Syntax => b"E10 syntax",
+        Code::Nesting => b"E11 nesting",
+        Code::Limit => b"E12 limit",
+        Code::Unknown => b"E20 unknown",
+        Code::Duplicate => b"E21 duplicate",
+        Code::BadType => b"E22 bad type",
+        Code::Mismatch => b"E30 mismatch",
+        Code::Unavailable => b"E31 unavailable",
+        Code::Capability => b"E32 capability",
+        Code::OutsideWindow => b"E33 outside window",
+        Code::Loop => b"E34 loop",
+        Code::Arity => b"E35 arity",
+        Code::IsoField => b"E36 iso field",
+        Code::Return => b"E37 return",
+        Code::CallTarget => b"E38 call target",
+        Code::NotBuilt => b"E90 not built",
+    }
+}
+
+/// The words of a trap.
+fn trap_words(kind: Trap) -> &'static [u8]
+    ensures words { result.now ≡ trap_text kind }
+    ensures short { length result.now ≤ 20 }
+{
+    match kind {
+        Trap::Nil => b"trap nil",
+        Trap::Overflow => b"trap overflow",
+        Trap::Zero => b"trap zero",
+        Trap::Input => b"trap input",
+        Trap::End => b"trap end",
+        Trap::Depth => b"trap depth",
+    }
+}
+
+/// Appends bytes that there is room for.
+fn extend(line: &mut ArrayVec<u8, 96>, more: &[u8])
+    requires { array_vec_len line.old + length more.now ≤ 96 }
+    ensures items { line.new.items ≡ line.old.items ++ more.now }
+    ensures len { array_vec_len line.new ≡ array_vec_len line.old + length more.now }
+{
+    match line.try_extend_from_slice(more) {
+        Ok(()) => {}
+        Err(_) => unreachable!(),
+    }
+}
+
+/// Words, a number and the end of a line.
+fn numbered_line(front: &[u8], middle: &[u8], number: u64) -> ArrayVec<u8, 96>
+    requires { length front.now + length middle.now ≤ 40 }
+    ensures { result.items ≡ front.now ++ middle.now ++ decimal number ++ 10 ∷ [] }
+{
+    let mut digits = itoa::Buffer::new();
+    let mut line = ArrayVec::new();
+    extend(&mut line, front);
+    extend(&mut line, middle);
+    extend(&mut line, digits.format(number).as_bytes());
+    line.push(b'\n');
+    line
+}
+
+/// Gives the text of a status to the notes.
+fn put_text<R: Sink>(notes: &mut R, status: Status, steps: u64) -> Result<(), Failed>
+    ensures ok { OnOk result (Appends (R.taken notes.old) (R.taken notes.new) (status_text steps status)) }
+    ensures failed { OnErr result (Rose (R.faults notes.old) (R.faults notes.new)) }
+    ensures part { OnErr result (AppendsPart (R.taken notes.old) (R.taken notes.new) (status_text steps status)) }
+    ensures never_falls { R.faults notes.old ≤ R.faults notes.new }
+{
+    match status {
+        Status::Done => put_all(notes, b""),
+        Status::Refused(fault) => {
+            let line = numbered_line(code_words(fault.code), b" at line ", fault.line);
+            put_all(notes, line.as_slice())
+        }
+        Status::Usage => put_all(notes, USAGE),
+        Status::Trap { kind, line } => {
+            let line = numbered_line(trap_words(kind), b" at line ", line);
+            put_all(notes, line.as_slice())
+        }
+        Status::Spent => {
+            let line = numbered_line(b"spent", b" at step ", steps);
+            put_all(notes, line.as_slice())
+        }
+        Status::SourceFault => put_all(notes, b"source fault\n"),
+        Status::InputFault => put_all(notes, b"input fault\n"),
+        Status::OutputFault => put_all(notes, b"output fault\n"),
+        Status::Memory => put_all(notes, b"out of memory\n"),
+        Status::Long => put_all(notes, b"source too long\n"),
+    }
+}
+
+/// Gives the text of an output fault to the notes; a fault of the notes is passed over.
+fn tell_output_fault<R: Sink>(notes: &mut R) -> Status
+    ensures is { result ≡ Status.OutputFault }
+    ensures part { AppendsPart (R.taken notes.old) (R.taken notes.new) (status_text 0 Status.OutputFault) }
+    ensures never_falls { R.faults notes.old ≤ R.faults notes.new }
+{
+    match put_text(notes, Status::OutputFault, 0) {
+        Ok(()) => Status::OutputFault,
+        Err(_) => Status::OutputFault,
+    }
+}
+
+/// Gives the text of a status to the notes and answers it; where that fails, the answer is OutputFault.
+pub(crate) fn tell<R: Sink>(notes: &mut R, status: Status, steps: u64) -> Status
+    ensures told { (result ≡ status) ⊎ (result ≡ Status.OutputFault) }
+    ensures failed { result ≡ Status.OutputFault → (status ≡ Status.OutputFault) ⊎ Rose (R.faults notes.old) (R.faults notes.new) }
+    ensures took { TookNotes steps result (R.taken notes.old) (R.taken notes.new) }
+    ensures never_falls { R.faults notes.old ≤ R.faults notes.new }
+{
+    if let Status::OutputFault = status {
+        return tell_output_fault(notes);
+    }
+    match put_text(notes, status, steps) {
+        Ok(()) => status,
+        Err(_) => tell_output_fault(notes),
+    }
+}

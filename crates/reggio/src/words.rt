@@ -1,0 +1,108 @@
+//! Reads the words of the command line by hand; it takes no memory (docs/language.md, "The command line").
+
+ghost use Rattle.std.specs.Prelude.{◌≡◌, ◌<◌, ◌^◌, map, Some, None, true, MatchOption};
+ghost use Rattle.std.specs.List.{list_all};
+ghost use Rattle.rg_base.specs.Pieces.{is_digit};
+ghost use Rattle.reggio.specs.Commands.{command, run, is_file, is_number, value_up_to, number_in, steps_in};
+
+use rg_base::{MOST_STEPS, USUAL_STEPS};
+
+/// `run FILE --steps N`
+#[derive(Clone, Copy)]
+pub struct Run<'a> {
+    pub file: &'a str,
+    pub steps: u64,
+}
+
+/// Whether a word can name a file.
+fn can_name_file(word: &str) -> bool
+    ensures { result ≡ is_file word.now }
+{
+    match word.as_bytes() {
+        [] => false,
+        [first, ..] => *first != b'-',
+    }
+}
+
+/// Whether all bytes are digits.
+fn are_digits(word: &[u8]) -> bool
+    ensures { result ≡ list_all is_digit word.now }
+{
+    word.iter().all(|b| b.is_ascii_digit())
+}
+
+/// Whether a word writes a number.
+fn writes_number(word: &[u8]) -> bool
+    ensures { result ≡ is_number word.now }
+{
+    if word.is_empty() {
+        return false;
+    }
+    if word.len() > 10 {
+        return false;
+    }
+    are_digits(word)
+}
+
+/// The value of digits, where it is within a limit.
+fn value_within(digits: &[u8], most: u64) -> Option<u64>
+    requires small { most < 2 ^ 32 }
+    requires digits { list_all is_digit digits.now ≡ true }
+    ensures { result ≡ value_up_to digits.now most }
+{
+    let mut value: u64 = 0;
+    for b in digits {
+        value = value * 10 + u64::from(*b - b'0');
+        if value > most {
+            return None;
+        }
+    }
+    Some(value)
+}
+
+/// The number that a word writes, up to a limit.
+fn number(word: &str, most: u64) -> Option<u64>
+    requires { most < 2 ^ 32 }
+    ensures { result ≡ number_in word.now most }
+{
+    let bytes = word.as_bytes();
+    if writes_number(bytes) {
+        value_within(bytes, most)
+    } else {
+        None
+    }
+}
+
+/// The number of steps that the words behind the file ask for.
+fn steps(options: &[&str]) -> Option<u64>
+    ensures { result ≡ steps_in (map (λ w. w.now) options.now) }
+{
+    match options {
+        [] => Some(USUAL_STEPS),
+        [option, value] => {
+            if *option == "--steps" {
+                number(value, MOST_STEPS)
+            } else {
+                None
+            }
+        }
+        _ => None,
+    }
+}
+
+/// The command that the words give, if they give one. They don't include the program's name.
+pub fn command<'a>(words: &[&'a str]) -> Option<Run<'a>>
+    ensures { MatchOption result (command (map (λ w. w.now) words.now) ≡ None)
+        (λ c. command (map (λ w. w.now) words.now) ≡ Some (run c.file.now c.steps)) }
+{
+    let [name, file, options @ ..] = words else {
+        return None;
+    };
+    if *name != "run" || !can_name_file(file) {
+        return None;
+    }
+    match steps(options) {
+        Some(steps) => Some(Run { file, steps }),
+        None => None,
+    }
+}
