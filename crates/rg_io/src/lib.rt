@@ -4,14 +4,18 @@
 mod calls;
 mod failed;
 mod files;
+mod mem_files;
 mod mem_sink;
 mod mem_source;
 mod pieces;
+mod reading;
+mod shelf;
 mod sink;
 mod source;
 
 pub use failed::Failed;
 pub use files::{Files, Taken, take_all};
+pub use mem_files::MemFiles;
 pub use mem_sink::MemSink;
 pub use mem_source::MemSource;
 pub use sink::{Sink, put_all};
