@@ -5,3 +5,4 @@ pub mod MemFiles
 pub mod MemSink
 pub mod MemSource
 pub mod Shelf
+pub mod Untold

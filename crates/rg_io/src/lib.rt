@@ -12,6 +12,9 @@ mod reading;
 mod shelf;
 mod sink;
 mod source;
+mod std_files;
+mod std_sink;
+mod std_source;
 
 pub use failed::Failed;
 pub use files::{Files, Taken, take_all};
@@ -20,3 +23,6 @@ pub use mem_sink::MemSink;
 pub use mem_source::MemSource;
 pub use sink::{Sink, put_all};
 pub use source::Source;
+pub use std_files::StdFiles;
+pub use std_sink::StdSink;
+pub use std_source::StdSource;
