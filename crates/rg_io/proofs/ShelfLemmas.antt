@@ -1,5 +1,5 @@
 -- Files as they lie in memory.
-use Rattle.std.proofs.Common.{◌≡◌, ℕ, ◌+◌, ◌-◌, ◌<◌, ◌≤◌, List, [], ◌∷◌, ◌++◌, length, map, reverse, take, Option, Some, None, get_or, slice_get, if◌then◌else◌, refl, sym, ◌∙◌, ap, arith, true, false, Bool, zero, suc}
+use Rattle.std.proofs.Common.{◌≡◌, ℕ, ◌-◌, ◌<◌, ◌≤◌, List, [], ◌∷◌, ◌++◌, length, map, reverse, take, Option, Some, None, get_or, slice_get, if◌then◌else◌, refl, sym, ◌∙◌, ap, arith, true, false, zero, suc}
 use Rattle.std.specs.Prelude.{bytes_eq}
 use Rattle.std.proofs.Math.Seq.{take-suc}
 use Rattle.std.proofs.Math.ListN.{get_or-map}
@@ -16,7 +16,7 @@ pub file_bytes-take : (shelf : FileMap) (name : List ℕ) (i : ℕ) (file : List
 file_bytes-take shelf name i file some within file_is =
     let one_less : i ≡ suc (i - 1) = omega arith in
     let whole : take i shelf ≡ take (i - 1) shelf ++ file ∷ [] =
-        ap (λ n. take n shelf) one_less ∙ take-suc shelf (i - 1) file (omega arith) ∙ ap (λ f. take (i - 1) shelf ++ f ∷ []) (sym file_is) in
+    ap (λ n. take n shelf) one_less ∙ take-suc shelf (i - 1) file (omega arith) ∙ ap (λ f. take (i - 1) shelf ++ f ∷ []) (sym file_is) in
     ap (λ fs. file_bytes fs name) (ap reverse whole ∙ reverse-append (take (i - 1) shelf) (file ∷ []))
 
 -- an element of a list, seen as it is seen in the list of what is seen
@@ -57,4 +57,4 @@ pub told-append : (shelf more : FileMap) (file : List ℕ × List ℕ) (place : 
     record { files = reverse more; rest = unread more place } ≡ record now { files = file ∷ now.files }
 told-append shelf more file place now is_place now_is more_is =
     rw (more_is, reverse-append shelf (file ∷ []), unread-append shelf (file ∷ []) place is_place)
-      (let P : Told → Told = λ t. record t { files = file ∷ t.files } in ap P now_is)
+    (let P : Told → Told = λ t. record t { files = file ∷ t.files } in ap P now_is)

@@ -1,4 +1,5 @@
-//! Bytes that come and go: files, sources and sinks, each with a count of its faults (docs/architecture.md).
+//! Bytes that come and go: files, sources and sinks, each with a count of its faults
+//! (docs/architecture.md).
 #![tactic(auto)]
 
 mod calls;
@@ -15,6 +16,8 @@ mod source;
 mod std_files;
 mod std_sink;
 mod std_source;
+#[cfg(test)]
+mod tests;
 
 pub use failed::Failed;
 pub use files::{Files, Taken, take_all};

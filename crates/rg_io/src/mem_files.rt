@@ -1,7 +1,8 @@
 //! Files in memory.
 
-ghost use Rattle.std.specs.Prelude.{◌≡◌, ◌≤◌, ◌<◌, ◌++◌, ◌∷◌, ◌⊎◌, [], ◌↔◌, min, length, take, drop, Some, None, IfOk, OnOk, OnErr, IsErr, unwrap_or};
-ghost use Rattle.rg_io.specs.Calls.{no_calls, IsNextFailing, with_call, with_fault};
+ghost use Rattle.std.specs.Prelude.{◌≡◌, ◌≤◌, ◌<◌, ◌++◌, ◌∷◌, ◌⊎◌, [], ◌↔◌, min, length, take};
+ghost use Rattle.std.specs.Prelude.{drop, Some, None, IfOk, OnOk, OnErr, IsErr, unwrap_or};
+ghost use Rattle.rg_io.specs.Calls.{no_calls, with_failing, IsNextFailing, with_call, with_fault};
 ghost use Rattle.rg_io.specs.Content.{Rose};
 ghost use Rattle.rg_io.specs.Files.{file_bytes, Begins, Reads, NothingLeft};
 
@@ -42,7 +43,8 @@ impl MemFiles {
     /// Adds a file. It replaces a file of that name.
     pub fn add(&mut self, name: &str, bytes: &[u8]) -> Result<(), Memory>
         ensures ok { OnOk result (self.new ≡ record self.old {
-            told = record self.old.told { files = (name.now, bytes.now) ∷ self.old.told.files } }) }
+          told = record self.old.told { files = (name.now, bytes.now) ∷ self.old.told.files };
+        }) }
         ensures err { OnErr result (self.new ≡ self.old) }
     {
         self.reading.add(name, bytes)
@@ -50,8 +52,8 @@ impl MemFiles {
 
     /// Names a call that fails; calls are numbered from 1, `begin` among them.
     pub fn fail_at(&mut self, call: u64) -> Result<(), Memory>
-        ensures ok { OnOk result (self.new ≡ record self.old {
-            calls = record self.old.calls { failing = self.old.calls.failing ++ call ∷ [] } }) }
+        ensures ok { OnOk result (self.new ≡
+            record self.old { calls = with_failing self.old.calls call }) }
         ensures err { OnErr result (self.new ≡ self.old) }
     {
         self.calls.fail_at(call)
@@ -72,8 +74,11 @@ impl Files for MemFiles {
         ensures fails_where_named_or_unknown { IsErr result ↔ (IsNextFailing self.old.calls
             ⊎ (file_bytes self.old.told.files name.now ≡ None)) }
         ensures passed { OnOk result (self.new ≡ record {
-            told = record self.old.told { rest = unwrap_or (file_bytes self.old.told.files name.now) [] };
-            calls = with_call self.old.calls }) }
+          told = record self.old.told {
+            rest = unwrap_or (file_bytes self.old.told.files name.now) [];
+          };
+          calls = with_call self.old.calls;
+        }) }
         ensures refused { OnErr result (self.new ≡
             record self.old { calls = with_fault self.old.calls }) }
     {
@@ -99,8 +104,9 @@ impl Files for MemFiles {
         ensures count { IfOk result (λ n. n ≡ min (length buf.old) (length self.old.told.rest)) }
         ensures moved { IfOk result (λ n. buf.new ≡ take n self.old.told.rest ++ drop n buf.old) }
         ensures passed { IfOk result (λ n. self.new ≡ record {
-            told = record self.old.told { rest = drop n self.old.told.rest };
-            calls = with_call self.old.calls }) }
+          told = record self.old.told { rest = drop n self.old.told.rest };
+          calls = with_call self.old.calls;
+        }) }
         ensures buffer_kept { OnErr result (buf.new ≡ buf.old) }
         ensures refused { OnErr result (self.new ≡
             record self.old { calls = with_fault self.old.calls }) }

@@ -1,6 +1,7 @@
 //! Files in memory, one of which is read.
 
-ghost use Rattle.std.specs.Prelude.{◌≡◌, ◌++◌, ◌∷◌, ◌↔◌, [], min, length, take, drop, Some, IsTrue, IsSome, OnOk, OnErr, unwrap_or};
+ghost use Rattle.std.specs.Prelude.{◌≡◌, ◌++◌, ◌∷◌, ◌↔◌, [], min, length, take, drop, IsTrue};
+ghost use Rattle.std.specs.Prelude.{IsSome, OnOk, OnErr, unwrap_or};
 ghost use Rattle.std.specs.Bool.{OnTrue, OnFalse};
 ghost use Rattle.rg_io.specs.Files.{file_bytes};
 

@@ -1,6 +1,7 @@
 //! Files as they lie in memory.
 
-ghost use Rattle.std.specs.Prelude.{◌≡◌, ◌<◌, ◌++◌, ◌∷◌, [], length, reverse, Some, None, IfSome, IfNone, OnOk, OnErr, slice_get};
+ghost use Rattle.std.specs.Prelude.{◌≡◌, ◌<◌, ◌++◌, ◌∷◌, [], length, reverse, slice_get};
+ghost use Rattle.std.specs.Prelude.{Some, None, IfSome, IfNone, OnOk, OnErr};
 ghost use Rattle.rg_io.specs.Files.{file_bytes};
 ghost use Rattle.rg_io.specs.Shelf.{bytes_of};
 

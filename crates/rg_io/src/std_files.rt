@@ -48,7 +48,8 @@ impl<R: SystemFiles> Files for StdFiles<R> {
     ghost told = { untold_files };
 
     fn begin(&mut self, name: &str) -> Result<(), Failed>
-        ensures begun { OnOk result (Begins (untold_files self.old) name.now (untold_files self.new)) }
+        ensures begun { OnOk result (
+            Begins (untold_files self.old) name.now (untold_files self.new)) }
         ensures failed { OnErr result (Rose self.old self.new) }
         ensures kept { OnErr result (untold_files self.new ≡ untold_files self.old) }
         ensures never_falls { self.old ≤ self.new }
@@ -71,7 +72,8 @@ impl<R: SystemFiles> Files for StdFiles<R> {
     fn read(&mut self, buf: &mut [u8]) -> Result<usize, Failed>
         requires { 0 < length buf.old }
         ensures within { IfOk result (λ n. n ≤ length buf.new) }
-        ensures read { IfOk result (λ n. Reads (untold_files self.old) (untold_files self.new) (take n buf.new)) }
+        ensures read { IfOk result (λ n.
+            Reads (untold_files self.old) (untold_files self.new) (take n buf.new)) }
         ensures end { IfOk result (λ n. n ≡ 0 → NothingLeft (untold_files self.old)) }
         ensures failed { OnErr result (Rose self.old self.new) }
         ensures kept { OnErr result (untold_files self.new ≡ untold_files self.old) }

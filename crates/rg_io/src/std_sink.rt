@@ -10,8 +10,8 @@ use crate::sink::Sink;
 use std::io::Write;
 use std::marker::Model;
 
-/// A writer of the system, such as standard output. It tells nothing of its content; contracts see the
-/// count of faults.
+/// A writer of the system, such as standard output. It tells nothing of its content; contracts see
+/// the count of faults.
 #[derive(Drop)]
 pub struct StdSink<W: Write> {
     system: W,
@@ -43,7 +43,8 @@ impl<W: Write> Sink for StdSink<W> {
     fn write(&mut self, piece: &[u8]) -> Result<usize, Failed>
         requires { 0 < length piece.now }
         ensures some { IfOk result (λ n. (0 < n) × (n ≤ length piece.now)) }
-        ensures took { IfOk result (λ n. Appends (untold_bytes self.old) (untold_bytes self.new) (take n piece.now)) }
+        ensures took { IfOk result (λ n.
+            Appends (untold_bytes self.old) (untold_bytes self.new) (take n piece.now)) }
         ensures failed { OnErr result (Rose self.old self.new) }
         ensures kept { OnErr result (untold_bytes self.new ≡ untold_bytes self.old) }
         ensures never_falls { self.old ≤ self.new }

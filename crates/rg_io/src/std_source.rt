@@ -10,8 +10,8 @@ use crate::source::Source;
 use std::io::Read;
 use std::marker::Model;
 
-/// A reader of the system, such as standard input. It tells nothing of its content; contracts see the
-/// count of faults.
+/// A reader of the system, such as standard input. It tells nothing of its content; contracts see
+/// the count of faults.
 #[derive(Drop)]
 pub struct StdSource<R: Read> {
     system: R,
@@ -43,8 +43,10 @@ impl<R: Read> Source for StdSource<R> {
     fn read(&mut self, buf: &mut [u8]) -> Result<usize, Failed>
         requires { 0 < length buf.old }
         ensures within { IfOk result (λ n. n ≤ length buf.new) }
-        ensures gave { IfOk result (λ n. Gives (untold_bytes self.old) (untold_bytes self.new) (take n buf.new)) }
-        ensures end { IfOk result (λ n. n ≡ 0 → IfSome (untold_bytes self.old) (λ bytes. bytes ≡ [])) }
+        ensures gave { IfOk result (λ n.
+            Gives (untold_bytes self.old) (untold_bytes self.new) (take n buf.new)) }
+        ensures end { IfOk result (λ n. n ≡ 0 →
+            IfSome (untold_bytes self.old) (λ bytes. bytes ≡ [])) }
         ensures failed { OnErr result (Rose self.old self.new) }
         ensures kept { OnErr result (untold_bytes self.new ≡ untold_bytes self.old) }
         ensures never_falls { self.old ≤ self.new }
