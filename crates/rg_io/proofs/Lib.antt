@@ -1,2 +1,4 @@
 pub mod ContentLemmas
 mod PieceLemmas
+mod ShelfLemmas
+mod ToldLemmas

@@ -1,5 +1,5 @@
 -- Calls on an object in memory: how many were made, which are to fail, and how many failed.
-use Rattle.std.specs.Prelude.{ℕ, List, [], Contains}
+use Rattle.std.specs.Prelude.{ℕ, List, [], ◌∷◌, ◌++◌, Contains}
 use Rattle.rg_io.specs.Content.{one_more}
 
 -- calls are numbered from 1
@@ -11,6 +11,10 @@ pub record CallCounts : Type 0 where
 -- no call was made, and none is to fail
 abbrev pub no_calls : CallCounts
 no_calls = record { made = 0; failing = []; faults = 0 }
+
+-- a call was named as one that fails
+abbrev pub with_failing : CallCounts → ℕ → CallCounts
+with_failing c call = record c { failing = c.failing ++ call ∷ [] }
 
 -- the next call was named as one that fails
 abbrev pub IsNextFailing : CallCounts → Type 0

@@ -1,5 +1,8 @@
 pub mod Calls
 pub mod Content
 pub mod Files
+pub mod MemFiles
 pub mod MemSink
 pub mod MemSource
+pub mod Shelf
+pub mod Untold

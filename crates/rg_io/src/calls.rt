@@ -1,6 +1,6 @@
 //! Calls on an object in memory, of which some are to fail.
 
-ghost use Rattle.std.specs.Prelude.{◌≡◌, ◌++◌, ◌∷◌, [], ◌↔◌, IsTrue, OnOk, OnErr};
+ghost use Rattle.std.specs.Prelude.{◌≡◌, ◌↔◌, IsTrue, OnOk, OnErr};
 ghost use Rattle.rg_io.specs.Content.{one_more};
 
 use rg_base::Memory;
@@ -31,7 +31,8 @@ impl Model for Calls {
 }
 
 impl Calls {
-    ghost use Rattle.rg_io.specs.Calls.{no_calls, IsNextFailing, with_call, with_fault};
+    ghost use Rattle.rg_io.specs.Calls.{no_calls, with_failing, IsNextFailing};
+    ghost use Rattle.rg_io.specs.Calls.{with_call, with_fault};
 
     /// None was made, and none is to fail.
     pub(crate) fn new(alloc: Global) -> Calls
@@ -46,7 +47,7 @@ impl Calls {
 
     /// Names a call that is to fail.
     pub(crate) fn fail_at(&mut self, call: u64) -> Result<(), Memory>
-        ensures ok { OnOk result (self.new ≡ record self.old { failing = self.old.failing ++ call ∷ [] }) }
+        ensures ok { OnOk result (self.new ≡ with_failing self.old call) }
         ensures err { OnErr result (self.new ≡ self.old) }
     {
         match self.failing.push(call) {

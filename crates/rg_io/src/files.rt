@@ -1,15 +1,16 @@
 //! Files by name.
 
-ghost use Rattle.std.specs.Prelude.{◌≡◌, ℕ, ◌<◌, ◌≤◌, List, [], length, take, Option, OnOk, OnErr, IfOk, IfSome};
+ghost use Rattle.std.specs.Prelude.{◌≡◌, ℕ, ◌<◌, ◌≤◌, length, take, Option, OnOk, OnErr, IfOk};
 ghost use Rattle.rg_io.specs.Content.{Rose};
-ghost use Rattle.rg_io.specs.Files.{Told, Begins, Reads, NothingLeft, SameFiles, HasFile, HasLongFile};
+ghost use Rattle.rg_io.specs.Files.{Told, Begins, Reads, NothingLeft};
+ghost use Rattle.rg_io.specs.Files.{SameFiles, HasFile, HasLongFile};
 
 use crate::failed::Failed;
 use rg_base::ByteList;
 use std::alloc::Global;
 
-/// Files by name, one of which is read at a time. They have a count of faults, which never falls, and
-/// may tell a map from names to bytes, and the unread rest of the file that was begun.
+/// Files by name, one of which is read at a time. They have a count of faults, which never falls,
+/// and may tell a map from names to bytes, and the unread rest of the file that was begun.
 pub trait Files {
     ghost faults: { Self → ℕ };
 
@@ -22,8 +23,8 @@ pub trait Files {
         ensures kept { OnErr result (told self.new ≡ told self.old) }
         ensures never_falls { faults self.old ≤ faults self.new };
 
-    /// Moves the first bytes of the unread rest into the buffer and answers how many; 0 means that the
-    /// rest is empty, as it is before any `begin`.
+    /// Moves the first bytes of the unread rest into the buffer and answers how many; 0 means that
+    /// the rest is empty, as it is before any `begin`.
     fn read(&mut self, buf: &mut [u8]) -> Result<usize, Failed>
         requires { 0 < length buf.old }
         ensures within { IfOk result (λ n. n ≤ length buf.new) }
@@ -57,7 +58,8 @@ pub fn take_all<F: Files>(
 ) -> Result<ByteList, Taken>
     ensures ok { IfOk result (λ bytes. HasFile (F.told files.old) name.now bytes) }
     ensures within { IfOk result (λ bytes. length bytes ≤ most) }
-    ensures source_fault { result ≡ Err Taken.SourceFault → Rose (F.faults files.old) (F.faults files.new) }
+    ensures source_fault { result ≡ Err Taken.SourceFault →
+        Rose (F.faults files.old) (F.faults files.new) }
     ensures long { result ≡ Err Taken.Long → HasLongFile (F.told files.old) name.now most }
     ensures same_files { SameFiles (F.told files.old) (F.told files.new) }
     ensures never_falls { F.faults files.old ≤ F.faults files.new }

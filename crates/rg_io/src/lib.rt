@@ -1,18 +1,31 @@
-//! Bytes that come and go: files, sources and sinks, each with a count of its faults (docs/architecture.md).
+//! Bytes that come and go: files, sources and sinks, each with a count of its faults
+//! (docs/architecture.md).
 #![tactic(auto)]
 
 mod calls;
 mod failed;
 mod files;
+mod mem_files;
 mod mem_sink;
 mod mem_source;
 mod pieces;
+mod reading;
+mod shelf;
 mod sink;
 mod source;
+mod std_files;
+mod std_sink;
+mod std_source;
+#[cfg(test)]
+mod tests;
 
 pub use failed::Failed;
 pub use files::{Files, Taken, take_all};
+pub use mem_files::MemFiles;
 pub use mem_sink::MemSink;
 pub use mem_source::MemSource;
 pub use sink::{Sink, put_all};
 pub use source::Source;
+pub use std_files::StdFiles;
+pub use std_sink::StdSink;
+pub use std_source::StdSource;

@@ -1,7 +1,8 @@
 //! A sink in memory.
 
-ghost use Rattle.std.specs.Prelude.{◌≡◌, ◌≤◌, ◌<◌, ◌+◌, ◌-◌, ◌⊎◌, ◌++◌, ◌∷◌, [], ◌↔◌, min, length, take, Some, IfOk, OnOk, OnErr, IsErr, vec_len, vec_capacity};
-ghost use Rattle.rg_io.specs.Calls.{no_calls, IsNextFailing, with_call, with_fault};
+ghost use Rattle.std.specs.Prelude.{◌≡◌, ◌≤◌, ◌<◌, ◌+◌, ◌-◌, ◌⊎◌, ◌++◌, [], ◌↔◌, min, length, take};
+ghost use Rattle.std.specs.Prelude.{Some, IfOk, OnOk, OnErr, IsErr, vec_len, vec_capacity};
+ghost use Rattle.rg_io.specs.Calls.{no_calls, with_failing, IsNextFailing, with_call, with_fault};
 ghost use Rattle.rg_io.specs.Content.{Rose, Appends};
 
 use crate::calls::Calls;
@@ -11,8 +12,8 @@ use rg_base::Memory;
 use std::alloc::Global;
 use std::marker::Model;
 
-/// A sink in memory: the bytes that it has taken, the room that is left (it is reserved in the list of
-/// these bytes), and the largest piece of one call.
+/// A sink in memory: the bytes that it has taken, the room that is left (it is reserved in the list
+/// of these bytes), and the largest piece of one call.
 #[derive(Drop)]
 pub struct MemSink {
     bytes: Vec<u8>,
@@ -27,7 +28,12 @@ impl Model for MemSink {
 
     ghost Value = { InMemorySink };
 
-    ghost view = { λ s. record { taken = s.bytes.items; room = s.room; largest = s.largest; calls = s.calls } };
+    ghost view = { λ s. record {
+      taken = s.bytes.items;
+      room = s.room;
+      largest = s.largest;
+      calls = s.calls;
+    } };
 
     ghost invariant = { λ s. (vec_len s.bytes + s.room ≤ vec_capacity s.bytes) × (0 < s.largest) };
 }
@@ -71,7 +77,8 @@ impl MemSink {
 
     /// Names a call that fails; calls are numbered from 1.
     pub fn fail_at(&mut self, call: u64) -> Result<(), Memory>
-        ensures ok { OnOk result (self.new ≡ record self.old { calls = record self.old.calls { failing = self.old.calls.failing ++ call ∷ [] } }) }
+        ensures ok { OnOk result (self.new ≡
+            record self.old { calls = with_failing self.old.calls call }) }
         ensures err { OnErr result (self.new ≡ self.old) }
     {
         self.calls.fail_at(call)
@@ -104,15 +111,23 @@ impl Sink for MemSink {
     fn write(&mut self, piece: &[u8]) -> Result<usize, Failed>
         requires { 0 < length piece.now }
         ensures some { IfOk result (λ n. (0 < n) × (n ≤ length piece.now)) }
-        ensures took { IfOk result (λ n. Appends (Some self.old.taken) (Some self.new.taken) (take n piece.now)) }
+        ensures took { IfOk result (λ n.
+            Appends (Some self.old.taken) (Some self.new.taken) (take n piece.now)) }
         ensures failed { OnErr result (Rose self.old.calls.faults self.new.calls.faults) }
         ensures kept { OnErr result (Some self.new.taken ≡ Some self.old.taken) }
         ensures never_falls { self.old.calls.faults ≤ self.new.calls.faults }
 
-        ensures fails_where_named_or_full { IsErr result ↔ (IsNextFailing self.old.calls ⊎ (self.old.room ≡ 0)) }
-        ensures count { IfOk result (λ n. n ≡ min (min (length piece.now) self.old.room) self.old.largest) }
-        ensures passed { IfOk result (λ n. self.new ≡ record self.old { taken = self.old.taken ++ take n piece.now; room = self.old.room - n; calls = with_call self.old.calls }) }
-        ensures refused { OnErr result (self.new ≡ record self.old { calls = with_fault self.old.calls }) }
+        ensures fails_where_named_or_full { IsErr result ↔
+            (IsNextFailing self.old.calls ⊎ (self.old.room ≡ 0)) }
+        ensures count { IfOk result (λ n.
+            n ≡ min (min (length piece.now) self.old.room) self.old.largest) }
+        ensures passed { IfOk result (λ n. self.new ≡ record self.old {
+          taken = self.old.taken ++ take n piece.now;
+          room = self.old.room - n;
+          calls = with_call self.old.calls;
+        }) }
+        ensures refused { OnErr result (self.new ≡
+            record self.old { calls = with_fault self.old.calls }) }
     {
         if self.calls.is_next_failing() || self.room == 0 {
             self.calls.fail();

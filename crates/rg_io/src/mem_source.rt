@@ -1,7 +1,8 @@
 //! A source in memory.
 
-ghost use Rattle.std.specs.Prelude.{◌≡◌, ◌≤◌, ◌<◌, ◌++◌, ◌∷◌, [], ◌↔◌, min, length, take, drop, Some, IfOk, OnOk, OnErr, IfSome, IsErr};
-ghost use Rattle.rg_io.specs.Calls.{no_calls, IsNextFailing, with_call, with_fault};
+ghost use Rattle.std.specs.Prelude.{◌≡◌, ◌≤◌, ◌<◌, ◌++◌, [], ◌↔◌, min, length, take, drop, Some};
+ghost use Rattle.std.specs.Prelude.{IfOk, OnOk, OnErr, IfSome, IsErr};
+ghost use Rattle.rg_io.specs.Calls.{no_calls, with_failing, IsNextFailing, with_call, with_fault};
 ghost use Rattle.rg_io.specs.Content.{Rose, Gives};
 
 use crate::calls::Calls;
@@ -27,7 +28,11 @@ impl Model for MemSource {
 
     ghost Value = { InMemorySource };
 
-    ghost view = { λ s. record { left = drop s.given s.bytes.items; largest = s.largest; calls = s.calls } };
+    ghost view = { λ s. record {
+      left = drop s.given s.bytes.items;
+      largest = s.largest;
+      calls = s.calls;
+    } };
 
     ghost invariant = { λ s. (s.given ≤ vec_len s.bytes) × (0 < s.largest) };
 }
@@ -47,7 +52,8 @@ impl MemSource {
 
     /// Appends bytes.
     pub fn add(&mut self, bytes: &[u8]) -> Result<(), Memory>
-        ensures ok { OnOk result (self.new ≡ record self.old { left = self.old.left ++ bytes.now }) }
+        ensures ok { OnOk result (self.new ≡
+            record self.old { left = self.old.left ++ bytes.now }) }
         ensures err { OnErr result (self.new ≡ self.old) }
     {
         match self.bytes.extend_from_slice(bytes) {
@@ -66,7 +72,8 @@ impl MemSource {
 
     /// Names a call that fails; calls are numbered from 1.
     pub fn fail_at(&mut self, call: u64) -> Result<(), Memory>
-        ensures ok { OnOk result (self.new ≡ record self.old { calls = record self.old.calls { failing = self.old.calls.failing ++ call ∷ [] } }) }
+        ensures ok { OnOk result (self.new ≡
+            record self.old { calls = with_failing self.old.calls call }) }
         ensures err { OnErr result (self.new ≡ self.old) }
     {
         self.calls.fail_at(call)
@@ -81,18 +88,23 @@ impl Source for MemSource {
     fn read(&mut self, buf: &mut [u8]) -> Result<usize, Failed>
         requires { 0 < length buf.old }
         ensures within { IfOk result (λ n. n ≤ length buf.new) }
-        ensures gave { IfOk result (λ n. Gives (Some self.old.left) (Some self.new.left) (take n buf.new)) }
-        ensures end { IfOk result (λ n. n ≡ 0 → IfSome (Some self.old.left) (λ bytes. bytes ≡ [])) }
+        ensures gave { IfOk result (λ n.
+            Gives (Some self.old.left) (Some self.new.left) (take n buf.new)) }
+        ensures end { IfOk result (λ n. n ≡ 0 →
+            IfSome (Some self.old.left) (λ bytes. bytes ≡ [])) }
         ensures failed { OnErr result (Rose self.old.calls.faults self.new.calls.faults) }
         ensures kept { OnErr result (Some self.new.left ≡ Some self.old.left) }
         ensures never_falls { self.old.calls.faults ≤ self.new.calls.faults }
 
         ensures fails_where_named { IsErr result ↔ IsNextFailing self.old.calls }
-        ensures count { IfOk result (λ n. n ≡ min (min (length buf.old) (length self.old.left)) self.old.largest) }
+        ensures count { IfOk result (λ n.
+            n ≡ min (min (length buf.old) (length self.old.left)) self.old.largest) }
         ensures moved { IfOk result (λ n. buf.new ≡ take n self.old.left ++ drop n buf.old) }
-        ensures passed { IfOk result (λ n. self.new ≡ record self.old { left = drop n self.old.left; calls = with_call self.old.calls }) }
+        ensures passed { IfOk result (λ n. self.new ≡
+            record self.old { left = drop n self.old.left; calls = with_call self.old.calls }) }
         ensures buffer_kept { OnErr result (buf.new ≡ buf.old) }
-        ensures refused { OnErr result (self.new ≡ record self.old { calls = with_fault self.old.calls }) }
+        ensures refused { OnErr result (self.new ≡
+            record self.old { calls = with_fault self.old.calls }) }
     {
         if self.calls.is_next_failing() {
             self.calls.fail();

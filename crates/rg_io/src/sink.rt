@@ -1,11 +1,13 @@
 //! Where bytes go.
 
-ghost use Rattle.std.specs.Prelude.{◌≡◌, ℕ, ◌<◌, ◌≤◌, List, length, take, Option, OnOk, OnErr, IfOk};
+ghost use Rattle.std.specs.Prelude.{◌≡◌, ℕ, ◌<◌, ◌≤◌, List, length, take, Option};
+ghost use Rattle.std.specs.Prelude.{OnOk, OnErr, IfOk};
 ghost use Rattle.rg_io.specs.Content.{Rose, Appends, AppendsPart};
 
 use crate::failed::Failed;
 
-/// A sink of bytes. It has a count of faults, which never falls, and may tell which bytes it has taken.
+/// A sink of bytes. It has a count of faults, which never falls, and may tell which bytes it has
+/// taken.
 pub trait Sink {
     ghost faults: { Self → ℕ };
 
@@ -15,7 +17,8 @@ pub trait Sink {
     fn write(&mut self, piece: &[u8]) -> Result<usize, Failed>
         requires { 0 < length piece.now }
         ensures some { IfOk result (λ n. (0 < n) × (n ≤ length piece.now)) }
-        ensures took { IfOk result (λ n. Appends (taken self.old) (taken self.new) (take n piece.now)) }
+        ensures took { IfOk result (λ n.
+            Appends (taken self.old) (taken self.new) (take n piece.now)) }
         ensures failed { OnErr result (Rose (faults self.old) (faults self.new)) }
         ensures kept { OnErr result (taken self.new ≡ taken self.old) }
         ensures never_falls { faults self.old ≤ faults self.new };

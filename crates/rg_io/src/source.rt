@@ -1,17 +1,20 @@
 //! Where bytes come from.
 
-ghost use Rattle.std.specs.Prelude.{◌≡◌, ℕ, ◌<◌, ◌≤◌, List, [], length, take, Option, OnErr, IfOk, IfSome};
+ghost use Rattle.std.specs.Prelude.{◌≡◌, ℕ, ◌<◌, ◌≤◌, List, [], length, take, Option};
+ghost use Rattle.std.specs.Prelude.{OnErr, IfOk, IfSome};
 ghost use Rattle.rg_io.specs.Content.{Rose, Gives};
 
 use crate::failed::Failed;
 
-/// A source of bytes. It has a count of faults, which never falls, and may tell which bytes it has left.
+/// A source of bytes. It has a count of faults, which never falls, and may tell which bytes it has
+/// left.
 pub trait Source {
     ghost faults: { Self → ℕ };
 
     ghost left: { Self → Option (List ℕ) };
 
-    /// Moves the first bytes that are left into the buffer and answers how many; 0 means that none is left.
+    /// Moves the first bytes that are left into the buffer and answers how many; 0 means that none
+    /// is left.
     fn read(&mut self, buf: &mut [u8]) -> Result<usize, Failed>
         requires { 0 < length buf.old }
         ensures within { IfOk result (λ n. n ≤ length buf.new) }

@@ -1,0 +1,8 @@
+-- What files in memory are.
+use Rattle.rg_io.specs.Files.{Told}
+use Rattle.rg_io.specs.Calls.{CallCounts}
+
+-- what they tell, and their calls
+pub record InMemoryFiles : Type 0 where
+  pub told : Told
+  pub calls : CallCounts

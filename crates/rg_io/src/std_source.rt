@@ -1,0 +1,65 @@
+//! The trusted edge to standard input.
+
+ghost use Rattle.std.specs.Prelude.{◌≡◌, ◌≤◌, ◌<◌, [], length, take, IfOk, IfSome, OnOk, OnErr};
+ghost use Rattle.rg_io.specs.Content.{Rose, Gives, one_more};
+ghost use Rattle.rg_io.specs.Untold.{untold_bytes};
+
+use crate::calls::one_more;
+use crate::failed::Failed;
+use crate::source::Source;
+use std::io::Read;
+use std::marker::Model;
+
+/// A reader of the system, such as standard input. It tells nothing of its content; contracts see
+/// the count of faults.
+#[derive(Drop)]
+pub struct StdSource<R: Read> {
+    system: R,
+    faults: u64,
+}
+
+impl<R: Read> Model for StdSource<R> {
+    ghost use Rattle.std.specs.Prelude.{ℕ};
+
+    ghost Value = { ℕ };
+
+    ghost view = { λ s. s.faults };
+}
+
+impl<R: Read> StdSource<R> {
+    /// A source that gives what the reader gives.
+    pub fn new(system: R) -> StdSource<R>
+        ensures { result ≡ 0 }
+    {
+        StdSource { system, faults: 0 }
+    }
+}
+
+impl<R: Read> Source for StdSource<R> {
+    ghost faults = { λ s. s };
+
+    ghost left = { untold_bytes };
+
+    fn read(&mut self, buf: &mut [u8]) -> Result<usize, Failed>
+        requires { 0 < length buf.old }
+        ensures within { IfOk result (λ n. n ≤ length buf.new) }
+        ensures gave { IfOk result (λ n.
+            Gives (untold_bytes self.old) (untold_bytes self.new) (take n buf.new)) }
+        ensures end { IfOk result (λ n. n ≡ 0 →
+            IfSome (untold_bytes self.old) (λ bytes. bytes ≡ [])) }
+        ensures failed { OnErr result (Rose self.old self.new) }
+        ensures kept { OnErr result (untold_bytes self.new ≡ untold_bytes self.old) }
+        ensures never_falls { self.old ≤ self.new }
+
+        ensures same { OnOk result (self.new ≡ self.old) }
+        ensures counted { OnErr result (self.new ≡ one_more self.old) }
+    {
+        match self.system.read(buf) {
+            Ok(n) => Ok(n),
+            Err(_) => {
+                self.faults = one_more(self.faults);
+                Err(Failed)
+            }
+        }
+    }
+}
