@@ -2,6 +2,11 @@
 #![tactic(auto)]
 
 mod cut;
+mod keyword;
+mod number;
+mod piece;
+mod runs;
+mod signs;
 mod token_list;
 
 pub use cut::tokens;
