@@ -44,11 +44,11 @@ stands-last bytes at line found s l =
 
 -- What was read, by its parts.
 
-parts : (m : ℕ) (x : Result (Option Kind) Code) (kind : Option Kind) (n : ℕ) → with_length m x ≡ Ok (record { kind = kind; len = n }) → (m ≡ n) × (x ≡ Ok kind)
-parts m (Ok k) kind n h =
-    let e : ◌≡◌ {A = Front} (record { kind = k; len = m }) (record { kind = kind; len = n }) = cc in
-    (ap (λ (f : Front). f.len) e, ap (λ (f : Front). Ok f.kind) e)
-parts m (Err c) kind n h = cc
+parts : (m : ℕ) (x : Result (Option Kind) Code) (f : Front) → with_length m x ≡ Ok f → (m ≡ f.len) × (x ≡ Ok f.kind)
+parts m (Ok k) f h =
+    let e : ◌≡◌ {A = Front} (record { kind = k; len = m }) f = cc in
+    (ap (λ (g : Front). g.len) e, ap (λ (g : Front). Ok g.kind) e)
+parts m (Err c) f h = cc
 
 fault-of : (m : ℕ) (x : Result (Option Kind) Code) (c : Code) → with_length m x ≡ Err c → x ≡ Err c
 fault-of m (Ok k) c h = cc
@@ -67,44 +67,48 @@ stands-fault bytes at line found c s l h =
     let e = fault-of (front (b ∷ t)) (read_front (front (b ∷ t)) (b ∷ t)) c (sym (rw (rest-is bytes at l) at h)) in
     s.rest ∙ rw (drop_more bytes at 0 l, cut_from-fails at line b t c (front (b ∷ t)) refl e) refl
 
--- one piece further on, which has a byte
-pub record Goes (bytes : List ℕ) (at line n : ℕ) (found : List Token) : Type 0 where
-  pub some : 0 < n
-  pub stands : Stands bytes (at + n) line found
+-- one piece further on, still within the source
+pub record Goes (bytes : List ℕ) (at to : ℕ) : Type 0 where
+  pub some : at < to
+  pub within : to ≤ length bytes
 
--- a blank or a comment
-pub stands-none : (bytes : List ℕ) (at line n : ℕ) (found : List Token) → Stands bytes at line found → at < length bytes
-    → Ok (record { kind = None; len = n }) ≡ front_of (take (length bytes - at) (drop at bytes))
-    → Goes bytes at (line_after line (get_or bytes at 0)) n found
-stands-none bytes at line n found s l h =
+-- what was read has a byte and ends within the source
+pub goes : (bytes : List ℕ) (at : ℕ) (f : Front) → at < length bytes → Ok f ≡ front_of (take (length bytes - at) (drop at bytes)) → Goes bytes at (at + f.len)
+goes bytes at f l h =
     let b = get_or bytes at 0 in
     let t = drop (at + 1) bytes in
-    let p = parts (front (b ∷ t)) (read_front (front (b ∷ t)) (b ∷ t)) None n (sym (rw (rest-is bytes at l) at h)) in
-    let a = cut_from-reads at line b t None n p.0 (rw p.0 at p.1) in
+    let p = parts (front (b ∷ t)) (read_front (front (b ∷ t)) (b ∷ t)) f (sym (rw (rest-is bytes at l) at h)) in
+    let a = cut_from-reads at 0 b t f.kind f.len p.0 (rw p.0 at p.1) in
+    record { some = omega (arith, a.some); within = omega (arith, a.within, length-drop (at + 1) bytes) }
+
+-- a blank or a comment
+pub stands-none : (bytes : List ℕ) (at line : ℕ) (found : List Token) (f : Front) → Stands bytes at line found → at < length bytes
+    → Ok f ≡ front_of (take (length bytes - at) (drop at bytes)) → f.kind ≡ None
+    → Stands bytes (at + f.len) (line_after line (get_or bytes at 0)) found
+stands-none bytes at line found f s l h none =
+    let b = get_or bytes at 0 in
+    let t = drop (at + 1) bytes in
+    let p = parts (front (b ∷ t)) (read_front (front (b ∷ t)) (b ∷ t)) f (sym (rw (rest-is bytes at l) at h)) in
+    let a = cut_from-reads at line b t None f.len p.0 (rw (p.0, none) at p.1) in
     record {
-      some = a.some;
-      stands = record {
-        within = omega (arith, a.within, length-drop (at + 1) bytes);
-        rest = s.rest ∙ rw (drop_more bytes at 0 l, a.cut_is, ← drop_more bytes at 0 l, drop-drop n at bytes) refl;
-        lines = s.lines ∙ rw (drop_more bytes at 0 l, a.lines_are, ← drop_more bytes at 0 l, drop-drop n at bytes) refl;
-      };
+      within = (goes bytes at f l h).within;
+      rest = s.rest ∙ rw (drop_more bytes at 0 l, a.cut_is, ← drop_more bytes at 0 l, drop-drop f.len at bytes) refl;
+      lines = s.lines ∙ rw (drop_more bytes at 0 l, a.lines_are, ← drop_more bytes at 0 l, drop-drop f.len at bytes) refl;
     }
 
 -- a token
-pub stands-some : (bytes : List ℕ) (at line n : ℕ) (found : List Token) (kind : Kind) → Stands bytes at line found → at < length bytes
-    → Ok (record { kind = Some kind; len = n }) ≡ front_of (take (length bytes - at) (drop at bytes))
-    → Goes bytes at line n (found ++ record { kind = kind; from = at; to = at + n; line = line } ∷ [])
-stands-some bytes at line n found kind s l h =
+pub stands-some : (bytes : List ℕ) (at line : ℕ) (found : List Token) (f : Front) (kind : Kind) → Stands bytes at line found → at < length bytes
+    → Ok f ≡ front_of (take (length bytes - at) (drop at bytes)) → f.kind ≡ Some kind
+    → Stands bytes (at + f.len) line (found ++ record { kind = kind; from = at; to = at + f.len; line = line } ∷ [])
+stands-some bytes at line found f kind s l h some =
     let b = get_or bytes at 0 in
     let t = drop (at + 1) bytes in
-    let p = parts (front (b ∷ t)) (read_front (front (b ∷ t)) (b ∷ t)) (Some kind) n (sym (rw (rest-is bytes at l) at h)) in
-    let a = cut_from-reads at line b t (Some kind) n p.0 (rw p.0 at p.1) in
-    let same = token-line line b t kind n p.0 (rw p.0 at p.1) in
+    let p = parts (front (b ∷ t)) (read_front (front (b ∷ t)) (b ∷ t)) f (sym (rw (rest-is bytes at l) at h)) in
+    let read = rw (p.0, some) at p.1 in
+    let a = cut_from-reads at line b t (Some kind) f.len p.0 read in
+    let same = token-line line b t kind f.len p.0 read in
     record {
-      some = a.some;
-      stands = record {
-        within = omega (arith, a.within, length-drop (at + 1) bytes);
-        rest = s.rest ∙ rw (drop_more bytes at 0 l, a.cut_is, ← drop_more bytes at 0 l, drop-drop n at bytes, same) (prepend-with found _ _);
-        lines = s.lines ∙ rw (drop_more bytes at 0 l, a.lines_are, ← drop_more bytes at 0 l, drop-drop n at bytes, same) refl;
-      };
+      within = (goes bytes at f l h).within;
+      rest = s.rest ∙ rw (drop_more bytes at 0 l, a.cut_is, ← drop_more bytes at 0 l, drop-drop f.len at bytes, same) (prepend-with found _ _);
+      lines = s.lines ∙ rw (drop_more bytes at 0 l, a.lines_are, ← drop_more bytes at 0 l, drop-drop f.len at bytes, same) refl;
     }

@@ -5,7 +5,7 @@ ghost use Rattle.rg_base.specs.Tokens.{cut, end_line, line_after};
 ghost use Rattle.rg_lex.specs.Gives.{Gives};
 ghost use Rattle.rg_lex.specs.Places.{AreSpans, AreLines};
 
-use crate::piece::{Front, read_front};
+use crate::piece::read_front;
 use crate::token_list::Tokens;
 use rg_base::{Fault, SOURCE_BYTES, Stop, Token};
 use std::alloc::Global;
@@ -22,20 +22,26 @@ pub fn tokens(alloc: Global, bytes: &[u8]) -> Result<Tokens, Stop>
     let mut line: u64 = 1;
     let mut at: usize = 0;
     while at < bytes.len() {
-        match read_front(&bytes[at..]) {
+        let front = match read_front(&bytes[at..]) {
+            Ok(front) => front,
             Err(code) => return Err(Stop::Fault(Fault { code, line })),
-            Ok(Front { kind: None, len }) => {
-                line = next_line(line, bytes[at]);
-                at += len;
-            }
-            Ok(Front { kind: Some(kind), len }) => {
-                let token = Token { kind, from: at, to: at + len, line };
+        };
+        let to = at + front.len;
+        match front.kind {
+            None => line = next_line(line, bytes[at]),
+            Some(kind) => {
+                let token = Token {
+                    kind,
+                    from: at,
+                    to,
+                    line,
+                };
                 let Ok(()) = found.push(token) else {
                     return Err(Stop::Memory);
                 };
-                at += len;
             }
         }
+        at = to;
     }
     Ok(Tokens::of(found, line))
 }
