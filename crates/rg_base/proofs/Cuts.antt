@@ -1,5 +1,5 @@
 -- What one piece adds to the tokens of a source.
-use Rattle.std.proofs.Common.{◌≡◌, ℕ, zero, suc, ◌+◌, ◌-◌, ◌<◌, ◌≤◌, ◌==◌, Bool, true, false, ◌&&◌, cond, List, [], ◌∷◌, length, take, drop, Option, Some, None, is_some, option_map, Result, Ok, Err, refl, arith}
+use Rattle.std.proofs.Common.{◌≡◌, ℕ, zero, suc, ◌+◌, ◌-◌, ◌<◌, ◌≤◌, ◌==◌, Bool, true, false, ◌&&◌, cond, List, [], ◌∷◌, length, take, drop, Option, Some, None, is_some, option_map, Ok, Err, refl, arith}
 use Rattle.std.specs.List.{list_all}
 use Rattle.std.specs.Prelude.{bytes_eq}
 use Rattle.std.proofs.lemmas.Bool.Decides.{nat_tests}
@@ -7,10 +7,10 @@ use Rattle.std.proofs.lemmas.Slice.Eq.{bytes_eq-Decides}
 use Rattle.rg_base.specs.declared.words.Sign.{Sign}
 use Rattle.rg_base.specs.declared.token.Kind.{Kind}
 use Rattle.rg_base.specs.declared.fault.Code.{Code}
-use Rattle.rg_base.specs.Words.{signs, beside, sign_of}
-use Rattle.rg_base.specs.Pieces.{Piece, blank, comment, name, number, sign, is_blank, is_digit, is_letter, is_in_name, is_in_comment, only_if, is_empty, is_comment, piece_of, front}
+use Rattle.rg_base.specs.Words.{signs, beside}
+use Rattle.rg_base.specs.Pieces.{Piece, sign, is_blank, is_digit, is_letter, is_in_name, is_in_comment, only_if, is_empty, is_comment, piece_of, front}
 use Rattle.rg_base.specs.Tokens.{reading, read_front, placed, line_after, cut_from, line_behind}
-use Rattle.rg_base.proofs.Fronts.{both, IsOther, piece-blank, piece-letter, piece-digit, piece-other, front-le, IsFront, front-blank}
+use Rattle.rg_base.proofs.Fronts.{both, IsOther, piece-blank, piece-letter, piece-digit, piece-other, front-le, front-blank}
 
 -- Behind its first byte a piece has no end of a line.
 
@@ -119,7 +119,8 @@ pub record Adds (from line b : ℕ) (t : List ℕ) (r : Option Kind) (n : ℕ) :
   pub lines_are : line_behind line (b ∷ t) ≡ line_behind (line_after line b) (drop n (b ∷ t))
 
 -- the front is read
-pub cut_from-reads : (from line b : ℕ) (t : List ℕ) (r : Option Kind) (n : ℕ) → front (b ∷ t) ≡ n → read_front n (b ∷ t) ≡ Ok r → Adds from line b t r n
+pub cut_from-reads : (from line b : ℕ) (t : List ℕ) (r : Option Kind) (n : ℕ) → front (b ∷ t) ≡ n → read_front n (b ∷ t) ≡ Ok r
+    → Adds from line b t r n
 unfolding cut_from
 cut_from-reads from line b t r zero f h = cc
 cut_from-reads from line b t r (suc n) f h =

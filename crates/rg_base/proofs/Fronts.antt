@@ -1,5 +1,5 @@
 -- The piece that begins the bytes, by what they begin with.
-use Rattle.std.proofs.Common.{◌≡◌, ℕ, zero, suc, ◌+◌, ◌-◌, ◌<◌, ◌≤◌, ◌==◌, nat_le, Bool, true, false, not, ◌&&◌, cond, List, [], ◌∷◌, length, take, drop, get_or, Option, Some, None, is_some, option_map, refl, sym, ◌∙◌, ap, arith, one-add}
+use Rattle.std.proofs.Common.{◌≡◌, ℕ, zero, suc, ◌+◌, ◌-◌, ◌<◌, ◌≤◌, ◌==◌, nat_le, Bool, true, false, ◌&&◌, cond, List, [], ◌∷◌, length, take, Option, Some, None, is_some, option_map, refl, ◌∙◌, arith, one-add}
 use Rattle.std.specs.List.{list_all, prefix_len}
 use Rattle.std.specs.Prelude.{bytes_eq}
 use Rattle.std.proofs.lemmas.List.Sums.{prefix_len-le-length}
@@ -210,21 +210,24 @@ beside-long (x ∷ xs) n t a l =
 sign_of-long : (t : List ℕ) → 2 < length t → sign_of t ≡ None
 sign_of-long t l = beside-long signs 2 t refl l
 
-not_comment : (a c : ℕ) (v : Bool) → (a ≡ 47 → c ≡ 47 → ⊥) → (a == 47 && c == 47 && v) ≡ false
-not_comment a c v h = grind (arith, nat_tests)
+not_comment : (a c : ℕ) (v : Bool) → (a == 47 && c == 47) ≡ false → (a == 47 && c == 47 && v) ≡ false
+not_comment a c v h = rw h refl
 
 -- a text that is a sign or nothing
 sign-text : (a : ℕ) (t : List ℕ) → IsOther a → is_comment (a ∷ t) ≡ false → piece_of (a ∷ t) ≡ option_map sign (sign_of (a ∷ t))
 sign-text a t o e = rw (piece-other a t o, e) refl
 
 -- no text of three bytes or more that is no comment is a piece
-longer-no_sign : (a c : ℕ) (t : List ℕ) (j : ℕ) → IsOther a → (a ≡ 47 → c ≡ 47 → ⊥) → j < length t → is_some (piece_of (a ∷ c ∷ take (suc j) t)) ≡ false
+longer-no_sign : (a c : ℕ) (t : List ℕ) (j : ℕ) → IsOther a → (a == 47 && c == 47) ≡ false → j < length t
+    → is_some (piece_of (a ∷ c ∷ take (suc j) t)) ≡ false
 longer-no_sign a c [] j o h l = absurd (omega arith)
 longer-no_sign a c (d ∷ t) j o h l =
-    rw (sign-text a (c ∷ d ∷ take j t) o (not_comment a c (list_all is_in_comment (d ∷ take j t)) h), sign_of-long (a ∷ c ∷ d ∷ take j t) (omega arith)) refl
+    let plain = not_comment a c (list_all is_in_comment (d ∷ take j t)) h in
+    rw (sign-text a (c ∷ d ∷ take j t) o plain, sign_of-long (a ∷ c ∷ d ∷ take j t) (omega arith)) refl
 
 -- a sign of two bytes
-pub front-pair : (a c : ℕ) (t : List ℕ) (s : Sign) → IsOther a → (a ≡ 47 → c ≡ 47 → ⊥) → sign_of (a ∷ c ∷ []) ≡ Some s → IsFront (a ∷ c ∷ t) 2 (Some (sign s))
+pub front-pair : (a c : ℕ) (t : List ℕ) (s : Sign) → IsOther a → (a == 47 && c == 47) ≡ false → sign_of (a ∷ c ∷ []) ≡ Some s
+    → IsFront (a ∷ c ∷ t) 2 (Some (sign s))
 front-pair a c t s o h e =
     let here : piece_of (a ∷ c ∷ []) ≡ Some (sign s) = rw (sign-text a (c ∷ []) o (not_comment a c true h), e) refl in
     record { length_is = front-is (a ∷ c ∷ t) 1 (omega arith) (rw here refl) apart; piece_is = here }
@@ -254,7 +257,7 @@ front-one a t None o e apart =
     all here (suc j) l = apart (suc j) (omega arith) l
 
 -- a sign of one byte, or a byte of no piece, where the next byte makes no longer sign
-pub front-single : (a c : ℕ) (t : List ℕ) → IsOther a → (a ≡ 47 → c ≡ 47 → ⊥) → sign_of (a ∷ c ∷ []) ≡ None
+pub front-single : (a c : ℕ) (t : List ℕ) → IsOther a → (a == 47 && c == 47) ≡ false → sign_of (a ∷ c ∷ []) ≡ None
     → IsFront (a ∷ c ∷ t) (one_if (sign_of (a ∷ []))) (option_map sign (sign_of (a ∷ [])))
 front-single a c t o h e = front-one a (c ∷ t) (sign_of (a ∷ [])) o refl apart
   where

@@ -1,20 +1,18 @@
 -- What the lexer reads, by what the bytes begin with.
-use Rattle.std.proofs.Common.{◌≡◌, ℕ, zero, suc, pos, ◌+◌, ◌-◌, ◌*◌, ◌<◌, ◌≤◌, nat_lt, Bool, true, false, List, [], ◌∷◌, length, take, drop, get_or, Option, Some, None, option_map, Result, Ok, Err, refl, sym, ◌∙◌, ap, arith, one-add}
-use Rattle.std.specs.List.{list_all, prefix_len}
+use Rattle.std.proofs.Common.{◌≡◌, ℕ, suc, pos, ◌+◌, ◌-◌, ◌*◌, ◌<◌, ◌≤◌, ◌==◌, nat_lt, ◌&&◌, Bool, true, false, List, [], ◌∷◌, length, take, drop, get_or, Option, Some, None, option_map, Ok, Err, refl, ◌∙◌, ap, arith, one-add}
+use Rattle.std.specs.List.{prefix_len}
 use Rattle.std.proofs.lemmas.List.{drop_more}
 use Rattle.std.proofs.lemmas.List.Folds.{length-prefix_len}
 use Rattle.std.proofs.lemmas.Bool.Decides.{nat_tests}
 use Rattle.rg_base.specs.declared.words.Sign.{Sign}
 use Rattle.rg_base.specs.declared.token.Kind.{Kind}
 use Rattle.rg_base.specs.declared.token.Kind.TheVariants as k
-use Rattle.rg_base.specs.declared.fault.Code.{Code}
 use Rattle.rg_base.specs.declared.fault.Code.TheVariants as code
 use Rattle.rg_base.specs.declared.limits.TheConstants.{NAME_BYTES, GREATEST_NUMBER}
 use Rattle.rg_base.specs.Words.{keyword_of, sign_of}
-use Rattle.rg_base.specs.Pieces.{Piece, blank, comment, name, number, sign, is_blank, is_digit, is_letter, is_in_name, is_in_comment, front}
+use Rattle.rg_base.specs.Pieces.{Piece, blank, comment, name, number, sign, is_blank, is_digit, is_letter, is_in_name, is_in_comment}
 use Rattle.rg_base.specs.Tokens.{value_onto, value_of, begins_name, word_or_name, number_within, reading}
-use Rattle.rg_base.proofs.Fronts.{IsOther, IsFront, front-blank, front-letter, front-digit, front-comment, front-pair, front-single, front-alone, one_if}
-use Rattle.rg_lex.specs.declared.piece.Front.{Front}
+use Rattle.rg_base.proofs.Fronts.{both, IsOther, IsFront, front-blank, front-letter, front-digit, front-comment, front-pair, front-single, front-alone, one_if}
 use Rattle.rg_lex.specs.Front.{with_length, front_of, marked}
 
 -- by the front's length and what it is
@@ -96,16 +94,19 @@ value_of-past ds k v l same more =
 -- Comments and signs.
 
 -- a comment
-pub front_of-comment : (bs : List ℕ) → 2 ≤ length bs → get_or bs 0 0 ≡ 47 → get_or bs 1 0 ≡ 47
+pub front_of-comment : (bs : List ℕ) → 2 ≤ length bs → (get_or bs 0 0 == 47 && get_or bs 1 0 == 47) ≡ true
     → front_of bs ≡ Ok (record { kind = None; len = prefix_len is_in_comment bs })
-front_of-comment [] l p q = absurd (omega arith)
-front_of-comment (a ∷ []) l p q = absurd (omega arith)
-front_of-comment (a ∷ c ∷ bs) l p q =
+front_of-comment [] l e = absurd (omega arith)
+front_of-comment (a ∷ []) l e = absurd (omega arith)
+front_of-comment (a ∷ c ∷ bs) l e =
+    let r = both (a == 47) (c == 47) e in
+    let first : a ≡ 47 = grind (arith, nat_tests) in
+    let second : c ≡ 47 = grind (arith, nat_tests) in
     let n : prefix_len is_in_comment (47 ∷ 47 ∷ bs) ≡ suc (suc (prefix_len is_in_comment bs)) = omega arith in
-    rw (p, q, n) (front_of-is (47 ∷ 47 ∷ bs) (suc (suc (prefix_len is_in_comment bs))) (Some comment) (front-comment bs))
+    rw (first, second, n) (front_of-is (47 ∷ 47 ∷ bs) (suc (suc (prefix_len is_in_comment bs))) (Some comment) (front-comment bs))
 
 -- a sign of two bytes
-pub front_of-pair : (bs : List ℕ) (s : Sign) → IsOther (get_or bs 0 0) → 2 ≤ length bs → (get_or bs 0 0 ≡ 47 → get_or bs 1 0 ≡ 47 → ⊥)
+pub front_of-pair : (bs : List ℕ) (s : Sign) → IsOther (get_or bs 0 0) → 2 ≤ length bs → (get_or bs 0 0 == 47 && get_or bs 1 0 == 47) ≡ false
     → sign_of (get_or bs 0 0 ∷ get_or bs 1 0 ∷ []) ≡ Some s → front_of bs ≡ Ok (record { kind = Some (k.Mark s); len = 2 })
 front_of-pair [] s o l h e = absurd (omega arith)
 front_of-pair (a ∷ []) s o l h e = absurd (omega arith)
@@ -116,16 +117,18 @@ marked-is None text after = refl
 marked-is (Some s) text after = refl
 
 -- a byte that makes no sign with the next one
-pub front_of-single : (bs : List ℕ) → IsOther (get_or bs 0 0) → 2 ≤ length bs → (get_or bs 0 0 ≡ 47 → get_or bs 1 0 ≡ 47 → ⊥)
+pub front_of-single : (bs : List ℕ) → IsOther (get_or bs 0 0) → 2 ≤ length bs → (get_or bs 0 0 == 47 && get_or bs 1 0 == 47) ≡ false
     → sign_of (get_or bs 0 0 ∷ get_or bs 1 0 ∷ []) ≡ None → front_of bs ≡ marked (sign_of (get_or bs 0 0 ∷ []))
 front_of-single [] o l h e = absurd (omega arith)
 front_of-single (a ∷ []) o l h e = absurd (omega arith)
 front_of-single (a ∷ c ∷ bs) o l h e =
-    front_of-is (a ∷ c ∷ bs) (one_if (sign_of (a ∷ []))) (option_map sign (sign_of (a ∷ []))) (front-single a c bs o h e) ∙ marked-is (sign_of (a ∷ [])) _ _
+    let s = sign_of (a ∷ []) in
+    front_of-is (a ∷ c ∷ bs) (one_if s) (option_map sign s) (front-single a c bs o h e) ∙ marked-is s _ _
 
 -- the last byte
 pub front_of-alone : (bs : List ℕ) → IsOther (get_or bs 0 0) → length bs ≡ 1 → front_of bs ≡ marked (sign_of (get_or bs 0 0 ∷ []))
 front_of-alone [] o l = absurd (omega arith)
 front_of-alone (a ∷ []) o l =
-    front_of-is (a ∷ []) (one_if (sign_of (a ∷ []))) (option_map sign (sign_of (a ∷ []))) (front-alone a o) ∙ marked-is (sign_of (a ∷ [])) _ _
+    let s = sign_of (a ∷ []) in
+    front_of-is (a ∷ []) (one_if s) (option_map sign s) (front-alone a o) ∙ marked-is s _ _
 front_of-alone (a ∷ c ∷ bs) o l = absurd (omega arith)

@@ -1,5 +1,5 @@
 -- The tokens found so far, and one piece more.
-use Rattle.std.proofs.Common.{◌≡◌, ℕ, zero, suc, ◌+◌, ◌-◌, ◌<◌, ◌≤◌, List, [], ◌∷◌, ◌++◌, length, take, drop, get_or, Option, Some, None, Result, Ok, Err, refl, sym, ◌∙◌, ap, arith, append-nil, append_assoc}
+use Rattle.std.proofs.Common.{◌≡◌, ℕ, ◌+◌, ◌-◌, ◌<◌, ◌≤◌, List, [], ◌∷◌, ◌++◌, length, take, drop, get_or, Option, Some, None, Result, Ok, Err, refl, sym, ◌∙◌, ap, arith, append-nil, append_assoc}
 use Rattle.std.proofs.lemmas.List.{drop_more, take_rest, drop-drop, drop_all, length-drop}
 use Rattle.rg_base.specs.declared.token.Kind.{Kind}
 use Rattle.rg_base.specs.declared.token.Token.{Token}
@@ -73,7 +73,8 @@ pub record Goes (bytes : List ℕ) (at to : ℕ) : Type 0 where
   pub within : to ≤ length bytes
 
 -- what was read has a byte and ends within the source
-pub goes : (bytes : List ℕ) (at : ℕ) (f : Front) → at < length bytes → Ok f ≡ front_of (take (length bytes - at) (drop at bytes)) → Goes bytes at (at + f.len)
+pub goes : (bytes : List ℕ) (at : ℕ) (f : Front) → at < length bytes → Ok f ≡ front_of (take (length bytes - at) (drop at bytes))
+    → Goes bytes at (at + f.len)
 goes bytes at f l h =
     let b = get_or bytes at 0 in
     let t = drop (at + 1) bytes in

@@ -1,12 +1,12 @@
 -- The tokens of a source stand in order, within it, on its lines; for callers.
-use Rattle.std.proofs.Common.{◌≡◌, ℕ, zero, suc, ◌+◌, ◌-◌, ◌<◌, ◌≤◌, ◌==◌, Bool, true, false, cond, List, [], ◌∷◌, length, take, drop, slice_get, Option, Some, None, Result, Ok, Err, refl, sym, arith}
+use Rattle.std.proofs.Common.{◌≡◌, ℕ, zero, suc, ◌+◌, ◌-◌, ◌<◌, ◌≤◌, ◌==◌, Bool, true, false, cond, List, [], ◌∷◌, length, slice_get, Option, Some, None, Result, Ok, Err, refl, arith}
 use Rattle.rg_base.specs.declared.token.Kind.{Kind}
 use Rattle.rg_base.specs.declared.token.Token.{Token}
 use Rattle.rg_base.specs.declared.fault.Code.{Code}
 use Rattle.rg_base.specs.declared.fault.Code.TheVariants as code
 use Rattle.rg_base.specs.declared.fault.Fault.{Fault}
 use Rattle.rg_base.specs.Pieces.{front}
-use Rattle.rg_base.specs.Tokens.{read_front, with_token, placed, line_after, cut_from, cut, line_behind, end_line}
+use Rattle.rg_base.specs.Tokens.{read_front, placed, line_after, cut_from, cut, line_behind, end_line}
 use Rattle.rg_base.proofs.Fronts.{front-le}
 use Rattle.rg_lex.specs.Places.{AreSpans, AreLines}
 
@@ -22,7 +22,8 @@ AreLines-from (t ∷ ts) early first last l s = (omega (arith, s.0), s.1)
 
 -- what a piece of that length leaves in front of the rest
 placed-spans : (from n line to : ℕ) (r : Result (Option Kind) Code) (rest : Result (List Token) Fault) (ts : List Token)
-    → (n ≡ 0 → r ≡ Err code.Byte) → ((us : List Token) → rest ≡ Ok us → AreSpans (from + n) to us) → placed from n line r rest ≡ Ok ts → AreSpans from to ts
+    → (n ≡ 0 → r ≡ Err code.Byte) → ((us : List Token) → rest ≡ Ok us → AreSpans (from + n) to us) → placed from n line r rest ≡ Ok ts
+    → AreSpans from to ts
 placed-spans from n line to (Err c) rest ts some h e = cc
 placed-spans from n line to (Ok None) rest ts some h e = AreSpans-from ts from (from + n) to (omega arith) (h ts e)
 placed-spans from n line to (Ok (Some kind)) (Err f) ts some h e = cc
@@ -71,18 +72,19 @@ placed-lines from n line last (Ok (Some kind)) (Ok us) ts h e =
     let all : record { kind = kind; from = from; to = from + n; line = line } ∷ us ≡ ts = cc in
     rw (← all) (omega arith, h us refl)
 
-cut_from-lines : (left from line : ℕ) (bytes : List ℕ) (ts : List Token) → cut_from left from line bytes ≡ Ok ts → AreLines line (line_behind line bytes) ts
+cut_from-lines : (left from line : ℕ) (bytes : List ℕ) (ts : List Token) → cut_from left from line bytes ≡ Ok ts
+    → AreLines line (line_behind line bytes) ts
 unfolding cut_from
 cut_from-lines zero from line [] ts e = let none : [] ≡ ts = cc in rw (← none) (omega arith)
 cut_from-lines (suc left) from line [] ts e = let none : [] ≡ ts = cc in rw (← none) (omega arith)
 cut_from-lines (suc left) from line (b ∷ bs) ts e =
-    let near = line_after-near line b in
-    AreLines-from ts line (line_after line b) (line_behind (line_after line b) bs) near.0 (cut_from-lines left (suc from) (line_after line b) bs ts e)
+    let next = line_after line b in
+    AreLines-from ts line next (line_behind next bs) (line_after-near line b).0 (cut_from-lines left (suc from) next bs ts e)
 cut_from-lines zero from line (b ∷ bs) ts e =
     let n = front (b ∷ bs) in
-    let near = line_after-near line b in
-    placed-lines from n line (line_behind (line_after line b) bs) (read_front n (b ∷ bs)) (cut_from (n - 1) (suc from) (line_after line b) bs) ts
-    (λ us h. AreLines-from us line (line_after line b) (line_behind (line_after line b) bs) near.0 (cut_from-lines (n - 1) (suc from) (line_after line b) bs us h)) e
+    let next = line_after line b in
+    placed-lines from n line (line_behind next bs) (read_front n (b ∷ bs)) (cut_from (n - 1) (suc from) next bs) ts
+    (λ us h. AreLines-from us line next (line_behind next bs) (line_after-near line b).0 (cut_from-lines (n - 1) (suc from) next bs us h)) e
 
 -- the tokens of a source stand on its lines, in order
 pub cut-lines : (bytes : List ℕ) (ts : List Token) → cut bytes ≡ Ok ts → AreLines 1 (end_line bytes) ts

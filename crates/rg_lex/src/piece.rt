@@ -9,7 +9,8 @@ ghost use Rattle.rg_lex.specs.Front.{front_of, marked};
 use crate::keyword::keyword;
 use crate::number::value;
 use crate::runs::{
-    begins_with_letter, comment_run, digit_run, is_blank_byte, is_digit_byte, is_letter_byte, name_run,
+    begins_comment, begins_with_letter, comment_run, digit_run, is_blank_byte, is_digit_byte, is_letter_byte,
+    name_run,
 };
 use crate::signs::{pair, single};
 use rg_base::{Code, Kind, NAME_BYTES, Sign};
@@ -92,7 +93,7 @@ fn read_mark(bytes: &[u8]) -> Result<Front, Code>
         return read_single(first);
     }
     let second = bytes[1];
-    if first == b'/' && second == b'/' {
+    if begins_comment(first, second) {
         let len = comment_run(bytes);
         return Ok(Front { kind: None, len });
     }

@@ -1,6 +1,6 @@
 //! Kinds of bytes, and runs of them at the front.
 
-ghost use Rattle.std.specs.Prelude.{◌≡◌, ◌≤◌, length};
+ghost use Rattle.std.specs.Prelude.{◌≡◌, ◌≤◌, ◌==◌, ◌&&◌, length};
 ghost use Rattle.std.specs.List.{prefix_len};
 ghost use Rattle.rg_base.specs.Pieces.{is_blank, is_digit, is_letter, is_in_name, is_in_comment};
 ghost use Rattle.rg_base.specs.Tokens.{begins_name};
@@ -55,6 +55,13 @@ pub(crate) fn comment_run(bytes: &[u8]) -> usize
     ensures within { result ≤ length bytes.now }
 {
     bytes.iter().take_while(|b| **b != b'\n').count()
+}
+
+/// Two slashes, with which a comment begins.
+pub(crate) fn begins_comment(a: u8, b: u8) -> bool
+    ensures { result ≡ (a == 47 && b == 47) }
+{
+    a == b'/' && b == b'/'
 }
 
 /// Whether a letter or `_` comes first.

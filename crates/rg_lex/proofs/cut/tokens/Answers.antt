@@ -1,7 +1,5 @@
-use Rattle.std.proofs.Common.{◌≡◌, ◌≤◌, ◌+◌, ◌++◌, ◌∷◌, [], Ok, sym, ◌∙◌, ap, arith}
-use Rattle.rg_base.specs.declared.token.Token.{Token}
-use Rattle.rg_base.specs.Tokens.{cut}
-use Rattle.rg_lex.proofs.Progress.{stands-first, stands-last, stands-fault, goes, stands-none, stands-some}
+use Rattle.std.proofs.Common.{Ok, sym, ◌∙◌, ap, arith}
+use Rattle.rg_lex.proofs.Progress.{stands-last, stands-fault, goes, stands-none, stands-some}
 use Rattle.rg_lex.proofs.Spans.{cut-spans, cut-lines, line_after-near}
 use Rattle.rg_lex.proofs.cut.tokens.Goals as goal
 
@@ -17,9 +15,10 @@ loop-at-smaller-in-None c = let g = goes _ _ c.in-Ok.front c.loop-at-test.true c
 pub loop-at-preserved-in-None : goal.loop-at-preserved-in-None
 loop-at-preserved-in-None c =
     let near = line_after-near c.loop-at.line in
+    let next = stands-none _ _ _ _ c.in-Ok.front c.loop-at.invariant.stands c.loop-at-test.true c.in-Ok.ensures c.in-None.is in
     record {
       small = omega (arith, near, (goes _ _ c.in-Ok.front c.loop-at-test.true c.in-Ok.ensures).some);
-      stands = rw c.next_line-line.ensures (stands-none _ _ _ _ c.in-Ok.front c.loop-at.invariant.stands c.loop-at-test.true c.in-Ok.ensures c.in-None.is);
+      stands = rw c.next_line-line.ensures next;
     }
 
 pub loop-at-smaller : goal.loop-at-smaller
@@ -27,10 +26,8 @@ loop-at-smaller c = let g = goes _ _ c.in-Ok.front c.loop-at-test.true c.in-Ok.e
 
 pub loop-at-preserved : goal.loop-at-preserved
 loop-at-preserved c =
-    record {
-      small = omega arith;
-      stands = rw c.in-Ok-push.ensures.items (stands-some _ _ _ _ c.in-Ok.front c.in-Some.kind c.loop-at.invariant.stands c.loop-at-test.true c.in-Ok.ensures c.in-Some.is);
-    }
+    let next = stands-some _ _ _ _ c.in-Ok.front c.in-Some.kind c.loop-at.invariant.stands c.loop-at-test.true c.in-Ok.ensures c.in-Some.is in
+    record { small = omega arith; stands = rw c.in-Ok-push.ensures.items next }
 
 pub returns-clause-cut : goal.returns-clause-cut
 returns-clause-cut c = (stands-last _ _ _ _ c.loop-at.invariant.stands c.loop-at-test.false).0 ∙ ap (λ t. Ok t.tokens) (sym c.of.ensures)

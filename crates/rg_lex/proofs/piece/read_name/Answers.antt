@@ -1,5 +1,4 @@
-use Rattle.std.proofs.Common.{◌≤◌, sym, arith}
-use Rattle.std.proofs.lemmas.List.{take_rest}
+use Rattle.std.proofs.Common.{sym, arith}
 use Rattle.rg_lex.proofs.FrontCases.{front_of-long_name, front_of-name}
 use Rattle.rg_lex.proofs.piece.read_name.Goals as goal
 

@@ -1,10 +1,8 @@
-use Rattle.std.proofs.Common.{◌≡◌, ◌<◌, ◌≤◌, true, false, take, drop, pos, to_z, w64, sym, ◌∙◌, ap, arith}
+use Rattle.std.proofs.Common.{◌≡◌, pos, to_z, w64, sym, ◌∙◌, ap, arith}
 use Rattle.std.proofs.lemmas.List.{take_rest}
 use Rattle.std.proofs.lemmas.Int.{to_z_pos}
-use Rattle.std.specs.List.{prefix_len}
-use Rattle.rg_base.specs.declared.limits.TheConstants.{GREATEST_NUMBER}
 use Rattle.rg_base.specs.Pieces.{is_digit}
-use Rattle.rg_base.specs.Tokens.{begins_name, value_of}
+use Rattle.rg_base.specs.Tokens.{begins_name}
 use Rattle.rg_base.proofs.Fronts.{list_all-run}
 use Rattle.rg_lex.proofs.FrontCases.{front_of-number_letter, front_of-number_past, front_of-number}
 use Rattle.rg_lex.proofs.piece.read_number.Goals as goal
