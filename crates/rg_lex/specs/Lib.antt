@@ -1,0 +1,3 @@
+pub mod TokenList
+pub mod Gives
+pub mod Places
