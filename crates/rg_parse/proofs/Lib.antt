@@ -1,1 +1,3 @@
 pub mod Writing
+mod NameLemmas
+mod Statements
