@@ -1,3 +1,4 @@
 pub mod Writing
+mod Bodies
 mod NameLemmas
 mod Statements

@@ -33,10 +33,10 @@ pub(crate) fn body(alloc: Global, source: &[u8], tokens: &[Token]) -> Result<Thi
     let mut rest = tokens;
     while let Some((found, behind)) = statement(rest) {
         let stmt = numbered(source, &mut names, found)?;
-        if stmts.push(stmt).is_err() {
-            return Err(Stop::Memory);
+        match stmts.push(stmt) {
+            Ok(()) => rest = behind,
+            Err(_) => return Err(Stop::Memory),
         }
-        rest = behind;
     }
     if is_end(rest) {
         Ok(Thin { stmts })
