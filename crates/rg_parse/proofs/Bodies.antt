@@ -2,20 +2,18 @@
 use Rattle.std.proofs.Common.{◌≡◌, ℕ, List, [], ◌∷◌, ◌++◌, map, length, Option, Some, None, option_map, refl, sym, ◌∙◌, ap, append-nil, append_assoc}
 use Rattle.std.specs.List.{flat_map}
 use Rattle.std.proofs.lemmas.List.Concat.{flat_map-append}
-use Rattle.rg_base.specs.declared.words.Sign.TheVariants as sign
 use Rattle.rg_base.specs.declared.token.Token.{Token}
-use Rattle.rg_base.specs.declared.fault.Fault.{Fault}
 use Rattle.rg_base.specs.declared.fault.Stop.{Stop}
 use Rattle.rg_base.specs.declared.fault.Stop.TheVariants as stop
 use Rattle.rg_parse.specs.declared.statement.ThinStmt.{ThinStmt}
 use Rattle.rg_parse.specs.declared.found.Found.{Found}
 use Rattle.rg_parse.specs.Tree.{Name, Stmt}
-use Rattle.rg_parse.specs.Spelling.{Lexeme, mark, lexeme, written, written_body}
+use Rattle.rg_parse.specs.Spelling.{lexeme, written, written_body}
 use Rattle.rg_parse.specs.Numbering.{with_stmt, numbered}
 use Rattle.rg_parse.specs.Heads.{AreWithin, IsEnd, LacksEnd}
 use Rattle.rg_parse.specs.Reads.{stmt_of, Reads, LacksStmt}
-use Rattle.rg_parse.specs.Meanings.{not_built_fault, Refuses, IsBody, Unnumbered, IsNumbered}
-use Rattle.rg_parse.proofs.Writing.{written_body-cons, written_body-split, written_body-end, written-same, written-not_end}
+use Rattle.rg_parse.specs.Meanings.{Refuses, IsBody, Unnumbered}
+use Rattle.rg_parse.proofs.Writing.{written_body-cons, written_body-split, written-same, written-not_end}
 
 -- numbered statements in front of others
 abbrev pub before : List ThinStmt → Option (List ThinStmt) → Option (List ThinStmt)
@@ -52,13 +50,13 @@ got-more {source} {tokens} {rest} {behind} {old} {new} {stmts} {t} {f} g r n =
     record {
       done = g.done ++ s ∷ [];
       written_is =
-        g.written_is ∙ ap (λ x. flat_map written g.done ++ x) (r.written_is source)
-        ∙ sym (append_assoc (flat_map written g.done) (written s) (map (lexeme source) behind))
-        ∙ ap (λ x. (flat_map written g.done ++ x) ++ map (lexeme source) behind) (sym (append-nil (written s)))
-        ∙ ap (λ x. x ++ map (lexeme source) behind) (sym (flat_map-append written g.done (s ∷ [])));
+          g.written_is ∙ ap (λ x. flat_map written g.done ++ x) (r.written_is source)
+          ∙ sym (append_assoc (flat_map written g.done) (written s) (map (lexeme source) behind))
+          ∙ ap (λ x. (flat_map written g.done ++ x) ++ map (lexeme source) behind) (sym (append-nil (written s)))
+          ∙ ap (λ x. x ++ map (lexeme source) behind) (sym (flat_map-append written g.done (s ∷ [])));
       numbered_is = λ more.
-        ap (numbered []) (append_assoc g.done (s ∷ []) more) ∙ g.numbered_is (s ∷ more) ∙ ap (before stmts) (n more)
-        ∙ before-more stmts t (numbered new more);
+          ap (numbered []) (append_assoc g.done (s ∷ []) more) ∙ g.numbered_is (s ∷ more) ∙ ap (before stmts) (n more)
+          ∙ before-more stmts t (numbered new more);
       within = (r.within (length source) g.within).1;
     }
 

@@ -1,5 +1,5 @@
 -- From the body to the program, and from its tokens to its source.
-use Rattle.std.proofs.Common.{◌≡◌, ℕ, ◌<◌, ◌≤◌, List, [], ◌∷◌, map, Result, Ok, Err, refl, sym, ◌∙◌, ap, arith}
+use Rattle.std.proofs.Common.{◌≡◌, ℕ, ◌<◌, ◌≤◌, List, [], ◌∷◌, map, Result, Ok, Err, sym, ◌∙◌, ap, arith}
 use Rattle.rg_base.specs.declared.token.Token.{Token}
 use Rattle.rg_base.specs.declared.fault.Fault.{Fault}
 use Rattle.rg_base.specs.declared.fault.Stop.{Stop}
@@ -48,12 +48,11 @@ pub not_thin : (source : List ℕ) (tokens : List Token) → cut source ≡ Ok t
 not_thin source tokens c (Ok stmts) h f e = absurd (cc e)
 not_thin source tokens c (Err stop.Memory) h f e = absurd (cc e)
 not_thin source tokens c (Err (stop.Fault g)) h f e =
-    let same : f ≡ g = cc in
-    (
+    let same : f ≡ g = cc in (
       same ∙ h.0,
       λ t.
-        let s : Spells source t.0 = t.2 in
-        let all : Ok s.tokens ≡ Ok tokens = sym s.cut_is ∙ c in
-        let these : tokens ≡ s.tokens = cc all in
-        h.1 t.1 (t.0, ap (map (lexeme source)) these ∙ s.written_is, t.3),
+          let s : Spells source t.0 = t.2 in
+          let all : Ok s.tokens ≡ Ok tokens = sym s.cut_is ∙ c in
+          let these : tokens ≡ s.tokens = cc all in
+          h.1 t.1 (t.0, ap (map (lexeme source)) these ∙ s.written_is, t.3),
     )

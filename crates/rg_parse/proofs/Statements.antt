@@ -1,5 +1,5 @@
 -- What the readers of heads found, put together to a let.
-use Rattle.std.proofs.Common.{◌≡◌, ℕ, ℤ, ◌<◌, List, ◌∷◌, map, length, ap, ◌∙◌, subst, arith}
+use Rattle.std.proofs.Common.{◌≡◌, ℕ, ℤ, List, ◌∷◌, map, length, ap, ◌∙◌, subst, arith}
 use Rattle.rg_base.specs.declared.words.Keyword.TheVariants as word
 use Rattle.rg_base.specs.declared.words.Sign.TheVariants as sign
 use Rattle.rg_base.specs.declared.token.Token.{Token}
@@ -24,15 +24,15 @@ pub let_reads : {tokens behind_let behind_name behind_type behind_value rest : L
     → Begins (number z) behind_type behind_value → Begins (mark sign.Semicolon) behind_value rest → Reads tokens (found.Let name z) rest
 let_reads {tokens} {behind_let} {behind_name} {behind_type} {behind_value} {rest} {name} {z} l x t v s = record {
   written_is = λ source.
-    let el = begins-lexemes l source in
-    let ex = name-lexemes x source in
-    let et = t.written_is source in
-    let ev = begins-lexemes v source in
-    let es = begins-lexemes s source in
-    cc;
+      let el = begins-lexemes l source in
+      let ex = name-lexemes x source in
+      let et = t.written_is source in
+      let ev = begins-lexemes v source in
+      let es = begins-lexemes s source in
+      cc;
   within = λ n w.
-    let wl = begins-within l n w in
-    let wx = subst (AreWithin n) x.0 wl in
-    (wx.0, begins-within s n (begins-within v n (t.within n wx.1)));
+      let wl = begins-within l n w in
+      let wx = subst (AreWithin n) x.0 wl in
+      (wx.0, begins-within s n (begins-within v n (t.within n wx.1)));
   shorter = omega (arith, ap length l.1, ap length x.0, t.shorter, ap length v.1, ap length s.1);
 }

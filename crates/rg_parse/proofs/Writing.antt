@@ -4,8 +4,6 @@ use Rattle.std.specs.List.{flat_map}
 use Rattle.rg_base.specs.declared.words.Manager.{Manager}
 use Rattle.rg_base.specs.declared.words.Manager.TheVariants.{Arena, Count, Trace}
 use Rattle.rg_base.specs.declared.words.Sign.TheVariants as sign
-use Rattle.rg_base.specs.declared.token.Token.{Token}
-use Rattle.rg_base.specs.Tokens.{cut}
 use Rattle.rg_parse.specs.Tree.{Stmt, declare, print_number, print_name, Program}
 use Rattle.rg_parse.specs.Spelling.{Lexeme, mark, lexeme, manager_word, written, written_body, written_program, Spells}
 

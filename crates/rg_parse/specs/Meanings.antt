@@ -1,5 +1,5 @@
 -- What the reader of statements answers.
-use Rattle.std.specs.Prelude.{◌≡◌, ℕ, List, [], ◌∷◌, map, Option, Some, None, Result, Ok, Err}
+use Rattle.std.specs.Prelude.{◌≡◌, ℕ, List, [], ◌∷◌, map, Some, None, Result, Ok, Err}
 use Rattle.rg_base.specs.declared.token.Token.{Token}
 use Rattle.rg_base.specs.declared.fault.Code.TheVariants.{NotBuilt}
 use Rattle.rg_base.specs.declared.fault.Fault.{Fault}

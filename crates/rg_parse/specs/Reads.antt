@@ -7,7 +7,7 @@ use Rattle.rg_parse.specs.declared.found.Found.{Found}
 use Rattle.rg_parse.specs.declared.found.Found.TheVariants as found
 use Rattle.rg_parse.specs.Tree.{Name, Stmt, declare, print_number, print_name}
 use Rattle.rg_parse.specs.Spelling.{Lexeme, mark, word_of, lexeme, written}
-use Rattle.rg_parse.specs.Heads.{text_of, IsWithin, AreWithin, Lacks}
+use Rattle.rg_parse.specs.Heads.{text_of, IsWithin, AreWithin}
 
 -- the statement that was found
 abbrev pub stmt_of : List ℕ → Found → Stmt

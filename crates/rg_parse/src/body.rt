@@ -46,11 +46,7 @@ pub(crate) fn body(alloc: Global, source: &[u8], tokens: &[Token]) -> Result<Thi
 }
 
 /// A statement with numbers for names, behind the names so far.
-fn numbered<'a>(
-    source: &'a [u8],
-    names: &mut Names<'a>,
-    found: Found,
-) -> Result<ThinStmt, Stop>
+fn numbered<'a>(source: &'a [u8], names: &mut Names<'a>, found: Found) -> Result<ThinStmt, Stop>
     requires { IsFoundWithin (length source.now) found }
     ensures { IsNumbered result names.old names.new (stmt_of source.now found) }
 {

@@ -14,13 +14,7 @@ pub(crate) fn after_word(tokens: &[Token], word: Keyword) -> Option<&[Token]>
 {
     match tokens {
         [first, rest @ ..] => match first.kind {
-            Kind::Word(found) => {
-                if found == word {
-                    Some(rest)
-                } else {
-                    None
-                }
-            }
+            Kind::Word(found) => { if found == word { Some(rest) } else { None } }
             _ => None,
         },
         [] => None,
@@ -34,13 +28,7 @@ pub(crate) fn after_sign(tokens: &[Token], sign: Sign) -> Option<&[Token]>
 {
     match tokens {
         [first, rest @ ..] => match first.kind {
-            Kind::Mark(found) => {
-                if found == sign {
-                    Some(rest)
-                } else {
-                    None
-                }
-            }
+            Kind::Mark(found) => { if found == sign { Some(rest) } else { None } }
             _ => None,
         },
         [] => None,

@@ -1,4 +1,4 @@
-use Rattle.std.proofs.Common.{arith, rules}
+use Rattle.std.proofs.Common.{arith}
 use Rattle.std.proofs.lemmas.Int.{to_z-of_z}
 use Rattle.rg_parse.proofs.Statements.{let_reads}
 use Rattle.rg_parse.proofs.found.let_statement.Goals as goal

@@ -1,5 +1,4 @@
-use Rattle.std.proofs.Common.{length, subst, sym, ap, ◌∙◌, Ok}
-use Rattle.rg_parse.specs.Heads.{AreWithin}
+use Rattle.std.proofs.Common.{sym, ap, ◌∙◌, Ok}
 use Rattle.rg_parse.proofs.Programs.{AreWithin-spans, not_thin}
 use Rattle.rg_parse.proofs.read.thin.Goals as goal
 
