@@ -1,0 +1,5 @@
+pub mod Writing
+mod Bodies
+mod NameLemmas
+mod Programs
+mod Statements

@@ -1,5 +1,5 @@
 -- A thin program with numbers in place of names: a name's number counts the lets, from 0.
-use Rattle.std.specs.Prelude.{◌≡◌, ℕ, suc, Bool, true, false, if◌then◌else◌, List, [], ◌∷◌, ◌++◌, length, nat_lt, Option, Some, None, option_map, bytes_eq}
+use Rattle.std.specs.Prelude.{◌≡◌, ℕ, suc, Bool, false, if◌then◌else◌, List, [], ◌∷◌, ◌++◌, length, nat_lt, Option, Some, None, option_map, bytes_eq}
 use Rattle.rg_base.specs.declared.limits.TheConstants.{BODY_NAMES}
 use Rattle.rg_parse.specs.declared.statement.ThinStmt.{ThinStmt}
 use Rattle.rg_parse.specs.declared.statement.ThinStmt.TheVariants as thin
