@@ -1,0 +1,4 @@
+mod ListLemmas
+mod NumberLemmas
+mod PlainLemmas
+mod StepLemmas
