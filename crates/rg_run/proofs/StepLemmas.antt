@@ -1,5 +1,5 @@
 -- What a step leaves, over plain variables.
-use Rattle.std.proofs.Common.{◌≡◌, ℕ, ℤ, zero, suc, ◌+◌, ◌<◌, ◌≤◌, true, List, [], ◌∷◌, ◌++◌, Some, None, map, length, drop, take, slice_get, refl, sym, ◌∙◌, ap, subst, arith, add-one, append-nil}
+use Rattle.std.proofs.Common.{◌≡◌, ℕ, ℤ, zero, suc, ◌+◌, ◌<◌, ◌≤◌, true, List, [], ◌∷◌, ◌++◌, Some, None, map, length, drop, take, slice_get, unwrap_or, refl, sym, ◌∙◌, ap, subst, arith, add-one, append-nil}
 use Rattle.std.proofs.lemmas.List.{map-append, drop_all}
 use Rattle.rg_base.specs.declared.value.Val.{Val}
 use Rattle.rg_base.specs.declared.value.Val.TheVariants as val
@@ -54,6 +54,12 @@ pub record IsNext (old new : Kept) (values : List Val) : Type 0 where
   pub begun : new.begun ≡ true
   pub slots : new.slots ≡ values
   pub steps : new.steps ≡ suc old.steps
+
+-- the machine after a step, by its parts
+pub IsNext-of : (old before : Kept) (slots values : List Val) → before ≡ old → old.begun ≡ true → slots ≡ values →
+    IsNext old (record { begun = before.begun; slots = slots; steps = before.steps + 1 }) values
+IsNext-of old before slots values same begun slots_are =
+    record { begun = ap (λ m. m.begun) same ∙ begun; slots = slots_are; steps = rw add-one (ap (λ m. suc m.steps) same) }
 
 -- what was printed up to two places of a run
 printed-between : (p : Program) (old new : Kept) (r q : Ran) (vs : List Val) →
@@ -116,14 +122,14 @@ stands-number p stmts old new z at first next =
 
 -- the step of the printing of a name
 pub stands-name : (p : Program) (stmts : List ThinStmt) (old new : Kept) (k : ℕ) (v : Val) → StandsAt p stmts old →
-    slice_get stmts old.steps ≡ Some (thin.Name k) → slice_get old.slots k ≡ Some v → IsNext old new old.slots →
+    slice_get stmts old.steps ≡ Some (thin.Name k) → v ≡ unwrap_or (slice_get old.slots k) val.Nil → IsNext old new old.slots →
     StandsAt p stmts new × Printed p old new (v ∷ [])
 stands-name p stmts old new k v at first value next =
     let left_is : drop old.steps stmts ≡ thin.Name k ∷ drop (suc old.steps) stmts = drop-at stmts old.steps (thin.Name k) first in
     let begins = numbered-name (names_of at.locals) (drop old.steps p.body) k (drop (suc old.steps) stmts) (at.numbers ∙ ap Some left_is) in
-    let found : Some (value_in at.locals begins.name) ≡ Some v =
-    sym (slice_get-number_of begins.name at.locals k begins.number_is) ∙ ap (λ vs. slice_get vs k) (sym at.slots) ∙ value in
-    let same : value_in at.locals begins.name ≡ v = cc in
+    let found : slice_get old.slots k ≡ Some (value_in at.locals begins.name) =
+    ap (λ vs. slice_get vs k) at.slots ∙ slice_get-number_of begins.name at.locals k begins.number_is in
+    let same : value_in at.locals begins.name ≡ v = sym (value ∙ ap (λ o. unwrap_or o val.Nil) found) in
     let plain_is : plain p (suc old.steps) ≡ running at.locals begins.rest (at.output ++ v ∷ []) (suc old.steps) =
     plain-suc p old.steps _ (at.plain_is ∙ ap (λ ss. running at.locals ss at.output old.steps) begins.are)
     ∙ one_more-name at.locals begins.name begins.rest at.output old.steps
@@ -132,16 +138,6 @@ stands-name p stmts old new k v at first value next =
     record { begun = next.begun; slots = next.slots ∙ at.slots; steps = next.steps } in
     let stands = stands-next p stmts old new (print_name begins.name) begins.rest at.locals (at.output ++ v ∷ []) has begins.are plain_is begins.numbers in
     (stands, printed-between p old new _ _ (v ∷ []) at.plain_is (ap (plain p) next.steps ∙ plain_is) refl)
-
--- a name that is printed has a slot
-pub stands-name_slot : (p : Program) (stmts : List ThinStmt) (old : Kept) (k : ℕ) → StandsAt p stmts old →
-    slice_get stmts old.steps ≡ Some (thin.Name k) → slice_get old.slots k ≡ None → ⊥
-stands-name_slot p stmts old k at first none =
-    let left_is : drop old.steps stmts ≡ thin.Name k ∷ drop (suc old.steps) stmts = drop-at stmts old.steps (thin.Name k) first in
-    let begins = numbered-name (names_of at.locals) (drop old.steps p.body) k (drop (suc old.steps) stmts) (at.numbers ∙ ap Some left_is) in
-    let found : Some (value_in at.locals begins.name) ≡ None =
-    sym (slice_get-number_of begins.name at.locals k begins.number_is) ∙ ap (λ vs. slice_get vs k) (sym at.slots) ∙ none in
-    absurd (cc)
 
 -- the step of the block's end
 pub stands-end : (p : Program) (stmts : List ThinStmt) (old new : Kept) → StandsAt p stmts old →
