@@ -2,3 +2,5 @@ mod ListLemmas
 mod NumberLemmas
 mod PlainLemmas
 mod StepLemmas
+mod TextLemmas
+mod RunLemmas

@@ -18,7 +18,7 @@ use Rattle.rg_run.proofs.NumberLemmas.{BeginsWithLet, numbered-let, BeginsWithNu
 use Rattle.rg_run.proofs.PlainLemmas.{one_more, plain_from-suc}
 
 -- main's block runs until its end has been passed
-ending-running : (ss : List Stmt) → ending_of (items_of ss (EndAt 0 ∷ [])) ≡ Running
+pub ending-running : (ss : List Stmt) → ending_of (items_of ss (EndAt 0 ∷ [])) ≡ Running
 ending-running [] = refl
 ending-running (s ∷ ss) = refl
 
