@@ -56,17 +56,19 @@ added-is p k before vs before_is after_is =
 pub wrote-all : (p : Program) (k : ℕ) (old new : Option (List ℕ)) → Appends old new (text (output_after p k)) → WroteUpTo p k old new
 wrote-all p k old new took =
     let more = output_after-goes_on p k in
-    let P : List ℕ → Type 0 = λ bytes. Appends old new bytes in
-    (text more.0,
-    record { rest = []; whole_is = added-is p k _ more.0 refl more.1 ∙ sym (append-nil (text more.0)) },
-    subst P (ap text more.1 ∙ text-append (output_after p (k - 1)) more.0) took)
+    let P : List ℕ → Type 0 = λ bytes. Appends old new bytes in (
+      text more.0,
+      record { rest = []; whole_is = added-is p k _ more.0 refl more.1 ∙ sym (append-nil (text more.0)) },
+      subst P (ap text more.1 ∙ text-append (output_after p (k - 1)) more.0) took,
+    )
 
 -- the text of the steps before was taken, and a prefix of the line that step k added
 pub wrote-part : (p : Program) (k j : ℕ) (v : Val) (old between new : Option (List ℕ)) → k - 1 ≡ j →
     output_after p k ≡ output_after p j ++ v ∷ [] →
     Appends old between (text (output_after p j)) → AppendsPart between new (line_text v) → WroteUpTo p k old new
 wrote-part p k j v old between new before after_is took part =
-    let added_is : added p k ≡ line_text v = added-is p k (output_after p j) (v ∷ []) (ap (output_after p) before) after_is ∙ text-one v in
-    (part.0,
-    record { rest = part.1.rest; whole_is = added_is ∙ part.1.whole_is },
-    rw before (Appends-more old between new (text (output_after p j)) part.0 took part.2))
+    let added_is : added p k ≡ line_text v = added-is p k (output_after p j) (v ∷ []) (ap (output_after p) before) after_is ∙ text-one v in (
+      part.0,
+      record { rest = part.1.rest; whole_is = added_is ∙ part.1.whole_is },
+      rw before (Appends-more old between new (text (output_after p j)) part.0 took part.2),
+    )

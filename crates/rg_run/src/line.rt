@@ -37,3 +37,22 @@ pub(crate) fn put_value<O: Sink>(out: &mut O, v: Val) -> Result<(), Failed>
     let line = line_of(v);
     rg_io::put_all(out, line.as_str().as_bytes())
 }
+
+#[cfg(test)]
+mod tests {
+    use super::*;
+
+    #[test]
+    fn each_value_has_its_line(rt: HostRuntime) {
+        let rows = [
+            (Val::Int(i64::MIN), "-9223372036854775808\n"),
+            (Val::Int(i64::MAX), "9223372036854775807\n"),
+            (Val::Int(0), "0\n"),
+            (Val::Bool(true), "true\n"),
+            (Val::Bool(false), "false\n"),
+        ];
+        for (value, want) in rows {
+            assert_eq!(rt; line_of(value).as_str(), want);
+        }
+    }
+}
