@@ -1,5 +1,5 @@
 -- Counts of faults, and what sources and sinks tell of their content.
-use Rattle.std.specs.Prelude.{◌≡◌, ℕ, ◌-◌, ◌^◌, ◌<◌, ◌≤◌, ◌⊎◌, List, ◌++◌, Option, Some, None}
+use Rattle.std.specs.Prelude.{◌≡◌, ℕ, ◌+◌, ◌-◌, ◌^◌, ◌<◌, ◌≤◌, ◌⊎◌, if◌then◌else◌, nat_lt, List, ◌++◌, Option, Some, None}
 
 -- a count of faults rose in a call: it is greater after the call than before, or stands at the greatest u64
 abbrev pub Rose : ℕ → ℕ → Type 0
@@ -23,3 +23,7 @@ AppendsPart old new bytes = (part : List ℕ) × IsPrefix part bytes × Appends 
 abbrev pub Gives : Option (List ℕ) → Option (List ℕ) → List ℕ → Type 0
 Gives None new bytes = new ≡ None
 Gives (Some old) new bytes = (rest : List ℕ) × (old ≡ bytes ++ rest) × (new ≡ Some rest)
+
+-- one more; the greatest u64 stays
+abbrev pub one_more : ℕ → ℕ
+one_more n = if nat_lt n (2 ^ 64 - 1) then n + 1 else n

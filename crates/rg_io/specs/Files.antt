@@ -1,5 +1,5 @@
 -- What files tell: a map from names to bytes, and the unread rest of the file that was begun.
-use Rattle.std.specs.Prelude.{◌≡◌, ℕ, ◌<◌, ◌≤◌, List, [], ◌∷◌, ◌++◌, length, Option, Some, None, if◌then◌else◌, bytes_eq}
+use Rattle.std.specs.Prelude.{◌≡◌, ℕ, ◌<◌, List, [], ◌∷◌, ◌++◌, length, Option, Some, None, if◌then◌else◌, bytes_eq}
 
 -- files by their names; the first of a name counts
 abbrev pub FileMap : Type 0

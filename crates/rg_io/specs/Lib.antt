@@ -1,2 +1,5 @@
+pub mod Calls
 pub mod Content
 pub mod Files
+pub mod MemSink
+pub mod MemSource

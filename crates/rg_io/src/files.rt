@@ -2,11 +2,11 @@
 
 ghost use Rattle.std.specs.Prelude.{◌≡◌, ℕ, ◌<◌, ◌≤◌, List, [], length, take, Option, OnOk, OnErr, IfOk, IfSome};
 ghost use Rattle.rg_io.specs.Content.{Rose};
-ghost use Rattle.rg_io.specs.Files.{Told, Begins, Reads, NothingLeft};
+ghost use Rattle.rg_io.specs.Files.{Told, Begins, Reads, NothingLeft, SameFiles, HasFile, HasLongFile};
 
 use crate::failed::Failed;
-
-
+use rg_base::ByteList;
+use std::alloc::Global;
 
 /// Files by name, one of which is read at a time. They have a count of faults, which never falls, and
 /// may tell a map from names to bytes, and the unread rest of the file that was begun.
@@ -43,4 +43,45 @@ pub enum Taken {
     Long,
     /// no memory was found
     Memory,
+}
+
+/// The largest piece that `take_all` reads at once.
+const PIECE: usize = 4096;
+
+/// Takes a whole file of at most so many bytes. After an `Err` the file may have been read in part.
+pub fn take_all<F: Files>(
+    alloc: Global,
+    files: &mut F,
+    name: &str,
+    most: usize,
+) -> Result<ByteList, Taken>
+    ensures ok { IfOk result (λ bytes. HasFile (F.told files.old) name.now bytes) }
+    ensures within { IfOk result (λ bytes. length bytes ≤ most) }
+    ensures source_fault { result ≡ Err Taken.SourceFault → Rose (F.faults files.old) (F.faults files.new) }
+    ensures long { result ≡ Err Taken.Long → HasLongFile (F.told files.old) name.now most }
+    ensures same_files { SameFiles (F.told files.old) (F.told files.new) }
+    ensures never_falls { F.faults files.old ≤ F.faults files.new }
+{
+    match files.begin(name) {
+        Ok(()) => {}
+        Err(_) => return Err(Taken::SourceFault),
+    }
+    let mut bytes = ByteList::new(alloc);
+    let mut left = most;
+    let mut piece = [0u8; PIECE];
+    loop {
+        match files.read(&mut piece) {
+            Err(_) => return Err(Taken::SourceFault),
+            Ok(0) => return Ok(bytes),
+            Ok(n) => {
+                if n > left {
+                    return Err(Taken::Long);
+                }
+                match bytes.extend(&piece[..n]) {
+                    Ok(()) => left -= n,
+                    Err(_) => return Err(Taken::Memory),
+                }
+            }
+        }
+    }
 }
