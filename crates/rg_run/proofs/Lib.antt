@@ -1,0 +1,6 @@
+mod ListLemmas
+mod NumberLemmas
+mod PlainLemmas
+mod StepLemmas
+mod TextLemmas
+mod RunLemmas

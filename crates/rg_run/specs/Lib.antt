@@ -2,3 +2,4 @@ pub mod State
 pub mod Plain
 pub mod Machine
 pub mod Runs
+pub mod Standing

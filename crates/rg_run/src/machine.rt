@@ -1,6 +1,6 @@
 //! The machine that makes the steps of a run.
 
-ghost use Rattle.std.specs.Prelude.{◌≡◌, ◌≢◌, ◌≤◌, ◌↔◌, IsTrue};
+ghost use Rattle.std.specs.Prelude.{◌≡◌, ◌≢◌, ◌+◌, ◌-◌, ◌^◌, ◌<◌, ◌≤◌, ◌↔◌, true, IsTrue, slice_get, unwrap_or};
 ghost use Rattle.rg_base.specs.Text.{text};
 ghost use Rattle.rg_io.specs.Content.{Rose, Appends};
 ghost use Rattle.rg_parse.specs.Tree.{Program};
@@ -8,10 +8,12 @@ ghost use Rattle.rg_parse.specs.Numbering.{Numbers};
 ghost use Rattle.rg_run.specs.Plain.{plain};
 ghost use Rattle.rg_run.specs.Machine.{IsFresh, numbers_of};
 ghost use Rattle.rg_run.specs.Runs.{answer, OnWhole, OnCutOff, output_after, Leaves, ShowsRan};
+ghost use Rattle.rg_run.specs.Standing.{StandsAt, AfterStep, steps_in};
 
-use rg_base::{EndNumbers, Ended};
-use rg_io::Sink;
-use rg_parse::Thin;
+use crate::line::put_value;
+use rg_base::{EndNumbers, Ended, Outcome, Val};
+use rg_io::{Failed, Sink};
+use rg_parse::{Thin, ThinStmt};
 use std::alloc::Global;
 use std::marker::Model;
 
@@ -82,6 +84,57 @@ impl Machine {
         ensures reads_nothing { result ≢ Ended.InputFault }
         ensures never_falls { O.faults out.old ≤ O.faults out.new }
     {
-        Ended::Memory
+        self.begun = true;
+        while self.steps < n {
+            match self.step(thin) {
+                Outcome::Running => (),
+                Outcome::Printed(v) => match put_value(out, v) {
+                    Ok(()) => (),
+                    Err(Failed) => return Ended::OutputFault,
+                },
+                Outcome::Done => return Ended::Done,
+                Outcome::Trap { kind, line } => return Ended::Trap { kind, line },
+                Outcome::InputFault => return Ended::InputFault,
+                Outcome::Memory => return Ended::Memory,
+            }
+        }
+        Ended::Spent
+    }
+
+    // Makes the next step of a program: first what can be refused, then the change.
+    fn step(&mut self, thin: &Thin) -> Outcome
+        requires begun { self.old.begun ≡ true }
+        requires room { self.old.steps < 2 ^ 64 - 1 }
+        ensures after { (p : Program) → StandsAt p thin.now self.old → AfterStep p thin.now result self.old self.new }
+        ensures begun { self.new.begun ≡ true }
+        ensures steps { self.new.steps ≡ self.old.steps + steps_in result }
+        ensures reads_nothing { result ≢ Outcome.InputFault }
+    {
+        let at = self.steps as usize;
+        if at >= thin.len() {
+            self.slots.clear();
+            self.steps += 1;
+            return Outcome::Done;
+        }
+        let outcome = match thin.get(at) {
+            ThinStmt::Let(z) => match self.slots.push(z) {
+                Ok(()) => Outcome::Running,
+                Err(_) => return Outcome::Memory,
+            },
+            ThinStmt::Number(z) => Outcome::Printed(Val::Int(z)),
+            ThinStmt::Name(k) => Outcome::Printed(self.value_at(k)),
+        };
+        self.steps += 1;
+        outcome
+    }
+
+    // The value of the slot of that number, or nil where there is none.
+    fn value_at(&self, k: u32) -> Val
+        ensures { result ≡ unwrap_or (slice_get self.now.slots k) Val.Nil }
+    {
+        match self.slots.get(k as usize) {
+            Some(z) => Val::Int(*z),
+            None => Val::Nil,
+        }
     }
 }
