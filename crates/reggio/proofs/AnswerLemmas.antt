@@ -1,22 +1,18 @@
 -- From what the layers under the top call have answered to the words of the headline.
-use Rattle.std.proofs.Common.{◌≡◌, ◌≢◌, ℕ, suc, ◌+◌, ◌<◌, ◌≤◌, ◌⊎◌, inl, inr, Bool, true, false, List, [], ◌∷◌, ◌++◌, length, replicate, Option, Some, None, refl, sym, ◌∙◌, ap, subst, arith, append-nil}
+use Rattle.std.proofs.Common.{◌≡◌, ◌≢◌, ℕ, suc, ◌<◌, ◌⊎◌, inl, inr, Bool, true, false, List, [], length, replicate, Option, Some, None, refl, sym, ◌∙◌, ap, subst, arith, append-nil}
 use Rattle.std.specs.Bool.{OnTrue}
 use Rattle.std.proofs.lemmas.List.{length-replicate}
 use Rattle.rg_base.specs.declared.limits.TheConstants.{SOURCE_BYTES}
-use Rattle.rg_base.specs.declared.fault.Fault.{Fault}
-use Rattle.rg_io.specs.Content.{Rose, Appends, AppendsPart, IsPrefix}
-use Rattle.rg_io.specs.Files.{Told, HasFile, HasLongFile, file_bytes}
-use Rattle.rg_parse.specs.Tree.{Program}
-use Rattle.rg_parse.specs.Spelling.{Spells}
+use Rattle.rg_io.specs.Content.{Appends, AppendsPart}
+use Rattle.rg_io.specs.Files.{Told, HasLongFile, file_bytes}
+use Rattle.rg_parse.proofs.Writing.{Spells-same}
 use Rattle.rg_run.specs.Machine.{Kept, IsFresh}
-use Rattle.rg_run.specs.Plain.{plain}
-use Rattle.rg_run.specs.Runs.{StandsAfter, ShowsRan, output_after}
 use Rattle.reggio.specs.declared.status.Status.{Status}
 use Rattle.reggio.specs.declared.status.Status.TheVariants as status
 use Rattle.reggio.specs.Commands.{Command, run, command, file_of, steps_of}
-use Rattle.reggio.specs.Statuses.{status_text, is_run, is_answer, is_refusal, is_cut_off, is_from_outside}
-use Rattle.reggio.specs.Expected.{Meaning, too_long, faulty, spelt, Means, Answer, status_of, expected, Expects, ExpectsStatus}
-use Rattle.reggio.specs.Headline.{ForSource, WhereTold, Exactly, Wrote, ShowsEnd, Untouched, CutOffAt, TookPart, TookNotes}
+use Rattle.reggio.specs.Statuses.{status_text, is_run, is_answer, is_cut_off, is_from_outside}
+use Rattle.reggio.specs.Expected.{Meaning, too_long, faulty, spelt, Means, Answer, expected, ExpectsStatus}
+use Rattle.reggio.specs.Headline.{ForSource, WhereTold, Exactly, Wrote, ShowsEnd, Untouched, CutOffAt, TookNotes}
 use Rattle.reggio.specs.Settled.{RanWhole, Settles, Unread, source_fault, memory, SettlesFile}
 use Rattle.reggio.proofs.RunLemmas.{stands-whole}
 
@@ -113,10 +109,6 @@ status-of c source s old new m h = go s h (wrote-of c source s old new m h)
     go status.Memory h w = inr refl
     go status.Long h w = inl (w.0, w.1)
 
--- a source spells one program
-spells-one : (source : List ℕ) (p q : Program) → Spells source p → Spells source q → p ≡ q
-spells-one source p q h g = ?
-
 -- a source means one thing
 means-one : (source : List ℕ) (m k : Meaning) → Means source m → Means source k → m ≡ k
 means-one source too_long too_long h g = refl
@@ -127,7 +119,7 @@ means-one source (faulty e) (faulty f) h g = ap faulty (h.1 ∙ sym g.1)
 means-one source (faulty e) (spelt q) h g = absurd (h.2 (q, g.2.0, g.1, g.2.1))
 means-one source (spelt p) too_long h g = absurd (omega arith)
 means-one source (spelt p) (faulty f) h g = absurd (g.2 (p, h.2.0, h.1, h.2.1))
-means-one source (spelt p) (spelt q) h g = ap spelt (spells-one source p q h.1 g.1)
+means-one source (spelt p) (spelt q) h g = ap spelt (Spells-same source p q h.1 g.1)
 
 -- a command answers one status to a source
 pub expects-one : (c : Command) (source : List ℕ) (s t : Status) → ExpectsStatus c source s → ExpectsStatus c source t → s ≡ t

@@ -1,5 +1,5 @@
 -- Runs of the machine that never frees, of different numbers of steps.
-use Rattle.std.proofs.Common.{◌≡◌, ℕ, zero, suc, ◌+◌, ◌-◌, ◌<◌, ◌≤◌, List, [], ◌∷◌, ◌++◌, flat_map, drop, length, Option, Some, None, refl, sym, ◌∙◌, ap, subst, arith, append-nil}
+use Rattle.std.proofs.Common.{◌≡◌, ℕ, zero, suc, ◌+◌, ◌-◌, ◌≤◌, List, [], ◌∷◌, ◌++◌, drop, length, Option, refl, sym, ◌∙◌, ap, subst, arith, append-nil}
 use Rattle.std.proofs.Math.Seq.{drop-append_seam}
 use Rattle.std.proofs.lemmas.Grind.{flat_map-append}
 use Rattle.rg_base.specs.declared.value.Val.{Val}
@@ -7,9 +7,9 @@ use Rattle.rg_base.specs.Text.{text, line_text}
 use Rattle.rg_io.specs.Content.{Appends, IsPrefix}
 use Rattle.rg_parse.specs.Tree.{Stmt, declare, print_number, print_name, Program}
 use Rattle.rg_run.specs.State.{Item, Do, EndAt, State}
-use Rattle.rg_run.specs.Plain.{Ending, Running, Done, Trapped, Ran, opening, do_stmt, step_item, ending_of, run_on, plain_from, plain}
+use Rattle.rg_run.specs.Plain.{Ran, opening, do_stmt, step_item, plain_from, plain}
 use Rattle.rg_run.specs.Machine.{Kept, Shows}
-use Rattle.rg_run.specs.Runs.{output_after, added, WroteUpTo, StandsAfter, ShowsRan}
+use Rattle.rg_run.specs.Runs.{output_after, StandsAfter, ShowsRan}
 
 -- a run is the one of as many steps as it made
 pub record IsRunOf (d n made : ℕ) (s : State) : Type 0 where

@@ -1,11 +1,10 @@
 -- What the layers under the top call have answered and left, by the status.
 use Rattle.std.specs.Prelude.{◌≡◌, ℕ, ◌⊎◌, List, Option}
-use Rattle.rg_base.specs.declared.limits.TheConstants.{SOURCE_BYTES}
 use Rattle.rg_base.specs.declared.outcome.Ended.{Ended}
 use Rattle.rg_base.specs.declared.outcome.Ended.TheVariants as ended
 use Rattle.rg_base.specs.Text.{text}
 use Rattle.rg_io.specs.Content.{Appends}
-use Rattle.rg_io.specs.Files.{Told, HasFile, HasLongFile}
+use Rattle.rg_io.specs.Files.{Told, HasFile}
 use Rattle.rg_parse.specs.Tree.{Program}
 use Rattle.rg_run.specs.Plain.{plain}
 use Rattle.rg_run.specs.Machine.{Kept}

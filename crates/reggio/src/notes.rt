@@ -13,7 +13,8 @@ use rg_base::{Code, Trap};
 use rg_io::{Failed, Sink, put_all};
 
 /// How the program is called.
-pub(crate) const USAGE: &[u8] = b"usage: reggio run FILE [--steps N] [--every N] [--report]; check FILE; fmt FILE; code FILE; plain FILE [--steps N]; bulk N\n";
+pub(crate) const USAGE: &[u8] =
+    b"usage: reggio run FILE [--steps N] [--every N] [--report]; check FILE; fmt FILE; code FILE; plain FILE [--steps N]; bulk N\n";
 
 /// A code with its word.
 fn code_words(code: Code) -> &'static [u8]

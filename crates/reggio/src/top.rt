@@ -102,7 +102,7 @@ pub fn reggio<F: Files, I: Source, O: Sink, R: Sink>(
     ensures untouched { OnTrue (is_refusal result) (Untouched machine.new (O.taken out.old) (O.taken out.new)) }
     ensures cut_off { OnTrue (is_cut_off result) (Untouched machine.new (O.taken out.old) (O.taken out.new)
         ⊎ ForSource (F.told files.old) (map (λ w. w.now) words.now)
-            (λ c source. CutOffAt c source machine.new (O.taken out.old) (O.taken out.new))) }
+        (λ c source. CutOffAt c source machine.new (O.taken out.old) (O.taken out.new))) }
     ensures notes { TookNotes (steps_asked (command (map (λ w. w.now) words.now))) result
         (R.taken notes.old) (R.taken notes.new) }
 
