@@ -1,9 +1,13 @@
 -- The commands that words give (docs/language.md, "The command line").
-use Rattle.std.specs.Prelude.{ℕ, ◌==◌, Bool, false, not, ◌&&◌, if◌then◌else◌, nat_le, List, [], ◌∷◌, length, Option, Some, None, option_map, bytes_eq, codes}
+use Rattle.std.specs.Prelude.{ℕ, ◌==◌, Bool, false, not, ◌&&◌, if◌then◌else◌, nat_le, List, [], ◌∷◌, length, map, Bor, Option, Some, None, option_map, bytes_eq, codes}
 use Rattle.std.specs.List.{list_all}
 use Rattle.rg_base.specs.declared.limits.TheConstants.{MOST_STEPS, USUAL_STEPS}
 use Rattle.rg_base.specs.Pieces.{is_digit}
 use Rattle.rg_base.specs.Tokens.{value_of}
+
+-- the words as texts
+abbrev pub texts : List (Bor (List ℕ)) → List (List ℕ)
+texts words = map (λ w. w.now) words
 
 -- a command with its numbers
 pub data Command : Type 0 where

@@ -3,6 +3,8 @@
 
 mod notes;
 mod status;
+#[cfg(test)]
+mod tests;
 mod top;
 mod words;
 

@@ -1,13 +1,13 @@
 //! The top call: from words, files and input to the output, the notes and the status (docs/promises.md).
 
-ghost use Rattle.std.specs.Prelude.{◌≡◌, ◌≢◌, ◌≤◌, ◌⊎◌, ℕ, List, length, map, None};
+ghost use Rattle.std.specs.Prelude.{◌≡◌, ◌≢◌, ◌≤◌, ◌⊎◌, ℕ, List, length, None};
 ghost use Rattle.std.specs.Bool.{OnTrue};
 ghost use Rattle.rg_base.specs.declared.fault.Fault.{Fault};
 ghost use Rattle.rg_base.specs.declared.limits.TheConstants.{SOURCE_BYTES};
 ghost use Rattle.rg_base.specs.declared.outcome.Trap.{Trap};
 ghost use Rattle.rg_io.specs.Content.{Rose};
 ghost use Rattle.rg_run.specs.Machine.{IsFresh};
-ghost use Rattle.reggio.specs.Commands.{command, run};
+ghost use Rattle.reggio.specs.Commands.{command, texts, run};
 ghost use Rattle.reggio.specs.Statuses.{is_run, is_answer, is_refusal, is_cut_off};
 ghost use Rattle.reggio.specs.Expected.{ExpectsStatus};
 ghost use Rattle.reggio.specs.Headline.{ForSource, WhereTold, Exactly, Wrote, ShowsEnd, Untouched, CutOffAt, TookNotes, steps_asked};
@@ -95,37 +95,37 @@ pub fn reggio<F: Files, I: Source, O: Sink, R: Sink>(
     requires { IsFresh machine.old }
 
     // What the call writes and leaves.
-    ensures text { OnTrue (is_answer result) (ForSource (F.told files.old) (map (λ w. w.now) words.now)
+    ensures text { OnTrue (is_answer result) (ForSource (F.told files.old) (texts words.now)
         (λ c source. Wrote c source result (O.taken out.old) (O.taken out.new))) }
-    ensures state { OnTrue (is_run result) (ForSource (F.told files.old) (map (λ w. w.now) words.now)
+    ensures state { OnTrue (is_run result) (ForSource (F.told files.old) (texts words.now)
         (λ c source. ShowsEnd c source machine.new)) }
     ensures untouched { OnTrue (is_refusal result) (Untouched machine.new (O.taken out.old) (O.taken out.new)) }
     ensures cut_off { OnTrue (is_cut_off result) (Untouched machine.new (O.taken out.old) (O.taken out.new)
-        ⊎ ForSource (F.told files.old) (map (λ w. w.now) words.now)
+        ⊎ ForSource (F.told files.old) (texts words.now)
         (λ c source. CutOffAt c source machine.new (O.taken out.old) (O.taken out.new))) }
-    ensures notes { TookNotes (steps_asked (command (map (λ w. w.now) words.now))) result
+    ensures notes { TookNotes (steps_asked (command (texts words.now))) result
         (R.taken notes.old) (R.taken notes.new) }
 
     // From which cause each status comes.
-    ensures done { WhereTold (F.told files.old) (map (λ w. w.now) words.now)
+    ensures done { WhereTold (F.told files.old) (texts words.now)
         (λ c source. Exactly result Status.Done (ExpectsStatus c source Status.Done)) }
-    ensures refused { (f : Fault) → WhereTold (F.told files.old) (map (λ w. w.now) words.now)
+    ensures refused { (f : Fault) → WhereTold (F.told files.old) (texts words.now)
         (λ c source. Exactly result (Status.Refused f) (ExpectsStatus c source (Status.Refused f))) }
-    ensures usage { Exactly result Status.Usage (command (map (λ w. w.now) words.now) ≡ None) }
-    ensures trap { (kind : Trap) (line : ℕ) → WhereTold (F.told files.old) (map (λ w. w.now) words.now)
+    ensures usage { Exactly result Status.Usage (command (texts words.now) ≡ None) }
+    ensures trap { (kind : Trap) (line : ℕ) → WhereTold (F.told files.old) (texts words.now)
         (λ c source. Exactly result (Status.Trap kind line) (ExpectsStatus c source (Status.Trap kind line))) }
-    ensures spent { WhereTold (F.told files.old) (map (λ w. w.now) words.now)
+    ensures spent { WhereTold (F.told files.old) (texts words.now)
         (λ c source. Exactly result Status.Spent (ExpectsStatus c source Status.Spent)) }
     ensures source_fault { result ≡ Status.SourceFault → Rose (F.faults files.old) (F.faults files.new) }
     ensures input_unread { input.new ≡ input.old }
     ensures no_input_fault { result ≢ Status.InputFault }
     ensures output_fault { result ≡ Status.OutputFault →
         Rose (O.faults out.old) (O.faults out.new) ⊎ Rose (R.faults notes.old) (R.faults notes.new) }
-    ensures long { WhereTold (F.told files.old) (map (λ w. w.now) words.now)
+    ensures long { WhereTold (F.told files.old) (texts words.now)
         (λ c source. Exactly result Status.Long (ExpectsStatus c source Status.Long)) }
 
     // A command whose file is there is answered, unless a count of faults rose or no memory was found.
-    ensures complete { WhereTold (F.told files.old) (map (λ w. w.now) words.now) (λ c source.
+    ensures complete { WhereTold (F.told files.old) (texts words.now) (λ c source.
         ¬ Rose (F.faults files.old) (F.faults files.new) → ¬ Rose (O.faults out.old) (O.faults out.new) →
         ¬ Rose (R.faults notes.old) (R.faults notes.new) → ExpectsStatus c source result ⊎ (result ≡ Status.Memory)) }
     ensures files_never_fall { F.faults files.old ≤ F.faults files.new }

@@ -1,9 +1,9 @@
 //! Reads the words of the command line by hand; it takes no memory (docs/language.md, "The command line").
 
-ghost use Rattle.std.specs.Prelude.{◌≡◌, ◌<◌, ◌^◌, map, Some, None, true, MatchOption};
+ghost use Rattle.std.specs.Prelude.{◌≡◌, ◌<◌, ◌^◌, Some, None, true, MatchOption};
 ghost use Rattle.std.specs.List.{list_all};
 ghost use Rattle.rg_base.specs.Pieces.{is_digit};
-ghost use Rattle.reggio.specs.Commands.{command, run, is_file, is_number, value_up_to, number_in, steps_in};
+ghost use Rattle.reggio.specs.Commands.{command, texts, run, is_file, is_number, value_up_to, number_in, steps_in};
 
 use rg_base::{MOST_STEPS, USUAL_STEPS};
 
@@ -75,7 +75,7 @@ fn number(word: &str, most: u64) -> Option<u64>
 
 /// The number of steps that the words behind the file ask for.
 fn steps(options: &[&str]) -> Option<u64>
-    ensures { result ≡ steps_in (map (λ w. w.now) options.now) }
+    ensures { result ≡ steps_in (texts options.now) }
 {
     match options {
         [] => Some(USUAL_STEPS),
@@ -92,8 +92,8 @@ fn steps(options: &[&str]) -> Option<u64>
 
 /// The command that the words give, if they give one. They don't include the program's name.
 pub fn command<'a>(words: &[&'a str]) -> Option<Run<'a>>
-    ensures { MatchOption result (command (map (λ w. w.now) words.now) ≡ None)
-        (λ c. command (map (λ w. w.now) words.now) ≡ Some (run c.file.now c.steps)) }
+    ensures { MatchOption result (command (texts words.now) ≡ None)
+        (λ c. command (texts words.now) ≡ Some (run c.file.now c.steps)) }
 {
     let [name, file, options @ ..] = words else {
         return None;
