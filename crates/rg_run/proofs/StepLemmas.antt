@@ -1,20 +1,19 @@
 -- What a step leaves, over plain variables.
-use Rattle.std.proofs.Common.{◌≡◌, ℕ, ℤ, zero, suc, ◌+◌, ◌<◌, ◌≤◌, true, List, [], ◌∷◌, ◌++◌, Some, None, map, length, drop, take, slice_get, unwrap_or, refl, sym, ◌∙◌, ap, subst, arith, add-one, append-nil}
+use Rattle.std.proofs.Common.{◌≡◌, ℕ, ℤ, suc, ◌+◌, ◌≤◌, true, List, [], ◌∷◌, ◌++◌, Some, map, length, drop, slice_get, unwrap_or, refl, sym, ◌∙◌, ap, arith, add-one, append-nil}
 use Rattle.std.proofs.lemmas.List.{map-append, drop_all}
 use Rattle.rg_base.specs.declared.value.Val.{Val}
 use Rattle.rg_base.specs.declared.value.Val.TheVariants as val
 use Rattle.rg_parse.specs.declared.statement.ThinStmt.{ThinStmt}
 use Rattle.rg_parse.specs.declared.statement.ThinStmt.TheVariants as thin
 use Rattle.rg_parse.specs.Tree.{Name, Stmt, declare, print_number, print_name, Program}
-use Rattle.rg_parse.specs.Numbering.{numbered, Numbers}
-use Rattle.rg_run.specs.State.{Local, Do, EndAt, State, items_of, value_in, add_local, print_value}
-use Rattle.rg_run.specs.Plain.{Ran, plain, opening, do_stmt, ending_of, Running}
+use Rattle.rg_parse.specs.Numbering.{numbered}
+use Rattle.rg_run.specs.State.{Local, EndAt, items_of, value_in}
+use Rattle.rg_run.specs.Plain.{Ran, plain, opening, ending_of, Running}
 use Rattle.rg_run.specs.Plain.{plain_from}
 use Rattle.rg_run.specs.Machine.{Kept}
-use Rattle.rg_run.specs.Runs.{output_after}
 use Rattle.rg_run.specs.Standing.{names_of, running, ended, StandsAt, StandsDone, Printed}
 use Rattle.rg_run.proofs.ListLemmas.{drop-at, drop-suc, drop-items_of}
-use Rattle.rg_run.proofs.NumberLemmas.{BeginsWithLet, numbered-let, BeginsWithNumber, numbered-number, BeginsWithName, numbered-name, numbered-none, slice_get-number_of}
+use Rattle.rg_run.proofs.NumberLemmas.{numbered-let, numbered-number, numbered-name, numbered-none, slice_get-number_of}
 use Rattle.rg_run.proofs.PlainLemmas.{one_more, plain_from-suc}
 
 -- main's block runs until its end has been passed

@@ -111,7 +111,8 @@ impl Machine {
         ensures reads_nothing { result ≢ Outcome.InputFault }
     {
         let at = self.steps as usize;
-        if at >= thin.len() {
+        let end = thin.len();
+        if at >= end {
             self.slots.clear();
             self.steps += 1;
             return Outcome::Done;

@@ -6,8 +6,8 @@ use Rattle.rg_run.proofs.StepLemmas.{IsNext-of, stands-let, stands-number, stand
 use Rattle.rg_run.proofs.machine.Machine.step.Goals as goal
 use Rattle.rg_run.proofs.machine.Machine.step.Goals.{in-Let+in-Ok, in-Number, in-Name}
 
-pub returns-then-at-len-clause-after : goal.returns-then-at-len-clause-after
-returns-then-at-len-clause-after c p at =
+pub returns-then-at-end-clause-after : goal.returns-then-at-end-clause-after
+returns-then-at-end-clause-after c p at =
     stands-end p c.args.thin.now c.args.self.now _ at (omega (arith, ap (λ m. m.steps) c.self.view_is))
     (IsNext-of _ _ _ [] c.self.view_is c.requires.begun (ap (map (λ z. val.Int z)) c.clear.ensures.items))
 
