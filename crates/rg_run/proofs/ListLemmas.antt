@@ -1,7 +1,7 @@
 -- Lists from a place on.
-use Rattle.std.proofs.Common.{◌≡◌, ℕ, zero, suc, ◌<◌, ◌≤◌, List, [], ◌∷◌, Some, None, length, drop, slice_get, refl, arith}
+use Rattle.std.proofs.Common.{◌≡◌, ℕ, zero, suc, ◌<◌, ◌≤◌, List, [], ◌∷◌, Some, length, drop, slice_get, refl, arith}
 use Rattle.rg_parse.specs.Tree.{Stmt}
-use Rattle.rg_run.specs.State.{Item, Do, items_of}
+use Rattle.rg_run.specs.State.{Item, items_of}
 
 -- a list from a place on begins with the element there
 pub drop-at : {X : Type 0} (xs : List X) (k : ℕ) (x : X) → slice_get xs k ≡ Some x → drop k xs ≡ x ∷ drop (suc k) xs

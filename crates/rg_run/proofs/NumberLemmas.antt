@@ -1,5 +1,5 @@
 -- Statements whose names have numbers, by the first one.
-use Rattle.std.proofs.Common.{◌≡◌, ℕ, ℤ, zero, suc, Bool, true, false, if◌then◌else◌, List, [], ◌∷◌, ◌++◌, Some, None, Option, option_map, map, length, nat_lt, slice_get, refl, sym, ◌∙◌, ap, bytes_eq}
+use Rattle.std.proofs.Common.{◌≡◌, ℕ, ℤ, suc, Bool, true, false, if◌then◌else◌, List, [], ◌∷◌, ◌++◌, Some, None, Option, option_map, map, length, nat_lt, slice_get, refl, ◌∙◌, ap, bytes_eq}
 use Rattle.rg_base.specs.declared.limits.TheConstants.{BODY_NAMES}
 use Rattle.rg_parse.specs.declared.statement.ThinStmt.{ThinStmt}
 use Rattle.rg_parse.specs.declared.statement.ThinStmt.TheVariants as thin

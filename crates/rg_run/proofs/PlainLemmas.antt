@@ -1,9 +1,8 @@
 -- Runs of the machine that never frees, one step after another.
-use Rattle.std.proofs.Common.{◌≡◌, ℕ, zero, suc, ◌+◌, ◌-◌, ◌≤◌, List, [], ◌∷◌, refl, sym, ◌∙◌, ap, arith}
+use Rattle.std.proofs.Common.{◌≡◌, ℕ, zero, suc, ◌+◌, List, [], ◌∷◌, refl, sym, ap, arith}
 use Rattle.rg_base.specs.declared.value.Val.{Val}
-use Rattle.rg_parse.specs.Tree.{Program}
 use Rattle.rg_run.specs.State.{Item, State}
-use Rattle.rg_run.specs.Plain.{Ran, plain, opening, run_on, step_item}
+use Rattle.rg_run.specs.Plain.{Ran, run_on, step_item}
 use Rattle.rg_run.specs.Plain.{plain_from}
 use Rattle.rg_run.specs.Standing.{ended}
 

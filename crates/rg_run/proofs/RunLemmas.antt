@@ -1,5 +1,5 @@
 -- A run from its first step to its end, over plain variables.
-use Rattle.std.proofs.Common.{◌≡◌, ℕ, zero, suc, ◌+◌, ◌-◌, ◌≤◌, true, List, [], ◌∷◌, ◌++◌, Some, Option, map, length, drop, refl, sym, ◌∙◌, ap, subst, inl, inr, arith, append-nil}
+use Rattle.std.proofs.Common.{◌≡◌, ℕ, ◌+◌, ◌-◌, ◌≤◌, true, List, [], ◌∷◌, ◌++◌, Option, refl, sym, ◌∙◌, ap, subst, inr, arith, append-nil}
 use Rattle.rg_base.specs.declared.value.Val.{Val}
 use Rattle.rg_base.specs.declared.outcome.Ended.{Ended}
 use Rattle.rg_base.specs.declared.outcome.Ended.TheVariants as ended_as
@@ -9,12 +9,12 @@ use Rattle.rg_io.proofs.ContentLemmas.{Appends-more}
 use Rattle.rg_parse.specs.declared.statement.ThinStmt.{ThinStmt}
 use Rattle.rg_parse.specs.Tree.{Program}
 use Rattle.rg_parse.specs.Numbering.{Numbers}
-use Rattle.rg_run.specs.State.{Local, EndAt, items_of}
-use Rattle.rg_run.specs.Plain.{Ran, Running, plain, opening}
+use Rattle.rg_run.specs.State.{EndAt}
+use Rattle.rg_run.specs.Plain.{Ran, plain, opening}
 use Rattle.rg_run.specs.Plain.{plain_from}
 use Rattle.rg_run.specs.Machine.{Kept, Shows}
-use Rattle.rg_run.specs.Runs.{answer, output_after, StandsAfter, Leaves, ShowsRan}
-use Rattle.rg_run.specs.Standing.{running, ended, StandsAt, StandsDone, Printed}
+use Rattle.rg_run.specs.Runs.{answer, output_after, Leaves, ShowsRan}
+use Rattle.rg_run.specs.Standing.{ended, StandsAt, StandsDone, Printed}
 use Rattle.rg_run.proofs.ListLemmas.{drop-items_of}
 use Rattle.rg_run.proofs.PlainLemmas.{plain_from-done}
 use Rattle.rg_run.proofs.StepLemmas.{ending-running}

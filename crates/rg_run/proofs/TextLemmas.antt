@@ -4,9 +4,9 @@ use Rattle.std.proofs.Math.Seq.{drop-append_seam}
 use Rattle.std.proofs.lemmas.Grind.{flat_map-append}
 use Rattle.rg_base.specs.declared.value.Val.{Val}
 use Rattle.rg_base.specs.Text.{line_text, text}
-use Rattle.rg_io.specs.Content.{Appends, IsPrefix, AppendsPart}
+use Rattle.rg_io.specs.Content.{Appends, AppendsPart}
 use Rattle.rg_io.proofs.ContentLemmas.{Appends-more}
-use Rattle.rg_parse.specs.Tree.{Stmt, declare, print_number, print_name, Program}
+use Rattle.rg_parse.specs.Tree.{declare, print_number, print_name, Program}
 use Rattle.rg_run.specs.State.{Item, Do, EndAt, State}
 use Rattle.rg_run.specs.Plain.{Ran, plain, opening, run_on}
 use Rattle.rg_run.specs.Plain.{plain_from}

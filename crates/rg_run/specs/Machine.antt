@@ -1,10 +1,10 @@
 -- What a machine keeps, and when it shows a state of the machine that never frees.
-use Rattle.std.specs.Prelude.{◌≡◌, ◌≢◌, ℕ, Bool, true, false, if◌then◌else◌, List, [], map, drop}
+use Rattle.std.specs.Prelude.{◌≡◌, ℕ, Bool, true, false, if◌then◌else◌, List, [], map, drop}
 use Rattle.rg_base.specs.declared.value.Val.{Val}
 use Rattle.rg_base.specs.declared.outcome.EndNumbers.{EndNumbers}
 use Rattle.rg_parse.specs.Tree.{Program}
-use Rattle.rg_run.specs.State.{Local, Item, State}
-use Rattle.rg_run.specs.Plain.{opening, Ran}
+use Rattle.rg_run.specs.State.{State}
+use Rattle.rg_run.specs.Plain.{opening}
 
 -- whether a run has begun, the values of main's slots, and the steps made, each of which took one item
 pub record Kept : Type 0 where

@@ -6,7 +6,6 @@ use Rattle.rg_base.specs.declared.outcome.Ended.TheVariants as ended
 use Rattle.rg_base.specs.Text.{text}
 use Rattle.rg_io.specs.Content.{Appends, IsPrefix}
 use Rattle.rg_parse.specs.Tree.{Program}
-use Rattle.rg_run.specs.State.{State}
 use Rattle.rg_run.specs.Plain.{Ending, Running, Done, Trapped, Ran, plain}
 use Rattle.rg_run.specs.Machine.{Kept, IsFresh, Shows}
 

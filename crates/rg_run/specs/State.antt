@@ -1,8 +1,8 @@
 -- A state of the machine that never frees, on the forms that run today (docs/language.md, "Steps").
-use Rattle.std.specs.Prelude.{ℕ, if◌then◌else◌, List, [], ◌∷◌, ◌++◌, map, take, bytes_eq}
+use Rattle.std.specs.Prelude.{ℕ, if◌then◌else◌, List, [], ◌∷◌, ◌++◌, take, bytes_eq}
 use Rattle.rg_base.specs.declared.value.Val.{Val}
 use Rattle.rg_base.specs.declared.value.Val.TheVariants as val
-use Rattle.rg_parse.specs.Tree.{Name, Stmt, declare, print_number, print_name, Program}
+use Rattle.rg_parse.specs.Tree.{Name, Stmt}
 
 -- a variable
 pub record Local : Type 0 where

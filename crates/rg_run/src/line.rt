@@ -41,18 +41,34 @@ pub(crate) fn put_value<O: Sink>(out: &mut O, v: Val) -> Result<(), Failed>
 #[cfg(test)]
 mod tests {
     use super::*;
+    use rg_io::MemSink;
+    use std::test::Fail;
 
+    // In pieces of at most 7 bytes, to a sink that has room for 21 bytes.
     #[test]
-    fn each_value_has_its_line(rt: HostRuntime) {
-        let rows = [
+    fn each_value_has_its_line(rt: HostRuntime) -> Result<(), Fail> {
+        for (value, line) in [
             (Val::Int(i64::MIN), "-9223372036854775808\n"),
             (Val::Int(i64::MAX), "9223372036854775807\n"),
             (Val::Int(0), "0\n"),
             (Val::Bool(true), "true\n"),
             (Val::Bool(false), "false\n"),
-        ];
-        for (value, want) in rows {
-            assert_eq!(rt; line_of(value).as_str(), want);
+        ] {
+            let mut sink = MemSink::new(rt.alloc());
+            sink.room(21)?;
+            sink.piece(7);
+            put_value(&mut sink, value)?;
+            assert_eq!(rt; sink.taken(), line.as_bytes());
         }
+        Ok(())
+    }
+
+    #[test]
+    fn a_line_that_finds_no_room_is_cut(rt: HostRuntime) -> Result<(), Fail> {
+        let mut sink = MemSink::new(rt.alloc());
+        sink.room(2)?;
+        assert_eq!(rt; put_value(&mut sink, Val::Int(41)), Err(Failed));
+        assert_eq!(rt; sink.taken(), b"41".as_slice());
+        Ok(())
     }
 }

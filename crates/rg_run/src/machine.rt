@@ -17,7 +17,7 @@ use rg_parse::{Thin, ThinStmt};
 use std::alloc::Global;
 use std::marker::Model;
 
-/// A machine for one run.
+/// A machine for one run. As long as none has begun, it has no slot and has made no step.
 #[derive(Drop)]
 pub struct Machine {
     begun: bool,
@@ -32,7 +32,8 @@ impl Model for Machine {
 
     ghost Value = { Kept };
 
-    ghost view = { λ m. record { begun = m.begun; slots = map (λ z. val.Int z) m.slots.items; steps = m.steps } };
+    ghost view = { λ m.
+        record { begun = m.begun; slots = map (λ z. val.Int z) m.slots.items; steps = m.steps } };
 
     ghost invariant = { λ m. m.begun ≡ false → (m.slots.items ≡ []) × (m.steps ≡ 0) };
 }
@@ -74,13 +75,16 @@ impl Machine {
     /// Makes at most `n` steps of a program. Each printed line is given to `out` in its own step.
     pub fn run<O: Sink>(&mut self, thin: &Thin, n: u64, out: &mut O) -> Ended
         requires { IsFresh self.old }
-        ensures answer { (p : Program) → Numbers p thin.now → OnWhole result (result ≡ answer (plain p n).ending) }
+        ensures answer { (p : Program) → Numbers p thin.now →
+            OnWhole result (result ≡ answer (plain p n).ending) }
         ensures text { (p : Program) → Numbers p thin.now →
             OnWhole result (Appends (O.taken out.old) (O.taken out.new) (text (output_after p n))) }
-        ensures state { (p : Program) → Numbers p thin.now → OnWhole result (ShowsRan p self.new (plain p n)) }
+        ensures state { (p : Program) → Numbers p thin.now →
+            OnWhole result (ShowsRan p self.new (plain p n)) }
         ensures cut_off { (p : Program) → Numbers p thin.now →
             OnCutOff result (Leaves p n self.new (O.taken out.old) (O.taken out.new)) }
-        ensures output_fault { result ≡ Ended.OutputFault → Rose (O.faults out.old) (O.faults out.new) }
+        ensures output_fault { result ≡ Ended.OutputFault →
+            Rose (O.faults out.old) (O.faults out.new) }
         ensures reads_nothing { result ≢ Ended.InputFault }
         ensures never_falls { O.faults out.old ≤ O.faults out.new }
     {
@@ -105,13 +109,15 @@ impl Machine {
     fn step(&mut self, thin: &Thin) -> Outcome
         requires begun { self.old.begun ≡ true }
         requires room { self.old.steps < 2 ^ 64 - 1 }
-        ensures after { (p : Program) → StandsAt p thin.now self.old → AfterStep p thin.now result self.old self.new }
+        ensures after { (p : Program) → StandsAt p thin.now self.old →
+            AfterStep p thin.now result self.old self.new }
         ensures begun { self.new.begun ≡ true }
         ensures steps { self.new.steps ≡ self.old.steps + steps_in result }
         ensures reads_nothing { result ≢ Outcome.InputFault }
     {
         let at = self.steps as usize;
-        if at >= thin.len() {
+        let end = thin.len();
+        if at >= end {
             self.slots.clear();
             self.steps += 1;
             return Outcome::Done;

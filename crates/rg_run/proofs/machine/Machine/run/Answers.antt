@@ -1,5 +1,5 @@
 -- The turns and the ends of a run, by the lemma of each.
-use Rattle.std.proofs.Common.{◌≡◌, ◌∙◌, ap, arith, refl}
+use Rattle.std.proofs.Common.{◌∙◌, ap, arith, refl}
 use Rattle.rg_base.specs.declared.outcome.Ended.TheVariants as ended_as
 use Rattle.rg_io.proofs.ContentLemmas.{Appends-none}
 use Rattle.rg_parse.specs.Tree.{Program}

@@ -1,3 +1,4 @@
+-- Between two steps of a run: how far it has come, and what was written.
 use Rattle.std.proofs.Common.{◌≡◌, ◌-◌, ◌≤◌, true}
 use Rattle.rg_parse.specs.Tree.{Program}
 use Rattle.rg_parse.specs.Numbering.{Numbers}

@@ -6,8 +6,8 @@ use Rattle.rg_run.proofs.StepLemmas.{IsNext-of, stands-let, stands-number, stand
 use Rattle.rg_run.proofs.machine.Machine.step.Goals as goal
 use Rattle.rg_run.proofs.machine.Machine.step.Goals.{in-Let+in-Ok, in-Number, in-Name}
 
-pub returns-then-at-len-clause-after : goal.returns-then-at-len-clause-after
-returns-then-at-len-clause-after c p at =
+pub returns-then-at-end-clause-after : goal.returns-then-at-end-clause-after
+returns-then-at-end-clause-after c p at =
     stands-end p c.args.thin.now c.args.self.now _ at (omega (arith, ap (λ m. m.steps) c.self.view_is))
     (IsNext-of _ _ _ [] c.self.view_is c.requires.begun (ap (map (λ z. val.Int z)) c.clear.ensures.items))
 
@@ -18,8 +18,8 @@ returns-clause-after c p at =
       | in-Let+in-Ok w ↦
           let z_is : to_z w64 (of_z w64 w.in-Let.z) ≡ w.in-Let.z = grind (arith, to_z-of_z) in
           let pushed : map (λ z. val.Int z) w.push.new.self.items ≡ c.args.self.now.slots ++ val.Int w.in-Let.z ∷ [] =
-          ap (map (λ z. val.Int z)) w.in-Ok.ensures.items ∙ map-append (λ z. val.Int z) c.self.inside.slots.items (to_z w64 (of_z w64 w.in-Let.z) ∷ [])
-          ∙ rw z_is (ap (λ vs. vs ++ val.Int w.in-Let.z ∷ []) slots) in
+          ap (map (λ z. val.Int z)) w.in-Ok.ensures.items
+          ∙ map-append (λ z. val.Int z) c.self.inside.slots.items (to_z w64 (of_z w64 w.in-Let.z) ∷ []) ∙ rw z_is (ap (λ vs. vs ++ val.Int w.in-Let.z ∷ []) slots) in
           rw (w.outcome-is, w.self-inside-is)
           (stands-let p c.args.thin.now c.args.self.now _ w.in-Let.z at (rw (← c.self.view_is) w.in-Let.ensures)
           (IsNext-of _ _ _ _ c.self.view_is c.requires.begun pushed))
