@@ -9,8 +9,8 @@ ghost use Rattle.rg_lex.specs.Front.{front_of, marked};
 use crate::keyword::keyword;
 use crate::number::value;
 use crate::runs::{
-    begins_comment, begins_with_letter, comment_run, digit_run, is_blank_byte, is_digit_byte, is_letter_byte,
-    name_run,
+    begins_comment, begins_with_letter, comment_run, digit_run, is_blank_byte, is_digit_byte,
+    is_letter_byte, name_run,
 };
 use crate::signs::{pair, single};
 use rg_base::{Code, Kind, NAME_BYTES, Sign};
