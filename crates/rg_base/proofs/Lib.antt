@@ -1,1 +1,3 @@
 mod Examples
+pub mod Fronts
+pub mod Cuts

@@ -1,3 +1,5 @@
 pub mod TokenList
 pub mod Gives
 pub mod Places
+pub mod Front
+pub mod OfLength

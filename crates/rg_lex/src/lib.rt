@@ -2,6 +2,13 @@
 #![tactic(auto)]
 
 mod cut;
+mod keyword;
+mod number;
+mod piece;
+mod runs;
+mod signs;
+#[cfg(test)]
+mod tests;
 mod token_list;
 
 pub use cut::tokens;

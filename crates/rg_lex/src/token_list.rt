@@ -21,6 +21,13 @@ impl Model for Tokens {
 }
 
 impl Tokens {
+    /// The tokens that were found, and the line of the end.
+    pub(crate) fn of(found: Vec<Token>, last: u64) -> Tokens
+        ensures { result ≡ record { tokens = found.items; end_line = last } }
+    {
+        Tokens { found, last }
+    }
+
     /// How many tokens there are.
     pub fn len(&self) -> usize
         ensures { result ≡ length self.now.tokens }

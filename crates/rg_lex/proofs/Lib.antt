@@ -1,0 +1,4 @@
+mod ByLength
+mod FrontCases
+mod Progress
+pub mod Spans
