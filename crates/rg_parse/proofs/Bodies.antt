@@ -19,10 +19,7 @@ use Rattle.rg_parse.proofs.Writing.{written_body-cons, written_body-split, writt
 abbrev pub before : List ThinStmt → Option (List ThinStmt) → Option (List ThinStmt)
 before ts rest = option_map (λ ss. ts ++ ss) rest
 
-before-none : (o : Option (List ThinStmt)) → o ≡ before [] o
-before-none None = refl
-before-none (Some ss) = refl
-
+-- one more of them
 before-more : (ts : List ThinStmt) (t : ThinStmt) (o : Option (List ThinStmt)) → before ts (with_stmt t o) ≡ before (ts ++ t ∷ []) o
 before-more ts t None = refl
 before-more ts t (Some ss) = ap Some (sym (append_assoc ts (t ∷ []) ss))
@@ -34,16 +31,10 @@ pub record Got (source : List ℕ) (tokens rest : List Token) (names : List Name
   pub numbered_is : (more : List Stmt) → numbered [] (done ++ more) ≡ before stmts (numbered names more)
   pub within : AreWithin (length source) rest
 
-pub got-none : (source : List ℕ) (tokens : List Token) → AreWithin (length source) tokens → Got source tokens tokens [] []
-got-none source tokens w = record {
-  done = [];
-  written_is = refl;
-  numbered_is = λ more. before-none (numbered [] more);
-  within = w;
-}
-
+-- one more statement was read
 pub got-more : {source : List ℕ} {tokens rest behind : List Token} {old new : List Name} {stmts : List ThinStmt} {t : ThinStmt} {f : Found}
-    → Got source tokens rest old stmts → Reads rest f behind → ((more : List Stmt) → numbered old (stmt_of source f ∷ more) ≡ with_stmt t (numbered new more))
+    → Got source tokens rest old stmts → Reads rest f behind
+    → ((more : List Stmt) → numbered old (stmt_of source f ∷ more) ≡ with_stmt t (numbered new more))
     → Got source tokens behind new (stmts ++ t ∷ [])
 got-more {source} {tokens} {rest} {behind} {old} {new} {stmts} {t} {f} g r n =
     let s = stmt_of source f in
@@ -78,10 +69,12 @@ got-left {source} {tokens} {rest} {names} {stmts} {all} g b =
     (left.0, left.2, sym (g.numbered_is left.0) ∙ ap (numbered []) (sym left.1) ∙ b.2)
 
 -- neither a statement nor the last brace is behind them
-stuck-left : (source : List ℕ) (rest : List Token) → LacksStmt rest → LacksEnd rest → (more : List Stmt) → map (lexeme source) rest ≡ written_body more → ⊥
+stuck-left : (source : List ℕ) (rest : List Token) → LacksStmt rest → LacksEnd rest → (more : List Stmt)
+    → map (lexeme source) rest ≡ written_body more → ⊥
 stuck-left source rest no_stmt no_end [] e = no_end source e
 stuck-left source rest no_stmt no_end (s ∷ ss) e = no_stmt source s _ (e ∙ written_body-cons s ss)
 
+-- so no body has these tokens
 pub got-stuck : {source : List ℕ} {tokens rest : List Token} {names : List Name} {stmts : List ThinStmt}
     → Got source tokens rest names stmts → LacksStmt rest → LacksEnd rest → (all : List ThinStmt) → IsBody source tokens all → ⊥
 got-stuck {source} {tokens} {rest} {names} {stmts} g no_stmt no_end all b =
@@ -99,6 +92,7 @@ refused-left source rest behind f r names stmts all n (s ∷ ss) e h =
     let no : before stmts None ≡ Some all = ap (before stmts) (sym none) ∙ h in
     cc
 
+-- so no body with these tokens has numbers
 pub got-refused : {source : List ℕ} {tokens rest behind : List Token} {names : List Name} {stmts : List ThinStmt} {f : Found}
     → Got source tokens rest names stmts → Reads rest f behind → (e : Stop) → Unnumbered e names (stmt_of source f) → Refuses e (IsBody source tokens)
 got-refused g r stop.Memory u = tt

@@ -1,5 +1,6 @@
 -- A look-up of a name, place by place.
-use Rattle.std.proofs.Common.{◌≡◌, ℕ, suc, ◌+◌, ◌<◌, Bool, true, false, cond, List, ◌∷◌, map, length, get_or, drop, drop-cons, ◌≤◌, zero-add, Option, Some, None, option_map, bytes_eq, refl, sym, ◌∙◌, ap, arith, add-one}
+use Rattle.std.proofs.Common.{◌≡◌, ℕ, suc, ◌+◌, ◌<◌, Bool, true, false, cond, List, ◌∷◌, map, length, get_or}
+use Rattle.std.proofs.Common.{drop, drop-cons, ◌≤◌, zero-add, Option, Some, None, option_map, bytes_eq, refl, sym, ◌∙◌, ap, arith, add-one}
 use Rattle.std.proofs.lemmas.List.{drop_all}
 use Rattle.std.specs.Borrow.{Bor}
 use Rattle.rg_parse.specs.Tree.{Name}

@@ -12,6 +12,7 @@ use Rattle.rg_parse.specs.Numbering.{IsThin}
 use Rattle.rg_parse.specs.Heads.{AreWithin, BeginsMain, begin}
 use Rattle.rg_parse.specs.Meanings.{not_built_fault, Answers, IsBody, IsProgram}
 
+-- spans in order end behind where they begin
 AreSpans-le : (from to : ℕ) (ts : List Token) → AreSpans from to ts → from ≤ to
 AreSpans-le from to [] h = h
 AreSpans-le from to (t ∷ ts) h = omega (arith, h.0, h.1, AreSpans-le t.to to ts h.2)
@@ -24,14 +25,16 @@ AreWithin-spans from to (t ∷ ts) h =
     ((omega arith, AreSpans-le t.to to ts h.2), AreWithin-spans t.to to ts h.2)
 
 -- the program's body
-program-body : (source : List ℕ) (tokens rest : List Token) (stmts : List ThinStmt) → BeginsMain tokens rest → IsProgram source tokens stmts → IsBody source rest stmts
+program-body : (source : List ℕ) (tokens rest : List Token) (stmts : List ThinStmt)
+    → BeginsMain tokens rest → IsProgram source tokens stmts → IsBody source rest stmts
 program-body source tokens rest stmts b p =
     let main : begin b.manager (map (lexeme source) rest) ≡ written_program p.0 = sym (b.written_is source) ∙ p.1 in
     let body : map (lexeme source) rest ≡ written_body p.0.body = cc main in
     (p.0.body, body, p.2)
 
 -- the body's program
-body-program : (source : List ℕ) (tokens rest : List Token) (stmts : List ThinStmt) → BeginsMain tokens rest → IsBody source rest stmts → IsProgram source tokens stmts
+body-program : (source : List ℕ) (tokens rest : List Token) (stmts : List ThinStmt)
+    → BeginsMain tokens rest → IsBody source rest stmts → IsProgram source tokens stmts
 body-program source tokens rest stmts b p =
     (record { manager = b.manager; body = p.0 }, b.written_is source ∙ ap (begin b.manager) p.1, p.2)
 
@@ -43,7 +46,8 @@ Answers-program source tokens rest b (Err (stop.Fault f)) h = (h.0, λ stmts p. 
 Answers-program source tokens rest b (Err stop.Memory) h = tt
 
 -- a fault of the reader of the program says that the source isn't thin
-pub not_thin : (source : List ℕ) (tokens : List Token) → cut source ≡ Ok tokens → (r : Result (List ThinStmt) Stop) → Answers r (IsProgram source tokens)
+pub not_thin : (source : List ℕ) (tokens : List Token) → cut source ≡ Ok tokens
+    → (r : Result (List ThinStmt) Stop) → Answers r (IsProgram source tokens)
     → (f : Fault) → r ≡ Err (stop.Fault f) → (f ≡ not_built_fault) × (IsThin source → ⊥)
 not_thin source tokens c (Ok stmts) h f e = absurd (cc e)
 not_thin source tokens c (Err stop.Memory) h f e = absurd (cc e)

@@ -8,17 +8,22 @@ use Rattle.rg_parse.specs.Spelling.{Lexeme, named, number, word_of, mark, lexeme
 use Rattle.rg_parse.specs.Heads.{text_of, AreWithin, Begins, BeginsName}
 use Rattle.rg_parse.specs.Reads.{Reads, BeginsType}
 
-pub begins-lexemes : {l : Lexeme} {tokens rest : List Token} → Begins l tokens rest → (source : List ℕ) → map (lexeme source) tokens ≡ l ∷ map (lexeme source) rest
+-- the lexemes of tokens that begin with one
+begins-lexemes : {l : Lexeme} {tokens rest : List Token} → Begins l tokens rest
+    → (source : List ℕ) → map (lexeme source) tokens ≡ l ∷ map (lexeme source) rest
 begins-lexemes {l} {tokens} {rest} b source = ap (map (lexeme source)) b.1 ∙ ap (λ x. x ∷ map (lexeme source) rest) (b.2 source)
 
-pub begins-within : {l : Lexeme} {tokens rest : List Token} → Begins l tokens rest → (n : ℕ) → AreWithin n tokens → AreWithin n rest
+-- the rest is within what all are within
+begins-within : {l : Lexeme} {tokens rest : List Token} → Begins l tokens rest → (n : ℕ) → AreWithin n tokens → AreWithin n rest
 begins-within b n w = (subst (AreWithin n) b.1 w).1
 
-pub name-lexemes : {tokens rest : List Token} {name : Token} → BeginsName tokens name rest
+-- the lexemes of tokens that begin with a name
+name-lexemes : {tokens rest : List Token} {name : Token} → BeginsName tokens name rest
     → (source : List ℕ) → map (lexeme source) tokens ≡ named (text_of source name) ∷ map (lexeme source) rest
 name-lexemes {tokens} {rest} {name} b source =
     ap (map (lexeme source)) b.0 ∙ ap (λ k. lexeme_of k (text_of source name) ∷ map (lexeme source) rest) b.1
 
+-- a let was read
 pub let_reads : {tokens behind_let behind_name behind_type behind_value rest : List Token} {name : Token} {z : ℤ}
     → Begins (word_of word.Let) tokens behind_let → BeginsName behind_let name behind_name → BeginsType behind_name behind_type
     → Begins (number z) behind_type behind_value → Begins (mark sign.Semicolon) behind_value rest → Reads tokens (found.Let name z) rest

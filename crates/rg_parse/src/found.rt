@@ -1,7 +1,8 @@
 //! Reads one statement at the head of tokens.
 
 ghost use Rattle.std.specs.Prelude.{MatchOption};
-ghost use Rattle.rg_parse.specs.Reads.{Reads, LacksStmt, LacksLet, LacksPrint, BeginsType, LacksType};
+ghost use Rattle.rg_parse.specs.Reads.{Reads, LacksStmt, LacksLet, LacksPrint};
+ghost use Rattle.rg_parse.specs.Reads.{BeginsType, LacksType};
 
 use crate::heads::{after_name, after_number, after_sign, after_word};
 use rg_base::{Keyword, Sign, Token};

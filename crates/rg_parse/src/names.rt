@@ -8,7 +8,7 @@ use rg_base::{BODY_NAMES, Memory};
 use std::alloc::Global;
 use std::marker::Model;
 
-/// The names in the order of their lets, at most `BODY_NAMES`; contracts see the list of their bytes.
+/// At most `BODY_NAMES` names in the order of their lets; contracts see the list of their texts.
 #[derive(Drop)]
 pub(crate) struct Names<'a> {
     texts: Vec<&'a [u8]>,

@@ -120,6 +120,17 @@ mod tests {
         Ok(source)
     }
 
+    /// A source that lets a name of so many letters.
+    fn named(alloc: Global, letters: u64) -> Result<String, Fail> {
+        let mut source = String::new(alloc);
+        source.push_str("main arena{let ")?;
+        for _ in 0..letters {
+            source.push('a')?;
+        }
+        source.push_str(":int=1;}")?;
+        Ok(source)
+    }
+
     #[test]
     fn thin_sources_are_read(rt: HostRuntime) -> Result<(), Fail> {
         let seven = [ThinStmt::Number(7)];
@@ -143,6 +154,8 @@ mod tests {
         ];
         let source = b"main arena{let x:int=41;let X:int=0;print X;print x;let _1:int=5;print _1;}";
         gives(&rt, rt.alloc(), source, &names);
+        let long = named(rt.alloc(), 64)?;
+        gives(&rt, rt.alloc(), long.as_bytes(), &[ThinStmt::Let(1)]);
         let full = lets(rt.alloc(), 256)?;
         let full = full.as_bytes();
         assert!(rt; full.len() <= SOURCE_BYTES);
@@ -182,11 +195,8 @@ mod tests {
         for source in none {
             refuses(&rt, rt.alloc(), source);
         }
-        let name =
-            b"main arena{let aaaaaaaaaaaaaaaaaaaaaaaaaaaaaaaaaaaaaaaaaaaaaaaaaaaaaaaaaaaaaaaaa:int=1;}";
-        refuses(&rt, rt.alloc(), name);
-        let full = lets(rt.alloc(), 257)?;
-        refuses(&rt, rt.alloc(), full.as_bytes());
+        refuses(&rt, rt.alloc(), named(rt.alloc(), 65)?.as_bytes());
+        refuses(&rt, rt.alloc(), lets(rt.alloc(), 257)?.as_bytes());
         Ok(())
     }
 }

@@ -18,7 +18,8 @@ returns-then-eq c =
 
 pub loop-k-preserved : goal.loop-k-preserved
 loop-k-preserved c =
-    c.loop-k.invariant ∙ number_of-at c.args.name.now c.deref-text-items.result.now c.loop-k.k _ _ c.loop-k-test.true (sym c.eq.ensures ∙ c.if-eq.false)
+    c.loop-k.invariant
+    ∙ number_of-at c.args.name.now c.deref-text-items.result.now c.loop-k.k _ _ c.loop-k-test.true (sym c.eq.ensures ∙ c.if-eq.false)
 
 pub returns : goal.returns
 returns c =
