@@ -1,0 +1,11 @@
+pub mod Texts
+pub mod ByRows
+pub mod Stopping
+pub mod Unique
+pub mod SameKinds
+pub mod Halting
+pub mod StuckPlaces
+pub mod Reader
+pub mod RoundTrips
+pub mod WholePrograms
+pub mod Passing

@@ -1,0 +1,11 @@
+//! The tree of a program in flat tables; the grammar within its limits and the canonical text,
+//! as definitions with their laws (docs/language.md).
+#![tactic(auto)]
+
+mod counts;
+mod laws;
+mod rows;
+
+pub use counts::Counts;
+pub use laws::{at_most_one_tree, spelt_is_not_stuck, stuck_once};
+pub use rows::BinOp;
