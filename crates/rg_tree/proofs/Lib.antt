@@ -9,3 +9,7 @@ pub mod Reader
 pub mod RoundTrips
 pub mod WholePrograms
 pub mod Passing
+pub mod NameLemmas
+pub mod TreesFrom
+pub mod Grows
+pub mod Programs

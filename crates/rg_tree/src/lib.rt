@@ -4,8 +4,15 @@
 
 mod counts;
 mod laws;
+mod names;
+mod program;
 mod rows;
+mod table;
 
 pub use counts::Counts;
 pub use laws::{at_most_one_tree, spelt_is_not_stuck, stuck_once};
-pub use rows::BinOp;
+pub use program::Program;
+pub use rows::{
+    BinOp, CallRow, ClassRow, ExprRow, MemberRow, ParamRow, Path, Right, Span, StmtKind, StmtRow,
+    TypeRow,
+};
