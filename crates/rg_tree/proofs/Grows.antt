@@ -82,7 +82,12 @@ module _ {t u : Tables} (g : IsAbove t u) where
   numbers_in-grows s h =
       let first : s.from ≤ length t.numbers = omega (arith, h.ordered, h.ends) in
       let fits : s.to - s.from ≤ length (drop s.from t.numbers) = omega (arith, h.ends, length-drop s.from t.numbers) in
-      rw (g.numbers.is, drop-append-le s.from t.numbers g.numbers.more first, take-append-le (s.to - s.from) (drop s.from t.numbers) g.numbers.more fits) refl
+      rw (
+        g.numbers.is,
+        drop-append-le s.from t.numbers g.numbers.more first,
+        take-append-le (s.to - s.from)
+            (drop s.from t.numbers) g.numbers.more fits,
+      ) refl
 
   -- Rows that exist exist later.
 
@@ -96,7 +101,12 @@ module _ {t u : Tables} (g : IsAbove t u) where
   IsNameIn-grows n h = omega (arith, g.names)
 
   pub IsPathIn-grows : (p : row_path.Path) → IsPathIn t p → IsPathIn u p
-  IsPathIn-grows p h = record { base = IfSome_then p.base h.base IsNameIn-grows; fields = IsSpanBelow-grows (length t.names) (length u.names) g.names p.fields h.fields }
+  IsPathIn-grows p h =
+      record {
+        base = IfSome_then p.base h.base IsNameIn-grows;
+        fields =
+            IsSpanBelow-grows (length t.names) (length u.names) g.names p.fields h.fields;
+      }
 
   pub IsTypeIn-grows : (y : TypeRow) → IsTypeIn t y → IsTypeIn u y
   IsTypeIn-grows type_row.Int h = tt
@@ -154,9 +164,12 @@ module _ {t u : Tables} (g : IsAbove t u) where
 
   pub IsMemberIn-grows : (r : MemberRow) → IsMemberIn t r → IsMemberIn u r
   IsMemberIn-grows (Field n y line) h = (IsNameIn-grows n h.0, IsTypeIn-grows y h.1)
-  IsMemberIn-grows (Method c n ps r b line) h =
-      (IsNameIn-grows n h.0, IsSpanBelow-grows (length t.params) (length u.params) g.params ps h.1, IfSome_then r h.2 IsTypeIn-grows,
-          IsBlockIn-grows b h.3)
+  IsMemberIn-grows (Method c n ps r b line) h = (
+    IsNameIn-grows n h.0,
+    IsSpanBelow-grows (length t.params) (length u.params) g.params ps h.1,
+    IfSome_then r h.2 IsTypeIn-grows,
+    IsBlockIn-grows b h.3,
+  )
 
   pub IsClassIn-grows : (r : ClassRow) → IsClassIn t r → IsClassIn u r
   IsClassIn-grows r h = record {
@@ -167,7 +180,8 @@ module _ {t u : Tables} (g : IsAbove t u) where
   -- Rows stand for what they stood for.
 
   names-grow : (s : Span) → IsSpanBelow t (length t.names) s → map (name_at u) (numbers_in u s) ≡ map (name_at t) (numbers_in t s)
-  names-grow s h = ap (map (name_at u)) (numbers_in-grows s h.within) ∙ map-agree (name_at u) (name_at t) (length t.names) (numbers_in t s) h.each name_at-grows
+  names-grow s h = ap (map (name_at u)) (numbers_in-grows s h.within)
+      ∙ map-agree (name_at u) (name_at t) (length t.names) (numbers_in t s) h.each name_at-grows
 
   base-grows : (o : Option ℕ) → IfSome o (IsNameIn t) → option_map (name_at u) o ≡ option_map (name_at t) o
   base-grows None h = refl
@@ -198,8 +212,8 @@ module _ {t u : Tables} (g : IsAbove t u) where
         let p = path_of-grows c.path h.target in
         let m = name_at-grows c.method h.method in
         let a : map (expr_at u) (numbers_in u c.args) ≡ map (expr_at t) (numbers_in t c.args) =
-            ap (map (expr_at u)) (numbers_in-grows c.args h.args.within)
-            ∙ map-agree (expr_at u) (expr_at t) (length t.exprs) (numbers_in t c.args) h.args.each es in
+        ap (map (expr_at u)) (numbers_in-grows c.args h.args.within)
+        ∙ map-agree (expr_at u) (expr_at t) (length t.exprs) (numbers_in t c.args) h.args.each es in
         cc
 
     pub right_of-grows : (r : Right) → IsRightIn t r → right_of u r ≡ right_of t r
@@ -245,7 +259,8 @@ module _ {t u : Tables} (g : IsAbove t u) where
   result-grows (Some y) h = ap Some (type_of-grows y h)
 
   pub block_of-grows : AgreeBelow (length t.stmts) (stmt_at u) (stmt_at t) → (s : Span) → IsBlockIn t s → block_of u s ≡ block_of t s
-  block_of-grows ss s h = ap (block_over (stmt_at u)) (numbers_in-grows s h.within) ∙ block_over-agree (stmt_at u) (stmt_at t) (length t.stmts) (numbers_in t s) h.each ss
+  block_of-grows ss s h = ap (block_over (stmt_at u)) (numbers_in-grows s h.within)
+      ∙ block_over-agree (stmt_at u) (stmt_at t) (length t.stmts) (numbers_in t s) h.each ss
 
   pub member_of-grows : AgreeBelow (length t.params) (param_at u) (param_at t) → AgreeBelow (length t.stmts) (stmt_at u) (stmt_at t)
       → (r : MemberRow) → IsMemberIn t r → member_of u r ≡ member_of t r
@@ -253,7 +268,7 @@ module _ {t u : Tables} (g : IsAbove t u) where
   member_of-grows ps ss (Method c n qs r b line) h =
       let a = name_at-grows n h.0 in
       let q : map (param_at u) (numbers_in u qs) ≡ map (param_at t) (numbers_in t qs) =
-          ap (map (param_at u)) (numbers_in-grows qs h.1.within) ∙ map-agree (param_at u) (param_at t) (length t.params) (numbers_in t qs) h.1.each ps in
+      ap (map (param_at u)) (numbers_in-grows qs h.1.within) ∙ map-agree (param_at u) (param_at t) (length t.params) (numbers_in t qs) h.1.each ps in
       let y = result-grows r h.2 in
       let d = block_of-grows ss b h.3 in
       cc
@@ -262,6 +277,6 @@ module _ {t u : Tables} (g : IsAbove t u) where
   class_of-grows ms r h =
       let a = name_at-grows r.name h.name in
       let m : map (member_at u) (numbers_in u r.members) ≡ map (member_at t) (numbers_in t r.members) =
-          ap (map (member_at u)) (numbers_in-grows r.members h.members.within)
-          ∙ map-agree (member_at u) (member_at t) (length t.members) (numbers_in t r.members) h.members.each ms in
+      ap (map (member_at u)) (numbers_in-grows r.members h.members.within)
+      ∙ map-agree (member_at u) (member_at t) (length t.members) (numbers_in t r.members) h.members.each ms in
       cc

@@ -56,7 +56,8 @@ row-stops {x} {ss} {c} {ts} {at} {f} None go h s e =
     subst (λ g. Stops (the x ∷ ss) c ts g at) e0 (subst (λ us. Stops (the x ∷ ss) c ts Syntax us) e1 (no_row h))
 row-stops (Some r) go h s e = by_row h (s _ e)
 
-token-stops : {y : Symbol} {o : Option Kind} {ss : List Symbol} {c : Counts} {at : List Token} {f : Code} (ts : List Token) (b : Bool) (r : Result Counts Code) (go : Counts → List Token → Halt)
+token-stops : {y : Symbol} {o : Option Kind} {ss : List Symbol} {c : Counts} {at : List Token} {f : Code} (ts : List Token) (b : Bool)
+    (r : Result Counts Code) (go : Counts → List Token → Halt)
     → expected y ≡ Some o → Decides b (next ts ≡ o) → counted y c ≡ r
     → ((d : Counts) (us : List Token) → go d us ≡ halted f at → Stops ss d us f at) → on_token b r ts go ≡ halted f at → Stops (y ∷ ss) c ts f at
 token-stops {y} {o} {ss} {c} {at} {f} ts false r go h d k s e =
@@ -73,7 +74,8 @@ symbol-stops : {y : Symbol} {ss : List Symbol} {c : Counts} {ts at : List Token}
     → ((d : Counts) (us : List Token) → go d us ≡ halted f at → Stops ss d us f at) → on_symbol o (counted y c) ts go ≡ halted f at
     → Stops (y ∷ ss) c ts f at
 symbol-stops None go h s e = cc
-symbol-stops {y} {ss} {c} {ts} {at} {f} (Some o) go h s e = token-stops ts (same_next (next ts) o) (counted y c) go h (same_next-Decides (next ts) o) refl s e
+symbol-stops {y} {ss} {c} {ts} {at} {f} (Some o) go h s e = token-stops ts (same_next (next ts) o) (counted y c) go h
+    (same_next-Decides (next ts) o) refl s e
 
 -- what is computed holds
 pub halts-stops : (n : ℕ) (ss : List Symbol) (c : Counts) (ts at : List Token) (f : Code) → halts n ss c ts ≡ halted f at → Stops ss c ts f at

@@ -38,17 +38,29 @@ pub through : {source : List ℕ} {f : Form} {c d : Counts} {ts us : List Token}
     → {ss : List Symbol} {at : List Token} {e : Code} → Stops ss d us e at → Stops (row_of r ++ ss) (entered (phrase_of f) c) ts e at
 through (program_class x y) within z = absurd within
 through (program_main e x y) within z = absurd within
-through (class_row e f h i j x l) within z = there e refl (fits {y = class_name} (kind_is f) h (there i j (by_row (row_of-holds x) (through x tt (there l refl z)))))
-through (tmp_class_row e m f h i j x l) within z = there e refl (there m refl (fits {y = class_name} (kind_is f) h (there i j (by_row (row_of-holds x) (through x tt (there l refl z))))))
-through (field_row e h i x j y) within z = fits {y = field_name} (kind_is e) h (there i refl (by_row (row_of-holds x) (through x tt (there j refl (by_row (row_of-holds y) (through y tt z))))))
-through (method_row e x f h i j y l m n o) within z = there e refl (by_row (row_of-holds x) (through x tt (fits {y = method_name} (kind_is f) h (there i j (by_row (row_of-holds y) (through y tt (there l refl (by_row (row_of-holds m) (through m tt (by_row (row_of-holds n) (through n tt (by_row (row_of-holds o) (through o tt z)))))))))))))
+through (class_row e f h i j x l) within z =
+    there e refl (fits {y = class_name} (kind_is f) h (there i j (by_row (row_of-holds x) (through x tt (there l refl z)))))
+through (tmp_class_row e m f h i j x l) within z = there e refl
+    (there m refl (fits {y = class_name} (kind_is f) h (there i j (by_row (row_of-holds x) (through x tt (there l refl z))))))
+through (field_row e h i x j y) within z = fits {y = field_name} (kind_is e) h
+    (there i refl (by_row (row_of-holds x) (through x tt (there j refl (by_row (row_of-holds y) (through y tt z))))))
+through (method_row e x f h i j y l m n o) within z = there e refl
+    (by_row (row_of-holds x)
+    (through x tt
+    (fits {y = method_name} (kind_is f) h
+    (there i j (by_row (row_of-holds y)
+    (through y tt
+    (there l refl (by_row (row_of-holds m) (through m tt (by_row (row_of-holds n) (through n tt (by_row (row_of-holds o) (through o tt z)))))))))))))
 through (no_members e) within z = z
 through (cap_row e) within z = there refl (cap_of-behind _ _ _ e) z
 through (plain_type e) within z = there refl (plain_type_of-behind _ _ _ e) z
 through (ref_type x e) within z = by_row (row_of-holds x) (through x tt (fits {y = name} (kind_is e) refl z))
-through (first_param e h i x y) within z = fits {y = param_name} (kind_is e) h (there i refl (by_row (row_of-holds x) (through x tt (by_row (row_of-holds y) (through y tt z)))))
+through (first_param e h i x y) within z = fits {y = param_name} (kind_is e) h
+    (there i refl (by_row (row_of-holds x) (through x tt (by_row (row_of-holds y) (through y tt z)))))
 through (no_params e) within z = z
-through (next_param e f h i x y) within z = there e refl (fits {y = param_name} (kind_is f) h (there i refl (by_row (row_of-holds x) (through x tt (by_row (row_of-holds y) (through y tt z))))))
+through (next_param e f h i x y) within z =
+    there e refl
+    (fits {y = param_name} (kind_is f) h (there i refl (by_row (row_of-holds x) (through x tt (by_row (row_of-holds y) (through y tt z))))))
 through (no_more_params e) within z = z
 through (some_result e x) within z = there e refl (by_row (row_of-holds x) (through x tt z))
 through (no_result e) within z = z
@@ -56,13 +68,21 @@ through (manager_row e) within z = there refl (manager_of-behind _ _ _ e) z
 through (block_row e h x f) within z = there e h (by_row (row_of-holds x) (through x tt (there f refl z)))
 through (no_stmts e) within z = z
 through (more_stmts e x y) within z = by_row (row_of-holds x) (through x tt (by_row (row_of-holds y) (through y tt z)))
-through (let_row e f h i x j y l) within z = there e refl (fits {y = local_name} (kind_is f) h (there i refl (by_row (row_of-holds x) (through x tt (there j refl (by_row (row_of-holds y) (through y tt (there l refl z))))))))
-through (assign_row x e y f) within z = by_row (row_of-holds x) (through x tt (there e refl (by_row (row_of-holds y) (through y tt (there f refl z)))))
+through (let_row e f h i x j y l) within z =
+    there e refl
+    (fits {y = local_name} (kind_is f) h
+    (there i refl (by_row (row_of-holds x) (through x tt (there j refl (by_row (row_of-holds y) (through y tt (there l refl z))))))))
+through (assign_row x e y f) within z = by_row (row_of-holds x)
+    (through x tt (there e refl (by_row (row_of-holds y) (through y tt (there f refl z)))))
 through (call_row x e) within z = by_row (row_of-holds x) (through x tt (there e refl z))
-through (swap_row e f h x i) within z = there e refl (fits {y = name} (kind_is f) refl (there h refl (by_row (row_of-holds x) (through x tt (there i refl z)))))
-through (if_row e x y v) within z = there e refl (by_row (row_of-holds x) (through x tt (by_row (row_of-holds y) (through y tt (by_row (row_of-holds v) (through v tt z))))))
+through (swap_row e f h x i) within z =
+    there e refl (fits {y = name} (kind_is f) refl (there h refl (by_row (row_of-holds x) (through x tt (there i refl z)))))
+through (if_row e x y v) within z =
+    there e refl (by_row (row_of-holds x) (through x tt (by_row (row_of-holds y) (through y tt (by_row (row_of-holds v) (through v tt z))))))
 through (while_row e x y) within z = there e refl (by_row (row_of-holds x) (through x tt (by_row (row_of-holds y) (through y tt z))))
-through (enter_row e x f h i y) within z = there e refl (by_row (row_of-holds x) (through x tt (there f refl (fits {y = local_name} (kind_is h) i (by_row (row_of-holds y) (through y tt z))))))
+through (enter_row e x f h i y) within z =
+    there e refl
+    (by_row (row_of-holds x) (through x tt (there f refl (fits {y = local_name} (kind_is h) i (by_row (row_of-holds y) (through y tt z))))))
 through (print_row e x f) within z = there e refl (by_row (row_of-holds x) (through x tt (there f refl z)))
 through (collect_row e f) within z = there e refl (there f refl z)
 through (return_row e x f) within z = there e refl (by_row (row_of-holds x) (through x tt (there f refl z)))
@@ -80,7 +100,8 @@ through (value_row e x) within z = by_row (row_of-holds x) (through x tt z)
 through (new_plain e) within z = fits {y = name} (kind_is e) refl z
 through (new_temporary e f) within z = there e refl (fits {y = name} (kind_is f) refl z)
 through (new_region e f h x) within z = there e refl (fits {y = name} (kind_is f) refl (there h refl (by_row (row_of-holds x) (through x tt z))))
-through (call_start e x f h y) within z = there e refl (by_row (row_of-holds x) (through x tt (there f refl (fits {y = name} (kind_is h) refl (by_row (row_of-holds y) (through y tt z))))))
+through (call_start e x f h y) within z =
+    there e refl (by_row (row_of-holds x) (through x tt (there f refl (fits {y = name} (kind_is h) refl (by_row (row_of-holds y) (through y tt z))))))
 through (call_base e) within z = base_there _ _ _ refl e z
 through (call_further e f x) within z = there e refl (fits {y = name} (kind_is f) refl (by_row (row_of-holds x) (through x tt z)))
 through (call_args e h x f) within z = there e h (by_row (row_of-holds x) (through x tt (there f refl z)))
@@ -89,10 +110,12 @@ through (first_arg e x y) within z = by_row (row_of-holds x) (through x tt (by_r
 through (next_arg e x y) within z = there e refl (by_row (row_of-holds x) (through x tt (by_row (row_of-holds y) (through y tt z))))
 through (no_more_args e) within z = z
 through (expr_row x y) within z = by_row (row_of-holds x) (through x tt (by_row (row_of-holds y) (through y tt z)))
-through (or_row e h x y) within z = fits {y = sign (k.Word w.Or)} (kind_is e) h (by_row (row_of-holds x) (through x tt (by_row (row_of-holds y) (through y tt z))))
+through (or_row e h x y) within z = fits {y = sign (k.Word w.Or)} (kind_is e) h
+    (by_row (row_of-holds x) (through x tt (by_row (row_of-holds y) (through y tt z))))
 through (no_or e) within z = z
 through (and_row x y) within z = by_row (row_of-holds x) (through x tt (by_row (row_of-holds y) (through y tt z)))
-through (and_further e h x y) within z = fits {y = sign (k.Word w.And)} (kind_is e) h (by_row (row_of-holds x) (through x tt (by_row (row_of-holds y) (through y tt z))))
+through (and_further e h x y) within z = fits {y = sign (k.Word w.And)} (kind_is e) h
+    (by_row (row_of-holds x) (through x tt (by_row (row_of-holds y) (through y tt z))))
 through (no_and e) within z = z
 through (not_row e x) within z = there e refl (by_row (row_of-holds x) (through x tt z))
 through (no_not e x) within z = by_row (row_of-holds x) (through x tt z)
@@ -100,10 +123,12 @@ through (cmp_row x y) within z = by_row (row_of-holds x) (through x tt (by_row (
 through (compared {t = t} e h x) within z = fits {y = sign t.kind} refl h (by_row (row_of-holds x) (through x tt z))
 through (not_compared e) within z = z
 through (sum_row x y) within z = by_row (row_of-holds x) (through x tt (by_row (row_of-holds y) (through y tt z)))
-through (sum_further {t = t} e h x y) within z = fits {y = sign t.kind} refl h (by_row (row_of-holds x) (through x tt (by_row (row_of-holds y) (through y tt z))))
+through (sum_further {t = t} e h x y) within z = fits {y = sign t.kind} refl h
+    (by_row (row_of-holds x) (through x tt (by_row (row_of-holds y) (through y tt z))))
 through (no_sum e) within z = z
 through (mul_row x y) within z = by_row (row_of-holds x) (through x tt (by_row (row_of-holds y) (through y tt z)))
-through (mul_further {t = t} e h x y) within z = fits {y = sign t.kind} refl h (by_row (row_of-holds x) (through x tt (by_row (row_of-holds y) (through y tt z))))
+through (mul_further {t = t} e h x y) within z = fits {y = sign t.kind} refl h
+    (by_row (row_of-holds x) (through x tt (by_row (row_of-holds y) (through y tt z))))
 through (no_mul e) within z = z
 through (minus e x) within z = there e refl (by_row (row_of-holds x) (through x tt z))
 through (no_minus e x) within z = by_row (row_of-holds x) (through x tt z)

@@ -12,7 +12,7 @@ use Rattle.rg_tree.specs.declared.rows.StmtRow.{StmtRow}
 use Rattle.rg_tree.specs.declared.rows.ExprRow.{ExprRow}
 use Rattle.rg_tree.specs.Tree.{Name, Tree, nil}
 use Rattle.rg_tree.specs.Tables.{Tables, at_first, name_at, numbers_in, number_of, with_name, AreDistinct}
-use Rattle.rg_tree.specs.RowTrees.{trees_from, expr_over, exprs_of, expr_at, expr_of, stmt_over, stmts_of, stmt_at, stmt_of, no_stmt, block_of, param_of, params_of, param_at, no_param, member_of, members_of, member_at, no_member, class_of, classes_of, program_of}
+use Rattle.rg_tree.specs.RowTrees.{trees_from, expr_over, exprs_of, expr_at, expr_of, stmt_over, stmts_of, stmt_at, stmt_of, no_stmt, block_of, param_of, params_of, param_at, no_param, member_of, members_of, member_at, no_member, class_of, classes_of, no_program, program_of}
 use Rattle.rg_tree.specs.RowsExist.{IsWithin, IsSpanBelow, IsExprIn, IsStmtIn, IsBlockIn, IsParamIn, IsMemberIn, IsClassIn, EachRow, AreRows}
 use Rattle.rg_tree.specs.Keeps.{Begins, Keeps, Holds}
 use Rattle.rg_tree.proofs.TreesFrom.{Begins-same, Begins-more, Begins-whole, get_or-Begins, EachFrom-EachRow, EachRow-push, slice_get-push, map-EachRow, map-Begins, get_or-map, length-trees_from, trees_from-at, trees_from-grows}
@@ -62,7 +62,8 @@ module _ {t u : Tables} (g : Grows t u) (h : AreRows t) where
   exprs_of-grows : Begins (exprs_of t) (exprs_of u)
   unfolding exprs_of
   exprs_of-grows =
-      trees_from-grows nil (expr_over t) (expr_over u) (IsExprIn t) (λ n r f a. expr_over-grows (IsAbove-Grows g) n r f f a (λ k l. refl)) g.exprs h.exprs
+      trees_from-grows nil (expr_over t) (expr_over u) (IsExprIn t)
+      (λ n r f a. expr_over-grows (IsAbove-Grows g) n r f f a (λ k l. refl)) g.exprs h.exprs
 
   pub expr_at-grows : AgreeBelow (length t.exprs) (expr_at u) (expr_at t)
   expr_at-grows = agree nil (length t.exprs) (length-exprs_of t) exprs_of-grows
@@ -143,16 +144,17 @@ module _ (t : Tables) (h : AreRows t) where
   unfolding exprs_of
   expr_at-row e r s =
       let z : 0 + e ≡ e = omega arith in
-      rw z at (trees_from-at nil (expr_over t) (IsExprIn t) (λ n q x y i a. expr_over-grows (IsAbove-Grows (Grows-same t)) n q x y i a) [] 0 t.exprs refl
-          (EachFrom-EachRow (IsExprIn t) t.exprs h.exprs) e r s)
+      rw z at (trees_from-at nil (expr_over t) (IsExprIn t)
+      (λ n q x y i a. expr_over-grows (IsAbove-Grows (Grows-same t)) n q x y i a) [] 0 t.exprs refl
+      (EachFrom-EachRow (IsExprIn t) t.exprs h.exprs) e r s)
 
   pub stmt_at-row : (n : ℕ) (r : StmtRow) → slice_get t.stmts n ≡ Some r → stmt_at t n ≡ stmt_of t r
   unfolding stmts_of
   stmt_at-row n r s =
       let z : 0 + n ≡ n = omega arith in
       rw z at (trees_from-at no_stmt (stmt_over t) (IsStmtIn t)
-          (λ m q x y i a. stmt_over-grows (IsAbove-Grows (Grows-same t)) (λ k l. refl) m x y a q i) [] 0 t.stmts refl
-          (EachFrom-EachRow (IsStmtIn t) t.stmts h.stmts) n r s)
+      (λ m q x y i a. stmt_over-grows (IsAbove-Grows (Grows-same t)) (λ k l. refl) m x y a q i) [] 0 t.stmts refl
+      (EachFrom-EachRow (IsStmtIn t) t.stmts h.stmts) n r s)
 
 pub param_at-row : (t : Tables) (n : ℕ) (r : ParamRow) → slice_get t.params n ≡ Some r → param_at t n ≡ param_of t r
 unfolding params_of
@@ -179,6 +181,10 @@ AreRows-at_first = record {
   body = record { within = record { ordered = omega arith; ends = omega arith }; each = All-nil (λ k. k < 0) };
   counted = lit< tt;
 }
+
+pub program_of-at_first : program_of at_first ≡ no_program
+unfolding exprs_of stmts_of classes_of
+program_of-at_first = refl
 
 -- One thing more: what each call adds to the tables, and what that gives.
 
@@ -339,9 +345,10 @@ module _ (t : Tables) (h : AreRows t) (r : ClassRow) (i : IsClassIn t r) (room :
   classes_of-push =
       let g = Grows-class in
       let old = map-EachRow (class_of with_class) (class_of t) t.classes
-          (λ k q s. class_of-grows (IsAbove-Grows g) (member_at-grows g h) q (h.classes k q s)) in
+      (λ k q s. class_of-grows (IsAbove-Grows g) (member_at-grows g h) q (h.classes k q s)) in
       let last = class_of-grows (IsAbove-Grows g) (member_at-grows g h) r i in
-      map-append (class_of with_class) t.classes (r ∷ []) ∙ ap (λ w. w ++ class_of with_class r ∷ []) old ∙ ap (λ w. map (class_of t) t.classes ++ w ∷ []) last
+      map-append (class_of with_class) t.classes (r ∷ []) ∙ ap (λ w. w ++ class_of with_class r ∷ []) old
+      ∙ ap (λ w. map (class_of t) t.classes ++ w ∷ []) last
 
   pub program_of-class : program_of with_class ≡ record (program_of t) { classes = classes_of t ++ class_of t r ∷ [] }
   program_of-class =

@@ -72,7 +72,8 @@ abbrev behind : {B : Type 0} {source : List ℕ} {f : Form} {c : Counts} {ts : L
     → ((t : Token) (vs : List Token) → t.kind ≡ x → Reads source f c ts r.tree r.counts (t ∷ vs) → Option B) → Option B
 behind x r go = behind_at x r.rest r.reads go
 
-abbrev behind_two_at : {B : Type 0} {source : List ℕ} {f : Form} {c d : Counts} {ts : List Token} {a : Given f} (x y : Kind) (us : List Token) → Reads source f c ts a d us
+abbrev behind_two_at : {B : Type 0} {source : List ℕ} {f : Form} {c d : Counts} {ts : List Token} {a : Given f} (x y : Kind)
+    (us : List Token) → Reads source f c ts a d us
     → ((t u : Token) (vs : List Token) → t.kind ≡ x → u.kind ≡ y → Reads source f c ts a d (t ∷ u ∷ vs) → Option B) → Option B
 behind_two_at x y [] r go = None
 behind_two_at x y (t ∷ []) r go = None

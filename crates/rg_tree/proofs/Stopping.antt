@@ -94,24 +94,35 @@ after_base (k.Word w.SelfWord) n b h e y = after h refl y
 after_base _ n b h e y = cc
 
 -- a reading that expects something that is read goes on with its row
-pub turn : {source : List ℕ} {f : Form} {c d : Counts} {ts us : List Token} {a : Given f} (r : Reads source f c ts a d us) {ss : List Symbol} {at : List Token} {e : Code} → Stops (the (phrase_of f) ∷ ss) c ts e at → Stops (row_of r ++ ss) (entered (phrase_of f) c) ts e at
+pub turn : {source : List ℕ} {f : Form} {c d : Counts} {ts us : List Token} {a : Given f}
+    (r : Reads source f c ts a d us) {ss : List Symbol} {at : List Token} {e : Code} → Stops (the (phrase_of f) ∷ ss) c ts e at
+    → Stops (row_of r ++ ss) (entered (phrase_of f) c) ts e at
 turn r y = after_row (row_of-holds r) y
 
 -- behind what is read
-pub follows : {source : List ℕ} {f : Form} {c d : Counts} {ts us : List Token} {a : Given f} (r : Reads source f c ts a d us) {ss : List Symbol} {at : List Token} {e : Code} → Stops (row_of r ++ ss) (entered (phrase_of f) c) ts e at → Stops ss d us e at
+pub follows : {source : List ℕ} {f : Form} {c d : Counts} {ts us : List Token} {a : Given f}
+    (r : Reads source f c ts a d us) {ss : List Symbol} {at : List Token} {e : Code}
+    → Stops (row_of r ++ ss) (entered (phrase_of f) c) ts e at → Stops ss d us e at
 follows (program_class x y) z = follows y (turn y (follows x (turn x z)))
 follows (program_main e x y) z = absurd (at_end (follows y (turn y (follows x (turn x (after e refl z))))))
 follows (class_row e f h i j x l) z = after l refl (follows x (turn x (after i j (after_token {y = class_name} (kind_is f) h (after e refl z)))))
-follows (tmp_class_row e m f h i j x l) z = after l refl (follows x (turn x (after i j (after_token {y = class_name} (kind_is f) h (after m refl (after e refl z))))))
-follows (field_row e h i x j y) z = follows y (turn y (after j refl (follows x (turn x (after i refl (after_token {y = field_name} (kind_is e) h z))))))
-follows (method_row e x f h i j y l m n o) z = follows o (turn o (follows n (turn n (follows m (turn m (after l refl (follows y (turn y (after i j (after_token {y = method_name} (kind_is f) h (follows x (turn x (after e refl z)))))))))))))
+follows (tmp_class_row e m f h i j x l) z =
+    after l refl (follows x (turn x (after i j (after_token {y = class_name} (kind_is f) h (after m refl (after e refl z))))))
+follows (field_row e h i x j y) z =
+    follows y (turn y (after j refl (follows x (turn x (after i refl (after_token {y = field_name} (kind_is e) h z))))))
+follows (method_row e x f h i j y l m n o) z =
+    follows o (turn o
+    (follows n (turn n
+    (follows m (turn m
+    (after l refl (follows y (turn y (after i j (after_token {y = method_name} (kind_is f) h (follows x (turn x (after e refl z)))))))))))))
 follows (no_members e) z = z
 follows (cap_row e) z = after refl (cap_of-behind _ _ _ e) z
 follows (plain_type e) z = after refl (plain_type_of-behind _ _ _ e) z
 follows (ref_type x e) z = after_token {y = name} (kind_is e) refl (follows x (turn x z))
 follows (first_param e h i x y) z = follows y (turn y (follows x (turn x (after i refl (after_token {y = param_name} (kind_is e) h z)))))
 follows (no_params e) z = z
-follows (next_param e f h i x y) z = follows y (turn y (follows x (turn x (after i refl (after_token {y = param_name} (kind_is f) h (after e refl z))))))
+follows (next_param e f h i x y) z =
+    follows y (turn y (follows x (turn x (after i refl (after_token {y = param_name} (kind_is f) h (after e refl z))))))
 follows (no_more_params e) z = z
 follows (some_result e x) z = follows x (turn x (after e refl z))
 follows (no_result e) z = z
@@ -119,13 +130,15 @@ follows (manager_row e) z = after refl (manager_of-behind _ _ _ e) z
 follows (block_row e h x f) z = after f refl (follows x (turn x (after e h z)))
 follows (no_stmts e) z = z
 follows (more_stmts e x y) z = follows y (turn y (follows x (turn x z)))
-follows (let_row e f h i x j y l) z = after l refl (follows y (turn y (after j refl (follows x (turn x (after i refl (after_token {y = local_name} (kind_is f) h (after e refl z))))))))
+follows (let_row e f h i x j y l) z =
+    after l refl (follows y (turn y (after j refl (follows x (turn x (after i refl (after_token {y = local_name} (kind_is f) h (after e refl z))))))))
 follows (assign_row x e y f) z = after f refl (follows y (turn y (after e refl (follows x (turn x z)))))
 follows (call_row x e) z = after e refl (follows x (turn x z))
 follows (swap_row e f h x i) z = after i refl (follows x (turn x (after h refl (after_token {y = name} (kind_is f) refl (after e refl z)))))
 follows (if_row e x y v) z = follows v (turn v (follows y (turn y (follows x (turn x (after e refl z))))))
 follows (while_row e x y) z = follows y (turn y (follows x (turn x (after e refl z))))
-follows (enter_row e x f h i y) z = follows y (turn y (after_token {y = local_name} (kind_is h) i (after f refl (follows x (turn x (after e refl z))))))
+follows (enter_row e x f h i y) z =
+    follows y (turn y (after_token {y = local_name} (kind_is h) i (after f refl (follows x (turn x (after e refl z))))))
 follows (print_row e x f) z = after f refl (follows x (turn x (after e refl z)))
 follows (collect_row e f) z = after f refl (after e refl z)
 follows (return_row e x f) z = after f refl (follows x (turn x (after e refl z)))

@@ -128,5 +128,7 @@ not_of_and = refl
 minus_of_product : expr_text (neg (binary Mul (neg (var (codes "a"))) (neg (neg (var (codes "b")))))) ≡ codes "-(-a * -(-b))"
 minus_of_product = refl
 
-or_of_ands : expr_text (binary And (binary Or (var (codes "a")) (var (codes "b"))) (binary Or (var (codes "b")) (binary And (var (codes "a")) (var (codes "c"))))) ≡ codes "(a or b) and (b or a and c)"
+or_of_ands : expr_text
+    (binary And (binary Or (var (codes "a")) (var (codes "b")))
+    (binary Or (var (codes "b")) (binary And (var (codes "a")) (var (codes "c"))))) ≡ codes "(a or b) and (b or a and c)"
 or_of_ands = refl

@@ -82,15 +82,18 @@ map-EachRow {R} f g rows h = go 0 rows (EachFrom-EachRow (λ k r. f r ≡ g r) r
     go n (r ∷ rows) h = let a = h 0 r refl in let b = go (suc n) rows (EachFrom-tail (λ k r. f r ≡ g r) n r rows h) in cc
 
 -- and of more rows
-pub map-Begins : {R T : Type 0} (f g : R → T) {rows all : List R} → Begins rows all → EachRow (λ k r. f r ≡ g r) rows → Begins (map f rows) (map g all)
-map-Begins f g {rows} {all} b h = record { more = map g b.more; is = rw b.is (map-append g rows b.more ∙ ap (λ w. w ++ map g b.more) (sym (map-EachRow f g rows h))) }
+pub map-Begins : {R T : Type 0} (f g : R → T) {rows all : List R} → Begins rows all → EachRow (λ k r. f r ≡ g r) rows
+    → Begins (map f rows) (map g all)
+map-Begins f g {rows} {all} b h =
+    record { more = map g b.more; is = rw b.is (map-append g rows b.more ∙ ap (λ w. w ++ map g b.more) (sym (map-EachRow f g rows h))) }
 
 -- the tree of one of them
 pub get_or-map : {R T : Type 0} (f : R → T) (rows : List R) (k : ℕ) (r : R) (d : T) → slice_get rows k ≡ Some r → get_or (map f rows) k d ≡ f r
 get_or-map f rows k r d e = get_or_from_slice_get (map f rows) k (f r) d (slice_get-map f rows k ∙ rw e refl)
 
 module _ {R T : Type 0} (none : T) (tree : (ℕ → T) → R → T) where
-  pub trees_from-append : (done : List T) (rows more : List R) → trees_from none tree done (rows ++ more) ≡ trees_from none tree (trees_from none tree done rows) more
+  pub trees_from-append : (done : List T) (rows more : List R)
+      → trees_from none tree done (rows ++ more) ≡ trees_from none tree (trees_from none tree done rows) more
   trees_from-append done [] more = refl
   trees_from-append done (r ∷ rows) more = trees_from-append (done ++ tree (λ k. get_or done k none) r ∷ []) rows more
 
@@ -121,11 +124,11 @@ module _ {R T : Type 0} (none : T) (tree : (ℕ → T) → R → T) where
       let z : n + 0 ≡ n = omega arith in
       let here : get_or all n none ≡ t = get_or-Begins b none n m ∙ get_or_at done t [] none n l in
       let same : t ≡ tree (λ j. get_or all j none) q =
-          local n q (λ j. get_or done j none) (λ j. get_or all j none) (EachFrom-head P n q rows h)
-          (λ j lj.
-              let inn : j < length (done ++ t ∷ []) = omega (arith, length-append done (t ∷ [])) in
-              let ind : j < length done = omega arith in
-              sym (get_or-Begins b none j inn ∙ get_or_append_left done (t ∷ []) none j ind)) in
+      local n q (λ j. get_or done j none) (λ j. get_or all j none) (EachFrom-head P n q rows h)
+      (λ j lj.
+      let inn : j < length (done ++ t ∷ []) = omega (arith, length-append done (t ∷ [])) in
+      let ind : j < length done = omega arith in
+      sym (get_or-Begins b none j inn ∙ get_or_append_left done (t ∷ []) none j ind)) in
       rw (z, ← same_Some q r e) (here ∙ same)
   trees_from-at P local done n (q ∷ rows) l h (suc k) r e =
       let t = tree (λ k. get_or done k none) q in

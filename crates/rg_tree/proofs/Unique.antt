@@ -120,12 +120,14 @@ opened_at : {source : List ℕ} {f : Form} {x : Given f} {o : Result Counts Code
 opened_at k l m n y = at m (ap opened (same_ok k l) ∙ n) y
 
 -- a reading behind a name of the body, which stands second behind another reading
-enter_at : {source : List ℕ} {f : Form} {x : Given f} {A : Type 0} {a b : A} {c d e i j : Counts} {t u v w : Token} {ts us vs : List Token} → Agree a b c d (t ∷ u ∷ ts) (v ∷ w ∷ us)
+enter_at : {source : List ℕ} {f : Form} {x : Given f} {A : Type 0} {a b : A} {c d e i j : Counts} {t u v w : Token} {ts us vs : List Token}
+    → Agree a b c d (t ∷ u ∷ ts) (v ∷ w ∷ us)
     → one_local c ≡ Ok e → one_local d ≡ Ok i → Reads source f i us x j vs → Reads source f e ts x j vs
 enter_at r m n y = on (record { tree = r.tree; counts = refl; rest = tail_of (tail_of r.rest) }) (at m (ap one_local r.counts ∙ n) y)
 
 -- a reading behind a method's name and the bracket that opens
-method_at : {source : List ℕ} {f : Form} {x : Given f} {A : Type 0} {a b : A} {c d e i j k l : Counts} {t u v w : Token} {ts us vs : List Token} → Agree a b c d (t ∷ u ∷ ts) (v ∷ w ∷ us)
+method_at : {source : List ℕ} {f : Form} {x : Given f} {A : Type 0} {a b : A} {c d e i j k l : Counts} {t u v w : Token} {ts us vs : List Token}
+    → Agree a b c d (t ∷ u ∷ ts) (v ∷ w ∷ us)
     → one_method c ≡ Ok e → one_method d ≡ Ok i → opened e ≡ Ok j → opened i ≡ Ok k → Reads source f k us x l vs → Reads source f j ts x l vs
 method_at r m n p q y = let s = ap one_method r.counts ∙ n
     in on (record { tree = r.tree; counts = refl; rest = tail_of (tail_of r.rest) }) (opened_at m s p q y)

@@ -1,14 +1,15 @@
--- The canonical text of a program: each statement, each field and each line that opens or closes a block on a line of its own,
--- indented by two blanks for each open block.
+-- The canonical text of a program (docs/language.md, "Canonical text"): each statement, each field and each line that
+-- opens or closes a block on a line of its own, indented by two blanks for each open block.
 use Rattle.std.specs.Prelude.{ℕ, suc, ◌+◌, ◌*◌, Bool, true, false, List, [], ◌∷◌, ◌++◌, Option, Some, None, codes, flat_map, nat_lt, replicate}
 use Rattle.std.specs.Fmt.{signed_decimal}
+use Rattle.rg_base.specs.Text.{bool_text}
 use Rattle.rg_tree.specs.declared.rows.BinOp.{BinOp}
 use Rattle.rg_tree.specs.declared.rows.BinOp.TheVariants.{Or, And, Eq, Ne, Lt, Le, Gt, Ge, Add, Sub, Mul, Div, Rem}
 use Rattle.rg_base.specs.declared.words.Cap.{Cap}
 use Rattle.rg_base.specs.declared.words.Cap.TheVariants.{Mut, Tmp, Paused, Imm, Iso}
 use Rattle.rg_base.specs.declared.words.Manager.{Manager}
 use Rattle.rg_base.specs.declared.words.Manager.TheVariants.{Arena, Count, Trace}
-use Rattle.rg_tree.specs.Tree.{Name, Path, Ty, int, bool, ref, Expr, number, boolean, nil, path, is_nil, neg, not, binary, Call, Right, value, new, new_tmp, new_iso, freeze, merge, read, more, result_of, Stmt, stmt, StmtKind, declare, assign, call, swap, branch, while, enter, print, collect, return, Else, no_else, otherwise, Block, empty, then, Param, Method, Member, field, method, Class, Tree}
+use Rattle.rg_tree.specs.Tree.{Name, Variable, Path, Ty, int, bool, ref, Expr, number, boolean, nil, path, is_nil, neg, not, binary, Call, Right, value, new, new_tmp, new_iso, freeze, merge, read, more, result_of, Stmt, stmt, StmtKind, declare, assign, call, swap, branch, while, enter, print, collect, return, Else, no_else, otherwise, Block, empty, then, Param, Method, Member, field, method, Class, Tree}
 
 -- an operator, with one blank on each side
 abbrev pub op_text : BinOp → List ℕ
@@ -90,18 +91,13 @@ level (not a) = 2
 level (binary op a b) = op_level op
 
 -- what begins a path
-abbrev pub base_text : Option Name → List ℕ
+abbrev pub base_text : Variable → List ℕ
 base_text None = codes "self"
 base_text (Some x) = x
 
 -- a path
 abbrev pub path_text : Path → List ℕ
 path_text q = base_text q.base ++ flat_map (λ f. codes "." ++ f) q.fields
-
--- a truth value
-abbrev pub bool_text : Bool → List ℕ
-bool_text true = codes "true"
-bool_text false = codes "false"
 
 -- a text in parentheses, where it can't stand bare
 abbrev pub in_parens : Bool → List ℕ → List ℕ

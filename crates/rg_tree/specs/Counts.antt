@@ -1,4 +1,4 @@
--- What the limits count on the way, and where.
+-- What the limits count on the way, and where (docs/language.md, "Limits").
 use Rattle.std.specs.Prelude.{◌+◌, ◌-◌, nat_lt, Bool, true, false, Result, Ok, Err}
 use Rattle.rg_base.specs.declared.words.Keyword.TheVariants as w
 use Rattle.rg_base.specs.declared.words.Sign.TheVariants as s

@@ -1,5 +1,5 @@
--- The grammar within the limits, with one rule for each row of the table, in its order. A row without a next token holds where
--- the table says so.
+-- The grammar within the limits (docs/language.md, "Grammar" and "Limits"), with one rule for each row of the table, in its order.
+-- A row without a next token holds where the table says so.
 use Rattle.std.specs.Prelude.{ℕ, ◌≡◌, ◌-◌, true, false, List, [], ◌∷◌, ◌++◌, take, drop, Option, Some, None, Ok}
 use Rattle.rg_tree.specs.declared.rows.BinOp.{BinOp}
 use Rattle.rg_tree.specs.declared.rows.BinOp.TheVariants.{Or, And}
@@ -9,7 +9,7 @@ use Rattle.rg_base.specs.declared.words.Keyword.TheVariants as w
 use Rattle.rg_base.specs.declared.words.Sign.TheVariants as s
 use Rattle.rg_base.specs.declared.token.Kind.TheVariants as k
 use Rattle.rg_base.specs.declared.token.Token.{Token}
-use Rattle.rg_tree.specs.Tree.{Name, Path, Ty, ref, Expr, neg, not, binary, path, is_nil, Call, Right, value, new, new_tmp, new_iso, freeze, merge, result_of, Stmt, stmt, declare, assign, call, swap, branch, while, enter, print, collect, return, Else, no_else, otherwise, Block, empty, then, Param, Member, field, method, Class, Tree}
+use Rattle.rg_tree.specs.Tree.{Name, Variable, Path, Ty, ref, Expr, neg, not, binary, path, is_nil, Call, Right, value, new, new_tmp, new_iso, freeze, merge, result_of, Stmt, stmt, declare, assign, call, swap, branch, while, enter, print, collect, return, Else, no_else, otherwise, Block, empty, then, Param, Member, field, method, Class, Tree}
 use Rattle.rg_tree.specs.Phrases.{the}
 use Rattle.rg_tree.specs.Phrases as p
 use Rattle.rg_tree.specs.Forms.{Form, Given}
@@ -58,7 +58,8 @@ module _ (source : List ℕ) where
         → v.kind ≡ k.Mark s.Semicolon → Reads form.Members e us ms f vs
         → Reads form.Members c (t ∷ u ∷ ts) (field (record { name = text source t; ty = y; line = t.line }) ∷ ms) f vs
     -- Members: def Cap NAME ( Params ) Result Block Members
-    method_row : {c d e f g h i j : Counts} {t u v x : Token} {ts us vs ws xs ys : List Token} {a : Cap} {ps : List Param} {o : Option Ty} {b : Block} {ms : List Member}
+    method_row : {c d e f g h i j : Counts} {t u v x : Token} {ts us vs ws xs ys : List Token}
+        {a : Cap} {ps : List Param} {o : Option Ty} {b : Block} {ms : List Member}
         → t.kind ≡ k.Word w.Def → Reads form.Cap (method_begins c) ts a d (u ∷ v ∷ us) → u.kind ≡ k.Name → one_method d ≡ Ok e
         → v.kind ≡ k.Mark s.OpenParen → opened e ≡ Ok f → Reads form.Params f us ps g (x ∷ vs) → x.kind ≡ k.Mark s.CloseParen
         → Reads form.Result (closed g) vs o h ws → Reads form.Block h ws b i xs → Reads form.Members i xs ms j ys
@@ -177,7 +178,7 @@ module _ (source : List ℕ) where
         → row p.Else (next ts) ≡ Some []
         → Reads form.Else c ts no_else c ts
     -- Path: NAME or self, Fields
-    path_row : {c d : Counts} {t : Token} {ts us : List Token} {b : Option Name} {fs : List Name}
+    path_row : {c d : Counts} {t : Token} {ts us : List Token} {b : Variable} {fs : List Name}
         → base_of t.kind (text source t) ≡ Some b → Reads form.Fields c ts fs d us
         → Reads form.Path c (t ∷ ts) (record { base = b; fields = fs }) d us
     -- Fields: . NAME Fields
@@ -225,12 +226,12 @@ module _ (source : List ℕ) where
         → t.kind ≡ k.Word w.Iso → u.kind ≡ k.Name → v.kind ≡ k.Word w.In → Reads form.Manager c ts m d us
         → Reads form.New c (t ∷ u ∷ v ∷ ts) (new_iso (text source u) m) d us
     -- Call: call CallBase . NAME CallRest
-    call_start : {c d e : Counts} {t u v : Token} {ts us vs : List Token} {b : Option Name} {a : Call}
+    call_start : {c d e : Counts} {t u v : Token} {ts us vs : List Token} {b : Variable} {a : Call}
         → t.kind ≡ k.Word w.Call → Reads form.CallBase c ts b d (u ∷ v ∷ us) → u.kind ≡ k.Mark s.Dot → v.kind ≡ k.Name
         → Reads (form.CallRest (record { base = b; fields = [] }) (text source v)) d us a e vs
         → Reads form.Call c (t ∷ ts) a e vs
     -- CallBase: NAME or self
-    call_base : {c : Counts} {t : Token} {ts : List Token} {b : Option Name}
+    call_base : {c : Counts} {t : Token} {ts : List Token} {b : Variable}
         → base_of t.kind (text source t) ≡ Some b
         → Reads form.CallBase c (t ∷ ts) b c ts
     -- CallRest: . NAME CallRest; the name before it is a field

@@ -10,7 +10,7 @@ use Rattle.rg_base.specs.declared.words.Manager.{Manager}
 use Rattle.rg_base.specs.declared.words.Manager.TheVariants.{Arena, Count, Trace}
 use Rattle.rg_base.specs.declared.token.Kind.{Kind}
 use Rattle.rg_base.specs.declared.token.Kind.TheVariants as k
-use Rattle.rg_tree.specs.Tree.{Name, Ty, int, bool, Expr, number, boolean, nil, Right, read, more}
+use Rattle.rg_tree.specs.Tree.{Name, Variable, Ty, int, bool, Expr, number, boolean, nil, Right, read, more}
 
 -- the capability that a word is
 abbrev pub cap_of : Kind → Option Cap
@@ -35,7 +35,7 @@ manager_of (k.Word w.Trace) = Some Trace
 manager_of _ = None
 
 -- what begins a path: a name's text, or self
-abbrev pub base_of : Kind → Name → Option (Option Name)
+abbrev pub base_of : Kind → Name → Option Variable
 base_of k.Name text = Some (Some text)
 base_of (k.Word w.SelfWord) text = Some None
 base_of _ text = None

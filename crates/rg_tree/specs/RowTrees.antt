@@ -1,5 +1,6 @@
--- The tree that the tables of a program stand for.
+-- The tree that the tables of a program stand for (docs/language.md, "The tree").
 use Rattle.std.specs.Prelude.{ℕ, List, [], ◌∷◌, ◌++◌, Option, Some, None, map, option_map, slice_index_or}
+use Rattle.rg_base.specs.declared.words.Manager.TheVariants.{Arena}
 use Rattle.rg_tree.specs.declared.rows.Span.{Span}
 use Rattle.rg_tree.specs.declared.rows.Path as row_path
 use Rattle.rg_tree.specs.declared.rows.ClassRow.{ClassRow}
@@ -172,6 +173,10 @@ class_of t r = record {
 -- the classes of the tables
 unfoldable pub classes_of : Tables → List Class
 classes_of t = map (class_of t) t.classes
+
+-- the program without classes, whose main is an empty arena block at line 1
+abbrev pub no_program : Tree
+no_program = record { classes = []; manager = Arena; body = empty; line = 1 }
 
 -- the program
 abbrev pub program_of : Tables → Tree

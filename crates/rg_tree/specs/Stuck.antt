@@ -1,4 +1,4 @@
--- Where a reading by the table stops, and with which code.
+-- Where a reading by the table stops, and with which code (docs/language.md, "Grammar" and "Limits").
 use Rattle.std.specs.Prelude.{ℕ, ◌≡◌, ◌≢◌, List, [], ◌∷◌, ◌++◌, Option, Some, None, Ok, Err}
 use Rattle.rg_base.specs.declared.token.Kind.{Kind}
 use Rattle.rg_base.specs.declared.token.Kind.TheVariants as k

@@ -1,5 +1,6 @@
--- The grammar as a predictive table: what a phrase stands for before a next token. Its rows stand in the table's order, one equation
--- for each token of a row; where a phrase has a row without a next token, that row holds for every token that no other row of it holds.
+-- The grammar as a predictive table (docs/language.md, "Grammar"): what a phrase stands for before a next token. Its rows stand in
+-- the table's order, one equation for each token of a row; where a phrase has a row without a next token, that row holds for every
+-- token that no other row of it holds.
 use Rattle.std.specs.Prelude.{List, [], ◌∷◌, Option, Some, None}
 use Rattle.rg_base.specs.declared.words.Keyword.TheVariants as w
 use Rattle.rg_base.specs.declared.words.Sign.TheVariants as s

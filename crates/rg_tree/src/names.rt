@@ -47,6 +47,7 @@ impl Names {
     pub fn add(&mut self, bytes: &[u8]) -> Result<u32, Memory>
         ensures names { OnOk result (self.new ≡ with_name self.old bytes.now) }
         ensures number { IfOk result (λ i. number_of self.new bytes.now ≡ Some i) }
+        ensures stored { IfOk result (λ i. slice_get self.new i ≡ Some bytes.now) }
         ensures known { IsSome (number_of self.old bytes.now) → IsOk result }
         ensures err { OnErr result (self.new ≡ self.old) }
     {
@@ -71,6 +72,7 @@ impl Names {
         requires new { number_of self.old bytes.now ≡ None }
         ensures names { OnOk result (self.new ≡ self.old ++ bytes.now ∷ []) }
         ensures number { IfOk result (λ i. number_of self.new bytes.now ≡ Some i) }
+        ensures stored { IfOk result (λ i. slice_get self.new i ≡ Some bytes.now) }
         ensures err { OnErr result (self.new ≡ self.old) }
     {
         let number = row_number(self.keys.len())?;

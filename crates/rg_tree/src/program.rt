@@ -11,8 +11,10 @@ use rg_base::Manager;
 use std::alloc::Global;
 use std::marker::Model;
 
-/// A program. Each name, statement, expression, parameter, member and class goes by a number, from 0.
-/// Contracts see its tables, and with `program_of` the tree that they stand for.
+/// A program. Each name, statement, expression, parameter, member and class goes by a number,
+/// from 0. Contracts see its tables, and with `program_of` the tree that they stand for.
+///
+/// A table with 4,294,967,295 rows is full: what would add to it answers as without memory.
 #[derive(Drop)]
 pub struct Program {
     names: Names,
@@ -42,10 +44,12 @@ impl Model for Program {
 
 impl Program {
     ghost use Rattle.rg_tree.specs.Tables.{at_first};
+    ghost use Rattle.rg_tree.specs.RowTrees.{program_of, no_program};
 
     /// The program without classes whose main is an empty arena block at line 1.
     pub fn new(alloc: Global) -> Program
-        ensures { result ≡ at_first }
+        ensures tables { result ≡ at_first }
+        ensures program { program_of result ≡ no_program }
     {
         Program {
             names: Names::new(alloc),

@@ -1,5 +1,5 @@
-//! The rows of the flat tables that hold a tree (docs/language.md, "The tree"). A name, a statement, an expression or another row goes
-//! by its number in its table.
+//! The rows of the flat tables that hold a tree (docs/language.md, "The tree"). A name, a statement,
+//! an expression or another row goes by its number in its table.
 
 use rg_base::{Cap, Manager};
 
@@ -23,7 +23,11 @@ pub struct ClassRow {
 #[derive(Clone, Copy, Debug, PartialEq, Eq)]
 pub enum MemberRow {
     /// `x: T;`
-    Field { name: u32, ty: TypeRow, line: u64 },
+    Field {
+        name: u32,
+        ty: TypeRow,
+        line: u64,
+    },
     /// `def mut m(a: T): R { .. }`
     Method {
         cap: Cap,
@@ -70,11 +74,17 @@ pub enum StmtKind {
         right: Right,
     },
     /// `x = r;` and `q.f = r;`
-    Set { path: Path, right: Right },
+    Set {
+        path: Path,
+        right: Right,
+    },
     /// `call q.m(a, b);`
     Call(CallRow),
     /// `swap y, q.f;`
-    Swap { name: u32, path: Path },
+    Swap {
+        name: u32,
+        path: Path,
+    },
     /// `if e { .. }` and `if e { .. } else { .. }`
     If {
         test: u32,
@@ -82,9 +92,16 @@ pub enum StmtKind {
         no: Option<Span>,
     },
     /// `while e { .. }`
-    While { test: u32, body: Span },
+    While {
+        test: u32,
+        body: Span,
+    },
     /// `enter q as z { .. }`
-    Enter { path: Path, name: u32, body: Span },
+    Enter {
+        path: Path,
+        name: u32,
+        body: Span,
+    },
     /// `print e;`
     Print(u32),
     /// `collect;`

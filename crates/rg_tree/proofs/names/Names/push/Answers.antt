@@ -1,7 +1,7 @@
 use Rattle.std.proofs.Common.{◌≡◌, ◌∙◌, refl, sym, ap, length, map, None, Some, rules}
 use Rattle.std.proofs.lemmas.List.{length-map}
 use Rattle.rg_tree.specs.Tables.{number_of}
-use Rattle.rg_tree.proofs.NameLemmas.{map-insert_new, number_of-new}
+use Rattle.rg_tree.proofs.NameLemmas.{map-insert_new, number_of-new, slice_get-number_of}
 use Rattle.rg_tree.proofs.names.Names.push.Goals as goal
 
 pub returns-clause-names : goal.returns-clause-names
@@ -15,5 +15,9 @@ returns-clause-names c =
 pub returns-clause-number : goal.returns-clause-number
 returns-clause-number c =
     let len : c.in_ok-number.number ≡ length c.args.self.now =
-        c.in_ok-number.ensures.number ∙ c.len.ensures.len ∙ sym (length-map c.self.inside.keys.keys (λ key. key.items)) ∙ ap length c.self.view_is in
-    ap (λ names. number_of names c.args.bytes.now) (returns-clause-names c) ∙ number_of-new c.args.self.now c.args.bytes.now c.requires.new ∙ ap Some (sym len)
+    c.in_ok-number.ensures.number ∙ c.len.ensures.len ∙ sym (length-map c.self.inside.keys.keys (λ key. key.items)) ∙ ap length c.self.view_is in
+    ap (λ names. number_of names c.args.bytes.now) (returns-clause-names c) ∙ number_of-new c.args.self.now c.args.bytes.now c.requires.new
+    ∙ ap Some (sym len)
+
+pub returns-clause-stored : goal.returns-clause-stored
+returns-clause-stored c = slice_get-number_of _ c.args.bytes.now c.in_ok-number.number (returns-clause-number c)
