@@ -13,3 +13,5 @@ pub mod NameLemmas
 pub mod TreesFrom
 pub mod Grows
 pub mod Programs
+pub mod Callers
+mod BuiltPrograms
