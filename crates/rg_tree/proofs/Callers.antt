@@ -1,7 +1,8 @@
 -- For crates above: what stays where a program grows, and what a span of numbers stands for.
 use Rattle.std.proofs.Common.{◌≡◌, ℕ, zero, suc, ◌<◌, ◌≤◌, max, List, [], ◌∷◌, ◌++◌, All, length, get_or, Some, IfSome, Option, None, sym, ◌∙◌, ⊎_elim, arith}
 use Rattle.std.proofs.lemmas.Bool.{cases_order}
-use Rattle.std.proofs.lemmas.List.Elements.{All-head, All-tail}
+use Rattle.std.proofs.lemmas.List.{length_push}
+use Rattle.std.proofs.lemmas.List.Elements.{All-nil, All-cons, All-head, All-tail}
 use Rattle.rg_tree.specs.declared.rows.Span.{Span}
 use Rattle.rg_tree.specs.Tables.{Tables, name_at, numbers_in, AreDistinct}
 use Rattle.rg_tree.specs.RowTrees.{exprs_of, expr_at, stmts_of, stmt_at, params_of, param_at, no_param, members_of, member_at, no_member, classes_of, no_stmt, block_of}
@@ -72,6 +73,17 @@ module _ {t u : Tables} (k : Keeps t u) where
 -- a span of numbers below n
 pub IsSpanBelow-Holds : {t : Tables} (s : Span) (ks : List ℕ) (n : ℕ) → Holds t s ks → All (λ k. k < n) ks → IsSpanBelow t n s
 IsSpanBelow-Holds s ks n h a = record { within = h.within; each = rw h.these_are a }
+
+-- a span of one number, and of none
+pub IsSpanBelow-one : {t : Tables} (s : Span) (k n : ℕ) → Holds t s (k ∷ []) → k < n → IsSpanBelow t n s
+IsSpanBelow-one s k n h l = IsSpanBelow-Holds s (k ∷ []) n h (All-cons (λ i. i < n) k [] l (All-nil (λ i. i < n)))
+
+pub IsSpanBelow-none : {t : Tables} (s : Span) (n : ℕ) → Holds t s [] → IsSpanBelow t n s
+IsSpanBelow-none s n h = IsSpanBelow-Holds s [] n h (All-nil (λ i. i < n))
+
+-- the number of the row that was put last
+pub below-push : {A : Type 0} (xs : List A) (x : A) (n : ℕ) → n ≡ length xs → n < length (xs ++ x ∷ [])
+below-push xs x n e = omega (arith, length_push xs x)
 
 -- two numbers of one name are equal
 pub name_at-injective : (t : Tables) → AreDistinct t.names → (i j : ℕ) → i < length t.names → j < length t.names → name_at t i ≡ name_at t j → i ≡ j

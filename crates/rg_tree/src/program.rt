@@ -2,6 +2,8 @@
 
 mod add;
 mod read;
+#[cfg(test)]
+mod tests;
 
 ghost use Rattle.std.specs.Prelude.{◌≡◌};
 
