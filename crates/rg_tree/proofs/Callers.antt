@@ -1,0 +1,108 @@
+-- For crates above: what stays where a program grows, and what a span of numbers stands for.
+use Rattle.std.proofs.Common.{◌≡◌, ℕ, zero, suc, ◌<◌, ◌≤◌, max, List, [], ◌∷◌, ◌++◌, All, length, get_or, Some, IfSome, Option, None, sym, ◌∙◌, ⊎_elim, arith}
+use Rattle.std.proofs.lemmas.Bool.{cases_order}
+use Rattle.std.proofs.lemmas.List.{length_push}
+use Rattle.std.proofs.lemmas.List.Elements.{All-nil, All-cons, All-head, All-tail}
+use Rattle.rg_tree.specs.declared.rows.Span.{Span}
+use Rattle.rg_tree.specs.Tables.{Tables, name_at, numbers_in, AreDistinct}
+use Rattle.rg_tree.specs.RowTrees.{exprs_of, expr_at, stmts_of, stmt_at, params_of, param_at, no_param, members_of, member_at, no_member, classes_of, no_stmt, block_of}
+use Rattle.rg_tree.specs.Tree.{nil}
+use Rattle.rg_tree.specs.RowsExist.{IsWithin, IsSpanBelow, IsBlockIn}
+use Rattle.rg_tree.specs.Keeps.{Begins, Keeps, Holds}
+use Rattle.rg_tree.proofs.TreesFrom.{Begins-same, Begins-trans, length-Begins, get_or-Begins}
+use Rattle.rg_tree.proofs.Grows.{IsAbove, AgreeBelow, numbers_in-grows, block_of-grows}
+use Rattle.rg_tree.proofs.Programs.{length-exprs_of, length-stmts_of, length-params_of, length-members_of}
+
+pub Keeps-same : (t : Tables) → Keeps t t
+Keeps-same t = record {
+  names = Begins-same t.names;
+  numbers = Begins-same t.numbers;
+  params = Begins-same (params_of t);
+  members = Begins-same (members_of t);
+  classes = Begins-same (classes_of t);
+  stmts = Begins-same (stmts_of t);
+  exprs = Begins-same (exprs_of t);
+}
+
+pub Keeps-trans : {t u v : Tables} → Keeps t u → Keeps u v → Keeps t v
+Keeps-trans a b = record {
+  names = Begins-trans a.names b.names;
+  numbers = Begins-trans a.numbers b.numbers;
+  params = Begins-trans a.params b.params;
+  members = Begins-trans a.members b.members;
+  classes = Begins-trans a.classes b.classes;
+  stmts = Begins-trans a.stmts b.stmts;
+  exprs = Begins-trans a.exprs b.exprs;
+}
+
+-- the lemmas of Grows apply: what existed exists, and paths, types, calls and right sides stand for the same
+pub IsAbove-Keeps : {t u : Tables} → Keeps t u → IsAbove t u
+IsAbove-Keeps {t} {u} k = record {
+  begins = k.names;
+  numbers = k.numbers;
+  names = length-Begins k.names;
+  listed = length-Begins k.numbers;
+  params = omega (arith, length-Begins k.params, length-params_of t, length-params_of u);
+  members = omega (arith, length-Begins k.members, length-members_of t, length-members_of u);
+  stmts = omega (arith, length-Begins k.stmts, length-stmts_of t, length-stmts_of u);
+  exprs = omega (arith, length-Begins k.exprs, length-exprs_of t, length-exprs_of u);
+}
+
+module _ {t u : Tables} (k : Keeps t u) where
+  pub expr_at-keeps : AgreeBelow (length t.exprs) (expr_at u) (expr_at t)
+  expr_at-keeps e l = get_or-Begins k.exprs nil e (omega (arith, length-exprs_of t))
+
+  pub stmt_at-keeps : AgreeBelow (length t.stmts) (stmt_at u) (stmt_at t)
+  stmt_at-keeps s l = get_or-Begins k.stmts no_stmt s (omega (arith, length-stmts_of t))
+
+  pub param_at-keeps : AgreeBelow (length t.params) (param_at u) (param_at t)
+  param_at-keeps n l = get_or-Begins k.params no_param n (omega (arith, length-params_of t))
+
+  pub member_at-keeps : AgreeBelow (length t.members) (member_at u) (member_at t)
+  member_at-keeps n l = get_or-Begins k.members no_member n (omega (arith, length-members_of t))
+
+  pub block_of-keeps : (s : Span) → IsBlockIn t s → block_of u s ≡ block_of t s
+  block_of-keeps s h = block_of-grows (IsAbove-Keeps k) stmt_at-keeps s h
+
+  pub Holds-keeps : (s : Span) (ks : List ℕ) → Holds t s ks → Holds u s ks
+  Holds-keeps s ks h = record {
+    within = record { ordered = h.within.ordered; ends = omega (arith, h.within.ends, length-Begins k.numbers) };
+    these_are = numbers_in-grows (IsAbove-Keeps k) s h.within ∙ h.these_are;
+  }
+
+-- a span of numbers below n
+pub IsSpanBelow-Holds : {t : Tables} (s : Span) (ks : List ℕ) (n : ℕ) → Holds t s ks → All (λ k. k < n) ks → IsSpanBelow t n s
+IsSpanBelow-Holds s ks n h a = record { within = h.within; each = rw h.these_are a }
+
+-- a span of one number, and of none
+pub IsSpanBelow-one : {t : Tables} (s : Span) (k n : ℕ) → Holds t s (k ∷ []) → k < n → IsSpanBelow t n s
+IsSpanBelow-one s k n h l = IsSpanBelow-Holds s (k ∷ []) n h (All-cons (λ i. i < n) k [] l (All-nil (λ i. i < n)))
+
+pub IsSpanBelow-none : {t : Tables} (s : Span) (n : ℕ) → Holds t s [] → IsSpanBelow t n s
+IsSpanBelow-none s n h = IsSpanBelow-Holds s [] n h (All-nil (λ i. i < n))
+
+-- the number of the row that was put last
+pub below-push : {A : Type 0} (xs : List A) (x : A) (n : ℕ) → n ≡ length xs → n < length (xs ++ x ∷ [])
+below-push xs x n e = omega (arith, length_push xs x)
+
+-- two numbers of one name are equal
+pub name_at-injective : (t : Tables) → AreDistinct t.names → (i j : ℕ) → i < length t.names → j < length t.names → name_at t i ≡ name_at t j → i ≡ j
+name_at-injective t d i j li lj e =
+    ⊎_elim (λ same. same)
+    (λ apart. ⊎_elim (λ l. absurd (d i j [] l lj e)) (λ l. absurd (d j i [] l li (sym e))) apart) (cases_order i j)
+
+-- Measures: a recursion over statements falls from a span to its numbers, and from a statement to its spans.
+
+-- the least number above all of these
+abbrev pub above : List ℕ → ℕ
+above [] = 0
+above (k ∷ ks) = max (suc k) (above ks)
+
+pub below-above : (ks : List ℕ) (i : ℕ) → i < length ks → get_or ks i 0 < above ks
+below-above [] i l = absurd (omega arith)
+below-above (k ∷ ks) zero l = omega arith
+below-above (k ∷ ks) (suc i) l = omega (arith, below-above ks i (omega arith))
+
+pub above-le : (n : ℕ) (ks : List ℕ) → All (λ k. k < n) ks → above ks ≤ n
+above-le n [] a = omega arith
+above-le n (k ∷ ks) a = omega (arith, All-head (λ k. k < n) k ks a, above-le n ks (All-tail (λ k. k < n) k ks a))

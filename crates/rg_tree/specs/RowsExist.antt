@@ -1,0 +1,128 @@
+-- Rows whose numbers name rows that exist.
+use Rattle.std.specs.Prelude.{ℕ, ◌≡◌, ◌^◌, ◌<◌, ◌≤◌, ⊤, List, length, All, Option, Some, IfSome, slice_get}
+use Rattle.rg_tree.specs.declared.rows.Span.{Span}
+use Rattle.rg_tree.specs.declared.rows.Path.{Path}
+use Rattle.rg_tree.specs.declared.rows.ClassRow.{ClassRow}
+use Rattle.rg_tree.specs.declared.rows.MemberRow.{MemberRow}
+use Rattle.rg_tree.specs.declared.rows.MemberRow.TheVariants.{Field, Method}
+use Rattle.rg_tree.specs.declared.rows.ParamRow.{ParamRow}
+use Rattle.rg_tree.specs.declared.rows.TypeRow.{TypeRow}
+use Rattle.rg_tree.specs.declared.rows.TypeRow.TheVariants as type_row
+use Rattle.rg_tree.specs.declared.rows.CallRow.{CallRow}
+use Rattle.rg_tree.specs.declared.rows.Right.{Right}
+use Rattle.rg_tree.specs.declared.rows.Right.TheVariants as right_row
+use Rattle.rg_tree.specs.declared.rows.StmtKind.{StmtKind}
+use Rattle.rg_tree.specs.declared.rows.StmtKind.TheVariants as kind_row
+use Rattle.rg_tree.specs.declared.rows.StmtRow.{StmtRow}
+use Rattle.rg_tree.specs.declared.rows.ExprRow.{ExprRow}
+use Rattle.rg_tree.specs.declared.rows.ExprRow.TheVariants as expr_row
+use Rattle.rg_tree.specs.Tables.{Tables, numbers_in, AreDistinct}
+
+-- the span lies in the table of numbers
+pub record IsWithin (t : Tables) (s : Span) : Type 0 where
+  pub ordered : s.from ≤ s.to
+  pub ends : s.to ≤ length t.numbers
+
+-- the span lies in the table of numbers, and each number in it is below n
+pub record IsSpanBelow (t : Tables) (n : ℕ) (s : Span) : Type 0 where
+  pub within : IsWithin t s
+  pub each : All (λ k. k < n) (numbers_in t s)
+
+-- the number names a name
+abbrev pub IsNameIn : Tables → ℕ → Type 0
+IsNameIn t n = n < length t.names
+
+-- the number names an expression
+abbrev pub IsExprNumber : Tables → ℕ → Type 0
+IsExprNumber t e = e < length t.exprs
+
+-- each number in the path names a name
+pub record IsPathIn (t : Tables) (p : Path) : Type 0 where
+  pub base : IfSome p.base (IsNameIn t)
+  pub fields : IsSpanBelow t (length t.names) p.fields
+
+-- the number in the type names a name
+abbrev pub IsTypeIn : Tables → TypeRow → Type 0
+IsTypeIn t type_row.Int = ⊤
+IsTypeIn t type_row.Bool = ⊤
+IsTypeIn t (type_row.Ref c n) = IsNameIn t n
+
+-- the numbers in the expression name names, and expressions below n
+abbrev pub IsExprIn : Tables → ℕ → ExprRow → Type 0
+IsExprIn t n (expr_row.Int z) = ⊤
+IsExprIn t n (expr_row.Bool b) = ⊤
+IsExprIn t n expr_row.Nil = ⊤
+IsExprIn t n (expr_row.Path p) = IsPathIn t p
+IsExprIn t n (expr_row.IsNil p) = IsPathIn t p
+IsExprIn t n (expr_row.Neg a) = a < n
+IsExprIn t n (expr_row.Not a) = a < n
+IsExprIn t n (expr_row.Binary op a b) = (a < n) × (b < n)
+
+-- the numbers in the call name names and expressions
+pub record IsCallIn (t : Tables) (c : CallRow) : Type 0 where
+  pub target : IsPathIn t c.path
+  pub method : IsNameIn t c.method
+  pub args : IsSpanBelow t (length t.exprs) c.args
+
+-- the numbers in the right side name names and expressions
+abbrev pub IsRightIn : Tables → Right → Type 0
+IsRightIn t (right_row.Expr e) = IsExprNumber t e
+IsRightIn t (right_row.New n) = IsNameIn t n
+IsRightIn t (right_row.NewTmp n) = IsNameIn t n
+IsRightIn t (right_row.NewIso n m) = IsNameIn t n
+IsRightIn t (right_row.Freeze n) = IsNameIn t n
+IsRightIn t (right_row.Merge n) = IsNameIn t n
+IsRightIn t right_row.Read = ⊤
+IsRightIn t right_row.More = ⊤
+IsRightIn t (right_row.Call c) = IsCallIn t c
+
+-- the numbers in what a statement says name names and expressions, and statements below n
+abbrev pub IsKindIn : Tables → ℕ → StmtKind → Type 0
+IsKindIn t n (kind_row.Let x y r) = IsNameIn t x × IsTypeIn t y × IsRightIn t r
+IsKindIn t n (kind_row.Set p r) = IsPathIn t p × IsRightIn t r
+IsKindIn t n (kind_row.Call c) = IsCallIn t c
+IsKindIn t n (kind_row.Swap x p) = IsNameIn t x × IsPathIn t p
+IsKindIn t n (kind_row.If e s o) = IsExprNumber t e × IsSpanBelow t n s × IfSome o (IsSpanBelow t n)
+IsKindIn t n (kind_row.While e s) = IsExprNumber t e × IsSpanBelow t n s
+IsKindIn t n (kind_row.Enter p x s) = IsPathIn t p × IsNameIn t x × IsSpanBelow t n s
+IsKindIn t n (kind_row.Print e) = IsExprNumber t e
+IsKindIn t n kind_row.Collect = ⊤
+IsKindIn t n (kind_row.Return e) = IsExprNumber t e
+
+-- the numbers in the statement name names and expressions, and statements below n
+abbrev pub IsStmtIn : Tables → ℕ → StmtRow → Type 0
+IsStmtIn t n r = IsKindIn t n r.kind
+
+-- each number in the span names a statement
+abbrev pub IsBlockIn : Tables → Span → Type 0
+IsBlockIn t s = IsSpanBelow t (length t.stmts) s
+
+-- the numbers in the parameter name names
+pub record IsParamIn (t : Tables) (r : ParamRow) : Type 0 where
+  pub name : IsNameIn t r.name
+  pub ty : IsTypeIn t r.ty
+
+-- the numbers in the member name names, parameters and statements
+abbrev pub IsMemberIn : Tables → MemberRow → Type 0
+IsMemberIn t (Field n y line) = IsNameIn t n × IsTypeIn t y
+IsMemberIn t (Method c n ps r b line) = IsNameIn t n × IsSpanBelow t (length t.params) ps × IfSome r (IsTypeIn t) × IsBlockIn t b
+
+-- the numbers in the class name a name and members
+pub record IsClassIn (t : Tables) (r : ClassRow) : Type 0 where
+  pub name : IsNameIn t r.name
+  pub members : IsSpanBelow t (length t.members) r.members
+
+-- P holds of each row and its number
+abbrev pub EachRow : {R : Type 0} → (ℕ → R → Type 0) → List R → Type 0
+EachRow {R} P rows = (k : ℕ) (r : R) → slice_get rows k ≡ Some r → P k r
+
+-- The tables are those of a program: each number names a row that exists, which comes before it in its own table.
+pub record AreRows (t : Tables) : Type 0 where
+  pub names : AreDistinct t.names
+  pub exprs : EachRow (IsExprIn t) t.exprs
+  pub stmts : EachRow (IsStmtIn t) t.stmts
+  pub params : EachRow (λ k r. IsParamIn t r) t.params
+  pub members : EachRow (λ k r. IsMemberIn t r) t.members
+  pub classes : EachRow (λ k r. IsClassIn t r) t.classes
+  pub body : IsBlockIn t t.body
+  pub counted : length t.classes < 2 ^ 32

@@ -1,0 +1,64 @@
+//! A program that is built by its rows, and read back.
+
+use super::Program;
+use crate::rows::{ClassRow, ExprRow, StmtKind, StmtRow};
+use rg_base::{Manager, Memory};
+use std::test::*;
+
+// tmp class A { }
+fn add_class_a(program: &mut Program) -> Result<u32, Memory> {
+    let name = program.add_name(b"A")?;
+    let members = program.add_order(&[])?;
+    program.add_class(ClassRow {
+        name,
+        is_tmp: true,
+        members,
+        line: 1,
+    })
+}
+
+// main trace { print -1; }
+fn set_printing_main(program: &mut Program) -> Result<(), Memory> {
+    let one = program.add_expr(ExprRow::Int(1))?;
+    let minus = program.add_expr(ExprRow::Neg(one))?;
+    let print = program.add_stmt(StmtRow {
+        line: 4,
+        kind: StmtKind::Print(minus),
+    })?;
+    let body = program.add_order(&[print])?;
+    program.set_main(Manager::Trace, body, 3);
+    Ok(())
+}
+
+#[test]
+fn a_program_is_read_back_by_its_rows(rt: HostRuntime) -> Result<(), Fail> {
+    let mut program = Program::new(rt.alloc());
+    assert_eq!(rt; program.add_name(b"x").ok(), Some(0));
+    assert_eq!(rt; add_class_a(&mut program).ok(), Some(0));
+    assert_eq!(rt; program.add_name(b"x").ok(), Some(0));
+    assert_eq!(rt; program.class_count(), 1);
+    let class = program.class(0);
+    assert_eq!(rt; (class.is_tmp, class.line), (true, 1));
+    assert_eq!(rt; program.name(class.name), b"A".as_slice());
+    assert_eq!(rt; program.order(class.members), [].as_slice());
+    Ok(())
+}
+
+#[test]
+fn main_is_read_back_by_its_rows(rt: HostRuntime) -> Result<(), Fail> {
+    let mut program = Program::new(rt.alloc());
+    assert_eq!(rt; program.main_manager(), Manager::Arena);
+    set_printing_main(&mut program)?;
+    assert_eq!(rt; program.main_manager(), Manager::Trace);
+    assert_eq!(rt; program.main_line(), 3);
+    let mut minus = None;
+    for s in program.order(program.main_body()) {
+        let row = program.stmt(*s);
+        assert_eq!(rt; row.line, 4);
+        if let StmtKind::Print(e) = row.kind {
+            minus = Some(program.expr(e));
+        }
+    }
+    assert_eq!(rt; minus, Some(ExprRow::Neg(0)));
+    Ok(())
+}
