@@ -210,14 +210,42 @@ exactly-given c source given s a (inr o) =
 exactly-cut : (s : Status) (P : Type 0) → is_answer s ≡ true → Exactly status.OutputFault s P
 exactly-cut s P a = ((λ e. let n : is_from_outside status.OutputFault ≡ false = ap is_from_outside e ∙ answer-inside s a in cc), (λ g. inr refl))
 
+-- what the top call answers behind the layers under it: the words' command, what was answered to its file, and
+-- that the notes were told that or an output fault
+pub record Answered (told : Option Told) (words : List (List ℕ)) (given answer : Status) (old new : Option (List ℕ)) (m : Kept) : Type 0 where
+  pub asked : Command
+  pub command_is : command words ≡ Some asked
+  pub settles : SettlesFile told asked given old new m
+  pub told_is : (answer ≡ given) ⊎ (answer ≡ status.OutputFault)
+
+-- the text of the answer
+pub answer-text : {told : Option Told} {words : List (List ℕ)} {given answer : Status} {old new : Option (List ℕ)} {m : Kept} → Answered told words given answer old new m
+    → OnTrue (is_answer answer) (ForSource told words (λ c source. Wrote c source answer old new))
+answer-text {told = told} {words = words} {given = given} {answer = answer} {old = old} {new = new} {m = m} a =
+    told-status (λ s. OnTrue (is_answer s) (ForSource told words (λ c source. Wrote c source s old new))) given answer
+    (file-text told words a.asked given old new m a.command_is a.settles) tt a.told_is
+
+-- the machine behind it
+pub answer-state : {told : Option Told} {words : List (List ℕ)} {given answer : Status} {old new : Option (List ℕ)} {m : Kept} → Answered told words given answer old new m
+    → OnTrue (is_run answer) (ForSource told words (λ c source. ShowsEnd c source m))
+answer-state {told = told} {words = words} {given = given} {answer = answer} {old = old} {new = new} {m = m} a =
+    told-status (λ s. OnTrue (is_run s) (ForSource told words (λ c source. ShowsEnd c source m))) given answer
+    (file-state told words a.asked given old new m a.command_is a.settles) tt a.told_is
+
+-- where it was cut off
+pub answer-cut : {told : Option Told} {words : List (List ℕ)} {given answer : Status} {old new : Option (List ℕ)} {m : Kept} → Answered told words given answer old new m
+    → OnTrue (is_cut_off answer) (Untouched m old new ⊎ ForSource told words (λ c source. CutOffAt c source m old new))
+answer-cut {told = told} {words = words} {given = given} {answer = answer} {old = old} {new = new} {m = m} a =
+    on-fact (is_cut_off answer) _ (file-cut told words a.asked given old new m a.command_is a.settles)
+
 -- each answer to a source comes exactly where it is expected
-pub file-exactly : (told : Option Told) (words : List (List ℕ)) (c : Command) (given answer s : Status) (old new : Option (List ℕ)) (m : Kept) → command words ≡ Some c
-    → SettlesFile told c given old new m → (answer ≡ given) ⊎ (answer ≡ status.OutputFault) → is_answer s ≡ true
-    → WhereTold told words (λ d source. Exactly answer s (ExpectsStatus d source s))
-file-exactly None words c given answer s old new m e h t a = tt
-file-exactly (Some told) words c given answer s old new m e h t a = λ d source g f.
-    told-status (λ x. Exactly x s (ExpectsStatus d source s)) given answer
-    (exactly-given d source given s a (file-status told words c d source given old new m e h g f)) (exactly-cut s (ExpectsStatus d source s) a) t
+pub answer-exactly : {told : Option Told} {words : List (List ℕ)} {given answer : Status} {old new : Option (List ℕ)} {m : Kept} → Answered told words given answer old new m
+    → (s : Status) → is_answer s ≡ true → WhereTold told words (λ c source. Exactly answer s (ExpectsStatus c source s))
+answer-exactly {told = None} a s i = tt
+answer-exactly {told = Some told} {words = words} {given = given} {answer = answer} {old = old} {new = new} {m = m} a s i = λ c source g f.
+    told-status (λ x. Exactly x s (ExpectsStatus c source s)) given answer
+    (exactly-given c source given s i (file-status told words a.asked c source given old new m a.command_is a.settles g f))
+    (exactly-cut s (ExpectsStatus c source s) i) a.told_is
 
 -- where nothing is cut off but for want of memory, the answer is the expected one
 expected-unless : (c : Command) (source : List ℕ) (s : Status) → ExpectsStatus c source s ⊎ (is_from_outside s ≡ true) → s ≢ status.SourceFault → s ≢ status.InputFault
@@ -235,37 +263,23 @@ expected-unless c source status.Memory (inr o) x y z = inr refl
 expected-unless c source status.Long (inr o) x y z = cc
 
 -- where no count rose, the answer is the expected one, or there was no memory
-pub file-complete : (told : Option Told) (words : List (List ℕ)) (c : Command) (given answer : Status) (old new : Option (List ℕ)) (m : Kept) → command words ≡ Some c
-    → SettlesFile told c given old new m → (answer ≡ given) ⊎ (answer ≡ status.OutputFault)
+pub answer-complete : {told : Option Told} {words : List (List ℕ)} {given answer : Status} {old new : Option (List ℕ)} {m : Kept} → Answered told words given answer old new m
     → (F O N : Type 0) → (answer ≡ status.SourceFault → F) → answer ≢ status.InputFault → (answer ≡ status.OutputFault → O ⊎ N)
-    → WhereTold told words (λ d source. ¬ F → ¬ O → ¬ N → ExpectsStatus d source answer ⊎ (answer ≡ status.Memory))
-file-complete None words c given answer old new m e h t F O N x y z = tt
-file-complete (Some told) words c given answer old new m e h (inr t) F O N x y z = λ d source g f nf no nn. elim (z t) [ inl o ↦ absurd (no o) | inr n ↦ absurd (nn n) ]
-file-complete (Some told) words c given answer old new m e h (inl t) F O N x y z = λ d source g f nf no nn.
-    let P : Status → Type 0 = λ s. ExpectsStatus d source s ⊎ (is_from_outside s ≡ true) in
-    expected-unless d source answer (subst P (sym t) (file-status told words c d source given old new m e h g f)) (λ i. nf (x i)) y
-    (λ i. elim (z i) [ inl o ↦ no o | inr n ↦ nn n ])
+    → WhereTold told words (λ c source. ¬ F → ¬ O → ¬ N → ExpectsStatus c source answer ⊎ (answer ≡ status.Memory))
+answer-complete {told = None} a F O N x y z = tt
+answer-complete {told = Some told} {words = words} {given = given} {answer = answer} {old = old} {new = new} {m = m} a F O N x y z = λ c source g f nf no nn.
+    let no_output_fault : answer ≢ status.OutputFault = λ i. elim (z i) [ inl o ↦ no o | inr n ↦ nn n ] in
+    elim a.told_is [
+      | inr t ↦ absurd (no_output_fault t)
+      | inl t ↦
+          let P : Status → Type 0 = λ s. ExpectsStatus c source s ⊎ (is_from_outside s ≡ true) in
+          expected-unless c source answer (subst P (sym t) (file-status told words a.asked c source given old new m a.command_is a.settles g f))
+          (λ i. nf (x i)) y no_output_fault
+    ]
 
 -- a source that was read isn't answered a fault of the file
 pub settles-read : (c : Command) (source : List ℕ) (s : Status) (old new : Option (List ℕ)) (m : Kept) → Settles c source s old new m → s ≢ status.SourceFault
 settles-read c source s old new m h e = let P : Status → Type 0 = λ x. Settles c source x old new m in subst P e h
-
--- the same three of the answer behind what the notes were told
-pub answer-text : (told : Option Told) (words : List (List ℕ)) (c : Command) (given answer : Status) (old new : Option (List ℕ)) (m : Kept) → command words ≡ Some c
-    → SettlesFile told c given old new m → (answer ≡ given) ⊎ (answer ≡ status.OutputFault)
-    → OnTrue (is_answer answer) (ForSource told words (λ d source. Wrote d source answer old new))
-answer-text told words c given answer old new m e h t =
-    told-status (λ s. OnTrue (is_answer s) (ForSource told words (λ d source. Wrote d source s old new))) given answer (file-text told words c given old new m e h) tt t
-
-pub answer-state : (told : Option Told) (words : List (List ℕ)) (c : Command) (given answer : Status) (old new : Option (List ℕ)) (m : Kept) → command words ≡ Some c
-    → SettlesFile told c given old new m → (answer ≡ given) ⊎ (answer ≡ status.OutputFault)
-    → OnTrue (is_run answer) (ForSource told words (λ d source. ShowsEnd d source m))
-answer-state told words c given answer old new m e h t =
-    told-status (λ s. OnTrue (is_run s) (ForSource told words (λ d source. ShowsEnd d source m))) given answer (file-state told words c given old new m e h) tt t
-
-pub answer-cut : (told : Option Told) (words : List (List ℕ)) (c : Command) (given answer : Status) (old new : Option (List ℕ)) (m : Kept) → command words ≡ Some c
-    → SettlesFile told c given old new m → OnTrue (is_cut_off answer) (Untouched m old new ⊎ ForSource told words (λ d source. CutOffAt d source m old new))
-answer-cut told words c given answer old new m e h = on-fact (is_cut_off answer) _ (file-cut told words c given old new m e h)
 
 -- an answer of another kind than an output fault is the one that was given
 pub given-source_fault : (given answer : Status) → (answer ≡ given) ⊎ (answer ≡ status.OutputFault) → answer ≡ status.SourceFault → given ≡ status.SourceFault
@@ -281,7 +295,10 @@ no-input told c s old new m (inr u) e = go s u.0 e
     go x source_fault e = cc
     go x memory e = cc
 
-pub answer-input : (told : Option Told) (c : Command) (given answer : Status) (old new : Option (List ℕ)) (m : Kept) → SettlesFile told c given old new m
-    → (answer ≡ given) ⊎ (answer ≡ status.OutputFault) → answer ≢ status.InputFault
-answer-input told c given answer old new m h (inl t) e = no-input told c given old new m h (sym t ∙ e)
-answer-input told c given answer old new m h (inr t) e = cc
+pub answer-input : {told : Option Told} {words : List (List ℕ)} {given answer : Status} {old new : Option (List ℕ)} {m : Kept} → Answered told words given answer old new m
+    → answer ≢ status.InputFault
+answer-input {told = told} {words = words} {given = given} {answer = answer} {old = old} {new = new} {m = m} a e =
+    elim a.told_is [ inl t ↦ no-input told a.asked given old new m a.settles (sym t ∙ e) | inr t ↦ absurd (apart (sym t ∙ e)) ]
+  where
+    apart : status.OutputFault ≢ status.InputFault
+    apart e = cc
