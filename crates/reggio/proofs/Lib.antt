@@ -1,3 +1,0 @@
-mod NumberLemmas
-mod RunLemmas
-mod AnswerLemmas

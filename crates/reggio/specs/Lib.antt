@@ -1,5 +1,0 @@
-pub mod Commands
-pub mod Statuses
-pub mod Expected
-pub mod Headline
-pub mod Settled

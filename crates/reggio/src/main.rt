@@ -1,16 +1,10 @@
-//! The program `reggio`: the words of the command line, the files of the system, and its standard streams.
+//! The program `reggio`: it hands the words of the command line, the files of the system and its standard
+//! streams to the top call, and ends with the number of the status.
 #![tactic(auto)]
-
-mod notes;
-mod status;
-#[cfg(test)]
-mod tests;
-mod top;
-mod words;
 
 use rg_io::{StdFiles, StdSink, StdSource};
 use rg_run::Machine;
-use status::Status;
+use rg_top::{Status, reggio, tell};
 use std::alloc::{AllocError, Global};
 use std::env;
 use std::io::ErrorKind;
@@ -54,11 +48,11 @@ fn main(rt: HostRuntime) -> ExitCode {
     let alloc = rt.alloc();
     let mut notes = StdSink::new(rt.stderr());
     let status = match arguments(&rt) {
-        Err(NoWords::NotText) => notes::tell(&mut notes, Status::Usage, 0),
-        Err(NoWords::Memory) => notes::tell(&mut notes, Status::Memory, 0),
+        Err(NoWords::NotText) => tell(&mut notes, Status::Usage, 0),
+        Err(NoWords::Memory) => tell(&mut notes, Status::Memory, 0),
         Ok(words) => match texts(alloc, words.as_slice()) {
-            Err(_) => notes::tell(&mut notes, Status::Memory, 0),
-            Ok(texts) => top::reggio(
+            Err(_) => tell(&mut notes, Status::Memory, 0),
+            Ok(texts) => reggio(
                 alloc,
                 texts.as_slice(),
                 &mut StdFiles::new(&rt),

@@ -10,9 +10,9 @@ use Rattle.rg_parse.specs.Spelling.{Spells}
 use Rattle.rg_parse.specs.Numbering.{Numbers, IsThin}
 use Rattle.rg_run.specs.Plain.{Ending, Running, Done, Trapped, plain}
 use Rattle.rg_run.specs.Runs.{output_after}
-use Rattle.reggio.specs.declared.status.Status.{Status}
-use Rattle.reggio.specs.declared.status.Status.TheVariants as status
-use Rattle.reggio.specs.Commands.{Command, run}
+use Rattle.rg_top.specs.declared.status.Status.{Status}
+use Rattle.rg_top.specs.declared.status.Status.TheVariants as status
+use Rattle.rg_top.specs.Commands.{Command, run}
 
 -- what a source can be
 pub data Meaning : Type 0 where

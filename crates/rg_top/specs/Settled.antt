@@ -9,11 +9,11 @@ use Rattle.rg_parse.specs.Tree.{Program}
 use Rattle.rg_run.specs.Plain.{plain}
 use Rattle.rg_run.specs.Machine.{Kept}
 use Rattle.rg_run.specs.Runs.{output_after, ShowsRan}
-use Rattle.reggio.specs.declared.status.Status.{Status}
-use Rattle.reggio.specs.declared.status.Status.TheVariants as status
-use Rattle.reggio.specs.Commands.{Command, file_of, steps_of}
-use Rattle.reggio.specs.Expected.{too_long, faulty, spelt, Means, status_of}
-use Rattle.reggio.specs.Headline.{Untouched, CutOffAt}
+use Rattle.rg_top.specs.declared.status.Status.{Status}
+use Rattle.rg_top.specs.declared.status.Status.TheVariants as status
+use Rattle.rg_top.specs.Commands.{Command, file_of, steps_of}
+use Rattle.rg_top.specs.Expected.{too_long, faulty, spelt, Means, status_of}
+use Rattle.rg_top.specs.Headline.{Untouched, CutOffAt}
 
 -- the status of a run
 abbrev pub status_of_ended : Ended → Status

@@ -7,14 +7,14 @@ use Rattle.rg_io.specs.Content.{Appends, AppendsPart}
 use Rattle.rg_io.specs.Files.{Told, HasLongFile, file_bytes}
 use Rattle.rg_parse.proofs.Writing.{Spells-same}
 use Rattle.rg_run.specs.Machine.{Kept, IsFresh}
-use Rattle.reggio.specs.declared.status.Status.{Status}
-use Rattle.reggio.specs.declared.status.Status.TheVariants as status
-use Rattle.reggio.specs.Commands.{Command, run, command, file_of, steps_of}
-use Rattle.reggio.specs.Statuses.{status_text, is_run, is_answer, is_cut_off, is_from_outside}
-use Rattle.reggio.specs.Expected.{Meaning, too_long, faulty, spelt, Means, Answer, expected, ExpectsStatus}
-use Rattle.reggio.specs.Headline.{ForSource, WhereTold, Exactly, Wrote, ShowsEnd, Untouched, CutOffAt, TookNotes}
-use Rattle.reggio.specs.Settled.{RanWhole, Settles, Unread, source_fault, memory, SettlesFile}
-use Rattle.reggio.proofs.RunLemmas.{stands-whole}
+use Rattle.rg_top.specs.declared.status.Status.{Status}
+use Rattle.rg_top.specs.declared.status.Status.TheVariants as status
+use Rattle.rg_top.specs.Commands.{Command, run, command, file_of, steps_of}
+use Rattle.rg_top.specs.Statuses.{status_text, is_run, is_answer, is_cut_off, is_from_outside}
+use Rattle.rg_top.specs.Expected.{Meaning, too_long, faulty, spelt, Means, Answer, expected, ExpectsStatus}
+use Rattle.rg_top.specs.Headline.{ForSource, WhereTold, Exactly, Wrote, ShowsEnd, Untouched, CutOffAt, TookNotes}
+use Rattle.rg_top.specs.Settled.{RanWhole, Settles, Unread, source_fault, memory, SettlesFile}
+use Rattle.rg_top.proofs.RunLemmas.{stands-whole}
 
 -- what is told after a fault of the output
 pub took-output_fault : (steps : ℕ) (old new : Option (List ℕ)) → AppendsPart old new (status_text 0 status.OutputFault) → TookNotes steps status.OutputFault old new

@@ -1,7 +1,7 @@
 use Rattle.std.proofs.Common.{refl, inr, ◌∙◌, ap, Err, []}
-use Rattle.reggio.specs.Settled.{source_fault, memory}
-use Rattle.reggio.proofs.AnswerLemmas.{long-settles, settles-read}
-use Rattle.reggio.proofs.top.run_file.Goals as goal
+use Rattle.rg_top.specs.Settled.{source_fault, memory}
+use Rattle.rg_top.proofs.AnswerLemmas.{long-settles, settles-read}
+use Rattle.rg_top.proofs.top.run_file.Goals as goal
 
 pub returns-in-Err-SourceFault-clause-settles : goal.returns-in-Err-SourceFault-clause-settles
 returns-in-Err-SourceFault-clause-settles g c = inr (source_fault, (c.requires, refl))

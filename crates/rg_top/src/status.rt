@@ -1,7 +1,7 @@
 //! How a call ends.
 
 ghost use Rattle.std.specs.Prelude.{◌≡◌};
-ghost use Rattle.reggio.specs.Statuses.{number_of};
+ghost use Rattle.rg_top.specs.Statuses.{number_of};
 
 use rg_base::{Fault, Trap};
 

@@ -1,6 +1,6 @@
 use Rattle.std.proofs.Common.{refl, arith}
-use Rattle.reggio.proofs.NumberLemmas.{value_up_to-past}
-use Rattle.reggio.proofs.words.value_within.Goals as goal
+use Rattle.rg_top.proofs.NumberLemmas.{value_up_to-past}
+use Rattle.rg_top.proofs.words.value_within.Goals as goal
 
 pub returns-then-value-most : goal.returns-then-value-most
 returns-then-value-most c =

@@ -3,8 +3,8 @@ use Rattle.std.specs.Prelude.{ℕ, Bool, true, false, List, [], ◌∷◌, ◌++
 use Rattle.rg_base.specs.declared.outcome.Trap.{Trap}
 use Rattle.rg_base.specs.declared.outcome.Trap.TheVariants as trap
 use Rattle.rg_base.specs.Diagnostics.{fault_text}
-use Rattle.reggio.specs.declared.status.Status.{Status}
-use Rattle.reggio.specs.declared.status.Status.TheVariants as status
+use Rattle.rg_top.specs.declared.status.Status.{Status}
+use Rattle.rg_top.specs.declared.status.Status.TheVariants as status
 
 -- the number that the process ends with
 abbrev pub number_of : Status → ℕ

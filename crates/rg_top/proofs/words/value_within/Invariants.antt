@@ -2,7 +2,7 @@ use Rattle.std.proofs.Common.{◌≡◌, ◌≤◌, true, drop}
 use Rattle.std.specs.List.{list_all}
 use Rattle.rg_base.specs.Pieces.{is_digit}
 use Rattle.rg_base.specs.Tokens.{value_onto, value_of}
-use Rattle.reggio.proofs.words.value_within.Given as goal
+use Rattle.rg_top.proofs.words.value_within.Given as goal
 
 abbrev pub invariant-loop-b : goal.invariant-loop-b
 invariant-loop-b l = record {

@@ -6,11 +6,11 @@ use Rattle.rg_parse.specs.Tree.{Program}
 use Rattle.rg_run.specs.Plain.{plain}
 use Rattle.rg_run.specs.Machine.{Kept, IsFresh}
 use Rattle.rg_run.specs.Runs.{StandsAfter, ShowsRan}
-use Rattle.reggio.specs.declared.status.Status.{Status}
-use Rattle.reggio.specs.declared.status.Status.TheVariants as status
-use Rattle.reggio.specs.Commands.{Command, command, file_of, steps_of}
-use Rattle.reggio.specs.Statuses.{status_text, is_from_outside}
-use Rattle.reggio.specs.Expected.{spelt, Means, Expects}
+use Rattle.rg_top.specs.declared.status.Status.{Status}
+use Rattle.rg_top.specs.declared.status.Status.TheVariants as status
+use Rattle.rg_top.specs.Commands.{Command, command, file_of, steps_of}
+use Rattle.rg_top.specs.Statuses.{status_text, is_from_outside}
+use Rattle.rg_top.specs.Expected.{spelt, Means, Expects}
 
 -- a fact on the command that the words give and on a source that its file has: the file's bytes, where files
 -- tell them, else some bytes

@@ -1,17 +1,17 @@
 //! Reads the words of the command line by hand; it takes no memory (docs/language.md, "The command line").
 
-ghost use Rattle.std.specs.Prelude.{◌≡◌, ◌<◌, ◌^◌, Some, None, true, MatchOption};
+ghost use Rattle.std.specs.Prelude.{◌≡◌, ◌<◌, ◌^◌, Some, None, true, MatchOption, is_some};
 ghost use Rattle.std.specs.List.{list_all};
 ghost use Rattle.rg_base.specs.Pieces.{is_digit};
-ghost use Rattle.reggio.specs.Commands.{command, texts, run, is_file, is_number, value_up_to, number_in, steps_in};
+ghost use Rattle.rg_top.specs.Commands.{command, texts, run, is_file, is_number, value_up_to, number_in, steps_in};
 
 use rg_base::{MOST_STEPS, USUAL_STEPS};
 
 /// `run FILE --steps N`
 #[derive(Clone, Copy)]
-pub struct Run<'a> {
-    pub file: &'a str,
-    pub steps: u64,
+pub(crate) struct Run<'a> {
+    pub(crate) file: &'a str,
+    pub(crate) steps: u64,
 }
 
 /// Whether a word can name a file.
@@ -90,8 +90,15 @@ fn steps(options: &[&str]) -> Option<u64>
     }
 }
 
+/// Whether the words give a command. They don't include the program's name.
+pub fn shape(words: &[&str]) -> bool
+    ensures { result ≡ is_some (command (texts words.now)) }
+{
+    command(words).is_some()
+}
+
 /// The command that the words give, if they give one. They don't include the program's name.
-pub fn command<'a>(words: &[&'a str]) -> Option<Run<'a>>
+pub(crate) fn command<'a>(words: &[&'a str]) -> Option<Run<'a>>
     ensures { MatchOption result (command (texts words.now) ≡ None)
         (λ c. command (texts words.now) ≡ Some (run c.file.now c.steps)) }
 {

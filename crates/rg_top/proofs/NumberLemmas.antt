@@ -3,7 +3,7 @@ use Rattle.std.proofs.Common.{◌≡◌, ℕ, ◌+◌, ◌-◌, ◌*◌, ◌<◌
 use Rattle.std.proofs.lemmas.List.{drop_more}
 use Rattle.std.proofs.lemmas.Bool.Decides.{nat_tests}
 use Rattle.rg_base.specs.Tokens.{value_onto, value_of}
-use Rattle.reggio.specs.Commands.{value_up_to}
+use Rattle.rg_top.specs.Commands.{value_up_to}
 
 -- digits behind a value don't make it smaller
 value_onto-above : (n : ℕ) (bs : List ℕ) → n ≤ value_onto n bs

@@ -1,10 +1,10 @@
 -- What the top call promises, from what the layers under it have answered.
 use Rattle.std.proofs.Common.{refl, inl, inr}
-use Rattle.reggio.specs.declared.status.Status.TheVariants as status
-use Rattle.reggio.specs.Commands.{run, texts}
-use Rattle.reggio.proofs.AnswerLemmas.{Answered, answer-text, answer-state, answer-cut, answer-exactly, answer-complete, answer-input, given-source_fault}
-use Rattle.reggio.proofs.top.reggio.Given.{Over}
-use Rattle.reggio.proofs.top.reggio.Goals as goal
+use Rattle.rg_top.specs.declared.status.Status.TheVariants as status
+use Rattle.rg_top.specs.Commands.{run, texts}
+use Rattle.rg_top.proofs.AnswerLemmas.{Answered, answer-text, answer-state, answer-cut, answer-exactly, answer-complete, answer-input, given-source_fault}
+use Rattle.rg_top.proofs.top.reggio.Given.{Over}
+use Rattle.rg_top.proofs.top.reggio.Goals as goal
 
 -- the answer behind the layers under it
 answered : (g : Over) (c : goal.After-tell-in-Some g) →

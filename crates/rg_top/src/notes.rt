@@ -4,8 +4,8 @@ ghost use Rattle.std.specs.Prelude.{◌≡◌, ◌+◌, ◌≤◌, ◌⊎◌, []
 ghost use Rattle.arrayvec.specs.ArrayVec.{array_vec_len};
 ghost use Rattle.rg_base.specs.Diagnostics.{code_text};
 ghost use Rattle.rg_io.specs.Content.{Rose, Appends, AppendsPart};
-ghost use Rattle.reggio.specs.Headline.{TookNotes};
-ghost use Rattle.reggio.specs.Statuses.{status_text, trap_text};
+ghost use Rattle.rg_top.specs.Headline.{TookNotes};
+ghost use Rattle.rg_top.specs.Statuses.{status_text, trap_text};
 
 use crate::status::Status;
 use arrayvec::ArrayVec;
@@ -128,7 +128,7 @@ fn tell_output_fault<R: Sink>(notes: &mut R) -> Status
 }
 
 /// Gives the text of a status to the notes and answers it; where that fails, the answer is OutputFault.
-pub(crate) fn tell<R: Sink>(notes: &mut R, status: Status, steps: u64) -> Status
+pub fn tell<R: Sink>(notes: &mut R, status: Status, steps: u64) -> Status
     ensures told { (result ≡ status) ⊎ (result ≡ Status.OutputFault) }
     ensures failed { result ≡ Status.OutputFault → (status ≡ Status.OutputFault) ⊎ Rose (R.faults notes.old) (R.faults notes.new) }
     ensures took { TookNotes steps result (R.taken notes.old) (R.taken notes.new) }

@@ -7,11 +7,11 @@ ghost use Rattle.rg_base.specs.declared.limits.TheConstants.{SOURCE_BYTES};
 ghost use Rattle.rg_base.specs.declared.outcome.Trap.{Trap};
 ghost use Rattle.rg_io.specs.Content.{Rose};
 ghost use Rattle.rg_run.specs.Machine.{IsFresh};
-ghost use Rattle.reggio.specs.Commands.{command, texts, run};
-ghost use Rattle.reggio.specs.Statuses.{is_run, is_answer, is_refusal, is_cut_off};
-ghost use Rattle.reggio.specs.Expected.{ExpectsStatus};
-ghost use Rattle.reggio.specs.Headline.{ForSource, WhereTold, Exactly, Wrote, ShowsEnd, Untouched, CutOffAt, TookNotes, steps_asked};
-ghost use Rattle.reggio.specs.Settled.{status_of_ended, Settles, SettlesFile};
+ghost use Rattle.rg_top.specs.Commands.{command, texts, run};
+ghost use Rattle.rg_top.specs.Statuses.{is_run, is_answer, is_refusal, is_cut_off};
+ghost use Rattle.rg_top.specs.Expected.{ExpectsStatus};
+ghost use Rattle.rg_top.specs.Headline.{ForSource, WhereTold, Exactly, Wrote, ShowsEnd, Untouched, CutOffAt, TookNotes, steps_asked};
+ghost use Rattle.rg_top.specs.Settled.{status_of_ended, Settles, SettlesFile};
 
 use crate::notes::tell;
 use crate::status::Status;

@@ -1,0 +1,8 @@
+main trace {
+  let answer: int = 42;
+  print answer;
+  print 7;
+  let other: int = 0;
+  print other;
+  print answer;
+}

@@ -1,0 +1,1 @@
+main arena { print 7; }

@@ -1,0 +1,5 @@
+pub mod Commands
+pub mod Statuses
+pub mod Expected
+pub mod Headline
+pub mod Settled

@@ -1,0 +1,14 @@
+//! The top call: from words, files and input to the output, the notes and the status (docs/promises.md).
+#![tactic(auto)]
+
+mod notes;
+mod status;
+#[cfg(test)]
+mod tests;
+mod top;
+mod words;
+
+pub use notes::tell;
+pub use status::Status;
+pub use top::reggio;
+pub use words::shape;
