@@ -1,6 +1,9 @@
 //! Tests of what no clause says: that calls go well with ample memory, and what the system does.
 
+ghost use Rattle.std.specs.Prelude.{◌<◌};
+
 use super::*;
+use rg_base::{ByteList, Memory};
 use std::alloc::{AllocError, Global};
 use std::io;
 use std::test::Fail;
@@ -14,6 +17,75 @@ fn some_bytes(alloc: Global, n: usize) -> Result<Vec<u8>, AllocError> {
     Ok(all)
 }
 
+// Takes a file of these bytes, while a call fails.
+fn take_it(
+    alloc: Global,
+    bytes: &[u8],
+    name: &str,
+    failing: u64,
+) -> Result<Result<ByteList, Taken>, Memory> {
+    let mut files = MemFiles::new(alloc);
+    files.add("a file", b"its older bytes")?;
+    files.add("a file", bytes)?;
+    files.add("another", b"its bytes")?;
+    files.fail_at(failing)?;
+    Ok(take_all(alloc, &mut files, name, 5000))
+}
+
+#[test]
+fn a_file_is_taken_whole_or_refused(rt: HostRuntime) -> Result<(), Fail> {
+    for (size, name, failing, why) in [
+        (0, "a file", 3, None),
+        (1, "a file", 4, None),
+        (4096, "a file", 4, None),
+        (4097, "a file", 5, None),
+        (5000, "a file", 9, None),
+        (5001, "a file", 9, Some(Taken::Long)),
+        (4097, "a file", 1, Some(Taken::SourceFault)),
+        (4097, "a file", 2, Some(Taken::SourceFault)),
+        (4097, "a file", 3, Some(Taken::SourceFault)),
+        (4097, "a file", 4, Some(Taken::SourceFault)),
+        (4097, "no file", 9, Some(Taken::SourceFault)),
+    ] {
+        let bytes = some_bytes(rt.alloc(), size)?;
+        match take_it(rt.alloc(), &bytes, name, failing)? {
+            Ok(taken) => assert_eq!(rt; (taken.bytes(), None), (bytes.as_slice(), why)),
+            Err(e) => assert_eq!(rt; Some(e), why, "{name} of size {size}, failing {failing}"),
+        }
+    }
+    Ok(())
+}
+
+// A sink that takes one byte at once, while a call fails.
+fn small_sink(alloc: Global, room: usize, failing: u64) -> Result<MemSink, Memory> {
+    let mut sink = MemSink::new(alloc);
+    sink.room(1)?;
+    sink.room(room)?;
+    sink.piece(1);
+    sink.fail_at(failing)?;
+    Ok(sink)
+}
+
+#[test]
+fn a_sink_takes_all_or_a_part(rt: HostRuntime) -> Result<(), Fail> {
+    for (room, failing, is_taken, part) in [
+        (2, 4, true, "abc"),
+        (1, 4, false, "ab"),
+        (2, 2, false, "a"),
+        (2, 1, false, ""),
+    ] {
+        let mut sink = small_sink(rt.alloc(), room, failing)?;
+        let is_whole = put_all(&mut sink, b"abc").is_ok();
+        assert_eq!(rt; is_whole, is_taken, "room {room}, failing {failing}");
+        assert_eq!(rt;
+            sink.taken(),
+            part.as_bytes(),
+            "room {room}, failing {failing}"
+        );
+    }
+    Ok(())
+}
+
 // What one call of a source gives.
 fn first_two<S: Source>(source: &mut S) -> Result<(usize, [u8; 2]), Failed> {
     let mut buf = [0u8; 2];
@@ -21,99 +93,28 @@ fn first_two<S: Source>(source: &mut S) -> Result<(usize, [u8; 2]), Failed> {
     Ok((n, buf))
 }
 
-#[test]
-fn a_file_is_taken_whole_up_to_its_limit(rt: HostRuntime) -> Result<(), Fail> {
-    for size in [0, 1, 4096, 4097, 5000, 5001] {
-        let file = some_bytes(rt.alloc(), size)?;
-        let mut files = MemFiles::new(rt.alloc());
-        files.add("a file", &file)?;
-        files.add("another", b"its bytes")?;
-        match take_all(rt.alloc(), &mut files, "a file", 5000) {
-            Ok(bytes) => assert_eq!(rt; bytes.bytes(), file.as_slice(), "at {size}"),
-            Err(why) => assert_eq!(rt; (size, why), (5001, Taken::Long)),
-        }
-    }
-    Ok(())
-}
-
-#[test]
-fn a_newer_file_of_a_name_replaces_the_older(rt: HostRuntime) -> Result<(), Fail> {
-    let mut files = MemFiles::new(rt.alloc());
-    files.add("a file", b"old")?;
-    files.add("a file", b"new")?;
-    let bytes = take_all(rt.alloc(), &mut files, "a file", 3)?;
-    assert_eq!(rt; bytes.bytes(), b"new".as_slice());
-    Ok(())
-}
-
-#[test]
-fn each_call_for_a_file_may_fail(rt: HostRuntime) -> Result<(), Fail> {
-    let file = some_bytes(rt.alloc(), 4097)?;
-    for (call, name, is_taken) in [
-        (1, "a file", false),
-        (2, "a file", false),
-        (3, "a file", false),
-        (4, "a file", false),
-        (5, "a file", true),
-        (5, "no file", false),
-    ] {
-        let mut files = MemFiles::new(rt.alloc());
-        files.add("a file", &file)?;
-        files.fail_at(call)?;
-        match take_all(rt.alloc(), &mut files, name, 5000) {
-            Ok(bytes) => assert_eq!(rt; (is_taken, bytes.bytes().len()), (true, 4097), "at {call}"),
-            Err(why) => assert_eq!(rt; (is_taken, why), (false, Taken::SourceFault), "at {call}"),
-        }
-    }
-    Ok(())
-}
-
-#[test]
-fn a_sink_takes_all_or_a_part(rt: HostRuntime) -> Result<(), Fail> {
-    for (room, failing, is_taken, taken) in [
-        (3, 4, true, "abc"),
-        (2, 4, false, "ab"),
-        (3, 2, false, "a"),
-        (3, 1, false, ""),
-    ] {
-        let mut sink = MemSink::new(rt.alloc());
-        sink.room(room)?;
-        sink.piece(1);
-        sink.fail_at(failing)?;
-        assert_eq!(rt;
-            put_all(&mut sink, b"abc").is_ok(),
-            is_taken,
-            "with room {room}"
-        );
-        assert_eq!(rt; sink.taken(), taken.as_bytes(), "with room {room}");
-    }
-    Ok(())
+// A source of `abc`, while a call fails.
+fn source_of_three(alloc: Global, piece: usize, failing: u64) -> Result<MemSource, Memory>
+    requires { 0 < piece }
+{
+    let mut source = MemSource::new(alloc);
+    source.add(b"a")?;
+    source.add(b"bc")?;
+    source.piece(piece);
+    source.fail_at(failing)?;
+    Ok(source)
 }
 
 #[test]
 fn a_source_gives_its_bytes_in_pieces(rt: HostRuntime) -> Result<(), Fail> {
-    for (piece, failing, first, second) in [
-        (2, 9, Ok((2, *b"ab")), Ok((1, *b"c\0"))),
-        (1, 9, Ok((1, *b"a\0")), Ok((1, *b"b\0"))),
-        (2, 1, Err(Failed), Ok((2, *b"ab"))),
-        (2, 2, Ok((2, *b"ab")), Err(Failed)),
-    ] {
-        let mut source = MemSource::new(rt.alloc());
-        source.add(b"a")?;
-        source.add(b"bc")?;
-        source.piece(piece);
-        source.fail_at(failing)?;
-        assert_eq!(rt;
-            first_two(&mut source),
-            first,
-            "piece {piece}, failing {failing}"
-        );
-        assert_eq!(rt;
-            first_two(&mut source),
-            second,
-            "piece {piece}, failing {failing}"
-        );
-    }
+    let mut source = source_of_three(rt.alloc(), 5, 2)?;
+    assert_eq!(rt; first_two(&mut source), Ok((2, *b"ab")));
+    assert_eq!(rt; first_two(&mut source), Err(Failed));
+    assert_eq!(rt; first_two(&mut source), Ok((1, *b"c\0")));
+    assert_eq!(rt; first_two(&mut source), Ok((0, *b"\0\0")));
+
+    let mut source = source_of_three(rt.alloc(), 1, 9)?;
+    assert_eq!(rt; first_two(&mut source), Ok((1, *b"a\0")));
     Ok(())
 }
 
