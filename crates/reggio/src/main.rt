@@ -1,5 +1,5 @@
-//! The program `reggio`: it hands the words of the command line, the files of the system and its standard
-//! streams to the top call, and ends with the number of the status.
+//! The program `reggio`: it hands the words of the command line, the files of the system and its
+//! standard streams to the top call, and ends with the number of the status.
 #![tactic(auto)]
 
 use rg_io::{StdFiles, StdSink, StdSource};

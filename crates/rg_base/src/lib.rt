@@ -1,4 +1,5 @@
-//! The plain types that all layers share, and the definitions of tokens and texts (docs/language.md).
+//! The plain types that all layers share, and the definitions of tokens and texts
+//! (docs/language.md).
 #![tactic(auto)]
 
 mod byte_list;

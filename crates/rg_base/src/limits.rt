@@ -24,7 +24,8 @@ pub const CLASS_METHODS: usize = 64;
 /// The most parameters of a method, `self` not counted.
 pub const PARAMETERS: usize = 16;
 
-/// The most names of one body: `self`, the parameters, and those of `let` and `enter`. A frame has no more slots.
+/// The most names of one body: `self`, the parameters, and those of `let` and `enter`. A frame has
+/// no more slots.
 pub const BODY_NAMES: usize = 256;
 
 /// The most signs of two operands, `and` and `or` from a statement's first token to the next one's.

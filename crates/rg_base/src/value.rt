@@ -6,7 +6,8 @@ use crate::fault::Memory;
 use std::alloc::Global;
 use std::marker::Model;
 
-/// What a variable or a field holds. An object goes by its serial, which counts all objects made, from 0.
+/// What a variable or a field holds. An object goes by its serial, which counts all objects made,
+/// from 0.
 #[derive(Clone, Copy, Debug, PartialEq, Eq)]
 pub enum Val {
     /// `nil`

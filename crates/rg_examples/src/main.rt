@@ -1,4 +1,5 @@
-//! Runs each program of examples/ by the top call, and says whether it writes what its file of output has.
+//! Runs each program of examples/ by the top call, and says whether it writes what its file of
+//! output has.
 #![tactic(auto)]
 
 use rg_io::{MemSink, MemSource, StdFiles, take_all};
@@ -13,7 +14,8 @@ const EXAMPLES: [(&str, &str); 2] = [("seven.rg", "seven.out"), ("names.rg", "na
 /// The most bytes of an output.
 const MOST: usize = 1_048_576;
 
-/// Whether a program writes that output and gives nothing to the notes; None where no memory was found.
+/// Whether a program writes that output and gives nothing to the notes; None where no memory was
+/// found.
 fn writes(rt: &(impl Files + AllocGlobal), program: &str, output: &str) -> Option<bool> {
     let alloc = rt.alloc();
     let mut files = StdFiles::new(rt);

@@ -15,9 +15,11 @@ value_up_to-large : (digits : List ℕ) (most : ℕ) → most < value_of digits 
 value_up_to-large digits most h = let t : nat_le (value_of digits) most ≡ false = grind (arith, nat_tests) in rw t refl
 
 -- where the digits so far are past the limit, all of them are
-pub value_up_to-past : (ds : List ℕ) (k v w most : ℕ) → k < length ds → value_onto v (drop k ds) ≡ value_of ds → w ≡ v * 10 + (get_or ds k 0 - 48) → most < w
+pub value_up_to-past : (ds : List ℕ) (k v w most : ℕ) → k < length ds → value_onto v (drop k ds) ≡ value_of ds
+    → w ≡ v * 10 + (get_or ds k 0 - 48) → most < w
     → None ≡ value_up_to ds most
 value_up_to-past ds k v w most l same e more =
     let step : value_onto v (drop k ds) ≡ value_onto (v * 10 + (get_or ds k 0 - 48)) (drop (k + 1) ds) = ap (value_onto v) (drop_more ds k 0 l) in
-    let up : v * 10 + (get_or ds k 0 - 48) ≤ value_onto (v * 10 + (get_or ds k 0 - 48)) (drop (k + 1) ds) = value_onto-above (v * 10 + (get_or ds k 0 - 48)) (drop (k + 1) ds) in
+    let up : v * 10 + (get_or ds k 0 - 48) ≤
+    value_onto (v * 10 + (get_or ds k 0 - 48)) (drop (k + 1) ds) = value_onto-above (v * 10 + (get_or ds k 0 - 48)) (drop (k + 1) ds) in
     value_up_to-large ds most (omega arith)

@@ -77,7 +77,8 @@ wrote-all before whole old new g h =
     (text g.0, record { rest = []; whole_is = ap text e ∙ sym (append-nil (text g.0)) }, apart)
 
 -- a machine that shows the end of a run, and has written all its text, stands at a whole step of it
-pub stands-whole : (p : Program) (n : ℕ) (m : Kept) (old new : Option (List ℕ)) → ShowsRan p m (plain p n) → Appends old new (text (output_after p n))
+pub stands-whole : (p : Program) (n : ℕ) (m : Kept) (old new : Option (List ℕ)) → ShowsRan p m (plain p n)
+    → Appends old new (text (output_after p n))
     → StandsAfter p n m.steps m old new
 stands-whole p n m old new shown wrote =
     let r = run-of n 0 (opening p) in
@@ -90,5 +91,7 @@ stands-whole p n m old new shown wrote =
       within = omega (arith, r.1.within);
       steps = rw k (ap (λ (x : Ran). x.steps) r.1.same ∙ r.1.steps ∙ omega arith);
       shows = subst P (sym here) shown.shows;
-      wrote = rw k (wrote-all (output_after p (r.0 - 1)) (output_after p r.0) old new (before-goes_on p r.0) (subst Q (sym (ap (λ (s : State). s.output) state)) wrote));
+      wrote =
+          rw k (wrote-all (output_after p (r.0 - 1)) (output_after p r.0) old new (before-goes_on p r.0)
+          (subst Q (sym (ap (λ (s : State). s.output) state)) wrote));
     }

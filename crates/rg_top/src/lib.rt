@@ -1,4 +1,5 @@
-//! The top call: from words, files and input to the output, the notes and the status (docs/promises.md).
+//! The top call: from words, files and input to the output, the notes and the status
+//! (docs/promises.md).
 #![tactic(auto)]
 
 mod notes;

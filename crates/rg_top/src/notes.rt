@@ -1,4 +1,5 @@
-//! The texts of the statuses, given to the notes (docs/language.md, "Statuses"). Nothing here takes memory.
+//! The texts of the statuses, given to the notes (docs/language.md, "Statuses"). Nothing here takes
+//! memory.
 
 ghost use Rattle.std.specs.Prelude.{◌≡◌, ◌+◌, ◌≤◌, ◌⊎◌, [], ◌∷◌, ◌++◌, length, decimal, OnOk, OnErr};
 ghost use Rattle.arrayvec.specs.ArrayVec.{array_vec_len};
@@ -87,9 +88,11 @@ fn numbered_line(front: &[u8], middle: &[u8], number: u64) -> ArrayVec<u8, 96>
 
 /// Gives the text of a status to the notes.
 fn put_text<R: Sink>(notes: &mut R, status: Status, steps: u64) -> Result<(), Failed>
-    ensures ok { OnOk result (Appends (R.taken notes.old) (R.taken notes.new) (status_text steps status)) }
+    ensures ok { OnOk result
+        (Appends (R.taken notes.old) (R.taken notes.new) (status_text steps status)) }
     ensures failed { OnErr result (Rose (R.faults notes.old) (R.faults notes.new)) }
-    ensures part { OnErr result (AppendsPart (R.taken notes.old) (R.taken notes.new) (status_text steps status)) }
+    ensures part { OnErr result
+        (AppendsPart (R.taken notes.old) (R.taken notes.new) (status_text steps status)) }
     ensures never_falls { R.faults notes.old ≤ R.faults notes.new }
 {
     match status {
@@ -127,10 +130,12 @@ fn tell_output_fault<R: Sink>(notes: &mut R) -> Status
     }
 }
 
-/// Gives the text of a status to the notes and answers it; where that fails, the answer is OutputFault.
+/// Gives the text of a status to the notes and answers it; where that fails, the answer is
+/// OutputFault. `steps` is the number of steps that were asked for.
 pub fn tell<R: Sink>(notes: &mut R, status: Status, steps: u64) -> Status
     ensures told { (result ≡ status) ⊎ (result ≡ Status.OutputFault) }
-    ensures failed { result ≡ Status.OutputFault → (status ≡ Status.OutputFault) ⊎ Rose (R.faults notes.old) (R.faults notes.new) }
+    ensures failed { result ≡ Status.OutputFault →
+        (status ≡ Status.OutputFault) ⊎ Rose (R.faults notes.old) (R.faults notes.new) }
     ensures took { TookNotes steps result (R.taken notes.old) (R.taken notes.new) }
     ensures never_falls { R.faults notes.old ≤ R.faults notes.new }
 {

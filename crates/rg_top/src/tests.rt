@@ -192,7 +192,7 @@ fn other_words_are_a_usage(rt: HostRuntime) -> Result<(), Fail> {
 #[test]
 fn files_and_sinks_that_fail_are_named(rt: HostRuntime) -> Result<(), Fail> {
     let two: &[u8] = b"main arena { print 41; print 1; }";
-    // The file's name, the calls of files, output and notes that fail (0: none), and the output's room.
+    // The file's name, the calls of files, output and notes that fail (0: none), the output's room.
     let rows = [
         ("b", 0, 0, 0, 9, "", "source fault\n", Status::SourceFault),
         ("a", 1, 0, 0, 9, "", "source fault\n", Status::SourceFault),

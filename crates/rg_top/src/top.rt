@@ -1,4 +1,5 @@
-//! The top call: from words, files and input to the output, the notes and the status (docs/promises.md).
+//! The top call: from words, files and input to the output, the notes and the status
+//! (docs/promises.md).
 
 ghost use Rattle.std.specs.Prelude.{◌≡◌, ◌≢◌, ◌≤◌, ◌⊎◌, ℕ, List, length, None};
 ghost use Rattle.std.specs.Bool.{OnTrue};
@@ -46,8 +47,10 @@ fn run_source<O: Sink>(
 ) -> Status
     requires fresh { IsFresh machine.old }
     requires fits { length source.now ≤ SOURCE_BYTES }
-    ensures settles { (file : List ℕ) → Settles (run file steps) source.now result (O.taken out.old) (O.taken out.new) machine.new }
-    ensures output_fault { result ≡ Status.OutputFault → Rose (O.faults out.old) (O.faults out.new) }
+    ensures settles { (file : List ℕ) → Settles (run file steps) source.now result
+        (O.taken out.old) (O.taken out.new) machine.new }
+    ensures output_fault { result ≡ Status.OutputFault →
+        Rose (O.faults out.old) (O.faults out.new) }
     ensures never_falls { O.faults out.old ≤ O.faults out.new }
 {
     match thin(alloc, source) {
@@ -66,10 +69,12 @@ fn run_file<F: Files, O: Sink>(
     machine: &mut Machine,
 ) -> Status
     requires { IsFresh machine.old }
-    ensures settles { SettlesFile (F.told files.old) (run command.now.file.now command.now.steps) result
-        (O.taken out.old) (O.taken out.new) machine.new }
-    ensures source_fault { result ≡ Status.SourceFault → Rose (F.faults files.old) (F.faults files.new) }
-    ensures output_fault { result ≡ Status.OutputFault → Rose (O.faults out.old) (O.faults out.new) }
+    ensures settles { SettlesFile (F.told files.old) (run command.now.file.now command.now.steps)
+        result (O.taken out.old) (O.taken out.new) machine.new }
+    ensures source_fault { result ≡ Status.SourceFault →
+        Rose (F.faults files.old) (F.faults files.new) }
+    ensures output_fault { result ≡ Status.OutputFault →
+        Rose (O.faults out.old) (O.faults out.new) }
     ensures files_never_fall { F.faults files.old ≤ F.faults files.new }
     ensures never_falls { O.faults out.old ≤ O.faults out.new }
 {
@@ -81,8 +86,8 @@ fn run_file<F: Files, O: Sink>(
     }
 }
 
-/// Does what the words say: reads the file that they name, runs it for as many steps as they say, gives the
-/// output to `out` and the text of the status to `notes`, and answers the status.
+/// Does what the words say: reads the file that they name, runs it for as many steps as they say,
+/// gives the output to `out` and the text of the status to `notes`, and answers the status.
 pub fn reggio<F: Files, I: Source, O: Sink, R: Sink>(
     alloc: Global,
     words: &[&str],
@@ -99,8 +104,10 @@ pub fn reggio<F: Files, I: Source, O: Sink, R: Sink>(
         (λ c source. Wrote c source result (O.taken out.old) (O.taken out.new))) }
     ensures state { OnTrue (is_run result) (ForSource (F.told files.old) (texts words.now)
         (λ c source. ShowsEnd c source machine.new)) }
-    ensures untouched { OnTrue (is_refusal result) (Untouched machine.new (O.taken out.old) (O.taken out.new)) }
-    ensures cut_off { OnTrue (is_cut_off result) (Untouched machine.new (O.taken out.old) (O.taken out.new)
+    ensures untouched { OnTrue (is_refusal result)
+        (Untouched machine.new (O.taken out.old) (O.taken out.new)) }
+    ensures cut_off { OnTrue (is_cut_off result)
+        (Untouched machine.new (O.taken out.old) (O.taken out.new)
         ⊎ ForSource (F.told files.old) (texts words.now)
         (λ c source. CutOffAt c source machine.new (O.taken out.old) (O.taken out.new))) }
     ensures notes { TookNotes (steps_asked (command (texts words.now))) result
@@ -113,10 +120,12 @@ pub fn reggio<F: Files, I: Source, O: Sink, R: Sink>(
         (λ c source. Exactly result (Status.Refused f) (ExpectsStatus c source (Status.Refused f))) }
     ensures usage { Exactly result Status.Usage (command (texts words.now) ≡ None) }
     ensures trap { (kind : Trap) (line : ℕ) → WhereTold (F.told files.old) (texts words.now)
-        (λ c source. Exactly result (Status.Trap kind line) (ExpectsStatus c source (Status.Trap kind line))) }
+        (λ c source. Exactly result (Status.Trap kind line)
+        (ExpectsStatus c source (Status.Trap kind line))) }
     ensures spent { WhereTold (F.told files.old) (texts words.now)
         (λ c source. Exactly result Status.Spent (ExpectsStatus c source Status.Spent)) }
-    ensures source_fault { result ≡ Status.SourceFault → Rose (F.faults files.old) (F.faults files.new) }
+    ensures source_fault { result ≡ Status.SourceFault →
+        Rose (F.faults files.old) (F.faults files.new) }
     ensures input_unread { input.new ≡ input.old }
     ensures no_input_fault { result ≢ Status.InputFault }
     ensures output_fault { result ≡ Status.OutputFault →
@@ -124,10 +133,13 @@ pub fn reggio<F: Files, I: Source, O: Sink, R: Sink>(
     ensures long { WhereTold (F.told files.old) (texts words.now)
         (λ c source. Exactly result Status.Long (ExpectsStatus c source Status.Long)) }
 
-    // A command whose file is there is answered, unless a count of faults rose or no memory was found.
+    // A command whose file is there is answered, unless a count of faults rose or no memory was
+    // found.
     ensures complete { WhereTold (F.told files.old) (texts words.now) (λ c source.
-        ¬ Rose (F.faults files.old) (F.faults files.new) → ¬ Rose (O.faults out.old) (O.faults out.new) →
-        ¬ Rose (R.faults notes.old) (R.faults notes.new) → ExpectsStatus c source result ⊎ (result ≡ Status.Memory)) }
+        ¬ Rose (F.faults files.old) (F.faults files.new) →
+        ¬ Rose (O.faults out.old) (O.faults out.new) →
+        ¬ Rose (R.faults notes.old) (R.faults notes.new) →
+        ExpectsStatus c source result ⊎ (result ≡ Status.Memory)) }
     ensures files_never_fall { F.faults files.old ≤ F.faults files.new }
     ensures out_never_falls { O.faults out.old ≤ O.faults out.new }
     ensures notes_never_fall { R.faults notes.old ≤ R.faults notes.new }

@@ -1,4 +1,5 @@
-//! Reads the words of the command line by hand; it takes no memory (docs/language.md, "The command line").
+//! Reads the words of the command line by hand; it takes no memory (docs/language.md, "The command
+//! line").
 
 ghost use Rattle.std.specs.Prelude.{◌≡◌, ◌<◌, ◌^◌, Some, None, true, MatchOption, is_some};
 ghost use Rattle.std.specs.List.{list_all};

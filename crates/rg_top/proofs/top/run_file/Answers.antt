@@ -7,7 +7,8 @@ pub returns-in-Err-SourceFault-clause-settles : goal.returns-in-Err-SourceFault-
 returns-in-Err-SourceFault-clause-settles g c = inr (source_fault, (c.requires, refl))
 
 pub returns-in-Err-Long-clause-settles : goal.returns-in-Err-Long-clause-settles
-returns-in-Err-Long-clause-settles g c = long-settles _ _ _ _ (c.take_all.ensures.long (c.in-Err-Long.is ∙ ap Err c.in-Err-Long.field-0-is)) c.requires
+returns-in-Err-Long-clause-settles g c =
+    long-settles _ _ _ _ (c.take_all.ensures.long (c.in-Err-Long.is ∙ ap Err c.in-Err-Long.field-0-is)) c.requires
 
 pub returns-in-Err-Memory-clause-settles : goal.returns-in-Err-Memory-clause-settles
 returns-in-Err-Memory-clause-settles g c = inr (memory, (c.requires, refl))

@@ -4,4 +4,5 @@ use Rattle.rg_top.proofs.words.value_within.Goals as goal
 
 pub returns-then-value-most : goal.returns-then-value-most
 returns-then-value-most c =
-    value_up_to-past c.args.digits.now c.loop-b.b-index c.loop-b.value _ c.args.most c.loop-b-test.true c.loop-b.invariant.same refl (omega (arith, c.from.ensures))
+    value_up_to-past c.args.digits.now c.loop-b.b-index c.loop-b.value _ c.args.most c.loop-b-test.true
+    c.loop-b.invariant.same refl (omega (arith, c.from.ensures))
