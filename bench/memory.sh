@@ -1,0 +1,16 @@
+#!/usr/bin/env bash
+# Refuses each allocation of one run in turn, and shows what the program answers: its output, its notes and
+# its status. It stops at the first number past the last allocation, where nothing is refused.
+# Not a part of the gate. Usage: bench/memory.sh [FILE]
+set -u
+here=$(cd "$(dirname "$0")/.." && pwd)
+file=$(readlink -f "${1:-$here/examples/seven.rg}")
+cd "$here/crates/reggio" || exit 2
+for n in $(seq 1 40); do
+  out=$(rt try --fail-alloc "$n" --data a="$file" -- run a 2>/tmp/reggio-memory.$$)
+  status=$?
+  notes=$(grep -vE '^(checked|run=|rt:|allocations|interpreter)' /tmp/reggio-memory.$$ | tr '\n' ' ')
+  printf 'allocation %2d: status %d output [%s] notes [%s]\n' "$n" "$status" "$(printf '%s' "$out" | tr '\n' ' ')" "$notes"
+  [ "$status" = 0 ] && break
+done
+rm -f /tmp/reggio-memory.$$
