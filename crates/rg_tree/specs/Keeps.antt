@@ -1,5 +1,5 @@
 -- What stays where tables grow.
-use Rattle.std.specs.Prelude.{ℕ, ◌≡◌, ◌≤◌, List, ◌++◌, length}
+use Rattle.std.specs.Prelude.{ℕ, ◌≡◌, List, ◌++◌}
 use Rattle.rg_tree.specs.declared.rows.Span.{Span}
 use Rattle.rg_tree.specs.Tables.{Tables, numbers_in}
 use Rattle.rg_tree.specs.RowTrees.{exprs_of, stmts_of, params_of, members_of, classes_of}

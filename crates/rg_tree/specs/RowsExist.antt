@@ -1,5 +1,5 @@
 -- Rows whose numbers name rows that exist.
-use Rattle.std.specs.Prelude.{ℕ, ◌≡◌, ◌^◌, ◌<◌, ◌≤◌, ⊤, List, length, All, Option, Some, IfSome, slice_get}
+use Rattle.std.specs.Prelude.{ℕ, ◌≡◌, ◌^◌, ◌<◌, ◌≤◌, ⊤, List, length, All, Some, IfSome, slice_get}
 use Rattle.rg_tree.specs.declared.rows.Span.{Span}
 use Rattle.rg_tree.specs.declared.rows.Path.{Path}
 use Rattle.rg_tree.specs.declared.rows.ClassRow.{ClassRow}
