@@ -28,6 +28,11 @@ pub record IsSpanBelow (t : Tables) (n : ℕ) (s : Span) : Type 0 where
   pub within : IsWithin t s
   pub each : All (λ k. k < n) (numbers_in t s)
 
+-- the span holds these numbers
+pub record Holds (t : Tables) (s : Span) (these : List ℕ) : Type 0 where
+  pub within : IsWithin t s
+  pub these_are : numbers_in t s ≡ these
+
 -- the number names a name
 abbrev pub IsNameIn : Tables → ℕ → Type 0
 IsNameIn t n = n < length t.names
