@@ -1,5 +1,5 @@
 -- Tables and the programs that they stand for, computed.
-use Rattle.std.proofs.Common.{◌≡◌, ℕ, pos, List, [], ◌∷◌, true, false, Some, None, codes, refl}
+use Rattle.std.proofs.Common.{◌≡◌, ℕ, pos, [], ◌∷◌, true, false, Some, None, codes, refl}
 use Rattle.rg_base.specs.declared.words.Cap.TheVariants.{Mut, Iso}
 use Rattle.rg_base.specs.declared.words.Manager.TheVariants.{Arena, Trace}
 use Rattle.rg_tree.specs.declared.rows.BinOp.TheVariants.{Add, Sub}
@@ -10,7 +10,7 @@ use Rattle.rg_tree.specs.declared.rows.StmtKind.TheVariants as kind_row
 use Rattle.rg_tree.specs.declared.rows.ExprRow.TheVariants as expr_row
 use Rattle.rg_tree.specs.declared.rows.Span.{Span}
 use Rattle.rg_tree.specs.declared.rows.Path.{Path}
-use Rattle.rg_tree.specs.Tables.{Tables, at_first}
+use Rattle.rg_tree.specs.Tables.{Tables}
 use Rattle.rg_tree.specs.RowTrees.{exprs_of, stmts_of, params_of, members_of, classes_of, program_of}
 use Rattle.rg_tree.specs.Canonical.{canon}
 use Rattle.std.specs.Fmt.{digits}

@@ -1,14 +1,14 @@
 -- For crates above: what stays where a program grows, and what a span of numbers stands for.
-use Rattle.std.proofs.Common.{◌≡◌, ℕ, zero, suc, ◌<◌, ◌≤◌, max, List, [], ◌∷◌, ◌++◌, All, length, get_or, Some, IfSome, Option, None, sym, ◌∙◌, ⊎_elim, arith}
+use Rattle.std.proofs.Common.{◌≡◌, ℕ, zero, suc, ◌<◌, ◌≤◌, max, List, [], ◌∷◌, ◌++◌, All, length, get_or, sym, ◌∙◌, ⊎_elim, arith}
 use Rattle.std.proofs.lemmas.Bool.{cases_order}
 use Rattle.std.proofs.lemmas.List.{length_push}
 use Rattle.std.proofs.lemmas.List.Elements.{All-nil, All-cons, All-head, All-tail}
 use Rattle.rg_tree.specs.declared.rows.Span.{Span}
-use Rattle.rg_tree.specs.Tables.{Tables, name_at, numbers_in, AreDistinct}
+use Rattle.rg_tree.specs.Tables.{Tables, name_at, AreDistinct}
 use Rattle.rg_tree.specs.RowTrees.{exprs_of, expr_at, stmts_of, stmt_at, params_of, param_at, no_param, members_of, member_at, no_member, classes_of, no_stmt, block_of}
 use Rattle.rg_tree.specs.Tree.{nil}
-use Rattle.rg_tree.specs.RowsExist.{IsWithin, IsSpanBelow, IsBlockIn}
-use Rattle.rg_tree.specs.Keeps.{Begins, Keeps, Holds}
+use Rattle.rg_tree.specs.RowsExist.{Holds, IsSpanBelow, IsBlockIn}
+use Rattle.rg_tree.specs.Keeps.{Keeps}
 use Rattle.rg_tree.proofs.TreesFrom.{Begins-same, Begins-trans, length-Begins, get_or-Begins}
 use Rattle.rg_tree.proofs.Grows.{IsAbove, AgreeBelow, numbers_in-grows, block_of-grows}
 use Rattle.rg_tree.proofs.Programs.{length-exprs_of, length-stmts_of, length-params_of, length-members_of}

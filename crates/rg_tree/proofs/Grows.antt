@@ -1,5 +1,5 @@
 -- Tables that grow: the rows that were there name rows that exist, and stand for the same trees.
-use Rattle.std.proofs.Common.{◌≡◌, ℕ, suc, ◌+◌, ◌-◌, ◌<◌, ◌≤◌, List, [], ◌∷◌, ◌++◌, All, map, option_map, length, get_or, take, drop, Option, Some, None, IfSome, slice_get, refl, sym, ap, ◌∙◌, arith}
+use Rattle.std.proofs.Common.{◌≡◌, ℕ, ◌-◌, ◌<◌, ◌≤◌, List, [], ◌∷◌, All, map, option_map, length, drop, Option, Some, None, IfSome, refl, ap, ◌∙◌, arith}
 use Rattle.std.proofs.lemmas.List.{take-append-le, drop-append-le, length-drop}
 use Rattle.std.proofs.lemmas.List.Elements.{All-weaker, All-head, All-tail}
 use Rattle.std.proofs.lemmas.Option.{IfSome_then}
@@ -19,10 +19,10 @@ use Rattle.rg_tree.specs.declared.rows.StmtKind.TheVariants as kind_row
 use Rattle.rg_tree.specs.declared.rows.StmtRow.{StmtRow}
 use Rattle.rg_tree.specs.declared.rows.ExprRow.{ExprRow}
 use Rattle.rg_tree.specs.declared.rows.ExprRow.TheVariants as expr_row
-use Rattle.rg_tree.specs.Tree.{Name, Expr, path, is_nil, neg, not, ref, value, new, new_tmp, new_iso, freeze, merge, result_of, Stmt, stmt, declare, assign, call, swap, branch, while, enter, print, return, Block, otherwise}
+use Rattle.rg_tree.specs.Tree.{Expr, path, is_nil, neg, not, ref, value, new, new_tmp, new_iso, freeze, merge, result_of, Stmt, stmt, call, print, return, otherwise}
 use Rattle.rg_tree.specs.Tables.{Tables, name_at, numbers_in}
-use Rattle.rg_tree.specs.RowTrees.{path_of, type_of, expr_over, exprs_of, expr_at, call_of, right_of, block_over, else_over, kind_over, stmt_over, stmts_of, stmt_at, block_of, param_of, params_of, param_at, member_of, members_of, member_at, class_of, classes_of}
-use Rattle.rg_tree.specs.RowsExist.{IsWithin, IsSpanBelow, IsNameIn, IsPathIn, IsTypeIn, IsExprIn, IsCallIn, IsRightIn, IsKindIn, IsStmtIn, IsBlockIn, IsParamIn, IsMemberIn, IsClassIn, EachRow, AreRows}
+use Rattle.rg_tree.specs.RowTrees.{path_of, type_of, expr_over, expr_at, call_of, right_of, block_over, else_over, kind_over, stmt_over, stmt_at, block_of, param_of, param_at, member_of, member_at, class_of}
+use Rattle.rg_tree.specs.RowsExist.{IsWithin, IsSpanBelow, IsNameIn, IsPathIn, IsTypeIn, IsExprIn, IsCallIn, IsRightIn, IsKindIn, IsStmtIn, IsBlockIn, IsParamIn, IsMemberIn, IsClassIn}
 use Rattle.rg_tree.specs.Keeps.{Begins}
 use Rattle.rg_tree.proofs.TreesFrom.{length-Begins, get_or-Begins}
 

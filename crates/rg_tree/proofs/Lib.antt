@@ -1,15 +1,15 @@
-pub mod Texts
 pub mod ByRows
 pub mod Stopping
-pub mod Unique
-pub mod SameKinds
-pub mod Halting
-pub mod StuckPlaces
-pub mod Reader
-pub mod RoundTrips
-pub mod WholePrograms
 pub mod Passing
-pub mod NameLemmas
+pub mod Unique
+mod SameKinds
+mod Halting
+pub mod Reader
+pub mod Texts
+mod StuckPlaces
+pub mod RoundTrips
+mod WholePrograms
+mod NameLemmas
 pub mod TreesFrom
 pub mod Grows
 pub mod Programs

@@ -1,9 +1,7 @@
 -- What stays where tables grow.
-use Rattle.std.specs.Prelude.{ℕ, ◌≡◌, ◌≤◌, List, ◌++◌, length}
-use Rattle.rg_tree.specs.declared.rows.Span.{Span}
-use Rattle.rg_tree.specs.Tables.{Tables, numbers_in}
+use Rattle.std.specs.Prelude.{◌≡◌, List, ◌++◌}
+use Rattle.rg_tree.specs.Tables.{Tables}
 use Rattle.rg_tree.specs.RowTrees.{exprs_of, stmts_of, params_of, members_of, classes_of}
-use Rattle.rg_tree.specs.RowsExist.{IsWithin}
 
 -- the second list begins with the first
 pub record Begins {A : Type 0} (xs ys : List A) : Type 0 where
@@ -19,8 +17,3 @@ pub record Keeps (old new : Tables) : Type 0 where
   pub classes : Begins (classes_of old) (classes_of new)
   pub stmts : Begins (stmts_of old) (stmts_of new)
   pub exprs : Begins (exprs_of old) (exprs_of new)
-
--- the span holds these numbers
-pub record Holds (t : Tables) (s : Span) (these : List ℕ) : Type 0 where
-  pub within : IsWithin t s
-  pub these_are : numbers_in t s ≡ these

@@ -1,5 +1,5 @@
 -- Rows whose numbers name rows that exist.
-use Rattle.std.specs.Prelude.{ℕ, ◌≡◌, ◌^◌, ◌<◌, ◌≤◌, ⊤, List, length, All, Option, Some, IfSome, slice_get}
+use Rattle.std.specs.Prelude.{ℕ, ◌≡◌, ◌^◌, ◌<◌, ◌≤◌, ⊤, List, length, All, Some, IfSome, slice_get}
 use Rattle.rg_tree.specs.declared.rows.Span.{Span}
 use Rattle.rg_tree.specs.declared.rows.Path.{Path}
 use Rattle.rg_tree.specs.declared.rows.ClassRow.{ClassRow}
@@ -27,6 +27,11 @@ pub record IsWithin (t : Tables) (s : Span) : Type 0 where
 pub record IsSpanBelow (t : Tables) (n : ℕ) (s : Span) : Type 0 where
   pub within : IsWithin t s
   pub each : All (λ k. k < n) (numbers_in t s)
+
+-- the span holds these numbers
+pub record Holds (t : Tables) (s : Span) (these : List ℕ) : Type 0 where
+  pub within : IsWithin t s
+  pub these_are : numbers_in t s ≡ these
 
 -- the number names a name
 abbrev pub IsNameIn : Tables → ℕ → Type 0

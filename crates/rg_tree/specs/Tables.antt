@@ -1,5 +1,5 @@
 -- The flat tables of a program, as contracts see them: each row goes by its number, from 0.
-use Rattle.std.specs.Prelude.{ℕ, ◌≡◌, ◌≢◌, ◌-◌, List, [], ◌∷◌, ◌++◌, Option, AllPairs, bytes_eq, if◌then◌else◌, is_some, position, slice_index_or, take, drop}
+use Rattle.std.specs.Prelude.{ℕ, ◌≢◌, ◌-◌, List, [], ◌∷◌, ◌++◌, Option, AllPairs, bytes_eq, if◌then◌else◌, is_some, position, slice_index_or, take, drop}
 use Rattle.rg_base.specs.declared.words.Manager.{Manager}
 use Rattle.rg_base.specs.declared.words.Manager.TheVariants.{Arena}
 use Rattle.rg_tree.specs.declared.rows.Span.{Span}

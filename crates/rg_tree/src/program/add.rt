@@ -10,8 +10,8 @@ use rg_base::{Manager, Memory};
 impl Program {
     ghost use Rattle.rg_tree.specs.Tables.{name_at, number_of, with_name};
     ghost use Rattle.rg_tree.specs.RowTrees.{expr_at, expr_of, stmt_at, stmt_of, param_at, param_of, member_at, member_of, class_of, classes_of, block_of, program_of};
-    ghost use Rattle.rg_tree.specs.RowsExist.{IsBlockIn, IsExprIn, IsStmtIn, IsParamIn, IsMemberIn, IsClassIn};
-    ghost use Rattle.rg_tree.specs.Keeps.{Keeps, Holds};
+    ghost use Rattle.rg_tree.specs.RowsExist.{Holds, IsBlockIn, IsExprIn, IsStmtIn, IsParamIn, IsMemberIn, IsClassIn};
+    ghost use Rattle.rg_tree.specs.Keeps.{Keeps};
 
     /// The number of a name: the same for equal bytes. A name that is there takes no memory.
     pub fn add_name(&mut self, bytes: &[u8]) -> Result<u32, Memory>
@@ -19,6 +19,7 @@ impl Program {
         ensures name { IfOk result (λ n. name_at self.new n ≡ bytes.now) }
         ensures there { IfOk result (λ n. n < length self.new.names) }
         ensures known { IsSome (number_of self.old.names bytes.now) → IsOk result }
+
         ensures names { OnOk result (self.new
             ≡ record self.old { names = with_name self.old.names bytes.now }) }
         ensures keeps { Keeps self.old self.new }
@@ -32,6 +33,7 @@ impl Program {
     /// Keeps a list of numbers, and answers where it is.
     pub fn add_order(&mut self, numbers: &[u32]) -> Result<Span, Memory>
         ensures span { IfOk result (λ s. Holds self.new s numbers.now) }
+
         ensures numbers { OnOk result (self.new
             ≡ record self.old { numbers = self.old.numbers ++ numbers.now }) }
         ensures keeps { Keeps self.old self.new }
@@ -42,13 +44,15 @@ impl Program {
         Ok(span)
     }
 
-    /// Adds a parameter, and answers its number.
+    /// Adds a parameter, whose names are there, and answers its number.
     pub fn add_param(&mut self, row: ParamRow) -> Result<u32, Memory>
         requires { IsParamIn self.old row }
+
         ensures number { IfOk result (λ n. n ≡ length self.old.params) }
+        ensures tree { IfOk result (λ n. param_at self.new n ≡ param_of self.old row) }
+
         ensures row { OnOk result (self.new
             ≡ record self.old { params = self.old.params ++ row ∷ [] }) }
-        ensures tree { IfOk result (λ n. param_at self.new n ≡ param_of self.old row) }
         ensures keeps { Keeps self.old self.new }
         ensures program { program_of self.new ≡ program_of self.old }
         ensures err { OnErr result (self.new ≡ self.old) }
@@ -57,13 +61,15 @@ impl Program {
         Ok(number)
     }
 
-    /// Adds a member, and answers its number.
+    /// Adds a member, whose names, parameters and body are there, and answers its number.
     pub fn add_member(&mut self, row: MemberRow) -> Result<u32, Memory>
         requires { IsMemberIn self.old row }
+
         ensures number { IfOk result (λ n. n ≡ length self.old.members) }
+        ensures tree { IfOk result (λ n. member_at self.new n ≡ member_of self.old row) }
+
         ensures row { OnOk result (self.new
             ≡ record self.old { members = self.old.members ++ row ∷ [] }) }
-        ensures tree { IfOk result (λ n. member_at self.new n ≡ member_of self.old row) }
         ensures keeps { Keeps self.old self.new }
         ensures program { program_of self.new ≡ program_of self.old }
         ensures err { OnErr result (self.new ≡ self.old) }
@@ -72,10 +78,12 @@ impl Program {
         Ok(number)
     }
 
-    /// Adds a class, and answers its number.
+    /// Adds a class, whose name and members are there, and answers its number.
     pub fn add_class(&mut self, row: ClassRow) -> Result<u32, Memory>
         requires { IsClassIn self.old row }
+
         ensures number { IfOk result (λ n. n ≡ length self.old.classes) }
+
         ensures row { OnOk result (self.new
             ≡ record self.old { classes = self.old.classes ++ row ∷ [] }) }
         ensures keeps { Keeps self.old self.new }
@@ -88,13 +96,16 @@ impl Program {
         Ok(number)
     }
 
-    /// Adds a statement, and answers its number. The statements within it are there.
+    /// Adds a statement, and answers its number. Its names, its expressions and the statements
+    /// within it are there.
     pub fn add_stmt(&mut self, row: StmtRow) -> Result<u32, Memory>
         requires { IsStmtIn self.old (length self.old.stmts) row }
+
         ensures number { IfOk result (λ n. n ≡ length self.old.stmts) }
+        ensures tree { IfOk result (λ n. stmt_at self.new n ≡ stmt_of self.old row) }
+
         ensures row { OnOk result (self.new
             ≡ record self.old { stmts = self.old.stmts ++ row ∷ [] }) }
-        ensures tree { IfOk result (λ n. stmt_at self.new n ≡ stmt_of self.old row) }
         ensures keeps { Keeps self.old self.new }
         ensures program { program_of self.new ≡ program_of self.old }
         ensures err { OnErr result (self.new ≡ self.old) }
@@ -103,13 +114,15 @@ impl Program {
         Ok(number)
     }
 
-    /// Adds an expression, and answers its number. Its operands are there.
+    /// Adds an expression, whose names and operands are there, and answers its number.
     pub fn add_expr(&mut self, row: ExprRow) -> Result<u32, Memory>
         requires { IsExprIn self.old (length self.old.exprs) row }
+
         ensures number { IfOk result (λ n. n ≡ length self.old.exprs) }
+        ensures tree { IfOk result (λ n. expr_at self.new n ≡ expr_of self.old row) }
+
         ensures row { OnOk result (self.new
             ≡ record self.old { exprs = self.old.exprs ++ row ∷ [] }) }
-        ensures tree { IfOk result (λ n. expr_at self.new n ≡ expr_of self.old row) }
         ensures keeps { Keeps self.old self.new }
         ensures program { program_of self.new ≡ program_of self.old }
         ensures err { OnErr result (self.new ≡ self.old) }
@@ -118,9 +131,10 @@ impl Program {
         Ok(number)
     }
 
-    /// Gives main its manager, its body and the line of its word.
+    /// Gives main its manager, its body, whose statements are there, and the line of its word.
     pub fn set_main(&mut self, manager: Manager, body: Span, line: u64)
         requires { IsBlockIn self.old body }
+
         ensures main { self.new ≡ record self.old { manager = manager; body = body; line = line } }
         ensures keeps { Keeps self.old self.new }
         ensures program { program_of self.new

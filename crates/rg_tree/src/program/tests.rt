@@ -1,14 +1,29 @@
 //! A program that is built by its rows, and read back.
 
 use super::Program;
-use crate::rows::{ClassRow, ExprRow, StmtKind, StmtRow};
+use crate::rows::{ClassRow, ExprRow, MemberRow, ParamRow, StmtKind, StmtRow, TypeRow};
 use rg_base::{Manager, Memory};
 use std::test::*;
 
-// tmp class A { }
+// x: bool, and the row that is read back
+fn add_param_x(program: &mut Program) -> Result<ParamRow, Memory> {
+    let name = program.add_name(b"x")?;
+    let param = program.add_param(ParamRow {
+        name,
+        ty: TypeRow::Bool,
+    })?;
+    Ok(program.param(param))
+}
+
+// tmp class A { A: int; }
 fn add_class_a(program: &mut Program) -> Result<u32, Memory> {
     let name = program.add_name(b"A")?;
-    let members = program.add_order(&[])?;
+    let field = program.add_member(MemberRow::Field {
+        name,
+        ty: TypeRow::Int,
+        line: 2,
+    })?;
+    let members = program.add_order(&[field])?;
     program.add_class(ClassRow {
         name,
         is_tmp: true,
@@ -34,13 +49,23 @@ fn set_printing_main(program: &mut Program) -> Result<(), Memory> {
 fn a_program_is_read_back_by_its_rows(rt: HostRuntime) -> Result<(), Fail> {
     let mut program = Program::new(rt.alloc());
     assert_eq!(rt; program.add_name(b"x").ok(), Some(0));
+    let param = add_param_x(&mut program)?;
+    assert_eq!(rt; (param.name, param.ty), (0, TypeRow::Bool));
     assert_eq!(rt; add_class_a(&mut program).ok(), Some(0));
     assert_eq!(rt; program.add_name(b"x").ok(), Some(0));
     assert_eq!(rt; program.class_count(), 1);
     let class = program.class(0);
     assert_eq!(rt; (class.is_tmp, class.line), (true, 1));
     assert_eq!(rt; program.name(class.name), b"A".as_slice());
-    assert_eq!(rt; program.order(class.members), [].as_slice());
+    assert_eq!(rt; program.order(class.members), [0].as_slice());
+    for m in program.order(class.members) {
+        let field = MemberRow::Field {
+            name: 1,
+            ty: TypeRow::Int,
+            line: 2,
+        };
+        assert_eq!(rt; program.member(*m), field);
+    }
     Ok(())
 }
 

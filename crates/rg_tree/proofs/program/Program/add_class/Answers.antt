@@ -1,4 +1,4 @@
-use Rattle.std.proofs.Common.{refl, arith}
+use Rattle.std.proofs.Common.{arith}
 use Rattle.rg_tree.proofs.Programs.{AreRows-class, Grows-class, Keeps-Grows, program_of-class}
 use Rattle.rg_tree.proofs.program.Program.add_class.Goals as goal
 

@@ -1,4 +1,4 @@
-use Rattle.std.proofs.Common.{refl, arith}
+use Rattle.std.proofs.Common.{refl}
 use Rattle.rg_tree.proofs.Programs.{AreRows-expr, Grows-expr, Keeps-Grows, expr_at-push, program_of-grows}
 use Rattle.rg_tree.proofs.program.Program.add_expr.Goals as goal
 

@@ -1,4 +1,4 @@
-use Rattle.std.proofs.Common.{refl, arith}
+use Rattle.std.proofs.Common.{refl}
 use Rattle.rg_tree.proofs.Programs.{AreRows-member, Grows-member, Keeps-Grows, member_at-push, program_of-grows}
 use Rattle.rg_tree.proofs.program.Program.add_member.Goals as goal
 
