@@ -6,7 +6,10 @@ mod byte_list;
 mod fault;
 mod limits;
 mod outcome;
+#[cfg(test)]
+mod tests;
 mod token;
+mod ty;
 mod value;
 mod words;
 
@@ -18,5 +21,6 @@ pub use limits::{
 };
 pub use outcome::{EndNumbers, Ended, Outcome, Trap};
 pub use token::{Kind, Token};
+pub use ty::Ty;
 pub use value::{Val, Vals};
 pub use words::{Cap, Keyword, Manager, Sign};
