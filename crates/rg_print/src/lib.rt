@@ -1,0 +1,13 @@
+//! The canonical text of a program (docs/language.md, "Canonical text").
+#![tactic(auto)]
+
+mod calls;
+mod classes;
+mod expressions;
+mod lines;
+mod names;
+mod statements;
+mod whole;
+mod words;
+
+pub use whole::text;
