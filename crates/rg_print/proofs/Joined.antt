@@ -1,5 +1,5 @@
 -- Texts with a comma and one blank between, one after another.
-use Rattle.std.proofs.Common.{◌≡◌, ℕ, zero, suc, ◌+◌, ◌<◌, List, [], ◌∷◌, ◌++◌, length, get_or, drop, codes, refl, ap, ◌∙◌, append_assoc, append-nil, add-one, drop-cons, arith}
+use Rattle.std.proofs.Common.{◌≡◌, ℕ, zero, suc, ◌+◌, ◌<◌, List, [], ◌∷◌, ◌++◌, length, get_or, drop, codes, refl, ap, ◌∙◌, append_assoc, append-nil, drop-cons, arith}
 use Rattle.std.specs.Prelude.{flat_map}
 use Rattle.rg_tree.specs.Canonical.{joined}
 
@@ -24,7 +24,8 @@ module _ (texts : List ℕ → List (List ℕ)) (text : ℕ → List ℕ) (cons 
       → mid ≡ out → new ≡ mid ++ text (get_or ks i 0) → new ++ joined_behind (i + 1) (texts (drop (i + 1) ks)) ≡ all
   joined_behind-first zero ks out all mid new l z h m n =
       let e : texts ks ≡ text (get_or ks 0 0) ∷ texts (drop 1 ks) = ap texts (drop-cons ks 0 0 l) ∙ cons (get_or ks 0 0) (drop 1 ks) in
-      let r : joined (texts ks) ≡ text (get_or ks 0 0) ++ joined_behind 1 (texts (drop 1 ks)) = ap joined e ∙ joined-cons (text (get_or ks 0 0)) (texts (drop 1 ks)) in
+      let r : joined (texts ks) ≡ text (get_or ks 0 0) ++ joined_behind 1 (texts (drop 1 ks)) =
+      ap joined e ∙ joined-cons (text (get_or ks 0 0)) (texts (drop 1 ks)) in
       rw (n, m) (append_assoc out (text (get_or ks 0 0)) _ ∙ (rw r at h))
   joined_behind-first (suc i) ks out all mid new l z h m e = absurd (omega arith)
 

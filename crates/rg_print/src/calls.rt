@@ -15,8 +15,8 @@ use rg_tree::{CallRow, Path, Program, Right, Span};
 // Appends arguments in parentheses, with a comma and one blank between.
 fn write_args(program: &Program, args: Span, out: &mut ByteList) -> Result<(), Memory>
     requires { IsSpanBelow program.now (length program.now.exprs) args }
-    ensures { OnOk result (out.new ≡ out.old
-        ++ codes "(" ++ joined (arg_texts (map (expr_at program.now) (numbers_in program.now args))) ++ codes ")") }
+    ensures { OnOk result (let t = program.now in out.new ≡ out.old
+        ++ codes "(" ++ joined (arg_texts (map (expr_at t) (numbers_in t args))) ++ codes ")") }
 {
     out.extend(b"(")?;
     for (i, arg) in program.order(args).iter().enumerate() {
@@ -46,8 +46,8 @@ fn write_target(
 ) -> Result<(), Memory>
     requires path { IsPathIn program.now path }
     requires method { IsNameIn program.now method }
-    ensures { OnOk result (out.new ≡ out.old ++ (codes "call " ++ path_text (path_of program.now path)
-        ++ codes "." ++ name_at program.now method)) }
+    ensures { OnOk result (let t = program.now in out.new ≡ out.old
+        ++ (codes "call " ++ path_text (path_of t path) ++ codes "." ++ name_at t method)) }
 {
     out.extend(b"call ")?;
     write_path(program, path, out)?;

@@ -59,7 +59,8 @@ fn write_member(program: &Program, member: u32, out: &mut ByteList) -> Result<()
 fn write_typed(program: &Program, name: u32, ty: TypeRow, out: &mut ByteList) -> Result<(), Memory>
     requires name { IsNameIn program.now name }
     requires ty { IsTypeIn program.now ty }
-    ensures { OnOk result (out.new ≡ out.old ++ (name_at program.now name ++ codes ": " ++ ty_text (type_of program.now ty))) }
+    ensures { OnOk result (let t = program.now in
+        out.new ≡ out.old ++ (name_at t name ++ codes ": " ++ ty_text (type_of t ty))) }
 {
     write_name(program, name, out)?;
     out.extend(b": ")?;
@@ -76,8 +77,9 @@ fn write_head(
 ) -> Result<(), Memory>
     requires name { IsNameIn program.now name }
     requires params { IsSpanBelow program.now (length program.now.params) params }
-    ensures { OnOk result (out.new ≡ out.old ++ (codes "def " ++ cap_text cap ++ codes " " ++ name_at program.now name
-        ++ codes "(" ++ joined (param_texts (map (param_at program.now) (numbers_in program.now params))) ++ codes ")")) }
+    ensures { OnOk result (let t = program.now in out.new ≡ out.old
+        ++ (codes "def " ++ cap_text cap ++ codes " " ++ name_at t name ++ codes "("
+        ++ joined (param_texts (map (param_at t) (numbers_in t params))) ++ codes ")")) }
 {
     out.extend(b"def ")?;
     out.extend(cap_bytes(cap))?;
@@ -89,8 +91,8 @@ fn write_head(
 // Appends parameters in parentheses, with a comma and one blank between.
 fn write_params(program: &Program, params: Span, out: &mut ByteList) -> Result<(), Memory>
     requires { IsSpanBelow program.now (length program.now.params) params }
-    ensures { OnOk result (out.new ≡ out.old
-        ++ codes "(" ++ joined (param_texts (map (param_at program.now) (numbers_in program.now params))) ++ codes ")") }
+    ensures { OnOk result (let t = program.now in out.new ≡ out.old
+        ++ codes "(" ++ joined (param_texts (map (param_at t) (numbers_in t params))) ++ codes ")") }
 {
     out.extend(b"(")?;
     for (i, param) in program.order(params).iter().enumerate() {
@@ -110,7 +112,8 @@ fn write_result(
     out: &mut ByteList,
 ) -> Result<(), Memory>
     requires { IfSome result_type (IsTypeIn program.now) }
-    ensures { OnOk result (out.new ≡ out.old ++ result_text (option_map (type_of program.now) result_type)) }
+    ensures { OnOk result (out.new
+        ≡ out.old ++ result_text (option_map (type_of program.now) result_type)) }
 {
     match result_type {
         None => Ok(()),

@@ -7,6 +7,8 @@ mod expressions;
 mod lines;
 mod names;
 mod statements;
+#[cfg(test)]
+mod tests;
 mod whole;
 mod words;
 

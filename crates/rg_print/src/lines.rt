@@ -23,7 +23,7 @@ pub fn close_block(depth: u32, out: &mut ByteList) -> Result<(), Memory>
     out.extend(b"}\n")
 }
 
-/// The depth within one block more. An indent that no number counts is taken as one that finds no memory.
+/// The depth within one block more. An indent that has no number counts as one without memory.
 pub fn deeper(depth: u32) -> Result<u32, Memory>
     ensures depth { IfOk result (λ within. within ≡ suc depth) }
     ensures room { depth < 2 ^ 32 - 1 → IsOk result }

@@ -60,7 +60,8 @@ fn write_else(
     out: &mut ByteList,
 ) -> Result<(), Memory>
     requires { IfSome no (IsBlockIn program.now) }
-    ensures { OnOk result (out.new ≡ out.old ++ else_text depth (else_over program.now (stmt_at program.now) no)) }
+    ensures { OnOk result (let t = program.now in
+        out.new ≡ out.old ++ else_text depth (else_over t (stmt_at t) no)) }
 {
     match no {
         None => close_block(depth, out),
@@ -104,8 +105,9 @@ fn write_let(
     requires name { IsNameIn program.now name }
     requires ty { IsTypeIn program.now ty }
     requires right { IsRightIn program.now right }
-    ensures { OnOk result (out.new ≡ out.old ++ (codes "let " ++ name_at program.now name ++ codes ": "
-        ++ ty_text (type_of program.now ty) ++ codes " = " ++ right_text (right_of program.now right) ++ codes ";\n")) }
+    ensures { OnOk result (let t = program.now in
+        out.new ≡ out.old ++ (codes "let " ++ name_at t name ++ codes ": " ++ ty_text (type_of t ty)
+        ++ codes " = " ++ right_text (right_of t right) ++ codes ";\n")) }
 {
     out.extend(b"let ")?;
     write_name(program, name, out)?;
@@ -120,8 +122,8 @@ fn write_let(
 fn write_set(program: &Program, path: Path, right: Right, out: &mut ByteList) -> Result<(), Memory>
     requires path { IsPathIn program.now path }
     requires right { IsRightIn program.now right }
-    ensures { OnOk result (out.new ≡ out.old
-        ++ (path_text (path_of program.now path) ++ codes " = " ++ right_text (right_of program.now right) ++ codes ";\n")) }
+    ensures { OnOk result (let t = program.now in out.new ≡ out.old
+        ++ (path_text (path_of t path) ++ codes " = " ++ right_text (right_of t right) ++ codes ";\n")) }
 {
     write_path(program, path, out)?;
     out.extend(b" = ")?;
@@ -133,8 +135,8 @@ fn write_set(program: &Program, path: Path, right: Right, out: &mut ByteList) ->
 fn write_swap(program: &Program, name: u32, path: Path, out: &mut ByteList) -> Result<(), Memory>
     requires name { IsNameIn program.now name }
     requires path { IsPathIn program.now path }
-    ensures { OnOk result (out.new ≡ out.old
-        ++ (codes "swap " ++ name_at program.now name ++ codes ", " ++ path_text (path_of program.now path) ++ codes ";\n")) }
+    ensures { OnOk result (let t = program.now in out.new ≡ out.old
+        ++ (codes "swap " ++ name_at t name ++ codes ", " ++ path_text (path_of t path) ++ codes ";\n")) }
 {
     out.extend(b"swap ")?;
     write_name(program, name, out)?;
@@ -147,8 +149,8 @@ fn write_swap(program: &Program, name: u32, path: Path, out: &mut ByteList) -> R
 fn write_enter(program: &Program, path: Path, name: u32, out: &mut ByteList) -> Result<(), Memory>
     requires path { IsPathIn program.now path }
     requires name { IsNameIn program.now name }
-    ensures { OnOk result (out.new ≡ out.old
-        ++ (codes "enter " ++ path_text (path_of program.now path) ++ codes " as " ++ name_at program.now name)) }
+    ensures { OnOk result (let t = program.now in out.new ≡ out.old
+        ++ (codes "enter " ++ path_text (path_of t path) ++ codes " as " ++ name_at t name)) }
 {
     out.extend(b"enter ")?;
     write_path(program, path, out)?;
@@ -159,7 +161,8 @@ fn write_enter(program: &Program, path: Path, name: u32, out: &mut ByteList) -> 
 // Appends a statement that is a word and an expression, behind its indent.
 fn write_of(program: &Program, word: &[u8], e: u32, out: &mut ByteList) -> Result<(), Memory>
     requires { IsExprNumber program.now e }
-    ensures { OnOk result (out.new ≡ out.old ++ (word.now ++ expr_text (expr_at program.now e) ++ codes ";\n")) }
+    ensures { OnOk result (out.new ≡ out.old
+        ++ (word.now ++ expr_text (expr_at program.now e) ++ codes ";\n")) }
 {
     out.extend(word)?;
     write_expr(program, e, out)?;

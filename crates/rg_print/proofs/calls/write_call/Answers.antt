@@ -1,4 +1,4 @@
-use Rattle.std.proofs.Common.{◌≡◌, codes, map}
+use Rattle.std.proofs.Common.{codes, map}
 use Rattle.std.proofs.lemmas.Result.{on_ok_weaker}
 use Rattle.rg_tree.specs.Canonical.{arg_texts, joined, path_text}
 use Rattle.rg_tree.specs.RowTrees.{expr_at, path_of}

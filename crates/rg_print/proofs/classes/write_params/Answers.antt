@@ -12,7 +12,7 @@ loop-i-preserved c =
     let one = λ (k : ℕ). (param_at t k).name ++ codes ": " ++ ty_text (param_at t k).ty in
     let l : c.loop-i.i < length c.order-param-items.result.now = omega arith in
     let new : c.write_typed.new.out ≡ c.if-i-gt0.out ++ one (get_or c.order-param-items.result.now c.loop-i.i 0) =
-        rw c.param-row.ensures.tree c.in_ok-write_typed.ensures in
+    rw c.param-row.ensures.tree c.in_ok-write_typed.ensures in
     elim c.if-i-gt0.branch [
       | then-i-gt0+in_ok-extend-2 w ↦ joined_behind-further texts one (λ k ks. refl) c.loop-i.i _ c.loop-i.out _ c.if-i-gt0.out _ l
           w.if-i-gt0.true c.loop-i.invariant (w.out-is ∙ w.in_ok-extend-2.ensures.ok) new

@@ -1,4 +1,3 @@
-use Rattle.std.proofs.Common.{◌≡◌}
 use Rattle.rg_tree.specs.Canonical.{class_text}
 use Rattle.rg_tree.specs.RowTrees.{classes_of, class_of}
 use Rattle.rg_print.proofs.Rests.{flat_map-row}
