@@ -1,0 +1,15 @@
+//! The canonical text of a program (docs/language.md, "Canonical text").
+#![tactic(auto)]
+
+mod calls;
+mod classes;
+mod expressions;
+mod lines;
+mod names;
+mod statements;
+#[cfg(test)]
+mod tests;
+mod whole;
+mod words;
+
+pub use whole::text;
