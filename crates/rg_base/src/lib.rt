@@ -6,6 +6,7 @@ mod fault;
 mod limits;
 mod outcome;
 mod token;
+mod ty;
 mod value;
 mod words;
 
@@ -17,5 +18,6 @@ pub use limits::{
 };
 pub use outcome::{EndNumbers, Ended, Outcome, Trap};
 pub use token::{Kind, Token};
+pub use ty::Ty;
 pub use value::{Val, Vals};
 pub use words::{Cap, Keyword, Manager, Sign};
