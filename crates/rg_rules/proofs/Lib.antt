@@ -1,0 +1,4 @@
+pub mod AnswersLemmas
+pub mod PathLemmas
+pub mod ExpressionLemmas
+pub mod PointLemmas
