@@ -2,3 +2,5 @@ pub mod AnswersLemmas
 pub mod PathLemmas
 pub mod ExpressionLemmas
 pub mod PointLemmas
+mod Sources
+mod FaultExamples
