@@ -42,10 +42,11 @@ pub record Binary (classes : List Class) (env : Env) (w : Option Ty) (o : Operat
   pub last : against w (result_type o) r.env ≡ Ok j
 
 pub binary-ok : (classes : List Class) (env : Env) (w : Option Ty) (o : Operators) (a b : Expr) (j : Judged) →
-    (do l ← judge_expr classes env (operand_type o) a
-        r ← judge_expr classes l.env (operand_type o) b
-        test (agree o l.ty r.ty) Mismatch
-        against w (result_type o) r.env) ≡ Ok j → Binary classes env w o a b j
+    (do
+      l ← judge_expr classes env (operand_type o) a
+      r ← judge_expr classes l.env (operand_type o) b
+      test (agree o l.ty r.ty) Mismatch
+      against w (result_type o) r.env) ≡ Ok j → Binary classes env w o a b j
 binary-ok classes env w o a b j h =
     let l = bind-ok (judge_expr classes env (operand_type o) a) _ j h in
     let r = bind-ok (judge_expr classes l.0.env (operand_type o) b) _ j l.2 in

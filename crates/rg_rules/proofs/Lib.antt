@@ -2,5 +2,6 @@ pub mod AnswersLemmas
 pub mod PathLemmas
 pub mod ExpressionLemmas
 pub mod PointLemmas
+pub mod AcceptanceLemmas
 mod Sources
 mod FaultExamples

@@ -138,9 +138,11 @@ spot-advance classes result env out (next u b) after round (behind p) s t mine f
 spot-advance classes result env out none after round (inside side p) s t mine f h e i = grind arith
 spot-advance classes result env out (next (stmt line k) b) after round (inside side p) s t mine f h e i =
     let m = bind-ok (judge_kind classes (last_of result b) line env k) _ out h in
-    let a = and_then-some (inner_block classes env k side) _ s e in
+    let now : Opened → Option Spot = λ x.
+    spot_in classes None x.env x.block (block_end (length env.entries) line k ++ items_of b after) (round ++ entered_path k) p in
+    let a = and_then-some (inner_block classes env k side) now s e in
     let later : Opened → Option Spot = λ x.
-      spot_in classes None x.env x.block (block_end (length env.entries) line k ++ items_of b after) (round ++ entered_path k) (advance p) in
+    spot_in classes None x.env x.block (block_end (length env.entries) line k ++ items_of b after) (round ++ entered_path k) (advance p) in
     let j = inner_block-judged classes (last_of result b) line env k side a.0 m.0 m.1 a.1 in
     let behind_it = block_end (length env.entries) line k ++ items_of b after in
     let free = block_end-free classes env (length env.entries) line k side a.0 (items_of b after) a.1 in

@@ -72,7 +72,7 @@ available e = not (is_iso e.ty) || is_ready e.readiness
 -- the environment with one more variable, ready, at the current depth
 abbrev pub with_variable : Env → Variable → Ty → (assignable : Bool) → Env
 with_variable env x t assignable = record env {
-  entries = env.entries ++ record { name = x; ty = t; depth = env.depth; readiness = ready; assignable = assignable } ∷ []
+  entries = env.entries ++ record { name = x; ty = t; depth = env.depth; readiness = ready; assignable = assignable } ∷ [];
 }
 
 -- an entry, in another state if it is that variable's
