@@ -5,3 +5,4 @@ pub mod PointLemmas
 pub mod AcceptanceLemmas
 mod Sources
 mod FaultExamples
+mod RuleExamples
