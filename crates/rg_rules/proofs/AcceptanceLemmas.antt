@@ -1,9 +1,8 @@
 -- What acceptance says of the parts of a program: its headers, each method's body and main's body have no fault. For callers.
-use Rattle.std.proofs.Common.{◌≡◌, refl, sym, ◌∙◌, ap, ℕ, zero, suc, ◌+◌, Bool, true, false, if◌then◌else◌, ◌⊎◌, inl, inr, bytes_eq, List, [], ◌∷◌, find, filter_map, Option, Some, None, slice_get, Ok, Err, arith}
-use Rattle.rg_base.specs.declared.fault.Fault.{Fault}
+use Rattle.std.proofs.Common.{◌≡◌, refl, ℕ, zero, suc, ◌+◌, Bool, true, false, if◌then◌else◌, ◌⊎◌, inl, inr, bytes_eq, List, [], ◌∷◌, find, filter_map, Option, Some, None, slice_get, Ok, Err, arith}
 use Rattle.rg_base.specs.declared.fault.Code.TheVariants.{Return}
 use Rattle.rg_tree.specs.Tree.{Name, Method, Member, field, method, Class, Tree}
-use Rattle.rg_rules.specs.Answers.{◌>>◌, test, Lined, Passed}
+use Rattle.rg_rules.specs.Answers.{test, Lined, Passed}
 use Rattle.rg_rules.specs.Environment.{Env}
 use Rattle.rg_rules.specs.Types.{method_member, members_of, method_named}
 use Rattle.rg_rules.specs.Headers.{judge_headers}
@@ -53,8 +52,9 @@ judge_members-found classes c p (field f ∷ ms) m h g = judge_members-found cla
 judge_members-found classes c p (method o ∷ ms) m h g =
     let q = then-ok (judge_method classes c o) _ tt h in
     elim (found_first (p o) o m (find p (filter_map method_member ms)) g) [
-      inl same ↦ rw (← same) q.1
-    | inr later ↦ judge_members-found classes c p ms m q.2 later ]
+      | inl same ↦ rw (← same) q.1
+      | inr later ↦ judge_members-found classes c p ms m q.2 later
+    ]
 
 members-found : (classes : List Class) (c : ℕ) (p : Method → Bool) (o : Option Class) (m : Method) →
     ((d : Class) → o ≡ Some d → judge_members classes c d.members ≡ Ok tt) → find p (filter_map method_member (members_of o)) ≡ Some m →
@@ -72,7 +72,7 @@ pub Accepted-method : (t : Tree) → Accepted t → (c : ℕ) (x : Name) (m : Me
 Accepted-method t h c x m g =
     let all = (Accepted-parts t h).methods in
     let right : (d : Class) → slice_get t.classes c ≡ Some d → judge_members t.classes c d.members ≡ Ok tt =
-      λ d e. judge_methods-at t.classes 0 t.classes c c d (omega arith) all e in
+    λ d e. judge_methods-at t.classes 0 t.classes c c d (omega arith) all e in
     let one = members-found t.classes c (λ o. bytes_eq o.name x) (slice_get t.classes c) m right g in
     let p = then-ok (judge_body t.classes (method_body t.classes c m)) _ tt one in
     let ends = test-ok (gives_result m.result m.body) Return tt (at_line-ok m.line (test (gives_result m.result m.body) Return) tt p.2) in

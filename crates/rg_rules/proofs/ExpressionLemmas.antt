@@ -1,6 +1,6 @@
 -- What an expression that has a type says of its parts: its type is below the expected one, and where it isn't `iso`, the environment
 -- is as it was. For callers.
-use Rattle.std.proofs.Common.{◌≡◌, refl, sym, ◌∙◌, ℕ, Bool as Truth, true, false, ◌&&◌, ◌==◌, not as negated, if◌then◌else◌, List, [], ◌∷◌, Option, Some, None, ok_or, Ok, arith}
+use Rattle.std.proofs.Common.{◌≡◌, refl, sym, ◌∙◌, Bool as Truth, true, false, ◌&&◌, ◌==◌, not as negated, if◌then◌else◌, List, [], ◌∷◌, Option, Some, None, ok_or, Ok, arith}
 use Rattle.rg_base.specs.declared.words.Cap.TheVariants.{Mut, Tmp, Paused, Imm, Iso}
 use Rattle.rg_base.specs.declared.ty.Ty.{Ty}
 use Rattle.rg_base.specs.declared.ty.Ty.TheVariants.{Int, Bool, Ref}
@@ -54,7 +54,8 @@ binary-ok classes env w o a b j h =
     record { l = l.0; r = r.0; operands = record { left = l.1; right = r.1; together = m.0 }; last = m.1 }
 
 -- an expression of which a type is expected has a type below it
-pub judge_expr-below : (classes : List Class) (env : Env) (w : Ty) (e : Expr) (j : Judged) → judge_expr classes env (Some w) e ≡ Ok j → below j.ty w ≡ true
+pub judge_expr-below : (classes : List Class) (env : Env) (w : Ty) (e : Expr) (j : Judged) →
+    judge_expr classes env (Some w) e ≡ Ok j → below j.ty w ≡ true
 judge_expr-below classes env w (number z) j h = against-below w Int env j h
 judge_expr-below classes env w (boolean b) j h = against-below w Bool env j h
 judge_expr-below classes env w nil j h = let p = bind-ok (nil_type (Some w)) _ j h in against-below w p.0 env j p.2
@@ -111,7 +112,8 @@ expected-not_iso classes env w a b l r p h k =
     (below-not_iso l.ty w p (judge_expr-below classes env w a l h), below-not_iso r.ty w p (judge_expr-below classes l.env w b r k))
 
 -- no operand is `iso`
-pub operands-not_iso : (classes : List Class) (env : Env) (o : Operators) (a b : Expr) (l r : Judged) → Operands classes env o a b l r → NotIso l.ty r.ty
+pub operands-not_iso : (classes : List Class) (env : Env) (o : Operators) (a b : Expr) (l r : Judged) →
+    Operands classes env o a b l r → NotIso l.ty r.ty
 operands-not_iso classes env arithmetic a b l r h = expected-not_iso classes env Int a b l r refl h.left h.right
 operands-not_iso classes env order a b l r h = expected-not_iso classes env Int a b l r refl h.left h.right
 operands-not_iso classes env equality a b l r h = comparable-not_iso l.ty r.ty h.together

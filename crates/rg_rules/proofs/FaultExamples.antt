@@ -1,5 +1,5 @@
 -- Short programs and their first faults, computed. Beside each text stands its tree.
-use Rattle.std.proofs.Common.{◌≡◌, refl, [], ◌∷◌, true, false, Some, None, codes, pos}
+use Rattle.std.proofs.Common.{refl, [], ◌∷◌, true, false, Some, None, codes, pos}
 use Rattle.std.specs.Fmt.{digits}
 use Rattle.rg_base.specs.declared.words.Cap.TheVariants as cap
 use Rattle.rg_base.specs.declared.words.Manager.TheVariants as manager
@@ -14,10 +14,10 @@ used_twice : Example
     ∷ "main arena { let y: iso N = new iso N in trace; let k: int = read; if k == 1 { let z: iso N = y; } let w: iso N = y; }" ∷ [])
     (fault code.Unavailable)
     (program (class_named "N" false (field_named "v" int ∷ []) ∷ []) manager.Arena
-      (declare (codes "y") (to cap.Iso "N") (new_iso (codes "N") manager.Trace)
-      ∷ declare (codes "k") int read
-      ∷ branch (binary op.Eq (use_of "k") (number (pos 1))) (block (declare (codes "z") (to cap.Iso "N") (value (use_of "y")) ∷ [])) no_else
-      ∷ declare (codes "w") (to cap.Iso "N") (value (use_of "y")) ∷ []))
+    (declare (codes "y") (to cap.Iso "N") (new_iso (codes "N") manager.Trace)
+    ∷ declare (codes "k") int read
+    ∷ branch (binary op.Eq (use_of "k") (number (pos 1))) (block (declare (codes "z") (to cap.Iso "N") (value (use_of "y")) ∷ [])) no_else
+    ∷ declare (codes "w") (to cap.Iso "N") (value (use_of "y")) ∷ []))
 unfolding digits
 used_twice = (refl, refl)
 
@@ -27,10 +27,10 @@ made_again : Example
     ∷ "main arena { let y: iso N = new iso N in trace; let k: int = read; if k == 1 { let z: iso N = y; } y = new iso N in trace; }" ∷ [])
     None
     (program (class_named "N" false (field_named "v" int ∷ []) ∷ []) manager.Arena
-      (declare (codes "y") (to cap.Iso "N") (new_iso (codes "N") manager.Trace)
-      ∷ declare (codes "k") int read
-      ∷ branch (binary op.Eq (use_of "k") (number (pos 1))) (block (declare (codes "z") (to cap.Iso "N") (value (use_of "y")) ∷ [])) no_else
-      ∷ assign (var "y") (new_iso (codes "N") manager.Trace) ∷ []))
+    (declare (codes "y") (to cap.Iso "N") (new_iso (codes "N") manager.Trace)
+    ∷ declare (codes "k") int read
+    ∷ branch (binary op.Eq (use_of "k") (number (pos 1))) (block (declare (codes "z") (to cap.Iso "N") (value (use_of "y")) ∷ [])) no_else
+    ∷ assign (var "y") (new_iso (codes "N") manager.Trace) ∷ []))
 unfolding digits
 made_again = (refl, refl)
 
@@ -41,11 +41,11 @@ outer_field_written : Example
     ∷ "a.v = 1; } }" ∷ [])
     (fault code.Capability)
     (program (class_named "N" false (field_named "v" int ∷ field_named "down" (to cap.Iso "N") ∷ []) ∷ []) manager.Trace
-      (declare (codes "a") (to cap.Mut "N") (new (codes "N"))
-      ∷ declare (codes "k") int (value (number (pos 0)))
-      ∷ declare (codes "w") (to cap.Iso "N") (value nil)
-      ∷ declare (codes "y") (to cap.Iso "N") (new_iso (codes "N") manager.Arena)
-      ∷ enter (var "y") (codes "z") (block (assign (dot "a" "v") (value (number (pos 1))) ∷ [])) ∷ []))
+    (declare (codes "a") (to cap.Mut "N") (new (codes "N"))
+    ∷ declare (codes "k") int (value (number (pos 0)))
+    ∷ declare (codes "w") (to cap.Iso "N") (value nil)
+    ∷ declare (codes "y") (to cap.Iso "N") (new_iso (codes "N") manager.Arena)
+    ∷ enter (var "y") (codes "z") (block (assign (dot "a" "v") (value (number (pos 1))) ∷ [])) ∷ []))
 unfolding digits
 outer_field_written = (refl, refl)
 
@@ -56,11 +56,11 @@ outer_reference_assigned : Example
     ∷ "a = nil; } }" ∷ [])
     (fault code.OutsideWindow)
     (program (class_named "N" false (field_named "v" int ∷ field_named "down" (to cap.Iso "N") ∷ []) ∷ []) manager.Trace
-      (declare (codes "a") (to cap.Mut "N") (new (codes "N"))
-      ∷ declare (codes "k") int (value (number (pos 0)))
-      ∷ declare (codes "w") (to cap.Iso "N") (value nil)
-      ∷ declare (codes "y") (to cap.Iso "N") (new_iso (codes "N") manager.Arena)
-      ∷ enter (var "y") (codes "z") (block (assign (var "a") (value nil) ∷ [])) ∷ []))
+    (declare (codes "a") (to cap.Mut "N") (new (codes "N"))
+    ∷ declare (codes "k") int (value (number (pos 0)))
+    ∷ declare (codes "w") (to cap.Iso "N") (value nil)
+    ∷ declare (codes "y") (to cap.Iso "N") (new_iso (codes "N") manager.Arena)
+    ∷ enter (var "y") (codes "z") (block (assign (var "a") (value nil) ∷ [])) ∷ []))
 unfolding digits
 outer_reference_assigned = (refl, refl)
 
@@ -71,11 +71,11 @@ outer_field_swapped : Example
     ∷ "swap w, a.down; } }" ∷ [])
     (fault code.Capability)
     (program (class_named "N" false (field_named "v" int ∷ field_named "down" (to cap.Iso "N") ∷ []) ∷ []) manager.Trace
-      (declare (codes "a") (to cap.Mut "N") (new (codes "N"))
-      ∷ declare (codes "k") int (value (number (pos 0)))
-      ∷ declare (codes "w") (to cap.Iso "N") (value nil)
-      ∷ declare (codes "y") (to cap.Iso "N") (new_iso (codes "N") manager.Arena)
-      ∷ enter (var "y") (codes "z") (block (swap (codes "w") (dot "a" "down") ∷ [])) ∷ []))
+    (declare (codes "a") (to cap.Mut "N") (new (codes "N"))
+    ∷ declare (codes "k") int (value (number (pos 0)))
+    ∷ declare (codes "w") (to cap.Iso "N") (value nil)
+    ∷ declare (codes "y") (to cap.Iso "N") (new_iso (codes "N") manager.Arena)
+    ∷ enter (var "y") (codes "z") (block (swap (codes "w") (dot "a" "down") ∷ [])) ∷ []))
 unfolding digits
 outer_field_swapped = (refl, refl)
 
@@ -86,11 +86,11 @@ outer_number_assigned : Example
     ∷ "k = 1; } }" ∷ [])
     None
     (program (class_named "N" false (field_named "v" int ∷ field_named "down" (to cap.Iso "N") ∷ []) ∷ []) manager.Trace
-      (declare (codes "a") (to cap.Mut "N") (new (codes "N"))
-      ∷ declare (codes "k") int (value (number (pos 0)))
-      ∷ declare (codes "w") (to cap.Iso "N") (value nil)
-      ∷ declare (codes "y") (to cap.Iso "N") (new_iso (codes "N") manager.Arena)
-      ∷ enter (var "y") (codes "z") (block (assign (var "k") (value (number (pos 1))) ∷ [])) ∷ []))
+    (declare (codes "a") (to cap.Mut "N") (new (codes "N"))
+    ∷ declare (codes "k") int (value (number (pos 0)))
+    ∷ declare (codes "w") (to cap.Iso "N") (value nil)
+    ∷ declare (codes "y") (to cap.Iso "N") (new_iso (codes "N") manager.Arena)
+    ∷ enter (var "y") (codes "z") (block (assign (var "k") (value (number (pos 1))) ∷ [])) ∷ []))
 unfolding digits
 outer_number_assigned = (refl, refl)
 
@@ -101,11 +101,11 @@ entered_variable_assigned : Example
     ∷ "y = nil; } }" ∷ [])
     (fault code.Unavailable)
     (program (class_named "N" false (field_named "v" int ∷ field_named "down" (to cap.Iso "N") ∷ []) ∷ []) manager.Trace
-      (declare (codes "a") (to cap.Mut "N") (new (codes "N"))
-      ∷ declare (codes "k") int (value (number (pos 0)))
-      ∷ declare (codes "w") (to cap.Iso "N") (value nil)
-      ∷ declare (codes "y") (to cap.Iso "N") (new_iso (codes "N") manager.Arena)
-      ∷ enter (var "y") (codes "z") (block (assign (var "y") (value nil) ∷ [])) ∷ []))
+    (declare (codes "a") (to cap.Mut "N") (new (codes "N"))
+    ∷ declare (codes "k") int (value (number (pos 0)))
+    ∷ declare (codes "w") (to cap.Iso "N") (value nil)
+    ∷ declare (codes "y") (to cap.Iso "N") (new_iso (codes "N") manager.Arena)
+    ∷ enter (var "y") (codes "z") (block (assign (var "y") (value nil) ∷ [])) ∷ []))
 unfolding digits
 entered_variable_assigned = (refl, refl)
 
@@ -114,9 +114,9 @@ used_in_loop : Example
     ("class N { v: int; }" ∷ "main arena { let k: int = 0; let y: iso N = nil; while k < 3 { let w: iso N = y; } }" ∷ [])
     (fault code.Loop)
     (program (class_named "N" false (field_named "v" int ∷ []) ∷ []) manager.Arena
-      (declare (codes "k") int (value (number (pos 0)))
-      ∷ declare (codes "y") (to cap.Iso "N") (value nil)
-      ∷ while (binary op.Lt (use_of "k") (number (pos 3))) (block (declare (codes "w") (to cap.Iso "N") (value (use_of "y")) ∷ [])) ∷ []))
+    (declare (codes "k") int (value (number (pos 0)))
+    ∷ declare (codes "y") (to cap.Iso "N") (value nil)
+    ∷ while (binary op.Lt (use_of "k") (number (pos 3))) (block (declare (codes "w") (to cap.Iso "N") (value (use_of "y")) ∷ [])) ∷ []))
 unfolding digits
 used_in_loop = (refl, refl)
 
@@ -125,11 +125,11 @@ given_back_in_loop : Example
     ("class N { v: int; }" ∷ "main arena { let k: int = 0; let y: iso N = nil; while k < 3 { let w: iso N = y; y = w; k = k + 1; } }" ∷ [])
     None
     (program (class_named "N" false (field_named "v" int ∷ []) ∷ []) manager.Arena
-      (declare (codes "k") int (value (number (pos 0)))
-      ∷ declare (codes "y") (to cap.Iso "N") (value nil)
-      ∷ while (binary op.Lt (use_of "k") (number (pos 3))) (block (declare (codes "w") (to cap.Iso "N") (value (use_of "y"))
-        ∷ assign (var "y") (value (use_of "w"))
-        ∷ assign (var "k") (value (binary op.Add (use_of "k") (number (pos 1)))) ∷ [])) ∷ []))
+    (declare (codes "k") int (value (number (pos 0)))
+    ∷ declare (codes "y") (to cap.Iso "N") (value nil)
+    ∷ while (binary op.Lt (use_of "k") (number (pos 3))) (block (declare (codes "w") (to cap.Iso "N") (value (use_of "y"))
+    ∷ assign (var "y") (value (use_of "w"))
+    ∷ assign (var "k") (value (binary op.Add (use_of "k") (number (pos 1)))) ∷ [])) ∷ []))
 unfolding digits
 given_back_in_loop = (refl, refl)
 
@@ -140,12 +140,12 @@ frozen_read : Example
     ∷ "swap w, z.down; } let f: imm N = freeze y; print f.down.v; }" ∷ [])
     None
     (program (class_named "N" false (field_named "v" int ∷ field_named "down" (to cap.Iso "N") ∷ []) ∷ []) manager.Trace
-      (declare (codes "y") (to cap.Iso "N") (new_iso (codes "N") manager.Arena)
-      ∷ declare (codes "w") (to cap.Iso "N") (new_iso (codes "N") manager.Count)
-      ∷ enter (var "w") (codes "z") (block (assign (dot "z" "v") (value (number (pos 9))) ∷ []))
-      ∷ enter (var "y") (codes "z") (block (swap (codes "w") (dot "z" "down") ∷ []))
-      ∷ declare (codes "f") (to cap.Imm "N") (freeze (codes "y"))
-      ∷ print (path (dots "f" "down" "v")) ∷ []))
+    (declare (codes "y") (to cap.Iso "N") (new_iso (codes "N") manager.Arena)
+    ∷ declare (codes "w") (to cap.Iso "N") (new_iso (codes "N") manager.Count)
+    ∷ enter (var "w") (codes "z") (block (assign (dot "z" "v") (value (number (pos 9))) ∷ []))
+    ∷ enter (var "y") (codes "z") (block (swap (codes "w") (dot "z" "down") ∷ []))
+    ∷ declare (codes "f") (to cap.Imm "N") (freeze (codes "y"))
+    ∷ print (path (dots "f" "down" "v")) ∷ []))
 unfolding digits
 frozen_read = (refl, refl)
 
@@ -156,12 +156,12 @@ frozen_written : Example
     ∷ "swap w, z.down; } let f: imm N = freeze y; f.v = 1; }" ∷ [])
     (fault code.Capability)
     (program (class_named "N" false (field_named "v" int ∷ field_named "down" (to cap.Iso "N") ∷ []) ∷ []) manager.Trace
-      (declare (codes "y") (to cap.Iso "N") (new_iso (codes "N") manager.Arena)
-      ∷ declare (codes "w") (to cap.Iso "N") (new_iso (codes "N") manager.Count)
-      ∷ enter (var "w") (codes "z") (block (assign (dot "z" "v") (value (number (pos 9))) ∷ []))
-      ∷ enter (var "y") (codes "z") (block (swap (codes "w") (dot "z" "down") ∷ []))
-      ∷ declare (codes "f") (to cap.Imm "N") (freeze (codes "y"))
-      ∷ assign (dot "f" "v") (value (number (pos 1))) ∷ []))
+    (declare (codes "y") (to cap.Iso "N") (new_iso (codes "N") manager.Arena)
+    ∷ declare (codes "w") (to cap.Iso "N") (new_iso (codes "N") manager.Count)
+    ∷ enter (var "w") (codes "z") (block (assign (dot "z" "v") (value (number (pos 9))) ∷ []))
+    ∷ enter (var "y") (codes "z") (block (swap (codes "w") (dot "z" "down") ∷ []))
+    ∷ declare (codes "f") (to cap.Imm "N") (freeze (codes "y"))
+    ∷ assign (dot "f" "v") (value (number (pos 1))) ∷ []))
 unfolding digits
 frozen_written = (refl, refl)
 
@@ -171,11 +171,11 @@ iso_field_asked : Example
     ∷ "main trace { let a: mut N = new N; let y: iso N = new iso N in arena; swap y, a.down; print y is nil; print a.down is nil; }" ∷ [])
     None
     (program (class_named "N" false (field_named "v" int ∷ field_named "down" (to cap.Iso "N") ∷ []) ∷ []) manager.Trace
-      (declare (codes "a") (to cap.Mut "N") (new (codes "N"))
-      ∷ declare (codes "y") (to cap.Iso "N") (new_iso (codes "N") manager.Arena)
-      ∷ swap (codes "y") (dot "a" "down")
-      ∷ print (is_nil (var "y"))
-      ∷ print (is_nil (dot "a" "down")) ∷ []))
+    (declare (codes "a") (to cap.Mut "N") (new (codes "N"))
+    ∷ declare (codes "y") (to cap.Iso "N") (new_iso (codes "N") manager.Arena)
+    ∷ swap (codes "y") (dot "a" "down")
+    ∷ print (is_nil (var "y"))
+    ∷ print (is_nil (dot "a" "down")) ∷ []))
 unfolding digits
 iso_field_asked = (refl, refl)
 
@@ -186,11 +186,11 @@ iso_field_read : Example
     ∷ "print a.down is nil; }" ∷ [])
     (fault code.IsoField)
     (program (class_named "N" false (field_named "v" int ∷ field_named "down" (to cap.Iso "N") ∷ []) ∷ []) manager.Trace
-      (declare (codes "a") (to cap.Mut "N") (new (codes "N"))
-      ∷ declare (codes "y") (to cap.Iso "N") (new_iso (codes "N") manager.Arena)
-      ∷ swap (codes "y") (dot "a" "down")
-      ∷ declare (codes "q") (to cap.Iso "N") (value (path (dot "a" "down")))
-      ∷ print (is_nil (dot "a" "down")) ∷ []))
+    (declare (codes "a") (to cap.Mut "N") (new (codes "N"))
+    ∷ declare (codes "y") (to cap.Iso "N") (new_iso (codes "N") manager.Arena)
+    ∷ swap (codes "y") (dot "a" "down")
+    ∷ declare (codes "q") (to cap.Iso "N") (value (path (dot "a" "down")))
+    ∷ print (is_nil (dot "a" "down")) ∷ []))
 unfolding digits
 iso_field_read = (refl, refl)
 
@@ -215,18 +215,18 @@ tmp_of_ordinary_class = (refl, refl)
 -- `mut` of a tmp class
 mut_of_tmp_class : Example ("tmp class T { p: paused A; }" ∷ "class A { x: mut T; }" ∷ "main arena { }" ∷ []) (fault code.BadType)
     (program (class_named "T" true (field_named "p" (to cap.Paused "A") ∷ [])
-      ∷ class_named "A" false (field_named "x" (to cap.Mut "T") ∷ []) ∷ [])
-      manager.Arena
-      [])
+    ∷ class_named "A" false (field_named "x" (to cap.Mut "T") ∷ []) ∷ [])
+    manager.Arena
+    [])
 unfolding digits
 mut_of_tmp_class = (refl, refl)
 
 -- `iso` of an ordinary class
 iso_of_ordinary_class : Example ("tmp class T { p: paused A; }" ∷ "class A { x: iso A; }" ∷ "main arena { }" ∷ []) None
     (program (class_named "T" true (field_named "p" (to cap.Paused "A") ∷ [])
-      ∷ class_named "A" false (field_named "x" (to cap.Iso "A") ∷ []) ∷ [])
-      manager.Arena
-      [])
+    ∷ class_named "A" false (field_named "x" (to cap.Iso "A") ∷ []) ∷ [])
+    manager.Arena
+    [])
 unfolding digits
 iso_of_ordinary_class = (refl, refl)
 
@@ -235,9 +235,9 @@ too_few_arguments : Example
     ("class A { n: int; def mut f(k: int): int { return k; } }" ∷ "main arena { let a: mut A = new A; call a.f(); }" ∷ [])
     (fault code.Arity)
     (program (class_named "A" false (field_named "n" int
-        ∷ method_named cap.Mut "f" (param "k" int ∷ []) (Some int) (return (use_of "k") ∷ []) ∷ []) ∷ [])
-      manager.Arena
-      (declare (codes "a") (to cap.Mut "A") (new (codes "A")) ∷ call (call_of (var "a") "f" []) ∷ []))
+    ∷ method_named cap.Mut "f" (param "k" int ∷ []) (Some int) (return (use_of "k") ∷ []) ∷ []) ∷ [])
+    manager.Arena
+    (declare (codes "a") (to cap.Mut "A") (new (codes "A")) ∷ call (call_of (var "a") "f" []) ∷ []))
 unfolding digits
 too_few_arguments = (refl, refl)
 
@@ -246,10 +246,10 @@ call_into_field : Example
     ("class A { n: int; def mut f(k: int): int { return k; } }" ∷ "main arena { let a: mut A = new A; a.n = call a.f(1); }" ∷ [])
     (fault code.CallTarget)
     (program (class_named "A" false (field_named "n" int
-        ∷ method_named cap.Mut "f" (param "k" int ∷ []) (Some int) (return (use_of "k") ∷ []) ∷ []) ∷ [])
-      manager.Arena
-      (declare (codes "a") (to cap.Mut "A") (new (codes "A"))
-      ∷ assign (dot "a" "n") (result_of (call_of (var "a") "f" ((number (pos 1)) ∷ []))) ∷ []))
+    ∷ method_named cap.Mut "f" (param "k" int ∷ []) (Some int) (return (use_of "k") ∷ []) ∷ []) ∷ [])
+    manager.Arena
+    (declare (codes "a") (to cap.Mut "A") (new (codes "A"))
+    ∷ assign (dot "a" "n") (result_of (call_of (var "a") "f" ((number (pos 1)) ∷ []))) ∷ []))
 unfolding digits
 call_into_field = (refl, refl)
 

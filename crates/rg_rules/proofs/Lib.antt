@@ -6,3 +6,4 @@ pub mod AcceptanceLemmas
 mod Sources
 mod FaultExamples
 mod RuleExamples
+mod PlaceExamples

@@ -1,6 +1,5 @@
 -- What a walk that gave a type says of its parts. For callers.
-use Rattle.std.proofs.Common.{◌≡◌, refl, ℕ, Bool as Truth, false, List, Option, Some, ok_or, Ok, arith}
-use Rattle.rg_base.specs.declared.words.Cap.{Cap}
+use Rattle.std.proofs.Common.{◌≡◌, refl, ℕ, false, List, Some, ok_or, Ok, arith}
 use Rattle.rg_base.specs.declared.words.Cap.TheVariants.{Mut, Tmp, Paused, Imm, Iso}
 use Rattle.rg_base.specs.declared.ty.Ty.{Ty}
 use Rattle.rg_base.specs.declared.ty.Ty.TheVariants.{Int, Bool, Ref}

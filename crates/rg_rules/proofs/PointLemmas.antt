@@ -31,7 +31,8 @@ free-not_do (LeaveAt k ∷ after) t mine f e = grind arith
 free-not_do (Back ∷ after) t mine f e = grind arith
 
 -- what a chain of options that gave a value says of its parts
-pub and_then-some : {A B : Type 0} (o : Option A) (go : A → Option B) (b : B) → option_and_then go o ≡ Some b → (a : A) × (o ≡ Some a) × (go a ≡ Some b)
+pub and_then-some : {A B : Type 0} (o : Option A) (go : A → Option B) (b : B) →
+    option_and_then go o ≡ Some b → (a : A) × (o ≡ Some a) × (go a ≡ Some b)
 and_then-some None go b h = grind arith
 and_then-some (Some a) go b h = (a, refl, h)
 
@@ -54,7 +55,8 @@ behind_test classes line r b go i mid h e =
 
 -- a block of a statement that has no fault has none
 pub inner_block-judged : (classes : List Class) (last : Option Ty) (line : ℕ) (env : Env) (k : StmtKind) (side : Side) (i : Opened) (mid : Env) →
-    judge_kind classes last line env k ≡ Ok mid → inner_block classes env k side ≡ Some i → (out : Env) × (judge_block classes None i.env i.block ≡ Ok out)
+    judge_kind classes last line env k ≡ Ok mid → inner_block classes env k side ≡ Some i →
+    (out : Env) × (judge_block classes None i.env i.block ≡ Ok out)
 inner_block-judged classes last line env (declare x t r) side i mid h e = grind arith
 inner_block-judged classes last line env (assign p r) side i mid h e = grind arith
 inner_block-judged classes last line env (call c) side i mid h e = grind arith
@@ -90,30 +92,35 @@ block_end-free classes env n line collect side i more e = grind arith
 block_end-free classes env n line (return c) side i more e = grind arith
 
 -- the statement at a point has no fault, and behind it stands the next point
-pub record Advanced (classes : List Class) (result : Option Ty) (env : Env) (b : Block) (after : List Item) (round : List Path) (p : Point) (s : Spot) (t : Stmt) (mine : List Item) : Type 0 where
+pub record Advanced (classes : List Class) (result : Option Ty) (env : Env) (b : Block) (after : List Item) (round : List Path)
+    (p : Point) (s : Spot) (t : Stmt) (mine : List Item) : Type 0 where
   pub last : Option Ty
   pub out : Env
   pub right : judge_stmt classes last s.env t ≡ Ok out
   pub spot_is : spot_in classes result env b after round (advance p) ≡ Some (record { env = out; items = mine; enters = s.enters })
 
-from_judged : (r : Lined Env) (mid : Env) (go : Env → Option Spot) (s : Spot) → r ≡ Ok mid → option_and_then go (judged r) ≡ Some s → go mid ≡ Some s
+from_judged : (r : Lined Env) (mid : Env) (go : Env → Option Spot) (s : Spot) → r ≡ Ok mid →
+    option_and_then go (judged r) ≡ Some s → go mid ≡ Some s
 from_judged (Ok x) mid go s e h = let same : x ≡ mid = grind arith in rw (← same) h
 from_judged (Err f) mid go s e h = grind arith
 
-to_judged : (r : Lined Env) (mid : Env) (go : Env → Option Spot) (s : Spot) → r ≡ Ok mid → go mid ≡ Some s → option_and_then go (judged r) ≡ Some s
+to_judged : (r : Lined Env) (mid : Env) (go : Env → Option Spot) (s : Spot) → r ≡ Ok mid →
+    go mid ≡ Some s → option_and_then go (judged r) ≡ Some s
 to_judged r mid go s e h = rw (e, judged) h
 
 to_some : (o : Option Opened) (a : Opened) (go : Opened → Option Spot) (s : Spot) → o ≡ Some a → go a ≡ Some s → option_and_then go o ≡ Some s
 to_some o a go s e h = rw e h
 
-stands_here : (classes : List Class) (result : Option Ty) (env : Env) (b : Block) (after : List Item) (round : List Path) (s : Spot) (u t : Stmt) (mine : List Item) (mid : Env) →
+stands_here : (classes : List Class) (result : Option Ty) (env : Env) (b : Block) (after : List Item) (round : List Path) (s : Spot)
+    (u t : Stmt) (mine : List Item) (mid : Env) →
     record { env = env; items = Do u ∷ items_of b after; enters = round } ≡ s → u ≡ t → items_of b after ≡ mine →
     judge_stmt classes (last_of result b) env u ≡ Ok mid → Advanced classes result env (next u b) after round here s t mine
 stands_here classes result env b after round s u t mine mid same one others h =
     rw (← same, ← one, ← others) (record { last = last_of result b; out = mid; right = h; spot_is = rw (h, judged) refl })
 
-pub spot-advance : (classes : List Class) (result : Option Ty) (env out : Env) (b : Block) (after : List Item) (round : List Path) (p : Point) (s : Spot) (t : Stmt) (mine : List Item) →
-    BeginsFree after → judge_block classes result env b ≡ Ok out → spot_in classes result env b after round p ≡ Some s → s.items ≡ Do t ∷ mine →
+-- at a spot whose first item is a statement that statement has no fault, and what is behind it is the next spot
+pub spot-advance : (classes : List Class) (result : Option Ty) (env out : Env) (b : Block) (after : List Item) (round : List Path)
+    (p : Point) (s : Spot) (t : Stmt) (mine : List Item) → BeginsFree after → judge_block classes result env b ≡ Ok out → spot_in classes result env b after round p ≡ Some s → s.items ≡ Do t ∷ mine →
     Advanced classes result env b after round p s t mine
 spot-advance classes result env out none after round here s t mine f h e i =
     let same : record { env = env; items = after; enters = round } ≡ s = grind arith in free-not_do after t mine f (ap (λ x. x.items) same ∙ i)
@@ -129,12 +136,9 @@ spot-advance classes result env out (next u b) after round (behind p) s t mine f
     let later : Env → Option Spot = λ mid. spot_in classes result mid b after round (advance p) in
     let a = from_judged (judge_stmt classes (last_of result b) env u) m.0 go s m.1 e in
     let n = spot-advance classes result m.0 out b after round p s t mine f m.2 a i in
-    record {
-      last = n.last;
-      out = n.out;
-      right = n.right;
-      spot_is = to_judged (judge_stmt classes (last_of result b) env u) m.0 later (record { env = n.out; items = mine; enters = s.enters }) m.1 n.spot_is;
-    }
+    let there : Spot = record { env = n.out; items = mine; enters = s.enters } in
+    let is = to_judged (judge_stmt classes (last_of result b) env u) m.0 later there m.1 n.spot_is in
+    record { last = n.last; out = n.out; right = n.right; spot_is = is }
 spot-advance classes result env out none after round (inside side p) s t mine f h e i = grind arith
 spot-advance classes result env out (next (stmt line k) b) after round (inside side p) s t mine f h e i =
     let m = bind-ok (judge_kind classes (last_of result b) line env k) _ out h in

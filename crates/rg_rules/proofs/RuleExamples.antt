@@ -1,12 +1,12 @@
 -- Short programs and their first faults, computed: for each subject some of what is refused and allowed, and the order of
 -- tests. Beside each text stands its tree.
-use Rattle.std.proofs.Common.{◌≡◌, refl, [], ◌∷◌, true, false, Some, None, codes, pos}
+use Rattle.std.proofs.Common.{refl, [], ◌∷◌, true, false, Some, None, codes, pos}
 use Rattle.std.specs.Fmt.{digits}
 use Rattle.rg_base.specs.declared.words.Cap.TheVariants as cap
 use Rattle.rg_base.specs.declared.words.Manager.TheVariants as manager
 use Rattle.rg_base.specs.declared.fault.Code.TheVariants as code
 use Rattle.rg_tree.specs.declared.rows.BinOp.TheVariants as op
-use Rattle.rg_tree.specs.Tree.{int, bool, number, boolean, nil, path, is_nil, binary, value, new, new_tmp, freeze, merge, read, result_of, declare, assign, call, swap, branch, no_else, otherwise, enter, print, return}
+use Rattle.rg_tree.specs.Tree.{int, bool, number, boolean, nil, path, is_nil, binary, value, new, new_tmp, freeze, merge, result_of, declare, assign, swap, branch, no_else, otherwise, enter, print, return}
 use Rattle.rg_rules.proofs.Sources.{self, var, dot, use_of, to, call_of, block, field_named, param, method_named, class_named, program, fault, Example}
 
 -- Headers
@@ -32,15 +32,15 @@ receiver_before_params = (refl, refl)
 -- a parameter's name comes before its type
 param_twice : Example ("class A { def mut f(a: int, a: mut B) { } }" ∷ "main arena { }" ∷ []) (fault code.Duplicate)
     (program (class_named "A" false (method_named cap.Mut "f" (param "a" int ∷ param "a" (to cap.Mut "B") ∷ []) None [] ∷ []) ∷ []) manager.Arena
-      [])
+    [])
 unfolding digits
 param_twice = (refl, refl)
 
 -- the parameters come before the result
 params_before_result : Example ("class A { def mut f(a: tmp A): mut B { } }" ∷ "main arena { }" ∷ []) (fault code.BadType)
     (program (class_named "A" false (method_named cap.Mut "f" (param "a" (to cap.Tmp "A") ∷ []) (Some (to cap.Mut "B")) [] ∷ []) ∷ [])
-      manager.Arena
-      [])
+    manager.Arena
+    [])
 unfolding digits
 params_before_result = (refl, refl)
 
@@ -59,9 +59,9 @@ paused_field = (refl, refl)
 -- headers come before bodies
 headers_before_bodies : Example ("class A { def mut f() { print nil; } }" ∷ "class B { x: mut C; }" ∷ "main arena { }" ∷ []) (fault code.Unknown)
     (program (class_named "A" false (method_named cap.Mut "f" [] None (print nil ∷ []) ∷ [])
-      ∷ class_named "B" false (field_named "x" (to cap.Mut "C") ∷ []) ∷ [])
-      manager.Arena
-      [])
+    ∷ class_named "B" false (field_named "x" (to cap.Mut "C") ∷ []) ∷ [])
+    manager.Arena
+    [])
 unfolding digits
 headers_before_bodies = (refl, refl)
 
@@ -85,13 +85,13 @@ field_behind_iso : Example
     ∷ "main arena { let y: iso A = nil; let z: iso A = y; print y.n; }" ∷ [])
     (fault code.Capability)
     (program (class_named "A" false (field_named "n" int
-        ∷ field_named "o" (to cap.Iso "A")
-        ∷ method_named cap.Mut "f" (param "y" (to cap.Iso "A") ∷ []) (Some (to cap.Iso "A")) (return (use_of "y") ∷ [])
-        ∷ method_named cap.Imm "g" [] None [] ∷ []) ∷ [])
-      manager.Arena
-      (declare (codes "y") (to cap.Iso "A") (value nil)
-      ∷ declare (codes "z") (to cap.Iso "A") (value (use_of "y"))
-      ∷ print (path (dot "y" "n")) ∷ []))
+    ∷ field_named "o" (to cap.Iso "A")
+    ∷ method_named cap.Mut "f" (param "y" (to cap.Iso "A") ∷ []) (Some (to cap.Iso "A")) (return (use_of "y") ∷ [])
+    ∷ method_named cap.Imm "g" [] None [] ∷ []) ∷ [])
+    manager.Arena
+    (declare (codes "y") (to cap.Iso "A") (value nil)
+    ∷ declare (codes "z") (to cap.Iso "A") (value (use_of "y"))
+    ∷ print (path (dot "y" "n")) ∷ []))
 unfolding digits
 field_behind_iso = (refl, refl)
 
@@ -107,13 +107,13 @@ iso_field_behind_paused : Example
     ∷ "main arena { let a: mut A = nil; let p: paused A = a; print p.o is nil; }" ∷ [])
     (fault code.Capability)
     (program (class_named "A" false (field_named "n" int
-        ∷ field_named "o" (to cap.Iso "A")
-        ∷ method_named cap.Mut "f" (param "y" (to cap.Iso "A") ∷ []) (Some (to cap.Iso "A")) (return (use_of "y") ∷ [])
-        ∷ method_named cap.Imm "g" [] None [] ∷ []) ∷ [])
-      manager.Arena
-      (declare (codes "a") (to cap.Mut "A") (value nil)
-      ∷ declare (codes "p") (to cap.Paused "A") (value (use_of "a"))
-      ∷ print (is_nil (dot "p" "o")) ∷ []))
+    ∷ field_named "o" (to cap.Iso "A")
+    ∷ method_named cap.Mut "f" (param "y" (to cap.Iso "A") ∷ []) (Some (to cap.Iso "A")) (return (use_of "y") ∷ [])
+    ∷ method_named cap.Imm "g" [] None [] ∷ []) ∷ [])
+    manager.Arena
+    (declare (codes "a") (to cap.Mut "A") (value nil)
+    ∷ declare (codes "p") (to cap.Paused "A") (value (use_of "a"))
+    ∷ print (is_nil (dot "p" "o")) ∷ []))
 unfolding digits
 iso_field_behind_paused = (refl, refl)
 
@@ -123,11 +123,11 @@ iso_field_behind_imm : Example
     ∷ "main arena { let p: imm A = nil; let q: imm A = p.o; }" ∷ [])
     None
     (program (class_named "A" false (field_named "n" int
-        ∷ field_named "o" (to cap.Iso "A")
-        ∷ method_named cap.Mut "f" (param "y" (to cap.Iso "A") ∷ []) (Some (to cap.Iso "A")) (return (use_of "y") ∷ [])
-        ∷ method_named cap.Imm "g" [] None [] ∷ []) ∷ [])
-      manager.Arena
-      (declare (codes "p") (to cap.Imm "A") (value nil) ∷ declare (codes "q") (to cap.Imm "A") (value (path (dot "p" "o"))) ∷ []))
+    ∷ field_named "o" (to cap.Iso "A")
+    ∷ method_named cap.Mut "f" (param "y" (to cap.Iso "A") ∷ []) (Some (to cap.Iso "A")) (return (use_of "y") ∷ [])
+    ∷ method_named cap.Imm "g" [] None [] ∷ []) ∷ [])
+    manager.Arena
+    (declare (codes "p") (to cap.Imm "A") (value nil) ∷ declare (codes "q") (to cap.Imm "A") (value (path (dot "p" "o"))) ∷ []))
 unfolding digits
 iso_field_behind_imm = (refl, refl)
 
@@ -142,23 +142,23 @@ nil_alone = (refl, refl)
 -- so it can't be compared
 nil_compared : Example ("class A { }" ∷ "main arena { let a: mut A = nil; print a == nil; }" ∷ []) (fault code.Mismatch)
     (program (class_named "A" false [] ∷ []) manager.Arena
-      (declare (codes "a") (to cap.Mut "A") (value nil) ∷ print (binary op.Eq (use_of "a") nil) ∷ []))
+    (declare (codes "a") (to cap.Mut "A") (value nil) ∷ print (binary op.Eq (use_of "a") nil) ∷ []))
 unfolding digits
 nil_compared = (refl, refl)
 
 -- `iso` variables can't be compared
 iso_compared : Example ("class A { }" ∷ "main arena { let y: iso A = nil; let z: iso A = nil; print y == z; }" ∷ []) (fault code.Mismatch)
     (program (class_named "A" false [] ∷ []) manager.Arena
-      (declare (codes "y") (to cap.Iso "A") (value nil)
-      ∷ declare (codes "z") (to cap.Iso "A") (value nil)
-      ∷ print (binary op.Eq (use_of "y") (use_of "z")) ∷ []))
+    (declare (codes "y") (to cap.Iso "A") (value nil)
+    ∷ declare (codes "z") (to cap.Iso "A") (value nil)
+    ∷ print (binary op.Eq (use_of "y") (use_of "z")) ∷ []))
 unfolding digits
 iso_compared = (refl, refl)
 
 -- the first operand uses it up
 iso_compared_with_itself : Example ("class A { }" ∷ "main arena { let y: iso A = nil; print y == y; }" ∷ []) (fault code.Unavailable)
     (program (class_named "A" false [] ∷ []) manager.Arena
-      (declare (codes "y") (to cap.Iso "A") (value nil) ∷ print (binary op.Eq (use_of "y") (use_of "y")) ∷ []))
+    (declare (codes "y") (to cap.Iso "A") (value nil) ∷ print (binary op.Eq (use_of "y") (use_of "y")) ∷ []))
 unfolding digits
 iso_compared_with_itself = (refl, refl)
 
@@ -167,9 +167,9 @@ classes_compared : Example
     ("class A { }" ∷ "class B { }" ∷ "main arena { let a: mut A = nil; let b: mut B = nil; print a == b; }" ∷ [])
     (fault code.Mismatch)
     (program (class_named "A" false [] ∷ class_named "B" false [] ∷ []) manager.Arena
-      (declare (codes "a") (to cap.Mut "A") (value nil)
-      ∷ declare (codes "b") (to cap.Mut "B") (value nil)
-      ∷ print (binary op.Eq (use_of "a") (use_of "b")) ∷ []))
+    (declare (codes "a") (to cap.Mut "A") (value nil)
+    ∷ declare (codes "b") (to cap.Mut "B") (value nil)
+    ∷ print (binary op.Eq (use_of "a") (use_of "b")) ∷ []))
 unfolding digits
 classes_compared = (refl, refl)
 
@@ -182,16 +182,16 @@ number_and_truth = (refl, refl)
 -- what is gone can't be asked
 asked_when_gone : Example ("class A { }" ∷ "main arena { let y: iso A = nil; let z: iso A = y; print y is nil; }" ∷ []) (fault code.Unavailable)
     (program (class_named "A" false [] ∷ []) manager.Arena
-      (declare (codes "y") (to cap.Iso "A") (value nil)
-      ∷ declare (codes "z") (to cap.Iso "A") (value (use_of "y"))
-      ∷ print (is_nil (var "y")) ∷ []))
+    (declare (codes "y") (to cap.Iso "A") (value nil)
+    ∷ declare (codes "z") (to cap.Iso "A") (value (use_of "y"))
+    ∷ print (is_nil (var "y")) ∷ []))
 unfolding digits
 asked_when_gone = (refl, refl)
 
 -- asking uses nothing up
 asked_twice : Example ("class A { }" ∷ "main arena { let y: iso A = nil; print y is nil; print y is nil; }" ∷ []) None
     (program (class_named "A" false [] ∷ []) manager.Arena
-      (declare (codes "y") (to cap.Iso "A") (value nil) ∷ print (is_nil (var "y")) ∷ print (is_nil (var "y")) ∷ []))
+    (declare (codes "y") (to cap.Iso "A") (value nil) ∷ print (is_nil (var "y")) ∷ print (is_nil (var "y")) ∷ []))
 unfolding digits
 asked_twice = (refl, refl)
 
@@ -206,7 +206,7 @@ new_of_unknown_class = (refl, refl)
 -- `new` of a tmp class
 new_of_tmp_class : Example ("tmp class T { }" ∷ "class A { }" ∷ "main arena { let a: mut A = new T; }" ∷ []) (fault code.BadType)
     (program (class_named "T" true [] ∷ class_named "A" false [] ∷ []) manager.Arena
-      (declare (codes "a") (to cap.Mut "A") (new (codes "T")) ∷ []))
+    (declare (codes "a") (to cap.Mut "A") (new (codes "T")) ∷ []))
 unfolding digits
 new_of_tmp_class = (refl, refl)
 
@@ -219,7 +219,7 @@ new_tmp_of_ordinary_class = (refl, refl)
 -- `freeze` of a number
 number_frozen : Example ("class A { }" ∷ "main arena { let k: int = 1; let f: imm A = freeze k; }" ∷ []) (fault code.Mismatch)
     (program (class_named "A" false [] ∷ []) manager.Arena
-      (declare (codes "k") int (value (number (pos 1))) ∷ declare (codes "f") (to cap.Imm "A") (freeze (codes "k")) ∷ []))
+    (declare (codes "k") int (value (number (pos 1))) ∷ declare (codes "f") (to cap.Imm "A") (freeze (codes "k")) ∷ []))
 unfolding digits
 number_frozen = (refl, refl)
 
@@ -228,9 +228,9 @@ gone_merged : Example
     ("class A { }" ∷ "main arena { let y: iso A = nil; let f: imm A = freeze y; let b: mut A = merge y; }" ∷ [])
     (fault code.Unavailable)
     (program (class_named "A" false [] ∷ []) manager.Arena
-      (declare (codes "y") (to cap.Iso "A") (value nil)
-      ∷ declare (codes "f") (to cap.Imm "A") (freeze (codes "y"))
-      ∷ declare (codes "b") (to cap.Mut "A") (merge (codes "y")) ∷ []))
+    (declare (codes "y") (to cap.Iso "A") (value nil)
+    ∷ declare (codes "f") (to cap.Imm "A") (freeze (codes "y"))
+    ∷ declare (codes "b") (to cap.Mut "A") (merge (codes "y")) ∷ []))
 unfolding digits
 gone_merged = (refl, refl)
 
@@ -240,14 +240,14 @@ receiver_not_below : Example
     ∷ "main arena { let y: iso A = nil; let a: mut A = nil; let p: paused A = a; y = call p.f(y); }" ∷ [])
     (fault code.Capability)
     (program (class_named "A" false (field_named "n" int
-        ∷ field_named "o" (to cap.Iso "A")
-        ∷ method_named cap.Mut "f" (param "y" (to cap.Iso "A") ∷ []) (Some (to cap.Iso "A")) (return (use_of "y") ∷ [])
-        ∷ method_named cap.Imm "g" [] None [] ∷ []) ∷ [])
-      manager.Arena
-      (declare (codes "y") (to cap.Iso "A") (value nil)
-      ∷ declare (codes "a") (to cap.Mut "A") (value nil)
-      ∷ declare (codes "p") (to cap.Paused "A") (value (use_of "a"))
-      ∷ assign (var "y") (result_of (call_of (var "p") "f" ((use_of "y") ∷ []))) ∷ []))
+    ∷ field_named "o" (to cap.Iso "A")
+    ∷ method_named cap.Mut "f" (param "y" (to cap.Iso "A") ∷ []) (Some (to cap.Iso "A")) (return (use_of "y") ∷ [])
+    ∷ method_named cap.Imm "g" [] None [] ∷ []) ∷ [])
+    manager.Arena
+    (declare (codes "y") (to cap.Iso "A") (value nil)
+    ∷ declare (codes "a") (to cap.Mut "A") (value nil)
+    ∷ declare (codes "p") (to cap.Paused "A") (value (use_of "a"))
+    ∷ assign (var "y") (result_of (call_of (var "p") "f" ((use_of "y") ∷ []))) ∷ []))
 unfolding digits
 receiver_not_below = (refl, refl)
 
@@ -257,13 +257,13 @@ arity_before_types : Example
     ∷ "main arena { let y: iso A = nil; let a: mut A = nil; y = call a.f(1, 2); }" ∷ [])
     (fault code.Arity)
     (program (class_named "A" false (field_named "n" int
-        ∷ field_named "o" (to cap.Iso "A")
-        ∷ method_named cap.Mut "f" (param "y" (to cap.Iso "A") ∷ []) (Some (to cap.Iso "A")) (return (use_of "y") ∷ [])
-        ∷ method_named cap.Imm "g" [] None [] ∷ []) ∷ [])
-      manager.Arena
-      (declare (codes "y") (to cap.Iso "A") (value nil)
-      ∷ declare (codes "a") (to cap.Mut "A") (value nil)
-      ∷ assign (var "y") (result_of (call_of (var "a") "f" ((number (pos 1)) ∷ (number (pos 2)) ∷ []))) ∷ []))
+    ∷ field_named "o" (to cap.Iso "A")
+    ∷ method_named cap.Mut "f" (param "y" (to cap.Iso "A") ∷ []) (Some (to cap.Iso "A")) (return (use_of "y") ∷ [])
+    ∷ method_named cap.Imm "g" [] None [] ∷ []) ∷ [])
+    manager.Arena
+    (declare (codes "y") (to cap.Iso "A") (value nil)
+    ∷ declare (codes "a") (to cap.Mut "A") (value nil)
+    ∷ assign (var "y") (result_of (call_of (var "a") "f" ((number (pos 1)) ∷ (number (pos 2)) ∷ []))) ∷ []))
 unfolding digits
 arity_before_types = (refl, refl)
 
@@ -273,11 +273,11 @@ no_result : Example
     ∷ "main arena { let p: imm A = nil; let k: int = call p.g(); }" ∷ [])
     (fault code.Mismatch)
     (program (class_named "A" false (field_named "n" int
-        ∷ field_named "o" (to cap.Iso "A")
-        ∷ method_named cap.Mut "f" (param "y" (to cap.Iso "A") ∷ []) (Some (to cap.Iso "A")) (return (use_of "y") ∷ [])
-        ∷ method_named cap.Imm "g" [] None [] ∷ []) ∷ [])
-      manager.Arena
-      (declare (codes "p") (to cap.Imm "A") (value nil) ∷ declare (codes "k") int (result_of (call_of (var "p") "g" [])) ∷ []))
+    ∷ field_named "o" (to cap.Iso "A")
+    ∷ method_named cap.Mut "f" (param "y" (to cap.Iso "A") ∷ []) (Some (to cap.Iso "A")) (return (use_of "y") ∷ [])
+    ∷ method_named cap.Imm "g" [] None [] ∷ []) ∷ [])
+    manager.Arena
+    (declare (codes "p") (to cap.Imm "A") (value nil) ∷ declare (codes "k") int (result_of (call_of (var "p") "g" [])) ∷ []))
 unfolding digits
 no_result = (refl, refl)
 
@@ -292,16 +292,16 @@ let_twice = (refl, refl)
 -- what a block adds goes at its end
 block_ends : Example ("main arena { if true { let k: int = 1; } let k: bool = true; print k; }" ∷ []) None
     (program [] manager.Arena
-      (branch (boolean true) (block (declare (codes "k") int (value (number (pos 1))) ∷ [])) no_else
-      ∷ declare (codes "k") bool (value (boolean true))
-      ∷ print (use_of "k") ∷ []))
+    (branch (boolean true) (block (declare (codes "k") int (value (number (pos 1))) ∷ [])) no_else
+    ∷ declare (codes "k") bool (value (boolean true))
+    ∷ print (use_of "k") ∷ []))
 unfolding digits
 block_ends = (refl, refl)
 
 -- `y = y` of a ready `iso` variable
 assigned_to_itself : Example ("class A { }" ∷ "main arena { let y: iso A = nil; y = y; }" ∷ []) None
     (program (class_named "A" false [] ∷ []) manager.Arena
-      (declare (codes "y") (to cap.Iso "A") (value nil) ∷ assign (var "y") (value (use_of "y")) ∷ []))
+    (declare (codes "y") (to cap.Iso "A") (value nil) ∷ assign (var "y") (value (use_of "y")) ∷ []))
 unfolding digits
 assigned_to_itself = (refl, refl)
 
@@ -311,13 +311,13 @@ taken_back : Example
     ∷ "main arena { let y: iso A = nil; let a: mut A = nil; y = call a.f(y); }" ∷ [])
     None
     (program (class_named "A" false (field_named "n" int
-        ∷ field_named "o" (to cap.Iso "A")
-        ∷ method_named cap.Mut "f" (param "y" (to cap.Iso "A") ∷ []) (Some (to cap.Iso "A")) (return (use_of "y") ∷ [])
-        ∷ method_named cap.Imm "g" [] None [] ∷ []) ∷ [])
-      manager.Arena
-      (declare (codes "y") (to cap.Iso "A") (value nil)
-      ∷ declare (codes "a") (to cap.Mut "A") (value nil)
-      ∷ assign (var "y") (result_of (call_of (var "a") "f" ((use_of "y") ∷ []))) ∷ []))
+    ∷ field_named "o" (to cap.Iso "A")
+    ∷ method_named cap.Mut "f" (param "y" (to cap.Iso "A") ∷ []) (Some (to cap.Iso "A")) (return (use_of "y") ∷ [])
+    ∷ method_named cap.Imm "g" [] None [] ∷ []) ∷ [])
+    manager.Arena
+    (declare (codes "y") (to cap.Iso "A") (value nil)
+    ∷ declare (codes "a") (to cap.Mut "A") (value nil)
+    ∷ assign (var "y") (result_of (call_of (var "a") "f" ((use_of "y") ∷ []))) ∷ []))
 unfolding digits
 taken_back = (refl, refl)
 
@@ -330,9 +330,9 @@ self_assigned = (refl, refl)
 -- an `imm` variable outside the window may be assigned
 outer_imm_assigned : Example ("class A { }" ∷ "main arena { let f: imm A = nil; let y: iso A = nil; enter y as z { f = nil; } }" ∷ []) None
     (program (class_named "A" false [] ∷ []) manager.Arena
-      (declare (codes "f") (to cap.Imm "A") (value nil)
-      ∷ declare (codes "y") (to cap.Iso "A") (value nil)
-      ∷ enter (var "y") (codes "z") (block (assign (var "f") (value nil) ∷ [])) ∷ []))
+    (declare (codes "f") (to cap.Imm "A") (value nil)
+    ∷ declare (codes "y") (to cap.Iso "A") (value nil)
+    ∷ enter (var "y") (codes "z") (block (assign (var "f") (value nil) ∷ [])) ∷ []))
 unfolding digits
 outer_imm_assigned = (refl, refl)
 
@@ -341,18 +341,18 @@ outer_mut_seen : Example
     ("class A { }" ∷ "main arena { let a: mut A = nil; let y: iso A = nil; enter y as z { let p: paused A = a; let b: mut A = a; } }" ∷ [])
     (fault code.Mismatch)
     (program (class_named "A" false [] ∷ []) manager.Arena
-      (declare (codes "a") (to cap.Mut "A") (value nil)
-      ∷ declare (codes "y") (to cap.Iso "A") (value nil)
-      ∷ enter (var "y") (codes "z") (block (declare (codes "p") (to cap.Paused "A") (value (use_of "a"))
-        ∷ declare (codes "b") (to cap.Mut "A") (value (use_of "a")) ∷ [])) ∷ []))
+    (declare (codes "a") (to cap.Mut "A") (value nil)
+    ∷ declare (codes "y") (to cap.Iso "A") (value nil)
+    ∷ enter (var "y") (codes "z") (block (declare (codes "p") (to cap.Paused "A") (value (use_of "a"))
+    ∷ declare (codes "b") (to cap.Mut "A") (value (use_of "a")) ∷ [])) ∷ []))
 unfolding digits
 outer_mut_seen = (refl, refl)
 
 -- what is entered can't be used
 lent_used : Example ("class A { }" ∷ "main arena { let y: iso A = nil; enter y as z { let w: iso A = y; } }" ∷ []) (fault code.Unavailable)
     (program (class_named "A" false [] ∷ []) manager.Arena
-      (declare (codes "y") (to cap.Iso "A") (value nil)
-      ∷ enter (var "y") (codes "z") (block (declare (codes "w") (to cap.Iso "A") (value (use_of "y")) ∷ [])) ∷ []))
+    (declare (codes "y") (to cap.Iso "A") (value nil)
+    ∷ enter (var "y") (codes "z") (block (declare (codes "w") (to cap.Iso "A") (value (use_of "y")) ∷ [])) ∷ []))
 unfolding digits
 lent_used = (refl, refl)
 
@@ -361,18 +361,18 @@ lent_behind_branch : Example
     ("class A { }" ∷ "main arena { let y: iso A = nil; enter y as z { if true { } else { } enter y as w { } } }" ∷ [])
     (fault code.Unavailable)
     (program (class_named "A" false [] ∷ []) manager.Arena
-      (declare (codes "y") (to cap.Iso "A") (value nil)
-      ∷ enter (var "y") (codes "z") (block (branch (boolean true) (block []) (otherwise (block []))
-        ∷ enter (var "y") (codes "w") (block []) ∷ [])) ∷ []))
+    (declare (codes "y") (to cap.Iso "A") (value nil)
+    ∷ enter (var "y") (codes "z") (block (branch (boolean true) (block []) (otherwise (block []))
+    ∷ enter (var "y") (codes "w") (block []) ∷ [])) ∷ []))
 unfolding digits
 lent_behind_branch = (refl, refl)
 
 -- it is ready again behind the `enter`
 entered_again : Example ("class A { }" ∷ "main arena { let y: iso A = nil; enter y as z { } enter y as z { } }" ∷ []) None
     (program (class_named "A" false [] ∷ []) manager.Arena
-      (declare (codes "y") (to cap.Iso "A") (value nil)
-      ∷ enter (var "y") (codes "z") (block [])
-      ∷ enter (var "y") (codes "z") (block []) ∷ []))
+    (declare (codes "y") (to cap.Iso "A") (value nil)
+    ∷ enter (var "y") (codes "z") (block [])
+    ∷ enter (var "y") (codes "z") (block []) ∷ []))
 unfolding digits
 entered_again = (refl, refl)
 
@@ -382,13 +382,13 @@ iso_field_before_call : Example
     ∷ "main arena { let y: iso A = nil; let a: mut A = nil; a.o = call a.f(y); }" ∷ [])
     (fault code.IsoField)
     (program (class_named "A" false (field_named "n" int
-        ∷ field_named "o" (to cap.Iso "A")
-        ∷ method_named cap.Mut "f" (param "y" (to cap.Iso "A") ∷ []) (Some (to cap.Iso "A")) (return (use_of "y") ∷ [])
-        ∷ method_named cap.Imm "g" [] None [] ∷ []) ∷ [])
-      manager.Arena
-      (declare (codes "y") (to cap.Iso "A") (value nil)
-      ∷ declare (codes "a") (to cap.Mut "A") (value nil)
-      ∷ assign (dot "a" "o") (result_of (call_of (var "a") "f" ((use_of "y") ∷ []))) ∷ []))
+    ∷ field_named "o" (to cap.Iso "A")
+    ∷ method_named cap.Mut "f" (param "y" (to cap.Iso "A") ∷ []) (Some (to cap.Iso "A")) (return (use_of "y") ∷ [])
+    ∷ method_named cap.Imm "g" [] None [] ∷ []) ∷ [])
+    manager.Arena
+    (declare (codes "y") (to cap.Iso "A") (value nil)
+    ∷ declare (codes "a") (to cap.Mut "A") (value nil)
+    ∷ assign (dot "a" "o") (result_of (call_of (var "a") "f" ((use_of "y") ∷ []))) ∷ []))
 unfolding digits
 iso_field_before_call = (refl, refl)
 
@@ -404,20 +404,20 @@ swap_with_number : Example
     ∷ "main arena { let y: iso A = nil; let a: mut A = nil; swap y, a.n; }" ∷ [])
     (fault code.Mismatch)
     (program (class_named "A" false (field_named "n" int
-        ∷ field_named "o" (to cap.Iso "A")
-        ∷ method_named cap.Mut "f" (param "y" (to cap.Iso "A") ∷ []) (Some (to cap.Iso "A")) (return (use_of "y") ∷ [])
-        ∷ method_named cap.Imm "g" [] None [] ∷ []) ∷ [])
-      manager.Arena
-      (declare (codes "y") (to cap.Iso "A") (value nil)
-      ∷ declare (codes "a") (to cap.Mut "A") (value nil)
-      ∷ swap (codes "y") (dot "a" "n") ∷ []))
+    ∷ field_named "o" (to cap.Iso "A")
+    ∷ method_named cap.Mut "f" (param "y" (to cap.Iso "A") ∷ []) (Some (to cap.Iso "A")) (return (use_of "y") ∷ [])
+    ∷ method_named cap.Imm "g" [] None [] ∷ []) ∷ [])
+    manager.Arena
+    (declare (codes "y") (to cap.Iso "A") (value nil)
+    ∷ declare (codes "a") (to cap.Mut "A") (value nil)
+    ∷ swap (codes "y") (dot "a" "n") ∷ []))
 unfolding digits
 swap_with_number = (refl, refl)
 
 -- `enter` needs an `iso` variable
 mut_entered : Example ("class A { }" ∷ "main arena { let a: mut A = nil; enter a as z { } }" ∷ []) (fault code.Mismatch)
     (program (class_named "A" false [] ∷ []) manager.Arena
-      (declare (codes "a") (to cap.Mut "A") (value nil) ∷ enter (var "a") (codes "z") (block []) ∷ []))
+    (declare (codes "a") (to cap.Mut "A") (value nil) ∷ enter (var "a") (codes "z") (block []) ∷ []))
 unfolding digits
 mut_entered = (refl, refl)
 
@@ -427,12 +427,12 @@ field_entered : Example
     ∷ "main arena { let a: mut A = nil; enter a.o as z { z.n = 1; } }" ∷ [])
     None
     (program (class_named "A" false (field_named "n" int
-        ∷ field_named "o" (to cap.Iso "A")
-        ∷ method_named cap.Mut "f" (param "y" (to cap.Iso "A") ∷ []) (Some (to cap.Iso "A")) (return (use_of "y") ∷ [])
-        ∷ method_named cap.Imm "g" [] None [] ∷ []) ∷ [])
-      manager.Arena
-      (declare (codes "a") (to cap.Mut "A") (value nil)
-      ∷ enter (dot "a" "o") (codes "z") (block (assign (dot "z" "n") (value (number (pos 1))) ∷ [])) ∷ []))
+    ∷ field_named "o" (to cap.Iso "A")
+    ∷ method_named cap.Mut "f" (param "y" (to cap.Iso "A") ∷ []) (Some (to cap.Iso "A")) (return (use_of "y") ∷ [])
+    ∷ method_named cap.Imm "g" [] None [] ∷ []) ∷ [])
+    manager.Arena
+    (declare (codes "a") (to cap.Mut "A") (value nil)
+    ∷ enter (dot "a" "o") (codes "z") (block (assign (dot "z" "n") (value (number (pos 1))) ∷ [])) ∷ []))
 unfolding digits
 field_entered = (refl, refl)
 
@@ -453,10 +453,10 @@ return_in_main = (refl, refl)
 -- a `return` inside a block isn't the last statement of its body
 return_in_block : Example ("class A { def mut f(): int { if true { return 1; } return 2; } }" ∷ "main arena { }" ∷ []) (fault code.Return)
     (program (class_named "A" false (method_named cap.Mut "f" [] (Some int)
-          (branch (boolean true) (block (return (number (pos 1)) ∷ [])) no_else
-          ∷ return (number (pos 2)) ∷ []) ∷ []) ∷ [])
-      manager.Arena
-      [])
+    (branch (boolean true) (block (return (number (pos 1)) ∷ [])) no_else
+    ∷ return (number (pos 2)) ∷ []) ∷ []) ∷ [])
+    manager.Arena
+    [])
 unfolding digits
 return_in_block = (refl, refl)
 

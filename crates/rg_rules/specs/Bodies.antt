@@ -1,10 +1,10 @@
 -- The bodies of methods and of main (docs/language.md, "Judgements").
-use Rattle.std.specs.Prelude.{ℕ, suc, Bool as Truth, true, false, List, [], ◌∷◌, Option, Some, None, Ok, Err}
+use Rattle.std.specs.Prelude.{ℕ, suc, Bool as Truth, true, false, List, [], ◌∷◌, Option, Some, None, Ok}
 use Rattle.rg_base.specs.declared.ty.Ty.{Ty}
 use Rattle.rg_base.specs.declared.ty.Ty.TheVariants.{Ref}
 use Rattle.rg_base.specs.declared.fault.Code.TheVariants.{Return}
-use Rattle.rg_tree.specs.Tree.{Ty as Written, Stmt, stmt, StmtKind, declare, assign, call, swap, branch, while, enter, print, collect, return, Block, empty as none, then as next, Param, Method, Member, field, method, Class, Tree}
-use Rattle.rg_rules.specs.Answers.{◌>>=◌, ◌>>◌, test, Lined, Passed, at_line}
+use Rattle.rg_tree.specs.Tree.{Ty as Written, stmt, StmtKind, declare, assign, call, swap, branch, while, enter, print, collect, return, Block, empty as none, then as next, Param, Method, Member, field, method, Class, Tree}
+use Rattle.rg_rules.specs.Answers.{◌>>◌, test, Lined, Passed, at_line}
 use Rattle.rg_rules.specs.Types.{type_of, method_result}
 use Rattle.rg_rules.specs.Environment.{Env, empty, with_variable}
 use Rattle.rg_rules.specs.Statements.{judge_block}

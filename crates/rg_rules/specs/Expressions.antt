@@ -1,6 +1,5 @@
 -- The type of an expression and the environment after it, or the first code (docs/language.md, "Judgements").
 use Rattle.std.specs.Prelude.{Bool as Truth, true, not as negated, List, [], ◌∷◌, Option, Some, None, ok_or, Ok, Err}
-use Rattle.rg_base.specs.declared.words.Cap.{Cap}
 use Rattle.rg_base.specs.declared.ty.Ty.{Ty}
 use Rattle.rg_base.specs.declared.ty.Ty.TheVariants.{Int, Bool, Ref}
 use Rattle.rg_base.specs.declared.fault.Code.TheVariants.{Unknown, Mismatch, Unavailable, IsoField}

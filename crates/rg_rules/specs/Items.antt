@@ -1,5 +1,5 @@
 -- What remains to be done at a point of a body: statements, and the ends of what is open round them (docs/machine.md, "Items").
-use Rattle.std.specs.Prelude.{ℕ, List, [], ◌∷◌}
+use Rattle.std.specs.Prelude.{ℕ, List, ◌∷◌}
 use Rattle.rg_tree.specs.Tree.{Stmt, Block, empty as none, then as next}
 
 -- one thing to do

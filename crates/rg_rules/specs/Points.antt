@@ -2,7 +2,7 @@
 -- (docs/language.md, "Judgements"; docs/machine.md, "Items").
 use Rattle.std.specs.Prelude.{ℕ, List, [], ◌∷◌, ◌++◌, length, Option, Some, None, option_map, option_and_then, Ok, Err}
 use Rattle.rg_base.specs.declared.ty.Ty.{Ty}
-use Rattle.rg_tree.specs.Tree.{Path, Stmt, stmt, StmtKind, declare, assign, call, swap, branch, while, enter, print, collect, return, Else, no_else, otherwise, Block, empty as none, then as next, Class}
+use Rattle.rg_tree.specs.Tree.{Path, stmt, StmtKind, declare, assign, call, swap, branch, while, enter, print, collect, return, no_else, otherwise, Block, empty as none, then as next, Class}
 use Rattle.rg_rules.specs.Answers.{Answer, Lined}
 use Rattle.rg_rules.specs.Environment.{Env}
 use Rattle.rg_rules.specs.Statements.{judge_stmt, judge_test, judge_enter, last_of}
@@ -95,7 +95,8 @@ spot_in classes result env (next s b) after round (behind p) =
     option_and_then (λ mid. spot_in classes result mid b after round p) (judged (judge_stmt classes (last_of result b) env s))
 spot_in classes result env none after round (inside side p) = None
 spot_in classes result env (next (stmt line k) b) after round (inside side p) =
-    option_and_then (λ (i : Opened). spot_in classes None i.env i.block (block_end (length env.entries) line k ++ items_of b after) (round ++ entered_path k) p)
+    option_and_then (λ (i : Opened).
+    spot_in classes None i.env i.block (block_end (length env.entries) line k ++ items_of b after) (round ++ entered_path k) p)
     (inner_block classes env k side)
 
 -- the spot at a point of a body

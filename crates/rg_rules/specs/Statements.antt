@@ -2,7 +2,7 @@
 use Rattle.std.specs.Prelude.{ℕ, Bool as Truth, true, false, not as negated, ◌||◌, List, [], ◌∷◌, Option, Some, None, ok_or, Ok, Err}
 use Rattle.rg_base.specs.declared.words.Cap.TheVariants.{Mut}
 use Rattle.rg_base.specs.declared.ty.Ty.{Ty}
-use Rattle.rg_base.specs.declared.ty.Ty.TheVariants.{Int, Bool, Ref}
+use Rattle.rg_base.specs.declared.ty.Ty.TheVariants.{Bool, Ref}
 use Rattle.rg_base.specs.declared.fault.Code.TheVariants.{Unknown, Duplicate, Mismatch, Unavailable, OutsideWindow, Loop, IsoField, Return, CallTarget}
 use Rattle.rg_tree.specs.Tree.{Name, Variable, Ty as Written, Path, Expr, Call, Right, value, new, new_tmp, new_iso, freeze, merge, read, more, result_of, Stmt, stmt, StmtKind, declare, assign, call, swap, branch, while, enter, print, collect, return, Else, no_else, otherwise, Block, empty as none, then as next, Class}
 use Rattle.rg_rules.specs.Answers.{◌>>=◌, ◌>>◌, test, Answer, Lined, at_line}
