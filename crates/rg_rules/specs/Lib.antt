@@ -1,0 +1,13 @@
+pub mod Answers
+pub mod Capabilities
+pub mod Types
+pub mod Headers
+pub mod Environment
+pub mod Paths
+pub mod Expressions
+pub mod Rights
+pub mod Statements
+pub mod Items
+pub mod Bodies
+pub mod Points
+pub mod Acceptance
