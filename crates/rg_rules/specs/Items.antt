@@ -1,4 +1,4 @@
--- What remains to be done at a point of a body: statements, and the ends of what is open round them (docs/machine.md, "Items").
+-- What remains to be done at a point of a body: statements, and the ends of what is open round them (docs/language.md, "Steps").
 use Rattle.std.specs.Prelude.{ℕ, List, ◌∷◌}
 use Rattle.rg_tree.specs.Tree.{Stmt, Block, empty as none, then as next}
 

@@ -1,5 +1,5 @@
 -- The points of a body: the environment in front of each, what remains to be done from it on, and the `enter`s round it
--- (docs/language.md, "Judgements"; docs/machine.md, "Items").
+-- (docs/language.md, "Judgements"; docs/language.md, "Steps").
 use Rattle.std.specs.Prelude.{ℕ, List, [], ◌∷◌, ◌++◌, length, Option, Some, None, option_map, option_and_then, Ok, Err}
 use Rattle.rg_base.specs.declared.ty.Ty.{Ty}
 use Rattle.rg_tree.specs.Tree.{Path, stmt, StmtKind, declare, assign, call, swap, branch, while, enter, print, collect, return, no_else, otherwise, Block, empty as none, then as next, Class}
