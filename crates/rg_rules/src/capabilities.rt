@@ -62,19 +62,21 @@ pub fn pause(t: Ty) -> Ty
     ensures { result ≡ tables.pause t }
 {
     match t {
-        Ty::Ref {
-            cap: Cap::Mut | Cap::Tmp | Cap::Paused,
-            class,
-        } => Ty::Ref {
-            cap: Cap::Paused,
+        Ty::Int | Ty::Bool => t,
+        Ty::Ref { cap, class } => Ty::Ref {
+            cap: pause_cap(cap),
             class,
         },
-        Ty::Ref {
-            cap: Cap::Imm | Cap::Iso,
-            ..
-        }
-        | Ty::Int
-        | Ty::Bool => t,
+    }
+}
+
+/// What a reference permits inside a window that was opened behind it.
+fn pause_cap(cap: Cap) -> Cap
+    ensures { result ≡ tables.pause_cap cap }
+{
+    match cap {
+        Cap::Mut | Cap::Tmp | Cap::Paused => Cap::Paused,
+        Cap::Imm | Cap::Iso => cap,
     }
 }
 
