@@ -1,5 +1,6 @@
 -- What acceptance says of the parts of a program: its headers, each method's body and main's body have no fault. For callers.
 use Rattle.std.proofs.Common.{◌≡◌, refl, ℕ, zero, suc, ◌+◌, Bool, true, false, if◌then◌else◌, ◌⊎◌, inl, inr, bytes_eq, List, [], ◌∷◌, find, filter_map, Option, Some, None, slice_get, Ok, Err, arith}
+use Rattle.std.specs.Result.{result_err}
 use Rattle.rg_base.specs.declared.fault.Code.TheVariants.{Return}
 use Rattle.rg_tree.specs.Tree.{Name, Method, Member, field, method, Class, Tree}
 use Rattle.rg_rules.specs.Answers.{test, Lined, Passed}
@@ -7,7 +8,7 @@ use Rattle.rg_rules.specs.Environment.{Env}
 use Rattle.rg_rules.specs.Types.{method_member, members_of, method_named}
 use Rattle.rg_rules.specs.Headers.{judge_headers}
 use Rattle.rg_rules.specs.Bodies.{main_body, method_body, judge_body, gives_result, judge_method, judge_members, judge_methods}
-use Rattle.rg_rules.specs.Acceptance.{judge_program, fault_of, Accepted}
+use Rattle.rg_rules.specs.Acceptance.{judge_program, Accepted}
 use Rattle.rg_rules.proofs.AnswersLemmas.{then-ok, test-ok, at_line-ok}
 
 -- the three parts of an accepted program
@@ -17,13 +18,13 @@ pub record Parts (t : Tree) : Type 0 where
   pub out : Env
   pub main : judge_body t.classes (main_body t) ≡ Ok out
 
-fault_of-none : (r : Lined Passed) → fault_of r ≡ None → r ≡ Ok tt
-fault_of-none (Ok passed) h = refl
-fault_of-none (Err f) h = grind arith
+result_err-none : (r : Lined Passed) → result_err r ≡ None → r ≡ Ok tt
+result_err-none (Ok passed) h = refl
+result_err-none (Err f) h = grind arith
 
 pub Accepted-parts : (t : Tree) → Accepted t → Parts t
 Accepted-parts t h =
-    let all = fault_of-none (judge_program t) h in
+    let all = result_err-none (judge_program t) h in
     let p = then-ok (judge_headers t.classes) _ tt all in
     let q = then-ok (judge_methods t.classes 0 t.classes) _ tt p.2 in
     let r = then-ok (judge_body t.classes (main_body t)) _ tt q.2 in

@@ -1,12 +1,13 @@
 -- Behind a statement of a body that has no fault stands the next point of the body. For callers.
 use Rattle.std.proofs.Common.{◌≡◌, refl, sym, ◌∙◌, ap, ℕ, List, [], ◌∷◌, ◌++◌, length, Option, Some, None, option_and_then, Ok, Err, arith}
+use Rattle.std.specs.Result.{result_ok}
 use Rattle.rg_base.specs.declared.ty.Ty.{Ty}
 use Rattle.rg_tree.specs.Tree.{no_else, otherwise, Path, Stmt, stmt, StmtKind, declare, assign, call, swap, branch, while, enter, print, collect, return, Block, empty as none, then as next, Class}
 use Rattle.rg_rules.specs.Answers.{◌>>=◌, Answer, Lined, at_line}
 use Rattle.rg_rules.specs.Environment.{Env}
 use Rattle.rg_rules.specs.Statements.{judge_stmt, judge_kind, judge_block, judge_test, judge_enter, last_of}
 use Rattle.rg_rules.specs.Items.{Item, Do, EndAt, LeaveAt, Back, items_of}
-use Rattle.rg_rules.specs.Points.{Side, first, second, Point, here, behind, inside, Spot, spot_in, judged, Opened, opened, inner_block, block_end, entered_path}
+use Rattle.rg_rules.specs.Points.{Side, first, second, Point, here, behind, inside, Spot, spot_in, Opened, opened, inner_block, block_end, entered_path}
 use Rattle.rg_rules.proofs.AnswersLemmas.{bind-ok, at_line-ok}
 
 -- the point behind the statement at a point
@@ -99,14 +100,14 @@ pub record Advanced (classes : List Class) (result : Option Ty) (env : Env) (b :
   pub right : judge_stmt classes last s.env t ≡ Ok out
   pub spot_is : spot_in classes result env b after round (advance p) ≡ Some (record { env = out; items = mine; enters = s.enters })
 
-from_judged : (r : Lined Env) (mid : Env) (go : Env → Option Spot) (s : Spot) → r ≡ Ok mid →
-    option_and_then go (judged r) ≡ Some s → go mid ≡ Some s
-from_judged (Ok x) mid go s e h = let same : x ≡ mid = grind arith in rw (← same) h
-from_judged (Err f) mid go s e h = grind arith
+from_ok : (r : Lined Env) (mid : Env) (go : Env → Option Spot) (s : Spot) → r ≡ Ok mid →
+    option_and_then go (result_ok r) ≡ Some s → go mid ≡ Some s
+from_ok (Ok x) mid go s e h = let same : x ≡ mid = grind arith in rw (← same) h
+from_ok (Err f) mid go s e h = grind arith
 
-to_judged : (r : Lined Env) (mid : Env) (go : Env → Option Spot) (s : Spot) → r ≡ Ok mid →
-    go mid ≡ Some s → option_and_then go (judged r) ≡ Some s
-to_judged r mid go s e h = rw (e, judged) h
+to_ok : (r : Lined Env) (mid : Env) (go : Env → Option Spot) (s : Spot) → r ≡ Ok mid →
+    go mid ≡ Some s → option_and_then go (result_ok r) ≡ Some s
+to_ok r mid go s e h = rw (e, result_ok) h
 
 to_some : (o : Option Opened) (a : Opened) (go : Opened → Option Spot) (s : Spot) → o ≡ Some a → go a ≡ Some s → option_and_then go o ≡ Some s
 to_some o a go s e h = rw e h
@@ -116,7 +117,7 @@ stands_here : (classes : List Class) (result : Option Ty) (env : Env) (b : Block
     record { env = env; items = Do u ∷ items_of b after; enters = round } ≡ s → u ≡ t → items_of b after ≡ mine →
     judge_stmt classes (last_of result b) env u ≡ Ok mid → Advanced classes result env (next u b) after round here s t mine
 stands_here classes result env b after round s u t mine mid same one others h =
-    rw (← same, ← one, ← others) (record { last = last_of result b; out = mid; right = h; spot_is = rw (h, judged) refl })
+    rw (← same, ← one, ← others) (record { last = last_of result b; out = mid; right = h; spot_is = rw (h, result_ok) refl })
 
 -- at a spot whose first item is a statement that statement has no fault, and what is behind it is the next spot
 pub spot-advance : (classes : List Class) (result : Option Ty) (env out : Env) (b : Block) (after : List Item) (round : List Path)
@@ -134,10 +135,10 @@ spot-advance classes result env out (next u b) after round (behind p) s t mine f
     let m = bind-ok (judge_stmt classes (last_of result b) env u) _ out h in
     let go : Env → Option Spot = λ mid. spot_in classes result mid b after round p in
     let later : Env → Option Spot = λ mid. spot_in classes result mid b after round (advance p) in
-    let a = from_judged (judge_stmt classes (last_of result b) env u) m.0 go s m.1 e in
+    let a = from_ok (judge_stmt classes (last_of result b) env u) m.0 go s m.1 e in
     let n = spot-advance classes result m.0 out b after round p s t mine f m.2 a i in
     let there : Spot = record { env = n.out; items = mine; enters = s.enters } in
-    let is = to_judged (judge_stmt classes (last_of result b) env u) m.0 later there m.1 n.spot_is in
+    let is = to_ok (judge_stmt classes (last_of result b) env u) m.0 later there m.1 n.spot_is in
     record { last = n.last; out = n.out; right = n.right; spot_is = is }
 spot-advance classes result env out none after round (inside side p) s t mine f h e i = grind arith
 spot-advance classes result env out (next (stmt line k) b) after round (inside side p) s t mine f h e i =

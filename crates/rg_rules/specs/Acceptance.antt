@@ -1,5 +1,6 @@
 -- Whether a program is accepted, and else its first fault (docs/language.md, "Acceptance").
-use Rattle.std.specs.Prelude.{◌≡◌, Option, Some, None, Ok, Err}
+use Rattle.std.specs.Prelude.{◌≡◌, Option, None, Ok}
+use Rattle.std.specs.Result.{result_err}
 use Rattle.rg_base.specs.declared.fault.Fault.{Fault}
 use Rattle.rg_tree.specs.Tree.{Tree}
 use Rattle.rg_rules.specs.Answers.{◌>>◌, Lined, Passed}
@@ -14,14 +15,9 @@ judge_program t = do
   judge_body t.classes (main_body t)
   Ok tt
 
--- the fault of an answer
-abbrev pub fault_of : Lined Passed → Option Fault
-fault_of (Ok passed) = None
-fault_of (Err f) = Some f
-
 -- the first fault of a program
 abbrev pub first_fault : Tree → Option Fault
-first_fault t = fault_of (judge_program t)
+first_fault t = result_err (judge_program t)
 
 -- a program is accepted that has no fault
 abbrev pub Accepted : Tree → Type 0

@@ -1,9 +1,10 @@
 -- The points of a body: the environment in front of each, what remains to be done from it on, and the `enter`s round it
 -- (docs/language.md, "Judgements"; docs/language.md, "Steps").
 use Rattle.std.specs.Prelude.{ℕ, List, [], ◌∷◌, ◌++◌, length, Option, Some, None, option_map, option_and_then, Ok, Err}
+use Rattle.std.specs.Result.{result_ok}
 use Rattle.rg_base.specs.declared.ty.Ty.{Ty}
 use Rattle.rg_tree.specs.Tree.{Path, stmt, StmtKind, declare, assign, call, swap, branch, while, enter, print, collect, return, no_else, otherwise, Block, empty as none, then as next, Class}
-use Rattle.rg_rules.specs.Answers.{Answer, Lined}
+use Rattle.rg_rules.specs.Answers.{Answer}
 use Rattle.rg_rules.specs.Environment.{Env}
 use Rattle.rg_rules.specs.Statements.{judge_stmt, judge_test, judge_enter, last_of}
 use Rattle.rg_rules.specs.Items.{Item, Do, EndAt, LeaveAt, items_of}
@@ -33,11 +34,6 @@ pub record Spot : Type 0 where
 pub record Opened : Type 0 where
   pub env : Env
   pub block : Block
-
--- the environment behind a statement, if it has no fault
-abbrev pub judged : Lined Env → Option Env
-judged (Ok env) = Some env
-judged (Err f) = None
 
 -- a block behind a test or an entry, if that has no fault
 abbrev pub opened : Answer Env → Block → Option Opened
@@ -92,7 +88,7 @@ abbrev pub spot_in : List Class → (result : Option Ty) → Env → Block → (
 spot_in classes result env b after round here = Some (record { env = env; items = items_of b after; enters = round })
 spot_in classes result env none after round (behind p) = None
 spot_in classes result env (next s b) after round (behind p) =
-    option_and_then (λ mid. spot_in classes result mid b after round p) (judged (judge_stmt classes (last_of result b) env s))
+    option_and_then (λ mid. spot_in classes result mid b after round p) (result_ok (judge_stmt classes (last_of result b) env s))
 spot_in classes result env none after round (inside side p) = None
 spot_in classes result env (next (stmt line k) b) after round (inside side p) =
     option_and_then (λ (i : Opened).
