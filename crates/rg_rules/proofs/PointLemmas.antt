@@ -121,7 +121,9 @@ stands_here classes result env b after round s u t mine mid same one others h =
 
 -- at a spot whose first item is a statement that statement has no fault, and what is behind it is the next spot
 pub spot-advance : (classes : List Class) (result : Option Ty) (env out : Env) (b : Block) (after : List Item) (round : List Path)
-    (p : Point) (s : Spot) (t : Stmt) (mine : List Item) → BeginsFree after → judge_block classes result env b ≡ Ok out → spot_in classes result env b after round p ≡ Some s → s.items ≡ Do t ∷ mine →
+    (p : Point) (s : Spot) (t : Stmt) (mine : List Item) →
+    BeginsFree after → judge_block classes result env b ≡ Ok out →
+    spot_in classes result env b after round p ≡ Some s → s.items ≡ Do t ∷ mine →
     Advanced classes result env b after round p s t mine
 spot-advance classes result env out none after round here s t mine f h e i =
     let same : record { env = env; items = after; enters = round } ≡ s = grind arith in free-not_do after t mine f (ap (λ x. x.items) same ∙ i)
