@@ -1,3 +1,4 @@
+// Numbers with names, printed in any order and more than once.
 main trace {
   let answer: int = 42;
   print answer;

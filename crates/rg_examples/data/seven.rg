@@ -1,1 +1,2 @@
+// A number, printed.
 main arena { print 7; }

@@ -1,5 +1,17 @@
-pub mod Writing
-mod Bodies
+mod ClassRows
+mod ExprRows
+mod Firsts
+mod Growing
+mod Halting
+mod Loops
 mod NameLemmas
-mod Programs
-mod Statements
+mod PathRows
+mod ProgramRows
+mod Ranks
+mod RightRows
+mod SpanLemmas
+mod StmtRows
+mod StuckSources
+mod ThinLemmas
+mod Tokens
+mod TypeRows

@@ -4,7 +4,6 @@ use Rattle.rg_base.specs.declared.limits.TheConstants.{BODY_NAMES}
 use Rattle.rg_parse.specs.declared.statement.ThinStmt.{ThinStmt}
 use Rattle.rg_parse.specs.declared.statement.ThinStmt.TheVariants as thin
 use Rattle.rg_parse.specs.Tree.{Name, Stmt, declare, print_number, print_name, Program}
-use Rattle.rg_parse.specs.Spelling.{Spells}
 
 -- the place of a name among names, counted from 0
 abbrev pub number_of : Name → List Name → Option ℕ
@@ -37,7 +36,3 @@ numbered names (print_name x ∷ ss) = with_name (number_of x names) (numbered n
 -- these are the program's statements, with numbers for names
 abbrev pub Numbers : Program → List ThinStmt → Type 0
 Numbers p stmts = numbered [] p.body ≡ Some stmts
-
--- the source is thin: it spells a program whose names have numbers
-abbrev pub IsThin : List ℕ → Type 0
-IsThin source = (p : Program) × (stmts : List ThinStmt) × Spells source p × Numbers p stmts

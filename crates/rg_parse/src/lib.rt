@@ -1,15 +1,27 @@
-//! Reads a thin source: `main`, and statements that let a number have a name, or print one
-//! (docs/language.md, "What runs today").
+//! Reads the tokens of a source: its tree, or its first fault; and the thin program that a tree is
+//! (docs/language.md, "Grammar", "What runs today").
 #![tactic(auto)]
 
-mod body;
-mod found;
-mod heads;
-mod laws;
+mod blocks;
+mod builder;
+mod classes;
+mod exprs;
+mod halt;
+mod kinds;
+mod level;
+mod limits;
 mod names;
-mod read;
+mod of_tree;
+mod paths;
+mod reader;
+mod rights;
+mod source;
+mod starts;
 mod statement;
+mod stmts;
+mod types;
+mod whole;
 
-pub use laws::spells_one_program;
-pub use read::thin;
+pub use of_tree::thin;
 pub use statement::{Thin, ThinStmt};
+pub use whole::parse;

@@ -1,19 +1,36 @@
 -- From what the layers under the top call have answered to the words of the headline.
-use Rattle.std.proofs.Common.{◌≡◌, ◌≢◌, ℕ, suc, ◌<◌, ◌⊎◌, inl, inr, Bool, true, false, List, [], length, replicate, Option, Some, None, refl, sym, ◌∙◌, ap, subst, arith, append-nil}
+use Rattle.std.proofs.Common.{◌≡◌, ◌≢◌, ℕ, suc, ◌<◌, ◌⊎◌, inl, inr, Bool, true, false, List, [], length, replicate, Option, Some, None, option_map, option_and_then, Err, refl, sym, ◌∙◌, ap, subst, arith, append-nil}
 use Rattle.std.specs.Bool.{OnTrue}
 use Rattle.std.proofs.lemmas.List.{length-replicate}
 use Rattle.rg_base.specs.declared.limits.TheConstants.{SOURCE_BYTES}
 use Rattle.rg_io.specs.Content.{Appends, AppendsPart}
 use Rattle.rg_io.specs.Files.{Told, HasLongFile, file_bytes}
-use Rattle.rg_parse.proofs.Writing.{Spells-same}
+use Rattle.rg_base.specs.declared.fault.Fault.{Fault}
+use Rattle.rg_base.specs.declared.token.Token.{Token}
+use Rattle.rg_base.specs.Tokens.{cut, end_line}
+use Rattle.rg_tree.specs.Tree.{Tree}
+use Rattle.rg_tree.specs.Grammar.{Spells}
+use Rattle.rg_tree.specs.Stuck.{Stuck, fault_at}
+use Rattle.rg_tree.specs.Canonical.{canon}
+use Rattle.rg_tree.proofs.Unique.{one-tree}
+use Rattle.rg_tree.proofs.Stopping.{spelt-not_stuck, Stops-unique}
+use Rattle.rg_base.specs.declared.outcome.Ended.{Ended}
+use Rattle.rg_base.specs.declared.outcome.Ended.TheVariants as ended
+use Rattle.rg_base.specs.Text.{text}
+use Rattle.rg_parse.specs.declared.statement.ThinStmt.{ThinStmt}
+use Rattle.rg_parse.specs.Tree.{Program}
+use Rattle.rg_parse.specs.Numbering.{numbered, Numbers}
+use Rattle.rg_parse.specs.ThinTrees.{thin_program, thin_stmts}
+use Rattle.rg_run.specs.Plain.{Ending, Running, Done, Trapped, plain}
+use Rattle.rg_run.specs.Runs.{answer, OnWhole, OnCutOff, Leaves, output_after, ShowsRan}
 use Rattle.rg_run.specs.Machine.{Kept, IsFresh}
 use Rattle.rg_top.specs.declared.status.Status.{Status}
 use Rattle.rg_top.specs.declared.status.Status.TheVariants as status
-use Rattle.rg_top.specs.Commands.{Command, run, command, file_of, steps_of}
+use Rattle.rg_top.specs.Commands.{Command, run, fmt, command, file_of, steps_of}
 use Rattle.rg_top.specs.Statuses.{status_text, is_run, is_answer, is_cut_off, is_from_outside}
-use Rattle.rg_top.specs.Expected.{Meaning, too_long, faulty, spelt, Means, Answer, expected, ExpectsStatus}
-use Rattle.rg_top.specs.Headline.{ForSource, WhereTold, Exactly, Wrote, ShowsEnd, Untouched, CutOffAt, TookNotes}
-use Rattle.rg_top.specs.Settled.{RanWhole, Settles, Unread, source_fault, memory, SettlesFile}
+use Rattle.rg_top.specs.Expected.{Meaning, too_long, faulty, spelt, IsStuck, SpellsTree, Means, runs, Answer, status_of, expected, Expects, ExpectsStatus}
+use Rattle.rg_top.specs.Headline.{Runs, ForSource, WhereTold, Exactly, Wrote, ShowsEnd, Untouched, CutOffAt, TookNotes}
+use Rattle.rg_top.specs.Settled.{status_of_ended, RanWhole, EndsWell, StopsRun, CantRun, Settles, Unread, source_fault, memory, SettlesFile}
 use Rattle.rg_top.proofs.RunLemmas.{stands-whole}
 
 -- what is told after a fault of the output
@@ -39,59 +56,87 @@ pub long-settles : (told : Option Told) (c : Command) (old : Option (List ℕ)) 
 long-settles None c old m h fresh = let l = long-list SOURCE_BYTES in inl (l.0, tt, (l.1, (fresh, refl)))
 long-settles (Some t) c old m h fresh = inl (h.0, h.1, (h.2, (fresh, refl)))
 
--- the text of what was answered to a source
-wrote-whole : (c : Command) (source : List ℕ) (s : Status) (old new : Option (List ℕ)) (m : Kept) → RanWhole c source s old new m
-    → Wrote c source s old new
-wrote-whole (run file n) source s old new m r =
-    (_, (spelt r.program, r.means, rw r.status_is refl), r.wrote)
+-- the text of a whole run
+wrote-whole : (file : List ℕ) (n : ℕ) (source : List ℕ) (s : Status) (old new : Option (List ℕ)) (m : Kept) → RanWhole n source s old new m
+    → Wrote (run file n) source s old new
+wrote-whole file n source s old new m r =
+    (_, (spelt r.source_runs.tree, r.source_runs.means, rw (r.source_runs.runs_is, r.status_is) refl), r.wrote)
+
+wrote-well : (c : Command) (source : List ℕ) (old new : Option (List ℕ)) (m : Kept) → EndsWell c source old new m → Wrote c source status.Done old new
+wrote-well (run file n) source old new m r = wrote-whole file n source status.Done old new m r
+wrote-well (fmt file) source old new m r = (_, (spelt r.tree, r.means, refl), r.wrote)
+
+wrote-stops : (c : Command) (source : List ℕ) (s : Status) (old new : Option (List ℕ)) (m : Kept) → StopsRun c source s old new m → Wrote c source s old new
+wrote-stops (run file n) source s old new m r = wrote-whole file n source s old new m r
+wrote-stops (fmt file) source s old new m r = absurd r
 
 untouched-text : (old new : Option (List ℕ)) → new ≡ old → Appends old new []
 untouched-text None new e = e
 untouched-text (Some xs) new e = e ∙ ap Some (sym (append-nil xs))
 
+-- a tree that can't be run is refused
+expects-refused : (c : Command) (source : List ℕ) (f : Fault) → Means source (faulty f) ⊎ CantRun c source f → Expects c source (status.Refused f) []
+expects-refused c source f (inl h) = (faulty f, h, refl)
+expects-refused (run file n) source f (inr h) = (spelt h.0, h.1, rw (h.2, h.3) refl)
+expects-refused (fmt file) source f (inr h) = absurd h
+
+-- the text of what was answered to a source
 pub wrote-of : (c : Command) (source : List ℕ) (s : Status) (old new : Option (List ℕ)) (m : Kept) → Settles c source s old new m
     → OnTrue (is_answer s) (Wrote c source s old new)
-wrote-of c source status.Done old new m h = wrote-whole c source status.Done old new m h
-wrote-of c source (status.Refused f) old new m h = ([], (faulty f, h.0, refl), untouched-text old new h.1.1)
+wrote-of c source status.Done old new m h = wrote-well c source old new m h
+wrote-of c source (status.Refused f) old new m h = ([], expects-refused c source f h.0, untouched-text old new h.1.1)
 wrote-of c source status.Usage old new m h = tt
-wrote-of c source (status.Trap kind line) old new m h = wrote-whole c source (status.Trap kind line) old new m h
-wrote-of c source status.Spent old new m h = wrote-whole c source status.Spent old new m h
+wrote-of c source (status.Trap kind line) old new m h = wrote-stops c source (status.Trap kind line) old new m h
+wrote-of c source status.Spent old new m h = wrote-stops c source status.Spent old new m h
 wrote-of c source status.SourceFault old new m h = tt
 wrote-of c source status.InputFault old new m h = tt
 wrote-of c source status.OutputFault old new m h = tt
 wrote-of c source status.Memory old new m h = tt
 wrote-of c source status.Long old new m h = ([], (too_long, h.0, refl), untouched-text old new h.1.1)
 
-shown-whole : (c : Command) (source : List ℕ) (s : Status) (old new : Option (List ℕ)) (m : Kept) → RanWhole c source s old new m
-    → ShowsEnd c source m
-shown-whole c source s old new m r = (r.program, r.means, r.shows)
+shown-well : (c : Command) (source : List ℕ) (old new : Option (List ℕ)) (m : Kept) → EndsWell c source old new m → ShowsEnd c source m
+shown-well (run file n) source old new m r = (r.program, r.source_runs, r.shows)
+shown-well (fmt file) source old new m r = r.fresh
+
+shown-stops : (c : Command) (source : List ℕ) (s : Status) (old new : Option (List ℕ)) (m : Kept) → StopsRun c source s old new m → ShowsEnd c source m
+shown-stops (run file n) source s old new m r = (r.program, r.source_runs, r.shows)
+shown-stops (fmt file) source s old new m r = absurd r
 
 -- the machine behind what was answered to a source
 pub shown-of : (c : Command) (source : List ℕ) (s : Status) (old new : Option (List ℕ)) (m : Kept) → Settles c source s old new m
     → OnTrue (is_run s) (ShowsEnd c source m)
-shown-of c source status.Done old new m h = shown-whole c source status.Done old new m h
+shown-of c source status.Done old new m h = shown-well c source old new m h
 shown-of c source (status.Refused f) old new m h = tt
 shown-of c source status.Usage old new m h = tt
-shown-of c source (status.Trap kind line) old new m h = shown-whole c source (status.Trap kind line) old new m h
-shown-of c source status.Spent old new m h = shown-whole c source status.Spent old new m h
+shown-of c source (status.Trap kind line) old new m h = shown-stops c source (status.Trap kind line) old new m h
+shown-of c source status.Spent old new m h = shown-stops c source status.Spent old new m h
 shown-of c source status.SourceFault old new m h = tt
 shown-of c source status.InputFault old new m h = tt
 shown-of c source status.OutputFault old new m h = tt
 shown-of c source status.Memory old new m h = tt
 shown-of c source status.Long old new m h = tt
 
-cut-whole : (c : Command) (source : List ℕ) (s : Status) (old new : Option (List ℕ)) (m : Kept) → RanWhole c source s old new m
-    → CutOffAt c source m old new
-cut-whole c source s old new m r = (r.program, r.means, stands-whole r.program (steps_of c) m old new r.shows r.wrote)
+cut-whole : (file : List ℕ) (n : ℕ) (source : List ℕ) (s : Status) (old new : Option (List ℕ)) (m : Kept) → RanWhole n source s old new m
+    → CutOffAt (run file n) source m old new
+cut-whole file n source s old new m r = (r.program, r.source_runs, stands-whole r.program n m old new r.shows r.wrote)
+
+cut-well : (c : Command) (source : List ℕ) (old new : Option (List ℕ)) (m : Kept) → EndsWell c source old new m → CutOffAt c source m old new
+cut-well (run file n) source old new m r = cut-whole file n source status.Done old new m r
+cut-well (fmt file) source old new m r =
+    (r.tree, r.means, r.fresh, (canon r.tree, record { rest = []; whole_is = sym (append-nil (canon r.tree)) }, r.wrote))
+
+cut-stops : (c : Command) (source : List ℕ) (s : Status) (old new : Option (List ℕ)) (m : Kept) → StopsRun c source s old new m → CutOffAt c source m old new
+cut-stops (run file n) source s old new m r = cut-whole file n source s old new m r
+cut-stops (fmt file) source s old new m r = absurd r
 
 -- whatever was answered to a source, the machine is fresh or stands at a whole step
 pub cut-of : (c : Command) (source : List ℕ) (s : Status) (old new : Option (List ℕ)) (m : Kept) → Settles c source s old new m
     → Untouched m old new ⊎ CutOffAt c source m old new
-cut-of c source status.Done old new m h = inr (cut-whole c source status.Done old new m h)
+cut-of c source status.Done old new m h = inr (cut-well c source old new m h)
 cut-of c source (status.Refused f) old new m h = inl h.1
 cut-of c source status.Usage old new m h = absurd h
-cut-of c source (status.Trap kind line) old new m h = inr (cut-whole c source (status.Trap kind line) old new m h)
-cut-of c source status.Spent old new m h = inr (cut-whole c source status.Spent old new m h)
+cut-of c source (status.Trap kind line) old new m h = inr (cut-stops c source (status.Trap kind line) old new m h)
+cut-of c source status.Spent old new m h = inr (cut-stops c source status.Spent old new m h)
 cut-of c source status.SourceFault old new m h = absurd h
 cut-of c source status.InputFault old new m h = absurd h
 cut-of c source status.OutputFault old new m h = h
@@ -116,17 +161,43 @@ status-of c source s old new m h = go s h (wrote-of c source s old new m h)
     go status.Memory h w = inr refl
     go status.Long h w = inl (w.0, w.1)
 
+-- the first fault of a source is one
+fault-one : (source : List ℕ) (e f : Fault) → (cut source ≡ Err e) ⊎ IsStuck source e → (cut source ≡ Err f) ⊎ IsStuck source f → e ≡ f
+fault-one source e f (inl h) (inl g) = cc
+fault-one source e f (inl h) (inr g) = cc
+fault-one source e f (inr h) (inl g) = cc
+fault-one source e f (inr h) (inr g) =
+    let tokens : h.0 ≡ g.0 = cc in
+    let P : List Token → Type 0 = λ ts. Stuck ts e.code h.1 in
+    let same = Stops-unique (subst P tokens h.3) g.3 in
+    h.4 ∙ ap (λ c. fault_at c (end_line source) h.1) same.0 ∙ ap (λ at. fault_at f.code (end_line source) at) same.1 ∙ sym g.4
+
+-- a source with a fault spells no tree
+fault-no_tree : (source : List ℕ) (f : Fault) (t : Tree) → (cut source ≡ Err f) ⊎ IsStuck source f → SpellsTree source t → ⊥
+fault-no_tree source f t (inl h) g = cc
+fault-no_tree source f t (inr h) g =
+    let tokens : h.0 ≡ g.0 = cc in
+    let P : List Token → Type 0 = λ ts. Stuck ts f.code h.1 in
+    spelt-not_stuck source t g.0 h.1 f.code g.2 (subst P tokens h.3)
+
+-- a source spells one tree
+tree-one : (source : List ℕ) (t u : Tree) → SpellsTree source t → SpellsTree source u → t ≡ u
+tree-one source t u h g =
+    let tokens : h.0 ≡ g.0 = cc in
+    let P : List Token → Type 0 = λ ts. Spells source t ts in
+    one-tree source t u g.0 (subst P tokens h.2) g.2
+
 -- a source means one thing
 means-one : (source : List ℕ) (m k : Meaning) → Means source m → Means source k → m ≡ k
 means-one source too_long too_long h g = refl
 means-one source too_long (faulty f) h g = absurd (omega arith)
-means-one source too_long (spelt q) h g = absurd (omega arith)
+means-one source too_long (spelt u) h g = absurd (omega arith)
 means-one source (faulty e) too_long h g = absurd (omega arith)
-means-one source (faulty e) (faulty f) h g = ap faulty (h.1 ∙ sym g.1)
-means-one source (faulty e) (spelt q) h g = absurd (h.2 (q, g.2.0, g.1, g.2.1))
-means-one source (spelt p) too_long h g = absurd (omega arith)
-means-one source (spelt p) (faulty f) h g = absurd (g.2 (p, h.2.0, h.1, h.2.1))
-means-one source (spelt p) (spelt q) h g = ap spelt (Spells-same source p q h.1 g.1)
+means-one source (faulty e) (faulty f) h g = ap faulty (fault-one source e f h.1 g.1)
+means-one source (faulty e) (spelt u) h g = absurd (fault-no_tree source e u h.1 g.1)
+means-one source (spelt t) too_long h g = absurd (omega arith)
+means-one source (spelt t) (faulty f) h g = absurd (fault-no_tree source f t g.1 h.1)
+means-one source (spelt t) (spelt u) h g = ap spelt (tree-one source t u h.1 g.1)
 
 -- a command answers one status to a source
 pub expects-one : (c : Command) (source : List ℕ) (s t : Status) → ExpectsStatus c source s → ExpectsStatus c source t → s ≡ t
@@ -328,3 +399,62 @@ answer-input {told = told} {words = words} {given = given} {answer = answer} {ol
   where
     apart : status.OutputFault ≢ status.InputFault
     apart e = cc
+
+-- the statements that a tree's reader numbered are those of the program that can be run
+pub thin-runs : (t : Tree) (stmts : List ThinStmt) → Some stmts ≡ thin_stmts t → (p : Program) × (runs t ≡ Some p) × Numbers p stmts
+thin-runs t stmts e = go (thin_program t) refl e
+  where
+    numbers : (p : Program) (o : Option (List ThinStmt)) → numbered [] p.body ≡ o → Some stmts ≡ o → option_map (λ (s : List ThinStmt). p) o ≡ Some p
+    numbers p None h g = cc
+    numbers p (Some s) h g = refl
+
+    go : (o : Option Program) → thin_program t ≡ o → Some stmts ≡ option_and_then (λ (p : Program). numbered [] p.body) o
+        → (p : Program) × (option_and_then (λ (q : Program). option_map (λ (s : List ThinStmt). q) (numbered [] q.body)) o ≡ Some p) × Numbers p stmts
+    go None h g = cc
+    go (Some p) h g = (p, numbers p (numbered [] p.body) refl g, sym g)
+
+-- a tree whose reader found no statements can't be run
+pub thin-none : (t : Tree) → None ≡ thin_stmts t → runs t ≡ None
+thin-none t e = go (thin_program t) refl e
+  where
+    unnumbered : (p : Program) (o : Option (List ThinStmt)) → None ≡ o → option_map (λ (s : List ThinStmt). p) o ≡ None
+    unnumbered p None g = refl
+    unnumbered p (Some s) g = cc
+
+    go : (o : Option Program) → thin_program t ≡ o → None ≡ option_and_then (λ (p : Program). numbered [] p.body) o
+        → option_and_then (λ (q : Program). option_map (λ (s : List ThinStmt). q) (numbered [] q.body)) o ≡ None
+    go None h g = refl
+    go (Some p) h g = unnumbered p (numbered [] p.body) g
+
+-- the status of a run by its ending
+status-answer : (e : Ending) → status_of_ended (answer e) ≡ status_of e
+status-answer Running = refl
+status-answer Done = refl
+status-answer (Trapped kind line) = refl
+
+ran-whole : (n : ℕ) (source : List ℕ) (p : Program) (s : Status) (e : Ended) (old new : Option (List ℕ)) (m : Kept) → Runs source p → status_of_ended e ≡ s
+    → e ≡ answer (plain p n).ending → Appends old new (text (output_after p n)) → ShowsRan p m (plain p n) → RanWhole n source s old new m
+ran-whole n source p s e old new m r i a t h = record {
+  program = p;
+  source_runs = r;
+  status_is = sym i ∙ ap status_of_ended a ∙ status-answer (plain p n).ending;
+  wrote = t;
+  shows = h;
+}
+
+left-at : (file : List ℕ) (n : ℕ) (source : List ℕ) (p : Program) (old new : Option (List ℕ)) (m : Kept) → Runs source p → Leaves p n m old new
+    → Untouched m old new ⊎ CutOffAt (run file n) source m old new
+left-at file n source p old new m r (inl u) = inl u
+left-at file n source p old new m r (inr s) = inr (p, r, s)
+
+-- what a run of a source's program answers and leaves
+pub run-settles : (file : List ℕ) (n : ℕ) (source : List ℕ) (p : Program) (e : Ended) (old new : Option (List ℕ)) (m : Kept) → Runs source p
+    → OnWhole e (e ≡ answer (plain p n).ending) → OnWhole e (Appends old new (text (output_after p n))) → OnWhole e (ShowsRan p m (plain p n))
+    → OnCutOff e (Leaves p n m old new) → e ≢ ended.InputFault → Settles (run file n) source (status_of_ended e) old new m
+run-settles file n source p ended.Done old new m r a t h l i = ran-whole n source p status.Done ended.Done old new m r refl a t h
+run-settles file n source p ended.Spent old new m r a t h l i = ran-whole n source p status.Spent ended.Spent old new m r refl a t h
+run-settles file n source p (ended.Trap kind line) old new m r a t h l i =
+    ran-whole n source p (status.Trap kind line) (ended.Trap kind line) old new m r refl a t h
+run-settles file n source p ended.InputFault old new m r a t h l i = absurd (i refl)
+run-settles file n source p ended.OutputFault old new m r a t h l i = left-at file n source p old new m r l
+run-settles file n source p ended.Memory old new m r a t h l i = left-at file n source p old new m r l

@@ -1,33 +1,46 @@
 -- What a source means, and what a command answers to it.
-use Rattle.std.specs.Prelude.{◌≡◌, ℕ, ◌<◌, ◌≤◌, List, [], length}
+use Rattle.std.specs.Prelude.{◌≡◌, ℕ, ◌<◌, ◌≤◌, ◌⊎◌, List, [], length, Option, Some, None, option_map, option_and_then, Ok, Err}
 use Rattle.rg_base.specs.declared.limits.TheConstants.{SOURCE_BYTES}
 use Rattle.rg_base.specs.declared.fault.Code.TheVariants.{NotBuilt}
 use Rattle.rg_base.specs.declared.fault.Fault.{Fault}
+use Rattle.rg_base.specs.declared.token.Token.{Token}
 use Rattle.rg_base.specs.Text.{text}
-use Rattle.rg_parse.specs.declared.statement.ThinStmt.{ThinStmt}
+use Rattle.rg_base.specs.Tokens.{cut, end_line}
+use Rattle.rg_tree.specs.Tree.{Tree}
+use Rattle.rg_tree.specs.Grammar.{Spells}
+use Rattle.rg_tree.specs.Stuck.{Stuck, fault_at}
+use Rattle.rg_tree.specs.Canonical.{canon}
 use Rattle.rg_parse.specs.Tree.{Program}
-use Rattle.rg_parse.specs.Spelling.{Spells}
-use Rattle.rg_parse.specs.Numbering.{Numbers, IsThin}
+use Rattle.rg_parse.specs.Numbering.{numbered}
+use Rattle.rg_parse.specs.ThinTrees.{thin_program}
 use Rattle.rg_run.specs.Plain.{Ending, Running, Done, Trapped, plain}
 use Rattle.rg_run.specs.Runs.{output_after}
 use Rattle.rg_top.specs.declared.status.Status.{Status}
 use Rattle.rg_top.specs.declared.status.Status.TheVariants as status
-use Rattle.rg_top.specs.Commands.{Command, run}
+use Rattle.rg_top.specs.Commands.{Command, run, fmt}
 
 -- what a source can be
 pub data Meaning : Type 0 where
   -- more bytes than a source may have
   too_long : Meaning
-  -- a source with a fault: its first one
+  -- a source with a fault of its tokens or of its grammar: its first one
   faulty : Fault → Meaning
-  -- a source that spells a program that can be run
-  spelt : Program → Meaning
+  -- a source that spells a tree
+  spelt : Tree → Meaning
+
+-- the tokens of a source are stuck with a fault
+abbrev pub IsStuck : List ℕ → Fault → Type 0
+IsStuck source f = (tokens : List Token) × (at : List Token) × (cut source ≡ Ok tokens) × Stuck tokens f.code at × (f ≡ fault_at f.code (end_line source) at)
+
+-- the tokens of a source spell a tree
+abbrev pub SpellsTree : List ℕ → Tree → Type 0
+SpellsTree source t = (tokens : List Token) × (cut source ≡ Ok tokens) × Spells source t tokens
 
 -- what a source is
 abbrev pub Means : List ℕ → Meaning → Type 0
 Means source too_long = SOURCE_BYTES < length source
-Means source (faulty f) = (length source ≤ SOURCE_BYTES) × (f ≡ record { code = NotBuilt; line = 1 }) × ¬ IsThin source
-Means source (spelt p) = (length source ≤ SOURCE_BYTES) × Spells source p × ((stmts : List ThinStmt) × Numbers p stmts)
+Means source (faulty f) = (length source ≤ SOURCE_BYTES) × ((cut source ≡ Err f) ⊎ IsStuck source f)
+Means source (spelt t) = (length source ≤ SOURCE_BYTES) × SpellsTree source t
 
 -- a status, with the text on the output
 pub record Answer : Type 0 where
@@ -40,11 +53,21 @@ status_of Running = status.Spent
 status_of Done = status.Done
 status_of (Trapped kind line) = status.Trap kind line
 
+-- the program of a tree that can be run today: a thin one whose names have numbers
+abbrev pub runs : Tree → Option Program
+runs t = option_and_then (λ p. option_map (λ stmts. p) (numbered [] p.body)) (thin_program t)
+
+-- what a run of n steps answers; a tree that can't be run yet is refused at the line of `main`
+abbrev pub run_answer : ℕ → ℕ → Option Program → Answer
+run_answer n line None = record { status = status.Refused (record { code = NotBuilt; line = line }); text = [] }
+run_answer n line (Some p) = record { status = status_of (plain p n).ending; text = text (output_after p n) }
+
 -- what a command answers to a source of that meaning
 abbrev pub expected : Command → Meaning → Answer
 expected c too_long = record { status = status.Long; text = [] }
 expected c (faulty f) = record { status = status.Refused f; text = [] }
-expected (run file n) (spelt p) = record { status = status_of (plain p n).ending; text = text (output_after p n) }
+expected (run file n) (spelt t) = run_answer n t.line (runs t)
+expected (fmt file) (spelt t) = record { status = status.Done; text = canon t }
 
 -- the command answers that to the source
 abbrev pub Expects : Command → List ℕ → Status → List ℕ → Type 0

@@ -1,16 +1,18 @@
 -- The words of the headline: from which cause an answer comes, and what the call leaves (docs/promises.md).
 use Rattle.std.specs.Prelude.{◌≡◌, ◌≢◌, ℕ, true, ◌⊎◌, List, ◌++◌, Option, Some, None}
-use Rattle.rg_io.specs.Content.{Appends, IsPrefix}
+use Rattle.rg_io.specs.Content.{Appends, AppendsPart, IsPrefix}
 use Rattle.rg_io.specs.Files.{Told, HasFile, file_bytes}
+use Rattle.rg_tree.specs.Tree.{Tree}
+use Rattle.rg_tree.specs.Canonical.{canon}
 use Rattle.rg_parse.specs.Tree.{Program}
 use Rattle.rg_run.specs.Plain.{plain}
 use Rattle.rg_run.specs.Machine.{Kept, IsFresh}
 use Rattle.rg_run.specs.Runs.{StandsAfter, ShowsRan}
 use Rattle.rg_top.specs.declared.status.Status.{Status}
 use Rattle.rg_top.specs.declared.status.Status.TheVariants as status
-use Rattle.rg_top.specs.Commands.{Command, command, file_of, steps_of}
+use Rattle.rg_top.specs.Commands.{Command, run, fmt, command, file_of, steps_of}
 use Rattle.rg_top.specs.Statuses.{status_text, is_from_outside}
-use Rattle.rg_top.specs.Expected.{spelt, Means, Expects}
+use Rattle.rg_top.specs.Expected.{spelt, Means, runs, Expects}
 
 -- a fact on the command that the words give and on a source that its file has: the file's bytes, where files
 -- tell them, else some bytes
@@ -30,18 +32,27 @@ Exactly answer s P = (answer ≡ s → P) × (P → (answer ≡ s) ⊎ (is_from_
 abbrev pub Wrote : Command → List ℕ → Status → (old new : Option (List ℕ)) → Type 0
 Wrote c source s old new = (text : List ℕ) × Expects c source s text × Appends old new text
 
--- the machine shows the state after all steps of the program that the source spells
+-- the source spells a tree that can be run: the tree and its program
+pub record Runs (source : List ℕ) (p : Program) : Type 0 where
+  pub tree : Tree
+  pub means : Means source (spelt tree)
+  pub runs_is : runs tree ≡ Some p
+
+-- the machine shows the state after all steps of the program that the source spells; only `run` begins a run
 abbrev pub ShowsEnd : Command → List ℕ → Kept → Type 0
-ShowsEnd c source m = (p : Program) × Means source (spelt p) × ShowsRan p m (plain p (steps_of c))
+ShowsEnd (run file n) source m = (p : Program) × Runs source p × ShowsRan p m (plain p n)
+ShowsEnd (fmt file) source m = IsFresh m
 
 -- no run has begun, and the output is untouched
 abbrev pub Untouched : Kept → (old new : Option (List ℕ)) → Type 0
 Untouched m old new = IsFresh m × (new ≡ old)
 
--- The machine stands at a whole step k of the program that the source spells. The output has taken the text
--- of the first k - 1 steps and a prefix of what step k added.
+-- A run stands at a whole step k of the program that the source spells. The output has taken the text of the
+-- first k - 1 steps and a prefix of what step k added. Else no run has begun, and it has taken a prefix of the
+-- command's text.
 abbrev pub CutOffAt : Command → List ℕ → Kept → (old new : Option (List ℕ)) → Type 0
-CutOffAt c source m old new = (p : Program) × Means source (spelt p) × StandsAfter p (steps_of c) m.steps m old new
+CutOffAt (run file n) source m old new = (p : Program) × Runs source p × StandsAfter p n m.steps m old new
+CutOffAt (fmt file) source m old new = (t : Tree) × Means source (spelt t) × IsFresh m × AppendsPart old new (canon t)
 
 -- the steps that the words ask for
 abbrev pub steps_asked : Option Command → ℕ

@@ -1,4 +1,5 @@
 pub mod Commands
+pub mod Requests
 pub mod Statuses
 pub mod Expected
 pub mod Headline

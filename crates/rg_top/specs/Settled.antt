@@ -1,19 +1,23 @@
 -- What the layers under the top call have answered and left, by the status.
-use Rattle.std.specs.Prelude.{◌≡◌, ℕ, ◌⊎◌, List, Option}
+use Rattle.std.specs.Prelude.{◌≡◌, ℕ, ◌⊎◌, List, Option, None}
 use Rattle.rg_base.specs.declared.outcome.Ended.{Ended}
 use Rattle.rg_base.specs.declared.outcome.Ended.TheVariants as ended
 use Rattle.rg_base.specs.Text.{text}
 use Rattle.rg_io.specs.Content.{Appends}
 use Rattle.rg_io.specs.Files.{Told, HasFile}
+use Rattle.rg_base.specs.declared.fault.Code.TheVariants.{NotBuilt}
+use Rattle.rg_base.specs.declared.fault.Fault.{Fault}
+use Rattle.rg_tree.specs.Tree.{Tree}
+use Rattle.rg_tree.specs.Canonical.{canon}
 use Rattle.rg_parse.specs.Tree.{Program}
 use Rattle.rg_run.specs.Plain.{plain}
-use Rattle.rg_run.specs.Machine.{Kept}
+use Rattle.rg_run.specs.Machine.{Kept, IsFresh}
 use Rattle.rg_run.specs.Runs.{output_after, ShowsRan}
 use Rattle.rg_top.specs.declared.status.Status.{Status}
 use Rattle.rg_top.specs.declared.status.Status.TheVariants as status
-use Rattle.rg_top.specs.Commands.{Command, file_of, steps_of}
-use Rattle.rg_top.specs.Expected.{too_long, faulty, spelt, Means, status_of}
-use Rattle.rg_top.specs.Headline.{Untouched, CutOffAt}
+use Rattle.rg_top.specs.Commands.{Command, run, fmt, file_of}
+use Rattle.rg_top.specs.Expected.{too_long, faulty, spelt, Means, status_of, runs}
+use Rattle.rg_top.specs.Headline.{Runs, Untouched, CutOffAt}
 
 -- the status of a run
 abbrev pub status_of_ended : Ended → Status
@@ -25,20 +29,42 @@ status_of_ended ended.OutputFault = status.OutputFault
 status_of_ended ended.Memory = status.Memory
 
 -- a whole run of the program that the source spells, with that status
-pub record RanWhole (c : Command) (source : List ℕ) (s : Status) (old new : Option (List ℕ)) (m : Kept) : Type 0 where
+pub record RanWhole (n : ℕ) (source : List ℕ) (s : Status) (old new : Option (List ℕ)) (m : Kept) : Type 0 where
   pub program : Program
-  pub means : Means source (spelt program)
-  pub status_is : s ≡ status_of (plain program (steps_of c)).ending
-  pub wrote : Appends old new (text (output_after program (steps_of c)))
-  pub shows : ShowsRan program m (plain program (steps_of c))
+  pub source_runs : Runs source program
+  pub status_is : s ≡ status_of (plain program n).ending
+  pub wrote : Appends old new (text (output_after program n))
+  pub shows : ShowsRan program m (plain program n)
+
+-- the canonical text of the tree that the source spells was written
+pub record Formatted (source : List ℕ) (old new : Option (List ℕ)) (m : Kept) : Type 0 where
+  pub tree : Tree
+  pub means : Means source (spelt tree)
+  pub wrote : Appends old new (canon tree)
+  pub fresh : IsFresh m
+
+-- a command that came to its end
+abbrev pub EndsWell : Command → List ℕ → (old new : Option (List ℕ)) → Kept → Type 0
+EndsWell (run file n) source old new m = RanWhole n source status.Done old new m
+EndsWell (fmt file) source old new m = Formatted source old new m
+
+-- a run that didn't
+abbrev pub StopsRun : Command → List ℕ → Status → (old new : Option (List ℕ)) → Kept → Type 0
+StopsRun (run file n) source s old new m = RanWhole n source s old new m
+StopsRun (fmt file) source s old new m = ⊥
+
+-- a tree that can't be run
+abbrev pub CantRun : Command → List ℕ → Fault → Type 0
+CantRun (run file n) source f = (t : Tree) × Means source (spelt t) × (runs t ≡ None) × (f ≡ record { code = NotBuilt; line = t.line })
+CantRun (fmt file) source f = ⊥
 
 -- what was answered to a source
 abbrev pub Settles : Command → List ℕ → Status → (old new : Option (List ℕ)) → Kept → Type 0
-Settles c source status.Done old new m = RanWhole c source status.Done old new m
-Settles c source (status.Refused f) old new m = Means source (faulty f) × Untouched m old new
+Settles c source status.Done old new m = EndsWell c source old new m
+Settles c source (status.Refused f) old new m = (Means source (faulty f) ⊎ CantRun c source f) × Untouched m old new
 Settles c source status.Usage old new m = ⊥
-Settles c source (status.Trap kind line) old new m = RanWhole c source (status.Trap kind line) old new m
-Settles c source status.Spent old new m = RanWhole c source status.Spent old new m
+Settles c source (status.Trap kind line) old new m = StopsRun c source (status.Trap kind line) old new m
+Settles c source status.Spent old new m = StopsRun c source status.Spent old new m
 Settles c source status.SourceFault old new m = ⊥
 Settles c source status.InputFault old new m = ⊥
 Settles c source status.OutputFault old new m = Untouched m old new ⊎ CutOffAt c source m old new

@@ -11,6 +11,10 @@ use std::test::Fail;
 const USAGE: &str =
     "usage: reggio run FILE [--steps N] [--every N] [--report]; check FILE; fmt FILE; code FILE; plain FILE [--steps N]; bulk N\n";
 
+const RUN: &[&str] = &["run", "a"];
+
+const FMT: &[&str] = &["fmt", "a"];
+
 const SEVEN: &[u8] = b"main arena { print 7; }";
 
 /// The sinks of a call, with room for a mebibyte each.
@@ -62,8 +66,8 @@ fn sources_run_for_so_many_steps(rt: HostRuntime) -> Result<(), Fail> {
     long_name.extend_from_slice(&letters)?;
     long_name.extend_from_slice(b": int = 1; }")?;
     let two: &[u8] = b"main trace { let x: int = 41; print x; print 1; }";
-    let rows: [(&[&str], &[u8], &str, &str, u8); 17] = [
-        (&["run", "a"], SEVEN, "7\n", "", 0),
+    let rows: [(&[&str], &[u8], &str, &str, u8); 22] = [
+        (RUN, SEVEN, "7\n", "", 0),
         (
             &["run", "a", "--steps", "1"],
             SEVEN,
@@ -80,7 +84,7 @@ fn sources_run_for_so_many_steps(rt: HostRuntime) -> Result<(), Fail> {
             4,
         ),
         (&["run", "a", "--steps", "0000000002"], SEVEN, "7\n", "", 0),
-        (&["run", "a"], two, "41\n1\n", "", 0),
+        (RUN, two, "41\n1\n", "", 0),
         (
             &["run", "a", "--steps", "2"],
             two,
@@ -88,57 +92,86 @@ fn sources_run_for_so_many_steps(rt: HostRuntime) -> Result<(), Fail> {
             "spent at step 2\n",
             4,
         ),
-        (&["run", "a"], b"main\tcount\r\n{\n}\n", "", "", 0),
+        (RUN, b"main\tcount\r\n{\n}\n", "", "", 0),
         (
-            &["run", "a"],
-            b"main arena{let a_1:int=9223372036854775807;print a_1;print 007;}",
-            "9223372036854775807\n7\n",
+            RUN,
+            b"main arena { print (007); } // and more",
+            "7\n",
             "",
             0,
         ),
-        (&["run", "a"], b"", "", "E90 not built at line 1\n", 1),
-        (&["run", "a"], b"\0\0", "", "E90 not built at line 1\n", 1),
+        (RUN, b"", "", "E10 syntax at line 1\n", 1),
         (
-            &["run", "a"],
-            b"\nmain arena { print x; let x: int = 1; }",
+            RUN,
+            b"main arena {\nprint 1\n}",
             "",
-            "E90 not built at line 1\n",
+            "E10 syntax at line 3\n",
+            1,
+        ),
+        (RUN, b"\0\0", "", "E01 byte at line 1\n", 1),
+        (
+            RUN,
+            b"main arena { print 1 $ 2; }",
+            "",
+            "E01 byte at line 1\n",
             1,
         ),
         (
-            &["run", "a"],
-            b"main arena { let x: int = 9223372036854775808; }",
+            RUN,
+            b"main arena { print 1x; }",
             "",
-            "E90 not built at line 1\n",
+            "E02 number at line 1\n",
             1,
         ),
         (
-            &["run", "a"],
+            RUN,
+            b"main arena { print 9223372036854775808; }",
+            "",
+            "E02 number at line 1\n",
+            1,
+        ),
+        (RUN, long_name.as_slice(), "", "E03 name at line 1\n", 1),
+        (
+            RUN,
             b"main arena { let print: int = 1; }",
             "",
-            "E90 not built at line 1\n",
+            "E10 syntax at line 1\n",
             1,
         ),
         (
-            &["run", "a"],
-            long_name.as_slice(),
+            RUN,
+            b"\nmain arena { print x; let x: int = 1; }",
             "",
-            "E90 not built at line 1\n",
+            "E90 not built at line 2\n",
             1,
         ),
         (
-            &["run", "a"],
-            b"main arena { print 7; } // and more",
-            "",
-            "E90 not built at line 1\n",
-            1,
-        ),
-        (
-            &["run", "a"],
+            RUN,
             b"main arena { print 1 + 1; }",
             "",
             "E90 not built at line 1\n",
             1,
+        ),
+        (
+            RUN,
+            b"class A { }\nmain arena { }",
+            "",
+            "E90 not built at line 2\n",
+            1,
+        ),
+        (
+            FMT,
+            b"main arena{print (1+2)*3-(4);}//c",
+            "main arena {\n  print (1 + 2) * 3 - 4;\n}\n",
+            "",
+            0,
+        ),
+        (
+            FMT,
+            b"class A{x:int;}main count{if not 1==2{}else{print - (1);}}",
+            "class A {\n  x: int;\n}\nmain count {\n  if not 1 == 2 {\n  } else {\n    print -1;\n  }\n}\n",
+            "",
+            0,
         ),
     ];
     for (words, source, output, notes, status) in rows {
@@ -153,7 +186,7 @@ fn sources_run_for_so_many_steps(rt: HostRuntime) -> Result<(), Fail> {
 
 #[test]
 fn other_words_are_a_usage(rt: HostRuntime) -> Result<(), Fail> {
-    let rows: [&[&str]; 24] = [
+    let rows: [&[&str]; 25] = [
         &[],
         &["run"],
         &["a"],
@@ -174,7 +207,8 @@ fn other_words_are_a_usage(rt: HostRuntime) -> Result<(), Fail> {
         &["run", "a", "--every", "5"],
         &["run", "a", "--report"],
         &["check", "a"],
-        &["fmt", "a"],
+        &["fmt"],
+        &["fmt", "a", "--steps", "5"],
         &["code", "a"],
         &["plain", "a"],
         &["bulk", "5"],
@@ -260,5 +294,32 @@ fn a_source_has_its_limits(rt: HostRuntime) -> Result<(), Fail> {
     assert_eq!(rt; answer, Status::Long);
     assert_eq!(rt; taken.out.taken(), b"".as_slice());
     assert_eq!(rt; taken.notes.taken(), b"source too long\n".as_slice());
+    Ok(())
+}
+
+#[test]
+fn brackets_and_signs_have_limits(rt: HostRuntime) -> Result<(), Fail> {
+    for (open, signs, notes) in [
+        (63, 0, ""),
+        (64, 0, "E11 nesting at line 1\n"),
+        (0, 512, "E90 not built at line 1\n"),
+        (0, 513, "E12 limit at line 1\n"),
+    ] {
+        let mut source = Vec::from_slice(rt.alloc(), b"main arena { print ")?;
+        for _ in 0..open {
+            source.push(b'(')?;
+        }
+        source.extend_from_slice(b"1")?;
+        for _ in 0..signs {
+            source.extend_from_slice(b" + 1")?;
+        }
+        for _ in 0..open {
+            source.push(b')')?;
+        }
+        source.extend_from_slice(b"; }")?;
+        let mut taken = ample_sinks(rt.alloc())?;
+        let _ = call_on(rt.alloc(), RUN, &source, &mut taken)?;
+        assert_eq!(rt; taken.notes.taken(), notes.as_bytes());
+    }
     Ok(())
 }

@@ -1,26 +1,32 @@
 //! The top call: from words, files and input to the output, the notes and the status
 //! (docs/promises.md).
 
-ghost use Rattle.std.specs.Prelude.{◌≡◌, ◌≢◌, ◌≤◌, ◌⊎◌, ℕ, List, length, None};
+ghost use Rattle.std.specs.Prelude.{◌≡◌, ◌≢◌, ◌≤◌, ◌⊎◌, ℕ, List, length, None, Err, IfOk};
 ghost use Rattle.std.specs.Bool.{OnTrue};
 ghost use Rattle.rg_base.specs.declared.fault.Fault.{Fault};
 ghost use Rattle.rg_base.specs.declared.limits.TheConstants.{SOURCE_BYTES};
 ghost use Rattle.rg_base.specs.declared.outcome.Trap.{Trap};
+ghost use Rattle.rg_base.specs.Tokens.{cut};
+ghost use Rattle.rg_tree.specs.RowTrees.{program_of};
 ghost use Rattle.rg_io.specs.Content.{Rose};
-ghost use Rattle.rg_run.specs.Machine.{IsFresh};
-ghost use Rattle.rg_top.specs.Commands.{command, texts, run};
+ghost use Rattle.rg_run.specs.Machine.{IsFresh, Kept};
+ghost use Rattle.rg_top.specs.Commands.{command, texts, run, fmt, file_of, steps_of};
+ghost use Rattle.rg_top.specs.Requests.{command_of};
 ghost use Rattle.rg_top.specs.Statuses.{is_run, is_answer, is_refusal, is_cut_off};
-ghost use Rattle.rg_top.specs.Expected.{ExpectsStatus};
+ghost use Rattle.rg_top.specs.Expected.{spelt, Means, IsStuck, SpellsTree, ExpectsStatus};
 ghost use Rattle.rg_top.specs.Headline.{ForSource, WhereTold, Exactly, Wrote, ShowsEnd, Untouched, CutOffAt, TookNotes, steps_asked};
 ghost use Rattle.rg_top.specs.Settled.{status_of_ended, Settles, SettlesFile};
 
 use crate::notes::tell;
 use crate::status::Status;
-use crate::words::{self, Run};
-use rg_base::{Ended, SOURCE_BYTES, Stop};
-use rg_io::{Files, Sink, Source, Taken, take_all};
-use rg_parse::thin;
+use crate::words::{self, Request};
+use rg_base::{Code, Ended, Fault, SOURCE_BYTES, Stop};
+use rg_io::{Files, Sink, Source, Taken, put_all, take_all};
+use rg_lex::tokens;
+use rg_parse::{parse, thin};
+use rg_print::text;
 use rg_run::Machine;
+use rg_tree::Program;
 use std::alloc::Global;
 
 /// The status of a run.
@@ -37,39 +43,101 @@ fn status_of(ended: Ended) -> Status
     }
 }
 
-/// Runs a source for at most so many steps.
-fn run_source<O: Sink>(
+/// The program that a source spells.
+fn read(alloc: Global, source: &[u8]) -> Result<Program, Stop>
+    requires { length source.now ≤ SOURCE_BYTES }
+    ensures ok { IfOk result (λ p. SpellsTree source.now (program_of p)) }
+    ensures fault { (f : Fault) → result ≡ Err (Stop.Fault f) →
+        (cut source.now ≡ Err f) ⊎ IsStuck source.now f }
+{
+    let found = match tokens(alloc, source) {
+        Ok(found) => found,
+        Err(stop) => return Err(stop),
+    };
+    parse(alloc, source, &found)
+}
+
+/// Runs a program for at most so many steps.
+fn run_program<O: Sink>(
     alloc: Global,
-    source: &[u8],
+    program: &Program,
     steps: u64,
     out: &mut O,
     machine: &mut Machine,
 ) -> Status
-    requires fresh { IsFresh machine.old }
-    requires fits { length source.now ≤ SOURCE_BYTES }
-    ensures settles { (file : List ℕ) → Settles (run file steps) source.now result
+    requires { IsFresh machine.old }
+    ensures settles { (file source : List ℕ) → Means source (spelt (program_of program.now)) →
+        Settles (run file steps) source result
         (O.taken out.old) (O.taken out.new) machine.new }
     ensures output_fault { result ≡ Status.OutputFault →
         Rose (O.faults out.old) (O.faults out.new) }
     ensures never_falls { O.faults out.old ≤ O.faults out.new }
 {
-    match thin(alloc, source) {
-        Err(Stop::Fault(fault)) => Status::Refused(fault),
-        Err(Stop::Memory) => Status::Memory,
-        Ok(program) => status_of(machine.run(&program, steps, out)),
+    match thin(alloc, program) {
+        Err(_) => Status::Memory,
+        Ok(None) => Status::Refused(Fault {
+            code: Code::NotBuilt,
+            line: program.main_line(),
+        }),
+        Ok(Some(thin)) => status_of(machine.run(&thin, steps, out)),
     }
 }
 
-/// Runs the source in a file.
-fn run_file<F: Files, O: Sink>(
+/// Gives the canonical text of a program to the output.
+fn format_program<O: Sink>(alloc: Global, program: &Program, out: &mut O) -> Status
+    ensures settles { (file source : List ℕ) (m : Kept) →
+        Means source (spelt (program_of program.now)) → IsFresh m →
+        Settles (fmt file) source result (O.taken out.old) (O.taken out.new) m }
+    ensures output_fault { result ≡ Status.OutputFault →
+        Rose (O.faults out.old) (O.faults out.new) }
+    ensures never_falls { O.faults out.old ≤ O.faults out.new }
+{
+    match text(alloc, program) {
+        Err(_) => Status::Memory,
+        Ok(canonical) => match put_all(out, canonical.bytes()) {
+            Ok(()) => Status::Done,
+            Err(_) => Status::OutputFault,
+        },
+    }
+}
+
+/// Does what is asked for with a source.
+fn answer_source<O: Sink>(
     alloc: Global,
-    command: &Run<'_>,
+    request: Request<'_>,
+    source: &[u8],
+    out: &mut O,
+    machine: &mut Machine,
+) -> Status
+    requires fresh { IsFresh machine.old }
+    requires fits { length source.now ≤ SOURCE_BYTES }
+    ensures settles { Settles (command_of request.entry) source.now result
+        (O.taken out.old) (O.taken out.new) machine.new }
+    ensures output_fault { result ≡ Status.OutputFault →
+        Rose (O.faults out.old) (O.faults out.new) }
+    ensures never_falls { O.faults out.old ≤ O.faults out.new }
+{
+    let program = match read(alloc, source) {
+        Err(Stop::Fault(fault)) => return Status::Refused(fault),
+        Err(Stop::Memory) => return Status::Memory,
+        Ok(program) => program,
+    };
+    match request {
+        Request::Run { steps, .. } => run_program(alloc, &program, steps, out, machine),
+        Request::Format { .. } => format_program(alloc, &program, out),
+    }
+}
+
+/// Does what is asked for with the source in a file.
+fn answer_file<F: Files, O: Sink>(
+    alloc: Global,
+    request: Request<'_>,
     files: &mut F,
     out: &mut O,
     machine: &mut Machine,
 ) -> Status
     requires { IsFresh machine.old }
-    ensures settles { SettlesFile (F.told files.old) (run command.now.file.now command.now.steps)
+    ensures settles { SettlesFile (F.told files.old) (command_of request.entry)
         result (O.taken out.old) (O.taken out.new) machine.new }
     ensures source_fault { result ≡ Status.SourceFault →
         Rose (F.faults files.old) (F.faults files.new) }
@@ -78,11 +146,31 @@ fn run_file<F: Files, O: Sink>(
     ensures files_never_fall { F.faults files.old ≤ F.faults files.new }
     ensures never_falls { O.faults out.old ≤ O.faults out.new }
 {
-    match take_all(alloc, files, command.file, SOURCE_BYTES) {
+    match take_all(alloc, files, file_of(request), SOURCE_BYTES) {
         Err(Taken::SourceFault) => Status::SourceFault,
         Err(Taken::Long) => Status::Long,
         Err(Taken::Memory) => Status::Memory,
-        Ok(source) => run_source(alloc, source.bytes(), command.steps, out, machine),
+        Ok(source) => answer_source(alloc, request, source.bytes(), out, machine),
+    }
+}
+
+/// The file that is asked for.
+fn file_of(request: Request<'_>) -> &str
+    ensures { result.now ≡ file_of (command_of request.entry) }
+{
+    match request {
+        Request::Run { file, .. } => file,
+        Request::Format { file } => file,
+    }
+}
+
+/// The number of steps that are asked for.
+fn steps_of(request: Request<'_>) -> u64
+    ensures { result ≡ steps_of (command_of request.entry) }
+{
+    match request {
+        Request::Run { steps, .. } => steps,
+        Request::Format { .. } => 0,
     }
 }
 
@@ -147,9 +235,9 @@ pub fn reggio<F: Files, I: Source, O: Sink, R: Sink>(
     let _ = input;
     match words::command(words) {
         None => tell(notes, Status::Usage, 0),
-        Some(command) => {
-            let status = run_file(alloc, &command, files, out, machine);
-            tell(notes, status, command.steps)
+        Some(request) => {
+            let status = answer_file(alloc, request, files, out, machine);
+            tell(notes, status, steps_of(request))
         }
     }
 }

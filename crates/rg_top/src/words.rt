@@ -4,15 +4,18 @@
 ghost use Rattle.std.specs.Prelude.{◌≡◌, ◌<◌, ◌^◌, Some, None, true, MatchOption, is_some};
 ghost use Rattle.std.specs.List.{list_all};
 ghost use Rattle.rg_base.specs.Pieces.{is_digit};
-ghost use Rattle.rg_top.specs.Commands.{command, texts, run, is_file, is_number, value_up_to, number_in, steps_in};
+ghost use Rattle.rg_top.specs.Commands.{command, texts, is_file, is_number, value_up_to, number_in, steps_in};
+ghost use Rattle.rg_top.specs.Requests.{command_of};
 
 use rg_base::{MOST_STEPS, USUAL_STEPS};
 
-/// `run FILE --steps N`
+/// What the words ask for, with the file that they name.
 #[derive(Clone, Copy)]
-pub(crate) struct Run<'a> {
-    pub(crate) file: &'a str,
-    pub(crate) steps: u64,
+pub(crate) enum Request<'a> {
+    /// `run FILE --steps N`
+    Run { file: &'a str, steps: u64 },
+    /// `fmt FILE`
+    Format { file: &'a str },
 }
 
 /// Whether a word can name a file.
@@ -99,18 +102,27 @@ pub fn shape(words: &[&str]) -> bool
 }
 
 /// The command that the words give, if they give one. They don't include the program's name.
-pub(crate) fn command<'a>(words: &[&'a str]) -> Option<Run<'a>>
+pub(crate) fn command<'a>(words: &[&'a str]) -> Option<Request<'a>>
     ensures { MatchOption result (command (texts words.now) ≡ None)
-        (λ c. command (texts words.now) ≡ Some (run c.file.now c.steps)) }
+        (λ r. command (texts words.now) ≡ Some (command_of r)) }
 {
     let [name, file, options @ ..] = words else {
         return None;
     };
-    if *name != "run" || !can_name_file(file) {
+    if !can_name_file(file) {
         return None;
     }
-    match steps(options) {
-        Some(steps) => Some(Run { file, steps }),
-        None => None,
+    if *name == "run" {
+        return match steps(options) {
+            Some(steps) => Some(Request::Run { file, steps }),
+            None => None,
+        };
     }
+    if *name == "fmt" {
+        return match options {
+            [] => Some(Request::Format { file }),
+            [_, ..] => None,
+        };
+    }
+    None
 }

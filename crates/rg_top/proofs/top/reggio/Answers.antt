@@ -1,19 +1,20 @@
 -- What the top call promises, from what the layers under it have answered.
 use Rattle.std.proofs.Common.{refl, inl, inr}
 use Rattle.rg_top.specs.declared.status.Status.TheVariants as status
-use Rattle.rg_top.specs.Commands.{run, texts}
+use Rattle.rg_top.specs.Commands.{texts}
+use Rattle.rg_top.specs.Requests.{command_of}
 use Rattle.rg_top.proofs.AnswerLemmas.{Answered, answer-text, answer-state, answer-cut, answer-exactly, answer-complete, answer-input, given-source_fault}
 use Rattle.rg_top.proofs.top.reggio.Given.{Over}
 use Rattle.rg_top.proofs.top.reggio.Goals as goal
 
 -- the answer behind the layers under it
 answered : (g : Over) (c : goal.After-tell-in-Some g) →
-    Answered (g.F.Files.told c.args.files.now) (texts c.args.words.now) c.run_file-status.result c.tell-in-Some.result
-    (g.O.Sink.taken c.args.out.now) (g.O.Sink.taken c.run_file-status.new.out) c.run_file-status.new.machine
+    Answered (g.F.Files.told c.args.files.now) (texts c.args.words.now) c.answer_file-status.result c.tell-in-Some.result
+    (g.O.Sink.taken c.args.out.now) (g.O.Sink.taken c.answer_file-status.new.out) c.answer_file-status.new.machine
 answered g c = record {
-  asked = run c.in-Some.command.file.now c.in-Some.command.steps;
+  asked = command_of c.in-Some.request;
   command_is = c.in-Some.ensures;
-  settles = c.run_file-status.ensures.settles;
+  settles = c.answer_file-status.ensures.settles;
   told_is = c.tell-in-Some.ensures.told;
 }
 
@@ -44,6 +45,6 @@ returns-in-Some-clause-long g c = answer-exactly (answered g c) status.Long refl
 pub returns-in-Some-clause-complete : goal.returns-in-Some-clause-complete
 returns-in-Some-clause-complete g c =
     answer-complete (answered g c) _ _ _
-    (λ i. c.run_file-status.ensures.source_fault (given-source_fault _ _ c.tell-in-Some.ensures.told i))
+    (λ i. c.answer_file-status.ensures.source_fault (given-source_fault _ _ c.tell-in-Some.ensures.told i))
     (answer-input (answered g c))
-    (λ i. elim (c.tell-in-Some.ensures.failed i) [ inl o ↦ inl (c.run_file-status.ensures.output_fault o) | inr n ↦ inr n ])
+    (λ i. elim (c.tell-in-Some.ensures.failed i) [ inl o ↦ inl (c.answer_file-status.ensures.output_fault o) | inr n ↦ inr n ])

@@ -1,0 +1,91 @@
+-- Rows stand for the same trees wherever the tables grow.
+use Rattle.std.proofs.Common.{◌≡◌, ℕ, ◌<◌, List, length, ◌∷◌, [], ◌++◌, Option, None, Some, IfSome, option_map, refl, ap, ◌∙◌, arith}
+use Rattle.std.proofs.lemmas.List.{length_push}
+use Rattle.rg_tree.specs.declared.rows.Span.{Span}
+use Rattle.rg_tree.specs.Tree.{Expr, Stmt, Param, Member}
+use Rattle.rg_tree.specs.Tables.{Tables, name_at}
+use Rattle.rg_tree.specs.RowTrees.{expr_at, stmt_at, param_at, member_at}
+use Rattle.rg_tree.specs.RowsExist.{IsNameIn, IsExprNumber}
+use Rattle.rg_tree.specs.Keeps.{Keeps}
+use Rattle.rg_tree.specs.RowsExist.{Holds}
+use Rattle.rg_tree.proofs.Callers.{IsAbove-Keeps, expr_at-keeps, stmt_at-keeps, param_at-keeps, member_at-keeps, Holds-keeps}
+use Rattle.rg_tree.proofs.Grows.{name_at-grows}
+use Rattle.rg_parse.specs.Lists.{IsStmtNumber, IsParamNumber, IsMemberNumber, numbers_of, IsListed}
+use Rattle.rg_tree.proofs.Callers.{Keeps-same, Keeps-trans}
+use Rattle.rg_base.specs.declared.token.Kind.{Kind}
+use Rattle.rg_base.specs.declared.token.Token.{Token}
+use Rattle.rg_tree.specs.declared.counts.Counts.{Counts}
+use Rattle.rg_parse.specs.Steps.{State, Means, Extends, Found, found, Took, took, took_brace, took_paren, Signed, signed}
+
+module _ {t : Tables} (n : ℕ) where
+  pub name-means : (x : List ℕ) → name_at t n ≡ x → n < length t.names → Means name_at IsNameIn t n x
+  name-means x e l = record {
+    is = λ u k. name_at-grows (IsAbove-Keeps k) n l ∙ e;
+    there = λ u k. omega (arith, (IsAbove-Keeps k).names);
+  }
+
+  pub expr-means : (x : Expr) → expr_at t n ≡ x → n < length t.exprs → Means expr_at IsExprNumber t n x
+  expr-means x e l = record { is = λ u k. expr_at-keeps k n l ∙ e; there = λ u k. omega (arith, (IsAbove-Keeps k).exprs) }
+
+  pub stmt-means : (x : Stmt) → stmt_at t n ≡ x → n < length t.stmts → Means stmt_at IsStmtNumber t n x
+  stmt-means x e l = record { is = λ u k. stmt_at-keeps k n l ∙ e; there = λ u k. omega (arith, (IsAbove-Keeps k).stmts) }
+
+  pub param-means : (x : Param) → param_at t n ≡ x → n < length t.params → Means param_at IsParamNumber t n x
+  param-means x e l = record { is = λ u k. param_at-keeps k n l ∙ e; there = λ u k. omega (arith, (IsAbove-Keeps k).params) }
+
+  pub member-means : (x : Member) → member_at t n ≡ x → n < length t.members → Means member_at IsMemberNumber t n x
+  member-means x e l = record { is = λ u k. member_at-keeps k n l ∙ e; there = λ u k. omega (arith, (IsAbove-Keeps k).members) }
+
+pub order-means : {t : Tables} (s : Span) (ks : List ℕ) → Holds t s ks → Means numbers_of IsListed t s ks
+order-means s ks h = record { is = λ u k. (Holds-keeps k s ks h).these_are; there = λ u k. (Holds-keeps k s ks h).within }
+
+-- the number of the row that was put last
+pub below : {R : Type 0} (old new : List R) (r : R) (n : ℕ) → new ≡ old ++ r ∷ [] → n ≡ length old → n < length new
+below old new r n e l = omega (arith, ap length e, length_push old r)
+
+-- tables that grow by no class
+
+pub extends-same : (t : Tables) → Extends t t
+extends-same t = record { keeps = Keeps-same t; classes = refl }
+
+pub extends-trans : {t u v : Tables} → Extends t u → Extends u v → Extends t v
+extends-trans a b = record { keeps = Keeps-trans a.keeps b.keeps; classes = b.classes ∙ a.classes }
+
+-- what a row stands for stays
+pub means-later : {V A : Type 0} {tree : Tables → V → A} {exists : Tables → V → Type 0} {t u : Tables} {v : V} {a : A} → Means tree exists t v a
+    → Extends t u → Means tree exists u v a
+means-later m g = record { is = λ w k. m.is w (Keeps-trans g.keeps k); there = λ w k. m.there w (Keeps-trans g.keeps k) }
+
+pub base-means : {t : Tables} (o : Option ℕ) → IfSome o (IsNameIn t)
+    → Means (λ u. option_map (name_at u)) (λ u b. IfSome b (IsNameIn u)) t o (option_map (name_at t) o)
+base-means None h = record { is = λ u k. refl; there = λ u k. tt }
+base-means (Some n) h = let m = name-means n _ refl h in record { is = λ u k. ap Some (m.is u k); there = m.there }
+
+-- it stands for an equal tree
+pub means-as : {V A : Type 0} {tree : Tables → V → A} {exists : Tables → V → Type 0} {t : Tables} {v : V} {a b : A} → Means tree exists t v a → a ≡ b
+    → Means tree exists t v b
+means-as m e = record { is = λ w k. m.is w k ∙ e; there = m.there }
+
+-- what was read exists
+pub found-there : {V A : Type 0} {reads : List ℕ → Counts → List Token → A → Counts → List Token → Type 0} {tree : Tables → V → A}
+    {exists : Tables → V → Type 0} {a b : State} {v : V} → Found reads tree exists a v b → exists b.tables v
+found-there (found {v = u} x r m g) = m.there u (extends-same u).keeps
+
+-- and later
+pub found-later : {V A : Type 0} {reads : List ℕ → Counts → List Token → A → Counts → List Token → Type 0} {tree : Tables → V → A}
+    {exists : Tables → V → Type 0} {a b : State} {v : V} {t : Tables} → Found reads tree exists a v b → Extends b.tables t → exists t v
+found-later (found x r m g) k = m.there _ k.keeps
+
+-- tables grow where something is read
+pub found-extends : {V A : Type 0} {reads : List ℕ → Counts → List Token → A → Counts → List Token → Type 0} {tree : Tables → V → A}
+    {exists : Tables → V → Type 0} {a b : State} {v : V} → Found reads tree exists a v b → Extends a.tables b.tables
+found-extends (found x r m g) = g
+
+-- and stay where a token is passed
+pub took-stays : {x : Kind} {a b : State} → Took x a b → Extends a.tables b.tables
+took-stays (took {u = u} i h) = extends-same u
+took-stays (took_brace {u = u} h l) = extends-same u
+took-stays (took_paren {u = u} h l) = extends-same u
+
+pub signed-stays : {x : Kind} {a b : State} → Signed x a b → Extends a.tables b.tables
+signed-stays (signed {u = u} i h) = extends-same u

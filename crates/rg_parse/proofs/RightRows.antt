@@ -1,0 +1,119 @@
+-- Right sides are read by their rows.
+use Rattle.std.proofs.Common.{◌≡◌, ℕ, List, [], ◌∷◌, Option, Some, None, refl, ap}
+use Rattle.rg_base.specs.declared.words.Manager.{Manager}
+use Rattle.rg_base.specs.declared.words.Keyword.TheVariants as w
+use Rattle.rg_base.specs.declared.token.Kind.{Kind}
+use Rattle.rg_base.specs.declared.token.Kind.TheVariants as k
+use Rattle.rg_tree.specs.declared.rows.CallRow.{CallRow}
+use Rattle.rg_tree.specs.declared.rows.Right.{Right}
+use Rattle.rg_tree.specs.declared.rows.Right.TheVariants as right_row
+use Rattle.rg_tree.specs.Tree.{value, new, new_tmp, new_iso, freeze, merge, read, more, result_of}
+use Rattle.rg_tree.specs.Phrases.{word, name, the}
+use Rattle.rg_tree.specs.Phrases as p
+use Rattle.rg_tree.specs.Grammar.{text, new_row, freeze_row, merge_row, input_row, result_row, value_row, new_plain, new_temporary, new_region}
+use Rattle.rg_tree.specs.Table.{next, row}
+use Rattle.rg_parse.specs.Starts.{right_start, new_start}
+use Rattle.rg_parse.specs.declared.starts.RightStart.TheVariants as right
+use Rattle.rg_parse.specs.declared.starts.NewStart.TheVariants as new_kind
+use Rattle.rg_parse.specs.Readings.{FoundRight, FoundNew, FoundCall, FoundExpr, FoundManager}
+use Rattle.rg_parse.specs.Steps.{State, Took, took, Used, used, found}
+use Rattle.rg_parse.proofs.Growing.{extends-same, extends-trans, means-later}
+
+pub new-row : (o : Option Kind) → right_start o ≡ right.New → row p.Right o ≡ Some (word w.New ∷ the p.New ∷ [])
+new-row (Some (k.Word w.New)) e = refl
+new-row _ e = cc
+
+pub freeze-row : (o : Option Kind) → right_start o ≡ right.Freeze → row p.Right o ≡ Some (word w.Freeze ∷ name ∷ [])
+freeze-row (Some (k.Word w.Freeze)) e = refl
+freeze-row _ e = cc
+
+pub merge-row : (o : Option Kind) → right_start o ≡ right.Merge → row p.Right o ≡ Some (word w.Merge ∷ name ∷ [])
+merge-row (Some (k.Word w.Merge)) e = refl
+merge-row _ e = cc
+
+pub read-row : (o : Option Kind) → right_start o ≡ right.Read → row p.Right o ≡ Some (word w.Read ∷ [])
+read-row (Some (k.Word w.Read)) e = refl
+read-row _ e = cc
+
+pub more-row : (o : Option Kind) → right_start o ≡ right.More → row p.Right o ≡ Some (word w.More ∷ [])
+more-row (Some (k.Word w.More)) e = refl
+more-row _ e = cc
+
+pub call-row : (o : Option Kind) → right_start o ≡ right.Call → row p.Right o ≡ Some (the p.Call ∷ [])
+call-row (Some (k.Word w.Call)) e = refl
+call-row _ e = cc
+
+pub value-row : (o : Option Kind) → right_start o ≡ right.Value → row p.Right o ≡ Some (the p.Expr ∷ [])
+value-row (Some (k.Word w.New)) e = cc
+value-row (Some (k.Word w.Freeze)) e = cc
+value-row (Some (k.Word w.Merge)) e = cc
+value-row (Some (k.Word w.Read)) e = cc
+value-row (Some (k.Word w.More)) e = cc
+value-row (Some (k.Word w.Call)) e = cc
+value-row _ e = refl
+
+-- the next token begins a call
+pub call-next : (o : Option Kind) → right_start o ≡ right.Call → o ≡ Some (k.Word w.Call)
+call-next (Some (k.Word w.Call)) e = refl
+call-next _ e = cc
+
+pub new_plain-row : (o : Option Kind) → new_start o ≡ new_kind.Plain → row p.New o ≡ Some (name ∷ [])
+new_plain-row (Some k.Name) e = refl
+new_plain-row (Some (k.Word w.Tmp)) e = cc
+new_plain-row (Some (k.Word w.Iso)) e = cc
+new_plain-row _ e = cc
+
+pub new_tmp-row : (o : Option Kind) → new_start o ≡ new_kind.Tmp → row p.New o ≡ Some (word w.Tmp ∷ name ∷ [])
+new_tmp-row (Some (k.Word w.Tmp)) e = refl
+new_tmp-row _ e = cc
+
+pub new_iso-row : (o : Option Kind) → new_start o ≡ new_kind.Iso → row p.New o ≡ Some (word w.Iso ∷ name ∷ word w.In ∷ the p.Manager ∷ [])
+new_iso-row (Some (k.Word w.Iso)) e = refl
+new_iso-row _ e = cc
+
+pub no-new : (o : Option Kind) → new_start o ≡ new_kind.Nothing → row p.New o ≡ None
+no-new (Some k.Name) e = cc
+no-new (Some (k.Word w.Tmp)) e = cc
+no-new (Some (k.Word w.Iso)) e = cc
+no-new _ e = refl
+
+pub new-found : {a m b : State} {r : Right} → Took (k.Word w.New) a m → FoundNew m r b → FoundRight a r b
+new-found (took i h) (found x r n g) = found x (new_row h r) n g
+
+pub freeze-found : {a m b : State} {n : ℕ} → Took (k.Word w.Freeze) a m → Used m n b → FoundRight a (right_row.Freeze n) b
+freeze-found (took i h) (used {source = source} {t = t} j n l) =
+    found (freeze (text source t)) (freeze_row h j) (record { is = λ u z. ap freeze (n.is u z); there = n.there }) l
+
+pub merge-found : {a m b : State} {n : ℕ} → Took (k.Word w.Merge) a m → Used m n b → FoundRight a (right_row.Merge n) b
+merge-found (took i h) (used {source = source} {t = t} j n l) =
+    found (merge (text source t)) (merge_row h j) (record { is = λ u z. ap merge (n.is u z); there = n.there }) l
+
+pub read-found : {a b : State} → Took (k.Word w.Read) a b → FoundRight a right_row.Read b
+read-found (took {u = u} i h) = found read (input_row (rw h refl)) (record { is = λ w z. refl; there = λ w z. tt }) (extends-same u)
+
+pub more-found : {a b : State} → Took (k.Word w.More) a b → FoundRight a right_row.More b
+more-found (took {u = u} i h) = found more (input_row (rw h refl)) (record { is = λ w z. refl; there = λ w z. tt }) (extends-same u)
+
+pub call_right-found : {a b : State} {x : CallRow} → FoundCall a x b → FoundRight a (right_row.Call x) b
+call_right-found (found x r n g) = found (result_of x) (result_row r) (record { is = λ u z. ap result_of (n.is u z); there = n.there }) g
+
+pub value-found : {a b : State} {e : ℕ} → row p.Right (next a.rest) ≡ Some (the p.Expr ∷ []) → FoundExpr a e b → FoundRight a (right_row.Expr e) b
+value-found h (found x r n g) = found (value x) (value_row h r) (record { is = λ u z. ap value (n.is u z); there = n.there }) g
+
+pub new_plain-found : {a b : State} {n : ℕ} → Used a n b → FoundNew a (right_row.New n) b
+new_plain-found (used {source = source} {t = t} j n l) =
+    found (new (text source t)) (new_plain j) (record { is = λ u z. ap new (n.is u z); there = n.there }) l
+
+pub new_tmp-found : {a m b : State} {n : ℕ} → Took (k.Word w.Tmp) a m → Used m n b → FoundNew a (right_row.NewTmp n) b
+new_tmp-found (took i h) (used {source = source} {t = t} j n l) =
+    found (new_tmp (text source t)) (new_temporary h j) (record { is = λ u z. ap new_tmp (n.is u z); there = n.there }) l
+
+pub new_iso-found : {a m i o b : State} {n : ℕ} {x : Manager} → Took (k.Word w.Iso) a m → Used m n i → Took (k.Word w.In) i o
+    → FoundManager o x b → FoundNew a (right_row.NewIso n x) b
+new_iso-found (took i h) (used {source = source} {t = t} j n l) (took i' f) (found y r q g) =
+    found (new_iso (text source t) y) (new_region h j f r)
+    (record {
+      is = λ u z. let e = (means-later n g).is u z in let d = q.is u z in cc;
+      there = λ u z. (means-later n g).there u z;
+    })
+    (extends-trans l g)

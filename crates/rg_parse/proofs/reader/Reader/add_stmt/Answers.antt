@@ -1,0 +1,15 @@
+use Rattle.std.proofs.Common.{ap}
+use Rattle.rg_parse.specs.Steps.{kept}
+use Rattle.rg_parse.proofs.Growing.{stmt-means, below}
+use Rattle.rg_parse.proofs.reader.Reader.add_stmt.Goals as goal
+
+pub returns-clause-kept : goal.returns-clause-kept
+returns-clause-kept c =
+    let added = c.in_ok-number.ensures in
+    rw (← c.self.view_is) (kept (record { keeps = added.keeps; classes = ap (λ t. t.classes) added.row }))
+
+pub returns-clause-means : goal.returns-clause-means
+returns-clause-means c =
+    let n = c.in_ok-number.number in
+    let added = c.in_ok-number.ensures in
+    rw (← c.self.view_is) (stmt-means n _ added.tree (below _ _ _ n (ap (λ t. t.stmts) added.row) added.number))

@@ -1,0 +1,20 @@
+use Rattle.std.proofs.Common.{ap, refl, sym, ◌∙◌}
+use Rattle.rg_parse.proofs.Tokens.{halts-another, halts-past, declared-first, exit, expected-symbol_of}
+use Rattle.rg_parse.proofs.Growing.{name-means}
+use Rattle.rg_parse.proofs.reader.Reader.declare.Goals as goal
+
+pub returns-in_default-clause-fault : goal.returns-in_default-clause-fault
+returns-in_default-clause-fault c = halts-another (expected-symbol_of c.args.role) c.in_default.ensures
+
+pub returns-in_err-counts-clause-fault : goal.returns-in_err-counts-clause-fault
+returns-in_err-counts-clause-fault c =
+    exit _ c.from_residual.ensures.1
+    (rw (← c.self.view_is)
+    (halts-past (rw (← c.self.view_is) at c.in-Some.ensures) (expected-symbol_of c.args.role) (sym c.counted.ensures ∙ c.in_err-counts.was)))
+
+pub returns-clause-ok : goal.returns-clause-ok
+returns-clause-ok c =
+    let named = c.in_ok-number.ensures in
+    rw (← c.self.view_is)
+    (declared-first (rw (← c.self.view_is) at c.in-Some.ensures) (sym c.counted.ensures ∙ c.in_ok-counts.was)
+    (name-means c.in_ok-number.number _ named.name named.there) (record { keeps = named.keeps; classes = ap (λ t. t.classes) named.names }))

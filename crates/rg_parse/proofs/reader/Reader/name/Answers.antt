@@ -1,0 +1,13 @@
+use Rattle.std.proofs.Common.{ap, refl}
+use Rattle.rg_parse.proofs.Tokens.{halts-another, used-first}
+use Rattle.rg_parse.proofs.Growing.{name-means}
+use Rattle.rg_parse.proofs.reader.Reader.name.Goals as goal
+
+pub returns-in_default-clause-fault : goal.returns-in_default-clause-fault
+returns-in_default-clause-fault c = halts-another refl c.in_default.ensures
+
+pub returns-clause-ok : goal.returns-clause-ok
+returns-clause-ok c =
+    let named = c.in_ok-number.ensures in
+    rw (← c.self.view_is)
+    (used-first (rw (← c.self.view_is) at c.in-Some.ensures) (name-means c.in_ok-number.number _ named.name named.there) (record { keeps = named.keeps; classes = ap (λ t. t.classes) named.names }))

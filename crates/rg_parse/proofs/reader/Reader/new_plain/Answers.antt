@@ -1,0 +1,12 @@
+use Rattle.std.proofs.Common.{ap, refl}
+use Rattle.rg_parse.proofs.Tokens.{exit}
+use Rattle.rg_parse.proofs.Halting.{halts-here, halts-row}
+use Rattle.rg_parse.proofs.RightRows.{new_plain-row, new_plain-found}
+use Rattle.rg_parse.proofs.reader.Reader.new_plain.Goals as goal
+
+pub returns-in_err-name-clause-fault : goal.returns-in_err-name-clause-fault
+returns-in_err-name-clause-fault c = exit _ c.from_residual.ensures.1 (halts-row _ _ (new_plain-row _ c.requires)
+    (halts-here _ c.in_err-name.ensures.fault))
+
+pub returns-clause-ok : goal.returns-clause-ok
+returns-clause-ok c = new_plain-found c.in_ok-name.ensures.ok

@@ -1,0 +1,174 @@
+-- What each reader of the parser reads: a form of the grammar, and a row that stands for its tree.
+use Rattle.std.specs.Prelude.{ℕ, ◌≡◌, ⊤, List, [], ◌∷◌, length, Option, Ok, map, option_map, IfSome}
+use Rattle.rg_base.specs.declared.words.Cap.{Cap}
+use Rattle.rg_base.specs.declared.words.Manager.{Manager}
+use Rattle.rg_base.specs.declared.words.Sign.TheVariants as s
+use Rattle.rg_base.specs.declared.token.Kind.TheVariants as k
+use Rattle.rg_base.specs.declared.token.Token.{Token}
+use Rattle.rg_tree.specs.declared.counts.Counts.{Counts}
+use Rattle.rg_tree.specs.declared.rows.Span.{Span}
+use Rattle.rg_tree.specs.declared.rows.Path as row_path
+use Rattle.rg_tree.specs.declared.rows.TypeRow.{TypeRow}
+use Rattle.rg_tree.specs.declared.rows.CallRow.{CallRow}
+use Rattle.rg_tree.specs.declared.rows.MemberRow.{MemberRow}
+use Rattle.rg_tree.specs.declared.rows.ClassRow.{ClassRow}
+use Rattle.rg_tree.specs.declared.rows.Right as row_right
+use Rattle.rg_tree.specs.declared.rows.StmtKind as row_kind
+use Rattle.rg_tree.specs.Counts.{no_signs, one_param}
+use Rattle.rg_tree.specs.Tree.{Name, Variable, Path, Ty, Expr, StmtKind, Param, Member, stmt}
+use Rattle.rg_tree.specs.Forms as form
+use Rattle.rg_tree.specs.Phrases.{Symbol, param_name, mark, the}
+use Rattle.rg_tree.specs.Phrases as p
+use Rattle.rg_tree.specs.Grammar.{Reads, text}
+use Rattle.rg_tree.specs.Stuck.{line_at}
+use Rattle.rg_tree.specs.Tables.{Tables, name_at, numbers_in}
+use Rattle.rg_tree.specs.RowTrees.{path_of, type_of, expr_at, call_of, right_of, stmt_at, block_of, kind_over, else_over, param_at, member_at, member_of, class_of}
+use Rattle.rg_tree.specs.RowsExist.{IsSpanBelow, IsNameIn, IsPathIn, IsTypeIn, IsCallIn, IsRightIn, IsKindIn, IsBlockIn, IsExprNumber, IsMemberIn, IsClassIn}
+use Rattle.rg_parse.specs.declared.halt.Halt.{Halt}
+use Rattle.rg_parse.specs.declared.level.Level.{Level}
+use Rattle.rg_parse.specs.Levels.{ReadsChain, ReadsOperand}
+use Rattle.rg_parse.specs.Lists.{IsStmtNumber, IsParamNumber}
+use Rattle.rg_parse.specs.Steps.{State, Found, Halts}
+
+-- a capability, and a manager
+abbrev pub FoundCap : State → Cap → State → Type 0
+FoundCap = Found (λ source. Reads source form.Cap) (λ t a. a) (λ t a. ⊤)
+
+abbrev pub FoundManager : State → Manager → State → Type 0
+FoundManager = Found (λ source. Reads source form.Manager) (λ t m. m) (λ t m. ⊤)
+
+-- a type
+abbrev pub FoundType : State → TypeRow → State → Type 0
+FoundType = Found (λ source. Reads source form.Type') type_of IsTypeIn
+
+-- the type of a result
+abbrev pub FoundResult : State → Option TypeRow → State → Type 0
+FoundResult = Found (λ source. Reads source form.Result) (λ t o. option_map (type_of t) o) (λ t o. IfSome o (IsTypeIn t))
+
+-- parameters
+abbrev pub params_in : Tables → Span → List Param
+params_in t s = map (param_at t) (numbers_in t s)
+
+abbrev pub FoundParams : State → Span → State → Type 0
+FoundParams = Found (λ source. Reads source form.Params) params_in (λ t. IsSpanBelow t (length t.params))
+
+-- a path
+abbrev pub FoundPath : State → row_path.Path → State → Type 0
+FoundPath = Found (λ source. Reads source form.Path) path_of IsPathIn
+
+-- the fields of a path
+abbrev pub names_in : Tables → Span → List Name
+names_in t s = map (name_at t) (numbers_in t s)
+
+abbrev pub FoundFields : State → Span → State → Type 0
+FoundFields = Found (λ source. Reads source form.Fields) names_in (λ t. IsSpanBelow t (length t.names))
+
+-- what a call begins with
+abbrev pub FoundBase : State → Option ℕ → State → Type 0
+FoundBase = Found (λ source. Reads source form.CallBase) (λ t. option_map (name_at t)) (λ t b. IfSome b (IsNameIn t))
+
+-- what stands behind the first name of a call
+abbrev pub FoundCallRest : Variable → Name → State → CallRow → State → Type 0
+FoundCallRest b m = Found (λ source. Reads source (form.CallRest (record { base = b; fields = [] }) m)) call_of IsCallIn
+
+-- a call, and its arguments
+abbrev pub FoundCall : State → CallRow → State → Type 0
+FoundCall = Found (λ source. Reads source form.Call) call_of IsCallIn
+
+abbrev pub exprs_in : Tables → Span → List Expr
+exprs_in t s = map (expr_at t) (numbers_in t s)
+
+abbrev pub FoundArgs : State → Span → State → Type 0
+FoundArgs = Found (λ source. Reads source form.Args) exprs_in (λ t. IsSpanBelow t (length t.exprs))
+
+-- the arguments of a call in their parentheses, whatever stands in front
+abbrev pub FoundCallArgs : State → Span → State → Type 0
+FoundCallArgs =
+    Found (λ source c ts as' d us.
+    (q : Path) (m : Name) → Reads source (form.CallRest q m) c ts (record { target = q; method = m; args = as' }) d us)
+    exprs_in (λ t. IsSpanBelow t (length t.exprs))
+
+-- a right side
+abbrev pub FoundRight : State → row_right.Right → State → Type 0
+FoundRight = Found (λ source. Reads source form.Right) right_of IsRightIn
+
+-- what stands behind new
+abbrev pub FoundNew : State → row_right.Right → State → Type 0
+FoundNew = Found (λ source. Reads source form.New) right_of IsRightIn
+
+-- what a statement says, whose line is that of the token that stands next
+abbrev pub FoundKind : State → row_kind.StmtKind → State → Type 0
+FoundKind = Found (λ source c ts k d us. Reads source form.Stmt c ts (stmt (line_at 0 ts) k) d us)
+    (λ t. kind_over t (stmt_at t)) (λ t. IsKindIn t (length t.stmts))
+
+-- a statement, whose signs are counted anew
+abbrev pub FoundStmt : State → ℕ → State → Type 0
+FoundStmt = Found (λ source c. Reads source form.Stmt (no_signs c)) stmt_at IsStmtNumber
+
+-- a block, and statements to the end of one
+abbrev pub FoundBlock : State → Span → State → Type 0
+FoundBlock = Found (λ source. Reads source form.Block) block_of IsBlockIn
+
+abbrev pub FoundStmts : State → Span → State → Type 0
+FoundStmts = Found (λ source. Reads source form.Stmts) block_of IsBlockIn
+
+-- what stands behind the first block of an if
+abbrev pub FoundElse : State → Option Span → State → Type 0
+FoundElse = Found (λ source. Reads source form.Else) (λ t. else_over t (stmt_at t)) (λ t o. IfSome o (IsBlockIn t))
+
+-- members
+abbrev pub members_in : Tables → Span → List Member
+members_in t s = map (member_at t) (numbers_in t s)
+
+abbrev pub FoundMembers : State → Span → State → Type 0
+FoundMembers = Found (λ source. Reads source form.Members) members_in (λ t. IsSpanBelow t (length t.members))
+
+-- a member, in front of more of them, where a reading that stops in them stops
+pub record ReadsMember (source : List ℕ) (c : Counts) (ts : List Token) (a : Member) (d : Counts) (us : List Token) : Type 0 where
+  pub reads : (more : List Member) (e : Counts) (vs : List Token) → Reads source form.Members d us more e vs
+      → Reads source form.Members c ts (a ∷ more) e vs
+  pub stops : (u v : Tables) (e : Halt) (z : State)
+      → Halts (the p.Members ∷ []) (record { source = source; rest = us; counts = d; tables = v }) e z
+      → Halts (the p.Members ∷ []) (record { source = source; rest = ts; counts = c; tables = u }) e z
+
+abbrev pub FoundMember : State → MemberRow → State → Type 0
+FoundMember = Found ReadsMember member_of IsMemberIn
+
+-- a parameter
+pub data ReadsParam (source : List ℕ) : Counts → List Token → Param → Counts → List Token → Type 0 where
+  param_row : {c d e : Counts} {t u : Token} {ts us : List Token} {y : Ty}
+      → t.kind ≡ k.Name → one_param c ≡ Ok d → u.kind ≡ k.Mark s.Colon → Reads source form.Type' d ts y e us
+      → ReadsParam source c (t ∷ u ∷ ts) (record { name = text source t; ty = y }) e us
+
+-- what a parameter expects
+abbrev pub param_symbols : List Symbol
+param_symbols = param_name ∷ mark s.Colon ∷ the p.Type' ∷ []
+
+abbrev pub FoundParam : State → ℕ → State → Type 0
+FoundParam = Found ReadsParam param_at IsParamNumber
+
+-- a class
+abbrev pub FoundClass : State → ClassRow → State → Type 0
+FoundClass = Found (λ source. Reads source form.Class) class_of IsClassIn
+
+-- expressions, by what they are operands of
+abbrev pub FoundExpr : State → ℕ → State → Type 0
+FoundExpr = Found (λ source. Reads source form.Expr) expr_at IsExprNumber
+
+abbrev pub FoundChain : Level → State → ℕ → State → Type 0
+FoundChain l = Found (ReadsChain l) expr_at IsExprNumber
+
+abbrev pub FoundOperand : Level → State → ℕ → State → Type 0
+FoundOperand l = Found (ReadsOperand l) expr_at IsExprNumber
+
+abbrev pub FoundNot : State → ℕ → State → Type 0
+FoundNot = Found (λ source. Reads source form.Not) expr_at IsExprNumber
+
+abbrev pub FoundCmp : State → ℕ → State → Type 0
+FoundCmp = Found (λ source. Reads source form.Cmp) expr_at IsExprNumber
+
+abbrev pub FoundUnary : State → ℕ → State → Type 0
+FoundUnary = Found (λ source. Reads source form.Unary) expr_at IsExprNumber
+
+abbrev pub FoundPrimary : State → ℕ → State → Type 0
+FoundPrimary = Found (λ source. Reads source form.Primary) expr_at IsExprNumber

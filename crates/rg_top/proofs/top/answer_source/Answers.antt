@@ -1,0 +1,10 @@
+use Rattle.rg_top.proofs.top.answer_source.Goals as goal
+
+pub returns-in-Run-clause-settles : goal.returns-in-Run-clause-settles
+returns-in-Run-clause-settles g c =
+    rw c.in-Run.is (c.run_program.ensures.settles c.in-Run.file.now c.args.source.now (c.requires.fits, c.in-Ok.ensures.ok))
+
+pub returns-clause-settles : goal.returns-clause-settles
+returns-clause-settles g c =
+    rw c.in-Format.is
+    (c.format_program.ensures.settles c.in-Format.file.now c.args.source.now c.args.machine.now (c.requires.fits, c.in-Ok.ensures.ok) c.requires.fresh)
