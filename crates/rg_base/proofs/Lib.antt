@@ -1,3 +1,4 @@
 mod Examples
+mod InputExamples
 pub mod Fronts
 pub mod Cuts

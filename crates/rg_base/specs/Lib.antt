@@ -3,3 +3,4 @@ pub mod Pieces
 pub mod Tokens
 pub mod Text
 pub mod Diagnostics
+pub mod Input

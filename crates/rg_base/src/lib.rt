@@ -5,6 +5,7 @@
 mod byte_list;
 mod fault;
 mod limits;
+mod object;
 mod outcome;
 #[cfg(test)]
 mod tests;
@@ -16,9 +17,11 @@ mod words;
 pub use byte_list::ByteList;
 pub use fault::{Code, Fault, Memory, Stop};
 pub use limits::{
-    BODY_NAMES, BRACKETS, CLASS_FIELDS, CLASS_METHODS, CLASSES, GREATEST_NUMBER, MOST_STEPS,
-    NAME_BYTES, PARAMETERS, SOURCE_BYTES, STATEMENT_SIGNS, USUAL_STEPS,
+    BODY_NAMES, BRACKETS, CLASS_FIELDS, CLASS_METHODS, CLASSES, FRAMES, GREATEST_NUMBER,
+    INPUT_BLANKS, INPUT_TOKEN, MOST_STEPS, NAME_BYTES, PARAMETERS, SOURCE_BYTES, STATEMENT_SIGNS,
+    USUAL_STEPS,
 };
+pub use object::{Label, Place, Seen};
 pub use outcome::{EndNumbers, Ended, Outcome, Trap};
 pub use token::{Kind, Token};
 pub use ty::Ty;

@@ -31,6 +31,15 @@ pub const BODY_NAMES: usize = 256;
 /// The most signs of two operands, `and` and `or` from a statement's first token to the next one's.
 pub const STATEMENT_SIGNS: usize = 512;
 
+/// The most frames, main's included: a call past them traps `depth`.
+pub const FRAMES: usize = 4_096;
+
+/// The most blanks in front of an input number.
+pub const INPUT_BLANKS: usize = 4_096;
+
+/// The most bytes of an input number: the least `i64` has so many.
+pub const INPUT_TOKEN: usize = 20;
+
 /// The most steps that a command can ask for.
 pub const MOST_STEPS: u64 = 1_000_000_000;
 
