@@ -1,9 +1,12 @@
--- The laws of the grammar.
-use Rattle.std.specs.Prelude.{ℕ, ◌≡◌, List}
+-- The laws of the grammar and of canonical text.
+use Rattle.std.specs.Prelude.{ℕ, ◌≡◌, List, Ok}
 use Rattle.rg_base.specs.declared.token.Token.{Token}
 use Rattle.rg_base.specs.declared.fault.Code.{Code}
+use Rattle.rg_base.specs.Tokens.{cut}
 use Rattle.rg_tree.specs.Tree.{Tree}
+use Rattle.rg_tree.specs.Canonical.{canon}
 use Rattle.rg_tree.specs.Grammar.{Spells}
+use Rattle.rg_tree.specs.Lineless.{lineless}
 use Rattle.rg_tree.specs.Stuck.{Stuck}
 
 -- the tokens of a source spell at most one tree
@@ -17,3 +20,16 @@ SpeltIsNotStuck = (source : List ℕ) (a : Tree) (ts at : List Token) (f : Code)
 -- tokens are stuck at one place at most, with one code
 abbrev pub StuckOnce : Type 0
 StuckOnce = (ts a b : List Token) (f e : Code) → Stuck ts f a → Stuck ts e b → (f ≡ e) × (a ≡ b)
+
+-- the canonical text of a tree is cut into tokens that spell it, up to lines, and is its own canonical text
+pub record ParsesBack (r : Tree) : Type 0 where
+  pub tokens : List Token
+  pub tree : Tree
+  pub is_cut : cut (canon r) ≡ Ok tokens
+  pub is_spelt : Spells (canon r) tree tokens
+  pub is_same : lineless tree ≡ lineless r
+  pub is_settled : canon tree ≡ canon r
+
+-- each tree that some source spells parses back from its canonical text
+abbrev pub CanonParsesBack : Type 0
+CanonParsesBack = (source : List ℕ) (r : Tree) (ts : List Token) → cut source ≡ Ok ts → Spells source r ts → ParsesBack r

@@ -1,5 +1,5 @@
-//! The rows of the flat tables that hold a tree (docs/language.md, "The tree"). A name, a statement,
-//! an expression or another row goes by its number in its table.
+//! The rows of the flat tables that hold a tree (docs/language.md, "The tree"). A name, a
+//! statement, an expression or another row goes by its number in its table.
 
 use rg_base::{Cap, Manager};
 
