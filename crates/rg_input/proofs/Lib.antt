@@ -1,0 +1,4 @@
+mod DigitLemmas
+mod HeldLemmas
+mod NextLemmas
+mod ReadLemmas

@@ -1,0 +1,46 @@
+-- The bytes that are held, and what they say.
+use Rattle.std.specs.Prelude.{◌≡◌, ℕ, ◌⊎◌, true, Bool, List, [], ◌++◌, Option, IfSome}
+use Rattle.std.specs.Option.{option_to_list}
+use Rattle.rg_base.specs.Input.{NextNumber, found, malformed, at_end, next_number}
+use Rattle.rg_input.specs.declared.held.Held.{Held}
+use Rattle.rg_input.specs.declared.held.Verdict.{Verdict}
+use Rattle.rg_input.specs.declared.held.Verdict.TheVariants as says
+use Rattle.rg_input.specs.declared.refusal.NumberRefusal.{NumberRefusal}
+use Rattle.rg_input.specs.declared.refusal.NumberRefusal.TheVariants as no
+use Rattle.rg_input.specs.Numbers.{Pending, Refuses}
+use Rattle.rg_input.specs.Read.{read_bytes, is_enough}
+
+-- what callers see of it
+abbrev pub pending : Held → Pending
+pending h = record { held = read_bytes h.blanks.items h.token.items h.behind; ended = h.ended }
+
+-- whether what is held says what the next number is, whatever comes
+abbrev pub has_enough : Held → Bool
+has_enough h = is_enough h.blanks.items h.token.items h.behind
+
+-- a verdict, with what stands behind the token
+abbrev pub with_rest : Verdict → List ℕ → NextNumber
+with_rest (says.Number z) rest = found z rest
+with_rest says.Malformed rest = malformed
+with_rest says.End rest = at_end
+
+-- the verdict holds whatever comes, where there is enough, and else where nothing comes
+abbrev pub Says : Held → Verdict → Type 0
+Says h v = (more : List ℕ) → (has_enough h ≡ true) ⊎ (more ≡ []) →
+    next_number ((pending h).held ++ more) ≡ with_rest v (option_to_list h.behind ++ more)
+
+-- what was said stays: a refusal stays a refusal
+abbrev pub Settled : Verdict → Pending → Type 0
+Settled (says.Number z) n = Unit {0}
+Settled says.Malformed n = Refuses n no.Input
+Settled says.End n = Refuses n no.End
+
+-- the verdict of a refusal
+abbrev pub verdict_of : NumberRefusal → Verdict
+verdict_of no.End = says.End
+verdict_of no.Input = says.Malformed
+verdict_of no.InputFault = says.Malformed
+
+-- a verdict on the bytes that are left, where the source tells them
+abbrev pub Tells : Held → Option (List ℕ) → Verdict → Type 0
+Tells h left v = IfSome left (λ more. next_number ((pending h).held ++ more) ≡ with_rest v (option_to_list h.behind ++ more))

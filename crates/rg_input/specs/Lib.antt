@@ -1,0 +1,4 @@
+pub mod Held
+pub mod Limit
+pub mod Numbers
+pub mod Read

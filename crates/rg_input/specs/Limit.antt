@@ -1,0 +1,6 @@
+-- A number within a limit.
+use Rattle.std.specs.Prelude.{ℕ, nat_lt, if◌then◌else◌, Option, Some, None}
+
+-- a number, where it is at most another
+abbrev pub at_most : ℕ → ℕ → Option ℕ
+at_most most n = if nat_lt most n then None else Some n

@@ -1,0 +1,12 @@
+//! The numbers of an input (docs/language.md, "Input numbers").
+#![tactic(auto)]
+
+mod held;
+mod number;
+mod numbers;
+mod refusal;
+#[cfg(test)]
+mod tests;
+
+pub use numbers::Numbers;
+pub use refusal::{InputFault, NumberRefusal};

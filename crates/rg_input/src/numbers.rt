@@ -1,0 +1,84 @@
+//! The numbers of an input, one after another (docs/language.md, "Input numbers").
+
+ghost use Rattle.std.specs.Prelude.{◌≡◌, ◌≤◌, false, [], IfOk, OnErr, IfErr, IfSome};
+ghost use Rattle.rg_base.specs.Input.{next_number};
+ghost use Rattle.rg_io.specs.Content.{Rose};
+ghost use Rattle.rg_input.specs.Numbers.{bytes_left, Follows, is_more, is_input};
+ghost use Rattle.rg_input.specs.Numbers.{Answers, Refuses, Stays};
+
+use crate::held::{Held, Verdict};
+use crate::refusal::{InputFault, NumberRefusal};
+use rg_io::Source;
+use std::marker::Model;
+
+/// The numbers of an input. It asks its source for one byte at a time, and keeps what it has read
+/// until a number is taken.
+#[derive(Drop)]
+pub struct Numbers {
+    held: Held,
+}
+
+impl Model for Numbers {
+    ghost use Rattle.rg_input.specs.Held.{pending};
+    ghost use Rattle.rg_input.specs.Numbers.{Pending};
+
+    ghost Value = { Pending };
+
+    ghost view = { λ n. pending n.held };
+}
+
+impl Numbers {
+    /// Nothing was read.
+    pub fn new() -> Numbers
+        ensures { result ≡ record { held = []; ended = false } }
+    {
+        Numbers { held: Held::new() }
+    }
+
+    /// Whether a number, or what is none, comes next. It takes nothing.
+    pub fn more<S: Source>(&mut self, source: &mut S) -> Result<bool, InputFault>
+        requires { Follows self.old (S.left source.old) }
+        ensures follows { Follows self.new (S.left source.new) }
+
+        ensures more { IfOk result (λ b. IfSome (bytes_left self.old (S.left source.old))
+            (λ bytes. b ≡ is_more (next_number bytes))) }
+        ensures kept { bytes_left self.new (S.left source.new)
+            ≡ bytes_left self.old (S.left source.old) }
+        ensures refused { (why : NumberRefusal) → Refuses self.old why →
+            (result ≡ Ok (is_input why)) × (self.new ≡ self.old) }
+
+        ensures fault { OnErr result (Rose (S.faults source.old) (S.faults source.new)) }
+        ensures never_falls { S.faults source.old ≤ S.faults source.new }
+    {
+        match self.held.look(source)? {
+            Verdict::Number(_) | Verdict::Malformed => Ok(true),
+            Verdict::End => Ok(false),
+        }
+    }
+
+    /// Takes the next number. A refusal takes nothing.
+    pub fn next<S: Source>(&mut self, source: &mut S) -> Result<i64, NumberRefusal>
+        requires { Follows self.old (S.left source.old) }
+        ensures follows { Follows self.new (S.left source.new) }
+
+        ensures answers { Answers result (bytes_left self.old (S.left source.old))
+            (bytes_left self.new (S.left source.new)) }
+        ensures stays { IfErr result (Stays self.new) }
+        ensures refused { (why : NumberRefusal) → Refuses self.old why →
+            (result ≡ Err why) × (self.new ≡ self.old) }
+
+        ensures fault { result ≡ Err NumberRefusal.InputFault →
+            Rose (S.faults source.old) (S.faults source.new) }
+        ensures never_falls { S.faults source.old ≤ S.faults source.new }
+    {
+        match self.held.look(source) {
+            Ok(Verdict::Number(z)) => {
+                self.held.take_token();
+                Ok(z)
+            }
+            Ok(Verdict::Malformed) => Err(NumberRefusal::Input),
+            Ok(Verdict::End) => Err(NumberRefusal::End),
+            Err(InputFault) => Err(NumberRefusal::InputFault),
+        }
+    }
+}
