@@ -1,0 +1,18 @@
+mod Naming
+mod Outcomes
+mod Rests
+mod HeadSteps
+mod TypeFacts
+mod ParamSteps
+mod TypeSteps
+mod SignatureSteps
+mod MemberSteps
+mod EntrySteps
+mod ClassSteps
+mod Places
+mod FoundIn
+mod MembersFound
+mod ClassFound
+mod NewNames
+pub mod GoodHeaders
+pub mod Callers

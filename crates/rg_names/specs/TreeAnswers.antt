@@ -1,0 +1,73 @@
+-- What the answers of a class table say of the tree of its program. A name's number stands for its bytes.
+use Rattle.std.specs.Prelude.{◌≡◌, ℕ, zero, suc, ◌+◌, ◌<◌, ⊤, Bool as Truth, if◌then◌else◌, bytes_eq, List, [], ◌∷◌, length, map, filter_map, option_map, IfSome, Option, Some, None}
+use Rattle.rg_base.specs.declared.ty.Ty.{Ty}
+use Rattle.rg_base.specs.declared.ty.Ty.TheVariants.{Int, Bool, Ref}
+use Rattle.rg_tree.specs.Tree.{Name, Method, Class}
+use Rattle.rg_tree.specs.Tables.{Tables, name_at, numbers_in}
+use Rattle.rg_tree.specs.RowTrees.{param_at, program_of}
+use Rattle.rg_tree.specs.RowsExist.{IsSpanBelow}
+use Rattle.rg_rules.specs.Types.{class_number, class_named, method_member, fields_of, methods_of, field_place, field_type, method_named, method_result}
+use Rattle.rg_names.specs.declared.entry.FieldAt.{FieldAt}
+use Rattle.rg_names.specs.declared.entry.Sig.{Sig}
+
+-- the number of a class of a name, if there is one
+abbrev pub class_place : List Class → Name → Option ℕ
+class_place classes x = option_map (λ c. class_number classes x) (class_named classes x)
+
+-- the type's class is there
+abbrev pub IsKnown : List Class → Ty → Type 0
+IsKnown classes Int = ⊤
+IsKnown classes Bool = ⊤
+IsKnown classes (Ref cap class) = class < length classes
+
+-- the methods of the classes before the class of a number
+abbrev pub methods_before : List Class → ℕ → ℕ
+methods_before [] c = 0
+methods_before (k ∷ ks) zero = 0
+methods_before (k ∷ ks) (suc c) = length (filter_map method_member k.members) + methods_before ks c
+
+-- the place of the first that passes, from 0
+abbrev pub first_place : {A : Type 0} → (A → Truth) → List A → Option ℕ
+first_place test [] = None
+first_place test (a ∷ rest) = if test a then Some 0 else option_map suc (first_place test rest)
+
+-- the number of the method of a name in a class: methods are counted through the program in source order, from 0
+abbrev pub method_number : List Class → ℕ → Name → Option ℕ
+method_number classes c x = option_map (λ place. methods_before classes c + place) (first_place (λ m. bytes_eq m.name x) (methods_of classes c))
+
+-- the field of a name in a class: its place among the fields, and its type, whose class is there
+pub record FieldIs (program : Tables) (class name : ℕ) (f : FieldAt) : Type 0 where
+  pub place : field_place (fields_of (program_of program).classes class) (name_at program name) ≡ Some f.index
+  pub ty : field_type (program_of program).classes class (name_at program name) ≡ Some f.ty
+  pub known : IsKnown (program_of program).classes f.ty
+
+-- no field has that name
+pub record NoField (program : Tables) (class name : ℕ) : Type 0 where
+  pub place : field_place (fields_of (program_of program).classes class) (name_at program name) ≡ None
+  pub ty : field_type (program_of program).classes class (name_at program name) ≡ None
+
+-- the answer for a field
+abbrev pub FieldAnswer : Tables → (class name : ℕ) → Option FieldAt → Type 0
+FieldAnswer program class name None = NoField program class name
+FieldAnswer program class name (Some f) = FieldIs program class name f
+
+-- the method of a name in a class
+pub record MethodIs (program : Tables) (class name : ℕ) (s : Sig) : Type 0 where
+  pub method : Method
+  pub named : method_named (program_of program).classes class (name_at program name) ≡ Some method
+  pub number : method_number (program_of program).classes class (name_at program name) ≡ Some s.number
+  pub cap : method.receiver ≡ s.cap
+  pub rows : IsSpanBelow program (length program.params) s.params
+  pub params : map (param_at program) (numbers_in program s.params) ≡ method.params
+  pub result : method_result (program_of program).classes method ≡ s.result
+  pub known : IfSome s.result (IsKnown (program_of program).classes)
+
+-- no method has that name
+pub record NoMethod (program : Tables) (class name : ℕ) : Type 0 where
+  pub named : method_named (program_of program).classes class (name_at program name) ≡ None
+  pub number : method_number (program_of program).classes class (name_at program name) ≡ None
+
+-- the answer for a method
+abbrev pub MethodAnswer : Tables → (class name : ℕ) → Option Sig → Type 0
+MethodAnswer program class name None = NoMethod program class name
+MethodAnswer program class name (Some s) = MethodIs program class name s

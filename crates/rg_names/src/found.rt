@@ -1,0 +1,129 @@
+//! The members of one class, in the order in which they were judged.
+
+ghost use Rattle.std.specs.Prelude.{◌≡◌, ◌≤◌, [], ◌∷◌, ◌++◌, length, OnOk, IfOk};
+ghost use Rattle.rg_tree.specs.RowTrees.{member_of, class_of, program_of};
+ghost use Rattle.rg_tree.specs.RowsExist.{IsMemberIn, IsClassIn};
+ghost use Rattle.rg_tree.specs.Tables.{numbers_in};
+ghost use Rattle.rg_rules.specs.Headers.{member_headers};
+ghost use Rattle.rg_names.specs.TableOf.{entry_of, entries_of, fields_with, methods_with, methods_with_all, rows_of};
+ghost use Rattle.rg_names.specs.Judged.{JudgedAs};
+ghost use Rattle.rg_names.specs.Headings.{IsHeadsOf, AreNamed, names_behind};
+
+use crate::by_name::ByName;
+use crate::entry::{Entry, FieldAt, Sig};
+use crate::headers::{MethodRow, field_type, signature};
+use rg_base::Stop;
+use rg_tree::{ClassRow, MemberRow, Program};
+use std::alloc::Global;
+
+/// Members of a class, with the number of fields among them and that of all methods so far.
+#[derive(Drop)]
+pub struct Found {
+    pub entries: ByName<Entry>,
+    pub fields: u32,
+    pub methods: u32,
+}
+
+impl Found {
+    /// No members, behind so many methods.
+    pub fn new(alloc: Global, methods: u32) -> Found
+        ensures entries { result.entries ≡ [] }
+        ensures fields { result.fields ≡ 0 }
+        ensures methods { result.methods ≡ methods }
+    {
+        Found {
+            entries: ByName::new(alloc),
+            fields: 0,
+            methods,
+        }
+    }
+
+    /// Adds a member whose header has no fault.
+    pub fn add(
+        &mut self,
+        alloc: Global,
+        program: &Program,
+        heads: &ByName<bool>,
+        class: ClassRow,
+        row: MemberRow,
+    ) -> Result<(), Stop>
+        requires heads { IsHeadsOf program.now heads.now }
+        requires row { IsMemberIn program.now row }
+        requires named { AreNamed program.now self.old.entries }
+        requires fields { self.old.fields ≤ length self.old.entries }
+
+        ensures judged { JudgedAs (member_headers (program_of program.now).classes
+            (class_of program.now class) (names_behind program.now self.old.entries)
+            (member_of program.now row ∷ [])) result }
+        ensures entries { OnOk result (self.new.entries ≡ self.old.entries
+            ++ entry_of program.now self.old.fields self.old.methods row ∷ []) }
+        ensures fields { OnOk result (self.new.fields ≡ fields_with self.old.fields row) }
+        ensures methods { OnOk result (self.new.methods ≡ methods_with self.old.methods row) }
+    {
+        match row {
+            MemberRow::Field { name, ty, line } => {
+                self.entries.fresh(name, line)?;
+                let ty = field_type(heads, class.is_tmp, ty, line)?;
+                let index = self.fields;
+                self.entries
+                    .push(name, Entry::Field(FieldAt { index, ty }))?;
+                self.fields += 1;
+                Ok(())
+            },
+            MemberRow::Method {
+                cap,
+                name,
+                params,
+                result,
+                line,
+                ..
+            } => {
+                let method = MethodRow {
+                    cap,
+                    params,
+                    result,
+                    line,
+                };
+                self.entries.fresh(name, method.line)?;
+                let result = signature(alloc, program, heads, class.is_tmp, method)?;
+                if self.methods == u32::MAX {
+                    return Err(Stop::Memory);
+                }
+                let number = self.methods;
+                let sig = Sig {
+                    number,
+                    cap,
+                    params,
+                    result,
+                };
+                self.entries.push(name, Entry::Method(sig))?;
+                self.methods += 1;
+                Ok(())
+            },
+        }
+    }
+}
+
+/// The members of a class, behind so many methods.
+pub fn class_entries(
+    alloc: Global,
+    program: &Program,
+    heads: &ByName<bool>,
+    class: ClassRow,
+    methods: u32,
+) -> Result<Found, Stop>
+    requires heads { IsHeadsOf program.now heads.now }
+    requires class { IsClassIn program.now class }
+    ensures judged { JudgedAs (member_headers (program_of program.now).classes
+        (class_of program.now class) [] (class_of program.now class).members) result }
+    ensures entries { IfOk result (λ f. f.entries ≡ entries_of program.now 0 methods
+        (rows_of program.now (numbers_in program.now class.members))) }
+    ensures methods { IfOk result (λ f. f.methods ≡ methods_with_all methods
+        (rows_of program.now (numbers_in program.now class.members))) }
+{
+    let mut found = Found::new(alloc, methods);
+    for k in program.order(class.members) {
+        found.add(alloc, program, heads, class, program.member(*k))?;
+    }
+    Ok(found)
+}
