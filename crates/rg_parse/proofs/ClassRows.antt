@@ -37,7 +37,8 @@ use Rattle.rg_parse.proofs.Loops.{st, Along, along, means-nil, means-push, means
 
 -- classes
 
-pub class-found : {a b c d e f : State} {n : ℕ} {x : Span} (line : ℕ) → line ≡ line_at 0 a.rest → Took (k.Word w.Class) a b → Declared class_name b n c
+pub class-found : {a b c d e f : State} {n : ℕ} {x : Span} (line : ℕ) → line ≡ line_at 0 a.rest → Took (k.Word w.Class) a b
+    → Declared class_name b n c
     → Took (k.Mark s.OpenBrace) c d → FoundMembers d x e → Took (k.Mark s.CloseBrace) e f
     → FoundClass a (record { name = n; is_tmp = false; members = x; line = line }) f
 class-found line z (took i1 h1) (declared h2 l2 n g2) (took i3 h3) q t = absurd i3
@@ -49,11 +50,13 @@ class-found line z (took {t = t} i1 h1) (declared {source = source} {t = v} h2 l
     })
     (extends-trans g2 g)
 
-pub tmp_class-found : {a b c d e f h : State} {n : ℕ} {x : Span} (line : ℕ) → line ≡ line_at 0 a.rest → Took (k.Word w.Tmp) a b → Took (k.Word w.Class) b c
+pub tmp_class-found : {a b c d e f h : State} {n : ℕ} {x : Span} (line : ℕ) → line ≡ line_at 0 a.rest → Took (k.Word w.Tmp) a b
+    → Took (k.Word w.Class) b c
     → Declared class_name c n d → Took (k.Mark s.OpenBrace) d e → FoundMembers e x f → Took (k.Mark s.CloseBrace) f h
     → FoundClass a (record { name = n; is_tmp = true; members = x; line = line }) h
 tmp_class-found line z (took i1 h1) (took i h) (declared h2 l2 n g2) (took i3 h3) q t = absurd i3
-tmp_class-found line z (took {t = t} i1 h1) (took i h) (declared {source = source} {t = v} h2 l2 n g2) (took_brace h3 l3) (found y r m g) (took i5 h5) =
+tmp_class-found line z (took {t = t} i1 h1) (took i h) (declared {source = source} {t = v} h2 l2 n g2) (took_brace h3 l3) (found y r m g)
+    (took i5 h5) =
     found (record { name = text source v; is_tmp = true; members = y; line = t.line }) (tmp_class_row h1 h h2 l2 h3 l3 r h5)
     (record {
       is = λ u o. let e1 = (means-later n g).is u o in let e2 = m.is u o in cc;
@@ -63,7 +66,8 @@ tmp_class-found line z (took {t = t} i1 h1) (took i h) (declared {source = sourc
 
 -- members
 
-pub field-found : {a b c d e : State} {n : ℕ} {y : TypeRow} (line : ℕ) → line ≡ line_at 0 a.rest → Declared field_name a n b → Took (k.Mark s.Colon) b c
+pub field-found : {a b c d e : State} {n : ℕ} {y : TypeRow} (line : ℕ) → line ≡ line_at 0 a.rest → Declared field_name a n b
+    → Took (k.Mark s.Colon) b c
     → FoundType c y d → Took (k.Mark s.Semicolon) d e → FoundMember a (member_row.Field n y line) e
 field-found line z (declared {source = source} {t = t} h1 l1 n g1) (took i2 h2) (found x r m g) (took i4 h4) =
     found (field (record { name = text source t; ty = x; line = t.line }))
@@ -110,7 +114,8 @@ method-found line z (took {t = t} i1 h1) (found c r2 m2 g2) (declared {source = 
     (extends-trans g2 g38)
 
 abbrev pub AlongMembers : State → List ℕ → State → Type 0
-AlongMembers = Along (λ source. Reads source form.Members) (λ source. Reads source form.Members) (◌++◌ {A = Member}) p.Members p.Members member_at IsMemberNumber
+AlongMembers = Along (λ source. Reads source form.Members) (λ source. Reads source form.Members) (◌++◌ {A = Member}) p.Members p.Members member_at
+    IsMemberNumber
 
 pub members-start : (a : State) → AlongMembers a [] a
 members-start a = along [] (means-nil member_at IsMemberNumber a.tables) (extends-same a.tables) (λ r e vs q. q) (λ e b h. h)
@@ -158,7 +163,8 @@ halts-front xs ys halt.Memory h = record { stops = tt }
 halts-front xs ys (halt.At f) h = record { stops = λ ss. rw (append_assoc xs ys ss) (h.stops (ys ++ ss)) }
 
 abbrev pub AlongParams : State → List ℕ → State → Type 0
-AlongParams = Along (λ source. Reads source form.Params) (λ source. Reads source form.MoreParams) (◌++◌ {A = Param}) p.Params p.MoreParams param_at IsParamNumber
+AlongParams = Along (λ source. Reads source form.Params) (λ source. Reads source form.MoreParams) (◌++◌ {A = Param}) p.Params p.MoreParams param_at
+    IsParamNumber
 
 pub params-start : {a b : State} {n : ℕ} → next a.rest ≡ Some k.Name → FoundParam a n b → AlongParams a (n ∷ []) b
 params-start i (found {source = source} {ts = ts} {c = c} {u = u} x (param_row h1 l h2 r) m g) =

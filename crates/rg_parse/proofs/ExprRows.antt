@@ -139,7 +139,8 @@ pub data Goes (l : Level) : State → ℕ → State → Type 0 where
 
 pub chain-start : (l : Level) {a b : State} {n : ℕ} → FoundOperand l a n b → Goes l a n b
 chain-start l (found {source = source} {ts = ts} {us = us} {c = c} {d = d} {u = u} x r m g) =
-    goes x m g (λ y e vs q. chain-reads l source ts us vs c d e x y r q) (λ e b h. halts-chain l (st source ts c u) e (halts-operand l e (found x r m g) h))
+    goes x m g (λ y e vs q. chain-reads l source ts us vs c d e x y r q)
+    (λ e b h. halts-chain l (st source ts c u) e (halts-operand l e (found x r m g) h))
 
 pub chain-step : (l : Level) (x : Kind) (o : BinOp) {a m i j b : State} {n r q : ℕ} → Goes l a n m → IsNext (operator_at l) (next m.rest) x o
     → Signed x m i → FoundOperand l i r j → Kept j b → Means expr_at IsExprNumber b.tables q (expr_of j.tables (expr_row.Binary o n r)) → Goes l a q b
@@ -228,7 +229,8 @@ minus-found (took i h) (found x r m g) (kept l) q = found (neg x) (grammar.minus
 pub no_minus-found : {a b : State} {n : ℕ} → next a.rest ≢ Some (k.Mark s.Minus) → FoundPrimary a n b → FoundUnary a n b
 no_minus-found h (found {ts = ts} x r m g) = found x (grammar.no_minus (no_minus-row (next ts) h) r) m g
 
-pub no_minus-halts : {a b : State} (e : Halt) → next a.rest ≢ Some (k.Mark s.Minus) → Halts (the p.Primary ∷ []) a e b → Halts (the p.Unary ∷ []) a e b
+pub no_minus-halts : {a b : State} (e : Halt) → next a.rest ≢ Some (k.Mark s.Minus) → Halts (the p.Primary ∷ []) a e b
+    → Halts (the p.Unary ∷ []) a e b
 no_minus-halts {a} e h t = halts-row a e (no_minus-row (next a.rest) h) t
 
 pub no-primary : (o : Option Kind) → primary_start o ≡ start.Nothing → row p.Primary o ≡ None

@@ -125,7 +125,8 @@ pub data AlongCall (b : Variable) (m : Name) : State → List ℕ → ℕ → St
 
 pub call-start : (b : Variable) (a : State) (n : ℕ) → IsNameIn a.tables n → AlongCall b (name_at a.tables n) a [] n a
 call-start b a n l =
-    along_call [] (name_at a.tables n) (means-nil name_at IsNameIn a.tables) (name-means n _ refl l) (extends-same a.tables) (λ x e vs q. q) (λ e z h. h)
+    along_call [] (name_at a.tables n) (means-nil name_at IsNameIn a.tables) (name-means n _ refl l) (extends-same a.tables) (λ x e vs q. q)
+    (λ e z h. h)
 
 pub call-step : {b : Variable} {x : Name} {a m i o : State} {ks : List ℕ} {n v : ℕ} → AlongCall b x a ks n m → Took (k.Mark s.Dot) m i → Used i v o
     → AlongCall b x a (ks ++ n ∷ []) v o
@@ -200,7 +201,8 @@ args-row : (o : Option Kind) → o ≢ Some (k.Mark s.CloseParen) → row p.Args
 args-row (Some (k.Mark s.CloseParen)) h = absurd (h refl)
 args-row _ h = refl
 
-pub args-first_halts : {a b : State} (e : Halt) → next a.rest ≢ Some (k.Mark s.CloseParen) → Halts (the p.Expr ∷ []) a e b → Halts (the p.Args ∷ []) a e b
+pub args-first_halts : {a b : State} (e : Halt) → next a.rest ≢ Some (k.Mark s.CloseParen) → Halts (the p.Expr ∷ []) a e b
+    → Halts (the p.Args ∷ []) a e b
 args-first_halts {a} e h i = halts-row a e (args-row (next a.rest) h) (halts-here e i)
 
 pub args-start : {a b : State} {n : ℕ} → next a.rest ≢ Some (k.Mark s.CloseParen) → FoundExpr a n b → AlongArgs a (n ∷ []) b
@@ -214,7 +216,8 @@ pub args-step : {a m i n : State} {ks : List ℕ} {v : ℕ} → AlongArgs a ks m
 args-step (along done m g reads halts) (took i h) (found x r n l) =
     along (done ++ x ∷ []) (means-push (means-later m l) n) (extends-trans g l)
     (λ y e vs q. rw (append_assoc done (x ∷ []) y) (reads (x ∷ y) e vs (next_arg h r q)))
-    (λ e b w. halts e b (halts-row _ e (ap (λ z. row p.MoreArgs (Some z)) h) (halts-took e (took i h) (halts-found form.Expr e tt (found x r n l) w))))
+    (λ e b w. halts e b (halts-row _ e (ap (λ z. row p.MoreArgs (Some z)) h)
+    (halts-took e (took i h) (halts-found form.Expr e tt (found x r n l) w))))
 
 pub args-stop : {a m b : State} {ks : List ℕ} (e : Halt) → AlongArgs a ks m → next m.rest ≡ Some (k.Mark s.Comma)
     → Halts (mark s.Comma ∷ the p.Expr ∷ the p.MoreArgs ∷ []) m e b → Halts (the p.Args ∷ []) a e b

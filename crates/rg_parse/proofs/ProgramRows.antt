@@ -37,7 +37,8 @@ classes-stay {t} {u} g = Begins-whole g.keeps.classes (length-classes_of t ∙ a
 -- The classes so far are those of the tables, and a reading of the rest gives one of the program.
 pub data AlongProgram : State → State → Type 0 where
   along_program : {source : List ℕ} {ts us : List Token} {c d : Counts} {u v : Tables} (done : List Class) → classes_of v ≡ done
-      → ((r : Tree) (e : Counts) → Reads source form.Program d us r e [] → Reads source form.Program c ts (record r { classes = done ++ r.classes }) e [])
+      → ((r : Tree) (e : Counts) → Reads source form.Program d us r e []
+      → Reads source form.Program c ts (record r { classes = done ++ r.classes }) e [])
       → ((e : Halt) (b : State) → Halts (the p.Program ∷ []) (st source us d v) e b → Halts (the p.Program ∷ []) (st source ts c u) e b)
       → AlongProgram (st source ts c u) (st source us d v)
 
@@ -76,9 +77,11 @@ program-stop {b = b} e (along_program done f reads halts) h = halts e b h
 -- main
 
 pub main-found : {a b c d : State} {x : Manager} {y : Span} (line : ℕ) (t : Tables) → line ≡ line_at 0 a.rest → Took (k.Word w.Main) a b
-    → FoundManager b x c → FoundBlock c y d → d.rest ≡ [] → program_of t ≡ record (program_of d.tables) { manager = x; body = block_of d.tables y; line = line }
+    → FoundManager b x c → FoundBlock c y d → d.rest ≡ []
+    → program_of t ≡ record (program_of d.tables) { manager = x; body = block_of d.tables y; line = line }
     → FoundMain a t
-main-found {a} line t e (took {source = source} {t = z} {ts = ts} {c = c} i h) (found {us = ms} {d = mc} m r2 m2 g2) (found {us = us} {d = f} {v = v} b r3 m3 g3) n q =
+main-found {a} line t e (took {source = source} {t = z} {ts = ts} {c = c} i h) (found {us = ms} {d = mc} m r2 m2 g2)
+    (found {us = us} {d = f} {v = v} b r3 m3 g3) n q =
     let here = m3.is v (extends-same v).keeps in
     let there = m2.is v g3.keeps in
     let stays = classes-stay g2 in
@@ -91,7 +94,8 @@ main-found {a} line t e (took {source = source} {t = z} {ts = ts} {c = c} i h) (
       is = q ∙ cc;
     }
 
-pub program-end : {a m : State} (t : Tables) → AlongProgram a m → FoundMain m t → (c : Counts) × Reads a.source form.Program a.counts a.rest (program_of t) c []
+pub program-end : {a m : State} (t : Tables) → AlongProgram a m → FoundMain m t
+    → (c : Counts) × Reads a.source form.Program a.counts a.rest (program_of t) c []
 program-end t (along_program {source = source} {ts = ts} {c = c} done e reads halts) f =
     let all : program_of t ≡ record (f.tree) { classes = done ++ f.tree.classes } =
     f.is ∙ ap (λ xs. record (f.tree) { classes = xs }) (e ∙ sym (ap (λ ys. done ++ ys) f.none ∙ append-nil done)) in

@@ -41,11 +41,13 @@ use Rattle.rg_parse.proofs.Loops.{st, MeansAll, Along, along, means-nil, means-p
 
 -- the row of each start
 
-pub let-row : (o : Option Kind) → stmt_start o ≡ start.Let → row p.Stmt o ≡ Some (word w.Let ∷ local_name ∷ mark s.Colon ∷ the p.Type' ∷ mark s.Assign ∷ the p.Right ∷ mark s.Semicolon ∷ [])
+pub let-row : (o : Option Kind) → stmt_start o ≡ start.Let
+    → row p.Stmt o ≡ Some (word w.Let ∷ local_name ∷ mark s.Colon ∷ the p.Type' ∷ mark s.Assign ∷ the p.Right ∷ mark s.Semicolon ∷ [])
 let-row (Some (k.Word w.Let)) e = refl
 let-row _ e = cc
 
-pub assign-row : (o : Option Kind) → stmt_start o ≡ start.Assign → row p.Stmt o ≡ Some (the p.Path ∷ mark s.Assign ∷ the p.Right ∷ mark s.Semicolon ∷ [])
+pub assign-row : (o : Option Kind) → stmt_start o ≡ start.Assign
+    → row p.Stmt o ≡ Some (the p.Path ∷ mark s.Assign ∷ the p.Right ∷ mark s.Semicolon ∷ [])
 assign-row (Some k.Name) e = refl
 assign-row (Some (k.Word w.SelfWord)) e = refl
 assign-row _ e = cc
@@ -54,7 +56,8 @@ pub call-row : (o : Option Kind) → stmt_start o ≡ start.Call → row p.Stmt 
 call-row (Some (k.Word w.Call)) e = refl
 call-row _ e = cc
 
-pub swap-row : (o : Option Kind) → stmt_start o ≡ start.Swap → row p.Stmt o ≡ Some (word w.Swap ∷ name ∷ mark s.Comma ∷ the p.Path ∷ mark s.Semicolon ∷ [])
+pub swap-row : (o : Option Kind) → stmt_start o ≡ start.Swap
+    → row p.Stmt o ≡ Some (word w.Swap ∷ name ∷ mark s.Comma ∷ the p.Path ∷ mark s.Semicolon ∷ [])
 swap-row (Some (k.Word w.Swap)) e = refl
 swap-row _ e = cc
 
@@ -66,7 +69,8 @@ pub while-row : (o : Option Kind) → stmt_start o ≡ start.While → row p.Stm
 while-row (Some (k.Word w.While)) e = refl
 while-row _ e = cc
 
-pub enter-row : (o : Option Kind) → stmt_start o ≡ start.Enter → row p.Stmt o ≡ Some (word w.Enter ∷ the p.Path ∷ word w.As ∷ local_name ∷ the p.Block ∷ [])
+pub enter-row : (o : Option Kind) → stmt_start o ≡ start.Enter
+    → row p.Stmt o ≡ Some (word w.Enter ∷ the p.Path ∷ word w.As ∷ local_name ∷ the p.Block ∷ [])
 enter-row (Some (k.Word w.Enter)) e = refl
 enter-row _ e = cc
 
@@ -126,7 +130,8 @@ let-found (took i1 h1) (declared {source = source} {t = t} h2 l2 n g2) (took i3 
     })
     (extends-trans g2 g46)
 
-pub assign-found : {a b c d e : State} {q : row_path.Path} {r : row_right.Right} → 0 < length a.rest → FoundPath a q b → Took (k.Mark s.Assign) b c → FoundRight c r d
+pub assign-found : {a b c d e : State} {q : row_path.Path} {r : row_right.Right} → 0 < length a.rest → FoundPath a q b → Took (k.Mark s.Assign) b c
+    → FoundRight c r d
     → Took (k.Mark s.Semicolon) d e → FoundKind a (kind_row.Set q r) e
 assign-found l (found {ts = []} x r1 m1 g1) (took i2 h2) (found y r3 m3 g3) (took i4 h4) = absurd (omega arith)
 assign-found l (found {ts = t ∷ ts} x r1 m1 g1) (took i2 h2) (found y r3 m3 g3) (took i4 h4) =

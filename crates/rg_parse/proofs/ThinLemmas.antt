@@ -39,7 +39,8 @@ list-stuck names s ss t e n = rw e (go (thin_list ss))
 
 -- one more statement got its number
 list-more : (old new : List Name) (s : TreeStmt) (ss : List TreeStmt) (t : Stmt) (k : ThinStmt) → thin_stmt s ≡ Some t
-    → ((more : List Stmt) → numbered old (t ∷ more) ≡ with_stmt k (numbered new more)) → numbered_list old (s ∷ ss) ≡ with_stmt k (numbered_list new ss)
+    → ((more : List Stmt) → numbered old (t ∷ more) ≡ with_stmt k (numbered new more))
+    → numbered_list old (s ∷ ss) ≡ with_stmt k (numbered_list new ss)
 list-more old new s ss t k e n = rw e (go (thin_list ss))
   where
     go : (o : Option (List Stmt)) → option_and_then (numbered old) (in_front (Some t) o) ≡ with_stmt k (option_and_then (numbered new) o)
@@ -49,18 +50,23 @@ list-more old new s ss t k e n = rw e (go (thin_list ss))
 -- in a body, at a place
 pub body-other : (at : ℕ → TreeStmt) (body : List ℕ) (i : ℕ) (names : List Name) (ts : List ThinStmt) (all : Option (List ThinStmt)) → i < length body
     → all ≡ before ts (numbered_list names (map at (drop i body))) → thin_stmt (at (get_or body i 0)) ≡ None → None ≡ all
-body-other at body i names ts all h g e = sym (g ∙ rw (drop_more body i 0 h) (ap (before ts) (list-other names (at (get_or body i 0)) (map at (drop (i + 1) body)) e)))
+body-other at body i names ts all h g e =
+    sym (g ∙ rw (drop_more body i 0 h) (ap (before ts) (list-other names (at (get_or body i 0)) (map at (drop (i + 1) body)) e)))
 
-pub body-stuck : (at : ℕ → TreeStmt) (body : List ℕ) (i : ℕ) (names : List Name) (ts : List ThinStmt) (all : Option (List ThinStmt)) (t : Stmt) → i < length body
+pub body-stuck : (at : ℕ → TreeStmt) (body : List ℕ) (i : ℕ) (names : List Name) (ts : List ThinStmt) (all : Option (List ThinStmt)) (t : Stmt)
+    → i < length body
     → all ≡ before ts (numbered_list names (map at (drop i body))) → thin_stmt (at (get_or body i 0)) ≡ Some t
     → ((more : List Stmt) → numbered names (t ∷ more) ≡ None) → None ≡ all
-body-stuck at body i names ts all t h g e n = sym (g ∙ rw (drop_more body i 0 h) (ap (before ts) (list-stuck names (at (get_or body i 0)) (map at (drop (i + 1) body)) t e n)))
+body-stuck at body i names ts all t h g e n =
+    sym (g ∙ rw (drop_more body i 0 h) (ap (before ts) (list-stuck names (at (get_or body i 0)) (map at (drop (i + 1) body)) t e n)))
 
-pub body-more : (at : ℕ → TreeStmt) (body : List ℕ) (i : ℕ) (old new : List Name) (ts : List ThinStmt) (all : Option (List ThinStmt)) (t : Stmt) (k : ThinStmt)
-    → i < length body → all ≡ before ts (numbered_list old (map at (drop i body))) → thin_stmt (at (get_or body i 0)) ≡ Some t
-    → ((more : List Stmt) → numbered old (t ∷ more) ≡ with_stmt k (numbered new more)) → all ≡ before (ts ++ k ∷ []) (numbered_list new (map at (drop (i + 1) body)))
+pub body-more : (at : ℕ → TreeStmt) (body : List ℕ) (i : ℕ) (old new : List Name) (ts : List ThinStmt) (all : Option (List ThinStmt)) (t : Stmt)
+    (k : ThinStmt) → i < length body → all ≡ before ts (numbered_list old (map at (drop i body))) → thin_stmt (at (get_or body i 0)) ≡ Some t
+    → ((more : List Stmt) → numbered old (t ∷ more) ≡ with_stmt k (numbered new more))
+    → all ≡ before (ts ++ k ∷ []) (numbered_list new (map at (drop (i + 1) body)))
 body-more at body i old new ts all t k h g e n =
-    g ∙ rw (drop_more body i 0 h) (ap (before ts) (list-more old new (at (get_or body i 0)) (map at (drop (i + 1) body)) t k e n)) ∙ before-more ts k (numbered_list new (map at (drop (i + 1) body)))
+    g ∙ rw (drop_more body i 0 h) (ap (before ts) (list-more old new (at (get_or body i 0)) (map at (drop (i + 1) body)) t k e n))
+    ∙ before-more ts k (numbered_list new (map at (drop (i + 1) body)))
 
 -- no elements
 no-classes : (cs : List Class) → length cs ≡ 0 → cs ≡ []

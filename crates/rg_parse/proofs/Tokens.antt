@@ -67,7 +67,8 @@ took-behind x c d e l = took-free x c d tt e cc
 
 pub took-first : {x : Kind} {a : State} {t : Token} {ts : List Token} {d : Counts} → IsFirst x a t ts → behind x a.counts ≡ Ok d
     → Took x a (at a ts d a.tables)
-took-first {x} {a} {t} {ts} {d} i l = subst (λ us. Took x (at a us a.counts a.tables) (at a ts d a.tables)) (sym i.is) (took-behind x a.counts d i.kind l)
+took-first {x} {a} {t} {ts} {d} i l = subst (λ us. Took x (at a us a.counts a.tables) (at a ts d a.tables)) (sym i.is)
+    (took-behind x a.counts d i.kind l)
 
 pub signed-first : {x : Kind} {a : State} {t : Token} {ts : List Token} {d : Counts} → IsFirst x a t ts → one_sign a.counts ≡ Ok d
     → Signed x a (at a ts d a.tables)

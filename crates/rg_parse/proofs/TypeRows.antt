@@ -50,7 +50,8 @@ cap-found _ v e (took_paren h l) = cc
 pub manager-found : {a b : State} (x : Kind) (v : Manager) → manager_of x ≡ Some v → Took x a b → FoundManager a v b
 manager-found x v e (took {source = source} {t = t} {ts = ts} {c = c} {u = u} i h) =
     let r : Reads source form.Manager c (t ∷ ts) v c ts = manager_row (ap manager_of h ∙ e) in
-    found v (subst (λ d. Reads source form.Manager c (t ∷ ts) v d ts) (sym (stays x c i (manager_of-behind x v c e))) r) (means-itself u v) (extends-same u)
+    found v (subst (λ d. Reads source form.Manager c (t ∷ ts) v d ts) (sym (stays x c i (manager_of-behind x v c e))) r) (means-itself u v)
+    (extends-same u)
 manager-found _ v e (took_brace h l) = cc
 manager-found _ v e (took_paren h l) = cc
 

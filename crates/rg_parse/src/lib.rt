@@ -19,6 +19,8 @@ mod source;
 mod starts;
 mod statement;
 mod stmts;
+#[cfg(test)]
+mod tests;
 mod types;
 mod whole;
 

@@ -8,7 +8,8 @@ new-reader-requires c = rw c.as_slice.ensures (AreWithin-spans 0 _ _ (cut-spans 
 
 pub returns-clause-fault : goal.returns-clause-fault
 returns-clause-fault c =
-    λ f e. stuck-with c.args.bytes.now c.args.tokens.now c.in-Err-At.code c.line-line.result f (rw c.in-Err-At.field-0-is at c.in-Err-At.ensures.fault)
+    λ f e. stuck-with c.args.bytes.now c.args.tokens.now c.in-Err-At.code c.line-line.result f
+    (rw c.in-Err-At.field-0-is at c.in-Err-At.ensures.fault)
     (rw c.as_slice.ensures at c.new-reader.ensures.start) (rw c.end_line.ensures at c.line-line.ensures) (cc)
 
 pub returns-clause-none : goal.returns-clause-none

@@ -31,7 +31,8 @@ chain-add_expr-requires t c = chain-there c.args.level _ c.loop-kind.invariant.r
 pub chain-loop-kind-preserved : goal.chain-loop-kind-preserved
 chain-loop-kind-preserved t c = record {
   read = chain-step c.args.level _ _ c.loop-kind.invariant.read
-      (rw c.next.ensures at c.in-Some.ensures) c.in_ok-sign.ensures.ok c.in_ok-right.ensures.ok c.in_ok-left-2.ensures.kept c.in_ok-left-2.ensures.means;
+      (rw c.next.ensures at c.in-Some.ensures) c.in_ok-sign.ensures.ok c.in_ok-right.ensures.ok c.in_ok-left-2.ensures.kept
+      c.in_ok-left-2.ensures.means;
   shorter = omega (arith, c.in_ok-sign.ensures.shorter, c.in_ok-right.ensures.shorter, c.in_ok-left-2.ensures.shorter);
 }
 
@@ -116,7 +117,8 @@ minus_row-returns-in_err-inner-clause-fault t c = exit _ c.from_residual-in_err-
     (halts-took _ c.in_ok-take.ensures.ok (halts-here _ c.in_err-inner.ensures.fault)))
 
 pub minus_row-returns-clause-ok : goal.minus_row-returns-clause-ok
-minus_row-returns-clause-ok t c = minus-found c.in_ok-take.ensures.ok c.in_ok-inner.ensures.ok c.in_ok-number.ensures.kept c.in_ok-number.ensures.means
+minus_row-returns-clause-ok t c = minus-found c.in_ok-take.ensures.ok c.in_ok-inner.ensures.ok c.in_ok-number.ensures.kept
+    c.in_ok-number.ensures.means
 
 pub parens-returns-in_err-take-clause-fault : goal.parens-returns-in_err-take-clause-fault
 parens-returns-in_err-take-clause-fault t c = exit _ c.from_residual.ensures.1 (halts-row _ _ (paren-row _ c.requires)

@@ -21,7 +21,8 @@ pub stmt-add_stmt-requires : goal.stmt-add_stmt-requires
 stmt-add_stmt-requires t c = found-there c.in_ok-kind.ensures.ok
 
 pub stmt-returns-clause-ok : goal.stmt-returns-clause-ok
-stmt-returns-clause-ok t c = stmt-found _ c.no_signs.ensures.reset c.line-line.ensures c.in_ok-kind.ensures.ok c.in_ok-number.ensures.kept c.in_ok-number.ensures.means
+stmt-returns-clause-ok t c = stmt-found _ c.no_signs.ensures.reset c.line-line.ensures c.in_ok-kind.ensures.ok c.in_ok-number.ensures.kept
+    c.in_ok-number.ensures.means
 
 pub stmts-loop-self-init : goal.stmts-loop-self-init
 stmts-loop-self-init t c = record { read = rw c.new-numbers.ensures.items (stmts-start _); shorter = omega arith }
@@ -126,4 +127,5 @@ enter_row-returns-in_err-body-clause-fault t c = exit _ c.from_residual-in_err-b
     (halts-declared role.Local _ c.in_ok-name.ensures.ok (halts-here _ c.in_err-body.ensures.fault))))))
 
 pub enter_row-returns-clause-ok : goal.enter_row-returns-clause-ok
-enter_row-returns-clause-ok t c = enter-found c.in_ok-take.ensures.ok c.in_ok-path.ensures.ok c.in_ok-take-2.ensures.ok c.in_ok-name.ensures.ok c.in_ok-body.ensures.ok
+enter_row-returns-clause-ok t c = enter-found c.in_ok-take.ensures.ok c.in_ok-path.ensures.ok c.in_ok-take-2.ensures.ok c.in_ok-name.ensures.ok
+    c.in_ok-body.ensures.ok

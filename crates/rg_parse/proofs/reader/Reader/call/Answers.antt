@@ -30,7 +30,8 @@ returns-in_err-call-clause-fault c = exit _ c.from_residual-in_err-call.ensures.
     (halts-used _ c.in_ok-name.ensures.ok (halts-here _ c.in_err-call.ensures.fault))))))
 
 pub returns-clause-ok : goal.returns-clause-ok
-returns-clause-ok c = call-found c.in_ok-take.ensures.ok c.in_ok-base.ensures.ok c.in_ok-take-2.ensures.ok c.in_ok-name.ensures.ok c.in_ok-call.ensures.ok
+returns-clause-ok c = call-found c.in_ok-take.ensures.ok c.in_ok-base.ensures.ok c.in_ok-take-2.ensures.ok c.in_ok-name.ensures.ok
+    c.in_ok-call.ensures.ok
 
 pub call_rest-requires-clause-base : goal.call_rest-requires-clause-base
 call_rest-requires-clause-base c = base-there c.in_ok-base.ensures.ok c.in_ok-take-2.ensures.ok c.in_ok-name.ensures.ok

@@ -31,4 +31,5 @@ returns-in_err-take-3-clause-fault c = exit _ c.from_residual-in_err-take-3.ensu
     (halts-found form.Members _ tt c.in_ok-members.ensures.ok (halts-here _ c.in_err-take-3.ensures.fault))))))
 
 pub returns-clause-ok : goal.returns-clause-ok
-returns-clause-ok c = class-found _ c.line-line.ensures c.in_ok-take.ensures.ok c.in_ok-name.ensures.ok c.in_ok-take-2.ensures.ok c.in_ok-members.ensures.ok c.in_ok-take-3.ensures.ok
+returns-clause-ok c = class-found _ c.line-line.ensures c.in_ok-take.ensures.ok c.in_ok-name.ensures.ok c.in_ok-take-2.ensures.ok
+    c.in_ok-members.ensures.ok c.in_ok-take-3.ensures.ok

@@ -26,4 +26,5 @@ returns-in_err-take-2-clause-fault c = exit _ c.from_residual-in_err-take-2.ensu
     (halts-here _ c.in_err-take-2.ensures.fault)))))
 
 pub returns-clause-ok : goal.returns-clause-ok
-returns-clause-ok c = field-found _ c.line-line.ensures c.in_ok-name.ensures.ok c.in_ok-take.ensures.ok c.in_ok-ty.ensures.ok c.in_ok-take-2.ensures.ok
+returns-clause-ok c = field-found _ c.line-line.ensures c.in_ok-name.ensures.ok c.in_ok-take.ensures.ok c.in_ok-ty.ensures.ok
+    c.in_ok-take-2.ensures.ok

@@ -21,10 +21,12 @@ returns-in_err-body-clause-fault c = exit _ c.from_residual-in_err-body.ensures.
     (halts-took _ c.in_ok-take.ensures.ok (halts-found form.Manager _ tt c.in_ok-manager.ensures.ok (halts-here _ c.in_err-body.ensures.fault))))
 
 pub returns-clause-ok : goal.returns-clause-ok
-returns-clause-ok c = main-found _ _ c.line-line.ensures c.in_ok-take.ensures.ok c.in_ok-manager.ensures.ok c.in_ok-body.ensures.ok c.in_ok-finish.ensures.ok c.set_main.ensures
+returns-clause-ok c = main-found _ _ c.line-line.ensures c.in_ok-take.ensures.ok c.in_ok-manager.ensures.ok c.in_ok-body.ensures.ok
+    c.in_ok-finish.ensures.ok c.set_main.ensures
 
 pub returns-in_err-finish-clause-fault : goal.returns-in_err-finish-clause-fault
-returns-in_err-finish-clause-fault c = exit _ c.from_residual-in_err-finish.ensures.1 (halts-row _ _ (ap (row p.Program) c.requires) (halts-took _ c.in_ok-take.ensures.ok
+returns-in_err-finish-clause-fault c =
+    exit _ c.from_residual-in_err-finish.ensures.1 (halts-row _ _ (ap (row p.Program) c.requires) (halts-took _ c.in_ok-take.ensures.ok
     (halts-found form.Manager _ tt c.in_ok-manager.ensures.ok (halts-found form.Block _ tt c.in_ok-body.ensures.ok c.in_err-finish.ensures.fault))))
 
 pub set_main-requires : goal.set_main-requires

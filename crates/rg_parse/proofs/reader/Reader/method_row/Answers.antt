@@ -49,4 +49,5 @@ returns-in_err-body-clause-fault c = exit _ c.from_residual-in_err-body.ensures.
     (halts-found form.Result _ tt c.in_ok-result.ensures.ok (halts-here _ c.in_err-body.ensures.fault)))))))))
 
 pub returns-clause-ok : goal.returns-clause-ok
-returns-clause-ok c = method-found _ c.line-line.ensures c.in_ok-take.ensures.ok c.in_ok-cap.ensures.ok c.in_ok-name.ensures.ok c.in_ok-take-2.ensures.ok c.in_ok-params.ensures.ok c.in_ok-take-3.ensures.ok c.in_ok-result.ensures.ok c.in_ok-body.ensures.ok
+returns-clause-ok c = method-found _ c.line-line.ensures c.in_ok-take.ensures.ok c.in_ok-cap.ensures.ok c.in_ok-name.ensures.ok
+    c.in_ok-take-2.ensures.ok c.in_ok-params.ensures.ok c.in_ok-take-3.ensures.ok c.in_ok-result.ensures.ok c.in_ok-body.ensures.ok

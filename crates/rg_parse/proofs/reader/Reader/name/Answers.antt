@@ -10,4 +10,5 @@ pub returns-clause-ok : goal.returns-clause-ok
 returns-clause-ok c =
     let named = c.in_ok-number.ensures in
     rw (← c.self.view_is)
-    (used-first (rw (← c.self.view_is) at c.in-Some.ensures) (name-means c.in_ok-number.number _ named.name named.there) (record { keeps = named.keeps; classes = ap (λ t. t.classes) named.names }))
+    (used-first (rw (← c.self.view_is) at c.in-Some.ensures) (name-means c.in_ok-number.number _ named.name named.there)
+    (record { keeps = named.keeps; classes = ap (λ t. t.classes) named.names }))

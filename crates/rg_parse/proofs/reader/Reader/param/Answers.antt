@@ -17,4 +17,5 @@ pub add_param-requires : goal.add_param-requires
 add_param-requires c = param-there c.in_ok-name.ensures.ok c.in_ok-take.ensures.ok c.in_ok-ty.ensures.ok
 
 pub returns-clause-ok : goal.returns-clause-ok
-returns-clause-ok c = param-found c.in_ok-name.ensures.ok c.in_ok-take.ensures.ok c.in_ok-ty.ensures.ok c.in_ok-number.ensures.kept c.in_ok-number.ensures.means
+returns-clause-ok c = param-found c.in_ok-name.ensures.ok c.in_ok-take.ensures.ok c.in_ok-ty.ensures.ok c.in_ok-number.ensures.kept
+    c.in_ok-number.ensures.means

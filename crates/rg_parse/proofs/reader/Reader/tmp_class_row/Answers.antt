@@ -37,4 +37,5 @@ returns-in_err-take-4-clause-fault c = exit _ c.from_residual-in_err-take-4.ensu
     (halts-here _ c.in_err-take-4.ensures.fault)))))))
 
 pub returns-clause-ok : goal.returns-clause-ok
-returns-clause-ok c = tmp_class-found _ c.line-line.ensures c.in_ok-take.ensures.ok c.in_ok-take-2.ensures.ok c.in_ok-name.ensures.ok c.in_ok-take-3.ensures.ok c.in_ok-members.ensures.ok c.in_ok-take-4.ensures.ok
+returns-clause-ok c = tmp_class-found _ c.line-line.ensures c.in_ok-take.ensures.ok c.in_ok-take-2.ensures.ok c.in_ok-name.ensures.ok
+    c.in_ok-take-3.ensures.ok c.in_ok-members.ensures.ok c.in_ok-take-4.ensures.ok
