@@ -1,0 +1,171 @@
+-- Right sides and calls, step by step.
+use Rattle.std.proofs.Common.{◌≡◌, ◌≢◌, refl, sym, ap, ap₂, subst, ◌∙◌, ℕ, suc, ◌<◌, ◌==◌, Bool as Truth, true, false, List, [], ◌∷◌, map, length, drop, slice_get, All, Option, Some, ok_or, Result, Ok, Err, arith}
+use Rattle.std.proofs.lemmas.Bool.{eq-eqb}
+use Rattle.std.proofs.lemmas.List.{length-map}
+use Rattle.std.proofs.lemmas.List.Elements.{All-nil, All-cons, All-head, All-tail}
+use Rattle.rg_base.specs.declared.words.Cap.{Cap}
+use Rattle.rg_base.specs.declared.words.Cap.TheVariants.{Mut, Tmp, Paused, Imm, Iso}
+use Rattle.rg_base.specs.declared.ty.Ty.{Ty}
+use Rattle.rg_base.specs.declared.ty.Ty.TheVariants.{Int, Bool, Ref}
+use Rattle.rg_base.specs.declared.fault.Code.{Code}
+use Rattle.rg_base.specs.declared.fault.Code.TheVariants.{Unknown, Mismatch, Capability, Arity}
+use Rattle.rg_tree.specs.Tree.{Name, ref, Call, Method, Param, Class}
+use Rattle.rg_tree.specs.Tables.{Tables, name_at, numbers_in}
+use Rattle.rg_tree.specs.RowTrees.{call_of, classes_of, param_at, expr_at}
+use Rattle.rg_tree.specs.declared.rows.CallRow.{CallRow}
+use Rattle.rg_rules.specs.Answers.{◌>>=◌, ◌>>◌, test, Answer}
+use Rattle.rg_rules.specs.Capabilities.{below, iso_class}
+use Rattle.rg_rules.specs.Types.{type_of, good_type, method_named, method_result, param_types}
+use Rattle.rg_rules.specs.Environment.{Entry, Env, entry_of, is_ready, marked, gone}
+use Rattle.rg_rules.specs.Paths.{Followed, follow, walk}
+use Rattle.rg_rules.specs.Expressions.{against}
+use Rattle.rg_rules.specs.Rights.{Called, judge_args, judge_call, judge_new, judge_consumed}
+use Rattle.rg_names.specs.declared.entry.Sig.{Sig}
+use Rattle.rg_names.specs.Table.{Table, IsClass}
+use Rattle.rg_names.specs.TableOf.{IsTableOf}
+use Rattle.rg_names.specs.TreeAnswers.{IsKnown, MethodIs}
+use Rattle.rg_names.proofs.Callers.{IsClass-tree, MethodIs-param}
+use Rattle.rg_type.specs.Scope.{Scope, env_of, IsScopeIn}
+use Rattle.rg_type.specs.Changing.{TypedAs}
+use Rattle.rg_type.specs.Calls.{LeadsAs, method_behind, IsParamNumber, IsSigOf, SigAs}
+
+-- `new C` and the like: the class is good
+pub TypedAs-new : (classes : List Class) (wanted ty : Ty) (cap : Cap) (x : Name) (r : Result Ty Code) → Ok ty ≡ good_type classes (ref cap x) →
+    ((env : Env) → TypedAs (against (Some wanted) ty env) env r) → (env : Env) → TypedAs (judge_new classes env wanted cap x) env r
+TypedAs-new classes wanted ty cap x r e h env =
+    subst (λ (g : Answer Ty). TypedAs (◌>>=◌ g (λ t. against (Some wanted) t env)) env r) e (h env)
+
+-- `freeze y`, `merge y`: the variable is there, `iso` and ready
+pub TypedAs-consumed : (env new : Env) (wanted : Ty) (cap : Cap) (y : Name) (e : Entry) (c : ℕ) (r : Result Ty Code) →
+    ok_or (entry_of env (Some y)) Unknown ≡ Ok e → Some c ≡ iso_class e.ty → is_ready e.readiness ≡ true → new ≡ marked (Some y) gone env →
+    TypedAs (against (Some wanted) (Ref cap c) new) new r → TypedAs (judge_consumed env wanted cap y) new r
+TypedAs-consumed env new wanted cap y e c r found class ready is h =
+    rw (found, sym class, ready, sym is) h
+
+-- `call q.m(a, b)`: its method has a result
+pub TypedAs-result : (called : Answer Called) (new : Env) (wanted ty : Ty) (o : Option Ty) (r : Result Ty Code) →
+    called ≡ Ok (record { result = o; env = new }) → o ≡ Some ty → TypedAs (against (Some wanted) ty new) new r →
+    TypedAs (◌>>=◌ called (λ j. ◌>>=◌ (ok_or j.result Mismatch) (λ t. against (Some wanted) t j.env))) new r
+TypedAs-result called new wanted ty o r e is h = rw (e, is) h
+
+-- What a receiver leads to.
+
+pub LeadsAs-ref : (class : ℕ) (cap : Cap) → cap ≢ Iso → LeadsAs (follow (Ref cap class)) (Ok class)
+LeadsAs-ref class Mut n = (record { cap = Mut; class = class }, refl, refl)
+LeadsAs-ref class Tmp n = (record { cap = Tmp; class = class }, refl, refl)
+LeadsAs-ref class Paused n = (record { cap = Paused; class = class }, refl, refl)
+LeadsAs-ref class Imm n = (record { cap = Imm; class = class }, refl, refl)
+LeadsAs-ref class Iso n = absurd (n refl)
+
+follow-known : (classes : List Class) (receiver : Ty) (f : Followed) → IsKnown classes receiver → follow receiver ≡ Ok f → f.class < length classes
+follow-known classes Int f k e = grind arith
+follow-known classes Bool f k e = grind arith
+follow-known classes (Ref Mut c) f k e = let same : c ≡ f.class = grind arith in rw (← same) k
+follow-known classes (Ref Tmp c) f k e = let same : c ≡ f.class = grind arith in rw (← same) k
+follow-known classes (Ref Paused c) f k e = let same : c ≡ f.class = grind arith in rw (← same) k
+follow-known classes (Ref Imm c) f k e = let same : c ≡ f.class = grind arith in rw (← same) k
+follow-known classes (Ref Iso c) f k e = grind arith
+
+-- its class is one of the table
+pub LeadsAs-class : (t : Tables) (table : Table) → IsTableOf t table → (receiver : Ty) (class : ℕ) → IsKnown (classes_of t) receiver →
+    LeadsAs (follow receiver) (Ok class) → IsClass table class
+LeadsAs-class t table is receiver class k (f, e, same) =
+    IsClass-tree t table is class (subst (λ c. c < length (classes_of t)) same (follow-known (classes_of t) receiver f k e))
+
+-- The method that is called.
+
+-- each number in a span of parameters, by the place of its parameter
+params-good : (t : Tables) (ks : List ℕ) → All (λ k. k < length t.params) ks →
+    ((i : ℕ) (p : Param) → slice_get (map (param_at t) ks) i ≡ Some p → good_type (classes_of t) p.ty ≡ Ok (type_of (classes_of t) p.ty)) →
+    All (IsParamNumber t) ks
+params-good t [] a h = All-nil (IsParamNumber t)
+params-good t (k ∷ ks) a h =
+    All-cons (IsParamNumber t) k ks (record { within = All-head (λ k. k < length t.params) k ks a; good = h 0 (param_at t k) refl })
+    (params-good t ks (All-tail (λ k. k < length t.params) k ks a) (λ i p e. h (suc i) p e))
+
+module _ (t : Tables) (table : Table) (is : IsTableOf t table) (class name : ℕ) (s : Sig) (m : MethodIs t class name s) where
+  IsSigOf-method : IsSigOf t m.method s
+  IsSigOf-method = record {
+    span = m.rows;
+    each = params-good t (numbers_in t s.params) m.rows.each
+        (λ i p e. MethodIs-param t table is class name s m i p (subst (λ ps. slice_get ps i ≡ Some p) m.params e));
+    params = m.params;
+    result = m.result;
+    known = m.known;
+  }
+
+  pub SigAs-found : (receiver : Ty) → LeadsAs (follow receiver) (Ok class) → below receiver (Ref s.cap class) ≡ true →
+      SigAs t (method_behind (classes_of t) receiver (name_at t name)) (Ok s)
+  SigAs-found receiver (f, e, same) b = (m.method, rw (e, same, m.named, m.cap, b) refl, IsSigOf-method)
+
+-- The arguments.
+
+-- the types of parameters
+abbrev pub types_at : Tables → List ℕ → List Ty
+types_at t ks = map (λ p. type_of (classes_of t) p.ty) (map (param_at t) ks)
+
+-- the first i arguments were judged
+pub record ArgsUpTo (t : Tables) (front : Scope) (params args : List ℕ) (i : ℕ) (here : Scope) : Type 0 where
+  pub scope : IsScopeIn t here
+  pub rest : judge_args (classes_of t) (env_of t here) (types_at t (drop i params)) (map (expr_at t) (drop i args))
+      ≡ judge_args (classes_of t) (env_of t front) (types_at t params) (map (expr_at t) args)
+
+-- The call.
+
+-- what is judged behind the method
+abbrev pub call_of_method : List Class → Env → Call → Method → Answer Called
+call_of_method classes env c m = do
+  test (length c.args == length m.params) Arity
+  out ← judge_args classes env (param_types classes m) c.args
+  Ok (record { result = method_result classes m; env = out })
+
+-- what follows a test may be moved behind it, and so for what was looked up and followed
+test_first : {A B : Type 0} (b : Truth) (e : Code) (a : A) (go : A → Answer B) → ◌>>◌ (test b e) (go a) ≡ ◌>>=◌ (◌>>◌ (test b e) (Ok a)) go
+test_first true e a go = refl
+test_first false e a go = refl
+
+look_first : {A B : Type 0} (o : Answer A) (holds : A → Truth) (e : Code) (go : A → Answer B) →
+    ◌>>=◌ o (λ a. ◌>>◌ (test (holds a) e) (go a)) ≡ ◌>>=◌ (◌>>=◌ o (λ a. ◌>>◌ (test (holds a) e) (Ok a))) go
+look_first (Ok a) holds e go = test_first (holds a) e a go
+look_first (Err code) holds e go = refl
+
+follow_first : {F A B : Type 0} (r : Answer F) (look : F → Answer A) (holds : F → A → Truth) (e : Code) (go : A → Answer B) →
+    ◌>>=◌ r (λ f. ◌>>=◌ (look f) (λ a. ◌>>◌ (test (holds f a) e) (go a)))
+    ≡ ◌>>=◌ (◌>>=◌ r (λ f. ◌>>=◌ (look f) (λ a. ◌>>◌ (test (holds f a) e) (Ok a)))) go
+follow_first (Ok f) look holds e go = look_first (look f) (holds f) e go
+follow_first (Err code) look holds e go = refl
+
+module _ (classes : List Class) (env : Env) (c : Call) (t : Ty) (w : Ok t ≡ walk classes env c.target.base c.target.fields) where
+  pub judge_call-method : judge_call classes env c ≡ ◌>>=◌ (method_behind classes t c.method) (call_of_method classes env c)
+  judge_call-method =
+      rw (sym w) (follow_first (follow t) (λ f. ok_or (method_named classes f.class c.method) Unknown)
+      (λ f m. below t (Ref m.receiver f.class)) Capability
+      (call_of_method classes env c))
+
+  -- there is no such method
+  pub call-no_method : (code : Code) → method_behind classes t c.method ≡ Err code → judge_call classes env c ≡ Err code
+  call-no_method code e = judge_call-method ∙ ap (λ r. ◌>>=◌ r (call_of_method classes env c)) e
+
+  module _ (m : Method) (e : method_behind classes t c.method ≡ Ok m) where
+    call-found : judge_call classes env c ≡ call_of_method classes env c m
+    call-found = judge_call-method ∙ ap (λ r. ◌>>=◌ r (call_of_method classes env c)) e
+
+    call-args : (length c.args == length m.params) ≡ true → (r : Answer Env) → judge_args classes env (param_types classes m) c.args ≡ r →
+        judge_call classes env c ≡ ◌>>=◌ r (λ out. Ok (record { result = method_result classes m; env = out }))
+    call-args y r a = call-found ∙ rw (y, a) refl
+
+-- the arguments are judged against the types of the parameters
+pub call-judged : (t : Tables) (env : Env) (row : CallRow) (receiver : Ty) (s : Sig) (params args : List ℕ) (r : Answer Env) →
+    Ok receiver ≡ walk (classes_of t) env (call_of t row).target.base (call_of t row).target.fields →
+    SigAs t (method_behind (classes_of t) receiver (name_at t row.method)) (Ok s) →
+    params ≡ numbers_in t s.params → args ≡ numbers_in t row.args → length args ≡ length params →
+    judge_args (classes_of t) env (types_at t params) (map (expr_at t) args) ≡ r →
+    judge_call (classes_of t) env (call_of t row) ≡ ◌>>=◌ r (λ out. Ok (record { result = s.result; env = out }))
+call-judged t env row receiver s params args r w (m, e, is) ps qs l j =
+    let typed : types_at t params ≡ param_types (classes_of t) m = ap (types_at t) ps ∙ ap (map (λ p. type_of (classes_of t) p.ty)) is.params in
+    let given : length (call_of t row).args ≡ length args = length-map (numbers_in t row.args) (expr_at t) ∙ ap length (sym qs) in
+    let taken : length params ≡ length m.params = ap length ps ∙ sym (length-map (numbers_in t s.params) (param_at t)) ∙ ap length is.params in
+    let judged : judge_args (classes_of t) env (param_types (classes_of t) m) (call_of t row).args ≡ r =
+    sym (ap₂ (judge_args (classes_of t) env) typed (ap (map (expr_at t)) qs)) ∙ j in
+    call-args (classes_of t) env (call_of t row) receiver w m e (eq-eqb _ _ (given ∙ l ∙ taken)) r judged
+    ∙ ap (λ (o : Option Ty). ◌>>=◌ r (λ out. Ok (record { result = o; env = out }))) is.result

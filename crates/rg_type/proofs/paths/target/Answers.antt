@@ -1,0 +1,11 @@
+use Rattle.std.proofs.Common.{◌≡◌, ◌∷◌, ◌++◌, [], Some, sym, ◌∙◌}
+use Rattle.std.proofs.lemmas.List.Elements.{All-pop}
+use Rattle.rg_tree.specs.Tables.{numbers_in}
+use Rattle.rg_tree.specs.RowsExist.{IsNameIn}
+use Rattle.rg_type.proofs.paths.target.Goals as goal
+
+pub writable-requires-clause-fields : goal.writable-requires-clause-fields
+writable-requires-clause-fields c =
+    let e : numbers_in c.args.program.now c.args.path.fields ≡ c.in-Some.front.now ++ c.in-Some.last.now ∷ [] =
+    sym c.order.ensures ∙ c.in-Some.ensures.cases.0 in
+    All-pop (IsNameIn c.args.program.now) _ c.in-Some.front.now (Some c.in-Some.last.now) e c.requires.path.fields.each

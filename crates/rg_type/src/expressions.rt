@@ -1,0 +1,161 @@
+//! Expressions (docs/language.md, "Judgements").
+
+ghost use Rattle.std.specs.Prelude.{◌≡◌, IfOk, IfSome, List, OnOk};
+ghost use Rattle.rg_tree.specs.RowTrees.{expr_at, program_of};
+ghost use Rattle.rg_tree.specs.RowsExist.{IsExprNumber};
+ghost use Rattle.rg_tree.specs.Tree.{binary, Class};
+ghost use Rattle.rg_rules.specs.Environment.{Env as Variables};
+ghost use Rattle.rg_rules.specs.Expressions as rules;
+ghost use Rattle.rg_names.specs.TableOf.{IsTableOf};
+ghost use Rattle.rg_names.specs.TreeAnswers.{IsKnown};
+ghost use Rattle.rg_type.specs.Changing.{TypedAs};
+ghost use Rattle.rg_type.specs.Judging.{ExprJudgedAs};
+ghost use Rattle.rg_type.specs.Scope.{env_of, IsScopeIn};
+
+use crate::env::Env;
+use crate::judged::Judged;
+use crate::lined::fault;
+use crate::operators::Operators;
+use crate::values::{is_nil, value};
+use rg_base::{Code, Stop, Ty};
+use rg_names::Classes;
+use rg_rules::below;
+use rg_tree::{BinOp, ExprRow, Program};
+
+/// The type of an expression, of which a type may be expected, and the variables afterwards; or the
+/// first fault, at the line of its statement.
+pub fn judge_expr(
+    env: Env,
+    program: &Program,
+    classes: &Classes,
+    e: u32,
+    wanted: Option<Ty>,
+    line: u64,
+) -> Result<Judged, Stop>
+    requires table { IsTableOf program.now classes.now }
+    requires expression { IsExprNumber program.now e }
+    requires scope { IsScopeIn program.now env }
+    requires wanted { IfSome wanted (IsKnown (program_of program.now).classes) }
+    ensures judged { let t = program.now in
+        ExprJudgedAs t line (rules.judge_expr (program_of t).classes (env_of t env) wanted
+        (expr_at t e)) result }
+    ensures scope { IfOk result (λ j. IsScopeIn program.now j.env) }
+    ensures known { IfOk result (λ j. IsKnown (program_of program.now).classes j.ty) }
+{
+    let mut env = env;
+    match expression(&mut env, program, classes, e, wanted) {
+        Ok(ty) => Ok(Judged { ty, env }),
+        Err(code) => Err(fault(code, line)),
+    }
+}
+
+/// The type of an expression, of which a type may be expected.
+#[cycle(expression)]
+pub fn expression(
+    env: &mut Env,
+    program: &Program,
+    classes: &Classes,
+    e: u32,
+    wanted: Option<Ty>,
+) -> Result<Ty, Code>
+    requires table { IsTableOf program.now classes.now }
+    requires expression { IsExprNumber program.now e }
+    requires scope { IsScopeIn program.now env.old }
+    requires wanted { IfSome wanted (IsKnown (program_of program.now).classes) }
+    ensures judged { let t = program.now in
+        TypedAs (rules.judge_expr (program_of t).classes (env_of t env.old) wanted
+        (expr_at t e)) (env_of t env.new) result }
+    ensures scope { OnOk result (IsScopeIn program.now env.new) }
+    ensures known { IfOk result (IsKnown (program_of program.now).classes) }
+{
+    match program.expr(e) {
+        ExprRow::Int(_) => against(wanted, Ty::Int),
+        ExprRow::Bool(_) => against(wanted, Ty::Bool),
+        ExprRow::Nil => {
+            let ty = nil_type(wanted)?;
+            against(wanted, ty)
+        },
+        ExprRow::Path(path) => {
+            let ty = value(env, program, classes, path)?;
+            against(wanted, ty)
+        },
+        ExprRow::IsNil(path) => {
+            is_nil(env, program, classes, path)?;
+            against(wanted, Ty::Bool)
+        },
+        ExprRow::Neg(a) => {
+            expression(env, program, classes, a, Some(Ty::Int))?;
+            against(wanted, Ty::Int)
+        },
+        ExprRow::Not(a) => {
+            expression(env, program, classes, a, Some(Ty::Bool))?;
+            against(wanted, Ty::Bool)
+        },
+        ExprRow::Binary { op, left, right } => {
+            operation(env, program, classes, op, left, right, wanted)
+        },
+    }
+}
+
+// An operator between two operands, of which the left one is judged first.
+#[cycle(expression)]
+fn operation(
+    env: &mut Env,
+    program: &Program,
+    classes: &Classes,
+    op: BinOp,
+    left: u32,
+    right: u32,
+    wanted: Option<Ty>,
+) -> Result<Ty, Code>
+    requires table { IsTableOf program.now classes.now }
+    requires left { IsExprNumber program.now left }
+    requires right { IsExprNumber program.now right }
+    requires scope { IsScopeIn program.now env.old }
+    ensures judged { let t = program.now in
+        TypedAs (rules.judge_expr (program_of t).classes (env_of t env.old) wanted
+        (binary op (expr_at t left) (expr_at t right))) (env_of t env.new) result }
+    ensures scope { OnOk result (IsScopeIn program.now env.new) }
+    ensures known { IfOk result (IsKnown (program_of program.now).classes) }
+{
+    let operators = Operators::among(op);
+    let operand = operators.operand_type();
+    let first = expression(env, program, classes, left, operand)?;
+    let second = expression(env, program, classes, right, operand)?;
+    if !operators.agree(first, second) {
+        return Err(Code::Mismatch);
+    }
+    against(wanted, operators.result_type())
+}
+
+// The last test of an expression: its type is below the expected one, if one is expected.
+fn against(wanted: Option<Ty>, ty: Ty) -> Result<Ty, Code>
+    ensures judged { (env : Variables) → TypedAs (rules.against wanted ty env) env result }
+    ensures known { (classes : List Class) → IsKnown classes ty → IfOk result (IsKnown classes) }
+{
+    match wanted {
+        None => Ok(ty),
+        Some(upper) => {
+            if below(ty, upper) {
+                Ok(ty)
+            } else {
+                Err(Code::Mismatch)
+            }
+        },
+    }
+}
+
+// The type of `nil` is the expected one, which must be a reference.
+fn nil_type(wanted: Option<Ty>) -> Result<Ty, Code>
+    ensures judged { result ≡ rules.nil_type wanted }
+    ensures known { (classes : List Class) → IfSome wanted (IsKnown classes)
+        → IfOk result (IsKnown classes) }
+{
+    match wanted {
+        None => Err(Code::Mismatch),
+        Some(ty) => match ty {
+            Ty::Int | Ty::Bool => Err(Code::Mismatch),
+            Ty::Ref { .. } => Ok(ty),
+        },
+    }
+}

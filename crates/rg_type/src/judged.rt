@@ -1,0 +1,11 @@
+//! What a judgement of an expression gives.
+
+use crate::env::Env;
+use rg_base::Ty;
+
+/// The type of an expression, and the variables as they are afterwards.
+#[derive(Drop)]
+pub struct Judged {
+    pub ty: Ty,
+    pub env: Env,
+}

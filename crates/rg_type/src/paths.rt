@@ -1,0 +1,177 @@
+//! Walks of paths: from a variable through fields (docs/language.md, "Judgements").
+
+ghost use Rattle.std.specs.Prelude.{◌≡◌, ◌<◌, ◌==◌, ◌++◌, ◌∷◌, [], if◌then◌else◌, List, All, length, map, IfOk, IfSome};
+ghost use Rattle.rg_tree.specs.Tables.{name_at};
+ghost use Rattle.rg_tree.specs.Tree.{Class};
+ghost use Rattle.rg_tree.specs.RowTrees.{path_of, program_of};
+ghost use Rattle.rg_tree.specs.RowsExist.{IsNameIn, IsPathIn};
+ghost use Rattle.rg_rules.specs.Capabilities as tables;
+ghost use Rattle.rg_rules.specs.Paths as rules;
+ghost use Rattle.rg_rules.specs.Statements as statements;
+ghost use Rattle.rg_names.specs.TableOf.{IsTableOf};
+ghost use Rattle.rg_names.specs.TreeAnswers.{IsKnown};
+ghost use Rattle.rg_type.specs.Scope.{env_of, variable_of, IsScopeIn};
+ghost use Rattle.rg_type.specs.Walks.{followed_of, looked_of};
+
+use crate::env::Env;
+use crate::followed::Followed;
+use crate::found::Found;
+use crate::looked::Looked;
+use rg_base::{Cap, Code, Ty};
+use rg_names::Classes;
+use rg_rules::adapt;
+use rg_tree::{Path, Program};
+
+/// The type behind a path.
+pub fn walk(env: &Env, program: &Program, classes: &Classes, path: Path) -> Result<Ty, Code>
+    requires table { IsTableOf program.now classes.now }
+    requires path { IsPathIn program.now path }
+    requires scope { IsScopeIn program.now env.now }
+    ensures judged { let t = program.now in let p = path_of t path in
+        result ≡ rules.walk (program_of t).classes (env_of t env.now) p.base p.fields }
+    ensures known { IfOk result (IsKnown (program_of program.now).classes) }
+{
+    let found = env.find(path.base)?;
+    let ty = seen(env, &found);
+    walk_fields(program, classes, ty, program.order(path.fields))
+}
+
+/// The type of the field at the end of a path, which may be written.
+pub fn target(env: &Env, program: &Program, classes: &Classes, path: Path) -> Result<Ty, Code>
+    requires table { IsTableOf program.now classes.now }
+    requires path { IsPathIn program.now path }
+    requires scope { IsScopeIn program.now env.now }
+    ensures judged { let t = program.now in let p = path_of t path in
+        result ≡ statements.swapped_field (program_of t).classes (env_of t env.now)
+        p.base p.fields }
+    ensures known { IfOk result (IsKnown (program_of program.now).classes) }
+{
+    let Some((last, front)) = program.order(path.fields).split_last() else {
+        return Err(Code::Mismatch);
+    };
+    writable(env, program, classes, path.base, front, *last)
+}
+
+// The type of a field at the end of a path, of which the fields in front of the last are given.
+fn writable(
+    env: &Env,
+    program: &Program,
+    classes: &Classes,
+    base: Option<u32>,
+    front: &[u32],
+    last: u32,
+) -> Result<Ty, Code>
+    requires table { IsTableOf program.now classes.now }
+    requires base { IfSome base (IsNameIn program.now) }
+    requires fields { All (IsNameIn program.now) front.now × IsNameIn program.now last }
+    requires scope { IsScopeIn program.now env.now }
+    ensures judged { let t = program.now in
+        result ≡ statements.swapped_field (program_of t).classes (env_of t env.now)
+        (variable_of t base)
+        (map (name_at t) front.now ++ name_at t last ∷ []) }
+    ensures known { IfOk result (IsKnown (program_of program.now).classes) }
+{
+    let found = env.find(base)?;
+    let ty = walk_fields(program, classes, seen(env, &found), front)?;
+    let field = look_up(program, classes, ty, last)?;
+    if !may_write(field.receiver) {
+        return Err(Code::Capability);
+    }
+    Ok(field.ty)
+}
+
+/// The type as which a variable is seen.
+pub fn seen(env: &Env, found: &Found) -> Ty
+    ensures seen { result ≡
+        (if found.now.depth == env.now.depth then found.now.ty else tables.pause found.now.ty) }
+    ensures known { (classes : List Class) → IsKnown classes found.now.ty → IsKnown classes result }
+{
+    env.seen(found)
+}
+
+// The type behind fields in order.
+fn walk_fields(program: &Program, classes: &Classes, ty: Ty, fields: &[u32]) -> Result<Ty, Code>
+    requires table { IsTableOf program.now classes.now }
+    requires known { IsKnown (program_of program.now).classes ty }
+    requires fields { All (IsNameIn program.now) fields.now }
+    ensures judged { let t = program.now in
+        result ≡ rules.walk_fields (program_of t).classes ty (map (name_at t) fields.now) }
+    ensures known { IfOk result (IsKnown (program_of program.now).classes) }
+{
+    let mut ty = ty;
+    for field in fields {
+        ty = walk_field(program, classes, ty, *field)?;
+    }
+    Ok(ty)
+}
+
+// The type behind one more field.
+fn walk_field(program: &Program, classes: &Classes, ty: Ty, field: u32) -> Result<Ty, Code>
+    requires table { IsTableOf program.now classes.now }
+    requires known { IsKnown (program_of program.now).classes ty }
+    requires field { IsNameIn program.now field }
+    ensures judged { let t = program.now in
+        result ≡ rules.walk_field (program_of t).classes ty (name_at t field) }
+    ensures known { IfOk result (IsKnown (program_of program.now).classes) }
+{
+    let field = look_up(program, classes, ty, field)?;
+    read_through(field.receiver, field.ty)
+}
+
+// The field of a name behind a type that can be followed.
+fn look_up(program: &Program, classes: &Classes, ty: Ty, field: u32) -> Result<Looked, Code>
+    requires table { IsTableOf program.now classes.now }
+    requires known { IsKnown (program_of program.now).classes ty }
+    requires field { IsNameIn program.now field }
+    ensures judged { let t = program.now in
+        looked_of result ≡ rules.look_up (program_of t).classes ty (name_at t field) }
+    ensures known { IfOk result (λ l. IsKnown (program_of program.now).classes l.ty) }
+{
+    let followed = follow(ty)?;
+    match classes.field(followed.class, field) {
+        Some(found) => Ok(Looked {
+            receiver: followed.cap,
+            ty: found.ty,
+        }),
+        None => Err(Code::Unknown),
+    }
+}
+
+// What is followed is a reference, and not an `iso` one.
+fn follow(ty: Ty) -> Result<Followed, Code>
+    ensures judged { followed_of result ≡ rules.follow ty }
+    ensures known { (classes : List Class) → IsKnown classes ty
+        → IfOk result (λ f. f.class < length classes) }
+{
+    match ty {
+        Ty::Int | Ty::Bool => Err(Code::Mismatch),
+        Ty::Ref { cap, class } => match cap {
+            Cap::Mut | Cap::Tmp | Cap::Paused | Cap::Imm => Ok(Followed { cap, class }),
+            Cap::Iso => Err(Code::Capability),
+        },
+    }
+}
+
+// The type as which a field is read through its receiver.
+fn read_through(receiver: Cap, ty: Ty) -> Result<Ty, Code>
+    ensures judged { result ≡ rules.read_through receiver ty }
+    ensures known { (classes : List Class) → IsKnown classes ty → IfOk result (IsKnown classes) }
+{
+    match ty {
+        Ty::Int | Ty::Bool => Ok(ty),
+        Ty::Ref { cap, class } => match adapt(receiver, cap) {
+            Some(cap) => Ok(Ty::Ref { cap, class }),
+            None => Err(Code::Capability),
+        },
+    }
+}
+
+// Whether fields may be written through a capability.
+fn may_write(cap: Cap) -> bool
+    ensures { result ≡ tables.may_write cap }
+{
+    match cap {
+        Cap::Mut | Cap::Tmp => true,
+        Cap::Paused | Cap::Imm | Cap::Iso => false,
+    }
+}

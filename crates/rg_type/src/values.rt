@@ -1,0 +1,153 @@
+//! Paths as values, and their tests for nil (docs/language.md, "Judgements").
+
+ghost use Rattle.std.specs.Prelude.{◌≡◌, ◌||◌, not as negated, [], IfOk, IfSome, OnOk};
+ghost use Rattle.rg_tree.specs.RowTrees.{path_of, program_of};
+ghost use Rattle.rg_tree.specs.RowsExist.{IsNameIn, IsPathIn};
+ghost use Rattle.rg_rules.specs.Capabilities as tables;
+ghost use Rattle.rg_base.specs.declared.fault.Code.TheVariants.{Mismatch};
+ghost use Rattle.rg_rules.specs.Answers.{test};
+ghost use Rattle.rg_rules.specs.Environment as states;
+ghost use Rattle.rg_rules.specs.Expressions as rules;
+ghost use Rattle.rg_names.specs.TableOf.{IsTableOf};
+ghost use Rattle.rg_names.specs.TreeAnswers.{IsKnown};
+ghost use Rattle.rg_type.specs.Scope.{env_of, variable_of, IsScopeIn};
+ghost use Rattle.rg_type.specs.States.{readiness_of};
+ghost use Rattle.rg_type.specs.Changing.{HasField, TypedAs};
+
+use crate::env::Env;
+use crate::found::Found;
+use crate::kinds::{is_iso, is_ready};
+use crate::paths::{seen, walk};
+use crate::state::State;
+use rg_base::{Code, Ty};
+use rg_names::Classes;
+use rg_tree::{Path, Program};
+
+/// `x`, which uses an `iso` variable up, and `x.f`.
+pub fn value(env: &mut Env, program: &Program, classes: &Classes, path: Path) -> Result<Ty, Code>
+    requires table { IsTableOf program.now classes.now }
+    requires path { IsPathIn program.now path }
+    requires scope { IsScopeIn program.now env.old }
+    ensures judged { let t = program.now in let p = path_of t path in
+        TypedAs (rules.judge_path (program_of t).classes (env_of t env.old) p.base p.fields)
+        (env_of t env.new) result }
+    ensures scope { OnOk result (IsScopeIn program.now env.new) }
+    ensures known { IfOk result (IsKnown (program_of program.now).classes) }
+{
+    if program.order(path.fields).is_empty() {
+        variable(env, program, classes, path.base)
+    } else {
+        field(env, program, classes, path)
+    }
+}
+
+// `x`
+fn variable(
+    env: &mut Env,
+    program: &Program,
+    classes: &Classes,
+    name: Option<u32>,
+) -> Result<Ty, Code>
+    requires table { IsTableOf program.now classes.now }
+    requires name { IfSome name (IsNameIn program.now) }
+    requires scope { IsScopeIn program.now env.old }
+    ensures judged { let t = program.now in
+        TypedAs (rules.judge_path (program_of t).classes (env_of t env.old) (variable_of t name) [])
+        (env_of t env.new) result }
+    ensures scope { OnOk result (IsScopeIn program.now env.new) }
+    ensures known { IfOk result (IsKnown (program_of program.now).classes) }
+{
+    let found = env.find(name)?;
+    if !is_available(&found) {
+        return Err(Code::Unavailable);
+    }
+    let ty = seen(env, &found);
+    if is_iso(found.ty) {
+        env.mark(name, State::Gone);
+    }
+    Ok(ty)
+}
+
+// `x.f`, which can't be an `iso` field.
+fn field(env: &Env, program: &Program, classes: &Classes, path: Path) -> Result<Ty, Code>
+    requires table { IsTableOf program.now classes.now }
+    requires path { IsPathIn program.now path }
+    requires field { HasField program.now path }
+    requires scope { IsScopeIn program.now env.now }
+    ensures judged { let t = program.now in let p = path_of t path in
+        TypedAs (rules.judge_path (program_of t).classes (env_of t env.now) p.base p.fields)
+        (env_of t env.now) result }
+    ensures known { IfOk result (IsKnown (program_of program.now).classes) }
+{
+    let ty = walk(env, program, classes, path)?;
+    if is_iso(ty) {
+        return Err(Code::IsoField);
+    }
+    Ok(ty)
+}
+
+/// `x is nil`, which an `iso` variable survives, and `x.f is nil`.
+pub fn is_nil(env: &Env, program: &Program, classes: &Classes, path: Path) -> Result<(), Code>
+    requires table { IsTableOf program.now classes.now }
+    requires path { IsPathIn program.now path }
+    requires scope { IsScopeIn program.now env.now }
+    ensures { let t = program.now in let p = path_of t path in
+        result ≡ rules.judge_is_nil (program_of t).classes (env_of t env.now) p.base p.fields }
+{
+    if program.order(path.fields).is_empty() {
+        is_variable_nil(env, program, classes, path.base)
+    } else {
+        is_field_nil(env, program, classes, path)
+    }
+}
+
+// `x is nil`
+fn is_variable_nil(
+    env: &Env,
+    program: &Program,
+    classes: &Classes,
+    name: Option<u32>,
+) -> Result<(), Code>
+    requires table { IsTableOf program.now classes.now }
+    requires name { IfSome name (IsNameIn program.now) }
+    requires scope { IsScopeIn program.now env.now }
+    ensures { let t = program.now in result
+        ≡ rules.judge_is_nil (program_of t).classes (env_of t env.now) (variable_of t name) [] }
+{
+    let found = env.find(name)?;
+    if !is_available(&found) {
+        return Err(Code::Unavailable);
+    }
+    reference(seen(env, &found))
+}
+
+// `x.f is nil`
+fn is_field_nil(env: &Env, program: &Program, classes: &Classes, path: Path) -> Result<(), Code>
+    requires table { IsTableOf program.now classes.now }
+    requires path { IsPathIn program.now path }
+    requires field { HasField program.now path }
+    requires scope { IsScopeIn program.now env.now }
+    ensures { let t = program.now in let p = path_of t path in
+        result ≡ rules.judge_is_nil (program_of t).classes (env_of t env.now) p.base p.fields }
+{
+    let ty = walk(env, program, classes, path)?;
+    reference(ty)
+}
+
+// Only a reference may be nil.
+fn reference(ty: Ty) -> Result<(), Code>
+    ensures { result ≡ test (tables.is_reference ty) Mismatch }
+{
+    match ty {
+        Ty::Int | Ty::Bool => Err(Code::Mismatch),
+        Ty::Ref { .. } => Ok(()),
+    }
+}
+
+// Whether a variable may be used: an `iso` one must be ready.
+fn is_available(found: &Found) -> bool
+    ensures { result ≡ (negated (tables.is_iso found.now.ty)
+        || states.is_ready (readiness_of found.now.state)) }
+{
+    !is_iso(found.ty) || is_ready(found.state)
+}
