@@ -1,0 +1,7 @@
+mod Outcomes
+mod BlockSteps
+mod ParamSteps
+mod MayBeJudged
+mod MethodSteps
+mod Spelling
+mod WholeSteps
