@@ -1,17 +1,23 @@
 -- From what the layers under the top call have answered to the words of the headline.
-use Rattle.std.proofs.Common.{◌≡◌, ◌≢◌, ℕ, suc, ◌<◌, ◌⊎◌, inl, inr, Bool, true, false, List, [], length, replicate, Option, Some, None, option_map, option_and_then, Err, refl, sym, ◌∙◌, ap, subst, arith, append-nil}
+use Rattle.std.proofs.Common.{◌≡◌, ◌≢◌, ℕ, suc, ◌<◌, ◌⊎◌, inl, inr, Bool, true, false, List, [], length, replicate, Option, Some, None, option_map, option_and_then, Result, Ok, Err, IfOk, refl, sym, ◌∙◌, ap, subst, arith, append-nil}
 use Rattle.std.specs.Bool.{OnTrue}
 use Rattle.std.proofs.lemmas.List.{length-replicate}
 use Rattle.rg_base.specs.declared.limits.TheConstants.{SOURCE_BYTES}
 use Rattle.rg_io.specs.Content.{Appends, AppendsPart}
 use Rattle.rg_io.specs.Files.{Told, HasLongFile, file_bytes}
 use Rattle.rg_base.specs.declared.fault.Fault.{Fault}
+use Rattle.rg_base.specs.declared.fault.Stop.{Stop}
 use Rattle.rg_base.specs.declared.token.Token.{Token}
 use Rattle.rg_base.specs.Tokens.{cut, end_line}
 use Rattle.rg_tree.specs.Tree.{Tree}
+use Rattle.rg_tree.specs.Tables.{Tables}
+use Rattle.rg_tree.specs.RowTrees.{program_of}
 use Rattle.rg_tree.specs.Grammar.{Spells}
 use Rattle.rg_tree.specs.Stuck.{Stuck, fault_at}
 use Rattle.rg_tree.specs.Canonical.{canon}
+use Rattle.rg_rules.specs.Names.{FewNames}
+use Rattle.rg_check.specs.Laws.{SpeltHasFewNames}
+use Rattle.rg_rules.specs.Acceptance.{Accepted}
 use Rattle.rg_tree.proofs.Unique.{one-tree}
 use Rattle.rg_tree.proofs.Stopping.{spelt-not_stuck, Stops-unique}
 use Rattle.rg_base.specs.declared.outcome.Ended.{Ended}
@@ -26,11 +32,11 @@ use Rattle.rg_run.specs.Runs.{answer, OnWhole, OnCutOff, Leaves, output_after, S
 use Rattle.rg_run.specs.Machine.{Kept, IsFresh}
 use Rattle.rg_top.specs.declared.status.Status.{Status}
 use Rattle.rg_top.specs.declared.status.Status.TheVariants as status
-use Rattle.rg_top.specs.Commands.{Command, run, fmt, command, file_of, steps_of}
+use Rattle.rg_top.specs.Commands.{Command, run, fmt, check, command, file_of, steps_of}
 use Rattle.rg_top.specs.Statuses.{status_text, is_run, is_answer, is_cut_off, is_from_outside}
-use Rattle.rg_top.specs.Expected.{Meaning, too_long, faulty, spelt, IsStuck, SpellsTree, Means, runs, Answer, status_of, expected, Expects, ExpectsStatus}
-use Rattle.rg_top.specs.Headline.{Runs, ForSource, WhereTold, Exactly, Wrote, ShowsEnd, Untouched, CutOffAt, TookNotes}
-use Rattle.rg_top.specs.Settled.{status_of_ended, RanWhole, EndsWell, StopsRun, CantRun, Settles, Unread, source_fault, memory, SettlesFile}
+use Rattle.rg_top.specs.Expected.{Meaning, too_long, faulty, spelt, IsStuck, SpellsTree, Means, runs, Answer, accepted_text, status_of, expected, Expects, ExpectsStatus}
+use Rattle.rg_top.specs.Headline.{Runs, ForSource, WhereTold, Exactly, Wrote, ShowsEnd, ReadsBack, Untouched, CutOffAt, TookNotes}
+use Rattle.rg_top.specs.Settled.{status_of_ended, RanWhole, EndsWell, StopsRun, IsFaulted, CantRun, Settles, Unread, source_fault, memory, SettlesFile}
 use Rattle.rg_top.proofs.RunLemmas.{stands-whole}
 
 -- what is told after a fault of the output
@@ -60,25 +66,33 @@ long-settles (Some t) c old m h fresh = inl (h.0, h.1, (h.2, (fresh, refl)))
 wrote-whole : (file : List ℕ) (n : ℕ) (source : List ℕ) (s : Status) (old new : Option (List ℕ)) (m : Kept) → RanWhole n source s old new m
     → Wrote (run file n) source s old new
 wrote-whole file n source s old new m r =
-    (_, (spelt r.source_runs.tree, r.source_runs.means, rw (r.source_runs.runs_is, r.status_is) refl), r.wrote)
+    (_, (spelt r.source_runs.tree, r.source_runs.means, rw (r.source_runs.accepted, r.source_runs.runs_is, r.status_is) refl), r.wrote)
 
 wrote-well : (c : Command) (source : List ℕ) (old new : Option (List ℕ)) (m : Kept) → EndsWell c source old new m → Wrote c source status.Done old new
 wrote-well (run file n) source old new m r = wrote-whole file n source status.Done old new m r
 wrote-well (fmt file) source old new m r = (_, (spelt r.tree, r.means, refl), r.wrote)
+wrote-well (check file) source old new m r = (_, (spelt r.tree, r.means, rw r.accepted refl), r.wrote)
 
-wrote-stops : (c : Command) (source : List ℕ) (s : Status) (old new : Option (List ℕ)) (m : Kept) → StopsRun c source s old new m → Wrote c source s old new
+wrote-stops : (c : Command) (source : List ℕ) (s : Status) (old new : Option (List ℕ)) (m : Kept) → StopsRun c source s old new m
+    → Wrote c source s old new
 wrote-stops (run file n) source s old new m r = wrote-whole file n source s old new m r
 wrote-stops (fmt file) source s old new m r = absurd r
+wrote-stops (check file) source s old new m r = absurd r
 
 untouched-text : (old new : Option (List ℕ)) → new ≡ old → Appends old new []
 untouched-text None new e = e
 untouched-text (Some xs) new e = e ∙ ap Some (sym (append-nil xs))
 
--- a tree that can't be run is refused
-expects-refused : (c : Command) (source : List ℕ) (f : Fault) → Means source (faulty f) ⊎ CantRun c source f → Expects c source (status.Refused f) []
+-- a tree with a fault, or that can't be run, is refused
+expects-refused : (c : Command) (source : List ℕ) (f : Fault) → Means source (faulty f) ⊎ (IsFaulted c source f ⊎ CantRun c source f)
+    → Expects c source (status.Refused f) []
 expects-refused c source f (inl h) = (faulty f, h, refl)
-expects-refused (run file n) source f (inr h) = (spelt h.0, h.1, rw (h.2, h.3) refl)
-expects-refused (fmt file) source f (inr h) = absurd h
+expects-refused (run file n) source f (inr (inl h)) = (spelt h.0, h.1, rw h.2 refl)
+expects-refused (run file n) source f (inr (inr h)) = (spelt h.0, h.1, rw (h.2, h.3, h.4) refl)
+expects-refused (fmt file) source f (inr (inl h)) = absurd h
+expects-refused (fmt file) source f (inr (inr h)) = absurd h
+expects-refused (check file) source f (inr (inl h)) = (spelt h.0, h.1, rw h.2 refl)
+expects-refused (check file) source f (inr (inr h)) = absurd h
 
 -- the text of what was answered to a source
 pub wrote-of : (c : Command) (source : List ℕ) (s : Status) (old new : Option (List ℕ)) (m : Kept) → Settles c source s old new m
@@ -94,13 +108,21 @@ wrote-of c source status.OutputFault old new m h = tt
 wrote-of c source status.Memory old new m h = tt
 wrote-of c source status.Long old new m h = ([], (too_long, h.0, refl), untouched-text old new h.1.1)
 
+back-well : (c : Command) (source : List ℕ) (old new : Option (List ℕ)) (m : Kept) → EndsWell c source old new m → ReadsBack c source old new
+back-well (run file n) source old new m r = tt
+back-well (fmt file) source old new m r = (r.tree, r.means, r.wrote, r.back)
+back-well (check file) source old new m r = tt
+
 shown-well : (c : Command) (source : List ℕ) (old new : Option (List ℕ)) (m : Kept) → EndsWell c source old new m → ShowsEnd c source m
 shown-well (run file n) source old new m r = (r.program, r.source_runs, r.shows)
 shown-well (fmt file) source old new m r = r.fresh
+shown-well (check file) source old new m r = r.fresh
 
-shown-stops : (c : Command) (source : List ℕ) (s : Status) (old new : Option (List ℕ)) (m : Kept) → StopsRun c source s old new m → ShowsEnd c source m
+shown-stops : (c : Command) (source : List ℕ) (s : Status) (old new : Option (List ℕ)) (m : Kept) → StopsRun c source s old new m
+    → ShowsEnd c source m
 shown-stops (run file n) source s old new m r = (r.program, r.source_runs, r.shows)
 shown-stops (fmt file) source s old new m r = absurd r
+shown-stops (check file) source s old new m r = absurd r
 
 -- the machine behind what was answered to a source
 pub shown-of : (c : Command) (source : List ℕ) (s : Status) (old new : Option (List ℕ)) (m : Kept) → Settles c source s old new m
@@ -116,6 +138,26 @@ shown-of c source status.OutputFault old new m h = tt
 shown-of c source status.Memory old new m h = tt
 shown-of c source status.Long old new m h = tt
 
+back-stops : (c : Command) (source : List ℕ) (s : Status) (old new : Option (List ℕ)) (m : Kept) → StopsRun c source s old new m
+    → ReadsBack c source old new
+back-stops (run file n) source s old new m r = tt
+back-stops (fmt file) source s old new m r = absurd r
+back-stops (check file) source s old new m r = absurd r
+
+-- what was written parses back, on what was answered to a source
+pub back-of : (c : Command) (source : List ℕ) (s : Status) (old new : Option (List ℕ)) (m : Kept) → Settles c source s old new m
+    → OnTrue (is_run s) (ReadsBack c source old new)
+back-of c source status.Done old new m h = back-well c source old new m h
+back-of c source (status.Refused f) old new m h = tt
+back-of c source status.Usage old new m h = tt
+back-of c source (status.Trap kind line) old new m h = back-stops c source (status.Trap kind line) old new m h
+back-of c source status.Spent old new m h = back-stops c source status.Spent old new m h
+back-of c source status.SourceFault old new m h = tt
+back-of c source status.InputFault old new m h = tt
+back-of c source status.OutputFault old new m h = tt
+back-of c source status.Memory old new m h = tt
+back-of c source status.Long old new m h = tt
+
 cut-whole : (file : List ℕ) (n : ℕ) (source : List ℕ) (s : Status) (old new : Option (List ℕ)) (m : Kept) → RanWhole n source s old new m
     → CutOffAt (run file n) source m old new
 cut-whole file n source s old new m r = (r.program, r.source_runs, stands-whole r.program n m old new r.shows r.wrote)
@@ -124,10 +166,14 @@ cut-well : (c : Command) (source : List ℕ) (old new : Option (List ℕ)) (m : 
 cut-well (run file n) source old new m r = cut-whole file n source status.Done old new m r
 cut-well (fmt file) source old new m r =
     (r.tree, r.means, r.fresh, (canon r.tree, record { rest = []; whole_is = sym (append-nil (canon r.tree)) }, r.wrote))
+cut-well (check file) source old new m r =
+    (r.tree, r.means, r.accepted, r.fresh, (accepted_text, record { rest = []; whole_is = sym (append-nil accepted_text) }, r.wrote))
 
-cut-stops : (c : Command) (source : List ℕ) (s : Status) (old new : Option (List ℕ)) (m : Kept) → StopsRun c source s old new m → CutOffAt c source m old new
+cut-stops : (c : Command) (source : List ℕ) (s : Status) (old new : Option (List ℕ)) (m : Kept) → StopsRun c source s old new m
+    → CutOffAt c source m old new
 cut-stops (run file n) source s old new m r = cut-whole file n source s old new m r
 cut-stops (fmt file) source s old new m r = absurd r
+cut-stops (check file) source s old new m r = absurd r
 
 -- whatever was answered to a source, the machine is fresh or stands at a whole step
 pub cut-of : (c : Command) (source : List ℕ) (s : Status) (old new : Option (List ℕ)) (m : Kept) → Settles c source s old new m
@@ -250,6 +296,14 @@ file-state told words c s old new m e (inl h) =
     on-true (ShowsEnd c h.0 m) _ (is_run s) (shown-of c h.0 s old new m h.2) (λ w. (c, h.0, e, h.1, w))
 file-state told words c s old new m e (inr u) = unread-run told c s _ u.0
 
+-- what was written parses back
+pub file-back : (told : Option Told) (words : List (List ℕ)) (c : Command) (s : Status) (old new : Option (List ℕ)) (m : Kept)
+    → command words ≡ Some c
+    → SettlesFile told c s old new m → OnTrue (is_run s) (ForSource told words (λ d source. ReadsBack d source old new))
+file-back told words c s old new m e (inl h) =
+    on-true (ReadsBack c h.0 old new) _ (is_run s) (back-of c h.0 s old new m h.2) (λ w. (c, h.0, e, h.1, w))
+file-back told words c s old new m e (inr u) = unread-run told c s _ u.0
+
 -- where it was cut off
 pub file-cut : (told : Option Told) (words : List (List ℕ)) (c : Command) (s : Status) (old new : Option (List ℕ)) (m : Kept)
     → command words ≡ Some c
@@ -319,6 +373,14 @@ pub answer-state : {told : Option Told} {words : List (List ℕ)} {given answer 
 answer-state {told = told} {words = words} {given = given} {answer = answer} {old = old} {new = new} {m = m} a =
     told-status (λ s. OnTrue (is_run s) (ForSource told words (λ c source. ShowsEnd c source m))) given answer
     (file-state told words a.asked given old new m a.command_is a.settles) tt a.told_is
+
+-- what was written parses back
+pub answer-back : {told : Option Told} {words : List (List ℕ)} {given answer : Status} {old new : Option (List ℕ)} {m : Kept}
+    → Answered told words given answer old new m
+    → OnTrue (is_run answer) (ForSource told words (λ c source. ReadsBack c source old new))
+answer-back {told = told} {words = words} {given = given} {answer = answer} {old = old} {new = new} {m = m} a =
+    told-status (λ s. OnTrue (is_run s) (ForSource told words (λ c source. ReadsBack c source old new))) given answer
+    (file-back told words a.asked given old new m a.command_is a.settles) tt a.told_is
 
 -- where it was cut off
 pub answer-cut : {told : Option Told} {words : List (List ℕ)} {given answer : Status} {old new : Option (List ℕ)} {m : Kept}
@@ -426,13 +488,20 @@ thin-none t e = go (thin_program t) refl e
     go None h g = refl
     go (Some p) h g = unnumbered p (numbered [] p.body) g
 
+-- a program that spells the source's tokens has few names
+pub few-names : (source : List ℕ) (ts : List Token) (r : Result Tables Stop) → SpeltHasFewNames
+    → IfOk r (λ p. Spells source (program_of p) ts) → IfOk r (λ p. FewNames (program_of p))
+few-names source ts (Ok p) law h = law source (program_of p) ts h
+few-names source ts (Err e) law h = tt
+
 -- the status of a run by its ending
 status-answer : (e : Ending) → status_of_ended (answer e) ≡ status_of e
 status-answer Running = refl
 status-answer Done = refl
 status-answer (Trapped kind line) = refl
 
-ran-whole : (n : ℕ) (source : List ℕ) (p : Program) (s : Status) (e : Ended) (old new : Option (List ℕ)) (m : Kept) → Runs source p → status_of_ended e ≡ s
+ran-whole : (n : ℕ) (source : List ℕ) (p : Program) (s : Status) (e : Ended) (old new : Option (List ℕ)) (m : Kept) → Runs source p
+    → status_of_ended e ≡ s
     → e ≡ answer (plain p n).ending → Appends old new (text (output_after p n)) → ShowsRan p m (plain p n) → RanWhole n source s old new m
 ran-whole n source p s e old new m r i a t h = record {
   program = p;

@@ -16,16 +16,20 @@ pub data Command : Type 0 where
   run : (file : List ℕ) → (steps : ℕ) → Command
   -- fmt FILE
   fmt : (file : List ℕ) → Command
+  -- check FILE
+  check : (file : List ℕ) → Command
 
 -- the file that a command names
 abbrev pub file_of : Command → List ℕ
 file_of (run file steps) = file
 file_of (fmt file) = file
+file_of (check file) = file
 
 -- the most steps that a command asks for; one that runs nothing asks for none
 abbrev pub steps_of : Command → ℕ
 steps_of (run file steps) = steps
 steps_of (fmt file) = 0
+steps_of (check file) = 0
 
 -- whether a word can name a file: it isn't empty and doesn't begin with -
 abbrev pub is_file : List ℕ → Bool
@@ -55,16 +59,17 @@ steps_in (option ∷ number ∷ more ∷ rest) = None
 abbrev pub run_words : List ℕ → List (List ℕ) → Option Command
 run_words file options = option_map (λ n. run file n) (steps_in options)
 
--- what `fmt` says of a file, with the words behind it
-abbrev pub fmt_words : List ℕ → List (List ℕ) → Option Command
-fmt_words file [] = Some (fmt file)
-fmt_words file (word ∷ words) = None
+-- a command on a file alone: there are no words behind it
+abbrev pub alone : Command → List (List ℕ) → Option Command
+alone c [] = Some c
+alone c (word ∷ words) = None
 
 -- what a name says of a file, with the words behind it
 abbrev pub named : List ℕ → List ℕ → List (List ℕ) → Option Command
 named name file options =
     if bytes_eq name (codes "run") then run_words file options else
-    if bytes_eq name (codes "fmt") then fmt_words file options else None
+    if bytes_eq name (codes "fmt") then alone (fmt file) options else
+    if bytes_eq name (codes "check") then alone (check file) options else None
 
 -- The command that words give, if they give one. They don't include the program's name.
 abbrev pub command : List (List ℕ) → Option Command

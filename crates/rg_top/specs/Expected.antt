@@ -1,5 +1,5 @@
 -- What a source means, and what a command answers to it.
-use Rattle.std.specs.Prelude.{◌≡◌, ℕ, ◌<◌, ◌≤◌, ◌⊎◌, List, [], length, Option, Some, None, option_map, option_and_then, Ok, Err}
+use Rattle.std.specs.Prelude.{◌≡◌, ℕ, ◌<◌, ◌≤◌, ◌⊎◌, List, [], ◌∷◌, ◌++◌, codes, length, Option, Some, None, option_map, option_and_then, Ok, Err}
 use Rattle.rg_base.specs.declared.limits.TheConstants.{SOURCE_BYTES}
 use Rattle.rg_base.specs.declared.fault.Code.TheVariants.{NotBuilt}
 use Rattle.rg_base.specs.declared.fault.Fault.{Fault}
@@ -10,6 +10,7 @@ use Rattle.rg_tree.specs.Tree.{Tree}
 use Rattle.rg_tree.specs.Grammar.{Spells}
 use Rattle.rg_tree.specs.Stuck.{Stuck, fault_at}
 use Rattle.rg_tree.specs.Canonical.{canon}
+use Rattle.rg_rules.specs.Acceptance.{first_fault}
 use Rattle.rg_parse.specs.Tree.{Program}
 use Rattle.rg_parse.specs.Numbering.{numbered}
 use Rattle.rg_parse.specs.ThinTrees.{thin_program}
@@ -17,7 +18,7 @@ use Rattle.rg_run.specs.Plain.{Ending, Running, Done, Trapped, plain}
 use Rattle.rg_run.specs.Runs.{output_after}
 use Rattle.rg_top.specs.declared.status.Status.{Status}
 use Rattle.rg_top.specs.declared.status.Status.TheVariants as status
-use Rattle.rg_top.specs.Commands.{Command, run, fmt}
+use Rattle.rg_top.specs.Commands.{Command, run, fmt, check}
 
 -- what a source can be
 pub data Meaning : Type 0 where
@@ -30,7 +31,8 @@ pub data Meaning : Type 0 where
 
 -- the tokens of a source are stuck with a fault
 abbrev pub IsStuck : List ℕ → Fault → Type 0
-IsStuck source f = (tokens : List Token) × (at : List Token) × (cut source ≡ Ok tokens) × Stuck tokens f.code at × (f ≡ fault_at f.code (end_line source) at)
+IsStuck source f = (tokens : List Token) × (at : List Token) × (cut source ≡ Ok tokens) × Stuck tokens f.code at ×
+    (f ≡ fault_at f.code (end_line source) at)
 
 -- the tokens of a source spell a tree
 abbrev pub SpellsTree : List ℕ → Tree → Type 0
@@ -57,17 +59,31 @@ status_of (Trapped kind line) = status.Trap kind line
 abbrev pub runs : Tree → Option Program
 runs t = option_and_then (λ p. option_map (λ stmts. p) (numbered [] p.body)) (thin_program t)
 
+-- a fault refuses the program; nothing is written
+abbrev pub refused : Fault → Answer
+refused f = record { status = status.Refused f; text = [] }
+
+-- the first fault of the checker refuses the program, and without one the answer is that
+abbrev pub unless_fault : Option Fault → Answer → Answer
+unless_fault None a = a
+unless_fault (Some f) a = refused f
+
+-- what `check` writes of an accepted program
+abbrev pub accepted_text : List ℕ
+accepted_text = codes "accepted" ++ 10 ∷ []
+
 -- what a run of n steps answers; a tree that can't be run yet is refused at the line of `main`
 abbrev pub run_answer : ℕ → ℕ → Option Program → Answer
-run_answer n line None = record { status = status.Refused (record { code = NotBuilt; line = line }); text = [] }
+run_answer n line None = refused (record { code = NotBuilt; line = line })
 run_answer n line (Some p) = record { status = status_of (plain p n).ending; text = text (output_after p n) }
 
 -- what a command answers to a source of that meaning
 abbrev pub expected : Command → Meaning → Answer
 expected c too_long = record { status = status.Long; text = [] }
-expected c (faulty f) = record { status = status.Refused f; text = [] }
-expected (run file n) (spelt t) = run_answer n t.line (runs t)
+expected c (faulty f) = refused f
+expected (run file n) (spelt t) = unless_fault (first_fault t) (run_answer n t.line (runs t))
 expected (fmt file) (spelt t) = record { status = status.Done; text = canon t }
+expected (check file) (spelt t) = unless_fault (first_fault t) (record { status = status.Done; text = accepted_text })
 
 -- the command answers that to the source
 abbrev pub Expects : Command → List ℕ → Status → List ℕ → Type 0

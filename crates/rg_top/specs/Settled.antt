@@ -1,5 +1,5 @@
 -- What the layers under the top call have answered and left, by the status.
-use Rattle.std.specs.Prelude.{◌≡◌, ℕ, ◌⊎◌, List, Option, None}
+use Rattle.std.specs.Prelude.{◌≡◌, ℕ, ◌⊎◌, List, Option, Some, None}
 use Rattle.rg_base.specs.declared.outcome.Ended.{Ended}
 use Rattle.rg_base.specs.declared.outcome.Ended.TheVariants as ended
 use Rattle.rg_base.specs.Text.{text}
@@ -9,14 +9,16 @@ use Rattle.rg_base.specs.declared.fault.Code.TheVariants.{NotBuilt}
 use Rattle.rg_base.specs.declared.fault.Fault.{Fault}
 use Rattle.rg_tree.specs.Tree.{Tree}
 use Rattle.rg_tree.specs.Canonical.{canon}
+use Rattle.rg_tree.specs.Laws.{ParsesBack}
+use Rattle.rg_rules.specs.Acceptance.{first_fault, Accepted}
 use Rattle.rg_parse.specs.Tree.{Program}
 use Rattle.rg_run.specs.Plain.{plain}
 use Rattle.rg_run.specs.Machine.{Kept, IsFresh}
 use Rattle.rg_run.specs.Runs.{output_after, ShowsRan}
 use Rattle.rg_top.specs.declared.status.Status.{Status}
 use Rattle.rg_top.specs.declared.status.Status.TheVariants as status
-use Rattle.rg_top.specs.Commands.{Command, run, fmt, file_of}
-use Rattle.rg_top.specs.Expected.{too_long, faulty, spelt, Means, status_of, runs}
+use Rattle.rg_top.specs.Commands.{Command, run, fmt, check, file_of}
+use Rattle.rg_top.specs.Expected.{too_long, faulty, spelt, Means, status_of, runs, accepted_text}
 use Rattle.rg_top.specs.Headline.{Runs, Untouched, CutOffAt}
 
 -- the status of a run
@@ -41,27 +43,49 @@ pub record Formatted (source : List ℕ) (old new : Option (List ℕ)) (m : Kept
   pub tree : Tree
   pub means : Means source (spelt tree)
   pub wrote : Appends old new (canon tree)
+  pub back : ParsesBack tree
+  pub fresh : IsFresh m
+
+-- the tree that the source spells is accepted, and that was written
+pub record Passed (source : List ℕ) (old new : Option (List ℕ)) (m : Kept) : Type 0 where
+  pub tree : Tree
+  pub means : Means source (spelt tree)
+  pub accepted : Accepted tree
+  pub wrote : Appends old new accepted_text
   pub fresh : IsFresh m
 
 -- a command that came to its end
 abbrev pub EndsWell : Command → List ℕ → (old new : Option (List ℕ)) → Kept → Type 0
 EndsWell (run file n) source old new m = RanWhole n source status.Done old new m
 EndsWell (fmt file) source old new m = Formatted source old new m
+EndsWell (check file) source old new m = Passed source old new m
 
 -- a run that didn't
 abbrev pub StopsRun : Command → List ℕ → Status → (old new : Option (List ℕ)) → Kept → Type 0
 StopsRun (run file n) source s old new m = RanWhole n source s old new m
 StopsRun (fmt file) source s old new m = ⊥
+StopsRun (check file) source s old new m = ⊥
 
--- a tree that can't be run
+-- the tree that the source spells has that first fault
+abbrev pub HasFault : List ℕ → Fault → Type 0
+HasFault source f = (t : Tree) × Means source (spelt t) × (first_fault t ≡ Some f)
+
+-- the checker's fault, where a command checks
+abbrev pub IsFaulted : Command → List ℕ → Fault → Type 0
+IsFaulted (run file n) source f = HasFault source f
+IsFaulted (fmt file) source f = ⊥
+IsFaulted (check file) source f = HasFault source f
+
+-- an accepted tree that can't be run
 abbrev pub CantRun : Command → List ℕ → Fault → Type 0
-CantRun (run file n) source f = (t : Tree) × Means source (spelt t) × (runs t ≡ None) × (f ≡ record { code = NotBuilt; line = t.line })
+CantRun (run file n) source f = (t : Tree) × Means source (spelt t) × Accepted t × (runs t ≡ None) × (f ≡ record { code = NotBuilt; line = t.line })
 CantRun (fmt file) source f = ⊥
+CantRun (check file) source f = ⊥
 
 -- what was answered to a source
 abbrev pub Settles : Command → List ℕ → Status → (old new : Option (List ℕ)) → Kept → Type 0
 Settles c source status.Done old new m = EndsWell c source old new m
-Settles c source (status.Refused f) old new m = (Means source (faulty f) ⊎ CantRun c source f) × Untouched m old new
+Settles c source (status.Refused f) old new m = (Means source (faulty f) ⊎ (IsFaulted c source f ⊎ CantRun c source f)) × Untouched m old new
 Settles c source status.Usage old new m = ⊥
 Settles c source (status.Trap kind line) old new m = StopsRun c source (status.Trap kind line) old new m
 Settles c source status.Spent old new m = StopsRun c source status.Spent old new m

@@ -3,47 +3,19 @@
 
 ghost use Rattle.std.specs.Prelude.{◌≡◌, ◌+◌, ◌≤◌, ◌⊎◌, [], ◌∷◌, ◌++◌, length, decimal, OnOk, OnErr};
 ghost use Rattle.arrayvec.specs.ArrayVec.{array_vec_len};
-ghost use Rattle.rg_base.specs.Diagnostics.{code_text};
 ghost use Rattle.rg_io.specs.Content.{Rose, Appends, AppendsPart};
 ghost use Rattle.rg_top.specs.Headline.{TookNotes};
 ghost use Rattle.rg_top.specs.Statuses.{status_text, trap_text};
 
 use crate::status::Status;
 use arrayvec::ArrayVec;
-use rg_base::{Code, Trap};
+use rg_base::Trap;
+use rg_check::code_text;
 use rg_io::{Failed, Sink, put_all};
 
 /// How the program is called.
 pub(crate) const USAGE: &[u8] =
     b"usage: reggio run FILE [--steps N] [--every N] [--report]; check FILE; fmt FILE; code FILE; plain FILE [--steps N]; bulk N\n";
-
-/// A code with its word.
-fn code_words(code: Code) -> &'static [u8]
-    ensures words { result.now ≡ code_text code }
-    ensures short { length result.now ≤ 20 }
-{
-    match code {
-        Code::Byte => b"E01 byte",
-        Code::Number => b"E02 number",
-        Code::Name => b"E03 name",
-        Code::Syntax => b"E10 syntax",
-        Code::Nesting => b"E11 nesting",
-        Code::Limit => b"E12 limit",
-        Code::Unknown => b"E20 unknown",
-        Code::Duplicate => b"E21 duplicate",
-        Code::BadType => b"E22 bad type",
-        Code::Mismatch => b"E30 mismatch",
-        Code::Unavailable => b"E31 unavailable",
-        Code::Capability => b"E32 capability",
-        Code::OutsideWindow => b"E33 outside window",
-        Code::Loop => b"E34 loop",
-        Code::Arity => b"E35 arity",
-        Code::IsoField => b"E36 iso field",
-        Code::Return => b"E37 return",
-        Code::CallTarget => b"E38 call target",
-        Code::NotBuilt => b"E90 not built",
-    }
-}
 
 /// The words of a trap.
 fn trap_words(kind: Trap) -> &'static [u8]
@@ -98,7 +70,7 @@ fn put_text<R: Sink>(notes: &mut R, status: Status, steps: u64) -> Result<(), Fa
     match status {
         Status::Done => put_all(notes, b""),
         Status::Refused(fault) => {
-            let line = numbered_line(code_words(fault.code), b" at line ", fault.line);
+            let line = numbered_line(code_text(fault.code), b" at line ", fault.line);
             put_all(notes, line.as_slice())
         }
         Status::Usage => put_all(notes, USAGE),

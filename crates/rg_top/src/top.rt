@@ -10,23 +10,25 @@ ghost use Rattle.rg_base.specs.Tokens.{cut};
 ghost use Rattle.rg_tree.specs.RowTrees.{program_of};
 ghost use Rattle.rg_io.specs.Content.{Rose};
 ghost use Rattle.rg_run.specs.Machine.{IsFresh, Kept};
-ghost use Rattle.rg_top.specs.Commands.{command, texts, run, fmt, file_of, steps_of};
+ghost use Rattle.rg_rules.specs.Names.{FewNames};
+ghost use Rattle.rg_top.specs.Commands.{command, texts, run, fmt, check, file_of, steps_of};
 ghost use Rattle.rg_top.specs.Requests.{command_of};
 ghost use Rattle.rg_top.specs.Statuses.{is_run, is_answer, is_refusal, is_cut_off};
 ghost use Rattle.rg_top.specs.Expected.{spelt, Means, IsStuck, SpellsTree, ExpectsStatus};
-ghost use Rattle.rg_top.specs.Headline.{ForSource, WhereTold, Exactly, Wrote, ShowsEnd, Untouched, CutOffAt, TookNotes, steps_asked};
+ghost use Rattle.rg_top.specs.Headline.{ForSource, WhereTold, Exactly, Wrote, ShowsEnd, ReadsBack, Untouched, CutOffAt, TookNotes, steps_asked};
 ghost use Rattle.rg_top.specs.Settled.{status_of_ended, Settles, SettlesFile};
 
 use crate::notes::tell;
 use crate::status::Status;
 use crate::words::{self, Request};
 use rg_base::{Code, Ended, Fault, SOURCE_BYTES, Stop};
+use rg_check::{Accepted, check, spelt_has_few_names};
 use rg_io::{Files, Sink, Source, Taken, put_all, take_all};
 use rg_lex::tokens;
 use rg_parse::{parse, thin};
 use rg_print::text;
 use rg_run::Machine;
-use rg_tree::Program;
+use rg_tree::{Program, canon_parses_back};
 use std::alloc::Global;
 
 /// The status of a run.
@@ -47,9 +49,11 @@ fn status_of(ended: Ended) -> Status
 fn read(alloc: Global, source: &[u8]) -> Result<Program, Stop>
     requires { length source.now ≤ SOURCE_BYTES }
     ensures ok { IfOk result (λ p. SpellsTree source.now (program_of p)) }
+    ensures names { IfOk result (λ p. FewNames (program_of p)) }
     ensures fault { (f : Fault) → result ≡ Err (Stop.Fault f) →
         (cut source.now ≡ Err f) ⊎ IsStuck source.now f }
 {
+    spelt_has_few_names();
     let found = match tokens(alloc, source) {
         Ok(found) => found,
         Err(stop) => return Err(stop),
@@ -57,22 +61,24 @@ fn read(alloc: Global, source: &[u8]) -> Result<Program, Stop>
     parse(alloc, source, &found)
 }
 
-/// Runs a program for at most so many steps.
-fn run_program<O: Sink>(
+/// Runs an accepted program for at most so many steps.
+fn run_accepted<O: Sink>(
     alloc: Global,
-    program: &Program,
+    accepted: &Accepted,
     steps: u64,
     out: &mut O,
     machine: &mut Machine,
 ) -> Status
     requires { IsFresh machine.old }
-    ensures settles { (file source : List ℕ) → Means source (spelt (program_of program.now)) →
+    ensures settles { (file source : List ℕ) →
+        Means source (spelt (program_of accepted.now.program)) →
         Settles (run file steps) source result
         (O.taken out.old) (O.taken out.new) machine.new }
     ensures output_fault { result ≡ Status.OutputFault →
         Rose (O.faults out.old) (O.faults out.new) }
     ensures never_falls { O.faults out.old ≤ O.faults out.new }
 {
+    let program = accepted.program();
     match thin(alloc, program) {
         Err(_) => Status::Memory,
         Ok(None) => Status::Refused(Fault {
@@ -80,6 +86,50 @@ fn run_program<O: Sink>(
             line: program.main_line(),
         }),
         Ok(Some(thin)) => status_of(machine.run(&thin, steps, out)),
+    }
+}
+
+/// Runs a program, if it is accepted, for at most so many steps.
+fn run_program<O: Sink>(
+    alloc: Global,
+    program: Program,
+    steps: u64,
+    out: &mut O,
+    machine: &mut Machine,
+) -> Status
+    requires fresh { IsFresh machine.old }
+    requires names { FewNames (program_of program) }
+    ensures settles { (file source : List ℕ) → Means source (spelt (program_of program)) →
+        Settles (run file steps) source result
+        (O.taken out.old) (O.taken out.new) machine.new }
+    ensures output_fault { result ≡ Status.OutputFault →
+        Rose (O.faults out.old) (O.faults out.new) }
+    ensures never_falls { O.faults out.old ≤ O.faults out.new }
+{
+    match check(alloc, program) {
+        Err(Stop::Fault(fault)) => Status::Refused(fault),
+        Err(Stop::Memory) => Status::Memory,
+        Ok(accepted) => run_accepted(alloc, &accepted, steps, out, machine),
+    }
+}
+
+/// Says of a program that it is accepted, if it is.
+fn check_program<O: Sink>(alloc: Global, program: Program, out: &mut O) -> Status
+    requires { FewNames (program_of program) }
+    ensures settles { (file source : List ℕ) (m : Kept) →
+        Means source (spelt (program_of program)) → IsFresh m →
+        Settles (check file) source result (O.taken out.old) (O.taken out.new) m }
+    ensures output_fault { result ≡ Status.OutputFault →
+        Rose (O.faults out.old) (O.faults out.new) }
+    ensures never_falls { O.faults out.old ≤ O.faults out.new }
+{
+    match check(alloc, program) {
+        Err(Stop::Fault(fault)) => Status::Refused(fault),
+        Err(Stop::Memory) => Status::Memory,
+        Ok(_) => match put_all(out, b"accepted\n") {
+            Ok(()) => Status::Done,
+            Err(_) => Status::OutputFault,
+        },
     }
 }
 
@@ -92,6 +142,7 @@ fn format_program<O: Sink>(alloc: Global, program: &Program, out: &mut O) -> Sta
         Rose (O.faults out.old) (O.faults out.new) }
     ensures never_falls { O.faults out.old ≤ O.faults out.new }
 {
+    canon_parses_back();
     match text(alloc, program) {
         Err(_) => Status::Memory,
         Ok(canonical) => match put_all(out, canonical.bytes()) {
@@ -123,8 +174,9 @@ fn answer_source<O: Sink>(
         Ok(program) => program,
     };
     match request {
-        Request::Run { steps, .. } => run_program(alloc, &program, steps, out, machine),
+        Request::Run { steps, .. } => run_program(alloc, program, steps, out, machine),
         Request::Format { .. } => format_program(alloc, &program, out),
+        Request::Check { .. } => check_program(alloc, program, out),
     }
 }
 
@@ -160,7 +212,7 @@ fn file_of(request: Request<'_>) -> &str
 {
     match request {
         Request::Run { file, .. } => file,
-        Request::Format { file } => file,
+        Request::Format { file } | Request::Check { file } => file,
     }
 }
 
@@ -170,7 +222,7 @@ fn steps_of(request: Request<'_>) -> u64
 {
     match request {
         Request::Run { steps, .. } => steps,
-        Request::Format { .. } => 0,
+        Request::Format { .. } | Request::Check { .. } => 0,
     }
 }
 
@@ -192,6 +244,8 @@ pub fn reggio<F: Files, I: Source, O: Sink, R: Sink>(
         (λ c source. Wrote c source result (O.taken out.old) (O.taken out.new))) }
     ensures state { OnTrue (is_run result) (ForSource (F.told files.old) (texts words.now)
         (λ c source. ShowsEnd c source machine.new)) }
+    ensures reads_back { OnTrue (is_run result) (ForSource (F.told files.old) (texts words.now)
+        (λ c source. ReadsBack c source (O.taken out.old) (O.taken out.new))) }
     ensures untouched { OnTrue (is_refusal result)
         (Untouched machine.new (O.taken out.old) (O.taken out.new)) }
     ensures cut_off { OnTrue (is_cut_off result)

@@ -16,6 +16,8 @@ pub(crate) enum Request<'a> {
     Run { file: &'a str, steps: u64 },
     /// `fmt FILE`
     Format { file: &'a str },
+    /// `check FILE`
+    Check { file: &'a str },
 }
 
 /// Whether a word can name a file.
@@ -121,6 +123,12 @@ pub(crate) fn command<'a>(words: &[&'a str]) -> Option<Request<'a>>
     if *name == "fmt" {
         return match options {
             [] => Some(Request::Format { file }),
+            [_, ..] => None,
+        };
+    }
+    if *name == "check" {
+        return match options {
+            [] => Some(Request::Check { file }),
             [_, ..] => None,
         };
     }

@@ -4,7 +4,13 @@ pub returns-in-Run-clause-settles : goal.returns-in-Run-clause-settles
 returns-in-Run-clause-settles g c =
     rw c.in-Run.is (c.run_program.ensures.settles c.in-Run.file.now c.args.source.now (c.requires.fits, c.in-Ok.ensures.ok))
 
-pub returns-clause-settles : goal.returns-clause-settles
-returns-clause-settles g c =
+pub returns-in-Format-clause-settles : goal.returns-in-Format-clause-settles
+returns-in-Format-clause-settles g c =
     rw c.in-Format.is
-    (c.format_program.ensures.settles c.in-Format.file.now c.args.source.now c.args.machine.now (c.requires.fits, c.in-Ok.ensures.ok) c.requires.fresh)
+    (c.format_program.ensures.settles c.in-Format.file.now c.args.source.now c.args.machine.now (c.requires.fits, c.in-Ok.ensures.ok)
+    c.requires.fresh)
+
+pub returns-in-Check-clause-settles : goal.returns-in-Check-clause-settles
+returns-in-Check-clause-settles g c =
+    rw c.in-Check.is
+    (c.check_program.ensures.settles c.in-Check.file.now c.args.source.now c.args.machine.now (c.requires.fits, c.in-Ok.ensures.ok) c.requires.fresh)

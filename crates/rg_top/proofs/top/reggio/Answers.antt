@@ -3,7 +3,7 @@ use Rattle.std.proofs.Common.{refl, inl, inr}
 use Rattle.rg_top.specs.declared.status.Status.TheVariants as status
 use Rattle.rg_top.specs.Commands.{texts}
 use Rattle.rg_top.specs.Requests.{command_of}
-use Rattle.rg_top.proofs.AnswerLemmas.{Answered, answer-text, answer-state, answer-cut, answer-exactly, answer-complete, answer-input, given-source_fault}
+use Rattle.rg_top.proofs.AnswerLemmas.{Answered, answer-text, answer-state, answer-back, answer-cut, answer-exactly, answer-complete, answer-input, given-source_fault}
 use Rattle.rg_top.proofs.top.reggio.Given.{Over}
 use Rattle.rg_top.proofs.top.reggio.Goals as goal
 
@@ -23,6 +23,9 @@ returns-in-Some-clause-text g c = answer-text (answered g c)
 
 pub returns-in-Some-clause-state : goal.returns-in-Some-clause-state
 returns-in-Some-clause-state g c = answer-state (answered g c)
+
+pub returns-in-Some-clause-reads_back : goal.returns-in-Some-clause-reads_back
+returns-in-Some-clause-reads_back g c = answer-back (answered g c)
 
 pub returns-in-Some-clause-cut_off : goal.returns-in-Some-clause-cut_off
 returns-in-Some-clause-cut_off g c = answer-cut (answered g c)

@@ -1,0 +1,60 @@
+//! The cells of the table of rows, as the bytes that they stand for.
+
+use std::alloc::Global;
+
+/// `before[count:text]behind`
+#[derive(Drop)]
+struct Repeated<'a> {
+    before: &'a str,
+    count: u32,
+    text: &'a str,
+    behind: &'a str,
+}
+
+/// The first repetition of a cell.
+fn first_repetition(cell: &str) -> Option<Repeated<'_>> {
+    let (before, rest) = cell.split_once('[')?;
+    let (inside, behind) = rest.split_once(']')?;
+    let (count, text) = inside.split_once(':')?;
+    Some(Repeated {
+        before,
+        count: count.parse().ok()?,
+        text,
+        behind,
+    })
+}
+
+/// Appends a text, in which `~` is the end of a line and `#` a number; None where no memory was
+/// found.
+fn append(alloc: Global, text: &str, number: u32, bytes: &mut Vec<u8>) -> Option<()> {
+    for byte in text.bytes() {
+        match byte {
+            b'~' => bytes.push(b'\n').ok()?,
+            b'#' => {
+                let digits = format!(in alloc; "{number}").ok()?;
+                bytes.extend_from_slice(digits.as_bytes()).ok()?;
+            }
+            other => bytes.push(other).ok()?,
+        }
+    }
+    Some(())
+}
+
+/// What a cell stands for: `~` is the end of a line, and `[N:TEXT]` is TEXT N times, where `#` is
+/// the number of the time, from 0. None where no memory was found.
+pub fn expanded(alloc: Global, cell: &str) -> Option<Vec<u8>> {
+    let mut bytes = Vec::new(alloc);
+    let mut rest = cell;
+    for _ in 0..cell.len() {
+        let Some(first) = first_repetition(rest) else {
+            break;
+        };
+        append(alloc, first.before, 0, &mut bytes)?;
+        for number in 0..first.count {
+            append(alloc, first.text, number, &mut bytes)?;
+        }
+        rest = first.behind;
+    }
+    append(alloc, rest, 0, &mut bytes)?;
+    Some(bytes)
+}

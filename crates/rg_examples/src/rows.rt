@@ -1,0 +1,74 @@
+//! The table of rows: calls on one file, `a`, with what each writes.
+
+use crate::calls::call;
+use crate::cells::expanded;
+use rg_io::MemFiles;
+use std::alloc::Global;
+
+/// A row: `words | source | output | notes | status`.
+#[derive(Drop)]
+struct Row<'a> {
+    words: &'a str,
+    source: &'a str,
+    output: &'a str,
+    notes: &'a str,
+    status: &'a str,
+}
+
+/// Whether a row gives what it says.
+pub enum Verdict {
+    /// an empty line, or a comment, which begins with `-- `
+    NoRow,
+    AsExpected,
+    /// something else, or no row at all
+    Other,
+    OutOfMemory,
+}
+
+/// The cells of a row.
+fn cells(line: &str) -> Option<Row<'_>> {
+    let (words, rest) = line.split_once('|')?;
+    let (source, rest) = rest.split_once('|')?;
+    let (output, rest) = rest.split_once('|')?;
+    let (notes, status) = rest.split_once('|')?;
+    Some(Row {
+        words,
+        source: source.trim(),
+        output: output.trim(),
+        notes: notes.trim(),
+        status: status.trim(),
+    })
+}
+
+/// Whether the call of a row gives what it says; None where no memory was found.
+fn gives(alloc: Global, row: &Row<'_>) -> Option<bool> {
+    let mut words = Vec::new(alloc);
+    for word in row.words.split_whitespace() {
+        words.push(word).ok()?;
+    }
+    let mut files = MemFiles::new(alloc);
+    files.add("a", &expanded(alloc, row.source)?).ok()?;
+    let called = call(alloc, &words, &mut files)?;
+    let output = expanded(alloc, row.output)?;
+    let notes = expanded(alloc, row.notes)?;
+    Some(
+        row.status.parse() == Ok(called.status)
+            && called.out.taken() == output.as_slice()
+            && called.notes.taken() == notes.as_slice(),
+    )
+}
+
+/// What is to be said of a line of the table.
+pub fn judge(alloc: Global, line: &str) -> Verdict {
+    if line.is_empty() || line.starts_with("-- ") {
+        return Verdict::NoRow;
+    }
+    let Some(row) = cells(line) else {
+        return Verdict::Other;
+    };
+    match gives(alloc, &row) {
+        Some(true) => Verdict::AsExpected,
+        Some(false) => Verdict::Other,
+        None => Verdict::OutOfMemory,
+    }
+}
