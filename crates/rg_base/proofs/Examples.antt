@@ -80,7 +80,7 @@ fault_on_the_second_line : cut (10 ∷ codes "! x") ≡ Err (fault code.Byte 2)
 unfolding front cut_from
 fault_on_the_second_line = refl
 
-text_of_a_fault : fault_text (fault code.NotBuilt (end_line [])) ≡ codes "E90 not built at line 1" ++ 10 ∷ []
+text_of_a_fault : fault_text (fault code.Loop (end_line [])) ≡ codes "E34 loop at line 1" ++ 10 ∷ []
 unfolding digits
 text_of_a_fault = refl
 

@@ -1,7 +1,7 @@
 -- The codes and words of the diagnostics, and the text of a fault (docs/language.md, "Diagnostics").
 use Rattle.std.specs.Prelude.{ℕ, List, [], ◌∷◌, ◌++◌, codes, decimal}
 use Rattle.rg_base.specs.declared.fault.Code.{Code}
-use Rattle.rg_base.specs.declared.fault.Code.TheVariants.{Byte, Number, Name, Syntax, Nesting, Limit, Unknown, Duplicate, BadType, Mismatch, Unavailable, Capability, OutsideWindow, Loop, Arity, IsoField, Return, CallTarget, NotBuilt}
+use Rattle.rg_base.specs.declared.fault.Code.TheVariants.{Byte, Number, Name, Syntax, Nesting, Limit, Unknown, Duplicate, BadType, Mismatch, Unavailable, Capability, OutsideWindow, Loop, Arity, IsoField, Return, CallTarget}
 use Rattle.rg_base.specs.declared.fault.Fault.{Fault}
 
 -- a code with its word
@@ -24,7 +24,6 @@ code_text Arity = codes "E35 arity"
 code_text IsoField = codes "E36 iso field"
 code_text Return = codes "E37 return"
 code_text CallTarget = codes "E38 call target"
-code_text NotBuilt = codes "E90 not built"
 
 -- a fault, with its line and the end of the line
 abbrev pub fault_text : Fault → List ℕ

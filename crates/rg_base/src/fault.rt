@@ -43,8 +43,6 @@ pub enum Code {
     Return,
     /// `E38 call target`: a call whose result goes into a field
     CallTarget,
-    /// `E90 not built`: a form of the language that can't be run yet
-    NotBuilt,
 }
 
 /// A diagnostic at a line, counted from 1.

@@ -31,7 +31,6 @@ pub fn code_text(code: Code) -> &'static [u8]
         Code::IsoField => b"E36 iso field",
         Code::Return => b"E37 return",
         Code::CallTarget => b"E38 call target",
-        Code::NotBuilt => b"E90 not built",
     }
 }
 

@@ -4,7 +4,6 @@ mod Firsts
 mod Growing
 mod Halting
 mod Loops
-mod NameLemmas
 mod PathRows
 mod ProgramRows
 mod Ranks
@@ -12,6 +11,5 @@ mod RightRows
 mod SpanLemmas
 mod StmtRows
 mod StuckSources
-mod ThinLemmas
 mod Tokens
 mod TypeRows

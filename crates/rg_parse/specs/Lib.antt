@@ -3,12 +3,8 @@ pub mod Heads
 pub mod Levels
 pub mod Lists
 pub mod Near
-pub mod Numbering
 pub mod Programs
 pub mod Readings
 pub mod Roles
-pub mod Said
 pub mod Starts
 pub mod Steps
-pub mod ThinTrees
-pub mod Tree

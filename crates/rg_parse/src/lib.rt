@@ -1,5 +1,4 @@
-//! Reads the tokens of a source: its tree, or its first fault; and the thin program that a tree is
-//! (docs/language.md, "Grammar", "What runs today").
+//! Reads the tokens of a source: its tree, or its first fault (docs/language.md, "Grammar").
 #![tactic(auto)]
 
 mod blocks;
@@ -10,20 +9,15 @@ mod halt;
 mod kinds;
 mod level;
 mod limits;
-mod names;
-mod of_tree;
 mod paths;
 mod reader;
 mod rights;
 mod source;
 mod starts;
-mod statement;
 mod stmts;
 #[cfg(test)]
 mod tests;
 mod types;
 mod whole;
 
-pub use of_tree::thin;
-pub use statement::{Thin, ThinStmt};
 pub use whole::parse;
