@@ -1,4 +1,5 @@
 mod DigitLemmas
 mod HeldLemmas
+pub mod InputLemmas
 mod NextLemmas
 mod ReadLemmas

@@ -1,26 +1,15 @@
 -- What bytes that were read say of the next number.
-use Rattle.std.proofs.Common.{◌≡◌, ℕ, zero, suc, ◌<◌, ◌≤◌, nat_lt, ◌⊎◌, inl, inr, ◌||◌, true, false, List, [], ◌∷◌, ◌++◌, length, Option, Some, None, option_map, refl, sym, ◌∙◌, ap, append_assoc, append-nil, is_some, Bool, arith}
+use Rattle.std.proofs.Common.{◌≡◌, ℕ, zero, suc, ◌<◌, ◌≤◌, nat_lt, ◌⊎◌, inl, inr, ◌||◌, true, false, List, [], ◌∷◌, ◌++◌, length, Option, Some, None, refl, sym, ◌∙◌, ap, append_assoc, append-nil, is_some, Bool, arith}
 use Rattle.std.specs.List.{list_all, list_any, prefix_len}
 use Rattle.std.specs.Option.{option_to_list}
 use Rattle.std.proofs.lemmas.Bool.Decides.{nat_tests}
 use Rattle.rg_base.specs.declared.limits.TheConstants.{INPUT_BLANKS, INPUT_TOKEN}
 use Rattle.rg_base.specs.Input.{malformed, at_end, skip_blanks, behind_blanks, found_or_malformed, token_number, next_number}
 use Rattle.rg_base.specs.Pieces.{is_blank}
-use Rattle.rg_io.specs.Content.{Gives}
-use Rattle.rg_io.proofs.ContentLemmas.{Gives-more}
-use Rattle.rg_input.specs.Read.{is_in_token, is_whole_behind, is_whole, IsRead, read_bytes, is_enough, Reads}
+use Rattle.rg_input.specs.Read.{is_in_token, is_whole_behind, is_whole, IsRead, read_bytes, is_enough}
 use Rattle.rg_input.proofs.NextLemmas.{both-first, both-second, not-true, next-past, starts_no_blank, skip_blanks-all, next-token, next-long, token_number-long}
 use Rattle.std.proofs.lemmas.Bool.{false≢true, cases_lt}
 use Rattle.std.proofs.lemmas.List.Folds.{list_any-append}
-
--- one more byte came
-pub Reads-more : (a b c : Option (List ℕ)) (first held new : List ℕ) (byte : ℕ) →
-    Reads a b first held → Gives b c (byte ∷ []) → new ≡ held ++ byte ∷ [] → Reads a c first new
-Reads-more a b c first held new byte r given new_is = record {
-  read = r.read ++ byte ∷ [];
-  given = Gives-more a b c r.read (byte ∷ []) r.given given;
-  kept = new_is ∙ ap (λ q. q ++ byte ∷ []) r.kept ∙ append_assoc first r.read (byte ∷ []);
-}
 
 -- the parts of what was read, from the left
 grouped : (blanks token behind more : List ℕ) → (blanks ++ token ++ behind) ++ more ≡ blanks ++ (token ++ (behind ++ more))
@@ -32,11 +21,6 @@ pub says_past : (blanks token : List ℕ) (behind : Option ℕ) (more : List ℕ
 says_past blanks token behind more read past =
     rw (grouped blanks token (option_to_list behind) more)
     (next-past INPUT_BLANKS blanks (token ++ (option_to_list behind ++ more)) read.blanks_alone past)
-
--- where no token was read nothing stands behind it
-pub behind_none : (blanks token : List ℕ) (behind : Option ℕ) → IsRead blanks token behind → length token ≡ 0 → behind ≡ None
-behind_none blanks token None read none = refl
-behind_none blanks token (Some b) read none = absurd (omega (arith, (read.behind_a_token b refl).1))
 
 -- no blank comes first in a token and what stands behind it
 token-first : (blanks token : List ℕ) (behind : Option ℕ) (more : List ℕ) → IsRead blanks token behind → (0 < length token) ⊎ (more ≡ []) →
@@ -85,18 +69,6 @@ says_token blanks token behind more read few some end =
     (rw (skip_blanks-all INPUT_BLANKS blanks (token ++ (option_to_list behind ++ more)) read.blanks_alone few
     (token-first blanks token behind more read (inl some)))
     (token_says blanks token behind more read few some end))
-
--- the bytes left stay where some of them are read
-pub bytes_left-read : (old new : Option (List ℕ)) (held more : List ℕ) → Reads old new held more →
-    option_map (λ bytes. more ++ bytes) new ≡ option_map (λ bytes. held ++ bytes) old
-bytes_left-read None new held more r = rw r.given refl
-bytes_left-read (Some left) new held more r =
-    let rest : List ℕ = r.given.0 in
-    let whole : left ≡ r.read ++ rest = r.given.1 in
-    let new_is : new ≡ Some rest = r.given.2 in
-    let bytes : more ++ rest ≡ held ++ left =
-    ap (λ q. q ++ rest) r.kept ∙ append_assoc held r.read rest ∙ ap (λ q. held ++ q) (sym whole) in
-    rw new_is (ap Some bytes)
 
 -- more blanks than may be skipped are enough
 whole-past : (n : ℕ) (blanks more : List ℕ) → list_all is_blank blanks ≡ true → n < length blanks →

@@ -1,7 +1,8 @@
 -- The bytes that are held, and what they say.
-use Rattle.std.specs.Prelude.{◌≡◌, ℕ, ◌⊎◌, true, Bool, List, [], ◌++◌, Option, IfSome}
+use Rattle.std.specs.Prelude.{◌≡◌, ℕ, ◌⊎◌, true, Bool, List, [], ◌++◌, Option}
 use Rattle.std.specs.Option.{option_to_list}
 use Rattle.rg_base.specs.Input.{NextNumber, found, malformed, at_end, next_number}
+use Rattle.rg_io.specs.Content.{Gives}
 use Rattle.rg_input.specs.declared.held.Held.{Held}
 use Rattle.rg_input.specs.declared.held.Verdict.{Verdict}
 use Rattle.rg_input.specs.declared.held.Verdict.TheVariants as says
@@ -14,9 +15,20 @@ use Rattle.rg_input.specs.Read.{read_bytes, is_enough}
 abbrev pub pending : Held → Pending
 pending h = record { held = read_bytes h.blanks.items h.token.items h.behind; ended = h.ended }
 
+-- bytes came from a source, and were kept behind those that were held; none came where it had ended
+pub record Reads (old_left new_left : Option (List ℕ)) (old new : Pending) : Type 0 where
+  pub read : List ℕ
+  pub given : Gives old_left new_left read
+  pub kept : new.held ≡ old.held ++ read
+  pub ended : old.ended ≡ true → (read ≡ []) × (new.ended ≡ true)
+
 -- whether what is held says what the next number is, whatever comes
 abbrev pub has_enough : Held → Bool
 has_enough h = is_enough h.blanks.items h.token.items h.behind
+
+-- no more has to be read, or no more comes
+abbrev pub IsWhole : Held → Type 0
+IsWhole h = (has_enough h ≡ true) ⊎ (h.ended ≡ true)
 
 -- a verdict, with what stands behind the token
 abbrev pub with_rest : Verdict → List ℕ → NextNumber
@@ -40,7 +52,3 @@ abbrev pub verdict_of : NumberRefusal → Verdict
 verdict_of no.End = says.End
 verdict_of no.Input = says.Malformed
 verdict_of no.InputFault = says.Malformed
-
--- a verdict on the bytes that are left, where the source tells them
-abbrev pub Tells : Held → Option (List ℕ) → Verdict → Type 0
-Tells h left v = IfSome left (λ more. next_number ((pending h).held ++ more) ≡ with_rest v (option_to_list h.behind ++ more))

@@ -5,7 +5,6 @@ use Rattle.std.specs.Option.{ForSome, option_to_list}
 use Rattle.rg_base.specs.declared.limits.TheConstants.{INPUT_BLANKS, INPUT_TOKEN}
 use Rattle.rg_base.specs.Input.{skip_blanks}
 use Rattle.rg_base.specs.Pieces.{is_blank}
-use Rattle.rg_io.specs.Content.{Gives}
 
 -- a byte of a token
 abbrev pub is_in_token : ℕ → Bool
@@ -34,9 +33,3 @@ is_whole_behind (b ∷ bytes) = list_any is_blank (b ∷ bytes) || nat_lt INPUT_
 -- whether bytes say what the next number is, whatever stands behind them
 abbrev pub is_whole : List ℕ → Bool
 is_whole bytes = is_whole_behind (skip_blanks INPUT_BLANKS bytes)
-
--- bytes came from a source, and were kept behind those that were held
-pub record Reads (old_left new_left : Option (List ℕ)) (old_held new_held : List ℕ) : Type 0 where
-  pub read : List ℕ
-  pub given : Gives old_left new_left read
-  pub kept : new_held ≡ old_held ++ read

@@ -5,8 +5,8 @@ ghost use Rattle.std.specs.Prelude.{IfOk, OnOk, OnErr, IfSome, IsOk};
 ghost use Rattle.std.specs.Option.{option_to_list};
 ghost use Rattle.rg_base.specs.Pieces.{is_blank};
 ghost use Rattle.rg_io.specs.Content.{Rose, Gives};
-ghost use Rattle.rg_input.specs.Read.{IsRead, Reads};
-ghost use Rattle.rg_input.specs.Numbers.{Follows, bytes_left, Refuses};
+ghost use Rattle.rg_input.specs.Read.{IsRead};
+ghost use Rattle.rg_input.specs.Numbers.{Follows, Refuses};
 
 use crate::number::token_number;
 use crate::refusal::{InputFault, NumberRefusal};
@@ -63,8 +63,8 @@ fn next_byte<S: Source>(source: &mut S) -> Result<Option<u8>, InputFault>
 }
 
 impl Held {
-    ghost use Rattle.rg_input.specs.Held.{pending, has_enough, Says};
-    ghost use Rattle.rg_input.specs.Held.{Tells, Settled, verdict_of};
+    ghost use Rattle.rg_input.specs.Held.{pending, has_enough, Reads, IsWhole};
+    ghost use Rattle.rg_input.specs.Held.{Says, Settled, verdict_of};
 
     /// Nothing was read.
     pub(crate) fn new() -> Held
@@ -105,12 +105,11 @@ impl Held {
         requires { Follows (pending self.old) (S.left source.old) }
         ensures follows { Follows (pending self.new) (S.left source.new) }
         ensures reads { Reads (S.left source.old) (S.left source.new)
-            (pending self.old).held (pending self.new).held }
-        ensures whole { OnOk result ((has_enough self.new ≡ true) ⊎ (self.new.ended ≡ true)) }
+            (pending self.old) (pending self.new) }
+        ensures whole { OnOk result (IsWhole self.new) }
         ensures fault { OnErr result (Rose (S.faults source.old) (S.faults source.new)) }
         ensures never_falls { S.faults source.old ≤ S.faults source.new }
-        ensures idle { (has_enough self.old ≡ true) ⊎ (self.old.ended ≡ true) →
-            IsOk result × (self.new ≡ self.old) }
+        ensures idle { IsWhole self.old → IsOk result × (self.new ≡ self.old) }
     {
         if self.ended {
             return Ok(());
@@ -149,9 +148,10 @@ impl Held {
         requires { Follows (pending self.old) (S.left source.old) }
         ensures follows { Follows (pending self.new) (S.left source.new) }
 
-        ensures kept { bytes_left (pending self.new) (S.left source.new)
-            ≡ bytes_left (pending self.old) (S.left source.old) }
-        ensures tells { IfOk result (Tells self.new (S.left source.new)) }
+        ensures reads { Reads (S.left source.old) (S.left source.new)
+            (pending self.old) (pending self.new) }
+        ensures whole { OnOk result (IsWhole self.new) }
+        ensures says { IfOk result (Says self.new) }
         ensures settled { IfOk result (λ verdict. Settled verdict (pending self.new)) }
         ensures refused { (why : NumberRefusal) → Refuses (pending self.old) why →
             (result ≡ Ok (verdict_of why)) × (self.new ≡ self.old) }

@@ -1,10 +1,9 @@
 //! The numbers of an input, one after another (docs/language.md, "Input numbers").
 
-ghost use Rattle.std.specs.Prelude.{◌≡◌, ◌≤◌, false, [], IfOk, OnErr, IfErr, IfSome};
-ghost use Rattle.rg_base.specs.Input.{next_number};
+ghost use Rattle.std.specs.Prelude.{◌≡◌, ◌≤◌, false, [], OnErr, IfErr};
 ghost use Rattle.rg_io.specs.Content.{Rose};
-ghost use Rattle.rg_input.specs.Numbers.{bytes_left, Follows, is_more, is_input};
-ghost use Rattle.rg_input.specs.Numbers.{Answers, Refuses, Stays};
+ghost use Rattle.rg_input.specs.Numbers.{Follows, OnInput, Looks, Answers};
+ghost use Rattle.rg_input.specs.Numbers.{is_input, Refuses, Stays};
 
 use crate::held::{Held, Verdict};
 use crate::refusal::{InputFault, NumberRefusal};
@@ -40,10 +39,8 @@ impl Numbers {
         requires { Follows self.old (S.left source.old) }
         ensures follows { Follows self.new (S.left source.new) }
 
-        ensures more { IfOk result (λ b. IfSome (bytes_left self.old (S.left source.old))
-            (λ bytes. b ≡ is_more (next_number bytes))) }
-        ensures kept { bytes_left self.new (S.left source.new)
-            ≡ bytes_left self.old (S.left source.old) }
+        ensures looks { OnInput self.old self.new (S.left source.old) (S.left source.new)
+            (Looks result) }
         ensures refused { (why : NumberRefusal) → Refuses self.old why →
             (result ≡ Ok (is_input why)) × (self.new ≡ self.old) }
 
@@ -61,8 +58,8 @@ impl Numbers {
         requires { Follows self.old (S.left source.old) }
         ensures follows { Follows self.new (S.left source.new) }
 
-        ensures answers { Answers result (bytes_left self.old (S.left source.old))
-            (bytes_left self.new (S.left source.new)) }
+        ensures answers { OnInput self.old self.new (S.left source.old) (S.left source.new)
+            (Answers result) }
         ensures stays { IfErr result (Stays self.new) }
         ensures refused { (why : NumberRefusal) → Refuses self.old why →
             (result ≡ Err why) × (self.new ≡ self.old) }

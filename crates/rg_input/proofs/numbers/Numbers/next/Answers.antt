@@ -1,17 +1,33 @@
-use Rattle.std.proofs.Common.{◌≡◌, ◌∙◌, sym, ap, subst, Err, to_z, of_z, w64, arith}
+use Rattle.std.proofs.Common.{◌≡◌, ◌∙◌, sym, ap, subst, refl, Ok, Err, to_z, of_z, w64, arith}
 use Rattle.std.proofs.lemmas.Int.{to_z-of_z}
-use Rattle.rg_input.specs.Numbers.{bytes_left, Pending, Refuses}
+use Rattle.rg_input.specs.declared.refusal.NumberRefusal.TheVariants as no
+use Rattle.rg_input.specs.Numbers.{Pending, Refuses, OnInput, Answers}
 use Rattle.rg_input.specs.Held.{pending, verdict_of}
-use Rattle.rg_input.proofs.HeldLemmas.{answers_found, refusal-end}
+use Rattle.rg_input.proofs.HeldLemmas.{OnInput-read, found-said, malformed-said, refusal-end}
 use Rattle.rg_input.proofs.numbers.Numbers.next.Goals as goal
 
 pub returns-in-Ok-Number-clause-answers : goal.returns-in-Ok-Number-clause-answers
 returns-in-Ok-Number-clause-answers g c =
-    let z_is : to_z w64 (of_z w64 c.in-Ok-Number.z) ≡ c.in-Ok-Number.z = grind (arith, to_z-of_z) in
+    let z = c.in-Ok-Number.z in
+    let z_is : to_z w64 (of_z w64 z) ≡ z = grind (arith, to_z-of_z) in
+    let old_left = g.S.Source.left c.args.source.now in
+    let left = g.S.Source.left c.look.new.source in
+    let h = c.look.new.self in
+    let new = pending c.take_token.new.self in
     rw z_is
-    (answers_found _ _ _ _ _ c.in-Ok-Number.z
-    (c.in-Ok-Number.ensures.kept ∙ ap (λ n. bytes_left n (g.S.Source.left c.args.source.now)) c.self.view_is)
-    (rw c.in-Ok-Number.field-0-is at c.in-Ok-Number.ensures.tells) c.take_token.ensures.held)
+    (subst (λ n. OnInput n new old_left left (Answers (Ok z))) c.self.view_is
+    (OnInput-read (pending c.self.inside.held) (pending h) new old_left left (Answers (Ok z)) c.look.ensures.reads c.take_token.ensures.ended
+    (found-said h left c.in-Ok-Number.field-0 z new c.in-Ok-Number.ensures.says c.in-Ok-Number.ensures.whole c.in-Ok-Number.field-0-is
+    c.take_token.ensures.held)))
+
+pub returns-in-Ok-Malformed-clause-answers : goal.returns-in-Ok-Malformed-clause-answers
+returns-in-Ok-Malformed-clause-answers g c =
+    let old_left = g.S.Source.left c.args.source.now in
+    let left = g.S.Source.left c.look.new.source in
+    let h = c.look.new.self in
+    subst (λ n. OnInput n (pending h) old_left left (Answers (Err no.Input))) c.self.view_is
+    (OnInput-read (pending c.self.inside.held) (pending h) (pending h) old_left left (Answers (Err no.Input)) c.look.ensures.reads refl
+    (malformed-said h left c.in-Ok-Malformed.field-0 c.in-Ok-Malformed.ensures.says c.in-Ok-Malformed.ensures.whole c.in-Ok-Malformed.field-0-is))
 
 pub returns-in-Ok-End-clause-refused : goal.returns-in-Ok-End-clause-refused
 returns-in-Ok-End-clause-refused g c why refused =
