@@ -50,13 +50,6 @@ TypedAs-result called new wanted ty o r e is h = rw (e, is) h
 
 -- What a receiver leads to.
 
-pub LeadsAs-ref : (class : ℕ) (cap : Cap) → cap ≢ Iso → LeadsAs (follow (Ref cap class)) (Ok class)
-LeadsAs-ref class Mut n = (record { cap = Mut; class = class }, refl, refl)
-LeadsAs-ref class Tmp n = (record { cap = Tmp; class = class }, refl, refl)
-LeadsAs-ref class Paused n = (record { cap = Paused; class = class }, refl, refl)
-LeadsAs-ref class Imm n = (record { cap = Imm; class = class }, refl, refl)
-LeadsAs-ref class Iso n = absurd (n refl)
-
 follow-known : (classes : List Class) (receiver : Ty) (f : Followed) → IsKnown classes receiver → follow receiver ≡ Ok f → f.class < length classes
 follow-known classes Int f k e = grind arith
 follow-known classes Bool f k e = grind arith

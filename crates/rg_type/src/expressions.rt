@@ -128,9 +128,10 @@ fn operation(
     against(wanted, operators.result_type())
 }
 
-// The last test of an expression: its type is below the expected one, if one is expected.
-fn against(wanted: Option<Ty>, ty: Ty) -> Result<Ty, Code>
+/// The last test: the type is below the expected one, if one is expected.
+pub fn against(wanted: Option<Ty>, ty: Ty) -> Result<Ty, Code>
     ensures judged { (env : Variables) → TypedAs (rules.against wanted ty env) env result }
+    ensures same { IfOk result (λ t. t ≡ ty) }
     ensures known { (classes : List Class) → IsKnown classes ty → IfOk result (IsKnown classes) }
 {
     match wanted {

@@ -137,8 +137,8 @@ fn look_up(program: &Program, classes: &Classes, ty: Ty, field: u32) -> Result<L
     }
 }
 
-// What is followed is a reference, and not an `iso` one.
-fn follow(ty: Ty) -> Result<Followed, Code>
+/// What is followed is a reference, and not an `iso` one.
+pub fn follow(ty: Ty) -> Result<Followed, Code>
     ensures judged { followed_of result ≡ rules.follow ty }
     ensures known { (classes : List Class) → IsKnown classes ty
         → IfOk result (λ f. f.class < length classes) }

@@ -6,19 +6,17 @@ ghost use Rattle.rg_tree.specs.RowTrees.{call_of, expr_at, param_at, program_of,
 ghost use Rattle.rg_tree.specs.RowsExist.{IsCallIn, IsExprNumber, IsNameIn, IsRightIn};
 ghost use Rattle.rg_rules.specs.Types.{type_of};
 ghost use Rattle.rg_rules.specs.Environment.{Env as Variables};
-ghost use Rattle.rg_rules.specs.Paths as paths;
-ghost use Rattle.rg_rules.specs.Expressions as expressions;
 ghost use Rattle.rg_rules.specs.Rights as rules;
 ghost use Rattle.rg_names.specs.TableOf.{IsTableOf};
 ghost use Rattle.rg_names.specs.TreeAnswers.{IsKnown};
 ghost use Rattle.rg_type.specs.Scope.{env_of, IsScopeIn};
 ghost use Rattle.rg_type.specs.Changing.{CalledAs, DoneAs, TypedAs};
-ghost use Rattle.rg_type.specs.Calls.{method_behind, param_type, IsParamNumber, LeadsAs, SigAs};
+ghost use Rattle.rg_type.specs.Calls.{method_behind, param_type, IsParamNumber, SigAs};
 
 use crate::env::Env;
-use crate::expressions::expression;
+use crate::expressions::{against, expression};
 use crate::kinds::{is_ready, iso_class};
-use crate::paths::walk;
+use crate::paths::{follow, walk};
 use crate::state::State;
 use rg_base::{Cap, Code, Ty};
 use rg_names::{Classes, Sig};
@@ -50,8 +48,8 @@ pub fn right_side(
         Right::NewIso { name, .. } => fresh(program, classes, Cap::Iso, name, wanted),
         Right::Freeze(name) => consumed(env, program, classes, Cap::Imm, name, wanted),
         Right::Merge(name) => consumed(env, program, classes, Cap::Mut, name, wanted),
-        Right::Read => against(Ty::Int, wanted),
-        Right::More => against(Ty::Bool, wanted),
+        Right::Read => against(Some(wanted), Ty::Int),
+        Right::More => against(Some(wanted), Ty::Bool),
         Right::Call(row) => result_of(env, program, classes, row, wanted),
     }
 }
@@ -66,7 +64,7 @@ fn fresh(program: &Program, classes: &Classes, cap: Cap, name: u32, wanted: Ty) 
     ensures known { IfOk result (IsKnown (program_of program.now).classes) }
 {
     let ty = classes.ty(TypeRow::Ref { cap, name })?;
-    against(ty, wanted)
+    against(Some(wanted), ty)
 }
 
 // `freeze y` and `merge y`.
@@ -95,7 +93,7 @@ fn consumed(
         return Err(Code::Unavailable);
     }
     env.mark(Some(name), State::Gone);
-    against(Ty::Ref { cap, class }, wanted)
+    against(Some(wanted), Ty::Ref { cap, class })
 }
 
 // The result of a call.
@@ -118,19 +116,7 @@ fn result_of(
     let Some(ty) = call(env, program, classes, row)? else {
         return Err(Code::Mismatch);
     };
-    against(ty, wanted)
-}
-
-// The last test of each: the type is below the one that is expected.
-fn against(ty: Ty, wanted: Ty) -> Result<Ty, Code>
-    ensures judged { (env : Variables)
-        → TypedAs (expressions.against (Some wanted) ty env) env result }
-    ensures same { IfOk result (λ t. t ≡ ty) }
-{
-    if !below(ty, wanted) {
-        return Err(Code::Mismatch);
-    }
-    Ok(ty)
+    against(Some(wanted), ty)
 }
 
 /// The result of a call, if its method has one, and the variables afterwards.
@@ -168,31 +154,18 @@ fn method(program: &Program, classes: &Classes, receiver: Ty, name: u32) -> Resu
     ensures { let t = program.now in
         SigAs t (method_behind (program_of t).classes receiver (name_at t name)) result }
 {
-    let class = followed(receiver)?;
-    let Some(sig) = classes.method(class, name) else {
+    let followed = follow(receiver)?;
+    let Some(sig) = classes.method(followed.class, name) else {
         return Err(Code::Unknown);
     };
     let least = Ty::Ref {
         cap: sig.cap,
-        class,
+        class: followed.class,
     };
     if !below(receiver, least) {
         return Err(Code::Capability);
     }
     Ok(sig)
-}
-
-// The class that a receiver leads to.
-fn followed(receiver: Ty) -> Result<u32, Code>
-    ensures { LeadsAs (paths.follow receiver) result }
-{
-    match receiver {
-        Ty::Int | Ty::Bool => Err(Code::Mismatch),
-        Ty::Ref { cap, class } => match cap {
-            Cap::Mut | Cap::Tmp | Cap::Paused | Cap::Imm => Ok(class),
-            Cap::Iso => Err(Code::Capability),
-        },
-    }
 }
 
 // Arguments in order, each against the type of its parameter; there are as many.
