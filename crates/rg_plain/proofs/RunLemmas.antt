@@ -1,0 +1,248 @@
+-- A run from its first step to its end, over plain variables.
+use Rattle.std.proofs.Common.{◌≡◌, ◌≢◌, ℕ, ◌+◌, ◌-◌, ◌<◌, true, List, [], ◌∷◌, ◌++◌, length, drop, Option, refl, sym, ap, ◌∙◌, subst, arith, append-nil, append_assoc, add-one}
+use Rattle.std.proofs.Math.Seq.{drop-append_seam}
+use Rattle.std.proofs.lemmas.Grind.{flat_map-append}
+use Rattle.rg_base.specs.declared.value.Val.{Val}
+use Rattle.rg_base.specs.declared.outcome.Outcome.TheVariants as outcome
+use Rattle.rg_base.specs.declared.outcome.Ended.{Ended}
+use Rattle.rg_base.specs.declared.outcome.Ended.TheVariants as ended_as
+use Rattle.rg_base.specs.declared.outcome.Trap.{Trap}
+use Rattle.rg_base.specs.Text.{line_text, text}
+use Rattle.rg_io.specs.Content.{Appends, AppendsPart}
+use Rattle.rg_io.proofs.ContentLemmas.{Appends-more}
+use Rattle.rg_tree.specs.Tables.{Tables}
+use Rattle.rg_tree.specs.RowTrees.{classes_of}
+use Rattle.rg_rules.specs.Items.{Item}
+use Rattle.rg_rules.specs.State.{State}
+use Rattle.rg_rules.specs.Steps.{next, Went, Trapped}
+use Rattle.rg_rules.specs.Runs.{Ending, Running, Done, Stopped, Ran, ending_of, plain_from}
+use Rattle.rg_rules.proofs.RunLemmas.{one_more, one_more-went, one_more-trapped, one_more-done, plain_from-suc, plain_from-stays}
+use Rattle.rg_plain.specs.Kept.{shown}
+use Rattle.rg_plain.specs.Outcomes.{first_asks}
+use Rattle.rg_plain.specs.Machine.{Machine, state_of, StepsOn}
+use Rattle.rg_plain.specs.Runs.{answer, ran, output_after, text_of, added, StandsAt, CutOff, CutAtInput, Whole, RunIs}
+
+ending-some : (items : List Item) → items ≢ [] → ending_of items ≡ Running
+ending-some [] some = absurd (some refl)
+ending-some (i ∷ rest) some = refl
+
+-- a run that stands at a state, after so many steps
+abbrev pub at_state : State → ℕ → Ending → Ran
+at_state u k e = record { state = u; steps = k; ending = e }
+
+ran-more : (t : Tables) (s : State) (k : ℕ) → ran t s (k + 1) ≡ one_more (classes_of t) (ran t s k)
+ran-more t s k = rw add-one (plain_from-suc (classes_of t) k 0 s)
+
+ran-went_by : (t : Tables) (u v : State) (k : ℕ) (items : List Item) → u.items ≡ items → items ≢ [] → next (classes_of t) u ≡ Went v →
+    plain_from (classes_of t) 1 k u ≡ at_state v (k + 1) (ending_of v.items)
+ran-went_by t u v k [] is some went = absurd (some refl)
+ran-went_by t u v k (i ∷ rest) is some went = one_more-went (classes_of t) k u v i rest is went
+
+ran-went : (t : Tables) (s u v : State) (k : ℕ) → ran t s k ≡ at_state u k Running → u.items ≢ [] → next (classes_of t) u ≡ Went v →
+    ran t s (k + 1) ≡ at_state v (k + 1) (ending_of v.items)
+ran-went t s u v k is some went = ran-more t s k ∙ ap (one_more (classes_of t)) is ∙ ran-went_by t u v k u.items refl some went
+
+ran-stays : (t : Tables) (s : State) (k n : ℕ) (r : Ran) → k < n → ran t s (k + 1) ≡ r → one_more (classes_of t) r ≡ r → ran t s n ≡ r
+ran-stays t s k n r within is stays =
+    let same : n ≡ (n - (k + 1)) + (k + 1) = omega arith in
+    ap (ran t s) same ∙ plain_from-stays (classes_of t) (n - (k + 1)) (k + 1) 0 s r is stays
+
+ran-trapped : (t : Tables) (s u : State) (k n : ℕ) (kind : Trap) (line : ℕ) → k < n → ran t s k ≡ at_state u k Running →
+    next (classes_of t) u ≡ Trapped kind line → ran t s n ≡ at_state u k (Stopped kind line)
+ran-trapped t s u k n kind line within is trapped =
+    let stops = one_more-trapped (classes_of t) k u kind line trapped in
+    ran-stays t s k n (at_state u k (Stopped kind line)) within (ran-more t s k ∙ ap (one_more (classes_of t)) is ∙ stops) stops
+
+ran-done : (t : Tables) (s u v : State) (k n : ℕ) → k < n → ran t s k ≡ at_state u k Running → u.items ≢ [] →
+    next (classes_of t) u ≡ Went v → v.items ≡ [] → ran t s n ≡ at_state v (k + 1) Done
+ran-done t s u v k n within is some went none =
+    ran-stays t s k n (at_state v (k + 1) Done) within (ran-went t s u v k is some went ∙ ap (λ items. at_state v (k + 1) (ending_of items)) none)
+    (one_more-done (classes_of t) (k + 1) v none)
+
+-- the text of values behind others
+text-append : (xs ys : List Val) → text (xs ++ ys) ≡ text xs ++ text ys
+text-append xs ys = flat_map-append line_text xs ys
+
+-- A run so far: where it stands, what was printed before its last step and in it, and that the text was taken.
+pub record RanSoFar (t : Tables) (s : State) (k : ℕ) (m : Machine) (rest : List ℕ) (old new : Option (List ℕ)) : Type 0 where
+  pub some : shown t m.kept.items ≢ []
+  pub ran_is : ran t s k ≡ at_state (state_of t m rest) k Running
+  pub before : List Val
+  pub last : List Val
+  pub output_before : output_after t s (k - 1) ≡ s.output ++ before
+  pub output : m.kept.output ≡ s.output ++ (before ++ last)
+  pub took : Appends old new (text (before ++ last))
+
+-- the same of a machine that started on these bytes
+abbrev pub RanOn : Tables → (start : Machine) → (k : ℕ) → (m : Machine) → (old new : Option (List ℕ)) → (before after : List ℕ) → Type 0
+RanOn t start k m old new before after = RanSoFar t (state_of t start before) k m after old new
+
+-- what such a run has answered
+abbrev pub RunOn : Tables → (start : Machine) → (n k : ℕ) → (m : Machine) → (old new : Option (List ℕ)) → Ended → (before after : List ℕ) → Type 0
+RunOn t start n k m old new result before after = RunIs t (state_of t start before) n k m after old new result
+
+pub opening : (t : Tables) (m : Machine) (bytes : List ℕ) (content : Option (List ℕ)) → shown t m.kept.items ≢ [] → Appends content content [] →
+    RanSoFar t (state_of t m bytes) 0 m bytes content content
+unfolding plain_from
+opening t m bytes content some nothing = record {
+  some = some;
+  ran_is = ap (at_state (state_of t m bytes) 0) (ending-some (shown t m.kept.items) some);
+  before = [];
+  last = [];
+  output_before = sym (append-nil m.kept.output);
+  output = sym (append-nil m.kept.output);
+  took = nothing;
+}
+
+-- a step that went on and printed nothing
+pub quiet : (t : Tables) (s : State) (k : ℕ) (m new : Machine) (rest rest' : List ℕ) (old out : Option (List ℕ)) →
+    RanSoFar t s k m rest old out → StepsOn t m new outcome.Running rest rest' → RanSoFar t s (k + 1) new rest' old out
+quiet t s k m new rest rest' old out so_far step =
+    let P : List Val → Type 0 = λ vs. Appends old out (text vs) in
+    let back : (k + 1) - 1 ≡ k = omega arith in
+    let went = ran-went t s (state_of t m rest) (state_of t new rest') k so_far.ran_is so_far.some step.0 in
+    record {
+      some = step.1;
+      ran_is = went ∙ ap (at_state (state_of t new rest') (k + 1)) (ending-some (shown t new.kept.items) step.1);
+      before = so_far.before ++ so_far.last;
+      last = [];
+      output_before = ap (output_after t s) back ∙ ap (λ q. q.state.output) so_far.ran_is ∙ so_far.output;
+      output = step.2 ∙ so_far.output ∙ ap (λ q. s.output ++ q) (sym (append-nil (so_far.before ++ so_far.last)));
+      took = subst P (sym (append-nil (so_far.before ++ so_far.last))) so_far.took;
+    }
+
+-- a step that printed a value, whose line was then taken
+pub printed : (t : Tables) (s : State) (k : ℕ) (m new : Machine) (v : Val) (rest rest' : List ℕ) (old between out : Option (List ℕ)) →
+    RanSoFar t s k m rest old between → StepsOn t m new (outcome.Printed v) rest rest' → Appends between out (line_text v) →
+    RanSoFar t s (k + 1) new rest' old out
+printed t s k m new v rest rest' old between out so_far step line =
+    let P : List ℕ → Type 0 = λ bytes. Appends old out bytes in
+    let back : (k + 1) - 1 ≡ k = omega arith in
+    let went = ran-went t s (state_of t m rest) (state_of t new rest') k so_far.ran_is so_far.some step.0 in
+    let all = so_far.before ++ so_far.last in
+    record {
+      some = step.1;
+      ran_is = went ∙ ap (at_state (state_of t new rest') (k + 1)) (ending-some (shown t new.kept.items) step.1);
+      before = all;
+      last = v ∷ [];
+      output_before = ap (output_after t s) back ∙ ap (λ q. q.state.output) so_far.ran_is ∙ so_far.output;
+      output = step.2 ∙ ap (λ q. q ++ v ∷ []) so_far.output ∙ append_assoc s.output all (v ∷ []);
+      took =
+          subst P (sym (text-append all (v ∷ []) ∙ ap (λ q. text all ++ q) (append-nil (line_text v))))
+          (Appends-more old between out (text all) (line_text v) so_far.took line);
+    }
+
+-- the text up to a step, by the values that were printed
+text-is : (t : Tables) (s : State) (k : ℕ) (vs : List Val) → output_after t s k ≡ s.output ++ vs → text_of t s k ≡ text vs
+text-is t s k vs is = ap (λ q. text (drop (length s.output) q)) is ∙ ap text (drop-append_seam s.output vs)
+
+added-is : (t : Tables) (s : State) (k : ℕ) (before last : List Val) → output_after t s (k - 1) ≡ s.output ++ before →
+    output_after t s k ≡ s.output ++ (before ++ last) → added t s k ≡ text last
+added-is t s k before last before_is is =
+    ap (λ q. text (drop (length q) (output_after t s k))) before_is
+    ∙ ap (λ q. text (drop (length (s.output ++ before)) q)) (is ∙ sym (append_assoc s.output before last))
+    ∙ ap text (drop-append_seam (s.output ++ before) last)
+
+-- all steps were made
+pub spent : (t : Tables) (s : State) (n k : ℕ) (m : Machine) (rest : List ℕ) (old new : Option (List ℕ)) → k ≡ n →
+    RanSoFar t s k m rest old new → Whole t s n k m rest old new ended_as.Spent
+spent t s n k m rest old new all so_far =
+    let P : ℕ → Type 0 = λ q. RanSoFar t s q m rest old new in
+    let end : RanSoFar t s n m rest old new = subst P all so_far in
+    let Q : List ℕ → Type 0 = λ bytes. Appends old new bytes in
+    record {
+      answer_is = sym (ap (λ q. answer q.ending) end.ran_is);
+      text_is = subst Q (sym (text-is t s n (end.before ++ end.last) (ap (λ q. q.state.output) end.ran_is ∙ end.output))) end.took;
+      steps_are = all ∙ sym (ap (λ q. q.steps) end.ran_is);
+      state_is = sym (ap (λ q. q.state) end.ran_is);
+    }
+
+-- a run that ended before its last step
+ended_early : (t : Tables) (s : State) (n k : ℕ) (m new : Machine) (rest rest' : List ℕ) (old out : Option (List ℕ)) (result : Ended) (u : State)
+    (steps : ℕ) (e : Ending) → (so_far : RanSoFar t s k m rest old out) → ran t s n ≡ at_state u steps e → result ≡ answer e →
+    state_of t new rest' ≡ u → u.output ≡ m.kept.output → Whole t s n steps new rest' old out result
+ended_early t s n k m new rest rest' old out result u steps e so_far ran_is is state output =
+    let Q : List ℕ → Type 0 = λ bytes. Appends old out bytes in
+    record {
+      answer_is = is ∙ sym (ap (λ q. answer q.ending) ran_is);
+      text_is = subst Q (sym (text-is t s n (so_far.before ++ so_far.last) (ap (λ q. q.state.output) ran_is ∙ output ∙ so_far.output))) so_far.took;
+      steps_are = sym (ap (λ q. q.steps) ran_is);
+      state_is = state ∙ sym (ap (λ q. q.state) ran_is);
+    }
+
+pub done : (t : Tables) (s : State) (n k : ℕ) (m new : Machine) (rest rest' : List ℕ) (old out : Option (List ℕ)) → k < n →
+    RanSoFar t s k m rest old out → StepsOn t m new outcome.Done rest rest' → Whole t s n (k + 1) new rest' old out ended_as.Done
+done t s n k m new rest rest' old out within so_far step =
+    ended_early t s n k m new rest rest' old out ended_as.Done (state_of t new rest') (k + 1) Done so_far
+    (ran-done t s (state_of t m rest) (state_of t new rest') k n within so_far.ran_is so_far.some step.0 step.1)
+    refl refl step.2
+
+pub trapped : (t : Tables) (s : State) (n k : ℕ) (m new : Machine) (kind : Trap) (line : ℕ) (rest rest' : List ℕ) (old out : Option (List ℕ)) →
+    k < n → RanSoFar t s k m rest old out → StepsOn t m new (outcome.Trap kind line) rest rest' →
+    Whole t s n k new rest' old out (ended_as.Trap kind line)
+trapped t s n k m new kind line rest rest' old out within so_far step =
+    ended_early t s n k m new rest rest' old out (ended_as.Trap kind line) (state_of t m rest) k (Stopped kind line) so_far
+    (ran-trapped t s (state_of t m rest) k n kind line within so_far.ran_is step.0)
+    refl step.1 refl
+
+-- a machine that stands where a run so far stood
+stands : (t : Tables) (s : State) (n k : ℕ) (m new : Machine) (rest rest' : List ℕ) (old out : Option (List ℕ)) → k < n →
+    RanSoFar t s k m rest old out → state_of t new rest' ≡ state_of t m rest → StandsAt t s n k new rest'
+stands t s n k m new rest rest' old out within so_far same = record {
+  within = omega arith;
+  made = ap (λ q. q.steps) so_far.ran_is;
+  state_is = same ∙ sym (ap (λ q. q.state) so_far.ran_is);
+}
+
+-- a run that was cut off before a step
+pub cut_before : (t : Tables) (s : State) (n k : ℕ) (m new : Machine) (rest rest' : List ℕ) (old out : Option (List ℕ)) → k < n →
+    RanSoFar t s k m rest old out → state_of t new rest' ≡ state_of t m rest → CutOff t s n k new rest' old out
+cut_before t s n k m new rest rest' old out within so_far same =
+    let Q : List ℕ → Type 0 = λ bytes. Appends old out bytes in
+    let output_is : output_after t s k ≡ s.output ++ (so_far.before ++ so_far.last) = ap (λ q. q.state.output) so_far.ran_is ∙ so_far.output in
+    let whole = added-is t s k so_far.before so_far.last so_far.output_before output_is in
+    let before_is = text-is t s (k - 1) so_far.before so_far.output_before in
+    record {
+      stands = stands t s n k m new rest rest' old out within so_far same;
+      wrote = (
+        text so_far.last,
+        record { rest = []; whole_is = whole ∙ sym (append-nil (text so_far.last)) },
+        subst Q (text-append so_far.before so_far.last ∙ ap (λ q. q ++ text so_far.last) (sym before_is)) so_far.took,
+      );
+    }
+
+-- a run that was cut off before a step that asks for the input
+pub cut_at_input : (t : Tables) (s : State) (n k : ℕ) (m new : Machine) (rest rest' : List ℕ) (old out : Option (List ℕ)) → k < n →
+    first_asks (shown t m.kept.items) ≡ true → RanSoFar t s k m rest old out → state_of t new rest' ≡ state_of t m rest →
+    CutAtInput t s n k new rest' old out
+cut_at_input t s n k m new rest rest' old out within asks so_far same =
+    let Q : List ℕ → Type 0 = λ bytes. Appends old out bytes in
+    record {
+      stands = stands t s n k m new rest rest' old out within so_far same;
+      before = within;
+      asks = ap (λ q. first_asks q.state.items) so_far.ran_is ∙ asks;
+      wrote = subst Q (sym (text-is t s k (so_far.before ++ so_far.last) (ap (λ q. q.state.output) so_far.ran_is ∙ so_far.output))) so_far.took;
+    }
+
+-- a run whose last line wasn't taken whole
+pub cut_behind : (t : Tables) (s : State) (n k : ℕ) (m new : Machine) (v : Val) (rest rest' : List ℕ) (old between out : Option (List ℕ)) → k < n →
+    RanSoFar t s k m rest old between → StepsOn t m new (outcome.Printed v) rest rest' → AppendsPart between out (line_text v) →
+    CutOff t s n (k + 1) new rest' old out
+cut_behind t s n k m new v rest rest' old between out within so_far step part =
+    let back : (k + 1) - 1 ≡ k = omega arith in
+    let all = so_far.before ++ so_far.last in
+    let went = ran-went t s (state_of t m rest) (state_of t new rest') k so_far.ran_is so_far.some step.0 in
+    let before_is : output_after t s ((k + 1) - 1) ≡ s.output ++ all =
+    ap (output_after t s) back ∙ ap (λ q. q.state.output) so_far.ran_is ∙ so_far.output in
+    let now_is : output_after t s (k + 1) ≡ s.output ++ (all ++ v ∷ []) =
+    ap (λ q. q.state.output) went ∙ step.2 ∙ ap (λ q. q ++ v ∷ []) so_far.output ∙ append_assoc s.output all (v ∷ []) in
+    let line_is : added t s (k + 1) ≡ line_text v = added-is t s (k + 1) all (v ∷ []) before_is now_is ∙ append-nil (line_text v) in
+    let Q : List ℕ → Type 0 = λ bytes. Appends old out (bytes ++ part.0) in
+    record {
+      stands = record { within = omega arith; made = ap (λ q. q.steps) went; state_is = sym (ap (λ q. q.state) went) };
+      wrote = (
+        part.0,
+        record { rest = part.1.rest; whole_is = line_is ∙ part.1.whole_is },
+        subst Q (sym (text-is t s ((k + 1) - 1) all before_is)) (Appends-more old between out (text all) part.0 so_far.took part.2),
+      );
+    }

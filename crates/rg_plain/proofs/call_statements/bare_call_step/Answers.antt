@@ -1,0 +1,11 @@
+use Rattle.rg_tree.specs.Tree.{call}
+use Rattle.rg_tree.specs.RowTrees.{call_of}
+use Rattle.rg_plain.specs.Kept.{kept_of}
+use Rattle.rg_plain.proofs.StatementLemmas.{statement-is}
+use Rattle.rg_plain.proofs.call_statements.bare_call_step.Goals as goal
+
+pub returns-clause-step : goal.returns-clause-step
+returns-clause-step c input =
+    let at = c.requires.at in
+    statement-is c.args.program.now (kept_of c.args.m.now) (kept_of c.call_step.new.m) input at.rest c.args.at.number c.args.at.line
+    (call (call_of c.args.program.now c.args.row)) c.call_step.result at.items c.requires.tree (c.call_step.ensures.called input at.rest at.items)

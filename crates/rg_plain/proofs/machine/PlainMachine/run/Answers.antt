@@ -1,0 +1,18 @@
+use Rattle.std.proofs.Common.{ℕ, List}
+use Rattle.rg_input.proofs.InputLemmas.{OnInput-map}
+use Rattle.rg_plain.specs.Machine.{state_of}
+use Rattle.rg_plain.specs.Runs.{RunIs}
+use Rattle.rg_plain.proofs.RunLemmas.{RunOn}
+use Rattle.rg_plain.proofs.machine.PlainMachine.run.Goals as goal
+
+pub returns-clause-run : goal.returns-clause-run
+returns-clause-run g c =
+    let t = c.args.program.now in
+    let start = c.args.self.now in
+    let new = c.run_counting.new.self in
+    let old = g.O.Sink.taken c.args.out.now in
+    let out = g.O.Sink.taken c.run_counting.new.out in
+    let Q : List ℕ → List ℕ → Type 0 = λ before after.
+    (k : ℕ) × RunIs t (state_of t start before) c.args.n k new after old out c.run_counting.result in
+    OnInput-map _ _ _ _ (RunOn t start c.args.n c.run_counting.new.steps new old out c.run_counting.result) Q c.run_counting.ensures.run
+    (λ before after is. (c.run_counting.new.steps, is))

@@ -1,0 +1,161 @@
+-- The turns and the ends of a run, by the lemma of each.
+use Rattle.std.proofs.Common.{◌≡◌, ◌<◌, ◌+◌, ℕ, refl, sym, subst, arith}
+use Rattle.rg_base.specs.declared.outcome.Ended.TheVariants as ended
+use Rattle.rg_base.specs.declared.outcome.Outcome.TheVariants as outcome
+use Rattle.rg_io.proofs.ContentLemmas.{Appends-none}
+use Rattle.rg_input.proofs.InputLemmas.{OnInput-still, OnInput-map}
+use Rattle.rg_plain.specs.Machine.{state_of, StepsOn}
+use Rattle.rg_plain.proofs.DispatchLemmas.{left-shown}
+use Rattle.rg_plain.proofs.InputLemmas.{OnInput-both}
+use Rattle.rg_plain.proofs.RunLemmas.{RanSoFar, RanOn, RunOn, opening, quiet, printed, spent, done, trapped, cut_before, cut_at_input, cut_behind}
+use Rattle.rg_plain.proofs.machine.PlainMachine.run_counting.Goals as goal
+
+pub loop-steps-init : goal.loop-steps-init
+loop-steps-init g c =
+    let t = c.args.program.now in
+    let m = c.args.self.now in
+    let content = g.O.Sink.taken c.args.out.now in
+    let some = left-shown t m.kept.items c.requires.left c.requires.fits.kept.items in
+    record {
+      left = c.requires.left;
+      fits = c.requires.fits;
+      follows = c.requires.follows;
+      within = omega (arith, c.requires.none);
+      source_never_falls = omega arith;
+      sink_never_falls = omega arith;
+      so_far = OnInput-still _ _ _ _ (RanOn t m c.args.steps.now m content content) refl refl (λ bytes.
+          let P : ℕ → Type 0 = λ k. RanSoFar t (state_of t m bytes) k m bytes content content in
+          subst P (sym c.requires.none) (opening t m bytes content some (Appends-none content)));
+    }
+
+pub loop-steps-preserved-in-Running : goal.loop-steps-preserved-in-Running
+loop-steps-preserved-in-Running g c =
+    let t = c.args.program.now in
+    let start = c.args.self.now in
+    let k = c.loop-steps.steps in
+    let m = c.loop-steps.self in
+    let new = c.step.new.self in
+    let old = g.O.Sink.taken c.args.out.now in
+    let out = g.O.Sink.taken c.loop-steps.out in
+    let within : k < c.args.n = omega (arith, c.loop-steps-test.true) in
+    record {
+      left = c.in-Running.ensures.left;
+      fits = c.in-Running.ensures.fits;
+      follows = c.in-Running.ensures.follows;
+      within = omega arith;
+      source_never_falls = omega (arith, c.loop-steps.invariant.source_never_falls, c.in-Running.ensures.never_falls);
+      sink_never_falls = c.loop-steps.invariant.sink_never_falls;
+      so_far = OnInput-both _ _ _ _ _ _ (RanOn t start k m old out) (StepsOn t m new outcome.Running) (RanOn t start (k + 1) new old out)
+          c.loop-steps.invariant.so_far c.in-Running.ensures.step
+          (λ x y z ran step. quiet t (state_of t start x) k m new y z old out ran step);
+    }
+
+pub loop-steps-preserved : goal.loop-steps-preserved
+loop-steps-preserved g c =
+    let t = c.args.program.now in
+    let start = c.args.self.now in
+    let k = c.loop-steps.steps in
+    let m = c.loop-steps.self in
+    let new = c.step.new.self in
+    let v = c.in-Printed.v in
+    let old = g.O.Sink.taken c.args.out.now in
+    let between = g.O.Sink.taken c.loop-steps.out in
+    let out = g.O.Sink.taken c.put_value.new.out in
+    let within : k < c.args.n = omega (arith, c.loop-steps-test.true) in
+    record {
+      left = c.in-Printed.ensures.left;
+      fits = c.in-Printed.ensures.fits;
+      follows = c.in-Printed.ensures.follows;
+      within = omega arith;
+      source_never_falls = omega (arith, c.loop-steps.invariant.source_never_falls, c.in-Printed.ensures.never_falls);
+      sink_never_falls = omega (arith, c.loop-steps.invariant.sink_never_falls, c.in-Ok.ensures.never_falls);
+      so_far = OnInput-both _ _ _ _ _ _ (RanOn t start k m old between) (StepsOn t m new (outcome.Printed v)) (RanOn t start (k + 1) new old out)
+          c.loop-steps.invariant.so_far c.in-Printed.ensures.step
+          (λ x y z ran step. printed t (state_of t start x) k m new v y z old between out ran step c.in-Ok.ensures.ok);
+    }
+
+pub returns-in-Err-clause-run : goal.returns-in-Err-clause-run
+returns-in-Err-clause-run g c =
+    let t = c.args.program.now in
+    let start = c.args.self.now in
+    let k = c.loop-steps.steps in
+    let m = c.loop-steps.self in
+    let new = c.step.new.self in
+    let v = c.in-Printed.v in
+    let old = g.O.Sink.taken c.args.out.now in
+    let between = g.O.Sink.taken c.loop-steps.out in
+    let out = g.O.Sink.taken c.put_value.new.out in
+    let within : k < c.args.n = omega (arith, c.loop-steps-test.true) in
+    OnInput-both _ _ _ _ _ _ (RanOn t start k m old between) (StepsOn t m new (outcome.Printed v))
+    (RunOn t start c.args.n (k + 1) new old out ended.OutputFault) c.loop-steps.invariant.so_far c.in-Printed.ensures.step
+    (λ x y z ran step. cut_behind t (state_of t start x) c.args.n k m new v y z old between out within ran step c.in-Err.ensures.part)
+
+pub returns-in-Done-clause-run : goal.returns-in-Done-clause-run
+returns-in-Done-clause-run g c =
+    let t = c.args.program.now in
+    let start = c.args.self.now in
+    let k = c.loop-steps.steps in
+    let m = c.loop-steps.self in
+    let new = c.step.new.self in
+    let old = g.O.Sink.taken c.args.out.now in
+    let out = g.O.Sink.taken c.loop-steps.out in
+    let within : k < c.args.n = omega (arith, c.loop-steps-test.true) in
+    OnInput-both _ _ _ _ _ _ (RanOn t start k m old out) (StepsOn t m new outcome.Done)
+    (RunOn t start c.args.n (k + 1) new old out ended.Done) c.loop-steps.invariant.so_far c.in-Done.ensures.step
+    (λ x y z ran step. done t (state_of t start x) c.args.n k m new y z old out within ran step)
+
+pub returns-in-Trap-clause-run : goal.returns-in-Trap-clause-run
+returns-in-Trap-clause-run g c =
+    let t = c.args.program.now in
+    let start = c.args.self.now in
+    let k = c.loop-steps.steps in
+    let m = c.loop-steps.self in
+    let new = c.step.new.self in
+    let kind = c.in-Trap.kind in
+    let line = c.in-Trap.line in
+    let old = g.O.Sink.taken c.args.out.now in
+    let out = g.O.Sink.taken c.loop-steps.out in
+    let within : k < c.args.n = omega (arith, c.loop-steps-test.true) in
+    OnInput-both _ _ _ _ _ _ (RanOn t start k m old out) (StepsOn t m new (outcome.Trap kind line))
+    (RunOn t start c.args.n k new old out (ended.Trap kind line)) c.loop-steps.invariant.so_far c.in-Trap.ensures.step
+    (λ x y z ran step. trapped t (state_of t start x) c.args.n k m new kind line y z old out within ran step)
+
+pub returns-in-InputFault-clause-run : goal.returns-in-InputFault-clause-run
+returns-in-InputFault-clause-run g c =
+    let t = c.args.program.now in
+    let start = c.args.self.now in
+    let k = c.loop-steps.steps in
+    let m = c.loop-steps.self in
+    let new = c.step.new.self in
+    let old = g.O.Sink.taken c.args.out.now in
+    let out = g.O.Sink.taken c.loop-steps.out in
+    let within : k < c.args.n = omega (arith, c.loop-steps-test.true) in
+    OnInput-both _ _ _ _ _ _ (RanOn t start k m old out) (StepsOn t m new outcome.InputFault)
+    (RunOn t start c.args.n k new old out ended.InputFault) c.loop-steps.invariant.so_far c.in-InputFault.ensures.step
+    (λ x y z ran step. cut_at_input t (state_of t start x) c.args.n k m new y z old out within (c.in-InputFault.ensures.input_fault refl) ran step)
+
+pub returns-in-Memory-clause-run : goal.returns-in-Memory-clause-run
+returns-in-Memory-clause-run g c =
+    let t = c.args.program.now in
+    let start = c.args.self.now in
+    let k = c.loop-steps.steps in
+    let m = c.loop-steps.self in
+    let new = c.step.new.self in
+    let old = g.O.Sink.taken c.args.out.now in
+    let out = g.O.Sink.taken c.loop-steps.out in
+    let within : k < c.args.n = omega (arith, c.loop-steps-test.true) in
+    OnInput-both _ _ _ _ _ _ (RanOn t start k m old out) (StepsOn t m new outcome.Memory)
+    (RunOn t start c.args.n k new old out ended.Memory) c.loop-steps.invariant.so_far c.in-Memory.ensures.step
+    (λ x y z ran step. cut_before t (state_of t start x) c.args.n k m new y z old out within ran step)
+
+pub returns-clause-run : goal.returns-clause-run
+returns-clause-run g c =
+    let t = c.args.program.now in
+    let start = c.args.self.now in
+    let k = c.loop-steps.steps in
+    let m = c.loop-steps.self in
+    let old = g.O.Sink.taken c.args.out.now in
+    let out = g.O.Sink.taken c.loop-steps.out in
+    let all : k ≡ c.args.n = omega (arith, c.loop-steps-test.false, c.loop-steps.invariant.within) in
+    OnInput-map _ _ _ _ (RanOn t start k m old out) (RunOn t start c.args.n k m old out ended.Spent) c.loop-steps.invariant.so_far
+    (λ before after ran. spent t (state_of t start before) c.args.n k m after old out all ran)

@@ -1,0 +1,18 @@
+use Rattle.std.proofs.Common.{◌∙◌, sym, ap, unwrap_or, slice_get}
+use Rattle.rg_base.specs.declared.value.Val.TheVariants.{Nil}
+use Rattle.rg_tree.specs.Tables.{name_at}
+use Rattle.rg_tree.specs.RowTrees.{classes_of}
+use Rattle.rg_names.proofs.Callers.{IsClass-tree}
+use Rattle.rg_plain.specs.Shown.{seen_of}
+use Rattle.rg_plain.proofs.ObjectLemmas.{field_value-place}
+use Rattle.rg_plain.proofs.objects.field_value.Goals as goal
+
+pub field-requires : goal.field-requires
+field-requires c = IsClass-tree c.args.program.now c.args.classes.now c.requires.table c.args.object.now.class c.requires.class
+
+pub returns-in-Some : goal.returns-in-Some
+returns-in-Some c =
+    let found = c.in-Some.ensures.tree c.args.program.now c.requires.table c.requires.name in
+    c.element.ensures ∙ ap (λ q. unwrap_or (slice_get q c.in-Some.field.index) Nil) c.deref.ensures.value
+    ∙ sym (field_value-place (classes_of c.args.program.now) (seen_of c.args.object.now) (name_at c.args.program.now c.args.name)
+    c.in-Some.field.index found.place)

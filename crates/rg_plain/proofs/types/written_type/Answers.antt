@@ -1,0 +1,15 @@
+use Rattle.std.proofs.Common.{◌∙◌, sym, ap}
+use Rattle.rg_base.specs.declared.ty.Ty.TheVariants.{Ref}
+use Rattle.rg_tree.specs.Tables.{name_at}
+use Rattle.rg_tree.specs.RowTrees.{classes_of, type_of as written}
+use Rattle.rg_rules.specs.Types.{type_of}
+use Rattle.rg_plain.proofs.TypeLemmas.{class_number-unplaced}
+use Rattle.rg_plain.proofs.types.written_type.Goals as goal
+
+pub returns-in-None : goal.returns-in-None
+returns-in-None c =
+    let t = c.args.program.now in
+    let named = rw c.in-Ref.is at c.requires.ty in
+    let none = c.in-None.ensures.tree t c.requires.table named in
+    ap (Ref c.in-Ref.cap) (c.class_count.ensures.trees ∙ sym (class_number-unplaced (classes_of t) (name_at t c.in-Ref.name) none))
+    ∙ ap (λ y. type_of (classes_of t) (written t y)) (sym c.in-Ref.is)

@@ -1,0 +1,47 @@
+-- Marks of regions, and lists of those that were found (docs/language.md, "Steps").
+use Rattle.std.specs.Prelude.{◌≡◌, ℕ, ◌<◌, Bool as Truth, false, ◌||◌, List, [], ◌∷◌, map, filter_map, length, slice_index_or, Vec}
+use Rattle.std.specs.declared.alloc.Global.{Global}
+use Rattle.rg_base.specs.declared.object.Seen.{Seen}
+use Rattle.rg_base.specs.declared.value.Val.{Val}
+use Rattle.rg_tree.specs.Tree.{Class, Member}
+use Rattle.rg_tree.specs.Tables.{Tables}
+use Rattle.rg_tree.specs.RowTrees.{classes_of}
+use Rattle.rg_tree.specs.Keeps.{Begins}
+use Rattle.rg_rules.specs.Regions.{region_at, owned_in, among, in_regions, led_from}
+use Rattle.rg_rules.specs.Types.{field_member}
+use Rattle.rg_plain.specs.declared.beneath.Found.{Found}
+use Rattle.rg_plain.specs.declared.regions.Regions.{Regions}
+use Rattle.rg_plain.specs.declared.regions.Regions.TheVariants as regions
+
+-- whether a region has a mark
+abbrev pub is_marked : List Truth → ℕ → Truth
+is_marked marks r = slice_index_or marks r false
+
+-- those with a mark are these
+abbrev pub AreMarked : List Truth → List ℕ → Type 0
+AreMarked marks these = (r : ℕ) → is_marked marks r ≡ among these r
+
+-- the regions are these
+abbrev pub AreRegions : Regions → List ℕ → Type 0
+AreRegions (regions.One r) these = these ≡ r ∷ []
+AreRegions (regions.Marked marks) these = AreMarked marks.items these
+
+-- the regions to which owner references lead in members with these values
+abbrev pub links_in : Tables → List Seen → List Member → List Val → List ℕ
+links_in t store members values = filter_map (region_at store) (owned_in (classes_of t) (filter_map field_member members) values)
+
+-- the list of a number
+abbrev pub listed : List (Vec ℕ Global) → ℕ → List ℕ
+listed lists r = slice_index_or (map (λ v. v.items) lists) r []
+
+-- these regions were found too, and stand behind those that were known
+pub record FindsToo (old new : Found) (these : List ℕ) : Type 0 where
+  pub count : length new.marks.items ≡ length old.marks.items
+  pub fit : AreMarked new.marks.items new.regions.items
+  pub before : Begins old.regions.items new.regions.items
+  pub marked : (r : ℕ) → is_marked new.marks.items r ≡ is_marked old.marks.items r || among these r
+
+-- for each of the first regions, so many, there is the list of those to which owner references lead from it
+pub record AreLinks (classes : List Class) (store : List Seen) (count : ℕ) (lists : List (Vec ℕ Global)) : Type 0 where
+  pub count_is : length lists ≡ count
+  pub led : (r : ℕ) → r < count → listed lists r ≡ led_from classes store (in_regions (r ∷ [])) store

@@ -1,0 +1,113 @@
+-- What a whole step answers, exactly, and what stands where.
+use Rattle.std.specs.Prelude.{◌≡◌, ◌≢◌, ◌⊎◌, Bool as Truth, true, false, if◌then◌else◌, List, [], ◌∷◌, ◌++◌}
+use Rattle.rg_base.specs.declared.outcome.Outcome.{Outcome}
+use Rattle.rg_base.specs.declared.outcome.Outcome.TheVariants as outcome
+use Rattle.rg_tree.specs.Tree.{stmt, StmtKind, declare, assign, call, swap, branch, while, enter, print, collect, return, Right, value, new as makes, new_tmp, new_iso, freeze, merge, read, more, result_of}
+use Rattle.rg_rules.specs.Items.{Item, Do, EndAt, LeaveAt, Back}
+use Rattle.rg_rules.specs.State.{State}
+use Rattle.rg_rules.specs.Steps.{Stepped, Went, Trapped}
+
+-- Running and Printed come where things to do are left, and Done where none is. A value is printed where Printed says so, and
+-- nowhere else. After a trap or a fault the state is as before.
+abbrev pub Settles : Stepped → (old new : State) → Outcome → Type 0
+Settles step old new outcome.Running = (step ≡ Went new) × (new.items ≢ []) × (new.output ≡ old.output)
+Settles step old new (outcome.Printed v) = (step ≡ Went new) × (new.items ≢ []) × (new.output ≡ old.output ++ v ∷ [])
+Settles step old new outcome.Done = (step ≡ Went new) × (new.items ≡ []) × (new.output ≡ old.output)
+Settles step old new (outcome.Trap kind line) = (step ≡ Trapped kind line) × (new ≡ old)
+Settles step old new outcome.InputFault = new ≡ old
+Settles step old new outcome.Memory = new ≡ old
+
+-- a step that goes on has printed
+abbrev pub PrintsOrStays : Outcome → Type 0
+PrintsOrStays outcome.Running = ⊥
+PrintsOrStays (outcome.Printed v) = Unit {0}
+PrintsOrStays outcome.Done = ⊥
+PrintsOrStays (outcome.Trap kind line) = Unit {0}
+PrintsOrStays outcome.InputFault = Unit {0}
+PrintsOrStays outcome.Memory = Unit {0}
+
+-- the last thing to do, where there is one, is the end of main's block
+abbrev pub EndsMain : List Item → Type 0
+EndsMain [] = Unit {0}
+EndsMain (i ∷ []) = i ≡ EndAt 0
+EndsMain (i ∷ j ∷ rest) = EndsMain (j ∷ rest)
+
+-- whether a right side asks for the input
+abbrev pub asks : Right → Truth
+asks (value e) = false
+asks (makes x) = false
+asks (new_tmp x) = false
+asks (new_iso x m) = false
+asks (freeze y) = false
+asks (merge y) = false
+asks read = true
+asks more = true
+asks (result_of c) = false
+
+-- whether a statement does
+abbrev pub kind_asks : StmtKind → Truth
+kind_asks (declare x t r) = asks r
+kind_asks (assign p r) = asks r
+kind_asks (call c) = false
+kind_asks (swap y p) = false
+kind_asks (branch e first other) = false
+kind_asks (while e body) = false
+kind_asks (enter p z body) = false
+kind_asks (print e) = false
+kind_asks collect = false
+kind_asks (return e) = false
+
+-- whether the first thing to do asks for the input
+abbrev pub first_asks : List Item → Truth
+first_asks [] = false
+first_asks (Do (stmt line k) ∷ rest) = kind_asks k
+first_asks (EndAt k ∷ rest) = false
+first_asks (LeaveAt k ∷ rest) = false
+first_asks (Back ∷ rest) = false
+
+-- the outcome of a step that went: where nothing is left it is Done
+abbrev pub settled_outcome : Outcome → (empty : Truth) → Outcome
+settled_outcome outcome.Running empty = if empty then outcome.Done else outcome.Running
+settled_outcome (outcome.Printed v) empty = outcome.Printed v
+settled_outcome outcome.Done empty = outcome.Done
+settled_outcome (outcome.Trap kind line) empty = outcome.Trap kind line
+settled_outcome outcome.InputFault empty = outcome.InputFault
+settled_outcome outcome.Memory empty = outcome.Memory
+
+-- whether a statement prints
+abbrev pub prints : StmtKind → Truth
+prints (declare x t r) = false
+prints (assign p r) = false
+prints (call c) = false
+prints (swap y p) = false
+prints (branch e first other) = false
+prints (while e body) = false
+prints (enter p z body) = false
+prints (print e) = true
+prints collect = false
+prints (return e) = false
+
+-- whether a thing to do prints
+abbrev pub item_prints : Item → Truth
+item_prints (Do (stmt line k)) = prints k
+item_prints (EndAt k) = false
+item_prints (LeaveAt k) = false
+item_prints Back = false
+
+-- whether the first thing to do prints
+abbrev pub first_prints : List Item → Truth
+first_prints [] = false
+first_prints (i ∷ rest) = item_prints i
+
+-- a step that goes on has printed where the first thing to do prints
+abbrev pub QuietOrPrints : List Item → Outcome → Type 0
+QuietOrPrints items result = (first_prints items ≡ false) ⊎ PrintsOrStays result
+
+-- rows are left where a step went on, and none where it was the last
+abbrev pub LeavesRows : {R : Type 0} → List R → Outcome → Type 0
+LeavesRows rows outcome.Running = rows ≢ []
+LeavesRows rows (outcome.Printed v) = rows ≢ []
+LeavesRows rows outcome.Done = rows ≡ []
+LeavesRows rows (outcome.Trap kind line) = Unit {0}
+LeavesRows rows outcome.InputFault = Unit {0}
+LeavesRows rows outcome.Memory = Unit {0}

@@ -1,0 +1,11 @@
+-- Room that was made before.
+use Rattle.std.specs.Prelude.{◌<◌, length, vec_capacity}
+use Rattle.rg_plain.specs.declared.aims.Aim.{Aim}
+use Rattle.rg_plain.specs.declared.aims.Aim.TheVariants as aim
+use Rattle.rg_plain.specs.declared.parts.Parts.{Parts}
+
+-- there is room for a value where it goes
+abbrev pub HasRoom : Parts → Aim → Type 0
+HasRoom p (aim.Declares x ty) = length p.frame.locals.items < vec_capacity p.frame.locals
+HasRoom p (aim.Assigns x) = Unit {0}
+HasRoom p (aim.Field a x) = Unit {0}

@@ -1,0 +1,74 @@
+-- What a run answers, has written and leaves, in terms of the machine that never frees.
+use Rattle.std.specs.Prelude.{◌≡◌, ℕ, ◌-◌, ◌<◌, ◌≤◌, true, List, ◌++◌, length, drop, Option}
+use Rattle.rg_base.specs.declared.value.Val.{Val}
+use Rattle.rg_base.specs.declared.outcome.Ended.{Ended}
+use Rattle.rg_base.specs.declared.outcome.Ended.TheVariants as ended
+use Rattle.rg_base.specs.Text.{text}
+use Rattle.rg_io.specs.Content.{Appends, IsPrefix}
+use Rattle.rg_tree.specs.Tables.{Tables}
+use Rattle.rg_tree.specs.RowTrees.{classes_of}
+use Rattle.rg_rules.specs.State.{State}
+use Rattle.rg_rules.specs.Runs.{Ending, Running, Done, Stopped, Ran, plain_from}
+use Rattle.rg_plain.specs.Outcomes.{first_asks}
+use Rattle.rg_plain.specs.Machine.{Machine, state_of}
+
+-- the answer of a run that stands so after all its steps
+abbrev pub answer : Ending → Ended
+answer Running = ended.Spent
+answer Done = ended.Done
+answer (Stopped kind line) = ended.Trap kind line
+
+-- at most k steps from a state
+abbrev pub ran : Tables → State → (k : ℕ) → Ran
+ran t s k = plain_from (classes_of t) k 0 s
+
+-- the values printed after k steps, with those before
+abbrev pub output_after : Tables → State → ℕ → List Val
+output_after t s k = (ran t s k).state.output
+
+-- the text that k steps printed
+abbrev pub text_of : Tables → State → ℕ → List ℕ
+text_of t s k = text (drop (length s.output) (output_after t s k))
+
+-- what step k added to the text, k counted from 1
+abbrev pub added : Tables → State → ℕ → List ℕ
+added t s k = text (drop (length (output_after t s (k - 1))) (output_after t s k))
+
+-- where it is told, the text of the first k - 1 steps was taken, and a prefix of what step k added
+abbrev pub WroteUpTo : Tables → State → ℕ → Option (List ℕ) → Option (List ℕ) → Type 0
+WroteUpTo t s k old new = (part : List ℕ) × IsPrefix part (added t s k) × Appends old new (text_of t s (k - 1) ++ part)
+
+-- A run of n steps that nothing cut off: its answer, its text, its state and the number k of whole steps are those of the
+-- definition. `rest` is what is left of the input.
+pub record Whole (t : Tables) (s : State) (n k : ℕ) (m : Machine) (rest : List ℕ) (old new : Option (List ℕ)) (result : Ended) : Type 0 where
+  pub answer_is : result ≡ answer (ran t s n).ending
+  pub text_is : Appends old new (text_of t s n)
+  pub steps_are : k ≡ (ran t s n).steps
+  pub state_is : state_of t m rest ≡ (ran t s n).state
+
+-- the machine stands at k whole steps of a run of at most n
+pub record StandsAt (t : Tables) (s : State) (n k : ℕ) (m : Machine) (rest : List ℕ) : Type 0 where
+  pub within : k ≤ n
+  pub made : (ran t s k).steps ≡ k
+  pub state_is : state_of t m rest ≡ (ran t s k).state
+
+-- a run that was cut off by the output, or for want of memory
+pub record CutOff (t : Tables) (s : State) (n k : ℕ) (m : Machine) (rest : List ℕ) (old new : Option (List ℕ)) : Type 0 where
+  pub stands : StandsAt t s n k m rest
+  pub wrote : WroteUpTo t s k old new
+
+-- a run that was cut off by the input, in front of a step that asks for it
+pub record CutAtInput (t : Tables) (s : State) (n k : ℕ) (m : Machine) (rest : List ℕ) (old new : Option (List ℕ)) : Type 0 where
+  pub stands : StandsAt t s n k m rest
+  pub before : k < n
+  pub asks : first_asks (ran t s k).state.items ≡ true
+  pub wrote : Appends old new (text_of t s k)
+
+-- what a run of at most n steps has answered, k being the number of whole ones
+abbrev pub RunIs : Tables → State → (n k : ℕ) → Machine → List ℕ → (old new : Option (List ℕ)) → Ended → Type 0
+RunIs t s n k m rest old new ended.Done = Whole t s n k m rest old new ended.Done
+RunIs t s n k m rest old new ended.Spent = Whole t s n k m rest old new ended.Spent
+RunIs t s n k m rest old new (ended.Trap kind line) = Whole t s n k m rest old new (ended.Trap kind line)
+RunIs t s n k m rest old new ended.InputFault = CutAtInput t s n k m rest old new
+RunIs t s n k m rest old new ended.OutputFault = CutOff t s n k m rest old new
+RunIs t s n k m rest old new ended.Memory = CutOff t s n k m rest old new

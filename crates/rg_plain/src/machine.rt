@@ -1,0 +1,276 @@
+//! The machine that never frees (docs/language.md, "Steps").
+
+ghost use Rattle.std.specs.Prelude.{◌≡◌, ◌≢◌, ◌≤◌, [], ℕ, length, false, true, slice_get};
+ghost use Rattle.std.specs.Prelude.{OnOk, OnErr, IfOk};
+ghost use Rattle.rg_tree.specs.RowTrees.{program_of};
+ghost use Rattle.rg_rules.specs.Acceptance.{Accepted};
+ghost use Rattle.rg_io.specs.Content.{Rose};
+ghost use Rattle.rg_input.specs.Numbers.{Follows, OnInput};
+ghost use Rattle.rg_names.specs.TableOf.{IsTableOf};
+ghost use Rattle.rg_plain.specs.Kept.{kept_of, shown};
+ghost use Rattle.rg_plain.specs.Outcomes.{first_asks, LeavesRows};
+ghost use Rattle.rg_plain.specs.Machine.{fresh, Fits, Begins, BegunWith, StepsOn};
+ghost use Rattle.rg_plain.specs.Machine.{state_of};
+ghost use Rattle.rg_plain.specs.Runs.{RunIs};
+
+use crate::dispatch::whole_step;
+use crate::items::open;
+use crate::line::put_value;
+use crate::parts::Parts;
+use crate::rows::{FrameRow, TargetRow, WindowRow};
+use rg_base::{Ended, Memory, Outcome, Seen, Val, Vals};
+use rg_input::Numbers;
+use rg_io::{Failed, Sink, Source};
+use rg_names::Classes;
+use rg_tree::Program;
+use std::alloc::Global;
+use std::marker::Model;
+
+/// A machine for one program. What it keeps goes by the numbers of that program's rows.
+#[derive(Drop)]
+pub struct PlainMachine {
+    classes: Option<Classes>,
+    parts: Parts,
+}
+
+impl Model for PlainMachine {
+    ghost use Rattle.rg_plain.specs.Kept.{kept_of};
+    ghost use Rattle.rg_plain.specs.Machine.{Machine};
+
+    ghost Value = { Machine };
+
+    ghost view = { λ m. record { classes = m.classes; kept = kept_of m.parts } };
+}
+
+/// The class table of an accepted program.
+fn table(alloc: Global, program: &Program) -> Result<Classes, Memory>
+    ensures { IfOk result (IsTableOf program.now) }
+{
+    match Classes::of(alloc, program) {
+        Ok(classes) => Ok(classes),
+        Err(_) => Err(Memory),
+    }
+}
+
+/// The parts of a machine on which no program has begun.
+fn fresh_parts(alloc: Global) -> Parts
+    ensures { kept_of result ≡ fresh.kept }
+{
+    Parts {
+        store: Vec::new(alloc),
+        frame: FrameRow {
+            locals: Vec::new(alloc),
+            target: TargetRow::Drops,
+        },
+        below: Vec::new(alloc),
+        window: WindowRow {
+            number: 0,
+            region: 0,
+            owner: None,
+            base_frame: 0,
+            base_place: 0,
+        },
+        outer: Vec::new(alloc),
+        managers: Vec::new(alloc),
+        windows_made: 1,
+        items: Vec::new(alloc),
+        output: Vals::new(alloc),
+    }
+}
+
+/// Puts main's block in front, and its manager to region 0.
+fn begin_parts(program: &Program, m: &mut Parts) -> Result<(), Memory>
+    requires fresh { kept_of m.old ≡ fresh.kept }
+    ensures begun { OnOk result (BegunWith program.now (kept_of m.new)) }
+    ensures kept { OnErr result (kept_of m.new ≡ kept_of m.old) }
+{
+    let Ok(()) = m.items.reserve(2) else {
+        return Err(Memory);
+    };
+    let Ok(()) = m.managers.push(program.main_manager()) else {
+        return Err(Memory);
+    };
+    open(program, &mut m.items, 0, program.main_body());
+    Ok(())
+}
+
+/// The same values as a list.
+fn vals_of(alloc: Global, fields: &[Val]) -> Result<Vals, Memory>
+    ensures { IfOk result (λ vs. vs ≡ fields.now) }
+{
+    let mut values = Vals::new(alloc);
+    for v in fields {
+        values.push(*v)?;
+    }
+    Ok(values)
+}
+
+impl PlainMachine {
+    /// A machine on which no program has begun.
+    pub fn new(alloc: Global) -> PlainMachine
+        ensures { result ≡ fresh }
+    {
+        PlainMachine {
+            classes: None,
+            parts: fresh_parts(alloc),
+        }
+    }
+
+    /// Begins a program, without a step.
+    pub fn begin(&mut self, alloc: Global, program: &Program) -> Result<(), Memory>
+        requires fresh { self.old ≡ fresh }
+        requires accepted { Accepted (program_of program.now) }
+        ensures begins { OnOk result (Begins program.now self.new) }
+        ensures kept { OnErr result (self.new ≡ self.old) }
+    {
+        let classes = table(alloc, program)?;
+        begin_parts(program, &mut self.parts)?;
+        self.classes = Some(classes);
+        Ok(())
+    }
+
+    /// Makes one step. A step that reads no input asks the source for nothing.
+    pub fn step<S: Source>(
+        &mut self,
+        alloc: Global,
+        program: &Program,
+        input: &mut Numbers,
+        source: &mut S,
+    ) -> Outcome
+        requires left { self.old.kept.items ≢ [] }
+        requires fits { Fits program.now self.old }
+        requires follows { Follows input.old (S.left source.old) }
+
+        ensures step { OnInput input.old input.new (S.left source.old) (S.left source.new)
+            (StepsOn program.now self.old self.new result) }
+        ensures reads_nothing { first_asks (shown program.now self.old.kept.items) ≡ false →
+            (input.new ≡ input.old) × (source.new ≡ source.old) }
+        ensures fits { Fits program.now self.new }
+        ensures left { LeavesRows self.new.kept.items result }
+        ensures follows { Follows input.new (S.left source.new) }
+
+        ensures input_fault { result ≡ Outcome.InputFault →
+            first_asks (shown program.now self.old.kept.items) ≡ true }
+        ensures fault { result ≡ Outcome.InputFault →
+            Rose (S.faults source.old) (S.faults source.new) }
+        ensures never_falls { S.faults source.old ≤ S.faults source.new }
+    {
+        match &self.classes {
+            Some(classes) => { whole_step(alloc, program, classes, &mut self.parts, input, source) }
+            None => Outcome::Memory,
+        }
+    }
+
+    /// Makes at most `n` steps. Each printed line is given to `out` in its own step.
+    pub fn run<S: Source, O: Sink>(
+        &mut self,
+        alloc: Global,
+        program: &Program,
+        n: u64,
+        input: &mut Numbers,
+        source: &mut S,
+        out: &mut O,
+    ) -> Ended
+        requires left { self.old.kept.items ≢ [] }
+        requires fits { Fits program.now self.old }
+        requires follows { Follows input.old (S.left source.old) }
+
+        ensures run { OnInput input.old input.new (S.left source.old) (S.left source.new)
+            (λ before after. (k : ℕ) × RunIs program.now (state_of program.now self.old before) n k
+            self.new after (O.taken out.old) (O.taken out.new) result) }
+        ensures fits { Fits program.now self.new }
+        ensures follows { Follows input.new (S.left source.new) }
+
+        ensures input_fault { result ≡ Ended.InputFault →
+            Rose (S.faults source.old) (S.faults source.new) }
+        ensures output_fault { result ≡ Ended.OutputFault →
+            Rose (O.faults out.old) (O.faults out.new) }
+        ensures source_never_falls { S.faults source.old ≤ S.faults source.new }
+        ensures sink_never_falls { O.faults out.old ≤ O.faults out.new }
+    {
+        let mut steps = 0;
+        self.run_counting(alloc, program, n, &mut steps, input, source, out)
+    }
+
+    /// Makes at most `n` steps, as `run` does, and counts the whole ones in `steps`.
+    pub fn run_counting<S: Source, O: Sink>(
+        &mut self,
+        alloc: Global,
+        program: &Program,
+        n: u64,
+        steps: &mut u64,
+        input: &mut Numbers,
+        source: &mut S,
+        out: &mut O,
+    ) -> Ended
+        requires left { self.old.kept.items ≢ [] }
+        requires fits { Fits program.now self.old }
+        requires follows { Follows input.old (S.left source.old) }
+        requires none { steps.old ≡ 0 }
+
+        ensures run { OnInput input.old input.new (S.left source.old) (S.left source.new)
+            (λ before after. RunIs program.now (state_of program.now self.old before) n steps.new
+            self.new after (O.taken out.old) (O.taken out.new) result) }
+        ensures fits { Fits program.now self.new }
+        ensures follows { Follows input.new (S.left source.new) }
+
+        ensures input_fault { result ≡ Ended.InputFault →
+            Rose (S.faults source.old) (S.faults source.new) }
+        ensures output_fault { result ≡ Ended.OutputFault →
+            Rose (O.faults out.old) (O.faults out.new) }
+        ensures source_never_falls { S.faults source.old ≤ S.faults source.new }
+        ensures sink_never_falls { O.faults out.old ≤ O.faults out.new }
+    {
+        while *steps < n {
+            match self.step(alloc, program, input, source) {
+                Outcome::Running => *steps += 1,
+                Outcome::Printed(v) => {
+                    *steps += 1;
+                    match put_value(out, v) {
+                        Ok(()) => (),
+                        Err(Failed) => return Ended::OutputFault,
+                    }
+                }
+                Outcome::Done => {
+                    *steps += 1;
+                    return Ended::Done;
+                }
+                Outcome::Trap { kind, line } => return Ended::Trap { kind, line },
+                Outcome::InputFault => return Ended::InputFault,
+                Outcome::Memory => return Ended::Memory,
+            }
+        }
+        Ended::Spent
+    }
+
+    /// How many objects were made.
+    pub fn made(&self) -> u64
+        ensures { result ≡ length self.now.kept.store }
+    {
+        self.parts.store.len() as u64
+    }
+
+    /// The values that were printed, the oldest first.
+    pub fn output(&self) -> &Vals
+        ensures { result.now ≡ self.now.kept.output }
+    {
+        &self.parts.output
+    }
+
+    /// The object of a serial; None past the last one that was made.
+    pub fn object(&self, alloc: Global, serial: u64) -> Result<Option<Seen>, Memory>
+        ensures { IfOk result (λ o. o ≡ slice_get self.now.kept.store serial) }
+    {
+        match self.parts.store.get(serial as usize) {
+            Some(object) => {
+                let fields = vals_of(alloc, &object.fields)?;
+                Ok(Some(Seen {
+                    class: object.class,
+                    fields,
+                    label: object.label,
+                }))
+            }
+            None => Ok(None),
+        }
+    }
+}

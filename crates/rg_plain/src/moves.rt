@@ -1,0 +1,213 @@
+//! The steps of `freeze y` and `merge y` (docs/language.md, "Steps").
+
+ghost use Rattle.std.specs.Prelude.{◌≡◌, ◌≢◌, ◌<◌, ◌∷◌, [], ℕ, List, Some, IfOk, IfSome};
+ghost use Rattle.std.specs.Prelude.{length, slice_get};
+ghost use Rattle.rg_base.specs.declared.object.Seen.{Seen};
+ghost use Rattle.rg_tree.specs.Tree.{stmt};
+ghost use Rattle.rg_tree.specs.RowTrees.{classes_of, stmt_at};
+ghost use Rattle.rg_tree.specs.RowsExist.{IsNameIn};
+ghost use Rattle.rg_rules.specs.Regions.{region_of, beneath};
+ghost use Rattle.rg_rules.specs.Steps.{next};
+ghost use Rattle.rg_plain.specs.Beneath.{AreMarked, AreRegions};
+ghost use Rattle.rg_plain.specs.Fits.{PartsFit};
+ghost use Rattle.rg_plain.specs.Kept.{kept_of, plain_of};
+ghost use Rattle.rg_plain.specs.Moves.{right_of, label_of, regions_with, carried, HeldIs};
+ghost use Rattle.rg_plain.specs.Regions.{LabelFits, LabelsFit};
+ghost use Rattle.rg_plain.specs.Rooms.{HasRoom};
+ghost use Rattle.rg_plain.specs.Shown.{store_of};
+ghost use Rattle.rg_plain.specs.Spots.{LeftFits, AimFits, statement_of};
+ghost use Rattle.rg_plain.specs.Steps.{StepIs, IsAt};
+
+use crate::aims::{Aim, Left, aim_of, make_room, put};
+use crate::at::At;
+use crate::beneath::beneath;
+use crate::items::advance;
+use crate::locals::{set, variable};
+use crate::objects::object_place;
+use crate::parts::Parts;
+use crate::regions::{Regions, region, relabel};
+use crate::rows::ObjectRow;
+use rg_base::{Label, Memory, Outcome, Trap, Val};
+use rg_names::Classes;
+use rg_tree::Program;
+use std::alloc::Global;
+
+/// How regions are moved.
+#[derive(Clone, Copy)]
+pub enum Move {
+    /// `freeze y`: the region of an object, and all beneath it, are frozen
+    Freeze,
+    /// `merge y`: the objects of that region go to the active one
+    Merge,
+}
+
+/// What a variable holds, and the region in which that lies.
+#[derive(Clone, Copy)]
+pub(crate) struct Held {
+    pub(crate) value: Val,
+    pub(crate) region: Option<u64>,
+}
+
+/// The region in which the object at a place lies.
+fn region_at(store: &[ObjectRow], place: usize) -> Option<u64>
+    requires { place < length store.now }
+    ensures region { (o : Seen) → slice_get (store_of store.now) place ≡ Some o →
+        region_of o.label ≡ result }
+    ensures made { IfSome result (λ r. (count : ℕ) → LabelsFit count (store_of store.now) →
+        r < count) }
+{
+    let object = &store[place];
+    region(object.label)
+}
+
+/// What a variable holds; following nil traps.
+fn value_held(program: &Program, classes: &Classes, m: &Parts, name: u32) -> Result<Held, Trap>
+    requires fit { PartsFit program.now classes.now m.now }
+    requires name { IsNameIn program.now name }
+    ensures { HeldIs program.now (kept_of m.now) name result }
+{
+    let _ = classes;
+    let value = variable(program, &m.frame.locals, Some(name));
+    let place = object_place(&m.store, value)?;
+    Ok(Held {
+        value,
+        region: region_at(&m.store, place),
+    })
+}
+
+/// A mark for each region beneath one, and for that itself.
+fn marks_beneath(
+    alloc: Global,
+    program: &Program,
+    classes: &Classes,
+    m: &Parts,
+    region: u64,
+) -> Result<Vec<bool>, Memory>
+    requires fit { PartsFit program.now classes.now m.now }
+    requires made { region < length m.now.managers.items }
+    ensures { IfOk result (λ marks. let k = kept_of m.now in AreMarked marks.items
+        (beneath (classes_of program.now) k.store (length k.managers) (region ∷ []))) }
+{
+    let _ = classes;
+    beneath(alloc, program, &m.store, m.managers.len(), region)
+}
+
+/// The regions that move with a region.
+fn regions_with(
+    alloc: Global,
+    program: &Program,
+    classes: &Classes,
+    m: &Parts,
+    how: Move,
+    region: u64,
+) -> Result<Regions, Memory>
+    requires fit { PartsFit program.now classes.now m.now }
+    requires made { region < length m.now.managers.items }
+    ensures { IfOk result (λ regions. let k = kept_of m.now in AreRegions regions (regions_with
+        (classes_of program.now) k.store (length k.managers) how region)) }
+{
+    match how {
+        Move::Freeze => {
+            let marks = marks_beneath(alloc, program, classes, m, region)?;
+            Ok(Regions::Marked(marks))
+        }
+        Move::Merge => Ok(Regions::One(region)),
+    }
+}
+
+/// What objects become that are moved.
+fn new_label(program: &Program, classes: &Classes, m: &Parts, how: Move) -> Label
+    requires fit { PartsFit program.now classes.now m.now }
+    ensures label { (input : List ℕ) →
+        result ≡ label_of (plain_of program.now (kept_of m.now) input).windows how }
+    ensures made { LabelFits (length m.now.managers.items) result }
+{
+    let _ = program;
+    let _ = classes;
+    match how {
+        Move::Freeze => Label::Frozen,
+        Move::Merge => Label::Region(m.window.region),
+    }
+}
+
+/// Gives the objects of regions another label, and takes a value out of its variable to where it
+/// goes.
+fn carry(
+    program: &Program,
+    classes: &Classes,
+    m: &mut Parts,
+    regions: &Regions,
+    label: Label,
+    aim: Aim,
+    name: u32,
+    value: Val,
+)
+    requires fit { PartsFit program.now classes.now m.old }
+    requires regions { (these : List ℕ) × AreRegions regions.now these }
+    requires label { LabelFits (length m.old.managers.items) label }
+    requires aim { AimFits program.now (length m.old.store.items) aim }
+    requires room { HasRoom m.old aim }
+    requires name { IsNameIn program.now name }
+    ensures carried { (input : List ℕ) (these : List ℕ) → AreRegions regions.now these →
+        plain_of program.now (kept_of m.new) input
+        ≡ carried program.now aim name (plain_of program.now (kept_of m.old) input) these label
+        value }
+    ensures fit { PartsFit program.now classes.now m.new }
+{
+    relabel(program, &mut m.store, regions, label);
+    set(program, &mut m.frame.locals, Some(name), Val::Nil);
+    put(program, classes, m, aim, value);
+}
+
+/// Moves the region of an object out of a variable. Where it lies in none, nothing changes.
+pub(crate) fn move_step(
+    alloc: Global,
+    program: &Program,
+    classes: &Classes,
+    m: &mut Parts,
+    at: At,
+    left: Left,
+    name: u32,
+    how: Move,
+) -> Outcome
+    requires fit { PartsFit program.now classes.now m.old }
+    requires at { IsAt program.now m.old.items.items at.span at.number }
+    requires tree { stmt_at program.now at.number ≡ stmt at.line (
+        statement_of program.now left (right_of program.now name how)) }
+    requires left { LeftFits program.now left }
+    requires name { IsNameIn program.now name }
+    ensures step { (input : List ℕ) → let old = plain_of program.now (kept_of m.old) input in
+        StepIs (next (classes_of program.now) old) old
+        (plain_of program.now (kept_of m.new) input) result }
+    ensures fit { PartsFit program.now classes.now m.new }
+    ensures reads_nothing { result ≢ Outcome.InputFault }
+{
+    let aim = match aim_of(program, classes, m, left) {
+        Ok(aim) => aim,
+        Err(kind) => return Outcome::Trap {
+            kind,
+            line: at.line,
+        },
+    };
+    let held = match value_held(program, classes, m, name) {
+        Ok(held) => held,
+        Err(kind) => return Outcome::Trap {
+            kind,
+            line: at.line,
+        },
+    };
+    let Some(region) = held.region else {
+        advance(program, &mut m.items, at.span, at.number);
+        return Outcome::Running;
+    };
+    let Ok(()) = make_room(program, classes, m, aim) else {
+        return Outcome::Memory;
+    };
+    let Ok(regions) = regions_with(alloc, program, classes, m, how, region) else {
+        return Outcome::Memory;
+    };
+    let label = new_label(program, classes, m, how);
+    advance(program, &mut m.items, at.span, at.number);
+    carry(program, classes, m, &regions, label, aim, name, held.value);
+    Outcome::Running
+}
