@@ -1,7 +1,2 @@
-mod Examples
-mod ListLemmas
-mod NumberLemmas
-mod PlainLemmas
-mod StepLemmas
-mod TextLemmas
-mod RunLemmas
+mod OutputLemmas
+pub mod RunLemmas

@@ -1,140 +1,136 @@
--- A run from its first step to its end, over plain variables.
-use Rattle.std.proofs.Common.{◌≡◌, ℕ, ◌+◌, ◌-◌, ◌≤◌, true, List, [], ◌∷◌, ◌++◌, Option, refl, sym, ◌∙◌, ap, subst, inr, arith, append-nil}
+-- Runs of the machine that never frees, of different numbers of steps, and the text that they print. For callers.
+use Rattle.std.proofs.Common.{◌≡◌, ◌≢◌, ℕ, zero, suc, ◌+◌, ◌-◌, ◌≤◌, inr, true, List, [], ◌∷◌, ◌++◌, length, drop, Option, refl, sym, ap, ◌∙◌, subst, arith, append-nil, append_assoc}
+use Rattle.std.proofs.Math.Seq.{drop-append_seam}
+use Rattle.std.proofs.lemmas.Grind.{flat_map-append}
 use Rattle.rg_base.specs.declared.value.Val.{Val}
 use Rattle.rg_base.specs.declared.outcome.Ended.{Ended}
-use Rattle.rg_base.specs.declared.outcome.Ended.TheVariants as ended_as
 use Rattle.rg_base.specs.Text.{line_text, text}
 use Rattle.rg_io.specs.Content.{Appends, AppendsPart}
-use Rattle.rg_io.proofs.ContentLemmas.{Appends-more}
-use Rattle.rg_parse.specs.declared.statement.ThinStmt.{ThinStmt}
-use Rattle.rg_parse.specs.Tree.{Program}
-use Rattle.rg_parse.specs.Numbering.{Numbers}
-use Rattle.rg_run.specs.State.{EndAt}
-use Rattle.rg_run.specs.Plain.{Ran, plain, opening}
-use Rattle.rg_run.specs.Plain.{plain_from}
-use Rattle.rg_run.specs.Machine.{Kept, Shows}
-use Rattle.rg_run.specs.Runs.{answer, output_after, Leaves, ShowsRan}
-use Rattle.rg_run.specs.Standing.{ended, StandsAt, StandsDone, Printed}
-use Rattle.rg_run.proofs.ListLemmas.{drop-items_of}
-use Rattle.rg_run.proofs.PlainLemmas.{plain_from-done}
-use Rattle.rg_run.proofs.StepLemmas.{ending-running}
-use Rattle.rg_run.proofs.TextLemmas.{text-append, text-one, wrote-all, wrote-part}
+use Rattle.rg_tree.specs.Tree.{Class, Tree, Block, empty as none, then as followed_by}
+use Rattle.rg_tree.specs.Tables.{Tables}
+use Rattle.rg_tree.specs.RowTrees.{program_of, block_of}
+use Rattle.rg_rules.specs.Items.{Item, EndAt, items_of}
+use Rattle.rg_rules.specs.State.{State}
+use Rattle.rg_rules.specs.Steps.{Stepped, Went, Trapped, step_item}
+use Rattle.rg_rules.specs.Runs.{opening, plain, plain_from}
+use Rattle.rg_input.specs.Numbers.{Pending, OnInput}
+use Rattle.rg_input.proofs.InputLemmas.{OnInput-map}
+use Rattle.rg_plain.specs.Kept.{shown, items_from}
+use Rattle.rg_plain.specs.Machine.{Machine, Begins, state_of}
+use Rattle.rg_plain.specs.Runs.{RunIs, WroteUpTo}
+use Rattle.rg_run.specs.Runs.{RunsOn}
+use Rattle.rg_run.proofs.OutputLemmas.{GoesOn, run-later, ends-block}
 
--- a run so far: the machine stands at the program, and its text was taken
-pub record RanSoFar (p : Program) (stmts : List ThinStmt) (m : Kept) (old new : Option (List ℕ)) : Type 0 where
-  pub stands : StandsAt p stmts m
-  pub took : Appends old new (text (output_after p m.steps))
+-- main's block is never without a thing to do
+opening-some : (b : Block) → items_of b (EndAt 0 ∷ []) ≢ []
+opening-some none e = cc
+opening-some (followed_by s b) e = cc
 
--- a machine that has begun and made no step stands at each program that its statements number
-pub stands-opening : (p : Program) (stmts : List ThinStmt) (slots : List Val) (steps : ℕ) → Numbers p stmts → slots ≡ [] → steps ≡ 0 →
-    StandsAt p stmts (record { begun = true; slots = slots; steps = steps })
+-- a machine that has begun has something to do
+pub begun-some : (t : Tables) (m : Machine) → Begins t m → m.kept.items ≢ []
+unfolding items_from
+begun-some t m begins empty =
+    opening-some (block_of t t.body) (sym (ap (λ s. s.items) (begins.state [])) ∙ ap (shown t) empty)
+
+-- a run of a machine that has begun is one from the opening state
+pub begun-run : (t u : Tables) (n k : ℕ) (begun m : Machine) (a b : Pending) (left behind old new : Option (List ℕ)) (e : Ended) → t ≡ u →
+    Begins t begun → OnInput a b left behind (λ before after. RunIs t (state_of t begun before) n k m after old new e) →
+    OnInput a b left behind (RunsOn u n old new (record { begun = true; plain = m; steps = k }) e)
+begun-run t u n k begun m a b left behind old new e same begins h =
+    let Q : Tables → Type 0 = λ q. OnInput a b left behind (RunsOn q n old new (record { begun = true; plain = m; steps = k }) e) in
+    subst Q same
+    (OnInput-map a b left behind (λ before after. RunIs t (state_of t begun before) n k m after old new e)
+    (RunsOn t n old new (record { begun = true; plain = m; steps = k }) e) h
+    (λ before after ran.
+    let P : State → Type 0 = λ s. RunIs t s n k m after old new e in
+    inr (record { begun = refl; run = subst P (begins.state before) ran })))
+
+-- a run is the one of as many steps as it made
+pub record IsRunOf (classes : List Class) (d n made : ℕ) (s : State) : Type 0 where
+  pub within : d ≤ n
+  pub steps : (plain_from classes n made s).steps ≡ made + d
+  pub made_steps : (plain_from classes d made s).steps ≡ made + d
+  pub state : (plain_from classes d made s).state ≡ (plain_from classes n made s).state
+
+run-of-step : (classes : List Class) (n made : ℕ) (s : State) (i : Item) (rest : List Item) (step : Stepped) → s.items ≡ i ∷ rest →
+    step_item classes (record s { items = rest }) i ≡ step →
+    ((t : State) → (d : ℕ) × IsRunOf classes d n (made + 1) t) → (d : ℕ) × IsRunOf classes d (suc n) made s
 unfolding plain_from
-stands-opening p stmts slots steps numbers no_slots no_steps =
-    record {
-      begun = refl;
-      locals = [];
-      output = [];
-      within = omega (arith, no_steps);
-      plain_is = rw no_steps (ap (λ e. record { state = opening p; steps = 0; ending = e }) (ending-running p.body));
-      slots = no_slots;
-      numbers = rw no_steps numbers;
-    }
+run-of-step classes n made s i rest (Went t) some e more =
+    let m = more t in (
+      suc m.0,
+      record {
+        within = omega (arith, m.1.within);
+        steps = rw (some, e) (omega (arith, m.1.steps));
+        made_steps = rw (some, e) (omega (arith, m.1.made_steps));
+        state = rw (some, e) m.1.state;
+      },
+    )
+run-of-step classes n made s i rest (Trapped kind line) some e more =
+    (0, record { within = omega arith; steps = rw (some, e) (omega arith); made_steps = omega arith; state = rw (some, e) refl })
 
--- before the first step nothing is written
-pub RanSoFar-opening : (p : Program) (stmts : List ThinStmt) (slots : List Val) (steps : ℕ) (content : Option (List ℕ)) →
-    Numbers p stmts → slots ≡ [] → steps ≡ 0 → Appends content content [] →
-    RanSoFar p stmts (record { begun = true; slots = slots; steps = steps }) content content
+run-of-on : (classes : List Class) (n made : ℕ) (s : State) (items : List Item) → s.items ≡ items →
+    ((t : State) → (d : ℕ) × IsRunOf classes d n (made + 1) t) → (d : ℕ) × IsRunOf classes d (suc n) made s
 unfolding plain_from
-RanSoFar-opening p stmts slots steps content numbers no_slots no_steps nothing =
-    record { stands = stands-opening p stmts slots steps numbers no_slots no_steps; took = rw no_steps nothing }
+run-of-on classes n made s [] is more =
+    (0, record { within = omega arith; steps = rw is (omega arith); made_steps = omega arith; state = rw is refl })
+run-of-on classes n made s (i ∷ rest) some more =
+    run-of-step classes n made s i rest (step_item classes (record s { items = rest }) i) some refl more
 
--- a step that printed nothing
-pub RanSoFar-quiet : (p : Program) (stmts : List ThinStmt) (m next : Kept) (old new : Option (List ℕ)) →
-    RanSoFar p stmts m old new → StandsAt p stmts next × Printed p m next [] → RanSoFar p stmts next old new
-RanSoFar-quiet p stmts m next old new ran after =
+pub run-of : (classes : List Class) (n made : ℕ) (s : State) → (d : ℕ) × IsRunOf classes d n made s
+unfolding plain_from
+run-of classes zero made s = (0, record { within = omega arith; steps = omega arith; made_steps = omega arith; state = refl })
+run-of classes (suc n) made s = run-of-on classes n made s s.items refl (λ t. run-of classes n (made + 1) t)
+
+-- the output of more steps goes on behind that of fewer
+output-later : (t : Tree) (input : List ℕ) (j k : ℕ) → j ≤ k → GoesOn (plain t input j).state.output (plain t input k).state.output
+output-later t input j k within =
+    let P : ℕ → Type 0 = λ q. GoesOn (plain t input j).state.output (plain t input q).state.output in
+    let same : (k - j) + j ≡ k = omega (arith, within) in
+    subst P same (run-later t.classes 0 (k - j) j (opening t input) (ends-block t.body)).output
+
+-- the text of outputs end to end
+text-append : (xs ys : List Val) → text (xs ++ ys) ≡ text xs ++ text ys
+text-append xs ys = flat_map-append line_text xs ys
+
+-- the text of an output, and of what was added to it
+text-later : (xs ys : List Val) (g : GoesOn xs ys) → (text ys ≡ text xs ++ text g.0) × (text (drop (length xs) ys) ≡ text g.0)
+text-later xs ys g = (ap text g.1 ∙ text-append xs g.0, ap (λ q. text (drop (length xs) q)) g.1 ∙ ap text (drop-append_seam xs g.0))
+
+-- the text of fewer steps is a prefix of that of more
+pub text-part : (t : Tree) (input : List ℕ) (k n : ℕ) (old new : Option (List ℕ)) → k ≤ n →
+    Appends old new (text (plain t input k).state.output) → AppendsPart old new (text (plain t input n).state.output)
+text-part t input k n old new within took =
+    let g = output-later t input k n within in
+    (_, record { rest = text g.0; whole_is = (text-later _ _ g).0 }, took)
+
+-- a run that took all its text took that of the steps before its last, and then what that one added
+pub wrote-whole : (t : Tables) (input : List ℕ) (k : ℕ) (old new : Option (List ℕ)) →
+    Appends old new (text (plain (program_of t) input k).state.output) → WroteUpTo t (opening (program_of t) input) k old new
+wrote-whole t input k old new took =
+    let g = output-later (program_of t) input (k - 1) k (omega arith) in
+    let e = text-later _ _ g in
     let P : List ℕ → Type 0 = λ bytes. Appends old new bytes in
-    record { stands = after.0; took = subst P (sym (ap text (after.1 ∙ append-nil (output_after p m.steps)))) ran.took }
+    (text g.0, record { rest = []; whole_is = e.1 ∙ sym (append-nil (text g.0)) }, subst P e.0 took)
 
--- a step that printed a value, and then its line was taken
-pub RanSoFar-printed : (p : Program) (stmts : List ThinStmt) (m next : Kept) (v : Val) (old between new : Option (List ℕ)) →
-    RanSoFar p stmts m old between → StandsAt p stmts next × Printed p m next (v ∷ []) → Appends between new (line_text v) →
-    RanSoFar p stmts next old new
-RanSoFar-printed p stmts m next v old between new ran after line =
-    let P : List ℕ → Type 0 = λ bytes. Appends old new bytes in
-    let more : text (output_after p next.steps) ≡ text (output_after p m.steps) ++ line_text v =
-    ap text after.1 ∙ text-append (output_after p m.steps) (v ∷ []) ∙ ap (λ bytes. text (output_after p m.steps) ++ bytes) (text-one v) in
-    record { stands = after.0; took = subst P (sym more) (Appends-more old between new _ (line_text v) ran.took line) }
-
--- a machine that stands at a program shows its state
-pub shows-at : (p : Program) (stmts : List ThinStmt) (m : Kept) → StandsAt p stmts m → Shows p m (plain p m.steps).state
-shows-at p stmts m at =
-    let P : Ran → Type 0 = λ r. Shows p m r.state in
-    subst P (sym at.plain_is)
-    (record { begun = at.begun; slots = at.slots; place = sym (drop-items_of p.body m.steps (EndAt 0 ∷ []) at.within) })
-
--- a machine that is done shows the last state
-pub shows-done : (p : Program) (m : Kept) → StandsDone p m → Shows p m (plain p m.steps).state
-shows-done p m done =
-    let P : Ran → Type 0 = λ r. Shows p m r.state in
-    subst P (sym done.plain_is) (record { begun = done.begun; slots = done.slots; place = sym done.place })
-
--- what a run leaves that wasn't cut off
-pub record IsWhole (p : Program) (n : ℕ) (result : Ended) (m : Kept) (old new : Option (List ℕ)) : Type 0 where
-  pub answer_is : result ≡ answer (plain p n).ending
-  pub text_is : Appends old new (text (output_after p n))
-  pub state_is : ShowsRan p m (plain p n)
-
--- a run that made all its steps
-pub IsWhole-spent : (p : Program) (stmts : List ThinStmt) (n : ℕ) (m : Kept) (old new : Option (List ℕ)) →
-    RanSoFar p stmts m old new → m.steps ≡ n → IsWhole p n ended_as.Spent m old new
-IsWhole-spent p stmts n m old new ran all =
-    let P : ℕ → Type 0 = λ k. IsWhole p k ended_as.Spent m old new in
-    subst P all
-    (record {
-      answer_is = sym (ap (λ r. answer r.ending) ran.stands.plain_is);
-      text_is = ran.took;
-      state_is = record { shows = shows-at p stmts m ran.stands; steps = sym (ap (λ r. r.steps) ran.stands.plain_is) };
-    })
-
--- a program that is done after k steps is so after more
-pub plain-done : (p : Program) (n k : ℕ) (output : List Val) → plain p k ≡ ended output k → k ≤ n → plain p n ≡ plain p k
-plain-done p n k output done within =
-    let same : (n - k) + k ≡ n = omega arith in
-    ap (plain p) (sym same) ∙ plain_from-done (n - k) k 0 (opening p) output k done ∙ sym done
-
--- a run whose program is done
-pub IsWhole-done : (p : Program) (stmts : List ThinStmt) (n : ℕ) (m next : Kept) (old new : Option (List ℕ)) →
-    RanSoFar p stmts m old new → StandsDone p next × Printed p m next [] → next.steps ≤ n → IsWhole p n ended_as.Done next old new
-IsWhole-done p stmts n m next old new ran after within =
-    let P : List ℕ → Type 0 = λ bytes. Appends old new bytes in
-    let Q : Ran → Type 0 = λ r. ShowsRan p next r in
-    let same : plain p n ≡ plain p next.steps = plain-done p n next.steps after.0.output after.0.plain_is within in
-    let output_is : output_after p n ≡ output_after p m.steps = ap (λ r. r.state.output) same ∙ after.1 ∙ append-nil (output_after p m.steps) in
-    record {
-      answer_is = sym (ap (λ r. answer r.ending) (same ∙ after.0.plain_is));
-      text_is = subst P (sym (ap text output_is)) ran.took;
-      state_is = subst Q (sym same) (record { shows = shows-done p next after.0; steps = sym (ap (λ r. r.steps) after.0.plain_is) });
-    }
-
--- a run for which no memory was found
-pub Leaves-memory : (p : Program) (stmts : List ThinStmt) (n : ℕ) (m : Kept) (old new : Option (List ℕ)) →
-    RanSoFar p stmts m old new → m.steps ≤ n → Leaves p n m old new
-Leaves-memory p stmts n m old new ran within =
-    inr (record {
-      within = within;
-      steps = ap (λ r. r.steps) ran.stands.plain_is;
-      shows = shows-at p stmts m ran.stands;
-      wrote = wrote-all p m.steps old new ran.took;
-    })
-
--- a run whose last line wasn't taken
-pub Leaves-output_fault : (p : Program) (stmts : List ThinStmt) (n : ℕ) (m next : Kept) (v : Val) (old between new : Option (List ℕ)) →
-    RanSoFar p stmts m old between → StandsAt p stmts next × Printed p m next (v ∷ []) → AppendsPart between new (line_text v) →
-    next.steps ≡ m.steps + 1 → next.steps ≤ n → Leaves p n next old new
-Leaves-output_fault p stmts n m next v old between new ran after part steps within =
-    inr (record {
-      within = within;
-      steps = ap (λ r. r.steps) after.0.plain_is;
-      shows = shows-at p stmts next after.0;
-      wrote = wrote-part p next.steps m.steps v old between new (omega arith) after.1 ran.took part;
-    })
+-- the text of the steps before step k, and a prefix of what that one added, are a prefix of the text of n steps
+pub wrote-part : (t : Tables) (input : List ℕ) (k n : ℕ) (old new : Option (List ℕ)) → k ≤ n →
+    WroteUpTo t (opening (program_of t) input) k old new → AppendsPart old new (text (plain (program_of t) input n).state.output)
+wrote-part t input k n old new within wrote =
+    let p = program_of t in
+    let g = output-later p input (k - 1) k (omega arith) in
+    let e = text-later _ _ g in
+    let h = output-later p input k n within in
+    let f = text-later _ _ h in
+    let before = text (plain p input (k - 1)).state.output in
+    let prefix = wrote.1 in
+    let added_is : text g.0 ≡ wrote.0 ++ prefix.rest = sym e.1 ∙ prefix.whole_is in (
+      before ++ wrote.0,
+      record {
+        rest = prefix.rest ++ text h.0;
+        whole_is =
+            f.0 ∙ ap (λ q. q ++ text h.0) (e.0 ∙ ap (λ q. before ++ q) added_is ∙ sym (append_assoc before wrote.0 prefix.rest))
+            ∙ append_assoc (before ++ wrote.0) prefix.rest (text h.0);
+      },
+      wrote.2,
+    )

@@ -1,5 +1,2 @@
-pub mod State
-pub mod Plain
 pub mod Machine
 pub mod Runs
-pub mod Standing

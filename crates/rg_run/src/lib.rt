@@ -1,8 +1,7 @@
-//! A whole run: the machine, and the lines that it prints, each given to the sink in its own step
+//! A whole run: the machine that never frees, and the numbers of what it did
 //! (docs/language.md, "Steps").
 #![tactic(auto)]
 
-mod line;
 mod machine;
 
 pub use machine::Machine;

@@ -1,41 +1,37 @@
 //! The machine that makes the steps of a run.
 
-ghost use Rattle.std.specs.Prelude.{◌≡◌, ◌≢◌, ◌+◌, ◌-◌, ◌^◌, ◌<◌, ◌≤◌, ◌↔◌, true, IsTrue, slice_get, unwrap_or};
-ghost use Rattle.rg_base.specs.Text.{text};
-ghost use Rattle.rg_io.specs.Content.{Rose, Appends};
-ghost use Rattle.rg_parse.specs.Tree.{Program};
-ghost use Rattle.rg_parse.specs.Numbering.{Numbers};
-ghost use Rattle.rg_run.specs.Plain.{plain};
+ghost use Rattle.std.specs.Prelude.{◌≡◌, ◌≢◌, ◌≤◌, ◌↔◌, IsTrue, IfOk, slice_get, true};
+ghost use Rattle.rg_io.specs.Content.{Rose};
+ghost use Rattle.rg_input.specs.Numbers.{Follows, OnInput};
 ghost use Rattle.rg_run.specs.Machine.{IsFresh, numbers_of};
-ghost use Rattle.rg_run.specs.Runs.{answer, OnWhole, OnCutOff, output_after, Leaves, ShowsRan};
-ghost use Rattle.rg_run.specs.Standing.{StandsAt, AfterStep, steps_in};
+ghost use Rattle.rg_run.specs.Runs.{RunsOn};
 
-use crate::line::put_value;
-use rg_base::{EndNumbers, Ended, Outcome, Val};
-use rg_io::{Failed, Sink};
-use rg_parse::{Thin, ThinStmt};
+use rg_base::{EndNumbers, Ended, Memory, Seen};
+use rg_check::Accepted;
+use rg_input::Numbers;
+use rg_io::{Sink, Source};
+use rg_plain::PlainMachine;
 use std::alloc::Global;
 use std::marker::Model;
 
-/// A machine for one run. As long as none has begun, it has no slot and has made no step.
+/// A machine for one run. As long as none has begun, it holds nothing and has made no step.
 #[derive(Drop)]
 pub struct Machine {
     begun: bool,
-    slots: Vec<i64>,
+    plain: PlainMachine,
     steps: u64,
 }
 
 impl Model for Machine {
-    ghost use Rattle.std.specs.Prelude.{◌≡◌, map, false, []};
-    ghost use Rattle.rg_base.specs.declared.value.Val.TheVariants as val;
+    ghost use Rattle.std.specs.Prelude.{◌≡◌, false};
+    ghost use Rattle.rg_plain.specs.Machine.{fresh};
     ghost use Rattle.rg_run.specs.Machine.{Kept};
 
     ghost Value = { Kept };
 
-    ghost view = { λ m.
-        record { begun = m.begun; slots = map (λ z. val.Int z) m.slots.items; steps = m.steps } };
+    ghost view = { λ m. record { begun = m.begun; plain = m.plain; steps = m.steps } };
 
-    ghost invariant = { λ m. m.begun ≡ false → (m.slots.items ≡ []) × (m.steps ≡ 0) };
+    ghost invariant = { λ m. m.begun ≡ false → (m.plain ≡ fresh) × (m.steps ≡ 0) };
 }
 
 impl Machine {
@@ -45,7 +41,7 @@ impl Machine {
     {
         Machine {
             begun: false,
-            slots: Vec::new(alloc),
+            plain: PlainMachine::new(alloc),
             steps: 0,
         }
     }
@@ -61,86 +57,57 @@ impl Machine {
     pub fn numbers(&self) -> EndNumbers
         ensures { result ≡ numbers_of self.now }
     {
+        let made = self.plain.made();
         EndNumbers {
             steps: self.steps,
-            made: 0,
+            made,
             held: 0,
             frozen: 0,
-            regions: if self.begun { 1 } else { 0 },
+            regions: 0,
             collections: 0,
-            high: 0,
+            high: made,
         }
     }
 
-    /// Makes at most `n` steps of a program. Each printed line is given to `out` in its own step.
-    pub fn run<O: Sink>(&mut self, thin: &Thin, n: u64, out: &mut O) -> Ended
-        requires { IsFresh self.old }
-        ensures answer { (p : Program) → Numbers p thin.now →
-            OnWhole result (result ≡ answer (plain p n).ending) }
-        ensures text { (p : Program) → Numbers p thin.now →
-            OnWhole result (Appends (O.taken out.old) (O.taken out.new) (text (output_after p n))) }
-        ensures state { (p : Program) → Numbers p thin.now →
-            OnWhole result (ShowsRan p self.new (plain p n)) }
-        ensures cut_off { (p : Program) → Numbers p thin.now →
-            OnCutOff result (Leaves p n self.new (O.taken out.old) (O.taken out.new)) }
+    /// The object of a serial; None past the last one that was made.
+    pub fn shown(&self, alloc: Global, serial: u64) -> Result<Option<Seen>, Memory>
+        ensures { IfOk result (λ o. o ≡ slice_get self.now.plain.kept.store serial) }
+    {
+        self.plain.object(alloc, serial)
+    }
+
+    /// Makes at most `n` steps of an accepted program. Each printed line is given to `out` in its
+    /// own step.
+    pub fn run<I: Source, O: Sink>(
+        &mut self,
+        alloc: Global,
+        accepted: &Accepted,
+        n: u64,
+        input: &mut Numbers,
+        source: &mut I,
+        out: &mut O,
+    ) -> Ended
+        requires fresh { IsFresh self.old }
+        requires follows { Follows input.old (I.left source.old) }
+
+        ensures run { OnInput input.old input.new (I.left source.old) (I.left source.new)
+            (RunsOn accepted.now.program n (O.taken out.old) (O.taken out.new) self.new result) }
+        ensures begun { result ≢ Ended.Memory → self.new.begun ≡ true }
+        ensures follows { Follows input.new (I.left source.new) }
+
+        ensures input_fault { result ≡ Ended.InputFault →
+            Rose (I.faults source.old) (I.faults source.new) }
         ensures output_fault { result ≡ Ended.OutputFault →
             Rose (O.faults out.old) (O.faults out.new) }
-        ensures reads_nothing { result ≢ Ended.InputFault }
-        ensures never_falls { O.faults out.old ≤ O.faults out.new }
+        ensures source_never_falls { I.faults source.old ≤ I.faults source.new }
+        ensures sink_never_falls { O.faults out.old ≤ O.faults out.new }
     {
-        self.begun = true;
-        while self.steps < n {
-            match self.step(thin) {
-                Outcome::Running => (),
-                Outcome::Printed(v) => match put_value(out, v) {
-                    Ok(()) => (),
-                    Err(Failed) => return Ended::OutputFault,
-                },
-                Outcome::Done => return Ended::Done,
-                Outcome::Trap { kind, line } => return Ended::Trap { kind, line },
-                Outcome::InputFault => return Ended::InputFault,
-                Outcome::Memory => return Ended::Memory,
-            }
-        }
-        Ended::Spent
-    }
-
-    // Makes the next step of a program: first what can be refused, then the change.
-    fn step(&mut self, thin: &Thin) -> Outcome
-        requires begun { self.old.begun ≡ true }
-        requires room { self.old.steps < 2 ^ 64 - 1 }
-        ensures after { (p : Program) → StandsAt p thin.now self.old →
-            AfterStep p thin.now result self.old self.new }
-        ensures begun { self.new.begun ≡ true }
-        ensures steps { self.new.steps ≡ self.old.steps + steps_in result }
-        ensures reads_nothing { result ≢ Outcome.InputFault }
-    {
-        let at = self.steps as usize;
-        let end = thin.len();
-        if at >= end {
-            self.slots.clear();
-            self.steps += 1;
-            return Outcome::Done;
-        }
-        let outcome = match thin.get(at) {
-            ThinStmt::Let(z) => match self.slots.push(z) {
-                Ok(()) => Outcome::Running,
-                Err(_) => return Outcome::Memory,
-            },
-            ThinStmt::Number(z) => Outcome::Printed(Val::Int(z)),
-            ThinStmt::Name(k) => Outcome::Printed(self.value_at(k)),
+        let program = accepted.program();
+        let Ok(()) = self.plain.begin(alloc, program) else {
+            return Ended::Memory;
         };
-        self.steps += 1;
-        outcome
-    }
-
-    // The value of the slot of that number, or nil where there is none.
-    fn value_at(&self, k: u32) -> Val
-        ensures { result ≡ unwrap_or (slice_get self.now.slots k) Val.Nil }
-    {
-        match self.slots.get(k as usize) {
-            Some(z) => Val::Int(*z),
-            None => Val::Nil,
-        }
+        self.begun = true;
+        self.plain
+            .run_counting(alloc, program, n, &mut self.steps, input, source, out)
     }
 }

@@ -1,3 +1,5 @@
 mod NumberLemmas
-mod RunLemmas
+mod MeaningLemmas
+mod SettledLemmas
+mod RanLemmas
 mod AnswerLemmas

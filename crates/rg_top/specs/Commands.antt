@@ -1,5 +1,5 @@
 -- The commands that words give (docs/language.md, "The command line").
-use Rattle.std.specs.Prelude.{ℕ, ◌==◌, Bool, false, not, ◌&&◌, if◌then◌else◌, nat_le, List, [], ◌∷◌, length, map, Option, Some, None, option_map, bytes_eq, codes}
+use Rattle.std.specs.Prelude.{ℕ, ◌==◌, Bool, true, false, not, ◌&&◌, if◌then◌else◌, nat_le, List, [], ◌∷◌, length, map, Option, Some, None, option_map, bytes_eq, codes}
 use Rattle.std.specs.Borrow.{Bor}
 use Rattle.std.specs.List.{list_all}
 use Rattle.rg_base.specs.declared.limits.TheConstants.{MOST_STEPS, USUAL_STEPS}
@@ -14,6 +14,8 @@ texts words = map (λ w. w.now) words
 pub data Command : Type 0 where
   -- run FILE --steps N
   run : (file : List ℕ) → (steps : ℕ) → Command
+  -- plain FILE --steps N
+  plain : (file : List ℕ) → (steps : ℕ) → Command
   -- fmt FILE
   fmt : (file : List ℕ) → Command
   -- check FILE
@@ -22,14 +24,28 @@ pub data Command : Type 0 where
 -- the file that a command names
 abbrev pub file_of : Command → List ℕ
 file_of (run file steps) = file
+file_of (plain file steps) = file
 file_of (fmt file) = file
 file_of (check file) = file
 
 -- the most steps that a command asks for; one that runs nothing asks for none
 abbrev pub steps_of : Command → ℕ
 steps_of (run file steps) = steps
+steps_of (plain file steps) = steps
 steps_of (fmt file) = 0
 steps_of (check file) = 0
+
+-- whether a command may read input
+abbrev pub reads_input : Command → Bool
+reads_input (run file steps) = true
+reads_input (plain file steps) = true
+reads_input (fmt file) = false
+reads_input (check file) = false
+
+-- whether what the words give may
+abbrev pub may_read : Option Command → Bool
+may_read None = false
+may_read (Some c) = reads_input c
 
 -- whether a word can name a file: it isn't empty and doesn't begin with -
 abbrev pub is_file : List ℕ → Bool
@@ -55,9 +71,9 @@ steps_in (option ∷ []) = None
 steps_in (option ∷ number ∷ []) = if bytes_eq option (codes "--steps") then number_in number MOST_STEPS else None
 steps_in (option ∷ number ∷ more ∷ rest) = None
 
--- what `run` says of a file, with the words behind it
-abbrev pub run_words : List ℕ → List (List ℕ) → Option Command
-run_words file options = option_map (λ n. run file n) (steps_in options)
+-- a command that makes steps, so many as the words behind the file say
+abbrev pub stepping : (ℕ → Command) → List (List ℕ) → Option Command
+stepping c options = option_map c (steps_in options)
 
 -- a command on a file alone: there are no words behind it
 abbrev pub alone : Command → List (List ℕ) → Option Command
@@ -67,7 +83,8 @@ alone c (word ∷ words) = None
 -- what a name says of a file, with the words behind it
 abbrev pub named : List ℕ → List ℕ → List (List ℕ) → Option Command
 named name file options =
-    if bytes_eq name (codes "run") then run_words file options else
+    if bytes_eq name (codes "run") then stepping (λ n. run file n) options else
+    if bytes_eq name (codes "plain") then stepping (λ n. plain file n) options else
     if bytes_eq name (codes "fmt") then alone (fmt file) options else
     if bytes_eq name (codes "check") then alone (check file) options else None
 

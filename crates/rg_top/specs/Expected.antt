@@ -1,7 +1,6 @@
 -- What a source means, and what a command answers to it.
-use Rattle.std.specs.Prelude.{◌≡◌, ℕ, ◌<◌, ◌≤◌, ◌⊎◌, List, [], ◌∷◌, ◌++◌, codes, length, Option, Some, None, option_map, option_and_then, Ok, Err}
+use Rattle.std.specs.Prelude.{◌≡◌, ℕ, ◌<◌, ◌≤◌, ◌⊎◌, List, [], ◌∷◌, ◌++◌, codes, length, Option, Some, None, Ok, Err}
 use Rattle.rg_base.specs.declared.limits.TheConstants.{SOURCE_BYTES}
-use Rattle.rg_base.specs.declared.fault.Code.TheVariants.{NotBuilt}
 use Rattle.rg_base.specs.declared.fault.Fault.{Fault}
 use Rattle.rg_base.specs.declared.token.Token.{Token}
 use Rattle.rg_base.specs.Text.{text}
@@ -11,14 +10,11 @@ use Rattle.rg_tree.specs.Grammar.{Spells}
 use Rattle.rg_tree.specs.Stuck.{Stuck, fault_at}
 use Rattle.rg_tree.specs.Canonical.{canon}
 use Rattle.rg_rules.specs.Acceptance.{first_fault}
-use Rattle.rg_parse.specs.Tree.{Program}
-use Rattle.rg_parse.specs.Numbering.{numbered}
-use Rattle.rg_parse.specs.ThinTrees.{thin_program}
-use Rattle.rg_run.specs.Plain.{Ending, Running, Done, Trapped, plain}
-use Rattle.rg_run.specs.Runs.{output_after}
+use Rattle.rg_rules.specs.Runs.{Ending, Running, Done, Stopped, Ran}
+use Rattle.rg_rules.specs.Runs as rules
 use Rattle.rg_top.specs.declared.status.Status.{Status}
 use Rattle.rg_top.specs.declared.status.Status.TheVariants as status
-use Rattle.rg_top.specs.Commands.{Command, run, fmt, check}
+use Rattle.rg_top.specs.Commands.{Command, run, plain, fmt, check}
 
 -- what a source can be
 pub data Meaning : Type 0 where
@@ -53,11 +49,15 @@ pub record Answer : Type 0 where
 abbrev pub status_of : Ending → Status
 status_of Running = status.Spent
 status_of Done = status.Done
-status_of (Trapped kind line) = status.Trap kind line
+status_of (Stopped kind line) = status.Trap kind line
 
--- the program of a tree that can be run today: a thin one whose names have numbers
-abbrev pub runs : Tree → Option Program
-runs t = option_and_then (λ p. option_map (λ stmts. p) (numbered [] p.body)) (thin_program t)
+-- the text of the first n steps of a program on an input
+abbrev pub text_after : Tree → (input : List ℕ) → (n : ℕ) → List ℕ
+text_after t input n = text (rules.plain t input n).state.output
+
+-- what a run of at most n steps answers
+abbrev pub run_answer : Tree → (input : List ℕ) → (n : ℕ) → Answer
+run_answer t input n = record { status = status_of (rules.plain t input n).ending; text = text_after t input n }
 
 -- a fault refuses the program; nothing is written
 abbrev pub refused : Fault → Answer
@@ -72,23 +72,19 @@ unless_fault (Some f) a = refused f
 abbrev pub accepted_text : List ℕ
 accepted_text = codes "accepted" ++ 10 ∷ []
 
--- what a run of n steps answers; a tree that can't be run yet is refused at the line of `main`
-abbrev pub run_answer : ℕ → ℕ → Option Program → Answer
-run_answer n line None = refused (record { code = NotBuilt; line = line })
-run_answer n line (Some p) = record { status = status_of (plain p n).ending; text = text (output_after p n) }
+-- what a command answers to a source of that meaning, on an input
+abbrev pub expected : Command → (input : List ℕ) → Meaning → Answer
+expected c input too_long = record { status = status.Long; text = [] }
+expected c input (faulty f) = refused f
+expected (run file n) input (spelt t) = unless_fault (first_fault t) (run_answer t input n)
+expected (plain file n) input (spelt t) = unless_fault (first_fault t) (run_answer t input n)
+expected (fmt file) input (spelt t) = record { status = status.Done; text = canon t }
+expected (check file) input (spelt t) = unless_fault (first_fault t) (record { status = status.Done; text = accepted_text })
 
--- what a command answers to a source of that meaning
-abbrev pub expected : Command → Meaning → Answer
-expected c too_long = record { status = status.Long; text = [] }
-expected c (faulty f) = refused f
-expected (run file n) (spelt t) = unless_fault (first_fault t) (run_answer n t.line (runs t))
-expected (fmt file) (spelt t) = record { status = status.Done; text = canon t }
-expected (check file) (spelt t) = unless_fault (first_fault t) (record { status = status.Done; text = accepted_text })
+-- the command answers that to the source, on the input
+abbrev pub Expects : Command → (source input : List ℕ) → Status → (text : List ℕ) → Type 0
+Expects c source input s t = (m : Meaning) × Means source m × (expected c input m ≡ record { status = s; text = t })
 
--- the command answers that to the source
-abbrev pub Expects : Command → List ℕ → Status → List ℕ → Type 0
-Expects c source s t = (m : Meaning) × Means source m × (expected c m ≡ record { status = s; text = t })
-
--- the command answers that status to the source
-abbrev pub ExpectsStatus : Command → List ℕ → Status → Type 0
-ExpectsStatus c source s = (t : List ℕ) × Expects c source s t
+-- the command answers that status
+abbrev pub ExpectsStatus : Command → (source input : List ℕ) → Status → Type 0
+ExpectsStatus c source input s = (t : List ℕ) × Expects c source input s t

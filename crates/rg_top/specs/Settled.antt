@@ -1,25 +1,23 @@
 -- What the layers under the top call have answered and left, by the status.
-use Rattle.std.specs.Prelude.{◌≡◌, ℕ, ◌⊎◌, List, Option, Some, None}
+use Rattle.std.specs.Prelude.{◌≡◌, ℕ, ◌⊎◌, List, [], Option, Some}
+use Rattle.rg_base.specs.declared.fault.Fault.{Fault}
 use Rattle.rg_base.specs.declared.outcome.Ended.{Ended}
 use Rattle.rg_base.specs.declared.outcome.Ended.TheVariants as ended
-use Rattle.rg_base.specs.Text.{text}
 use Rattle.rg_io.specs.Content.{Appends}
 use Rattle.rg_io.specs.Files.{Told, HasFile}
-use Rattle.rg_base.specs.declared.fault.Code.TheVariants.{NotBuilt}
-use Rattle.rg_base.specs.declared.fault.Fault.{Fault}
 use Rattle.rg_tree.specs.Tree.{Tree}
+use Rattle.rg_tree.specs.Tables.{Tables}
+use Rattle.rg_tree.specs.RowTrees.{program_of}
 use Rattle.rg_tree.specs.Canonical.{canon}
 use Rattle.rg_tree.specs.Laws.{ParsesBack}
-use Rattle.rg_rules.specs.Acceptance.{first_fault, Accepted}
-use Rattle.rg_parse.specs.Tree.{Program}
-use Rattle.rg_run.specs.Plain.{plain}
+use Rattle.rg_rules.specs.Acceptance.{first_fault}
+use Rattle.rg_rules.specs.Runs as rules
 use Rattle.rg_run.specs.Machine.{Kept, IsFresh}
-use Rattle.rg_run.specs.Runs.{output_after, ShowsRan}
 use Rattle.rg_top.specs.declared.status.Status.{Status}
 use Rattle.rg_top.specs.declared.status.Status.TheVariants as status
-use Rattle.rg_top.specs.Commands.{Command, run, fmt, check, file_of}
-use Rattle.rg_top.specs.Expected.{too_long, faulty, spelt, Means, status_of, runs, accepted_text}
-use Rattle.rg_top.specs.Headline.{Runs, Untouched, CutOffAt}
+use Rattle.rg_top.specs.Commands.{Command, run, plain, fmt, check, file_of}
+use Rattle.rg_top.specs.Expected.{too_long, faulty, spelt, Means, status_of, accepted_text, text_after}
+use Rattle.rg_top.specs.Headline.{HasInput, ForInput, Runs, ShowsRan, Untouched, CutOffAt, CutAtInput}
 
 -- the status of a run
 abbrev pub status_of_ended : Ended → Status
@@ -30,13 +28,25 @@ status_of_ended ended.InputFault = status.InputFault
 status_of_ended ended.OutputFault = status.OutputFault
 status_of_ended ended.Memory = status.Memory
 
--- a whole run of the program that the source spells, with that status
-pub record RanWhole (n : ℕ) (source : List ℕ) (s : Status) (old new : Option (List ℕ)) (m : Kept) : Type 0 where
-  pub program : Program
-  pub source_runs : Runs source program
-  pub status_is : s ≡ status_of (plain program n).ending
-  pub wrote : Appends old new (text (output_after program n))
-  pub shows : ShowsRan program m (plain program n)
+-- a whole run on the machine, of the program that the source spells, with that status
+pub record RanWhole (n : ℕ) (source : List ℕ) (left : Option (List ℕ)) (s : Status) (old new : Option (List ℕ)) (m : Kept) : Type 0 where
+  pub tables : Tables
+  pub runs : Runs source (program_of tables)
+  pub input : List ℕ
+  pub input_is : HasInput left input
+  pub status_is : s ≡ status_of (rules.plain (program_of tables) input n).ending
+  pub wrote : Appends old new (text_after (program_of tables) input n)
+  pub shows : ShowsRan tables m (rules.plain (program_of tables) input n)
+
+-- a whole run beside the machine
+pub record RanBeside (n : ℕ) (source : List ℕ) (left : Option (List ℕ)) (s : Status) (old new : Option (List ℕ)) (m : Kept) : Type 0 where
+  pub tree : Tree
+  pub runs : Runs source tree
+  pub input : List ℕ
+  pub input_is : HasInput left input
+  pub status_is : s ≡ status_of (rules.plain tree input n).ending
+  pub wrote : Appends old new (text_after tree input n)
+  pub fresh : IsFresh m
 
 -- the canonical text of the tree that the source spells was written
 pub record Formatted (source : List ℕ) (old new : Option (List ℕ)) (m : Kept) : Type 0 where
@@ -49,22 +59,23 @@ pub record Formatted (source : List ℕ) (old new : Option (List ℕ)) (m : Kept
 -- the tree that the source spells is accepted, and that was written
 pub record Passed (source : List ℕ) (old new : Option (List ℕ)) (m : Kept) : Type 0 where
   pub tree : Tree
-  pub means : Means source (spelt tree)
-  pub accepted : Accepted tree
+  pub runs : Runs source tree
   pub wrote : Appends old new accepted_text
   pub fresh : IsFresh m
 
 -- a command that came to its end
-abbrev pub EndsWell : Command → List ℕ → (old new : Option (List ℕ)) → Kept → Type 0
-EndsWell (run file n) source old new m = RanWhole n source status.Done old new m
-EndsWell (fmt file) source old new m = Formatted source old new m
-EndsWell (check file) source old new m = Passed source old new m
+abbrev pub EndsWell : Command → (source : List ℕ) → (left old new : Option (List ℕ)) → Kept → Type 0
+EndsWell (run file n) source left old new m = RanWhole n source left status.Done old new m
+EndsWell (plain file n) source left old new m = RanBeside n source left status.Done old new m
+EndsWell (fmt file) source left old new m = Formatted source old new m
+EndsWell (check file) source left old new m = Passed source old new m
 
 -- a run that didn't
-abbrev pub StopsRun : Command → List ℕ → Status → (old new : Option (List ℕ)) → Kept → Type 0
-StopsRun (run file n) source s old new m = RanWhole n source s old new m
-StopsRun (fmt file) source s old new m = ⊥
-StopsRun (check file) source s old new m = ⊥
+abbrev pub StopsRun : Command → (source : List ℕ) → (left : Option (List ℕ)) → Status → (old new : Option (List ℕ)) → Kept → Type 0
+StopsRun (run file n) source left s old new m = RanWhole n source left s old new m
+StopsRun (plain file n) source left s old new m = RanBeside n source left s old new m
+StopsRun (fmt file) source left s old new m = ⊥
+StopsRun (check file) source left s old new m = ⊥
 
 -- the tree that the source spells has that first fault
 abbrev pub HasFault : List ℕ → Fault → Type 0
@@ -73,27 +84,29 @@ HasFault source f = (t : Tree) × Means source (spelt t) × (first_fault t ≡ S
 -- the checker's fault, where a command checks
 abbrev pub IsFaulted : Command → List ℕ → Fault → Type 0
 IsFaulted (run file n) source f = HasFault source f
+IsFaulted (plain file n) source f = HasFault source f
 IsFaulted (fmt file) source f = ⊥
 IsFaulted (check file) source f = HasFault source f
 
--- an accepted tree that can't be run
-abbrev pub CantRun : Command → List ℕ → Fault → Type 0
-CantRun (run file n) source f = (t : Tree) × Means source (spelt t) × Accepted t × (runs t ≡ None) × (f ≡ record { code = NotBuilt; line = t.line })
-CantRun (fmt file) source f = ⊥
-CantRun (check file) source f = ⊥
+-- a command that was cut off by the output or for want of memory; one that reads no input has none
+abbrev pub CutOff : Command → (source : List ℕ) → (left old new : Option (List ℕ)) → Kept → Type 0
+CutOff (run file n) source left old new m = ForInput left (λ input. CutOffAt (run file n) source input m old new)
+CutOff (plain file n) source left old new m = ForInput left (λ input. CutOffAt (plain file n) source input m old new)
+CutOff (fmt file) source left old new m = CutOffAt (fmt file) source [] m old new
+CutOff (check file) source left old new m = CutOffAt (check file) source [] m old new
 
 -- what was answered to a source
-abbrev pub Settles : Command → List ℕ → Status → (old new : Option (List ℕ)) → Kept → Type 0
-Settles c source status.Done old new m = EndsWell c source old new m
-Settles c source (status.Refused f) old new m = (Means source (faulty f) ⊎ (IsFaulted c source f ⊎ CantRun c source f)) × Untouched m old new
-Settles c source status.Usage old new m = ⊥
-Settles c source (status.Trap kind line) old new m = StopsRun c source (status.Trap kind line) old new m
-Settles c source status.Spent old new m = StopsRun c source status.Spent old new m
-Settles c source status.SourceFault old new m = ⊥
-Settles c source status.InputFault old new m = ⊥
-Settles c source status.OutputFault old new m = Untouched m old new ⊎ CutOffAt c source m old new
-Settles c source status.Memory old new m = Untouched m old new ⊎ CutOffAt c source m old new
-Settles c source status.Long old new m = Means source too_long × Untouched m old new
+abbrev pub Settles : Command → (source : List ℕ) → (left : Option (List ℕ)) → Status → (old new : Option (List ℕ)) → Kept → Type 0
+Settles c source left status.Done old new m = EndsWell c source left old new m
+Settles c source left (status.Refused f) old new m = (Means source (faulty f) ⊎ IsFaulted c source f) × Untouched m old new
+Settles c source left status.Usage old new m = ⊥
+Settles c source left (status.Trap kind line) old new m = StopsRun c source left (status.Trap kind line) old new m
+Settles c source left status.Spent old new m = StopsRun c source left status.Spent old new m
+Settles c source left status.SourceFault old new m = ⊥
+Settles c source left status.InputFault old new m = ForInput left (λ input. CutAtInput c source input m old new)
+Settles c source left status.OutputFault old new m = Untouched m old new ⊎ CutOff c source left old new m
+Settles c source left status.Memory old new m = Untouched m old new ⊎ CutOff c source left old new m
+Settles c source left status.Long old new m = Means source too_long × Untouched m old new
 
 -- no source came to be read
 pub data Unread (told : Option Told) (c : Command) : Status → Type 0 where
@@ -101,6 +114,6 @@ pub data Unread (told : Option Told) (c : Command) : Status → Type 0 where
   memory : Unread told c status.Memory
 
 -- what was answered to a file
-abbrev pub SettlesFile : Option Told → Command → Status → (old new : Option (List ℕ)) → Kept → Type 0
-SettlesFile told c s old new m =
-    ((source : List ℕ) × HasFile told (file_of c) source × Settles c source s old new m) ⊎ (Unread told c s × Untouched m old new)
+abbrev pub SettlesFile : Option Told → Command → (left : Option (List ℕ)) → Status → (old new : Option (List ℕ)) → Kept → Type 0
+SettlesFile told c left s old new m =
+    ((source : List ℕ) × HasFile told (file_of c) source × Settles c source left s old new m) ⊎ (Unread told c s × Untouched m old new)

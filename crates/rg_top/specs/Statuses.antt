@@ -85,7 +85,7 @@ is_refusal status.OutputFault = false
 is_refusal status.Memory = false
 is_refusal status.Long = true
 
--- cut off by the input, by the output or the notes, or for want of memory
+-- cut off by the output or the notes, or for want of memory
 abbrev pub is_cut_off : Status → Bool
 is_cut_off status.Done = false
 is_cut_off (status.Refused f) = false
@@ -93,12 +93,12 @@ is_cut_off status.Usage = false
 is_cut_off (status.Trap kind line) = false
 is_cut_off status.Spent = false
 is_cut_off status.SourceFault = false
-is_cut_off status.InputFault = true
+is_cut_off status.InputFault = false
 is_cut_off status.OutputFault = true
 is_cut_off status.Memory = true
 is_cut_off status.Long = false
 
--- cut off so, or because the file couldn't be read
+-- cut off so, or because the input or the file couldn't be read
 abbrev pub is_from_outside : Status → Bool
 is_from_outside status.Done = false
 is_from_outside (status.Refused f) = false

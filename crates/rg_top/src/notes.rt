@@ -1,7 +1,8 @@
 //! The texts of the statuses, given to the notes (docs/language.md, "Statuses"). Nothing here takes
 //! memory.
 
-ghost use Rattle.std.specs.Prelude.{◌≡◌, ◌+◌, ◌≤◌, ◌⊎◌, [], ◌∷◌, ◌++◌, length, decimal, OnOk, OnErr};
+ghost use Rattle.std.specs.Prelude.{◌≡◌, ◌+◌, ◌≤◌, ◌⊎◌, [], ◌∷◌, ◌++◌, length, decimal, OnOk};
+ghost use Rattle.std.specs.Prelude.{OnErr};
 ghost use Rattle.arrayvec.specs.ArrayVec.{array_vec_len};
 ghost use Rattle.rg_io.specs.Content.{Rose, Appends, AppendsPart};
 ghost use Rattle.rg_top.specs.Headline.{TookNotes};

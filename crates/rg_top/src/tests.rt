@@ -1,154 +1,191 @@
-//! Whole calls with files and sinks in memory, against expected texts and statuses.
+//! Whole calls with files, sources and sinks in memory, against expected texts and statuses.
+
+ghost use Rattle.rg_run.specs.Machine.{IsFresh};
 
 use crate::status::Status;
 use crate::top::reggio;
-use rg_base::Memory;
+use rg_base::{Memory, Val};
 use rg_io::{MemFiles, MemSink, MemSource};
 use rg_run::Machine;
 use std::alloc::{AllocError, Global};
 use std::test::Fail;
 
-const USAGE: &str =
-    "usage: reggio run FILE [--steps N] [--every N] [--report]; check FILE; fmt FILE; code FILE; plain FILE [--steps N]; bulk N\n";
+const USAGE: &[u8] =
+    b"usage: reggio run FILE [--steps N] [--every N] [--report]; check FILE; fmt FILE; code FILE; plain FILE [--steps N]; bulk N\n";
 
 const SEVEN: &[u8] = b"main arena { print 7; }";
 
-/// The sinks of a call, with room for a mebibyte each.
+const THREE_READS: &[u8] =
+    b"main arena { let a: int = read; print a; let b: int = read; print b; let c: int = read; }";
+
+const THREE_PRINTS: &[u8] = b"main arena { print 1; let a: int = read; print a; print 3; }";
+
+/// What a call is handed. Each sink has room for 1,000 bytes, and the input comes byte by byte.
 #[derive(Drop)]
-struct Sinks {
+struct Streams {
+    files: MemFiles,
+    input: MemSource,
     out: MemSink,
     notes: MemSink,
 }
 
-fn ample_sinks(alloc: Global) -> Result<Sinks, Memory> {
+/// One file, `a`, and an input.
+fn ample_streams(alloc: Global, source: &[u8], input: &[u8]) -> Result<Streams, Memory> {
+    let mut files = MemFiles::new(alloc);
+    let mut bytes = MemSource::new(alloc);
     let mut out = MemSink::new(alloc);
     let mut notes = MemSink::new(alloc);
-    out.room(1_048_576)?;
-    notes.room(1_048_576)?;
-    Ok(Sinks { out, notes })
+    files.add("a", source)?;
+    bytes.add(input)?;
+    bytes.piece(1);
+    out.room(1_000)?;
+    notes.room(1_000)?;
+    Ok(Streams {
+        files,
+        input: bytes,
+        out,
+        notes,
+    })
 }
 
-/// Calls the program on these files.
-fn call(alloc: Global, words: &[&str], files: &mut MemFiles, sinks: &mut Sinks) -> Status {
-    let mut machine = Machine::new(alloc);
-    let mut input = MemSource::new(alloc);
+/// Calls the program.
+fn call(alloc: Global, words: &[&str], streams: &mut Streams, machine: &mut Machine) -> Status
+    requires { IsFresh machine.old }
+{
     reggio(
         alloc,
         words,
-        files,
-        &mut input,
-        &mut sinks.out,
-        &mut sinks.notes,
-        &mut machine,
+        &mut streams.files,
+        &mut streams.input,
+        &mut streams.out,
+        &mut streams.notes,
+        machine,
     )
 }
 
-/// Calls the program on one file, `a`.
-fn call_on(
+/// Whether a call writes these texts.
+fn writes(
     alloc: Global,
     words: &[&str],
     source: &[u8],
-    sinks: &mut Sinks,
-) -> Result<Status, Memory> {
-    let mut files = MemFiles::new(alloc);
-    files.add("a", source)?;
-    Ok(call(alloc, words, &mut files, sinks))
-}
-
-/// Calls the program with ample memory, and compares what it writes and answers.
-fn expect(
-    alloc: Global,
-    words: &[&str],
-    source: &[u8],
+    input: &[u8],
     output: &[u8],
     notes: &[u8],
 ) -> Result<bool, Memory> {
-    let mut taken = ample_sinks(alloc)?;
-    let _ = call_on(alloc, words, source, &mut taken)?;
+    let mut taken = ample_streams(alloc, source, input)?;
+    let _ = call(alloc, words, &mut taken, &mut Machine::new(alloc));
     Ok(taken.out.taken() == output && taken.notes.taken() == notes)
 }
 
 #[test]
 fn each_command_writes_its_text(rt: HostRuntime) -> Result<(), Fail> {
-    let rows: [(&str, &[u8], &[u8]); 6] = [
-        ("run", b"7\n", b""),
-        ("check", b"accepted\n", b""),
-        ("fmt", b"main arena {\n  print 7;\n}\n", b""),
-        ("code", b"", USAGE.as_bytes()),
-        ("", b"", USAGE.as_bytes()),
-        ("--help", b"", USAGE.as_bytes()),
+    let rows: [(&[&str], &[u8], &[u8]); 7] = [
+        (&["run", "a"], b"7\n", b""),
+        (&["run", "a", "--steps", "2"], b"7\n", b""),
+        (&["run", "a", "--steps", "1"], b"7\n", b"spent at step 1\n"),
+        (&["run", "a", "--steps", "0"], b"", b"spent at step 0\n"),
+        (
+            &["plain", "a", "--steps", "1"],
+            b"7\n",
+            b"spent at step 1\n",
+        ),
+        (&["check", "a"], b"accepted\n", b""),
+        (&["fmt", "a"], b"main arena {\n  print 7;\n}\n", b""),
     ];
-    for (name, output, notes) in rows {
-        assert!(rt; expect(rt.alloc(), &[name, "a"], SEVEN, output, notes)?);
+    for (words, output, notes) in rows {
+        assert!(rt; writes(rt.alloc(), words, SEVEN, b"", output, notes)?);
     }
     Ok(())
 }
 
 #[test]
-fn words_that_are_empty_are_a_usage(rt: HostRuntime) -> Result<(), Fail> {
-    let rows: [&[&str]; 4] = [
+fn other_words_are_a_usage(rt: HostRuntime) -> Result<(), Fail> {
+    let rows: [&[&str]; 6] = [
         &[],
         &["run", ""],
-        &["check", ""],
-        &["run", "a", "--steps", ""],
+        &["code", "a"],
+        &["run", "a", "--steps=5"],
+        &["plain", "a", "--steps", "1000000001"],
+        &["--help"],
     ];
     for words in rows {
-        assert!(rt; expect(rt.alloc(), words, SEVEN, b"", USAGE.as_bytes())?);
+        assert!(rt; writes(rt.alloc(), words, SEVEN, b"", b"", USAGE)?);
     }
     Ok(())
 }
 
 #[test]
-fn files_and_sinks_that_fail_are_named(rt: HostRuntime) -> Result<(), Fail> {
-    let two: &[u8] = b"main arena { print 41; print 1; }";
-    // The file's name, the calls of files, output and notes that fail (0: none), the output's room.
-    let rows = [
-        ("b", 0, 0, 0, 9, "", "source fault\n", Status::SourceFault),
-        ("a", 1, 0, 0, 9, "", "source fault\n", Status::SourceFault),
-        ("a", 2, 0, 0, 9, "", "source fault\n", Status::SourceFault),
-        ("a", 3, 0, 0, 9, "", "source fault\n", Status::SourceFault),
-        ("a", 4, 0, 0, 9, "41\n1\n", "", Status::Done),
-        ("a", 0, 1, 0, 9, "", "output fault\n", Status::OutputFault),
+fn a_program_that_stops_tells_why(rt: HostRuntime) -> Result<(), Fail> {
+    let rows: [(&[u8], &[u8], &[u8], &[u8]); 4] = [
         (
-            "a",
-            0,
-            2,
-            0,
-            9,
-            "41\n",
-            "output fault\n",
-            Status::OutputFault,
+            THREE_READS,
+            b"12 -5 x",
+            b"12\n-5\n",
+            b"trap input at line 1\n",
+        ),
+        (THREE_READS, b"12", b"12\n", b"trap end at line 1\n"),
+        (
+            b"main arena {\n  print 7;\n  print 1 / 0;\n}",
+            b"",
+            b"7\n",
+            b"trap zero at line 3\n",
         ),
         (
-            "a",
-            0,
-            0,
-            0,
-            4,
-            "41\n1",
-            "output fault\n",
-            Status::OutputFault,
+            b"main arena {\n  print x;\n}",
+            b"",
+            b"",
+            b"E20 unknown at line 2\n",
         ),
-        ("a", 0, 0, 0, 0, "", "output fault\n", Status::OutputFault),
-        ("b", 0, 0, 1, 9, "", "output fault\n", Status::OutputFault),
-        ("a", 0, 1, 1, 9, "", "", Status::OutputFault),
     ];
-    for (name, files_fail, out_fails, notes_fail, room, output, notes, status) in rows {
-        let mut files = MemFiles::new(rt.alloc());
-        files.add("a", two)?;
-        files.fail_at(files_fail)?;
-        let mut taken = Sinks {
-            out: MemSink::new(rt.alloc()),
-            notes: MemSink::new(rt.alloc()),
-        };
-        taken.out.room(room)?;
-        taken.notes.room(1_000)?;
-        taken.out.fail_at(out_fails)?;
-        taken.notes.fail_at(notes_fail)?;
-        let answer = call(rt.alloc(), &["run", name], &mut files, &mut taken);
+    for (source, input, output, notes) in rows {
+        assert!(rt; writes(rt.alloc(), &["run", "a"], source, input, output, notes)?);
+        assert!(rt; writes(rt.alloc(), &["plain", "a"], source, input, output, notes)?);
+    }
+    Ok(())
+}
+
+#[test]
+fn streams_that_fail_are_named(rt: HostRuntime) -> Result<(), Fail> {
+    // The calls of files, input, output and notes that fail (0: none).
+    let rows = [
+        (2, 0, 0, 0, "", "source fault\n", Status::SourceFault),
+        (0, 1, 0, 0, "1\n", "input fault\n", Status::InputFault),
+        (0, 0, 3, 0, "1\n2\n", "output fault\n", Status::OutputFault),
+        (0, 1, 0, 1, "1\n", "output fault\n", Status::OutputFault),
+    ];
+    for (files, input, out, notes, output, told, status) in rows {
+        let mut taken = ample_streams(rt.alloc(), THREE_PRINTS, b"2")?;
+        taken.files.fail_at(files)?;
+        taken.input.fail_at(input)?;
+        taken.out.fail_at(out)?;
+        taken.notes.fail_at(notes)?;
+        let answer = call(
+            rt.alloc(),
+            &["run", "a"],
+            &mut taken,
+            &mut Machine::new(rt.alloc()),
+        );
         assert_eq!(rt; answer, status);
         assert_eq!(rt; taken.out.taken(), output.as_bytes());
-        assert_eq!(rt; taken.notes.taken(), notes.as_bytes());
+        assert_eq!(rt; taken.notes.taken(), told.as_bytes());
     }
+    Ok(())
+}
+
+#[test]
+fn the_machine_shows_what_a_run_made(rt: HostRuntime) -> Result<(), Fail> {
+    let source: &[u8] =
+        b"class N { v: int; } main trace { let a: mut N = new N; a.v = 5; print a.v; }";
+    let mut taken = ample_streams(rt.alloc(), source, b"")?;
+    let mut machine = Machine::new(rt.alloc());
+    let status = call(rt.alloc(), &["run", "a"], &mut taken, &mut machine);
+    assert_eq!(rt; status, Status::Done);
+    assert_eq!(rt; machine.numbers().steps, 4);
+    assert_eq!(rt; machine.numbers().made, 1);
+    match machine.shown(rt.alloc(), 0)? {
+        Some(object) => assert_eq!(rt; object.fields.get(0), Some(Val::Int(5))),
+        None => assert!(rt; false),
+    }
+    assert!(rt; machine.shown(rt.alloc(), 1)?.is_none());
     Ok(())
 }

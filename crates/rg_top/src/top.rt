@@ -1,8 +1,9 @@
 //! The top call: from words, files and input to the output, the notes and the status
 //! (docs/promises.md).
 
-ghost use Rattle.std.specs.Prelude.{◌≡◌, ◌≢◌, ◌≤◌, ◌⊎◌, ℕ, List, length, None, Err, IfOk};
-ghost use Rattle.std.specs.Bool.{OnTrue};
+ghost use Rattle.std.specs.Prelude.{◌≡◌, ◌≢◌, ◌≤◌, ◌⊎◌, ℕ, List, false, length, Option, None, Err};
+ghost use Rattle.std.specs.Prelude.{IfOk};
+ghost use Rattle.std.specs.Bool.{OnTrue, OnFalse};
 ghost use Rattle.rg_base.specs.declared.fault.Fault.{Fault};
 ghost use Rattle.rg_base.specs.declared.limits.TheConstants.{SOURCE_BYTES};
 ghost use Rattle.rg_base.specs.declared.outcome.Trap.{Trap};
@@ -11,21 +12,26 @@ ghost use Rattle.rg_tree.specs.RowTrees.{program_of};
 ghost use Rattle.rg_io.specs.Content.{Rose};
 ghost use Rattle.rg_run.specs.Machine.{IsFresh, Kept};
 ghost use Rattle.rg_rules.specs.Names.{FewNames};
-ghost use Rattle.rg_top.specs.Commands.{command, texts, run, fmt, check, file_of, steps_of};
+ghost use Rattle.rg_top.specs.Commands.{command, texts, run, plain, fmt, check, file_of, steps_of};
+ghost use Rattle.rg_top.specs.Commands.{reads_input, may_read};
 ghost use Rattle.rg_top.specs.Requests.{command_of};
 ghost use Rattle.rg_top.specs.Statuses.{is_run, is_answer, is_refusal, is_cut_off};
 ghost use Rattle.rg_top.specs.Expected.{spelt, Means, IsStuck, SpellsTree, ExpectsStatus};
-ghost use Rattle.rg_top.specs.Headline.{ForSource, WhereTold, Exactly, Wrote, ShowsEnd, ReadsBack, Untouched, CutOffAt, TookNotes, steps_asked};
+ghost use Rattle.rg_top.specs.Headline.{ForInput, ForSource, WhereTold, Exactly, ExactlyOn, Wrote};
+ghost use Rattle.rg_top.specs.Headline.{Runs, ShowsEnd, ReadsBack, Untouched, CutOffAt, CutAtInput};
+ghost use Rattle.rg_top.specs.Headline.{TookNotes, steps_asked};
 ghost use Rattle.rg_top.specs.Settled.{status_of_ended, Settles, SettlesFile};
 
 use crate::notes::tell;
 use crate::status::Status;
 use crate::words::{self, Request};
-use rg_base::{Code, Ended, Fault, SOURCE_BYTES, Stop};
+use rg_base::{Ended, Fault, SOURCE_BYTES, Stop};
 use rg_check::{Accepted, check, spelt_has_few_names};
+use rg_input::Numbers;
 use rg_io::{Files, Sink, Source, Taken, put_all, take_all};
 use rg_lex::tokens;
-use rg_parse::{parse, thin};
+use rg_parse::parse;
+use rg_plain::PlainMachine;
 use rg_print::text;
 use rg_run::Machine;
 use rg_tree::{Program, canon_parses_back};
@@ -33,7 +39,8 @@ use std::alloc::Global;
 
 /// The status of a run.
 fn status_of(ended: Ended) -> Status
-    ensures { result ≡ status_of_ended ended }
+    ensures is { result ≡ status_of_ended ended }
+    ensures no_refusal { is_refusal result ≡ false }
 {
     match ended {
         Ended::Done => Status::Done,
@@ -61,64 +68,126 @@ fn read(alloc: Global, source: &[u8]) -> Result<Program, Stop>
     parse(alloc, source, &found)
 }
 
-/// Runs an accepted program for at most so many steps.
-fn run_accepted<O: Sink>(
+/// Runs an accepted program on the machine for at most so many steps.
+fn run_accepted<I: Source, O: Sink>(
     alloc: Global,
     accepted: &Accepted,
     steps: u64,
+    input: &mut I,
     out: &mut O,
     machine: &mut Machine,
 ) -> Status
     requires { IsFresh machine.old }
-    ensures settles { (file source : List ℕ) →
-        Means source (spelt (program_of accepted.now.program)) →
-        Settles (run file steps) source result
+    ensures settles { (file source : List ℕ) → Runs source (program_of accepted.now.program) →
+        Settles (run file steps) source (I.left input.old) result
         (O.taken out.old) (O.taken out.new) machine.new }
+    ensures no_refusal { is_refusal result ≡ false }
+    ensures input_fault { result ≡ Status.InputFault →
+        Rose (I.faults input.old) (I.faults input.new) }
     ensures output_fault { result ≡ Status.OutputFault →
         Rose (O.faults out.old) (O.faults out.new) }
+    ensures input_never_falls { I.faults input.old ≤ I.faults input.new }
     ensures never_falls { O.faults out.old ≤ O.faults out.new }
 {
-    let program = accepted.program();
-    match thin(alloc, program) {
-        Err(_) => Status::Memory,
-        Ok(None) => Status::Refused(Fault {
-            code: Code::NotBuilt,
-            line: program.main_line(),
-        }),
-        Ok(Some(thin)) => status_of(machine.run(&thin, steps, out)),
-    }
+    let mut numbers = Numbers::new();
+    let ended = machine.run(alloc, accepted, steps, &mut numbers, input, out);
+    status_of(ended)
 }
 
-/// Runs a program, if it is accepted, for at most so many steps.
-fn run_program<O: Sink>(
+/// Checks a program, and runs it on the machine.
+fn run_program<I: Source, O: Sink>(
     alloc: Global,
     program: Program,
     steps: u64,
+    input: &mut I,
     out: &mut O,
     machine: &mut Machine,
 ) -> Status
     requires fresh { IsFresh machine.old }
     requires names { FewNames (program_of program) }
     ensures settles { (file source : List ℕ) → Means source (spelt (program_of program)) →
-        Settles (run file steps) source result
+        Settles (run file steps) source (I.left input.old) result
         (O.taken out.old) (O.taken out.new) machine.new }
+    ensures unread { OnTrue (is_refusal result) (input.new ≡ input.old) }
+    ensures input_fault { result ≡ Status.InputFault →
+        Rose (I.faults input.old) (I.faults input.new) }
     ensures output_fault { result ≡ Status.OutputFault →
         Rose (O.faults out.old) (O.faults out.new) }
+    ensures input_never_falls { I.faults input.old ≤ I.faults input.new }
     ensures never_falls { O.faults out.old ≤ O.faults out.new }
 {
     match check(alloc, program) {
         Err(Stop::Fault(fault)) => Status::Refused(fault),
         Err(Stop::Memory) => Status::Memory,
-        Ok(accepted) => run_accepted(alloc, &accepted, steps, out, machine),
+        Ok(accepted) => run_accepted(alloc, &accepted, steps, input, out, machine),
+    }
+}
+
+/// Runs an accepted program on a machine of its own for at most so many steps.
+fn plain_accepted<I: Source, O: Sink>(
+    alloc: Global,
+    accepted: &Accepted,
+    steps: u64,
+    input: &mut I,
+    out: &mut O,
+) -> Status
+    ensures settles { (file source : List ℕ) (m : Kept) →
+        Runs source (program_of accepted.now.program) → IsFresh m →
+        Settles (plain file steps) source (I.left input.old) result
+        (O.taken out.old) (O.taken out.new) m }
+    ensures no_refusal { is_refusal result ≡ false }
+    ensures input_fault { result ≡ Status.InputFault →
+        Rose (I.faults input.old) (I.faults input.new) }
+    ensures output_fault { result ≡ Status.OutputFault →
+        Rose (O.faults out.old) (O.faults out.new) }
+    ensures input_never_falls { I.faults input.old ≤ I.faults input.new }
+    ensures never_falls { O.faults out.old ≤ O.faults out.new }
+{
+    let program = accepted.program();
+    let mut machine = PlainMachine::new(alloc);
+    let Ok(()) = machine.begin(alloc, program) else {
+        return Status::Memory;
+    };
+    let mut numbers = Numbers::new();
+    let ended = machine.run(alloc, program, steps, &mut numbers, input, out);
+    status_of(ended)
+}
+
+/// Checks a program, and runs it on a machine of its own.
+fn plain_program<I: Source, O: Sink>(
+    alloc: Global,
+    program: Program,
+    steps: u64,
+    input: &mut I,
+    out: &mut O,
+) -> Status
+    requires { FewNames (program_of program) }
+    ensures settles { (file source : List ℕ) (m : Kept) →
+        Means source (spelt (program_of program)) → IsFresh m →
+        Settles (plain file steps) source (I.left input.old) result
+        (O.taken out.old) (O.taken out.new) m }
+    ensures unread { OnTrue (is_refusal result) (input.new ≡ input.old) }
+    ensures input_fault { result ≡ Status.InputFault →
+        Rose (I.faults input.old) (I.faults input.new) }
+    ensures output_fault { result ≡ Status.OutputFault →
+        Rose (O.faults out.old) (O.faults out.new) }
+    ensures input_never_falls { I.faults input.old ≤ I.faults input.new }
+    ensures never_falls { O.faults out.old ≤ O.faults out.new }
+{
+    match check(alloc, program) {
+        Err(Stop::Fault(fault)) => Status::Refused(fault),
+        Err(Stop::Memory) => Status::Memory,
+        Ok(accepted) => plain_accepted(alloc, &accepted, steps, input, out),
     }
 }
 
 /// Says of a program that it is accepted, if it is.
 fn check_program<O: Sink>(alloc: Global, program: Program, out: &mut O) -> Status
     requires { FewNames (program_of program) }
-    ensures settles { (file source : List ℕ) (m : Kept) →
+    ensures settles { (file source : List ℕ) (left : Option (List ℕ)) (m : Kept) →
         Means source (spelt (program_of program)) → IsFresh m →
-        Settles (check file) source result (O.taken out.old) (O.taken out.new) m }
+        Settles (check file) source left result (O.taken out.old) (O.taken out.new) m }
+    ensures no_input_fault { result ≢ Status.InputFault }
     ensures output_fault { result ≡ Status.OutputFault →
         Rose (O.faults out.old) (O.faults out.new) }
     ensures never_falls { O.faults out.old ≤ O.faults out.new }
@@ -135,9 +204,10 @@ fn check_program<O: Sink>(alloc: Global, program: Program, out: &mut O) -> Statu
 
 /// Gives the canonical text of a program to the output.
 fn format_program<O: Sink>(alloc: Global, program: &Program, out: &mut O) -> Status
-    ensures settles { (file source : List ℕ) (m : Kept) →
+    ensures settles { (file source : List ℕ) (left : Option (List ℕ)) (m : Kept) →
         Means source (spelt (program_of program.now)) → IsFresh m →
-        Settles (fmt file) source result (O.taken out.old) (O.taken out.new) m }
+        Settles (fmt file) source left result (O.taken out.old) (O.taken out.new) m }
+    ensures no_input_fault { result ≢ Status.InputFault }
     ensures output_fault { result ≡ Status.OutputFault →
         Rose (O.faults out.old) (O.faults out.new) }
     ensures never_falls { O.faults out.old ≤ O.faults out.new }
@@ -153,19 +223,26 @@ fn format_program<O: Sink>(alloc: Global, program: &Program, out: &mut O) -> Sta
 }
 
 /// Does what is asked for with a source.
-fn answer_source<O: Sink>(
+fn answer_source<I: Source, O: Sink>(
     alloc: Global,
     request: Request<'_>,
     source: &[u8],
+    input: &mut I,
     out: &mut O,
     machine: &mut Machine,
 ) -> Status
     requires fresh { IsFresh machine.old }
     requires fits { length source.now ≤ SOURCE_BYTES }
-    ensures settles { Settles (command_of request.entry) source.now result
+    ensures settles { Settles (command_of request.entry) source.now (I.left input.old) result
         (O.taken out.old) (O.taken out.new) machine.new }
+    ensures unread { OnTrue (is_refusal result) (input.new ≡ input.old) }
+    ensures reads_nothing { reads_input (command_of request.entry) ≡ false →
+        input.new ≡ input.old }
+    ensures input_fault { result ≡ Status.InputFault →
+        Rose (I.faults input.old) (I.faults input.new) }
     ensures output_fault { result ≡ Status.OutputFault →
         Rose (O.faults out.old) (O.faults out.new) }
+    ensures input_never_falls { I.faults input.old ≤ I.faults input.new }
     ensures never_falls { O.faults out.old ≤ O.faults out.new }
 {
     let program = match read(alloc, source) {
@@ -174,35 +251,43 @@ fn answer_source<O: Sink>(
         Ok(program) => program,
     };
     match request {
-        Request::Run { steps, .. } => run_program(alloc, program, steps, out, machine),
+        Request::Run { steps, .. } => run_program(alloc, program, steps, input, out, machine),
+        Request::Plain { steps, .. } => plain_program(alloc, program, steps, input, out),
         Request::Format { .. } => format_program(alloc, &program, out),
         Request::Check { .. } => check_program(alloc, program, out),
     }
 }
 
 /// Does what is asked for with the source in a file.
-fn answer_file<F: Files, O: Sink>(
+fn answer_file<F: Files, I: Source, O: Sink>(
     alloc: Global,
     request: Request<'_>,
     files: &mut F,
+    input: &mut I,
     out: &mut O,
     machine: &mut Machine,
 ) -> Status
     requires { IsFresh machine.old }
     ensures settles { SettlesFile (F.told files.old) (command_of request.entry)
-        result (O.taken out.old) (O.taken out.new) machine.new }
+        (I.left input.old) result (O.taken out.old) (O.taken out.new) machine.new }
+    ensures unread { OnTrue (is_refusal result) (input.new ≡ input.old) }
+    ensures reads_nothing { reads_input (command_of request.entry) ≡ false →
+        input.new ≡ input.old }
     ensures source_fault { result ≡ Status.SourceFault →
         Rose (F.faults files.old) (F.faults files.new) }
+    ensures input_fault { result ≡ Status.InputFault →
+        Rose (I.faults input.old) (I.faults input.new) }
     ensures output_fault { result ≡ Status.OutputFault →
         Rose (O.faults out.old) (O.faults out.new) }
     ensures files_never_fall { F.faults files.old ≤ F.faults files.new }
+    ensures input_never_falls { I.faults input.old ≤ I.faults input.new }
     ensures never_falls { O.faults out.old ≤ O.faults out.new }
 {
     match take_all(alloc, files, file_of(request), SOURCE_BYTES) {
         Err(Taken::SourceFault) => Status::SourceFault,
         Err(Taken::Long) => Status::Long,
         Err(Taken::Memory) => Status::Memory,
-        Ok(source) => answer_source(alloc, request, source.bytes(), out, machine),
+        Ok(source) => answer_source(alloc, request, source.bytes(), input, out, machine),
     }
 }
 
@@ -211,7 +296,7 @@ fn file_of(request: Request<'_>) -> &str
     ensures { result.now ≡ file_of (command_of request.entry) }
 {
     match request {
-        Request::Run { file, .. } => file,
+        Request::Run { file, .. } | Request::Plain { file, .. } => file,
         Request::Format { file } | Request::Check { file } => file,
     }
 }
@@ -221,13 +306,14 @@ fn steps_of(request: Request<'_>) -> u64
     ensures { result ≡ steps_of (command_of request.entry) }
 {
     match request {
-        Request::Run { steps, .. } => steps,
+        Request::Run { steps, .. } | Request::Plain { steps, .. } => steps,
         Request::Format { .. } | Request::Check { .. } => 0,
     }
 }
 
-/// Does what the words say: reads the file that they name, runs it for as many steps as they say,
-/// gives the output to `out` and the text of the status to `notes`, and answers the status.
+/// Does what the words say: reads the file that they name, runs it on the input for as many steps
+/// as they say, gives the output to `out` and the text of the status to `notes`, and answers the
+/// status.
 pub fn reggio<F: Files, I: Source, O: Sink, R: Sink>(
     alloc: Global,
     words: &[&str],
@@ -240,57 +326,73 @@ pub fn reggio<F: Files, I: Source, O: Sink, R: Sink>(
     requires { IsFresh machine.old }
 
     // What the call writes and leaves.
-    ensures text { OnTrue (is_answer result) (ForSource (F.told files.old) (texts words.now)
-        (λ c source. Wrote c source result (O.taken out.old) (O.taken out.new))) }
-    ensures state { OnTrue (is_run result) (ForSource (F.told files.old) (texts words.now)
-        (λ c source. ShowsEnd c source machine.new)) }
-    ensures reads_back { OnTrue (is_run result) (ForSource (F.told files.old) (texts words.now)
-        (λ c source. ReadsBack c source (O.taken out.old) (O.taken out.new))) }
+    ensures text { OnTrue (is_answer result)
+        (ForSource (F.told files.old) (I.left input.old) (texts words.now)
+        (λ c source bytes. Wrote c source bytes result (O.taken out.old) (O.taken out.new))) }
+    ensures state { OnTrue (is_run result)
+        (ForSource (F.told files.old) (I.left input.old) (texts words.now)
+        (λ c source bytes. ShowsEnd c source bytes machine.new)) }
+    ensures reads_back { OnTrue (is_run result)
+        (ForSource (F.told files.old) (I.left input.old) (texts words.now)
+        (λ c source bytes. ReadsBack c source (O.taken out.old) (O.taken out.new))) }
     ensures untouched { OnTrue (is_refusal result)
         (Untouched machine.new (O.taken out.old) (O.taken out.new)) }
     ensures cut_off { OnTrue (is_cut_off result)
         (Untouched machine.new (O.taken out.old) (O.taken out.new)
-        ⊎ ForSource (F.told files.old) (texts words.now)
-        (λ c source. CutOffAt c source machine.new (O.taken out.old) (O.taken out.new))) }
+        ⊎ ForSource (F.told files.old) (I.left input.old) (texts words.now)
+        (λ c source bytes.
+        CutOffAt c source bytes machine.new (O.taken out.old) (O.taken out.new))) }
+    ensures cut_at_input { result ≡ Status.InputFault →
+        ForSource (F.told files.old) (I.left input.old) (texts words.now) (λ c source bytes.
+        CutAtInput c source bytes machine.new (O.taken out.old) (O.taken out.new)) }
     ensures notes { TookNotes (steps_asked (command (texts words.now))) result
         (R.taken notes.old) (R.taken notes.new) }
+    ensures input_unread { OnTrue (is_refusal result) (input.new ≡ input.old) }
+    ensures reads_nothing { OnFalse (may_read (command (texts words.now)))
+        (input.new ≡ input.old) }
 
     // From which cause each status comes.
-    ensures done { WhereTold (F.told files.old) (texts words.now)
-        (λ c source. Exactly result Status.Done (ExpectsStatus c source Status.Done)) }
-    ensures refused { (f : Fault) → WhereTold (F.told files.old) (texts words.now)
-        (λ c source. Exactly result (Status.Refused f) (ExpectsStatus c source (Status.Refused f))) }
+    ensures done { WhereTold (F.told files.old) (texts words.now) (λ c source.
+        ExactlyOn (I.left input.old) result Status.Done
+        (λ bytes. ExpectsStatus c source bytes Status.Done)) }
+    ensures refused { (f : Fault) (bytes : List ℕ) → WhereTold (F.told files.old) (texts words.now)
+        (λ c source. Exactly result (Status.Refused f)
+        (ExpectsStatus c source bytes (Status.Refused f))) }
     ensures usage { Exactly result Status.Usage (command (texts words.now) ≡ None) }
     ensures trap { (kind : Trap) (line : ℕ) → WhereTold (F.told files.old) (texts words.now)
-        (λ c source. Exactly result (Status.Trap kind line)
-        (ExpectsStatus c source (Status.Trap kind line))) }
-    ensures spent { WhereTold (F.told files.old) (texts words.now)
-        (λ c source. Exactly result Status.Spent (ExpectsStatus c source Status.Spent)) }
+        (λ c source. ExactlyOn (I.left input.old) result (Status.Trap kind line)
+        (λ bytes. ExpectsStatus c source bytes (Status.Trap kind line))) }
+    ensures spent { WhereTold (F.told files.old) (texts words.now) (λ c source.
+        ExactlyOn (I.left input.old) result Status.Spent
+        (λ bytes. ExpectsStatus c source bytes Status.Spent)) }
     ensures source_fault { result ≡ Status.SourceFault →
         Rose (F.faults files.old) (F.faults files.new) }
-    ensures input_unread { input.new ≡ input.old }
-    ensures no_input_fault { result ≢ Status.InputFault }
+    ensures input_fault { result ≡ Status.InputFault →
+        Rose (I.faults input.old) (I.faults input.new) }
     ensures output_fault { result ≡ Status.OutputFault →
-        Rose (O.faults out.old) (O.faults out.new) ⊎ Rose (R.faults notes.old) (R.faults notes.new) }
-    ensures long { WhereTold (F.told files.old) (texts words.now)
-        (λ c source. Exactly result Status.Long (ExpectsStatus c source Status.Long)) }
+        Rose (O.faults out.old) (O.faults out.new)
+        ⊎ Rose (R.faults notes.old) (R.faults notes.new) }
+    ensures long { (bytes : List ℕ) → WhereTold (F.told files.old) (texts words.now) (λ c source.
+        Exactly result Status.Long (ExpectsStatus c source bytes Status.Long)) }
 
     // A command whose file is there is answered, unless a count of faults rose or no memory was
     // found.
     ensures complete { WhereTold (F.told files.old) (texts words.now) (λ c source.
         ¬ Rose (F.faults files.old) (F.faults files.new) →
+        ¬ Rose (I.faults input.old) (I.faults input.new) →
         ¬ Rose (O.faults out.old) (O.faults out.new) →
         ¬ Rose (R.faults notes.old) (R.faults notes.new) →
-        ExpectsStatus c source result ⊎ (result ≡ Status.Memory)) }
+        ForInput (I.left input.old) (λ bytes. ExpectsStatus c source bytes result)
+        ⊎ (result ≡ Status.Memory)) }
     ensures files_never_fall { F.faults files.old ≤ F.faults files.new }
+    ensures input_never_falls { I.faults input.old ≤ I.faults input.new }
     ensures out_never_falls { O.faults out.old ≤ O.faults out.new }
     ensures notes_never_fall { R.faults notes.old ≤ R.faults notes.new }
 {
-    let _ = input;
     match words::command(words) {
         None => tell(notes, Status::Usage, 0),
         Some(request) => {
-            let status = answer_file(alloc, request, files, out, machine);
+            let status = answer_file(alloc, request, files, input, out, machine);
             tell(notes, status, steps_of(request))
         }
     }

@@ -4,7 +4,8 @@
 ghost use Rattle.std.specs.Prelude.{◌≡◌, ◌<◌, ◌^◌, Some, None, true, MatchOption, is_some};
 ghost use Rattle.std.specs.List.{list_all};
 ghost use Rattle.rg_base.specs.Pieces.{is_digit};
-ghost use Rattle.rg_top.specs.Commands.{command, texts, is_file, is_number, value_up_to, number_in, steps_in};
+ghost use Rattle.rg_top.specs.Commands.{command, texts, is_file, is_number, value_up_to, number_in};
+ghost use Rattle.rg_top.specs.Commands.{steps_in};
 ghost use Rattle.rg_top.specs.Requests.{command_of};
 
 use rg_base::{MOST_STEPS, USUAL_STEPS};
@@ -14,6 +15,8 @@ use rg_base::{MOST_STEPS, USUAL_STEPS};
 pub(crate) enum Request<'a> {
     /// `run FILE --steps N`
     Run { file: &'a str, steps: u64 },
+    /// `plain FILE --steps N`
+    Plain { file: &'a str, steps: u64 },
     /// `fmt FILE`
     Format { file: &'a str },
     /// `check FILE`
@@ -117,6 +120,12 @@ pub(crate) fn command<'a>(words: &[&'a str]) -> Option<Request<'a>>
     if *name == "run" {
         return match steps(options) {
             Some(steps) => Some(Request::Run { file, steps }),
+            None => None,
+        };
+    }
+    if *name == "plain" {
+        return match steps(options) {
+            Some(steps) => Some(Request::Plain { file, steps }),
             None => None,
         };
     }

@@ -4,13 +4,20 @@ pub returns-in-Run-clause-settles : goal.returns-in-Run-clause-settles
 returns-in-Run-clause-settles g c =
     rw c.in-Run.is (c.run_program.ensures.settles c.in-Run.file.now c.args.source.now (c.requires.fits, c.in-Ok.ensures.ok))
 
+pub returns-in-Plain-clause-settles : goal.returns-in-Plain-clause-settles
+returns-in-Plain-clause-settles g c =
+    rw c.in-Plain.is
+    (c.plain_program.ensures.settles c.in-Plain.file.now c.args.source.now c.args.machine.now (c.requires.fits, c.in-Ok.ensures.ok)
+    c.requires.fresh)
+
 pub returns-in-Format-clause-settles : goal.returns-in-Format-clause-settles
 returns-in-Format-clause-settles g c =
     rw c.in-Format.is
-    (c.format_program.ensures.settles c.in-Format.file.now c.args.source.now c.args.machine.now (c.requires.fits, c.in-Ok.ensures.ok)
-    c.requires.fresh)
+    (c.format_program.ensures.settles c.in-Format.file.now c.args.source.now (g.I.Source.left c.args.input.now) c.args.machine.now
+    (c.requires.fits, c.in-Ok.ensures.ok) c.requires.fresh)
 
 pub returns-in-Check-clause-settles : goal.returns-in-Check-clause-settles
 returns-in-Check-clause-settles g c =
     rw c.in-Check.is
-    (c.check_program.ensures.settles c.in-Check.file.now c.args.source.now c.args.machine.now (c.requires.fits, c.in-Ok.ensures.ok) c.requires.fresh)
+    (c.check_program.ensures.settles c.in-Check.file.now c.args.source.now (g.I.Source.left c.args.input.now) c.args.machine.now
+    (c.requires.fits, c.in-Ok.ensures.ok) c.requires.fresh)

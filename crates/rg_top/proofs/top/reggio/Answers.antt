@@ -1,16 +1,16 @@
 -- What the top call promises, from what the layers under it have answered.
-use Rattle.std.proofs.Common.{refl, inl, inr}
+use Rattle.std.proofs.Common.{refl, inl, inr, ◌∙◌}
 use Rattle.rg_top.specs.declared.status.Status.TheVariants as status
 use Rattle.rg_top.specs.Commands.{texts}
 use Rattle.rg_top.specs.Requests.{command_of}
-use Rattle.rg_top.proofs.AnswerLemmas.{Answered, answer-text, answer-state, answer-back, answer-cut, answer-exactly, answer-complete, answer-input, given-source_fault}
+use Rattle.rg_top.proofs.AnswerLemmas.{Answered, answer-text, answer-state, answer-back, answer-cut, answer-input, answer-exactly, answer-refused, answer-complete, answer-unread, answer-refusal, given-is}
 use Rattle.rg_top.proofs.top.reggio.Given.{Over}
 use Rattle.rg_top.proofs.top.reggio.Goals as goal
 
 -- the answer behind the layers under it
 answered : (g : Over) (c : goal.After-tell-in-Some g) →
-    Answered (g.F.Files.told c.args.files.now) (texts c.args.words.now) c.answer_file-status.result c.tell-in-Some.result
-    (g.O.Sink.taken c.args.out.now) (g.O.Sink.taken c.answer_file-status.new.out) c.answer_file-status.new.machine
+    Answered (g.F.Files.told c.args.files.now) (g.I.Source.left c.args.input.now) (texts c.args.words.now) c.answer_file-status.result
+    c.tell-in-Some.result (g.O.Sink.taken c.args.out.now) (g.O.Sink.taken c.answer_file-status.new.out) c.answer_file-status.new.machine
 answered g c = record {
   asked = command_of c.in-Some.request;
   command_is = c.in-Some.ensures;
@@ -30,11 +30,21 @@ returns-in-Some-clause-reads_back g c = answer-back (answered g c)
 pub returns-in-Some-clause-cut_off : goal.returns-in-Some-clause-cut_off
 returns-in-Some-clause-cut_off g c = answer-cut (answered g c)
 
+pub returns-in-Some-clause-cut_at_input : goal.returns-in-Some-clause-cut_at_input
+returns-in-Some-clause-cut_at_input g c = answer-input (answered g c)
+
+pub returns-in-Some-clause-input_unread : goal.returns-in-Some-clause-input_unread
+returns-in-Some-clause-input_unread g c = answer-refusal _ _ _ c.tell-in-Some.ensures.told c.answer_file-status.ensures.unread
+
+pub returns-in-Some-clause-reads_nothing : goal.returns-in-Some-clause-reads_nothing
+returns-in-Some-clause-reads_nothing g c =
+    answer-unread (texts c.args.words.now) (command_of c.in-Some.request) _ c.in-Some.ensures c.answer_file-status.ensures.reads_nothing
+
 pub returns-in-Some-clause-done : goal.returns-in-Some-clause-done
 returns-in-Some-clause-done g c = answer-exactly (answered g c) status.Done refl
 
 pub returns-in-Some-clause-refused : goal.returns-in-Some-clause-refused
-returns-in-Some-clause-refused g c = λ f. answer-exactly (answered g c) (status.Refused f) refl
+returns-in-Some-clause-refused g c = λ f. answer-refused (answered g c) (status.Refused f) refl refl
 
 pub returns-in-Some-clause-trap : goal.returns-in-Some-clause-trap
 returns-in-Some-clause-trap g c = λ kind line. answer-exactly (answered g c) (status.Trap kind line) refl
@@ -43,11 +53,15 @@ pub returns-in-Some-clause-spent : goal.returns-in-Some-clause-spent
 returns-in-Some-clause-spent g c = answer-exactly (answered g c) status.Spent refl
 
 pub returns-in-Some-clause-long : goal.returns-in-Some-clause-long
-returns-in-Some-clause-long g c = answer-exactly (answered g c) status.Long refl
+returns-in-Some-clause-long g c = answer-refused (answered g c) status.Long refl refl
+
+pub returns-in-Some-clause-input_fault : goal.returns-in-Some-clause-input_fault
+returns-in-Some-clause-input_fault g c = λ i.
+    c.answer_file-status.ensures.input_fault (given-is _ _ c.tell-in-Some.ensures.told (λ o. cc) ∙ i)
 
 pub returns-in-Some-clause-complete : goal.returns-in-Some-clause-complete
 returns-in-Some-clause-complete g c =
-    answer-complete (answered g c) _ _ _
-    (λ i. c.answer_file-status.ensures.source_fault (given-source_fault _ _ c.tell-in-Some.ensures.told i))
-    (answer-input (answered g c))
+    answer-complete (answered g c) _ _ _ _
+    (λ i. c.answer_file-status.ensures.source_fault (given-is _ _ c.tell-in-Some.ensures.told (λ o. cc) ∙ i))
+    (λ i. c.answer_file-status.ensures.input_fault (given-is _ _ c.tell-in-Some.ensures.told (λ o. cc) ∙ i))
     (λ i. elim (c.tell-in-Some.ensures.failed i) [ inl o ↦ inl (c.answer_file-status.ensures.output_fault o) | inr n ↦ inr n ])

@@ -1,0 +1,100 @@
+-- A source means one thing, and a command answers one status to it.
+use Rattle.std.proofs.Common.{◌≡◌, ℕ, ◌⊎◌, inl, inr, true, false, List, Option, Some, None, Result, Ok, Err, IfOk, refl, sym, ◌∙◌, ap, subst, arith}
+use Rattle.rg_base.specs.declared.fault.Fault.{Fault}
+use Rattle.rg_base.specs.declared.fault.Stop.{Stop}
+use Rattle.rg_base.specs.declared.token.Token.{Token}
+use Rattle.rg_base.specs.Tokens.{cut, end_line}
+use Rattle.rg_tree.specs.Tree.{Tree}
+use Rattle.rg_tree.specs.Tables.{Tables}
+use Rattle.rg_tree.specs.RowTrees.{program_of}
+use Rattle.rg_tree.specs.Grammar.{Spells}
+use Rattle.rg_tree.specs.Stuck.{Stuck, fault_at}
+use Rattle.rg_tree.proofs.Unique.{one-tree}
+use Rattle.rg_tree.proofs.Stopping.{spelt-not_stuck, Stops-unique}
+use Rattle.rg_rules.specs.Names.{FewNames}
+use Rattle.rg_rules.specs.Acceptance.{first_fault}
+use Rattle.rg_rules.specs.Runs.{Ending, Running, Done, Stopped}
+use Rattle.rg_rules.specs.Runs as rules
+use Rattle.rg_check.specs.Laws.{SpeltHasFewNames}
+use Rattle.rg_top.specs.declared.status.Status.{Status}
+use Rattle.rg_top.specs.Commands.{Command, run, plain, fmt, check}
+use Rattle.rg_top.specs.Statuses.{is_refusal}
+use Rattle.rg_top.specs.Expected.{Meaning, too_long, faulty, spelt, IsStuck, SpellsTree, Means, Answer, status_of, run_answer, unless_fault, expected, ExpectsStatus}
+
+-- a program that spells the source's tokens has few names
+pub few-names : (source : List ℕ) (ts : List Token) (r : Result Tables Stop) → SpeltHasFewNames
+    → IfOk r (λ p. Spells source (program_of p) ts) → IfOk r (λ p. FewNames (program_of p))
+few-names source ts (Ok p) law h = law source (program_of p) ts h
+few-names source ts (Err e) law h = tt
+
+-- the first fault of a source is one
+fault-one : (source : List ℕ) (e f : Fault) → (cut source ≡ Err e) ⊎ IsStuck source e → (cut source ≡ Err f) ⊎ IsStuck source f → e ≡ f
+fault-one source e f (inl h) (inl g) = cc
+fault-one source e f (inl h) (inr g) = cc
+fault-one source e f (inr h) (inl g) = cc
+fault-one source e f (inr h) (inr g) =
+    let tokens : h.0 ≡ g.0 = cc in
+    let P : List Token → Type 0 = λ ts. Stuck ts e.code h.1 in
+    let same = Stops-unique (subst P tokens h.3) g.3 in
+    h.4 ∙ ap (λ c. fault_at c (end_line source) h.1) same.0 ∙ ap (λ at. fault_at f.code (end_line source) at) same.1 ∙ sym g.4
+
+-- a source with a fault spells no tree
+fault-no_tree : (source : List ℕ) (f : Fault) (t : Tree) → (cut source ≡ Err f) ⊎ IsStuck source f → SpellsTree source t → ⊥
+fault-no_tree source f t (inl h) g = cc
+fault-no_tree source f t (inr h) g =
+    let tokens : h.0 ≡ g.0 = cc in
+    let P : List Token → Type 0 = λ ts. Stuck ts f.code h.1 in
+    spelt-not_stuck source t g.0 h.1 f.code g.2 (subst P tokens h.3)
+
+-- a source spells one tree
+tree-one : (source : List ℕ) (t u : Tree) → SpellsTree source t → SpellsTree source u → t ≡ u
+tree-one source t u h g =
+    let tokens : h.0 ≡ g.0 = cc in
+    let P : List Token → Type 0 = λ ts. Spells source t ts in
+    one-tree source t u g.0 (subst P tokens h.2) g.2
+
+-- a source means one thing
+means-one : (source : List ℕ) (m k : Meaning) → Means source m → Means source k → m ≡ k
+means-one source too_long too_long h g = refl
+means-one source too_long (faulty f) h g = absurd (omega arith)
+means-one source too_long (spelt u) h g = absurd (omega arith)
+means-one source (faulty e) too_long h g = absurd (omega arith)
+means-one source (faulty e) (faulty f) h g = ap faulty (fault-one source e f h.1 g.1)
+means-one source (faulty e) (spelt u) h g = absurd (fault-no_tree source e u h.1 g.1)
+means-one source (spelt t) too_long h g = absurd (omega arith)
+means-one source (spelt t) (faulty f) h g = absurd (fault-no_tree source f t g.1 h.1)
+means-one source (spelt t) (spelt u) h g = ap spelt (tree-one source t u h.1 g.1)
+
+-- a command answers one status to a source, on one input
+pub expects-one : (c : Command) (source input : List ℕ) (s t : Status) → ExpectsStatus c source input s → ExpectsStatus c source input t → s ≡ t
+expects-one c source input s t h g =
+    let same : h.1.0 ≡ g.1.0 = means-one source h.1.0 g.1.0 h.1.1 g.1.1 in
+    let e : record { status = s; text = h.0 } ≡ expected c input g.1.0 = sym h.1.2 ∙ ap (expected c input) same in
+    ap (λ (a : Answer). a.status) (e ∙ g.1.2)
+
+-- a run refuses nothing
+runs-on : (e : Ending) → is_refusal (status_of e) ≡ false
+runs-on Running = refl
+runs-on Done = refl
+runs-on (Stopped kind line) = refl
+
+refusal-ran : (t : Tree) (i j : List ℕ) (n : ℕ) (o : Option Fault) (s : Status) (text : List ℕ) → is_refusal s ≡ true →
+    unless_fault o (run_answer t i n) ≡ record { status = s; text = text } → unless_fault o (run_answer t j n) ≡ record { status = s; text = text }
+refusal-ran t i j n (Some f) s text r e = e
+refusal-ran t i j n None s text r e =
+    let no : is_refusal (status_of (rules.plain t i n).ending) ≡ false = runs-on (rules.plain t i n).ending in
+    let same : status_of (rules.plain t i n).ending ≡ s = ap (λ (a : Answer). a.status) e in
+    absurd (cc)
+
+refusal-expected : (c : Command) (i j : List ℕ) (m : Meaning) (s : Status) (text : List ℕ) → is_refusal s ≡ true →
+    expected c i m ≡ record { status = s; text = text } → expected c j m ≡ record { status = s; text = text }
+refusal-expected c i j too_long s text r e = e
+refusal-expected c i j (faulty f) s text r e = e
+refusal-expected (run file n) i j (spelt t) s text r e = refusal-ran t i j n (first_fault t) s text r e
+refusal-expected (plain file n) i j (spelt t) s text r e = refusal-ran t i j n (first_fault t) s text r e
+refusal-expected (fmt file) i j (spelt t) s text r e = e
+refusal-expected (check file) i j (spelt t) s text r e = e
+
+-- a refusal doesn't depend on the input
+pub refusal-any : (c : Command) (source i j : List ℕ) (s : Status) → is_refusal s ≡ true → ExpectsStatus c source i s → ExpectsStatus c source j s
+refusal-any c source i j s r h = (h.0, (h.1.0, h.1.1, refusal-expected c i j h.1.0 s h.0 r h.1.2))

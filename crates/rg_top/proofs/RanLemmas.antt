@@ -1,0 +1,126 @@
+-- From what the machines have answered to what was answered to the source.
+use Rattle.std.proofs.Common.{◌≡◌, ℕ, inl, inr, true, false, List, [], ◌++◌, Option, Some, None, refl, sym, ◌∙◌, ap, subst}
+use Rattle.rg_base.specs.declared.outcome.Ended.{Ended}
+use Rattle.rg_base.specs.declared.outcome.Ended.TheVariants as ended
+use Rattle.rg_tree.specs.Tables.{Tables}
+use Rattle.rg_tree.specs.RowTrees.{program_of}
+use Rattle.rg_rules.specs.State.{State}
+use Rattle.rg_rules.specs.Runs.{Ending, Running, Done, Stopped, opening}
+use Rattle.rg_rules.specs.Runs as rules
+use Rattle.rg_input.specs.Numbers.{Pending, Follows, CanCome, OnInput}
+use Rattle.rg_plain.specs.Machine.{Machine, Begins, state_of}
+use Rattle.rg_plain.specs.Runs.{answer, RunIs, Whole, CutOff, CutAtInput}
+use Rattle.rg_run.specs.Machine.{Kept, IsFresh, Shows}
+use Rattle.rg_run.specs.Runs.{RunsOn}
+use Rattle.rg_run.proofs.RunLemmas.{wrote-part}
+use Rattle.rg_top.specs.declared.status.Status.{Status}
+use Rattle.rg_top.specs.declared.status.Status.TheVariants as status
+use Rattle.rg_top.specs.Commands.{run, plain}
+use Rattle.rg_top.specs.Expected.{status_of}
+use Rattle.rg_top.specs.Headline.{HasInput, ForInput, Runs, StandsAfter, AsksAfter}
+use Rattle.rg_top.specs.Settled.{status_of_ended, RanWhole, RanBeside, Settles}
+
+-- some bytes can come
+can_come : (n : Pending) (left : Option (List ℕ)) → Follows n left → (more : List ℕ) × CanCome n left more
+can_come n None follows = ([], record { told = tt; ended = λ e. refl })
+can_come n (Some bytes) follows = (bytes, record { told = refl; ended = follows })
+
+-- what a call on fresh numbers is told of the input holds of bytes that the source has
+pub on-input : (n new : Pending) (left behind : Option (List ℕ)) (P : List ℕ → List ℕ → Type 0) → n ≡ record { held = []; ended = false } →
+    Follows new behind → OnInput n new left behind P → ForInput left (λ input. (rest : List ℕ) × P input rest)
+on-input n new left behind P is follows h =
+    let Q : Pending → Type 0 = λ q. OnInput q new left behind P in
+    let told : OnInput (record { held = []; ended = false }) new left behind P = subst Q is h in
+    let c = can_come new behind follows in
+    let here = told.2 c.0 c.1 in
+    (told.0 ++ c.0, here.0.told, (new.held ++ c.0, here.1))
+
+-- the status of a run by its ending
+status-answer : (e : Ending) → status_of_ended (answer e) ≡ status_of e
+status-answer Running = refl
+status-answer Done = refl
+status-answer (Stopped kind line) = refl
+
+module _ (file : List ℕ) (n : ℕ) (source : List ℕ) (left : Option (List ℕ)) (t : Tables) (runs : Runs source (program_of t)) (input : List ℕ)
+    (is : HasInput left input) (k : ℕ) (plain_machine : Machine) (rest : List ℕ) (old new : Option (List ℕ)) where
+  answered : (e : Ended) (s : Status) → status_of_ended e ≡ s → Whole t (opening (program_of t) input) n k plain_machine rest old new e →
+      s ≡ status_of (rules.plain (program_of t) input n).ending
+  answered e s same w = sym same ∙ ap status_of_ended w.answer_is ∙ status-answer (rules.plain (program_of t) input n).ending
+
+  asks_after : CutAtInput t (opening (program_of t) input) n k plain_machine rest old new → AsksAfter (program_of t) input n k old new
+  asks_after c = record { before = c.before; made = c.stands.made; asks = c.asks; wrote = c.wrote }
+
+  beside : (m : Kept) (e : Ended) (s : Status) → IsFresh m → status_of_ended e ≡ s →
+      Whole t (opening (program_of t) input) n k plain_machine rest old new e → RanBeside n source left s old new m
+  beside m e s fresh same w = record {
+    tree = program_of t;
+    runs = runs;
+    input = input;
+    input_is = is;
+    status_is = answered e s same w;
+    wrote = w.text_is;
+    fresh = fresh;
+  }
+
+  pub beside-settles : (m : Kept) (e : Ended) → IsFresh m → RunIs t (opening (program_of t) input) n k plain_machine rest old new e →
+      Settles (plain file n) source left (status_of_ended e) old new m
+  beside-settles m ended.Done fresh h = beside m ended.Done status.Done fresh refl h
+  beside-settles m ended.Spent fresh h = beside m ended.Spent status.Spent fresh refl h
+  beside-settles m (ended.Trap kind line) fresh h = beside m (ended.Trap kind line) (status.Trap kind line) fresh refl h
+  beside-settles m ended.InputFault fresh h = (input, is, (program_of t, runs, fresh, k, asks_after h))
+  beside-settles m ended.OutputFault fresh h =
+      inr (input, is, (program_of t, runs, fresh, wrote-part t input k n old new h.stands.within h.wrote))
+  beside-settles m ended.Memory fresh h =
+      inr (input, is, (program_of t, runs, fresh, wrote-part t input k n old new h.stands.within h.wrote))
+
+module _ (file : List ℕ) (n : ℕ) (source : List ℕ) (left : Option (List ℕ)) (t : Tables) (runs : Runs source (program_of t)) (input : List ℕ)
+    (is : HasInput left input) (m : Kept) (begun : m.begun ≡ true) (rest : List ℕ) (old new : Option (List ℕ)) where
+  shows : (s : State) → state_of t m.plain rest ≡ s → Shows t m s
+  shows s e = record { begun = begun; rest = rest; state = e }
+
+  whole : (e : Ended) (s : Status) → status_of_ended e ≡ s → Whole t (opening (program_of t) input) n m.steps m.plain rest old new e →
+      RanWhole n source left s old new m
+  whole e s same w = record {
+    tables = t;
+    runs = runs;
+    input = input;
+    input_is = is;
+    status_is = answered file n source left t runs input is m.steps m.plain rest old new e s same w;
+    wrote = w.text_is;
+    shows = record { shows = shows _ w.state_is; steps = w.steps_are };
+  }
+
+  stands : CutOff t (opening (program_of t) input) n m.steps m.plain rest old new → StandsAfter t input n m.steps m old new
+  stands c = record { within = c.stands.within; made = c.stands.made; shows = shows _ c.stands.state_is; wrote = c.wrote }
+
+  ran-settles : (e : Ended) → RunIs t (opening (program_of t) input) n m.steps m.plain rest old new e →
+      Settles (run file n) source left (status_of_ended e) old new m
+  ran-settles ended.Done h = whole ended.Done status.Done refl h
+  ran-settles ended.Spent h = whole ended.Spent status.Spent refl h
+  ran-settles (ended.Trap kind line) h = whole (ended.Trap kind line) (status.Trap kind line) refl h
+  ran-settles ended.InputFault h =
+      (input, is, (t, runs, shows _ h.stands.state_is, asks_after file n source left t runs input is m.steps m.plain rest old new h))
+  ran-settles ended.OutputFault h = inr (input, is, (t, runs, stands h))
+  ran-settles ended.Memory h = inr (input, is, (t, runs, stands h))
+
+-- a run on the machine
+pub run-settles : (file : List ℕ) (n : ℕ) (source : List ℕ) (left : Option (List ℕ)) (t : Tables) (m : Kept) (e : Ended)
+    (old new : Option (List ℕ)) → Runs source (program_of t) →
+    ForInput left (λ input. (rest : List ℕ) × RunsOn t n old new m e input rest) → Settles (run file n) source left (status_of_ended e) old new m
+run-settles file n source left t m e old new runs h = elim h.2.1 [
+  | inl none ↦
+      let P : Ended → Type 0 = λ q. Settles (run file n) source left (status_of_ended q) old new m in
+      subst P (sym none.answer_is) (inl (none.fresh, none.untouched))
+  | inr ran ↦ ran-settles file n source left t runs h.0 h.1 m ran.begun h.2.0 old new e ran.run
+]
+
+-- a run on a machine of its own
+pub plain-settles : (file : List ℕ) (n : ℕ) (source : List ℕ) (left : Option (List ℕ)) (t u : Tables) (begun new_machine : Machine)
+    (m : Kept) (e : Ended) (old new : Option (List ℕ)) → t ≡ u → Runs source (program_of u) → IsFresh m → Begins t begun →
+    ForInput left (λ input. (rest : List ℕ) × ((k : ℕ) × RunIs t (state_of t begun input) n k new_machine rest old new e)) →
+    Settles (plain file n) source left (status_of_ended e) old new m
+plain-settles file n source left t u begun new_machine m e old new same runs fresh begins h =
+    let P : State → Type 0 = λ s. RunIs t s n h.2.1.0 new_machine h.2.0 old new e in
+    let Q : Tables → Type 0 = λ q. Runs source (program_of q) in
+    beside-settles file n source left t (subst Q (sym same) runs) h.0 h.1 h.2.1.0 new_machine h.2.0 old new m e fresh
+    (subst P (begins.state h.0) h.2.1.1)
