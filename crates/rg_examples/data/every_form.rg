@@ -1,4 +1,4 @@
-// A program with every form of the language. It is formatted, and not run yet.
+// A program with every form of the language.
 class Node { value: int; done: bool; next: mut Node; down: iso Node; fixed: imm Node;
   def mut set(v: int, other: paused Node) { self.value = v; self.next = new Node; }
   def paused get(): int { return self.value; }
@@ -8,7 +8,7 @@ tmp class Cursor { at: paused Node; back: tmp Cursor;
   def tmp step() { self.at = self.at.next; } }
 main trace {
   let box: iso Node = new iso Node in count;
-  let other: iso Node = nil;
+  let other: iso Node = new iso Node in arena;
   enter box as n {
     let c: tmp Cursor = new tmp Cursor;
     call n.set(1 + 2 * 3, c.at);
@@ -16,6 +16,7 @@ main trace {
     while not v < 0 and (v > 10 or v == 9) { v = (v - 1) / 2 % 4; }
     swap other, n.down;
     enter n.down as d { collect; }
+    swap other, n.down;
     if n.next is nil { print -v; } else { print true; }
     if v != 3 { print v <= 4; }
   }

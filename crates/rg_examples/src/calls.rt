@@ -16,8 +16,15 @@ pub struct Called {
     pub status: u8,
 }
 
-/// Calls the program with these words; None where no memory was found.
-pub fn call<F: Files>(alloc: Global, words: &[&str], files: &mut F) -> Option<Called> {
+/// Calls the program with these words and this input; None where no memory was found.
+pub fn call<F: Files>(
+    alloc: Global,
+    words: &[&str],
+    files: &mut F,
+    input: &[u8],
+) -> Option<Called> {
+    let mut source = MemSource::new(alloc);
+    source.add(input).ok()?;
     let mut out = MemSink::new(alloc);
     let mut notes = MemSink::new(alloc);
     out.room(MOST).ok()?;
@@ -26,7 +33,7 @@ pub fn call<F: Files>(alloc: Global, words: &[&str], files: &mut F) -> Option<Ca
         alloc,
         words,
         files,
-        &mut MemSource::new(alloc),
+        &mut source,
         &mut out,
         &mut notes,
         &mut Machine::new(alloc),

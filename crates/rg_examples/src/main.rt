@@ -1,13 +1,16 @@
-//! Runs or formats each program of examples/ by the top call, and each row of examples/rows.txt,
-//! and says whether they write what is expected.
+//! Checks, runs and formats each program of examples/ by the top call, calls it for each row of
+//! examples/rows.txt and each change of examples/changes.txt, and says whether they write what is
+//! expected.
 #![tactic(auto)]
 
 mod calls;
 mod cells;
+mod changes;
 mod programs;
 mod rows;
 
-use crate::programs::{EXAMPLES, FORMATTED, settles, writes};
+use crate::changes::judge_change;
+use crate::programs::{PROGRAMS, settles, writes};
 use crate::rows::{Verdict, judge};
 use rg_io::{StdFiles, take_all};
 use std::io;
@@ -21,45 +24,74 @@ fn told(verdict: Option<bool>) -> &'static str {
     match verdict {
         Some(true) => "as expected",
         Some(false) => "NOT as expected",
-        None => "out of memory",
+        None => "not tried, for want of memory or of its input",
     }
 }
 
-/// Says of each example whether it writes what is expected, and is settled once it is formatted.
+/// Says of a program whether it is accepted, whether it runs as expected, and whether it is settled
+/// once it is formatted.
+fn example(
+    rt: &(impl Files + Print + AllocGlobal),
+    program: &str,
+    input: Option<&str>,
+    output: &str,
+) -> io::Result<()> {
+    let accepted = told(writes(rt, "check", program, None, "accepted.out"));
+    println!(rt; "check {program}: {accepted}")?;
+    let run = told(writes(rt, "run", program, input, output));
+    println!(rt; "run {program}: {run}")?;
+    let plain = told(writes(rt, "plain", program, input, output));
+    println!(rt; "plain {program}: {plain}")?;
+    let settled = told(settles(rt, program));
+    println!(rt; "fmt of the fmt of {program}: {settled}")
+}
+
+/// Says of each example whether it writes what is expected.
 fn examples(rt: &(impl Files + Print + AllocGlobal)) -> io::Result<()> {
-    for (command, program, output) in EXAMPLES {
-        let verdict = told(writes(rt, command, program, output));
-        println!(rt; "{command} {program}: {verdict}")?;
+    for (program, input, output) in PROGRAMS {
+        example(rt, program, input, output)?;
     }
-    for program in FORMATTED {
-        let verdict = told(settles(rt, program));
-        println!(rt; "fmt of the fmt of {program}: {verdict}")?;
-    }
-    Ok(())
+    let text = told(writes(rt, "fmt", "every_form.rg", None, "every_form.fmt"));
+    println!(rt; "fmt every_form.rg: {text}")
 }
 
-/// Says of the rows how many there are, and which one doesn't give what is expected.
-fn table(rt: &(impl Files + Print + AllocGlobal)) -> io::Result<()> {
-    let mut files = StdFiles::new(rt);
-    let Ok(table) = take_all(rt.alloc(), &mut files, "rows.txt", MOST) else {
-        return println!(rt; "rows.txt can't be read");
+/// A table of rows.
+#[derive(Clone, Copy)]
+enum Table {
+    Rows,
+    Changes,
+}
+
+/// What is to be said of a line of a table.
+fn judge_line(rt: &(impl Files + AllocGlobal), table: Table, line: &str) -> Verdict {
+    match table {
+        Table::Rows => judge(rt.alloc(), line),
+        Table::Changes => judge_change(rt, line),
+    }
+}
+
+/// Says of a table how many of its rows give what they say, and which ones don't.
+fn told_of(rt: &(impl Files + Print + AllocGlobal), table: Table, name: &str) -> io::Result<()> {
+    let Ok(bytes) = take_all(rt.alloc(), &mut StdFiles::new(rt), name, MOST) else {
+        return println!(rt; "{name} can't be read");
     };
-    let Ok(table) = str::from_utf8(table.bytes()) else {
-        return println!(rt; "rows.txt isn't text");
+    let Ok(text) = str::from_utf8(bytes.bytes()) else {
+        return println!(rt; "{name} isn't text");
     };
     let mut count: u64 = 0;
-    for line in table.lines() {
-        match judge(rt.alloc(), line) {
+    for line in text.lines() {
+        match judge_line(rt, table, line) {
             Verdict::NoRow => {}
             Verdict::AsExpected => count = count.saturating_add(1),
             Verdict::Other => println!(rt; "NOT as expected: {line}")?,
-            Verdict::OutOfMemory => println!(rt; "out of memory: {line}")?,
+            Verdict::NotTried => println!(rt; "not tried: {line}")?,
         }
     }
-    println!(rt; "rows.txt: {count} rows as expected")
+    println!(rt; "{name}: {count} rows as expected")
 }
 
 fn main(rt: HostRuntime) -> io::Result<()> {
     examples(&rt)?;
-    table(&rt)
+    told_of(&rt, Table::Changes, "changes.txt")?;
+    told_of(&rt, Table::Rows, "rows.txt")
 }

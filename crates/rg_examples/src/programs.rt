@@ -4,30 +4,49 @@ use crate::calls::call;
 use rg_io::{MemFiles, StdFiles, take_all};
 use std::rt::Files;
 
-/// The programs, each with what is done with it, and the file of its output.
-pub const EXAMPLES: [(&str, &str, &str); 4] = [
-    ("run", "seven.rg", "seven.out"),
-    ("run", "names.rg", "names.out"),
-    ("fmt", "every_form.rg", "every_form.out"),
-    ("check", "every_form.rg", "accepted.out"),
+/// The programs, each with the file of its input, which may have none, and that of its output.
+pub const PROGRAMS: [(&str, Option<&str>, &str); 14] = [
+    ("seven.rg", None, "seven.out"),
+    ("first.rg", None, "first.out"),
+    ("sums.rg", None, "sums.out"),
+    ("list.rg", None, "list.out"),
+    ("tree.rg", None, "tree.out"),
+    ("adder.rg", Some("adder.in"), "adder.out"),
+    ("region.rg", None, "region.out"),
+    ("nested.rg", None, "nested.out"),
+    ("frozen.rg", None, "frozen.out"),
+    ("merged.rg", None, "merged.out"),
+    ("cursor.rg", None, "cursor.out"),
+    ("bank.rg", Some("bank.in"), "bank.out"),
+    ("every_second.rg", None, "every_second.out"),
+    ("every_form.rg", Some("every_form.in"), "every_form.out"),
 ];
 
-/// The programs that are formatted twice.
-pub const FORMATTED: [&str; 3] = ["seven.rg", "names.rg", "every_form.rg"];
-
-/// The most bytes of an output.
+/// The most bytes of a file.
 const MOST: usize = 1_048_576;
 
-/// Whether a program writes that output and gives nothing to the notes; None where no memory was
-/// found.
+/// The bytes of a file of inputs, or none; None where it can't be read.
+fn input_of(rt: &(impl Files + AllocGlobal), input: Option<&str>) -> Option<Vec<u8>> {
+    let mut bytes = Vec::new(rt.alloc());
+    if let Some(name) = input {
+        let taken = take_all(rt.alloc(), &mut StdFiles::new(rt), name, MOST).ok()?;
+        bytes.extend_from_slice(taken.bytes()).ok()?;
+    }
+    Some(bytes)
+}
+
+/// Whether a program that is given this input writes that output, and nothing to the notes; None
+/// where no memory was found, or the input can't be read.
 pub fn writes(
     rt: &(impl Files + AllocGlobal),
     command: &str,
     program: &str,
+    input: Option<&str>,
     output: &str,
 ) -> Option<bool> {
+    let input = input_of(rt, input)?;
     let mut files = StdFiles::new(rt);
-    let called = call(rt.alloc(), &[command, program], &mut files)?;
+    let called = call(rt.alloc(), &[command, program], &mut files, &input)?;
     match take_all(rt.alloc(), &mut files, output, MOST) {
         Ok(expected) => {
             Some(called.out.taken() == expected.bytes() && called.notes.taken().is_empty())
@@ -39,9 +58,9 @@ pub fn writes(
 /// Whether the canonical text of a program is its own canonical text; None where no memory was
 /// found.
 pub fn settles(rt: &(impl Files + AllocGlobal), program: &str) -> Option<bool> {
-    let once = call(rt.alloc(), &["fmt", program], &mut StdFiles::new(rt))?;
+    let once = call(rt.alloc(), &["fmt", program], &mut StdFiles::new(rt), &[])?;
     let mut files = MemFiles::new(rt.alloc());
     files.add("a", once.out.taken()).ok()?;
-    let twice = call(rt.alloc(), &["fmt", "a"], &mut files)?;
+    let twice = call(rt.alloc(), &["fmt", "a"], &mut files, &[])?;
     Some(twice.status == 0 && twice.out.taken() == once.out.taken())
 }

@@ -5,10 +5,11 @@ use crate::cells::expanded;
 use rg_io::MemFiles;
 use std::alloc::Global;
 
-/// A row: `words | source | output | notes | status`.
+/// A row: `words | input | source | output | notes | status`.
 #[derive(Drop)]
 struct Row<'a> {
     words: &'a str,
+    input: &'a str,
     source: &'a str,
     output: &'a str,
     notes: &'a str,
@@ -22,17 +23,20 @@ pub enum Verdict {
     AsExpected,
     /// something else, or no row at all
     Other,
-    OutOfMemory,
+    /// no memory was found, or what the row speaks of isn't there
+    NotTried,
 }
 
 /// The cells of a row.
 fn cells(line: &str) -> Option<Row<'_>> {
     let (words, rest) = line.split_once('|')?;
+    let (input, rest) = rest.split_once('|')?;
     let (source, rest) = rest.split_once('|')?;
     let (output, rest) = rest.split_once('|')?;
     let (notes, status) = rest.split_once('|')?;
     Some(Row {
         words,
+        input: input.trim(),
         source: source.trim(),
         output: output.trim(),
         notes: notes.trim(),
@@ -48,7 +52,8 @@ fn gives(alloc: Global, row: &Row<'_>) -> Option<bool> {
     }
     let mut files = MemFiles::new(alloc);
     files.add("a", &expanded(alloc, row.source)?).ok()?;
-    let called = call(alloc, &words, &mut files)?;
+    let input = expanded(alloc, row.input)?;
+    let called = call(alloc, &words, &mut files, &input)?;
     let output = expanded(alloc, row.output)?;
     let notes = expanded(alloc, row.notes)?;
     Some(
@@ -69,6 +74,6 @@ pub fn judge(alloc: Global, line: &str) -> Verdict {
     match gives(alloc, &row) {
         Some(true) => Verdict::AsExpected,
         Some(false) => Verdict::Other,
-        None => Verdict::OutOfMemory,
+        None => Verdict::NotTried,
     }
 }
