@@ -4,12 +4,8 @@
 # slowest size is above the fastest: that should be within 1.5, and 1 MiB within two seconds.
 # Not a part of the gate. Usage: bench/check.sh [TURNS]
 set -eu
-here=$(cd "$(dirname "$0")/.." && pwd)
+. "$(dirname "$0")/common.sh"
 turns=${1:-10}
-"$here/reggio" fmt "$here/examples/seven.rg" >/dev/null
-program=$here/crates/reggio/out/reggio
-work=$(mktemp -d)
-trap 'rm -rf "$work"' EXIT
 cat >"$work/sources.py" <<'PY'
 """Accepted sources of a size, by kind: pieces between a head and an end, filled up with blanks."""
 

@@ -6,10 +6,7 @@
 # of the greatest to the smallest. Time and memory should stay within 1.5 for the five kinds, and 1 MiB of each
 # within two seconds. It needs python3 and a C compiler. Not a part of the gate. Usage: bench/front.sh [TURNS]
 set -eu
-here=$(cd "$(dirname "$0")/.." && pwd)
-"$here/reggio" fmt "$here/examples/seven.rg" >/dev/null
-work=$(mktemp -d)
-trap 'rm -rf "$work"' EXIT
+. "$(dirname "$0")/common.sh"
 
 # Names of six bytes whose hashes agree in their low 13 bits, and so in their group of the table of names. The
 # hash is the kit's FoldHasher: the length, and then each byte, is folded in by a multiplication, and at the end
@@ -96,7 +93,7 @@ int main(int count, char **words) {
 C
 cc -O2 -o "$work/measure" "$work/measure.c"
 
-python3 - "$here/crates/reggio/out/reggio" "$work" "${1:-20}" <<'PY'
+python3 - "$program" "$work" "${1:-20}" <<'PY'
 import itertools, subprocess, sys
 program, work, turns = sys.argv[1:]
 sizes = (64, 128, 256, 512, 1024)

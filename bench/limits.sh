@@ -4,11 +4,8 @@
 # its notes and status are compared with the row, and at the end the rows that differ are counted.
 # Not a part of the gate. Usage: bench/limits.sh
 set -eu
-here=$(cd "$(dirname "$0")/.." && pwd)
-"$here/reggio" fmt "$here/examples/seven.rg" >/dev/null
-work=$(mktemp -d)
-trap 'rm -rf "$work"' EXIT
-python3 - "$here/crates/reggio/out/reggio" "$work" <<'PY'
+. "$(dirname "$0")/common.sh"
+python3 - "$program" "$work" <<'PY'
 import subprocess, sys
 program, work = sys.argv[1:]
 rows = []

@@ -6,12 +6,8 @@
 # Both should be flat: the largest within 1.5 of the smallest.
 # Not a part of the gate. Usage: bench/names.sh [TURNS]
 set -eu
-here=$(cd "$(dirname "$0")/.." && pwd)
+. "$(dirname "$0")/common.sh"
 turns=${1:-20}
-"$here/reggio" run "$here/examples/seven.rg" >/dev/null
-program=$here/crates/reggio/out/reggio
-work=$(mktemp -d)
-trap 'rm -rf "$work"' EXIT
 python3 - "$work" <<'PY'
 import sys
 work = sys.argv[1]
