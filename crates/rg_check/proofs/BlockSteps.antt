@@ -5,8 +5,8 @@ use Rattle.rg_base.specs.declared.ty.Ty.{Ty}
 use Rattle.rg_base.specs.declared.fault.Stop.{Stop}
 use Rattle.rg_base.specs.declared.limits.TheConstants.{BODY_NAMES}
 use Rattle.rg_tree.specs.Tree.{Stmt, stmt, StmtKind, Block, then as next}
-use Rattle.rg_tree.specs.Tables.{Tables}
-use Rattle.rg_tree.specs.RowTrees.{classes_of, stmt_at, block_over}
+use Rattle.rg_tree.specs.Rows.Tables.{Tables}
+use Rattle.rg_tree.specs.Rows.RowTrees.{classes_of, stmt_at, block_over}
 use Rattle.rg_rules.specs.Answers.{◌>>=◌, Lined}
 use Rattle.rg_rules.specs.Environment.{Env}
 use Rattle.rg_rules.specs.Names.{stmt_names, block_names}

@@ -10,7 +10,7 @@ use Rattle.rg_rules.specs.Headers.{among, method_header, member_headers, judge_h
 use Rattle.rg_rules.specs.Names.{HasFewNames}
 use Rattle.rg_rules.proofs.AnswersLemmas.{then-ok, at_line-ok}
 use Rattle.rg_rules.proofs.HeaderLemmas.{good_type-type_of, method_header-parts, member_headers-parts, judge_headers-members}
-use Rattle.rg_check.specs.Methods.{IsGood, MayBeJudged, MemberMayBeJudged}
+use Rattle.rg_check.specs.Inner.Methods.{IsGood, MayBeJudged, MemberMayBeJudged}
 use Rattle.rg_check.proofs.Outcomes.{slice_get-there, IfSome-by}
 
 -- a type that passed

@@ -5,12 +5,12 @@ use Rattle.std.proofs.lemmas.List.Elements.{All-get_or}
 use Rattle.rg_base.specs.declared.fault.Stop.{Stop}
 use Rattle.rg_tree.specs.Tree.{Member, field, method, Class}
 use Rattle.rg_tree.specs.declared.rows.MemberRow.{MemberRow}
-use Rattle.rg_tree.specs.Tables.{Tables}
-use Rattle.rg_tree.specs.RowTrees.{classes_of, member_at, member_of}
+use Rattle.rg_tree.specs.Rows.Tables.{Tables}
+use Rattle.rg_tree.specs.Rows.RowTrees.{classes_of, member_at, member_of}
 use Rattle.rg_rules.specs.Answers.{◌>>◌}
 use Rattle.rg_rules.specs.Bodies.{judge_members, judge_methods}
 use Rattle.rg_names.specs.Judged.{FailsAs}
-use Rattle.rg_check.specs.Methods.{MemberMayBeJudged, judge_member}
+use Rattle.rg_check.specs.Inner.Methods.{MemberMayBeJudged, judge_member}
 use Rattle.rg_check.proofs.Outcomes.{FailsAs-first, FailsAs-same, drop-get}
 
 -- The members of a class.

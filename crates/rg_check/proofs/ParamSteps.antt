@@ -8,9 +8,9 @@ use Rattle.rg_base.specs.declared.ty.Ty.{Ty}
 use Rattle.rg_base.specs.declared.ty.Ty.TheVariants.{Ref}
 use Rattle.rg_tree.specs.declared.rows.ParamRow.{ParamRow}
 use Rattle.rg_tree.specs.Tree.{Param}
-use Rattle.rg_tree.specs.Tables.{Tables, name_at, numbers_in}
-use Rattle.rg_tree.specs.RowTrees.{param_at, param_of, classes_of, type_of as written}
-use Rattle.rg_tree.specs.RowsExist.{IsParamIn}
+use Rattle.rg_tree.specs.Rows.Tables.{Tables, name_at, numbers_in}
+use Rattle.rg_tree.specs.Rows.RowTrees.{param_at, param_of, classes_of, type_of as written}
+use Rattle.rg_tree.specs.Rows.RowsExist.{IsParamIn}
 use Rattle.rg_rules.specs.Types.{type_of, good_type}
 use Rattle.rg_rules.specs.Environment.{empty, with_variable, ready}
 use Rattle.rg_rules.specs.Bodies.{with_params, method_env}
@@ -18,7 +18,7 @@ use Rattle.rg_rules.proofs.HeaderLemmas.{good_type-type_of}
 use Rattle.rg_names.specs.TreeAnswers.{IsKnown}
 use Rattle.rg_type.specs.Scope.{Scope, Slot, no_variables, pushed, env_of, IsSlotIn, IsScopeIn}
 use Rattle.rg_check.specs.declared.method.MethodRow.{MethodRow}
-use Rattle.rg_check.specs.Methods.{IsGood, method_of}
+use Rattle.rg_check.specs.Inner.Methods.{IsGood, method_of}
 
 -- the first i parameters were added
 pub record ParamsUpTo (t : Tables) (front : Scope) (ks : List ℕ) (i : ℕ) (env : Scope) : Type 0 where

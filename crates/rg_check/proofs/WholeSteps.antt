@@ -4,8 +4,8 @@ use Rattle.std.specs.Result.{result_err}
 use Rattle.rg_base.specs.declared.fault.Stop.{Stop}
 use Rattle.rg_tree.specs.declared.rows.Span.{Span}
 use Rattle.rg_tree.specs.Tree.{Tree}
-use Rattle.rg_tree.specs.Tables.{Tables, numbers_in}
-use Rattle.rg_tree.specs.RowTrees.{classes_of, stmt_at, block_over, program_of}
+use Rattle.rg_tree.specs.Rows.Tables.{Tables, numbers_in}
+use Rattle.rg_tree.specs.Rows.RowTrees.{classes_of, stmt_at, block_over, program_of}
 use Rattle.rg_rules.specs.Environment.{Env}
 use Rattle.rg_rules.specs.Headers.{judge_headers}
 use Rattle.rg_rules.specs.Statements.{judge_block}

@@ -1,6 +1,6 @@
 -- What contracts see of an accepted program (docs/language.md, "Acceptance").
-use Rattle.rg_tree.specs.Tables.{Tables}
-use Rattle.rg_tree.specs.RowTrees.{program_of}
+use Rattle.rg_tree.specs.Rows.Tables.{Tables}
+use Rattle.rg_tree.specs.Rows.RowTrees.{program_of}
 use Rattle.rg_rules.specs.Names.{FewNames}
 use Rattle.rg_rules.specs.Acceptance as rules
 use Rattle.rg_names.specs.Table.{Table}

@@ -1,3 +1,3 @@
 pub mod Checked
-pub mod Methods
 pub mod Laws
+pub mod Inner

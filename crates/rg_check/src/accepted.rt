@@ -1,7 +1,7 @@
 //! Accepted programs (docs/language.md, "Acceptance").
 
 ghost use Rattle.std.specs.Prelude.{◌≡◌};
-ghost use Rattle.rg_tree.specs.RowTrees.{program_of};
+ghost use Rattle.rg_tree.specs.Rows.RowTrees.{program_of};
 ghost use Rattle.rg_rules.specs.Acceptance as rules;
 ghost use Rattle.rg_names.specs.TableOf.{IsTableOf};
 

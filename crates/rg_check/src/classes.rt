@@ -1,13 +1,13 @@
 //! The methods of all classes in source order (docs/language.md, "Acceptance").
 
 ghost use Rattle.std.specs.Prelude.{◌<◌, All, length, map};
-ghost use Rattle.rg_tree.specs.RowTrees.{classes_of, member_at, member_of, program_of};
-ghost use Rattle.rg_tree.specs.RowsExist.{IsMemberIn};
+ghost use Rattle.rg_tree.specs.Rows.RowTrees.{classes_of, member_at, member_of, program_of};
+ghost use Rattle.rg_tree.specs.Rows.RowsExist.{IsMemberIn};
 ghost use Rattle.rg_rules.specs.Names.{FewNames};
 ghost use Rattle.rg_rules.specs.Bodies as rules;
 ghost use Rattle.rg_names.specs.TableOf.{IsTableOf};
 ghost use Rattle.rg_names.specs.Judged.{JudgedAs};
-ghost use Rattle.rg_check.specs.Methods as methods;
+ghost use Rattle.rg_check.specs.Inner.Methods as methods;
 
 use crate::method::{MethodRow, judge_method};
 use rg_base::Stop;

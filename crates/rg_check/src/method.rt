@@ -4,8 +4,8 @@
 ghost use Rattle.std.specs.Prelude.{◌≡◌, ◌+◌, ◌<◌, ◌≤◌, suc, All, length, map, option_map, IfOk, IfSome};
 ghost use Rattle.rg_base.specs.declared.limits.TheConstants.{BODY_NAMES};
 ghost use Rattle.rg_base.specs.declared.fault.Code.TheVariants.{Return};
-ghost use Rattle.rg_tree.specs.RowTrees.{classes_of, param_at, type_of, block_of};
-ghost use Rattle.rg_tree.specs.RowsExist.{IsBlockIn, IsTypeIn};
+ghost use Rattle.rg_tree.specs.Rows.RowTrees.{classes_of, param_at, type_of, block_of};
+ghost use Rattle.rg_tree.specs.Rows.RowsExist.{IsBlockIn, IsTypeIn};
 ghost use Rattle.rg_rules.specs.Answers.{at_line, test};
 ghost use Rattle.rg_rules.specs.Types as types;
 ghost use Rattle.rg_rules.specs.Bodies as rules;
@@ -13,7 +13,7 @@ ghost use Rattle.rg_names.specs.TableOf.{IsTableOf};
 ghost use Rattle.rg_names.specs.TreeAnswers.{IsKnown};
 ghost use Rattle.rg_names.specs.Judged.{JudgedAs};
 ghost use Rattle.rg_type.specs.Scope.{env_of, IsScopeIn};
-ghost use Rattle.rg_check.specs.Methods.{IsGood, IsMethodIn, MayBeJudged, method_of};
+ghost use Rattle.rg_check.specs.Inner.Methods.{IsGood, IsMethodIn, MayBeJudged, method_of};
 
 use crate::statements::{ends_in_return, judge_block};
 use rg_base::{Cap, Code, Fault, Memory, Stop, Ty};

@@ -3,8 +3,8 @@
 ghost use Rattle.std.specs.Prelude.{◌≡◌, ℕ, ◌+◌, ◌<◌, ◌≤◌, List, All, length, IfSome};
 ghost use Rattle.rg_base.specs.declared.limits.TheConstants.{BODY_NAMES};
 ghost use Rattle.rg_tree.specs.Tree.{Class, Stmt};
-ghost use Rattle.rg_tree.specs.Tables.{Tables};
-ghost use Rattle.rg_tree.specs.RowTrees.{block_over, classes_of, kind_over, stmt_at};
+ghost use Rattle.rg_tree.specs.Rows.Tables.{Tables};
+ghost use Rattle.rg_tree.specs.Rows.RowTrees.{block_over, classes_of, kind_over, stmt_at};
 ghost use Rattle.rg_rules.specs.Names.{block_names};
 ghost use Rattle.rg_rules.specs.Statements as rules;
 ghost use Rattle.rg_rules.specs.Bodies as bodies;

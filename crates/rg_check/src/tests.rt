@@ -1,7 +1,7 @@
 //! Short programs, built by their rows: one that is accepted, and one that is refused.
 
 ghost use Rattle.std.specs.Prelude.{IfOk};
-ghost use Rattle.rg_tree.specs.RowTrees.{program_of};
+ghost use Rattle.rg_tree.specs.Rows.RowTrees.{program_of};
 ghost use Rattle.rg_rules.specs.Names.{FewNames};
 
 use crate::{check, diagnostic_text};

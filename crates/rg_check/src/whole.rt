@@ -2,7 +2,7 @@
 //! (docs/language.md, "Acceptance").
 
 ghost use Rattle.std.specs.Prelude.{◌≡◌, IfOk};
-ghost use Rattle.rg_tree.specs.RowTrees.{program_of};
+ghost use Rattle.rg_tree.specs.Rows.RowTrees.{program_of};
 ghost use Rattle.rg_rules.specs.Names.{FewNames};
 ghost use Rattle.rg_rules.specs.Acceptance.{judge_program};
 ghost use Rattle.rg_names.specs.Judged.{JudgedAs};

@@ -10,7 +10,7 @@ use Rattle.rg_input.specs.declared.held.Verdict.{Verdict}
 use Rattle.rg_input.specs.declared.held.Verdict.TheVariants as says
 use Rattle.rg_input.specs.declared.refusal.NumberRefusal.{NumberRefusal}
 use Rattle.rg_input.specs.declared.refusal.NumberRefusal.TheVariants as no
-use Rattle.rg_input.specs.Held.{pending, Reads, has_enough, IsWhole, with_rest, Says, Settled, verdict_of}
+use Rattle.rg_input.specs.Inner.Held.{pending, Reads, has_enough, IsWhole, with_rest, Says, Settled, verdict_of}
 use Rattle.rg_input.specs.Numbers.{Pending, CanCome, OnInput, is_more, Looks, Answers, Refuses}
 use Rattle.rg_input.proofs.ReadLemmas.{is_whole-read}
 

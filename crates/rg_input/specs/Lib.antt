@@ -1,4 +1,3 @@
-pub mod Held
-pub mod Limit
 pub mod Numbers
 pub mod Read
+pub mod Inner

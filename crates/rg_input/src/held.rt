@@ -63,8 +63,8 @@ fn next_byte<S: Source>(source: &mut S) -> Result<Option<u8>, InputFault>
 }
 
 impl Held {
-    ghost use Rattle.rg_input.specs.Held.{pending, has_enough, Reads, IsWhole};
-    ghost use Rattle.rg_input.specs.Held.{Says, Settled, verdict_of};
+    ghost use Rattle.rg_input.specs.Inner.Held.{pending, has_enough, Reads, IsWhole};
+    ghost use Rattle.rg_input.specs.Inner.Held.{Says, Settled, verdict_of};
 
     /// Nothing was read.
     pub(crate) fn new() -> Held

@@ -6,7 +6,7 @@ ghost use Rattle.std.specs.List.{list_all};
 ghost use Rattle.rg_base.specs.Input.{digits_number, ranged, token_number};
 ghost use Rattle.rg_base.specs.Pieces.{is_digit};
 ghost use Rattle.rg_base.specs.Tokens.{value_of};
-ghost use Rattle.rg_input.specs.Limit.{at_most};
+ghost use Rattle.rg_input.specs.Inner.Limit.{at_most};
 
 use rg_base::{GREATEST_NUMBER, INPUT_TOKEN};
 

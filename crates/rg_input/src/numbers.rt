@@ -18,7 +18,7 @@ pub struct Numbers {
 }
 
 impl Model for Numbers {
-    ghost use Rattle.rg_input.specs.Held.{pending};
+    ghost use Rattle.rg_input.specs.Inner.Held.{pending};
     ghost use Rattle.rg_input.specs.Numbers.{Pending};
 
     ghost Value = { Pending };

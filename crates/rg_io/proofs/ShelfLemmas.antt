@@ -6,7 +6,7 @@ use Rattle.std.proofs.Math.ListN.{get_or-map}
 use Rattle.std.proofs.lemmas.List.{reverse-append}
 use Rattle.std.proofs.lemmas.Option.{slice_get-get_or}
 use Rattle.rg_io.specs.Files.{FileMap, Told, file_bytes}
-use Rattle.rg_io.specs.Shelf.{bytes_of, unread, IsPlace}
+use Rattle.rg_io.specs.Inner.Shelf.{bytes_of, unread, IsPlace}
 use Rattle.rg_io.specs.declared.reading.Place.{Place}
 
 -- of the first files, the newest is looked at first

@@ -1,8 +1,6 @@
-pub mod Calls
 pub mod Content
 pub mod Files
 pub mod MemFiles
 pub mod MemSink
 pub mod MemSource
-pub mod Shelf
-pub mod Untold
+pub mod Inner

@@ -31,7 +31,7 @@ impl Model for Reading {
 
     ghost Value = { Told };
 
-    ghost use Rattle.rg_io.specs.Shelf.{unread, IsPlace};
+    ghost use Rattle.rg_io.specs.Inner.Shelf.{unread, IsPlace};
 
     ghost view = { λ r. record { files = reverse r.shelf; rest = unread r.shelf r.place } };
 

@@ -3,7 +3,7 @@
 ghost use Rattle.std.specs.Prelude.{◌≡◌, ◌<◌, ◌++◌, ◌∷◌, [], length, reverse, slice_get};
 ghost use Rattle.std.specs.Prelude.{Some, None, IfSome, IfNone, OnOk, OnErr};
 ghost use Rattle.rg_io.specs.Files.{file_bytes};
-ghost use Rattle.rg_io.specs.Shelf.{bytes_of};
+ghost use Rattle.rg_io.specs.Inner.Shelf.{bytes_of};
 
 use rg_base::Memory;
 use std::alloc::Global;

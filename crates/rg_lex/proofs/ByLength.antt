@@ -7,7 +7,7 @@ use Rattle.std.proofs.lemmas.Slice.Eq.{bytes_eq-Decides}
 use Rattle.rg_base.specs.declared.words.Keyword.{Keyword}
 use Rattle.rg_base.specs.Words.{beside, keywords, keyword_of}
 use Rattle.rg_base.proofs.Fronts.{both}
-use Rattle.rg_lex.specs.OfLength.{keywords_of_length}
+use Rattle.rg_lex.specs.Inner.OfLength.{keywords_of_length}
 
 -- texts of two lengths differ
 bytes_eq-lengths : (s t : List ℕ) (v : Bool) → bytes_eq s t ≡ v → (length s ≡ length t → ⊥) → v ≡ false

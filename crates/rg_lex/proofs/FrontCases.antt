@@ -13,7 +13,7 @@ use Rattle.rg_base.specs.Words.{keyword_of, sign_of}
 use Rattle.rg_base.specs.Pieces.{Piece, blank, comment, name, number, sign, is_blank, is_digit, is_letter, is_in_name, is_in_comment}
 use Rattle.rg_base.specs.Tokens.{value_onto, value_of, begins_name, word_or_name, number_within, reading}
 use Rattle.rg_base.proofs.Fronts.{both, IsOther, IsFront, front-blank, front-letter, front-digit, front-comment, front-pair, front-single, front-alone, one_if}
-use Rattle.rg_lex.specs.Front.{with_length, front_of, marked}
+use Rattle.rg_lex.specs.Inner.Front.{with_length, front_of, marked}
 
 -- by the front's length and what it is
 front_of-is : (bs : List ℕ) (n : ℕ) (p : Option Piece) → IsFront bs n p → front_of bs ≡ with_length n (reading p (take n bs) (drop n bs))

@@ -9,7 +9,7 @@ use Rattle.rg_base.specs.Pieces.{front}
 use Rattle.rg_base.specs.Tokens.{read_front, with_token, line_after, cut_from, cut, line_behind, end_line}
 use Rattle.rg_base.proofs.Cuts.{cut_from-reads, cut_from-fails, token-line}
 use Rattle.rg_lex.specs.declared.piece.Front.{Front}
-use Rattle.rg_lex.specs.Front.{with_length, front_of}
+use Rattle.rg_lex.specs.Inner.Front.{with_length, front_of}
 
 -- so many tokens, and then these
 abbrev pub prepend : List Token → Result (List Token) Fault → Result (List Token) Fault

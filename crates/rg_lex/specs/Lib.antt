@@ -1,5 +1,3 @@
 pub mod TokenList
-pub mod Gives
 pub mod Places
-pub mod Front
-pub mod OfLength
+pub mod Inner

@@ -2,7 +2,7 @@
 
 ghost use Rattle.std.specs.Prelude.{◌≡◌, length};
 ghost use Rattle.rg_base.specs.Words.{keyword_of, beside};
-ghost use Rattle.rg_lex.specs.OfLength.{keywords_of_length};
+ghost use Rattle.rg_lex.specs.Inner.OfLength.{keywords_of_length};
 
 use rg_base::Keyword;
 

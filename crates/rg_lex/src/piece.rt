@@ -4,7 +4,7 @@ ghost use Rattle.std.specs.Prelude.{◌≡◌, ◌<◌, true, false, [], ◌∷�
 ghost use Rattle.rg_base.specs.Words.{keyword_of, sign_of};
 ghost use Rattle.rg_base.specs.Pieces.{is_blank, is_digit, is_letter};
 ghost use Rattle.rg_base.specs.Tokens.{word_or_name};
-ghost use Rattle.rg_lex.specs.Front.{front_of, marked};
+ghost use Rattle.rg_lex.specs.Inner.Front.{front_of, marked};
 
 use crate::keyword::keyword;
 use crate::number::value;

@@ -2,8 +2,8 @@
 use Rattle.std.proofs.Common.{◌≡◌, ℕ, ◌<◌, length, slice_get, Some, Ok, sym, ap, ◌∙◌}
 use Rattle.std.proofs.lemmas.List.{length-map}
 use Rattle.rg_tree.specs.Tree.{Param}
-use Rattle.rg_tree.specs.Tables.{Tables, name_at}
-use Rattle.rg_tree.specs.RowTrees.{classes_of}
+use Rattle.rg_tree.specs.Rows.Tables.{Tables, name_at}
+use Rattle.rg_tree.specs.Rows.RowTrees.{classes_of}
 use Rattle.rg_tree.proofs.Programs.{length-classes_of}
 use Rattle.rg_rules.specs.Types.{type_of, good_type}
 use Rattle.rg_rules.proofs.HeaderLemmas.{good_type-type_of, judge_headers-method, method_header-parts}

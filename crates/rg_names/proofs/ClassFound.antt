@@ -6,9 +6,9 @@ use Rattle.rg_tree.specs.declared.rows.ClassRow.{ClassRow}
 use Rattle.rg_tree.specs.declared.rows.MemberRow.{MemberRow}
 use Rattle.rg_tree.specs.declared.rows.MemberRow.TheVariants as row
 use Rattle.rg_tree.specs.Tree.{Name, Field, Method, Member, Class}
-use Rattle.rg_tree.specs.Tables.{Tables, name_at, numbers_in}
-use Rattle.rg_tree.specs.RowTrees.{member_at, member_of, class_of, classes_of}
-use Rattle.rg_tree.specs.RowsExist.{EachRow, AreRows, IsClassIn}
+use Rattle.rg_tree.specs.Rows.Tables.{Tables, name_at, numbers_in}
+use Rattle.rg_tree.specs.Rows.RowTrees.{member_at, member_of, class_of, classes_of}
+use Rattle.rg_tree.specs.Rows.RowsExist.{EachRow, AreRows, IsClassIn}
 use Rattle.rg_tree.proofs.Programs.{member_at-row, classes_of-row}
 use Rattle.rg_rules.specs.Types.{field_member, method_member, members_of as tree_members, fields_of, methods_of, field_place, type_of}
 use Rattle.rg_rules.specs.Headers.{member_headers}

@@ -2,8 +2,8 @@
 use Rattle.std.proofs.Common.{◌≡◌, ℕ, suc, ◌+◌, List, [], ◌∷◌, ◌++◌, drop, length, slice_get, Some, Ok, refl, sym, ap, ◌∙◌, add-one}
 use Rattle.rg_base.specs.declared.fault.Stop.{Stop}
 use Rattle.rg_tree.specs.declared.rows.ClassRow.{ClassRow}
-use Rattle.rg_tree.specs.Tables.{Tables, numbers_in}
-use Rattle.rg_tree.specs.RowTrees.{class_of, classes_of}
+use Rattle.rg_tree.specs.Rows.Tables.{Tables, numbers_in}
+use Rattle.rg_tree.specs.Rows.RowTrees.{class_of, classes_of}
 use Rattle.rg_tree.proofs.Programs.{classes_of-row}
 use Rattle.rg_rules.specs.Answers.{◌>>◌, Lined, Passed}
 use Rattle.rg_rules.specs.Headers.{member_headers, class_members}

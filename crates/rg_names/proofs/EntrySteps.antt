@@ -4,9 +4,9 @@ use Rattle.rg_base.specs.declared.fault.Stop.{Stop}
 use Rattle.rg_tree.specs.declared.rows.ClassRow.{ClassRow}
 use Rattle.rg_tree.specs.declared.rows.MemberRow.{MemberRow}
 use Rattle.rg_tree.specs.declared.rows.MemberRow.TheVariants as row
-use Rattle.rg_tree.specs.Tables.{Tables, name_at}
-use Rattle.rg_tree.specs.RowTrees.{member_at, member_of, class_of, classes_of}
-use Rattle.rg_tree.specs.RowsExist.{IsMemberIn}
+use Rattle.rg_tree.specs.Rows.Tables.{Tables, name_at}
+use Rattle.rg_tree.specs.Rows.RowTrees.{member_at, member_of, class_of, classes_of}
+use Rattle.rg_tree.specs.Rows.RowsExist.{IsMemberIn}
 use Rattle.rg_tree.proofs.Programs.{member_at-row}
 use Rattle.rg_rules.specs.Answers.{◌>>◌, Lined, Passed}
 use Rattle.rg_rules.specs.Headers.{member_headers}
@@ -14,7 +14,7 @@ use Rattle.rg_rules.proofs.HeaderLemmas.{member_name, member_headers-cons}
 use Rattle.rg_names.specs.declared.entry.Entry.{Entry}
 use Rattle.rg_names.specs.TableOf.{entry_of, fields_with, methods_with, entries_of, methods_with_all, rows_of}
 use Rattle.rg_names.specs.Judged.{FailsAs}
-use Rattle.rg_names.specs.Headings.{AreNamed, names_behind}
+use Rattle.rg_names.specs.Inner.Headings.{AreNamed, names_behind}
 use Rattle.rg_names.proofs.Naming.{names_behind-push, AreNamed-push}
 use Rattle.rg_names.proofs.Outcomes.{FailsAs-first, FailsAs-same}
 use Rattle.rg_names.proofs.Rests.{push-rest}

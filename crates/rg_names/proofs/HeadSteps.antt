@@ -4,15 +4,15 @@ use Rattle.std.specs.Map.{lookup}
 use Rattle.rg_base.specs.declared.fault.Code.TheVariants.{Duplicate}
 use Rattle.rg_base.specs.declared.fault.Stop.{Stop}
 use Rattle.rg_tree.specs.declared.rows.ClassRow.{ClassRow}
-use Rattle.rg_tree.specs.Tables.{Tables, name_at}
-use Rattle.rg_tree.specs.RowTrees.{class_of, classes_of}
-use Rattle.rg_tree.specs.RowsExist.{AreRows}
+use Rattle.rg_tree.specs.Rows.Tables.{Tables, name_at}
+use Rattle.rg_tree.specs.Rows.RowTrees.{class_of, classes_of}
+use Rattle.rg_tree.specs.Rows.RowsExist.{AreRows}
 use Rattle.rg_tree.proofs.Programs.{classes_of-row}
 use Rattle.rg_rules.specs.Answers.{◌>>◌, test, Lined, Passed, at_line}
 use Rattle.rg_rules.specs.Headers.{class_names}
 use Rattle.rg_names.specs.TableOf.{heads_of}
 use Rattle.rg_names.specs.Judged.{FailsAs}
-use Rattle.rg_names.specs.Headings.{AreNamed, names_behind}
+use Rattle.rg_names.specs.Inner.Headings.{AreNamed, names_behind}
 use Rattle.rg_names.proofs.Naming.{among-behind, names_behind-push, AreNamed-push, none-from_new}
 use Rattle.rg_names.proofs.Outcomes.{FailsAs-first, FailsAs-same, test-new}
 use Rattle.rg_names.proofs.Rests.{drop-get, push-rest}

@@ -6,13 +6,13 @@ use Rattle.rg_base.specs.declared.fault.Stop.{Stop}
 use Rattle.rg_tree.specs.declared.rows.ClassRow.{ClassRow}
 use Rattle.rg_tree.specs.declared.rows.MemberRow.{MemberRow}
 use Rattle.rg_tree.specs.declared.rows.MemberRow.TheVariants as row
-use Rattle.rg_tree.specs.Tables.{Tables, numbers_in, AreDistinct}
-use Rattle.rg_tree.specs.RowTrees.{param_at, member_of, class_of, classes_of, type_of as written}
+use Rattle.rg_tree.specs.Rows.Tables.{Tables, numbers_in, AreDistinct}
+use Rattle.rg_tree.specs.Rows.RowTrees.{param_at, member_of, class_of, classes_of, type_of as written}
 use Rattle.rg_rules.specs.Answers.{◌>>◌, test, Answer, Lined, Passed, at_line}
 use Rattle.rg_rules.specs.Headers.{member_headers}
 use Rattle.rg_names.specs.declared.entry.Entry.{Entry}
 use Rattle.rg_names.specs.Judged.{FailsAs}
-use Rattle.rg_names.specs.Headings.{AreNamed, names_behind, signature_header}
+use Rattle.rg_names.specs.Inner.Headings.{AreNamed, names_behind, signature_header}
 use Rattle.rg_names.proofs.Naming.{among-behind, none-from_new}
 use Rattle.rg_names.proofs.Outcomes.{FailsAs-first, FailsAs-second, FailsAs-same, test-new}
 use Rattle.rg_names.proofs.TypeSteps.{field_types}

@@ -9,9 +9,9 @@ use Rattle.rg_tree.specs.declared.rows.MemberRow.{MemberRow}
 use Rattle.rg_tree.specs.declared.rows.MemberRow.TheVariants as row
 use Rattle.rg_tree.specs.declared.rows.TypeRow.{TypeRow}
 use Rattle.rg_tree.specs.Tree.{Name, Ty as Written, Field as TreeField, Method as TreeMethod, Member, field, method, Class}
-use Rattle.rg_tree.specs.Tables.{Tables, name_at, numbers_in, AreDistinct}
-use Rattle.rg_tree.specs.RowTrees.{param_at, block_of, member_of, classes_of, type_of as written}
-use Rattle.rg_tree.specs.RowsExist.{IsMemberIn, IsSpanBelow}
+use Rattle.rg_tree.specs.Rows.Tables.{Tables, name_at, numbers_in, AreDistinct}
+use Rattle.rg_tree.specs.Rows.RowTrees.{param_at, block_of, member_of, classes_of, type_of as written}
+use Rattle.rg_tree.specs.Rows.RowsExist.{IsMemberIn, IsSpanBelow}
 use Rattle.rg_rules.specs.Types.{type_of, good_type, field_member, method_member}
 use Rattle.rg_rules.specs.Headers.{among, member_headers}
 use Rattle.rg_rules.proofs.HeaderLemmas.{good_type-type_of, field-good, result-good, HeadersParts, member_headers-parts}

@@ -8,10 +8,10 @@ use Rattle.std.proofs.lemmas.List.Sorted.{IsPermutation-reverse, list_any-IsPerm
 use Rattle.std.proofs.lemmas.Map.Made.{is_some-lookup}
 use Rattle.std.proofs.lemmas.Slice.Eq.{bytes_eq-Decides}
 use Rattle.rg_tree.specs.Tree.{Name}
-use Rattle.rg_tree.specs.Tables.{Tables, name_at, AreDistinct}
+use Rattle.rg_tree.specs.Rows.Tables.{Tables, name_at, AreDistinct}
 use Rattle.rg_tree.proofs.Callers.{name_at-injective}
 use Rattle.rg_rules.specs.Headers.{among}
-use Rattle.rg_names.specs.Headings.{AreNamed, names_behind}
+use Rattle.rg_names.specs.Inner.Headings.{AreNamed, names_behind}
 
 bytes-same : (x y : Name) → x ≡ y → bytes_eq x y ≡ true
 bytes-same x y e = (bytes_eq-Decides x y).1 e

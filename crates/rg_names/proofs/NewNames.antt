@@ -5,7 +5,7 @@ use Rattle.std.proofs.lemmas.List.Elements.{All-nil, All-cons, All-head, All-tai
 use Rattle.std.proofs.lemmas.List.Kept.{AllPairs-cons}
 use Rattle.std.proofs.lemmas.Slice.Eq.{bytes_eq-Decides}
 use Rattle.rg_tree.specs.Tree.{Name}
-use Rattle.rg_tree.specs.Tables.{AreDistinct}
+use Rattle.rg_tree.specs.Rows.Tables.{AreDistinct}
 use Rattle.rg_rules.specs.Headers.{among}
 use Rattle.rg_names.proofs.MembersFound.{among-later, among-here}
 

@@ -5,15 +5,15 @@ use Rattle.rg_base.specs.declared.ty.Ty.{Ty}
 use Rattle.rg_base.specs.declared.fault.Code.TheVariants.{Duplicate}
 use Rattle.rg_base.specs.declared.fault.Stop.{Stop}
 use Rattle.rg_tree.specs.declared.rows.ParamRow.{ParamRow}
-use Rattle.rg_tree.specs.Tables.{Tables, name_at}
-use Rattle.rg_tree.specs.RowTrees.{param_at, param_of, classes_of, type_of as written}
-use Rattle.rg_tree.specs.RowsExist.{IsParamIn}
+use Rattle.rg_tree.specs.Rows.Tables.{Tables, name_at}
+use Rattle.rg_tree.specs.Rows.RowTrees.{param_at, param_of, classes_of, type_of as written}
+use Rattle.rg_tree.specs.Rows.RowsExist.{IsParamIn}
 use Rattle.rg_rules.specs.Answers.{◌>>◌, test, Answer, Lined, Passed, at_line}
 use Rattle.rg_rules.specs.Types.{good_type}
 use Rattle.rg_rules.specs.Headers.{param_headers}
 use Rattle.rg_names.specs.Table.{judge_type}
 use Rattle.rg_names.specs.Judged.{FailsAs}
-use Rattle.rg_names.specs.Headings.{IsHeadsOf, AreNamed, names_behind}
+use Rattle.rg_names.specs.Inner.Headings.{IsHeadsOf, AreNamed, names_behind}
 use Rattle.rg_names.proofs.Naming.{among-behind, names_behind-push, AreNamed-push}
 use Rattle.rg_names.proofs.Outcomes.{FailsAs-first, FailsAs-second, FailsAs-same, at_line-then}
 use Rattle.rg_names.proofs.TypeFacts.{judge_type-good_type}

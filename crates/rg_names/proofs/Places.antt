@@ -6,11 +6,11 @@ use Rattle.std.proofs.lemmas.Bool.Decides.{nat_tests}
 use Rattle.std.proofs.lemmas.Option.{slice_get-map}
 use Rattle.rg_tree.specs.declared.rows.ClassRow.{ClassRow}
 use Rattle.rg_tree.specs.Tree.{Class}
-use Rattle.rg_tree.specs.Tables.{Tables, name_at}
-use Rattle.rg_tree.specs.RowTrees.{class_of, classes_of}
+use Rattle.rg_tree.specs.Rows.Tables.{Tables, name_at}
+use Rattle.rg_tree.specs.Rows.RowTrees.{class_of, classes_of}
 use Rattle.rg_rules.specs.Types.{class_named}
 use Rattle.rg_names.specs.Table.{values_of}
-use Rattle.rg_names.specs.Headings.{IsHeadsOf}
+use Rattle.rg_names.specs.Inner.Headings.{IsHeadsOf}
 use Rattle.rg_names.specs.TreeAnswers.{class_place}
 use Rattle.rg_names.proofs.TypeFacts.{head_of, lookup-heads_of, position-heads_of}
 

@@ -10,15 +10,15 @@ use Rattle.rg_tree.specs.declared.rows.ClassRow.{ClassRow}
 use Rattle.rg_tree.specs.declared.rows.TypeRow.{TypeRow}
 use Rattle.rg_tree.specs.declared.rows.TypeRow.TheVariants as row
 use Rattle.rg_tree.specs.Tree.{Ty as Written, int, bool, ref, Class}
-use Rattle.rg_tree.specs.Tables.{Tables, name_at, AreDistinct}
-use Rattle.rg_tree.specs.RowTrees.{class_of, classes_of, type_of as written}
-use Rattle.rg_tree.specs.RowsExist.{EachRow, IsClassIn, IsTypeIn}
+use Rattle.rg_tree.specs.Rows.Tables.{Tables, name_at, AreDistinct}
+use Rattle.rg_tree.specs.Rows.RowTrees.{class_of, classes_of, type_of as written}
+use Rattle.rg_tree.specs.Rows.RowsExist.{EachRow, IsClassIn, IsTypeIn}
 use Rattle.rg_rules.specs.Answers.{◌>>=◌, ◌>>◌, test}
 use Rattle.rg_rules.specs.Types.{suits_class, class_named, class_number, good_type}
 use Rattle.rg_rules.proofs.HeaderLemmas.{good_type-type_of, good_type-known}
 use Rattle.rg_names.specs.Table.{Table, judge_type}
 use Rattle.rg_names.specs.TableOf.{ty_of, IsTableOf}
-use Rattle.rg_names.specs.Headings.{IsHeadsOf, AreNamed}
+use Rattle.rg_names.specs.Inner.Headings.{IsHeadsOf, AreNamed}
 use Rattle.rg_names.specs.TreeAnswers.{IsKnown}
 use Rattle.rg_names.proofs.Naming.{name-eq-back}
 

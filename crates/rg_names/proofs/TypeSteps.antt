@@ -6,16 +6,16 @@ use Rattle.rg_base.specs.declared.fault.Stop.{Stop}
 use Rattle.rg_base.specs.declared.fault.Stop.TheVariants.{Fault, Memory}
 use Rattle.rg_tree.specs.declared.rows.TypeRow.{TypeRow}
 use Rattle.rg_tree.specs.declared.rows.TypeRow.TheVariants as row
-use Rattle.rg_tree.specs.Tables.{Tables}
-use Rattle.rg_tree.specs.RowTrees.{classes_of, type_of as written}
-use Rattle.rg_tree.specs.RowsExist.{IsTypeIn}
+use Rattle.rg_tree.specs.Rows.Tables.{Tables}
+use Rattle.rg_tree.specs.Rows.RowTrees.{classes_of, type_of as written}
+use Rattle.rg_tree.specs.Rows.RowsExist.{IsTypeIn}
 use Rattle.rg_rules.specs.Answers.{◌>>=◌, ◌>>◌, test, Answer, Passed, at_line}
 use Rattle.rg_rules.specs.Types.{good_type}
 use Rattle.rg_rules.specs.Headers.{suits_field_type, result_header}
 use Rattle.rg_names.specs.Table.{judge_type}
 use Rattle.rg_names.specs.TableOf.{ty_of}
 use Rattle.rg_names.specs.Judged.{FailsAs}
-use Rattle.rg_names.specs.Headings.{IsHeadsOf, suits_row, judge_field, judge_result}
+use Rattle.rg_names.specs.Inner.Headings.{IsHeadsOf, suits_row, judge_field, judge_result}
 use Rattle.rg_names.proofs.TypeFacts.{judge_type-good_type, judge_type-ty_of}
 
 -- a part that gave a type: the header has no fault, and that is the type

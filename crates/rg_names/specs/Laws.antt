@@ -2,8 +2,8 @@
 use Rattle.std.specs.Prelude.{◌≡◌, ⊤, IsTrue, List, All, map, IfSome, Some, Ok}
 use Rattle.rg_base.specs.declared.words.Cap.{Cap}
 use Rattle.rg_tree.specs.Tree.{Name, Ty as Written, int, bool, ref, Param, Field, Method, Member, field, method, Class}
-use Rattle.rg_tree.specs.Tables.{Tables, AreDistinct}
-use Rattle.rg_tree.specs.RowTrees.{program_of}
+use Rattle.rg_tree.specs.Rows.Tables.{Tables, AreDistinct}
+use Rattle.rg_tree.specs.Rows.RowTrees.{program_of}
 use Rattle.rg_rules.specs.Types.{class_named, suits_class}
 use Rattle.rg_rules.specs.Headers.{suits_field_type, suits_receiver, judge_headers}
 use Rattle.rg_names.specs.Table.{Table}

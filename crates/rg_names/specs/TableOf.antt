@@ -5,9 +5,9 @@ use Rattle.rg_tree.specs.declared.rows.ClassRow.{ClassRow}
 use Rattle.rg_tree.specs.declared.rows.MemberRow.{MemberRow}
 use Rattle.rg_tree.specs.declared.rows.MemberRow.TheVariants as row
 use Rattle.rg_tree.specs.declared.rows.TypeRow.{TypeRow}
-use Rattle.rg_tree.specs.Tables.{Tables, numbers_in}
-use Rattle.rg_tree.specs.RowTrees.{type_of as written, program_of}
-use Rattle.rg_tree.specs.RowsExist.{AreRows}
+use Rattle.rg_tree.specs.Rows.Tables.{Tables, numbers_in}
+use Rattle.rg_tree.specs.Rows.RowTrees.{type_of as written, program_of}
+use Rattle.rg_tree.specs.Rows.RowsExist.{AreRows}
 use Rattle.rg_rules.specs.Types.{type_of}
 use Rattle.rg_rules.specs.Headers.{judge_headers}
 use Rattle.rg_names.specs.declared.entry.Entry.{Entry}

@@ -3,9 +3,9 @@ use Rattle.std.specs.Prelude.{◌≡◌, ℕ, zero, suc, ◌+◌, ◌<◌, ⊤, 
 use Rattle.rg_base.specs.declared.ty.Ty.{Ty}
 use Rattle.rg_base.specs.declared.ty.Ty.TheVariants.{Int, Bool, Ref}
 use Rattle.rg_tree.specs.Tree.{Name, Method, Class}
-use Rattle.rg_tree.specs.Tables.{Tables, name_at, numbers_in}
-use Rattle.rg_tree.specs.RowTrees.{param_at, program_of}
-use Rattle.rg_tree.specs.RowsExist.{IsSpanBelow}
+use Rattle.rg_tree.specs.Rows.Tables.{Tables, name_at, numbers_in}
+use Rattle.rg_tree.specs.Rows.RowTrees.{param_at, program_of}
+use Rattle.rg_tree.specs.Rows.RowsExist.{IsSpanBelow}
 use Rattle.rg_rules.specs.Types.{class_number, class_named, method_member, fields_of, methods_of, field_place, field_type, method_named, method_result}
 use Rattle.rg_names.specs.declared.entry.FieldAt.{FieldAt}
 use Rattle.rg_names.specs.declared.entry.Sig.{Sig}

@@ -1,11 +1,11 @@
 //! All headers in source order: first the names of the classes, then their members.
 
 ghost use Rattle.std.specs.Prelude.{◌≡◌, [], IfOk};
-ghost use Rattle.rg_tree.specs.RowTrees.{program_of};
+ghost use Rattle.rg_tree.specs.Rows.RowTrees.{program_of};
 ghost use Rattle.rg_rules.specs.Headers.{class_names, class_members};
 ghost use Rattle.rg_names.specs.TableOf.{members_of};
 ghost use Rattle.rg_names.specs.Judged.{JudgedAs};
-ghost use Rattle.rg_names.specs.Headings.{IsHeadsOf};
+ghost use Rattle.rg_names.specs.Inner.Headings.{IsHeadsOf};
 
 use crate::by_name::ByName;
 use crate::entry::Entry;

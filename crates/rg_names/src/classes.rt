@@ -1,9 +1,9 @@
 //! The classes of a program, whose headers have no fault.
 
 ghost use Rattle.std.specs.Prelude.{◌≡◌, ◌<◌, length, option_map, slice_get, Some, IfOk, IfSome};
-ghost use Rattle.rg_tree.specs.Tables.{Tables, name_at};
-ghost use Rattle.rg_tree.specs.RowTrees.{type_of, program_of};
-ghost use Rattle.rg_tree.specs.RowsExist.{IsNameIn, IsTypeIn};
+ghost use Rattle.rg_tree.specs.Rows.Tables.{Tables, name_at};
+ghost use Rattle.rg_tree.specs.Rows.RowTrees.{type_of, program_of};
+ghost use Rattle.rg_tree.specs.Rows.RowsExist.{IsNameIn, IsTypeIn};
 ghost use Rattle.rg_rules.specs.Types.{good_type};
 ghost use Rattle.rg_rules.specs.Headers.{judge_headers};
 ghost use Rattle.rg_names.specs.Table.{values_of, IsClass, class_in, entry_in, field_in, method_in, judge_type};

@@ -1,13 +1,13 @@
 //! The members of one class, in the order in which they were judged.
 
 ghost use Rattle.std.specs.Prelude.{◌≡◌, ◌≤◌, [], ◌∷◌, ◌++◌, length, OnOk, IfOk};
-ghost use Rattle.rg_tree.specs.RowTrees.{member_of, class_of, program_of};
-ghost use Rattle.rg_tree.specs.RowsExist.{IsMemberIn, IsClassIn};
-ghost use Rattle.rg_tree.specs.Tables.{numbers_in};
+ghost use Rattle.rg_tree.specs.Rows.RowTrees.{member_of, class_of, program_of};
+ghost use Rattle.rg_tree.specs.Rows.RowsExist.{IsMemberIn, IsClassIn};
+ghost use Rattle.rg_tree.specs.Rows.Tables.{numbers_in};
 ghost use Rattle.rg_rules.specs.Headers.{member_headers};
 ghost use Rattle.rg_names.specs.TableOf.{entry_of, entries_of, fields_with, methods_with, methods_with_all, rows_of};
 ghost use Rattle.rg_names.specs.Judged.{JudgedAs};
-ghost use Rattle.rg_names.specs.Headings.{IsHeadsOf, AreNamed, names_behind};
+ghost use Rattle.rg_names.specs.Inner.Headings.{IsHeadsOf, AreNamed, names_behind};
 
 use crate::by_name::ByName;
 use crate::entry::{Entry, FieldAt, Sig};

@@ -2,15 +2,15 @@
 
 ghost use Rattle.std.specs.Prelude.{◌≡◌, ◌<◌, [], All, map, length, option_map, IfErr, IfOk, IfSome};
 ghost use Rattle.rg_base.specs.declared.fault.Code.TheVariants.{BadType};
-ghost use Rattle.rg_tree.specs.RowTrees.{param_at, type_of, program_of};
-ghost use Rattle.rg_tree.specs.RowsExist.{IsTypeIn, IsSpanBelow};
-ghost use Rattle.rg_tree.specs.Tables.{numbers_in};
+ghost use Rattle.rg_tree.specs.Rows.RowTrees.{param_at, type_of, program_of};
+ghost use Rattle.rg_tree.specs.Rows.RowsExist.{IsTypeIn, IsSpanBelow};
+ghost use Rattle.rg_tree.specs.Rows.Tables.{numbers_in};
 ghost use Rattle.rg_rules.specs.Answers.{test, at_line};
 ghost use Rattle.rg_rules.specs.Headers.{suits_receiver, param_headers};
 ghost use Rattle.rg_names.specs.Table.{judge_type};
 ghost use Rattle.rg_names.specs.TableOf.{ty_of};
 ghost use Rattle.rg_names.specs.Judged.{JudgedAs, GivenAs, IsFault};
-ghost use Rattle.rg_names.specs.Headings.{IsHeadsOf, suits_row, judge_field, judge_result, signature_header};
+ghost use Rattle.rg_names.specs.Inner.Headings.{IsHeadsOf, suits_row, judge_field, judge_result, signature_header};
 
 use crate::by_name::ByName;
 use crate::suits::{is_field_of, is_receiver_of, names_class};

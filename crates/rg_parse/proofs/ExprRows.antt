@@ -19,19 +19,19 @@ use Rattle.rg_tree.specs.Phrases as p
 use Rattle.rg_tree.specs.Grammar as grammar
 use Rattle.rg_tree.specs.Grammar.{Reads}
 use Rattle.rg_tree.specs.Operators.{comparison_of, literal_of}
-use Rattle.rg_tree.specs.RowTrees.{expr_at, expr_of}
-use Rattle.rg_tree.specs.RowsExist.{IsExprNumber, IsPathIn}
+use Rattle.rg_tree.specs.Rows.RowTrees.{expr_at, expr_of}
+use Rattle.rg_tree.specs.Rows.RowsExist.{IsExprNumber, IsPathIn}
 use Rattle.rg_tree.specs.Table.{next, row}
-use Rattle.rg_tree.specs.Tables.{Tables}
+use Rattle.rg_tree.specs.Rows.Tables.{Tables}
 use Rattle.rg_tree.proofs.ByRows.{comparison_of-row, sum_of-row, product_of-row, literal_of-behind}
 use Rattle.rg_parse.specs.declared.halt.Halt.{Halt}
 use Rattle.rg_parse.specs.declared.level.Level.{Level}
 use Rattle.rg_parse.specs.declared.level.Level.TheVariants as level
-use Rattle.rg_parse.specs.Levels.{IsNext, NoneNext, operator_at, ReadsChain, ReadsRest, ReadsOperand, chain_at, rest_at, operand_at}
-use Rattle.rg_parse.specs.Starts.{primary_start}
+use Rattle.rg_parse.specs.Inner.Levels.{IsNext, NoneNext, operator_at, ReadsChain, ReadsRest, ReadsOperand, chain_at, rest_at, operand_at}
+use Rattle.rg_parse.specs.Inner.Starts.{primary_start}
 use Rattle.rg_parse.specs.declared.starts.PrimaryStart.TheVariants as start
-use Rattle.rg_parse.specs.Readings.{FoundChain, FoundOperand, FoundExpr, FoundNot, FoundCmp, FoundUnary, FoundPrimary, FoundPath}
-use Rattle.rg_parse.specs.Steps.{State, Means, Took, took, took_brace, took_paren, Signed, signed, found, Kept, kept, Extends, Halts}
+use Rattle.rg_parse.specs.Inner.Readings.{FoundChain, FoundOperand, FoundExpr, FoundNot, FoundCmp, FoundUnary, FoundPrimary, FoundPath}
+use Rattle.rg_parse.specs.Inner.Steps.{State, Means, Took, took, took_brace, took_paren, Signed, signed, found, Kept, kept, Extends, Halts}
 use Rattle.rg_parse.proofs.Growing.{extends-same, extends-trans, means-later}
 use Rattle.rg_parse.proofs.Halting.{halts-row, halts-here, halts-signed, halts-found, halts-kept}
 use Rattle.rg_parse.proofs.Loops.{st}

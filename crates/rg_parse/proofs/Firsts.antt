@@ -3,8 +3,8 @@ use Rattle.std.proofs.Common.{◌≡◌, ◌-◌, ◌≤◌, List, [], ◌∷◌
 use Rattle.std.proofs.lemmas.List.{take_all}
 use Rattle.rg_base.specs.declared.token.Kind.{Kind}
 use Rattle.rg_base.specs.declared.token.Token.{Token}
-use Rattle.rg_parse.specs.Heads.{AreWithin}
-use Rattle.rg_parse.specs.Steps.{State, IsFirst}
+use Rattle.rg_parse.specs.Inner.Heads.{AreWithin}
+use Rattle.rg_parse.specs.Inner.Steps.{State, IsFirst}
 
 -- a list is its first item and the rest
 pub list-first : {A : Type 0} (d : A) (xs : List A) → 1 ≤ length xs → xs ≡ get_or xs 0 d ∷ take (length xs - 1) (drop 1 xs)

@@ -3,19 +3,19 @@ use Rattle.std.proofs.Common.{◌≡◌, ℕ, ◌<◌, List, length, ◌∷◌, 
 use Rattle.std.proofs.lemmas.List.{length_push}
 use Rattle.rg_tree.specs.declared.rows.Span.{Span}
 use Rattle.rg_tree.specs.Tree.{Expr, Stmt, Param, Member}
-use Rattle.rg_tree.specs.Tables.{Tables, name_at}
-use Rattle.rg_tree.specs.RowTrees.{expr_at, stmt_at, param_at, member_at}
-use Rattle.rg_tree.specs.RowsExist.{IsNameIn, IsExprNumber}
-use Rattle.rg_tree.specs.Keeps.{Keeps}
-use Rattle.rg_tree.specs.RowsExist.{Holds}
+use Rattle.rg_tree.specs.Rows.Tables.{Tables, name_at}
+use Rattle.rg_tree.specs.Rows.RowTrees.{expr_at, stmt_at, param_at, member_at}
+use Rattle.rg_tree.specs.Rows.RowsExist.{IsNameIn, IsExprNumber}
+use Rattle.rg_tree.specs.Inner.Keeps.{Keeps}
+use Rattle.rg_tree.specs.Rows.RowsExist.{Holds}
 use Rattle.rg_tree.proofs.Callers.{IsAbove-Keeps, expr_at-keeps, stmt_at-keeps, param_at-keeps, member_at-keeps, Holds-keeps}
 use Rattle.rg_tree.proofs.Grows.{name_at-grows}
-use Rattle.rg_parse.specs.Lists.{IsStmtNumber, IsParamNumber, IsMemberNumber, numbers_of, IsListed}
+use Rattle.rg_parse.specs.Inner.Lists.{IsStmtNumber, IsParamNumber, IsMemberNumber, numbers_of, IsListed}
 use Rattle.rg_tree.proofs.Callers.{Keeps-same, Keeps-trans}
 use Rattle.rg_base.specs.declared.token.Kind.{Kind}
 use Rattle.rg_base.specs.declared.token.Token.{Token}
 use Rattle.rg_tree.specs.declared.counts.Counts.{Counts}
-use Rattle.rg_parse.specs.Steps.{State, Means, Extends, Found, found, Took, took, took_brace, took_paren, Signed, signed}
+use Rattle.rg_parse.specs.Inner.Steps.{State, Means, Extends, Found, found, Took, took, took_brace, took_paren, Signed, signed}
 
 module _ {t : Tables} (n : ℕ) where
   pub name-means : (x : List ℕ) → name_at t n ≡ x → n < length t.names → Means name_at IsNameIn t n x

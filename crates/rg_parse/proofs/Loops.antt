@@ -6,11 +6,11 @@ use Rattle.rg_base.specs.declared.token.Token.{Token}
 use Rattle.rg_tree.specs.declared.counts.Counts.{Counts}
 use Rattle.rg_tree.specs.declared.rows.Span.{Span}
 use Rattle.rg_tree.specs.Phrases.{Phrase, the}
-use Rattle.rg_tree.specs.Tables.{Tables, numbers_in}
-use Rattle.rg_tree.specs.RowsExist.{IsSpanBelow}
+use Rattle.rg_tree.specs.Rows.Tables.{Tables, numbers_in}
+use Rattle.rg_tree.specs.Rows.RowsExist.{IsSpanBelow}
 use Rattle.rg_parse.specs.declared.halt.Halt.{Halt}
-use Rattle.rg_parse.specs.Lists.{numbers_of, IsListed}
-use Rattle.rg_parse.specs.Steps.{State, Means, Extends, Halts}
+use Rattle.rg_parse.specs.Inner.Lists.{numbers_of, IsListed}
+use Rattle.rg_parse.specs.Inner.Steps.{State, Means, Extends, Halts}
 use Rattle.rg_parse.proofs.Growing.{extends-same}
 
 -- a state by its parts

@@ -14,17 +14,17 @@ use Rattle.rg_tree.specs.Forms as form
 use Rattle.rg_tree.specs.Phrases.{Symbol, word, mark, name, that, the}
 use Rattle.rg_tree.specs.Phrases as p
 use Rattle.rg_tree.specs.Grammar.{Reads, text, path_row, next_field, no_fields, call_base, call_start, call_further, call_args, no_args, first_arg, next_arg, no_more_args}
-use Rattle.rg_tree.specs.RowTrees.{expr_at}
-use Rattle.rg_tree.specs.RowsExist.{IsNameIn, IsExprNumber}
+use Rattle.rg_tree.specs.Rows.RowTrees.{expr_at}
+use Rattle.rg_tree.specs.Rows.RowsExist.{IsNameIn, IsExprNumber}
 use Rattle.rg_tree.specs.Table.{next, row}
-use Rattle.rg_tree.specs.Tables.{Tables, name_at, numbers_in}
+use Rattle.rg_tree.specs.Rows.Tables.{Tables, name_at, numbers_in}
 use Rattle.rg_parse.specs.declared.halt.Halt.{Halt}
 use Rattle.rg_parse.specs.declared.halt.Halt.TheVariants as halt
-use Rattle.rg_parse.specs.Lists.{numbers_of, IsListed}
-use Rattle.rg_parse.specs.Starts.{base_start}
+use Rattle.rg_parse.specs.Inner.Lists.{numbers_of, IsListed}
+use Rattle.rg_parse.specs.Inner.Starts.{base_start}
 use Rattle.rg_parse.specs.declared.starts.BaseStart.TheVariants as base
-use Rattle.rg_parse.specs.Readings.{FoundPath, FoundFields, FoundBase, FoundCall, FoundCallRest, FoundCallArgs, FoundArgs, FoundExpr}
-use Rattle.rg_parse.specs.Steps.{State, Means, Took, took, took_paren, Used, used, Found, found, Kept, kept, Extends, Halts}
+use Rattle.rg_parse.specs.Inner.Readings.{FoundPath, FoundFields, FoundBase, FoundCall, FoundCallRest, FoundCallArgs, FoundArgs, FoundExpr}
+use Rattle.rg_parse.specs.Inner.Steps.{State, Means, Took, took, took_paren, Used, used, Found, found, Kept, kept, Extends, Halts}
 use Rattle.rg_parse.proofs.Growing.{extends-same, extends-trans, means-later, name-means, base-means}
 use Rattle.rg_parse.proofs.Halting.{halts-none, halts-row, halts-here, halts-took, halts-used, halts-found, halts-kept}
 use Rattle.rg_parse.proofs.Loops.{st, MeansAll, Along, along, means-nil, means-push, means-span}

@@ -12,11 +12,11 @@ use Rattle.rg_tree.specs.Phrases.{word, name, the}
 use Rattle.rg_tree.specs.Phrases as p
 use Rattle.rg_tree.specs.Grammar.{text, new_row, freeze_row, merge_row, input_row, result_row, value_row, new_plain, new_temporary, new_region}
 use Rattle.rg_tree.specs.Table.{next, row}
-use Rattle.rg_parse.specs.Starts.{right_start, new_start}
+use Rattle.rg_parse.specs.Inner.Starts.{right_start, new_start}
 use Rattle.rg_parse.specs.declared.starts.RightStart.TheVariants as right
 use Rattle.rg_parse.specs.declared.starts.NewStart.TheVariants as new_kind
-use Rattle.rg_parse.specs.Readings.{FoundRight, FoundNew, FoundCall, FoundExpr, FoundManager}
-use Rattle.rg_parse.specs.Steps.{State, Took, took, Used, used, found}
+use Rattle.rg_parse.specs.Inner.Readings.{FoundRight, FoundNew, FoundCall, FoundExpr, FoundManager}
+use Rattle.rg_parse.specs.Inner.Steps.{State, Took, took, Used, used, found}
 use Rattle.rg_parse.proofs.Growing.{extends-same, extends-trans, means-later}
 
 pub new-row : (o : Option Kind) → right_start o ≡ right.New → row p.Right o ≡ Some (word w.New ∷ the p.New ∷ [])

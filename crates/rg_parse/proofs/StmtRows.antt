@@ -26,15 +26,15 @@ use Rattle.rg_base.specs.declared.fault.Code.{Code}
 use Rattle.rg_base.specs.declared.fault.Code.TheVariants.{Syntax}
 use Rattle.rg_parse.specs.declared.halt.Halt.{Halt}
 use Rattle.rg_parse.specs.declared.halt.Halt.TheVariants as halt
-use Rattle.rg_tree.specs.RowTrees.{stmt_at, stmt_of, block_over, block_of}
-use Rattle.rg_tree.specs.RowsExist.{IsStmtIn}
+use Rattle.rg_tree.specs.Rows.RowTrees.{stmt_at, stmt_of, block_over, block_of}
+use Rattle.rg_tree.specs.Rows.RowsExist.{IsStmtIn}
 use Rattle.rg_tree.specs.Table.{next, row}
-use Rattle.rg_tree.specs.Tables.{Tables, numbers_in}
-use Rattle.rg_parse.specs.Lists.{IsStmtNumber, numbers_of, IsListed}
-use Rattle.rg_parse.specs.Starts.{stmt_start}
+use Rattle.rg_tree.specs.Rows.Tables.{Tables, numbers_in}
+use Rattle.rg_parse.specs.Inner.Lists.{IsStmtNumber, numbers_of, IsListed}
+use Rattle.rg_parse.specs.Inner.Starts.{stmt_start}
 use Rattle.rg_parse.specs.declared.starts.StmtStart.TheVariants as start
-use Rattle.rg_parse.specs.Readings.{FoundKind, FoundStmt, FoundBlock, FoundStmts, FoundElse, FoundPath, FoundType, FoundRight, FoundCall, FoundExpr}
-use Rattle.rg_parse.specs.Steps.{State, Means, Took, took, took_brace, Used, used, Declared, declared, Found, found, Kept, kept, Reset, reset, Extends, Halts}
+use Rattle.rg_parse.specs.Inner.Readings.{FoundKind, FoundStmt, FoundBlock, FoundStmts, FoundElse, FoundPath, FoundType, FoundRight, FoundCall, FoundExpr}
+use Rattle.rg_parse.specs.Inner.Steps.{State, Means, Took, took, took_brace, Used, used, Declared, declared, Found, found, Kept, kept, Reset, reset, Extends, Halts}
 use Rattle.rg_parse.proofs.Growing.{extends-same, extends-trans, means-later}
 use Rattle.rg_parse.proofs.Halting.{halts-row, halts-here, halts-found}
 use Rattle.rg_parse.proofs.Loops.{st, MeansAll, Along, along, means-nil, means-push}

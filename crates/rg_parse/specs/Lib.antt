@@ -1,10 +1,2 @@
 pub mod Answers
-pub mod Heads
-pub mod Levels
-pub mod Lists
-pub mod Near
-pub mod Programs
-pub mod Readings
-pub mod Roles
-pub mod Starts
-pub mod Steps
+pub mod Inner

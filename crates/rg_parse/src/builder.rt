@@ -1,11 +1,11 @@
 //! The rows that are added to the program on the way: nothing is read, and all older rows stay.
 
 ghost use Rattle.std.specs.Prelude.{◌≡◌, ◌≤◌, [], ◌∷◌, ◌++◌, length, IfOk, IfErr, OnOk};
-ghost use Rattle.rg_tree.specs.RowTrees.{expr_at, expr_of, stmt_at, stmt_of, param_at, param_of, member_at, member_of, block_of, program_of};
-ghost use Rattle.rg_tree.specs.RowsExist.{IsExprIn, IsStmtIn, IsParamIn, IsMemberIn, IsClassIn, IsBlockIn, IsExprNumber};
-ghost use Rattle.rg_parse.specs.Steps.{Kept, Means};
-ghost use Rattle.rg_parse.specs.Programs.{Classed};
-ghost use Rattle.rg_parse.specs.Lists.{IsStmtNumber, IsParamNumber, IsMemberNumber, numbers_of, IsListed};
+ghost use Rattle.rg_tree.specs.Rows.RowTrees.{expr_at, expr_of, stmt_at, stmt_of, param_at, param_of, member_at, member_of, block_of, program_of};
+ghost use Rattle.rg_tree.specs.Rows.RowsExist.{IsExprIn, IsStmtIn, IsParamIn, IsMemberIn, IsClassIn, IsBlockIn, IsExprNumber};
+ghost use Rattle.rg_parse.specs.Inner.Steps.{Kept, Means};
+ghost use Rattle.rg_parse.specs.Inner.Programs.{Classed};
+ghost use Rattle.rg_parse.specs.Inner.Lists.{IsStmtNumber, IsParamNumber, IsMemberNumber, numbers_of, IsListed};
 
 use crate::halt::Halt;
 use crate::reader::Reader;

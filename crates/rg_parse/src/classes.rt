@@ -4,8 +4,8 @@ ghost use Rattle.std.specs.Prelude.{◌≡◌, ◌≢◌, ◌<◌, ◌≤◌, []
 ghost use Rattle.rg_tree.specs.Phrases.{the};
 ghost use Rattle.rg_tree.specs.Phrases as p;
 ghost use Rattle.rg_tree.specs.Table.{next};
-ghost use Rattle.rg_parse.specs.Steps.{Halts};
-ghost use Rattle.rg_parse.specs.Readings.{FoundParams, FoundMembers, FoundMember, FoundParam, FoundClass, param_symbols};
+ghost use Rattle.rg_parse.specs.Inner.Steps.{Halts};
+ghost use Rattle.rg_parse.specs.Inner.Readings.{FoundParams, FoundMembers, FoundMember, FoundParam, FoundClass, param_symbols};
 
 use crate::builder::keep;
 use crate::halt::Halt;

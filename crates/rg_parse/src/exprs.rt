@@ -4,15 +4,15 @@ ghost use Rattle.std.specs.Prelude.{◌≡◌, ◌≢◌, ◌<◌, ◌≤◌, []
 ghost use Rattle.rg_tree.specs.Phrases.{the};
 ghost use Rattle.rg_tree.specs.Phrases as p;
 ghost use Rattle.rg_tree.specs.Table.{next};
-ghost use Rattle.rg_parse.specs.Steps.{Halts};
+ghost use Rattle.rg_parse.specs.Inner.Steps.{Halts};
 ghost use Rattle.std.specs.Prelude.{ℕ};
 ghost use Rattle.rg_tree.specs.Operators.{literal_of};
-ghost use Rattle.rg_tree.specs.Tables.{Tables};
-ghost use Rattle.rg_tree.specs.RowTrees.{expr_of};
-ghost use Rattle.rg_tree.specs.RowsExist.{IsExprIn};
-ghost use Rattle.rg_parse.specs.Starts.{primary_start};
-ghost use Rattle.rg_parse.specs.Levels.{chain_at, operand_at};
-ghost use Rattle.rg_parse.specs.Readings.{FoundChain, FoundOperand, FoundExpr, FoundNot, FoundCmp, FoundUnary, FoundPrimary};
+ghost use Rattle.rg_tree.specs.Rows.Tables.{Tables};
+ghost use Rattle.rg_tree.specs.Rows.RowTrees.{expr_of};
+ghost use Rattle.rg_tree.specs.Rows.RowsExist.{IsExprIn};
+ghost use Rattle.rg_parse.specs.Inner.Starts.{primary_start};
+ghost use Rattle.rg_parse.specs.Inner.Levels.{chain_at, operand_at};
+ghost use Rattle.rg_parse.specs.Inner.Readings.{FoundChain, FoundOperand, FoundExpr, FoundNot, FoundCmp, FoundUnary, FoundPrimary};
 
 use crate::halt::Halt;
 use crate::kinds::{next_comparison, next_operator};

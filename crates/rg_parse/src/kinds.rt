@@ -1,7 +1,7 @@
 //! Which tokens are which words, values and operators.
 
 ghost use Rattle.std.specs.Prelude.{◌≡◌, MatchOption, Some};
-ghost use Rattle.rg_parse.specs.Levels.{IsNext, NoneNext, operator_at};
+ghost use Rattle.rg_parse.specs.Inner.Levels.{IsNext, NoneNext, operator_at};
 ghost use Rattle.rg_tree.specs.Operators.{cap_of, plain_type_of, manager_of, comparison_of, sum_of, product_of};
 
 use crate::level::Level;

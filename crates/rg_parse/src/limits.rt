@@ -2,7 +2,7 @@
 
 ghost use Rattle.std.specs.Prelude.{◌≡◌, ◌<◌, ◌≤◌, ◌+◌, ◌^◌, ◌-◌};
 ghost use Rattle.rg_tree.specs.Counts.{behind, opened, one_sign, counted};
-ghost use Rattle.rg_parse.specs.Roles.{symbol_of};
+ghost use Rattle.rg_parse.specs.Inner.Roles.{symbol_of};
 
 use rg_base::{
     BODY_NAMES, BRACKETS, CLASS_FIELDS, CLASS_METHODS, CLASSES, Code, Keyword, Kind, PARAMETERS,

@@ -4,12 +4,12 @@ ghost use Rattle.std.specs.Prelude.{◌≡◌, ◌≢◌, ◌<◌, ◌≤◌, []
 ghost use Rattle.rg_tree.specs.Phrases.{the};
 ghost use Rattle.rg_tree.specs.Phrases as p;
 ghost use Rattle.rg_tree.specs.Table.{next};
-ghost use Rattle.rg_parse.specs.Steps.{Halts};
-ghost use Rattle.rg_parse.specs.Starts.{base_start};
-ghost use Rattle.rg_parse.specs.Readings.{FoundPath, FoundFields, FoundCall, FoundCallRest, FoundBase, FoundArgs, FoundCallArgs};
+ghost use Rattle.rg_parse.specs.Inner.Steps.{Halts};
+ghost use Rattle.rg_parse.specs.Inner.Starts.{base_start};
+ghost use Rattle.rg_parse.specs.Inner.Readings.{FoundPath, FoundFields, FoundCall, FoundCallRest, FoundBase, FoundArgs, FoundCallArgs};
 ghost use Rattle.std.specs.Prelude.{IfSome, option_map};
-ghost use Rattle.rg_tree.specs.Tables.{name_at};
-ghost use Rattle.rg_tree.specs.RowsExist.{IsNameIn};
+ghost use Rattle.rg_tree.specs.Rows.Tables.{name_at};
+ghost use Rattle.rg_tree.specs.Rows.RowsExist.{IsNameIn};
 
 use crate::builder::keep;
 use crate::halt::Halt;

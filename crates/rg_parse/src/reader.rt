@@ -5,11 +5,11 @@ ghost use Rattle.rg_tree.specs.Table.{next};
 ghost use Rattle.rg_tree.specs.Stuck.{line_at};
 ghost use Rattle.rg_tree.specs.Phrases.{that, sign, name, finish};
 ghost use Rattle.rg_tree.specs.Counts.{at_start};
-ghost use Rattle.rg_tree.specs.Tables.{at_first};
-ghost use Rattle.rg_tree.specs.RowTrees.{classes_of};
-ghost use Rattle.rg_parse.specs.Heads.{AreWithin};
-ghost use Rattle.rg_parse.specs.Steps.{Halts, Took, Signed, Used, Declared, Reset, IsFirst};
-ghost use Rattle.rg_parse.specs.Roles.{symbol_of};
+ghost use Rattle.rg_tree.specs.Rows.Tables.{at_first};
+ghost use Rattle.rg_tree.specs.Rows.RowTrees.{classes_of};
+ghost use Rattle.rg_parse.specs.Inner.Heads.{AreWithin};
+ghost use Rattle.rg_parse.specs.Inner.Steps.{Halts, Took, Signed, Used, Declared, Reset, IsFirst};
+ghost use Rattle.rg_parse.specs.Inner.Roles.{symbol_of};
 
 use crate::halt::Halt;
 use crate::limits::{Role, behind, counted, one_sign};
@@ -30,12 +30,12 @@ pub(crate) struct Reader<'a> {
 }
 
 impl<'a> Model for Reader<'a> {
-    ghost use Rattle.rg_parse.specs.Steps.{State};
+    ghost use Rattle.rg_parse.specs.Inner.Steps.{State};
 
     ghost Value = { State };
 
-    ghost use Rattle.rg_parse.specs.Heads.{AreWithin};
-    ghost use Rattle.rg_parse.specs.Near.{IsNear};
+    ghost use Rattle.rg_parse.specs.Inner.Heads.{AreWithin};
+    ghost use Rattle.rg_parse.specs.Inner.Near.{IsNear};
     ghost use Rattle.std.specs.Prelude.{length};
 
     ghost view = { λ r. record {

@@ -4,9 +4,9 @@ ghost use Rattle.std.specs.Prelude.{◌≡◌, ◌≢◌, ◌<◌, ◌≤◌, []
 ghost use Rattle.rg_tree.specs.Phrases.{the};
 ghost use Rattle.rg_tree.specs.Phrases as p;
 ghost use Rattle.rg_tree.specs.Table.{next};
-ghost use Rattle.rg_parse.specs.Steps.{Halts};
-ghost use Rattle.rg_parse.specs.Starts.{right_start, new_start};
-ghost use Rattle.rg_parse.specs.Readings.{FoundRight, FoundNew};
+ghost use Rattle.rg_parse.specs.Inner.Steps.{Halts};
+ghost use Rattle.rg_parse.specs.Inner.Starts.{right_start, new_start};
+ghost use Rattle.rg_parse.specs.Inner.Readings.{FoundRight, FoundNew};
 
 use crate::halt::Halt;
 use crate::reader::Reader;

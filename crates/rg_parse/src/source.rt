@@ -4,10 +4,10 @@ ghost use Rattle.std.specs.Prelude.{◌≡◌, ◌≢◌, [], ◌∷◌, Some, I
 ghost use Rattle.rg_tree.specs.Phrases.{the};
 ghost use Rattle.rg_tree.specs.Phrases as p;
 ghost use Rattle.rg_tree.specs.Table.{next, row};
-ghost use Rattle.rg_tree.specs.RowTrees.{classes_of};
-ghost use Rattle.rg_parse.specs.Steps.{Halts};
-ghost use Rattle.rg_parse.specs.Readings.{FoundClass};
-ghost use Rattle.rg_parse.specs.Programs.{FoundMain, FoundProgram};
+ghost use Rattle.rg_tree.specs.Rows.RowTrees.{classes_of};
+ghost use Rattle.rg_parse.specs.Inner.Steps.{Halts};
+ghost use Rattle.rg_parse.specs.Inner.Readings.{FoundClass};
+ghost use Rattle.rg_parse.specs.Inner.Programs.{FoundMain, FoundProgram};
 
 use crate::halt::Halt;
 use crate::reader::Reader;

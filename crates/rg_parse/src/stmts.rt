@@ -4,10 +4,10 @@ ghost use Rattle.std.specs.Prelude.{◌≡◌, ◌≢◌, ◌<◌, ◌≤◌, []
 ghost use Rattle.rg_tree.specs.Phrases.{the};
 ghost use Rattle.rg_tree.specs.Phrases as p;
 ghost use Rattle.rg_tree.specs.Table.{next};
-ghost use Rattle.rg_parse.specs.Steps.{Halts};
+ghost use Rattle.rg_parse.specs.Inner.Steps.{Halts};
 ghost use Rattle.rg_parse.specs.declared.starts.StmtStart.{StmtStart};
-ghost use Rattle.rg_parse.specs.Starts.{stmt_start};
-ghost use Rattle.rg_parse.specs.Readings.{FoundKind};
+ghost use Rattle.rg_parse.specs.Inner.Starts.{stmt_start};
+ghost use Rattle.rg_parse.specs.Inner.Readings.{FoundKind};
 
 use crate::halt::Halt;
 use crate::limits::Role;

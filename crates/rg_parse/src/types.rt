@@ -4,9 +4,9 @@ ghost use Rattle.std.specs.Prelude.{◌≡◌, ◌<◌, ◌≤◌, [], ◌∷◌
 ghost use Rattle.rg_tree.specs.Phrases.{the};
 ghost use Rattle.rg_tree.specs.Phrases as p;
 ghost use Rattle.rg_tree.specs.Table.{next};
-ghost use Rattle.rg_parse.specs.Steps.{Halts};
-ghost use Rattle.rg_parse.specs.Starts.{type_start};
-ghost use Rattle.rg_parse.specs.Readings.{FoundCap, FoundManager, FoundType, FoundResult};
+ghost use Rattle.rg_parse.specs.Inner.Steps.{Halts};
+ghost use Rattle.rg_parse.specs.Inner.Starts.{type_start};
+ghost use Rattle.rg_parse.specs.Inner.Readings.{FoundCap, FoundManager, FoundType, FoundResult};
 
 use crate::halt::Halt;
 use crate::kinds::{next_cap, next_manager};

@@ -5,7 +5,7 @@ ghost use Rattle.rg_base.specs.declared.limits.TheConstants.{SOURCE_BYTES};
 ghost use Rattle.rg_base.specs.declared.fault.Fault.{Fault};
 ghost use Rattle.rg_base.specs.Tokens.{cut, end_line};
 ghost use Rattle.rg_tree.specs.Tree.{Tree};
-ghost use Rattle.rg_tree.specs.RowTrees.{program_of};
+ghost use Rattle.rg_tree.specs.Rows.RowTrees.{program_of};
 ghost use Rattle.rg_tree.specs.Grammar.{Spells};
 ghost use Rattle.rg_parse.specs.Answers.{IsStuckWith};
 

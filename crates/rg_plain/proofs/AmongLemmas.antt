@@ -7,7 +7,7 @@ use Rattle.rg_base.specs.declared.object.Label.{Label}
 use Rattle.rg_base.specs.declared.object.Label.TheVariants.{Region, Temp, Frozen}
 use Rattle.rg_tree.specs.Tree.{Class}
 use Rattle.rg_rules.specs.Regions.{region_of, region_at, owned_by, among, in_regions, led_from, joined_with}
-use Rattle.rg_plain.specs.Beneath.{is_marked, AreMarked}
+use Rattle.rg_plain.specs.Inner.Beneath.{is_marked, AreMarked}
 use Rattle.rg_plain.specs.Regions.{LabelFits, LabelsFit}
 
 pub or-false : (a : Bool) → a || false ≡ a

@@ -25,7 +25,7 @@ use Rattle.rg_rules.specs.RightSides.{Use, new_object, made, with_region, frozen
 use Rattle.rg_rules.specs.Steps.{put_field, step_assign, step_swap, begin_block, begin_else, with_window, entered, step_enter, step_return, step_kind, step_leave, step_item, step_first, Went, next}
 use Rattle.rg_rules.proofs.AnswersLemmas.{bind-ok, then-ok}
 use Rattle.rg_rules.proofs.StepLemmas.{computed-ok, stepped-went}
-use Rattle.rg_plain.specs.Steps.{StepIs}
+use Rattle.rg_plain.specs.Inner.Steps.{StepIs}
 use Rattle.rg_plain.specs.Outcomes.{Settles, PrintsOrStays, EndsMain, settled_outcome, prints, item_prints}
 
 -- things to do were put in front of those that were left, and nothing was printed

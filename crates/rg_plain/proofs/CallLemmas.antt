@@ -10,8 +10,8 @@ use Rattle.rg_base.specs.declared.outcome.Trap.{Trap}
 use Rattle.rg_base.specs.declared.value.Val.{Val}
 use Rattle.rg_tree.specs.Tree.{Call, Class, Method}
 use Rattle.rg_tree.specs.declared.rows.CallRow.{CallRow}
-use Rattle.rg_tree.specs.Tables.{Tables, numbers_in}
-use Rattle.rg_tree.specs.RowTrees.{classes_of, expr_at, stmt_at, call_of}
+use Rattle.rg_tree.specs.Rows.Tables.{Tables, numbers_in}
+use Rattle.rg_tree.specs.Rows.RowTrees.{classes_of, expr_at, stmt_at, call_of}
 use Rattle.rg_rules.specs.Items.{Item, Do}
 use Rattle.rg_rules.specs.Answers.{◌>>=◌}
 use Rattle.rg_rules.specs.Types.{method_named}
@@ -22,9 +22,9 @@ use Rattle.rg_rules.specs.RightSides.{called, called_frame, step_call}
 use Rattle.rg_plain.specs.declared.methods.MethodRow.{MethodRow}
 use Rattle.rg_plain.specs.declared.receivers.Receiver.{Receiver}
 use Rattle.rg_plain.specs.declared.rows.TargetRow.{TargetRow}
-use Rattle.rg_plain.specs.Calls.{Enters, receiver_of}
+use Rattle.rg_plain.specs.Inner.Calls.{Enters, receiver_of}
 use Rattle.rg_plain.specs.Kept.{Kept, FrameKept, frame_of, plain_of, shown, target_of}
-use Rattle.rg_plain.specs.Methods.{method_of}
+use Rattle.rg_plain.specs.Inner.Methods.{method_of}
 use Rattle.rg_plain.specs.Shown.{locals_of}
 
 -- what holds of each element and of one more

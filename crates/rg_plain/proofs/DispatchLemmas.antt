@@ -3,14 +3,14 @@ use Rattle.std.proofs.Common.{◌≡◌, ◌≢◌, ◌⊎◌, inl, inr, ℕ, Bo
 use Rattle.std.proofs.lemmas.List.Elements.{All-head}
 use Rattle.rg_base.specs.declared.outcome.Outcome.{Outcome}
 use Rattle.rg_base.specs.declared.outcome.Outcome.TheVariants as outcome
-use Rattle.rg_tree.specs.Tables.{Tables}
-use Rattle.rg_tree.specs.RowTrees.{classes_of, block_of, stmt_at}
+use Rattle.rg_tree.specs.Rows.Tables.{Tables}
+use Rattle.rg_tree.specs.Rows.RowTrees.{classes_of, block_of, stmt_at}
 use Rattle.rg_tree.specs.Tree.{Block, empty as no_more, then as followed_by, StmtKind, stmt}
 use Rattle.rg_rules.specs.Items.{Item, Do, EndAt, LeaveAt, Back, items_of}
 use Rattle.rg_plain.specs.declared.rows.ItemRow.{ItemRow}
 use Rattle.rg_plain.specs.declared.rows.ItemRow.TheVariants as row
 use Rattle.rg_plain.specs.Kept.{Kept, items_from, put_row, shown, plain_of, ItemFits, ItemsFit}
-use Rattle.rg_plain.specs.Inputs.{StepOn, SettlesOn}
+use Rattle.rg_plain.specs.Inner.Inputs.{StepOn, SettlesOn}
 use Rattle.rg_plain.specs.Outcomes.{EndsMain, PrintsOrStays, QuietOrPrints, LeavesRows, item_prints, first_prints, settled_outcome, kind_asks, first_asks}
 use Rattle.rg_plain.proofs.ItemLemmas.{shown-push, shown-none, put_row-first}
 use Rattle.rg_plain.proofs.BehindLemmas.{MadeOf, settles, ends_main}

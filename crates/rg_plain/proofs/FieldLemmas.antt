@@ -4,8 +4,8 @@ use Rattle.rg_base.specs.declared.object.Seen.{Seen}
 use Rattle.rg_base.specs.declared.value.Val.TheVariants.{Obj}
 use Rattle.rg_tree.specs.declared.rows.Path as row_path
 use Rattle.rg_tree.specs.Tree.{Name, Variable, Path, Class, stmt, swap}
-use Rattle.rg_tree.specs.Tables.{Tables, name_at}
-use Rattle.rg_tree.specs.RowTrees.{classes_of, path_of, stmt_at}
+use Rattle.rg_tree.specs.Rows.Tables.{Tables, name_at}
+use Rattle.rg_tree.specs.Rows.RowTrees.{classes_of, path_of, stmt_at}
 use Rattle.rg_rules.specs.Paths.{all_but_last, last_field}
 use Rattle.rg_rules.specs.Items.{Do}
 use Rattle.rg_rules.specs.State.{State, locals_of, value_in, put_local}
@@ -18,7 +18,7 @@ use Rattle.rg_plain.specs.declared.spots.Spot.{Spot}
 use Rattle.rg_plain.specs.declared.spots.Spot.TheVariants as spot
 use Rattle.rg_plain.specs.Kept.{Kept, plain_of, shown as items_shown}
 use Rattle.rg_plain.specs.Shown as shown
-use Rattle.rg_plain.specs.Spots.{SpotIs, IsField, exchanged}
+use Rattle.rg_plain.specs.Inner.Spots.{SpotIs, IsField, exchanged}
 use Rattle.rg_plain.proofs.StepLemmas.{next-at}
 
 -- what stands at a place

@@ -11,7 +11,7 @@ use Rattle.rg_plain.specs.declared.makes.Kind.{Kind}
 use Rattle.rg_plain.specs.declared.makes.Kind.TheVariants as kind
 use Rattle.rg_plain.specs.declared.rows.ObjectRow.{ObjectRow}
 use Rattle.rg_plain.specs.declared.rows.WindowRow.{WindowRow}
-use Rattle.rg_plain.specs.Makes.{managers_with}
+use Rattle.rg_plain.specs.Inner.Makes.{managers_with}
 use Rattle.rg_plain.specs.Shown.{seen_of, store_of}
 use Rattle.rg_plain.specs.Regions.{LabelFits, LabelsFit, RegionsFit}
 use Rattle.rg_plain.proofs.AmongLemmas.{some-below}

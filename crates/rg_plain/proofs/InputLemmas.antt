@@ -6,8 +6,8 @@ use Rattle.rg_base.specs.declared.outcome.Trap.{Trap}
 use Rattle.rg_base.specs.declared.value.Val.TheVariants.{Int, Bool}
 use Rattle.rg_base.specs.Input.{NextNumber, found, malformed, at_end, next_number}
 use Rattle.rg_tree.specs.Tree.{Right, stmt, read, more}
-use Rattle.rg_tree.specs.Tables.{Tables}
-use Rattle.rg_tree.specs.RowTrees.{classes_of, stmt_at}
+use Rattle.rg_tree.specs.Rows.Tables.{Tables}
+use Rattle.rg_tree.specs.Rows.RowTrees.{classes_of, stmt_at}
 use Rattle.rg_rules.specs.Items.{Item, Do}
 use Rattle.rg_rules.specs.RightSides.{taken, is_left}
 use Rattle.rg_rules.specs.Steps.{Went, stepped}
@@ -17,8 +17,8 @@ use Rattle.rg_plain.specs.declared.rows.ItemRow.{ItemRow}
 use Rattle.rg_plain.specs.declared.aims.Left.{Left}
 use Rattle.rg_plain.specs.declared.aims.Aim.{Aim}
 use Rattle.rg_plain.specs.Kept.{Kept, plain_of, shown}
-use Rattle.rg_plain.specs.Spots.{AimIs, statement_of, use_of}
-use Rattle.rg_plain.specs.Inputs.{StepOn}
+use Rattle.rg_plain.specs.Inner.Spots.{AimIs, statement_of, use_of}
+use Rattle.rg_plain.specs.Inner.Inputs.{StepOn}
 use Rattle.rg_plain.proofs.StepLemmas.{next-at}
 
 -- a step that reads nothing

@@ -4,13 +4,13 @@ use Rattle.std.proofs.Math.Seq.{take-append_seam}
 use Rattle.std.proofs.lemmas.List.{drop_more}
 use Rattle.std.proofs.lemmas.List.Elements.{All-nil, All-cons, All-head, All-tail}
 use Rattle.rg_tree.specs.declared.rows.Span.{Span}
-use Rattle.rg_tree.specs.Tables.{Tables, numbers_in}
-use Rattle.rg_tree.specs.RowTrees.{stmt_at, block_over}
+use Rattle.rg_tree.specs.Rows.Tables.{Tables, numbers_in}
+use Rattle.rg_tree.specs.Rows.RowTrees.{stmt_at, block_over}
 use Rattle.rg_rules.specs.Items.{Item, Do, items_of}
 use Rattle.rg_plain.specs.declared.rows.ItemRow.{ItemRow}
 use Rattle.rg_plain.specs.declared.rows.ItemRow.TheVariants as row
 use Rattle.rg_plain.specs.Kept.{items_from, shown, put_row, ItemFits, ItemsFit}
-use Rattle.rg_plain.specs.Steps.{IsAt}
+use Rattle.rg_plain.specs.Inner.Steps.{IsAt}
 
 -- a row on top
 items_from-push : (t : Tables) (below : List Item) (rows : List ItemRow) (r : ItemRow) →

@@ -7,8 +7,8 @@ use Rattle.std.proofs.lemmas.Option.{slice_get-map}
 use Rattle.rg_base.specs.declared.value.Val.{Val}
 use Rattle.rg_base.specs.declared.value.Val.TheVariants.{Nil}
 use Rattle.rg_tree.specs.Tree.{Variable}
-use Rattle.rg_tree.specs.Tables.{Tables, name_at, AreDistinct}
-use Rattle.rg_tree.specs.RowsExist.{IsNameIn}
+use Rattle.rg_tree.specs.Rows.Tables.{Tables, name_at, AreDistinct}
+use Rattle.rg_tree.specs.Rows.RowsExist.{IsNameIn}
 use Rattle.rg_tree.proofs.Callers.{name_at-injective}
 use Rattle.rg_rules.specs.Environment.{same_variable}
 use Rattle.rg_rules.specs.State.{Local, value_in, place_in, set_in}

@@ -2,8 +2,8 @@
 use Rattle.std.proofs.Common.{◌≡◌, ℕ, ◌<◌, List, [], ◌∷◌, map, length, All, Option, Some, refl, sym, ap, ◌∙◌, subst, arith}
 use Rattle.std.proofs.lemmas.List.Elements.{All-nil, All-cons, All-head, All-tail, All-map}
 use Rattle.rg_base.specs.declared.object.Seen.{Seen}
-use Rattle.rg_tree.specs.Tables.{Tables}
-use Rattle.rg_tree.specs.RowTrees.{classes_of, block_of, program_of}
+use Rattle.rg_tree.specs.Rows.Tables.{Tables}
+use Rattle.rg_tree.specs.Rows.RowTrees.{classes_of, block_of, program_of}
 use Rattle.rg_tree.specs.Tree.{Block, empty as no_more, then as followed_by}
 use Rattle.rg_rules.specs.Items.{Item, EndAt, items_of}
 use Rattle.rg_rules.specs.Runs.{opening}
@@ -16,7 +16,7 @@ use Rattle.rg_plain.specs.Fits.{PartsFit, TargetFits}
 use Rattle.rg_plain.specs.Regions.{LabelFits}
 use Rattle.rg_plain.specs.declared.rows.WindowRow.{WindowRow}
 use Rattle.rg_plain.specs.Kept.{Kept, FrameKept, kept_of, kept_frame, shown, plain_of}
-use Rattle.rg_plain.specs.Inputs.{SettlesOn}
+use Rattle.rg_plain.specs.Inner.Inputs.{SettlesOn}
 use Rattle.rg_plain.specs.Outcomes.{EndsMain}
 use Rattle.rg_plain.specs.Machine.{Machine, fresh, KeptFits, Fits, BegunWith, Begins}
 

@@ -6,8 +6,8 @@ use Rattle.rg_base.specs.declared.value.Val.TheVariants.{Obj}
 use Rattle.rg_base.specs.declared.words.Manager.{Manager}
 use Rattle.rg_base.specs.declared.object.Seen.{Seen}
 use Rattle.rg_tree.specs.Tree.{Name, Class, stmt}
-use Rattle.rg_tree.specs.Tables.{Tables, name_at}
-use Rattle.rg_tree.specs.RowTrees.{classes_of, stmt_at}
+use Rattle.rg_tree.specs.Rows.Tables.{Tables, name_at}
+use Rattle.rg_tree.specs.Rows.RowTrees.{classes_of, stmt_at}
 use Rattle.rg_rules.specs.Types.{class_named, class_number}
 use Rattle.rg_rules.specs.Items.{Do}
 use Rattle.rg_rules.specs.State.{Window, State, Target, active}
@@ -19,9 +19,9 @@ use Rattle.rg_plain.specs.declared.rows.ItemRow.{ItemRow}
 use Rattle.rg_plain.specs.declared.aims.Left.{Left}
 use Rattle.rg_plain.specs.declared.makes.Kind.{Kind}
 use Rattle.rg_plain.specs.declared.makes.Kind.TheVariants as kind
-use Rattle.rg_plain.specs.Spots.{use_of, statement_of, AimIs}
+use Rattle.rg_plain.specs.Inner.Spots.{use_of, statement_of, AimIs}
 use Rattle.rg_plain.specs.Kept.{Kept, plain_of, shown}
-use Rattle.rg_plain.specs.Makes.{opened_as, with_object, right_of, label_of, use_with, managers_with}
+use Rattle.rg_plain.specs.Inner.Makes.{opened_as, with_object, right_of, label_of, use_with, managers_with}
 use Rattle.rg_plain.specs.Regions.{LabelFits}
 use Rattle.rg_plain.proofs.StepLemmas.{next-at}
 

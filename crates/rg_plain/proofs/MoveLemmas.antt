@@ -4,8 +4,8 @@ use Rattle.rg_base.specs.declared.object.Seen.{Seen}
 use Rattle.rg_base.specs.declared.outcome.Trap.{Trap}
 use Rattle.rg_base.specs.declared.value.Val.TheVariants.{Nil}
 use Rattle.rg_tree.specs.Tree.{Class, Variable, stmt}
-use Rattle.rg_tree.specs.Tables.{Tables, name_at}
-use Rattle.rg_tree.specs.RowTrees.{classes_of, stmt_at}
+use Rattle.rg_tree.specs.Rows.Tables.{Tables, name_at}
+use Rattle.rg_tree.specs.Rows.RowTrees.{classes_of, stmt_at}
 use Rattle.rg_rules.specs.Evaluation.{object_at}
 use Rattle.rg_rules.specs.Items.{Item, Do}
 use Rattle.rg_rules.specs.Regions.{region_of}
@@ -19,10 +19,10 @@ use Rattle.rg_plain.specs.declared.moves.Move.{Move}
 use Rattle.rg_plain.specs.declared.moves.Move.TheVariants as moves
 use Rattle.rg_plain.specs.declared.rows.ItemRow.{ItemRow}
 use Rattle.rg_plain.specs.Kept.{Kept, frame_of, plain_of, shown}
-use Rattle.rg_plain.specs.Moves.{right_of, regions_with, label_of, moved, carried, Holds}
+use Rattle.rg_plain.specs.Inner.Moves.{right_of, regions_with, label_of, moved, carried, Holds}
 use Rattle.rg_plain.specs.Regions.{LabelsFit}
 use Rattle.rg_plain.specs.Shown.{locals_of}
-use Rattle.rg_plain.specs.Spots.{AimIs, statement_of, use_of, sent_to}
+use Rattle.rg_plain.specs.Inner.Spots.{AimIs, statement_of, use_of, sent_to}
 use Rattle.rg_plain.proofs.StepLemmas.{next-at}
 
 with-object : (t : Tables) (cs : List Class) (s : State) (to : Target) (put : Use) (name : ℕ) (how : Move) (o : Seen) →

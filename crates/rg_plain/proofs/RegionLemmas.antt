@@ -6,8 +6,8 @@ use Rattle.rg_base.specs.declared.object.Seen.{Seen}
 use Rattle.rg_base.specs.declared.object.Label.{Label}
 use Rattle.rg_rules.specs.Regions.{in_regions, relabelled_object, relabelled}
 use Rattle.rg_plain.specs.declared.rows.ObjectRow.{ObjectRow}
-use Rattle.rg_tree.specs.Tables.{Tables}
-use Rattle.rg_tree.specs.RowTrees.{classes_of}
+use Rattle.rg_tree.specs.Rows.Tables.{Tables}
+use Rattle.rg_tree.specs.Rows.RowTrees.{classes_of}
 use Rattle.rg_rules.proofs.RegionLemmas.{class-relabelled_object}
 use Rattle.rg_plain.specs.Regions.{LabelFits, LabelsFit}
 use Rattle.rg_plain.specs.Shown.{seen_of, store_of, AreOfClasses}

@@ -10,8 +10,8 @@ use Rattle.rg_base.specs.declared.outcome.Trap.{Trap}
 use Rattle.rg_base.specs.Text.{line_text, text}
 use Rattle.rg_io.specs.Content.{Appends, AppendsPart}
 use Rattle.rg_io.proofs.ContentLemmas.{Appends-more}
-use Rattle.rg_tree.specs.Tables.{Tables}
-use Rattle.rg_tree.specs.RowTrees.{classes_of}
+use Rattle.rg_tree.specs.Rows.Tables.{Tables}
+use Rattle.rg_tree.specs.Rows.RowTrees.{classes_of}
 use Rattle.rg_rules.specs.Items.{Item}
 use Rattle.rg_rules.specs.State.{State}
 use Rattle.rg_rules.specs.Steps.{next, Went, Trapped}

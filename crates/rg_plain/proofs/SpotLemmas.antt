@@ -6,13 +6,13 @@ use Rattle.rg_base.specs.declared.value.Val.TheVariants.{Obj}
 use Rattle.rg_base.specs.declared.outcome.Trap.{Trap}
 use Rattle.rg_tree.specs.declared.rows.Path as row_path
 use Rattle.rg_tree.specs.Tree.{Name}
-use Rattle.rg_tree.specs.Tables.{Tables, name_at, numbers_in}
-use Rattle.rg_tree.specs.RowTrees.{classes_of, path_of}
-use Rattle.rg_tree.specs.RowsExist.{IsNameIn}
+use Rattle.rg_tree.specs.Rows.Tables.{Tables, name_at, numbers_in}
+use Rattle.rg_tree.specs.Rows.RowTrees.{classes_of, path_of}
+use Rattle.rg_tree.specs.Rows.RowsExist.{IsNameIn}
 use Rattle.rg_rules.specs.Paths.{all_but_last, last_field}
 use Rattle.rg_rules.specs.State.{Local, value_in}
 use Rattle.rg_rules.specs.Evaluation.{follow_fields}
-use Rattle.rg_plain.specs.Spots.{IsField, IsCut, receiver_of}
+use Rattle.rg_plain.specs.Inner.Spots.{IsField, IsCut, receiver_of}
 
 all_but_last-numbers : (t : Tables) (k n : ℕ) (ms : List ℕ) → length ms ≡ k →
     all_but_last (name_at t n) (map (name_at t) ms) ≡ map (name_at t) (take k (n ∷ ms))

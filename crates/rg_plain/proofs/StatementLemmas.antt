@@ -9,8 +9,8 @@ use Rattle.rg_base.specs.declared.outcome.Trap.{Trap}
 use Rattle.rg_base.specs.declared.value.Val.{Val}
 use Rattle.rg_base.specs.declared.value.Val.TheVariants.{Obj}
 use Rattle.rg_tree.specs.Tree.{Name, Variable, Call, Class, stmt, StmtKind, result_of}
-use Rattle.rg_tree.specs.Tables.{Tables}
-use Rattle.rg_tree.specs.RowTrees.{classes_of, stmt_at}
+use Rattle.rg_tree.specs.Rows.Tables.{Tables}
+use Rattle.rg_tree.specs.Rows.RowTrees.{classes_of, stmt_at}
 use Rattle.rg_rules.specs.Answers.{◌>>=◌, ◌>>◌}
 use Rattle.rg_rules.specs.Items.{Item, Do}
 use Rattle.rg_rules.specs.Paths.{all_but_last}
@@ -20,10 +20,10 @@ use Rattle.rg_rules.specs.Evaluation.{object_at, follow_fields}
 use Rattle.rg_rules.specs.RightSides.{step_call}
 use Rattle.rg_rules.specs.Steps.{stepped, step_assign, step_first, step_kind, next}
 use Rattle.rg_plain.specs.declared.rows.ObjectRow.{ObjectRow}
-use Rattle.rg_plain.specs.Calls.{holder_from, tested}
+use Rattle.rg_plain.specs.Inner.Calls.{holder_from, tested}
 use Rattle.rg_plain.specs.Kept.{Kept, plain_of, shown}
 use Rattle.rg_plain.specs.Shown.{seen_of, store_of}
-use Rattle.rg_plain.specs.Steps.{StepIs}
+use Rattle.rg_plain.specs.Inner.Steps.{StepIs}
 
 -- the next step is that of the first statement
 pub statement-is : (t : Tables) (old new : Kept) (input : List ℕ) (rest : List Item) (number line : ℕ) (k : StmtKind) (outcome : Outcome) →

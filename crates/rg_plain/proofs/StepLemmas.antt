@@ -1,8 +1,8 @@
 -- The step of a statement.
 use Rattle.std.proofs.Common.{◌≡◌, ℕ, List, ◌∷◌, ◌∙◌, ap}
 use Rattle.rg_tree.specs.Tree.{StmtKind, stmt, Class}
-use Rattle.rg_tree.specs.Tables.{Tables}
-use Rattle.rg_tree.specs.RowTrees.{stmt_at}
+use Rattle.rg_tree.specs.Rows.Tables.{Tables}
+use Rattle.rg_tree.specs.Rows.RowTrees.{stmt_at}
 use Rattle.rg_rules.specs.Items.{Item, Do}
 use Rattle.rg_rules.specs.Steps.{next, step_first, stepped, step_kind}
 use Rattle.rg_plain.specs.Kept.{Kept, plain_of, shown}

@@ -9,8 +9,8 @@ use Rattle.rg_base.specs.declared.outcome.Trap.TheVariants as trap
 use Rattle.rg_base.specs.declared.outcome.Outcome.{Outcome}
 use Rattle.rg_tree.specs.declared.rows.Path as row_path
 use Rattle.rg_tree.specs.Tree.{Name, Block, stmt, enter}
-use Rattle.rg_tree.specs.Tables.{Tables}
-use Rattle.rg_tree.specs.RowTrees.{classes_of, path_of, stmt_at}
+use Rattle.rg_tree.specs.Rows.Tables.{Tables}
+use Rattle.rg_tree.specs.Rows.RowTrees.{classes_of, path_of, stmt_at}
 use Rattle.rg_rules.specs.Items.{Item, Do}
 use Rattle.rg_rules.specs.State.{State}
 use Rattle.rg_rules.specs.Regions.{region_of}
@@ -23,8 +23,8 @@ use Rattle.rg_plain.specs.declared.rows.ItemRow.{ItemRow}
 use Rattle.rg_plain.specs.declared.rows.ObjectRow.{ObjectRow}
 use Rattle.rg_plain.specs.Kept.{Kept, plain_of, shown}
 use Rattle.rg_plain.specs.Shown.{store_of}
-use Rattle.rg_plain.specs.Steps.{StepIs}
-use Rattle.rg_plain.specs.Windows.{OwnerIs, ended_by}
+use Rattle.rg_plain.specs.Inner.Steps.{StepIs}
+use Rattle.rg_plain.specs.Inner.Windows.{OwnerIs, ended_by}
 use Rattle.rg_plain.proofs.StepLemmas.{next-at}
 use Rattle.rg_plain.proofs.WriteLemmas.{some-object}
 

@@ -1,12 +1,12 @@
 -- A machine whose rows are a program's, and what changes where a statement has used up its expression.
 use Rattle.std.specs.Prelude.{◌≡◌, ℕ, ◌≤◌, List, ◌∷◌, All, length, vec_capacity, IfSome}
-use Rattle.rg_tree.specs.Tables.{Tables}
-use Rattle.rg_tree.specs.RowTrees.{expr_at, stmt_at}
+use Rattle.rg_tree.specs.Rows.Tables.{Tables}
+use Rattle.rg_tree.specs.Rows.RowTrees.{expr_at, stmt_at}
 use Rattle.rg_rules.specs.Items.{Do}
 use Rattle.rg_rules.specs.Evaluation.{uses, cleared}
 use Rattle.rg_names.specs.Table.{Table}
 use Rattle.rg_plain.specs.declared.rows.LocalRow.{LocalRow}
-use Rattle.rg_tree.specs.RowsExist.{IsNameIn}
+use Rattle.rg_tree.specs.Rows.RowsExist.{IsNameIn}
 use Rattle.rg_plain.specs.declared.rows.ItemRow.{ItemRow}
 use Rattle.rg_plain.specs.declared.rows.FrameRow.{FrameRow}
 use Rattle.rg_plain.specs.declared.rows.TargetRow.{TargetRow}

@@ -3,9 +3,9 @@ use Rattle.std.specs.Prelude.{ℕ, ◌<◌, List, [], ◌∷◌, map, reverse, A
 use Rattle.rg_base.specs.declared.object.Seen.{Seen}
 use Rattle.rg_base.specs.declared.value.Val.{Val}
 use Rattle.rg_base.specs.declared.words.Manager.{Manager}
-use Rattle.rg_tree.specs.Tables.{Tables, name_at}
-use Rattle.rg_tree.specs.RowTrees.{block_of}
-use Rattle.rg_tree.specs.RowsExist.{IsBlockIn}
+use Rattle.rg_tree.specs.Rows.Tables.{Tables, name_at}
+use Rattle.rg_tree.specs.Rows.RowTrees.{block_of}
+use Rattle.rg_tree.specs.Rows.RowsExist.{IsBlockIn}
 use Rattle.rg_rules.specs.Items.{Item, EndAt, LeaveAt, Back, items_of}
 use Rattle.rg_rules.specs.State.{Target, Declares, Assigns, Drops, Frame, Window, State}
 use Rattle.rg_plain.specs.declared.rows.LocalRow.{LocalRow}

@@ -5,7 +5,7 @@ use Rattle.rg_base.specs.declared.value.Val.{Val}
 use Rattle.rg_base.specs.declared.value.Val.TheVariants.{Obj}
 use Rattle.rg_base.specs.declared.outcome.Trap.{Trap}
 use Rattle.rg_tree.specs.Tree.{Name, Class}
-use Rattle.rg_tree.specs.Tables.{Tables}
+use Rattle.rg_tree.specs.Rows.Tables.{Tables}
 use Rattle.rg_rules.specs.Answers.{◌>>=◌}
 use Rattle.rg_rules.specs.Values.{Computed}
 use Rattle.rg_rules.specs.Evaluation.{object_at, field_value}

@@ -1,9 +1,9 @@
 -- What the rows of the machine stand for: variables and objects of a plain state. A name's number stands for its bytes.
 use Rattle.std.specs.Prelude.{ℕ, suc, ◌<◌, List, [], ◌∷◌, Bool as Truth, true, false, ◌==◌, if◌then◌else◌, length, map, option_map, Option, Some, None, All, IfSome}
 use Rattle.rg_base.specs.declared.object.Seen.{Seen}
-use Rattle.rg_tree.specs.Tables.{Tables, name_at}
-use Rattle.rg_tree.specs.RowTrees.{classes_of}
-use Rattle.rg_tree.specs.RowsExist.{IsNameIn}
+use Rattle.rg_tree.specs.Rows.Tables.{Tables, name_at}
+use Rattle.rg_tree.specs.Rows.RowTrees.{classes_of}
+use Rattle.rg_tree.specs.Rows.RowsExist.{IsNameIn}
 use Rattle.rg_rules.specs.State.{Local}
 use Rattle.rg_plain.specs.declared.rows.LocalRow.{LocalRow}
 use Rattle.rg_plain.specs.declared.rows.ObjectRow.{ObjectRow}

@@ -3,8 +3,8 @@
 ghost use Rattle.std.specs.Prelude.{◌≡◌, ◌<◌, ℕ, List, OnOk, length};
 ghost use Rattle.rg_plain.specs.Fits.{PartsFit};
 ghost use Rattle.rg_plain.specs.Kept.{kept_of, plain_of};
-ghost use Rattle.rg_plain.specs.Spots.{LeftFits, AimIs, AimFits, use_of};
-ghost use Rattle.rg_plain.specs.Rooms.{HasRoom};
+ghost use Rattle.rg_plain.specs.Inner.Spots.{LeftFits, AimIs, AimFits, use_of};
+ghost use Rattle.rg_plain.specs.Inner.Rooms.{HasRoom};
 
 use crate::locals::set;
 use crate::parts::Parts;

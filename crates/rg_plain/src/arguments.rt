@@ -1,8 +1,8 @@
 //! The arguments of calls (docs/language.md, "Steps").
 
 ghost use Rattle.std.specs.Prelude.{◌≡◌, All, IfOk, map};
-ghost use Rattle.rg_tree.specs.RowTrees.{classes_of, expr_at};
-ghost use Rattle.rg_tree.specs.RowsExist.{AreRows, IsExprNumber};
+ghost use Rattle.rg_tree.specs.Rows.RowTrees.{classes_of, expr_at};
+ghost use Rattle.rg_tree.specs.Rows.RowsExist.{AreRows, IsExprNumber};
 ghost use Rattle.rg_rules.specs.Evaluation.{values_of, uses, cleared};
 ghost use Rattle.std.specs.Prelude.{flat_map};
 ghost use Rattle.rg_plain.specs.Shown.{store_of, locals_of, AreNamed};

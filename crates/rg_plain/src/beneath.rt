@@ -6,10 +6,10 @@ ghost use Rattle.std.specs.Prelude.{length, drop, filter_map, flat_map, option_t
 ghost use Rattle.rg_rules.specs.Capabilities.{is_iso};
 ghost use Rattle.rg_rules.specs.Regions.{region_at, owned, owned_in, led_from, in_regions, beneath};
 ghost use Rattle.rg_rules.specs.Types.{fields_of, type_of};
-ghost use Rattle.rg_tree.specs.RowTrees.{classes_of, member_at, type_of as written};
-ghost use Rattle.rg_tree.specs.Tables.{Tables};
+ghost use Rattle.rg_tree.specs.Rows.RowTrees.{classes_of, member_at, type_of as written};
+ghost use Rattle.rg_tree.specs.Rows.Tables.{Tables};
 ghost use Rattle.rg_tree.specs.Tree.{Class, Member};
-ghost use Rattle.rg_plain.specs.Beneath.{listed, links_in, AreMarked, FindsToo, AreLinks};
+ghost use Rattle.rg_plain.specs.Inner.Beneath.{listed, links_in, AreMarked, FindsToo, AreLinks};
 ghost use Rattle.rg_plain.specs.Regions.{LabelFits, LabelsFit};
 ghost use Rattle.rg_plain.specs.Shown.{seen_of, store_of, AreOfClasses};
 

@@ -3,16 +3,16 @@
 
 ghost use Rattle.std.specs.Prelude.{◌≡◌, ◌≢◌, ◌+◌, ◌<◌, ◌≤◌, length, flat_map, map, nat_lt};
 ghost use Rattle.std.specs.Prelude.{not, vec_capacity};
-ghost use Rattle.rg_tree.specs.Tables.{numbers_in};
-ghost use Rattle.rg_tree.specs.RowTrees.{expr_at};
-ghost use Rattle.rg_tree.specs.RowsExist.{AreRows, IsCallIn, IsSpanBelow};
+ghost use Rattle.rg_tree.specs.Rows.Tables.{numbers_in};
+ghost use Rattle.rg_tree.specs.Rows.RowTrees.{expr_at};
+ghost use Rattle.rg_tree.specs.Rows.RowsExist.{AreRows, IsCallIn, IsSpanBelow};
 ghost use Rattle.rg_rules.specs.Evaluation.{uses, cleared};
-ghost use Rattle.rg_plain.specs.Calls.{CallIs, CalledIs, Enters};
+ghost use Rattle.rg_plain.specs.Inner.Calls.{CallIs, CalledIs, Enters};
 ghost use Rattle.rg_plain.specs.Fits.{PartsFit, TargetFits};
 ghost use Rattle.rg_plain.specs.Kept.{kept_of};
-ghost use Rattle.rg_plain.specs.Methods.{MethodFits};
+ghost use Rattle.rg_plain.specs.Inner.Methods.{MethodFits};
 ghost use Rattle.rg_plain.specs.Shown.{locals_of, AreNamed};
-ghost use Rattle.rg_plain.specs.Steps.{IsAt};
+ghost use Rattle.rg_plain.specs.Inner.Steps.{IsAt};
 
 use crate::arguments::{Refused, arguments, use_up_all};
 use crate::at::At;

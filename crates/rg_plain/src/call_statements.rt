@@ -2,14 +2,14 @@
 
 ghost use Rattle.std.specs.Prelude.{◌≡◌, ◌≢◌, ◌<◌, [], ℕ, List, length};
 ghost use Rattle.rg_tree.specs.Tree.{stmt, call, declare, assign, result_of};
-ghost use Rattle.rg_tree.specs.Tables.{name_at, numbers_in};
-ghost use Rattle.rg_tree.specs.RowTrees.{classes_of, call_of, path_of, stmt_at, type_of};
-ghost use Rattle.rg_tree.specs.RowsExist.{IsCallIn, IsNameIn, IsPathIn, IsTypeIn};
+ghost use Rattle.rg_tree.specs.Rows.Tables.{name_at, numbers_in};
+ghost use Rattle.rg_tree.specs.Rows.RowTrees.{classes_of, call_of, path_of, stmt_at, type_of};
+ghost use Rattle.rg_tree.specs.Rows.RowsExist.{IsCallIn, IsNameIn, IsPathIn, IsTypeIn};
 ghost use Rattle.rg_rules.specs.Steps.{next};
 ghost use Rattle.rg_plain.specs.Fits.{PartsFit};
 ghost use Rattle.rg_plain.specs.Kept.{kept_of, plain_of};
-ghost use Rattle.rg_plain.specs.Spots.{LeftFits, statement_of};
-ghost use Rattle.rg_plain.specs.Steps.{StepIs, IsAt};
+ghost use Rattle.rg_plain.specs.Inner.Spots.{LeftFits, statement_of};
+ghost use Rattle.rg_plain.specs.Inner.Steps.{StepIs, IsAt};
 
 use crate::aims::Left;
 use crate::at::At;

@@ -2,11 +2,11 @@
 
 ghost use Rattle.std.specs.Prelude.{◌≡◌, ◌+◌, ◌<◌, ◌≤◌, ◌++◌, ◌∷◌, [], All, None, IfOk, length};
 ghost use Rattle.std.specs.Prelude.{map, slice_get, unwrap_or, vec_capacity};
-ghost use Rattle.rg_tree.specs.RowTrees.{classes_of, param_at};
+ghost use Rattle.rg_tree.specs.Rows.RowTrees.{classes_of, param_at};
 ghost use Rattle.rg_rules.specs.RightSides.{bound, called_frame};
 ghost use Rattle.rg_names.specs.TableOf.{IsTableOf};
 ghost use Rattle.rg_plain.specs.Kept.{frame_of, kept_frame, target_of};
-ghost use Rattle.rg_plain.specs.Methods.{method_of, MethodFits};
+ghost use Rattle.rg_plain.specs.Inner.Methods.{method_of, MethodFits};
 ghost use Rattle.rg_plain.specs.Shown.{locals_of, AreNamed};
 
 use crate::methods::MethodRow;

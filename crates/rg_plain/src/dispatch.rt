@@ -2,15 +2,15 @@
 
 ghost use Rattle.std.specs.Prelude.{◌≡◌, ◌≢◌, ◌≤◌, ◌++◌, ◌∷◌, [], ℕ, List, length, false, true};
 ghost use Rattle.rg_tree.specs.Tree.{stmt};
-ghost use Rattle.rg_tree.specs.RowTrees.{classes_of, stmt_at, kind_over};
-ghost use Rattle.rg_tree.specs.RowsExist.{IsKindIn};
+ghost use Rattle.rg_tree.specs.Rows.RowTrees.{classes_of, stmt_at, kind_over};
+ghost use Rattle.rg_tree.specs.Rows.RowsExist.{IsKindIn};
 ghost use Rattle.rg_rules.specs.Steps.{next};
 ghost use Rattle.rg_io.specs.Content.{Rose};
 ghost use Rattle.rg_input.specs.Numbers.{Follows, OnInput};
 ghost use Rattle.rg_plain.specs.Fits.{PartsFit};
-ghost use Rattle.rg_plain.specs.Inputs.{StepOn, SettlesOn};
+ghost use Rattle.rg_plain.specs.Inner.Inputs.{StepOn, SettlesOn};
 ghost use Rattle.rg_plain.specs.Kept.{kept_of, plain_of, shown};
-ghost use Rattle.rg_plain.specs.Steps.{StepIs, IsAt};
+ghost use Rattle.rg_plain.specs.Inner.Steps.{StepIs, IsAt};
 ghost use Rattle.rg_plain.specs.Outcomes.{PrintsOrStays, QuietOrPrints, kind_asks, first_asks};
 ghost use Rattle.rg_plain.specs.Outcomes.{EndsMain, LeavesRows, settled_outcome};
 

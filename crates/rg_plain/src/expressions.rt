@@ -1,8 +1,8 @@
 //! What expressions compute to (docs/language.md, "Steps").
 
 ghost use Rattle.std.specs.Prelude.{◌≡◌};
-ghost use Rattle.rg_tree.specs.RowTrees.{classes_of, expr_at};
-ghost use Rattle.rg_tree.specs.RowsExist.{IsExprNumber};
+ghost use Rattle.rg_tree.specs.Rows.RowTrees.{classes_of, expr_at};
+ghost use Rattle.rg_tree.specs.Rows.RowsExist.{IsExprNumber};
 ghost use Rattle.rg_rules.specs.Evaluation.{value_of};
 ghost use Rattle.rg_plain.specs.Shown.{store_of, locals_of, AreNamed};
 ghost use Rattle.rg_plain.specs.Read.{HasObjects};

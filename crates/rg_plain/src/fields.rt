@@ -4,14 +4,14 @@
 ghost use Rattle.std.specs.Prelude.{◌≡◌, ◌≢◌, ◌<◌, ℕ, List, Some, length, slice_get};
 ghost use Rattle.rg_base.specs.declared.object.Seen.{Seen};
 ghost use Rattle.rg_tree.specs.Tree.{stmt, swap, value};
-ghost use Rattle.rg_tree.specs.Tables.{name_at};
-ghost use Rattle.rg_tree.specs.RowTrees.{classes_of, expr_at, path_of, stmt_at};
-ghost use Rattle.rg_tree.specs.RowsExist.{IsExprNumber, IsNameIn, IsPathIn};
+ghost use Rattle.rg_tree.specs.Rows.Tables.{name_at};
+ghost use Rattle.rg_tree.specs.Rows.RowTrees.{classes_of, expr_at, path_of, stmt_at};
+ghost use Rattle.rg_tree.specs.Rows.RowsExist.{IsExprNumber, IsNameIn, IsPathIn};
 ghost use Rattle.rg_rules.specs.Steps.{next};
 ghost use Rattle.rg_plain.specs.Fits.{PartsFit};
 ghost use Rattle.rg_plain.specs.Kept.{kept_of, plain_of};
-ghost use Rattle.rg_plain.specs.Spots.{LeftFits, exchanged, statement_of};
-ghost use Rattle.rg_plain.specs.Steps.{StepIs, IsAt};
+ghost use Rattle.rg_plain.specs.Inner.Spots.{LeftFits, exchanged, statement_of};
+ghost use Rattle.rg_plain.specs.Inner.Steps.{StepIs, IsAt};
 
 use crate::aims::{Aim, Left, aim_of, make_room, put};
 use crate::at::At;

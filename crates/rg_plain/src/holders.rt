@@ -1,11 +1,11 @@
 //! The object whose field a path ends at (docs/language.md, "Steps").
 
 ghost use Rattle.std.specs.Prelude.{◌≡◌, ◌<◌, ◌-◌, All, length, map, take};
-ghost use Rattle.rg_tree.specs.Tables.{name_at, numbers_in};
-ghost use Rattle.rg_tree.specs.RowTrees.{classes_of, path_of};
-ghost use Rattle.rg_tree.specs.RowsExist.{IsNameIn, IsPathIn};
+ghost use Rattle.rg_tree.specs.Rows.Tables.{name_at, numbers_in};
+ghost use Rattle.rg_tree.specs.Rows.RowTrees.{classes_of, path_of};
+ghost use Rattle.rg_tree.specs.Rows.RowsExist.{IsNameIn, IsPathIn};
 ghost use Rattle.rg_rules.specs.Evaluation.{follow_fields};
-ghost use Rattle.rg_plain.specs.Calls.{holder_of, tested};
+ghost use Rattle.rg_plain.specs.Inner.Calls.{holder_of, tested};
 ghost use Rattle.rg_plain.specs.Read.{HasObjects};
 ghost use Rattle.rg_plain.specs.Shown.{store_of, locals_of, AreNamed};
 

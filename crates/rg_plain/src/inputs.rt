@@ -2,14 +2,14 @@
 
 ghost use Rattle.std.specs.Prelude.{◌≡◌, ◌≤◌};
 ghost use Rattle.rg_tree.specs.Tree.{stmt, read, more};
-ghost use Rattle.rg_tree.specs.RowTrees.{stmt_at};
+ghost use Rattle.rg_tree.specs.Rows.RowTrees.{stmt_at};
 ghost use Rattle.rg_io.specs.Content.{Rose};
 ghost use Rattle.rg_input.specs.Numbers.{Follows, OnInput};
 ghost use Rattle.rg_plain.specs.Fits.{PartsFit};
-ghost use Rattle.rg_plain.specs.Inputs.{StepOn, refused_by};
+ghost use Rattle.rg_plain.specs.Inner.Inputs.{StepOn, refused_by};
 ghost use Rattle.rg_plain.specs.Kept.{kept_of};
-ghost use Rattle.rg_plain.specs.Spots.{LeftFits, statement_of};
-ghost use Rattle.rg_plain.specs.Steps.{IsAt};
+ghost use Rattle.rg_plain.specs.Inner.Spots.{LeftFits, statement_of};
+ghost use Rattle.rg_plain.specs.Inner.Steps.{IsAt};
 
 use crate::aims::{Left, aim_of, make_room, put};
 use crate::at::At;

@@ -1,13 +1,13 @@
 //! What is still to do (docs/language.md, "Steps").
 
 ghost use Rattle.std.specs.Prelude.{◌≡◌, ◌+◌, ◌<◌, ◌≤◌, ◌++◌, ◌∷◌, [], List, length, vec_capacity};
-ghost use Rattle.rg_tree.specs.RowTrees.{stmt_at};
-ghost use Rattle.rg_tree.specs.RowsExist.{IsBlockIn};
+ghost use Rattle.rg_tree.specs.Rows.RowTrees.{stmt_at};
+ghost use Rattle.rg_tree.specs.Rows.RowsExist.{IsBlockIn};
 ghost use Rattle.rg_plain.specs.Kept.{shown, put_row, ItemFits, ItemsFit};
 ghost use Rattle.rg_rules.specs.Items.{Do, EndAt, items_of};
 ghost use Rattle.rg_rules.specs.Bodies.{method_end};
-ghost use Rattle.rg_plain.specs.Methods.{method_of, MethodFits};
-ghost use Rattle.rg_plain.specs.Steps.{IsAt, EndsWhereDone};
+ghost use Rattle.rg_plain.specs.Inner.Methods.{method_of, MethodFits};
+ghost use Rattle.rg_plain.specs.Inner.Steps.{IsAt, EndsWhereDone};
 
 use crate::methods::MethodRow;
 use crate::rows::ItemRow;

@@ -2,8 +2,8 @@
 //! that no search is longer (docs/language.md, "Steps").
 
 ghost use Rattle.std.specs.Prelude.{◌≡◌, ◌≤◌, length, option_map, slice_get, take, IfSome};
-ghost use Rattle.rg_tree.specs.Tables.{name_at};
-ghost use Rattle.rg_tree.specs.RowsExist.{AreRows, IsNameIn};
+ghost use Rattle.rg_tree.specs.Rows.Tables.{name_at};
+ghost use Rattle.rg_tree.specs.Rows.RowsExist.{AreRows, IsNameIn};
 ghost use Rattle.rg_rules.specs.State.{value_in, place_in, set_in};
 ghost use Rattle.rg_rules.specs.Capabilities.{is_iso};
 ghost use Rattle.rg_rules.specs.Evaluation.{is_iso_local};

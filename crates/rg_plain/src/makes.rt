@@ -2,17 +2,17 @@
 
 ghost use Rattle.std.specs.Prelude.{◌≡◌, ◌≢◌, ◌<◌, ℕ, List, OnOk, length, vec_capacity};
 ghost use Rattle.rg_tree.specs.Tree.{stmt};
-ghost use Rattle.rg_tree.specs.RowTrees.{classes_of, stmt_at};
-ghost use Rattle.rg_tree.specs.RowsExist.{IsNameIn};
+ghost use Rattle.rg_tree.specs.Rows.RowTrees.{classes_of, stmt_at};
+ghost use Rattle.rg_tree.specs.Rows.RowsExist.{IsNameIn};
 ghost use Rattle.rg_rules.specs.Steps.{next};
 ghost use Rattle.rg_plain.specs.Fits.{PartsFit};
 ghost use Rattle.rg_plain.specs.Kept.{kept_of, plain_of};
-ghost use Rattle.rg_plain.specs.Makes.{right_of, label_of, use_with, with_object};
-ghost use Rattle.rg_plain.specs.Makes.{managers_with, HasRooms};
+ghost use Rattle.rg_plain.specs.Inner.Makes.{right_of, label_of, use_with, with_object};
+ghost use Rattle.rg_plain.specs.Inner.Makes.{managers_with, HasRooms};
 ghost use Rattle.rg_plain.specs.Regions.{LabelFits};
-ghost use Rattle.rg_plain.specs.Spots.{LeftFits, AimFits, statement_of};
+ghost use Rattle.rg_plain.specs.Inner.Spots.{LeftFits, AimFits, statement_of};
 ghost use Rattle.rg_plain.specs.Shown.{seen_of};
-ghost use Rattle.rg_plain.specs.Steps.{StepIs, IsAt};
+ghost use Rattle.rg_plain.specs.Inner.Steps.{StepIs, IsAt};
 
 use crate::aims::{Aim, Left, aim_of, make_room, put};
 use crate::at::At;

@@ -2,9 +2,9 @@
 //! (docs/language.md, "Steps").
 
 ghost use Rattle.std.specs.Prelude.{◌≡◌, ◌<◌, length};
-ghost use Rattle.rg_tree.specs.Tables.{name_at};
-ghost use Rattle.rg_tree.specs.RowTrees.{member_at};
-ghost use Rattle.rg_tree.specs.RowsExist.{AreRows, IsNameIn};
+ghost use Rattle.rg_tree.specs.Rows.Tables.{name_at};
+ghost use Rattle.rg_tree.specs.Rows.RowTrees.{member_at};
+ghost use Rattle.rg_tree.specs.Rows.RowsExist.{AreRows, IsNameIn};
 
 use rg_base::Cap;
 use rg_tree::{MemberRow, Program, Span, TypeRow};
@@ -20,7 +20,7 @@ pub struct MethodRow {
     pub line: u64,
 }
 
-ghost use Rattle.rg_plain.specs.Methods.{MemberIs, MethodIs};
+ghost use Rattle.rg_plain.specs.Inner.Methods.{MemberIs, MethodIs};
 
 /// A member, where it is the method of a name.
 fn as_method(program: &Program, member: u32, name: u32) -> Option<MethodRow>

@@ -4,19 +4,19 @@ ghost use Rattle.std.specs.Prelude.{◌≡◌, ◌≢◌, ◌<◌, ◌∷◌, []
 ghost use Rattle.std.specs.Prelude.{length, slice_get};
 ghost use Rattle.rg_base.specs.declared.object.Seen.{Seen};
 ghost use Rattle.rg_tree.specs.Tree.{stmt};
-ghost use Rattle.rg_tree.specs.RowTrees.{classes_of, stmt_at};
-ghost use Rattle.rg_tree.specs.RowsExist.{IsNameIn};
+ghost use Rattle.rg_tree.specs.Rows.RowTrees.{classes_of, stmt_at};
+ghost use Rattle.rg_tree.specs.Rows.RowsExist.{IsNameIn};
 ghost use Rattle.rg_rules.specs.Regions.{region_of, beneath};
 ghost use Rattle.rg_rules.specs.Steps.{next};
-ghost use Rattle.rg_plain.specs.Beneath.{AreMarked, AreRegions};
+ghost use Rattle.rg_plain.specs.Inner.Beneath.{AreMarked, AreRegions};
 ghost use Rattle.rg_plain.specs.Fits.{PartsFit};
 ghost use Rattle.rg_plain.specs.Kept.{kept_of, plain_of};
-ghost use Rattle.rg_plain.specs.Moves.{right_of, label_of, regions_with, carried, HeldIs};
+ghost use Rattle.rg_plain.specs.Inner.Moves.{right_of, label_of, regions_with, carried, HeldIs};
 ghost use Rattle.rg_plain.specs.Regions.{LabelFits, LabelsFit};
-ghost use Rattle.rg_plain.specs.Rooms.{HasRoom};
+ghost use Rattle.rg_plain.specs.Inner.Rooms.{HasRoom};
 ghost use Rattle.rg_plain.specs.Shown.{store_of};
-ghost use Rattle.rg_plain.specs.Spots.{LeftFits, AimFits, statement_of};
-ghost use Rattle.rg_plain.specs.Steps.{StepIs, IsAt};
+ghost use Rattle.rg_plain.specs.Inner.Spots.{LeftFits, AimFits, statement_of};
+ghost use Rattle.rg_plain.specs.Inner.Steps.{StepIs, IsAt};
 
 use crate::aims::{Aim, Left, aim_of, make_room, put};
 use crate::at::At;

@@ -1,9 +1,9 @@
 //! Objects, their fields by name, and what stands behind a path (docs/language.md, "Steps").
 
 ghost use Rattle.std.specs.Prelude.{◌≡◌, ◌<◌, length, map, All, slice_get, unwrap_or};
-ghost use Rattle.rg_tree.specs.Tables.{name_at};
-ghost use Rattle.rg_tree.specs.RowTrees.{classes_of, path_of};
-ghost use Rattle.rg_tree.specs.RowsExist.{IsNameIn, IsPathIn};
+ghost use Rattle.rg_tree.specs.Rows.Tables.{name_at};
+ghost use Rattle.rg_tree.specs.Rows.RowTrees.{classes_of, path_of};
+ghost use Rattle.rg_tree.specs.Rows.RowsExist.{IsNameIn, IsPathIn};
 ghost use Rattle.rg_rules.specs.Evaluation.{field_value, follow_fields, path_value};
 ghost use Rattle.rg_names.specs.TableOf.{IsTableOf};
 ghost use Rattle.rg_plain.specs.Shown.{seen_of, store_of, locals_of, AreNamed};

@@ -1,12 +1,12 @@
 //! New objects, whose fields start as 0, false and nil (docs/language.md, "Steps").
 
 ghost use Rattle.std.specs.Prelude.{◌≡◌, ◌<◌, IfOk, length, map};
-ghost use Rattle.rg_tree.specs.Tables.{Tables};
-ghost use Rattle.rg_tree.specs.RowTrees.{classes_of, type_of};
-ghost use Rattle.rg_tree.specs.RowsExist.{AreRows};
+ghost use Rattle.rg_tree.specs.Rows.Tables.{Tables};
+ghost use Rattle.rg_tree.specs.Rows.RowTrees.{classes_of, type_of};
+ghost use Rattle.rg_tree.specs.Rows.RowsExist.{AreRows};
 ghost use Rattle.rg_rules.specs.Types.{fields_of};
 ghost use Rattle.rg_rules.specs.RightSides.{opening_value};
-ghost use Rattle.rg_plain.specs.Makes.{opened_as};
+ghost use Rattle.rg_plain.specs.Inner.Makes.{opened_as};
 ghost use Rattle.rg_plain.specs.Shown.{seen_of};
 
 use crate::rows::ObjectRow;

@@ -4,7 +4,7 @@
 ghost use Rattle.std.specs.Prelude.{◌≡◌, pos, neg_ℤ, ◌+ℤ◌, ◌-ℤ◌, ◌*ℤ◌, int_div, int_rem, not};
 ghost use Rattle.rg_rules.specs.Values.{as_int, as_bool, is_nil_value, number_value, divided};
 ghost use Rattle.rg_rules.specs.Values.{same_value, operate, decides};
-ghost use Rattle.rg_plain.specs.Overflow.{unless_overflow};
+ghost use Rattle.rg_plain.specs.Inner.Overflow.{unless_overflow};
 
 use rg_base::{Trap, Val};
 use rg_tree::BinOp;

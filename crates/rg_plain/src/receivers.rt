@@ -1,8 +1,8 @@
 //! Whose method a call is of (docs/language.md, "Steps").
 
 ghost use Rattle.std.specs.Prelude.{◌≡◌, ◌<◌, IfOk, length};
-ghost use Rattle.rg_tree.specs.RowTrees.{classes_of, path_of};
-ghost use Rattle.rg_tree.specs.RowsExist.{IsPathIn};
+ghost use Rattle.rg_tree.specs.Rows.RowTrees.{classes_of, path_of};
+ghost use Rattle.rg_tree.specs.Rows.RowsExist.{IsPathIn};
 ghost use Rattle.rg_plain.specs.Shown.{store_of, locals_of, AreNamed};
 ghost use Rattle.rg_plain.specs.Read.{HasObjects};
 
@@ -19,7 +19,7 @@ pub struct Receiver {
     pub class: u32,
 }
 
-ghost use Rattle.rg_plain.specs.Calls.{receiver_of};
+ghost use Rattle.rg_plain.specs.Inner.Calls.{receiver_of};
 
 /// The receiver at the end of a path, which is followed and tested.
 pub(crate) fn find_receiver(

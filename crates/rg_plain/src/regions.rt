@@ -3,7 +3,7 @@
 ghost use Rattle.std.specs.Prelude.{◌≡◌, ℕ, List, option_and_then};
 ghost use Rattle.rg_rules.specs.Regions.{region_of, region_at, address, among, in_regions};
 ghost use Rattle.rg_rules.specs.Regions.{relabelled, relabelled_object};
-ghost use Rattle.rg_plain.specs.Beneath.{is_marked, AreRegions};
+ghost use Rattle.rg_plain.specs.Inner.Beneath.{is_marked, AreRegions};
 ghost use Rattle.rg_plain.specs.Regions.{LabelFits, LabelsFit};
 ghost use Rattle.rg_plain.specs.Shown.{seen_of, store_of, AreOfClasses};
 

@@ -3,14 +3,14 @@
 ghost use Rattle.std.specs.Prelude.{◌≡◌, ◌≢◌, ◌++◌, ◌∷◌, [], ◌<◌, ℕ, List, IfOk};
 ghost use Rattle.std.specs.Prelude.{OnErr, length, map, vec_capacity};
 ghost use Rattle.rg_tree.specs.Tree.{stmt, return};
-ghost use Rattle.rg_tree.specs.RowTrees.{classes_of, expr_at, stmt_at};
-ghost use Rattle.rg_tree.specs.RowsExist.{AreRows, IsExprNumber};
+ghost use Rattle.rg_tree.specs.Rows.RowTrees.{classes_of, expr_at, stmt_at};
+ghost use Rattle.rg_tree.specs.Rows.RowsExist.{AreRows, IsExprNumber};
 ghost use Rattle.rg_rules.specs.Steps.{next};
-ghost use Rattle.rg_plain.specs.Calls.{delivered, TakesFrame};
+ghost use Rattle.rg_plain.specs.Inner.Calls.{delivered, TakesFrame};
 ghost use Rattle.rg_plain.specs.Fits.{PartsFit, TargetFits, FramesFit, FrameFits};
 ghost use Rattle.rg_plain.specs.Kept.{kept_frame, kept_of, plain_of};
 ghost use Rattle.rg_plain.specs.Shown.{locals_of, AreNamed};
-ghost use Rattle.rg_plain.specs.Steps.{StepIs, IsAt};
+ghost use Rattle.rg_plain.specs.Inner.Steps.{StepIs, IsAt};
 
 use crate::at::At;
 use crate::expressions::value;

@@ -2,16 +2,16 @@
 
 ghost use Rattle.std.specs.Prelude.{◌≡◌, ◌≤◌, false, true};
 ghost use Rattle.rg_tree.specs.Tree.{stmt};
-ghost use Rattle.rg_tree.specs.RowTrees.{stmt_at, right_of};
-ghost use Rattle.rg_tree.specs.RowsExist.{IsRightIn};
+ghost use Rattle.rg_tree.specs.Rows.RowTrees.{stmt_at, right_of};
+ghost use Rattle.rg_tree.specs.Rows.RowsExist.{IsRightIn};
 ghost use Rattle.rg_io.specs.Content.{Rose};
 ghost use Rattle.rg_input.specs.Numbers.{Follows, OnInput};
 ghost use Rattle.rg_plain.specs.Fits.{PartsFit};
-ghost use Rattle.rg_plain.specs.Inputs.{StepOn};
+ghost use Rattle.rg_plain.specs.Inner.Inputs.{StepOn};
 ghost use Rattle.rg_plain.specs.Kept.{kept_of};
 ghost use Rattle.rg_plain.specs.Outcomes.{asks};
-ghost use Rattle.rg_plain.specs.Spots.{LeftFits, statement_of};
-ghost use Rattle.rg_plain.specs.Steps.{IsAt};
+ghost use Rattle.rg_plain.specs.Inner.Spots.{LeftFits, statement_of};
+ghost use Rattle.rg_plain.specs.Inner.Steps.{IsAt};
 
 use crate::aims::Left;
 use crate::at::At;

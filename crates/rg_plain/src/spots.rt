@@ -1,12 +1,12 @@
 //! What a path names: a variable, or a field of an object (docs/language.md, "Steps").
 
 ghost use Rattle.std.specs.Prelude.{All, map};
-ghost use Rattle.rg_tree.specs.Tables.{name_at};
-ghost use Rattle.rg_tree.specs.RowTrees.{classes_of, path_of};
-ghost use Rattle.rg_tree.specs.RowsExist.{IsNameIn, IsPathIn};
+ghost use Rattle.rg_tree.specs.Rows.Tables.{name_at};
+ghost use Rattle.rg_tree.specs.Rows.RowTrees.{classes_of, path_of};
+ghost use Rattle.rg_tree.specs.Rows.RowsExist.{IsNameIn, IsPathIn};
 ghost use Rattle.rg_plain.specs.Shown.{store_of, locals_of, AreNamed};
 ghost use Rattle.rg_plain.specs.Read.{HasObjects};
-ghost use Rattle.rg_plain.specs.Spots.{ReceiverIs, SpotIs};
+ghost use Rattle.rg_plain.specs.Inner.Spots.{ReceiverIs, SpotIs};
 
 use crate::locals::variable;
 use crate::objects::{follow, object_place};

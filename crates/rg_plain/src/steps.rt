@@ -4,13 +4,13 @@
 ghost use Rattle.std.specs.Prelude.{◌≡◌, ◌≢◌, ◌+◌, ◌≤◌, ◌++◌, ◌∷◌, [], ℕ, List};
 ghost use Rattle.std.specs.Prelude.{Option, IfSome, length, vec_capacity};
 ghost use Rattle.rg_tree.specs.Tree.{stmt, print, branch, while, collect};
-ghost use Rattle.rg_tree.specs.RowTrees.{classes_of, expr_at, stmt_at, block_of, else_over};
-ghost use Rattle.rg_tree.specs.RowsExist.{IsExprNumber, IsBlockIn};
+ghost use Rattle.rg_tree.specs.Rows.RowTrees.{classes_of, expr_at, stmt_at, block_of, else_over};
+ghost use Rattle.rg_tree.specs.Rows.RowsExist.{IsExprNumber, IsBlockIn};
 ghost use Rattle.rg_rules.specs.Steps.{next};
 ghost use Rattle.rg_plain.specs.Fits.{PartsFit, Spends, KeepsRoom};
 ghost use Rattle.rg_plain.specs.Kept.{kept_of, plain_of};
 ghost use Rattle.rg_plain.specs.Outcomes.{PrintsOrStays};
-ghost use Rattle.rg_plain.specs.Steps.{StepIs, IsAt};
+ghost use Rattle.rg_plain.specs.Inner.Steps.{StepIs, IsAt};
 
 use crate::at::At;
 use crate::expressions::value;

@@ -1,8 +1,8 @@
 //! The variables that an expression uses up (docs/language.md, "Steps").
 
 ghost use Rattle.std.specs.Prelude.{◌≡◌};
-ghost use Rattle.rg_tree.specs.RowTrees.{expr_at, path_of};
-ghost use Rattle.rg_tree.specs.RowsExist.{AreRows, IsExprNumber, IsPathIn};
+ghost use Rattle.rg_tree.specs.Rows.RowTrees.{expr_at, path_of};
+ghost use Rattle.rg_tree.specs.Rows.RowsExist.{AreRows, IsExprNumber, IsPathIn};
 ghost use Rattle.rg_rules.specs.Evaluation.{uses, uses_path, cleared};
 ghost use Rattle.rg_plain.specs.Shown.{locals_of, AreNamed};
 

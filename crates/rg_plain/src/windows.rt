@@ -6,19 +6,19 @@ ghost use Rattle.std.specs.Prelude.{Some, OnOk, IfSome, length, slice_get, unwra
 ghost use Rattle.std.specs.Prelude.{vec_capacity, ◌^◌};
 ghost use Rattle.rg_base.specs.declared.object.Seen.{Seen};
 ghost use Rattle.rg_tree.specs.Tree.{stmt, enter};
-ghost use Rattle.rg_tree.specs.Tables.{name_at};
-ghost use Rattle.rg_tree.specs.RowTrees.{block_of, classes_of, path_of, stmt_at};
-ghost use Rattle.rg_tree.specs.RowsExist.{IsBlockIn, IsNameIn, IsPathIn};
+ghost use Rattle.rg_tree.specs.Rows.Tables.{name_at};
+ghost use Rattle.rg_tree.specs.Rows.RowTrees.{block_of, classes_of, path_of, stmt_at};
+ghost use Rattle.rg_tree.specs.Rows.RowsExist.{IsBlockIn, IsNameIn, IsPathIn};
 ghost use Rattle.rg_rules.specs.Types.{field_place, fields_of};
 ghost use Rattle.rg_rules.specs.Items.{LeaveAt};
 ghost use Rattle.rg_rules.specs.Steps.{next, with_window};
 ghost use Rattle.rg_plain.specs.Fits.{PartsFit};
 ghost use Rattle.rg_plain.specs.Kept.{ItemsFit, kept_of, plain_of, put_row, shown};
-ghost use Rattle.rg_plain.specs.Steps.{StepIs, IsAt};
+ghost use Rattle.rg_plain.specs.Inner.Steps.{StepIs, IsAt};
 ghost use Rattle.rg_names.specs.TableOf.{IsTableOf};
 ghost use Rattle.rg_plain.specs.Shown.{store_of};
 ghost use Rattle.rg_plain.specs.Regions.{LabelsFit};
-ghost use Rattle.rg_plain.specs.Windows.{OwnerIs, BridgeIs, HasWindowRoom, ended_by};
+ghost use Rattle.rg_plain.specs.Inner.Windows.{OwnerIs, BridgeIs, HasWindowRoom, ended_by};
 
 use crate::arguments::Refused;
 use crate::at::At;

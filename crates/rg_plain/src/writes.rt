@@ -2,9 +2,9 @@
 
 ghost use Rattle.std.specs.Prelude.{◌≡◌, ◌<◌, ℕ, length, slice_get, slice_set, Some};
 ghost use Rattle.rg_base.specs.declared.object.Seen.{Seen};
-ghost use Rattle.rg_tree.specs.Tables.{name_at};
-ghost use Rattle.rg_tree.specs.RowTrees.{classes_of};
-ghost use Rattle.rg_tree.specs.RowsExist.{IsNameIn};
+ghost use Rattle.rg_tree.specs.Rows.Tables.{name_at};
+ghost use Rattle.rg_tree.specs.Rows.RowTrees.{classes_of};
+ghost use Rattle.rg_tree.specs.Rows.RowsExist.{IsNameIn};
 ghost use Rattle.rg_rules.specs.Evaluation.{with_field};
 ghost use Rattle.rg_names.specs.TableOf.{IsTableOf};
 ghost use Rattle.rg_plain.specs.Shown.{seen_of, store_of};

@@ -2,9 +2,9 @@
 
 ghost use Rattle.std.specs.Prelude.{◌≡◌, ℕ, ◌<◌, ◌++◌, codes, length, map, OnOk};
 ghost use Rattle.rg_tree.specs.Canonical.{arg_texts, call_text, joined, path_text, right_text};
-ghost use Rattle.rg_tree.specs.RowTrees.{call_of, expr_at, path_of, right_of};
-ghost use Rattle.rg_tree.specs.RowsExist.{IsCallIn, IsNameIn, IsPathIn, IsRightIn, IsSpanBelow};
-ghost use Rattle.rg_tree.specs.Tables.{name_at, numbers_in};
+ghost use Rattle.rg_tree.specs.Rows.RowTrees.{call_of, expr_at, path_of, right_of};
+ghost use Rattle.rg_tree.specs.Rows.RowsExist.{IsCallIn, IsNameIn, IsPathIn, IsRightIn, IsSpanBelow};
+ghost use Rattle.rg_tree.specs.Rows.Tables.{name_at, numbers_in};
 
 use crate::expressions::write_expr;
 use crate::names::{write_name, write_path};

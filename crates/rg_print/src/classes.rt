@@ -3,9 +3,9 @@
 ghost use Rattle.std.specs.Prelude.{◌≡◌, ℕ, ◌<◌, ◌++◌, codes, length, map, option_map, OnOk, IfSome};
 ghost use Rattle.rg_base.specs.declared.words.Cap.{Cap};
 ghost use Rattle.rg_tree.specs.Canonical.{cap_text, class_text, joined, member_text, param_texts, result_text, line_of, ty_text};
-ghost use Rattle.rg_tree.specs.RowTrees.{class_of, member_at, param_at, type_of};
-ghost use Rattle.rg_tree.specs.RowsExist.{IsClassIn, IsNameIn, IsSpanBelow, IsTypeIn};
-ghost use Rattle.rg_tree.specs.Tables.{name_at, numbers_in};
+ghost use Rattle.rg_tree.specs.Rows.RowTrees.{class_of, member_at, param_at, type_of};
+ghost use Rattle.rg_tree.specs.Rows.RowsExist.{IsClassIn, IsNameIn, IsSpanBelow, IsTypeIn};
+ghost use Rattle.rg_tree.specs.Rows.Tables.{name_at, numbers_in};
 
 use crate::lines::{close_block, indent};
 use crate::names::{write_name, write_type};

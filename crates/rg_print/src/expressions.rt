@@ -2,8 +2,8 @@
 
 ghost use Rattle.std.specs.Prelude.{◌≡◌, ℕ, ◌<◌, ◌++◌, length, OnOk};
 ghost use Rattle.rg_tree.specs.Canonical.{expr_text, level, operand};
-ghost use Rattle.rg_tree.specs.RowTrees.{expr_at};
-ghost use Rattle.rg_tree.specs.RowsExist.{IsExprNumber};
+ghost use Rattle.rg_tree.specs.Rows.RowTrees.{expr_at};
+ghost use Rattle.rg_tree.specs.Rows.RowsExist.{IsExprNumber};
 
 use crate::names::write_path;
 use crate::words::{least_left, least_right, op_bytes, own_level};

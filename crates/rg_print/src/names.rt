@@ -2,9 +2,9 @@
 
 ghost use Rattle.std.specs.Prelude.{◌≡◌, ◌<◌, ◌++◌, length, OnOk};
 ghost use Rattle.rg_tree.specs.Canonical.{path_text, ty_text};
-ghost use Rattle.rg_tree.specs.RowTrees.{path_of, type_of};
-ghost use Rattle.rg_tree.specs.RowsExist.{IsNameIn, IsPathIn, IsTypeIn};
-ghost use Rattle.rg_tree.specs.Tables.{name_at};
+ghost use Rattle.rg_tree.specs.Rows.RowTrees.{path_of, type_of};
+ghost use Rattle.rg_tree.specs.Rows.RowsExist.{IsNameIn, IsPathIn, IsTypeIn};
+ghost use Rattle.rg_tree.specs.Rows.Tables.{name_at};
 
 use crate::words::cap_bytes;
 use rg_base::{ByteList, Memory};

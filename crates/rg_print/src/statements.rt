@@ -2,9 +2,9 @@
 
 ghost use Rattle.std.specs.Prelude.{◌≡◌, ℕ, ◌<◌, suc, [], ◌∷◌, ◌++◌, codes, length, OnOk, IfSome};
 ghost use Rattle.rg_tree.specs.Canonical.{block_text, else_text, expr_text, line_of, path_text, right_text, stmt_text, ty_text};
-ghost use Rattle.rg_tree.specs.RowTrees.{block_of, else_over, expr_at, path_of, right_of, stmt_at, type_of};
-ghost use Rattle.rg_tree.specs.RowsExist.{IsBlockIn, IsExprNumber, IsNameIn, IsPathIn, IsRightIn, IsSpanBelow, IsTypeIn};
-ghost use Rattle.rg_tree.specs.Tables.{name_at};
+ghost use Rattle.rg_tree.specs.Rows.RowTrees.{block_of, else_over, expr_at, path_of, right_of, stmt_at, type_of};
+ghost use Rattle.rg_tree.specs.Rows.RowsExist.{IsBlockIn, IsExprNumber, IsNameIn, IsPathIn, IsRightIn, IsSpanBelow, IsTypeIn};
+ghost use Rattle.rg_tree.specs.Rows.Tables.{name_at};
 
 use crate::calls::{write_call, write_right};
 use crate::expressions::write_expr;

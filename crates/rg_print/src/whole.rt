@@ -2,7 +2,7 @@
 
 ghost use Rattle.std.specs.Prelude.{◌≡◌, ◌++◌, flat_map, IfOk, OnOk};
 ghost use Rattle.rg_tree.specs.Canonical.{canon, class_text};
-ghost use Rattle.rg_tree.specs.RowTrees.{classes_of, program_of};
+ghost use Rattle.rg_tree.specs.Rows.RowTrees.{classes_of, program_of};
 
 use crate::classes::write_class;
 use crate::lines::close_block;

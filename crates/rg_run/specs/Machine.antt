@@ -1,7 +1,7 @@
 -- What a machine keeps, and when it shows a state of the machine that never frees.
 use Rattle.std.specs.Prelude.{◌≡◌, ℕ, Bool, true, false, List, length}
 use Rattle.rg_base.specs.declared.outcome.EndNumbers.{EndNumbers}
-use Rattle.rg_tree.specs.Tables.{Tables}
+use Rattle.rg_tree.specs.Rows.Tables.{Tables}
 use Rattle.rg_rules.specs.State.{State}
 use Rattle.rg_plain.specs.Machine.{Machine, fresh, state_of}
 

@@ -2,8 +2,8 @@
 use Rattle.std.specs.Prelude.{◌≡◌, ◌⊎◌, ℕ, true, List, Option}
 use Rattle.rg_base.specs.declared.outcome.Ended.{Ended}
 use Rattle.rg_base.specs.declared.outcome.Ended.TheVariants as ended
-use Rattle.rg_tree.specs.Tables.{Tables}
-use Rattle.rg_tree.specs.RowTrees.{program_of}
+use Rattle.rg_tree.specs.Rows.Tables.{Tables}
+use Rattle.rg_tree.specs.Rows.RowTrees.{program_of}
 use Rattle.rg_rules.specs.Runs.{opening}
 use Rattle.rg_plain.specs.Runs.{RunIs}
 use Rattle.rg_run.specs.Machine.{Kept, IsFresh}

@@ -5,8 +5,8 @@ use Rattle.rg_base.specs.declared.fault.Stop.{Stop}
 use Rattle.rg_base.specs.declared.token.Token.{Token}
 use Rattle.rg_base.specs.Tokens.{cut, end_line}
 use Rattle.rg_tree.specs.Tree.{Tree}
-use Rattle.rg_tree.specs.Tables.{Tables}
-use Rattle.rg_tree.specs.RowTrees.{program_of}
+use Rattle.rg_tree.specs.Rows.Tables.{Tables}
+use Rattle.rg_tree.specs.Rows.RowTrees.{program_of}
 use Rattle.rg_tree.specs.Grammar.{Spells}
 use Rattle.rg_tree.specs.Stuck.{Stuck, fault_at}
 use Rattle.rg_tree.proofs.Unique.{one-tree}

@@ -5,8 +5,8 @@ use Rattle.rg_base.specs.declared.fault.Fault.{Fault}
 use Rattle.rg_base.specs.Text.{text}
 use Rattle.rg_io.specs.Content.{Appends, AppendsPart}
 use Rattle.rg_tree.specs.Tree.{Tree}
-use Rattle.rg_tree.specs.Tables.{Tables}
-use Rattle.rg_tree.specs.RowTrees.{program_of, classes_of}
+use Rattle.rg_tree.specs.Rows.Tables.{Tables}
+use Rattle.rg_tree.specs.Rows.RowTrees.{program_of, classes_of}
 use Rattle.rg_rules.specs.Acceptance.{first_fault}
 use Rattle.rg_rules.specs.State.{State}
 use Rattle.rg_rules.specs.Runs.{opening}

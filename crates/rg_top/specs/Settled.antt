@@ -6,8 +6,8 @@ use Rattle.rg_base.specs.declared.outcome.Ended.TheVariants as ended
 use Rattle.rg_io.specs.Content.{Appends}
 use Rattle.rg_io.specs.Files.{Told, HasFile}
 use Rattle.rg_tree.specs.Tree.{Tree}
-use Rattle.rg_tree.specs.Tables.{Tables}
-use Rattle.rg_tree.specs.RowTrees.{program_of}
+use Rattle.rg_tree.specs.Rows.Tables.{Tables}
+use Rattle.rg_tree.specs.Rows.RowTrees.{program_of}
 use Rattle.rg_tree.specs.Canonical.{canon}
 use Rattle.rg_tree.specs.Laws.{ParsesBack}
 use Rattle.rg_rules.specs.Acceptance.{first_fault}

@@ -10,8 +10,8 @@ use Rattle.rg_tree.specs.declared.rows.StmtKind.TheVariants as kind_row
 use Rattle.rg_tree.specs.declared.rows.ExprRow.TheVariants as expr_row
 use Rattle.rg_tree.specs.declared.rows.Span.{Span}
 use Rattle.rg_tree.specs.declared.rows.Path.{Path}
-use Rattle.rg_tree.specs.Tables.{Tables}
-use Rattle.rg_tree.specs.RowTrees.{exprs_of, stmts_of, params_of, members_of, classes_of, program_of}
+use Rattle.rg_tree.specs.Rows.Tables.{Tables}
+use Rattle.rg_tree.specs.Rows.RowTrees.{exprs_of, stmts_of, params_of, members_of, classes_of, program_of}
 use Rattle.rg_tree.specs.Canonical.{canon}
 use Rattle.std.specs.Fmt.{digits}
 use Rattle.rg_tree.proofs.Texts.{lines}

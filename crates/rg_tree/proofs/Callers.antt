@@ -4,11 +4,11 @@ use Rattle.std.proofs.lemmas.Bool.{cases_order}
 use Rattle.std.proofs.lemmas.List.{length_push}
 use Rattle.std.proofs.lemmas.List.Elements.{All-nil, All-cons, All-head, All-tail}
 use Rattle.rg_tree.specs.declared.rows.Span.{Span}
-use Rattle.rg_tree.specs.Tables.{Tables, name_at, AreDistinct}
-use Rattle.rg_tree.specs.RowTrees.{exprs_of, expr_at, stmts_of, stmt_at, params_of, param_at, no_param, members_of, member_at, no_member, classes_of, no_stmt, block_of}
+use Rattle.rg_tree.specs.Rows.Tables.{Tables, name_at, AreDistinct}
+use Rattle.rg_tree.specs.Rows.RowTrees.{exprs_of, expr_at, stmts_of, stmt_at, params_of, param_at, no_param, members_of, member_at, no_member, classes_of, no_stmt, block_of}
 use Rattle.rg_tree.specs.Tree.{nil}
-use Rattle.rg_tree.specs.RowsExist.{Holds, IsSpanBelow, IsBlockIn}
-use Rattle.rg_tree.specs.Keeps.{Keeps}
+use Rattle.rg_tree.specs.Rows.RowsExist.{Holds, IsSpanBelow, IsBlockIn}
+use Rattle.rg_tree.specs.Inner.Keeps.{Keeps}
 use Rattle.rg_tree.proofs.TreesFrom.{Begins-same, Begins-trans, length-Begins, get_or-Begins}
 use Rattle.rg_tree.proofs.Grows.{IsAbove, AgreeBelow, numbers_in-grows, block_of-grows}
 use Rattle.rg_tree.proofs.Programs.{length-exprs_of, length-stmts_of, length-params_of, length-members_of}

@@ -20,10 +20,10 @@ use Rattle.rg_tree.specs.declared.rows.StmtRow.{StmtRow}
 use Rattle.rg_tree.specs.declared.rows.ExprRow.{ExprRow}
 use Rattle.rg_tree.specs.declared.rows.ExprRow.TheVariants as expr_row
 use Rattle.rg_tree.specs.Tree.{Expr, path, is_nil, neg, not, ref, value, new, new_tmp, new_iso, freeze, merge, result_of, Stmt, stmt, call, print, return, otherwise}
-use Rattle.rg_tree.specs.Tables.{Tables, name_at, numbers_in}
-use Rattle.rg_tree.specs.RowTrees.{path_of, type_of, expr_over, expr_at, call_of, right_of, block_over, else_over, kind_over, stmt_over, stmt_at, block_of, param_of, param_at, member_of, member_at, class_of}
-use Rattle.rg_tree.specs.RowsExist.{IsWithin, IsSpanBelow, IsNameIn, IsPathIn, IsTypeIn, IsExprIn, IsCallIn, IsRightIn, IsKindIn, IsStmtIn, IsBlockIn, IsParamIn, IsMemberIn, IsClassIn}
-use Rattle.rg_tree.specs.Keeps.{Begins}
+use Rattle.rg_tree.specs.Rows.Tables.{Tables, name_at, numbers_in}
+use Rattle.rg_tree.specs.Rows.RowTrees.{path_of, type_of, expr_over, expr_at, call_of, right_of, block_over, else_over, kind_over, stmt_over, stmt_at, block_of, param_of, param_at, member_of, member_at, class_of}
+use Rattle.rg_tree.specs.Rows.RowsExist.{IsWithin, IsSpanBelow, IsNameIn, IsPathIn, IsTypeIn, IsExprIn, IsCallIn, IsRightIn, IsKindIn, IsStmtIn, IsBlockIn, IsParamIn, IsMemberIn, IsClassIn}
+use Rattle.rg_tree.specs.Inner.Keeps.{Begins}
 use Rattle.rg_tree.proofs.TreesFrom.{length-Begins, get_or-Begins}
 
 -- each table begins with the older one

@@ -11,10 +11,10 @@ use Rattle.rg_tree.specs.declared.rows.ParamRow.{ParamRow}
 use Rattle.rg_tree.specs.declared.rows.StmtRow.{StmtRow}
 use Rattle.rg_tree.specs.declared.rows.ExprRow.{ExprRow}
 use Rattle.rg_tree.specs.Tree.{Name, nil}
-use Rattle.rg_tree.specs.Tables.{Tables, at_first, number_of, with_name}
-use Rattle.rg_tree.specs.RowTrees.{expr_over, exprs_of, expr_at, expr_of, stmt_over, stmts_of, stmt_at, stmt_of, no_stmt, block_of, param_of, params_of, param_at, no_param, member_of, members_of, member_at, no_member, class_of, classes_of, no_program, program_of}
-use Rattle.rg_tree.specs.RowsExist.{IsExprIn, IsStmtIn, IsBlockIn, IsParamIn, IsMemberIn, IsClassIn, EachRow, AreRows}
-use Rattle.rg_tree.specs.Keeps.{Begins, Keeps}
+use Rattle.rg_tree.specs.Rows.Tables.{Tables, at_first, number_of, with_name}
+use Rattle.rg_tree.specs.Rows.RowTrees.{expr_over, exprs_of, expr_at, expr_of, stmt_over, stmts_of, stmt_at, stmt_of, no_stmt, block_of, param_of, params_of, param_at, no_param, member_of, members_of, member_at, no_member, class_of, classes_of, no_program, program_of}
+use Rattle.rg_tree.specs.Rows.RowsExist.{IsExprIn, IsStmtIn, IsBlockIn, IsParamIn, IsMemberIn, IsClassIn, EachRow, AreRows}
+use Rattle.rg_tree.specs.Inner.Keeps.{Begins, Keeps}
 use Rattle.rg_tree.proofs.TreesFrom.{Begins-same, Begins-more, Begins-whole, get_or-Begins, EachFrom-EachRow, EachRow-push, slice_get-push, map-EachRow, map-Begins, get_or-map, length-trees_from, trees_from-at, trees_from-grows}
 use Rattle.rg_tree.proofs.Grows.{Grows, IsAbove-Grows, AgreeBelow, IsExprIn-grows, IsKindIn-grows, IsBlockIn-grows, IsParamIn-grows, IsMemberIn-grows, IsClassIn-grows, expr_over-grows, stmt_over-grows, param_of-grows, member_of-grows, class_of-grows, block_of-grows}
 use Rattle.rg_tree.proofs.NameLemmas.{AreDistinct-with_name}

@@ -1,7 +1,7 @@
 //! The table of names: each name once, with the numbers in the order in which they came.
 
 ghost use Rattle.std.specs.Prelude.{◌≡◌, ◌<◌, [], ◌∷◌, ◌++◌, length, None, Some, IfOk, IsOk, IsSome, OnOk, OnErr, slice_get};
-ghost use Rattle.rg_tree.specs.Tables.{number_of, with_name};
+ghost use Rattle.rg_tree.specs.Rows.Tables.{number_of, with_name};
 
 use crate::table::row_number;
 use indexmap::IndexSet;

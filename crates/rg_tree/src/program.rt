@@ -32,12 +32,12 @@ pub struct Program {
 }
 
 impl Model for Program {
-    ghost use Rattle.rg_tree.specs.Tables.{Tables};
+    ghost use Rattle.rg_tree.specs.Rows.Tables.{Tables};
 
     ghost Value = { Tables };
 
-    ghost use Rattle.rg_tree.specs.RowsExist.{AreRows};
-    ghost use Rattle.rg_tree.specs.Seen.{tables_of};
+    ghost use Rattle.rg_tree.specs.Rows.RowsExist.{AreRows};
+    ghost use Rattle.rg_tree.specs.Inner.Seen.{tables_of};
 
     ghost view = { tables_of };
 
@@ -45,8 +45,8 @@ impl Model for Program {
 }
 
 impl Program {
-    ghost use Rattle.rg_tree.specs.Tables.{at_first};
-    ghost use Rattle.rg_tree.specs.RowTrees.{program_of, no_program};
+    ghost use Rattle.rg_tree.specs.Rows.Tables.{at_first};
+    ghost use Rattle.rg_tree.specs.Rows.RowTrees.{program_of, no_program};
 
     /// The program without classes whose main is an empty arena block at line 1.
     pub fn new(alloc: Global) -> Program

@@ -7,9 +7,9 @@ use Rattle.rg_base.specs.declared.fault.Code.{Code}
 use Rattle.rg_base.specs.declared.fault.Stop.{Stop}
 use Rattle.rg_base.specs.declared.fault.Stop.TheVariants.{Fault, Memory}
 use Rattle.rg_tree.specs.declared.rows.Span.{Span}
-use Rattle.rg_tree.specs.Tables.{Tables}
+use Rattle.rg_tree.specs.Rows.Tables.{Tables}
 use Rattle.rg_tree.specs.Tree.{Class, Right, Stmt, Block, empty as none, then as next}
-use Rattle.rg_tree.specs.RowTrees.{block_of, block_over, stmt_at, program_of}
+use Rattle.rg_tree.specs.Rows.RowTrees.{block_of, block_over, stmt_at, program_of}
 use Rattle.rg_rules.specs.Answers.{◌>>=◌, Lined}
 use Rattle.rg_rules.specs.Names.{block_names, stmt_names}
 use Rattle.rg_rules.specs.Environment.{Env}

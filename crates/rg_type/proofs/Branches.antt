@@ -4,7 +4,7 @@ use Rattle.rg_base.specs.declared.ty.Ty.{Ty}
 use Rattle.rg_base.specs.declared.fault.Code.TheVariants.{Loop}
 use Rattle.rg_base.specs.declared.fault.Stop.{Stop}
 use Rattle.rg_base.specs.declared.fault.Stop.TheVariants as stop
-use Rattle.rg_tree.specs.Tables.{Tables}
+use Rattle.rg_tree.specs.Rows.Tables.{Tables}
 use Rattle.rg_tree.specs.Tree.{Name, Variable, Path, Class, Expr, branch, while, enter, Block, Else}
 use Rattle.rg_rules.specs.Answers.{at_line}
 use Rattle.rg_rules.specs.Names.{block_names, else_names}
@@ -14,7 +14,7 @@ use Rattle.rg_rules.proofs.AnswersLemmas.{at_line-ok}
 use Rattle.rg_flow.specs.Flows.{state_of}
 use Rattle.rg_names.specs.Judged.{FailsAs}
 use Rattle.rg_type.specs.Scope.{Slot, Scope, closed_at, env_of}
-use Rattle.rg_type.specs.States.{state_at, IsSaved, restated, joined_with, CoversStates}
+use Rattle.rg_type.specs.Inner.States.{state_at, IsSaved, restated, joined_with, CoversStates}
 use Rattle.rg_type.specs.declared.saved.Saved.{Saved}
 use Rattle.rg_type.proofs.Alike.{Begin, Begin-trans, Begin-take, length-Begin}
 use Rattle.rg_type.proofs.StatementEnvs.{judge_test-grows, judge_enter-grows, judge_block-grows, judge_else-grows}

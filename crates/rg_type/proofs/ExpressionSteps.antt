@@ -6,7 +6,7 @@ use Rattle.rg_tree.specs.declared.rows.BinOp.{BinOp}
 use Rattle.rg_tree.specs.Tree.{Expr, binary, Class}
 use Rattle.rg_rules.specs.Environment.{Env}
 use Rattle.rg_rules.specs.Expressions.{Operators, among, operand_type, agree, result_type, against, judge_expr}
-use Rattle.rg_type.specs.Changing.{TypedAs}
+use Rattle.rg_type.specs.Inner.Changing.{TypedAs}
 
 -- both operands have a type, and they may stand together
 pub record Operands (classes : List Class) (env : Env) (o : Operators) (a b : Expr) (mid last : Env) (l r : Ty) : Type 0 where

@@ -4,8 +4,8 @@ use Rattle.rg_rules.specs.Environment.{Readiness, ready, gone, lent, joined_read
 use Rattle.rg_flow.specs.declared.flow.Flow.{Flow}
 use Rattle.rg_flow.specs.Flows.{state_of}
 use Rattle.rg_type.specs.Scope.{Slot, same_name, marked_slot}
-use Rattle.rg_type.specs.States.{state_at, slot_of, restated_from, joined_from}
-use Rattle.rg_type.specs.Layout.{slots_from, place_in, names_at, ready_slot}
+use Rattle.rg_type.specs.Inner.States.{state_at, slot_of, restated_from, joined_from}
+use Rattle.rg_type.specs.Inner.Layout.{slots_from, place_in, names_at, ready_slot}
 use Rattle.rg_type.specs.declared.var.Var.{Var}
 
 -- how many variables there are

@@ -4,7 +4,7 @@ use Rattle.std.specs.Prelude.{Result, Ok, Err, OnOk, OnErr}
 use Rattle.std.specs.Map.{lookup}
 use Rattle.rg_base.specs.declared.fault.Memory.{Memory}
 use Rattle.rg_type.specs.Scope.{same_name}
-use Rattle.rg_type.specs.Layout.{place_in, AreNoted}
+use Rattle.rg_type.specs.Inner.Layout.{place_in, AreNoted}
 use Rattle.rg_type.specs.declared.var.Var.{Var}
 use Rattle.rg_type.proofs.NameTests.{same-eq}
 

@@ -10,8 +10,8 @@ use Rattle.rg_base.specs.declared.ty.Ty.TheVariants.{Int, Bool, Ref}
 use Rattle.rg_base.specs.declared.fault.Code.{Code}
 use Rattle.rg_base.specs.declared.fault.Code.TheVariants.{Unknown, Mismatch, Capability, Arity}
 use Rattle.rg_tree.specs.Tree.{Name, ref, Call, Method, Param, Class}
-use Rattle.rg_tree.specs.Tables.{Tables, name_at, numbers_in}
-use Rattle.rg_tree.specs.RowTrees.{call_of, classes_of, param_at, expr_at}
+use Rattle.rg_tree.specs.Rows.Tables.{Tables, name_at, numbers_in}
+use Rattle.rg_tree.specs.Rows.RowTrees.{call_of, classes_of, param_at, expr_at}
 use Rattle.rg_tree.specs.declared.rows.CallRow.{CallRow}
 use Rattle.rg_rules.specs.Answers.{◌>>=◌, ◌>>◌, test, Answer}
 use Rattle.rg_rules.specs.Capabilities.{below, iso_class}
@@ -26,8 +26,8 @@ use Rattle.rg_names.specs.TableOf.{IsTableOf}
 use Rattle.rg_names.specs.TreeAnswers.{IsKnown, MethodIs}
 use Rattle.rg_names.proofs.Callers.{IsClass-tree, MethodIs-param}
 use Rattle.rg_type.specs.Scope.{Scope, env_of, IsScopeIn}
-use Rattle.rg_type.specs.Changing.{TypedAs}
-use Rattle.rg_type.specs.Calls.{LeadsAs, method_behind, IsParamNumber, IsSigOf, SigAs}
+use Rattle.rg_type.specs.Inner.Changing.{TypedAs}
+use Rattle.rg_type.specs.Inner.Calls.{LeadsAs, method_behind, IsParamNumber, IsSigOf, SigAs}
 
 -- `new C` and the like: the class is good
 pub TypedAs-new : (classes : List Class) (wanted ty : Ty) (cap : Cap) (x : Name) (r : Result Ty Code) → Ok ty ≡ good_type classes (ref cap x) →

@@ -5,16 +5,16 @@ use Rattle.rg_base.specs.declared.fault.Stop.{Stop}
 use Rattle.rg_base.specs.declared.fault.Stop.TheVariants as stop
 use Rattle.rg_tree.specs.declared.rows.Span.{Span}
 use Rattle.rg_tree.specs.declared.rows.Path.{Path}
-use Rattle.rg_tree.specs.Tables.{Tables, name_at}
+use Rattle.rg_tree.specs.Rows.Tables.{Tables, name_at}
 use Rattle.rg_tree.specs.Tree.{Else, StmtKind, branch, while, enter}
-use Rattle.rg_tree.specs.RowTrees.{path_of, expr_at, stmt_at, else_over, block_of, program_of}
+use Rattle.rg_tree.specs.Rows.RowTrees.{path_of, expr_at, stmt_at, else_over, block_of, program_of}
 use Rattle.rg_rules.specs.Answers.{at_line}
 use Rattle.rg_rules.specs.Names.{block_names, else_names}
 use Rattle.rg_rules.specs.Environment.{Env}
 use Rattle.rg_rules.specs.Statements.{judge_test, judge_enter, left, judge_kind, judge_block, judge_else}
 use Rattle.rg_names.specs.Judged.{FailsAs}
 use Rattle.rg_type.specs.Scope.{Scope, closed_at, env_of}
-use Rattle.rg_type.specs.States.{IsSaved, restated, joined_with, CoversStates}
+use Rattle.rg_type.specs.Inner.States.{IsSaved, restated, joined_with, CoversStates}
 use Rattle.rg_type.specs.declared.saved.Saved.{Saved}
 use Rattle.rg_type.proofs.Branches.{behind-test, behind-block, behind-else, behind-enter, behind-both, Closed, close-block, Restored, restore-front, choice-env, branch-judged, branch-fails-test, branch-fails-first, branch-fails-other, repeat-uncovered, repeat-covered, while-judged, while-fails-test, while-fails-body, while-fails, enter-judged, enter-fails, enter-fails-body}
 

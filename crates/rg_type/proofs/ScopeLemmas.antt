@@ -10,14 +10,14 @@ use Rattle.rg_base.specs.declared.ty.Ty.{Ty}
 use Rattle.rg_base.specs.declared.fault.Code.{Code}
 use Rattle.rg_base.specs.declared.fault.Code.TheVariants.{Unknown}
 use Rattle.rg_tree.specs.Tree.{Name}
-use Rattle.rg_tree.specs.Tables.{Tables, name_at, AreDistinct}
-use Rattle.rg_tree.specs.RowTrees.{program_of}
-use Rattle.rg_tree.specs.RowsExist.{IsNameIn}
+use Rattle.rg_tree.specs.Rows.Tables.{Tables, name_at, AreDistinct}
+use Rattle.rg_tree.specs.Rows.RowTrees.{program_of}
+use Rattle.rg_tree.specs.Rows.RowsExist.{IsNameIn}
 use Rattle.rg_tree.proofs.Callers.{name_at-injective}
 use Rattle.rg_rules.specs.Environment as rules
 use Rattle.rg_names.specs.TreeAnswers.{IsKnown}
 use Rattle.rg_type.specs.Scope.{Slot, Scope, same_name, pushed, marked_slot, marked, entered, closed_at, variable_of, entry_of, env_of, IsSlotIn, IsScopeIn}
-use Rattle.rg_type.specs.States.{readiness_of, slot_of, FoundAs, FoundInTree}
+use Rattle.rg_type.specs.Inner.States.{readiness_of, slot_of, FoundAs, FoundInTree}
 use Rattle.rg_type.specs.declared.found.Found.{Found}
 use Rattle.rg_type.proofs.NameTests.{same-eq}
 

@@ -2,7 +2,7 @@
 use Rattle.std.specs.Prelude.{◌≡◌, ℕ, Result, Ok, Err}
 use Rattle.rg_base.specs.declared.fault.Stop.{Stop}
 use Rattle.rg_base.specs.declared.fault.Stop.TheVariants.{Fault, Memory}
-use Rattle.rg_tree.specs.Tables.{Tables}
+use Rattle.rg_tree.specs.Rows.Tables.{Tables}
 use Rattle.rg_rules.specs.Answers.{Answer, Lined}
 use Rattle.rg_rules.specs.Environment.{Env}
 use Rattle.rg_rules.specs.Expressions as rules

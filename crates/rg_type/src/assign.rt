@@ -2,15 +2,15 @@
 
 ghost use Rattle.std.specs.Prelude.{◌≡◌, ◌+◌, ◌<◌, ◌≤◌, length, [], OnOk, IfOk, IfSome};
 ghost use Rattle.rg_base.specs.declared.limits.TheConstants.{BODY_NAMES};
-ghost use Rattle.rg_tree.specs.Tables.{name_at};
-ghost use Rattle.rg_tree.specs.RowTrees.{path_of, program_of, right_of, type_of};
-ghost use Rattle.rg_tree.specs.RowsExist.{IsNameIn, IsPathIn, IsRightIn, IsTypeIn};
+ghost use Rattle.rg_tree.specs.Rows.Tables.{name_at};
+ghost use Rattle.rg_tree.specs.Rows.RowTrees.{path_of, program_of, right_of, type_of};
+ghost use Rattle.rg_tree.specs.Rows.RowsExist.{IsNameIn, IsPathIn, IsRightIn, IsTypeIn};
 ghost use Rattle.rg_rules.specs.Answers.{at_line};
 ghost use Rattle.rg_rules.specs.Statements as rules;
 ghost use Rattle.rg_names.specs.TableOf.{IsTableOf};
 ghost use Rattle.rg_names.specs.TreeAnswers.{IsKnown};
 ghost use Rattle.rg_type.specs.Scope.{env_of, variable_of, IsScopeIn};
-ghost use Rattle.rg_type.specs.Changing.{DeclaredAs, DoneAs, HasField, LeavesAs};
+ghost use Rattle.rg_type.specs.Inner.Changing.{DeclaredAs, DoneAs, HasField, LeavesAs};
 
 use crate::env::Env;
 use crate::kinds::{is_call, is_iso, is_lent, is_ready, is_same_type, stays_at_depth};

@@ -2,15 +2,15 @@
 
 ghost use Rattle.std.specs.Prelude.{◌≡◌, ℕ, ◌==◌, ◌<◌, ◌≤◌, ◌↔◌, if◌then◌else◌, IsTrue, length, option_map, IfOk, OnOk, OnErr, IfSome};
 ghost use Rattle.rg_base.specs.declared.limits.TheConstants.{BODY_NAMES};
-ghost use Rattle.rg_tree.specs.Tables.{Tables, name_at, AreDistinct};
-ghost use Rattle.rg_tree.specs.RowsExist.{IsNameIn};
+ghost use Rattle.rg_tree.specs.Rows.Tables.{Tables, name_at, AreDistinct};
+ghost use Rattle.rg_tree.specs.Rows.RowsExist.{IsNameIn};
 ghost use Rattle.rg_rules.specs.Capabilities as rules;
 ghost use Rattle.rg_rules.specs.Environment.{with_variable, gone};
 ghost use Rattle.rg_rules.specs.Environment as env;
 ghost use Rattle.rg_flow.specs.Flows.{state_of};
 ghost use Rattle.rg_type.specs.Scope.{no_variables, pushed, marked, entered, closed_at, variable_of, env_of, IsScopeIn};
-ghost use Rattle.rg_type.specs.States.{readiness_of, slot_of, FoundAs, FoundInTree, IsSaved, restated, joined_with, CoversStates};
-ghost use Rattle.rg_type.specs.Layout.{with_slot, ready_slot};
+ghost use Rattle.rg_type.specs.Inner.States.{readiness_of, slot_of, FoundAs, FoundInTree, IsSaved, restated, joined_with, CoversStates};
+ghost use Rattle.rg_type.specs.Inner.Layout.{with_slot, ready_slot};
 
 use crate::found::{Found, found_at};
 use crate::places::{Places, note_last, place_of};
@@ -36,7 +36,7 @@ pub struct Env {
 
 impl Model for Env {
     ghost use Rattle.rg_type.specs.Scope.{Scope};
-    ghost use Rattle.rg_type.specs.Layout.{scope_of, IsKept};
+    ghost use Rattle.rg_type.specs.Inner.Layout.{scope_of, IsKept};
 
     ghost Value = { Scope };
 

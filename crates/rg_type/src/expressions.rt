@@ -1,14 +1,14 @@
 //! Expressions (docs/language.md, "Judgements").
 
 ghost use Rattle.std.specs.Prelude.{◌≡◌, IfOk, IfSome, List, OnOk};
-ghost use Rattle.rg_tree.specs.RowTrees.{expr_at, program_of};
-ghost use Rattle.rg_tree.specs.RowsExist.{IsExprNumber};
+ghost use Rattle.rg_tree.specs.Rows.RowTrees.{expr_at, program_of};
+ghost use Rattle.rg_tree.specs.Rows.RowsExist.{IsExprNumber};
 ghost use Rattle.rg_tree.specs.Tree.{binary, Class};
 ghost use Rattle.rg_rules.specs.Environment.{Env as Variables};
 ghost use Rattle.rg_rules.specs.Expressions as rules;
 ghost use Rattle.rg_names.specs.TableOf.{IsTableOf};
 ghost use Rattle.rg_names.specs.TreeAnswers.{IsKnown};
-ghost use Rattle.rg_type.specs.Changing.{TypedAs};
+ghost use Rattle.rg_type.specs.Inner.Changing.{TypedAs};
 ghost use Rattle.rg_type.specs.Judging.{ExprJudgedAs};
 ghost use Rattle.rg_type.specs.Scope.{env_of, IsScopeIn};
 

@@ -1,7 +1,7 @@
 //! What is found of a variable.
 
 ghost use Rattle.std.specs.Prelude.{◌<◌, ◌≤◌, length};
-ghost use Rattle.rg_type.specs.Layout.{IsFoundAt};
+ghost use Rattle.rg_type.specs.Inner.Layout.{IsFoundAt};
 
 use crate::state::{State, read_state};
 use crate::var::Var;

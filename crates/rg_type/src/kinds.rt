@@ -1,14 +1,14 @@
 //! What statements ask of a type, a state and a right side (docs/language.md, "Judgements").
 
 ghost use Rattle.std.specs.Prelude.{◌≡◌, ◌<◌, List, length, IfSome};
-ghost use Rattle.rg_tree.specs.Tables.{Tables};
-ghost use Rattle.rg_tree.specs.RowTrees.{right_of};
+ghost use Rattle.rg_tree.specs.Rows.Tables.{Tables};
+ghost use Rattle.rg_tree.specs.Rows.RowTrees.{right_of};
 ghost use Rattle.rg_tree.specs.Tree.{Class};
 ghost use Rattle.rg_rules.specs.Capabilities as tables;
 ghost use Rattle.rg_rules.specs.Environment as states;
 ghost use Rattle.rg_rules.specs.Statements as rules;
 ghost use Rattle.rg_names.specs.TreeAnswers.{IsKnown};
-ghost use Rattle.rg_type.specs.States.{readiness_of};
+ghost use Rattle.rg_type.specs.Inner.States.{readiness_of};
 
 use crate::state::State;
 use rg_base::{Cap, Ty};

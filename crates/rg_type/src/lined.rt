@@ -3,7 +3,7 @@
 ghost use Rattle.std.specs.Prelude.{◌≡◌, OnOk};
 ghost use Rattle.rg_rules.specs.Answers.{Answer, at_line};
 ghost use Rattle.rg_rules.specs.Environment.{Env};
-ghost use Rattle.rg_type.specs.Changing.{DoneAs, LeavesAs};
+ghost use Rattle.rg_type.specs.Inner.Changing.{DoneAs, LeavesAs};
 
 use rg_base::{Code, Fault, Stop};
 

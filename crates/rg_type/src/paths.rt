@@ -1,17 +1,17 @@
 //! Walks of paths: from a variable through fields (docs/language.md, "Judgements").
 
 ghost use Rattle.std.specs.Prelude.{◌≡◌, ◌<◌, ◌==◌, ◌++◌, ◌∷◌, [], if◌then◌else◌, List, All, length, map, IfOk, IfSome};
-ghost use Rattle.rg_tree.specs.Tables.{name_at};
+ghost use Rattle.rg_tree.specs.Rows.Tables.{name_at};
 ghost use Rattle.rg_tree.specs.Tree.{Class};
-ghost use Rattle.rg_tree.specs.RowTrees.{path_of, program_of};
-ghost use Rattle.rg_tree.specs.RowsExist.{IsNameIn, IsPathIn};
+ghost use Rattle.rg_tree.specs.Rows.RowTrees.{path_of, program_of};
+ghost use Rattle.rg_tree.specs.Rows.RowsExist.{IsNameIn, IsPathIn};
 ghost use Rattle.rg_rules.specs.Capabilities as tables;
 ghost use Rattle.rg_rules.specs.Paths as rules;
 ghost use Rattle.rg_rules.specs.Statements as statements;
 ghost use Rattle.rg_names.specs.TableOf.{IsTableOf};
 ghost use Rattle.rg_names.specs.TreeAnswers.{IsKnown};
 ghost use Rattle.rg_type.specs.Scope.{env_of, variable_of, IsScopeIn};
-ghost use Rattle.rg_type.specs.Walks.{followed_of, looked_of};
+ghost use Rattle.rg_type.specs.Inner.Walks.{followed_of, looked_of};
 
 use crate::env::Env;
 use crate::followed::Followed;

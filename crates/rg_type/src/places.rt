@@ -3,7 +3,7 @@
 ghost use Rattle.std.specs.Prelude.{◌≡◌, ℕ, ◌<◌, ◌≤◌, Option, [], ◌∷◌, ◌++◌, length, if◌then◌else◌, IfSome, OnOk, OnErr};
 ghost use Rattle.std.specs.Map.{lookup};
 ghost use Rattle.rg_type.specs.Scope.{same_name};
-ghost use Rattle.rg_type.specs.Layout.{place_in, AreNoted};
+ghost use Rattle.rg_type.specs.Inner.Layout.{place_in, AreNoted};
 ghost use Rattle.rg_type.specs.declared.var.Var.{Var};
 
 use crate::var::Var;

@@ -1,17 +1,17 @@
 //! Right sides and calls (docs/language.md, "Judgements").
 
 ghost use Rattle.std.specs.Prelude.{◌≡◌, All, map, IfOk, IfSome, OnOk, Some, length};
-ghost use Rattle.rg_tree.specs.Tables.{name_at};
-ghost use Rattle.rg_tree.specs.RowTrees.{call_of, expr_at, param_at, program_of, right_of};
-ghost use Rattle.rg_tree.specs.RowsExist.{IsCallIn, IsExprNumber, IsNameIn, IsRightIn};
+ghost use Rattle.rg_tree.specs.Rows.Tables.{name_at};
+ghost use Rattle.rg_tree.specs.Rows.RowTrees.{call_of, expr_at, param_at, program_of, right_of};
+ghost use Rattle.rg_tree.specs.Rows.RowsExist.{IsCallIn, IsExprNumber, IsNameIn, IsRightIn};
 ghost use Rattle.rg_rules.specs.Types.{type_of};
 ghost use Rattle.rg_rules.specs.Environment.{Env as Variables};
 ghost use Rattle.rg_rules.specs.Rights as rules;
 ghost use Rattle.rg_names.specs.TableOf.{IsTableOf};
 ghost use Rattle.rg_names.specs.TreeAnswers.{IsKnown};
 ghost use Rattle.rg_type.specs.Scope.{env_of, IsScopeIn};
-ghost use Rattle.rg_type.specs.Changing.{CalledAs, DoneAs, TypedAs};
-ghost use Rattle.rg_type.specs.Calls.{method_behind, param_type, IsParamNumber, SigAs};
+ghost use Rattle.rg_type.specs.Inner.Changing.{CalledAs, DoneAs, TypedAs};
+ghost use Rattle.rg_type.specs.Inner.Calls.{method_behind, param_type, IsParamNumber, SigAs};
 
 use crate::env::Env;
 use crate::expressions::{against, expression};

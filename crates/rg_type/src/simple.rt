@@ -2,14 +2,14 @@
 //! (docs/language.md, "Judgements").
 
 ghost use Rattle.std.specs.Prelude.{◌≡◌, length, OnOk, IfSome};
-ghost use Rattle.rg_tree.specs.RowTrees.{call_of, expr_at, program_of};
-ghost use Rattle.rg_tree.specs.RowsExist.{IsCallIn, IsExprNumber};
+ghost use Rattle.rg_tree.specs.Rows.RowTrees.{call_of, expr_at, program_of};
+ghost use Rattle.rg_tree.specs.Rows.RowsExist.{IsCallIn, IsExprNumber};
 ghost use Rattle.rg_rules.specs.Answers.{at_line};
 ghost use Rattle.rg_rules.specs.Statements as rules;
 ghost use Rattle.rg_names.specs.TableOf.{IsTableOf};
 ghost use Rattle.rg_names.specs.TreeAnswers.{IsKnown};
 ghost use Rattle.rg_type.specs.Scope.{env_of, IsScopeIn};
-ghost use Rattle.rg_type.specs.Changing.{DoneAs, LeavesAs};
+ghost use Rattle.rg_type.specs.Inner.Changing.{DoneAs, LeavesAs};
 
 use crate::env::Env;
 use crate::expressions::expression;

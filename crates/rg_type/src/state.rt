@@ -3,8 +3,8 @@
 ghost use Rattle.std.specs.Prelude.{◌≡◌, ℕ, ◌<◌, ◌≤◌, ◌&&◌, nat_lt, not, if◌then◌else◌, length};
 ghost use Rattle.rg_rules.specs.Environment as env;
 ghost use Rattle.rg_flow.specs.Flows.{state_of, Sets};
-ghost use Rattle.rg_type.specs.States.{readiness_of};
-ghost use Rattle.rg_type.specs.Layout.{names_at};
+ghost use Rattle.rg_type.specs.Inner.States.{readiness_of};
+ghost use Rattle.rg_type.specs.Inner.Layout.{names_at};
 
 use crate::var::Var;
 use rg_flow::Flow;

@@ -3,16 +3,16 @@
 ghost use Rattle.std.specs.Prelude.{◌≡◌, ◌+◌, ◌<◌, ◌≤◌, suc, length, IfOk, IfSome, None, OnOk};
 ghost use Rattle.rg_base.specs.declared.limits.TheConstants.{BODY_NAMES};
 ghost use Rattle.rg_tree.specs.Tree.{branch, while, enter};
-ghost use Rattle.rg_tree.specs.Tables.{name_at};
-ghost use Rattle.rg_tree.specs.RowTrees.{block_of, else_over, expr_at, path_of, stmt_at, program_of};
-ghost use Rattle.rg_tree.specs.RowsExist.{IsBlockIn, IsExprNumber, IsNameIn, IsPathIn};
+ghost use Rattle.rg_tree.specs.Rows.Tables.{name_at};
+ghost use Rattle.rg_tree.specs.Rows.RowTrees.{block_of, else_over, expr_at, path_of, stmt_at, program_of};
+ghost use Rattle.rg_tree.specs.Rows.RowsExist.{IsBlockIn, IsExprNumber, IsNameIn, IsPathIn};
 ghost use Rattle.rg_rules.specs.Names.{block_names, else_names, stmt_names};
 ghost use Rattle.rg_rules.specs.Statements as rules;
 ghost use Rattle.rg_names.specs.TableOf.{IsTableOf};
 ghost use Rattle.rg_names.specs.TreeAnswers.{IsKnown};
 ghost use Rattle.rg_type.specs.Scope.{env_of, IsScopeIn};
 ghost use Rattle.rg_type.specs.Judging.{StmtJudgedAs};
-ghost use Rattle.rg_type.specs.Changing.{LeavesAs};
+ghost use Rattle.rg_type.specs.Inner.Changing.{LeavesAs};
 
 use crate::assign::{assign, declare, swap};
 use crate::enter::{enter, leave};

@@ -1,8 +1,8 @@
 //! Paths as values, and their tests for nil (docs/language.md, "Judgements").
 
 ghost use Rattle.std.specs.Prelude.{◌≡◌, ◌||◌, not as negated, [], IfOk, IfSome, OnOk};
-ghost use Rattle.rg_tree.specs.RowTrees.{path_of, program_of};
-ghost use Rattle.rg_tree.specs.RowsExist.{IsNameIn, IsPathIn};
+ghost use Rattle.rg_tree.specs.Rows.RowTrees.{path_of, program_of};
+ghost use Rattle.rg_tree.specs.Rows.RowsExist.{IsNameIn, IsPathIn};
 ghost use Rattle.rg_rules.specs.Capabilities as tables;
 ghost use Rattle.rg_base.specs.declared.fault.Code.TheVariants.{Mismatch};
 ghost use Rattle.rg_rules.specs.Answers.{test};
@@ -11,8 +11,8 @@ ghost use Rattle.rg_rules.specs.Expressions as rules;
 ghost use Rattle.rg_names.specs.TableOf.{IsTableOf};
 ghost use Rattle.rg_names.specs.TreeAnswers.{IsKnown};
 ghost use Rattle.rg_type.specs.Scope.{env_of, variable_of, IsScopeIn};
-ghost use Rattle.rg_type.specs.States.{readiness_of};
-ghost use Rattle.rg_type.specs.Changing.{HasField, TypedAs};
+ghost use Rattle.rg_type.specs.Inner.States.{readiness_of};
+ghost use Rattle.rg_type.specs.Inner.Changing.{HasField, TypedAs};
 
 use crate::env::Env;
 use crate::found::Found;

@@ -4,14 +4,14 @@
 ghost use Rattle.std.specs.Prelude.{◌≡◌, ◌<◌, length, true, ok_or, IfOk, IfSome, OnOk, OnErr};
 ghost use Rattle.rg_base.specs.declared.limits.TheConstants.{BODY_NAMES};
 ghost use Rattle.rg_base.specs.declared.fault.Code.TheVariants.{Unknown};
-ghost use Rattle.rg_tree.specs.Tables.{Tables, name_at};
-ghost use Rattle.rg_tree.specs.RowsExist.{IsNameIn};
-ghost use Rattle.rg_tree.specs.RowTrees.{program_of};
+ghost use Rattle.rg_tree.specs.Rows.Tables.{Tables, name_at};
+ghost use Rattle.rg_tree.specs.Rows.RowsExist.{IsNameIn};
+ghost use Rattle.rg_tree.specs.Rows.RowTrees.{program_of};
 ghost use Rattle.rg_rules.specs.Environment as rules;
 ghost use Rattle.rg_names.specs.TableOf.{IsTableOf};
 ghost use Rattle.rg_names.specs.TreeAnswers.{IsKnown};
 ghost use Rattle.rg_type.specs.Scope.{entered, env_of, pushed, variable_of, IsScopeIn};
-ghost use Rattle.rg_type.specs.States.{entry_found, readiness_of};
+ghost use Rattle.rg_type.specs.Inner.States.{entry_found, readiness_of};
 
 use crate::env::Env;
 use rg_base::{Memory, Stop, Ty};

@@ -8,10 +8,10 @@ use crate::table::{push_numbers, push_row};
 use rg_base::{Manager, Memory};
 
 impl Program {
-    ghost use Rattle.rg_tree.specs.Tables.{name_at, number_of, with_name};
-    ghost use Rattle.rg_tree.specs.RowTrees.{expr_at, expr_of, stmt_at, stmt_of, param_at, param_of, member_at, member_of, class_of, classes_of, block_of, program_of};
-    ghost use Rattle.rg_tree.specs.RowsExist.{Holds, IsBlockIn, IsExprIn, IsStmtIn, IsParamIn, IsMemberIn, IsClassIn};
-    ghost use Rattle.rg_tree.specs.Keeps.{Keeps};
+    ghost use Rattle.rg_tree.specs.Rows.Tables.{name_at, number_of, with_name};
+    ghost use Rattle.rg_tree.specs.Rows.RowTrees.{expr_at, expr_of, stmt_at, stmt_of, param_at, param_of, member_at, member_of, class_of, classes_of, block_of, program_of};
+    ghost use Rattle.rg_tree.specs.Rows.RowsExist.{Holds, IsBlockIn, IsExprIn, IsStmtIn, IsParamIn, IsMemberIn, IsClassIn};
+    ghost use Rattle.rg_tree.specs.Inner.Keeps.{Keeps};
 
     /// The number of a name: the same for equal bytes. A name that is there takes no memory.
     pub fn add_name(&mut self, bytes: &[u8]) -> Result<u32, Memory>

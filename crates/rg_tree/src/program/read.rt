@@ -8,9 +8,9 @@ use crate::table::row_at;
 use rg_base::Manager;
 
 impl Program {
-    ghost use Rattle.rg_tree.specs.Tables.{number_of, name_at, numbers_in};
-    ghost use Rattle.rg_tree.specs.RowTrees.{expr_at, expr_of, stmt_at, stmt_of, param_at, param_of, member_at, member_of, classes_of, class_of, block_of, program_of};
-    ghost use Rattle.rg_tree.specs.RowsExist.{AreRows, IsWithin, IsBlockIn, IsExprIn, IsStmtIn, IsParamIn, IsMemberIn, IsClassIn};
+    ghost use Rattle.rg_tree.specs.Rows.Tables.{number_of, name_at, numbers_in};
+    ghost use Rattle.rg_tree.specs.Rows.RowTrees.{expr_at, expr_of, stmt_at, stmt_of, param_at, param_of, member_at, member_of, classes_of, class_of, block_of, program_of};
+    ghost use Rattle.rg_tree.specs.Rows.RowsExist.{AreRows, IsWithin, IsBlockIn, IsExprIn, IsStmtIn, IsParamIn, IsMemberIn, IsClassIn};
 
     /// The name of a number.
     pub fn name(&self, i: u32) -> &[u8]

@@ -1,9 +1,9 @@
 use Rattle.std.proofs.Common.{ℕ, List, All, map, sym, subst}
 use Rattle.std.proofs.lemmas.Result.{err_from_is_err_and}
 use Rattle.rg_tree.specs.Tree.{Class}
-use Rattle.rg_tree.specs.RowTrees.{classes_of, class_of, member_at}
+use Rattle.rg_tree.specs.Rows.RowTrees.{classes_of, class_of, member_at}
 use Rattle.rg_rules.specs.Names.{HasFewNames}
-use Rattle.rg_check.specs.Methods.{MemberMayBeJudged}
+use Rattle.rg_check.specs.Inner.Methods.{MemberMayBeJudged}
 use Rattle.rg_check.proofs.Outcomes.{All-slice_get}
 use Rattle.rg_check.proofs.MayBeJudged.{class-may}
 use Rattle.rg_check.proofs.MethodSteps.{methods-fault, methods-step}

@@ -1,4 +1,4 @@
-use Rattle.rg_tree.specs.RowTrees.{classes_of}
+use Rattle.rg_tree.specs.Rows.RowTrees.{classes_of}
 use Rattle.rg_check.proofs.MethodSteps.{MethodsUpTo}
 use Rattle.rg_check.proofs.classes.judge_methods.Given as goal
 

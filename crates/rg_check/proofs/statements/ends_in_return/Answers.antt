@@ -1,5 +1,5 @@
 use Rattle.std.proofs.Common.{sym, ap, ◌∙◌}
-use Rattle.rg_tree.specs.RowTrees.{stmt_at}
+use Rattle.rg_tree.specs.Rows.RowTrees.{stmt_at}
 use Rattle.rg_rules.specs.Bodies.{is_return}
 use Rattle.rg_check.proofs.BlockSteps.{kind_of, ends_in_return-last}
 use Rattle.rg_check.proofs.statements.ends_in_return.Goals as goal

@@ -1,5 +1,5 @@
 use Rattle.std.proofs.lemmas.Result.{err_from_is_err_and}
-use Rattle.rg_tree.specs.RowTrees.{stmt_at}
+use Rattle.rg_tree.specs.Rows.RowTrees.{stmt_at}
 use Rattle.rg_check.proofs.BlockSteps.{next-and-others, block-fault, block-step}
 use Rattle.rg_check.proofs.statements.judge_block.Goals as goal
 

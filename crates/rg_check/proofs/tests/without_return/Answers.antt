@@ -9,8 +9,8 @@ use Rattle.rg_tree.specs.declared.rows.TypeRow.TheVariants.{Int}
 use Rattle.rg_tree.specs.declared.rows.ClassRow.{ClassRow}
 use Rattle.rg_tree.specs.declared.rows.MemberRow.{MemberRow}
 use Rattle.rg_tree.specs.declared.rows.MemberRow.TheVariants.{Method}
-use Rattle.rg_tree.specs.Tables.{Tables, numbers_in}
-use Rattle.rg_tree.specs.RowTrees.{member_at, member_of, class_of, program_of, no_program}
+use Rattle.rg_tree.specs.Rows.Tables.{Tables, numbers_in}
+use Rattle.rg_tree.specs.Rows.RowTrees.{member_at, member_of, class_of, program_of, no_program}
 use Rattle.rg_tree.proofs.Grows.{IsNameIn-grows}
 use Rattle.rg_tree.proofs.Callers.{Keeps-trans, IsAbove-Keeps, IsSpanBelow-one, IsSpanBelow-none, below-push, member_at-keeps}
 use Rattle.rg_rules.specs.Names.{HasFewNames, FewNames}

@@ -1,5 +1,5 @@
 use Rattle.std.proofs.lemmas.Result.{err_from_is_err_and}
-use Rattle.rg_tree.specs.Tables.{numbers_in}
+use Rattle.rg_tree.specs.Rows.Tables.{numbers_in}
 use Rattle.rg_names.proofs.EntrySteps.{entries-fault, entries-step}
 use Rattle.rg_names.proofs.found.class_entries.Goals as goal
 

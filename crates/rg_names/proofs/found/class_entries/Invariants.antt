@@ -1,4 +1,4 @@
-use Rattle.rg_tree.specs.Tables.{numbers_in}
+use Rattle.rg_tree.specs.Rows.Tables.{numbers_in}
 use Rattle.rg_names.proofs.EntrySteps.{EntriesUpTo}
 use Rattle.rg_names.proofs.found.class_entries.Given as goal
 

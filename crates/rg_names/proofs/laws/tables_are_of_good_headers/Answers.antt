@@ -1,4 +1,4 @@
-use Rattle.rg_tree.specs.RowTrees.{classes_of}
+use Rattle.rg_tree.specs.Rows.RowTrees.{classes_of}
 use Rattle.rg_names.proofs.GoodHeaders.{judge_headers-good}
 use Rattle.rg_names.proofs.laws.tables_are_of_good_headers.Goals as goal
 

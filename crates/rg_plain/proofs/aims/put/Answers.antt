@@ -1,10 +1,10 @@
 use Rattle.std.proofs.Common.{List, length, ◌∙◌, sym, ap, subst, refl}
 use Rattle.std.proofs.lemmas.List.{with_items_is}
-use Rattle.rg_tree.specs.Tables.{name_at}
-use Rattle.rg_tree.specs.RowTrees.{classes_of}
+use Rattle.rg_tree.specs.Rows.Tables.{name_at}
+use Rattle.rg_tree.specs.Rows.RowTrees.{classes_of}
 use Rattle.rg_rules.specs.State.{State}
 use Rattle.rg_plain.specs.Kept.{kept_of, plain_of}
-use Rattle.rg_plain.specs.Spots.{use_of}
+use Rattle.rg_plain.specs.Inner.Spots.{use_of}
 use Rattle.rg_plain.specs.declared.rows.ObjectRow.{ObjectRow}
 use Rattle.rg_plain.specs.Read.{HasObjects}
 use Rattle.rg_plain.specs.Regions.{LabelsFit}

@@ -1,5 +1,5 @@
 use Rattle.std.proofs.Common.{arith}
-use Rattle.rg_tree.specs.RowTrees.{expr_at}
+use Rattle.rg_tree.specs.Rows.RowTrees.{expr_at}
 use Rattle.rg_plain.specs.Shown.{locals_of}
 use Rattle.rg_plain.proofs.UsingLemmas.{cleared-more}
 use Rattle.rg_plain.proofs.arguments.use_up_all.Goals as goal

@@ -1,5 +1,5 @@
 use Rattle.std.proofs.Common.{◌≡◌, flat_map, map, take}
-use Rattle.rg_tree.specs.RowTrees.{expr_at}
+use Rattle.rg_tree.specs.Rows.RowTrees.{expr_at}
 use Rattle.rg_rules.specs.Evaluation.{uses, cleared}
 use Rattle.rg_plain.specs.Shown.{locals_of, AreNamed}
 use Rattle.rg_plain.proofs.arguments.use_up_all.Given as goal

@@ -1,6 +1,6 @@
 use Rattle.std.proofs.Common.{◌≡◌, ◌≤◌, ◌++◌, length, map, drop}
-use Rattle.rg_tree.specs.RowTrees.{member_at}
-use Rattle.rg_plain.specs.Beneath.{links_in}
+use Rattle.rg_tree.specs.Rows.RowTrees.{member_at}
+use Rattle.rg_plain.specs.Inner.Beneath.{links_in}
 use Rattle.rg_plain.specs.Shown.{store_of}
 use Rattle.rg_plain.proofs.beneath.add_links.Given as goal
 

@@ -1,9 +1,9 @@
 use Rattle.std.proofs.Common.{◌≡◌, ◌∷◌, ◌++◌, drop, filter_map, ◌∙◌, ap, sym, arith}
-use Rattle.rg_tree.specs.Tables.{name_at}
+use Rattle.rg_tree.specs.Rows.Tables.{name_at}
 use Rattle.rg_tree.specs.Tree.{Field, field}
-use Rattle.rg_tree.specs.RowTrees.{classes_of, member_at, member_of, type_of}
+use Rattle.rg_tree.specs.Rows.RowTrees.{classes_of, member_at, member_of, type_of}
 use Rattle.rg_rules.specs.Types.{field_member}
-use Rattle.rg_plain.specs.Beneath.{links_in}
+use Rattle.rg_plain.specs.Inner.Beneath.{links_in}
 use Rattle.rg_plain.specs.Shown.{store_of}
 use Rattle.rg_plain.proofs.LinkLemmas.{links-more, links-end}
 use Rattle.rg_plain.proofs.beneath.add_member.Goals as goal

@@ -1,5 +1,5 @@
 use Rattle.std.proofs.Common.{refl, sym}
-use Rattle.rg_tree.specs.RowTrees.{classes_of}
+use Rattle.rg_tree.specs.Rows.RowTrees.{classes_of}
 use Rattle.rg_plain.specs.Shown.{seen_of, store_of}
 use Rattle.rg_plain.proofs.AmongLemmas.{some-below}
 use Rattle.rg_plain.proofs.LinkLemmas.{listed-added}

@@ -1,5 +1,5 @@
 use Rattle.std.proofs.Common.{◌∙◌, ◌<◌, ◌∷◌, [], ◌++◌, length, take, sym, ap, subst, arith}
-use Rattle.rg_tree.specs.RowTrees.{classes_of}
+use Rattle.rg_tree.specs.Rows.RowTrees.{classes_of}
 use Rattle.rg_rules.specs.Regions.{in_regions, led_from}
 use Rattle.rg_plain.specs.Regions.{LabelFits}
 use Rattle.rg_plain.specs.Shown.{seen_of, store_of}

@@ -1,8 +1,8 @@
 use Rattle.std.proofs.Common.{◌≡◌, ℕ, ◌<◌, [], ◌∷◌, length, take}
-use Rattle.rg_tree.specs.RowTrees.{classes_of}
+use Rattle.rg_tree.specs.Rows.RowTrees.{classes_of}
 use Rattle.rg_rules.specs.Regions.{in_regions, led_from}
 use Rattle.rg_plain.specs.Shown.{store_of}
-use Rattle.rg_plain.specs.Beneath.{listed}
+use Rattle.rg_plain.specs.Inner.Beneath.{listed}
 use Rattle.rg_plain.proofs.beneath.all_links.Given as goal
 
 abbrev pub invariant-loop-object : goal.invariant-loop-object

@@ -1,8 +1,8 @@
 use Rattle.std.proofs.Common.{◌∙◌, ◌<◌, ◌≡◌, ℕ, List, length, drop, replicate, flat_map, All, Vec, Global, sym, ap, subst, false}
 use Rattle.std.proofs.lemmas.List.{length-replicate}
-use Rattle.rg_tree.specs.RowTrees.{classes_of}
+use Rattle.rg_tree.specs.Rows.RowTrees.{classes_of}
 use Rattle.rg_rules.specs.Regions.{among}
-use Rattle.rg_plain.specs.Beneath.{listed, is_marked, FindsToo}
+use Rattle.rg_plain.specs.Inner.Beneath.{listed, is_marked, FindsToo}
 use Rattle.rg_plain.specs.Shown.{store_of}
 use Rattle.rg_plain.proofs.BeneathLemmas.{Reaches-first, Reaches-more, links-there, none-marked}
 use Rattle.rg_plain.proofs.beneath.beneath.Goals as goal

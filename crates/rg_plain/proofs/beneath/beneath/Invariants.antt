@@ -1,6 +1,6 @@
 use Rattle.std.proofs.Common.{◌≡◌, length}
-use Rattle.rg_tree.specs.RowTrees.{classes_of}
-use Rattle.rg_plain.specs.Beneath.{listed}
+use Rattle.rg_tree.specs.Rows.RowTrees.{classes_of}
+use Rattle.rg_plain.specs.Inner.Beneath.{listed}
 use Rattle.rg_plain.specs.Shown.{store_of}
 use Rattle.rg_plain.proofs.BeneathLemmas.{Reaches}
 use Rattle.rg_plain.proofs.beneath.beneath.Given as goal

@@ -1,5 +1,5 @@
 use Rattle.std.proofs.Common.{◌≡◌, ℕ, [], length}
-use Rattle.rg_plain.specs.Beneath.{listed}
+use Rattle.rg_plain.specs.Inner.Beneath.{listed}
 use Rattle.rg_plain.proofs.beneath.empty_lists.Given as goal
 
 abbrev pub invariant-loop-list : goal.invariant-loop-list

@@ -1,6 +1,6 @@
 use Rattle.std.proofs.Common.{subst, arith}
 use Rattle.std.proofs.lemmas.List.{take_all}
-use Rattle.rg_plain.specs.Beneath.{FindsToo}
+use Rattle.rg_plain.specs.Inner.Beneath.{FindsToo}
 use Rattle.rg_plain.proofs.BeneathLemmas.{FindsToo-none, FindsToo-next}
 use Rattle.rg_plain.proofs.beneath.mark_all.Goals as goal
 

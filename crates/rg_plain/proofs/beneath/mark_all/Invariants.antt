@@ -1,5 +1,5 @@
 use Rattle.std.proofs.Common.{take}
-use Rattle.rg_plain.specs.Beneath.{FindsToo}
+use Rattle.rg_plain.specs.Inner.Beneath.{FindsToo}
 use Rattle.rg_plain.proofs.beneath.mark_all.Given as goal
 
 abbrev pub invariant-loop-region : goal.invariant-loop-region

@@ -1,6 +1,6 @@
 use Rattle.std.proofs.Common.{◌∙◌, ◌<◌, length, sym, subst, flat_map, arith}
 use Rattle.rg_tree.proofs.TreesFrom.{length-Begins}
-use Rattle.rg_plain.specs.Beneath.{listed, FindsToo}
+use Rattle.rg_plain.specs.Inner.Beneath.{listed, FindsToo}
 use Rattle.rg_plain.proofs.BeneathLemmas.{FindsToo-none, FindsToo-more, drop-take-none, found-below, list-there}
 use Rattle.rg_plain.proofs.beneath.mark_led.Goals as goal
 

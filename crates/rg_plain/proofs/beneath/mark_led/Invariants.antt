@@ -1,5 +1,5 @@
 use Rattle.std.proofs.Common.{flat_map, take, drop}
-use Rattle.rg_plain.specs.Beneath.{listed, FindsToo}
+use Rattle.rg_plain.specs.Inner.Beneath.{listed, FindsToo}
 use Rattle.rg_plain.proofs.beneath.mark_led.Given as goal
 
 abbrev pub invariant-loop-i : goal.invariant-loop-i

@@ -1,10 +1,10 @@
 use Rattle.std.proofs.Common.{Some, sym, ap, subst, rules, arith}
 use Rattle.rg_tree.proofs.Programs.{length-classes_of}
-use Rattle.rg_tree.specs.RowTrees.{classes_of, call_of}
+use Rattle.rg_tree.specs.Rows.RowTrees.{classes_of, call_of}
 use Rattle.rg_rules.specs.Steps.{stepped, Stepped}
 use Rattle.rg_plain.specs.Kept.{kept_of, plain_of, target_of}
-use Rattle.rg_plain.specs.Methods.{method_of}
-use Rattle.rg_plain.specs.Steps.{StepIs}
+use Rattle.rg_plain.specs.Inner.Methods.{method_of}
+use Rattle.rg_plain.specs.Inner.Steps.{StepIs}
 use Rattle.rg_plain.proofs.CallLemmas.{step_call-found}
 use Rattle.rg_plain.proofs.call.call_step.Goals as goal
 

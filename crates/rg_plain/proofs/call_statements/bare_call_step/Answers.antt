@@ -1,5 +1,5 @@
 use Rattle.rg_tree.specs.Tree.{call}
-use Rattle.rg_tree.specs.RowTrees.{call_of}
+use Rattle.rg_tree.specs.Rows.RowTrees.{call_of}
 use Rattle.rg_plain.specs.Kept.{kept_of}
 use Rattle.rg_plain.proofs.StatementLemmas.{statement-is}
 use Rattle.rg_plain.proofs.call_statements.bare_call_step.Goals as goal

@@ -1,11 +1,11 @@
 use Rattle.std.proofs.Common.{◌<◌, length, map, ap, sym, subst, option_map, rules, arith}
 use Rattle.std.proofs.Math.ListN.{length-map}
 use Rattle.rg_tree.specs.Tree.{assign, result_of}
-use Rattle.rg_tree.specs.Tables.{name_at, numbers_in}
-use Rattle.rg_tree.specs.RowTrees.{classes_of, call_of, path_of}
+use Rattle.rg_tree.specs.Rows.Tables.{name_at, numbers_in}
+use Rattle.rg_tree.specs.Rows.RowTrees.{classes_of, call_of, path_of}
 use Rattle.rg_rules.specs.Steps.{stepped, Stepped}
 use Rattle.rg_plain.specs.Kept.{kept_of, plain_of}
-use Rattle.rg_plain.specs.Steps.{StepIs}
+use Rattle.rg_plain.specs.Inner.Steps.{StepIs}
 use Rattle.rg_plain.proofs.StatementLemmas.{statement-is, field-call}
 use Rattle.rg_plain.proofs.call_statements.field_call_step.Goals as goal
 

@@ -1,13 +1,13 @@
 use Rattle.std.proofs.Common.{subst}
 use Rattle.rg_tree.specs.Tree.{declare, result_of}
-use Rattle.rg_tree.specs.Tables.{name_at}
-use Rattle.rg_tree.specs.RowTrees.{classes_of, call_of, type_of as written}
+use Rattle.rg_tree.specs.Rows.Tables.{name_at}
+use Rattle.rg_tree.specs.Rows.RowTrees.{classes_of, call_of, type_of as written}
 use Rattle.rg_base.specs.declared.ty.Ty.{Ty}
 use Rattle.rg_rules.specs.State.{Declares}
 use Rattle.rg_rules.specs.RightSides.{step_call}
 use Rattle.rg_rules.specs.Steps.{stepped}
 use Rattle.rg_plain.specs.Kept.{kept_of, plain_of}
-use Rattle.rg_plain.specs.Steps.{StepIs}
+use Rattle.rg_plain.specs.Inner.Steps.{StepIs}
 use Rattle.rg_plain.proofs.StatementLemmas.{statement-is}
 use Rattle.rg_plain.proofs.call_statements.let_call_step.Goals as goal
 

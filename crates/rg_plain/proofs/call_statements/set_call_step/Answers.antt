@@ -1,10 +1,10 @@
 use Rattle.std.proofs.Common.{List, map, ap, sym, subst, option_map}
 use Rattle.rg_tree.specs.Tree.{Name, assign, result_of}
-use Rattle.rg_tree.specs.Tables.{name_at}
-use Rattle.rg_tree.specs.RowTrees.{classes_of, call_of, path_of}
+use Rattle.rg_tree.specs.Rows.Tables.{name_at}
+use Rattle.rg_tree.specs.Rows.RowTrees.{classes_of, call_of, path_of}
 use Rattle.rg_rules.specs.Steps.{stepped, step_assign}
 use Rattle.rg_plain.specs.Kept.{kept_of, plain_of}
-use Rattle.rg_plain.specs.Steps.{StepIs}
+use Rattle.rg_plain.specs.Inner.Steps.{StepIs}
 use Rattle.rg_plain.proofs.StatementLemmas.{statement-is}
 use Rattle.rg_plain.proofs.call_statements.set_call_step.Goals as goal
 

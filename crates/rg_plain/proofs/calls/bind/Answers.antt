@@ -1,7 +1,7 @@
 use Rattle.std.proofs.Common.{◌++◌, ◌∷◌, [], List, unwrap_or, length, slice_get, ◌∙◌, ap, arith}
 use Rattle.std.proofs.lemmas.List.{length_push}
 use Rattle.rg_base.specs.declared.value.Val.TheVariants.{Nil}
-use Rattle.rg_tree.specs.RowTrees.{classes_of, param_at}
+use Rattle.rg_tree.specs.Rows.RowTrees.{classes_of, param_at}
 use Rattle.rg_rules.specs.State.{Local}
 use Rattle.rg_plain.specs.Shown.{locals_of}
 use Rattle.rg_plain.proofs.BindLemmas.{bound-more, locals_of-push, AreNamed-push, local_of-param}

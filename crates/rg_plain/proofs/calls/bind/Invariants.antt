@@ -1,5 +1,5 @@
 use Rattle.std.proofs.Common.{◌≡◌, ◌+◌, ◌-◌, ◌≤◌, ◌++◌, map, drop, length, vec_capacity}
-use Rattle.rg_tree.specs.RowTrees.{classes_of, param_at}
+use Rattle.rg_tree.specs.Rows.RowTrees.{classes_of, param_at}
 use Rattle.rg_rules.specs.RightSides.{bound}
 use Rattle.rg_plain.specs.Shown.{locals_of, AreNamed}
 use Rattle.rg_plain.proofs.calls.bind.Given as goal

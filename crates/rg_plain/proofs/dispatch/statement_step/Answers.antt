@@ -1,5 +1,5 @@
 use Rattle.std.proofs.Common.{◌≡◌, ap, sym, ◌∙◌, rules}
-use Rattle.rg_tree.specs.RowTrees.{stmt_at, kind_over}
+use Rattle.rg_tree.specs.Rows.RowTrees.{stmt_at, kind_over}
 use Rattle.rg_plain.specs.Kept.{shown}
 use Rattle.rg_plain.specs.Outcomes.{first_asks}
 use Rattle.rg_plain.proofs.DispatchLemmas.{asks-first}

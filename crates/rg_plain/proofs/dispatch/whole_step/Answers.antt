@@ -1,7 +1,7 @@
 use Rattle.std.proofs.Common.{sym, ◌∙◌, arith}
 use Rattle.std.proofs.lemmas.Bool.Decides.{nat_tests}
 use Rattle.rg_input.proofs.InputLemmas.{OnInput-map}
-use Rattle.rg_plain.specs.Inputs.{StepOn, SettlesOn}
+use Rattle.rg_plain.specs.Inner.Inputs.{StepOn, SettlesOn}
 use Rattle.rg_plain.specs.Kept.{kept_of}
 use Rattle.rg_plain.proofs.DispatchLemmas.{settled_on, settled-fault, leaves_rows}
 use Rattle.rg_plain.proofs.InputLemmas.{OnInput-some}

@@ -1,7 +1,7 @@
 use Rattle.std.proofs.Common.{◌∙◌, ap, Some}
 use Rattle.rg_base.specs.declared.value.Val.TheVariants.{Obj}
-use Rattle.rg_tree.specs.Tables.{name_at}
-use Rattle.rg_tree.specs.RowTrees.{classes_of}
+use Rattle.rg_tree.specs.Rows.Tables.{name_at}
+use Rattle.rg_tree.specs.Rows.RowTrees.{classes_of}
 use Rattle.rg_rules.specs.Evaluation.{field_value}
 use Rattle.rg_rules.specs.State.{State, value_in, put_local}
 use Rattle.rg_rules.specs.Steps.{put_field}

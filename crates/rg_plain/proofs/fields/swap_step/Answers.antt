@@ -1,4 +1,4 @@
-use Rattle.rg_tree.specs.RowTrees.{path_of}
+use Rattle.rg_tree.specs.Rows.RowTrees.{path_of}
 use Rattle.rg_plain.specs.Kept.{kept_of}
 use Rattle.rg_plain.proofs.FieldLemmas.{some-at, swap-step, field-spot}
 use Rattle.rg_plain.proofs.fields.swap_step.Goals as goal

@@ -1,6 +1,6 @@
 use Rattle.std.proofs.Common.{Ok, Err, ◌∙◌, rules}
-use Rattle.rg_tree.specs.Tables.{name_at, numbers_in}
-use Rattle.rg_tree.specs.RowTrees.{classes_of}
+use Rattle.rg_tree.specs.Rows.Tables.{name_at, numbers_in}
+use Rattle.rg_tree.specs.Rows.RowTrees.{classes_of}
 use Rattle.rg_plain.specs.Shown.{store_of}
 use Rattle.rg_plain.proofs.StatementLemmas.{holder-found}
 use Rattle.rg_plain.proofs.holders.holder.Goals as goal

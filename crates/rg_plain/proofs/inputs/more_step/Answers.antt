@@ -4,9 +4,9 @@ use Rattle.rg_base.specs.declared.value.Val.TheVariants.{Bool}
 use Rattle.rg_tree.specs.Tree.{more}
 use Rattle.rg_input.specs.Numbers.{Looks}
 use Rattle.rg_input.proofs.InputLemmas.{OnInput-map}
-use Rattle.rg_plain.specs.Inputs.{StepOn}
+use Rattle.rg_plain.specs.Inner.Inputs.{StepOn}
 use Rattle.rg_plain.specs.Kept.{Kept, kept_of, plain_of, shown}
-use Rattle.rg_plain.specs.Spots.{use_of}
+use Rattle.rg_plain.specs.Inner.Spots.{use_of}
 use Rattle.rg_plain.proofs.InputLemmas.{reads_nothing, cut-step, more-step, same-plain}
 use Rattle.rg_plain.proofs.inputs.more_step.Goals as goal
 

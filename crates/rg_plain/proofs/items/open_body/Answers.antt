@@ -1,5 +1,5 @@
 use Rattle.std.proofs.Common.{◌++◌, ◌∙◌, sym, ap, option_map}
-use Rattle.rg_tree.specs.RowTrees.{type_of, block_of}
+use Rattle.rg_tree.specs.Rows.RowTrees.{type_of, block_of}
 use Rattle.rg_rules.specs.Items.{items_of}
 use Rattle.rg_rules.specs.Bodies.{method_end}
 use Rattle.rg_plain.specs.declared.rows.ItemRow.TheVariants as row

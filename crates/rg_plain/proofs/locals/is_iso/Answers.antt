@@ -1,5 +1,5 @@
 use Rattle.std.proofs.Common.{Some, None, option_map, ◌∙◌, sym}
-use Rattle.rg_tree.specs.Tables.{name_at}
+use Rattle.rg_tree.specs.Rows.Tables.{name_at}
 use Rattle.rg_plain.proofs.LocalLemmas.{is_iso_local-found}
 use Rattle.rg_plain.proofs.locals.is_iso.Goals as goal
 

@@ -3,7 +3,7 @@ use Rattle.std.proofs.Math.ListN.{length-map}
 use Rattle.std.proofs.lemmas.Option.{slice_get-get_or}
 use Rattle.rg_base.specs.declared.ty.Ty.TheVariants.{Int}
 use Rattle.rg_base.specs.declared.value.Val.TheVariants.{Nil}
-use Rattle.rg_tree.specs.Tables.{name_at}
+use Rattle.rg_tree.specs.Rows.Tables.{name_at}
 use Rattle.rg_rules.specs.State.{place_in}
 use Rattle.rg_plain.specs.declared.rows.LocalRow.{LocalRow}
 use Rattle.rg_plain.specs.Shown.{local_of, locals_of}

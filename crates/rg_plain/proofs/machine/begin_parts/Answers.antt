@@ -1,6 +1,6 @@
 use Rattle.std.proofs.Common.{◌≡◌, ◌∙◌, [], ◌∷◌, ◌++◌, List, ap, length}
 use Rattle.rg_base.specs.declared.words.Manager.{Manager}
-use Rattle.rg_tree.specs.RowTrees.{block_of}
+use Rattle.rg_tree.specs.Rows.RowTrees.{block_of}
 use Rattle.rg_rules.specs.Items.{EndAt, items_of}
 use Rattle.rg_plain.specs.Kept.{Kept, shown}
 use Rattle.rg_plain.specs.Machine.{fresh}

@@ -2,7 +2,7 @@ use Rattle.std.proofs.Common.{◌<◌, length, ◌∙◌, sym, ap, ◌∷◌, []
 use Rattle.std.proofs.lemmas.List.{map-append, length-map}
 use Rattle.rg_plain.specs.Kept.{kept_of}
 use Rattle.rg_plain.specs.Shown.{seen_of, store_of}
-use Rattle.rg_tree.specs.RowTrees.{classes_of}
+use Rattle.rg_tree.specs.Rows.RowTrees.{classes_of}
 use Rattle.rg_plain.proofs.CallLemmas.{All-under}
 use Rattle.rg_plain.proofs.FitLemmas.{made-fits}
 use Rattle.rg_plain.proofs.MakeLemmas.{made-as}

@@ -1,7 +1,7 @@
 use Rattle.std.proofs.Common.{◌≡◌, map, drop}
-use Rattle.rg_tree.specs.Tables.{name_at}
-use Rattle.rg_tree.specs.RowTrees.{member_at}
-use Rattle.rg_plain.specs.Methods.{find_method}
+use Rattle.rg_tree.specs.Rows.Tables.{name_at}
+use Rattle.rg_tree.specs.Rows.RowTrees.{member_at}
+use Rattle.rg_plain.specs.Inner.Methods.{find_method}
 use Rattle.rg_plain.proofs.methods.method_of.Given as goal
 
 abbrev pub invariant-loop-member : goal.invariant-loop-member

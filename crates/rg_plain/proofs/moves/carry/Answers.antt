@@ -1,7 +1,7 @@
 use Rattle.std.proofs.Common.{List, length, ◌∙◌, sym, ap, subst, Some}
 use Rattle.std.proofs.lemmas.List.{with_items_is}
 use Rattle.rg_base.specs.declared.value.Val.TheVariants.{Nil}
-use Rattle.rg_tree.specs.Tables.{name_at}
+use Rattle.rg_tree.specs.Rows.Tables.{name_at}
 use Rattle.rg_rules.specs.Regions.{relabelled}
 use Rattle.rg_rules.specs.State.{set_in}
 use Rattle.rg_plain.specs.declared.rows.LocalRow.{LocalRow}
@@ -9,7 +9,7 @@ use Rattle.rg_plain.specs.declared.rows.ObjectRow.{ObjectRow}
 use Rattle.rg_plain.specs.Kept.{kept_of}
 use Rattle.rg_plain.specs.Regions.{LabelsFit}
 use Rattle.rg_plain.specs.Shown.{AreNamed, AreOfClasses, locals_of, store_of}
-use Rattle.rg_plain.specs.Spots.{use_of}
+use Rattle.rg_plain.specs.Inner.Spots.{use_of}
 use Rattle.rg_plain.proofs.MoveLemmas.{set-nil}
 use Rattle.rg_plain.proofs.moves.carry.Goals as goal
 

@@ -1,8 +1,8 @@
 use Rattle.std.proofs.Common.{List, ℕ, [], ◌∷◌, length, ◌∙◌, sym, subst, IfOk}
-use Rattle.rg_tree.specs.RowTrees.{classes_of}
+use Rattle.rg_tree.specs.Rows.RowTrees.{classes_of}
 use Rattle.rg_rules.specs.Regions.{beneath}
 use Rattle.rg_plain.specs.declared.rows.ObjectRow.{ObjectRow}
-use Rattle.rg_plain.specs.Beneath.{AreMarked}
+use Rattle.rg_plain.specs.Inner.Beneath.{AreMarked}
 use Rattle.rg_plain.specs.Regions.{LabelsFit}
 use Rattle.rg_plain.specs.Shown.{store_of}
 use Rattle.rg_plain.proofs.moves.marks_beneath.Goals as goal

@@ -1,10 +1,10 @@
 use Rattle.std.proofs.Common.{◌<◌, length, ◌∙◌, sym, ap, subst, refl, Some, None, IfSome}
 use Rattle.rg_base.specs.declared.object.Label.{Label}
 use Rattle.rg_base.specs.declared.value.Val.{Val}
-use Rattle.rg_tree.specs.RowTrees.{classes_of}
+use Rattle.rg_tree.specs.Rows.RowTrees.{classes_of}
 use Rattle.rg_rules.specs.State.{State}
 use Rattle.rg_plain.specs.Kept.{Kept, kept_of, plain_of, shown}
-use Rattle.rg_plain.specs.Moves.{regions_with, label_of, carried}
+use Rattle.rg_plain.specs.Inner.Moves.{regions_with, label_of, carried}
 use Rattle.rg_plain.proofs.MoveLemmas.{move-cut, move-held, carried-moved}
 use Rattle.rg_plain.proofs.moves.move_step.Goals as goal
 

@@ -1,6 +1,6 @@
 use Rattle.std.proofs.Common.{List, length, ◌∙◌, sym, ap, subst, Some}
 use Rattle.std.proofs.lemmas.Result.{err_from_is_err_and}
-use Rattle.rg_tree.specs.Tables.{name_at}
+use Rattle.rg_tree.specs.Rows.Tables.{name_at}
 use Rattle.rg_rules.specs.Evaluation.{object_at}
 use Rattle.rg_rules.specs.State.{value_in}
 use Rattle.rg_plain.specs.declared.rows.ObjectRow.{ObjectRow}

@@ -1,7 +1,7 @@
 use Rattle.std.proofs.Common.{◌∙◌, sym, ap, unwrap_or, slice_get}
 use Rattle.rg_base.specs.declared.value.Val.TheVariants.{Nil}
-use Rattle.rg_tree.specs.Tables.{name_at}
-use Rattle.rg_tree.specs.RowTrees.{classes_of}
+use Rattle.rg_tree.specs.Rows.Tables.{name_at}
+use Rattle.rg_tree.specs.Rows.RowTrees.{classes_of}
 use Rattle.rg_names.proofs.Callers.{IsClass-tree}
 use Rattle.rg_plain.specs.Shown.{seen_of}
 use Rattle.rg_plain.proofs.ObjectLemmas.{field_value-place}

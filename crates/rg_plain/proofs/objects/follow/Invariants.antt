@@ -1,6 +1,6 @@
 use Rattle.std.proofs.Common.{◌≡◌, map, drop}
-use Rattle.rg_tree.specs.Tables.{name_at}
-use Rattle.rg_tree.specs.RowTrees.{classes_of}
+use Rattle.rg_tree.specs.Rows.Tables.{name_at}
+use Rattle.rg_tree.specs.Rows.RowTrees.{classes_of}
 use Rattle.rg_rules.specs.Evaluation.{follow_fields}
 use Rattle.rg_plain.specs.Shown.{store_of}
 use Rattle.rg_plain.proofs.objects.follow.Given as goal

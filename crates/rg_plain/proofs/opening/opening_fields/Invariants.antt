@@ -1,5 +1,5 @@
 use Rattle.std.proofs.Common.{◌≡◌, ◌++◌, map, drop}
-use Rattle.rg_tree.specs.RowTrees.{member_at}
+use Rattle.rg_tree.specs.Rows.RowTrees.{member_at}
 use Rattle.rg_plain.proofs.OpeningLemmas.{opened}
 use Rattle.rg_plain.proofs.opening.opening_fields.Given as goal
 

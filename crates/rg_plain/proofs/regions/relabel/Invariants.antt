@@ -1,6 +1,6 @@
 use Rattle.std.proofs.Common.{◌≡◌, ◌++◌, ℕ, List, take, drop, map}
 use Rattle.rg_rules.specs.Regions.{relabelled_object}
-use Rattle.rg_plain.specs.Beneath.{AreRegions}
+use Rattle.rg_plain.specs.Inner.Beneath.{AreRegions}
 use Rattle.rg_plain.specs.Shown.{store_of}
 use Rattle.rg_plain.proofs.regions.relabel.Given as goal
 

@@ -1,7 +1,7 @@
 use Rattle.std.proofs.Common.{◌∙◌, sym, ap}
 use Rattle.rg_base.specs.declared.ty.Ty.TheVariants.{Ref}
-use Rattle.rg_tree.specs.Tables.{name_at}
-use Rattle.rg_tree.specs.RowTrees.{classes_of, type_of as written}
+use Rattle.rg_tree.specs.Rows.Tables.{name_at}
+use Rattle.rg_tree.specs.Rows.RowTrees.{classes_of, type_of as written}
 use Rattle.rg_rules.specs.Types.{type_of}
 use Rattle.rg_plain.proofs.TypeLemmas.{class_number-unplaced}
 use Rattle.rg_plain.proofs.types.written_type.Goals as goal

@@ -1,5 +1,5 @@
 use Rattle.std.proofs.Common.{◌∙◌, sym, ap}
-use Rattle.rg_tree.specs.RowTrees.{expr_at, expr_of}
+use Rattle.rg_tree.specs.Rows.RowTrees.{expr_at, expr_of}
 use Rattle.rg_rules.specs.Evaluation.{uses, cleared}
 use Rattle.rg_plain.specs.Shown.{locals_of}
 use Rattle.rg_plain.proofs.UsingLemmas.{cleared-binary}

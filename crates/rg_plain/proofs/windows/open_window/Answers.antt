@@ -1,5 +1,5 @@
 use Rattle.std.proofs.Common.{length, IfSome}
-use Rattle.rg_tree.specs.RowsExist.{IsNameIn}
+use Rattle.rg_tree.specs.Rows.RowsExist.{IsNameIn}
 use Rattle.rg_plain.specs.Shown.{store_of}
 use Rattle.rg_plain.proofs.CallLemmas.{All-under}
 use Rattle.rg_plain.proofs.FitLemmas.{RegionsFit-opened}

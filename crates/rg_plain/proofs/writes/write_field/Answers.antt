@@ -1,5 +1,5 @@
-use Rattle.rg_tree.specs.Tables.{name_at}
-use Rattle.rg_tree.specs.RowTrees.{classes_of}
+use Rattle.rg_tree.specs.Rows.Tables.{name_at}
+use Rattle.rg_tree.specs.Rows.RowTrees.{classes_of}
 use Rattle.rg_rules.specs.Evaluation.{with_field}
 use Rattle.rg_plain.proofs.FitLemmas.{LabelsFit-set}
 use Rattle.rg_plain.proofs.WriteLemmas.{store_of-set}

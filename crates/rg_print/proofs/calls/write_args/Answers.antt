@@ -1,6 +1,6 @@
 use Rattle.std.proofs.Common.{ℕ, ◌<◌, List, refl, ◌∙◌, map, length, arith}
 use Rattle.rg_tree.specs.Canonical.{expr_text, arg_texts}
-use Rattle.rg_tree.specs.RowTrees.{expr_at}
+use Rattle.rg_tree.specs.Rows.RowTrees.{expr_at}
 use Rattle.rg_print.proofs.Joined.{joined_behind-first, joined_behind-further}
 use Rattle.rg_print.proofs.calls.write_args.Goals as goal
 use Rattle.rg_print.proofs.calls.write_args.Goals.{then-i-gt0+in_ok-extend-2, else-i-gt0}

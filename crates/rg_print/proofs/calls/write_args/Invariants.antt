@@ -1,7 +1,7 @@
 use Rattle.std.proofs.Common.{◌≡◌, ◌++◌, codes, drop, map}
 use Rattle.rg_tree.specs.Canonical.{joined, arg_texts}
-use Rattle.rg_tree.specs.RowTrees.{expr_at}
-use Rattle.rg_tree.specs.Tables.{numbers_in}
+use Rattle.rg_tree.specs.Rows.RowTrees.{expr_at}
+use Rattle.rg_tree.specs.Rows.Tables.{numbers_in}
 use Rattle.rg_print.proofs.Joined.{joined_behind}
 use Rattle.rg_print.proofs.calls.write_args.Given as goal
 

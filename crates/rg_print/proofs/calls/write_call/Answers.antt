@@ -1,8 +1,8 @@
 use Rattle.std.proofs.Common.{codes, map}
 use Rattle.std.proofs.lemmas.Result.{on_ok_weaker}
 use Rattle.rg_tree.specs.Canonical.{arg_texts, joined, path_text}
-use Rattle.rg_tree.specs.RowTrees.{expr_at, path_of}
-use Rattle.rg_tree.specs.Tables.{name_at, numbers_in}
+use Rattle.rg_tree.specs.Rows.RowTrees.{expr_at, path_of}
+use Rattle.rg_tree.specs.Rows.Tables.{name_at, numbers_in}
 use Rattle.rg_print.proofs.Joined.{listed-behind}
 use Rattle.rg_print.proofs.calls.write_call.Goals as goal
 

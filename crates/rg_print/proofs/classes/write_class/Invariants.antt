@@ -1,8 +1,8 @@
 use Rattle.std.proofs.Common.{◌≡◌, [], ◌∷◌, ◌++◌, codes, drop, map}
 use Rattle.std.specs.Prelude.{flat_map}
 use Rattle.rg_tree.specs.Canonical.{class_word, member_text}
-use Rattle.rg_tree.specs.RowTrees.{member_at}
-use Rattle.rg_tree.specs.Tables.{name_at, numbers_in}
+use Rattle.rg_tree.specs.Rows.RowTrees.{member_at}
+use Rattle.rg_tree.specs.Rows.Tables.{name_at, numbers_in}
 use Rattle.rg_print.proofs.classes.write_class.Given as goal
 
 abbrev pub invariant-loop-member : goal.invariant-loop-member

@@ -1,6 +1,6 @@
 use Rattle.std.proofs.Common.{◌≡◌, ℕ, ◌<◌, List, refl, ◌∙◌, ◌++◌, get_or, codes, map, length, arith}
 use Rattle.rg_tree.specs.Canonical.{param_texts, ty_text}
-use Rattle.rg_tree.specs.RowTrees.{param_at}
+use Rattle.rg_tree.specs.Rows.RowTrees.{param_at}
 use Rattle.rg_print.proofs.Joined.{joined_behind-first, joined_behind-further}
 use Rattle.rg_print.proofs.classes.write_params.Goals as goal
 use Rattle.rg_print.proofs.classes.write_params.Goals.{then-i-gt0+in_ok-extend-2, else-i-gt0}

@@ -1,7 +1,7 @@
 use Rattle.std.proofs.Common.{◌≡◌, ◌++◌, codes, drop, map}
 use Rattle.rg_tree.specs.Canonical.{joined, param_texts}
-use Rattle.rg_tree.specs.RowTrees.{param_at}
-use Rattle.rg_tree.specs.Tables.{numbers_in}
+use Rattle.rg_tree.specs.Rows.RowTrees.{param_at}
+use Rattle.rg_tree.specs.Rows.Tables.{numbers_in}
 use Rattle.rg_print.proofs.Joined.{joined_behind}
 use Rattle.rg_print.proofs.classes.write_params.Given as goal
 

@@ -1,5 +1,5 @@
 use Rattle.rg_tree.specs.Canonical.{class_text}
-use Rattle.rg_tree.specs.RowTrees.{classes_of, class_of}
+use Rattle.rg_tree.specs.Rows.RowTrees.{classes_of, class_of}
 use Rattle.rg_print.proofs.Rests.{flat_map-row}
 use Rattle.rg_print.proofs.whole.write_classes.Goals as goal
 

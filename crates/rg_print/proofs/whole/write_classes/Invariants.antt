@@ -1,7 +1,7 @@
 use Rattle.std.proofs.Common.{◌≡◌, ◌++◌, drop}
 use Rattle.std.specs.Prelude.{flat_map}
 use Rattle.rg_tree.specs.Canonical.{class_text}
-use Rattle.rg_tree.specs.RowTrees.{classes_of}
+use Rattle.rg_tree.specs.Rows.RowTrees.{classes_of}
 use Rattle.rg_print.proofs.whole.write_classes.Given as goal
 
 abbrev pub invariant-loop-i : goal.invariant-loop-i

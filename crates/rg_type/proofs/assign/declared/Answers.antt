@@ -1,4 +1,4 @@
-use Rattle.rg_tree.specs.RowTrees.{right_of}
+use Rattle.rg_tree.specs.Rows.RowTrees.{right_of}
 use Rattle.rg_type.proofs.BlockSteps.{right-room}
 use Rattle.rg_type.proofs.assign.declared.Goals as goal
 

@@ -1,5 +1,5 @@
 use Rattle.std.proofs.Common.{◌≡◌, true, sym, ap, ◌∙◌}
-use Rattle.rg_tree.specs.RowTrees.{classes_of, expr_at}
+use Rattle.rg_tree.specs.Rows.RowTrees.{classes_of, expr_at}
 use Rattle.rg_rules.specs.Expressions.{among, operand_type, agree, result_type}
 use Rattle.rg_type.specs.Scope.{env_of}
 use Rattle.rg_type.proofs.ExpressionSteps.{Operands, TypedAs-operation}

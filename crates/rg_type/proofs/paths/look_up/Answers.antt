@@ -1,4 +1,4 @@
-use Rattle.rg_tree.specs.RowTrees.{classes_of}
+use Rattle.rg_tree.specs.Rows.RowTrees.{classes_of}
 use Rattle.rg_names.proofs.Callers.{IsClass-tree}
 use Rattle.rg_type.proofs.paths.look_up.Goals as goal
 

@@ -2,7 +2,7 @@ use Rattle.std.proofs.Common.{◌≡◌, None, Some, if◌then◌else◌, length
 use Rattle.std.proofs.lemmas.Result.{on_ok_weaker}
 use Rattle.std.specs.Map.{lookup}
 use Rattle.rg_type.specs.Scope.{same_name}
-use Rattle.rg_type.specs.Layout.{place_in}
+use Rattle.rg_type.specs.Inner.Layout.{place_in}
 use Rattle.rg_type.proofs.PlaceLemmas.{noted-again, noted-first, noted-anyway}
 use Rattle.rg_type.proofs.places.note_last.Goals as goal
 

@@ -1,7 +1,7 @@
 use Rattle.std.proofs.Common.{sym, Result, Ok, Err, OnOk}
 use Rattle.rg_base.specs.declared.fault.Code.{Code}
 use Rattle.rg_base.specs.declared.ty.Ty.{Ty}
-use Rattle.rg_tree.specs.Tables.{name_at}
+use Rattle.rg_tree.specs.Rows.Tables.{name_at}
 use Rattle.rg_type.specs.Scope.{env_of, IsScopeIn}
 use Rattle.rg_type.proofs.RightSteps.{TypedAs-consumed}
 use Rattle.rg_type.proofs.rights.consumed.Goals as goal

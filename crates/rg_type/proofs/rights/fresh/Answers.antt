@@ -1,5 +1,5 @@
-use Rattle.rg_tree.specs.Tables.{name_at}
-use Rattle.rg_tree.specs.RowTrees.{classes_of}
+use Rattle.rg_tree.specs.Rows.Tables.{name_at}
+use Rattle.rg_tree.specs.Rows.RowTrees.{classes_of}
 use Rattle.rg_type.proofs.RightSteps.{TypedAs-new}
 use Rattle.rg_type.proofs.rights.fresh.Goals as goal
 

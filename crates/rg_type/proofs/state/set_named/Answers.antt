@@ -1,5 +1,5 @@
 use Rattle.std.proofs.Common.{sym, ◌∙◌, arith}
-use Rattle.rg_type.specs.States.{readiness_of}
+use Rattle.rg_type.specs.Inner.States.{readiness_of}
 use Rattle.rg_type.proofs.FlowSteps.{named-yes, named-no, named-all}
 use Rattle.rg_type.proofs.state.set_named.Goals.{then-eq, else-eq}
 use Rattle.rg_type.proofs.state.set_named.Goals as goal

@@ -1,7 +1,7 @@
 use Rattle.std.proofs.Common.{◌≡◌, ℕ, ◌&&◌, nat_lt, if◌then◌else◌}
 use Rattle.rg_flow.specs.Flows.{state_of}
-use Rattle.rg_type.specs.States.{readiness_of}
-use Rattle.rg_type.specs.Layout.{names_at}
+use Rattle.rg_type.specs.Inner.States.{readiness_of}
+use Rattle.rg_type.specs.Inner.Layout.{names_at}
 use Rattle.rg_type.proofs.state.set_named.Given as goal
 
 abbrev pub invariant-loop-k : goal.invariant-loop-k

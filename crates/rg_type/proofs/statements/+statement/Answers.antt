@@ -1,7 +1,7 @@
 use Rattle.std.proofs.Common.{◌<◌, length, get_or, arith}
 use Rattle.std.proofs.lemmas.List.Elements.{All-get_or}
 use Rattle.std.proofs.lemmas.Result.{err_from_is_err_and}
-use Rattle.rg_tree.specs.Tables.{numbers_in}
+use Rattle.rg_tree.specs.Rows.Tables.{numbers_in}
 use Rattle.rg_tree.proofs.Callers.{above, below-above}
 use Rattle.rg_type.specs.Scope.{IsScopeIn}
 use Rattle.rg_type.proofs.Spans.{IsBlockIn-below, above-below, IsBlockIn-below_some, above_some-below}

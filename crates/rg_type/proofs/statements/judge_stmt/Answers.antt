@@ -1,4 +1,4 @@
-use Rattle.rg_tree.specs.RowTrees.{stmt_at}
+use Rattle.rg_tree.specs.Rows.RowTrees.{stmt_at}
 use Rattle.rg_type.proofs.BlockSteps.{stmt-room}
 use Rattle.rg_type.proofs.statements.judge_stmt.Goals as goal
 

@@ -1,5 +1,5 @@
 use Rattle.std.proofs.Common.{◌≡◌, ◌∙◌, sym, ap, true, arith, rules}
-use Rattle.rg_input.specs.Held.{has_enough}
+use Rattle.rg_input.specs.Inner.Held.{has_enough}
 use Rattle.rg_input.proofs.HeldLemmas.{Reads-more}
 use Rattle.rg_input.proofs.held.Held.fill.Goals as goal
 use Rattle.std.proofs.lemmas.Bool.{false≢true}

@@ -1,5 +1,5 @@
 use Rattle.std.proofs.Common.{◌≡◌, ◌-◌, ◌≤◌, true, false, length}
-use Rattle.rg_input.specs.Held.{pending, has_enough, Reads}
+use Rattle.rg_input.specs.Inner.Held.{pending, has_enough, Reads}
 use Rattle.rg_input.proofs.held.Held.fill.Given as goal
 
 abbrev pub invariant-loop-source : goal.invariant-loop-source

@@ -1,6 +1,6 @@
 use Rattle.std.proofs.Common.{ap, Ok, subst}
 use Rattle.std.proofs.lemmas.Bool.{false≢true}
-use Rattle.rg_input.specs.Held.{Says}
+use Rattle.rg_input.specs.Inner.Held.{Says}
 use Rattle.rg_input.proofs.HeldLemmas.{Settled-says, enough-refused, verdict-refused}
 use Rattle.rg_input.proofs.held.Held.look.Goals as goal
 

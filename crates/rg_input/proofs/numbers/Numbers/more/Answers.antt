@@ -1,6 +1,6 @@
 use Rattle.std.proofs.Common.{◌≡◌, ◌++◌, inl, inr, Ok, refl, subst, ap, sym, ◌∙◌}
 use Rattle.rg_input.specs.Numbers.{OnInput, Looks}
-use Rattle.rg_input.specs.Held.{pending}
+use Rattle.rg_input.specs.Inner.Held.{pending}
 use Rattle.rg_input.proofs.HeldLemmas.{says_more, looks-said, OnInput-read}
 use Rattle.rg_input.proofs.numbers.Numbers.more.Goals as goal
 use Rattle.rg_input.proofs.numbers.Numbers.more.Goals.{in-Number, in-End}

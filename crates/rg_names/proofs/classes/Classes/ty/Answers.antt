@@ -1,5 +1,5 @@
 use Rattle.std.proofs.Common.{◌∙◌, sym, ap}
-use Rattle.rg_tree.specs.RowTrees.{classes_of, type_of}
+use Rattle.rg_tree.specs.Rows.RowTrees.{classes_of, type_of}
 use Rattle.rg_names.specs.Table.{Table}
 use Rattle.rg_names.specs.TreeAnswers.{IsKnown}
 use Rattle.rg_names.proofs.TypeFacts.{IsHeadsOf-table, judge_type-good_type, good_type-IsKnown, IfOk-by}

@@ -1,7 +1,7 @@
 use Rattle.std.proofs.lemmas.Result.{err_from_is_err_and}
 use Rattle.rg_tree.specs.declared.rows.MemberRow.{MemberRow}
 use Rattle.rg_tree.specs.declared.rows.MemberRow.TheVariants as row
-use Rattle.rg_tree.specs.RowsExist.{IsMemberIn}
+use Rattle.rg_tree.specs.Rows.RowsExist.{IsMemberIn}
 use Rattle.rg_names.proofs.TypeSteps.{field_types-fail, field_types-pass}
 use Rattle.rg_names.proofs.MemberSteps.{header-repeated, header-mistyped, header-passed}
 use Rattle.rg_names.proofs.found.Found.add.Goals as goal

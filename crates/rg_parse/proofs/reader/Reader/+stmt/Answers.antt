@@ -3,7 +3,7 @@ use Rattle.rg_tree.specs.Forms as form
 use Rattle.rg_parse.specs.declared.limits.Role.TheVariants as role
 use Rattle.rg_tree.specs.Phrases as p
 use Rattle.rg_tree.specs.Table.{row}
-use Rattle.rg_parse.specs.Starts.{stmt_start}
+use Rattle.rg_parse.specs.Inner.Starts.{stmt_start}
 use Rattle.rg_parse.proofs.Tokens.{exit, started}
 use Rattle.rg_parse.proofs.Halting.{halts-none, halts-row, halts-here, halts-took, halts-found, halts-declared, took-next}
 use Rattle.rg_parse.proofs.Growing.{found-there}

@@ -1,5 +1,5 @@
 use Rattle.std.proofs.Common.{ap}
-use Rattle.rg_parse.specs.Programs.{classed}
+use Rattle.rg_parse.specs.Inner.Programs.{classed}
 use Rattle.rg_parse.proofs.reader.Reader.add_class.Goals as goal
 
 pub returns-clause-classed : goal.returns-clause-classed

@@ -1,5 +1,5 @@
 use Rattle.std.proofs.Common.{ap}
-use Rattle.rg_parse.specs.Steps.{kept}
+use Rattle.rg_parse.specs.Inner.Steps.{kept}
 use Rattle.rg_parse.proofs.Growing.{stmt-means, below}
 use Rattle.rg_parse.proofs.reader.Reader.add_stmt.Goals as goal
 

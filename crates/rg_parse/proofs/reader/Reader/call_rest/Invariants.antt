@@ -1,5 +1,5 @@
 use Rattle.std.proofs.Common.{◌≤◌, length, option_map}
-use Rattle.rg_tree.specs.Tables.{name_at}
+use Rattle.rg_tree.specs.Rows.Tables.{name_at}
 use Rattle.rg_parse.proofs.PathRows.{AlongCall}
 use Rattle.rg_parse.proofs.reader.Reader.call_rest.Given as goal
 

@@ -4,7 +4,7 @@ use Rattle.rg_tree.specs.Table.{row}
 use Rattle.rg_parse.proofs.Tokens.{exit}
 use Rattle.rg_parse.proofs.Halting.{halts-here, halts-row}
 use Rattle.rg_parse.proofs.ExprRows.{literal-row, literal-found}
-use Rattle.rg_tree.specs.Tables.{at_first}
+use Rattle.rg_tree.specs.Rows.Tables.{at_first}
 use Rattle.rg_parse.proofs.reader.Reader.literal.Goals as goal
 
 pub returns-in_err-take-clause-fault : goal.returns-in_err-take-clause-fault

@@ -2,7 +2,7 @@ use Rattle.std.proofs.Common.{arith}
 use Rattle.rg_parse.proofs.Halting.{halts-here, halts-took}
 use Rattle.rg_parse.proofs.Tokens.{exit}
 use Rattle.rg_parse.proofs.ClassRows.{params-first_halts, params-start, params-step, params-stop, params-none, params-end, halts-front}
-use Rattle.rg_parse.specs.Readings.{param_symbols}
+use Rattle.rg_parse.specs.Inner.Readings.{param_symbols}
 use Rattle.rg_parse.proofs.reader.Reader.some_params.Goals as goal
 
 pub returns-in_err-first-clause-fault : goal.returns-in_err-first-clause-fault

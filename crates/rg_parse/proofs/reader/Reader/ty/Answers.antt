@@ -1,4 +1,4 @@
-use Rattle.rg_parse.specs.Starts.{type_start}
+use Rattle.rg_parse.specs.Inner.Starts.{type_start}
 use Rattle.rg_parse.proofs.Halting.{halts-none}
 use Rattle.rg_parse.proofs.Tokens.{started}
 use Rattle.rg_parse.proofs.TypeRows.{no-type}

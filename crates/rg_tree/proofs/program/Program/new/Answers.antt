@@ -1,5 +1,5 @@
 use Rattle.std.proofs.Common.{rules, ap, ◌∙◌}
-use Rattle.rg_tree.specs.RowTrees.{program_of}
+use Rattle.rg_tree.specs.Rows.RowTrees.{program_of}
 use Rattle.rg_tree.proofs.Programs.{program_of-at_first}
 use Rattle.rg_tree.proofs.program.Program.new.Goals as goal
 

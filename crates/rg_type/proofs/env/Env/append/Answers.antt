@@ -1,6 +1,6 @@
 use Rattle.std.proofs.Common.{◌≡◌, ◌<◌, ◌∙◌, refl, sym, ap, length}
 use Rattle.rg_type.specs.Scope.{Scope}
-use Rattle.rg_type.specs.Layout.{with_slot, ready_slot}
+use Rattle.rg_type.specs.Inner.Layout.{with_slot, ready_slot}
 use Rattle.rg_type.proofs.EnvLemmas.{length-seen, kept-noted, kept-push, scope-push}
 use Rattle.rg_type.proofs.env.Env.append.Goals as goal
 

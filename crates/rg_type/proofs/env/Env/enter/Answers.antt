@@ -1,7 +1,7 @@
 use Rattle.std.proofs.Common.{◌≡◌, ◌+◌, true, [], ◌∷◌, ◌∙◌, length, ap, arith}
 use Rattle.std.proofs.lemmas.List.{length-append}
 use Rattle.rg_type.specs.Scope.{Scope}
-use Rattle.rg_type.specs.Layout.{ready_slot}
+use Rattle.rg_type.specs.Inner.Layout.{ready_slot}
 use Rattle.rg_type.proofs.EnvLemmas.{length-seen, kept-deeper}
 use Rattle.rg_type.proofs.env.Env.enter.Goals as goal
 

@@ -1,5 +1,5 @@
 use Rattle.std.proofs.Common.{◌∙◌, ap}
-use Rattle.rg_type.specs.States.{joined_with}
+use Rattle.rg_type.specs.Inner.States.{joined_with}
 use Rattle.rg_type.proofs.FlowLemmas.{joined-past}
 use Rattle.rg_type.proofs.EnvLemmas.{kept-flow, scope-joined}
 use Rattle.std.proofs.Common.{length}

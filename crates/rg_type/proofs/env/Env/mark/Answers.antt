@@ -1,7 +1,7 @@
 use Rattle.std.proofs.Common.{◌≡◌, ◌∙◌, sym, ap, subst}
 use Rattle.rg_type.specs.Scope.{Scope, marked, variable_of, env_of, IsScopeIn}
 use Rattle.rg_rules.specs.Environment as rules
-use Rattle.rg_type.specs.States.{readiness_of}
+use Rattle.rg_type.specs.Inner.States.{readiness_of}
 use Rattle.rg_type.proofs.EnvLemmas.{kept-named, scope-named}
 use Rattle.rg_type.proofs.ScopeLemmas.{marked-tree, marked-in}
 use Rattle.rg_type.proofs.env.Env.mark.Goals as goal

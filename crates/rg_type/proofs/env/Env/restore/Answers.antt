@@ -1,5 +1,5 @@
 use Rattle.std.proofs.Common.{◌≡◌, ◌∙◌, ap, length}
-use Rattle.rg_type.specs.States.{restated}
+use Rattle.rg_type.specs.Inner.States.{restated}
 use Rattle.rg_type.proofs.EnvLemmas.{kept-flow, scope-restated, length-seen}
 use Rattle.rg_type.proofs.env.Env.restore.Goals as goal
 

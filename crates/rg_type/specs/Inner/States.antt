@@ -2,8 +2,8 @@
 use Rattle.std.specs.Prelude.{◌≡◌, ℕ, zero, suc, ◌≤◌, IsTrue, if◌then◌else◌, List, [], ◌∷◌, length, Option, Some, None, ok_or, Result, Ok, Err, IfOk}
 use Rattle.rg_base.specs.declared.fault.Code.{Code}
 use Rattle.rg_base.specs.declared.fault.Code.TheVariants.{Unknown}
-use Rattle.rg_tree.specs.Tables.{Tables}
-use Rattle.rg_tree.specs.RowTrees.{program_of}
+use Rattle.rg_tree.specs.Rows.Tables.{Tables}
+use Rattle.rg_tree.specs.Rows.RowTrees.{program_of}
 use Rattle.rg_rules.specs.Answers.{Answer}
 use Rattle.rg_rules.specs.Environment.{Readiness, ready, gone, lent, Entry, joined_readiness, is_ready, entry_of}
 use Rattle.rg_flow.specs.declared.flow.Flow.{Flow}

@@ -21,14 +21,14 @@ use Rattle.rg_tree.specs.Phrases.{Symbol, param_name, mark, the}
 use Rattle.rg_tree.specs.Phrases as p
 use Rattle.rg_tree.specs.Grammar.{Reads, text}
 use Rattle.rg_tree.specs.Stuck.{line_at}
-use Rattle.rg_tree.specs.Tables.{Tables, name_at, numbers_in}
-use Rattle.rg_tree.specs.RowTrees.{path_of, type_of, expr_at, call_of, right_of, stmt_at, block_of, kind_over, else_over, param_at, member_at, member_of, class_of}
-use Rattle.rg_tree.specs.RowsExist.{IsSpanBelow, IsNameIn, IsPathIn, IsTypeIn, IsCallIn, IsRightIn, IsKindIn, IsBlockIn, IsExprNumber, IsMemberIn, IsClassIn}
+use Rattle.rg_tree.specs.Rows.Tables.{Tables, name_at, numbers_in}
+use Rattle.rg_tree.specs.Rows.RowTrees.{path_of, type_of, expr_at, call_of, right_of, stmt_at, block_of, kind_over, else_over, param_at, member_at, member_of, class_of}
+use Rattle.rg_tree.specs.Rows.RowsExist.{IsSpanBelow, IsNameIn, IsPathIn, IsTypeIn, IsCallIn, IsRightIn, IsKindIn, IsBlockIn, IsExprNumber, IsMemberIn, IsClassIn}
 use Rattle.rg_parse.specs.declared.halt.Halt.{Halt}
 use Rattle.rg_parse.specs.declared.level.Level.{Level}
-use Rattle.rg_parse.specs.Levels.{ReadsChain, ReadsOperand}
-use Rattle.rg_parse.specs.Lists.{IsStmtNumber, IsParamNumber}
-use Rattle.rg_parse.specs.Steps.{State, Found, Halts}
+use Rattle.rg_parse.specs.Inner.Levels.{ReadsChain, ReadsOperand}
+use Rattle.rg_parse.specs.Inner.Lists.{IsStmtNumber, IsParamNumber}
+use Rattle.rg_parse.specs.Inner.Steps.{State, Found, Halts}
 
 -- a capability, and a manager
 abbrev pub FoundCap : State → Cap → State → Type 0

@@ -6,8 +6,8 @@ use Rattle.rg_base.specs.declared.fault.Code.TheVariants.{BadType}
 use Rattle.rg_tree.specs.declared.rows.TypeRow.{TypeRow}
 use Rattle.rg_tree.specs.declared.rows.TypeRow.TheVariants as row
 use Rattle.rg_tree.specs.Tree.{Name, Ty as Written, Param, Class}
-use Rattle.rg_tree.specs.Tables.{Tables, name_at}
-use Rattle.rg_tree.specs.RowsExist.{AreRows}
+use Rattle.rg_tree.specs.Rows.Tables.{Tables, name_at}
+use Rattle.rg_tree.specs.Rows.RowsExist.{AreRows}
 use Rattle.rg_rules.specs.Answers.{◌>>=◌, ◌>>◌, test, Answer, Passed}
 use Rattle.rg_rules.specs.Headers.{suits_field, suits_receiver, param_headers, result_header}
 use Rattle.rg_names.specs.Table.{judge_type}

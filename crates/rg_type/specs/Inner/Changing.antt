@@ -7,7 +7,7 @@ use Rattle.rg_tree.specs.declared.rows.Path.{Path}
 use Rattle.rg_base.specs.declared.words.Cap.TheVariants.{Mut}
 use Rattle.rg_base.specs.declared.ty.Ty.TheVariants.{Ref}
 use Rattle.rg_tree.specs.Tree.{Name}
-use Rattle.rg_tree.specs.Tables.{Tables, numbers_in}
+use Rattle.rg_tree.specs.Rows.Tables.{Tables, numbers_in}
 use Rattle.rg_rules.specs.Answers.{Answer, Lined}
 use Rattle.rg_rules.specs.Environment.{Env, with_variable, deeper}
 use Rattle.rg_rules.specs.Expressions as rules

@@ -3,8 +3,8 @@ use Rattle.std.specs.Prelude.{◌≡◌, ℕ, List, [], ◌∷◌, ◌++◌, sli
 use Rattle.rg_base.specs.declared.outcome.Outcome.{Outcome}
 use Rattle.rg_base.specs.declared.outcome.Outcome.TheVariants as outcome
 use Rattle.rg_tree.specs.declared.rows.Span.{Span}
-use Rattle.rg_tree.specs.Tables.{Tables, numbers_in}
-use Rattle.rg_tree.specs.RowTrees.{stmt_at}
+use Rattle.rg_tree.specs.Rows.Tables.{Tables, numbers_in}
+use Rattle.rg_tree.specs.Rows.RowTrees.{stmt_at}
 use Rattle.rg_rules.specs.Items.{Item, Do}
 use Rattle.rg_rules.specs.State.{State}
 use Rattle.rg_rules.specs.Steps.{Stepped, Went, Trapped}

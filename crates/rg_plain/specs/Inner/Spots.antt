@@ -5,9 +5,9 @@ use Rattle.rg_base.specs.declared.value.Val.{Val}
 use Rattle.rg_base.specs.declared.value.Val.TheVariants.{Obj}
 use Rattle.rg_base.specs.declared.outcome.Trap.{Trap}
 use Rattle.rg_tree.specs.Tree.{Name, Path, Right, StmtKind, declare, assign, Class}
-use Rattle.rg_tree.specs.Tables.{Tables, name_at}
-use Rattle.rg_tree.specs.RowTrees.{classes_of, type_of as written, path_of}
-use Rattle.rg_tree.specs.RowsExist.{IsNameIn, IsTypeIn, IsPathIn}
+use Rattle.rg_tree.specs.Rows.Tables.{Tables, name_at}
+use Rattle.rg_tree.specs.Rows.RowTrees.{classes_of, type_of as written, path_of}
+use Rattle.rg_tree.specs.Rows.RowsExist.{IsNameIn, IsTypeIn, IsPathIn}
 use Rattle.rg_rules.specs.Answers.{◌>>=◌}
 use Rattle.rg_rules.specs.Paths.{all_but_last, last_field}
 use Rattle.rg_rules.specs.Items.{Item}

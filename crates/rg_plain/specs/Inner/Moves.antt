@@ -7,7 +7,7 @@ use Rattle.rg_base.specs.declared.value.Val.{Val}
 use Rattle.rg_base.specs.declared.value.Val.TheVariants.{Nil}
 use Rattle.rg_base.specs.declared.outcome.Trap.{Trap}
 use Rattle.rg_tree.specs.Tree.{Class, Right, freeze, merge}
-use Rattle.rg_tree.specs.Tables.{Tables, name_at}
+use Rattle.rg_tree.specs.Rows.Tables.{Tables, name_at}
 use Rattle.rg_rules.specs.Evaluation.{object_at}
 use Rattle.rg_rules.specs.Regions.{region_of, beneath, relabelled}
 use Rattle.rg_rules.specs.RightSides.{frozen, merged}
@@ -18,7 +18,7 @@ use Rattle.rg_plain.specs.declared.moves.Move.{Move}
 use Rattle.rg_plain.specs.declared.moves.Move.TheVariants as moves
 use Rattle.rg_plain.specs.Kept.{Kept}
 use Rattle.rg_plain.specs.Shown.{locals_of}
-use Rattle.rg_plain.specs.Spots.{use_of}
+use Rattle.rg_plain.specs.Inner.Spots.{use_of}
 
 -- the right side
 abbrev pub right_of : Tables → ℕ → Move → Right

@@ -3,14 +3,14 @@ use Rattle.std.specs.Prelude.{ℕ, List}
 use Rattle.rg_base.specs.declared.outcome.Outcome.{Outcome}
 use Rattle.rg_base.specs.declared.outcome.Outcome.TheVariants as outcome
 use Rattle.rg_base.specs.declared.outcome.Trap.TheVariants.{Input, End}
-use Rattle.rg_tree.specs.Tables.{Tables}
-use Rattle.rg_tree.specs.RowTrees.{classes_of}
+use Rattle.rg_tree.specs.Rows.Tables.{Tables}
+use Rattle.rg_tree.specs.Rows.RowTrees.{classes_of}
 use Rattle.rg_rules.specs.Steps.{next}
 use Rattle.rg_input.specs.declared.refusal.NumberRefusal.{NumberRefusal}
 use Rattle.rg_input.specs.declared.refusal.NumberRefusal.TheVariants as no
 use Rattle.rg_plain.specs.Kept.{Kept, plain_of}
 use Rattle.rg_plain.specs.Outcomes.{Settles}
-use Rattle.rg_plain.specs.Steps.{StepIs}
+use Rattle.rg_plain.specs.Inner.Steps.{StepIs}
 
 -- what a step that finds these bytes of the input did, and what it left of them
 abbrev pub StepOn : Tables → (old new : Kept) → Outcome → (before after : List ℕ) → Type 0

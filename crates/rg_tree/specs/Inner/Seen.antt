@@ -1,6 +1,6 @@
 -- How contracts see a program: by its tables.
 use Rattle.rg_tree.specs.declared.program.Program.TheInside.{Inside}
-use Rattle.rg_tree.specs.Tables.{Tables}
+use Rattle.rg_tree.specs.Rows.Tables.{Tables}
 
 -- the tables of a program
 abbrev pub tables_of : Inside → Tables

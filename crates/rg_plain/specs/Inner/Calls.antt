@@ -6,8 +6,8 @@ use Rattle.rg_base.specs.declared.outcome.Outcome.{Outcome}
 use Rattle.rg_base.specs.declared.outcome.Trap.{Trap}
 use Rattle.rg_tree.specs.declared.rows.CallRow.{CallRow}
 use Rattle.rg_tree.specs.Tree.{Name, Class, Path}
-use Rattle.rg_tree.specs.Tables.{Tables, name_at}
-use Rattle.rg_tree.specs.RowTrees.{classes_of, expr_at, stmt_at, call_of}
+use Rattle.rg_tree.specs.Rows.Tables.{Tables, name_at}
+use Rattle.rg_tree.specs.Rows.RowTrees.{classes_of, expr_at, stmt_at, call_of}
 use Rattle.rg_rules.specs.Answers.{◌>>=◌, ◌>>◌}
 use Rattle.rg_rules.specs.Paths.{all_but_last}
 use Rattle.rg_rules.specs.Values.{Computed}
@@ -23,9 +23,9 @@ use Rattle.rg_plain.specs.declared.rows.FrameRow.{FrameRow}
 use Rattle.rg_plain.specs.declared.rows.TargetRow.{TargetRow}
 use Rattle.rg_plain.specs.declared.rows.TargetRow.TheVariants as target
 use Rattle.rg_plain.specs.Kept.{Kept, FrameKept, kept_frame, plain_of, shown, target_of}
-use Rattle.rg_plain.specs.Methods.{method_of}
+use Rattle.rg_plain.specs.Inner.Methods.{method_of}
 use Rattle.rg_plain.specs.Shown.{locals_of}
-use Rattle.rg_plain.specs.Steps.{StepIs}
+use Rattle.rg_plain.specs.Inner.Steps.{StepIs}
 
 -- the value of a path, and the class of the object to which it leads
 abbrev pub receiver_of : List Class → List Seen → List Local → Path → Result Receiver Trap

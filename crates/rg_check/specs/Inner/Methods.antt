@@ -2,9 +2,9 @@
 use Rattle.std.specs.Prelude.{◌≡◌, ℕ, ◌≤◌, ⊤, List, All, length, map, option_map, Ok, IfSome}
 use Rattle.rg_base.specs.declared.limits.TheConstants.{BODY_NAMES}
 use Rattle.rg_tree.specs.Tree.{Ty as Written, Method, Member, field, method, Class}
-use Rattle.rg_tree.specs.Tables.{Tables, name_at, numbers_in}
-use Rattle.rg_tree.specs.RowTrees as rows
-use Rattle.rg_tree.specs.RowsExist.{IsSpanBelow, IsTypeIn, IsBlockIn}
+use Rattle.rg_tree.specs.Rows.Tables.{Tables, name_at, numbers_in}
+use Rattle.rg_tree.specs.Rows.RowTrees as rows
+use Rattle.rg_tree.specs.Rows.RowsExist.{IsSpanBelow, IsTypeIn, IsBlockIn}
 use Rattle.rg_rules.specs.Answers.{Lined, Passed}
 use Rattle.rg_rules.specs.Types.{type_of, good_type}
 use Rattle.rg_rules.specs.Names.{method_names}

@@ -18,7 +18,7 @@ use Rattle.rg_tree.specs.declared.rows.StmtRow.{StmtRow}
 use Rattle.rg_tree.specs.declared.rows.ExprRow.{ExprRow}
 use Rattle.rg_tree.specs.declared.rows.ExprRow.TheVariants as expr_row
 use Rattle.rg_tree.specs.Tree.{Path, Ty, int, bool, ref, Expr, number, boolean, nil, path, is_nil, neg, not, binary, Call, Right, value, new, new_tmp, new_iso, freeze, merge, read, more, result_of, Stmt, stmt, StmtKind, declare, assign, call, swap, branch, while, enter, print, collect, return, Else, no_else, otherwise, Block, empty, then, Param, Member, field, method, Class, Tree}
-use Rattle.rg_tree.specs.Tables.{Tables, name_at, numbers_in}
+use Rattle.rg_tree.specs.Rows.Tables.{Tables, name_at, numbers_in}
 
 -- the trees of the rows of a table, behind those that are done: each is made over the trees of the rows before it
 abbrev pub trees_from : {R T : Type 0} → T → ((ℕ → T) → R → T) → List T → List R → List T

@@ -5,7 +5,7 @@ use Rattle.rg_base.specs.declared.object.Label.{Label}
 use Rattle.rg_base.specs.declared.object.Label.TheVariants.{Region, Temp}
 use Rattle.rg_base.specs.declared.object.Seen.{Seen}
 use Rattle.rg_tree.specs.Tree.{Class, Right, new, new_tmp, new_iso}
-use Rattle.rg_tree.specs.Tables.{Tables, name_at}
+use Rattle.rg_tree.specs.Rows.Tables.{Tables, name_at}
 use Rattle.rg_rules.specs.Types.{fields_of}
 use Rattle.rg_rules.specs.RightSides.{Use, opening_value, with_region}
 use Rattle.rg_rules.specs.State.{Window, State, active, top_number}
@@ -13,8 +13,8 @@ use Rattle.rg_plain.specs.declared.aims.Aim.{Aim}
 use Rattle.rg_plain.specs.declared.makes.Kind.{Kind}
 use Rattle.rg_plain.specs.declared.makes.Kind.TheVariants as kind
 use Rattle.rg_plain.specs.declared.parts.Parts.{Parts}
-use Rattle.rg_plain.specs.Spots.{use_of}
-use Rattle.rg_plain.specs.Rooms.{HasRoom}
+use Rattle.rg_plain.specs.Inner.Spots.{use_of}
+use Rattle.rg_plain.specs.Inner.Rooms.{HasRoom}
 
 -- a new object of a class
 abbrev pub opened_as : List Class → ℕ → Label → Seen

@@ -16,7 +16,7 @@ use Rattle.rg_tree.specs.declared.rows.StmtKind.TheVariants as kind_row
 use Rattle.rg_tree.specs.declared.rows.StmtRow.{StmtRow}
 use Rattle.rg_tree.specs.declared.rows.ExprRow.{ExprRow}
 use Rattle.rg_tree.specs.declared.rows.ExprRow.TheVariants as expr_row
-use Rattle.rg_tree.specs.Tables.{Tables, numbers_in, AreDistinct}
+use Rattle.rg_tree.specs.Rows.Tables.{Tables, numbers_in, AreDistinct}
 
 -- the span lies in the table of numbers
 pub record IsWithin (t : Tables) (s : Span) : Type 0 where

@@ -1,7 +1,7 @@
 -- What stays where tables grow.
 use Rattle.std.specs.Prelude.{◌≡◌, List, ◌++◌}
-use Rattle.rg_tree.specs.Tables.{Tables}
-use Rattle.rg_tree.specs.RowTrees.{exprs_of, stmts_of, params_of, members_of, classes_of}
+use Rattle.rg_tree.specs.Rows.Tables.{Tables}
+use Rattle.rg_tree.specs.Rows.RowTrees.{exprs_of, stmts_of, params_of, members_of, classes_of}
 
 -- the second list begins with the first
 pub record Begins {A : Type 0} (xs ys : List A) : Type 0 where

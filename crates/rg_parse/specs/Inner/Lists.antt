@@ -1,8 +1,8 @@
 -- Rows and lists of numbers that exist.
 use Rattle.std.specs.Prelude.{ℕ, ◌<◌, List, length, All, map}
 use Rattle.rg_tree.specs.declared.rows.Span.{Span}
-use Rattle.rg_tree.specs.Tables.{Tables, numbers_in}
-use Rattle.rg_tree.specs.RowsExist.{IsWithin}
+use Rattle.rg_tree.specs.Rows.Tables.{Tables, numbers_in}
+use Rattle.rg_tree.specs.Rows.RowsExist.{IsWithin}
 
 -- the number names a statement
 abbrev pub IsStmtNumber : Tables → ℕ → Type 0

@@ -5,7 +5,7 @@ use Rattle.rg_rules.specs.Environment.{ready, gone}
 use Rattle.rg_flow.specs.declared.flow.Flow.{Flow}
 use Rattle.rg_flow.specs.Flows.{state_of}
 use Rattle.rg_type.specs.Scope.{Slot, Scope, same_name}
-use Rattle.rg_type.specs.States.{readiness_of}
+use Rattle.rg_type.specs.Inner.States.{readiness_of}
 use Rattle.rg_type.specs.declared.found.Found.{Found}
 use Rattle.rg_type.specs.declared.var.Var.{Var}
 

@@ -5,9 +5,9 @@ use Rattle.rg_base.specs.declared.fault.Code.TheVariants.{Unknown, Capability}
 use Rattle.rg_base.specs.declared.ty.Ty.{Ty}
 use Rattle.rg_base.specs.declared.ty.Ty.TheVariants.{Ref}
 use Rattle.rg_tree.specs.Tree.{Name, Method, Class}
-use Rattle.rg_tree.specs.Tables.{Tables, numbers_in}
-use Rattle.rg_tree.specs.RowTrees.{param_at, program_of}
-use Rattle.rg_tree.specs.RowsExist.{IsSpanBelow}
+use Rattle.rg_tree.specs.Rows.Tables.{Tables, numbers_in}
+use Rattle.rg_tree.specs.Rows.RowTrees.{param_at, program_of}
+use Rattle.rg_tree.specs.Rows.RowsExist.{IsSpanBelow}
 use Rattle.rg_rules.specs.Answers.{◌>>=◌, ◌>>◌, test, Answer}
 use Rattle.rg_rules.specs.Capabilities.{below}
 use Rattle.rg_rules.specs.Types.{type_of, good_type, method_named, method_result}

@@ -4,8 +4,8 @@ use Rattle.rg_base.specs.declared.object.Seen.{Seen}
 use Rattle.rg_base.specs.declared.outcome.Outcome.{Outcome}
 use Rattle.rg_base.specs.declared.outcome.Outcome.TheVariants as outcome
 use Rattle.rg_tree.specs.Tree.{Name, Block, enter}
-use Rattle.rg_tree.specs.Tables.{Tables}
-use Rattle.rg_tree.specs.RowTrees.{classes_of, path_of}
+use Rattle.rg_tree.specs.Rows.Tables.{Tables}
+use Rattle.rg_tree.specs.Rows.RowTrees.{classes_of, path_of}
 use Rattle.rg_tree.specs.declared.rows.Path as row_path
 use Rattle.rg_rules.specs.Items.{Item}
 use Rattle.rg_rules.specs.Regions.{region_of}

@@ -6,9 +6,9 @@ use Rattle.rg_tree.specs.declared.rows.ClassRow.{ClassRow}
 use Rattle.rg_tree.specs.Tree.{Tree}
 use Rattle.rg_tree.specs.Forms as form
 use Rattle.rg_tree.specs.Grammar.{Reads}
-use Rattle.rg_tree.specs.RowTrees.{class_of, classes_of, program_of}
-use Rattle.rg_tree.specs.Tables.{Tables}
-use Rattle.rg_parse.specs.Steps.{State}
+use Rattle.rg_tree.specs.Rows.RowTrees.{class_of, classes_of, program_of}
+use Rattle.rg_tree.specs.Rows.Tables.{Tables}
+use Rattle.rg_parse.specs.Inner.Steps.{State}
 
 -- a class is put last, and nothing is read
 pub data Classed : State → ClassRow → State → Type 0 where
