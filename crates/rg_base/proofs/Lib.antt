@@ -1,4 +1,5 @@
 mod Examples
 mod InputExamples
+mod ReportExamples
 pub mod Fronts
 pub mod Cuts

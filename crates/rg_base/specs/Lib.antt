@@ -4,3 +4,4 @@ pub mod Tokens
 pub mod Text
 pub mod Diagnostics
 pub mod Input
+pub mod Report

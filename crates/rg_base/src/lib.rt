@@ -3,10 +3,12 @@
 #![tactic(auto)]
 
 mod byte_list;
+mod event;
 mod fault;
 mod limits;
 mod object;
 mod outcome;
+mod steps;
 #[cfg(test)]
 mod tests;
 mod token;
@@ -15,6 +17,7 @@ mod value;
 mod words;
 
 pub use byte_list::ByteList;
+pub use event::{Cause, Census, Event};
 pub use fault::{Code, Fault, Memory, Stop};
 pub use limits::{
     BODY_NAMES, BRACKETS, CLASS_FIELDS, CLASS_METHODS, CLASSES, FRAMES, GREATEST_NUMBER,
@@ -23,7 +26,8 @@ pub use limits::{
 };
 pub use object::{Label, Place, Seen};
 pub use outcome::{EndNumbers, Ended, Outcome, Trap};
+pub use steps::Steps;
 pub use token::{Kind, Token};
 pub use ty::Ty;
-pub use value::{Val, Vals};
+pub use value::{Val, Vals, Word};
 pub use words::{Cap, Keyword, Manager, Sign};

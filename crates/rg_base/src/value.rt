@@ -20,6 +20,20 @@ pub enum Val {
     Obj(u64),
 }
 
+/// What a slot of a frame or a field of a cell holds. It shows the value of the same form; a cell
+/// shows the object whose serial it has.
+#[derive(Clone, Copy, Debug, PartialEq, Eq)]
+pub enum Word {
+    /// `nil`
+    Nil,
+    /// `7`
+    Int(i64),
+    /// `true`
+    Bool(bool),
+    /// a reference to a cell, by its slot
+    Slot(usize),
+}
+
 /// A list of values; contracts see the list.
 #[derive(Debug, Drop)]
 pub struct Vals {
