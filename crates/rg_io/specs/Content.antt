@@ -19,6 +19,10 @@ pub record IsPrefix (part whole : List ℕ) : Type 0 where
 abbrev pub AppendsPart : Option (List ℕ) → Option (List ℕ) → List ℕ → Type 0
 AppendsPart old new bytes = (part : List ℕ) × IsPrefix part bytes × Appends old new part
 
+-- where the content is told, the first bytes came to its end, and behind them a prefix of the further ones
+abbrev pub AppendsUpTo : Option (List ℕ) → Option (List ℕ) → (first further : List ℕ) → Type 0
+AppendsUpTo old new first further = (part : List ℕ) × IsPrefix part further × Appends old new (first ++ part)
+
 -- where the content is told, these bytes were at its front and are gone
 abbrev pub Gives : Option (List ℕ) → Option (List ℕ) → List ℕ → Type 0
 Gives None new bytes = new ≡ None

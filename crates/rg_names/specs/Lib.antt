@@ -1,5 +1,6 @@
 pub mod Table
 pub mod TableOf
+pub mod Book
 pub mod Judged
 pub mod TreeAnswers
 pub mod Laws

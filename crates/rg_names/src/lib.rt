@@ -2,6 +2,7 @@
 //! written (docs/language.md, "Headers").
 #![tactic(auto)]
 
+mod book;
 mod build;
 mod by_name;
 mod classes;
@@ -13,6 +14,7 @@ mod suits;
 #[cfg(test)]
 mod tests;
 
+pub use book::Book;
 pub use classes::Classes;
 pub use entry::{FieldAt, Sig};
 pub use laws::{good_headers_pass, tables_are_of_good_headers};

@@ -2,7 +2,7 @@
 use Rattle.std.specs.Prelude.{◌≡◌, ◌≢◌, ◌⊎◌, Bool as Truth, true, false, if◌then◌else◌, List, [], ◌∷◌, ◌++◌}
 use Rattle.rg_base.specs.declared.outcome.Outcome.{Outcome}
 use Rattle.rg_base.specs.declared.outcome.Outcome.TheVariants as outcome
-use Rattle.rg_tree.specs.Tree.{stmt, StmtKind, declare, assign, call, swap, branch, while, enter, print, collect, return, Right, value, new as makes, new_tmp, new_iso, freeze, merge, read, more, result_of}
+use Rattle.rg_tree.specs.Tree.{stmt, StmtKind, declare, assign, call, swap, branch, while, enter, print, collect, return}
 use Rattle.rg_rules.specs.Items.{Item, Do, EndAt, LeaveAt, Back}
 use Rattle.rg_rules.specs.State.{State}
 use Rattle.rg_rules.specs.Steps.{Stepped, Went, Trapped}
@@ -31,39 +31,6 @@ abbrev pub EndsMain : List Item → Type 0
 EndsMain [] = Unit {0}
 EndsMain (i ∷ []) = i ≡ EndAt 0
 EndsMain (i ∷ j ∷ rest) = EndsMain (j ∷ rest)
-
--- whether a right side asks for the input
-abbrev pub asks : Right → Truth
-asks (value e) = false
-asks (makes x) = false
-asks (new_tmp x) = false
-asks (new_iso x m) = false
-asks (freeze y) = false
-asks (merge y) = false
-asks read = true
-asks more = true
-asks (result_of c) = false
-
--- whether a statement does
-abbrev pub kind_asks : StmtKind → Truth
-kind_asks (declare x t r) = asks r
-kind_asks (assign p r) = asks r
-kind_asks (call c) = false
-kind_asks (swap y p) = false
-kind_asks (branch e first other) = false
-kind_asks (while e body) = false
-kind_asks (enter p z body) = false
-kind_asks (print e) = false
-kind_asks collect = false
-kind_asks (return e) = false
-
--- whether the first thing to do asks for the input
-abbrev pub first_asks : List Item → Truth
-first_asks [] = false
-first_asks (Do (stmt line k) ∷ rest) = kind_asks k
-first_asks (EndAt k ∷ rest) = false
-first_asks (LeaveAt k ∷ rest) = false
-first_asks (Back ∷ rest) = false
 
 -- the outcome of a step that went: where nothing is left it is Done
 abbrev pub settled_outcome : Outcome → (empty : Truth) → Outcome

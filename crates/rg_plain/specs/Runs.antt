@@ -1,15 +1,13 @@
 -- What a run answers, has written and leaves, in terms of the machine that never frees.
-use Rattle.std.specs.Prelude.{◌≡◌, ℕ, ◌-◌, ◌<◌, ◌≤◌, true, List, ◌++◌, length, drop, Option}
-use Rattle.rg_base.specs.declared.value.Val.{Val}
+use Rattle.std.specs.Prelude.{◌≡◌, ℕ, ◌-◌, ◌<◌, ◌≤◌, true, List, Option}
 use Rattle.rg_base.specs.declared.outcome.Ended.{Ended}
 use Rattle.rg_base.specs.declared.outcome.Ended.TheVariants as ended
-use Rattle.rg_base.specs.Text.{text}
-use Rattle.rg_io.specs.Content.{Appends, IsPrefix}
+use Rattle.rg_io.specs.Content.{Appends, AppendsUpTo}
 use Rattle.rg_tree.specs.Rows.Tables.{Tables}
-use Rattle.rg_tree.specs.Rows.RowTrees.{classes_of}
 use Rattle.rg_rules.specs.State.{State}
-use Rattle.rg_rules.specs.Runs.{Ending, Running, Done, Stopped, Ran, plain_from}
-use Rattle.rg_plain.specs.Outcomes.{first_asks}
+use Rattle.rg_rules.specs.Inputs.{first_asks}
+use Rattle.rg_rules.specs.Runs.{Ending, Running, Done, Stopped}
+use Rattle.rg_rules.specs.Texts.{ran, text_of, added}
 use Rattle.rg_plain.specs.Machine.{Machine, state_of}
 
 -- the answer of a run that stands so after all its steps
@@ -18,25 +16,9 @@ answer Running = ended.Spent
 answer Done = ended.Done
 answer (Stopped kind line) = ended.Trap kind line
 
--- at most k steps from a state
-abbrev pub ran : Tables → State → (k : ℕ) → Ran
-ran t s k = plain_from (classes_of t) k 0 s
-
--- the values printed after k steps, with those before
-abbrev pub output_after : Tables → State → ℕ → List Val
-output_after t s k = (ran t s k).state.output
-
--- the text that k steps printed
-abbrev pub text_of : Tables → State → ℕ → List ℕ
-text_of t s k = text (drop (length s.output) (output_after t s k))
-
--- what step k added to the text, k counted from 1
-abbrev pub added : Tables → State → ℕ → List ℕ
-added t s k = text (drop (length (output_after t s (k - 1))) (output_after t s k))
-
 -- where it is told, the text of the first k - 1 steps was taken, and a prefix of what step k added
 abbrev pub WroteUpTo : Tables → State → ℕ → Option (List ℕ) → Option (List ℕ) → Type 0
-WroteUpTo t s k old new = (part : List ℕ) × IsPrefix part (added t s k) × Appends old new (text_of t s (k - 1) ++ part)
+WroteUpTo t s k old new = AppendsUpTo old new (text_of t s (k - 1)) (added t s k)
 
 -- A run of n steps that nothing cut off: its answer, its text, its state and the number k of whole steps are those of the
 -- definition. `rest` is what is left of the input.

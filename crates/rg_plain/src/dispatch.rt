@@ -11,7 +11,8 @@ ghost use Rattle.rg_plain.specs.Fits.{PartsFit};
 ghost use Rattle.rg_plain.specs.Inner.Inputs.{StepOn, SettlesOn};
 ghost use Rattle.rg_plain.specs.Kept.{kept_of, plain_of, shown};
 ghost use Rattle.rg_plain.specs.Inner.Steps.{StepIs, IsAt};
-ghost use Rattle.rg_plain.specs.Outcomes.{PrintsOrStays, QuietOrPrints, kind_asks, first_asks};
+ghost use Rattle.rg_plain.specs.Outcomes.{PrintsOrStays, QuietOrPrints};
+ghost use Rattle.rg_rules.specs.Inputs.{kind_asks, first_asks};
 ghost use Rattle.rg_plain.specs.Outcomes.{EndsMain, LeavesRows, settled_outcome};
 
 use crate::aims::Left;

@@ -9,7 +9,7 @@ ghost use Rattle.rg_input.specs.Numbers.{Follows, OnInput};
 ghost use Rattle.rg_plain.specs.Fits.{PartsFit};
 ghost use Rattle.rg_plain.specs.Inner.Inputs.{StepOn};
 ghost use Rattle.rg_plain.specs.Kept.{kept_of};
-ghost use Rattle.rg_plain.specs.Outcomes.{asks};
+ghost use Rattle.rg_rules.specs.Inputs.{asks};
 ghost use Rattle.rg_plain.specs.Inner.Spots.{LeftFits, statement_of};
 ghost use Rattle.rg_plain.specs.Inner.Steps.{IsAt};
 

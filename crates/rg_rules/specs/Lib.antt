@@ -9,6 +9,7 @@ pub mod Rights
 pub mod Statements
 pub mod Names
 pub mod Items
+pub mod Inputs
 pub mod Bodies
 pub mod Points
 pub mod Acceptance
@@ -19,6 +20,7 @@ pub mod Regions
 pub mod RightSides
 pub mod Steps
 pub mod Runs
+pub mod Texts
 pub mod Owners
 pub mod Reach
 pub mod Asks

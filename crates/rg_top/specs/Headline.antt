@@ -1,6 +1,6 @@
 -- The words of the headline: from which cause an answer comes, and what the call leaves (docs/promises.md).
-use Rattle.std.specs.Prelude.{◌≡◌, ◌≢◌, ℕ, ◌<◌, ◌≤◌, true, ◌⊎◌, List, ◌++◌, Option, Some, None, IfSome}
-use Rattle.rg_io.specs.Content.{Appends, AppendsPart, IsPrefix}
+use Rattle.std.specs.Prelude.{◌≡◌, ◌≢◌, ℕ, ◌-◌, ◌<◌, ◌≤◌, true, ◌⊎◌, List, ◌++◌, Option, Some, None, IfSome}
+use Rattle.rg_io.specs.Content.{Appends, AppendsPart, AppendsUpTo, IsPrefix}
 use Rattle.rg_io.specs.Files.{Told, HasFile, file_bytes}
 use Rattle.rg_tree.specs.Tree.{Tree}
 use Rattle.rg_tree.specs.Rows.Tables.{Tables}
@@ -10,8 +10,8 @@ use Rattle.rg_tree.specs.Laws.{ParsesBack}
 use Rattle.rg_rules.specs.Acceptance.{Accepted}
 use Rattle.rg_rules.specs.Runs.{Ran, opening}
 use Rattle.rg_rules.specs.Runs as rules
-use Rattle.rg_plain.specs.Outcomes.{first_asks}
-use Rattle.rg_plain.specs.Runs.{WroteUpTo}
+use Rattle.rg_rules.specs.Texts.{text_of, added}
+use Rattle.rg_rules.specs.Inputs.{first_asks}
 use Rattle.rg_run.specs.Machine.{Kept, IsFresh, Shows}
 use Rattle.rg_top.specs.declared.status.Status.{Status}
 use Rattle.rg_top.specs.declared.status.Status.TheVariants as status
@@ -87,7 +87,7 @@ pub record StandsAfter (t : Tables) (input : List ℕ) (n k : ℕ) (m : Kept) (o
   pub within : k ≤ n
   pub made : (rules.plain (program_of t) input k).steps ≡ k
   pub shows : Shows t m (rules.plain (program_of t) input k).state
-  pub wrote : WroteUpTo t (opening (program_of t) input) k old new
+  pub wrote : AppendsUpTo old new (text_of t (opening (program_of t) input) (k - 1)) (added t (opening (program_of t) input) k)
 
 -- What a call leaves that was cut off by the output or the notes, or for want of memory. A run stands at a whole step. Else no
 -- run has begun, and the output has taken a prefix of the command's text.

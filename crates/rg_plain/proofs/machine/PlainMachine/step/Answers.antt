@@ -2,7 +2,7 @@ use Rattle.std.proofs.Common.{ap, refl, sym, ◌∙◌}
 use Rattle.rg_input.proofs.InputLemmas.{OnInput-map}
 use Rattle.rg_plain.specs.Inner.Inputs.{SettlesOn}
 use Rattle.rg_plain.specs.Kept.{kept_of, shown}
-use Rattle.rg_plain.specs.Outcomes.{first_asks}
+use Rattle.rg_rules.specs.Inputs.{first_asks}
 use Rattle.rg_plain.proofs.MachineLemmas.{fits_parts, fits_again, settles_as}
 use Rattle.rg_plain.proofs.machine.PlainMachine.step.Goals as goal
 
