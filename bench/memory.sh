@@ -5,12 +5,13 @@
 set -u
 here=$(cd "$(dirname "$0")/.." && pwd)
 file=$(readlink -f "${1:-$here/examples/seven.rg}")
+work=$(mktemp -d)
+trap 'rm -rf "$work"' EXIT
 cd "$here/crates/reggio" || exit 2
 for n in $(seq 1 40); do
-  out=$(rt try --fail-alloc "$n" --data a="$file" -- run a 2>/tmp/reggio-memory.$$)
+  out=$(rt try --fail-alloc "$n" --data a="$file" -- run a 2>"$work/notes")
   status=$?
-  notes=$(grep -vE '^(checked|run=|rt:|allocations|interpreter)' /tmp/reggio-memory.$$ | tr '\n' ' ')
+  notes=$(grep -vE '^(checked|run=|rt:|allocations|interpreter)' "$work/notes" | tr '\n' ' ')
   printf 'allocation %2d: status %d output [%s] notes [%s]\n' "$n" "$status" "$(printf '%s' "$out" | tr '\n' ' ')" "$notes"
   [ "$status" = 0 ] && break
 done
-rm -f /tmp/reggio-memory.$$

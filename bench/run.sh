@@ -14,8 +14,8 @@
 set -eu
 here=$(cd "$(dirname "$0")/.." && pwd)
 turns=${1:-5}
-if [ $# -lt 2 ]; then "$here/reggio" run "$here/examples/seven.rg" >/dev/null; fi
-program=${2:-$here/crates/reggio/out/reggio}
+if [ $# -lt 2 ]; then "$here/build"; fi
+program=${2:-$here/bin/reggio}
 work=$(mktemp -d)
 trap 'rm -rf "$work"' EXIT
 python3 - "$work" "$program" "$turns" "$here/bench/lua" "$(command -v lua5.4 || true)" <<'PY'
