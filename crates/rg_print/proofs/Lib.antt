@@ -1,3 +1,4 @@
+mod Canon
 mod Joined
 mod Spans
 mod Rests

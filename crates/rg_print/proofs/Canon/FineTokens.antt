@@ -12,7 +12,7 @@ use Rattle.rg_base.specs.Pieces.{Piece, blank, comment, name, number, sign, piec
 use Rattle.rg_base.specs.Tokens.{value_of, begins_name, word_or_name, name_within, number_within, reading, read_front, placed, with_token, line_after, cut_from, cut}
 use Rattle.rg_tree.specs.Tree.{Name}
 use Rattle.rg_tree.specs.Grammar.{text}
-use Rattle.rg_tree.proofs.LexemeCuts.{token_at, IsName, IsNumber}
+use Rattle.rg_print.proofs.Canon.LexemeCuts.{token_at, IsName, IsNumber}
 
 -- a name or a number with this text
 abbrev pub FineKind : Kind → Name → Type 0

@@ -14,10 +14,10 @@ use Rattle.rg_tree.specs.Tree.{Name, Path, Expr, number, boolean, nil, path, is_
 use Rattle.rg_tree.specs.Canonical.{level, op_level, left_level, right_level}
 use Rattle.rg_tree.specs.Counts.{within, opened, closed, one_sign}
 use Rattle.rg_tree.specs.Operators.{comparison_of, sum_of, product_of, literal_of}
-use Rattle.rg_tree.proofs.FineTokens.{FineKind}
-use Rattle.rg_tree.proofs.LexemesApart.{PathPlain}
-use Rattle.rg_tree.proofs.Readings.{with_signs, signs, one_if, depth, deeper, closed-deeper}
-use Rattle.rg_tree.proofs.PartReads.{Fits}
+use Rattle.rg_print.proofs.Canon.FineTokens.{FineKind}
+use Rattle.rg_print.proofs.Canon.LexemesApart.{PathPlain}
+use Rattle.rg_print.proofs.Canon.Readings.{with_signs, signs, one_if, depth, deeper, closed-deeper}
+use Rattle.rg_print.proofs.Canon.PartReads.{Fits}
 
 -- the depth of an expression where this is the least level that stands bare
 abbrev pub depth_at : ℕ → Expr → ℕ

@@ -18,8 +18,8 @@ use Rattle.rg_tree.specs.Table.{next, row}
 use Rattle.rg_tree.specs.Forms as form
 use Rattle.rg_tree.specs.Forms.{Form, Given}
 use Rattle.rg_tree.specs.Grammar.{Reads, text, path_row, next_field, no_fields}
-use Rattle.rg_tree.proofs.Lexemes.{Lexeme, gap, word, mark, named, numeral, word_text, sign_text, dotted, path_lexemes}
-use Rattle.rg_tree.proofs.LexemeCuts.{tokens_at}
+use Rattle.rg_print.proofs.Canon.Lexemes.{Lexeme, gap, word, mark, named, numeral, word_text, sign_text, dotted, path_lexemes}
+use Rattle.rg_print.proofs.Canon.LexemeCuts.{tokens_at}
 
 -- What comes first.
 

@@ -20,7 +20,7 @@ use Rattle.rg_base.specs.Tokens.{value_onto, begins_name, word_or_name, reading,
 use Rattle.rg_base.proofs.Fronts.{both, IsOther, IsFront, piece-blank, piece-letter, piece-digit, piece-other, front-blank, front-letter, front-digit, front-pair, front-single, front-alone}
 use Rattle.rg_base.proofs.Cuts.{cut_from-reads, token-line}
 use Rattle.rg_tree.specs.Tree.{Name}
-use Rattle.rg_tree.proofs.Lexemes.{Lexeme, gap, word, mark, named, numeral, word_text, sign_text, text_of}
+use Rattle.rg_print.proofs.Canon.Lexemes.{Lexeme, gap, word, mark, named, numeral, word_text, sign_text, text_of}
 
 -- a token at a place and a line
 abbrev pub token_at : Kind → ℕ → ℕ → ℕ → Token

@@ -19,13 +19,13 @@ use Rattle.rg_tree.specs.Operators.{plain_type_of, base_of, input_of}
 use Rattle.rg_tree.specs.Forms as form
 use Rattle.rg_tree.specs.Forms.{Form, Given}
 use Rattle.rg_tree.specs.Grammar.{Reads, assign_row}
-use Rattle.rg_tree.proofs.Lexemes.{Lexeme, text_of, newline, base_lexeme, path_lexemes, braces, stmt_lexemes, kind_lexemes, else_lexemes, block_lexemes, more_param_lexemes, param_lexemes, result_lexemes, members_lexemes, one_class_lexemes, program_lexemes}
-use Rattle.rg_tree.proofs.LexemeCuts.{tokens_at, IsName, goes_on, StandApart}
-use Rattle.rg_tree.proofs.FineTokens.{FineKind}
-use Rattle.rg_tree.proofs.LexemesApart.{NamesPlain, BasePlain, PathPlain, TyPlain}
-use Rattle.rg_tree.proofs.Readings.{ends-all, first_kind, Ends0, depth, Spelt, Read, path-read}
-use Rattle.rg_tree.proofs.PartReads.{Fits, ArgsFit, CallFits, RightFits, leads}
-use Rattle.rg_tree.proofs.ExprLimits.{depth_at}
+use Rattle.rg_print.proofs.Canon.Lexemes.{Lexeme, text_of, newline, base_lexeme, path_lexemes, braces, stmt_lexemes, kind_lexemes, else_lexemes, block_lexemes, more_param_lexemes, param_lexemes, result_lexemes, members_lexemes, one_class_lexemes, program_lexemes}
+use Rattle.rg_print.proofs.Canon.LexemeCuts.{tokens_at, IsName, goes_on, StandApart}
+use Rattle.rg_print.proofs.Canon.FineTokens.{FineKind}
+use Rattle.rg_print.proofs.Canon.LexemesApart.{NamesPlain, BasePlain, PathPlain, TyPlain}
+use Rattle.rg_print.proofs.Canon.Readings.{ends-all, first_kind, Ends0, depth, Spelt, Read, path-read}
+use Rattle.rg_print.proofs.Canon.PartReads.{Fits, ArgsFit, CallFits, RightFits, leads}
+use Rattle.rg_print.proofs.Canon.ExprLimits.{depth_at}
 
 -- What begins a statement.
 
