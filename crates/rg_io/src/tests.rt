@@ -1,4 +1,5 @@
-//! Tests of what no clause says: that calls go well with ample memory, and what the system does.
+//! Tests of what no clause says: that calls go well with ample memory, and what the system does
+//! (docs/architecture.md).
 
 ghost use Rattle.std.specs.Prelude.{◌<◌};
 

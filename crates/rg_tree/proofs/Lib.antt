@@ -1,3 +1,4 @@
+-- Lemmas on the grammar and on the tables; those with pub are for crates above.
 pub mod ByRows
 pub mod Stopping
 pub mod Passing

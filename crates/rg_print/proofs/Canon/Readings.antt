@@ -1,6 +1,7 @@
 -- Readings of lexemes: what comes first and what ends a phrase, the counts that an expression spends, and what is read up to some
 -- lexemes.
-use Rattle.std.proofs.Common.{◌≡◌, ℕ, ◌+◌, ◌-◌, ◌<◌, ◌≤◌, max, nat_lt, Bool, true, false, List, [], ◌∷◌, length, take, drop, Option, Some, None, Ok, refl, ap, subst, arith}
+use Rattle.std.proofs.Common.{◌≡◌, ℕ, ◌+◌, ◌-◌, ◌<◌, ◌≤◌, max, nat_lt, Bool, true, false, List, [], ◌∷◌, length, take, drop, Option, Some, None, Ok}
+use Rattle.std.proofs.Common.{refl, ap, subst, arith}
 use Rattle.std.proofs.lemmas.Bool.Decides.{nat_tests}
 use Rattle.std.specs.Fmt.{signed_decimal}
 use Rattle.rg_base.specs.declared.words.Sign.TheVariants as s
