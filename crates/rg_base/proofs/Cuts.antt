@@ -1,5 +1,6 @@
 -- What one piece adds to the tokens of a source.
-use Rattle.std.proofs.Common.{◌≡◌, ℕ, zero, suc, ◌+◌, ◌-◌, ◌<◌, ◌≤◌, ◌==◌, Bool, true, false, ◌&&◌, cond, List, [], ◌∷◌, length, take, drop, Option, Some, None, is_some, option_map, Ok, Err, refl, arith}
+use Rattle.std.proofs.Common.{◌≡◌, ℕ, zero, suc, ◌+◌, ◌-◌, ◌<◌, ◌≤◌, ◌==◌, Bool, true, false, ◌&&◌, cond, List, [], ◌∷◌, length, take, drop, Option}
+use Rattle.std.proofs.Common.{Some, None, is_some, option_map, Ok, Err, refl, arith}
 use Rattle.std.specs.List.{list_all}
 use Rattle.std.specs.Prelude.{bytes_eq}
 use Rattle.std.proofs.lemmas.Bool.Decides.{nat_tests}
@@ -8,7 +9,8 @@ use Rattle.rg_base.specs.declared.words.Sign.{Sign}
 use Rattle.rg_base.specs.declared.token.Kind.{Kind}
 use Rattle.rg_base.specs.declared.fault.Code.{Code}
 use Rattle.rg_base.specs.Words.{signs, beside}
-use Rattle.rg_base.specs.Pieces.{Piece, sign, is_blank, is_digit, is_letter, is_in_name, is_in_comment, only_if, is_empty, is_comment, piece_of, front}
+use Rattle.rg_base.specs.Pieces.{Piece, sign, is_blank, is_digit, is_letter, is_in_name, is_in_comment, only_if, is_empty, is_comment, piece_of}
+use Rattle.rg_base.specs.Pieces.{front}
 use Rattle.rg_base.specs.Tokens.{reading, read_front, placed, line_after, cut_from, line_behind}
 use Rattle.rg_base.proofs.Fronts.{both, IsOther, piece-blank, piece-letter, piece-digit, piece-other, front-le, front-blank}
 

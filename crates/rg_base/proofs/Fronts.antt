@@ -1,12 +1,14 @@
 -- The piece that begins the bytes, by what they begin with.
-use Rattle.std.proofs.Common.{◌≡◌, ℕ, zero, suc, ◌+◌, ◌-◌, ◌<◌, ◌≤◌, ◌==◌, nat_le, Bool, true, false, ◌&&◌, cond, List, [], ◌∷◌, length, take, Option, Some, None, is_some, option_map, refl, ◌∙◌, arith, one-add}
+use Rattle.std.proofs.Common.{◌≡◌, ℕ, zero, suc, ◌+◌, ◌-◌, ◌<◌, ◌≤◌, ◌==◌, nat_le, Bool, true, false, ◌&&◌, cond, List, [], ◌∷◌, length, take, Option}
+use Rattle.std.proofs.Common.{Some, None, is_some, option_map, refl, ◌∙◌, arith, one-add}
 use Rattle.std.specs.List.{list_all, prefix_len}
 use Rattle.std.specs.Prelude.{bytes_eq}
 use Rattle.std.proofs.lemmas.List.Sums.{prefix_len-le-length}
 use Rattle.std.proofs.lemmas.Bool.Decides.{nat_tests}
 use Rattle.rg_base.specs.declared.words.Sign.{Sign}
 use Rattle.rg_base.specs.Words.{signs, beside, sign_of}
-use Rattle.rg_base.specs.Pieces.{Piece, blank, comment, name, number, sign, is_blank, is_digit, is_letter, is_in_name, is_in_comment, only_if, is_empty, is_comment, piece_of, longest, front}
+use Rattle.rg_base.specs.Pieces.{Piece, blank, comment, name, number, sign, is_blank, is_digit, is_letter, is_in_name, is_in_comment, only_if}
+use Rattle.rg_base.specs.Pieces.{is_empty, is_comment, piece_of, longest, front}
 
 -- The length of the front.
 

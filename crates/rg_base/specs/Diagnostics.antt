@@ -1,7 +1,8 @@
 -- The codes and words of the diagnostics, and the text of a fault (docs/language.md, "Diagnostics").
 use Rattle.std.specs.Prelude.{ℕ, List, [], ◌∷◌, ◌++◌, codes, decimal}
 use Rattle.rg_base.specs.declared.fault.Code.{Code}
-use Rattle.rg_base.specs.declared.fault.Code.TheVariants.{Byte, Number, Name, Syntax, Nesting, Limit, Unknown, Duplicate, BadType, Mismatch, Unavailable, Capability, OutsideWindow, Loop, Arity, IsoField, Return, CallTarget}
+use Rattle.rg_base.specs.declared.fault.Code.TheVariants.{Byte, Number, Name, Syntax, Nesting, Limit, Unknown, Duplicate, BadType, Mismatch}
+use Rattle.rg_base.specs.declared.fault.Code.TheVariants.{Unavailable, Capability, OutsideWindow, Loop, Arity, IsoField, Return, CallTarget}
 use Rattle.rg_base.specs.declared.fault.Fault.{Fault}
 
 -- a code with its word

@@ -1,5 +1,6 @@
--- The next number of an input: blanks are skipped, and the run of other bytes behind them is its token (docs/language.md, "Input").
-use Rattle.std.specs.Prelude.{ℕ, zero, suc, ◌+◌, ◌^◌, ℤ, pos, negsuc, neg_ℤ, Bool, not, ◌==◌, nat_lt, if◌then◌else◌, List, [], ◌∷◌, length, take_while, drop, Option, Some, None, option_map, option_and_then}
+-- The next number of an input: blanks are skipped, and the run of other bytes behind them is its token (docs/language.md, "Input numbers").
+use Rattle.std.specs.Prelude.{ℕ, zero, suc, ◌+◌, ◌^◌, ℤ, pos, negsuc, neg_ℤ, Bool, not, ◌==◌, nat_lt, if◌then◌else◌, List, [], ◌∷◌, length}
+use Rattle.std.specs.Prelude.{take_while, drop, Option, Some, None, option_map, option_and_then}
 use Rattle.std.specs.List.{list_all}
 use Rattle.rg_base.specs.declared.limits.TheConstants.{INPUT_BLANKS, INPUT_TOKEN}
 use Rattle.rg_base.specs.Pieces.{is_blank, is_digit}

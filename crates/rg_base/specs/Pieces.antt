@@ -1,5 +1,6 @@
--- What one piece of a source is: a blank, a comment, a name or reserved word, a number, a sign.
-use Rattle.std.specs.Prelude.{ℕ, zero, suc, ◌==◌, Bool, true, false, not, ◌&&◌, ◌||◌, if◌then◌else◌, nat_le, List, [], ◌∷◌, length, take, Option, Some, None, is_some, option_map}
+-- What one piece of a source is: a blank, a comment, a name or reserved word, a number, a sign (docs/language.md, "Tokens").
+use Rattle.std.specs.Prelude.{ℕ, zero, suc, ◌==◌, Bool, true, false, not, ◌&&◌, ◌||◌, if◌then◌else◌, nat_le, List, [], ◌∷◌, length, take, Option}
+use Rattle.std.specs.Prelude.{Some, None, is_some, option_map}
 use Rattle.std.specs.List.{list_all}
 use Rattle.rg_base.specs.declared.words.Sign.{Sign}
 use Rattle.rg_base.specs.Words.{sign_of}

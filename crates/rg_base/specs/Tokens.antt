@@ -1,5 +1,6 @@
 -- The tokens of a source, with places and lines, or its first fault (docs/language.md, "Tokens").
-use Rattle.std.specs.Prelude.{ℕ, zero, suc, pos, ◌+◌, ◌-◌, ◌*◌, ◌==◌, Bool, true, false, if◌then◌else◌, nat_lt, List, [], ◌∷◌, length, take, drop, Option, Some, None, Result, Ok, Err}
+use Rattle.std.specs.Prelude.{ℕ, zero, suc, pos, ◌+◌, ◌-◌, ◌*◌, ◌==◌, Bool, true, false, if◌then◌else◌, nat_lt, List, [], ◌∷◌, length, take, drop}
+use Rattle.std.specs.Prelude.{Option, Some, None, Result, Ok, Err}
 use Rattle.rg_base.specs.declared.words.Keyword.{Keyword}
 use Rattle.rg_base.specs.declared.token.Kind.{Kind}
 use Rattle.rg_base.specs.declared.token.Kind.TheVariants as k

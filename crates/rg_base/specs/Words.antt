@@ -1,4 +1,4 @@
--- The spellings of the reserved words and of the signs.
+-- The spellings of the reserved words and of the signs (docs/language.md, "Tokens").
 use Rattle.std.specs.Prelude.{ℕ, List, [], ◌∷◌, Option, Some, None, if◌then◌else◌, bytes_eq, codes}
 use Rattle.rg_base.specs.declared.words.Keyword.{Keyword}
 use Rattle.rg_base.specs.declared.words.Keyword.TheVariants as w

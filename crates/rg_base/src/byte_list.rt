@@ -1,4 +1,4 @@
-//! A list of bytes that grows (a source, a text).
+//! A list of bytes that grows (a source, a text) (docs/architecture.md).
 
 ghost use Rattle.std.specs.Prelude.{◌≡◌, [], ◌∷◌, ◌++◌, OnOk, OnErr};
 

@@ -1,4 +1,4 @@
-//! How a step and a run end, and the numbers of a run.
+//! How a step and a run end, and the numbers of a run (docs/language.md, "Steps").
 
 use crate::value::Val;
 

@@ -1,4 +1,5 @@
-//! A counter of steps that takes no bytes: a bound on work is a clause on what was counted.
+//! A counter of steps that takes no bytes: a bound on work is a clause on what was counted
+//! (docs/architecture.md).
 
 ghost use Rattle.std.specs.Prelude.{◌≡◌, ℕ, ◌+◌, ◌<◌};
 

@@ -1,4 +1,4 @@
-//! Tests of what no clause says: that lists grow with ample memory.
+//! Tests of what no clause says: that lists grow with ample memory (docs/architecture.md).
 
 use crate::{ByteList, Val, Vals};
 use std::test::Fail;

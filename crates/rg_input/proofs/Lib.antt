@@ -1,4 +1,4 @@
-mod DigitLemmas
+-- Lemmas on blanks, tokens and what is held; InputLemmas is for crates above.
 mod HeldLemmas
 pub mod InputLemmas
 mod NextLemmas

@@ -1,5 +1,6 @@
 -- What bytes that were read say of the next number.
-use Rattle.std.proofs.Common.{◌≡◌, ℕ, zero, suc, ◌<◌, ◌≤◌, nat_lt, ◌⊎◌, inl, inr, ◌||◌, true, false, List, [], ◌∷◌, ◌++◌, length, Option, Some, None, refl, sym, ◌∙◌, ap, append_assoc, append-nil, is_some, Bool, arith}
+use Rattle.std.proofs.Common.{◌≡◌, ℕ, zero, suc, ◌<◌, ◌≤◌, nat_lt, ◌⊎◌, inl, inr, ◌||◌, true, false, List, [], ◌∷◌, ◌++◌, length, Option, Some, None}
+use Rattle.std.proofs.Common.{refl, sym, ◌∙◌, ap, append_assoc, append-nil, is_some, Bool, arith}
 use Rattle.std.specs.List.{list_all, list_any, prefix_len}
 use Rattle.std.specs.Option.{option_to_list}
 use Rattle.std.proofs.lemmas.Bool.Decides.{nat_tests}
@@ -7,7 +8,8 @@ use Rattle.rg_base.specs.declared.limits.TheConstants.{INPUT_BLANKS, INPUT_TOKEN
 use Rattle.rg_base.specs.Input.{malformed, at_end, skip_blanks, behind_blanks, found_or_malformed, token_number, next_number}
 use Rattle.rg_base.specs.Pieces.{is_blank}
 use Rattle.rg_input.specs.Read.{is_in_token, is_whole_behind, is_whole, IsRead, read_bytes, is_enough}
-use Rattle.rg_input.proofs.NextLemmas.{both-first, both-second, not-true, next-past, starts_no_blank, skip_blanks-all, next-token, next-long, token_number-long}
+use Rattle.rg_input.proofs.NextLemmas.{both-first, both-second, not-true, next-past, starts_no_blank, skip_blanks-all, next-token, next-long}
+use Rattle.rg_input.proofs.NextLemmas.{token_number-long}
 use Rattle.std.proofs.lemmas.Bool.{false≢true, cases_lt}
 use Rattle.std.proofs.lemmas.List.Folds.{list_any-append}
 

@@ -1,3 +1,3 @@
--- What joins the private layers of this crate; no clause of a public call cites it.
+-- What joins the private layers of this crate; no clause of a public call cites it (docs/language.md, "Input numbers").
 pub mod Held
 pub mod Limit

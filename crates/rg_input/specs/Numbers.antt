@@ -1,4 +1,4 @@
--- The numbers of an input: the bytes that are left, and what a call answers of them.
+-- The numbers of an input: the bytes that are left, and what a call answers of them (docs/language.md, "Input numbers").
 use Rattle.std.specs.Prelude.{◌≡◌, ◌⊎◌, ℕ, ℤ, Bool, true, false, List, [], ◌++◌, Option, IfSome, Result, Ok, Err}
 use Rattle.rg_base.specs.Input.{NextNumber, found, malformed, at_end, next_number}
 use Rattle.rg_io.specs.Content.{Gives}

@@ -1,4 +1,4 @@
--- The bytes of an input that were read and not taken.
+-- The bytes of an input that were read and not taken (docs/language.md, "Input numbers").
 use Rattle.std.specs.Prelude.{◌≡◌, ℕ, ◌<◌, Bool, true, false, not, ◌||◌, nat_lt, List, [], ◌∷◌, ◌++◌, length, Option, is_some}
 use Rattle.std.specs.List.{list_all, list_any}
 use Rattle.std.specs.Option.{ForSome, option_to_list}

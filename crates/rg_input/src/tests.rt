@@ -1,4 +1,5 @@
-//! Inputs and their numbers, whatever the pieces of the source, and whichever call of it fails.
+//! Inputs and their numbers, whatever the pieces of the source, and whichever call of it fails
+//! (docs/language.md, "Input numbers").
 
 ghost use Rattle.std.specs.Prelude.{◌<◌, ◌≤◌, Some};
 ghost use Rattle.rg_input.specs.Numbers.{Follows};

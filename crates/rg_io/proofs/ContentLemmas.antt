@@ -1,5 +1,6 @@
 -- Counts of faults and pieces of content, one call after another. For callers.
-use Rattle.std.proofs.Common.{◌≡◌, ℕ, ◌+◌, ◌-◌, ◌≤◌, List, [], ◌++◌, Option, Some, None, IfSome, take, drop, length, append_assoc, append-nil, length-drop, refl, sym, ◌∙◌, ap, subst, inl, inr, arith}
+use Rattle.std.proofs.Common.{◌≡◌, ℕ, ◌+◌, ◌-◌, ◌≤◌, List, [], ◌++◌, Option, Some, None, IfSome, take, drop, length, append_assoc, append-nil}
+use Rattle.std.proofs.Common.{length-drop, refl, sym, ◌∙◌, ap, subst, inl, inr, arith}
 use Rattle.std.proofs.Math.Seq.{take-add}
 use Rattle.std.proofs.lemmas.List.{take_all, take-append-drop}
 use Rattle.rg_io.specs.Content.{Rose, Appends, Gives, AppendsPart}

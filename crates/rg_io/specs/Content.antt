@@ -1,4 +1,4 @@
--- Counts of faults, and what sources and sinks tell of their content.
+-- Counts of faults, and what sources and sinks tell of their content (docs/architecture.md).
 use Rattle.std.specs.Prelude.{◌≡◌, ℕ, ◌+◌, ◌-◌, ◌^◌, ◌<◌, ◌≤◌, ◌⊎◌, if◌then◌else◌, nat_lt, List, ◌++◌, Option, Some, None}
 
 -- a count of faults rose in a call: it is greater after the call than before, or stands at the greatest u64

@@ -1,4 +1,4 @@
--- What files tell: a map from names to bytes, and the unread rest of the file that was begun.
+-- What files tell: a map from names to bytes, and the unread rest of the file that was begun (docs/architecture.md).
 use Rattle.std.specs.Prelude.{◌≡◌, ℕ, ◌<◌, List, [], ◌∷◌, ◌++◌, length, Option, Some, None, if◌then◌else◌, bytes_eq}
 
 -- files by their names; the first of a name counts

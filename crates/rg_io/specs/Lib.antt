@@ -1,3 +1,4 @@
+-- What files, sources and sinks tell of their content, and their counts of faults (docs/architecture.md).
 pub mod Content
 pub mod Files
 pub mod MemFiles

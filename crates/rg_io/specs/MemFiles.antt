@@ -1,4 +1,4 @@
--- What files in memory are.
+-- What files in memory are (docs/architecture.md).
 use Rattle.rg_io.specs.Files.{Told}
 use Rattle.rg_io.specs.Inner.Calls.{CallCounts}
 

@@ -1,4 +1,4 @@
--- What a sink in memory is.
+-- What a sink in memory is (docs/architecture.md).
 use Rattle.std.specs.Prelude.{ℕ, List}
 use Rattle.rg_io.specs.Inner.Calls.{CallCounts}
 

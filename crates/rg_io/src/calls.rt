@@ -1,4 +1,4 @@
-//! Calls on an object in memory, of which some are to fail.
+//! Calls on an object in memory, of which some are to fail (docs/architecture.md).
 
 ghost use Rattle.std.specs.Prelude.{◌≡◌, ◌↔◌, IsTrue, OnOk, OnErr};
 ghost use Rattle.rg_io.specs.Content.{one_more};

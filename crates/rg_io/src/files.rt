@@ -1,4 +1,4 @@
-//! Files by name.
+//! Files by name (docs/architecture.md).
 
 ghost use Rattle.std.specs.Prelude.{◌≡◌, ℕ, ◌<◌, ◌≤◌, length, take, Option, OnOk, OnErr, IfOk};
 ghost use Rattle.rg_io.specs.Content.{Rose};

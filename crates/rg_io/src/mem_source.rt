@@ -1,8 +1,9 @@
-//! A source in memory.
+//! A source in memory (docs/architecture.md).
 
 ghost use Rattle.std.specs.Prelude.{◌≡◌, ◌≤◌, ◌<◌, ◌++◌, [], ◌↔◌, min, length, take, drop, Some};
 ghost use Rattle.std.specs.Prelude.{IfOk, OnOk, OnErr, IfSome, IsErr};
-ghost use Rattle.rg_io.specs.Inner.Calls.{no_calls, with_failing, IsNextFailing, with_call, with_fault};
+ghost use Rattle.rg_io.specs.Inner.Calls.{no_calls, with_failing, IsNextFailing, with_call};
+ghost use Rattle.rg_io.specs.Inner.Calls.{with_fault};
 ghost use Rattle.rg_io.specs.Content.{Rose, Gives};
 
 use crate::calls::Calls;

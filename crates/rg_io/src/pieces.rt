@@ -1,4 +1,4 @@
-//! Parts of lists of bytes.
+//! Parts of lists of bytes (docs/architecture.md).
 
 ghost use Rattle.std.specs.Prelude.{◌≡◌, ◌≤◌, ◌++◌, length, take, drop};
 

@@ -1,4 +1,4 @@
-//! Files in memory, one of which is read.
+//! Files in memory, one of which is read (docs/architecture.md).
 
 ghost use Rattle.std.specs.Prelude.{◌≡◌, ◌++◌, ◌∷◌, ◌↔◌, [], min, length, take, drop, IsTrue};
 ghost use Rattle.std.specs.Prelude.{IsSome, OnOk, OnErr, unwrap_or};

@@ -1,4 +1,4 @@
-//! Files as they lie in memory.
+//! Files as they lie in memory (docs/architecture.md).
 
 ghost use Rattle.std.specs.Prelude.{◌≡◌, ◌<◌, ◌++◌, ◌∷◌, [], length, reverse, slice_get};
 ghost use Rattle.std.specs.Prelude.{Some, None, IfSome, IfNone, OnOk, OnErr};

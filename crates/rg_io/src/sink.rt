@@ -1,4 +1,4 @@
-//! Where bytes go.
+//! Where bytes go (docs/architecture.md).
 
 ghost use Rattle.std.specs.Prelude.{◌≡◌, ℕ, ◌<◌, ◌≤◌, List, length, take, Option};
 ghost use Rattle.std.specs.Prelude.{OnOk, OnErr, IfOk};

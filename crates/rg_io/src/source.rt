@@ -1,4 +1,4 @@
-//! Where bytes come from.
+//! Where bytes come from (docs/architecture.md).
 
 ghost use Rattle.std.specs.Prelude.{◌≡◌, ℕ, ◌<◌, ◌≤◌, List, [], length, take, Option};
 ghost use Rattle.std.specs.Prelude.{OnErr, IfOk, IfSome};

@@ -1,4 +1,4 @@
-//! The trusted edge to the files of the system.
+//! The trusted edge to the files of the system (docs/architecture.md).
 
 ghost use Rattle.std.specs.Prelude.{◌≡◌, ◌≤◌, ◌<◌, length, take, IfOk, OnOk, OnErr};
 ghost use Rattle.rg_io.specs.Content.{Rose, one_more};

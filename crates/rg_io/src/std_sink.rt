@@ -1,4 +1,4 @@
-//! The trusted edge to standard output and standard error.
+//! The trusted edge to standard output and standard error (docs/architecture.md).
 
 ghost use Rattle.std.specs.Prelude.{◌≡◌, ◌≤◌, ◌<◌, length, take, IfOk, OnOk, OnErr};
 ghost use Rattle.rg_io.specs.Content.{Rose, Appends, one_more};

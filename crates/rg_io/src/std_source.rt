@@ -1,4 +1,4 @@
-//! The trusted edge to standard input.
+//! The trusted edge to standard input (docs/architecture.md).
 
 ghost use Rattle.std.specs.Prelude.{◌≡◌, ◌≤◌, ◌<◌, [], length, take, IfOk, IfSome, OnOk, OnErr};
 ghost use Rattle.rg_io.specs.Content.{Rose, Gives, one_more};

@@ -1,9 +1,10 @@
-//! Tests of what no clause says: that calls go well with ample memory, and what the system does.
+//! Tests of what no clause says: that calls go well with ample memory, and what the system does
+//! (docs/architecture.md).
 
 ghost use Rattle.std.specs.Prelude.{◌<◌};
 
 use super::*;
-use rg_base::{ByteList, Memory};
+use rg_base::Memory;
 use std::alloc::{AllocError, Global};
 use std::io;
 use std::test::Fail;
@@ -17,41 +18,60 @@ fn some_bytes(alloc: Global, n: usize) -> Result<Vec<u8>, AllocError> {
     Ok(all)
 }
 
-// Takes a file of these bytes, while a call fails.
-fn take_it(
-    alloc: Global,
-    bytes: &[u8],
-    name: &str,
-    failing: u64,
-) -> Result<Result<ByteList, Taken>, Memory> {
+// Files in memory of which one was replaced by these bytes, while a call fails.
+fn files_of(alloc: Global, bytes: &[u8], failing: u64) -> Result<MemFiles, Memory> {
     let mut files = MemFiles::new(alloc);
     files.add("a file", b"its older bytes")?;
     files.add("a file", bytes)?;
     files.add("another", b"its bytes")?;
     files.fail_at(failing)?;
-    Ok(take_all(alloc, &mut files, name, 5000))
+    Ok(files)
+}
+
+// What comes of taking a file of at most 5,000 bytes, which should be these.
+fn taken_from<F: Files>(alloc: Global, files: &mut F, name: &str, bytes: &[u8]) -> &'static str {
+    match take_all(alloc, files, name, 5000) {
+        Ok(taken) => {
+            if taken.bytes() == bytes {
+                "whole"
+            } else {
+                "other bytes"
+            }
+        }
+        Err(Taken::Long) => "long",
+        Err(Taken::SourceFault) => "fault",
+        Err(Taken::Memory) => "memory",
+    }
 }
 
 #[test]
 fn a_file_is_taken_whole_or_refused(rt: HostRuntime) -> Result<(), Fail> {
-    for (size, name, failing, why) in [
-        (0, "a file", 3, None),
-        (1, "a file", 4, None),
-        (4096, "a file", 4, None),
-        (4097, "a file", 5, None),
-        (5000, "a file", 9, None),
-        (5001, "a file", 9, Some(Taken::Long)),
-        (4097, "a file", 1, Some(Taken::SourceFault)),
-        (4097, "a file", 2, Some(Taken::SourceFault)),
-        (4097, "a file", 3, Some(Taken::SourceFault)),
-        (4097, "a file", 4, Some(Taken::SourceFault)),
-        (4097, "no file", 9, Some(Taken::SourceFault)),
+    for (size, name, failing, want) in [
+        (0, "a file", 3, "whole"),
+        (1, "a file", 4, "whole"),
+        (4096, "a file", 4, "whole"),
+        (4097, "a file", 5, "whole"),
+        (5000, "a file", 9, "whole"),
+        (5001, "a file", 9, "long"),
+        (4097, "a file", 1, "fault"),
+        (4097, "a file", 2, "fault"),
+        (4097, "a file", 3, "fault"),
+        (4097, "a file", 4, "fault"),
+        (4097, "no file", 9, "fault"),
     ] {
         let bytes = some_bytes(rt.alloc(), size)?;
-        match take_it(rt.alloc(), &bytes, name, failing)? {
-            Ok(taken) => assert_eq!(rt; (taken.bytes(), None), (bytes.as_slice(), why)),
-            Err(e) => assert_eq!(rt; Some(e), why, "{name} of size {size}, failing {failing}"),
-        }
+        let mut files = files_of(rt.alloc(), &bytes, failing)?;
+        let is = taken_from(rt.alloc(), &mut files, name, &bytes);
+        assert_eq!(rt; is, want, "{size} bytes, failing {failing}");
+    }
+    for (name, want) in [
+        ("/dev/null", "whole"),
+        ("/dev/zero", "long"),
+        ("/dev/null/no file", "fault"),
+        ("/dev", "fault"),
+    ] {
+        let mut files = StdFiles::new(&rt);
+        assert_eq!(rt; taken_from(rt.alloc(), &mut files, name, b""), want);
     }
     Ok(())
 }
@@ -76,21 +96,29 @@ fn a_sink_takes_all_or_a_part(rt: HostRuntime) -> Result<(), Fail> {
     ] {
         let mut sink = small_sink(rt.alloc(), room, failing)?;
         let is_whole = put_all(&mut sink, b"abc").is_ok();
-        assert_eq!(rt; is_whole, is_taken, "room {room}, failing {failing}");
-        assert_eq!(rt;
-            sink.taken(),
-            part.as_bytes(),
-            "room {room}, failing {failing}"
-        );
+        assert!(rt; is_whole == is_taken && sink.taken() == part.as_bytes());
     }
+    let mut sink = StdSink::new(Broken { calls: 0 });
+    for is_taken in [true, false, false, true] {
+        assert!(rt; put_all(&mut sink, b"a").is_ok() == is_taken);
+    }
+    let mut output = StdSink::new(rt.stdout());
+    assert!(rt; put_all(&mut output, b"").is_ok() && put_all(&mut output, b"\n").is_ok());
     Ok(())
 }
 
-// What one call of a source gives.
-fn first_two<S: Source>(source: &mut S) -> Result<(usize, [u8; 2]), Failed> {
+// What four calls of a source give, with `!` for a fault and a blank behind each.
+fn given_by<S: Source>(alloc: Global, source: &mut S) -> Result<Vec<u8>, AllocError> {
+    let mut said = Vec::new(alloc);
     let mut buf = [0u8; 2];
-    let n = source.read(&mut buf)?;
-    Ok((n, buf))
+    for _ in 0..4 {
+        match source.read(&mut buf) {
+            Ok(n) => said.extend_from_slice(&buf[..n])?,
+            Err(Failed) => said.push(b'!')?,
+        }
+        said.push(b' ')?;
+    }
+    Ok(said)
 }
 
 // A source of `abc`, while a call fails.
@@ -107,29 +135,14 @@ fn source_of_three(alloc: Global, piece: usize, failing: u64) -> Result<MemSourc
 
 #[test]
 fn a_source_gives_its_bytes_in_pieces(rt: HostRuntime) -> Result<(), Fail> {
-    let mut source = source_of_three(rt.alloc(), 5, 2)?;
-    assert_eq!(rt; first_two(&mut source), Ok((2, *b"ab")));
-    assert_eq!(rt; first_two(&mut source), Err(Failed));
-    assert_eq!(rt; first_two(&mut source), Ok((1, *b"c\0")));
-    assert_eq!(rt; first_two(&mut source), Ok((0, *b"\0\0")));
-
-    let mut source = source_of_three(rt.alloc(), 1, 9)?;
-    assert_eq!(rt; first_two(&mut source), Ok((1, *b"a\0")));
-    Ok(())
-}
-
-#[test]
-fn files_of_the_system_are_taken_or_refused(rt: HostRuntime) -> Result<(), Fail> {
-    for (name, why) in [
-        ("/dev/null", None),
-        ("/dev/zero", Some(Taken::Long)),
-        ("/dev/null/no file", Some(Taken::SourceFault)),
-        ("/dev", Some(Taken::SourceFault)),
-    ] {
-        let mut files = StdFiles::new(&rt);
-        let taken = take_all(rt.alloc(), &mut files, name, 5000);
-        assert_eq!(rt; taken.err(), why, "{name}");
+    for (piece, failing, want) in [(5, 2, "ab ! c  "), (1, 9, "a b c  ")] {
+        let mut source = source_of_three(rt.alloc(), piece, failing)?;
+        let said = given_by(rt.alloc(), &mut source)?;
+        assert!(rt; said.as_slice() == want.as_bytes());
     }
+    let mut source = StdSource::new(Broken { calls: 0 });
+    let said = given_by(rt.alloc(), &mut source)?;
+    assert!(rt; said.as_slice() == b"\0 ! \0 \0 ".as_slice());
     Ok(())
 }
 
@@ -162,21 +175,4 @@ impl io::Write for Broken {
     fn flush(&mut self) -> io::Result<()> {
         Ok(())
     }
-}
-
-#[test]
-fn a_fault_of_the_system_is_handed_on(rt: HostRuntime) {
-    let mut source = StdSource::new(Broken { calls: 0 });
-    assert_eq!(rt; first_two(&mut source), Ok((1, [0, 0])));
-    assert_eq!(rt; first_two(&mut source), Err(Failed));
-    assert_eq!(rt; first_two(&mut source), Ok((1, [0, 0])));
-
-    let mut sink = StdSink::new(Broken { calls: 0 });
-    for is_taken in [true, false, false, true] {
-        assert_eq!(rt; put_all(&mut sink, b"a").is_ok(), is_taken);
-    }
-
-    let mut output = StdSink::new(rt.stdout());
-    assert!(rt; put_all(&mut output, b"").is_ok());
-    assert!(rt; put_all(&mut output, b"\n").is_ok());
 }

@@ -1,5 +1,6 @@
 -- Texts with a comma and one blank between, one after another.
-use Rattle.std.proofs.Common.{◌≡◌, ℕ, zero, suc, ◌+◌, ◌<◌, List, [], ◌∷◌, ◌++◌, length, get_or, drop, codes, refl, ap, ◌∙◌, append_assoc, append-nil, drop-cons, arith}
+use Rattle.std.proofs.Common.{◌≡◌, ℕ, zero, suc, ◌+◌, ◌<◌, List, [], ◌∷◌, ◌++◌, length, get_or, drop, codes, refl, ap, ◌∙◌, append_assoc, append-nil}
+use Rattle.std.proofs.Common.{drop-cons, arith}
 use Rattle.std.specs.Prelude.{flat_map}
 use Rattle.rg_tree.specs.Canonical.{joined}
 

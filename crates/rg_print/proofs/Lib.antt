@@ -1,3 +1,4 @@
+-- Lemmas of the printer, and the law of canonical text.
+mod Canon
 mod Joined
-mod Spans
 mod Rests

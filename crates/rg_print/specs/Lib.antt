@@ -1,0 +1,1 @@
+-- No definitions of its own: the canonical text is that of rg_tree (docs/language.md, "Canonical text").

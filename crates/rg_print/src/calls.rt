@@ -1,9 +1,10 @@
-//! Calls and right sides.
+//! Calls and right sides (docs/language.md, "Canonical text").
 
 ghost use Rattle.std.specs.Prelude.{◌≡◌, ℕ, ◌<◌, ◌++◌, codes, length, map, OnOk};
 ghost use Rattle.rg_tree.specs.Canonical.{arg_texts, call_text, joined, path_text, right_text};
 ghost use Rattle.rg_tree.specs.Rows.RowTrees.{call_of, expr_at, path_of, right_of};
-ghost use Rattle.rg_tree.specs.Rows.RowsExist.{IsCallIn, IsNameIn, IsPathIn, IsRightIn, IsSpanBelow};
+ghost use Rattle.rg_tree.specs.Rows.RowsExist.{IsCallIn, IsNameIn, IsPathIn, IsRightIn};
+ghost use Rattle.rg_tree.specs.Rows.RowsExist.{IsSpanBelow};
 ghost use Rattle.rg_tree.specs.Rows.Tables.{name_at, numbers_in};
 
 use crate::expressions::write_expr;

@@ -1,8 +1,10 @@
-//! Classes with their fields and methods.
+//! Classes with their fields and methods (docs/language.md, "Canonical text").
 
-ghost use Rattle.std.specs.Prelude.{◌≡◌, ℕ, ◌<◌, ◌++◌, codes, length, map, option_map, OnOk, IfSome};
+ghost use Rattle.std.specs.Prelude.{◌≡◌, ℕ, ◌<◌, ◌++◌, codes, length, map, option_map, OnOk};
+ghost use Rattle.std.specs.Prelude.{IfSome};
 ghost use Rattle.rg_base.specs.declared.words.Cap.{Cap};
-ghost use Rattle.rg_tree.specs.Canonical.{cap_text, class_text, joined, member_text, param_texts, result_text, line_of, ty_text};
+ghost use Rattle.rg_tree.specs.Canonical.{cap_text, class_text, joined, member_text, param_texts};
+ghost use Rattle.rg_tree.specs.Canonical.{result_text, line_of, ty_text};
 ghost use Rattle.rg_tree.specs.Rows.RowTrees.{class_of, member_at, param_at, type_of};
 ghost use Rattle.rg_tree.specs.Rows.RowsExist.{IsClassIn, IsNameIn, IsSpanBelow, IsTypeIn};
 ghost use Rattle.rg_tree.specs.Rows.Tables.{name_at, numbers_in};
@@ -92,7 +94,8 @@ fn write_head(
 fn write_params(program: &Program, params: Span, out: &mut ByteList) -> Result<(), Memory>
     requires { IsSpanBelow program.now (length program.now.params) params }
     ensures { OnOk result (let t = program.now in out.new ≡ out.old
-        ++ codes "(" ++ joined (param_texts (map (param_at t) (numbers_in t params))) ++ codes ")") }
+        ++ codes "("
+        ++ joined (param_texts (map (param_at t) (numbers_in t params))) ++ codes ")") }
 {
     out.extend(b"(")?;
     for (i, param) in program.order(params).iter().enumerate() {

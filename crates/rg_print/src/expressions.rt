@@ -1,4 +1,5 @@
-//! Expressions, with parentheses exactly where an operand can't stand bare.
+//! Expressions, with parentheses exactly where an operand can't stand bare (docs/language.md,
+//! "Canonical text").
 
 ghost use Rattle.std.specs.Prelude.{◌≡◌, ℕ, ◌<◌, ◌++◌, length, OnOk};
 ghost use Rattle.rg_tree.specs.Canonical.{expr_text, level, operand};

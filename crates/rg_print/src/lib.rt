@@ -4,6 +4,7 @@
 mod calls;
 mod classes;
 mod expressions;
+mod laws;
 mod lines;
 mod names;
 mod statements;
@@ -12,4 +13,5 @@ mod tests;
 mod whole;
 mod words;
 
+pub use laws::canon_parses_back;
 pub use whole::text;

@@ -1,6 +1,7 @@
-//! Lines that begin behind an indent.
+//! Lines that begin behind an indent (docs/language.md, "Canonical text").
 
-ghost use Rattle.std.specs.Prelude.{◌≡◌, suc, ◌*◌, ◌-◌, ◌^◌, ◌<◌, ◌++◌, codes, replicate, IfOk, IsOk, OnOk};
+ghost use Rattle.std.specs.Prelude.{◌≡◌, suc, ◌*◌, ◌-◌, ◌^◌, ◌<◌, ◌++◌, codes, replicate, IfOk};
+ghost use Rattle.std.specs.Prelude.{IsOk, OnOk};
 ghost use Rattle.rg_tree.specs.Canonical.{line_of};
 
 use rg_base::{ByteList, Memory};

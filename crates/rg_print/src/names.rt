@@ -1,4 +1,4 @@
-//! Names, paths and types.
+//! Names, paths and types (docs/language.md, "Canonical text").
 
 ghost use Rattle.std.specs.Prelude.{◌≡◌, ◌<◌, ◌++◌, length, OnOk};
 ghost use Rattle.rg_tree.specs.Canonical.{path_text, ty_text};

@@ -1,9 +1,12 @@
-//! Statements and blocks, each on lines of their own.
+//! Statements and blocks, each on lines of their own (docs/language.md, "Canonical text").
 
 ghost use Rattle.std.specs.Prelude.{◌≡◌, ℕ, ◌<◌, suc, [], ◌∷◌, ◌++◌, codes, length, OnOk, IfSome};
-ghost use Rattle.rg_tree.specs.Canonical.{block_text, else_text, expr_text, line_of, path_text, right_text, stmt_text, ty_text};
-ghost use Rattle.rg_tree.specs.Rows.RowTrees.{block_of, else_over, expr_at, path_of, right_of, stmt_at, type_of};
-ghost use Rattle.rg_tree.specs.Rows.RowsExist.{IsBlockIn, IsExprNumber, IsNameIn, IsPathIn, IsRightIn, IsSpanBelow, IsTypeIn};
+ghost use Rattle.rg_tree.specs.Canonical.{block_text, else_text, expr_text, line_of, path_text};
+ghost use Rattle.rg_tree.specs.Canonical.{right_text, stmt_text, ty_text};
+ghost use Rattle.rg_tree.specs.Rows.RowTrees.{block_of, else_over, expr_at, path_of, right_of};
+ghost use Rattle.rg_tree.specs.Rows.RowTrees.{stmt_at, type_of};
+ghost use Rattle.rg_tree.specs.Rows.RowsExist.{IsBlockIn, IsExprNumber, IsNameIn, IsPathIn};
+ghost use Rattle.rg_tree.specs.Rows.RowsExist.{IsRightIn, IsSpanBelow, IsTypeIn};
 ghost use Rattle.rg_tree.specs.Rows.Tables.{name_at};
 
 use crate::calls::{write_call, write_right};
@@ -123,7 +126,8 @@ fn write_set(program: &Program, path: Path, right: Right, out: &mut ByteList) ->
     requires path { IsPathIn program.now path }
     requires right { IsRightIn program.now right }
     ensures { OnOk result (let t = program.now in out.new ≡ out.old
-        ++ (path_text (path_of t path) ++ codes " = " ++ right_text (right_of t right) ++ codes ";\n")) }
+        ++ (path_text (path_of t path) ++ codes " = "
+        ++ right_text (right_of t right) ++ codes ";\n")) }
 {
     write_path(program, path, out)?;
     out.extend(b" = ")?;
@@ -136,7 +140,8 @@ fn write_swap(program: &Program, name: u32, path: Path, out: &mut ByteList) -> R
     requires name { IsNameIn program.now name }
     requires path { IsPathIn program.now path }
     ensures { OnOk result (let t = program.now in out.new ≡ out.old
-        ++ (codes "swap " ++ name_at t name ++ codes ", " ++ path_text (path_of t path) ++ codes ";\n")) }
+        ++ (codes "swap " ++ name_at t name ++ codes ", "
+        ++ path_text (path_of t path) ++ codes ";\n")) }
 {
     out.extend(b"swap ")?;
     write_name(program, name, out)?;

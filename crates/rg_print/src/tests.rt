@@ -1,4 +1,4 @@
-//! Programs that are built by their rows, and their texts.
+//! Programs that are built by their rows, and their texts (docs/language.md, "Canonical text").
 
 use crate::text;
 use rg_base::{Manager, Memory};

@@ -1,4 +1,4 @@
-//! The text of a whole program.
+//! The text of a whole program (docs/language.md, "Canonical text").
 
 ghost use Rattle.std.specs.Prelude.{◌≡◌, ◌++◌, flat_map, IfOk, OnOk};
 ghost use Rattle.rg_tree.specs.Canonical.{canon, class_text};

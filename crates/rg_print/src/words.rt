@@ -1,7 +1,9 @@
-//! The texts of operators, capabilities and managers, and how tight operators bind.
+//! The texts of operators, capabilities and managers, and how tight operators bind
+//! (docs/language.md, "Canonical text").
 
 ghost use Rattle.std.specs.Prelude.{◌≡◌};
-ghost use Rattle.rg_tree.specs.Canonical.{op_text, cap_text, class_word, manager_text, op_level, left_level, right_level};
+ghost use Rattle.rg_tree.specs.Canonical.{op_text, cap_text, class_word, manager_text, op_level};
+ghost use Rattle.rg_tree.specs.Canonical.{left_level, right_level};
 
 use rg_base::{Cap, Manager};
 use rg_tree::BinOp;

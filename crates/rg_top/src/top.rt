@@ -32,9 +32,9 @@ use rg_io::{Files, Sink, Source, Taken, put_all, take_all};
 use rg_lex::tokens;
 use rg_parse::parse;
 use rg_plain::PlainMachine;
-use rg_print::text;
+use rg_print::{canon_parses_back, text};
 use rg_run::Machine;
-use rg_tree::{Program, canon_parses_back};
+use rg_tree::Program;
 use std::alloc::Global;
 
 /// The status of a run.

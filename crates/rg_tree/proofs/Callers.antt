@@ -1,11 +1,16 @@
 -- For crates above: what stays where a program grows, and what a span of numbers stands for.
-use Rattle.std.proofs.Common.{◌≡◌, ℕ, zero, suc, ◌<◌, ◌≤◌, max, List, [], ◌∷◌, ◌++◌, All, length, get_or, sym, ◌∙◌, ⊎_elim, arith}
+use Rattle.std.proofs.Common.{◌≡◌, ℕ, zero, suc, ◌<◌, ◌≤◌, max, Bool, true, false, Option, None, Some, IfSome, Ok, List, [], ◌∷◌, ◌++◌, All, length}
+use Rattle.std.proofs.Common.{get_or, refl, sym, ◌∙◌, ⊎_elim, arith}
 use Rattle.std.proofs.lemmas.Bool.{cases_order}
 use Rattle.std.proofs.lemmas.List.{length_push}
-use Rattle.std.proofs.lemmas.List.Elements.{All-nil, All-cons, All-head, All-tail}
+use Rattle.std.proofs.lemmas.List.Elements.{All-nil, All-cons, All-head, All-tail, All-weaker}
+use Rattle.rg_base.specs.declared.fault.Code.{Code}
 use Rattle.rg_tree.specs.declared.rows.Span.{Span}
-use Rattle.rg_tree.specs.Rows.Tables.{Tables, name_at, AreDistinct}
-use Rattle.rg_tree.specs.Rows.RowTrees.{exprs_of, expr_at, stmts_of, stmt_at, params_of, param_at, no_param, members_of, member_at, no_member, classes_of, no_stmt, block_of}
+use Rattle.rg_tree.specs.declared.counts.Counts.{Counts}
+use Rattle.rg_tree.specs.Counts.{within}
+use Rattle.rg_tree.specs.Rows.Tables.{Tables, name_at, numbers_in, AreDistinct}
+use Rattle.rg_tree.specs.Rows.RowTrees.{exprs_of, expr_at, stmts_of, stmt_at, params_of, param_at, no_param, members_of, member_at, no_member}
+use Rattle.rg_tree.specs.Rows.RowTrees.{classes_of, no_stmt, block_of}
 use Rattle.rg_tree.specs.Tree.{nil}
 use Rattle.rg_tree.specs.Rows.RowsExist.{Holds, IsSpanBelow, IsBlockIn}
 use Rattle.rg_tree.specs.Inner.Keeps.{Keeps}
@@ -106,3 +111,33 @@ below-above (k ∷ ks) (suc i) l = omega (arith, below-above ks i (omega arith))
 pub above-le : (n : ℕ) (ks : List ℕ) → All (λ k. k < n) ks → above ks ≤ n
 above-le n [] a = omega arith
 above-le n (k ∷ ks) a = omega (arith, All-head (λ k. k < n) k ks a, above-le n ks (All-tail (λ k. k < n) k ks a))
+
+-- the least number above all of a span, which may be none
+abbrev pub above_some : Tables → Option Span → ℕ
+above_some t None = 0
+above_some t (Some s) = above (numbers_in t s)
+
+-- a block within a statement
+pub IsBlockIn-below : (t : Tables) (n : ℕ) (s : Span) → n < length t.stmts → IsSpanBelow t n s → IsBlockIn t s
+IsBlockIn-below t n s l b = record {
+  within = b.within;
+  each = All-weaker (λ k. k < n) (λ k. k < length t.stmts) (λ k h. omega arith) (numbers_in t s) b.each;
+}
+
+-- its numbers are below the statement's
+pub above-below : (t : Tables) (n : ℕ) (s : Span) → IsSpanBelow t n s → above (numbers_in t s) ≤ n
+above-below t n s b = above-le n (numbers_in t s) b.each
+
+-- the same of a block that may be none
+pub IsBlockIn-below_some : (t : Tables) (n : ℕ) (o : Option Span) → n < length t.stmts → IfSome o (IsSpanBelow t n) → IfSome o (IsBlockIn t)
+IsBlockIn-below_some t n None l b = b
+IsBlockIn-below_some t n (Some s) l b = IsBlockIn-below t n s l b
+
+pub above_some-below : (t : Tables) (n : ℕ) (o : Option Span) → IfSome o (IsSpanBelow t n) → above_some t o ≤ n
+above_some-below t n None b = omega arith
+above_some-below t n (Some s) b = above-below t n s b
+
+-- the parts of a test of counts that passed
+pub within-ok : (b : Bool) (f : Code) (c d : Counts) → within b f c ≡ Ok d → (b ≡ true) × (c ≡ d)
+within-ok true f c d h = (refl, cc)
+within-ok false f c d h = cc

@@ -1,5 +1,6 @@
 -- Tables that grow: the rows that were there name rows that exist, and stand for the same trees.
-use Rattle.std.proofs.Common.{◌≡◌, ℕ, ◌-◌, ◌<◌, ◌≤◌, List, [], ◌∷◌, All, map, option_map, length, drop, Option, Some, None, IfSome, refl, ap, ◌∙◌, arith}
+use Rattle.std.proofs.Common.{◌≡◌, ℕ, ◌-◌, ◌<◌, ◌≤◌, List, [], ◌∷◌, All, map, option_map, length, drop, Option, Some, None, IfSome, refl, ap, ◌∙◌}
+use Rattle.std.proofs.Common.{arith}
 use Rattle.std.proofs.lemmas.List.{take-append-le, drop-append-le, length-drop}
 use Rattle.std.proofs.lemmas.List.Elements.{All-weaker, All-head, All-tail}
 use Rattle.std.proofs.lemmas.Option.{IfSome_then}
@@ -19,10 +20,13 @@ use Rattle.rg_tree.specs.declared.rows.StmtKind.TheVariants as kind_row
 use Rattle.rg_tree.specs.declared.rows.StmtRow.{StmtRow}
 use Rattle.rg_tree.specs.declared.rows.ExprRow.{ExprRow}
 use Rattle.rg_tree.specs.declared.rows.ExprRow.TheVariants as expr_row
-use Rattle.rg_tree.specs.Tree.{Expr, path, is_nil, neg, not, ref, value, new, new_tmp, new_iso, freeze, merge, result_of, Stmt, stmt, call, print, return, otherwise}
+use Rattle.rg_tree.specs.Tree.{Expr, path, is_nil, neg, not, ref, value, new, new_tmp, new_iso, freeze, merge, result_of, Stmt, stmt, call, print}
+use Rattle.rg_tree.specs.Tree.{return, otherwise}
 use Rattle.rg_tree.specs.Rows.Tables.{Tables, name_at, numbers_in}
-use Rattle.rg_tree.specs.Rows.RowTrees.{path_of, type_of, expr_over, expr_at, call_of, right_of, block_over, else_over, kind_over, stmt_over, stmt_at, block_of, param_of, param_at, member_of, member_at, class_of}
-use Rattle.rg_tree.specs.Rows.RowsExist.{IsWithin, IsSpanBelow, IsNameIn, IsPathIn, IsTypeIn, IsExprIn, IsCallIn, IsRightIn, IsKindIn, IsStmtIn, IsBlockIn, IsParamIn, IsMemberIn, IsClassIn}
+use Rattle.rg_tree.specs.Rows.RowTrees.{path_of, type_of, expr_over, expr_at, call_of, right_of, block_over, else_over, kind_over, stmt_over, stmt_at}
+use Rattle.rg_tree.specs.Rows.RowTrees.{block_of, param_of, param_at, member_of, member_at, class_of}
+use Rattle.rg_tree.specs.Rows.RowsExist.{IsWithin, IsSpanBelow, IsNameIn, IsPathIn, IsTypeIn, IsExprIn, IsCallIn, IsRightIn, IsKindIn, IsStmtIn}
+use Rattle.rg_tree.specs.Rows.RowsExist.{IsBlockIn, IsParamIn, IsMemberIn, IsClassIn}
 use Rattle.rg_tree.specs.Inner.Keeps.{Begins}
 use Rattle.rg_tree.proofs.TreesFrom.{length-Begins, get_or-Begins}
 

@@ -1,3 +1,4 @@
+-- Lemmas on the grammar and on the tables; those with pub are for crates above.
 pub mod ByRows
 pub mod Stopping
 pub mod Passing
@@ -9,19 +10,6 @@ pub mod Texts
 mod StuckPlaces
 pub mod RoundTrips
 mod WholePrograms
-pub mod Lexemes
-pub mod LexemeTexts
-pub mod LexemeCuts
-pub mod FineTokens
-pub mod Readings
-pub mod ExprReads
-pub mod LexemesApart
-pub mod PartReads
-pub mod ExprLimits
-pub mod CanonFacts
-pub mod CanonReads
-pub mod CanonLines
-pub mod ParsesBack
 mod NameLemmas
 pub mod TreesFrom
 pub mod Grows

@@ -1,5 +1,6 @@
 -- Names by their numbers, and keys that are seen as their bytes.
-use Rattle.std.proofs.Common.{◌≡◌, ℕ, ◌+◌, Bool, true, false, cond, not, List, [], ◌∷◌, ◌++◌, map, length, get_or, position, None, Some, Option, ◌≢◌, ◌<◌, if◌then◌else◌, is_some, slice_get, bytes_eq, refl, sym, ap, ◌∙◌, arith}
+use Rattle.std.proofs.Common.{◌≡◌, ℕ, ◌+◌, Bool, true, false, cond, not, List, [], ◌∷◌, ◌++◌, map, length, get_or, position, None, Some, Option, ◌≢◌}
+use Rattle.std.proofs.Common.{◌<◌, if◌then◌else◌, is_some, slice_get, bytes_eq, refl, sym, ap, ◌∙◌, arith}
 use Rattle.std.specs.List.{list_any, position_or_len}
 use Rattle.std.proofs.lemmas.List.Sums.{prefix_len-le-length, prefix_len_passes}
 use Rattle.std.proofs.lemmas.List.Folds.{position_or_len_push}

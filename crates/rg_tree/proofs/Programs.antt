@@ -1,5 +1,6 @@
 -- The laws that the calls of a program state.
-use Rattle.std.proofs.Common.{◌≡◌, ℕ, Bool, true, false, ◌+◌, ◌<◌, ◌^◌, ◌-◌, List, [], ◌∷◌, ◌++◌, map, length, get_or, Some, is_some, if◌then◌else◌, slice_get, refl, sym, ap, ◌∙◌, arith, length-append, lit<}
+use Rattle.std.proofs.Common.{◌≡◌, ℕ, Bool, true, false, ◌+◌, ◌<◌, ◌^◌, ◌-◌, List, [], ◌∷◌, ◌++◌, map, length, get_or, Some, is_some, if◌then◌else◌}
+use Rattle.std.proofs.Common.{slice_get, refl, sym, ap, ◌∙◌, arith, length-append, lit<}
 use Rattle.std.proofs.lemmas.Option.{slice_get-map, none-some}
 use Rattle.std.proofs.lemmas.List.{length-map, map-append}
 use Rattle.std.proofs.lemmas.List.Elements.{All-nil}
@@ -12,11 +13,15 @@ use Rattle.rg_tree.specs.declared.rows.StmtRow.{StmtRow}
 use Rattle.rg_tree.specs.declared.rows.ExprRow.{ExprRow}
 use Rattle.rg_tree.specs.Tree.{Name, nil}
 use Rattle.rg_tree.specs.Rows.Tables.{Tables, at_first, number_of, with_name}
-use Rattle.rg_tree.specs.Rows.RowTrees.{expr_over, exprs_of, expr_at, expr_of, stmt_over, stmts_of, stmt_at, stmt_of, no_stmt, block_of, param_of, params_of, param_at, no_param, member_of, members_of, member_at, no_member, class_of, classes_of, no_program, program_of}
+use Rattle.rg_tree.specs.Rows.RowTrees.{expr_over, exprs_of, expr_at, expr_of, stmt_over, stmts_of, stmt_at, stmt_of, no_stmt, block_of, param_of}
+use Rattle.rg_tree.specs.Rows.RowTrees.{params_of, param_at, no_param, member_of, members_of, member_at, no_member, class_of, classes_of, no_program}
+use Rattle.rg_tree.specs.Rows.RowTrees.{program_of}
 use Rattle.rg_tree.specs.Rows.RowsExist.{IsExprIn, IsStmtIn, IsBlockIn, IsParamIn, IsMemberIn, IsClassIn, EachRow, AreRows}
 use Rattle.rg_tree.specs.Inner.Keeps.{Begins, Keeps}
-use Rattle.rg_tree.proofs.TreesFrom.{Begins-same, Begins-more, Begins-whole, get_or-Begins, EachFrom-EachRow, EachRow-push, slice_get-push, map-EachRow, map-Begins, get_or-map, length-trees_from, trees_from-at, trees_from-grows}
-use Rattle.rg_tree.proofs.Grows.{Grows, IsAbove-Grows, AgreeBelow, IsExprIn-grows, IsKindIn-grows, IsBlockIn-grows, IsParamIn-grows, IsMemberIn-grows, IsClassIn-grows, expr_over-grows, stmt_over-grows, param_of-grows, member_of-grows, class_of-grows, block_of-grows}
+use Rattle.rg_tree.proofs.TreesFrom.{Begins-same, Begins-more, Begins-whole, get_or-Begins, EachFrom-EachRow, EachRow-push, slice_get-push}
+use Rattle.rg_tree.proofs.TreesFrom.{map-EachRow, map-Begins, get_or-map, length-trees_from, trees_from-at, trees_from-grows}
+use Rattle.rg_tree.proofs.Grows.{Grows, IsAbove-Grows, AgreeBelow, IsExprIn-grows, IsKindIn-grows, IsBlockIn-grows, IsParamIn-grows, IsMemberIn-grows}
+use Rattle.rg_tree.proofs.Grows.{IsClassIn-grows, expr_over-grows, stmt_over-grows, param_of-grows, member_of-grows, class_of-grows, block_of-grows}
 use Rattle.rg_tree.proofs.NameLemmas.{AreDistinct-with_name}
 
 -- How many trees there are.

@@ -12,9 +12,17 @@ use Rattle.rg_tree.specs.Table.{next, row}
 use Rattle.rg_tree.specs.Operators.{base_of}
 use Rattle.rg_tree.specs.Tree.{Tree}
 use Rattle.rg_tree.specs.Forms.{Form, Given}
-use Rattle.rg_tree.specs.Grammar.{Reads, Spells, program_class, program_main, class_row, tmp_class_row, field_row, method_row, no_members, cap_row, plain_type, ref_type, first_param, no_params, next_param, no_more_params, some_result, no_result, manager_row, block_row, no_stmts, more_stmts, let_row, assign_row, call_row, swap_row, if_row, while_row, enter_row, print_row, collect_row, return_row, else_row, else_none, path_row, next_field, no_fields, new_row, freeze_row, merge_row, input_row, result_row, value_row, new_plain, new_temporary, new_region, call_start, call_base, call_further, call_args, no_args, first_arg, next_arg, no_more_args, expr_row, or_row, no_or, and_row, and_further, no_and, not_row, no_not, cmp_row, compared, not_compared, sum_row, sum_further, no_sum, mul_row, mul_further, no_mul, minus, no_minus, literal, parens, path_value, is_row, no_is}
+use Rattle.rg_tree.specs.Grammar.{Reads, Spells, program_class, program_main, class_row, tmp_class_row, field_row, method_row, no_members, cap_row}
+use Rattle.rg_tree.specs.Grammar.{plain_type, ref_type, first_param, no_params, next_param, no_more_params, some_result, no_result, manager_row}
+use Rattle.rg_tree.specs.Grammar.{block_row, no_stmts, more_stmts, let_row, assign_row, call_row, swap_row, if_row, while_row, enter_row, print_row}
+use Rattle.rg_tree.specs.Grammar.{collect_row, return_row, else_row, else_none, path_row, next_field, no_fields, new_row, freeze_row, merge_row}
+use Rattle.rg_tree.specs.Grammar.{input_row, result_row, value_row, new_plain, new_temporary, new_region, call_start, call_base, call_further}
+use Rattle.rg_tree.specs.Grammar.{call_args, no_args, first_arg, next_arg, no_more_args, expr_row, or_row, no_or, and_row, and_further, no_and}
+use Rattle.rg_tree.specs.Grammar.{not_row, no_not, cmp_row, compared, not_compared, sum_row, sum_further, no_sum, mul_row, mul_further, no_mul, minus}
+use Rattle.rg_tree.specs.Grammar.{no_minus, literal, parens, path_value, is_row, no_is}
 use Rattle.rg_tree.specs.Stuck.{expected, Stops, no_row, by_row, another, past, fits, Stuck}
-use Rattle.rg_tree.proofs.ByRows.{phrase_of, base_symbol, cap_of-behind, plain_type_of-behind, manager_of-behind, input_of-behind, literal_of-behind, row_of, row_of-holds}
+use Rattle.rg_tree.proofs.ByRows.{phrase_of, base_symbol, cap_of-behind, plain_type_of-behind, manager_of-behind, input_of-behind, literal_of-behind}
+use Rattle.rg_tree.proofs.ByRows.{row_of, row_of-holds}
 
 same_row : (x : Phrase) (o : Option Kind) (r q ss : List Symbol) {c : Counts} {ts at : List Token} {f : Code} → row x o ≡ Some r
     → row x o ≡ Some q → Stops (q ++ ss) c ts f at → Stops (r ++ ss) c ts f at

@@ -4,7 +4,8 @@ use Rattle.std.specs.Fmt.{digits}
 use Rattle.rg_tree.specs.declared.rows.BinOp.TheVariants.{Or, And, Eq, Add, Sub, Mul}
 use Rattle.rg_base.specs.declared.words.Cap.TheVariants.{Mut, Imm, Iso}
 use Rattle.rg_base.specs.declared.words.Manager.TheVariants.{Arena, Count, Trace}
-use Rattle.rg_tree.specs.Tree.{Name, Path, int, ref, Expr, number, path, is_nil, neg, not, binary, value, new, new_iso, freeze, stmt, declare, assign, call, branch, enter, print, collect, otherwise, empty, then, field, method, Tree}
+use Rattle.rg_tree.specs.Tree.{Name, Path, int, ref, Expr, number, path, is_nil, neg, not, binary, value, new, new_iso, freeze, stmt, declare, assign}
+use Rattle.rg_tree.specs.Tree.{call, branch, enter, print, collect, otherwise, empty, then, field, method, Tree}
 use Rattle.rg_tree.specs.Canonical.{canon, expr_text}
 
 -- lines, each with its end

@@ -1,4 +1,4 @@
--- What the grammar reads, and what that gives.
+-- What the grammar reads, and what that gives (docs/language.md, "Grammar").
 use Rattle.std.specs.Prelude.{List, Option}
 use Rattle.rg_base.specs.declared.words.Cap as cap
 use Rattle.rg_base.specs.declared.words.Manager as manager

@@ -9,13 +9,16 @@ use Rattle.rg_base.specs.declared.words.Keyword.TheVariants as w
 use Rattle.rg_base.specs.declared.words.Sign.TheVariants as s
 use Rattle.rg_base.specs.declared.token.Kind.TheVariants as k
 use Rattle.rg_base.specs.declared.token.Token.{Token}
-use Rattle.rg_tree.specs.Tree.{Name, Variable, Path, Ty, ref, Expr, neg, not, binary, path, is_nil, Call, Right, value, new, new_tmp, new_iso, freeze, merge, result_of, Stmt, stmt, declare, assign, call, swap, branch, while, enter, print, collect, return, Else, no_else, otherwise, Block, empty, then, Param, Member, field, method, Class, Tree}
+use Rattle.rg_tree.specs.Tree.{Name, Variable, Path, Ty, ref, Expr, neg, not, binary, path, is_nil, Call, Right, value, new, new_tmp, new_iso, freeze}
+use Rattle.rg_tree.specs.Tree.{merge, result_of, Stmt, stmt, declare, assign, call, swap, branch, while, enter, print, collect, return, Else, no_else}
+use Rattle.rg_tree.specs.Tree.{otherwise, Block, empty, then, Param, Member, field, method, Class, Tree}
 use Rattle.rg_tree.specs.Phrases.{the}
 use Rattle.rg_tree.specs.Phrases as p
 use Rattle.rg_tree.specs.Forms.{Form, Given}
 use Rattle.rg_tree.specs.Forms as form
 use Rattle.rg_tree.specs.declared.counts.Counts.{Counts}
-use Rattle.rg_tree.specs.Counts.{at_start, opened, closed, one_class, one_field, one_method, one_param, one_local, one_sign, method_begins, main_begins, no_signs}
+use Rattle.rg_tree.specs.Counts.{at_start, opened, closed, one_class, one_field, one_method, one_param, one_local, one_sign, method_begins}
+use Rattle.rg_tree.specs.Counts.{main_begins, no_signs}
 use Rattle.rg_tree.specs.Table.{next, row}
 use Rattle.rg_tree.specs.Operators.{cap_of, plain_type_of, manager_of, base_of, input_of, comparison_of, sum_of, product_of, literal_of}
 

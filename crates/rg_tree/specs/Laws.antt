@@ -1,4 +1,4 @@
--- The laws of the grammar and of canonical text.
+-- The laws of the grammar and of canonical text (docs/language.md, "Grammar").
 use Rattle.std.specs.Prelude.{ℕ, ◌≡◌, List, Ok}
 use Rattle.rg_base.specs.declared.token.Token.{Token}
 use Rattle.rg_base.specs.declared.fault.Code.{Code}

@@ -1,6 +1,7 @@
--- A program without its lines: two programs are the same up to lines where these are equal.
+-- A program without its lines: two programs are the same up to lines where these are equal (docs/language.md, "The tree").
 use Rattle.std.specs.Prelude.{map}
-use Rattle.rg_tree.specs.Tree.{Stmt, stmt, StmtKind, declare, assign, call, swap, branch, while, enter, print, collect, return, Else, no_else, otherwise, Block, empty, then, Member, field, method, Class, Tree}
+use Rattle.rg_tree.specs.Tree.{Stmt, stmt, StmtKind, declare, assign, call, swap, branch, while, enter, print, collect, return, Else, no_else}
+use Rattle.rg_tree.specs.Tree.{otherwise, Block, empty, then, Member, field, method, Class, Tree}
 
 abbrev mutual
   -- a statement with line 0

@@ -1,4 +1,4 @@
--- Which tokens are which words, values and operators.
+-- Which tokens are which words, values and operators (docs/language.md, "Grammar").
 use Rattle.std.specs.Prelude.{true, false, Option, Some, None}
 use Rattle.rg_base.specs.declared.words.Keyword.TheVariants as w
 use Rattle.rg_base.specs.declared.words.Sign.TheVariants as s

@@ -1,4 +1,4 @@
--- What the table of the grammar speaks of: phrases, and the symbols that they stand for.
+-- What the table of the grammar speaks of: phrases, and the symbols that they stand for (docs/language.md, "Grammar").
 use Rattle.rg_base.specs.declared.words.Keyword.{Keyword}
 use Rattle.rg_base.specs.declared.words.Sign.{Sign}
 use Rattle.rg_base.specs.declared.token.Kind.{Kind}

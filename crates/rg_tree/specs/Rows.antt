@@ -1,4 +1,4 @@
--- The flat tables of a program, and the tree that they are.
+-- The flat tables of a program, and the tree that they are (docs/language.md, "The tree").
 pub mod RowTrees
 pub mod RowsExist
 pub mod Tables

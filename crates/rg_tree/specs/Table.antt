@@ -7,7 +7,8 @@ use Rattle.rg_base.specs.declared.words.Sign.TheVariants as s
 use Rattle.rg_base.specs.declared.token.Kind.{Kind}
 use Rattle.rg_base.specs.declared.token.Kind.TheVariants as k
 use Rattle.rg_base.specs.declared.token.Token.{Token}
-use Rattle.rg_tree.specs.Phrases.{Phrase, Symbol, that, sign, name, class_name, field_name, method_name, param_name, local_name, finish, the, word, mark}
+use Rattle.rg_tree.specs.Phrases.{Phrase, Symbol, that, sign, name, class_name, field_name, method_name, param_name, local_name, finish, the, word}
+use Rattle.rg_tree.specs.Phrases.{mark}
 use Rattle.rg_tree.specs.Phrases as p
 
 -- the next token; none at the end

@@ -10,7 +10,7 @@ mod rows;
 mod table;
 
 pub use counts::Counts;
-pub use laws::{at_most_one_tree, canon_parses_back, spelt_is_not_stuck, stuck_once};
+pub use laws::{at_most_one_tree, spelt_is_not_stuck, stuck_once};
 pub use program::Program;
 pub use rows::{
     BinOp, CallRow, ClassRow, ExprRow, MemberRow, ParamRow, Path, Right, Span, StmtKind, StmtRow,

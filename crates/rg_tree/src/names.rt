@@ -1,6 +1,8 @@
-//! The table of names: each name once, with the numbers in the order in which they came.
+//! The table of names: each name once, with the numbers in the order in which they came
+//! (docs/language.md, "The tree").
 
-ghost use Rattle.std.specs.Prelude.{◌≡◌, ◌<◌, [], ◌∷◌, ◌++◌, length, None, Some, IfOk, IsOk, IsSome, OnOk, OnErr, slice_get};
+ghost use Rattle.std.specs.Prelude.{◌≡◌, ◌<◌, [], ◌∷◌, ◌++◌, length, None, Some, IfOk, IsOk};
+ghost use Rattle.std.specs.Prelude.{IsSome, OnOk, OnErr, slice_get};
 ghost use Rattle.rg_tree.specs.Rows.Tables.{number_of, with_name};
 
 use crate::table::row_number;

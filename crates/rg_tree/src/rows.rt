@@ -11,7 +11,7 @@ pub struct Span {
 }
 
 /// `class C { .. }` or `tmp class C { .. }`
-#[derive(Clone, Copy, Debug, PartialEq, Eq)]
+#[derive(Clone, Copy)]
 pub struct ClassRow {
     pub name: u32,
     pub is_tmp: bool,
@@ -20,7 +20,7 @@ pub struct ClassRow {
 }
 
 /// A member of a class.
-#[derive(Clone, Copy, Debug, PartialEq, Eq)]
+#[derive(Clone, Copy)]
 pub enum MemberRow {
     /// `x: T;`
     Field {
@@ -40,7 +40,7 @@ pub enum MemberRow {
 }
 
 /// `a: T`
-#[derive(Clone, Copy, Debug, PartialEq, Eq)]
+#[derive(Clone, Copy)]
 pub struct ParamRow {
     pub name: u32,
     pub ty: TypeRow,
@@ -58,14 +58,14 @@ pub enum TypeRow {
 }
 
 /// A statement, with the line of its first token.
-#[derive(Clone, Copy, Debug, PartialEq, Eq)]
+#[derive(Clone, Copy)]
 pub struct StmtRow {
     pub line: u64,
     pub kind: StmtKind,
 }
 
 /// What a statement says.
-#[derive(Clone, Copy, Debug, PartialEq, Eq)]
+#[derive(Clone, Copy)]
 pub enum StmtKind {
     /// `let x: T = r;`
     Let {
@@ -111,7 +111,7 @@ pub enum StmtKind {
 }
 
 /// What stands right of `=`.
-#[derive(Clone, Copy, Debug, PartialEq, Eq)]
+#[derive(Clone, Copy)]
 pub enum Right {
     /// `e`
     Expr(u32),
@@ -134,7 +134,7 @@ pub enum Right {
 }
 
 /// `call q.m(a, b)`
-#[derive(Clone, Copy, Debug, PartialEq, Eq)]
+#[derive(Clone, Copy)]
 pub struct CallRow {
     pub path: Path,
     pub method: u32,
@@ -142,14 +142,14 @@ pub struct CallRow {
 }
 
 /// `x.f.g`, or `self.f.g` where there is no base.
-#[derive(Clone, Copy, Debug, PartialEq, Eq)]
+#[derive(Clone, Copy)]
 pub struct Path {
     pub base: Option<u32>,
     pub fields: Span,
 }
 
 /// An expression.
-#[derive(Clone, Copy, Debug, PartialEq, Eq)]
+#[derive(Clone, Copy)]
 pub enum ExprRow {
     /// `7`
     Int(i64),

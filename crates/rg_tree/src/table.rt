@@ -1,6 +1,7 @@
-//! One table: a row by its number, and rows that are put last.
+//! One table: a row by its number, and rows that are put last (docs/language.md, "The tree").
 
-ghost use Rattle.std.specs.Prelude.{◌≡◌, ◌+◌, ◌-◌, ◌<◌, ◌^◌, ◌↔◌, [], ◌∷◌, ◌++◌, length, slice_get, Some, IfOk, IsOk, OnOk, OnErr};
+ghost use Rattle.std.specs.Prelude.{◌≡◌, ◌+◌, ◌-◌, ◌<◌, ◌^◌, ◌↔◌, [], ◌∷◌, ◌++◌, length, slice_get};
+ghost use Rattle.std.specs.Prelude.{Some, IfOk, IsOk, OnOk, OnErr};
 
 use crate::rows::Span;
 use rg_base::Memory;

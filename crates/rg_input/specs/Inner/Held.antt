@@ -1,4 +1,4 @@
--- The bytes that are held, and what they say.
+-- The bytes that are held, and what they say (docs/language.md, "Input numbers").
 use Rattle.std.specs.Prelude.{◌≡◌, ℕ, ◌⊎◌, true, Bool, List, [], ◌++◌, Option}
 use Rattle.std.specs.Option.{option_to_list}
 use Rattle.rg_base.specs.Input.{NextNumber, found, malformed, at_end, next_number}

@@ -1,4 +1,4 @@
--- A number within a limit.
+-- A number within a limit (docs/language.md, "Input numbers").
 use Rattle.std.specs.Prelude.{ℕ, nat_lt, if◌then◌else◌, Option, Some, None}
 
 -- a number, where it is at most another

@@ -1,4 +1,4 @@
--- Calls on an object in memory: how many were made, which are to fail, and how many failed.
+-- Calls on an object in memory: how many were made, which are to fail, and how many failed (docs/architecture.md).
 use Rattle.std.specs.Prelude.{ℕ, List, [], ◌∷◌, ◌++◌, Contains}
 use Rattle.rg_io.specs.Content.{one_more}
 

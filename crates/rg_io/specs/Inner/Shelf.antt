@@ -1,4 +1,4 @@
--- Files as they lie in memory, the oldest first.
+-- Files as they lie in memory, the oldest first (docs/architecture.md).
 use Rattle.std.specs.Prelude.{ℕ, ◌<◌, ◌≤◌, List, [], length, drop, Option, Some, None, slice_get}
 use Rattle.rg_io.specs.Files.{FileMap}
 use Rattle.rg_io.specs.declared.reading.Place.{Place}

@@ -1,4 +1,4 @@
--- What the files, sources and sinks of the system tell of their content: nothing. They are seen as their counts of faults.
+-- What the files, sources and sinks of the system tell of their content: nothing. They are seen as their counts of faults (docs/architecture.md).
 use Rattle.std.specs.Prelude.{ℕ, List, Option, None}
 use Rattle.rg_io.specs.Files.{Told}
 

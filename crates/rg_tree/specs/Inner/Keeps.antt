@@ -1,4 +1,4 @@
--- What stays where tables grow.
+-- What stays where tables grow (docs/language.md, "The tree").
 use Rattle.std.specs.Prelude.{◌≡◌, List, ◌++◌}
 use Rattle.rg_tree.specs.Rows.Tables.{Tables}
 use Rattle.rg_tree.specs.Rows.RowTrees.{exprs_of, stmts_of, params_of, members_of, classes_of}

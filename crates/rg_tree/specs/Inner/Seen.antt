@@ -1,4 +1,4 @@
--- How contracts see a program: by its tables.
+-- How contracts see a program: by its tables (docs/language.md, "The tree").
 use Rattle.rg_tree.specs.declared.program.Program.TheInside.{Inside}
 use Rattle.rg_tree.specs.Rows.Tables.{Tables}
 

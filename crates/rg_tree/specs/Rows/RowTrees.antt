@@ -17,7 +17,9 @@ use Rattle.rg_tree.specs.declared.rows.StmtKind.TheVariants as kind_row
 use Rattle.rg_tree.specs.declared.rows.StmtRow.{StmtRow}
 use Rattle.rg_tree.specs.declared.rows.ExprRow.{ExprRow}
 use Rattle.rg_tree.specs.declared.rows.ExprRow.TheVariants as expr_row
-use Rattle.rg_tree.specs.Tree.{Path, Ty, int, bool, ref, Expr, number, boolean, nil, path, is_nil, neg, not, binary, Call, Right, value, new, new_tmp, new_iso, freeze, merge, read, more, result_of, Stmt, stmt, StmtKind, declare, assign, call, swap, branch, while, enter, print, collect, return, Else, no_else, otherwise, Block, empty, then, Param, Member, field, method, Class, Tree}
+use Rattle.rg_tree.specs.Tree.{Path, Ty, int, bool, ref, Expr, number, boolean, nil, path, is_nil, neg, not, binary, Call, Right, value, new, new_tmp}
+use Rattle.rg_tree.specs.Tree.{new_iso, freeze, merge, read, more, result_of, Stmt, stmt, StmtKind, declare, assign, call, swap, branch, while, enter}
+use Rattle.rg_tree.specs.Tree.{print, collect, return, Else, no_else, otherwise, Block, empty, then, Param, Member, field, method, Class, Tree}
 use Rattle.rg_tree.specs.Rows.Tables.{Tables, name_at, numbers_in}
 
 -- the trees of the rows of a table, behind those that are done: each is made over the trees of the rows before it

@@ -1,4 +1,4 @@
--- Rows whose numbers name rows that exist.
+-- Rows whose numbers name rows that exist (docs/language.md, "The tree").
 use Rattle.std.specs.Prelude.{ℕ, ◌≡◌, ◌^◌, ◌<◌, ◌≤◌, ⊤, List, length, All, Some, IfSome, slice_get}
 use Rattle.rg_tree.specs.declared.rows.Span.{Span}
 use Rattle.rg_tree.specs.declared.rows.Path.{Path}

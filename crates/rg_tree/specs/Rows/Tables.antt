@@ -1,5 +1,6 @@
--- The flat tables of a program, as contracts see them: each row goes by its number, from 0.
-use Rattle.std.specs.Prelude.{ℕ, ◌≢◌, ◌-◌, List, [], ◌∷◌, ◌++◌, Option, AllPairs, bytes_eq, if◌then◌else◌, is_some, position, slice_index_or, take, drop}
+-- The flat tables of a program, as contracts see them: each row goes by its number, from 0 (docs/language.md, "The tree").
+use Rattle.std.specs.Prelude.{ℕ, ◌≢◌, ◌-◌, List, [], ◌∷◌, ◌++◌, Option, AllPairs, bytes_eq, if◌then◌else◌, is_some, position, slice_index_or, take}
+use Rattle.std.specs.Prelude.{drop}
 use Rattle.rg_base.specs.declared.words.Manager.{Manager}
 use Rattle.rg_base.specs.declared.words.Manager.TheVariants.{Arena}
 use Rattle.rg_tree.specs.declared.rows.Span.{Span}

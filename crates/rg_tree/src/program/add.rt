@@ -1,6 +1,8 @@
-//! What is added to a program: each call leaves all that was there before.
+//! What is added to a program: each call leaves all that was there before (docs/language.md, "The
+//! tree").
 
-ghost use Rattle.std.specs.Prelude.{◌≡◌, ◌<◌, ◌∷◌, [], ◌++◌, length, Some, IfOk, IsOk, IsSome, OnOk, OnErr};
+ghost use Rattle.std.specs.Prelude.{◌≡◌, ◌<◌, ◌∷◌, [], ◌++◌, length, Some, IfOk, IsOk, IsSome};
+ghost use Rattle.std.specs.Prelude.{OnOk, OnErr};
 
 use super::Program;
 use crate::rows::{ClassRow, ExprRow, MemberRow, ParamRow, Span, StmtRow};
@@ -9,8 +11,11 @@ use rg_base::{Manager, Memory};
 
 impl Program {
     ghost use Rattle.rg_tree.specs.Rows.Tables.{name_at, number_of, with_name};
-    ghost use Rattle.rg_tree.specs.Rows.RowTrees.{expr_at, expr_of, stmt_at, stmt_of, param_at, param_of, member_at, member_of, class_of, classes_of, block_of, program_of};
-    ghost use Rattle.rg_tree.specs.Rows.RowsExist.{Holds, IsBlockIn, IsExprIn, IsStmtIn, IsParamIn, IsMemberIn, IsClassIn};
+    ghost use Rattle.rg_tree.specs.Rows.RowTrees.{expr_at, expr_of, stmt_at, stmt_of, param_at};
+    ghost use Rattle.rg_tree.specs.Rows.RowTrees.{param_of, member_at, member_of, class_of};
+    ghost use Rattle.rg_tree.specs.Rows.RowTrees.{classes_of, block_of, program_of};
+    ghost use Rattle.rg_tree.specs.Rows.RowsExist.{Holds, IsBlockIn, IsExprIn, IsStmtIn, IsParamIn};
+    ghost use Rattle.rg_tree.specs.Rows.RowsExist.{IsMemberIn, IsClassIn};
     ghost use Rattle.rg_tree.specs.Inner.Keeps.{Keeps};
 
     /// The number of a name: the same for equal bytes. A name that is there takes no memory.

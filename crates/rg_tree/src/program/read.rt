@@ -1,4 +1,4 @@
-//! What is read from a program.
+//! What is read from a program (docs/language.md, "The tree").
 
 ghost use Rattle.std.specs.Prelude.{◌≡◌, ◌<◌, length, Some, slice_get};
 
@@ -9,8 +9,11 @@ use rg_base::Manager;
 
 impl Program {
     ghost use Rattle.rg_tree.specs.Rows.Tables.{number_of, name_at, numbers_in};
-    ghost use Rattle.rg_tree.specs.Rows.RowTrees.{expr_at, expr_of, stmt_at, stmt_of, param_at, param_of, member_at, member_of, classes_of, class_of, block_of, program_of};
-    ghost use Rattle.rg_tree.specs.Rows.RowsExist.{AreRows, IsWithin, IsBlockIn, IsExprIn, IsStmtIn, IsParamIn, IsMemberIn, IsClassIn};
+    ghost use Rattle.rg_tree.specs.Rows.RowTrees.{expr_at, expr_of, stmt_at, stmt_of, param_at};
+    ghost use Rattle.rg_tree.specs.Rows.RowTrees.{param_of, member_at, member_of, classes_of};
+    ghost use Rattle.rg_tree.specs.Rows.RowTrees.{class_of, block_of, program_of};
+    ghost use Rattle.rg_tree.specs.Rows.RowsExist.{AreRows, IsWithin, IsBlockIn, IsExprIn};
+    ghost use Rattle.rg_tree.specs.Rows.RowsExist.{IsStmtIn, IsParamIn, IsMemberIn, IsClassIn};
 
     /// The name of a number.
     pub fn name(&self, i: u32) -> &[u8]

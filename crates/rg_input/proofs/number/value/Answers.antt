@@ -1,5 +1,5 @@
 use Rattle.std.proofs.Common.{arith}
-use Rattle.rg_input.proofs.DigitLemmas.{value_of-past}
+use Rattle.rg_base.proofs.Callers.Digits.{value_of-past}
 use Rattle.rg_input.proofs.number.value.Goals as goal
 
 pub returns-then-value-most-clause-past : goal.returns-then-value-most-clause-past

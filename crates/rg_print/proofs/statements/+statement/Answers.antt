@@ -1,8 +1,7 @@
 use Rattle.std.proofs.Common.{◌<◌, length, arith}
 use Rattle.std.proofs.lemmas.List.Elements.{All-get_or}
 use Rattle.rg_tree.specs.Rows.Tables.{numbers_in}
-use Rattle.rg_tree.proofs.Callers.{below-above}
-use Rattle.rg_print.proofs.Spans.{IsBlockIn-below, above-below, IsBlockIn-below_some, above_some-below}
+use Rattle.rg_tree.proofs.Callers.{below-above, IsBlockIn-below, above-below, IsBlockIn-below_some, above_some-below}
 use Rattle.rg_print.proofs.statements.+statement.Goals as goal
 
 pub write_block-write_stmt-requires : goal.write_block-write_stmt-requires

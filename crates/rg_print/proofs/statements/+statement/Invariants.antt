@@ -2,8 +2,7 @@ use Rattle.std.proofs.Common.{◌≡◌, suc, ◌+◌, ◌*◌, [], ◌∷◌, �
 use Rattle.rg_tree.specs.Canonical.{block_text}
 use Rattle.rg_tree.specs.Rows.RowTrees.{block_of, block_over, stmt_at}
 use Rattle.rg_tree.specs.Rows.Tables.{numbers_in}
-use Rattle.rg_tree.proofs.Callers.{above}
-use Rattle.rg_print.proofs.Spans.{above_some}
+use Rattle.rg_tree.proofs.Callers.{above, above_some}
 use Rattle.rg_print.proofs.statements.+statement.Given as goal
 
 abbrev pub decreases-write_stmt : goal.decreases-write_stmt

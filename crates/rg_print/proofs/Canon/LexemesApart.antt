@@ -4,10 +4,12 @@ use Rattle.rg_base.specs.declared.words.Keyword.TheVariants as w
 use Rattle.rg_base.specs.declared.words.Sign.TheVariants as s
 use Rattle.rg_tree.specs.declared.rows.BinOp.{BinOp}
 use Rattle.rg_tree.specs.declared.rows.BinOp.TheVariants.{Or, And, Eq, Ne, Lt, Le, Gt, Ge, Add, Sub, Mul, Div, Rem}
-use Rattle.rg_tree.specs.Tree.{Name, Variable, Path, Ty, int, bool, ref, Expr, number, boolean, nil, path, is_nil, neg, not, binary, Call, Right, value, new, new_tmp, new_iso, freeze, merge, read, more, result_of}
+use Rattle.rg_tree.specs.Tree.{Name, Variable, Path, Ty, int, bool, ref, Expr, number, boolean, nil, path, is_nil, neg, not, binary, Call, Right}
+use Rattle.rg_tree.specs.Tree.{value, new, new_tmp, new_iso, freeze, merge, read, more, result_of}
 use Rattle.rg_tree.specs.Canonical.{level, left_level, right_level}
-use Rattle.rg_tree.proofs.Lexemes.{Lexeme, word, mark, named, text_of, space, op_lexeme, base_lexeme, dotted, path_lexemes, ty_lexemes, enclosed, expr_lexemes, more_arg_lexemes, arg_lexemes, call_lexemes, right_lexemes}
-use Rattle.rg_tree.proofs.LexemeCuts.{IsName, IsNumber, goes_on, StandApart}
+use Rattle.rg_print.proofs.Canon.Lexemes.{Lexeme, word, mark, named, text_of, space, op_lexeme, base_lexeme, dotted, path_lexemes, ty_lexemes}
+use Rattle.rg_print.proofs.Canon.Lexemes.{enclosed, expr_lexemes, more_arg_lexemes, arg_lexemes, call_lexemes, right_lexemes}
+use Rattle.rg_print.proofs.Canon.LexemeCuts.{IsName, IsNumber, goes_on, StandApart}
 
 -- Names and numbers within their limits.
 

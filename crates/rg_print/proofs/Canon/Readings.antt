@@ -1,6 +1,7 @@
 -- Readings of lexemes: what comes first and what ends a phrase, the counts that an expression spends, and what is read up to some
 -- lexemes.
-use Rattle.std.proofs.Common.{◌≡◌, ℕ, ◌+◌, ◌-◌, ◌<◌, ◌≤◌, max, nat_lt, Bool, true, false, List, [], ◌∷◌, length, take, drop, Option, Some, None, Ok, refl, ap, subst, arith}
+use Rattle.std.proofs.Common.{◌≡◌, ℕ, ◌+◌, ◌-◌, ◌<◌, ◌≤◌, max, nat_lt, Bool, true, false, List, [], ◌∷◌, length, take, drop, Option, Some, None, Ok}
+use Rattle.std.proofs.Common.{refl, ap, subst, arith}
 use Rattle.std.proofs.lemmas.Bool.Decides.{nat_tests}
 use Rattle.std.specs.Fmt.{signed_decimal}
 use Rattle.rg_base.specs.declared.words.Sign.TheVariants as s
@@ -18,8 +19,8 @@ use Rattle.rg_tree.specs.Table.{next, row}
 use Rattle.rg_tree.specs.Forms as form
 use Rattle.rg_tree.specs.Forms.{Form, Given}
 use Rattle.rg_tree.specs.Grammar.{Reads, text, path_row, next_field, no_fields}
-use Rattle.rg_tree.proofs.Lexemes.{Lexeme, gap, word, mark, named, numeral, word_text, sign_text, dotted, path_lexemes}
-use Rattle.rg_tree.proofs.LexemeCuts.{tokens_at}
+use Rattle.rg_print.proofs.Canon.Lexemes.{Lexeme, gap, word, mark, named, numeral, word_text, sign_text, dotted, path_lexemes}
+use Rattle.rg_print.proofs.Canon.LexemeCuts.{tokens_at}
 
 -- What comes first.
 

@@ -1,7 +1,8 @@
 -- The canonical text of a program doesn't speak of its lines.
 use Rattle.std.proofs.Common.{◌≡◌, ℕ, suc, List, [], ◌∷◌, map, refl, sym, ◌∙◌, ap}
 use Rattle.std.specs.Prelude.{flat_map}
-use Rattle.rg_tree.specs.Tree.{Stmt, stmt, StmtKind, declare, assign, call, swap, branch, while, enter, print, collect, return, Else, no_else, otherwise, Block, empty, then, Member, field, method, Class, Tree}
+use Rattle.rg_tree.specs.Tree.{Stmt, stmt, StmtKind, declare, assign, call, swap, branch, while, enter, print, collect, return, Else, no_else}
+use Rattle.rg_tree.specs.Tree.{otherwise, Block, empty, then, Member, field, method, Class, Tree}
 use Rattle.rg_tree.specs.Canonical.{stmt_text, kind_text, else_text, block_text, member_text, class_text, canon}
 use Rattle.rg_tree.specs.Lineless.{stmt_lineless, kind_lineless, else_lineless, block_lineless, member_lineless, class_lineless, lineless}
 

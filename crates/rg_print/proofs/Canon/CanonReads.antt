@@ -1,5 +1,6 @@
 -- What a source spells, its lexemes spell: each reading from a source tells it.
-use Rattle.std.proofs.Common.{◌≡◌, ℕ, suc, ◌+◌, ◌*◌, Bool, true, false, List, [], ◌∷◌, ◌++◌, length, map, replicate, Option, refl, sym, ◌∙◌, ap, subst, arith}
+use Rattle.std.proofs.Common.{◌≡◌, ℕ, suc, ◌+◌, ◌*◌, Bool, true, false, List, [], ◌∷◌, ◌++◌, length, map, replicate, Option, refl, sym, ◌∙◌, ap}
+use Rattle.std.proofs.Common.{subst, arith}
 use Rattle.rg_base.specs.declared.words.Keyword.TheVariants as w
 use Rattle.rg_base.specs.declared.words.Sign.TheVariants as s
 use Rattle.rg_base.specs.declared.words.Cap.{Cap}
@@ -8,20 +9,32 @@ use Rattle.rg_base.specs.declared.token.Token.{Token}
 use Rattle.rg_base.specs.Tokens.{line_behind}
 use Rattle.rg_tree.specs.declared.rows.BinOp.TheVariants.{Or, And}
 use Rattle.rg_tree.specs.declared.counts.Counts.{Counts}
-use Rattle.rg_tree.specs.Tree.{Name, Ty, declare, assign, call, swap, branch, while, enter, print, collect, return, no_else, otherwise, Block, empty, then, Param, Member, field, method, Class, Tree}
+use Rattle.rg_tree.specs.Tree.{Name, Ty, declare, assign, call, swap, branch, while, enter, print, collect, return, no_else, otherwise, Block, empty}
+use Rattle.rg_tree.specs.Tree.{then, Param, Member, field, method, Class, Tree}
 use Rattle.rg_tree.specs.Lineless.{stmt_lineless, block_lineless, else_lineless, member_lineless, class_lineless, lineless}
 use Rattle.rg_tree.specs.Counts.{no_signs}
 use Rattle.rg_tree.specs.Forms as form
 use Rattle.rg_tree.specs.Forms.{Form, Given}
-use Rattle.rg_tree.specs.Grammar.{Reads, text, with_class, program_class, program_main, class_row, tmp_class_row, field_row, method_row, no_members, cap_row, plain_type, ref_type, first_param, no_params, next_param, no_more_params, some_result, no_result, manager_row, block_row, no_stmts, more_stmts, let_row, assign_row, call_row, swap_row, if_row, while_row, enter_row, print_row, collect_row, return_row, else_row, else_none, path_row, next_field, no_fields, new_row, freeze_row, merge_row, input_row, result_row, value_row, new_plain, new_temporary, new_region, call_start, call_base, call_further, call_args, no_args, first_arg, next_arg, no_more_args, expr_row, or_row, no_or, and_row, and_further, no_and, not_row, no_not, cmp_row, compared, not_compared, sum_row, sum_further, no_sum, mul_row, mul_further, no_mul, minus, no_minus, literal, parens, path_value, is_row, no_is}
-use Rattle.rg_tree.proofs.Lexemes.{word, mark, named, space, newline, indent, dotted, right_lexemes, braces, stmt_lexemes, else_lexemes, block_lexemes, more_param_lexemes, param_lexemes, result_lexemes, members_lexemes, program_lexemes}
-use Rattle.rg_tree.proofs.LexemeCuts.{token_at, tokens_at, IsName}
-use Rattle.rg_tree.proofs.FineTokens.{FineKind, AreFine}
-use Rattle.rg_tree.proofs.LexemesApart.{NamesPlain, path-apart, ty-apart, expr-apart, call-apart, right-apart}
-use Rattle.rg_tree.proofs.Readings.{next-tokens_at}
-use Rattle.rg_tree.proofs.PartReads.{Fits, CallFits, call-plain, right-plain, leads, cap-read, manager-read, ty-read, expr-read, call-read, right-read}
-use Rattle.rg_tree.proofs.ExprLimits.{depth_at, looser, loosest, at_zero, binary-fits, parens-fits, literal-fits, path-fits, is_nil-fits, comparison-levels, sum-levels, product-levels, operator-fits}
-use Rattle.rg_tree.proofs.CanonFacts.{stmt-begins, block-begins, ends-brace, ends-semicolon, blanks-blank, more_params-goes, plain_type-plain, base-plain, input-fits, ProgramWritten, Told, stmt-apart, stmt-read, path-reads, assigned}
+use Rattle.rg_tree.specs.Grammar.{Reads, text, with_class, program_class, program_main, class_row, tmp_class_row, field_row, method_row, no_members}
+use Rattle.rg_tree.specs.Grammar.{cap_row, plain_type, ref_type, first_param, no_params, next_param, no_more_params, some_result, no_result}
+use Rattle.rg_tree.specs.Grammar.{manager_row, block_row, no_stmts, more_stmts, let_row, assign_row, call_row, swap_row, if_row, while_row, enter_row}
+use Rattle.rg_tree.specs.Grammar.{print_row, collect_row, return_row, else_row, else_none, path_row, next_field, no_fields, new_row, freeze_row}
+use Rattle.rg_tree.specs.Grammar.{merge_row, input_row, result_row, value_row, new_plain, new_temporary, new_region, call_start, call_base}
+use Rattle.rg_tree.specs.Grammar.{call_further, call_args, no_args, first_arg, next_arg, no_more_args, expr_row, or_row, no_or, and_row, and_further}
+use Rattle.rg_tree.specs.Grammar.{no_and, not_row, no_not, cmp_row, compared, not_compared, sum_row, sum_further, no_sum, mul_row, mul_further}
+use Rattle.rg_tree.specs.Grammar.{no_mul, minus, no_minus, literal, parens, path_value, is_row, no_is}
+use Rattle.rg_print.proofs.Canon.Lexemes.{word, mark, named, space, newline, indent, dotted, right_lexemes, braces, stmt_lexemes, else_lexemes}
+use Rattle.rg_print.proofs.Canon.Lexemes.{block_lexemes, more_param_lexemes, param_lexemes, result_lexemes, members_lexemes, program_lexemes}
+use Rattle.rg_print.proofs.Canon.LexemeCuts.{token_at, tokens_at, IsName}
+use Rattle.rg_print.proofs.Canon.FineTokens.{FineKind, AreFine}
+use Rattle.rg_print.proofs.Canon.LexemesApart.{NamesPlain, path-apart, ty-apart, expr-apart, call-apart, right-apart}
+use Rattle.rg_print.proofs.Canon.Readings.{next-tokens_at}
+use Rattle.rg_print.proofs.Canon.PartReads.{Fits, CallFits, call-plain, right-plain, leads, cap-read, manager-read, ty-read, expr-read, call-read}
+use Rattle.rg_print.proofs.Canon.PartReads.{right-read}
+use Rattle.rg_print.proofs.Canon.ExprLimits.{depth_at, looser, loosest, at_zero, binary-fits, parens-fits, literal-fits, path-fits, is_nil-fits}
+use Rattle.rg_print.proofs.Canon.ExprLimits.{comparison-levels, sum-levels, product-levels, operator-fits}
+use Rattle.rg_print.proofs.Canon.CanonFacts.{stmt-begins, block-begins, ends-brace, ends-semicolon, blanks-blank, more_params-goes, plain_type-plain}
+use Rattle.rg_print.proofs.Canon.CanonFacts.{base-plain, input-fits, ProgramWritten, Told, stmt-apart, stmt-read, path-reads, assigned}
 
 module _ (S source : List ℕ) where
   -- a name of a source is within its limit

@@ -12,12 +12,13 @@ use Rattle.rg_tree.specs.declared.rows.BinOp.TheVariants.{Eq, Ne, Lt, Le, Gt, Ge
 use Rattle.rg_tree.specs.declared.counts.Counts.{Counts}
 use Rattle.rg_tree.specs.Tree.{Name, Path, Expr, number, boolean, nil, path, is_nil, binary}
 use Rattle.rg_tree.specs.Canonical.{level, op_level, left_level, right_level}
-use Rattle.rg_tree.specs.Counts.{within, opened, closed, one_sign}
+use Rattle.rg_tree.specs.Counts.{opened, closed, one_sign}
+use Rattle.rg_tree.proofs.Callers.{within-ok}
 use Rattle.rg_tree.specs.Operators.{comparison_of, sum_of, product_of, literal_of}
-use Rattle.rg_tree.proofs.FineTokens.{FineKind}
-use Rattle.rg_tree.proofs.LexemesApart.{PathPlain}
-use Rattle.rg_tree.proofs.Readings.{with_signs, signs, one_if, depth, deeper, closed-deeper}
-use Rattle.rg_tree.proofs.PartReads.{Fits}
+use Rattle.rg_print.proofs.Canon.FineTokens.{FineKind}
+use Rattle.rg_print.proofs.Canon.LexemesApart.{PathPlain}
+use Rattle.rg_print.proofs.Canon.Readings.{with_signs, signs, one_if, depth, deeper, closed-deeper}
+use Rattle.rg_print.proofs.Canon.PartReads.{Fits}
 
 -- the depth of an expression where this is the least level that stands bare
 abbrev pub depth_at : ℕ → Expr → ℕ
@@ -57,19 +58,14 @@ at_zero {c} {d} {e} w = let z = no_lt-zero (level e) in rw z w
 
 -- What a limit that isn't passed says.
 
--- the parts of a test that passed
-within-allowed : (v : Bool) (f : Code) (c d : Counts) → within v f c ≡ Ok d → (v ≡ true) × (c ≡ d)
-within-allowed true f c d h = (refl, cc)
-within-allowed false f c d h = cc
-
 pub one_sign-counts : (c d : Counts) → one_sign c ≡ Ok d → (c.signs < 512) × (d ≡ with_signs c (c.signs + 1))
 one_sign-counts c d h =
-    let r = within-allowed (nat_lt c.signs 512) code.Limit (with_signs c (c.signs + 1)) d h in
+    let r = within-ok (nat_lt c.signs 512) code.Limit (with_signs c (c.signs + 1)) d h in
     let t = r.0 in (grind (arith, nat_tests), sym r.1)
 
 pub opened-counts : (c d : Counts) → opened c ≡ Ok d → (c.brackets < 64) × (d ≡ deeper c)
 opened-counts c d h =
-    let r = within-allowed (nat_lt c.brackets 64) code.Nesting (deeper c) d h in
+    let r = within-ok (nat_lt c.brackets 64) code.Nesting (deeper c) d h in
     let t = r.0 in (grind (arith, nat_tests), sym r.1)
 
 -- what holds where something is spent, for all that is spent

@@ -10,7 +10,8 @@ use Rattle.rg_base.specs.declared.token.Token.{Token}
 use Rattle.rg_base.specs.Pieces.{is_blank}
 use Rattle.rg_base.specs.Tokens.{line_behind}
 use Rattle.rg_tree.specs.declared.counts.Counts.{Counts}
-use Rattle.rg_tree.specs.Tree.{Name, Variable, Path, Ty, int, bool, Right, read, more, Stmt, stmt, StmtKind, declare, assign, call, swap, branch, while, enter, print, collect, return, Else, Block, empty, then, Param, Member, Class, Tree}
+use Rattle.rg_tree.specs.Tree.{Name, Variable, Path, Ty, int, bool, Right, read, more, Stmt, stmt, StmtKind, declare, assign, call, swap, branch}
+use Rattle.rg_tree.specs.Tree.{while, enter, print, collect, return, Else, Block, empty, then, Param, Member, Class, Tree}
 use Rattle.rg_tree.specs.Lineless.{kind_lineless, stmt_lineless, block_lineless, else_lineless, member_lineless, class_lineless, lineless}
 use Rattle.rg_tree.specs.Phrases.{the}
 use Rattle.rg_tree.specs.Phrases as p
@@ -19,13 +20,15 @@ use Rattle.rg_tree.specs.Operators.{plain_type_of, base_of, input_of}
 use Rattle.rg_tree.specs.Forms as form
 use Rattle.rg_tree.specs.Forms.{Form, Given}
 use Rattle.rg_tree.specs.Grammar.{Reads, assign_row}
-use Rattle.rg_tree.proofs.Lexemes.{Lexeme, text_of, newline, base_lexeme, path_lexemes, braces, stmt_lexemes, kind_lexemes, else_lexemes, block_lexemes, more_param_lexemes, param_lexemes, result_lexemes, members_lexemes, one_class_lexemes, program_lexemes}
-use Rattle.rg_tree.proofs.LexemeCuts.{tokens_at, IsName, goes_on, StandApart}
-use Rattle.rg_tree.proofs.FineTokens.{FineKind}
-use Rattle.rg_tree.proofs.LexemesApart.{NamesPlain, BasePlain, PathPlain, TyPlain}
-use Rattle.rg_tree.proofs.Readings.{ends-all, first_kind, Ends0, depth, Spelt, Read, path-read}
-use Rattle.rg_tree.proofs.PartReads.{Fits, ArgsFit, CallFits, RightFits, leads}
-use Rattle.rg_tree.proofs.ExprLimits.{depth_at}
+use Rattle.rg_print.proofs.Canon.Lexemes.{Lexeme, text_of, newline, base_lexeme, path_lexemes, braces, stmt_lexemes, kind_lexemes, else_lexemes}
+use Rattle.rg_print.proofs.Canon.Lexemes.{block_lexemes, more_param_lexemes, param_lexemes, result_lexemes, members_lexemes, one_class_lexemes}
+use Rattle.rg_print.proofs.Canon.Lexemes.{program_lexemes}
+use Rattle.rg_print.proofs.Canon.LexemeCuts.{tokens_at, IsName, goes_on, StandApart}
+use Rattle.rg_print.proofs.Canon.FineTokens.{FineKind}
+use Rattle.rg_print.proofs.Canon.LexemesApart.{NamesPlain, BasePlain, PathPlain, TyPlain}
+use Rattle.rg_print.proofs.Canon.Readings.{ends-all, first_kind, Ends0, depth, Spelt, Read, path-read}
+use Rattle.rg_print.proofs.Canon.PartReads.{Fits, ArgsFit, CallFits, RightFits, leads}
+use Rattle.rg_print.proofs.Canon.ExprLimits.{depth_at}
 
 -- What begins a statement.
 
@@ -70,7 +73,8 @@ blanks-blank zero = refl
 blanks-blank (suc n) = blanks-blank n
 
 -- parameters and results are followed by no letter
-pub more_params-goes : (ps : List Param) (rest : List Lexeme) → goes_on (text_of rest) ≡ false → goes_on (text_of (more_param_lexemes ps rest)) ≡ false
+pub more_params-goes : (ps : List Param) (rest : List Lexeme) → goes_on (text_of rest) ≡ false
+    → goes_on (text_of (more_param_lexemes ps rest)) ≡ false
 more_params-goes [] rest g = g
 more_params-goes (q ∷ ps) rest g = refl
 

@@ -20,10 +20,13 @@ use Rattle.rg_tree.specs.Table.{row}
 use Rattle.rg_tree.specs.Operators.{comparison_of, sum_of, product_of}
 use Rattle.rg_tree.specs.Forms as form
 use Rattle.rg_tree.specs.Forms.{Form, Given}
-use Rattle.rg_tree.specs.Grammar.{Reads, expr_row, or_row, no_or, and_row, and_further, no_and, not_row, no_not, cmp_row, compared, not_compared, sum_row, sum_further, no_sum, mul_row, mul_further, no_mul, minus, no_minus, literal, parens, path_value, is_row, no_is}
-use Rattle.rg_tree.proofs.Lexemes.{Lexeme, word, mark, sign_text, space, base_lexeme, dotted, enclosed, expr_lexemes}
-use Rattle.rg_tree.proofs.LexemeCuts.{tokens_at}
-use Rattle.rg_tree.proofs.Readings.{first_kind, next-tokens_at, Ends7, Ends5, Ends4, Ends3, Ends1, Ends0, ends-all, with_signs, signs, one_if, depth, Spends, one_sign-allowed, deeper, opened-allowed, closed-deeper, Spelt, Read, path-read}
+use Rattle.rg_tree.specs.Grammar.{Reads, expr_row, or_row, no_or, and_row, and_further, no_and, not_row, no_not, cmp_row, compared, not_compared}
+use Rattle.rg_tree.specs.Grammar.{sum_row, sum_further, no_sum, mul_row, mul_further, no_mul, minus, no_minus, literal, parens, path_value, is_row}
+use Rattle.rg_tree.specs.Grammar.{no_is}
+use Rattle.rg_print.proofs.Canon.Lexemes.{Lexeme, word, mark, sign_text, space, base_lexeme, dotted, enclosed, expr_lexemes}
+use Rattle.rg_print.proofs.Canon.LexemeCuts.{tokens_at}
+use Rattle.rg_print.proofs.Canon.Readings.{first_kind, next-tokens_at, Ends7, Ends5, Ends4, Ends3, Ends1, Ends0, ends-all, with_signs, signs, one_if}
+use Rattle.rg_print.proofs.Canon.Readings.{depth, Spends, one_sign-allowed, deeper, opened-allowed, closed-deeper, Spelt, Read, path-read}
 
 module _ (S : List ℕ) where
   -- Levels. A chain is read with what goes on behind it.

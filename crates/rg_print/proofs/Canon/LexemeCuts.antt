@@ -1,5 +1,6 @@
 -- The bytes of lexemes that stand apart are cut into their tokens.
-use Rattle.std.proofs.Common.{◌≡◌, ℕ, ℤ, pos, negsuc, suc, ◌+◌, ◌<◌, ◌^◌, ◌==◌, nat_lt, Bool, true, false, ◌&&◌, List, [], ◌∷◌, ◌++◌, length, take, drop, Option, Some, None, option_map, Ok, refl, ◌∙◌, ap, subst, one-add, arith}
+use Rattle.std.proofs.Common.{◌≡◌, ℕ, ℤ, pos, negsuc, suc, ◌+◌, ◌<◌, ◌^◌, ◌==◌, nat_lt, Bool, true, false, ◌&&◌, List, [], ◌∷◌, ◌++◌, length, take}
+use Rattle.std.proofs.Common.{drop, Option, Some, None, option_map, Ok, refl, ◌∙◌, ap, subst, one-add, arith}
 use Rattle.std.specs.List.{list_all, prefix_len}
 use Rattle.std.specs.Fmt.{decimal, signed_decimal}
 use Rattle.std.proofs.lemmas.Bool.Decides.{nat_tests}
@@ -17,10 +18,11 @@ use Rattle.rg_base.specs.declared.limits.TheConstants.{NAME_BYTES, GREATEST_NUMB
 use Rattle.rg_base.specs.Words.{keyword_of, sign_of}
 use Rattle.rg_base.specs.Pieces.{Piece, name, number, sign, is_blank, is_digit, is_letter, is_in_name, only_if, is_comment, comment, piece_of}
 use Rattle.rg_base.specs.Tokens.{value_onto, begins_name, word_or_name, reading, read_front, with_token, line_after, cut_from, line_behind}
-use Rattle.rg_base.proofs.Fronts.{both, IsOther, IsFront, piece-blank, piece-letter, piece-digit, piece-other, front-blank, front-letter, front-digit, front-pair, front-single, front-alone}
+use Rattle.rg_base.proofs.Fronts.{both, IsOther, IsFront, piece-blank, piece-letter, piece-digit, piece-other, front-blank, front-letter, front-digit}
+use Rattle.rg_base.proofs.Fronts.{front-pair, front-single, front-alone}
 use Rattle.rg_base.proofs.Cuts.{cut_from-reads, token-line}
 use Rattle.rg_tree.specs.Tree.{Name}
-use Rattle.rg_tree.proofs.Lexemes.{Lexeme, gap, word, mark, named, numeral, word_text, sign_text, text_of}
+use Rattle.rg_print.proofs.Canon.Lexemes.{Lexeme, gap, word, mark, named, numeral, word_text, sign_text, text_of}
 
 -- a token at a place and a line
 abbrev pub token_at : Kind → ℕ → ℕ → ℕ → Token

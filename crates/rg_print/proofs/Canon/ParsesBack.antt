@@ -8,13 +8,13 @@ use Rattle.rg_tree.specs.Tree.{Tree}
 use Rattle.rg_tree.specs.Canonical.{canon}
 use Rattle.rg_tree.specs.Grammar.{Spells}
 use Rattle.rg_tree.specs.Laws.{ParsesBack}
-use Rattle.rg_tree.proofs.Lexemes.{Lexeme, gap, word, mark, named, numeral, word_text, sign_text, text_of, program_lexemes}
-use Rattle.rg_tree.proofs.LexemeTexts.{program-text}
-use Rattle.rg_tree.proofs.LexemeCuts.{tokens_at, cut_from-lexemes}
-use Rattle.rg_tree.proofs.FineTokens.{cut-fine}
-use Rattle.rg_tree.proofs.Readings.{Spelt}
-use Rattle.rg_tree.proofs.CanonLines.{canon-same}
-use Rattle.rg_tree.proofs.CanonReads.{program-told}
+use Rattle.rg_print.proofs.Canon.Lexemes.{Lexeme, gap, word, mark, named, numeral, word_text, sign_text, text_of, program_lexemes}
+use Rattle.rg_print.proofs.Canon.LexemeTexts.{program-text}
+use Rattle.rg_print.proofs.Canon.LexemeCuts.{tokens_at, cut_from-lexemes}
+use Rattle.rg_print.proofs.Canon.FineTokens.{cut-fine}
+use Rattle.rg_print.proofs.Canon.Readings.{Spelt}
+use Rattle.rg_print.proofs.Canon.CanonLines.{canon-same}
+use Rattle.rg_print.proofs.Canon.CanonReads.{program-told}
 
 -- behind a front of what is left
 drop-front : (S x t : List ℕ) (n : ℕ) → drop n S ≡ x ++ t → drop (n + length x) S ≡ t

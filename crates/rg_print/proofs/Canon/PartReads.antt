@@ -9,17 +9,21 @@ use Rattle.rg_base.specs.declared.words.Sign.TheVariants as s
 use Rattle.rg_base.specs.declared.token.Kind.TheVariants as k
 use Rattle.rg_base.specs.declared.token.Token.{Token}
 use Rattle.rg_tree.specs.declared.counts.Counts.{Counts}
-use Rattle.rg_tree.specs.Tree.{Name, Variable, Path, Ty, int, bool, ref, Expr, Call, Right, value, new, new_tmp, new_iso, freeze, merge, read, more, result_of}
+use Rattle.rg_tree.specs.Tree.{Name, Variable, Path, Ty, int, bool, ref, Expr, Call, Right, value, new, new_tmp, new_iso, freeze, merge, read, more}
+use Rattle.rg_tree.specs.Tree.{result_of}
 use Rattle.rg_tree.specs.Counts.{opened, closed}
 use Rattle.rg_tree.specs.Operators.{cap_of, manager_of}
 use Rattle.rg_tree.specs.Forms as form
 use Rattle.rg_tree.specs.Forms.{Form, Given}
-use Rattle.rg_tree.specs.Grammar.{Reads, text, longer, cap_row, plain_type, ref_type, manager_row, new_row, freeze_row, merge_row, input_row, result_row, value_row, new_plain, new_temporary, new_region, call_start, call_base, call_further, call_args, no_args, first_arg, next_arg, no_more_args}
-use Rattle.rg_tree.proofs.Lexemes.{Lexeme, word, mark, named, space, cap_word, manager_word, base_lexeme, dotted, ty_lexemes, expr_lexemes, more_arg_lexemes, arg_lexemes, call_lexemes, right_lexemes}
-use Rattle.rg_tree.proofs.LexemeCuts.{IsName, tokens_at}
-use Rattle.rg_tree.proofs.LexemesApart.{PathPlain, ExprPlain, ArgsPlain, CallPlain, RightPlain}
-use Rattle.rg_tree.proofs.Readings.{ends-all, first_kind, next-tokens_at, Ends0, with_signs, signs, depth, Spelt, Read}
-use Rattle.rg_tree.proofs.ExprReads.{expr-whole, stands}
+use Rattle.rg_tree.specs.Grammar.{Reads, text, longer, cap_row, plain_type, ref_type, manager_row, new_row, freeze_row, merge_row, input_row}
+use Rattle.rg_tree.specs.Grammar.{result_row, value_row, new_plain, new_temporary, new_region, call_start, call_base, call_further, call_args}
+use Rattle.rg_tree.specs.Grammar.{no_args, first_arg, next_arg, no_more_args}
+use Rattle.rg_print.proofs.Canon.Lexemes.{Lexeme, word, mark, named, space, cap_word, manager_word, base_lexeme, dotted, ty_lexemes, expr_lexemes}
+use Rattle.rg_print.proofs.Canon.Lexemes.{more_arg_lexemes, arg_lexemes, call_lexemes, right_lexemes}
+use Rattle.rg_print.proofs.Canon.LexemeCuts.{IsName, tokens_at}
+use Rattle.rg_print.proofs.Canon.LexemesApart.{PathPlain, ExprPlain, ArgsPlain, CallPlain, RightPlain}
+use Rattle.rg_print.proofs.Canon.Readings.{ends-all, first_kind, next-tokens_at, Ends0, with_signs, signs, depth, Spelt, Read}
+use Rattle.rg_print.proofs.Canon.ExprReads.{expr-whole, stands}
 
 -- from some counts an expression whose parentheses go so deep leads to others, within the limits
 pub record Fits (c : Counts) (n : ℕ) (e : Expr) (d : Counts) : Type 0 where

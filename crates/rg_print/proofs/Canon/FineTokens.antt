@@ -1,5 +1,6 @@
 -- The names and numbers of a source that is cut are within their limits.
-use Rattle.std.proofs.Common.{◌≡◌, ℕ, pos, zero, suc, ◌+◌, ◌-◌, nat_lt, Bool, true, false, List, [], ◌∷◌, length, take, drop, Option, Some, None, Result, Ok, Err, refl, subst, arith}
+use Rattle.std.proofs.Common.{◌≡◌, ℕ, pos, zero, suc, ◌+◌, ◌-◌, nat_lt, Bool, true, false, List, [], ◌∷◌, length, take, drop, Option, Some, None}
+use Rattle.std.proofs.Common.{Result, Ok, Err, refl, subst, arith}
 use Rattle.rg_base.specs.declared.words.Keyword.{Keyword}
 use Rattle.rg_base.specs.declared.token.Kind.{Kind}
 use Rattle.rg_base.specs.declared.token.Kind.TheVariants as k
@@ -9,10 +10,11 @@ use Rattle.rg_base.specs.declared.fault.Fault.{Fault}
 use Rattle.rg_base.specs.declared.limits.TheConstants.{NAME_BYTES, GREATEST_NUMBER}
 use Rattle.rg_base.specs.Words.{keyword_of}
 use Rattle.rg_base.specs.Pieces.{Piece, blank, comment, name, number, sign, piece_of, front}
-use Rattle.rg_base.specs.Tokens.{value_of, begins_name, word_or_name, name_within, number_within, reading, read_front, placed, with_token, line_after, cut_from, cut}
+use Rattle.rg_base.specs.Tokens.{value_of, begins_name, word_or_name, name_within, number_within, reading, read_front, placed, with_token, line_after}
+use Rattle.rg_base.specs.Tokens.{cut_from, cut}
 use Rattle.rg_tree.specs.Tree.{Name}
 use Rattle.rg_tree.specs.Grammar.{text}
-use Rattle.rg_tree.proofs.LexemeCuts.{token_at, IsName, IsNumber}
+use Rattle.rg_print.proofs.Canon.LexemeCuts.{token_at, IsName, IsNumber}
 
 -- a name or a number with this text
 abbrev pub FineKind : Kind → Name → Type 0

@@ -11,7 +11,10 @@ use Rattle.rg_base.specs.declared.words.Sign.{Sign}
 use Rattle.rg_base.specs.declared.words.Sign.TheVariants as s
 use Rattle.rg_tree.specs.declared.rows.BinOp.{BinOp}
 use Rattle.rg_tree.specs.declared.rows.BinOp.TheVariants.{Or, And, Eq, Ne, Lt, Le, Gt, Ge, Add, Sub, Mul, Div, Rem}
-use Rattle.rg_tree.specs.Tree.{Name, Variable, Path, Ty, int, bool, ref, Expr, number, boolean, nil, path, is_nil, neg, not, binary, Call, Right, value, new, new_tmp, new_iso, freeze, merge, read, more, result_of, Stmt, stmt, StmtKind, declare, assign, call, swap, branch, while, enter, print, collect, return, Else, no_else, otherwise, Block, empty, then, Param, Member, field, method, Class, Tree}
+use Rattle.rg_tree.specs.Tree.{Name, Variable, Path, Ty, int, bool, ref, Expr, number, boolean, nil, path, is_nil, neg, not, binary, Call, Right}
+use Rattle.rg_tree.specs.Tree.{value, new, new_tmp, new_iso, freeze, merge, read, more, result_of, Stmt, stmt, StmtKind, declare, assign, call, swap}
+use Rattle.rg_tree.specs.Tree.{branch, while, enter, print, collect, return, Else, no_else, otherwise, Block, empty, then, Param, Member, field}
+use Rattle.rg_tree.specs.Tree.{method, Class, Tree}
 use Rattle.rg_tree.specs.Canonical.{level, left_level, right_level}
 
 pub data Lexeme : Type 0 where

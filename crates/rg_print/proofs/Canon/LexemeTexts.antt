@@ -1,5 +1,6 @@
 -- The bytes of the lexemes are the canonical text: each lemma says it of the lexemes of one kind of phrase, in front of others.
-use Rattle.std.proofs.Common.{◌≡◌, ℕ, suc, ◌*◌, Bool, true, false, nat_lt, List, [], ◌∷◌, ◌++◌, replicate, Option, None, Some, codes, refl, sym, ◌∙◌, append_assoc, append-nil}
+use Rattle.std.proofs.Common.{◌≡◌, ℕ, suc, ◌*◌, Bool, true, false, nat_lt, List, [], ◌∷◌, ◌++◌, replicate, Option, None, Some, codes, refl, sym, ◌∙◌}
+use Rattle.std.proofs.Common.{append_assoc, append-nil}
 use Rattle.std.specs.Prelude.{flat_map}
 use Rattle.rg_base.specs.declared.words.Cap.{Cap}
 use Rattle.rg_base.specs.declared.words.Cap.TheVariants.{Mut, Tmp, Paused, Imm, Iso}
@@ -10,9 +11,18 @@ use Rattle.rg_base.specs.declared.words.Keyword.TheVariants as w
 use Rattle.rg_tree.specs.declared.rows.BinOp.{BinOp}
 use Rattle.rg_tree.specs.declared.rows.BinOp.TheVariants.{Or, And, Eq, Ne, Lt, Le, Gt, Ge, Add, Sub, Mul, Div, Rem}
 use Rattle.rg_base.specs.Text.{bool_text}
-use Rattle.rg_tree.specs.Tree.{Name, Variable, Path, Ty, int, bool, ref, Expr, number, boolean, nil, path, is_nil, neg, not, binary, Call, Right, value, new, new_tmp, new_iso, freeze, merge, read, more, result_of, Stmt, stmt, StmtKind, declare, assign, call, swap, branch, while, enter, print, collect, return, Else, no_else, otherwise, Block, empty, then, Param, Member, field, method, Class, Tree}
-use Rattle.rg_tree.specs.Canonical.{op_text, cap_text, manager_text, level, left_level, right_level, base_text, path_text, in_parens, expr_text, ty_text, joined, arg_texts, call_text, right_text, stmt_text, kind_text, else_text, block_text, param_texts, result_text, member_text, class_word, class_text, canon}
-use Rattle.rg_tree.proofs.Lexemes.{Lexeme, word, mark, named, lexeme_text, text_of, word_text, space, newline, indent, cap_word, manager_word, op_lexeme, base_lexeme, dotted, path_lexemes, ty_lexemes, boolean_word, enclosed, expr_lexemes, more_arg_lexemes, arg_lexemes, call_lexemes, right_lexemes, braces, stmt_lexemes, kind_lexemes, else_lexemes, block_lexemes, more_param_lexemes, param_lexemes, result_lexemes, member_lexemes, members_lexemes, class_lexemes, one_class_lexemes, classes_lexemes, program_lexemes}
+use Rattle.rg_tree.specs.Tree.{Name, Variable, Path, Ty, int, bool, ref, Expr, number, boolean, nil, path, is_nil, neg, not, binary, Call, Right}
+use Rattle.rg_tree.specs.Tree.{value, new, new_tmp, new_iso, freeze, merge, read, more, result_of, Stmt, stmt, StmtKind, declare, assign, call, swap}
+use Rattle.rg_tree.specs.Tree.{branch, while, enter, print, collect, return, Else, no_else, otherwise, Block, empty, then, Param, Member, field}
+use Rattle.rg_tree.specs.Tree.{method, Class, Tree}
+use Rattle.rg_tree.specs.Canonical.{op_text, cap_text, manager_text, level, left_level, right_level, base_text, path_text, in_parens, expr_text}
+use Rattle.rg_tree.specs.Canonical.{ty_text, joined, arg_texts, call_text, right_text, stmt_text, kind_text, else_text, block_text, param_texts}
+use Rattle.rg_tree.specs.Canonical.{result_text, member_text, class_word, class_text, canon}
+use Rattle.rg_print.proofs.Canon.Lexemes.{Lexeme, word, mark, named, lexeme_text, text_of, word_text, space, newline, indent, cap_word, manager_word}
+use Rattle.rg_print.proofs.Canon.Lexemes.{op_lexeme, base_lexeme, dotted, path_lexemes, ty_lexemes, boolean_word, enclosed, expr_lexemes}
+use Rattle.rg_print.proofs.Canon.Lexemes.{more_arg_lexemes, arg_lexemes, call_lexemes, right_lexemes, braces, stmt_lexemes, kind_lexemes}
+use Rattle.rg_print.proofs.Canon.Lexemes.{else_lexemes, block_lexemes, more_param_lexemes, param_lexemes, result_lexemes, member_lexemes}
+use Rattle.rg_print.proofs.Canon.Lexemes.{members_lexemes, class_lexemes, one_class_lexemes, classes_lexemes, program_lexemes}
 
 -- words and signs
 cap-text : (c : Cap) → word_text (cap_word c) ≡ cap_text c
