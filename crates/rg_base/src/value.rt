@@ -22,9 +22,10 @@ pub enum Val {
 
 /// What a slot of a frame or a field of a cell holds. It shows the value of the same form; a cell
 /// shows the object whose serial it has.
-#[derive(Clone, Copy, Debug, PartialEq, Eq)]
+#[derive(Clone, Copy, Debug, Default, PartialEq, Eq)]
 pub enum Word {
     /// `nil`
+    #[default]
     Nil,
     /// `7`
     Int(i64),
