@@ -21,7 +21,7 @@ use Rattle.rg_rules.specs.Values.{same_truth}
 use Rattle.rg_rules.specs.Steps.{Stepped, Went, Trapped, next as step_of}
 use Rattle.rg_sound.specs.Windows.{covering}
 use Rattle.rg_sound.specs.Frames.{leaves, call_of}
-use Rattle.rg_sound.proofs.TwinData.{values_fit, object_fits, same_place, owners, is_lowest, all_owned, none_again, is_forest, numbers_fit}
+use Rattle.rg_sound.proofs.TwinData.{values_fit, object_fits, same_place, owners, lowest_alone, all_owned, none_again, is_forest, numbers_fit}
 
 -- The frames: all spots of a block
 
@@ -176,7 +176,7 @@ calling (Back ∷ mine) = None
 
 abbrev beneath : List Class → List Candidate → List Frame → List Window → List Item → Candidate → Target → Truth
 beneath classes all [] ws items c target = not (is_some c.name)
-    && same_target target Drops && list_all is_lowest ws && length ws == 1 && length items == 0
+    && same_target target Drops && lowest_alone ws && length items == 0
 beneath classes all (f ∷ fs) ws items callee target = any_of (λ (c : Candidate). any_of (λ (spot : Spot).
     elim (calling spot.items) [
       | None ↦ false
@@ -196,7 +196,7 @@ runs classes all f fs ws items = any_of (λ (c : Candidate). any_of (λ (spot : 
     ]) c.spots) all
 
 abbrev ended : Frame → List Frame → List Window → List Item → Truth
-ended f fs ws items = length f.locals == 0 && same_target f.target Drops && length fs == 0 && length ws == 1 && list_all is_lowest ws && length
+ended f fs ws items = length f.locals == 0 && same_target f.target Drops && length fs == 0 && lowest_alone ws && length
     items == 0
 
 abbrev frames_fit : List Class → List Candidate → List Frame → List Window → List Item → Truth
