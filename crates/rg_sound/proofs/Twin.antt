@@ -5,6 +5,10 @@ use Rattle.std.specs.List.{list_all}
 use Rattle.std.specs.Result.{result_ok}
 use Rattle.rg_base.specs.declared.ty.Ty.{Ty}
 use Rattle.rg_base.specs.declared.ty.Ty.TheVariants.{Int, Bool, Ref}
+use Rattle.rg_base.specs.declared.object.Label.{Label}
+use Rattle.rg_base.specs.declared.object.Label.TheVariants.{Region, Temp}
+use Rattle.rg_base.specs.declared.object.Seen.{Seen}
+use Rattle.rg_base.specs.declared.value.Val.{Val}
 use Rattle.rg_base.specs.declared.object.Place.{Place}
 use Rattle.rg_base.specs.declared.object.Place.TheVariants.{Var, Field}
 use Rattle.rg_tree.specs.Tree.{Name, Variable, Path, Stmt, stmt, StmtKind, declare, assign, call, swap, branch, while, enter, print, collect, return, Else, no_else, otherwise, Block, empty as none, then as next, Method, Class, Tree}
@@ -16,12 +20,12 @@ use Rattle.rg_rules.specs.Statements.{judge_stmt, judge_test, judge_enter, last_
 use Rattle.rg_rules.specs.Items.{Item, Do, EndAt, LeaveAt, Back, items_of}
 use Rattle.rg_rules.specs.Bodies.{Body, main_body, method_body}
 use Rattle.rg_rules.specs.Points.{Spot}
-use Rattle.rg_rules.specs.State.{Local, Target, Declares, Assigns, Drops, Frame, Window, State}
-use Rattle.rg_rules.specs.Values.{same_truth}
+use Rattle.rg_rules.specs.State.{Local, Target, Declares, Assigns, Drops, Frame, Window, State, active, top_number}
+use Rattle.rg_rules.specs.Values.{same_truth, same_value}
 use Rattle.rg_rules.specs.Steps.{Stepped, Went, Trapped, next as step_of}
 use Rattle.rg_sound.specs.Windows.{covering}
 use Rattle.rg_sound.specs.Frames.{leaves, call_of}
-use Rattle.rg_sound.proofs.TwinData.{values_fit, object_fits, same_place, owners, lowest_alone, all_owned, none_again, is_forest, numbers_fit}
+use Rattle.rg_sound.proofs.TwinData.{same_label, values_fit, object_fits, same_place, owners, lowest_alone, all_owned, none_again, is_forest, numbers_fit}
 
 -- The frames: all spots of a block
 
@@ -235,6 +239,27 @@ count_failing (f ∷ fs) = if length f == 0 then count_failing fs else suc (coun
 -- how many of the states of a run are looked at, and in how many some part fails
 abbrev pub looked_at : Tree → ℕ → State → ℕ × ℕ
 looked_at t n s = let all = failing_from t (candidates t) n s in (length all, count_failing all)
+
+-- whether a value is the same
+abbrev same_values : List Val → List Val → Truth
+same_values [] [] = true
+same_values [] (w ∷ ws) = false
+same_values (v ∷ vs) [] = false
+same_values (v ∷ vs) (w ∷ ws) = same_value v w && same_values vs ws
+
+-- whether a label is the active region, or the number of the topmost window
+abbrev writable : State → Label → Truth
+writable s l = same_label l (Region (active s.windows)) || same_label l (Temp (top_number s.windows))
+
+-- whether each object of a store whose fields differ in a second one is of the active region or of the topmost window
+abbrev written_within : State → List Seen → List Seen → Truth
+written_within s [] us = true
+written_within s (o ∷ os) [] = writable s o.label && written_within s os []
+written_within s (o ∷ os) (u ∷ us) = (same_values o.fields u.fields || writable s o.label) && written_within s os us
+
+-- whether what was written between two states might be written
+abbrev pub writes_within : State → State → Truth
+writes_within s u = written_within s s.store u.store
 
 -- what fails in a state
 abbrev pub fails : Tree → State → List ℕ

@@ -21,7 +21,7 @@ use Rattle.rg_sound.specs.Windows.{windows_of, windows_from}
 
 -- Labels and values
 
-abbrev same_label : Label → Label → Truth
+abbrev pub same_label : Label → Label → Truth
 same_label (Region a) (Region b) = a == b
 same_label (Region a) (Temp b) = false
 same_label (Region a) Frozen = false
