@@ -3,7 +3,6 @@ use Rattle.std.proofs.Common.{◌≡◌, refl, ℕ, suc, pos, true, List, [], �
 use Rattle.rg_base.specs.declared.ty.Ty.TheVariants.{Ref}
 use Rattle.rg_base.specs.declared.words.Cap.TheVariants as cap
 use Rattle.rg_base.specs.declared.object.Label.TheVariants as label
-use Rattle.rg_base.specs.declared.object.Place.{Place}
 use Rattle.rg_base.specs.declared.object.Place.TheVariants as place
 use Rattle.rg_base.specs.declared.value.Val.TheVariants as val
 use Rattle.rg_tree.specs.Tree.{Class}
@@ -12,7 +11,7 @@ use Rattle.rg_rules.specs.State.{Window, State, locals_of, value_in, add_local, 
 use Rattle.rg_rules.specs.Regions.{beneath, relabelled}
 use Rattle.rg_rules.specs.RightSides.{made, consumed}
 use Rattle.rg_rules.specs.Steps.{put_field}
-use Rattle.rg_rules.specs.Runs.{Done, plain_from, plain, opening}
+use Rattle.rg_rules.specs.Runs.{plain_from, plain, opening}
 use Rattle.rg_sound.proofs.ExamplePrograms.{inner}
 use Rattle.rg_sound.proofs.Twin.{looked_at, fails, writes_within}
 

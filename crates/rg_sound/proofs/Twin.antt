@@ -1,6 +1,7 @@
 -- The invariant as a test, for examples: its six parts by number, and along a run. Statements go by their lines, so an example gives
 -- each its own.
-use Rattle.std.proofs.Common.{ℕ, zero, suc, ◌==◌, Bool as Truth, true, false, not, ◌&&◌, ◌||◌, if◌then◌else◌, List, [], ◌∷◌, ◌++◌, length, take, drop, map, reverse, bytes_eq, Option, Some, None, is_some, option_and_then, slice_get, Ok, Err}
+use Rattle.std.proofs.Common.{ℕ, zero, suc, ◌==◌, Bool as Truth, true, false, not, ◌&&◌, ◌||◌, if◌then◌else◌, List, [], ◌∷◌, ◌++◌, length, take, drop}
+use Rattle.std.proofs.Common.{map, reverse, bytes_eq, Option, Some, None, is_some, option_and_then, slice_get, Ok, Err}
 use Rattle.std.specs.List.{list_all}
 use Rattle.std.specs.Result.{result_ok}
 use Rattle.rg_base.specs.declared.ty.Ty.{Ty}
@@ -11,7 +12,8 @@ use Rattle.rg_base.specs.declared.object.Seen.{Seen}
 use Rattle.rg_base.specs.declared.value.Val.{Val}
 use Rattle.rg_base.specs.declared.object.Place.{Place}
 use Rattle.rg_base.specs.declared.object.Place.TheVariants.{Var, Field}
-use Rattle.rg_tree.specs.Tree.{Name, Variable, Path, Stmt, stmt, StmtKind, declare, assign, call, swap, branch, while, enter, print, collect, return, Else, no_else, otherwise, Block, empty as none, then as next, Method, Class, Tree}
+use Rattle.rg_tree.specs.Tree.{Name, Variable, Path, Stmt, stmt, StmtKind, declare, assign, call, swap, branch, while, enter, print, collect, return}
+use Rattle.rg_tree.specs.Tree.{Else, no_else, otherwise, Block, empty as none, then as next, Method, Class, Tree}
 use Rattle.rg_rules.specs.Capabilities.{same_type}
 use Rattle.rg_rules.specs.Types.{methods_of}
 use Rattle.rg_rules.specs.Environment.{Env, Entry, same_variable, is_lent}
@@ -25,7 +27,8 @@ use Rattle.rg_rules.specs.Values.{same_truth, same_value}
 use Rattle.rg_rules.specs.Steps.{Stepped, Went, Trapped, next as step_of}
 use Rattle.rg_sound.specs.Windows.{covering}
 use Rattle.rg_sound.specs.Frames.{leaves, call_of}
-use Rattle.rg_sound.proofs.TwinData.{same_label, values_fit, object_fits, same_place, owners, lowest_alone, all_owned, none_again, is_forest, numbers_fit}
+use Rattle.rg_sound.proofs.TwinData.{same_label, values_fit, object_fits, same_place, owners, lowest_alone, all_owned, none_again, is_forest}
+use Rattle.rg_sound.proofs.TwinData.{numbers_fit}
 
 -- The frames: all spots of a block
 

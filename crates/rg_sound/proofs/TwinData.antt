@@ -1,5 +1,6 @@
 -- The parts of the invariant but for the frames, as tests.
-use Rattle.std.proofs.Common.{ℕ, zero, suc, ◌==◌, nat_lt, Bool as Truth, true, false, not, ◌&&◌, ◌||◌, List, [], ◌∷◌, ◌++◌, length, map, filter, flat_map, find, Option, Some, None, is_some, option_and_then, option_map, slice_get}
+use Rattle.std.proofs.Common.{ℕ, zero, suc, ◌==◌, nat_lt, Bool as Truth, true, false, not, ◌&&◌, ◌||◌, List, [], ◌∷◌, ◌++◌, length, map, filter}
+use Rattle.std.proofs.Common.{flat_map, find, Option, Some, None, is_some, option_and_then, option_map, slice_get}
 use Rattle.std.specs.List.{list_all}
 use Rattle.rg_base.specs.declared.words.Cap.{Cap}
 use Rattle.rg_base.specs.declared.words.Cap.TheVariants.{Mut, Tmp, Paused, Imm, Iso}
