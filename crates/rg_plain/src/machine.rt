@@ -10,7 +10,7 @@ ghost use Rattle.rg_names.specs.TableOf.{IsTableOf};
 ghost use Rattle.rg_plain.specs.Kept.{kept_of, shown};
 ghost use Rattle.rg_plain.specs.Outcomes.{LeavesRows};
 ghost use Rattle.rg_rules.specs.Inputs.{first_asks};
-ghost use Rattle.rg_plain.specs.Machine.{fresh, Fits, Begins, BegunWith, StepsOn};
+ghost use Rattle.rg_plain.specs.Machine.{fresh, Fits, Begins, BegunWith, StepsOn, KeepsFit};
 ghost use Rattle.rg_plain.specs.Machine.{state_of};
 ghost use Rattle.rg_plain.specs.Runs.{RunIs};
 
@@ -144,6 +144,8 @@ impl PlainMachine {
 
         ensures step { OnInput input.old input.new (S.left source.old) (S.left source.new)
             (StepsOn program.now self.old self.new result) }
+        ensures keeps { OnInput input.old input.new (S.left source.old) (S.left source.new)
+            (KeepsFit program.now self.old self.new) }
         ensures reads_nothing { first_asks (shown program.now self.old.kept.items) ≡ false →
             (input.new ≡ input.old) × (source.new ≡ source.old) }
         ensures fits { Fits program.now self.new }
@@ -158,7 +160,7 @@ impl PlainMachine {
     {
         match &self.classes {
             Some(classes) => { whole_step(alloc, program, classes, &mut self.parts, input, source) }
-            None => Outcome::Memory,
+            None => unreachable!(),
         }
     }
 
