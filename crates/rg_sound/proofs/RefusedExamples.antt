@@ -1,7 +1,6 @@
 -- Programs that would break a part of the invariant, or write where they mayn't: what the checker says of each
 -- (docs/language.md, "What always holds").
-use Rattle.std.proofs.Common.{◌≡◌, refl, ℕ, true, List, [], ◌∷◌, Some, codes, Option, pos}
-use Rattle.rg_base.specs.declared.fault.Fault.{Fault}
+use Rattle.std.proofs.Common.{◌≡◌, refl, true, List, [], ◌∷◌, Some, codes, pos}
 use Rattle.rg_base.specs.declared.fault.Code.TheVariants as code
 use Rattle.rg_base.specs.declared.words.Cap.TheVariants as cap
 use Rattle.rg_base.specs.declared.words.Manager.TheVariants as manager
@@ -53,5 +52,6 @@ owns_itself : first_fault (with_body (within (swap (codes "y") (dot "z" "down"))
 owns_itself = refl
 
 -- an object of the region beneath is written
-written_beneath : first_fault (with_body (within (assign (dot "a" "v") (value (number (pos 1)))))) ≡ Some (record { code = code.Capability; line = 10 })
+written_beneath : first_fault (with_body (within (assign (dot "a" "v") (value (number (pos 1))))))
+    ≡ Some (record { code = code.Capability; line = 10 })
 written_beneath = refl

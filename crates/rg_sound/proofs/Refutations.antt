@@ -1,4 +1,4 @@
--- Each part of the invariant refuses a state by its own words: six false states. Of those of a run `fails` in Examples says that the other parts hold.
+-- Each part of the invariant refuses a state by its own words: six false states. Of those of a run Examples says that the other parts hold.
 use Rattle.std.proofs.Common.{◌≡◌, refl, sym, ◌∙◌, ap, subst, inl, inr, ℕ, ◌<◌, List, [], ◌∷◌, ◌++◌, length, Option, Some, None, option_map}
 use Rattle.std.proofs.Common.{option_and_then, slice_get, arith}
 use Rattle.rg_base.specs.declared.words.Manager.TheVariants as manager

@@ -2,8 +2,10 @@
 //! that fits, where the step goes well, it leaves one that fits and writes only where it may
 //! (docs/language.md, "What always holds").
 
-ghost use Rattle.rg_sound.specs.Laws.{DeclareKeeps, AssignKeeps, CallKeeps, SwapKeeps, BranchKeeps, WhileKeeps, EnterKeeps};
-ghost use Rattle.rg_sound.specs.Laws.{PrintKeeps, CollectKeeps, ReturnKeeps, EndKeeps, LeaveKeeps, BackKeeps};
+ghost use Rattle.rg_sound.specs.Laws.{DeclareKeeps, AssignKeeps, CallKeeps, SwapKeeps};
+ghost use Rattle.rg_sound.specs.Laws.{BranchKeeps, WhileKeeps, EnterKeeps};
+ghost use Rattle.rg_sound.specs.Laws.{PrintKeeps, CollectKeeps, ReturnKeeps};
+ghost use Rattle.rg_sound.specs.Laws.{EndKeeps, LeaveKeeps, BackKeeps};
 
 /// `let x: T = r;`
 pub fn declare_keeps_fit()
