@@ -12,7 +12,7 @@ use Rattle.rg_sound.specs.Fit.{Fit}
 use Rattle.rg_sound.specs.Laws.{StaysFit}
 use Rattle.rg_names.specs.Table.{Table}
 use Rattle.rg_names.specs.TableOf.{IsTableOf}
-use Rattle.rg_plain.specs.declared.rows.TargetRow.TheVariants as target
+use Rattle.rg_plain.specs.declared.state.rows.TargetRow.TheVariants as target
 use Rattle.rg_plain.specs.Shown.{AreNamed}
 use Rattle.rg_plain.specs.Kept.{Kept, plain_of, shown, ItemsFit}
 use Rattle.rg_plain.specs.Fits.{TargetFits}
