@@ -8,7 +8,7 @@ use Rattle.rg_tree.specs.Tree.{Class}
 use Rattle.rg_tree.proofs.TreesFrom.{Begins-same, Begins-trans, get_or-Begins}
 use Rattle.rg_rules.specs.Regions.{among, in_regions, led_from, beneath}
 use Rattle.rg_rules.proofs.RegionLemmas.{beneath-suc}
-use Rattle.rg_plain.specs.declared.beneath.Found.{Found}
+use Rattle.rg_plain.specs.declared.state.beneath.Found.{Found}
 use Rattle.rg_plain.specs.Inner.Beneath.{is_marked, AreMarked, listed, FindsToo, AreLinks}
 use Rattle.rg_plain.specs.Regions.{LabelsFit}
 use Rattle.rg_plain.proofs.AmongLemmas.{or-false, or-true, or-assoc, among-one, among-append, among-again, among-more, AreMarked-below, led-fits}

@@ -13,7 +13,7 @@ use Rattle.rg_tree.specs.Rows.RowsExist.{IsNameIn}
 use Rattle.rg_rules.specs.Types.{type_of}
 use Rattle.rg_rules.specs.State.{Local}
 use Rattle.rg_rules.specs.RightSides.{bound}
-use Rattle.rg_plain.specs.declared.rows.LocalRow.{LocalRow}
+use Rattle.rg_plain.specs.declared.state.rows.LocalRow.{LocalRow}
 use Rattle.rg_plain.specs.Shown.{local_of, locals_of, AreNamed}
 
 bound-first : (cs : List Class) (p : Param) (ps : List Param) (vs : List Val) (i : ℕ) →

@@ -19,9 +19,9 @@ use Rattle.rg_rules.specs.Values.{Computed}
 use Rattle.rg_rules.specs.State.{Frame, State, Target, top_locals}
 use Rattle.rg_rules.specs.Evaluation.{object_at, path_value, values_of, uses, cleared}
 use Rattle.rg_rules.specs.RightSides.{called, called_frame, step_call}
-use Rattle.rg_plain.specs.declared.methods.MethodRow.{MethodRow}
-use Rattle.rg_plain.specs.declared.receivers.Receiver.{Receiver}
-use Rattle.rg_plain.specs.declared.rows.TargetRow.{TargetRow}
+use Rattle.rg_plain.specs.declared.values.methods.MethodRow.{MethodRow}
+use Rattle.rg_plain.specs.declared.values.paths.Receiver.{Receiver}
+use Rattle.rg_plain.specs.declared.state.rows.TargetRow.{TargetRow}
 use Rattle.rg_plain.specs.Inner.Calls.{Enters, receiver_of}
 use Rattle.rg_plain.specs.Kept.{Kept, FrameKept, frame_of, plain_of, shown, target_of}
 use Rattle.rg_plain.specs.Inner.Methods.{method_of}

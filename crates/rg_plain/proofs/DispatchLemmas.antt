@@ -7,8 +7,8 @@ use Rattle.rg_tree.specs.Rows.Tables.{Tables}
 use Rattle.rg_tree.specs.Rows.RowTrees.{classes_of, block_of, stmt_at}
 use Rattle.rg_tree.specs.Tree.{Block, empty as no_more, then as followed_by, StmtKind, stmt}
 use Rattle.rg_rules.specs.Items.{Item, Do, EndAt, LeaveAt, Back, items_of}
-use Rattle.rg_plain.specs.declared.rows.ItemRow.{ItemRow}
-use Rattle.rg_plain.specs.declared.rows.ItemRow.TheVariants as row
+use Rattle.rg_plain.specs.declared.state.rows.ItemRow.{ItemRow}
+use Rattle.rg_plain.specs.declared.state.rows.ItemRow.TheVariants as row
 use Rattle.rg_plain.specs.Kept.{Kept, items_from, put_row, shown, plain_of, ItemFits, ItemsFit}
 use Rattle.rg_plain.specs.Inner.Inputs.{StepOn, SettlesOn}
 use Rattle.rg_plain.specs.Outcomes.{EndsMain, PrintsOrStays, QuietOrPrints, LeavesRows, item_prints, first_prints, settled_outcome}

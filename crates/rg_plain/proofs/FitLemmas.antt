@@ -7,10 +7,10 @@ use Rattle.rg_base.specs.declared.object.Label.{Label}
 use Rattle.rg_base.specs.declared.object.Label.TheVariants.{Region, Temp, Frozen}
 use Rattle.rg_base.specs.declared.words.Manager.{Manager}
 use Rattle.rg_rules.specs.Regions.{region_of}
-use Rattle.rg_plain.specs.declared.makes.Kind.{Kind}
-use Rattle.rg_plain.specs.declared.makes.Kind.TheVariants as kind
-use Rattle.rg_plain.specs.declared.rows.ObjectRow.{ObjectRow}
-use Rattle.rg_plain.specs.declared.rows.WindowRow.{WindowRow}
+use Rattle.rg_plain.specs.declared.steps.new.Kind.{Kind}
+use Rattle.rg_plain.specs.declared.steps.new.Kind.TheVariants as kind
+use Rattle.rg_plain.specs.declared.state.rows.ObjectRow.{ObjectRow}
+use Rattle.rg_plain.specs.declared.state.rows.WindowRow.{WindowRow}
 use Rattle.rg_plain.specs.Inner.Makes.{managers_with}
 use Rattle.rg_plain.specs.Shown.{seen_of, store_of}
 use Rattle.rg_plain.specs.Regions.{LabelFits, LabelsFit, RegionsFit}

@@ -13,9 +13,9 @@ use Rattle.rg_rules.specs.RightSides.{taken, is_left}
 use Rattle.rg_rules.specs.Steps.{Went, stepped}
 use Rattle.rg_input.specs.Numbers.{Pending, Follows, OnInput, Answers, Looks, is_more}
 use Rattle.rg_input.proofs.InputLemmas.{OnInput-still, OnInput-map, OnInput-then}
-use Rattle.rg_plain.specs.declared.rows.ItemRow.{ItemRow}
-use Rattle.rg_plain.specs.declared.aims.Left.{Left}
-use Rattle.rg_plain.specs.declared.aims.Aim.{Aim}
+use Rattle.rg_plain.specs.declared.state.rows.ItemRow.{ItemRow}
+use Rattle.rg_plain.specs.declared.steps.targets.Left.{Left}
+use Rattle.rg_plain.specs.declared.steps.targets.Aim.{Aim}
 use Rattle.rg_plain.specs.Kept.{Kept, plain_of, shown}
 use Rattle.rg_plain.specs.Inner.Spots.{AimIs, statement_of, use_of}
 use Rattle.rg_plain.specs.Inner.Inputs.{StepOn}

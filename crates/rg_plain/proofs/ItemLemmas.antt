@@ -7,8 +7,8 @@ use Rattle.rg_tree.specs.declared.rows.Span.{Span}
 use Rattle.rg_tree.specs.Rows.Tables.{Tables, numbers_in}
 use Rattle.rg_tree.specs.Rows.RowTrees.{stmt_at, block_over}
 use Rattle.rg_rules.specs.Items.{Item, Do, items_of}
-use Rattle.rg_plain.specs.declared.rows.ItemRow.{ItemRow}
-use Rattle.rg_plain.specs.declared.rows.ItemRow.TheVariants as row
+use Rattle.rg_plain.specs.declared.state.rows.ItemRow.{ItemRow}
+use Rattle.rg_plain.specs.declared.state.rows.ItemRow.TheVariants as row
 use Rattle.rg_plain.specs.Kept.{items_from, shown, put_row, ItemFits, ItemsFit}
 use Rattle.rg_plain.specs.Inner.Steps.{IsAt}
 

@@ -26,3 +26,4 @@ mod MakeLemmas
 mod FieldLemmas
 mod WindowLemmas
 mod InputLemmas
+mod SoundLemmas

@@ -12,7 +12,7 @@ use Rattle.rg_tree.specs.Rows.Tables.{Tables}
 use Rattle.rg_tree.specs.Rows.RowTrees.{classes_of}
 use Rattle.rg_rules.specs.Types.{fields_of, field_member}
 use Rattle.rg_rules.specs.Regions.{region_of, region_at, owned_as, owned_in, in_regions, led_from}
-use Rattle.rg_plain.specs.declared.rows.ObjectRow.{ObjectRow}
+use Rattle.rg_plain.specs.declared.state.rows.ObjectRow.{ObjectRow}
 use Rattle.rg_plain.specs.Inner.Beneath.{listed, links_in}
 use Rattle.rg_plain.specs.Shown.{seen_of, store_of}
 use Rattle.rg_plain.proofs.AmongLemmas.{among-one}

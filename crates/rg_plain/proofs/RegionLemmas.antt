@@ -5,7 +5,7 @@ use Rattle.std.proofs.lemmas.List.Elements.{All-nil, All-cons, All-head, All-tai
 use Rattle.rg_base.specs.declared.object.Seen.{Seen}
 use Rattle.rg_base.specs.declared.object.Label.{Label}
 use Rattle.rg_rules.specs.Regions.{in_regions, relabelled_object, relabelled}
-use Rattle.rg_plain.specs.declared.rows.ObjectRow.{ObjectRow}
+use Rattle.rg_plain.specs.declared.state.rows.ObjectRow.{ObjectRow}
 use Rattle.rg_tree.specs.Rows.Tables.{Tables}
 use Rattle.rg_tree.specs.Rows.RowTrees.{classes_of}
 use Rattle.rg_rules.proofs.RegionLemmas.{class-relabelled_object}

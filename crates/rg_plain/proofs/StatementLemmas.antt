@@ -19,7 +19,7 @@ use Rattle.rg_rules.specs.Values.{Computed}
 use Rattle.rg_rules.specs.Evaluation.{object_at, follow_fields}
 use Rattle.rg_rules.specs.RightSides.{step_call}
 use Rattle.rg_rules.specs.Steps.{stepped, step_assign, step_first, step_kind, next}
-use Rattle.rg_plain.specs.declared.rows.ObjectRow.{ObjectRow}
+use Rattle.rg_plain.specs.declared.state.rows.ObjectRow.{ObjectRow}
 use Rattle.rg_plain.specs.Inner.Calls.{holder_from, tested}
 use Rattle.rg_plain.specs.Kept.{Kept, plain_of, shown}
 use Rattle.rg_plain.specs.Shown.{seen_of, store_of}

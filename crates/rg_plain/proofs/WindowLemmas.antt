@@ -16,11 +16,11 @@ use Rattle.rg_rules.specs.State.{State}
 use Rattle.rg_rules.specs.Regions.{region_of}
 use Rattle.rg_rules.specs.Evaluation.{object_at}
 use Rattle.rg_rules.specs.Steps.{Went, Trapped, next, stepped, entered, with_window}
-use Rattle.rg_plain.specs.declared.arguments.Refused.{Refused}
-use Rattle.rg_plain.specs.declared.arguments.Refused.TheVariants as refused
-use Rattle.rg_plain.specs.declared.windows.Owner.{Owner}
-use Rattle.rg_plain.specs.declared.rows.ItemRow.{ItemRow}
-use Rattle.rg_plain.specs.declared.rows.ObjectRow.{ObjectRow}
+use Rattle.rg_plain.specs.declared.steps.refusal.Refusal.{Refusal}
+use Rattle.rg_plain.specs.declared.steps.refusal.Refusal.TheVariants as refused
+use Rattle.rg_plain.specs.declared.steps.enter.Owner.{Owner}
+use Rattle.rg_plain.specs.declared.state.rows.ItemRow.{ItemRow}
+use Rattle.rg_plain.specs.declared.state.rows.ObjectRow.{ObjectRow}
 use Rattle.rg_plain.specs.Kept.{Kept, plain_of, shown}
 use Rattle.rg_plain.specs.Shown.{store_of}
 use Rattle.rg_plain.specs.Inner.Steps.{StepIs}
@@ -30,7 +30,7 @@ use Rattle.rg_plain.proofs.WriteLemmas.{some-object}
 
 -- an owner that isn't there
 pub owner-refused : (t : Tables) (k : Kept) (input : List ℕ) (number line : ℕ) (p : row_path.Path) (z : Name) (body : Block) (why :
-    Refused) (rest : List Item) (o : Outcome) →
+    Refusal) (rest : List Item) (o : Outcome) →
     OwnerIs t k p (Err why) → shown t k.items ≡ Do (stmt_at t number) ∷ rest → stmt_at t number ≡ stmt line (enter (path_of t p) z body) →
     o ≡ ended_by why line → StepIs (next (classes_of t) (plain_of t k input)) (plain_of t k input) (plain_of t k input) o
 owner-refused t k input number line p z body (refused.Trap kind) rest o is shown_is tree o_is =

@@ -3,13 +3,16 @@ use Rattle.std.specs.Prelude.{◌≡◌, ℕ, ◌<◌, List, [], ◌∷◌, All,
 use Rattle.rg_tree.specs.Rows.Tables.{Tables}
 use Rattle.rg_tree.specs.Rows.RowTrees.{classes_of, program_of, block_of}
 use Rattle.rg_base.specs.declared.outcome.Outcome.{Outcome}
+use Rattle.rg_rules.specs.Acceptance.{Accepted}
 use Rattle.rg_rules.specs.Items.{EndAt, items_of}
 use Rattle.rg_rules.specs.State.{State}
 use Rattle.rg_rules.specs.Steps.{next}
 use Rattle.rg_rules.specs.Runs.{opening}
+use Rattle.rg_sound.specs.Fit.{Fit}
+use Rattle.rg_sound.specs.Laws.{StaysFit}
 use Rattle.rg_names.specs.Table.{Table}
 use Rattle.rg_names.specs.TableOf.{IsTableOf}
-use Rattle.rg_plain.specs.declared.rows.TargetRow.TheVariants as target
+use Rattle.rg_plain.specs.declared.state.rows.TargetRow.TheVariants as target
 use Rattle.rg_plain.specs.Shown.{AreNamed}
 use Rattle.rg_plain.specs.Kept.{Kept, plain_of, shown, ItemsFit}
 use Rattle.rg_plain.specs.Fits.{TargetFits}
@@ -75,3 +78,8 @@ pub record Begins (t : Tables) (m : Machine) : Type 0 where
 abbrev pub StepsOn : Tables → (old new : Machine) → (result : Outcome) → (before after : List ℕ) → Type 0
 StepsOn t old new result before after =
     Settles (next (classes_of t) (state_of t old before)) (state_of t old before) (state_of t new after) result
+
+-- where the program is accepted and the state fits, with these bytes of the input, the next one fits, and only what may be was written
+abbrev pub KeepsFit : Tables → (old new : Machine) → (before after : List ℕ) → Type 0
+KeepsFit t old new before after =
+    Accepted (program_of t) → Fit (program_of t) (state_of t old before) → StaysFit (program_of t) (state_of t old before) (state_of t new after)

@@ -17,11 +17,11 @@ use Rattle.rg_rules.specs.State.{Local, set_in, value_in}
 use Rattle.rg_rules.specs.Evaluation.{object_at, follow_fields, path_value, uses, cleared}
 use Rattle.rg_rules.specs.RightSides.{called, step_call}
 use Rattle.rg_rules.specs.Steps.{stepped}
-use Rattle.rg_plain.specs.declared.methods.MethodRow.{MethodRow}
-use Rattle.rg_plain.specs.declared.receivers.Receiver.{Receiver}
-use Rattle.rg_plain.specs.declared.rows.FrameRow.{FrameRow}
-use Rattle.rg_plain.specs.declared.rows.TargetRow.{TargetRow}
-use Rattle.rg_plain.specs.declared.rows.TargetRow.TheVariants as target
+use Rattle.rg_plain.specs.declared.values.methods.MethodRow.{MethodRow}
+use Rattle.rg_plain.specs.declared.values.paths.Receiver.{Receiver}
+use Rattle.rg_plain.specs.declared.state.rows.FrameRow.{FrameRow}
+use Rattle.rg_plain.specs.declared.state.rows.TargetRow.{TargetRow}
+use Rattle.rg_plain.specs.declared.state.rows.TargetRow.TheVariants as target
 use Rattle.rg_plain.specs.Kept.{Kept, FrameKept, kept_frame, plain_of, shown, target_of}
 use Rattle.rg_plain.specs.Inner.Methods.{method_of}
 use Rattle.rg_plain.specs.Shown.{locals_of}

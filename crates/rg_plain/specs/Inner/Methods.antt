@@ -5,7 +5,7 @@ use Rattle.rg_tree.specs.Rows.Tables.{Tables, name_at, numbers_in}
 use Rattle.rg_tree.specs.Rows.RowTrees.{classes_of, type_of, param_at, block_of}
 use Rattle.rg_tree.specs.Rows.RowsExist.{IsTypeIn, IsSpanBelow, IsBlockIn}
 use Rattle.rg_rules.specs.Types.{method_member, method_named}
-use Rattle.rg_plain.specs.declared.methods.MethodRow.{MethodRow}
+use Rattle.rg_plain.specs.declared.values.methods.MethodRow.{MethodRow}
 
 -- the method of a row
 abbrev pub method_of : Tables → MethodRow → Method

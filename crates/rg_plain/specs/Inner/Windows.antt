@@ -10,15 +10,15 @@ use Rattle.rg_tree.specs.declared.rows.Path as row_path
 use Rattle.rg_rules.specs.Items.{Item}
 use Rattle.rg_rules.specs.Regions.{region_of}
 use Rattle.rg_rules.specs.Steps.{entered, step_kind}
-use Rattle.rg_plain.specs.declared.arguments.Refused.{Refused}
-use Rattle.rg_plain.specs.declared.arguments.Refused.TheVariants as refused
-use Rattle.rg_plain.specs.declared.windows.Owner.{Owner}
-use Rattle.rg_plain.specs.declared.windows.Bridge.{Bridge}
-use Rattle.rg_plain.specs.declared.parts.Parts.{Parts}
+use Rattle.rg_plain.specs.declared.steps.refusal.Refusal.{Refusal}
+use Rattle.rg_plain.specs.declared.steps.refusal.Refusal.TheVariants as refused
+use Rattle.rg_plain.specs.declared.steps.enter.Owner.{Owner}
+use Rattle.rg_plain.specs.declared.steps.enter.Bridge.{Bridge}
+use Rattle.rg_plain.specs.declared.state.parts.Parts.{Parts}
 use Rattle.rg_plain.specs.Kept.{Kept, plain_of}
 
 -- an `enter` without its name and block: the region of what the owner holds is entered, or the trap
-abbrev pub OwnerIs : Tables → Kept → row_path.Path → Result Owner Refused → Type 0
+abbrev pub OwnerIs : Tables → Kept → row_path.Path → Result Owner Refusal → Type 0
 OwnerIs t k p (Ok w) = (input : List ℕ) (rest : List Item) (line : ℕ) (z : Name) (body : Block) →
     step_kind (classes_of t) (record (plain_of t k input) { items = rest }) line (enter (path_of t p) z body)
     ≡ entered (record (plain_of t k input) { items = rest }) w.place z body w.bridge
@@ -38,6 +38,6 @@ pub record HasWindowRoom (p : Parts) : Type 0 where
   pub items : length p.items.items + 2 ≤ vec_capacity p.items
 
 -- how a step ends that was refused
-abbrev pub ended_by : Refused → (line : ℕ) → Outcome
+abbrev pub ended_by : Refusal → (line : ℕ) → Outcome
 ended_by (refused.Trap kind) line = outcome.Trap kind line
 ended_by refused.Memory line = outcome.Memory
