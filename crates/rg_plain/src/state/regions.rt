@@ -1,11 +1,11 @@
 //! Regions, and other labels for all that lies in some of them (docs/language.md, "Steps").
 
-ghost use Rattle.std.specs.Prelude.{List, option_and_then, ℕ, ◌≡◌};
+ghost use Rattle.std.specs.Prelude.{◌≡◌, List, option_and_then, ℕ};
+ghost use Rattle.rg_rules.specs.Regions.{address, among, in_regions, region_at, region_of};
+ghost use Rattle.rg_rules.specs.Regions.{relabelled, relabelled_object};
 ghost use Rattle.rg_plain.specs.Inner.Beneath.{AreRegions, is_marked};
 ghost use Rattle.rg_plain.specs.Regions.{LabelFits, LabelsFit};
 ghost use Rattle.rg_plain.specs.Shown.{AreOfClasses, seen_of, store_of};
-ghost use Rattle.rg_rules.specs.Regions.{address, among, in_regions, region_at, region_of};
-ghost use Rattle.rg_rules.specs.Regions.{relabelled, relabelled_object};
 
 use crate::state::rows::ObjectRow;
 use rg_base::{Label, Val};

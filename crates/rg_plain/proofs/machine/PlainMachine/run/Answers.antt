@@ -1,8 +1,8 @@
-use Rattle.std.proofs.Common.{ℕ, List}
+use Rattle.std.proofs.Common.{◌≡◌, ℕ, List}
 use Rattle.rg_input.proofs.InputLemmas.{OnInput-map}
 use Rattle.rg_plain.specs.Machine.{state_of}
-use Rattle.rg_plain.specs.Runs.{RunIs}
-use Rattle.rg_plain.proofs.RunLemmas.{RunOn}
+use Rattle.rg_plain.specs.Runs.{RunIs, NoneAsks, begun}
+use Rattle.rg_plain.proofs.RunLemmas.{RunOn, none_fewer}
 use Rattle.rg_plain.proofs.machine.PlainMachine.run.Goals as goal
 
 pub returns-clause-run : goal.returns-clause-run
@@ -16,3 +16,13 @@ returns-clause-run g c =
     (k : ℕ) × RunIs t (state_of t start before) c.args.n k new after old out c.run_counting.result in
     OnInput-map _ _ _ _ (RunOn t start c.args.n c.run_counting.new.steps new old out c.run_counting.result) Q c.run_counting.ensures.run
     (λ before after is. (c.run_counting.new.steps, is))
+
+pub returns-clause-reads_nothing : goal.returns-clause-reads_nothing
+returns-clause-reads_nothing g c =
+    let t = c.args.program.now in
+    let start = c.args.self.now in
+    let Still : Type 0 = (c.run_counting.new.input ≡ c.args.input.now) × (c.run_counting.new.source ≡ c.args.source.now) in
+    let few = begun c.run_counting.result c.run_counting.new.steps in
+    OnInput-map _ _ _ _ (λ before after. NoneAsks t (state_of t start before) few → Still)
+    (λ before after. NoneAsks t (state_of t start before) c.args.n → Still) c.run_counting.ensures.reads_nothing
+    (λ before after quiet none. quiet (none_fewer t (state_of t start before) few c.args.n c.run_counting.ensures.within none))
