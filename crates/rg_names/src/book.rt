@@ -1,13 +1,13 @@
 //! A program with its class table: what a step or a judgement looks things up in
 //! (docs/language.md, "Headers").
 
-ghost use Rattle.std.specs.Prelude.{◌≡◌, ◌<◌, length, slice_get, Some, IfOk};
+ghost use Rattle.std.specs.Prelude.{◌≡◌, ◌<◌, length, slice_get, Some, IfOk, IfSome};
 ghost use Rattle.rg_tree.specs.Rows.Tables.{numbers_in};
 ghost use Rattle.rg_tree.specs.Rows.RowTrees.{class_of, classes_of, expr_at, expr_of, member_at, member_of, param_at, param_of, stmt_at, stmt_of, type_of};
 ghost use Rattle.rg_tree.specs.Rows.RowsExist.{IsClassIn, IsExprIn, IsMemberIn, IsNameIn, IsParamIn, IsStmtIn, IsTypeIn, IsWithin};
 ghost use Rattle.rg_rules.specs.Types.{good_type};
 ghost use Rattle.rg_names.specs.TableOf.{IsTableOf};
-ghost use Rattle.rg_names.specs.TreeAnswers.{IsKnown, FieldAnswer, MethodAnswer};
+ghost use Rattle.rg_names.specs.TreeAnswers.{IsKnown, FieldAnswer, MethodAnswer, HasGoodParams};
 
 use crate::classes::Classes;
 use crate::entry::{FieldAt, Sig};
@@ -143,7 +143,8 @@ impl<'a> Book<'a> {
     pub fn method(&self, class: u32, name: u32) -> Option<Sig>
         requires class { class < length (classes_of self.now.program) }
         requires name { IsNameIn self.now.program name }
-        ensures { MethodAnswer self.now.program class name result }
+        ensures method { MethodAnswer self.now.program class name result }
+        ensures params { IfSome result (HasGoodParams self.now.program) }
     {
         self.classes.method(class, name)
     }
