@@ -21,7 +21,7 @@ use Rattle.rg_rules.proofs.RunLemmas.{one_more, one_more-went, one_more-trapped,
 use Rattle.rg_plain.specs.Kept.{shown}
 use Rattle.rg_rules.specs.Inputs.{first_asks}
 use Rattle.rg_plain.specs.Machine.{Machine, state_of, StepsOn}
-use Rattle.rg_plain.specs.Runs.{answer, StandsAt, CutOff, CutAtInput, Whole, RunIs, NoneAsks}
+use Rattle.rg_plain.specs.Runs.{answer, StandsAt, CutOff, CutAtInput, Whole, RunIs, NoneAsks, begun}
 use Rattle.rg_rules.specs.Texts.{ran, output_after, text_of, added}
 
 ending-some : (items : List Item) → items ≢ [] → ending_of items ≡ Running
@@ -256,12 +256,14 @@ pub none_more : (t : Tables) (s : State) (k : ℕ) (m : Machine) (rest : List �
 none_more t s k m rest old new Before After so_far before more none =
     more (ap (λ q. first_asks q.state.items) (sym so_far.ran_is) ∙ none k (omega arith)) (before (λ j l. none j (omega arith)))
 
--- a run that began no more steps
-pub none_fewer : (t : Tables) (s : State) (few many : ℕ) → few ≤ many → NoneAsks t s many → NoneAsks t s few
-none_fewer t s few many l none k within = none k (omega arith)
-
 -- a run so far of a machine that started on these bytes; where none of its steps asks, something is as it was
 abbrev pub UnreadOn : Tables → (start : Machine) → (k : ℕ) → (m : Machine) → (old new : Option (List ℕ)) → (Still : Type 0) →
     (before after : List ℕ) → Type 0
 UnreadOn t start k m old new Still before after =
     RanOn t start k m old new before after × (NoneAsks t (state_of t start before) k → Still)
+
+-- what a run has answered, and that something is as it was where none of the steps that it began asks
+abbrev pub QuietOn : Tables → (start : Machine) → (n k : ℕ) → (m : Machine) → (old new : Option (List ℕ)) → Ended → (Still : Type 0) →
+    (before after : List ℕ) → Type 0
+QuietOn t start n k m old new result Still before after =
+    RunOn t start n k m old new result before after × (NoneAsks t (state_of t start before) (begun result k) → Still)

@@ -184,9 +184,11 @@ impl PlainMachine {
         ensures run { OnInput input.old input.new (S.left source.old) (S.left source.new)
             (λ before after. (k : ℕ) × RunIs program.now (state_of program.now self.old before) n k
             self.new after (O.taken out.old) (O.taken out.new) result) }
-        ensures reads_nothing { OnInput input.old input.new (S.left source.old) (S.left source.new) (λ before after.
-            NoneAsks program.now (state_of program.now self.old before) n →
-            (input.new ≡ input.old) × (source.new ≡ source.old)) }
+        ensures reads_nothing { OnInput input.old input.new (S.left source.old) (S.left source.new)
+            (λ before after. let start = state_of program.now self.old before in (k : ℕ) × (RunIs
+            program.now start n k self.new after (O.taken out.old) (O.taken out.new) result ×
+            (NoneAsks program.now start (begun result k) → (input.new ≡ input.old) × (source.new ≡
+            source.old)))) }
         ensures fits { Fits program.now self.new }
         ensures follows { Follows input.new (S.left source.new) }
 
@@ -222,8 +224,9 @@ impl PlainMachine {
             self.new after (O.taken out.old) (O.taken out.new) result) }
         ensures within { begun result steps.new ≤ n }
         ensures reads_nothing { OnInput input.old input.new (S.left source.old) (S.left source.new) (λ before after.
-            NoneAsks program.now (state_of program.now self.old before) (begun result steps.new) →
-            (input.new ≡ input.old) × (source.new ≡ source.old)) }
+            let start = state_of program.now self.old before in RunIs program.now start n steps.new
+            self.new after (O.taken out.old) (O.taken out.new) result × (NoneAsks program.now start
+            (begun result steps.new) → (input.new ≡ input.old) × (source.new ≡ source.old))) }
         ensures fits { Fits program.now self.new }
         ensures follows { Follows input.new (S.left source.new) }
 

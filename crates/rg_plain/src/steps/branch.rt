@@ -30,7 +30,8 @@ pub(crate) fn branch_step(
     no: Option<Span>,
 ) -> Result<(), Refusal>
     requires stands { Stands book.now.program m.old at (branch (expr_at book.now.program test)
-        (block_of book.now.program yes) (else_over book.now.program (stmt_at book.now.program) no)) }
+        (block_of book.now.program yes) (else_over book.now.program (stmt_at book.now.program)
+        no)) }
     requires there { IsExprNumber book.now.program test }
     requires yes { IsBlockIn book.now.program yes }
     requires no { IfSome no (IsBlockIn book.now.program) }

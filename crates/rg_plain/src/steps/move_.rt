@@ -5,6 +5,7 @@ ghost use Rattle.std.specs.Prelude.{ℕ};
 ghost use Rattle.rg_base.specs.declared.object.Seen.{Seen};
 ghost use Rattle.rg_tree.specs.Rows.RowTrees.{classes_of};
 ghost use Rattle.rg_tree.specs.Rows.RowsExist.{IsNameIn};
+ghost use Rattle.rg_tree.specs.Rows.Tables.{Tables};
 ghost use Rattle.rg_rules.specs.Regions.{beneath, region_of};
 ghost use Rattle.rg_plain.specs.Fits.{PartsFit};
 ghost use Rattle.rg_plain.specs.Inner.Beneath.{AreMarked, AreRegions};
@@ -104,13 +105,12 @@ fn regions_with(
 }
 
 /// What objects become that are moved.
-fn new_label(book: &Book, m: &Parts, how: Move) -> Label
-    requires fit { PartsFit book.now.program m.now }
-    ensures label { (input : List ℕ) →
-        result ≡ label_of (plain_of book.now.program (kept_of m.now) input).windows how }
+fn new_label(m: &Parts, how: Move) -> Label
+    requires made { m.now.window.region < length m.now.managers.items }
+    ensures label { (t : Tables) (input : List ℕ) →
+        result ≡ label_of (plain_of t (kept_of m.now) input).windows how }
     ensures made { LabelFits (length m.now.managers.items) result }
 {
-    let _ = book;
     match how {
         Move::Freeze => Label::Frozen,
         Move::Merge => Label::Region(m.window.region),
@@ -139,7 +139,7 @@ fn carry(
         book.now.program (kept_of m.old) input) these label value }
     ensures fit { PartsFit book.now.program m.new }
 {
-    relabel(book, &mut m.store, regions, label);
+    relabel(&mut m.store, regions, label);
     set(book, &mut m.frame.locals, Some(name), Val::Nil);
     put(book, m, aim, value);
 }
@@ -169,7 +169,7 @@ pub(crate) fn move_step(
     };
     make_room(book, m, aim)?;
     let regions = regions_with(alloc, book, m, how, region)?;
-    let label = new_label(book, m, how);
+    let label = new_label(m, how);
     advance(book, &mut m.items, at.span, at.number);
     carry(book, m, &regions, label, aim, name, held.value);
     Ok(())

@@ -38,11 +38,10 @@ pub enum Kind {
 }
 
 /// To what the new object belongs.
-fn label(book: &Book, m: &Parts, kind: Kind) -> Label
-    ensures { (input : List ℕ) → let now = plain_of book.now.program (kept_of m.now) input in
+fn label(m: &Parts, kind: Kind) -> Label
+    ensures { (t : Tables) (input : List ℕ) → let now = plain_of t (kept_of m.now) input in
         result ≡ label_of now.windows now.managers kind }
 {
-    let _ = book;
     match kind {
         Kind::Plain => Label::Region(m.window.region),
         Kind::Temporary => Label::Temp(m.window.number),
@@ -120,7 +119,7 @@ pub(crate) fn new_step(
         advance(book, &mut m.items, at.span, at.number);
         return Ok(());
     };
-    let object = new_object(alloc, book, class, label(book, m, kind))?;
+    let object = new_object(alloc, book, class, label(m, kind))?;
     make_rooms(book, m, aim)?;
     advance(book, &mut m.items, at.span, at.number);
     make(book, m, aim, object, kind);

@@ -5,10 +5,9 @@ use Rattle.rg_base.specs.declared.outcome.Outcome.TheVariants as outcome
 use Rattle.rg_io.proofs.ContentLemmas.{Appends-none}
 use Rattle.rg_input.proofs.InputLemmas.{OnInput-still, OnInput-map}
 use Rattle.rg_plain.specs.Machine.{state_of, StepsOn}
-use Rattle.rg_plain.specs.Runs.{NoneAsks}
 use Rattle.rg_plain.proofs.DispatchLemmas.{left-shown}
 use Rattle.rg_plain.proofs.InputLemmas.{OnInput-both}
-use Rattle.rg_plain.proofs.RunLemmas.{RanSoFar, RanOn, RunOn, UnreadOn, none_more, opening, quiet, printed, spent, done, trapped, cut_before}
+use Rattle.rg_plain.proofs.RunLemmas.{RanSoFar, RanOn, RunOn, UnreadOn, QuietOn, none_more, opening, quiet, printed, spent, done, trapped, cut_before}
 use Rattle.rg_plain.proofs.RunLemmas.{cut_at_input, cut_behind}
 use Rattle.rg_plain.proofs.machine.PlainMachine.run_counting.Goals as goal
 
@@ -190,14 +189,21 @@ returns-in-Err-clause-reads_nothing g c =
     let start = c.args.self.now in
     let k = c.loop-steps.steps in
     let m = c.loop-steps.self in
+    let new = c.step.new.self in
+    let v = c.in-Printed.v in
     let old = g.O.Sink.taken c.args.out.now in
-    let out = g.O.Sink.taken c.loop-steps.out in
+    let between = g.O.Sink.taken c.loop-steps.out in
+    let out = g.O.Sink.taken c.put_value.new.out in
     let Before : Type 0 = (c.loop-steps.input ≡ c.args.input.now) × (c.loop-steps.source ≡ c.args.source.now) in
     let After : Type 0 = (c.step.new.input ≡ c.args.input.now) × (c.step.new.source ≡ c.args.source.now) in
-    OnInput-both _ _ _ _ _ _ (UnreadOn t start k m old out Before) (StepsOn t m c.step.new.self (outcome.Printed c.in-Printed.v))
-    (λ before after. NoneAsks t (state_of t start before) (k + 1) → After) c.loop-steps.invariant.unread c.in-Printed.ensures.step
-    (λ x y z ran step. none_more t (state_of t start x) k m y old out Before After ran.0 ran.1
-    (λ no b. let n = c.in-Printed.ensures.reads_nothing no in (n.0 ∙ b.0, n.1 ∙ b.1)))
+    let within : k < c.args.n = omega (arith, c.loop-steps-test.true) in
+    OnInput-both _ _ _ _ _ _ (UnreadOn t start k m old between Before) (StepsOn t m new (outcome.Printed v))
+    (QuietOn t start c.args.n (k + 1) new old out ended.OutputFault After) c.loop-steps.invariant.unread c.in-Printed.ensures.step
+    (λ x y z ran step. (
+      cut_behind t (state_of t start x) c.args.n k m new v y z old between out within ran.0 step c.in-Err.ensures.part,
+      none_more t (state_of t start x) k m y old between Before After ran.0 ran.1
+          (λ no b. let n = c.in-Printed.ensures.reads_nothing no in (n.0 ∙ b.0, n.1 ∙ b.1)),
+    ))
 
 pub returns-in-Done-clause-reads_nothing : goal.returns-in-Done-clause-reads_nothing
 returns-in-Done-clause-reads_nothing g c =
@@ -205,14 +211,19 @@ returns-in-Done-clause-reads_nothing g c =
     let start = c.args.self.now in
     let k = c.loop-steps.steps in
     let m = c.loop-steps.self in
+    let new = c.step.new.self in
     let old = g.O.Sink.taken c.args.out.now in
     let out = g.O.Sink.taken c.loop-steps.out in
     let Before : Type 0 = (c.loop-steps.input ≡ c.args.input.now) × (c.loop-steps.source ≡ c.args.source.now) in
     let After : Type 0 = (c.step.new.input ≡ c.args.input.now) × (c.step.new.source ≡ c.args.source.now) in
-    OnInput-both _ _ _ _ _ _ (UnreadOn t start k m old out Before) (StepsOn t m c.step.new.self outcome.Done)
-    (λ before after. NoneAsks t (state_of t start before) (k + 1) → After) c.loop-steps.invariant.unread c.in-Done.ensures.step
-    (λ x y z ran step. none_more t (state_of t start x) k m y old out Before After ran.0 ran.1
-    (λ no b. let n = c.in-Done.ensures.reads_nothing no in (n.0 ∙ b.0, n.1 ∙ b.1)))
+    let within : k < c.args.n = omega (arith, c.loop-steps-test.true) in
+    OnInput-both _ _ _ _ _ _ (UnreadOn t start k m old out Before) (StepsOn t m new outcome.Done)
+    (QuietOn t start c.args.n (k + 1) new old out ended.Done After) c.loop-steps.invariant.unread c.in-Done.ensures.step
+    (λ x y z ran step. (
+      done t (state_of t start x) c.args.n k m new y z old out within ran.0 step,
+      none_more t (state_of t start x) k m y old out Before After ran.0 ran.1
+          (λ no b. let n = c.in-Done.ensures.reads_nothing no in (n.0 ∙ b.0, n.1 ∙ b.1)),
+    ))
 
 pub returns-in-Trap-clause-reads_nothing : goal.returns-in-Trap-clause-reads_nothing
 returns-in-Trap-clause-reads_nothing g c =
@@ -220,14 +231,19 @@ returns-in-Trap-clause-reads_nothing g c =
     let start = c.args.self.now in
     let k = c.loop-steps.steps in
     let m = c.loop-steps.self in
+    let new = c.step.new.self in
     let old = g.O.Sink.taken c.args.out.now in
     let out = g.O.Sink.taken c.loop-steps.out in
     let Before : Type 0 = (c.loop-steps.input ≡ c.args.input.now) × (c.loop-steps.source ≡ c.args.source.now) in
     let After : Type 0 = (c.step.new.input ≡ c.args.input.now) × (c.step.new.source ≡ c.args.source.now) in
-    OnInput-both _ _ _ _ _ _ (UnreadOn t start k m old out Before) (StepsOn t m c.step.new.self (outcome.Trap c.in-Trap.kind c.in-Trap.line))
-    (λ before after. NoneAsks t (state_of t start before) (k + 1) → After) c.loop-steps.invariant.unread c.in-Trap.ensures.step
-    (λ x y z ran step. none_more t (state_of t start x) k m y old out Before After ran.0 ran.1
-    (λ no b. let n = c.in-Trap.ensures.reads_nothing no in (n.0 ∙ b.0, n.1 ∙ b.1)))
+    let within : k < c.args.n = omega (arith, c.loop-steps-test.true) in
+    OnInput-both _ _ _ _ _ _ (UnreadOn t start k m old out Before) (StepsOn t m new (outcome.Trap c.in-Trap.kind c.in-Trap.line))
+    (QuietOn t start c.args.n (k) new old out (ended.Trap c.in-Trap.kind c.in-Trap.line) After) c.loop-steps.invariant.unread c.in-Trap.ensures.step
+    (λ x y z ran step. (
+      trapped t (state_of t start x) c.args.n k m new c.in-Trap.kind c.in-Trap.line y z old out within ran.0 step,
+      none_more t (state_of t start x) k m y old out Before After ran.0 ran.1
+          (λ no b. let n = c.in-Trap.ensures.reads_nothing no in (n.0 ∙ b.0, n.1 ∙ b.1)),
+    ))
 
 pub returns-in-InputFault-clause-reads_nothing : goal.returns-in-InputFault-clause-reads_nothing
 returns-in-InputFault-clause-reads_nothing g c =
@@ -235,14 +251,19 @@ returns-in-InputFault-clause-reads_nothing g c =
     let start = c.args.self.now in
     let k = c.loop-steps.steps in
     let m = c.loop-steps.self in
+    let new = c.step.new.self in
     let old = g.O.Sink.taken c.args.out.now in
     let out = g.O.Sink.taken c.loop-steps.out in
     let Before : Type 0 = (c.loop-steps.input ≡ c.args.input.now) × (c.loop-steps.source ≡ c.args.source.now) in
     let After : Type 0 = (c.step.new.input ≡ c.args.input.now) × (c.step.new.source ≡ c.args.source.now) in
-    OnInput-both _ _ _ _ _ _ (UnreadOn t start k m old out Before) (StepsOn t m c.step.new.self outcome.InputFault)
-    (λ before after. NoneAsks t (state_of t start before) (k + 1) → After) c.loop-steps.invariant.unread c.in-InputFault.ensures.step
-    (λ x y z ran step. none_more t (state_of t start x) k m y old out Before After ran.0 ran.1
-    (λ no b. let n = c.in-InputFault.ensures.reads_nothing no in (n.0 ∙ b.0, n.1 ∙ b.1)))
+    let within : k < c.args.n = omega (arith, c.loop-steps-test.true) in
+    OnInput-both _ _ _ _ _ _ (UnreadOn t start k m old out Before) (StepsOn t m new outcome.InputFault)
+    (QuietOn t start c.args.n (k) new old out ended.InputFault After) c.loop-steps.invariant.unread c.in-InputFault.ensures.step
+    (λ x y z ran step. (
+      cut_at_input t (state_of t start x) c.args.n k m new y z old out within (c.in-InputFault.ensures.input_fault refl) ran.0 step,
+      none_more t (state_of t start x) k m y old out Before After ran.0 ran.1
+          (λ no b. let n = c.in-InputFault.ensures.reads_nothing no in (n.0 ∙ b.0, n.1 ∙ b.1)),
+    ))
 
 pub returns-in-Memory-clause-reads_nothing : goal.returns-in-Memory-clause-reads_nothing
 returns-in-Memory-clause-reads_nothing g c =
@@ -250,14 +271,19 @@ returns-in-Memory-clause-reads_nothing g c =
     let start = c.args.self.now in
     let k = c.loop-steps.steps in
     let m = c.loop-steps.self in
+    let new = c.step.new.self in
     let old = g.O.Sink.taken c.args.out.now in
     let out = g.O.Sink.taken c.loop-steps.out in
     let Before : Type 0 = (c.loop-steps.input ≡ c.args.input.now) × (c.loop-steps.source ≡ c.args.source.now) in
     let After : Type 0 = (c.step.new.input ≡ c.args.input.now) × (c.step.new.source ≡ c.args.source.now) in
-    OnInput-both _ _ _ _ _ _ (UnreadOn t start k m old out Before) (StepsOn t m c.step.new.self outcome.Memory)
-    (λ before after. NoneAsks t (state_of t start before) (k + 1) → After) c.loop-steps.invariant.unread c.in-Memory.ensures.step
-    (λ x y z ran step. none_more t (state_of t start x) k m y old out Before After ran.0 ran.1
-    (λ no b. let n = c.in-Memory.ensures.reads_nothing no in (n.0 ∙ b.0, n.1 ∙ b.1)))
+    let within : k < c.args.n = omega (arith, c.loop-steps-test.true) in
+    OnInput-both _ _ _ _ _ _ (UnreadOn t start k m old out Before) (StepsOn t m new outcome.Memory)
+    (QuietOn t start c.args.n (k) new old out ended.Memory After) c.loop-steps.invariant.unread c.in-Memory.ensures.step
+    (λ x y z ran step. (
+      cut_before t (state_of t start x) c.args.n k m new y z old out within ran.0 step,
+      none_more t (state_of t start x) k m y old out Before After ran.0 ran.1
+          (λ no b. let n = c.in-Memory.ensures.reads_nothing no in (n.0 ∙ b.0, n.1 ∙ b.1)),
+    ))
 
 pub returns-clause-reads_nothing : goal.returns-clause-reads_nothing
 returns-clause-reads_nothing g c =
@@ -268,5 +294,6 @@ returns-clause-reads_nothing g c =
     let old = g.O.Sink.taken c.args.out.now in
     let out = g.O.Sink.taken c.loop-steps.out in
     let Before : Type 0 = (c.loop-steps.input ≡ c.args.input.now) × (c.loop-steps.source ≡ c.args.source.now) in
-    OnInput-map _ _ _ _ (UnreadOn t start k m old out Before) (λ before after. NoneAsks t (state_of t start before) k → Before)
-    c.loop-steps.invariant.unread (λ before after ran. ran.1)
+    let all : k ≡ c.args.n = omega (arith, c.loop-steps-test.false, c.loop-steps.invariant.within) in
+    OnInput-map _ _ _ _ (UnreadOn t start k m old out Before) (QuietOn t start c.args.n k m old out ended.Spent Before)
+    c.loop-steps.invariant.unread (λ before after ran. (spent t (state_of t start before) c.args.n k m after old out all ran.0, ran.1))

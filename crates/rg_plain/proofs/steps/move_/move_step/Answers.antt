@@ -59,7 +59,7 @@ returns-clause-step c input =
     c.in-Some.is
     (sym (ap (λ (q : Kept). shown t q.items) kept) ∙ c.advance-2.ensures.rest) c.requires.stands.tree
     (c.carry.ensures.carried input (regions_with cs room.store (length room.managers) how region) c.in_ok-regions.ensures
-    ∙ ap (λ l. new room l held.value) (c.new_label-label.ensures.label input)
+    ∙ ap (λ l. new room l held.value) (c.new_label-label.ensures.label t input)
     ∙ ap (λ (q : Kept). new q (label_of (plain_of t q input).windows how) held.value) kept
     ∙ ap (new k (label_of (plain_of t k input).windows how)) holds.value_is
     ∙ carried-moved t (plain_of t (record k { items = items }) input) aim c.args.name how region)
