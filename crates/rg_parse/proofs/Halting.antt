@@ -17,12 +17,13 @@ use Rattle.rg_tree.specs.Rows.Tables.{Tables}
 use Rattle.rg_tree.proofs.ByRows.{phrase_of}
 use Rattle.rg_tree.proofs.Passing.{IsPart, passes}
 use Rattle.rg_tree.proofs.Stopping.{kind_is}
-use Rattle.rg_parse.specs.declared.halt.Halt.{Halt}
-use Rattle.rg_parse.specs.declared.halt.Halt.TheVariants as halt
-use Rattle.rg_parse.specs.declared.limits.Role.{Role}
-use Rattle.rg_parse.specs.declared.limits.Role.TheVariants as role
+use Rattle.rg_parse.specs.declared.reader.halt.Halt.{Halt}
+use Rattle.rg_parse.specs.declared.reader.halt.Halt.TheVariants as halt
+use Rattle.rg_parse.specs.declared.reader.limits.Role.{Role}
+use Rattle.rg_parse.specs.declared.reader.limits.Role.TheVariants as role
 use Rattle.rg_parse.specs.Inner.Roles.{symbol_of}
-use Rattle.rg_parse.specs.Inner.Steps.{State, Halts, Took, took, took_brace, took_paren, Signed, signed, Used, used, Declared, declared, Found, found, Kept, kept, settled, IsFree}
+use Rattle.rg_parse.specs.Inner.Steps.{State, Halts, Took, took, took_brace, took_paren, Signed, signed, Used, used, Declared, declared, Found, found}
+use Rattle.rg_parse.specs.Inner.Steps.{Kept, kept, settled, IsFree}
 
 -- want of memory says nothing
 pub halts-memory : (ys : List Symbol) (a b : State) (e : Halt) → e ≡ halt.Memory → Halts ys a e b

@@ -1,5 +1,6 @@
 -- A program is read by its rows: its classes, and main.
-use Rattle.std.proofs.Common.{◌≡◌, ◌≢◌, ℕ, ◌≤◌, List, [], ◌∷◌, ◌++◌, length, Option, Some, None, refl, sym, ◌∙◌, ap, subst, append_assoc, append-nil, arith}
+use Rattle.std.proofs.Common.{◌≡◌, ◌≢◌, ℕ, ◌≤◌, List, [], ◌∷◌, ◌++◌, length, Option, Some, None, refl, sym, ◌∙◌, ap, subst, append_assoc, append-nil}
+use Rattle.std.proofs.Common.{arith}
 use Rattle.rg_base.specs.declared.words.Manager.{Manager}
 use Rattle.rg_base.specs.declared.words.Keyword.TheVariants as w
 use Rattle.rg_base.specs.declared.token.Kind.{Kind}
@@ -21,8 +22,8 @@ use Rattle.rg_tree.specs.Rows.Tables.{Tables}
 use Rattle.rg_tree.specs.Inner.Keeps.{Begins}
 use Rattle.rg_tree.proofs.Programs.{length-classes_of}
 use Rattle.rg_tree.proofs.TreesFrom.{Begins-whole}
-use Rattle.rg_parse.specs.declared.halt.Halt.{Halt}
-use Rattle.rg_parse.specs.declared.halt.Halt.TheVariants as halt
+use Rattle.rg_parse.specs.declared.reader.halt.Halt.{Halt}
+use Rattle.rg_parse.specs.declared.reader.halt.Halt.TheVariants as halt
 use Rattle.rg_parse.specs.Inner.Readings.{FoundClass, FoundManager, FoundBlock}
 use Rattle.rg_parse.specs.Inner.Programs.{FoundMain, Classed, classed}
 use Rattle.rg_parse.specs.Inner.Steps.{State, Means, Took, took, found, Extends, Halts}

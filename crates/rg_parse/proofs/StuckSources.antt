@@ -12,7 +12,7 @@ use Rattle.rg_tree.specs.Phrases as p
 use Rattle.rg_tree.specs.Stuck.{Stops, line_at, fault_at}
 use Rattle.rg_tree.specs.Rows.Tables.{at_first}
 use Rattle.rg_tree.proofs.Stopping.{spelt-not_stuck}
-use Rattle.rg_parse.specs.declared.halt.Halt.TheVariants as halt
+use Rattle.rg_parse.specs.declared.reader.halt.Halt.TheVariants as halt
 use Rattle.rg_parse.specs.Answers.{IsStuckWith}
 use Rattle.rg_parse.specs.Inner.Steps.{State, Halts}
 

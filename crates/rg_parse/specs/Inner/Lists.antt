@@ -1,4 +1,4 @@
--- Rows and lists of numbers that exist.
+-- Rows and lists of numbers that exist (docs/language.md, "The tree").
 use Rattle.std.specs.Prelude.{ℕ, ◌<◌, List, length, All, map}
 use Rattle.rg_tree.specs.declared.rows.Span.{Span}
 use Rattle.rg_tree.specs.Rows.Tables.{Tables, numbers_in}
