@@ -1,6 +1,5 @@
 -- Expressions are read by their rows.
-use Rattle.std.proofs.Common.{◌≡◌, ◌≢◌, ℕ, ℤ, Bool, List, [], ◌∷◌, Option, Some, None, Ok, refl, sym, ◌∙◌, ap, subst}
-use Rattle.rg_base.specs.declared.words.Keyword.{Keyword}
+use Rattle.std.proofs.Common.{◌≡◌, ◌≢◌, ℕ, List, [], ◌∷◌, Option, Some, None, Ok, refl, sym, ◌∙◌, ap, subst}
 use Rattle.rg_base.specs.declared.words.Keyword.TheVariants as w
 use Rattle.rg_base.specs.declared.words.Sign.TheVariants as s
 use Rattle.rg_base.specs.declared.token.Kind.{Kind}
@@ -12,7 +11,7 @@ use Rattle.rg_tree.specs.declared.rows.BinOp.TheVariants as op
 use Rattle.rg_tree.specs.declared.rows.Path as row_path
 use Rattle.rg_tree.specs.declared.rows.ExprRow.TheVariants as expr_row
 use Rattle.rg_tree.specs.Counts.{one_sign}
-use Rattle.rg_tree.specs.Tree.{Expr, number, boolean, nil, path, is_nil, neg, not, binary}
+use Rattle.rg_tree.specs.Tree.{Expr, path, is_nil, neg, not, binary}
 use Rattle.rg_tree.specs.Forms as form
 use Rattle.rg_tree.specs.Phrases.{Symbol, that, sign, word, mark, the}
 use Rattle.rg_tree.specs.Phrases as p

@@ -1,5 +1,5 @@
 -- The token that stands next.
-use Rattle.std.proofs.Common.{◌≡◌, ◌≢◌, ℕ, ◌-◌, ◌<◌, ◌≤◌, refl, Option, Some, None, ◌∙◌, List, [], ◌∷◌, length, get_or, take, drop, ap, sym, arith}
+use Rattle.std.proofs.Common.{◌≡◌, ◌≢◌, ℕ, ◌-◌, ◌<◌, ◌≤◌, refl, Some, None, List, [], ◌∷◌, length, get_or, take, drop, ap, sym, arith}
 use Rattle.std.proofs.lemmas.List.{take_all}
 use Rattle.rg_base.specs.declared.token.Kind.{Kind}
 use Rattle.rg_base.specs.declared.token.Token.{Token}

@@ -1,6 +1,5 @@
 -- Lists that are read item by item: what stands for the items so far, and what is left to read.
-use Rattle.std.proofs.Common.{◌≡◌, ◌≢◌, ℕ, ◌<◌, List, [], ◌∷◌, ◌++◌, All, map, length, Option, Some, None, refl, sym, ◌∙◌, ap, subst, append_assoc}
-use Rattle.std.proofs.Common.{append-nil}
+use Rattle.std.proofs.Common.{ℕ, ◌<◌, List, [], ◌∷◌, ◌++◌, All, map, refl, sym, ◌∙◌, ap, subst}
 use Rattle.std.proofs.lemmas.List.{map-append}
 use Rattle.std.proofs.lemmas.List.Elements.{All-nil, All-push}
 use Rattle.rg_base.specs.declared.token.Token.{Token}
@@ -12,7 +11,6 @@ use Rattle.rg_tree.specs.Rows.RowsExist.{IsSpanBelow}
 use Rattle.rg_parse.specs.declared.reader.halt.Halt.{Halt}
 use Rattle.rg_parse.specs.Inner.Lists.{numbers_of, IsListed}
 use Rattle.rg_parse.specs.Inner.Steps.{State, Means, Extends, Halts}
-use Rattle.rg_parse.proofs.Growing.{extends-same}
 
 -- a state by its parts
 abbrev pub st : List ℕ → List Token → Counts → Tables → State

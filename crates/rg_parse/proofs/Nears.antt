@@ -1,5 +1,5 @@
 -- The counts stay near their limits behind each token.
-use Rattle.std.proofs.Common.{◌≡◌, ◌+◌, nat_lt, Bool, true, false, Ok, refl, arith}
+use Rattle.std.proofs.Common.{◌≡◌, ◌+◌, nat_lt, Bool, true, false, Ok, arith}
 use Rattle.rg_base.specs.declared.words.Keyword.TheVariants as w
 use Rattle.rg_base.specs.declared.words.Sign.TheVariants as s
 use Rattle.rg_base.specs.declared.token.Kind.{Kind}

@@ -1,5 +1,5 @@
 -- Paths and calls are read by their rows.
-use Rattle.std.proofs.Common.{◌≡◌, ◌≢◌, ℕ, List, [], ◌∷◌, ◌++◌, map, option_map, length, Option, Some, None, IfSome, refl, sym, ◌∙◌, ap, subst}
+use Rattle.std.proofs.Common.{◌≡◌, ◌≢◌, ℕ, List, [], ◌∷◌, ◌++◌, option_map, length, Option, Some, None, IfSome, refl, ◌∙◌, ap, subst}
 use Rattle.std.proofs.Common.{append_assoc, append-nil}
 use Rattle.rg_base.specs.declared.words.Keyword.TheVariants as w
 use Rattle.rg_base.specs.declared.words.Sign.TheVariants as s
@@ -19,7 +19,7 @@ use Rattle.rg_tree.specs.Grammar.{next_arg, no_more_args}
 use Rattle.rg_tree.specs.Rows.RowTrees.{expr_at}
 use Rattle.rg_tree.specs.Rows.RowsExist.{IsNameIn, IsExprNumber}
 use Rattle.rg_tree.specs.Table.{next, row}
-use Rattle.rg_tree.specs.Rows.Tables.{Tables, name_at, numbers_in}
+use Rattle.rg_tree.specs.Rows.Tables.{Tables, name_at}
 use Rattle.rg_parse.specs.declared.reader.halt.Halt.{Halt}
 use Rattle.rg_parse.specs.declared.reader.halt.Halt.TheVariants as halt
 use Rattle.rg_parse.specs.Inner.Lists.{numbers_of, IsListed}
@@ -27,7 +27,7 @@ use Rattle.rg_parse.specs.Inner.Starts.{base_start}
 use Rattle.rg_parse.specs.declared.reader.starts.BaseStart.{BaseStart}
 use Rattle.rg_parse.specs.declared.reader.starts.BaseStart.TheVariants as base
 use Rattle.rg_parse.specs.Inner.Readings.{FoundPath, FoundFields, FoundBase, FoundCall, FoundCallRest, FoundCallArgs, FoundArgs, FoundExpr}
-use Rattle.rg_parse.specs.Inner.Steps.{State, Means, Took, took, took_paren, Used, used, Found, found, Kept, kept, Extends, Halts}
+use Rattle.rg_parse.specs.Inner.Steps.{State, Means, Took, took, took_paren, Used, used, found, Kept, kept, Extends, Halts}
 use Rattle.rg_parse.proofs.Growing.{extends-same, extends-trans, means-later, name-means, base-means}
 use Rattle.rg_parse.proofs.Halting.{halts-none, halts-row, halts-here, halts-took, halts-used, halts-found, halts-kept}
 use Rattle.rg_parse.proofs.Loops.{st, MeansAll, Along, along, means-nil, means-push, means-span}

@@ -1,5 +1,5 @@
 -- Statements are read by their rows.
-use Rattle.std.proofs.Common.{◌≡◌, ◌≢◌, Bool, true, false, ℕ, ◌<◌, List, [], ◌∷◌, ◌++◌, map, length, All, Option, Some, None, IfSome, refl, sym, ◌∙◌}
+use Rattle.std.proofs.Common.{◌≡◌, ◌≢◌, Bool, true, false, ℕ, ◌<◌, List, [], ◌∷◌, ◌++◌, map, length, All, Option, Some, None, refl, sym, ◌∙◌}
 use Rattle.std.proofs.Common.{ap, subst, arith}
 use Rattle.rg_base.specs.declared.words.Keyword.TheVariants as w
 use Rattle.rg_base.specs.declared.words.Sign.TheVariants as s
@@ -14,7 +14,6 @@ use Rattle.rg_tree.specs.declared.rows.CallRow.{CallRow}
 use Rattle.rg_tree.specs.declared.rows.Right as row_right
 use Rattle.rg_tree.specs.declared.rows.StmtKind as row_kind
 use Rattle.rg_tree.specs.declared.rows.StmtKind.TheVariants as kind_row
-use Rattle.rg_tree.specs.declared.rows.StmtRow.{StmtRow}
 use Rattle.rg_tree.specs.Counts.{no_signs}
 use Rattle.rg_tree.specs.Tree.{Stmt, stmt, declare, assign, call, swap, branch, while, enter, print, collect, return, Block, empty, then, no_else}
 use Rattle.rg_tree.specs.Tree.{otherwise}
@@ -29,10 +28,8 @@ use Rattle.rg_base.specs.declared.fault.Code.{Code}
 use Rattle.rg_base.specs.declared.fault.Code.TheVariants.{Syntax}
 use Rattle.rg_parse.specs.declared.reader.halt.Halt.{Halt}
 use Rattle.rg_parse.specs.declared.reader.halt.Halt.TheVariants as halt
-use Rattle.rg_tree.specs.Rows.RowTrees.{stmt_at, stmt_of, block_over, block_of}
-use Rattle.rg_tree.specs.Rows.RowsExist.{IsStmtIn}
+use Rattle.rg_tree.specs.Rows.RowTrees.{stmt_at, stmt_of, block_over}
 use Rattle.rg_tree.specs.Table.{next, row}
-use Rattle.rg_tree.specs.Rows.Tables.{Tables, numbers_in}
 use Rattle.rg_parse.specs.Inner.Lists.{IsStmtNumber, numbers_of, IsListed}
 use Rattle.rg_parse.specs.Inner.Starts.{stmt_start}
 use Rattle.rg_parse.specs.declared.reader.starts.StmtStart.{StmtStart}
@@ -41,10 +38,10 @@ use Rattle.std.proofs.lemmas.Bool.{false≢true}
 use Rattle.rg_parse.specs.Inner.Readings.{FoundKind, FoundStmt, FoundBlock, FoundStmts, FoundElse, FoundPath, FoundType, FoundRight, FoundCall}
 use Rattle.rg_parse.specs.Inner.Readings.{FoundExpr}
 use Rattle.rg_parse.specs.Inner.Steps.{State, Means, Took, took, took_brace, Used, used, Declared, declared, Found, found, Kept, kept, Reset, reset}
-use Rattle.rg_parse.specs.Inner.Steps.{Extends, Halts}
+use Rattle.rg_parse.specs.Inner.Steps.{Halts}
 use Rattle.rg_parse.proofs.Growing.{extends-same, extends-trans, means-later}
 use Rattle.rg_parse.proofs.Halting.{halts-row, halts-here, halts-found}
-use Rattle.rg_parse.proofs.Loops.{st, MeansAll, Along, along, means-nil, means-push}
+use Rattle.rg_parse.proofs.Loops.{st, Along, along, means-nil, means-push}
 
 -- the row of each start
 

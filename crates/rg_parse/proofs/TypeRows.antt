@@ -1,12 +1,11 @@
 -- Types, capabilities and managers are read by their rows.
-use Rattle.std.proofs.Common.{◌≡◌, ℕ, List, [], ◌∷◌, Option, Some, None, Ok, refl, sym, ◌∙◌, ap, subst, IfSome}
+use Rattle.std.proofs.Common.{◌≡◌, ℕ, List, [], ◌∷◌, Option, Some, None, Ok, refl, sym, ◌∙◌, ap, subst}
 use Rattle.rg_base.specs.declared.words.Cap.{Cap}
 use Rattle.rg_base.specs.declared.words.Manager.{Manager}
 use Rattle.rg_base.specs.declared.words.Keyword.TheVariants as w
 use Rattle.rg_base.specs.declared.words.Sign.TheVariants as s
 use Rattle.rg_base.specs.declared.token.Kind.{Kind}
 use Rattle.rg_base.specs.declared.token.Kind.TheVariants as k
-use Rattle.rg_base.specs.declared.token.Token.{Token}
 use Rattle.rg_tree.specs.declared.counts.Counts.{Counts}
 use Rattle.rg_tree.specs.declared.rows.TypeRow.{TypeRow}
 use Rattle.rg_tree.specs.declared.rows.TypeRow.TheVariants as type_row
@@ -17,20 +16,16 @@ use Rattle.rg_tree.specs.Phrases.{Symbol, word, mark, name, the}
 use Rattle.rg_tree.specs.Phrases as p
 use Rattle.rg_tree.specs.Grammar.{Reads, text, cap_row, manager_row, plain_type, ref_type, some_result, no_result}
 use Rattle.rg_tree.specs.Operators.{cap_of, manager_of}
-use Rattle.rg_tree.specs.Rows.RowTrees.{type_of}
-use Rattle.rg_tree.specs.Rows.RowsExist.{IsTypeIn}
 use Rattle.rg_tree.specs.Table.{next, row}
 use Rattle.rg_tree.specs.Rows.Tables.{Tables}
-use Rattle.rg_tree.specs.Inner.Keeps.{Keeps}
 use Rattle.rg_tree.proofs.ByRows.{cap_of-behind, manager_of-behind}
-use Rattle.rg_tree.proofs.Callers.{Keeps-trans}
 use Rattle.rg_parse.proofs.Growing.{extends-same, extends-trans, means-later}
 use Rattle.rg_parse.specs.Inner.Levels.{NoneNext}
 use Rattle.rg_parse.specs.Inner.Starts.{type_start}
 use Rattle.rg_parse.specs.declared.reader.starts.TypeStart.{TypeStart}
 use Rattle.rg_parse.specs.declared.reader.starts.TypeStart.TheVariants as type
 use Rattle.rg_parse.specs.Inner.Readings.{FoundCap, FoundManager, FoundType, FoundResult}
-use Rattle.rg_parse.specs.Inner.Steps.{State, Means, Took, took, took_brace, took_paren, Used, used, Found, found, settled, IsFree}
+use Rattle.rg_parse.specs.Inner.Steps.{State, Means, Took, took, took_brace, took_paren, Used, used, found, settled, IsFree}
 use Rattle.rg_parse.proofs.Halting.{free-behind}
 
 -- a value that is its own tree

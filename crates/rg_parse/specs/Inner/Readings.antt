@@ -15,7 +15,7 @@ use Rattle.rg_tree.specs.declared.rows.ClassRow.{ClassRow}
 use Rattle.rg_tree.specs.declared.rows.Right as row_right
 use Rattle.rg_tree.specs.declared.rows.StmtKind as row_kind
 use Rattle.rg_tree.specs.Counts.{no_signs, one_param}
-use Rattle.rg_tree.specs.Tree.{Name, Variable, Path, Ty, Expr, StmtKind, Param, Member, stmt}
+use Rattle.rg_tree.specs.Tree.{Name, Variable, Path, Ty, Expr, Param, Member, stmt}
 use Rattle.rg_tree.specs.Forms as form
 use Rattle.rg_tree.specs.Phrases.{Symbol, param_name, mark, the}
 use Rattle.rg_tree.specs.Phrases as p

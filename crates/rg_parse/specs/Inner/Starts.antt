@@ -1,5 +1,5 @@
 -- By which row of the table a reading goes on, from the next token (docs/language.md, "Grammar").
-use Rattle.std.specs.Prelude.{Option, Some, None}
+use Rattle.std.specs.Prelude.{Option, Some}
 use Rattle.rg_base.specs.declared.words.Keyword.TheVariants as w
 use Rattle.rg_base.specs.declared.words.Sign.TheVariants as s
 use Rattle.rg_base.specs.declared.token.Kind.{Kind}

@@ -1,4 +1,4 @@
-use Rattle.std.proofs.Common.{ap, refl, sym, ◌∙◌}
+use Rattle.std.proofs.Common.{ap, sym, ◌∙◌}
 use Rattle.rg_parse.proofs.Exits.{no-ok, no-value}
 use Rattle.rg_parse.proofs.Tokens.{halts-another, halts-past, declared-first, exit, expected-symbol_of}
 use Rattle.rg_parse.proofs.Growing.{name-means}

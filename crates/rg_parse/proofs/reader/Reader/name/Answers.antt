@@ -1,5 +1,5 @@
-use Rattle.std.proofs.Common.{ap, refl, arith}
-use Rattle.rg_parse.proofs.Exits.{no-ok, no-value, no-memory}
+use Rattle.std.proofs.Common.{ap, refl}
+use Rattle.rg_parse.proofs.Exits.{no-ok, no-value}
 use Rattle.rg_parse.proofs.Tokens.{halts-another, used-first}
 use Rattle.rg_parse.proofs.Growing.{name-means}
 use Rattle.rg_parse.proofs.reader.Reader.name.Goals as goal

@@ -1,4 +1,3 @@
-use Rattle.rg_tree.specs.Forms as form
 use Rattle.rg_parse.specs.declared.reader.limits.Role.TheVariants as role
 use Rattle.rg_parse.proofs.Halting.{halts-here, halts-took, halts-declared}
 use Rattle.rg_parse.proofs.Tokens.{exit}
