@@ -1,5 +1,6 @@
 -- What the lexer reads, by what the bytes begin with.
-use Rattle.std.proofs.Common.{◌≡◌, ℕ, suc, pos, ◌+◌, ◌-◌, ◌*◌, ◌<◌, ◌≤◌, ◌==◌, nat_lt, ◌&&◌, Bool, true, false, List, [], ◌∷◌, length, take, drop, get_or, Option, Some, None, option_map, Ok, Err, refl, ◌∙◌, ap, arith, one-add}
+use Rattle.std.proofs.Common.{◌≡◌, ℕ, suc, pos, ◌+◌, ◌-◌, ◌*◌, ◌<◌, ◌≤◌, ◌==◌, nat_lt, ◌&&◌, Bool, true, false, List, [], ◌∷◌, length, take, drop}
+use Rattle.std.proofs.Common.{get_or, Option, Some, None, option_map, Ok, Err, refl, ◌∙◌, ap, arith, one-add}
 use Rattle.std.specs.List.{prefix_len}
 use Rattle.std.proofs.lemmas.List.{drop_more}
 use Rattle.std.proofs.lemmas.List.Folds.{length-prefix_len}
@@ -12,7 +13,8 @@ use Rattle.rg_base.specs.declared.limits.TheConstants.{NAME_BYTES, GREATEST_NUMB
 use Rattle.rg_base.specs.Words.{keyword_of, sign_of}
 use Rattle.rg_base.specs.Pieces.{Piece, blank, comment, name, number, sign, is_blank, is_digit, is_letter, is_in_name, is_in_comment}
 use Rattle.rg_base.specs.Tokens.{value_onto, value_of, begins_name, word_or_name, number_within, reading}
-use Rattle.rg_base.proofs.Fronts.{both, IsOther, IsFront, front-blank, front-letter, front-digit, front-comment, front-pair, front-single, front-alone, one_if}
+use Rattle.rg_base.proofs.Fronts.{both, IsOther, IsFront, front-blank, front-letter, front-digit, front-comment, front-pair, front-single}
+use Rattle.rg_base.proofs.Fronts.{front-alone, one_if}
 use Rattle.rg_lex.specs.Inner.Front.{with_length, front_of, marked}
 
 -- by the front's length and what it is

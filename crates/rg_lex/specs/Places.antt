@@ -1,4 +1,4 @@
--- Where the tokens of a source stand.
+-- Where the tokens of a source stand (docs/language.md, "Tokens").
 use Rattle.std.specs.Prelude.{ℕ, ◌<◌, ◌≤◌, List, [], ◌∷◌}
 use Rattle.rg_base.specs.declared.token.Token.{Token}
 

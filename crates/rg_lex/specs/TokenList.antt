@@ -1,4 +1,4 @@
--- What contracts see of the tokens of a source.
+-- What contracts see of the tokens of a source (docs/language.md, "Tokens").
 use Rattle.std.specs.Prelude.{ℕ, List}
 use Rattle.rg_base.specs.declared.token.Token.{Token}
 

@@ -1,4 +1,4 @@
-//! A source is cut into its tokens, piece by piece.
+//! A source is cut into its tokens, piece by piece (docs/language.md, "Tokens").
 
 ghost use Rattle.std.specs.Prelude.{◌≡◌, ◌<◌, ◌≤◌, ◌^◌, length, IfOk};
 ghost use Rattle.rg_base.specs.Tokens.{cut, end_line, line_after};

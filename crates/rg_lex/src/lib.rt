@@ -1,4 +1,7 @@
-//! The lexer: it cuts a source into tokens (docs/language.md, "Tokens").
+//! The lexer: it cuts a source into tokens (docs/language.md, "Tokens"). `tokens` answers `Tokens`,
+//! read by `len`, `get`, `as_slice` and `end_line`, or the source's first fault (`cut`); the tokens
+//! stand in order, within the source, on its lines (`spans`, `lines`). Only want of memory is left
+//! free.
 #![tactic(auto)]
 
 mod cut;

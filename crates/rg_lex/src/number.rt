@@ -1,4 +1,4 @@
-//! The value of digits.
+//! The value of digits (docs/language.md, "Tokens").
 
 ghost use Rattle.std.specs.Prelude.{◌≡◌, ◌<◌, ◌≤◌, true, IfSome, IfNone};
 ghost use Rattle.std.specs.List.{list_all};

@@ -1,4 +1,4 @@
-//! The piece that begins the bytes.
+//! The piece that begins the bytes (docs/language.md, "Tokens").
 
 ghost use Rattle.std.specs.Prelude.{◌≡◌, ◌<◌, true, false, [], ◌∷◌, length, slice_index};
 ghost use Rattle.rg_base.specs.Words.{keyword_of, sign_of};

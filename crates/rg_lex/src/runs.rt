@@ -1,4 +1,4 @@
-//! Kinds of bytes, and runs of them at the front.
+//! Kinds of bytes, and runs of them at the front (docs/language.md, "Tokens").
 
 ghost use Rattle.std.specs.Prelude.{◌≡◌, ◌≤◌, ◌==◌, ◌&&◌, length};
 ghost use Rattle.std.specs.List.{prefix_len};

@@ -1,4 +1,4 @@
-//! The signs of one byte and of two.
+//! The signs of one byte and of two (docs/language.md, "Tokens").
 
 ghost use Rattle.std.specs.Prelude.{◌≡◌, [], ◌∷◌};
 ghost use Rattle.rg_base.specs.Words.{sign_of};

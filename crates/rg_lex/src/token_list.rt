@@ -1,4 +1,4 @@
-//! The tokens of a source, as a list that can be read.
+//! The tokens of a source, as a list that can be read (docs/language.md, "Tokens").
 
 ghost use Rattle.std.specs.Prelude.{◌≡◌, ◌<◌, length, Some, slice_get};
 

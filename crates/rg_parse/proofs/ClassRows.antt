@@ -1,36 +1,35 @@
 -- Classes and their members are read by their rows.
-use Rattle.std.proofs.Common.{◌≡◌, ◌≢◌, ℕ, List, [], ◌∷◌, ◌++◌, map, length, true, false, Option, Some, None, Ok, refl, sym, ◌∙◌, ap, subst, append_assoc, append-nil}
+use Rattle.std.proofs.Common.{◌≡◌, ◌≢◌, ℕ, List, [], ◌∷◌, ◌++◌, length, true, false, Option, Some, None, refl, ◌∙◌, ap}
+use Rattle.std.proofs.Common.{append_assoc, append-nil}
 use Rattle.rg_base.specs.declared.words.Cap.{Cap}
 use Rattle.rg_base.specs.declared.words.Keyword.TheVariants as w
 use Rattle.rg_base.specs.declared.words.Sign.TheVariants as s
 use Rattle.rg_base.specs.declared.token.Kind.{Kind}
 use Rattle.rg_base.specs.declared.token.Kind.TheVariants as k
-use Rattle.rg_base.specs.declared.token.Token.{Token}
 use Rattle.rg_base.specs.declared.fault.Code.TheVariants.{Syntax}
 use Rattle.rg_tree.specs.declared.rows.Span.{Span}
 use Rattle.rg_tree.specs.declared.rows.TypeRow.{TypeRow}
 use Rattle.rg_tree.specs.declared.rows.MemberRow.{MemberRow}
 use Rattle.rg_tree.specs.declared.rows.MemberRow.TheVariants as member_row
-use Rattle.rg_tree.specs.declared.rows.ParamRow.{ParamRow}
-use Rattle.rg_tree.specs.declared.rows.ClassRow.{ClassRow}
 use Rattle.rg_tree.specs.Tree.{Param, Member, field, method}
 use Rattle.rg_tree.specs.Forms as form
 use Rattle.rg_tree.specs.Phrases.{Symbol, that, word, mark, class_name, field_name, method_name, param_name, the}
 use Rattle.rg_tree.specs.Phrases as p
-use Rattle.rg_tree.specs.Grammar.{Reads, text, class_row, tmp_class_row, field_row, method_row, no_members, first_param, no_params, next_param, no_more_params}
+use Rattle.rg_tree.specs.Grammar.{Reads, text, class_row, tmp_class_row, field_row, method_row, no_members, first_param, no_params, next_param}
+use Rattle.rg_tree.specs.Grammar.{no_more_params}
 use Rattle.rg_tree.specs.Stuck.{line_at, fits}
 use Rattle.rg_tree.specs.Rows.RowTrees.{param_at, param_of, member_at, member_of}
 use Rattle.rg_tree.specs.Rows.RowsExist.{IsParamIn}
 use Rattle.rg_tree.specs.Table.{next, row}
-use Rattle.rg_tree.specs.Rows.Tables.{Tables}
 use Rattle.rg_tree.proofs.Passing.{passes}
 use Rattle.rg_tree.proofs.Stopping.{kind_is}
-use Rattle.rg_parse.specs.declared.halt.Halt.{Halt}
-use Rattle.rg_parse.specs.declared.halt.Halt.TheVariants as halt
-use Rattle.rg_parse.specs.declared.limits.Role.TheVariants as role
+use Rattle.rg_parse.specs.declared.reader.halt.Halt.{Halt}
+use Rattle.rg_parse.specs.declared.reader.halt.Halt.TheVariants as halt
+use Rattle.rg_parse.specs.declared.reader.limits.Role.TheVariants as role
 use Rattle.rg_parse.specs.Inner.Lists.{IsParamNumber, IsMemberNumber, numbers_of, IsListed}
-use Rattle.rg_parse.specs.Inner.Readings.{FoundClass, FoundMembers, FoundMember, ReadsMember, FoundParams, FoundParam, param_symbols, param_row, FoundType, FoundCap, FoundResult, FoundBlock}
-use Rattle.rg_parse.specs.Inner.Steps.{State, Means, Took, took, took_brace, took_paren, Declared, declared, found, Kept, kept, Extends, Halts}
+use Rattle.rg_parse.specs.Inner.Readings.{FoundClass, FoundMembers, FoundMember, FoundParams, FoundParam, param_symbols, param_row}
+use Rattle.rg_parse.specs.Inner.Readings.{FoundType, FoundCap, FoundResult, FoundBlock}
+use Rattle.rg_parse.specs.Inner.Steps.{State, Means, Took, took, took_brace, took_paren, Declared, declared, found, Kept, kept, Halts}
 use Rattle.rg_parse.proofs.Growing.{extends-same, extends-trans, means-later, means-as}
 use Rattle.rg_parse.proofs.Halting.{halts-none, halts-row, halts-took, halts-declared, halts-found, halts-tables}
 use Rattle.rg_parse.proofs.Loops.{st, Along, along, means-nil, means-push, means-span}

@@ -1,6 +1,5 @@
 -- Expressions are read by their rows.
-use Rattle.std.proofs.Common.{◌≡◌, ◌≢◌, ℕ, ℤ, Bool, List, [], ◌∷◌, Option, Some, None, Ok, refl, sym, ◌∙◌, ap, subst}
-use Rattle.rg_base.specs.declared.words.Keyword.{Keyword}
+use Rattle.std.proofs.Common.{◌≡◌, ◌≢◌, ℕ, List, [], ◌∷◌, Option, Some, None, Ok, refl, sym, ◌∙◌, ap, subst}
 use Rattle.rg_base.specs.declared.words.Keyword.TheVariants as w
 use Rattle.rg_base.specs.declared.words.Sign.TheVariants as s
 use Rattle.rg_base.specs.declared.token.Kind.{Kind}
@@ -12,7 +11,7 @@ use Rattle.rg_tree.specs.declared.rows.BinOp.TheVariants as op
 use Rattle.rg_tree.specs.declared.rows.Path as row_path
 use Rattle.rg_tree.specs.declared.rows.ExprRow.TheVariants as expr_row
 use Rattle.rg_tree.specs.Counts.{one_sign}
-use Rattle.rg_tree.specs.Tree.{Expr, number, boolean, nil, path, is_nil, neg, not, binary}
+use Rattle.rg_tree.specs.Tree.{Expr, path, is_nil, neg, not, binary}
 use Rattle.rg_tree.specs.Forms as form
 use Rattle.rg_tree.specs.Phrases.{Symbol, that, sign, word, mark, the}
 use Rattle.rg_tree.specs.Phrases as p
@@ -24,12 +23,13 @@ use Rattle.rg_tree.specs.Rows.RowsExist.{IsExprNumber, IsPathIn}
 use Rattle.rg_tree.specs.Table.{next, row}
 use Rattle.rg_tree.specs.Rows.Tables.{Tables}
 use Rattle.rg_tree.proofs.ByRows.{comparison_of-row, sum_of-row, product_of-row, literal_of-behind}
-use Rattle.rg_parse.specs.declared.halt.Halt.{Halt}
-use Rattle.rg_parse.specs.declared.level.Level.{Level}
-use Rattle.rg_parse.specs.declared.level.Level.TheVariants as level
+use Rattle.rg_parse.specs.declared.reader.halt.Halt.{Halt}
+use Rattle.rg_parse.specs.declared.reader.kinds.Level.{Level}
+use Rattle.rg_parse.specs.declared.reader.kinds.Level.TheVariants as level
 use Rattle.rg_parse.specs.Inner.Levels.{IsNext, NoneNext, operator_at, ReadsChain, ReadsRest, ReadsOperand, chain_at, rest_at, operand_at}
 use Rattle.rg_parse.specs.Inner.Starts.{primary_start}
-use Rattle.rg_parse.specs.declared.starts.PrimaryStart.TheVariants as start
+use Rattle.rg_parse.specs.declared.reader.starts.PrimaryStart.{PrimaryStart}
+use Rattle.rg_parse.specs.declared.reader.starts.PrimaryStart.TheVariants as start
 use Rattle.rg_parse.specs.Inner.Readings.{FoundChain, FoundOperand, FoundExpr, FoundNot, FoundCmp, FoundUnary, FoundPrimary, FoundPath}
 use Rattle.rg_parse.specs.Inner.Steps.{State, Means, Took, took, took_brace, took_paren, Signed, signed, found, Kept, kept, Extends, Halts}
 use Rattle.rg_parse.proofs.Growing.{extends-same, extends-trans, means-later}
@@ -57,14 +57,28 @@ module _ {t u : Tables} {m : ℕ} (g : Extends t u) where
 
 -- Chains of a level.
 
+-- a level of one word has one operator
+
+none-some : {A : Type 0} {a : A} → None ≡ Some a → ⊥
+none-some e = cc
+
+some-is : {A : Type 0} {a b : A} → Some a ≡ Some b → a ≡ b
+some-is e = cc
+
+or-is : (x : Kind) (o : BinOp) → operator_at level.Or x ≡ Some o → (x ≡ k.Word w.Or) × (o ≡ op.Or)
+or-is (k.Word w.Or) o e = (refl, sym (some-is e))
+or-is _ o e = absurd (none-some e)
+
+and-is : (x : Kind) (o : BinOp) → operator_at level.And x ≡ Some o → (x ≡ k.Word w.And) × (o ≡ op.And)
+and-is (k.Word w.And) o e = (refl, sym (some-is e))
+and-is _ o e = absurd (none-some e)
+
 rest-row : (l : Level) (x : Kind) (o : BinOp) → operator_at l x ≡ Some o
     → row (rest_at l) (Some x) ≡ Some (sign x ∷ the (operand_at l) ∷ the (rest_at l) ∷ [])
-rest-row level.Or (k.Word w.Or) o e = refl
-rest-row level.And (k.Word w.And) o e = refl
+rest-row level.Or x o e = rw (or-is x o e).0 refl
+rest-row level.And x o e = rw (and-is x o e).0 refl
 rest-row level.Sum x o e = sum_of-row x o e
 rest-row level.Product x o e = product_of-row x o e
-rest-row level.Or _ o e = cc
-rest-row level.And _ o e = cc
 
 none-row : (l : Level) (o : Option Kind) → NoneNext (operator_at l) o → row (rest_at l) o ≡ Some []
 none-row level.Or (Some (k.Word w.Or)) h = let e = h _ refl in cc
@@ -82,16 +96,14 @@ none-row level.Product _ h = refl
 rest-reads : (l : Level) (x : Kind) (o : BinOp) (source : List ℕ) (t : Token) (ts us vs : List Token) (c d e f : Counts) (a b y : Expr) → t.kind ≡ x
     → operator_at l x ≡ Some o → one_sign c ≡ Ok d → ReadsOperand l source d ts b e us → ReadsRest l (binary o a b) source e us y f vs
     → ReadsRest l a source c (t ∷ ts) y f vs
-rest-reads level.Or (k.Word w.Or) o source t ts us vs c d e f a b y h i j r q =
-    let same : o ≡ op.Or = cc in
-    grammar.or_row h j r (subst (λ z. Reads source (form.OrRest (binary z a b)) e us y f vs) same q)
-rest-reads level.And (k.Word w.And) o source t ts us vs c d e f a b y h i j r q =
-    let same : o ≡ op.And = cc in
-    grammar.and_further h j r (subst (λ z. Reads source (form.AndRest (binary z a b)) e us y f vs) same q)
+rest-reads level.Or x o source t ts us vs c d e f a b y h i j r q =
+    let is = or-is x o i in
+    grammar.or_row (h ∙ is.0) j r (subst (λ z. Reads source (form.OrRest (binary z a b)) e us y f vs) is.1 q)
+rest-reads level.And x o source t ts us vs c d e f a b y h i j r q =
+    let is = and-is x o i in
+    grammar.and_further (h ∙ is.0) j r (subst (λ z. Reads source (form.AndRest (binary z a b)) e us y f vs) is.1 q)
 rest-reads level.Sum x o source t ts us vs c d e f a b y h i j r q = grammar.sum_further (rw h i) j r q
 rest-reads level.Product x o source t ts us vs c d e f a b y h i j r q = grammar.mul_further (rw h i) j r q
-rest-reads level.Or _ o source t ts us vs c d e f a b y h i j r q = cc
-rest-reads level.And _ o source t ts us vs c d e f a b y h i j r q = cc
 
 rest-ends : (l : Level) (source : List ℕ) (c : Counts) (ts : List Token) (a : Expr) → NoneNext (operator_at l) (next ts)
     → ReadsRest l a source c ts a c ts
@@ -233,42 +245,49 @@ pub no_minus-halts : {a b : State} (e : Halt) → next a.rest ≢ Some (k.Mark s
     → Halts (the p.Unary ∷ []) a e b
 no_minus-halts {a} e h t = halts-row a e (no_minus-row (next a.rest) h) t
 
+abbrev primary_row : PrimaryStart → Option (List Symbol)
+primary_row (start.Number z) = Some (that (k.Number z) ∷ [])
+primary_row start.True = Some (that (k.Word w.True) ∷ [])
+primary_row start.False = Some (that (k.Word w.False) ∷ [])
+primary_row start.Nil = Some (that (k.Word w.Nil) ∷ [])
+primary_row start.Paren = Some (mark s.OpenParen ∷ the p.Expr ∷ mark s.CloseParen ∷ [])
+primary_row start.Path = Some (the p.Path ∷ the p.Is ∷ [])
+primary_row start.Nothing = None
+
+primary-rows : (o : Option Kind) → row p.Primary o ≡ primary_row (primary_start o)
+primary-rows (Some (k.Number z)) = refl
+primary-rows (Some (k.Word w.True)) = refl
+primary-rows (Some (k.Word w.False)) = refl
+primary-rows (Some (k.Word w.Nil)) = refl
+primary-rows (Some (k.Mark s.OpenParen)) = refl
+primary-rows (Some k.Name) = refl
+primary-rows (Some (k.Word w.SelfWord)) = refl
+primary-rows _ = refl
+
 pub no-primary : (o : Option Kind) → primary_start o ≡ start.Nothing → row p.Primary o ≡ None
-no-primary (Some (k.Number z)) e = cc
-no-primary (Some (k.Word w.True)) e = cc
-no-primary (Some (k.Word w.False)) e = cc
-no-primary (Some (k.Word w.Nil)) e = cc
-no-primary (Some (k.Mark s.OpenParen)) e = cc
-no-primary (Some k.Name) e = cc
-no-primary (Some (k.Word w.SelfWord)) e = cc
-no-primary _ e = refl
+no-primary o e = primary-rows o ∙ ap primary_row e
 
 pub paren-row : (o : Option Kind) → primary_start o ≡ start.Paren
     → row p.Primary o ≡ Some (mark s.OpenParen ∷ the p.Expr ∷ mark s.CloseParen ∷ [])
-paren-row (Some (k.Mark s.OpenParen)) e = refl
-paren-row (Some (k.Word w.True)) e = cc
-paren-row _ e = cc
+paren-row o e = primary-rows o ∙ ap primary_row e
 
 pub path-row : (o : Option Kind) → primary_start o ≡ start.Path → row p.Primary o ≡ Some (the p.Path ∷ the p.Is ∷ [])
-path-row (Some k.Name) e = refl
-path-row (Some (k.Word w.SelfWord)) e = refl
-path-row (Some (k.Mark s.OpenParen)) e = cc
-path-row _ e = cc
+path-row o e = primary-rows o ∙ ap primary_row e
 
 pub literal-row : (x : Kind) (a : Expr) → literal_of x ≡ Some a → row p.Primary (Some x) ≡ Some (that x ∷ [])
 literal-row (k.Number z) a e = refl
 literal-row (k.Word w.True) a e = refl
 literal-row (k.Word w.False) a e = refl
 literal-row (k.Word w.Nil) a e = refl
-literal-row _ a e = cc
+literal-row _ a e = absurd (none-some e)
 
 pub literal-found : (x : Kind) (y : Expr) {a b c : State} {n : ℕ} → literal_of x ≡ Some y → Took x a b → Kept b c
     → Means expr_at IsExprNumber c.tables n y → FoundPrimary a n c
 literal-found x y e (took {source = source} {t = t} {ts = ts} {c = c} i h) (kept l) m =
     let r : Reads source form.Primary c (t ∷ ts) y c ts = grammar.literal (ap literal_of h ∙ e) in
     found y (subst (λ d. Reads source form.Primary c (t ∷ ts) y d ts) (sym (stays x c i (literal_of-behind x y c e))) r) m l
-literal-found _ y e (took_brace h l) (kept g) m = cc
-literal-found _ y e (took_paren h l) (kept g) m = cc
+literal-found _ y e (took_brace h l) (kept g) m = absurd (none-some e)
+literal-found _ y e (took_paren h l) (kept g) m = absurd (none-some e)
 
 pub parens-found : {a b c d : State} {n : ℕ} → Took (k.Mark s.OpenParen) a b → FoundExpr b n c → Took (k.Mark s.CloseParen) c d → FoundPrimary a n d
 parens-found (took i h) q t = absurd i

@@ -6,7 +6,6 @@ use Rattle.rg_tree.specs.Tree.{Expr, Stmt, Param, Member}
 use Rattle.rg_tree.specs.Rows.Tables.{Tables, name_at}
 use Rattle.rg_tree.specs.Rows.RowTrees.{expr_at, stmt_at, param_at, member_at}
 use Rattle.rg_tree.specs.Rows.RowsExist.{IsNameIn, IsExprNumber}
-use Rattle.rg_tree.specs.Inner.Keeps.{Keeps}
 use Rattle.rg_tree.specs.Rows.RowsExist.{Holds}
 use Rattle.rg_tree.proofs.Callers.{IsAbove-Keeps, expr_at-keeps, stmt_at-keeps, param_at-keeps, member_at-keeps, Holds-keeps}
 use Rattle.rg_tree.proofs.Grows.{name_at-grows}

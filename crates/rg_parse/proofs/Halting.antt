@@ -1,5 +1,5 @@
 -- A reading that stops behind what is read stops a reading of the whole.
-use Rattle.std.proofs.Common.{◌≡◌, ℕ, List, [], ◌∷◌, ◌++◌, Option, Some, None, refl, ap, ◌∙◌, Ok}
+use Rattle.std.proofs.Common.{◌≡◌, ℕ, List, [], ◌∷◌, ◌++◌, Some, None, refl, ap, ◌∙◌, Ok}
 use Rattle.rg_base.specs.declared.token.Kind.{Kind}
 use Rattle.rg_base.specs.declared.token.Kind.TheVariants as k
 use Rattle.rg_base.specs.declared.words.Keyword.TheVariants as w
@@ -10,19 +10,20 @@ use Rattle.rg_tree.specs.declared.counts.Counts.{Counts}
 use Rattle.rg_tree.specs.Counts.{entered, behind}
 use Rattle.rg_tree.specs.Forms.{Form, Given}
 use Rattle.rg_tree.specs.Grammar.{Reads}
-use Rattle.rg_tree.specs.Phrases.{Phrase, Symbol, that, sign, name, class_name, field_name, method_name, param_name, local_name, the}
-use Rattle.rg_tree.specs.Stuck.{Stops, expected, no_row, by_row, fits}
+use Rattle.rg_tree.specs.Phrases.{Phrase, Symbol, that, sign, name, the}
+use Rattle.rg_tree.specs.Stuck.{expected, no_row, by_row, fits}
 use Rattle.rg_tree.specs.Table.{next, row}
 use Rattle.rg_tree.specs.Rows.Tables.{Tables}
 use Rattle.rg_tree.proofs.ByRows.{phrase_of}
 use Rattle.rg_tree.proofs.Passing.{IsPart, passes}
 use Rattle.rg_tree.proofs.Stopping.{kind_is}
-use Rattle.rg_parse.specs.declared.halt.Halt.{Halt}
-use Rattle.rg_parse.specs.declared.halt.Halt.TheVariants as halt
-use Rattle.rg_parse.specs.declared.limits.Role.{Role}
-use Rattle.rg_parse.specs.declared.limits.Role.TheVariants as role
+use Rattle.rg_parse.specs.declared.reader.halt.Halt.{Halt}
+use Rattle.rg_parse.specs.declared.reader.halt.Halt.TheVariants as halt
+use Rattle.rg_parse.specs.declared.reader.limits.Role.{Role}
+use Rattle.rg_parse.specs.declared.reader.limits.Role.TheVariants as role
 use Rattle.rg_parse.specs.Inner.Roles.{symbol_of}
-use Rattle.rg_parse.specs.Inner.Steps.{State, Halts, Took, took, took_brace, took_paren, Signed, signed, Used, used, Declared, declared, Found, found, Kept, kept, settled, IsFree}
+use Rattle.rg_parse.specs.Inner.Steps.{State, Halts, Took, took, took_brace, took_paren, Signed, signed, Used, used, Declared, declared, Found, found}
+use Rattle.rg_parse.specs.Inner.Steps.{Kept, kept, settled, IsFree}
 
 -- want of memory says nothing
 pub halts-memory : (ys : List Symbol) (a b : State) (e : Halt) → e ≡ halt.Memory → Halts ys a e b

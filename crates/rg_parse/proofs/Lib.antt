@@ -1,9 +1,11 @@
 mod ClassRows
+mod Exits
 mod ExprRows
 mod Firsts
 mod Growing
 mod Halting
 mod Loops
+mod Nears
 mod PathRows
 mod ProgramRows
 mod Ranks

@@ -1,5 +1,5 @@
 -- Lists that are read item by item: what stands for the items so far, and what is left to read.
-use Rattle.std.proofs.Common.{◌≡◌, ◌≢◌, ℕ, ◌<◌, List, [], ◌∷◌, ◌++◌, All, map, length, Option, Some, None, refl, sym, ◌∙◌, ap, subst, append_assoc, append-nil}
+use Rattle.std.proofs.Common.{ℕ, ◌<◌, List, [], ◌∷◌, ◌++◌, All, map, refl, sym, ◌∙◌, ap, subst}
 use Rattle.std.proofs.lemmas.List.{map-append}
 use Rattle.std.proofs.lemmas.List.Elements.{All-nil, All-push}
 use Rattle.rg_base.specs.declared.token.Token.{Token}
@@ -8,10 +8,9 @@ use Rattle.rg_tree.specs.declared.rows.Span.{Span}
 use Rattle.rg_tree.specs.Phrases.{Phrase, the}
 use Rattle.rg_tree.specs.Rows.Tables.{Tables, numbers_in}
 use Rattle.rg_tree.specs.Rows.RowsExist.{IsSpanBelow}
-use Rattle.rg_parse.specs.declared.halt.Halt.{Halt}
+use Rattle.rg_parse.specs.declared.reader.halt.Halt.{Halt}
 use Rattle.rg_parse.specs.Inner.Lists.{numbers_of, IsListed}
 use Rattle.rg_parse.specs.Inner.Steps.{State, Means, Extends, Halts}
-use Rattle.rg_parse.proofs.Growing.{extends-same}
 
 -- a state by its parts
 abbrev pub st : List ℕ → List Token → Counts → Tables → State

@@ -1,5 +1,6 @@
 -- Paths and calls are read by their rows.
-use Rattle.std.proofs.Common.{◌≡◌, ◌≢◌, ℕ, List, [], ◌∷◌, ◌++◌, map, option_map, length, Option, Some, None, IfSome, refl, sym, ◌∙◌, ap, subst, append_assoc, append-nil}
+use Rattle.std.proofs.Common.{◌≡◌, ◌≢◌, ℕ, List, [], ◌∷◌, ◌++◌, option_map, length, Option, Some, None, IfSome, refl, ◌∙◌, ap, subst}
+use Rattle.std.proofs.Common.{append_assoc, append-nil}
 use Rattle.rg_base.specs.declared.words.Keyword.TheVariants as w
 use Rattle.rg_base.specs.declared.words.Sign.TheVariants as s
 use Rattle.rg_base.specs.declared.token.Kind.{Kind}
@@ -13,18 +14,20 @@ use Rattle.rg_tree.specs.Tree.{Name, Variable, Expr, Call}
 use Rattle.rg_tree.specs.Forms as form
 use Rattle.rg_tree.specs.Phrases.{Symbol, word, mark, name, that, the}
 use Rattle.rg_tree.specs.Phrases as p
-use Rattle.rg_tree.specs.Grammar.{Reads, text, path_row, next_field, no_fields, call_base, call_start, call_further, call_args, no_args, first_arg, next_arg, no_more_args}
+use Rattle.rg_tree.specs.Grammar.{Reads, text, path_row, next_field, no_fields, call_base, call_start, call_further, call_args, no_args, first_arg}
+use Rattle.rg_tree.specs.Grammar.{next_arg, no_more_args}
 use Rattle.rg_tree.specs.Rows.RowTrees.{expr_at}
 use Rattle.rg_tree.specs.Rows.RowsExist.{IsNameIn, IsExprNumber}
 use Rattle.rg_tree.specs.Table.{next, row}
-use Rattle.rg_tree.specs.Rows.Tables.{Tables, name_at, numbers_in}
-use Rattle.rg_parse.specs.declared.halt.Halt.{Halt}
-use Rattle.rg_parse.specs.declared.halt.Halt.TheVariants as halt
+use Rattle.rg_tree.specs.Rows.Tables.{Tables, name_at}
+use Rattle.rg_parse.specs.declared.reader.halt.Halt.{Halt}
+use Rattle.rg_parse.specs.declared.reader.halt.Halt.TheVariants as halt
 use Rattle.rg_parse.specs.Inner.Lists.{numbers_of, IsListed}
 use Rattle.rg_parse.specs.Inner.Starts.{base_start}
-use Rattle.rg_parse.specs.declared.starts.BaseStart.TheVariants as base
+use Rattle.rg_parse.specs.declared.reader.starts.BaseStart.{BaseStart}
+use Rattle.rg_parse.specs.declared.reader.starts.BaseStart.TheVariants as base
 use Rattle.rg_parse.specs.Inner.Readings.{FoundPath, FoundFields, FoundBase, FoundCall, FoundCallRest, FoundCallArgs, FoundArgs, FoundExpr}
-use Rattle.rg_parse.specs.Inner.Steps.{State, Means, Took, took, took_paren, Used, used, Found, found, Kept, kept, Extends, Halts}
+use Rattle.rg_parse.specs.Inner.Steps.{State, Means, Took, took, took_paren, Used, used, found, Kept, kept, Extends, Halts}
 use Rattle.rg_parse.proofs.Growing.{extends-same, extends-trans, means-later, name-means, base-means}
 use Rattle.rg_parse.proofs.Halting.{halts-none, halts-row, halts-here, halts-took, halts-used, halts-found, halts-kept}
 use Rattle.rg_parse.proofs.Loops.{st, MeansAll, Along, along, means-nil, means-push, means-span}
@@ -56,20 +59,24 @@ fields-end (along {source = source} {ts = ts} {us = us} {c = c} {d = d} done m g
 
 -- paths
 
+abbrev path_start_row : BaseStart → Option (List Symbol)
+path_start_row base.Name = Some (name ∷ the p.Fields ∷ [])
+path_start_row base.SelfWord = Some (word w.SelfWord ∷ the p.Fields ∷ [])
+path_start_row base.Nothing = None
+
+path-rows : (o : Option Kind) → row p.Path o ≡ path_start_row (base_start o)
+path-rows (Some k.Name) = refl
+path-rows (Some (k.Word w.SelfWord)) = refl
+path-rows _ = refl
+
 pub no-path : (o : Option Kind) → base_start o ≡ base.Nothing → row p.Path o ≡ None
-no-path (Some k.Name) e = cc
-no-path (Some (k.Word w.SelfWord)) e = cc
-no-path _ e = refl
+no-path o e = path-rows o ∙ ap path_start_row e
 
 pub name_path-row : (o : Option Kind) → base_start o ≡ base.Name → row p.Path o ≡ Some (name ∷ the p.Fields ∷ [])
-name_path-row (Some k.Name) e = refl
-name_path-row (Some (k.Word w.SelfWord)) e = cc
-name_path-row _ e = cc
+name_path-row o e = path-rows o ∙ ap path_start_row e
 
 pub self_path-row : (o : Option Kind) → base_start o ≡ base.SelfWord → row p.Path o ≡ Some (word w.SelfWord ∷ the p.Fields ∷ [])
-self_path-row (Some k.Name) e = cc
-self_path-row (Some (k.Word w.SelfWord)) e = refl
-self_path-row _ e = cc
+self_path-row o e = path-rows o ∙ ap path_start_row e
 
 pub name_path-found : {a m b : State} {n : ℕ} {x : Span} → Used a n m → FoundFields m x b
     → FoundPath a (record { base = Some n; fields = x }) b
@@ -90,20 +97,24 @@ self_path-found (took i h) (found y r q g) =
 
 -- what a call begins with
 
+abbrev base_start_row : BaseStart → Option (List Symbol)
+base_start_row base.Name = Some (name ∷ [])
+base_start_row base.SelfWord = Some (word w.SelfWord ∷ [])
+base_start_row base.Nothing = None
+
+base-rows : (o : Option Kind) → row p.CallBase o ≡ base_start_row (base_start o)
+base-rows (Some k.Name) = refl
+base-rows (Some (k.Word w.SelfWord)) = refl
+base-rows _ = refl
+
 pub no-base : (o : Option Kind) → base_start o ≡ base.Nothing → row p.CallBase o ≡ None
-no-base (Some k.Name) e = cc
-no-base (Some (k.Word w.SelfWord)) e = cc
-no-base _ e = refl
+no-base o e = base-rows o ∙ ap base_start_row e
 
 pub name_base-row : (o : Option Kind) → base_start o ≡ base.Name → row p.CallBase o ≡ Some (name ∷ [])
-name_base-row (Some k.Name) e = refl
-name_base-row (Some (k.Word w.SelfWord)) e = cc
-name_base-row _ e = cc
+name_base-row o e = base-rows o ∙ ap base_start_row e
 
 pub self_base-row : (o : Option Kind) → base_start o ≡ base.SelfWord → row p.CallBase o ≡ Some (word w.SelfWord ∷ [])
-self_base-row (Some k.Name) e = cc
-self_base-row (Some (k.Word w.SelfWord)) e = refl
-self_base-row _ e = cc
+self_base-row o e = base-rows o ∙ ap base_start_row e
 
 pub name_base-found : {a b : State} {n : ℕ} → Used a n b → FoundBase a (Some n) b
 name_base-found (used {source = source} {t = t} h n l) =

@@ -1,5 +1,6 @@
 -- A program is read by its rows: its classes, and main.
-use Rattle.std.proofs.Common.{◌≡◌, ◌≢◌, ℕ, ◌≤◌, List, [], ◌∷◌, ◌++◌, length, Option, Some, None, refl, sym, ◌∙◌, ap, subst, append_assoc, append-nil, arith}
+use Rattle.std.proofs.Common.{◌≡◌, ◌≢◌, ℕ, ◌≤◌, List, [], ◌∷◌, ◌++◌, length, Option, Some, None, refl, sym, ◌∙◌, ap, subst, append_assoc, append-nil}
+use Rattle.std.proofs.Common.{arith}
 use Rattle.rg_base.specs.declared.words.Manager.{Manager}
 use Rattle.rg_base.specs.declared.words.Keyword.TheVariants as w
 use Rattle.rg_base.specs.declared.token.Kind.{Kind}
@@ -15,19 +16,18 @@ use Rattle.rg_tree.specs.Phrases.{word, finish, the}
 use Rattle.rg_tree.specs.Phrases as p
 use Rattle.rg_tree.specs.Grammar.{Reads, with_class, program_class, program_main}
 use Rattle.rg_tree.specs.Stuck.{line_at, another}
-use Rattle.rg_tree.specs.Rows.RowTrees.{class_of, classes_of, block_of, program_of}
+use Rattle.rg_tree.specs.Rows.RowTrees.{classes_of, block_of, program_of}
 use Rattle.rg_tree.specs.Table.{next, row}
 use Rattle.rg_tree.specs.Rows.Tables.{Tables}
-use Rattle.rg_tree.specs.Inner.Keeps.{Begins}
 use Rattle.rg_tree.proofs.Programs.{length-classes_of}
 use Rattle.rg_tree.proofs.TreesFrom.{Begins-whole}
-use Rattle.rg_parse.specs.declared.halt.Halt.{Halt}
-use Rattle.rg_parse.specs.declared.halt.Halt.TheVariants as halt
+use Rattle.rg_parse.specs.declared.reader.halt.Halt.{Halt}
+use Rattle.rg_parse.specs.declared.reader.halt.Halt.TheVariants as halt
 use Rattle.rg_parse.specs.Inner.Readings.{FoundClass, FoundManager, FoundBlock}
 use Rattle.rg_parse.specs.Inner.Programs.{FoundMain, Classed, classed}
-use Rattle.rg_parse.specs.Inner.Steps.{State, Means, Took, took, found, Extends, Halts}
+use Rattle.rg_parse.specs.Inner.Steps.{State, Took, took, found, Extends, Halts}
 use Rattle.rg_parse.proofs.Growing.{extends-same}
-use Rattle.rg_parse.proofs.Halting.{halts-none, halts-row, halts-here, halts-took, halts-found, halts-tables}
+use Rattle.rg_parse.proofs.Halting.{halts-row, halts-here, halts-found, halts-tables}
 use Rattle.rg_parse.proofs.Loops.{st}
 
 -- where tables grow by no class, the classes stay

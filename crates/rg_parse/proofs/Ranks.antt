@@ -1,7 +1,7 @@
 -- The readers of expressions call each other without a token between in this order: the number falls.
 use Rattle.std.proofs.Common.{ℕ}
-use Rattle.rg_parse.specs.declared.level.Level.{Level}
-use Rattle.rg_parse.specs.declared.level.Level.TheVariants as level
+use Rattle.rg_parse.specs.declared.reader.kinds.Level.{Level}
+use Rattle.rg_parse.specs.declared.reader.kinds.Level.TheVariants as level
 
 abbrev pub chain_rank : Level → ℕ
 chain_rank level.Or = 15

@@ -1,5 +1,5 @@
 -- Right sides are read by their rows.
-use Rattle.std.proofs.Common.{◌≡◌, ℕ, List, [], ◌∷◌, Option, Some, None, refl, ap}
+use Rattle.std.proofs.Common.{◌≡◌, Bool, true, false, ℕ, List, [], ◌∷◌, Option, Some, None, refl, ap, ◌∙◌}
 use Rattle.rg_base.specs.declared.words.Manager.{Manager}
 use Rattle.rg_base.specs.declared.words.Keyword.TheVariants as w
 use Rattle.rg_base.specs.declared.token.Kind.{Kind}
@@ -8,74 +8,93 @@ use Rattle.rg_tree.specs.declared.rows.CallRow.{CallRow}
 use Rattle.rg_tree.specs.declared.rows.Right.{Right}
 use Rattle.rg_tree.specs.declared.rows.Right.TheVariants as right_row
 use Rattle.rg_tree.specs.Tree.{value, new, new_tmp, new_iso, freeze, merge, read, more, result_of}
-use Rattle.rg_tree.specs.Phrases.{word, name, the}
+use Rattle.rg_tree.specs.Phrases.{Symbol, word, name, the}
 use Rattle.rg_tree.specs.Phrases as p
 use Rattle.rg_tree.specs.Grammar.{text, new_row, freeze_row, merge_row, input_row, result_row, value_row, new_plain, new_temporary, new_region}
 use Rattle.rg_tree.specs.Table.{next, row}
 use Rattle.rg_parse.specs.Inner.Starts.{right_start, new_start}
-use Rattle.rg_parse.specs.declared.starts.RightStart.TheVariants as right
-use Rattle.rg_parse.specs.declared.starts.NewStart.TheVariants as new_kind
+use Rattle.rg_parse.specs.declared.reader.starts.RightStart.{RightStart}
+use Rattle.rg_parse.specs.declared.reader.starts.NewStart.{NewStart}
+use Rattle.std.proofs.lemmas.Bool.{false≢true}
+use Rattle.rg_parse.specs.declared.reader.starts.RightStart.TheVariants as right
+use Rattle.rg_parse.specs.declared.reader.starts.NewStart.TheVariants as new_kind
 use Rattle.rg_parse.specs.Inner.Readings.{FoundRight, FoundNew, FoundCall, FoundExpr, FoundManager}
 use Rattle.rg_parse.specs.Inner.Steps.{State, Took, took, Used, used, found}
 use Rattle.rg_parse.proofs.Growing.{extends-same, extends-trans, means-later}
 
+-- the row of each start
+
+abbrev row_of_right : RightStart → Option (List Symbol)
+row_of_right right.New = Some (word w.New ∷ the p.New ∷ [])
+row_of_right right.Freeze = Some (word w.Freeze ∷ name ∷ [])
+row_of_right right.Merge = Some (word w.Merge ∷ name ∷ [])
+row_of_right right.Read = Some (word w.Read ∷ [])
+row_of_right right.More = Some (word w.More ∷ [])
+row_of_right right.Call = Some (the p.Call ∷ [])
+row_of_right right.Value = Some (the p.Expr ∷ [])
+
+right-rows : (o : Option Kind) → row p.Right o ≡ row_of_right (right_start o)
+right-rows (Some (k.Word w.New)) = refl
+right-rows (Some (k.Word w.Freeze)) = refl
+right-rows (Some (k.Word w.Merge)) = refl
+right-rows (Some (k.Word w.Read)) = refl
+right-rows (Some (k.Word w.More)) = refl
+right-rows (Some (k.Word w.Call)) = refl
+right-rows _ = refl
+
+abbrev row_of_new : NewStart → Option (List Symbol)
+row_of_new new_kind.Plain = Some (name ∷ [])
+row_of_new new_kind.Tmp = Some (word w.Tmp ∷ name ∷ [])
+row_of_new new_kind.Iso = Some (word w.Iso ∷ name ∷ word w.In ∷ the p.Manager ∷ [])
+row_of_new new_kind.Nothing = None
+
+new-rows : (o : Option Kind) → row p.New o ≡ row_of_new (new_start o)
+new-rows (Some k.Name) = refl
+new-rows (Some (k.Word w.Tmp)) = refl
+new-rows (Some (k.Word w.Iso)) = refl
+new-rows _ = refl
+
+abbrev is_call : RightStart → Bool
+is_call right.Call = true
+is_call _ = false
+
 pub new-row : (o : Option Kind) → right_start o ≡ right.New → row p.Right o ≡ Some (word w.New ∷ the p.New ∷ [])
-new-row (Some (k.Word w.New)) e = refl
-new-row _ e = cc
+new-row o e = right-rows o ∙ ap row_of_right e
 
 pub freeze-row : (o : Option Kind) → right_start o ≡ right.Freeze → row p.Right o ≡ Some (word w.Freeze ∷ name ∷ [])
-freeze-row (Some (k.Word w.Freeze)) e = refl
-freeze-row _ e = cc
+freeze-row o e = right-rows o ∙ ap row_of_right e
 
 pub merge-row : (o : Option Kind) → right_start o ≡ right.Merge → row p.Right o ≡ Some (word w.Merge ∷ name ∷ [])
-merge-row (Some (k.Word w.Merge)) e = refl
-merge-row _ e = cc
+merge-row o e = right-rows o ∙ ap row_of_right e
 
 pub read-row : (o : Option Kind) → right_start o ≡ right.Read → row p.Right o ≡ Some (word w.Read ∷ [])
-read-row (Some (k.Word w.Read)) e = refl
-read-row _ e = cc
+read-row o e = right-rows o ∙ ap row_of_right e
 
 pub more-row : (o : Option Kind) → right_start o ≡ right.More → row p.Right o ≡ Some (word w.More ∷ [])
-more-row (Some (k.Word w.More)) e = refl
-more-row _ e = cc
+more-row o e = right-rows o ∙ ap row_of_right e
 
 pub call-row : (o : Option Kind) → right_start o ≡ right.Call → row p.Right o ≡ Some (the p.Call ∷ [])
-call-row (Some (k.Word w.Call)) e = refl
-call-row _ e = cc
+call-row o e = right-rows o ∙ ap row_of_right e
 
 pub value-row : (o : Option Kind) → right_start o ≡ right.Value → row p.Right o ≡ Some (the p.Expr ∷ [])
-value-row (Some (k.Word w.New)) e = cc
-value-row (Some (k.Word w.Freeze)) e = cc
-value-row (Some (k.Word w.Merge)) e = cc
-value-row (Some (k.Word w.Read)) e = cc
-value-row (Some (k.Word w.More)) e = cc
-value-row (Some (k.Word w.Call)) e = cc
-value-row _ e = refl
+value-row o e = right-rows o ∙ ap row_of_right e
 
 -- the next token begins a call
 pub call-next : (o : Option Kind) → right_start o ≡ right.Call → o ≡ Some (k.Word w.Call)
 call-next (Some (k.Word w.Call)) e = refl
-call-next _ e = cc
+call-next _ e = absurd (false≢true (ap is_call e))
 
 pub new_plain-row : (o : Option Kind) → new_start o ≡ new_kind.Plain → row p.New o ≡ Some (name ∷ [])
-new_plain-row (Some k.Name) e = refl
-new_plain-row (Some (k.Word w.Tmp)) e = cc
-new_plain-row (Some (k.Word w.Iso)) e = cc
-new_plain-row _ e = cc
+new_plain-row o e = new-rows o ∙ ap row_of_new e
 
 pub new_tmp-row : (o : Option Kind) → new_start o ≡ new_kind.Tmp → row p.New o ≡ Some (word w.Tmp ∷ name ∷ [])
-new_tmp-row (Some (k.Word w.Tmp)) e = refl
-new_tmp-row _ e = cc
+new_tmp-row o e = new-rows o ∙ ap row_of_new e
 
 pub new_iso-row : (o : Option Kind) → new_start o ≡ new_kind.Iso → row p.New o ≡ Some (word w.Iso ∷ name ∷ word w.In ∷ the p.Manager ∷ [])
-new_iso-row (Some (k.Word w.Iso)) e = refl
-new_iso-row _ e = cc
+new_iso-row o e = new-rows o ∙ ap row_of_new e
 
 pub no-new : (o : Option Kind) → new_start o ≡ new_kind.Nothing → row p.New o ≡ None
-no-new (Some k.Name) e = cc
-no-new (Some (k.Word w.Tmp)) e = cc
-no-new (Some (k.Word w.Iso)) e = cc
-no-new _ e = refl
+no-new o e = new-rows o ∙ ap row_of_new e
 
 pub new-found : {a m b : State} {r : Right} → Took (k.Word w.New) a m → FoundNew m r b → FoundRight a r b
 new-found (took i h) (found x r n g) = found x (new_row h r) n g

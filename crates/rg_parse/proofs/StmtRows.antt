@@ -1,5 +1,6 @@
 -- Statements are read by their rows.
-use Rattle.std.proofs.Common.{◌≡◌, ◌≢◌, ℕ, ◌<◌, List, [], ◌∷◌, ◌++◌, map, length, All, Option, Some, None, IfSome, refl, sym, ◌∙◌, ap, subst, arith}
+use Rattle.std.proofs.Common.{◌≡◌, ◌≢◌, Bool, true, false, ℕ, ◌<◌, List, [], ◌∷◌, ◌++◌, map, length, All, Option, Some, None, refl, sym, ◌∙◌}
+use Rattle.std.proofs.Common.{ap, subst, arith}
 use Rattle.rg_base.specs.declared.words.Keyword.TheVariants as w
 use Rattle.rg_base.specs.declared.words.Sign.TheVariants as s
 use Rattle.rg_base.specs.declared.token.Kind.{Kind}
@@ -13,97 +14,109 @@ use Rattle.rg_tree.specs.declared.rows.CallRow.{CallRow}
 use Rattle.rg_tree.specs.declared.rows.Right as row_right
 use Rattle.rg_tree.specs.declared.rows.StmtKind as row_kind
 use Rattle.rg_tree.specs.declared.rows.StmtKind.TheVariants as kind_row
-use Rattle.rg_tree.specs.declared.rows.StmtRow.{StmtRow}
 use Rattle.rg_tree.specs.Counts.{no_signs}
-use Rattle.rg_tree.specs.Tree.{Stmt, stmt, declare, assign, call, swap, branch, while, enter, print, collect, return, Block, empty, then, no_else, otherwise}
+use Rattle.rg_tree.specs.Tree.{Stmt, stmt, declare, assign, call, swap, branch, while, enter, print, collect, return, Block, empty, then, no_else}
+use Rattle.rg_tree.specs.Tree.{otherwise}
 use Rattle.rg_tree.specs.Forms as form
 use Rattle.rg_tree.specs.Phrases.{Symbol, word, mark, name, local_name, the}
 use Rattle.rg_tree.specs.Phrases as p
-use Rattle.rg_tree.specs.Grammar.{Reads, text, block_row, no_stmts, more_stmts, let_row, assign_row, call_row, swap_row, if_row, while_row, enter_row, print_row, collect_row, return_row, else_row, else_none}
+use Rattle.rg_tree.specs.Grammar.{Reads, text, block_row, no_stmts, more_stmts, let_row, assign_row, call_row, swap_row, if_row, while_row, enter_row}
+use Rattle.rg_tree.specs.Grammar.{print_row, collect_row, return_row, else_row, else_none}
 use Rattle.rg_tree.specs.Stuck.{Stops, no_row, by_row, another, line_at}
 use Rattle.rg_tree.proofs.Stopping.{Stops-unique}
 use Rattle.rg_base.specs.declared.fault.Code.{Code}
 use Rattle.rg_base.specs.declared.fault.Code.TheVariants.{Syntax}
-use Rattle.rg_parse.specs.declared.halt.Halt.{Halt}
-use Rattle.rg_parse.specs.declared.halt.Halt.TheVariants as halt
-use Rattle.rg_tree.specs.Rows.RowTrees.{stmt_at, stmt_of, block_over, block_of}
-use Rattle.rg_tree.specs.Rows.RowsExist.{IsStmtIn}
+use Rattle.rg_parse.specs.declared.reader.halt.Halt.{Halt}
+use Rattle.rg_parse.specs.declared.reader.halt.Halt.TheVariants as halt
+use Rattle.rg_tree.specs.Rows.RowTrees.{stmt_at, stmt_of, block_over}
 use Rattle.rg_tree.specs.Table.{next, row}
-use Rattle.rg_tree.specs.Rows.Tables.{Tables, numbers_in}
 use Rattle.rg_parse.specs.Inner.Lists.{IsStmtNumber, numbers_of, IsListed}
 use Rattle.rg_parse.specs.Inner.Starts.{stmt_start}
-use Rattle.rg_parse.specs.declared.starts.StmtStart.TheVariants as start
-use Rattle.rg_parse.specs.Inner.Readings.{FoundKind, FoundStmt, FoundBlock, FoundStmts, FoundElse, FoundPath, FoundType, FoundRight, FoundCall, FoundExpr}
-use Rattle.rg_parse.specs.Inner.Steps.{State, Means, Took, took, took_brace, Used, used, Declared, declared, Found, found, Kept, kept, Reset, reset, Extends, Halts}
+use Rattle.rg_parse.specs.declared.reader.starts.StmtStart.{StmtStart}
+use Rattle.rg_parse.specs.declared.reader.starts.StmtStart.TheVariants as start
+use Rattle.std.proofs.lemmas.Bool.{false≢true}
+use Rattle.rg_parse.specs.Inner.Readings.{FoundKind, FoundStmt, FoundBlock, FoundStmts, FoundElse, FoundPath, FoundType, FoundRight, FoundCall}
+use Rattle.rg_parse.specs.Inner.Readings.{FoundExpr}
+use Rattle.rg_parse.specs.Inner.Steps.{State, Means, Took, took, took_brace, Used, used, Declared, declared, Found, found, Kept, kept, Reset, reset}
+use Rattle.rg_parse.specs.Inner.Steps.{Halts}
 use Rattle.rg_parse.proofs.Growing.{extends-same, extends-trans, means-later}
 use Rattle.rg_parse.proofs.Halting.{halts-row, halts-here, halts-found}
-use Rattle.rg_parse.proofs.Loops.{st, MeansAll, Along, along, means-nil, means-push}
+use Rattle.rg_parse.proofs.Loops.{st, Along, along, means-nil, means-push}
 
 -- the row of each start
 
+abbrev stmt_row : StmtStart → Option (List Symbol)
+stmt_row start.Let = Some (word w.Let ∷ local_name ∷ mark s.Colon ∷ the p.Type' ∷ mark s.Assign ∷ the p.Right ∷ mark s.Semicolon ∷ [])
+stmt_row start.Assign = Some (the p.Path ∷ mark s.Assign ∷ the p.Right ∷ mark s.Semicolon ∷ [])
+stmt_row start.Call = Some (the p.Call ∷ mark s.Semicolon ∷ [])
+stmt_row start.Swap = Some (word w.Swap ∷ name ∷ mark s.Comma ∷ the p.Path ∷ mark s.Semicolon ∷ [])
+stmt_row start.If = Some (word w.If ∷ the p.Expr ∷ the p.Block ∷ the p.Else ∷ [])
+stmt_row start.While = Some (word w.While ∷ the p.Expr ∷ the p.Block ∷ [])
+stmt_row start.Enter = Some (word w.Enter ∷ the p.Path ∷ word w.As ∷ local_name ∷ the p.Block ∷ [])
+stmt_row start.Print = Some (word w.Print ∷ the p.Expr ∷ mark s.Semicolon ∷ [])
+stmt_row start.Collect = Some (word w.Collect ∷ mark s.Semicolon ∷ [])
+stmt_row start.Return = Some (word w.Return ∷ the p.Expr ∷ mark s.Semicolon ∷ [])
+stmt_row start.Nothing = None
+
+stmt-rows : (o : Option Kind) → row p.Stmt o ≡ stmt_row (stmt_start o)
+stmt-rows (Some (k.Word w.Let)) = refl
+stmt-rows (Some k.Name) = refl
+stmt-rows (Some (k.Word w.SelfWord)) = refl
+stmt-rows (Some (k.Word w.Call)) = refl
+stmt-rows (Some (k.Word w.Swap)) = refl
+stmt-rows (Some (k.Word w.If)) = refl
+stmt-rows (Some (k.Word w.While)) = refl
+stmt-rows (Some (k.Word w.Enter)) = refl
+stmt-rows (Some (k.Word w.Print)) = refl
+stmt-rows (Some (k.Word w.Collect)) = refl
+stmt-rows (Some (k.Word w.Return)) = refl
+stmt-rows _ = refl
+
+abbrev is_call : StmtStart → Bool
+is_call start.Call = true
+is_call _ = false
+
 pub let-row : (o : Option Kind) → stmt_start o ≡ start.Let
     → row p.Stmt o ≡ Some (word w.Let ∷ local_name ∷ mark s.Colon ∷ the p.Type' ∷ mark s.Assign ∷ the p.Right ∷ mark s.Semicolon ∷ [])
-let-row (Some (k.Word w.Let)) e = refl
-let-row _ e = cc
+let-row o e = stmt-rows o ∙ ap stmt_row e
 
 pub assign-row : (o : Option Kind) → stmt_start o ≡ start.Assign
     → row p.Stmt o ≡ Some (the p.Path ∷ mark s.Assign ∷ the p.Right ∷ mark s.Semicolon ∷ [])
-assign-row (Some k.Name) e = refl
-assign-row (Some (k.Word w.SelfWord)) e = refl
-assign-row _ e = cc
+assign-row o e = stmt-rows o ∙ ap stmt_row e
 
 pub call-row : (o : Option Kind) → stmt_start o ≡ start.Call → row p.Stmt o ≡ Some (the p.Call ∷ mark s.Semicolon ∷ [])
-call-row (Some (k.Word w.Call)) e = refl
-call-row _ e = cc
+call-row o e = stmt-rows o ∙ ap stmt_row e
 
 pub swap-row : (o : Option Kind) → stmt_start o ≡ start.Swap
     → row p.Stmt o ≡ Some (word w.Swap ∷ name ∷ mark s.Comma ∷ the p.Path ∷ mark s.Semicolon ∷ [])
-swap-row (Some (k.Word w.Swap)) e = refl
-swap-row _ e = cc
+swap-row o e = stmt-rows o ∙ ap stmt_row e
 
 pub if-row : (o : Option Kind) → stmt_start o ≡ start.If → row p.Stmt o ≡ Some (word w.If ∷ the p.Expr ∷ the p.Block ∷ the p.Else ∷ [])
-if-row (Some (k.Word w.If)) e = refl
-if-row _ e = cc
+if-row o e = stmt-rows o ∙ ap stmt_row e
 
 pub while-row : (o : Option Kind) → stmt_start o ≡ start.While → row p.Stmt o ≡ Some (word w.While ∷ the p.Expr ∷ the p.Block ∷ [])
-while-row (Some (k.Word w.While)) e = refl
-while-row _ e = cc
+while-row o e = stmt-rows o ∙ ap stmt_row e
 
 pub enter-row : (o : Option Kind) → stmt_start o ≡ start.Enter
     → row p.Stmt o ≡ Some (word w.Enter ∷ the p.Path ∷ word w.As ∷ local_name ∷ the p.Block ∷ [])
-enter-row (Some (k.Word w.Enter)) e = refl
-enter-row _ e = cc
+enter-row o e = stmt-rows o ∙ ap stmt_row e
 
 pub print-row : (o : Option Kind) → stmt_start o ≡ start.Print → row p.Stmt o ≡ Some (word w.Print ∷ the p.Expr ∷ mark s.Semicolon ∷ [])
-print-row (Some (k.Word w.Print)) e = refl
-print-row _ e = cc
+print-row o e = stmt-rows o ∙ ap stmt_row e
 
 pub collect-row : (o : Option Kind) → stmt_start o ≡ start.Collect → row p.Stmt o ≡ Some (word w.Collect ∷ mark s.Semicolon ∷ [])
-collect-row (Some (k.Word w.Collect)) e = refl
-collect-row _ e = cc
+collect-row o e = stmt-rows o ∙ ap stmt_row e
 
 pub return-row : (o : Option Kind) → stmt_start o ≡ start.Return → row p.Stmt o ≡ Some (word w.Return ∷ the p.Expr ∷ mark s.Semicolon ∷ [])
-return-row (Some (k.Word w.Return)) e = refl
-return-row _ e = cc
+return-row o e = stmt-rows o ∙ ap stmt_row e
 
 pub no-stmt : (o : Option Kind) → stmt_start o ≡ start.Nothing → row p.Stmt o ≡ None
-no-stmt (Some (k.Word w.Let)) e = cc
-no-stmt (Some k.Name) e = cc
-no-stmt (Some (k.Word w.SelfWord)) e = cc
-no-stmt (Some (k.Word w.Call)) e = cc
-no-stmt (Some (k.Word w.Swap)) e = cc
-no-stmt (Some (k.Word w.If)) e = cc
-no-stmt (Some (k.Word w.While)) e = cc
-no-stmt (Some (k.Word w.Enter)) e = cc
-no-stmt (Some (k.Word w.Print)) e = cc
-no-stmt (Some (k.Word w.Collect)) e = cc
-no-stmt (Some (k.Word w.Return)) e = cc
-no-stmt _ e = refl
+no-stmt o e = stmt-rows o ∙ ap stmt_row e
 
 -- the next token begins a call
 pub call-next : (o : Option Kind) → stmt_start o ≡ start.Call → o ≡ Some (k.Word w.Call)
 call-next (Some (k.Word w.Call)) e = refl
-call-next _ e = cc
+call-next _ e = absurd (false≢true (ap is_call e))
 
 -- a token stands next
 

@@ -1,6 +1,5 @@
 -- The answer to a whole source.
-use Rattle.std.proofs.Common.{◌≡◌, ℕ, List, [], ◌∷◌, ap, subst, sym, ◌∙◌}
-use Rattle.rg_base.specs.declared.token.Token.{Token}
+use Rattle.std.proofs.Common.{◌≡◌, ℕ, List, [], ◌∷◌, ap, subst}
 use Rattle.rg_base.specs.declared.fault.Code.{Code}
 use Rattle.rg_base.specs.declared.fault.Fault.{Fault}
 use Rattle.rg_lex.specs.TokenList.{TokenList}
@@ -9,10 +8,10 @@ use Rattle.rg_tree.specs.Grammar.{Spells}
 use Rattle.rg_tree.specs.Tree.{Tree}
 use Rattle.rg_tree.specs.Phrases.{the}
 use Rattle.rg_tree.specs.Phrases as p
-use Rattle.rg_tree.specs.Stuck.{Stops, line_at, fault_at}
+use Rattle.rg_tree.specs.Stuck.{Stops, line_at}
 use Rattle.rg_tree.specs.Rows.Tables.{at_first}
 use Rattle.rg_tree.proofs.Stopping.{spelt-not_stuck}
-use Rattle.rg_parse.specs.declared.halt.Halt.TheVariants as halt
+use Rattle.rg_parse.specs.declared.reader.halt.Halt.TheVariants as halt
 use Rattle.rg_parse.specs.Answers.{IsStuckWith}
 use Rattle.rg_parse.specs.Inner.Steps.{State, Halts}
 

@@ -1,5 +1,5 @@
 -- One token is passed, or a reading stops at it.
-use Rattle.std.proofs.Common.{◌≡◌, ◌≢◌, ℕ, List, [], ◌∷◌, Option, Some, None, Result, Ok, Err, IfErr, refl, sym, ◌∙◌, ap, subst}
+use Rattle.std.proofs.Common.{◌≡◌, ◌≢◌, ℕ, List, [], ◌∷◌, Option, Some, Result, Ok, Err, IfErr, refl, sym, ◌∙◌, ap, subst}
 use Rattle.std.specs.Result.{IsErrAnd}
 use Rattle.std.proofs.lemmas.Result.{err_from_is_err_and}
 use Rattle.rg_base.specs.declared.words.Keyword.TheVariants as w
@@ -12,18 +12,18 @@ use Rattle.rg_base.specs.declared.fault.Code.TheVariants.{Syntax}
 use Rattle.rg_tree.specs.declared.counts.Counts.{Counts}
 use Rattle.rg_tree.specs.Counts.{behind, counted, one_sign}
 use Rattle.rg_tree.specs.Grammar.{text}
-use Rattle.rg_tree.specs.Phrases.{Symbol, that, sign, name}
+use Rattle.rg_tree.specs.Phrases.{Symbol}
 use Rattle.rg_tree.specs.Stuck.{Stops, expected, another, past}
 use Rattle.rg_tree.specs.Table.{next}
 use Rattle.rg_tree.specs.Rows.Tables.{Tables, name_at}
 use Rattle.rg_tree.specs.Rows.RowsExist.{IsNameIn}
-use Rattle.rg_parse.specs.declared.halt.Halt.{Halt}
-use Rattle.rg_parse.specs.declared.halt.Halt.TheVariants as halt
-use Rattle.rg_parse.specs.declared.limits.Role.{Role}
-use Rattle.rg_parse.specs.declared.limits.Role.TheVariants as role
+use Rattle.rg_parse.specs.declared.reader.halt.Halt.{Halt}
+use Rattle.rg_parse.specs.declared.reader.halt.Halt.TheVariants as halt
+use Rattle.rg_parse.specs.declared.reader.limits.Role.{Role}
+use Rattle.rg_parse.specs.declared.reader.limits.Role.TheVariants as role
 use Rattle.rg_parse.specs.Inner.Roles.{symbol_of}
-use Rattle.rg_parse.specs.Inner.Heads.{IsWithin, AreWithin}
-use Rattle.rg_parse.specs.Inner.Steps.{State, Halts, IsFirst, IsFree, Means, settled, Took, took, took_brace, took_paren, Signed, signed, Used, used, Declared, declared, Extends}
+use Rattle.rg_parse.specs.Inner.Steps.{State, Halts, IsFirst, IsFree, Means, settled, Took, took, took_brace, took_paren, Signed, signed, Used, used}
+use Rattle.rg_parse.specs.Inner.Steps.{Declared, declared, Extends}
 
 -- another token than the expected one
 pub halts-another : {y : Symbol} {x : Kind} {a : State} → expected y ≡ Some (Some x) → next a.rest ≢ Some x → Halts (y ∷ []) a (halt.At Syntax) a

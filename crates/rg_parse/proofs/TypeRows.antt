@@ -1,12 +1,11 @@
 -- Types, capabilities and managers are read by their rows.
-use Rattle.std.proofs.Common.{◌≡◌, ℕ, List, [], ◌∷◌, Option, Some, None, Ok, refl, sym, ◌∙◌, ap, subst, IfSome}
+use Rattle.std.proofs.Common.{◌≡◌, ℕ, List, [], ◌∷◌, Option, Some, None, Ok, refl, sym, ◌∙◌, ap, subst}
 use Rattle.rg_base.specs.declared.words.Cap.{Cap}
 use Rattle.rg_base.specs.declared.words.Manager.{Manager}
 use Rattle.rg_base.specs.declared.words.Keyword.TheVariants as w
 use Rattle.rg_base.specs.declared.words.Sign.TheVariants as s
 use Rattle.rg_base.specs.declared.token.Kind.{Kind}
 use Rattle.rg_base.specs.declared.token.Kind.TheVariants as k
-use Rattle.rg_base.specs.declared.token.Token.{Token}
 use Rattle.rg_tree.specs.declared.counts.Counts.{Counts}
 use Rattle.rg_tree.specs.declared.rows.TypeRow.{TypeRow}
 use Rattle.rg_tree.specs.declared.rows.TypeRow.TheVariants as type_row
@@ -17,19 +16,16 @@ use Rattle.rg_tree.specs.Phrases.{Symbol, word, mark, name, the}
 use Rattle.rg_tree.specs.Phrases as p
 use Rattle.rg_tree.specs.Grammar.{Reads, text, cap_row, manager_row, plain_type, ref_type, some_result, no_result}
 use Rattle.rg_tree.specs.Operators.{cap_of, manager_of}
-use Rattle.rg_tree.specs.Rows.RowTrees.{type_of}
-use Rattle.rg_tree.specs.Rows.RowsExist.{IsTypeIn}
 use Rattle.rg_tree.specs.Table.{next, row}
 use Rattle.rg_tree.specs.Rows.Tables.{Tables}
-use Rattle.rg_tree.specs.Inner.Keeps.{Keeps}
 use Rattle.rg_tree.proofs.ByRows.{cap_of-behind, manager_of-behind}
-use Rattle.rg_tree.proofs.Callers.{Keeps-trans}
 use Rattle.rg_parse.proofs.Growing.{extends-same, extends-trans, means-later}
 use Rattle.rg_parse.specs.Inner.Levels.{NoneNext}
 use Rattle.rg_parse.specs.Inner.Starts.{type_start}
-use Rattle.rg_parse.specs.declared.starts.TypeStart.TheVariants as type
+use Rattle.rg_parse.specs.declared.reader.starts.TypeStart.{TypeStart}
+use Rattle.rg_parse.specs.declared.reader.starts.TypeStart.TheVariants as type
 use Rattle.rg_parse.specs.Inner.Readings.{FoundCap, FoundManager, FoundType, FoundResult}
-use Rattle.rg_parse.specs.Inner.Steps.{State, Means, Took, took, took_brace, took_paren, Used, used, Found, found, settled, IsFree}
+use Rattle.rg_parse.specs.Inner.Steps.{State, Means, Took, took, took_brace, took_paren, Used, used, found, settled, IsFree}
 use Rattle.rg_parse.proofs.Halting.{free-behind}
 
 -- a value that is its own tree
@@ -79,15 +75,24 @@ pub no-manager : (o : Option Kind) → NoneNext manager_of o → row p.Manager o
 no-manager None h = refl
 no-manager (Some x) h = manager_of-no_row x (h x refl)
 
+abbrev type_row_of : TypeStart → Option (List Symbol)
+type_row_of type.Int = Some (word w.Int ∷ [])
+type_row_of type.Bool = Some (word w.Bool ∷ [])
+type_row_of type.Ref = Some (the p.Cap ∷ name ∷ [])
+type_row_of type.Nothing = None
+
+type-rows : (o : Option Kind) → row p.Type' o ≡ type_row_of (type_start o)
+type-rows (Some (k.Word w.Int)) = refl
+type-rows (Some (k.Word w.Bool)) = refl
+type-rows (Some (k.Word w.Mut)) = refl
+type-rows (Some (k.Word w.Tmp)) = refl
+type-rows (Some (k.Word w.Paused)) = refl
+type-rows (Some (k.Word w.Imm)) = refl
+type-rows (Some (k.Word w.Iso)) = refl
+type-rows _ = refl
+
 pub no-type : (o : Option Kind) → type_start o ≡ type.Nothing → row p.Type' o ≡ None
-no-type (Some (k.Word w.Int)) e = cc
-no-type (Some (k.Word w.Bool)) e = cc
-no-type (Some (k.Word w.Mut)) e = cc
-no-type (Some (k.Word w.Tmp)) e = cc
-no-type (Some (k.Word w.Paused)) e = cc
-no-type (Some (k.Word w.Imm)) e = cc
-no-type (Some (k.Word w.Iso)) e = cc
-no-type _ e = refl
+no-type o e = type-rows o ∙ ap type_row_of e
 
 -- by rows
 
@@ -98,12 +103,7 @@ pub bool-found : {a b : State} → Took (k.Word w.Bool) a b → FoundType a type
 bool-found (took {u = u} i h) = found bool (plain_type (rw h refl)) (record { is = λ w k. refl; there = λ w k. tt }) (extends-same u)
 
 pub ref-row : (o : Option Kind) → type_start o ≡ type.Ref → row p.Type' o ≡ Some (the p.Cap ∷ name ∷ [])
-ref-row (Some (k.Word w.Mut)) e = refl
-ref-row (Some (k.Word w.Tmp)) e = refl
-ref-row (Some (k.Word w.Paused)) e = refl
-ref-row (Some (k.Word w.Imm)) e = refl
-ref-row (Some (k.Word w.Iso)) e = refl
-ref-row _ e = cc
+ref-row o e = type-rows o ∙ ap type_row_of e
 
 pub ref-found : {a m b : State} {v : Cap} {n : ℕ} → FoundCap a v m → Used m n b → FoundType a (type_row.Ref v n) b
 ref-found (found x r c k) (used {source = source} {t = t} h n l) =

@@ -1,23 +1,13 @@
-//! Reads the tokens of a source: its tree, or its first fault (docs/language.md, "Grammar").
+//! Reads the tokens of a source (docs/language.md, "Grammar"). `parse` takes what `rg_lex::tokens`
+//! cut and answers the `Program` whose tree they spell (`ok`), or the fault at which they are stuck
+//! (`fault`), and then no tree is spelt (`none`). Only want of memory is left free. A `Reader` goes
+//! over the tokens; each rule of the grammar is a method of it, in `rules`.
 #![tactic(auto)]
 
-mod blocks;
-mod builder;
-mod classes;
-mod exprs;
-mod halt;
-mod kinds;
-mod level;
-mod limits;
-mod paths;
 mod reader;
-mod rights;
-mod source;
-mod starts;
-mod stmts;
+mod rules;
 #[cfg(test)]
 mod tests;
-mod types;
 mod whole;
 
 pub use whole::parse;

@@ -1,6 +1,13 @@
-//! What is left to read, and what is built on the way.
+//! What is left to read, and what is built on the way (docs/language.md, "Grammar").
 
-ghost use Rattle.std.specs.Prelude.{◌≡◌, ◌≢◌, ◌<◌, ◌≤◌, [], ◌∷◌, length, Some, IfOk, IfErr, OnOk, MatchOption, MatchBool};
+pub(crate) mod builder;
+pub(crate) mod halt;
+pub(crate) mod kinds;
+pub(crate) mod limits;
+pub(crate) mod starts;
+
+ghost use Rattle.std.specs.Prelude.{◌≡◌, ◌≢◌, ◌<◌, ◌≤◌, [], ◌∷◌, length, Some, IfOk, IfErr, OnOk};
+ghost use Rattle.std.specs.Prelude.{MatchOption, MatchBool};
 ghost use Rattle.rg_tree.specs.Table.{next};
 ghost use Rattle.rg_tree.specs.Stuck.{line_at};
 ghost use Rattle.rg_tree.specs.Phrases.{that, sign, name, finish};
@@ -11,8 +18,9 @@ ghost use Rattle.rg_parse.specs.Inner.Heads.{AreWithin};
 ghost use Rattle.rg_parse.specs.Inner.Steps.{Halts, Took, Signed, Used, Declared, Reset, IsFirst};
 ghost use Rattle.rg_parse.specs.Inner.Roles.{symbol_of};
 
-use crate::halt::Halt;
-use crate::limits::{Role, behind, counted, one_sign};
+use crate::reader::halt::Halt;
+use crate::reader::kinds::is_same;
+use crate::reader::limits::{Role, behind, counted, one_sign};
 use rg_base::{Code, Kind, Token};
 use rg_tree::{Counts, Program};
 use std::alloc::Global;
@@ -26,7 +34,7 @@ pub(crate) struct Reader<'a> {
     source: &'a [u8],
     rest: &'a [Token],
     counts: Counts,
-    pub(crate) program: Program,
+    program: Program,
 }
 
 impl<'a> Model for Reader<'a> {
@@ -147,7 +155,7 @@ impl<'a> Reader<'a> {
     {
         match self.rest {
             [token, rest @ ..] => {
-                if token.kind == kind {
+                if is_same(token.kind, kind) {
                     Some((*token, rest))
                 } else {
                     None

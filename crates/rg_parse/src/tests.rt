@@ -1,4 +1,5 @@
-//! Sources that are read, and the faults of others.
+//! Sources that are read, and the faults of others; those at the limits stand in the rows of
+//! `rg_examples` (docs/language.md, "Grammar").
 
 ghost use Rattle.std.specs.Prelude.{◌≤◌, length};
 ghost use Rattle.rg_base.specs.declared.limits.TheConstants.{SOURCE_BYTES};
@@ -33,23 +34,6 @@ fn refuses(rt: &impl Abort, alloc: Global, source: &[u8], code: Code, line: u64)
         Ok(_) => assert!(rt; false, "{source:?}"),
         Err(stop) => assert_eq!(rt; stop, Stop::Fault(Fault { code, line }), "{source:?}"),
     }
-}
-
-/// A text so many times between two others.
-fn times(
-    alloc: Global,
-    before: &str,
-    piece: &str,
-    count: u64,
-    after: &str,
-) -> Result<String, Fail> {
-    let mut source = String::new(alloc);
-    source.push_str(before)?;
-    for _ in 0..count {
-        source.push_str(piece)?;
-    }
-    source.push_str(after)?;
-    Ok(source)
 }
 
 #[test]
@@ -91,43 +75,5 @@ fn a_fault_is_at_the_first_token_that_doesn_t_fit(rt: HostRuntime) -> Result<(),
     for (source, line) in rows {
         refuses(&rt, rt.alloc(), source, Code::Syntax, line);
     }
-    Ok(())
-}
-
-#[test]
-fn each_limit_is_met_at_its_own_token(rt: HostRuntime) -> Result<(), Fail> {
-    let rows: [(&str, &str, u64, &str, Code); 7] = [
-        ("main arena{print ", "(", 63, "\n(1", Code::Nesting),
-        ("main arena{print 1", "+1", 512, "\n+1;}", Code::Limit),
-        ("", "class A{}", 1024, "class\nA{}", Code::Limit),
-        ("class A{", "x:int;", 64, "\nx:int;}", Code::Limit),
-        (
-            "class A{",
-            "def mut m(){}",
-            64,
-            "def mut\nm(){}",
-            Code::Limit,
-        ),
-        (
-            "class A{def mut m(a:int",
-            ",a:int",
-            15,
-            ",\na:int",
-            Code::Limit,
-        ),
-        (
-            "main arena{",
-            "let a:int=1;",
-            256,
-            "let\na:int=1;}",
-            Code::Limit,
-        ),
-    ];
-    for (before, piece, count, after, code) in rows {
-        let source = times(rt.alloc(), before, piece, count, after)?;
-        refuses(&rt, rt.alloc(), source.as_bytes(), code, 2);
-    }
-    let whole = times(rt.alloc(), "main arena{print 1", "+1", 512, ";print 1+1;}")?;
-    reads(&rt, rt.alloc(), whole.as_bytes());
     Ok(())
 }

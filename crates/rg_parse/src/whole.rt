@@ -1,4 +1,4 @@
-//! A source is read: its tree, or its first fault.
+//! A source is read: its tree, or its first fault (docs/language.md, "Grammar").
 
 ghost use Rattle.std.specs.Prelude.{◌≡◌, ◌≤◌, length, IfOk, Ok, Err};
 ghost use Rattle.rg_base.specs.declared.limits.TheConstants.{SOURCE_BYTES};
@@ -9,8 +9,8 @@ ghost use Rattle.rg_tree.specs.Rows.RowTrees.{program_of};
 ghost use Rattle.rg_tree.specs.Grammar.{Spells};
 ghost use Rattle.rg_parse.specs.Answers.{IsStuckWith};
 
-use crate::halt::Halt;
 use crate::reader::Reader;
+use crate::reader::halt::Halt;
 use rg_base::{Fault, Stop};
 use rg_lex::Tokens;
 use rg_tree::Program;

@@ -1,4 +1,4 @@
--- What one step of the lexer reads.
+-- What one step of the lexer reads (docs/language.md, "Tokens").
 use Rattle.std.specs.Prelude.{ℕ, List, Option, Some, None, Result, Ok, Err}
 use Rattle.rg_base.specs.declared.words.Sign.{Sign}
 use Rattle.rg_base.specs.declared.token.Kind.{Kind}

@@ -1,4 +1,4 @@
--- What the lexer answers, by what the source is cut into.
+-- What the lexer answers, by what the source is cut into (docs/language.md, "Tokens").
 use Rattle.std.specs.Prelude.{◌≡◌, List, Result, Ok, Err}
 use Rattle.rg_base.specs.declared.token.Token.{Token}
 use Rattle.rg_base.specs.declared.fault.Fault.{Fault}

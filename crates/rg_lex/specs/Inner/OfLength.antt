@@ -1,4 +1,4 @@
--- The reserved words by their length.
+-- The reserved words by their length (docs/language.md, "Tokens").
 use Rattle.std.specs.Prelude.{ℕ, ◌==◌, List, length, filter}
 use Rattle.rg_base.specs.declared.words.Keyword.{Keyword}
 use Rattle.rg_base.specs.Words.{keywords}

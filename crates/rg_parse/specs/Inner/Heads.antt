@@ -1,4 +1,4 @@
--- Tokens whose texts lie in their source.
+-- Tokens whose texts lie in their source (docs/language.md, "Tokens").
 use Rattle.std.specs.Prelude.{ℕ, ◌≤◌, List, [], ◌∷◌}
 use Rattle.rg_base.specs.declared.token.Token.{Token}
 

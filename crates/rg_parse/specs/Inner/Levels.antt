@@ -1,4 +1,4 @@
--- The levels of operands, and the words and operators that stand next.
+-- The levels of operands, and the words and operators that stand next (docs/language.md, "Grammar").
 use Rattle.std.specs.Prelude.{ℕ, ◌≡◌, List, Option, Some, None}
 use Rattle.rg_base.specs.declared.words.Keyword.TheVariants as w
 use Rattle.rg_base.specs.declared.token.Kind.{Kind}
@@ -13,8 +13,8 @@ use Rattle.rg_tree.specs.Phrases.{Phrase}
 use Rattle.rg_tree.specs.Phrases as p
 use Rattle.rg_tree.specs.Grammar.{Reads}
 use Rattle.rg_tree.specs.Operators.{sum_of, product_of}
-use Rattle.rg_parse.specs.declared.level.Level.{Level}
-use Rattle.rg_parse.specs.declared.level.Level.TheVariants as level
+use Rattle.rg_parse.specs.declared.reader.kinds.Level.{Level}
+use Rattle.rg_parse.specs.declared.reader.kinds.Level.TheVariants as level
 
 -- the next token is x, which stands for v
 abbrev pub IsNext : {V : Type 0} → (Kind → Option V) → Option Kind → Kind → V → Type 0

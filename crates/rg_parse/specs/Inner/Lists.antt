@@ -1,5 +1,5 @@
--- Rows and lists of numbers that exist.
-use Rattle.std.specs.Prelude.{ℕ, ◌<◌, List, length, All, map}
+-- Rows and lists of numbers that exist (docs/language.md, "The tree").
+use Rattle.std.specs.Prelude.{ℕ, ◌<◌, List, length}
 use Rattle.rg_tree.specs.declared.rows.Span.{Span}
 use Rattle.rg_tree.specs.Rows.Tables.{Tables, numbers_in}
 use Rattle.rg_tree.specs.Rows.RowsExist.{IsWithin}

@@ -1,4 +1,4 @@
--- What stays true of the counts on the way, whatever is read.
+-- What stays true of the counts on the way, whatever is read (docs/language.md, "Limits").
 use Rattle.std.specs.Prelude.{◌+◌, ◌≤◌}
 use Rattle.rg_base.specs.declared.limits.TheConstants.{BODY_NAMES, PARAMETERS}
 use Rattle.rg_tree.specs.declared.counts.Counts.{Counts}

@@ -1,4 +1,4 @@
--- What is read of a whole program.
+-- What is read of a whole program (docs/language.md, "Grammar").
 use Rattle.std.specs.Prelude.{ℕ, ◌≡◌, List, [], ◌∷◌, ◌++◌}
 use Rattle.rg_base.specs.declared.token.Token.{Token}
 use Rattle.rg_tree.specs.declared.counts.Counts.{Counts}

@@ -1,4 +1,4 @@
--- What each reader of the parser reads: a form of the grammar, and a row that stands for its tree.
+-- What each reader of the parser reads: a form of the grammar, and a row that stands for its tree (docs/language.md, "Grammar").
 use Rattle.std.specs.Prelude.{ℕ, ◌≡◌, ⊤, List, [], ◌∷◌, length, Option, Ok, map, option_map, IfSome}
 use Rattle.rg_base.specs.declared.words.Cap.{Cap}
 use Rattle.rg_base.specs.declared.words.Manager.{Manager}
@@ -15,17 +15,19 @@ use Rattle.rg_tree.specs.declared.rows.ClassRow.{ClassRow}
 use Rattle.rg_tree.specs.declared.rows.Right as row_right
 use Rattle.rg_tree.specs.declared.rows.StmtKind as row_kind
 use Rattle.rg_tree.specs.Counts.{no_signs, one_param}
-use Rattle.rg_tree.specs.Tree.{Name, Variable, Path, Ty, Expr, StmtKind, Param, Member, stmt}
+use Rattle.rg_tree.specs.Tree.{Name, Variable, Path, Ty, Expr, Param, Member, stmt}
 use Rattle.rg_tree.specs.Forms as form
 use Rattle.rg_tree.specs.Phrases.{Symbol, param_name, mark, the}
 use Rattle.rg_tree.specs.Phrases as p
 use Rattle.rg_tree.specs.Grammar.{Reads, text}
 use Rattle.rg_tree.specs.Stuck.{line_at}
 use Rattle.rg_tree.specs.Rows.Tables.{Tables, name_at, numbers_in}
-use Rattle.rg_tree.specs.Rows.RowTrees.{path_of, type_of, expr_at, call_of, right_of, stmt_at, block_of, kind_over, else_over, param_at, member_at, member_of, class_of}
-use Rattle.rg_tree.specs.Rows.RowsExist.{IsSpanBelow, IsNameIn, IsPathIn, IsTypeIn, IsCallIn, IsRightIn, IsKindIn, IsBlockIn, IsExprNumber, IsMemberIn, IsClassIn}
-use Rattle.rg_parse.specs.declared.halt.Halt.{Halt}
-use Rattle.rg_parse.specs.declared.level.Level.{Level}
+use Rattle.rg_tree.specs.Rows.RowTrees.{path_of, type_of, expr_at, call_of, right_of, stmt_at, block_of, kind_over, else_over, param_at, member_at}
+use Rattle.rg_tree.specs.Rows.RowTrees.{member_of, class_of}
+use Rattle.rg_tree.specs.Rows.RowsExist.{IsSpanBelow, IsNameIn, IsPathIn, IsTypeIn, IsCallIn, IsRightIn, IsKindIn, IsBlockIn, IsExprNumber}
+use Rattle.rg_tree.specs.Rows.RowsExist.{IsMemberIn, IsClassIn}
+use Rattle.rg_parse.specs.declared.reader.halt.Halt.{Halt}
+use Rattle.rg_parse.specs.declared.reader.kinds.Level.{Level}
 use Rattle.rg_parse.specs.Inner.Levels.{ReadsChain, ReadsOperand}
 use Rattle.rg_parse.specs.Inner.Lists.{IsStmtNumber, IsParamNumber}
 use Rattle.rg_parse.specs.Inner.Steps.{State, Found, Halts}

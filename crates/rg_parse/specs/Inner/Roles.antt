@@ -1,6 +1,6 @@
--- What a name is declared as, as a symbol of the table.
-use Rattle.rg_parse.specs.declared.limits.Role.{Role}
-use Rattle.rg_parse.specs.declared.limits.Role.TheVariants as role
+-- What a name is declared as, as a symbol of the table (docs/language.md, "Grammar").
+use Rattle.rg_parse.specs.declared.reader.limits.Role.{Role}
+use Rattle.rg_parse.specs.declared.reader.limits.Role.TheVariants as role
 use Rattle.rg_tree.specs.Phrases.{Symbol, class_name, field_name, method_name, param_name, local_name}
 
 -- the symbol of a declared name

@@ -1,21 +1,21 @@
--- By which row of the table a reading goes on, from the next token.
-use Rattle.std.specs.Prelude.{Option, Some, None}
+-- By which row of the table a reading goes on, from the next token (docs/language.md, "Grammar").
+use Rattle.std.specs.Prelude.{Option, Some}
 use Rattle.rg_base.specs.declared.words.Keyword.TheVariants as w
 use Rattle.rg_base.specs.declared.words.Sign.TheVariants as s
 use Rattle.rg_base.specs.declared.token.Kind.{Kind}
 use Rattle.rg_base.specs.declared.token.Kind.TheVariants as k
-use Rattle.rg_parse.specs.declared.starts.TypeStart.{TypeStart}
-use Rattle.rg_parse.specs.declared.starts.TypeStart.TheVariants as type
-use Rattle.rg_parse.specs.declared.starts.BaseStart.{BaseStart}
-use Rattle.rg_parse.specs.declared.starts.BaseStart.TheVariants as base
-use Rattle.rg_parse.specs.declared.starts.StmtStart.{StmtStart}
-use Rattle.rg_parse.specs.declared.starts.StmtStart.TheVariants as stmt
-use Rattle.rg_parse.specs.declared.starts.RightStart.{RightStart}
-use Rattle.rg_parse.specs.declared.starts.RightStart.TheVariants as right
-use Rattle.rg_parse.specs.declared.starts.NewStart.{NewStart}
-use Rattle.rg_parse.specs.declared.starts.NewStart.TheVariants as new
-use Rattle.rg_parse.specs.declared.starts.PrimaryStart.{PrimaryStart}
-use Rattle.rg_parse.specs.declared.starts.PrimaryStart.TheVariants as primary
+use Rattle.rg_parse.specs.declared.reader.starts.TypeStart.{TypeStart}
+use Rattle.rg_parse.specs.declared.reader.starts.TypeStart.TheVariants as type
+use Rattle.rg_parse.specs.declared.reader.starts.BaseStart.{BaseStart}
+use Rattle.rg_parse.specs.declared.reader.starts.BaseStart.TheVariants as base
+use Rattle.rg_parse.specs.declared.reader.starts.StmtStart.{StmtStart}
+use Rattle.rg_parse.specs.declared.reader.starts.StmtStart.TheVariants as stmt
+use Rattle.rg_parse.specs.declared.reader.starts.RightStart.{RightStart}
+use Rattle.rg_parse.specs.declared.reader.starts.RightStart.TheVariants as right
+use Rattle.rg_parse.specs.declared.reader.starts.NewStart.{NewStart}
+use Rattle.rg_parse.specs.declared.reader.starts.NewStart.TheVariants as new
+use Rattle.rg_parse.specs.declared.reader.starts.PrimaryStart.{PrimaryStart}
+use Rattle.rg_parse.specs.declared.reader.starts.PrimaryStart.TheVariants as primary
 
 -- how a type begins
 abbrev pub type_start : Option Kind → TypeStart

@@ -1,12 +1,12 @@
--- What a step of the parser does: to the tokens that are left, to the counts, and to the tables.
-use Rattle.std.specs.Prelude.{ℕ, ◌≡◌, List, [], ◌∷◌, ◌++◌, length, Ok}
+-- What a step of the parser does: to the tokens that are left, to the counts, and to the tables (docs/language.md, "Grammar").
+use Rattle.std.specs.Prelude.{ℕ, ◌≡◌, List, ◌∷◌, ◌++◌, length, Ok}
 use Rattle.rg_base.specs.declared.words.Keyword.TheVariants as w
 use Rattle.rg_base.specs.declared.words.Sign.TheVariants as s
 use Rattle.rg_base.specs.declared.token.Kind.{Kind}
 use Rattle.rg_base.specs.declared.token.Kind.TheVariants as k
 use Rattle.rg_base.specs.declared.token.Token.{Token}
-use Rattle.rg_parse.specs.declared.halt.Halt.{Halt}
-use Rattle.rg_parse.specs.declared.halt.Halt.TheVariants as halt
+use Rattle.rg_parse.specs.declared.reader.halt.Halt.{Halt}
+use Rattle.rg_parse.specs.declared.reader.halt.Halt.TheVariants as halt
 use Rattle.rg_tree.specs.declared.counts.Counts.{Counts}
 use Rattle.rg_tree.specs.Phrases.{Symbol}
 use Rattle.rg_tree.specs.Counts.{opened, closed, counted, one_sign, method_begins, main_begins, no_signs}
@@ -59,13 +59,16 @@ IsFree _ = Unit {0}
 pub data Took : Kind → State → State → Type 0 where
   took : {x : Kind} {source : List ℕ} {t : Token} {ts : List Token} {c : Counts} {u : Tables}
       → IsFree x → t.kind ≡ x
-      → Took x (record { source = source; rest = t ∷ ts; counts = c; tables = u }) (record { source = source; rest = ts; counts = settled x c; tables = u })
+      → Took x (record { source = source; rest = t ∷ ts; counts = c; tables = u })
+      (record { source = source; rest = ts; counts = settled x c; tables = u })
   took_brace : {source : List ℕ} {t : Token} {ts : List Token} {c d : Counts} {u : Tables}
       → t.kind ≡ k.Mark s.OpenBrace → opened c ≡ Ok d
-      → Took (k.Mark s.OpenBrace) (record { source = source; rest = t ∷ ts; counts = c; tables = u }) (record { source = source; rest = ts; counts = d; tables = u })
+      → Took (k.Mark s.OpenBrace) (record { source = source; rest = t ∷ ts; counts = c; tables = u })
+      (record { source = source; rest = ts; counts = d; tables = u })
   took_paren : {source : List ℕ} {t : Token} {ts : List Token} {c d : Counts} {u : Tables}
       → t.kind ≡ k.Mark s.OpenParen → opened c ≡ Ok d
-      → Took (k.Mark s.OpenParen) (record { source = source; rest = t ∷ ts; counts = c; tables = u }) (record { source = source; rest = ts; counts = d; tables = u })
+      → Took (k.Mark s.OpenParen) (record { source = source; rest = t ∷ ts; counts = c; tables = u })
+      (record { source = source; rest = ts; counts = d; tables = u })
 
 -- a sign of two operands of that kind is passed
 pub data Signed (x : Kind) : State → State → Type 0 where
@@ -93,14 +96,16 @@ pub data Used : State → ℕ → State → Type 0 where
 pub data Declared (y : Symbol) : State → ℕ → State → Type 0 where
   declared : {source : List ℕ} {t : Token} {ts : List Token} {c d : Counts} {u v : Tables} {n : ℕ}
       → t.kind ≡ k.Name → counted y c ≡ Ok d → Means name_at IsNameIn v n (text source t) → Extends u v
-      → Declared y (record { source = source; rest = t ∷ ts; counts = c; tables = u }) n (record { source = source; rest = ts; counts = d; tables = v })
+      → Declared y (record { source = source; rest = t ∷ ts; counts = c; tables = u }) n
+      (record { source = source; rest = ts; counts = d; tables = v })
 
 -- something is read, and has the row v
 pub data Found {V A : Type 0} (reads : List ℕ → Counts → List Token → A → Counts → List Token → Type 0)
     (tree : Tables → V → A) (exists : Tables → V → Type 0) : State → V → State → Type 0 where
   found : {source : List ℕ} {ts us : List Token} {c d : Counts} {u v : Tables} {x : V} (a : A)
       → reads source c ts a d us → Means tree exists v x a → Extends u v
-      → Found reads tree exists (record { source = source; rest = ts; counts = c; tables = u }) x (record { source = source; rest = us; counts = d; tables = v })
+      → Found reads tree exists (record { source = source; rest = ts; counts = c; tables = u }) x
+      (record { source = source; rest = us; counts = d; tables = v })
 
 -- the tables grow, and nothing is read
 pub data Kept : State → State → Type 0 where

@@ -7,7 +7,10 @@ use Rattle.rg_parse.specs.Inner.Starts.{primary_start}
 use Rattle.rg_parse.proofs.Tokens.{exit, started}
 use Rattle.rg_parse.proofs.Halting.{halts-none, halts-row, halts-here, halts-took, halts-found}
 use Rattle.rg_parse.proofs.Growing.{found-there}
-use Rattle.rg_parse.proofs.ExprRows.{chain-start, chain-step, chain-end, chain-left_halts, chain-sign_halts, chain-right_halts, chain-there, not-found, no_not-found, no_not-halts, not_compared-found, compared-found, compared-left_halts, compared-sign_halts, compared-right_halts, compared-there, minus-found, no_minus-found, no_minus-halts, no-primary, paren-row, parens-found}
+use Rattle.rg_parse.proofs.ExprRows.{chain-start, chain-step, chain-end, chain-left_halts, chain-sign_halts, chain-right_halts, chain-there}
+use Rattle.rg_parse.proofs.ExprRows.{not-found, no_not-found, no_not-halts, not_compared-found, compared-found, compared-left_halts}
+use Rattle.rg_parse.proofs.ExprRows.{compared-sign_halts, compared-right_halts, compared-there, minus-found, no_minus-found, no_minus-halts}
+use Rattle.rg_parse.proofs.ExprRows.{no-primary, paren-row, parens-found}
 use Rattle.rg_parse.proofs.reader.Reader.+expr.Goals as goal
 
 pub chain-returns-in_err-left-clause-fault : goal.chain-returns-in_err-left-clause-fault

@@ -1,6 +1,6 @@
 use Rattle.std.proofs.Common.{ap, arith}
 use Rattle.rg_tree.specs.Forms as form
-use Rattle.rg_parse.specs.declared.limits.Role.TheVariants as role
+use Rattle.rg_parse.specs.declared.reader.limits.Role.TheVariants as role
 use Rattle.rg_tree.specs.Phrases as p
 use Rattle.rg_tree.specs.Table.{row}
 use Rattle.rg_parse.specs.Inner.Starts.{stmt_start}
@@ -8,7 +8,8 @@ use Rattle.rg_parse.proofs.Tokens.{exit, started}
 use Rattle.rg_parse.proofs.Halting.{halts-none, halts-row, halts-here, halts-took, halts-found, halts-declared, took-next}
 use Rattle.rg_parse.proofs.Growing.{found-there}
 use Rattle.rg_parse.proofs.Loops.{along-stops}
-use Rattle.rg_parse.proofs.StmtRows.{block-found, block-halts, else-found, no_else-found, no_else-row, if-row, if-found, while-row, while-found, enter-row, enter-found, no-stmt, stmt-found, stmts-start, stmts-step, stmts-stop, stmts-end}
+use Rattle.rg_parse.proofs.StmtRows.{block-found, block-halts, else-found, no_else-found, no_else-row, if-row, if-found, while-row, while-found}
+use Rattle.rg_parse.proofs.StmtRows.{enter-row, enter-found, no-stmt, stmt-found, stmts-start, stmts-step, stmts-stop, stmts-end}
 use Rattle.rg_parse.proofs.reader.Reader.+stmt.Goals as goal
 
 pub behind_if-returns-else-is_next-clause-ok : goal.behind_if-returns-else-is_next-clause-ok

@@ -1,4 +1,4 @@
-use Rattle.std.proofs.Common.{ap, refl}
+use Rattle.std.proofs.Common.{ap}
 use Rattle.rg_tree.specs.Phrases as p
 use Rattle.rg_tree.specs.Table.{row}
 use Rattle.rg_parse.proofs.Tokens.{exit}

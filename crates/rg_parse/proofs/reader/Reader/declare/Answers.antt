@@ -1,4 +1,5 @@
-use Rattle.std.proofs.Common.{ap, refl, sym, ◌∙◌}
+use Rattle.std.proofs.Common.{ap, sym, ◌∙◌}
+use Rattle.rg_parse.proofs.Exits.{no-ok, no-value}
 use Rattle.rg_parse.proofs.Tokens.{halts-another, halts-past, declared-first, exit, expected-symbol_of}
 use Rattle.rg_parse.proofs.Growing.{name-means}
 use Rattle.rg_parse.proofs.reader.Reader.declare.Goals as goal
@@ -18,3 +19,12 @@ returns-clause-ok c =
     rw (← c.self.view_is)
     (declared-first (rw (← c.self.view_is) at c.in-Some.ensures) (sym c.counted.ensures ∙ c.in_ok-counts.was)
     (name-means c.in_ok-number.number _ named.name named.there) (record { keeps = named.keeps; classes = ap (λ t. t.classes) named.names }))
+
+pub invariant_of-self : goal.invariant_of-self
+invariant_of-self c = c.self.invariant
+
+pub returns-in_err-counts-clause-ok : goal.returns-in_err-counts-clause-ok
+returns-in_err-counts-clause-ok c = no-value _ _ c.from_residual.ensures.0
+
+pub returns-in_err-counts-clause-shorter : goal.returns-in_err-counts-clause-shorter
+returns-in_err-counts-clause-shorter c = no-ok _ _ c.from_residual.ensures.0

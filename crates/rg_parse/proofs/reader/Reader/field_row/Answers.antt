@@ -1,6 +1,6 @@
-use Rattle.std.proofs.Common.{ap, refl}
+use Rattle.std.proofs.Common.{ap}
 use Rattle.rg_tree.specs.Forms as form
-use Rattle.rg_parse.specs.declared.limits.Role.TheVariants as role
+use Rattle.rg_parse.specs.declared.reader.limits.Role.TheVariants as role
 use Rattle.rg_tree.specs.Phrases as p
 use Rattle.rg_tree.specs.Table.{row}
 use Rattle.rg_parse.proofs.Tokens.{exit}

@@ -1,6 +1,5 @@
-use Rattle.std.proofs.Common.{ap, refl}
 use Rattle.rg_tree.specs.Forms as form
-use Rattle.rg_parse.specs.declared.limits.Role.TheVariants as role
+use Rattle.rg_parse.specs.declared.reader.limits.Role.TheVariants as role
 use Rattle.rg_parse.proofs.Tokens.{exit}
 use Rattle.rg_parse.proofs.Halting.{halts-declared, halts-found, halts-here, halts-row, halts-took}
 use Rattle.rg_parse.proofs.StmtRows.{let-row, let-found}

@@ -1,4 +1,3 @@
-use Rattle.std.proofs.Common.{ap, refl}
 use Rattle.rg_parse.proofs.Tokens.{exit}
 use Rattle.rg_parse.proofs.Halting.{halts-here, halts-row}
 use Rattle.rg_parse.proofs.RightRows.{more-row, more-found}

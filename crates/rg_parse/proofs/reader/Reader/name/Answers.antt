@@ -1,4 +1,5 @@
 use Rattle.std.proofs.Common.{ap, refl}
+use Rattle.rg_parse.proofs.Exits.{no-ok, no-value}
 use Rattle.rg_parse.proofs.Tokens.{halts-another, used-first}
 use Rattle.rg_parse.proofs.Growing.{name-means}
 use Rattle.rg_parse.proofs.reader.Reader.name.Goals as goal
@@ -12,3 +13,15 @@ returns-clause-ok c =
     rw (← c.self.view_is)
     (used-first (rw (← c.self.view_is) at c.in-Some.ensures) (name-means c.in_ok-number.number _ named.name named.there)
     (record { keeps = named.keeps; classes = ap (λ t. t.classes) named.names }))
+
+pub invariant_of-self : goal.invariant_of-self
+invariant_of-self c = c.self.invariant
+
+pub invariant_of-self-2 : goal.invariant_of-self-2
+invariant_of-self-2 c = ((rw (← c.self.view_is) at c.in-Some.ensures).others, c.self.invariant.1)
+
+pub returns-in_err-number-clause-ok : goal.returns-in_err-number-clause-ok
+returns-in_err-number-clause-ok c = no-value _ _ c.from_residual.ensures.0
+
+pub returns-in_err-number-clause-shorter : goal.returns-in_err-number-clause-shorter
+returns-in_err-number-clause-shorter c = no-ok _ _ c.from_residual.ensures.0

@@ -1,5 +1,4 @@
-use Rattle.rg_tree.specs.Forms as form
-use Rattle.rg_parse.specs.declared.limits.Role.TheVariants as role
+use Rattle.rg_parse.specs.declared.reader.limits.Role.TheVariants as role
 use Rattle.rg_parse.proofs.Halting.{halts-here, halts-took, halts-declared}
 use Rattle.rg_parse.proofs.Tokens.{exit}
 use Rattle.rg_parse.proofs.ClassRows.{param-found, param-there}

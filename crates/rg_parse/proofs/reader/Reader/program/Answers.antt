@@ -1,6 +1,5 @@
-use Rattle.rg_parse.proofs.Tokens.{exit}
 use Rattle.rg_parse.proofs.Growing.{found-there}
-use Rattle.rg_parse.proofs.ProgramRows.{program-start, program-step, program-stop, program-end}
+use Rattle.rg_parse.proofs.ProgramRows.{program-start, program-step}
 use Rattle.rg_parse.proofs.reader.Reader.program.Goals as goal
 
 pub loop-self-init : goal.loop-self-init

@@ -1,6 +1,4 @@
-use Rattle.std.proofs.Common.{ap, refl}
 use Rattle.rg_tree.specs.Forms as form
-use Rattle.rg_tree.specs.Phrases as p
 use Rattle.rg_parse.proofs.Tokens.{exit}
 use Rattle.rg_parse.proofs.Halting.{halts-found, halts-here, halts-row}
 use Rattle.rg_parse.proofs.TypeRows.{ref-row, ref-found}

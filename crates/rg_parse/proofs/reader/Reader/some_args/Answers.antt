@@ -1,5 +1,4 @@
 use Rattle.std.proofs.Common.{arith}
-use Rattle.rg_tree.specs.Forms as form
 use Rattle.rg_parse.proofs.Halting.{halts-here, halts-took}
 use Rattle.rg_parse.proofs.Tokens.{exit}
 use Rattle.rg_parse.proofs.PathRows.{args-first_halts, args-start, args-step, args-stop, args-none, args-end}

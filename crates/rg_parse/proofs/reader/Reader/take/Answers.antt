@@ -1,4 +1,6 @@
 use Rattle.std.proofs.Common.{refl, sym, ◌∙◌}
+use Rattle.rg_parse.proofs.Exits.{no-ok}
+use Rattle.rg_parse.proofs.Nears.{near-behind}
 use Rattle.rg_parse.proofs.Tokens.{halts-another, halts-past, took-first, exit}
 use Rattle.rg_parse.proofs.reader.Reader.take.Goals as goal
 
@@ -13,3 +15,15 @@ returns-in_err-self-inside-clause-fault c =
 pub returns-clause-ok : goal.returns-clause-ok
 returns-clause-ok c =
     rw (← c.self.view_is) (took-first (rw (← c.self.view_is) at c.in-Some.ensures) (sym c.behind.ensures ∙ c.in_ok-self-inside.was))
+
+pub returns-in_err-self-inside-clause-ok : goal.returns-in_err-self-inside-clause-ok
+returns-in_err-self-inside-clause-ok c = no-ok _ _ c.from_residual.ensures.0
+
+pub returns-in_err-self-inside-clause-shorter : goal.returns-in_err-self-inside-clause-shorter
+returns-in_err-self-inside-clause-shorter c = no-ok _ _ c.from_residual.ensures.0
+
+pub invariant_of-self : goal.invariant_of-self
+invariant_of-self c = (
+  (rw (← c.self.view_is) at c.in-Some.ensures).others,
+  near-behind _ _ _ c.self.invariant.1 (sym c.behind.ensures ∙ c.in_ok-self-inside.was),
+)

@@ -1,7 +1,8 @@
-//! By which row a reading goes on, from the token that stands next.
+//! By which row a reading goes on, from the token that stands next (docs/language.md, "Grammar").
 
 ghost use Rattle.std.specs.Prelude.{◌≡◌};
-ghost use Rattle.rg_parse.specs.Inner.Starts.{type_start, stmt_start, right_start, new_start, primary_start, base_start};
+ghost use Rattle.rg_parse.specs.Inner.Starts.{type_start, stmt_start, right_start, new_start};
+ghost use Rattle.rg_parse.specs.Inner.Starts.{primary_start, base_start};
 
 use rg_base::{Keyword, Kind, Sign};
 

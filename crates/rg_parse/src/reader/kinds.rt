@@ -1,12 +1,32 @@
-//! Which tokens are which words, values and operators.
+//! Which tokens are which words, values and operators (docs/language.md, "Grammar").
 
-ghost use Rattle.std.specs.Prelude.{◌≡◌, MatchOption, Some};
+ghost use Rattle.std.specs.Prelude.{◌≡◌, ◌≢◌, MatchOption, MatchBool, Some};
 ghost use Rattle.rg_parse.specs.Inner.Levels.{IsNext, NoneNext, operator_at};
-ghost use Rattle.rg_tree.specs.Operators.{cap_of, plain_type_of, manager_of, comparison_of, sum_of, product_of};
+ghost use Rattle.rg_tree.specs.Operators.{cap_of, plain_type_of, manager_of, comparison_of, sum_of};
+ghost use Rattle.rg_tree.specs.Operators.{product_of};
 
-use crate::level::Level;
 use rg_base::{Cap, Keyword, Kind, Manager, Sign};
 use rg_tree::BinOp;
+
+/// The levels at which operands are joined from the left, the loosest first.
+#[derive(Clone, Copy)]
+pub(crate) enum Level {
+    /// `a or b`
+    Or,
+    /// `a and b`
+    And,
+    /// `a + b`
+    Sum,
+    /// `a * b`
+    Product,
+}
+
+/// Whether two kinds are the same.
+pub(crate) fn is_same(a: Kind, b: Kind) -> bool
+    ensures { MatchBool result (a ≡ b) (a ≢ b) }
+{
+    if a == b { true } else { false }
+}
 
 /// The capability that a word is.
 fn cap_of(kind: Kind) -> Option<Cap>
@@ -107,7 +127,8 @@ pub(crate) fn next_manager(next: Option<Kind>) -> Option<(Kind, Manager)>
 
 /// The operator of two sums that stands next, and its kind.
 pub(crate) fn next_comparison(next: Option<Kind>) -> Option<(Kind, BinOp)>
-    ensures { MatchOption result (NoneNext comparison_of next) (λ r. IsNext comparison_of next r.0 r.1) }
+    ensures { MatchOption result
+        (NoneNext comparison_of next) (λ r. IsNext comparison_of next r.0 r.1) }
 {
     let kind = next?;
     let comparison = comparison_of(kind)?;

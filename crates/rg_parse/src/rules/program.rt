@@ -1,4 +1,4 @@
-//! Reads a whole program.
+//! Reads a whole program (docs/language.md, "Grammar").
 
 ghost use Rattle.std.specs.Prelude.{◌≡◌, ◌≢◌, [], ◌∷◌, Some, IfOk, IfErr, OnOk, ◌<◌, length};
 ghost use Rattle.rg_tree.specs.Phrases.{the};
@@ -9,8 +9,8 @@ ghost use Rattle.rg_parse.specs.Inner.Steps.{Halts};
 ghost use Rattle.rg_parse.specs.Inner.Readings.{FoundClass};
 ghost use Rattle.rg_parse.specs.Inner.Programs.{FoundMain, FoundProgram};
 
-use crate::halt::Halt;
 use crate::reader::Reader;
+use crate::reader::halt::Halt;
 use rg_base::{Code, Keyword, Kind};
 use rg_tree::ClassRow;
 

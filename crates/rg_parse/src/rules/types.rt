@@ -1,4 +1,4 @@
-//! Reads types.
+//! Reads types (docs/language.md, "Grammar").
 
 ghost use Rattle.std.specs.Prelude.{◌≡◌, ◌<◌, ◌≤◌, [], ◌∷◌, length, Some, IfOk, IfErr, OnOk};
 ghost use Rattle.rg_tree.specs.Phrases.{the};
@@ -8,10 +8,10 @@ ghost use Rattle.rg_parse.specs.Inner.Steps.{Halts};
 ghost use Rattle.rg_parse.specs.Inner.Starts.{type_start};
 ghost use Rattle.rg_parse.specs.Inner.Readings.{FoundCap, FoundManager, FoundType, FoundResult};
 
-use crate::halt::Halt;
-use crate::kinds::{next_cap, next_manager};
 use crate::reader::Reader;
-use crate::starts::{TypeStart, type_start};
+use crate::reader::halt::Halt;
+use crate::reader::kinds::{next_cap, next_manager};
+use crate::reader::starts::{TypeStart, type_start};
 use rg_base::{Cap, Code, Keyword, Kind, Manager, Sign};
 use rg_tree::TypeRow;
 

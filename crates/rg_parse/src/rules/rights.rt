@@ -1,4 +1,4 @@
-//! Reads what stands right of `=`.
+//! Reads what stands right of `=` (docs/language.md, "Grammar").
 
 ghost use Rattle.std.specs.Prelude.{◌≡◌, ◌≢◌, ◌<◌, ◌≤◌, [], ◌∷◌, length, Some, IfOk, IfErr, OnOk};
 ghost use Rattle.rg_tree.specs.Phrases.{the};
@@ -8,9 +8,9 @@ ghost use Rattle.rg_parse.specs.Inner.Steps.{Halts};
 ghost use Rattle.rg_parse.specs.Inner.Starts.{right_start, new_start};
 ghost use Rattle.rg_parse.specs.Inner.Readings.{FoundRight, FoundNew};
 
-use crate::halt::Halt;
 use crate::reader::Reader;
-use crate::starts::{NewStart, RightStart, new_start, right_start};
+use crate::reader::halt::Halt;
+use crate::reader::starts::{NewStart, RightStart, new_start, right_start};
 use rg_base::{Code, Keyword, Kind};
 use rg_tree::Right;
 

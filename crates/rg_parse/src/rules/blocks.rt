@@ -1,4 +1,4 @@
-//! Reads blocks and their statements.
+//! Reads blocks and their statements (docs/language.md, "Grammar").
 
 ghost use Rattle.std.specs.Prelude.{◌≡◌, ◌≢◌, ◌<◌, ◌≤◌, [], ◌∷◌, length, Some, IfOk, IfErr, OnOk};
 ghost use Rattle.rg_tree.specs.Phrases.{the};
@@ -6,14 +6,15 @@ ghost use Rattle.rg_tree.specs.Phrases as p;
 ghost use Rattle.rg_tree.specs.Table.{next};
 ghost use Rattle.rg_parse.specs.Inner.Steps.{Halts};
 ghost use Rattle.rg_parse.specs.Inner.Starts.{stmt_start};
-ghost use Rattle.rg_parse.specs.Inner.Readings.{FoundKind, FoundStmt, FoundBlock, FoundStmts, FoundElse};
+ghost use Rattle.rg_parse.specs.Inner.Readings.{FoundKind, FoundStmt, FoundBlock, FoundStmts};
+ghost use Rattle.rg_parse.specs.Inner.Readings.{FoundElse};
 ghost use Rattle.rg_tree.specs.Counts.{no_signs};
 
-use crate::builder::keep;
-use crate::halt::Halt;
-use crate::limits::Role;
 use crate::reader::Reader;
-use crate::starts::{StmtStart, stmt_start};
+use crate::reader::builder::keep;
+use crate::reader::halt::Halt;
+use crate::reader::limits::Role;
+use crate::reader::starts::{StmtStart, stmt_start};
 use rg_base::{Code, Keyword, Kind, Sign};
 use rg_tree::{Span, StmtKind, StmtRow};
 
@@ -53,7 +54,8 @@ impl<'a> Reader<'a> {
     fn stmt(&mut self) -> Result<u32, Halt>
         ensures ok { IfOk result (λ n. FoundStmt self.old n self.new) }
         ensures shorter { OnOk result (length self.new.rest < length self.old.rest) }
-        ensures fault { IfErr result (λ e. Halts (the p.Stmt ∷ []) (record self.old { counts = no_signs self.old.counts }) e self.new) }
+        ensures fault { IfErr result (λ e. Halts (the p.Stmt ∷ [])
+            (record self.old { counts = no_signs self.old.counts }) e self.new) }
     {
         self.no_signs();
         let line = self.line(0);

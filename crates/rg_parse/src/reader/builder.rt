@@ -1,14 +1,18 @@
-//! The rows that are added to the program on the way: nothing is read, and all older rows stay.
+//! The rows that are added to the program on the way: nothing is read, and all older rows stay
+//! (docs/language.md, "The tree").
 
 ghost use Rattle.std.specs.Prelude.{◌≡◌, ◌≤◌, [], ◌∷◌, ◌++◌, length, IfOk, IfErr, OnOk};
-ghost use Rattle.rg_tree.specs.Rows.RowTrees.{expr_at, expr_of, stmt_at, stmt_of, param_at, param_of, member_at, member_of, block_of, program_of};
-ghost use Rattle.rg_tree.specs.Rows.RowsExist.{IsExprIn, IsStmtIn, IsParamIn, IsMemberIn, IsClassIn, IsBlockIn, IsExprNumber};
+ghost use Rattle.rg_tree.specs.Rows.RowTrees.{expr_at, expr_of, stmt_at, stmt_of, param_at};
+ghost use Rattle.rg_tree.specs.Rows.RowTrees.{param_of, member_at, member_of, block_of, program_of};
+ghost use Rattle.rg_tree.specs.Rows.RowsExist.{IsExprIn, IsStmtIn, IsParamIn, IsMemberIn};
+ghost use Rattle.rg_tree.specs.Rows.RowsExist.{IsClassIn, IsBlockIn, IsExprNumber};
 ghost use Rattle.rg_parse.specs.Inner.Steps.{Kept, Means};
 ghost use Rattle.rg_parse.specs.Inner.Programs.{Classed};
-ghost use Rattle.rg_parse.specs.Inner.Lists.{IsStmtNumber, IsParamNumber, IsMemberNumber, numbers_of, IsListed};
+ghost use Rattle.rg_parse.specs.Inner.Lists.{IsStmtNumber, IsParamNumber, IsMemberNumber};
+ghost use Rattle.rg_parse.specs.Inner.Lists.{numbers_of, IsListed};
 
-use crate::halt::Halt;
 use crate::reader::Reader;
+use crate::reader::halt::Halt;
 use rg_base::Manager;
 use rg_tree::{ClassRow, ExprRow, MemberRow, ParamRow, Span, StmtRow};
 

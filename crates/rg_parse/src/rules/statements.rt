@@ -1,17 +1,17 @@
-//! Reads the statements that hold no others.
+//! Reads the statements that hold no others (docs/language.md, "Grammar").
 
 ghost use Rattle.std.specs.Prelude.{◌≡◌, ◌≢◌, ◌<◌, ◌≤◌, [], ◌∷◌, length, Some, IfOk, IfErr, OnOk};
 ghost use Rattle.rg_tree.specs.Phrases.{the};
 ghost use Rattle.rg_tree.specs.Phrases as p;
 ghost use Rattle.rg_tree.specs.Table.{next};
 ghost use Rattle.rg_parse.specs.Inner.Steps.{Halts};
-ghost use Rattle.rg_parse.specs.declared.starts.StmtStart.{StmtStart};
+ghost use Rattle.rg_parse.specs.declared.reader.starts.StmtStart.{StmtStart};
 ghost use Rattle.rg_parse.specs.Inner.Starts.{stmt_start};
 ghost use Rattle.rg_parse.specs.Inner.Readings.{FoundKind};
 
-use crate::halt::Halt;
-use crate::limits::Role;
 use crate::reader::Reader;
+use crate::reader::halt::Halt;
+use crate::reader::limits::Role;
 use rg_base::{Keyword, Kind, Sign};
 use rg_tree::StmtKind;
 

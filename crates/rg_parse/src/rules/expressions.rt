@@ -1,4 +1,4 @@
-//! Reads expressions: operands are joined by levels, from the left.
+//! Reads expressions: operands are joined by levels, from the left (docs/language.md, "Grammar").
 
 ghost use Rattle.std.specs.Prelude.{◌≡◌, ◌≢◌, ◌<◌, ◌≤◌, [], ◌∷◌, length, Some, IfOk, IfErr, OnOk};
 ghost use Rattle.rg_tree.specs.Phrases.{the};
@@ -12,13 +12,13 @@ ghost use Rattle.rg_tree.specs.Rows.RowTrees.{expr_of};
 ghost use Rattle.rg_tree.specs.Rows.RowsExist.{IsExprIn};
 ghost use Rattle.rg_parse.specs.Inner.Starts.{primary_start};
 ghost use Rattle.rg_parse.specs.Inner.Levels.{chain_at, operand_at};
-ghost use Rattle.rg_parse.specs.Inner.Readings.{FoundChain, FoundOperand, FoundExpr, FoundNot, FoundCmp, FoundUnary, FoundPrimary};
+ghost use Rattle.rg_parse.specs.Inner.Readings.{FoundChain, FoundOperand, FoundExpr, FoundNot};
+ghost use Rattle.rg_parse.specs.Inner.Readings.{FoundCmp, FoundUnary, FoundPrimary};
 
-use crate::halt::Halt;
-use crate::kinds::{next_comparison, next_operator};
-use crate::level::Level;
 use crate::reader::Reader;
-use crate::starts::{PrimaryStart, primary_start};
+use crate::reader::halt::Halt;
+use crate::reader::kinds::{Level, next_comparison, next_operator};
+use crate::reader::starts::{PrimaryStart, primary_start};
 use rg_base::{Code, Keyword, Kind, Sign};
 use rg_tree::ExprRow;
 
@@ -53,7 +53,8 @@ impl<'a> Reader<'a> {
     fn operand(&mut self, level: Level) -> Result<u32, Halt>
         ensures ok { IfOk result (λ e. FoundOperand level self.old e self.new) }
         ensures shorter { OnOk result (length self.new.rest < length self.old.rest) }
-        ensures fault { IfErr result (λ e. Halts (the (operand_at level) ∷ []) self.old e self.new) }
+        ensures fault { IfErr result
+            (λ e. Halts (the (operand_at level) ∷ []) self.old e self.new) }
     {
         match level {
             Level::Or => self.chain(Level::And),

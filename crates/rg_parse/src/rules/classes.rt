@@ -1,16 +1,17 @@
-//! Reads classes and their members.
+//! Reads classes and their members (docs/language.md, "Grammar").
 
 ghost use Rattle.std.specs.Prelude.{◌≡◌, ◌≢◌, ◌<◌, ◌≤◌, [], ◌∷◌, length, Some, IfOk, IfErr, OnOk};
 ghost use Rattle.rg_tree.specs.Phrases.{the};
 ghost use Rattle.rg_tree.specs.Phrases as p;
 ghost use Rattle.rg_tree.specs.Table.{next};
 ghost use Rattle.rg_parse.specs.Inner.Steps.{Halts};
-ghost use Rattle.rg_parse.specs.Inner.Readings.{FoundParams, FoundMembers, FoundMember, FoundParam, FoundClass, param_symbols};
+ghost use Rattle.rg_parse.specs.Inner.Readings.{FoundParams, FoundMembers, FoundMember, FoundParam};
+ghost use Rattle.rg_parse.specs.Inner.Readings.{FoundClass, param_symbols};
 
-use crate::builder::keep;
-use crate::halt::Halt;
-use crate::limits::Role;
 use crate::reader::Reader;
+use crate::reader::builder::keep;
+use crate::reader::halt::Halt;
+use crate::reader::limits::Role;
 use rg_base::{Code, Keyword, Kind, Sign};
 use rg_tree::{ClassRow, MemberRow, ParamRow, Span};
 

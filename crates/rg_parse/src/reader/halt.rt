@@ -1,4 +1,4 @@
-//! Why a reading stops.
+//! Why a reading stops (docs/language.md, "Grammar").
 
 ghost use Rattle.std.specs.Prelude.{◌≡◌};
 
@@ -12,7 +12,7 @@ pub(crate) enum Halt {
 }
 
 impl From<Memory> for Halt {
-    ghost use Rattle.rg_parse.specs.declared.halt.Halt.{Halt};
+    ghost use Rattle.rg_parse.specs.declared.reader.halt.Halt.{Halt};
 
     ghost from_gives = { λ _ e. e ≡ Halt.Memory };
 
@@ -22,7 +22,7 @@ impl From<Memory> for Halt {
 }
 
 impl From<Code> for Halt {
-    ghost use Rattle.rg_parse.specs.declared.halt.Halt.{Halt};
+    ghost use Rattle.rg_parse.specs.declared.reader.halt.Halt.{Halt};
 
     ghost from_gives = { λ code e. e ≡ Halt.At code };
 

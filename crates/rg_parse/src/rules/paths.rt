@@ -1,4 +1,4 @@
-//! Reads paths and calls.
+//! Reads paths and calls (docs/language.md, "Grammar").
 
 ghost use Rattle.std.specs.Prelude.{◌≡◌, ◌≢◌, ◌<◌, ◌≤◌, [], ◌∷◌, length, Some, IfOk, IfErr, OnOk};
 ghost use Rattle.rg_tree.specs.Phrases.{the};
@@ -6,15 +6,16 @@ ghost use Rattle.rg_tree.specs.Phrases as p;
 ghost use Rattle.rg_tree.specs.Table.{next};
 ghost use Rattle.rg_parse.specs.Inner.Steps.{Halts};
 ghost use Rattle.rg_parse.specs.Inner.Starts.{base_start};
-ghost use Rattle.rg_parse.specs.Inner.Readings.{FoundPath, FoundFields, FoundCall, FoundCallRest, FoundBase, FoundArgs, FoundCallArgs};
+ghost use Rattle.rg_parse.specs.Inner.Readings.{FoundPath, FoundFields, FoundCall, FoundCallRest};
+ghost use Rattle.rg_parse.specs.Inner.Readings.{FoundBase, FoundArgs, FoundCallArgs};
 ghost use Rattle.std.specs.Prelude.{IfSome, option_map};
 ghost use Rattle.rg_tree.specs.Rows.Tables.{name_at};
 ghost use Rattle.rg_tree.specs.Rows.RowsExist.{IsNameIn};
 
-use crate::builder::keep;
-use crate::halt::Halt;
 use crate::reader::Reader;
-use crate::starts::{BaseStart, base_start};
+use crate::reader::builder::keep;
+use crate::reader::halt::Halt;
+use crate::reader::starts::{BaseStart, base_start};
 use rg_base::{Code, Keyword, Kind, Sign};
 use rg_tree::{CallRow, Path, Span};
 
@@ -95,7 +96,8 @@ impl<'a> Reader<'a> {
         requires base { IfSome base (IsNameIn self.old.tables) }
         requires first { IsNameIn self.old.tables first }
         ensures ok { IfOk result (λ a. FoundCallRest
-            (option_map (name_at self.old.tables) base) (name_at self.old.tables first) self.old a self.new) }
+            (option_map (name_at self.old.tables) base) (name_at self.old.tables first)
+            self.old a self.new) }
         ensures shorter { OnOk result (length self.new.rest < length self.old.rest) }
         ensures fault { IfErr result (λ e. Halts (the p.CallRest ∷ []) self.old e self.new) }
     {
