@@ -5,7 +5,7 @@ ghost use Rattle.rg_tree.specs.Rows.RowTrees.{program_of};
 ghost use Rattle.rg_rules.specs.Acceptance as rules;
 ghost use Rattle.rg_names.specs.TableOf.{IsTableOf};
 
-use rg_names::Classes;
+use rg_names::{Book, Classes};
 use rg_tree::Program;
 use std::marker::Model;
 
@@ -52,5 +52,12 @@ impl Accepted {
         ensures table { IsTableOf self.now.program result.now }
     {
         &self.classes
+    }
+
+    /// The program with its class table, as one value.
+    pub fn book(&self) -> Book<'_>
+        ensures { result ≡ record { program = self.now.program; classes = self.now.classes } }
+    {
+        Book::new(&self.program, &self.classes)
     }
 }

@@ -1,10 +1,11 @@
-//! Short programs, built by their rows: the first fault of their headers, or their table.
+//! With ample memory each program gets its table or the first fault of its headers: short ones in
+//! a table, and one with as many classes and as long names as there may be.
 
 ghost use Rattle.std.specs.Prelude.{◌<◌};
 
-use crate::{Classes, FieldAt, Sig};
+use crate::{Classes, FieldAt};
 use rg_base::{Cap, Code, Fault, Memory, Stop, Ty};
-use rg_tree::{ClassRow, MemberRow, Program, Span, TypeRow};
+use rg_tree::{ClassRow, MemberRow, Program, TypeRow};
 use std::test::*;
 
 // class C { f: cap D; }, or tmp class C { f: cap D; }
@@ -102,50 +103,6 @@ fn each_source_has_its_first_fault(rt: HostRuntime) -> Result<(), Fail> {
         };
         assert_eq!(rt; Classes::of(rt.alloc(), &program).err(), want, "{source}");
     }
-    Ok(())
-}
-
-#[test]
-fn an_owner_in_a_class_is_found_by_its_name(rt: HostRuntime) -> Result<(), Fail> {
-    let mut program = Program::new(rt.alloc());
-    add_pair(&mut program, Cap::Iso, b"A")?;
-    let a = program.add_name(b"A")?;
-    let x = program.add_name(b"x")?;
-    let classes = Classes::of(rt.alloc(), &program)?;
-    assert_eq!(rt; classes.class(x), None);
-    let class = classes.class(a).ok_or("no class")?;
-    assert_eq!(rt; (class, classes.is_tmp(class)), (1, false));
-    let ty = Ty::Ref {
-        cap: Cap::Iso,
-        class: 1,
-    };
-    assert_eq!(rt; classes.field(class, x), Some(FieldAt { index: 0, ty }));
-    assert_eq!(rt; classes.method(class, x), None);
-    let row = TypeRow::Ref {
-        cap: Cap::Iso,
-        name: a,
-    };
-    assert_eq!(rt; classes.ty(row), Ok(ty));
-    Ok(())
-}
-
-#[test]
-fn methods_are_counted_through_the_program(rt: HostRuntime) -> Result<(), Fail> {
-    let mut program = Program::new(rt.alloc());
-    add_mixed(&mut program, (b"A", b"x", b"m"))?;
-    add_mixed(&mut program, (b"B", b"x", b"m"))?;
-    let b = program.add_name(b"B")?;
-    let m = program.add_name(b"m")?;
-    let classes = Classes::of(rt.alloc(), &program)?;
-    let class = classes.class(b).ok_or("no class")?;
-    let sig = Sig {
-        number: 1,
-        cap: Cap::Mut,
-        params: Span { from: 2, to: 2 },
-        result: None,
-    };
-    assert_eq!(rt; classes.method(class, m), Some(sig));
-    assert_eq!(rt; classes.field(class, m), None);
     Ok(())
 }
 

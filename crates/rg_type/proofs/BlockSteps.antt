@@ -16,7 +16,8 @@ use Rattle.rg_rules.specs.Environment.{Env}
 use Rattle.rg_rules.specs.Rights.{judge_right}
 use Rattle.rg_rules.specs.Statements.{judge_block, judge_stmt, last_of}
 use Rattle.rg_names.specs.Judged.{FailsAs}
-use Rattle.rg_type.specs.Scope.{Scope, env_of, entry_of, IsScopeIn}
+use Rattle.rg_type.specs.Scope.{Scope, env_of, entry_of}
+use Rattle.rg_type.specs.Inner.States.{IsReadable}
 use Rattle.rg_type.proofs.ExpressionEnvs.{judge_right-grows}
 use Rattle.rg_type.proofs.StatementEnvs.{judge_stmt-grows}
 
@@ -46,7 +47,7 @@ length-entries t scope = length-map scope.slots (entry_of t)
 pub record BlockUpTo (t : Tables) (span : Span) (front here : Scope) (left : List ℕ) : Type 0 where
   pub rest : judge_block (program_of t).classes None (env_of t here) (block_over (stmt_at t) left)
       ≡ judge_block (program_of t).classes None (env_of t front) (block_of t span)
-  pub scope : IsScopeIn t here
+  pub scope : IsReadable t here
   pub room : length here.slots + block_names (block_over (stmt_at t) left) ≤ BODY_NAMES
 
 -- in a block of a statement no statement may give a result
@@ -93,7 +94,7 @@ module _ (t : Tables) (span : Span) (front : Scope) where
   -- the next statement has none
   pub block-step : (here out : Scope) (ks : List ℕ) (i : ℕ) → i < length ks → BlockUpTo t span front here (drop i ks) →
       judge_stmt (program_of t).classes None (env_of t here) (stmt_at t (get_or ks i 0)) ≡ Ok (env_of t out) →
-      IsScopeIn t out → BlockUpTo t span front out (drop (i + 1) ks)
+      IsReadable t out → BlockUpTo t span front out (drop (i + 1) ks)
   block-step here out ks i l u h w =
       let b = block_over (stmt_at t) (drop (suc i) ks) in
       let k = stmt_at t (get_or ks i 0) in

@@ -5,15 +5,15 @@ use Rattle.std.proofs.lemmas.Bool.Decides.{nat_tests}
 use Rattle.std.proofs.lemmas.List.{length-append, length-take-le}
 use Rattle.std.specs.Prelude.{Ok, Err}
 use Rattle.rg_base.specs.declared.fault.Code.TheVariants.{Unknown}
-use Rattle.rg_type.specs.declared.found.Found.{Found}
+use Rattle.rg_type.specs.declared.env.found.Found.{Found}
 use Rattle.rg_rules.specs.Environment.{Readiness, ready, gone, is_ready, joined_readiness}
 use Rattle.rg_flow.specs.declared.flow.Flow.{Flow}
 use Rattle.rg_flow.specs.Flows.{state_of, Sets, Covers}
 use Rattle.rg_type.specs.Scope.{Slot, Scope, marked}
 use Rattle.rg_type.specs.Inner.States.{slot_of, FoundAs, AreStatesOf, state_at, IsSaved, restated, joined_with, CoversStates}
-use Rattle.rg_type.specs.declared.saved.Saved.{Saved}
+use Rattle.rg_type.specs.declared.env.saved.Saved.{Saved}
 use Rattle.rg_type.specs.Inner.Layout.{slots_from, scope_of, place_in, names_at, IsFoundAt, ready_slot, with_slot, AreNoted, IsKept}
-use Rattle.rg_type.specs.declared.var.Var.{Var}
+use Rattle.rg_type.specs.declared.env.var.Var.{Var}
 use Rattle.rg_type.proofs.PlaceLemmas.{place_in-take}
 use Rattle.rg_type.proofs.FlowLemmas.{length-slots_from, slots_from-ext, slots_from-push, slots_from-take, slots_from-named, slots_from-restated, slots_from-joined, slot_of-place, slot_of-none, state_at-slots_from, names_at-past}
 use Rattle.rg_type.proofs.FlowSteps.{IsGoneTo}

@@ -6,7 +6,7 @@ use Rattle.rg_flow.specs.Flows.{state_of}
 use Rattle.rg_type.specs.Scope.{Slot, same_name, marked_slot}
 use Rattle.rg_type.specs.Inner.States.{state_at, slot_of, restated_from, joined_from}
 use Rattle.rg_type.specs.Inner.Layout.{slots_from, place_in, names_at, ready_slot}
-use Rattle.rg_type.specs.declared.var.Var.{Var}
+use Rattle.rg_type.specs.declared.env.var.Var.{Var}
 
 -- how many variables there are
 pub length-slots_from : (flow : Flow) (vars : List Var) (k : ℕ) → length (slots_from flow k vars) ≡ length vars

@@ -9,7 +9,7 @@ use Rattle.rg_flow.specs.declared.flow.Flow.{Flow}
 use Rattle.rg_flow.specs.Flows.{state_of, Sets}
 use Rattle.rg_type.specs.Scope.{same_name}
 use Rattle.rg_type.specs.Inner.Layout.{names_at}
-use Rattle.rg_type.specs.declared.var.Var.{Var}
+use Rattle.rg_type.specs.declared.env.var.Var.{Var}
 use Rattle.rg_type.proofs.FlowLemmas.{names_at-is, names_at-past}
 
 -- no variable

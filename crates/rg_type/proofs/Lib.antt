@@ -10,8 +10,8 @@ mod StatementEnvs
 mod Spans
 mod ScopeSteps
 mod BlockSteps
-pub mod PathSteps
-pub mod ExpressionSteps
+mod PathSteps
+mod ExpressionSteps
 mod Branches
 mod RowRules
 mod RightSteps

@@ -5,7 +5,7 @@ use Rattle.std.specs.Map.{lookup}
 use Rattle.rg_base.specs.declared.fault.Memory.{Memory}
 use Rattle.rg_type.specs.Scope.{same_name}
 use Rattle.rg_type.specs.Inner.Layout.{place_in, AreNoted}
-use Rattle.rg_type.specs.declared.var.Var.{Var}
+use Rattle.rg_type.specs.declared.env.var.Var.{Var}
 use Rattle.rg_type.proofs.NameTests.{same-eq}
 
 some-suc : (o : Option ℕ) (k : ℕ) → option_map suc o ≡ Some k → (j : ℕ) × (k ≡ suc j) × (o ≡ Some j)

@@ -1,15 +1,14 @@
 -- Right sides and calls, step by step.
-use Rattle.std.proofs.Common.{◌≡◌, ◌≢◌, refl, sym, ap, ap₂, subst, ◌∙◌, ℕ, suc, ◌<◌, ◌==◌, Bool as Truth, true, false, List, [], ◌∷◌, map, length, drop, slice_get, All, Option, Some, ok_or, Result, Ok, Err, arith}
+use Rattle.std.proofs.Common.{◌≡◌, refl, sym, ap, ap₂, subst, ◌∙◌, ℕ, ◌<◌, ◌==◌, Bool as Truth, true, false, List, map, length, drop, Option, Some, ok_or, Result, Ok, Err, arith}
 use Rattle.std.proofs.lemmas.Bool.{eq-eqb}
 use Rattle.std.proofs.lemmas.List.{length-map}
-use Rattle.std.proofs.lemmas.List.Elements.{All-nil, All-cons, All-head, All-tail}
 use Rattle.rg_base.specs.declared.words.Cap.{Cap}
 use Rattle.rg_base.specs.declared.words.Cap.TheVariants.{Mut, Tmp, Paused, Imm, Iso}
 use Rattle.rg_base.specs.declared.ty.Ty.{Ty}
 use Rattle.rg_base.specs.declared.ty.Ty.TheVariants.{Int, Bool, Ref}
 use Rattle.rg_base.specs.declared.fault.Code.{Code}
 use Rattle.rg_base.specs.declared.fault.Code.TheVariants.{Unknown, Mismatch, Capability, Arity}
-use Rattle.rg_tree.specs.Tree.{Name, ref, Call, Method, Param, Class}
+use Rattle.rg_tree.specs.Tree.{Name, ref, Call, Method, Class}
 use Rattle.rg_tree.specs.Rows.Tables.{Tables, name_at, numbers_in}
 use Rattle.rg_tree.specs.Rows.RowTrees.{call_of, classes_of, param_at, expr_at}
 use Rattle.rg_tree.specs.declared.rows.CallRow.{CallRow}
@@ -21,13 +20,11 @@ use Rattle.rg_rules.specs.Paths.{Followed, follow, walk}
 use Rattle.rg_rules.specs.Expressions.{against}
 use Rattle.rg_rules.specs.Rights.{Called, judge_args, judge_call, judge_new, judge_consumed}
 use Rattle.rg_names.specs.declared.entry.Sig.{Sig}
-use Rattle.rg_names.specs.Table.{Table, IsClass}
-use Rattle.rg_names.specs.TableOf.{IsTableOf}
-use Rattle.rg_names.specs.TreeAnswers.{IsKnown, MethodIs}
-use Rattle.rg_names.proofs.Callers.{IsClass-tree, MethodIs-param}
-use Rattle.rg_type.specs.Scope.{Scope, env_of, IsScopeIn}
+use Rattle.rg_names.specs.TreeAnswers.{IsKnown, MethodIs, HasGoodParams}
+use Rattle.rg_type.specs.Scope.{Scope, env_of}
+use Rattle.rg_type.specs.Inner.States.{IsReadable}
 use Rattle.rg_type.specs.Inner.Changing.{TypedAs}
-use Rattle.rg_type.specs.Inner.Calls.{LeadsAs, method_behind, IsParamNumber, IsSigOf, SigAs}
+use Rattle.rg_type.specs.Inner.Calls.{LeadsAs, method_behind, SigAs}
 
 -- `new C` and the like: the class is good
 pub TypedAs-new : (classes : List Class) (wanted ty : Ty) (cap : Cap) (x : Name) (r : Result Ty Code) → Ok ty ≡ good_type classes (ref cap x) →
@@ -59,37 +56,21 @@ follow-known classes (Ref Paused c) f k e = let same : c ≡ f.class = grind ari
 follow-known classes (Ref Imm c) f k e = let same : c ≡ f.class = grind arith in rw (← same) k
 follow-known classes (Ref Iso c) f k e = grind arith
 
--- its class is one of the table
-pub LeadsAs-class : (t : Tables) (table : Table) → IsTableOf t table → (receiver : Ty) (class : ℕ) → IsKnown (classes_of t) receiver →
-    LeadsAs (follow receiver) (Ok class) → IsClass table class
-LeadsAs-class t table is receiver class k (f, e, same) =
-    IsClass-tree t table is class (subst (λ c. c < length (classes_of t)) same (follow-known (classes_of t) receiver f k e))
+-- its class is one of the program
+pub LeadsAs-class : (classes : List Class) (receiver : Ty) (class : ℕ) → IsKnown classes receiver → LeadsAs (follow receiver) (Ok class) →
+    class < length classes
+LeadsAs-class classes receiver class k (f, e, same) = subst (λ c. c < length classes) same (follow-known classes receiver f k e)
 
 -- The method that is called.
 
--- each number in a span of parameters, by the place of its parameter
-params-good : (t : Tables) (ks : List ℕ) → All (λ k. k < length t.params) ks →
-    ((i : ℕ) (p : Param) → slice_get (map (param_at t) ks) i ≡ Some p → good_type (classes_of t) p.ty ≡ Ok (type_of (classes_of t) p.ty)) →
-    All (IsParamNumber t) ks
-params-good t [] a h = All-nil (IsParamNumber t)
-params-good t (k ∷ ks) a h =
-    All-cons (IsParamNumber t) k ks (record { within = All-head (λ k. k < length t.params) k ks a; good = h 0 (param_at t k) refl })
-    (params-good t ks (All-tail (λ k. k < length t.params) k ks a) (λ i p e. h (suc i) p e))
-
-module _ (t : Tables) (table : Table) (is : IsTableOf t table) (class name : ℕ) (s : Sig) (m : MethodIs t class name s) where
-  IsSigOf-method : IsSigOf t m.method s
-  IsSigOf-method = record {
-    span = m.rows;
-    each = params-good t (numbers_in t s.params) m.rows.each
-        (λ i p e. MethodIs-param t table is class name s m i p (subst (λ ps. slice_get ps i ≡ Some p) m.params e));
-    params = m.params;
-    result = m.result;
-    known = m.known;
-  }
-
-  pub SigAs-found : (receiver : Ty) → LeadsAs (follow receiver) (Ok class) → below receiver (Ref s.cap class) ≡ true →
-      SigAs t (method_behind (classes_of t) receiver (name_at t name)) (Ok s)
-  SigAs-found receiver (f, e, same) b = (m.method, rw (e, same, m.named, m.cap, b) refl, IsSigOf-method)
+pub SigAs-found : (t : Tables) (class name : ℕ) (s : Sig) → MethodIs t class name s → HasGoodParams t s → (receiver : Ty) →
+    LeadsAs (follow receiver) (Ok class) → below receiver (Ref s.cap class) ≡ true →
+    SigAs t (method_behind (classes_of t) receiver (name_at t name)) (Ok s)
+SigAs-found t class name s m g receiver (f, e, same) b = (
+  m.method,
+  rw (e, same, m.named, m.cap, b) refl,
+  record { span = m.rows; each = g; params = m.params; result = m.result; known = m.known },
+)
 
 -- The arguments.
 
@@ -99,7 +80,7 @@ types_at t ks = map (λ p. type_of (classes_of t) p.ty) (map (param_at t) ks)
 
 -- the first i arguments were judged
 pub record ArgsUpTo (t : Tables) (front : Scope) (params args : List ℕ) (i : ℕ) (here : Scope) : Type 0 where
-  pub scope : IsScopeIn t here
+  pub scope : IsReadable t here
   pub rest : judge_args (classes_of t) (env_of t here) (types_at t (drop i params)) (map (expr_at t) (drop i args))
       ≡ judge_args (classes_of t) (env_of t front) (types_at t params) (map (expr_at t) args)
 

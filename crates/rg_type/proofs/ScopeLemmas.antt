@@ -4,7 +4,7 @@ use Rattle.std.specs.Prelude.{ok_or, Result, Ok, Err, IfSome}
 use Rattle.std.specs.List.{AllByRecursion}
 use Rattle.std.proofs.lemmas.Bool.Decides.{eqb_tells}
 use Rattle.std.proofs.lemmas.List.{map-append, length-map}
-use Rattle.std.proofs.lemmas.List.Elements.{recursion_from_All, All-from_recursion, All-push, All-take}
+use Rattle.std.proofs.lemmas.List.Elements.{recursion_from_All, All-from_recursion}
 use Rattle.std.proofs.lemmas.Slice.Eq.{bytes_eq-Decides}
 use Rattle.rg_base.specs.declared.ty.Ty.{Ty}
 use Rattle.rg_base.specs.declared.fault.Code.{Code}
@@ -17,8 +17,8 @@ use Rattle.rg_tree.proofs.Callers.{name_at-injective}
 use Rattle.rg_rules.specs.Environment as rules
 use Rattle.rg_names.specs.TreeAnswers.{IsKnown}
 use Rattle.rg_type.specs.Scope.{Slot, Scope, same_name, pushed, marked_slot, marked, entered, closed_at, variable_of, entry_of, env_of, IsSlotIn, IsScopeIn}
-use Rattle.rg_type.specs.Inner.States.{readiness_of, slot_of, FoundAs, FoundInTree}
-use Rattle.rg_type.specs.declared.found.Found.{Found}
+use Rattle.rg_type.specs.Inner.States.{readiness_of, slot_of, FoundAs, FoundInTree, IsReadable}
+use Rattle.rg_type.specs.declared.env.found.Found.{Found}
 use Rattle.rg_type.proofs.NameTests.{same-eq}
 
 module _ (t : Tables) (d : AreDistinct t.names) where
@@ -160,18 +160,6 @@ closed-tree t front out =
     ap (λ (es : List rules.Entry). record { depth = front.depth; entries = es })
     (map-take t (length front.slots) out.slots ∙ ap (λ n. take n (map (entry_of t) out.slots)) (sym (length-map front.slots (entry_of t))))
 
--- the numbers stay those of names and classes: with one more variable
-pub pushed-in : (t : Tables) (scope : Scope) (name : Option ℕ) (ty : Ty) (assignable : Bool) → IsScopeIn t scope → IfSome name (IsNameIn t) →
-    IsKnown (program_of t).classes ty →
-    IsScopeIn t (pushed scope name ty assignable)
-pushed-in t scope name ty assignable h l k =
-    All-push (IsSlotIn t) scope.slots (record { name = name; ty = ty; depth = scope.depth; readiness = rules.ready; assignable = assignable }) h
-    (record { name = l; ty = k })
-
-pub entered-in : (t : Tables) (scope : Scope) (name : Option ℕ) (ty : Ty) → IsScopeIn t scope → IfSome name (IsNameIn t) →
-    IsKnown (program_of t).classes ty → IsScopeIn t (entered scope name ty)
-entered-in t scope name ty h l k = pushed-in t (record scope { depth = scope.depth + 1 }) name ty true h l k
-
 marked-each : (t : Tables) (name : Option ℕ) (now : rules.Readiness) (slots : List Slot) → AllByRecursion (IsSlotIn t) slots →
     AllByRecursion (IsSlotIn t) (map (marked_slot name now) slots)
 marked-each t name now [] a = tt
@@ -182,11 +170,9 @@ marked-each t name now (s ∷ ss) a = (by (same_name s.name name), marked-each t
     by false = a.0
 
 -- with the variables of a name in another state
-pub marked-in : (t : Tables) (name : Option ℕ) (now : rules.Readiness) (scope : Scope) → IsScopeIn t scope → IsScopeIn t (marked name now scope)
-marked-in t name now scope h =
-    All-from_recursion (IsSlotIn t) (map (marked_slot name now) scope.slots)
-    (marked-each t name now scope.slots (recursion_from_All (IsSlotIn t) scope.slots h))
-
--- of the first variables
-pub closed-in : (t : Tables) (depth len : ℕ) (scope : Scope) → IsScopeIn t scope → IsScopeIn t (closed_at depth len scope)
-closed-in t depth len scope h = All-take (IsSlotIn t) len scope.slots h
+pub marked-in : (t : Tables) (name : Option ℕ) (now : rules.Readiness) (scope : Scope) → IsReadable t scope → IsReadable t (marked name now scope)
+marked-in t name now scope h = record {
+  names = h.names;
+  slots = All-from_recursion (IsSlotIn t) (map (marked_slot name now) scope.slots)
+      (marked-each t name now scope.slots (recursion_from_All (IsSlotIn t) scope.slots h.slots));
+}

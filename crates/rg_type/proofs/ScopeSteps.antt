@@ -7,8 +7,8 @@ use Rattle.rg_tree.specs.Rows.Tables.{Tables, name_at}
 use Rattle.rg_rules.specs.Environment.{Readiness, ready, is_ready, Entry, Env, with_variable, deeper, closed, joined_readiness, joined_entries, joined, covers_entries, covers}
 use Rattle.rg_flow.specs.declared.flow.Flow.{Flow}
 use Rattle.rg_flow.specs.Flows.{state_of}
-use Rattle.rg_type.specs.Scope.{Slot, Scope, pushed, entered, closed_at, env_of, entry_of, IsSlotIn, IsScopeIn}
-use Rattle.rg_type.specs.Inner.States.{state_at, AreStatesOf, restated_from, restated, joined_from, joined_with, CoversStates}
+use Rattle.rg_type.specs.Scope.{Slot, Scope, pushed, entered, closed_at, env_of, entry_of, IsSlotIn}
+use Rattle.rg_type.specs.Inner.States.{state_at, AreStatesOf, restated_from, restated, joined_from, joined_with, CoversStates, IsReadable}
 use Rattle.rg_type.proofs.Alike.{Begin}
 
 -- one more variable
@@ -31,8 +31,8 @@ env_of-closed t d n front out e l =
 pub length-closed_at : (d n : ℕ) (out : Scope) → n ≤ length out.slots → length (closed_at d n out).slots ≡ n
 length-closed_at d n out l = length-take-le n out.slots l
 
-pub IsScopeIn-closed_at : (t : Tables) (d n : ℕ) (out : Scope) → IsScopeIn t out → IsScopeIn t (closed_at d n out)
-IsScopeIn-closed_at t d n out h = All-take (IsSlotIn t) n out.slots h
+pub IsReadable-closed_at : (t : Tables) (d n : ℕ) (out : Scope) → IsReadable t out → IsReadable t (closed_at d n out)
+IsReadable-closed_at t d n out h = record { names = h.names; slots = All-take (IsSlotIn t) n out.slots h.slots }
 
 -- the variables come first in front of a block and here
 abbrev pub BeginSlots : Tables → (old new : List Slot) → Type 0
@@ -96,8 +96,8 @@ restated_from-within t flow k (s ∷ ss) h =
     (slot_in-IsSlotIn t s (state_of flow k) (All-head (IsSlotIn t) s ss h))
     (restated_from-within t flow (suc k) ss (All-tail (IsSlotIn t) s ss h))
 
-pub IsScopeIn-restated : (t : Tables) (flow : Flow) (scope : Scope) → IsScopeIn t scope → IsScopeIn t (restated flow scope)
-IsScopeIn-restated t flow scope h = restated_from-within t flow 0 scope.slots h
+pub IsReadable-restated : (t : Tables) (flow : Flow) (scope : Scope) → IsReadable t scope → IsReadable t (restated flow scope)
+IsReadable-restated t flow scope h = record { names = h.names; slots = restated_from-within t flow 0 scope.slots h.slots }
 
 joined_from-within : (t : Tables) (flow : Flow) (k : ℕ) (ss : List Slot) → All (IsSlotIn t) ss → All (IsSlotIn t) (joined_from flow k ss)
 joined_from-within t flow k [] h = h
@@ -106,8 +106,8 @@ joined_from-within t flow k (s ∷ ss) h =
     (slot_in-IsSlotIn t s (joined_readiness (state_of flow k) s.readiness) (All-head (IsSlotIn t) s ss h))
     (joined_from-within t flow (suc k) ss (All-tail (IsSlotIn t) s ss h))
 
-pub IsScopeIn-joined_with : (t : Tables) (flow : Flow) (scope : Scope) → IsScopeIn t scope → IsScopeIn t (joined_with flow scope)
-IsScopeIn-joined_with t flow scope h = joined_from-within t flow 0 scope.slots h
+pub IsReadable-joined_with : (t : Tables) (flow : Flow) (scope : Scope) → IsReadable t scope → IsReadable t (joined_with flow scope)
+IsReadable-joined_with t flow scope h = record { names = h.names; slots = joined_from-within t flow 0 scope.slots h.slots }
 
 joined_from-alike : (t : Tables) (flow : Flow) (k : ℕ) (first here : List Slot) → length here ≡ length first →
     BeginSlots t first here → StatesFrom flow k first →

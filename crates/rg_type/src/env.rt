@@ -1,27 +1,35 @@
 //! The visible variables (docs/language.md, "Judgements").
 
+mod found;
+mod places;
+mod saved;
+mod states;
+mod var;
+
 ghost use Rattle.std.specs.Prelude.{◌≡◌, ℕ, ◌==◌, ◌<◌, ◌≤◌, ◌↔◌, if◌then◌else◌, IsTrue, length, option_map, IfOk, OnOk, OnErr, IfSome};
 ghost use Rattle.rg_base.specs.declared.limits.TheConstants.{BODY_NAMES};
-ghost use Rattle.rg_tree.specs.Rows.Tables.{Tables, name_at, AreDistinct};
+ghost use Rattle.rg_tree.specs.Rows.Tables.{Tables, name_at};
 ghost use Rattle.rg_tree.specs.Rows.RowsExist.{IsNameIn};
 ghost use Rattle.rg_rules.specs.Capabilities as rules;
 ghost use Rattle.rg_rules.specs.Environment.{with_variable, gone};
 ghost use Rattle.rg_rules.specs.Environment as env;
 ghost use Rattle.rg_flow.specs.Flows.{state_of};
-ghost use Rattle.rg_type.specs.Scope.{no_variables, pushed, marked, entered, closed_at, variable_of, env_of, IsScopeIn};
-ghost use Rattle.rg_type.specs.Inner.States.{readiness_of, slot_of, FoundAs, FoundInTree, IsSaved, restated, joined_with, CoversStates};
+ghost use Rattle.rg_type.specs.Scope.{no_variables, pushed, marked, entered, closed_at, variable_of, env_of};
+ghost use Rattle.rg_type.specs.Inner.States.{readiness_of, slot_of, FoundAs, FoundInTree, IsReadable, IsSaved, restated, joined_with, CoversStates};
 ghost use Rattle.rg_type.specs.Inner.Layout.{with_slot, ready_slot};
 
-use crate::found::{Found, found_at};
-use crate::places::{Places, note_last, place_of};
-use crate::saved::Saved;
-use crate::state::{State, forget, set, set_named};
-use crate::var::Var;
+pub use found::Found;
+use found::found_at;
+use places::{Places, note_last, place_of};
 use rg_base::{Code, Memory, Ty};
 use rg_flow::Flow;
 use rg_rules::pause;
+pub use saved::Saved;
+pub use states::State;
+use states::{forget, set, set_named};
 use std::alloc::Global;
 use std::marker::Model;
+use var::Var;
 
 /// The visible variables in the order in which they were added, with the state of each.
 #[derive(Drop)]
@@ -120,8 +128,8 @@ impl Env {
     /// The first variable of a name, or E20 where none is visible.
     pub(crate) fn find(&self, name: Option<u32>) -> Result<Found, Code>
         ensures slot { FoundAs (slot_of name self.now.slots) result }
-        ensures tree { (t : Tables) → AreDistinct t.names → IsScopeIn t self.now
-            → IfSome name (IsNameIn t) → FoundInTree t name self.now result }
+        ensures tree { (t : Tables) → IsReadable t self.now → IfSome name (IsNameIn t)
+            → FoundInTree t name self.now result }
     {
         let vars = self.vars.as_slice();
         match place_of(&self.places, vars, name) {
@@ -152,10 +160,9 @@ impl Env {
     /// The variables with those of a name in another state.
     pub(crate) fn mark(&mut self, name: Option<u32>, now: State)
         ensures marked { self.new ≡ marked name (readiness_of now) self.old }
-        ensures within { (t : Tables) → IsScopeIn t self.old → IsScopeIn t self.new }
-        ensures tree { (t : Tables) → AreDistinct t.names → IsScopeIn t self.old
-            → IfSome name (IsNameIn t) → env_of t self.new
-            ≡ env.marked (variable_of t name) (readiness_of now) (env_of t self.old) }
+        ensures within { (t : Tables) → IsReadable t self.old → IsReadable t self.new }
+        ensures tree { (t : Tables) → IsReadable t self.old → IfSome name (IsNameIn t)
+            → env_of t self.new ≡ env.marked (variable_of t name) (readiness_of now) (env_of t self.old) }
     {
         set_named(&mut self.flow, &self.vars, name, now);
     }

@@ -1,5 +1,7 @@
 //! Expressions (docs/language.md, "Judgements").
 
+mod path;
+
 ghost use Rattle.std.specs.Prelude.{◌≡◌, IfOk, IfSome, List, OnOk};
 ghost use Rattle.rg_tree.specs.Rows.RowTrees.{expr_at, program_of};
 ghost use Rattle.rg_tree.specs.Rows.RowsExist.{IsExprNumber};
@@ -11,14 +13,15 @@ ghost use Rattle.rg_names.specs.TreeAnswers.{IsKnown};
 ghost use Rattle.rg_type.specs.Inner.Changing.{TypedAs};
 ghost use Rattle.rg_type.specs.Judging.{ExprJudgedAs};
 ghost use Rattle.rg_type.specs.Scope.{env_of, IsScopeIn};
+ghost use Rattle.rg_type.specs.Inner.States.{IsReadable};
 
 use crate::env::Env;
+use crate::faults::fault;
 use crate::judged::Judged;
-use crate::lined::fault;
 use crate::operators::Operators;
-use crate::values::{is_nil, value};
+use path::{is_nil, path};
 use rg_base::{Code, Stop, Ty};
-use rg_names::Classes;
+use rg_names::{Book, Classes};
 use rg_rules::below;
 use rg_tree::{BinOp, ExprRow, Program};
 
@@ -43,7 +46,8 @@ pub fn judge_expr(
     ensures known { IfOk result (λ j. IsKnown (program_of program.now).classes j.ty) }
 {
     let mut env = env;
-    match expression(&mut env, program, classes, e, wanted) {
+    let book = Book::new(program, classes);
+    match expression(&mut env, &book, e, wanted) {
         Ok(ty) => Ok(Judged { ty, env }),
         Err(code) => Err(fault(code, line)),
     }
@@ -51,49 +55,40 @@ pub fn judge_expr(
 
 /// The type of an expression, of which a type may be expected.
 #[cycle(expression)]
-pub fn expression(
-    env: &mut Env,
-    program: &Program,
-    classes: &Classes,
-    e: u32,
-    wanted: Option<Ty>,
-) -> Result<Ty, Code>
-    requires table { IsTableOf program.now classes.now }
-    requires expression { IsExprNumber program.now e }
-    requires scope { IsScopeIn program.now env.old }
-    requires wanted { IfSome wanted (IsKnown (program_of program.now).classes) }
-    ensures judged { let t = program.now in
+pub fn expression(env: &mut Env, book: &Book, e: u32, wanted: Option<Ty>) -> Result<Ty, Code>
+    requires expression { IsExprNumber book.now.program e }
+    requires scope { IsReadable book.now.program env.old }
+    requires wanted { IfSome wanted (IsKnown (program_of book.now.program).classes) }
+    ensures judged { let t = book.now.program in
         TypedAs (rules.judge_expr (program_of t).classes (env_of t env.old) wanted
         (expr_at t e)) (env_of t env.new) result }
-    ensures scope { OnOk result (IsScopeIn program.now env.new) }
-    ensures known { IfOk result (IsKnown (program_of program.now).classes) }
+    ensures scope { OnOk result (IsReadable book.now.program env.new) }
+    ensures known { IfOk result (IsKnown (program_of book.now.program).classes) }
 {
-    match program.expr(e) {
+    match book.expr(e) {
         ExprRow::Int(_) => against(wanted, Ty::Int),
         ExprRow::Bool(_) => against(wanted, Ty::Bool),
         ExprRow::Nil => {
             let ty = nil_type(wanted)?;
             against(wanted, ty)
         },
-        ExprRow::Path(path) => {
-            let ty = value(env, program, classes, path)?;
+        ExprRow::Path(read) => {
+            let ty = path(env, book, read)?;
             against(wanted, ty)
         },
-        ExprRow::IsNil(path) => {
-            is_nil(env, program, classes, path)?;
+        ExprRow::IsNil(read) => {
+            is_nil(env, book, read)?;
             against(wanted, Ty::Bool)
         },
         ExprRow::Neg(a) => {
-            expression(env, program, classes, a, Some(Ty::Int))?;
+            expression(env, book, a, Some(Ty::Int))?;
             against(wanted, Ty::Int)
         },
         ExprRow::Not(a) => {
-            expression(env, program, classes, a, Some(Ty::Bool))?;
+            expression(env, book, a, Some(Ty::Bool))?;
             against(wanted, Ty::Bool)
         },
-        ExprRow::Binary { op, left, right } => {
-            operation(env, program, classes, op, left, right, wanted)
-        },
+        ExprRow::Binary { op, left, right } => { operation(env, book, op, left, right, wanted) },
     }
 }
 
@@ -101,27 +96,25 @@ pub fn expression(
 #[cycle(expression)]
 fn operation(
     env: &mut Env,
-    program: &Program,
-    classes: &Classes,
+    book: &Book,
     op: BinOp,
     left: u32,
     right: u32,
     wanted: Option<Ty>,
 ) -> Result<Ty, Code>
-    requires table { IsTableOf program.now classes.now }
-    requires left { IsExprNumber program.now left }
-    requires right { IsExprNumber program.now right }
-    requires scope { IsScopeIn program.now env.old }
-    ensures judged { let t = program.now in
+    requires left { IsExprNumber book.now.program left }
+    requires right { IsExprNumber book.now.program right }
+    requires scope { IsReadable book.now.program env.old }
+    ensures judged { let t = book.now.program in
         TypedAs (rules.judge_expr (program_of t).classes (env_of t env.old) wanted
         (binary op (expr_at t left) (expr_at t right))) (env_of t env.new) result }
-    ensures scope { OnOk result (IsScopeIn program.now env.new) }
-    ensures known { IfOk result (IsKnown (program_of program.now).classes) }
+    ensures scope { OnOk result (IsReadable book.now.program env.new) }
+    ensures known { IfOk result (IsKnown (program_of book.now.program).classes) }
 {
     let operators = Operators::among(op);
     let operand = operators.operand_type();
-    let first = expression(env, program, classes, left, operand)?;
-    let second = expression(env, program, classes, right, operand)?;
+    let first = expression(env, book, left, operand)?;
+    let second = expression(env, book, right, operand)?;
     if !operators.agree(first, second) {
         return Err(Code::Mismatch);
     }

@@ -1,4 +1,4 @@
-//! What a judgement of an expression gives.
+//! What a judgement of an expression gives (docs/language.md, "Judgements").
 
 use crate::env::Env;
 use rg_base::Ty;

@@ -1,28 +1,18 @@
 //! The judgements: what an expression's type is, and which variables may be used behind a statement
-//! (docs/language.md, "Judgements").
+//! (docs/language.md, "Judgements"). An `Env` holds the visible variables; `judge_expr` and
+//! `judge_stmt` take one and give the next, or the first fault, exactly as the rules of `rg_rules`
+//! do of the same tree.
 #![tactic(auto)]
 
-mod assign;
-mod enter;
 mod env;
 mod expressions;
-mod followed;
-mod found;
+mod faults;
 mod judged;
-mod kinds;
-mod lined;
-mod looked;
 mod operators;
 mod paths;
-mod places;
 mod rights;
-mod saved;
-mod simple;
-mod state;
 mod statements;
-mod values;
-mod var;
-mod variables;
+mod types;
 
 pub use env::Env;
 pub use expressions::judge_expr;

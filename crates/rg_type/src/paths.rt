@@ -8,72 +8,73 @@ ghost use Rattle.rg_tree.specs.Rows.RowsExist.{IsNameIn, IsPathIn};
 ghost use Rattle.rg_rules.specs.Capabilities as tables;
 ghost use Rattle.rg_rules.specs.Paths as rules;
 ghost use Rattle.rg_rules.specs.Statements as statements;
-ghost use Rattle.rg_names.specs.TableOf.{IsTableOf};
 ghost use Rattle.rg_names.specs.TreeAnswers.{IsKnown};
-ghost use Rattle.rg_type.specs.Scope.{env_of, variable_of, IsScopeIn};
+ghost use Rattle.rg_type.specs.Scope.{env_of, variable_of};
+ghost use Rattle.rg_type.specs.Inner.States.{IsReadable};
 ghost use Rattle.rg_type.specs.Inner.Walks.{followed_of, looked_of};
 
-use crate::env::Env;
-use crate::followed::Followed;
-use crate::found::Found;
-use crate::looked::Looked;
+use crate::env::{Env, Found};
 use rg_base::{Cap, Code, Ty};
-use rg_names::Classes;
+use rg_names::Book;
 use rg_rules::adapt;
-use rg_tree::{Path, Program};
+use rg_tree::Path;
+
+/// A reference: what it permits, and the class that it leads to.
+#[derive(Clone, Copy, Debug, PartialEq, Eq)]
+pub struct Followed {
+    pub cap: Cap,
+    pub class: u32,
+}
+
+/// A field: what its receiver permits, and its declared type.
+#[derive(Clone, Copy, Debug, PartialEq, Eq)]
+pub struct Looked {
+    pub receiver: Cap,
+    pub ty: Ty,
+}
 
 /// The type behind a path.
-pub fn walk(env: &Env, program: &Program, classes: &Classes, path: Path) -> Result<Ty, Code>
-    requires table { IsTableOf program.now classes.now }
-    requires path { IsPathIn program.now path }
-    requires scope { IsScopeIn program.now env.now }
-    ensures judged { let t = program.now in let p = path_of t path in
+pub fn walk(env: &Env, book: &Book, path: Path) -> Result<Ty, Code>
+    requires path { IsPathIn book.now.program path }
+    requires scope { IsReadable book.now.program env.now }
+    ensures judged { let t = book.now.program in let p = path_of t path in
         result ≡ rules.walk (program_of t).classes (env_of t env.now) p.base p.fields }
-    ensures known { IfOk result (IsKnown (program_of program.now).classes) }
+    ensures known { IfOk result (IsKnown (program_of book.now.program).classes) }
 {
     let found = env.find(path.base)?;
     let ty = seen(env, &found);
-    walk_fields(program, classes, ty, program.order(path.fields))
+    walk_fields(book, ty, book.order(path.fields))
 }
 
 /// The type of the field at the end of a path, which may be written.
-pub fn target(env: &Env, program: &Program, classes: &Classes, path: Path) -> Result<Ty, Code>
-    requires table { IsTableOf program.now classes.now }
-    requires path { IsPathIn program.now path }
-    requires scope { IsScopeIn program.now env.now }
-    ensures judged { let t = program.now in let p = path_of t path in
+pub fn target(env: &Env, book: &Book, path: Path) -> Result<Ty, Code>
+    requires path { IsPathIn book.now.program path }
+    requires scope { IsReadable book.now.program env.now }
+    ensures judged { let t = book.now.program in let p = path_of t path in
         result ≡ statements.swapped_field (program_of t).classes (env_of t env.now)
         p.base p.fields }
-    ensures known { IfOk result (IsKnown (program_of program.now).classes) }
+    ensures known { IfOk result (IsKnown (program_of book.now.program).classes) }
 {
-    let Some((last, front)) = program.order(path.fields).split_last() else {
+    let Some((last, front)) = book.order(path.fields).split_last() else {
         return Err(Code::Mismatch);
     };
-    writable(env, program, classes, path.base, front, *last)
+    writable(env, book, path.base, front, *last)
 }
 
 // The type of a field at the end of a path, of which the fields in front of the last are given.
-fn writable(
-    env: &Env,
-    program: &Program,
-    classes: &Classes,
-    base: Option<u32>,
-    front: &[u32],
-    last: u32,
-) -> Result<Ty, Code>
-    requires table { IsTableOf program.now classes.now }
-    requires base { IfSome base (IsNameIn program.now) }
-    requires fields { All (IsNameIn program.now) front.now × IsNameIn program.now last }
-    requires scope { IsScopeIn program.now env.now }
-    ensures judged { let t = program.now in
+fn writable(env: &Env, book: &Book, base: Option<u32>, front: &[u32], last: u32) -> Result<Ty, Code>
+    requires base { IfSome base (IsNameIn book.now.program) }
+    requires fields { All (IsNameIn book.now.program) front.now × IsNameIn book.now.program last }
+    requires scope { IsReadable book.now.program env.now }
+    ensures judged { let t = book.now.program in
         result ≡ statements.swapped_field (program_of t).classes (env_of t env.now)
         (variable_of t base)
         (map (name_at t) front.now ++ name_at t last ∷ []) }
-    ensures known { IfOk result (IsKnown (program_of program.now).classes) }
+    ensures known { IfOk result (IsKnown (program_of book.now.program).classes) }
 {
     let found = env.find(base)?;
-    let ty = walk_fields(program, classes, seen(env, &found), front)?;
-    let field = look_up(program, classes, ty, last)?;
+    let ty = walk_fields(book, seen(env, &found), front)?;
+    let field = look_up(book, ty, last)?;
     if !may_write(field.receiver) {
         return Err(Code::Capability);
     }
@@ -90,45 +91,42 @@ pub fn seen(env: &Env, found: &Found) -> Ty
 }
 
 // The type behind fields in order.
-fn walk_fields(program: &Program, classes: &Classes, ty: Ty, fields: &[u32]) -> Result<Ty, Code>
-    requires table { IsTableOf program.now classes.now }
-    requires known { IsKnown (program_of program.now).classes ty }
-    requires fields { All (IsNameIn program.now) fields.now }
-    ensures judged { let t = program.now in
+fn walk_fields(book: &Book, ty: Ty, fields: &[u32]) -> Result<Ty, Code>
+    requires known { IsKnown (program_of book.now.program).classes ty }
+    requires fields { All (IsNameIn book.now.program) fields.now }
+    ensures judged { let t = book.now.program in
         result ≡ rules.walk_fields (program_of t).classes ty (map (name_at t) fields.now) }
-    ensures known { IfOk result (IsKnown (program_of program.now).classes) }
+    ensures known { IfOk result (IsKnown (program_of book.now.program).classes) }
 {
     let mut ty = ty;
     for field in fields {
-        ty = walk_field(program, classes, ty, *field)?;
+        ty = walk_field(book, ty, *field)?;
     }
     Ok(ty)
 }
 
 // The type behind one more field.
-fn walk_field(program: &Program, classes: &Classes, ty: Ty, field: u32) -> Result<Ty, Code>
-    requires table { IsTableOf program.now classes.now }
-    requires known { IsKnown (program_of program.now).classes ty }
-    requires field { IsNameIn program.now field }
-    ensures judged { let t = program.now in
+fn walk_field(book: &Book, ty: Ty, field: u32) -> Result<Ty, Code>
+    requires known { IsKnown (program_of book.now.program).classes ty }
+    requires field { IsNameIn book.now.program field }
+    ensures judged { let t = book.now.program in
         result ≡ rules.walk_field (program_of t).classes ty (name_at t field) }
-    ensures known { IfOk result (IsKnown (program_of program.now).classes) }
+    ensures known { IfOk result (IsKnown (program_of book.now.program).classes) }
 {
-    let field = look_up(program, classes, ty, field)?;
+    let field = look_up(book, ty, field)?;
     read_through(field.receiver, field.ty)
 }
 
 // The field of a name behind a type that can be followed.
-fn look_up(program: &Program, classes: &Classes, ty: Ty, field: u32) -> Result<Looked, Code>
-    requires table { IsTableOf program.now classes.now }
-    requires known { IsKnown (program_of program.now).classes ty }
-    requires field { IsNameIn program.now field }
-    ensures judged { let t = program.now in
+fn look_up(book: &Book, ty: Ty, field: u32) -> Result<Looked, Code>
+    requires known { IsKnown (program_of book.now.program).classes ty }
+    requires field { IsNameIn book.now.program field }
+    ensures judged { let t = book.now.program in
         looked_of result ≡ rules.look_up (program_of t).classes ty (name_at t field) }
-    ensures known { IfOk result (λ l. IsKnown (program_of program.now).classes l.ty) }
+    ensures known { IfOk result (λ l. IsKnown (program_of book.now.program).classes l.ty) }
 {
     let followed = follow(ty)?;
-    match classes.field(followed.class, field) {
+    match book.field(followed.class, field) {
         Some(found) => Ok(Looked {
             receiver: followed.cap,
             ty: found.ty,

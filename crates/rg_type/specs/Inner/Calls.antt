@@ -1,5 +1,5 @@
 -- The method that a call finds, by the rules and by the class table (docs/language.md, "Judgements").
-use Rattle.std.specs.Prelude.{◌≡◌, ℕ, ◌<◌, List, length, map, All, IfSome, ok_or, Result, Ok, Err}
+use Rattle.std.specs.Prelude.{◌≡◌, ℕ, List, length, map, IfSome, ok_or, Result, Ok, Err}
 use Rattle.rg_base.specs.declared.fault.Code.{Code}
 use Rattle.rg_base.specs.declared.fault.Code.TheVariants.{Unknown, Capability}
 use Rattle.rg_base.specs.declared.ty.Ty.{Ty}
@@ -10,10 +10,10 @@ use Rattle.rg_tree.specs.Rows.RowTrees.{param_at, program_of}
 use Rattle.rg_tree.specs.Rows.RowsExist.{IsSpanBelow}
 use Rattle.rg_rules.specs.Answers.{◌>>=◌, ◌>>◌, test, Answer}
 use Rattle.rg_rules.specs.Capabilities.{below}
-use Rattle.rg_rules.specs.Types.{type_of, good_type, method_named, method_result}
+use Rattle.rg_rules.specs.Types.{type_of, method_named, method_result}
 use Rattle.rg_rules.specs.Paths.{Followed, follow}
 use Rattle.rg_names.specs.declared.entry.Sig.{Sig}
-use Rattle.rg_names.specs.TreeAnswers.{IsKnown}
+use Rattle.rg_names.specs.TreeAnswers.{IsKnown, HasGoodParams}
 
 -- the class that a receiver leads to, or the code why it can't be followed
 abbrev pub LeadsAs : Answer Followed → Result ℕ Code → Type 0
@@ -32,15 +32,10 @@ method_behind classes t x = do
 abbrev pub param_type : Tables → ℕ → Ty
 param_type t k = type_of (program_of t).classes (param_at t k).ty
 
--- the parameter of a number is there, and its type is good
-pub record IsParamNumber (t : Tables) (k : ℕ) : Type 0 where
-  pub within : k < length t.params
-  pub good : good_type (program_of t).classes (param_at t k).ty ≡ Ok (param_type t k)
-
 -- the parameters and the result are those of the method
 pub record IsSigOf (t : Tables) (m : Method) (s : Sig) : Type 0 where
   pub span : IsSpanBelow t (length t.params) s.params
-  pub each : All (IsParamNumber t) (numbers_in t s.params)
+  pub each : HasGoodParams t s
   pub params : map (param_at t) (numbers_in t s.params) ≡ m.params
   pub result : method_result (program_of t).classes m ≡ s.result
   pub known : IfSome s.result (IsKnown (program_of t).classes)

@@ -6,8 +6,8 @@ use Rattle.rg_flow.specs.declared.flow.Flow.{Flow}
 use Rattle.rg_flow.specs.Flows.{state_of}
 use Rattle.rg_type.specs.Scope.{Slot, Scope, same_name}
 use Rattle.rg_type.specs.Inner.States.{readiness_of}
-use Rattle.rg_type.specs.declared.found.Found.{Found}
-use Rattle.rg_type.specs.declared.var.Var.{Var}
+use Rattle.rg_type.specs.declared.env.found.Found.{Found}
+use Rattle.rg_type.specs.declared.env.var.Var.{Var}
 
 -- the variables from a place on, with their states
 abbrev pub slots_from : Flow → ℕ → List Var → List Slot

@@ -2,18 +2,23 @@
 use Rattle.std.specs.Prelude.{◌≡◌, ℕ, zero, suc, ◌≤◌, IsTrue, if◌then◌else◌, List, [], ◌∷◌, length, Option, Some, None, ok_or, Result, Ok, Err, IfOk}
 use Rattle.rg_base.specs.declared.fault.Code.{Code}
 use Rattle.rg_base.specs.declared.fault.Code.TheVariants.{Unknown}
-use Rattle.rg_tree.specs.Rows.Tables.{Tables}
+use Rattle.rg_tree.specs.Rows.Tables.{Tables, AreDistinct}
 use Rattle.rg_tree.specs.Rows.RowTrees.{program_of}
 use Rattle.rg_rules.specs.Answers.{Answer}
 use Rattle.rg_rules.specs.Environment.{Readiness, ready, gone, lent, Entry, joined_readiness, is_ready, entry_of}
 use Rattle.rg_flow.specs.declared.flow.Flow.{Flow}
 use Rattle.rg_flow.specs.Flows.{state_of}
 use Rattle.rg_names.specs.TreeAnswers.{IsKnown}
-use Rattle.rg_type.specs.Scope.{Slot, Scope, same_name, variable_of, env_of}
-use Rattle.rg_type.specs.declared.state.State.{State}
-use Rattle.rg_type.specs.declared.state.State.TheVariants.{Ready, Gone, Lent}
-use Rattle.rg_type.specs.declared.found.Found.{Found}
-use Rattle.rg_type.specs.declared.saved.Saved.{Saved}
+use Rattle.rg_type.specs.Scope.{Slot, Scope, same_name, variable_of, env_of, IsScopeIn}
+use Rattle.rg_type.specs.declared.env.states.State.{State}
+use Rattle.rg_type.specs.declared.env.states.State.TheVariants.{Ready, Gone, Lent}
+use Rattle.rg_type.specs.declared.env.found.Found.{Found}
+use Rattle.rg_type.specs.declared.env.saved.Saved.{Saved}
+
+-- the variables can be looked up by their names: no two numbers stand for one name, and the numbers of each variable name names and classes
+pub record IsReadable (t : Tables) (scope : Scope) : Type 0 where
+  pub names : AreDistinct t.names
+  pub slots : IsScopeIn t scope
 
 -- the state that the rules have
 abbrev pub readiness_of : State → Readiness

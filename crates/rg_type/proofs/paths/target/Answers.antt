@@ -6,6 +6,6 @@ use Rattle.rg_type.proofs.paths.target.Goals as goal
 
 pub writable-requires-clause-fields : goal.writable-requires-clause-fields
 writable-requires-clause-fields c =
-    let e : numbers_in c.args.program.now c.args.path.fields ≡ c.in-Some.front.now ++ c.in-Some.last.now ∷ [] =
+    let e : numbers_in c.args.book.now.program c.args.path.fields ≡ c.in-Some.front.now ++ c.in-Some.last.now ∷ [] =
     sym c.order.ensures ∙ c.in-Some.ensures.cases.0 in
-    All-pop (IsNameIn c.args.program.now) _ c.in-Some.front.now (Some c.in-Some.last.now) e c.requires.path.fields.each
+    All-pop (IsNameIn c.args.book.now.program) _ c.in-Some.front.now (Some c.in-Some.last.now) e c.requires.path.fields.each

@@ -2,16 +2,16 @@ use Rattle.rg_type.specs.Scope.{env_of}
 use Rattle.rg_type.proofs.rights.right_side.Goals as goal
 
 pub returns-in-New-clause-judged : goal.returns-in-New-clause-judged
-returns-in-New-clause-judged c = rw c.in-New.is (c.fresh.ensures.judged (env_of c.args.program.now c.args.env.now))
+returns-in-New-clause-judged c = rw c.in-New.is (c.new.ensures.judged (env_of c.args.book.now.program c.args.env.now))
 
 pub returns-in-NewTmp-clause-judged : goal.returns-in-NewTmp-clause-judged
-returns-in-NewTmp-clause-judged c = rw c.in-NewTmp.is (c.fresh-in-NewTmp.ensures.judged (env_of c.args.program.now c.args.env.now))
+returns-in-NewTmp-clause-judged c = rw c.in-NewTmp.is (c.new-in-NewTmp.ensures.judged (env_of c.args.book.now.program c.args.env.now))
 
 pub returns-in-NewIso-clause-judged : goal.returns-in-NewIso-clause-judged
-returns-in-NewIso-clause-judged c = rw c.in-NewIso.is (c.fresh-in-NewIso.ensures.judged (env_of c.args.program.now c.args.env.now))
+returns-in-NewIso-clause-judged c = rw c.in-NewIso.is (c.new-in-NewIso.ensures.judged (env_of c.args.book.now.program c.args.env.now))
 
 pub returns-in-Read-clause-judged : goal.returns-in-Read-clause-judged
-returns-in-Read-clause-judged c = rw c.in-Read.is (c.against.ensures.judged (env_of c.args.program.now c.args.env.now))
+returns-in-Read-clause-judged c = rw c.in-Read.is (c.against.ensures.judged (env_of c.args.book.now.program c.args.env.now))
 
 pub returns-in-More-clause-judged : goal.returns-in-More-clause-judged
-returns-in-More-clause-judged c = rw c.in-More.is (c.against-in-More.ensures.judged (env_of c.args.program.now c.args.env.now))
+returns-in-More-clause-judged c = rw c.in-More.is (c.against-in-More.ensures.judged (env_of c.args.book.now.program c.args.env.now))

@@ -3,9 +3,9 @@ use Rattle.std.proofs.lemmas.List.Elements.{All-get_or}
 use Rattle.std.proofs.lemmas.Result.{err_from_is_err_and}
 use Rattle.rg_tree.specs.Rows.Tables.{numbers_in}
 use Rattle.rg_tree.proofs.Callers.{above, below-above}
-use Rattle.rg_type.specs.Scope.{IsScopeIn}
+use Rattle.rg_type.specs.Inner.States.{IsReadable}
 use Rattle.rg_type.proofs.Spans.{IsBlockIn-below, above-below, IsBlockIn-below_some, above_some-below}
-use Rattle.rg_type.proofs.ScopeSteps.{IsScopeIn-closed_at, IsScopeIn-restated, IsScopeIn-joined_with}
+use Rattle.rg_type.proofs.ScopeSteps.{IsReadable-closed_at, IsReadable-restated, IsReadable-joined_with}
 use Rattle.rg_type.proofs.BlockSteps.{OnOk-inner, block-room, block-step}
 use Rattle.rg_type.proofs.Branches.{saved-past}
 use Rattle.rg_type.proofs.RowRules.{tested-room, entered-room, block-within, else-within, block-closed, block-again, if-fails-test, if-fails-first, if-fails-other, if-leaves, while-fails-at-test, while-fails-within, loop-within, loop-closed, while-uncovered, while-leaves, enter-fails-at-head, enter-fails-within, window-within, enter-leaves}
@@ -13,133 +13,133 @@ use Rattle.rg_type.proofs.statements.+statement.Goals as goal
 
 pub block-statement-requires : goal.block-statement-requires
 block-statement-requires t c =
-    let l : c.loop-s.s-index < length (numbers_in c.args.program.now c.args.span) = rw c.order-s-items.ensures at c.loop-s-test.true in
+    let l : c.loop-s.s-index < length (numbers_in c.args.book.now.program c.args.span) = rw c.order-s-items.ensures at c.loop-s-test.true in
     let d = c.decreases in
     let b = below-above _ _ l in
-    let e = All-get_or (λ k. k < length c.args.program.now.stmts) _ c.loop-s.s-index 0 l c.requires.span.each in
-    let r = block-room c.args.program.now c.args.span c.args.env.now c.loop-s.env c.order-s-items.result.now c.loop-s.s-index
+    let e = All-get_or (λ k. k < length c.args.book.now.program.stmts) _ c.loop-s.s-index 0 l c.requires.span.each in
+    let r = block-room c.args.book.now.program c.args.span c.args.env.now c.loop-s.env c.order-s-items.result.now c.loop-s.s-index
     c.loop-s-test.true c.loop-s.invariant in
-    let m : get_or c.order-s-items.result.now c.loop-s.s-index 0 < length c.args.program.now.stmts = rw c.order-s-items.ensures e in
-    let f : get_or c.order-s-items.result.now c.loop-s.s-index 0 < above (numbers_in c.args.program.now c.args.span) =
+    let m : get_or c.order-s-items.result.now c.loop-s.s-index 0 < length c.args.book.now.program.stmts = rw c.order-s-items.ensures e in
+    let f : get_or c.order-s-items.result.now c.loop-s.s-index 0 < above (numbers_in c.args.book.now.program c.args.span) =
     rw c.order-s-items.ensures b in
-    (omega (arith, d, f), (c.requires.table, (m, (c.loop-s.invariant.scope, (tt, r)))))
+    (omega (arith, d, f), ((m, (c.loop-s.invariant.scope, (tt, r)))))
 
 pub block-loop-s-preserved : goal.block-loop-s-preserved
 block-loop-s-preserved t c =
-    block-step c.args.program.now c.args.span c.args.env.now c.loop-s.env c.statement.new.env c.order-s-items.result.now c.loop-s.s-index
+    block-step c.args.book.now.program c.args.span c.args.env.now c.loop-s.env c.statement.new.env c.order-s-items.result.now c.loop-s.s-index
     c.loop-s-test.true c.loop-s.invariant c.in_ok-statement.ensures.judged c.in_ok-statement.ensures.scope
 
-pub choose-returns-in_err-tested-clause-judged : goal.choose-returns-in_err-tested-clause-judged
-choose-returns-in_err-tested-clause-judged t c =
+pub branch-returns-in_err-tested-clause-judged : goal.branch-returns-in_err-tested-clause-judged
+branch-returns-in_err-tested-clause-judged t c =
     let r = err_from_is_err_and c.from_residual.result c.from_residual.ensures.1 in
-    rw (r.1, r.2) (if-fails-test c.args.program.now c.args.line c.args.e c.args.yes c.args.no c.args.env.now c.in_err-tested.field-0.0
+    rw (r.1, r.2) (if-fails-test c.args.book.now.program c.args.line c.args.e c.args.yes c.args.no c.args.env.now c.in_err-tested.field-0.0
     c.in_err-tested.ensures.judged)
 
-pub choose-block-requires : goal.choose-block-requires
-choose-block-requires t c =
+pub branch-block-requires : goal.branch-block-requires
+branch-block-requires t c =
     let d = c.decreases in
-    let r = tested-room c.args.program.now c.args.line c.args.e c.args.env.now c.tested.new.env c.in_ok-tested.ensures.judged in
-    (omega (arith, d), (c.requires.table, (c.requires.yes, (c.in_ok-tested.ensures.scope, omega (arith, r, c.requires.room)))))
+    let r = tested-room c.args.book.now.program c.args.line c.args.e c.args.env.now c.tested.new.env c.in_ok-tested.ensures.judged in
+    (omega (arith, d), ((c.requires.yes, (c.in_ok-tested.ensures.scope, omega (arith, r, c.requires.room)))))
 
-pub choose-returns-in_err-block-clause-judged : goal.choose-returns-in_err-block-clause-judged
-choose-returns-in_err-block-clause-judged t c =
+pub branch-returns-in_err-block-clause-judged : goal.branch-returns-in_err-block-clause-judged
+branch-returns-in_err-block-clause-judged t c =
     let r = err_from_is_err_and c.from_residual-in_err-block.result c.from_residual-in_err-block.ensures.1 in
-    rw (r.1, r.2) (if-fails-first c.args.program.now c.args.line c.args.e c.args.yes c.args.no c.args.env.now c.tested.new.env
+    rw (r.1, r.2) (if-fails-first c.args.book.now.program c.args.line c.args.e c.args.yes c.args.no c.args.env.now c.tested.new.env
     c.in_err-block.field-0.0
     c.in_ok-tested.ensures.judged c.in_err-block.ensures.judged)
 
-pub choose-close-requires-clause-within : goal.choose-close-requires-clause-within
-choose-close-requires-clause-within t c =
-    let l = block-within c.args.program.now c.args.yes c.tested.new.env c.block.new.env c.in_ok-block.ensures.judged in omega (
+pub branch-close-requires-clause-within : goal.branch-close-requires-clause-within
+branch-close-requires-clause-within t c =
+    let l = block-within c.args.book.now.program c.args.yes c.tested.new.env c.block.new.env c.in_ok-block.ensures.judged in omega (
       arith,
       l,
       c.save-front.ensures.len,
     )
 
-pub choose-restore-requires : goal.choose-restore-requires
-choose-restore-requires t c =
-    let k = block-closed c.args.program.now c.args.yes c.save-front.result c.tested.new.env c.block.new.env c.close.new.self
+pub branch-restore-requires : goal.branch-restore-requires
+branch-restore-requires t c =
+    let k = block-closed c.args.book.now.program c.args.yes c.save-front.result c.tested.new.env c.block.new.env c.close.new.self
     c.save-front.ensures c.in_ok-block.ensures.judged c.close.ensures in
-    saved-past c.args.program.now c.save-front.result c.tested.new.env c.close.new.self c.save-front.ensures k.len
+    saved-past c.args.book.now.program c.save-front.result c.tested.new.env c.close.new.self c.save-front.ensures k.len
 
-pub choose-otherwise-requires : goal.choose-otherwise-requires
-choose-otherwise-requires t c =
+pub branch-else_block-requires : goal.branch-else_block-requires
+branch-else_block-requires t c =
     let d = c.decreases in
-    let a = block-again c.args.program.now c.args.yes c.save-front.result c.tested.new.env c.block.new.env c.close.new.self c.restore.new.self
+    let a = block-again c.args.book.now.program c.args.yes c.save-front.result c.tested.new.env c.block.new.env c.close.new.self c.restore.new.self
     c.save-front.ensures c.in_ok-block.ensures.judged c.close.ensures c.restore.ensures in
-    let w : IsScopeIn c.args.program.now c.close.new.self =
-    rw c.close.ensures (IsScopeIn-closed_at c.args.program.now c.save-front.result.depth c.save-front.result.len c.block.new.env
+    let w : IsReadable c.args.book.now.program c.close.new.self =
+    rw c.close.ensures (IsReadable-closed_at c.args.book.now.program c.save-front.result.depth c.save-front.result.len c.block.new.env
     c.in_ok-block.ensures.scope) in
-    let v : IsScopeIn c.args.program.now c.restore.new.self =
-    rw c.restore.ensures (IsScopeIn-restated c.args.program.now c.save-front.result.flow c.close.new.self w) in
-    let r = tested-room c.args.program.now c.args.line c.args.e c.args.env.now c.tested.new.env c.in_ok-tested.ensures.judged in
-    (omega (arith, d), (c.requires.table, (c.requires.no, (v, omega (arith, r, a.len, c.requires.room)))))
+    let v : IsReadable c.args.book.now.program c.restore.new.self =
+    rw c.restore.ensures (IsReadable-restated c.args.book.now.program c.save-front.result.flow c.close.new.self w) in
+    let r = tested-room c.args.book.now.program c.args.line c.args.e c.args.env.now c.tested.new.env c.in_ok-tested.ensures.judged in
+    (omega (arith, d), ((c.requires.no, (v, omega (arith, r, a.len, c.requires.room)))))
 
-pub choose-returns-in_err-otherwise-clause-judged : goal.choose-returns-in_err-otherwise-clause-judged
-choose-returns-in_err-otherwise-clause-judged t c =
-    let a = block-again c.args.program.now c.args.yes c.save-front.result c.tested.new.env c.block.new.env c.close.new.self c.restore.new.self
+pub branch-returns-in_err-else_block-clause-judged : goal.branch-returns-in_err-else_block-clause-judged
+branch-returns-in_err-else_block-clause-judged t c =
+    let a = block-again c.args.book.now.program c.args.yes c.save-front.result c.tested.new.env c.block.new.env c.close.new.self c.restore.new.self
     c.save-front.ensures c.in_ok-block.ensures.judged c.close.ensures c.restore.ensures in
-    let r = err_from_is_err_and c.from_residual-in_err-otherwise.result c.from_residual-in_err-otherwise.ensures.1 in
-    rw (r.1, r.2) (if-fails-other c.args.program.now c.args.line c.args.e c.args.yes c.args.no c.args.env.now c.tested.new.env c.block.new.env
+    let r = err_from_is_err_and c.from_residual-in_err-else_block.result c.from_residual-in_err-else_block.ensures.1 in
+    rw (r.1, r.2) (if-fails-other c.args.book.now.program c.args.line c.args.e c.args.yes c.args.no c.args.env.now c.tested.new.env c.block.new.env
     c.restore.new.self
-    c.in_err-otherwise.field-0.0 c.in_ok-tested.ensures.judged c.in_ok-block.ensures.judged a c.in_err-otherwise.ensures.judged)
+    c.in_err-else_block.field-0.0 c.in_ok-tested.ensures.judged c.in_ok-block.ensures.judged a c.in_err-else_block.ensures.judged)
 
-pub choose-close-requires-2-clause-within : goal.choose-close-requires-2-clause-within
-choose-close-requires-2-clause-within t c =
-    let a = block-again c.args.program.now c.args.yes c.save-front.result c.tested.new.env c.block.new.env c.close.new.self c.restore.new.self
+pub branch-close-requires-2-clause-within : goal.branch-close-requires-2-clause-within
+branch-close-requires-2-clause-within t c =
+    let a = block-again c.args.book.now.program c.args.yes c.save-front.result c.tested.new.env c.block.new.env c.close.new.self c.restore.new.self
     c.save-front.ensures c.in_ok-block.ensures.judged c.close.ensures c.restore.ensures in
-    let l = else-within c.args.program.now c.args.no c.restore.new.self c.otherwise.new.env c.in_ok-otherwise.ensures.judged in
+    let l = else-within c.args.book.now.program c.args.no c.restore.new.self c.else_block.new.env c.in_ok-else_block.ensures.judged in
     omega (arith, l, a.len, c.save-front.ensures.len)
 
-pub choose-returns-clause-judged : goal.choose-returns-clause-judged
-choose-returns-clause-judged t c =
-    if-leaves c.args.program.now c.args.line c.args.e c.args.yes c.args.no c.args.env.now c.tested.new.env c.block.new.env c.close.new.self
+pub branch-returns-clause-judged : goal.branch-returns-clause-judged
+branch-returns-clause-judged t c =
+    if-leaves c.args.book.now.program c.args.line c.args.e c.args.yes c.args.no c.args.env.now c.tested.new.env c.block.new.env c.close.new.self
     c.restore.new.self
-    c.otherwise.new.env c.close-2.new.self c.join.new.self c.save-front.result c.save-first.result c.in_ok-tested.ensures.judged (record {
+    c.else_block.new.env c.close-2.new.self c.join.new.self c.save-front.result c.save-first.result c.in_ok-tested.ensures.judged (record {
       saved_is = c.save-front.ensures;
       out_is = c.in_ok-block.ensures.judged;
       here_is = c.close.ensures;
       first_is = c.save-first.ensures;
       again_is = c.restore.ensures;
-      other_is = c.in_ok-otherwise.ensures.judged;
+      other_is = c.in_ok-else_block.ensures.judged;
       last_is = c.close-2.ensures;
       new_is = c.join.ensures;
     })
 
-pub choose-returns-clause-scope : goal.choose-returns-clause-scope
-choose-returns-clause-scope t c =
-    let w : IsScopeIn c.args.program.now c.close-2.new.self =
-    rw c.close-2.ensures (IsScopeIn-closed_at c.args.program.now c.save-front.result.depth c.save-front.result.len c.otherwise.new.env
-    c.in_ok-otherwise.ensures.scope) in
-    rw c.join.ensures (IsScopeIn-joined_with c.args.program.now c.save-first.result.flow c.close-2.new.self w)
+pub branch-returns-clause-scope : goal.branch-returns-clause-scope
+branch-returns-clause-scope t c =
+    let w : IsReadable c.args.book.now.program c.close-2.new.self =
+    rw c.close-2.ensures (IsReadable-closed_at c.args.book.now.program c.save-front.result.depth c.save-front.result.len c.else_block.new.env
+    c.in_ok-else_block.ensures.scope) in
+    rw c.join.ensures (IsReadable-joined_with c.args.book.now.program c.save-first.result.flow c.close-2.new.self w)
 
-pub repeat-returns-in_err-tested-clause-judged : goal.repeat-returns-in_err-tested-clause-judged
-repeat-returns-in_err-tested-clause-judged t c =
+pub while_-returns-in_err-tested-clause-judged : goal.while_-returns-in_err-tested-clause-judged
+while_-returns-in_err-tested-clause-judged t c =
     let r = err_from_is_err_and c.from_residual.result c.from_residual.ensures.1 in
-    rw (r.1, r.2) (while-fails-at-test c.args.program.now c.args.line c.args.e c.args.body c.args.env.now c.in_err-tested.field-0.0
+    rw (r.1, r.2) (while-fails-at-test c.args.book.now.program c.args.line c.args.e c.args.body c.args.env.now c.in_err-tested.field-0.0
     c.in_err-tested.ensures.judged)
 
-pub repeat-block-requires : goal.repeat-block-requires
-repeat-block-requires t c =
+pub while_-block-requires : goal.while_-block-requires
+while_-block-requires t c =
     let d = c.decreases in
-    let r = tested-room c.args.program.now c.args.line c.args.e c.args.env.now c.tested.new.env c.in_ok-tested.ensures.judged in
-    (omega (arith, d), (c.requires.table, (c.requires.body, (c.in_ok-tested.ensures.scope, omega (arith, r, c.requires.room)))))
+    let r = tested-room c.args.book.now.program c.args.line c.args.e c.args.env.now c.tested.new.env c.in_ok-tested.ensures.judged in
+    (omega (arith, d), ((c.requires.body, (c.in_ok-tested.ensures.scope, omega (arith, r, c.requires.room)))))
 
-pub repeat-returns-in_err-block-clause-judged : goal.repeat-returns-in_err-block-clause-judged
-repeat-returns-in_err-block-clause-judged t c =
+pub while_-returns-in_err-block-clause-judged : goal.while_-returns-in_err-block-clause-judged
+while_-returns-in_err-block-clause-judged t c =
     let r = err_from_is_err_and c.from_residual-in_err-block.result c.from_residual-in_err-block.ensures.1 in
-    rw (r.1, r.2) (while-fails-within c.args.program.now c.args.line c.args.e c.args.body c.args.env.now c.tested.new.env c.in_err-block.field-0.0
+    rw (r.1, r.2) (while-fails-within c.args.book.now.program c.args.line c.args.e c.args.body c.args.env.now c.tested.new.env c.in_err-block.field-0.0
     c.in_ok-tested.ensures.judged c.in_err-block.ensures.judged)
 
-pub repeat-close-requires-clause-within : goal.repeat-close-requires-clause-within
-repeat-close-requires-clause-within t c =
-    let l = loop-within c.args.program.now c.args.line c.args.e c.args.body c.args.env.now c.tested.new.env c.block.new.env
+pub while_-close-requires-clause-within : goal.while_-close-requires-clause-within
+while_-close-requires-clause-within t c =
+    let l = loop-within c.args.book.now.program c.args.line c.args.e c.args.body c.args.env.now c.tested.new.env c.block.new.env
     c.in_ok-tested.ensures.judged c.in_ok-block.ensures.judged in
     omega (arith, l, c.save-head.ensures.len)
 
-pub repeat-returns-then-not-covers-clause-judged : goal.repeat-returns-then-not-covers-clause-judged
-repeat-returns-then-not-covers-clause-judged t c =
-    while-uncovered c.args.program.now c.args.line c.args.e c.args.body c.args.env.now c.tested.new.env c.block.new.env c.close.new.self
+pub while_-returns-then-not-covers-clause-judged : goal.while_-returns-then-not-covers-clause-judged
+while_-returns-then-not-covers-clause-judged t c =
+    while-uncovered c.args.book.now.program c.args.line c.args.e c.args.body c.args.env.now c.tested.new.env c.block.new.env c.close.new.self
     c.save-head.result c.covers.result c.fault.result (record {
       saved_is = c.save-head.ensures;
       front_is = c.in_ok-tested.ensures.judged;
@@ -147,20 +147,20 @@ repeat-returns-then-not-covers-clause-judged t c =
       here_is = c.close.ensures;
     }) c.covers.ensures.1 c.if-not-covers.true c.fault.ensures
 
-pub repeat-restore-requires : goal.repeat-restore-requires
-repeat-restore-requires t c =
-    let k = loop-closed c.args.program.now c.args.line c.args.e c.args.body c.args.env.now c.tested.new.env c.block.new.env c.close.new.self
+pub while_-restore-requires : goal.while_-restore-requires
+while_-restore-requires t c =
+    let k = loop-closed c.args.book.now.program c.args.line c.args.e c.args.body c.args.env.now c.tested.new.env c.block.new.env c.close.new.self
     c.save-head.result (record {
       saved_is = c.save-head.ensures;
       front_is = c.in_ok-tested.ensures.judged;
       out_is = c.in_ok-block.ensures.judged;
       here_is = c.close.ensures;
     }) in
-    saved-past c.args.program.now c.save-head.result c.args.env.now c.close.new.self c.save-head.ensures k.len
+    saved-past c.args.book.now.program c.save-head.result c.args.env.now c.close.new.self c.save-head.ensures k.len
 
-pub repeat-returns-clause-judged : goal.repeat-returns-clause-judged
-repeat-returns-clause-judged t c =
-    while-leaves c.args.program.now c.args.line c.args.e c.args.body c.args.env.now c.tested.new.env c.block.new.env c.close.new.self
+pub while_-returns-clause-judged : goal.while_-returns-clause-judged
+while_-returns-clause-judged t c =
+    while-leaves c.args.book.now.program c.args.line c.args.e c.args.body c.args.env.now c.tested.new.env c.block.new.env c.close.new.self
     c.restore.new.self
     c.save-head.result (record {
       saved_is = c.save-head.ensures;
@@ -169,15 +169,15 @@ repeat-returns-clause-judged t c =
       here_is = c.close.ensures;
     }) (c.covers.ensures.0 c.if-not-covers.false) c.restore.ensures
 
-pub repeat-returns-clause-scope : goal.repeat-returns-clause-scope
-repeat-returns-clause-scope t c =
-    let w : IsScopeIn c.args.program.now c.close.new.self =
-    rw c.close.ensures (IsScopeIn-closed_at c.args.program.now c.save-head.result.depth c.save-head.result.len c.block.new.env
+pub while_-returns-clause-scope : goal.while_-returns-clause-scope
+while_-returns-clause-scope t c =
+    let w : IsReadable c.args.book.now.program c.close.new.self =
+    rw c.close.ensures (IsReadable-closed_at c.args.book.now.program c.save-head.result.depth c.save-head.result.len c.block.new.env
     c.in_ok-block.ensures.scope) in
-    rw c.restore.ensures (IsScopeIn-restated c.args.program.now c.save-head.result.flow c.close.new.self w)
+    rw c.restore.ensures (IsReadable-restated c.args.book.now.program c.save-head.result.flow c.close.new.self w)
 
-pub statement-choose-requires : goal.statement-choose-requires
-statement-choose-requires t c =
+pub statement-branch-env-requires : goal.statement-branch-env-requires
+statement-branch-env-requires t c =
     let d = c.decreases in
     let b = rw c.in-If.is at c.stmt-row.ensures.below in
     let r = rw (c.stmt-row.ensures.tree, c.in-If.is) at c.requires.room in
@@ -185,108 +185,102 @@ statement-choose-requires t c =
     let n = above_some-below _ _ c.in-If.no b.2 in (
       omega (arith, d, y, n),
       (
-        c.requires.table,
-        (
-          b.0,
-          (
-            IsBlockIn-below _ _ _ c.requires.statement b.1,
-            (IsBlockIn-below_some _ _ c.in-If.no c.requires.statement b.2, (c.requires.scope, r)),
-          ),
-        ),
+        b.0,
+        (IsBlockIn-below _ _ _ c.requires.statement b.1, (IsBlockIn-below_some _ _ c.in-If.no c.requires.statement b.2, (c.requires.scope, r))),
       ),
     )
 
-pub statement-repeat-requires : goal.statement-repeat-requires
-statement-repeat-requires t c =
+pub statement-while_-requires : goal.statement-while_-requires
+statement-while_-requires t c =
     let d = c.decreases in
     let b = rw c.in-While.is at c.stmt-row.ensures.below in
     let r = rw (c.stmt-row.ensures.tree, c.in-While.is) at c.requires.room in
     let y = above-below _ _ _ b.1 in
-    (omega (arith, d, y), (c.requires.table, (b.0, (IsBlockIn-below _ _ _ c.requires.statement b.1, (c.requires.scope, r)))))
+    (omega (arith, d, y), ((b.0, (IsBlockIn-below _ _ _ c.requires.statement b.1, (c.requires.scope, r)))))
 
-pub statement-within-requires : goal.statement-within-requires
-statement-within-requires t c =
+pub statement-window-requires : goal.statement-window-requires
+statement-window-requires t c =
     let d = c.decreases in
     let b = rw c.in-Enter.is at c.stmt-row.ensures.below in
     let r = rw (c.stmt-row.ensures.tree, c.in-Enter.is) at c.requires.room in
     let y = above-below _ _ _ b.2 in
-    (omega (arith, d, y), (c.requires.table, (b.0, (b.1, (IsBlockIn-below _ _ _ c.requires.statement b.2, (c.requires.scope, r))))))
+    (omega (arith, d, y), ((b.0, (b.1, (IsBlockIn-below _ _ _ c.requires.statement b.2, (c.requires.scope, r))))))
 
 pub statement-returns-in-Set-clause-judged : goal.statement-returns-in-Set-clause-judged
 statement-returns-in-Set-clause-judged t c =
-    rw (c.stmt-row.ensures.tree, c.in-Set.is) (c.at.ensures.judged _ _ c.assign.ensures.judged)
+    rw (c.stmt-row.ensures.tree, c.in-Set.is) (c.at_line.ensures.judged _ _ c.assign.ensures.judged)
 
 pub statement-returns-in-Set-clause-scope : goal.statement-returns-in-Set-clause-scope
 statement-returns-in-Set-clause-scope t c =
-    OnOk-inner _ c.at.result c.assign.result c.at.ensures.ok c.assign.ensures.scope
+    OnOk-inner _ c.at_line.result c.assign.result c.at_line.ensures.ok c.assign.ensures.scope
 
 pub statement-returns-in-Call-clause-judged : goal.statement-returns-in-Call-clause-judged
 statement-returns-in-Call-clause-judged t c =
-    rw (c.stmt-row.ensures.tree, c.in-Call.is) (c.at-in-Call.ensures.judged _ _ c.call_alone.ensures.judged)
+    rw (c.stmt-row.ensures.tree, c.in-Call.is) (c.at_line-in-Call.ensures.judged _ _ c.call_alone.ensures.judged)
 
 pub statement-returns-in-Call-clause-scope : goal.statement-returns-in-Call-clause-scope
 statement-returns-in-Call-clause-scope t c =
-    OnOk-inner _ c.at-in-Call.result c.call_alone.result c.at-in-Call.ensures.ok c.call_alone.ensures.scope
+    OnOk-inner _ c.at_line-in-Call.result c.call_alone.result c.at_line-in-Call.ensures.ok c.call_alone.ensures.scope
 
 pub statement-returns-in-Swap-clause-judged : goal.statement-returns-in-Swap-clause-judged
 statement-returns-in-Swap-clause-judged t c =
-    rw (c.stmt-row.ensures.tree, c.in-Swap.is) (c.at-in-Swap.ensures.judged _ _ c.swap.ensures)
+    rw (c.stmt-row.ensures.tree, c.in-Swap.is) (c.at_line-in-Swap.ensures.judged _ _ c.swap.ensures)
 
 pub statement-returns-in-If-clause-judged : goal.statement-returns-in-If-clause-judged
 statement-returns-in-If-clause-judged t c =
-    rw (c.stmt-row.ensures.tree, c.in-If.is) c.choose.ensures.judged
+    rw (c.stmt-row.ensures.tree, c.in-If.is) c.branch-env.ensures.judged
 
 pub statement-returns-in-While-clause-judged : goal.statement-returns-in-While-clause-judged
 statement-returns-in-While-clause-judged t c =
-    rw (c.stmt-row.ensures.tree, c.in-While.is) c.repeat.ensures.judged
+    rw (c.stmt-row.ensures.tree, c.in-While.is) c.while_.ensures.judged
 
 pub statement-returns-in-Enter-clause-judged : goal.statement-returns-in-Enter-clause-judged
 statement-returns-in-Enter-clause-judged t c =
-    rw (c.stmt-row.ensures.tree, c.in-Enter.is) c.within.ensures.judged
+    rw (c.stmt-row.ensures.tree, c.in-Enter.is) c.window.ensures.judged
 
 pub statement-returns-in-Print-clause-judged : goal.statement-returns-in-Print-clause-judged
 statement-returns-in-Print-clause-judged t c =
-    rw (c.stmt-row.ensures.tree, c.in-Print.is) (c.at-in-Print.ensures.judged _ _ c.print.ensures.judged)
+    rw (c.stmt-row.ensures.tree, c.in-Print.is) (c.at_line-in-Print.ensures.judged _ _ c.print.ensures.judged)
 
 pub statement-returns-in-Print-clause-scope : goal.statement-returns-in-Print-clause-scope
 statement-returns-in-Print-clause-scope t c =
-    OnOk-inner _ c.at-in-Print.result c.print.result c.at-in-Print.ensures.ok c.print.ensures.scope
+    OnOk-inner _ c.at_line-in-Print.result c.print.result c.at_line-in-Print.ensures.ok c.print.ensures.scope
 
 pub statement-returns-in-Return-clause-judged : goal.statement-returns-in-Return-clause-judged
 statement-returns-in-Return-clause-judged t c =
-    rw (c.stmt-row.ensures.tree, c.in-Return.is) (c.at-in-Return.ensures.judged _ _ c.give.ensures.judged)
+    rw (c.stmt-row.ensures.tree, c.in-Return.is) (c.at_line-in-Return.ensures.judged _ _ c.return_.ensures.judged)
 
 pub statement-returns-in-Return-clause-scope : goal.statement-returns-in-Return-clause-scope
 statement-returns-in-Return-clause-scope t c =
-    OnOk-inner _ c.at-in-Return.result c.give.result c.at-in-Return.ensures.ok c.give.ensures.scope
+    OnOk-inner _ c.at_line-in-Return.result c.return_.result c.at_line-in-Return.ensures.ok c.return_.ensures.scope
 
-pub within-returns-in_err-enter-clause-judged : goal.within-returns-in_err-enter-clause-judged
-within-returns-in_err-enter-clause-judged t c =
+pub window-returns-in_err-enter-clause-judged : goal.window-returns-in_err-enter-clause-judged
+window-returns-in_err-enter-clause-judged t c =
     let r = err_from_is_err_and c.from_residual.result c.from_residual.ensures.1 in
-    rw (r.1, r.2) (enter-fails-at-head c.args.program.now c.args.line c.args.path c.args.name c.args.body c.args.env.now c.in_err-enter.field-0.0
+    rw (r.1, r.2) (enter-fails-at-head c.args.book.now.program c.args.line c.args.path c.args.name c.args.body c.args.env.now c.in_err-enter.field-0.0
     c.in_err-enter.ensures.judged)
 
-pub within-block-requires : goal.within-block-requires
-within-block-requires t c =
+pub window-block-requires : goal.window-block-requires
+window-block-requires t c =
     let d = c.decreases in
-    let r = entered-room c.args.program.now c.args.line c.args.path c.args.name c.args.env.now c.enter.new.env c.in_ok-enter.ensures.judged in
-    (omega (arith, d), (c.requires.table, (c.requires.body, (c.in_ok-enter.ensures.scope, omega (arith, r, c.requires.room)))))
+    let r = entered-room c.args.book.now.program c.args.line c.args.path c.args.name c.args.env.now c.enter.new.env c.in_ok-enter.ensures.judged in
+    (omega (arith, d), ((c.requires.body, (c.in_ok-enter.ensures.scope, omega (arith, r, c.requires.room)))))
 
-pub within-returns-in_err-block-clause-judged : goal.within-returns-in_err-block-clause-judged
-within-returns-in_err-block-clause-judged t c =
+pub window-returns-in_err-block-clause-judged : goal.window-returns-in_err-block-clause-judged
+window-returns-in_err-block-clause-judged t c =
     let r = err_from_is_err_and c.from_residual-in_err-block.result c.from_residual-in_err-block.ensures.1 in
-    rw (r.1, r.2) (enter-fails-within c.args.program.now c.args.line c.args.path c.args.name c.args.body c.args.env.now c.enter.new.env
+    rw (r.1, r.2) (enter-fails-within c.args.book.now.program c.args.line c.args.path c.args.name c.args.body c.args.env.now c.enter.new.env
     c.in_err-block.field-0.0
     c.in_ok-enter.ensures.judged c.in_err-block.ensures.judged)
 
-pub within-close-requires-clause-within : goal.within-close-requires-clause-within
-within-close-requires-clause-within t c =
-    let l = window-within c.args.program.now c.args.line c.args.path c.args.name c.args.body c.args.env.now c.enter.new.env c.block.new.env
+pub window-close-requires-clause-within : goal.window-close-requires-clause-within
+window-close-requires-clause-within t c =
+    let l = window-within c.args.book.now.program c.args.line c.args.path c.args.name c.args.body c.args.env.now c.enter.new.env c.block.new.env
     c.in_ok-enter.ensures.judged c.in_ok-block.ensures.judged in
     omega (arith, l, c.save-outside.ensures.len)
 
-pub within-returns-clause-judged : goal.within-returns-clause-judged
-within-returns-clause-judged t c =
-    enter-leaves c.args.program.now c.args.line c.args.path c.args.name c.args.body c.args.env.now c.enter.new.env c.block.new.env c.close.new.self
+pub window-returns-clause-judged : goal.window-returns-clause-judged
+window-returns-clause-judged t c =
+    enter-leaves c.args.book.now.program c.args.line c.args.path c.args.name c.args.body c.args.env.now c.enter.new.env c.block.new.env c.close.new.self
     c.leave.new.env
     c.save-outside.result c.save-outside.ensures c.in_ok-enter.ensures.judged c.in_ok-block.ensures.judged c.close.ensures c.leave.ensures.left

@@ -11,11 +11,11 @@ returns-in-Some c =
     let s = found-some i.depth i.vars.items i.flow c.args.self.now c.args.name c.in-Some.place c.found_at.result c.self.view_is
     (sym (rw c.as_slice-vars.ensures.value at c.in-Some.ensures.place))
     (rw c.as_slice-vars.ensures.value at c.found_at.ensures) in
-    record { slot = s; tree = λ t d h l. found-tree t d c.args.name l c.args.self.now h (Ok c.found_at.result) s }
+    record { slot = s; tree = λ t h l. found-tree t h.names c.args.name l c.args.self.now h.slots (Ok c.found_at.result) s }
 
 pub returns-in-None : goal.returns-in-None
 returns-in-None c =
     let i = c.self.inside in
     let s = found-none i.depth i.vars.items i.flow c.args.self.now c.args.name c.self.view_is
     (sym (rw c.as_slice-vars.ensures.value at c.in-None.ensures.place)) in
-    record { slot = s; tree = λ t d h l. found-tree t d c.args.name l c.args.self.now h (Err Unknown) s }
+    record { slot = s; tree = λ t h l. found-tree t h.names c.args.name l c.args.self.now h.slots (Err Unknown) s }

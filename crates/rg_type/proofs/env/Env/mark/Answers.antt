@@ -1,7 +1,7 @@
 use Rattle.std.proofs.Common.{◌≡◌, ◌∙◌, sym, ap, subst}
-use Rattle.rg_type.specs.Scope.{Scope, marked, variable_of, env_of, IsScopeIn}
+use Rattle.rg_type.specs.Scope.{Scope, marked, variable_of, env_of}
 use Rattle.rg_rules.specs.Environment as rules
-use Rattle.rg_type.specs.Inner.States.{readiness_of}
+use Rattle.rg_type.specs.Inner.States.{readiness_of, IsReadable}
 use Rattle.rg_type.proofs.EnvLemmas.{kept-named, scope-named}
 use Rattle.rg_type.proofs.ScopeLemmas.{marked-tree, marked-in}
 use Rattle.rg_type.proofs.env.Env.mark.Goals as goal
@@ -21,10 +21,10 @@ returns-clause-marked c =
 
 pub returns-clause-within : goal.returns-clause-within
 returns-clause-within c t h =
-    subst (λ (s : Scope). IsScopeIn t s) (sym (returns-clause-marked c))
+    subst (λ (s : Scope). IsReadable t s) (sym (returns-clause-marked c))
     (marked-in t c.args.name (readiness_of c.args.now) c.args.self.now h)
 
 pub returns-clause-tree : goal.returns-clause-tree
-returns-clause-tree c t d h n =
+returns-clause-tree c t h n =
     subst (λ (s : Scope). env_of t s ≡ rules.marked (variable_of t c.args.name) (readiness_of c.args.now) (env_of t c.args.self.now))
-    (sym (returns-clause-marked c)) (marked-tree t d c.args.name n (readiness_of c.args.now) c.args.self.now h)
+    (sym (returns-clause-marked c)) (marked-tree t h.names c.args.name n (readiness_of c.args.now) c.args.self.now h.slots)

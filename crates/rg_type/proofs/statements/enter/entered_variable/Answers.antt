@@ -1,0 +1,4 @@
+use Rattle.rg_type.proofs.statements.enter.entered_variable.Goals as goal
+
+pub returns-clause-scope : goal.returns-clause-scope
+returns-clause-scope c = c.mark.ensures.within c.args.book.now.program c.requires.scope

@@ -1,0 +1,99 @@
+//! Assignments, to a variable and to a field (docs/language.md, "Judgements").
+
+ghost use Rattle.std.specs.Prelude.{◌≡◌, [], OnOk, IfSome};
+ghost use Rattle.rg_tree.specs.Rows.Tables.{Tables};
+ghost use Rattle.rg_tree.specs.Rows.RowTrees.{path_of, program_of, right_of};
+ghost use Rattle.rg_tree.specs.Rows.RowsExist.{IsNameIn, IsPathIn, IsRightIn};
+ghost use Rattle.rg_rules.specs.Statements as rules;
+ghost use Rattle.rg_type.specs.Scope.{env_of, variable_of};
+ghost use Rattle.rg_type.specs.Inner.States.{IsReadable};
+ghost use Rattle.rg_type.specs.Inner.Changing.{DoneAs, HasField};
+
+use crate::env::{Env, State};
+use crate::paths::target;
+use crate::rights::right_side;
+use crate::types::{is_iso, stays_at_depth};
+use rg_base::Code;
+use rg_names::Book;
+use rg_tree::{Path, Right};
+
+/// `x = r;` and `q.f = r;`
+pub fn assign(env: &mut Env, book: &Book, path: Path, right: Right) -> Result<(), Code>
+    requires path { IsPathIn book.now.program path }
+    requires right { IsRightIn book.now.program right }
+    requires scope { IsReadable book.now.program env.old }
+    ensures judged { let t = book.now.program in let p = path_of t path in
+        DoneAs (rules.judge_assign (program_of t).classes (env_of t env.old) p.base p.fields
+        (right_of t right)) (env_of t env.new) result }
+    ensures scope { OnOk result (IsReadable book.now.program env.new) }
+{
+    if book.order(path.fields).is_empty() {
+        assign_variable(env, book, path.base, right)
+    } else {
+        assign_field(env, book, path, right)
+    }
+}
+
+// `x = r;`
+fn assign_variable(env: &mut Env, book: &Book, name: Option<u32>, right: Right) -> Result<(), Code>
+    requires name { IfSome name (IsNameIn book.now.program) }
+    requires right { IsRightIn book.now.program right }
+    requires scope { IsReadable book.now.program env.old }
+    ensures judged { let t = book.now.program in
+        DoneAs (rules.judge_assign (program_of t).classes (env_of t env.old)
+        (variable_of t name) [] (right_of t right)) (env_of t env.new) result }
+    ensures scope { OnOk result (IsReadable book.now.program env.new) }
+{
+    let variable = env.find(name)?;
+    if !variable.assignable {
+        return Err(Code::OutsideWindow);
+    }
+    if !env.is_at_depth(&variable) && stays_at_depth(variable.ty) {
+        return Err(Code::OutsideWindow);
+    }
+    if variable.state.is_lent() {
+        return Err(Code::Unavailable);
+    }
+    right_side(env, book, right, variable.ty)?;
+    env.mark(name, State::Ready);
+    Ok(())
+}
+
+// `q.f = r;`
+fn assign_field(env: &mut Env, book: &Book, path: Path, right: Right) -> Result<(), Code>
+    requires path { IsPathIn book.now.program path }
+    requires field { HasField book.now.program path }
+    requires right { IsRightIn book.now.program right }
+    requires scope { IsReadable book.now.program env.old }
+    ensures judged { let t = book.now.program in let p = path_of t path in
+        DoneAs (rules.judge_assign (program_of t).classes (env_of t env.old) p.base p.fields
+        (right_of t right)) (env_of t env.new) result }
+    ensures scope { OnOk result (IsReadable book.now.program env.new) }
+{
+    let ty = target(env, book, path)?;
+    if is_iso(ty) {
+        return Err(Code::IsoField);
+    }
+    if is_call(right) {
+        return Err(Code::CallTarget);
+    }
+    right_side(env, book, right, ty)?;
+    Ok(())
+}
+
+// Whether a right side is a call.
+fn is_call(right: Right) -> bool
+    ensures { (t : Tables) → result ≡ rules.is_call (right_of t right) }
+{
+    match right {
+        Right::Expr(_)
+        | Right::New { .. }
+        | Right::NewTmp { .. }
+        | Right::NewIso { .. }
+        | Right::Freeze(_)
+        | Right::Merge(_)
+        | Right::Read
+        | Right::More => false,
+        Right::Call(_) => true,
+    }
+}
