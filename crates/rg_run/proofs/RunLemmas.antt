@@ -9,6 +9,7 @@ use Rattle.rg_io.specs.Content.{Appends, AppendsPart}
 use Rattle.rg_tree.specs.Tree.{Class, Tree, Block, empty as none, then as followed_by}
 use Rattle.rg_tree.specs.Rows.Tables.{Tables}
 use Rattle.rg_tree.specs.Rows.RowTrees.{program_of, block_of}
+use Rattle.rg_rules.specs.Acceptance.{Accepted}
 use Rattle.rg_rules.specs.Items.{Item, EndAt, items_of}
 use Rattle.rg_rules.specs.State.{State}
 use Rattle.rg_rules.specs.Steps.{Stepped, Went, Trapped, step_item}
@@ -20,6 +21,7 @@ use Rattle.rg_plain.specs.Machine.{Machine, Begins, state_of}
 use Rattle.rg_plain.specs.Runs.{RunIs, WroteUpTo}
 use Rattle.rg_run.specs.Runs.{RunsOn}
 use Rattle.rg_run.proofs.OutputLemmas.{GoesOn, run-later, ends-block}
+use Rattle.rg_run.proofs.SoundLemmas.{run-is-sound}
 
 -- main's block is never without a thing to do
 opening-some : (b : Block) → items_of b (EndAt 0 ∷ []) ≢ []
@@ -32,18 +34,18 @@ unfolding items_from
 begun-some t m begins empty =
     opening-some (block_of t t.body) (sym (ap (λ s. s.items) (begins.state [])) ∙ ap (shown t) empty)
 
--- a run of a machine that has begun is one from the opening state
+-- a run of a machine that has begun is one from the opening state, and sound
 pub begun-run : (t u : Tables) (n k : ℕ) (begun m : Machine) (a b : Pending) (left behind old new : Option (List ℕ)) (e : Ended) → t ≡ u →
-    Begins t begun → OnInput a b left behind (λ before after. RunIs t (state_of t begun before) n k m after old new e) →
+    Accepted (program_of t) → Begins t begun → OnInput a b left behind (λ before after. RunIs t (state_of t begun before) n k m after old new e) →
     OnInput a b left behind (RunsOn u n old new (record { begun = true; plain = m; steps = k }) e)
-begun-run t u n k begun m a b left behind old new e same begins h =
+begun-run t u n k begun m a b left behind old new e same accepted begins h =
     let Q : Tables → Type 0 = λ q. OnInput a b left behind (RunsOn q n old new (record { begun = true; plain = m; steps = k }) e) in
     subst Q same
     (OnInput-map a b left behind (λ before after. RunIs t (state_of t begun before) n k m after old new e)
     (RunsOn t n old new (record { begun = true; plain = m; steps = k }) e) h
     (λ before after ran.
     let P : State → Type 0 = λ s. RunIs t s n k m after old new e in
-    inr (record { begun = refl; run = subst P (begins.state before) ran })))
+    inr (record { begun = refl; run = subst P (begins.state before) ran; sound = run-is-sound (program_of t) accepted before n })))
 
 -- a run is the one of as many steps as it made
 pub record IsRunOf (classes : List Class) (d n made : ℕ) (s : State) : Type 0 where

@@ -4,17 +4,17 @@ use Rattle.std.specs.Bool.{OnTrue, OnFalse}
 use Rattle.std.proofs.lemmas.List.{length-replicate}
 use Rattle.rg_base.specs.declared.limits.TheConstants.{SOURCE_BYTES}
 use Rattle.rg_io.specs.Content.{AppendsPart}
-use Rattle.rg_io.specs.Files.{Told, HasFile, HasLongFile, file_bytes}
+use Rattle.rg_io.specs.Files.{Told, HasFile, HasLongFile}
 use Rattle.rg_run.specs.Machine.{Kept, IsFresh}
 use Rattle.rg_top.specs.declared.status.Status.{Status}
 use Rattle.rg_top.specs.declared.status.Status.TheVariants as status
 use Rattle.rg_top.specs.Commands.{Command, command, file_of, reads_input, may_read}
-use Rattle.rg_top.specs.Statuses.{status_text, is_run, is_answer, is_refusal, is_cut_off, is_from_outside}
+use Rattle.rg_top.specs.Statuses.{status_text, is_answer, is_refusal, is_cut_off, is_from_outside}
 use Rattle.rg_top.specs.Expected.{ExpectsStatus}
-use Rattle.rg_top.specs.Headline.{ForInput, ForSource, WhereTold, Exactly, ExactlyOn, Wrote, ShowsEnd, ReadsBack, Untouched, CutOffAt, CutAtInput, TookNotes}
-use Rattle.rg_top.specs.Settled.{Settles, Unread, source_fault, memory, SettlesFile}
+use Rattle.rg_top.specs.Headline.{ForInput, ForSource, ExactlyWhere, Answers, Untouched, CutOffAt, CutAtInput, TookNotes}
+use Rattle.rg_top.specs.Inner.Settled.{Settles, Unread, source_fault, memory, SettlesFile}
 use Rattle.rg_top.proofs.MeaningLemmas.{expects-one, refusal-any}
-use Rattle.rg_top.proofs.SettledLemmas.{wrote-of, shown-of, back-of, cut-of, status-of}
+use Rattle.rg_top.proofs.SettledLemmas.{answers-of, cut-of, status-of}
 
 -- what is told after a fault of the output
 pub took-output_fault : (steps : ℕ) (old new : Option (List ℕ)) → AppendsPart old new (status_text 0 status.OutputFault)
@@ -59,10 +59,6 @@ unread-answer : (told : Option Told) (c : Command) (s : Status) (P : Type 0) →
 unread-answer told c s P source_fault = tt
 unread-answer told c s P memory = tt
 
-unread-run : (told : Option Told) (c : Command) (s : Status) (P : Type 0) → Unread told c s → OnTrue (is_run s) P
-unread-run told c s P source_fault = tt
-unread-run told c s P memory = tt
-
 unread-outside : (told : Option Told) (c : Command) (s : Status) → Unread told c s → is_from_outside s ≡ true
 unread-outside told c s source_fault = refl
 unread-outside told c s memory = refl
@@ -74,20 +70,10 @@ module _ (told : Option Told) (left : Option (List ℕ)) (words : List (List ℕ
       ForSource told left words P
   for-source P source has h = (c, source, asked, has, h)
 
-  file-text : SettlesFile told c left s old new m →
-      OnTrue (is_answer s) (ForSource told left words (λ d source input. Wrote d source input s old new))
-  file-text (inl h) = on-true _ _ (is_answer s) (wrote-of c h.0 left s old new m h.2) (for-source _ h.0 h.1)
-  file-text (inr u) = unread-answer told c s _ u.0
-
-  file-state : SettlesFile told c left s old new m →
-      OnTrue (is_run s) (ForSource told left words (λ d source input. ShowsEnd d source input m))
-  file-state (inl h) = on-true _ _ (is_run s) (shown-of c h.0 left s old new m h.2) (for-source _ h.0 h.1)
-  file-state (inr u) = unread-run told c s _ u.0
-
-  file-back : SettlesFile told c left s old new m →
-      OnTrue (is_run s) (ForSource told left words (λ d source input. ReadsBack d source old new))
-  file-back (inl h) = on-true _ _ (is_run s) (back-of c h.0 left s old new m h.2) (for-source _ h.0 h.1)
-  file-back (inr u) = unread-run told c s _ u.0
+  file-answers : SettlesFile told c left s old new m →
+      OnTrue (is_answer s) (ForSource told left words (λ d source input. Answers d source input s old new m))
+  file-answers (inl h) = on-true _ _ (is_answer s) (answers-of c h.0 left s old new m h.2) (for-source _ h.0 h.1)
+  file-answers (inr u) = unread-answer told c s _ u.0
 
   file-cut : SettlesFile told c left s old new m →
       Untouched m old new ⊎ ForSource told left words (λ d source input. CutOffAt d source input m old new)
@@ -103,19 +89,11 @@ module _ (told : Option Told) (left : Option (List ℕ)) (words : List (List ℕ
       go x source_fault e = cc
       go x memory e = cc
 
--- what is answered to the source in a file that is told, where nothing was cut off
-file-status : (t : Told) (left : Option (List ℕ)) (words : List (List ℕ)) (c d : Command) (source : List ℕ) (s : Status)
-    (old new : Option (List ℕ)) (m : Kept) → command words ≡ Some c → SettlesFile (Some t) c left s old new m → command words ≡ Some d →
-    file_bytes t.files (file_of d) ≡ Some source → ForInput left (λ input. ExpectsStatus d source input s) ⊎ (is_from_outside s ≡ true)
-file-status t left words c d source s old new m e (inl h) g f =
-    let same : c ≡ d = cc in
-    let P : Command → Type 0 = λ x. file_bytes t.files (file_of x) ≡ Some h.0 in
-    let there : file_bytes t.files (file_of d) ≡ Some h.0 = subst P same h.1 in
-    let bytes : h.0 ≡ source = cc in
-    let Q : Command → Type 0 = λ x. ForInput left (λ input. ExpectsStatus x h.0 input s) ⊎ (is_from_outside s ≡ true) in
-    let R : List ℕ → Type 0 = λ x. ForInput left (λ input. ExpectsStatus d x input s) ⊎ (is_from_outside s ≡ true) in
-    subst R bytes (subst Q same (status-of c h.0 left s old new m h.2))
-file-status t left words c d source s old new m e (inr u) g f = inr (unread-outside (Some t) c s u.0)
+  -- what is expected, where nothing was cut off
+  file-status : SettlesFile told c left s old new m →
+      ForSource told left words (λ d source input. ExpectsStatus d source input s) ⊎ (is_from_outside s ≡ true)
+  file-status (inl h) = elim (status-of c h.0 left s old new m h.2) [ inl e ↦ inl (for-source _ h.0 h.1 e) | inr o ↦ inr o ]
+  file-status (inr u) = inr (unread-outside told c s u.0)
 
 answer-inside : (s : Status) → is_answer s ≡ true → is_from_outside s ≡ false
 answer-inside status.Done h = refl
@@ -129,34 +107,40 @@ answer-inside status.OutputFault h = cc
 answer-inside status.Memory h = cc
 answer-inside status.Long h = refl
 
--- a fact on the input that comes exactly with its answer
-exactly-on : (c : Command) (source : List ℕ) (left : Option (List ℕ)) (given s : Status) → is_answer s ≡ true →
-    ForInput left (λ input. ExpectsStatus c source input given) ⊎ (is_from_outside given ≡ true) →
-    ExactlyOn left given s (λ input. ExpectsStatus c source input s)
-exactly-on c source left given s a (inl h) =
-    let P : Status → Type 0 = λ x. ForInput left (λ input. ExpectsStatus c source input x) in
-    ((λ e. subst P e h), (λ all. inl (expects-one c source h.0 given s h.2 (all h.0 h.1))))
-exactly-on c source left given s a (inr o) =
-    ((λ e. let n : is_from_outside given ≡ false = ap is_from_outside e ∙ answer-inside s a in absurd (cc)), (λ all. inr o))
+-- a status comes exactly where it is expected: it is what was given, or that was cut off
+module _ (told : Option Told) (left : Option (List ℕ)) (words : List (List ℕ)) (given s : Status) (answers : is_answer s ≡ true) where
+  outside-exactly : (behind : Option (List ℕ)) → is_from_outside given ≡ true → ExactlyWhere told behind words given s
+  outside-exactly behind o = record {
+    only = λ e. let n : is_from_outside given ≡ false = ap is_from_outside e ∙ answer-inside s answers in absurd (cc);
+    always = λ c asked all. inr o;
+  }
 
-exactly-on-cut : (left : Option (List ℕ)) (s : Status) (P : List ℕ → Type 0) → is_answer s ≡ true → ExactlyOn left status.OutputFault s P
-exactly-on-cut left s P a =
-    ((λ e. let n : is_from_outside status.OutputFault ≡ false = ap is_from_outside e ∙ answer-inside s a in absurd (cc)), (λ all. inr refl))
+  exactly-where : ForSource told left words (λ c source input. ExpectsStatus c source input given) ⊎ (is_from_outside given ≡ true) →
+      ExactlyWhere told left words given s
+  exactly-where (inl (c, source, asked, has, (input, is, expects))) = record {
+    only = λ e. let P : Status → Type 0 = λ x. ExpectsStatus c source input x in (c, source, asked, has, (input, is, subst P e expects));
+    always = λ d again all.
+        let same : d ≡ c = cc in
+        let Q : Command → Type 0 = λ x. HasFile told (file_of x) source → ExpectsStatus x source input s in
+        inl (expects-one c source input given s expects (subst Q same (λ h. all source input h is) has));
+  }
+  exactly-where (inr o) = outside-exactly left o
 
--- a refusal comes exactly where it is expected, on any input
-exactly-any : (c : Command) (source bytes : List ℕ) (left : Option (List ℕ)) (given s : Status) → is_answer s ≡ true → is_refusal s ≡ true →
-    ForInput left (λ input. ExpectsStatus c source input given) ⊎ (is_from_outside given ≡ true) →
-    Exactly given s (ExpectsStatus c source bytes s)
-exactly-any c source bytes left given s a r (inl h) =
-    let P : Status → Type 0 = λ x. ExpectsStatus c source h.0 x in (
-      (λ e. refusal-any c source h.0 bytes s r (subst P e h.2)),
-      (λ g. inl (expects-one c source h.0 given s h.2 (refusal-any c source bytes h.0 s r g))),
-    )
-exactly-any c source bytes left given s a r (inr o) =
-    ((λ e. let n : is_from_outside given ≡ false = ap is_from_outside e ∙ answer-inside s a in absurd (cc)), (λ g. inr o))
-
-exactly-cut : (s : Status) (P : Type 0) → is_answer s ≡ true → Exactly status.OutputFault s P
-exactly-cut s P a = ((λ e. let n : is_from_outside status.OutputFault ≡ false = ap is_from_outside e ∙ answer-inside s a in cc), (λ g. inr refl))
+  -- a refusal is expected whatever the input has
+  exactly-refused : is_refusal s ≡ true → (bytes : List ℕ) →
+      ForSource told left words (λ c source input. ExpectsStatus c source input given) ⊎ (is_from_outside given ≡ true) →
+      ExactlyWhere told (Some bytes) words given s
+  exactly-refused refuses bytes (inl (c, source, asked, has, (input, is, expects))) = record {
+    only = λ e.
+        let P : Status → Type 0 = λ x. ExpectsStatus c source input x in
+        (c, source, asked, has, (bytes, refl, refusal-any c source input bytes s refuses (subst P e expects)));
+    always = λ d again all.
+        let same : d ≡ c = cc in
+        let Q : Command → Type 0 = λ x. HasFile told (file_of x) source → ExpectsStatus x source bytes s in
+        let there = subst Q same (λ h. all source bytes h refl) has in
+        inl (expects-one c source input given s expects (refusal-any c source bytes input s refuses there));
+  }
+  exactly-refused refuses bytes (inr o) = outside-exactly (Some bytes) o
 
 -- where nothing is cut off but for want of memory, the answer is the expected one
 expected-unless : (P : Type 0) (s : Status) → P ⊎ (is_from_outside s ≡ true) → s ≢ status.SourceFault → s ≢ status.InputFault →
@@ -189,20 +173,10 @@ pub record Answered (told : Option Told) (left : Option (List ℕ)) (words : Lis
 
 module _ {told : Option Told} {left : Option (List ℕ)} {words : List (List ℕ)} {given answer : Status} {old new : Option (List ℕ)} {m : Kept}
     (a : Answered told left words given answer old new m) where
-  pub answer-text : OnTrue (is_answer answer) (ForSource told left words (λ c source input. Wrote c source input answer old new))
-  answer-text =
-      told-status (λ s. OnTrue (is_answer s) (ForSource told left words (λ c source input. Wrote c source input s old new))) given answer
-      (file-text told left words a.asked given old new m a.command_is a.settles) tt a.told_is
-
-  pub answer-state : OnTrue (is_run answer) (ForSource told left words (λ c source input. ShowsEnd c source input m))
-  answer-state =
-      told-status (λ s. OnTrue (is_run s) (ForSource told left words (λ c source input. ShowsEnd c source input m))) given answer
-      (file-state told left words a.asked given old new m a.command_is a.settles) tt a.told_is
-
-  pub answer-back : OnTrue (is_run answer) (ForSource told left words (λ c source input. ReadsBack c source old new))
-  answer-back =
-      told-status (λ s. OnTrue (is_run s) (ForSource told left words (λ c source input. ReadsBack c source old new))) given answer
-      (file-back told left words a.asked given old new m a.command_is a.settles) tt a.told_is
+  pub answer-answered : OnTrue (is_answer answer) (ForSource told left words (λ c source input. Answers c source input answer old new m))
+  answer-answered =
+      told-status (λ s. OnTrue (is_answer s) (ForSource told left words (λ c source input. Answers c source input s old new m))) given answer
+      (file-answers told left words a.asked given old new m a.command_is a.settles) tt a.told_is
 
   pub answer-cut : OnTrue (is_cut_off answer)
       (Untouched m old new ⊎ ForSource told left words (λ c source input. CutOffAt c source input m old new))
@@ -212,42 +186,41 @@ module _ {told : Option Told} {left : Option (List ℕ)} {words : List (List ℕ
   answer-input e =
       file-input told left words a.asked given old new m a.command_is (given-is given answer a.told_is (λ o. cc) ∙ e) a.settles
 
--- each answer to a source comes exactly where it is expected
-pub answer-exactly : {told : Option Told} {left : Option (List ℕ)} {words : List (List ℕ)} {given answer : Status} {old new : Option (List ℕ)}
-    {m : Kept} → Answered told left words given answer old new m → (s : Status) → is_answer s ≡ true →
-    WhereTold told words (λ c source. ExactlyOn left answer s (λ bytes. ExpectsStatus c source bytes s))
-answer-exactly {told = None} a s i = tt
-answer-exactly {told = Some t} {left = left} {words = words} {given = given} {answer = answer} {old = old} {new = new} {m = m} a s i =
-    λ c source g f.
-    told-status (λ x. ExactlyOn left x s (λ bytes. ExpectsStatus c source bytes s)) given answer
-    (exactly-on c source left given s i (file-status t left words a.asked c source given old new m a.command_is a.settles g f))
-    (exactly-on-cut left s (λ bytes. ExpectsStatus c source bytes s) i) a.told_is
+  -- each answer to a source comes exactly where it is expected
+  pub answer-exactly : (s : Status) → is_answer s ≡ true → ExactlyWhere told left words answer s
+  answer-exactly s i =
+      told-status (λ x. ExactlyWhere told left words x s) given answer
+      (exactly-where told left words given s i (file-status told left words a.asked given old new m a.command_is a.settles))
+      (outside-exactly told left words status.OutputFault s i left refl) a.told_is
 
--- and a refusal on any input
-pub answer-refused : {told : Option Told} {left : Option (List ℕ)} {words : List (List ℕ)} {given answer : Status} {old new : Option (List ℕ)}
-    {m : Kept} → Answered told left words given answer old new m → (s : Status) → is_answer s ≡ true → is_refusal s ≡ true → (bytes : List ℕ) →
-    WhereTold told words (λ c source. Exactly answer s (ExpectsStatus c source bytes s))
-answer-refused {told = None} a s i r bytes = tt
-answer-refused {told = Some t} {left = left} {words = words} {given = given} {answer = answer} {old = old} {new = new} {m = m} a s i r bytes =
-    λ c source g f.
-    told-status (λ x. Exactly x s (ExpectsStatus c source bytes s)) given answer
-    (exactly-any c source bytes left given s i r (file-status t left words a.asked c source given old new m a.command_is a.settles g f))
-    (exactly-cut s (ExpectsStatus c source bytes s) i) a.told_is
+  -- and a refusal whatever the input has
+  pub answer-refused : (s : Status) → is_answer s ≡ true → is_refusal s ≡ true → (bytes : List ℕ) → ExactlyWhere told (Some bytes) words answer s
+  answer-refused s i r bytes =
+      told-status (λ x. ExactlyWhere told (Some bytes) words x s) given answer
+      (exactly-refused told left words given s i r bytes (file-status told left words a.asked given old new m a.command_is a.settles))
+      (outside-exactly told left words status.OutputFault s i (Some bytes) refl) a.told_is
 
--- where no count rose, the answer is the expected one, or there was no memory
-pub answer-complete : {told : Option Told} {left : Option (List ℕ)} {words : List (List ℕ)} {given answer : Status} {old new : Option (List ℕ)}
-    {m : Kept} → Answered told left words given answer old new m → (F I O N : Type 0) → (answer ≡ status.SourceFault → F) →
-    (answer ≡ status.InputFault → I) → (answer ≡ status.OutputFault → O ⊎ N) →
-    WhereTold told words (λ c source. ¬ F → ¬ I → ¬ O → ¬ N →
-    ForInput left (λ bytes. ExpectsStatus c source bytes answer) ⊎ (answer ≡ status.Memory))
-answer-complete {told = None} a F I O N x y z = tt
-answer-complete {told = Some t} {left = left} {words = words} {given = given} {answer = answer} {old = old} {new = new} {m = m} a F I O N x y z =
-    λ c source g f nf ni no nn.
-    let no_output_fault : answer ≢ status.OutputFault = λ i. elim (z i) [ inl o ↦ no o | inr n ↦ nn n ] in
-    let P : Status → Type 0 = λ s. ForInput left (λ bytes. ExpectsStatus c source bytes s) ⊎ (is_from_outside s ≡ true) in
-    expected-unless (ForInput left (λ bytes. ExpectsStatus c source bytes answer)) answer
-    (subst P (given-is given answer a.told_is no_output_fault) (file-status t left words a.asked c source given old new m a.command_is a.settles g f))
-    (λ i. nf (x i)) (λ i. ni (y i)) no_output_fault
+  -- where no count rose, the answer is the expected one, or there was no memory
+  pub answer-complete : (F I O N : Type 0) → (answer ≡ status.SourceFault → F) → (answer ≡ status.InputFault → I) →
+      (answer ≡ status.OutputFault → O ⊎ N) → ¬ F → ¬ I → ¬ O → ¬ N →
+      ForSource told left words (λ c source input. ExpectsStatus c source input answer) ⊎ (answer ≡ status.Memory)
+  answer-complete F I O N x y z nf ni nout nn =
+      let no_output_fault : answer ≢ status.OutputFault = λ i. elim (z i) [ inl o ↦ nout o | inr n ↦ nn n ] in
+      let P : Status → Type 0 =
+      λ s. ForSource told left words (λ c source input. ExpectsStatus c source input s) ⊎ (is_from_outside s ≡ true) in
+      expected-unless (ForSource told left words (λ c source input. ExpectsStatus c source input answer)) answer
+      (subst P (given-is given answer a.told_is no_output_fault) (file-status told left words a.asked given old new m a.command_is a.settles))
+      (λ i. nf (x i)) (λ i. ni (y i)) no_output_fault
+
+-- words that are no command are answered a usage, or an output fault, and nothing else
+pub usage-exactly : (told : Option Told) (left : Option (List ℕ)) (words : List (List ℕ)) (answer s : Status) → command words ≡ None →
+    (answer ≡ status.Usage) ⊎ (answer ≡ status.OutputFault) → is_answer s ≡ true → ExactlyWhere told left words answer s
+usage-exactly told left words answer s none t i = record { only = only t; always = λ c asked all. absurd (cc) }
+  where
+    only : (answer ≡ status.Usage) ⊎ (answer ≡ status.OutputFault) → answer ≡ s →
+        ForSource told left words (λ c source input. ExpectsStatus c source input s)
+    only (inl u) e = let n : is_answer status.Usage ≡ true = ap is_answer (sym u ∙ e) ∙ i in absurd (cc)
+    only (inr o) e = let n : is_answer status.OutputFault ≡ true = ap is_answer (sym o ∙ e) ∙ i in absurd (cc)
 
 -- a command that reads nothing is one that the words give
 pub answer-unread : (words : List (List ℕ)) (c : Command) (P : Type 0) → command words ≡ Some c → (reads_input c ≡ false → P) →

@@ -9,16 +9,18 @@ use Rattle.rg_rules.specs.Runs.{Ending, Running, Done, Stopped, opening}
 use Rattle.rg_rules.specs.Runs as rules
 use Rattle.rg_input.specs.Numbers.{Pending, Follows, CanCome, OnInput}
 use Rattle.rg_plain.specs.Machine.{Machine, Begins, state_of}
-use Rattle.rg_plain.specs.Runs.{answer, RunIs, Whole, CutOff, CutAtInput}
+use Rattle.rg_plain.specs.Runs.{answer, RunIs, Whole, StandsAt, CutOff, CutAtInput}
 use Rattle.rg_run.specs.Machine.{Kept, IsFresh, Shows}
 use Rattle.rg_run.specs.Runs.{RunsOn}
+use Rattle.rg_run.specs.Sound.{IsSound, Stands}
+use Rattle.rg_run.proofs.SoundLemmas.{run-is-sound, stands-shown}
 use Rattle.rg_run.proofs.RunLemmas.{wrote-part}
 use Rattle.rg_top.specs.declared.status.Status.{Status}
 use Rattle.rg_top.specs.declared.status.Status.TheVariants as status
 use Rattle.rg_top.specs.Commands.{run, plain}
 use Rattle.rg_top.specs.Expected.{status_of}
-use Rattle.rg_top.specs.Headline.{HasInput, ForInput, Runs, StandsAfter, AsksAfter}
-use Rattle.rg_top.specs.Settled.{status_of_ended, RanWhole, RanBeside, Settles}
+use Rattle.rg_top.specs.Headline.{HasInput, ForInput, Runs, StandsAfter, CutOffAt, AsksAfter}
+use Rattle.rg_top.specs.Inner.Settled.{status_of_ended, RanWhole, RanBeside, Settles}
 
 -- some bytes can come
 can_come : (n : Pending) (left : Option (List ℕ)) → Follows n left → (more : List ℕ) × CanCome n left more
@@ -48,7 +50,13 @@ module _ (file : List ℕ) (n : ℕ) (source : List ℕ) (left : Option (List �
   answered e s same w = sym same ∙ ap status_of_ended w.answer_is ∙ status-answer (rules.plain (program_of t) input n).ending
 
   asks_after : CutAtInput t (opening (program_of t) input) n k plain_machine rest old new → AsksAfter (program_of t) input n k old new
-  asks_after c = record { before = c.before; made = c.stands.made; asks = c.asks; wrote = c.wrote }
+  asks_after c = record {
+    before = c.before;
+    made = c.stands.made;
+    asks = c.asks;
+    wrote = c.wrote;
+    sound = run-is-sound (program_of t) runs.accepted input k;
+  }
 
   beside : (m : Kept) (e : Ended) (s : Status) → IsFresh m → status_of_ended e ≡ s →
       Whole t (opening (program_of t) input) n k plain_machine rest old new e → RanBeside n source left s old new m
@@ -62,16 +70,28 @@ module _ (file : List ℕ) (n : ℕ) (source : List ℕ) (left : Option (List �
     fresh = fresh;
   }
 
+  beside_cut : (m : Kept) → IsFresh m → CutOff t (opening (program_of t) input) n k plain_machine rest old new →
+      ForInput left (λ input. CutOffAt (plain file n) source input m old new)
+  beside_cut m fresh h = (
+    input,
+    is,
+    (
+      program_of t,
+      runs,
+      fresh,
+      wrote-part t input k n old new h.stands.within h.wrote,
+      run-is-sound (program_of t) runs.accepted input n,
+    ),
+  )
+
   pub beside-settles : (m : Kept) (e : Ended) → IsFresh m → RunIs t (opening (program_of t) input) n k plain_machine rest old new e →
       Settles (plain file n) source left (status_of_ended e) old new m
   beside-settles m ended.Done fresh h = beside m ended.Done status.Done fresh refl h
   beside-settles m ended.Spent fresh h = beside m ended.Spent status.Spent fresh refl h
   beside-settles m (ended.Trap kind line) fresh h = beside m (ended.Trap kind line) (status.Trap kind line) fresh refl h
   beside-settles m ended.InputFault fresh h = (input, is, (program_of t, runs, fresh, k, asks_after h))
-  beside-settles m ended.OutputFault fresh h =
-      inr (input, is, (program_of t, runs, fresh, wrote-part t input k n old new h.stands.within h.wrote))
-  beside-settles m ended.Memory fresh h =
-      inr (input, is, (program_of t, runs, fresh, wrote-part t input k n old new h.stands.within h.wrote))
+  beside-settles m ended.OutputFault fresh h = inr (beside_cut m fresh h)
+  beside-settles m ended.Memory fresh h = inr (beside_cut m fresh h)
 
 module _ (file : List ℕ) (n : ℕ) (source : List ℕ) (left : Option (List ℕ)) (t : Tables) (runs : Runs source (program_of t)) (input : List ℕ)
     (is : HasInput left input) (m : Kept) (begun : m.begun ≡ true) (rest : List ℕ) (old new : Option (List ℕ)) where
@@ -87,11 +107,14 @@ module _ (file : List ℕ) (n : ℕ) (source : List ℕ) (left : Option (List �
     input_is = is;
     status_is = answered file n source left t runs input is m.steps m.plain rest old new e s same w;
     wrote = w.text_is;
-    shows = record { shows = shows _ w.state_is; steps = w.steps_are };
+    stands = stands-shown t input n m runs.accepted (shows _ w.state_is) w.steps_are;
   }
 
-  stands : CutOff t (opening (program_of t) input) n m.steps m.plain rest old new → StandsAfter t input n m.steps m old new
-  stands c = record { within = c.stands.within; made = c.stands.made; shows = shows _ c.stands.state_is; wrote = c.wrote }
+  stands : StandsAt t (opening (program_of t) input) n m.steps m.plain rest → Stands t input m.steps m
+  stands c = stands-shown t input m.steps m runs.accepted (shows _ c.state_is) (sym c.made)
+
+  stands_after : CutOff t (opening (program_of t) input) n m.steps m.plain rest old new → StandsAfter t input n m.steps m old new
+  stands_after c = record { within = c.stands.within; made = c.stands.made; stands = stands c.stands; wrote = c.wrote }
 
   ran-settles : (e : Ended) → RunIs t (opening (program_of t) input) n m.steps m.plain rest old new e →
       Settles (run file n) source left (status_of_ended e) old new m
@@ -99,9 +122,9 @@ module _ (file : List ℕ) (n : ℕ) (source : List ℕ) (left : Option (List �
   ran-settles ended.Spent h = whole ended.Spent status.Spent refl h
   ran-settles (ended.Trap kind line) h = whole (ended.Trap kind line) (status.Trap kind line) refl h
   ran-settles ended.InputFault h =
-      (input, is, (t, runs, shows _ h.stands.state_is, asks_after file n source left t runs input is m.steps m.plain rest old new h))
-  ran-settles ended.OutputFault h = inr (input, is, (t, runs, stands h))
-  ran-settles ended.Memory h = inr (input, is, (t, runs, stands h))
+      (input, is, (t, runs, stands h.stands, asks_after file n source left t runs input is m.steps m.plain rest old new h))
+  ran-settles ended.OutputFault h = inr (input, is, (t, runs, stands_after h))
+  ran-settles ended.Memory h = inr (input, is, (t, runs, stands_after h))
 
 -- a run on the machine
 pub run-settles : (file : List ℕ) (n : ℕ) (source : List ℕ) (left : Option (List ℕ)) (t : Tables) (m : Kept) (e : Ended)

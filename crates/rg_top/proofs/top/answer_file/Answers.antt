@@ -1,5 +1,5 @@
 use Rattle.std.proofs.Common.{refl, inr, ◌∙◌, ap, Err}
-use Rattle.rg_top.specs.Settled.{source_fault, memory}
+use Rattle.rg_top.specs.Inner.Settled.{source_fault, memory}
 use Rattle.rg_top.proofs.AnswerLemmas.{long-settles}
 use Rattle.rg_top.proofs.top.answer_file.Goals as goal
 

@@ -8,4 +8,5 @@ run_counting-requires-clause-left g c = begun-some c.program-program.result.now 
 pub returns-clause-run : goal.returns-clause-run
 returns-clause-run g c =
     begun-run c.program-program.result.now c.args.accepted.now.program c.args.n c.run_counting.new.steps c.begin.new.self c.run_counting.new.self
-    _ _ _ _ _ _ c.run_counting.result c.program-program.ensures.program c.in-Ok.ensures.begins c.run_counting.ensures.run
+    _ _ _ _ _ _ c.run_counting.result c.program-program.ensures.program c.program-program.ensures.accepted c.in-Ok.ensures.begins
+    c.run_counting.ensures.run

@@ -1,9 +1,9 @@
--- What the layers under the top call have answered and left, by the status.
-use Rattle.std.specs.Prelude.{◌≡◌, ℕ, ◌⊎◌, List, [], Option, Some}
+-- What the layers under the top call have answered and left, by the status (docs/promises.md).
+use Rattle.std.specs.Prelude.{◌≡◌, ◌≢◌, ◌≤◌, ℕ, ◌⊎◌, List, [], Option, Some}
 use Rattle.rg_base.specs.declared.fault.Fault.{Fault}
 use Rattle.rg_base.specs.declared.outcome.Ended.{Ended}
 use Rattle.rg_base.specs.declared.outcome.Ended.TheVariants as ended
-use Rattle.rg_io.specs.Content.{Appends}
+use Rattle.rg_io.specs.Content.{Rose, Appends}
 use Rattle.rg_io.specs.Files.{Told, HasFile}
 use Rattle.rg_tree.specs.Tree.{Tree}
 use Rattle.rg_tree.specs.Rows.Tables.{Tables}
@@ -13,11 +13,12 @@ use Rattle.rg_tree.specs.Laws.{ParsesBack}
 use Rattle.rg_rules.specs.Acceptance.{first_fault}
 use Rattle.rg_rules.specs.Runs as rules
 use Rattle.rg_run.specs.Machine.{Kept, IsFresh}
+use Rattle.rg_run.specs.Sound.{Stands}
 use Rattle.rg_top.specs.declared.status.Status.{Status}
 use Rattle.rg_top.specs.declared.status.Status.TheVariants as status
 use Rattle.rg_top.specs.Commands.{Command, run, plain, fmt, check, file_of}
 use Rattle.rg_top.specs.Expected.{too_long, faulty, spelt, Means, status_of, accepted_text, text_after}
-use Rattle.rg_top.specs.Headline.{HasInput, ForInput, Runs, ShowsRan, Untouched, CutOffAt, CutAtInput}
+use Rattle.rg_top.specs.Headline.{HasInput, ForInput, Runs, Untouched, CutOffAt, CutAtInput}
 
 -- the status of a run
 abbrev pub status_of_ended : Ended → Status
@@ -36,7 +37,7 @@ pub record RanWhole (n : ℕ) (source : List ℕ) (left : Option (List ℕ)) (s 
   pub input_is : HasInput left input
   pub status_is : s ≡ status_of (rules.plain (program_of tables) input n).ending
   pub wrote : Appends old new (text_after (program_of tables) input n)
-  pub shows : ShowsRan tables m (rules.plain (program_of tables) input n)
+  pub stands : Stands tables input n m
 
 -- a whole run beside the machine
 pub record RanBeside (n : ℕ) (source : List ℕ) (left : Option (List ℕ)) (s : Status) (old new : Option (List ℕ)) (m : Kept) : Type 0 where
@@ -117,3 +118,16 @@ pub data Unread (told : Option Told) (c : Command) : Status → Type 0 where
 abbrev pub SettlesFile : Option Told → Command → (left : Option (List ℕ)) → Status → (old new : Option (List ℕ)) → Kept → Type 0
 SettlesFile told c left s old new m =
     ((source : List ℕ) × HasFile told (file_of c) source × Settles c source left s old new m) ⊎ (Unread told c s × Untouched m old new)
+
+-- a command names a fault of the input or of the output only where its count rose, and no count falls
+pub record Caused (s : Status) (input_old input_new out_old out_new : ℕ) : Type 0 where
+  pub input_fault : s ≡ status.InputFault → Rose input_old input_new
+  pub output_fault : s ≡ status.OutputFault → Rose out_old out_new
+  pub input_never_falls : input_old ≤ input_new
+  pub output_never_falls : out_old ≤ out_new
+
+-- the same of a command that reads no input
+pub record CausedByOutput (s : Status) (out_old out_new : ℕ) : Type 0 where
+  pub no_input_fault : s ≢ status.InputFault
+  pub output_fault : s ≡ status.OutputFault → Rose out_old out_new
+  pub output_never_falls : out_old ≤ out_new

@@ -1,0 +1,9 @@
+//! The process with words that are no command: the empty output and the status are stored beside it.
+#![tactic(auto)]
+
+use rg_top::run_process;
+use std::process::ExitCode;
+
+fn main(rt: HostRuntime) -> ExitCode {
+    run_process(&rt)
+}
