@@ -1,4 +1,5 @@
-//! The process on a source that is refused: the empty output and the status are stored beside it.
+//! The process on a source that is refused: the empty output and the status are stored beside it
+//! (docs/language.md, "Statuses").
 #![tactic(auto)]
 
 use rg_top::run_process;

@@ -1,5 +1,5 @@
-//! What only streams in memory show: which one failed, and what the machine has made. All else that a
-//! call writes is in the rows of examples/rows.txt (docs/promises.md).
+//! What only streams in memory show: which one failed, and what the machine has made. All else that
+//! a call writes is in the rows of examples/rows.txt (docs/promises.md).
 
 ghost use Rattle.rg_run.specs.Machine.{IsFresh};
 

@@ -1,4 +1,5 @@
-//! The process with words that are no command: the empty output and the status are stored beside it.
+//! The process with words that are no command: the empty output and the status are stored beside it
+//! (docs/language.md, "Statuses").
 #![tactic(auto)]
 
 use rg_top::run_process;

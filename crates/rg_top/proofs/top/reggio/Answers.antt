@@ -3,7 +3,8 @@ use Rattle.std.proofs.Common.{refl, inl, inr, ◌∙◌}
 use Rattle.rg_top.specs.declared.status.Status.TheVariants as status
 use Rattle.rg_top.specs.Commands.{texts}
 use Rattle.rg_top.specs.Inner.Requests.{command_of}
-use Rattle.rg_top.proofs.AnswerLemmas.{Answered, answer-answered, answer-cut, answer-input, answer-exactly, answer-refused, answer-complete, answer-unread, answer-refusal, given-is, usage-exactly}
+use Rattle.rg_top.proofs.AnswerLemmas.{Answered, answer-answered, answer-cut, answer-input, answer-exactly, answer-refused, answer-complete}
+use Rattle.rg_top.proofs.AnswerLemmas.{answer-unread, answer-refusal, given-is, usage-exactly}
 use Rattle.rg_top.proofs.top.reggio.Given.{Over}
 use Rattle.rg_top.proofs.top.reggio.Goals as goal
 
