@@ -1,13 +1,19 @@
 -- The invariant as a test, for examples: its six parts by number, and along a run. Statements go by their lines, so an example gives
 -- each its own.
-use Rattle.std.proofs.Common.{ℕ, zero, suc, ◌==◌, Bool as Truth, true, false, not, ◌&&◌, ◌||◌, if◌then◌else◌, List, [], ◌∷◌, ◌++◌, length, take, drop, map, reverse, bytes_eq, Option, Some, None, is_some, option_and_then, slice_get, Ok, Err}
+use Rattle.std.proofs.Common.{ℕ, zero, suc, ◌==◌, Bool as Truth, true, false, not, ◌&&◌, ◌||◌, if◌then◌else◌, List, [], ◌∷◌, ◌++◌, length, take, drop}
+use Rattle.std.proofs.Common.{map, reverse, bytes_eq, Option, Some, None, is_some, option_and_then, slice_get, Ok, Err}
 use Rattle.std.specs.List.{list_all}
 use Rattle.std.specs.Result.{result_ok}
 use Rattle.rg_base.specs.declared.ty.Ty.{Ty}
 use Rattle.rg_base.specs.declared.ty.Ty.TheVariants.{Int, Bool, Ref}
+use Rattle.rg_base.specs.declared.object.Label.{Label}
+use Rattle.rg_base.specs.declared.object.Label.TheVariants.{Region, Temp}
+use Rattle.rg_base.specs.declared.object.Seen.{Seen}
+use Rattle.rg_base.specs.declared.value.Val.{Val}
 use Rattle.rg_base.specs.declared.object.Place.{Place}
 use Rattle.rg_base.specs.declared.object.Place.TheVariants.{Var, Field}
-use Rattle.rg_tree.specs.Tree.{Name, Variable, Path, Stmt, stmt, StmtKind, declare, assign, call, swap, branch, while, enter, print, collect, return, Else, no_else, otherwise, Block, empty as none, then as next, Method, Class, Tree}
+use Rattle.rg_tree.specs.Tree.{Name, Variable, Path, Stmt, stmt, StmtKind, declare, assign, call, swap, branch, while, enter, print, collect, return}
+use Rattle.rg_tree.specs.Tree.{Else, no_else, otherwise, Block, empty as none, then as next, Method, Class, Tree}
 use Rattle.rg_rules.specs.Capabilities.{same_type}
 use Rattle.rg_rules.specs.Types.{methods_of}
 use Rattle.rg_rules.specs.Environment.{Env, Entry, same_variable, is_lent}
@@ -16,12 +22,13 @@ use Rattle.rg_rules.specs.Statements.{judge_stmt, judge_test, judge_enter, last_
 use Rattle.rg_rules.specs.Items.{Item, Do, EndAt, LeaveAt, Back, items_of}
 use Rattle.rg_rules.specs.Bodies.{Body, main_body, method_body}
 use Rattle.rg_rules.specs.Points.{Spot}
-use Rattle.rg_rules.specs.State.{Local, Target, Declares, Assigns, Drops, Frame, Window, State}
-use Rattle.rg_rules.specs.Values.{same_truth}
+use Rattle.rg_rules.specs.State.{Local, Target, Declares, Assigns, Drops, Frame, Window, State, active, top_number}
+use Rattle.rg_rules.specs.Values.{same_truth, same_value}
 use Rattle.rg_rules.specs.Steps.{Stepped, Went, Trapped, next as step_of}
 use Rattle.rg_sound.specs.Windows.{covering}
 use Rattle.rg_sound.specs.Frames.{leaves, call_of}
-use Rattle.rg_sound.proofs.TwinData.{values_fit, object_fits, same_place, owners, is_lowest, all_owned, none_again, is_forest, numbers_fit}
+use Rattle.rg_sound.proofs.TwinData.{same_label, values_fit, object_fits, same_place, owners, lowest_alone, all_owned, none_again, is_forest}
+use Rattle.rg_sound.proofs.TwinData.{numbers_fit}
 
 -- The frames: all spots of a block
 
@@ -176,7 +183,7 @@ calling (Back ∷ mine) = None
 
 abbrev beneath : List Class → List Candidate → List Frame → List Window → List Item → Candidate → Target → Truth
 beneath classes all [] ws items c target = not (is_some c.name)
-    && same_target target Drops && list_all is_lowest ws && length ws == 1 && length items == 0
+    && same_target target Drops && lowest_alone ws && length items == 0
 beneath classes all (f ∷ fs) ws items callee target = any_of (λ (c : Candidate). any_of (λ (spot : Spot).
     elim (calling spot.items) [
       | None ↦ false
@@ -196,7 +203,7 @@ runs classes all f fs ws items = any_of (λ (c : Candidate). any_of (λ (spot : 
     ]) c.spots) all
 
 abbrev ended : Frame → List Frame → List Window → List Item → Truth
-ended f fs ws items = length f.locals == 0 && same_target f.target Drops && length fs == 0 && length ws == 1 && list_all is_lowest ws && length
+ended f fs ws items = length f.locals == 0 && same_target f.target Drops && length fs == 0 && lowest_alone ws && length
     items == 0
 
 abbrev frames_fit : List Class → List Candidate → List Frame → List Window → List Item → Truth
@@ -235,6 +242,27 @@ count_failing (f ∷ fs) = if length f == 0 then count_failing fs else suc (coun
 -- how many of the states of a run are looked at, and in how many some part fails
 abbrev pub looked_at : Tree → ℕ → State → ℕ × ℕ
 looked_at t n s = let all = failing_from t (candidates t) n s in (length all, count_failing all)
+
+-- whether a value is the same
+abbrev same_values : List Val → List Val → Truth
+same_values [] [] = true
+same_values [] (w ∷ ws) = false
+same_values (v ∷ vs) [] = false
+same_values (v ∷ vs) (w ∷ ws) = same_value v w && same_values vs ws
+
+-- whether a label is the active region, or the number of the topmost window
+abbrev writable : State → Label → Truth
+writable s l = same_label l (Region (active s.windows)) || same_label l (Temp (top_number s.windows))
+
+-- whether each object of a store whose fields differ in a second one is of the active region or of the topmost window
+abbrev written_within : State → List Seen → List Seen → Truth
+written_within s [] us = true
+written_within s (o ∷ os) [] = writable s o.label && written_within s os []
+written_within s (o ∷ os) (u ∷ us) = (same_values o.fields u.fields || writable s o.label) && written_within s os us
+
+-- whether what was written between two states might be written
+abbrev pub writes_within : State → State → Truth
+writes_within s u = written_within s s.store u.store
 
 -- what fails in a state
 abbrev pub fails : Tree → State → List ℕ

@@ -1,5 +1,6 @@
 -- The parts of the invariant but for the frames, as tests.
-use Rattle.std.proofs.Common.{ℕ, zero, suc, ◌==◌, nat_lt, Bool as Truth, true, false, not, ◌&&◌, ◌||◌, List, [], ◌∷◌, ◌++◌, length, map, filter, flat_map, find, Option, Some, None, is_some, option_and_then, option_map, slice_get}
+use Rattle.std.proofs.Common.{ℕ, zero, suc, ◌==◌, nat_lt, Bool as Truth, true, false, not, ◌&&◌, ◌||◌, List, [], ◌∷◌, ◌++◌, length, map, filter}
+use Rattle.std.proofs.Common.{flat_map, find, Option, Some, None, is_some, option_and_then, option_map, slice_get}
 use Rattle.std.specs.List.{list_all}
 use Rattle.rg_base.specs.declared.words.Cap.{Cap}
 use Rattle.rg_base.specs.declared.words.Cap.TheVariants.{Mut, Tmp, Paused, Imm, Iso}
@@ -21,7 +22,7 @@ use Rattle.rg_sound.specs.Windows.{windows_of, windows_from}
 
 -- Labels and values
 
-abbrev same_label : Label → Label → Truth
+abbrev pub same_label : Label → Label → Truth
 same_label (Region a) (Region b) = a == b
 same_label (Region a) (Temp b) = false
 same_label (Region a) Frozen = false
@@ -167,12 +168,14 @@ only_place (p ∷ q ∷ ps) o = false
 abbrev is_owned : List (Place × ℕ) → List Seen → Window → Window → Truth
 is_owned os store w v = only_place (places_into os w.region) w.owner && elim (w.owner) [ None ↦ false | Some p ↦ is_near store w v p ]
 
-abbrev pub is_lowest : Window → Truth
-is_lowest w = w.number == 0 && w.region == 0 && not (is_some w.owner) && w.base_frame == 0 && w.base_place == 0
+abbrev pub lowest_alone : List Window → Truth
+lowest_alone [] = false
+lowest_alone (w ∷ []) = w.number == 0 && w.base_frame == 0 && w.base_place == 0
+lowest_alone (w ∷ v ∷ ws) = false
 
 abbrev pub all_owned : List (Place × ℕ) → List Seen → List Window → Truth
 all_owned os store [] = false
-all_owned os store (w ∷ []) = is_lowest w
+all_owned os store (w ∷ []) = w.region == 0 && not (is_some w.owner)
 all_owned os store (w ∷ v ∷ ws) = is_owned os store w v && all_owned os store (v ∷ ws)
 
 abbrev pub none_again : List ℕ → Truth
@@ -205,12 +208,6 @@ label_given regions windows (Region r) = nat_lt r regions
 label_given regions windows (Temp n) = nat_lt n windows
 label_given regions windows Frozen = true
 
-abbrev in_store : ℕ → Val → Truth
-in_store n Nil = true
-in_store n (IntVal z) = true
-in_store n (BoolVal b) = true
-in_store n (Obj a) = nat_lt a n
-
 abbrev rising : List Window → Truth
 rising [] = true
 rising (w ∷ []) = true
@@ -218,6 +215,5 @@ rising (w ∷ v ∷ ws) = nat_lt v.number w.number && rising (v ∷ ws)
 
 abbrev pub numbers_fit : State → Truth
 numbers_fit s =
-    list_all (λ (o : Seen). label_given (length s.managers) s.windows_made o.label && list_all (in_store (length s.store)) o.fields) s.store
+    list_all (λ (o : Seen). label_given (length s.managers) s.windows_made o.label) s.store
     && list_all (λ (w : Window). nat_lt w.region (length s.managers) && nat_lt w.number s.windows_made) s.windows && rising s.windows
-    && list_all (λ (f : Frame). list_all (λ (l : Local). in_store (length s.store) l.value) f.locals) s.frames

@@ -1,0 +1,5 @@
+use Rattle.rg_sound.proofs.LocalRootsLemmas.{fit-local_roots}
+use Rattle.rg_sound.proofs.laws.fit_local_roots.Goals as goal
+
+pub returns : goal.returns
+returns c = fit-local_roots

@@ -1,0 +1,5 @@
+use Rattle.rg_sound.proofs.ReturnLemmas.{back-keeps}
+use Rattle.rg_sound.proofs.steps.back_keeps_fit.Goals as goal
+
+pub returns : goal.returns
+returns c = back-keeps

@@ -1,0 +1,5 @@
+use Rattle.rg_sound.proofs.TestLemmas.{branch-keeps}
+use Rattle.rg_sound.proofs.steps.branch_keeps_fit.Goals as goal
+
+pub returns : goal.returns
+returns c = branch-keeps

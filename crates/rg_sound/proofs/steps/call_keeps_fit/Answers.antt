@@ -1,0 +1,5 @@
+use Rattle.rg_sound.proofs.InvokeLemmas.{call-keeps}
+use Rattle.rg_sound.proofs.steps.call_keeps_fit.Goals as goal
+
+pub returns : goal.returns
+returns c = call-keeps

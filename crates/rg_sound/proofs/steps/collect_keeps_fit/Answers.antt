@@ -1,0 +1,5 @@
+use Rattle.rg_sound.proofs.QuietLemmas.{collect-keeps}
+use Rattle.rg_sound.proofs.steps.collect_keeps_fit.Goals as goal
+
+pub returns : goal.returns
+returns c = collect-keeps

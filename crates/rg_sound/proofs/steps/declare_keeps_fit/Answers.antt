@@ -1,0 +1,5 @@
+use Rattle.rg_sound.proofs.TakenLemmas.{declare-keeps}
+use Rattle.rg_sound.proofs.steps.declare_keeps_fit.Goals as goal
+
+pub returns : goal.returns
+returns c = declare-keeps

@@ -1,0 +1,5 @@
+use Rattle.rg_sound.proofs.LeaveLemmas.{leave-keeps}
+use Rattle.rg_sound.proofs.steps.leave_keeps_fit.Goals as goal
+
+pub returns : goal.returns
+returns c = leave-keeps

@@ -1,0 +1,5 @@
+use Rattle.rg_sound.proofs.QuietLemmas.{print-keeps}
+use Rattle.rg_sound.proofs.steps.print_keeps_fit.Goals as goal
+
+pub returns : goal.returns
+returns c = print-keeps

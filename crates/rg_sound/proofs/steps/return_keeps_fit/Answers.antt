@@ -1,0 +1,5 @@
+use Rattle.rg_sound.proofs.ReturnLemmas.{return-keeps}
+use Rattle.rg_sound.proofs.steps.return_keeps_fit.Goals as goal
+
+pub returns : goal.returns
+returns c = return-keeps

@@ -1,0 +1,5 @@
+use Rattle.rg_sound.proofs.SwapLemmas.{swap-keeps}
+use Rattle.rg_sound.proofs.steps.swap_keeps_fit.Goals as goal
+
+pub returns : goal.returns
+returns c = swap-keeps
