@@ -1,9 +1,10 @@
 -- What always holds of a run of an accepted program, and where a run stands on a machine (docs/language.md, "What always holds").
-use Rattle.std.specs.Prelude.{◌≡◌, ℕ, ◌+◌, ◌<◌, ◌≤◌, List, Some}
+use Rattle.std.specs.Prelude.{◌≡◌, ℕ, ◌+◌, ◌<◌, ◌≤◌, false, List, Some}
 use Rattle.rg_tree.specs.Tree.{Class, Tree}
 use Rattle.rg_tree.specs.Rows.Tables.{Tables}
 use Rattle.rg_tree.specs.Rows.RowTrees.{classes_of, program_of}
 use Rattle.rg_rules.specs.State.{State}
+use Rattle.rg_rules.specs.Inputs.{first_asks}
 use Rattle.rg_rules.specs.Runs.{plain}
 use Rattle.rg_sound.specs.Fit.{Fit}
 use Rattle.rg_sound.specs.Held.{IsHeld, NoneStale, LiveFit}
@@ -33,3 +34,7 @@ pub record Stands (t : Tables) (input : List ℕ) (n : ℕ) (m : Kept) : Type 0 
   pub held : ShowsHeld (classes_of t) m (plain (program_of t) input n).state
   pub steps : m.steps ≡ (plain (program_of t) input n).steps
   pub sound : IsSound (program_of t) input n
+
+-- none of the first n steps of a program on an input asks for the input
+abbrev pub NeverAsks : Tree → (input : List ℕ) → (n : ℕ) → Type 0
+NeverAsks t input n = (k : ℕ) → k < n → first_asks (plain t input k).state.items ≡ false

@@ -91,7 +91,8 @@ impl Machine {
         requires follows { Follows input.old (I.left source.old) }
 
         ensures run { OnInput input.old input.new (I.left source.old) (I.left source.new)
-            (RunsOn accepted.now.program n (O.taken out.old) (O.taken out.new) self.new result) }
+            (RunsOn accepted.now.program n (O.taken out.old) (O.taken out.new) self.new result
+            ((input.new ≡ input.old) × (source.new ≡ source.old))) }
         ensures begun { result ≢ Ended.Memory → self.new.begun ≡ true }
         ensures follows { Follows input.new (I.left source.new) }
 

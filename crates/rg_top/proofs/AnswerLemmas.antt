@@ -35,10 +35,10 @@ long-list : (n : ℕ) → (source : List ℕ) × (n < length source)
 long-list n = (replicate (suc n) 0, omega (arith, length-replicate {A = ℕ} (suc n) 0))
 
 -- a file that is too long is read as some source that is
-pub long-settles : (told : Option Told) (c : Command) (left old : Option (List ℕ)) (m : Kept) → HasLongFile told (file_of c) SOURCE_BYTES → IsFresh m
-    → SettlesFile told c left status.Long old old m
-long-settles None c left old m h fresh = let l = long-list SOURCE_BYTES in inl (l.0, tt, (l.1, (fresh, refl)))
-long-settles (Some t) c left old m h fresh = inl (h.0, h.1, (h.2, (fresh, refl)))
+pub long-settles : (told : Option Told) (c : Command) (left old : Option (List ℕ)) (m : Kept) (still : Type 0) → HasLongFile told (file_of c) SOURCE_BYTES → IsFresh m
+    → still → SettlesFile told c left status.Long old old m still
+long-settles None c left old m still h fresh quiet = let l = long-list SOURCE_BYTES in inl (l.0, tt, (l.1, (fresh, refl, quiet)))
+long-settles (Some t) c left old m still h fresh quiet = inl (h.0, h.1, (h.2, (fresh, refl, quiet)))
 
 -- facts on the status that the layers under the top call gave, and on an output fault, hold of what was told
 pub told-status : (P : Status → Type 0) (given answer : Status) → P given → P status.OutputFault
@@ -66,24 +66,24 @@ unread-outside told c s memory = refl
 
 -- what was answered to a file, by its source
 module _ (told : Option Told) (left : Option (List ℕ)) (words : List (List ℕ)) (c : Command) (s : Status) (old new : Option (List ℕ)) (m : Kept)
-    (asked : command words ≡ Some c) where
+    (still : Type 0) (asked : command words ≡ Some c) where
   for-source : (P : Command → List ℕ → List ℕ → Type 0) (source : List ℕ) → HasFile told (file_of c) source → ForInput left (P c source) →
       ForSource told left words P
   for-source P source has h = (c, source, asked, has, h)
 
-  file-answers : SettlesFile told c left s old new m →
-      OnTrue (is_answer s) (ForSource told left words (λ d source input. Answers d source input s old new m))
-  file-answers (inl h) = on-true _ _ (is_answer s) (answers-of c h.0 left s old new m h.2) (for-source _ h.0 h.1)
+  file-answers : SettlesFile told c left s old new m still →
+      OnTrue (is_answer s) (ForSource told left words (λ d source input. Answers d source input s old new m still))
+  file-answers (inl h) = on-true _ _ (is_answer s) (answers-of c h.0 left s old new m still h.2) (for-source _ h.0 h.1)
   file-answers (inr u) = unread-answer told c s _ u.0
 
-  file-cut : SettlesFile told c left s old new m →
-      Untouched m old new ⊎ ForSource told left words (λ d source input. CutOffAt d source input m old new)
-  file-cut (inl h) = elim (cut-of c h.0 left s old new m h.2) [ inl u ↦ inl u | inr k ↦ inr (for-source _ h.0 h.1 k) ]
+  file-cut : SettlesFile told c left s old new m still →
+      Untouched m old new still ⊎ ForSource told left words (λ d source input. CutOffAt d source input m old new still)
+  file-cut (inl h) = elim (cut-of c h.0 left s old new m still h.2) [ inl u ↦ inl u | inr k ↦ inr (for-source _ h.0 h.1 k) ]
   file-cut (inr u) = inl u.1
 
-  file-input : s ≡ status.InputFault → SettlesFile told c left s old new m →
+  file-input : s ≡ status.InputFault → SettlesFile told c left s old new m still →
       ForSource told left words (λ d source input. CutAtInput d source input m old new)
-  file-input e (inl h) = let P : Status → Type 0 = λ x. Settles c h.0 left x old new m in for-source _ h.0 h.1 (subst P e h.2)
+  file-input e (inl h) = let P : Status → Type 0 = λ x. Settles c h.0 left x old new m still in for-source _ h.0 h.1 (subst P e h.2)
   file-input e (inr u) = absurd (go s u.0 e)
     where
       go : (x : Status) → Unread told c x → x ≢ status.InputFault
@@ -91,9 +91,9 @@ module _ (told : Option Told) (left : Option (List ℕ)) (words : List (List ℕ
       go x memory e = cc
 
   -- what is expected, where nothing was cut off
-  file-status : SettlesFile told c left s old new m →
+  file-status : SettlesFile told c left s old new m still →
       ForSource told left words (λ d source input. ExpectsStatus d source input s) ⊎ (is_from_outside s ≡ true)
-  file-status (inl h) = elim (status-of c h.0 left s old new m h.2) [ inl e ↦ inl (for-source _ h.0 h.1 e) | inr o ↦ inr o ]
+  file-status (inl h) = elim (status-of c h.0 left s old new m still h.2) [ inl e ↦ inl (for-source _ h.0 h.1 e) | inr o ↦ inr o ]
   file-status (inr u) = inr (unread-outside told c s u.0)
 
 answer-inside : (s : Status) → is_answer s ≡ true → is_from_outside s ≡ false
@@ -166,39 +166,39 @@ given-is given answer (inr t) n = absurd (n t)
 -- What the top call answers behind the layers under it: the words' command, what was answered to its file, and that the notes
 -- were told that or an output fault.
 pub record Answered (told : Option Told) (left : Option (List ℕ)) (words : List (List ℕ)) (given answer : Status) (old new : Option (List ℕ))
-    (m : Kept) : Type 0 where
+    (m : Kept) (still : Type 0) : Type 0 where
   pub asked : Command
   pub command_is : command words ≡ Some asked
-  pub settles : SettlesFile told asked left given old new m
+  pub settles : SettlesFile told asked left given old new m still
   pub told_is : (answer ≡ given) ⊎ (answer ≡ status.OutputFault)
 
 module _ {told : Option Told} {left : Option (List ℕ)} {words : List (List ℕ)} {given answer : Status} {old new : Option (List ℕ)} {m : Kept}
-    (a : Answered told left words given answer old new m) where
-  pub answer-answered : OnTrue (is_answer answer) (ForSource told left words (λ c source input. Answers c source input answer old new m))
+    {still : Type 0} (a : Answered told left words given answer old new m still) where
+  pub answer-answered : OnTrue (is_answer answer) (ForSource told left words (λ c source input. Answers c source input answer old new m still))
   answer-answered =
-      told-status (λ s. OnTrue (is_answer s) (ForSource told left words (λ c source input. Answers c source input s old new m))) given answer
-      (file-answers told left words a.asked given old new m a.command_is a.settles) tt a.told_is
+      told-status (λ s. OnTrue (is_answer s) (ForSource told left words (λ c source input. Answers c source input s old new m still))) given answer
+      (file-answers told left words a.asked given old new m still a.command_is a.settles) tt a.told_is
 
   pub answer-cut : OnTrue (is_cut_off answer)
-      (Untouched m old new ⊎ ForSource told left words (λ c source input. CutOffAt c source input m old new))
-  answer-cut = on-fact (is_cut_off answer) _ (file-cut told left words a.asked given old new m a.command_is a.settles)
+      (Untouched m old new still ⊎ ForSource told left words (λ c source input. CutOffAt c source input m old new still))
+  answer-cut = on-fact (is_cut_off answer) _ (file-cut told left words a.asked given old new m still a.command_is a.settles)
 
   pub answer-input : answer ≡ status.InputFault → ForSource told left words (λ c source input. CutAtInput c source input m old new)
   answer-input e =
-      file-input told left words a.asked given old new m a.command_is (given-is given answer a.told_is (λ o. cc) ∙ e) a.settles
+      file-input told left words a.asked given old new m still a.command_is (given-is given answer a.told_is (λ o. cc) ∙ e) a.settles
 
   -- each answer to a source comes exactly where it is expected
   pub answer-exactly : (s : Status) → is_answer s ≡ true → ExactlyWhere told left words answer s
   answer-exactly s i =
       told-status (λ x. ExactlyWhere told left words x s) given answer
-      (exactly-where told left words given s i (file-status told left words a.asked given old new m a.command_is a.settles))
+      (exactly-where told left words given s i (file-status told left words a.asked given old new m still a.command_is a.settles))
       (outside-exactly told left words status.OutputFault s i left refl) a.told_is
 
   -- and a refusal whatever the input has
   pub answer-refused : (s : Status) → is_answer s ≡ true → is_refusal s ≡ true → (bytes : List ℕ) → ExactlyWhere told (Some bytes) words answer s
   answer-refused s i r bytes =
       told-status (λ x. ExactlyWhere told (Some bytes) words x s) given answer
-      (exactly-refused told left words given s i r bytes (file-status told left words a.asked given old new m a.command_is a.settles))
+      (exactly-refused told left words given s i r bytes (file-status told left words a.asked given old new m still a.command_is a.settles))
       (outside-exactly told left words status.OutputFault s i (Some bytes) refl) a.told_is
 
   -- where no count rose, the answer is the expected one, or there was no memory
@@ -210,8 +210,32 @@ module _ {told : Option Told} {left : Option (List ℕ)} {words : List (List ℕ
       let P : Status → Type 0 =
       λ s. ForSource told left words (λ c source input. ExpectsStatus c source input s) ⊎ (is_from_outside s ≡ true) in
       expected-unless (ForSource told left words (λ c source input. ExpectsStatus c source input answer)) answer
-      (subst P (given-is given answer a.told_is no_output_fault) (file-status told left words a.asked given old new m a.command_is a.settles))
+      (subst P (given-is given answer a.told_is no_output_fault) (file-status told left words a.asked given old new m still a.command_is a.settles))
       (λ i. nf (x i)) (λ i. ni (y i)) no_output_fault
+
+-- a refusal leaves nothing
+untouched-of : (told : Option Told) (left : Option (List ℕ)) (c : Command) (s : Status) (old new : Option (List ℕ)) (m : Kept) (still : Type 0) →
+    SettlesFile told c left s old new m still → OnTrue (is_refusal s) (Untouched m old new still)
+untouched-of told left c status.Done old new m still h = tt
+untouched-of told left c (status.Refused f) old new m still (inl h) = h.2.1
+untouched-of told left c (status.Refused f) old new m still (inr u) = u.1
+untouched-of told left c status.Usage old new m still (inl h) = absurd h.2
+untouched-of told left c status.Usage old new m still (inr u) = u.1
+untouched-of told left c (status.Trap kind line) old new m still h = tt
+untouched-of told left c status.Spent old new m still h = tt
+untouched-of told left c status.SourceFault old new m still (inl h) = absurd h.2
+untouched-of told left c status.SourceFault old new m still (inr u) = u.1
+untouched-of told left c status.InputFault old new m still h = tt
+untouched-of told left c status.OutputFault old new m still h = tt
+untouched-of told left c status.Memory old new m still h = tt
+untouched-of told left c status.Long old new m still (inl h) = h.2.1
+untouched-of told left c status.Long old new m still (inr u) = u.1
+
+pub answer-untouched : {told : Option Told} {left : Option (List ℕ)} {words : List (List ℕ)} {given answer : Status} {old new : Option (List ℕ)}
+    {m : Kept} {still : Type 0} → Answered told left words given answer old new m still → OnTrue (is_refusal answer) (Untouched m old new still)
+answer-untouched {told = told} {left = left} {given = given} {answer = answer} {old = old} {new = new} {m = m} {still = still} a =
+    told-status (λ s. OnTrue (is_refusal s) (Untouched m old new still)) given answer
+    (untouched-of told left a.asked given old new m still a.settles) tt a.told_is
 
 -- words that are no command are answered a usage, or an output fault, and nothing else
 pub usage-exactly : (told : Option Told) (left : Option (List ℕ)) (words : List (List ℕ)) (answer s : Status) → command words ≡ None →
@@ -231,8 +255,3 @@ answer-unread words c P e h = rw e (by (reads_input c) h)
     by : (b : Bool) → (b ≡ false → P) → OnFalse b P
     by true h = tt
     by false h = h refl
-
--- after a refusal what the layers left holds of the answer
-pub answer-refusal : (given answer : Status) (P : Type 0) → (answer ≡ given) ⊎ (answer ≡ status.OutputFault) → OnTrue (is_refusal given) P →
-    OnTrue (is_refusal answer) P
-answer-refusal given answer P t h = told-status (λ s. OnTrue (is_refusal s) P) given answer h tt t

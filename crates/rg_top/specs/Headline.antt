@@ -14,7 +14,7 @@ use Rattle.rg_rules.specs.Runs as rules
 use Rattle.rg_rules.specs.Texts.{text_of, added}
 use Rattle.rg_rules.specs.Inputs.{first_asks}
 use Rattle.rg_run.specs.Machine.{Kept, IsFresh}
-use Rattle.rg_run.specs.Sound.{IsSound, Stands}
+use Rattle.rg_run.specs.Sound.{IsSound, Stands, NeverAsks}
 use Rattle.rg_top.specs.declared.status.Status.{Status}
 use Rattle.rg_top.specs.declared.status.Status.TheVariants as status
 use Rattle.rg_top.specs.Commands.{Command, run, plain, fmt, check, command, file_of, steps_of}
@@ -45,28 +45,32 @@ abbrev pub RunStands : Tree → (input : List ℕ) → (n : ℕ) → Kept → Ty
 RunStands t input n m = (tables : Tables) × (program_of tables ≡ t) × Stands tables input n m
 
 -- What a command leaves beside its text, for a source of that meaning. A run of an accepted program stands on the machine behind
--- all its steps. `plain` runs it elsewhere, and its run is sound too. What `fmt` has written parses back into the tree.
-abbrev pub Leaves : Command → (input : List ℕ) → Meaning → Kept → Type 0
-Leaves c input too_long m = IsFresh m
-Leaves c input (faulty f) m = IsFresh m
-Leaves (run file n) input (spelt t) m = IfAccepted (first_fault t) (RunStands t input n m) (IsFresh m)
-Leaves (plain file n) input (spelt t) m = IsFresh m × (Accepted t → IsSound t input n)
-Leaves (fmt file) input (spelt t) m = IsFresh m × ParsesBack t
-Leaves (check file) input (spelt t) m = IsFresh m
+-- all its steps; `plain` runs it elsewhere, and its run is sound too; where none of these steps asks for the input, it is still
+-- as it was. What `fmt` has written parses back into the tree.
+abbrev pub Leaves : Command → (input : List ℕ) → Meaning → Kept → (still : Type 0) → Type 0
+Leaves c input too_long m still = IsFresh m × still
+Leaves c input (faulty f) m still = IsFresh m × still
+Leaves (run file n) input (spelt t) m still =
+    IfAccepted (first_fault t) (RunStands t input n m × (NeverAsks t input n → still)) (IsFresh m × still)
+Leaves (plain file n) input (spelt t) m still =
+    IsFresh m × IfAccepted (first_fault t) (IsSound t input n × (NeverAsks t input n → still)) still
+Leaves (fmt file) input (spelt t) m still = IsFresh m × ParsesBack t
+Leaves (check file) input (spelt t) m still = IsFresh m
 
 -- A command has answered this status to one source and one input: the source means something, of which this status and this
 -- text are expected; the output has taken that text and nothing else; and the rest is left as it must be for that meaning.
-pub record Answers (c : Command) (source input : List ℕ) (s : Status) (old new : Option (List ℕ)) (m : Kept) : Type 0 where
+-- `still` says that the input is as it was before the call.
+pub record Answers (c : Command) (source input : List ℕ) (s : Status) (old new : Option (List ℕ)) (m : Kept) (still : Type 0) : Type 0 where
   pub meaning : Meaning
   pub means : Means source meaning
   pub text : List ℕ
   pub expects : expected c input meaning ≡ record { status = s; text = text }
   pub wrote : Appends old new text
-  pub leaves : Leaves c input meaning m
+  pub leaves : Leaves c input meaning m still
 
--- no run has begun, and the output is untouched
-abbrev pub Untouched : Kept → (old new : Option (List ℕ)) → Type 0
-Untouched m old new = IsFresh m × (new ≡ old)
+-- no run has begun, the output is untouched, and the input is still as it was
+abbrev pub Untouched : Kept → (old new : Option (List ℕ)) → (still : Type 0) → Type 0
+Untouched m old new still = IsFresh m × (new ≡ old) × still
 
 -- the source spells that tree, and it is accepted
 pub record Runs (source : List ℕ) (t : Tree) : Type 0 where
@@ -82,13 +86,14 @@ pub record StandsAfter (t : Tables) (input : List ℕ) (n k : ℕ) (m : Kept) (o
   pub wrote : AppendsUpTo old new (text_of t (opening (program_of t) input) (k - 1)) (added t (opening (program_of t) input) k)
 
 -- What a call leaves that was cut off by the output or the notes, or for want of memory. A run stands at a whole step. Else no
--- run has begun, and the output has taken a prefix of the command's text.
-abbrev pub CutOffAt : Command → (source input : List ℕ) → Kept → (old new : Option (List ℕ)) → Type 0
-CutOffAt (run file n) source input m old new = (t : Tables) × Runs source (program_of t) × StandsAfter t input n m.steps m old new
-CutOffAt (plain file n) source input m old new =
-    (t : Tree) × Runs source t × IsFresh m × AppendsPart old new (text_after t input n) × IsSound t input n
-CutOffAt (fmt file) source input m old new = (t : Tree) × Means source (spelt t) × IsFresh m × AppendsPart old new (canon t)
-CutOffAt (check file) source input m old new = (t : Tree) × Runs source t × IsFresh m × AppendsPart old new accepted_text
+-- run has begun, and the output has taken a prefix of the command's text. Where no step asks for the input, it is still as it was.
+abbrev pub CutOffAt : Command → (source input : List ℕ) → Kept → (old new : Option (List ℕ)) → (still : Type 0) → Type 0
+CutOffAt (run file n) source input m old new still =
+    (t : Tables) × Runs source (program_of t) × StandsAfter t input n m.steps m old new × (NeverAsks (program_of t) input n → still)
+CutOffAt (plain file n) source input m old new still =
+    (t : Tree) × Runs source t × IsFresh m × AppendsPart old new (text_after t input n) × IsSound t input n × (NeverAsks t input n → still)
+CutOffAt (fmt file) source input m old new still = (t : Tree) × Means source (spelt t) × IsFresh m × AppendsPart old new (canon t)
+CutOffAt (check file) source input m old new still = (t : Tree) × Runs source t × IsFresh m × AppendsPart old new accepted_text
 
 -- a run of n steps has made k whole ones, the next asks for the input, and the output has taken the text of all k
 pub record AsksAfter (t : Tree) (input : List ℕ) (n k : ℕ) (old new : Option (List ℕ)) : Type 0 where

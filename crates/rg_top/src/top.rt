@@ -41,7 +41,6 @@ use std::alloc::Global;
 /// The status of a run.
 fn status_of(ended: Ended) -> Status
     ensures is { result ≡ status_of_ended ended }
-    ensures no_refusal { is_refusal result ≡ false }
 {
     match ended {
         Ended::Done => Status::Done,
@@ -81,8 +80,7 @@ fn run_accepted<I: Source, O: Sink>(
     requires { IsFresh machine.old }
     ensures settles { (file source : List ℕ) → Runs source (program_of accepted.now.program) →
         Settles (run file steps) source (I.left input.old) result
-        (O.taken out.old) (O.taken out.new) machine.new }
-    ensures no_refusal { is_refusal result ≡ false }
+        (O.taken out.old) (O.taken out.new) machine.new (input.new ≡ input.old) }
     ensures caused { Caused result (I.faults input.old) (I.faults input.new)
         (O.faults out.old) (O.faults out.new) }
 {
@@ -104,8 +102,7 @@ fn run_program<I: Source, O: Sink>(
     requires names { FewNames (program_of program) }
     ensures settles { (file source : List ℕ) → Means source (spelt (program_of program)) →
         Settles (run file steps) source (I.left input.old) result
-        (O.taken out.old) (O.taken out.new) machine.new }
-    ensures unread { OnTrue (is_refusal result) (input.new ≡ input.old) }
+        (O.taken out.old) (O.taken out.new) machine.new (input.new ≡ input.old) }
     ensures caused { Caused result (I.faults input.old) (I.faults input.new)
         (O.faults out.old) (O.faults out.new) }
 {
@@ -127,8 +124,7 @@ fn plain_accepted<I: Source, O: Sink>(
     ensures settles { (file source : List ℕ) (m : Kept) →
         Runs source (program_of accepted.now.program) → IsFresh m →
         Settles (plain file steps) source (I.left input.old) result
-        (O.taken out.old) (O.taken out.new) m }
-    ensures no_refusal { is_refusal result ≡ false }
+        (O.taken out.old) (O.taken out.new) m (input.new ≡ input.old) }
     ensures caused { Caused result (I.faults input.old) (I.faults input.new)
         (O.faults out.old) (O.faults out.new) }
 {
@@ -138,7 +134,8 @@ fn plain_accepted<I: Source, O: Sink>(
         return Status::Memory;
     };
     let mut numbers = Numbers::new();
-    let ended = machine.run(alloc, program, steps, &mut numbers, input, out);
+    let mut made = 0;
+    let ended = machine.run_counting(alloc, program, steps, &mut made, &mut numbers, input, out);
     status_of(ended)
 }
 
@@ -154,8 +151,7 @@ fn plain_program<I: Source, O: Sink>(
     ensures settles { (file source : List ℕ) (m : Kept) →
         Means source (spelt (program_of program)) → IsFresh m →
         Settles (plain file steps) source (I.left input.old) result
-        (O.taken out.old) (O.taken out.new) m }
-    ensures unread { OnTrue (is_refusal result) (input.new ≡ input.old) }
+        (O.taken out.old) (O.taken out.new) m (input.new ≡ input.old) }
     ensures caused { Caused result (I.faults input.old) (I.faults input.new)
         (O.faults out.old) (O.faults out.new) }
 {
@@ -171,7 +167,8 @@ fn check_program<O: Sink>(alloc: Global, program: Program, out: &mut O) -> Statu
     requires { FewNames (program_of program) }
     ensures settles { (file source : List ℕ) (left : Option (List ℕ)) (m : Kept) →
         Means source (spelt (program_of program)) → IsFresh m →
-        Settles (check file) source left result (O.taken out.old) (O.taken out.new) m }
+        Settles (check file) source left result
+        (O.taken out.old) (O.taken out.new) m (Unit {0}) }
     ensures caused { CausedByOutput result (O.faults out.old) (O.faults out.new) }
 {
     match check(alloc, program) {
@@ -188,7 +185,8 @@ fn check_program<O: Sink>(alloc: Global, program: Program, out: &mut O) -> Statu
 fn format_program<O: Sink>(alloc: Global, program: &Program, out: &mut O) -> Status
     ensures settles { (file source : List ℕ) (left : Option (List ℕ)) (m : Kept) →
         Means source (spelt (program_of program.now)) → IsFresh m →
-        Settles (fmt file) source left result (O.taken out.old) (O.taken out.new) m }
+        Settles (fmt file) source left result
+        (O.taken out.old) (O.taken out.new) m (Unit {0}) }
     ensures caused { CausedByOutput result (O.faults out.old) (O.faults out.new) }
 {
     canon_parses_back();
@@ -213,8 +211,7 @@ fn answer_source<I: Source, O: Sink>(
     requires fresh { IsFresh machine.old }
     requires fits { length source.now ≤ SOURCE_BYTES }
     ensures settles { Settles (command_of request.entry) source.now (I.left input.old) result
-        (O.taken out.old) (O.taken out.new) machine.new }
-    ensures unread { OnTrue (is_refusal result) (input.new ≡ input.old) }
+        (O.taken out.old) (O.taken out.new) machine.new (input.new ≡ input.old) }
     ensures reads_nothing { reads_input (command_of request.entry) ≡ false →
         input.new ≡ input.old }
     ensures caused { Caused result (I.faults input.old) (I.faults input.new)
@@ -244,8 +241,8 @@ fn answer_file<F: Files, I: Source, O: Sink>(
 ) -> Status
     requires { IsFresh machine.old }
     ensures settles { SettlesFile (F.told files.old) (command_of request.entry)
-        (I.left input.old) result (O.taken out.old) (O.taken out.new) machine.new }
-    ensures unread { OnTrue (is_refusal result) (input.new ≡ input.old) }
+        (I.left input.old) result (O.taken out.old) (O.taken out.new) machine.new
+        (input.new ≡ input.old) }
     ensures reads_nothing { reads_input (command_of request.entry) ≡ false →
         input.new ≡ input.old }
     ensures source_fault { result ≡ Status.SourceFault →
@@ -300,14 +297,16 @@ pub fn reggio<F: Files, I: Source, O: Sink, R: Sink>(
     ensures answered { OnTrue (is_answer result)
         (ForSource (F.told files.old) (I.left input.old) (texts words.now)
         (λ c source bytes.
-        Answers c source bytes result (O.taken out.old) (O.taken out.new) machine.new)) }
+        Answers c source bytes result (O.taken out.old) (O.taken out.new) machine.new
+        (input.new ≡ input.old))) }
     ensures untouched { OnTrue (is_refusal result)
-        (Untouched machine.new (O.taken out.old) (O.taken out.new)) }
+        (Untouched machine.new (O.taken out.old) (O.taken out.new) (input.new ≡ input.old)) }
     ensures cut_off { OnTrue (is_cut_off result)
-        (Untouched machine.new (O.taken out.old) (O.taken out.new)
+        (Untouched machine.new (O.taken out.old) (O.taken out.new) (input.new ≡ input.old)
         ⊎ ForSource (F.told files.old) (I.left input.old) (texts words.now)
         (λ c source bytes.
-        CutOffAt c source bytes machine.new (O.taken out.old) (O.taken out.new))) }
+        CutOffAt c source bytes machine.new (O.taken out.old) (O.taken out.new)
+        (input.new ≡ input.old))) }
     ensures cut_at_input { result ≡ Status.InputFault →
         ForSource (F.told files.old) (I.left input.old) (texts words.now) (λ c source bytes.
         CutAtInput c source bytes machine.new (O.taken out.old) (O.taken out.new)) }
@@ -317,7 +316,6 @@ pub fn reggio<F: Files, I: Source, O: Sink, R: Sink>(
         ¬ Rose (R.faults notes.old) (R.faults notes.new) →
         Appends (R.taken notes.old) (R.taken notes.new) (status_text 0 Status.OutputFault) }
     ensures files_unread { command (texts words.now) ≡ None → files.new ≡ files.old }
-    ensures input_unread { OnTrue (is_refusal result) (input.new ≡ input.old) }
     ensures reads_nothing { OnFalse (may_read (command (texts words.now)))
         (input.new ≡ input.old) }
 

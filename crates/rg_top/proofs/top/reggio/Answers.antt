@@ -1,10 +1,10 @@
 -- What the top call promises, from what the layers under it have answered.
-use Rattle.std.proofs.Common.{refl, inl, inr, ◌∙◌}
+use Rattle.std.proofs.Common.{◌≡◌, refl, inl, inr, ◌∙◌}
 use Rattle.rg_top.specs.declared.status.Status.TheVariants as status
 use Rattle.rg_top.specs.Commands.{texts}
 use Rattle.rg_top.specs.Inner.Requests.{command_of}
 use Rattle.rg_top.proofs.AnswerLemmas.{Answered, answer-answered, answer-cut, answer-input, answer-exactly, answer-refused, answer-complete}
-use Rattle.rg_top.proofs.AnswerLemmas.{answer-unread, answer-refusal, given-is, usage-exactly}
+use Rattle.rg_top.proofs.AnswerLemmas.{answer-unread, answer-untouched, given-is, usage-exactly}
 use Rattle.rg_top.proofs.top.reggio.Given.{Over}
 use Rattle.rg_top.proofs.top.reggio.Goals as goal
 
@@ -12,6 +12,7 @@ use Rattle.rg_top.proofs.top.reggio.Goals as goal
 answered : (g : Over) (c : goal.After-tell-in-Some g) →
     Answered (g.F.Files.told c.args.files.now) (g.I.Source.left c.args.input.now) (texts c.args.words.now) c.answer_file-status.result
     c.tell-in-Some.result (g.O.Sink.taken c.args.out.now) (g.O.Sink.taken c.answer_file-status.new.out) c.answer_file-status.new.machine
+    (c.answer_file-status.new.input ≡ c.args.input.now)
 answered g c = record {
   asked = command_of c.in-Some.request;
   command_is = c.in-Some.ensures;
@@ -28,8 +29,8 @@ returns-in-Some-clause-cut_off g c = answer-cut (answered g c)
 pub returns-in-Some-clause-cut_at_input : goal.returns-in-Some-clause-cut_at_input
 returns-in-Some-clause-cut_at_input g c = answer-input (answered g c)
 
-pub returns-in-Some-clause-input_unread : goal.returns-in-Some-clause-input_unread
-returns-in-Some-clause-input_unread g c = answer-refusal _ _ _ c.tell-in-Some.ensures.told c.answer_file-status.ensures.unread
+pub returns-in-Some-clause-untouched : goal.returns-in-Some-clause-untouched
+returns-in-Some-clause-untouched g c = answer-untouched (answered g c)
 
 pub returns-in-Some-clause-reads_nothing : goal.returns-in-Some-clause-reads_nothing
 returns-in-Some-clause-reads_nothing g c =
