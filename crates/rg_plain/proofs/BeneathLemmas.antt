@@ -1,5 +1,7 @@
 -- Regions that are found, link by link.
-use Rattle.std.proofs.Common.{◌≡◌, ℕ, zero, suc, ◌+◌, ◌<◌, ◌≤◌, ◌==◌, Bool, true, false, ◌||◌, ◌⊎◌, inl, inr, List, [], ◌∷◌, ◌++◌, length, get_or, set, replicate, take, drop, map, flat_map, All, refl, sym, ◌∙◌, ap, subst, arith, append-nil, length-append, add-one, Vec, Global}
+use Rattle.std.proofs.Common.{◌≡◌, ℕ, zero, suc, ◌+◌, ◌<◌, ◌≤◌, ◌==◌, Bool, true, false, ◌||◌, ◌⊎◌, inl, inr, List, [], ◌∷◌, ◌++◌, length, get_or}
+use Rattle.std.proofs.Common.{set, replicate, take, drop, map, flat_map, All, refl, sym, ◌∙◌, ap, subst, arith, append-nil, length-append, add-one}
+use Rattle.std.proofs.Common.{Vec, Global}
 use Rattle.std.proofs.lemmas.Bool.{eqb-true, eq-eqb, or_cases, true≢false}
 use Rattle.std.proofs.lemmas.List.{take_more, get_or-map, map-set, length-map, length-set, get_or-set_same, get_or-set_other}
 use Rattle.std.proofs.lemmas.Grind.{flat_map-append}
@@ -8,7 +10,7 @@ use Rattle.rg_tree.specs.Tree.{Class}
 use Rattle.rg_tree.proofs.TreesFrom.{Begins-same, Begins-trans, get_or-Begins}
 use Rattle.rg_rules.specs.Regions.{among, in_regions, led_from, beneath}
 use Rattle.rg_rules.proofs.RegionLemmas.{beneath-suc}
-use Rattle.rg_plain.specs.declared.beneath.Found.{Found}
+use Rattle.rg_plain.specs.declared.state.beneath.Found.{Found}
 use Rattle.rg_plain.specs.Inner.Beneath.{is_marked, AreMarked, listed, FindsToo, AreLinks}
 use Rattle.rg_plain.specs.Regions.{LabelsFit}
 use Rattle.rg_plain.proofs.AmongLemmas.{or-false, or-true, or-assoc, among-one, among-append, among-again, among-more, AreMarked-below, led-fits}

@@ -1,5 +1,6 @@
 -- Parameters with their values, one after another.
-use Rattle.std.proofs.Common.{◌≡◌, ℕ, zero, suc, ◌+◌, ◌<◌, List, [], ◌∷◌, ◌++◌, length, map, drop, get_or, Some, unwrap_or, IfSome, slice_get, refl, sym, ◌∙◌, ap, append_assoc, add-one}
+use Rattle.std.proofs.Common.{◌≡◌, ℕ, zero, suc, ◌+◌, ◌<◌, List, [], ◌∷◌, ◌++◌, length, map, drop, get_or, Some, unwrap_or, IfSome, slice_get, refl}
+use Rattle.std.proofs.Common.{sym, ◌∙◌, ap, append_assoc, add-one}
 use Rattle.std.proofs.lemmas.List.{drop_more, map-append}
 use Rattle.std.proofs.lemmas.List.Elements.{All-nil, All-cons, All-head, All-tail}
 use Rattle.rg_base.specs.declared.ty.Ty.{Ty}
@@ -13,7 +14,7 @@ use Rattle.rg_tree.specs.Rows.RowsExist.{IsNameIn}
 use Rattle.rg_rules.specs.Types.{type_of}
 use Rattle.rg_rules.specs.State.{Local}
 use Rattle.rg_rules.specs.RightSides.{bound}
-use Rattle.rg_plain.specs.declared.rows.LocalRow.{LocalRow}
+use Rattle.rg_plain.specs.declared.state.rows.LocalRow.{LocalRow}
 use Rattle.rg_plain.specs.Shown.{local_of, locals_of, AreNamed}
 
 bound-first : (cs : List Class) (p : Param) (ps : List Param) (vs : List Val) (i : ℕ) →

@@ -1,5 +1,6 @@
 -- Frames put on top of others, and steps of calls over what was found.
-use Rattle.std.proofs.Common.{◌≡◌, ℕ, ◌+◌, nat_lt, Bool, true, false, not, List, [], ◌∷◌, ◌++◌, All, length, map, reverse, Option, Some, Result, Ok, Err, refl, sym, ◌∙◌, ap, subst, arith}
+use Rattle.std.proofs.Common.{◌≡◌, ℕ, ◌+◌, nat_lt, Bool, true, false, not, List, [], ◌∷◌, ◌++◌, All, length, map, reverse, Option, Some, Result, Ok}
+use Rattle.std.proofs.Common.{Err, refl, sym, ◌∙◌, ap, subst, arith}
 use Rattle.std.specs.Prelude.{flat_map}
 use Rattle.std.proofs.Math.ListN.{length-map}
 use Rattle.std.proofs.lemmas.List.{reverse-append, length-reverse}
@@ -19,9 +20,9 @@ use Rattle.rg_rules.specs.Values.{Computed}
 use Rattle.rg_rules.specs.State.{Frame, State, Target, top_locals}
 use Rattle.rg_rules.specs.Evaluation.{object_at, path_value, values_of, uses, cleared}
 use Rattle.rg_rules.specs.RightSides.{called, called_frame, step_call}
-use Rattle.rg_plain.specs.declared.methods.MethodRow.{MethodRow}
-use Rattle.rg_plain.specs.declared.receivers.Receiver.{Receiver}
-use Rattle.rg_plain.specs.declared.rows.TargetRow.{TargetRow}
+use Rattle.rg_plain.specs.declared.values.methods.MethodRow.{MethodRow}
+use Rattle.rg_plain.specs.declared.values.paths.Receiver.{Receiver}
+use Rattle.rg_plain.specs.declared.state.rows.TargetRow.{TargetRow}
 use Rattle.rg_plain.specs.Inner.Calls.{Enters, receiver_of}
 use Rattle.rg_plain.specs.Kept.{Kept, FrameKept, frame_of, plain_of, shown, target_of}
 use Rattle.rg_plain.specs.Inner.Methods.{method_of}

@@ -11,11 +11,11 @@ use Rattle.rg_rules.specs.Items.{Do}
 use Rattle.rg_rules.specs.State.{State, locals_of, value_in, put_local}
 use Rattle.rg_rules.specs.Evaluation.{object_at, field_value, follow_fields}
 use Rattle.rg_rules.specs.Steps.{Went, next, stepped, put_field, step_swap}
-use Rattle.rg_plain.specs.declared.rows.ItemRow.{ItemRow}
-use Rattle.rg_plain.specs.declared.rows.LocalRow.{LocalRow}
-use Rattle.rg_plain.specs.declared.rows.ObjectRow.{ObjectRow}
-use Rattle.rg_plain.specs.declared.spots.Spot.{Spot}
-use Rattle.rg_plain.specs.declared.spots.Spot.TheVariants as spot
+use Rattle.rg_plain.specs.declared.state.rows.ItemRow.{ItemRow}
+use Rattle.rg_plain.specs.declared.state.rows.LocalRow.{LocalRow}
+use Rattle.rg_plain.specs.declared.state.rows.ObjectRow.{ObjectRow}
+use Rattle.rg_plain.specs.declared.values.paths.Spot.{Spot}
+use Rattle.rg_plain.specs.declared.values.paths.Spot.TheVariants as spot
 use Rattle.rg_plain.specs.Kept.{Kept, plain_of, shown as items_shown}
 use Rattle.rg_plain.specs.Shown as shown
 use Rattle.rg_plain.specs.Inner.Spots.{SpotIs, IsField, exchanged}

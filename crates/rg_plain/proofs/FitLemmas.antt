@@ -1,5 +1,6 @@
 -- Labels and windows of regions that were made.
-use Rattle.std.proofs.Common.{◌≡◌, ℕ, zero, suc, ◌<◌, ◌≤◌, List, [], ◌∷◌, ◌++◌, length, get_or, slice_set, All, Option, Some, None, IfSome, sym, ◌∙◌, ap, subst, arith, length-append}
+use Rattle.std.proofs.Common.{◌≡◌, ℕ, zero, suc, ◌<◌, ◌≤◌, List, [], ◌∷◌, ◌++◌, length, get_or, slice_set, All, Option, Some, None, IfSome, sym, ◌∙◌}
+use Rattle.std.proofs.Common.{ap, subst, arith, length-append}
 use Rattle.std.proofs.lemmas.List.{map-append}
 use Rattle.std.proofs.lemmas.List.Elements.{All-cons, All-head, All-tail, All-push, All-weaker, All-pop}
 use Rattle.rg_base.specs.declared.object.Seen.{Seen}
@@ -7,10 +8,10 @@ use Rattle.rg_base.specs.declared.object.Label.{Label}
 use Rattle.rg_base.specs.declared.object.Label.TheVariants.{Region, Temp, Frozen}
 use Rattle.rg_base.specs.declared.words.Manager.{Manager}
 use Rattle.rg_rules.specs.Regions.{region_of}
-use Rattle.rg_plain.specs.declared.makes.Kind.{Kind}
-use Rattle.rg_plain.specs.declared.makes.Kind.TheVariants as kind
-use Rattle.rg_plain.specs.declared.rows.ObjectRow.{ObjectRow}
-use Rattle.rg_plain.specs.declared.rows.WindowRow.{WindowRow}
+use Rattle.rg_plain.specs.declared.steps.new.Kind.{Kind}
+use Rattle.rg_plain.specs.declared.steps.new.Kind.TheVariants as kind
+use Rattle.rg_plain.specs.declared.state.rows.ObjectRow.{ObjectRow}
+use Rattle.rg_plain.specs.declared.state.rows.WindowRow.{WindowRow}
 use Rattle.rg_plain.specs.Inner.Makes.{managers_with}
 use Rattle.rg_plain.specs.Shown.{seen_of, store_of}
 use Rattle.rg_plain.specs.Regions.{LabelFits, LabelsFit, RegionsFit}

@@ -3,7 +3,7 @@ use Rattle.std.proofs.Common.{◌≡◌, List, [], ◌∷◌, ◌++◌, All, map
 use Rattle.std.proofs.lemmas.List.{map-append}
 use Rattle.std.proofs.lemmas.List.Elements.{All-nil, All-cons, All-head, All-tail, All-push}
 use Rattle.rg_tree.specs.Rows.Tables.{Tables}
-use Rattle.rg_plain.specs.declared.rows.FrameRow.{FrameRow}
+use Rattle.rg_plain.specs.declared.state.rows.FrameRow.{FrameRow}
 use Rattle.rg_plain.specs.Inner.Calls.{TakesFrame}
 use Rattle.rg_plain.specs.Fits.{TargetFits, FramesFit, FrameFits}
 use Rattle.rg_plain.specs.Kept.{kept_frame}

@@ -1,5 +1,6 @@
 -- Owner references in an object, field by field, and lists of the regions to which they lead.
-use Rattle.std.proofs.Common.{◌≡◌, ℕ, zero, suc, ◌+◌, ◌<◌, ◌≤◌, ◌==◌, Bool, true, false, if◌then◌else◌, List, [], ◌∷◌, ◌++◌, length, get_or, drop, take, filter_map, option_to_list, Some, set, refl, sym, ◌∙◌, ap, arith, append_assoc, append-nil, add-one, Vec, Global}
+use Rattle.std.proofs.Common.{◌≡◌, ℕ, zero, suc, ◌+◌, ◌<◌, ◌≤◌, ◌==◌, Bool, true, false, if◌then◌else◌, List, [], ◌∷◌, ◌++◌, length, get_or, drop}
+use Rattle.std.proofs.Common.{take, filter_map, option_to_list, Some, set, refl, sym, ◌∙◌, ap, arith, append_assoc, append-nil, add-one, Vec, Global}
 use Rattle.std.proofs.lemmas.Bool.{eqb-true, eq-eqb, true≢false}
 use Rattle.std.proofs.lemmas.List.{drop_all, length-map, get_or-map, take_more}
 use Rattle.std.proofs.lemmas.List.Elements.{filter_map-append}
@@ -12,7 +13,7 @@ use Rattle.rg_tree.specs.Rows.Tables.{Tables}
 use Rattle.rg_tree.specs.Rows.RowTrees.{classes_of}
 use Rattle.rg_rules.specs.Types.{fields_of, field_member}
 use Rattle.rg_rules.specs.Regions.{region_of, region_at, owned_as, owned_in, in_regions, led_from}
-use Rattle.rg_plain.specs.declared.rows.ObjectRow.{ObjectRow}
+use Rattle.rg_plain.specs.declared.state.rows.ObjectRow.{ObjectRow}
 use Rattle.rg_plain.specs.Inner.Beneath.{listed, links_in}
 use Rattle.rg_plain.specs.Shown.{seen_of, store_of}
 use Rattle.rg_plain.proofs.AmongLemmas.{among-one}

@@ -1,55 +1,17 @@
--- Variables by the numbers of their names are those by the names' bytes.
-use Rattle.std.proofs.Common.{◌≡◌, ◌≢◌, ℕ, zero, suc, ◌≤◌, Bool, true, false, ◌==◌, if◌then◌else◌, List, [], ◌∷◌, length, option_map, Option, Some, None, IfSome, slice_get, slice_set, arith, bytes_eq, refl, sym, ◌∙◌, ap, inl, inr}
-use Rattle.std.proofs.lemmas.Bool.Decides.{eqb_tells}
-use Rattle.std.proofs.lemmas.List.Elements.{All-head, All-tail}
-use Rattle.std.proofs.lemmas.Slice.Eq.{bytes_eq-Decides}
+-- Variables at their places.
+use Rattle.std.proofs.Common.{◌≡◌, ℕ, zero, suc, ◌≤◌, Bool, true, false, if◌then◌else◌, List, [], ◌∷◌, length, option_map, Option, Some, None}
+use Rattle.std.proofs.Common.{slice_get, slice_set, arith, refl, sym, ◌∙◌, ap}
 use Rattle.std.proofs.lemmas.Option.{slice_get-map}
 use Rattle.rg_base.specs.declared.value.Val.{Val}
 use Rattle.rg_base.specs.declared.value.Val.TheVariants.{Nil}
 use Rattle.rg_tree.specs.Tree.{Variable}
-use Rattle.rg_tree.specs.Rows.Tables.{Tables, name_at, AreDistinct}
-use Rattle.rg_tree.specs.Rows.RowsExist.{IsNameIn}
-use Rattle.rg_tree.proofs.Callers.{name_at-injective}
+use Rattle.rg_tree.specs.Rows.Tables.{Tables}
 use Rattle.rg_rules.specs.Environment.{same_variable}
 use Rattle.rg_rules.specs.State.{Local, value_in, place_in, set_in}
 use Rattle.rg_rules.specs.Capabilities.{is_iso}
 use Rattle.rg_rules.specs.Evaluation.{is_iso_local}
-use Rattle.rg_plain.specs.declared.rows.LocalRow.{LocalRow}
-use Rattle.rg_plain.specs.Shown.{local_of, locals_of, AreNamed, same_number, place_at}
-
-bytes-same : (x y : List ℕ) → x ≡ y → bytes_eq x y ≡ true
-bytes-same x y e = (bytes_eq-Decides x y).1 e
-
-bytes-apart : (x y : List ℕ) → x ≢ y → bytes_eq x y ≡ false
-bytes-apart x y n = by (bytes_eq x y) refl
-  where
-    by : (b : Bool) → bytes_eq x y ≡ b → bytes_eq x y ≡ false
-    by true e = absurd (n ((bytes_eq-Decides x y).0 e))
-    by false e = e
-
--- two names are one where their numbers are
-name-eq : (t : Tables) → AreDistinct t.names → (i j : ℕ) → IsNameIn t i → IsNameIn t j →
-    bytes_eq (name_at t i) (name_at t j) ≡ (i == j)
-name-eq t d i j li lj = elim (eqb_tells i j) [
-  | inl same ↦ bytes-same (name_at t i) (name_at t j) (ap (name_at t) same.1) ∙ sym same.0
-  | inr apart ↦ bytes-apart (name_at t i) (name_at t j) (λ e. apart.1 (name_at-injective t d i j li lj e)) ∙ sym apart.0
-]
-
-pub same_variable-number : (t : Tables) → AreDistinct t.names → (a b : Option ℕ) → IfSome a (IsNameIn t) → IfSome b (IsNameIn t) →
-    same_variable (option_map (name_at t) a) (option_map (name_at t) b) ≡ same_number a b
-same_variable-number t d None None la lb = refl
-same_variable-number t d None (Some y) la lb = refl
-same_variable-number t d (Some x) None la lb = refl
-same_variable-number t d (Some x) (Some y) la lb = name-eq t d x y la lb
-
--- the place of a variable
-pub place_in-numbers : (t : Tables) → AreDistinct t.names → (ls : List LocalRow) (x : Option ℕ) → AreNamed t ls → IfSome x (IsNameIn t) →
-    place_in (locals_of t ls) (option_map (name_at t) x) ≡ place_at ls x
-place_in-numbers t d [] x named lx = refl
-place_in-numbers t d (l ∷ ls) x named lx =
-    let here = same_variable-number t d l.name x (All-head (λ m. IfSome m.name (IsNameIn t)) l ls named) lx in
-    let rest = place_in-numbers t d ls x (All-tail (λ m. IfSome m.name (IsNameIn t)) l ls named) lx in
-    rw (here, rest) refl
+use Rattle.rg_plain.specs.declared.state.rows.LocalRow.{LocalRow}
+use Rattle.rg_plain.specs.Shown.{local_of, locals_of}
 
 -- what a variable holds, by its place
 abbrev pub held_at : Option Local → Val

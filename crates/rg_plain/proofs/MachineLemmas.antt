@@ -10,11 +10,11 @@ use Rattle.rg_rules.specs.Runs.{opening}
 use Rattle.rg_base.specs.declared.outcome.Outcome.{Outcome}
 use Rattle.rg_names.specs.Table.{Table}
 use Rattle.rg_names.specs.TableOf.{IsTableOf}
-use Rattle.rg_plain.specs.declared.parts.Parts.{Parts}
+use Rattle.rg_plain.specs.declared.state.parts.Parts.{Parts}
 use Rattle.rg_plain.specs.Shown.{seen_of, AreNamed}
 use Rattle.rg_plain.specs.Fits.{PartsFit, TargetFits}
 use Rattle.rg_plain.specs.Regions.{LabelFits}
-use Rattle.rg_plain.specs.declared.rows.WindowRow.{WindowRow}
+use Rattle.rg_plain.specs.declared.state.rows.WindowRow.{WindowRow}
 use Rattle.rg_plain.specs.Kept.{Kept, FrameKept, kept_of, kept_frame, shown, plain_of}
 use Rattle.rg_plain.specs.Inner.Inputs.{SettlesOn}
 use Rattle.rg_plain.specs.Outcomes.{EndsMain}
@@ -25,9 +25,9 @@ All-unmap P f [] all = All-nil (λ y. P (f y))
 All-unmap P f (y ∷ ys) all =
     All-cons (λ y. P (f y)) y ys (All-head P (f y) (map f ys) all) (All-unmap P f ys (All-tail P (f y) (map f ys) all))
 
-pub parts_fit : (t : Tables) (table : Table) (p : Parts) → IsTableOf t table → KeptFits t (kept_of p) → PartsFit t table p
-parts_fit t table p is fits = record {
-  objects = record { table_is = is; classes = All-unmap (λ (o : Seen). o.class < length (classes_of t)) seen_of p.store.items fits.classes };
+pub parts_fit : (t : Tables) (p : Parts) → KeptFits t (kept_of p) → PartsFit t p
+parts_fit t p fits = record {
+  objects = All-unmap (λ (o : Seen). o.class < length (classes_of t)) seen_of p.store.items fits.classes;
   named = fits.named;
   below = All-unmap (λ (f : FrameKept). AreNamed t f.locals) kept_frame p.below.items fits.below;
   targets = All-unmap (λ (f : FrameKept). TargetFits t f.target) kept_frame p.below.items fits.targets;
@@ -36,9 +36,9 @@ parts_fit t table p is fits = record {
   regions = fits.regions;
 }
 
-pub kept_fits : (t : Tables) (table : Table) (p : Parts) → PartsFit t table p → KeptFits t (kept_of p)
-kept_fits t table p fits = record {
-  classes = All-map (λ (o : Seen). o.class < length (classes_of t)) seen_of p.store.items fits.objects.classes;
+pub kept_fits : (t : Tables) (p : Parts) → PartsFit t p → KeptFits t (kept_of p)
+kept_fits t p fits = record {
+  classes = All-map (λ (o : Seen). o.class < length (classes_of t)) seen_of p.store.items fits.objects;
   named = fits.named;
   below = All-map (λ (f : FrameKept). AreNamed t f.locals) kept_frame p.below.items fits.below;
   targets = All-map (λ (f : FrameKept). TargetFits t f.target) kept_frame p.below.items fits.targets;
@@ -89,17 +89,18 @@ begins t table k m is begun m_is =
 same_table : (o : Option Table) (a b : Table) → o ≡ Some a → o ≡ Some b → a ≡ b
 same_table o a b here there = let same : Some a ≡ Some b = sym here ∙ there in cc
 
-is_table : (t : Tables) (m : Machine) (a : Table) → Fits t m → m.classes ≡ Some a → IsTableOf t a
-is_table t m a fits there = let P : Table → Type 0 = λ q. IsTableOf t q in subst P (same_table m.classes fits.table a fits.classes there) fits.table_is
+pub is_table : (t : Tables) (m : Machine) (a : Table) → Fits t m → m.classes ≡ Some a → IsTableOf t a
+is_table t m a fits there = let P : Table → Type 0 = λ q. IsTableOf t q in subst P (same_table m.classes fits.table a fits.classes there)
+    fits.table_is
 
 -- the parts of a machine that runs the program
-pub fits_parts : (t : Tables) (m : Machine) (p : Parts) (a : Table) → Fits t m → m.classes ≡ Some a → kept_of p ≡ m.kept → PartsFit t a p
-fits_parts t m p a fits there same =
+pub fits_parts : (t : Tables) (m : Machine) (p : Parts) → Fits t m → kept_of p ≡ m.kept → PartsFit t p
+fits_parts t m p fits same =
     let P : Kept → Type 0 = λ q. KeptFits t q in
-    parts_fit t a p (is_table t m a fits there) (subst P (sym same) fits.kept)
+    parts_fit t p (subst P (sym same) fits.kept)
 
 -- the machine after a step still runs it
-pub fits_again : (t : Tables) (m : Machine) (p : Parts) (a : Table) (new : Machine) → Fits t m → m.classes ≡ Some a → PartsFit t a p →
+pub fits_again : (t : Tables) (m : Machine) (p : Parts) (a : Table) (new : Machine) → Fits t m → m.classes ≡ Some a → PartsFit t p →
     EndsMain (shown t p.items.items) → new.classes ≡ Some a → new.kept ≡ kept_of p → Fits t new
 fits_again t m p a new fits there fit ends has same =
     let P : Kept → Type 0 = λ q. KeptFits t q in
@@ -108,7 +109,7 @@ fits_again t m p a new fits there fit ends has same =
       table = a;
       classes = has;
       table_is = is_table t m a fits there;
-      kept = subst P (sym same) (kept_fits t a p fit);
+      kept = subst P (sym same) (kept_fits t p fit);
       ends = subst E (sym same) ends;
     }
 

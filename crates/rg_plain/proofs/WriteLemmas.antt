@@ -8,7 +8,7 @@ use Rattle.rg_rules.specs.Steps.{put_field}
 use Rattle.rg_rules.specs.State.{State}
 use Rattle.rg_rules.specs.Evaluation.{with_field}
 use Rattle.rg_tree.specs.Tree.{Name, Class}
-use Rattle.rg_plain.specs.declared.rows.ObjectRow.{ObjectRow}
+use Rattle.rg_plain.specs.declared.state.rows.ObjectRow.{ObjectRow}
 use Rattle.rg_plain.specs.Shown.{seen_of, store_of}
 
 some-same : (o p : Seen) → Some o ≡ Some p → o ≡ p

@@ -4,17 +4,15 @@ use Rattle.rg_tree.specs.Rows.Tables.{Tables}
 use Rattle.rg_tree.specs.Rows.RowTrees.{expr_at, stmt_at}
 use Rattle.rg_rules.specs.Items.{Do}
 use Rattle.rg_rules.specs.Evaluation.{uses, cleared}
-use Rattle.rg_names.specs.Table.{Table}
-use Rattle.rg_plain.specs.declared.rows.LocalRow.{LocalRow}
+use Rattle.rg_plain.specs.declared.state.rows.LocalRow.{LocalRow}
 use Rattle.rg_tree.specs.Rows.RowsExist.{IsNameIn}
-use Rattle.rg_plain.specs.declared.rows.ItemRow.{ItemRow}
-use Rattle.rg_plain.specs.declared.rows.FrameRow.{FrameRow}
-use Rattle.rg_plain.specs.declared.rows.TargetRow.{TargetRow}
-use Rattle.rg_plain.specs.declared.rows.TargetRow.TheVariants as target
-use Rattle.rg_plain.specs.declared.parts.Parts.{Parts}
-use Rattle.rg_plain.specs.Shown.{locals_of, store_of, AreNamed}
+use Rattle.rg_plain.specs.declared.state.rows.ItemRow.{ItemRow}
+use Rattle.rg_plain.specs.declared.state.rows.FrameRow.{FrameRow}
+use Rattle.rg_plain.specs.declared.state.rows.TargetRow.{TargetRow}
+use Rattle.rg_plain.specs.declared.state.rows.TargetRow.TheVariants as target
+use Rattle.rg_plain.specs.declared.state.parts.Parts.{Parts}
+use Rattle.rg_plain.specs.Shown.{locals_of, store_of, AreNamed, AreOfClasses}
 use Rattle.rg_plain.specs.Regions.{RegionsFit}
-use Rattle.rg_plain.specs.Read.{HasObjects}
 use Rattle.rg_plain.specs.Kept.{Kept, shown, ItemsFit}
 
 -- the names in a target are the program's
@@ -24,8 +22,8 @@ TargetFits t (target.Assigns x) = IfSome x (IsNameIn t)
 TargetFits t target.Drops = Unit {0}
 
 -- each number that the machine keeps names a row of the program, or a region that was made
-pub record PartsFit (t : Tables) (table : Table) (p : Parts) : Type 0 where
-  pub objects : HasObjects t table p.store.items
+pub record PartsFit (t : Tables) (p : Parts) : Type 0 where
+  pub objects : AreOfClasses t p.store.items
   pub named : AreNamed t p.frame.locals.items
   pub below : All (λ f. AreNamed t f.locals.items) p.below.items
   pub targets : All (λ f. TargetFits t f.target) p.below.items

@@ -9,7 +9,7 @@ use Rattle.rg_rules.specs.Steps.{next}
 use Rattle.rg_rules.specs.Runs.{opening}
 use Rattle.rg_names.specs.Table.{Table}
 use Rattle.rg_names.specs.TableOf.{IsTableOf}
-use Rattle.rg_plain.specs.declared.rows.TargetRow.TheVariants as target
+use Rattle.rg_plain.specs.declared.state.rows.TargetRow.TheVariants as target
 use Rattle.rg_plain.specs.Shown.{AreNamed}
 use Rattle.rg_plain.specs.Kept.{Kept, plain_of, shown, ItemsFit}
 use Rattle.rg_plain.specs.Fits.{TargetFits}

@@ -3,7 +3,7 @@ use Rattle.std.specs.Prelude.{ℕ, ◌<◌, List, All}
 use Rattle.rg_base.specs.declared.object.Label.{Label}
 use Rattle.rg_base.specs.declared.object.Label.TheVariants.{Region, Temp, Frozen}
 use Rattle.rg_base.specs.declared.object.Seen.{Seen}
-use Rattle.rg_plain.specs.declared.rows.WindowRow.{WindowRow}
+use Rattle.rg_plain.specs.declared.state.rows.WindowRow.{WindowRow}
 
 -- the region of a label, if it is one, is among the first so many
 abbrev pub LabelFits : (count : ℕ) → Label → Type 0

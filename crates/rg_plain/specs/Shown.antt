@@ -1,12 +1,12 @@
 -- What the rows of the machine stand for: variables and objects of a plain state. A name's number stands for its bytes.
-use Rattle.std.specs.Prelude.{ℕ, suc, ◌<◌, List, [], ◌∷◌, Bool as Truth, true, false, ◌==◌, if◌then◌else◌, length, map, option_map, Option, Some, None, All, IfSome}
+use Rattle.std.specs.Prelude.{◌<◌, List, length, map, option_map, All, IfSome}
 use Rattle.rg_base.specs.declared.object.Seen.{Seen}
 use Rattle.rg_tree.specs.Rows.Tables.{Tables, name_at}
 use Rattle.rg_tree.specs.Rows.RowTrees.{classes_of}
 use Rattle.rg_tree.specs.Rows.RowsExist.{IsNameIn}
 use Rattle.rg_rules.specs.State.{Local}
-use Rattle.rg_plain.specs.declared.rows.LocalRow.{LocalRow}
-use Rattle.rg_plain.specs.declared.rows.ObjectRow.{ObjectRow}
+use Rattle.rg_plain.specs.declared.state.rows.LocalRow.{LocalRow}
+use Rattle.rg_plain.specs.declared.state.rows.ObjectRow.{ObjectRow}
 
 -- a variable
 abbrev pub local_of : Tables → LocalRow → Local
@@ -31,15 +31,3 @@ AreNamed t ls = All (λ l. IfSome l.name (IsNameIn t)) ls
 -- each object's class is one of the program's
 abbrev pub AreOfClasses : Tables → List ObjectRow → Type 0
 AreOfClasses t os = All (λ o. o.class < length (classes_of t)) os
-
--- whether two names are one, by their numbers
-abbrev pub same_number : Option ℕ → Option ℕ → Truth
-same_number None None = true
-same_number None (Some y) = false
-same_number (Some x) None = false
-same_number (Some x) (Some y) = x == y
-
--- the place of the first variable of a name, or the number of variables
-abbrev pub place_at : List LocalRow → Option ℕ → ℕ
-place_at [] x = 0
-place_at (l ∷ ls) x = if same_number l.name x then 0 else suc (place_at ls x)

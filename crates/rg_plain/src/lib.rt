@@ -1,39 +1,12 @@
-//! The machine that never frees, as a program (docs/language.md, "Steps").
+//! The machine that never frees, as a program (docs/language.md, "Steps"). `PlainMachine::begin`
+//! takes an accepted program; `step` makes one step and `run` as many as are asked for. Its clauses
+//! say that what is kept stands for the states of `rg_rules`, step by step (`Settles`, `RunIs`).
 #![tactic(auto)]
 
-mod aims;
-mod arguments;
-mod at;
-mod beneath;
-mod call;
-mod call_statements;
-mod calls;
-mod dispatch;
-mod expressions;
-mod fields;
-mod holders;
-mod inputs;
-mod items;
 mod line;
-mod locals;
 mod machine;
-mod makes;
-mod methods;
-mod moves;
-mod objects;
-mod opening;
-mod operators;
-mod parts;
-mod receivers;
-mod regions;
-mod returns;
-mod right_sides;
-mod rows;
-mod spots;
+mod state;
 mod steps;
-mod types;
-mod using;
-mod windows;
-mod writes;
+mod values;
 
 pub use machine::PlainMachine;

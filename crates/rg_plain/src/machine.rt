@@ -1,28 +1,27 @@
 //! The machine that never frees (docs/language.md, "Steps").
 
-ghost use Rattle.std.specs.Prelude.{◌≡◌, ◌≢◌, ◌≤◌, [], ℕ, length, false, true, slice_get};
-ghost use Rattle.std.specs.Prelude.{OnOk, OnErr, IfOk};
+ghost use Rattle.std.specs.Prelude.{◌≡◌, ◌≢◌, ◌≤◌, [], IfOk, OnErr, OnOk, false, length, slice_get};
+ghost use Rattle.std.specs.Prelude.{true, ℕ};
 ghost use Rattle.rg_tree.specs.Rows.RowTrees.{program_of};
 ghost use Rattle.rg_rules.specs.Acceptance.{Accepted};
+ghost use Rattle.rg_rules.specs.Inputs.{first_asks};
 ghost use Rattle.rg_io.specs.Content.{Rose};
 ghost use Rattle.rg_input.specs.Numbers.{Follows, OnInput};
 ghost use Rattle.rg_names.specs.TableOf.{IsTableOf};
 ghost use Rattle.rg_plain.specs.Kept.{kept_of, shown};
+ghost use Rattle.rg_plain.specs.Machine.{Begins, BegunWith, Fits, StepsOn, fresh, state_of};
 ghost use Rattle.rg_plain.specs.Outcomes.{LeavesRows};
-ghost use Rattle.rg_rules.specs.Inputs.{first_asks};
-ghost use Rattle.rg_plain.specs.Machine.{fresh, Fits, Begins, BegunWith, StepsOn};
-ghost use Rattle.rg_plain.specs.Machine.{state_of};
-ghost use Rattle.rg_plain.specs.Runs.{RunIs};
+ghost use Rattle.rg_plain.specs.Runs.{NoneAsks, RunIs, begun};
 
-use crate::dispatch::whole_step;
-use crate::items::open;
 use crate::line::put_value;
-use crate::parts::Parts;
-use crate::rows::{FrameRow, TargetRow, WindowRow};
-use rg_base::{Ended, Memory, Outcome, Seen, Val, Vals};
+use crate::state::items::open;
+use crate::state::parts::Parts;
+use crate::state::rows::{FrameRow, TargetRow, WindowRow};
+use crate::steps::whole_step;
+use rg_base::{Ended, Memory, Outcome, Seen, Stop, Val, Vals};
 use rg_input::Numbers;
 use rg_io::{Failed, Sink, Source};
-use rg_names::Classes;
+use rg_names::{Book, Classes};
 use rg_tree::Program;
 use std::alloc::Global;
 use std::marker::Model;
@@ -45,11 +44,13 @@ impl Model for PlainMachine {
 
 /// The class table of an accepted program.
 fn table(alloc: Global, program: &Program) -> Result<Classes, Memory>
+    requires { Accepted (program_of program.now) }
     ensures { IfOk result (IsTableOf program.now) }
 {
     match Classes::of(alloc, program) {
         Ok(classes) => Ok(classes),
-        Err(_) => Err(Memory),
+        Err(Stop::Memory) => Err(Memory),
+        Err(Stop::Fault(_)) => unreachable!(),
     }
 }
 
@@ -80,18 +81,18 @@ fn fresh_parts(alloc: Global) -> Parts
 }
 
 /// Puts main's block in front, and its manager to region 0.
-fn begin_parts(program: &Program, m: &mut Parts) -> Result<(), Memory>
+fn begin_parts(book: &Book, m: &mut Parts) -> Result<(), Memory>
     requires fresh { kept_of m.old ≡ fresh.kept }
-    ensures begun { OnOk result (BegunWith program.now (kept_of m.new)) }
+    ensures begun { OnOk result (BegunWith book.now.program (kept_of m.new)) }
     ensures kept { OnErr result (kept_of m.new ≡ kept_of m.old) }
 {
     let Ok(()) = m.items.reserve(2) else {
         return Err(Memory);
     };
-    let Ok(()) = m.managers.push(program.main_manager()) else {
+    let Ok(()) = m.managers.push(book.main_manager()) else {
         return Err(Memory);
     };
-    open(program, &mut m.items, 0, program.main_body());
+    open(book, &mut m.items, 0, book.main_body());
     Ok(())
 }
 
@@ -125,7 +126,7 @@ impl PlainMachine {
         ensures kept { OnErr result (self.new ≡ self.old) }
     {
         let classes = table(alloc, program)?;
-        begin_parts(program, &mut self.parts)?;
+        begin_parts(&Book::new(program, &classes), &mut self.parts)?;
         self.classes = Some(classes);
         Ok(())
     }
@@ -157,12 +158,16 @@ impl PlainMachine {
         ensures never_falls { S.faults source.old ≤ S.faults source.new }
     {
         match &self.classes {
-            Some(classes) => { whole_step(alloc, program, classes, &mut self.parts, input, source) }
-            None => Outcome::Memory,
+            Some(classes) => {
+                let book = Book::new(program, classes);
+                whole_step(alloc, &book, &mut self.parts, input, source)
+            }
+            None => unreachable!(),
         }
     }
 
-    /// Makes at most `n` steps. Each printed line is given to `out` in its own step.
+    /// Makes at most `n` steps. Each printed line is given to `out` in its own step. Where no step
+    /// asks, nothing is read.
     pub fn run<S: Source, O: Sink>(
         &mut self,
         alloc: Global,
@@ -179,6 +184,11 @@ impl PlainMachine {
         ensures run { OnInput input.old input.new (S.left source.old) (S.left source.new)
             (λ before after. (k : ℕ) × RunIs program.now (state_of program.now self.old before) n k
             self.new after (O.taken out.old) (O.taken out.new) result) }
+        ensures reads_nothing { OnInput input.old input.new (S.left source.old) (S.left source.new)
+            (λ before after. let start = state_of program.now self.old before in (k : ℕ) × (RunIs
+            program.now start n k self.new after (O.taken out.old) (O.taken out.new) result ×
+            (NoneAsks program.now start (begun result k) → (input.new ≡ input.old) × (source.new ≡
+            source.old)))) }
         ensures fits { Fits program.now self.new }
         ensures follows { Follows input.new (S.left source.new) }
 
@@ -212,6 +222,11 @@ impl PlainMachine {
         ensures run { OnInput input.old input.new (S.left source.old) (S.left source.new)
             (λ before after. RunIs program.now (state_of program.now self.old before) n steps.new
             self.new after (O.taken out.old) (O.taken out.new) result) }
+        ensures within { begun result steps.new ≤ n }
+        ensures reads_nothing { OnInput input.old input.new (S.left source.old) (S.left source.new) (λ before after.
+            let start = state_of program.now self.old before in RunIs program.now start n steps.new
+            self.new after (O.taken out.old) (O.taken out.new) result × (NoneAsks program.now start
+            (begun result steps.new) → (input.new ≡ input.old) × (source.new ≡ source.old))) }
         ensures fits { Fits program.now self.new }
         ensures follows { Follows input.new (S.left source.new) }
 

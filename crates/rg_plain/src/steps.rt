@@ -1,194 +1,241 @@
-//! The steps of statements (docs/language.md, "Steps"). Each computes its value first, which may
-//! trap, then makes the room that it needs, and then changes the machine, which can't fail.
+//! The step of the thing to do that comes next (docs/language.md, "Steps").
 
-ghost use Rattle.std.specs.Prelude.{◌≡◌, ◌≢◌, ◌+◌, ◌≤◌, ◌++◌, ◌∷◌, [], ℕ, List};
-ghost use Rattle.std.specs.Prelude.{Option, IfSome, length, vec_capacity};
-ghost use Rattle.rg_tree.specs.Tree.{stmt, print, branch, while, collect};
-ghost use Rattle.rg_tree.specs.Rows.RowTrees.{classes_of, expr_at, stmt_at, block_of, else_over};
-ghost use Rattle.rg_tree.specs.Rows.RowsExist.{IsExprNumber, IsBlockIn};
-ghost use Rattle.rg_rules.specs.Steps.{next};
-ghost use Rattle.rg_plain.specs.Fits.{PartsFit, Spends, KeepsRoom};
-ghost use Rattle.rg_plain.specs.Kept.{kept_of, plain_of};
-ghost use Rattle.rg_plain.specs.Outcomes.{PrintsOrStays};
-ghost use Rattle.rg_plain.specs.Inner.Steps.{StepIs, IsAt};
+mod assign;
+mod branch;
+mod call;
+mod enter;
+mod frames;
+mod input;
+mod move_;
+mod new;
+mod print;
+pub(crate) mod refusal;
+mod return_;
+mod swap;
+pub(crate) mod targets;
 
-use crate::at::At;
-use crate::expressions::value;
-use crate::items::{advance, after_end, open, pop_row};
-use crate::locals::keep;
-use crate::operators::as_bool;
-use crate::parts::Parts;
-use crate::rows::ItemRow;
-use crate::using::use_up;
+ghost use Rattle.std.specs.Prelude.{◌++◌, ◌∷◌, ◌≡◌, ◌≢◌, ◌≤◌, [], List, false, length, true, ℕ};
+ghost use Rattle.rg_tree.specs.Rows.RowTrees.{kind_over, stmt_at};
+ghost use Rattle.rg_tree.specs.Rows.RowsExist.{IsKindIn};
+ghost use Rattle.rg_tree.specs.Tree.{collect, stmt};
+ghost use Rattle.rg_rules.specs.Inputs.{first_asks, kind_asks};
+ghost use Rattle.rg_io.specs.Content.{Rose};
+ghost use Rattle.rg_input.specs.Numbers.{Follows, OnInput};
+ghost use Rattle.rg_plain.specs.Fits.{PartsFit};
+ghost use Rattle.rg_plain.specs.Inner.Inputs.{SettlesOn, StepOn};
+ghost use Rattle.rg_plain.specs.Inner.Steps.{IsAt, Makes, Stands};
+ghost use Rattle.rg_plain.specs.Kept.{kept_of, shown};
+ghost use Rattle.rg_plain.specs.Outcomes.{EndsMain, LeavesRows, PrintsOrStays, QuietOrPrints};
+ghost use Rattle.rg_plain.specs.Outcomes.{settled_outcome};
+
+use crate::state::items::{At, advance, first};
+use crate::state::parts::Parts;
+use crate::state::rows::ItemRow;
+use crate::steps::assign::right_step;
+use crate::steps::branch::{branch_step, end_step, while_step};
+use crate::steps::call::call_step;
+use crate::steps::enter::{enter_step, leave_step};
+use crate::steps::print::print_step;
+use crate::steps::refusal::{Refusal, outcome, printed};
+use crate::steps::return_::{back_step, return_step};
+use crate::steps::swap::swap_step;
+use crate::steps::targets::Left;
 use rg_base::Outcome;
-use rg_names::Classes;
-use rg_tree::{Program, Span};
+use rg_input::Numbers;
+use rg_io::Source;
+use rg_names::Book;
+use rg_tree::{Span, StmtKind};
+use std::alloc::Global;
 
-/// Uses an expression up, and takes its statement away.
-pub(crate) fn spend(program: &Program, classes: &Classes, m: &mut Parts, at: At, e: u32)
-    requires fit { PartsFit program.now classes.now m.old }
-    requires at { IsAt program.now m.old.items.items at.span at.number }
-    requires there { IsExprNumber program.now e }
-    ensures spends { Spends program.now (kept_of m.old) (kept_of m.new) at.number e }
-    ensures fit { PartsFit program.now classes.now m.new }
-    ensures rooms { KeepsRoom m.old m.new }
-{
-    let _ = classes;
-    use_up(program, &mut m.frame.locals, e);
-    advance(program, &mut m.items, at.span, at.number);
-}
-
-/// Prints a value.
-pub(crate) fn print_step(
-    program: &Program,
-    classes: &Classes,
+/// Does what a statement says.
+fn kind_step<S: Source>(
+    alloc: Global,
+    book: &Book,
     m: &mut Parts,
     at: At,
-    e: u32,
+    kind: StmtKind,
+    numbers: &mut Numbers,
+    source: &mut S,
 ) -> Outcome
-    requires fit { PartsFit program.now classes.now m.old }
-    requires at { IsAt program.now m.old.items.items at.span at.number }
-    requires tree { stmt_at program.now at.number ≡ stmt at.line (print (expr_at program.now e)) }
-    requires there { IsExprNumber program.now e }
-    ensures step { (input : List ℕ) → let old = plain_of program.now (kept_of m.old) input in
-        StepIs (next (classes_of program.now) old) old
-        (plain_of program.now (kept_of m.new) input) result }
-    ensures fit { PartsFit program.now classes.now m.new }
-    ensures reads_nothing { result ≢ Outcome.InputFault }
-    ensures prints { PrintsOrStays result }
-{
-    let v = match value(program, classes, &m.store, &m.frame.locals, e) {
-        Ok(v) => v,
-        Err(kind) => return Outcome::Trap {
-            kind,
-            line: at.line,
-        },
-    };
-    let Ok(()) = m.output.push(v) else {
-        return Outcome::Memory;
-    };
-    spend(program, classes, m, at, e);
-    Outcome::Printed(v)
-}
+    requires fit { PartsFit book.now.program m.old }
+    requires at { IsAt book.now.program m.old.items.items at.span at.number }
+    requires tree { stmt_at book.now.program at.number
+        ≡ stmt at.line (kind_over book.now.program (stmt_at book.now.program) kind) }
+    requires below { IsKindIn book.now.program (length book.now.program.stmts) kind }
+    requires follows { Follows numbers.old (S.left source.old) }
 
-/// Chooses a block by its test.
-pub(crate) fn if_step(
-    program: &Program,
-    classes: &Classes,
-    m: &mut Parts,
-    at: At,
-    test: u32,
-    yes: Span,
-    no: Option<Span>,
-) -> Outcome
-    requires fit { PartsFit program.now classes.now m.old }
-    requires at { IsAt program.now m.old.items.items at.span at.number }
-    requires tree { stmt_at program.now at.number ≡ stmt at.line (
-        branch (expr_at program.now test) (block_of program.now yes)
-        (else_over program.now (stmt_at program.now) no)) }
-    requires there { IsExprNumber program.now test }
-    requires yes { IsBlockIn program.now yes }
-    requires no { IfSome no (IsBlockIn program.now) }
-    ensures step { (input : List ℕ) → let old = plain_of program.now (kept_of m.old) input in
-        StepIs (next (classes_of program.now) old) old
-        (plain_of program.now (kept_of m.new) input) result }
-    ensures fit { PartsFit program.now classes.now m.new }
-    ensures reads_nothing { result ≢ Outcome.InputFault }
+    ensures step { OnInput numbers.old numbers.new (S.left source.old) (S.left source.new)
+        (StepOn book.now.program (kept_of m.old) (kept_of m.new) result) }
+    ensures reads_nothing { kind_asks (kind_over book.now.program (stmt_at book.now.program) kind) ≡
+        false → (numbers.new ≡ numbers.old) × (source.new ≡ source.old) }
+    ensures fit { PartsFit book.now.program m.new }
+    ensures prints { (e : ℕ) → kind ≡ StmtKind.Print e → PrintsOrStays result }
+
+    ensures follows { Follows numbers.new (S.left source.new) }
+    ensures input_fault { result ≡ Outcome.InputFault →
+        kind_asks (kind_over book.now.program (stmt_at book.now.program) kind) ≡ true }
+    ensures fault { result ≡ Outcome.InputFault → Rose (S.faults source.old) (S.faults source.new) }
+    ensures never_falls { S.faults source.old ≤ S.faults source.new }
 {
-    let v = match value(program, classes, &m.store, &m.frame.locals, test) {
-        Ok(v) => v,
-        Err(kind) => return Outcome::Trap {
-            kind,
-            line: at.line,
-        },
-    };
-    let Ok(()) = m.items.reserve(2) else {
-        return Outcome::Memory;
-    };
-    spend(program, classes, m, at, test);
-    let kept = m.frame.locals.len();
-    if as_bool(v) {
-        open(program, &mut m.items, kept, yes);
-        return Outcome::Running;
+    match kind {
+        StmtKind::Let { name, ty, right } => {
+            let left = Left::Let { name, ty };
+            right_step(alloc, book, m, at, left, right, numbers, source)
+        }
+        StmtKind::Set { path, right } => {
+            let left = Left::Set(path);
+            right_step(alloc, book, m, at, left, right, numbers, source)
+        }
+        StmtKind::If { test, yes, no } => {
+            outcome(branch_step(book, m, at, test, yes, no), at.line)
+        }
+        StmtKind::While { test, body } => outcome(while_step(book, m, at, test, body), at.line),
+        StmtKind::Print(e) => printed(print_step(book, m, at, e), at.line),
+        StmtKind::Collect => outcome(collect_step(book, m, at), at.line),
+        StmtKind::Call(row) => outcome(call_step(alloc, book, m, at, row), at.line),
+        StmtKind::Swap { name, path } => outcome(swap_step(book, m, at, name, path), at.line),
+        StmtKind::Enter { path, name, body } => {
+            outcome(enter_step(book, m, at, path, name, body), at.line)
+        }
+        StmtKind::Return(e) => outcome(return_step(book, m, at, e), at.line),
     }
-    match no {
-        Some(no) => {
-            open(program, &mut m.items, kept, no);
+}
+
+/// Makes the step of the first statement of the topmost row.
+fn statement_step<S: Source>(
+    alloc: Global,
+    book: &Book,
+    m: &mut Parts,
+    span: Span,
+    numbers: &mut Numbers,
+    source: &mut S,
+) -> Outcome
+    requires top { (below : List ItemRow) × (m.old.items.items ≡ below ++ ItemRow.Rest span ∷ []) }
+    requires fit { PartsFit book.now.program m.old }
+    requires follows { Follows numbers.old (S.left source.old) }
+
+    ensures step { OnInput numbers.old numbers.new (S.left source.old) (S.left source.new)
+        (StepOn book.now.program (kept_of m.old) (kept_of m.new) result) }
+    ensures reads_nothing { first_asks (shown book.now.program m.old.items.items) ≡ false →
+        (numbers.new ≡ numbers.old) × (source.new ≡ source.old) }
+    ensures fit { PartsFit book.now.program m.new }
+    ensures quiet { QuietOrPrints (shown book.now.program m.old.items.items) result }
+
+    ensures follows { Follows numbers.new (S.left source.new) }
+    ensures input_fault { result ≡ Outcome.InputFault →
+        first_asks (shown book.now.program m.old.items.items) ≡ true }
+    ensures fault { result ≡ Outcome.InputFault → Rose (S.faults source.old) (S.faults source.new) }
+    ensures never_falls { S.faults source.old ≤ S.faults source.new }
+{
+    let number = first(book, &m.items, span);
+    let row = book.stmt(number);
+    let at = At {
+        span,
+        number,
+        line: row.line,
+    };
+    kind_step(alloc, book, m, at, row.kind, numbers, source)
+}
+
+/// Makes the step of the topmost row.
+fn row_step<S: Source>(
+    alloc: Global,
+    book: &Book,
+    m: &mut Parts,
+    numbers: &mut Numbers,
+    source: &mut S,
+) -> Outcome
+    requires left { m.old.items.items ≢ [] }
+    requires fit { PartsFit book.now.program m.old }
+    requires follows { Follows numbers.old (S.left source.old) }
+
+    ensures step { OnInput numbers.old numbers.new (S.left source.old) (S.left source.new)
+        (StepOn book.now.program (kept_of m.old) (kept_of m.new) result) }
+    ensures reads_nothing { first_asks (shown book.now.program m.old.items.items) ≡ false →
+        (numbers.new ≡ numbers.old) × (source.new ≡ source.old) }
+    ensures fit { PartsFit book.now.program m.new }
+    ensures quiet { QuietOrPrints (shown book.now.program m.old.items.items) result }
+
+    ensures follows { Follows numbers.new (S.left source.new) }
+    ensures input_fault { result ≡ Outcome.InputFault →
+        first_asks (shown book.now.program m.old.items.items) ≡ true }
+    ensures fault { result ≡ Outcome.InputFault → Rose (S.faults source.old) (S.faults source.new) }
+    ensures never_falls { S.faults source.old ≤ S.faults source.new }
+{
+    match m.items[m.items.len() - 1] {
+        ItemRow::Rest(span) => { statement_step(alloc, book, m, span, numbers, source) }
+        ItemRow::EndAt(kept) => {
+            end_step(book, m, kept);
             Outcome::Running
         }
-        None => Outcome::Running,
+        ItemRow::LeaveAt(kept) => {
+            leave_step(book, m, kept);
+            Outcome::Running
+        }
+        ItemRow::Back => {
+            back_step(book, m);
+            Outcome::Running
+        }
     }
 }
 
-/// Makes a turn of a loop, or ends it, by its test.
-pub(crate) fn while_step(
-    program: &Program,
-    classes: &Classes,
-    m: &mut Parts,
-    at: At,
-    test: u32,
-    body: Span,
-) -> Outcome
-    requires fit { PartsFit program.now classes.now m.old }
-    requires at { IsAt program.now m.old.items.items at.span at.number }
-    requires tree { stmt_at program.now at.number ≡ stmt at.line (
-        while (expr_at program.now test) (block_of program.now body)) }
-    requires there { IsExprNumber program.now test }
-    requires body { IsBlockIn program.now body }
-    ensures step { (input : List ℕ) → let old = plain_of program.now (kept_of m.old) input in
-        StepIs (next (classes_of program.now) old) old
-        (plain_of program.now (kept_of m.new) input) result }
-    ensures fit { PartsFit program.now classes.now m.new }
-    ensures reads_nothing { result ≢ Outcome.InputFault }
+/// A step that went is the last one where nothing is left.
+fn settled(outcome: Outcome, empty: bool) -> Outcome
+    ensures { result ≡ settled_outcome outcome empty }
 {
-    let v = match value(program, classes, &m.store, &m.frame.locals, test) {
-        Ok(v) => v,
-        Err(kind) => return Outcome::Trap {
-            kind,
-            line: at.line,
-        },
-    };
-    if !as_bool(v) {
-        spend(program, classes, m, at, test);
-        return Outcome::Running;
+    match outcome {
+        Outcome::Running => {
+            if empty {
+                Outcome::Done
+            } else {
+                Outcome::Running
+            }
+        }
+        Outcome::Printed(v) => Outcome::Printed(v),
+        Outcome::Done => Outcome::Done,
+        Outcome::Trap { kind, line } => Outcome::Trap { kind, line },
+        Outcome::InputFault => Outcome::InputFault,
+        Outcome::Memory => Outcome::Memory,
     }
-    let Ok(()) = m.items.reserve(2) else {
-        return Outcome::Memory;
-    };
-    use_up(program, &mut m.frame.locals, test);
-    let kept = m.frame.locals.len();
-    open(program, &mut m.items, kept, body);
-    Outcome::Running
+}
+
+/// Makes a step.
+pub(crate) fn whole_step<S: Source>(
+    alloc: Global,
+    book: &Book,
+    m: &mut Parts,
+    numbers: &mut Numbers,
+    source: &mut S,
+) -> Outcome
+    requires left { m.old.items.items ≢ [] }
+    requires fit { PartsFit book.now.program m.old }
+    requires ends { EndsMain (shown book.now.program m.old.items.items) }
+    requires follows { Follows numbers.old (S.left source.old) }
+
+    ensures step { OnInput numbers.old numbers.new (S.left source.old) (S.left source.new)
+        (SettlesOn book.now.program (kept_of m.old) (kept_of m.new) result) }
+    ensures reads_nothing { first_asks (shown book.now.program m.old.items.items) ≡ false →
+        (numbers.new ≡ numbers.old) × (source.new ≡ source.old) }
+    ensures left { LeavesRows m.new.items.items result }
+    ensures fit { PartsFit book.now.program m.new }
+    ensures ends { EndsMain (shown book.now.program m.new.items.items) }
+
+    ensures follows { Follows numbers.new (S.left source.new) }
+    ensures input_fault { result ≡ Outcome.InputFault →
+        first_asks (shown book.now.program m.old.items.items) ≡ true }
+    ensures fault { result ≡ Outcome.InputFault → Rose (S.faults source.old) (S.faults source.new) }
+    ensures never_falls { S.faults source.old ≤ S.faults source.new }
+{
+    let outcome = row_step(alloc, book, m, numbers, source);
+    settled(outcome, m.items.is_empty())
 }
 
 /// Does nothing: this machine frees nothing.
-pub(crate) fn collect_step(program: &Program, classes: &Classes, m: &mut Parts, at: At) -> Outcome
-    requires fit { PartsFit program.now classes.now m.old }
-    requires at { IsAt program.now m.old.items.items at.span at.number }
-    requires tree { stmt_at program.now at.number ≡ stmt at.line (collect) }
-    ensures step { (input : List ℕ) → let old = plain_of program.now (kept_of m.old) input in
-        StepIs (next (classes_of program.now) old) old
-        (plain_of program.now (kept_of m.new) input) result }
-    ensures fit { PartsFit program.now classes.now m.new }
-    ensures reads_nothing { result ≢ Outcome.InputFault }
+pub(crate) fn collect_step(book: &Book, m: &mut Parts, at: At) -> Result<(), Refusal>
+    requires stands { Stands book.now.program m.old at (collect) }
+    ensures step { Makes book.now.program (kept_of m.old) (kept_of m.new) at.line result }
+    ensures fit { PartsFit book.now.program m.new }
 {
-    let _ = classes;
-    advance(program, &mut m.items, at.span, at.number);
-    Outcome::Running
-}
-
-/// Ends a block: so many variables stay.
-pub(crate) fn end_step(program: &Program, classes: &Classes, m: &mut Parts, kept: usize) -> Outcome
-    requires top { (below : List ItemRow) × (m.old.items.items ≡ below ++ ItemRow.EndAt kept ∷ []) }
-    requires fit { PartsFit program.now classes.now m.old }
-    ensures step { (input : List ℕ) → let old = plain_of program.now (kept_of m.old) input in
-        StepIs (next (classes_of program.now) old) old
-        (plain_of program.now (kept_of m.new) input) result }
-    ensures fit { PartsFit program.now classes.now m.new }
-    ensures reads_nothing { result ≢ Outcome.InputFault }
-{
-    let _ = classes;
-    pop_row(program, &mut m.items, ItemRow::EndAt(kept));
-    keep(program, &mut m.frame.locals, kept);
-    after_end(program, &m.items)
+    advance(book, &mut m.items, at.span, at.number);
+    Ok(())
 }

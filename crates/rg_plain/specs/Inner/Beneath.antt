@@ -9,9 +9,9 @@ use Rattle.rg_tree.specs.Rows.RowTrees.{classes_of}
 use Rattle.rg_tree.specs.Inner.Keeps.{Begins}
 use Rattle.rg_rules.specs.Regions.{region_at, owned_in, among, in_regions, led_from}
 use Rattle.rg_rules.specs.Types.{field_member}
-use Rattle.rg_plain.specs.declared.beneath.Found.{Found}
-use Rattle.rg_plain.specs.declared.regions.Regions.{Regions}
-use Rattle.rg_plain.specs.declared.regions.Regions.TheVariants as regions
+use Rattle.rg_plain.specs.declared.state.beneath.Found.{Found}
+use Rattle.rg_plain.specs.declared.state.regions.Regions.{Regions}
+use Rattle.rg_plain.specs.declared.state.regions.Regions.TheVariants as regions
 
 -- whether a region has a mark
 abbrev pub is_marked : List Truth → ℕ → Truth

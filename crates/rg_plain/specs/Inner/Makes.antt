@@ -9,10 +9,10 @@ use Rattle.rg_tree.specs.Rows.Tables.{Tables, name_at}
 use Rattle.rg_rules.specs.Types.{fields_of}
 use Rattle.rg_rules.specs.RightSides.{Use, opening_value, with_region}
 use Rattle.rg_rules.specs.State.{Window, State, active, top_number}
-use Rattle.rg_plain.specs.declared.aims.Aim.{Aim}
-use Rattle.rg_plain.specs.declared.makes.Kind.{Kind}
-use Rattle.rg_plain.specs.declared.makes.Kind.TheVariants as kind
-use Rattle.rg_plain.specs.declared.parts.Parts.{Parts}
+use Rattle.rg_plain.specs.declared.steps.targets.Aim.{Aim}
+use Rattle.rg_plain.specs.declared.steps.new.Kind.{Kind}
+use Rattle.rg_plain.specs.declared.steps.new.Kind.TheVariants as kind
+use Rattle.rg_plain.specs.declared.state.parts.Parts.{Parts}
 use Rattle.rg_plain.specs.Inner.Spots.{use_of}
 use Rattle.rg_plain.specs.Inner.Rooms.{HasRoom}
 

@@ -12,10 +12,10 @@ use Rattle.rg_rules.specs.Evaluation.{object_at}
 use Rattle.rg_rules.specs.Regions.{region_of, beneath, relabelled}
 use Rattle.rg_rules.specs.RightSides.{frozen, merged}
 use Rattle.rg_rules.specs.State.{Window, State, active, value_in, put_local}
-use Rattle.rg_plain.specs.declared.aims.Aim.{Aim}
-use Rattle.rg_plain.specs.declared.moves.Held.{Held}
-use Rattle.rg_plain.specs.declared.moves.Move.{Move}
-use Rattle.rg_plain.specs.declared.moves.Move.TheVariants as moves
+use Rattle.rg_plain.specs.declared.steps.targets.Aim.{Aim}
+use Rattle.rg_plain.specs.declared.steps.move_.Held.{Held}
+use Rattle.rg_plain.specs.declared.steps.move_.Move.{Move}
+use Rattle.rg_plain.specs.declared.steps.move_.Move.TheVariants as moves
 use Rattle.rg_plain.specs.Kept.{Kept}
 use Rattle.rg_plain.specs.Shown.{locals_of}
 use Rattle.rg_plain.specs.Inner.Spots.{use_of}

@@ -1,8 +1,8 @@
 -- Room that was made before.
 use Rattle.std.specs.Prelude.{◌<◌, length, vec_capacity}
-use Rattle.rg_plain.specs.declared.aims.Aim.{Aim}
-use Rattle.rg_plain.specs.declared.aims.Aim.TheVariants as aim
-use Rattle.rg_plain.specs.declared.parts.Parts.{Parts}
+use Rattle.rg_plain.specs.declared.steps.targets.Aim.{Aim}
+use Rattle.rg_plain.specs.declared.steps.targets.Aim.TheVariants as aim
+use Rattle.rg_plain.specs.declared.state.parts.Parts.{Parts}
 
 -- there is room for a value where it goes
 abbrev pub HasRoom : Parts → Aim → Type 0

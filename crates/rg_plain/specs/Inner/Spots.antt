@@ -15,12 +15,12 @@ use Rattle.rg_rules.specs.State.{Local, Target, Declares, Assigns, Drops, State,
 use Rattle.rg_rules.specs.Evaluation.{object_at, field_value, follow_fields}
 use Rattle.rg_rules.specs.RightSides.{Use, with_right}
 use Rattle.rg_rules.specs.Steps.{put_field, step_kind}
-use Rattle.rg_plain.specs.declared.spots.Spot.{Spot}
-use Rattle.rg_plain.specs.declared.spots.Spot.TheVariants as spot
-use Rattle.rg_plain.specs.declared.aims.Left.{Left}
-use Rattle.rg_plain.specs.declared.aims.Left.TheVariants as left
-use Rattle.rg_plain.specs.declared.aims.Aim.{Aim}
-use Rattle.rg_plain.specs.declared.aims.Aim.TheVariants as aim
+use Rattle.rg_plain.specs.declared.values.paths.Spot.{Spot}
+use Rattle.rg_plain.specs.declared.values.paths.Spot.TheVariants as spot
+use Rattle.rg_plain.specs.declared.steps.targets.Left.{Left}
+use Rattle.rg_plain.specs.declared.steps.targets.Left.TheVariants as left
+use Rattle.rg_plain.specs.declared.steps.targets.Aim.{Aim}
+use Rattle.rg_plain.specs.declared.steps.targets.Aim.TheVariants as aim
 use Rattle.rg_plain.specs.Kept.{Kept, plain_of}
 
 -- the object behind fields: they are followed, and what they lead to is tested

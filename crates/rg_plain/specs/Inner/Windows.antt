@@ -1,8 +1,6 @@
 -- Where a window's owner stands, and the room that a window needs.
 use Rattle.std.specs.Prelude.{◌≡◌, ℕ, ◌+◌, ◌<◌, ◌≤◌, List, length, vec_capacity, Option, Some, None, Result, Ok, Err}
 use Rattle.rg_base.specs.declared.object.Seen.{Seen}
-use Rattle.rg_base.specs.declared.outcome.Outcome.{Outcome}
-use Rattle.rg_base.specs.declared.outcome.Outcome.TheVariants as outcome
 use Rattle.rg_tree.specs.Tree.{Name, Block, enter}
 use Rattle.rg_tree.specs.Rows.Tables.{Tables}
 use Rattle.rg_tree.specs.Rows.RowTrees.{classes_of, path_of}
@@ -10,15 +8,15 @@ use Rattle.rg_tree.specs.declared.rows.Path as row_path
 use Rattle.rg_rules.specs.Items.{Item}
 use Rattle.rg_rules.specs.Regions.{region_of}
 use Rattle.rg_rules.specs.Steps.{entered, step_kind}
-use Rattle.rg_plain.specs.declared.arguments.Refused.{Refused}
-use Rattle.rg_plain.specs.declared.arguments.Refused.TheVariants as refused
-use Rattle.rg_plain.specs.declared.windows.Owner.{Owner}
-use Rattle.rg_plain.specs.declared.windows.Bridge.{Bridge}
-use Rattle.rg_plain.specs.declared.parts.Parts.{Parts}
+use Rattle.rg_plain.specs.declared.steps.refusal.Refusal.{Refusal}
+use Rattle.rg_plain.specs.declared.steps.refusal.Refusal.TheVariants as refused
+use Rattle.rg_plain.specs.declared.steps.enter.Owner.{Owner}
+use Rattle.rg_plain.specs.declared.steps.enter.Bridge.{Bridge}
+use Rattle.rg_plain.specs.declared.state.parts.Parts.{Parts}
 use Rattle.rg_plain.specs.Kept.{Kept, plain_of}
 
 -- an `enter` without its name and block: the region of what the owner holds is entered, or the trap
-abbrev pub OwnerIs : Tables → Kept → row_path.Path → Result Owner Refused → Type 0
+abbrev pub OwnerIs : Tables → Kept → row_path.Path → Result Owner Refusal → Type 0
 OwnerIs t k p (Ok w) = (input : List ℕ) (rest : List Item) (line : ℕ) (z : Name) (body : Block) →
     step_kind (classes_of t) (record (plain_of t k input) { items = rest }) line (enter (path_of t p) z body)
     ≡ entered (record (plain_of t k input) { items = rest }) w.place z body w.bridge
@@ -36,8 +34,3 @@ pub record HasWindowRoom (p : Parts) : Type 0 where
   pub outer : length p.outer.items < vec_capacity p.outer
   pub locals : length p.frame.locals.items < vec_capacity p.frame.locals
   pub items : length p.items.items + 2 ≤ vec_capacity p.items
-
--- how a step ends that was refused
-abbrev pub ended_by : Refused → (line : ℕ) → Outcome
-ended_by (refused.Trap kind) line = outcome.Trap kind line
-ended_by refused.Memory line = outcome.Memory

@@ -9,7 +9,7 @@ use Rattle.rg_plain.proofs.machine.begin_parts.Goals as goal
 
 pub returns-clause-begun : goal.returns-clause-begun
 returns-clause-begun c =
-    let t = c.args.program.now in
+    let t = c.args.book.now.program in
     let none : c.reserve.new.self.items ≡ [] = c.in-Ok.ensures.items ∙ ap (λ q. q.items) c.requires.fresh in
     let managers : c.push.new.self.items ≡ t.manager ∷ [] =
     c.in-Ok-push.ensures.items ∙ ap (λ q. q.managers ++ c.main_manager.result ∷ []) c.requires.fresh ∙ ap (λ m. m ∷ []) c.main_manager.ensures in

@@ -1,5 +1,8 @@
-use Rattle.std.proofs.Common.{ap, refl, sym, ◌∙◌}
+use Rattle.std.proofs.Common.{ap, refl, sym, subst, ◌∙◌}
 use Rattle.rg_input.proofs.InputLemmas.{OnInput-map}
+use Rattle.rg_names.specs.Book.{Known}
+use Rattle.rg_plain.specs.Fits.{PartsFit}
+use Rattle.rg_plain.specs.Outcomes.{EndsMain}
 use Rattle.rg_plain.specs.Inner.Inputs.{SettlesOn}
 use Rattle.rg_plain.specs.Kept.{kept_of, shown}
 use Rattle.rg_rules.specs.Inputs.{first_asks}
@@ -8,26 +11,37 @@ use Rattle.rg_plain.proofs.machine.PlainMachine.step.Goals as goal
 
 pub whole_step-requires-clause-fit : goal.whole_step-requires-clause-fit
 whole_step-requires-clause-fit g c =
-    fits_parts c.args.program.now c.args.self.now c.self.inside.parts c.in-Some.classes c.requires.fits
-    (sym (ap (λ m. m.classes) c.self.view_is) ∙ c.in-Some.is) (ap (λ m. m.kept) c.self.view_is)
+    subst (λ (b : Known). PartsFit b.program c.self.inside.parts) (sym c.new-book.ensures)
+    (fits_parts c.args.program.now c.args.self.now c.self.inside.parts c.requires.fits (ap (λ m. m.kept) c.self.view_is))
 
-pub returns-in-Some-clause-step : goal.returns-in-Some-clause-step
-returns-in-Some-clause-step g c =
+pub returns-clause-step : goal.returns-clause-step
+returns-clause-step g c =
     let t = c.args.program.now in
+    let u = c.new-book.result.program in
     let old = kept_of c.self.inside.parts in
     let new = kept_of c.whole_step.new.m in
-    OnInput-map _ _ _ _ (SettlesOn t old new c.whole_step.result) (SettlesOn t c.args.self.now.kept new c.whole_step.result) c.whole_step.ensures.step
-    (λ before after is. settles_as t old c.args.self.now.kept new c.whole_step.result before after (ap (λ m. m.kept) c.self.view_is) is)
+    let now = c.args.self.now.kept in
+    let r = c.whole_step.result in
+    OnInput-map _ _ _ _ (SettlesOn u old new r) (SettlesOn t now new r) c.whole_step.ensures.step
+    (λ before after is.
+    subst (λ (b : Known). SettlesOn b.program now new r before after) c.new-book.ensures
+    (settles_as u old now new r before after (ap (λ m. m.kept) c.self.view_is) is))
 
-pub returns-in-Some-clause-reads_nothing : goal.returns-in-Some-clause-reads_nothing
-returns-in-Some-clause-reads_nothing g c quiet =
-    c.whole_step.ensures.reads_nothing (ap (λ m. first_asks (shown c.args.program.now m.kept.items)) c.self.view_is ∙ quiet)
+pub returns-clause-reads_nothing : goal.returns-clause-reads_nothing
+returns-clause-reads_nothing g c quiet =
+    c.whole_step.ensures.reads_nothing
+    (ap (λ (b : Known). first_asks (shown b.program c.self.inside.parts.items.items)) c.new-book.ensures
+    ∙ ap (λ m. first_asks (shown c.args.program.now m.kept.items)) c.self.view_is ∙ quiet)
 
-pub returns-in-Some-clause-input_fault : goal.returns-in-Some-clause-input_fault
-returns-in-Some-clause-input_fault g c fault =
-    sym (ap (λ m. first_asks (shown c.args.program.now m.kept.items)) c.self.view_is) ∙ c.whole_step.ensures.input_fault fault
+pub returns-clause-input_fault : goal.returns-clause-input_fault
+returns-clause-input_fault g c fault =
+    sym (ap (λ m. first_asks (shown c.args.program.now m.kept.items)) c.self.view_is)
+    ∙ sym (ap (λ (b : Known). first_asks (shown b.program c.self.inside.parts.items.items)) c.new-book.ensures)
+    ∙ c.whole_step.ensures.input_fault fault
 
-pub returns-in-Some-clause-fits : goal.returns-in-Some-clause-fits
-returns-in-Some-clause-fits g c =
-    fits_again c.args.program.now c.args.self.now c.whole_step.new.m c.in-Some.classes _ c.requires.fits
-    (sym (ap (λ m. m.classes) c.self.view_is) ∙ c.in-Some.is) c.whole_step.ensures.fit c.whole_step.ensures.ends c.in-Some.is refl
+pub returns-clause-fits : goal.returns-clause-fits
+returns-clause-fits g c =
+    let m = c.whole_step.new.m in
+    fits_again c.args.program.now c.args.self.now m c.in-Some.classes _ c.requires.fits (sym (ap (λ m. m.classes) c.self.view_is) ∙ c.in-Some.is)
+    (subst (λ (b : Known). PartsFit b.program m) c.new-book.ensures c.whole_step.ensures.fit)
+    (subst (λ (b : Known). EndsMain (shown b.program m.items.items)) c.new-book.ensures c.whole_step.ensures.ends) c.in-Some.is refl

@@ -1,0 +1,7 @@
+use Rattle.rg_names.proofs.Callers.{IsClass-tree}
+use Rattle.rg_names.proofs.book.Book.field.Goals as goal
+
+pub field-requires : goal.field-requires
+field-requires c =
+    let b = c.self.inside in
+    IsClass-tree b.program.now b.classes.now c.self.invariant c.args.class (rw (← c.self.view_is) at c.requires.class)

@@ -1,0 +1,39 @@
+use Rattle.std.proofs.Common.{◌∙◌, refl, sym, ap, Ok}
+use Rattle.rg_base.specs.declared.outcome.Outcome.TheVariants as outcome
+use Rattle.rg_base.specs.declared.value.Val.TheVariants.{Bool}
+use Rattle.rg_tree.specs.Tree.{more}
+use Rattle.rg_input.specs.Numbers.{Looks}
+use Rattle.rg_input.proofs.InputLemmas.{OnInput-map}
+use Rattle.rg_plain.specs.Inner.Inputs.{StepOn}
+use Rattle.rg_plain.specs.Kept.{Kept, kept_of, plain_of, shown}
+use Rattle.rg_plain.specs.Inner.Spots.{use_of}
+use Rattle.rg_plain.proofs.InputLemmas.{reads_nothing, cut-step, more-step, same-plain}
+use Rattle.rg_plain.proofs.steps.input.more_step.Goals as goal
+
+pub returns-in-Err-clause-step : goal.returns-in-Err-clause-step
+returns-in-Err-clause-step g c =
+    let t = c.args.book.now.program in
+    let k = kept_of c.args.m.now in
+    reads_nothing t k k (outcome.Trap c.in-Err.kind c.args.at.line) _ _
+    (cut-step t k c.args.at.number c.args.at.line c.args.left c.in-Err.kind more c.requires.at.rest c.in-Err.ensures c.requires.at.items
+    c.requires.tree)
+
+pub returns-in_default-clause-step : goal.returns-in_default-clause-step
+returns-in_default-clause-step g c =
+    let t = c.args.book.now.program in
+    let k = kept_of c.args.m.now in
+    let new = kept_of c.make_room.new.m in
+    reads_nothing t k new outcome.Memory _ _ (λ input. same-plain t k new input input c.in_default.ensures.kept refl)
+
+pub returns-clause-step : goal.returns-clause-step
+returns-clause-step g c =
+    let t = c.args.book.now.program in
+    let kept = c.in-Ok-make_room.ensures.kept in
+    let items = c.advance.new.items.items in
+    let a = c.in-Ok.aim in
+    OnInput-map _ _ _ _ (Looks (Ok c.in-Ok-more.b)) (StepOn t (kept_of c.args.m.now) (kept_of c.put.new.m) outcome.Running)
+    c.in-Ok-more.ensures.looks
+    (more-step t (kept_of c.args.m.now) (kept_of c.put.new.m) c.args.at.number c.args.at.line c.args.left a items c.in-Ok-more.b c.in-Ok.ensures
+    (sym (ap (λ (q : Kept). shown t q.items) kept) ∙ c.advance.ensures.rest) c.requires.tree
+    (λ input. c.put.ensures.put input
+    ∙ ap (λ (q : Kept). use_of t a (plain_of t (record q { items = items }) input) (Bool c.in-Ok-more.b)) kept))

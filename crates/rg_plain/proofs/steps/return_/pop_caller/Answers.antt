@@ -1,0 +1,23 @@
+use Rattle.std.proofs.Common.{◌≡◌, refl}
+use Rattle.rg_plain.specs.declared.state.rows.FrameRow.{FrameRow}
+use Rattle.rg_plain.specs.Kept.{kept_frame}
+use Rattle.rg_plain.proofs.FrameLemmas.{frames-front, frames-last, frames-taken, frames-back}
+use Rattle.rg_plain.proofs.steps.return_.pop_caller.Goals as goal
+
+pub returns-in-Ok-clause-taken : goal.returns-in-Ok-clause-taken
+returns-in-Ok-clause-taken c =
+    let caller = c.in-Some.caller in
+    let now : FrameRow = record { locals = c.reserve.new.self; target = caller.target } in
+    let same : kept_frame now ≡ kept_frame caller = rw c.reserve.ensures.items refl in (
+      frames-taken c.args.below.now.items c.pop.new.self.items caller now c.in-Some.ensures.items same,
+      frames-last c.args.book.now.program c.args.below.now.items c.pop.new.self.items caller now c.in-Some.ensures.items same c.requires.fit,
+    )
+
+pub returns-in-Err-clause-fit : goal.returns-in-Err-clause-fit
+returns-in-Err-clause-fit c =
+    let caller = c.in-Some.caller in
+    let now : FrameRow = record { locals = c.reserve.new.self; target = caller.target } in
+    let same : kept_frame now ≡ kept_frame caller = rw c.reserve.ensures.items refl in
+    frames-back c.args.book.now.program c.pop.new.self.items c.push_reserved.new.self.items now c.push_reserved.ensures.items
+    (frames-front c.args.book.now.program c.args.below.now.items c.pop.new.self.items caller c.in-Some.ensures.items c.requires.fit)
+    (frames-last c.args.book.now.program c.args.below.now.items c.pop.new.self.items caller now c.in-Some.ensures.items same c.requires.fit)

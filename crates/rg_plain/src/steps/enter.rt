@@ -1,0 +1,228 @@
+//! The steps of `enter x as z` and `enter q.f as z`, and of the end of their block
+//! (docs/language.md, "Steps").
+
+ghost use Rattle.std.specs.Prelude.{◌++◌, ◌+◌, ◌<◌, ◌^◌, ◌∷◌, ◌≡◌, ◌≤◌, [], IfSome, List, OnOk};
+ghost use Rattle.std.specs.Prelude.{Some, false, length, slice_get, unwrap_or, vec_capacity, ℕ};
+ghost use Rattle.rg_base.specs.declared.object.Seen.{Seen};
+ghost use Rattle.rg_tree.specs.Rows.RowTrees.{block_of, classes_of, path_of};
+ghost use Rattle.rg_tree.specs.Rows.RowsExist.{IsBlockIn, IsNameIn, IsPathIn};
+ghost use Rattle.rg_tree.specs.Rows.Tables.{name_at};
+ghost use Rattle.rg_tree.specs.Tree.{enter};
+ghost use Rattle.rg_rules.specs.Items.{LeaveAt};
+ghost use Rattle.rg_rules.specs.Steps.{with_window};
+ghost use Rattle.rg_rules.specs.Types.{field_place, fields_of};
+ghost use Rattle.rg_plain.specs.Fits.{PartsFit};
+ghost use Rattle.rg_plain.specs.Inner.Steps.{GoesOn, Makes, Stands};
+ghost use Rattle.rg_plain.specs.Inner.Windows.{BridgeIs, HasWindowRoom, OwnerIs};
+ghost use Rattle.rg_plain.specs.Kept.{ItemsFit, kept_of, plain_of, put_row, shown};
+ghost use Rattle.rg_plain.specs.Outcomes.{first_prints};
+ghost use Rattle.rg_plain.specs.Regions.{LabelsFit};
+ghost use Rattle.rg_plain.specs.Shown.{store_of};
+
+use crate::state::items::{At, advance, pop_row, put_block};
+use crate::state::locals::{keep, place, variable};
+use crate::state::objects::{field_value, object_place};
+use crate::state::parts::Parts;
+use crate::state::regions::region;
+use crate::state::rows::{ItemRow, LocalRow, ObjectRow, WindowRow};
+use crate::steps::refusal::Refusal;
+use crate::values::paths::{Spot, spot_of};
+use rg_base::{Cap, Memory, Place, Ty, Val};
+use rg_names::Book;
+use rg_tree::{Path, Span};
+
+/// The place of an owner reference, and what it holds.
+#[derive(Clone, Copy)]
+pub(crate) struct Owner {
+    pub(crate) place: Place,
+    pub(crate) bridge: Val,
+}
+
+/// The class of a bridge, and its region.
+#[derive(Clone, Copy)]
+pub(crate) struct Bridge {
+    pub(crate) class: u32,
+    pub(crate) region: u64,
+}
+
+/// The place of a field among those of its class; one that isn't there has the first place.
+fn field_index(book: &Book, class: u32, name: u32) -> u32
+    requires class { class < length (classes_of book.now.program) }
+    requires name { IsNameIn book.now.program name }
+    ensures { result ≡ unwrap_or (field_place (fields_of (classes_of book.now.program) class)
+        (name_at book.now.program name)) 0 }
+{
+    match book.field(class, name) {
+        Some(field) => field.index,
+        None => 0,
+    }
+}
+
+/// The owner that a path names.
+fn owner_of(book: &Book, m: &Parts, path: Path) -> Result<Owner, Refusal>
+    requires fit { PartsFit book.now.program m.now }
+    requires path { IsPathIn book.now.program path }
+    ensures { OwnerIs book.now.program (kept_of m.now) path result }
+{
+    match spot_of(book, &m.store, &m.frame.locals, path) {
+        Ok(Spot::Variable(name)) => {
+            let slot = place(book, &m.frame.locals, name);
+            if slot > u32::MAX as usize {
+                return Err(Refusal::Memory);
+            }
+            Ok(Owner {
+                place: Place::Var {
+                    frame: m.below.len() as u64,
+                    slot: slot as u32,
+                },
+                bridge: variable(book, &m.frame.locals, name),
+            })
+        }
+        Ok(Spot::Field { place, name }) => {
+            let object = &m.store[place];
+            Ok(Owner {
+                place: Place::Field {
+                    serial: place as u64,
+                    index: field_index(book, object.class, name),
+                },
+                bridge: field_value(book, object, name),
+            })
+        }
+        Err(kind) => Err(Refusal::Trap(kind)),
+    }
+}
+
+/// Puts the block of an `enter` in front, at whose end so many variables stay.
+fn open_entered(book: &Book, items: &mut Vec<ItemRow>, kept: usize, body: Span)
+    requires room { length items.old.items + 2 ≤ vec_capacity items.old }
+    requires body { IsBlockIn book.now.program body }
+    requires fit { ItemsFit book.now.program items.old.items }
+    ensures shown { shown book.now.program items.new.items ≡ put_row book.now.program (ItemRow.Rest
+        body) (LeaveAt kept ∷ shown book.now.program items.old.items) }
+    ensures fit { ItemsFit book.now.program items.new.items }
+{
+    items.push_reserved(ItemRow::LeaveAt(kept));
+    put_block(book, items, body);
+}
+
+/// Makes the room that a window needs.
+fn make_window_room(book: &Book, m: &mut Parts) -> Result<(), Memory>
+    requires fit { PartsFit book.now.program m.old }
+    ensures rooms { OnOk result (HasWindowRoom m.new) }
+    ensures kept { kept_of m.new ≡ kept_of m.old }
+    ensures fit { PartsFit book.now.program m.new }
+{
+    let _ = book;
+    let Ok(()) = m.outer.reserve(1) else {
+        return Err(Memory);
+    };
+    let Ok(()) = m.frame.locals.reserve(1) else {
+        return Err(Memory);
+    };
+    let Ok(()) = m.items.reserve(2) else {
+        return Err(Memory);
+    };
+    Ok(())
+}
+
+/// Opens a window onto a region, with a variable for its bridge and the items of the block.
+fn open_window(book: &Book, m: &mut Parts, owner: Owner, bridge: Bridge, name: u32, body: Span)
+    requires fit { PartsFit book.now.program m.old }
+    requires rooms { HasWindowRoom m.old }
+    requires made { m.old.windows_made + 1 < 2 ^ 64 }
+    requires region { bridge.region < length m.old.managers.items }
+    requires name { IsNameIn book.now.program name }
+    requires body { IsBlockIn book.now.program body }
+    ensures opened { (input : List ℕ) → plain_of book.now.program (kept_of m.new) input
+        ≡ with_window (plain_of book.now.program (kept_of m.old) input) owner.place
+        (name_at book.now.program name) (block_of book.now.program body) owner.bridge bridge.class
+        (Some bridge.region) }
+    ensures fit { PartsFit book.now.program m.new }
+{
+    let kept = m.frame.locals.len();
+    open_entered(book, &mut m.items, kept, body);
+    m.outer.push_reserved(m.window);
+    m.window = WindowRow {
+        number: m.windows_made,
+        region: bridge.region,
+        owner: Some(owner.place),
+        base_frame: m.below.len(),
+        base_place: kept,
+    };
+    m.windows_made += 1;
+    m.frame.locals.push_reserved(LocalRow {
+        name: Some(name),
+        ty: Ty::Ref {
+            cap: Cap::Mut,
+            class: bridge.class,
+        },
+        value: owner.bridge,
+    });
+}
+
+/// The bridge at a place, if it lies in a region.
+fn bridge_at(store: &[ObjectRow], place: usize) -> Option<Bridge>
+    requires { place < length store.now }
+    ensures bridge { (o : Seen) → slice_get (store_of store.now) place ≡ Some o →
+        BridgeIs o result }
+    ensures region { IfSome result (λ b. (count : ℕ) → LabelsFit count (store_of store.now) →
+        b.region < count) }
+{
+    let object = &store[place];
+    match region(object.label) {
+        Some(region) => Some(Bridge {
+            class: object.class,
+            region,
+        }),
+        None => None,
+    }
+}
+
+/// Opens the region of the object that an owner leads to. What lies in no region isn't entered.
+pub(crate) fn enter_step(
+    book: &Book,
+    m: &mut Parts,
+    at: At,
+    path: Path,
+    name: u32,
+    body: Span,
+) -> Result<(), Refusal>
+    requires stands { Stands book.now.program m.old at (enter (path_of book.now.program path)
+        (name_at book.now.program name) (block_of book.now.program body)) }
+    requires path { IsPathIn book.now.program path }
+    requires name { IsNameIn book.now.program name }
+    requires body { IsBlockIn book.now.program body }
+    ensures step { Makes book.now.program (kept_of m.old) (kept_of m.new) at.line result }
+    ensures fit { PartsFit book.now.program m.new }
+{
+    let owner = owner_of(book, m, path)?;
+    let place = object_place(&m.store, owner.bridge)?;
+    let Some(bridge) = bridge_at(&m.store, place) else {
+        advance(book, &mut m.items, at.span, at.number);
+        return Ok(());
+    };
+    if m.windows_made == u64::MAX {
+        return Err(Refusal::Memory);
+    }
+    make_window_room(book, m)?;
+    advance(book, &mut m.items, at.span, at.number);
+    open_window(book, m, owner, bridge, name, body);
+    Ok(())
+}
+
+/// Ends the block of an `enter`: so many variables stay, and its window goes.
+pub(crate) fn leave_step(book: &Book, m: &mut Parts, kept: usize)
+    requires top { (below : List ItemRow) ×
+        (m.old.items.items ≡ below ++ ItemRow.LeaveAt kept ∷ []) }
+    requires fit { PartsFit book.now.program m.old }
+    ensures step { GoesOn book.now.program (kept_of m.old) (kept_of m.new) }
+    ensures quiet { first_prints (shown book.now.program m.old.items.items) ≡ false }
+    ensures fit { PartsFit book.now.program m.new }
+{
+    pop_row(book, &mut m.items, ItemRow::LeaveAt(kept));
+    let Some(window) = m.outer.pop() else {
+        return;
+    };
+    m.window = window;
+    keep(book, &mut m.frame.locals, kept);
+}

@@ -1,0 +1,180 @@
+//! The steps of `new C`, `new tmp C` and `new iso C in M`. The fields of a new object start as 0,
+//! false and nil (docs/language.md, "Steps").
+
+ghost use Rattle.std.specs.Prelude.{◌<◌, ◌≡◌, IfOk, List, OnOk, length, map, vec_capacity, ℕ};
+ghost use Rattle.rg_tree.specs.Rows.RowTrees.{classes_of, type_of};
+ghost use Rattle.rg_tree.specs.Rows.RowsExist.{IsNameIn};
+ghost use Rattle.rg_tree.specs.Rows.Tables.{Tables};
+ghost use Rattle.rg_rules.specs.RightSides.{opening_value};
+ghost use Rattle.rg_rules.specs.Types.{fields_of};
+ghost use Rattle.rg_plain.specs.Fits.{PartsFit};
+ghost use Rattle.rg_plain.specs.Inner.Makes.{HasRooms, label_of, managers_with, opened_as};
+ghost use Rattle.rg_plain.specs.Inner.Makes.{right_of, use_with, with_object};
+ghost use Rattle.rg_plain.specs.Inner.Spots.{AimFits, LeftFits, statement_of};
+ghost use Rattle.rg_plain.specs.Inner.Steps.{Makes, Stands};
+ghost use Rattle.rg_plain.specs.Kept.{kept_of, plain_of};
+ghost use Rattle.rg_plain.specs.Regions.{LabelFits};
+ghost use Rattle.rg_plain.specs.Shown.{seen_of};
+
+use crate::state::items::{At, advance};
+use crate::state::parts::Parts;
+use crate::state::rows::ObjectRow;
+use crate::steps::refusal::Refusal;
+use crate::steps::targets::{Aim, Left, aim_of, make_room, put};
+use rg_base::{Label, Manager, Memory, Val};
+use rg_names::Book;
+use rg_tree::{MemberRow, TypeRow};
+use std::alloc::Global;
+
+/// What is made.
+#[derive(Clone, Copy)]
+pub enum Kind {
+    /// `new C`: an object of the active region
+    Plain,
+    /// `new tmp C`: a temporary of the topmost window
+    Temporary,
+    /// `new iso C in M`: the first object of a new region
+    Owner(Manager),
+}
+
+/// To what the new object belongs.
+fn label(m: &Parts, kind: Kind) -> Label
+    ensures { (t : Tables) (input : List ℕ) → let now = plain_of t (kept_of m.now) input in
+        result ≡ label_of now.windows now.managers kind }
+{
+    match kind {
+        Kind::Plain => Label::Region(m.window.region),
+        Kind::Temporary => Label::Temp(m.window.number),
+        Kind::Owner(_) => Label::Region(m.managers.len() as u64),
+    }
+}
+
+/// Makes room for an object, a region, and the reference.
+fn make_rooms(book: &Book, m: &mut Parts, aim: Aim) -> Result<(), Memory>
+    requires fit { PartsFit book.now.program m.old }
+    ensures rooms { OnOk result (HasRooms m.new aim) }
+    ensures kept { kept_of m.new ≡ kept_of m.old }
+    ensures fit { PartsFit book.now.program m.new }
+{
+    let Ok(()) = make_room(book, m, aim) else {
+        return Err(Memory);
+    };
+    let Ok(()) = m.store.reserve(1) else {
+        return Err(Memory);
+    };
+    let Ok(()) = m.managers.reserve(1) else {
+        return Err(Memory);
+    };
+    Ok(())
+}
+
+/// Adds the manager of a new region where there is one.
+fn add_region(managers: &mut Vec<Manager>, kind: Kind)
+    requires { length managers.old.items < vec_capacity managers.old }
+    ensures { managers.new.items ≡ managers_with kind managers.old.items }
+{
+    match kind {
+        Kind::Plain | Kind::Temporary => {}
+        Kind::Owner(manager) => managers.push_reserved(manager),
+    }
+}
+
+/// Adds an object, and its region where it owns one, and puts the reference where it goes.
+fn make(book: &Book, m: &mut Parts, aim: Aim, object: ObjectRow, kind: Kind)
+    requires fit { PartsFit book.now.program m.old }
+    requires aim { AimFits book.now.program (length m.old.store.items) aim }
+    requires rooms { HasRooms m.old aim }
+    requires class { object.class < length (classes_of book.now.program) }
+    requires label { LabelFits (length (managers_with kind m.old.managers.items)) object.label }
+    ensures made { (input : List ℕ) → let old = plain_of book.now.program (kept_of m.old) input in
+        plain_of book.now.program (kept_of m.new) input ≡ use_with book.now.program aim kind
+        (with_object old (seen_of object)) (Val.Obj (length old.store)) }
+    ensures fit { PartsFit book.now.program m.new }
+{
+    let serial = m.store.len() as u64;
+    m.store.push_reserved(object);
+    add_region(&mut m.managers, kind);
+    put(book, m, aim, Val::Obj(serial));
+}
+
+/// Makes an object.
+pub(crate) fn new_step(
+    alloc: Global,
+    book: &Book,
+    m: &mut Parts,
+    at: At,
+    left: Left,
+    name: u32,
+    kind: Kind,
+) -> Result<(), Refusal>
+    requires stands { Stands book.now.program m.old at (statement_of book.now.program left (right_of
+        book.now.program name kind)) }
+    requires left { LeftFits book.now.program left }
+    requires name { IsNameIn book.now.program name }
+    ensures step { Makes book.now.program (kept_of m.old) (kept_of m.new) at.line result }
+    ensures fit { PartsFit book.now.program m.new }
+{
+    let aim = aim_of(book, m, left)?;
+    let Some(class) = book.class_of(name) else {
+        advance(book, &mut m.items, at.span, at.number);
+        return Ok(());
+    };
+    let object = new_object(alloc, book, class, label(m, kind))?;
+    make_rooms(book, m, aim)?;
+    advance(book, &mut m.items, at.span, at.number);
+    make(book, m, aim, object, kind);
+    Ok(())
+}
+
+/// The value with which a field of a type starts.
+fn opening_value(ty: TypeRow) -> Val
+    ensures { (t : Tables) → result ≡ opening_value (type_of t ty) }
+{
+    match ty {
+        TypeRow::Int => Val::Int(0),
+        TypeRow::Bool => Val::Bool(false),
+        TypeRow::Ref { .. } => Val::Nil,
+    }
+}
+
+/// The values with which the fields of a class start.
+fn opening_fields(alloc: Global, book: &Book, class: u32) -> Result<Vec<Val>, Memory>
+    requires class { class < length (classes_of book.now.program) }
+    ensures { IfOk result (λ fields. fields.items
+        ≡ map (λ f. opening_value f.ty) (fields_of (classes_of book.now.program) class)) }
+{
+    let mut fields = Vec::new(alloc);
+    let row = book.class(class);
+    let numbers = book.order(row.members);
+    for member in numbers {
+        match book.member(*member) {
+            MemberRow::Field { ty, .. } => {
+                let Ok(()) = fields.push(opening_value(ty)) else {
+                    return Err(Memory);
+                };
+            }
+            MemberRow::Method { .. } => {}
+        }
+    }
+    Ok(fields)
+}
+
+/// A new object of a class.
+pub(crate) fn new_object(
+    alloc: Global,
+    book: &Book,
+    class: u32,
+    label: Label,
+) -> Result<ObjectRow, Memory>
+    requires class { class < length (classes_of book.now.program) }
+    ensures shown { IfOk result (λ o. seen_of o ≡ opened_as (classes_of book.now.program) class
+        label) }
+    ensures class { IfOk result (λ o. o.class ≡ class) }
+{
+    let fields = opening_fields(alloc, book, class)?;
+    Ok(ObjectRow {
+        class,
+        fields,
+        label,
+    })
+}
