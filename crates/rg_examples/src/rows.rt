@@ -1,4 +1,4 @@
-//! The table of rows: calls on one file, `a`, with what each writes.
+//! The table of rows: calls on one file, `a`, with what each writes. `""` is an empty word.
 
 use crate::calls::call;
 use crate::cells::expanded;
@@ -48,7 +48,7 @@ fn cells(line: &str) -> Option<Row<'_>> {
 fn gives(alloc: Global, row: &Row<'_>) -> Option<bool> {
     let mut words = Vec::new(alloc);
     for word in row.words.split_whitespace() {
-        words.push(word).ok()?;
+        words.push(if word == "\"\"" { "" } else { word }).ok()?;
     }
     let mut files = MemFiles::new(alloc);
     files.add("a", &expanded(alloc, row.source)?).ok()?;

@@ -1,2 +1,3 @@
+pub mod SoundLemmas
 mod OutputLemmas
 pub mod RunLemmas

@@ -1,8 +1,10 @@
 -- Each step only adds to the output, as long as the last thing to do ends main.
-use Rattle.std.proofs.Common.{◌≡◌, inl, ℕ, zero, suc, ◌+◌, true, false, List, [], ◌∷◌, ◌++◌, refl, sym, ap, ◌∙◌, subst, append-nil, append_assoc, arith}
+use Rattle.std.proofs.Common.{◌≡◌, inl, ℕ, zero, suc, ◌+◌, true, false, List, [], ◌∷◌, ◌++◌, refl, sym, ap, ◌∙◌, subst, append-nil, append_assoc}
+use Rattle.std.proofs.Common.{arith}
 use Rattle.rg_base.specs.declared.value.Val.{Val}
 use Rattle.rg_base.specs.declared.outcome.Outcome.TheVariants as outcome
-use Rattle.rg_tree.specs.Tree.{Expr, stmt, declare, assign, call, swap, branch, while, enter, print, collect, return, Block, empty as none, then as followed_by, Class}
+use Rattle.rg_tree.specs.Tree.{Expr, stmt, declare, assign, call, swap, branch, while, enter, print, collect, return, Block, empty as none}
+use Rattle.rg_tree.specs.Tree.{then as followed_by, Class}
 use Rattle.rg_rules.specs.Items.{Item, Do, EndAt, LeaveAt, Back, items_of}
 use Rattle.rg_rules.specs.State.{State}
 use Rattle.rg_rules.specs.Evaluation.{computed}

@@ -1,5 +1,6 @@
--- What a machine keeps, and when it shows a state of the machine that never frees.
-use Rattle.std.specs.Prelude.{◌≡◌, ℕ, Bool, true, false, List, length}
+-- What a machine keeps, and when it shows a state of the machine that never frees (docs/language.md, "Steps").
+use Rattle.std.specs.Prelude.{◌≡◌, ℕ, Bool, true, false, List, length, Option, slice_get}
+use Rattle.rg_base.specs.declared.object.Seen.{Seen}
 use Rattle.rg_base.specs.declared.outcome.EndNumbers.{EndNumbers}
 use Rattle.rg_tree.specs.Rows.Tables.{Tables}
 use Rattle.rg_rules.specs.State.{State}
@@ -22,6 +23,10 @@ pub record Shows (t : Tables) (m : Kept) (s : State) : Type 0 where
   pub begun : m.begun ≡ true
   pub rest : List ℕ
   pub state : state_of t m.plain rest ≡ s
+
+-- the object of a serial, where one was made
+abbrev pub object_at : Kept → (serial : ℕ) → Option Seen
+object_at m serial = slice_get m.plain.kept.store serial
 
 -- the numbers of a run: its steps, and the objects that it made, of which none is freed
 abbrev pub numbers_of : Kept → EndNumbers

@@ -1,9 +1,9 @@
-//! The machine that makes the steps of a run.
+//! The machine that makes the steps of a run (docs/language.md, "Steps").
 
-ghost use Rattle.std.specs.Prelude.{◌≡◌, ◌≢◌, ◌≤◌, ◌↔◌, IsTrue, IfOk, slice_get, true};
+ghost use Rattle.std.specs.Prelude.{◌≡◌, ◌≢◌, ◌≤◌, ◌↔◌, IsTrue, IfOk, true};
 ghost use Rattle.rg_io.specs.Content.{Rose};
 ghost use Rattle.rg_input.specs.Numbers.{Follows, OnInput};
-ghost use Rattle.rg_run.specs.Machine.{IsFresh, numbers_of};
+ghost use Rattle.rg_run.specs.Machine.{IsFresh, numbers_of, object_at};
 ghost use Rattle.rg_run.specs.Runs.{RunsOn};
 
 use rg_base::{EndNumbers, Ended, Memory, Seen};
@@ -71,7 +71,7 @@ impl Machine {
 
     /// The object of a serial; None past the last one that was made.
     pub fn shown(&self, alloc: Global, serial: u64) -> Result<Option<Seen>, Memory>
-        ensures { IfOk result (λ o. o ≡ slice_get self.now.plain.kept.store serial) }
+        ensures { IfOk result (λ o. o ≡ object_at self.now serial) }
     {
         self.plain.object(alloc, serial)
     }
@@ -91,7 +91,8 @@ impl Machine {
         requires follows { Follows input.old (I.left source.old) }
 
         ensures run { OnInput input.old input.new (I.left source.old) (I.left source.new)
-            (RunsOn accepted.now.program n (O.taken out.old) (O.taken out.new) self.new result) }
+            (RunsOn accepted.now.program n (O.taken out.old) (O.taken out.new) self.new result
+            ((input.new ≡ input.old) × (source.new ≡ source.old))) }
         ensures begun { result ≢ Ended.Memory → self.new.begun ≡ true }
         ensures follows { Follows input.new (I.left source.new) }
 

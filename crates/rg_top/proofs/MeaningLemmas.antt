@@ -19,7 +19,8 @@ use Rattle.rg_check.specs.Laws.{SpeltHasFewNames}
 use Rattle.rg_top.specs.declared.status.Status.{Status}
 use Rattle.rg_top.specs.Commands.{Command, run, plain, fmt, check}
 use Rattle.rg_top.specs.Statuses.{is_refusal}
-use Rattle.rg_top.specs.Expected.{Meaning, too_long, faulty, spelt, IsStuck, SpellsTree, Means, Answer, status_of, run_answer, unless_fault, expected, ExpectsStatus}
+use Rattle.rg_top.specs.Expected.{Meaning, too_long, faulty, spelt, IsStuck, SpellsTree, Means, Answer, status_of, run_answer, unless_fault}
+use Rattle.rg_top.specs.Expected.{expected, ExpectsStatus}
 
 -- a program that spells the source's tokens has few names
 pub few-names : (source : List ℕ) (ts : List Token) (r : Result Tables Stop) → SpeltHasFewNames

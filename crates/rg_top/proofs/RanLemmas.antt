@@ -1,5 +1,5 @@
 -- From what the machines have answered to what was answered to the source.
-use Rattle.std.proofs.Common.{◌≡◌, ℕ, inl, inr, true, false, List, [], ◌++◌, Option, Some, None, refl, sym, ◌∙◌, ap, subst}
+use Rattle.std.proofs.Common.{◌≡◌, ◌≤◌, ℕ, inl, inr, true, false, List, [], ◌++◌, Option, Some, None, refl, sym, ◌∙◌, ap, subst, arith}
 use Rattle.rg_base.specs.declared.outcome.Ended.{Ended}
 use Rattle.rg_base.specs.declared.outcome.Ended.TheVariants as ended
 use Rattle.rg_tree.specs.Rows.Tables.{Tables}
@@ -9,16 +9,18 @@ use Rattle.rg_rules.specs.Runs.{Ending, Running, Done, Stopped, opening}
 use Rattle.rg_rules.specs.Runs as rules
 use Rattle.rg_input.specs.Numbers.{Pending, Follows, CanCome, OnInput}
 use Rattle.rg_plain.specs.Machine.{Machine, Begins, state_of}
-use Rattle.rg_plain.specs.Runs.{answer, RunIs, Whole, CutOff, CutAtInput}
+use Rattle.rg_plain.specs.Runs.{answer, RunIs, NoneAsks, begun, Whole, StandsAt, CutOff, CutAtInput}
 use Rattle.rg_run.specs.Machine.{Kept, IsFresh, Shows}
 use Rattle.rg_run.specs.Runs.{RunsOn}
+use Rattle.rg_run.specs.Sound.{Stands, NeverAsks}
+use Rattle.rg_run.proofs.SoundLemmas.{run-is-sound, stands-shown}
 use Rattle.rg_run.proofs.RunLemmas.{wrote-part}
 use Rattle.rg_top.specs.declared.status.Status.{Status}
 use Rattle.rg_top.specs.declared.status.Status.TheVariants as status
 use Rattle.rg_top.specs.Commands.{run, plain}
 use Rattle.rg_top.specs.Expected.{status_of}
-use Rattle.rg_top.specs.Headline.{HasInput, ForInput, Runs, StandsAfter, AsksAfter}
-use Rattle.rg_top.specs.Settled.{status_of_ended, RanWhole, RanBeside, Settles}
+use Rattle.rg_top.specs.Headline.{HasInput, ForInput, Runs, StandsAfter, CutOffAt, AsksAfter}
+use Rattle.rg_top.specs.Inner.Settled.{status_of_ended, RanWhole, RanBeside, Settles}
 
 -- some bytes can come
 can_come : (n : Pending) (left : Option (List ℕ)) → Follows n left → (more : List ℕ) × CanCome n left more
@@ -48,11 +50,18 @@ module _ (file : List ℕ) (n : ℕ) (source : List ℕ) (left : Option (List �
   answered e s same w = sym same ∙ ap status_of_ended w.answer_is ∙ status-answer (rules.plain (program_of t) input n).ending
 
   asks_after : CutAtInput t (opening (program_of t) input) n k plain_machine rest old new → AsksAfter (program_of t) input n k old new
-  asks_after c = record { before = c.before; made = c.stands.made; asks = c.asks; wrote = c.wrote }
+  asks_after c = record {
+    before = c.before;
+    made = c.stands.made;
+    asks = c.asks;
+    wrote = c.wrote;
+    sound = run-is-sound (program_of t) runs.accepted input k;
+  }
 
-  beside : (m : Kept) (e : Ended) (s : Status) → IsFresh m → status_of_ended e ≡ s →
-      Whole t (opening (program_of t) input) n k plain_machine rest old new e → RanBeside n source left s old new m
-  beside m e s fresh same w = record {
+  beside : (m : Kept) (still : Type 0) (unread : NeverAsks (program_of t) input n → still) (e : Ended) (s : Status) → IsFresh m →
+      status_of_ended e ≡ s → Whole t (opening (program_of t) input) n k plain_machine rest old new e →
+      RanBeside n source left s old new m still
+  beside m still unread e s fresh same w = record {
     tree = program_of t;
     runs = runs;
     input = input;
@@ -60,26 +69,42 @@ module _ (file : List ℕ) (n : ℕ) (source : List ℕ) (left : Option (List �
     status_is = answered e s same w;
     wrote = w.text_is;
     fresh = fresh;
+    unread = unread;
   }
 
-  pub beside-settles : (m : Kept) (e : Ended) → IsFresh m → RunIs t (opening (program_of t) input) n k plain_machine rest old new e →
-      Settles (plain file n) source left (status_of_ended e) old new m
-  beside-settles m ended.Done fresh h = beside m ended.Done status.Done fresh refl h
-  beside-settles m ended.Spent fresh h = beside m ended.Spent status.Spent fresh refl h
-  beside-settles m (ended.Trap kind line) fresh h = beside m (ended.Trap kind line) (status.Trap kind line) fresh refl h
-  beside-settles m ended.InputFault fresh h = (input, is, (program_of t, runs, fresh, k, asks_after h))
-  beside-settles m ended.OutputFault fresh h =
-      inr (input, is, (program_of t, runs, fresh, wrote-part t input k n old new h.stands.within h.wrote))
-  beside-settles m ended.Memory fresh h =
-      inr (input, is, (program_of t, runs, fresh, wrote-part t input k n old new h.stands.within h.wrote))
+  beside_cut : (m : Kept) (still : Type 0) → (NeverAsks (program_of t) input n → still) → IsFresh m → CutOff t (opening (program_of t) input) n k plain_machine rest old new →
+      ForInput left (λ input. CutOffAt (plain file n) source input m old new still)
+  beside_cut m still unread fresh h = (
+    input,
+    is,
+    (
+      program_of t,
+      runs,
+      fresh,
+      wrote-part t input k n old new h.stands.within h.wrote,
+      run-is-sound (program_of t) runs.accepted input n,
+      unread,
+    ),
+  )
+
+  pub beside-settles : (m : Kept) (still : Type 0) → (NeverAsks (program_of t) input n → still) → (e : Ended) → IsFresh m →
+      RunIs t (opening (program_of t) input) n k plain_machine rest old new e →
+      Settles (plain file n) source left (status_of_ended e) old new m still
+  beside-settles m still unread ended.Done fresh h = beside m still unread ended.Done status.Done fresh refl h
+  beside-settles m still unread ended.Spent fresh h = beside m still unread ended.Spent status.Spent fresh refl h
+  beside-settles m still unread (ended.Trap kind line) fresh h = beside m still unread (ended.Trap kind line) (status.Trap kind line) fresh refl h
+  beside-settles m still unread ended.InputFault fresh h = (input, is, (program_of t, runs, fresh, k, asks_after h))
+  beside-settles m still unread ended.OutputFault fresh h = inr (beside_cut m still unread fresh h)
+  beside-settles m still unread ended.Memory fresh h = inr (beside_cut m still unread fresh h)
 
 module _ (file : List ℕ) (n : ℕ) (source : List ℕ) (left : Option (List ℕ)) (t : Tables) (runs : Runs source (program_of t)) (input : List ℕ)
-    (is : HasInput left input) (m : Kept) (begun : m.begun ≡ true) (rest : List ℕ) (old new : Option (List ℕ)) where
+    (is : HasInput left input) (m : Kept) (begun : m.begun ≡ true) (rest : List ℕ) (old new : Option (List ℕ)) (still : Type 0)
+    (unread : NeverAsks (program_of t) input n → still) where
   shows : (s : State) → state_of t m.plain rest ≡ s → Shows t m s
   shows s e = record { begun = begun; rest = rest; state = e }
 
   whole : (e : Ended) (s : Status) → status_of_ended e ≡ s → Whole t (opening (program_of t) input) n m.steps m.plain rest old new e →
-      RanWhole n source left s old new m
+      RanWhole n source left s old new m still
   whole e s same w = record {
     tables = t;
     runs = runs;
@@ -87,40 +112,48 @@ module _ (file : List ℕ) (n : ℕ) (source : List ℕ) (left : Option (List �
     input_is = is;
     status_is = answered file n source left t runs input is m.steps m.plain rest old new e s same w;
     wrote = w.text_is;
-    shows = record { shows = shows _ w.state_is; steps = w.steps_are };
+    stands = stands-shown t input n m runs.accepted (shows _ w.state_is) w.steps_are;
+    unread = unread;
   }
 
-  stands : CutOff t (opening (program_of t) input) n m.steps m.plain rest old new → StandsAfter t input n m.steps m old new
-  stands c = record { within = c.stands.within; made = c.stands.made; shows = shows _ c.stands.state_is; wrote = c.wrote }
+  stands : StandsAt t (opening (program_of t) input) n m.steps m.plain rest → Stands t input m.steps m
+  stands c = stands-shown t input m.steps m runs.accepted (shows _ c.state_is) (sym c.made)
+
+  stands_after : CutOff t (opening (program_of t) input) n m.steps m.plain rest old new → StandsAfter t input n m.steps m old new
+  stands_after c = record { within = c.stands.within; made = c.stands.made; stands = stands c.stands; wrote = c.wrote }
 
   ran-settles : (e : Ended) → RunIs t (opening (program_of t) input) n m.steps m.plain rest old new e →
-      Settles (run file n) source left (status_of_ended e) old new m
+      Settles (run file n) source left (status_of_ended e) old new m still
   ran-settles ended.Done h = whole ended.Done status.Done refl h
   ran-settles ended.Spent h = whole ended.Spent status.Spent refl h
   ran-settles (ended.Trap kind line) h = whole (ended.Trap kind line) (status.Trap kind line) refl h
   ran-settles ended.InputFault h =
-      (input, is, (t, runs, shows _ h.stands.state_is, asks_after file n source left t runs input is m.steps m.plain rest old new h))
-  ran-settles ended.OutputFault h = inr (input, is, (t, runs, stands h))
-  ran-settles ended.Memory h = inr (input, is, (t, runs, stands h))
+      (input, is, (t, runs, stands h.stands, asks_after file n source left t runs input is m.steps m.plain rest old new h))
+  ran-settles ended.OutputFault h = inr (input, is, (t, runs, stands_after h, unread))
+  ran-settles ended.Memory h = inr (input, is, (t, runs, stands_after h, unread))
 
 -- a run on the machine
 pub run-settles : (file : List ℕ) (n : ℕ) (source : List ℕ) (left : Option (List ℕ)) (t : Tables) (m : Kept) (e : Ended)
-    (old new : Option (List ℕ)) → Runs source (program_of t) →
-    ForInput left (λ input. (rest : List ℕ) × RunsOn t n old new m e input rest) → Settles (run file n) source left (status_of_ended e) old new m
-run-settles file n source left t m e old new runs h = elim h.2.1 [
+    (old new : Option (List ℕ)) (quiet still : Type 0) → (quiet → still) → Runs source (program_of t) →
+    ForInput left (λ input. (rest : List ℕ) × RunsOn t n old new m e quiet input rest) →
+    Settles (run file n) source left (status_of_ended e) old new m still
+run-settles file n source left t m e old new quiet still more runs h = elim h.2.1 [
   | inl none ↦
-      let P : Ended → Type 0 = λ q. Settles (run file n) source left (status_of_ended q) old new m in
-      subst P (sym none.answer_is) (inl (none.fresh, none.untouched))
-  | inr ran ↦ ran-settles file n source left t runs h.0 h.1 m ran.begun h.2.0 old new e ran.run
+      let P : Ended → Type 0 = λ q. Settles (run file n) source left (status_of_ended q) old new m still in
+      subst P (sym none.answer_is) (inl (none.fresh, none.untouched, more none.unread))
+  | inr ran ↦ ran-settles file n source left t runs h.0 h.1 m ran.begun h.2.0 old new still (λ none. more (ran.unread none)) e ran.run
 ]
 
 -- a run on a machine of its own
-pub plain-settles : (file : List ℕ) (n : ℕ) (source : List ℕ) (left : Option (List ℕ)) (t u : Tables) (begun new_machine : Machine)
-    (m : Kept) (e : Ended) (old new : Option (List ℕ)) → t ≡ u → Runs source (program_of u) → IsFresh m → Begins t begun →
-    ForInput left (λ input. (rest : List ℕ) × ((k : ℕ) × RunIs t (state_of t begun input) n k new_machine rest old new e)) →
-    Settles (plain file n) source left (status_of_ended e) old new m
-plain-settles file n source left t u begun new_machine m e old new same runs fresh begins h =
-    let P : State → Type 0 = λ s. RunIs t s n h.2.1.0 new_machine h.2.0 old new e in
+pub plain-settles : (file : List ℕ) (n k : ℕ) (source : List ℕ) (left : Option (List ℕ)) (t u : Tables) (start new_machine : Machine)
+    (m : Kept) (e : Ended) (old new : Option (List ℕ)) (quiet still : Type 0) → (quiet → still) → t ≡ u → Runs source (program_of u) → IsFresh m →
+    Begins t start → begun e k ≤ n →
+    ForInput left (λ input. (rest : List ℕ) × (RunIs t (state_of t start input) n k new_machine rest old new e
+    × (NoneAsks t (state_of t start input) (begun e k) → quiet))) →
+    Settles (plain file n) source left (status_of_ended e) old new m still
+plain-settles file n k source left t u start new_machine m e old new quiet still more same runs fresh begins within h =
+    let P : State → Type 0 = λ s. RunIs t s n k new_machine h.2.0 old new e in
+    let N : State → Type 0 = λ s. NoneAsks t s (begun e k) → quiet in
     let Q : Tables → Type 0 = λ q. Runs source (program_of q) in
-    beside-settles file n source left t (subst Q (sym same) runs) h.0 h.1 h.2.1.0 new_machine h.2.0 old new m e fresh
-    (subst P (begins.state h.0) h.2.1.1)
+    beside-settles file n source left t (subst Q (sym same) runs) h.0 h.1 k new_machine h.2.0 old new m still
+    (λ none. more (subst N (begins.state h.0) h.2.1.1 (λ j l. none j (omega (arith, within))))) e fresh (subst P (begins.state h.0) h.2.1.0)

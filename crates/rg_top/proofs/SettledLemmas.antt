@@ -1,5 +1,5 @@
--- What the layers under the top call have answered to a source says what was written, what the machine shows and where the call was cut off.
-use Rattle.std.proofs.Common.{◌≡◌, ℕ, ◌+◌, ◌⊎◌, inl, inr, true, List, [], Option, Some, None, refl, sym, ◌∙◌, ap, subst, arith, append-nil}
+-- What the layers under the top call have answered to a source, in the words of the headline.
+use Rattle.std.proofs.Common.{◌≡◌, ℕ, ◌+◌, ◌⊎◌, inl, inr, true, false, List, [], Option, Some, None, refl, sym, ◌∙◌, ap, subst, arith, append-nil}
 use Rattle.std.specs.Bool.{OnTrue}
 use Rattle.rg_base.specs.declared.fault.Fault.{Fault}
 use Rattle.rg_base.specs.Text.{text}
@@ -7,19 +7,22 @@ use Rattle.rg_io.specs.Content.{Appends, AppendsPart}
 use Rattle.rg_tree.specs.Tree.{Tree}
 use Rattle.rg_tree.specs.Rows.Tables.{Tables}
 use Rattle.rg_tree.specs.Rows.RowTrees.{program_of, classes_of}
-use Rattle.rg_rules.specs.Acceptance.{first_fault}
+use Rattle.rg_tree.specs.Canonical.{canon}
+use Rattle.rg_rules.specs.Acceptance.{Accepted, first_fault}
 use Rattle.rg_rules.specs.State.{State}
 use Rattle.rg_rules.specs.Runs.{opening}
 use Rattle.rg_rules.specs.Runs as rules
-use Rattle.rg_run.specs.Machine.{Kept, Shows}
+use Rattle.rg_run.specs.Machine.{Kept, IsFresh, Shows}
+use Rattle.rg_run.specs.Sound.{IsSound, Stands, NeverAsks}
+use Rattle.rg_run.proofs.SoundLemmas.{run-is-sound, stands-shown}
 use Rattle.rg_run.proofs.RunLemmas.{run-of, wrote-whole, text-part}
 use Rattle.rg_top.specs.declared.status.Status.{Status}
 use Rattle.rg_top.specs.declared.status.Status.TheVariants as status
-use Rattle.rg_top.specs.Commands.{Command, run, plain, fmt, check}
-use Rattle.rg_top.specs.Statuses.{is_run, is_answer, is_from_outside}
-use Rattle.rg_top.specs.Expected.{too_long, faulty, spelt, Means, status_of, text_after, run_answer, unless_fault, Expects, ExpectsStatus}
-use Rattle.rg_top.specs.Headline.{ForInput, Wrote, Runs, ShowsRan, ShowsEnd, ReadsBack, Untouched, StandsAfter, CutOffAt, CutAtInput}
-use Rattle.rg_top.specs.Settled.{RanWhole, RanBeside, EndsWell, StopsRun, IsFaulted, CutOff, Settles}
+use Rattle.rg_top.specs.Commands.{Command, run, plain, fmt, check, reads_input}
+use Rattle.rg_top.specs.Statuses.{is_answer, is_from_outside}
+use Rattle.rg_top.specs.Expected.{too_long, faulty, spelt, Means, status_of, accepted_text, text_after, run_answer, unless_fault, ExpectsStatus}
+use Rattle.rg_top.specs.Headline.{ForInput, IfAccepted, RunStands, Answers, Runs, Untouched, StandsAfter, AsksAfter, CutOffAt, CutAtInput}
+use Rattle.rg_top.specs.Inner.Settled.{RanWhole, RanBeside, EndsWell, StopsRun, IsFaulted, CutOff, Settles}
 
 -- the source of an input has some bytes
 pub for-input : (left : Option (List ℕ)) (P : List ℕ → Type 0) → ((input : List ℕ) → P input) → ForInput left P
@@ -38,120 +41,145 @@ ran-answer : (t : Tree) (input : List ℕ) (n : ℕ) (s : Status) (source : List
     unless_fault (first_fault t) (run_answer t input n) ≡ record { status = s; text = text_after t input n }
 ran-answer t input n s source runs is = rw (runs.accepted, is) refl
 
-wrote-ran : (file : List ℕ) (n : ℕ) (source : List ℕ) (left : Option (List ℕ)) (s : Status) (old new : Option (List ℕ)) (m : Kept) →
-    RanWhole n source left s old new m → ForInput left (λ input. Wrote (run file n) source input s old new)
-wrote-ran file n source left s old new m r =
-    let t = program_of r.tables in
-    (r.input, r.input_is, (_, (spelt t, r.runs.means, ran-answer t r.input n s source r.runs r.status_is), r.wrote))
+-- what is left where the checker has no fault
+if-accepted : (o : Option Fault) (accepted refused : Type 0) → o ≡ None → accepted → IfAccepted o accepted refused
+if-accepted None accepted refused e h = h
+if-accepted (Some f) accepted refused e h = cc
 
-wrote-beside : (file : List ℕ) (n : ℕ) (source : List ℕ) (left : Option (List ℕ)) (s : Status) (old new : Option (List ℕ)) (m : Kept) →
-    RanBeside n source left s old new m → ForInput left (λ input. Wrote (plain file n) source input s old new)
-wrote-beside file n source left s old new m r =
-    (r.input, r.input_is, (_, (spelt r.tree, r.runs.means, ran-answer r.tree r.input n s source r.runs r.status_is), r.wrote))
+-- what is left where it has one
+if-refused : (o : Option Fault) (f : Fault) (accepted refused : Type 0) → o ≡ Some f → refused → IfAccepted o accepted refused
+if-refused None f accepted refused e h = cc
+if-refused (Some g) f accepted refused e h = h
 
-wrote-well : (c : Command) (source : List ℕ) (left old new : Option (List ℕ)) (m : Kept) → EndsWell c source left old new m →
-    ForInput left (λ input. Wrote c source input status.Done old new)
-wrote-well (run file n) source left old new m r = wrote-ran file n source left status.Done old new m r
-wrote-well (plain file n) source left old new m r = wrote-beside file n source left status.Done old new m r
-wrote-well (fmt file) source left old new m r = for-input left _ (λ input. (_, (spelt r.tree, r.means, refl), r.wrote))
-wrote-well (check file) source left old new m r =
-    for-input left _ (λ input. (_, (spelt r.tree, r.runs.means, rw r.runs.accepted refl), r.wrote))
+answers-ran : (file : List ℕ) (n : ℕ) (source : List ℕ) (left : Option (List ℕ)) (s : Status) (old new : Option (List ℕ)) (m : Kept) (still : Type 0) →
+    RanWhole n source left s old new m still → ForInput left (λ input. Answers (run file n) source input s old new m still)
+answers-ran file n source left s old new m still r =
+    let t = program_of r.tables in (
+      r.input,
+      r.input_is,
+      record {
+        meaning = spelt t;
+        means = r.runs.means;
+        text = text_after t r.input n;
+        expects = ran-answer t r.input n s source r.runs r.status_is;
+        wrote = r.wrote;
+        leaves = if-accepted (first_fault t) (RunStands t r.input n m × (NeverAsks t r.input n → still)) (IsFresh m × still) r.runs.accepted
+            ((r.tables, refl, r.stands), r.unread);
+      },
+    )
 
-wrote-stops : (c : Command) (source : List ℕ) (left : Option (List ℕ)) (s : Status) (old new : Option (List ℕ)) (m : Kept) →
-    StopsRun c source left s old new m → ForInput left (λ input. Wrote c source input s old new)
-wrote-stops (run file n) source left s old new m r = wrote-ran file n source left s old new m r
-wrote-stops (plain file n) source left s old new m r = wrote-beside file n source left s old new m r
-wrote-stops (fmt file) source left s old new m r = absurd r
-wrote-stops (check file) source left s old new m r = absurd r
+answers-beside : (file : List ℕ) (n : ℕ) (source : List ℕ) (left : Option (List ℕ)) (s : Status) (old new : Option (List ℕ)) (m : Kept) (still : Type 0) →
+    RanBeside n source left s old new m still → ForInput left (λ input. Answers (plain file n) source input s old new m still)
+answers-beside file n source left s old new m still r = (
+  r.input,
+  r.input_is,
+  record {
+    meaning = spelt r.tree;
+    means = r.runs.means;
+    text = text_after r.tree r.input n;
+    expects = ran-answer r.tree r.input n s source r.runs r.status_is;
+    wrote = r.wrote;
+    leaves = (
+      r.fresh,
+      if-accepted (first_fault r.tree) (IsSound r.tree r.input n × (NeverAsks r.tree r.input n → still)) still r.runs.accepted
+          (run-is-sound r.tree r.runs.accepted r.input n, r.unread),
+    );
+  },
+)
 
--- a tree with a fault is refused
-expects-refused : (c : Command) (source input : List ℕ) (f : Fault) → Means source (faulty f) ⊎ IsFaulted c source f →
-    Expects c source input (status.Refused f) []
-expects-refused c source input f (inl h) = (faulty f, h, refl)
-expects-refused (run file n) source input f (inr h) = (spelt h.0, h.1, rw h.2 refl)
-expects-refused (plain file n) source input f (inr h) = (spelt h.0, h.1, rw h.2 refl)
-expects-refused (fmt file) source input f (inr h) = absurd h
-expects-refused (check file) source input f (inr h) = (spelt h.0, h.1, rw h.2 refl)
+answers-well : (c : Command) (source : List ℕ) (left old new : Option (List ℕ)) (m : Kept) (still : Type 0) → EndsWell c source left old new m still →
+    ForInput left (λ input. Answers c source input status.Done old new m still)
+answers-well (run file n) source left old new m still r = answers-ran file n source left status.Done old new m still r
+answers-well (plain file n) source left old new m still r = answers-beside file n source left status.Done old new m still r
+answers-well (fmt file) source left old new m still r =
+    for-input left _ (λ input. record {
+      meaning = spelt r.tree;
+      means = r.means;
+      text = canon r.tree;
+      expects = refl;
+      wrote = r.wrote;
+      leaves = (r.fresh, r.back);
+    })
+answers-well (check file) source left old new m still r =
+    for-input left _ (λ input. record {
+      meaning = spelt r.tree;
+      means = r.runs.means;
+      text = accepted_text;
+      expects = rw r.runs.accepted refl;
+      wrote = r.wrote;
+      leaves = r.fresh;
+    })
 
--- the text of what was answered
-pub wrote-of : (c : Command) (source : List ℕ) (left : Option (List ℕ)) (s : Status) (old new : Option (List ℕ)) (m : Kept) →
-    Settles c source left s old new m → OnTrue (is_answer s) (ForInput left (λ input. Wrote c source input s old new))
-wrote-of c source left status.Done old new m h = wrote-well c source left old new m h
-wrote-of c source left (status.Refused f) old new m h =
-    for-input left _ (λ input. ([], expects-refused c source input f h.0, untouched-text old new h.1.1))
-wrote-of c source left status.Usage old new m h = tt
-wrote-of c source left (status.Trap kind line) old new m h = wrote-stops c source left (status.Trap kind line) old new m h
-wrote-of c source left status.Spent old new m h = wrote-stops c source left status.Spent old new m h
-wrote-of c source left status.SourceFault old new m h = tt
-wrote-of c source left status.InputFault old new m h = tt
-wrote-of c source left status.OutputFault old new m h = tt
-wrote-of c source left status.Memory old new m h = tt
-wrote-of c source left status.Long old new m h = for-input left _ (λ input. ([], (too_long, h.0, refl), untouched-text old new h.1.1))
+answers-stops : (c : Command) (source : List ℕ) (left : Option (List ℕ)) (s : Status) (old new : Option (List ℕ)) (m : Kept) (still : Type 0) →
+    StopsRun c source left s old new m still → ForInput left (λ input. Answers c source input s old new m still)
+answers-stops (run file n) source left s old new m still r = answers-ran file n source left s old new m still r
+answers-stops (plain file n) source left s old new m still r = answers-beside file n source left s old new m still r
+answers-stops (fmt file) source left s old new m still r = absurd r
+answers-stops (check file) source left s old new m still r = absurd r
 
-shown-ran : (file : List ℕ) (n : ℕ) (source : List ℕ) (left : Option (List ℕ)) (s : Status) (old new : Option (List ℕ)) (m : Kept) →
-    RanWhole n source left s old new m → ForInput left (λ input. ShowsEnd (run file n) source input m)
-shown-ran file n source left s old new m r = (r.input, r.input_is, (r.tables, r.runs, r.shows))
+-- a source with a fault is refused
+answers-refused : (c : Command) (source input : List ℕ) (f : Fault) (old new : Option (List ℕ)) (m : Kept) (still : Type 0) → Untouched m old new still →
+    Means source (faulty f) ⊎ IsFaulted c source f → Answers c source input (status.Refused f) old new m still
+answers-refused c source input f old new m still u (inl h) = record {
+  meaning = faulty f;
+  means = h;
+  text = [];
+  expects = refl;
+  wrote = untouched-text old new u.1;
+  leaves = (u.0, u.2);
+}
+answers-refused (run file n) source input f old new m still u (inr h) = record {
+  meaning = spelt h.0;
+  means = h.1;
+  text = [];
+  expects = rw h.2 refl;
+  wrote = untouched-text old new u.1;
+  leaves = if-refused (first_fault h.0) f (RunStands h.0 input n m × (NeverAsks h.0 input n → still)) (IsFresh m × still) h.2 (u.0, u.2);
+}
+answers-refused (plain file n) source input f old new m still u (inr h) = record {
+  meaning = spelt h.0;
+  means = h.1;
+  text = [];
+  expects = rw h.2 refl;
+  wrote = untouched-text old new u.1;
+  leaves = (u.0, if-refused (first_fault h.0) f (IsSound h.0 input n × (NeverAsks h.0 input n → still)) still h.2 u.2);
+}
+answers-refused (fmt file) source input f old new m still u (inr h) = absurd h
+answers-refused (check file) source input f old new m still u (inr h) = record {
+  meaning = spelt h.0;
+  means = h.1;
+  text = [];
+  expects = rw h.2 refl;
+  wrote = untouched-text old new u.1;
+  leaves = u.0;
+}
 
-shown-well : (c : Command) (source : List ℕ) (left old new : Option (List ℕ)) (m : Kept) → EndsWell c source left old new m →
-    ForInput left (λ input. ShowsEnd c source input m)
-shown-well (run file n) source left old new m r = shown-ran file n source left status.Done old new m r
-shown-well (plain file n) source left old new m r = for-input left _ (λ input. r.fresh)
-shown-well (fmt file) source left old new m r = for-input left _ (λ input. r.fresh)
-shown-well (check file) source left old new m r = for-input left _ (λ input. r.fresh)
-
-shown-stops : (c : Command) (source : List ℕ) (left : Option (List ℕ)) (s : Status) (old new : Option (List ℕ)) (m : Kept) →
-    StopsRun c source left s old new m → ForInput left (λ input. ShowsEnd c source input m)
-shown-stops (run file n) source left s old new m r = shown-ran file n source left s old new m r
-shown-stops (plain file n) source left s old new m r = for-input left _ (λ input. r.fresh)
-shown-stops (fmt file) source left s old new m r = absurd r
-shown-stops (check file) source left s old new m r = absurd r
-
--- the machine behind what was answered
-pub shown-of : (c : Command) (source : List ℕ) (left : Option (List ℕ)) (s : Status) (old new : Option (List ℕ)) (m : Kept) →
-    Settles c source left s old new m → OnTrue (is_run s) (ForInput left (λ input. ShowsEnd c source input m))
-shown-of c source left status.Done old new m h = shown-well c source left old new m h
-shown-of c source left (status.Refused f) old new m h = tt
-shown-of c source left status.Usage old new m h = tt
-shown-of c source left (status.Trap kind line) old new m h = shown-stops c source left (status.Trap kind line) old new m h
-shown-of c source left status.Spent old new m h = shown-stops c source left status.Spent old new m h
-shown-of c source left status.SourceFault old new m h = tt
-shown-of c source left status.InputFault old new m h = tt
-shown-of c source left status.OutputFault old new m h = tt
-shown-of c source left status.Memory old new m h = tt
-shown-of c source left status.Long old new m h = tt
-
-back-well : (c : Command) (source : List ℕ) (left old new : Option (List ℕ)) (m : Kept) → EndsWell c source left old new m →
-    ReadsBack c source old new
-back-well (run file n) source left old new m r = tt
-back-well (plain file n) source left old new m r = tt
-back-well (fmt file) source left old new m r = (r.tree, r.means, r.wrote, r.back)
-back-well (check file) source left old new m r = tt
-
-back-stops : (c : Command) (source : List ℕ) (left : Option (List ℕ)) (s : Status) (old new : Option (List ℕ)) (m : Kept) →
-    StopsRun c source left s old new m → ReadsBack c source old new
-back-stops (run file n) source left s old new m r = tt
-back-stops (plain file n) source left s old new m r = tt
-back-stops (fmt file) source left s old new m r = absurd r
-back-stops (check file) source left s old new m r = absurd r
-
--- what was written parses back
-pub back-of : (c : Command) (source : List ℕ) (left : Option (List ℕ)) (s : Status) (old new : Option (List ℕ)) (m : Kept) →
-    Settles c source left s old new m → OnTrue (is_run s) (ForInput left (λ input. ReadsBack c source old new))
-back-of c source left status.Done old new m h = for-input left _ (λ input. back-well c source left old new m h)
-back-of c source left (status.Refused f) old new m h = tt
-back-of c source left status.Usage old new m h = tt
-back-of c source left (status.Trap kind line) old new m h = for-input left _ (λ input. back-stops c source left (status.Trap kind line) old new m h)
-back-of c source left status.Spent old new m h = for-input left _ (λ input. back-stops c source left status.Spent old new m h)
-back-of c source left status.SourceFault old new m h = tt
-back-of c source left status.InputFault old new m h = tt
-back-of c source left status.OutputFault old new m h = tt
-back-of c source left status.Memory old new m h = tt
-back-of c source left status.Long old new m h = tt
+-- what was answered, where nothing cut it off
+pub answers-of : (c : Command) (source : List ℕ) (left : Option (List ℕ)) (s : Status) (old new : Option (List ℕ)) (m : Kept) (still : Type 0) →
+    Settles c source left s old new m still → OnTrue (is_answer s) (ForInput left (λ input. Answers c source input s old new m still))
+answers-of c source left status.Done old new m still h = answers-well c source left old new m still h
+answers-of c source left (status.Refused f) old new m still h = for-input left _ (λ input. answers-refused c source input f old new m still h.1 h.0)
+answers-of c source left status.Usage old new m still h = tt
+answers-of c source left (status.Trap kind line) old new m still h = answers-stops c source left (status.Trap kind line) old new m still h
+answers-of c source left status.Spent old new m still h = answers-stops c source left status.Spent old new m still h
+answers-of c source left status.SourceFault old new m still h = tt
+answers-of c source left status.InputFault old new m still h = tt
+answers-of c source left status.OutputFault old new m still h = tt
+answers-of c source left status.Memory old new m still h = tt
+answers-of c source left status.Long old new m still h =
+    for-input left _ (λ input. record {
+      meaning = too_long;
+      means = h.0;
+      text = [];
+      expects = refl;
+      wrote = untouched-text old new h.1.1;
+      leaves = (h.1.0, h.1.2);
+    })
 
 -- a machine that shows the end of a run, and has written all its text, stands at a whole step of it
-stands-whole : (t : Tables) (input : List ℕ) (n : ℕ) (m : Kept) (old new : Option (List ℕ)) → ShowsRan t m (rules.plain (program_of t) input n) →
+stands-whole : (t : Tables) (input : List ℕ) (n : ℕ) (m : Kept) (old new : Option (List ℕ)) → Accepted (program_of t) → Stands t input n m →
     Appends old new (text_after (program_of t) input n) → StandsAfter t input n m.steps m old new
-stands-whole t input n m old new shown wrote =
+stands-whole t input n m old new accepted shown wrote =
     let r = run-of (classes_of t) n 0 (opening (program_of t) input) in
     let from : 0 + r.0 ≡ r.0 = omega arith in
     let k : m.steps ≡ r.0 = shown.steps ∙ r.1.steps ∙ from in
@@ -161,37 +189,48 @@ stands-whole t input n m old new shown wrote =
     subst R (sym k) (record {
       within = r.1.within;
       made = r.1.made_steps ∙ from;
-      shows = subst P (sym r.1.state) shown.shows;
+      stands = stands-shown t input r.0 m accepted (subst P (sym r.1.state) shown.shows) (k ∙ sym (r.1.made_steps ∙ from));
       wrote = wrote-whole t input r.0 old new (subst Q (ap (λ s. text s.output) (sym r.1.state)) wrote);
     })
 
-cut-ran : (file : List ℕ) (n : ℕ) (source : List ℕ) (left : Option (List ℕ)) (s : Status) (old new : Option (List ℕ)) (m : Kept) →
-    RanWhole n source left s old new m → ForInput left (λ input. CutOffAt (run file n) source input m old new)
-cut-ran file n source left s old new m r =
-    (r.input, r.input_is, (r.tables, r.runs, stands-whole r.tables r.input n m old new r.shows r.wrote))
+cut-ran : (file : List ℕ) (n : ℕ) (source : List ℕ) (left : Option (List ℕ)) (s : Status) (old new : Option (List ℕ)) (m : Kept) (still : Type 0) →
+    RanWhole n source left s old new m still → ForInput left (λ input. CutOffAt (run file n) source input m old new still)
+cut-ran file n source left s old new m still r =
+    (r.input, r.input_is, (r.tables, r.runs, stands-whole r.tables r.input n m old new r.runs.accepted r.stands r.wrote, r.unread))
 
-cut-beside : (file : List ℕ) (n : ℕ) (source : List ℕ) (left : Option (List ℕ)) (s : Status) (old new : Option (List ℕ)) (m : Kept) →
-    RanBeside n source left s old new m → ForInput left (λ input. CutOffAt (plain file n) source input m old new)
-cut-beside file n source left s old new m r = (r.input, r.input_is, (r.tree, r.runs, r.fresh, whole-part old new _ r.wrote))
+cut-beside : (file : List ℕ) (n : ℕ) (source : List ℕ) (left : Option (List ℕ)) (s : Status) (old new : Option (List ℕ)) (m : Kept) (still : Type 0) →
+    RanBeside n source left s old new m still → ForInput left (λ input. CutOffAt (plain file n) source input m old new still)
+cut-beside file n source left s old new m still r = (
+  r.input,
+  r.input_is,
+  (r.tree, r.runs, r.fresh, whole-part old new _ r.wrote, run-is-sound r.tree r.runs.accepted r.input n, r.unread),
+)
 
-cut-well : (c : Command) (source : List ℕ) (left old new : Option (List ℕ)) (m : Kept) → EndsWell c source left old new m →
-    CutOff c source left old new m
-cut-well (run file n) source left old new m r = cut-ran file n source left status.Done old new m r
-cut-well (plain file n) source left old new m r = cut-beside file n source left status.Done old new m r
-cut-well (fmt file) source left old new m r = (r.tree, r.means, r.fresh, whole-part old new _ r.wrote)
-cut-well (check file) source left old new m r = (r.tree, r.runs, r.fresh, whole-part old new _ r.wrote)
+cut-well : (c : Command) (source : List ℕ) (left old new : Option (List ℕ)) (m : Kept) (still : Type 0) → EndsWell c source left old new m still →
+    CutOff c source left old new m still
+cut-well (run file n) source left old new m still r = cut-ran file n source left status.Done old new m still r
+cut-well (plain file n) source left old new m still r = cut-beside file n source left status.Done old new m still r
+cut-well (fmt file) source left old new m still r = (r.tree, r.means, r.fresh, whole-part old new _ r.wrote)
+cut-well (check file) source left old new m still r = (r.tree, r.runs, r.fresh, whole-part old new _ r.wrote)
 
-cut-stops : (c : Command) (source : List ℕ) (left : Option (List ℕ)) (s : Status) (old new : Option (List ℕ)) (m : Kept) →
-    StopsRun c source left s old new m → CutOff c source left old new m
-cut-stops (run file n) source left s old new m r = cut-ran file n source left s old new m r
-cut-stops (plain file n) source left s old new m r = cut-beside file n source left s old new m r
-cut-stops (fmt file) source left s old new m r = absurd r
-cut-stops (check file) source left s old new m r = absurd r
+cut-stops : (c : Command) (source : List ℕ) (left : Option (List ℕ)) (s : Status) (old new : Option (List ℕ)) (m : Kept) (still : Type 0) →
+    StopsRun c source left s old new m still → CutOff c source left old new m still
+cut-stops (run file n) source left s old new m still r = cut-ran file n source left s old new m still r
+cut-stops (plain file n) source left s old new m still r = cut-beside file n source left s old new m still r
+cut-stops (fmt file) source left s old new m still r = absurd r
+cut-stops (check file) source left s old new m still r = absurd r
+
+no_lie : true ≡ false → ⊥
+no_lie e = cc
+
+-- one of the steps asks
+asked : (t : Tree) (input : List ℕ) (n k : ℕ) (old new : Option (List ℕ)) (still : Type 0) → AsksAfter t input n k old new → NeverAsks t input n → still
+asked t input n k old new still asks none = absurd (no_lie (sym asks.asks ∙ none k asks.before))
 
 -- a run that was cut off by the input stands at a whole step
-cut-input : (c : Command) (source : List ℕ) (left old new : Option (List ℕ)) (m : Kept) →
-    ForInput left (λ input. CutAtInput c source input m old new) → CutOff c source left old new m
-cut-input (run file n) source left old new m h =
+cut-input : (c : Command) (source : List ℕ) (left old new : Option (List ℕ)) (m : Kept) (still : Type 0) →
+    ForInput left (λ input. CutAtInput c source input m old new) → CutOff c source left old new m still
+cut-input (run file n) source left old new m still h =
     let t = h.2.0 in
     let asks = h.2.3 in (
       h.0,
@@ -202,63 +241,109 @@ cut-input (run file n) source left old new m h =
         record {
           within = omega (arith, asks.before);
           made = asks.made;
-          shows = h.2.2;
+          stands = h.2.2;
           wrote = wrote-whole t h.0 m.steps old new asks.wrote;
         },
+        asked (program_of t) h.0 n m.steps old new still asks,
       ),
     )
-cut-input (plain file n) source left old new m h =
+cut-input (plain file n) source left old new m still h =
     let t = h.2.0 in
-    let asks = h.2.4 in
-    (h.0, h.1, (t, h.2.1, h.2.2, text-part t h.0 h.2.3 n old new (omega (arith, asks.before)) asks.wrote))
-cut-input (fmt file) source left old new m h = absurd h.2
-cut-input (check file) source left old new m h = absurd h.2
+    let asks = h.2.4 in (
+      h.0,
+      h.1,
+      (
+        t,
+        h.2.1,
+        h.2.2,
+        text-part t h.0 h.2.3 n old new (omega (arith, asks.before)) asks.wrote,
+        run-is-sound t h.2.1.accepted h.0 n,
+        asked t h.0 n h.2.3 old new still asks,
+      ),
+    )
+cut-input (fmt file) source left old new m still h = absurd h.2
+cut-input (check file) source left old new m still h = absurd h.2
 
-cut-at : (c : Command) (source : List ℕ) (left old new : Option (List ℕ)) (m : Kept) → CutOff c source left old new m →
-    ForInput left (λ input. CutOffAt c source input m old new)
-cut-at (run file n) source left old new m h = h
-cut-at (plain file n) source left old new m h = h
-cut-at (fmt file) source left old new m h = for-input left _ (λ input. h)
-cut-at (check file) source left old new m h = for-input left _ (λ input. h)
+cut-at : (c : Command) (source : List ℕ) (left old new : Option (List ℕ)) (m : Kept) (still : Type 0) → CutOff c source left old new m still →
+    ForInput left (λ input. CutOffAt c source input m old new still)
+cut-at (run file n) source left old new m still h = h
+cut-at (plain file n) source left old new m still h = h
+cut-at (fmt file) source left old new m still h = for-input left _ (λ input. h)
+cut-at (check file) source left old new m still h = for-input left _ (λ input. h)
 
-untouched-or : (c : Command) (source : List ℕ) (left old new : Option (List ℕ)) (m : Kept) → Untouched m old new ⊎ CutOff c source left old new m →
-    Untouched m old new ⊎ ForInput left (λ input. CutOffAt c source input m old new)
-untouched-or c source left old new m (inl u) = inl u
-untouched-or c source left old new m (inr h) = inr (cut-at c source left old new m h)
+untouched-or : (c : Command) (source : List ℕ) (left old new : Option (List ℕ)) (m : Kept) (still : Type 0) → Untouched m old new still ⊎ CutOff c source left old new m still →
+    Untouched m old new still ⊎ ForInput left (λ input. CutOffAt c source input m old new still)
+untouched-or c source left old new m still (inl u) = inl u
+untouched-or c source left old new m still (inr h) = inr (cut-at c source left old new m still h)
 
 -- whatever was answered, the machine is fresh or stands at a whole step
-pub cut-of : (c : Command) (source : List ℕ) (left : Option (List ℕ)) (s : Status) (old new : Option (List ℕ)) (m : Kept) →
-    Settles c source left s old new m → Untouched m old new ⊎ ForInput left (λ input. CutOffAt c source input m old new)
-cut-of c source left status.Done old new m h = inr (cut-at c source left old new m (cut-well c source left old new m h))
-cut-of c source left (status.Refused f) old new m h = inl h.1
-cut-of c source left status.Usage old new m h = absurd h
-cut-of c source left (status.Trap kind line) old new m h =
-    inr (cut-at c source left old new m (cut-stops c source left (status.Trap kind line) old new m h))
-cut-of c source left status.Spent old new m h = inr (cut-at c source left old new m (cut-stops c source left status.Spent old new m h))
-cut-of c source left status.SourceFault old new m h = absurd h
-cut-of c source left status.InputFault old new m h = inr (cut-at c source left old new m (cut-input c source left old new m h))
-cut-of c source left status.OutputFault old new m h = untouched-or c source left old new m h
-cut-of c source left status.Memory old new m h = untouched-or c source left old new m h
-cut-of c source left status.Long old new m h = inl h.1
+pub cut-of : (c : Command) (source : List ℕ) (left : Option (List ℕ)) (s : Status) (old new : Option (List ℕ)) (m : Kept) (still : Type 0) →
+    Settles c source left s old new m still → Untouched m old new still ⊎ ForInput left (λ input. CutOffAt c source input m old new still)
+cut-of c source left status.Done old new m still h = inr (cut-at c source left old new m still (cut-well c source left old new m still h))
+cut-of c source left (status.Refused f) old new m still h = inl h.1
+cut-of c source left status.Usage old new m still h = absurd h
+cut-of c source left (status.Trap kind line) old new m still h =
+    inr (cut-at c source left old new m still (cut-stops c source left (status.Trap kind line) old new m still h))
+cut-of c source left status.Spent old new m still h = inr (cut-at c source left old new m still (cut-stops c source left status.Spent old new m still h))
+cut-of c source left status.SourceFault old new m still h = absurd h
+cut-of c source left status.InputFault old new m still h = inr (cut-at c source left old new m still (cut-input c source left old new m still h))
+cut-of c source left status.OutputFault old new m still h = untouched-or c source left old new m still h
+cut-of c source left status.Memory old new m still h = untouched-or c source left old new m still h
+cut-of c source left status.Long old new m still h = inl h.1
 
-expects-of : (c : Command) (source : List ℕ) (left : Option (List ℕ)) (s : Status) (old new : Option (List ℕ)) →
-    ForInput left (λ input. Wrote c source input s old new) → ForInput left (λ input. ExpectsStatus c source input s)
-expects-of c source left s old new w = (w.0, w.1, (w.2.0, w.2.1))
-
--- what is answered where nothing was cut off
-pub status-of : (c : Command) (source : List ℕ) (left : Option (List ℕ)) (s : Status) (old new : Option (List ℕ)) (m : Kept) →
-    Settles c source left s old new m → ForInput left (λ input. ExpectsStatus c source input s) ⊎ (is_from_outside s ≡ true)
-status-of c source left s old new m h = go s h (wrote-of c source left s old new m h)
+-- what is expected where nothing was cut off
+pub status-of : (c : Command) (source : List ℕ) (left : Option (List ℕ)) (s : Status) (old new : Option (List ℕ)) (m : Kept) (still : Type 0) →
+    Settles c source left s old new m still → ForInput left (λ input. ExpectsStatus c source input s) ⊎ (is_from_outside s ≡ true)
+status-of c source left s old new m still h = go s h (answers-of c source left s old new m still h)
   where
-    go : (s : Status) → Settles c source left s old new m → OnTrue (is_answer s) (ForInput left (λ input. Wrote c source input s old new)) →
+    expects : (s : Status) → ForInput left (λ input. Answers c source input s old new m still) → ForInput left (λ input. ExpectsStatus c source input s)
+    expects s (input, is, a) = (input, is, (a.text, (a.meaning, a.means, a.expects)))
+
+    go : (s : Status) → Settles c source left s old new m still → OnTrue (is_answer s) (ForInput left (λ input. Answers c source input s old new m still)) →
         ForInput left (λ input. ExpectsStatus c source input s) ⊎ (is_from_outside s ≡ true)
-    go status.Done h w = inl (expects-of c source left status.Done old new w)
-    go (status.Refused f) h w = inl (expects-of c source left (status.Refused f) old new w)
-    go status.Usage h w = absurd h
-    go (status.Trap kind line) h w = inl (expects-of c source left (status.Trap kind line) old new w)
-    go status.Spent h w = inl (expects-of c source left status.Spent old new w)
-    go status.SourceFault h w = inr refl
-    go status.InputFault h w = inr refl
-    go status.OutputFault h w = inr refl
-    go status.Memory h w = inr refl
-    go status.Long h w = inl (expects-of c source left status.Long old new w)
+    go status.Done h a = inl (expects status.Done a)
+    go (status.Refused f) h a = inl (expects (status.Refused f) a)
+    go status.Usage h a = absurd h
+    go (status.Trap kind line) h a = inl (expects (status.Trap kind line) a)
+    go status.Spent h a = inl (expects status.Spent a)
+    go status.SourceFault h a = inr refl
+    go status.InputFault h a = inr refl
+    go status.OutputFault h a = inr refl
+    go status.Memory h a = inr refl
+    go status.Long h a = inl (expects status.Long a)
+
+-- what a command that reads no input answered holds beside what is still as it was
+module _ (source : List ℕ) (left old new : Option (List ℕ)) (m : Kept) (still : Type 0) (quiet : still) where
+  untouched-still : (c : Command) → Untouched m old new (Unit {0}) ⊎ CutOff c source left old new m (Unit {0}) → reads_input c ≡ false →
+      Untouched m old new still ⊎ CutOff c source left old new m still
+  untouched-still c (inl u) e = inl (u.0, u.1, quiet)
+  untouched-still (run file n) (inr h) e = absurd (no_lie e)
+  untouched-still (plain file n) (inr h) e = absurd (no_lie e)
+  untouched-still (fmt file) (inr h) e = inr h
+  untouched-still (check file) (inr h) e = inr h
+
+  well-still : (c : Command) → EndsWell c source left old new m (Unit {0}) → reads_input c ≡ false → EndsWell c source left old new m still
+  well-still (run file n) h e = absurd (no_lie e)
+  well-still (plain file n) h e = absurd (no_lie e)
+  well-still (fmt file) h e = h
+  well-still (check file) h e = h
+
+  stops-still : (c : Command) (s : Status) → StopsRun c source left s old new m (Unit {0}) → reads_input c ≡ false →
+      StopsRun c source left s old new m still
+  stops-still (run file n) s h e = absurd (no_lie e)
+  stops-still (plain file n) s h e = absurd (no_lie e)
+  stops-still (fmt file) s h e = absurd h
+  stops-still (check file) s h e = absurd h
+
+  pub settles-still : (c : Command) (s : Status) → reads_input c ≡ false → Settles c source left s old new m (Unit {0}) →
+      Settles c source left s old new m still
+  settles-still c status.Done e h = well-still c h e
+  settles-still c (status.Refused f) e h = (h.0, (h.1.0, h.1.1, quiet))
+  settles-still c status.Usage e h = h
+  settles-still c (status.Trap kind line) e h = stops-still c (status.Trap kind line) h e
+  settles-still c status.Spent e h = stops-still c status.Spent h e
+  settles-still c status.SourceFault e h = h
+  settles-still c status.InputFault e h = h
+  settles-still c status.OutputFault e h = untouched-still c h e
+  settles-still c status.Memory e h = untouched-still c h e
+  settles-still c status.Long e h = (h.0, (h.1.0, h.1.1, quiet))

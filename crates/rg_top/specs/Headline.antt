@@ -1,23 +1,25 @@
--- The words of the headline: from which cause an answer comes, and what the call leaves (docs/promises.md).
+-- The words of the headline: what a call leaves, and from which cause its answer comes (docs/promises.md).
 use Rattle.std.specs.Prelude.{◌≡◌, ◌≢◌, ℕ, ◌-◌, ◌<◌, ◌≤◌, true, ◌⊎◌, List, ◌++◌, Option, Some, None, IfSome}
+use Rattle.rg_base.specs.declared.fault.Fault.{Fault}
 use Rattle.rg_io.specs.Content.{Appends, AppendsPart, AppendsUpTo, IsPrefix}
-use Rattle.rg_io.specs.Files.{Told, HasFile, file_bytes}
+use Rattle.rg_io.specs.Files.{Told, HasFile}
 use Rattle.rg_tree.specs.Tree.{Tree}
 use Rattle.rg_tree.specs.Rows.Tables.{Tables}
 use Rattle.rg_tree.specs.Rows.RowTrees.{program_of}
 use Rattle.rg_tree.specs.Canonical.{canon}
 use Rattle.rg_tree.specs.Laws.{ParsesBack}
-use Rattle.rg_rules.specs.Acceptance.{Accepted}
-use Rattle.rg_rules.specs.Runs.{Ran, opening}
+use Rattle.rg_rules.specs.Acceptance.{Accepted, first_fault}
+use Rattle.rg_rules.specs.Runs.{opening}
 use Rattle.rg_rules.specs.Runs as rules
 use Rattle.rg_rules.specs.Texts.{text_of, added}
 use Rattle.rg_rules.specs.Inputs.{first_asks}
-use Rattle.rg_run.specs.Machine.{Kept, IsFresh, Shows}
+use Rattle.rg_run.specs.Machine.{Kept, IsFresh}
+use Rattle.rg_run.specs.Sound.{IsSound, Stands, NeverAsks}
 use Rattle.rg_top.specs.declared.status.Status.{Status}
 use Rattle.rg_top.specs.declared.status.Status.TheVariants as status
 use Rattle.rg_top.specs.Commands.{Command, run, plain, fmt, check, command, file_of, steps_of}
 use Rattle.rg_top.specs.Statuses.{status_text, is_from_outside}
-use Rattle.rg_top.specs.Expected.{spelt, Means, accepted_text, text_after, Expects}
+use Rattle.rg_top.specs.Expected.{Meaning, too_long, faulty, spelt, Means, expected, accepted_text, text_after, ExpectsStatus}
 
 -- the input's source has these bytes left, where it tells that
 abbrev pub HasInput : (left : Option (List ℕ)) → (input : List ℕ) → Type 0
@@ -33,70 +35,65 @@ abbrev pub ForSource : Option Told → (left : Option (List ℕ)) → (words : L
 ForSource told left words P =
     (c : Command) × (source : List ℕ) × (command words ≡ Some c) × HasFile told (file_of c) source × ForInput left (P c source)
 
--- a fact on the command that the words give and on its file's bytes, where files tell them and have that file
-abbrev pub WhereTold : Option Told → (words : List (List ℕ)) → (Command → (source : List ℕ) → Type 0) → Type 0
-WhereTold None words P = Unit {0}
-WhereTold (Some t) words P = (c : Command) (source : List ℕ) → command words ≡ Some c → file_bytes t.files (file_of c) ≡ Some source → P c source
+-- the one fact, where the checker has no fault, else the other
+abbrev pub IfAccepted : Option Fault → (accepted refused : Type 0) → Type 0
+IfAccepted None accepted refused = accepted
+IfAccepted (Some f) accepted refused = refused
 
--- this status is answered exactly where the fact holds, unless the call was cut off from outside
-abbrev pub Exactly : Status → Status → Type 0 → Type 0
-Exactly answer s P = (answer ≡ s → P) × (P → (answer ≡ s) ⊎ (is_from_outside answer ≡ true))
+-- the machine stands behind n steps of the program
+abbrev pub RunStands : Tree → (input : List ℕ) → (n : ℕ) → Kept → Type 0
+RunStands t input n m = (tables : Tables) × (program_of tables ≡ t) × Stands tables input n m
 
--- The same of a fact on the input. Of a source that tells its bytes it is the fact on these. Of one that doesn't, the answer says
--- that the fact holds of some bytes, and where it holds of all the status is answered.
-abbrev pub ExactlyOn : (left : Option (List ℕ)) → Status → Status → ((input : List ℕ) → Type 0) → Type 0
-ExactlyOn left answer s P =
-    (answer ≡ s → ForInput left P) × (((input : List ℕ) → HasInput left input → P input) → (answer ≡ s) ⊎ (is_from_outside answer ≡ true))
+-- What a command leaves beside its text, for a source of that meaning. A run of an accepted program stands on the machine behind
+-- all its steps; `plain` runs it elsewhere, and its run is sound too; where none of these steps asks for the input, it is still
+-- as it was. What `fmt` has written parses back into the tree.
+abbrev pub Leaves : Command → (input : List ℕ) → Meaning → Kept → (still : Type 0) → Type 0
+Leaves c input too_long m still = IsFresh m × still
+Leaves c input (faulty f) m still = IsFresh m × still
+Leaves (run file n) input (spelt t) m still =
+    IfAccepted (first_fault t) (RunStands t input n m × (NeverAsks t input n → still)) (IsFresh m × still)
+Leaves (plain file n) input (spelt t) m still =
+    IsFresh m × IfAccepted (first_fault t) (IsSound t input n × (NeverAsks t input n → still)) still
+Leaves (fmt file) input (spelt t) m still = IsFresh m × ParsesBack t
+Leaves (check file) input (spelt t) m still = IsFresh m
 
--- the output has taken the text that the command answers to the source
-abbrev pub Wrote : Command → (source input : List ℕ) → Status → (old new : Option (List ℕ)) → Type 0
-Wrote c source input s old new = (text : List ℕ) × Expects c source input s text × Appends old new text
+-- A command has answered this status to one source and one input: the source means something, of which this status and this
+-- text are expected; the output has taken that text and nothing else; and the rest is left as it must be for that meaning.
+-- `still` says that the input is as it was before the call.
+pub record Answers (c : Command) (source input : List ℕ) (s : Status) (old new : Option (List ℕ)) (m : Kept) (still : Type 0) : Type 0 where
+  pub meaning : Meaning
+  pub means : Means source meaning
+  pub text : List ℕ
+  pub expects : expected c input meaning ≡ record { status = s; text = text }
+  pub wrote : Appends old new text
+  pub leaves : Leaves c input meaning m still
+
+-- no run has begun, the output is untouched, and the input is still as it was
+abbrev pub Untouched : Kept → (old new : Option (List ℕ)) → (still : Type 0) → Type 0
+Untouched m old new still = IsFresh m × (new ≡ old) × still
 
 -- the source spells that tree, and it is accepted
 pub record Runs (source : List ℕ) (t : Tree) : Type 0 where
   pub means : Means source (spelt t)
   pub accepted : Accepted t
 
--- the machine shows where a run stands, and has made as many steps
-pub record ShowsRan (t : Tables) (m : Kept) (r : Ran) : Type 0 where
-  pub shows : Shows t m r.state
-  pub steps : m.steps ≡ r.steps
-
--- the machine shows the state after all steps of the program that the source spells; only `run` begins a run on it
-abbrev pub ShowsEnd : Command → (source input : List ℕ) → Kept → Type 0
-ShowsEnd (run file n) source input m =
-    (t : Tables) × Runs source (program_of t) × ShowsRan t m (rules.plain (program_of t) input n)
-ShowsEnd (plain file n) source input m = IsFresh m
-ShowsEnd (fmt file) source input m = IsFresh m
-ShowsEnd (check file) source input m = IsFresh m
-
--- what `fmt` has written is cut and parsed into the tree that the source spells, up to lines, and is its own canonical text
-abbrev pub ReadsBack : Command → (source : List ℕ) → (old new : Option (List ℕ)) → Type 0
-ReadsBack (run file n) source old new = Unit {0}
-ReadsBack (plain file n) source old new = Unit {0}
-ReadsBack (fmt file) source old new = (t : Tree) × Means source (spelt t) × Appends old new (canon t) × ParsesBack t
-ReadsBack (check file) source old new = Unit {0}
-
--- no run has begun, and the output is untouched
-abbrev pub Untouched : Kept → (old new : Option (List ℕ)) → Type 0
-Untouched m old new = IsFresh m × (new ≡ old)
-
--- A run of at most n steps stands at a whole step k, which the machine shows. The output has taken the text of the first k - 1
--- steps and a prefix of what step k added.
+-- A run of at most n steps stands on the machine behind a whole step k. The output has taken the text of the first k - 1 steps
+-- and a prefix of what step k added.
 pub record StandsAfter (t : Tables) (input : List ℕ) (n k : ℕ) (m : Kept) (old new : Option (List ℕ)) : Type 0 where
   pub within : k ≤ n
   pub made : (rules.plain (program_of t) input k).steps ≡ k
-  pub shows : Shows t m (rules.plain (program_of t) input k).state
+  pub stands : Stands t input k m
   pub wrote : AppendsUpTo old new (text_of t (opening (program_of t) input) (k - 1)) (added t (opening (program_of t) input) k)
 
 -- What a call leaves that was cut off by the output or the notes, or for want of memory. A run stands at a whole step. Else no
--- run has begun, and the output has taken a prefix of the command's text.
-abbrev pub CutOffAt : Command → (source input : List ℕ) → Kept → (old new : Option (List ℕ)) → Type 0
-CutOffAt (run file n) source input m old new = (t : Tables) × Runs source (program_of t) × StandsAfter t input n m.steps m old new
-CutOffAt (plain file n) source input m old new =
-    (t : Tree) × Runs source t × IsFresh m × AppendsPart old new (text_after t input n)
-CutOffAt (fmt file) source input m old new = (t : Tree) × Means source (spelt t) × IsFresh m × AppendsPart old new (canon t)
-CutOffAt (check file) source input m old new = (t : Tree) × Runs source t × IsFresh m × AppendsPart old new accepted_text
+-- run has begun, and the output has taken a prefix of the command's text. Where no step asks for the input, it is still as it was.
+abbrev pub CutOffAt : Command → (source input : List ℕ) → Kept → (old new : Option (List ℕ)) → (still : Type 0) → Type 0
+CutOffAt (run file n) source input m old new still =
+    (t : Tables) × Runs source (program_of t) × StandsAfter t input n m.steps m old new × (NeverAsks (program_of t) input n → still)
+CutOffAt (plain file n) source input m old new still =
+    (t : Tree) × Runs source t × IsFresh m × AppendsPart old new (text_after t input n) × IsSound t input n × (NeverAsks t input n → still)
+CutOffAt (fmt file) source input m old new still = (t : Tree) × Means source (spelt t) × IsFresh m × AppendsPart old new (canon t)
+CutOffAt (check file) source input m old new still = (t : Tree) × Runs source t × IsFresh m × AppendsPart old new accepted_text
 
 -- a run of n steps has made k whole ones, the next asks for the input, and the output has taken the text of all k
 pub record AsksAfter (t : Tree) (input : List ℕ) (n k : ℕ) (old new : Option (List ℕ)) : Type 0 where
@@ -104,12 +101,12 @@ pub record AsksAfter (t : Tree) (input : List ℕ) (n k : ℕ) (old new : Option
   pub made : (rules.plain t input k).steps ≡ k
   pub asks : first_asks (rules.plain t input k).state.items ≡ true
   pub wrote : Appends old new (text_after t input k)
+  pub sound : IsSound t input k
 
 -- what a call leaves that was cut off by the input; commands other than `run` and `plain` never are
 abbrev pub CutAtInput : Command → (source input : List ℕ) → Kept → (old new : Option (List ℕ)) → Type 0
 CutAtInput (run file n) source input m old new =
-    (t : Tables) × Runs source (program_of t) × Shows t m (rules.plain (program_of t) input m.steps).state
-    × AsksAfter (program_of t) input n m.steps old new
+    (t : Tables) × Runs source (program_of t) × Stands t input m.steps m × AsksAfter (program_of t) input n m.steps old new
 CutAtInput (plain file n) source input m old new =
     (t : Tree) × Runs source t × IsFresh m × (k : ℕ) × AsksAfter t input n k old new
 CutAtInput (fmt file) source input m old new = ⊥
@@ -134,3 +131,16 @@ pub record TookPart (steps : ℕ) (old new : Option (List ℕ)) : Type 0 where
 abbrev pub TookNotes : ℕ → Status → (old new : Option (List ℕ)) → Type 0
 TookNotes steps status.OutputFault old new = TookPart steps old new
 TookNotes steps s old new = Appends old new (status_text steps s)
+
+-- this status is answered exactly where the fact holds, unless the call was cut off from outside
+abbrev pub Exactly : Status → Status → Type 0 → Type 0
+Exactly answer s P = (answer ≡ s → P) × (P → (answer ≡ s) ⊎ (is_from_outside answer ≡ true))
+
+-- This status is answered exactly where it is expected of the file's source and the input, unless the call was cut off from
+-- outside. Where files and the input's source tell their bytes, these are meant. Of those that don't, the answer says that the
+-- status is expected of some bytes, and where it is expected of all that they may have, it is answered.
+pub record ExactlyWhere (told : Option Told) (left : Option (List ℕ)) (words : List (List ℕ)) (answer s : Status) : Type 0 where
+  pub only : answer ≡ s → ForSource told left words (λ c source input. ExpectsStatus c source input s)
+  pub always : (c : Command) → command words ≡ Some c →
+      ((source input : List ℕ) → HasFile told (file_of c) source → HasInput left input → ExpectsStatus c source input s) →
+      (answer ≡ s) ⊎ (is_from_outside answer ≡ true)

@@ -1,6 +1,5 @@
 pub mod Commands
-pub mod Requests
 pub mod Statuses
 pub mod Expected
 pub mod Headline
-pub mod Settled
+pub mod Inner

@@ -46,19 +46,6 @@ status_text steps status.OutputFault = codes "output fault" ++ 10 ∷ []
 status_text steps status.Memory = codes "out of memory" ++ 10 ∷ []
 status_text steps status.Long = codes "source too long" ++ 10 ∷ []
 
--- a run that came to its end, trapped, or made all its steps
-abbrev pub is_run : Status → Bool
-is_run status.Done = true
-is_run (status.Refused f) = false
-is_run status.Usage = false
-is_run (status.Trap kind line) = true
-is_run status.Spent = true
-is_run status.SourceFault = false
-is_run status.InputFault = false
-is_run status.OutputFault = false
-is_run status.Memory = false
-is_run status.Long = false
-
 -- an answer to what the source is: a run, a fault of the source, or that it is too long
 abbrev pub is_answer : Status → Bool
 is_answer status.Done = true

@@ -3,6 +3,7 @@
 #![tactic(auto)]
 
 mod notes;
+mod process;
 mod status;
 #[cfg(test)]
 mod tests;
@@ -10,6 +11,7 @@ mod top;
 mod words;
 
 pub use notes::tell;
+pub use process::run_process;
 pub use status::Status;
 pub use top::reggio;
 pub use words::shape;

@@ -94,7 +94,10 @@ fn put_text<R: Sink>(notes: &mut R, status: Status, steps: u64) -> Result<(), Fa
 /// Gives the text of an output fault to the notes; a fault of the notes is passed over.
 fn tell_output_fault<R: Sink>(notes: &mut R) -> Status
     ensures is { result ≡ Status.OutputFault }
-    ensures part { AppendsPart (R.taken notes.old) (R.taken notes.new) (status_text 0 Status.OutputFault) }
+    ensures part { AppendsPart (R.taken notes.old) (R.taken notes.new)
+        (status_text 0 Status.OutputFault) }
+    ensures whole { ¬ Rose (R.faults notes.old) (R.faults notes.new) →
+        Appends (R.taken notes.old) (R.taken notes.new) (status_text 0 Status.OutputFault) }
     ensures never_falls { R.faults notes.old ≤ R.faults notes.new }
 {
     match put_text(notes, Status::OutputFault, 0) {
@@ -110,6 +113,9 @@ pub fn tell<R: Sink>(notes: &mut R, status: Status, steps: u64) -> Status
     ensures failed { result ≡ Status.OutputFault →
         (status ≡ Status.OutputFault) ⊎ Rose (R.faults notes.old) (R.faults notes.new) }
     ensures took { TookNotes steps result (R.taken notes.old) (R.taken notes.new) }
+    ensures output_fault_told { result ≡ Status.OutputFault →
+        ¬ Rose (R.faults notes.old) (R.faults notes.new) →
+        Appends (R.taken notes.old) (R.taken notes.new) (status_text 0 Status.OutputFault) }
     ensures never_falls { R.faults notes.old ≤ R.faults notes.new }
 {
     if let Status::OutputFault = status {

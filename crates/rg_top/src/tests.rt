@@ -1,4 +1,5 @@
-//! Whole calls with files, sources and sinks in memory, against expected texts and statuses.
+//! What only streams in memory show: which one failed, and what the machine has made. All else that
+//! a call writes is in the rows of examples/rows.txt (docs/promises.md).
 
 ghost use Rattle.rg_run.specs.Machine.{IsFresh};
 
@@ -9,14 +10,6 @@ use rg_io::{MemFiles, MemSink, MemSource};
 use rg_run::Machine;
 use std::alloc::{AllocError, Global};
 use std::test::Fail;
-
-const USAGE: &[u8] =
-    b"usage: reggio run FILE [--steps N] [--every N] [--report]; check FILE; fmt FILE; code FILE; plain FILE [--steps N]; bulk N\n";
-
-const SEVEN: &[u8] = b"main arena { print 7; }";
-
-const THREE_READS: &[u8] =
-    b"main arena { let a: int = read; print a; let b: int = read; print b; let c: int = read; }";
 
 const THREE_PRINTS: &[u8] = b"main arena { print 1; let a: int = read; print a; print 3; }";
 
@@ -61,87 +54,6 @@ fn call(alloc: Global, words: &[&str], streams: &mut Streams, machine: &mut Mach
         &mut streams.notes,
         machine,
     )
-}
-
-/// Whether a call writes these texts.
-fn writes(
-    alloc: Global,
-    words: &[&str],
-    source: &[u8],
-    input: &[u8],
-    output: &[u8],
-    notes: &[u8],
-) -> Result<bool, Memory> {
-    let mut taken = ample_streams(alloc, source, input)?;
-    let _ = call(alloc, words, &mut taken, &mut Machine::new(alloc));
-    Ok(taken.out.taken() == output && taken.notes.taken() == notes)
-}
-
-#[test]
-fn each_command_writes_its_text(rt: HostRuntime) -> Result<(), Fail> {
-    let rows: [(&[&str], &[u8], &[u8]); 7] = [
-        (&["run", "a"], b"7\n", b""),
-        (&["run", "a", "--steps", "2"], b"7\n", b""),
-        (&["run", "a", "--steps", "1"], b"7\n", b"spent at step 1\n"),
-        (&["run", "a", "--steps", "0"], b"", b"spent at step 0\n"),
-        (
-            &["plain", "a", "--steps", "1"],
-            b"7\n",
-            b"spent at step 1\n",
-        ),
-        (&["check", "a"], b"accepted\n", b""),
-        (&["fmt", "a"], b"main arena {\n  print 7;\n}\n", b""),
-    ];
-    for (words, output, notes) in rows {
-        assert!(rt; writes(rt.alloc(), words, SEVEN, b"", output, notes)?);
-    }
-    Ok(())
-}
-
-#[test]
-fn other_words_are_a_usage(rt: HostRuntime) -> Result<(), Fail> {
-    let rows: [&[&str]; 6] = [
-        &[],
-        &["run", ""],
-        &["code", "a"],
-        &["run", "a", "--steps=5"],
-        &["plain", "a", "--steps", "1000000001"],
-        &["--help"],
-    ];
-    for words in rows {
-        assert!(rt; writes(rt.alloc(), words, SEVEN, b"", b"", USAGE)?);
-    }
-    Ok(())
-}
-
-#[test]
-fn a_program_that_stops_tells_why(rt: HostRuntime) -> Result<(), Fail> {
-    let rows: [(&[u8], &[u8], &[u8], &[u8]); 4] = [
-        (
-            THREE_READS,
-            b"12 -5 x",
-            b"12\n-5\n",
-            b"trap input at line 1\n",
-        ),
-        (THREE_READS, b"12", b"12\n", b"trap end at line 1\n"),
-        (
-            b"main arena {\n  print 7;\n  print 1 / 0;\n}",
-            b"",
-            b"7\n",
-            b"trap zero at line 3\n",
-        ),
-        (
-            b"main arena {\n  print x;\n}",
-            b"",
-            b"",
-            b"E20 unknown at line 2\n",
-        ),
-    ];
-    for (source, input, output, notes) in rows {
-        assert!(rt; writes(rt.alloc(), &["run", "a"], source, input, output, notes)?);
-        assert!(rt; writes(rt.alloc(), &["plain", "a"], source, input, output, notes)?);
-    }
-    Ok(())
 }
 
 #[test]

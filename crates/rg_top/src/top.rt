@@ -1,7 +1,7 @@
 //! The top call: from words, files and input to the output, the notes and the status
 //! (docs/promises.md).
 
-ghost use Rattle.std.specs.Prelude.{◌≡◌, ◌≢◌, ◌≤◌, ◌⊎◌, ℕ, List, false, length, Option, None, Err};
+ghost use Rattle.std.specs.Prelude.{◌≡◌, ◌≢◌, ◌≤◌, ◌⊎◌, ℕ, List, false, length, Option, Some, None, Err};
 ghost use Rattle.std.specs.Prelude.{IfOk};
 ghost use Rattle.std.specs.Bool.{OnTrue, OnFalse};
 ghost use Rattle.rg_base.specs.declared.fault.Fault.{Fault};
@@ -9,18 +9,19 @@ ghost use Rattle.rg_base.specs.declared.limits.TheConstants.{SOURCE_BYTES};
 ghost use Rattle.rg_base.specs.declared.outcome.Trap.{Trap};
 ghost use Rattle.rg_base.specs.Tokens.{cut};
 ghost use Rattle.rg_tree.specs.Rows.RowTrees.{program_of};
-ghost use Rattle.rg_io.specs.Content.{Rose};
+ghost use Rattle.rg_io.specs.Content.{Rose, Appends};
 ghost use Rattle.rg_run.specs.Machine.{IsFresh, Kept};
 ghost use Rattle.rg_rules.specs.Names.{FewNames};
 ghost use Rattle.rg_top.specs.Commands.{command, texts, run, plain, fmt, check, file_of, steps_of};
 ghost use Rattle.rg_top.specs.Commands.{reads_input, may_read};
-ghost use Rattle.rg_top.specs.Requests.{command_of};
-ghost use Rattle.rg_top.specs.Statuses.{is_run, is_answer, is_refusal, is_cut_off};
+ghost use Rattle.rg_top.specs.Inner.Requests.{command_of};
+ghost use Rattle.rg_top.specs.Statuses.{status_text, is_answer, is_refusal, is_cut_off};
 ghost use Rattle.rg_top.specs.Expected.{spelt, Means, IsStuck, SpellsTree, ExpectsStatus};
-ghost use Rattle.rg_top.specs.Headline.{ForInput, ForSource, WhereTold, Exactly, ExactlyOn, Wrote};
-ghost use Rattle.rg_top.specs.Headline.{Runs, ShowsEnd, ReadsBack, Untouched, CutOffAt, CutAtInput};
+ghost use Rattle.rg_top.specs.Headline.{ForSource, Exactly, ExactlyWhere, Answers};
+ghost use Rattle.rg_top.specs.Headline.{Runs, Untouched, CutOffAt, CutAtInput};
 ghost use Rattle.rg_top.specs.Headline.{TookNotes, steps_asked};
-ghost use Rattle.rg_top.specs.Settled.{status_of_ended, Settles, SettlesFile};
+ghost use Rattle.rg_top.specs.Inner.Settled.{status_of_ended, Settles, SettlesFile};
+ghost use Rattle.rg_top.specs.Inner.Settled.{Caused, CausedByOutput};
 
 use crate::notes::tell;
 use crate::status::Status;
@@ -40,7 +41,6 @@ use std::alloc::Global;
 /// The status of a run.
 fn status_of(ended: Ended) -> Status
     ensures is { result ≡ status_of_ended ended }
-    ensures no_refusal { is_refusal result ≡ false }
 {
     match ended {
         Ended::Done => Status::Done,
@@ -80,14 +80,9 @@ fn run_accepted<I: Source, O: Sink>(
     requires { IsFresh machine.old }
     ensures settles { (file source : List ℕ) → Runs source (program_of accepted.now.program) →
         Settles (run file steps) source (I.left input.old) result
-        (O.taken out.old) (O.taken out.new) machine.new }
-    ensures no_refusal { is_refusal result ≡ false }
-    ensures input_fault { result ≡ Status.InputFault →
-        Rose (I.faults input.old) (I.faults input.new) }
-    ensures output_fault { result ≡ Status.OutputFault →
-        Rose (O.faults out.old) (O.faults out.new) }
-    ensures input_never_falls { I.faults input.old ≤ I.faults input.new }
-    ensures never_falls { O.faults out.old ≤ O.faults out.new }
+        (O.taken out.old) (O.taken out.new) machine.new (input.new ≡ input.old) }
+    ensures caused { Caused result (I.faults input.old) (I.faults input.new)
+        (O.faults out.old) (O.faults out.new) }
 {
     let mut numbers = Numbers::new();
     let ended = machine.run(alloc, accepted, steps, &mut numbers, input, out);
@@ -107,14 +102,9 @@ fn run_program<I: Source, O: Sink>(
     requires names { FewNames (program_of program) }
     ensures settles { (file source : List ℕ) → Means source (spelt (program_of program)) →
         Settles (run file steps) source (I.left input.old) result
-        (O.taken out.old) (O.taken out.new) machine.new }
-    ensures unread { OnTrue (is_refusal result) (input.new ≡ input.old) }
-    ensures input_fault { result ≡ Status.InputFault →
-        Rose (I.faults input.old) (I.faults input.new) }
-    ensures output_fault { result ≡ Status.OutputFault →
-        Rose (O.faults out.old) (O.faults out.new) }
-    ensures input_never_falls { I.faults input.old ≤ I.faults input.new }
-    ensures never_falls { O.faults out.old ≤ O.faults out.new }
+        (O.taken out.old) (O.taken out.new) machine.new (input.new ≡ input.old) }
+    ensures caused { Caused result (I.faults input.old) (I.faults input.new)
+        (O.faults out.old) (O.faults out.new) }
 {
     match check(alloc, program) {
         Err(Stop::Fault(fault)) => Status::Refused(fault),
@@ -134,14 +124,9 @@ fn plain_accepted<I: Source, O: Sink>(
     ensures settles { (file source : List ℕ) (m : Kept) →
         Runs source (program_of accepted.now.program) → IsFresh m →
         Settles (plain file steps) source (I.left input.old) result
-        (O.taken out.old) (O.taken out.new) m }
-    ensures no_refusal { is_refusal result ≡ false }
-    ensures input_fault { result ≡ Status.InputFault →
-        Rose (I.faults input.old) (I.faults input.new) }
-    ensures output_fault { result ≡ Status.OutputFault →
-        Rose (O.faults out.old) (O.faults out.new) }
-    ensures input_never_falls { I.faults input.old ≤ I.faults input.new }
-    ensures never_falls { O.faults out.old ≤ O.faults out.new }
+        (O.taken out.old) (O.taken out.new) m (input.new ≡ input.old) }
+    ensures caused { Caused result (I.faults input.old) (I.faults input.new)
+        (O.faults out.old) (O.faults out.new) }
 {
     let program = accepted.program();
     let mut machine = PlainMachine::new(alloc);
@@ -149,7 +134,8 @@ fn plain_accepted<I: Source, O: Sink>(
         return Status::Memory;
     };
     let mut numbers = Numbers::new();
-    let ended = machine.run(alloc, program, steps, &mut numbers, input, out);
+    let mut made = 0;
+    let ended = machine.run_counting(alloc, program, steps, &mut made, &mut numbers, input, out);
     status_of(ended)
 }
 
@@ -165,14 +151,9 @@ fn plain_program<I: Source, O: Sink>(
     ensures settles { (file source : List ℕ) (m : Kept) →
         Means source (spelt (program_of program)) → IsFresh m →
         Settles (plain file steps) source (I.left input.old) result
-        (O.taken out.old) (O.taken out.new) m }
-    ensures unread { OnTrue (is_refusal result) (input.new ≡ input.old) }
-    ensures input_fault { result ≡ Status.InputFault →
-        Rose (I.faults input.old) (I.faults input.new) }
-    ensures output_fault { result ≡ Status.OutputFault →
-        Rose (O.faults out.old) (O.faults out.new) }
-    ensures input_never_falls { I.faults input.old ≤ I.faults input.new }
-    ensures never_falls { O.faults out.old ≤ O.faults out.new }
+        (O.taken out.old) (O.taken out.new) m (input.new ≡ input.old) }
+    ensures caused { Caused result (I.faults input.old) (I.faults input.new)
+        (O.faults out.old) (O.faults out.new) }
 {
     match check(alloc, program) {
         Err(Stop::Fault(fault)) => Status::Refused(fault),
@@ -186,11 +167,9 @@ fn check_program<O: Sink>(alloc: Global, program: Program, out: &mut O) -> Statu
     requires { FewNames (program_of program) }
     ensures settles { (file source : List ℕ) (left : Option (List ℕ)) (m : Kept) →
         Means source (spelt (program_of program)) → IsFresh m →
-        Settles (check file) source left result (O.taken out.old) (O.taken out.new) m }
-    ensures no_input_fault { result ≢ Status.InputFault }
-    ensures output_fault { result ≡ Status.OutputFault →
-        Rose (O.faults out.old) (O.faults out.new) }
-    ensures never_falls { O.faults out.old ≤ O.faults out.new }
+        Settles (check file) source left result
+        (O.taken out.old) (O.taken out.new) m (Unit {0}) }
+    ensures caused { CausedByOutput result (O.faults out.old) (O.faults out.new) }
 {
     match check(alloc, program) {
         Err(Stop::Fault(fault)) => Status::Refused(fault),
@@ -206,11 +185,9 @@ fn check_program<O: Sink>(alloc: Global, program: Program, out: &mut O) -> Statu
 fn format_program<O: Sink>(alloc: Global, program: &Program, out: &mut O) -> Status
     ensures settles { (file source : List ℕ) (left : Option (List ℕ)) (m : Kept) →
         Means source (spelt (program_of program.now)) → IsFresh m →
-        Settles (fmt file) source left result (O.taken out.old) (O.taken out.new) m }
-    ensures no_input_fault { result ≢ Status.InputFault }
-    ensures output_fault { result ≡ Status.OutputFault →
-        Rose (O.faults out.old) (O.faults out.new) }
-    ensures never_falls { O.faults out.old ≤ O.faults out.new }
+        Settles (fmt file) source left result
+        (O.taken out.old) (O.taken out.new) m (Unit {0}) }
+    ensures caused { CausedByOutput result (O.faults out.old) (O.faults out.new) }
 {
     canon_parses_back();
     match text(alloc, program) {
@@ -234,16 +211,11 @@ fn answer_source<I: Source, O: Sink>(
     requires fresh { IsFresh machine.old }
     requires fits { length source.now ≤ SOURCE_BYTES }
     ensures settles { Settles (command_of request.entry) source.now (I.left input.old) result
-        (O.taken out.old) (O.taken out.new) machine.new }
-    ensures unread { OnTrue (is_refusal result) (input.new ≡ input.old) }
+        (O.taken out.old) (O.taken out.new) machine.new (input.new ≡ input.old) }
     ensures reads_nothing { reads_input (command_of request.entry) ≡ false →
         input.new ≡ input.old }
-    ensures input_fault { result ≡ Status.InputFault →
-        Rose (I.faults input.old) (I.faults input.new) }
-    ensures output_fault { result ≡ Status.OutputFault →
-        Rose (O.faults out.old) (O.faults out.new) }
-    ensures input_never_falls { I.faults input.old ≤ I.faults input.new }
-    ensures never_falls { O.faults out.old ≤ O.faults out.new }
+    ensures caused { Caused result (I.faults input.old) (I.faults input.new)
+        (O.faults out.old) (O.faults out.new) }
 {
     let program = match read(alloc, source) {
         Err(Stop::Fault(fault)) => return Status::Refused(fault),
@@ -269,19 +241,15 @@ fn answer_file<F: Files, I: Source, O: Sink>(
 ) -> Status
     requires { IsFresh machine.old }
     ensures settles { SettlesFile (F.told files.old) (command_of request.entry)
-        (I.left input.old) result (O.taken out.old) (O.taken out.new) machine.new }
-    ensures unread { OnTrue (is_refusal result) (input.new ≡ input.old) }
+        (I.left input.old) result (O.taken out.old) (O.taken out.new) machine.new
+        (input.new ≡ input.old) }
     ensures reads_nothing { reads_input (command_of request.entry) ≡ false →
         input.new ≡ input.old }
     ensures source_fault { result ≡ Status.SourceFault →
         Rose (F.faults files.old) (F.faults files.new) }
-    ensures input_fault { result ≡ Status.InputFault →
-        Rose (I.faults input.old) (I.faults input.new) }
-    ensures output_fault { result ≡ Status.OutputFault →
-        Rose (O.faults out.old) (O.faults out.new) }
     ensures files_never_fall { F.faults files.old ≤ F.faults files.new }
-    ensures input_never_falls { I.faults input.old ≤ I.faults input.new }
-    ensures never_falls { O.faults out.old ≤ O.faults out.new }
+    ensures caused { Caused result (I.faults input.old) (I.faults input.new)
+        (O.faults out.old) (O.faults out.new) }
 {
     match take_all(alloc, files, file_of(request), SOURCE_BYTES) {
         Err(Taken::SourceFault) => Status::SourceFault,
@@ -326,45 +294,42 @@ pub fn reggio<F: Files, I: Source, O: Sink, R: Sink>(
     requires { IsFresh machine.old }
 
     // What the call writes and leaves.
-    ensures text { OnTrue (is_answer result)
+    ensures answered { OnTrue (is_answer result)
         (ForSource (F.told files.old) (I.left input.old) (texts words.now)
-        (λ c source bytes. Wrote c source bytes result (O.taken out.old) (O.taken out.new))) }
-    ensures state { OnTrue (is_run result)
-        (ForSource (F.told files.old) (I.left input.old) (texts words.now)
-        (λ c source bytes. ShowsEnd c source bytes machine.new)) }
-    ensures reads_back { OnTrue (is_run result)
-        (ForSource (F.told files.old) (I.left input.old) (texts words.now)
-        (λ c source bytes. ReadsBack c source (O.taken out.old) (O.taken out.new))) }
+        (λ c source bytes.
+        Answers c source bytes result (O.taken out.old) (O.taken out.new) machine.new
+        (input.new ≡ input.old))) }
     ensures untouched { OnTrue (is_refusal result)
-        (Untouched machine.new (O.taken out.old) (O.taken out.new)) }
+        (Untouched machine.new (O.taken out.old) (O.taken out.new) (input.new ≡ input.old)) }
     ensures cut_off { OnTrue (is_cut_off result)
-        (Untouched machine.new (O.taken out.old) (O.taken out.new)
+        (Untouched machine.new (O.taken out.old) (O.taken out.new) (input.new ≡ input.old)
         ⊎ ForSource (F.told files.old) (I.left input.old) (texts words.now)
         (λ c source bytes.
-        CutOffAt c source bytes machine.new (O.taken out.old) (O.taken out.new))) }
+        CutOffAt c source bytes machine.new (O.taken out.old) (O.taken out.new)
+        (input.new ≡ input.old))) }
     ensures cut_at_input { result ≡ Status.InputFault →
         ForSource (F.told files.old) (I.left input.old) (texts words.now) (λ c source bytes.
         CutAtInput c source bytes machine.new (O.taken out.old) (O.taken out.new)) }
     ensures notes { TookNotes (steps_asked (command (texts words.now))) result
         (R.taken notes.old) (R.taken notes.new) }
-    ensures input_unread { OnTrue (is_refusal result) (input.new ≡ input.old) }
+    ensures output_fault_told { result ≡ Status.OutputFault →
+        ¬ Rose (R.faults notes.old) (R.faults notes.new) →
+        Appends (R.taken notes.old) (R.taken notes.new) (status_text 0 Status.OutputFault) }
+    ensures files_unread { command (texts words.now) ≡ None → files.new ≡ files.old }
     ensures reads_nothing { OnFalse (may_read (command (texts words.now)))
         (input.new ≡ input.old) }
 
     // From which cause each status comes.
-    ensures done { WhereTold (F.told files.old) (texts words.now) (λ c source.
-        ExactlyOn (I.left input.old) result Status.Done
-        (λ bytes. ExpectsStatus c source bytes Status.Done)) }
-    ensures refused { (f : Fault) (bytes : List ℕ) → WhereTold (F.told files.old) (texts words.now)
-        (λ c source. Exactly result (Status.Refused f)
-        (ExpectsStatus c source bytes (Status.Refused f))) }
+    ensures done { ExactlyWhere (F.told files.old) (I.left input.old) (texts words.now)
+        result Status.Done }
+    ensures refused { (f : Fault) (bytes : List ℕ) →
+        ExactlyWhere (F.told files.old) (Some bytes) (texts words.now) result (Status.Refused f) }
     ensures usage { Exactly result Status.Usage (command (texts words.now) ≡ None) }
-    ensures trap { (kind : Trap) (line : ℕ) → WhereTold (F.told files.old) (texts words.now)
-        (λ c source. ExactlyOn (I.left input.old) result (Status.Trap kind line)
-        (λ bytes. ExpectsStatus c source bytes (Status.Trap kind line))) }
-    ensures spent { WhereTold (F.told files.old) (texts words.now) (λ c source.
-        ExactlyOn (I.left input.old) result Status.Spent
-        (λ bytes. ExpectsStatus c source bytes Status.Spent)) }
+    ensures trap { (kind : Trap) (line : ℕ) →
+        ExactlyWhere (F.told files.old) (I.left input.old) (texts words.now)
+        result (Status.Trap kind line) }
+    ensures spent { ExactlyWhere (F.told files.old) (I.left input.old) (texts words.now)
+        result Status.Spent }
     ensures source_fault { result ≡ Status.SourceFault →
         Rose (F.faults files.old) (F.faults files.new) }
     ensures input_fault { result ≡ Status.InputFault →
@@ -372,18 +337,17 @@ pub fn reggio<F: Files, I: Source, O: Sink, R: Sink>(
     ensures output_fault { result ≡ Status.OutputFault →
         Rose (O.faults out.old) (O.faults out.new)
         ⊎ Rose (R.faults notes.old) (R.faults notes.new) }
-    ensures long { (bytes : List ℕ) → WhereTold (F.told files.old) (texts words.now) (λ c source.
-        Exactly result Status.Long (ExpectsStatus c source bytes Status.Long)) }
+    ensures long { (bytes : List ℕ) →
+        ExactlyWhere (F.told files.old) (Some bytes) (texts words.now) result Status.Long }
 
-    // A command whose file is there is answered, unless a count of faults rose or no memory was
-    // found.
-    ensures complete { WhereTold (F.told files.old) (texts words.now) (λ c source.
+    // A command is answered, unless a count of faults rose or no memory was found.
+    ensures complete { command (texts words.now) ≢ None →
         ¬ Rose (F.faults files.old) (F.faults files.new) →
         ¬ Rose (I.faults input.old) (I.faults input.new) →
         ¬ Rose (O.faults out.old) (O.faults out.new) →
         ¬ Rose (R.faults notes.old) (R.faults notes.new) →
-        ForInput (I.left input.old) (λ bytes. ExpectsStatus c source bytes result)
-        ⊎ (result ≡ Status.Memory)) }
+        ForSource (F.told files.old) (I.left input.old) (texts words.now)
+        (λ c source bytes. ExpectsStatus c source bytes result) ⊎ (result ≡ Status.Memory) }
     ensures files_never_fall { F.faults files.old ≤ F.faults files.new }
     ensures input_never_falls { I.faults input.old ≤ I.faults input.new }
     ensures out_never_falls { O.faults out.old ≤ O.faults out.new }

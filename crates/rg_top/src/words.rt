@@ -6,7 +6,7 @@ ghost use Rattle.std.specs.List.{list_all};
 ghost use Rattle.rg_base.specs.Pieces.{is_digit};
 ghost use Rattle.rg_top.specs.Commands.{command, texts, is_file, is_number, value_up_to, number_in};
 ghost use Rattle.rg_top.specs.Commands.{steps_in};
-ghost use Rattle.rg_top.specs.Requests.{command_of};
+ghost use Rattle.rg_top.specs.Inner.Requests.{command_of};
 
 use rg_base::{MOST_STEPS, USUAL_STEPS};
 

@@ -1,9 +1,10 @@
 -- What the top call promises, from what the layers under it have answered.
-use Rattle.std.proofs.Common.{refl, inl, inr, ◌∙◌}
+use Rattle.std.proofs.Common.{◌≡◌, refl, inl, inr, ◌∙◌}
 use Rattle.rg_top.specs.declared.status.Status.TheVariants as status
 use Rattle.rg_top.specs.Commands.{texts}
-use Rattle.rg_top.specs.Requests.{command_of}
-use Rattle.rg_top.proofs.AnswerLemmas.{Answered, answer-text, answer-state, answer-back, answer-cut, answer-input, answer-exactly, answer-refused, answer-complete, answer-unread, answer-refusal, given-is}
+use Rattle.rg_top.specs.Inner.Requests.{command_of}
+use Rattle.rg_top.proofs.AnswerLemmas.{Answered, answer-answered, answer-cut, answer-input, answer-exactly, answer-refused, answer-complete}
+use Rattle.rg_top.proofs.AnswerLemmas.{answer-unread, answer-untouched, given-is, usage-exactly}
 use Rattle.rg_top.proofs.top.reggio.Given.{Over}
 use Rattle.rg_top.proofs.top.reggio.Goals as goal
 
@@ -11,6 +12,7 @@ use Rattle.rg_top.proofs.top.reggio.Goals as goal
 answered : (g : Over) (c : goal.After-tell-in-Some g) →
     Answered (g.F.Files.told c.args.files.now) (g.I.Source.left c.args.input.now) (texts c.args.words.now) c.answer_file-status.result
     c.tell-in-Some.result (g.O.Sink.taken c.args.out.now) (g.O.Sink.taken c.answer_file-status.new.out) c.answer_file-status.new.machine
+    (c.answer_file-status.new.input ≡ c.args.input.now)
 answered g c = record {
   asked = command_of c.in-Some.request;
   command_is = c.in-Some.ensures;
@@ -18,14 +20,8 @@ answered g c = record {
   told_is = c.tell-in-Some.ensures.told;
 }
 
-pub returns-in-Some-clause-text : goal.returns-in-Some-clause-text
-returns-in-Some-clause-text g c = answer-text (answered g c)
-
-pub returns-in-Some-clause-state : goal.returns-in-Some-clause-state
-returns-in-Some-clause-state g c = answer-state (answered g c)
-
-pub returns-in-Some-clause-reads_back : goal.returns-in-Some-clause-reads_back
-returns-in-Some-clause-reads_back g c = answer-back (answered g c)
+pub returns-in-Some-clause-answered : goal.returns-in-Some-clause-answered
+returns-in-Some-clause-answered g c = answer-answered (answered g c)
 
 pub returns-in-Some-clause-cut_off : goal.returns-in-Some-clause-cut_off
 returns-in-Some-clause-cut_off g c = answer-cut (answered g c)
@@ -33,8 +29,8 @@ returns-in-Some-clause-cut_off g c = answer-cut (answered g c)
 pub returns-in-Some-clause-cut_at_input : goal.returns-in-Some-clause-cut_at_input
 returns-in-Some-clause-cut_at_input g c = answer-input (answered g c)
 
-pub returns-in-Some-clause-input_unread : goal.returns-in-Some-clause-input_unread
-returns-in-Some-clause-input_unread g c = answer-refusal _ _ _ c.tell-in-Some.ensures.told c.answer_file-status.ensures.unread
+pub returns-in-Some-clause-untouched : goal.returns-in-Some-clause-untouched
+returns-in-Some-clause-untouched g c = answer-untouched (answered g c)
 
 pub returns-in-Some-clause-reads_nothing : goal.returns-in-Some-clause-reads_nothing
 returns-in-Some-clause-reads_nothing g c =
@@ -57,11 +53,26 @@ returns-in-Some-clause-long g c = answer-refused (answered g c) status.Long refl
 
 pub returns-in-Some-clause-input_fault : goal.returns-in-Some-clause-input_fault
 returns-in-Some-clause-input_fault g c = λ i.
-    c.answer_file-status.ensures.input_fault (given-is _ _ c.tell-in-Some.ensures.told (λ o. cc) ∙ i)
+    c.answer_file-status.ensures.caused.input_fault (given-is _ _ c.tell-in-Some.ensures.told (λ o. cc) ∙ i)
 
 pub returns-in-Some-clause-complete : goal.returns-in-Some-clause-complete
 returns-in-Some-clause-complete g c =
-    answer-complete (answered g c) _ _ _ _
+    λ asks. answer-complete (answered g c) _ _ _ _
     (λ i. c.answer_file-status.ensures.source_fault (given-is _ _ c.tell-in-Some.ensures.told (λ o. cc) ∙ i))
-    (λ i. c.answer_file-status.ensures.input_fault (given-is _ _ c.tell-in-Some.ensures.told (λ o. cc) ∙ i))
-    (λ i. elim (c.tell-in-Some.ensures.failed i) [ inl o ↦ inl (c.answer_file-status.ensures.output_fault o) | inr n ↦ inr n ])
+    (λ i. c.answer_file-status.ensures.caused.input_fault (given-is _ _ c.tell-in-Some.ensures.told (λ o. cc) ∙ i))
+    (λ i. elim (c.tell-in-Some.ensures.failed i) [ inl o ↦ inl (c.answer_file-status.ensures.caused.output_fault o) | inr n ↦ inr n ])
+
+pub returns-in-None-clause-done : goal.returns-in-None-clause-done
+returns-in-None-clause-done g c = usage-exactly _ _ _ _ status.Done c.in-None.ensures c.tell.ensures.told refl
+
+pub returns-in-None-clause-spent : goal.returns-in-None-clause-spent
+returns-in-None-clause-spent g c = usage-exactly _ _ _ _ status.Spent c.in-None.ensures c.tell.ensures.told refl
+
+pub returns-in-None-clause-trap : goal.returns-in-None-clause-trap
+returns-in-None-clause-trap g c = λ kind line. usage-exactly _ _ _ _ (status.Trap kind line) c.in-None.ensures c.tell.ensures.told refl
+
+pub returns-in-None-clause-refused : goal.returns-in-None-clause-refused
+returns-in-None-clause-refused g c = λ f bytes. usage-exactly _ _ _ _ (status.Refused f) c.in-None.ensures c.tell.ensures.told refl
+
+pub returns-in-None-clause-long : goal.returns-in-None-clause-long
+returns-in-None-clause-long g c = λ bytes. usage-exactly _ _ _ _ status.Long c.in-None.ensures c.tell.ensures.told refl

@@ -4,5 +4,5 @@ use Rattle.rg_top.proofs.top.run_accepted.Goals as goal
 pub returns-clause-settles : goal.returns-clause-settles
 returns-clause-settles g c = λ file source runs.
     rw c.status_of.ensures.is
-    (run-settles file c.args.steps source _ c.args.accepted.now.program _ _ _ _ runs
+    (run-settles file c.args.steps source _ c.args.accepted.now.program _ _ _ _ _ _ (λ h. h.1) runs
     (on-input _ _ _ _ _ c.new-numbers.ensures c.run-ended.ensures.follows c.run-ended.ensures.run))

@@ -1,4 +1,4 @@
--- What the reader of the words answers, as a command.
+-- What the reader of the words answers, as a command (docs/language.md, "The command line").
 use Rattle.rg_top.specs.declared.words.Request.{Request}
 use Rattle.rg_top.specs.declared.words.Request.TheVariants as request
 use Rattle.rg_top.specs.Commands.{Command, run, plain, fmt, check}

@@ -1,0 +1,101 @@
+//! A whole process: the words of the command line, the files of the system and the standard streams
+//! are handed to the top call (docs/language.md, "The command line").
+
+ghost use Rattle.std.specs.Prelude.{◌≡◌, ◌⊎◌};
+ghost use Rattle.std.specs.Process.{exit_status};
+ghost use Rattle.rg_top.specs.Headline.{TookNotes};
+ghost use Rattle.rg_top.specs.Inner.Words.{status_without};
+ghost use Rattle.rg_top.specs.Statuses.{number_of};
+
+use crate::notes::tell;
+use crate::status::Status;
+use crate::top::reggio;
+use rg_io::{Sink, StdFiles, StdSink, StdSource};
+use rg_run::Machine;
+use std::alloc::{AllocError, Global};
+use std::env;
+use std::io::ErrorKind;
+use std::process::ExitCode;
+use std::rt::Env;
+
+/// Why the words of the command line can't be had.
+enum NoWords {
+    /// a word isn't UTF-8
+    NotText,
+    /// no memory was found
+    Memory,
+}
+
+/// The words of the command line, without the program's name.
+fn arguments(rt: &(impl Env + AllocGlobal)) -> Result<Vec<String>, NoWords> {
+    let mut args = match env::args(rt) {
+        Ok(args) => args,
+        Err(error) => {
+            return match error.kind() {
+                ErrorKind::OutOfMemory => Err(NoWords::Memory),
+                _ => Err(NoWords::NotText),
+            };
+        }
+    };
+    let _ = args.next();
+    let mut words = Vec::new(rt.alloc());
+    for arg in args {
+        if words.push(arg).is_err() {
+            return Err(NoWords::Memory);
+        }
+    }
+    Ok(words)
+}
+
+/// The same words as texts.
+fn texts(alloc: Global, words: &[String]) -> Result<Vec<&str>, AllocError> {
+    words.iter().map(|word| word.as_str()).collect(alloc)
+}
+
+/// Says why there are no words.
+fn tell_no_words<R: Sink>(notes: &mut R, why: NoWords) -> Status
+    ensures told { (result ≡ status_without why) ⊎ (result ≡ Status.OutputFault) }
+    ensures took { TookNotes 0 result (R.taken notes.old) (R.taken notes.new) }
+{
+    match why {
+        NoWords::NotText => tell(notes, Status::Usage, 0),
+        NoWords::Memory => tell(notes, Status::Memory, 0),
+    }
+}
+
+/// Calls `reggio` with standard input, standard output and, for the notes, standard error.
+fn called(rt: &HostRuntime) -> Status {
+    let alloc = rt.alloc();
+    let mut notes = StdSink::new(rt.stderr());
+    let words = match arguments(rt) {
+        Err(why) => return tell_no_words(&mut notes, why),
+        Ok(words) => words,
+    };
+    match texts(alloc, words.as_slice()) {
+        Err(_) => tell_no_words(&mut notes, NoWords::Memory),
+        Ok(texts) => reggio(
+            alloc,
+            texts.as_slice(),
+            &mut StdFiles::new(rt),
+            &mut StdSource::new(rt.stdin()),
+            &mut StdSink::new(rt.stdout()),
+            &mut notes,
+            &mut Machine::new(alloc),
+        ),
+    }
+}
+
+/// What a process ends with.
+fn exit_code(status: Status) -> ExitCode
+    ensures { exit_status result ≡ number_of status }
+{
+    ExitCode::from(status.number())
+}
+
+/// The whole program: makes the call that the words of the command line ask for, and gives the
+/// number of its status. Runs of small programs show that the words and streams are the process's.
+pub fn run_process(rt: &HostRuntime) -> ExitCode
+    ensures { (s : Status) × (exit_status result ≡ number_of s) }
+{
+    exit_code(called(rt))
+}
