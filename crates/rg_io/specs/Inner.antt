@@ -1,4 +1,2 @@
 -- What joins the private layers of this crate; no clause of a public call cites it (docs/architecture.md).
-pub mod Calls
 pub mod Shelf
-pub mod Untold

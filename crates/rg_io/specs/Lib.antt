@@ -4,4 +4,6 @@ pub mod Files
 pub mod MemFiles
 pub mod MemSink
 pub mod MemSource
+pub mod Calls
+pub mod Untold
 pub mod Inner

@@ -23,7 +23,7 @@ pub(crate) struct Calls {
 }
 
 impl Model for Calls {
-    ghost use Rattle.rg_io.specs.Inner.Calls.{CallCounts};
+    ghost use Rattle.rg_io.specs.Calls.{CallCounts};
 
     ghost Value = { CallCounts };
 
@@ -31,8 +31,8 @@ impl Model for Calls {
 }
 
 impl Calls {
-    ghost use Rattle.rg_io.specs.Inner.Calls.{no_calls, with_failing, IsNextFailing};
-    ghost use Rattle.rg_io.specs.Inner.Calls.{with_call, with_fault};
+    ghost use Rattle.rg_io.specs.Calls.{no_calls, with_failing, IsNextFailing};
+    ghost use Rattle.rg_io.specs.Calls.{with_call, with_fault};
 
     /// None was made, and none is to fail.
     pub(crate) fn new(alloc: Global) -> Calls

@@ -2,8 +2,8 @@
 
 ghost use Rattle.std.specs.Prelude.{◌≡◌, ◌≤◌, ◌<◌, ◌++◌, ◌∷◌, ◌⊎◌, [], ◌↔◌, min, length, take};
 ghost use Rattle.std.specs.Prelude.{drop, Some, None, IfOk, OnOk, OnErr, IsErr, unwrap_or};
-ghost use Rattle.rg_io.specs.Inner.Calls.{no_calls, with_failing, IsNextFailing, with_call};
-ghost use Rattle.rg_io.specs.Inner.Calls.{with_fault};
+ghost use Rattle.rg_io.specs.Calls.{no_calls, with_failing, IsNextFailing, with_call};
+ghost use Rattle.rg_io.specs.Calls.{with_fault};
 ghost use Rattle.rg_io.specs.Content.{Rose};
 ghost use Rattle.rg_io.specs.Files.{file_bytes, Begins, Reads, NothingLeft};
 

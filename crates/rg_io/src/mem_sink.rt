@@ -2,8 +2,8 @@
 
 ghost use Rattle.std.specs.Prelude.{◌≡◌, ◌≤◌, ◌<◌, ◌+◌, ◌-◌, ◌⊎◌, ◌++◌, [], ◌↔◌, min, length, take};
 ghost use Rattle.std.specs.Prelude.{Some, IfOk, OnOk, OnErr, IsErr, vec_len, vec_capacity};
-ghost use Rattle.rg_io.specs.Inner.Calls.{no_calls, with_failing, IsNextFailing, with_call};
-ghost use Rattle.rg_io.specs.Inner.Calls.{with_fault};
+ghost use Rattle.rg_io.specs.Calls.{no_calls, with_failing, IsNextFailing, with_call};
+ghost use Rattle.rg_io.specs.Calls.{with_fault};
 ghost use Rattle.rg_io.specs.Content.{Rose, Appends};
 
 use crate::calls::Calls;

@@ -2,8 +2,8 @@
 
 ghost use Rattle.std.specs.Prelude.{◌≡◌, ◌≤◌, ◌<◌, ◌++◌, [], ◌↔◌, min, length, take, drop, Some};
 ghost use Rattle.std.specs.Prelude.{IfOk, OnOk, OnErr, IfSome, IsErr};
-ghost use Rattle.rg_io.specs.Inner.Calls.{no_calls, with_failing, IsNextFailing, with_call};
-ghost use Rattle.rg_io.specs.Inner.Calls.{with_fault};
+ghost use Rattle.rg_io.specs.Calls.{no_calls, with_failing, IsNextFailing, with_call};
+ghost use Rattle.rg_io.specs.Calls.{with_fault};
 ghost use Rattle.rg_io.specs.Content.{Rose, Gives};
 
 use crate::calls::Calls;

@@ -3,7 +3,7 @@
 ghost use Rattle.std.specs.Prelude.{◌≡◌, ◌≤◌, ◌<◌, length, take, IfOk, OnOk, OnErr};
 ghost use Rattle.rg_io.specs.Content.{Rose, one_more};
 ghost use Rattle.rg_io.specs.Files.{Begins, Reads, NothingLeft};
-ghost use Rattle.rg_io.specs.Inner.Untold.{untold_files};
+ghost use Rattle.rg_io.specs.Untold.{untold_files};
 
 use crate::calls::one_more;
 use crate::failed::Failed;

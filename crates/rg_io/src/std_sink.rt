@@ -2,7 +2,7 @@
 
 ghost use Rattle.std.specs.Prelude.{◌≡◌, ◌≤◌, ◌<◌, length, take, IfOk, OnOk, OnErr};
 ghost use Rattle.rg_io.specs.Content.{Rose, Appends, one_more};
-ghost use Rattle.rg_io.specs.Inner.Untold.{untold_bytes};
+ghost use Rattle.rg_io.specs.Untold.{untold_bytes};
 
 use crate::calls::one_more;
 use crate::failed::Failed;

@@ -1,3 +1,4 @@
 pub mod TokenList
 pub mod Places
+pub mod Gives
 pub mod Inner

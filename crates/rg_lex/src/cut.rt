@@ -2,7 +2,7 @@
 
 ghost use Rattle.std.specs.Prelude.{◌≡◌, ◌<◌, ◌≤◌, ◌^◌, length, IfOk};
 ghost use Rattle.rg_base.specs.Tokens.{cut, end_line, line_after};
-ghost use Rattle.rg_lex.specs.Inner.Gives.{Gives};
+ghost use Rattle.rg_lex.specs.Gives.{Gives};
 ghost use Rattle.rg_lex.specs.Places.{AreSpans, AreLines};
 
 use crate::piece::read_front;

@@ -13,7 +13,7 @@ use Rattle.rg_tree.specs.Rows.RowTrees.{exprs_of, expr_at, stmts_of, stmt_at, pa
 use Rattle.rg_tree.specs.Rows.RowTrees.{classes_of, no_stmt, block_of}
 use Rattle.rg_tree.specs.Tree.{nil}
 use Rattle.rg_tree.specs.Rows.RowsExist.{Holds, IsSpanBelow, IsBlockIn}
-use Rattle.rg_tree.specs.Inner.Keeps.{Keeps}
+use Rattle.rg_tree.specs.Keeps.{Keeps}
 use Rattle.rg_tree.proofs.TreesFrom.{Begins-same, Begins-trans, length-Begins, get_or-Begins}
 use Rattle.rg_tree.proofs.Grows.{IsAbove, AgreeBelow, numbers_in-grows, block_of-grows}
 use Rattle.rg_tree.proofs.Programs.{length-exprs_of, length-stmts_of, length-params_of, length-members_of}

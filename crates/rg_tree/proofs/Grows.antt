@@ -27,7 +27,7 @@ use Rattle.rg_tree.specs.Rows.RowTrees.{path_of, type_of, expr_over, expr_at, ca
 use Rattle.rg_tree.specs.Rows.RowTrees.{block_of, param_of, param_at, member_of, member_at, class_of}
 use Rattle.rg_tree.specs.Rows.RowsExist.{IsWithin, IsSpanBelow, IsNameIn, IsPathIn, IsTypeIn, IsExprIn, IsCallIn, IsRightIn, IsKindIn, IsStmtIn}
 use Rattle.rg_tree.specs.Rows.RowsExist.{IsBlockIn, IsParamIn, IsMemberIn, IsClassIn}
-use Rattle.rg_tree.specs.Inner.Keeps.{Begins}
+use Rattle.rg_tree.specs.Keeps.{Begins}
 use Rattle.rg_tree.proofs.TreesFrom.{length-Begins, get_or-Begins}
 
 -- each table begins with the older one

@@ -17,7 +17,7 @@ use Rattle.rg_tree.specs.Rows.RowTrees.{expr_over, exprs_of, expr_at, expr_of, s
 use Rattle.rg_tree.specs.Rows.RowTrees.{params_of, param_at, no_param, member_of, members_of, member_at, no_member, class_of, classes_of, no_program}
 use Rattle.rg_tree.specs.Rows.RowTrees.{program_of}
 use Rattle.rg_tree.specs.Rows.RowsExist.{IsExprIn, IsStmtIn, IsBlockIn, IsParamIn, IsMemberIn, IsClassIn, EachRow, AreRows}
-use Rattle.rg_tree.specs.Inner.Keeps.{Begins, Keeps}
+use Rattle.rg_tree.specs.Keeps.{Begins, Keeps}
 use Rattle.rg_tree.proofs.TreesFrom.{Begins-same, Begins-more, Begins-whole, get_or-Begins, EachFrom-EachRow, EachRow-push, slice_get-push}
 use Rattle.rg_tree.proofs.TreesFrom.{map-EachRow, map-Begins, get_or-map, length-trees_from, trees_from-at, trees_from-grows}
 use Rattle.rg_tree.proofs.Grows.{Grows, IsAbove-Grows, AgreeBelow, IsExprIn-grows, IsKindIn-grows, IsBlockIn-grows, IsParamIn-grows, IsMemberIn-grows}

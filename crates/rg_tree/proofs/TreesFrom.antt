@@ -5,7 +5,7 @@ use Rattle.std.proofs.lemmas.List.{get_or_append_left, get_or_at, map-append}
 use Rattle.std.proofs.lemmas.Option.{same_Some, get_or_from_slice_get, slice_get-map, none-some}
 use Rattle.rg_tree.specs.Rows.RowTrees.{trees_from}
 use Rattle.rg_tree.specs.Rows.RowsExist.{EachRow}
-use Rattle.rg_tree.specs.Inner.Keeps.{Begins}
+use Rattle.rg_tree.specs.Keeps.{Begins}
 
 -- Lists that begin with another.
 

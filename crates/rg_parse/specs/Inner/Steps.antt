@@ -14,7 +14,7 @@ use Rattle.rg_tree.specs.Grammar.{text}
 use Rattle.rg_tree.specs.Stuck.{Stops}
 use Rattle.rg_tree.specs.Rows.Tables.{Tables, name_at}
 use Rattle.rg_tree.specs.Rows.RowsExist.{IsNameIn}
-use Rattle.rg_tree.specs.Inner.Keeps.{Keeps}
+use Rattle.rg_tree.specs.Keeps.{Keeps}
 use Rattle.rg_parse.specs.Inner.Heads.{IsWithin, AreWithin}
 
 -- the source, the tokens that are left, what is counted so far, and the tables that are built

@@ -6,7 +6,7 @@ use Rattle.rg_base.specs.declared.value.Val.{Val}
 use Rattle.rg_tree.specs.Tree.{Class, Member}
 use Rattle.rg_tree.specs.Rows.Tables.{Tables}
 use Rattle.rg_tree.specs.Rows.RowTrees.{classes_of}
-use Rattle.rg_tree.specs.Inner.Keeps.{Begins}
+use Rattle.rg_tree.specs.Keeps.{Begins}
 use Rattle.rg_rules.specs.Regions.{region_at, owned_in, among, in_regions, led_from}
 use Rattle.rg_rules.specs.Types.{field_member}
 use Rattle.rg_plain.specs.declared.state.beneath.Found.{Found}

@@ -16,7 +16,7 @@ impl Program {
     ghost use Rattle.rg_tree.specs.Rows.RowTrees.{classes_of, block_of, program_of};
     ghost use Rattle.rg_tree.specs.Rows.RowsExist.{Holds, IsBlockIn, IsExprIn, IsStmtIn, IsParamIn};
     ghost use Rattle.rg_tree.specs.Rows.RowsExist.{IsMemberIn, IsClassIn};
-    ghost use Rattle.rg_tree.specs.Inner.Keeps.{Keeps};
+    ghost use Rattle.rg_tree.specs.Keeps.{Keeps};
 
     /// The number of a name: the same for equal bytes. A name that is there takes no memory.
     pub fn add_name(&mut self, bytes: &[u8]) -> Result<u32, Memory>
