@@ -1,5 +1,6 @@
 -- Outcomes of parts in order.
-use Rattle.std.proofs.Common.{◌≡◌, ℕ, zero, suc, ◌<◌, List, [], ◌∷◌, drop, get_or, length, slice_get, Some, None, Option, Ok, IfSome, All, refl, arith}
+use Rattle.std.proofs.Common.{◌≡◌, ℕ, zero, suc, ◌<◌, List, [], ◌∷◌, drop, get_or, length, slice_get, Some, None, Option, Ok, IfSome, All, refl}
+use Rattle.std.proofs.Common.{arith}
 use Rattle.std.proofs.lemmas.List.Elements.{All-head, All-tail}
 use Rattle.rg_base.specs.declared.fault.Stop.{Stop}
 use Rattle.rg_base.specs.declared.fault.Stop.TheVariants.{Fault, Memory}

@@ -1,5 +1,6 @@
 -- The parameters of a method, added one after another.
-use Rattle.std.proofs.Common.{◌≡◌, ℕ, suc, ◌+◌, ◌<◌, true, false, List, [], ◌∷◌, drop, get_or, length, map, None, Some, Result, Ok, IfOk, All, sym, ap, subst, ◌∙◌, arith, add-one, drop-cons, length-append}
+use Rattle.std.proofs.Common.{◌≡◌, ℕ, suc, ◌+◌, ◌<◌, true, false, List, [], ◌∷◌, drop, get_or, length, map, None, Some, Result, Ok, IfOk, All, sym}
+use Rattle.std.proofs.Common.{ap, subst, ◌∙◌, arith, add-one, drop-cons, length-append}
 use Rattle.std.proofs.lemmas.List.{get_or-map, length-map}
 use Rattle.std.proofs.lemmas.List.Elements.{All-get_or, All-push}
 use Rattle.std.proofs.lemmas.Result.{IfOk-weaker}

@@ -1,7 +1,8 @@
 //! A method: the variables in front of its body, the body, and its end (docs/language.md,
 //! "Headers" and "Judgements").
 
-ghost use Rattle.std.specs.Prelude.{◌≡◌, ◌+◌, ◌<◌, ◌≤◌, suc, All, length, map, option_map, IfOk, IfSome};
+ghost use Rattle.std.specs.Prelude.{◌≡◌, ◌+◌, ◌<◌, ◌≤◌, suc, All, length, map, option_map, IfOk};
+ghost use Rattle.std.specs.Prelude.{IfSome};
 ghost use Rattle.rg_base.specs.declared.limits.TheConstants.{BODY_NAMES};
 ghost use Rattle.rg_base.specs.declared.fault.Code.TheVariants.{Return};
 ghost use Rattle.rg_tree.specs.Rows.RowTrees.{classes_of, param_at, type_of, block_of};

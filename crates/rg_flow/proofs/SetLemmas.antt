@@ -1,5 +1,7 @@
 -- Sets of numbers as four words of 64 bits: one bit is changed, two sets are put together.
-use Rattle.std.proofs.Common.{◌≡◌, ◌≢◌, ℕ, zero, suc, ◌+◌, ◌*◌, ◌-◌, ◌/◌, ◌%◌, ◌^◌, ◌<◌, ◌≤◌, ◌⊎◌, ◌↔◌, inl, inr, min, Bool, false, ◌&&◌, not, List, [], ◌∷◌, length, get_or, set, bit_or, bit_and, refl, sym, ap, subst, ◌∙◌, nat_eq, IsTrue, true≢false, if◌then◌else◌, arith, w64}
+use Rattle.std.proofs.Common.{◌≡◌, ◌≢◌, ℕ, zero, suc, ◌+◌, ◌*◌, ◌-◌, ◌/◌, ◌%◌, ◌^◌, ◌<◌, ◌≤◌, ◌⊎◌, ◌↔◌, inl, inr, min, Bool, false, ◌&&◌, not, List}
+use Rattle.std.proofs.Common.{[], ◌∷◌, length, get_or, set, bit_or, bit_and, refl, sym, ap, subst, ◌∙◌, nat_eq, IsTrue, true≢false, if◌then◌else◌}
+use Rattle.std.proofs.Common.{arith, w64}
 use Rattle.std.specs.Int.{bit_at, bit_not}
 use Rattle.std.proofs.lemmas.List.{get_or-set_same, get_or-set_other, get_or_past}
 use Rattle.std.proofs.lemmas.Nat.Bits.{bit_at_or, bit_at_and, bit_at_not, bit_at-zero, bit_at-lt, same_from_bits_below}

@@ -1,5 +1,6 @@
 -- Fields and methods of the table of a program are those of its tree. For callers.
-use Rattle.std.proofs.Common.{◌≡◌, ℕ, zero, suc, ◌+◌, ◌<◌, Bool, List, [], ◌∷◌, All, map, filter_map, find, length, Option, None, Some, option_map, slice_get, Ok, bytes_eq, if◌then◌else◌, refl, sym, ap, ◌∙◌, add-zero, zero-add, add_assoc, arith}
+use Rattle.std.proofs.Common.{◌≡◌, ℕ, zero, suc, ◌+◌, ◌<◌, Bool, List, [], ◌∷◌, All, map, filter_map, find, length, Option, None, Some, option_map}
+use Rattle.std.proofs.Common.{slice_get, Ok, bytes_eq, if◌then◌else◌, refl, sym, ap, ◌∙◌, add-zero, zero-add, add_assoc, arith}
 use Rattle.std.proofs.lemmas.List.{length-map}
 use Rattle.std.proofs.lemmas.List.Elements.{All-head, All-tail}
 use Rattle.rg_tree.specs.declared.rows.ClassRow.{ClassRow}

@@ -1,5 +1,6 @@
 -- The members of one class, judged one after another.
-use Rattle.std.proofs.Common.{◌≡◌, ℕ, suc, ◌+◌, ◌<◌, ◌≤◌, List, [], ◌∷◌, ◌++◌, map, drop, length, get_or, slice_get, Some, Ok, refl, sym, ap, ◌∙◌, add-one, drop-cons, length-append, arith}
+use Rattle.std.proofs.Common.{◌≡◌, ℕ, suc, ◌+◌, ◌<◌, ◌≤◌, List, [], ◌∷◌, ◌++◌, map, drop, length, get_or, slice_get, Some, Ok, refl, sym, ap, ◌∙◌}
+use Rattle.std.proofs.Common.{add-one, drop-cons, length-append, arith}
 use Rattle.rg_base.specs.declared.fault.Stop.{Stop}
 use Rattle.rg_tree.specs.declared.rows.ClassRow.{ClassRow}
 use Rattle.rg_tree.specs.declared.rows.MemberRow.{MemberRow}

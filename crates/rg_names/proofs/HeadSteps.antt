@@ -1,5 +1,6 @@
 -- The names of classes, judged one after another.
-use Rattle.std.proofs.Common.{◌≡◌, ℕ, suc, ◌+◌, ◌<◌, Bool, not, List, [], ◌∷◌, ◌++◌, map, drop, length, slice_get, None, Some, is_some, Ok, nat_eq, refl, sym, ap, ◌∙◌, add-one}
+use Rattle.std.proofs.Common.{◌≡◌, ℕ, suc, ◌+◌, ◌<◌, Bool, not, List, [], ◌∷◌, ◌++◌, map, drop, length, slice_get, None, Some, is_some, Ok, nat_eq}
+use Rattle.std.proofs.Common.{refl, sym, ap, ◌∙◌, add-one}
 use Rattle.std.specs.Map.{lookup}
 use Rattle.rg_base.specs.declared.fault.Code.TheVariants.{Duplicate}
 use Rattle.rg_base.specs.declared.fault.Stop.{Stop}

@@ -1,5 +1,6 @@
 -- A look-up among the entries of a class finds what the tree has.
-use Rattle.std.proofs.Common.{◌≡◌, ℕ, suc, ◌<◌, Bool as Truth, true, false, cond, is_some, List, [], ◌∷◌, map, filter_map, find, length, Option, None, Some, option_map, option_and_then, IfSome, Ok, nat_eq, bytes_eq, refl, sym, ap, ◌∙◌, true≢false}
+use Rattle.std.proofs.Common.{◌≡◌, ℕ, suc, ◌<◌, Bool as Truth, true, false, cond, is_some, List, [], ◌∷◌, map, filter_map, find, length, Option, None}
+use Rattle.std.proofs.Common.{Some, option_map, option_and_then, IfSome, Ok, nat_eq, bytes_eq, refl, sym, ap, ◌∙◌, true≢false}
 use Rattle.std.specs.Map.{lookup}
 use Rattle.std.proofs.lemmas.Slice.Eq.{bytes_eq-Decides}
 use Rattle.rg_base.specs.declared.ty.Ty.{Ty}

@@ -1,5 +1,6 @@
 -- Names that are each new behind the earlier ones: no two of them are one.
-use Rattle.std.proofs.Common.{◌≡◌, ◌≢◌, zero, suc, Bool as Truth, true, false, cond, is_some, List, [], ◌∷◌, All, find, slice_index_or, Some, bytes_eq, refl, sym, ap, ◌∙◌, true≢false, arith}
+use Rattle.std.proofs.Common.{◌≡◌, ◌≢◌, zero, suc, Bool as Truth, true, false, cond, is_some, List, [], ◌∷◌, All, find, slice_index_or, Some}
+use Rattle.std.proofs.Common.{bytes_eq, refl, sym, ap, ◌∙◌, true≢false, arith}
 use Rattle.std.specs.Prelude.{⊤}
 use Rattle.std.proofs.lemmas.List.Elements.{All-nil, All-cons, All-head, All-tail}
 use Rattle.std.proofs.lemmas.List.Kept.{AllPairs-cons}

@@ -1,5 +1,6 @@
 -- The parameters of a method, judged one after another.
-use Rattle.std.proofs.Common.{◌≡◌, ℕ, suc, ◌+◌, ◌<◌, not, List, [], ◌∷◌, ◌++◌, map, drop, length, get_or, is_some, Bool, Ok, nat_eq, refl, sym, ap, ◌∙◌, add-one, drop-cons}
+use Rattle.std.proofs.Common.{◌≡◌, ℕ, suc, ◌+◌, ◌<◌, not, List, [], ◌∷◌, ◌++◌, map, drop, length, get_or, is_some, Bool, Ok, nat_eq, refl, sym, ap}
+use Rattle.std.proofs.Common.{◌∙◌, add-one, drop-cons}
 use Rattle.std.specs.Map.{lookup}
 use Rattle.rg_base.specs.declared.ty.Ty.{Ty}
 use Rattle.rg_base.specs.declared.fault.Code.TheVariants.{Duplicate}

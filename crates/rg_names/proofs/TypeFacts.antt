@@ -1,5 +1,6 @@
 -- The type that a row stands for: what the table answers is what the rules answer for the tree.
-use Rattle.std.proofs.Common.{◌≡◌, ℕ, suc, ◌+◌, ◌<◌, Bool as Truth, true, false, cond, not, List, [], ◌∷◌, map, length, Option, None, Some, option_map, ok_or, Result, Ok, Err, IfOk, nat_eq, if◌then◌else◌, refl, sym, ap, ◌∙◌, arith}
+use Rattle.std.proofs.Common.{◌≡◌, ℕ, suc, ◌+◌, ◌<◌, Bool as Truth, true, false, cond, not, List, [], ◌∷◌, map, length, Option, None, Some}
+use Rattle.std.proofs.Common.{option_map, ok_or, Result, Ok, Err, IfOk, nat_eq, if◌then◌else◌, refl, sym, ap, ◌∙◌, arith}
 use Rattle.std.specs.List.{position_or_len}
 use Rattle.std.specs.Map.{lookup, keys_of}
 use Rattle.rg_base.specs.declared.words.Cap.{Cap}

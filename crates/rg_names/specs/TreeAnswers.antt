@@ -1,12 +1,14 @@
 -- What the answers of a class table say of the tree of its program. A name's number stands for its bytes.
-use Rattle.std.specs.Prelude.{◌≡◌, ℕ, zero, suc, ◌+◌, ◌<◌, ⊤, Bool as Truth, if◌then◌else◌, bytes_eq, List, [], ◌∷◌, length, map, filter_map, option_map, All, IfSome, Option, Some, None, Ok}
+use Rattle.std.specs.Prelude.{◌≡◌, ℕ, zero, suc, ◌+◌, ◌<◌, ⊤, Bool as Truth, if◌then◌else◌, bytes_eq, List, [], ◌∷◌, length, map, filter_map}
+use Rattle.std.specs.Prelude.{option_map, All, IfSome, Option, Some, None, Ok}
 use Rattle.rg_base.specs.declared.ty.Ty.{Ty}
 use Rattle.rg_base.specs.declared.ty.Ty.TheVariants.{Int, Bool, Ref}
 use Rattle.rg_tree.specs.Tree.{Name, Method, Class}
 use Rattle.rg_tree.specs.Rows.Tables.{Tables, name_at, numbers_in}
 use Rattle.rg_tree.specs.Rows.RowTrees.{param_at, program_of}
 use Rattle.rg_tree.specs.Rows.RowsExist.{IsSpanBelow}
-use Rattle.rg_rules.specs.Types.{class_number, class_named, method_member, fields_of, methods_of, type_of, good_type, field_place, field_type, method_named, method_result}
+use Rattle.rg_rules.specs.Types.{class_number, class_named, method_member, fields_of, methods_of, type_of, good_type, field_place, field_type}
+use Rattle.rg_rules.specs.Types.{method_named, method_result}
 use Rattle.rg_names.specs.declared.entry.FieldAt.{FieldAt}
 use Rattle.rg_names.specs.declared.entry.Sig.{Sig}
 

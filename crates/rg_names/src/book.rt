@@ -4,12 +4,15 @@
 ghost use Rattle.std.specs.Prelude.{◌≡◌, ◌<◌, bytes_eq, length, slice_get, Some, IfOk, IfSome};
 ghost use Rattle.rg_tree.specs.Rows.Tables.{name_at, numbers_in};
 ghost use Rattle.rg_tree.specs.Rows.RowTrees.{class_of, classes_of, expr_at, expr_of, member_at};
-ghost use Rattle.rg_tree.specs.Rows.RowTrees.{member_of, param_at, param_of, stmt_at, stmt_of, type_of};
-ghost use Rattle.rg_tree.specs.Rows.RowsExist.{IsBlockIn, IsClassIn, IsExprIn, IsMemberIn, IsNameIn};
+ghost use Rattle.rg_tree.specs.Rows.RowTrees.{member_of, param_at, param_of, stmt_at, stmt_of};
+ghost use Rattle.rg_tree.specs.Rows.RowTrees.{type_of};
+ghost use Rattle.rg_tree.specs.Rows.RowsExist.{IsBlockIn, IsClassIn, IsExprIn, IsMemberIn};
+ghost use Rattle.rg_tree.specs.Rows.RowsExist.{IsNameIn};
 ghost use Rattle.rg_tree.specs.Rows.RowsExist.{IsParamIn, IsStmtIn, IsTypeIn, IsWithin};
 ghost use Rattle.rg_rules.specs.Types.{good_type};
 ghost use Rattle.rg_names.specs.TableOf.{IsTableOf};
-ghost use Rattle.rg_names.specs.TreeAnswers.{class_place, IsKnown, FieldAnswer, MethodAnswer, HasGoodParams};
+ghost use Rattle.rg_names.specs.TreeAnswers.{class_place, IsKnown, FieldAnswer, MethodAnswer};
+ghost use Rattle.rg_names.specs.TreeAnswers.{HasGoodParams};
 
 use crate::classes::Classes;
 use crate::entry::{FieldAt, Sig};

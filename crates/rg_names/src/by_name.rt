@@ -1,6 +1,8 @@
 //! Values by the number of a name, in the order in which they were put.
 
-ghost use Rattle.std.specs.Prelude.{◌≡◌, ◌-◌, ◌^◌, ◌<◌, [], ◌∷◌, ◌++◌, not, length, position, nat_eq, option_map, slice_get, is_some, Some, None, IfSome, IfErr, OnOk, OnErr};
+ghost use Rattle.std.specs.Prelude.{◌≡◌, ◌-◌, ◌^◌, ◌<◌, [], ◌∷◌, ◌++◌, not, length, position};
+ghost use Rattle.std.specs.Prelude.{nat_eq, option_map, slice_get, is_some, Some, None, IfSome};
+ghost use Rattle.std.specs.Prelude.{IfErr, OnOk, OnErr};
 ghost use Rattle.std.specs.Map.{lookup, keys_of};
 ghost use Rattle.rg_base.specs.declared.fault.Code.TheVariants.{Duplicate};
 ghost use Rattle.rg_base.specs.declared.fault.Stop.TheVariants as stop;

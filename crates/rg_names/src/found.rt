@@ -5,7 +5,8 @@ ghost use Rattle.rg_tree.specs.Rows.RowTrees.{member_of, class_of, program_of};
 ghost use Rattle.rg_tree.specs.Rows.RowsExist.{IsMemberIn, IsClassIn};
 ghost use Rattle.rg_tree.specs.Rows.Tables.{numbers_in};
 ghost use Rattle.rg_rules.specs.Headers.{member_headers};
-ghost use Rattle.rg_names.specs.TableOf.{entry_of, entries_of, fields_with, methods_with, methods_with_all, rows_of};
+ghost use Rattle.rg_names.specs.TableOf.{entry_of, entries_of, fields_with, methods_with};
+ghost use Rattle.rg_names.specs.TableOf.{methods_with_all, rows_of};
 ghost use Rattle.rg_names.specs.Judged.{JudgedAs};
 ghost use Rattle.rg_names.specs.Inner.Headings.{IsHeadsOf, AreNamed, names_behind};
 

@@ -1,6 +1,7 @@
 //! The types that stand with members, judged: each fault gets the line of its member.
 
-ghost use Rattle.std.specs.Prelude.{◌≡◌, ◌<◌, [], All, map, length, option_map, IfErr, IfOk, IfSome};
+ghost use Rattle.std.specs.Prelude.{◌≡◌, ◌<◌, [], All, map, length, option_map, IfErr, IfOk};
+ghost use Rattle.std.specs.Prelude.{IfSome};
 ghost use Rattle.rg_base.specs.declared.fault.Code.TheVariants.{BadType};
 ghost use Rattle.rg_tree.specs.Rows.RowTrees.{param_at, type_of, program_of};
 ghost use Rattle.rg_tree.specs.Rows.RowsExist.{IsTypeIn, IsSpanBelow};
@@ -10,7 +11,8 @@ ghost use Rattle.rg_rules.specs.Headers.{suits_receiver, param_headers};
 ghost use Rattle.rg_names.specs.Table.{judge_type};
 ghost use Rattle.rg_names.specs.TableOf.{ty_of};
 ghost use Rattle.rg_names.specs.Judged.{JudgedAs, GivenAs, IsFault};
-ghost use Rattle.rg_names.specs.Inner.Headings.{IsHeadsOf, suits_row, judge_field, judge_result, signature_header};
+ghost use Rattle.rg_names.specs.Inner.Headings.{IsHeadsOf, suits_row, judge_field, judge_result};
+ghost use Rattle.rg_names.specs.Inner.Headings.{signature_header};
 
 use crate::by_name::ByName;
 use crate::suits::{is_field_of, is_receiver_of, names_class};

@@ -9,7 +9,8 @@ ghost use Rattle.rg_io.specs.Content.{Rose};
 ghost use Rattle.rg_input.specs.Numbers.{Follows, OnInput};
 ghost use Rattle.rg_names.specs.TableOf.{IsTableOf};
 ghost use Rattle.rg_plain.specs.Kept.{kept_of, shown};
-ghost use Rattle.rg_plain.specs.Machine.{Begins, BegunWith, Fits, KeepsFit, StepsOn, fresh, state_of};
+ghost use Rattle.rg_plain.specs.Machine.{Begins, BegunWith, Fits, KeepsFit, StepsOn, fresh};
+ghost use Rattle.rg_plain.specs.Machine.{state_of};
 ghost use Rattle.rg_plain.specs.Outcomes.{LeavesRows};
 ghost use Rattle.rg_plain.specs.Runs.{NoneAsks, RunIs, begun};
 

@@ -1,5 +1,6 @@
 -- What acceptance says of the parts of a program: its headers, each method's body and main's body have no fault. For callers.
-use Rattle.std.proofs.Common.{◌≡◌, refl, ℕ, zero, suc, ◌+◌, Bool, true, false, if◌then◌else◌, ◌⊎◌, inl, inr, bytes_eq, List, [], ◌∷◌, find, filter_map, Option, Some, None, slice_get, Ok, Err, arith}
+use Rattle.std.proofs.Common.{◌≡◌, refl, ℕ, zero, suc, ◌+◌, Bool, true, false, if◌then◌else◌, ◌⊎◌, inl, inr, bytes_eq, List, [], ◌∷◌, find}
+use Rattle.std.proofs.Common.{filter_map, Option, Some, None, slice_get, Ok, Err, arith}
 use Rattle.std.specs.Result.{result_err}
 use Rattle.rg_base.specs.declared.fault.Code.TheVariants.{Return}
 use Rattle.rg_tree.specs.Tree.{Name, Method, Member, field, method, Class, Tree}

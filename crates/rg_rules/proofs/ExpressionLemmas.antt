@@ -1,6 +1,7 @@
 -- What an expression that has a type says of its parts: its type is below the expected one, and where it isn't `iso`, the environment
 -- is as it was. For callers.
-use Rattle.std.proofs.Common.{◌≡◌, refl, sym, ◌∙◌, Bool as Truth, true, false, ◌&&◌, ◌==◌, not as negated, if◌then◌else◌, List, [], ◌∷◌, Option, Some, None, ok_or, Ok, arith}
+use Rattle.std.proofs.Common.{◌≡◌, refl, sym, ◌∙◌, Bool as Truth, true, false, ◌&&◌, ◌==◌, not as negated, if◌then◌else◌, List, [], ◌∷◌, Option, Some}
+use Rattle.std.proofs.Common.{None, ok_or, Ok, arith}
 use Rattle.rg_base.specs.declared.words.Cap.TheVariants.{Mut, Tmp, Paused, Imm, Iso}
 use Rattle.rg_base.specs.declared.ty.Ty.{Ty}
 use Rattle.rg_base.specs.declared.ty.Ty.TheVariants.{Int, Bool, Ref}
@@ -10,7 +11,8 @@ use Rattle.rg_rules.specs.Answers.{◌>>=◌, ◌>>◌, test}
 use Rattle.rg_rules.specs.Capabilities.{below, is_iso, pause, comparable}
 use Rattle.rg_rules.specs.Environment.{Env, Entry, entry_of, at_depth, seen_type, available, used}
 use Rattle.rg_rules.specs.Paths.{walk}
-use Rattle.rg_rules.specs.Expressions.{Judged, against, nil_type, judge_path, judge_is_nil, Operators, arithmetic, order, equality, logic, among, operand_type, agree, result_type, judge_expr}
+use Rattle.rg_rules.specs.Expressions.{Judged, against, nil_type, judge_path, judge_is_nil, Operators, arithmetic, order, equality, logic, among}
+use Rattle.rg_rules.specs.Expressions.{operand_type, agree, result_type, judge_expr}
 use Rattle.rg_rules.proofs.AnswersLemmas.{bind-ok, then-ok, test-then}
 
 -- the last test of an expression changes neither the type nor the environment

@@ -5,8 +5,10 @@ use Rattle.rg_base.specs.declared.words.Cap.TheVariants as cap
 use Rattle.rg_base.specs.declared.words.Manager.TheVariants as manager
 use Rattle.rg_base.specs.declared.fault.Code.TheVariants as code
 use Rattle.rg_tree.specs.declared.rows.BinOp.TheVariants as op
-use Rattle.rg_tree.specs.Tree.{int, number, nil, path, is_nil, binary, value, new, new_iso, freeze, read, result_of, declare, assign, call, swap, branch, no_else, while, enter, print, return}
-use Rattle.rg_rules.proofs.Sources.{var, dot, dots, use_of, to, call_of, block, field_named, param, method_named, class_named, program, fault, Example}
+use Rattle.rg_tree.specs.Tree.{int, number, nil, path, is_nil, binary, value, new, new_iso, freeze, read, result_of, declare, assign, call, swap}
+use Rattle.rg_tree.specs.Tree.{branch, no_else, while, enter, print, return}
+use Rattle.rg_rules.proofs.Sources.{var, dot, dots, use_of, to, call_of, block, field_named, param, method_named, class_named, program, fault}
+use Rattle.rg_rules.proofs.Sources.{Example}
 
 -- what one branch uses up is gone
 used_twice : Example

@@ -1,12 +1,15 @@
 -- What headers without a fault say of classes, fields and methods. For callers.
-use Rattle.std.proofs.Common.{◌≡◌, refl, ℕ, zero, suc, ◌<◌, length, Bool, true, false, if◌then◌else◌, bytes_eq, ◌∙◌, sym, List, [], ◌∷◌, Option, Some, None, slice_get, ok_or, not, find, filter_map, ◌⊎◌, inl, inr, Result, Ok, Err, arith}
+use Rattle.std.proofs.Common.{◌≡◌, refl, ℕ, zero, suc, ◌<◌, length, Bool, true, false, if◌then◌else◌, bytes_eq, ◌∙◌, sym, List, [], ◌∷◌, Option, Some}
+use Rattle.std.proofs.Common.{None, slice_get, ok_or, not, find, filter_map, ◌⊎◌, inl, inr, Result, Ok, Err, arith}
 use Rattle.rg_base.specs.declared.words.Cap.{Cap}
 use Rattle.rg_base.specs.declared.ty.Ty.{Ty}
 use Rattle.rg_base.specs.declared.fault.Code.TheVariants.{Unknown, Duplicate, BadType}
 use Rattle.rg_tree.specs.Tree.{Name, Ty as Written, int, bool, ref, Param, Field, Method, Member, field, method, Class}
 use Rattle.rg_rules.specs.Answers.{◌>>◌, test, Answer, Passed, at_line}
-use Rattle.rg_rules.specs.Types.{class_number, class_named, type_of, suits_class, good_type, field_member, method_member, members_of, fields_of, method_named}
-use Rattle.rg_rules.specs.Headers.{suits_receiver, among, field_header, param_headers, result_header, method_header, member_headers, class_names, class_members, judge_headers}
+use Rattle.rg_rules.specs.Types.{class_number, class_named, type_of, suits_class, good_type, field_member, method_member, members_of, fields_of}
+use Rattle.rg_rules.specs.Types.{method_named}
+use Rattle.rg_rules.specs.Headers.{suits_receiver, among, field_header, param_headers, result_header, method_header, member_headers, class_names}
+use Rattle.rg_rules.specs.Headers.{class_members, judge_headers}
 use Rattle.rg_rules.proofs.AnswersLemmas.{bind-ok, then-ok, test-ok, test-then, ok_or-ok, at_line-ok}
 
 -- the number of a class that is there is below the number of classes

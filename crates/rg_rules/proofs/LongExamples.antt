@@ -6,12 +6,14 @@ use Rattle.rg_base.specs.declared.words.Manager.TheVariants as manager
 use Rattle.rg_base.specs.declared.outcome.Trap.TheVariants as trap
 use Rattle.rg_base.specs.declared.value.Val.TheVariants as val
 use Rattle.rg_tree.specs.declared.rows.BinOp.TheVariants as op
-use Rattle.rg_tree.specs.Tree.{Expr, int, bool, number, boolean, path, is_nil, not, binary, value, new, new_iso, read, result_of, declare, assign, call, branch, no_else, otherwise, while, enter, print, collect, return, Class, Tree}
+use Rattle.rg_tree.specs.Tree.{Expr, int, bool, number, boolean, path, is_nil, not, binary, value, new, new_iso, read, result_of, declare, assign}
+use Rattle.rg_tree.specs.Tree.{call, branch, no_else, otherwise, while, enter, print, collect, return, Class, Tree}
 use Rattle.rg_tree.specs.Canonical.{canon}
 use Rattle.rg_rules.specs.Acceptance.{first_fault}
 use Rattle.rg_rules.specs.Runs.{Done, Stopped, plain_from, plain}
 use Rattle.rg_rules.specs.Asks.{asks_from, asks}
-use Rattle.rg_rules.proofs.Sources.{self, var, dot, dots, use_of, to, call_of, block, field_named, param, method_named, class_named, program, on_one_line}
+use Rattle.rg_rules.proofs.Sources.{self, var, dot, dots, use_of, to, call_of, block, field_named, param, method_named, class_named, program}
+use Rattle.rg_rules.proofs.Sources.{on_one_line}
 use Rattle.rg_rules.proofs.RunSources.{self_dot, Source, shown}
 
 -- a node of a list

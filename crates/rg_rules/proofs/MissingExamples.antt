@@ -9,7 +9,8 @@ use Rattle.rg_base.specs.declared.outcome.Trap.TheVariants as trap
 use Rattle.rg_base.specs.declared.value.Val.{Val}
 use Rattle.rg_base.specs.declared.value.Val.TheVariants as val
 use Rattle.rg_tree.specs.declared.rows.BinOp.TheVariants as op
-use Rattle.rg_tree.specs.Tree.{int, Expr, number, boolean, path, is_nil, not, binary, value, new, freeze, merge, StmtKind, stmt, declare, assign, call, swap, enter, print, return, Class}
+use Rattle.rg_tree.specs.Tree.{int, Expr, number, boolean, path, is_nil, not, binary, value, new, freeze, merge, StmtKind, stmt, declare, assign}
+use Rattle.rg_tree.specs.Tree.{call, swap, enter, print, return, Class}
 use Rattle.rg_rules.specs.Items.{Item, Do, EndAt, LeaveAt, Back}
 use Rattle.rg_rules.specs.State.{State, add_local}
 use Rattle.rg_rules.specs.Steps.{Went, Trapped, next}

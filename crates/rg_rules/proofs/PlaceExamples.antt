@@ -7,7 +7,8 @@ use Rattle.rg_base.specs.declared.fault.Code.TheVariants as code
 use Rattle.rg_base.specs.declared.ty.Ty.{Ty}
 use Rattle.rg_base.specs.declared.ty.Ty.TheVariants as ty
 use Rattle.rg_tree.specs.declared.rows.BinOp.TheVariants as op
-use Rattle.rg_tree.specs.Tree.{int, boolean, number, nil, binary, value, new_iso, StmtKind, stmt, declare, assign, while, enter, print, Block, empty, then, method, Class, Tree}
+use Rattle.rg_tree.specs.Tree.{int, boolean, number, nil, binary, value, new_iso, StmtKind, stmt, declare, assign, while, enter, print, Block, empty}
+use Rattle.rg_tree.specs.Tree.{then, method, Class, Tree}
 use Rattle.rg_rules.specs.Types.{class_number, fields_of, field_place, field_type}
 use Rattle.rg_rules.specs.Environment.{Readiness, ready, gone, lent, Entry}
 use Rattle.rg_rules.specs.Items.{Do, EndAt, LeaveAt}

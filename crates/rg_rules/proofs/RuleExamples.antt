@@ -6,8 +6,10 @@ use Rattle.rg_base.specs.declared.words.Cap.TheVariants as cap
 use Rattle.rg_base.specs.declared.words.Manager.TheVariants as manager
 use Rattle.rg_base.specs.declared.fault.Code.TheVariants as code
 use Rattle.rg_tree.specs.declared.rows.BinOp.TheVariants as op
-use Rattle.rg_tree.specs.Tree.{int, bool, number, boolean, nil, path, is_nil, binary, value, new, new_tmp, freeze, merge, result_of, declare, assign, swap, branch, no_else, otherwise, enter, print, return}
-use Rattle.rg_rules.proofs.Sources.{self, var, dot, use_of, to, call_of, block, field_named, param, method_named, class_named, program, fault, Example}
+use Rattle.rg_tree.specs.Tree.{int, bool, number, boolean, nil, path, is_nil, binary, value, new, new_tmp, freeze, merge, result_of, declare, assign}
+use Rattle.rg_tree.specs.Tree.{swap, branch, no_else, otherwise, enter, print, return}
+use Rattle.rg_rules.proofs.Sources.{self, var, dot, use_of, to, call_of, block, field_named, param, method_named, class_named, program, fault}
+use Rattle.rg_rules.proofs.Sources.{Example}
 
 -- Headers
 

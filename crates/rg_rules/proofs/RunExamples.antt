@@ -7,7 +7,8 @@ use Rattle.rg_base.specs.declared.words.Manager.TheVariants as manager
 use Rattle.rg_base.specs.declared.outcome.Trap.TheVariants as trap
 use Rattle.rg_base.specs.declared.value.Val.TheVariants as val
 use Rattle.rg_tree.specs.declared.rows.BinOp.TheVariants as op
-use Rattle.rg_tree.specs.Tree.{int, bool, number, nil, path, is_nil, neg, not, binary, value, new, new_iso, freeze, read, more, declare, assign, swap, branch, no_else, while, enter, print, Class, Tree}
+use Rattle.rg_tree.specs.Tree.{int, bool, number, nil, path, is_nil, neg, not, binary, value, new, new_iso, freeze, read, more, declare, assign, swap}
+use Rattle.rg_tree.specs.Tree.{branch, no_else, while, enter, print, Class, Tree}
 use Rattle.rg_rules.specs.Runs.{Running, Done, Stopped, plain_from, plain}
 use Rattle.rg_rules.proofs.Sources.{var, dot, dots, use_of, to, block, field_named, class_named, program}
 use Rattle.rg_rules.proofs.RunSources.{Source, shown}

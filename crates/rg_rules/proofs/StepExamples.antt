@@ -8,7 +8,8 @@ use Rattle.rg_base.specs.declared.object.Place.TheVariants as place
 use Rattle.rg_base.specs.declared.outcome.Trap.TheVariants as trap
 use Rattle.rg_base.specs.declared.value.Val.TheVariants as val
 use Rattle.rg_tree.specs.declared.rows.BinOp.TheVariants as op
-use Rattle.rg_tree.specs.Tree.{int, number, nil, path, is_nil, neg, binary, value, new, new_iso, freeze, merge, read, result_of, declare, assign, call, swap, enter, print, return, Class, Tree}
+use Rattle.rg_tree.specs.Tree.{int, number, nil, path, is_nil, neg, binary, value, new, new_iso, freeze, merge, read, result_of, declare, assign}
+use Rattle.rg_tree.specs.Tree.{call, swap, enter, print, return, Class, Tree}
 use Rattle.rg_rules.specs.State.{Window}
 use Rattle.rg_rules.specs.Runs.{Done, Stopped, plain_from, plain}
 use Rattle.rg_rules.specs.Owners.{leads_into}

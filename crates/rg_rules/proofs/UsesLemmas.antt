@@ -10,7 +10,8 @@ use Rattle.rg_rules.specs.Expressions.{Judged, judge_path, among, operand_type, 
 use Rattle.rg_rules.specs.State.{Local}
 use Rattle.rg_rules.specs.Evaluation.{is_iso_local, uses_path, uses}
 use Rattle.rg_rules.proofs.AnswersLemmas.{bind-ok, test-then, ok_or-ok}
-use Rattle.rg_rules.proofs.ExpressionLemmas.{against-ok, binary-ok, judge_expr-below, below-not_iso, operands-not_iso, judge_expr-env, seen_type-is_iso}
+use Rattle.rg_rules.proofs.ExpressionLemmas.{against-ok, binary-ok, judge_expr-below, below-not_iso, operands-not_iso, judge_expr-env}
+use Rattle.rg_rules.proofs.ExpressionLemmas.{seen_type-is_iso}
 
 -- the variables of a frame are declared `iso` where the entries of an environment are
 abbrev pub AgreeOnIso : Env → List Local → Type 0

@@ -1,5 +1,6 @@
 -- Operators on values, by what the checked operations on `i64` give. For callers.
-use Rattle.std.proofs.Common.{◌≡◌, refl, sym, ap, ◌∙◌, zero, suc, ℤ, pos, negsuc, Bool, true, false, Option, Some, None, option_map, ok_or, Ok, Err, SomeIff, if◌then◌else◌, arith}
+use Rattle.std.proofs.Common.{◌≡◌, refl, sym, ap, ◌∙◌, zero, suc, ℤ, pos, negsuc, Bool, true, false, Option, Some, None, option_map, ok_or, Ok, Err}
+use Rattle.std.proofs.Common.{SomeIff, if◌then◌else◌, arith}
 use Rattle.std.specs.Int.{w64, CanDivide, IsNonZero}
 use Rattle.std.specs.Int.RustNames.{FitsSigned, int_div}
 use Rattle.std.proofs.lemmas.Int.{ints}

@@ -3,7 +3,8 @@ use Rattle.std.specs.Prelude.{ℕ, suc, Bool as Truth, true, false, List, [], �
 use Rattle.rg_base.specs.declared.ty.Ty.{Ty}
 use Rattle.rg_base.specs.declared.ty.Ty.TheVariants.{Ref}
 use Rattle.rg_base.specs.declared.fault.Code.TheVariants.{Return}
-use Rattle.rg_tree.specs.Tree.{Ty as Written, stmt, StmtKind, declare, assign, call, swap, branch, while, enter, print, collect, return, Block, empty as none, then as next, Param, Method, Member, field, method, Class, Tree}
+use Rattle.rg_tree.specs.Tree.{Ty as Written, stmt, StmtKind, declare, assign, call, swap, branch, while, enter, print, collect, return, Block}
+use Rattle.rg_tree.specs.Tree.{empty as none, then as next, Param, Method, Member, field, method, Class, Tree}
 use Rattle.rg_rules.specs.Answers.{◌>>◌, test, Lined, Passed, at_line}
 use Rattle.rg_rules.specs.Types.{type_of, method_result}
 use Rattle.rg_rules.specs.Environment.{Env, empty, with_variable}

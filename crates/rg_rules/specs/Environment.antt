@@ -1,5 +1,6 @@
 -- The variables that are visible at a point of a body, and what may be done with each (docs/language.md, "Judgements").
-use Rattle.std.specs.Prelude.{ℕ, ◌+◌, ◌==◌, Bool, true, false, ◌&&◌, ◌||◌, not, bytes_eq, if◌then◌else◌, List, [], ◌∷◌, ◌++◌, length, take, map, find, Option, Some, None, is_some}
+use Rattle.std.specs.Prelude.{ℕ, ◌+◌, ◌==◌, Bool, true, false, ◌&&◌, ◌||◌, not, bytes_eq, if◌then◌else◌, List, [], ◌∷◌, ◌++◌, length, take, map, find}
+use Rattle.std.specs.Prelude.{Option, Some, None, is_some}
 use Rattle.rg_base.specs.declared.ty.Ty.{Ty}
 use Rattle.rg_tree.specs.Tree.{Variable}
 use Rattle.rg_rules.specs.Capabilities.{pause, is_iso}

@@ -1,5 +1,6 @@
 -- What an expression computes to in a state, and which variables it uses up (docs/language.md, "Steps"). What isn't there reads as nil.
-use Rattle.std.specs.Prelude.{neg_ℤ, Bool as Truth, false, not as negated, if◌then◌else◌, List, [], ◌∷◌, ◌++◌, Some, None, ok_or, unwrap_or, slice_get, slice_set, Result, Ok, Err}
+use Rattle.std.specs.Prelude.{neg_ℤ, Bool as Truth, false, not as negated, if◌then◌else◌, List, [], ◌∷◌, ◌++◌, Some, None, ok_or, unwrap_or}
+use Rattle.std.specs.Prelude.{slice_get, slice_set, Result, Ok, Err}
 use Rattle.rg_base.specs.declared.object.Seen.{Seen}
 use Rattle.rg_base.specs.declared.value.Val.{Val}
 use Rattle.rg_base.specs.declared.value.Val.TheVariants.{Nil, Int, Bool, Obj}

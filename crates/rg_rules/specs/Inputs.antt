@@ -1,6 +1,7 @@
 -- Which steps ask for the input (docs/language.md, "Steps").
 use Rattle.std.specs.Prelude.{Bool as Truth, true, false, List, [], ◌∷◌}
-use Rattle.rg_tree.specs.Tree.{stmt, StmtKind, declare, assign, call, swap, branch, while, enter, print, collect, return, Right, value, new as makes, new_tmp, new_iso, freeze, merge, read, more, result_of}
+use Rattle.rg_tree.specs.Tree.{stmt, StmtKind, declare, assign, call, swap, branch, while, enter, print, collect, return, Right, value, new as makes}
+use Rattle.rg_tree.specs.Tree.{new_tmp, new_iso, freeze, merge, read, more, result_of}
 use Rattle.rg_rules.specs.Items.{Item, Do, EndAt, LeaveAt, Back}
 
 -- whether a right side asks for the input

@@ -1,7 +1,8 @@
 -- How many names a body has: `self`, the parameters, and those of `let` and `enter`, each as often as it is written (docs/language.md, "Limits").
 use Rattle.std.specs.Prelude.{ℕ, suc, ◌+◌, ◌≤◌, ⊤, length, All}
 use Rattle.rg_base.specs.declared.limits.TheConstants.{BODY_NAMES}
-use Rattle.rg_tree.specs.Tree.{Stmt, stmt, StmtKind, declare, assign, call, swap, branch, while, enter, print, collect, return, Else, no_else, otherwise, Block, empty as none, then as next, Method, Member, field, method, Class, Tree}
+use Rattle.rg_tree.specs.Tree.{Stmt, stmt, StmtKind, declare, assign, call, swap, branch, while, enter, print, collect, return, Else, no_else}
+use Rattle.rg_tree.specs.Tree.{otherwise, Block, empty as none, then as next, Method, Member, field, method, Class, Tree}
 
 abbrev mutual
   -- the names of a statement

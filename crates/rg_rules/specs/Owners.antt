@@ -1,5 +1,6 @@
 -- Where owner references stand, the forest of the regions, and the regions that are live (docs/language.md, "Steps").
-use Rattle.std.specs.Prelude.{◌≡◌, ℕ, Bool as Truth, false, List, [], ◌∷◌, ◌++◌, length, map, filter_map, Option, Some, None, option_and_then, slice_get}
+use Rattle.std.specs.Prelude.{◌≡◌, ℕ, Bool as Truth, false, List, [], ◌∷◌, ◌++◌, length, map, filter_map, Option, Some, None, option_and_then}
+use Rattle.std.specs.Prelude.{slice_get}
 use Rattle.rg_base.specs.declared.object.Label.{Label}
 use Rattle.rg_base.specs.declared.object.Label.TheVariants.{Region, Temp, Frozen}
 use Rattle.rg_base.specs.declared.object.Seen.{Seen}

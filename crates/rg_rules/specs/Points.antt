@@ -3,7 +3,8 @@
 use Rattle.std.specs.Prelude.{ℕ, List, [], ◌∷◌, ◌++◌, length, Option, Some, None, option_map, option_and_then, Ok, Err}
 use Rattle.std.specs.Result.{result_ok}
 use Rattle.rg_base.specs.declared.ty.Ty.{Ty}
-use Rattle.rg_tree.specs.Tree.{Path, stmt, StmtKind, declare, assign, call, swap, branch, while, enter, print, collect, return, no_else, otherwise, Block, empty as none, then as next, Class}
+use Rattle.rg_tree.specs.Tree.{Path, stmt, StmtKind, declare, assign, call, swap, branch, while, enter, print, collect, return, no_else, otherwise}
+use Rattle.rg_tree.specs.Tree.{Block, empty as none, then as next, Class}
 use Rattle.rg_rules.specs.Answers.{Answer}
 use Rattle.rg_rules.specs.Environment.{Env}
 use Rattle.rg_rules.specs.Statements.{judge_stmt, judge_test, judge_enter, last_of}

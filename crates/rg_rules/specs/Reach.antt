@@ -1,5 +1,6 @@
 -- The objects of the active region that are in reach of its roots: what a collection keeps of it (docs/language.md, "Steps").
-use Rattle.std.specs.Prelude.{ℕ, zero, suc, Bool as Truth, false, ◌==◌, nat_lt, if◌then◌else◌, List, [], ◌∷◌, ◌++◌, length, drop, map, filter, count_by, filter_map, flat_map, Option, Some, None, option_map, option_and_then, option_to_list, slice_get}
+use Rattle.std.specs.Prelude.{ℕ, zero, suc, Bool as Truth, false, ◌==◌, nat_lt, if◌then◌else◌, List, [], ◌∷◌, ◌++◌, length, drop, map, filter}
+use Rattle.std.specs.Prelude.{count_by, filter_map, flat_map, Option, Some, None, option_map, option_and_then, option_to_list, slice_get}
 use Rattle.rg_base.specs.declared.object.Label.{Label}
 use Rattle.rg_base.specs.declared.object.Label.TheVariants.{Region, Temp, Frozen}
 use Rattle.rg_base.specs.declared.object.Seen.{Seen}

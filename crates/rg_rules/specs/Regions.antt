@@ -1,5 +1,6 @@
 -- Owner references, and the regions that hang beneath others by them (docs/language.md, "Steps").
-use Rattle.std.specs.Prelude.{ℕ, zero, suc, Bool as Truth, false, ◌==◌, if◌then◌else◌, List, [], ◌∷◌, ◌++◌, map, find, filter_map, Option, Some, None, is_some, option_and_then, option_to_list, slice_get}
+use Rattle.std.specs.Prelude.{ℕ, zero, suc, Bool as Truth, false, ◌==◌, if◌then◌else◌, List, [], ◌∷◌, ◌++◌, map, find, filter_map, Option, Some, None}
+use Rattle.std.specs.Prelude.{is_some, option_and_then, option_to_list, slice_get}
 use Rattle.rg_base.specs.declared.ty.Ty.{Ty}
 use Rattle.rg_base.specs.declared.object.Seen.{Seen}
 use Rattle.rg_base.specs.declared.object.Label.{Label}

@@ -1,5 +1,6 @@
 -- What right sides and calls do in a step (docs/language.md, "Steps"). A class, a method or a region that isn't there changes nothing.
-use Rattle.std.specs.Prelude.{ℕ, nat_lt, pos, Bool as Truth, true, false, List, [], ◌∷◌, ◌++◌, length, map, flat_map, Option, Some, None, option_map, Result, Ok, Err}
+use Rattle.std.specs.Prelude.{ℕ, nat_lt, pos, Bool as Truth, true, false, List, [], ◌∷◌, ◌++◌, length, map, flat_map, Option, Some, None, option_map}
+use Rattle.std.specs.Prelude.{Result, Ok, Err}
 use Rattle.rg_base.specs.declared.limits.TheConstants.{FRAMES}
 use Rattle.rg_base.specs.declared.ty.Ty.TheVariants.{Ref}
 use Rattle.rg_base.specs.declared.words.Manager.{Manager}
@@ -11,7 +12,8 @@ use Rattle.rg_base.specs.declared.value.Val.TheVariants.{Nil, Int, Bool, Obj}
 use Rattle.rg_base.specs.declared.outcome.Trap.{Trap}
 use Rattle.rg_base.specs.declared.outcome.Trap.TheVariants.{Input, End, Depth}
 use Rattle.rg_base.specs.Input.{NextNumber, found, malformed, at_end, next_number}
-use Rattle.rg_tree.specs.Tree.{Param, Name, Variable, Ty as Written, int, bool, ref, Call, Right, value, new, new_tmp, new_iso, freeze, merge, read, more, result_of, Method, Class}
+use Rattle.rg_tree.specs.Tree.{Param, Name, Variable, Ty as Written, int, bool, ref, Call, Right, value, new, new_tmp, new_iso, freeze, merge, read}
+use Rattle.rg_tree.specs.Tree.{more, result_of, Method, Class}
 use Rattle.rg_rules.specs.Answers.{◌>>=◌, ◌>>◌, test}
 use Rattle.rg_rules.specs.Types.{class_named, class_number, type_of, fields_of, method_named}
 use Rattle.rg_rules.specs.Items.{items_of}

@@ -3,12 +3,16 @@ use Rattle.std.specs.Prelude.{ℕ, Bool as Truth, true, false, not as negated, �
 use Rattle.rg_base.specs.declared.words.Cap.TheVariants.{Mut}
 use Rattle.rg_base.specs.declared.ty.Ty.{Ty}
 use Rattle.rg_base.specs.declared.ty.Ty.TheVariants.{Bool, Ref}
-use Rattle.rg_base.specs.declared.fault.Code.TheVariants.{Unknown, Duplicate, Mismatch, Unavailable, OutsideWindow, Loop, IsoField, Return, CallTarget}
-use Rattle.rg_tree.specs.Tree.{Name, Variable, Ty as Written, Path, Expr, Call, Right, value, new, new_tmp, new_iso, freeze, merge, read, more, result_of, Stmt, stmt, StmtKind, declare, assign, call, swap, branch, while, enter, print, collect, return, Else, no_else, otherwise, Block, empty as none, then as next, Class}
+use Rattle.rg_base.specs.declared.fault.Code.TheVariants.{Unknown, Duplicate, Mismatch, Unavailable, OutsideWindow, Loop, IsoField, Return}
+use Rattle.rg_base.specs.declared.fault.Code.TheVariants.{CallTarget}
+use Rattle.rg_tree.specs.Tree.{Name, Variable, Ty as Written, Path, Expr, Call, Right, value, new, new_tmp, new_iso, freeze, merge, read, more}
+use Rattle.rg_tree.specs.Tree.{result_of, Stmt, stmt, StmtKind, declare, assign, call, swap, branch, while, enter, print, collect, return, Else}
+use Rattle.rg_tree.specs.Tree.{no_else, otherwise, Block, empty as none, then as next, Class}
 use Rattle.rg_rules.specs.Answers.{◌>>=◌, ◌>>◌, test, Answer, Lined, at_line}
 use Rattle.rg_rules.specs.Capabilities.{is_iso, iso_class, same_type, stays_at_depth, printable}
 use Rattle.rg_rules.specs.Types.{good_type}
-use Rattle.rg_rules.specs.Environment.{Env, entry_of, visible, at_depth, with_variable, marked, is_ready, is_lent, ready, lent, deeper, closed, joined, covers}
+use Rattle.rg_rules.specs.Environment.{Env, entry_of, visible, at_depth, with_variable, marked, is_ready, is_lent, ready, lent, deeper, closed}
+use Rattle.rg_rules.specs.Environment.{joined, covers}
 use Rattle.rg_rules.specs.Paths.{writable_field}
 use Rattle.rg_rules.specs.Expressions.{judge_expr}
 use Rattle.rg_rules.specs.Rights.{judge_call, judge_right}

@@ -1,6 +1,7 @@
 -- One step of the machine that never frees (docs/language.md, "Steps"). A second frame, a second window or a region that isn't there
 -- changes nothing: such a step only takes its item away.
-use Rattle.std.specs.Prelude.{ℕ, ◌+◌, if◌then◌else◌, List, [], ◌∷◌, ◌++◌, length, Option, Some, None, unwrap_or, slice_get, slice_set, Result, Ok, Err}
+use Rattle.std.specs.Prelude.{ℕ, ◌+◌, if◌then◌else◌, List, [], ◌∷◌, ◌++◌, length, Option, Some, None, unwrap_or, slice_get, slice_set, Result, Ok}
+use Rattle.std.specs.Prelude.{Err}
 use Rattle.rg_base.specs.declared.ty.Ty.TheVariants.{Ref}
 use Rattle.rg_base.specs.declared.words.Cap.TheVariants.{Mut}
 use Rattle.rg_base.specs.declared.object.Place.{Place}
@@ -9,12 +10,14 @@ use Rattle.rg_base.specs.declared.object.Seen.{Seen}
 use Rattle.rg_base.specs.declared.value.Val.{Val}
 use Rattle.rg_base.specs.declared.value.Val.TheVariants.{Nil, Int, Bool, Obj}
 use Rattle.rg_base.specs.declared.outcome.Trap.{Trap}
-use Rattle.rg_tree.specs.Tree.{no_else, otherwise, Else, Name, Variable, Expr, Right, stmt, StmtKind, declare, assign, call, swap, branch, while, enter, print, collect, return, Block, Class}
+use Rattle.rg_tree.specs.Tree.{no_else, otherwise, Else, Name, Variable, Expr, Right, stmt, StmtKind, declare, assign, call, swap, branch, while}
+use Rattle.rg_tree.specs.Tree.{enter, print, collect, return, Block, Class}
 use Rattle.rg_rules.specs.Answers.{◌>>=◌, ◌>>◌}
 use Rattle.rg_rules.specs.Types.{type_of, fields_of, field_place}
 use Rattle.rg_rules.specs.Paths.{all_but_last, last_field}
 use Rattle.rg_rules.specs.Items.{Item, Do, EndAt, LeaveAt, Back, items_of}
-use Rattle.rg_rules.specs.State.{Declares, Assigns, Drops, Frame, Window, State, locals_of, frame_number, value_in, place_in, add_local, put_local, deliver, keep_locals}
+use Rattle.rg_rules.specs.State.{Declares, Assigns, Drops, Frame, Window, State, locals_of, frame_number, value_in, place_in, add_local, put_local}
+use Rattle.rg_rules.specs.State.{deliver, keep_locals}
 use Rattle.rg_rules.specs.Values.{as_bool}
 use Rattle.rg_rules.specs.Evaluation.{object_at, field_value, with_field, follow_fields, computed}
 use Rattle.rg_rules.specs.Regions.{region_of, address}

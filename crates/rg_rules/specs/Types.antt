@@ -1,6 +1,7 @@
 -- Classes by number, their members by name, and the types that are written (docs/language.md, "Headers"). A class goes by its number,
 -- which counts the classes in source order, from 0; a class that isn't there has the number of classes, which no class has.
-use Rattle.std.specs.Prelude.{ℕ, suc, Bool as Truth, true, false, bytes_eq, if◌then◌else◌, List, [], ◌∷◌, map, filter_map, find, slice_get, Option, Some, None, option_map, ok_or, Ok}
+use Rattle.std.specs.Prelude.{ℕ, suc, Bool as Truth, true, false, bytes_eq, if◌then◌else◌, List, [], ◌∷◌, map, filter_map, find, slice_get, Option}
+use Rattle.std.specs.Prelude.{Some, None, option_map, ok_or, Ok}
 use Rattle.rg_base.specs.declared.words.Cap.{Cap}
 use Rattle.rg_base.specs.declared.words.Cap.TheVariants.{Mut, Tmp, Paused, Imm, Iso}
 use Rattle.rg_base.specs.declared.ty.Ty.{Ty}

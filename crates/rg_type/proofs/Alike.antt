@@ -3,7 +3,8 @@ use Rattle.std.proofs.Common.{◌≡◌, refl, ◌∙◌, ℕ, ◌+◌, ◌≤�
 use Rattle.std.proofs.lemmas.List.{length-map, length-append}
 use Rattle.rg_base.specs.declared.ty.Ty.{Ty}
 use Rattle.rg_tree.specs.Tree.{Variable}
-use Rattle.rg_rules.specs.Environment.{Readiness, ready, Entry, Env, same_variable, with_variable, marked_entry, marked, closed, joined_entries, joined}
+use Rattle.rg_rules.specs.Environment.{Readiness, ready, Entry, Env, same_variable, with_variable, marked_entry, marked, closed, joined_entries}
+use Rattle.rg_rules.specs.Environment.{joined}
 
 -- a variable, whatever its state
 abbrev pub as_ready : Entry → Entry

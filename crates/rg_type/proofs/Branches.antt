@@ -1,5 +1,6 @@
 -- What `if`, `while` and `enter` do to the variables that are kept in place: closed behind a block, restored, joined.
-use Rattle.std.proofs.Common.{◌≡◌, refl, sym, ap, ◌∙◌, ℕ, zero, suc, ◌+◌, ◌≤◌, Bool, true, false, subst, List, [], ◌∷◌, length, Option, None, Ok, IsTrue, arith}
+use Rattle.std.proofs.Common.{◌≡◌, refl, sym, ap, ◌∙◌, ℕ, zero, suc, ◌+◌, ◌≤◌, Bool, true, false, subst, List, [], ◌∷◌, length, Option, None, Ok}
+use Rattle.std.proofs.Common.{IsTrue, arith}
 use Rattle.rg_base.specs.declared.ty.Ty.{Ty}
 use Rattle.rg_base.specs.declared.fault.Code.TheVariants.{Loop}
 use Rattle.rg_base.specs.declared.fault.Stop.{Stop}
@@ -18,7 +19,8 @@ use Rattle.rg_type.specs.Inner.States.{state_at, IsSaved, restated, joined_with,
 use Rattle.rg_type.specs.declared.env.saved.Saved.{Saved}
 use Rattle.rg_type.proofs.Alike.{Begin, Begin-trans, Begin-take, length-Begin}
 use Rattle.rg_type.proofs.StatementEnvs.{judge_test-grows, judge_enter-grows, judge_block-grows, judge_else-grows}
-use Rattle.rg_type.proofs.ScopeSteps.{BeginSlots, Begin-sym, env_of-closed, length-closed_at, env_of-restated, length-restated_from, env_of-joined_with, covers-true, covers-states}
+use Rattle.rg_type.proofs.ScopeSteps.{BeginSlots, Begin-sym, env_of-closed, length-closed_at, env_of-restated, length-restated_from}
+use Rattle.rg_type.proofs.ScopeSteps.{env_of-joined_with, covers-true, covers-states}
 use Rattle.rg_type.proofs.BlockSteps.{length-entries, FailsAs-first}
 
 -- the variables in front of a block come first at its end, and there are at most n more

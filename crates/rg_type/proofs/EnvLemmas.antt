@@ -1,5 +1,6 @@
 -- What the visible variables keep, as each call leaves them.
-use Rattle.std.proofs.Common.{◌≡◌, ℕ, ◌+◌, ◌<◌, ◌≤◌, Bool, true, false, not, ◌&&◌, ◌⊎◌, inl, inr, List, [], ◌∷◌, ◌++◌, length, take, Option, None, Some, nat_eq, nat_lt, IsTrue, ◌↔◌, if◌then◌else◌, refl, sym, ap, subst, ◌∙◌, arith}
+use Rattle.std.proofs.Common.{◌≡◌, ℕ, ◌+◌, ◌<◌, ◌≤◌, Bool, true, false, not, ◌&&◌, ◌⊎◌, inl, inr, List, [], ◌∷◌, ◌++◌, length, take, Option, None}
+use Rattle.std.proofs.Common.{Some, nat_eq, nat_lt, IsTrue, ◌↔◌, if◌then◌else◌, refl, sym, ap, subst, ◌∙◌, arith}
 use Rattle.std.proofs.lemmas.Bool.{cases_lt}
 use Rattle.std.proofs.lemmas.Bool.Decides.{nat_tests}
 use Rattle.std.proofs.lemmas.List.{length-append, length-take-le}
@@ -15,7 +16,8 @@ use Rattle.rg_type.specs.declared.env.saved.Saved.{Saved}
 use Rattle.rg_type.specs.Inner.Layout.{slots_from, scope_of, place_in, names_at, IsFoundAt, ready_slot, with_slot, AreNoted, IsKept}
 use Rattle.rg_type.specs.declared.env.var.Var.{Var}
 use Rattle.rg_type.proofs.PlaceLemmas.{place_in-take}
-use Rattle.rg_type.proofs.FlowLemmas.{length-slots_from, slots_from-ext, slots_from-push, slots_from-take, slots_from-named, slots_from-restated, slots_from-joined, slot_of-place, slot_of-none, state_at-slots_from, names_at-past}
+use Rattle.rg_type.proofs.FlowLemmas.{length-slots_from, slots_from-ext, slots_from-push, slots_from-take, slots_from-named, slots_from-restated}
+use Rattle.rg_type.proofs.FlowLemmas.{slots_from-joined, slot_of-place, slot_of-none, state_at-slots_from, names_at-past}
 use Rattle.rg_type.proofs.FlowSteps.{IsGoneTo}
 
 other-state : (f g : Flow) (k i : ℕ) (now : Readiness) → Sets f g k now → nat_eq i k ≡ false → state_of g i ≡ state_of f i

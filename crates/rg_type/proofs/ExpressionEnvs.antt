@@ -1,11 +1,13 @@
 -- Behind an expression, a right side or a call there are the variables that were in front of it.
-use Rattle.std.proofs.Common.{◌≡◌, ◌==◌, Bool as Truth, true, false, not as negated, if◌then◌else◌, List, [], ◌∷◌, length, Option, Some, ok_or, Ok, arith}
+use Rattle.std.proofs.Common.{◌≡◌, ◌==◌, Bool as Truth, true, false, not as negated, if◌then◌else◌, List, [], ◌∷◌, length, Option, Some, ok_or, Ok}
+use Rattle.std.proofs.Common.{arith}
 use Rattle.rg_base.specs.declared.words.Cap.{Cap}
 use Rattle.rg_base.specs.declared.words.Cap.TheVariants.{Mut, Tmp, Imm, Iso}
 use Rattle.rg_base.specs.declared.ty.Ty.{Ty}
 use Rattle.rg_base.specs.declared.ty.Ty.TheVariants.{Int, Bool, Ref}
 use Rattle.rg_base.specs.declared.fault.Code.TheVariants.{Unknown, Mismatch}
-use Rattle.rg_tree.specs.Tree.{Name, Variable, ref, Expr, number, boolean, nil, path, is_nil, neg, not, binary, Call, Right, value, new, new_tmp, new_iso, freeze, merge, read, more, result_of, Class}
+use Rattle.rg_tree.specs.Tree.{Name, Variable, ref, Expr, number, boolean, nil, path, is_nil, neg, not, binary, Call, Right, value, new, new_tmp}
+use Rattle.rg_tree.specs.Tree.{new_iso, freeze, merge, read, more, result_of, Class}
 use Rattle.rg_rules.specs.Capabilities.{below, is_iso, iso_class}
 use Rattle.rg_rules.specs.Types.{good_type, method_named, param_types}
 use Rattle.rg_rules.specs.Environment.{Entry, Env, entry_of, seen_type, available, is_ready, marked, used, gone}

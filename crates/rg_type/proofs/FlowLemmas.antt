@@ -1,5 +1,6 @@
 -- Variables with the states that a flow has.
-use Rattle.std.proofs.Common.{◌≡◌, ℕ, zero, suc, ◌+◌, ◌<◌, ◌≤◌, Bool, true, false, List, [], ◌∷◌, ◌++◌, length, take, slice_get, map, Option, None, Some, option_map, if◌then◌else◌, refl, sym, ap, subst, ◌∙◌, arith}
+use Rattle.std.proofs.Common.{◌≡◌, ℕ, zero, suc, ◌+◌, ◌<◌, ◌≤◌, Bool, true, false, List, [], ◌∷◌, ◌++◌, length, take, slice_get, map, Option, None}
+use Rattle.std.proofs.Common.{Some, option_map, if◌then◌else◌, refl, sym, ap, subst, ◌∙◌, arith}
 use Rattle.rg_rules.specs.Environment.{Readiness, ready, gone, lent, joined_readiness}
 use Rattle.rg_flow.specs.declared.flow.Flow.{Flow}
 use Rattle.rg_flow.specs.Flows.{state_of}

@@ -1,5 +1,6 @@
 -- Right sides and calls, step by step.
-use Rattle.std.proofs.Common.{◌≡◌, refl, sym, ap, ap₂, subst, ◌∙◌, ℕ, ◌<◌, ◌==◌, Bool as Truth, true, false, List, map, length, drop, Option, Some, ok_or, Result, Ok, Err, arith}
+use Rattle.std.proofs.Common.{◌≡◌, refl, sym, ap, ap₂, subst, ◌∙◌, ℕ, ◌<◌, ◌==◌, Bool as Truth, true, false, List, map, length, drop, Option, Some}
+use Rattle.std.proofs.Common.{ok_or, Result, Ok, Err, arith}
 use Rattle.std.proofs.lemmas.Bool.{eq-eqb}
 use Rattle.std.proofs.lemmas.List.{length-map}
 use Rattle.rg_base.specs.declared.words.Cap.{Cap}

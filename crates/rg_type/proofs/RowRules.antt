@@ -16,7 +16,10 @@ use Rattle.rg_names.specs.Judged.{FailsAs}
 use Rattle.rg_type.specs.Scope.{Scope, closed_at, env_of}
 use Rattle.rg_type.specs.Inner.States.{IsSaved, restated, joined_with, CoversStates}
 use Rattle.rg_type.specs.declared.env.saved.Saved.{Saved}
-use Rattle.rg_type.proofs.Branches.{behind-test, behind-block, behind-else, behind-enter, behind-both, Closed, close-block, Restored, restore-front, choice-env, branch-judged, branch-fails-test, branch-fails-first, branch-fails-other, repeat-uncovered, repeat-covered, while-judged, while-fails-test, while-fails-body, while-fails, enter-judged, enter-fails, enter-fails-body}
+use Rattle.rg_type.proofs.Branches.{behind-test, behind-block, behind-else, behind-enter, behind-both, Closed, close-block, Restored, restore-front}
+use Rattle.rg_type.proofs.Branches.{choice-env, branch-judged, branch-fails-test, branch-fails-first, branch-fails-other, repeat-uncovered}
+use Rattle.rg_type.proofs.Branches.{repeat-covered, while-judged, while-fails-test, while-fails-body, while-fails, enter-judged, enter-fails}
+use Rattle.rg_type.proofs.Branches.{enter-fails-body}
 
 -- what each call gives: the test, a block, what stands behind the first block of an `if`, and the head of an `enter`
 abbrev pub Tested : Tables → (line e : ℕ) → (front out : Scope) → Type 0

@@ -1,5 +1,6 @@
 -- Scopes against the environments that they stand for.
-use Rattle.std.proofs.Common.{◌≡◌, ◌≢◌, ℕ, zero, suc, ◌+◌, ◌<◌, Bool, true, false, inl, inr, List, [], ◌∷◌, length, take, map, find, Option, None, Some, option_map, nat_eq, bytes_eq, if◌then◌else◌, refl, sym, ap, subst, ◌∙◌}
+use Rattle.std.proofs.Common.{◌≡◌, ◌≢◌, ℕ, zero, suc, ◌+◌, ◌<◌, Bool, true, false, inl, inr, List, [], ◌∷◌, length, take, map, find, Option, None}
+use Rattle.std.proofs.Common.{Some, option_map, nat_eq, bytes_eq, if◌then◌else◌, refl, sym, ap, subst, ◌∙◌}
 use Rattle.std.specs.Prelude.{ok_or, Result, Ok, Err, IfSome}
 use Rattle.std.specs.List.{AllByRecursion}
 use Rattle.std.proofs.lemmas.Bool.Decides.{eqb_tells}
@@ -16,7 +17,8 @@ use Rattle.rg_tree.specs.Rows.RowsExist.{IsNameIn}
 use Rattle.rg_tree.proofs.Callers.{name_at-injective}
 use Rattle.rg_rules.specs.Environment as rules
 use Rattle.rg_names.specs.TreeAnswers.{IsKnown}
-use Rattle.rg_type.specs.Scope.{Slot, Scope, same_name, pushed, marked_slot, marked, entered, closed_at, variable_of, entry_of, env_of, IsSlotIn, IsScopeIn}
+use Rattle.rg_type.specs.Scope.{Slot, Scope, same_name, pushed, marked_slot, marked, entered, closed_at, variable_of, entry_of, env_of, IsSlotIn}
+use Rattle.rg_type.specs.Scope.{IsScopeIn}
 use Rattle.rg_type.specs.Inner.States.{readiness_of, slot_of, FoundAs, FoundInTree, IsReadable}
 use Rattle.rg_type.specs.declared.env.found.Found.{Found}
 use Rattle.rg_type.proofs.NameTests.{same-eq}

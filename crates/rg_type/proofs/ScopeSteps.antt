@@ -1,10 +1,12 @@
 -- The variables that are kept in place, as the rules see them: closed, restored, joined, marked.
-use Rattle.std.proofs.Common.{◌≡◌, refl, sym, ap, ◌∙◌, ℕ, zero, suc, ◌+◌, ◌≤◌, Bool, true, false, ◌&&◌, ◌||◌, not, IsTrue, List, [], ◌∷◌, length, take, map, All, Some, arith}
+use Rattle.std.proofs.Common.{◌≡◌, refl, sym, ap, ◌∙◌, ℕ, zero, suc, ◌+◌, ◌≤◌, Bool, true, false, ◌&&◌, ◌||◌, not, IsTrue, List, [], ◌∷◌, length}
+use Rattle.std.proofs.Common.{take, map, All, Some, arith}
 use Rattle.std.proofs.lemmas.List.{length-map, length-take-le, take-map, map-append}
 use Rattle.std.proofs.lemmas.List.Elements.{All-cons, All-head, All-tail, All-take}
 use Rattle.rg_base.specs.declared.ty.Ty.{Ty}
 use Rattle.rg_tree.specs.Rows.Tables.{Tables, name_at}
-use Rattle.rg_rules.specs.Environment.{Readiness, ready, is_ready, Entry, Env, with_variable, deeper, closed, joined_readiness, joined_entries, joined, covers_entries, covers}
+use Rattle.rg_rules.specs.Environment.{Readiness, ready, is_ready, Entry, Env, with_variable, deeper, closed, joined_readiness, joined_entries}
+use Rattle.rg_rules.specs.Environment.{joined, covers_entries, covers}
 use Rattle.rg_flow.specs.declared.flow.Flow.{Flow}
 use Rattle.rg_flow.specs.Flows.{state_of}
 use Rattle.rg_type.specs.Scope.{Slot, Scope, pushed, entered, closed_at, env_of, entry_of, IsSlotIn}

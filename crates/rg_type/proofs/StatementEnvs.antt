@@ -4,18 +4,22 @@ use Rattle.rg_base.specs.declared.ty.Ty.{Ty}
 use Rattle.rg_base.specs.declared.words.Cap.TheVariants.{Mut}
 use Rattle.rg_base.specs.declared.ty.Ty.TheVariants.{Bool, Ref}
 use Rattle.rg_base.specs.declared.fault.Code.TheVariants.{Unknown, Mismatch, Loop, Return}
-use Rattle.rg_tree.specs.Tree.{Name, Variable, Ty as Written, Path, Expr, Call, Right, Stmt, stmt, StmtKind, declare, assign, call, swap, branch, while, enter, print, collect, return, Else, no_else, otherwise, Block, empty as none, then as next, Class}
+use Rattle.rg_tree.specs.Tree.{Name, Variable, Ty as Written, Path, Expr, Call, Right, Stmt, stmt, StmtKind, declare, assign, call, swap, branch}
+use Rattle.rg_tree.specs.Tree.{while, enter, print, collect, return, Else, no_else, otherwise, Block, empty as none, then as next, Class}
 use Rattle.rg_rules.specs.Answers.{test, at_line}
 use Rattle.rg_rules.specs.Capabilities.{is_iso, iso_class, same_type, stays_at_depth, printable}
 use Rattle.rg_rules.specs.Types.{good_type}
-use Rattle.rg_rules.specs.Environment.{Env, entry_of, visible, at_depth, with_variable, marked, is_ready, is_lent, ready, lent, deeper, closed, joined, covers}
+use Rattle.rg_rules.specs.Environment.{Env, entry_of, visible, at_depth, with_variable, marked, is_ready, is_lent, ready, lent, deeper, closed}
+use Rattle.rg_rules.specs.Environment.{joined, covers}
 use Rattle.rg_rules.specs.Paths.{writable_field}
 use Rattle.rg_rules.specs.Expressions.{judge_expr}
 use Rattle.rg_rules.specs.Rights.{judge_call, judge_right}
-use Rattle.rg_rules.specs.Statements.{judge_declare, is_call, judge_assign, judge_call_alone, swapped_field, judge_swap, judge_test, judge_enter, left, judge_print, judge_return, last_of, judge_stmt, judge_kind, judge_else, judge_block}
+use Rattle.rg_rules.specs.Statements.{judge_declare, is_call, judge_assign, judge_call_alone, swapped_field, judge_swap, judge_test, judge_enter}
+use Rattle.rg_rules.specs.Statements.{left, judge_print, judge_return, last_of, judge_stmt, judge_kind, judge_else, judge_block}
 use Rattle.rg_rules.specs.Names.{stmt_names, kind_names, else_names, block_names}
 use Rattle.rg_rules.proofs.AnswersLemmas.{bind-ok, then-ok, test-then, at_line-ok}
-use Rattle.rg_type.proofs.Alike.{Begin, Begin-same, Begin-trans, Grows, Grows-same, Grows-more, Grows-trans, Grows-marked, Grows-with_variable, Grows-closed, Grows-joined}
+use Rattle.rg_type.proofs.Alike.{Begin, Begin-same, Begin-trans, Grows, Grows-same, Grows-more, Grows-trans, Grows-marked, Grows-with_variable}
+use Rattle.rg_type.proofs.Alike.{Grows-closed, Grows-joined}
 use Rattle.rg_type.proofs.ExpressionEnvs.{judge_expr-grows, judge_call-grows, judge_right-grows}
 
 judge_declare-grows : (classes : List Class) (env out : Env) (x : Name) (t : Written) (r : Right) → judge_declare classes env x t r ≡ Ok out →

@@ -6,7 +6,8 @@ mod saved;
 mod states;
 mod var;
 
-ghost use Rattle.std.specs.Prelude.{◌≡◌, ℕ, ◌==◌, ◌<◌, ◌≤◌, ◌↔◌, if◌then◌else◌, IsTrue, length, option_map, IfOk, OnOk, OnErr, IfSome};
+ghost use Rattle.std.specs.Prelude.{◌≡◌, ℕ, ◌==◌, ◌<◌, ◌≤◌, ◌↔◌, if◌then◌else◌, IsTrue, length};
+ghost use Rattle.std.specs.Prelude.{option_map, IfOk, OnOk, OnErr, IfSome};
 ghost use Rattle.rg_base.specs.declared.limits.TheConstants.{BODY_NAMES};
 ghost use Rattle.rg_tree.specs.Rows.Tables.{Tables, name_at};
 ghost use Rattle.rg_tree.specs.Rows.RowsExist.{IsNameIn};
@@ -14,8 +15,11 @@ ghost use Rattle.rg_rules.specs.Capabilities as rules;
 ghost use Rattle.rg_rules.specs.Environment.{with_variable, gone};
 ghost use Rattle.rg_rules.specs.Environment as env;
 ghost use Rattle.rg_flow.specs.Flows.{state_of};
-ghost use Rattle.rg_type.specs.Scope.{no_variables, pushed, marked, entered, closed_at, variable_of, env_of};
-ghost use Rattle.rg_type.specs.Inner.States.{readiness_of, slot_of, FoundAs, FoundInTree, IsReadable, IsSaved, restated, joined_with, CoversStates};
+ghost use Rattle.rg_type.specs.Scope.{no_variables, pushed, marked, entered, closed_at};
+ghost use Rattle.rg_type.specs.Scope.{variable_of, env_of};
+ghost use Rattle.rg_type.specs.Inner.States.{readiness_of, slot_of, FoundAs, FoundInTree};
+ghost use Rattle.rg_type.specs.Inner.States.{IsReadable, IsSaved, restated, joined_with};
+ghost use Rattle.rg_type.specs.Inner.States.{CoversStates};
 ghost use Rattle.rg_type.specs.Inner.Layout.{with_slot, ready_slot};
 
 pub use found::Found;

@@ -1,6 +1,7 @@
 //! Walks of paths: from a variable through fields (docs/language.md, "Judgements").
 
-ghost use Rattle.std.specs.Prelude.{◌≡◌, ◌<◌, ◌==◌, ◌++◌, ◌∷◌, [], if◌then◌else◌, List, All, length, map, IfOk, IfSome};
+ghost use Rattle.std.specs.Prelude.{◌≡◌, ◌<◌, ◌==◌, ◌++◌, ◌∷◌, [], if◌then◌else◌, List, All};
+ghost use Rattle.std.specs.Prelude.{length, map, IfOk, IfSome};
 ghost use Rattle.rg_tree.specs.Rows.Tables.{name_at};
 ghost use Rattle.rg_tree.specs.Tree.{Class};
 ghost use Rattle.rg_tree.specs.Rows.RowTrees.{path_of, program_of};

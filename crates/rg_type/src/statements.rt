@@ -10,7 +10,8 @@ ghost use Rattle.std.specs.Prelude.{◌≡◌, ◌+◌, ◌<◌, ◌≤◌, suc,
 ghost use Rattle.rg_base.specs.declared.limits.TheConstants.{BODY_NAMES};
 ghost use Rattle.rg_tree.specs.Tree as forms;
 ghost use Rattle.rg_tree.specs.Rows.Tables.{name_at};
-ghost use Rattle.rg_tree.specs.Rows.RowTrees.{block_of, else_over, expr_at, path_of, stmt_at, program_of};
+ghost use Rattle.rg_tree.specs.Rows.RowTrees.{block_of, else_over, expr_at, path_of, stmt_at};
+ghost use Rattle.rg_tree.specs.Rows.RowTrees.{program_of};
 ghost use Rattle.rg_tree.specs.Rows.RowsExist.{IsBlockIn, IsExprNumber, IsNameIn, IsPathIn};
 ghost use Rattle.rg_rules.specs.Names.{block_names, else_names, stmt_names};
 ghost use Rattle.rg_rules.specs.Statements as rules;

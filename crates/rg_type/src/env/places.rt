@@ -1,6 +1,7 @@
 //! Places by the names of variables (docs/language.md, "Judgements").
 
-ghost use Rattle.std.specs.Prelude.{◌≡◌, ℕ, ◌<◌, ◌≤◌, Option, [], ◌∷◌, ◌++◌, length, if◌then◌else◌, IfSome, OnOk, OnErr};
+ghost use Rattle.std.specs.Prelude.{◌≡◌, ℕ, ◌<◌, ◌≤◌, Option, [], ◌∷◌, ◌++◌, length, if◌then◌else◌};
+ghost use Rattle.std.specs.Prelude.{IfSome, OnOk, OnErr};
 ghost use Rattle.std.specs.Map.{lookup};
 ghost use Rattle.rg_type.specs.Scope.{same_name};
 ghost use Rattle.rg_type.specs.Inner.Layout.{place_in, AreNoted};

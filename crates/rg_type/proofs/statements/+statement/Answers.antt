@@ -8,7 +8,9 @@ use Rattle.rg_type.proofs.Spans.{IsBlockIn-below, above-below, IsBlockIn-below_s
 use Rattle.rg_type.proofs.ScopeSteps.{IsReadable-closed_at, IsReadable-restated, IsReadable-joined_with}
 use Rattle.rg_type.proofs.BlockSteps.{OnOk-inner, block-room, block-step}
 use Rattle.rg_type.proofs.Branches.{saved-past}
-use Rattle.rg_type.proofs.RowRules.{tested-room, entered-room, block-within, else-within, block-closed, block-again, if-fails-test, if-fails-first, if-fails-other, if-leaves, while-fails-at-test, while-fails-within, loop-within, loop-closed, while-uncovered, while-leaves, enter-fails-at-head, enter-fails-within, window-within, enter-leaves}
+use Rattle.rg_type.proofs.RowRules.{tested-room, entered-room, block-within, else-within, block-closed, block-again, if-fails-test, if-fails-first}
+use Rattle.rg_type.proofs.RowRules.{if-fails-other, if-leaves, while-fails-at-test, while-fails-within, loop-within, loop-closed, while-uncovered}
+use Rattle.rg_type.proofs.RowRules.{while-leaves, enter-fails-at-head, enter-fails-within, window-within, enter-leaves}
 use Rattle.rg_type.proofs.statements.+statement.Goals as goal
 
 pub block-statement-requires : goal.block-statement-requires
