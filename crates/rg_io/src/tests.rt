@@ -9,14 +9,8 @@ use std::alloc::{AllocError, Global};
 use std::io;
 use std::test::Fail;
 
-// So many bytes, each unlike its neighbours.
-fn some_bytes(alloc: Global, n: usize) -> Result<Vec<u8>, AllocError> {
-    let mut all = Vec::with_capacity(alloc, n)?;
-    for i in 0..n {
-        all.push((i % 251) as u8)?;
-    }
-    Ok(all)
-}
+// The bytes of a file.
+const BYTES: [u8; 5001] = [b'x'; 5001];
 
 // Files in memory of which one was replaced by these bytes, while a call fails.
 fn files_of(alloc: Global, bytes: &[u8], failing: u64) -> Result<MemFiles, Memory> {
@@ -47,7 +41,7 @@ fn taken_from<F: Files>(alloc: Global, files: &mut F, name: &str, bytes: &[u8]) 
 #[test]
 fn a_file_is_taken_whole_or_refused(rt: HostRuntime) -> Result<(), Fail> {
     for (size, name, failing, want) in [
-        (0, "a file", 3, "whole"),
+        (0usize, "a file", 3, "whole"),
         (1, "a file", 4, "whole"),
         (4096, "a file", 4, "whole"),
         (4097, "a file", 5, "whole"),
@@ -59,9 +53,9 @@ fn a_file_is_taken_whole_or_refused(rt: HostRuntime) -> Result<(), Fail> {
         (4097, "a file", 4, "fault"),
         (4097, "no file", 9, "fault"),
     ] {
-        let bytes = some_bytes(rt.alloc(), size)?;
-        let mut files = files_of(rt.alloc(), &bytes, failing)?;
-        let is = taken_from(rt.alloc(), &mut files, name, &bytes);
+        let bytes = &BYTES[..size.min(5001)];
+        let mut files = files_of(rt.alloc(), bytes, failing)?;
+        let is = taken_from(rt.alloc(), &mut files, name, bytes);
         assert_eq!(rt; is, want, "{size} bytes, failing {failing}");
     }
     for (name, want) in [
