@@ -24,8 +24,8 @@ use Rattle.rg_sound.specs.Values.{Leads, MeetsBy, ValuesFit}
 use Rattle.rg_sound.specs.Objects.{FieldFits, FieldsMeet, ObjectsFit}
 use Rattle.rg_sound.specs.OpenRegions.{IsOwned, OpenFit}
 use Rattle.rg_sound.specs.Numbers.{NumbersFit}
-use Rattle.rg_sound.proofs.OpeningLemmas.{none-some, opening-fits}
-use Rattle.rg_sound.proofs.OwnerLemmas.{some-same}
+use Rattle.rg_sound.proofs.Basics.{none-some, some-same}
+use Rattle.rg_sound.proofs.OpeningLemmas.{opening-fits}
 use Rattle.rg_sound.proofs.DataLemmas.{Data, fit-data}
 use Rattle.rg_sound.proofs.HeldLemmas.{slot-meets}
 use Rattle.rg_sound.proofs.LawLemmas.{run-fits}

@@ -1,6 +1,6 @@
 -- An object of the store is replaced by another of its class and label: what stays of values, regions and the other objects.
-use Rattle.std.proofs.Common.{◌≡◌, ◌≢◌, refl, sym, ◌∙◌, ap, subst, ◌⊎◌, inl, inr, ◌↔◌, ℕ, ◌==◌, Bool as Truth, true, false}
-use Rattle.std.proofs.Common.{List, [], ◌∷◌, length, Option, Some, None, option_and_then, slice_get, slice_set, arith, IsTrue}
+use Rattle.std.proofs.Common.{◌≡◌, refl, sym, ◌∙◌, ap, subst, ◌⊎◌, inl, inr, ◌↔◌, ℕ}
+use Rattle.std.proofs.Common.{List, [], ◌∷◌, length, Option, Some, None, option_and_then, slice_get, slice_set, IsTrue}
 use Rattle.rg_base.specs.declared.words.Cap.{Cap}
 use Rattle.rg_base.specs.declared.ty.Ty.{Ty}
 use Rattle.rg_base.specs.declared.ty.Ty.TheVariants.{Int, Bool, Ref}
@@ -20,7 +20,8 @@ use Rattle.rg_sound.specs.Values.{LabelFits, MeetsRef, MeetsBy, ValuesFit}
 use Rattle.rg_sound.specs.Objects.{IsTemp, FieldFits, FieldsMeet, ObjectFits, ObjectsFit}
 use Rattle.rg_sound.specs.OpenRegions.{IsNear}
 use Rattle.rg_sound.specs.Numbers.{LabelGiven}
-use Rattle.rg_sound.proofs.OwnerLemmas.{get-set, get-set-other, some-same}
+use Rattle.rg_sound.proofs.Basics.{same_number, some-same}
+use Rattle.rg_sound.proofs.OwnerLemmas.{get-set, get-set-other}
 
 -- each object is still there, with its class and its label
 abbrev pub KeepsObjects : List Seen → List Seen → Type 0
@@ -56,14 +57,6 @@ values-kept old new ws (f ∷ fs) k h = (
   λ i l e. MeetsBy-kept old new (LabelFits (windows_of (length fs) i ws)) l.ty l.value k (h.0 i l e),
   values-kept old new ws fs k h.1,
 )
-
--- two numbers are the same, or differ
-pub same_number : (n m : ℕ) → (n ≡ m) ⊎ (n ≢ m)
-same_number n m = by (n == m) refl
-  where
-    by : (b : Truth) → (n == m) ≡ b → (n ≡ m) ⊎ (n ≢ m)
-    by true e = inl (grind arith)
-    by false e = inr (λ h. let yes_it : (n == m) ≡ true = grind arith in let c : true ≡ false = sym yes_it ∙ e in grind arith)
 
 -- what an object owns, whether it is frozen or not
 pub owned-label : (l m : Label) (x y : Option ℕ) → l ≡ m → x ≡ y → ◌≡◌ {A = Option ℕ} (elim l [ Region r ↦ x | Temp t ↦ x | Frozen ↦ None ])
