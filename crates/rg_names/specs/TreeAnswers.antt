@@ -1,12 +1,12 @@
 -- What the answers of a class table say of the tree of its program. A name's number stands for its bytes.
-use Rattle.std.specs.Prelude.{◌≡◌, ℕ, zero, suc, ◌+◌, ◌<◌, ⊤, Bool as Truth, if◌then◌else◌, bytes_eq, List, [], ◌∷◌, length, map, filter_map, option_map, IfSome, Option, Some, None}
+use Rattle.std.specs.Prelude.{◌≡◌, ℕ, zero, suc, ◌+◌, ◌<◌, ⊤, Bool as Truth, if◌then◌else◌, bytes_eq, List, [], ◌∷◌, length, map, filter_map, option_map, All, IfSome, Option, Some, None, Ok}
 use Rattle.rg_base.specs.declared.ty.Ty.{Ty}
 use Rattle.rg_base.specs.declared.ty.Ty.TheVariants.{Int, Bool, Ref}
 use Rattle.rg_tree.specs.Tree.{Name, Method, Class}
 use Rattle.rg_tree.specs.Rows.Tables.{Tables, name_at, numbers_in}
 use Rattle.rg_tree.specs.Rows.RowTrees.{param_at, program_of}
 use Rattle.rg_tree.specs.Rows.RowsExist.{IsSpanBelow}
-use Rattle.rg_rules.specs.Types.{class_number, class_named, method_member, fields_of, methods_of, field_place, field_type, method_named, method_result}
+use Rattle.rg_rules.specs.Types.{class_number, class_named, method_member, fields_of, methods_of, type_of, good_type, field_place, field_type, method_named, method_result}
 use Rattle.rg_names.specs.declared.entry.FieldAt.{FieldAt}
 use Rattle.rg_names.specs.declared.entry.Sig.{Sig}
 
@@ -61,6 +61,15 @@ pub record MethodIs (program : Tables) (class name : ℕ) (s : Sig) : Type 0 whe
   pub params : map (param_at program) (numbers_in program s.params) ≡ method.params
   pub result : method_result (program_of program).classes method ≡ s.result
   pub known : IfSome s.result (IsKnown (program_of program).classes)
+
+-- the parameter of a number is there, and its type is good
+pub record IsGoodParam (program : Tables) (param : ℕ) : Type 0 where
+  pub within : param < length program.params
+  pub good : good_type (program_of program).classes (param_at program param).ty ≡ Ok (type_of (program_of program).classes (param_at program param).ty)
+
+-- each parameter of a method
+abbrev pub HasGoodParams : Tables → Sig → Type 0
+HasGoodParams program s = All (IsGoodParam program) (numbers_in program s.params)
 
 -- no method has that name
 pub record NoMethod (program : Tables) (class name : ℕ) : Type 0 where

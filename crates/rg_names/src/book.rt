@@ -1,22 +1,24 @@
 //! A program with its class table: what a step or a judgement looks things up in
 //! (docs/language.md, "Headers").
 
-ghost use Rattle.std.specs.Prelude.{◌≡◌, ◌<◌, bytes_eq, length, slice_get, IfSome, Some};
+ghost use Rattle.std.specs.Prelude.{◌≡◌, ◌<◌, bytes_eq, length, slice_get, Some, IfOk, IfSome};
 ghost use Rattle.rg_tree.specs.Rows.Tables.{name_at, numbers_in};
-ghost use Rattle.rg_tree.specs.Rows.RowTrees.{class_of, classes_of, expr_at, expr_of};
-ghost use Rattle.rg_tree.specs.Rows.RowTrees.{member_at, member_of, param_at, param_of, stmt_at, stmt_of};
+ghost use Rattle.rg_tree.specs.Rows.RowTrees.{class_of, classes_of, expr_at, expr_of, member_at};
+ghost use Rattle.rg_tree.specs.Rows.RowTrees.{member_of, param_at, param_of, stmt_at, stmt_of, type_of};
 ghost use Rattle.rg_tree.specs.Rows.RowsExist.{IsBlockIn, IsClassIn, IsExprIn, IsMemberIn, IsNameIn};
-ghost use Rattle.rg_tree.specs.Rows.RowsExist.{IsParamIn, IsStmtIn, IsWithin};
+ghost use Rattle.rg_tree.specs.Rows.RowsExist.{IsParamIn, IsStmtIn, IsTypeIn, IsWithin};
+ghost use Rattle.rg_rules.specs.Types.{good_type};
 ghost use Rattle.rg_names.specs.TableOf.{IsTableOf};
-ghost use Rattle.rg_names.specs.TreeAnswers.{class_place, FieldAnswer};
+ghost use Rattle.rg_names.specs.TreeAnswers.{class_place, IsKnown, FieldAnswer, MethodAnswer, HasGoodParams};
 
 use crate::classes::Classes;
-use crate::entry::FieldAt;
-use rg_base::Manager;
-use rg_tree::{ClassRow, ExprRow, MemberRow, ParamRow, Program, Span, StmtRow};
+use crate::entry::{FieldAt, Sig};
+use rg_base::{Code, Manager, Ty};
+use rg_tree::{ClassRow, ExprRow, MemberRow, ParamRow, Program, Span, StmtRow, TypeRow};
 use std::marker::Model;
 
-/// A program with its own class table. That the table is the program's is an invariant.
+/// A program with its own class table. That the table is the program's is an invariant, so what is
+/// read here is said of the program's tree, with no condition on the table.
 #[derive(Drop)]
 pub struct Book<'a> {
     program: &'a Program,
@@ -69,12 +71,45 @@ impl<'a> Book<'a> {
         a == b
     }
 
+    /// The manager of main.
+    pub fn main_manager(&self) -> Manager
+        ensures { result ≡ self.now.program.manager }
+    {
+        self.program.main_manager()
+    }
+
+    /// The body of main.
+    pub fn main_body(&self) -> Span
+        ensures row { result ≡ self.now.program.body }
+        ensures below { IsBlockIn self.now.program result }
+    {
+        self.program.main_body()
+    }
+
     /// The numbers of a span.
     pub fn order(&self, s: Span) -> &'a [u32]
         requires { IsWithin self.now.program s }
         ensures { result.now ≡ numbers_in self.now.program s }
     {
         self.program.order(s)
+    }
+
+    /// The statement of a number. The statements within it come before it.
+    pub fn stmt(&self, i: u32) -> StmtRow
+        requires { i < length self.now.program.stmts }
+        ensures tree { stmt_at self.now.program i ≡ stmt_of self.now.program result }
+        ensures below { IsStmtIn self.now.program i result }
+    {
+        self.program.stmt(i)
+    }
+
+    /// The expression of a number. Its operands come before it.
+    pub fn expr(&self, i: u32) -> ExprRow
+        requires { i < length self.now.program.exprs }
+        ensures tree { expr_at self.now.program i ≡ expr_of self.now.program result }
+        ensures below { IsExprIn self.now.program i result }
+    {
+        self.program.expr(i)
     }
 
     /// The parameter of a number.
@@ -95,6 +130,13 @@ impl<'a> Book<'a> {
         self.program.member(i)
     }
 
+    /// The number of classes.
+    pub fn class_count(&self) -> u32
+        ensures { result ≡ length (classes_of self.now.program) }
+    {
+        self.program.class_count()
+    }
+
     /// The class of a number.
     pub fn class(&self, i: u32) -> ClassRow
         requires { i < length (classes_of self.now.program) }
@@ -103,46 +145,6 @@ impl<'a> Book<'a> {
         ensures below { IsClassIn self.now.program result }
     {
         self.program.class(i)
-    }
-
-    /// The statement of a number.
-    pub fn stmt(&self, i: u32) -> StmtRow
-        requires { i < length self.now.program.stmts }
-        ensures tree { stmt_at self.now.program i ≡ stmt_of self.now.program result }
-        ensures below { IsStmtIn self.now.program i result }
-    {
-        self.program.stmt(i)
-    }
-
-    /// The expression of a number.
-    pub fn expr(&self, i: u32) -> ExprRow
-        requires { i < length self.now.program.exprs }
-        ensures tree { expr_at self.now.program i ≡ expr_of self.now.program result }
-        ensures below { IsExprIn self.now.program i result }
-    {
-        self.program.expr(i)
-    }
-
-    /// The number of classes.
-    pub fn class_count(&self) -> u32
-        ensures { result ≡ length (classes_of self.now.program) }
-    {
-        self.program.class_count()
-    }
-
-    /// The manager of main.
-    pub fn main_manager(&self) -> Manager
-        ensures { result ≡ self.now.program.manager }
-    {
-        self.program.main_manager()
-    }
-
-    /// The body of main.
-    pub fn main_body(&self) -> Span
-        ensures row { result ≡ self.now.program.body }
-        ensures below { IsBlockIn self.now.program result }
-    {
-        self.program.main_body()
     }
 
     /// The number of the class of a name, None exactly where there is none.
@@ -155,6 +157,16 @@ impl<'a> Book<'a> {
         self.classes.class(name)
     }
 
+    /// The type that is written so, or E20 or E22.
+    pub fn ty(&self, row: TypeRow) -> Result<Ty, Code>
+        requires { IsTypeIn self.now.program row }
+        ensures tree { result
+            ≡ good_type (classes_of self.now.program) (type_of self.now.program row) }
+        ensures known { IfOk result (IsKnown (classes_of self.now.program)) }
+    {
+        self.classes.ty(row)
+    }
+
     /// The field of a name in a class, None exactly where there is none.
     pub fn field(&self, class: u32, name: u32) -> Option<FieldAt>
         requires class { class < length (classes_of self.now.program) }
@@ -162,5 +174,15 @@ impl<'a> Book<'a> {
         ensures { FieldAnswer self.now.program class name result }
     {
         self.classes.field(class, name)
+    }
+
+    /// The method of a name in a class, None exactly where there is none.
+    pub fn method(&self, class: u32, name: u32) -> Option<Sig>
+        requires class { class < length (classes_of self.now.program) }
+        requires name { IsNameIn self.now.program name }
+        ensures method { MethodAnswer self.now.program class name result }
+        ensures params { IfSome result (HasGoodParams self.now.program) }
+    {
+        self.classes.method(class, name)
     }
 }

@@ -1,5 +1,6 @@
 -- What a step leaves: the things to do behind its own, and the output, where it prints nothing.
-use Rattle.std.proofs.Common.{◌≡◌, ◌≢◌, ◌⊎◌, inl, inr, length-append, refl, sym, ap, ◌∙◌, subst, ℕ, nat_lt, Bool, true, false, if◌then◌else◌, List, [], ◌∷◌, ◌++◌, length, Option, Some, None, option_map, IfSome, slice_get, slice_set, Result, Ok, arith}
+use Rattle.std.proofs.Common.{◌≡◌, ◌≢◌, ◌⊎◌, inl, inr, length-append, refl, sym, ap, ◌∙◌, subst, ℕ, nat_lt, Bool, true, false, if◌then◌else◌, List}
+use Rattle.std.proofs.Common.{[], ◌∷◌, ◌++◌, length, Option, Some, None, option_map, IfSome, slice_get, slice_set, Result, Ok, arith}
 use Rattle.rg_base.specs.declared.limits.TheConstants.{FRAMES}
 use Rattle.rg_base.specs.declared.object.Seen.{Seen}
 use Rattle.rg_base.specs.declared.object.Label.{Label}
@@ -11,7 +12,9 @@ use Rattle.rg_base.specs.declared.outcome.Outcome.TheVariants as outcome
 use Rattle.rg_base.specs.declared.outcome.Trap.{Trap}
 use Rattle.rg_base.specs.declared.outcome.Trap.TheVariants.{Depth}
 use Rattle.rg_base.specs.Input.{NextNumber, found, malformed, at_end, next_number}
-use Rattle.rg_tree.specs.Tree.{no_else, otherwise, Else, Name, Variable, Expr, Call, Right, value, new, new_tmp, new_iso, freeze, merge, read, more, result_of, Stmt, stmt, StmtKind, declare, assign, call, swap, branch, while, enter, print, collect, return, Block, empty as none, then as followed_by, Method, Class}
+use Rattle.rg_tree.specs.Tree.{no_else, otherwise, Else, Name, Variable, Expr, Call, Right, value, new, new_tmp, new_iso, freeze, merge, read, more}
+use Rattle.rg_tree.specs.Tree.{result_of, Stmt, stmt, StmtKind, declare, assign, call, swap, branch, while, enter, print, collect, return, Block}
+use Rattle.rg_tree.specs.Tree.{empty as none, then as followed_by, Method, Class}
 use Rattle.rg_rules.specs.Answers.{test}
 use Rattle.rg_rules.specs.Types.{class_named, method_named, type_of}
 use Rattle.rg_rules.specs.Paths.{all_but_last, last_field}
@@ -22,7 +25,8 @@ use Rattle.rg_rules.specs.Values.{as_bool}
 use Rattle.rg_rules.specs.Evaluation.{object_at, path_value, values_of, field_value, with_field, follow_fields, computed}
 use Rattle.rg_rules.specs.Regions.{region_of}
 use Rattle.rg_rules.specs.RightSides.{Use, new_object, made, with_region, frozen, merged, consumed, taken, called, step_call, with_right}
-use Rattle.rg_rules.specs.Steps.{put_field, step_assign, step_swap, begin_block, begin_else, with_window, entered, step_enter, step_return, step_kind, step_leave, step_item, step_first, Went, next}
+use Rattle.rg_rules.specs.Steps.{put_field, step_assign, step_swap, begin_block, begin_else, with_window, entered, step_enter, step_return, step_kind}
+use Rattle.rg_rules.specs.Steps.{step_leave, step_item, step_first, Went, next}
 use Rattle.rg_rules.proofs.AnswersLemmas.{bind-ok, then-ok}
 use Rattle.rg_rules.proofs.StepLemmas.{computed-ok, stepped-went}
 use Rattle.rg_plain.specs.Inner.Steps.{StepIs}
@@ -75,7 +79,8 @@ made-goes : (classes : List Class) (s u : State) (put : Use) → IsQuiet put →
 made-goes classes s u put quiet x label h = by (class_named classes x) h
   where
     by : (o : Option Class) →
-        elim o as (λ p. State) [ None ↦ s | Some c ↦ put (record s { store = s.store ++ new_object classes x label ∷ [] }) (Obj (length s.store)) ] ≡ u →
+        elim o as (λ p. State) [ None ↦ s | Some c ↦ put (record s { store = s.store ++ new_object classes x label ∷ [] }) (Obj (length s.store)) ] ≡
+        u →
         Goes s u
     by None h = goes-same s u h
     by (Some c) h = goes-put s (record s { store = s.store ++ new_object classes x label ∷ [] }) u put quiet (Obj (length s.store)) refl refl h
@@ -274,7 +279,8 @@ leave-keeps k s (w ∷ v ∷ ws) = (refl, refl)
 
 -- the step of a thing to do that prints nothing leaves the output
 step_item-output : (classes : List Class) (s u : State) (i : Item) → item_prints i ≡ false → step_item classes s i ≡ Went u → u.output ≡ s.output
-step_item-output classes s u (Do (stmt line k)) q h = (step_kind-goes classes s u line k q (stepped-went line (step_kind classes s line k) u h)).output
+step_item-output classes s u (Do (stmt line k)) q h = (step_kind-goes classes s u line k q (stepped-went line (step_kind classes s line k) u
+    h)).output
 step_item-output classes s u (EndAt k) q h = ap (λ a. a.output) (sym (went-is _ _ h))
 step_item-output classes s u (LeaveAt k) q h = ap (λ a. a.output) (sym (went-is _ _ h)) ∙ (leave-keeps k s s.windows).1
 step_item-output classes s u Back q h = ap (λ a. a.output) (sym (went-is _ _ h))
@@ -324,7 +330,8 @@ step_item-printed : (classes : List Class) (s u : State) (i : Item) (rest : List
 step_item-printed classes s u (Do (stmt line k)) rest v e ends h out =
     let b = step_kind-behind classes s u line k (stepped-went line (step_kind classes s line k) u h) in
     (left-behind u rest (stmt line k) ends (b.0, b.1 ∙ ap (λ q. b.0 ++ q) e)).0
-step_item-printed classes s u (EndAt k) rest v e ends h out = absurd (no-longer s.output v (sym (step_item-output classes s u (EndAt k) refl h) ∙ out))
+step_item-printed classes s u (EndAt k) rest v e ends h out = absurd (no-longer s.output v (sym (step_item-output classes s u (EndAt k) refl h) ∙
+    out))
 step_item-printed classes s u (LeaveAt k) rest v e ends h out =
     absurd (no-longer s.output v (sym (step_item-output classes s u (LeaveAt k) refl h) ∙ out))
 step_item-printed classes s u Back rest v e ends h out = absurd (no-longer s.output v (sym (step_item-output classes s u Back refl h) ∙ out))

@@ -1,5 +1,6 @@
 -- Parameters with their values, one after another.
-use Rattle.std.proofs.Common.{◌≡◌, ℕ, zero, suc, ◌+◌, ◌<◌, List, [], ◌∷◌, ◌++◌, length, map, drop, get_or, Some, unwrap_or, IfSome, slice_get, refl, sym, ◌∙◌, ap, append_assoc, add-one}
+use Rattle.std.proofs.Common.{◌≡◌, ℕ, zero, suc, ◌+◌, ◌<◌, List, [], ◌∷◌, ◌++◌, length, map, drop, get_or, Some, unwrap_or, IfSome, slice_get, refl}
+use Rattle.std.proofs.Common.{sym, ◌∙◌, ap, append_assoc, add-one}
 use Rattle.std.proofs.lemmas.List.{drop_more, map-append}
 use Rattle.std.proofs.lemmas.List.Elements.{All-nil, All-cons, All-head, All-tail}
 use Rattle.rg_base.specs.declared.ty.Ty.{Ty}

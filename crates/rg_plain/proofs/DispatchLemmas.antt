@@ -52,20 +52,6 @@ some-shown t (r ∷ rows) left fit = some-items_from t (put_row t r []) rows (so
 pub left-shown : (t : Tables) (rows : List ItemRow) → rows ≢ [] → ItemsFit t rows → shown t rows ≢ []
 left-shown t rows left fit e = let some = some-shown t rows left fit in let no : some.first ∷ some.rest ≡ [] = sym some.are ∙ e in cc
 
--- the end of a block prints nothing
-pub EndAt-quiet : (t : Tables) (rows below : List ItemRow) (k : ℕ) (r : Outcome) → rows ≡ below ++ row.EndAt k ∷ [] →
-    QuietOrPrints (shown t rows) r
-EndAt-quiet t rows below k r top = inl (ap first_prints (ap (shown t) top ∙ shown-push t below (row.EndAt k)))
-
--- nor does the end of the block of an `enter`
-pub LeaveAt-quiet : (t : Tables) (rows below : List ItemRow) (k : ℕ) (r : Outcome) → rows ≡ below ++ row.LeaveAt k ∷ [] →
-    QuietOrPrints (shown t rows) r
-LeaveAt-quiet t rows below k r top = inl (ap first_prints (ap (shown t) top ∙ shown-push t below (row.LeaveAt k)))
-
--- nor the end of a method
-pub Back-quiet : (t : Tables) (rows below : List ItemRow) (r : Outcome) → rows ≡ below ++ row.Back ∷ [] → QuietOrPrints (shown t rows) r
-Back-quiet t rows below r top = inl (ap first_prints (ap (shown t) top ∙ shown-push t below row.Back))
-
 quiet-first : (items : List Item) (some : Some_are items) (r : Outcome) → QuietOrPrints items r → (item_prints some.first ≡ false) ⊎ PrintsOrStays r
 quiet-first items some r (inl q) = inl (sym (ap first_prints some.are) ∙ q)
 quiet-first items some r (inr q) = inr q

@@ -1,5 +1,6 @@
 -- Labels and windows of regions that were made.
-use Rattle.std.proofs.Common.{◌≡◌, ℕ, zero, suc, ◌<◌, ◌≤◌, List, [], ◌∷◌, ◌++◌, length, get_or, slice_set, All, Option, Some, None, IfSome, sym, ◌∙◌, ap, subst, arith, length-append}
+use Rattle.std.proofs.Common.{◌≡◌, ℕ, zero, suc, ◌<◌, ◌≤◌, List, [], ◌∷◌, ◌++◌, length, get_or, slice_set, All, Option, Some, None, IfSome, sym, ◌∙◌}
+use Rattle.std.proofs.Common.{ap, subst, arith, length-append}
 use Rattle.std.proofs.lemmas.List.{map-append}
 use Rattle.std.proofs.lemmas.List.Elements.{All-cons, All-head, All-tail, All-push, All-weaker, All-pop}
 use Rattle.rg_base.specs.declared.object.Seen.{Seen}

@@ -1,8 +1,9 @@
 -- Steps on the bytes left of the input.
-use Rattle.std.proofs.Common.{◌≡◌, ℕ, ℤ, Bool as Truth, List, [], ◌∷◌, Option, Some, None, Ok, Err, refl, sym, ◌∙◌, ap}
+use Rattle.std.proofs.Common.{◌≡◌, ℕ, ℤ, Bool as Truth, List, [], ◌∷◌, Option, Some, None, Result, Ok, Err, refl, sym, subst, ◌∙◌, ap}
 use Rattle.rg_base.specs.declared.outcome.Outcome.{Outcome}
 use Rattle.rg_base.specs.declared.outcome.Outcome.TheVariants as outcome
 use Rattle.rg_base.specs.declared.outcome.Trap.{Trap}
+use Rattle.rg_base.specs.declared.value.Val.{Val}
 use Rattle.rg_base.specs.declared.value.Val.TheVariants.{Int, Bool}
 use Rattle.rg_base.specs.Input.{NextNumber, found, malformed, at_end, next_number}
 use Rattle.rg_tree.specs.Tree.{Right, stmt, read, more}
@@ -10,12 +11,16 @@ use Rattle.rg_tree.specs.Rows.Tables.{Tables}
 use Rattle.rg_tree.specs.Rows.RowTrees.{classes_of, stmt_at}
 use Rattle.rg_rules.specs.Items.{Item, Do}
 use Rattle.rg_rules.specs.RightSides.{taken, is_left}
-use Rattle.rg_rules.specs.Steps.{Went, stepped}
+use Rattle.rg_rules.specs.State.{State}
+use Rattle.rg_rules.specs.Steps.{Stepped, Went, stepped, next}
 use Rattle.rg_input.specs.Numbers.{Pending, Follows, OnInput, Answers, Looks, is_more}
 use Rattle.rg_input.proofs.InputLemmas.{OnInput-still, OnInput-map, OnInput-then}
 use Rattle.rg_plain.specs.declared.state.rows.ItemRow.{ItemRow}
 use Rattle.rg_plain.specs.declared.steps.targets.Left.{Left}
 use Rattle.rg_plain.specs.declared.steps.targets.Aim.{Aim}
+use Rattle.rg_plain.specs.declared.steps.refusal.Refusal.{Refusal}
+use Rattle.rg_plain.specs.declared.steps.refusal.Refusal.TheVariants as refused
+use Rattle.rg_plain.specs.Inner.Steps.{StepIs, Does, DoesPrint, Makes, Prints, outcome_of, printed_of}
 use Rattle.rg_plain.specs.Kept.{Kept, plain_of, shown}
 use Rattle.rg_plain.specs.Inner.Spots.{AimIs, statement_of, use_of}
 use Rattle.rg_plain.specs.Inner.Inputs.{StepOn}
@@ -79,3 +84,33 @@ more-step t k new number line l a items b is shown_is tree new_is before after a
     ∙ ap (λ q. Went (use_of t a s (Bool q))) (sym (answer.0 ∙ is_more-is_left (next_number before)))
     ∙ ap Went (sym (new_is before))
     ∙ ap (λ q. Went (plain_of t new q)) (sym answer.1)
+
+-- a step that prints nothing and reads nothing, as its outcome says
+does-is : (step : Stepped) (old new : State) (line : ℕ) (r : Result (Unit {0}) Refusal) → Does step old new line r →
+    StepIs step old new (outcome_of r line)
+does-is step old new line (Ok u) h = h
+does-is step old new line (Err (refused.Trap kind)) h = h
+does-is step old new line (Err refused.Memory) h = h
+
+pub does : (t : Tables) (old new : Kept) (line : ℕ) (r : Result (Unit {0}) Refusal) (o : Outcome) (n : Pending) (left : Option (List ℕ)) →
+    o ≡ outcome_of r line → Makes t old new line r → OnInput n n left left (StepOn t old new o)
+does t old new line r o n left is makes =
+    let P : Outcome → Type 0 = λ q. (input : List ℕ) → StepOn t old new q input input in
+    reads_nothing t old new o n left
+    (subst P (sym is) (λ input. does-is (next (classes_of t) (plain_of t old input)) (plain_of t old input) (plain_of t new input) line r (makes
+    input)))
+
+-- one that prints
+prints-is : (step : Stepped) (old new : State) (line : ℕ) (r : Result Val Refusal) → DoesPrint step old new line r →
+    StepIs step old new (printed_of r line)
+prints-is step old new line (Ok v) h = h
+prints-is step old new line (Err (refused.Trap kind)) h = h
+prints-is step old new line (Err refused.Memory) h = h
+
+pub prints : (t : Tables) (old new : Kept) (line : ℕ) (r : Result Val Refusal) (o : Outcome) (n : Pending) (left : Option (List ℕ)) →
+    o ≡ printed_of r line → Prints t old new line r → OnInput n n left left (StepOn t old new o)
+prints t old new line r o n left is makes =
+    let P : Outcome → Type 0 = λ q. (input : List ℕ) → StepOn t old new q input input in
+    reads_nothing t old new o n left
+    (subst P (sym is) (λ input. prints-is (next (classes_of t) (plain_of t old input)) (plain_of t old input) (plain_of t new input) line r (makes
+    input)))

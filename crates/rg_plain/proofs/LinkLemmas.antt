@@ -1,5 +1,6 @@
 -- Owner references in an object, field by field, and lists of the regions to which they lead.
-use Rattle.std.proofs.Common.{◌≡◌, ℕ, zero, suc, ◌+◌, ◌<◌, ◌≤◌, ◌==◌, Bool, true, false, if◌then◌else◌, List, [], ◌∷◌, ◌++◌, length, get_or, drop, take, filter_map, option_to_list, Some, set, refl, sym, ◌∙◌, ap, arith, append_assoc, append-nil, add-one, Vec, Global}
+use Rattle.std.proofs.Common.{◌≡◌, ℕ, zero, suc, ◌+◌, ◌<◌, ◌≤◌, ◌==◌, Bool, true, false, if◌then◌else◌, List, [], ◌∷◌, ◌++◌, length, get_or, drop}
+use Rattle.std.proofs.Common.{take, filter_map, option_to_list, Some, set, refl, sym, ◌∙◌, ap, arith, append_assoc, append-nil, add-one, Vec, Global}
 use Rattle.std.proofs.lemmas.Bool.{eqb-true, eq-eqb, true≢false}
 use Rattle.std.proofs.lemmas.List.{drop_all, length-map, get_or-map, take_more}
 use Rattle.std.proofs.lemmas.List.Elements.{filter_map-append}

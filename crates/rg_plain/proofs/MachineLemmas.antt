@@ -90,7 +90,8 @@ same_table : (o : Option Table) (a b : Table) → o ≡ Some a → o ≡ Some b 
 same_table o a b here there = let same : Some a ≡ Some b = sym here ∙ there in cc
 
 pub is_table : (t : Tables) (m : Machine) (a : Table) → Fits t m → m.classes ≡ Some a → IsTableOf t a
-is_table t m a fits there = let P : Table → Type 0 = λ q. IsTableOf t q in subst P (same_table m.classes fits.table a fits.classes there) fits.table_is
+is_table t m a fits there = let P : Table → Type 0 = λ q. IsTableOf t q in subst P (same_table m.classes fits.table a fits.classes there)
+    fits.table_is
 
 -- the parts of a machine that runs the program
 pub fits_parts : (t : Tables) (m : Machine) (p : Parts) → Fits t m → kept_of p ≡ m.kept → PartsFit t p

@@ -1,5 +1,6 @@
 -- A run from its first step to its end, over plain variables.
-use Rattle.std.proofs.Common.{◌≡◌, ◌≢◌, ℕ, ◌+◌, ◌-◌, ◌<◌, true, List, [], ◌∷◌, ◌++◌, length, drop, Option, refl, sym, ap, ◌∙◌, subst, arith, append-nil, append_assoc, add-one}
+use Rattle.std.proofs.Common.{◌≡◌, ◌≢◌, ℕ, ◌+◌, ◌-◌, ◌<◌, ◌≤◌, true, false, List, [], ◌∷◌, ◌++◌, length, drop, Option, refl, sym, ap, ◌∙◌, subst}
+use Rattle.std.proofs.Common.{arith, append-nil, append_assoc, add-one}
 use Rattle.std.proofs.Math.Seq.{drop-append_seam}
 use Rattle.std.proofs.lemmas.Grind.{flat_map-append}
 use Rattle.rg_base.specs.declared.value.Val.{Val}
@@ -20,7 +21,7 @@ use Rattle.rg_rules.proofs.RunLemmas.{one_more, one_more-went, one_more-trapped,
 use Rattle.rg_plain.specs.Kept.{shown}
 use Rattle.rg_rules.specs.Inputs.{first_asks}
 use Rattle.rg_plain.specs.Machine.{Machine, state_of, StepsOn}
-use Rattle.rg_plain.specs.Runs.{answer, StandsAt, CutOff, CutAtInput, Whole, RunIs}
+use Rattle.rg_plain.specs.Runs.{answer, StandsAt, CutOff, CutAtInput, Whole, RunIs, NoneAsks, begun}
 use Rattle.rg_rules.specs.Texts.{ran, output_after, text_of, added}
 
 ending-some : (items : List Item) → items ≢ [] → ending_of items ≡ Running
@@ -247,3 +248,22 @@ cut_behind t s n k m new v rest rest' old between out within so_far step part =
         subst Q (sym (text-is t s ((k + 1) - 1) all before_is)) (Appends-more old between out (text all) part.0 so_far.took part.2),
       );
     }
+
+-- where none of the steps so far asks, and this one doesn't either, what held before it holds behind it
+pub none_more : (t : Tables) (s : State) (k : ℕ) (m : Machine) (rest : List ℕ) (old new : Option (List ℕ)) (Before After : Type 0) →
+    RanSoFar t s k m rest old new → (NoneAsks t s k → Before) → (first_asks (shown t m.kept.items) ≡ false → Before → After) →
+    NoneAsks t s (k + 1) → After
+none_more t s k m rest old new Before After so_far before more none =
+    more (ap (λ q. first_asks q.state.items) (sym so_far.ran_is) ∙ none k (omega arith)) (before (λ j l. none j (omega arith)))
+
+-- a run so far of a machine that started on these bytes; where none of its steps asks, something is as it was
+abbrev pub UnreadOn : Tables → (start : Machine) → (k : ℕ) → (m : Machine) → (old new : Option (List ℕ)) → (Still : Type 0) →
+    (before after : List ℕ) → Type 0
+UnreadOn t start k m old new Still before after =
+    RanOn t start k m old new before after × (NoneAsks t (state_of t start before) k → Still)
+
+-- what a run has answered, and that something is as it was where none of the steps that it began asks
+abbrev pub QuietOn : Tables → (start : Machine) → (n k : ℕ) → (m : Machine) → (old new : Option (List ℕ)) → Ended → (Still : Type 0) →
+    (before after : List ℕ) → Type 0
+QuietOn t start n k m old new result Still before after =
+    RunOn t start n k m old new result before after × (NoneAsks t (state_of t start before) (begun result k) → Still)

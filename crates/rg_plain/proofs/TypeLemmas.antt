@@ -1,5 +1,6 @@
 -- Classes that aren't there.
-use Rattle.std.proofs.Common.{◌≡◌, ℕ, suc, Bool, true, false, if◌then◌else◌, cond, List, [], ◌∷◌, length, find, Option, Some, None, option_map, bytes_eq, refl, arith}
+use Rattle.std.proofs.Common.{◌≡◌, ℕ, suc, Bool, true, false, if◌then◌else◌, cond, List, [], ◌∷◌, length, find, Option, Some, None, option_map}
+use Rattle.std.proofs.Common.{bytes_eq, refl, arith}
 use Rattle.rg_tree.specs.Tree.{Name, Class}
 use Rattle.rg_rules.specs.Types.{class_number, class_named}
 use Rattle.rg_names.specs.TreeAnswers.{class_place}

@@ -1,5 +1,6 @@
 -- What is used up, of one variable after another.
-use Rattle.std.proofs.Common.{◌≡◌, ℕ, ◌+◌, ◌<◌, length, map, take, get_or, append-nil, add-one, Bool, true, false, if◌then◌else◌, List, [], ◌∷◌, ◌++◌, refl, sym, ◌∙◌, ap}
+use Rattle.std.proofs.Common.{◌≡◌, ℕ, ◌+◌, ◌<◌, length, map, take, get_or, append-nil, add-one, Bool, true, false, if◌then◌else◌, List, [], ◌∷◌, ◌++◌}
+use Rattle.std.proofs.Common.{refl, sym, ◌∙◌, ap}
 use Rattle.std.specs.Prelude.{flat_map}
 use Rattle.std.proofs.Math.Seq.{take-suc}
 use Rattle.std.proofs.lemmas.List.{map-append}
@@ -27,7 +28,8 @@ is_iso_local-cleared [] ls x = refl
 is_iso_local-cleared (y ∷ ys) ls x = is_iso_local-cleared ys (set_in y Nil ls) x ∙ is_iso_local-set_in ls x y Nil
 
 -- so what an expression uses up stays the same
-uses_path-cleared : (xs : List Variable) (ls : List Local) (x : Variable) (fields : List Name) → uses_path (cleared xs ls) x fields ≡ uses_path ls x fields
+uses_path-cleared : (xs : List Variable) (ls : List Local) (x : Variable) (fields : List Name) → uses_path (cleared xs ls) x fields ≡ uses_path ls x
+    fields
 uses_path-cleared xs ls x [] = rw (is_iso_local-cleared xs ls x) refl
 uses_path-cleared xs ls x (f ∷ fs) = refl
 

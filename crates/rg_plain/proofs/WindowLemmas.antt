@@ -6,7 +6,6 @@ use Rattle.rg_base.specs.declared.value.Val.{Val}
 use Rattle.rg_base.specs.declared.value.Val.TheVariants.{Obj}
 use Rattle.rg_base.specs.declared.outcome.Trap.{Trap}
 use Rattle.rg_base.specs.declared.outcome.Trap.TheVariants as trap
-use Rattle.rg_base.specs.declared.outcome.Outcome.{Outcome}
 use Rattle.rg_tree.specs.declared.rows.Path as row_path
 use Rattle.rg_tree.specs.Tree.{Name, Block, stmt, enter}
 use Rattle.rg_tree.specs.Rows.Tables.{Tables}
@@ -23,24 +22,21 @@ use Rattle.rg_plain.specs.declared.state.rows.ItemRow.{ItemRow}
 use Rattle.rg_plain.specs.declared.state.rows.ObjectRow.{ObjectRow}
 use Rattle.rg_plain.specs.Kept.{Kept, plain_of, shown}
 use Rattle.rg_plain.specs.Shown.{store_of}
-use Rattle.rg_plain.specs.Inner.Steps.{StepIs}
-use Rattle.rg_plain.specs.Inner.Windows.{OwnerIs, ended_by}
+use Rattle.rg_plain.specs.Inner.Steps.{Refuses}
+use Rattle.rg_plain.specs.Inner.Windows.{OwnerIs}
 use Rattle.rg_plain.proofs.StepLemmas.{next-at}
 use Rattle.rg_plain.proofs.WriteLemmas.{some-object}
 
 -- an owner that isn't there
-pub owner-refused : (t : Tables) (k : Kept) (input : List ℕ) (number line : ℕ) (p : row_path.Path) (z : Name) (body : Block) (why :
-    Refusal) (rest : List Item) (o : Outcome) →
+pub owner-refused : (t : Tables) (k : Kept) (input : List ℕ) (number line : ℕ) (p : row_path.Path) (z : Name) (body : Block) (why : Refusal)
+    (rest : List Item) →
     OwnerIs t k p (Err why) → shown t k.items ≡ Do (stmt_at t number) ∷ rest → stmt_at t number ≡ stmt line (enter (path_of t p) z body) →
-    o ≡ ended_by why line → StepIs (next (classes_of t) (plain_of t k input)) (plain_of t k input) (plain_of t k input) o
-owner-refused t k input number line p z body (refused.Trap kind) rest o is shown_is tree o_is =
-    subst (StepIs (next (classes_of t) (plain_of t k input)) (plain_of t k input) (plain_of t k input)) (sym o_is) (
-      next-at t (classes_of t) k input number line (enter (path_of t p) z body) rest shown_is tree ∙ ap (stepped line) (is input rest line z
-          body),
-      refl,
-    )
-owner-refused t k input number line p z body refused.Memory rest o is shown_is tree o_is =
-    subst (StepIs (next (classes_of t) (plain_of t k input)) (plain_of t k input) (plain_of t k input)) (sym o_is) refl
+    Refuses (next (classes_of t) (plain_of t k input)) (plain_of t k input) (plain_of t k input) line why
+owner-refused t k input number line p z body (refused.Trap kind) rest is shown_is tree = (
+  next-at t (classes_of t) k input number line (enter (path_of t p) z body) rest shown_is tree ∙ ap (stepped line) (is input rest line z body),
+  refl,
+)
+owner-refused t k input number line p z body refused.Memory rest is shown_is tree = refl
 
 entered-cut : (s : State) (owner : Place) (z : Name) (body : Block) (bridge : Val) (kind : Trap) → object_at s.store bridge ≡ Err kind →
     entered s owner z body bridge ≡ Err kind

@@ -1,5 +1,5 @@
 -- What a run answers, has written and leaves, in terms of the machine that never frees.
-use Rattle.std.specs.Prelude.{◌≡◌, ℕ, ◌-◌, ◌<◌, ◌≤◌, true, List, Option}
+use Rattle.std.specs.Prelude.{◌≡◌, ℕ, ◌+◌, ◌-◌, ◌<◌, ◌≤◌, true, false, List, Option}
 use Rattle.rg_base.specs.declared.outcome.Ended.{Ended}
 use Rattle.rg_base.specs.declared.outcome.Ended.TheVariants as ended
 use Rattle.rg_io.specs.Content.{Appends, AppendsUpTo}
@@ -54,3 +54,16 @@ RunIs t s n k m rest old new (ended.Trap kind line) = Whole t s n k m rest old n
 RunIs t s n k m rest old new ended.InputFault = CutAtInput t s n k m rest old new
 RunIs t s n k m rest old new ended.OutputFault = CutOff t s n k m rest old new
 RunIs t s n k m rest old new ended.Memory = CutOff t s n k m rest old new
+
+-- how many steps a run began that ended so after k whole ones: where one was refused, that one too
+abbrev pub begun : Ended → (k : ℕ) → ℕ
+begun ended.Done k = k
+begun ended.Spent k = k
+begun ended.OutputFault k = k
+begun (ended.Trap kind line) k = k + 1
+begun ended.InputFault k = k + 1
+begun ended.Memory k = k + 1
+
+-- none of the first steps from a state, so many, asks for the input
+abbrev pub NoneAsks : Tables → State → (steps : ℕ) → Type 0
+NoneAsks t s steps = (k : ℕ) → k < steps → first_asks (ran t s k).state.items ≡ false

@@ -1,6 +1,6 @@
 //! A printed value on a line of its own (docs/language.md, "Values and their text").
 
-ghost use Rattle.std.specs.Prelude.{OnErr, OnOk, ◌≡◌, ◌≤◌};
+ghost use Rattle.std.specs.Prelude.{◌≡◌, ◌≤◌, OnErr, OnOk};
 ghost use Rattle.rg_base.specs.Text.{line_text};
 ghost use Rattle.rg_io.specs.Content.{Appends, AppendsPart, Rose};
 

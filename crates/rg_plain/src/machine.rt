@@ -1,17 +1,17 @@
 //! The machine that never frees (docs/language.md, "Steps").
 
-ghost use Rattle.std.specs.Prelude.{IfOk, OnErr, OnOk, [], false, length, slice_get, true, ℕ, ◌≡◌};
-ghost use Rattle.std.specs.Prelude.{◌≢◌, ◌≤◌};
-ghost use Rattle.rg_input.specs.Numbers.{Follows, OnInput};
+ghost use Rattle.std.specs.Prelude.{◌≡◌, ◌≢◌, ◌≤◌, [], IfOk, OnErr, OnOk, false, length, slice_get};
+ghost use Rattle.std.specs.Prelude.{true, ℕ};
+ghost use Rattle.rg_tree.specs.Rows.RowTrees.{program_of};
+ghost use Rattle.rg_rules.specs.Acceptance.{Accepted};
+ghost use Rattle.rg_rules.specs.Inputs.{first_asks};
 ghost use Rattle.rg_io.specs.Content.{Rose};
+ghost use Rattle.rg_input.specs.Numbers.{Follows, OnInput};
 ghost use Rattle.rg_names.specs.TableOf.{IsTableOf};
 ghost use Rattle.rg_plain.specs.Kept.{kept_of, shown};
 ghost use Rattle.rg_plain.specs.Machine.{Begins, BegunWith, Fits, KeepsFit, StepsOn, fresh, state_of};
 ghost use Rattle.rg_plain.specs.Outcomes.{LeavesRows};
-ghost use Rattle.rg_plain.specs.Runs.{RunIs};
-ghost use Rattle.rg_rules.specs.Acceptance.{Accepted};
-ghost use Rattle.rg_rules.specs.Inputs.{first_asks};
-ghost use Rattle.rg_tree.specs.Rows.RowTrees.{program_of};
+ghost use Rattle.rg_plain.specs.Runs.{NoneAsks, RunIs, begun};
 
 use crate::line::put_value;
 use crate::state::items::open;
@@ -168,7 +168,8 @@ impl PlainMachine {
         }
     }
 
-    /// Makes at most `n` steps. Each printed line is given to `out` in its own step.
+    /// Makes at most `n` steps. Each printed line is given to `out` in its own step. Where no step
+    /// asks, nothing is read.
     pub fn run<S: Source, O: Sink>(
         &mut self,
         alloc: Global,
@@ -185,6 +186,11 @@ impl PlainMachine {
         ensures run { OnInput input.old input.new (S.left source.old) (S.left source.new)
             (λ before after. (k : ℕ) × RunIs program.now (state_of program.now self.old before) n k
             self.new after (O.taken out.old) (O.taken out.new) result) }
+        ensures reads_nothing { OnInput input.old input.new (S.left source.old) (S.left source.new)
+            (λ before after. let start = state_of program.now self.old before in (k : ℕ) × (RunIs
+            program.now start n k self.new after (O.taken out.old) (O.taken out.new) result ×
+            (NoneAsks program.now start (begun result k) → (input.new ≡ input.old) × (source.new ≡
+            source.old)))) }
         ensures fits { Fits program.now self.new }
         ensures follows { Follows input.new (S.left source.new) }
 
@@ -218,6 +224,11 @@ impl PlainMachine {
         ensures run { OnInput input.old input.new (S.left source.old) (S.left source.new)
             (λ before after. RunIs program.now (state_of program.now self.old before) n steps.new
             self.new after (O.taken out.old) (O.taken out.new) result) }
+        ensures within { begun result steps.new ≤ n }
+        ensures reads_nothing { OnInput input.old input.new (S.left source.old) (S.left source.new) (λ before after.
+            let start = state_of program.now self.old before in RunIs program.now start n steps.new
+            self.new after (O.taken out.old) (O.taken out.new) result × (NoneAsks program.now start
+            (begun result steps.new) → (input.new ≡ input.old) × (source.new ≡ source.old))) }
         ensures fits { Fits program.now self.new }
         ensures follows { Follows input.new (S.left source.new) }
 

@@ -14,20 +14,19 @@ mod return_;
 mod swap;
 pub(crate) mod targets;
 
-ghost use Rattle.std.specs.Prelude.{List, [], false, length, true, ℕ, ◌++◌, ◌∷◌, ◌≡◌, ◌≢◌, ◌≤◌};
-ghost use Rattle.rg_input.specs.Numbers.{Follows, OnInput};
-ghost use Rattle.rg_io.specs.Content.{Rose};
-ghost use Rattle.rg_plain.specs.Fits.{PartsFit};
-ghost use Rattle.rg_plain.specs.Inner.Inputs.{SettlesOn, StepOn};
-ghost use Rattle.rg_plain.specs.Inner.Steps.{IsAt, StepIs};
-ghost use Rattle.rg_plain.specs.Kept.{kept_of, plain_of, shown};
-ghost use Rattle.rg_plain.specs.Outcomes.{EndsMain, LeavesRows, PrintsOrStays, QuietOrPrints};
-ghost use Rattle.rg_plain.specs.Outcomes.{settled_outcome};
-ghost use Rattle.rg_rules.specs.Inputs.{first_asks, kind_asks};
-ghost use Rattle.rg_rules.specs.Steps.{next};
-ghost use Rattle.rg_tree.specs.Rows.RowTrees.{classes_of, kind_over, stmt_at};
+ghost use Rattle.std.specs.Prelude.{◌++◌, ◌∷◌, ◌≡◌, ◌≢◌, ◌≤◌, [], List, false, length, true, ℕ};
+ghost use Rattle.rg_tree.specs.Rows.RowTrees.{kind_over, stmt_at};
 ghost use Rattle.rg_tree.specs.Rows.RowsExist.{IsKindIn};
 ghost use Rattle.rg_tree.specs.Tree.{collect, stmt};
+ghost use Rattle.rg_rules.specs.Inputs.{first_asks, kind_asks};
+ghost use Rattle.rg_io.specs.Content.{Rose};
+ghost use Rattle.rg_input.specs.Numbers.{Follows, OnInput};
+ghost use Rattle.rg_plain.specs.Fits.{PartsFit};
+ghost use Rattle.rg_plain.specs.Inner.Inputs.{SettlesOn, StepOn};
+ghost use Rattle.rg_plain.specs.Inner.Steps.{IsAt, Makes, Stands};
+ghost use Rattle.rg_plain.specs.Kept.{kept_of, shown};
+ghost use Rattle.rg_plain.specs.Outcomes.{EndsMain, LeavesRows, PrintsOrStays, QuietOrPrints};
+ghost use Rattle.rg_plain.specs.Outcomes.{settled_outcome};
 
 use crate::state::items::{At, advance, first};
 use crate::state::parts::Parts;
@@ -37,6 +36,7 @@ use crate::steps::branch::{branch_step, end_step, while_step};
 use crate::steps::call::call_step;
 use crate::steps::enter::{enter_step, leave_step};
 use crate::steps::print::print_step;
+use crate::steps::refusal::{Refusal, outcome, printed};
 use crate::steps::return_::{back_step, return_step};
 use crate::steps::swap::swap_step;
 use crate::steps::targets::Left;
@@ -66,8 +66,8 @@ fn kind_step<S: Source>(
 
     ensures step { OnInput numbers.old numbers.new (S.left source.old) (S.left source.new)
         (StepOn book.now.program (kept_of m.old) (kept_of m.new) result) }
-    ensures reads_nothing { kind_asks (kind_over book.now.program (stmt_at book.now.program) kind) ≡ false →
-        (numbers.new ≡ numbers.old) × (source.new ≡ source.old) }
+    ensures reads_nothing { kind_asks (kind_over book.now.program (stmt_at book.now.program) kind) ≡
+        false → (numbers.new ≡ numbers.old) × (source.new ≡ source.old) }
     ensures fit { PartsFit book.now.program m.new }
     ensures prints { (e : ℕ) → kind ≡ StmtKind.Print e → PrintsOrStays result }
 
@@ -86,14 +86,18 @@ fn kind_step<S: Source>(
             let left = Left::Set(path);
             right_step(alloc, book, m, at, left, right, numbers, source)
         }
-        StmtKind::If { test, yes, no } => branch_step(book, m, at, test, yes, no),
-        StmtKind::While { test, body } => while_step(book, m, at, test, body),
-        StmtKind::Print(e) => print_step(book, m, at, e),
-        StmtKind::Collect => collect_step(book, m, at),
-        StmtKind::Call(row) => call_step(alloc, book, m, at, row),
-        StmtKind::Swap { name, path } => swap_step(book, m, at, name, path),
-        StmtKind::Enter { path, name, body } => { enter_step(book, m, at, path, name, body) }
-        StmtKind::Return(e) => return_step(book, m, at, e),
+        StmtKind::If { test, yes, no } => {
+            outcome(branch_step(book, m, at, test, yes, no), at.line)
+        }
+        StmtKind::While { test, body } => outcome(while_step(book, m, at, test, body), at.line),
+        StmtKind::Print(e) => printed(print_step(book, m, at, e), at.line),
+        StmtKind::Collect => outcome(collect_step(book, m, at), at.line),
+        StmtKind::Call(row) => outcome(call_step(alloc, book, m, at, row), at.line),
+        StmtKind::Swap { name, path } => outcome(swap_step(book, m, at, name, path), at.line),
+        StmtKind::Enter { path, name, body } => {
+            outcome(enter_step(book, m, at, path, name, body), at.line)
+        }
+        StmtKind::Return(e) => outcome(return_step(book, m, at, e), at.line),
     }
 }
 
@@ -133,49 +137,6 @@ fn statement_step<S: Source>(
     kind_step(alloc, book, m, at, row.kind, numbers, source)
 }
 
-/// Ends a block, which prints nothing.
-fn block_end_step(book: &Book, m: &mut Parts, kept: usize) -> Outcome
-    requires top { (below : List ItemRow) × (m.old.items.items ≡ below ++ ItemRow.EndAt kept ∷ []) }
-    requires fit { PartsFit book.now.program m.old }
-    ensures step { (input : List ℕ) → let old = plain_of book.now.program (kept_of m.old) input in
-        StepIs (next (classes_of book.now.program) old) old
-        (plain_of book.now.program (kept_of m.new) input) result }
-    ensures fit { PartsFit book.now.program m.new }
-    ensures reads_nothing { result ≢ Outcome.InputFault }
-    ensures quiet { QuietOrPrints (shown book.now.program m.old.items.items) result }
-{
-    end_step(book, m, kept)
-}
-
-/// Ends the block of an `enter`, which prints nothing.
-fn window_end_step(book: &Book, m: &mut Parts, kept: usize) -> Outcome
-    requires top { (below : List ItemRow) ×
-        (m.old.items.items ≡ below ++ ItemRow.LeaveAt kept ∷ []) }
-    requires fit { PartsFit book.now.program m.old }
-    ensures step { (input : List ℕ) → let old = plain_of book.now.program (kept_of m.old) input in
-        StepIs (next (classes_of book.now.program) old) old
-        (plain_of book.now.program (kept_of m.new) input) result }
-    ensures fit { PartsFit book.now.program m.new }
-    ensures reads_nothing { result ≢ Outcome.InputFault }
-    ensures quiet { QuietOrPrints (shown book.now.program m.old.items.items) result }
-{
-    leave_step(book, m, kept)
-}
-
-/// Ends a method without a result, which prints nothing.
-fn method_end_step(book: &Book, m: &mut Parts) -> Outcome
-    requires top { (below : List ItemRow) × (m.old.items.items ≡ below ++ ItemRow.Back ∷ []) }
-    requires fit { PartsFit book.now.program m.old }
-    ensures step { (input : List ℕ) → let old = plain_of book.now.program (kept_of m.old) input in
-        StepIs (next (classes_of book.now.program) old) old
-        (plain_of book.now.program (kept_of m.new) input) result }
-    ensures fit { PartsFit book.now.program m.new }
-    ensures reads_nothing { result ≢ Outcome.InputFault }
-    ensures quiet { QuietOrPrints (shown book.now.program m.old.items.items) result }
-{
-    back_step(book, m)
-}
-
 /// Makes the step of the topmost row.
 fn row_step<S: Source>(
     alloc: Global,
@@ -203,9 +164,18 @@ fn row_step<S: Source>(
 {
     match m.items[m.items.len() - 1] {
         ItemRow::Rest(span) => { statement_step(alloc, book, m, span, numbers, source) }
-        ItemRow::EndAt(kept) => block_end_step(book, m, kept),
-        ItemRow::LeaveAt(kept) => window_end_step(book, m, kept),
-        ItemRow::Back => method_end_step(book, m),
+        ItemRow::EndAt(kept) => {
+            end_step(book, m, kept);
+            Outcome::Running
+        }
+        ItemRow::LeaveAt(kept) => {
+            leave_step(book, m, kept);
+            Outcome::Running
+        }
+        ItemRow::Back => {
+            back_step(book, m);
+            Outcome::Running
+        }
     }
 }
 
@@ -261,16 +231,11 @@ pub(crate) fn whole_step<S: Source>(
 }
 
 /// Does nothing: this machine frees nothing.
-pub(crate) fn collect_step(book: &Book, m: &mut Parts, at: At) -> Outcome
-    requires fit { PartsFit book.now.program m.old }
-    requires at { IsAt book.now.program m.old.items.items at.span at.number }
-    requires tree { stmt_at book.now.program at.number ≡ stmt at.line (collect) }
-    ensures step { (input : List ℕ) → let old = plain_of book.now.program (kept_of m.old) input in
-        StepIs (next (classes_of book.now.program) old) old
-        (plain_of book.now.program (kept_of m.new) input) result }
+pub(crate) fn collect_step(book: &Book, m: &mut Parts, at: At) -> Result<(), Refusal>
+    requires stands { Stands book.now.program m.old at (collect) }
+    ensures step { Makes book.now.program (kept_of m.old) (kept_of m.new) at.line result }
     ensures fit { PartsFit book.now.program m.new }
-    ensures reads_nothing { result ≢ Outcome.InputFault }
 {
     advance(book, &mut m.items, at.span, at.number);
-    Outcome::Running
+    Ok(())
 }

@@ -2,19 +2,16 @@
 use Rattle.std.specs.Prelude.{◌≡◌, ℕ, List, [], ◌∷◌, ◌++◌, map, flat_map, Some, option_map, Result, Ok}
 use Rattle.rg_base.specs.declared.object.Seen.{Seen}
 use Rattle.rg_base.specs.declared.value.Val.{Val}
-use Rattle.rg_base.specs.declared.outcome.Outcome.{Outcome}
 use Rattle.rg_base.specs.declared.outcome.Trap.{Trap}
 use Rattle.rg_tree.specs.declared.rows.CallRow.{CallRow}
-use Rattle.rg_tree.specs.Tree.{Name, Class, Path}
+use Rattle.rg_tree.specs.Tree.{Class, Path}
 use Rattle.rg_tree.specs.Rows.Tables.{Tables, name_at}
 use Rattle.rg_tree.specs.Rows.RowTrees.{classes_of, expr_at, stmt_at, call_of}
 use Rattle.rg_rules.specs.Answers.{◌>>=◌, ◌>>◌}
-use Rattle.rg_rules.specs.Paths.{all_but_last}
-use Rattle.rg_rules.specs.Values.{Computed}
 use Rattle.rg_rules.specs.Items.{Item, Do, items_of}
 use Rattle.rg_rules.specs.Bodies.{method_end}
-use Rattle.rg_rules.specs.State.{Local, set_in, value_in}
-use Rattle.rg_rules.specs.Evaluation.{object_at, follow_fields, path_value, uses, cleared}
+use Rattle.rg_rules.specs.State.{Local, set_in}
+use Rattle.rg_rules.specs.Evaluation.{object_at, path_value, uses, cleared}
 use Rattle.rg_rules.specs.RightSides.{called, step_call}
 use Rattle.rg_rules.specs.Steps.{stepped}
 use Rattle.rg_plain.specs.declared.values.methods.MethodRow.{MethodRow}
@@ -22,10 +19,11 @@ use Rattle.rg_plain.specs.declared.values.paths.Receiver.{Receiver}
 use Rattle.rg_plain.specs.declared.state.rows.FrameRow.{FrameRow}
 use Rattle.rg_plain.specs.declared.state.rows.TargetRow.{TargetRow}
 use Rattle.rg_plain.specs.declared.state.rows.TargetRow.TheVariants as target
+use Rattle.rg_plain.specs.declared.steps.refusal.Refusal.{Refusal}
 use Rattle.rg_plain.specs.Kept.{Kept, FrameKept, kept_frame, plain_of, shown, target_of}
 use Rattle.rg_plain.specs.Inner.Methods.{method_of}
 use Rattle.rg_plain.specs.Shown.{locals_of}
-use Rattle.rg_plain.specs.Inner.Steps.{StepIs}
+use Rattle.rg_plain.specs.Inner.Steps.{Does}
 
 -- the value of a path, and the class of the object to which it leads
 abbrev pub receiver_of : List Class → List Seen → List Local → Path → Result Receiver Trap
@@ -35,20 +33,21 @@ receiver_of classes store locals p = do
   Ok (record { value = self; class = o.class })
 
 -- the step of a call, whose statement has this number and line
-abbrev pub CallIs : Tables → (old new : Kept) → (number line : ℕ) → TargetRow → CallRow → Outcome → Type 0
-CallIs t old new number line to c outcome =
+abbrev pub CallIs : Tables → (old new : Kept) → (number line : ℕ) → TargetRow → CallRow → Result (Unit {0}) Refusal → Type 0
+CallIs t old new number line to c result =
     (input : List ℕ) (rest : List Item) → shown t old.items ≡ Do (stmt_at t number) ∷ rest →
-    StepIs (stepped line (step_call (classes_of t) (record (plain_of t old input) { items = rest }) (target_of t to) (call_of t c)))
-    (plain_of t old input) (plain_of t new input) outcome
+    Does (stepped line (step_call (classes_of t) (record (plain_of t old input) { items = rest }) (target_of t to) (call_of t c)))
+    (plain_of t old input) (plain_of t new input) line result
 
 -- the same, once the receiver and its method are found
-abbrev pub CalledIs : Tables → (old new : Kept) → (number line : ℕ) → TargetRow → CallRow → Receiver → MethodRow → Outcome → Type 0
-CalledIs t old new number line to c self m outcome =
+abbrev pub CalledIs : Tables → (old new : Kept) → (number line : ℕ) → TargetRow → CallRow → Receiver → MethodRow → Result (Unit {0}) Refusal → Type 0
+CalledIs t old new number line to c self m result =
     (input : List ℕ) (rest : List Item) → shown t old.items ≡ Do (stmt_at t number) ∷ rest →
-    StepIs
+    Does
     (stepped line
-    (called (classes_of t) (record (plain_of t old input) { items = rest }) (target_of t to) (call_of t c) self.value self.class (Some (method_of t m))))
-    (plain_of t old input) (plain_of t new input) outcome
+    (called (classes_of t) (record (plain_of t old input) { items = rest }) (target_of t to) (call_of t c) self.value self.class (Some (method_of t
+    m))))
+    (plain_of t old input) (plain_of t new input) line result
 
 -- the caller's frame, without what the arguments used up, is the topmost one below, and the items of the method come first
 pub record Enters (t : Tables) (old new : Kept) (number : ℕ) (args : List ℕ) (m : MethodRow) : Type 0 where
@@ -71,20 +70,3 @@ delivered t target.Drops v locals = locals
 -- the topmost of the frames below was taken
 abbrev pub TakesFrame : (old new : List FrameRow) → FrameRow → Type 0
 TakesFrame old new f = map kept_frame old ≡ map kept_frame new ++ kept_frame f ∷ []
-
--- a reference, where it leads to an object
-abbrev pub tested : List Seen → Val → Computed
-tested store v = do
-  object_at store v
-  Ok v
-
--- the reference to the object whose field stands at the end of these fields: all but the last are followed, and it is tested
-abbrev pub holder_from : List Class → List Seen → Val → List Name → Computed
-holder_from classes store v [] = Ok v
-holder_from classes store v (f ∷ fs) = do
-  at ← follow_fields classes store v (all_but_last f fs)
-  tested store at
-
--- the same, of a path
-abbrev pub holder_of : List Class → List Seen → List Local → Path → Computed
-holder_of classes store locals p = holder_from classes store (value_in locals p.base) p.fields

@@ -1,5 +1,6 @@
 -- Methods by the names of their classes.
-use Rattle.std.specs.Prelude.{◌≡◌, ℕ, Bool as Truth, true, false, bytes_eq, List, length, map, find, filter_map, Option, Some, None, option_map, IfSome}
+use Rattle.std.specs.Prelude.{◌≡◌, ℕ, Bool as Truth, true, false, bytes_eq, List, length, map, find, filter_map, Option, Some, None, option_map}
+use Rattle.std.specs.Prelude.{IfSome}
 use Rattle.rg_tree.specs.Tree.{Name, Method, Member, field, method}
 use Rattle.rg_tree.specs.Rows.Tables.{Tables, name_at, numbers_in}
 use Rattle.rg_tree.specs.Rows.RowTrees.{classes_of, type_of, param_at, block_of}

@@ -1,8 +1,6 @@
 -- Where a window's owner stands, and the room that a window needs.
 use Rattle.std.specs.Prelude.{◌≡◌, ℕ, ◌+◌, ◌<◌, ◌≤◌, List, length, vec_capacity, Option, Some, None, Result, Ok, Err}
 use Rattle.rg_base.specs.declared.object.Seen.{Seen}
-use Rattle.rg_base.specs.declared.outcome.Outcome.{Outcome}
-use Rattle.rg_base.specs.declared.outcome.Outcome.TheVariants as outcome
 use Rattle.rg_tree.specs.Tree.{Name, Block, enter}
 use Rattle.rg_tree.specs.Rows.Tables.{Tables}
 use Rattle.rg_tree.specs.Rows.RowTrees.{classes_of, path_of}
@@ -36,8 +34,3 @@ pub record HasWindowRoom (p : Parts) : Type 0 where
   pub outer : length p.outer.items < vec_capacity p.outer
   pub locals : length p.frame.locals.items < vec_capacity p.frame.locals
   pub items : length p.items.items + 2 ≤ vec_capacity p.items
-
--- how a step ends that was refused
-abbrev pub ended_by : Refusal → (line : ℕ) → Outcome
-ended_by (refused.Trap kind) line = outcome.Trap kind line
-ended_by refused.Memory line = outcome.Memory

@@ -1,17 +1,17 @@
 //! The regions beneath others by owner references, in time linear in the objects and the regions
 //! (docs/language.md, "Steps").
 
-ghost use Rattle.std.specs.Prelude.{All, IfOk, List, OnOk, [], drop, filter_map, flat_map, length};
-ghost use Rattle.std.specs.Prelude.{option_to_list, ℕ, ◌++◌, ◌<◌, ◌∷◌, ◌≡◌, ◌≤◌};
-ghost use Rattle.rg_plain.specs.Inner.Beneath.{AreLinks, AreMarked, FindsToo, links_in, listed};
-ghost use Rattle.rg_plain.specs.Regions.{LabelFits, LabelsFit};
-ghost use Rattle.rg_plain.specs.Shown.{AreOfClasses, seen_of, store_of};
-ghost use Rattle.rg_rules.specs.Capabilities.{is_iso};
-ghost use Rattle.rg_rules.specs.Regions.{beneath, in_regions, led_from, owned, owned_in, region_at};
-ghost use Rattle.rg_rules.specs.Types.{fields_of, type_of};
+ghost use Rattle.std.specs.Prelude.{◌++◌, ◌<◌, ◌∷◌, ◌≡◌, ◌≤◌, [], All, IfOk, List, OnOk, drop};
+ghost use Rattle.std.specs.Prelude.{filter_map, flat_map, length, option_to_list, ℕ};
 ghost use Rattle.rg_tree.specs.Rows.RowTrees.{classes_of, member_at, type_of as written};
 ghost use Rattle.rg_tree.specs.Rows.Tables.{Tables};
 ghost use Rattle.rg_tree.specs.Tree.{Class, Member};
+ghost use Rattle.rg_rules.specs.Capabilities.{is_iso};
+ghost use Rattle.rg_rules.specs.Regions.{beneath, in_regions, led_from, owned, owned_in, region_at};
+ghost use Rattle.rg_rules.specs.Types.{fields_of, type_of};
+ghost use Rattle.rg_plain.specs.Inner.Beneath.{AreLinks, AreMarked, FindsToo, links_in, listed};
+ghost use Rattle.rg_plain.specs.Regions.{LabelFits, LabelsFit};
+ghost use Rattle.rg_plain.specs.Shown.{AreOfClasses, seen_of, store_of};
 
 use crate::state::regions::{region, region_led};
 use crate::state::rows::ObjectRow;

@@ -1,17 +1,16 @@
 //! What is still to do, and the statement that comes next (docs/language.md, "Steps").
 
-ghost use Rattle.std.specs.Prelude.{List, [], length, vec_capacity, ◌++◌, ◌+◌, ◌<◌, ◌∷◌, ◌≡◌, ◌≤◌};
-ghost use Rattle.rg_plain.specs.Inner.Methods.{MethodFits, method_of};
-ghost use Rattle.rg_plain.specs.Inner.Steps.{EndsWhereDone, IsAt};
-ghost use Rattle.rg_plain.specs.Kept.{ItemsFit, put_row, shown};
-ghost use Rattle.rg_rules.specs.Bodies.{method_end};
-ghost use Rattle.rg_rules.specs.Items.{Do, EndAt, items_of};
+ghost use Rattle.std.specs.Prelude.{◌++◌, ◌+◌, ◌<◌, ◌∷◌, ◌≡◌, ◌≤◌, [], List, length, vec_capacity};
 ghost use Rattle.rg_tree.specs.Rows.RowTrees.{stmt_at};
 ghost use Rattle.rg_tree.specs.Rows.RowsExist.{IsBlockIn};
+ghost use Rattle.rg_rules.specs.Bodies.{method_end};
+ghost use Rattle.rg_rules.specs.Items.{Do, EndAt, items_of};
+ghost use Rattle.rg_plain.specs.Inner.Methods.{MethodFits, method_of};
+ghost use Rattle.rg_plain.specs.Inner.Steps.{IsAt};
+ghost use Rattle.rg_plain.specs.Kept.{ItemsFit, put_row, shown};
 
 use crate::state::rows::ItemRow;
 use crate::values::methods::MethodRow;
-use rg_base::Outcome;
 use rg_names::Book;
 use rg_tree::Span;
 
@@ -70,8 +69,8 @@ pub(crate) fn open(book: &Book, items: &mut Vec<ItemRow>, kept: usize, body: Spa
     requires room { length items.old.items + 2 ≤ vec_capacity items.old }
     requires body { IsBlockIn book.now.program body }
     requires fit { ItemsFit book.now.program items.old.items }
-    ensures shown { shown book.now.program items.new.items
-        ≡ put_row book.now.program (ItemRow.Rest body) (EndAt kept ∷ shown book.now.program items.old.items) }
+    ensures shown { shown book.now.program items.new.items ≡ put_row book.now.program (ItemRow.Rest
+        body) (EndAt kept ∷ shown book.now.program items.old.items) }
     ensures fit { ItemsFit book.now.program items.new.items }
 {
     items.push_reserved(ItemRow::EndAt(kept));
@@ -91,26 +90,14 @@ pub(crate) fn pop_row(book: &Book, items: &mut Vec<ItemRow>, row: ItemRow)
     let _ = items.pop();
 }
 
-/// How a step goes on that took the last thing to do away, or another.
-pub(crate) fn after_end(book: &Book, items: &[ItemRow]) -> Outcome
-    ensures { EndsWhereDone (shown book.now.program items.now) result }
-{
-    let _ = book;
-    if items.is_empty() {
-        Outcome::Done
-    } else {
-        Outcome::Running
-    }
-}
-
 /// Puts the statements of a method in front, and its end where it has no result.
 pub(crate) fn open_body(book: &Book, items: &mut Vec<ItemRow>, method: MethodRow)
     requires room { length items.old.items + 2 ≤ vec_capacity items.old }
     requires method { MethodFits book.now.program method }
     requires fit { ItemsFit book.now.program items.old.items }
-    ensures shown { shown book.now.program items.new.items ≡ items_of
-        (method_of book.now.program method).body
-        (method_end (method_of book.now.program method).result ++ shown book.now.program items.old.items) }
+    ensures shown { shown book.now.program items.new.items ≡ items_of (method_of book.now.program
+        method).body (method_end (method_of book.now.program method).result ++ shown
+        book.now.program items.old.items) }
     ensures fit { ItemsFit book.now.program items.new.items }
 {
     match method.result {

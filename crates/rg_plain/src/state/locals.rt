@@ -1,14 +1,14 @@
 //! The variables of a frame, found by the numbers of their names. A body has at most 256 names, so
 //! that no search is longer (docs/language.md, "Steps").
 
-ghost use Rattle.std.specs.Prelude.{IfSome, option_map, slice_get, take, ◌≡◌};
-ghost use Rattle.rg_plain.specs.Shown.{AreNamed, locals_of};
+ghost use Rattle.std.specs.Prelude.{◌≡◌, IfSome, option_map, slice_get, take};
+ghost use Rattle.rg_tree.specs.Rows.RowsExist.{IsNameIn};
+ghost use Rattle.rg_tree.specs.Rows.Tables.{name_at};
 ghost use Rattle.rg_rules.specs.Capabilities.{is_iso};
 ghost use Rattle.rg_rules.specs.Environment.{same_variable};
 ghost use Rattle.rg_rules.specs.Evaluation.{is_iso_local};
 ghost use Rattle.rg_rules.specs.State.{place_in, set_in, value_in};
-ghost use Rattle.rg_tree.specs.Rows.RowsExist.{IsNameIn};
-ghost use Rattle.rg_tree.specs.Rows.Tables.{name_at};
+ghost use Rattle.rg_plain.specs.Shown.{AreNamed, locals_of};
 
 use crate::state::rows::LocalRow;
 use rg_base::{Cap, Ty, Val};
@@ -54,8 +54,8 @@ fn local_at(locals: &[LocalRow], place: usize) -> Option<LocalRow>
 pub(crate) fn variable(book: &Book, locals: &[LocalRow], name: Option<u32>) -> Val
     requires named { AreNamed book.now.program locals.now }
     requires name { IfSome name (IsNameIn book.now.program) }
-    ensures { result ≡
-        value_in (locals_of book.now.program locals.now) (option_map (name_at book.now.program) name) }
+    ensures { result ≡ value_in (locals_of book.now.program locals.now) (option_map (name_at
+        book.now.program) name) }
 {
     match local_at(locals, place(book, locals, name)) {
         Some(local) => local.value,
@@ -80,8 +80,8 @@ pub(crate) fn is_iso_type(ty: Ty) -> bool
 pub(crate) fn is_iso(book: &Book, locals: &[LocalRow], name: Option<u32>) -> bool
     requires named { AreNamed book.now.program locals.now }
     requires name { IfSome name (IsNameIn book.now.program) }
-    ensures { result ≡
-        is_iso_local (locals_of book.now.program locals.now) (option_map (name_at book.now.program) name) }
+    ensures { result ≡ is_iso_local (locals_of book.now.program locals.now) (option_map (name_at
+        book.now.program) name) }
 {
     match local_at(locals, place(book, locals, name)) {
         Some(local) => is_iso_type(local.ty),
@@ -93,8 +93,8 @@ pub(crate) fn is_iso(book: &Book, locals: &[LocalRow], name: Option<u32>) -> boo
 pub(crate) fn set(book: &Book, locals: &mut [LocalRow], name: Option<u32>, value: Val)
     requires named { AreNamed book.now.program locals.old }
     requires name { IfSome name (IsNameIn book.now.program) }
-    ensures set { locals_of book.now.program locals.new ≡
-        set_in (option_map (name_at book.now.program) name) value (locals_of book.now.program locals.old) }
+    ensures set { locals_of book.now.program locals.new ≡ set_in (option_map (name_at
+        book.now.program) name) value (locals_of book.now.program locals.old) }
     ensures named { AreNamed book.now.program locals.new }
 {
     let k = place(book, locals, name);

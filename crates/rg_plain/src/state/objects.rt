@@ -1,16 +1,16 @@
 //! Objects: their fields by name, read and written, and what stands behind a path
 //! (docs/language.md, "Steps").
 
-ghost use Rattle.std.specs.Prelude.{All, Some, length, map, slice_get, slice_set, unwrap_or, ℕ};
-ghost use Rattle.std.specs.Prelude.{◌<◌, ◌≡◌};
+ghost use Rattle.std.specs.Prelude.{◌<◌, ◌≡◌, All, Some, length, map, slice_get, slice_set};
+ghost use Rattle.std.specs.Prelude.{unwrap_or, ℕ};
 ghost use Rattle.rg_base.specs.declared.object.Seen.{Seen};
-ghost use Rattle.rg_plain.specs.Read.{LeadsTo, field_behind};
-ghost use Rattle.rg_plain.specs.Regions.{LabelsFit};
-ghost use Rattle.rg_plain.specs.Shown.{AreOfClasses, AreNamed, locals_of, seen_of, store_of};
-ghost use Rattle.rg_rules.specs.Evaluation.{field_value, follow_fields, path_value, with_field};
 ghost use Rattle.rg_tree.specs.Rows.RowTrees.{classes_of, path_of};
 ghost use Rattle.rg_tree.specs.Rows.RowsExist.{IsNameIn, IsPathIn};
 ghost use Rattle.rg_tree.specs.Rows.Tables.{name_at};
+ghost use Rattle.rg_rules.specs.Evaluation.{field_value, follow_fields, path_value, with_field};
+ghost use Rattle.rg_plain.specs.Read.{LeadsTo, field_behind};
+ghost use Rattle.rg_plain.specs.Regions.{LabelsFit};
+ghost use Rattle.rg_plain.specs.Shown.{AreNamed, AreOfClasses, locals_of, seen_of, store_of};
 
 use crate::state::locals::variable;
 use crate::state::rows::{LocalRow, ObjectRow};
@@ -48,8 +48,8 @@ fn element(fields: &[Val], place: u32) -> Val
 pub(crate) fn field_value(book: &Book, object: &ObjectRow, name: u32) -> Val
     requires class { object.now.class < length (classes_of book.now.program) }
     requires name { IsNameIn book.now.program name }
-    ensures { result ≡
-        field_value (classes_of book.now.program) (seen_of object.now) (name_at book.now.program name) }
+    ensures { result ≡ field_value (classes_of book.now.program) (seen_of object.now) (name_at
+        book.now.program name) }
 {
     match book.field(object.class, name) {
         Some(field) => element(&object.fields, field.index),
@@ -118,8 +118,8 @@ fn set_element(fields: &mut [Val], place: u32, v: Val)
 fn write(book: &Book, object: &mut ObjectRow, name: u32, v: Val)
     requires class { object.old.class < length (classes_of book.now.program) }
     requires name { IsNameIn book.now.program name }
-    ensures written { seen_of object.new
-        ≡ with_field (classes_of book.now.program) (name_at book.now.program name) v (seen_of object.old) }
+    ensures written { seen_of object.new ≡ with_field (classes_of book.now.program) (name_at
+        book.now.program name) v (seen_of object.old) }
     ensures class { object.new.class ≡ object.old.class }
     ensures label { object.new.label ≡ object.old.label }
 {

@@ -1,15 +1,15 @@
 //! Regions, and other labels for all that lies in some of them (docs/language.md, "Steps").
 
-ghost use Rattle.std.specs.Prelude.{List, option_and_then, ℕ, ◌≡◌};
+ghost use Rattle.std.specs.Prelude.{◌≡◌, List, option_and_then, ℕ};
+ghost use Rattle.rg_tree.specs.Rows.Tables.{Tables};
+ghost use Rattle.rg_rules.specs.Regions.{address, among, in_regions, region_at, region_of};
+ghost use Rattle.rg_rules.specs.Regions.{relabelled, relabelled_object};
 ghost use Rattle.rg_plain.specs.Inner.Beneath.{AreRegions, is_marked};
 ghost use Rattle.rg_plain.specs.Regions.{LabelFits, LabelsFit};
 ghost use Rattle.rg_plain.specs.Shown.{AreOfClasses, seen_of, store_of};
-ghost use Rattle.rg_rules.specs.Regions.{address, among, in_regions, region_at, region_of};
-ghost use Rattle.rg_rules.specs.Regions.{relabelled, relabelled_object};
 
 use crate::state::rows::ObjectRow;
 use rg_base::{Label, Val};
-use rg_names::Book;
 
 /// Some regions.
 #[derive(Drop)]
@@ -84,16 +84,14 @@ fn relabel_object(object: &mut ObjectRow, regions: &Regions, label: Label)
 }
 
 /// Gives all objects of these regions another label.
-pub(crate) fn relabel(book: &Book, store: &mut [ObjectRow], regions: &Regions, label: Label)
-    requires classes { AreOfClasses book.now.program store.old }
+pub(crate) fn relabel(store: &mut [ObjectRow], regions: &Regions, label: Label)
     requires regions { (these : List ℕ) × AreRegions regions.now these }
     ensures relabelled { (these : List ℕ) → AreRegions regions.now these →
         store_of store.new ≡ relabelled these label (store_of store.old) }
-    ensures classes { AreOfClasses book.now.program store.new }
+    ensures classes { (t : Tables) → AreOfClasses t store.old → AreOfClasses t store.new }
     ensures labels { (count : ℕ) → LabelFits count label → LabelsFit count (store_of store.old) →
         LabelsFit count (store_of store.new) }
 {
-    let _ = book;
     for object in store {
         relabel_object(object, regions, label);
     }

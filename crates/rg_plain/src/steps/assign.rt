@@ -1,18 +1,17 @@
 //! The steps of `let`, `x = r` and `q.f = r`, by their right sides (docs/language.md, "Steps").
 
-ghost use Rattle.std.specs.Prelude.{List, false, true, ℕ, ◌≡◌, ◌≢◌, ◌≤◌};
-ghost use Rattle.rg_input.specs.Numbers.{Follows, OnInput};
+ghost use Rattle.std.specs.Prelude.{◌≡◌, ◌≤◌, false, true};
+ghost use Rattle.rg_tree.specs.Rows.RowTrees.{expr_at, right_of, stmt_at};
+ghost use Rattle.rg_tree.specs.Rows.RowsExist.{IsExprNumber, IsRightIn};
+ghost use Rattle.rg_tree.specs.Tree.{stmt, value};
+ghost use Rattle.rg_rules.specs.Inputs.{asks};
 ghost use Rattle.rg_io.specs.Content.{Rose};
+ghost use Rattle.rg_input.specs.Numbers.{Follows, OnInput};
 ghost use Rattle.rg_plain.specs.Fits.{PartsFit};
 ghost use Rattle.rg_plain.specs.Inner.Inputs.{StepOn};
 ghost use Rattle.rg_plain.specs.Inner.Spots.{LeftFits, statement_of};
-ghost use Rattle.rg_plain.specs.Inner.Steps.{IsAt, StepIs};
-ghost use Rattle.rg_plain.specs.Kept.{kept_of, plain_of};
-ghost use Rattle.rg_rules.specs.Inputs.{asks};
-ghost use Rattle.rg_rules.specs.Steps.{next};
-ghost use Rattle.rg_tree.specs.Rows.RowTrees.{classes_of, expr_at, right_of, stmt_at};
-ghost use Rattle.rg_tree.specs.Rows.RowsExist.{IsExprNumber, IsRightIn};
-ghost use Rattle.rg_tree.specs.Tree.{stmt, value};
+ghost use Rattle.rg_plain.specs.Inner.Steps.{IsAt, Makes, Stands};
+ghost use Rattle.rg_plain.specs.Kept.{kept_of};
 
 use crate::state::items::At;
 use crate::state::parts::Parts;
@@ -20,6 +19,7 @@ use crate::steps::call::result_step;
 use crate::steps::input::{more_step, read_step};
 use crate::steps::move_::{Move, move_step};
 use crate::steps::new::{Kind, new_step};
+use crate::steps::refusal::{Refusal, outcome};
 use crate::steps::targets::{Left, aim_of, make_room, put};
 use crate::values::expressions::value;
 use crate::values::uses::spend;
@@ -31,39 +31,26 @@ use rg_tree::Right;
 use std::alloc::Global;
 
 /// Puts the value of an expression where it goes. In `q.f = e`, q is followed and tested first.
-pub(crate) fn value_step(book: &Book, m: &mut Parts, at: At, left: Left, right: u32) -> Outcome
-    requires fit { PartsFit book.now.program m.old }
-    requires at { IsAt book.now.program m.old.items.items at.span at.number }
-    requires tree { stmt_at book.now.program at.number ≡ stmt at.line (
-        statement_of book.now.program left (value (expr_at book.now.program right))) }
+pub(crate) fn value_step(
+    book: &Book,
+    m: &mut Parts,
+    at: At,
+    left: Left,
+    right: u32,
+) -> Result<(), Refusal>
+    requires stands { Stands book.now.program m.old at (statement_of book.now.program left (value
+        (expr_at book.now.program right))) }
     requires left { LeftFits book.now.program left }
     requires there { IsExprNumber book.now.program right }
-    ensures step { (input : List ℕ) → let old = plain_of book.now.program (kept_of m.old) input in
-        StepIs (next (classes_of book.now.program) old) old
-        (plain_of book.now.program (kept_of m.new) input) result }
+    ensures step { Makes book.now.program (kept_of m.old) (kept_of m.new) at.line result }
     ensures fit { PartsFit book.now.program m.new }
-    ensures reads_nothing { result ≢ Outcome.InputFault }
 {
-    let aim = match aim_of(book, m, left) {
-        Ok(aim) => aim,
-        Err(kind) => return Outcome::Trap {
-            kind,
-            line: at.line,
-        },
-    };
-    let v = match value(book, &m.store, &m.frame.locals, right) {
-        Ok(v) => v,
-        Err(kind) => return Outcome::Trap {
-            kind,
-            line: at.line,
-        },
-    };
-    let Ok(()) = make_room(book, m, aim) else {
-        return Outcome::Memory;
-    };
+    let aim = aim_of(book, m, left)?;
+    let v = value(book, &m.store, &m.frame.locals, right)?;
+    make_room(book, m, aim)?;
     spend(book, m, at, right);
     put(book, m, aim, v);
-    Outcome::Running
+    Ok(())
 }
 
 /// Puts the value of a right side where it goes.
@@ -92,27 +79,46 @@ pub(crate) fn right_step<S: Source>(
     ensures fit { PartsFit book.now.program m.new }
 
     ensures follows { Follows numbers.new (S.left source.new) }
-    ensures input_fault { result ≡ Outcome.InputFault → asks (right_of book.now.program right) ≡ true }
+    ensures input_fault { result ≡ Outcome.InputFault → asks (right_of book.now.program right) ≡
+        true }
     ensures fault { result ≡ Outcome.InputFault → Rose (S.faults source.old) (S.faults source.new) }
     ensures never_falls { S.faults source.old ≤ S.faults source.new }
 {
     match right {
-        Right::Expr(e) => value_step(book, m, at, left, e),
-        Right::New { name: class } => { new_step(alloc, book, m, at, left, class, Kind::Plain) }
+        Right::Expr(e) => outcome(value_step(book, m, at, left, e), at.line),
+        Right::New { name: class } => {
+            outcome(
+                new_step(alloc, book, m, at, left, class, Kind::Plain),
+                at.line,
+            )
+        }
         Right::NewTmp { name: class } => {
-            new_step(alloc, book, m, at, left, class, Kind::Temporary)
+            outcome(
+                new_step(alloc, book, m, at, left, class, Kind::Temporary),
+                at.line,
+            )
         }
         Right::NewIso {
             name: class,
             manager,
         } => {
             let kind = Kind::Owner(manager);
-            new_step(alloc, book, m, at, left, class, kind)
+            outcome(new_step(alloc, book, m, at, left, class, kind), at.line)
         }
-        Right::Call(row) => result_step(alloc, book, m, at, left, row),
+        Right::Call(row) => outcome(result_step(alloc, book, m, at, left, row), at.line),
         Right::Read => read_step(book, m, at, left, numbers, source),
         Right::More => more_step(book, m, at, left, numbers, source),
-        Right::Freeze(name) => { move_step(alloc, book, m, at, left, name, Move::Freeze) }
-        Right::Merge(name) => { move_step(alloc, book, m, at, left, name, Move::Merge) }
+        Right::Freeze(name) => {
+            outcome(
+                move_step(alloc, book, m, at, left, name, Move::Freeze),
+                at.line,
+            )
+        }
+        Right::Merge(name) => {
+            outcome(
+                move_step(alloc, book, m, at, left, name, Move::Merge),
+                at.line,
+            )
+        }
     }
 }

@@ -1,32 +1,33 @@
 //! The steps of `enter x as z` and `enter q.f as z`, and of the end of their block
 //! (docs/language.md, "Steps").
 
-ghost use Rattle.std.specs.Prelude.{IfSome, List, OnOk, Some, [], length, slice_get, unwrap_or};
-ghost use Rattle.std.specs.Prelude.{vec_capacity, ℕ, ◌++◌, ◌+◌, ◌<◌, ◌^◌, ◌∷◌, ◌≡◌, ◌≢◌, ◌≤◌};
+ghost use Rattle.std.specs.Prelude.{◌++◌, ◌+◌, ◌<◌, ◌^◌, ◌∷◌, ◌≡◌, ◌≤◌, [], IfSome, List, OnOk};
+ghost use Rattle.std.specs.Prelude.{Some, false, length, slice_get, unwrap_or, vec_capacity, ℕ};
 ghost use Rattle.rg_base.specs.declared.object.Seen.{Seen};
-ghost use Rattle.rg_plain.specs.Fits.{PartsFit};
-ghost use Rattle.rg_plain.specs.Inner.Steps.{IsAt, StepIs};
-ghost use Rattle.rg_plain.specs.Inner.Windows.{BridgeIs, HasWindowRoom, OwnerIs};
-ghost use Rattle.rg_plain.specs.Kept.{ItemsFit, kept_of, plain_of, put_row, shown};
-ghost use Rattle.rg_plain.specs.Regions.{LabelsFit};
-ghost use Rattle.rg_plain.specs.Shown.{store_of};
-ghost use Rattle.rg_rules.specs.Items.{LeaveAt};
-ghost use Rattle.rg_rules.specs.Steps.{next, with_window};
-ghost use Rattle.rg_rules.specs.Types.{field_place, fields_of};
-ghost use Rattle.rg_tree.specs.Rows.RowTrees.{block_of, classes_of, path_of, stmt_at};
+ghost use Rattle.rg_tree.specs.Rows.RowTrees.{block_of, classes_of, path_of};
 ghost use Rattle.rg_tree.specs.Rows.RowsExist.{IsBlockIn, IsNameIn, IsPathIn};
 ghost use Rattle.rg_tree.specs.Rows.Tables.{name_at};
-ghost use Rattle.rg_tree.specs.Tree.{enter, stmt};
+ghost use Rattle.rg_tree.specs.Tree.{enter};
+ghost use Rattle.rg_rules.specs.Items.{LeaveAt};
+ghost use Rattle.rg_rules.specs.Steps.{with_window};
+ghost use Rattle.rg_rules.specs.Types.{field_place, fields_of};
+ghost use Rattle.rg_plain.specs.Fits.{PartsFit};
+ghost use Rattle.rg_plain.specs.Inner.Steps.{GoesOn, Makes, Stands};
+ghost use Rattle.rg_plain.specs.Inner.Windows.{BridgeIs, HasWindowRoom, OwnerIs};
+ghost use Rattle.rg_plain.specs.Kept.{ItemsFit, kept_of, plain_of, put_row, shown};
+ghost use Rattle.rg_plain.specs.Outcomes.{first_prints};
+ghost use Rattle.rg_plain.specs.Regions.{LabelsFit};
+ghost use Rattle.rg_plain.specs.Shown.{store_of};
 
-use crate::state::items::{At, advance, after_end, pop_row, put_block};
+use crate::state::items::{At, advance, pop_row, put_block};
 use crate::state::locals::{keep, place, variable};
 use crate::state::objects::{field_value, object_place};
 use crate::state::parts::Parts;
 use crate::state::regions::region;
 use crate::state::rows::{ItemRow, LocalRow, ObjectRow, WindowRow};
-use crate::steps::refusal::{Refusal, ended};
+use crate::steps::refusal::Refusal;
 use crate::values::paths::{Spot, spot_of};
-use rg_base::{Cap, Memory, Outcome, Place, Ty, Val};
+use rg_base::{Cap, Memory, Place, Ty, Val};
 use rg_names::Book;
 use rg_tree::{Path, Span};
 
@@ -48,8 +49,8 @@ pub(crate) struct Bridge {
 fn field_index(book: &Book, class: u32, name: u32) -> u32
     requires class { class < length (classes_of book.now.program) }
     requires name { IsNameIn book.now.program name }
-    ensures { result ≡ unwrap_or
-        (field_place (fields_of (classes_of book.now.program) class) (name_at book.now.program name)) 0 }
+    ensures { result ≡ unwrap_or (field_place (fields_of (classes_of book.now.program) class)
+        (name_at book.now.program name)) 0 }
 {
     match book.field(class, name) {
         Some(field) => field.index,
@@ -96,8 +97,8 @@ fn open_entered(book: &Book, items: &mut Vec<ItemRow>, kept: usize, body: Span)
     requires room { length items.old.items + 2 ≤ vec_capacity items.old }
     requires body { IsBlockIn book.now.program body }
     requires fit { ItemsFit book.now.program items.old.items }
-    ensures shown { shown book.now.program items.new.items ≡ put_row book.now.program (ItemRow.Rest body)
-        (LeaveAt kept ∷ shown book.now.program items.old.items) }
+    ensures shown { shown book.now.program items.new.items ≡ put_row book.now.program (ItemRow.Rest
+        body) (LeaveAt kept ∷ shown book.now.program items.old.items) }
     ensures fit { ItemsFit book.now.program items.new.items }
 {
     items.push_reserved(ItemRow::LeaveAt(kept));
@@ -185,62 +186,43 @@ pub(crate) fn enter_step(
     path: Path,
     name: u32,
     body: Span,
-) -> Outcome
-    requires fit { PartsFit book.now.program m.old }
-    requires at { IsAt book.now.program m.old.items.items at.span at.number }
-    requires tree { stmt_at book.now.program at.number ≡ stmt at.line (enter
-        (path_of book.now.program path) (name_at book.now.program name) (block_of book.now.program body)) }
+) -> Result<(), Refusal>
+    requires stands { Stands book.now.program m.old at (enter (path_of book.now.program path)
+        (name_at book.now.program name) (block_of book.now.program body)) }
     requires path { IsPathIn book.now.program path }
     requires name { IsNameIn book.now.program name }
     requires body { IsBlockIn book.now.program body }
-    ensures step { (input : List ℕ) → let old = plain_of book.now.program (kept_of m.old) input in
-        StepIs (next (classes_of book.now.program) old) old
-        (plain_of book.now.program (kept_of m.new) input) result }
+    ensures step { Makes book.now.program (kept_of m.old) (kept_of m.new) at.line result }
     ensures fit { PartsFit book.now.program m.new }
-    ensures reads_nothing { result ≢ Outcome.InputFault }
 {
-    let owner = match owner_of(book, m, path) {
-        Ok(owner) => owner,
-        Err(refused) => return ended(refused, at.line),
-    };
-    let place = match object_place(&m.store, owner.bridge) {
-        Ok(place) => place,
-        Err(kind) => return Outcome::Trap {
-            kind,
-            line: at.line,
-        },
-    };
+    let owner = owner_of(book, m, path)?;
+    let place = object_place(&m.store, owner.bridge)?;
     let Some(bridge) = bridge_at(&m.store, place) else {
         advance(book, &mut m.items, at.span, at.number);
-        return Outcome::Running;
+        return Ok(());
     };
     if m.windows_made == u64::MAX {
-        return Outcome::Memory;
+        return Err(Refusal::Memory);
     }
-    let Ok(()) = make_window_room(book, m) else {
-        return Outcome::Memory;
-    };
+    make_window_room(book, m)?;
     advance(book, &mut m.items, at.span, at.number);
     open_window(book, m, owner, bridge, name, body);
-    Outcome::Running
+    Ok(())
 }
 
 /// Ends the block of an `enter`: so many variables stay, and its window goes.
-pub(crate) fn leave_step(book: &Book, m: &mut Parts, kept: usize) -> Outcome
+pub(crate) fn leave_step(book: &Book, m: &mut Parts, kept: usize)
     requires top { (below : List ItemRow) ×
         (m.old.items.items ≡ below ++ ItemRow.LeaveAt kept ∷ []) }
     requires fit { PartsFit book.now.program m.old }
-    ensures step { (input : List ℕ) → let old = plain_of book.now.program (kept_of m.old) input in
-        StepIs (next (classes_of book.now.program) old) old
-        (plain_of book.now.program (kept_of m.new) input) result }
+    ensures step { GoesOn book.now.program (kept_of m.old) (kept_of m.new) }
+    ensures quiet { first_prints (shown book.now.program m.old.items.items) ≡ false }
     ensures fit { PartsFit book.now.program m.new }
-    ensures reads_nothing { result ≢ Outcome.InputFault }
 {
     pop_row(book, &mut m.items, ItemRow::LeaveAt(kept));
-    if let Some(window) = m.outer.pop() {
-        m.window = window;
-        keep(book, &mut m.frame.locals, kept);
-        return after_end(book, &m.items);
-    }
-    after_end(book, &m.items)
+    let Some(window) = m.outer.pop() else {
+        return;
+    };
+    m.window = window;
+    keep(book, &mut m.frame.locals, kept);
 }

@@ -1,12 +1,12 @@
 //! The frames of calls (docs/language.md, "Steps").
 
-ghost use Rattle.std.specs.Prelude.{All, IfOk, None, length, map, slice_get, unwrap_or};
-ghost use Rattle.std.specs.Prelude.{vec_capacity, ◌++◌, ◌+◌, ◌<◌, ◌≡◌, ◌≤◌};
+ghost use Rattle.std.specs.Prelude.{◌++◌, ◌+◌, ◌<◌, ◌≡◌, ◌≤◌, All, IfOk, None, length, map};
+ghost use Rattle.std.specs.Prelude.{slice_get, unwrap_or, vec_capacity};
+ghost use Rattle.rg_tree.specs.Rows.RowTrees.{classes_of, param_at};
+ghost use Rattle.rg_rules.specs.RightSides.{bound, called_frame};
 ghost use Rattle.rg_plain.specs.Inner.Methods.{MethodFits, method_of};
 ghost use Rattle.rg_plain.specs.Kept.{frame_of, kept_frame, target_of};
 ghost use Rattle.rg_plain.specs.Shown.{AreNamed, locals_of};
-ghost use Rattle.rg_rules.specs.RightSides.{bound, called_frame};
-ghost use Rattle.rg_tree.specs.Rows.RowTrees.{classes_of, param_at};
 
 use crate::state::rows::{FrameRow, LocalRow, TargetRow};
 use crate::values::methods::MethodRow;
@@ -31,8 +31,9 @@ fn bind(book: &Book, locals: &mut Vec<LocalRow>, params: &[u32], values: &[Val])
     requires params { All (λ k. k < length book.now.program.params) params.now }
     requires named { AreNamed book.now.program locals.old.items }
     requires room { length locals.old.items + length params.now ≤ vec_capacity locals.old }
-    ensures bound { locals_of book.now.program locals.new.items ≡ locals_of book.now.program locals.old.items
-        ++ bound (classes_of book.now.program) (map (param_at book.now.program) params.now) values.now }
+    ensures bound { locals_of book.now.program locals.new.items ≡ locals_of book.now.program
+        locals.old.items ++ bound (classes_of book.now.program) (map (param_at book.now.program)
+        params.now) values.now }
     ensures named { AreNamed book.now.program locals.new.items }
 {
     for (i, k) in params.iter().enumerate() {

@@ -1,15 +1,15 @@
 //! The steps of `read` and `more` (docs/language.md, "Steps").
 
 ghost use Rattle.std.specs.Prelude.{◌≡◌, ◌≤◌};
-ghost use Rattle.rg_input.specs.Numbers.{Follows, OnInput};
+ghost use Rattle.rg_tree.specs.Rows.RowTrees.{stmt_at};
+ghost use Rattle.rg_tree.specs.Tree.{more, read, stmt};
 ghost use Rattle.rg_io.specs.Content.{Rose};
+ghost use Rattle.rg_input.specs.Numbers.{Follows, OnInput};
 ghost use Rattle.rg_plain.specs.Fits.{PartsFit};
 ghost use Rattle.rg_plain.specs.Inner.Inputs.{StepOn, refused_by};
 ghost use Rattle.rg_plain.specs.Inner.Spots.{LeftFits, statement_of};
 ghost use Rattle.rg_plain.specs.Inner.Steps.{IsAt};
 ghost use Rattle.rg_plain.specs.Kept.{kept_of};
-ghost use Rattle.rg_tree.specs.Rows.RowTrees.{stmt_at};
-ghost use Rattle.rg_tree.specs.Tree.{more, read, stmt};
 
 use crate::state::items::{At, advance};
 use crate::state::parts::Parts;

@@ -1,22 +1,21 @@
 //! The steps of `freeze y` and `merge y` (docs/language.md, "Steps").
 
-ghost use Rattle.std.specs.Prelude.{IfOk, IfSome, List, Some, [], length, slice_get, ℕ, ◌<◌, ◌∷◌};
-ghost use Rattle.std.specs.Prelude.{◌≡◌, ◌≢◌};
+ghost use Rattle.std.specs.Prelude.{◌<◌, ◌∷◌, ◌≡◌, [], IfOk, IfSome, List, Some, length, slice_get};
+ghost use Rattle.std.specs.Prelude.{ℕ};
 ghost use Rattle.rg_base.specs.declared.object.Seen.{Seen};
+ghost use Rattle.rg_tree.specs.Rows.RowTrees.{classes_of};
+ghost use Rattle.rg_tree.specs.Rows.RowsExist.{IsNameIn};
+ghost use Rattle.rg_tree.specs.Rows.Tables.{Tables};
+ghost use Rattle.rg_rules.specs.Regions.{beneath, region_of};
 ghost use Rattle.rg_plain.specs.Fits.{PartsFit};
 ghost use Rattle.rg_plain.specs.Inner.Beneath.{AreMarked, AreRegions};
 ghost use Rattle.rg_plain.specs.Inner.Moves.{HeldIs, carried, label_of, regions_with, right_of};
 ghost use Rattle.rg_plain.specs.Inner.Rooms.{HasRoom};
 ghost use Rattle.rg_plain.specs.Inner.Spots.{AimFits, LeftFits, statement_of};
-ghost use Rattle.rg_plain.specs.Inner.Steps.{IsAt, StepIs};
+ghost use Rattle.rg_plain.specs.Inner.Steps.{Makes, Stands};
 ghost use Rattle.rg_plain.specs.Kept.{kept_of, plain_of};
 ghost use Rattle.rg_plain.specs.Regions.{LabelFits, LabelsFit};
 ghost use Rattle.rg_plain.specs.Shown.{store_of};
-ghost use Rattle.rg_rules.specs.Regions.{beneath, region_of};
-ghost use Rattle.rg_rules.specs.Steps.{next};
-ghost use Rattle.rg_tree.specs.Rows.RowTrees.{classes_of, stmt_at};
-ghost use Rattle.rg_tree.specs.Rows.RowsExist.{IsNameIn};
-ghost use Rattle.rg_tree.specs.Tree.{stmt};
 
 use crate::state::beneath::beneath;
 use crate::state::items::{At, advance};
@@ -25,8 +24,9 @@ use crate::state::objects::object_place;
 use crate::state::parts::Parts;
 use crate::state::regions::{Regions, region, relabel};
 use crate::state::rows::ObjectRow;
+use crate::steps::refusal::Refusal;
 use crate::steps::targets::{Aim, Left, aim_of, make_room, put};
-use rg_base::{Label, Memory, Outcome, Trap, Val};
+use rg_base::{Label, Memory, Trap, Val};
 use rg_names::Book;
 use std::alloc::Global;
 
@@ -105,13 +105,12 @@ fn regions_with(
 }
 
 /// What objects become that are moved.
-fn new_label(book: &Book, m: &Parts, how: Move) -> Label
-    requires fit { PartsFit book.now.program m.now }
-    ensures label { (input : List ℕ) →
-        result ≡ label_of (plain_of book.now.program (kept_of m.now) input).windows how }
+fn new_label(m: &Parts, how: Move) -> Label
+    requires made { m.now.window.region < length m.now.managers.items }
+    ensures label { (t : Tables) (input : List ℕ) →
+        result ≡ label_of (plain_of t (kept_of m.now) input).windows how }
     ensures made { LabelFits (length m.now.managers.items) result }
 {
-    let _ = book;
     match how {
         Move::Freeze => Label::Frozen,
         Move::Merge => Label::Region(m.window.region),
@@ -135,13 +134,12 @@ fn carry(
     requires aim { AimFits book.now.program (length m.old.store.items) aim }
     requires room { HasRoom m.old aim }
     requires name { IsNameIn book.now.program name }
-    ensures carried { (input : List ℕ) (these : List ℕ) → AreRegions regions.now these →
-        plain_of book.now.program (kept_of m.new) input
-        ≡ carried book.now.program aim name (plain_of book.now.program (kept_of m.old) input) these label
-        value }
+    ensures carried { (input : List ℕ) (these : List ℕ) → AreRegions regions.now these → plain_of
+        book.now.program (kept_of m.new) input ≡ carried book.now.program aim name (plain_of
+        book.now.program (kept_of m.old) input) these label value }
     ensures fit { PartsFit book.now.program m.new }
 {
-    relabel(book, &mut m.store, regions, label);
+    relabel(&mut m.store, regions, label);
     set(book, &mut m.frame.locals, Some(name), Val::Nil);
     put(book, m, aim, value);
 }
@@ -155,45 +153,24 @@ pub(crate) fn move_step(
     left: Left,
     name: u32,
     how: Move,
-) -> Outcome
-    requires fit { PartsFit book.now.program m.old }
-    requires at { IsAt book.now.program m.old.items.items at.span at.number }
-    requires tree { stmt_at book.now.program at.number ≡ stmt at.line (
-        statement_of book.now.program left (right_of book.now.program name how)) }
+) -> Result<(), Refusal>
+    requires stands { Stands book.now.program m.old at (statement_of book.now.program left (right_of
+        book.now.program name how)) }
     requires left { LeftFits book.now.program left }
     requires name { IsNameIn book.now.program name }
-    ensures step { (input : List ℕ) → let old = plain_of book.now.program (kept_of m.old) input in
-        StepIs (next (classes_of book.now.program) old) old
-        (plain_of book.now.program (kept_of m.new) input) result }
+    ensures step { Makes book.now.program (kept_of m.old) (kept_of m.new) at.line result }
     ensures fit { PartsFit book.now.program m.new }
-    ensures reads_nothing { result ≢ Outcome.InputFault }
 {
-    let aim = match aim_of(book, m, left) {
-        Ok(aim) => aim,
-        Err(kind) => return Outcome::Trap {
-            kind,
-            line: at.line,
-        },
-    };
-    let held = match value_held(book, m, name) {
-        Ok(held) => held,
-        Err(kind) => return Outcome::Trap {
-            kind,
-            line: at.line,
-        },
-    };
+    let aim = aim_of(book, m, left)?;
+    let held = value_held(book, m, name)?;
     let Some(region) = held.region else {
         advance(book, &mut m.items, at.span, at.number);
-        return Outcome::Running;
+        return Ok(());
     };
-    let Ok(()) = make_room(book, m, aim) else {
-        return Outcome::Memory;
-    };
-    let Ok(regions) = regions_with(alloc, book, m, how, region) else {
-        return Outcome::Memory;
-    };
-    let label = new_label(book, m, how);
+    make_room(book, m, aim)?;
+    let regions = regions_with(alloc, book, m, how, region)?;
+    let label = new_label(m, how);
     advance(book, &mut m.items, at.span, at.number);
     carry(book, m, &regions, label, aim, name, held.value);
-    Outcome::Running
+    Ok(())
 }

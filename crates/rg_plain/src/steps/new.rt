@@ -1,28 +1,27 @@
 //! The steps of `new C`, `new tmp C` and `new iso C in M`. The fields of a new object start as 0,
 //! false and nil (docs/language.md, "Steps").
 
-ghost use Rattle.std.specs.Prelude.{IfOk, List, OnOk, length, map, vec_capacity, ℕ, ◌<◌, ◌≡◌, ◌≢◌};
+ghost use Rattle.std.specs.Prelude.{◌<◌, ◌≡◌, IfOk, List, OnOk, length, map, vec_capacity, ℕ};
+ghost use Rattle.rg_tree.specs.Rows.RowTrees.{classes_of, type_of};
+ghost use Rattle.rg_tree.specs.Rows.RowsExist.{IsNameIn};
+ghost use Rattle.rg_tree.specs.Rows.Tables.{Tables};
+ghost use Rattle.rg_rules.specs.RightSides.{opening_value};
+ghost use Rattle.rg_rules.specs.Types.{fields_of};
 ghost use Rattle.rg_plain.specs.Fits.{PartsFit};
 ghost use Rattle.rg_plain.specs.Inner.Makes.{HasRooms, label_of, managers_with, opened_as};
 ghost use Rattle.rg_plain.specs.Inner.Makes.{right_of, use_with, with_object};
 ghost use Rattle.rg_plain.specs.Inner.Spots.{AimFits, LeftFits, statement_of};
-ghost use Rattle.rg_plain.specs.Inner.Steps.{IsAt, StepIs};
+ghost use Rattle.rg_plain.specs.Inner.Steps.{Makes, Stands};
 ghost use Rattle.rg_plain.specs.Kept.{kept_of, plain_of};
 ghost use Rattle.rg_plain.specs.Regions.{LabelFits};
 ghost use Rattle.rg_plain.specs.Shown.{seen_of};
-ghost use Rattle.rg_rules.specs.RightSides.{opening_value};
-ghost use Rattle.rg_rules.specs.Steps.{next};
-ghost use Rattle.rg_rules.specs.Types.{fields_of};
-ghost use Rattle.rg_tree.specs.Rows.RowTrees.{classes_of, stmt_at, type_of};
-ghost use Rattle.rg_tree.specs.Rows.RowsExist.{IsNameIn};
-ghost use Rattle.rg_tree.specs.Rows.Tables.{Tables};
-ghost use Rattle.rg_tree.specs.Tree.{stmt};
 
 use crate::state::items::{At, advance};
 use crate::state::parts::Parts;
 use crate::state::rows::ObjectRow;
+use crate::steps::refusal::Refusal;
 use crate::steps::targets::{Aim, Left, aim_of, make_room, put};
-use rg_base::{Label, Manager, Memory, Outcome, Val};
+use rg_base::{Label, Manager, Memory, Val};
 use rg_names::Book;
 use rg_tree::{MemberRow, TypeRow};
 use std::alloc::Global;
@@ -39,11 +38,10 @@ pub enum Kind {
 }
 
 /// To what the new object belongs.
-fn label(book: &Book, m: &Parts, kind: Kind) -> Label
-    ensures { (input : List ℕ) → let now = plain_of book.now.program (kept_of m.now) input in
+fn label(m: &Parts, kind: Kind) -> Label
+    ensures { (t : Tables) (input : List ℕ) → let now = plain_of t (kept_of m.now) input in
         result ≡ label_of now.windows now.managers kind }
 {
-    let _ = book;
     match kind {
         Kind::Plain => Label::Region(m.window.region),
         Kind::Temporary => Label::Temp(m.window.number),
@@ -108,39 +106,24 @@ pub(crate) fn new_step(
     left: Left,
     name: u32,
     kind: Kind,
-) -> Outcome
-    requires fit { PartsFit book.now.program m.old }
-    requires at { IsAt book.now.program m.old.items.items at.span at.number }
-    requires tree { stmt_at book.now.program at.number ≡ stmt at.line (
-        statement_of book.now.program left (right_of book.now.program name kind)) }
+) -> Result<(), Refusal>
+    requires stands { Stands book.now.program m.old at (statement_of book.now.program left (right_of
+        book.now.program name kind)) }
     requires left { LeftFits book.now.program left }
     requires name { IsNameIn book.now.program name }
-    ensures step { (input : List ℕ) → let old = plain_of book.now.program (kept_of m.old) input in
-        StepIs (next (classes_of book.now.program) old) old
-        (plain_of book.now.program (kept_of m.new) input) result }
+    ensures step { Makes book.now.program (kept_of m.old) (kept_of m.new) at.line result }
     ensures fit { PartsFit book.now.program m.new }
-    ensures reads_nothing { result ≢ Outcome.InputFault }
 {
-    let aim = match aim_of(book, m, left) {
-        Ok(aim) => aim,
-        Err(kind) => return Outcome::Trap {
-            kind,
-            line: at.line,
-        },
-    };
+    let aim = aim_of(book, m, left)?;
     let Some(class) = book.class_of(name) else {
         advance(book, &mut m.items, at.span, at.number);
-        return Outcome::Running;
+        return Ok(());
     };
-    let Ok(object) = new_object(alloc, book, class, label(book, m, kind)) else {
-        return Outcome::Memory;
-    };
-    let Ok(()) = make_rooms(book, m, aim) else {
-        return Outcome::Memory;
-    };
+    let object = new_object(alloc, book, class, label(m, kind))?;
+    make_rooms(book, m, aim)?;
     advance(book, &mut m.items, at.span, at.number);
     make(book, m, aim, object, kind);
-    Outcome::Running
+    Ok(())
 }
 
 /// The value with which a field of a type starts.
@@ -184,7 +167,8 @@ pub(crate) fn new_object(
     label: Label,
 ) -> Result<ObjectRow, Memory>
     requires class { class < length (classes_of book.now.program) }
-    ensures shown { IfOk result (λ o. seen_of o ≡ opened_as (classes_of book.now.program) class label) }
+    ensures shown { IfOk result (λ o. seen_of o ≡ opened_as (classes_of book.now.program) class
+        label) }
     ensures class { IfOk result (λ o. o.class ≡ class) }
 {
     let fields = opening_fields(alloc, book, class)?;

@@ -1,24 +1,80 @@
-//! Why a step was refused (docs/language.md, "Steps").
+//! Why a step was refused, and what it answers then (docs/language.md, "Steps").
 
-ghost use Rattle.std.specs.Prelude.{◌≡◌};
-ghost use Rattle.rg_plain.specs.Inner.Windows.{ended_by};
+ghost use Rattle.std.specs.Prelude.{◌≡◌, ◌≢◌};
+ghost use Rattle.rg_plain.specs.Inner.Steps.{ended_by, outcome_of, printed_of};
+ghost use Rattle.rg_plain.specs.Outcomes.{PrintsOrStays};
 
-use crate::values::arguments::arguments;
-use rg_base::{Memory, Outcome, Trap};
+use rg_base::{Memory, Outcome, Trap, Val};
+use std::alloc::AllocError;
 
-/// Why there are no arguments.
+/// Why a step was refused.
 #[derive(Clone, Copy)]
 pub(crate) enum Refusal {
     Trap(Trap),
     Memory,
 }
 
+impl From<Trap> for Refusal {
+    ghost use Rattle.rg_plain.specs.declared.steps.refusal.Refusal.{Refusal};
+
+    ghost from_gives = { λ kind r. r ≡ Refusal.Trap kind };
+
+    fn from(kind: Trap) -> Refusal {
+        Refusal::Trap(kind)
+    }
+}
+
+impl From<Memory> for Refusal {
+    ghost use Rattle.rg_plain.specs.declared.steps.refusal.Refusal.{Refusal};
+
+    ghost from_gives = { λ _ r. r ≡ Refusal.Memory };
+
+    fn from(_memory: Memory) -> Refusal {
+        Refusal::Memory
+    }
+}
+
+impl From<AllocError> for Refusal {
+    ghost use Rattle.rg_plain.specs.declared.steps.refusal.Refusal.{Refusal};
+
+    ghost from_gives = { λ _ r. r ≡ Refusal.Memory };
+
+    fn from(_error: AllocError) -> Refusal {
+        Refusal::Memory
+    }
+}
+
 /// How a step ends that was refused.
 pub(crate) fn ended(refused: Refusal, line: u64) -> Outcome
-    ensures { result ≡ ended_by refused line }
+    ensures is { result ≡ ended_by refused line }
+    ensures asks_nothing { result ≢ Outcome.InputFault }
+    ensures prints { PrintsOrStays result }
 {
     match refused {
         Refusal::Trap(kind) => Outcome::Trap { kind, line },
         Refusal::Memory => Outcome::Memory,
+    }
+}
+
+/// What a step answers that prints nothing.
+pub(crate) fn outcome(done: Result<(), Refusal>, line: u64) -> Outcome
+    ensures is { result ≡ outcome_of done line }
+    ensures asks_nothing { result ≢ Outcome.InputFault }
+{
+    match done {
+        Ok(()) => Outcome::Running,
+        Err(refused) => ended(refused, line),
+    }
+}
+
+/// What a step answers that prints a value.
+pub(crate) fn printed(done: Result<Val, Refusal>, line: u64) -> Outcome
+    ensures is { result ≡ printed_of done line }
+    ensures asks_nothing { result ≢ Outcome.InputFault }
+    ensures prints { PrintsOrStays result }
+{
+    match done {
+        Ok(v) => Outcome::Printed(v),
+        Err(refused) => ended(refused, line),
     }
 }

@@ -1,23 +1,24 @@
 //! The ends of methods, with and without a result (docs/language.md, "Steps").
 
-ghost use Rattle.std.specs.Prelude.{IfOk, List, OnErr, [], length, map, vec_capacity, ℕ, ◌++◌, ◌<◌};
-ghost use Rattle.std.specs.Prelude.{◌∷◌, ◌≡◌, ◌≢◌};
+ghost use Rattle.std.specs.Prelude.{◌++◌, ◌<◌, ◌∷◌, ◌≡◌, [], IfOk, List, OnErr, false, length, map};
+ghost use Rattle.std.specs.Prelude.{vec_capacity};
+ghost use Rattle.rg_tree.specs.Rows.RowTrees.{expr_at};
+ghost use Rattle.rg_tree.specs.Rows.RowsExist.{IsExprNumber};
+ghost use Rattle.rg_tree.specs.Tree.{return};
 ghost use Rattle.rg_plain.specs.Fits.{FrameFits, FramesFit, PartsFit, TargetFits};
 ghost use Rattle.rg_plain.specs.Inner.Calls.{TakesFrame, delivered};
-ghost use Rattle.rg_plain.specs.Inner.Steps.{IsAt, StepIs};
-ghost use Rattle.rg_plain.specs.Kept.{kept_frame, kept_of, plain_of};
+ghost use Rattle.rg_plain.specs.Inner.Steps.{GoesOn, Makes, Stands};
+ghost use Rattle.rg_plain.specs.Kept.{kept_frame, kept_of, shown};
+ghost use Rattle.rg_plain.specs.Outcomes.{first_prints};
 ghost use Rattle.rg_plain.specs.Shown.{AreNamed, locals_of};
-ghost use Rattle.rg_rules.specs.Steps.{next};
-ghost use Rattle.rg_tree.specs.Rows.RowTrees.{classes_of, expr_at, stmt_at};
-ghost use Rattle.rg_tree.specs.Rows.RowsExist.{IsExprNumber};
-ghost use Rattle.rg_tree.specs.Tree.{return, stmt};
 
 use crate::state::items::{At, advance, pop_row};
 use crate::state::locals::set;
 use crate::state::parts::Parts;
 use crate::state::rows::{FrameRow, ItemRow, LocalRow, TargetRow};
+use crate::steps::refusal::Refusal;
 use crate::values::expressions::value;
-use rg_base::{Memory, Outcome, Val};
+use rg_base::{Memory, Val};
 use rg_names::Book;
 use std::mem;
 
@@ -65,53 +66,35 @@ fn pop_caller(book: &Book, below: &mut Vec<FrameRow>) -> Result<FrameRow, Memory
 }
 
 /// Ends a method with a result; main goes on.
-pub(crate) fn return_step(book: &Book, m: &mut Parts, at: At, e: u32) -> Outcome
-    requires fit { PartsFit book.now.program m.old }
-    requires at { IsAt book.now.program m.old.items.items at.span at.number }
-    requires tree { stmt_at book.now.program at.number ≡ stmt at.line (return (expr_at book.now.program e)) }
+pub(crate) fn return_step(book: &Book, m: &mut Parts, at: At, e: u32) -> Result<(), Refusal>
+    requires stands { Stands book.now.program m.old at (return (expr_at book.now.program e)) }
     requires there { IsExprNumber book.now.program e }
-    ensures step { (input : List ℕ) → let old = plain_of book.now.program (kept_of m.old) input in
-        StepIs (next (classes_of book.now.program) old) old
-        (plain_of book.now.program (kept_of m.new) input) result }
+    ensures step { Makes book.now.program (kept_of m.old) (kept_of m.new) at.line result }
     ensures fit { PartsFit book.now.program m.new }
-    ensures reads_nothing { result ≢ Outcome.InputFault }
 {
     if m.below.is_empty() {
         advance(book, &mut m.items, at.span, at.number);
-        return Outcome::Running;
+        return Ok(());
     }
-    let v = match value(book, &m.store, &m.frame.locals, e) {
-        Ok(v) => v,
-        Err(kind) => return Outcome::Trap {
-            kind,
-            line: at.line,
-        },
-    };
-    let Ok(caller) = pop_caller(book, &mut m.below) else {
-        return Outcome::Memory;
-    };
+    let v = value(book, &m.store, &m.frame.locals, e)?;
+    let caller = pop_caller(book, &mut m.below)?;
     advance(book, &mut m.items, at.span, at.number);
     let ended = mem::replace(&mut m.frame, caller);
     deliver(book, &mut m.frame.locals, ended.target, v);
-    Outcome::Running
+    Ok(())
 }
 
 /// Ends a method without a result; main goes on.
-pub(crate) fn back_step(book: &Book, m: &mut Parts) -> Outcome
+pub(crate) fn back_step(book: &Book, m: &mut Parts)
     requires top { (below : List ItemRow) × (m.old.items.items ≡ below ++ ItemRow.Back ∷ []) }
     requires fit { PartsFit book.now.program m.old }
-    ensures step { (input : List ℕ) → let old = plain_of book.now.program (kept_of m.old) input in
-        StepIs (next (classes_of book.now.program) old) old
-        (plain_of book.now.program (kept_of m.new) input) result }
+    ensures step { GoesOn book.now.program (kept_of m.old) (kept_of m.new) }
+    ensures quiet { first_prints (shown book.now.program m.old.items.items) ≡ false }
     ensures fit { PartsFit book.now.program m.new }
-    ensures reads_nothing { result ≢ Outcome.InputFault }
 {
     pop_row(book, &mut m.items, ItemRow::Back);
-    match m.below.pop() {
-        Some(caller) => {
-            m.frame = caller;
-            Outcome::Running
-        }
-        None => Outcome::Running,
-    }
+    let Some(caller) = m.below.pop() else {
+        return;
+    };
+    m.frame = caller;
 }

@@ -1,24 +1,23 @@
 //! The step of `swap y, q.f` (docs/language.md, "Steps").
 
-ghost use Rattle.std.specs.Prelude.{List, Some, length, slice_get, ℕ, ◌<◌, ◌≡◌, ◌≢◌};
+ghost use Rattle.std.specs.Prelude.{◌<◌, ◌≡◌, List, Some, length, slice_get, ℕ};
 ghost use Rattle.rg_base.specs.declared.object.Seen.{Seen};
-ghost use Rattle.rg_plain.specs.Fits.{PartsFit};
-ghost use Rattle.rg_plain.specs.Inner.Spots.{exchanged};
-ghost use Rattle.rg_plain.specs.Inner.Steps.{IsAt, StepIs};
-ghost use Rattle.rg_plain.specs.Kept.{kept_of, plain_of};
-ghost use Rattle.rg_rules.specs.Steps.{next};
-ghost use Rattle.rg_tree.specs.Rows.RowTrees.{classes_of, path_of, stmt_at};
+ghost use Rattle.rg_tree.specs.Rows.RowTrees.{path_of};
 ghost use Rattle.rg_tree.specs.Rows.RowsExist.{IsNameIn, IsPathIn};
 ghost use Rattle.rg_tree.specs.Rows.Tables.{name_at};
-ghost use Rattle.rg_tree.specs.Tree.{stmt, swap};
+ghost use Rattle.rg_tree.specs.Tree.{swap};
+ghost use Rattle.rg_plain.specs.Fits.{PartsFit};
+ghost use Rattle.rg_plain.specs.Inner.Spots.{exchanged};
+ghost use Rattle.rg_plain.specs.Inner.Steps.{Makes, Stands};
+ghost use Rattle.rg_plain.specs.Kept.{kept_of, plain_of};
 
 use crate::state::items::{At, advance};
 use crate::state::locals::variable;
 use crate::state::objects::field_value;
 use crate::state::parts::Parts;
+use crate::steps::refusal::Refusal;
 use crate::steps::targets::{Aim, put};
 use crate::values::paths::{Spot, spot_of};
-use rg_base::Outcome;
 use rg_names::Book;
 use rg_tree::Path;
 
@@ -28,10 +27,10 @@ fn exchange(book: &Book, m: &mut Parts, name: u32, place: usize, field: u32)
     requires name { IsNameIn book.now.program name }
     requires there { place < length m.old.store.items }
     requires field { IsNameIn book.now.program field }
-    ensures exchanged { (input : List ℕ) (o : Seen) →
-        let old = plain_of book.now.program (kept_of m.old) input in slice_get old.store place ≡ Some o →
-        plain_of book.now.program (kept_of m.new) input
-        ≡ exchanged book.now.program old (name_at book.now.program name) place o (name_at book.now.program field) }
+    ensures exchanged { (input : List ℕ) (o : Seen) → let old = plain_of book.now.program (kept_of
+        m.old) input in slice_get old.store place ≡ Some o → plain_of book.now.program (kept_of
+        m.new) input ≡ exchanged book.now.program old (name_at book.now.program name) place o
+        (name_at book.now.program field) }
     ensures fit { PartsFit book.now.program m.new }
 {
     let held = field_value(book, &m.store[place], field);
@@ -41,32 +40,27 @@ fn exchange(book: &Book, m: &mut Parts, name: u32, place: usize, field: u32)
 }
 
 /// Exchanges the values of a variable and a field. Without a field nothing changes.
-pub(crate) fn swap_step(book: &Book, m: &mut Parts, at: At, name: u32, path: Path) -> Outcome
-    requires fit { PartsFit book.now.program m.old }
-    requires at { IsAt book.now.program m.old.items.items at.span at.number }
-    requires tree { stmt_at book.now.program at.number ≡ stmt at.line (
-        swap (name_at book.now.program name) (path_of book.now.program path)) }
+pub(crate) fn swap_step(
+    book: &Book,
+    m: &mut Parts,
+    at: At,
+    name: u32,
+    path: Path,
+) -> Result<(), Refusal>
+    requires stands { Stands book.now.program m.old at (swap (name_at book.now.program name)
+        (path_of book.now.program path)) }
     requires name { IsNameIn book.now.program name }
     requires path { IsPathIn book.now.program path }
-    ensures step { (input : List ℕ) → let old = plain_of book.now.program (kept_of m.old) input in
-        StepIs (next (classes_of book.now.program) old) old
-        (plain_of book.now.program (kept_of m.new) input) result }
+    ensures step { Makes book.now.program (kept_of m.old) (kept_of m.new) at.line result }
     ensures fit { PartsFit book.now.program m.new }
-    ensures reads_nothing { result ≢ Outcome.InputFault }
 {
-    let spot = match spot_of(book, &m.store, &m.frame.locals, path) {
-        Ok(spot) => spot,
-        Err(kind) => return Outcome::Trap {
-            kind,
-            line: at.line,
-        },
-    };
+    let spot = spot_of(book, &m.store, &m.frame.locals, path)?;
     advance(book, &mut m.items, at.span, at.number);
     match spot {
-        Spot::Variable(_) => Outcome::Running,
+        Spot::Variable(_) => Ok(()),
         Spot::Field { place, name: field } => {
             exchange(book, m, name, place, field);
-            Outcome::Running
+            Ok(())
         }
     }
 }

@@ -1,10 +1,10 @@
 //! The arguments of calls (docs/language.md, "Steps").
 
-ghost use Rattle.std.specs.Prelude.{All, IfOk, flat_map, map, ◌≡◌};
-ghost use Rattle.rg_plain.specs.Shown.{AreOfClasses, AreNamed, locals_of, store_of};
-ghost use Rattle.rg_rules.specs.Evaluation.{cleared, uses, values_of};
+ghost use Rattle.std.specs.Prelude.{◌≡◌, All, IfOk, flat_map, map};
 ghost use Rattle.rg_tree.specs.Rows.RowTrees.{classes_of, expr_at};
 ghost use Rattle.rg_tree.specs.Rows.RowsExist.{IsExprNumber};
+ghost use Rattle.rg_rules.specs.Evaluation.{cleared, uses, values_of};
+ghost use Rattle.rg_plain.specs.Shown.{AreNamed, AreOfClasses, locals_of, store_of};
 
 use crate::state::rows::{LocalRow, ObjectRow};
 use crate::steps::refusal::Refusal;
@@ -50,8 +50,8 @@ pub(crate) fn arguments(
 pub(crate) fn use_up_all(book: &Book, locals: &mut [LocalRow], args: &[u32])
     requires named { AreNamed book.now.program locals.old }
     requires there { All (IsExprNumber book.now.program) args.now }
-    ensures cleared { let old = locals_of book.now.program locals.old in locals_of book.now.program locals.new
-        ≡ cleared (flat_map (uses old) (map (expr_at book.now.program) args.now)) old }
+    ensures cleared { let old = locals_of book.now.program locals.old in locals_of book.now.program
+        locals.new ≡ cleared (flat_map (uses old) (map (expr_at book.now.program) args.now)) old }
     ensures named { AreNamed book.now.program locals.new }
 {
     for e in args {

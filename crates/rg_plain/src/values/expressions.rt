@@ -1,10 +1,10 @@
 //! What expressions compute to (docs/language.md, "Steps").
 
 ghost use Rattle.std.specs.Prelude.{◌≡◌};
-ghost use Rattle.rg_plain.specs.Shown.{AreOfClasses, AreNamed, locals_of, store_of};
-ghost use Rattle.rg_rules.specs.Evaluation.{value_of};
 ghost use Rattle.rg_tree.specs.Rows.RowTrees.{classes_of, expr_at};
 ghost use Rattle.rg_tree.specs.Rows.RowsExist.{IsExprNumber};
+ghost use Rattle.rg_rules.specs.Evaluation.{value_of};
+ghost use Rattle.rg_plain.specs.Shown.{AreNamed, AreOfClasses, locals_of, store_of};
 
 use crate::state::objects::path_value;
 use crate::state::rows::{LocalRow, ObjectRow};

@@ -1,11 +1,11 @@
 //! Methods by name. A class has at most 64 fields and 64 methods, so that no search is longer
 //! (docs/language.md, "Steps").
 
-ghost use Rattle.std.specs.Prelude.{length, ◌<◌};
-ghost use Rattle.rg_plain.specs.Inner.Methods.{MemberIs, MethodIs};
+ghost use Rattle.std.specs.Prelude.{◌<◌, length};
 ghost use Rattle.rg_tree.specs.Rows.RowTrees.{classes_of, member_at};
 ghost use Rattle.rg_tree.specs.Rows.RowsExist.{IsNameIn};
 ghost use Rattle.rg_tree.specs.Rows.Tables.{name_at};
+ghost use Rattle.rg_plain.specs.Inner.Methods.{MemberIs, MethodIs};
 
 use rg_base::Cap;
 use rg_names::Book;
@@ -26,8 +26,8 @@ pub struct MethodRow {
 fn as_method(book: &Book, member: u32, name: u32) -> Option<MethodRow>
     requires member { member < length book.now.program.members }
     requires name { IsNameIn book.now.program name }
-    ensures { MemberIs book.now.program (name_at book.now.program name) (member_at book.now.program member)
-        result }
+    ensures { MemberIs book.now.program (name_at book.now.program name) (member_at book.now.program
+        member) result }
 {
     match book.member(member) {
         MemberRow::Field { .. } => None,

@@ -1,10 +1,10 @@
 //! Operators on values (docs/language.md, "Steps"). A value of another kind than is needed counts
 //! as 0, `false` or nil.
 
-ghost use Rattle.std.specs.Prelude.{int_div, int_rem, neg_ℤ, ◌*ℤ◌, ◌+ℤ◌, ◌-ℤ◌, ◌≡◌};
-ghost use Rattle.rg_plain.specs.Inner.Overflow.{unless_overflow};
+ghost use Rattle.std.specs.Prelude.{◌*ℤ◌, ◌+ℤ◌, ◌-ℤ◌, ◌≡◌, int_div, int_rem, neg_ℤ};
 ghost use Rattle.rg_rules.specs.Values.{as_bool, as_int, decides, divided, is_nil_value};
 ghost use Rattle.rg_rules.specs.Values.{number_value, operate, same_value};
+ghost use Rattle.rg_plain.specs.Inner.Overflow.{unless_overflow};
 
 use rg_base::{Trap, Val};
 use rg_tree::BinOp;

@@ -1,14 +1,13 @@
 //! What a path leads to: a variable or a field, its object, and whose method a call is of
 //! (docs/language.md, "Steps").
 
-ghost use Rattle.std.specs.Prelude.{All, IfOk, length, map, take, ◌-◌, ◌<◌, ◌≡◌};
-ghost use Rattle.rg_plain.specs.Inner.Calls.{holder_of, receiver_of, tested};
-ghost use Rattle.rg_plain.specs.Inner.Spots.{ReceiverIs, SpotIs};
-ghost use Rattle.rg_plain.specs.Shown.{AreOfClasses, AreNamed, locals_of, store_of};
-ghost use Rattle.rg_rules.specs.Evaluation.{follow_fields};
+ghost use Rattle.std.specs.Prelude.{◌-◌, ◌<◌, ◌≡◌, All, IfOk, length, map};
 ghost use Rattle.rg_tree.specs.Rows.RowTrees.{classes_of, path_of};
 ghost use Rattle.rg_tree.specs.Rows.RowsExist.{IsNameIn, IsPathIn};
-ghost use Rattle.rg_tree.specs.Rows.Tables.{name_at, numbers_in};
+ghost use Rattle.rg_tree.specs.Rows.Tables.{name_at};
+ghost use Rattle.rg_plain.specs.Inner.Calls.{receiver_of};
+ghost use Rattle.rg_plain.specs.Inner.Spots.{ReceiverIs, SpotIs};
+ghost use Rattle.rg_plain.specs.Shown.{AreNamed, AreOfClasses, locals_of, store_of};
 
 use crate::state::locals::variable;
 use crate::state::objects::{follow, object_place, path_value};
@@ -16,48 +15,6 @@ use crate::state::rows::{LocalRow, ObjectRow};
 use rg_base::{Trap, Val};
 use rg_names::Book;
 use rg_tree::Path;
-
-/// The value behind all fields but the last.
-fn front_value(book: &Book, store: &[ObjectRow], from: Val, fields: &[u32]) -> Result<Val, Trap>
-    requires objects { AreOfClasses book.now.program store.now }
-    requires names { All (IsNameIn book.now.program) fields.now }
-    requires fields { 0 < length fields.now }
-    ensures { result ≡ follow_fields (classes_of book.now.program) (store_of store.now) from
-        (map (name_at book.now.program) (take (length fields.now - 1) fields.now)) }
-{
-    follow(book, store, from, &fields[..fields.len() - 1])
-}
-
-/// A reference, where it leads to an object.
-fn object_reference(store: &[ObjectRow], value: Val) -> Result<Val, Trap>
-    ensures { result ≡ tested (store_of store.now) value }
-{
-    match object_place(store, value) {
-        Ok(_) => Ok(value),
-        Err(kind) => Err(kind),
-    }
-}
-
-/// The reference to that object: all fields but the last are followed, and it is tested.
-pub(crate) fn holder(
-    book: &Book,
-    store: &[ObjectRow],
-    locals: &[LocalRow],
-    path: Path,
-) -> Result<Val, Trap>
-    requires objects { AreOfClasses book.now.program store.now }
-    requires named { AreNamed book.now.program locals.now }
-    requires path { IsPathIn book.now.program path }
-    requires fields { 0 < length (numbers_in book.now.program path.fields) }
-    ensures { result ≡ holder_of (classes_of book.now.program) (store_of store.now)
-        (locals_of book.now.program locals.now) (path_of book.now.program path) }
-{
-    let from = variable(book, locals, path.base);
-    match front_value(book, store, from, book.order(path.fields)) {
-        Ok(value) => object_reference(store, value),
-        Err(kind) => Err(kind),
-    }
-}
 
 /// The value of `self`, and the number of its class.
 #[derive(Clone, Copy)]

@@ -1,9 +1,9 @@
 //! Types as they are written, as the machine keeps them (docs/language.md, "Steps").
 
 ghost use Rattle.std.specs.Prelude.{◌≡◌};
-ghost use Rattle.rg_rules.specs.Types.{type_of};
 ghost use Rattle.rg_tree.specs.Rows.RowTrees.{classes_of, type_of as written};
 ghost use Rattle.rg_tree.specs.Rows.RowsExist.{IsTypeIn};
+ghost use Rattle.rg_rules.specs.Types.{type_of};
 
 use rg_base::Ty;
 use rg_names::Book;

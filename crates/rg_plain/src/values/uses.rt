@@ -2,13 +2,13 @@
 //! trap, then makes the room that it needs, and then changes the machine, which can't fail.
 
 ghost use Rattle.std.specs.Prelude.{◌≡◌};
+ghost use Rattle.rg_tree.specs.Rows.RowTrees.{expr_at, path_of};
+ghost use Rattle.rg_tree.specs.Rows.RowsExist.{IsExprNumber, IsPathIn};
+ghost use Rattle.rg_rules.specs.Evaluation.{cleared, uses, uses_path};
 ghost use Rattle.rg_plain.specs.Fits.{KeepsRoom, PartsFit, Spends};
 ghost use Rattle.rg_plain.specs.Inner.Steps.{IsAt};
 ghost use Rattle.rg_plain.specs.Kept.{kept_of};
 ghost use Rattle.rg_plain.specs.Shown.{AreNamed, locals_of};
-ghost use Rattle.rg_rules.specs.Evaluation.{cleared, uses, uses_path};
-ghost use Rattle.rg_tree.specs.Rows.RowTrees.{expr_at, path_of};
-ghost use Rattle.rg_tree.specs.Rows.RowsExist.{IsExprNumber, IsPathIn};
 
 use crate::state::items::{At, advance};
 use crate::state::locals::{is_iso, set};
@@ -35,9 +35,9 @@ pub(crate) fn spend(book: &Book, m: &mut Parts, at: At, e: u32)
 fn use_path(book: &Book, locals: &mut [LocalRow], path: Path)
     requires named { AreNamed book.now.program locals.old }
     requires path { IsPathIn book.now.program path }
-    ensures cleared { let old = locals_of book.now.program locals.old in
-        locals_of book.now.program locals.new ≡ cleared
-        (uses_path old (path_of book.now.program path).base (path_of book.now.program path).fields) old }
+    ensures cleared { let old = locals_of book.now.program locals.old in locals_of book.now.program
+        locals.new ≡ cleared (uses_path old (path_of book.now.program path).base (path_of
+        book.now.program path).fields) old }
     ensures named { AreNamed book.now.program locals.new }
 {
     match book.order(path.fields) {
@@ -54,8 +54,8 @@ fn use_path(book: &Book, locals: &mut [LocalRow], path: Path)
 pub(crate) fn use_up(book: &Book, locals: &mut [LocalRow], e: u32)
     requires named { AreNamed book.now.program locals.old }
     requires there { IsExprNumber book.now.program e }
-    ensures cleared { let old = locals_of book.now.program locals.old in
-        locals_of book.now.program locals.new ≡ cleared (uses old (expr_at book.now.program e)) old }
+    ensures cleared { let old = locals_of book.now.program locals.old in locals_of book.now.program
+        locals.new ≡ cleared (uses old (expr_at book.now.program e)) old }
     ensures named { AreNamed book.now.program locals.new }
 {
     match book.expr(e) {

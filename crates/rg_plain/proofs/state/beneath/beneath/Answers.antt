@@ -17,14 +17,16 @@ loop-link-init c =
     let none : c.in-Ok.marks.items ≡ replicate c.args.count false = c.in-Ok.ensures.items_if_clones_equal (λ y h. h) in record {
       count = c.in_ok-mark.ensures.count ∙ ap length none ∙ length-replicate c.args.count false;
       reaches =
-          Reaches-first (classes_of c.args.book.now.program) (store_of c.args.store.now) (listed c.in_ok-led.led.items) c.args.region _ c.mark.new.found
+          Reaches-first (classes_of c.args.book.now.program) (store_of c.args.store.now) (listed c.in_ok-led.led.items) c.args.region _
+          c.mark.new.found
           (λ r. ap (λ q. is_marked q r) none ∙ none-marked c.args.count r) c.in_ok-mark.ensures;
     }
 
 pub mark_led-requires-clause-there : goal.mark_led-requires-clause-there
 mark_led-requires-clause-there c =
     subst (λ (q : List (Vec ℕ Global)). (r : ℕ) → r < length q → All (λ p. p < length q) (listed q r)) (sym c.deref.ensures.value)
-    (links-there (classes_of c.args.book.now.program) (store_of c.args.store.now) c.args.count c.in_ok-led.led.items c.in_ok-led.ensures c.requires.labels)
+    (links-there (classes_of c.args.book.now.program) (store_of c.args.store.now) c.args.count c.in_ok-led.led.items c.in_ok-led.ensures
+    c.requires.labels)
 
 pub loop-link-preserved : goal.loop-link-preserved
 loop-link-preserved c =

@@ -16,7 +16,8 @@ returns-then-from-span-clause-fit c =
     let top = top_is c.args.book.now.program c.args.items.now.items c.requires.at.below c.pop.new.self.items _ (row.Rest c.args.span)
     c.requires.at.top c.args.items.now.ok.0 c.pop.ensures.rest c.requires.at.fit in
     rw c.push_reserved.ensures.items
-    (ItemsFit-push c.args.book.now.program c.pop.new.self.items _ top.front (Rest-shorter c.args.book.now.program c.args.span top.fits c.if-from-span.true))
+    (ItemsFit-push c.args.book.now.program c.pop.new.self.items _ top.front (Rest-shorter c.args.book.now.program c.args.span top.fits
+    c.if-from-span.true))
 
 pub returns-else-from-span-clause-rest : goal.returns-else-from-span-clause-rest
 returns-else-from-span-clause-rest c =

@@ -6,7 +6,8 @@ use Rattle.rg_plain.proofs.state.items.put_block.Goals as goal
 
 pub returns-then-body-clause-shown : goal.returns-then-body-clause-shown
 returns-then-body-clause-shown c =
-    ap (shown c.args.book.now.program) c.push_reserved.ensures.items ∙ shown-push c.args.book.now.program c.args.items.now.items (row.Rest c.args.body)
+    ap (shown c.args.book.now.program) c.push_reserved.ensures.items ∙ shown-push c.args.book.now.program c.args.items.now.items (row.Rest
+    c.args.body)
 
 pub returns-then-body-clause-fit : goal.returns-then-body-clause-fit
 returns-then-body-clause-fit c =

@@ -5,4 +5,5 @@ use Rattle.rg_plain.proofs.state.locals.keep.Goals as goal
 
 pub returns-clause-kept : goal.returns-clause-kept
 returns-clause-kept c =
-    ap (locals_of c.args.book.now.program) c.truncate.ensures.items ∙ sym (take-map (local_of c.args.book.now.program) c.args.kept c.args.locals.now.items)
+    ap (locals_of c.args.book.now.program) c.truncate.ensures.items ∙ sym (take-map (local_of c.args.book.now.program) c.args.kept
+    c.args.locals.now.items)

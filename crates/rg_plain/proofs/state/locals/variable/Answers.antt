@@ -5,7 +5,8 @@ use Rattle.rg_plain.proofs.state.locals.variable.Goals as goal
 
 pub returns-in-Some : goal.returns-in-Some
 returns-in-Some c =
-    value_in-found c.args.book.now.program c.args.locals.now (option_map (name_at c.args.book.now.program) c.args.name) c.place.result (Some c.in-Some.local)
+    value_in-found c.args.book.now.program c.args.locals.now (option_map (name_at c.args.book.now.program) c.args.name) c.place.result (Some
+    c.in-Some.local)
     c.place.ensures (sym c.in-Some.is ∙ c.local_at.ensures)
 
 pub returns-in-None : goal.returns-in-None

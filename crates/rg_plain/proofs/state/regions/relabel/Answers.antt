@@ -15,9 +15,9 @@ returns-clause-relabelled c these are =
     (omega (arith, c.loop-object-test.false)) (c.loop-object.invariant these are)
 
 pub returns-clause-classes : goal.returns-clause-classes
-returns-clause-classes c =
+returns-clause-classes c t all =
     let these = c.requires.regions.0 in
-    relabelled-AreOfClasses c.args.book.now.program these c.args.label c.args.store.now c.loop-object.object-items c.requires.classes
+    relabelled-AreOfClasses t these c.args.label c.args.store.now c.loop-object.object-items all
     (relabelled-all these c.args.label c.args.store.now c.loop-object.object-items c.loop-object.object-index
     (omega (arith, c.loop-object-test.false)) (c.loop-object.invariant these c.requires.regions.1))
 

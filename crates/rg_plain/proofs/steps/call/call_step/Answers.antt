@@ -6,6 +6,7 @@ use Rattle.rg_plain.proofs.steps.call.call_step.Goals as goal
 
 pub returns-clause-step : goal.returns-clause-step
 returns-clause-step c input =
-    let at = c.requires.at in
+    let at = c.requires.stands.at in
     statement-is c.args.book.now.program (kept_of c.args.m.now) (kept_of c.call_named.new.m) input at.rest c.args.at.number c.args.at.line
-    (call (call_of c.args.book.now.program c.args.row)) c.call_named.result at.items c.requires.tree (c.call_named.ensures.called input at.rest at.items)
+    (call (call_of c.args.book.now.program c.args.row)) c.call_named.result at.items c.requires.stands.tree (c.call_named.ensures.called input at.rest
+    at.items)

@@ -1,4 +1,5 @@
 use Rattle.std.proofs.Common.{◌<◌, List, length, ◌∙◌, sym, ap, subst, refl, Some, None}
+use Rattle.std.proofs.lemmas.Result.{err_from_is_err_and}
 use Rattle.rg_rules.specs.State.{State}
 use Rattle.rg_rules.specs.Evaluation.{object_at}
 use Rattle.rg_rules.specs.Steps.{with_window}
@@ -12,53 +13,57 @@ use Rattle.rg_plain.specs.Inner.Windows.{BridgeIs}
 use Rattle.rg_plain.proofs.WindowLemmas.{owner-refused, enter-cut, enter-at, found}
 use Rattle.rg_plain.proofs.steps.enter.enter_step.Goals as goal
 
-pub returns-in-Err-clause-step : goal.returns-in-Err-clause-step
-returns-in-Err-clause-step c input =
+pub returns-in_err-owner-clause-step : goal.returns-in_err-owner-clause-step
+returns-in_err-owner-clause-step c input =
     let t = c.args.book.now.program in
-    owner-refused t (kept_of c.args.m.now) input c.args.at.number c.args.at.line c.args.path (name_at t c.args.name) (block_of t c.args.body)
-    c.in-Err.refused c.requires.at.rest _ c.in-Err.ensures c.requires.at.items c.requires.tree c.ended.ensures
+    let p = err_from_is_err_and c.from_residual.result c.from_residual.ensures.1 in
+    rw (p.1, p.2) (owner-refused t (kept_of c.args.m.now) input c.args.at.number c.args.at.line c.args.path (name_at t c.args.name)
+    (block_of t c.args.body) _ c.requires.stands.at.rest c.in_err-owner.ensures c.requires.stands.at.items c.requires.stands.tree)
 
-pub returns-in-Err-object_place-clause-step : goal.returns-in-Err-object_place-clause-step
-returns-in-Err-object_place-clause-step c input =
+pub returns-in_err-place-clause-step : goal.returns-in_err-place-clause-step
+returns-in_err-place-clause-step c input =
     let t = c.args.book.now.program in
-    let cut = ap (λ q. object_at (store_of q) c.in-Ok.owner.bridge) (sym c.deref.ensures.value) ∙ c.in-Err-object_place.ensures in (
+    let cut = ap (λ q. object_at (store_of q) c.in_ok-owner.owner.bridge) (sym c.deref.ensures.value) ∙ c.in_err-place.ensures in
+    let p = err_from_is_err_and c.from_residual-in_err-place.result c.from_residual-in_err-place.ensures.1 in
+    rw (p.1, p.2) (
       enter-cut t (kept_of c.args.m.now) input c.args.at.number c.args.at.line c.args.path (name_at t c.args.name) (block_of t c.args.body)
-          c.in-Ok.owner c.requires.at.rest _ c.in-Ok.ensures cut c.requires.at.items c.requires.tree,
+          c.in_ok-owner.owner c.requires.stands.at.rest _ c.in_ok-owner.ensures cut c.requires.stands.at.items c.requires.stands.tree,
       refl,
     )
 
 pub returns-in_default-clause-step : goal.returns-in_default-clause-step
 returns-in_default-clause-step c input =
     let t = c.args.book.now.program in
-    let f = found c.args.m.now.store.items c.deref.result.now c.deref-2.result.now c.in-Ok.owner.bridge c.in-Ok-object_place.place
-    c.deref.ensures.value c.deref-2.ensures.value c.in-Ok-object_place.ensures.0 c.in-Ok-object_place.ensures.1 in
+    let f = found c.args.m.now.store.items c.deref.result.now c.deref-2.result.now c.in_ok-owner.owner.bridge c.in_ok-place.place
+    c.deref.ensures.value c.deref-2.ensures.value c.in_ok-place.ensures.0 c.in_ok-place.ensures.1 in
     let none : BridgeIs f.object None = rw c.in_default.is at (c.bridge_at.ensures.bridge f.object f.there) in
     enter-at t (kept_of c.args.m.now) input c.args.at.number c.args.at.line c.args.path (name_at t c.args.name) (block_of t c.args.body)
-    c.in-Ok.owner c.advance.new.items.items f.object _ None _ c.in-Ok.ensures f.at refl none c.advance.ensures.rest c.requires.tree refl
+    c.in_ok-owner.owner c.advance.new.items.items f.object _ None _ c.in_ok-owner.ensures f.at refl none c.advance.ensures.rest
+    c.requires.stands.tree refl
 
 pub returns-clause-step : goal.returns-clause-step
 returns-clause-step c input =
     let t = c.args.book.now.program in
     let k = kept_of c.args.m.now in
-    let w = c.in-Ok.owner in
+    let w = c.in_ok-owner.owner in
     let b = c.in-Some.bridge in
-    let kept = c.in-Ok-make_window_room.ensures.kept in
+    let kept = c.in_ok-make_window_room.ensures.kept in
     let items = c.advance-2.new.items.items in
-    let f = found c.args.m.now.store.items c.deref.result.now c.deref-2.result.now c.in-Ok.owner.bridge c.in-Ok-object_place.place
-    c.deref.ensures.value c.deref-2.ensures.value c.in-Ok-object_place.ensures.0 c.in-Ok-object_place.ensures.1 in
+    let f = found c.args.m.now.store.items c.deref.result.now c.deref-2.result.now c.in_ok-owner.owner.bridge c.in_ok-place.place
+    c.deref.ensures.value c.deref-2.ensures.value c.in_ok-place.ensures.0 c.in_ok-place.ensures.1 in
     let some : BridgeIs f.object (Some b) = c.in-Some.ensures.bridge f.object f.there in
     let new : Kept → State =
     λ q. with_window (plain_of t (record q { items = items }) input) w.place (name_at t c.args.name) (block_of t c.args.body) w.bridge b.class
     (Some b.region) in
     enter-at t k input c.args.at.number c.args.at.line c.args.path (name_at t c.args.name) (block_of t c.args.body)
-    w items f.object b.class (Some b.region) _ c.in-Ok.ensures f.at some.0 some.1
-    (sym (ap (λ (q : Kept). shown t q.items) kept) ∙ c.advance-2.ensures.rest) c.requires.tree
+    w items f.object b.class (Some b.region) _ c.in_ok-owner.ensures f.at some.0 some.1
+    (sym (ap (λ (q : Kept). shown t q.items) kept) ∙ c.advance-2.ensures.rest) c.requires.stands.tree
     (c.open_window.ensures.opened input ∙ ap new kept)
 
 pub open_window-requires-clause-region : goal.open_window-requires-clause-region
 open_window-requires-clause-region c =
     let m = c.args.m.now in
     let count = length m.managers.items in
-    let fits = subst (λ (q : List ObjectRow). LabelsFit count (store_of q)) (sym c.deref-2.ensures.value) c.requires.fit.regions.labels in
-    subst (λ (q : Kept). c.in-Some.bridge.region < length q.managers) (sym c.in-Ok-make_window_room.ensures.kept)
+    let fits = subst (λ (q : List ObjectRow). LabelsFit count (store_of q)) (sym c.deref-2.ensures.value) c.requires.stands.fit.regions.labels in
+    subst (λ (q : Kept). c.in-Some.bridge.region < length q.managers) (sym c.in_ok-make_window_room.ensures.kept)
     (c.in-Some.ensures.region count fits)

@@ -3,8 +3,8 @@ use Rattle.rg_plain.specs.Shown.{store_of}
 use Rattle.rg_plain.proofs.FitLemmas.{RegionsFit-left}
 use Rattle.rg_plain.proofs.steps.enter.leave_step.Goals as goal
 
-pub returns-in-Some-clause-fit : goal.returns-in-Some-clause-fit
-returns-in-Some-clause-fit c =
+pub returns-clause-fit : goal.returns-clause-fit
+returns-clause-fit c =
     let m = c.args.m.now in
     let fits = c.requires.fit in record {
       objects = fits.objects;

@@ -6,7 +6,8 @@ use Rattle.rg_plain.proofs.steps.frames.bind.Given as goal
 
 abbrev pub invariant-loop-i : goal.invariant-loop-i
 invariant-loop-i l = record {
-  bound : locals_of l.book.program l.locals.items ++ bound (classes_of l.book.program) (map (param_at l.book.program) (drop l.i l.params)) (drop l.i l.values)
+  bound : locals_of l.book.program l.locals.items ++ bound (classes_of l.book.program) (map (param_at l.book.program) (drop l.i l.params)) (drop l.i
+      l.values)
       ≡ locals_of l.book.program l.fn.locals.items ++ bound (classes_of l.book.program) (map (param_at l.book.program) l.params) l.values;
   named : AreNamed l.book.program l.locals.items;
   room : length l.locals.items + (length l.params - l.i) ≤ vec_capacity l.locals;

@@ -21,7 +21,8 @@ put-requires-clause-fit c =
     let count = length m.managers.items in
     let store = with_items_is m.store c.relabel.new.store (c.relabel.auto.store ∙ c.deref_mut.ensures.len) in
     let locals = with_items_is m.frame.locals c.set.new.locals (c.set.auto.locals ∙ c.deref_mut-2.ensures.len) in record {
-      objects = subst (λ (q : List ObjectRow). AreOfClasses t q) (sym store) c.relabel.ensures.classes;
+      objects = subst (λ (q : List ObjectRow). AreOfClasses t q) (sym store)
+          (c.relabel.ensures.classes t (subst (λ (q : List ObjectRow). AreOfClasses t q) (sym c.deref_mut.ensures.value) fits.objects));
       named = subst (λ (q : List LocalRow). AreNamed t q) (sym locals) c.set.ensures.named;
       below = fits.below;
       targets = fits.targets;

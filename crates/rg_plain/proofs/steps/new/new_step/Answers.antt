@@ -13,16 +13,16 @@ use Rattle.rg_plain.proofs.steps.new.new_step.Goals as goal
 
 pub make-requires-clause-class : goal.make-requires-clause-class
 make-requires-clause-class c =
-    rw c.in-Ok-new_object.ensures.class c.in-Some.ensures.within
+    rw c.in_ok-object.ensures.class c.in-Some.ensures.within
 
 pub make-requires-clause-label : goal.make-requires-clause-label
 make-requires-clause-label c =
     let m = c.args.m.now in
     let windows = (plain_of c.args.book.now.program (kept_of m) []).windows in
-    let o = c.in-Ok-new_object.object in
-    let made = label-made c.args.kind m.managers.items windows c.requires.fit.regions.active in
-    let label_is = ap (λ (q : Seen). q.label) c.in-Ok-new_object.ensures.shown ∙ c.label.ensures [] in
-    subst (λ (q : Kept). LabelFits (length (managers_with c.args.kind q.managers)) o.label) (sym c.in-Ok-make_rooms.ensures.kept)
+    let o = c.in_ok-object.object in
+    let made = label-made c.args.kind m.managers.items windows c.requires.stands.fit.regions.active in
+    let label_is = ap (λ (q : Seen). q.label) c.in_ok-object.ensures.shown ∙ c.label.ensures c.args.book.now.program [] in
+    subst (λ (q : Kept). LabelFits (length (managers_with c.args.kind q.managers)) o.label) (sym c.in_ok-make_rooms.ensures.kept)
     (subst (λ (q : Label). LabelFits (length (managers_with c.args.kind m.managers.items)) q) (sym label_is) made)
 
 pub returns-clause-step : goal.returns-clause-step
@@ -30,12 +30,12 @@ returns-clause-step c input =
     let t = c.args.book.now.program in
     let k = kept_of c.args.m.now in
     let items = c.advance-2.new.items.items in
-    let kept = c.in-Ok-make_rooms.ensures.kept in
+    let kept = c.in_ok-make_rooms.ensures.kept in
     let new : Kept → Seen → State =
-    λ q o. use_with t c.in-Ok.aim c.args.kind (with_object (plain_of t (record q { items = items }) input) o) (Obj (length q.store)) in
-    let label_is = c.label.ensures input in
-    made-step t k input c.args.at.number c.args.at.line c.args.left c.args.name c.in-Some.class c.args.kind c.in-Ok.aim items _
-    c.in-Ok.ensures (sym (ap (λ (q : Kept). shown t q.items) kept) ∙ c.advance-2.ensures.rest) c.requires.tree
+    λ q o. use_with t c.in_ok-aim.aim c.args.kind (with_object (plain_of t (record q { items = items }) input) o) (Obj (length q.store)) in
+    let label_is = c.label.ensures t input in
+    made-step t k input c.args.at.number c.args.at.line c.args.left c.args.name c.in-Some.class c.args.kind c.in_ok-aim.aim items _
+    c.in_ok-aim.ensures (sym (ap (λ (q : Kept). shown t q.items) kept) ∙ c.advance-2.ensures.rest) c.requires.stands.tree
     c.in-Some.ensures.is
-    (c.make.ensures.made input ∙ ap (λ q. new q (seen_of c.in-Ok-new_object.object)) kept
-    ∙ ap (new k) (c.in-Ok-new_object.ensures.shown ∙ ap (opened_as (classes_of t) c.in-Some.class) label_is))
+    (c.make.ensures.made input ∙ ap (λ q. new q (seen_of c.in_ok-object.object)) kept
+    ∙ ap (new k) (c.in_ok-object.ensures.shown ∙ ap (opened_as (classes_of t) c.in-Some.class) label_is))

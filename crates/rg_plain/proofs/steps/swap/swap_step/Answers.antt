@@ -8,8 +8,8 @@ returns-in-Field-clause-step c input =
     let t = c.args.book.now.program in
     let k = kept_of c.args.m.now in
     let is = field-spot t c.deref.result.now c.args.m.now.store.items c.deref-2.result.now c.args.m.now.frame.locals.items
-    (path_of t c.args.path) c.in-Ok.spot c.in-Field.place c.in-Field.field c.in-Field.is c.deref.ensures.value c.deref-2.ensures.value
-    c.in-Ok.ensures in
+    (path_of t c.args.path) c.in_ok-spot.spot c.in-Field.place c.in-Field.field c.in-Field.is c.deref.ensures.value c.deref-2.ensures.value
+    c.in_ok-spot.ensures in
     let some = some-at k.store c.in-Field.place is.there in
     swap-step t k input c.args.at.number c.args.at.line c.args.name c.args.path c.in-Field.place c.in-Field.field some.0
-    c.advance.new.items.items _ is some.1 c.advance.ensures.rest c.requires.tree (c.exchange.ensures.exchanged input some.0 some.1)
+    c.advance.new.items.items _ is some.1 c.advance.ensures.rest c.requires.stands.tree (c.exchange.ensures.exchanged input some.0 some.1)

@@ -8,5 +8,6 @@ use Rattle.rg_plain.proofs.values.arguments.arguments.Given as goal
 abbrev pub invariant-loop-e : goal.invariant-loop-e
 invariant-loop-e l =
     values_behind l.values.items
-    (values_of (classes_of l.book.program) (store_of l.store) (locals_of l.book.program l.locals) (map (expr_at l.book.program) (drop l.e-index l.args)))
+    (values_of (classes_of l.book.program) (store_of l.store) (locals_of l.book.program l.locals) (map (expr_at l.book.program) (drop l.e-index
+    l.args)))
     ≡ values_of (classes_of l.book.program) (store_of l.store) (locals_of l.book.program l.locals) (map (expr_at l.book.program) l.args)
