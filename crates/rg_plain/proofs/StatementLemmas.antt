@@ -1,5 +1,5 @@
 -- The step of the statement that comes next.
-use Rattle.std.proofs.Common.{◌≡◌, ℕ, ◌-◌, List, ◌∷◌, Result, sym, ◌∙◌, ap, subst}
+use Rattle.std.proofs.Common.{◌≡◌, ℕ, List, ◌∷◌, Result, sym, ◌∙◌, ap, subst}
 use Rattle.rg_plain.specs.declared.steps.refusal.Refusal.{Refusal}
 use Rattle.rg_tree.specs.Tree.{stmt, StmtKind}
 use Rattle.rg_tree.specs.Rows.Tables.{Tables}

@@ -1,4 +1,4 @@
--- A machine whose rows are a program's, and what changes where a statement has used up its expression.
+-- A machine whose rows are a program's, and what changes where a statement has used up its expression (docs/language.md, "Steps").
 use Rattle.std.specs.Prelude.{◌≡◌, ℕ, ◌≤◌, List, ◌∷◌, All, length, vec_capacity, IfSome}
 use Rattle.rg_tree.specs.Rows.Tables.{Tables}
 use Rattle.rg_tree.specs.Rows.RowTrees.{expr_at, stmt_at}

@@ -1,4 +1,4 @@
--- What joins the private layers of this crate; no clause of a public call cites it.
+-- What joins the private layers of this crate; no clause of a public call cites it (docs/language.md, "Steps").
 pub mod Beneath
 pub mod Calls
 pub mod Inputs

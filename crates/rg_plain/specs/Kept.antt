@@ -1,4 +1,5 @@
--- What the machine keeps, as contracts see it, and the plain state that it stands for. A name, a statement and a class go by their numbers.
+-- What the machine keeps, as contracts see it, and the plain state that it stands for. A name, a statement and a class go by their numbers
+-- (docs/language.md, "Steps").
 use Rattle.std.specs.Prelude.{ℕ, ◌<◌, List, [], ◌∷◌, map, reverse, All, option_map}
 use Rattle.rg_base.specs.declared.object.Seen.{Seen}
 use Rattle.rg_base.specs.declared.value.Val.{Val}

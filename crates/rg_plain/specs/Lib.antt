@@ -1,3 +1,4 @@
+-- What may be cited from above of the machine that never frees, and Inner, which may not (docs/language.md, "Steps").
 pub mod Fits
 pub mod Kept
 pub mod Machine

@@ -1,4 +1,4 @@
--- The machine as contracts see it, and what it must be for a step.
+-- The machine as contracts see it, and what it must be for a step (docs/language.md, "Steps").
 use Rattle.std.specs.Prelude.{◌≡◌, ℕ, ◌<◌, List, [], ◌∷◌, All, length, Option, Some, None}
 use Rattle.rg_tree.specs.Rows.Tables.{Tables}
 use Rattle.rg_tree.specs.Rows.RowTrees.{classes_of, program_of, block_of}

@@ -1,4 +1,4 @@
--- What a whole step answers, exactly, and what stands where.
+-- What a whole step answers, exactly, and what stands where (docs/language.md, "Steps").
 use Rattle.std.specs.Prelude.{◌≡◌, ◌≢◌, ◌⊎◌, Bool as Truth, true, false, if◌then◌else◌, List, [], ◌∷◌, ◌++◌}
 use Rattle.rg_base.specs.declared.outcome.Outcome.{Outcome}
 use Rattle.rg_base.specs.declared.outcome.Outcome.TheVariants as outcome

@@ -1,4 +1,4 @@
--- What the machine reads: the object to which a value leads, and its fields.
+-- What the machine reads: the object to which a value leads, and its fields (docs/language.md, "Steps").
 use Rattle.std.specs.Prelude.{◌≡◌, ℕ, ◌<◌, List, length, Result, Ok, Err}
 use Rattle.rg_base.specs.declared.object.Seen.{Seen}
 use Rattle.rg_base.specs.declared.value.Val.{Val}

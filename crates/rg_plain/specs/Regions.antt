@@ -1,4 +1,4 @@
--- The regions that were made: labels and windows name no others.
+-- The regions that were made: labels and windows name no others (docs/language.md, "Steps").
 use Rattle.std.specs.Prelude.{ℕ, ◌<◌, List, All}
 use Rattle.rg_base.specs.declared.object.Label.{Label}
 use Rattle.rg_base.specs.declared.object.Label.TheVariants.{Region, Temp, Frozen}

@@ -1,4 +1,4 @@
--- What a run answers, has written and leaves, in terms of the machine that never frees.
+-- What a run answers, has written and leaves, in terms of the machine that never frees (docs/language.md, "Steps").
 use Rattle.std.specs.Prelude.{◌≡◌, ℕ, ◌+◌, ◌-◌, ◌<◌, ◌≤◌, true, false, List, Option}
 use Rattle.rg_base.specs.declared.outcome.Ended.{Ended}
 use Rattle.rg_base.specs.declared.outcome.Ended.TheVariants as ended

@@ -1,4 +1,4 @@
--- What the rows of the machine stand for: variables and objects of a plain state. A name's number stands for its bytes.
+-- What the rows of the machine stand for: variables and objects of a plain state. A name's number stands for its bytes (docs/language.md, "Steps").
 use Rattle.std.specs.Prelude.{◌<◌, List, length, map, option_map, All, IfSome}
 use Rattle.rg_base.specs.declared.object.Seen.{Seen}
 use Rattle.rg_tree.specs.Rows.Tables.{Tables, name_at}

@@ -226,10 +226,11 @@ impl PlainMachine {
             (λ before after. RunIs program.now (state_of program.now self.old before) n steps.new
             self.new after (O.taken out.old) (O.taken out.new) result) }
         ensures within { begun result steps.new ≤ n }
-        ensures reads_nothing { OnInput input.old input.new (S.left source.old) (S.left source.new) (λ before after.
-            let start = state_of program.now self.old before in RunIs program.now start n steps.new
-            self.new after (O.taken out.old) (O.taken out.new) result × (NoneAsks program.now start
-            (begun result steps.new) → (input.new ≡ input.old) × (source.new ≡ source.old))) }
+        ensures reads_nothing { OnInput input.old input.new (S.left source.old) (S.left source.new)
+            (λ before after. let start = state_of program.now self.old before in RunIs program.now
+            start n steps.new self.new after (O.taken out.old) (O.taken out.new) result × (NoneAsks
+            program.now start (begun result steps.new) → (input.new ≡ input.old) × (source.new ≡
+            source.old))) }
         ensures fits { Fits program.now self.new }
         ensures follows { Follows input.new (S.left source.new) }
 

@@ -17,13 +17,13 @@ pub(crate) mod targets;
 ghost use Rattle.std.specs.Prelude.{◌++◌, ◌∷◌, ◌≡◌, ◌≢◌, ◌≤◌, [], List, false, length, true, ℕ};
 ghost use Rattle.rg_tree.specs.Rows.RowTrees.{kind_over, stmt_at};
 ghost use Rattle.rg_tree.specs.Rows.RowsExist.{IsKindIn};
-ghost use Rattle.rg_tree.specs.Tree.{collect, stmt};
+ghost use Rattle.rg_tree.specs.Tree.{collect};
 ghost use Rattle.rg_rules.specs.Inputs.{first_asks, kind_asks};
 ghost use Rattle.rg_io.specs.Content.{Rose};
 ghost use Rattle.rg_input.specs.Numbers.{Follows, OnInput};
 ghost use Rattle.rg_plain.specs.Fits.{PartsFit};
 ghost use Rattle.rg_plain.specs.Inner.Inputs.{SettlesOn, StepOn};
-ghost use Rattle.rg_plain.specs.Inner.Steps.{IsAt, Makes, Stands};
+ghost use Rattle.rg_plain.specs.Inner.Steps.{Makes, Stands};
 ghost use Rattle.rg_plain.specs.Kept.{kept_of, shown};
 ghost use Rattle.rg_plain.specs.Outcomes.{EndsMain, LeavesRows, PrintsOrStays, QuietOrPrints};
 ghost use Rattle.rg_plain.specs.Outcomes.{settled_outcome};
@@ -57,10 +57,8 @@ fn kind_step<S: Source>(
     numbers: &mut Numbers,
     source: &mut S,
 ) -> Outcome
-    requires fit { PartsFit book.now.program m.old }
-    requires at { IsAt book.now.program m.old.items.items at.span at.number }
-    requires tree { stmt_at book.now.program at.number
-        ≡ stmt at.line (kind_over book.now.program (stmt_at book.now.program) kind) }
+    requires stands { Stands book.now.program m.old at (kind_over book.now.program (stmt_at
+        book.now.program) kind) }
     requires below { IsKindIn book.now.program (length book.now.program.stmts) kind }
     requires follows { Follows numbers.old (S.left source.old) }
 

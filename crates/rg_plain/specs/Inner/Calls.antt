@@ -1,4 +1,4 @@
--- What a call makes of the machine, and what its end does.
+-- What a call makes of the machine, and what its end does (docs/language.md, "Steps").
 use Rattle.std.specs.Prelude.{◌≡◌, ℕ, List, [], ◌∷◌, ◌++◌, map, flat_map, Some, option_map, Result, Ok}
 use Rattle.rg_base.specs.declared.object.Seen.{Seen}
 use Rattle.rg_base.specs.declared.value.Val.{Val}

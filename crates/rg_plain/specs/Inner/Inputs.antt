@@ -1,4 +1,4 @@
--- Steps that may read the input, of the bytes that are left before and after them.
+-- Steps that may read the input, of the bytes that are left before and after them (docs/language.md, "Steps").
 use Rattle.std.specs.Prelude.{ℕ, List}
 use Rattle.rg_base.specs.declared.outcome.Outcome.{Outcome}
 use Rattle.rg_base.specs.declared.outcome.Outcome.TheVariants as outcome

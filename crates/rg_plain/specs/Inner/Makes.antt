@@ -1,4 +1,4 @@
--- New objects by the numbers of their classes, and the three forms of `new`.
+-- New objects by the numbers of their classes, and the three forms of `new` (docs/language.md, "Steps").
 use Rattle.std.specs.Prelude.{ℕ, ◌<◌, List, [], ◌∷◌, ◌++◌, map, length, vec_capacity}
 use Rattle.rg_base.specs.declared.words.Manager.{Manager}
 use Rattle.rg_base.specs.declared.object.Label.{Label}

@@ -1,4 +1,4 @@
--- Methods by the names of their classes.
+-- Methods by the names of their classes (docs/language.md, "Steps").
 use Rattle.std.specs.Prelude.{◌≡◌, ℕ, Bool as Truth, true, false, bytes_eq, List, length, map, find, filter_map, Option, Some, None, option_map}
 use Rattle.std.specs.Prelude.{IfSome}
 use Rattle.rg_tree.specs.Tree.{Name, Method, Member, field, method}

@@ -1,4 +1,4 @@
--- `freeze y` and `merge y`: the regions that they move, and what stands where.
+-- `freeze y` and `merge y`: the regions that they move, and what stands where (docs/language.md, "Steps").
 use Rattle.std.specs.Prelude.{◌≡◌, ℕ, ◌<◌, List, [], ◌∷◌, length, Some, IfSome, Result, Ok, Err}
 use Rattle.rg_base.specs.declared.object.Label.{Label}
 use Rattle.rg_base.specs.declared.object.Label.TheVariants.{Region, Frozen}

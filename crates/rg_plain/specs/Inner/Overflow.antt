@@ -1,4 +1,4 @@
--- Numbers that may not be of 64 bits.
+-- Numbers that may not be of 64 bits (docs/language.md, "Steps").
 use Rattle.std.specs.Prelude.{ℤ, Option, Some, None, Ok, Err}
 use Rattle.rg_base.specs.declared.value.Val.TheVariants.{Int}
 use Rattle.rg_base.specs.declared.outcome.Trap.TheVariants.{Overflow}

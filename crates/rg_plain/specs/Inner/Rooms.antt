@@ -1,4 +1,4 @@
--- Room that was made before.
+-- Room that was made before (docs/language.md, "Steps").
 use Rattle.std.specs.Prelude.{◌<◌, length, vec_capacity}
 use Rattle.rg_plain.specs.declared.steps.targets.Aim.{Aim}
 use Rattle.rg_plain.specs.declared.steps.targets.Aim.TheVariants as aim

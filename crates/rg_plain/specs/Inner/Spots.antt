@@ -1,4 +1,5 @@
--- What a path with or without fields names: a variable, or a field of an object. And where the value of a right side goes.
+-- What a path with or without fields names: a variable, or a field of an object. And where the value of a right side goes
+-- (docs/language.md, "Steps").
 use Rattle.std.specs.Prelude.{◌≡◌, ℕ, ◌<◌, List, [], ◌∷◌, length, Some, option_map, IfSome, Result, Ok, Err}
 use Rattle.rg_base.specs.declared.object.Seen.{Seen}
 use Rattle.rg_base.specs.declared.value.Val.{Val}

@@ -1,4 +1,4 @@
--- What a step of the machine is: each outcome says what the step of the definition did.
+-- What a step of the machine is: each outcome says what the step of the definition did (docs/language.md, "Steps").
 use Rattle.std.specs.Prelude.{◌≡◌, ℕ, List, [], ◌∷◌, ◌++◌, slice_index, Result, Ok, Err}
 use Rattle.rg_base.specs.declared.outcome.Outcome.{Outcome}
 use Rattle.rg_base.specs.declared.outcome.Outcome.TheVariants as outcome

@@ -1,4 +1,4 @@
--- Where a window's owner stands, and the room that a window needs.
+-- Where a window's owner stands, and the room that a window needs (docs/language.md, "Steps").
 use Rattle.std.specs.Prelude.{◌≡◌, ℕ, ◌+◌, ◌<◌, ◌≤◌, List, length, vec_capacity, Option, Some, None, Result, Ok, Err}
 use Rattle.rg_base.specs.declared.object.Seen.{Seen}
 use Rattle.rg_tree.specs.Tree.{Name, Block, enter}

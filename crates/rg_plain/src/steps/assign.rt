@@ -1,16 +1,16 @@
 //! The steps of `let`, `x = r` and `q.f = r`, by their right sides (docs/language.md, "Steps").
 
 ghost use Rattle.std.specs.Prelude.{◌≡◌, ◌≤◌, false, true};
-ghost use Rattle.rg_tree.specs.Rows.RowTrees.{expr_at, right_of, stmt_at};
+ghost use Rattle.rg_tree.specs.Rows.RowTrees.{expr_at, right_of};
 ghost use Rattle.rg_tree.specs.Rows.RowsExist.{IsExprNumber, IsRightIn};
-ghost use Rattle.rg_tree.specs.Tree.{stmt, value};
+ghost use Rattle.rg_tree.specs.Tree.{value};
 ghost use Rattle.rg_rules.specs.Inputs.{asks};
 ghost use Rattle.rg_io.specs.Content.{Rose};
 ghost use Rattle.rg_input.specs.Numbers.{Follows, OnInput};
 ghost use Rattle.rg_plain.specs.Fits.{PartsFit};
 ghost use Rattle.rg_plain.specs.Inner.Inputs.{StepOn};
 ghost use Rattle.rg_plain.specs.Inner.Spots.{LeftFits, statement_of};
-ghost use Rattle.rg_plain.specs.Inner.Steps.{IsAt, Makes, Stands};
+ghost use Rattle.rg_plain.specs.Inner.Steps.{Makes, Stands};
 ghost use Rattle.rg_plain.specs.Kept.{kept_of};
 
 use crate::state::items::At;
@@ -64,10 +64,8 @@ pub(crate) fn right_step<S: Source>(
     numbers: &mut Numbers,
     source: &mut S,
 ) -> Outcome
-    requires fit { PartsFit book.now.program m.old }
-    requires at { IsAt book.now.program m.old.items.items at.span at.number }
-    requires tree { stmt_at book.now.program at.number ≡
-        stmt at.line (statement_of book.now.program left (right_of book.now.program right)) }
+    requires stands { Stands book.now.program m.old at (statement_of book.now.program left (right_of
+        book.now.program right)) }
     requires left { LeftFits book.now.program left }
     requires right { IsRightIn book.now.program right }
     requires follows { Follows numbers.old (S.left source.old) }

@@ -1,6 +1,6 @@
 //! The steps of `if` and `while`, and of the end of a block (docs/language.md, "Steps").
 
-ghost use Rattle.std.specs.Prelude.{◌++◌, ◌+◌, ◌∷◌, ◌≡◌, [], IfSome, List, Option, false};
+ghost use Rattle.std.specs.Prelude.{◌++◌, ◌∷◌, ◌≡◌, [], IfSome, List, Option, false};
 ghost use Rattle.rg_tree.specs.Rows.RowTrees.{block_of, else_over, expr_at, stmt_at};
 ghost use Rattle.rg_tree.specs.Rows.RowsExist.{IsBlockIn, IsExprNumber};
 ghost use Rattle.rg_tree.specs.Tree.{branch, while};

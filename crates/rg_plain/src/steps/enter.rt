@@ -1,8 +1,8 @@
 //! The steps of `enter x as z` and `enter q.f as z`, and of the end of their block
 //! (docs/language.md, "Steps").
 
-ghost use Rattle.std.specs.Prelude.{◌++◌, ◌+◌, ◌<◌, ◌^◌, ◌∷◌, ◌≡◌, ◌≤◌, [], IfSome, List, OnOk};
-ghost use Rattle.std.specs.Prelude.{Some, false, length, slice_get, unwrap_or, vec_capacity, ℕ};
+ghost use Rattle.std.specs.Prelude.{◌++◌, ◌+◌, ◌<◌, ◌^◌, ◌∷◌, ◌≡◌, ◌≤◌, [], IfSome, List, Some};
+ghost use Rattle.std.specs.Prelude.{false, length, slice_get, unwrap_or, vec_capacity, ℕ};
 ghost use Rattle.rg_base.specs.declared.object.Seen.{Seen};
 ghost use Rattle.rg_tree.specs.Rows.RowTrees.{block_of, classes_of, path_of};
 ghost use Rattle.rg_tree.specs.Rows.RowsExist.{IsBlockIn, IsNameIn, IsPathIn};
@@ -105,26 +105,6 @@ fn open_entered(book: &Book, items: &mut Vec<ItemRow>, kept: usize, body: Span)
     put_block(book, items, body);
 }
 
-/// Makes the room that a window needs.
-fn make_window_room(book: &Book, m: &mut Parts) -> Result<(), Memory>
-    requires fit { PartsFit book.now.program m.old }
-    ensures rooms { OnOk result (HasWindowRoom m.new) }
-    ensures kept { kept_of m.new ≡ kept_of m.old }
-    ensures fit { PartsFit book.now.program m.new }
-{
-    let _ = book;
-    let Ok(()) = m.outer.reserve(1) else {
-        return Err(Memory);
-    };
-    let Ok(()) = m.frame.locals.reserve(1) else {
-        return Err(Memory);
-    };
-    let Ok(()) = m.items.reserve(2) else {
-        return Err(Memory);
-    };
-    Ok(())
-}
-
 /// Opens a window onto a region, with a variable for its bridge and the items of the block.
 fn open_window(book: &Book, m: &mut Parts, owner: Owner, bridge: Bridge, name: u32, body: Span)
     requires fit { PartsFit book.now.program m.old }
@@ -204,7 +184,9 @@ pub(crate) fn enter_step(
     if m.windows_made == u64::MAX {
         return Err(Refusal::Memory);
     }
-    make_window_room(book, m)?;
+    m.outer.reserve(1)?;
+    m.frame.locals.reserve(1)?;
+    m.items.reserve(2)?;
     advance(book, &mut m.items, at.span, at.number);
     open_window(book, m, owner, bridge, name, body);
     Ok(())

@@ -1,14 +1,13 @@
 //! The steps of `read` and `more` (docs/language.md, "Steps").
 
 ghost use Rattle.std.specs.Prelude.{◌≡◌, ◌≤◌};
-ghost use Rattle.rg_tree.specs.Rows.RowTrees.{stmt_at};
-ghost use Rattle.rg_tree.specs.Tree.{more, read, stmt};
+ghost use Rattle.rg_tree.specs.Tree.{more, read};
 ghost use Rattle.rg_io.specs.Content.{Rose};
 ghost use Rattle.rg_input.specs.Numbers.{Follows, OnInput};
 ghost use Rattle.rg_plain.specs.Fits.{PartsFit};
 ghost use Rattle.rg_plain.specs.Inner.Inputs.{StepOn, refused_by};
 ghost use Rattle.rg_plain.specs.Inner.Spots.{LeftFits, statement_of};
-ghost use Rattle.rg_plain.specs.Inner.Steps.{IsAt};
+ghost use Rattle.rg_plain.specs.Inner.Steps.{Stands};
 ghost use Rattle.rg_plain.specs.Kept.{kept_of};
 
 use crate::state::items::{At, advance};
@@ -45,10 +44,7 @@ pub(crate) fn read_step<S: Source>(
     numbers: &mut Numbers,
     source: &mut S,
 ) -> Outcome
-    requires fit { PartsFit book.now.program m.old }
-    requires at { IsAt book.now.program m.old.items.items at.span at.number }
-    requires tree { stmt_at book.now.program at.number ≡
-        stmt at.line (statement_of book.now.program left read) }
+    requires stands { Stands book.now.program m.old at (statement_of book.now.program left read) }
     requires left { LeftFits book.now.program left }
     requires follows { Follows numbers.old (S.left source.old) }
 
@@ -88,10 +84,7 @@ pub(crate) fn more_step<S: Source>(
     numbers: &mut Numbers,
     source: &mut S,
 ) -> Outcome
-    requires fit { PartsFit book.now.program m.old }
-    requires at { IsAt book.now.program m.old.items.items at.span at.number }
-    requires tree { stmt_at book.now.program at.number ≡
-        stmt at.line (statement_of book.now.program left more) }
+    requires stands { Stands book.now.program m.old at (statement_of book.now.program left more) }
     requires left { LeftFits book.now.program left }
     requires follows { Follows numbers.old (S.left source.old) }
 

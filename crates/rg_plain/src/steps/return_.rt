@@ -4,6 +4,7 @@ ghost use Rattle.std.specs.Prelude.{◌++◌, ◌<◌, ◌∷◌, ◌≡◌, [],
 ghost use Rattle.std.specs.Prelude.{vec_capacity};
 ghost use Rattle.rg_tree.specs.Rows.RowTrees.{expr_at};
 ghost use Rattle.rg_tree.specs.Rows.RowsExist.{IsExprNumber};
+ghost use Rattle.rg_tree.specs.Rows.Tables.{Tables};
 ghost use Rattle.rg_tree.specs.Tree.{return};
 ghost use Rattle.rg_plain.specs.Fits.{FrameFits, FramesFit, PartsFit, TargetFits};
 ghost use Rattle.rg_plain.specs.Inner.Calls.{TakesFrame, delivered};
@@ -43,16 +44,14 @@ fn deliver(book: &Book, locals: &mut Vec<LocalRow>, to: TargetRow, v: Val)
 }
 
 /// Takes the topmost frame below, with room for one more variable.
-fn pop_caller(book: &Book, below: &mut Vec<FrameRow>) -> Result<FrameRow, Memory>
+fn pop_caller(below: &mut Vec<FrameRow>) -> Result<FrameRow, Memory>
     requires some { 0 < length below.old.items }
-    requires fit { FramesFit book.now.program below.old.items }
     ensures taken { IfOk result (λ f. TakesFrame below.old.items below.new.items f
-        × FrameFits book.now.program f) }
+        × ((t : Tables) → FramesFit t below.old.items → FrameFits t f)) }
     ensures room { IfOk result (λ f. length f.locals.items < vec_capacity f.locals) }
     ensures kept { OnErr result (map kept_frame below.new.items ≡ map kept_frame below.old.items) }
-    ensures fit { FramesFit book.now.program below.new.items }
+    ensures fit { (t : Tables) → FramesFit t below.old.items → FramesFit t below.new.items }
 {
-    let _ = book;
     let Some(mut caller) = below.pop() else {
         unreachable!();
     };
@@ -77,7 +76,7 @@ pub(crate) fn return_step(book: &Book, m: &mut Parts, at: At, e: u32) -> Result<
         return Ok(());
     }
     let v = value(book, &m.store, &m.frame.locals, e)?;
-    let caller = pop_caller(book, &mut m.below)?;
+    let caller = pop_caller(&mut m.below)?;
     advance(book, &mut m.items, at.span, at.number);
     let ended = mem::replace(&mut m.frame, caller);
     deliver(book, &mut m.frame.locals, ended.target, v);

@@ -1,6 +1,6 @@
 //! Where the value of a right side goes (docs/language.md, "Steps").
 
-ghost use Rattle.std.specs.Prelude.{◌<◌, ◌≡◌, List, OnOk, length, ℕ};
+ghost use Rattle.std.specs.Prelude.{◌≡◌, List, OnOk, length, ℕ};
 ghost use Rattle.rg_plain.specs.Fits.{PartsFit};
 ghost use Rattle.rg_plain.specs.Inner.Rooms.{HasRoom};
 ghost use Rattle.rg_plain.specs.Inner.Spots.{AimFits, AimIs, LeftFits, use_of};

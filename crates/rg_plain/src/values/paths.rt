@@ -1,7 +1,7 @@
 //! What a path leads to: a variable or a field, its object, and whose method a call is of
 //! (docs/language.md, "Steps").
 
-ghost use Rattle.std.specs.Prelude.{◌-◌, ◌<◌, ◌≡◌, All, IfOk, length, map};
+ghost use Rattle.std.specs.Prelude.{◌<◌, ◌≡◌, All, IfOk, length, map};
 ghost use Rattle.rg_tree.specs.Rows.RowTrees.{classes_of, path_of};
 ghost use Rattle.rg_tree.specs.Rows.RowsExist.{IsNameIn, IsPathIn};
 ghost use Rattle.rg_tree.specs.Rows.Tables.{name_at};

@@ -1,5 +1,4 @@
-use Rattle.std.proofs.Common.{Result, Ok, sym, ap, ◌∙◌, subst}
-use Rattle.rg_base.specs.declared.outcome.Trap.{Trap}
+use Rattle.std.proofs.Common.{sym, ap, ◌∙◌, subst}
 use Rattle.rg_tree.specs.Tree.{result_of}
 use Rattle.rg_tree.specs.Rows.RowTrees.{classes_of, call_of}
 use Rattle.rg_rules.specs.State.{State, Target}

@@ -1,4 +1,4 @@
-use Rattle.std.proofs.Common.{◌<◌, List, length, ◌∙◌, sym, ap, subst, refl, Some, None}
+use Rattle.std.proofs.Common.{◌≡◌, List, length, ◌∙◌, sym, ap, subst, refl, Some, None}
 use Rattle.std.proofs.lemmas.Result.{err_from_is_err_and}
 use Rattle.rg_rules.specs.State.{State}
 use Rattle.rg_rules.specs.Evaluation.{object_at}
@@ -47,7 +47,13 @@ returns-clause-step c input =
     let k = kept_of c.args.m.now in
     let w = c.in_ok-owner.owner in
     let b = c.in-Some.bridge in
-    let kept = c.in_ok-make_window_room.ensures.kept in
+    let m = c.args.m.now in
+    let kept : kept_of (record m {
+      outer = c.reserve.new.self;
+      frame = record m.frame { locals = c.reserve-2.new.self };
+      items = c.reserve-3.new.self;
+    })
+    ≡ kept_of m = rw (c.reserve.ensures.items, c.reserve-2.ensures.items, c.reserve-3.ensures.items) refl in
     let items = c.advance-2.new.items.items in
     let f = found c.args.m.now.store.items c.deref.result.now c.deref-2.result.now c.in_ok-owner.owner.bridge c.in_ok-place.place
     c.deref.ensures.value c.deref-2.ensures.value c.in_ok-place.ensures.0 c.in_ok-place.ensures.1 in
@@ -65,5 +71,4 @@ open_window-requires-clause-region c =
     let m = c.args.m.now in
     let count = length m.managers.items in
     let fits = subst (λ (q : List ObjectRow). LabelsFit count (store_of q)) (sym c.deref-2.ensures.value) c.requires.stands.fit.regions.labels in
-    subst (λ (q : Kept). c.in-Some.bridge.region < length q.managers) (sym c.in_ok-make_window_room.ensures.kept)
-    (c.in-Some.ensures.region count fits)
+    c.in-Some.ensures.region count fits

@@ -10,14 +10,14 @@ returns-in-Ok-clause-taken c =
     let now : FrameRow = record { locals = c.reserve.new.self; target = caller.target } in
     let same : kept_frame now ≡ kept_frame caller = rw c.reserve.ensures.items refl in (
       frames-taken c.args.below.now.items c.pop.new.self.items caller now c.in-Some.ensures.items same,
-      frames-last c.args.book.now.program c.args.below.now.items c.pop.new.self.items caller now c.in-Some.ensures.items same c.requires.fit,
+      λ t fit. frames-last t c.args.below.now.items c.pop.new.self.items caller now c.in-Some.ensures.items same fit,
     )
 
 pub returns-in-Err-clause-fit : goal.returns-in-Err-clause-fit
-returns-in-Err-clause-fit c =
+returns-in-Err-clause-fit c t fit =
     let caller = c.in-Some.caller in
     let now : FrameRow = record { locals = c.reserve.new.self; target = caller.target } in
     let same : kept_frame now ≡ kept_frame caller = rw c.reserve.ensures.items refl in
-    frames-back c.args.book.now.program c.pop.new.self.items c.push_reserved.new.self.items now c.push_reserved.ensures.items
-    (frames-front c.args.book.now.program c.args.below.now.items c.pop.new.self.items caller c.in-Some.ensures.items c.requires.fit)
-    (frames-last c.args.book.now.program c.args.below.now.items c.pop.new.self.items caller now c.in-Some.ensures.items same c.requires.fit)
+    frames-back t c.pop.new.self.items c.push_reserved.new.self.items now c.push_reserved.ensures.items
+    (frames-front t c.args.below.now.items c.pop.new.self.items caller c.in-Some.ensures.items fit)
+    (frames-last t c.args.below.now.items c.pop.new.self.items caller now c.in-Some.ensures.items same fit)
