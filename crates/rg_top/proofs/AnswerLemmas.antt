@@ -35,8 +35,8 @@ long-list : (n : ℕ) → (source : List ℕ) × (n < length source)
 long-list n = (replicate (suc n) 0, omega (arith, length-replicate {A = ℕ} (suc n) 0))
 
 -- a file that is too long is read as some source that is
-pub long-settles : (told : Option Told) (c : Command) (left old : Option (List ℕ)) (m : Kept) (still : Type 0) → HasLongFile told (file_of c) SOURCE_BYTES → IsFresh m
-    → still → SettlesFile told c left status.Long old old m still
+pub long-settles : (told : Option Told) (c : Command) (left old : Option (List ℕ)) (m : Kept) (still : Type 0) →
+    HasLongFile told (file_of c) SOURCE_BYTES → IsFresh m → still → SettlesFile told c left status.Long old old m still
 long-settles None c left old m still h fresh quiet = let l = long-list SOURCE_BYTES in inl (l.0, tt, (l.1, (fresh, refl, quiet)))
 long-settles (Some t) c left old m still h fresh quiet = inl (h.0, h.1, (h.2, (fresh, refl, quiet)))
 

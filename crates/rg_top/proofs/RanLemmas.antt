@@ -72,7 +72,8 @@ module _ (file : List ℕ) (n : ℕ) (source : List ℕ) (left : Option (List �
     unread = unread;
   }
 
-  beside_cut : (m : Kept) (still : Type 0) → (NeverAsks (program_of t) input n → still) → IsFresh m → CutOff t (opening (program_of t) input) n k plain_machine rest old new →
+  beside_cut : (m : Kept) (still : Type 0) → (NeverAsks (program_of t) input n → still) → IsFresh m →
+      CutOff t (opening (program_of t) input) n k plain_machine rest old new →
       ForInput left (λ input. CutOffAt (plain file n) source input m old new still)
   beside_cut m still unread fresh h = (
     input,

@@ -51,7 +51,8 @@ if-refused : (o : Option Fault) (f : Fault) (accepted refused : Type 0) → o �
 if-refused None f accepted refused e h = cc
 if-refused (Some g) f accepted refused e h = h
 
-answers-ran : (file : List ℕ) (n : ℕ) (source : List ℕ) (left : Option (List ℕ)) (s : Status) (old new : Option (List ℕ)) (m : Kept) (still : Type 0) →
+answers-ran : (file : List ℕ) (n : ℕ) (source : List ℕ) (left : Option (List ℕ)) (s : Status) (old new : Option (List ℕ)) (m : Kept)
+    (still : Type 0) →
     RanWhole n source left s old new m still → ForInput left (λ input. Answers (run file n) source input s old new m still)
 answers-ran file n source left s old new m still r =
     let t = program_of r.tables in (
@@ -68,7 +69,8 @@ answers-ran file n source left s old new m still r =
       },
     )
 
-answers-beside : (file : List ℕ) (n : ℕ) (source : List ℕ) (left : Option (List ℕ)) (s : Status) (old new : Option (List ℕ)) (m : Kept) (still : Type 0) →
+answers-beside : (file : List ℕ) (n : ℕ) (source : List ℕ) (left : Option (List ℕ)) (s : Status) (old new : Option (List ℕ)) (m : Kept)
+    (still : Type 0) →
     RanBeside n source left s old new m still → ForInput left (λ input. Answers (plain file n) source input s old new m still)
 answers-beside file n source left s old new m still r = (
   r.input,
@@ -118,8 +120,8 @@ answers-stops (fmt file) source left s old new m still r = absurd r
 answers-stops (check file) source left s old new m still r = absurd r
 
 -- a source with a fault is refused
-answers-refused : (c : Command) (source input : List ℕ) (f : Fault) (old new : Option (List ℕ)) (m : Kept) (still : Type 0) → Untouched m old new still →
-    Means source (faulty f) ⊎ IsFaulted c source f → Answers c source input (status.Refused f) old new m still
+answers-refused : (c : Command) (source input : List ℕ) (f : Fault) (old new : Option (List ℕ)) (m : Kept) (still : Type 0) →
+    Untouched m old new still → Means source (faulty f) ⊎ IsFaulted c source f → Answers c source input (status.Refused f) old new m still
 answers-refused c source input f old new m still u (inl h) = record {
   meaning = faulty f;
   means = h;
@@ -224,7 +226,8 @@ no_lie : true ≡ false → ⊥
 no_lie e = cc
 
 -- one of the steps asks
-asked : (t : Tree) (input : List ℕ) (n k : ℕ) (old new : Option (List ℕ)) (still : Type 0) → AsksAfter t input n k old new → NeverAsks t input n → still
+asked : (t : Tree) (input : List ℕ) (n k : ℕ) (old new : Option (List ℕ)) (still : Type 0) → AsksAfter t input n k old new →
+    NeverAsks t input n → still
 asked t input n k old new still asks none = absurd (no_lie (sym asks.asks ∙ none k asks.before))
 
 -- a run that was cut off by the input stands at a whole step
@@ -271,7 +274,8 @@ cut-at (plain file n) source left old new m still h = h
 cut-at (fmt file) source left old new m still h = for-input left _ (λ input. h)
 cut-at (check file) source left old new m still h = for-input left _ (λ input. h)
 
-untouched-or : (c : Command) (source : List ℕ) (left old new : Option (List ℕ)) (m : Kept) (still : Type 0) → Untouched m old new still ⊎ CutOff c source left old new m still →
+untouched-or : (c : Command) (source : List ℕ) (left old new : Option (List ℕ)) (m : Kept) (still : Type 0) →
+    Untouched m old new still ⊎ CutOff c source left old new m still →
     Untouched m old new still ⊎ ForInput left (λ input. CutOffAt c source input m old new still)
 untouched-or c source left old new m still (inl u) = inl u
 untouched-or c source left old new m still (inr h) = inr (cut-at c source left old new m still h)
@@ -284,7 +288,8 @@ cut-of c source left (status.Refused f) old new m still h = inl h.1
 cut-of c source left status.Usage old new m still h = absurd h
 cut-of c source left (status.Trap kind line) old new m still h =
     inr (cut-at c source left old new m still (cut-stops c source left (status.Trap kind line) old new m still h))
-cut-of c source left status.Spent old new m still h = inr (cut-at c source left old new m still (cut-stops c source left status.Spent old new m still h))
+cut-of c source left status.Spent old new m still h =
+    inr (cut-at c source left old new m still (cut-stops c source left status.Spent old new m still h))
 cut-of c source left status.SourceFault old new m still h = absurd h
 cut-of c source left status.InputFault old new m still h = inr (cut-at c source left old new m still (cut-input c source left old new m still h))
 cut-of c source left status.OutputFault old new m still h = untouched-or c source left old new m still h
@@ -296,10 +301,12 @@ pub status-of : (c : Command) (source : List ℕ) (left : Option (List ℕ)) (s 
     Settles c source left s old new m still → ForInput left (λ input. ExpectsStatus c source input s) ⊎ (is_from_outside s ≡ true)
 status-of c source left s old new m still h = go s h (answers-of c source left s old new m still h)
   where
-    expects : (s : Status) → ForInput left (λ input. Answers c source input s old new m still) → ForInput left (λ input. ExpectsStatus c source input s)
+    expects : (s : Status) → ForInput left (λ input. Answers c source input s old new m still) →
+        ForInput left (λ input. ExpectsStatus c source input s)
     expects s (input, is, a) = (input, is, (a.text, (a.meaning, a.means, a.expects)))
 
-    go : (s : Status) → Settles c source left s old new m still → OnTrue (is_answer s) (ForInput left (λ input. Answers c source input s old new m still)) →
+    go : (s : Status) → Settles c source left s old new m still →
+        OnTrue (is_answer s) (ForInput left (λ input. Answers c source input s old new m still)) →
         ForInput left (λ input. ExpectsStatus c source input s) ⊎ (is_from_outside s ≡ true)
     go status.Done h a = inl (expects status.Done a)
     go (status.Refused f) h a = inl (expects (status.Refused f) a)
