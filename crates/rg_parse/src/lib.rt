@@ -6,8 +6,6 @@
 
 mod reader;
 mod rules;
-#[cfg(test)]
-mod tests;
 mod whole;
 
 pub use whole::parse;
