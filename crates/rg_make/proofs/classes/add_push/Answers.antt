@@ -1,0 +1,19 @@
+use Rattle.std.proofs.Common.{[], ◌∷◌, None}
+use Rattle.rg_base.specs.declared.words.Cap.TheVariants as cap
+use Rattle.rg_tree.specs.Tree as tree
+use Rattle.rg_make.specs.Generated as generated
+use Rattle.rg_tree.specs.Rows.RowTrees.{stmt_at}
+use Rattle.rg_make.specs.Inner.Adds.{IsStmtNumber}
+use Rattle.rg_make.proofs.Adding.{adds-none, adds-push, adds-there, adds-over}
+use Rattle.rg_make.proofs.classes.add_push.Goals as goal
+
+pub add_method-requires : goal.add_method-requires
+add_method-requires c =
+    adds-there (c.in_ok-body.ensures _ _ (adds-push (adds-push (adds-push (adds-push (adds-none stmt_at IsStmtNumber _)
+    c.in_ok-make.ensures) c.in_ok-value.ensures) c.in_ok-next.ensures) c.in_ok-head.ensures))
+
+pub returns : goal.returns
+returns c =
+    adds-over (generated.def cap.Mut "push" (generated.takes "v" tree.int ∷ []) None) (c.in_ok-body.ensures _ _ (adds-push (adds-push
+    (adds-push (adds-push (adds-none stmt_at IsStmtNumber _) c.in_ok-make.ensures) c.in_ok-value.ensures) c.in_ok-next.ensures)
+    c.in_ok-head.ensures)) c.in_ok-number.ensures

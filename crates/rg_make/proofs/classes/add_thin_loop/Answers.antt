@@ -1,0 +1,15 @@
+use Rattle.rg_tree.specs.Tree as tree
+use Rattle.rg_make.specs.Generated as generated
+use Rattle.rg_tree.specs.Rows.RowTrees.{stmt_at}
+use Rattle.rg_make.specs.Inner.Adds.{IsStmtNumber}
+use Rattle.rg_make.proofs.Adding.{adds-none, adds-push, adds-there, adds-over}
+use Rattle.rg_make.proofs.classes.add_thin_loop.Goals as goal
+
+pub add_while-requires : goal.add_while-requires
+add_while-requires c =
+    adds-there (c.in_ok-body.ensures _ _ (adds-push (adds-none stmt_at IsStmtNumber _) c.in_ok-step.ensures))
+
+pub returns : goal.returns
+returns c =
+    adds-over (λ b. tree.stmt 1 (tree.while (tree.path (generated.var "go")) b)) (c.in_ok-body.ensures _ _ (adds-push (adds-none stmt_at
+    IsStmtNumber _) c.in_ok-step.ensures)) c.in_ok-number.ensures
