@@ -81,7 +81,8 @@ module _ {B W : Type 0} {at : Tables → W → B} {exists : Tables → W → Typ
       {at2 : Tables → V2 → A2} {exists2 : Tables → V2 → Type 0} {at3 : Tables → V3 → A3} {exists3 : Tables → V3 → Type 0}
       {at4 : Tables → V4 → A4} {exists4 : Tables → V4 → Type 0} (row : V1 → V2 → V3 → V4 → W) (f : A1 → A2 → A3 → A4 → B)
       → ((u : Tables) (v1 : V1) (v2 : V2) (v3 : V3) (v4 : V4) → at u (row v1 v2 v3 v4) ≡ f (at1 u v1) (at2 u v2) (at3 u v3) (at4 u v4))
-      → ((u : Tables) (v1 : V1) (v2 : V2) (v3 : V3) (v4 : V4) → exists1 u v1 → exists2 u v2 → exists3 u v3 → exists4 u v4 → exists u (row v1 v2 v3 v4))
+      → ((u : Tables) (v1 : V1) (v2 : V2) (v3 : V3) (v4 : V4) → exists1 u v1 → exists2 u v2 → exists3 u v3
+      → exists4 u v4 → exists u (row v1 v2 v3 v4))
       → {t u w x y : Tables} {v1 : V1} {v2 : V2} {v3 : V3} {v4 : V4} {a1 : A1} {a2 : A2} {a3 : A3} {a4 : A4} → Adds at1 exists1 t u v1 a1
       → Adds at2 exists2 u w v2 a2 → Adds at3 exists3 w x v3 a3 → Adds at4 exists4 x y v4 a4 → Adds at exists t y (row v1 v2 v3 v4) (f a1 a2 a3 a4)
   adds-four row f e h {v1 = v1} {v2 = v2} {v3 = v3} {v4 = v4} a b c d =

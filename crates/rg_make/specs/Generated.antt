@@ -6,7 +6,8 @@ use Rattle.rg_base.specs.declared.words.Cap.{Cap}
 use Rattle.rg_base.specs.declared.words.Cap.TheVariants as cap
 use Rattle.rg_base.specs.declared.words.Manager.TheVariants as manager
 use Rattle.rg_tree.specs.declared.rows.BinOp.TheVariants as op
-use Rattle.rg_tree.specs.Tree.{Path, Ty, int, bool, ref, Expr, number, boolean, path, is_nil, not, binary, Call, Right, value, new, new_iso, result_of}
+use Rattle.rg_tree.specs.Tree.{Path, Ty, int, bool, ref, Expr, number, boolean, path}
+use Rattle.rg_tree.specs.Tree.{is_nil, not, binary, Call, Right, value, new, new_iso, result_of}
 use Rattle.rg_tree.specs.Tree.{stmt, StmtKind, declare, assign, call, branch, otherwise, while, enter, print, collect, return, Block, empty, then}
 use Rattle.rg_tree.specs.Tree.{Param, Member, field, method, Class, Tree}
 

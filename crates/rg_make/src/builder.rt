@@ -5,10 +5,18 @@
 ghost use Rattle.std.specs.Prelude.{option_map, IfOk, pos, [], ◌∷◌};
 ghost use Rattle.rg_tree.specs.Tree as tree;
 ghost use Rattle.rg_tree.specs.Rows.Tables.{name_at};
-ghost use Rattle.rg_tree.specs.Rows.RowTrees.{path_of, type_of, expr_at, expr_of, call_of, right_of, stmt_at, block_of, param_at, member_at, member_of};
-ghost use Rattle.rg_tree.specs.Rows.RowsExist.{IsNameIn, IsPathIn, IsTypeIn, IsExprNumber, IsCallIn, IsRightIn, IsBlockIn, IsMemberIn};
-ghost use Rattle.rg_make.specs.Inner.Parts.{name_text, fields_tree, path_tree, ty_tree, operand_tree, expr_tree, call_tree, right_tree, kind_tree, param_tree, method_tree};
-ghost use Rattle.rg_make.specs.Inner.Adds.{Adds, AddsBlock, base_of, IsBaseIn, result_of, IsResultIn, IsExprRow, kind_of, IsKindRow, IsStmtNumber, IsParamNumber, IsMemberNumber, names_in, AreNamesIn, exprs_in, AreExprsIn, params_in, AreParamsIn};
+ghost use Rattle.rg_tree.specs.Rows.RowTrees.{path_of, type_of, expr_at, expr_of, call_of};
+ghost use Rattle.rg_tree.specs.Rows.RowTrees.{right_of, stmt_at, block_of, param_at, member_at};
+ghost use Rattle.rg_tree.specs.Rows.RowTrees.{member_of};
+ghost use Rattle.rg_tree.specs.Rows.RowsExist.{IsNameIn, IsPathIn, IsTypeIn, IsExprNumber};
+ghost use Rattle.rg_tree.specs.Rows.RowsExist.{IsCallIn, IsRightIn, IsBlockIn, IsMemberIn};
+ghost use Rattle.rg_make.specs.Inner.Parts.{name_text, fields_tree, path_tree, ty_tree};
+ghost use Rattle.rg_make.specs.Inner.Parts.{operand_tree, expr_tree, call_tree, right_tree};
+ghost use Rattle.rg_make.specs.Inner.Parts.{kind_tree, param_tree, method_tree};
+ghost use Rattle.rg_make.specs.Inner.Adds.{Adds, AddsBlock, base_of, IsBaseIn, result_of};
+ghost use Rattle.rg_make.specs.Inner.Adds.{IsResultIn, IsExprRow, kind_of, IsKindRow, IsStmtNumber};
+ghost use Rattle.rg_make.specs.Inner.Adds.{IsParamNumber, IsMemberNumber, names_in, AreNamesIn};
+ghost use Rattle.rg_make.specs.Inner.Adds.{params_in, AreParamsIn};
 
 use crate::parts::{Expr, Fields, Head, Name, Operand, Path, Right, Stmt, Ty};
 use rg_base::Memory;
@@ -130,12 +138,16 @@ fn add_expr(program: &mut Program, expr: Expr) -> Result<u32, Memory>
         Adds expr_at IsExprNumber program.old program.new n (expr_tree expr)) }
 {
     match expr {
+        Expr::Int(n) => {
+            let number = add_operand(program, Operand::Int(n))?;
+            Ok(number)
+        }
         Expr::Bool(b) => {
             let number = put_expr(program, ExprRow::Bool(b))?;
             Ok(number)
         }
-        Expr::Bare(operand) => {
-            let number = add_operand(program, operand)?;
+        Expr::Path(path) => {
+            let number = add_operand(program, Operand::Path(path))?;
             Ok(number)
         }
         Expr::IsNil(path) => {
@@ -221,9 +233,9 @@ fn kind_row(program: &mut Program, stmt: Stmt) -> Result<StmtKind, Memory>
             })
         }
         Stmt::Call { method } => Ok(StmtKind::Call(call_row(program, method)?)),
-        Stmt::Print(operand) => Ok(StmtKind::Print(add_operand(program, operand)?)),
+        Stmt::Print(path) => Ok(StmtKind::Print(add_expr(program, Expr::Path(path))?)),
         Stmt::Collect => Ok(StmtKind::Collect),
-        Stmt::Return(operand) => Ok(StmtKind::Return(add_operand(program, operand)?)),
+        Stmt::Return(path) => Ok(StmtKind::Return(add_expr(program, Expr::Path(path))?)),
     }
 }
 
@@ -244,6 +256,25 @@ pub fn add_stmt(program: &mut Program, stmt: Stmt) -> Result<u32, Memory>
 {
     let kind = kind_row(program, stmt)?;
     let number = put_stmt(program, kind)?;
+    Ok(number)
+}
+
+/// Adds `let x: T = e;`.
+pub fn add_let(program: &mut Program, name: Name, ty: Ty, value: Expr) -> Result<u32, Memory>
+    ensures { IfOk result (λ n. Adds stmt_at IsStmtNumber program.old program.new n
+        (tree.stmt 1 (tree.declare (name_text name) (ty_tree ty) (tree.value (expr_tree value))))) }
+{
+    let right = Right::Value(value);
+    let number = add_stmt(program, Stmt::Let { name, ty, right })?;
+    Ok(number)
+}
+
+/// Adds `q = e;`.
+pub fn add_set(program: &mut Program, path: Path, value: Expr) -> Result<u32, Memory>
+    ensures { IfOk result (λ n. Adds stmt_at IsStmtNumber program.old program.new n
+        (tree.stmt 1 (tree.assign (path_tree path) (tree.value (expr_tree value))))) }
+{
+    let number = add_stmt(program, Stmt::Set { path, value })?;
     Ok(number)
 }
 

@@ -7,7 +7,9 @@ ghost use Rattle.rg_tree.specs.Rows.RowTrees.{stmt_at, member_at};
 ghost use Rattle.rg_make.specs.Generated as generated;
 ghost use Rattle.rg_make.specs.Inner.Adds.{Adds, AddsClass, IsStmtNumber, IsMemberNumber};
 
-use crate::builder::{add_block, add_field, add_if, add_method, add_name, add_stmt, add_while};
+use crate::builder::{
+    add_block, add_field, add_if, add_let, add_method, add_name, add_set, add_stmt, add_while,
+};
 use crate::parts::{Expr, Fields, Head, Name, Operand, Path, Right, Stmt, Ty};
 use rg_base::{Cap, Memory};
 use rg_tree::{BinOp, ClassRow, Program};
@@ -116,27 +118,9 @@ fn add_push(program: &mut Program) -> Result<u32, Memory>
         right: Right::New { class: Name::Node },
     };
     let make = add_stmt(program, make)?;
-    let value = add_stmt(
-        program,
-        Stmt::Set {
-            path: N_VALUE,
-            value: Expr::Bare(Operand::Path(V)),
-        },
-    )?;
-    let next = add_stmt(
-        program,
-        Stmt::Set {
-            path: N_NEXT,
-            value: Expr::Bare(Operand::Path(HEAD)),
-        },
-    )?;
-    let head = add_stmt(
-        program,
-        Stmt::Set {
-            path: HEAD,
-            value: Expr::Bare(Operand::Path(N)),
-        },
-    )?;
+    let value = add_set(program, N_VALUE, Expr::Path(V))?;
+    let next = add_set(program, N_NEXT, Expr::Path(HEAD))?;
+    let head = add_set(program, HEAD, Expr::Path(N))?;
     let body = add_block(program, &[make, value, next, head])?;
     let push = Head {
         receiver: Cap::Mut,
@@ -157,36 +141,12 @@ fn add_thin_step(program: &mut Program) -> Result<u32, Memory>
     ensures { IfOk result (λ n. Adds stmt_at IsStmtNumber program.old program.new n
         (stmt 1 generated.thin_step)) }
 {
-    let stop = add_stmt(
-        program,
-        Stmt::Set {
-            path: GO,
-            value: Expr::Bool(false),
-        },
-    )?;
+    let stop = add_set(program, GO, Expr::Bool(false))?;
     let first = add_block(program, &[stop])?;
-    let skip = add_stmt(
-        program,
-        Stmt::Set {
-            path: P_NEXT,
-            value: Expr::Bare(Operand::Path(P_NEXT_NEXT)),
-        },
-    )?;
-    let next = add_stmt(
-        program,
-        Stmt::Set {
-            path: P,
-            value: Expr::Bare(Operand::Path(P_NEXT)),
-        },
-    )?;
-    let go = add_stmt(
-        program,
-        Stmt::Set {
-            path: GO,
-            value: Expr::IsThere(P),
-        },
-    )?;
-    let second = add_block(program, &[skip, next, go])?;
+    let skip = add_set(program, P_NEXT, Expr::Path(P_NEXT_NEXT))?;
+    let step = add_set(program, P, Expr::Path(P_NEXT))?;
+    let go = add_set(program, GO, Expr::IsThere(P))?;
+    let second = add_block(program, &[skip, step, go])?;
     let number = add_if(program, Expr::IsNil(P_NEXT), first, second)?;
     Ok(number)
 }
@@ -198,7 +158,7 @@ fn add_thin_loop(program: &mut Program) -> Result<u32, Memory>
 {
     let step = add_thin_step(program)?;
     let body = add_block(program, &[step])?;
-    let number = add_while(program, Expr::Bare(Operand::Path(GO)), body)?;
+    let number = add_while(program, Expr::Path(GO), body)?;
     Ok(number)
 }
 
@@ -213,22 +173,8 @@ fn add_thin(program: &mut Program) -> Result<u32, Memory>
     ensures { IfOk result (λ n.
         Adds member_at IsMemberNumber program.old program.new n generated.thin) }
 {
-    let first = add_stmt(
-        program,
-        Stmt::Let {
-            name: Name::P,
-            ty: NODE,
-            right: Right::Value(Expr::Bare(Operand::Path(HEAD))),
-        },
-    )?;
-    let go = add_stmt(
-        program,
-        Stmt::Let {
-            name: Name::Go,
-            ty: Ty::Bool,
-            right: Right::Value(Expr::IsThere(P)),
-        },
-    )?;
+    let first = add_let(program, Name::P, NODE, Expr::Path(HEAD))?;
+    let go = add_let(program, Name::Go, Ty::Bool, Expr::IsThere(P))?;
     let steps = add_thin_loop(program)?;
     let body = add_block(program, &[first, go, steps])?;
     let thin = Head {
@@ -251,20 +197,8 @@ fn add_sum_loop(program: &mut Program) -> Result<u32, Memory>
         left: Operand::Path(S),
         right: Operand::Path(P_VALUE),
     };
-    let more = add_stmt(
-        program,
-        Stmt::Set {
-            path: S,
-            value: total,
-        },
-    )?;
-    let next = add_stmt(
-        program,
-        Stmt::Set {
-            path: P,
-            value: Expr::Bare(Operand::Path(P_NEXT)),
-        },
-    )?;
+    let more = add_set(program, S, total)?;
+    let next = add_set(program, P, Expr::Path(P_NEXT))?;
     let body = add_block(program, &[more, next])?;
     let number = add_while(program, Expr::IsThere(P), body)?;
     Ok(number)
@@ -286,24 +220,10 @@ fn add_sum(program: &mut Program) -> Result<u32, Memory>
         cap: Cap::Paused,
         class: Name::Node,
     };
-    let none = add_stmt(
-        program,
-        Stmt::Let {
-            name: Name::S,
-            ty: Ty::Int,
-            right: Right::Value(Expr::Bare(Operand::Int(0))),
-        },
-    )?;
-    let first = add_stmt(
-        program,
-        Stmt::Let {
-            name: Name::P,
-            ty: node,
-            right: Right::Value(Expr::Bare(Operand::Path(HEAD))),
-        },
-    )?;
+    let none = add_let(program, Name::S, Ty::Int, Expr::Int(0))?;
+    let first = add_let(program, Name::P, node, Expr::Path(HEAD))?;
     let steps = add_sum_loop(program)?;
-    let total = add_stmt(program, Stmt::Return(Operand::Path(S)))?;
+    let total = add_stmt(program, Stmt::Return(S))?;
     let body = add_block(program, &[none, first, steps, total])?;
     let sum = Head {
         receiver: Cap::Paused,

@@ -12,8 +12,8 @@ ghost use Rattle.rg_make.specs.Inner.Parts.{name_text, call_tree};
 ghost use Rattle.rg_make.specs.Inner.Adds.{Adds, IsStmtNumber};
 
 use crate::builder::{
-    LIST, add_binary, add_block, add_enter, add_name, add_operand, add_stmt, add_while, path_row,
-    put_expr, put_stmt,
+    LIST, add_binary, add_block, add_enter, add_let, add_name, add_operand, add_set, add_stmt,
+    add_while, path_row, put_expr, put_stmt,
 };
 use crate::parts::{Expr, Fields, Name, Operand, Path, Right, Stmt, Ty};
 use rg_base::{Cap, Manager, Memory};
@@ -113,13 +113,7 @@ fn add_fill(program: &mut Program, n: Numbers) -> Result<u32, Memory>
         left: Operand::Path(I),
         right: Operand::Int(1),
     };
-    let next = add_stmt(
-        program,
-        Stmt::Set {
-            path: I,
-            value: next,
-        },
-    )?;
+    let next = add_set(program, I, next)?;
     let body = add_block(program, &[push, next])?;
     let within = Expr::Binary {
         op: BinOp::Le,
@@ -162,30 +156,18 @@ fn add_inner(program: &mut Program, n: Numbers) -> Result<Span, Memory>
     ensures { IfOk result (λ s. Adds block_of IsBlockIn program.old program.new s
         (generated.inner_block n.size n.step n.start)) }
 {
-    let one = Expr::Bare(Operand::Int(1));
-    let first = Stmt::Let {
-        name: Name::I,
-        ty: Ty::Int,
-        right: Right::Value(one),
-    };
-    let first = add_stmt(program, first)?;
+    let first = add_let(program, Name::I, Ty::Int, Expr::Int(1))?;
     let fill = add_fill(program, n)?;
     let sum_a = add_sum_of(program, Name::A)?;
-    let print_a = add_stmt(program, Stmt::Print(Operand::Path(A)))?;
+    let print_a = add_stmt(program, Stmt::Print(A))?;
     let thin = add_stmt(program, Stmt::Call { method: Name::Thin })?;
     let sum_b = add_sum_of(program, Name::B)?;
-    let print_b = add_stmt(program, Stmt::Print(Operand::Path(B)))?;
+    let print_b = add_stmt(program, Stmt::Print(B))?;
     let collect = add_stmt(program, Stmt::Collect)?;
-    let again = add_stmt(
-        program,
-        Stmt::Set {
-            path: I,
-            value: one,
-        },
-    )?;
+    let again = add_set(program, I, Expr::Int(1))?;
     let refill = add_fill(program, n)?;
     let sum_c = add_sum_of(program, Name::C)?;
-    let print_c = add_stmt(program, Stmt::Print(Operand::Path(C)))?;
+    let print_c = add_stmt(program, Stmt::Print(C))?;
     let numbers = [
         first, fill, sum_a, print_a, thin, sum_b, print_b, collect, again, refill, sum_c, print_c,
     ];

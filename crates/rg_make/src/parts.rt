@@ -106,7 +106,7 @@ pub enum Ty {
     Ref { cap: Cap, class: Name },
 }
 
-/// An operand.
+/// An operand of an operator.
 #[derive(Clone, Copy)]
 pub enum Operand {
     /// `7`
@@ -118,10 +118,12 @@ pub enum Operand {
 /// An expression.
 #[derive(Clone, Copy)]
 pub enum Expr {
+    /// `7`
+    Int(u32),
     /// `false`
     Bool(bool),
-    /// `7` or `x.f`
-    Bare(Operand),
+    /// `x.f`
+    Path(Path),
     /// `x.f is nil`
     IsNil(Path),
     /// `not x.f is nil`
@@ -157,11 +159,11 @@ pub enum Stmt {
     /// `call l.m();`
     Call { method: Name },
     /// `print x;`
-    Print(Operand),
+    Print(Path),
     /// `collect;`
     Collect,
     /// `return x;`
-    Return(Operand),
+    Return(Path),
 }
 
 /// The head of a method: `def mut m(a: T): R`.

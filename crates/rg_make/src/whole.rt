@@ -3,6 +3,7 @@
 ghost use Rattle.std.specs.Prelude.{◌≡◌, ◌≤◌, IfOk};
 ghost use Rattle.rg_tree.specs.Rows.RowTrees.{program_of as tree_of};
 ghost use Rattle.rg_rules.specs.Acceptance.{Accepted};
+ghost use Rattle.rg_make.specs.declared.whole.TheConstants.{MOST_SIZE};
 ghost use Rattle.rg_make.specs.Generated.{generated};
 
 use crate::classes::{add_list_class, add_node_class};
@@ -16,7 +17,7 @@ pub const MOST_SIZE: u32 = 100_000;
 
 /// The generated program of a seed and a size. It is accepted.
 pub fn program_of(alloc: Global, seed: u64, size: u32) -> Result<Program, Memory>
-    requires { size ≤ 100000 }
+    requires { size ≤ MOST_SIZE }
     ensures tree { IfOk result (λ p. tree_of p ≡ generated seed size) }
     ensures accepted { IfOk result (λ p. Accepted (tree_of p)) }
 {

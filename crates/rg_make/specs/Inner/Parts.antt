@@ -16,7 +16,8 @@ use Rattle.rg_make.specs.declared.parts.Right.TheVariants as right_is
 use Rattle.rg_make.specs.declared.parts.Stmt as stmt_part
 use Rattle.rg_make.specs.declared.parts.Stmt.TheVariants as stmt_is
 use Rattle.rg_make.specs.declared.parts.Head as head_part
-use Rattle.rg_tree.specs.Tree.{Name, Path, Ty, int, bool, ref, Expr, number, boolean, path, is_nil, not, binary, Call, Right, value, new, new_iso, result_of}
+use Rattle.rg_tree.specs.Tree.{Name, Path, Ty, int, bool, ref, Expr, number, boolean}
+use Rattle.rg_tree.specs.Tree.{path, is_nil, not, binary, Call, Right, value, new, new_iso, result_of}
 use Rattle.rg_tree.specs.Tree.{StmtKind, declare, assign, call, print, collect, return, Block, Param, Member, method}
 
 -- the text of a name
@@ -64,8 +65,9 @@ operand_tree (operand_is.Path q) = path (path_tree q)
 
 -- an expression
 abbrev pub expr_tree : expr_part.Expr → Expr
+expr_tree (expr_is.Int n) = number (pos n)
 expr_tree (expr_is.Bool b) = boolean b
-expr_tree (expr_is.Bare a) = operand_tree a
+expr_tree (expr_is.Path q) = path (path_tree q)
 expr_tree (expr_is.IsNil q) = is_nil (path_tree q)
 expr_tree (expr_is.IsThere q) = not (is_nil (path_tree q))
 expr_tree (expr_is.Binary op a b) = binary op (operand_tree a) (operand_tree b)
@@ -86,9 +88,9 @@ abbrev pub kind_tree : stmt_part.Stmt → StmtKind
 kind_tree (stmt_is.Let x y r) = declare (name_text x) (ty_tree y) (right_tree r)
 kind_tree (stmt_is.Set q e) = assign (path_tree q) (value (expr_tree e))
 kind_tree (stmt_is.Call m) = call (call_tree m)
-kind_tree (stmt_is.Print a) = print (operand_tree a)
+kind_tree (stmt_is.Print q) = print (path (path_tree q))
 kind_tree stmt_is.Collect = collect
-kind_tree (stmt_is.Return a) = return (operand_tree a)
+kind_tree (stmt_is.Return q) = return (path (path_tree q))
 
 -- the parameters of a method: one number, or none
 abbrev pub param_tree : Option name_part.Name → List Param

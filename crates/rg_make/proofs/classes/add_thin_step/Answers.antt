@@ -10,16 +10,16 @@ pub add_if-requires-clause-first : goal.add_if-requires-clause-first
 add_if-requires-clause-first c =
     adds-there_first (c.in_ok-first.ensures _ _ (adds-push (adds-none stmt_at IsStmtNumber _) c.in_ok-stop.ensures))
     (c.in_ok-second.ensures _ _ (adds-push (adds-push (adds-push (adds-none stmt_at IsStmtNumber _) c.in_ok-skip.ensures)
-    c.in_ok-next.ensures) c.in_ok-go.ensures))
+    c.in_ok-step.ensures) c.in_ok-go.ensures))
 
 pub add_if-requires-clause-second : goal.add_if-requires-clause-second
 add_if-requires-clause-second c =
     adds-there (c.in_ok-second.ensures _ _ (adds-push (adds-push (adds-push (adds-none stmt_at IsStmtNumber _) c.in_ok-skip.ensures)
-    c.in_ok-next.ensures) c.in_ok-go.ensures))
+    c.in_ok-step.ensures) c.in_ok-go.ensures))
 
 pub returns : goal.returns
 returns c =
     adds-over_two (λ a b. tree.stmt 1 (tree.branch (tree.is_nil (generated.of "p" ("next" ∷ []))) a (tree.otherwise b)))
     (c.in_ok-first.ensures _ _ (adds-push (adds-none stmt_at IsStmtNumber _) c.in_ok-stop.ensures)) (c.in_ok-second.ensures _ _ (adds-push
-    (adds-push (adds-push (adds-none stmt_at IsStmtNumber _) c.in_ok-skip.ensures) c.in_ok-next.ensures) c.in_ok-go.ensures))
+    (adds-push (adds-push (adds-none stmt_at IsStmtNumber _) c.in_ok-skip.ensures) c.in_ok-step.ensures) c.in_ok-go.ensures))
     c.in_ok-number.ensures
