@@ -3,10 +3,15 @@ _reggio() {
   local word=${COMP_WORDS[COMP_CWORD]} before=${COMP_WORDS[COMP_CWORD - 1]}
   COMPREPLY=()
   case $COMP_CWORD in
-    1) mapfile -t COMPREPLY < <(compgen -W 'run plain check fmt' -- "$word") ;;
+    1) mapfile -t COMPREPLY < <(compgen -W 'run plain check fmt bulk' -- "$word") ;;
     2)
-      compopt -o filenames
-      mapfile -t COMPREPLY < <(compgen -f -X '!*.rg' -- "$word"; compgen -d -- "$word")
+      case $before in
+        bulk) mapfile -t COMPREPLY < <(compgen -W '1000 10000 100000' -- "$word") ;;
+        *)
+          compopt -o filenames
+          mapfile -t COMPREPLY < <(compgen -f -X '!*.rg' -- "$word"; compgen -d -- "$word")
+          ;;
+      esac
       ;;
     *)
       case ${COMP_WORDS[1]},$before in

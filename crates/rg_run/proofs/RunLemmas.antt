@@ -16,7 +16,8 @@ use Rattle.rg_rules.specs.Acceptance.{Accepted}
 use Rattle.rg_rules.specs.Items.{Item, EndAt, items_of}
 use Rattle.rg_rules.specs.State.{State}
 use Rattle.rg_rules.specs.Steps.{Stepped, Went, Trapped, step_item}
-use Rattle.rg_rules.specs.Runs.{opening, plain, plain_from}
+use Rattle.rg_rules.specs.Runs.{Done, opening, plain, plain_from}
+use Rattle.rg_rules.specs.Texts.{text_of, added}
 use Rattle.rg_input.specs.Numbers.{Pending, OnInput}
 use Rattle.rg_input.proofs.InputLemmas.{OnInput-still, OnInput-map}
 use Rattle.rg_plain.specs.Kept.{shown, items_from}
@@ -70,12 +71,13 @@ not-begun t n b p q k m a left old still is fresh same quiet =
     OnInput-still a a left left (RunsOn t n old old (record { begun = b; plain = q; steps = k }) ended.Memory still) refl refl
     (λ bytes. inl (record { answer_is = refl; fresh = fresh; untouched = refl; unread = quiet }))
 
--- a run is the one of as many steps as it made
+-- a run is the one of as many steps as it made, and where it is done, that one is
 pub record IsRunOf (classes : List Class) (d n made : ℕ) (s : State) : Type 0 where
   pub within : d ≤ n
   pub steps : (plain_from classes n made s).steps ≡ made + d
   pub made_steps : (plain_from classes d made s).steps ≡ made + d
   pub state : (plain_from classes d made s).state ≡ (plain_from classes n made s).state
+  pub done : (plain_from classes n made s).ending ≡ Done → (plain_from classes d made s).ending ≡ Done
 
 run-of-step : (classes : List Class) (n made : ℕ) (s : State) (i : Item) (rest : List Item) (step : Stepped) → s.items ≡ i ∷ rest →
     step_item classes (record s { items = rest }) i ≡ step →
@@ -89,22 +91,31 @@ run-of-step classes n made s i rest (Went t) some e more =
         steps = rw (some, e) (omega (arith, m.1.steps));
         made_steps = rw (some, e) (omega (arith, m.1.made_steps));
         state = rw (some, e) m.1.state;
+        done = rw (some, e) m.1.done;
       },
     )
-run-of-step classes n made s i rest (Trapped kind line) some e more =
-    (0, record { within = omega arith; steps = rw (some, e) (omega arith); made_steps = omega arith; state = rw (some, e) refl })
+run-of-step classes n made s i rest (Trapped kind line) some e more = (
+  0,
+  record {
+    within = omega arith;
+    steps = rw (some, e) (omega arith);
+    made_steps = omega arith;
+    state = rw (some, e) refl;
+    done = rw (some, e) (λ h. cc);
+  },
+)
 
 run-of-on : (classes : List Class) (n made : ℕ) (s : State) (items : List Item) → s.items ≡ items →
     ((t : State) → (d : ℕ) × IsRunOf classes d n (made + 1) t) → (d : ℕ) × IsRunOf classes d (suc n) made s
 unfolding plain_from
 run-of-on classes n made s [] is more =
-    (0, record { within = omega arith; steps = rw is (omega arith); made_steps = omega arith; state = rw is refl })
+    (0, record { within = omega arith; steps = rw is (omega arith); made_steps = omega arith; state = rw is refl; done = rw is (λ h. h) })
 run-of-on classes n made s (i ∷ rest) some more =
     run-of-step classes n made s i rest (step_item classes (record s { items = rest }) i) some refl more
 
 pub run-of : (classes : List Class) (n made : ℕ) (s : State) → (d : ℕ) × IsRunOf classes d n made s
 unfolding plain_from
-run-of classes zero made s = (0, record { within = omega arith; steps = omega arith; made_steps = omega arith; state = refl })
+run-of classes zero made s = (0, record { within = omega arith; steps = omega arith; made_steps = omega arith; state = refl; done = λ h. h })
 run-of classes (suc n) made s = run-of-on classes n made s s.items refl (λ t. run-of classes n (made + 1) t)
 
 -- the output of more steps goes on behind that of fewer
@@ -128,6 +139,14 @@ pub text-part : (t : Tree) (input : List ℕ) (k n : ℕ) (old new : Option (Lis
 text-part t input k n old new within took =
     let g = output-later t input k n within in
     (_, record { rest = text g.0; whole_is = (text-later _ _ g).0 }, took)
+
+-- the text of k steps is that of the steps before the last of them, and what that one added
+pub text-split : (t : Tables) (input : List ℕ) (k : ℕ) →
+    text_of t (opening (program_of t) input) (k - 1) ++ added t (opening (program_of t) input) k ≡ text (plain (program_of t) input k).state.output
+text-split t input k =
+    let g = output-later (program_of t) input (k - 1) k (omega arith) in
+    let e = text-later _ _ g in
+    sym (e.0 ∙ ap (λ q. text (plain (program_of t) input (k - 1)).state.output ++ q) (sym e.1))
 
 -- a run that took all its text took that of the steps before its last, and then what that one added
 pub wrote-whole : (t : Tables) (input : List ℕ) (k : ℕ) (old new : Option (List ℕ)) →

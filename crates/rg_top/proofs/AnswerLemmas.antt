@@ -5,15 +5,15 @@ use Rattle.std.specs.Bool.{OnTrue, OnFalse}
 use Rattle.std.proofs.lemmas.List.{length-replicate}
 use Rattle.rg_base.specs.declared.limits.TheConstants.{SOURCE_BYTES}
 use Rattle.rg_io.specs.Content.{AppendsPart}
-use Rattle.rg_io.specs.Files.{Told, HasFile, HasLongFile}
+use Rattle.rg_io.specs.Files.{Told, HasLongFile}
 use Rattle.rg_run.specs.Machine.{Kept, IsFresh}
 use Rattle.rg_top.specs.declared.status.Status.{Status}
 use Rattle.rg_top.specs.declared.status.Status.TheVariants as status
-use Rattle.rg_top.specs.Commands.{Command, command, file_of, reads_input, may_read}
+use Rattle.rg_top.specs.Commands.{Command, command, Origin, in_file, origin_of, reads_input, may_read}
 use Rattle.rg_top.specs.Statuses.{status_text, is_answer, is_refusal, is_cut_off, is_from_outside}
-use Rattle.rg_top.specs.Expected.{ExpectsStatus}
+use Rattle.rg_top.specs.Expected.{HasSource, ExpectsStatus}
 use Rattle.rg_top.specs.Headline.{ForInput, ForSource, ExactlyWhere, Answers, Untouched, CutOffAt, CutAtInput, TookNotes}
-use Rattle.rg_top.specs.Inner.Settled.{Settles, Unread, source_fault, memory, SettlesFile}
+use Rattle.rg_top.specs.Inner.Settled.{Settles, Unread, source_fault, memory, SettlesCommand, Refuses, Caused}
 use Rattle.rg_top.proofs.MeaningLemmas.{expects-one, refusal-any}
 use Rattle.rg_top.proofs.SettledLemmas.{answers-of, cut-of, status-of}
 
@@ -35,10 +35,37 @@ long-list : (n : ℕ) → (source : List ℕ) × (n < length source)
 long-list n = (replicate (suc n) 0, omega (arith, length-replicate {A = ℕ} (suc n) 0))
 
 -- a file that is too long is read as some source that is
-pub long-settles : (told : Option Told) (c : Command) (left old : Option (List ℕ)) (m : Kept) (still : Type 0) →
-    HasLongFile told (file_of c) SOURCE_BYTES → IsFresh m → still → SettlesFile told c left status.Long old old m still
-long-settles None c left old m still h fresh quiet = let l = long-list SOURCE_BYTES in inl (l.0, tt, (l.1, (fresh, refl, quiet)))
-long-settles (Some t) c left old m still h fresh quiet = inl (h.0, h.1, (h.2, (fresh, refl, quiet)))
+pub long-refuses : (told : Option Told) (file : List ℕ) → HasLongFile told file SOURCE_BYTES → Refuses told (in_file file) status.Long
+long-refuses None file h = let l = long-list SOURCE_BYTES in (l.0, tt, l.1)
+long-refuses (Some t) file h = h
+
+-- where no program came, nothing is done
+pub refuses-settles : (told : Option Told) (c : Command) (s : Status) (left old : Option (List ℕ)) (m : Kept) (still : Type 0) →
+    Refuses told (origin_of c) s → IsFresh m → still → SettlesCommand told c left s old old m still
+refuses-settles told c status.Done left old m still h fresh quiet = absurd h
+refuses-settles told c (status.Refused f) left old m still h fresh quiet = inl (h.0, h.1, (inl h.2, (fresh, refl, quiet)))
+refuses-settles told c status.Usage left old m still h fresh quiet = absurd h
+refuses-settles told c (status.Trap kind line) left old m still h fresh quiet = absurd h
+refuses-settles told c status.Spent left old m still h fresh quiet = absurd h
+refuses-settles told c status.SourceFault left old m still h fresh quiet = inr (source_fault, (fresh, refl, quiet))
+refuses-settles told c status.InputFault left old m still h fresh quiet = absurd h
+refuses-settles told c status.OutputFault left old m still h fresh quiet = absurd h
+refuses-settles told c status.Memory left old m still h fresh quiet = inr (memory, (fresh, refl, quiet))
+refuses-settles told c status.Long left old m still h fresh quiet = inl (h.0, h.1, (h.2, (fresh, refl, quiet)))
+
+-- and neither the input nor the output failed
+pub refuses-caused : (told : Option Told) (origin : Origin) (s : Status) (i o : ℕ) → Refuses told origin s → Caused s i i o o
+refuses-caused told origin s i o h = record {
+  input_fault = λ e. let P : Status → Type 0 = Refuses told origin in absurd (subst P e h);
+  output_fault = λ e. let P : Status → Type 0 = Refuses told origin in absurd (subst P e h);
+  input_never_falls = omega arith;
+  output_never_falls = omega arith;
+}
+
+-- what was answered to a source is no fault of a file
+pub settles-inside : (c : Command) (source : List ℕ) (left : Option (List ℕ)) (s : Status) (old new : Option (List ℕ)) (m : Kept) (still : Type 0) →
+    Settles c source left s old new m still → s ≢ status.SourceFault
+settles-inside c source left s old new m still h e = let P : Status → Type 0 = λ x. Settles c source left x old new m still in absurd (subst P e h)
 
 -- facts on the status that the layers under the top call gave, and on an output fault, hold of what was told
 pub told-status : (P : Status → Type 0) (given answer : Status) → P given → P status.OutputFault
@@ -67,21 +94,21 @@ unread-outside told c s memory = refl
 -- what was answered to a file, by its source
 module _ (told : Option Told) (left : Option (List ℕ)) (words : List (List ℕ)) (c : Command) (s : Status) (old new : Option (List ℕ)) (m : Kept)
     (still : Type 0) (asked : command words ≡ Some c) where
-  for-source : (P : Command → List ℕ → List ℕ → Type 0) (source : List ℕ) → HasFile told (file_of c) source → ForInput left (P c source) →
+  for-source : (P : Command → List ℕ → List ℕ → Type 0) (source : List ℕ) → HasSource told (origin_of c) source → ForInput left (P c source) →
       ForSource told left words P
   for-source P source has h = (c, source, asked, has, h)
 
-  file-answers : SettlesFile told c left s old new m still →
+  file-answers : SettlesCommand told c left s old new m still →
       OnTrue (is_answer s) (ForSource told left words (λ d source input. Answers d source input s old new m still))
   file-answers (inl h) = on-true _ _ (is_answer s) (answers-of c h.0 left s old new m still h.2) (for-source _ h.0 h.1)
   file-answers (inr u) = unread-answer told c s _ u.0
 
-  file-cut : SettlesFile told c left s old new m still →
+  file-cut : SettlesCommand told c left s old new m still →
       Untouched m old new still ⊎ ForSource told left words (λ d source input. CutOffAt d source input m old new still)
   file-cut (inl h) = elim (cut-of c h.0 left s old new m still h.2) [ inl u ↦ inl u | inr k ↦ inr (for-source _ h.0 h.1 k) ]
   file-cut (inr u) = inl u.1
 
-  file-input : s ≡ status.InputFault → SettlesFile told c left s old new m still →
+  file-input : s ≡ status.InputFault → SettlesCommand told c left s old new m still →
       ForSource told left words (λ d source input. CutAtInput d source input m old new)
   file-input e (inl h) = let P : Status → Type 0 = λ x. Settles c h.0 left x old new m still in for-source _ h.0 h.1 (subst P e h.2)
   file-input e (inr u) = absurd (go s u.0 e)
@@ -91,7 +118,7 @@ module _ (told : Option Told) (left : Option (List ℕ)) (words : List (List ℕ
       go x memory e = cc
 
   -- what is expected, where nothing was cut off
-  file-status : SettlesFile told c left s old new m still →
+  file-status : SettlesCommand told c left s old new m still →
       ForSource told left words (λ d source input. ExpectsStatus d source input s) ⊎ (is_from_outside s ≡ true)
   file-status (inl h) = elim (status-of c h.0 left s old new m still h.2) [ inl e ↦ inl (for-source _ h.0 h.1 e) | inr o ↦ inr o ]
   file-status (inr u) = inr (unread-outside told c s u.0)
@@ -122,7 +149,7 @@ module _ (told : Option Told) (left : Option (List ℕ)) (words : List (List ℕ
     only = λ e. let P : Status → Type 0 = λ x. ExpectsStatus c source input x in (c, source, asked, has, (input, is, subst P e expects));
     always = λ d again all.
         let same : d ≡ c = cc in
-        let Q : Command → Type 0 = λ x. HasFile told (file_of x) source → ExpectsStatus x source input s in
+        let Q : Command → Type 0 = λ x. HasSource told (origin_of x) source → ExpectsStatus x source input s in
         inl (expects-one c source input given s expects (subst Q same (λ h. all source input h is) has));
   }
   exactly-where (inr o) = outside-exactly left o
@@ -137,7 +164,7 @@ module _ (told : Option Told) (left : Option (List ℕ)) (words : List (List ℕ
         (c, source, asked, has, (bytes, refl, refusal-any c source input bytes s refuses (subst P e expects)));
     always = λ d again all.
         let same : d ≡ c = cc in
-        let Q : Command → Type 0 = λ x. HasFile told (file_of x) source → ExpectsStatus x source bytes s in
+        let Q : Command → Type 0 = λ x. HasSource told (origin_of x) source → ExpectsStatus x source bytes s in
         let there = subst Q same (λ h. all source bytes h refl) has in
         inl (expects-one c source input given s expects (refusal-any c source bytes input s refuses there));
   }
@@ -169,7 +196,7 @@ pub record Answered (told : Option Told) (left : Option (List ℕ)) (words : Lis
     (m : Kept) (still : Type 0) : Type 0 where
   pub asked : Command
   pub command_is : command words ≡ Some asked
-  pub settles : SettlesFile told asked left given old new m still
+  pub settles : SettlesCommand told asked left given old new m still
   pub told_is : (answer ≡ given) ⊎ (answer ≡ status.OutputFault)
 
 module _ {told : Option Told} {left : Option (List ℕ)} {words : List (List ℕ)} {given answer : Status} {old new : Option (List ℕ)} {m : Kept}
@@ -215,7 +242,7 @@ module _ {told : Option Told} {left : Option (List ℕ)} {words : List (List ℕ
 
 -- a refusal leaves nothing
 untouched-of : (told : Option Told) (left : Option (List ℕ)) (c : Command) (s : Status) (old new : Option (List ℕ)) (m : Kept) (still : Type 0) →
-    SettlesFile told c left s old new m still → OnTrue (is_refusal s) (Untouched m old new still)
+    SettlesCommand told c left s old new m still → OnTrue (is_refusal s) (Untouched m old new still)
 untouched-of told left c status.Done old new m still h = tt
 untouched-of told left c (status.Refused f) old new m still (inl h) = h.2.1
 untouched-of told left c (status.Refused f) old new m still (inr u) = u.1

@@ -2,4 +2,5 @@ mod NumberLemmas
 mod MeaningLemmas
 mod SettledLemmas
 mod RanLemmas
+mod BulkLemmas
 mod AnswerLemmas

@@ -2,6 +2,7 @@
 use Rattle.std.proofs.Common.{◌≡◌, ℕ, ◌⊎◌, inl, inr, true, false, List, Option, Some, None, Result, Ok, Err, IfOk, refl, sym, ◌∙◌, ap, subst, arith}
 use Rattle.rg_base.specs.declared.fault.Fault.{Fault}
 use Rattle.rg_base.specs.declared.fault.Stop.{Stop}
+use Rattle.rg_base.specs.declared.outcome.EndNumbers.{EndNumbers}
 use Rattle.rg_base.specs.declared.token.Token.{Token}
 use Rattle.rg_base.specs.Tokens.{cut, end_line}
 use Rattle.rg_tree.specs.Tree.{Tree}
@@ -17,10 +18,10 @@ use Rattle.rg_rules.specs.Runs.{Ending, Running, Done, Stopped}
 use Rattle.rg_rules.specs.Runs as rules
 use Rattle.rg_check.specs.Laws.{SpeltHasFewNames}
 use Rattle.rg_top.specs.declared.status.Status.{Status}
-use Rattle.rg_top.specs.Commands.{Command, run, plain, fmt, check}
+use Rattle.rg_top.specs.Commands.{Command, run, plain, fmt, check, bulk, Origin, in_file, generated, origin_of}
 use Rattle.rg_top.specs.Statuses.{is_refusal}
-use Rattle.rg_top.specs.Expected.{Meaning, too_long, faulty, spelt, IsStuck, SpellsTree, Means, Answer, status_of, run_answer, unless_fault}
-use Rattle.rg_top.specs.Expected.{expected, ExpectsStatus}
+use Rattle.rg_top.specs.Expected.{Meaning, too_long, faulty, spelt, IsStuck, SpellsTree, Means, MeansFrom, Answer, status_of}
+use Rattle.rg_top.specs.Expected.{run_answer, unless_fault, expected, ExpectsStatus}
 
 -- a program that spells the source's tokens has few names
 pub few-names : (source : List ℕ) (ts : List Token) (r : Result Tables Stop) → SpeltHasFewNames
@@ -66,12 +67,28 @@ means-one source (spelt t) too_long h g = absurd (omega arith)
 means-one source (spelt t) (faulty f) h g = absurd (fault-no_tree source f t g.1 h.1)
 means-one source (spelt t) (spelt u) h g = ap spelt (tree-one source t u h.1 g.1)
 
+-- and so does what comes from a file, or is generated
+from-one : (o : Origin) (source : List ℕ) (m k : Meaning) → MeansFrom o source m → MeansFrom o source k → m ≡ k
+from-one (in_file file) source m k h g = means-one source m k h g
+from-one (generated size) source m k h g = h ∙ sym g
+
+-- the status doesn't depend on the machine's numbers
+status-any : (c : Command) (p q : EndNumbers) (input : List ℕ) (m : Meaning) → (expected c p input m).status ≡ (expected c q input m).status
+status-any c p q input too_long = refl
+status-any c p q input (faulty f) = refl
+status-any (run file n) p q input (spelt t) = refl
+status-any (plain file n) p q input (spelt t) = refl
+status-any (fmt file) p q input (spelt t) = refl
+status-any (check file) p q input (spelt t) = refl
+status-any (bulk size) p q input (spelt t) = refl
+
 -- a command answers one status to a source, on one input
 pub expects-one : (c : Command) (source input : List ℕ) (s t : Status) → ExpectsStatus c source input s → ExpectsStatus c source input t → s ≡ t
 expects-one c source input s t h g =
-    let same : h.1.0 ≡ g.1.0 = means-one source h.1.0 g.1.0 h.1.1 g.1.1 in
-    let e : record { status = s; text = h.0 } ≡ expected c input g.1.0 = sym h.1.2 ∙ ap (expected c input) same in
-    ap (λ (a : Answer). a.status) (e ∙ g.1.2)
+    let same : h.2.0 ≡ g.2.0 = from-one (origin_of c) source h.2.0 g.2.0 h.2.1 g.2.1 in
+    let here : (expected c h.0 input h.2.0).status ≡ s = ap (λ (a : Answer). a.status) h.2.2 in
+    let there : (expected c g.0 input g.2.0).status ≡ t = ap (λ (a : Answer). a.status) g.2.2 in
+    sym here ∙ status-any c h.0 g.0 input h.2.0 ∙ ap (λ m. (expected c g.0 input m).status) same ∙ there
 
 -- a run refuses nothing
 runs-on : (e : Ending) → is_refusal (status_of e) ≡ false
@@ -87,15 +104,16 @@ refusal-ran t i j n None s text r e =
     let same : status_of (rules.plain t i n).ending ≡ s = ap (λ (a : Answer). a.status) e in
     absurd (cc)
 
-refusal-expected : (c : Command) (i j : List ℕ) (m : Meaning) (s : Status) (text : List ℕ) → is_refusal s ≡ true →
-    expected c i m ≡ record { status = s; text = text } → expected c j m ≡ record { status = s; text = text }
-refusal-expected c i j too_long s text r e = e
-refusal-expected c i j (faulty f) s text r e = e
-refusal-expected (run file n) i j (spelt t) s text r e = refusal-ran t i j n (first_fault t) s text r e
-refusal-expected (plain file n) i j (spelt t) s text r e = refusal-ran t i j n (first_fault t) s text r e
-refusal-expected (fmt file) i j (spelt t) s text r e = e
-refusal-expected (check file) i j (spelt t) s text r e = e
+refusal-expected : (c : Command) (p : EndNumbers) (i j : List ℕ) (m : Meaning) (s : Status) (text : List ℕ) → is_refusal s ≡ true →
+    expected c p i m ≡ record { status = s; text = text } → expected c p j m ≡ record { status = s; text = text }
+refusal-expected c p i j too_long s text r e = e
+refusal-expected c p i j (faulty f) s text r e = e
+refusal-expected (run file n) p i j (spelt t) s text r e = refusal-ran t i j n (first_fault t) s text r e
+refusal-expected (plain file n) p i j (spelt t) s text r e = refusal-ran t i j n (first_fault t) s text r e
+refusal-expected (fmt file) p i j (spelt t) s text r e = e
+refusal-expected (check file) p i j (spelt t) s text r e = e
+refusal-expected (bulk size) p i j (spelt t) s text r e = e
 
 -- a refusal doesn't depend on the input
 pub refusal-any : (c : Command) (source i j : List ℕ) (s : Status) → is_refusal s ≡ true → ExpectsStatus c source i s → ExpectsStatus c source j s
-refusal-any c source i j s r h = (h.0, (h.1.0, h.1.1, refusal-expected c i j h.1.0 s h.0 r h.1.2))
+refusal-any c source i j s r h = (h.0, h.1, (h.2.0, h.2.1, refusal-expected c h.0 i j h.2.0 s h.1 r h.2.2))

@@ -1,12 +1,15 @@
 -- From what the machines have answered to what was answered to the source.
-use Rattle.std.proofs.Common.{◌≡◌, ◌≤◌, ℕ, inl, inr, true, false, List, [], ◌++◌, Option, Some, None, refl, sym, ◌∙◌, ap, subst, arith}
+use Rattle.std.proofs.Common.{◌≡◌, ◌≤◌, ℕ, inl, inr, true, false, List, [], ◌++◌, Option, Some, None, Ok, refl, sym, ◌∙◌, ap, subst, arith}
+use Rattle.std.specs.Result.{result_err}
 use Rattle.rg_base.specs.declared.outcome.Ended.{Ended}
 use Rattle.rg_base.specs.declared.outcome.Ended.TheVariants as ended
 use Rattle.rg_tree.specs.Rows.Tables.{Tables}
 use Rattle.rg_tree.specs.Rows.RowTrees.{program_of}
+use Rattle.rg_rules.specs.Acceptance.{judge_program}
 use Rattle.rg_rules.specs.State.{State}
 use Rattle.rg_rules.specs.Runs.{Ending, Running, Done, Stopped, opening}
 use Rattle.rg_rules.specs.Runs as rules
+use Rattle.rg_rules.specs.Texts.{added}
 use Rattle.rg_input.specs.Numbers.{Pending, Follows, CanCome, OnInput}
 use Rattle.rg_plain.specs.Machine.{Machine, Begins, state_of}
 use Rattle.rg_plain.specs.Runs.{answer, RunIs, NoneAsks, begun, Whole, StandsAt, CutOff, CutAtInput}
@@ -17,10 +20,10 @@ use Rattle.rg_run.proofs.SoundLemmas.{run-is-sound, stands-shown}
 use Rattle.rg_run.proofs.RunLemmas.{wrote-part}
 use Rattle.rg_top.specs.declared.status.Status.{Status}
 use Rattle.rg_top.specs.declared.status.Status.TheVariants as status
-use Rattle.rg_top.specs.Commands.{run, plain}
-use Rattle.rg_top.specs.Expected.{status_of}
+use Rattle.rg_top.specs.Commands.{run, plain, Origin, in_file}
+use Rattle.rg_top.specs.Expected.{status_of, spelt, MeansFrom}
 use Rattle.rg_top.specs.Headline.{HasInput, ForInput, Runs, StandsAfter, CutOffAt, AsksAfter}
-use Rattle.rg_top.specs.Inner.Settled.{status_of_ended, RanWhole, RanBeside, Settles}
+use Rattle.rg_top.specs.Inner.Settled.{status_of_ended, RanWhole, RanBeside, RanFrom, Settles}
 
 -- some bytes can come
 can_come : (n : Pending) (left : Option (List ℕ)) → Follows n left → (more : List ℕ) × CanCome n left more
@@ -43,7 +46,7 @@ status-answer Running = refl
 status-answer Done = refl
 status-answer (Stopped kind line) = refl
 
-module _ (file : List ℕ) (n : ℕ) (source : List ℕ) (left : Option (List ℕ)) (t : Tables) (runs : Runs source (program_of t)) (input : List ℕ)
+module _ (origin : Origin) (n : ℕ) (source : List ℕ) (left : Option (List ℕ)) (t : Tables) (runs : Runs origin source (program_of t)) (input : List ℕ)
     (is : HasInput left input) (k : ℕ) (plain_machine : Machine) (rest : List ℕ) (old new : Option (List ℕ)) where
   answered : (e : Ended) (s : Status) → status_of_ended e ≡ s → Whole t (opening (program_of t) input) n k plain_machine rest old new e →
       s ≡ status_of (rules.plain (program_of t) input n).ending
@@ -58,15 +61,17 @@ module _ (file : List ℕ) (n : ℕ) (source : List ℕ) (left : Option (List �
     sound = run-is-sound (program_of t) runs.accepted input k;
   }
 
+module _ (file : List ℕ) (n : ℕ) (source : List ℕ) (left : Option (List ℕ)) (t : Tables) (runs : Runs (in_file file) source (program_of t))
+    (input : List ℕ) (is : HasInput left input) (k : ℕ) (plain_machine : Machine) (rest : List ℕ) (old new : Option (List ℕ)) where
   beside : (m : Kept) (still : Type 0) (unread : NeverAsks (program_of t) input n → still) (e : Ended) (s : Status) → IsFresh m →
       status_of_ended e ≡ s → Whole t (opening (program_of t) input) n k plain_machine rest old new e →
-      RanBeside n source left s old new m still
+      RanBeside file n source left s old new m still
   beside m still unread e s fresh same w = record {
     tree = program_of t;
     runs = runs;
     input = input;
     input_is = is;
-    status_is = answered e s same w;
+    status_is = answered (in_file file) n source left t runs input is k plain_machine rest old new e s same w;
     wrote = w.text_is;
     fresh = fresh;
     unread = unread;
@@ -94,24 +99,25 @@ module _ (file : List ℕ) (n : ℕ) (source : List ℕ) (left : Option (List �
   beside-settles m still unread ended.Done fresh h = beside m still unread ended.Done status.Done fresh refl h
   beside-settles m still unread ended.Spent fresh h = beside m still unread ended.Spent status.Spent fresh refl h
   beside-settles m still unread (ended.Trap kind line) fresh h = beside m still unread (ended.Trap kind line) (status.Trap kind line) fresh refl h
-  beside-settles m still unread ended.InputFault fresh h = (input, is, (program_of t, runs, fresh, k, asks_after h))
+  beside-settles m still unread ended.InputFault fresh h =
+      (input, is, (program_of t, runs, fresh, k, asks_after (in_file file) n source left t runs input is k plain_machine rest old new h))
   beside-settles m still unread ended.OutputFault fresh h = inr (beside_cut m still unread fresh h)
   beside-settles m still unread ended.Memory fresh h = inr (beside_cut m still unread fresh h)
 
-module _ (file : List ℕ) (n : ℕ) (source : List ℕ) (left : Option (List ℕ)) (t : Tables) (runs : Runs source (program_of t)) (input : List ℕ)
+module _ (origin : Origin) (n : ℕ) (source : List ℕ) (left : Option (List ℕ)) (t : Tables) (runs : Runs origin source (program_of t)) (input : List ℕ)
     (is : HasInput left input) (m : Kept) (begun : m.begun ≡ true) (rest : List ℕ) (old new : Option (List ℕ)) (still : Type 0)
     (unread : NeverAsks (program_of t) input n → still) where
   shows : (s : State) → state_of t m.plain rest ≡ s → Shows t m s
   shows s e = record { begun = begun; rest = rest; state = e }
 
   whole : (e : Ended) (s : Status) → status_of_ended e ≡ s → Whole t (opening (program_of t) input) n m.steps m.plain rest old new e →
-      RanWhole n source left s old new m still
+      RanWhole origin n source left s old new m still
   whole e s same w = record {
     tables = t;
     runs = runs;
     input = input;
     input_is = is;
-    status_is = answered file n source left t runs input is m.steps m.plain rest old new e s same w;
+    status_is = answered origin n source left t runs input is m.steps m.plain rest old new e s same w;
     wrote = w.text_is;
     stands = stands-shown t input n m runs.accepted (shows _ w.state_is) w.steps_are;
     unread = unread;
@@ -120,34 +126,58 @@ module _ (file : List ℕ) (n : ℕ) (source : List ℕ) (left : Option (List �
   stands : StandsAt t (opening (program_of t) input) n m.steps m.plain rest → Stands t input m.steps m
   stands c = stands-shown t input m.steps m runs.accepted (shows _ c.state_is) (sym c.made)
 
-  stands_after : CutOff t (opening (program_of t) input) n m.steps m.plain rest old new → StandsAfter t input n m.steps m old new
+  stands_after : CutOff t (opening (program_of t) input) n m.steps m.plain rest old new →
+      StandsAfter t input n m.steps m (added t (opening (program_of t) input) m.steps) old new
   stands_after c = record { within = c.stands.within; made = c.stands.made; stands = stands c.stands; wrote = c.wrote }
 
-  ran-settles : (e : Ended) → RunIs t (opening (program_of t) input) n m.steps m.plain rest old new e →
-      Settles (run file n) source left (status_of_ended e) old new m still
-  ran-settles ended.Done h = whole ended.Done status.Done refl h
-  ran-settles ended.Spent h = whole ended.Spent status.Spent refl h
-  ran-settles (ended.Trap kind line) h = whole (ended.Trap kind line) (status.Trap kind line) refl h
-  ran-settles ended.InputFault h =
-      (input, is, (t, runs, stands h.stands, asks_after file n source left t runs input is m.steps m.plain rest old new h))
-  ran-settles ended.OutputFault h = inr (input, is, (t, runs, stands_after h, unread))
-  ran-settles ended.Memory h = inr (input, is, (t, runs, stands_after h, unread))
+  ran-from : (e : Ended) → RunIs t (opening (program_of t) input) n m.steps m.plain rest old new e →
+      RanFrom origin n source left (status_of_ended e) old new m still
+  ran-from ended.Done h = whole ended.Done status.Done refl h
+  ran-from ended.Spent h = whole ended.Spent status.Spent refl h
+  ran-from (ended.Trap kind line) h = whole (ended.Trap kind line) (status.Trap kind line) refl h
+  ran-from ended.InputFault h =
+      (input, is, (t, runs, stands h.stands, asks_after origin n source left t runs input is m.steps m.plain rest old new h))
+  ran-from ended.OutputFault h = inr (input, is, (t, runs, stands_after h, unread))
+  ran-from ended.Memory h = inr (input, is, (t, runs, stands_after h, unread))
 
 -- a run on the machine
-pub run-settles : (file : List ℕ) (n : ℕ) (source : List ℕ) (left : Option (List ℕ)) (t : Tables) (m : Kept) (e : Ended)
-    (old new : Option (List ℕ)) (quiet still : Type 0) → (quiet → still) → Runs source (program_of t) →
+pub run-from : (origin : Origin) (n : ℕ) (source : List ℕ) (left : Option (List ℕ)) (t : Tables) (m : Kept) (e : Ended)
+    (old new : Option (List ℕ)) (quiet still : Type 0) → (quiet → still) → Runs origin source (program_of t) →
     ForInput left (λ input. (rest : List ℕ) × RunsOn t n old new m e quiet input rest) →
-    Settles (run file n) source left (status_of_ended e) old new m still
-run-settles file n source left t m e old new quiet still more runs h = elim h.2.1 [
+    RanFrom origin n source left (status_of_ended e) old new m still
+run-from origin n source left t m e old new quiet still more runs h = elim h.2.1 [
   | inl none ↦
-      let P : Ended → Type 0 = λ q. Settles (run file n) source left (status_of_ended q) old new m still in
+      let P : Ended → Type 0 = λ q. RanFrom origin n source left (status_of_ended q) old new m still in
       subst P (sym none.answer_is) (inl (none.fresh, none.untouched, more none.unread))
-  | inr ran ↦ ran-settles file n source left t runs h.0 h.1 m ran.begun h.2.0 old new still (λ none. more (ran.unread none)) e ran.run
+  | inr ran ↦ ran-from origin n source left t runs h.0 h.1 m ran.begun h.2.0 old new still (λ none. more (ran.unread none)) e ran.run
 ]
+
+-- is what `run` has answered, where the program comes from a file
+pub run-settles : (file : List ℕ) (n : ℕ) (source : List ℕ) (left : Option (List ℕ)) (s : Status) (old new : Option (List ℕ)) (m : Kept)
+    (still : Type 0) →
+    RanFrom (in_file file) n source left s old new m still → Settles (run file n) source left s old new m still
+run-settles file n source left status.Done old new m still h = h
+run-settles file n source left (status.Refused f) old new m still h = absurd h
+run-settles file n source left status.Usage old new m still h = h
+run-settles file n source left (status.Trap kind line) old new m still h = h
+run-settles file n source left status.Spent old new m still h = h
+run-settles file n source left status.SourceFault old new m still h = h
+run-settles file n source left status.InputFault old new m still h = h
+run-settles file n source left status.OutputFault old new m still h = h
+run-settles file n source left status.Memory old new m still h = h
+run-settles file n source left status.Long old new m still h = absurd h
+
+-- a program that the checker has passed
+pub runs-checked : (origin : Origin) (source : List ℕ) (t u : Tables) → u ≡ t → MeansFrom origin source (spelt (program_of t)) →
+    judge_program (program_of t) ≡ Ok tt → Runs origin source (program_of u)
+runs-checked origin source t u same means judged =
+    let P : Tables → Type 0 = λ q. Runs origin source (program_of q) in
+    subst P (sym same) (record { means = means; accepted = ap result_err judged })
 
 -- a run on a machine of its own
 pub plain-settles : (file : List ℕ) (n k : ℕ) (source : List ℕ) (left : Option (List ℕ)) (t u : Tables) (start new_machine : Machine)
-    (m : Kept) (e : Ended) (old new : Option (List ℕ)) (quiet still : Type 0) → (quiet → still) → t ≡ u → Runs source (program_of u) → IsFresh m →
+    (m : Kept) (e : Ended) (old new : Option (List ℕ)) (quiet still : Type 0) → (quiet → still) → t ≡ u →
+    Runs (in_file file) source (program_of u) → IsFresh m →
     Begins t start → begun e k ≤ n →
     ForInput left (λ input. (rest : List ℕ) × (RunIs t (state_of t start input) n k new_machine rest old new e
     × (NoneAsks t (state_of t start input) (begun e k) → quiet))) →
@@ -155,6 +185,6 @@ pub plain-settles : (file : List ℕ) (n k : ℕ) (source : List ℕ) (left : Op
 plain-settles file n k source left t u start new_machine m e old new quiet still more same runs fresh begins within h =
     let P : State → Type 0 = λ s. RunIs t s n k new_machine h.2.0 old new e in
     let N : State → Type 0 = λ s. NoneAsks t s (begun e k) → quiet in
-    let Q : Tables → Type 0 = λ q. Runs source (program_of q) in
+    let Q : Tables → Type 0 = λ q. Runs (in_file file) source (program_of q) in
     beside-settles file n source left t (subst Q (sym same) runs) h.0 h.1 k new_machine h.2.0 old new m still
     (λ none. more (subst N (begins.state h.0) h.2.1.1 (λ j l. none j (omega (arith, within))))) e fresh (subst P (begins.state h.0) h.2.1.0)

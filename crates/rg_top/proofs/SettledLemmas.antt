@@ -1,35 +1,46 @@
 -- What the layers under the top call have answered to a source, in the words of the headline.
-use Rattle.std.proofs.Common.{◌≡◌, ℕ, ◌+◌, ◌⊎◌, inl, inr, true, false, List, [], Option, Some, None, refl, sym, ◌∙◌, ap, subst, arith, append-nil}
+use Rattle.std.proofs.Common.{◌≡◌, ℕ, ◌+◌, ◌⊎◌, inl, inr, true, false, List, [], ◌∷◌, ◌++◌, ◌-◌, Option, Some, None, refl}
+use Rattle.std.proofs.Common.{sym, ◌∙◌, ap, subst, arith, append-nil, append_assoc}
 use Rattle.std.specs.Bool.{OnTrue}
 use Rattle.rg_base.specs.declared.fault.Fault.{Fault}
+use Rattle.rg_base.specs.declared.limits.TheConstants.{MOST_STEPS}
+use Rattle.rg_base.specs.declared.outcome.EndNumbers.{EndNumbers}
 use Rattle.rg_base.specs.Text.{text}
-use Rattle.rg_io.specs.Content.{Appends, AppendsPart}
+use Rattle.rg_io.specs.Content.{Appends, AppendsPart, IsPrefix}
 use Rattle.rg_tree.specs.Tree.{Tree}
 use Rattle.rg_tree.specs.Rows.Tables.{Tables}
 use Rattle.rg_tree.specs.Rows.RowTrees.{program_of, classes_of}
 use Rattle.rg_tree.specs.Canonical.{canon}
 use Rattle.rg_rules.specs.Acceptance.{Accepted, first_fault}
 use Rattle.rg_rules.specs.State.{State}
-use Rattle.rg_rules.specs.Runs.{opening}
+use Rattle.rg_rules.specs.Runs.{Ending, Running, Done, Stopped, opening}
 use Rattle.rg_rules.specs.Runs as rules
-use Rattle.rg_run.specs.Machine.{Kept, IsFresh, Shows}
+use Rattle.rg_rules.specs.Texts.{text_of, added}
+use Rattle.rg_run.specs.Machine.{Kept, IsFresh, Shows, numbers_of}
 use Rattle.rg_run.specs.Sound.{IsSound, Stands, NeverAsks}
 use Rattle.rg_run.proofs.SoundLemmas.{run-is-sound, stands-shown}
-use Rattle.rg_run.proofs.RunLemmas.{run-of, wrote-whole, text-part}
+use Rattle.rg_run.proofs.RunLemmas.{run-of, wrote-whole, text-part, text-split}
 use Rattle.rg_top.specs.declared.status.Status.{Status}
 use Rattle.rg_top.specs.declared.status.Status.TheVariants as status
-use Rattle.rg_top.specs.Commands.{Command, run, plain, fmt, check, reads_input}
+use Rattle.rg_top.specs.Commands.{Command, run, plain, fmt, check, bulk, in_file, generated, origin_of, reads_input}
 use Rattle.rg_top.specs.Statuses.{is_answer, is_from_outside}
-use Rattle.rg_top.specs.Expected.{too_long, faulty, spelt, Means, status_of, accepted_text, text_after, run_answer, unless_fault, ExpectsStatus}
-use Rattle.rg_top.specs.Headline.{ForInput, IfAccepted, RunStands, Answers, Runs, Untouched, StandsAfter, AsksAfter, CutOffAt, CutAtInput}
-use Rattle.rg_top.specs.Inner.Settled.{RanWhole, RanBeside, EndsWell, StopsRun, IsFaulted, CutOff, Settles}
+use Rattle.rg_top.specs.Expected.{too_long, faulty, spelt, MeansFrom, status_of, accepted_text, text_after, line_behind, run_answer, unless_fault}
+use Rattle.rg_top.specs.Expected.{ExpectsStatus}
+use Rattle.rg_top.specs.Headline.{ForInput, IfAccepted, RunStands, Answers, Untouched, StandsAfter, bulk_added, AsksAfter, CutOffAt, CutAtInput}
+use Rattle.rg_top.specs.Inner.Settled.{RanWhole, RanBeside, RanGenerated, EndsWell, StopsRun, IsFaulted, CutOff, Settles}
 
 -- the source of an input has some bytes
 pub for-input : (left : Option (List ℕ)) (P : List ℕ → Type 0) → ((input : List ℕ) → P input) → ForInput left P
 for-input None P h = ([], tt, h [])
 for-input (Some bytes) P h = (bytes, refl, h bytes)
 
-untouched-text : (old new : Option (List ℕ)) → new ≡ old → Appends old new []
+no_lie : true ≡ false → ⊥
+no_lie e = cc
+
+no_front : (b : ℕ) (bs : List ℕ) → [] ≡ b ∷ bs → ⊥
+no_front b bs e = cc
+
+pub untouched-text : (old new : Option (List ℕ)) → new ≡ old → Appends old new []
 untouched-text None new e = e
 untouched-text (Some xs) new e = e ∙ ap Some (sym (append-nil xs))
 
@@ -37,9 +48,9 @@ whole-part : (old new : Option (List ℕ)) (text : List ℕ) → Appends old new
 whole-part old new text h = (text, record { rest = []; whole_is = sym (append-nil text) }, h)
 
 -- what an accepted program answers
-ran-answer : (t : Tree) (input : List ℕ) (n : ℕ) (s : Status) (source : List ℕ) → Runs source t → s ≡ status_of (rules.plain t input n).ending →
+ran-answer : (t : Tree) (input : List ℕ) (n : ℕ) (s : Status) → Accepted t → s ≡ status_of (rules.plain t input n).ending →
     unless_fault (first_fault t) (run_answer t input n) ≡ record { status = s; text = text_after t input n }
-ran-answer t input n s source runs is = rw (runs.accepted, is) refl
+ran-answer t input n s accepted is = rw (accepted, is) refl
 
 -- what is left where the checker has no fault
 if-accepted : (o : Option Fault) (accepted refused : Type 0) → o ≡ None → accepted → IfAccepted o accepted refused
@@ -53,7 +64,7 @@ if-refused (Some g) f accepted refused e h = h
 
 answers-ran : (file : List ℕ) (n : ℕ) (source : List ℕ) (left : Option (List ℕ)) (s : Status) (old new : Option (List ℕ)) (m : Kept)
     (still : Type 0) →
-    RanWhole n source left s old new m still → ForInput left (λ input. Answers (run file n) source input s old new m still)
+    RanWhole (in_file file) n source left s old new m still → ForInput left (λ input. Answers (run file n) source input s old new m still)
 answers-ran file n source left s old new m still r =
     let t = program_of r.tables in (
       r.input,
@@ -62,7 +73,7 @@ answers-ran file n source left s old new m still r =
         meaning = spelt t;
         means = r.runs.means;
         text = text_after t r.input n;
-        expects = ran-answer t r.input n s source r.runs r.status_is;
+        expects = ran-answer t r.input n s r.runs.accepted r.status_is;
         wrote = r.wrote;
         leaves = if-accepted (first_fault t) (RunStands t r.input n m × (NeverAsks t r.input n → still)) (IsFresh m × still) r.runs.accepted
             ((r.tables, refl, r.stands), r.unread);
@@ -71,7 +82,7 @@ answers-ran file n source left s old new m still r =
 
 answers-beside : (file : List ℕ) (n : ℕ) (source : List ℕ) (left : Option (List ℕ)) (s : Status) (old new : Option (List ℕ)) (m : Kept)
     (still : Type 0) →
-    RanBeside n source left s old new m still → ForInput left (λ input. Answers (plain file n) source input s old new m still)
+    RanBeside file n source left s old new m still → ForInput left (λ input. Answers (plain file n) source input s old new m still)
 answers-beside file n source left s old new m still r = (
   r.input,
   r.input_is,
@@ -79,7 +90,7 @@ answers-beside file n source left s old new m still r = (
     meaning = spelt r.tree;
     means = r.runs.means;
     text = text_after r.tree r.input n;
-    expects = ran-answer r.tree r.input n s source r.runs r.status_is;
+    expects = ran-answer r.tree r.input n s r.runs.accepted r.status_is;
     wrote = r.wrote;
     leaves = (
       r.fresh,
@@ -88,6 +99,19 @@ answers-beside file n source left s old new m still r = (
     );
   },
 )
+
+answers-generated : (size : ℕ) (source : List ℕ) (left : Option (List ℕ)) (s : Status) (old new : Option (List ℕ)) (m : Kept) (still : Type 0) →
+    RanGenerated size source s old new m → ForInput left (λ input. Answers (bulk size) source input s old new m still)
+answers-generated size source left s old new m still r =
+    let t = program_of r.tables in
+    for-input left _ (λ input. record {
+      meaning = spelt t;
+      means = r.runs.means;
+      text = text_after t [] MOST_STEPS ++ line_behind size (numbers_of m) (rules.plain t [] MOST_STEPS).ending;
+      expects = rw r.status_is refl;
+      wrote = r.wrote;
+      leaves = (r.tables, refl, r.stands);
+    })
 
 answers-well : (c : Command) (source : List ℕ) (left old new : Option (List ℕ)) (m : Kept) (still : Type 0) → EndsWell c source left old new m still →
     ForInput left (λ input. Answers c source input status.Done old new m still)
@@ -111,6 +135,7 @@ answers-well (check file) source left old new m still r =
       wrote = r.wrote;
       leaves = r.fresh;
     })
+answers-well (bulk size) source left old new m still r = answers-generated size source left status.Done old new m still r
 
 answers-stops : (c : Command) (source : List ℕ) (left : Option (List ℕ)) (s : Status) (old new : Option (List ℕ)) (m : Kept) (still : Type 0) →
     StopsRun c source left s old new m still → ForInput left (λ input. Answers c source input s old new m still)
@@ -118,10 +143,12 @@ answers-stops (run file n) source left s old new m still r = answers-ran file n 
 answers-stops (plain file n) source left s old new m still r = answers-beside file n source left s old new m still r
 answers-stops (fmt file) source left s old new m still r = absurd r
 answers-stops (check file) source left s old new m still r = absurd r
+answers-stops (bulk size) source left s old new m still r = answers-generated size source left s old new m still r
 
 -- a source with a fault is refused
 answers-refused : (c : Command) (source input : List ℕ) (f : Fault) (old new : Option (List ℕ)) (m : Kept) (still : Type 0) →
-    Untouched m old new still → Means source (faulty f) ⊎ IsFaulted c source f → Answers c source input (status.Refused f) old new m still
+    Untouched m old new still → MeansFrom (origin_of c) source (faulty f) ⊎ IsFaulted c source f →
+    Answers c source input (status.Refused f) old new m still
 answers-refused c source input f old new m still u (inl h) = record {
   meaning = faulty f;
   means = h;
@@ -155,6 +182,7 @@ answers-refused (check file) source input f old new m still u (inr h) = record {
   wrote = untouched-text old new u.1;
   leaves = u.0;
 }
+answers-refused (bulk size) source input f old new m still u (inr h) = absurd h
 
 -- what was answered, where nothing cut it off
 pub answers-of : (c : Command) (source : List ℕ) (left : Option (List ℕ)) (s : Status) (old new : Option (List ℕ)) (m : Kept) (still : Type 0) →
@@ -180,14 +208,15 @@ answers-of c source left status.Long old new m still h =
 
 -- a machine that shows the end of a run, and has written all its text, stands at a whole step of it
 stands-whole : (t : Tables) (input : List ℕ) (n : ℕ) (m : Kept) (old new : Option (List ℕ)) → Accepted (program_of t) → Stands t input n m →
-    Appends old new (text_after (program_of t) input n) → StandsAfter t input n m.steps m old new
+    Appends old new (text_after (program_of t) input n) →
+    StandsAfter t input n m.steps m (added t (opening (program_of t) input) m.steps) old new
 stands-whole t input n m old new accepted shown wrote =
     let r = run-of (classes_of t) n 0 (opening (program_of t) input) in
     let from : 0 + r.0 ≡ r.0 = omega arith in
     let k : m.steps ≡ r.0 = shown.steps ∙ r.1.steps ∙ from in
     let P : State → Type 0 = λ s. Shows t m s in
     let Q : List ℕ → Type 0 = λ bytes. Appends old new bytes in
-    let R : ℕ → Type 0 = λ j. StandsAfter t input n j m old new in
+    let R : ℕ → Type 0 = λ j. StandsAfter t input n j m (added t (opening (program_of t) input) j) old new in
     subst R (sym k) (record {
       within = r.1.within;
       made = r.1.made_steps ∙ from;
@@ -196,17 +225,65 @@ stands-whole t input n m old new accepted shown wrote =
     })
 
 cut-ran : (file : List ℕ) (n : ℕ) (source : List ℕ) (left : Option (List ℕ)) (s : Status) (old new : Option (List ℕ)) (m : Kept) (still : Type 0) →
-    RanWhole n source left s old new m still → ForInput left (λ input. CutOffAt (run file n) source input m old new still)
+    RanWhole (in_file file) n source left s old new m still → ForInput left (λ input. CutOffAt (run file n) source input m old new still)
 cut-ran file n source left s old new m still r =
     (r.input, r.input_is, (r.tables, r.runs, stands-whole r.tables r.input n m old new r.runs.accepted r.stands r.wrote, r.unread))
 
 cut-beside : (file : List ℕ) (n : ℕ) (source : List ℕ) (left : Option (List ℕ)) (s : Status) (old new : Option (List ℕ)) (m : Kept) (still : Type 0) →
-    RanBeside n source left s old new m still → ForInput left (λ input. CutOffAt (plain file n) source input m old new still)
+    RanBeside file n source left s old new m still → ForInput left (λ input. CutOffAt (plain file n) source input m old new still)
 cut-beside file n source left s old new m still r = (
   r.input,
   r.input_is,
   (r.tree, r.runs, r.fresh, whole-part old new _ r.wrote, run-is-sound r.tree r.runs.accepted r.input n, r.unread),
 )
+
+-- the line behind a run is nothing, or that behind the same run of as many steps as it made
+line-made : (size : ℕ) (numbers : EndNumbers) (e f : Ending) (part : List ℕ) → (e ≡ Done → f ≡ Done) → IsPrefix part (line_behind size numbers e) →
+    IsPrefix part (line_behind size numbers f)
+line-made size numbers Running f [] same p = record { rest = line_behind size numbers f; whole_is = refl }
+line-made size numbers Running f (b ∷ bs) same p = absurd (no_front b (bs ++ p.rest) p.whole_is)
+line-made size numbers Done f part same p = let P : Ending → Type 0 = λ g. IsPrefix part (line_behind size numbers g) in subst P (sym (same refl)) p
+line-made size numbers (Stopped kind line) f [] same p = record { rest = line_behind size numbers f; whole_is = refl }
+line-made size numbers (Stopped kind line) f (b ∷ bs) same p = absurd (no_front b (bs ++ p.rest) p.whole_is)
+
+-- a prefix goes on behind a front
+prefix-behind : (front part whole : List ℕ) → IsPrefix part whole → IsPrefix (front ++ part) (front ++ whole)
+prefix-behind front part whole p =
+    record { rest = p.rest; whole_is = ap (λ q. front ++ q) p.whole_is ∙ sym (append_assoc front part p.rest) }
+
+-- a run of `bulk` that has written all its text, and a part of its line, stands at a whole step of it
+pub bulk-stands : (size : ℕ) (t : Tables) (n : ℕ) (m : Kept) (part : List ℕ) (old new : Option (List ℕ)) → Accepted (program_of t) →
+    Stands t [] n m → IsPrefix part (line_behind size (numbers_of m) (rules.plain (program_of t) [] n).ending) →
+    Appends old new (text_after (program_of t) [] n ++ part) → StandsAfter t [] n m.steps m (bulk_added size t m.steps m) old new
+bulk-stands size t n m part old new accepted shown prefix wrote =
+    let s = opening (program_of t) [] in
+    let r = run-of (classes_of t) n 0 s in
+    let from : 0 + r.0 ≡ r.0 = omega arith in
+    let k : m.steps ≡ r.0 = shown.steps ∙ r.1.steps ∙ from in
+    let P : State → Type 0 = λ x. Shows t m x in
+    let Q : List ℕ → Type 0 = λ bytes. Appends old new bytes in
+    let R : ℕ → Type 0 = λ j. StandsAfter t [] n j m (bulk_added size t j m) old new in
+    let all : text_after (program_of t) [] n ≡ text_of t s (r.0 - 1) ++ added t s r.0 =
+    ap (λ x. text x.output) (sym r.1.state) ∙ sym (text-split t [] r.0) in
+    subst R (sym k) (record {
+      within = r.1.within;
+      made = r.1.made_steps ∙ from;
+      stands = stands-shown t [] r.0 m accepted (subst P (sym r.1.state) shown.shows) (k ∙ sym (r.1.made_steps ∙ from));
+      wrote = (
+        added t s r.0 ++ part,
+        prefix-behind (added t s r.0) part _ (line-made size (numbers_of m) _ _ part r.1.done prefix),
+        subst Q (ap (λ q. q ++ part) all ∙ append_assoc (text_of t s (r.0 - 1)) (added t s r.0) part) wrote,
+      );
+    })
+
+-- a list is a prefix of itself
+all-prefix : (xs : List ℕ) → IsPrefix xs xs
+all-prefix xs = record { rest = []; whole_is = sym (append-nil xs) }
+
+cut-generated : (size : ℕ) (source : List ℕ) (s : Status) (old new : Option (List ℕ)) (m : Kept) (input : List ℕ) (still : Type 0) →
+    RanGenerated size source s old new m → CutOffAt (bulk size) source input m old new still
+cut-generated size source s old new m input still r =
+    (r.tables, r.runs, bulk-stands size r.tables MOST_STEPS m _ old new r.runs.accepted r.stands (all-prefix _) r.wrote)
 
 cut-well : (c : Command) (source : List ℕ) (left old new : Option (List ℕ)) (m : Kept) (still : Type 0) → EndsWell c source left old new m still →
     CutOff c source left old new m still
@@ -214,6 +291,7 @@ cut-well (run file n) source left old new m still r = cut-ran file n source left
 cut-well (plain file n) source left old new m still r = cut-beside file n source left status.Done old new m still r
 cut-well (fmt file) source left old new m still r = (r.tree, r.means, r.fresh, whole-part old new _ r.wrote)
 cut-well (check file) source left old new m still r = (r.tree, r.runs, r.fresh, whole-part old new _ r.wrote)
+cut-well (bulk size) source left old new m still r = cut-generated size source status.Done old new m [] still r
 
 cut-stops : (c : Command) (source : List ℕ) (left : Option (List ℕ)) (s : Status) (old new : Option (List ℕ)) (m : Kept) (still : Type 0) →
     StopsRun c source left s old new m still → CutOff c source left old new m still
@@ -221,9 +299,7 @@ cut-stops (run file n) source left s old new m still r = cut-ran file n source l
 cut-stops (plain file n) source left s old new m still r = cut-beside file n source left s old new m still r
 cut-stops (fmt file) source left s old new m still r = absurd r
 cut-stops (check file) source left s old new m still r = absurd r
-
-no_lie : true ≡ false → ⊥
-no_lie e = cc
+cut-stops (bulk size) source left s old new m still r = cut-generated size source s old new m [] still r
 
 -- one of the steps asks
 asked : (t : Tree) (input : List ℕ) (n k : ℕ) (old new : Option (List ℕ)) (still : Type 0) → AsksAfter t input n k old new →
@@ -266,6 +342,7 @@ cut-input (plain file n) source left old new m still h =
     )
 cut-input (fmt file) source left old new m still h = absurd h.2
 cut-input (check file) source left old new m still h = absurd h.2
+cut-input (bulk size) source left old new m still h = absurd h.2
 
 cut-at : (c : Command) (source : List ℕ) (left old new : Option (List ℕ)) (m : Kept) (still : Type 0) → CutOff c source left old new m still →
     ForInput left (λ input. CutOffAt c source input m old new still)
@@ -273,6 +350,7 @@ cut-at (run file n) source left old new m still h = h
 cut-at (plain file n) source left old new m still h = h
 cut-at (fmt file) source left old new m still h = for-input left _ (λ input. h)
 cut-at (check file) source left old new m still h = for-input left _ (λ input. h)
+cut-at (bulk size) source left old new m still h = for-input left _ (λ input. h)
 
 untouched-or : (c : Command) (source : List ℕ) (left old new : Option (List ℕ)) (m : Kept) (still : Type 0) →
     Untouched m old new still ⊎ CutOff c source left old new m still →
@@ -303,7 +381,7 @@ status-of c source left s old new m still h = go s h (answers-of c source left s
   where
     expects : (s : Status) → ForInput left (λ input. Answers c source input s old new m still) →
         ForInput left (λ input. ExpectsStatus c source input s)
-    expects s (input, is, a) = (input, is, (a.text, (a.meaning, a.means, a.expects)))
+    expects s (input, is, a) = (input, is, (numbers_of m, a.text, (a.meaning, a.means, a.expects)))
 
     go : (s : Status) → Settles c source left s old new m still →
         OnTrue (is_answer s) (ForInput left (λ input. Answers c source input s old new m still)) →
@@ -328,12 +406,14 @@ module _ (source : List ℕ) (left old new : Option (List ℕ)) (m : Kept) (stil
   untouched-still (plain file n) (inr h) e = absurd (no_lie e)
   untouched-still (fmt file) (inr h) e = inr h
   untouched-still (check file) (inr h) e = inr h
+  untouched-still (bulk size) (inr h) e = inr h
 
   well-still : (c : Command) → EndsWell c source left old new m (Unit {0}) → reads_input c ≡ false → EndsWell c source left old new m still
   well-still (run file n) h e = absurd (no_lie e)
   well-still (plain file n) h e = absurd (no_lie e)
   well-still (fmt file) h e = h
   well-still (check file) h e = h
+  well-still (bulk size) h e = h
 
   stops-still : (c : Command) (s : Status) → StopsRun c source left s old new m (Unit {0}) → reads_input c ≡ false →
       StopsRun c source left s old new m still
@@ -341,6 +421,7 @@ module _ (source : List ℕ) (left old new : Option (List ℕ)) (m : Kept) (stil
   stops-still (plain file n) s h e = absurd (no_lie e)
   stops-still (fmt file) s h e = absurd h
   stops-still (check file) s h e = absurd h
+  stops-still (bulk size) s h e = h
 
   pub settles-still : (c : Command) (s : Status) → reads_input c ≡ false → Settles c source left s old new m (Unit {0}) →
       Settles c source left s old new m still

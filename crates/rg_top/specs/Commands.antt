@@ -6,6 +6,7 @@ use Rattle.std.specs.List.{list_all}
 use Rattle.rg_base.specs.declared.limits.TheConstants.{MOST_STEPS, USUAL_STEPS}
 use Rattle.rg_base.specs.Pieces.{is_digit}
 use Rattle.rg_base.specs.Tokens.{value_of}
+use Rattle.rg_make.specs.declared.whole.TheConstants.{MOST_SIZE}
 
 -- the words as texts
 abbrev pub texts : List (Bor (List ℕ)) → List (List ℕ)
@@ -21,20 +22,31 @@ pub data Command : Type 0 where
   fmt : (file : List ℕ) → Command
   -- check FILE
   check : (file : List ℕ) → Command
+  -- bulk N
+  bulk : (size : ℕ) → Command
 
--- the file that a command names
-abbrev pub file_of : Command → List ℕ
-file_of (run file steps) = file
-file_of (plain file steps) = file
-file_of (fmt file) = file
-file_of (check file) = file
+-- where a command's program comes from
+pub data Origin : Type 0 where
+  -- a file of that name has its source
+  in_file : (file : List ℕ) → Origin
+  -- it is generated, with that size
+  generated : (size : ℕ) → Origin
 
--- the most steps that a command asks for; one that runs nothing asks for none
+-- where the program of a command comes from
+abbrev pub origin_of : Command → Origin
+origin_of (run file steps) = in_file file
+origin_of (plain file steps) = in_file file
+origin_of (fmt file) = in_file file
+origin_of (check file) = in_file file
+origin_of (bulk size) = generated size
+
+-- the most steps that a command asks for; `bulk` asks for as many as there can be, and one that runs nothing for none
 abbrev pub steps_of : Command → ℕ
 steps_of (run file steps) = steps
 steps_of (plain file steps) = steps
 steps_of (fmt file) = 0
 steps_of (check file) = 0
+steps_of (bulk size) = MOST_STEPS
 
 -- whether a command may read input
 abbrev pub reads_input : Command → Bool
@@ -42,6 +54,7 @@ reads_input (run file steps) = true
 reads_input (plain file steps) = true
 reads_input (fmt file) = false
 reads_input (check file) = false
+reads_input (bulk size) = false
 
 -- whether what the words give may
 abbrev pub may_read : Option Command → Bool
@@ -89,8 +102,15 @@ named name file options =
     if bytes_eq name (codes "fmt") then alone (fmt file) options else
     if bytes_eq name (codes "check") then alone (check file) options else None
 
+-- a command on a size alone
+abbrev pub sized : (number : List ℕ) → List (List ℕ) → Option Command
+sized number [] = option_map bulk (number_in number MOST_SIZE)
+sized number (word ∷ words) = None
+
 -- The command that words give, if they give one. They don't include the program's name.
 abbrev pub command : List (List ℕ) → Option Command
 command [] = None
 command (name ∷ []) = None
-command (name ∷ file ∷ options) = if is_file file then named name file options else None
+command (name ∷ word ∷ words) =
+    if bytes_eq name (codes "bulk") then sized word words else
+    if is_file word then named name word words else None

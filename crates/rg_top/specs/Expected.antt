@@ -1,9 +1,12 @@
--- What a source means, and what a command answers to it.
+-- What a program's source means, and what a command answers to it.
 use Rattle.std.specs.Prelude.{◌≡◌, ℕ, ◌<◌, ◌≤◌, ◌⊎◌, List, [], ◌∷◌, ◌++◌, codes, length, Option, Some, None, Ok, Err}
-use Rattle.rg_base.specs.declared.limits.TheConstants.{SOURCE_BYTES}
+use Rattle.rg_base.specs.declared.limits.TheConstants.{SOURCE_BYTES, MOST_STEPS}
 use Rattle.rg_base.specs.declared.fault.Fault.{Fault}
+use Rattle.rg_base.specs.declared.outcome.EndNumbers.{EndNumbers}
 use Rattle.rg_base.specs.declared.token.Token.{Token}
+use Rattle.rg_base.specs.Report.{bulk_line}
 use Rattle.rg_base.specs.Text.{text}
+use Rattle.rg_io.specs.Files.{Told, HasFile}
 use Rattle.rg_base.specs.Tokens.{cut, end_line}
 use Rattle.rg_tree.specs.Tree.{Tree}
 use Rattle.rg_tree.specs.Grammar.{Spells}
@@ -12,9 +15,10 @@ use Rattle.rg_tree.specs.Canonical.{canon}
 use Rattle.rg_rules.specs.Acceptance.{first_fault}
 use Rattle.rg_rules.specs.Runs.{Ending, Running, Done, Stopped, Ran}
 use Rattle.rg_rules.specs.Runs as rules
+use Rattle.rg_make.specs.Generated as make
 use Rattle.rg_top.specs.declared.status.Status.{Status}
 use Rattle.rg_top.specs.declared.status.Status.TheVariants as status
-use Rattle.rg_top.specs.Commands.{Command, run, plain, fmt, check}
+use Rattle.rg_top.specs.Commands.{Command, run, plain, fmt, check, bulk, Origin, in_file, generated, origin_of}
 
 -- what a source can be
 pub data Meaning : Type 0 where
@@ -39,6 +43,16 @@ abbrev pub Means : List ℕ → Meaning → Type 0
 Means source too_long = SOURCE_BYTES < length source
 Means source (faulty f) = (length source ≤ SOURCE_BYTES) × ((cut source ≡ Err f) ⊎ IsStuck source f)
 Means source (spelt t) = (length source ≤ SOURCE_BYTES) × SpellsTree source t
+
+-- a program's source there: a file's bytes, where files tell them; a generated program has none
+abbrev pub HasSource : Option Told → Origin → (source : List ℕ) → Type 0
+HasSource told (in_file file) source = HasFile told file source
+HasSource told (generated size) source = source ≡ []
+
+-- what comes from there: what the file's source means, or the generated program of that size, with the seed 1
+abbrev pub MeansFrom : Origin → (source : List ℕ) → Meaning → Type 0
+MeansFrom (in_file file) source m = Means source m
+MeansFrom (generated size) source m = m ≡ spelt (make.generated 1 size)
 
 -- a status, with the text on the output
 pub record Answer : Type 0 where
@@ -72,19 +86,35 @@ unless_fault (Some f) a = refused f
 abbrev pub accepted_text : List ℕ
 accepted_text = codes "accepted" ++ 10 ∷ []
 
--- what a command answers to a source of that meaning, on an input
-abbrev pub expected : Command → (input : List ℕ) → Meaning → Answer
-expected c input too_long = record { status = status.Long; text = [] }
-expected c input (faulty f) = refused f
-expected (run file n) input (spelt t) = unless_fault (first_fault t) (run_answer t input n)
-expected (plain file n) input (spelt t) = unless_fault (first_fault t) (run_answer t input n)
-expected (fmt file) input (spelt t) = record { status = status.Done; text = canon t }
-expected (check file) input (spelt t) = unless_fault (first_fault t) (record { status = status.Done; text = accepted_text })
+-- the line of `bulk` is written behind a run that is done
+abbrev pub line_behind : (size : ℕ) → EndNumbers → Ending → List ℕ
+line_behind size numbers Running = []
+line_behind size numbers Done = bulk_line size numbers
+line_behind size numbers (Stopped kind line) = []
 
--- the command answers that to the source, on the input
-abbrev pub Expects : Command → (source input : List ℕ) → Status → (text : List ℕ) → Type 0
-Expects c source input s t = (m : Meaning) × Means source m × (expected c input m ≡ record { status = s; text = t })
+-- a run's answer with that line behind its text
+abbrev pub bulk_answer : (size : ℕ) → EndNumbers → Tree → (input : List ℕ) → (n : ℕ) → Answer
+bulk_answer size numbers t input n = record {
+  status = status_of (rules.plain t input n).ending;
+  text = text_after t input n ++ line_behind size numbers (rules.plain t input n).ending;
+}
 
--- the command answers that status
+-- What a command answers to a source of that meaning, on an input. `bulk` runs an accepted program on an empty input, and tells
+-- the numbers of the machine.
+abbrev pub expected : Command → EndNumbers → (input : List ℕ) → Meaning → Answer
+expected c numbers input too_long = record { status = status.Long; text = [] }
+expected c numbers input (faulty f) = refused f
+expected (run file n) numbers input (spelt t) = unless_fault (first_fault t) (run_answer t input n)
+expected (plain file n) numbers input (spelt t) = unless_fault (first_fault t) (run_answer t input n)
+expected (fmt file) numbers input (spelt t) = record { status = status.Done; text = canon t }
+expected (check file) numbers input (spelt t) = unless_fault (first_fault t) (record { status = status.Done; text = accepted_text })
+expected (bulk size) numbers input (spelt t) = bulk_answer size numbers t [] MOST_STEPS
+
+-- the command answers that to the source, on the input, where the machine has those numbers
+abbrev pub Expects : Command → EndNumbers → (source input : List ℕ) → Status → (text : List ℕ) → Type 0
+Expects c numbers source input s t =
+    (m : Meaning) × MeansFrom (origin_of c) source m × (expected c numbers input m ≡ record { status = s; text = t })
+
+-- the command answers that status, whatever the numbers
 abbrev pub ExpectsStatus : Command → (source input : List ℕ) → Status → Type 0
-ExpectsStatus c source input s = (t : List ℕ) × Expects c source input s t
+ExpectsStatus c source input s = (numbers : EndNumbers) × (t : List ℕ) × Expects c numbers source input s t

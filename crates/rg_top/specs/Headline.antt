@@ -1,8 +1,9 @@
 -- The words of the headline: what a call leaves, and from which cause its answer comes (docs/promises.md).
-use Rattle.std.specs.Prelude.{◌≡◌, ◌≢◌, ℕ, ◌-◌, ◌<◌, ◌≤◌, true, ◌⊎◌, List, ◌++◌, Option, Some, None, IfSome}
+use Rattle.std.specs.Prelude.{◌≡◌, ◌≢◌, ℕ, ◌-◌, ◌<◌, ◌≤◌, true, ◌⊎◌, List, [], ◌++◌, Option, Some, None, IfSome}
 use Rattle.rg_base.specs.declared.fault.Fault.{Fault}
+use Rattle.rg_base.specs.declared.limits.TheConstants.{MOST_STEPS}
 use Rattle.rg_io.specs.Content.{Appends, AppendsPart, AppendsUpTo, IsPrefix}
-use Rattle.rg_io.specs.Files.{Told, HasFile}
+use Rattle.rg_io.specs.Files.{Told}
 use Rattle.rg_tree.specs.Tree.{Tree}
 use Rattle.rg_tree.specs.Rows.Tables.{Tables}
 use Rattle.rg_tree.specs.Rows.RowTrees.{program_of}
@@ -13,13 +14,14 @@ use Rattle.rg_rules.specs.Runs.{opening}
 use Rattle.rg_rules.specs.Runs as rules
 use Rattle.rg_rules.specs.Texts.{text_of, added}
 use Rattle.rg_rules.specs.Inputs.{first_asks}
-use Rattle.rg_run.specs.Machine.{Kept, IsFresh}
+use Rattle.rg_run.specs.Machine.{Kept, IsFresh, numbers_of}
 use Rattle.rg_run.specs.Sound.{IsSound, Stands, NeverAsks}
 use Rattle.rg_top.specs.declared.status.Status.{Status}
 use Rattle.rg_top.specs.declared.status.Status.TheVariants as status
-use Rattle.rg_top.specs.Commands.{Command, run, plain, fmt, check, command, file_of, steps_of}
+use Rattle.rg_top.specs.Commands.{Command, run, plain, fmt, check, bulk, command, Origin, in_file, generated, origin_of, steps_of}
 use Rattle.rg_top.specs.Statuses.{status_text, is_from_outside}
-use Rattle.rg_top.specs.Expected.{Meaning, too_long, faulty, spelt, Means, expected, accepted_text, text_after, ExpectsStatus}
+use Rattle.rg_top.specs.Expected.{Meaning, too_long, faulty, spelt, HasSource, MeansFrom, expected, accepted_text, text_after}
+use Rattle.rg_top.specs.Expected.{line_behind, ExpectsStatus}
 
 -- the input's source has these bytes left, where it tells that
 abbrev pub HasInput : (left : Option (List ℕ)) → (input : List ℕ) → Type 0
@@ -29,11 +31,11 @@ HasInput left input = IfSome left (λ told. told ≡ input)
 abbrev pub ForInput : (left : Option (List ℕ)) → ((input : List ℕ) → Type 0) → Type 0
 ForInput left P = (input : List ℕ) × HasInput left input × P input
 
--- a fact on the command that the words give, on a source that its file has, and on the input: the file's bytes, where files
+-- a fact on the command that the words give, on a source that its program has, and on the input: a file's bytes, where files
 -- tell them, else some bytes
 abbrev pub ForSource : Option Told → (left : Option (List ℕ)) → (words : List (List ℕ)) → (Command → (source input : List ℕ) → Type 0) → Type 0
 ForSource told left words P =
-    (c : Command) × (source : List ℕ) × (command words ≡ Some c) × HasFile told (file_of c) source × ForInput left (P c source)
+    (c : Command) × (source : List ℕ) × (command words ≡ Some c) × HasSource told (origin_of c) source × ForInput left (P c source)
 
 -- the one fact, where the checker has no fault, else the other
 abbrev pub IfAccepted : Option Fault → (accepted refused : Type 0) → Type 0
@@ -45,8 +47,8 @@ abbrev pub RunStands : Tree → (input : List ℕ) → (n : ℕ) → Kept → Ty
 RunStands t input n m = (tables : Tables) × (program_of tables ≡ t) × Stands tables input n m
 
 -- What a command leaves beside its text, for a source of that meaning. A run of an accepted program stands on the machine behind
--- all its steps; `plain` runs it elsewhere, and its run is sound too; where none of these steps asks for the input, it is still
--- as it was. What `fmt` has written parses back into the tree.
+-- all its steps, that of a generated one on an empty input; `plain` runs it elsewhere, and its run is sound too; where none of
+-- these steps asks for the input, it is still as it was. What `fmt` has written parses back into the tree.
 abbrev pub Leaves : Command → (input : List ℕ) → Meaning → Kept → (still : Type 0) → Type 0
 Leaves c input too_long m still = IsFresh m × still
 Leaves c input (faulty f) m still = IsFresh m × still
@@ -56,15 +58,16 @@ Leaves (plain file n) input (spelt t) m still =
     IsFresh m × IfAccepted (first_fault t) (IsSound t input n × (NeverAsks t input n → still)) still
 Leaves (fmt file) input (spelt t) m still = IsFresh m × ParsesBack t
 Leaves (check file) input (spelt t) m still = IsFresh m
+Leaves (bulk size) input (spelt t) m still = RunStands t [] MOST_STEPS m
 
 -- A command has answered this status to one source and one input: the source means something, of which this status and this
 -- text are expected; the output has taken that text and nothing else; and the rest is left as it must be for that meaning.
 -- `still` says that the input is as it was before the call.
 pub record Answers (c : Command) (source input : List ℕ) (s : Status) (old new : Option (List ℕ)) (m : Kept) (still : Type 0) : Type 0 where
   pub meaning : Meaning
-  pub means : Means source meaning
+  pub means : MeansFrom (origin_of c) source meaning
   pub text : List ℕ
-  pub expects : expected c input meaning ≡ record { status = s; text = text }
+  pub expects : expected c (numbers_of m) input meaning ≡ record { status = s; text = text }
   pub wrote : Appends old new text
   pub leaves : Leaves c input meaning m still
 
@@ -72,28 +75,38 @@ pub record Answers (c : Command) (source input : List ℕ) (s : Status) (old new
 abbrev pub Untouched : Kept → (old new : Option (List ℕ)) → (still : Type 0) → Type 0
 Untouched m old new still = IsFresh m × (new ≡ old) × still
 
--- the source spells that tree, and it is accepted
-pub record Runs (source : List ℕ) (t : Tree) : Type 0 where
-  pub means : Means source (spelt t)
+-- that tree comes from there, and it is accepted
+pub record Runs (origin : Origin) (source : List ℕ) (t : Tree) : Type 0 where
+  pub means : MeansFrom origin source (spelt t)
   pub accepted : Accepted t
 
 -- A run of at most n steps stands on the machine behind a whole step k. The output has taken the text of the first k - 1 steps
--- and a prefix of what step k added.
-pub record StandsAfter (t : Tables) (input : List ℕ) (n k : ℕ) (m : Kept) (old new : Option (List ℕ)) : Type 0 where
+-- and a prefix of `last`, which is what step k added.
+pub record StandsAfter (t : Tables) (input : List ℕ) (n k : ℕ) (m : Kept) (last : List ℕ) (old new : Option (List ℕ)) : Type 0 where
   pub within : k ≤ n
   pub made : (rules.plain (program_of t) input k).steps ≡ k
   pub stands : Stands t input k m
-  pub wrote : AppendsUpTo old new (text_of t (opening (program_of t) input) (k - 1)) (added t (opening (program_of t) input) k)
+  pub wrote : AppendsUpTo old new (text_of t (opening (program_of t) input) (k - 1)) last
+
+-- what step k of `bulk` added: its line counts as added behind the last step
+abbrev pub bulk_added : (size : ℕ) → Tables → (k : ℕ) → Kept → List ℕ
+bulk_added size t k m = added t (opening (program_of t) []) k ++ line_behind size (numbers_of m) (rules.plain (program_of t) [] k).ending
 
 -- What a call leaves that was cut off by the output or the notes, or for want of memory. A run stands at a whole step. Else no
 -- run has begun, and the output has taken a prefix of the command's text. Where no step asks for the input, it is still as it was.
 abbrev pub CutOffAt : Command → (source input : List ℕ) → Kept → (old new : Option (List ℕ)) → (still : Type 0) → Type 0
 CutOffAt (run file n) source input m old new still =
-    (t : Tables) × Runs source (program_of t) × StandsAfter t input n m.steps m old new × (NeverAsks (program_of t) input n → still)
+    (t : Tables) × Runs (in_file file) source (program_of t)
+    × StandsAfter t input n m.steps m (added t (opening (program_of t) input) m.steps) old new
+    × (NeverAsks (program_of t) input n → still)
 CutOffAt (plain file n) source input m old new still =
-    (t : Tree) × Runs source t × IsFresh m × AppendsPart old new (text_after t input n) × IsSound t input n × (NeverAsks t input n → still)
-CutOffAt (fmt file) source input m old new still = (t : Tree) × Means source (spelt t) × IsFresh m × AppendsPart old new (canon t)
-CutOffAt (check file) source input m old new still = (t : Tree) × Runs source t × IsFresh m × AppendsPart old new accepted_text
+    (t : Tree) × Runs (in_file file) source t × IsFresh m × AppendsPart old new (text_after t input n) × IsSound t input n
+    × (NeverAsks t input n → still)
+CutOffAt (fmt file) source input m old new still =
+    (t : Tree) × MeansFrom (in_file file) source (spelt t) × IsFresh m × AppendsPart old new (canon t)
+CutOffAt (check file) source input m old new still = (t : Tree) × Runs (in_file file) source t × IsFresh m × AppendsPart old new accepted_text
+CutOffAt (bulk size) source input m old new still =
+    (t : Tables) × Runs (generated size) source (program_of t) × StandsAfter t [] MOST_STEPS m.steps m (bulk_added size t m.steps m) old new
 
 -- a run of n steps has made k whole ones, the next asks for the input, and the output has taken the text of all k
 pub record AsksAfter (t : Tree) (input : List ℕ) (n k : ℕ) (old new : Option (List ℕ)) : Type 0 where
@@ -106,11 +119,12 @@ pub record AsksAfter (t : Tree) (input : List ℕ) (n k : ℕ) (old new : Option
 -- what a call leaves that was cut off by the input; commands other than `run` and `plain` never are
 abbrev pub CutAtInput : Command → (source input : List ℕ) → Kept → (old new : Option (List ℕ)) → Type 0
 CutAtInput (run file n) source input m old new =
-    (t : Tables) × Runs source (program_of t) × Stands t input m.steps m × AsksAfter (program_of t) input n m.steps old new
+    (t : Tables) × Runs (in_file file) source (program_of t) × Stands t input m.steps m × AsksAfter (program_of t) input n m.steps old new
 CutAtInput (plain file n) source input m old new =
-    (t : Tree) × Runs source t × IsFresh m × (k : ℕ) × AsksAfter t input n k old new
+    (t : Tree) × Runs (in_file file) source t × IsFresh m × (k : ℕ) × AsksAfter t input n k old new
 CutAtInput (fmt file) source input m old new = ⊥
 CutAtInput (check file) source input m old new = ⊥
+CutAtInput (bulk size) source input m old new = ⊥
 
 -- the steps that the words ask for
 abbrev pub steps_asked : Option Command → ℕ
@@ -136,11 +150,11 @@ TookNotes steps s old new = Appends old new (status_text steps s)
 abbrev pub Exactly : Status → Status → Type 0 → Type 0
 Exactly answer s P = (answer ≡ s → P) × (P → (answer ≡ s) ⊎ (is_from_outside answer ≡ true))
 
--- This status is answered exactly where it is expected of the file's source and the input, unless the call was cut off from
+-- This status is answered exactly where it is expected of the program's source and the input, unless the call was cut off from
 -- outside. Where files and the input's source tell their bytes, these are meant. Of those that don't, the answer says that the
 -- status is expected of some bytes, and where it is expected of all that they may have, it is answered.
 pub record ExactlyWhere (told : Option Told) (left : Option (List ℕ)) (words : List (List ℕ)) (answer s : Status) : Type 0 where
   pub only : answer ≡ s → ForSource told left words (λ c source input. ExpectsStatus c source input s)
   pub always : (c : Command) → command words ≡ Some c →
-      ((source input : List ℕ) → HasFile told (file_of c) source → HasInput left input → ExpectsStatus c source input s) →
+      ((source input : List ℕ) → HasSource told (origin_of c) source → HasInput left input → ExpectsStatus c source input s) →
       (answer ≡ s) ⊎ (is_from_outside answer ≡ true)

@@ -2,6 +2,7 @@
 //! (docs/promises.md).
 #![tactic(auto)]
 
+mod no_input;
 mod notes;
 mod process;
 mod status;

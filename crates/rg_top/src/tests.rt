@@ -58,14 +58,54 @@ fn call(alloc: Global, words: &[&str], streams: &mut Streams, machine: &mut Mach
 
 #[test]
 fn streams_that_fail_are_named(rt: HostRuntime) -> Result<(), Fail> {
-    // The calls of files, input, output and notes that fail (0: none).
+    // The words, and the calls of files, input, output and notes that fail (0: none).
+    let run: [&str; 2] = ["run", "a"];
+    let bulk: [&str; 2] = ["bulk", "2"];
     let rows = [
-        (2, 0, 0, 0, "", "source fault\n", Status::SourceFault),
-        (0, 1, 0, 0, "1\n", "input fault\n", Status::InputFault),
-        (0, 0, 3, 0, "1\n2\n", "output fault\n", Status::OutputFault),
-        (0, 1, 0, 1, "1\n", "output fault\n", Status::OutputFault),
+        (run, 2, 0, 0, 0, "", "source fault\n", Status::SourceFault),
+        (run, 0, 1, 0, 0, "1\n", "input fault\n", Status::InputFault),
+        (
+            run,
+            0,
+            0,
+            3,
+            0,
+            "1\n2\n",
+            "output fault\n",
+            Status::OutputFault,
+        ),
+        (
+            bulk,
+            0,
+            0,
+            3,
+            0,
+            "3\n2\n",
+            "output fault\n",
+            Status::OutputFault,
+        ),
+        (
+            bulk,
+            0,
+            0,
+            4,
+            0,
+            "3\n2\n5\n",
+            "output fault\n",
+            Status::OutputFault,
+        ),
+        (
+            run,
+            0,
+            1,
+            0,
+            1,
+            "1\n",
+            "output fault\n",
+            Status::OutputFault,
+        ),
     ];
-    for (files, input, out, notes, output, told, status) in rows {
+    for (words, files, input, out, notes, output, told, status) in rows {
         let mut taken = ample_streams(rt.alloc(), THREE_PRINTS, b"2")?;
         taken.files.fail_at(files)?;
         taken.input.fail_at(input)?;
@@ -73,7 +113,7 @@ fn streams_that_fail_are_named(rt: HostRuntime) -> Result<(), Fail> {
         taken.notes.fail_at(notes)?;
         let answer = call(
             rt.alloc(),
-            &["run", "a"],
+            &words,
             &mut taken,
             &mut Machine::new(rt.alloc()),
         );

@@ -7,33 +7,43 @@ ghost use Rattle.std.specs.Bool.{OnTrue, OnFalse};
 ghost use Rattle.rg_base.specs.declared.fault.Fault.{Fault};
 ghost use Rattle.rg_base.specs.declared.limits.TheConstants.{SOURCE_BYTES};
 ghost use Rattle.rg_base.specs.declared.outcome.Trap.{Trap};
+ghost use Rattle.rg_base.specs.Report as report;
 ghost use Rattle.rg_base.specs.Tokens.{cut};
 ghost use Rattle.rg_tree.specs.Rows.RowTrees.{program_of};
 ghost use Rattle.rg_io.specs.Content.{Rose, Appends};
-ghost use Rattle.rg_run.specs.Machine.{IsFresh, Kept};
+ghost use Rattle.rg_io.specs.Files.{Told};
+ghost use Rattle.rg_make.specs.declared.whole.TheConstants.{MOST_SIZE};
+ghost use Rattle.rg_run.specs.Machine.{IsFresh, Kept, numbers_of};
+ghost use Rattle.rg_rules.specs.Acceptance.{Accepted as IsAccepted};
 ghost use Rattle.rg_rules.specs.Names.{FewNames};
-ghost use Rattle.rg_top.specs.Commands.{command, texts, run, plain, fmt, check, file_of, steps_of};
+ghost use Rattle.rg_top.specs.Commands.{command, texts, run, plain, fmt, check, bulk, steps_of};
+ghost use Rattle.rg_top.specs.Commands.{Origin, in_file, generated, origin_of};
 ghost use Rattle.rg_top.specs.Commands.{reads_input, may_read};
-ghost use Rattle.rg_top.specs.Inner.Requests.{command_of};
+ghost use Rattle.rg_top.specs.Inner.Requests.{command_of, AsksWithin};
 ghost use Rattle.rg_top.specs.Statuses.{status_text, is_answer, is_refusal, is_cut_off};
-ghost use Rattle.rg_top.specs.Expected.{spelt, Means, IsStuck, SpellsTree, ExpectsStatus};
+ghost use Rattle.rg_top.specs.Expected.{spelt, Means, MeansFrom, IsStuck, SpellsTree};
+ghost use Rattle.rg_top.specs.Expected.{ExpectsStatus};
 ghost use Rattle.rg_top.specs.Headline.{ForSource, Exactly, ExactlyWhere, Answers};
 ghost use Rattle.rg_top.specs.Headline.{Runs, Untouched, CutOffAt, CutAtInput};
 ghost use Rattle.rg_top.specs.Headline.{TookNotes, steps_asked};
-ghost use Rattle.rg_top.specs.Inner.Settled.{status_of_ended, Settles, SettlesFile};
+ghost use Rattle.rg_top.specs.Inner.Settled.{status_of_ended, RanFrom, PutLine, Settles};
+ghost use Rattle.rg_top.specs.Inner.Settled.{SettlesCommand, IfGenerated, Brings};
 ghost use Rattle.rg_top.specs.Inner.Settled.{Caused, CausedByOutput};
 
+use crate::no_input::NoInput;
 use crate::notes::tell;
 use crate::status::Status;
 use crate::words::{self, Request};
-use rg_base::{Ended, Fault, SOURCE_BYTES, Stop};
+use rg_base::{Ended, Fault, MOST_STEPS, SOURCE_BYTES, Stop};
 use rg_check::{Accepted, check, spelt_has_few_names};
 use rg_input::Numbers;
 use rg_io::{Files, Sink, Source, Taken, put_all, take_all};
 use rg_lex::tokens;
+use rg_make::program_of;
 use rg_parse::parse;
 use rg_plain::PlainMachine;
 use rg_print::{canon_parses_back, text};
+use rg_report::bulk_line;
 use rg_run::Machine;
 use rg_tree::Program;
 use std::alloc::Global;
@@ -78,8 +88,9 @@ fn run_accepted<I: Source, O: Sink>(
     machine: &mut Machine,
 ) -> Status
     requires { IsFresh machine.old }
-    ensures settles { (file source : List ℕ) → Runs source (program_of accepted.now.program) →
-        Settles (run file steps) source (I.left input.old) result
+    ensures ran { (origin : Origin) (source : List ℕ) →
+        Runs origin source (program_of accepted.now.program) →
+        RanFrom origin steps source (I.left input.old) result
         (O.taken out.old) (O.taken out.new) machine.new (input.new ≡ input.old) }
     ensures caused { Caused result (I.faults input.old) (I.faults input.new)
         (O.faults out.old) (O.faults out.new) }
@@ -122,7 +133,7 @@ fn plain_accepted<I: Source, O: Sink>(
     out: &mut O,
 ) -> Status
     ensures settles { (file source : List ℕ) (m : Kept) →
-        Runs source (program_of accepted.now.program) → IsFresh m →
+        Runs (in_file file) source (program_of accepted.now.program) → IsFresh m →
         Settles (plain file steps) source (I.left input.old) result
         (O.taken out.old) (O.taken out.new) m (input.new ≡ input.old) }
     ensures caused { Caused result (I.faults input.old) (I.faults input.new)
@@ -199,39 +210,154 @@ fn format_program<O: Sink>(alloc: Global, program: &Program, out: &mut O) -> Sta
     }
 }
 
-/// Does what is asked for with a source.
-fn answer_source<I: Source, O: Sink>(
+/// Gives the line of `bulk` to the output.
+fn put_bulk_line<O: Sink>(alloc: Global, size: u32, out: &mut O, machine: &Machine) -> Status
+    ensures put { PutLine result (report.bulk_line size (numbers_of machine.now))
+        (O.taken out.old) (O.taken out.new) }
+    ensures caused { CausedByOutput result (O.faults out.old) (O.faults out.new) }
+{
+    let numbers = machine.numbers();
+    match bulk_line(alloc, u64::from(size), &numbers) {
+        Err(_) => Status::Memory,
+        Ok(line) => match put_all(out, line.bytes()) {
+            Ok(()) => Status::Done,
+            Err(_) => Status::OutputFault,
+        },
+    }
+}
+
+/// Runs a generated program on the machine, without an input, and tells the machine's numbers
+/// behind it.
+fn bulk_accepted<O: Sink>(
+    alloc: Global,
+    accepted: &Accepted,
+    size: u32,
+    out: &mut O,
+    machine: &mut Machine,
+) -> Status
+    requires { IsFresh machine.old }
+    ensures settles { (source : List ℕ) (left : Option (List ℕ)) →
+        Runs (generated size) source (program_of accepted.now.program) →
+        Settles (bulk size) source left result
+        (O.taken out.old) (O.taken out.new) machine.new (Unit {0}) }
+    ensures caused { CausedByOutput result (O.faults out.old) (O.faults out.new) }
+{
+    let mut input = NoInput;
+    let ran = run_accepted(alloc, accepted, MOST_STEPS, &mut input, out, machine);
+    if let Status::Done = ran {
+        return put_bulk_line(alloc, size, out, machine);
+    }
+    ran
+}
+
+/// Runs a generated program: it is accepted.
+fn bulk_program<O: Sink>(
+    alloc: Global,
+    program: Program,
+    size: u32,
+    out: &mut O,
+    machine: &mut Machine,
+) -> Status
+    requires fresh { IsFresh machine.old }
+    requires names { FewNames (program_of program) }
+    requires accepted { IsAccepted (program_of program) }
+    ensures settles { (source : List ℕ) (left : Option (List ℕ)) →
+        MeansFrom (generated size) source (spelt (program_of program)) →
+        Settles (bulk size) source left result
+        (O.taken out.old) (O.taken out.new) machine.new (Unit {0}) }
+    ensures caused { CausedByOutput result (O.faults out.old) (O.faults out.new) }
+{
+    match check(alloc, program) {
+        Err(Stop::Fault(_)) => unreachable!(),
+        Err(Stop::Memory) => Status::Memory,
+        Ok(accepted) => bulk_accepted(alloc, &accepted, size, out, machine),
+    }
+}
+
+/// Does what is asked for with its program.
+fn answer_program<I: Source, O: Sink>(
     alloc: Global,
     request: Request<'_>,
-    source: &[u8],
+    program: Program,
     input: &mut I,
     out: &mut O,
     machine: &mut Machine,
 ) -> Status
     requires fresh { IsFresh machine.old }
-    requires fits { length source.now ≤ SOURCE_BYTES }
-    ensures settles { Settles (command_of request.entry) source.now (I.left input.old) result
+    requires names { FewNames (program_of program) }
+    requires accepted { IfGenerated (origin_of (command_of request))
+        (IsAccepted (program_of program)) }
+    ensures settles { (source : List ℕ) →
+        MeansFrom (origin_of (command_of request.entry)) source (spelt (program_of program)) →
+        Settles (command_of request.entry) source (I.left input.old) result
         (O.taken out.old) (O.taken out.new) machine.new (input.new ≡ input.old) }
     ensures reads_nothing { reads_input (command_of request.entry) ≡ false →
         input.new ≡ input.old }
     ensures caused { Caused result (I.faults input.old) (I.faults input.new)
         (O.faults out.old) (O.faults out.new) }
 {
-    let program = match read(alloc, source) {
-        Err(Stop::Fault(fault)) => return Status::Refused(fault),
-        Err(Stop::Memory) => return Status::Memory,
-        Ok(program) => program,
-    };
     match request {
         Request::Run { steps, .. } => run_program(alloc, program, steps, input, out, machine),
         Request::Plain { steps, .. } => plain_program(alloc, program, steps, input, out),
         Request::Format { .. } => format_program(alloc, &program, out),
         Request::Check { .. } => check_program(alloc, program, out),
+        Request::Bulk { size } => bulk_program(alloc, program, size, out, machine),
     }
 }
 
-/// Does what is asked for with the source in a file.
-fn answer_file<F: Files, I: Source, O: Sink>(
+/// The program of a file, or the status of the call without one.
+fn program_in<F: Files>(alloc: Global, name: &str, files: &mut F) -> Result<Program, Status>
+    ensures brings { Brings (F.told files.old) (in_file name.now) result }
+    ensures source_fault { result ≡ Err Status.SourceFault →
+        Rose (F.faults files.old) (F.faults files.new) }
+    ensures never_fall { F.faults files.old ≤ F.faults files.new }
+{
+    let source = match take_all(alloc, files, name, SOURCE_BYTES) {
+        Err(Taken::SourceFault) => return Err(Status::SourceFault),
+        Err(Taken::Long) => return Err(Status::Long),
+        Err(Taken::Memory) => return Err(Status::Memory),
+        Ok(source) => source,
+    };
+    match read(alloc, source.bytes()) {
+        Err(Stop::Fault(fault)) => Err(Status::Refused(fault)),
+        Err(Stop::Memory) => Err(Status::Memory),
+        Ok(program) => Ok(program),
+    }
+}
+
+/// The generated program of a size, with the seed 1.
+fn program_of_size(alloc: Global, size: u32) -> Result<Program, Status>
+    requires { size ≤ MOST_SIZE }
+    ensures brings { (told : Option Told) → Brings told (generated size) result }
+    ensures no_file { result ≢ Err Status.SourceFault }
+{
+    match program_of(alloc, 1, size) {
+        Err(_) => Err(Status::Memory),
+        Ok(program) => Ok(program),
+    }
+}
+
+/// The program that is asked for: that of a file, or a generated one.
+fn program_from<F: Files>(
+    alloc: Global,
+    request: Request<'_>,
+    files: &mut F,
+) -> Result<Program, Status>
+    requires { AsksWithin request }
+    ensures brings { Brings (F.told files.old) (origin_of (command_of request.entry)) result }
+    ensures source_fault { result ≡ Err Status.SourceFault →
+        Rose (F.faults files.old) (F.faults files.new) }
+    ensures never_fall { F.faults files.old ≤ F.faults files.new }
+{
+    match request {
+        Request::Run { file, .. } | Request::Plain { file, .. } => program_in(alloc, file, files),
+        Request::Format { file } | Request::Check { file } => program_in(alloc, file, files),
+        Request::Bulk { size } => program_of_size(alloc, size),
+    }
+}
+
+/// Does what is asked for.
+fn answer<F: Files, I: Source, O: Sink>(
     alloc: Global,
     request: Request<'_>,
     files: &mut F,
@@ -239,8 +365,9 @@ fn answer_file<F: Files, I: Source, O: Sink>(
     out: &mut O,
     machine: &mut Machine,
 ) -> Status
-    requires { IsFresh machine.old }
-    ensures settles { SettlesFile (F.told files.old) (command_of request.entry)
+    requires fresh { IsFresh machine.old }
+    requires within { AsksWithin request }
+    ensures settles { SettlesCommand (F.told files.old) (command_of request.entry)
         (I.left input.old) result (O.taken out.old) (O.taken out.new) machine.new
         (input.new ≡ input.old) }
     ensures reads_nothing { reads_input (command_of request.entry) ≡ false →
@@ -251,21 +378,9 @@ fn answer_file<F: Files, I: Source, O: Sink>(
     ensures caused { Caused result (I.faults input.old) (I.faults input.new)
         (O.faults out.old) (O.faults out.new) }
 {
-    match take_all(alloc, files, file_of(request), SOURCE_BYTES) {
-        Err(Taken::SourceFault) => Status::SourceFault,
-        Err(Taken::Long) => Status::Long,
-        Err(Taken::Memory) => Status::Memory,
-        Ok(source) => answer_source(alloc, request, source.bytes(), input, out, machine),
-    }
-}
-
-/// The file that is asked for.
-fn file_of(request: Request<'_>) -> &str
-    ensures { result.now ≡ file_of (command_of request.entry) }
-{
-    match request {
-        Request::Run { file, .. } | Request::Plain { file, .. } => file,
-        Request::Format { file } | Request::Check { file } => file,
+    match program_from(alloc, request, files) {
+        Err(status) => status,
+        Ok(program) => answer_program(alloc, request, program, input, out, machine),
     }
 }
 
@@ -276,12 +391,13 @@ fn steps_of(request: Request<'_>) -> u64
     match request {
         Request::Run { steps, .. } | Request::Plain { steps, .. } => steps,
         Request::Format { .. } | Request::Check { .. } => 0,
+        Request::Bulk { .. } => MOST_STEPS,
     }
 }
 
-/// Does what the words say: reads the file that they name, runs it on the input for as many steps
-/// as they say, gives the output to `out` and the text of the status to `notes`, and answers the
-/// status.
+/// Does what the words say: reads the file that they name, or generates the program of the size
+/// that they say, runs it for as many steps as they say, a file's on the input, gives the output
+/// to `out` and the text of the status to `notes`, and answers the status.
 pub fn reggio<F: Files, I: Source, O: Sink, R: Sink>(
     alloc: Global,
     words: &[&str],
@@ -356,7 +472,7 @@ pub fn reggio<F: Files, I: Source, O: Sink, R: Sink>(
     match words::command(words) {
         None => tell(notes, Status::Usage, 0),
         Some(request) => {
-            let status = answer_file(alloc, request, files, input, out, machine);
+            let status = answer(alloc, request, files, input, out, machine);
             tell(notes, status, steps_of(request))
         }
     }

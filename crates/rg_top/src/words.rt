@@ -1,16 +1,19 @@
 //! Reads the words of the command line by hand; it takes no memory (docs/language.md, "The command
 //! line").
 
-ghost use Rattle.std.specs.Prelude.{◌≡◌, ◌<◌, ◌^◌, Some, None, true, MatchOption, is_some};
+ghost use Rattle.std.specs.Prelude.{◌≡◌, ◌<◌, ◌≤◌, ◌^◌, Some, None, true, MatchOption, IfSome};
+ghost use Rattle.std.specs.Prelude.{is_some};
 ghost use Rattle.std.specs.List.{list_all};
 ghost use Rattle.rg_base.specs.Pieces.{is_digit};
+ghost use Rattle.rg_make.specs.declared.whole.TheConstants.{MOST_SIZE};
 ghost use Rattle.rg_top.specs.Commands.{command, texts, is_file, is_number, value_up_to, number_in};
-ghost use Rattle.rg_top.specs.Commands.{steps_in};
-ghost use Rattle.rg_top.specs.Inner.Requests.{command_of};
+ghost use Rattle.rg_top.specs.Commands.{steps_in, named, sized};
+ghost use Rattle.rg_top.specs.Inner.Requests.{command_of, AsksWithin};
 
 use rg_base::{MOST_STEPS, USUAL_STEPS};
+use rg_make::MOST_SIZE;
 
-/// What the words ask for, with the file that they name.
+/// What the words ask for, with the file that they name or the size of a generated program.
 #[derive(Clone, Copy)]
 pub(crate) enum Request<'a> {
     /// `run FILE --steps N`
@@ -21,6 +24,8 @@ pub(crate) enum Request<'a> {
     Format { file: &'a str },
     /// `check FILE`
     Check { file: &'a str },
+    /// `bulk N`
+    Bulk { size: u32 },
 }
 
 /// Whether a word can name a file.
@@ -57,7 +62,8 @@ fn writes_number(word: &[u8]) -> bool
 fn value_within(digits: &[u8], most: u64) -> Option<u64>
     requires small { most < 2 ^ 32 }
     requires digits { list_all is_digit digits.now ≡ true }
-    ensures { result ≡ value_up_to digits.now most }
+    ensures is { result ≡ value_up_to digits.now most }
+    ensures within { IfSome result (λ value. value ≤ most) }
 {
     let mut value: u64 = 0;
     for b in digits {
@@ -72,7 +78,8 @@ fn value_within(digits: &[u8], most: u64) -> Option<u64>
 /// The number that a word writes, up to a limit.
 fn number(word: &str, most: u64) -> Option<u64>
     requires { most < 2 ^ 32 }
-    ensures { result ≡ number_in word.now most }
+    ensures is { result ≡ number_in word.now most }
+    ensures within { IfSome result (λ value. value ≤ most) }
 {
     let bytes = word.as_bytes();
     if writes_number(bytes) {
@@ -106,40 +113,79 @@ pub fn shape(words: &[&str]) -> bool
     command(words).is_some()
 }
 
-/// The command that the words give, if they give one. They don't include the program's name.
-pub(crate) fn command<'a>(words: &[&'a str]) -> Option<Request<'a>>
-    ensures { MatchOption result (command (texts words.now) ≡ None)
-        (λ r. command (texts words.now) ≡ Some (command_of r)) }
+/// The size of a generated program that a word writes.
+fn size(word: &str) -> Option<u32>
+    ensures is { result ≡ number_in word.now MOST_SIZE }
+    ensures within { IfSome result (λ size. size ≤ MOST_SIZE) }
 {
-    let [name, file, options @ ..] = words else {
-        return None;
-    };
-    if !can_name_file(file) {
-        return None;
+    match number(word, u64::from(MOST_SIZE)) {
+        Some(size) => Some(size as u32),
+        None => None,
     }
-    if *name == "run" {
+}
+
+/// The command on a file that a name and the words behind the file give.
+fn named<'a>(name: &str, file: &'a str, options: &[&str]) -> Option<Request<'a>>
+    ensures is { MatchOption result (named name.now file.now (texts options.now) ≡ None)
+        (λ r. named name.now file.now (texts options.now) ≡ Some (command_of r)) }
+    ensures within { IfSome result AsksWithin }
+{
+    if name == "run" {
         return match steps(options) {
             Some(steps) => Some(Request::Run { file, steps }),
             None => None,
         };
     }
-    if *name == "plain" {
+    if name == "plain" {
         return match steps(options) {
             Some(steps) => Some(Request::Plain { file, steps }),
             None => None,
         };
     }
-    if *name == "fmt" {
+    if name == "fmt" {
         return match options {
             [] => Some(Request::Format { file }),
             [_, ..] => None,
         };
     }
-    if *name == "check" {
+    if name == "check" {
         return match options {
             [] => Some(Request::Check { file }),
             [_, ..] => None,
         };
     }
     None
+}
+
+/// `bulk` with a size and the words behind it.
+fn sized<'a>(number: &str, more: &[&str]) -> Option<Request<'a>>
+    ensures is { MatchOption result (sized number.now (texts more.now) ≡ None)
+        (λ r. sized number.now (texts more.now) ≡ Some (command_of r)) }
+    ensures within { IfSome result AsksWithin }
+{
+    match more {
+        [] => match size(number) {
+            Some(size) => Some(Request::Bulk { size }),
+            None => None,
+        },
+        [_, ..] => None,
+    }
+}
+
+/// The command that the words give, if they give one. They don't include the program's name.
+pub(crate) fn command<'a>(words: &[&'a str]) -> Option<Request<'a>>
+    ensures is { MatchOption result (command (texts words.now) ≡ None)
+        (λ r. command (texts words.now) ≡ Some (command_of r)) }
+    ensures within { IfSome result AsksWithin }
+{
+    let [name, word, more @ ..] = words else {
+        return None;
+    };
+    if *name == "bulk" {
+        return sized(word, more);
+    }
+    if !can_name_file(word) {
+        return None;
+    }
+    named(name, word, more)
 }

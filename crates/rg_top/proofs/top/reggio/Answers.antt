@@ -10,13 +10,13 @@ use Rattle.rg_top.proofs.top.reggio.Goals as goal
 
 -- the answer behind the layers under it
 answered : (g : Over) (c : goal.After-tell-in-Some g) →
-    Answered (g.F.Files.told c.args.files.now) (g.I.Source.left c.args.input.now) (texts c.args.words.now) c.answer_file-status.result
-    c.tell-in-Some.result (g.O.Sink.taken c.args.out.now) (g.O.Sink.taken c.answer_file-status.new.out) c.answer_file-status.new.machine
-    (c.answer_file-status.new.input ≡ c.args.input.now)
+    Answered (g.F.Files.told c.args.files.now) (g.I.Source.left c.args.input.now) (texts c.args.words.now) c.answer-status.result
+    c.tell-in-Some.result (g.O.Sink.taken c.args.out.now) (g.O.Sink.taken c.answer-status.new.out) c.answer-status.new.machine
+    (c.answer-status.new.input ≡ c.args.input.now)
 answered g c = record {
   asked = command_of c.in-Some.request;
-  command_is = c.in-Some.ensures;
-  settles = c.answer_file-status.ensures.settles;
+  command_is = c.in-Some.ensures.is;
+  settles = c.answer-status.ensures.settles;
   told_is = c.tell-in-Some.ensures.told;
 }
 
@@ -34,7 +34,7 @@ returns-in-Some-clause-untouched g c = answer-untouched (answered g c)
 
 pub returns-in-Some-clause-reads_nothing : goal.returns-in-Some-clause-reads_nothing
 returns-in-Some-clause-reads_nothing g c =
-    answer-unread (texts c.args.words.now) (command_of c.in-Some.request) _ c.in-Some.ensures c.answer_file-status.ensures.reads_nothing
+    answer-unread (texts c.args.words.now) (command_of c.in-Some.request) _ c.in-Some.ensures.is c.answer-status.ensures.reads_nothing
 
 pub returns-in-Some-clause-done : goal.returns-in-Some-clause-done
 returns-in-Some-clause-done g c = answer-exactly (answered g c) status.Done refl
@@ -53,26 +53,26 @@ returns-in-Some-clause-long g c = answer-refused (answered g c) status.Long refl
 
 pub returns-in-Some-clause-input_fault : goal.returns-in-Some-clause-input_fault
 returns-in-Some-clause-input_fault g c = λ i.
-    c.answer_file-status.ensures.caused.input_fault (given-is _ _ c.tell-in-Some.ensures.told (λ o. cc) ∙ i)
+    c.answer-status.ensures.caused.input_fault (given-is _ _ c.tell-in-Some.ensures.told (λ o. cc) ∙ i)
 
 pub returns-in-Some-clause-complete : goal.returns-in-Some-clause-complete
 returns-in-Some-clause-complete g c =
     λ asks. answer-complete (answered g c) _ _ _ _
-    (λ i. c.answer_file-status.ensures.source_fault (given-is _ _ c.tell-in-Some.ensures.told (λ o. cc) ∙ i))
-    (λ i. c.answer_file-status.ensures.caused.input_fault (given-is _ _ c.tell-in-Some.ensures.told (λ o. cc) ∙ i))
-    (λ i. elim (c.tell-in-Some.ensures.failed i) [ inl o ↦ inl (c.answer_file-status.ensures.caused.output_fault o) | inr n ↦ inr n ])
+    (λ i. c.answer-status.ensures.source_fault (given-is _ _ c.tell-in-Some.ensures.told (λ o. cc) ∙ i))
+    (λ i. c.answer-status.ensures.caused.input_fault (given-is _ _ c.tell-in-Some.ensures.told (λ o. cc) ∙ i))
+    (λ i. elim (c.tell-in-Some.ensures.failed i) [ inl o ↦ inl (c.answer-status.ensures.caused.output_fault o) | inr n ↦ inr n ])
 
 pub returns-in-None-clause-done : goal.returns-in-None-clause-done
-returns-in-None-clause-done g c = usage-exactly _ _ _ _ status.Done c.in-None.ensures c.tell.ensures.told refl
+returns-in-None-clause-done g c = usage-exactly _ _ _ _ status.Done c.in-None.ensures.is c.tell.ensures.told refl
 
 pub returns-in-None-clause-spent : goal.returns-in-None-clause-spent
-returns-in-None-clause-spent g c = usage-exactly _ _ _ _ status.Spent c.in-None.ensures c.tell.ensures.told refl
+returns-in-None-clause-spent g c = usage-exactly _ _ _ _ status.Spent c.in-None.ensures.is c.tell.ensures.told refl
 
 pub returns-in-None-clause-trap : goal.returns-in-None-clause-trap
-returns-in-None-clause-trap g c = λ kind line. usage-exactly _ _ _ _ (status.Trap kind line) c.in-None.ensures c.tell.ensures.told refl
+returns-in-None-clause-trap g c = λ kind line. usage-exactly _ _ _ _ (status.Trap kind line) c.in-None.ensures.is c.tell.ensures.told refl
 
 pub returns-in-None-clause-refused : goal.returns-in-None-clause-refused
-returns-in-None-clause-refused g c = λ f bytes. usage-exactly _ _ _ _ (status.Refused f) c.in-None.ensures c.tell.ensures.told refl
+returns-in-None-clause-refused g c = λ f bytes. usage-exactly _ _ _ _ (status.Refused f) c.in-None.ensures.is c.tell.ensures.told refl
 
 pub returns-in-None-clause-long : goal.returns-in-None-clause-long
-returns-in-None-clause-long g c = λ bytes. usage-exactly _ _ _ _ status.Long c.in-None.ensures c.tell.ensures.told refl
+returns-in-None-clause-long g c = λ bytes. usage-exactly _ _ _ _ status.Long c.in-None.ensures.is c.tell.ensures.told refl

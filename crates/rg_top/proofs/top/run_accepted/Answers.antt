@@ -1,8 +1,8 @@
-use Rattle.rg_top.proofs.RanLemmas.{on-input, run-settles}
+use Rattle.rg_top.proofs.RanLemmas.{on-input, run-from}
 use Rattle.rg_top.proofs.top.run_accepted.Goals as goal
 
-pub returns-clause-settles : goal.returns-clause-settles
-returns-clause-settles g c = λ file source runs.
+pub returns-clause-ran : goal.returns-clause-ran
+returns-clause-ran g c = λ origin source runs.
     rw c.status_of.ensures.is
-    (run-settles file c.args.steps source _ c.args.accepted.now.program _ _ _ _ _ _ (λ h. h.1) runs
+    (run-from origin c.args.steps source _ c.args.accepted.now.program _ _ _ _ _ _ (λ h. h.1) runs
     (on-input _ _ _ _ _ c.new-numbers.ensures c.run-ended.ensures.follows c.run-ended.ensures.run))

@@ -1,0 +1,20 @@
+use Rattle.std.proofs.Common.{refl, inl}
+use Rattle.rg_top.specs.Inner.Requests.{command_of}
+use Rattle.rg_top.proofs.AnswerLemmas.{refuses-settles, refuses-caused, settles-inside}
+use Rattle.rg_top.proofs.top.answer.Goals as goal
+
+pub returns-in-Err-clause-settles : goal.returns-in-Err-clause-settles
+returns-in-Err-clause-settles g c =
+    refuses-settles _ (command_of c.args.request) c.in-Err.status _ _ _ _ c.in-Err.ensures.brings c.requires.fresh refl
+
+pub returns-in-Err-clause-caused : goal.returns-in-Err-clause-caused
+returns-in-Err-clause-caused g c = refuses-caused _ _ c.in-Err.status _ _ c.in-Err.ensures.brings
+
+pub returns-in-Ok-clause-settles : goal.returns-in-Ok-clause-settles
+returns-in-Ok-clause-settles g c =
+    let found = c.in-Ok.ensures.brings in inl (found.source, found.has, c.answer_program.ensures.settles found.source found.means)
+
+pub returns-in-Ok-clause-source_fault : goal.returns-in-Ok-clause-source_fault
+returns-in-Ok-clause-source_fault g c =
+    let found = c.in-Ok.ensures.brings in
+    λ e. absurd (settles-inside (command_of c.args.request) found.source _ _ _ _ _ _ (c.answer_program.ensures.settles found.source found.means) e)

@@ -1,0 +1,33 @@
+use Rattle.std.proofs.Common.{refl}
+use Rattle.rg_top.specs.Commands.{fmt, check, bulk}
+use Rattle.rg_top.proofs.SettledLemmas.{settles-still}
+use Rattle.rg_top.proofs.top.answer_program.Goals as goal
+
+pub returns-in-Run-clause-settles : goal.returns-in-Run-clause-settles
+returns-in-Run-clause-settles g c = λ source means.
+    rw c.in-Run.is (c.run_program.ensures.settles c.in-Run.file.now source (rw c.in-Run.is at means))
+
+pub returns-in-Plain-clause-settles : goal.returns-in-Plain-clause-settles
+returns-in-Plain-clause-settles g c = λ source means.
+    rw c.in-Plain.is
+    (c.plain_program.ensures.settles c.in-Plain.file.now source c.args.machine.now (rw c.in-Plain.is at means) c.requires.fresh)
+
+pub returns-in-Format-clause-settles : goal.returns-in-Format-clause-settles
+returns-in-Format-clause-settles g c = λ source means.
+    rw c.in-Format.is
+    (settles-still _ _ _ _ c.args.machine.now _ refl (fmt c.in-Format.file.now) _ refl
+    (c.format_program.ensures.settles c.in-Format.file.now source (g.I.Source.left c.args.input.now) c.args.machine.now
+    (rw c.in-Format.is at means) c.requires.fresh))
+
+pub returns-in-Check-clause-settles : goal.returns-in-Check-clause-settles
+returns-in-Check-clause-settles g c = λ source means.
+    rw c.in-Check.is
+    (settles-still _ _ _ _ c.args.machine.now _ refl (check c.in-Check.file.now) _ refl
+    (c.check_program.ensures.settles c.in-Check.file.now source (g.I.Source.left c.args.input.now) c.args.machine.now
+    (rw c.in-Check.is at means) c.requires.fresh))
+
+pub returns-in-Bulk-clause-settles : goal.returns-in-Bulk-clause-settles
+returns-in-Bulk-clause-settles g c = λ source means.
+    rw c.in-Bulk.is
+    (settles-still _ _ _ _ _ _ refl (bulk c.in-Bulk.size) _ refl
+    (c.bulk_program.ensures.settles source (g.I.Source.left c.args.input.now) (rw c.in-Bulk.is at means)))

@@ -1,0 +1,21 @@
+use Rattle.rg_top.specs.Commands.{generated}
+use Rattle.rg_top.proofs.BulkLemmas.{bulk-settles, generated-stops, no-fault}
+use Rattle.rg_top.proofs.top.bulk_accepted.Goals as goal
+
+pub returns-in-Done-clause-settles : goal.returns-in-Done-clause-settles
+returns-in-Done-clause-settles g c = λ source left runs.
+    bulk-settles c.args.size source left c.run_accepted-ran.result _ _ _ _ _ _ c.in-Done.is
+    (c.run_accepted-ran.ensures.ran (generated c.args.size) source runs) c.put_bulk_line.ensures.put
+
+pub returns-clause-settles : goal.returns-clause-settles
+returns-clause-settles g c = λ source left runs.
+    generated-stops c.args.size source left c.run_accepted-ran.result _ _ _ _ c.in_default.not-Done
+    (no-fault _ c.run_accepted-ran.ensures.caused.input_fault) (c.run_accepted-ran.ensures.ran (generated c.args.size) source runs)
+
+pub returns-clause-caused : goal.returns-clause-caused
+returns-clause-caused g c =
+    let caused = c.run_accepted-ran.ensures.caused in record {
+      no_input_fault = no-fault _ caused.input_fault;
+      output_fault = caused.output_fault;
+      output_never_falls = caused.output_never_falls;
+    }
