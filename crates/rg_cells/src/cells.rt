@@ -188,11 +188,11 @@ impl Cells {
         })) }
         ensures next { OnOk result (self.new.heap.next ≡ self.old.heap.next + 1) }
         ensures high { OnOk result (high_of self.new.heap ≡ high_after self.old.heap) }
-        ensures serials { OnOk result (self.new.heap.next < 2 ^ 64) }
+        ensures serials { OnOk result (self.new.heap.next < 2 ^ 64 - 1) }
         ensures fields { OnOk result (field_total self.new.heap < 2 ^ 64 - 1) }
         ensures err { OnErr result (self.new ≡ self.old) }
     {
-        if self.next == u64::MAX {
+        if self.next >= u64::MAX - 1 {
             return Err(Memory);
         }
         let more = fields.len() as u64;

@@ -1,0 +1,302 @@
+//! Frames, windows and temporaries (docs/architecture.md, "Frames").
+
+ghost use Rattle.std.specs.Prelude.{◌≡◌, ◌≤◌, ◌+◌, ◌-◌, ◌<◌, ◌^◌, ◌++◌, ◌↔◌, None, Some, Ok, Err};
+ghost use Rattle.std.specs.Prelude.{IfSome, IsNone, OnOk, OnErr, length, drop, replicate};
+ghost use Rattle.std.specs.Prelude.{slice_get, vec_len, vec_capacity};
+ghost use Rattle.std.specs.List.{list_any};
+ghost use Rattle.rg_base.specs.declared.limits.TheConstants.{FRAMES as MOST};
+ghost use Rattle.rg_base.specs.declared.value.Word.TheVariants.{Nil};
+ghost use Rattle.rg_frames.specs.declared.rows.Window.{Window as WindowOf};
+ghost use Rattle.rg_frames.specs.declared.rows.Frame.{Frame as FrameOf};
+ghost use Rattle.rg_frames.specs.declared.rows.FrameRefusal.TheVariants.{Depth};
+ghost use Rattle.rg_frames.specs.Stack.{Begun, InTop, IsTopFrame, IsTop, BaseUpTo, mark};
+ghost use Rattle.rg_frames.specs.Stack.{IsEmpty, HasRoom, roomed, begun, with_slot, with_temp};
+ghost use Rattle.rg_frames.specs.Stack.{pushed, popped, opened, closed, has_region};
+
+use crate::rows::{Frame, FrameRefusal, Window};
+use rg_base::{FRAMES, Memory, Place, Word};
+use std::alloc::Global;
+use std::marker::Model;
+
+/// Frames, windows and temporaries, each a stack.
+#[derive(Drop)]
+pub struct Frames {
+    // the slots of all frames, main's first
+    slots: Vec<Word>,
+    // the first slot of the top frame
+    first: usize,
+    frames: Vec<Frame>,
+    windows: Vec<Window>,
+    // the temporaries of all windows, and where those of each begin
+    temps: Vec<usize>,
+    marks: Vec<usize>,
+    next: u64,
+}
+
+impl Model for Frames {
+    ghost use Rattle.rg_frames.specs.Stack.{Stack};
+    ghost use Rattle.rg_frames.specs.Inner.Layout.{Lies, stack_of};
+
+    ghost Value = { Stack };
+
+    ghost view = { λ s. stack_of s.slots s.first s.frames s.windows s.temps s.marks s.next };
+
+    ghost invariant = { λ s. Lies
+        (stack_of s.slots s.first s.frames s.windows s.temps s.marks s.next) };
+}
+
+impl Frames {
+    /// No frame yet.
+    pub fn new(alloc: Global) -> Frames
+        ensures empty { IsEmpty result }
+        ensures next { result.next ≡ 0 }
+    {
+        Frames {
+            slots: Vec::new(alloc),
+            first: 0,
+            frames: Vec::new(alloc),
+            windows: Vec::new(alloc),
+            temps: Vec::new(alloc),
+            marks: Vec::new(alloc),
+            next: 0,
+        }
+    }
+
+    /// Main's frame, and window 0 over it.
+    pub fn begin(&mut self, region: usize, slots: u32) -> Result<(), Memory>
+        requires { IsEmpty self.old }
+        ensures ok { OnOk result
+            (self.new ≡ roomed (begun region slots) self.new.frame_room self.new.slot_room) }
+        ensures err { OnErr result
+            (self.new ≡ roomed self.old self.new.frame_room self.new.slot_room) }
+    {
+        let Ok(()) = self.frames.reserve(1) else {
+            return Err(Memory);
+        };
+        let Ok(()) = self.windows.reserve(1) else {
+            return Err(Memory);
+        };
+        let Ok(()) = self.marks.reserve(1) else {
+            return Err(Memory);
+        };
+        let Ok(()) = self.slots.resize(slots as usize, Word::Nil) else {
+            return Err(Memory);
+        };
+        self.frames.push_reserved(Frame { back: 0, below: 0 });
+        self.windows.push_reserved(Window {
+            number: 0,
+            region,
+            owner: None,
+            base: 0,
+        });
+        self.marks.push_reserved(0);
+        self.next = 1;
+        Ok(())
+    }
+
+    /// The number of frames.
+    pub fn count(&self) -> usize
+        ensures { result ≡ length self.now.frames }
+    {
+        self.frames.len()
+    }
+
+    /// Makes room for one more frame of so many slots.
+    pub fn room(&mut self, slots: u32) -> Result<(), FrameRefusal>
+        requires { Begun self.old }
+        ensures depth { result ≡ Err Depth ↔ (MOST ≤ length self.old.frames) }
+        ensures same { self.new ≡ roomed self.old self.new.frame_room self.new.slot_room }
+        ensures ok { OnOk result (HasRoom self.new slots) }
+    {
+        if self.frames.len() >= FRAMES {
+            return Err(FrameRefusal::Depth);
+        }
+        let Ok(()) = self.frames.reserve(1) else {
+            return Err(FrameRefusal::Memory);
+        };
+        let Ok(()) = self.slots.reserve(slots as usize) else {
+            return Err(FrameRefusal::Memory);
+        };
+        Ok(())
+    }
+
+    /// A frame of so many slots, all nil, for which there is room.
+    pub fn push_frame(&mut self, back: usize, slots: u32)
+        requires begun { Begun self.old }
+        requires room { HasRoom self.old slots }
+        ensures { self.new ≡ pushed self.old back slots }
+    {
+        let below = self.first;
+        let first = self.slots.len();
+        fill(&mut self.slots, slots);
+        self.first = first;
+        self.frames.push_reserved(Frame { back, below });
+    }
+
+    /// The top frame goes, over whose first slot no window has its base; answers where its return
+    /// goes to.
+    pub fn pop_frame(&mut self) -> usize
+        requires two { 2 ≤ length self.old.frames }
+        requires window { BaseUpTo self.old self.old.first }
+        ensures back { (f : FrameOf) → IsTopFrame self.old f → result ≡ f.back }
+        ensures gone { (f : FrameOf) → IsTopFrame self.old f → self.new ≡ popped self.old f }
+    {
+        match self.frames.pop() {
+            Some(frame) => {
+                self.slots.truncate(self.first);
+                self.first = frame.below;
+                frame.back
+            }
+            None => unreachable!(),
+        }
+    }
+
+    /// The place of a slot of the top frame among all slots.
+    pub fn place(&self, s: u32) -> usize
+        requires { InTop self.now s }
+        ensures { result ≡ self.now.first + s }
+    {
+        self.first + s as usize
+    }
+
+    /// The word in a slot of the top frame.
+    pub fn slot(&self, s: u32) -> Word
+        requires { InTop self.now s }
+        ensures { slice_get self.now.slots (self.now.first + s) ≡ Some result }
+    {
+        self.slots[self.first + s as usize]
+    }
+
+    /// Writes a slot of the top frame.
+    pub fn set_slot(&mut self, s: u32, w: Word)
+        requires { InTop self.old s }
+        ensures { self.new ≡ with_slot self.old s w }
+    {
+        self.slots[self.first + s as usize] = w;
+    }
+
+    /// All slots from the top window's base.
+    pub fn slots(&self) -> &[Word]
+        requires { Begun self.now }
+        ensures { (w : WindowOf) → IsTop self.now w → result.now ≡ drop w.base self.now.slots }
+    {
+        &self.slots[self.windows[self.windows.len() - 1].base..]
+    }
+
+    /// Opens a window, with the next number.
+    pub fn push_window(&mut self, region: usize, owner: Place, base: usize) -> Result<u64, Memory>
+        requires begun { Begun self.old }
+        requires above { BaseUpTo self.old base }
+        requires within { base ≤ length self.old.slots }
+        ensures number { OnOk result (result ≡ Ok self.old.next) }
+        ensures ok { OnOk result (self.new ≡ opened self.old region owner base) }
+        ensures numbers { OnOk result (self.new.next < 2 ^ 64 - 1) }
+        ensures err { OnErr result (self.new ≡ self.old) }
+    {
+        if self.next >= u64::MAX - 1 {
+            return Err(Memory);
+        }
+        let Ok(()) = self.windows.reserve(1) else {
+            return Err(Memory);
+        };
+        let Ok(()) = self.marks.reserve(1) else {
+            return Err(Memory);
+        };
+        let number = self.next;
+        self.windows.push_reserved(Window {
+            number,
+            region,
+            owner: Some(owner),
+            base,
+        });
+        self.marks.push_reserved(self.temps.len());
+        self.next = number + 1;
+        Ok(number)
+    }
+
+    /// Closes the top window, which has no temporaries.
+    pub fn pop_window(&mut self) -> Window
+        requires begun { Begun self.old }
+        requires two { 2 ≤ length self.old.windows }
+        requires none { length self.old.temps ≡ mark self.old }
+        ensures top { IsTop self.old result }
+        ensures gone { self.new ≡ closed self.old }
+    {
+        let window = self.top();
+        self.windows.truncate(self.windows.len() - 1);
+        self.marks.truncate(self.marks.len() - 1);
+        window
+    }
+
+    /// The top window.
+    pub fn top(&self) -> Window
+        requires { Begun self.now }
+        ensures { IsTop self.now result }
+    {
+        self.windows[self.windows.len() - 1]
+    }
+
+    /// Whether a window has a region.
+    pub fn is_open(&self, region: usize) -> bool
+        ensures { result ≡ list_any (has_region region) self.now.windows }
+    {
+        has(&self.windows, region)
+    }
+
+    /// Adds a temporary to the top window.
+    pub fn push_temp(&mut self, slot: usize) -> Result<(), Memory>
+        requires { Begun self.old }
+        ensures ok { OnOk result (self.new ≡ with_temp self.old slot) }
+        ensures err { OnErr result (self.new ≡ self.old) }
+    {
+        match self.temps.push(slot) {
+            Ok(()) => Ok(()),
+            Err(_) => Err(Memory),
+        }
+    }
+
+    /// Takes the top window's last temporary, if it has one.
+    pub fn pop_temp(&mut self) -> Option<usize>
+        requires { Begun self.old }
+        ensures none { IsNone result ↔ (length self.old.temps ≡ mark self.old) }
+        ensures unchanged { result ≡ None → self.new ≡ self.old }
+        ensures some { IfSome result (λ t. self.old ≡ with_temp self.new t) }
+    {
+        if self.temps.len() == self.marks[self.marks.len() - 1] {
+            return None;
+        }
+        self.temps.pop()
+    }
+
+    /// The top window's temporaries.
+    pub fn temps(&self) -> &[usize]
+        requires { Begun self.now }
+        ensures { result.now ≡ drop (mark self.now) self.now.temps }
+    {
+        &self.temps[self.marks[self.marks.len() - 1]..]
+    }
+}
+
+fn has(windows: &[Window], region: usize) -> bool
+    ensures { result ≡ list_any (has_region region) windows.now }
+{
+    for w in windows {
+        if w.region == region {
+            return true;
+        }
+    }
+    false
+}
+
+// So many slots more, all nil, within the room.
+fn fill(all: &mut Vec<Word>, more: u32)
+    requires { vec_len all.old + more ≤ vec_capacity all.old }
+    ensures items { all.new.items ≡ all.old.items ++ replicate more Nil }
+    ensures capacity { vec_capacity all.new ≡ vec_capacity all.old }
+{
+    let mut left = more;
+    'fill: while left > 0 {
+        all.push_reserved(Word::Nil);
+        left -= 1;
+    }
+}

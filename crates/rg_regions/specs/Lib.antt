@@ -1,0 +1,5 @@
+pub mod Table
+pub mod Reach
+pub mod Spent
+pub mod Grove
+pub mod Inner

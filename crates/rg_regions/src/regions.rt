@@ -1,0 +1,211 @@
+//! The table of regions (docs/architecture.md, "Regions").
+
+ghost use Rattle.std.specs.Prelude.{◌≡◌, ◌<◌, ◌-◌, ◌^◌, ℕ, [], Some, None, IfSome, IfOk};
+ghost use Rattle.std.specs.Prelude.{OnOk, OnErr, length, option_map, slice_index_or, slice_set};
+ghost use Rattle.std.specs.Prelude.{count_by, is_some};
+ghost use Rattle.rg_regions.specs.Table.{Record, record_at, link_at, IsKey, HasNumber};
+ghost use Rattle.rg_regions.specs.Table.{HasPlace, HasRoom, IsNewest};
+ghost use Rattle.rg_regions.specs.Table.{changed, removed, cancelled, Added, Roomier};
+ghost use Rattle.rg_regions.specs.Table.{with_bridge, with_member, without_member, fresh};
+ghost use Rattle.rg_regions.specs.Inner.Layout.{record_of};
+
+use crate::places;
+use crate::region::Region;
+use indexmap::IndexMap;
+use rg_base::{Manager, Memory};
+use slab::Slab;
+use std::alloc::Global;
+use std::marker::Model;
+
+/// Regions by their keys.
+#[derive(Drop)]
+pub struct Regions {
+    alloc: Global,
+    records: Slab<Region>,
+    // the key of each number
+    keys: IndexMap<u64, usize>,
+    next: u64,
+}
+
+impl Model for Regions {
+    ghost use Rattle.rg_regions.specs.Table.{RegionTable};
+    ghost use Rattle.rg_regions.specs.Inner.Layout.{table_of, IsIndexed};
+
+    ghost Value = { RegionTable };
+
+    ghost view = { λ s. table_of s.records.slots s.next };
+
+    ghost invariant = { λ s. IsIndexed s.keys.entries (table_of s.records.slots s.next) };
+}
+
+impl Regions {
+    /// No region yet.
+    pub fn new(alloc: Global) -> Regions
+        ensures records { result.records ≡ [] }
+        ensures links { result.links ≡ [] }
+        ensures next { result.next ≡ 0 }
+    {
+        Regions {
+            alloc,
+            records: Slab::new(alloc),
+            keys: IndexMap::new(alloc),
+            next: 0,
+        }
+    }
+
+    /// The region of a key.
+    fn region(&self, key: usize) -> &Region
+        requires { IsKey self.now key }
+        ensures is { record_at self.now key ≡ Some (record_of result.now) }
+        ensures link { link_at self.now key ≡ result.now.link }
+    {
+        match self.records.get(key) {
+            Some(region) => region,
+            None => unreachable!(),
+        }
+    }
+
+    /// The number of regions.
+    pub fn count(&self) -> usize
+        ensures { result ≡ count_by is_some self.now.records }
+    {
+        self.records.len()
+    }
+
+    /// The key of a number, where it is in the table.
+    pub fn key(&self, number: u64) -> Option<usize>
+        ensures some { IfSome result (λ key. HasNumber self.now key number) }
+        ensures only { (key : ℕ) → HasNumber self.now key number → result ≡ Some key }
+    {
+        self.keys.get(&number).copied()
+    }
+
+    /// The number of a region.
+    pub fn number(&self, key: usize) -> u64
+        requires { IsKey self.now key }
+        ensures { HasNumber self.now key result }
+    {
+        self.region(key).number
+    }
+
+    /// The manager of a region.
+    pub fn manager(&self, key: usize) -> Manager
+        requires { IsKey self.now key }
+        ensures { option_map (λ (r : Record). r.manager) (record_at self.now key) ≡ Some result }
+    {
+        self.region(key).manager
+    }
+
+    /// The bridge of a region, where it has one.
+    pub fn bridge(&self, key: usize) -> Option<usize>
+        requires { IsKey self.now key }
+        ensures { option_map (λ (r : Record). r.bridge) (record_at self.now key) ≡ Some result }
+    {
+        self.region(key).bridge
+    }
+
+    /// The slots of a region's cells.
+    pub fn members(&self, key: usize) -> &[usize]
+        requires { IsKey self.now key }
+        ensures { option_map (λ (r : Record). r.members) (record_at self.now key)
+            ≡ Some result.now }
+    {
+        &self.region(key).members
+    }
+
+    /// The link of a region.
+    pub fn link(&self, key: usize) -> Option<usize>
+        requires { IsKey self.now key }
+        ensures { result ≡ link_at self.now key }
+    {
+        self.region(key).link
+    }
+
+    /// Sets the link of a region.
+    pub fn set_link(&mut self, key: usize, next: Option<usize>)
+        requires { IsKey self.old key }
+        ensures set { self.new ≡ record self.old { links = slice_set self.old.links key next } }
+        ensures within { key < length self.old.links }
+    {
+        places::put_link(&mut self.records, key, next);
+    }
+
+    /// Gives a region its bridge.
+    pub fn set_bridge(&mut self, key: usize, slot: usize)
+        requires { IsKey self.old key }
+        ensures { self.new ≡ changed self.old key (with_bridge slot) }
+    {
+        places::put_bridge(&mut self.records, key, slot);
+    }
+
+    /// Makes room for more members.
+    pub fn reserve(&mut self, key: usize, more: usize) -> Result<(), Memory>
+        requires { IsKey self.old key }
+        ensures ok { OnOk result (Roomier self.old self.new key more) }
+        ensures err { OnErr result (self.new ≡ self.old) }
+    {
+        places::put_room(&mut self.records, key, more)
+    }
+
+    /// Adds a member, for which there is room.
+    pub fn push_member(&mut self, key: usize, slot: usize)
+        requires { HasRoom self.old key }
+        ensures { self.new ≡ changed self.old key (with_member slot) }
+    {
+        places::put_member(&mut self.records, key, slot);
+    }
+
+    /// A member goes, and the last one takes its place.
+    pub fn drop_member(&mut self, key: usize, place: usize)
+        requires { HasPlace self.old key place }
+        ensures { self.new ≡ changed self.old key (without_member place) }
+    {
+        places::take_member(&mut self.records, key, place);
+    }
+
+    /// Adds a region without members, with the next number.
+    pub fn add(&mut self, manager: Manager) -> Result<usize, Memory>
+        ensures added { IfOk result (λ key. Added self.old self.new key (fresh self.old manager)) }
+        ensures numbers { OnOk result (self.new.next < 2 ^ 64 - 1) }
+        ensures err { OnErr result (self.new ≡ self.old) }
+    {
+        if self.next >= u64::MAX - 1 {
+            return Err(Memory);
+        }
+        let Ok(()) = self.records.reserve(1) else {
+            return Err(Memory);
+        };
+        let Ok(_) = self.keys.insert(self.next, self.records.vacant_key()) else {
+            return Err(Memory);
+        };
+        let key = self.records.insert_reserved(Region {
+            number: self.next,
+            manager,
+            members: Vec::new(self.alloc),
+            bridge: None,
+            link: None,
+        });
+        self.next += 1;
+        Ok(key)
+    }
+
+    /// A region leaves the table; no other has its number.
+    pub fn remove(&mut self, key: usize)
+        requires { IsKey self.old key }
+        ensures gone { self.new ≡ removed self.old key }
+        ensures only { (k n : ℕ) → HasNumber self.old key n → HasNumber self.new k n → ⊥ }
+    {
+        let number = self.region(key).number;
+        self.keys.swap_remove(&number);
+        self.records.try_remove(key);
+    }
+
+    /// Takes back the region that was added last; its number is the next one again.
+    pub fn cancel(&mut self, key: usize)
+        requires { IsNewest self.old key }
+        ensures { self.new ≡ cancelled self.old key }
+    {
+        self.remove(key);
+        self.next -= 1;
+    }
+}
