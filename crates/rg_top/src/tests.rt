@@ -58,54 +58,47 @@ fn call(alloc: Global, words: &[&str], streams: &mut Streams, machine: &mut Mach
 
 #[test]
 fn streams_that_fail_are_named(rt: HostRuntime) -> Result<(), Fail> {
-    // The words, and the calls of files, input, output and notes that fail (0: none).
-    let run: [&str; 2] = ["run", "a"];
-    let bulk: [&str; 2] = ["bulk", "2"];
+    // The words, the calls of files, input, output and notes that fail (0: none), and what is told.
+    let fault = Status::OutputFault;
     let rows = [
-        (run, 2, 0, 0, 0, "", "source fault\n", Status::SourceFault),
-        (run, 0, 1, 0, 0, "1\n", "input fault\n", Status::InputFault),
         (
-            run,
+            "run",
+            "a",
+            2,
             0,
             0,
-            3,
             0,
-            "1\n2\n",
-            "output fault\n",
-            Status::OutputFault,
+            "",
+            "source fault\n",
+            Status::SourceFault,
         ),
         (
-            bulk,
+            "run",
+            "a",
+            0,
+            1,
             0,
             0,
-            3,
-            0,
-            "3\n2\n",
-            "output fault\n",
-            Status::OutputFault,
+            "1\n",
+            "input fault\n",
+            Status::InputFault,
         ),
+        ("run", "a", 0, 0, 3, 0, "1\n2\n", "output fault\n", fault),
+        ("run", "a", 0, 1, 0, 1, "1\n", "output fault\n", fault),
+        ("bulk", "2", 0, 0, 3, 0, "3\n2\n", "output fault\n", fault),
         (
-            bulk,
+            "bulk",
+            "2",
             0,
             0,
             4,
             0,
             "3\n2\n5\n",
             "output fault\n",
-            Status::OutputFault,
-        ),
-        (
-            run,
-            0,
-            1,
-            0,
-            1,
-            "1\n",
-            "output fault\n",
-            Status::OutputFault,
+            fault,
         ),
     ];
-    for (words, files, input, out, notes, output, told, status) in rows {
+    for (command, of, files, input, out, notes, output, told, status) in rows {
         let mut taken = ample_streams(rt.alloc(), THREE_PRINTS, b"2")?;
         taken.files.fail_at(files)?;
         taken.input.fail_at(input)?;
@@ -113,7 +106,7 @@ fn streams_that_fail_are_named(rt: HostRuntime) -> Result<(), Fail> {
         taken.notes.fail_at(notes)?;
         let answer = call(
             rt.alloc(),
-            &words,
+            &[command, of],
             &mut taken,
             &mut Machine::new(rt.alloc()),
         );
