@@ -80,6 +80,10 @@ begun r n = record {
 abbrev pub with_slot : Stack → ℕ → Word → Stack
 with_slot v s w = record v { slots = slice_set v.slots (v.first + s) w }
 
+-- the slots of the top frame from one on are nil
+abbrev pub ended : Stack → ℕ → Stack
+ended v s = record v { slots = take (v.first + s) v.slots ++ replicate (length v.slots - (v.first + s)) Nil }
+
 -- a frame of so many slots, all nil, comes on top
 abbrev pub pushed : Stack → (back slots : ℕ) → Stack
 pushed v back n = record v {
