@@ -1,0 +1,4 @@
+mod Mirrors
+mod Walks
+mod Statements
+mod Judgements

@@ -1,0 +1,4 @@
+//! The stack machine over a store that only grows, and that each of its steps does what a step of
+//! the machine that never frees does (docs/architecture.md, "The stack machine"). Each law is a
+//! function whose contract it is: `opening_shows`, `step_shows`, and from these `run_shows`.
+#![tactic(auto)]
