@@ -94,6 +94,16 @@ pushed v back n = record v {
   slot_room = v.slot_room - n;
 }
 
+-- a frame of these words comes on top
+abbrev pub pushed_of : Stack → (back : ℕ) → List Word → Stack
+pushed_of v back words = record v {
+  slots = v.slots ++ words;
+  first = length v.slots;
+  frames = v.frames ++ record { back = back; below = v.first } ∷ [];
+  frame_room = v.frame_room - 1;
+  slot_room = v.slot_room - length words;
+}
+
 -- the top frame goes, with its slots
 abbrev pub popped : Stack → Frame → Stack
 popped v f = record v {

@@ -11,7 +11,7 @@ ghost use Rattle.rg_frames.specs.declared.rows.Frame.{Frame as FrameOf};
 ghost use Rattle.rg_frames.specs.declared.rows.FrameRefusal.TheVariants.{Depth};
 ghost use Rattle.rg_frames.specs.Stack.{Begun, InTop, IsTopFrame, IsTop, BaseUpTo, mark};
 ghost use Rattle.rg_frames.specs.Stack.{IsEmpty, HasRoom, roomed, begun, with_slot, with_temp};
-ghost use Rattle.rg_frames.specs.Stack.{pushed, popped, opened, closed, has_region, ended};
+ghost use Rattle.rg_frames.specs.Stack.{pushed, pushed_of, popped, opened, closed, has_region, ended};
 
 use crate::rows::{Frame, FrameRefusal, Window};
 use rg_base::{FRAMES, Memory, Place, Word};
@@ -110,13 +110,37 @@ impl Frames {
         if self.frames.len() >= FRAMES {
             return Err(FrameRefusal::Depth);
         }
-        let Ok(()) = self.frames.reserve(1) else {
-            return Err(FrameRefusal::Memory);
-        };
-        let Ok(()) = self.slots.reserve(slots as usize) else {
+        let Ok(()) = self.reserve(slots as usize) else {
             return Err(FrameRefusal::Memory);
         };
         Ok(())
+    }
+
+    /// Makes room for one more frame of so many slots, however many frames there are.
+    pub fn reserve(&mut self, slots: usize) -> Result<(), Memory>
+        ensures same { self.new ≡ roomed self.old self.new.frame_room self.new.slot_room }
+        ensures ok { OnOk result (HasRoom self.new slots) }
+    {
+        let Ok(()) = self.frames.reserve(1) else {
+            return Err(Memory);
+        };
+        let Ok(()) = self.slots.reserve(slots) else {
+            return Err(Memory);
+        };
+        Ok(())
+    }
+
+    /// A frame of these words and so many slots more, all nil, for which there is room.
+    pub fn push_frame_of(&mut self, back: usize, words: &[Word], more: usize)
+        requires { HasRoom self.old (length words.now + more) }
+        ensures { self.new ≡ pushed_of self.old back (words.now ++ replicate more Nil) }
+    {
+        let below = self.first;
+        let first = self.slots.len();
+        copy(&mut self.slots, words);
+        fill(&mut self.slots, more);
+        self.first = first;
+        self.frames.push_reserved(Frame { back, below });
     }
 
     /// A frame of so many slots, all nil, for which there is room.
@@ -178,6 +202,13 @@ impl Frames {
         ensures { result ≡ length self.now.slots - self.now.first }
     {
         self.slots.len().saturating_sub(self.first)
+    }
+
+    /// The place of the top frame's first slot among all slots.
+    pub fn first(&self) -> usize
+        ensures { result ≡ self.now.first }
+    {
+        self.first
     }
 
     /// Makes nil the slots of the top frame from one on.
@@ -315,6 +346,17 @@ fn has(windows: &[Window], region: usize) -> bool
         }
     }
     false
+}
+
+// Words more, within the room.
+fn copy(all: &mut Vec<Word>, words: &[Word])
+    requires { vec_len all.old + length words.now ≤ vec_capacity all.old }
+    ensures items { all.new.items ≡ all.old.items ++ words.now }
+    ensures capacity { vec_capacity all.new ≡ vec_capacity all.old }
+{
+    for word in words {
+        all.push_reserved(*word);
+    }
 }
 
 // So many slots more, all nil, within the room.
