@@ -1,4 +1,4 @@
--- The code of a program, from its tree (docs/language.md, "Lowering"). Each function gives the instructions of a form from an
+-- The code of a program, from its tree (docs/language.md, "Instructions and lowering"). Each function gives the instructions of a form from an
 -- address on; `at` is the address of the first. What an accepted program can't have gets some code all the same.
 use Rattle.std.specs.Prelude.{◌≡◌, ℕ, zero, pos, suc, ◌+◌, max, false, bytes_eq, if◌then◌else◌, List, [], ◌∷◌, ◌++◌, map, length, Option, Some, None, unwrap_or}
 use Rattle.rg_base.specs.declared.words.Cap.TheVariants as cap
