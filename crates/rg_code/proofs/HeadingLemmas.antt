@@ -1,5 +1,6 @@
 -- Headings: those of names behind names, and the lines from one address on.
-use Rattle.std.proofs.Common.{◌≡◌, refl, sym, ◌∙◌, ap, ℕ, suc, ◌+◌, ◌<◌, get_or, List, [], ◌∷◌, ◌++◌, map, length, drop, slice_get, Some, append_assoc, arith}
+use Rattle.std.proofs.Common.{◌≡◌, refl, sym, ◌∙◌, ap, ℕ, suc, ◌+◌, ◌<◌, List, [], ◌∷◌, ◌++◌, map, length, drop, get_or, slice_get, Some}
+use Rattle.std.proofs.Common.{append_assoc, arith}
 use Rattle.std.proofs.lemmas.List.{append-nil, drop-drop, length-append, length-map, map-append}
 use Rattle.std.proofs.lemmas.Option.{slice_get-get_or}
 use Rattle.rg_base.proofs.Callers.Lists.{drop-get}
@@ -16,7 +17,8 @@ headings-nil [] = refl
 headings-nil (e ∷ es) = refl
 
 -- the headings of names, and then of further names
-pub headings-append : (es : List Entry) (xs ys : List Name) → headings es (xs ++ ys) ≡ headings es xs ++ headings (drop (length (headings es xs)) es) ys
+pub headings-append : (es : List Entry) (xs ys : List Name)
+    → headings es (xs ++ ys) ≡ headings es xs ++ headings (drop (length (headings es xs)) es) ys
 headings-append [] xs ys = refl
 headings-append (e ∷ es) [] ys = refl
 headings-append (e ∷ es) (x ∷ xs) ys = ap (λ hs. record { at = e.at; name = x } ∷ hs) (headings-append es xs ys)
@@ -26,11 +28,13 @@ pub with_headings-nil : (es : List Entry) (done : List Heading) → with_heading
 with_headings-nil es done = ap (λ hs. done ++ hs) (headings-nil (drop (length done) es)) ∙ append-nil done
 
 -- the headings of names are added, and then those of further names
-pub with_headings-append : (es : List Entry) (done : List Heading) (xs ys : List Name) → with_headings es (with_headings es done xs) ys ≡ with_headings es done (xs ++ ys)
+pub with_headings-append : (es : List Entry) (done : List Heading) (xs ys : List Name)
+    → with_headings es (with_headings es done xs) ys ≡ with_headings es done (xs ++ ys)
 with_headings-append es done xs ys =
     let rest = drop (length done) es in
     let hs = headings rest xs in
-    let behind : drop (length (done ++ hs)) es ≡ drop (length hs) rest = ap (λ n. drop n es) (length-append done hs) ∙ sym (drop-drop (length hs) (length done) es) in
+    let behind : drop (length (done ++ hs)) es ≡ drop (length hs) rest =
+    ap (λ n. drop n es) (length-append done hs) ∙ sym (drop-drop (length hs) (length done) es) in
     ap (λ es'. (done ++ hs) ++ headings es' ys) behind ∙ append_assoc done hs _ ∙ ap (λ hs'. done ++ hs') (sym (headings-append rest xs ys))
 
 -- what is done gains the headings of names
@@ -39,7 +43,8 @@ pub with_headings-step : (es : List Entry) (done new all : List Heading) (xs ys 
 with_headings-step es done new all xs ys e h = ap (λ hs. with_headings es hs ys) e ∙ (with_headings-append es done xs ys ∙ h)
 
 -- the next entry gets its heading
-pub with_headings-push : (es : List Entry) (items : List kept.Heading) (e : Entry) (h : kept.Heading) (x : Name) → slice_get es (length items) ≡ Some e
+pub with_headings-push : (es : List Entry) (items : List kept.Heading) (e : Entry) (h : kept.Heading) (x : Name)
+    → slice_get es (length items) ≡ Some e
     → shown h ≡ record { at = e.at; name = x } → map shown (items ++ h ∷ []) ≡ with_headings es (map shown items) (x ∷ [])
 with_headings-push es items e h x there same =
     let n = length items in
@@ -60,7 +65,8 @@ with_headings-end es hs all xs none h = sym (with_headings-nil es hs) ∙ ap (wi
 -- the next member of a class, of a number among these, has its headings
 pub member-step : (es : List Entry) (c : Name) (member : ℕ → Member) (ks : List ℕ) (i : ℕ) (done new all : List Heading) → i < length ks
     → new ≡ with_headings es done (member_names c (member (get_or ks i 0) ∷ []))
-    → with_headings es done (member_names c (map member (drop i ks))) ≡ all → with_headings es new (member_names c (map member (drop (i + 1) ks))) ≡ all
+    → with_headings es done (member_names c (map member (drop i ks))) ≡ all
+    → with_headings es new (member_names c (map member (drop (i + 1) ks))) ≡ all
 member-step es c member ks i done new all l e h =
     let s : i + 1 ≡ suc i = omega arith in
     let k = get_or ks i 0 in

@@ -46,7 +46,8 @@ fn add_class<'a>(
 ) -> Result<(), Memory>
     requires { IsClassIn program.now class }
     ensures { OnOk result (let c = class_of program.now class in map shown all.new.items
-        ≡ with_headings entries.now (map shown all.old.items) (texts.member_names c.name c.members)) }
+        ≡ with_headings entries.now (map shown all.old.items)
+        (texts.member_names c.name c.members)) }
 {
     for member in program.order(class.members) {
         add_member(program, class.name, *member, entries, all)?;
@@ -84,7 +85,8 @@ fn add_heading<'a>(
     all: &mut Vec<Heading<'a>>,
 ) -> Result<(), Memory>
     ensures { OnOk result (map shown all.new.items
-        ≡ with_headings entries.now (map shown all.old.items) (full_name class.now method.now ∷ [])) }
+        ≡ with_headings entries.now (map shown all.old.items)
+        (full_name class.now method.now ∷ [])) }
 {
     let Some(entry) = entries.get(all.len()) else {
         return Ok(());

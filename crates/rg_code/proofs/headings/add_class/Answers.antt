@@ -15,5 +15,5 @@ loop-member-preserved c =
 pub returns : goal.returns
 returns c =
     let names = λ (ks : List ℕ). member_names (name_at c.args.program.now c.args.class.name) (map (member_at c.args.program.now) ks) in
-    with_headings-end c.args.entries.now _ _ _ (ap names (drop_all c.loop-member.member-index c.order-member-items.result.now c.loop-member-test.false))
-    c.loop-member.invariant
+    with_headings-end c.args.entries.now _ _ _
+    (ap names (drop_all c.loop-member.member-index c.order-member-items.result.now c.loop-member-test.false)) c.loop-member.invariant

@@ -10,4 +10,5 @@ pub returns-in-Field : goal.returns-in-Field
 returns-in-Field c =
     let es = c.args.entries.now in
     let done = map shown c.args.all.now.items in
-    sym (ap (λ (m : Member). with_headings es done (member_names (name_at c.args.program.now c.args.class) (m ∷ []))) c.in-Field.ensures.tree ∙ with_headings-nil es done)
+    let names = λ (m : Member). member_names (name_at c.args.program.now c.args.class) (m ∷ []) in
+    sym (ap (λ m. with_headings es done (names m)) c.in-Field.ensures.tree ∙ with_headings-nil es done)

@@ -13,4 +13,5 @@ loop-i-preserved c =
 
 pub returns : goal.returns
 returns c =
-    with_headings-end c.args.entries.now _ _ _ (ap method_names (drop_all c.loop-i.i (classes_of c.args.program.now) (omega arith))) c.loop-i.invariant
+    with_headings-end c.args.entries.now _ _ _ (ap method_names (drop_all c.loop-i.i (classes_of c.args.program.now) (omega arith)))
+    c.loop-i.invariant
