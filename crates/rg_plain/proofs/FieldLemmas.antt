@@ -11,9 +11,10 @@ use Rattle.rg_rules.specs.Items.{Do}
 use Rattle.rg_rules.specs.State.{State, locals_of, value_in, put_local}
 use Rattle.rg_rules.specs.Evaluation.{object_at, field_value, follow_fields}
 use Rattle.rg_rules.specs.Steps.{Went, next, stepped, put_field, step_swap}
+use Rattle.rg_store.specs.declared.objects.ObjectRow.{ObjectRow}
+use Rattle.rg_store.specs.Shown.{store_of}
 use Rattle.rg_plain.specs.declared.state.rows.ItemRow.{ItemRow}
 use Rattle.rg_plain.specs.declared.state.rows.LocalRow.{LocalRow}
-use Rattle.rg_plain.specs.declared.state.rows.ObjectRow.{ObjectRow}
 use Rattle.rg_plain.specs.declared.values.paths.Spot.{Spot}
 use Rattle.rg_plain.specs.declared.values.paths.Spot.TheVariants as spot
 use Rattle.rg_plain.specs.Kept.{Kept, plain_of, shown as items_shown}
@@ -29,10 +30,10 @@ some-at (x ∷ xs) (suc k) within = some-at xs k (omega arith)
 
 -- a path that names a field
 pub field-spot : (t : Tables) (store rows : List ObjectRow) (held locals : List LocalRow) (p : Path) (at : Spot) (a name : ℕ) →
-    at ≡ spot.Field a name → store ≡ rows → held ≡ locals → SpotIs t (shown.store_of store) (shown.locals_of t held) p (Ok at) →
-    IsField t (shown.store_of rows) (shown.locals_of t locals) p a name
+    at ≡ spot.Field a name → store ≡ rows → held ≡ locals → SpotIs t (store_of store) (shown.locals_of t held) p (Ok at) →
+    IsField t (store_of rows) (shown.locals_of t locals) p a name
 field-spot t store rows held locals p at a name at_is store_is held_is is =
-    let P : List ObjectRow → List LocalRow → Spot → Type 0 = λ os ls q. SpotIs t (shown.store_of os) (shown.locals_of t ls) p (Ok q) in
+    let P : List ObjectRow → List LocalRow → Spot → Type 0 = λ os ls q. SpotIs t (store_of os) (shown.locals_of t ls) p (Ok q) in
     subst (λ os. P os locals (spot.Field a name)) store_is
     (subst (λ ls. P store ls (spot.Field a name)) held_is (subst (λ q. P store held q) at_is is))
 

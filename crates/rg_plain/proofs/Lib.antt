@@ -1,5 +1,4 @@
 mod LocalLemmas
-mod ObjectLemmas
 mod UsingLemmas
 mod ItemLemmas
 mod TypeLemmas
@@ -9,18 +8,12 @@ pub mod BehindLemmas
 mod DispatchLemmas
 mod MachineLemmas
 mod FitLemmas
-mod AmongLemmas
-mod BeneathLemmas
-mod LinkLemmas
 mod MoveLemmas
 mod RunLemmas
-mod RegionLemmas
 mod CallLemmas
 mod FrameLemmas
 mod StatementLemmas
 mod SpotLemmas
-mod WriteLemmas
-mod OpeningLemmas
 mod StepLemmas
 mod MakeLemmas
 mod FieldLemmas

@@ -10,10 +10,11 @@ use Rattle.rg_rules.specs.Runs.{opening}
 use Rattle.rg_base.specs.declared.outcome.Outcome.{Outcome}
 use Rattle.rg_names.specs.Table.{Table}
 use Rattle.rg_names.specs.TableOf.{IsTableOf}
+use Rattle.rg_store.specs.Shown.{seen_of}
+use Rattle.rg_store.specs.Regions.{LabelFits}
 use Rattle.rg_plain.specs.declared.state.parts.Parts.{Parts}
-use Rattle.rg_plain.specs.Shown.{seen_of, AreNamed}
+use Rattle.rg_plain.specs.Shown.{AreNamed}
 use Rattle.rg_plain.specs.Fits.{PartsFit, TargetFits}
-use Rattle.rg_plain.specs.Regions.{LabelFits}
 use Rattle.rg_plain.specs.declared.state.rows.WindowRow.{WindowRow}
 use Rattle.rg_plain.specs.Kept.{Kept, FrameKept, kept_of, kept_frame, shown, plain_of}
 use Rattle.rg_plain.specs.Inner.Inputs.{SettlesOn}

@@ -14,6 +14,8 @@ use Rattle.rg_rules.specs.State.{Window, State, Target, active}
 use Rattle.rg_rules.specs.Steps.{Went, stepped, next}
 use Rattle.rg_rules.specs.RightSides.{Use, made, with_right}
 use Rattle.rg_names.specs.TreeAnswers.{class_place}
+use Rattle.rg_store.specs.Shown.{opened_as}
+use Rattle.rg_store.specs.Regions.{LabelFits}
 use Rattle.rg_plain.specs.declared.steps.targets.Aim.{Aim}
 use Rattle.rg_plain.specs.declared.state.rows.ItemRow.{ItemRow}
 use Rattle.rg_plain.specs.declared.steps.targets.Left.{Left}
@@ -21,8 +23,7 @@ use Rattle.rg_plain.specs.declared.steps.new.Kind.{Kind}
 use Rattle.rg_plain.specs.declared.steps.new.Kind.TheVariants as kind
 use Rattle.rg_plain.specs.Inner.Spots.{use_of, statement_of, AimIs}
 use Rattle.rg_plain.specs.Kept.{Kept, plain_of, shown}
-use Rattle.rg_plain.specs.Inner.Makes.{opened_as, with_object, right_of, label_of, use_with, managers_with}
-use Rattle.rg_plain.specs.Regions.{LabelFits}
+use Rattle.rg_plain.specs.Inner.Makes.{with_object, right_of, label_of, use_with, managers_with}
 use Rattle.rg_plain.proofs.StepLemmas.{next-at}
 
 some-number : (a b : ℕ) → Some a ≡ Some b → b ≡ a

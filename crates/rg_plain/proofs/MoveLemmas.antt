@@ -12,6 +12,7 @@ use Rattle.rg_rules.specs.Regions.{region_of}
 use Rattle.rg_rules.specs.RightSides.{Use, consumed, with_right}
 use Rattle.rg_rules.specs.State.{Local, State, Target, locals_of as locals_in, value_in, set_in, put_local}
 use Rattle.rg_rules.specs.Steps.{Went, Trapped, next, stepped}
+use Rattle.rg_store.specs.Regions.{LabelsFit}
 use Rattle.rg_plain.specs.declared.steps.targets.Aim.{Aim}
 use Rattle.rg_plain.specs.declared.steps.targets.Left.{Left}
 use Rattle.rg_plain.specs.declared.steps.move_.Held.{Held}
@@ -20,7 +21,6 @@ use Rattle.rg_plain.specs.declared.steps.move_.Move.TheVariants as moves
 use Rattle.rg_plain.specs.declared.state.rows.ItemRow.{ItemRow}
 use Rattle.rg_plain.specs.Kept.{Kept, frame_of, plain_of, shown}
 use Rattle.rg_plain.specs.Inner.Moves.{right_of, regions_with, label_of, moved, carried, Holds}
-use Rattle.rg_plain.specs.Regions.{LabelsFit}
 use Rattle.rg_plain.specs.Shown.{locals_of}
 use Rattle.rg_plain.specs.Inner.Spots.{AimIs, statement_of, use_of, sent_to}
 use Rattle.rg_plain.proofs.StepLemmas.{next-at}

@@ -15,17 +15,17 @@ use Rattle.rg_rules.specs.State.{State}
 use Rattle.rg_rules.specs.Regions.{region_of}
 use Rattle.rg_rules.specs.Evaluation.{object_at}
 use Rattle.rg_rules.specs.Steps.{Went, Trapped, next, stepped, entered, with_window}
+use Rattle.rg_store.specs.declared.objects.ObjectRow.{ObjectRow}
+use Rattle.rg_store.specs.Shown.{store_of}
+use Rattle.rg_store.proofs.Callers.WriteLemmas.{some-object}
 use Rattle.rg_plain.specs.declared.steps.refusal.Refusal.{Refusal}
 use Rattle.rg_plain.specs.declared.steps.refusal.Refusal.TheVariants as refused
 use Rattle.rg_plain.specs.declared.steps.enter.Owner.{Owner}
 use Rattle.rg_plain.specs.declared.state.rows.ItemRow.{ItemRow}
-use Rattle.rg_plain.specs.declared.state.rows.ObjectRow.{ObjectRow}
 use Rattle.rg_plain.specs.Kept.{Kept, plain_of, shown}
-use Rattle.rg_plain.specs.Shown.{store_of}
 use Rattle.rg_plain.specs.Inner.Steps.{Refuses}
 use Rattle.rg_plain.specs.Inner.Windows.{OwnerIs}
 use Rattle.rg_plain.proofs.StepLemmas.{next-at}
-use Rattle.rg_plain.proofs.WriteLemmas.{some-object}
 
 -- an owner that isn't there
 pub owner-refused : (t : Tables) (k : Kept) (input : List ℕ) (number line : ℕ) (p : row_path.Path) (z : Name) (body : Block) (why : Refusal)

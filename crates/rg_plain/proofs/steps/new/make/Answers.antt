@@ -1,7 +1,7 @@
 use Rattle.std.proofs.Common.{◌<◌, length, ◌∙◌, sym, ap, ◌∷◌, []}
 use Rattle.std.proofs.lemmas.List.{map-append, length-map}
+use Rattle.rg_store.specs.Shown.{seen_of, store_of}
 use Rattle.rg_plain.specs.Kept.{kept_of}
-use Rattle.rg_plain.specs.Shown.{seen_of, store_of}
 use Rattle.rg_tree.specs.Rows.RowTrees.{classes_of}
 use Rattle.rg_plain.proofs.CallLemmas.{All-under}
 use Rattle.rg_plain.proofs.FitLemmas.{made-fits}
