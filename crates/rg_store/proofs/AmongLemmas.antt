@@ -1,14 +1,15 @@
 -- Which numbers are among others, and among the regions to which owner references lead.
 use Rattle.std.proofs.Common.{◌≡◌, ℕ, zero, suc, ◌<◌, ◌==◌, Bool, true, false, ◌||◌, cond, if◌then◌else◌, List, [], ◌∷◌, ◌++◌, length, get_or, Option}
-use Rattle.std.proofs.Common.{Some, None, is_some, find, flat_map, filter_map, All, refl, sym, ◌∙◌, ap, arith}
+use Rattle.std.proofs.Common.{Some, None, is_some, find, flat_map, filter_map, All, refl, sym, ◌∙◌, ap, arith, append_assoc}
 use Rattle.std.proofs.lemmas.Bool.{eqb-true, eq-eqb, true≢false}
 use Rattle.std.proofs.lemmas.List.Elements.{All-nil, All-cons, All-head, All-tail, All-append}
 use Rattle.rg_base.specs.declared.object.Seen.{Seen}
 use Rattle.rg_base.specs.declared.object.Label.{Label}
 use Rattle.rg_base.specs.declared.object.Label.TheVariants.{Region, Temp, Frozen}
 use Rattle.rg_tree.specs.Tree.{Class}
-use Rattle.rg_rules.specs.Regions.{region_at, owned_by, among, in_regions, led_from, joined_with}
+use Rattle.rg_rules.specs.Regions.{address, region_at, owned_by, among, in_regions, led_from, joined_with}
 use Rattle.rg_store.proofs.Callers.LabelLemmas.{some-below}
+use Rattle.rg_store.specs.Links.{led_by_labels}
 use Rattle.rg_store.specs.Regions.{is_marked, AreMarked, LabelFits, LabelsFit}
 
 pub or-false : (a : Bool) → a || false ≡ a
@@ -115,53 +116,44 @@ led-none cs st [] = refl
 led-none cs st (o ∷ os) =
     led-none_by o.label (filter_map (region_at st) (owned_by cs o)) (led_from cs st (in_regions []) os) (led-none cs st os)
 
+-- the links of objects, and of others behind them
+led-append_by : (b : Bool) (xs ys zs : List ℕ) → (if b then xs ++ (ys ++ zs) else ys ++ zs) ≡ (if b then xs ++ ys else ys) ++ zs
+led-append_by true xs ys zs = sym (append_assoc xs ys zs)
+led-append_by false xs ys zs = refl
+
 -- one more object
 pub led-append : (cs : List Class) (st : List Seen) (f : Label → Bool) (xs ys : List Seen) →
     led_from cs st f (xs ++ ys) ≡ led_from cs st f xs ++ led_from cs st f ys
 led-append cs st f [] ys = refl
 led-append cs st f (o ∷ os) ys =
     rw (led-append cs st f os ys)
-    (by (f o.label) (filter_map (region_at st) (owned_by cs o)) (led_from cs st f os) (led_from cs st f ys))
-  where
-    assoc : (xs ys zs : List ℕ) → xs ++ (ys ++ zs) ≡ (xs ++ ys) ++ zs
-    assoc [] ys zs = refl
-    assoc (x ∷ xs) ys zs = ap (λ q. x ∷ q) (assoc xs ys zs)
+    (led-append_by (f o.label) (filter_map (region_at st) (owned_by cs o)) (led_from cs st f os) (led_from cs st f ys))
 
-    by : (b : Bool) (xs ys zs : List ℕ) → (if b then xs ++ (ys ++ zs) else ys ++ zs) ≡ (if b then xs ++ ys else ys) ++ zs
-    by true xs ys zs = assoc xs ys zs
-    by false xs ys zs = refl
+-- the same by labels
+pub labels-append : (st xs ys : List Seen) (r : ℕ) →
+    led_by_labels st (xs ++ ys) r ≡ led_by_labels st xs r ++ led_by_labels st ys r
+labels-append st [] ys r = refl
+labels-append st (o ∷ os) ys r =
+    rw (labels-append st os ys r)
+    (led-append_by (in_regions (r ∷ []) o.label) (filter_map (region_at st) (filter_map address o.fields)) (led_by_labels st os r)
+    (led_by_labels st ys r))
 
 in_regions-cons : (r : ℕ) (rs : List ℕ) (l : Label) → in_regions (r ∷ rs) l ≡ in_regions (r ∷ []) l || in_regions rs l
 in_regions-cons r rs (Region q) = among-cons r rs q ∙ ap (λ b. b || among rs q) (sym (among-one r q))
 in_regions-cons r rs (Temp n) = refl
 in_regions-cons r rs Frozen = refl
 
-in_regions-same : (rs ss : List ℕ) → ((n : ℕ) → among rs n ≡ among ss n) → (l : Label) → in_regions rs l ≡ in_regions ss l
-in_regions-same rs ss same (Region r) = same r
-in_regions-same rs ss same (Temp n) = refl
-in_regions-same rs ss same Frozen = refl
-
 -- those to which owner references lead from regions are those in the lists of these regions
-pub led-lists : (cs : List Class) (st : List Seen) (lists : ℕ → List ℕ) (count : ℕ) →
-    ((r : ℕ) → r < count → lists r ≡ led_from cs st (in_regions (r ∷ [])) st) → (rs : List ℕ) → All (λ r. r < count) rs → (n : ℕ) →
+pub led-lists : (cs : List Class) (st : List Seen) (lists : ℕ → List ℕ) →
+    ((r : ℕ) → lists r ≡ led_from cs st (in_regions (r ∷ [])) st) → (rs : List ℕ) (n : ℕ) →
     among (led_from cs st (in_regions rs) st) n ≡ among (flat_map lists rs) n
-led-lists cs st lists count are [] all n = ap (λ q. among q n) (led-none cs st st)
-led-lists cs st lists count are (r ∷ rs) all n =
+led-lists cs st lists are [] n = ap (λ q. among q n) (led-none cs st st)
+led-lists cs st lists are (r ∷ rs) n =
     ap (λ q. among q n) (led-same cs st (in_regions (r ∷ rs)) (λ l. in_regions (r ∷ []) l || in_regions rs l) st (in_regions-cons r rs))
     ∙ led-either cs st (in_regions (r ∷ [])) (in_regions rs) st n
-    ∙ ap (λ q. among q n || among (led_from cs st (in_regions rs) st) n) (sym (are r (All-head (λ q. q < count) r rs all)))
-    ∙ ap (λ q. among (lists r) n || q) (led-lists cs st lists count are rs (All-tail (λ q. q < count) r rs all) n)
+    ∙ ap (λ q. among q n || among (led_from cs st (in_regions rs) st) n) (sym (are r))
+    ∙ ap (λ q. among (lists r) n || q) (led-lists cs st lists are rs n)
     ∙ sym (among-append (lists r) (flat_map lists rs) n)
-
--- one link more
-pub among-more : (cs : List Class) (st : List Seen) (lists : ℕ → List ℕ) (count : ℕ) (found rs : List ℕ) →
-    ((r : ℕ) → r < count → lists r ≡ led_from cs st (in_regions (r ∷ [])) st) → ((n : ℕ) → among found n ≡ among rs n) →
-    All (λ r. r < count) rs → (n : ℕ) →
-    among (joined_with found (led_from cs st (in_regions found) st)) n ≡ among rs n || among (flat_map lists rs) n
-among-more cs st lists count found rs are same all n =
-    among-joined found (led_from cs st (in_regions found) st) n ∙ ap (λ q. q || among (led_from cs st (in_regions found) st) n) (same n)
-    ∙ ap (λ q. among rs n || among q n) (led-same cs st (in_regions found) (in_regions rs) st (in_regions-same found rs same))
-    ∙ ap (λ q. among rs n || q) (led-lists cs st lists count are rs all n)
 
 -- a number with a mark is below the number of marks
 pub marked-below : (marks : List Bool) (r : ℕ) → is_marked marks r ≡ true → r < length marks
@@ -199,3 +191,10 @@ led-fits count cs st f [] fits = All-nil (λ r. r < count)
 led-fits count cs st f (o ∷ os) fits =
     led-fits_by count (f o.label) (filter_map (region_at st) (owned_by cs o)) (led_from cs st f os)
     (All-answers (λ r. r < count) (region_at st) (owned_by cs o) (λ a r is. region-fits count st fits a r is)) (led-fits count cs st f os fits)
+
+pub labels-fit : (count : ℕ) (st os : List Seen) (r : ℕ) → LabelsFit count st → All (λ q. q < count) (led_by_labels st os r)
+labels-fit count st [] r fits = All-nil (λ q. q < count)
+labels-fit count st (o ∷ os) r fits =
+    led-fits_by count (in_regions (r ∷ []) o.label) (filter_map (region_at st) (filter_map address o.fields)) (led_by_labels st os r)
+    (All-answers (λ q. q < count) (region_at st) (filter_map address o.fields) (λ a q is. region-fits count st fits a q is))
+    (labels-fit count st os r fits)

@@ -6,16 +6,14 @@ use Rattle.rg_base.specs.declared.fault.Memory.{Memory}
 use Rattle.std.proofs.lemmas.Bool.{eqb-true, eq-eqb, or_cases, true≢false}
 use Rattle.std.proofs.lemmas.List.{take_more, length-set, get_or-set_same, get_or-set_other}
 use Rattle.std.proofs.lemmas.Grind.{flat_map-append}
-use Rattle.rg_base.specs.declared.object.Seen.{Seen}
-use Rattle.rg_tree.specs.Tree.{Class}
 use Rattle.rg_tree.proofs.TreesFrom.{Begins-same, Begins-trans, get_or-Begins}
-use Rattle.rg_rules.specs.Regions.{among, in_regions, led_from, beneath}
-use Rattle.rg_rules.proofs.RegionLemmas.{beneath-suc}
+use Rattle.rg_rules.specs.Regions.{among}
 use Rattle.rg_store.specs.declared.marks.Found.{Found}
-use Rattle.rg_store.specs.Regions.{is_marked, AreMarked, LabelsFit}
-use Rattle.rg_store.specs.Links.{listed, AreLinks}
+use Rattle.rg_store.specs.Regions.{is_marked, AreMarked}
+use Rattle.rg_store.specs.Links.{listed, linked}
 use Rattle.rg_store.specs.Inner.Found.{FindsToo}
-use Rattle.rg_store.proofs.AmongLemmas.{or-false, or-true, or-assoc, among-one, among-append, among-again, among-more, AreMarked-below, led-fits}
+use Rattle.rg_store.proofs.AmongLemmas.{or-false, or-true, or-assoc, among-one, among-append, AreMarked-below}
+use Rattle.rg_store.proofs.LinkedLemmas.{among-linked, linked-suc}
 
 -- nothing more was found
 pub FindsToo-none : (f : Found) → AreMarked f.marks.items f.regions.items → FindsToo f f []
@@ -35,15 +33,6 @@ FindsToo-both f g h rs ss a b = record {
   marked = λ r.
       b.marked r ∙ ap (λ q. q || among ss r) (a.marked r) ∙ or-assoc (is_marked f.marks.items r) (among rs r) (among ss r)
       ∙ ap (λ q. is_marked f.marks.items r || q) (sym (among-append rs ss r));
-}
-
--- a region that was known
-pub FindsToo-known : (f : Found) (r : ℕ) → AreMarked f.marks.items f.regions.items → is_marked f.marks.items r ≡ true → FindsToo f f (r ∷ [])
-FindsToo-known f r fit known = record {
-  count = refl;
-  fit = fit;
-  before = Begins-same f.regions.items;
-  marked = λ q. among-again r q (is_marked f.marks.items) known ∙ ap (λ b. is_marked f.marks.items q || b) (sym (among-one r q));
 }
 
 marked-set : (marks : List Bool) (r q : ℕ) → r < length marks → is_marked (set marks r true) q ≡ is_marked marks q || among (r ∷ []) q
@@ -105,19 +94,19 @@ pub found-below : (f : Found) (count i r d : ℕ) → AreMarked f.marks.items f.
 found-below f count i r d fit count_is within is =
     let below : get_or f.regions.items i d < length f.marks.items = AreMarked-below f.marks.items f.regions.items fit i d within in omega arith
 
--- what was found after so many links: the regions beneath, and to where the first ones lead that are done
-pub record Reaches (cs : List Class) (st : List Seen) (lists : ℕ → List ℕ) (first links done : ℕ) (f : Found) : Type 0 where
+-- what was found after so many links: the regions to which they lead, and to where the first ones lead that are done
+pub record Reaches (lists : ℕ → List ℕ) (first links done : ℕ) (f : Found) : Type 0 where
   pub fit : AreMarked f.marks.items f.regions.items
-  pub beneath : AreMarked f.marks.items (beneath cs st links (first ∷ []))
+  pub linked : AreMarked f.marks.items (linked lists links (first ∷ []))
   pub within : done ≤ length f.regions.items
   pub led : (r : ℕ) → among (flat_map lists (take done f.regions.items)) r ≡ true → is_marked f.marks.items r ≡ true
 
 -- the first region was found
-pub Reaches-first : (cs : List Class) (st : List Seen) (lists : ℕ → List ℕ) (first : ℕ) (f g : Found) →
-    ((r : ℕ) → is_marked f.marks.items r ≡ false) → FindsToo f g (first ∷ []) → Reaches cs st lists first 0 0 g
-Reaches-first cs st lists first f g none found = record {
+pub Reaches-first : (lists : ℕ → List ℕ) (first : ℕ) (f g : Found) → ((r : ℕ) → is_marked f.marks.items r ≡ false) →
+    FindsToo f g (first ∷ []) → Reaches lists first 0 0 g
+Reaches-first lists first f g none found = record {
   fit = found.fit;
-  beneath = λ r. found.marked r ∙ ap (λ b. b || among (first ∷ []) r) (none r);
+  linked = λ r. found.marked r ∙ ap (λ b. b || among (first ∷ []) r) (none r);
   within = omega arith;
   led = λ r is. cc;
 }
@@ -136,19 +125,17 @@ split lists rs done r =
     whole (q ∷ rs) (suc n) = ap (λ w. q ∷ w) (whole rs n)
 
 -- one link more
-pub Reaches-more : (cs : List Class) (st : List Seen) (lists : ℕ → List ℕ) (count first links done known : ℕ) (f g : Found) →
-    ((r : ℕ) → r < count → lists r ≡ led_from cs st (in_regions (r ∷ [])) st) → length f.marks.items ≡ count →
-    Reaches cs st lists first links done f → FindsToo f g (flat_map lists (drop done f.regions.items)) → known ≡ length f.regions.items →
-    Reaches cs st lists first (links + 1) known g
-Reaches-more cs st lists count first links done known f g are count_is old found known_is =
-    subst (λ n. Reaches cs st lists first n known g) (sym (add-one links)) (record {
+pub Reaches-more : (lists : ℕ → List ℕ) (first links done known : ℕ) (f g : Found) → Reaches lists first links done f →
+    FindsToo f g (flat_map lists (drop done f.regions.items)) → known ≡ length f.regions.items → Reaches lists first (links + 1) known g
+Reaches-more lists first links done known f g old found known_is =
+    subst (λ n. Reaches lists first n known g) (sym (add-one links)) (record {
       fit = found.fit;
-      beneath = λ r.
+      linked = λ r.
           found.marked r
           ∙ absorbed (is_marked f.marks.items r) (among (flat_map lists (take done rs)) r) (among (flat_map lists (drop done rs)) r) (old.led r)
           ∙ ap (λ b. is_marked f.marks.items r || b) (sym (split lists rs done r)) ∙ ap (λ b. b || among (flat_map lists rs) r) (old.fit r)
-          ∙ sym (among-more cs st lists count (beneath cs st links (first ∷ [])) rs are (λ n. sym (old.beneath n) ∙ old.fit n) below r)
-          ∙ ap (λ q. among q r) (sym (beneath-suc cs st links (first ∷ [])));
+          ∙ sym (among-linked lists (linked lists links (first ∷ [])) rs (λ n. sym (old.linked n) ∙ old.fit n) r)
+          ∙ ap (λ q. among q r) (sym (linked-suc lists links (first ∷ [])));
       within = omega (arith, ap length found.before.is, length-append rs found.before.more);
       led = λ r is. later r (or_cases _ _ (sym (split lists rs done r) ∙ sym (ap (λ q. among (flat_map lists q) r) first_are) ∙ is));
     })
@@ -160,9 +147,6 @@ Reaches-more cs st lists count first links done known f g are count_is old found
     absorbed true a b done = refl
     absorbed false true b done = let e : false ≡ true = done refl in cc
     absorbed false false b done = refl
-
-    below : All (λ r. r < count) rs
-    below = subst (λ n. All (λ r. r < n) rs) count_is (AreMarked-below f.marks.items rs old.fit)
 
     first_are : take known g.regions.items ≡ rs
     first_are = ap (λ q. take known q) found.before.is ∙ ap (λ n. take n (rs ++ found.before.more)) known_is ∙ front rs found.before.more
@@ -189,13 +173,10 @@ none-marked (suc n) zero = refl
 none-marked (suc n) (suc r) = none-marked n r
 
 -- all regions in lists of links were made
-pub links-there : (cs : List Class) (st : List Seen) (count : ℕ) (lists : List (Vec ℕ Global)) → AreLinks cs st count lists → LabelsFit count st →
-    (r : ℕ) → r < length lists → All (λ q. q < length lists) (listed lists r)
-links-there cs st count lists are fits r within =
-    let below : All (λ q. q < count) (led_from cs st (in_regions (r ∷ [])) st) = led-fits count cs st (in_regions (r ∷ [])) st fits in
-    let count_is : length lists ≡ count = are.count_is in
-    let here : r < count = omega arith in
-    subst (λ n. All (λ q. q < n) (listed lists r)) (sym count_is) (subst (λ ls. All (λ q. q < count) ls) (sym (are.led r here)) below)
+pub links-there : (count : ℕ) (lists : List (Vec ℕ Global)) (links : ℕ → List ℕ) → length lists ≡ count → ((r : ℕ) → listed lists r ≡ links r) →
+    ((r : ℕ) → All (λ q. q < count) (links r)) → (r : ℕ) → r < length lists → All (λ q. q < length lists) (listed lists r)
+links-there count lists links count_is are below r within =
+    subst (λ n. All (λ q. q < n) (listed lists r)) (sym count_is) (subst (λ ls. All (λ q. q < count) ls) (sym (are r)) (below r))
 
 -- a list whose regions were all made
 pub list-there : (lists : List (Vec ℕ Global)) (r count : ℕ) (here : List ℕ) → r < length lists → here ≡ listed lists r → count ≡ length lists →
@@ -203,16 +184,12 @@ pub list-there : (lists : List (Vec ℕ Global)) (r count : ℕ) (here : List �
 list-there lists r count here within is count_is all =
     subst (λ n. All (λ p. p < n) here) (sym count_is) (subst (λ q. All (λ p. p < length lists) q) (sym is) (all r within))
 
--- the marks of the regions to which links lead are those of the regions beneath
-pub reached-beneath : (cs : List Class) (st : List Seen) (count region : ℕ) (led lists : List (Vec ℕ Global))
-    (result : Result (Vec Bool Global) Memory) →
-    led ≡ lists → AreLinks cs st count lists →
-    IfOk result (λ marks. (classes : List Class) (store : List Seen) → AreLinks classes store (length led) led →
-    AreMarked marks.items (beneath classes store (length led) (region ∷ []))) →
-    IfOk result (λ marks. AreMarked marks.items (beneath cs st count (region ∷ [])))
-reached-beneath cs st count region led lists (Ok marks) same are is =
-    let count_is : length led ≡ count = ap length same ∙ are.count_is in
-    let links : AreLinks cs st (length led) led =
-    subst (λ n. AreLinks cs st n led) (sym count_is) (subst (AreLinks cs st count) (sym same) are) in
-    subst (λ n. AreMarked marks.items (beneath cs st n (region ∷ []))) count_is (is cs st links)
-reached-beneath cs st count region led lists (Err m) same are is = tt
+-- the marks of the regions to which links lead, where the lists are known
+pub marks-as : (count region : ℕ) (these : List ℕ) (led lists : List (Vec ℕ Global)) (result : Result (Vec Bool Global) Memory) →
+    led ≡ lists → length lists ≡ count → ((n : ℕ) → among (linked (listed lists) count (region ∷ [])) n ≡ among these n) →
+    IfOk result (λ marks. AreMarked marks.items (linked (listed led) (length led) (region ∷ []))) →
+    IfOk result (λ marks. AreMarked marks.items these)
+marks-as count region these led lists (Ok marks) same count_is are is =
+    λ r. is r ∙ ap (λ q. among (linked (listed q) (length q) (region ∷ [])) r) same
+    ∙ ap (λ n. among (linked (listed lists) n (region ∷ [])) r) count_is ∙ are r
+marks-as count region these led lists (Err m) same count_is are is = tt

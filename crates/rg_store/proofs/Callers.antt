@@ -1,4 +1,3 @@
--- For crates above: labels, writes to objects, and lists of links.
+-- For crates above: labels, and writes to objects.
 pub mod LabelLemmas
 pub mod WriteLemmas
-pub mod ListLemmas

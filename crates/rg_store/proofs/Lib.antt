@@ -3,6 +3,8 @@ pub mod Callers
 mod ObjectLemmas
 mod OpeningLemmas
 mod AmongLemmas
+mod ListLemmas
+mod LinkedLemmas
 mod BeneathLemmas
 mod LinkLemmas
 mod RelabelLemmas

@@ -18,7 +18,7 @@ use Rattle.rg_store.specs.Links.{listed}
 use Rattle.rg_store.specs.Inner.Found.{links_in}
 use Rattle.rg_store.specs.Shown.{seen_of, store_of}
 use Rattle.rg_store.proofs.AmongLemmas.{among-one}
-use Rattle.rg_store.proofs.Callers.ListLemmas.{listed-here, listed-other, listed-read}
+use Rattle.rg_store.proofs.ListLemmas.{listed-here, listed-other, listed-read}
 
 owned-more : (cs : List Class) (f : Field) (fs : List Field) (vs : List Val) (place : ℕ) (d : Val) → place < length vs →
     owned_in cs (f ∷ fs) (drop place vs) ≡ option_to_list (owned_as cs f (get_or vs place d)) ++ owned_in cs fs (drop (suc place) vs)
@@ -60,32 +60,41 @@ region-label (Temp n) r is = cc
 region-label Frozen r is = cc
 
 -- the links of an object of a region
-led-one : (cs : List Class) (st : List Seen) (o : Seen) (region r : ℕ) → o.label ≡ Region region →
-    led_from cs st (in_regions (r ∷ [])) (o ∷ [])
-    ≡ (if r == region then filter_map (region_at st) (owned_in cs (fields_of cs o.class) o.fields) ++ [] else [])
-led-one cs st o region r label =
-    let links = filter_map (region_at st) (owned_in cs (fields_of cs o.class) o.fields) in
-    ap (λ l. led_from cs st (in_regions (r ∷ [])) (record o { label = l } ∷ [])) label
-    ∙ ap (λ b. if b then links ++ [] else []) (among-one r region)
+one-label : (l : Label) (region r : ℕ) (links : List ℕ) → l ≡ Region region →
+    (if in_regions (r ∷ []) l then links ++ [] else []) ≡ (if r == region then links ++ [] else [])
+one-label l region r links is =
+    ap (λ q. if in_regions (r ∷ []) q then links ++ [] else []) is ∙ ap (λ b. if b then links ++ [] else []) (among-one r region)
 
--- the list of its region got them
-pub listed-added : (cs : List Class) (st : List Seen) (o : Seen) (lists : List (Vec ℕ Global)) (region : ℕ) (old v : Vec ℕ Global) (links : List ℕ) →
-    Some region ≡ region_of o.label → region < length lists → old ≡ get_or lists region old → v.items ≡ old.items ++ links →
-    links ≡ filter_map (region_at st) (owned_in cs (fields_of cs o.class) o.fields) → (r : ℕ) →
-    listed (set lists region v) r ≡ listed lists r ++ led_from cs st (in_regions (r ∷ [])) (o ∷ [])
-listed-added cs st o lists region old v links label within old_is v_is links_are r =
-    by (r == region) refl ∙ ap (λ q. listed lists r ++ (if r == region then q ++ [] else [])) links_are
-    ∙ ap (λ q. listed lists r ++ q) (sym (led-one cs st o region r (region-label o.label region label)))
+-- the list of a region got more
+pub listed-added : (lists : List (Vec ℕ Global)) (label : Label) (region : ℕ) (old v : Vec ℕ Global) (more links : List ℕ) →
+    Some region ≡ region_of label → region < length lists → old ≡ get_or lists region old → v.items ≡ old.items ++ more → more ≡ links → (r : ℕ) →
+    listed (set lists region v) r ≡ listed lists r ++ (if in_regions (r ∷ []) label then links ++ [] else [])
+listed-added lists label region old v more links label_is within old_is v_is same r =
+    by (r == region) refl ∙ ap (λ q. listed lists r ++ (if r == region then q ++ [] else [])) same
+    ∙ ap (λ q. listed lists r ++ q) (sym (one-label label region r links (region-label label region label_is)))
   where
-    by : (b : Bool) → (r == region) ≡ b → listed (set lists region v) r ≡ listed lists r ++ (if r == region then links ++ [] else [])
+    by : (b : Bool) → (r == region) ≡ b → listed (set lists region v) r ≡ listed lists r ++ (if r == region then more ++ [] else [])
     by true same =
         let is : r ≡ region = eqb-true r region same in
         ap (listed (set lists region v)) is ∙ listed-here lists region v within ∙ v_is
-        ∙ ap (λ q. q ++ links) (listed-read lists region old within old_is) ∙ ap (λ n. listed lists n ++ links) (sym is)
-        ∙ ap (λ q. listed lists r ++ q) (sym (append-nil links)) ∙ ap (λ b. listed lists r ++ (if b then links ++ [] else [])) (sym same)
+        ∙ ap (λ q. q ++ more) (listed-read lists region old within old_is) ∙ ap (λ n. listed lists n ++ more) (sym is)
+        ∙ ap (λ q. listed lists r ++ q) (sym (append-nil more)) ∙ ap (λ b. listed lists r ++ (if b then more ++ [] else [])) (sym same)
     by false other =
         listed-other lists region r v (λ e. true≢false (sym (eq-eqb r region e) ∙ other)) ∙ sym (append-nil (listed lists r))
-        ∙ ap (λ b. listed lists r ++ (if b then links ++ [] else [])) (sym other)
+        ∙ ap (λ b. listed lists r ++ (if b then more ++ [] else [])) (sym other)
+
+-- the owner references of an object, by its label
+pub owned-label : (cs : List Class) (st : List Seen) (o : Seen) (r : ℕ) →
+    (if in_regions (r ∷ []) o.label then filter_map (region_at st) (owned_in cs (fields_of cs o.class) o.fields) ++ [] else [])
+    ≡ led_from cs st (in_regions (r ∷ [])) (o ∷ [])
+owned-label cs st o r = by o.label
+  where
+    by : (l : Label) →
+        (if in_regions (r ∷ []) l then filter_map (region_at st) (owned_in cs (fields_of cs o.class) o.fields) ++ [] else [])
+        ≡ led_from cs st (in_regions (r ∷ [])) (record o { label = l } ∷ [])
+    by (Region q) = refl
+    by (Temp n) = refl
+    by Frozen = refl
 
 -- the objects up to a place, and that at it
 pub store_of-more : (store : List ObjectRow) (i : ℕ) (o : ObjectRow) → i < length store → o ≡ get_or store i o →

@@ -12,9 +12,8 @@ mod objects;
 mod operators;
 
 pub use labels::{Regions, region, region_at, region_led, relabel};
-pub use links::empty_lists;
 pub use made::{new_object, push_object};
-pub use marks::{beneath, reached};
+pub use marks::{beneath, beneath_by_labels, linked};
 pub use objects::{
     ObjectRow, field_at, field_value, follow, object_place, read_at, write_at, write_field,
 };

@@ -1,5 +1,5 @@
-//! Links between regions: for each region, those to which owner references lead from it. An owner
-//! reference is a value in a field whose declared type is `iso` (docs/language.md, "Steps").
+//! Links between regions, found in one pass over the objects: by declared types, where a field that
+//! is `iso` owns what it leads to, or by labels alone (docs/language.md, "Steps").
 
 ghost use Rattle.std.specs.Prelude.{◌++◌, ◌<◌, ◌∷◌, ◌≡◌, ◌≤◌, [], IfOk, List, OnOk, drop};
 ghost use Rattle.std.specs.Prelude.{filter_map, length, option_to_list, ℕ};
@@ -7,10 +7,10 @@ ghost use Rattle.rg_tree.specs.Rows.RowTrees.{classes_of, member_at, type_of as 
 ghost use Rattle.rg_tree.specs.Rows.Tables.{Tables};
 ghost use Rattle.rg_tree.specs.Tree.{Class, Member};
 ghost use Rattle.rg_rules.specs.Capabilities.{is_iso};
-ghost use Rattle.rg_rules.specs.Regions.{in_regions, led_from, owned, owned_in, region_at};
+ghost use Rattle.rg_rules.specs.Regions.{address, in_regions, led_from, owned, owned_in, region_at};
 ghost use Rattle.rg_rules.specs.Types.{fields_of, type_of};
-ghost use Rattle.rg_store.specs.Inner.Found.{links_in};
-ghost use Rattle.rg_store.specs.Links.{AreLinks, listed};
+ghost use Rattle.rg_store.specs.Inner.Found.{AreLinks, links_in};
+ghost use Rattle.rg_store.specs.Links.{led_by_labels, listed};
 ghost use Rattle.rg_store.specs.Regions.{LabelFits, LabelsFit};
 ghost use Rattle.rg_store.specs.Shown.{AreOfClasses, seen_of, store_of};
 
@@ -35,6 +35,20 @@ fn is_iso_row(ty: TypeRow) -> bool
     }
 }
 
+/// Adds the region to which a value leads, where it leads to one.
+fn add_led(store: &[ObjectRow], links: &mut Vec<u64>, value: Val) -> Result<(), Memory>
+    ensures { OnOk result (links.new.items ≡ links.old.items ++ filter_map
+        (region_at (store_of store.now)) (option_to_list (address value))) }
+{
+    let Some(region) = region_led(store, value) else {
+        return Ok(());
+    };
+    let Ok(()) = links.push(region) else {
+        return Err(Memory);
+    };
+    Ok(())
+}
+
 /// Adds the region to which the value of a field leads, where the field owns it.
 fn add_link(
     store: &[ObjectRow],
@@ -49,12 +63,7 @@ fn add_link(
     if !is_iso_row(ty) {
         return Ok(());
     }
-    let Some(region) = region_led(store, value) else {
-        return Ok(());
-    };
-    let Ok(()) = links.push(region) else {
-        return Err(Memory);
-    };
+    add_led(store, links, value)?;
     Ok(())
 }
 
@@ -119,9 +128,9 @@ fn add_object(
     requires class { object.now.class < length (classes_of book.now.program) }
     requires label { LabelFits (length led.old.items) object.now.label }
     ensures count { length led.new.items ≡ length led.old.items }
-    ensures added { OnOk result ((r : ℕ) → r < length led.old.items →
-        listed led.new.items r ≡ listed led.old.items r ++ led_from (classes_of book.now.program)
-        (store_of store.now) (in_regions (r ∷ [])) (seen_of object.now ∷ [])) }
+    ensures added { OnOk result ((r : ℕ) → listed led.new.items r ≡ listed led.old.items r
+        ++ led_from (classes_of book.now.program) (store_of store.now) (in_regions (r ∷ []))
+        (seen_of object.now ∷ [])) }
 {
     let Some(region) = region(object.label) else {
         return Ok(());
@@ -132,7 +141,7 @@ fn add_object(
 }
 
 /// So many empty lists.
-pub fn empty_lists(alloc: Global, count: usize) -> Result<Vec<Vec<u64>>, Memory>
+fn empty_lists(alloc: Global, count: usize) -> Result<Vec<Vec<u64>>, Memory>
     ensures count { IfOk result (λ lists. length lists.items ≡ count) }
     ensures empty { IfOk result (λ lists. (r : ℕ) → listed lists.items r ≡ []) }
 {
@@ -160,6 +169,54 @@ pub(crate) fn all_links(
     let mut led = empty_lists(alloc, count)?;
     for object in store {
         add_object(book, store, object, &mut led)?;
+    }
+    Ok(led)
+}
+
+/// Adds the regions to which values lead.
+fn add_all_led(store: &[ObjectRow], links: &mut Vec<u64>, values: &[Val]) -> Result<(), Memory>
+    ensures { OnOk result (links.new.items ≡ links.old.items ++ filter_map
+        (region_at (store_of store.now)) (filter_map address values.now)) }
+{
+    for value in values {
+        add_led(store, links, *value)?;
+    }
+    Ok(())
+}
+
+/// Adds the regions to which the fields of an object lead to the list of its own region.
+fn add_by_label(
+    store: &[ObjectRow],
+    object: &ObjectRow,
+    led: &mut Vec<Vec<u64>>,
+) -> Result<(), Memory>
+    requires label { LabelFits (length led.old.items) object.now.label }
+    ensures count { length led.new.items ≡ length led.old.items }
+    ensures added { OnOk result ((r : ℕ) → listed led.new.items r ≡ listed led.old.items r
+        ++ led_by_labels (store_of store.now) (seen_of object.now ∷ []) r) }
+{
+    let Some(region) = region(object.label) else {
+        return Ok(());
+    };
+    let links = &mut led[region as usize];
+    add_all_led(store, links, &object.fields)?;
+    Ok(())
+}
+
+/// For each region, those to which fields lead from it, whatever their types.
+pub(crate) fn links_by_labels(
+    alloc: Global,
+    store: &[ObjectRow],
+    count: usize,
+) -> Result<Vec<Vec<u64>>, Memory>
+    requires labels { LabelsFit count (store_of store.now) }
+    ensures count { IfOk result (λ led. length led.items ≡ count) }
+    ensures led { IfOk result (λ led. (r : ℕ) →
+        listed led.items r ≡ led_by_labels (store_of store.now) (store_of store.now) r) }
+{
+    let mut led = empty_lists(alloc, count)?;
+    for object in store {
+        add_by_label(store, object, &mut led)?;
     }
     Ok(led)
 }

@@ -1,18 +1,16 @@
 //! The regions that links lead to, in time linear in the regions and the links
 //! (docs/language.md, "Steps").
 
-ghost use Rattle.std.specs.Prelude.{◌<◌, ◌∷◌, ◌≡◌, ◌≤◌, [], All, IfOk, List, OnOk, drop};
+ghost use Rattle.std.specs.Prelude.{◌<◌, ◌∷◌, ◌≡◌, ◌≤◌, [], All, IfOk, OnOk, drop};
 ghost use Rattle.std.specs.Prelude.{flat_map, length, ℕ};
-ghost use Rattle.rg_base.specs.declared.object.Seen.{Seen};
 ghost use Rattle.rg_tree.specs.Rows.RowTrees.{classes_of};
-ghost use Rattle.rg_tree.specs.Tree.{Class};
 ghost use Rattle.rg_rules.specs.Regions.{beneath};
 ghost use Rattle.rg_store.specs.Inner.Found.{FindsToo};
-ghost use Rattle.rg_store.specs.Links.{AreLinks, listed};
+ghost use Rattle.rg_store.specs.Links.{led_by_labels, linked, listed};
 ghost use Rattle.rg_store.specs.Regions.{AreMarked, LabelsFit};
 ghost use Rattle.rg_store.specs.Shown.{AreOfClasses, store_of};
 
-use crate::links::all_links;
+use crate::links::{all_links, links_by_labels};
 use crate::objects::ObjectRow;
 use rg_base::Memory;
 use rg_names::Book;
@@ -83,14 +81,13 @@ fn mark_led(led: &[Vec<u64>], found: &mut Found, done: usize) -> Result<usize, M
 }
 
 /// A mark for each region to which links lead from one, and for that itself. Whose links they are
-/// is for the caller to say: `beneath` finds them by declared types.
-pub fn reached(alloc: Global, led: &[Vec<u64>], region: u64) -> Result<Vec<bool>, Memory>
+/// is for the caller to say.
+pub fn linked(alloc: Global, led: &[Vec<u64>], region: u64) -> Result<Vec<bool>, Memory>
     requires links { (r : ℕ) → r < length led.now →
         All (λ q. q < length led.now) (listed led.now r) }
     requires there { region < length led.now }
-    ensures { IfOk result (λ marks. (classes : List Class) (store : List Seen) →
-        AreLinks classes store (length led.now) led.now → AreMarked marks.items
-        (beneath classes store (length led.now) (region ∷ []))) }
+    ensures { IfOk result (λ marks.
+        AreMarked marks.items (linked (listed led.now) (length led.now) (region ∷ []))) }
 {
     let count = led.len();
     let Ok(marks) = vec![in alloc; false; count] else {
@@ -124,5 +121,22 @@ pub fn beneath(
         (beneath (classes_of book.now.program) (store_of store.now) count (region ∷ []))) }
 {
     let led = all_links(alloc, book, store, count)?;
-    reached(alloc, &led, region)
+    linked(alloc, &led, region)
+}
+
+/// The same where links are all references from a region, whatever their types: it needs no class
+/// table.
+pub fn beneath_by_labels(
+    alloc: Global,
+    store: &[ObjectRow],
+    count: usize,
+    region: u64,
+) -> Result<Vec<bool>, Memory>
+    requires labels { LabelsFit count (store_of store.now) }
+    requires there { region < count }
+    ensures { IfOk result (λ marks. let objects = store_of store.now in AreMarked marks.items
+        (linked (led_by_labels objects objects) count (region ∷ []))) }
+{
+    let led = links_by_labels(alloc, store, count)?;
+    linked(alloc, &led, region)
 }

@@ -1,5 +1,4 @@
-//! The steps of `new C`, `new tmp C` and `new iso C in M`. The fields of a new object start as 0,
-//! false and nil (docs/language.md, "Steps").
+//! The steps of `new C`, `new tmp C` and `new iso C in M` (docs/language.md, "Steps").
 
 ghost use Rattle.std.specs.Prelude.{◌<◌, ◌≡◌, List, OnOk, length, vec_capacity, ℕ};
 ghost use Rattle.rg_tree.specs.Rows.RowTrees.{classes_of};

@@ -1,7 +1,7 @@
 -- Labels of regions that were made.
-use Rattle.std.proofs.Common.{◌≡◌, ℕ, zero, suc, ◌<◌, ◌≤◌, List, [], ◌∷◌, ◌++◌, length, get_or, slice_set, Option, Some, None, IfSome, sym}
+use Rattle.std.proofs.Common.{◌≡◌, ℕ, zero, suc, ◌<◌, ◌≤◌, List, [], ◌∷◌, length, get_or, slice_set, Option, Some, None, IfSome, sym}
 use Rattle.std.proofs.Common.{subst, arith}
-use Rattle.std.proofs.lemmas.List.Elements.{All-cons, All-head, All-tail, All-push}
+use Rattle.std.proofs.lemmas.List.Elements.{All-cons, All-head, All-tail}
 use Rattle.rg_base.specs.declared.object.Seen.{Seen}
 use Rattle.rg_base.specs.declared.object.Label.{Label}
 use Rattle.rg_base.specs.declared.object.Label.TheVariants.{Region, Temp, Frozen}
@@ -45,12 +45,6 @@ LabelsFit-set count (r ∷ rows) (suc k) d o within same all =
     let P : Seen → Type 0 = λ q. LabelFits count q.label in
     All-cons P (seen_of r) (store_of (slice_set rows k o)) (All-head P (seen_of r) (store_of rows) all)
     (LabelsFit-set count rows k d o (omega arith) same (All-tail P (seen_of r) (store_of rows) all))
-
--- one more object
-pub LabelsFit-pushed : (count : ℕ) (old new : List Seen) (o : Seen) → new ≡ old ++ o ∷ [] → LabelFits count o.label → LabelsFit count old →
-    LabelsFit count new
-LabelsFit-pushed count old new o is here fits =
-    subst (LabelsFit count) (sym is) (All-push (λ (q : Seen). LabelFits count q.label) old o fits here)
 
 -- the region of an object at a place was made
 pub region-made : (store : List ObjectRow) (k : ℕ) (o : ObjectRow) (r : Option ℕ) → k < length store → o ≡ get_or store k o → r ≡ region_of o.label →

@@ -1,4 +1,4 @@
-use Rattle.std.proofs.Common.{◌∙◌, ◌<◌, ◌∷◌, [], ◌++◌, length, take, sym, ap, subst, arith}
+use Rattle.std.proofs.Common.{◌∙◌, ◌∷◌, [], ◌++◌, take, sym, ap, subst, arith}
 use Rattle.rg_tree.specs.Rows.RowTrees.{classes_of}
 use Rattle.rg_rules.specs.Regions.{in_regions, led_from}
 use Rattle.rg_store.specs.Regions.{LabelFits}
@@ -23,11 +23,10 @@ loop-object-preserved c =
     let o = c.object-item.result in
     let count = c.loop-object.invariant.count in record {
       count = c.add_object.ensures.count ∙ count;
-      led = λ r below.
+      led = λ r.
           let test = in_regions (r ∷ []) in
-          let here : r < length c.loop-object.led.items = omega (arith, count) in
-          c.in_ok-add_object.ensures.added r here
-          ∙ ap (λ q. q ++ led_from cs st test (seen_of o ∷ [])) (c.loop-object.invariant.led r below)
+          c.in_ok-add_object.ensures.added r
+          ∙ ap (λ q. q ++ led_from cs st test (seen_of o ∷ [])) (c.loop-object.invariant.led r)
           ∙ sym (led-append cs st test (take i st) (seen_of o ∷ []))
           ∙ ap (led_from cs st test) (store_of-more c.args.store.now i o (omega (arith, c.loop-object-test.true)) c.object-item.is);
     }

@@ -23,7 +23,7 @@ use Rattle.rg_plain.specs.Kept.{Kept, frame_of, plain_of, shown}
 use Rattle.rg_plain.specs.Inner.Moves.{right_of, regions_with, label_of, moved, carried, Holds}
 use Rattle.rg_plain.specs.Shown.{locals_of}
 use Rattle.rg_plain.specs.Inner.Spots.{AimIs, statement_of, use_of, sent_to}
-use Rattle.rg_plain.proofs.StepLemmas.{next-at}
+use Rattle.rg_plain.proofs.Statements.StepLemmas.{next-at}
 
 with-object : (t : Tables) (cs : List Class) (s : State) (to : Target) (put : Use) (name : ℕ) (how : Move) (o : Seen) →
     object_at s.store (value_in (locals_in s) (Some (name_at t name))) ≡ Ok o →

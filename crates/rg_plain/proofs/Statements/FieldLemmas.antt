@@ -20,7 +20,7 @@ use Rattle.rg_plain.specs.declared.values.paths.Spot.TheVariants as spot
 use Rattle.rg_plain.specs.Kept.{Kept, plain_of, shown as items_shown}
 use Rattle.rg_plain.specs.Shown as shown
 use Rattle.rg_plain.specs.Inner.Spots.{SpotIs, IsField, exchanged}
-use Rattle.rg_plain.proofs.StepLemmas.{next-at}
+use Rattle.rg_plain.proofs.Statements.StepLemmas.{next-at}
 
 -- what stands at a place
 pub some-at : {A : Type 0} (xs : List A) (k : ℕ) → k < length xs → (x : A) × (slice_get xs k ≡ Some x)

@@ -24,7 +24,7 @@ use Rattle.rg_plain.specs.declared.steps.new.Kind.TheVariants as kind
 use Rattle.rg_plain.specs.Inner.Spots.{use_of, statement_of, AimIs}
 use Rattle.rg_plain.specs.Kept.{Kept, plain_of, shown}
 use Rattle.rg_plain.specs.Inner.Makes.{with_object, right_of, label_of, use_with, managers_with}
-use Rattle.rg_plain.proofs.StepLemmas.{next-at}
+use Rattle.rg_plain.proofs.Statements.StepLemmas.{next-at}
 
 some-number : (a b : ℕ) → Some a ≡ Some b → b ≡ a
 some-number a b e = cc
@@ -39,13 +39,6 @@ made-found cs s put x label class found = by (class_named cs x) refl found
     by (Some c) e f =
         rw (made, e) (ap (λ n. put (with_object s (opened_as cs n label)) (Obj (length s.store))) (some-number class (class_number cs x) f))
 
-made-none : (cs : List Class) (s : State) (put : Use) (x : Name) (label : Label) → None ≡ class_place cs x → made cs s put x label ≡ s
-made-none cs s put x label none = by (class_named cs x) refl none
-  where
-    by : (o : Option Class) → class_named cs x ≡ o → None ≡ option_map (λ c. class_number cs x) o → made cs s put x label ≡ s
-    by None e f = rw (made, e) refl
-    by (Some c) e f = cc
-
 -- a class that is there
 pub new-found : (t : Tables) (s : State) (to : Target) (a : Aim) (name class : ℕ) (k : Kind) →
     Some class ≡ class_place (classes_of t) (name_at t name) →
@@ -57,16 +50,6 @@ new-found t s to a name class kind.Temporary found =
     ap Ok (made-found (classes_of t) s (use_with t a kind.Temporary) (name_at t name) (label_of s.windows s.managers kind.Temporary) class found)
 new-found t s to a name class (kind.Owner m) found =
     ap Ok (made-found (classes_of t) s (use_with t a (kind.Owner m)) (name_at t name) (label_of s.windows s.managers (kind.Owner m)) class found)
-
--- a class that isn't there
-pub new-none : (t : Tables) (s : State) (to : Target) (a : Aim) (name : ℕ) (k : Kind) → None ≡ class_place (classes_of t) (name_at t name) →
-    with_right (classes_of t) s to (use_of t a) (right_of t name k) ≡ Ok s
-new-none t s to a name kind.Plain none =
-    ap Ok (made-none (classes_of t) s (use_with t a kind.Plain) (name_at t name) (label_of s.windows s.managers kind.Plain) none)
-new-none t s to a name kind.Temporary none =
-    ap Ok (made-none (classes_of t) s (use_with t a kind.Temporary) (name_at t name) (label_of s.windows s.managers kind.Temporary) none)
-new-none t s to a name (kind.Owner m) none =
-    ap Ok (made-none (classes_of t) s (use_with t a (kind.Owner m)) (name_at t name) (label_of s.windows s.managers (kind.Owner m)) none)
 
 use-managers : (t : Tables) (a : Aim) (k : Kind) (s : State) (v : Val) →
     use_of t a (record s { managers = managers_with k s.managers }) v ≡ use_with t a k s v

@@ -24,7 +24,7 @@ use Rattle.rg_plain.specs.Inner.Steps.{StepIs, Does, DoesPrint, Makes, Prints, o
 use Rattle.rg_plain.specs.Kept.{Kept, plain_of, shown}
 use Rattle.rg_plain.specs.Inner.Spots.{AimIs, statement_of, use_of}
 use Rattle.rg_plain.specs.Inner.Inputs.{StepOn}
-use Rattle.rg_plain.proofs.StepLemmas.{next-at}
+use Rattle.rg_plain.proofs.Statements.StepLemmas.{next-at}
 
 -- a step that reads nothing
 pub reads_nothing : (t : Tables) (old new : Kept) (r : Outcome) (n : Pending) (left : Option (List ℕ)) →

@@ -13,7 +13,7 @@ use Rattle.rg_plain.specs.Kept.{Kept, items_from, put_row, shown, plain_of, Item
 use Rattle.rg_plain.specs.Inner.Inputs.{StepOn, SettlesOn}
 use Rattle.rg_plain.specs.Outcomes.{EndsMain, PrintsOrStays, QuietOrPrints, LeavesRows, item_prints, first_prints, settled_outcome}
 use Rattle.rg_rules.specs.Inputs.{kind_asks, first_asks}
-use Rattle.rg_plain.proofs.ItemLemmas.{shown-none, put_row-first}
+use Rattle.rg_plain.proofs.Rows.ItemLemmas.{shown-none, put_row-first}
 use Rattle.rg_plain.proofs.BehindLemmas.{MadeOf, settles, ends_main}
 
 -- things to do are there

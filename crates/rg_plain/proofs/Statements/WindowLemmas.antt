@@ -25,7 +25,7 @@ use Rattle.rg_plain.specs.declared.state.rows.ItemRow.{ItemRow}
 use Rattle.rg_plain.specs.Kept.{Kept, plain_of, shown}
 use Rattle.rg_plain.specs.Inner.Steps.{Refuses}
 use Rattle.rg_plain.specs.Inner.Windows.{OwnerIs}
-use Rattle.rg_plain.proofs.StepLemmas.{next-at}
+use Rattle.rg_plain.proofs.Statements.StepLemmas.{next-at}
 
 -- an owner that isn't there
 pub owner-refused : (t : Tables) (k : Kept) (input : List ℕ) (number line : ℕ) (p : row_path.Path) (z : Name) (body : Block) (why : Refusal)
