@@ -5,3 +5,5 @@ pub mod OwesLemmas
 pub mod StatementLemmas
 pub mod BeginLemmas
 pub mod SpotLemmas
+pub mod LeftLemmas
+pub mod ItemLemmas

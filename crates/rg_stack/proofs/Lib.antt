@@ -2,3 +2,4 @@ mod Mirrors
 mod Walks
 mod Statements
 mod Judgements
+pub mod Callers

@@ -124,6 +124,6 @@ fit-return t accepted r slots under locals callers back target store managers in
     let none = alone t accepted top (caller ∷ r.bodies) r.opened (Do (stmt line (return e)) ∷ j ∷ rest) h (ap leaves_frame (h.begins ∙ ap (λ i. i ∷ h.more) first)) in
     let below = running-beneath t top caller r.bodies r.opened (Do (stmt line (return e)) ∷ j ∷ rest) h none in
     let sizes : suc (length r.bodies) ≡ length (sizes_of (f ∷ r.frames)) =
-      ap suc (sym (as_many r.frames r.bodies shows.slots.1.1)) ∙ sym (length-reverse (map (λ (f : Shown). length f.slots) (f ∷ r.frames)) ∙ length-map (f ∷ r.frames) (λ (f : Shown). length f.slots)) in
+    ap suc (sym (as_many r.frames r.bodies shows.slots.1.1)) ∙ sym (length-reverse (map (λ (f : Shown). length f.slots) (f ∷ r.frames)) ∙ length-map (f ∷ r.frames) (λ (f : Shown). length f.slots)) in
     law_return t r slots under locals callers back target store managers input line e j rest h.spot.env judged.last judged.out h.stands.named meets objects shows judged.right
     (subst (λ n. OpenedBelow n r.opened) sizes below) (beneath-has t accepted caller r.bodies h.under h.rest h.body target h.beneath)

@@ -125,7 +125,6 @@ module _ (t : Tree) (accepted : Accepted t) (r : Round) (store : List Seen) (slo
       let s = bind-ok (judge_block t.classes None p.0 c) _ out q.2 in
       sim_if_else t.classes code r store slots locals managers input line e b c j rest h (test-agrees e p.0 f p.1) (block-goes_on t.classes b p.0 q.0 q.1) (block-goes_on t.classes c p.0 s.0 s.1)
 
-
   -- what a judged call owes, with its method's entry
   call-owes : (c : Call) (out : CallJudged) → Fits → judge_call t.classes env c ≡ Ok out → (m : Method) × (e : _) × CallOwes t.classes (lowered t) j rest r store slots locals c (target_class t.classes (scope_of locals) c) m e × (out.result ≡ method_result t.classes m)
   call-owes c out f judged =
@@ -265,8 +264,10 @@ module _ (t : Tree) (accepted : Accepted t) (r : Round) (store : List Seen) (slo
       let there = ok_or-ok (entry_of env x) Unknown e.0 e.1 in
       let iso = iso_type e.0.ty c.0 (ok_or-ok (iso_class e.0.ty) Mismatch c.0 c.1) in
       sim_enter t.classes code r store slots locals managers input line j rest x z b h goes
-      (λ o is. (variable-in_region env store r.opened (length r.bodies) locals x e.0 f.named f.meets there iso.0 o is,
-      sym (class_in t.classes (type_in (scope_of locals) x) o.class (ap class_is ((facts f).declared x e.0 there) ∙ ((facts f).variables x e.0 there).0 o is))))
+      (λ o is. (
+        variable-in_region env store r.opened (length r.bodies) locals x e.0 f.named f.meets there iso.0 o is,
+        sym (class_in t.classes (type_in (scope_of locals) x) o.class (ap class_is ((facts f).declared x e.0 there) ∙ ((facts f).variables x e.0 there).0 o is)),
+      ))
   enter_by x (g ∷ gs) z b front f h judged goes =
       let w = bind-ok (writable_field t.classes env x g gs) _ front judged in
       let c = bind-ok (ok_or (iso_class w.0) Mismatch) _ front w.2 in
@@ -277,9 +278,10 @@ module _ (t : Tree) (accepted : Accepted t) (r : Round) (store : List Seen) (slo
       sim_enter_field t.classes code r store slots locals managers input line j rest x g gs z b h goes
       (holder-follows t.classes env store locals (facts f) x g gs k.0 k.1) (holder-owes t.classes env store locals (facts f) x g gs k.0 k.1)
       (λ u o led there q is.
-      let d = holder-type t.classes env store locals (facts f) x g gs k.0 u o k.1 led there in
-      (field-in_region t.classes store r.opened f.objects u o (last_field g gs) k.0.ty there (f.live x g gs w.0 u o w.1 led there) d.0 (ap is_iso same ∙ iso.0) q is,
-      sym (class_in t.classes (type_along t.classes (type_in (scope_of locals) x) (g ∷ gs)) q.class (ap class_is d.1 ∙ ((facts f).fields u o (last_field g gs) k.0.ty there d.0).0 q is))))
+      let d = holder-type t.classes env store locals (facts f) x g gs k.0 u o k.1 led there in (
+        field-in_region t.classes store r.opened f.objects u o (last_field g gs) k.0.ty there (f.live x g gs w.0 u o w.1 led there) d.0 (ap is_iso same ∙ iso.0) q is,
+        sym (class_in t.classes (type_along t.classes (type_in (scope_of locals) x) (g ∷ gs)) q.class (ap class_is d.1 ∙ ((facts f).fields u o (last_field g gs) k.0.ty there d.0).0 q is)),
+      ))
 
   pub law_enter : (p : Path) (z : Name) (b : Block) (out : Env) → Fits → Showing (enter p z b) → judge_kind t.classes None line env (enter p z b) ≡ Ok out → Simulated (enter p z b)
   law_enter p z b out f h judged =
@@ -306,7 +308,7 @@ module _ (t : Tree) (accepted : Accepted t) (r : Round) (store : List Seen) (slo
   fits_of shows items h is meets objects live =
       let f : Frame = record { slots = slots; back = r.back } in
       let sizes : suc (length r.bodies) ≡ length (sizes_of (f ∷ r.frames)) =
-        ap suc (sym (as_many r.frames r.bodies shows)) ∙ sym (length-reverse (map (λ (f : Frame). length f.slots) (f ∷ r.frames)) ∙ length-map (f ∷ r.frames) (λ (f : Frame). length f.slots)) in
+      ap suc (sym (as_many r.frames r.bodies shows)) ∙ sym (length-reverse (map (λ (f : Frame). length f.slots) (f ∷ r.frames)) ∙ length-map (f ∷ r.frames) (λ (f : Frame). length f.slots)) in
       record {
         named = subst (λ (e : Env). Named e.entries locals) is h.stands.named;
         meets = meets;

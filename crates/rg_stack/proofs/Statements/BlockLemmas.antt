@@ -46,10 +46,11 @@ pub block_end : (classes : List Class) (code : List Op) (l : Level) (ls : List L
     → StandsIn code l here (i.Mark line ∷ i.End (length l.scope) ∷ more)
     → Lies classes code (l ∷ ls) after (behind_end (slice_get code (here + 2)) (here + 2))
     → Lies classes code (record l { scope = block_scope classes l.scope b } ∷ ls) (EndAt (length l.scope) ∷ after) here
-block_end classes code l ls b here line more after h lies =
-    (ap is_mark (get-stands code here (i.Mark line) _ h.0),
-    stands-front code (here + 1) (i.End (length l.scope) ∷ []) more (stands-back code here (i.Mark line ∷ []) (i.End (length l.scope) ∷ more) h.0),
-    subst (λ s. Lies classes code (record l { scope = s } ∷ ls) after (behind_end (slice_get code (here + 2)) (here + 2))) (sym (take-block_scope classes b l.scope)) lies)
+block_end classes code l ls b here line more after h lies = (
+  ap is_mark (get-stands code here (i.Mark line) _ h.0),
+  stands-front code (here + 1) (i.End (length l.scope) ∷ []) more (stands-back code here (i.Mark line ∷ []) (i.End (length l.scope) ∷ more) h.0),
+  subst (λ s. Lies classes code (record l { scope = s } ∷ ls) after (behind_end (slice_get code (here + 2)) (here + 2))) (sym (take-block_scope classes b l.scope)) lies,
+)
 
 -- slots behind the end of a block
 
@@ -219,9 +220,9 @@ module _ (classes : List Class) (code : Code) (r : Round) (store : List Seen) (s
       let closed = back_in code.ops top inside block closing in_block in
       let two_on : inside + length block + 2 ≡ end = to_end in
       let leads : behind_end (slice_get code.ops (inside + length block + 2)) (inside + length block + 2) ≡ end =
-        ap (λ n. behind_end (slice_get code.ops n) n) two_on ∙ behind_mark (slice_get code.ops end) end (lies_at_mark classes code.ops (top ∷ levels) j rest end h.places.1) in
+      ap (λ n. behind_end (slice_get code.ops n) n) two_on ∙ behind_mark (slice_get code.ops end) end (lies_at_mark classes code.ops (top ∷ levels) j rest end h.places.1) in
       let body = lies_block classes code.ops b top levels inside (EndAt (length scope) ∷ j ∷ rest) (front_in code.ops top inside block closing in_block) goes
-        (block_end classes code.ops top levels b (inside + length block) line [] (j ∷ rest) closed (subst (Lies classes code.ops (top ∷ levels) (j ∷ rest)) (sym leads) h.places.1)) in
+      (block_end classes code.ops top levels b (inside + length block) line [] (j ∷ rest) closed (subst (Lies classes code.ops (top ∷ levels) (j ∷ rest)) (sym leads) h.places.1)) in
       let w = work r store (slots_after e) managers input in
       let begins : is_mark (slice_get (inner ++ tail) 0) ≡ true = ap (λ l. is_mark (slice_get l 0)) (append_assoc block closing tail) ∙ block_starts classes scope inside line b (i.End (length scope) ∷ tail) in
       statement_step classes code r store slots locals managers input line (branch e b no_else) more (j ∷ rest) h.places.0.0
@@ -267,11 +268,11 @@ module _ (classes : List Class) (code : Code) (r : Round) (store : List Seen) (s
       let jumps = get-stands code.ops (inside + length block + 2) (i.Jump target) second (stands-back code.ops (inside + length block) (i.Mark line ∷ i.End (length scope) ∷ []) (i.Jump target ∷ second) closed.0) in
       let first_leads : behind_end (slice_get code.ops (inside + length block + 2)) (inside + length block + 2) ≡ end = ap (λ o. behind_end o (inside + length block + 2)) jumps ∙ to_end in
       let body = lies_block classes code.ops b top levels inside (EndAt (length scope) ∷ j ∷ rest) (front_in code.ops top inside block ending in_block) goes
-        (block_end classes code.ops top levels b (inside + length block) line (i.Jump target ∷ second) (j ∷ rest) closed (subst (Lies classes code.ops (top ∷ levels) (j ∷ rest)) (sym first_leads) h.places.1)) in
+      (block_end classes code.ops top levels b (inside + length block) line (i.Jump target ∷ second) (j ∷ rest) closed (subst (Lies classes code.ops (top ∷ levels) (j ∷ rest)) (sym first_leads) h.places.1)) in
       let other_leads : behind_end (slice_get code.ops (other_at + length other + 2)) (other_at + length other + 2) ≡ end =
-        ap (λ n. behind_end (slice_get code.ops n) n) to_end ∙ behind_mark (slice_get code.ops end) end (lies_at_mark classes code.ops (top ∷ levels) j rest end h.places.1) in
+      ap (λ n. behind_end (slice_get code.ops n) n) to_end ∙ behind_mark (slice_get code.ops end) end (lies_at_mark classes code.ops (top ∷ levels) j rest end h.places.1) in
       let other_body = lies_block classes code.ops c top levels other_at (EndAt (length scope) ∷ j ∷ rest) (front_in code.ops top other_at other closing in_other) also
-        (block_end classes code.ops top levels c (other_at + length other) line [] (j ∷ rest) other_closed (subst (Lies classes code.ops (top ∷ levels) (j ∷ rest)) (sym other_leads) h.places.1)) in
+      (block_end classes code.ops top levels c (other_at + length other) line [] (j ∷ rest) other_closed (subst (Lies classes code.ops (top ∷ levels) (j ∷ rest)) (sym other_leads) h.places.1)) in
       let w = work r store (slots_after e) managers input in
       let begins : is_mark (slice_get (inner ++ tail) 0) ≡ true = ap (λ l. is_mark (slice_get l 0)) (append_assoc block ending tail) ∙ block_starts classes scope inside line b (i.End (length scope) ∷ i.Jump target ∷ (second ++ tail)) in
       let other_begins : is_mark (slice_get (second ++ tail) 0) ≡ true = ap (λ l. is_mark (slice_get l 0)) (append_assoc other closing tail) ∙ block_starts classes scope other_at line c (i.End (length scope) ∷ tail) in
@@ -312,7 +313,7 @@ module _ (classes : List Class) (code : Code) (r : Round) (store : List Seen) (s
       let jumps = get-stands code.ops (inside + length block + 2) (i.Jump r.at) [] (stands-back code.ops (inside + length block) (i.Mark line ∷ i.End (length scope) ∷ []) (i.Jump r.at ∷ []) closed.0) in
       let leads : behind_end (slice_get code.ops (inside + length block + 2)) (inside + length block + 2) ≡ r.at = ap (λ o. behind_end o (inside + length block + 2)) jumps in
       let body = lies_block classes code.ops b top levels inside (EndAt (length scope) ∷ item ∷ j ∷ rest) (front_in code.ops top inside block closing in_block) goes
-        (block_end classes code.ops top levels b (inside + length block) line (i.Jump r.at ∷ []) (item ∷ j ∷ rest) closed (subst (Lies classes code.ops (top ∷ levels) (item ∷ j ∷ rest)) (sym leads) h.places)) in
+      (block_end classes code.ops top levels b (inside + length block) line (i.Jump r.at ∷ []) (item ∷ j ∷ rest) closed (subst (Lies classes code.ops (top ∷ levels) (item ∷ j ∷ rest)) (sym leads) h.places)) in
       let w = work r store (slots_after e) managers input in
       let begins : is_mark (slice_get (inner ++ tail) 0) ≡ true = ap (λ l. is_mark (slice_get l 0)) (append_assoc block closing tail) ∙ block_starts classes scope inside line b (i.End (length scope) ∷ i.Jump r.at ∷ tail) in
       statement_step classes code r store slots locals managers input line (while e b) more (j ∷ rest) h.places.0.0

@@ -67,10 +67,11 @@ lies_gives classes code (more_of (stmt line k) b) l ls at after h (inl g) takes 
 lies_gives classes code (more_of (stmt line k) b) l ls at after h (inr g) takes =
     let first = kind_code classes l.scope at line k in
     let inner = scope_behind classes l.scope k in
-    let others = block_code classes inner (at + length first) b in
-    (front_in code l at first others h,
-    lies_behind classes code l ls (at + length first) k (λ levels here. Lies classes code levels (items_of b after) here) g.0
-    (lies_gives classes code b (record l { scope = inner }) ls (at + length first) after (back_in code l at first others h) g.1 takes))
+    let others = block_code classes inner (at + length first) b in (
+      front_in code l at first others h,
+      lies_behind classes code l ls (at + length first) k (λ levels here. Lies classes code levels (items_of b after) here) g.0
+          (lies_gives classes code b (record l { scope = inner }) ls (at + length first) after (back_in code l at first others h) g.1 takes),
+    )
 
 module _ (classes : List Class) (code : Code) (j : Item) (rest : List Item) where
   -- what lies behind a call: of a method without a result the items, else what takes the result and then the items
@@ -113,13 +114,13 @@ module _ (classes : List Class) (code : Code) (j : Item) (rest : List Item) wher
       → ShowsSlots slots locals → RoundShows r (length slots) → Called d m e → OpenedBelow (length (sizes_of (record { slots = slots; back = r.back } ∷ r.frames))) r.opened
       → length vs ≡ length m.params → Behind m.result target back (level r (scope_of locals) (length slots) ∷ levels_of r.frames r.bodies)
       → EndsAs classes code r.output
-        (Ok (record (state r store locals managers input []) { frames = called_frame classes target m d v vs ∷ record { locals = locals; target = r.target } ∷ r.bodies; items = items_of m.body (method_end m.result ++ j ∷ rest) }))
-        (Stops e.at (record (work r store slots managers input) { machine = record (work r store slots managers input).machine { frames = record { slots = reverse (take e.given (reverse vs ++ v ∷ [])) ++ replicate (e.slots - e.given) val.Nil; back = back } ∷ record { slots = slots; back = r.back } ∷ r.frames } }))
+      (Ok (record (state r store locals managers input []) { frames = called_frame classes target m d v vs ∷ record { locals = locals; target = r.target } ∷ r.bodies; items = items_of m.body (method_end m.result ++ j ∷ rest) }))
+      (Stops e.at (record (work r store slots managers input) { machine = record (work r store slots managers input).machine { frames = record { slots = reverse (take e.given (reverse vs ++ v ∷ [])) ++ replicate (e.slots - e.given) val.Nil; back = back } ∷ record { slots = slots; back = r.back } ∷ r.frames } }))
   frame_ends r store slots locals managers input d m e target v vs back shows round callee below size behind =
       let nils = replicate (e.slots - e.given) val.Nil in
       let whole = reverse (take e.given (reverse vs ++ v ∷ [])) ++ nils in
       let enough : e.slots ≤ length whole =
-        omega (arith, size, callee.given, length-append (reverse (take e.given (reverse vs ++ v ∷ []))) nils, ap length (from_stack v vs e.given (omega (arith, size, callee.given))), length-replicate (e.slots - e.given) val.Nil) in
+      omega (arith, size, callee.given, length-append (reverse (take e.given (reverse vs ++ v ∷ []))) nils, ap length (from_stack v vs e.given (omega (arith, size, callee.given))), length-replicate (e.slots - e.given) val.Nil) in
       let scope = method_scope classes d m in
       let names : scope ≡ scope_of (called_frame classes target m d v vs).locals = bound-scope classes m.params vs (with_slot [] None (Ref m.receiver d)) in
       let ls = level r (scope_of locals) (length slots) ∷ levels_of r.frames r.bodies in
@@ -129,7 +130,7 @@ module _ (classes : List Class) (code : Code) (j : Item) (rest : List Item) wher
           slots = (new_frame d m e target v vs size callee.given, (shows, round.frames));
           windows = subst (λ k. ShowsWindows k r.windows r.opened) (sym (reverse-append (length whole ∷ []) (length slots ∷ map (λ (f : Frame). length f.slots) r.frames))) (windows_above (sizes_of (record { slots = slots; back = r.back } ∷ r.frames)) (length whole) r.windows r.opened below round.windows);
           places = subst (λ s. Lies classes code.ops (record { scope = s; slots = length whole; target = target; back = back } ∷ ls) (items_of m.body (method_end m.result ++ j ∷ rest)) e.at) names
-            (lies_method m.result m.line m.body l ls e.at (callee.stands, callee.room (length whole) enough) callee.fits behind);
+              (lies_method m.result m.line m.body l ls e.at (callee.stands, callee.room (length whole) enough) callee.fits behind);
           windows_made = refl;
           managers = refl;
           store = refl;
@@ -172,7 +173,7 @@ module _ (classes : List Class) (code : Code) (j : Item) (rest : List Item) wher
       let w = work r store slots managers input in
       let here : at + length path + 1 ≡ at + length receiver = omega (arith, length-append path (i.Check ∷ [])) in
       let there : at + length receiver + length exprs + 1 + length (clears used) + 1 ≡ at + length (call_code classes scope at c) =
-        omega (arith, length-append receiver (exprs ++ i.Room ∷ (clears used ++ i.Call n ∷ [])), length-append exprs (i.Room ∷ (clears used ++ i.Call n ∷ [])), length-append (clears used) (i.Call n ∷ [])) in
+      omega (arith, length-append receiver (exprs ++ i.Room ∷ (clears used ++ i.Call n ∷ [])), length-append exprs (i.Room ∷ (clears used ++ i.Call n ∷ [])), length-append (clears used) (i.Call n ∷ [])) in
       let slots_after = cleared_slots used slots in
       let locals_after = cleared us locals in
       let names : scope_of locals_after ≡ scope = scope_cleared us locals in
@@ -180,7 +181,7 @@ module _ (classes : List Class) (code : Code) (j : Item) (rest : List Item) wher
       let size_after : length slots_after ≡ length slots = cleared-length used slots in
       let round_after : RoundShows r (length slots_after) = subst (RoundShows r) (sym size_after) round in
       let below_after : OpenedBelow (length (sizes_of (record { slots = slots_after; back = r.back } ∷ r.frames))) r.opened =
-        subst (λ k. OpenedBelow (length (reverse (k ∷ map (λ (f : Frame). length f.slots) r.frames))) r.opened) (sym size_after) owes.below in
+      subst (λ k. OpenedBelow (length (reverse (k ∷ map (λ (f : Frame). length f.slots) r.frames))) r.opened) (sym size_after) owes.below in
       let inner = exprs ++ (i.Room ∷ (clears used ++ (i.Call n ∷ tail))) in
       subst (λ x. EndsAs classes code r.output (step_call classes s target c) x)
       (sym (ap (λ l. walk classes code l at 0 [] w) (flat path exprs (clears used) tail i.Check i.Room (i.Call n))
@@ -207,7 +208,6 @@ module _ (classes : List Class) (code : Code) (j : Item) (rest : List Item) wher
       (subst (λ k. Behind m.result target k (level r (scope_of locals_after) (length slots_after) ∷ levels_of r.frames r.bodies)) (sym there)
       (subst (λ l. Behind m.result target (at + length (call_code classes scope at c)) (level r l (length slots_after) ∷ levels_of r.frames r.bodies)) (sym names)
       (subst (λ k. Behind m.result target (at + length (call_code classes scope at c)) (level r scope k ∷ levels_of r.frames r.bodies)) (sym size_after) behind)))))))))))))
-
 
   drop_there : (t : Truth) (top : Level) (back : ℕ) → StandsIn code.ops top back (if t then i.Drop ∷ [] else i.Pop ∷ []) → (is_drop (slice_get code.ops back) ≡ true) × (length (if t then i.Drop ∷ [] else i.Pop ∷ []) ≡ 1)
   drop_there true top back h = (ap is_drop (get-stands code.ops back i.Drop [] h.0), refl)

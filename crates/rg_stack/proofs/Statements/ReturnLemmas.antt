@@ -110,7 +110,7 @@ sim_return classes code r slots under locals callers back target store managers 
     let round : RoundShows r (length under) = record {
       frames = h.slots.1.1;
       windows = windows_below (sizes_of (record { slots = under; back = r.back } ∷ r.frames)) size r.windows r.opened below
-        (subst (λ k. ShowsWindows k r.windows r.opened) (reverse-append (size ∷ []) (length under ∷ map (λ (f : Frame). length f.slots) r.frames)) h.windows);
+          (subst (λ k. ShowsWindows k r.windows r.opened) (reverse-append (size ∷ []) (length under ∷ map (λ (f : Frame). length f.slots) r.frames)) h.windows);
     } in
     statement_step classes code a store slots locals managers input line (return e) more (j ∷ rest) h.places.0.0
     (subst (λ x. EndsAs classes code r.output (◌>>=◌ (computed classes (state a store locals managers input (j ∷ rest)) e) (λ done. Ok (deliver target (state r store callers managers input (j ∷ rest)) done.1))) x)

@@ -114,10 +114,10 @@ middle_store scope n old store after slots locals k m = record { shows = m.shows
 
 pub middle_clear : (scope : Scope) (n : ℕ) (old store : List Seen) (slots : List Val) (locals : List Local) (x : Variable) → Middle scope n old store slots locals → Middle scope n old store (slice_set slots (slot_of scope x) val.Nil) (set_in x val.Nil locals)
 middle_clear scope n old store slots locals x m = record {
-    shows = subst (λ k. ShowsSlots (slice_set slots k val.Nil) (set_in x val.Nil locals)) (sym (slot_place locals x) ∙ ap (λ s. slot_of s x) m.scope_is) (shows_clear slots locals x m.shows);
-    size_is = length-set slots (slot_of scope x) val.Nil ∙ m.size_is;
-    scope_is = scope_set x val.Nil locals ∙ m.scope_is;
-    keeps = m.keeps;
+  shows = subst (λ k. ShowsSlots (slice_set slots k val.Nil) (set_in x val.Nil locals)) (sym (slot_place locals x) ∙ ap (λ s. slot_of s x) m.scope_is) (shows_clear slots locals x m.shows);
+  size_is = length-set slots (slot_of scope x) val.Nil ∙ m.size_is;
+  scope_is = scope_set x val.Nil locals ∙ m.scope_is;
+  keeps = m.keeps;
 }
 
 -- the object to which a variable leads is in a region

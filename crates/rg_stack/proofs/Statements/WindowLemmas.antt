@@ -119,10 +119,11 @@ leave_end : (classes : List Class) (code : List Op) (l : Level) (ls : List Level
 leave_end classes code l ls b scope x here line after h lies =
     let more = extends classes b (scope ++ x ∷ []) in
     let kept : take (length scope) (block_scope classes (scope ++ x ∷ []) b) ≡ scope =
-      ap (take (length scope)) (more.1 ∙ append_assoc scope (x ∷ []) more.0) ∙ take-append_seam scope (x ∷ more.0) in
-    (ap is_mark (get-stands code here (i.Mark line) _ h.0),
-    stands-back code here (i.Mark line ∷ []) (i.Leave (length scope) ∷ []) h.0,
-    subst (λ s. Lies classes code (record l { scope = s } ∷ ls) after (here + 2)) (sym kept) lies)
+    ap (take (length scope)) (more.1 ∙ append_assoc scope (x ∷ []) more.0) ∙ take-append_seam scope (x ∷ more.0) in (
+      ap is_mark (get-stands code here (i.Mark line) _ h.0),
+      stands-back code here (i.Mark line ∷ []) (i.Leave (length scope) ∷ []) h.0,
+      subst (λ s. Lies classes code (record l { scope = s } ∷ ls) after (here + 2)) (sym kept) lies,
+    )
 
 module _ (classes : List Class) (code : Code) (r : Round) (store : List Seen) (slots : List Val) (locals : List Local) (managers : List Manager) (input : List ℕ) (line : ℕ) (j : Item) (rest : List Item) where
   abbrev scope : Scope
@@ -198,7 +199,7 @@ module _ (classes : List Class) (code : Code) (r : Round) (store : List Seen) (s
       let closing = i.Mark line ∷ i.Leave k ∷ [] in
       let tail = drop (r.at + length (kind_code classes scope r.at line (enter p z b))) code.ops in
       let whole : kind_code classes scope r.at line (enter p z b) ≡ (i.Mark line ∷ front) ++ (block ++ closing) =
-        ap (λ f. i.Mark line ∷ (f ++ (block_code classes within (r.at + 1 + length f) b ++ closing))) (sym fronts) in
+      ap (λ f. i.Mark line ∷ (f ++ (block_code classes within (r.at + 1 + length f) b ++ closing))) (sym fronts) in
       let inside_is : r.at + length (i.Mark line ∷ front) ≡ inside = omega arith in
       let outer : Level = record top { scope = within } in
       let stands = subst (λ n. StandsIn code.ops top n (block ++ closing)) inside_is (back_in code.ops top r.at (i.Mark line ∷ front) (block ++ closing) (subst (StandsIn code.ops top r.at) whole h.places.0)) in
@@ -207,9 +208,9 @@ module _ (classes : List Class) (code : Code) (r : Round) (store : List Seen) (s
       let l : Local = record { name = Some z; ty = Ref Mut o.class; value = bridge } in
       let bridge_slot : Slot = record { name = Some z; ty = Ref Mut (class_of classes (type_along classes (type_in scope p.base) p.fields)) } in
       let body = lies_block classes code.ops b outer levels inside (LeaveAt k ∷ j ∷ rest) (front_in code.ops outer inside block closing stands) goes
-        (leave_end classes code.ops outer levels b scope bridge_slot (inside + length block) line (j ∷ rest) (back_in code.ops outer inside block closing stands) behind) in
+      (leave_end classes code.ops outer levels b scope bridge_slot (inside + length block) line (j ∷ rest) (back_in code.ops outer inside block closing stands) behind) in
       let names : within ≡ scope_of (locals ++ l ∷ []) =
-        ap (λ c. scope ++ record { name = Some z; ty = Ref Mut c } ∷ []) (sym class) ∙ sym (map-append (λ (l : Local). record { name = l.name; ty = l.ty }) locals (l ∷ [])) in
+      ap (λ c. scope ++ record { name = Some z; ty = Ref Mut c } ∷ []) (sym class) ∙ sym (map-append (λ (l : Local). record { name = l.name; ty = l.ty }) locals (l ∷ [])) in
       let window : Window = record { number = r.made; region = g; owner = Some mine; base = slots_below r.frames + k } in
       let opened : Opened = record { number = r.made; region = g; owner = Some mine; base_frame = length r.bodies; base_place = length locals } in
       let inner : Round = record r { windows = window ∷ r.windows; made = r.made + 1; opened = opened ∷ r.opened } in
@@ -221,11 +222,11 @@ module _ (classes : List Class) (code : Code) (r : Round) (store : List Seen) (s
         windows = (record { number = refl; region = refl; owner = refl; base = base_is r.frames size (length r.bodies) k (length locals) (sym (as_many r.frames r.bodies round.frames)) is }, round.windows);
       } in
       let last : EndsAs classes code r.output (Ok after) (Stops inside w) =
-        finish classes code inner store (slice_set slots k bridge) (locals ++ l ∷ []) managers input (items_of b (LeaveAt (length locals) ∷ j ∷ rest)) size inside
-        (subst (λ n. ShowsSlots (slice_set slots n bridge) (locals ++ l ∷ [])) (sym is) (shows_next slots locals l h.slots.0 room))
-        (length-set slots k bridge) inner_shows
-        (subst (λ s. Lies classes code.ops (level r s size ∷ levels) (items_of b (LeaveAt (length locals) ∷ j ∷ rest)) inside) names
-        (subst (λ n. Lies classes code.ops (outer ∷ levels) (items_of b (LeaveAt n ∷ j ∷ rest)) inside) is body)) in
+      finish classes code inner store (slice_set slots k bridge) (locals ++ l ∷ []) managers input (items_of b (LeaveAt (length locals) ∷ j ∷ rest)) size inside
+      (subst (λ n. ShowsSlots (slice_set slots n bridge) (locals ++ l ∷ [])) (sym is) (shows_next slots locals l h.slots.0 room))
+      (length-set slots k bridge) inner_shows
+      (subst (λ s. Lies classes code.ops (level r s size ∷ levels) (items_of b (LeaveAt (length locals) ∷ j ∷ rest)) inside) names
+      (subst (λ n. Lies classes code.ops (outer ∷ levels) (items_of b (LeaveAt n ∷ j ∷ rest)) inside) is body)) in
       subst (λ n. EndsAs classes code r.output (Ok (with_window (state r store locals managers input (j ∷ rest)) mine z b bridge o.class n)) (walk classes code (block ++ (i.Mark line ∷ i.Leave k ∷ tail)) inside 0 [] (entered (work r store slots managers input) shown bridge k n))) (sym region)
       (subst (λ m. EndsAs classes code r.output (Ok after) (walk classes code (block ++ (i.Mark line ∷ i.Leave k ∷ tail)) inside 0 [] (entered (work r store slots managers input) m bridge k (Some g)))) (sym owner)
       (subst (λ x. EndsAs classes code r.output (Ok after) x) (sym (walk_at_mark classes code (block ++ (i.Mark line ∷ i.Leave k ∷ tail)) inside [] w begins)) last))
@@ -283,7 +284,7 @@ module _ (classes : List Class) (code : Code) (r : Round) (store : List Seen) (s
       let tail = drop (r.at + length (i.Mark line ∷ more)) code.ops in
       let is : k ≡ length locals = length-map locals (λ (l : Local). record { name = l.name; ty = l.ty }) in
       let flat : more ++ tail ≡ path ++ (i.EnterField n k ∷ (block ++ (i.Mark line ∷ i.Leave k ∷ tail))) =
-        flat_enter front block tail (i.Mark line) (i.Leave k) ∙ flat_one path (block ++ (i.Mark line ∷ i.Leave k ∷ tail)) (i.EnterField n k) in
+      flat_enter front block tail (i.Mark line) (i.Leave k) ∙ flat_one path (block ++ (i.Mark line ∷ i.Leave k ∷ tail)) (i.EnterField n k) in
       let here : r.at + 1 + length path + 1 ≡ inside = omega (arith, length-append path (i.EnterField n k ∷ [])) in
       let named = and-left _ _ (roomy-back (length slots) (i.Mark line ∷ path) (i.EnterField n k ∷ (block ++ closing)) (subst (λ l. roomy (length slots) l ≡ true) (ap (λ l. i.Mark line ∷ l) (flat_one path (block ++ closing) (i.EnterField n k))) h.places.0.1)) in
       let room : length locals < length slots = room_of (length slots) k (length locals) is named in

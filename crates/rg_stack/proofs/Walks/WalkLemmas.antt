@@ -150,7 +150,7 @@ module _ (classes : List Class) (code : Code) where
       → walk classes code ((left ++ (right ++ o ∷ [])) ++ rest) at 0 stack w ≡ with_value (◌>>=◌ c (λ v. with_right_operand b v d)) (λ u. walk classes code rest (at + length (left ++ (right ++ o ∷ []))) 0 (u ∷ stack) w)
   two_run b o left right c d at middle rest stack w does never m one two =
       let e : middle + length right + 1 ≡ at + length (left ++ (right ++ o ∷ [])) =
-        omega (arith, m, length-append left (right ++ o ∷ []), length-append right (o ∷ [])) in
+      omega (arith, m, length-append left (right ++ o ∷ []), length-append right (o ∷ [])) in
       let flat : (left ++ (right ++ o ∷ [])) ++ rest ≡ left ++ (right ++ o ∷ rest) = simp append_assoc in
       ap (λ l. walk classes code l at 0 stack w) flat
       ∙ one
