@@ -7,3 +7,5 @@ pub mod BeginLemmas
 pub mod SpotLemmas
 pub mod LeftLemmas
 pub mod ItemLemmas
+pub mod LabelLemmas
+pub mod BaseLemmas

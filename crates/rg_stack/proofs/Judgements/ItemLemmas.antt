@@ -24,8 +24,10 @@ use Rattle.rg_stack.proofs.Walks.FrameLemmas.{work_of, state_of, OpenedBelow}
 use Rattle.rg_stack.proofs.Walks.PlaceLemmas.{GoesOn}
 use Rattle.rg_stack.proofs.Walks.EndLemmas.{Round}
 use Rattle.rg_stack.proofs.Statements.BlockLemmas.{sim_end}
-use Rattle.rg_stack.proofs.Statements.WindowLemmas.{as_many, sim_leave}
+use Rattle.rg_stack.proofs.Statements.BaseLemmas.{as_many}
+use Rattle.rg_stack.proofs.Statements.WindowLemmas.{sim_leave}
 use Rattle.rg_stack.proofs.Statements.ReturnLemmas.{sim_back}
+use Rattle.rg_stack.proofs.Judgements.BaseLemmas.{beneath-begins}
 use Rattle.rg_stack.proofs.Judgements.FitLemmas.{running-beneath}
 use Rattle.rg_stack.proofs.Judgements.SpotLemmas.{leaves_frame}
 use Rattle.rg_stack.proofs.Judgements.BeginLemmas.{alone, fit-statement, fit-return}
@@ -77,6 +79,7 @@ module _ (t : Tree) (accepted : Accepted t) (store : List Seen) (managers : List
       let none = alone t accepted f (g ∷ fs) ws (Back ∷ j ∷ rest) h (ap leaves_frame (h.begins ∙ ap (λ i. i ∷ h.more) first)) in
       sim_back t.classes (lowered t) store mf mg mfs mws managers made at input f g fs ws output j rest shows
       (below-frames mg mfs fs ws (suc (length fs)) (as_many mfs fs shows.slots.1.1) refl (running-beneath t f g fs ws (Back ∷ j ∷ rest) h none))
+      (beneath-begins t accepted mf mg mfs mws f g fs ws (Back ∷ j ∷ rest) shows.slots shows.windows h none)
 
   -- the end of the block of an `enter`: a window is open beneath
   leave-moves : (mf : Frame) (mfs : List Frame) (mws : List Window) (f : Body) (fs : List Body) (v w : Opened) (ws : List Opened) (k : ℕ) (j : Item) (rest : List Item)

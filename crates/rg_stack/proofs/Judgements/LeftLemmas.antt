@@ -12,10 +12,10 @@ use Rattle.rg_rules.specs.Bodies.{Body, main_body}
 use Rattle.rg_rules.specs.Points.{Point, here, behind, inside, Spot, spot_in, spot_at, inner_block, block_end, entered_path}
 use Rattle.rg_rules.specs.State.{Target, Frame, Window}
 use Rattle.rg_rules.proofs.PointLemmas.{and_then-some}
-use Rattle.rg_sound.specs.Windows.{lowest}
 use Rattle.rg_sound.specs.Frames.{leaves, Waits, WaitsEmpty, Beneath, Running}
 use Rattle.rg_stack.specs.Simulates.{SomeLeft}
 use Rattle.rg_stack.proofs.Judgements.SpotLemmas.{leaves_frame, inner_stays}
+use Rattle.rg_stack.proofs.Judgements.BaseLemmas.{WindowThere, beneath-window}
 use Rattle.rg_stack.proofs.Judgements.BeginLemmas.{body-judged}
 
 -- a spot's items end in what is done behind the body
@@ -119,20 +119,6 @@ main-stays t accepted top ws first rest h leaves =
     first_leaves Back xs ys = refl
 
 -- windows
-
--- a window, and those beneath it
-pub record WindowThere (ws : List Window) : Type 0 where
-  pub top : Window
-  pub under : List Window
-  pub are : ws ≡ top ∷ under
-
-there-under : (own under : List Window) → WindowThere under → WindowThere (own ++ under)
-there-under [] under h = h
-there-under (w ∷ ws) under h = record { top = w; under = ws ++ under; are = refl }
-
-pub beneath-window : (t : Tree) (fs : List Frame) (ws : List Window) (items : List Item) (b : Body) (target : Target) → Beneath t fs ws items b target → WindowThere ws
-beneath-window t [] ws items b target h = record { top = lowest h.2.0 h.2.1; under = []; are = h.2.2 }
-beneath-window t (f ∷ fs) ws items b target h = subst WindowThere (sym h.5) (there-under h.1 h.2 (beneath-window t fs h.2 h.4 h.0 f.target h.8))
 
 own_there : (own : List Window) (k : ℕ) (ks : List ℕ) → map (λ (w : Window). w.base_place) own ≡ k ∷ ks → WindowThere own
 own_there [] k ks e = absurd (true≢false (sym (ap (λ l. elim l [ [] ↦ false | n ∷ ns ↦ true ]) e)))

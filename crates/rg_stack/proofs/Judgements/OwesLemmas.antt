@@ -38,6 +38,7 @@ use Rattle.rg_stack.proofs.Statements.CallLemmas.{BodyFits, Called}
 use Rattle.rg_stack.proofs.Walks.EntryLemmas.{entry_of as code_entry}
 use Rattle.rg_stack.proofs.Judgements.FollowLemmas.{some-is, class_is, read-class, field_of_type}
 use Rattle.rg_stack.proofs.Judgements.JudgeLemmas.{seen-class, expr-agrees, walk-follows, walk-reaches}
+use Rattle.rg_stack.proofs.Judgements.LabelLemmas.{by-labels}
 use Rattle.rg_stack.proofs.Judgements.FitLemmas.{facts_of, variable-in_region}
 
 -- an environment's names and types behind an expression
@@ -243,7 +244,7 @@ module _ (classes : List Class) (store : List Seen) (windows : List Window) (n :
   right-owes env wanted (new x) j named h i = let p = bind-ok (good_type classes (ref Mut x)) _ j h in named_class classes Mut x p.0 p.1
   right-owes env wanted (new_tmp x) j named h i = let p = bind-ok (good_type classes (ref Tmp x)) _ j h in named_class classes Tmp x p.0 p.1
   right-owes env wanted (new_iso x m) j named h i = let p = bind-ok (good_type classes (ref Iso x)) _ j h in named_class classes Iso x p.0 p.1
-  right-owes env wanted (freeze y) j named h i = consumed-owes env wanted Imm y j named h
+  right-owes env wanted (freeze y) j named h i = (consumed-owes env wanted Imm y j named h, by-labels classes store windows objects)
   right-owes env wanted (merge y) j named h i = consumed-owes env wanted Mut y j named h
   right-owes env wanted read j named h i = tt
   right-owes env wanted more j named h i = tt

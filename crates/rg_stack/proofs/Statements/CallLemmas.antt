@@ -39,7 +39,7 @@ use Rattle.rg_stack.proofs.Statements.CalledLemmas.{values-length, from_stack, b
 use Rattle.rg_stack.proofs.Walks.SlotLemmas.{ShowsSlots, shows_at, cleared_slots, cleared-length, shows_clears, scope_cleared, used-all}
 use Rattle.rg_stack.proofs.Walks.EndLemmas.{EndsAs, value_ends, object_ends, values_ends, Round, work, state, level, RoundShows, slots_hold, statement_step, walk-clears}
 use Rattle.rg_stack.proofs.Statements.AssignLemmas.{round_of}
-use Rattle.rg_stack.proofs.Statements.WindowLemmas.{as_many}
+use Rattle.rg_stack.proofs.Statements.BaseLemmas.{as_many}
 
 -- Bodies that give a result
 

@@ -1,5 +1,5 @@
 -- `return e;`: the frame goes, and its target in the frame beneath takes the value.
-use Rattle.std.proofs.Common.{◌≡◌, ℕ, ◌+◌, ◌<◌, true, true≢false, List, [], ◌∷◌, ◌++◌, length, map, drop, Some, Ok, refl, sym, ap, subst, ◌∙◌, append_assoc, slice_get, slice_set}
+use Rattle.std.proofs.Common.{◌≡◌, if◌then◌else◌, ℕ, ◌+◌, ◌<◌, true, true≢false, List, [], ◌∷◌, ◌++◌, length, map, drop, Some, Ok, refl, sym, ap, subst, ◌∙◌, append_assoc, slice_get, slice_set}
 use Rattle.std.proofs.lemmas.List.{length-map, map-append, length-set, reverse-append}
 use Rattle.rg_base.specs.declared.value.Val.{Val}
 use Rattle.rg_base.specs.declared.object.Seen.{Seen}
@@ -15,9 +15,9 @@ use Rattle.rg_code.specs.declared.op.Op.TheVariants as i
 use Rattle.rg_code.specs.Code.{Code}
 use Rattle.rg_code.specs.Lowering.{with_slot, slot_of, whole_code, assign_op}
 use Rattle.rg_code.specs.Places.{is_drop, scope_of, Lies, TakesResult}
-use Rattle.rg_stack.specs.Machine.{Frame, Window}
-use Rattle.rg_stack.specs.Effects.{Work, walk}
-use Rattle.rg_stack.specs.Runs.{landed, step_from, step}
+use Rattle.rg_stack.specs.Machine.{Frame, Window, slots_below}
+use Rattle.rg_stack.specs.Effects.{Returns, Stuck, begins_by, Work, walk}
+use Rattle.rg_stack.specs.Runs.{landed, finished, step_from, step}
 use Rattle.rg_stack.proofs.Mirrors.{Mirrors}
 use Rattle.rg_stack.specs.Shows.{ShowsWindows, sizes_of, levels_of}
 use Rattle.rg_stack.proofs.Mirrors.{SameMove}
@@ -27,6 +27,7 @@ use Rattle.rg_stack.proofs.Walks.PlaceLemmas.{and-left}
 use Rattle.rg_stack.proofs.Walks.FrameLemmas.{work_of, state_of, room_of, shows_next, OpenedBelow, windows_below}
 use Rattle.rg_stack.proofs.Walks.SlotLemmas.{ShowsSlots, Has, shows_put, slot_place, scope_set}
 use Rattle.rg_stack.proofs.Walks.EndLemmas.{comes, Landed, EndsAs, computed_ends, Round, work, state, level, RoundShows, finish, statement_step, walk-whole}
+use Rattle.rg_stack.proofs.Statements.BaseLemmas.{if_ends}
 use Rattle.rg_stack.proofs.Statements.AssignLemmas.{walk-assign}
 
 -- the walk behind a frame's end comes to where items begin
@@ -98,9 +99,10 @@ pub sim_return : (classes : List Class) (code : Code) (r : Round) (slots under :
     → Mirrors classes code (work (above r under callers back target) store slots managers input).machine (state (above r under callers back target) store locals managers input (Do (stmt line (return e)) ∷ j ∷ rest))
     → Agrees classes store locals (scope_of locals) e
     → OpenedBelow (length (sizes_of (record { slots = under; back = r.back } ∷ r.frames))) r.opened
+    → begins_by r.windows (slots_below (record { slots = under; back = r.back } ∷ r.frames)) ≡ true
     → TargetHas target callers
     → SameMove classes code r.output (next classes (state (above r under callers back target) store locals managers input (Do (stmt line (return e)) ∷ j ∷ rest))) (step classes code (work (above r under callers back target) store slots managers input))
-sim_return classes code r slots under locals callers back target store managers input line e j rest h agrees below has =
+sim_return classes code r slots under locals callers back target store managers input line e j rest h agrees below begins has =
     let a = above r under callers back target in
     let scope = scope_of locals in
     let whole = whole_code classes scope (r.at + 1) e in
@@ -116,20 +118,22 @@ sim_return classes code r slots under locals callers back target store managers 
     (subst (λ x. EndsAs classes code r.output (◌>>=◌ (computed classes (state a store locals managers input (j ∷ rest)) e) (λ done. Ok (deliver target (state r store callers managers input (j ∷ rest)) done.1))) x)
     (sym (ap (λ l. walk classes code l (r.at + 1) 0 [] (work a store slots managers input)) (append_assoc whole (i.Ret ∷ []) tail) ∙ walk-whole classes code a store managers input e scope slots locals (i.Ret ∷ tail) (r.at + 1) [] h.slots.0 refl agrees))
     (computed_ends classes code r.output (value_of classes store locals e) (state a store (cleared (uses locals e) locals) managers input (j ∷ rest)) _ _ (λ v is.
-    taken_lands classes code r store under callers managers input j rest target back v h.slots.1.0 round has h.places.1)))
+    if_ends classes code r.output (Ok (deliver target (state r store callers managers input (j ∷ rest)) v)) (begins_by r.windows (slots_below (record { slots = under; back = r.back } ∷ r.frames))) (Returns back (v ∷ []) (work r store under managers input)) Stuck begins
+    (taken_lands classes code r store under callers managers input j rest target back v h.slots.1.0 round has h.places.1))))
 
 -- the end of a method without a result
 pub sim_back : (classes : List Class) (code : Code) (store : List Seen) (mf mg : Frame) (mfs : List Frame) (ws : List Window) (managers : List Manager) (made at : ℕ) (input : List ℕ) (f g : Body) (fs : List Body) (pws : List Opened) (output : List Val) (j : Item) (rest : List Item)
     → Mirrors classes code (work_of store (mf ∷ mg ∷ mfs) ws managers made at input).machine (state_of store (f ∷ g ∷ fs) pws managers made input output (Back ∷ j ∷ rest))
     → OpenedBelow (length (sizes_of (mg ∷ mfs))) pws
+    → begins_by ws (slots_below (mg ∷ mfs)) ≡ true
     → SameMove classes code output (next classes (state_of store (f ∷ g ∷ fs) pws managers made input output (Back ∷ j ∷ rest))) (step classes code (work_of store (mf ∷ mg ∷ mfs) ws managers made at input))
-sim_back classes code store mf mg mfs ws managers made at input f g fs pws output j rest h below =
+sim_back classes code store mf mg mfs ws managers made at input f g fs pws output j rest h below begins =
     let w = work_of store (mf ∷ mg ∷ mfs) ws managers made at input in
     let x = work_of store (mg ∷ mfs) ws managers made at input in
     let levels = levels_of (mg ∷ mfs) (g ∷ fs) in
     let marked = mark-there code.ops at h.places.0 in
     let front : drop at code.ops ≡ i.Mark marked.0 ∷ (i.RetVoid ∷ drop (at + 1 + 1) code.ops) = marked.1 ∙ ap (λ l. i.Mark marked.0 ∷ l) (drop-stands code.ops (at + 1) (i.RetVoid ∷ []) h.places.1) in
-    let lands = ap (landed code) (walk_to_items classes code levels j rest mf.back [] x h.places.3) in
+    let lands = ap (λ b. finished classes code marked.0 (if b then Returns mf.back [] x else Stuck)) begins ∙ ap (landed code) (walk_to_items classes code levels j rest mf.back [] x h.places.3) in
     subst (λ t. SameMove classes code output (next classes (state_of store (f ∷ g ∷ fs) pws managers made input output (Back ∷ j ∷ rest))) t)
     (sym (ap (step_from classes code w) front ∙ lands))
     (comes classes code output mf.back x (state_of store (g ∷ fs) pws managers made input output (j ∷ rest)) (record {

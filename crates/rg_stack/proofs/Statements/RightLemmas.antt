@@ -21,7 +21,7 @@ use Rattle.rg_code.specs.declared.op.Op.{Op}
 use Rattle.rg_code.specs.Code.{Code}
 use Rattle.rg_code.specs.Lowering.{Scope, slot_of, used_slots, right_code, pace_code, opening_word, opening_words}
 use Rattle.rg_stack.specs.Machine.{Window, value_of_word}
-use Rattle.rg_stack.specs.Effects.{Work, Traps, walk, top_region, top_window, relabel, next_taken}
+use Rattle.rg_stack.specs.Effects.{beneath_by_labels, Work, Traps, walk, top_region, top_window, relabel, next_taken}
 use Rattle.rg_stack.specs.Shows.{ShowsWindows}
 use Rattle.rg_stack.proofs.Walks.WalkLemmas.{Agrees}
 use Rattle.rg_stack.proofs.Walks.SlotLemmas.{ShowsSlots, cleared_slots, shows_clear, scope_set, slot_place}
@@ -124,13 +124,17 @@ middle_clear scope n old store slots locals x m = record {
 abbrev pub InRegion : List Seen → Val → Type 0
 InRegion store v = (o : Seen) → object_at store v ≡ Ok o → (g : ℕ) × (region_of o.label ≡ Some g)
 
+-- the regions beneath one by labels are those by owner references
+abbrev pub LabelsLead : List Class → List Seen → Type 0
+LabelsLead classes store = (k r : ℕ) (label : Label) → relabelled (beneath_by_labels store k (r ∷ [])) label store ≡ relabelled (beneath classes store k (r ∷ [])) label store
+
 -- what the rules and the invariant give of a right side that makes no call
 abbrev pub RightOwes : List Class → List Seen → List Local → Scope → Right → Type 0
 RightOwes classes store locals scope (value e) = Agrees classes store locals scope e
 RightOwes classes store locals scope (new x) = (k : Class) × (class_named classes x ≡ Some k)
 RightOwes classes store locals scope (new_tmp x) = (k : Class) × (class_named classes x ≡ Some k)
 RightOwes classes store locals scope (new_iso x m) = (k : Class) × (class_named classes x ≡ Some k)
-RightOwes classes store locals scope (freeze y) = InRegion store (value_in locals (Some y))
+RightOwes classes store locals scope (freeze y) = InRegion store (value_in locals (Some y)) × LabelsLead classes store
 RightOwes classes store locals scope (merge y) = InRegion store (value_in locals (Some y))
 RightOwes classes store locals scope read = Unit {0}
 RightOwes classes store locals scope more = Unit {0}
@@ -212,7 +216,7 @@ module _ (classes : List Class) (code : Code) (r : Round) (scope : Scope) (n : �
   right_ends target put (freeze y) tail here stack store slots locals managers input round opens m owes go =
       region_ends put (Some y) tail (here + 1) stack store slots locals managers input
       (option_map (frozen classes (state r store locals managers input items))) (relabel classes true Frozen (work r store slots managers input)) (λ g. relabelled (beneath classes store (length managers) (g ∷ [])) Frozen store)
-      (λ g. refl) (λ g. refl) (λ g. keeps_relabelled old store (beneath classes store (length managers) (g ∷ [])) Frozen m.keeps) m owes go
+      (λ g. refl) (λ g. owes.1 (length managers) g Frozen) (λ g. keeps_relabelled old store (beneath classes store (length managers) (g ∷ [])) Frozen m.keeps) m owes.0 go
   right_ends target put (merge y) tail here stack store slots locals managers input round opens m owes go =
       region_ends put (Some y) tail (here + 1) stack store slots locals managers input
       (option_map (merged (state r store locals managers input items))) (relabel classes false (Region (top_region r.windows)) (work r store slots managers input)) (λ g. relabelled (g ∷ []) (Region (active r.opened)) store)

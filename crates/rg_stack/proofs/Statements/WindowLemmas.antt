@@ -1,6 +1,6 @@
 -- `swap y, q.f;`, `enter x as z { .. }`, `enter q.f as z { .. }` and the end of such a block.
-use Rattle.std.proofs.Common.{◌≡◌, ℕ, suc, ◌+◌, ◌<◌, true, false, true≢false, Bool as Truth, List, [], ◌∷◌, ◌++◌, length, map, reverse, take, drop, Some, None, Result, Ok, Err, refl, sym, ap, subst, ◌∙◌, arith, append_assoc, length-append, slice_get, slice_set, unwrap_or}
-use Rattle.std.proofs.lemmas.List.{length-map, map-append, length-set, reverse-append, take-map, length-reverse}
+use Rattle.std.proofs.Common.{◌≡◌, ℕ, ◌+◌, ◌<◌, true, false, true≢false, Bool as Truth, List, [], ◌∷◌, ◌++◌, length, take, drop, Some, None, Result, Ok, Err, refl, sym, ap, subst, ◌∙◌, arith, append_assoc, length-append, slice_get, slice_set, unwrap_or}
+use Rattle.std.proofs.lemmas.List.{length-map, map-append, length-set, take-map}
 use Rattle.std.proofs.Math.Seq.{take-append_seam}
 use Rattle.std.proofs.lemmas.Bool.{ltb-false}
 use Rattle.std.specs.Prelude.{not, nat_lt, max}
@@ -18,7 +18,7 @@ use Rattle.rg_rules.specs.Answers.{◌>>=◌}
 use Rattle.rg_rules.specs.Types.{fields_of, field_place}
 use Rattle.rg_rules.specs.Paths.{all_but_last, last_field}
 use Rattle.rg_rules.specs.Items.{Item, Do, LeaveAt, items_of}
-use Rattle.rg_rules.specs.State.{Local, value_in, place_in, set_in, Frame as Body, Window as Opened, put_local}
+use Rattle.rg_rules.specs.State.{Local, value_in, place_in, set_in, Window as Opened, put_local}
 use Rattle.rg_rules.specs.Regions.{region_of, address}
 use Rattle.rg_rules.specs.Evaluation.{object_at, field_value, path_value}
 use Rattle.rg_rules.specs.Steps.{Went, next, put_field, with_window, entered as plain_entered, field_at}
@@ -27,11 +27,11 @@ use Rattle.rg_code.specs.declared.op.Op.TheVariants as i
 use Rattle.rg_code.specs.Code.{Code}
 use Rattle.rg_code.specs.Lowering.{Slot, Scope, slot_of, type_in, type_along, class_of, holder_code, held_number, scope_inside, enter_code, kind_code, block_code}
 use Rattle.rg_code.specs.Places.{StandsIn, is_mark, roomy, scope_of, Level, Lies}
-use Rattle.rg_stack.specs.Machine.{Frame, Window, slots_below, ended_slots}
-use Rattle.rg_stack.specs.Effects.{Walked, Stops, Traps, walk, put_in, entered, address as slot_address}
+use Rattle.rg_stack.specs.Machine.{Window, slots_below, ended_slots}
+use Rattle.rg_stack.specs.Effects.{begins_by, Walked, Stops, Traps, walk, put_in, entered, address as slot_address}
 use Rattle.rg_stack.specs.Runs.{step, step_from}
 use Rattle.rg_stack.proofs.Mirrors.{Mirrors}
-use Rattle.rg_stack.specs.Shows.{ShowsFrames, place_among, sizes_of, levels_of}
+use Rattle.rg_stack.specs.Shows.{levels_of}
 use Rattle.rg_stack.proofs.Mirrors.{SameMove}
 use Rattle.rg_stack.proofs.Walks.WalkLemmas.{FollowsPath, walk-path}
 use Rattle.rg_stack.proofs.Walks.MarkLemmas.{drop-stands, mark-there, walk_at_mark}
@@ -39,6 +39,7 @@ use Rattle.rg_stack.proofs.Walks.PlaceLemmas.{and-left, roomy-back, front_in, ba
 use Rattle.rg_stack.proofs.Walks.FrameLemmas.{room_of, shows_next}
 use Rattle.rg_stack.proofs.Walks.SlotLemmas.{ShowsSlots, Has, shows_put, slot_place, scope_set}
 use Rattle.rg_stack.proofs.Walks.EndLemmas.{EndsAs, ended, value_ends, object_ends, Round, work, state, level, RoundShows, keeps_same, slots_hold, finish, finish_at, statement_step}
+use Rattle.rg_stack.proofs.Statements.BaseLemmas.{as_many, base_is, opens_ends}
 use Rattle.rg_stack.proofs.Statements.AssignLemmas.{round_of, put_is, HolderOwes}
 use Rattle.rg_stack.proofs.Statements.BlockLemmas.{shows_ended, ended-length}
 
@@ -66,43 +67,6 @@ room_most_by slots s n k is false e h = let most = ltb-false slots (max (s + 1) 
 
 room_most : (slots s n k : ℕ) → n ≡ k → not (nat_lt slots (max (s + 1) (n + 1))) ≡ true → k < slots
 room_most slots s n k is h = room_most_by slots s n k is (nat_lt slots (max (s + 1) (n + 1))) refl h
-
--- the base of a window
-
--- the number of all slots of frames that have so many
-total : List ℕ → ℕ
-total [] = 0
-total (x ∷ xs) = x + total xs
-
-total-append : (xs : List ℕ) (y : ℕ) → total (xs ++ y ∷ []) ≡ total xs + y
-unfolding total
-total-append [] y = omega arith
-total-append (x ∷ xs) y = ap (λ n. x + n) (total-append xs y) ∙ omega arith
-
-total_of : (fs : List Frame) → total (sizes_of fs) ≡ slots_below fs
-unfolding total
-total_of [] = refl
-total_of (f ∷ fs) = ap total (reverse-append (length f.slots ∷ []) (map (λ (f : Frame). length f.slots) fs)) ∙ total-append (sizes_of fs) (length f.slots) ∙ ap (λ n. n + length f.slots) (total_of fs) ∙ omega arith
-
-place_top : (xs : List ℕ) (y k : ℕ) → place_among (xs ++ y ∷ []) (length xs) k ≡ total xs + k
-unfolding total
-place_top [] y k = omega arith
-place_top (x ∷ xs) y k = ap (λ n. x + n) (place_top xs y k) ∙ omega arith
-
-pub as_many : (mfs : List Frame) (fs : List Body) → ShowsFrames mfs fs → length mfs ≡ length fs
-as_many [] [] h = refl
-as_many [] (b ∷ bs) h = absurd h
-as_many (f ∷ fs) [] h = absurd h
-as_many (f ∷ fs) (b ∷ bs) h = ap suc (as_many fs bs h.1)
-
-base_is : (fs : List Frame) (n many k m : ℕ) → many ≡ length fs → k ≡ m → slots_below fs + k ≡ place_among (reverse (n ∷ map (λ (f : Frame). length f.slots) fs)) many m
-base_is fs n many k m is same =
-    let count : length (sizes_of fs) ≡ many = length-reverse (map (λ (f : Frame). length f.slots) fs) ∙ length-map fs (λ (f : Frame). length f.slots) ∙ sym is in
-    sym (ap (λ l. place_among l many m) (reverse-append (n ∷ []) (map (λ (f : Frame). length f.slots) fs))
-    ∙ ap (λ c. place_among (sizes_of fs ++ n ∷ []) c m) (sym count)
-    ∙ place_top (sizes_of fs) n m
-    ∙ ap (λ t. t + m) (total_of fs)
-    ∙ ap (λ t. slots_below fs + t) (sym same))
 
 -- the address of what an object lies at
 same_address : (u : Val) → unwrap_or (address u) 0 ≡ slot_address u
@@ -236,9 +200,9 @@ module _ (classes : List Class) (code : Code) (r : Round) (store : List Seen) (s
   BridgeOwes p bridge = (o : Seen) → object_at store bridge ≡ Ok o → ((g : ℕ) × (region_of o.label ≡ Some g)) × (o.class ≡ class_of classes (type_along classes (type_in (scope_of locals) p.base) p.fields))
 
   -- `enter x as z { .. }`
-  pub sim_enter : (x : Variable) (z : Name) (b : Block) → Showing (enter (record { base = x; fields = [] }) z b) → AllGoOn b → BridgeOwes (record { base = x; fields = [] }) (value_in locals x)
+  pub sim_enter : (x : Variable) (z : Name) (b : Block) → Showing (enter (record { base = x; fields = [] }) z b) → AllGoOn b → begins_by r.windows (slots_below r.frames + length locals) ≡ true → BridgeOwes (record { base = x; fields = [] }) (value_in locals x)
       → Simulated (enter (record { base = x; fields = [] }) z b)
-  sim_enter x z b h goes owes =
+  sim_enter x z b h goes begins owes =
       let p : Path = record { base = x; fields = [] } in
       let s = slot_of scope x in
       let k = length scope in
@@ -258,17 +222,18 @@ module _ (classes : List Class) (code : Code) (r : Round) (store : List Seen) (s
       let item = Do (stmt line (enter p z b)) in
       statement_step classes code r store slots locals managers input line (enter p z b) more (j ∷ rest) h.places.0.0
       (subst (λ l. EndsAs classes code r.output (plain_entered (state r store locals managers input (j ∷ rest)) mine z b bridge) (walk classes code l (r.at + 1) 0 [] w)) (sym (flat_enter front block tail (i.Mark line) (i.Leave k)))
+      (opens_ends classes code r.output _ w.machine k _ (let e = is in omega (arith, e, room)) (ap (λ n. begins_by r.windows (slots_below r.frames + n)) is ∙ begins)
       (subst (λ u. EndsAs classes code r.output (plain_entered (state r store locals managers input (j ∷ rest)) mine z b bridge)
       (elim (object_at store u) [ Ok o ↦ walk classes code (block ++ (i.Mark line ∷ i.Leave k ∷ tail)) inside 0 [] (entered w shown u k (region_of o.label)) | Err t ↦ Traps t ])) (sym (slots_hold scope slots locals h.slots.0 refl x))
       (object_ends classes code r.output (object_at store bridge) _ _ (λ o there. let owed = owes o there in
-      opens p z b front mine shown bridge o owed.0.0 h refl owner owed.0.1 owed.1 goes room))))
+      opens p z b front mine shown bridge o owed.0.0 h refl owner owed.0.1 owed.1 goes room)))))
 
   -- `enter q.f as z { .. }`
-  pub sim_enter_field : (x : Variable) (f : Name) (fs : List Name) (z : Name) (b : Block) → Showing (enter (record { base = x; fields = f ∷ fs }) z b) → AllGoOn b
+  pub sim_enter_field : (x : Variable) (f : Name) (fs : List Name) (z : Name) (b : Block) → Showing (enter (record { base = x; fields = f ∷ fs }) z b) → AllGoOn b → begins_by r.windows (slots_below r.frames + length locals) ≡ true
       → FollowsPath classes store locals (scope_of locals) (record { base = x; fields = all_but_last f fs }) → HolderOwes classes store locals (scope_of locals) x f fs
       → ((u : Val) (o : Seen) → path_value classes store locals (record { base = x; fields = all_but_last f fs }) ≡ Ok u → object_at store u ≡ Ok o → BridgeOwes (record { base = x; fields = f ∷ fs }) (field_value classes o (last_field f fs)))
       → Simulated (enter (record { base = x; fields = f ∷ fs }) z b)
-  sim_enter_field x f fs z b h goes follows holds owes =
+  sim_enter_field x f fs z b h goes begins follows holds owes =
       let p : Path = record { base = x; fields = f ∷ fs } in
       let q : Path = record { base = x; fields = all_but_last f fs } in
       let path = holder_code classes scope x f fs in
@@ -292,7 +257,8 @@ module _ (classes : List Class) (code : Code) (r : Round) (store : List Seen) (s
       (subst (λ y. EndsAs classes code r.output (◌>>=◌ (path_value classes store locals q) (λ u. ◌>>=◌ (object_at store u) (λ o. plain_entered (state r store locals managers input (j ∷ rest)) (field_at classes u o g) z b (field_value classes o g)))) y)
       (sym (ap (λ l. walk classes code l (r.at + 1) 0 [] w) flat ∙ walk-path classes code q locals scope (r.at + 1) (i.EnterField n k ∷ (block ++ (i.Mark line ∷ i.Leave k ∷ tail))) [] w (slots_hold scope slots locals h.slots.0 refl) follows))
       (value_ends classes code r.output (path_value classes store locals q) _ _ (λ u led.
-      object_ends classes code r.output (object_at store u) _ _ (λ o there.
+      opens_ends classes code r.output _ w.machine k _ (let e = is in omega (arith, e, room)) (ap (λ n. begins_by r.windows (slots_below r.frames + n)) is ∙ begins)
+      (object_ends classes code r.output (object_at store u) _ _ (λ o there.
       let bridge = field_value classes o g in
       let field : bridge ≡ unwrap_or (slice_get o.fields n) val.Nil = ap (λ p. elim p [ None ↦ val.Nil | Some n ↦ unwrap_or (slice_get o.fields n) val.Nil ]) (holds u o led there) in
       let mine = field_at classes u o g in
@@ -303,7 +269,7 @@ module _ (classes : List Class) (code : Code) (r : Round) (store : List Seen) (s
       (subst (λ m. EndsAs classes code r.output (plain_entered (state r store locals managers input (j ∷ rest)) mine z b bridge)
       (elim (object_at store bridge) [ Ok c ↦ walk classes code (block ++ (i.Mark line ∷ i.Leave k ∷ tail)) m 0 [] (entered w shown bridge k (region_of c.label)) | Err t ↦ Traps t ])) (sym here)
       (object_ends classes code r.output (object_at store bridge) _ _ (λ c found. let owed = owes u o led there c found in
-      opens p z b front mine shown bridge c owed.0.0 h refl owner owed.0.1 owed.1 goes room)))))))
+      opens p z b front mine shown bridge c owed.0.0 h refl owner owed.0.1 owed.1 goes room))))))))
 
 -- the end of the block of an `enter`; r is what stands round it, beneath its window
 pub sim_leave : (classes : List Class) (code : Code) (r : Round) (store : List Seen) (slots : List Val) (locals : List Local) (managers : List Manager) (input : List ℕ) (v w : Window) (ws : List Window) (p q : Opened) (ps : List Opened) (k : ℕ) (j : Item) (rest : List Item)
