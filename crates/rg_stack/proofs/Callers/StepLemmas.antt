@@ -63,18 +63,18 @@ work-is w store managers made input a b c d e =
     ∙ ap (λ p. record w { machine = record w.machine { store = store; managers = managers; windows_made = made }; input = input; printed = p }) e
 
 lowered_moves : (t : Tree) (w : Work) (p : State) → Accepted t → Fit t p → Holds t.classes (lowered t) w p → w.printed ≡ None → SomeLeft p.items
-    → SameMove t.classes (lowered t) p.output (next t.classes p) (step t.classes (lowered t) w)
+    → SameMove t.classes (lowered t) p.output (next t.classes p) (step (lowered t) w)
 lowered_moves t w p accepted fit h quiet left =
     let shows = h.shows in
     let same = work-is w p.store p.managers p.windows_made p.input shows.store shows.managers shows.windows_made h.input quiet in
     let mirrors : Mirrors t.classes (lowered t) (work_of p.store w.machine.frames w.machine.windows p.managers p.windows_made w.machine.at p.input).machine p =
     record { slots = shows.slots; windows = shows.windows; places = shows.places; windows_made = refl; managers = refl; store = refl } in
-    subst (λ x. SameMove t.classes (lowered t) p.output (next t.classes p) (step t.classes (lowered t) x)) (sym same)
+    subst (λ x. SameMove t.classes (lowered t) p.output (next t.classes p) (step (lowered t) x)) (sym same)
     (all-move t accepted p.store p.managers p.windows_made w.machine.at p.input p.output w.machine.frames w.machine.windows p.frames p.windows p.items left
     fit.frames fit.values fit.objects fit.opened mirrors)
 
 pub step-shows : StepShows
 step-shows t code w p accepted lowers fit h quiet left =
     let moves = lowered_moves t w p accepted fit (subst (λ c. Holds t.classes c w p) lowers h) quiet left in
-    subst (λ c. SameStep t.classes c p.output (next t.classes p) (step t.classes c w)) (sym lowers)
-    (same_step t.classes (lowered t) p.output (next t.classes p) (step t.classes (lowered t) w) (λ u went. fit-holds t u (step-keeps t p u accepted fit went).fit) moves)
+    subst (λ c. SameStep t.classes c p.output (next t.classes p) (step c w)) (sym lowers)
+    (same_step t.classes (lowered t) p.output (next t.classes p) (step (lowered t) w) (λ u went. fit-holds t u (step-keeps t p u accepted fit went).fit) moves)

@@ -102,7 +102,7 @@ pub fit-statement : (t : Tree) (accepted : Accepted t) (r : Round) (store : List
     → ObjectsFit t.classes store r.opened
     → Live t accepted r store slots locals managers input line j rest h.spot.env
     → Mirrors t.classes (lowered t) (work r store slots managers input).machine (state r store locals managers input (Do (stmt line k) ∷ j ∷ rest))
-    → SameMove t.classes (lowered t) r.output (next t.classes (state r store locals managers input (Do (stmt line k) ∷ j ∷ rest))) (step t.classes (lowered t) (work r store slots managers input))
+    → SameMove t.classes (lowered t) r.output (next t.classes (state r store locals managers input (Do (stmt line k) ∷ j ∷ rest))) (step (lowered t) (work r store slots managers input))
 fit-statement t accepted r store slots locals managers input line k j rest goes h meets objects live shows =
     let judged = here-judged t accepted (record { locals = locals; target = r.target }) r.bodies r.opened line k (j ∷ rest) h in
     law_statement t accepted r store slots locals managers input line j rest h.spot.env judged.last k judged.out goes
@@ -115,7 +115,7 @@ pub fit-return : (t : Tree) (accepted : Accepted t) (r : Round) (slots under : L
     → FrameMeets store r.opened (suc (length r.bodies)) locals
     → ObjectsFit t.classes store r.opened
     → Mirrors t.classes (lowered t) (work (above r under callers back target) store slots managers input).machine (state (above r under callers back target) store locals managers input (Do (stmt line (return e)) ∷ j ∷ rest))
-    → SameMove t.classes (lowered t) r.output (next t.classes (state (above r under callers back target) store locals managers input (Do (stmt line (return e)) ∷ j ∷ rest))) (step t.classes (lowered t) (work (above r under callers back target) store slots managers input))
+    → SameMove t.classes (lowered t) r.output (next t.classes (state (above r under callers back target) store locals managers input (Do (stmt line (return e)) ∷ j ∷ rest))) (step (lowered t) (work (above r under callers back target) store slots managers input))
 fit-return t accepted r slots under locals callers back target store managers input line e j rest h meets objects shows =
     let top : Frame = record { locals = locals; target = target } in
     let caller : Frame = record { locals = callers; target = r.target } in

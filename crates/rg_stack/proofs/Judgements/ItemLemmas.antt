@@ -40,7 +40,7 @@ module _ (t : Tree) (accepted : Accepted t) (store : List Seen) (managers : List
 
   abbrev pub Moves : List Frame → List Window → List Body → List Opened → List Item → Type 0
   Moves mfs mws fs ws items =
-      SameMove t.classes (lowered t) output (next t.classes (state_of store fs ws managers made input output items)) (step t.classes (lowered t) (work_of store mfs mws managers made at input))
+      SameMove t.classes (lowered t) output (next t.classes (state_of store fs ws managers made input output items)) (step (lowered t) (work_of store mfs mws managers made at input))
 
   -- what stands round the topmost frame
   abbrev round : Frame → List Frame → List Window → Body → List Body → List Opened → Round

@@ -89,7 +89,7 @@ module _ (t : Tree) (accepted : Accepted t) (r : Round) (store : List Seen) (slo
   Showing k = Mirrors t.classes (lowered t) (work r store slots managers input).machine (state r store locals managers input (Do (stmt line k) ∷ j ∷ rest))
 
   abbrev Simulated : StmtKind → Type 0
-  Simulated k = SameMove t.classes (lowered t) r.output (next t.classes (state r store locals managers input (Do (stmt line k) ∷ j ∷ rest))) (step t.classes (lowered t) (work r store slots managers input))
+  Simulated k = SameMove t.classes (lowered t) r.output (next t.classes (state r store locals managers input (Do (stmt line k) ∷ j ∷ rest))) (step (lowered t) (work r store slots managers input))
 
   facts : Fits → Facts t.classes env store locals
   facts f = facts_of t.classes env store r.opened (length r.bodies) locals f.named f.meets f.objects
@@ -354,7 +354,7 @@ pub law_return : (t : Tree) (r : Round) (slots under : List Val) (locals callers
     → OpenedBelow (length (sizes_of (record { slots = under; back = r.back } ∷ r.frames))) r.opened
     → begins_by r.windows (slots_below (record { slots = under; back = r.back } ∷ r.frames)) ≡ true
     → TargetHas target callers
-    → SameMove t.classes (lowered t) r.output (next t.classes (state (above r under callers back target) store locals managers input (Do (stmt line (return e)) ∷ j ∷ rest))) (step t.classes (lowered t) (work (above r under callers back target) store slots managers input))
+    → SameMove t.classes (lowered t) r.output (next t.classes (state (above r under callers back target) store locals managers input (Do (stmt line (return e)) ∷ j ∷ rest))) (step (lowered t) (work (above r under callers back target) store slots managers input))
 law_return t r slots under locals callers back target store managers input line e j rest env last out named meets objects h judged below begins has =
     let q = at_line-ok line _ out judged in
     let w = bind-ok (ok_or last Return) _ out q in

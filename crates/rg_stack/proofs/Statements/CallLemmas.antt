@@ -160,7 +160,7 @@ module _ (classes : List Class) (code : Code) (j : Item) (rest : List Item) wher
   pub call_ends : (r : Round) (store : List Seen) (slots : List Val) (locals : List Local) (managers : List Manager) (input : List ℕ) (c : Call) (d : ℕ) (m : Method) (e : Entry) (target : Target) (at : ℕ) (tail : List Op)
       → ShowsSlots slots locals → RoundShows r (length slots) → CallOwes r store slots locals c d m e
       → Behind m.result target (at + length (call_code classes (scope_of locals) at c)) (level r (scope_of locals) (length slots) ∷ levels_of r.frames r.bodies)
-      → EndsAs classes code r.output (step_call classes (state r store locals managers input (j ∷ rest)) target c) (walk classes code (call_code classes (scope_of locals) at c ++ tail) at 0 [] (work r store slots managers input))
+      → EndsAs classes code r.output (step_call classes (state r store locals managers input (j ∷ rest)) target c) (walk code (call_code classes (scope_of locals) at c ++ tail) at 0 [] (work r store slots managers input))
   call_ends r store slots locals managers input c d m e target at tail shows round owes behind =
       let scope = scope_of locals in
       let path = path_code classes scope c.target.base c.target.fields in
@@ -184,20 +184,20 @@ module _ (classes : List Class) (code : Code) (j : Item) (rest : List Item) wher
       subst (λ k. OpenedBelow (length (reverse (k ∷ map (λ (f : Frame). length f.slots) r.frames))) r.opened) (sym size_after) owes.below in
       let inner = exprs ++ (i.Room ∷ (clears used ++ (i.Call n ∷ tail))) in
       subst (λ x. EndsAs classes code r.output (step_call classes s target c) x)
-      (sym (ap (λ l. walk classes code l at 0 [] w) (flat path exprs (clears used) tail i.Check i.Room (i.Call n))
+      (sym (ap (λ l. walk code l at 0 [] w) (flat path exprs (clears used) tail i.Check i.Room (i.Call n))
       ∙ walk-path classes code c.target locals scope at (i.Check ∷ inner) [] w (slots_hold scope slots locals shows refl) owes.follows))
       (value_ends classes code r.output (path_value classes store locals c.target) _ _ (λ v led.
       object_ends classes code r.output (object_at store v) _ _ (λ o is.
-      let done = walk classes code inner (at + length path + 1) 0 (v ∷ []) w in
+      let done = walk code inner (at + length path + 1) 0 (v ∷ []) w in
       subst (λ k. EndsAs classes code r.output (plain_called classes s target c v k (method_named classes k c.method)) done) (sym (owes.class v o led is))
       (subst (λ k. EndsAs classes code r.output (plain_called classes s target c v d k) done) (sym owes.named)
       (subst (λ x. EndsAs classes code r.output (plain_called classes s target c v d (Some m)) x)
-      (sym (ap (λ k. walk classes code inner k 0 (v ∷ []) w) here
+      (sym (ap (λ k. walk code inner k 0 (v ∷ []) w) here
       ∙ walk-exprs classes code c.args locals scope (at + length receiver) (i.Room ∷ (clears used ++ (i.Call n ∷ tail))) (v ∷ []) w (slots_hold scope slots locals shows refl) owes.agrees))
       (values_ends classes code r.output (values_of classes store locals c.args) _ _ (λ vs got.
       let after = record s { frames = called_frame classes target m d v vs ∷ record { locals = locals_after; target = r.target } ∷ r.bodies; items = items_of m.body (method_end m.result ++ j ∷ rest) } in
       let stack = reverse vs ++ v ∷ [] in
-      let goes = walk classes code (clears used ++ (i.Call n ∷ tail)) (at + length receiver + length exprs + 1) 0 stack w in
+      let goes = walk code (clears used ++ (i.Call n ∷ tail)) (at + length receiver + length exprs + 1) 0 stack w in
       subst (λ k. EndsAs classes code r.output (◌>>◌ (test (nat_lt (suc (length r.bodies)) FRAMES) trap.Depth) (Ok after)) (if nat_lt (suc k) FRAMES then goes else Traps trap.Depth)) (sym (as_many r.frames r.bodies round.frames))
       (room_ends (nat_lt (suc (length r.bodies)) FRAMES) r.output after goes
       (subst (λ x. EndsAs classes code r.output (Ok after) x)
@@ -226,7 +226,7 @@ module _ (classes : List Class) (code : Code) (j : Item) (rest : List Item) wher
     Showing k = Mirrors classes code (work r store slots managers input).machine (state r store locals managers input (Do (stmt line k) ∷ j ∷ rest))
 
     abbrev Simulated : StmtKind → Type 0
-    Simulated k = SameMove classes code r.output (next classes (state r store locals managers input (Do (stmt line k) ∷ j ∷ rest))) (step classes code (work r store slots managers input))
+    Simulated k = SameMove classes code r.output (next classes (state r store locals managers input (Do (stmt line k) ∷ j ∷ rest))) (step code (work r store slots managers input))
 
     -- the class, the method and the entry of the call are those that the code names
     abbrev pub Owed : Type 0
@@ -252,7 +252,7 @@ module _ (classes : List Class) (code : Code) (j : Item) (rest : List Item) wher
         let lies = subst (Lies classes code.ops (top ∷ levels) (j ∷ rest)) end h.places.1 in
         let behind = behind_call m.result top levels back (subst (λ k. StandsIn code.ops top back (dropped_code k)) result stands) (subst (λ k. Lies classes code.ops (top ∷ levels) (j ∷ rest) (back + length (dropped_code k))) result lies) in
         statement_step classes code r store slots locals managers input line (call c) more (j ∷ rest) h.places.0.0
-        (subst (λ l. EndsAs classes code r.output (step_call classes (state r store locals managers input (j ∷ rest)) Drops c) (walk classes code l (r.at + 1) 0 [] (work r store slots managers input))) (sym (append_assoc ops dropped tail))
+        (subst (λ l. EndsAs classes code r.output (step_call classes (state r store locals managers input (j ∷ rest)) Drops c) (walk code l (r.at + 1) 0 [] (work r store slots managers input))) (sym (append_assoc ops dropped tail))
         (call_ends r store slots locals managers input c d m e Drops (r.at + 1) (dropped ++ tail) h.slots.0 (round_of classes code r store slots locals managers input (Do (stmt line (call c)) ∷ j ∷ rest) h) owes behind))
 
     -- `let x: T = call q.m(a, b);`
@@ -274,7 +274,7 @@ module _ (classes : List Class) (code : Code) (j : Item) (rest : List Item) wher
         let lies = subst (Lies classes code.ops (record top { scope = with_slot scope (Some x) (type_of classes t) } ∷ levels) (j ∷ rest)) end h.places.1 in
         let behind : Behind (Some u) target back (top ∷ levels) = (stands, lies) in
         statement_step classes code r store slots locals managers input line (declare x t (result_of c)) more (j ∷ rest) h.places.0.0
-        (subst (λ l. EndsAs classes code r.output (step_call classes (state r store locals managers input (j ∷ rest)) target c) (walk classes code l (r.at + 1) 0 [] (work r store slots managers input))) (sym (append_assoc ops (o ∷ []) tail))
+        (subst (λ l. EndsAs classes code r.output (step_call classes (state r store locals managers input (j ∷ rest)) target c) (walk code l (r.at + 1) 0 [] (work r store slots managers input))) (sym (append_assoc ops (o ∷ []) tail))
         (call_ends r store slots locals managers input c d m e target (r.at + 1) (o ∷ tail) h.slots.0 (round_of classes code r store slots locals managers input (Do (stmt line (declare x t (result_of c))) ∷ j ∷ rest) h) owes
         (subst (λ k. Behind k target back (top ∷ levels)) (sym gives) behind)))
 
@@ -298,6 +298,6 @@ module _ (classes : List Class) (code : Code) (j : Item) (rest : List Item) wher
         let behind : Behind (Some u) target back (top ∷ levels) = (stands, lies) in
         let k = assign (record { base = x; fields = [] }) (result_of c) in
         statement_step classes code r store slots locals managers input line k more (j ∷ rest) h.places.0.0
-        (subst (λ l. EndsAs classes code r.output (step_call classes (state r store locals managers input (j ∷ rest)) target c) (walk classes code l (r.at + 1) 0 [] (work r store slots managers input))) (sym (append_assoc ops (o ∷ []) tail))
+        (subst (λ l. EndsAs classes code r.output (step_call classes (state r store locals managers input (j ∷ rest)) target c) (walk code l (r.at + 1) 0 [] (work r store slots managers input))) (sym (append_assoc ops (o ∷ []) tail))
         (call_ends r store slots locals managers input c d m e target (r.at + 1) (o ∷ tail) h.slots.0 (round_of classes code r store slots locals managers input (Do (stmt line k) ∷ j ∷ rest) h) owes
         (subst (λ k. Behind k target back (top ∷ levels)) (sym gives) behind)))

@@ -103,7 +103,7 @@ module _ (classes : List Class) (code : Code) (r : Round) (store : List Seen) (s
   Showing k = Mirrors classes code (work r store slots managers input).machine (state r store locals managers input (Do (stmt line k) ∷ j ∷ rest))
 
   abbrev Simulated : StmtKind → Type 0
-  Simulated k = SameMove classes code r.output (next classes (state r store locals managers input (Do (stmt line k) ∷ j ∷ rest))) (step classes code (work r store slots managers input))
+  Simulated k = SameMove classes code r.output (next classes (state r store locals managers input (Do (stmt line k) ∷ j ∷ rest))) (step code (work r store slots managers input))
 
   -- `swap y, q.f;`
   pub sim_swap : (y : Name) (x : Variable) (f : Name) (fs : List Name) → Showing (swap y (record { base = x; fields = f ∷ fs })) → Has locals (Some y)
@@ -126,15 +126,15 @@ module _ (classes : List Class) (code : Code) (r : Round) (store : List Seen) (s
       let holding : unwrap_or (slice_get slots s) val.Nil ≡ mine = slots_hold scope slots locals h.slots.0 refl (Some y) in
       statement_step classes code r store slots locals managers input line (swap y (record { base = x; fields = f ∷ fs })) more (j ∷ rest) h.places.0.0
       (subst (λ z. EndsAs classes code r.output (◌>>=◌ (path_value classes store locals q) (λ u. ◌>>=◌ (object_at store u) (λ o. Ok (put_local (Some y) (put_field classes u g (state r store locals managers input (j ∷ rest)) mine) (field_value classes o g))))) z)
-      (sym (ap (λ l. walk classes code l (r.at + 1) 0 [] w) (flat_two path tail i.Check (i.Swap s k))
+      (sym (ap (λ l. walk code l (r.at + 1) 0 [] w) (flat_two path tail i.Check (i.Swap s k))
       ∙ walk-path classes code q locals scope (r.at + 1) (i.Check ∷ i.Swap s k ∷ tail) [] w (slots_hold scope slots locals h.slots.0 refl) follows))
       (value_ends classes code r.output (path_value classes store locals q) _ _ (λ u led.
       subst (λ z. EndsAs classes code r.output (◌>>=◌ (object_at store u) (λ o. Ok (put_local (Some y) (put_field classes u g (state r store locals managers input (j ∷ rest)) mine) (field_value classes o g)))) z)
-      (sym (doubled (object_at store u) (λ o. walk classes code tail (r.at + 1 + length path + 1 + 1) 0 [] (work r (put_in store u k (unwrap_or (slice_get slots s) val.Nil)) (slice_set slots s (unwrap_or (slice_get o.fields k) val.Nil)) managers input))))
+      (sym (doubled (object_at store u) (λ o. walk code tail (r.at + 1 + length path + 1 + 1) 0 [] (work r (put_in store u k (unwrap_or (slice_get slots s) val.Nil)) (slice_set slots s (unwrap_or (slice_get o.fields k) val.Nil)) managers input))))
       (object_ends classes code r.output (object_at store u) _ _ (λ o is.
       let field : field_value classes o g ≡ unwrap_or (slice_get o.fields k) val.Nil = ap (λ p. elim p [ None ↦ val.Nil | Some n ↦ unwrap_or (slice_get o.fields n) val.Nil ]) (holds u o led is) in
       let theirs = unwrap_or (slice_get o.fields k) val.Nil in
-      let goes = λ (v : Val). walk classes code tail (r.at + 1 + length path + 1 + 1) 0 [] (work r (put_in store u k v) (slice_set slots s theirs) managers input) in
+      let goes = λ (v : Val). walk code tail (r.at + 1 + length path + 1 + 1) 0 [] (work r (put_in store u k v) (slice_set slots s theirs) managers input) in
       subst (λ v. EndsAs classes code r.output (Ok (put_local (Some y) (put_field classes u g (state r store locals managers input (j ∷ rest)) mine) (field_value classes o g))) (goes v)) (sym holding)
       (subst (λ v. EndsAs classes code r.output (Ok (put_local (Some y) (put_field classes u g (state r store locals managers input (j ∷ rest)) mine) v)) (goes mine)) (sym field)
       (subst (λ z. EndsAs classes code r.output (Ok (put_local (Some y) z theirs)) (goes mine)) (sym (put_is classes r locals managers input (j ∷ rest) store store u o g k mine is (keeps_same store) (holds u o led is)))
@@ -149,7 +149,7 @@ module _ (classes : List Class) (code : Code) (r : Round) (store : List Seen) (s
       → o.class ≡ class_of classes (type_along classes (type_in (scope_of locals) p.base) p.fields) → AllGoOn b → length locals < length slots
       → let inside = r.at + 1 + length front in
       EndsAs classes code r.output (Ok (with_window (state r store locals managers input (j ∷ rest)) mine z b bridge o.class (region_of o.label)))
-      (walk classes code (block_code classes (scope_inside classes (scope_of locals) p z) inside b ++ (i.Mark line ∷ i.Leave (length (scope_of locals)) ∷ drop (r.at + length (kind_code classes (scope_of locals) r.at line (enter p z b))) code.ops)) inside 0 []
+      (walk code (block_code classes (scope_inside classes (scope_of locals) p z) inside b ++ (i.Mark line ∷ i.Leave (length (scope_of locals)) ∷ drop (r.at + length (kind_code classes (scope_of locals) r.at line (enter p z b))) code.ops)) inside 0 []
       (entered (work r store slots managers input) shown bridge (length (scope_of locals)) (region_of o.label)))
   opens p z b front mine shown bridge o g h fronts owner region class goes room =
       let inside = r.at + 1 + length front in
@@ -191,8 +191,8 @@ module _ (classes : List Class) (code : Code) (r : Round) (store : List Seen) (s
       (length-set slots k bridge) inner_shows
       (subst (λ s. Lies classes code.ops (level r s size ∷ levels) (items_of b (LeaveAt (length locals) ∷ j ∷ rest)) inside) names
       (subst (λ n. Lies classes code.ops (outer ∷ levels) (items_of b (LeaveAt n ∷ j ∷ rest)) inside) is body)) in
-      subst (λ n. EndsAs classes code r.output (Ok (with_window (state r store locals managers input (j ∷ rest)) mine z b bridge o.class n)) (walk classes code (block ++ (i.Mark line ∷ i.Leave k ∷ tail)) inside 0 [] (entered (work r store slots managers input) shown bridge k n))) (sym region)
-      (subst (λ m. EndsAs classes code r.output (Ok after) (walk classes code (block ++ (i.Mark line ∷ i.Leave k ∷ tail)) inside 0 [] (entered (work r store slots managers input) m bridge k (Some g)))) (sym owner)
+      subst (λ n. EndsAs classes code r.output (Ok (with_window (state r store locals managers input (j ∷ rest)) mine z b bridge o.class n)) (walk code (block ++ (i.Mark line ∷ i.Leave k ∷ tail)) inside 0 [] (entered (work r store slots managers input) shown bridge k n))) (sym region)
+      (subst (λ m. EndsAs classes code r.output (Ok after) (walk code (block ++ (i.Mark line ∷ i.Leave k ∷ tail)) inside 0 [] (entered (work r store slots managers input) m bridge k (Some g)))) (sym owner)
       (subst (λ x. EndsAs classes code r.output (Ok after) x) (sym (walk_at_mark classes code (block ++ (i.Mark line ∷ i.Leave k ∷ tail)) inside [] w begins)) last))
 
   -- what the rules and the invariant give of the object that an owner leads to: it is in a region, and has the declared class
@@ -221,10 +221,10 @@ module _ (classes : List Class) (code : Code) (r : Round) (store : List Seen) (s
       let room : length locals < length slots = room_most (length slots) s k (length locals) is two in
       let item = Do (stmt line (enter p z b)) in
       statement_step classes code r store slots locals managers input line (enter p z b) more (j ∷ rest) h.places.0.0
-      (subst (λ l. EndsAs classes code r.output (plain_entered (state r store locals managers input (j ∷ rest)) mine z b bridge) (walk classes code l (r.at + 1) 0 [] w)) (sym (flat_enter front block tail (i.Mark line) (i.Leave k)))
+      (subst (λ l. EndsAs classes code r.output (plain_entered (state r store locals managers input (j ∷ rest)) mine z b bridge) (walk code l (r.at + 1) 0 [] w)) (sym (flat_enter front block tail (i.Mark line) (i.Leave k)))
       (opens_ends classes code r.output _ w.machine k _ (let e = is in omega (arith, e, room)) (ap (λ n. begins_by r.windows (slots_below r.frames + n)) is ∙ begins)
       (subst (λ u. EndsAs classes code r.output (plain_entered (state r store locals managers input (j ∷ rest)) mine z b bridge)
-      (elim (object_at store u) [ Ok o ↦ walk classes code (block ++ (i.Mark line ∷ i.Leave k ∷ tail)) inside 0 [] (entered w shown u k (region_of o.label)) | Err t ↦ Traps t ])) (sym (slots_hold scope slots locals h.slots.0 refl x))
+      (elim (object_at store u) [ Ok o ↦ walk code (block ++ (i.Mark line ∷ i.Leave k ∷ tail)) inside 0 [] (entered w shown u k (region_of o.label)) | Err t ↦ Traps t ])) (sym (slots_hold scope slots locals h.slots.0 refl x))
       (object_ends classes code r.output (object_at store bridge) _ _ (λ o there. let owed = owes o there in
       opens p z b front mine shown bridge o owed.0.0 h refl owner owed.0.1 owed.1 goes room)))))
 
@@ -255,7 +255,7 @@ module _ (classes : List Class) (code : Code) (r : Round) (store : List Seen) (s
       let room : length locals < length slots = room_of (length slots) k (length locals) is named in
       statement_step classes code r store slots locals managers input line (enter p z b) more (j ∷ rest) h.places.0.0
       (subst (λ y. EndsAs classes code r.output (◌>>=◌ (path_value classes store locals q) (λ u. ◌>>=◌ (object_at store u) (λ o. plain_entered (state r store locals managers input (j ∷ rest)) (field_at classes u o g) z b (field_value classes o g)))) y)
-      (sym (ap (λ l. walk classes code l (r.at + 1) 0 [] w) flat ∙ walk-path classes code q locals scope (r.at + 1) (i.EnterField n k ∷ (block ++ (i.Mark line ∷ i.Leave k ∷ tail))) [] w (slots_hold scope slots locals h.slots.0 refl) follows))
+      (sym (ap (λ l. walk code l (r.at + 1) 0 [] w) flat ∙ walk-path classes code q locals scope (r.at + 1) (i.EnterField n k ∷ (block ++ (i.Mark line ∷ i.Leave k ∷ tail))) [] w (slots_hold scope slots locals h.slots.0 refl) follows))
       (value_ends classes code r.output (path_value classes store locals q) _ _ (λ u led.
       opens_ends classes code r.output _ w.machine k _ (let e = is in omega (arith, e, room)) (ap (λ n. begins_by r.windows (slots_below r.frames + n)) is ∙ begins)
       (object_ends classes code r.output (object_at store u) _ _ (λ o there.
@@ -265,16 +265,16 @@ module _ (classes : List Class) (code : Code) (r : Round) (store : List Seen) (s
       let shown = place.Field (slot_address u) n in
       let owner : shown ≡ mine = sym (ap (λ a. place.Field a (unwrap_or (field_place (fields_of classes o.class) g) 0)) (same_address u) ∙ ap (λ p. place.Field (slot_address u) (unwrap_or p 0)) (holds u o led there)) in
       subst (λ v. EndsAs classes code r.output (plain_entered (state r store locals managers input (j ∷ rest)) mine z b bridge)
-      (elim (object_at store v) [ Ok c ↦ walk classes code (block ++ (i.Mark line ∷ i.Leave k ∷ tail)) (r.at + 1 + length path + 1) 0 [] (entered w shown v k (region_of c.label)) | Err t ↦ Traps t ])) field
+      (elim (object_at store v) [ Ok c ↦ walk code (block ++ (i.Mark line ∷ i.Leave k ∷ tail)) (r.at + 1 + length path + 1) 0 [] (entered w shown v k (region_of c.label)) | Err t ↦ Traps t ])) field
       (subst (λ m. EndsAs classes code r.output (plain_entered (state r store locals managers input (j ∷ rest)) mine z b bridge)
-      (elim (object_at store bridge) [ Ok c ↦ walk classes code (block ++ (i.Mark line ∷ i.Leave k ∷ tail)) m 0 [] (entered w shown bridge k (region_of c.label)) | Err t ↦ Traps t ])) (sym here)
+      (elim (object_at store bridge) [ Ok c ↦ walk code (block ++ (i.Mark line ∷ i.Leave k ∷ tail)) m 0 [] (entered w shown bridge k (region_of c.label)) | Err t ↦ Traps t ])) (sym here)
       (object_ends classes code r.output (object_at store bridge) _ _ (λ c found. let owed = owes u o led there c found in
       opens p z b front mine shown bridge c owed.0.0 h refl owner owed.0.1 owed.1 goes room))))))))
 
 -- the end of the block of an `enter`; r is what stands round it, beneath its window
 pub sim_leave : (classes : List Class) (code : Code) (r : Round) (store : List Seen) (slots : List Val) (locals : List Local) (managers : List Manager) (input : List ℕ) (v w : Window) (ws : List Window) (p q : Opened) (ps : List Opened) (k : ℕ) (j : Item) (rest : List Item)
     → Mirrors classes code (work (record r { windows = v ∷ w ∷ ws; opened = p ∷ q ∷ ps }) store slots managers input).machine (state (record r { windows = v ∷ w ∷ ws; opened = p ∷ q ∷ ps }) store locals managers input (LeaveAt k ∷ j ∷ rest))
-    → SameMove classes code r.output (next classes (state (record r { windows = v ∷ w ∷ ws; opened = p ∷ q ∷ ps }) store locals managers input (LeaveAt k ∷ j ∷ rest))) (step classes code (work (record r { windows = v ∷ w ∷ ws; opened = p ∷ q ∷ ps }) store slots managers input))
+    → SameMove classes code r.output (next classes (state (record r { windows = v ∷ w ∷ ws; opened = p ∷ q ∷ ps }) store locals managers input (LeaveAt k ∷ j ∷ rest))) (step code (work (record r { windows = v ∷ w ∷ ws; opened = p ∷ q ∷ ps }) store slots managers input))
 sim_leave classes code r store slots locals managers input v w ws p q ps k j rest h =
     let before = record r { windows = v ∷ w ∷ ws; opened = p ∷ q ∷ ps } in
     let inner = record r { windows = w ∷ ws; opened = q ∷ ps } in
@@ -284,8 +284,8 @@ sim_leave classes code r store slots locals managers input v w ws p q ps k j res
     let front : drop r.at code.ops ≡ i.Mark marked.0 ∷ (i.Leave k ∷ drop (r.at + 2) code.ops) = marked.1 ∙ ap (λ l. i.Mark marked.0 ∷ l) (drop-stands code.ops (r.at + 1) (i.Leave k ∷ []) h.places.1 ∙ ap (λ n. i.Leave k ∷ drop n code.ops) (omega arith)) in
     let names : take k (scope_of locals) ≡ scope_of (take k locals) = take-map (λ (l : Local). record { name = l.name; ty = l.ty }) k locals in
     let at_two : r.at + 1 + 1 ≡ r.at + 2 = omega arith in
-    subst (λ t. SameMove classes code r.output (Went after) t) (sym (ap (step_from classes code (work before store slots managers input)) front))
-    (ended classes code r.output marked.0 (Ok after) (walk classes code (drop (r.at + 2) code.ops) (r.at + 1 + 1) 0 [] (work inner store (ended_slots k slots) managers input))
+    subst (λ t. SameMove classes code r.output (Went after) t) (sym (ap (step_from code (work before store slots managers input)) front))
+    (ended classes code r.output marked.0 (Ok after) (walk code (drop (r.at + 2) code.ops) (r.at + 1 + 1) 0 [] (work inner store (ended_slots k slots) managers input))
     (finish_at classes code inner store (ended_slots k slots) (take k locals) managers input j rest size (r.at + 2) (r.at + 1 + 1) at_two
     (shows_ended k slots locals h.slots.0) (ended-length k slots) (record { frames = h.slots.1; windows = h.windows.1 })
     (subst (λ s. Lies classes code.ops (level r s size ∷ levels_of r.frames r.bodies) (j ∷ rest) (r.at + 2)) names h.places.2)))
