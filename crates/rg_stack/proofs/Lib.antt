@@ -3,3 +3,4 @@ mod Walks
 mod Statements
 mod Judgements
 pub mod Callers
+mod Examples

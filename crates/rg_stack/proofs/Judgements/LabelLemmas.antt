@@ -168,13 +168,13 @@ module _ (classes : List Class) (store : List Seen) (windows : List Window) (obj
       elim (by_type r n h.address (type_of classes slot.field.ty) meets h.leads) [
         | inl same ↦ inl (subst (λ n. In n qs) same i)
         | inr iso ↦ inr (led-in classes store (in_regions qs) store n (record {
-            object = h.object;
-            field = h.field;
-            holder = h.holder;
-            there = h.there;
-            passes = ap (in_regions qs) h.lies ∙ in-among qs r i;
-            leads = ap (option_and_then (region_at store)) (owns slot.field slot.field_is iso) ∙ h.leads;
-          }))
+          object = h.object;
+          field = h.field;
+          holder = h.holder;
+          there = h.there;
+          passes = ap (in_regions qs) h.lies ∙ in-among qs r i;
+          leads = ap (option_and_then (region_at store)) (owns slot.field slot.field_is iso) ∙ h.leads;
+        }))
       ]
     where
       owns : (f : Field) → slice_get (fields_of classes h.holder.class) h.field ≡ Some f → is_iso (type_of classes f.ty) ≡ true → owned_by_field classes h.holder h.field ≡ Some h.address

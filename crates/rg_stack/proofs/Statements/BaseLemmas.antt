@@ -71,10 +71,10 @@ pub based-bound : (mf : Frame) (mfs : List Frame) (f : Body) (fs : List Body) (p
 based-bound mf mfs f fs p h (inl based) =
     let count = sizes-length mfs fs h.1 in
     let at : place_among (sizes_of (mf ∷ mfs)) p.base_frame p.base_place ≡ slots_below mfs + p.base_place =
-      ap (λ l. place_among l p.base_frame p.base_place) (sizes-more mf mfs)
-      ∙ ap (λ n. place_among (sizes_of mfs ++ length mf.slots ∷ []) n p.base_place) (based.0 ∙ sym count)
-      ∙ place_top (sizes_of mfs) (length mf.slots) p.base_place
-      ∙ ap (λ n. n + p.base_place) (total_of mfs) in
+    ap (λ l. place_among l p.base_frame p.base_place) (sizes-more mf mfs)
+    ∙ ap (λ n. place_among (sizes_of mfs ++ length mf.slots ∷ []) n p.base_place) (based.0 ∙ sym count)
+    ∙ place_top (sizes_of mfs) (length mf.slots) p.base_place
+    ∙ ap (λ n. n + p.base_place) (total_of mfs) in
     omega (arith, at, based.1)
 based-bound mf [] f [] p h (inr based) = absurd based
 based-bound mf [] f (g ∷ gs) p h (inr based) = absurd h.1
@@ -84,7 +84,7 @@ based-bound mf (mg ∷ mgs) f (g ∷ gs) p h (inr based) =
     let there = based-there (g ∷ gs) p based in
     let less : p.base_frame < length (sizes_of (mg ∷ mgs)) = omega (arith, count, there) in
     let at : place_among (sizes_of (mf ∷ mg ∷ mgs)) p.base_frame p.base_place ≡ place_among (sizes_of (mg ∷ mgs)) p.base_frame p.base_place =
-      ap (λ l. place_among l p.base_frame p.base_place) (sizes-more mf (mg ∷ mgs)) ∙ place_below (sizes_of (mg ∷ mgs)) (length mf.slots) p.base_frame p.base_place less in
+    ap (λ l. place_among l p.base_frame p.base_place) (sizes-more mf (mg ∷ mgs)) ∙ place_below (sizes_of (mg ∷ mgs)) (length mf.slots) p.base_frame p.base_place less in
     let lower = based-bound mg mgs g gs p h.1 based in
     let room = shown-room mg g h.1.0 in
     let below : slots_below (mg ∷ mgs) ≡ length mg.slots + slots_below mgs = refl in
@@ -107,7 +107,7 @@ lower-within mf mg mfs g fs p h based =
     let there = based-there (g ∷ fs) p based in
     let less : p.base_frame < length (sizes_of (mg ∷ mfs)) = omega (arith, count, there) in
     let at : place_among (sizes_of (mf ∷ mg ∷ mfs)) p.base_frame p.base_place ≡ place_among (sizes_of (mg ∷ mfs)) p.base_frame p.base_place =
-      ap (λ l. place_among l p.base_frame p.base_place) (sizes-more mf (mg ∷ mfs)) ∙ place_below (sizes_of (mg ∷ mfs)) (length mf.slots) p.base_frame p.base_place less in
+    ap (λ l. place_among l p.base_frame p.base_place) (sizes-more mf (mg ∷ mfs)) ∙ place_below (sizes_of (mg ∷ mfs)) (length mf.slots) p.base_frame p.base_place less in
     let within = based-within mg mfs g fs p h based in
     omega (arith, at, within)
 
