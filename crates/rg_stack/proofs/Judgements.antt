@@ -5,3 +5,7 @@ pub mod OwesLemmas
 pub mod StatementLemmas
 pub mod BeginLemmas
 pub mod SpotLemmas
+pub mod LeftLemmas
+pub mod ItemLemmas
+pub mod LabelLemmas
+pub mod BaseLemmas

@@ -5,3 +5,4 @@ pub mod ReturnLemmas
 pub mod WindowLemmas
 pub mod CallLemmas
 pub mod CalledLemmas
+pub mod BaseLemmas

@@ -20,7 +20,7 @@ OpeningShows = (t : Tree) (code : Code) (input : List ℕ) → Accepted t → Lo
 -- a step from a machine that shows a state that fits does what the plain step does, the trap with its line included
 abbrev pub StepShows : Type 0
 StepShows = (t : Tree) (code : Code) (w : Work) (p : State) → Accepted t → Lowers t code → Fit t p → Holds t.classes code w p → w.printed ≡ None →
-    SomeLeft p.items → SameStep t.classes code p.output (next t.classes p) (step t.classes code w)
+    SomeLeft p.items → SameStep t.classes code p.output (next t.classes p) (step code w)
 
 -- so each run of the code of an accepted program shows, behind as many steps, the state of the machine that never frees
 abbrev pub RunShows : Type 0

@@ -28,8 +28,9 @@ use Rattle.rg_stack.proofs.Mirrors.{SameMove}
 use Rattle.rg_stack.proofs.Walks.PlaceLemmas.{GoesOn}
 use Rattle.rg_stack.proofs.Walks.FrameLemmas.{OpenedBelow}
 use Rattle.rg_stack.proofs.Walks.EndLemmas.{Round, work, state}
-use Rattle.rg_stack.proofs.Statements.WindowLemmas.{as_many}
+use Rattle.rg_stack.proofs.Statements.BaseLemmas.{as_many}
 use Rattle.rg_stack.proofs.Statements.ReturnLemmas.{TargetHas, above}
+use Rattle.rg_stack.proofs.Judgements.BaseLemmas.{beneath-begins}
 use Rattle.rg_stack.proofs.Judgements.FitLemmas.{running-beneath}
 use Rattle.rg_stack.proofs.Judgements.SpotLemmas.{leaves_frame, outer-enters}
 use Rattle.rg_stack.proofs.Judgements.StatementLemmas.{Live, fits_of, law_statement, law_return, target-has}
@@ -101,11 +102,11 @@ pub fit-statement : (t : Tree) (accepted : Accepted t) (r : Round) (store : List
     → ObjectsFit t.classes store r.opened
     → Live t accepted r store slots locals managers input line j rest h.spot.env
     → Mirrors t.classes (lowered t) (work r store slots managers input).machine (state r store locals managers input (Do (stmt line k) ∷ j ∷ rest))
-    → SameMove t.classes (lowered t) r.output (next t.classes (state r store locals managers input (Do (stmt line k) ∷ j ∷ rest))) (step t.classes (lowered t) (work r store slots managers input))
+    → SameMove t.classes (lowered t) r.output (next t.classes (state r store locals managers input (Do (stmt line k) ∷ j ∷ rest))) (step (lowered t) (work r store slots managers input))
 fit-statement t accepted r store slots locals managers input line k j rest goes h meets objects live shows =
     let judged = here-judged t accepted (record { locals = locals; target = r.target }) r.bodies r.opened line k (j ∷ rest) h in
     law_statement t accepted r store slots locals managers input line j rest h.spot.env judged.last k judged.out goes
-    (fits_of t accepted r store slots locals managers input line j rest h.spot.env shows.slots.1 (Do (stmt line k) ∷ j ∷ rest) h refl meets objects live)
+    (fits_of t accepted r store slots locals managers input line j rest h.spot.env shows.slots shows.windows (Do (stmt line k) ∷ j ∷ rest) h refl meets objects live)
     shows judged.right
 
 -- a `return`
@@ -114,7 +115,7 @@ pub fit-return : (t : Tree) (accepted : Accepted t) (r : Round) (slots under : L
     → FrameMeets store r.opened (suc (length r.bodies)) locals
     → ObjectsFit t.classes store r.opened
     → Mirrors t.classes (lowered t) (work (above r under callers back target) store slots managers input).machine (state (above r under callers back target) store locals managers input (Do (stmt line (return e)) ∷ j ∷ rest))
-    → SameMove t.classes (lowered t) r.output (next t.classes (state (above r under callers back target) store locals managers input (Do (stmt line (return e)) ∷ j ∷ rest))) (step t.classes (lowered t) (work (above r under callers back target) store slots managers input))
+    → SameMove t.classes (lowered t) r.output (next t.classes (state (above r under callers back target) store locals managers input (Do (stmt line (return e)) ∷ j ∷ rest))) (step (lowered t) (work (above r under callers back target) store slots managers input))
 fit-return t accepted r slots under locals callers back target store managers input line e j rest h meets objects shows =
     let top : Frame = record { locals = locals; target = target } in
     let caller : Frame = record { locals = callers; target = r.target } in
@@ -124,6 +125,7 @@ fit-return t accepted r slots under locals callers back target store managers in
     let none = alone t accepted top (caller ∷ r.bodies) r.opened (Do (stmt line (return e)) ∷ j ∷ rest) h (ap leaves_frame (h.begins ∙ ap (λ i. i ∷ h.more) first)) in
     let below = running-beneath t top caller r.bodies r.opened (Do (stmt line (return e)) ∷ j ∷ rest) h none in
     let sizes : suc (length r.bodies) ≡ length (sizes_of (f ∷ r.frames)) =
-      ap suc (sym (as_many r.frames r.bodies shows.slots.1.1)) ∙ sym (length-reverse (map (λ (f : Shown). length f.slots) (f ∷ r.frames)) ∙ length-map (f ∷ r.frames) (λ (f : Shown). length f.slots)) in
+    ap suc (sym (as_many r.frames r.bodies shows.slots.1.1)) ∙ sym (length-reverse (map (λ (f : Shown). length f.slots) (f ∷ r.frames)) ∙ length-map (f ∷ r.frames) (λ (f : Shown). length f.slots)) in
     law_return t r slots under locals callers back target store managers input line e j rest h.spot.env judged.last judged.out h.stands.named meets objects shows judged.right
-    (subst (λ n. OpenedBelow n r.opened) sizes below) (beneath-has t accepted caller r.bodies h.under h.rest h.body target h.beneath)
+    (subst (λ n. OpenedBelow n r.opened) sizes below)
+    (beneath-begins t accepted (record { slots = slots; back = back }) f r.frames r.windows top caller r.bodies r.opened (Do (stmt line (return e)) ∷ j ∷ rest) shows.slots shows.windows h none) (beneath-has t accepted caller r.bodies h.under h.rest h.body target h.beneath)

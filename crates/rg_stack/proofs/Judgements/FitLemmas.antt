@@ -172,10 +172,10 @@ objects-fields classes store ws h v o f t there declared =
 -- the facts of the judgements' lemmas, of the frame that runs
 pub facts_of : (classes : List Class) (env : Env) (store : List Seen) (windows : List Window) (n : ℕ) (locals : List Local) → Named env.entries locals → FrameMeets store windows n locals → ObjectsFit classes store windows → Facts classes env store locals
 facts_of classes env store windows n locals named meets objects = record {
-    declared = λ x e there. (found-named env.entries locals x e named there).type_is;
-    variables = λ x e there. let f = found-named env.entries locals x e named there in
+  declared = λ x e there. (found-named env.entries locals x e named there).type_is;
+  variables = λ x e there. let f = found-named env.entries locals x e named there in
       subst (OfType store e.ty) (sym f.value_is) (subst (λ t. OfType store t f.local.value) f.ty_is (meets-of_type store (LabelFits (windows_of n f.place windows)) f.local.ty f.local.value (meets f.place f.local f.there)));
-    fields = objects-fields classes store windows objects;
+  fields = objects-fields classes store windows objects;
 }
 
 -- what `freeze`, `merge` and `enter x` want of their variable

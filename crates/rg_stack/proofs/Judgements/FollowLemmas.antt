@@ -77,10 +77,11 @@ follows_of classes store (f ∷ fs) u t r v same walked has fields = λ o there.
     let at = field_of_type classes t f w.class class_of_t in
     let place = place_if_type classes (fields_of classes w.class) f q.0.ty w.declared in
     let behind : type_behind classes t f ≡ q.0.ty = at.1 ∙ ap (λ d. unwrap_or d Int) w.declared in
-    let number : field_number classes t f ≡ place.0 = at.0 ∙ ap (λ k. unwrap_or k 0) place.1 in
-    (ap (λ k. elim k [ None ↦ val.Nil | Some n ↦ unwrap_or (slice_get o.fields n) val.Nil ]) (ap (λ c. field_place (fields_of classes c) f) class_of_o ∙ place.1)
-    ∙ ap (λ n. unwrap_or (slice_get o.fields n) val.Nil) (sym number),
-    follows_of classes store fs p.0 (type_behind classes t f) r (field_value classes o f)
-    (sym (read-class q.0.receiver q.0.ty p.0 q.2) ∙ ap class_is (sym behind)) p.2
-    (subst (λ d. HasClass store d (field_value classes o f)) (sym behind) (fields v o f q.0.ty there (ap (λ c. field_type classes c f) class_of_o ∙ w.declared)))
-    fields)
+    let number : field_number classes t f ≡ place.0 = at.0 ∙ ap (λ k. unwrap_or k 0) place.1 in (
+      ap (λ k. elim k [ None ↦ val.Nil | Some n ↦ unwrap_or (slice_get o.fields n) val.Nil ]) (ap (λ c. field_place (fields_of classes c) f) class_of_o ∙ place.1)
+          ∙ ap (λ n. unwrap_or (slice_get o.fields n) val.Nil) (sym number),
+      follows_of classes store fs p.0 (type_behind classes t f) r (field_value classes o f)
+          (sym (read-class q.0.receiver q.0.ty p.0 q.2) ∙ ap class_is (sym behind)) p.2
+          (subst (λ d. HasClass store d (field_value classes o f)) (sym behind) (fields v o f q.0.ty there (ap (λ c. field_type classes c f) class_of_o ∙ w.declared)))
+          fields,
+    )

@@ -96,9 +96,9 @@ pub reaches : (classes : List Class) (store : List Seen) (fs : List Name) (u t r
     → ((v : Val) (o : Seen) (f : Name) (t : Ty) → object_at store v ≡ Ok o → field_type classes o.class f ≡ Some t → OfType store t (field_value classes o f))
     → follow_fields classes store v fs ≡ Ok w → Reached classes store r (type_along classes t fs) w
 reaches classes store [] u t r v w same also walked has fields got = record {
-    class = ap class_is (sym (ok-is u r walked)) ∙ same;
-    bool = ap is_bool (sym (ok-is u r walked)) ∙ also;
-    value = subst (OfType store t) (ok-is v w got) has;
+  class = ap class_is (sym (ok-is u r walked)) ∙ same;
+  bool = ap is_bool (sym (ok-is u r walked)) ∙ also;
+  value = subst (OfType store t) (ok-is v w got) has;
 }
 reaches classes store (f ∷ fs) u t r v w same also walked has fields got =
     let p = bind-ok (walk_field classes u f) _ r walked in
@@ -239,12 +239,14 @@ module _ (classes : List Class) (env : Env) (store : List Seen) (locals : List L
       let p = binary-ok classes env w (among o) a b j h in
       let i = operands-not_iso classes env (among o) a b p.l p.r p.operands in
       let same = judge_expr-env classes env (operand_type (among o)) a p.l p.operands.left i.0 in
-      let right = same_env p.l.env (operand_type (among o)) b p.r same p.operands.right in
-      (expr-agrees (operand_type (among o)) a p.l p.operands.left,
-      expr-agrees (operand_type (among o)) b p.r right,
-      logic_of o (IsTruth (value_of classes store locals a) × IsTruth (value_of classes store locals b)) (λ is.
-      (expr-truth a p.l (subst (λ k. judge_expr classes env (operand_type k) a ≡ Ok p.l) is p.operands.left),
-      expr-truth b p.r (subst (λ k. judge_expr classes env (operand_type k) b ≡ Ok p.r) is right))))
+      let right = same_env p.l.env (operand_type (among o)) b p.r same p.operands.right in (
+        expr-agrees (operand_type (among o)) a p.l p.operands.left,
+        expr-agrees (operand_type (among o)) b p.r right,
+        logic_of o (IsTruth (value_of classes store locals a) × IsTruth (value_of classes store locals b)) (λ is. (
+          expr-truth a p.l (subst (λ k. judge_expr classes env (operand_type k) a ≡ Ok p.l) is p.operands.left),
+          expr-truth b p.r (subst (λ k. judge_expr classes env (operand_type k) b ≡ Ok p.r) is right),
+        )),
+      )
 
   -- the premises on the object that has a field
   pub holder-follows : (x : Variable) (f : Name) (fs : List Name) (r : Looked) → walk_receiver classes env x f fs ≡ Ok r → FollowsPath classes store locals (scope_of locals) (record { base = x; fields = all_but_last f fs })
@@ -273,9 +275,10 @@ module _ (classes : List Class) (env : Env) (store : List Seen) (locals : List L
       let d = type_along classes (type_in (scope_of locals) x) (all_but_last f fs) in
       let at = walk-reaches x (all_but_last f fs) p.0 u p.1 got in
       let class_of_d : class_is d ≡ Some k.class = sym at.class ∙ ap class_is k.reference in
-      let class_of_o : o.class ≡ k.class = some-is o.class k.class (sym (at.value.0 o there) ∙ class_of_d) in
-      (ap (λ c. field_type classes c g) class_of_o ∙ k.declared,
-      along-last classes (type_in (scope_of locals) x) f fs ∙ (field_of_type classes d g k.class class_of_d).1 ∙ ap (λ d. unwrap_or d Int) k.declared)
+      let class_of_o : o.class ≡ k.class = some-is o.class k.class (sym (at.value.0 o there) ∙ class_of_d) in (
+        ap (λ c. field_type classes c g) class_of_o ∙ k.declared,
+        along-last classes (type_in (scope_of locals) x) f fs ∙ (field_of_type classes d g k.class class_of_d).1 ∙ ap (λ d. unwrap_or d Int) k.declared,
+      )
 
 -- Blocks
 

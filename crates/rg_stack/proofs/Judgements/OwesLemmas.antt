@@ -38,6 +38,7 @@ use Rattle.rg_stack.proofs.Statements.CallLemmas.{BodyFits, Called}
 use Rattle.rg_stack.proofs.Walks.EntryLemmas.{entry_of as code_entry}
 use Rattle.rg_stack.proofs.Judgements.FollowLemmas.{some-is, class_is, read-class, field_of_type}
 use Rattle.rg_stack.proofs.Judgements.JudgeLemmas.{seen-class, expr-agrees, walk-follows, walk-reaches}
+use Rattle.rg_stack.proofs.Judgements.LabelLemmas.{by-labels}
 use Rattle.rg_stack.proofs.Judgements.FitLemmas.{facts_of, variable-in_region}
 
 -- an environment's names and types behind an expression
@@ -100,7 +101,7 @@ room_by n a s true e h = absurd (lt_contra n a s e h)
     lt_contra n a s e h = grind (arith, nat_lt)
 room_by n a s false e h = (refl, omega (arith, h))
 
-roomy_of : (given n : ℕ) (ops : List Op) → slots_of given ops ≤ n → roomy n ops ≡ true
+pub roomy_of : (given n : ℕ) (ops : List Op) → slots_of given ops ≤ n → roomy n ops ≡ true
 roomy_of given n [] h = refl
 roomy_of given n (o ∷ os) h =
     let r = room_by n (above o) (slots_of given os) (nat_lt n (above o)) refl h in
@@ -134,13 +135,16 @@ callee_of t j rest d x m named fits =
     let main = main_code t in
     let h = code_entry t.classes t.classes (length main) 0 d main k.0 x m refl k.1 k.2 in
     let is : 0 + d ≡ d = omega arith in
-    let number : number_called t.classes d x ≡ method_number t.classes d x = ap (λ o. elim o [ None ↦ 0 | Some m ↦ method_number t.classes d x ]) named in
-    (h.entry, ap (slice_get (lowered t).entries) number ∙ h.there, record {
-      stands = subst (λ c. Stands (lowered t).ops h.entry.at (method_code t.classes h.entry.at c m)) is h.stands;
-      given = h.given;
-      room = λ n enough. subst (λ c. roomy n (method_code t.classes h.entry.at c m) ≡ true) is (roomy_of (suc (length m.params)) n (method_code t.classes h.entry.at (0 + d) m) (subst (λ s. s ≤ n) h.slots enough));
-      fits = fits;
-    })
+    let number : number_called t.classes d x ≡ method_number t.classes d x = ap (λ o. elim o [ None ↦ 0 | Some m ↦ method_number t.classes d x ]) named in (
+      h.entry,
+      ap (slice_get (lowered t).entries) number ∙ h.there,
+      record {
+        stands = subst (λ c. Stands (lowered t).ops h.entry.at (method_code t.classes h.entry.at c m)) is h.stands;
+        given = h.given;
+        room = λ n enough. subst (λ c. roomy n (method_code t.classes h.entry.at c m) ≡ true) is (roomy_of (suc (length m.params)) n (method_code t.classes h.entry.at (0 + d) m) (subst (λ s. s ≤ n) h.slots enough));
+        fits = fits;
+      },
+    )
 
 pub class_in : (classes : List Class) (d : Ty) (c : ℕ) → class_is d ≡ Some c → class_of classes d ≡ c
 class_in classes Int c h = absurd (none-some c h)
@@ -180,9 +184,10 @@ module _ (classes : List Class) (store : List Seen) (windows : List Window) (n :
   args-agree [] (e ∷ es) env out named h many = absurd (omega (arith, many))
   args-agree (t ∷ ts) (e ∷ es) env out named h many =
       let p = bind-ok (judge_expr classes env (Some t) e) _ out h in
-      let less : length es ≡ length ts = omega (arith, many) in
-      (expr-agrees classes env store locals (facts_of classes env store windows n locals named meets objects) (Some t) e p.0 p.1,
-      args-agree ts es p.0.env out (expr-named classes env locals (Some t) e p.0 p.1 named) p.2 less)
+      let less : length es ≡ length ts = omega (arith, many) in (
+        expr-agrees classes env store locals (facts_of classes env store windows n locals named meets objects) (Some t) e p.0 p.1,
+        args-agree ts es p.0.env out (expr-named classes env locals (Some t) e p.0 p.1 named) p.2 less,
+      )
 
   -- what a judged call gives: its method, by the class that the code names, and what its path and its arguments want
   pub record CallGives (c : Call) (j : CallJudged) : Type 0 where
@@ -210,7 +215,7 @@ module _ (classes : List Class) (store : List Seen) (windows : List Window) (n :
       let d = type_along classes (type_in (scope_of locals) x) fs in
       let reference : class_is p.0 ≡ Some q.0.class = ap class_is (follow-ok p.0 q.0 q.1).reference in
       let class_of_d : class_is d ≡ Some q.0.class =
-        sym (along classes fs (seen_type env e.0) (type_in (scope_of locals) x) p.0 (seen-class env e.0 ∙ ap class_is (sym (facts.declared x e.0 there))) e.2) ∙ reference in
+      sym (along classes fs (seen_type env e.0) (type_in (scope_of locals) x) p.0 (seen-class env e.0 ∙ ap class_is (sym (facts.declared x e.0 there))) e.2) ∙ reference in
       let target : target_class classes (scope_of locals) c ≡ q.0.class = class_in classes d q.0.class class_of_d in
       let whole : record { result = method_result classes m.0; env = out.0 } ≡ j = grind arith in
       let result : j.result ≡ method_result classes m.0 = ap (λ (j : CallJudged). j.result) (sym whole) in
@@ -223,7 +228,7 @@ module _ (classes : List Class) (store : List Seen) (windows : List Window) (n :
         follows = walk-follows classes env store locals facts x fs p.0 p.1;
         agrees = args-agree (param_types classes m.0) c.args env out.0 named out.1 (many ∙ sym (length-map m.0.params _));
         class = λ v o led is. some-is o.class (target_class classes (scope_of locals) c)
-          (sym ((walk-reaches classes env store locals facts x fs p.0 v p.1 led).value.0 o is) ∙ class_of_d ∙ ap Some (sym target));
+            (sym ((walk-reaches classes env store locals facts x fs p.0 v p.1 led).value.0 o is) ∙ class_of_d ∙ ap Some (sym target));
       }
 
   consumed-owes : (env : Env) (wanted : Ty) (cap : Cap) (y : Name) (j : Judged) → Named env.entries locals → judge_consumed env wanted cap y ≡ Ok j → InRegion store (value_in locals (Some y))
@@ -239,7 +244,7 @@ module _ (classes : List Class) (store : List Seen) (windows : List Window) (n :
   right-owes env wanted (new x) j named h i = let p = bind-ok (good_type classes (ref Mut x)) _ j h in named_class classes Mut x p.0 p.1
   right-owes env wanted (new_tmp x) j named h i = let p = bind-ok (good_type classes (ref Tmp x)) _ j h in named_class classes Tmp x p.0 p.1
   right-owes env wanted (new_iso x m) j named h i = let p = bind-ok (good_type classes (ref Iso x)) _ j h in named_class classes Iso x p.0 p.1
-  right-owes env wanted (freeze y) j named h i = consumed-owes env wanted Imm y j named h
+  right-owes env wanted (freeze y) j named h i = (consumed-owes env wanted Imm y j named h, by-labels classes store windows objects)
   right-owes env wanted (merge y) j named h i = consumed-owes env wanted Mut y j named h
   right-owes env wanted read j named h i = tt
   right-owes env wanted more j named h i = tt

@@ -51,7 +51,7 @@ from_ok : (classes : List Class) (last : Option Ty) (env : Env) (u : Stmt) (mid 
 from_ok classes last env u mid go s e h = sym (ap (λ r. option_and_then go (result_ok r)) e) ∙ h
 
 -- inside a block that gives no result nothing ends the frame
-inner_stays : (classes : List Class) (env out : Env) (b : Block) (after : List Item) (round : List Path) (p : Point) (s : Spot) → judge_block classes None env b ≡ Ok out → leaves_frame after ≡ false
+pub inner_stays : (classes : List Class) (env out : Env) (b : Block) (after : List Item) (round : List Path) (p : Point) (s : Spot) → judge_block classes None env b ≡ Ok out → leaves_frame after ≡ false
     → spot_in classes None env b after round p ≡ Some s → leaves_frame s.items ≡ false
 inner_stays classes env out b after round here s judged ends is =
     let same : record { env = env; items = items_of b after; enters = round } ≡ s = grind arith in

@@ -1,5 +1,5 @@
 -- A statement of an accepted program: its step of the stack machine is one of the machine that never frees.
-use Rattle.std.proofs.Common.{◌≡◌, ℕ, suc, true, false, true≢false, Bool as Truth, List, [], ◌∷◌, length, map, Option, Some, None, option_map, ok_or, Ok, refl, sym, ap, ◌∙◌, arith, subst}
+use Rattle.std.proofs.Common.{◌≡◌, ◌+◌, ℕ, suc, true, false, true≢false, Bool as Truth, List, [], ◌∷◌, length, map, Option, Some, None, option_map, ok_or, Ok, refl, sym, ap, ◌∙◌, arith, subst}
 use Rattle.std.specs.Prelude.{not, ◌||◌}
 use Rattle.std.proofs.lemmas.Option.{none-some}
 use Rattle.std.proofs.lemmas.List.{length-map, length-reverse}
@@ -34,9 +34,9 @@ use Rattle.rg_code.specs.Code.{Code}
 use Rattle.rg_code.specs.Lowering.{type_in, type_along, lowered, target_class}
 use Rattle.rg_code.specs.Places.{scope_of}
 use Rattle.rg_stack.specs.Runs.{step}
-use Rattle.rg_stack.specs.Machine.{Frame}
+use Rattle.rg_stack.specs.Machine.{Frame, slots_below}
 use Rattle.rg_stack.proofs.Mirrors.{Mirrors}
-use Rattle.rg_stack.specs.Shows.{ShowsFrames, sizes_of}
+use Rattle.rg_stack.specs.Shows.{ShowsFrames, ShowsWindows, sizes_of}
 use Rattle.rg_stack.proofs.Mirrors.{SameMove}
 use Rattle.rg_stack.proofs.Walks.WalkLemmas.{Agrees}
 use Rattle.rg_stack.proofs.Walks.PlaceLemmas.{GoesOn, AllGoOn}
@@ -46,11 +46,14 @@ use Rattle.rg_stack.proofs.Walks.EndLemmas.{Round, work, state}
 use Rattle.rg_stack.proofs.Statements.RightLemmas.{RightOwes}
 use Rattle.rg_stack.proofs.Statements.AssignLemmas.{sim_let, sim_set, sim_put}
 use Rattle.rg_stack.proofs.Statements.BlockLemmas.{sim_if, sim_if_else, sim_while_any, sim_print_any, sim_collect}
-use Rattle.rg_stack.proofs.Statements.WindowLemmas.{sim_swap, sim_enter, sim_enter_field, as_many}
+use Rattle.rg_stack.proofs.Statements.WindowLemmas.{sim_swap, sim_enter, sim_enter_field}
 use Rattle.rg_stack.proofs.Statements.ReturnLemmas.{TargetHas, above, sim_return}
 use Rattle.rg_stack.proofs.Statements.CallLemmas.{BodyFits, CallOwes, sim_call_any, sim_let_call, sim_set_call}
 use Rattle.rg_stack.proofs.Judgements.FollowLemmas.{some-is, class_is}
 use Rattle.rg_stack.proofs.Judgements.JudgeLemmas.{Facts, expr-agrees, holder-follows, holder-owes, holder-type, block-goes_on, block-gives}
+use Rattle.rg_stack.specs.Effects.{begins_by}
+use Rattle.rg_stack.proofs.Statements.BaseLemmas.{as_many}
+use Rattle.rg_stack.proofs.Judgements.BaseLemmas.{top-begins}
 use Rattle.rg_stack.proofs.Judgements.FitLemmas.{facts_of, variable-in_region, variable-there, field-in_region, running-below}
 use Rattle.rg_stack.proofs.Judgements.OwesLemmas.{call-gives, right-owes, callee_of, class_in, iso_type}
 
@@ -80,12 +83,13 @@ module _ (t : Tree) (accepted : Accepted t) (r : Round) (store : List Seen) (slo
     pub objects : ObjectsFit t.classes store r.opened
     pub live : Live
     pub below : OpenedBelow (length (sizes_of (record { slots = slots; back = r.back } ∷ r.frames))) r.opened
+    pub begins : begins_by r.windows (slots_below r.frames + length locals) ≡ true
 
   abbrev Showing : StmtKind → Type 0
   Showing k = Mirrors t.classes (lowered t) (work r store slots managers input).machine (state r store locals managers input (Do (stmt line k) ∷ j ∷ rest))
 
   abbrev Simulated : StmtKind → Type 0
-  Simulated k = SameMove t.classes (lowered t) r.output (next t.classes (state r store locals managers input (Do (stmt line k) ∷ j ∷ rest))) (step t.classes (lowered t) (work r store slots managers input))
+  Simulated k = SameMove t.classes (lowered t) r.output (next t.classes (state r store locals managers input (Do (stmt line k) ∷ j ∷ rest))) (step (lowered t) (work r store slots managers input))
 
   facts : Fits → Facts t.classes env store locals
   facts f = facts_of t.classes env store r.opened (length r.bodies) locals f.named f.meets f.objects
@@ -124,7 +128,6 @@ module _ (t : Tree) (accepted : Accepted t) (r : Round) (store : List Seen) (slo
       let q = bind-ok (judge_block t.classes None p.0 b) _ out p.2 in
       let s = bind-ok (judge_block t.classes None p.0 c) _ out q.2 in
       sim_if_else t.classes code r store slots locals managers input line e b c j rest h (test-agrees e p.0 f p.1) (block-goes_on t.classes b p.0 q.0 q.1) (block-goes_on t.classes c p.0 s.0 s.1)
-
 
   -- what a judged call owes, with its method's entry
   call-owes : (c : Call) (out : CallJudged) → Fits → judge_call t.classes env c ≡ Ok out → (m : Method) × (e : _) × CallOwes t.classes (lowered t) j rest r store slots locals c (target_class t.classes (scope_of locals) c) m e × (out.result ≡ method_result t.classes m)
@@ -264,9 +267,11 @@ module _ (t : Tree) (accepted : Accepted t) (r : Round) (store : List Seen) (slo
       let c = bind-ok (ok_or (iso_class e.0.ty) Mismatch) _ front e.2 in
       let there = ok_or-ok (entry_of env x) Unknown e.0 e.1 in
       let iso = iso_type e.0.ty c.0 (ok_or-ok (iso_class e.0.ty) Mismatch c.0 c.1) in
-      sim_enter t.classes code r store slots locals managers input line j rest x z b h goes
-      (λ o is. (variable-in_region env store r.opened (length r.bodies) locals x e.0 f.named f.meets there iso.0 o is,
-      sym (class_in t.classes (type_in (scope_of locals) x) o.class (ap class_is ((facts f).declared x e.0 there) ∙ ((facts f).variables x e.0 there).0 o is))))
+      sim_enter t.classes code r store slots locals managers input line j rest x z b h goes f.begins
+      (λ o is. (
+        variable-in_region env store r.opened (length r.bodies) locals x e.0 f.named f.meets there iso.0 o is,
+        sym (class_in t.classes (type_in (scope_of locals) x) o.class (ap class_is ((facts f).declared x e.0 there) ∙ ((facts f).variables x e.0 there).0 o is)),
+      ))
   enter_by x (g ∷ gs) z b front f h judged goes =
       let w = bind-ok (writable_field t.classes env x g gs) _ front judged in
       let c = bind-ok (ok_or (iso_class w.0) Mismatch) _ front w.2 in
@@ -274,12 +279,13 @@ module _ (t : Tree) (accepted : Accepted t) (r : Round) (store : List Seen) (slo
       let m = test-then (may_write k.0.receiver) _ _ w.0 k.2 in
       let same : k.0.ty ≡ w.0 = grind arith in
       let iso = iso_type w.0 c.0 (ok_or-ok (iso_class w.0) Mismatch c.0 c.1) in
-      sim_enter_field t.classes code r store slots locals managers input line j rest x g gs z b h goes
+      sim_enter_field t.classes code r store slots locals managers input line j rest x g gs z b h goes f.begins
       (holder-follows t.classes env store locals (facts f) x g gs k.0 k.1) (holder-owes t.classes env store locals (facts f) x g gs k.0 k.1)
       (λ u o led there q is.
-      let d = holder-type t.classes env store locals (facts f) x g gs k.0 u o k.1 led there in
-      (field-in_region t.classes store r.opened f.objects u o (last_field g gs) k.0.ty there (f.live x g gs w.0 u o w.1 led there) d.0 (ap is_iso same ∙ iso.0) q is,
-      sym (class_in t.classes (type_along t.classes (type_in (scope_of locals) x) (g ∷ gs)) q.class (ap class_is d.1 ∙ ((facts f).fields u o (last_field g gs) k.0.ty there d.0).0 q is))))
+      let d = holder-type t.classes env store locals (facts f) x g gs k.0 u o k.1 led there in (
+        field-in_region t.classes store r.opened f.objects u o (last_field g gs) k.0.ty there (f.live x g gs w.0 u o w.1 led there) d.0 (ap is_iso same ∙ iso.0) q is,
+        sym (class_in t.classes (type_along t.classes (type_in (scope_of locals) x) (g ∷ gs)) q.class (ap class_is d.1 ∙ ((facts f).fields u o (last_field g gs) k.0.ty there d.0).0 q is)),
+      ))
 
   pub law_enter : (p : Path) (z : Name) (b : Block) (out : Env) → Fits → Showing (enter p z b) → judge_kind t.classes None line env (enter p z b) ≡ Ok out → Simulated (enter p z b)
   law_enter p z b out f h judged =
@@ -301,18 +307,19 @@ module _ (t : Tree) (accepted : Accepted t) (r : Round) (store : List Seen) (slo
   law_statement last (return e) out goes f h judged = absurd goes
 
   -- what stands where a statement begins, from the invariant
-  pub fits_of : ShowsFrames r.frames r.bodies → (items : List Item) (h : Running t (record { locals = locals; target = r.target }) r.bodies r.opened items) → h.spot.env ≡ env
+  pub fits_of : ShowsFrames (record { slots = slots; back = r.back } ∷ r.frames) (record { locals = locals; target = r.target } ∷ r.bodies) → ShowsWindows (sizes_of (record { slots = slots; back = r.back } ∷ r.frames)) r.windows r.opened → (items : List Item) (h : Running t (record { locals = locals; target = r.target }) r.bodies r.opened items) → h.spot.env ≡ env
       → FrameMeets store r.opened (length r.bodies) locals → ObjectsFit t.classes store r.opened → Live → Fits
-  fits_of shows items h is meets objects live =
+  fits_of shows windows items h is meets objects live =
       let f : Frame = record { slots = slots; back = r.back } in
       let sizes : suc (length r.bodies) ≡ length (sizes_of (f ∷ r.frames)) =
-        ap suc (sym (as_many r.frames r.bodies shows)) ∙ sym (length-reverse (map (λ (f : Frame). length f.slots) (f ∷ r.frames)) ∙ length-map (f ∷ r.frames) (λ (f : Frame). length f.slots)) in
+      ap suc (sym (as_many r.frames r.bodies shows.1)) ∙ sym (length-reverse (map (λ (f : Frame). length f.slots) (f ∷ r.frames)) ∙ length-map (f ∷ r.frames) (λ (f : Frame). length f.slots)) in
       record {
         named = subst (λ (e : Env). Named e.entries locals) is h.stands.named;
         meets = meets;
         objects = objects;
         live = live;
         below = subst (λ n. OpenedBelow n r.opened) sizes (running-below t (record { locals = locals; target = r.target }) r.bodies r.opened items h);
+        begins = top-begins t accepted f r.frames r.windows (record { locals = locals; target = r.target }) r.bodies r.opened items shows windows h;
       }
 
 -- a target of a call that is judged is there
@@ -345,11 +352,12 @@ pub law_return : (t : Tree) (r : Round) (slots under : List Val) (locals callers
     → Mirrors t.classes (lowered t) (work (above r under callers back target) store slots managers input).machine (state (above r under callers back target) store locals managers input (Do (stmt line (return e)) ∷ j ∷ rest))
     → judge_kind t.classes last line env (return e) ≡ Ok out
     → OpenedBelow (length (sizes_of (record { slots = under; back = r.back } ∷ r.frames))) r.opened
+    → begins_by r.windows (slots_below (record { slots = under; back = r.back } ∷ r.frames)) ≡ true
     → TargetHas target callers
-    → SameMove t.classes (lowered t) r.output (next t.classes (state (above r under callers back target) store locals managers input (Do (stmt line (return e)) ∷ j ∷ rest))) (step t.classes (lowered t) (work (above r under callers back target) store slots managers input))
-law_return t r slots under locals callers back target store managers input line e j rest env last out named meets objects h judged below has =
+    → SameMove t.classes (lowered t) r.output (next t.classes (state (above r under callers back target) store locals managers input (Do (stmt line (return e)) ∷ j ∷ rest))) (step (lowered t) (work (above r under callers back target) store slots managers input))
+law_return t r slots under locals callers back target store managers input line e j rest env last out named meets objects h judged below begins has =
     let q = at_line-ok line _ out judged in
     let w = bind-ok (ok_or last Return) _ out q in
     let p = bind-ok (judge_expr t.classes env (Some w.0) e) _ out w.2 in
     sim_return t.classes (lowered t) r slots under locals callers back target store managers input line e j rest h
-    (expr-agrees t.classes env store locals (facts_of t.classes env store r.opened (suc (length r.bodies)) locals named meets objects) (Some w.0) e p.0 p.1) below has
+    (expr-agrees t.classes env store locals (facts_of t.classes env store r.opened (suc (length r.bodies)) locals named meets objects) (Some w.0) e p.0 p.1) below begins has

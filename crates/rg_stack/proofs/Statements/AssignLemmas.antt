@@ -46,12 +46,12 @@ middle_of classes code r store slots locals managers input items h = record { sh
 
 -- a value goes into a slot that is there, whether it owns or not
 walk_assign_by : (t : Truth) (classes : List Class) (code : Code) (s : ℕ) (rest : List Op) (here : ℕ) (v : Val) (stack : List Val) (w : Work)
-    → walk classes code ((if t then i.Own s else i.Store s) ∷ rest) here 0 (v ∷ stack) w ≡ walk classes code rest (here + 1) 0 stack (record w { machine = put_slot w.machine s v })
+    → walk code ((if t then i.Own s else i.Store s) ∷ rest) here 0 (v ∷ stack) w ≡ walk code rest (here + 1) 0 stack (record w { machine = put_slot w.machine s v })
 walk_assign_by true classes code s rest here v stack w = refl
 walk_assign_by false classes code s rest here v stack w = refl
 
 pub walk-assign : (classes : List Class) (code : Code) (scope : Scope) (x : Variable) (rest : List Op) (here : ℕ) (v : Val) (stack : List Val) (w : Work)
-    → walk classes code (assign_op scope x ∷ rest) here 0 (v ∷ stack) w ≡ walk classes code rest (here + 1) 0 stack (record w { machine = put_slot w.machine (slot_of scope x) v })
+    → walk code (assign_op scope x ∷ rest) here 0 (v ∷ stack) w ≡ walk code rest (here + 1) 0 stack (record w { machine = put_slot w.machine (slot_of scope x) v })
 walk-assign classes code scope x rest here v stack w = walk_assign_by (is_iso (type_in scope x)) classes code (slot_of scope x) rest here v stack w
 
 -- a variable is there in each middle of a step
@@ -105,7 +105,7 @@ module _ (classes : List Class) (code : Code) (r : Round) (store : List Seen) (s
   Showing k = Mirrors classes code (work r store slots managers input).machine (state r store locals managers input (Do (stmt line k) ∷ j ∷ rest))
 
   abbrev Simulated : StmtKind → Type 0
-  Simulated k = SameMove classes code r.output (next classes (state r store locals managers input (Do (stmt line k) ∷ j ∷ rest))) (step classes code (work r store slots managers input))
+  Simulated k = SameMove classes code r.output (next classes (state r store locals managers input (Do (stmt line k) ∷ j ∷ rest))) (step code (work r store slots managers input))
 
   -- `let x: T = r;`
   pub sim_let : (x : Name) (t : Written) (right : Right) → Showing (declare x t right) → Opens classes code → RightOwes classes store locals (scope_of locals) right → Simulated (declare x t right)
@@ -125,18 +125,18 @@ module _ (classes : List Class) (code : Code) (r : Round) (store : List Seen) (s
       let room : length locals < size = room_of size k (length locals) is named in
       let there : r.at + 1 + length ops + 1 + length pace ≡ end = omega (arith, length-append ops (i.Store k ∷ pace)) in
       let ends = right_ends classes code r scope size store (j ∷ rest) (Declares x ty) (add_local (Some x) ty) right (i.Store k ∷ (pace ++ tail)) (r.at + 1) [] store slots locals managers input round opens middle owes
-        (λ store slots locals managers input v m.
-        let l : Local = record { name = Some x; ty = ty; value = v } in
-        let many : k ≡ length locals = ap length (sym m.scope_is) ∙ length-map locals (λ (l : Local). record { name = l.name; ty = l.ty }) in
-        let less : length locals < length slots = omega (arith, room, is, many, m.size_is) in
-        let names : with_slot scope (Some x) ty ≡ scope_of (locals ++ l ∷ []) = ap (λ s. with_slot s (Some x) ty) (sym m.scope_is) ∙ sym (map-append (λ (l : Local). record { name = l.name; ty = l.ty }) locals (l ∷ [])) in
-        subst (λ y. EndsAs classes code r.output (Ok (state r store (locals ++ l ∷ []) managers input (j ∷ rest))) y) (sym (walk-pace classes code right tail (r.at + 1 + length ops + 1) [] (work r store (slice_set slots k v) managers input)))
-        (finish_at classes code r store (slice_set slots k v) (locals ++ l ∷ []) managers input j rest size end (r.at + 1 + length ops + 1 + length pace) there
-        (subst (λ n. ShowsSlots (slice_set slots n v) (locals ++ l ∷ [])) (sym many) (shows_next slots locals l m.shows less))
-        (length-set slots k v ∙ m.size_is) round
-        (subst (λ s. Lies classes code.ops (level r s size ∷ levels) (j ∷ rest) end) names h.places.1))) in
+      (λ store slots locals managers input v m.
+      let l : Local = record { name = Some x; ty = ty; value = v } in
+      let many : k ≡ length locals = ap length (sym m.scope_is) ∙ length-map locals (λ (l : Local). record { name = l.name; ty = l.ty }) in
+      let less : length locals < length slots = omega (arith, room, is, many, m.size_is) in
+      let names : with_slot scope (Some x) ty ≡ scope_of (locals ++ l ∷ []) = ap (λ s. with_slot s (Some x) ty) (sym m.scope_is) ∙ sym (map-append (λ (l : Local). record { name = l.name; ty = l.ty }) locals (l ∷ [])) in
+      subst (λ y. EndsAs classes code r.output (Ok (state r store (locals ++ l ∷ []) managers input (j ∷ rest))) y) (sym (walk-pace classes code right tail (r.at + 1 + length ops + 1) [] (work r store (slice_set slots k v) managers input)))
+      (finish_at classes code r store (slice_set slots k v) (locals ++ l ∷ []) managers input j rest size end (r.at + 1 + length ops + 1 + length pace) there
+      (subst (λ n. ShowsSlots (slice_set slots n v) (locals ++ l ∷ [])) (sym many) (shows_next slots locals l m.shows less))
+      (length-set slots k v ∙ m.size_is) round
+      (subst (λ s. Lies classes code.ops (level r s size ∷ levels) (j ∷ rest) end) names h.places.1))) in
       statement_step classes code r store slots locals managers input line (declare x t right) more (j ∷ rest) h.places.0.0
-      (subst (λ l. EndsAs classes code r.output (with_right classes (state r store locals managers input (j ∷ rest)) (Declares x ty) (add_local (Some x) ty) right) (walk classes code l (r.at + 1) 0 [] (work r store slots managers input))) (sym (append_assoc ops (i.Store k ∷ pace) tail)) ends)
+      (subst (λ l. EndsAs classes code r.output (with_right classes (state r store locals managers input (j ∷ rest)) (Declares x ty) (add_local (Some x) ty) right) (walk code l (r.at + 1) 0 [] (work r store slots managers input))) (sym (append_assoc ops (i.Store k ∷ pace) tail)) ends)
 
   -- `x = r;`
   pub sim_set : (x : Variable) (right : Right) → Showing (assign (record { base = x; fields = [] }) right) → Opens classes code → RightOwes classes store locals (scope_of locals) right → Has locals x → Simulated (assign (record { base = x; fields = [] }) right)
@@ -153,17 +153,17 @@ module _ (classes : List Class) (code : Code) (r : Round) (store : List Seen) (s
       let middle = middle_of classes code r store slots locals managers input (Do (stmt line (assign (record { base = x; fields = [] }) right)) ∷ j ∷ rest) h in
       let there : r.at + 1 + length ops + 1 + length pace ≡ end = omega (arith, length-append ops (o ∷ pace)) in
       let ends = right_ends classes code r scope size store (j ∷ rest) (Assigns x) (put_local x) right (o ∷ (pace ++ tail)) (r.at + 1) [] store slots locals managers input round opens middle owes
-        (λ store slots after managers input v m.
-        let place : k ≡ place_in after x = ap (λ s. slot_of s x) (sym m.scope_is) ∙ slot_place after x in
-        let names : scope ≡ scope_of (set_in x v after) = sym (scope_set x v after ∙ m.scope_is) in
-        subst (λ y. EndsAs classes code r.output (Ok (state r store (set_in x v after) managers input (j ∷ rest))) y)
-        (sym (walk-assign classes code scope x (pace ++ tail) (r.at + 1 + length ops) v [] (work r store slots managers input) ∙ walk-pace classes code right tail (r.at + 1 + length ops + 1) [] (work r store (slice_set slots k v) managers input)))
-        (finish_at classes code r store (slice_set slots k v) (set_in x v after) managers input j rest size end (r.at + 1 + length ops + 1 + length pace) there
-        (subst (λ n. ShowsSlots (slice_set slots n v) (set_in x v after)) (sym place) (shows_put slots after x v m.shows (has_still scope locals after x refl m.scope_is has)))
-        (length-set slots k v ∙ m.size_is) round
-        (subst (λ s. Lies classes code.ops (level r s size ∷ levels) (j ∷ rest) end) names h.places.1))) in
+      (λ store slots after managers input v m.
+      let place : k ≡ place_in after x = ap (λ s. slot_of s x) (sym m.scope_is) ∙ slot_place after x in
+      let names : scope ≡ scope_of (set_in x v after) = sym (scope_set x v after ∙ m.scope_is) in
+      subst (λ y. EndsAs classes code r.output (Ok (state r store (set_in x v after) managers input (j ∷ rest))) y)
+      (sym (walk-assign classes code scope x (pace ++ tail) (r.at + 1 + length ops) v [] (work r store slots managers input) ∙ walk-pace classes code right tail (r.at + 1 + length ops + 1) [] (work r store (slice_set slots k v) managers input)))
+      (finish_at classes code r store (slice_set slots k v) (set_in x v after) managers input j rest size end (r.at + 1 + length ops + 1 + length pace) there
+      (subst (λ n. ShowsSlots (slice_set slots n v) (set_in x v after)) (sym place) (shows_put slots after x v m.shows (has_still scope locals after x refl m.scope_is has)))
+      (length-set slots k v ∙ m.size_is) round
+      (subst (λ s. Lies classes code.ops (level r s size ∷ levels) (j ∷ rest) end) names h.places.1))) in
       statement_step classes code r store slots locals managers input line (assign (record { base = x; fields = [] }) right) more (j ∷ rest) h.places.0.0
-      (subst (λ l. EndsAs classes code r.output (with_right classes (state r store locals managers input (j ∷ rest)) (Assigns x) (put_local x) right) (walk classes code l (r.at + 1) 0 [] (work r store slots managers input))) (sym (append_assoc ops (o ∷ pace) tail)) ends)
+      (subst (λ l. EndsAs classes code r.output (with_right classes (state r store locals managers input (j ∷ rest)) (Assigns x) (put_local x) right) (walk code l (r.at + 1) 0 [] (work r store slots managers input))) (sym (append_assoc ops (o ∷ pace) tail)) ends)
 
   -- `q.f = r;`
   pub sim_put : (x : Variable) (f : Name) (fs : List Name) (right : Right) → Showing (assign (record { base = x; fields = f ∷ fs }) right) → Opens classes code → RightOwes classes store locals (scope_of locals) right
@@ -190,18 +190,18 @@ module _ (classes : List Class) (code : Code) (r : Round) (store : List Seen) (s
       let begins : r.at + 1 + length path + 1 ≡ here = omega (arith, length-append path (i.Check ∷ [])) in
       let flat : more ++ tail ≡ path ++ (i.Check ∷ (ops ++ (i.Put k ∷ (pace ++ tail)))) = flat_put path ops pace tail i.Check (i.Put k) in
       let inner : (u : Val) (o : Seen) → path_value classes store locals q ≡ Ok u → object_at store u ≡ Ok o
-          → EndsAs classes code r.output (with_right classes (state r store locals managers input (j ∷ rest)) Drops (put_field classes u g) right) (walk classes code (ops ++ (i.Put k ∷ (pace ++ tail))) (r.at + 1 + length path + 1) 0 (u ∷ []) (work r store slots managers input)) =
-        λ u o led is.
-        subst (λ n. EndsAs classes code r.output (with_right classes (state r store locals managers input (j ∷ rest)) Drops (put_field classes u g) right) (walk classes code (ops ++ (i.Put k ∷ (pace ++ tail))) n 0 (u ∷ []) (work r store slots managers input))) (sym begins)
-        (right_ends classes code r scope size store (j ∷ rest) Drops (put_field classes u g) right (i.Put k ∷ (pace ++ tail)) here (u ∷ []) store slots locals managers input round opens middle owes
-        (λ now slots after managers input v m.
-        subst (λ s. EndsAs classes code r.output (Ok s) (walk classes code (pace ++ tail) (here + length ops + 1) 0 [] (work r (put_in now u k v) slots managers input)))
-        (sym (put_is classes r after managers input (j ∷ rest) store now u o g k v is m.keeps (holds u o led is)))
-        (subst (λ y. EndsAs classes code r.output (Ok (state r (put_in now u k v) after managers input (j ∷ rest))) y) (sym (walk-pace classes code right tail (here + length ops + 1) [] (work r (put_in now u k v) slots managers input)))
-        (finish_at classes code r (put_in now u k v) slots after managers input j rest size end (here + length ops + 1 + length pace) there m.shows m.size_is round
-        (subst (λ s. Lies classes code.ops (level r s size ∷ levels) (j ∷ rest) end) (sym m.scope_is) h.places.1))))) in
+      → EndsAs classes code r.output (with_right classes (state r store locals managers input (j ∷ rest)) Drops (put_field classes u g) right) (walk code (ops ++ (i.Put k ∷ (pace ++ tail))) (r.at + 1 + length path + 1) 0 (u ∷ []) (work r store slots managers input)) =
+      λ u o led is.
+      subst (λ n. EndsAs classes code r.output (with_right classes (state r store locals managers input (j ∷ rest)) Drops (put_field classes u g) right) (walk code (ops ++ (i.Put k ∷ (pace ++ tail))) n 0 (u ∷ []) (work r store slots managers input))) (sym begins)
+      (right_ends classes code r scope size store (j ∷ rest) Drops (put_field classes u g) right (i.Put k ∷ (pace ++ tail)) here (u ∷ []) store slots locals managers input round opens middle owes
+      (λ now slots after managers input v m.
+      subst (λ s. EndsAs classes code r.output (Ok s) (walk code (pace ++ tail) (here + length ops + 1) 0 [] (work r (put_in now u k v) slots managers input)))
+      (sym (put_is classes r after managers input (j ∷ rest) store now u o g k v is m.keeps (holds u o led is)))
+      (subst (λ y. EndsAs classes code r.output (Ok (state r (put_in now u k v) after managers input (j ∷ rest))) y) (sym (walk-pace classes code right tail (here + length ops + 1) [] (work r (put_in now u k v) slots managers input)))
+      (finish_at classes code r (put_in now u k v) slots after managers input j rest size end (here + length ops + 1 + length pace) there m.shows m.size_is round
+      (subst (λ s. Lies classes code.ops (level r s size ∷ levels) (j ∷ rest) end) (sym m.scope_is) h.places.1))))) in
       statement_step classes code r store slots locals managers input line (assign (record { base = x; fields = f ∷ fs }) right) more (j ∷ rest) h.places.0.0
       (subst (λ y. EndsAs classes code r.output (◌>>=◌ (path_value classes store locals q) (λ u. ◌>>◌ (object_at store u) (with_right classes (state r store locals managers input (j ∷ rest)) Drops (put_field classes u g) right))) y)
-      (sym (ap (λ l. walk classes code l (r.at + 1) 0 [] (work r store slots managers input)) flat
+      (sym (ap (λ l. walk code l (r.at + 1) 0 [] (work r store slots managers input)) flat
       ∙ walk-path classes code q locals scope (r.at + 1) (i.Check ∷ (ops ++ (i.Put k ∷ (pace ++ tail)))) [] (work r store slots managers input) (slots_hold scope slots locals h.slots.0 refl) follows))
       (value_ends classes code r.output (path_value classes store locals q) _ _ (λ u led. tested_ends classes code r.output (object_at store u) _ _ (λ o is. inner u o led is))))

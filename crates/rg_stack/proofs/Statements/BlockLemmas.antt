@@ -46,10 +46,11 @@ pub block_end : (classes : List Class) (code : List Op) (l : Level) (ls : List L
     → StandsIn code l here (i.Mark line ∷ i.End (length l.scope) ∷ more)
     → Lies classes code (l ∷ ls) after (behind_end (slice_get code (here + 2)) (here + 2))
     → Lies classes code (record l { scope = block_scope classes l.scope b } ∷ ls) (EndAt (length l.scope) ∷ after) here
-block_end classes code l ls b here line more after h lies =
-    (ap is_mark (get-stands code here (i.Mark line) _ h.0),
-    stands-front code (here + 1) (i.End (length l.scope) ∷ []) more (stands-back code here (i.Mark line ∷ []) (i.End (length l.scope) ∷ more) h.0),
-    subst (λ s. Lies classes code (record l { scope = s } ∷ ls) after (behind_end (slice_get code (here + 2)) (here + 2))) (sym (take-block_scope classes b l.scope)) lies)
+block_end classes code l ls b here line more after h lies = (
+  ap is_mark (get-stands code here (i.Mark line) _ h.0),
+  stands-front code (here + 1) (i.End (length l.scope) ∷ []) more (stands-back code here (i.Mark line ∷ []) (i.End (length l.scope) ∷ more) h.0),
+  subst (λ s. Lies classes code (record l { scope = s } ∷ ls) after (behind_end (slice_get code (here + 2)) (here + 2))) (sym (take-block_scope classes b l.scope)) lies,
+)
 
 -- slots behind the end of a block
 
@@ -97,13 +98,13 @@ module _ (classes : List Class) (code : Code) (r : Round) (store : List Seen) (s
   Showing items = Mirrors classes code (work r store slots managers input).machine (state r store locals managers input items)
 
   abbrev Simulated : List Item → Type 0
-  Simulated items = SameMove classes code r.output (next classes (state r store locals managers input items)) (step classes code (work r store slots managers input))
+  Simulated items = SameMove classes code r.output (next classes (state r store locals managers input items)) (step code (work r store slots managers input))
 
   -- the walk behind the end of a block comes to where its items lie
   last_end : (ops : List Op) (n : ℕ) (w : Work) (after : State) (j : Item) (rest : List Item) (ls : List Level) → slice_get code.ops n ≡ slice_get ops 0
       → Lies classes code.ops ls (j ∷ rest) (behind_end (slice_get ops 0) n)
       → ((end : ℕ) → Lies classes code.ops ls (j ∷ rest) end → EndsAs classes code r.output (Ok after) (Stops end w))
-      → EndsAs classes code r.output (Ok after) (walk classes code ops n 0 [] w)
+      → EndsAs classes code r.output (Ok after) (walk code ops n 0 [] w)
   last_end [] n w after j rest ls is lies go = absurd (true≢false (sym (ap is_mark (sym is) ∙ lies_at_mark classes code.ops ls j rest n lies)))
   last_end (i.Jump t ∷ ops) n w after j rest ls is lies go = go t lies
   last_end (i.Mark l ∷ ops) n w after j rest ls is lies go = go n lies
@@ -112,7 +113,7 @@ module _ (classes : List Class) (code : Code) (r : Round) (store : List Seen) (s
   last_halt : (ops : List Op) (n : ℕ) (w : Work) (after : State) (ls : List Level) → slice_get code.ops n ≡ slice_get ops 0
       → Lies classes code.ops ls [] (behind_end (slice_get ops 0) n)
       → ((end : ℕ) → Lies classes code.ops ls [] end → EndsAs classes code r.output (Ok after) (Stops end w))
-      → EndsAs classes code r.output (Ok after) (walk classes code ops n 0 [] w)
+      → EndsAs classes code r.output (Ok after) (walk code ops n 0 [] w)
   last_halt [] n w after ls is lies go = absurd (true≢false (sym (ap is_halt (sym is ∙ lies))))
   last_halt (i.Jump t ∷ ops) n w after ls is lies go = go t lies
   last_halt (i.Halt ∷ ops) n w after ls is lies go = go n lies
@@ -122,7 +123,7 @@ module _ (classes : List Class) (code : Code) (r : Round) (store : List Seen) (s
   pub last_walk : (n : ℕ) (w : Work) (after : State) (items : List Item) (ls : List Level)
       → Lies classes code.ops ls items (behind_end (slice_get code.ops n) n)
       → ((end : ℕ) → Lies classes code.ops ls items end → EndsAs classes code r.output (Ok after) (Stops end w))
-      → EndsAs classes code r.output (Ok after) (walk classes code (drop n code.ops) n 0 [] w)
+      → EndsAs classes code r.output (Ok after) (walk code (drop n code.ops) n 0 [] w)
   last_walk n w after [] ls lies go =
       last_halt (drop n code.ops) n w after ls (sym (first-drop code.ops n)) (subst (λ o. Lies classes code.ops ls [] (behind_end o n)) (sym (first-drop code.ops n)) lies) go
   last_walk n w after (j ∷ rest) ls lies go =
@@ -137,9 +138,9 @@ module _ (classes : List Class) (code : Code) (r : Round) (store : List Seen) (s
       let front : drop r.at code.ops ≡ i.Mark marked.0 ∷ (i.End k ∷ drop (r.at + 2) code.ops) = marked.1 ∙ ap (λ l. i.Mark marked.0 ∷ l) (drop-stands code.ops (r.at + 1) (i.End k ∷ []) h.places.1 ∙ ap (λ n. i.End k ∷ drop n code.ops) (omega arith)) in
       let names : take k scope ≡ scope_of (take k locals) = take-map (λ (l : Local). record { name = l.name; ty = l.ty }) k locals in
       let at_two : r.at + 1 + 1 ≡ r.at + 2 = omega arith in
-      subst (λ t. SameMove classes code r.output (Went after) t) (sym (ap (step_from classes code (work r store slots managers input)) front))
-      (ended classes code r.output marked.0 (Ok after) (walk classes code (drop (r.at + 2) code.ops) (r.at + 1 + 1) 0 [] w)
-      (subst (λ n. EndsAs classes code r.output (Ok after) (walk classes code (drop (r.at + 2) code.ops) n 0 [] w)) (sym at_two)
+      subst (λ t. SameMove classes code r.output (Went after) t) (sym (ap (step_from code (work r store slots managers input)) front))
+      (ended classes code r.output marked.0 (Ok after) (walk code (drop (r.at + 2) code.ops) (r.at + 1 + 1) 0 [] w)
+      (subst (λ n. EndsAs classes code r.output (Ok after) (walk code (drop (r.at + 2) code.ops) n 0 [] w)) (sym at_two)
       (last_walk (r.at + 2) w after rest (level r (take k scope) (length slots) ∷ levels) h.places.2
       (λ end lies. finish classes code r store (ended_slots k slots) (take k locals) managers input rest (length slots) end (shows_ended k slots locals h.slots.0) (ended-length k slots)
       (round_of classes code r store slots locals managers input (EndAt k ∷ rest) h)
@@ -165,10 +166,10 @@ module _ (classes : List Class) (code : Code) (r : Round) (store : List Seen) (s
       let inside = r.at + 1 + length (whole_code classes (scope_of locals) (r.at + 1) e) + 1 in
       let s = state r store (locals_after e) managers input items in
       let w = work r store (slots_after e) managers input in
-      EndsAs classes code r.output (Ok (into s)) (walk classes code inner inside 0 [] w)
-      → EndsAs classes code r.output (Ok (over s)) (walk classes code inner inside (jump - inside) [] w)
+      EndsAs classes code r.output (Ok (into s)) (walk code inner inside 0 [] w)
+      → EndsAs classes code r.output (Ok (over s)) (walk code inner inside (jump - inside) [] w)
       → EndsAs classes code r.output (◌>>=◌ (computed classes (state r store locals managers input items) e) (λ done. Ok (if as_bool done.1 then into done.0 else over done.0)))
-      (walk classes code (whole_code classes (scope_of locals) (r.at + 1) e ++ (i.JumpFalse jump ∷ inner)) (r.at + 1) 0 [] (work r store slots managers input))
+      (walk code (whole_code classes (scope_of locals) (r.at + 1) e ++ (i.JumpFalse jump ∷ inner)) (r.at + 1) 0 [] (work r store slots managers input))
   test_ends e jump inner items into over shows agrees one two =
       let s = state r store (locals_after e) managers input items in
       subst (λ x. EndsAs classes code r.output (◌>>=◌ (computed classes (state r store locals managers input items) e) (λ done. Ok (if as_bool done.1 then into done.0 else over done.0))) x)
@@ -189,7 +190,7 @@ module _ (classes : List Class) (code : Code) (r : Round) (store : List Seen) (s
   -- a step over a block, to what is done behind the statement
   pub over_block : (e : Expr) (after : List Item) (j : Item) (rest : List Item) (here end : ℕ) → Showing after → here ≡ end
       → Lies classes code.ops (top ∷ levels) (j ∷ rest) end
-      → EndsAs classes code r.output (Ok (state r store (locals_after e) managers input (j ∷ rest))) (walk classes code (drop end code.ops) here 0 [] (work r store (slots_after e) managers input))
+      → EndsAs classes code r.output (Ok (state r store (locals_after e) managers input (j ∷ rest))) (walk code (drop end code.ops) here 0 [] (work r store (slots_after e) managers input))
   over_block e after j rest here end h is lies =
       let m = middle_whole (scope_of locals) (length slots) store store e slots locals (middle_of classes code r store slots locals managers input after h) in
       finish_at classes code r store (slots_after e) (locals_after e) managers input j rest (length slots) end here is m.shows m.size_is (round_of classes code r store slots locals managers input after h)
@@ -219,19 +220,19 @@ module _ (classes : List Class) (code : Code) (r : Round) (store : List Seen) (s
       let closed = back_in code.ops top inside block closing in_block in
       let two_on : inside + length block + 2 ≡ end = to_end in
       let leads : behind_end (slice_get code.ops (inside + length block + 2)) (inside + length block + 2) ≡ end =
-        ap (λ n. behind_end (slice_get code.ops n) n) two_on ∙ behind_mark (slice_get code.ops end) end (lies_at_mark classes code.ops (top ∷ levels) j rest end h.places.1) in
+      ap (λ n. behind_end (slice_get code.ops n) n) two_on ∙ behind_mark (slice_get code.ops end) end (lies_at_mark classes code.ops (top ∷ levels) j rest end h.places.1) in
       let body = lies_block classes code.ops b top levels inside (EndAt (length scope) ∷ j ∷ rest) (front_in code.ops top inside block closing in_block) goes
-        (block_end classes code.ops top levels b (inside + length block) line [] (j ∷ rest) closed (subst (Lies classes code.ops (top ∷ levels) (j ∷ rest)) (sym leads) h.places.1)) in
+      (block_end classes code.ops top levels b (inside + length block) line [] (j ∷ rest) closed (subst (Lies classes code.ops (top ∷ levels) (j ∷ rest)) (sym leads) h.places.1)) in
       let w = work r store (slots_after e) managers input in
       let begins : is_mark (slice_get (inner ++ tail) 0) ≡ true = ap (λ l. is_mark (slice_get l 0)) (append_assoc block closing tail) ∙ block_starts classes scope inside line b (i.End (length scope) ∷ tail) in
       statement_step classes code r store slots locals managers input line (branch e b no_else) more (j ∷ rest) h.places.0.0
-      (subst (λ l. EndsAs classes code r.output (◌>>=◌ (computed classes (state r store locals managers input (j ∷ rest)) e) (λ done. Ok (if as_bool done.1 then begin_block done.0 b else done.0))) (walk classes code l (r.at + 1) 0 [] (work r store slots managers input)))
+      (subst (λ l. EndsAs classes code r.output (◌>>=◌ (computed classes (state r store locals managers input (j ∷ rest)) e) (λ done. Ok (if as_bool done.1 then begin_block done.0 b else done.0))) (walk code l (r.at + 1) 0 [] (work r store slots managers input)))
       (sym (append_assoc test (i.JumpFalse jump ∷ inner) tail))
       (test_ends e jump (inner ++ tail) (j ∷ rest) (λ s. begin_block s b) (λ s. s) h.slots.0 agrees
       (subst (λ x. EndsAs classes code r.output (Ok (begin_block (state r store (locals_after e) managers input (j ∷ rest)) b)) x) (sym (walk_at_mark classes code (inner ++ tail) inside [] w begins))
       (into_block e b (item ∷ j ∷ rest) (length scope) inside h refl (j ∷ rest) body))
       (subst (λ x. EndsAs classes code r.output (Ok (state r store (locals_after e) managers input (j ∷ rest))) x)
-      (sym (ap (λ k. walk classes code (inner ++ tail) inside k [] w) skip ∙ walk-skip classes code inner tail inside [] w))
+      (sym (ap (λ k. walk code (inner ++ tail) inside k [] w) skip ∙ walk-skip classes code inner tail inside [] w))
       (over_block e (item ∷ j ∷ rest) j rest (inside + length inner) end h behind h.places.1))))
 
   -- `if e { .. } else { .. }`
@@ -267,24 +268,24 @@ module _ (classes : List Class) (code : Code) (r : Round) (store : List Seen) (s
       let jumps = get-stands code.ops (inside + length block + 2) (i.Jump target) second (stands-back code.ops (inside + length block) (i.Mark line ∷ i.End (length scope) ∷ []) (i.Jump target ∷ second) closed.0) in
       let first_leads : behind_end (slice_get code.ops (inside + length block + 2)) (inside + length block + 2) ≡ end = ap (λ o. behind_end o (inside + length block + 2)) jumps ∙ to_end in
       let body = lies_block classes code.ops b top levels inside (EndAt (length scope) ∷ j ∷ rest) (front_in code.ops top inside block ending in_block) goes
-        (block_end classes code.ops top levels b (inside + length block) line (i.Jump target ∷ second) (j ∷ rest) closed (subst (Lies classes code.ops (top ∷ levels) (j ∷ rest)) (sym first_leads) h.places.1)) in
+      (block_end classes code.ops top levels b (inside + length block) line (i.Jump target ∷ second) (j ∷ rest) closed (subst (Lies classes code.ops (top ∷ levels) (j ∷ rest)) (sym first_leads) h.places.1)) in
       let other_leads : behind_end (slice_get code.ops (other_at + length other + 2)) (other_at + length other + 2) ≡ end =
-        ap (λ n. behind_end (slice_get code.ops n) n) to_end ∙ behind_mark (slice_get code.ops end) end (lies_at_mark classes code.ops (top ∷ levels) j rest end h.places.1) in
+      ap (λ n. behind_end (slice_get code.ops n) n) to_end ∙ behind_mark (slice_get code.ops end) end (lies_at_mark classes code.ops (top ∷ levels) j rest end h.places.1) in
       let other_body = lies_block classes code.ops c top levels other_at (EndAt (length scope) ∷ j ∷ rest) (front_in code.ops top other_at other closing in_other) also
-        (block_end classes code.ops top levels c (other_at + length other) line [] (j ∷ rest) other_closed (subst (Lies classes code.ops (top ∷ levels) (j ∷ rest)) (sym other_leads) h.places.1)) in
+      (block_end classes code.ops top levels c (other_at + length other) line [] (j ∷ rest) other_closed (subst (Lies classes code.ops (top ∷ levels) (j ∷ rest)) (sym other_leads) h.places.1)) in
       let w = work r store (slots_after e) managers input in
       let begins : is_mark (slice_get (inner ++ tail) 0) ≡ true = ap (λ l. is_mark (slice_get l 0)) (append_assoc block ending tail) ∙ block_starts classes scope inside line b (i.End (length scope) ∷ i.Jump target ∷ (second ++ tail)) in
       let other_begins : is_mark (slice_get (second ++ tail) 0) ≡ true = ap (λ l. is_mark (slice_get l 0)) (append_assoc other closing tail) ∙ block_starts classes scope other_at line c (i.End (length scope) ∷ tail) in
       let apart : inner ++ tail ≡ first_part ++ (second ++ tail) = ap (λ l. l ++ tail) split ∙ append_assoc first_part second tail in
       let skip : jump - inside ≡ length first_part = omega (arith, length-append block (i.Mark line ∷ i.End (length scope) ∷ i.Jump target ∷ [])) in
       statement_step classes code r store slots locals managers input line (branch e b (otherwise c)) more (j ∷ rest) h.places.0.0
-      (subst (λ l. EndsAs classes code r.output (◌>>=◌ (computed classes (state r store locals managers input (j ∷ rest)) e) (λ done. Ok (if as_bool done.1 then begin_block done.0 b else begin_block done.0 c))) (walk classes code l (r.at + 1) 0 [] (work r store slots managers input)))
+      (subst (λ l. EndsAs classes code r.output (◌>>=◌ (computed classes (state r store locals managers input (j ∷ rest)) e) (λ done. Ok (if as_bool done.1 then begin_block done.0 b else begin_block done.0 c))) (walk code l (r.at + 1) 0 [] (work r store slots managers input)))
       (sym (append_assoc test (i.JumpFalse jump ∷ inner) tail))
       (test_ends e jump (inner ++ tail) (j ∷ rest) (λ s. begin_block s b) (λ s. begin_block s c) h.slots.0 agrees
       (subst (λ x. EndsAs classes code r.output (Ok (begin_block (state r store (locals_after e) managers input (j ∷ rest)) b)) x) (sym (walk_at_mark classes code (inner ++ tail) inside [] w begins))
       (into_block e b (item ∷ j ∷ rest) (length scope) inside h refl (j ∷ rest) body))
       (subst (λ x. EndsAs classes code r.output (Ok (begin_block (state r store (locals_after e) managers input (j ∷ rest)) c)) x)
-      (sym (ap (λ k. walk classes code (inner ++ tail) inside k [] w) skip ∙ ap (λ l. walk classes code l inside (length first_part) [] w) apart ∙ walk-skip classes code first_part (second ++ tail) inside [] w ∙ ap (λ n. walk classes code (second ++ tail) n 0 [] w) to_other ∙ walk_at_mark classes code (second ++ tail) other_at [] w other_begins))
+      (sym (ap (λ k. walk code (inner ++ tail) inside k [] w) skip ∙ ap (λ l. walk code l inside (length first_part) [] w) apart ∙ walk-skip classes code first_part (second ++ tail) inside [] w ∙ ap (λ n. walk code (second ++ tail) n 0 [] w) to_other ∙ walk_at_mark classes code (second ++ tail) other_at [] w other_begins))
       (into_block e c (item ∷ j ∷ rest) (length scope) other_at h refl (j ∷ rest) other_body))))
 
   -- `while e { .. }`
@@ -312,17 +313,17 @@ module _ (classes : List Class) (code : Code) (r : Round) (store : List Seen) (s
       let jumps = get-stands code.ops (inside + length block + 2) (i.Jump r.at) [] (stands-back code.ops (inside + length block) (i.Mark line ∷ i.End (length scope) ∷ []) (i.Jump r.at ∷ []) closed.0) in
       let leads : behind_end (slice_get code.ops (inside + length block + 2)) (inside + length block + 2) ≡ r.at = ap (λ o. behind_end o (inside + length block + 2)) jumps in
       let body = lies_block classes code.ops b top levels inside (EndAt (length scope) ∷ item ∷ j ∷ rest) (front_in code.ops top inside block closing in_block) goes
-        (block_end classes code.ops top levels b (inside + length block) line (i.Jump r.at ∷ []) (item ∷ j ∷ rest) closed (subst (Lies classes code.ops (top ∷ levels) (item ∷ j ∷ rest)) (sym leads) h.places)) in
+      (block_end classes code.ops top levels b (inside + length block) line (i.Jump r.at ∷ []) (item ∷ j ∷ rest) closed (subst (Lies classes code.ops (top ∷ levels) (item ∷ j ∷ rest)) (sym leads) h.places)) in
       let w = work r store (slots_after e) managers input in
       let begins : is_mark (slice_get (inner ++ tail) 0) ≡ true = ap (λ l. is_mark (slice_get l 0)) (append_assoc block closing tail) ∙ block_starts classes scope inside line b (i.End (length scope) ∷ i.Jump r.at ∷ tail) in
       statement_step classes code r store slots locals managers input line (while e b) more (j ∷ rest) h.places.0.0
-      (subst (λ l. EndsAs classes code r.output (◌>>=◌ (computed classes (state r store locals managers input (j ∷ rest)) e) (λ done. Ok (if as_bool done.1 then begin_block (record done.0 { items = item ∷ j ∷ rest }) b else done.0))) (walk classes code l (r.at + 1) 0 [] (work r store slots managers input)))
+      (subst (λ l. EndsAs classes code r.output (◌>>=◌ (computed classes (state r store locals managers input (j ∷ rest)) e) (λ done. Ok (if as_bool done.1 then begin_block (record done.0 { items = item ∷ j ∷ rest }) b else done.0))) (walk code l (r.at + 1) 0 [] (work r store slots managers input)))
       (sym (append_assoc test (i.JumpFalse jump ∷ inner) tail))
       (test_ends e jump (inner ++ tail) (j ∷ rest) (λ s. begin_block (record s { items = item ∷ j ∷ rest }) b) (λ s. s) h.slots.0 agrees
       (subst (λ x. EndsAs classes code r.output (Ok (begin_block (state r store (locals_after e) managers input (item ∷ j ∷ rest)) b)) x) (sym (walk_at_mark classes code (inner ++ tail) inside [] w begins))
       (into_block e b (item ∷ j ∷ rest) (length scope) inside h refl (item ∷ j ∷ rest) body))
       (subst (λ x. EndsAs classes code r.output (Ok (state r store (locals_after e) managers input (j ∷ rest))) x)
-      (sym (ap (λ k. walk classes code (inner ++ tail) inside k [] w) skip ∙ walk-skip classes code inner tail inside [] w))
+      (sym (ap (λ k. walk code (inner ++ tail) inside k [] w) skip ∙ walk-skip classes code inner tail inside [] w))
       (over_block e (item ∷ j ∷ rest) j rest (inside + length inner) end h behind h.places.1))))
 
   -- `print e;`
@@ -338,12 +339,12 @@ module _ (classes : List Class) (code : Code) (r : Round) (store : List Seen) (s
       let round = round_of classes code r store slots locals managers input (item ∷ j ∷ rest) h in
       statement_step classes code r store slots locals managers input line (print e) more (j ∷ rest) h.places.0.0
       (subst (λ x. EndsAs classes code r.output (◌>>=◌ (computed classes (state r store locals managers input (j ∷ rest)) e) (λ done. Ok (record done.0 { output = r.output ++ done.1 ∷ [] }))) x)
-      (sym (ap (λ l. walk classes code l (r.at + 1) 0 [] (work r store slots managers input)) (append_assoc whole (i.Print ∷ []) tail) ∙ walk-whole classes code r store managers input e scope slots locals (i.Print ∷ tail) (r.at + 1) [] h.slots.0 refl agrees))
+      (sym (ap (λ l. walk code l (r.at + 1) 0 [] (work r store slots managers input)) (append_assoc whole (i.Print ∷ []) tail) ∙ walk-whole classes code r store managers input e scope slots locals (i.Print ∷ tail) (r.at + 1) [] h.slots.0 refl agrees))
       (computed_ends classes code r.output (value_of classes store locals e) (state r store (locals_after e) managers input (j ∷ rest)) _ _ (λ v is.
       let after = state (record r { output = r.output ++ v ∷ [] }) store (locals_after e) managers input (j ∷ rest) in
       let w = record (work r store (slots_after e) managers input) { printed = Some v } in
       let lies = subst (λ s. Lies classes code.ops (level r s (length slots) ∷ levels) (j ∷ rest) end) (sym m.scope_is) h.places.1 in
-      subst (λ x. EndsAs classes code r.output (Ok after) x) (sym (ap (λ k. walk classes code tail k 0 [] w) there ∙ walk_to_items classes code (level r (scope_of (locals_after e)) (length slots) ∷ levels) j rest end [] w lies))
+      subst (λ x. EndsAs classes code r.output (Ok after) x) (sym (ap (λ k. walk code tail k 0 [] w) there ∙ walk_to_items classes code (level r (scope_of (locals_after e)) (length slots) ∷ levels) j rest end [] w lies))
       (let ended = finish classes code r store (slots_after e) (locals_after e) managers input (j ∷ rest) (length slots) end m.shows m.size_is round lies in
       record {
         mirrors = record { slots = ended.mirrors.slots; windows = ended.mirrors.windows; places = ended.mirrors.places; windows_made = refl; managers = refl; store = refl };

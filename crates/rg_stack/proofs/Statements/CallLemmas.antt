@@ -39,7 +39,7 @@ use Rattle.rg_stack.proofs.Statements.CalledLemmas.{values-length, from_stack, b
 use Rattle.rg_stack.proofs.Walks.SlotLemmas.{ShowsSlots, shows_at, cleared_slots, cleared-length, shows_clears, scope_cleared, used-all}
 use Rattle.rg_stack.proofs.Walks.EndLemmas.{EndsAs, value_ends, object_ends, values_ends, Round, work, state, level, RoundShows, slots_hold, statement_step, walk-clears}
 use Rattle.rg_stack.proofs.Statements.AssignLemmas.{round_of}
-use Rattle.rg_stack.proofs.Statements.WindowLemmas.{as_many}
+use Rattle.rg_stack.proofs.Statements.BaseLemmas.{as_many}
 
 -- Bodies that give a result
 
@@ -67,10 +67,11 @@ lies_gives classes code (more_of (stmt line k) b) l ls at after h (inl g) takes 
 lies_gives classes code (more_of (stmt line k) b) l ls at after h (inr g) takes =
     let first = kind_code classes l.scope at line k in
     let inner = scope_behind classes l.scope k in
-    let others = block_code classes inner (at + length first) b in
-    (front_in code l at first others h,
-    lies_behind classes code l ls (at + length first) k (λ levels here. Lies classes code levels (items_of b after) here) g.0
-    (lies_gives classes code b (record l { scope = inner }) ls (at + length first) after (back_in code l at first others h) g.1 takes))
+    let others = block_code classes inner (at + length first) b in (
+      front_in code l at first others h,
+      lies_behind classes code l ls (at + length first) k (λ levels here. Lies classes code levels (items_of b after) here) g.0
+          (lies_gives classes code b (record l { scope = inner }) ls (at + length first) after (back_in code l at first others h) g.1 takes),
+    )
 
 module _ (classes : List Class) (code : Code) (j : Item) (rest : List Item) where
   -- what lies behind a call: of a method without a result the items, else what takes the result and then the items
@@ -113,13 +114,13 @@ module _ (classes : List Class) (code : Code) (j : Item) (rest : List Item) wher
       → ShowsSlots slots locals → RoundShows r (length slots) → Called d m e → OpenedBelow (length (sizes_of (record { slots = slots; back = r.back } ∷ r.frames))) r.opened
       → length vs ≡ length m.params → Behind m.result target back (level r (scope_of locals) (length slots) ∷ levels_of r.frames r.bodies)
       → EndsAs classes code r.output
-        (Ok (record (state r store locals managers input []) { frames = called_frame classes target m d v vs ∷ record { locals = locals; target = r.target } ∷ r.bodies; items = items_of m.body (method_end m.result ++ j ∷ rest) }))
-        (Stops e.at (record (work r store slots managers input) { machine = record (work r store slots managers input).machine { frames = record { slots = reverse (take e.given (reverse vs ++ v ∷ [])) ++ replicate (e.slots - e.given) val.Nil; back = back } ∷ record { slots = slots; back = r.back } ∷ r.frames } }))
+      (Ok (record (state r store locals managers input []) { frames = called_frame classes target m d v vs ∷ record { locals = locals; target = r.target } ∷ r.bodies; items = items_of m.body (method_end m.result ++ j ∷ rest) }))
+      (Stops e.at (record (work r store slots managers input) { machine = record (work r store slots managers input).machine { frames = record { slots = reverse (take e.given (reverse vs ++ v ∷ [])) ++ replicate (e.slots - e.given) val.Nil; back = back } ∷ record { slots = slots; back = r.back } ∷ r.frames } }))
   frame_ends r store slots locals managers input d m e target v vs back shows round callee below size behind =
       let nils = replicate (e.slots - e.given) val.Nil in
       let whole = reverse (take e.given (reverse vs ++ v ∷ [])) ++ nils in
       let enough : e.slots ≤ length whole =
-        omega (arith, size, callee.given, length-append (reverse (take e.given (reverse vs ++ v ∷ []))) nils, ap length (from_stack v vs e.given (omega (arith, size, callee.given))), length-replicate (e.slots - e.given) val.Nil) in
+      omega (arith, size, callee.given, length-append (reverse (take e.given (reverse vs ++ v ∷ []))) nils, ap length (from_stack v vs e.given (omega (arith, size, callee.given))), length-replicate (e.slots - e.given) val.Nil) in
       let scope = method_scope classes d m in
       let names : scope ≡ scope_of (called_frame classes target m d v vs).locals = bound-scope classes m.params vs (with_slot [] None (Ref m.receiver d)) in
       let ls = level r (scope_of locals) (length slots) ∷ levels_of r.frames r.bodies in
@@ -129,7 +130,7 @@ module _ (classes : List Class) (code : Code) (j : Item) (rest : List Item) wher
           slots = (new_frame d m e target v vs size callee.given, (shows, round.frames));
           windows = subst (λ k. ShowsWindows k r.windows r.opened) (sym (reverse-append (length whole ∷ []) (length slots ∷ map (λ (f : Frame). length f.slots) r.frames))) (windows_above (sizes_of (record { slots = slots; back = r.back } ∷ r.frames)) (length whole) r.windows r.opened below round.windows);
           places = subst (λ s. Lies classes code.ops (record { scope = s; slots = length whole; target = target; back = back } ∷ ls) (items_of m.body (method_end m.result ++ j ∷ rest)) e.at) names
-            (lies_method m.result m.line m.body l ls e.at (callee.stands, callee.room (length whole) enough) callee.fits behind);
+              (lies_method m.result m.line m.body l ls e.at (callee.stands, callee.room (length whole) enough) callee.fits behind);
           windows_made = refl;
           managers = refl;
           store = refl;
@@ -159,7 +160,7 @@ module _ (classes : List Class) (code : Code) (j : Item) (rest : List Item) wher
   pub call_ends : (r : Round) (store : List Seen) (slots : List Val) (locals : List Local) (managers : List Manager) (input : List ℕ) (c : Call) (d : ℕ) (m : Method) (e : Entry) (target : Target) (at : ℕ) (tail : List Op)
       → ShowsSlots slots locals → RoundShows r (length slots) → CallOwes r store slots locals c d m e
       → Behind m.result target (at + length (call_code classes (scope_of locals) at c)) (level r (scope_of locals) (length slots) ∷ levels_of r.frames r.bodies)
-      → EndsAs classes code r.output (step_call classes (state r store locals managers input (j ∷ rest)) target c) (walk classes code (call_code classes (scope_of locals) at c ++ tail) at 0 [] (work r store slots managers input))
+      → EndsAs classes code r.output (step_call classes (state r store locals managers input (j ∷ rest)) target c) (walk code (call_code classes (scope_of locals) at c ++ tail) at 0 [] (work r store slots managers input))
   call_ends r store slots locals managers input c d m e target at tail shows round owes behind =
       let scope = scope_of locals in
       let path = path_code classes scope c.target.base c.target.fields in
@@ -172,7 +173,7 @@ module _ (classes : List Class) (code : Code) (j : Item) (rest : List Item) wher
       let w = work r store slots managers input in
       let here : at + length path + 1 ≡ at + length receiver = omega (arith, length-append path (i.Check ∷ [])) in
       let there : at + length receiver + length exprs + 1 + length (clears used) + 1 ≡ at + length (call_code classes scope at c) =
-        omega (arith, length-append receiver (exprs ++ i.Room ∷ (clears used ++ i.Call n ∷ [])), length-append exprs (i.Room ∷ (clears used ++ i.Call n ∷ [])), length-append (clears used) (i.Call n ∷ [])) in
+      omega (arith, length-append receiver (exprs ++ i.Room ∷ (clears used ++ i.Call n ∷ [])), length-append exprs (i.Room ∷ (clears used ++ i.Call n ∷ [])), length-append (clears used) (i.Call n ∷ [])) in
       let slots_after = cleared_slots used slots in
       let locals_after = cleared us locals in
       let names : scope_of locals_after ≡ scope = scope_cleared us locals in
@@ -180,23 +181,23 @@ module _ (classes : List Class) (code : Code) (j : Item) (rest : List Item) wher
       let size_after : length slots_after ≡ length slots = cleared-length used slots in
       let round_after : RoundShows r (length slots_after) = subst (RoundShows r) (sym size_after) round in
       let below_after : OpenedBelow (length (sizes_of (record { slots = slots_after; back = r.back } ∷ r.frames))) r.opened =
-        subst (λ k. OpenedBelow (length (reverse (k ∷ map (λ (f : Frame). length f.slots) r.frames))) r.opened) (sym size_after) owes.below in
+      subst (λ k. OpenedBelow (length (reverse (k ∷ map (λ (f : Frame). length f.slots) r.frames))) r.opened) (sym size_after) owes.below in
       let inner = exprs ++ (i.Room ∷ (clears used ++ (i.Call n ∷ tail))) in
       subst (λ x. EndsAs classes code r.output (step_call classes s target c) x)
-      (sym (ap (λ l. walk classes code l at 0 [] w) (flat path exprs (clears used) tail i.Check i.Room (i.Call n))
+      (sym (ap (λ l. walk code l at 0 [] w) (flat path exprs (clears used) tail i.Check i.Room (i.Call n))
       ∙ walk-path classes code c.target locals scope at (i.Check ∷ inner) [] w (slots_hold scope slots locals shows refl) owes.follows))
       (value_ends classes code r.output (path_value classes store locals c.target) _ _ (λ v led.
       object_ends classes code r.output (object_at store v) _ _ (λ o is.
-      let done = walk classes code inner (at + length path + 1) 0 (v ∷ []) w in
+      let done = walk code inner (at + length path + 1) 0 (v ∷ []) w in
       subst (λ k. EndsAs classes code r.output (plain_called classes s target c v k (method_named classes k c.method)) done) (sym (owes.class v o led is))
       (subst (λ k. EndsAs classes code r.output (plain_called classes s target c v d k) done) (sym owes.named)
       (subst (λ x. EndsAs classes code r.output (plain_called classes s target c v d (Some m)) x)
-      (sym (ap (λ k. walk classes code inner k 0 (v ∷ []) w) here
+      (sym (ap (λ k. walk code inner k 0 (v ∷ []) w) here
       ∙ walk-exprs classes code c.args locals scope (at + length receiver) (i.Room ∷ (clears used ++ (i.Call n ∷ tail))) (v ∷ []) w (slots_hold scope slots locals shows refl) owes.agrees))
       (values_ends classes code r.output (values_of classes store locals c.args) _ _ (λ vs got.
       let after = record s { frames = called_frame classes target m d v vs ∷ record { locals = locals_after; target = r.target } ∷ r.bodies; items = items_of m.body (method_end m.result ++ j ∷ rest) } in
       let stack = reverse vs ++ v ∷ [] in
-      let goes = walk classes code (clears used ++ (i.Call n ∷ tail)) (at + length receiver + length exprs + 1) 0 stack w in
+      let goes = walk code (clears used ++ (i.Call n ∷ tail)) (at + length receiver + length exprs + 1) 0 stack w in
       subst (λ k. EndsAs classes code r.output (◌>>◌ (test (nat_lt (suc (length r.bodies)) FRAMES) trap.Depth) (Ok after)) (if nat_lt (suc k) FRAMES then goes else Traps trap.Depth)) (sym (as_many r.frames r.bodies round.frames))
       (room_ends (nat_lt (suc (length r.bodies)) FRAMES) r.output after goes
       (subst (λ x. EndsAs classes code r.output (Ok after) x)
@@ -207,7 +208,6 @@ module _ (classes : List Class) (code : Code) (j : Item) (rest : List Item) wher
       (subst (λ k. Behind m.result target k (level r (scope_of locals_after) (length slots_after) ∷ levels_of r.frames r.bodies)) (sym there)
       (subst (λ l. Behind m.result target (at + length (call_code classes scope at c)) (level r l (length slots_after) ∷ levels_of r.frames r.bodies)) (sym names)
       (subst (λ k. Behind m.result target (at + length (call_code classes scope at c)) (level r scope k ∷ levels_of r.frames r.bodies)) (sym size_after) behind)))))))))))))
-
 
   drop_there : (t : Truth) (top : Level) (back : ℕ) → StandsIn code.ops top back (if t then i.Drop ∷ [] else i.Pop ∷ []) → (is_drop (slice_get code.ops back) ≡ true) × (length (if t then i.Drop ∷ [] else i.Pop ∷ []) ≡ 1)
   drop_there true top back h = (ap is_drop (get-stands code.ops back i.Drop [] h.0), refl)
@@ -226,7 +226,7 @@ module _ (classes : List Class) (code : Code) (j : Item) (rest : List Item) wher
     Showing k = Mirrors classes code (work r store slots managers input).machine (state r store locals managers input (Do (stmt line k) ∷ j ∷ rest))
 
     abbrev Simulated : StmtKind → Type 0
-    Simulated k = SameMove classes code r.output (next classes (state r store locals managers input (Do (stmt line k) ∷ j ∷ rest))) (step classes code (work r store slots managers input))
+    Simulated k = SameMove classes code r.output (next classes (state r store locals managers input (Do (stmt line k) ∷ j ∷ rest))) (step code (work r store slots managers input))
 
     -- the class, the method and the entry of the call are those that the code names
     abbrev pub Owed : Type 0
@@ -252,7 +252,7 @@ module _ (classes : List Class) (code : Code) (j : Item) (rest : List Item) wher
         let lies = subst (Lies classes code.ops (top ∷ levels) (j ∷ rest)) end h.places.1 in
         let behind = behind_call m.result top levels back (subst (λ k. StandsIn code.ops top back (dropped_code k)) result stands) (subst (λ k. Lies classes code.ops (top ∷ levels) (j ∷ rest) (back + length (dropped_code k))) result lies) in
         statement_step classes code r store slots locals managers input line (call c) more (j ∷ rest) h.places.0.0
-        (subst (λ l. EndsAs classes code r.output (step_call classes (state r store locals managers input (j ∷ rest)) Drops c) (walk classes code l (r.at + 1) 0 [] (work r store slots managers input))) (sym (append_assoc ops dropped tail))
+        (subst (λ l. EndsAs classes code r.output (step_call classes (state r store locals managers input (j ∷ rest)) Drops c) (walk code l (r.at + 1) 0 [] (work r store slots managers input))) (sym (append_assoc ops dropped tail))
         (call_ends r store slots locals managers input c d m e Drops (r.at + 1) (dropped ++ tail) h.slots.0 (round_of classes code r store slots locals managers input (Do (stmt line (call c)) ∷ j ∷ rest) h) owes behind))
 
     -- `let x: T = call q.m(a, b);`
@@ -274,7 +274,7 @@ module _ (classes : List Class) (code : Code) (j : Item) (rest : List Item) wher
         let lies = subst (Lies classes code.ops (record top { scope = with_slot scope (Some x) (type_of classes t) } ∷ levels) (j ∷ rest)) end h.places.1 in
         let behind : Behind (Some u) target back (top ∷ levels) = (stands, lies) in
         statement_step classes code r store slots locals managers input line (declare x t (result_of c)) more (j ∷ rest) h.places.0.0
-        (subst (λ l. EndsAs classes code r.output (step_call classes (state r store locals managers input (j ∷ rest)) target c) (walk classes code l (r.at + 1) 0 [] (work r store slots managers input))) (sym (append_assoc ops (o ∷ []) tail))
+        (subst (λ l. EndsAs classes code r.output (step_call classes (state r store locals managers input (j ∷ rest)) target c) (walk code l (r.at + 1) 0 [] (work r store slots managers input))) (sym (append_assoc ops (o ∷ []) tail))
         (call_ends r store slots locals managers input c d m e target (r.at + 1) (o ∷ tail) h.slots.0 (round_of classes code r store slots locals managers input (Do (stmt line (declare x t (result_of c))) ∷ j ∷ rest) h) owes
         (subst (λ k. Behind k target back (top ∷ levels)) (sym gives) behind)))
 
@@ -298,6 +298,6 @@ module _ (classes : List Class) (code : Code) (j : Item) (rest : List Item) wher
         let behind : Behind (Some u) target back (top ∷ levels) = (stands, lies) in
         let k = assign (record { base = x; fields = [] }) (result_of c) in
         statement_step classes code r store slots locals managers input line k more (j ∷ rest) h.places.0.0
-        (subst (λ l. EndsAs classes code r.output (step_call classes (state r store locals managers input (j ∷ rest)) target c) (walk classes code l (r.at + 1) 0 [] (work r store slots managers input))) (sym (append_assoc ops (o ∷ []) tail))
+        (subst (λ l. EndsAs classes code r.output (step_call classes (state r store locals managers input (j ∷ rest)) target c) (walk code l (r.at + 1) 0 [] (work r store slots managers input))) (sym (append_assoc ops (o ∷ []) tail))
         (call_ends r store slots locals managers input c d m e target (r.at + 1) (o ∷ tail) h.slots.0 (round_of classes code r store slots locals managers input (Do (stmt line k) ∷ j ∷ rest) h) owes
         (subst (λ k. Behind k target back (top ∷ levels)) (sym gives) behind)))

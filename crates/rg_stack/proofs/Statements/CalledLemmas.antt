@@ -65,4 +65,3 @@ windows_above xs y [] (p ∷ ps) o h = h
 windows_above xs y (w ∷ ws) [] o h = h
 windows_above xs y (w ∷ ws) (p ∷ ps) o h =
     (record { number = h.0.number; region = h.0.region; owner = h.0.owner; base = h.0.base ∙ sym (place_below xs y p.base_frame p.base_place o.0) }, windows_above xs y ws ps o.1 h.1)
-

@@ -21,7 +21,7 @@ use Rattle.rg_code.specs.declared.op.Op.{Op}
 use Rattle.rg_code.specs.Code.{Code}
 use Rattle.rg_code.specs.Lowering.{Scope, slot_of, used_slots, right_code, pace_code, opening_word, opening_words}
 use Rattle.rg_stack.specs.Machine.{Window, value_of_word}
-use Rattle.rg_stack.specs.Effects.{Work, Traps, walk, top_region, top_window, relabel, next_taken}
+use Rattle.rg_stack.specs.Effects.{beneath_by_labels, Work, Traps, walk, top_region, top_window, relabel, next_taken}
 use Rattle.rg_stack.specs.Shows.{ShowsWindows}
 use Rattle.rg_stack.proofs.Walks.WalkLemmas.{Agrees}
 use Rattle.rg_stack.proofs.Walks.SlotLemmas.{ShowsSlots, cleared_slots, shows_clear, scope_set, slot_place}
@@ -114,15 +114,19 @@ middle_store scope n old store after slots locals k m = record { shows = m.shows
 
 pub middle_clear : (scope : Scope) (n : ℕ) (old store : List Seen) (slots : List Val) (locals : List Local) (x : Variable) → Middle scope n old store slots locals → Middle scope n old store (slice_set slots (slot_of scope x) val.Nil) (set_in x val.Nil locals)
 middle_clear scope n old store slots locals x m = record {
-    shows = subst (λ k. ShowsSlots (slice_set slots k val.Nil) (set_in x val.Nil locals)) (sym (slot_place locals x) ∙ ap (λ s. slot_of s x) m.scope_is) (shows_clear slots locals x m.shows);
-    size_is = length-set slots (slot_of scope x) val.Nil ∙ m.size_is;
-    scope_is = scope_set x val.Nil locals ∙ m.scope_is;
-    keeps = m.keeps;
+  shows = subst (λ k. ShowsSlots (slice_set slots k val.Nil) (set_in x val.Nil locals)) (sym (slot_place locals x) ∙ ap (λ s. slot_of s x) m.scope_is) (shows_clear slots locals x m.shows);
+  size_is = length-set slots (slot_of scope x) val.Nil ∙ m.size_is;
+  scope_is = scope_set x val.Nil locals ∙ m.scope_is;
+  keeps = m.keeps;
 }
 
 -- the object to which a variable leads is in a region
 abbrev pub InRegion : List Seen → Val → Type 0
 InRegion store v = (o : Seen) → object_at store v ≡ Ok o → (g : ℕ) × (region_of o.label ≡ Some g)
+
+-- the regions beneath one by labels are those by owner references
+abbrev pub LabelsLead : List Class → List Seen → Type 0
+LabelsLead classes store = (k r : ℕ) (label : Label) → relabelled (beneath_by_labels store k (r ∷ [])) label store ≡ relabelled (beneath classes store k (r ∷ [])) label store
 
 -- what the rules and the invariant give of a right side that makes no call
 abbrev pub RightOwes : List Class → List Seen → List Local → Scope → Right → Type 0
@@ -130,7 +134,7 @@ RightOwes classes store locals scope (value e) = Agrees classes store locals sco
 RightOwes classes store locals scope (new x) = (k : Class) × (class_named classes x ≡ Some k)
 RightOwes classes store locals scope (new_tmp x) = (k : Class) × (class_named classes x ≡ Some k)
 RightOwes classes store locals scope (new_iso x m) = (k : Class) × (class_named classes x ≡ Some k)
-RightOwes classes store locals scope (freeze y) = InRegion store (value_in locals (Some y))
+RightOwes classes store locals scope (freeze y) = InRegion store (value_in locals (Some y)) × LabelsLead classes store
 RightOwes classes store locals scope (merge y) = InRegion store (value_in locals (Some y))
 RightOwes classes store locals scope read = Unit {0}
 RightOwes classes store locals scope more = Unit {0}
@@ -140,23 +144,23 @@ module _ (classes : List Class) (code : Code) (r : Round) (scope : Scope) (n : �
   -- what is done with the value, on both sides
   abbrev pub Then : Use → (tail : List Op) → (end : ℕ) → (stack : List Val) → Type 0
   Then put tail end stack = (store : List Seen) (slots : List Val) (locals : List Local) (managers : List Manager) (input : List ℕ) (v : Val) → Middle scope n old store slots locals
-      → EndsAs classes code r.output (Ok (put (state r store locals managers input items) v)) (walk classes code tail end 0 (v ∷ stack) (work r store slots managers input))
+      → EndsAs classes code r.output (Ok (put (state r store locals managers input items) v)) (walk code tail end 0 (v ∷ stack) (work r store slots managers input))
 
   new_ends : (put : Use) (x : Name) (label : Label) (tail : List Op) (end : ℕ) (stack : List Val) (store : List Seen) (slots : List Val) (locals : List Local) (managers : List Manager) (input : List ℕ)
       → (k : Class) → class_named classes x ≡ Some k
-      → EndsAs classes code r.output (Ok (put (state r (store ++ new_object classes x label ∷ []) locals managers input items) (val.Obj (length store)))) (walk classes code tail end 0 (val.Obj (length store) ∷ stack) (work r (store ++ new_object classes x label ∷ []) slots managers input))
+      → EndsAs classes code r.output (Ok (put (state r (store ++ new_object classes x label ∷ []) locals managers input items) (val.Obj (length store)))) (walk code tail end 0 (val.Obj (length store) ∷ stack) (work r (store ++ new_object classes x label ∷ []) slots managers input))
       → Opens classes code → (here : Label) → here ≡ label
       → EndsAs classes code r.output (Ok (elim (class_named classes x) [ None ↦ state r store locals managers input items | Some c ↦ put (state r (store ++ new_object classes x label ∷ []) locals managers input items) (val.Obj (length store)) ]))
-      (walk classes code tail end 0 (val.Obj (length store) ∷ stack) (work r (store ++ record { class = class_number classes x; fields = map value_of_word (unwrap_or (slice_get code.openings (class_number classes x)) []); label = here } ∷ []) slots managers input))
+      (walk code tail end 0 (val.Obj (length store) ∷ stack) (work r (store ++ record { class = class_number classes x; fields = map value_of_word (unwrap_or (slice_get code.openings (class_number classes x)) []); label = here } ∷ []) slots managers input))
   new_ends put x label tail end stack store slots locals managers input k named h opens here same =
       subst (λ q. EndsAs classes code r.output (Ok (elim (class_named classes x) [ None ↦ state r store locals managers input items | Some c ↦ put (state r (store ++ new_object classes x label ∷ []) locals managers input items) (val.Obj (length store)) ]))
-      (walk classes code tail end 0 (val.Obj (length store) ∷ stack) (work r (store ++ q ∷ []) slots managers input))) (sym (seen_is classes code x k label here opens named same))
+      (walk code tail end 0 (val.Obj (length store) ∷ stack) (work r (store ++ q ∷ []) slots managers input))) (sym (seen_is classes code x k label here opens named same))
       (subst (λ o. EndsAs classes code r.output (Ok (elim o [ None ↦ state r store locals managers input items | Some c ↦ put (state r (store ++ new_object classes x label ∷ []) locals managers input items) (val.Obj (length store)) ]))
-      (walk classes code tail end 0 (val.Obj (length store) ∷ stack) (work r (store ++ new_object classes x label ∷ []) slots managers input))) (sym named) h)
+      (walk code tail end 0 (val.Obj (length store) ∷ stack) (work r (store ++ new_object classes x label ∷ []) slots managers input))) (sym named) h)
 
   read_ends : (put : Use) (next : NextNumber) (tail : List Op) (end : ℕ) (stack : List Val) (store : List Seen) (slots : List Val) (locals : List Local) (managers : List Manager) (input : List ℕ)
       → Middle scope n old store slots locals → Then put tail end stack
-      → EndsAs classes code r.output (taken (state r store locals managers input items) put next) (next_taken next (walk classes code tail end) stack (work r store slots managers input))
+      → EndsAs classes code r.output (taken (state r store locals managers input items) put next) (next_taken next (walk code tail end) stack (work r store slots managers input))
   read_ends put (found z rest) tail end stack store slots locals managers input m go = go store slots locals managers rest (val.Int z) m
   read_ends put malformed tail end stack store slots locals managers input m go = refl
   read_ends put at_end tail end stack store slots locals managers input m go = refl
@@ -167,23 +171,23 @@ module _ (classes : List Class) (code : Code) (r : Round) (scope : Scope) (n : �
       → ((g : ℕ) → plain (Some g) ≡ Some (state r (after g) locals managers input items)) → ((g : ℕ) → shown (Some g) ≡ after g) → ((g : ℕ) → Keeps old (after g))
       → Middle scope n old store slots locals → InRegion store (value_in locals x) → Then put tail end stack
       → EndsAs classes code r.output (◌>>=◌ (object_at store (value_in locals x)) (λ o. Ok (consumed (state r store locals managers input items) put x (plain (region_of o.label)))))
-      (elim (object_at store (unwrap_or (slice_get slots (slot_of scope x)) val.Nil)) [ Ok o ↦ walk classes code tail end 0 (unwrap_or (slice_get slots (slot_of scope x)) val.Nil ∷ stack) (work r (shown (region_of o.label)) (slice_set slots (slot_of scope x) val.Nil) managers input) | Err t ↦ Traps t ])
+      (elim (object_at store (unwrap_or (slice_get slots (slot_of scope x)) val.Nil)) [ Ok o ↦ walk code tail end 0 (unwrap_or (slice_get slots (slot_of scope x)) val.Nil ∷ stack) (work r (shown (region_of o.label)) (slice_set slots (slot_of scope x) val.Nil) managers input) | Err t ↦ Traps t ])
   region_ends put x tail end stack store slots locals managers input plain shown after a b c m owes go =
       subst (λ u. EndsAs classes code r.output (◌>>=◌ (object_at store (value_in locals x)) (λ o. Ok (consumed (state r store locals managers input items) put x (plain (region_of o.label)))))
-      (elim (object_at store u) [ Ok o ↦ walk classes code tail end 0 (u ∷ stack) (work r (shown (region_of o.label)) (slice_set slots (slot_of scope x) val.Nil) managers input) | Err t ↦ Traps t ])) (sym (slots_hold scope slots locals m.shows m.scope_is x))
+      (elim (object_at store u) [ Ok o ↦ walk code tail end 0 (u ∷ stack) (work r (shown (region_of o.label)) (slice_set slots (slot_of scope x) val.Nil) managers input) | Err t ↦ Traps t ])) (sym (slots_hold scope slots locals m.shows m.scope_is x))
       (object_ends classes code r.output (object_at store (value_in locals x)) _ _ (λ o is.
       let g = owes o is in
       let new_store = after g.0 in
-      subst (λ l. EndsAs classes code r.output (Ok (consumed (state r store locals managers input items) put x (plain l))) (walk classes code tail end 0 (value_in locals x ∷ stack) (work r (shown l) (slice_set slots (slot_of scope x) val.Nil) managers input))) (sym g.1)
-      (subst (λ l. EndsAs classes code r.output (Ok (consumed (state r store locals managers input items) put x l)) (walk classes code tail end 0 (value_in locals x ∷ stack) (work r (shown (Some g.0)) (slice_set slots (slot_of scope x) val.Nil) managers input))) (sym (a g.0))
-      (subst (λ l. EndsAs classes code r.output (Ok (put (state r new_store (set_in x val.Nil locals) managers input items) (value_in locals x))) (walk classes code tail end 0 (value_in locals x ∷ stack) (work r l (slice_set slots (slot_of scope x) val.Nil) managers input))) (sym (b g.0))
+      subst (λ l. EndsAs classes code r.output (Ok (consumed (state r store locals managers input items) put x (plain l))) (walk code tail end 0 (value_in locals x ∷ stack) (work r (shown l) (slice_set slots (slot_of scope x) val.Nil) managers input))) (sym g.1)
+      (subst (λ l. EndsAs classes code r.output (Ok (consumed (state r store locals managers input items) put x l)) (walk code tail end 0 (value_in locals x ∷ stack) (work r (shown (Some g.0)) (slice_set slots (slot_of scope x) val.Nil) managers input))) (sym (a g.0))
+      (subst (λ l. EndsAs classes code r.output (Ok (put (state r new_store (set_in x val.Nil locals) managers input items) (value_in locals x))) (walk code tail end 0 (value_in locals x ∷ stack) (work r l (slice_set slots (slot_of scope x) val.Nil) managers input))) (sym (b g.0))
       (go new_store (slice_set slots (slot_of scope x) val.Nil) (set_in x val.Nil locals) managers input (value_in locals x)
       (middle_clear scope n old new_store slots locals x (middle_store scope n old store new_store slots locals (c g.0) m)))))))
 
   pub right_ends : (target : Target) (put : Use) (right : Right) (tail : List Op) (here : ℕ) (stack : List Val) (store : List Seen) (slots : List Val) (locals : List Local) (managers : List Manager) (input : List ℕ)
       → RoundShows r n → Opens classes code → Middle scope n old store slots locals → RightOwes classes store locals scope right
       → Then put tail (here + length (right_code classes scope here right)) stack
-      → EndsAs classes code r.output (with_right classes (state r store locals managers input items) target put right) (walk classes code (right_code classes scope here right ++ tail) here 0 stack (work r store slots managers input))
+      → EndsAs classes code r.output (with_right classes (state r store locals managers input items) target put right) (walk code (right_code classes scope here right ++ tail) here 0 stack (work r store slots managers input))
   right_ends target put (value e) tail here stack store slots locals managers input round opens m owes go =
       subst (λ x. EndsAs classes code r.output (with_right classes (state r store locals managers input items) target put (value e)) x)
       (sym (walk-whole classes code r store managers input e scope slots locals tail here stack m.shows m.scope_is owes))
@@ -205,17 +209,17 @@ module _ (classes : List Class) (code : Code) (r : Round) (scope : Scope) (n : �
       let label = Region (length managers) in
       let q = new_object classes x label in
       let after = state r (store ++ q ∷ []) locals (managers ++ k ∷ []) input items in
-      let goes = λ (q : Seen). walk classes code tail (here + 1) 0 (val.Obj (length store) ∷ stack) (work r (store ++ q ∷ []) slots (managers ++ k ∷ []) input) in
+      let goes = λ (q : Seen). walk code tail (here + 1) 0 (val.Obj (length store) ∷ stack) (work r (store ++ q ∷ []) slots (managers ++ k ∷ []) input) in
       let last : EndsAs classes code r.output (Ok (put after (val.Obj (length store)))) (goes q) = go (store ++ q ∷ []) slots locals (managers ++ k ∷ []) input (val.Obj (length store)) (middle_store scope n old store (store ++ q ∷ []) slots locals (keeps_append old store q m.keeps) m) in
       subst (λ q. EndsAs classes code r.output (with_right classes (state r store locals managers input items) target put (new_iso x k)) (goes q)) (sym (seen_is classes code x owes.0 label label opens owes.1 refl))
       (subst (λ o. EndsAs classes code r.output (Ok (elim o [ None ↦ state r store locals managers input items | Some c ↦ put after (val.Obj (length store)) ])) (goes q)) (sym owes.1) last)
   right_ends target put (freeze y) tail here stack store slots locals managers input round opens m owes go =
       region_ends put (Some y) tail (here + 1) stack store slots locals managers input
-      (option_map (frozen classes (state r store locals managers input items))) (relabel classes true Frozen (work r store slots managers input)) (λ g. relabelled (beneath classes store (length managers) (g ∷ [])) Frozen store)
-      (λ g. refl) (λ g. refl) (λ g. keeps_relabelled old store (beneath classes store (length managers) (g ∷ [])) Frozen m.keeps) m owes go
+      (option_map (frozen classes (state r store locals managers input items))) (relabel true Frozen (work r store slots managers input)) (λ g. relabelled (beneath classes store (length managers) (g ∷ [])) Frozen store)
+      (λ g. refl) (λ g. owes.1 (length managers) g Frozen) (λ g. keeps_relabelled old store (beneath classes store (length managers) (g ∷ [])) Frozen m.keeps) m owes.0 go
   right_ends target put (merge y) tail here stack store slots locals managers input round opens m owes go =
       region_ends put (Some y) tail (here + 1) stack store slots locals managers input
-      (option_map (merged (state r store locals managers input items))) (relabel classes false (Region (top_region r.windows)) (work r store slots managers input)) (λ g. relabelled (g ∷ []) (Region (active r.opened)) store)
+      (option_map (merged (state r store locals managers input items))) (relabel false (Region (top_region r.windows)) (work r store slots managers input)) (λ g. relabelled (g ∷ []) (Region (active r.opened)) store)
       (λ g. refl) (λ g. ap (λ k. relabelled (g ∷ []) (Region k) store) (same_region _ r.windows r.opened round.windows)) (λ g. keeps_relabelled old store (g ∷ []) (Region (active r.opened)) m.keeps) m owes go
   right_ends target put read tail here stack store slots locals managers input round opens m owes go =
       read_ends put (next_number input) tail (here + 1) stack store slots locals managers input m go
@@ -224,13 +228,13 @@ module _ (classes : List Class) (code : Code) (r : Round) (scope : Scope) (n : �
   right_ends target put (result_of c) tail here stack store slots locals managers input round opens m owes go = absurd owes
 
 -- what comes last where an object is made
-pub walk-pace : (classes : List Class) (code : Code) (right : Right) (rest : List Op) (here : ℕ) (stack : List Val) (w : Work) → walk classes code (pace_code right ++ rest) here 0 stack w ≡ walk classes code rest (here + length (pace_code right)) 0 stack w
-walk-pace classes code (value e) rest here stack w = let e : here ≡ here + 0 = omega arith in ap (λ n. walk classes code rest n 0 stack w) e
+pub walk-pace : (classes : List Class) (code : Code) (right : Right) (rest : List Op) (here : ℕ) (stack : List Val) (w : Work) → walk code (pace_code right ++ rest) here 0 stack w ≡ walk code rest (here + length (pace_code right)) 0 stack w
+walk-pace classes code (value e) rest here stack w = let e : here ≡ here + 0 = omega arith in ap (λ n. walk code rest n 0 stack w) e
 walk-pace classes code (new x) rest here stack w = refl
-walk-pace classes code (new_tmp x) rest here stack w = let e : here ≡ here + 0 = omega arith in ap (λ n. walk classes code rest n 0 stack w) e
-walk-pace classes code (new_iso x m) rest here stack w = let e : here ≡ here + 0 = omega arith in ap (λ n. walk classes code rest n 0 stack w) e
-walk-pace classes code (freeze y) rest here stack w = let e : here ≡ here + 0 = omega arith in ap (λ n. walk classes code rest n 0 stack w) e
-walk-pace classes code (merge y) rest here stack w = let e : here ≡ here + 0 = omega arith in ap (λ n. walk classes code rest n 0 stack w) e
-walk-pace classes code read rest here stack w = let e : here ≡ here + 0 = omega arith in ap (λ n. walk classes code rest n 0 stack w) e
-walk-pace classes code more rest here stack w = let e : here ≡ here + 0 = omega arith in ap (λ n. walk classes code rest n 0 stack w) e
-walk-pace classes code (result_of c) rest here stack w = let e : here ≡ here + 0 = omega arith in ap (λ n. walk classes code rest n 0 stack w) e
+walk-pace classes code (new_tmp x) rest here stack w = let e : here ≡ here + 0 = omega arith in ap (λ n. walk code rest n 0 stack w) e
+walk-pace classes code (new_iso x m) rest here stack w = let e : here ≡ here + 0 = omega arith in ap (λ n. walk code rest n 0 stack w) e
+walk-pace classes code (freeze y) rest here stack w = let e : here ≡ here + 0 = omega arith in ap (λ n. walk code rest n 0 stack w) e
+walk-pace classes code (merge y) rest here stack w = let e : here ≡ here + 0 = omega arith in ap (λ n. walk code rest n 0 stack w) e
+walk-pace classes code read rest here stack w = let e : here ≡ here + 0 = omega arith in ap (λ n. walk code rest n 0 stack w) e
+walk-pace classes code more rest here stack w = let e : here ≡ here + 0 = omega arith in ap (λ n. walk code rest n 0 stack w) e
+walk-pace classes code (result_of c) rest here stack w = let e : here ≡ here + 0 = omega arith in ap (λ n. walk code rest n 0 stack w) e

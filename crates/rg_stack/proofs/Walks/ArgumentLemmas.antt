@@ -45,19 +45,19 @@ first_then (Err t) r f g h = refl
 module _ (classes : List Class) (code : Code) where
   pub walk-exprs : (es : List Expr) (locals : List Local) (scope : Scope) (at : ℕ) (rest : List Op) (stack : List Val) (w : Work)
       → ((x : Variable) → slot_at w.machine (slot_of scope x) ≡ value_in locals x) → AllAgree classes w.machine.store locals scope es
-      → walk classes code (exprs_code classes scope at es ++ rest) at 0 stack w
-      ≡ with_values (values_of classes w.machine.store locals es) (λ vs. walk classes code rest (at + length (exprs_code classes scope at es)) 0 (reverse vs ++ stack) w)
-  walk-exprs [] locals scope at rest stack w slots h = let e : at ≡ at + 0 = omega arith in ap (λ n. walk classes code rest n 0 stack w) e
+      → walk code (exprs_code classes scope at es ++ rest) at 0 stack w
+      ≡ with_values (values_of classes w.machine.store locals es) (λ vs. walk code rest (at + length (exprs_code classes scope at es)) 0 (reverse vs ++ stack) w)
+  walk-exprs [] locals scope at rest stack w slots h = let e : at ≡ at + 0 = omega arith in ap (λ n. walk code rest n 0 stack w) e
   walk-exprs (x ∷ es) locals scope at rest stack w slots h =
       let first = expr_code classes scope at x in
       let others = exprs_code classes scope (at + length first) es in
       let e : at + length first + length others ≡ at + length (first ++ others) = omega (arith, length-append first others) in
-      ap (λ l. walk classes code l at 0 stack w) (append_assoc first others rest)
+      ap (λ l. walk code l at 0 stack w) (append_assoc first others rest)
       ∙ walk-expr classes code x locals scope at (others ++ rest) stack w slots h.0
       ∙ first_then (value_of classes w.machine.store locals x) (values_of classes w.machine.store locals es)
-      (λ v. walk classes code (others ++ rest) (at + length first) 0 (v ∷ stack) w)
-      (λ vs. walk classes code rest (at + length (first ++ others)) 0 (reverse vs ++ stack) w)
+      (λ v. walk code (others ++ rest) (at + length first) 0 (v ∷ stack) w)
+      (λ vs. walk code rest (at + length (first ++ others)) 0 (reverse vs ++ stack) w)
       (λ v. walk-exprs es locals scope (at + length first) rest (v ∷ stack) w slots h.1
       ∙ each_list (values_of classes w.machine.store locals es) _ _ (λ vs.
-      ap (λ n. walk classes code rest n 0 (reverse vs ++ v ∷ stack) w) e
-      ∙ ap (λ s. walk classes code rest (at + length (first ++ others)) 0 s w) (sym (ap (λ r. r ++ stack) (reverse-append (v ∷ []) vs) ∙ append_assoc (reverse vs) (v ∷ []) stack))))
+      ap (λ n. walk code rest n 0 (reverse vs ++ v ∷ stack) w) e
+      ∙ ap (λ s. walk code rest (at + length (first ++ others)) 0 s w) (sym (ap (λ r. r ++ stack) (reverse-append (v ∷ []) vs) ∙ append_assoc (reverse vs) (v ∷ []) stack))))

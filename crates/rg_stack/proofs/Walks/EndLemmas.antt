@@ -39,7 +39,7 @@ Landed classes code before p Stuck = ⊥
 -- a walk ends as a step does
 abbrev pub EndsAs : List Class → Code → (before : List Val) → Result State Trap → Walked → Type 0
 EndsAs classes code before (Ok p) (Stops at w) = Landed classes code before p (Stops at w)
-EndsAs classes code before (Ok p) (Returns back stack w) = Landed classes code before p (walk classes code (drop back code.ops) back 0 stack w)
+EndsAs classes code before (Ok p) (Returns back stack w) = Landed classes code before p (walk code (drop back code.ops) back 0 stack w)
 EndsAs classes code before (Ok p) (Traps t) = ⊥
 EndsAs classes code before (Ok p) Stuck = ⊥
 EndsAs classes code before (Err t) (Stops at w) = ⊥
@@ -69,9 +69,9 @@ landed_same classes code before p (Returns back stack w) h = absurd h
 landed_same classes code before p (Traps t) h = absurd h
 landed_same classes code before p Stuck h = absurd h
 
-pub ended : (classes : List Class) (code : Code) (before : List Val) (line : ℕ) (r : Result State Trap) (x : Walked) → EndsAs classes code before r x → SameMove classes code before (stepped line r) (finished classes code line x)
+pub ended : (classes : List Class) (code : Code) (before : List Val) (line : ℕ) (r : Result State Trap) (x : Walked) → EndsAs classes code before r x → SameMove classes code before (stepped line r) (finished code line x)
 ended classes code before line (Ok p) (Stops at w) h = comes classes code before at w p h
-ended classes code before line (Ok p) (Returns back stack w) h = landed_same classes code before p (walk classes code (drop back code.ops) back 0 stack w) h
+ended classes code before line (Ok p) (Returns back stack w) h = landed_same classes code before p (walk code (drop back code.ops) back 0 stack w) h
 ended classes code before line (Ok p) (Traps t) h = absurd h
 ended classes code before line (Ok p) Stuck h = absurd h
 ended classes code before line (Err t) (Stops at w) h = absurd h
@@ -169,45 +169,45 @@ finish classes code r store slots locals managers input items n end shows size r
 pub finish_at : (classes : List Class) (code : Code) (r : Round) (store : List Seen) (slots : List Val) (locals : List Local) (managers : List Manager) (input : List ℕ) (j : Item) (rest : List Item) (n end here : ℕ)
     → here ≡ end → ShowsSlots slots locals → length slots ≡ n → RoundShows r n
     → Lies classes code.ops (level r (scope_of locals) n ∷ levels_of r.frames r.bodies) (j ∷ rest) end
-    → EndsAs classes code r.output (Ok (state r store locals managers input (j ∷ rest))) (walk classes code (drop end code.ops) here 0 [] (work r store slots managers input))
+    → EndsAs classes code r.output (Ok (state r store locals managers input (j ∷ rest))) (walk code (drop end code.ops) here 0 [] (work r store slots managers input))
 finish_at classes code r store slots locals managers input j rest n end here is shows size round lies =
     subst (λ x. EndsAs classes code r.output (Ok (state r store locals managers input (j ∷ rest))) x)
-    (sym (ap (λ k. walk classes code (drop end code.ops) k 0 [] (work r store slots managers input)) is ∙ walk_to_items classes code (level r (scope_of locals) n ∷ levels_of r.frames r.bodies) j rest end [] (work r store slots managers input) lies))
+    (sym (ap (λ k. walk code (drop end code.ops) k 0 [] (work r store slots managers input)) is ∙ walk_to_items classes code (level r (scope_of locals) n ∷ levels_of r.frames r.bodies) j rest end [] (work r store slots managers input) lies))
     (finish classes code r store slots locals managers input (j ∷ rest) n end shows size round lies)
 
 -- a statement's step from how its walk ends
 pub statement_step : (classes : List Class) (code : Code) (r : Round) (store : List Seen) (slots : List Val) (locals : List Local) (managers : List Manager) (input : List ℕ) (line : ℕ) (k : StmtKind) (more : List Op) (rest : List Item)
     → Stands code.ops r.at (i.Mark line ∷ more)
-    → EndsAs classes code r.output (step_kind classes (state r store locals managers input rest) line k) (walk classes code (more ++ drop (r.at + length (i.Mark line ∷ more)) code.ops) (r.at + 1) 0 [] (work r store slots managers input))
-    → SameMove classes code r.output (stepped line (step_kind classes (state r store locals managers input rest) line k)) (step classes code (work r store slots managers input))
+    → EndsAs classes code r.output (step_kind classes (state r store locals managers input rest) line k) (walk code (more ++ drop (r.at + length (i.Mark line ∷ more)) code.ops) (r.at + 1) 0 [] (work r store slots managers input))
+    → SameMove classes code r.output (stepped line (step_kind classes (state r store locals managers input rest) line k)) (step code (work r store slots managers input))
 statement_step classes code r store slots locals managers input line k more rest stands h =
     subst (λ t. SameMove classes code r.output (stepped line (step_kind classes (state r store locals managers input rest) line k)) t)
-    (sym (ap (step_from classes code (work r store slots managers input)) (drop-stands code.ops r.at (i.Mark line ∷ more) stands)))
-    (ended classes code r.output line (step_kind classes (state r store locals managers input rest) line k) (walk classes code (more ++ drop (r.at + length (i.Mark line ∷ more)) code.ops) (r.at + 1) 0 [] (work r store slots managers input)) h)
+    (sym (ap (step_from code (work r store slots managers input)) (drop-stands code.ops r.at (i.Mark line ∷ more) stands)))
+    (ended classes code r.output line (step_kind classes (state r store locals managers input rest) line k) (walk code (more ++ drop (r.at + length (i.Mark line ∷ more)) code.ops) (r.at + 1) 0 [] (work r store slots managers input)) h)
 
 -- slots that are cleared in order
 pub walk-clears : (classes : List Class) (code : Code) (r : Round) (store : List Seen) (managers : List Manager) (input : List ℕ) (us : List ℕ) (slots : List Val) (rest : List Op) (here : ℕ) (stack : List Val)
-    → walk classes code (clears us ++ rest) here 0 stack (work r store slots managers input) ≡ walk classes code rest (here + length (clears us)) 0 stack (work r store (cleared_slots us slots) managers input)
-walk-clears classes code r store managers input [] slots rest here stack = let e : here ≡ here + 0 = omega arith in ap (λ n. walk classes code rest n 0 stack (work r store slots managers input)) e
+    → walk code (clears us ++ rest) here 0 stack (work r store slots managers input) ≡ walk code rest (here + length (clears us)) 0 stack (work r store (cleared_slots us slots) managers input)
+walk-clears classes code r store managers input [] slots rest here stack = let e : here ≡ here + 0 = omega arith in ap (λ n. walk code rest n 0 stack (work r store slots managers input)) e
 walk-clears classes code r store managers input (u ∷ us) slots rest here stack =
     let e : here + 1 + length (clears us) ≡ here + length (clears (u ∷ us)) = omega arith in
     walk-clears classes code r store managers input us (slice_set slots u val.Nil) rest (here + 1) stack
-    ∙ ap (λ n. walk classes code rest n 0 stack (work r store (cleared_slots (u ∷ us) slots) managers input)) e
+    ∙ ap (λ n. walk code rest n 0 stack (work r store (cleared_slots (u ∷ us) slots) managers input)) e
 
 -- a whole expression
 pub walk-whole : (classes : List Class) (code : Code) (r : Round) (store : List Seen) (managers : List Manager) (input : List ℕ) (e : Expr) (scope : Scope) (slots : List Val) (locals : List Local) (rest : List Op) (here : ℕ) (stack : List Val)
     → ShowsSlots slots locals → scope_of locals ≡ scope → Agrees classes store locals scope e
-    → walk classes code (whole_code classes scope here e ++ rest) here 0 stack (work r store slots managers input)
-    ≡ with_value (value_of classes store locals e) (λ v. walk classes code rest (here + length (whole_code classes scope here e)) 0 (v ∷ stack) (work r store (cleared_slots (used_slots scope e) slots) managers input))
+    → walk code (whole_code classes scope here e ++ rest) here 0 stack (work r store slots managers input)
+    ≡ with_value (value_of classes store locals e) (λ v. walk code rest (here + length (whole_code classes scope here e)) 0 (v ∷ stack) (work r store (cleared_slots (used_slots scope e) slots) managers input))
 walk-whole classes code r store managers input e scope slots locals rest here stack shows is agrees =
     let ops = expr_code classes scope here e in
     let us = used_slots scope e in
     let end : here + length ops + length (clears us) ≡ here + length (ops ++ clears us) = omega (arith, length-append ops (clears us)) in
-    ap (λ l. walk classes code l here 0 stack (work r store slots managers input)) (append_assoc ops (clears us) rest)
+    ap (λ l. walk code l here 0 stack (work r store slots managers input)) (append_assoc ops (clears us) rest)
     ∙ walk-expr classes code e locals scope here (clears us ++ rest) stack (work r store slots managers input) (slots_hold scope slots locals shows is) agrees
     ∙ each_value (value_of classes store locals e) _ _ (λ v got.
     walk-clears classes code r store managers input us slots rest (here + length ops) (v ∷ stack)
-    ∙ ap (λ n. walk classes code rest n 0 (v ∷ stack) (work r store (cleared_slots us slots) managers input)) end)
+    ∙ ap (λ n. walk code rest n 0 (v ∷ stack) (work r store (cleared_slots us slots) managers input)) end)
 
 -- the middle of a step behind a whole expression
 pub middle_whole : (scope : Scope) (n : ℕ) (old store : List Seen) (e : Expr) (slots : List Val) (locals : List Local) → Middle scope n old store slots locals

@@ -58,7 +58,7 @@ starts classes scope at line collect more = refl
 starts classes scope at line (return e) more = refl
 
 -- a walk ends at a mark
-pub walk_at_mark : (classes : List Class) (code : Code) (ops : List Op) (at : ℕ) (stack : List Val) (w : Work) → is_mark (slice_get ops 0) ≡ true → walk classes code ops at 0 stack w ≡ Stops at w
+pub walk_at_mark : (classes : List Class) (code : Code) (ops : List Op) (at : ℕ) (stack : List Val) (w : Work) → is_mark (slice_get ops 0) ≡ true → walk code ops at 0 stack w ≡ Stops at w
 walk_at_mark classes code [] at stack w e = absurd (true≢false (sym e))
 walk_at_mark classes code (i.Mark line ∷ ops) at stack w e = refl
 walk_at_mark classes code (o ∷ ops) at stack w e = absurd (true≢false (sym e))
@@ -78,7 +78,7 @@ lies_at_mark classes code (l ∷ ls) (LeaveAt k) rest at h = h.0
 lies_at_mark classes code (l ∷ ls) Back rest at h = h.0
 
 -- a walk ends where items begin
-pub walk_to_items : (classes : List Class) (code : Code) (ls : List Level) (j : Item) (rest : List Item) (at : ℕ) (stack : List Val) (w : Work) → Lies classes code.ops ls (j ∷ rest) at → walk classes code (drop at code.ops) at 0 stack w ≡ Stops at w
+pub walk_to_items : (classes : List Class) (code : Code) (ls : List Level) (j : Item) (rest : List Item) (at : ℕ) (stack : List Val) (w : Work) → Lies classes code.ops ls (j ∷ rest) at → walk code (drop at code.ops) at 0 stack w ≡ Stops at w
 walk_to_items classes code ls j rest at stack w h = walk_at_mark classes code (drop at code.ops) at stack w (ap is_mark (first-drop code.ops at) ∙ lies_at_mark classes code.ops ls j rest at h)
 
 -- a mark that stands somewhere, and what is behind it

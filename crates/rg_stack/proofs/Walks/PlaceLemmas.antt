@@ -92,11 +92,12 @@ lies_block classes code (next (stmt line k) b) l ls at after h g behind =
     let first = kind_code classes l.scope at line k in
     let inner = scope_behind classes l.scope k in
     let others = block_code classes inner (at + length first) b in
-    let e : at + length (first ++ others) ≡ at + length first + length others = omega (arith, length-append first others) in
-    (front_in code l at first others h,
-    lies_behind classes code l ls (at + length first) k (λ levels here. Lies classes code levels (items_of b after) here) g.0
-    (lies_block classes code b (record l { scope = inner }) ls (at + length first) after (back_in code l at first others h) g.1
-    (subst (Lies classes code (record l { scope = block_scope classes inner b } ∷ ls) after) e behind)))
+    let e : at + length (first ++ others) ≡ at + length first + length others = omega (arith, length-append first others) in (
+      front_in code l at first others h,
+      lies_behind classes code l ls (at + length first) k (λ levels here. Lies classes code levels (items_of b after) here) g.0
+          (lies_block classes code b (record l { scope = inner }) ls (at + length first) after (back_in code l at first others h) g.1
+          (subst (Lies classes code (record l { scope = block_scope classes inner b } ∷ ls) after) e behind)),
+    )
 
 -- a statement only adds variables
 extends_kind : (classes : List Class) (k : StmtKind) (scope : Scope) → (more : Scope) × (scope_behind classes scope k ≡ scope ++ more)
@@ -121,7 +122,6 @@ extends classes (next (stmt line k) b) scope =
 -- the variables in front of a block stay behind it
 pub take-block_scope : (classes : List Class) (b : Block) (scope : Scope) → take (length scope) (block_scope classes scope b) ≡ scope
 take-block_scope classes b scope = let h = extends classes b scope in ap (take (length scope)) h.1 ∙ take-append_seam scope h.0
-
 
 -- the instruction where one stands
 pub get-stands : (code : List Op) (at : ℕ) (o : Op) (more : List Op) → Stands code at (o ∷ more) → slice_get code at ≡ Some o

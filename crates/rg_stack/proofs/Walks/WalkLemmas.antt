@@ -93,73 +93,73 @@ and_both v y e = ap (λ t. Ok (val.Bool t)) (and_by (as_bool v) (as_bool y) e)
 
 module _ (classes : List Class) (code : Code) where
   -- instructions are passed over
-  pub walk-skip : (xs rest : List Op) (at : ℕ) (stack : List Val) (w : Work) → walk classes code (xs ++ rest) at (length xs) stack w ≡ walk classes code rest (at + length xs) 0 stack w
-  walk-skip [] rest at stack w = let e : at ≡ at + 0 = omega arith in ap (λ n. walk classes code rest n 0 stack w) e
+  pub walk-skip : (xs rest : List Op) (at : ℕ) (stack : List Val) (w : Work) → walk code (xs ++ rest) at (length xs) stack w ≡ walk code rest (at + length xs) 0 stack w
+  walk-skip [] rest at stack w = let e : at ≡ at + 0 = omega arith in ap (λ n. walk code rest n 0 stack w) e
   walk-skip (x ∷ xs) rest at stack w =
       let e : at + 1 + length xs ≡ at + length (x ∷ xs) = omega arith in
-      walk-skip xs rest (at + 1) stack w ∙ ap (λ n. walk classes code rest n 0 stack w) e
+      walk-skip xs rest (at + 1) stack w ∙ ap (λ n. walk code rest n 0 stack w) e
 
   -- another address
-  at_address : (rest : List Op) (stack : List Val) (w : Work) (c : Computed) (m n : ℕ) → m ≡ n → with_value c (λ u. walk classes code rest m 0 (u ∷ stack) w) ≡ with_value c (λ u. walk classes code rest n 0 (u ∷ stack) w)
-  at_address rest stack w c m n e = ap (λ k. with_value c (λ u. walk classes code rest k 0 (u ∷ stack) w)) e
+  at_address : (rest : List Op) (stack : List Val) (w : Work) (c : Computed) (m n : ℕ) → m ≡ n → with_value c (λ u. walk code rest m 0 (u ∷ stack) w) ≡ with_value c (λ u. walk code rest n 0 (u ∷ stack) w)
+  at_address rest stack w c m n e = ap (λ k. with_value c (λ u. walk code rest k 0 (u ∷ stack) w)) e
 
-  pub walk-fields : (fs : List Name) (t : Ty) (v : Val) (at : ℕ) (rest : List Op) (stack : List Val) (w : Work) → Follows classes w.machine.store t v fs → walk classes code (fields_code classes t fs ++ rest) at 0 (v ∷ stack) w ≡ with_value (follow_fields classes w.machine.store v fs) (λ u. walk classes code rest (at + length (fields_code classes t fs)) 0 (u ∷ stack) w)
-  walk-fields [] t v at rest stack w h = let e : at ≡ at + 0 = omega arith in ap (λ n. walk classes code rest n 0 (v ∷ stack) w) e
+  pub walk-fields : (fs : List Name) (t : Ty) (v : Val) (at : ℕ) (rest : List Op) (stack : List Val) (w : Work) → Follows classes w.machine.store t v fs → walk code (fields_code classes t fs ++ rest) at 0 (v ∷ stack) w ≡ with_value (follow_fields classes w.machine.store v fs) (λ u. walk code rest (at + length (fields_code classes t fs)) 0 (u ∷ stack) w)
+  walk-fields [] t v at rest stack w h = let e : at ≡ at + 0 = omega arith in ap (λ n. walk code rest n 0 (v ∷ stack) w) e
   walk-fields (f ∷ fs) t v at rest stack w h =
       let more = fields_code classes (type_behind classes t f) fs in
       let e : at + 1 + length more ≡ at + length (i.Field (field_number classes t f) ∷ more) = omega arith in
       object_then (object_at w.machine.store v)
-      (λ o. walk classes code (more ++ rest) (at + 1) 0 (unwrap_or (slice_get o.fields (field_number classes t f)) val.Nil ∷ stack) w)
+      (λ o. walk code (more ++ rest) (at + 1) 0 (unwrap_or (slice_get o.fields (field_number classes t f)) val.Nil ∷ stack) w)
       (λ o. follow_fields classes w.machine.store (field_value classes o f) fs)
-      (λ u. walk classes code rest (at + length (i.Field (field_number classes t f) ∷ more)) 0 (u ∷ stack) w)
+      (λ u. walk code rest (at + length (i.Field (field_number classes t f) ∷ more)) 0 (u ∷ stack) w)
       (λ o there.
-      ap (λ u. walk classes code (more ++ rest) (at + 1) 0 (u ∷ stack) w) (sym ((h o there).0))
+      ap (λ u. walk code (more ++ rest) (at + 1) 0 (u ∷ stack) w) (sym ((h o there).0))
       ∙ walk-fields fs (type_behind classes t f) (field_value classes o f) (at + 1) rest stack w (h o there).1
       ∙ at_address rest stack w (follow_fields classes w.machine.store (field_value classes o f) fs) _ _ e)
 
   pub walk-path : (p : Path) (locals : List Local) (scope : Scope) (at : ℕ) (rest : List Op) (stack : List Val) (w : Work)
       → ((x : Variable) → slot_at w.machine (slot_of scope x) ≡ value_in locals x) → FollowsPath classes w.machine.store locals scope p
-      → walk classes code (path_code classes scope p.base p.fields ++ rest) at 0 stack w
-      ≡ with_value (path_value classes w.machine.store locals p) (λ u. walk classes code rest (at + length (path_code classes scope p.base p.fields)) 0 (u ∷ stack) w)
+      → walk code (path_code classes scope p.base p.fields ++ rest) at 0 stack w
+      ≡ with_value (path_value classes w.machine.store locals p) (λ u. walk code rest (at + length (path_code classes scope p.base p.fields)) 0 (u ∷ stack) w)
   walk-path p locals scope at rest stack w slots h =
       let more = fields_code classes (type_in scope p.base) p.fields in
       let e : at + 1 + length more ≡ at + length (i.Load (slot_of scope p.base) ∷ more) = omega arith in
-      ap (λ u. walk classes code (more ++ rest) (at + 1) 0 (u ∷ stack) w) (slots p.base)
+      ap (λ u. walk code (more ++ rest) (at + 1) 0 (u ∷ stack) w) (slots p.base)
       ∙ walk-fields p.fields (type_in scope p.base) (value_in locals p.base) (at + 1) rest stack w h
       ∙ at_address rest stack w (path_value classes w.machine.store locals p) _ _ e
 
   -- an operator behind its operand
   one_run : (o : Op) (k : Val → Computed) (ops : List Op) (c : Computed) (at : ℕ) (rest : List Op) (stack : List Val) (w : Work)
-      → ((here : ℕ) (v : Val) → act classes code here o (walk classes code rest (here + 1)) (v ∷ stack) w ≡ with_value (k v) (λ u. walk classes code rest (here + 1) 0 (u ∷ stack) w))
-      → walk classes code (ops ++ (o ∷ rest)) at 0 stack w ≡ with_value c (λ u. walk classes code (o ∷ rest) (at + length ops) 0 (u ∷ stack) w)
-      → walk classes code ((ops ++ o ∷ []) ++ rest) at 0 stack w ≡ with_value (◌>>=◌ c k) (λ u. walk classes code rest (at + length (ops ++ o ∷ [])) 0 (u ∷ stack) w)
+      → ((here : ℕ) (v : Val) → act code here o (walk code rest (here + 1)) (v ∷ stack) w ≡ with_value (k v) (λ u. walk code rest (here + 1) 0 (u ∷ stack) w))
+      → walk code (ops ++ (o ∷ rest)) at 0 stack w ≡ with_value c (λ u. walk code (o ∷ rest) (at + length ops) 0 (u ∷ stack) w)
+      → walk code ((ops ++ o ∷ []) ++ rest) at 0 stack w ≡ with_value (◌>>=◌ c k) (λ u. walk code rest (at + length (ops ++ o ∷ [])) 0 (u ∷ stack) w)
   one_run o k ops c at rest stack w does before =
       let e : at + length ops + 1 ≡ at + length (ops ++ o ∷ []) = omega (arith, length-append ops (o ∷ [])) in
-      ap (λ l. walk classes code l at 0 stack w) (append_assoc ops (o ∷ []) rest)
+      ap (λ l. walk code l at 0 stack w) (append_assoc ops (o ∷ []) rest)
       ∙ before
-      ∙ value_then c k (λ u. walk classes code (o ∷ rest) (at + length ops) 0 (u ∷ stack) w) (λ u. walk classes code rest (at + length ops + 1) 0 (u ∷ stack) w) (λ v is. does (at + length ops) v)
+      ∙ value_then c k (λ u. walk code (o ∷ rest) (at + length ops) 0 (u ∷ stack) w) (λ u. walk code rest (at + length ops + 1) 0 (u ∷ stack) w) (λ v is. does (at + length ops) v)
       ∙ at_address rest stack w (◌>>=◌ c k) _ _ e
 
   -- an operator behind its two operands
   two_run : (b : BinOp) (o : Op) (left right : List Op) (c d : Computed) (at middle : ℕ) (rest : List Op) (stack : List Val) (w : Work)
-      → ((here : ℕ) (x y : Val) → act classes code here o (walk classes code rest (here + 1)) (y ∷ x ∷ stack) w ≡ with_value (operate b x y) (λ u. walk classes code rest (here + 1) 0 (u ∷ stack) w))
+      → ((here : ℕ) (x y : Val) → act code here o (walk code rest (here + 1)) (y ∷ x ∷ stack) w ≡ with_value (operate b x y) (λ u. walk code rest (here + 1) 0 (u ∷ stack) w))
       → ((v : Val) → decides b v ≡ false)
       → middle ≡ at + length left
-      → walk classes code (left ++ (right ++ o ∷ rest)) at 0 stack w ≡ with_value c (λ v. walk classes code (right ++ o ∷ rest) (at + length left) 0 (v ∷ stack) w)
-      → ((v : Val) → walk classes code (right ++ o ∷ rest) middle 0 (v ∷ stack) w ≡ with_value d (λ u. walk classes code (o ∷ rest) (middle + length right) 0 (u ∷ v ∷ stack) w))
-      → walk classes code ((left ++ (right ++ o ∷ [])) ++ rest) at 0 stack w ≡ with_value (◌>>=◌ c (λ v. with_right_operand b v d)) (λ u. walk classes code rest (at + length (left ++ (right ++ o ∷ []))) 0 (u ∷ stack) w)
+      → walk code (left ++ (right ++ o ∷ rest)) at 0 stack w ≡ with_value c (λ v. walk code (right ++ o ∷ rest) (at + length left) 0 (v ∷ stack) w)
+      → ((v : Val) → walk code (right ++ o ∷ rest) middle 0 (v ∷ stack) w ≡ with_value d (λ u. walk code (o ∷ rest) (middle + length right) 0 (u ∷ v ∷ stack) w))
+      → walk code ((left ++ (right ++ o ∷ [])) ++ rest) at 0 stack w ≡ with_value (◌>>=◌ c (λ v. with_right_operand b v d)) (λ u. walk code rest (at + length (left ++ (right ++ o ∷ []))) 0 (u ∷ stack) w)
   two_run b o left right c d at middle rest stack w does never m one two =
       let e : middle + length right + 1 ≡ at + length (left ++ (right ++ o ∷ [])) =
-        omega (arith, m, length-append left (right ++ o ∷ []), length-append right (o ∷ [])) in
+      omega (arith, m, length-append left (right ++ o ∷ []), length-append right (o ∷ [])) in
       let flat : (left ++ (right ++ o ∷ [])) ++ rest ≡ left ++ (right ++ o ∷ rest) = simp append_assoc in
-      ap (λ l. walk classes code l at 0 stack w) flat
+      ap (λ l. walk code l at 0 stack w) flat
       ∙ one
-      ∙ value_then c (λ v. with_right_operand b v d) (λ v. walk classes code (right ++ o ∷ rest) (at + length left) 0 (v ∷ stack) w) (λ u. walk classes code rest (middle + length right + 1) 0 (u ∷ stack) w)
+      ∙ value_then c (λ v. with_right_operand b v d) (λ v. walk code (right ++ o ∷ rest) (at + length left) 0 (v ∷ stack) w) (λ u. walk code rest (middle + length right + 1) 0 (u ∷ stack) w)
       (λ v is.
-      ap (λ n. walk classes code (right ++ o ∷ rest) n 0 (v ∷ stack) w) (sym m)
+      ap (λ n. walk code (right ++ o ∷ rest) n 0 (v ∷ stack) w) (sym m)
       ∙ two v
-      ∙ value_then d (λ y. operate b v y) (λ u. walk classes code (o ∷ rest) (middle + length right) 0 (u ∷ v ∷ stack) w) (λ u. walk classes code rest (middle + length right + 1) 0 (u ∷ stack) w) (λ y also. does (middle + length right) v y)
-      ∙ sym (ap (λ t. with_value (if t then Ok (val.Bool (as_bool v)) else ◌>>=◌ d (λ y. operate b v y)) (λ u. walk classes code rest (middle + length right + 1) 0 (u ∷ stack) w)) (never v)))
+      ∙ value_then d (λ y. operate b v y) (λ u. walk code (o ∷ rest) (middle + length right) 0 (u ∷ v ∷ stack) w) (λ u. walk code rest (middle + length right + 1) 0 (u ∷ stack) w) (λ y also. does (middle + length right) v y)
+      ∙ sym (ap (λ t. with_value (if t then Ok (val.Bool (as_bool v)) else ◌>>=◌ d (λ y. operate b v y)) (λ u. walk code rest (middle + length right + 1) 0 (u ∷ stack) w)) (never v)))
       ∙ at_address rest stack w (◌>>=◌ c (λ v. with_right_operand b v d)) _ _ e
 
   -- behind a jump of `and` or `or`, by whether the left operand decides
@@ -169,56 +169,56 @@ module _ (classes : List Class) (code : Code) where
       → v ≡ val.Bool (as_bool v)
       → IsTruth d
       → ((y : Val) → decides b v ≡ false → operate b v y ≡ Ok (val.Bool (as_bool y)))
-      → walk classes code (right ++ rest) middle 0 stack w ≡ with_value d (λ u. walk classes code rest (middle + length right) 0 (u ∷ stack) w)
-      → (if t then walk classes code (right ++ rest) middle (end - middle) (v ∷ stack) w else walk classes code (right ++ rest) middle 0 stack w)
-      ≡ with_value (if t then Ok (val.Bool (as_bool v)) else ◌>>=◌ d (λ y. operate b v y)) (λ u. walk classes code rest end 0 (u ∷ stack) w)
+      → walk code (right ++ rest) middle 0 stack w ≡ with_value d (λ u. walk code rest (middle + length right) 0 (u ∷ stack) w)
+      → (if t then walk code (right ++ rest) middle (end - middle) (v ∷ stack) w else walk code (right ++ rest) middle 0 stack w)
+      ≡ with_value (if t then Ok (val.Bool (as_bool v)) else ◌>>=◌ d (λ y. operate b v y)) (λ u. walk code rest end 0 (u ∷ stack) w)
   chosen b right d middle end rest stack w v true is e one all both two =
       let n : end - middle ≡ length right = omega (arith, e) in
-      ap (λ k. walk classes code (right ++ rest) middle k (v ∷ stack) w) n
+      ap (λ k. walk code (right ++ rest) middle k (v ∷ stack) w) n
       ∙ walk-skip right rest middle (v ∷ stack) w
-      ∙ ap (λ k. walk classes code rest k 0 (v ∷ stack) w) (sym e)
-      ∙ ap (λ u. walk classes code rest end 0 (u ∷ stack) w) one
+      ∙ ap (λ k. walk code rest k 0 (v ∷ stack) w) (sym e)
+      ∙ ap (λ u. walk code rest end 0 (u ∷ stack) w) one
   chosen b right d middle end rest stack w v false is e one all both two =
       two
-      ∙ value_then d (λ y. operate b v y) (λ u. walk classes code rest (middle + length right) 0 (u ∷ stack) w) (λ u. walk classes code rest end 0 (u ∷ stack) w)
+      ∙ value_then d (λ y. operate b v y) (λ u. walk code rest (middle + length right) 0 (u ∷ stack) w) (λ u. walk code rest end 0 (u ∷ stack) w)
       (λ y also.
-      ap (λ k. walk classes code rest k 0 (y ∷ stack) w) (sym e)
-      ∙ ap (λ u. walk classes code rest end 0 (u ∷ stack) w) (all y also)
-      ∙ sym (ap (λ r. with_value r (λ u. walk classes code rest end 0 (u ∷ stack) w)) (both y is)))
+      ap (λ k. walk code rest k 0 (y ∷ stack) w) (sym e)
+      ∙ ap (λ u. walk code rest end 0 (u ∷ stack) w) (all y also)
+      ∙ sym (ap (λ r. with_value r (λ u. walk code rest end 0 (u ∷ stack) w)) (both y is)))
 
   -- `and` and `or`: the jump goes behind the right operand where the left one decides
   choice_run : (b : BinOp) (o : Op) (left right : List Op) (c d : Computed) (at end : ℕ) (rest : List Op) (stack : List Val) (w : Work)
-      → ((here : ℕ) (v : Val) (go : Go) → act classes code here o go (v ∷ stack) w ≡ (if decides b v then go (end - (here + 1)) (v ∷ stack) w else go 0 stack w))
+      → ((here : ℕ) (v : Val) (go : Go) → act code here o go (v ∷ stack) w ≡ (if decides b v then go (end - (here + 1)) (v ∷ stack) w else go 0 stack w))
       → end ≡ at + length left + 1 + length right
       → IsTruth c
       → IsTruth d
       → ((v y : Val) → decides b v ≡ false → operate b v y ≡ Ok (val.Bool (as_bool y)))
-      → walk classes code (left ++ (o ∷ (right ++ rest))) at 0 stack w ≡ with_value c (λ v. walk classes code (o ∷ (right ++ rest)) (at + length left) 0 (v ∷ stack) w)
-      → walk classes code (right ++ rest) (at + length left + 1) 0 stack w ≡ with_value d (λ u. walk classes code rest (at + length left + 1 + length right) 0 (u ∷ stack) w)
-      → walk classes code ((left ++ o ∷ right) ++ rest) at 0 stack w ≡ with_value (◌>>=◌ c (λ v. with_right_operand b v d)) (λ u. walk classes code rest (at + length (left ++ o ∷ right)) 0 (u ∷ stack) w)
+      → walk code (left ++ (o ∷ (right ++ rest))) at 0 stack w ≡ with_value c (λ v. walk code (o ∷ (right ++ rest)) (at + length left) 0 (v ∷ stack) w)
+      → walk code (right ++ rest) (at + length left + 1) 0 stack w ≡ with_value d (λ u. walk code rest (at + length left + 1 + length right) 0 (u ∷ stack) w)
+      → walk code ((left ++ o ∷ right) ++ rest) at 0 stack w ≡ with_value (◌>>=◌ c (λ v. with_right_operand b v d)) (λ u. walk code rest (at + length (left ++ o ∷ right)) 0 (u ∷ stack) w)
   choice_run b o left right c d at end rest stack w does m lc ld both one two =
       let e : end ≡ at + length (left ++ o ∷ right) = omega (arith, m, length-append left (o ∷ right)) in
-      ap (λ l. walk classes code l at 0 stack w) (append_assoc left (o ∷ right) rest)
+      ap (λ l. walk code l at 0 stack w) (append_assoc left (o ∷ right) rest)
       ∙ one
-      ∙ value_then c (λ v. with_right_operand b v d) (λ v. walk classes code (o ∷ (right ++ rest)) (at + length left) 0 (v ∷ stack) w) (λ u. walk classes code rest end 0 (u ∷ stack) w)
-      (λ v is. does (at + length left) v (walk classes code (right ++ rest) (at + length left + 1))
+      ∙ value_then c (λ v. with_right_operand b v d) (λ v. walk code (o ∷ (right ++ rest)) (at + length left) 0 (v ∷ stack) w) (λ u. walk code rest end 0 (u ∷ stack) w)
+      (λ v is. does (at + length left) v (walk code (right ++ rest) (at + length left + 1))
       ∙ chosen b right d (at + length left + 1) end rest stack w v (decides b v) refl m (lc v is) ld (both v) two)
       ∙ at_address rest stack w (◌>>=◌ c (λ v. with_right_operand b v d)) _ _ e
 
   -- an operator whose left operand never decides
   plain_run : (b : BinOp) (o : Op) (left right : List Op) (c d : Computed) (at : ℕ) (rest : List Op) (stack : List Val) (w : Work)
-      → ((here : ℕ) (x y : Val) → act classes code here o (walk classes code rest (here + 1)) (y ∷ x ∷ stack) w ≡ with_value (operate b x y) (λ u. walk classes code rest (here + 1) 0 (u ∷ stack) w))
+      → ((here : ℕ) (x y : Val) → act code here o (walk code rest (here + 1)) (y ∷ x ∷ stack) w ≡ with_value (operate b x y) (λ u. walk code rest (here + 1) 0 (u ∷ stack) w))
       → ((v : Val) → decides b v ≡ false)
-      → ((more : List Op) → walk classes code (left ++ more) at 0 stack w ≡ with_value c (λ v. walk classes code more (at + length left) 0 (v ∷ stack) w))
-      → ((more : List Op) (v : Val) → walk classes code (right ++ more) (at + length left + 0) 0 (v ∷ stack) w ≡ with_value d (λ u. walk classes code more (at + length left + 0 + length right) 0 (u ∷ v ∷ stack) w))
-      → walk classes code ((left ++ (right ++ o ∷ [])) ++ rest) at 0 stack w ≡ with_value (◌>>=◌ c (λ v. with_right_operand b v d)) (λ u. walk classes code rest (at + length (left ++ (right ++ o ∷ []))) 0 (u ∷ stack) w)
+      → ((more : List Op) → walk code (left ++ more) at 0 stack w ≡ with_value c (λ v. walk code more (at + length left) 0 (v ∷ stack) w))
+      → ((more : List Op) (v : Val) → walk code (right ++ more) (at + length left + 0) 0 (v ∷ stack) w ≡ with_value d (λ u. walk code more (at + length left + 0 + length right) 0 (u ∷ v ∷ stack) w))
+      → walk code ((left ++ (right ++ o ∷ [])) ++ rest) at 0 stack w ≡ with_value (◌>>=◌ c (λ v. with_right_operand b v d)) (λ u. walk code rest (at + length (left ++ (right ++ o ∷ []))) 0 (u ∷ stack) w)
   plain_run b o left right c d at rest stack w does never one two =
       two_run b o left right c d at (at + length left + 0) rest stack w does never (omega arith) (one (right ++ o ∷ rest)) (λ v. two (o ∷ rest) v)
 
   pub walk-expr : (e : Expr) (locals : List Local) (scope : Scope) (at : ℕ) (rest : List Op) (stack : List Val) (w : Work)
       → ((x : Variable) → slot_at w.machine (slot_of scope x) ≡ value_in locals x) → Agrees classes w.machine.store locals scope e
-      → walk classes code (expr_code classes scope at e ++ rest) at 0 stack w
-      ≡ with_value (value_of classes w.machine.store locals e) (λ u. walk classes code rest (at + length (expr_code classes scope at e)) 0 (u ∷ stack) w)
+      → walk code (expr_code classes scope at e ++ rest) at 0 stack w
+      ≡ with_value (value_of classes w.machine.store locals e) (λ u. walk code rest (at + length (expr_code classes scope at e)) 0 (u ∷ stack) w)
   walk-expr (number z) locals scope at rest stack w slots h = refl
   walk-expr (boolean b) locals scope at rest stack w slots h = refl
   walk-expr nil locals scope at rest stack w slots h = refl
