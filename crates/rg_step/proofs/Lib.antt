@@ -1,0 +1,4 @@
+mod FrameLemmas
+mod WindowLemmas
+mod StackLemmas
+mod ObjectLemmas
