@@ -130,6 +130,10 @@ closed v = record v { windows = take (length v.windows - 1) v.windows; marks = t
 abbrev pub with_temp : Stack → ℕ → Stack
 with_temp v slot = record v { temps = v.temps ++ slot ∷ [] }
 
+-- the top window has no temporaries
+abbrev pub without_temps : Stack → Stack
+without_temps v = record v { temps = take (mark v) v.temps }
+
 -- whether a window has a region
 abbrev pub has_region : ℕ → Window → Bool
 has_region r w = w.region == r

@@ -10,7 +10,7 @@ ghost use Rattle.rg_frames.specs.declared.rows.Window.{Window as WindowOf};
 ghost use Rattle.rg_frames.specs.declared.rows.Frame.{Frame as FrameOf};
 ghost use Rattle.rg_frames.specs.declared.rows.FrameRefusal.TheVariants.{Depth};
 ghost use Rattle.rg_frames.specs.Stack.{Begun, InTop, IsTopFrame, IsTop, BaseUpTo, mark};
-ghost use Rattle.rg_frames.specs.Stack.{IsEmpty, HasRoom, roomed, begun, with_slot, with_temp};
+ghost use Rattle.rg_frames.specs.Stack.{IsEmpty, HasRoom, roomed, begun, with_slot, with_temp, without_temps};
 ghost use Rattle.rg_frames.specs.Stack.{pushed, pushed_of, popped, opened, closed, has_region, ended};
 
 use crate::rows::{Frame, FrameRefusal, Window};
@@ -326,6 +326,15 @@ impl Frames {
             return None;
         }
         self.temps.pop()
+    }
+
+    /// Takes all temporaries of the top window.
+    pub fn clear_temps(&mut self)
+        requires { 0 < length self.old.windows }
+        ensures gone { self.new ≡ without_temps self.old }
+        ensures none { length self.new.temps ≡ mark self.new }
+    {
+        self.temps.truncate(self.marks[self.marks.len() - 1]);
     }
 
     /// The top window's temporaries.

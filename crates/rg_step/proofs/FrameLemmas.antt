@@ -12,10 +12,11 @@ use Rattle.rg_frames.specs.Layers.{layers_from}
 use Rattle.rg_frames.proofs.Layered.{layers-push, layers-set}
 use Rattle.rg_stack.specs.Machine.{Frame, Window, value_of_word, top_slots, with_slots, ended_slots, slots_below, place_of}
 use Rattle.rg_step.specs.Shown.{frame_of}
-use Rattle.rg_stack.specs.Effects.{begins_by}
+use Rattle.rg_stack.specs.Effects.{begins_by, frame_number}
 use Rattle.rg_frames.specs.Stack.{Stack, IsTopFrame, pushed_of, popped}
 use Rattle.rg_step.specs.Shown.{frames_of, windows_of}
-use Rattle.rg_step.specs.Inner.Layout.{Nested, Lain, Gone, may_return}
+use Rattle.rg_step.specs.Inner.Layout.{Nested, Lain, Gone}
+use Rattle.rg_step.specs.Inner.Core.{may_return}
 
 -- a list is its front and its last element
 pub front-last : {A : Type 0} → (xs : List A) (x : A) → slice_get xs (length xs - 1) ≡ Some x → xs ≡ take (length xs - 1) xs ++ x ∷ []
@@ -93,7 +94,7 @@ set-past slots first s v (f ∷ fs) past =
     let mapped = length-map (drop first slots) value_of_word in
     rw (set_past (map value_of_word (drop first slots)) s v (omega (arith, dropped, mapped, past))) refl
 
-map-nil : (n : ℕ) → map value_of_word (replicate n Nil) ≡ replicate n val.Nil
+pub map-nil : (n : ℕ) → map value_of_word (replicate n Nil) ≡ replicate n val.Nil
 map-nil zero = refl
 map-nil (suc n) = ap (λ vs. val.Nil ∷ vs) (map-nil n)
 
@@ -220,3 +221,19 @@ popped-lain v f top h =
     let nested = subst P (last-reverse v.frames f top) h in
     let Q : ℕ → Type 0 = λ n. Nested f.below n (reverse (take (length v.frames - 1) v.frames)) in
     subst Q (sym (length-take-le v.first v.slots nested.0)) nested.1
+
+-- how many frames there are
+layer-count : (slots : List Word) (first : ℕ) (fs : List FrameRow) → length (frames_from slots first fs) ≡ length fs
+layer-count slots first [] = refl
+layer-count slots first (f ∷ fs) = ap suc (layer-count (take first slots) f.below fs)
+
+pub frame-count : (v : Stack) → length (frames_of v) ≡ length v.frames
+frame-count v = layer-count v.slots v.first (reverse v.frames) ∙ length-reverse v.frames
+
+-- how many are beneath the topmost one
+pub frame-number : (v : Stack) → length v.frames - 1 ≡ frame_number (frames_of v)
+frame-number v = ap (λ n. n - 1) (sym (frame-count v)) ∙ beneath (frames_of v)
+  where
+    beneath : (fs : List Frame) → length fs - 1 ≡ frame_number fs
+    beneath [] = refl
+    beneath (f ∷ fs) = let e : suc (length fs) - 1 ≡ length fs = omega arith in e

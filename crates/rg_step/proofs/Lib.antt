@@ -2,3 +2,5 @@ mod FrameLemmas
 mod WindowLemmas
 mod StackLemmas
 mod ObjectLemmas
+mod CallLemmas
+mod TurnLemmas

@@ -2,3 +2,4 @@
 pub mod Core
 pub mod Layout
 pub mod Objects
+pub mod Walks

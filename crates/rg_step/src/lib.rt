@@ -1,13 +1,17 @@
 //! The stack machine as a program (docs/architecture.md, "The stepper").
 #![tactic(auto)]
 
+mod act;
+mod frames;
 mod jumps;
+mod making;
 mod next;
 mod objects;
 mod parts;
 mod slots;
 mod values;
 mod variables;
+mod walk;
 mod windows;
 mod words;
 

@@ -7,7 +7,8 @@ ghost use Rattle.rg_base.specs.declared.value.Word.TheVariants as word;
 ghost use Rattle.rg_frames.specs.Stack.{HasRoom, roomed};
 ghost use Rattle.rg_stack.specs.Machine.{Frame, top_slots, value_of_word, with_slots, ended_slots};
 ghost use Rattle.rg_step.specs.Shown.{frames_of, windows_of};
-ghost use Rattle.rg_step.specs.Inner.Layout.{Lain, SameWindows, PopIs};
+ghost use Rattle.rg_step.specs.Inner.Layout.{Lain, PopIs, SameWindows, values_of};
+ghost use Rattle.rg_step.specs.Inner.Core.{called_frame};
 
 use rg_base::{Memory, Word};
 use rg_frames::Frames;
@@ -74,6 +75,27 @@ pub(crate) fn push_frame(
     };
     frames.reserve(slots)?;
     frames.push_frame_of(back, words, more);
+    Ok(())
+}
+
+/// The frame of a call, whose first slots are the last words of a stack.
+pub(crate) fn call_frame(
+    frames: &mut Frames,
+    stack: &[Word],
+    given: u32,
+    slots: u32,
+    back: usize,
+) -> Result<(), Memory>
+    requires { Lain frames.old }
+    ensures lain { Lain frames.new }
+    ensures ok { OnOk result (frames_of frames.new
+        ≡ called_frame given slots back (values_of stack.now) ∷ frames_of frames.old) }
+    ensures err { OnErr result (frames_of frames.new ≡ frames_of frames.old) }
+    ensures windows { SameWindows frames.old frames.new }
+{
+    let more = slots.saturating_sub(given) as usize;
+    let from = stack.len().saturating_sub(given as usize);
+    push_frame(frames, back, &stack[from..], more)?;
     Ok(())
 }
 

@@ -14,7 +14,7 @@ use rg_base::Word;
 use rg_store::{as_bool, is_nil, negative, operate};
 use rg_tree::BinOp;
 
-/// `int n`, `bool b` and `nil`
+/// `bool b` and `nil`
 #[inline]
 pub(crate) fn constant(p: &mut Parts, w: Word) -> Next
     ensures { (at : ℕ) →

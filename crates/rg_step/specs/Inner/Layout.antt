@@ -1,5 +1,5 @@
 -- How frames lie over their slots, and what the fields of `Parts` show (docs/architecture.md, "The stepper").
-use Rattle.std.specs.Prelude.{◌≡◌, ◌≤◌, ◌<◌, ℕ, List, [], ◌∷◌, map, reverse, length, All, Option, Some, None, Bool as Truth, true, false}
+use Rattle.std.specs.Prelude.{◌≡◌, ◌≤◌, ◌<◌, ℕ, List, [], ◌∷◌, map, reverse, length, All, Option, Some, None, Bool as Truth, true, false, if◌then◌else◌, nat_lt}
 use Rattle.rg_base.specs.declared.words.Manager.{Manager}
 use Rattle.rg_base.specs.declared.value.Val.{Val}
 use Rattle.rg_base.specs.declared.value.Word.{Word}
@@ -8,10 +8,10 @@ use Rattle.rg_store.specs.Shown.{store_of}
 use Rattle.rg_store.specs.Regions.{LabelsFit}
 use Rattle.rg_frames.specs.declared.rows.Frame.{Frame as FrameRow}
 use Rattle.rg_frames.specs.Stack.{Stack}
-use Rattle.rg_stack.specs.Machine.{Frame, Window, value_of_word, slots_below}
+use Rattle.rg_stack.specs.Machine.{Frame, Window, value_of_word, slots_below, top_slots, place_of}
 use Rattle.rg_stack.specs.Effects.{begins_by}
 use Rattle.rg_step.specs.Shown.{frames_of, windows_of, machine_of}
-use Rattle.rg_step.specs.Inner.Core.{Core}
+use Rattle.rg_step.specs.Inner.Core.{Core, may_return}
 
 -- frames lie over so many slots, the topmost from `first` and the lowest from 0
 abbrev pub Nested : (first slots : ℕ) → List FrameRow → Type 0
@@ -41,12 +41,6 @@ pub record SameWindows (old new : Stack) : Type 0 where
   pub windows : new.windows ≡ old.windows
   pub next : new.next ≡ old.next
 
--- whether the topmost frame may go: it isn't the last one, and no window over its slots is open
-abbrev pub may_return : List Frame → List Window → Truth
-may_return [] ws = false
-may_return (f ∷ []) ws = false
-may_return (f ∷ g ∷ fs) ws = begins_by ws (slots_below (g ∷ fs))
-
 -- the topmost frame went, whose return goes to an address
 pub record Gone (old new : Stack) (back : ℕ) : Type 0 where
   pub top : Frame
@@ -61,3 +55,11 @@ pub record Gone (old new : Stack) (back : ℕ) : Type 0 where
 abbrev pub PopIs : (old new : Stack) → Option ℕ → Type 0
 PopIs old new None = (may_return (frames_of old) (windows_of old) ≡ false) × (new ≡ old)
 PopIs old new (Some back) = Gone old new back
+
+-- whether a window can be opened over a slot: it is one of the topmost frame, and no window begins behind it
+abbrev pub opens : Stack → (z : ℕ) → Truth
+opens v z = if nat_lt z (length (top_slots (frames_of v))) then begins_by (windows_of v) (place_of (frames_of v) z) else false
+
+-- windows have some of the first regions, so many
+abbrev pub AreBelow : (regions : ℕ) → Stack → Type 0
+AreBelow n v = All (λ w. w.region < n) v.windows
