@@ -4,3 +4,4 @@ mod StackLemmas
 mod ObjectLemmas
 mod CallLemmas
 mod TurnLemmas
+mod AskLemmas

@@ -2,6 +2,7 @@
 #![tactic(auto)]
 
 mod act;
+mod asks;
 mod frames;
 mod jumps;
 mod making;
