@@ -1,12 +1,11 @@
 -- The words that a call takes from the stack.
-use Rattle.std.proofs.Common.{◌≡◌, ◌≤◌, ℕ, zero, suc, ◌+◌, ◌-◌, List, [], ◌∷◌, ◌++◌, length, take, drop, map, replicate, reverse, nat_le, ◌<◌, Bool, true, false, refl, sym, ap, ◌∙◌, arith}
+use Rattle.std.proofs.Common.{◌≡◌, ◌≤◌, ℕ, zero, suc, ◌-◌, List, [], ◌∷◌, ◌++◌, length, take, drop, map, replicate, reverse, nat_le, ◌<◌, Bool, true, false, refl, sym, ap, ◌∙◌, arith}
 use Rattle.std.proofs.Math.Seq.{take-append_seam}
 use Rattle.std.proofs.lemmas.List.{reverse-append, reverse-reverse, length-reverse, map-append, take-map, take-append-drop, length-drop}
 use Rattle.rg_base.specs.declared.value.Val.{Val}
-use Rattle.rg_base.specs.declared.value.Val.TheVariants as val
 use Rattle.rg_base.specs.declared.value.Word.{Word}
 use Rattle.rg_base.specs.declared.value.Word.TheVariants.{Nil}
-use Rattle.rg_stack.specs.Machine.{Frame, value_of_word}
+use Rattle.rg_stack.specs.Machine.{value_of_word}
 use Rattle.rg_step.specs.Inner.Core.{called_frame}
 use Rattle.rg_step.specs.Inner.Layout.{values_of}
 use Rattle.rg_step.proofs.FrameLemmas.{map-nil}

@@ -5,3 +5,4 @@ mod ObjectLemmas
 mod CallLemmas
 mod TurnLemmas
 mod AskLemmas
+mod StepLemmas

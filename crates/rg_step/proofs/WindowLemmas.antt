@@ -4,10 +4,10 @@ use Rattle.std.proofs.lemmas.Bool.{false≢true}
 use Rattle.std.proofs.lemmas.List.{reverse-append, length-reverse, length-take-le}
 use Rattle.rg_frames.specs.declared.rows.Window.{Window as WindowRow}
 use Rattle.rg_frames.specs.Stack.{Stack, IsTop, BaseUpTo}
-use Rattle.rg_stack.specs.Machine.{Window, top_slots, place_of}
+use Rattle.rg_stack.specs.Machine.{top_slots, place_of}
 use Rattle.rg_stack.specs.Effects.{begins_by, top_region, top_window, without_top}
 use Rattle.rg_step.specs.Shown.{window_of, windows_of, frames_of}
-use Rattle.rg_step.specs.Inner.Layout.{AreBelow, Lain, opens}
+use Rattle.rg_step.specs.Inner.Layout.{Lain, opens}
 use Rattle.rg_step.proofs.FrameLemmas.{last-reverse, there, top-size, place-there}
 
 -- the topmost window

@@ -10,6 +10,7 @@ mod next;
 mod objects;
 mod parts;
 mod slots;
+mod step;
 mod values;
 mod variables;
 mod walk;

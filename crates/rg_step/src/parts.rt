@@ -15,7 +15,7 @@ ghost use Rattle.rg_stack.specs.Effects.{beneath_by_labels, frame_number, put_in
 ghost use Rattle.rg_stack.specs.Effects.{top_window, without_top};
 ghost use Rattle.rg_store.specs.Regions.{LabelFits};
 ghost use Rattle.rg_step.specs.Inner.Objects.{LabelIs};
-ghost use Rattle.rg_step.specs.Inner.Core.{Left, below_top, called_frame, can_open, first_value, opened};
+ghost use Rattle.rg_step.specs.Inner.Core.{Left, below_top, called_frame, started, can_open, first_value, opened};
 ghost use Rattle.rg_step.specs.Inner.Core.{with_machine, with_made, with_top};
 
 use crate::objects::{add_bridge, add_object, freeze_region, label_of, put_field, read_field};
@@ -330,5 +330,27 @@ impl Parts {
         ensures err { OnErr result (self.new ≡ self.old) }
     {
         call_frame(&mut self.frames, &self.stack, given, slots, back)
+    }
+
+    /// The address of the next step.
+    pub(crate) fn at(&self) -> usize
+        ensures { result ≡ self.now.machine.at }
+    {
+        self.at
+    }
+
+    /// The next step is at an address.
+    pub(crate) fn go_to(&mut self, at: usize)
+        ensures { self.new ≡ with_machine self.old (record self.old.machine { at = at }) }
+    {
+        self.at = at;
+    }
+
+    /// A step begins, with nothing on the stack and nothing printed.
+    pub(crate) fn start(&mut self)
+        ensures { self.new ≡ started self.old }
+    {
+        self.stack.clear();
+        self.printed = None;
     }
 }

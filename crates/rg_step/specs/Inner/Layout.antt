@@ -8,7 +8,7 @@ use Rattle.rg_store.specs.Shown.{store_of}
 use Rattle.rg_store.specs.Regions.{LabelsFit}
 use Rattle.rg_frames.specs.declared.rows.Frame.{Frame as FrameRow}
 use Rattle.rg_frames.specs.Stack.{Stack}
-use Rattle.rg_stack.specs.Machine.{Frame, Window, value_of_word, slots_below, top_slots, place_of}
+use Rattle.rg_stack.specs.Machine.{Frame, value_of_word, slots_below, top_slots, place_of}
 use Rattle.rg_stack.specs.Effects.{begins_by}
 use Rattle.rg_step.specs.Shown.{frames_of, windows_of, machine_of}
 use Rattle.rg_step.specs.Inner.Core.{Core, may_return}

@@ -1,4 +1,4 @@
-use Rattle.std.proofs.Common.{sym, refl}
+use Rattle.std.proofs.Common.{sym}
 use Rattle.rg_step.proofs.ObjectLemmas.{object-is}
 use Rattle.rg_step.proofs.objects.read_field.Goals as goal
 

@@ -1,4 +1,4 @@
-use Rattle.std.proofs.Common.{reverse, length, ◌-◌, ◌∙◌, sym, refl, arith}
+use Rattle.std.proofs.Common.{reverse, length, ◌-◌, ◌∙◌, refl, arith}
 use Rattle.std.proofs.lemmas.List.{length-reverse}
 use Rattle.rg_step.specs.Shown.{windows_of}
 use Rattle.rg_step.proofs.FrameLemmas.{there, may-alone, may-over, popped-gone, popped-lain}

@@ -1,4 +1,4 @@
-use Rattle.std.proofs.Common.{◌∙◌, sym, refl, arith}
+use Rattle.std.proofs.Common.{sym, arith}
 use Rattle.rg_step.proofs.WindowLemmas.{past-top, in-top}
 use Rattle.rg_step.proofs.windows.can_open.Goals as goal
 

@@ -1,7 +1,5 @@
-use Rattle.std.proofs.Common.{reverse, length, ◌-◌, ◌+◌, ◌∙◌, Some, sym, subst, ap, arith}
+use Rattle.std.proofs.Common.{reverse, ◌∙◌, sym, subst, arith}
 use Rattle.rg_frames.specs.Stack.{BaseUpTo}
-use Rattle.rg_stack.specs.Machine.{Window}
-use Rattle.rg_step.specs.Shown.{windows_of}
 use Rattle.rg_step.proofs.FrameLemmas.{set-slot, place-there}
 use Rattle.rg_step.proofs.WindowLemmas.{opens-facts, opened-windows}
 use Rattle.rg_step.proofs.windows.open_window.Goals as goal

@@ -1,4 +1,4 @@
-use Rattle.std.proofs.Common.{◌≡◌, ◌-◌, ◌∙◌, length, subst, ap}
+use Rattle.std.proofs.Common.{◌≡◌, ◌-◌, ◌∙◌, subst, ap}
 use Rattle.rg_stack.specs.Effects.{frame_number}
 use Rattle.rg_step.specs.Inner.Core.{Core}
 use Rattle.rg_step.proofs.FrameLemmas.{frame-number}

@@ -1,4 +1,4 @@
-use Rattle.std.proofs.Common.{◌≡◌, ◌≤◌, ◌↔◌, ◌∙◌, length, sym, subst, Err}
+use Rattle.std.proofs.Common.{◌≡◌, ◌≤◌, ◌↔◌, length, sym, subst, Err}
 use Rattle.rg_base.specs.declared.limits.TheConstants.{FRAMES}
 use Rattle.rg_frames.specs.declared.rows.FrameRefusal.TheVariants.{Depth}
 use Rattle.rg_step.specs.Inner.Core.{Core}
