@@ -11,10 +11,11 @@ mod objects;
 mod parts;
 mod slots;
 mod step;
+mod stepper;
 mod values;
 mod variables;
 mod walk;
 mod windows;
 mod words;
 
-pub use parts::Parts;
+pub use stepper::Stepper;

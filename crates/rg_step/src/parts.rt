@@ -353,4 +353,11 @@ impl Parts {
         self.stack.clear();
         self.printed = None;
     }
+
+    /// What the step has printed.
+    pub(crate) fn printed(&self) -> Option<Val>
+        ensures { result ≡ self.now.printed }
+    {
+        self.printed
+    }
 }
