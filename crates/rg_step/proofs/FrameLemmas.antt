@@ -113,16 +113,16 @@ end-slots slots first s (f ∷ fs) h =
     let n = length slots - (first + s) in
     let taken = length-take-le (first + s) slots h in
     let top : drop first (take (first + s) slots ++ replicate n Nil) ≡ take s (drop first slots) ++ replicate n Nil =
-        drop-append-le first (take (first + s) slots) (replicate n Nil) (omega (arith, taken)) ∙ ap (λ xs. xs ++ replicate n Nil) (drop-take first s slots) in
+    drop-append-le first (take (first + s) slots) (replicate n Nil) (omega (arith, taken)) ∙ ap (λ xs. xs ++ replicate n Nil) (drop-take first s slots) in
     let under : take first (take (first + s) slots ++ replicate n Nil) ≡ take first slots =
-        take-append-le first (take (first + s) slots) (replicate n Nil) (omega (arith, taken)) ∙ take-take first (first + s) slots (omega arith) in
+    take-append-le first (take (first + s) slots) (replicate n Nil) (omega (arith, taken)) ∙ take-take first (first + s) slots (omega arith) in
     let count : n ≡ length (map value_of_word (drop first slots)) - s =
-        omega (arith, length-map (drop first slots) value_of_word, length-drop first slots) in
+    omega (arith, length-map (drop first slots) value_of_word, length-drop first slots) in
     let ended : map value_of_word (take s (drop first slots) ++ replicate n Nil) ≡ ended_slots s (map value_of_word (drop first slots)) =
-        map-append value_of_word (take s (drop first slots)) (replicate n Nil)
-        ∙ ap (λ vs. vs ++ map value_of_word (replicate n Nil)) (sym (take-map value_of_word s (drop first slots)))
-        ∙ ap (λ vs. take s (map value_of_word (drop first slots)) ++ vs) (map-nil n)
-        ∙ ap (λ k. take s (map value_of_word (drop first slots)) ++ replicate k val.Nil) count in
+    map-append value_of_word (take s (drop first slots)) (replicate n Nil)
+    ∙ ap (λ vs. vs ++ map value_of_word (replicate n Nil)) (sym (take-map value_of_word s (drop first slots)))
+    ∙ ap (λ vs. take s (map value_of_word (drop first slots)) ++ vs) (map-nil n)
+    ∙ ap (λ k. take s (map value_of_word (drop first slots)) ++ replicate k val.Nil) count in
     rw (top, under, ended) refl
 
 -- the slots of all frames together

@@ -88,8 +88,10 @@ pub(crate) fn enter(p: &mut Parts, s: u32, z: u32) -> Next
 /// `leave s`
 pub(crate) fn leave(p: &mut Parts, s: u32) -> Next
     ensures { (at : ℕ) → ActIs (λ go stack x. go 0 stack (record x {
-        machine = record (end_slots x.machine s) {
-        windows = without_top x.machine.windows } })) at p.old p.new result }
+      machine = record (end_slots x.machine s) {
+        windows = without_top x.machine.windows;
+      };
+    })) at p.old p.new result }
 {
     p.leave(s);
     Next::On

@@ -18,8 +18,9 @@ ghost use Rattle.rg_step.specs.Inner.Objects.{LabelIs};
 ghost use Rattle.rg_step.specs.Inner.Core.{Left, below_top, called_frame, started, can_open, first_value, opened};
 ghost use Rattle.rg_step.specs.Inner.Core.{with_machine, with_made, with_top};
 
-use crate::objects::{add_bridge, add_object, freeze_region, label_of, put_field, read_field};
-use crate::objects::relabel_region;
+use crate::objects::{
+    add_bridge, add_object, freeze_region, label_of, put_field, read_field, relabel_region,
+};
 use crate::slots::{call_frame, end_slots, pop_frame, read_slot, write_slot};
 use crate::windows::{active, can_open, close_window, number, open_window};
 use crate::words::{value, word};
@@ -162,7 +163,8 @@ impl Parts {
     #[inline]
     pub(crate) fn put(&mut self, r: Word, index: u32, w: Word)
         ensures { self.new ≡ with_machine self.old (record self.old.machine {
-            store = put_in self.old.machine.store (value_of_word r) index (value_of_word w) }) }
+          store = put_in self.old.machine.store (value_of_word r) index (value_of_word w);
+        }) }
     {
         put_field(&mut self.store, value(r), index, value(w));
     }
@@ -237,7 +239,8 @@ impl Parts {
     /// Makes nil the slots from one on, and then the topmost window goes, where it isn't the last.
     pub(crate) fn leave(&mut self, s: u32)
         ensures { self.new ≡ with_machine self.old (record (end_slots self.old.machine s) {
-            windows = without_top self.old.machine.windows }) }
+          windows = without_top self.old.machine.windows;
+        }) }
     {
         end_slots(&mut self.frames, s);
         close_window(&mut self.frames);
@@ -298,15 +301,23 @@ impl Parts {
         let Ok(()) = self.managers.reserve(1) else {
             return Err(Memory);
         };
-        add_bridge(alloc, &mut self.store, &mut self.managers, class, words, manager)
+        add_bridge(
+            alloc,
+            &mut self.store,
+            &mut self.managers,
+            class,
+            words,
+            manager,
+        )
     }
 
     /// The objects of a region and of those beneath are frozen.
     pub(crate) fn freeze(&mut self, alloc: Global, region: u64) -> Result<(), Memory>
         requires { region < length self.old.machine.managers }
         ensures ok { OnOk result (self.new ≡ with_machine self.old (record self.old.machine {
-            store = relabelled (beneath_by_labels self.old.machine.store
-            (length self.old.machine.managers) (region ∷ [])) Frozen self.old.machine.store })) }
+          store = relabelled (beneath_by_labels self.old.machine.store
+              (length self.old.machine.managers) (region ∷ [])) Frozen self.old.machine.store;
+        })) }
         ensures err { OnErr result (self.new ≡ self.old) }
     {
         freeze_region(alloc, &mut self.store, self.managers.len(), region)
@@ -316,8 +327,9 @@ impl Parts {
     pub(crate) fn merge(&mut self, region: u64)
         requires { region < length self.old.machine.managers }
         ensures { self.new ≡ with_machine self.old (record self.old.machine {
-            store = relabelled (region ∷ []) (Region (top_region self.old.machine.windows))
-            self.old.machine.store }) }
+          store = relabelled (region ∷ []) (Region (top_region self.old.machine.windows))
+              self.old.machine.store;
+        }) }
     {
         let label = Label::Region(active(&self.frames) as u64);
         relabel_region(&mut self.store, region, label);
@@ -326,7 +338,8 @@ impl Parts {
     /// A call: so many of the topmost words are the first slots of a new frame.
     pub(crate) fn call(&mut self, given: u32, slots: u32, back: usize) -> Result<(), Memory>
         ensures ok { OnOk result (self.new ≡ with_machine self.old (record self.old.machine {
-            frames = called_frame given slots back self.old.stack ∷ self.old.machine.frames })) }
+          frames = called_frame given slots back self.old.stack ∷ self.old.machine.frames;
+        })) }
         ensures err { OnErr result (self.new ≡ self.old) }
     {
         call_frame(&mut self.frames, &self.stack, given, slots, back)

@@ -65,7 +65,9 @@ pub(crate) fn push_frame(
     requires { Lain frames.old }
     ensures lain { Lain frames.new }
     ensures ok { OnOk result (frames_of frames.new ≡ record {
-        slots = map value_of_word (words.now ++ replicate more word.Nil); back = back }
+      slots = map value_of_word (words.now ++ replicate more word.Nil);
+      back = back;
+    }
         ∷ frames_of frames.old) }
     ensures err { OnErr result (frames_of frames.new ≡ frames_of frames.old) }
     ensures windows { SameWindows frames.old frames.new }

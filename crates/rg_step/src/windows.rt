@@ -60,8 +60,11 @@ pub(crate) fn open_window(
         ≡ with_slots (slice_set (top_slots (frames_of frames.old)) z (value_of_word bridge))
         (frames_of frames.old)) }
     ensures windows { OnOk result (windows_of frames.new ≡ record {
-        number = frames.old.next; region = region; owner = Some owner;
-        base = place_of (frames_of frames.old) z } ∷ windows_of frames.old) }
+      number = frames.old.next;
+      region = region;
+      owner = Some owner;
+      base = place_of (frames_of frames.old) z;
+    } ∷ windows_of frames.old) }
     ensures made { OnOk result (frames.new.next ≡ frames.old.next + 1) }
     ensures all { (n : ℕ) → region < n → AreBelow n frames.old → AreBelow n frames.new }
     ensures err { OnErr result (frames.new ≡ frames.old) }

@@ -37,7 +37,7 @@ loop-at-preserved g c =
           (λ before after. walk_from code c.args.from c.args.p.now before ≡ walk_from code (c.in-More.place + 1) c.set_top-in-Ok-more.new.self after)
           c.loop-at.invariant.so_far c.in-Ok-more.ensures.looks
           (λ before between after p q. more-on code c.in-More.place c.walk.new.p c.set_top-in-Ok-more.new.self c.in-Ok-more.b _ between after
-              (p ∙ c.in-More.ensures.3 between) q.0 q.1 c.set_top-in-Ok-more.ensures);
+          (p ∙ c.in-More.ensures.3 between) q.0 q.1 c.set_top-in-Ok-more.ensures);
       follows = c.in-Ok-more.ensures.follows;
       never_falls = omega (arith, c.loop-at.invariant.never_falls, c.in-Ok-more.ensures.never_falls);
     }
@@ -51,7 +51,7 @@ returns-in-Err-End-clause-comes g c =
     (Answers (Err no.End)) (λ before after. walk_from code c.args.from c.args.p.now before ≡ Traps trap.End)
     c.loop-at.invariant.so_far (subst Q c.in-Err-End.field-0-is c.in-Err-End.ensures.answers)
     (λ before between after p q. p ∙ c.in-Read.ensures.3 between
-        ∙ ap (λ n. next_taken n (walk code (drop (c.in-Read.place + 1) code.ops) (c.in-Read.place + 1)) (below_top c.walk.new.p).stack (work_of c.walk.new.p between)) q.0)
+    ∙ ap (λ n. next_taken n (walk code (drop (c.in-Read.place + 1) code.ops) (c.in-Read.place + 1)) (below_top c.walk.new.p).stack (work_of c.walk.new.p between)) q.0)
 
 pub returns-in-Err-Input-clause-comes : goal.returns-in-Err-Input-clause-comes
 returns-in-Err-Input-clause-comes g c =
@@ -62,7 +62,7 @@ returns-in-Err-Input-clause-comes g c =
     (Answers (Err no.Input)) (λ before after. walk_from code c.args.from c.args.p.now before ≡ Traps trap.Input)
     c.loop-at.invariant.so_far (subst Q c.in-Err-Input.field-0-is c.in-Err-Input.ensures.answers)
     (λ before between after p q. p ∙ c.in-Read.ensures.3 between
-        ∙ ap (λ n. next_taken n (walk code (drop (c.in-Read.place + 1) code.ops) (c.in-Read.place + 1)) (below_top c.walk.new.p).stack (work_of c.walk.new.p between)) q.0)
+    ∙ ap (λ n. next_taken n (walk code (drop (c.in-Read.place + 1) code.ops) (c.in-Read.place + 1)) (below_top c.walk.new.p).stack (work_of c.walk.new.p between)) q.0)
 
 pub returns-in-Err-InputFault-clause-comes : goal.returns-in-Err-InputFault-clause-comes
 returns-in-Err-InputFault-clause-comes g c =

@@ -8,9 +8,9 @@ use Rattle.rg_step.proofs.objects.label_of.Goals as goal
 
 pub returns-clause-label : goal.returns-clause-label
 returns-clause-label c = (
-    seen_of c.index-store-place.result,
-    object-is c.args.store.now c.args.v c.in_ok-place.place c.index-store-place.result c.in_ok-place.ensures c.index-store-place.is,
-    ap (λ (r : ObjectRow). r.label) c.index-store-place.is,
+  seen_of c.index-store-place.result,
+  object-is c.args.store.now c.args.v c.in_ok-place.place c.index-store-place.result c.in_ok-place.ensures c.index-store-place.is,
+  ap (λ (r : ObjectRow). r.label) c.index-store-place.is,
 )
 
 pub returns-clause-made : goal.returns-clause-made

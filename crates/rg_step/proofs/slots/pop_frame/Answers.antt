@@ -13,9 +13,11 @@ returns-then-count-lt2-clause-gone c =
 pub returns-then-window-first-clause-gone : goal.returns-then-window-first-clause-gone
 returns-then-window-first-clause-gone c =
     let v = c.args.frames.now in
-    let w = c.in-Some.window in
-    (may-over v.slots v.first (reverse v.frames) (windows_of v) c.requires
-        (begins-top v w v.first c.in-Some.ensures.some ∙ le-false w.base v.first (omega (arith, c.if-window-first.true, c.first-first.ensures))), refl)
+    let w = c.in-Some.window in (
+      may-over v.slots v.first (reverse v.frames) (windows_of v) c.requires
+          (begins-top v w v.first c.in-Some.ensures.some ∙ le-false w.base v.first (omega (arith, c.if-window-first.true, c.first-first.ensures))),
+      refl,
+    )
 
 pub returns-else-window-first-clause-lain : goal.returns-else-window-first-clause-lain
 returns-else-window-first-clause-lain c =
@@ -30,7 +32,7 @@ returns-else-window-first-clause-gone c =
     let f = there v.frames (length v.frames - 1) (omega (arith, c.count.ensures, c.if-count-lt2.false)) in
     rw (c.pop_frame.ensures.gone f.0 f.1, c.pop_frame.ensures.back f.0 f.1)
     (popped-gone v f.0 (omega (arith, c.count.ensures, c.if-count-lt2.false)) f.1 c.requires
-        (begins-top v w v.first c.in-Some.ensures.some ∙ le-true w.base v.first (omega (arith, c.if-window-first.false, c.first-first.ensures))))
+    (begins-top v w v.first c.in-Some.ensures.some ∙ le-true w.base v.first (omega (arith, c.if-window-first.false, c.first-first.ensures))))
 
 pub returns-else-window-first-clause-windows : goal.returns-else-window-first-clause-windows
 returns-else-window-first-clause-windows c =

@@ -4,20 +4,20 @@ use Rattle.rg_step.proofs.walk.walk.Goals as goal
 
 pub loop-at-preserved-in-On : goal.loop-at-preserved-in-On
 loop-at-preserved-in-On c = (
-    omega (arith, c.loop-at.invariant.0),
-    turn-on c.args.code.now c.loop-at.at c.get.result c.loop-at.p c.act.new.p _ c.loop-at.invariant.1 c.get.ensures c.in-On.ensures,
+  omega (arith, c.loop-at.invariant.0),
+  turn-on c.args.code.now c.loop-at.at c.get.result c.loop-at.p c.act.new.p _ c.loop-at.invariant.1 c.get.ensures c.in-On.ensures,
 )
 
 pub loop-at-preserved-then-to-at : goal.loop-at-preserved-then-to-at
 loop-at-preserved-then-to-at c = (
-    omega (arith, c.loop-at.invariant.0, c.if-to-at.true),
-    turn-to c.args.code.now c.loop-at.at c.in-To.to c.get.result c.loop-at.p c.act.new.p _ c.loop-at.invariant.1 c.get.ensures (omega (arith, c.if-to-at.true)) c.in-To.ensures,
+  omega (arith, c.loop-at.invariant.0, c.if-to-at.true),
+  turn-to c.args.code.now c.loop-at.at c.in-To.to c.get.result c.loop-at.p c.act.new.p _ c.loop-at.invariant.1 c.get.ensures (omega (arith, c.if-to-at.true)) c.in-To.ensures,
 )
 
 pub loop-at-preserved : goal.loop-at-preserved
 loop-at-preserved c = (
-    omega (arith, c.loop-at.invariant.0),
-    turn-back c.args.code.now c.loop-at.at c.in-To.to c.get.result c.loop-at.p c.act.new.p _ c.loop-at.invariant.1 c.get.ensures (omega (arith, c.if-to-at.false)) c.in-To.ensures,
+  omega (arith, c.loop-at.invariant.0),
+  turn-back c.args.code.now c.loop-at.at c.in-To.to c.get.result c.loop-at.p c.act.new.p _ c.loop-at.invariant.1 c.get.ensures (omega (arith, c.if-to-at.false)) c.in-To.ensures,
 )
 
 pub returns-in-Stop : goal.returns-in-Stop

@@ -8,4 +8,4 @@ returns-then-z-size c = sym (past-top c.args.frames.now c.args.z c.requires (ome
 pub returns-in-Some : goal.returns-in-Some
 returns-in-Some c =
     sym (in-top c.args.frames.now c.args.z c.place-place.result c.in-Some.window c.requires (omega (arith, c.if-z-size.false, c.size.ensures))
-        c.place-place.ensures c.in-Some.ensures.some)
+    c.place-place.ensures c.in-Some.ensures.some)

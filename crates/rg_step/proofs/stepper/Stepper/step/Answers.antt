@@ -21,6 +21,6 @@ returns-in-Ends-clause-step g c =
     let old : Stepping = record { machine = c.self.inside.parts.machine; steps = c.self.inside.steps; done = c.self.inside.done } in
     let new : Stepping = record { machine = c.step.new.p.machine; steps = c.self.inside.steps + 1; done = true } in
     let Q : Stepping → Type 0 = λ n. OnInput c.args.input.now c.step.new.input (g.S.Source.left c.args.source.now) (g.S.Source.left c.step.new.source)
-        (StepsTo c.args.code.now n new outcome.Done) in
+    (StepsTo c.args.code.now n new outcome.Done) in
     subst Q c.self.view_is (OnInput-map _ _ _ _ (StepIs c.args.code.now c.self.inside.parts c.step.new.p did.Ends) (StepsTo c.args.code.now old new outcome.Done)
-        c.in-Ends.ensures.step (λ before after h. (work_of c.step.new.p after, h, refl, refl, refl, refl)))
+    c.in-Ends.ensures.step (λ before after h. (work_of c.step.new.p after, h, refl, refl, refl, refl)))
