@@ -24,7 +24,7 @@ items_end : (b : Block) (after : List Item) → (front : List Item) × (items_of
 items_end none after = ([], refl)
 items_end (more_of s b) after = let h = items_end b after in (Do s ∷ h.0, ap (λ l. Do s ∷ l) h.1)
 
-spot-ends : (classes : List Class) (result : Option Ty) (env : Env) (b : Block) (after : List Item) (round : List Path) (p : Point) (s : Spot) → spot_in classes result env b after round p ≡ Some s
+pub spot-ends : (classes : List Class) (result : Option Ty) (env : Env) (b : Block) (after : List Item) (round : List Path) (p : Point) (s : Spot) → spot_in classes result env b after round p ≡ Some s
     → (front : List Item) × (s.items ≡ front ++ after)
 spot-ends classes result env b after round here s is =
     let same : record { env = env; items = items_of b after; enters = round } ≡ s = grind arith in
@@ -47,11 +47,11 @@ spot-ends classes result env (more_of (stmt line k) b) after round (inside side 
 
 -- items are left
 
-left-front : (xs ys : List Item) → SomeLeft xs → SomeLeft (xs ++ ys)
+pub left-front : (xs ys : List Item) → SomeLeft xs → SomeLeft (xs ++ ys)
 left-front [] ys h = absurd h
 left-front (x ∷ xs) ys h = tt
 
-left-back : (xs ys : List Item) → SomeLeft ys → SomeLeft (xs ++ ys)
+pub left-back : (xs ys : List Item) → SomeLeft ys → SomeLeft (xs ++ ys)
 left-back [] ys h = h
 left-back (x ∷ xs) ys h = tt
 
@@ -84,7 +84,7 @@ pub back-other : Back ≡ EndAt 0 → ⊥
 back-other e = true≢false (sym (ap is_end e))
 
 -- beneath a frame that was called
-beneath-left : (t : Tree) (f : Frame) (fs : List Frame) (ws : List Window) (items : List Item) (b : Body) (target : Target) → Beneath t (f ∷ fs) ws items b target → SomeLeft items
+pub beneath-left : (t : Tree) (f : Frame) (fs : List Frame) (ws : List Window) (items : List Item) (b : Body) (target : Target) → Beneath t (f ∷ fs) ws items b target → SomeLeft items
 beneath-left t f [] ws items b target h = subst SomeLeft (sym h.6) (left-front h.3 h.4 (mine_left h.7))
   where
     mine_left : Waits t.classes h.0 f 0 h.1 h.3 b target ⊎ WaitsEmpty t h.0 f h.1 h.3 b target → SomeLeft h.3
