@@ -1,9 +1,11 @@
 -- What is calm, and what is orderly, behind some instructions. For callers.
-use Rattle.std.proofs.Common.{◌≡◌, ℕ, zero, suc, ◌+◌, ◌&&◌, true, false, true≢false, Bool as Truth, List, [], ◌∷◌, drop, refl, sym, subst, arith, slice_get}
+use Rattle.std.proofs.Common.{◌≡◌, ℕ, zero, suc, ◌+◌, ◌&&◌, true, false, true≢false, Bool as Truth, List, [], ◌∷◌, drop, refl, sym, subst, arith}
+use Rattle.std.proofs.Common.{slice_get}
 use Rattle.rg_code.specs.declared.op.Op.{Op}
 use Rattle.rg_code.specs.declared.op.Op.TheVariants as i
 use Rattle.rg_code.specs.Places.{is_mark}
-use Rattle.rg_stack.specs.Refusals.{Manner, Ends, Settles, Takes, Computes, Chooses, Passes, manner, calm_by, calm, computes, all_compute, orderly_by, orderly}
+use Rattle.rg_stack.specs.Refusals.{Manner, Ends, Settles, Takes, Computes, Chooses, Passes, manner, calm_by, calm, computes, all_compute}
+use Rattle.rg_stack.specs.Refusals.{orderly_by, orderly}
 
 pub and_both : (a b : Truth) → a ≡ true → b ≡ true → (a && b) ≡ true
 and_both true b e h = h
@@ -28,7 +30,8 @@ pub calm-orderly : (code : List Op) (at : ℕ) (os : List Op) → calm code os �
 calm-orderly code at [] e = refl
 calm-orderly code at (o ∷ os) e = by (manner o) e (calm-orderly code (at + 1) os)
   where
-    by : (m : Manner) → calm_by code m (calm code os) ≡ true → (calm code os ≡ true → orderly code (at + 1) os ≡ true) → orderly_by code at m os (calm code os) (orderly code (at + 1) os) ≡ true
+    by : (m : Manner) → calm_by code m (calm code os) ≡ true → (calm code os ≡ true → orderly code (at + 1) os ≡ true)
+        → orderly_by code at m os (calm code os) (orderly code (at + 1) os) ≡ true
     by Ends e go = refl
     by Settles e go = e
     by Takes e go = absurd (true≢false (sym e))
@@ -37,7 +40,8 @@ calm-orderly code at (o ∷ os) e = by (manner o) e (calm-orderly code (at + 1) 
     by (Passes t) e go = absurd (true≢false (sym e))
 
 -- instructions that work on the stack alone are passed over
-pub orderly-skip : (code : List Op) (n at : ℕ) (os : List Op) → all_compute n os ≡ true → orderly code at os ≡ true → orderly code (at + n) (drop n os) ≡ true
+pub orderly-skip : (code : List Op) (n at : ℕ) (os : List Op) → all_compute n os ≡ true → orderly code at os ≡ true
+    → orderly code (at + n) (drop n os) ≡ true
 orderly-skip code zero at os a e = let same : at ≡ at + 0 = omega arith in subst (λ k. orderly code k os ≡ true) same e
 orderly-skip code (suc n) at [] a e = refl
 orderly-skip code (suc n) at (o ∷ os) a e =
@@ -51,4 +55,3 @@ orderly-skip code (suc n) at (o ∷ os) a e =
     by Computes c h = h
     by (Chooses t) c h = absurd (true≢false (sym c))
     by (Passes t) c h = and_second _ _ h
-

@@ -1,8 +1,10 @@
 -- Behind the end of a frame the code is calm.
-use Rattle.std.proofs.Common.{◌≡◌, ℕ, ◌+◌, true, true≢false, ◌⊎◌, inl, inr, List, [], ◌∷◌, ◌++◌, length, drop, take, Option, Some, None, refl, sym, ap, subst, ◌∙◌, arith, slice_get}
+use Rattle.std.proofs.Common.{◌≡◌, ℕ, ◌+◌, true, true≢false, ◌⊎◌, inl, inr, List, [], ◌∷◌, ◌++◌, length, drop, take, Option, Some, None, refl, sym}
+use Rattle.std.proofs.Common.{ap, subst, ◌∙◌, arith, slice_get}
 use Rattle.std.specs.Result.{result_ok}
 use Rattle.rg_base.specs.declared.ty.Ty.{Ty}
-use Rattle.rg_tree.specs.Tree.{Path, Ty as Written, stmt, Stmt, StmtKind, declare, assign, call, swap, branch, while, enter, print, collect, return, Block, empty as none, then as more_of, Method, Class, Tree}
+use Rattle.rg_tree.specs.Tree.{Path, Ty as Written, stmt, Stmt, StmtKind, declare, assign, call, swap, branch, while, enter, print, collect, return}
+use Rattle.rg_tree.specs.Tree.{Block, empty as none, then as more_of, Method, Class, Tree}
 use Rattle.rg_rules.specs.Acceptance.{Accepted}
 use Rattle.rg_rules.specs.Types.{type_of, method_named}
 use Rattle.rg_rules.specs.Environment.{Env}
@@ -68,7 +70,8 @@ by_kind (return e) A B C D f g h = f h
 
 leaves-on : (xs rest : List Item) → Leaves xs → SomeLeft rest → LeavesOn (xs ++ rest)
 leaves-on [] rest h s = absurd h
-leaves-on (Do (stmt line k) ∷ xs) rest h s = by_kind k (Unit {0}) (Leaves xs) (SomeLeft (xs ++ rest)) (LeavesOn (xs ++ rest)) (λ u. left-back xs rest s) (λ l. leaves-on xs rest l s) h
+leaves-on (Do (stmt line k) ∷ xs) rest h s = by_kind k (Unit {0}) (Leaves xs) (SomeLeft (xs ++ rest)) (LeavesOn (xs ++ rest))
+    (λ u. left-back xs rest s) (λ l. leaves-on xs rest l s) h
 leaves-on (EndAt k ∷ xs) rest h s = leaves-on xs rest h s
 leaves-on (LeaveAt k ∷ xs) rest h s = leaves-on xs rest h s
 leaves-on (Back ∷ xs) rest h s = left-back xs rest s
@@ -111,14 +114,16 @@ return_leaves (return c) A e = tt
 
 items_leave : (line : ℕ) (k : StmtKind) (b : Block) → last_is_return k b ≡ true → Leaves (Do (stmt line k) ∷ items_of b [])
 items_leave line k none e = return_leaves k (Leaves []) e
-items_leave line k (more_of (stmt later other) b) e = kind_leaves k (Leaves (items_of (more_of (stmt later other) b) [])) (items_leave later other b e)
+items_leave line k (more_of (stmt later other) b) e = kind_leaves k (Leaves (items_of (more_of (stmt later other) b) []))
+    (items_leave later other b e)
 
 block_leaves : (b : Block) → ends_in_return b ≡ true → Leaves (items_of b [])
 block_leaves none e = absurd (true≢false (sym e))
 block_leaves (more_of (stmt line k) b) e = items_leave line k b e
 
 -- a statement with a block isn't a `return`, so others stand behind it
-behind_inner : (classes : List Class) (env : Env) (k : StmtKind) (side : Side) (o : Opened) (b : Block) → inner_block classes env k side ≡ Some o → last_is_return k b ≡ true → ends_in_return b ≡ true
+behind_inner : (classes : List Class) (env : Env) (k : StmtKind) (side : Side) (o : Opened) (b : Block) → inner_block classes env k side ≡ Some o
+    → last_is_return k b ≡ true → ends_in_return b ≡ true
 behind_inner classes env k side o (more_of (stmt line other) b) is e = e
 behind_inner classes env (declare x t r) side o none is e = absurd (true≢false (sym e))
 behind_inner classes env (assign p r) side o none is e = absurd (true≢false (sym e))
@@ -131,14 +136,16 @@ behind_inner classes env (print c) side o none is e = absurd (true≢false (sym 
 behind_inner classes env collect side o none is e = absurd (true≢false (sym e))
 behind_inner classes env (return c) side o none is e = grind arith
 
-spot-leaves : (classes : List Class) (result : Option Ty) (env : Env) (b : Block) (round : List Path) (p : Point) (s : Spot) → ends_in_return b ≡ true → spot_in classes result env b [] round p ≡ Some s → SomeLeft s.items → Leaves s.items
+spot-leaves : (classes : List Class) (result : Option Ty) (env : Env) (b : Block) (round : List Path) (p : Point) (s : Spot) → ends_in_return b
+    ≡ true → spot_in classes result env b [] round p ≡ Some s → SomeLeft s.items → Leaves s.items
 spot-leaves classes result env b round here s e is left =
     let same : record { env = env; items = items_of b []; enters = round } ≡ s = grind arith in
     subst (λ (s : Spot). Leaves s.items) same (block_leaves b e)
 spot-leaves classes result env none round (behind p) s e is left = grind arith
 spot-leaves classes result env none round (inside side p) s e is left = grind arith
 spot-leaves classes result env (more_of (stmt line k) none) round (behind p) s e is left =
-    let m = and_then-some (result_ok (judge_stmt classes (last_of result none) env (stmt line k))) (λ mid. spot_in classes result mid none [] round p) s is in
+    let m = and_then-some (result_ok (judge_stmt classes (last_of result none) env (stmt line k)))
+    (λ mid. spot_in classes result mid none [] round p) s is in
     nothing p m.0 m.2
   where
     nothing : (p : Point) (mid : Env) → spot_in classes result mid none [] round p ≡ Some s → Leaves s.items
@@ -148,7 +155,8 @@ spot-leaves classes result env (more_of (stmt line k) none) round (behind p) s e
     nothing (behind p) mid is = grind arith
     nothing (inside side p) mid is = grind arith
 spot-leaves classes result env (more_of (stmt line k) (more_of u b)) round (behind p) s e is left =
-    let m = and_then-some (result_ok (judge_stmt classes (last_of result (more_of u b)) env (stmt line k))) (λ mid. spot_in classes result mid (more_of u b) [] round p) s is in
+    let m = and_then-some (result_ok (judge_stmt classes (last_of result (more_of u b)) env (stmt line k)))
+    (λ mid. spot_in classes result mid (more_of u b) [] round p) s is in
     spot-leaves classes result m.0 (more_of u b) round p s (later u b e) m.2 left
   where
     later : (u : Stmt) (b : Block) → last_is_return k (more_of u b) ≡ true → ends_in_return (more_of u b) ≡ true
@@ -157,15 +165,18 @@ spot-leaves classes result env (more_of (stmt line k) b) round (inside side p) s
     let o = and_then-some (inner_block classes env k side) _ s is in
     let after = block_end (length env.entries) line k ++ items_of b [] in
     let h = spot-ends classes None o.0.env o.0.block after (round ++ entered_path k) p s o.2 in
-    subst Leaves (sym h.1) (leaves-back h.0 after (leaves-back (block_end (length env.entries) line k) (items_of b []) (block_leaves b (behind_inner classes env k side o.0 b o.1 e))))
+    subst Leaves (sym h.1) (leaves-back h.0 after (leaves-back (block_end (length env.entries) line k) (items_of b [])
+    (block_leaves b (behind_inner classes env k side o.0 b o.1 e))))
 
 -- the items of a method that is left to run leave its frame
 method_leaves : (t : Tree) (c : ℕ) (m : Method) (r : Option Written) → r ≡ m.result → gives_result r m.body ≡ true → (p : Point) (s : Spot)
-    → spot_in t.classes (elim r [ None ↦ None | Some w ↦ Some (type_of t.classes w) ]) (method_body t.classes c m).front m.body (method_end r) [] p ≡ Some s → SomeLeft s.items → Leaves s.items
+    → spot_in t.classes (elim r [ None ↦ None | Some w ↦ Some (type_of t.classes w) ]) (method_body t.classes c m).front m.body (method_end r) [] p
+    ≡ Some s → SomeLeft s.items → Leaves s.items
 method_leaves t c m None same gives p s is left =
     let h = spot-ends t.classes None (method_body t.classes c m).front m.body (Back ∷ []) [] p s is in
     subst Leaves (sym h.1) (leaves-back h.0 (Back ∷ []) tt)
-method_leaves t c m (Some w) same gives p s is left = spot-leaves t.classes (Some (type_of t.classes w)) (method_body t.classes c m).front m.body [] p s gives is left
+method_leaves t c m (Some w) same gives p s is left = spot-leaves t.classes (Some (type_of t.classes w)) (method_body t.classes c m).front m.body []
+    p s gives is left
 
 -- what lies behind a call is calm
 
@@ -175,17 +186,23 @@ drop_calm code (i.Pop ∷ os) rest e is h = ap (calm code) is ∙ h
 drop_calm code (i.Drop ∷ os) rest e is h = ap (calm code) is ∙ h
 drop_calm code (o ∷ os) rest e is h = absurd (true≢false (sym e))
 
-taken_calm : (classes : List Class) (code : List Op) (target : Target) (back : ℕ) (ls : List Level) (j : Item) (rest : List Item) → TakesResult code target back ls (λ levels here. Lies classes code levels (j ∷ rest) here) → calm code (drop back code) ≡ true
+taken_calm : (classes : List Class) (code : List Op) (target : Target) (back : ℕ) (ls : List Level) (j : Item) (rest : List Item)
+    → TakesResult code target back ls (λ levels here. Lies classes code levels (j ∷ rest) here) → calm code (drop back code) ≡ true
 taken_calm classes code target back [] j rest h = absurd h
-taken_calm classes code (Declares x t) back (l ∷ ls) j rest h = ap (calm code) (drop-stands code back (i.Store (length l.scope) ∷ []) h.0.0) ∙ calm-lies classes code (record l { scope = with_slot l.scope (Some x) t } ∷ ls) j rest (back + 1) h.1
+taken_calm classes code (Declares x t) back (l ∷ ls) j rest h = ap (calm code) (drop-stands code back (i.Store (length l.scope) ∷ []) h.0.0)
+    ∙ calm-lies classes code (record l { scope = with_slot l.scope (Some x) t } ∷ ls) j rest (back + 1) h.1
 taken_calm classes code (Assigns x) back (l ∷ ls) j rest h =
-    ap (calm code) (drop-stands code back (assign_op l.scope x ∷ []) h.0.0) ∙ calm-assign code l.scope x (drop (back + 1) code) (calm-lies classes code (l ∷ ls) j rest (back + 1) h.1)
+    ap (calm code) (drop-stands code back (assign_op l.scope x ∷ []) h.0.0)
+    ∙ calm-assign code l.scope x (drop (back + 1) code) (calm-lies classes code (l ∷ ls) j rest (back + 1) h.1)
 taken_calm classes code Drops back (l ∷ ls) j rest h =
-    drop_calm code (drop back code) (drop (back + 1) code) (ap is_drop (first-drop code back) ∙ h.0) (drop-drop back 1 code) (calm-lies classes code (l ∷ ls) j rest (back + 1) h.1)
+    drop_calm code (drop back code) (drop (back + 1) code) (ap is_drop (first-drop code back) ∙ h.0) (drop-drop back 1 code)
+    (calm-lies classes code (l ∷ ls) j rest (back + 1) h.1)
 
-pub calm-back : (classes : List Class) (code : List Op) (items : List Item) (l : Level) (ls : List Level) (at : ℕ) → LeavesOn items → Lies classes code (l ∷ ls) items at → calm code (drop l.back code) ≡ true
+pub calm-back : (classes : List Class) (code : List Op) (items : List Item) (l : Level) (ls : List Level) (at : ℕ) → LeavesOn items
+    → Lies classes code (l ∷ ls) items at → calm code (drop l.back code) ≡ true
 calm-back classes code [] l ls at leaves h = absurd leaves
-calm-back classes code (Do (stmt line (declare x t r)) ∷ rest) l ls at leaves h = calm-back classes code rest (record l { scope = scope_behind classes l.scope (declare x t r) }) ls _ leaves h.1
+calm-back classes code (Do (stmt line (declare x t r)) ∷ rest) l ls at leaves h = calm-back classes code rest
+    (record l { scope = scope_behind classes l.scope (declare x t r) }) ls _ leaves h.1
 calm-back classes code (Do (stmt line (assign p r)) ∷ rest) l ls at leaves h = calm-back classes code rest l ls _ leaves h.1
 calm-back classes code (Do (stmt line (call c)) ∷ rest) l ls at leaves h = calm-back classes code rest l ls _ leaves h.1
 calm-back classes code (Do (stmt line (swap y p)) ∷ rest) l ls at leaves h = calm-back classes code rest l ls _ leaves h.1
@@ -203,15 +220,18 @@ calm-back classes code (Back ∷ j ∷ rest) l ls at leaves h = calm-lies classe
 
 -- the items of a running body above another leave its frame
 
-pub running-leaves : (t : Tree) → Accepted t → (top f : Frame) (fs : List Frame) (ws : List Window) (items : List Item) → Running t top (f ∷ fs) ws items → LeavesOn items
+pub running-leaves : (t : Tree) → Accepted t → (top f : Frame) (fs : List Frame) (ws : List Window) (items : List Item)
+    → Running t top (f ∷ fs) ws items → LeavesOn items
 running-leaves t accepted top f fs ws items h =
     subst LeavesOn (sym (h.items_are ∙ ap (λ l. l ++ h.rest) (sym h.begins)))
     (leaves-on h.spot.items h.rest (by_call h.beneath.7) (beneath-left t f fs h.under h.rest h.body top.target h.beneath))
   where
     called : (c : ℕ) (x : List ℕ) (m : Method) → method_named t.classes c x ≡ Some m → h.body ≡ method_body t.classes c m → Leaves h.spot.items
     called c x m named is =
-        method_leaves t c m m.result refl (Accepted-method t accepted c x m named).gives h.point h.spot (subst (λ b. spot_at t.classes b h.point ≡ Some h.spot) is h.spot_is) (subst SomeLeft (sym h.begins) tt)
+        method_leaves t c m m.result refl (Accepted-method t accepted c x m named).gives h.point h.spot
+        (subst (λ b. spot_at t.classes b h.point ≡ Some h.spot) is h.spot_is) (subst SomeLeft (sym h.begins) tt)
 
-    by_call : Waits t.classes h.beneath.0 f (length fs) h.beneath.1 h.beneath.3 h.body top.target ⊎ WaitsEmpty t h.beneath.0 f h.beneath.1 h.beneath.3 h.body top.target → Leaves h.spot.items
+    by_call : Waits t.classes h.beneath.0 f (length fs) h.beneath.1 h.beneath.3 h.body top.target
+        ⊎ WaitsEmpty t h.beneath.0 f h.beneath.1 h.beneath.3 h.body top.target → Leaves h.spot.items
     by_call (inl w) = called w.calls.class w.calls.made.method w.calls.called w.calls.called_is w.calls.callee_is
     by_call (inr w) = called w.class w.name w.called w.called_is w.callee_is

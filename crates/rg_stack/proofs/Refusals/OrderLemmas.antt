@@ -1,13 +1,17 @@
 -- The code of expressions, calls and right sides is orderly in front of what is calm.
-use Rattle.std.proofs.Common.{◌≡◌, ℕ, ◌+◌, ◌-◌, true, false, Bool as Truth, if◌then◌else◌, List, [], ◌∷◌, ◌++◌, length, refl, ap, subst, ◌∙◌, arith, append_assoc, length-append}
+use Rattle.std.proofs.Common.{◌≡◌, ℕ, ◌+◌, ◌-◌, true, false, Bool as Truth, if◌then◌else◌, List, [], ◌∷◌, ◌++◌, length, refl, ap, subst, ◌∙◌, arith}
+use Rattle.std.proofs.Common.{append_assoc, length-append}
 use Rattle.rg_base.specs.declared.ty.Ty.{Ty}
 use Rattle.rg_tree.specs.declared.rows.BinOp.{BinOp}
 use Rattle.rg_tree.specs.declared.rows.BinOp.TheVariants as op
-use Rattle.rg_tree.specs.Tree.{Name, Variable, Expr, number, boolean, nil, path, is_nil, neg, not, binary, Call, Right, value, new, new_tmp, new_iso, freeze, merge, read, more, result_of, Class}
+use Rattle.rg_tree.specs.Tree.{Name, Variable, Expr, number, boolean, nil, path, is_nil, neg, not, binary, Call, Right, value, new, new_tmp}
+use Rattle.rg_tree.specs.Tree.{new_iso, freeze, merge, read, more, result_of, Class}
 use Rattle.rg_rules.specs.Capabilities.{is_iso}
 use Rattle.rg_code.specs.declared.op.Op.{Op}
 use Rattle.rg_code.specs.declared.op.Op.TheVariants as i
-use Rattle.rg_code.specs.Lowering.{Scope, slot_of, type_in, field_number, type_behind, fields_code, path_code, gap, operator_code, expr_code, exprs_code, used_slots, used_by_all, clears, whole_code, number_called, target_class, call_code, right_code, pace_code, assign_op}
+use Rattle.rg_code.specs.Lowering.{Scope, slot_of, type_in, field_number, type_behind, fields_code, path_code, gap, operator_code, expr_code}
+use Rattle.rg_code.specs.Lowering.{exprs_code, used_slots, used_by_all, clears, whole_code, number_called, target_class, call_code, right_code}
+use Rattle.rg_code.specs.Lowering.{pace_code, assign_op}
 use Rattle.rg_stack.proofs.Callers.OrderLemmas.{and_both, and_first, and_second, calm-orderly}
 use Rattle.rg_stack.specs.Refusals.{Computes, Passes, manner, calm, all_compute, orderly_by, orderly}
 
@@ -51,7 +55,8 @@ compute-expr classes scope at (number z) = refl
 compute-expr classes scope at (boolean b) = refl
 compute-expr classes scope at nil = refl
 compute-expr classes scope at (path p) = compute-path classes scope p.base p.fields
-compute-expr classes scope at (is_nil p) = compute-append (path_code classes scope p.base p.fields) (i.IsNil ∷ []) (compute-path classes scope p.base p.fields) refl
+compute-expr classes scope at (is_nil p) = compute-append (path_code classes scope p.base p.fields) (i.IsNil ∷ [])
+    (compute-path classes scope p.base p.fields) refl
 compute-expr classes scope at (neg a) = compute-append (expr_code classes scope at a) (i.Neg ∷ []) (compute-expr classes scope at a) refl
 compute-expr classes scope at (not a) = compute-append (expr_code classes scope at a) (i.Not ∷ []) (compute-expr classes scope at a) refl
 compute-expr classes scope at (binary o a b) =
@@ -79,7 +84,8 @@ module _ (code : List Op) where
       ap (orderly code at) (append_assoc xs ys rest) ∙ a (ys ++ rest) (b rest (subst (λ k. orderly code k rest ≡ true) same h))
 
   -- one that passes over the others
-  before-choice : (o : Op) (end : ℕ) (ops : List Op) (at : ℕ) → manner o ≡ Passes end → end ≡ at + 1 + length ops → AllCompute ops → Before (at + 1) ops → Before at (o ∷ ops)
+  before-choice : (o : Op) (end : ℕ) (ops : List Op) (at : ℕ) → manner o ≡ Passes end → end ≡ at + 1 + length ops → AllCompute ops
+      → Before (at + 1) ops → Before at (o ∷ ops)
   before-choice o end ops at is e all go rest h =
       let n : end - (at + 1) ≡ length ops = omega (arith, e) in
       let same : at + length (o ∷ ops) ≡ at + 1 + length ops = omega arith in
@@ -91,16 +97,19 @@ module _ (code : List Op) where
 
   before-fields : (classes : List Class) (t : Ty) (fs : List Name) (at : ℕ) → Before at (fields_code classes t fs)
   before-fields classes t [] at = before-none at
-  before-fields classes t (f ∷ fs) at = before-append (i.Field (field_number classes t f) ∷ []) (fields_code classes (type_behind classes t f) fs) at (before-one (i.Field (field_number classes t f)) refl at)
-    (before-fields classes (type_behind classes t f) fs (at + 1))
+  before-fields classes t (f ∷ fs) at = before-append (i.Field (field_number classes t f) ∷ []) (fields_code classes (type_behind classes t f) fs)
+      at (before-one (i.Field (field_number classes t f)) refl at)
+      (before-fields classes (type_behind classes t f) fs (at + 1))
 
   pub before-path : (classes : List Class) (scope : Scope) (x : Variable) (fs : List Name) (at : ℕ) → Before at (path_code classes scope x fs)
-  before-path classes scope x fs at = before-append (i.Load (slot_of scope x) ∷ []) (fields_code classes (type_in scope x) fs) at (before-one (i.Load (slot_of scope x)) refl at) (before-fields classes (type_in scope x) fs (at + 1))
+  before-path classes scope x fs at = before-append (i.Load (slot_of scope x) ∷ []) (fields_code classes (type_in scope x) fs) at
+      (before-one (i.Load (slot_of scope x)) refl at) (before-fields classes (type_in scope x) fs (at + 1))
 
   at_once : (at : ℕ) (ops : List Op) → Before (at + 0) ops → Before at ops
   at_once at ops h = let same : at + 0 ≡ at = omega arith in subst (λ k. Before k ops) same h
 
-  before-operator : (o : BinOp) (at end : ℕ) (right : List Op) → end ≡ at + gap o + length right → AllCompute right → Before (at + gap o) right → Before at (operator_code o end right)
+  before-operator : (o : BinOp) (at end : ℕ) (right : List Op) → end ≡ at + gap o + length right → AllCompute right → Before (at + gap o) right
+      → Before at (operator_code o end right)
   before-operator op.Or at end right e all go = before-choice (i.Or end) end right at refl e all go
   before-operator op.And at end right e all go = before-choice (i.And end) end right at refl e all go
   before-operator op.Eq at end right e all go = before-more i.Eq refl right at (at_once at right go)
@@ -120,7 +129,8 @@ module _ (code : List Op) where
   before-expr classes scope at (boolean b) = before-one (i.Bool b) refl at
   before-expr classes scope at nil = before-one i.Nil refl at
   before-expr classes scope at (path p) = before-path classes scope p.base p.fields at
-  before-expr classes scope at (is_nil p) = before-more i.IsNil refl (path_code classes scope p.base p.fields) at (before-path classes scope p.base p.fields at)
+  before-expr classes scope at (is_nil p) = before-more i.IsNil refl (path_code classes scope p.base p.fields) at
+      (before-path classes scope p.base p.fields at)
   before-expr classes scope at (neg a) = before-more i.Neg refl (expr_code classes scope at a) at (before-expr classes scope at a)
   before-expr classes scope at (not a) = before-more i.Not refl (expr_code classes scope at a) at (before-expr classes scope at a)
   before-expr classes scope at (binary o a b) =
@@ -128,13 +138,15 @@ module _ (code : List Op) where
       let middle = at + length left + gap o in
       let right = expr_code classes scope middle b in
       before-append left (operator_code o (middle + length right) right) at (before-expr classes scope at a)
-      (before-operator o (at + length left) (middle + length right) right refl (compute-expr classes scope middle b) (before-expr classes scope middle b))
+      (before-operator o (at + length left) (middle + length right) right refl (compute-expr classes scope middle b)
+      (before-expr classes scope middle b))
 
   pub before-exprs : (classes : List Class) (scope : Scope) (at : ℕ) (es : List Expr) → Before at (exprs_code classes scope at es)
   before-exprs classes scope at [] = before-none at
   before-exprs classes scope at (e ∷ es) =
       let first = expr_code classes scope at e in
-      before-append first (exprs_code classes scope (at + length first) es) at (before-expr classes scope at e) (before-exprs classes scope (at + length first) es)
+      before-append first (exprs_code classes scope (at + length first) es) at (before-expr classes scope at e)
+      (before-exprs classes scope (at + length first) es)
 
   -- in front of what is calm
   abbrev pub Quiet : (at : ℕ) → List Op → Type 0
@@ -162,7 +174,8 @@ module _ (code : List Op) where
       let exprs = exprs_code classes scope (at + length receiver) c.args in
       let calls = i.Call (number_called classes (target_class classes scope c) c.method) ∷ [] in
       let last = clears (used_by_all scope c.args) ++ calls in
-      quiet-append receiver (exprs ++ i.Room ∷ last) at (before-more i.Check refl path at (before-path classes scope c.target.base c.target.fields at))
+      quiet-append receiver (exprs ++ i.Room ∷ last) at (before-more i.Check refl path at
+      (before-path classes scope c.target.base c.target.fields at))
       (quiet-append exprs (i.Room ∷ last) (at + length receiver) (before-exprs classes scope (at + length receiver) c.args)
       (λ rest h. calm-orderly code (at + length receiver + length exprs + 1) (last ++ rest)
       (ap (calm code) (append_assoc (clears (used_by_all scope c.args)) calls rest) ∙ calm-clears (used_by_all scope c.args) (calls ++ rest) refl)))
