@@ -153,7 +153,8 @@ module _ (t : Tree) (accepted : Accepted t) (store : List Seen) (managers : List
       → Showing (mf ∷ mfs) mws (f ∷ fs) ws (i ∷ rest) → Moves (mf ∷ mfs) mws (f ∷ fs) ws (i ∷ rest)
   item-moves mf mfs mws f fs ws (Do s) rest h a b c e = behind-moves mf mfs mws f fs ws (Do s) rest
       (running-left t f fs ws (Do s) rest h (do-other s)) h a b c e
-  item-moves mf mfs mws f fs ws (EndAt k) rest h a b c e = end-mirrors t.classes (lowered t) (round mf mfs mws f fs ws) store mf.slots f.locals managers
+  item-moves mf mfs mws f fs ws (EndAt k) rest h a b c e = end-mirrors t.classes (lowered t) (round mf mfs mws f fs ws) store mf.slots f.locals
+      managers
       input 0 k rest e
   item-moves mf mfs mws f fs ws (LeaveAt k) rest h a b c e = behind-moves mf mfs mws f fs ws (LeaveAt k) rest
       (running-left t f fs ws (LeaveAt k) rest h (leave-other k)) h a b c e

@@ -135,7 +135,8 @@ module _ (t : Tree) (accepted : Accepted t) (r : Round) (store : List Seen) (slo
   branch-judged e b no_else out f h judged =
       let p = bind-ok (at_line line (judge_test t.classes env e)) _ out judged in
       let q = bind-ok (judge_block t.classes None p.0 b) _ out p.2 in
-      branch-mirrors t.classes code r store slots locals managers input line e b j rest h (test-agrees e p.0 f p.1) (block-goes_on t.classes b p.0 q.0 q.1)
+      branch-mirrors t.classes code r store slots locals managers input line e b j rest h (test-agrees e p.0 f p.1)
+      (block-goes_on t.classes b p.0 q.0 q.1)
   branch-judged e b (otherwise c) out f h judged =
       let p = bind-ok (at_line line (judge_test t.classes env e)) _ out judged in
       let q = bind-ok (judge_block t.classes None p.0 b) _ out p.2 in
@@ -419,7 +420,8 @@ pub return-judged : (t : Tree) (r : Round) (slots under : List Val) (locals call
     → SameMove t.classes (lowered t) r.output (next t.classes
     (state (above r under callers back target) store locals managers input (Do (stmt line (return e)) ∷ j ∷ rest)))
     (step (lowered t) (work (above r under callers back target) store slots managers input))
-return-judged t r slots under locals callers back target store managers input line e j rest env last out named meets objects h judged below begins has =
+return-judged t r slots under locals callers back target store managers input line e j rest env last out named meets objects h judged below begins
+    has =
     let q = at_line-ok line _ out judged in
     let w = bind-ok (ok_or last Return) _ out q in
     let p = bind-ok (judge_expr t.classes env (Some w.0) e) _ out w.2 in

@@ -354,7 +354,8 @@ module _ (classes : List Class) (code : Code) (j : Item) (rest : List Item) wher
         (subst (λ k. Behind k target back (top ∷ levels)) (sym gives) behind)))
 
     -- `x = call q.m(a, b);`
-    pub assign-call-mirrors : (x : Variable) (u : Written) → Showing (assign (record { base = x; fields = [] }) (result_of c)) → Owed → m.result ≡ Some u
+    pub assign-call-mirrors : (x : Variable) (u : Written) → Showing (assign (record { base = x; fields = [] }) (result_of c)) → Owed → m.result
+        ≡ Some u
         → Simulated (assign (record { base = x; fields = [] }) (result_of c))
     assign-call-mirrors x u h owes gives =
         let scope = scope_of locals in

@@ -113,7 +113,8 @@ module _ (classes : List Class) (code : Code) (r : Round) (store : List Seen) (s
       (step code (work r store slots managers input))
 
   -- `swap y, q.f;`
-  pub swap-mirrors : (y : Name) (x : Variable) (f : Name) (fs : List Name) → Showing (swap y (record { base = x; fields = f ∷ fs })) → Has locals (Some y)
+  pub swap-mirrors : (y : Name) (x : Variable) (f : Name) (fs : List Name) → Showing (swap y (record { base = x; fields = f ∷ fs }))
+      → Has locals (Some y)
       → FollowsPath classes store locals (scope_of locals) (record { base = x; fields = all_but_last f fs })
       → HolderOwes classes store locals (scope_of locals) x f fs
       → Simulated (swap y (record { base = x; fields = f ∷ fs }))
