@@ -4,7 +4,8 @@ use Rattle.std.proofs.Common.{slice_get}
 use Rattle.rg_code.specs.declared.op.Op.{Op}
 use Rattle.rg_code.specs.declared.op.Op.TheVariants as i
 use Rattle.rg_code.specs.Places.{is_mark}
-use Rattle.rg_stack.specs.Refusals.{Manner, Ends, Clears, Settles, Takes, Computes, Prepares, Calls, Chooses, Passes, manner, room_behind, calm_by, calm}
+use Rattle.rg_stack.specs.Refusals.{Manner, Ends, Clears, Settles, Takes, Computes, Prepares, Calls, Chooses, Passes, manner, room_behind, calm_by}
+use Rattle.rg_stack.specs.Refusals.{calm}
 use Rattle.rg_stack.specs.Refusals.{computes, all_compute}
 use Rattle.rg_stack.specs.Refusals.{orderly_by, orderly}
 

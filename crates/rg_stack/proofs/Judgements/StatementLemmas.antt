@@ -52,7 +52,8 @@ use Rattle.rg_stack.proofs.Statements.BlockLemmas.{branch-mirrors, branch-else-m
 use Rattle.rg_stack.proofs.Statements.WindowLemmas.{swap-mirrors, enter-mirrors, enter-field-mirrors}
 use Rattle.rg_stack.proofs.Statements.ReturnLemmas.{TargetHas, above, return-mirrors}
 use Rattle.rg_stack.proofs.Statements.CallLemmas.{BodyFits, CallOwes, call-mirrors, declare-call-mirrors, assign-call-mirrors}
-use Rattle.rg_stack.proofs.Judgements.FollowLemmas.{some-is, class_is}
+use Rattle.rg_stack.proofs.Basics.{some-is}
+use Rattle.rg_stack.proofs.Judgements.FollowLemmas.{class_is}
 use Rattle.rg_stack.proofs.Judgements.JudgeLemmas.{Facts, expr-agrees, holder-follows, holder-owes, holder-type, block-goes_on, block-gives}
 use Rattle.rg_stack.specs.Effects.{begins_by}
 use Rattle.rg_stack.proofs.Statements.BaseLemmas.{as_many}

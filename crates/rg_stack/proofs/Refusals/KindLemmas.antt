@@ -12,6 +12,7 @@ use Rattle.rg_code.specs.declared.op.Op.TheVariants as i
 use Rattle.rg_code.specs.Lowering.{Scope, slot_of, holder_code, held_number, right_code, pace_code, dropped_code, whole_code, call_code}
 use Rattle.rg_code.specs.Lowering.{call_result, assign_code, assign_op, swap_code, enter_code, scope_behind, scope_inside, block_code, kind_code}
 use Rattle.rg_code.specs.Places.{Stands, StandsIn, is_mark, behind_end, Level, Lies}
+use Rattle.rg_stack.proofs.Basics.{is_halt}
 use Rattle.rg_stack.specs.Refusals.{calm, orderly}
 use Rattle.rg_stack.proofs.Walks.MarkLemmas.{drop-drop, drop-stands, first-drop, lies_at_mark}
 use Rattle.rg_stack.proofs.Walks.PlaceLemmas.{back_in, block_starts, GoesOn}
@@ -238,11 +239,6 @@ module _ (classes : List Class) (code : List Op) where
       ∙ quiet-whole code classes l.scope (at + 1) e (i.Ret ∷ tail) refl
 
   -- the end of a block
-  abbrev is_halt : Option Op → Truth
-  is_halt None = false
-  is_halt (Some i.Halt) = true
-  is_halt (Some o) = false
-
   calm-behind : (os : List Op) (n : ℕ) (items : List Item) (ls : List Level) → slice_get code n ≡ slice_get os 0
       → Lies classes code ls items (behind_end (slice_get os 0) n) → calm code false os ≡ true
   calm-behind [] n items ls is lies = refl

@@ -18,6 +18,7 @@ use Rattle.rg_code.specs.declared.op.Op.TheVariants as i
 use Rattle.rg_code.specs.Code.{Code}
 use Rattle.rg_code.specs.Lowering.{Scope, used_slots, whole_code, block_code}
 use Rattle.rg_code.specs.Places.{StandsIn, is_mark, behind_end, scope_of, Level, Lies}
+use Rattle.rg_stack.proofs.Basics.{is_halt}
 use Rattle.rg_stack.specs.Machine.{ended_slots}
 use Rattle.rg_stack.specs.Effects.{Work, Walked, Stops, walk}
 use Rattle.rg_stack.specs.Runs.{step, step_from}
@@ -90,12 +91,6 @@ ended-length (suc k) [] = let e : 0 - suc k ≡ 0 = omega arith in ap (λ n. len
 ended-length (suc k) (s ∷ ss) =
     let e : length (s ∷ ss) - suc k ≡ length ss - k = omega arith in
     ap (λ n. suc (length (take k ss ++ replicate n val.Nil))) e ∙ ap suc (ended-length k ss)
-
--- a `halt`
-abbrev is_halt : Option Op → Truth
-is_halt None = false
-is_halt (Some i.Halt) = true
-is_halt (Some o) = false
 
 module _ (classes : List Class) (code : Code) (r : Round) (store : List Seen) (slots : List Val) (locals : List Local) (managers : List Manager)
     (input : List ℕ) (line : ℕ) where
