@@ -1,6 +1,6 @@
 //! The code of the bodies of methods (docs/language.md, "Instructions and lowering").
 
-ghost use Rattle.std.specs.Prelude.{◌≡◌, ◌<◌, ◌+◌, ◌≤◌, ◌++◌, suc, option_map, All, map, length};
+ghost use Rattle.std.specs.Prelude.{◌≡◌, ◌<◌, ◌+◌, ◌≤◌, suc, option_map, All, map, length};
 ghost use Rattle.std.specs.Prelude.{OnOk};
 ghost use Rattle.rg_base.specs.declared.limits.TheConstants.{BODY_NAMES};
 ghost use Rattle.rg_tree.specs.Rows.Tables.{Tables};

@@ -1,6 +1,6 @@
 //! The code of paths (docs/language.md, "Instructions and lowering").
 
-ghost use Rattle.std.specs.Prelude.{◌≡◌, All, map, length, IfOk, IfSome, OnOk};
+ghost use Rattle.std.specs.Prelude.{◌≡◌, All, map, IfOk, IfSome, OnOk};
 ghost use Rattle.rg_tree.specs.Rows.Tables.{name_at};
 ghost use Rattle.rg_tree.specs.Rows.RowTrees.{classes_of, path_of};
 ghost use Rattle.rg_tree.specs.Rows.RowsExist.{IsNameIn, IsPathIn};

@@ -2,7 +2,7 @@
 
 ghost use Rattle.std.specs.Prelude.{◌≡◌, ◌≤◌, IfOk, OnOk};
 ghost use Rattle.rg_base.specs.declared.limits.TheConstants.{BODY_NAMES};
-ghost use Rattle.rg_tree.specs.Rows.RowTrees.{block_of, program_of};
+ghost use Rattle.rg_tree.specs.Rows.RowTrees.{program_of};
 ghost use Rattle.rg_rules.specs.Names.{block_names};
 ghost use Rattle.rg_code.specs.Code.{empty};
 ghost use Rattle.rg_code.specs.Lowering.{main_code, slots_of, Lowers};
@@ -17,7 +17,8 @@ use rg_code::{CodeList, Op};
 use rg_names::Book;
 use std::alloc::Global;
 
-/// The code of an accepted program.
+/// The code of an accepted program, in one walk over its tree: the time is linear in the program,
+/// however deep its blocks and expressions are.
 pub fn lower(alloc: Global, accepted: &Accepted) -> Result<CodeList, Memory>
     ensures { IfOk result (Lowers (program_of accepted.now.program)) }
 {

@@ -1,6 +1,6 @@
 //! How a window is entered (docs/language.md, "Instructions and lowering").
 
-ghost use Rattle.std.specs.Prelude.{◌≡◌, length, OnOk, IfOk};
+ghost use Rattle.std.specs.Prelude.{◌≡◌, OnOk, IfOk};
 ghost use Rattle.rg_base.specs.declared.words.Cap.TheVariants as cap;
 ghost use Rattle.rg_base.specs.declared.ty.Ty.TheVariants as ty;
 ghost use Rattle.rg_tree.specs.Rows.RowTrees.{classes_of, path_of};
