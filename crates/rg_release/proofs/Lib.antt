@@ -1,0 +1,5 @@
+mod OwnedFound
+mod CellsFreed
+mod GroveKept
+mod BelowLeft
+mod TurnsMade
