@@ -78,7 +78,8 @@ module _ (c : Table) (t : RegionTable) (key : ℕ) (rec : Record) (rest : List �
         ];
       }
 
-  beneath_left : (top q : ℕ) → ((top ≡ rec.number) ⊎ BelowOne cells.heap regions keys top) → Above c.heap top q → (q ≡ rec.number) ⊎ BelowOne cells.heap regions keys q
+  beneath_left : (top q : ℕ) → ((top ≡ rec.number) ⊎ BelowOne cells.heap regions keys top) → Above c.heap top q
+      → (q ≡ rec.number) ⊎ BelowOne cells.heap regions keys q
   beneath_left top q z (direct a) = elim (cases_eq top rec.number) [
     | inl y ↦ let P : ℕ → Type 0 = λ v. Parent c.heap v q in inr (child_left q (subst P y a))
     | inr d ↦ elim z [ inl y ↦ absurd (d y) | inr y ↦ inr (lower_left top q d a y) ]

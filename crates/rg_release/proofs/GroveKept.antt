@@ -37,7 +37,9 @@ module _ (c : Table) (t : RegionTable) (key : ℕ) (rec : Record) (cells : Table
   -- the number of a key that is left
   pub had_number : (k n : ℕ) → HasNumber regions k n → (k ≢ key) × HasNumber t k n
   had_number k n a =
-      let d : k ≢ key = λ e. let z : None ≡ Some n = sym (ap (option_map (λ (z : Record). z.number)) (ap (record_at regions) e ∙ w.removed)) ∙ a in cc in
+      let d : k ≢ key = λ e.
+          let z : None ≡ Some n = sym (ap (option_map (λ (z : Record). z.number)) (ap (record_at regions) e ∙ w.removed)) ∙ a in
+          cc in
       (d, sym (ap (option_map (λ (z : Record). z.number)) (w.stay k d)) ∙ a)
 
   pub keeps_number : (k n : ℕ) → k ≢ key → HasNumber t k n → HasNumber regions k n
@@ -57,12 +59,14 @@ module _ (c : Table) (t : RegionTable) (key : ℕ) (rec : Record) (cells : Table
       let r = rec.number in
       let lie : (q s : ℕ) → LiesIn cells.heap q s → LiesIn c.heap q s = λ q s l. (lay q s l).1 in
       let not : (q s : ℕ) → LiesIn cells.heap q s → q ≢ r = λ q s l. (lay q s l).0 in
-      let fld : (s k : ℕ) (v : Word) → field_at cells.heap s k ≡ Some v → field_at c.heap s k ≡ Some v = λ s k v f. field_before c.heap cells.heap s k v (fewer s) f in
+      let fld : (s k : ℕ) (v : Word) → field_at cells.heap s k ≡ Some v → field_at c.heap s k ≡ Some v =
+          λ s k v f. field_before c.heap cells.heap s k v (fewer s) f in
       let far : (s : ℕ) → (LiesIn c.heap r s → ⊥) → body_at cells.heap s ≡ body_at c.heap s = λ s n. (w.others s n).0 in
       let ice : (s : ℕ) → label_at c.heap s ≡ Some Frozen → label_at cells.heap s ≡ Some Frozen =
           λ s l. ap (option_map (λ (b : Body). b.label)) (far s (λ i. let q : Some Frozen ≡ Some (Region r) = sym l ∙ i in cc)) ∙ l in
       let number_r : HasNumber t key r = number_of t key r rec e refl in
-      let apart : (k : ℕ) (z : Record) → k ≢ key → record_at t k ≡ Some z → z.number ≢ r = λ k z d a n. d (g.numbers k key r (number_of t k r z a n) number_r) in
+      let apart : (k : ℕ) (z : Record) → k ≢ key → record_at t k ≡ Some z → z.number ≢ r =
+          λ k z d a n. d (g.numbers k key r (number_of t k r z a n) number_r) in
       record {
         numbers = λ k o n a b. g.numbers k o n (had_number k n a).1 (had_number o n b).1;
         members = λ k z a.
@@ -96,7 +100,8 @@ module _ (c : Table) (t : RegionTable) (key : ℕ) (rec : Record) (cells : Table
               ]
             ];
         one_in = λ q p s k to p2 s2 k2 to2 d l f i d2 l2 f2 i2.
-            g.one_in q p s k to p2 s2 k2 to2 d (lie p s l) (fld s k (Slot to) f) (lie q to i) d2 (lie p2 s2 l2) (fld s2 k2 (Slot to2) f2) (lie q to2 i2);
+            g.one_in q p s k to p2 s2 k2 to2 d (lie p s l) (fld s k (Slot to) f) (lie q to i)
+            d2 (lie p2 s2 l2) (fld s2 k2 (Slot to2) f2) (lie q to2 i2);
         none_into_first = λ p s k to d l f i. g.none_into_first p s k to d (lie p s l) (fld s k (Slot to) f) (lie 0 to i);
         no_cycle = λ q a. g.no_cycle q (above_before c.heap cells.heap fewer q q a);
         counts = λ k s z a m l.

@@ -2,4 +2,5 @@ mod OwnedFound
 mod CellsFreed
 mod GroveKept
 mod BelowLeft
-mod TurnsMade
+mod OneReleased
+mod AllReleased

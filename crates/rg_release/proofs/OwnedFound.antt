@@ -16,7 +16,8 @@ slot_is : (a b : ℕ) → Some (Slot a) ≡ Some (Slot b) → a ≡ b
 slot_is a b q = cc
 
 -- the key's record stays while links are set, and so do its members
-pub same_record : (old now : RegionTable) (key : ℕ) (rec : Record) → now.records ≡ old.records → record_at old key ≡ Some rec → record_at now key ≡ Some rec
+pub same_record : (old now : RegionTable) (key : ℕ) (rec : Record) → now.records ≡ old.records
+    → record_at old key ≡ Some rec → record_at now key ≡ Some rec
 same_record old now key rec e at = ap (λ (rs : List (Option Record)). get_or rs key None) e ∙ at
 
 pub members_read : (old now : RegionTable) (key : ℕ) (rec : Record) (members : List ℕ) → now.records ≡ old.records → record_at old key ≡ Some rec
@@ -53,6 +54,9 @@ module _ (h : Heap) (r : ℕ) (members : List ℕ) where
 
   next_field : (i k q : ℕ) → Owned h r members i k q → Owned h r members i (k + 1) q
   next_field i k q = later i k i (k + 1) q (λ p f w. elim w [ inl a ↦ inl a | inr b ↦ inr (b.0, omega (arith, b.1)) ])
+
+  next_member : (i k q : ℕ) → Owned h r members i k q → Owned h r members (i + 1) 0 q
+  next_member i k q = later i k (i + 1) 0 q (λ p f w. elim w [ inl a ↦ inl (omega (arith, a)) | inr b ↦ inl (omega (arith, b.0)) ])
 
   -- the last field of those followed is the one that leads there
   at_last : (i k q : ℕ) (o : Owned h r members i (k + 1) q) → o.place ≡ i → o.field < k + 1 → k ≤ o.field
@@ -115,7 +119,7 @@ module _ (h : Heap) (r : ℕ) (members : List ℕ) where
         old = o.1.old;
         each = λ key m. elim (o.1.each key m) [
           | inl a ↦ inl a
-          | inr e ↦ inr (e.0, e.1, later i k (i + 1) 0 e.0 (λ p f w. elim w [ inl a ↦ inl (omega (arith, a)) | inr b ↦ inl (omega (arith, b.0)) ]) e.2)
+          | inr e ↦ inr (e.0, e.1, next_member i k e.0 e.2)
         ];
         all = λ q key w n. o.1.all q key (back q w) n;
         apart = o.1.apart;
@@ -127,7 +131,8 @@ module _ (h : Heap) (r : ℕ) (members : List ℕ) where
           | inl a ↦ earlier (i + 1) 0 i k q w (inl a)
           | inr a ↦
               let p : w.place ≡ i = elim (w.early) [ inl b ↦ omega (arith, a, b) | inr b ↦ absurd (omega (arith, b.1)) ] in
-              let f : field_at h (get_or members i 0) w.field ≡ Some (Slot w.to) = ap (λ z. field_at h (get_or members z 0) w.field) (sym p) ∙ w.leads in
+              let f : field_at h (get_or members i 0) w.field ≡ Some (Slot w.to) =
+                  ap (λ z. field_at h (get_or members z 0) w.field) (sym p) ∙ w.leads in
               let b : w.field < width (body_at h (get_or members i 0)) = field_within h (get_or members i 0) w.field (Slot w.to) f in
               earlier (i + 1) 0 i k q w (inr (p, omega (arith, b, l)))
         ]
@@ -147,7 +152,8 @@ module _ (h : Heap) (r : ℕ) (members : List ℕ) where
               let same : e.0 ≡ q = one_number t c.key e.0 q e.1 has in
               let L : ℕ → Type 0 = λ z. LiesIn h z e.2.to in
               let from = get_or members e.2.place 0 in
-              let u = w.one q (get_or members i 0) k to from e.2.field e.2.to other (w.lie i l) leads lies (w.lie e.2.place e.2.within) e.2.leads (subst L same e.2.lies) in
+              let u = w.one q (get_or members i 0) k to from e.2.field e.2.to other (w.lie i l) leads lies
+                  (w.lie e.2.place e.2.within) e.2.leads (subst L same e.2.lies) in
               let p : i ≡ e.2.place = w.once i e.2.place l e.2.within u.0 in
               elim (e.2.early) [ inl a ↦ omega (arith, p, a) | inr b ↦ omega (arith, u.1, b.1) ]
         ] in
@@ -164,13 +170,27 @@ module _ (h : Heap) (r : ℕ) (members : List ℕ) where
             chain = subst R (sym c.is) (subst C (sym links) (
               refl,
               fresh,
-              subst D (sym (get_or-set_same now.links c.key head None c.within)) (chained_agree now.links (set now.links c.key head) head o.0 agree o.1.chain),
+              subst D (sym (get_or-set_same now.links c.key head None c.within))
+                  (chained_agree now.links (set now.links c.key head) head o.0 agree o.1.chain),
             ));
             old = λ key a. inr (o.1.old key a);
             each = λ key m. elim m [
               | inl e ↦
                   let H : ℕ → Type 0 = λ z. HasNumber t z q in
-                  inr (q, subst H (sym e) has, record { place = i; field = k; to = to; early = inr (refl, omega arith); within = l; leads = leads; lies = lies; other = other })
+                  inr (
+                    q,
+                    subst H (sym e) has,
+                    record {
+                      place = i;
+                      field = k;
+                      to = to;
+                      early = inr (refl, omega arith);
+                      within = l;
+                      leads = leads;
+                      lies = lies;
+                      other = other;
+                    },
+                  )
               | inr n ↦ elim (o.1.each key n) [ inl a ↦ inl a | inr e ↦ inr (e.0, e.1, next_field i k e.0 e.2) ]
             ];
             all = λ x key w n. elim (w.early) [
@@ -184,7 +204,8 @@ module _ (h : Heap) (r : ℕ) (members : List ℕ) where
                     inl (only key (subst H (one_region h to x q (subst L z w.lies) lies) n))
               ]
             ];
-            apart = λ key m. ap (λ ls. get_or ls key None) links ∙ get_or-set_other now.links c.key key head None (λ e. m (inl e)) ∙ o.1.apart key (λ a. m (inr a));
+            apart = λ key m. ap (λ ls. get_or ls key None) links
+                ∙ get_or-set_other now.links c.key key head None (λ e. m (inl e)) ∙ o.1.apart key (λ a. m (inr a));
           },
         )
 

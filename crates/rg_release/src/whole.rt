@@ -40,12 +40,14 @@ pub fn release(cells: &mut Cells, regions: &mut Regions, head: usize) -> u64
         × Unowned cells.old.heap regions.old keys }
     // which cells and which regions go
     ensures freed { OnChain regions.old head (CellsGo cells.old regions.old cells.new) }
-    ensures removed { OnChain regions.old head (RecordsGo cells.old.heap regions.old regions.new) }
+    ensures removed { OnChain regions.old head
+        (RecordsGo cells.old.heap regions.old regions.new) }
     ensures count { result + count_by is_some regions.new.records
         ≡ count_by is_some regions.old.records }
     // all else stays
     ensures cells { OnChain regions.old head (CellsStay cells.old regions.old cells.new) }
-    ensures regions { OnChain regions.old head (RecordsStay cells.old.heap regions.old regions.new) }
+    ensures regions { OnChain regions.old head
+        (RecordsStay cells.old.heap regions.old regions.new) }
     ensures serials { cells.new.heap.next ≡ cells.old.heap.next }
     ensures high { high_of cells.new.heap ≡ high_of cells.old.heap }
     ensures numbers { regions.new.next ≡ regions.old.next }

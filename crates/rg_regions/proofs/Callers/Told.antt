@@ -1,5 +1,6 @@
 -- What labels, fields, numbers and records tell (docs/architecture.md, "Regions").
-use Rattle.std.proofs.Common.{◌≡◌, ℕ, ◌<◌, List, Option, Some, None, IsSome, refl, ap, sym, ◌∙◌, ◌⊎◌, inl, inr, option_map, option_and_then, slice_get}
+use Rattle.std.proofs.Common.{◌≡◌, ℕ, ◌<◌, List, Option, Some, None, IsSome, refl, ap, sym, ◌∙◌, ◌⊎◌, inl, inr}
+use Rattle.std.proofs.Common.{option_map, option_and_then, slice_get}
 use Rattle.std.proofs.lemmas.Bool.{cases_eq}
 use Rattle.std.proofs.lemmas.Option.{slice_get_within}
 use Rattle.rg_base.specs.declared.object.Label.{Label}
@@ -46,7 +47,8 @@ lies_or_not h r s = by_body (body_at h s)
         number a b q = cc
     by_label (Temp n) = inl (λ e. cc)
     by_label Frozen = inl (λ e. cc)
-    by_body : (b : Option Body) → (option_map (λ (b : Body). b.label) b ≡ Some (Region r) → ⊥) ⊎ (option_map (λ (b : Body). b.label) b ≡ Some (Region r))
+    by_body : (b : Option Body)
+        → (option_map (λ (b : Body). b.label) b ≡ Some (Region r) → ⊥) ⊎ (option_map (λ (b : Body). b.label) b ≡ Some (Region r))
     by_body None = inl (λ e. cc)
     by_body (Some b) = by_label b.label
 

@@ -3,7 +3,7 @@ use Rattle.rg_regions.specs.Table.{Chained}
 use Rattle.rg_regions.proofs.Callers.Chain.{chained_one, chained_none, chained_some}
 use Rattle.rg_release.specs.Released.{Unowned}
 use Rattle.rg_release.specs.Inner.Turns.{Releasing}
-use Rattle.rg_release.proofs.TurnsMade.{releasing_turn, cells_go, records_go}
+use Rattle.rg_release.proofs.AllReleased.{releasing_turn, cells_go, records_go}
 use Rattle.rg_release.proofs.whole.release.Goals as goal
 
 pub release_first-next-requires-clause-unowned : goal.release_first-next-requires-clause-unowned
