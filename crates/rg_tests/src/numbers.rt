@@ -13,7 +13,7 @@ use std::test::Fail;
 const BLANKS: [u8; 4097] = [b'\n'; 4097];
 
 // How many ends of lines come first, the text behind them, and what three reads of it say.
-const INPUTS: [(usize, &str, &str); 26] = [
+const INPUTS: [(usize, &str, &str); 30] = [
     (0, "12 -5 x", "12 -5 input "),
     (0, "12 -5", "12 -5 end "),
     (0, "\t1\r\n2 \n", "1 2 end "),
@@ -35,6 +35,10 @@ const INPUTS: [(usize, &str, &str); 26] = [
     (0, "00000000000000000001 2", "1 2 end "),
     (0, "000000000000000000001 2", "input input input "),
     (0, "-00000000000000000001", "input input input "),
+    (4080, "-9223372036854775808 8", "-9223372036854775808 8 end "),
+    (4090, "12345 6789", "12345 6789 end "),
+    (4094, "123 -45", "123 -45 end "),
+    (4095, "7 x", "7 input input "),
     (4096, "3 4", "3 4 end "),
     (4096, "", "end end end "),
     (4096, "+3", "input input input "),
