@@ -21,7 +21,8 @@ use Rattle.rg_run.specs.Sound.{Stands, NeverAsks}
 use Rattle.rg_top.specs.declared.status.Status.{Status}
 use Rattle.rg_top.specs.declared.status.Status.TheVariants as status
 use Rattle.rg_top.specs.Commands.{Command, run, plain, fmt, check, code, bulk, Origin, in_file, generated, origin_of}
-use Rattle.rg_top.specs.Expected.{too_long, faulty, spelt, HasSource, MeansFrom, Means, status_of, accepted_text, listed_text, text_after, line_behind}
+use Rattle.rg_top.specs.Expected.{too_long, faulty, spelt, HasSource, MeansFrom, Means, status_of}
+use Rattle.rg_top.specs.Expected.{accepted_text, listed_text, text_after, line_behind}
 use Rattle.rg_top.specs.Headline.{HasInput, ForInput, Runs, Untouched, StandsAfter, AsksAfter, CutOffAt, CutAtInput}
 
 -- the status of a run
