@@ -22,7 +22,7 @@ use Rattle.rg_run.proofs.SoundLemmas.{run-is-sound, stands-shown}
 use Rattle.rg_run.proofs.RunLemmas.{run-of, wrote-whole, text-part, text-split}
 use Rattle.rg_top.specs.declared.status.Status.{Status}
 use Rattle.rg_top.specs.declared.status.Status.TheVariants as status
-use Rattle.rg_top.specs.Commands.{Command, run, plain, fmt, check, bulk, in_file, generated, origin_of, reads_input}
+use Rattle.rg_top.specs.Commands.{Command, run, plain, fmt, check, bulk, in_file, origin_of, reads_input}
 use Rattle.rg_top.specs.Statuses.{is_answer, is_from_outside}
 use Rattle.rg_top.specs.Expected.{too_long, faulty, spelt, MeansFrom, status_of, accepted_text, text_after, line_behind, run_answer, unless_fault}
 use Rattle.rg_top.specs.Expected.{ExpectsStatus}

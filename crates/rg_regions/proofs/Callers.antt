@@ -1,0 +1,4 @@
+-- Lemmas for the crates that free, freeze or move regions.
+pub mod Told
+pub mod Chain
+pub mod Fewer

@@ -1,0 +1,6 @@
+mod OwnedFound
+mod CellsFreed
+mod GroveKept
+mod BelowLeft
+mod OneReleased
+mod AllReleased

@@ -1,0 +1,4 @@
+-- What callers cite: the laws.
+pub mod StepLemmas
+pub mod OpeningLemmas
+pub mod RunLemmas

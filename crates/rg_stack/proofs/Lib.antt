@@ -1,0 +1,6 @@
+mod Mirrors
+mod Walks
+mod Statements
+mod Judgements
+pub mod Callers
+mod Examples

@@ -1,0 +1,8 @@
+//! The stack machine over a store that only grows, and that each of its steps does what a step of
+//! the machine that never frees does (docs/architecture.md, "The stack machine"). Each law is a
+//! function whose contract it is: `opening_shows` and `step_shows`, and from these `run_shows`.
+#![tactic(auto)]
+
+mod laws;
+
+pub use laws::{opening_shows, run_shows, step_shows};
