@@ -2,5 +2,6 @@ mod Mirrors
 mod Walks
 mod Statements
 mod Judgements
+mod Refusals
 pub mod Callers
 mod Examples
