@@ -5,8 +5,6 @@ mod held;
 mod number;
 mod numbers;
 mod refusal;
-#[cfg(test)]
-mod tests;
 
 pub use numbers::Numbers;
 pub use refusal::{InputFault, NumberRefusal};

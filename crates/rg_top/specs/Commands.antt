@@ -61,6 +61,19 @@ abbrev pub may_read : Option Command → Bool
 may_read None = false
 may_read (Some c) = reads_input c
 
+-- whether a command opens a file
+abbrev pub opens_file : Command → Bool
+opens_file (run file steps) = true
+opens_file (plain file steps) = true
+opens_file (fmt file) = true
+opens_file (check file) = true
+opens_file (bulk size) = false
+
+-- whether what the words give opens one
+abbrev pub may_open : Option Command → Bool
+may_open None = false
+may_open (Some c) = opens_file c
+
 -- whether a word can name a file: it isn't empty and doesn't begin with -
 abbrev pub is_file : List ℕ → Bool
 is_file [] = false

@@ -18,7 +18,7 @@ ghost use Rattle.rg_rules.specs.Acceptance.{Accepted as IsAccepted};
 ghost use Rattle.rg_rules.specs.Names.{FewNames};
 ghost use Rattle.rg_top.specs.Commands.{command, texts, run, plain, fmt, check, bulk, steps_of};
 ghost use Rattle.rg_top.specs.Commands.{Origin, in_file, generated, origin_of};
-ghost use Rattle.rg_top.specs.Commands.{reads_input, may_read};
+ghost use Rattle.rg_top.specs.Commands.{opens_file, may_open, reads_input, may_read};
 ghost use Rattle.rg_top.specs.Inner.Requests.{command_of, AsksWithin};
 ghost use Rattle.rg_top.specs.Statuses.{status_text, is_answer, is_refusal, is_cut_off};
 ghost use Rattle.rg_top.specs.Expected.{spelt, Means, MeansFrom, IsStuck, SpellsTree};
@@ -345,6 +345,7 @@ fn program_from<F: Files>(
 ) -> Result<Program, Status>
     requires { AsksWithin request }
     ensures brings { Brings (F.told files.old) (origin_of (command_of request.entry)) result }
+    ensures unread { opens_file (command_of request.entry) ≡ false → files.new ≡ files.old }
     ensures source_fault { result ≡ Err Status.SourceFault →
         Rose (F.faults files.old) (F.faults files.new) }
     ensures never_fall { F.faults files.old ≤ F.faults files.new }
@@ -370,6 +371,8 @@ fn answer<F: Files, I: Source, O: Sink>(
     ensures settles { SettlesCommand (F.told files.old) (command_of request.entry)
         (I.left input.old) result (O.taken out.old) (O.taken out.new) machine.new
         (input.new ≡ input.old) }
+    ensures files_unread { opens_file (command_of request.entry) ≡ false →
+        files.new ≡ files.old }
     ensures reads_nothing { reads_input (command_of request.entry) ≡ false →
         input.new ≡ input.old }
     ensures source_fault { result ≡ Status.SourceFault →
@@ -431,7 +434,8 @@ pub fn reggio<F: Files, I: Source, O: Sink, R: Sink>(
     ensures output_fault_told { result ≡ Status.OutputFault →
         ¬ Rose (R.faults notes.old) (R.faults notes.new) →
         Appends (R.taken notes.old) (R.taken notes.new) (status_text 0 Status.OutputFault) }
-    ensures files_unread { command (texts words.now) ≡ None → files.new ≡ files.old }
+    ensures files_unread { OnFalse (may_open (command (texts words.now)))
+        (files.new ≡ files.old) }
     ensures reads_nothing { OnFalse (may_read (command (texts words.now)))
         (input.new ≡ input.old) }
 

@@ -2,8 +2,6 @@
 
 mod add;
 mod read;
-#[cfg(test)]
-mod tests;
 
 ghost use Rattle.std.specs.Prelude.{◌≡◌};
 
