@@ -2,3 +2,4 @@
 pub mod Told
 pub mod Chain
 pub mod Fewer
+pub mod RegionComes
