@@ -3,3 +3,4 @@ pub mod Told
 pub mod Chain
 pub mod Fewer
 pub mod RegionComes
+pub mod Changed

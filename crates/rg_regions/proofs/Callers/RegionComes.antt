@@ -205,7 +205,8 @@ module _ (c : Table) (t : RegionTable) (cells : Table) (regions : RegionTable) (
   referrers_on : (q s : ℕ) → q ≢ rec.number → referrers cells.heap q s ≡ referrers c.heap q s
   referrers_on q s d = total_alike (weight q s) refl c.heap.slots cells.heap.slots (λ n. elim (cases_eq n slot) [
     | inl e ↦
-        let off : belongs q (body_at cells.heap n) ≡ false = belongs_not q (body_at cells.heap n) (λ l. elim (lies_back q n l) [ inl y ↦ d y.0 | inr y ↦ y.1 e ]) in
+        let off : belongs q (body_at cells.heap n) ≡ false =
+            belongs_not q (body_at cells.heap n) (λ l. elim (lies_back q n l) [ inl y ↦ d y.0 | inr y ↦ y.1 e ]) in
         weighs_none q s (body_at cells.heap n) off ∙ sym (ap (weight q s) (ap (body_at c.heap) e ∙ w.vacant))
     | inr a ↦ ap (weight q s) (same n a)
   ])
