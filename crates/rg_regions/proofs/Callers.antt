@@ -2,3 +2,5 @@
 pub mod Told
 pub mod Chain
 pub mod Fewer
+pub mod RegionComes
+pub mod Changed

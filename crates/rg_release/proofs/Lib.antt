@@ -4,3 +4,4 @@ mod GroveKept
 mod BelowLeft
 mod OneReleased
 mod AllReleased
+mod Examples
