@@ -9,8 +9,6 @@ mod limits;
 mod object;
 mod outcome;
 mod steps;
-#[cfg(test)]
-mod tests;
 mod token;
 mod ty;
 mod value;

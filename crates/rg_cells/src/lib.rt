@@ -7,8 +7,6 @@ mod cell;
 mod cells;
 mod fields;
 mod places;
-#[cfg(test)]
-mod tests;
 
 pub use cell::Body;
 pub use cells::Cells;

@@ -14,7 +14,7 @@ use Rattle.rg_rules.specs.Statements.{judge_stmt, judge_block, last_of}
 use Rattle.rg_rules.specs.Bodies.{is_return, last_is_return, ends_in_return}
 use Rattle.rg_names.specs.Judged.{FailsAs}
 use Rattle.rg_type.specs.Scope.{Scope, env_of, IsScopeIn}
-use Rattle.rg_check.proofs.Outcomes.{FailsAs-bind, FailsAs-same}
+use Rattle.rg_names.proofs.Fails.{FailsAs-bind, FailsAs-same}
 
 -- the statements in front of these have no fault, and lead to these variables
 pub record BlockUpTo (t : Tables) (result : Option Ty) (front : Scope) (these : List ℕ) (env : Scope) (rest : List ℕ) : Type 0 where

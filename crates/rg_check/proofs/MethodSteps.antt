@@ -12,7 +12,8 @@ use Rattle.rg_rules.specs.Answers.{◌>>◌}
 use Rattle.rg_rules.specs.Bodies.{judge_members, judge_methods}
 use Rattle.rg_names.specs.Judged.{FailsAs}
 use Rattle.rg_check.specs.Inner.Methods.{MemberMayBeJudged, judge_member}
-use Rattle.rg_check.proofs.Outcomes.{FailsAs-first, FailsAs-same, drop-get}
+use Rattle.rg_base.proofs.Callers.Lists.{drop-get}
+use Rattle.rg_names.proofs.Fails.{FailsAs-first, FailsAs-same}
 
 -- The members of a class.
 

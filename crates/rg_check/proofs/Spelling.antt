@@ -1,13 +1,13 @@
 -- How many names a reading counts: as many as what was read has.
-use Rattle.std.proofs.Common.{◌≡◌, ℕ, suc, ◌+◌, ◌≤◌, Bool, true, false, List, length, All, Ok, refl, sym, ap, arith}
+use Rattle.std.proofs.Common.{◌≡◌, ℕ, suc, ◌+◌, ◌≤◌, List, length, All, Ok, refl, sym, ap, arith}
 use Rattle.std.proofs.lemmas.Bool.Decides.{nat_tests}
 use Rattle.std.proofs.lemmas.List.Elements.{All-nil, All-cons}
+use Rattle.rg_tree.proofs.Callers.{within-ok}
 use Rattle.rg_base.specs.declared.token.Token.{Token}
-use Rattle.rg_base.specs.declared.fault.Code.{Code}
 use Rattle.rg_base.specs.declared.limits.TheConstants.{PARAMETERS, BODY_NAMES}
 use Rattle.rg_tree.specs.Tree.{Class}
 use Rattle.rg_tree.specs.declared.counts.Counts.{Counts}
-use Rattle.rg_tree.specs.Counts.{within, opened, closed, one_method, one_param, one_local, one_sign}
+use Rattle.rg_tree.specs.Counts.{opened, closed, one_method, one_param, one_local, one_sign}
 use Rattle.rg_tree.specs.Forms.{Form, Given}
 use Rattle.rg_tree.specs.Forms as form
 use Rattle.rg_tree.specs.Grammar.{Reads, program_class, program_main, class_row, tmp_class_row, field_row, method_row, no_members, cap_row}
@@ -50,10 +50,6 @@ Grows form.Else o c d = NamesGrow (else_names o) c d
 Grows _ a c d = Still c d
 
 -- The counts of single tokens.
-
-within-ok : (b : Bool) (f : Code) (c d : Counts) → within b f c ≡ Ok d → (b ≡ true) × (c ≡ d)
-within-ok true f c d h = (refl, cc)
-within-ok false f c d h = cc
 
 opened-still : {c d : Counts} → opened c ≡ Ok d → Still c d
 opened-still {c} {d} h =

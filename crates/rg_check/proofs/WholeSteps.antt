@@ -13,7 +13,7 @@ use Rattle.rg_rules.specs.Bodies.{main_body, judge_body, judge_methods}
 use Rattle.rg_rules.specs.Acceptance.{judge_program, Accepted}
 use Rattle.rg_names.specs.Judged.{FailsAs}
 use Rattle.rg_type.specs.Scope.{Scope, no_variables, env_of}
-use Rattle.rg_check.proofs.Outcomes.{FailsAs-first, FailsAs-second}
+use Rattle.rg_names.proofs.Fails.{FailsAs-first, FailsAs-second}
 
 -- main's body is the block of its statements
 pub main-is : (t : Tables) (env : Scope) (body : Span) (main : List ℕ) → env ≡ no_variables → body ≡ t.body → main ≡ numbers_in t body →

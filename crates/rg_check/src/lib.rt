@@ -8,8 +8,6 @@ mod diagnostics;
 mod laws;
 mod method;
 mod statements;
-#[cfg(test)]
-mod tests;
 mod whole;
 
 pub use accepted::Accepted;

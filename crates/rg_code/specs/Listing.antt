@@ -1,5 +1,5 @@
--- The listing of a code (docs/language.md, "Listing"): a line for each instruction, with its address, its name and its numbers, and a
--- line in front of each body.
+-- The listing of a code (docs/language.md, "Instructions and lowering"): a line for each instruction, with its address, its name and
+-- its numbers, and a line in front of each body.
 use Rattle.std.specs.Prelude.{ℕ, suc, ◌==◌, if◌then◌else◌, List, [], ◌∷◌, ◌++◌, codes}
 use Rattle.std.specs.Fmt.{decimal, signed_decimal}
 use Rattle.rg_base.specs.Text.{bool_text}

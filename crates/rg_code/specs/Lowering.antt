@@ -1,12 +1,16 @@
--- The code of a program, from its tree (docs/language.md, "Lowering"). Each function gives the instructions of a form from an
+-- The code of a program, from its tree (docs/language.md, "Instructions and lowering"). Each function gives the instructions of a form from an
 -- address on; `at` is the address of the first. What an accepted program can't have gets some code all the same.
-use Rattle.std.specs.Prelude.{◌≡◌, ℕ, zero, pos, suc, ◌+◌, max, false, bytes_eq, if◌then◌else◌, List, [], ◌∷◌, ◌++◌, map, length, Option, Some, None, unwrap_or}
+use Rattle.std.specs.Prelude.{◌≡◌, ℕ, zero, pos, suc, ◌+◌, max, false, bytes_eq, if◌then◌else◌, List, [], ◌∷◌, ◌++◌, map, length}
+use Rattle.std.specs.Prelude.{Option, Some, None, unwrap_or}
 use Rattle.rg_base.specs.declared.words.Cap.TheVariants as cap
 use Rattle.rg_base.specs.declared.ty.Ty.{Ty}
 use Rattle.rg_base.specs.declared.ty.Ty.TheVariants as ty
 use Rattle.rg_tree.specs.declared.rows.BinOp.{BinOp}
 use Rattle.rg_tree.specs.declared.rows.BinOp.TheVariants as op
-use Rattle.rg_tree.specs.Tree.{Name, Variable, Ty as Written, int, bool, ref, Path, Expr, number, boolean, nil, path, is_nil, neg, not, binary, Call, Right, value, new, new_tmp, new_iso, freeze, merge, read, more, result_of, stmt, StmtKind, declare, assign, call, swap, branch, while, enter, print, collect, return, Else, no_else, otherwise, Block, empty as none, then as next, Param, Method, Member, field, method, Class, Tree}
+use Rattle.rg_tree.specs.Tree.{Name, Variable, Ty as Written, int, bool, ref, Path, Expr, number, boolean, nil, path, is_nil, neg, not, binary}
+use Rattle.rg_tree.specs.Tree.{Call, Right, value, new, new_tmp, new_iso, freeze, merge, read, more, result_of, stmt, StmtKind, declare, assign}
+use Rattle.rg_tree.specs.Tree.{call, swap, branch, while, enter, print, collect, return, Else, no_else, otherwise, Block, empty as none}
+use Rattle.rg_tree.specs.Tree.{then as next, Param, Method, Member, field, method, Class, Tree}
 use Rattle.rg_rules.specs.Capabilities.{is_iso}
 use Rattle.rg_rules.specs.Types.{class_number, type_of, fields_of, field_place, field_type, method_named, method_result}
 use Rattle.rg_rules.specs.Environment.{same_variable}

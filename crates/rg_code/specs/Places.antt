@@ -1,5 +1,6 @@
--- The place in the code at which items begin (docs/language.md, "Places").
-use Rattle.std.specs.Prelude.{◌≡◌, ℕ, ◌+◌, nat_lt, not, ◌&&◌, Bool as Truth, true, false, List, [], ◌∷◌, take, drop, length, map, Option, Some, None, slice_get}
+-- The place in the code at which items begin (docs/language.md, "Instructions and lowering").
+use Rattle.std.specs.Prelude.{◌≡◌, ℕ, ◌+◌, nat_lt, not, ◌&&◌, Bool as Truth, true, false}
+use Rattle.std.specs.Prelude.{List, [], ◌∷◌, take, drop, length, map, Option, Some, None, slice_get}
 use Rattle.rg_tree.specs.Tree.{stmt, StmtKind, declare, assign, call, swap, branch, while, enter, print, collect, return, Class}
 use Rattle.rg_rules.specs.Items.{Item, Do, EndAt, LeaveAt, Back}
 use Rattle.rg_rules.specs.State.{Local, Target, Declares, Assigns, Drops}

@@ -1,11 +1,13 @@
-//! The code of a program: its instructions, with what a stepper must know of classes and methods
-//! (docs/language.md, "Instructions").
+//! The code of a program: its instructions, with what a stepper must know of classes and methods,
+//! and its listing (docs/language.md, "Instructions and lowering").
 #![tactic(auto)]
 
 mod code;
+mod headings;
 mod op;
-mod text;
+mod texts;
+mod whole;
 
 pub use code::{CodeList, Entry};
 pub use op::Op;
-pub use text::put_op;
+pub use whole::listing;

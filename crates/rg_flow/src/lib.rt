@@ -3,7 +3,5 @@
 
 mod flow;
 mod sets;
-#[cfg(test)]
-mod tests;
 
 pub use flow::Flow;

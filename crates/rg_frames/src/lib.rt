@@ -6,8 +6,6 @@
 
 mod frames;
 mod rows;
-#[cfg(test)]
-mod tests;
 
 pub use frames::Frames;
 pub use rows::{Frame, FrameRefusal, Window};

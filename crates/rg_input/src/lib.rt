@@ -1,12 +1,11 @@
 //! The numbers of an input (docs/language.md, "Input numbers").
 #![tactic(auto)]
 
+mod ahead;
 mod held;
 mod number;
 mod numbers;
 mod refusal;
-#[cfg(test)]
-mod tests;
 
 pub use numbers::Numbers;
 pub use refusal::{InputFault, NumberRefusal};

@@ -16,8 +16,6 @@ mod source;
 mod std_files;
 mod std_sink;
 mod std_source;
-#[cfg(test)]
-mod tests;
 
 pub use failed::Failed;
 pub use files::{Files, Taken, take_all};

@@ -1,8 +1,7 @@
 -- What the lexer reads, by what the bytes begin with.
-use Rattle.std.proofs.Common.{◌≡◌, ℕ, suc, pos, ◌+◌, ◌-◌, ◌*◌, ◌<◌, ◌≤◌, ◌==◌, nat_lt, ◌&&◌, Bool, true, false, List, [], ◌∷◌, length, take, drop}
-use Rattle.std.proofs.Common.{get_or, Option, Some, None, option_map, Ok, Err, refl, ◌∙◌, ap, arith, one-add}
+use Rattle.std.proofs.Common.{◌≡◌, ℕ, suc, pos, ◌+◌, ◌<◌, ◌≤◌, ◌==◌, nat_lt, ◌&&◌, Bool, true, false, List, [], ◌∷◌, length, take, drop}
+use Rattle.std.proofs.Common.{get_or, Option, Some, None, option_map, Ok, Err, refl, ◌∙◌, arith, one-add}
 use Rattle.std.specs.List.{prefix_len}
-use Rattle.std.proofs.lemmas.List.{drop_more}
 use Rattle.std.proofs.lemmas.List.Folds.{length-prefix_len}
 use Rattle.std.proofs.lemmas.Bool.Decides.{nat_tests}
 use Rattle.rg_base.specs.declared.words.Sign.{Sign}
@@ -12,7 +11,7 @@ use Rattle.rg_base.specs.declared.fault.Code.TheVariants as code
 use Rattle.rg_base.specs.declared.limits.TheConstants.{NAME_BYTES, GREATEST_NUMBER}
 use Rattle.rg_base.specs.Words.{keyword_of, sign_of}
 use Rattle.rg_base.specs.Pieces.{Piece, blank, comment, name, number, sign, is_blank, is_digit, is_letter, is_in_name, is_in_comment}
-use Rattle.rg_base.specs.Tokens.{value_onto, value_of, begins_name, word_or_name, number_within, reading}
+use Rattle.rg_base.specs.Tokens.{value_of, begins_name, word_or_name, number_within, reading}
 use Rattle.rg_base.proofs.Fronts.{both, IsOther, IsFront, front-blank, front-letter, front-digit, front-comment, front-pair, front-single}
 use Rattle.rg_base.proofs.Fronts.{front-alone, one_if}
 use Rattle.rg_lex.specs.Inner.Front.{with_length, front_of, marked}
@@ -78,20 +77,6 @@ pub front_of-number : (bs : List ℕ) → is_digit (get_or bs 0 0) ≡ true → 
 front_of-number bs e l b =
     let t : nat_lt (value_of (take (prefix_len is_digit bs) bs)) (GREATEST_NUMBER + 1) ≡ true = grind (arith, nat_tests) in
     rw (front_of-is bs (prefix_len is_digit bs) (Some number) (number-front bs e), t, b) refl
-
--- more digits make no smaller value
-value_onto-above : (n : ℕ) (bs : List ℕ) → n ≤ value_onto n bs
-value_onto-above n [] = omega arith
-value_onto-above n (b ∷ bs) = let h = value_onto-above (n * 10 + (b - 48)) bs in omega arith
-
--- once past the limit the value stays past it
-pub value_of-past : (ds : List ℕ) (k v : ℕ) → k < length ds → value_onto v (drop k ds) ≡ value_onto 0 ds
-    → GREATEST_NUMBER < v * 10 + (get_or ds k 0 - 48) → GREATEST_NUMBER < value_of ds
-value_of-past ds k v l same more =
-    let w = v * 10 + (get_or ds k 0 - 48) in
-    let step : value_onto v (drop k ds) ≡ value_onto w (drop (k + 1) ds) = ap (value_onto v) (drop_more ds k 0 l) in
-    let up : w ≤ value_onto w (drop (k + 1) ds) = value_onto-above w (drop (k + 1) ds) in
-    omega arith
 
 -- Comments and signs.
 

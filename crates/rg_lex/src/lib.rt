@@ -10,8 +10,6 @@ mod number;
 mod piece;
 mod runs;
 mod signs;
-#[cfg(test)]
-mod tests;
 mod token_list;
 
 pub use cut::tokens;

@@ -6,8 +6,6 @@ mod builder;
 mod classes;
 mod main_block;
 mod parts;
-#[cfg(test)]
-mod tests;
 mod whole;
 
 pub use whole::{MOST_SIZE, program_of};

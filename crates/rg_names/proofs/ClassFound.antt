@@ -3,6 +3,7 @@ use Rattle.std.proofs.Common.{◌≡◌, ℕ, zero, suc, ◌+◌, ◌<◌, Bool,
 use Rattle.std.proofs.Common.{slice_get, Ok, bytes_eq, if◌then◌else◌, refl, sym, ap, ◌∙◌, add-zero, zero-add, add_assoc, arith}
 use Rattle.std.proofs.lemmas.List.{length-map}
 use Rattle.std.proofs.lemmas.List.Elements.{All-head, All-tail}
+use Rattle.rg_base.proofs.Callers.Lists.{there}
 use Rattle.rg_tree.specs.declared.rows.ClassRow.{ClassRow}
 use Rattle.rg_tree.specs.declared.rows.MemberRow.{MemberRow}
 use Rattle.rg_tree.specs.declared.rows.MemberRow.TheVariants as row
@@ -21,12 +22,6 @@ use Rattle.rg_names.specs.TableOf.{rows_of, entries_of, methods_with_all, member
 use Rattle.rg_names.specs.TreeAnswers.{first_place, methods_before, FieldAnswer, MethodAnswer}
 use Rattle.rg_names.proofs.TypeFacts.{head_of}
 use Rattle.rg_names.proofs.MembersFound.{RowsIn, FieldIn, MethodIn, find-field, find-method}
-
--- what is in range is there
-pub there : {X : Type 0} (xs : List X) (i : ℕ) → i < length xs → (x : X) × (slice_get xs i ≡ Some x)
-there [] i l = absurd (omega arith)
-there (x ∷ xs) zero l = (x, refl)
-there (x ∷ xs) (suc i) l = there xs i (omega arith)
 
 module _ (t : Tables) (rows : AreRows t) where
   -- the members of these numbers are the trees of their rows

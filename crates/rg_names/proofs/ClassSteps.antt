@@ -10,8 +10,8 @@ use Rattle.rg_rules.specs.Headers.{member_headers, class_members}
 use Rattle.rg_names.specs.declared.entry.Entry.{Entry}
 use Rattle.rg_names.specs.TableOf.{entries_of, methods_with_all, rows_of, members_of}
 use Rattle.rg_names.specs.Judged.{FailsAs}
-use Rattle.rg_names.proofs.Outcomes.{FailsAs-first, FailsAs-same}
-use Rattle.rg_names.proofs.Rests.{drop-get, push-rest}
+use Rattle.rg_names.proofs.Fails.{FailsAs-first, FailsAs-same}
+use Rattle.rg_base.proofs.Callers.Lists.{drop-get, push-rest}
 
 -- the members of the first i classes have no fault, and these are they, with the number of methods so far
 pub record ClassesUpTo (t : Tables) (i : ℕ) (members : List (List (ℕ × Entry))) (methods : ℕ) : Type 0 where

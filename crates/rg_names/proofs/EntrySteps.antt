@@ -17,8 +17,8 @@ use Rattle.rg_names.specs.TableOf.{entry_of, fields_with, methods_with, entries_
 use Rattle.rg_names.specs.Judged.{FailsAs}
 use Rattle.rg_names.specs.Inner.Headings.{AreNamed, names_behind}
 use Rattle.rg_names.proofs.Naming.{names_behind-push, AreNamed-push}
-use Rattle.rg_names.proofs.Outcomes.{FailsAs-first, FailsAs-same}
-use Rattle.rg_names.proofs.Rests.{push-rest}
+use Rattle.rg_names.proofs.Fails.{FailsAs-first, FailsAs-same}
+use Rattle.rg_base.proofs.Callers.Lists.{push-rest}
 
 -- the first i members have no fault, and these are their entries, with the number of fields among them and of all methods so far
 pub record EntriesUpTo (t : Tables) (class : ClassRow) (ks : List ℕ) (first i : ℕ) (entries : List (ℕ × Entry)) (fields methods : ℕ) : Type 0 where

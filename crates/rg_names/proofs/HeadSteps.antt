@@ -15,8 +15,9 @@ use Rattle.rg_names.specs.TableOf.{heads_of}
 use Rattle.rg_names.specs.Judged.{FailsAs}
 use Rattle.rg_names.specs.Inner.Headings.{AreNamed, names_behind}
 use Rattle.rg_names.proofs.Naming.{among-behind, names_behind-push, AreNamed-push, none-from_new}
-use Rattle.rg_names.proofs.Outcomes.{FailsAs-first, FailsAs-same, test-new}
-use Rattle.rg_names.proofs.Rests.{drop-get, push-rest}
+use Rattle.rg_names.proofs.Outcomes.{test-new}
+use Rattle.rg_names.proofs.Fails.{FailsAs-first, FailsAs-same}
+use Rattle.rg_base.proofs.Callers.Lists.{drop-get, push-rest}
 
 -- the names of the first i classes differ, and these are their classes
 pub record HeadsUpTo (t : Tables) (i : ℕ) (heads : List (ℕ × Bool)) : Type 0 where

@@ -1,6 +1,6 @@
 mod Naming
+pub mod Fails
 mod Outcomes
-mod Rests
 mod HeadSteps
 mod TypeFacts
 mod ParamSteps

@@ -14,7 +14,8 @@ use Rattle.rg_names.specs.declared.entry.Entry.{Entry}
 use Rattle.rg_names.specs.Judged.{FailsAs}
 use Rattle.rg_names.specs.Inner.Headings.{AreNamed, names_behind, signature_header}
 use Rattle.rg_names.proofs.Naming.{among-behind, none-from_new}
-use Rattle.rg_names.proofs.Outcomes.{FailsAs-first, FailsAs-second, FailsAs-same, test-new}
+use Rattle.rg_names.proofs.Outcomes.{test-new}
+use Rattle.rg_names.proofs.Fails.{FailsAs-first, FailsAs-second, FailsAs-same}
 use Rattle.rg_names.proofs.TypeSteps.{field_types}
 
 -- the test of a member's name

@@ -16,7 +16,8 @@ use Rattle.rg_names.specs.Table.{judge_type}
 use Rattle.rg_names.specs.Judged.{FailsAs}
 use Rattle.rg_names.specs.Inner.Headings.{IsHeadsOf, AreNamed, names_behind}
 use Rattle.rg_names.proofs.Naming.{among-behind, names_behind-push, AreNamed-push}
-use Rattle.rg_names.proofs.Outcomes.{FailsAs-first, FailsAs-second, FailsAs-same, at_line-then}
+use Rattle.rg_names.proofs.Outcomes.{at_line-then}
+use Rattle.rg_names.proofs.Fails.{FailsAs-first, FailsAs-second, FailsAs-same}
 use Rattle.rg_names.proofs.TypeFacts.{judge_type-good_type}
 
 -- the first i parameters have no fault, and these are their names

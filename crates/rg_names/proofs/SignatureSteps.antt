@@ -3,7 +3,8 @@ use Rattle.std.proofs.Common.{◌≡◌, ℕ, Ok, ap, ◌∙◌}
 use Rattle.rg_base.specs.declared.fault.Stop.{Stop}
 use Rattle.rg_rules.specs.Answers.{◌>>◌, Answer, Passed, at_line}
 use Rattle.rg_names.specs.Judged.{FailsAs}
-use Rattle.rg_names.proofs.Outcomes.{FailsAs-first, FailsAs-second, FailsAs-same, at_line-then}
+use Rattle.rg_names.proofs.Outcomes.{at_line-then}
+use Rattle.rg_names.proofs.Fails.{FailsAs-first, FailsAs-second, FailsAs-same}
 
 module _ (line : ℕ) (a b d : Answer Passed) where
   in_order : at_line line (◌>>◌ a (◌>>◌ b d)) ≡ ◌>>◌ (at_line line a) (◌>>◌ (at_line line b) (at_line line d))

@@ -11,8 +11,6 @@ mod found;
 mod headers;
 mod laws;
 mod suits;
-#[cfg(test)]
-mod tests;
 
 pub use book::Book;
 pub use classes::Classes;

@@ -8,8 +8,6 @@ mod laws;
 mod lines;
 mod names;
 mod statements;
-#[cfg(test)]
-mod tests;
 mod whole;
 mod words;
 

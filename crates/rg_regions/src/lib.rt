@@ -7,8 +7,6 @@
 mod places;
 mod region;
 mod regions;
-#[cfg(test)]
-mod tests;
 
 pub use region::Kept;
 pub use regions::Regions;

@@ -3,7 +3,5 @@
 #![tactic(auto)]
 
 mod lines;
-#[cfg(test)]
-mod tests;
 
 pub use lines::{bulk_line, end_line, line};

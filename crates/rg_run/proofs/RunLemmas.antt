@@ -3,11 +3,11 @@ use Rattle.std.proofs.Common.{◌≡◌, ◌≢◌, ℕ, zero, suc, ◌+◌, ◌
 use Rattle.std.proofs.Common.{refl, sym, ap, ◌∙◌}
 use Rattle.std.proofs.Common.{subst, arith, append-nil, append_assoc}
 use Rattle.std.proofs.Math.Seq.{drop-append_seam}
-use Rattle.std.proofs.lemmas.Grind.{flat_map-append}
+use Rattle.rg_base.proofs.Callers.Texts.{text-append}
 use Rattle.rg_base.specs.declared.value.Val.{Val}
 use Rattle.rg_base.specs.declared.outcome.Ended.{Ended}
 use Rattle.rg_base.specs.declared.outcome.Ended.TheVariants as ended
-use Rattle.rg_base.specs.Text.{line_text, text}
+use Rattle.rg_base.specs.Text.{text}
 use Rattle.rg_io.specs.Content.{Appends, AppendsPart}
 use Rattle.rg_tree.specs.Tree.{Class, Tree, Block, empty as none, then as followed_by}
 use Rattle.rg_tree.specs.Rows.Tables.{Tables}
@@ -124,10 +124,6 @@ output-later t input j k within =
     let P : ℕ → Type 0 = λ q. GoesOn (plain t input j).state.output (plain t input q).state.output in
     let same : (k - j) + j ≡ k = omega (arith, within) in
     subst P same (run-later t.classes 0 (k - j) j (opening t input) (ends-block t.body)).output
-
--- the text of outputs end to end
-text-append : (xs ys : List Val) → text (xs ++ ys) ≡ text xs ++ text ys
-text-append xs ys = flat_map-append line_text xs ys
 
 -- the text of an output, and of what was added to it
 text-later : (xs ys : List Val) (g : GoesOn xs ys) → (text ys ≡ text xs ++ text g.0) × (text (drop (length xs) ys) ≡ text g.0)

@@ -9,7 +9,7 @@ use Rattle.rg_io.specs.Files.{Told, HasLongFile}
 use Rattle.rg_run.specs.Machine.{Kept, IsFresh}
 use Rattle.rg_top.specs.declared.status.Status.{Status}
 use Rattle.rg_top.specs.declared.status.Status.TheVariants as status
-use Rattle.rg_top.specs.Commands.{Command, command, Origin, in_file, origin_of, reads_input, may_read}
+use Rattle.rg_top.specs.Commands.{Command, command, Origin, in_file, origin_of, reads_input, may_read, opens_file, may_open}
 use Rattle.rg_top.specs.Statuses.{status_text, is_answer, is_refusal, is_cut_off, is_from_outside}
 use Rattle.rg_top.specs.Expected.{HasSource, ExpectsStatus}
 use Rattle.rg_top.specs.Headline.{ForInput, ForSource, ExactlyWhere, Answers, Untouched, CutOffAt, CutAtInput, TookNotes}
@@ -274,11 +274,17 @@ usage-exactly told left words answer s none t i = record { only = only t; always
     only (inl u) e = let n : is_answer status.Usage ≡ true = ap is_answer (sym u ∙ e) ∙ i in absurd (cc)
     only (inr o) e = let n : is_answer status.OutputFault ≡ true = ap is_answer (sym o ∙ e) ∙ i in absurd (cc)
 
+-- what follows where a test fails
+on-false : (b : Bool) {P : Type 0} → (b ≡ false → P) → OnFalse b P
+on-false true h = tt
+on-false false h = h refl
+
 -- a command that reads nothing is one that the words give
 pub answer-unread : (words : List (List ℕ)) (c : Command) (P : Type 0) → command words ≡ Some c → (reads_input c ≡ false → P) →
     OnFalse (may_read (command words)) P
-answer-unread words c P e h = rw e (by (reads_input c) h)
-  where
-    by : (b : Bool) → (b ≡ false → P) → OnFalse b P
-    by true h = tt
-    by false h = h refl
+answer-unread words c P e h = rw e (on-false (reads_input c) h)
+
+-- a command that opens no file leaves the files
+pub answer-unopened : (words : List (List ℕ)) (c : Command) (P : Type 0) → command words ≡ Some c → (opens_file c ≡ false → P) →
+    OnFalse (may_open (command words)) P
+answer-unopened words c P e h = rw e (on-false (opens_file c) h)

@@ -1,14 +1,10 @@
 -- The value of digits that are read one after another.
-use Rattle.std.proofs.Common.{◌≡◌, ℕ, ◌+◌, ◌-◌, ◌*◌, ◌<◌, ◌≤◌, false, nat_le, List, [], ◌∷◌, length, drop, get_or, None, refl, ap, arith}
+use Rattle.std.proofs.Common.{◌≡◌, ℕ, ◌+◌, ◌-◌, ◌*◌, ◌<◌, ◌≤◌, false, nat_le, List, length, drop, get_or, None, refl, ap, arith}
 use Rattle.std.proofs.lemmas.List.{drop_more}
 use Rattle.std.proofs.lemmas.Bool.Decides.{nat_tests}
+use Rattle.rg_base.proofs.Callers.Digits.{value_onto-above}
 use Rattle.rg_base.specs.Tokens.{value_onto, value_of}
 use Rattle.rg_top.specs.Commands.{value_up_to}
-
--- digits behind a value don't make it smaller
-value_onto-above : (n : ℕ) (bs : List ℕ) → n ≤ value_onto n bs
-value_onto-above n [] = omega arith
-value_onto-above n (b ∷ bs) = let h = value_onto-above (n * 10 + (b - 48)) bs in omega arith
 
 -- a value past the limit has none
 value_up_to-large : (digits : List ℕ) (most : ℕ) → most < value_of digits → None ≡ value_up_to digits most

@@ -6,8 +6,6 @@ mod no_input;
 mod notes;
 mod process;
 mod status;
-#[cfg(test)]
-mod tests;
 mod top;
 mod words;
 

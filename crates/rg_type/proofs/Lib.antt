@@ -7,7 +7,6 @@ mod ScopeLemmas
 mod Alike
 mod ExpressionEnvs
 mod StatementEnvs
-mod Spans
 mod ScopeSteps
 mod BlockSteps
 mod PathSteps

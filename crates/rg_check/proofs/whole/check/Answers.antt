@@ -1,7 +1,7 @@
 use Rattle.std.proofs.Common.{◌∙◌}
 use Rattle.std.proofs.lemmas.Result.{err_from_is_err_and}
 use Rattle.rg_tree.specs.Rows.RowTrees.{program_of}
-use Rattle.rg_check.proofs.Outcomes.{FailsAs-same}
+use Rattle.rg_names.proofs.Fails.{FailsAs-same}
 use Rattle.rg_check.proofs.WholeSteps.{main-is, headers-fault, methods-fault, main-fault, passed, accepted}
 use Rattle.rg_check.proofs.whole.check.Goals as goal
 

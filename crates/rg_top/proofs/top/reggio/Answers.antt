@@ -4,7 +4,7 @@ use Rattle.rg_top.specs.declared.status.Status.TheVariants as status
 use Rattle.rg_top.specs.Commands.{texts}
 use Rattle.rg_top.specs.Inner.Requests.{command_of}
 use Rattle.rg_top.proofs.AnswerLemmas.{Answered, answer-answered, answer-cut, answer-input, answer-exactly, answer-refused, answer-complete}
-use Rattle.rg_top.proofs.AnswerLemmas.{answer-unread, answer-untouched, given-is, usage-exactly}
+use Rattle.rg_top.proofs.AnswerLemmas.{answer-unread, answer-unopened, answer-untouched, given-is, usage-exactly}
 use Rattle.rg_top.proofs.top.reggio.Given.{Over}
 use Rattle.rg_top.proofs.top.reggio.Goals as goal
 
@@ -35,6 +35,10 @@ returns-in-Some-clause-untouched g c = answer-untouched (answered g c)
 pub returns-in-Some-clause-reads_nothing : goal.returns-in-Some-clause-reads_nothing
 returns-in-Some-clause-reads_nothing g c =
     answer-unread (texts c.args.words.now) (command_of c.in-Some.request) _ c.in-Some.ensures.is c.answer-status.ensures.reads_nothing
+
+pub returns-in-Some-clause-files_unread : goal.returns-in-Some-clause-files_unread
+returns-in-Some-clause-files_unread g c =
+    answer-unopened (texts c.args.words.now) (command_of c.in-Some.request) _ c.in-Some.ensures.is c.answer-status.ensures.files_unread
 
 pub returns-in-Some-clause-done : goal.returns-in-Some-clause-done
 returns-in-Some-clause-done g c = answer-exactly (answered g c) status.Done refl

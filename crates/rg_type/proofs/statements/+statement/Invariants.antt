@@ -1,7 +1,7 @@
 use Rattle.std.proofs.Common.{◌+◌, ◌*◌, max, drop}
 use Rattle.rg_tree.specs.Rows.Tables.{numbers_in}
 use Rattle.rg_tree.proofs.Callers.{above}
-use Rattle.rg_type.proofs.Spans.{above_some}
+use Rattle.rg_tree.proofs.Callers.{above_some}
 use Rattle.rg_type.proofs.BlockSteps.{BlockUpTo}
 use Rattle.rg_type.proofs.statements.+statement.Given as goal
 

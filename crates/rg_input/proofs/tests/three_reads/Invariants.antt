@@ -1,6 +1,0 @@
-use Rattle.std.proofs.Common.{Some}
-use Rattle.rg_input.specs.Numbers.{Follows}
-use Rattle.rg_input.proofs.tests.three_reads.Given as goal
-
-abbrev pub invariant-reads : goal.invariant-reads
-invariant-reads l = Follows l.numbers (Some l.source.left)

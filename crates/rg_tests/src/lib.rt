@@ -1,0 +1,31 @@
+//! Tests of what no clause says, a file for each subject: that ample memory is enough, what the
+//! system does, and tables compared with what is written down elsewhere
+//! (docs/architecture.md, "Tests").
+#![tactic(auto)]
+
+#[cfg(test)]
+mod capabilities;
+#[cfg(test)]
+mod cells;
+#[cfg(test)]
+mod flow;
+#[cfg(test)]
+mod frames;
+#[cfg(test)]
+mod generated;
+#[cfg(test)]
+mod lists;
+#[cfg(test)]
+mod numbers;
+#[cfg(test)]
+mod programs;
+#[cfg(test)]
+mod regions;
+#[cfg(test)]
+mod report;
+#[cfg(test)]
+mod streams;
+#[cfg(test)]
+mod tokens;
+#[cfg(test)]
+mod top;
