@@ -1,29 +1,6 @@
-mod LocalLemmas
-mod ObjectLemmas
-mod UsingLemmas
-mod ItemLemmas
-mod TypeLemmas
-mod ArgumentLemmas
-mod BindLemmas
+-- Lemmas on the machine that never frees; that with pub is for crates above.
+mod Rows
+mod Expressions
+mod Statements
+mod Runs
 pub mod BehindLemmas
-mod DispatchLemmas
-mod MachineLemmas
-mod FitLemmas
-mod AmongLemmas
-mod BeneathLemmas
-mod LinkLemmas
-mod MoveLemmas
-mod RunLemmas
-mod RegionLemmas
-mod CallLemmas
-mod FrameLemmas
-mod StatementLemmas
-mod SpotLemmas
-mod WriteLemmas
-mod OpeningLemmas
-mod StepLemmas
-mod MakeLemmas
-mod FieldLemmas
-mod WindowLemmas
-mod InputLemmas
-mod SoundLemmas

@@ -4,6 +4,7 @@ use Rattle.rg_tree.specs.Rows.Tables.{Tables}
 use Rattle.rg_tree.specs.Rows.RowTrees.{expr_at, stmt_at}
 use Rattle.rg_rules.specs.Items.{Do}
 use Rattle.rg_rules.specs.Evaluation.{uses, cleared}
+use Rattle.rg_store.specs.Shown.{store_of, AreOfClasses}
 use Rattle.rg_plain.specs.declared.state.rows.LocalRow.{LocalRow}
 use Rattle.rg_tree.specs.Rows.RowsExist.{IsNameIn}
 use Rattle.rg_plain.specs.declared.state.rows.ItemRow.{ItemRow}
@@ -11,7 +12,7 @@ use Rattle.rg_plain.specs.declared.state.rows.FrameRow.{FrameRow}
 use Rattle.rg_plain.specs.declared.state.rows.TargetRow.{TargetRow}
 use Rattle.rg_plain.specs.declared.state.rows.TargetRow.TheVariants as target
 use Rattle.rg_plain.specs.declared.state.parts.Parts.{Parts}
-use Rattle.rg_plain.specs.Shown.{locals_of, store_of, AreNamed, AreOfClasses}
+use Rattle.rg_plain.specs.Shown.{locals_of, AreNamed}
 use Rattle.rg_plain.specs.Regions.{RegionsFit}
 use Rattle.rg_plain.specs.Kept.{Kept, shown, ItemsFit}
 

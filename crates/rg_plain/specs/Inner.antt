@@ -1,11 +1,9 @@
 -- What joins the private layers of this crate; no clause of a public call cites it (docs/language.md, "Steps").
-pub mod Beneath
 pub mod Calls
 pub mod Inputs
 pub mod Makes
 pub mod Methods
 pub mod Moves
-pub mod Overflow
 pub mod Rooms
 pub mod Spots
 pub mod Steps

@@ -9,6 +9,7 @@ use Rattle.rg_tree.specs.Rows.RowTrees.{block_of}
 use Rattle.rg_tree.specs.Rows.RowsExist.{IsBlockIn}
 use Rattle.rg_rules.specs.Items.{Item, EndAt, LeaveAt, Back, items_of}
 use Rattle.rg_rules.specs.State.{Target, Declares, Assigns, Drops, Frame, Window, State}
+use Rattle.rg_store.specs.Shown.{store_of}
 use Rattle.rg_plain.specs.declared.state.rows.LocalRow.{LocalRow}
 use Rattle.rg_plain.specs.declared.state.rows.TargetRow.{TargetRow}
 use Rattle.rg_plain.specs.declared.state.rows.TargetRow.TheVariants as target
@@ -17,7 +18,7 @@ use Rattle.rg_plain.specs.declared.state.rows.WindowRow.{WindowRow}
 use Rattle.rg_plain.specs.declared.state.rows.ItemRow.{ItemRow}
 use Rattle.rg_plain.specs.declared.state.rows.ItemRow.TheVariants as row
 use Rattle.rg_plain.specs.declared.state.parts.Parts.{Parts}
-use Rattle.rg_plain.specs.Shown.{locals_of, store_of}
+use Rattle.rg_plain.specs.Shown.{locals_of}
 
 -- a frame
 pub record FrameKept : Type 0 where

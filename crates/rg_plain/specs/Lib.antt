@@ -3,7 +3,6 @@ pub mod Fits
 pub mod Kept
 pub mod Machine
 pub mod Outcomes
-pub mod Read
 pub mod Runs
 pub mod Shown
 pub mod Regions

@@ -4,7 +4,6 @@
 pub(crate) mod arguments;
 pub(crate) mod expressions;
 pub(crate) mod methods;
-pub(crate) mod operators;
 pub(crate) mod paths;
 pub(crate) mod types;
 pub(crate) mod uses;

@@ -1,13 +1,12 @@
 -- New objects by the numbers of their classes, and the three forms of `new` (docs/language.md, "Steps").
-use Rattle.std.specs.Prelude.{ℕ, ◌<◌, List, [], ◌∷◌, ◌++◌, map, length, vec_capacity}
+use Rattle.std.specs.Prelude.{ℕ, ◌<◌, List, [], ◌∷◌, ◌++◌, length, vec_capacity}
 use Rattle.rg_base.specs.declared.words.Manager.{Manager}
 use Rattle.rg_base.specs.declared.object.Label.{Label}
 use Rattle.rg_base.specs.declared.object.Label.TheVariants.{Region, Temp}
 use Rattle.rg_base.specs.declared.object.Seen.{Seen}
-use Rattle.rg_tree.specs.Tree.{Class, Right, new, new_tmp, new_iso}
+use Rattle.rg_tree.specs.Tree.{Right, new, new_tmp, new_iso}
 use Rattle.rg_tree.specs.Rows.Tables.{Tables, name_at}
-use Rattle.rg_rules.specs.Types.{fields_of}
-use Rattle.rg_rules.specs.RightSides.{Use, opening_value, with_region}
+use Rattle.rg_rules.specs.RightSides.{Use, with_region}
 use Rattle.rg_rules.specs.State.{Window, State, active, top_number}
 use Rattle.rg_plain.specs.declared.steps.targets.Aim.{Aim}
 use Rattle.rg_plain.specs.declared.steps.new.Kind.{Kind}
@@ -15,10 +14,6 @@ use Rattle.rg_plain.specs.declared.steps.new.Kind.TheVariants as kind
 use Rattle.rg_plain.specs.declared.state.parts.Parts.{Parts}
 use Rattle.rg_plain.specs.Inner.Spots.{use_of}
 use Rattle.rg_plain.specs.Inner.Rooms.{HasRoom}
-
--- a new object of a class
-abbrev pub opened_as : List Class → ℕ → Label → Seen
-opened_as classes class label = record { class = class; fields = map (λ f. opening_value f.ty) (fields_of classes class); label = label }
 
 -- the state with one more object
 abbrev pub with_object : State → Seen → State

@@ -1,7 +1,8 @@
 //! The parts of the machine (docs/language.md, "Steps").
 
-use crate::state::rows::{FrameRow, ItemRow, ObjectRow, WindowRow};
+use crate::state::rows::{FrameRow, ItemRow, WindowRow};
 use rg_base::{Manager, Vals};
+use rg_store::ObjectRow;
 
 /// The state of the machine. Of frames and windows the topmost stands alone, and the others have
 /// the lowest first; the thing to do next is the last one.

@@ -1,7 +1,7 @@
-//! What the machine keeps: variables, frames, windows, things to do and objects, with names,
-//! statements and classes by their numbers (docs/language.md, "Steps").
+//! What the machine keeps: variables, frames, windows and things to do, with names, statements and
+//! classes by their numbers (docs/language.md, "Steps").
 
-use rg_base::{Label, Place, Ty, Val};
+use rg_base::{Place, Ty, Val};
 use rg_tree::Span;
 
 /// A variable of a frame: the number of its name, which `self` has not, its declared type and its
@@ -52,12 +52,4 @@ pub enum ItemRow {
     LeaveAt(usize),
     /// the end of a method without a result
     Back,
-}
-
-/// An object: the number of its class, its fields in order, and to what it belongs.
-#[derive(Drop)]
-pub struct ObjectRow {
-    pub class: u32,
-    pub fields: Vec<Val>,
-    pub label: Label,
 }

@@ -15,9 +15,9 @@ use crate::state::parts::Parts;
 use crate::state::rows::ItemRow;
 use crate::steps::refusal::Refusal;
 use crate::values::expressions::value;
-use crate::values::operators::as_bool;
 use crate::values::uses::{spend, use_up};
 use rg_names::Book;
+use rg_store::as_bool;
 use rg_tree::Span;
 
 /// Chooses a block by its test.

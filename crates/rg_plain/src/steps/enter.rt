@@ -11,24 +11,23 @@ ghost use Rattle.rg_tree.specs.Tree.{enter};
 ghost use Rattle.rg_rules.specs.Items.{LeaveAt};
 ghost use Rattle.rg_rules.specs.Steps.{with_window};
 ghost use Rattle.rg_rules.specs.Types.{field_place, fields_of};
+ghost use Rattle.rg_store.specs.Regions.{LabelsFit};
+ghost use Rattle.rg_store.specs.Shown.{store_of};
 ghost use Rattle.rg_plain.specs.Fits.{PartsFit};
 ghost use Rattle.rg_plain.specs.Inner.Steps.{GoesOn, Makes, Stands};
 ghost use Rattle.rg_plain.specs.Inner.Windows.{BridgeIs, HasWindowRoom, OwnerIs};
 ghost use Rattle.rg_plain.specs.Kept.{ItemsFit, kept_of, plain_of, put_row, shown};
 ghost use Rattle.rg_plain.specs.Outcomes.{first_prints};
-ghost use Rattle.rg_plain.specs.Regions.{LabelsFit};
-ghost use Rattle.rg_plain.specs.Shown.{store_of};
 
 use crate::state::items::{At, advance, pop_row, put_block};
 use crate::state::locals::{keep, place, variable};
-use crate::state::objects::{field_value, object_place};
 use crate::state::parts::Parts;
-use crate::state::regions::region;
-use crate::state::rows::{ItemRow, LocalRow, ObjectRow, WindowRow};
+use crate::state::rows::{ItemRow, LocalRow, WindowRow};
 use crate::steps::refusal::Refusal;
 use crate::values::paths::{Spot, spot_of};
 use rg_base::{Cap, Memory, Place, Ty, Val};
 use rg_names::Book;
+use rg_store::{ObjectRow, field_value, object_place, region};
 use rg_tree::{Path, Span};
 
 /// The place of an owner reference, and what it holds.

@@ -1,33 +1,27 @@
 //! The steps of `freeze y` and `merge y` (docs/language.md, "Steps").
 
-ghost use Rattle.std.specs.Prelude.{◌<◌, ◌∷◌, ◌≡◌, [], IfOk, IfSome, List, Some, length, slice_get};
+ghost use Rattle.std.specs.Prelude.{◌<◌, ◌∷◌, ◌≡◌, [], IfOk, List, Some, length};
 ghost use Rattle.std.specs.Prelude.{ℕ};
-ghost use Rattle.rg_base.specs.declared.object.Seen.{Seen};
 ghost use Rattle.rg_tree.specs.Rows.RowTrees.{classes_of};
 ghost use Rattle.rg_tree.specs.Rows.RowsExist.{IsNameIn};
 ghost use Rattle.rg_tree.specs.Rows.Tables.{Tables};
-ghost use Rattle.rg_rules.specs.Regions.{beneath, region_of};
+ghost use Rattle.rg_rules.specs.Regions.{beneath};
+ghost use Rattle.rg_store.specs.Regions.{AreMarked, AreRegions, LabelFits};
 ghost use Rattle.rg_plain.specs.Fits.{PartsFit};
-ghost use Rattle.rg_plain.specs.Inner.Beneath.{AreMarked, AreRegions};
 ghost use Rattle.rg_plain.specs.Inner.Moves.{HeldIs, carried, label_of, regions_with, right_of};
 ghost use Rattle.rg_plain.specs.Inner.Rooms.{HasRoom};
 ghost use Rattle.rg_plain.specs.Inner.Spots.{AimFits, LeftFits, statement_of};
 ghost use Rattle.rg_plain.specs.Inner.Steps.{Makes, Stands};
 ghost use Rattle.rg_plain.specs.Kept.{kept_of, plain_of};
-ghost use Rattle.rg_plain.specs.Regions.{LabelFits, LabelsFit};
-ghost use Rattle.rg_plain.specs.Shown.{store_of};
 
-use crate::state::beneath::beneath;
 use crate::state::items::{At, advance};
 use crate::state::locals::{set, variable};
-use crate::state::objects::object_place;
 use crate::state::parts::Parts;
-use crate::state::regions::{Regions, region, relabel};
-use crate::state::rows::ObjectRow;
 use crate::steps::refusal::Refusal;
 use crate::steps::targets::{Aim, Left, aim_of, make_room, put};
 use rg_base::{Label, Memory, Trap, Val};
 use rg_names::Book;
+use rg_store::{Regions, beneath, object_place, region_at, relabel};
 use std::alloc::Global;
 
 /// How regions are moved.
@@ -44,18 +38,6 @@ pub enum Move {
 pub(crate) struct Held {
     pub(crate) value: Val,
     pub(crate) region: Option<u64>,
-}
-
-/// The region in which the object at a place lies.
-fn region_at(store: &[ObjectRow], place: usize) -> Option<u64>
-    requires { place < length store.now }
-    ensures region { (o : Seen) → slice_get (store_of store.now) place ≡ Some o →
-        region_of o.label ≡ result }
-    ensures made { IfSome result (λ r. (count : ℕ) → LabelsFit count (store_of store.now) →
-        r < count) }
-{
-    let object = &store[place];
-    region(object.label)
 }
 
 /// What a variable holds; following nil traps.

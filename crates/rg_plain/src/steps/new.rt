@@ -1,29 +1,25 @@
-//! The steps of `new C`, `new tmp C` and `new iso C in M`. The fields of a new object start as 0,
-//! false and nil (docs/language.md, "Steps").
+//! The steps of `new C`, `new tmp C` and `new iso C in M` (docs/language.md, "Steps").
 
-ghost use Rattle.std.specs.Prelude.{◌<◌, ◌≡◌, IfOk, List, OnOk, length, map, vec_capacity, ℕ};
-ghost use Rattle.rg_tree.specs.Rows.RowTrees.{classes_of, type_of};
+ghost use Rattle.std.specs.Prelude.{◌<◌, ◌≡◌, List, OnOk, length, vec_capacity, ℕ};
+ghost use Rattle.rg_tree.specs.Rows.RowTrees.{classes_of};
 ghost use Rattle.rg_tree.specs.Rows.RowsExist.{IsNameIn};
 ghost use Rattle.rg_tree.specs.Rows.Tables.{Tables};
-ghost use Rattle.rg_rules.specs.RightSides.{opening_value};
-ghost use Rattle.rg_rules.specs.Types.{fields_of};
+ghost use Rattle.rg_store.specs.Shown.{seen_of};
+ghost use Rattle.rg_store.specs.Regions.{LabelFits};
 ghost use Rattle.rg_plain.specs.Fits.{PartsFit};
-ghost use Rattle.rg_plain.specs.Inner.Makes.{HasRooms, label_of, managers_with, opened_as};
+ghost use Rattle.rg_plain.specs.Inner.Makes.{HasRooms, label_of, managers_with};
 ghost use Rattle.rg_plain.specs.Inner.Makes.{right_of, use_with, with_object};
 ghost use Rattle.rg_plain.specs.Inner.Spots.{AimFits, LeftFits, statement_of};
 ghost use Rattle.rg_plain.specs.Inner.Steps.{Makes, Stands};
 ghost use Rattle.rg_plain.specs.Kept.{kept_of, plain_of};
-ghost use Rattle.rg_plain.specs.Regions.{LabelFits};
-ghost use Rattle.rg_plain.specs.Shown.{seen_of};
 
 use crate::state::items::{At, advance};
 use crate::state::parts::Parts;
-use crate::state::rows::ObjectRow;
 use crate::steps::refusal::Refusal;
 use crate::steps::targets::{Aim, Left, aim_of, make_room, put};
 use rg_base::{Label, Manager, Memory, Val};
 use rg_names::Book;
-use rg_tree::{MemberRow, TypeRow};
+use rg_store::{ObjectRow, new_object};
 use std::alloc::Global;
 
 /// What is made.
@@ -124,57 +120,4 @@ pub(crate) fn new_step(
     advance(book, &mut m.items, at.span, at.number);
     make(book, m, aim, object, kind);
     Ok(())
-}
-
-/// The value with which a field of a type starts.
-fn opening_value(ty: TypeRow) -> Val
-    ensures { (t : Tables) → result ≡ opening_value (type_of t ty) }
-{
-    match ty {
-        TypeRow::Int => Val::Int(0),
-        TypeRow::Bool => Val::Bool(false),
-        TypeRow::Ref { .. } => Val::Nil,
-    }
-}
-
-/// The values with which the fields of a class start.
-fn opening_fields(alloc: Global, book: &Book, class: u32) -> Result<Vec<Val>, Memory>
-    requires class { class < length (classes_of book.now.program) }
-    ensures { IfOk result (λ fields. fields.items
-        ≡ map (λ f. opening_value f.ty) (fields_of (classes_of book.now.program) class)) }
-{
-    let mut fields = Vec::new(alloc);
-    let row = book.class(class);
-    let numbers = book.order(row.members);
-    for member in numbers {
-        match book.member(*member) {
-            MemberRow::Field { ty, .. } => {
-                let Ok(()) = fields.push(opening_value(ty)) else {
-                    return Err(Memory);
-                };
-            }
-            MemberRow::Method { .. } => {}
-        }
-    }
-    Ok(fields)
-}
-
-/// A new object of a class.
-pub(crate) fn new_object(
-    alloc: Global,
-    book: &Book,
-    class: u32,
-    label: Label,
-) -> Result<ObjectRow, Memory>
-    requires class { class < length (classes_of book.now.program) }
-    ensures shown { IfOk result (λ o. seen_of o ≡ opened_as (classes_of book.now.program) class
-        label) }
-    ensures class { IfOk result (λ o. o.class ≡ class) }
-{
-    let fields = opening_fields(alloc, book, class)?;
-    Ok(ObjectRow {
-        class,
-        fields,
-        label,
-    })
 }

@@ -13,12 +13,12 @@ ghost use Rattle.rg_plain.specs.Kept.{kept_of, plain_of};
 
 use crate::state::items::{At, advance};
 use crate::state::locals::variable;
-use crate::state::objects::field_value;
 use crate::state::parts::Parts;
 use crate::steps::refusal::Refusal;
 use crate::steps::targets::{Aim, put};
 use crate::values::paths::{Spot, spot_of};
 use rg_names::Book;
+use rg_store::field_value;
 use rg_tree::Path;
 
 /// Exchanges the values of a variable and of a field of the object at a place.

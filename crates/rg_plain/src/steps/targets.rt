@@ -7,13 +7,13 @@ ghost use Rattle.rg_plain.specs.Inner.Spots.{AimFits, AimIs, LeftFits, use_of};
 ghost use Rattle.rg_plain.specs.Kept.{kept_of, plain_of};
 
 use crate::state::locals::set;
-use crate::state::objects::write_field;
 use crate::state::parts::Parts;
 use crate::state::rows::LocalRow;
 use crate::values::paths::{Spot, spot_of};
 use crate::values::types::written_type;
 use rg_base::{Memory, Trap, Ty, Val};
 use rg_names::Book;
+use rg_store::write_field;
 use rg_tree::{Path, TypeRow};
 
 /// What stands left of `=`.

@@ -4,14 +4,16 @@ ghost use Rattle.std.specs.Prelude.{◌≡◌, All, IfOk, flat_map, map};
 ghost use Rattle.rg_tree.specs.Rows.RowTrees.{classes_of, expr_at};
 ghost use Rattle.rg_tree.specs.Rows.RowsExist.{IsExprNumber};
 ghost use Rattle.rg_rules.specs.Evaluation.{cleared, uses, values_of};
-ghost use Rattle.rg_plain.specs.Shown.{AreNamed, AreOfClasses, locals_of, store_of};
+ghost use Rattle.rg_store.specs.Shown.{AreOfClasses, store_of};
+ghost use Rattle.rg_plain.specs.Shown.{AreNamed, locals_of};
 
-use crate::state::rows::{LocalRow, ObjectRow};
+use crate::state::rows::LocalRow;
 use crate::steps::refusal::Refusal;
 use crate::values::expressions::value;
 use crate::values::uses::use_up;
 use rg_base::{Trap, Val};
 use rg_names::Book;
+use rg_store::ObjectRow;
 use std::alloc::Global;
 
 /// The values of expressions, from left to right.

@@ -4,13 +4,14 @@ ghost use Rattle.std.specs.Prelude.{◌≡◌};
 ghost use Rattle.rg_tree.specs.Rows.RowTrees.{classes_of, expr_at};
 ghost use Rattle.rg_tree.specs.Rows.RowsExist.{IsExprNumber};
 ghost use Rattle.rg_rules.specs.Evaluation.{value_of};
-ghost use Rattle.rg_plain.specs.Shown.{AreNamed, AreOfClasses, locals_of, store_of};
+ghost use Rattle.rg_store.specs.Shown.{AreOfClasses, store_of};
+ghost use Rattle.rg_plain.specs.Shown.{AreNamed, locals_of};
 
-use crate::state::objects::path_value;
-use crate::state::rows::{LocalRow, ObjectRow};
-use crate::values::operators::{as_bool, decides, is_nil, negative, operate};
+use crate::state::rows::LocalRow;
+use crate::values::paths::path_value;
 use rg_base::{Trap, Val};
 use rg_names::Book;
+use rg_store::{ObjectRow, as_bool, decides, is_nil, negative, operate};
 use rg_tree::ExprRow;
 
 /// The value of an expression.

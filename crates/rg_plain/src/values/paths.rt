@@ -5,16 +5,35 @@ ghost use Rattle.std.specs.Prelude.{◌<◌, ◌≡◌, All, IfOk, length, map};
 ghost use Rattle.rg_tree.specs.Rows.RowTrees.{classes_of, path_of};
 ghost use Rattle.rg_tree.specs.Rows.RowsExist.{IsNameIn, IsPathIn};
 ghost use Rattle.rg_tree.specs.Rows.Tables.{name_at};
+ghost use Rattle.rg_rules.specs.Evaluation.{path_value};
+ghost use Rattle.rg_store.specs.Shown.{AreOfClasses, store_of};
 ghost use Rattle.rg_plain.specs.Inner.Calls.{receiver_of};
 ghost use Rattle.rg_plain.specs.Inner.Spots.{ReceiverIs, SpotIs};
-ghost use Rattle.rg_plain.specs.Shown.{AreNamed, AreOfClasses, locals_of, store_of};
+ghost use Rattle.rg_plain.specs.Shown.{AreNamed, locals_of};
 
 use crate::state::locals::variable;
-use crate::state::objects::{follow, object_place, path_value};
-use crate::state::rows::{LocalRow, ObjectRow};
+use crate::state::rows::LocalRow;
 use rg_base::{Trap, Val};
 use rg_names::Book;
+use rg_store::{ObjectRow, follow, object_place};
 use rg_tree::Path;
+
+/// The value of a path.
+pub(crate) fn path_value(
+    book: &Book,
+    store: &[ObjectRow],
+    locals: &[LocalRow],
+    path: Path,
+) -> Result<Val, Trap>
+    requires objects { AreOfClasses book.now.program store.now }
+    requires named { AreNamed book.now.program locals.now }
+    requires path { IsPathIn book.now.program path }
+    ensures { result ≡ path_value (classes_of book.now.program) (store_of store.now)
+        (locals_of book.now.program locals.now) (path_of book.now.program path) }
+{
+    let from = variable(book, locals, path.base);
+    follow(book, store, from, book.order(path.fields))
+}
 
 /// The value of `self`, and the number of its class.
 #[derive(Clone, Copy)]

@@ -1,5 +1,5 @@
 use Rattle.rg_plain.specs.Kept.{kept_of}
-use Rattle.rg_plain.proofs.InputLemmas.{does, prints}
+use Rattle.rg_plain.proofs.Statements.InputLemmas.{does, prints}
 use Rattle.rg_plain.proofs.steps.kind_step.Goals as goal
 
 pub returns-in-If-clause-step : goal.returns-in-If-clause-step

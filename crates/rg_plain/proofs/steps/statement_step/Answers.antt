@@ -2,7 +2,7 @@ use Rattle.std.proofs.Common.{◌≡◌, ap, sym, ◌∙◌, rules}
 use Rattle.rg_tree.specs.Rows.RowTrees.{stmt_at, kind_over}
 use Rattle.rg_plain.specs.Kept.{shown}
 use Rattle.rg_rules.specs.Inputs.{first_asks}
-use Rattle.rg_plain.proofs.DispatchLemmas.{asks-first}
+use Rattle.rg_plain.proofs.Runs.DispatchLemmas.{asks-first}
 use Rattle.rg_plain.proofs.steps.statement_step.Goals as goal
 
 pub returns-clause-reads_nothing : goal.returns-clause-reads_nothing

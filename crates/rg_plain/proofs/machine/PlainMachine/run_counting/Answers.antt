@@ -5,10 +5,10 @@ use Rattle.rg_base.specs.declared.outcome.Outcome.TheVariants as outcome
 use Rattle.rg_io.proofs.ContentLemmas.{Appends-none}
 use Rattle.rg_input.proofs.InputLemmas.{OnInput-still, OnInput-map}
 use Rattle.rg_plain.specs.Machine.{state_of, StepsOn}
-use Rattle.rg_plain.proofs.DispatchLemmas.{left-shown}
-use Rattle.rg_plain.proofs.InputLemmas.{OnInput-both}
-use Rattle.rg_plain.proofs.RunLemmas.{RanSoFar, RanOn, RunOn, UnreadOn, QuietOn, none_more, opening, quiet, printed, spent, done, trapped, cut_before}
-use Rattle.rg_plain.proofs.RunLemmas.{cut_at_input, cut_behind}
+use Rattle.rg_plain.proofs.Runs.DispatchLemmas.{left-shown}
+use Rattle.rg_plain.proofs.Statements.InputLemmas.{OnInput-both}
+use Rattle.rg_plain.proofs.Runs.RunLemmas.{RanSoFar, RanOn, RunOn, UnreadOn, QuietOn, none_more, opening, quiet, printed, spent, done, trapped, cut_before}
+use Rattle.rg_plain.proofs.Runs.RunLemmas.{cut_at_input, cut_behind}
 use Rattle.rg_plain.proofs.machine.PlainMachine.run_counting.Goals as goal
 
 pub loop-steps-init : goal.loop-steps-init

@@ -7,8 +7,8 @@ use Rattle.rg_plain.specs.Inner.Inputs.{SettlesOn}
 use Rattle.rg_plain.specs.Kept.{kept_of, shown}
 use Rattle.rg_rules.specs.Inputs.{first_asks}
 use Rattle.rg_plain.specs.Machine.{Machine, KeepsFit, StepsOn}
-use Rattle.rg_plain.proofs.MachineLemmas.{fits_parts, fits_again, settles_as}
-use Rattle.rg_plain.proofs.SoundLemmas.{steps-keep}
+use Rattle.rg_plain.proofs.Rows.MachineLemmas.{fits_parts, fits_again, settles_as}
+use Rattle.rg_plain.proofs.Runs.SoundLemmas.{steps-keep}
 use Rattle.rg_plain.proofs.machine.PlainMachine.step.Goals as goal
 
 pub whole_step-requires-clause-fit : goal.whole_step-requires-clause-fit

@@ -1,5 +1,5 @@
 use Rattle.rg_plain.specs.Kept.{kept_of}
-use Rattle.rg_plain.proofs.InputLemmas.{does}
+use Rattle.rg_plain.proofs.Statements.InputLemmas.{does}
 use Rattle.rg_plain.proofs.steps.assign.right_step.Goals as goal
 
 pub returns-in-Expr-clause-step : goal.returns-in-Expr-clause-step

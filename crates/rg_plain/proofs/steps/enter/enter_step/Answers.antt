@@ -5,12 +5,12 @@ use Rattle.rg_rules.specs.Evaluation.{object_at}
 use Rattle.rg_rules.specs.Steps.{with_window}
 use Rattle.rg_tree.specs.Rows.Tables.{name_at}
 use Rattle.rg_tree.specs.Rows.RowTrees.{block_of}
+use Rattle.rg_store.specs.declared.objects.ObjectRow.{ObjectRow}
+use Rattle.rg_store.specs.Regions.{LabelsFit}
+use Rattle.rg_store.specs.Shown.{store_of}
 use Rattle.rg_plain.specs.Kept.{Kept, kept_of, plain_of, shown}
-use Rattle.rg_plain.specs.declared.state.rows.ObjectRow.{ObjectRow}
-use Rattle.rg_plain.specs.Regions.{LabelsFit}
-use Rattle.rg_plain.specs.Shown.{store_of}
 use Rattle.rg_plain.specs.Inner.Windows.{BridgeIs}
-use Rattle.rg_plain.proofs.WindowLemmas.{owner-refused, enter-cut, enter-at, found}
+use Rattle.rg_plain.proofs.Statements.WindowLemmas.{owner-refused, enter-cut, enter-at, found}
 use Rattle.rg_plain.proofs.steps.enter.enter_step.Goals as goal
 
 pub returns-in_err-owner-clause-step : goal.returns-in_err-owner-clause-step

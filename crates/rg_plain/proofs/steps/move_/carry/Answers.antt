@@ -4,13 +4,14 @@ use Rattle.rg_base.specs.declared.value.Val.TheVariants.{Nil}
 use Rattle.rg_tree.specs.Rows.Tables.{name_at}
 use Rattle.rg_rules.specs.Regions.{relabelled}
 use Rattle.rg_rules.specs.State.{set_in}
+use Rattle.rg_store.specs.declared.objects.ObjectRow.{ObjectRow}
+use Rattle.rg_store.specs.Regions.{LabelsFit}
+use Rattle.rg_store.specs.Shown.{AreOfClasses, store_of}
 use Rattle.rg_plain.specs.declared.state.rows.LocalRow.{LocalRow}
-use Rattle.rg_plain.specs.declared.state.rows.ObjectRow.{ObjectRow}
 use Rattle.rg_plain.specs.Kept.{kept_of}
-use Rattle.rg_plain.specs.Regions.{LabelsFit}
-use Rattle.rg_plain.specs.Shown.{AreNamed, AreOfClasses, locals_of, store_of}
+use Rattle.rg_plain.specs.Shown.{AreNamed, locals_of}
 use Rattle.rg_plain.specs.Inner.Spots.{use_of}
-use Rattle.rg_plain.proofs.MoveLemmas.{set-nil}
+use Rattle.rg_plain.proofs.Statements.MoveLemmas.{set-nil}
 use Rattle.rg_plain.proofs.steps.move_.carry.Goals as goal
 
 pub put-requires-clause-fit : goal.put-requires-clause-fit

@@ -1,10 +1,9 @@
 use Rattle.std.proofs.Common.{List, ℕ, [], ◌∷◌, length, ◌∙◌, sym, subst, IfOk}
 use Rattle.rg_tree.specs.Rows.RowTrees.{classes_of}
 use Rattle.rg_rules.specs.Regions.{beneath}
-use Rattle.rg_plain.specs.declared.state.rows.ObjectRow.{ObjectRow}
-use Rattle.rg_plain.specs.Inner.Beneath.{AreMarked}
-use Rattle.rg_plain.specs.Regions.{LabelsFit}
-use Rattle.rg_plain.specs.Shown.{store_of}
+use Rattle.rg_store.specs.declared.objects.ObjectRow.{ObjectRow}
+use Rattle.rg_store.specs.Regions.{AreMarked, LabelsFit}
+use Rattle.rg_store.specs.Shown.{store_of}
 use Rattle.rg_plain.proofs.steps.move_.marks_beneath.Goals as goal
 
 pub beneath-requires-clause-labels : goal.beneath-requires-clause-labels

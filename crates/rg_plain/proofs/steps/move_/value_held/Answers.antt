@@ -3,11 +3,12 @@ use Rattle.std.proofs.lemmas.Result.{err_from_is_err_and}
 use Rattle.rg_tree.specs.Rows.Tables.{name_at}
 use Rattle.rg_rules.specs.Evaluation.{object_at}
 use Rattle.rg_rules.specs.State.{value_in}
-use Rattle.rg_plain.specs.declared.state.rows.ObjectRow.{ObjectRow}
-use Rattle.rg_plain.specs.Regions.{LabelsFit}
-use Rattle.rg_plain.specs.Shown.{locals_of, store_of}
-use Rattle.rg_plain.proofs.MoveLemmas.{made-at}
-use Rattle.rg_plain.proofs.WindowLemmas.{found}
+use Rattle.rg_store.specs.declared.objects.ObjectRow.{ObjectRow}
+use Rattle.rg_store.specs.Regions.{LabelsFit}
+use Rattle.rg_store.specs.Shown.{store_of}
+use Rattle.rg_plain.specs.Shown.{locals_of}
+use Rattle.rg_plain.proofs.Statements.MoveLemmas.{made-at}
+use Rattle.rg_plain.proofs.Statements.WindowLemmas.{found}
 use Rattle.rg_plain.proofs.steps.move_.value_held.Goals as goal
 
 pub returns : goal.returns

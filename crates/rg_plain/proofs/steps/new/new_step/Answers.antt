@@ -4,11 +4,11 @@ use Rattle.rg_base.specs.declared.object.Seen.{Seen}
 use Rattle.rg_base.specs.declared.value.Val.TheVariants.{Obj}
 use Rattle.rg_tree.specs.Rows.RowTrees.{classes_of}
 use Rattle.rg_rules.specs.State.{State}
+use Rattle.rg_store.specs.Shown.{opened_as, seen_of}
+use Rattle.rg_store.specs.Regions.{LabelFits}
 use Rattle.rg_plain.specs.Kept.{Kept, kept_of, plain_of, shown}
-use Rattle.rg_plain.specs.Inner.Makes.{opened_as, with_object, use_with, managers_with}
-use Rattle.rg_plain.specs.Regions.{LabelFits}
-use Rattle.rg_plain.specs.Shown.{seen_of}
-use Rattle.rg_plain.proofs.MakeLemmas.{made-step, label-made}
+use Rattle.rg_plain.specs.Inner.Makes.{with_object, use_with, managers_with}
+use Rattle.rg_plain.proofs.Statements.MakeLemmas.{made-step, label-made}
 use Rattle.rg_plain.proofs.steps.new.new_step.Goals as goal
 
 pub make-requires-clause-class : goal.make-requires-clause-class

@@ -1,6 +1,6 @@
 use Rattle.rg_tree.specs.Rows.RowTrees.{path_of}
 use Rattle.rg_plain.specs.Kept.{kept_of}
-use Rattle.rg_plain.proofs.FieldLemmas.{some-at, swap-step, field-spot}
+use Rattle.rg_plain.proofs.Statements.FieldLemmas.{some-at, swap-step, field-spot}
 use Rattle.rg_plain.proofs.steps.swap.swap_step.Goals as goal
 
 pub returns-in-Field-clause-step : goal.returns-in-Field-clause-step

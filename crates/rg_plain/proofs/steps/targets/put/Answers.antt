@@ -3,12 +3,12 @@ use Rattle.std.proofs.lemmas.List.{with_items_is}
 use Rattle.rg_tree.specs.Rows.Tables.{name_at}
 use Rattle.rg_tree.specs.Rows.RowTrees.{classes_of}
 use Rattle.rg_rules.specs.State.{State}
+use Rattle.rg_store.specs.declared.objects.ObjectRow.{ObjectRow}
+use Rattle.rg_store.specs.Regions.{LabelsFit}
+use Rattle.rg_store.specs.Shown.{store_of, AreOfClasses}
+use Rattle.rg_store.proofs.Callers.WriteLemmas.{put_field-written}
 use Rattle.rg_plain.specs.Kept.{kept_of, plain_of}
 use Rattle.rg_plain.specs.Inner.Spots.{use_of}
-use Rattle.rg_plain.specs.declared.state.rows.ObjectRow.{ObjectRow}
-use Rattle.rg_plain.specs.Regions.{LabelsFit}
-use Rattle.rg_plain.specs.Shown.{store_of, AreOfClasses}
-use Rattle.rg_plain.proofs.WriteLemmas.{put_field-written}
 use Rattle.rg_plain.proofs.steps.targets.put.Goals as goal
 
 pub returns-in-Field-clause-put : goal.returns-in-Field-clause-put

@@ -1,8 +1,9 @@
 use Rattle.std.proofs.Common.{◌≡◌, map, drop}
 use Rattle.rg_tree.specs.Rows.RowTrees.{classes_of, expr_at}
 use Rattle.rg_rules.specs.Evaluation.{values_of}
-use Rattle.rg_plain.specs.Shown.{store_of, locals_of}
-use Rattle.rg_plain.proofs.ArgumentLemmas.{values_behind}
+use Rattle.rg_store.specs.Shown.{store_of}
+use Rattle.rg_plain.specs.Shown.{locals_of}
+use Rattle.rg_plain.proofs.Expressions.ArgumentLemmas.{values_behind}
 use Rattle.rg_plain.proofs.values.arguments.arguments.Given as goal
 
 abbrev pub invariant-loop-e : goal.invariant-loop-e

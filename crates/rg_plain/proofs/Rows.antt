@@ -1,0 +1,6 @@
+-- What is kept: variables, things to do, frames, labels and windows, and the machine as a whole.
+pub mod LocalLemmas
+pub mod ItemLemmas
+pub mod FrameLemmas
+pub mod FitLemmas
+pub mod MachineLemmas

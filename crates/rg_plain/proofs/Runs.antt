@@ -1,0 +1,4 @@
+-- What a whole step answers, and runs of many steps.
+pub mod DispatchLemmas
+pub mod SoundLemmas
+pub mod RunLemmas

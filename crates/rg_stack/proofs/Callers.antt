@@ -1,0 +1,6 @@
+-- What callers cite: the laws, and what is calm and orderly.
+pub mod OrderLemmas
+pub mod StepLemmas
+pub mod OpeningLemmas
+pub mod RunLemmas
+pub mod RefusalLemmas

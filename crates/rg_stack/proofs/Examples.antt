@@ -1,0 +1,4 @@
+-- What instructions do, a run, and what is shown of a state, computed.
+pub mod Instructions
+pub mod Programs
+pub mod Steps

@@ -1,0 +1,11 @@
+pub mod FollowLemmas
+pub mod JudgeLemmas
+pub mod FitLemmas
+pub mod OwesLemmas
+pub mod StatementLemmas
+pub mod BeginLemmas
+pub mod SpotLemmas
+pub mod LeftLemmas
+pub mod ItemLemmas
+pub mod LabelLemmas
+pub mod BaseLemmas

@@ -1,0 +1,7 @@
+mod Mirrors
+mod Walks
+mod Statements
+mod Judgements
+mod Refusals
+pub mod Callers
+mod Examples

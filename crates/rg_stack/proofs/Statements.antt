@@ -1,0 +1,8 @@
+pub mod RightLemmas
+pub mod AssignLemmas
+pub mod BlockLemmas
+pub mod ReturnLemmas
+pub mod WindowLemmas
+pub mod CallLemmas
+pub mod CalledLemmas
+pub mod BaseLemmas

@@ -1,0 +1,5 @@
+use Rattle.rg_stack.proofs.Callers.OpeningLemmas.{opening-shows}
+use Rattle.rg_stack.proofs.laws.opening_shows.Goals as goal
+
+pub returns : goal.returns
+returns c = opening-shows

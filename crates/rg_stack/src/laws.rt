@@ -1,0 +1,26 @@
+//! The laws of the stack machine, each as the contract of a function that does nothing
+//! (docs/architecture.md, "The stack machine").
+
+ghost use Rattle.rg_stack.specs.Laws.{OpeningShows, StepShows, RunShows, StepsOrderly};
+
+/// The opening machine of an accepted program shows its opening state.
+pub fn opening_shows()
+    ensures { OpeningShows }
+{}
+
+/// From a machine that shows a state that fits, a step traps where the plain step does, at the
+/// same line, and else leaves a machine that shows the next state, done where nothing is left.
+pub fn step_shows()
+    ensures { StepShows }
+{}
+
+/// So a run of the code of an accepted program makes as many steps, prints the same and ends in
+/// the same way as one of the machine that never frees, and shows its state.
+pub fn run_shows()
+    ensures { RunShows }
+{}
+
+/// Where a step begins, all in it that can be refused stands in front of what changes the machine.
+pub fn steps_orderly()
+    ensures { StepsOrderly }
+{}

@@ -1,0 +1,3 @@
+-- For crates above: labels, and writes to objects.
+pub mod LabelLemmas
+pub mod WriteLemmas

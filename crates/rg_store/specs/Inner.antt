@@ -1,0 +1,3 @@
+-- What joins the private layers of this crate; no clause of a public call cites it (docs/language.md, "Steps").
+pub mod Found
+pub mod Overflow

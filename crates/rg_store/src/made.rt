@@ -1,0 +1,92 @@
+//! New objects: of a class, whose fields start as 0, false and nil, or with fields that are given
+//! (docs/language.md, "Steps").
+
+ghost use Rattle.std.specs.Prelude.{◌++◌, ◌<◌, ◌∷◌, ◌≡◌, [], IfOk, OnErr, OnOk, length, map, ℕ};
+ghost use Rattle.rg_tree.specs.Rows.RowTrees.{classes_of, type_of};
+ghost use Rattle.rg_tree.specs.Rows.Tables.{Tables};
+ghost use Rattle.rg_rules.specs.RightSides.{opening_value};
+ghost use Rattle.rg_rules.specs.Types.{fields_of};
+ghost use Rattle.rg_store.specs.Regions.{LabelFits, LabelsFit};
+ghost use Rattle.rg_store.specs.Shown.{object_of, opened_as, seen_of, store_of};
+
+use crate::objects::ObjectRow;
+use rg_base::{Label, Memory, Val};
+use rg_names::Book;
+use rg_tree::{MemberRow, TypeRow};
+use std::alloc::Global;
+
+/// Adds an object with its fields, whose serial is the number of those before it.
+pub fn push_object(
+    alloc: Global,
+    store: &mut Vec<ObjectRow>,
+    class: u32,
+    fields: &[Val],
+    label: Label,
+) -> Result<(), Memory>
+    ensures pushed { OnOk result (store_of store.new.items
+        ≡ store_of store.old.items ++ object_of class fields.now label ∷ []) }
+    ensures refused { OnErr result (store.new.items ≡ store.old.items) }
+    ensures labels { (count : ℕ) → LabelFits count label →
+        LabelsFit count (store_of store.old.items) → LabelsFit count (store_of store.new.items) }
+{
+    let mut values = Vec::new(alloc);
+    let Ok(()) = values.extend_from_slice(fields) else {
+        return Err(Memory);
+    };
+    let Ok(()) = store.push(ObjectRow {
+        class,
+        fields: values,
+        label,
+    }) else {
+        return Err(Memory);
+    };
+    Ok(())
+}
+
+/// The value with which a field of a type starts.
+fn opening_value(ty: TypeRow) -> Val
+    ensures { (t : Tables) → result ≡ opening_value (type_of t ty) }
+{
+    match ty {
+        TypeRow::Int => Val::Int(0),
+        TypeRow::Bool => Val::Bool(false),
+        TypeRow::Ref { .. } => Val::Nil,
+    }
+}
+
+/// The values with which the fields of a class start.
+fn opening_fields(alloc: Global, book: &Book, class: u32) -> Result<Vec<Val>, Memory>
+    requires class { class < length (classes_of book.now.program) }
+    ensures { IfOk result (λ fields. fields.items
+        ≡ map (λ f. opening_value f.ty) (fields_of (classes_of book.now.program) class)) }
+{
+    let mut fields = Vec::new(alloc);
+    let row = book.class(class);
+    let numbers = book.order(row.members);
+    for member in numbers {
+        match book.member(*member) {
+            MemberRow::Field { ty, .. } => {
+                let Ok(()) = fields.push(opening_value(ty)) else {
+                    return Err(Memory);
+                };
+            }
+            MemberRow::Method { .. } => {}
+        }
+    }
+    Ok(fields)
+}
+
+/// A new object of a class.
+pub fn new_object(alloc: Global, book: &Book, class: u32, label: Label) -> Result<ObjectRow, Memory>
+    requires class { class < length (classes_of book.now.program) }
+    ensures shown { IfOk result (λ o. seen_of o ≡ opened_as (classes_of book.now.program) class
+        label) }
+    ensures class { IfOk result (λ o. o.class ≡ class) }
+{
+    let fields = opening_fields(alloc, book, class)?;
+    Ok(ObjectRow {
+        class,
+        fields,
+        label,
+    })
+}
