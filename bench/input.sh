@@ -1,6 +1,6 @@
 #!/usr/bin/env bash
 # How long `reggio run` takes to read a number, by how many it reads: 1,000 to 1,000,000 numbers of six digits, which a
-# program adds up. For each size it prints nanoseconds for a turn of its loop, for the turn of a loop that takes its
+# program adds up. For each size it prints processor nanoseconds for a turn of its loop, for the turn of a loop that takes its
 # numbers from a variable, and how far the one is above the other: that should be within 3. Beside them stands the same
 # program in Lua (bench/lua), by `io.read("n")`, where lua5.4 is installed. The slowest size should be within 1.3 of the
 # fastest.
@@ -16,7 +16,7 @@ program=${2:-$here/bin/reggio}
 work=$(mktemp -d)
 trap 'rm -rf "$work"' EXIT
 python3 - "$work" "$program" "$turns" "$here/bench/lua/input.lua" "$(command -v lua5.4 || true)" <<'PY'
-import select, subprocess, sys, time
+import os, select, subprocess, sys, time
 work, program, turns, twin, lua = sys.argv[1], sys.argv[2], int(sys.argv[3]), sys.argv[4], sys.argv[5]
 
 READ = """main arena {
@@ -45,10 +45,14 @@ def written(name, text):
     return path
 
 def run(words, numbers):
+    """The processor seconds of a call, and its output."""
     with open(numbers) as file:
-        at = time.perf_counter()
-        ran = subprocess.run(words, stdin=file, stdout=subprocess.PIPE, check=True)
-        return time.perf_counter() - at, ran.stdout
+        ran = subprocess.Popen(words, stdin=file, stdout=subprocess.PIPE)
+        output = ran.stdout.read()
+        status, used = os.wait4(ran.pid, 0)[1:]
+        ran.returncode = status
+        if status != 0: sys.exit(f"{words} ended with {status}")
+        return used.ru_utime + used.ru_stime, output
 
 def best(words, numbers, turns):
     return min(run(words, numbers)[0] for _ in range(turns))
