@@ -27,7 +27,7 @@ calm-lies classes code ls j rest at h = calm-mark code false (drop at code)
     (ap is_mark (first-drop code at) ∙ lies_at_mark classes code ls j rest at h)
 
 -- behind the first instruction of what stands
-behind_first : (code : List Op) (at : ℕ) (o : Op) (ops : List Op) → Stands code at (o ∷ ops) → drop (at + 1) code ≡ ops
+pub behind_first : (code : List Op) (at : ℕ) (o : Op) (ops : List Op) → Stands code at (o ∷ ops) → drop (at + 1) code ≡ ops
     ++ drop (at + length (o ∷ ops)) code
 behind_first code at o ops h = sym (drop-drop at 1 code) ∙ ap (drop 1) (drop-stands code at (o ∷ ops) h)
 
