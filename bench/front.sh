@@ -1,22 +1,24 @@
 #!/usr/bin/env bash
 # How long `reggio fmt` takes, and how much memory, on sources of 64 KiB to 1 MiB of five kinds: many classes,
-# long bodies, deep nesting, many different names, long comments; and on names that are chosen so that the table
-# of names finds them all at one place, up to 256 KiB. For each it prints processor and wall seconds, and
-# nanoseconds and bytes of memory per byte of the source, less those of an empty program; for each kind the ratio
-# of the greatest to the smallest. Time and memory should stay within 1.5 for the five kinds, and 1 MiB of each
-# within two seconds. It needs python3 and a C compiler. Not a part of the gate. Usage: bench/front.sh [TURNS]
+# long bodies, deep nesting, many different names, long comments; and on one path of many names, first of any names
+# and then of names that are chosen so that a table with the kit's own hash finds them all at one place. For each it
+# prints processor and wall seconds, and nanoseconds and bytes of memory per byte of the source, less those of an
+# empty program; for each kind the ratio of the greatest to the smallest. Time and memory should stay within 1.5 for
+# the five kinds, and 1 MiB of each within two seconds; names that are chosen should take at most twice the time of
+# others. It needs python3 and a C compiler. The names are found in a minute or two.
+# Not a part of the gate. Usage: bench/front.sh [TURNS]
 set -eu
 . "$(dirname "$0")/common.sh"
 
-# Names of six bytes whose hashes agree in their low 13 bits, and so in their group of the table of names. The
-# hash is the kit's FoldHasher: the length, and then each byte, is folded in by a multiplication, and at the end
-# the halves into each other.
+# Names of six bytes whose hashes agree in their low 16 bits, as many as 1 MiB has room for. The hash is the kit's
+# FoldHasher: the length, and then each byte, is folded in by a multiplication, and at the end the halves into each
+# other. The table of names had this hash; the one that it has begins with a digest of the source.
 cat >"$work/alike.c" <<'C'
 #include <stdint.h>
 #include <stdio.h>
 static const uint64_t seed = 0x243f6a8885a308d3, multiplier = 0x9e3779b97f4a7c15;
 static const char first[] = "abcdefghijklmnopqrstuvwxyzABCDEFGHIJKLMNOPQRSTUVWXYZ_0123456789";
-enum { LENGTH = 6, WANTED = 40000 };
+enum { LENGTH = 6, WANTED = 150000 };
 static char name[LENGTH + 1];
 static int found;
 
@@ -27,7 +29,7 @@ static uint64_t fold(uint64_t a, uint64_t b) {
 
 static void extend(int at, uint64_t state) {
   if (at == LENGTH) {
-    if (((state ^ state >> 32) & 0x1fff) == 0) {
+    if (((state ^ state >> 32) & 0xffff) == 0) {
       puts(name);
       found++;
     }
@@ -129,9 +131,17 @@ def long_comments(size):
     comment = "// " + "any byte may stand in a comment, ! and # and ~ too; " * 100 + "\nprint 1;\n"
     return filled(size, "main arena {\n", itertools.repeat(comment), "}\n")
 
+def one_path(size, names):
+    return filled(size, "main arena {\nprint a", ("." + name for name in names), ";}\n")
+
+def names_apart(size):
+    letters = "abcdefghijklmnopqrstuvwxyzABCDEFGHIJKLMNOPQRSTUVWXYZ_0123456789"
+    numbers = (k * 2654435761 % 2**32 for k in itertools.count(1))
+    return one_path(size, ("x" + "".join(letters[n // 63**at % 63] for at in range(5)) for n in numbers))
+
 def names_alike(size):
     with open(f"{work}/alike.names") as f:
-        return filled(size, "main arena {\nprint a", ("." + line.strip() for line in f), ";}\n")
+        return one_path(size, (line.strip() for line in f))
 
 def best(source):
     """The least processor seconds, wall seconds and peak bytes of some calls."""
@@ -142,17 +152,20 @@ def best(source):
     processor, wall, memory = ran.stdout.split()
     return float(processor), float(wall), int(memory) * 1024
 
-five = [(kind, 1024) for kind in (many_classes, long_bodies, deep_nesting, many_names, long_comments)]
+kinds = (many_classes, long_bodies, deep_nesting, many_names, long_comments, names_apart, names_alike)
+longest = {}
 empty = best("main arena {\n}\n")
 print(f"an empty program: {empty[0]:.4f} s, {empty[2]} bytes")
 print(f"{'kind':<16}{'KiB':>6}{'seconds':>10}{'wall':>10}{'ns/byte':>10}{'bytes/byte':>12}")
-for kind, most in five + [(names_alike, 256)]:
+for kind in kinds:
     times, memories = [], []
-    for kib in (size for size in sizes if size <= most):
+    for kib in sizes:
         used = best(kind(kib * 1024))
         times.append((used[0] - empty[0]) * 1e9 / (kib * 1024))
         memories.append((used[2] - empty[2]) / (kib * 1024))
         print(f"{kind.__name__:<16}{kib:>6}{used[0]:>10.4f}{used[1]:>10.4f}{times[-1]:>10.1f}{memories[-1]:>12.1f}", flush=True)
     print(f"{kind.__name__:<16} greatest to smallest: time {max(times) / min(times):.2f}, "
           f"memory {max(memories) / min(memories):.2f}; the last {'within' if used[1] < 2 else 'PAST'} two seconds", flush=True)
+    longest[kind] = used[0]
+print(f"names_alike takes {longest[names_alike] / longest[names_apart]:.2f} times as long as names_apart")
 PY

@@ -3,6 +3,7 @@
 ghost use Rattle.std.specs.Prelude.{◌≡◌};
 ghost use Rattle.rg_tree.specs.Rows.RowTrees.{program_of};
 ghost use Rattle.rg_rules.specs.Acceptance as rules;
+ghost use Rattle.rg_rules.specs.Names.{FewNames};
 ghost use Rattle.rg_names.specs.TableOf.{IsTableOf};
 
 use rg_names::{Book, Classes};
@@ -54,9 +55,12 @@ impl Accepted {
         &self.classes
     }
 
-    /// The program with its class table, as one value.
+    /// The program with its class table, as one value. No body has more names than one may have,
+    /// since `check` is given no other programs.
     pub fn book(&self) -> Book<'_>
-        ensures { result ≡ record { program = self.now.program; classes = self.now.classes } }
+        ensures is { result
+            ≡ record { program = self.now.program; classes = self.now.classes } }
+        ensures names { FewNames (program_of self.now.program) }
     {
         Book::new(&self.program, &self.classes)
     }

@@ -1,29 +1,20 @@
 -- What is said of the bytes that are held, and what of it stays.
-use Rattle.std.proofs.Common.{◌≡◌, ℕ, inl, inr, true, false, List, [], ◌∷◌, ◌++◌, Bool, Option, Some, None, IfSome, ℤ, Ok, Err, refl, sym, ◌∙◌, ap}
-use Rattle.std.proofs.Common.{subst, append-nil, append_assoc}
+use Rattle.std.proofs.Common.{◌≡◌, ℕ, inl, inr, true, false, List, [], ◌++◌, Bool, Option, Some, None, IfSome, ℤ, Ok, Err, refl, sym, ◌∙◌, ap}
+use Rattle.std.proofs.Common.{subst, append_assoc}
 use Rattle.std.specs.Option.{option_to_list}
 use Rattle.std.proofs.lemmas.Bool.{false≢true}
 use Rattle.rg_base.specs.Input.{found, malformed, at_end, next_number}
 use Rattle.rg_io.specs.Content.{Gives}
-use Rattle.rg_io.proofs.ContentLemmas.{Gives-more}
 use Rattle.rg_input.specs.declared.held.Held.{Held}
 use Rattle.rg_input.specs.declared.held.Verdict.{Verdict}
 use Rattle.rg_input.specs.declared.held.Verdict.TheVariants as says
 use Rattle.rg_input.specs.declared.refusal.NumberRefusal.{NumberRefusal}
 use Rattle.rg_input.specs.declared.refusal.NumberRefusal.TheVariants as no
-use Rattle.rg_input.specs.Inner.Held.{pending, Reads, has_enough, IsWhole, with_rest, Says, Settled, verdict_of}
-use Rattle.rg_input.specs.Numbers.{Pending, CanCome, OnInput, is_more, Looks, Answers, Refuses}
-use Rattle.rg_input.proofs.ReadLemmas.{is_whole-read}
-
--- one more byte came
-pub Reads-more : (a b c : Option (List ℕ)) (first held new : Pending) (byte : ℕ) → Reads a b first held → Gives b c (byte ∷ []) →
-    new.held ≡ held.held ++ byte ∷ [] → first.ended ≡ false → Reads a c first new
-Reads-more a b c first held new byte r given new_is going = record {
-  read = r.read ++ byte ∷ [];
-  given = Gives-more a b c r.read (byte ∷ []) r.given given;
-  kept = new_is ∙ ap (λ q. q ++ byte ∷ []) r.kept ∙ append_assoc first.held r.read (byte ∷ []);
-  ended = λ over. absurd (false≢true (sym going ∙ over));
-}
+use Rattle.rg_input.specs.Inner.Held.{looked_at, pending, Reads, has_enough, IsWhole, with_rest, Says, Settled, verdict_of}
+use Rattle.rg_input.specs.Numbers.{Pending, IsSure, CanCome, OnInput, is_more, Looks, Answers, Refuses}
+use Rattle.rg_input.specs.Read.{is_whole}
+use Rattle.rg_input.proofs.AheadLemmas.{not-sure}
+use Rattle.rg_input.proofs.ReadLemmas.{is_whole-read, is_whole-more}
 
 -- where bytes are told, those that were read stood in front of them
 told-read : (old new : Option (List ℕ)) (read more : List ℕ) → Gives old new read → IfSome new (λ bytes. bytes ≡ more) →
@@ -56,11 +47,15 @@ OnInput-read old between new old_left new_left P r ended holds = (
       ),
 )
 
--- what is said of the bytes that are held holds of all that can still come
-pub said-coming : (h : Held) (left : Option (List ℕ)) (v : Verdict) → Says h v → IsWhole h → (more : List ℕ) → CanCome (pending h) left more →
-    next_number ((pending h).held ++ more) ≡ with_rest v (option_to_list h.behind ++ more)
-said-coming h left v said (inl enough) more can = said more (inl enough)
-said-coming h left v said (inr ended) more can = said more (inr (can.ended ended))
+-- what is said of the bytes that were looked at holds of all that can still come
+pub said-coming : (h : Held) (ahead : Pending) (left : Option (List ℕ)) (v : Verdict) → Says h v → IsWhole h ahead → (more : List ℕ) →
+    CanCome (pending h ahead) left more →
+    next_number ((pending h ahead).held ++ more) ≡ with_rest v (option_to_list h.behind ++ (ahead.held ++ more))
+said-coming h ahead left v said (inl enough) more can =
+    ap next_number (append_assoc (looked_at h) ahead.held more) ∙ said (ahead.held ++ more) (inl enough)
+said-coming h ahead left v said (inr over) more can =
+    let none : ahead.held ++ more ≡ [] = ap (λ q. q ++ more) over.1 ∙ can.ended over.0 in
+    ap next_number (append_assoc (looked_at h) ahead.held more) ∙ said (ahead.held ++ more) (inr none)
 
 -- whether a verdict says that more comes
 abbrev pub says_more : Verdict → Bool
@@ -74,46 +69,60 @@ is_more-said says.Malformed rest = refl
 is_more-said says.End rest = refl
 
 -- the bytes that are held stay, and the verdict says whether more comes
-pub looks-said : (h : Held) (left : Option (List ℕ)) (v : Verdict) → Says h v → IsWhole h → (more : List ℕ) → CanCome (pending h) left more →
-    Looks (Ok (says_more v)) ((pending h).held ++ more) ((pending h).held ++ more)
-looks-said h left v said whole more can =
-    (sym (is_more-said v (option_to_list h.behind ++ more)) ∙ sym (ap is_more (said-coming h left v said whole more can)), refl)
+pub looks-said : (h : Held) (ahead : Pending) (left : Option (List ℕ)) (v : Verdict) → Says h v → IsWhole h ahead → (more : List ℕ) →
+    CanCome (pending h ahead) left more → Looks (Ok (says_more v)) ((pending h ahead).held ++ more) ((pending h ahead).held ++ more)
+looks-said h ahead left v said whole more can =
+    let rest = option_to_list h.behind ++ (ahead.held ++ more) in
+    (sym (is_more-said v rest) ∙ sym (ap is_more (said-coming h ahead left v said whole more can)), refl)
 
 -- the number is taken, and what stood behind it is held
-pub found-said : (h : Held) (left : Option (List ℕ)) (v : Verdict) (z : ℤ) (new : Pending) → Says h v → IsWhole h → v ≡ says.Number z →
-    new.held ≡ option_to_list h.behind → (more : List ℕ) → CanCome (pending h) left more →
-    Answers (Ok z) ((pending h).held ++ more) (new.held ++ more)
-found-said h left v z new said whole is held more can =
-    said-coming h left v said whole more can ∙ ap (λ u. with_rest u (option_to_list h.behind ++ more)) is ∙ ap (λ q. found z (q ++ more)) (sym held)
+pub found-said : (h : Held) (ahead : Pending) (left : Option (List ℕ)) (v : Verdict) (z : ℤ) (new : List ℕ) → Says h v → IsWhole h ahead →
+    v ≡ says.Number z → new ≡ option_to_list h.behind → (more : List ℕ) → CanCome (pending h ahead) left more →
+    Answers (Ok z) ((pending h ahead).held ++ more) ((new ++ ahead.held) ++ more)
+found-said h ahead left v z new said whole is held more can =
+    let rest : option_to_list h.behind ++ (ahead.held ++ more) ≡ (new ++ ahead.held) ++ more =
+    ap (λ q. q ++ (ahead.held ++ more)) (sym held) ∙ sym (append_assoc new ahead.held more) in
+    said-coming h ahead left v said whole more can ∙ ap (λ u. with_rest u (option_to_list h.behind ++ (ahead.held ++ more))) is
+    ∙ ap (λ q. found z q) rest
 
 -- what is no number stays
-pub malformed-said : (h : Held) (left : Option (List ℕ)) (v : Verdict) → Says h v → IsWhole h → v ≡ says.Malformed → (more : List ℕ) →
-    CanCome (pending h) left more → Answers (Err no.Input) ((pending h).held ++ more) ((pending h).held ++ more)
-malformed-said h left v said whole is more can =
-    (said-coming h left v said whole more can ∙ ap (λ u. with_rest u (option_to_list h.behind ++ more)) is, refl)
+pub malformed-said : (h : Held) (ahead : Pending) (left : Option (List ℕ)) (v : Verdict) → Says h v → IsWhole h ahead → v ≡ says.Malformed →
+    (more : List ℕ) → CanCome (pending h ahead) left more → Answers (Err no.Input) ((pending h ahead).held ++ more) ((pending h ahead).held ++ more)
+malformed-said h ahead left v said whole is more can =
+    (said-coming h ahead left v said whole more can ∙ ap (λ u. with_rest u (option_to_list h.behind ++ (ahead.held ++ more))) is, refl)
 
 -- what is said of the bytes that are held alone
-says_alone : (h : Held) (v : Verdict) → Says h v → next_number (pending h).held ≡ with_rest v (option_to_list h.behind ++ [])
-says_alone h v said = sym (ap next_number (append-nil (pending h).held)) ∙ said [] (inr refl)
+says_alone : (h : Held) (ahead : Pending) (v : Verdict) → Says h v → IsWhole h ahead →
+    next_number (pending h ahead).held ≡ with_rest v (option_to_list h.behind ++ ahead.held)
+says_alone h ahead v said (inl enough) = said ahead.held (inl enough)
+says_alone h ahead v said (inr over) = said ahead.held (inr over.1)
 
 -- a verdict on enough bytes, or on the last ones, stays
-pub Settled-says : (h : Held) (v : Verdict) → Says h v → (v ≡ says.End → has_enough h ≡ false) → IsWhole h →
-    Settled v (pending h)
-Settled-says h (says.Number z) said short whole = tt
-Settled-says h says.Malformed said short (inl enough) =
-    (inr (is_whole-read h.blanks.items h.token.items h.behind h.read ∙ enough), says_alone h says.Malformed said)
-Settled-says h says.Malformed said short (inr ended) = (inl ended, says_alone h says.Malformed said)
-Settled-says h says.End said short (inl enough) = absurd (false≢true (sym (short refl) ∙ enough))
-Settled-says h says.End said short (inr ended) = (ended, says_alone h says.End said)
+pub Settled-says : (h : Held) (ahead : Pending) (v : Verdict) → Says h v → (v ≡ says.End → has_enough h ≡ false) → IsWhole h ahead →
+    Settled v (pending h ahead)
+Settled-says h ahead (says.Number z) said short whole = tt
+Settled-says h ahead says.Malformed said short (inl enough) = (
+  inr (is_whole-more (looked_at h) ahead.held (is_whole-read h.blanks.items h.token.items h.behind h.read ∙ enough)),
+  says_alone h ahead says.Malformed said (inl enough),
+)
+Settled-says h ahead says.Malformed said short (inr over) = (inl over.0, says_alone h ahead says.Malformed said (inr over))
+Settled-says h ahead says.End said short (inl enough) = absurd (false≢true (sym (short refl) ∙ enough))
+Settled-says h ahead says.End said short (inr over) = (over.0, says_alone h ahead says.End said (inr over))
+
+-- too little was looked at
+pub short-looked : (h : Held) → has_enough h ≡ false → is_whole (looked_at h) ≡ false
+short-looked h short = is_whole-read h.blanks.items h.token.items h.behind h.read ∙ short
+
+-- where too little was looked at, and no more has to be read, something lies ahead or the source has ended
+pub has-more : (h : Held) (old ahead : Pending) → has_enough h ≡ false → (IsSure old → pending h ahead ≡ old) → IsSure old →
+    ahead ≡ record { held = []; ended = false } → ⊥
+has-more h old ahead short same sure none = not-sure old ahead (looked_at h) (short-looked h short) none (same sure) sure
 
 -- where a refusal stays no more has to be read
-pub enough-refused : (h : Held) (why : NumberRefusal) → Refuses (pending h) why → IsWhole h
-enough-refused h no.End r = inr r.0
-enough-refused h no.Input r = elim r.0 [
-  | inl ended ↦ inr ended
-  | inr whole ↦ inl (sym (is_whole-read h.blanks.items h.token.items h.behind h.read) ∙ whole)
-]
-enough-refused h no.InputFault r = absurd r
+pub sure-refused : (n : Pending) (why : NumberRefusal) → Refuses n why → IsSure n
+sure-refused n no.End r = inr r.0
+sure-refused n no.Input r = elim r.0 [ inl ended ↦ inr ended | inr whole ↦ inl whole ]
+sure-refused n no.InputFault r = absurd r
 
 -- the verdict by what it says
 verdict-end : (v : Verdict) (rest : List ℕ) → with_rest v rest ≡ at_end → v ≡ says.End
@@ -127,10 +136,13 @@ verdict-malformed says.Malformed rest e = refl
 verdict-malformed says.End rest e = cc
 
 -- the verdict on bytes that are refused
-pub verdict-refused : (h : Held) (v : Verdict) (why : NumberRefusal) → Says h v → Refuses (pending h) why → v ≡ verdict_of why
-verdict-refused h v no.End said r = verdict-end v (option_to_list h.behind ++ []) (sym (says_alone h v said) ∙ r.1)
-verdict-refused h v no.Input said r = verdict-malformed v (option_to_list h.behind ++ []) (sym (says_alone h v said) ∙ r.1)
-verdict-refused h v no.InputFault said r = absurd r
+pub verdict-refused : (h : Held) (ahead : Pending) (v : Verdict) (why : NumberRefusal) → Says h v → IsWhole h ahead →
+    Refuses (pending h ahead) why → v ≡ verdict_of why
+verdict-refused h ahead v no.End said whole r =
+    verdict-end v (option_to_list h.behind ++ ahead.held) (sym (says_alone h ahead v said whole) ∙ r.1)
+verdict-refused h ahead v no.Input said whole r =
+    verdict-malformed v (option_to_list h.behind ++ ahead.held) (sym (says_alone h ahead v said whole) ∙ r.1)
+verdict-refused h ahead v no.InputFault said whole r = absurd r
 
 -- the refusal of a verdict
 pub refusal-end : (why : NumberRefusal) → says.End ≡ verdict_of why → why ≡ no.End

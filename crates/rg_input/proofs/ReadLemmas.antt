@@ -1,6 +1,6 @@
 -- What bytes that were read say of the next number.
 use Rattle.std.proofs.Common.{◌≡◌, ℕ, zero, suc, ◌<◌, ◌≤◌, nat_lt, ◌⊎◌, inl, inr, ◌||◌, true, false, List, [], ◌∷◌, ◌++◌, length, Option, Some, None}
-use Rattle.std.proofs.Common.{refl, sym, ◌∙◌, ap, append_assoc, append-nil, is_some, Bool, arith}
+use Rattle.std.proofs.Common.{refl, sym, ◌∙◌, ap, append_assoc, append-nil, is_some, Bool, if◌then◌else◌, length-append, arith}
 use Rattle.std.specs.List.{list_all, list_any, prefix_len}
 use Rattle.std.specs.Option.{option_to_list}
 use Rattle.std.proofs.lemmas.Bool.Decides.{nat_tests}
@@ -135,3 +135,47 @@ enough-empty blanks (t ∷ ts) behind read few none = absurd (omega arith)
 enough-empty blanks [] (Some b) read few none = absurd (omega (arith, (read.behind_a_token b refl).1))
 enough-empty blanks [] None read few none =
     let test : nat_lt INPUT_BLANKS (length blanks) ≡ false = grind (arith, nat_tests) in rw test refl
+
+-- one of two tests
+either_true : (a b : Bool) → (a || b) ≡ true → (a ≡ true) ⊎ (b ≡ true)
+either_true true b h = inl refl
+either_true false b h = inr h
+
+or-true : (a : Bool) → (a || true) ≡ true
+or-true true = refl
+or-true false = refl
+
+-- more than so many bytes are still more where others stand behind them
+longer : (bytes more : List ℕ) → nat_lt INPUT_TOKEN (length bytes) ≡ true → nat_lt INPUT_TOKEN (length (bytes ++ more)) ≡ true
+longer bytes more long = grind (arith, nat_tests, length-append bytes more)
+
+-- one of two tests, with more behind what is tested
+whole_behind-more : (bytes more : List ℕ) → is_whole_behind bytes ≡ true → is_whole_behind (bytes ++ more) ≡ true
+whole_behind-more [] more whole = absurd (false≢true whole)
+whole_behind-more (b ∷ bs) more whole = elim (either_true (list_any is_blank (b ∷ bs)) (nat_lt INPUT_TOKEN (length (b ∷ bs))) whole) [
+  | inl blank ↦
+      let any : list_any is_blank (b ∷ bs ++ more) ≡ true = list_any-append is_blank (b ∷ bs) more ∙ ap (λ t. t || list_any is_blank more) blank in
+      ap (λ t. t || nat_lt INPUT_TOKEN (length (b ∷ bs ++ more))) any
+  | inr long ↦
+      let test : nat_lt INPUT_TOKEN (length (b ∷ bs ++ more)) ≡ true = longer (b ∷ bs) more long in
+      ap (λ t. list_any is_blank (b ∷ bs ++ more) || t) test ∙ or-true (list_any is_blank (b ∷ bs ++ more))
+]
+
+-- the same behind blanks that may be skipped
+whole-skipped_by : (blank : Bool) (n b : ℕ) (bs more : List ℕ) →
+    (is_whole_behind (skip_blanks n bs) ≡ true → is_whole_behind (skip_blanks n (bs ++ more)) ≡ true) →
+    is_whole_behind (if blank then skip_blanks n bs else b ∷ bs) ≡ true →
+    is_whole_behind (if blank then skip_blanks n (bs ++ more) else b ∷ bs ++ more) ≡ true
+whole-skipped_by true n b bs more rest whole = rest whole
+whole-skipped_by false n b bs more rest whole = whole_behind-more (b ∷ bs) more whole
+
+whole-skipped : (n : ℕ) (bytes more : List ℕ) → is_whole_behind (skip_blanks n bytes) ≡ true →
+    is_whole_behind (skip_blanks n (bytes ++ more)) ≡ true
+whole-skipped zero bytes more whole = whole_behind-more bytes more whole
+whole-skipped (suc n) [] more whole = absurd (false≢true whole)
+whole-skipped (suc n) (b ∷ bs) more whole =
+    whole-skipped_by (is_blank b) n b bs more (whole-skipped n bs more) whole
+
+-- what says what the next number is still says it where more comes
+pub is_whole-more : (bytes more : List ℕ) → is_whole bytes ≡ true → is_whole (bytes ++ more) ≡ true
+is_whole-more bytes more whole = whole-skipped INPUT_BLANKS bytes more whole

@@ -22,6 +22,10 @@ is_more (found z rest) = true
 is_more malformed = true
 is_more at_end = false
 
+-- what was read says what the next number is, whatever comes
+abbrev pub IsSure : Pending → Type 0
+IsSure n = (is_whole n.held ≡ true) ⊎ (n.ended ≡ true)
+
 -- these bytes can still come from a source: those that it tells, where it tells them, and none where it has ended
 pub record CanCome (n : Pending) (left : Option (List ℕ)) (more : List ℕ) : Type 0 where
   pub told : IfSome left (λ bytes. bytes ≡ more)

@@ -1,6 +1,7 @@
 //! The numbers of an input (docs/language.md, "Input numbers").
 #![tactic(auto)]
 
+mod ahead;
 mod held;
 mod number;
 mod numbers;

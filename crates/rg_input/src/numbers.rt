@@ -3,18 +3,20 @@
 ghost use Rattle.std.specs.Prelude.{◌≡◌, ◌≤◌, false, [], OnErr, IfErr};
 ghost use Rattle.rg_io.specs.Content.{Rose};
 ghost use Rattle.rg_input.specs.Numbers.{Follows, OnInput, Looks, Answers};
-ghost use Rattle.rg_input.specs.Numbers.{is_input, Refuses, Stays};
+ghost use Rattle.rg_input.specs.Numbers.{is_input, IsSure, Refuses, Stays};
 
+use crate::ahead::Ahead;
 use crate::held::{Held, Verdict};
 use crate::refusal::{InputFault, NumberRefusal};
 use rg_io::Source;
 use std::marker::Model;
 
-/// The numbers of an input. It asks its source for one byte at a time, and keeps what it has read
-/// until a number is taken.
+/// The numbers of an input. It asks its source for up to 4,096 bytes at a time, and only where what
+/// it has doesn't say what comes next; it keeps what it has read until a number is taken.
 #[derive(Drop)]
 pub struct Numbers {
     held: Held,
+    ahead: Ahead,
 }
 
 impl Model for Numbers {
@@ -23,7 +25,7 @@ impl Model for Numbers {
 
     ghost Value = { Pending };
 
-    ghost view = { λ n. pending n.held };
+    ghost view = { λ n. pending n.held n.ahead };
 }
 
 impl Numbers {
@@ -31,7 +33,10 @@ impl Numbers {
     pub fn new() -> Numbers
         ensures { result ≡ record { held = []; ended = false } }
     {
-        Numbers { held: Held::new() }
+        Numbers {
+            held: Held::new(),
+            ahead: Ahead::new(),
+        }
     }
 
     /// Whether a number, or what is none, comes next. It takes nothing.
@@ -43,11 +48,12 @@ impl Numbers {
             (Looks result) }
         ensures refused { (why : NumberRefusal) → Refuses self.old why →
             (result ≡ Ok (is_input why)) × (self.new ≡ self.old) }
+        ensures unasked { IsSure self.old → source.new ≡ source.old }
 
         ensures fault { OnErr result (Rose (S.faults source.old) (S.faults source.new)) }
         ensures never_falls { S.faults source.old ≤ S.faults source.new }
     {
-        match self.held.look(source)? {
+        match self.held.look(&mut self.ahead, source)? {
             Verdict::Number(_) | Verdict::Malformed => Ok(true),
             Verdict::End => Ok(false),
         }
@@ -63,12 +69,13 @@ impl Numbers {
         ensures stays { IfErr result (Stays self.new) }
         ensures refused { (why : NumberRefusal) → Refuses self.old why →
             (result ≡ Err why) × (self.new ≡ self.old) }
+        ensures unasked { IsSure self.old → source.new ≡ source.old }
 
         ensures fault { result ≡ Err NumberRefusal.InputFault →
             Rose (S.faults source.old) (S.faults source.new) }
         ensures never_falls { S.faults source.old ≤ S.faults source.new }
     {
-        match self.held.look(source) {
+        match self.held.look(&mut self.ahead, source) {
             Ok(Verdict::Number(z)) => {
                 self.held.take_token();
                 Ok(z)

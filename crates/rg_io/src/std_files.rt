@@ -14,6 +14,8 @@ use std::marker::Model;
 use std::rt::Files as SystemFiles;
 
 /// The files of the system. They tell nothing of their content; contracts see the count of faults.
+/// A file is closed at its end: where standard input was closed before the start, the file has its
+/// descriptor, and must not be read as the input.
 #[derive(Drop)]
 pub struct StdFiles<R: SystemFiles> {
     system: R,
@@ -86,7 +88,12 @@ impl<R: SystemFiles> Files for StdFiles<R> {
             return Ok(0);
         };
         match file.read(buf) {
-            Ok(n) => Ok(n),
+            Ok(n) => {
+                if n == 0 {
+                    self.file = None;
+                }
+                Ok(n)
+            }
             Err(_) => {
                 self.faults = one_more(self.faults);
                 Err(Failed)

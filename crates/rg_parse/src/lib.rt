@@ -4,6 +4,7 @@
 //! over the tokens; each rule of the grammar is a method of it, in `rules`.
 #![tactic(auto)]
 
+mod key;
 mod reader;
 mod rules;
 mod whole;

@@ -18,6 +18,7 @@ ghost use Rattle.rg_parse.specs.Inner.Heads.{AreWithin};
 ghost use Rattle.rg_parse.specs.Inner.Steps.{Halts, Took, Signed, Used, Declared, Reset, IsFirst};
 ghost use Rattle.rg_parse.specs.Inner.Roles.{symbol_of};
 
+use crate::key::key_of;
 use crate::reader::halt::Halt;
 use crate::reader::kinds::is_same;
 use crate::reader::limits::{Role, behind, counted, one_sign};
@@ -82,7 +83,7 @@ impl<'a> Reader<'a> {
                 names: 0,
                 signs: 0,
             },
-            program: Program::new(alloc),
+            program: Program::keyed(alloc, key_of(source)),
         }
     }
 

@@ -1,3 +1,4 @@
 pub mod Written
 pub mod Entries
+pub mod Callers
 mod Examples

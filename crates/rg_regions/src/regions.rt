@@ -167,6 +167,7 @@ impl Regions {
     pub fn add(&mut self, manager: Manager) -> Result<usize, Memory>
         ensures added { IfOk result (λ key. Added self.old self.new key (fresh self.old manager)) }
         ensures numbers { OnOk result (self.new.next < 2 ^ 64 - 1) }
+        ensures fresh { (key : ℕ) → HasNumber self.old key self.old.next → ⊥ }
         ensures err { OnErr result (self.new ≡ self.old) }
     {
         if self.next >= u64::MAX - 1 {

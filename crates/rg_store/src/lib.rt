@@ -1,7 +1,6 @@
-//! The store of objects, on which the machine that never frees and the machine of instructions
-//! stand (docs/language.md, "Steps"): objects and their fields by names and by numbers, labels, the
-//! regions beneath one, and operators on values. Its clauses speak of the store that is shown
-//! (`store_of`), in the words of `rg_rules`.
+//! The store of objects of a machine (docs/language.md, "Steps"): objects and their fields by names
+//! and by numbers, labels, the regions beneath one, and operators on values. Its clauses speak of
+//! the store that is shown (`store_of`), in the words of `rg_rules`.
 #![tactic(auto)]
 
 mod labels;

@@ -27,5 +27,3 @@ mod report;
 mod streams;
 #[cfg(test)]
 mod tokens;
-#[cfg(test)]
-mod top;

@@ -22,7 +22,7 @@ use Rattle.rg_top.specs.Commands.{bulk, generated}
 use Rattle.rg_top.specs.Expected.{spelt, status_of, text_after, line_behind}
 use Rattle.rg_top.specs.Headline.{ForInput, Untouched, CutOffAt}
 use Rattle.rg_top.specs.Inner.Settled.{Found, RanWhole, RanFrom, RanGenerated, RunCut, PutLine, Settles}
-use Rattle.rg_top.proofs.SettledLemmas.{untouched-text, bulk-stands}
+use Rattle.rg_top.proofs.SettledLemmas.{bulk-stands}
 
 -- the generated programs have few names
 few-generated : (seed size : ℕ) → FewNames (make.generated seed size)

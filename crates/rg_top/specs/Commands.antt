@@ -22,6 +22,8 @@ pub data Command : Type 0 where
   fmt : (file : List ℕ) → Command
   -- check FILE
   check : (file : List ℕ) → Command
+  -- code FILE
+  code : (file : List ℕ) → Command
   -- bulk N
   bulk : (size : ℕ) → Command
 
@@ -38,6 +40,7 @@ origin_of (run file steps) = in_file file
 origin_of (plain file steps) = in_file file
 origin_of (fmt file) = in_file file
 origin_of (check file) = in_file file
+origin_of (code file) = in_file file
 origin_of (bulk size) = generated size
 
 -- the most steps that a command asks for; `bulk` asks for as many as there can be, and one that runs nothing for none
@@ -46,6 +49,7 @@ steps_of (run file steps) = steps
 steps_of (plain file steps) = steps
 steps_of (fmt file) = 0
 steps_of (check file) = 0
+steps_of (code file) = 0
 steps_of (bulk size) = MOST_STEPS
 
 -- whether a command may read input
@@ -54,6 +58,7 @@ reads_input (run file steps) = true
 reads_input (plain file steps) = true
 reads_input (fmt file) = false
 reads_input (check file) = false
+reads_input (code file) = false
 reads_input (bulk size) = false
 
 -- whether what the words give may
@@ -67,6 +72,7 @@ opens_file (run file steps) = true
 opens_file (plain file steps) = true
 opens_file (fmt file) = true
 opens_file (check file) = true
+opens_file (code file) = true
 opens_file (bulk size) = false
 
 -- whether what the words give opens one
@@ -113,7 +119,8 @@ named name file options =
     if bytes_eq name (codes "run") then stepping (λ n. run file n) options else
     if bytes_eq name (codes "plain") then stepping (λ n. plain file n) options else
     if bytes_eq name (codes "fmt") then alone (fmt file) options else
-    if bytes_eq name (codes "check") then alone (check file) options else None
+    if bytes_eq name (codes "check") then alone (check file) options else
+    if bytes_eq name (codes "code") then alone (code file) options else None
 
 -- a command on a size alone
 abbrev pub sized : (number : List ℕ) → List (List ℕ) → Option Command

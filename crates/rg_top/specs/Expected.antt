@@ -15,10 +15,12 @@ use Rattle.rg_tree.specs.Canonical.{canon}
 use Rattle.rg_rules.specs.Acceptance.{first_fault}
 use Rattle.rg_rules.specs.Runs.{Ending, Running, Done, Stopped, Ran}
 use Rattle.rg_rules.specs.Runs as rules
+use Rattle.rg_code.specs.Lowering.{lowered}
+use Rattle.rg_code.specs.Listing.{listing}
 use Rattle.rg_make.specs.Generated as make
 use Rattle.rg_top.specs.declared.status.Status.{Status}
 use Rattle.rg_top.specs.declared.status.Status.TheVariants as status
-use Rattle.rg_top.specs.Commands.{Command, run, plain, fmt, check, bulk, Origin, in_file, generated, origin_of}
+use Rattle.rg_top.specs.Commands.{Command, run, plain, fmt, check, code, bulk, Origin, in_file, generated, origin_of}
 
 -- what a source can be
 pub data Meaning : Type 0 where
@@ -86,6 +88,10 @@ unless_fault (Some f) a = refused f
 abbrev pub accepted_text : List ℕ
 accepted_text = codes "accepted" ++ 10 ∷ []
 
+-- what `code` writes of an accepted program: the listing of its code
+abbrev pub listed_text : Tree → List ℕ
+listed_text t = listing t (lowered t)
+
 -- the line of `bulk` is written behind a run that is done
 abbrev pub line_behind : (size : ℕ) → EndNumbers → Ending → List ℕ
 line_behind size numbers Running = []
@@ -108,6 +114,7 @@ expected (run file n) numbers input (spelt t) = unless_fault (first_fault t) (ru
 expected (plain file n) numbers input (spelt t) = unless_fault (first_fault t) (run_answer t input n)
 expected (fmt file) numbers input (spelt t) = record { status = status.Done; text = canon t }
 expected (check file) numbers input (spelt t) = unless_fault (first_fault t) (record { status = status.Done; text = accepted_text })
+expected (code file) numbers input (spelt t) = unless_fault (first_fault t) (record { status = status.Done; text = listed_text t })
 expected (bulk size) numbers input (spelt t) = bulk_answer size numbers t [] MOST_STEPS
 
 -- the command answers that to the source, on the input, where the machine has those numbers

@@ -16,9 +16,9 @@ ghost use Rattle.rg_make.specs.declared.whole.TheConstants.{MOST_SIZE};
 ghost use Rattle.rg_run.specs.Machine.{IsFresh, Kept, numbers_of};
 ghost use Rattle.rg_rules.specs.Acceptance.{Accepted as IsAccepted};
 ghost use Rattle.rg_rules.specs.Names.{FewNames};
-ghost use Rattle.rg_top.specs.Commands.{command, texts, run, plain, fmt, check, bulk, steps_of};
+ghost use Rattle.rg_top.specs.Commands.{command, texts, run, plain, fmt, check, code, bulk};
 ghost use Rattle.rg_top.specs.Commands.{Origin, in_file, generated, origin_of};
-ghost use Rattle.rg_top.specs.Commands.{opens_file, may_open, reads_input, may_read};
+ghost use Rattle.rg_top.specs.Commands.{steps_of, opens_file, may_open, reads_input, may_read};
 ghost use Rattle.rg_top.specs.Inner.Requests.{command_of, AsksWithin};
 ghost use Rattle.rg_top.specs.Statuses.{status_text, is_answer, is_refusal, is_cut_off};
 ghost use Rattle.rg_top.specs.Expected.{spelt, Means, MeansFrom, IsStuck, SpellsTree};
@@ -36,9 +36,11 @@ use crate::status::Status;
 use crate::words::{self, Request};
 use rg_base::{Ended, Fault, MOST_STEPS, SOURCE_BYTES, Stop};
 use rg_check::{Accepted, check, spelt_has_few_names};
+use rg_code::listing;
 use rg_input::Numbers;
 use rg_io::{Files, Sink, Source, Taken, put_all, take_all};
 use rg_lex::tokens;
+use rg_lower::lower;
 use rg_make::program_of;
 use rg_parse::parse;
 use rg_plain::PlainMachine;
@@ -192,6 +194,42 @@ fn check_program<O: Sink>(alloc: Global, program: Program, out: &mut O) -> Statu
     }
 }
 
+/// Gives the listing of an accepted program's code to the output.
+fn list_accepted<O: Sink>(alloc: Global, accepted: &Accepted, out: &mut O) -> Status
+    ensures settles { (file source : List ℕ) (left : Option (List ℕ)) (m : Kept) →
+        Runs (in_file file) source (program_of accepted.now.program) → IsFresh m →
+        Settles (code file) source left result
+        (O.taken out.old) (O.taken out.new) m (Unit {0}) }
+    ensures caused { CausedByOutput result (O.faults out.old) (O.faults out.new) }
+{
+    let Ok(code) = lower(alloc, accepted) else {
+        return Status::Memory;
+    };
+    match listing(alloc, accepted.program(), &code) {
+        Err(_) => Status::Memory,
+        Ok(text) => match put_all(out, text.bytes()) {
+            Ok(()) => Status::Done,
+            Err(_) => Status::OutputFault,
+        },
+    }
+}
+
+/// Gives the listing of a program's code to the output, if it is accepted.
+fn list_program<O: Sink>(alloc: Global, program: Program, out: &mut O) -> Status
+    requires { FewNames (program_of program) }
+    ensures settles { (file source : List ℕ) (left : Option (List ℕ)) (m : Kept) →
+        Means source (spelt (program_of program)) → IsFresh m →
+        Settles (code file) source left result
+        (O.taken out.old) (O.taken out.new) m (Unit {0}) }
+    ensures caused { CausedByOutput result (O.faults out.old) (O.faults out.new) }
+{
+    match check(alloc, program) {
+        Err(Stop::Fault(fault)) => Status::Refused(fault),
+        Err(Stop::Memory) => Status::Memory,
+        Ok(accepted) => list_accepted(alloc, &accepted, out),
+    }
+}
+
 /// Gives the canonical text of a program to the output.
 fn format_program<O: Sink>(alloc: Global, program: &Program, out: &mut O) -> Status
     ensures settles { (file source : List ℕ) (left : Option (List ℕ)) (m : Kept) →
@@ -301,6 +339,7 @@ fn answer_program<I: Source, O: Sink>(
         Request::Plain { steps, .. } => plain_program(alloc, program, steps, input, out),
         Request::Format { .. } => format_program(alloc, &program, out),
         Request::Check { .. } => check_program(alloc, program, out),
+        Request::Code { .. } => list_program(alloc, program, out),
         Request::Bulk { size } => bulk_program(alloc, program, size, out, machine),
     }
 }
@@ -352,7 +391,9 @@ fn program_from<F: Files>(
 {
     match request {
         Request::Run { file, .. } | Request::Plain { file, .. } => program_in(alloc, file, files),
-        Request::Format { file } | Request::Check { file } => program_in(alloc, file, files),
+        Request::Format { file } | Request::Check { file } | Request::Code { file } => {
+            program_in(alloc, file, files)
+        }
         Request::Bulk { size } => program_of_size(alloc, size),
     }
 }
@@ -393,7 +434,7 @@ fn steps_of(request: Request<'_>) -> u64
 {
     match request {
         Request::Run { steps, .. } | Request::Plain { steps, .. } => steps,
-        Request::Format { .. } | Request::Check { .. } => 0,
+        Request::Format { .. } | Request::Check { .. } | Request::Code { .. } => 0,
         Request::Bulk { .. } => MOST_STEPS,
     }
 }

@@ -24,6 +24,8 @@ pub(crate) enum Request<'a> {
     Format { file: &'a str },
     /// `check FILE`
     Check { file: &'a str },
+    /// `code FILE`
+    Code { file: &'a str },
     /// `bulk N`
     Bulk { size: u32 },
 }
@@ -151,6 +153,12 @@ fn named<'a>(name: &str, file: &'a str, options: &[&str]) -> Option<Request<'a>>
     if name == "check" {
         return match options {
             [] => Some(Request::Check { file }),
+            [_, ..] => None,
+        };
+    }
+    if name == "code" {
+        return match options {
+            [] => Some(Request::Code { file }),
             [_, ..] => None,
         };
     }

@@ -3,6 +3,7 @@
 #![tactic(auto)]
 
 mod counts;
+mod keyed;
 mod laws;
 mod names;
 mod program;

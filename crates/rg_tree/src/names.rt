@@ -5,6 +5,7 @@ ghost use Rattle.std.specs.Prelude.{◌≡◌, ◌<◌, [], ◌∷◌, ◌++◌,
 ghost use Rattle.std.specs.Prelude.{IsSome, OnOk, OnErr, slice_get};
 ghost use Rattle.rg_tree.specs.Rows.Tables.{number_of, with_name};
 
+use crate::keyed::Keyed;
 use crate::table::row_number;
 use indexmap::IndexSet;
 use rg_base::Memory;
@@ -14,7 +15,7 @@ use std::marker::Model;
 /// The names; contracts see the list of their bytes.
 #[derive(Drop)]
 pub struct Names {
-    keys: IndexSet<Vec<u8>>,
+    keys: IndexSet<Vec<u8>, Keyed>,
 }
 
 impl Model for Names {
@@ -28,12 +29,12 @@ impl Model for Names {
 }
 
 impl Names {
-    /// No names.
-    pub fn new(alloc: Global) -> Names
+    /// No names. The key chooses their hashes.
+    pub fn new(alloc: Global, key: u64) -> Names
         ensures { result ≡ [] }
     {
         Names {
-            keys: IndexSet::new(alloc),
+            keys: IndexSet::with_hasher(alloc, Keyed::new(key)),
         }
     }
 

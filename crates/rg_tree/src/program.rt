@@ -51,8 +51,17 @@ impl Program {
         ensures tables { result ≡ at_first }
         ensures program { program_of result ≡ no_program }
     {
+        Program::keyed(alloc, 0)
+    }
+
+    /// The same, with a key for the table of names. Names can be chosen so that each is looked for
+    /// among all others, but not without the key.
+    pub fn keyed(alloc: Global, key: u64) -> Program
+        ensures tables { result ≡ at_first }
+        ensures program { program_of result ≡ no_program }
+    {
         Program {
-            names: Names::new(alloc),
+            names: Names::new(alloc, key),
             numbers: Vec::new(alloc),
             params: Vec::new(alloc),
             members: Vec::new(alloc),

@@ -11,9 +11,13 @@ use Rattle.rg_input.specs.declared.refusal.NumberRefusal.TheVariants as no
 use Rattle.rg_input.specs.Numbers.{Pending, Refuses}
 use Rattle.rg_input.specs.Read.{read_bytes, is_enough}
 
--- what callers see of it
-abbrev pub pending : Held → Pending
-pending h = record { held = read_bytes h.blanks.items h.token.items h.behind; ended = h.ended }
+-- the bytes that were looked at
+abbrev pub looked_at : Held → List ℕ
+looked_at h = read_bytes h.blanks.items h.token.items h.behind
+
+-- what callers see of it: the bytes that were looked at, and behind them those that came ahead
+abbrev pub pending : Held → Pending → Pending
+pending h ahead = record { held = looked_at h ++ ahead.held; ended = ahead.ended }
 
 -- bytes came from a source, and were kept behind those that were held; none came where it had ended
 pub record Reads (old_left new_left : Option (List ℕ)) (old new : Pending) : Type 0 where
@@ -22,13 +26,13 @@ pub record Reads (old_left new_left : Option (List ℕ)) (old new : Pending) : T
   pub kept : new.held ≡ old.held ++ read
   pub ended : old.ended ≡ true → (read ≡ []) × (new.ended ≡ true)
 
--- whether what is held says what the next number is, whatever comes
+-- whether what was looked at says what the next number is, whatever comes
 abbrev pub has_enough : Held → Bool
 has_enough h = is_enough h.blanks.items h.token.items h.behind
 
--- no more has to be read, or no more comes
-abbrev pub IsWhole : Held → Type 0
-IsWhole h = (has_enough h ≡ true) ⊎ (h.ended ≡ true)
+-- no more has to be looked at, or no more comes
+abbrev pub IsWhole : Held → Pending → Type 0
+IsWhole h ahead = (has_enough h ≡ true) ⊎ ((ahead.ended ≡ true) × (ahead.held ≡ []))
 
 -- a verdict, with what stands behind the token
 abbrev pub with_rest : Verdict → List ℕ → NextNumber
@@ -39,7 +43,7 @@ with_rest says.End rest = at_end
 -- the verdict holds whatever comes, where there is enough, and else where nothing comes
 abbrev pub Says : Held → Verdict → Type 0
 Says h v = (more : List ℕ) → (has_enough h ≡ true) ⊎ (more ≡ []) →
-    next_number ((pending h).held ++ more) ≡ with_rest v (option_to_list h.behind ++ more)
+    next_number (looked_at h ++ more) ≡ with_rest v (option_to_list h.behind ++ more)
 
 -- what was said stays: a refusal stays a refusal
 abbrev pub Settled : Verdict → Pending → Type 0

@@ -1,5 +1,5 @@
 -- What a step answers says that it keeps what always holds: its new state is the next one, or the old one.
-use Rattle.std.proofs.Common.{◌≡◌, sym, ℕ, List}
+use Rattle.std.proofs.Common.{sym, ℕ, List}
 use Rattle.rg_tree.specs.Rows.Tables.{Tables}
 use Rattle.rg_tree.specs.Rows.RowTrees.{classes_of, program_of}
 use Rattle.rg_base.specs.declared.outcome.Outcome.{Outcome}

@@ -7,6 +7,7 @@ ghost use Rattle.rg_rules.specs.Evaluation.{cleared, uses, values_of};
 ghost use Rattle.rg_store.specs.Shown.{AreOfClasses, store_of};
 ghost use Rattle.rg_plain.specs.Shown.{AreNamed, locals_of};
 
+use crate::state::rows::LocalRow;
 use crate::steps::refusal::Refusal;
 use crate::values::expressions::value;
 use crate::values::uses::use_up;

@@ -7,6 +7,8 @@ ghost use Rattle.rg_rules.specs.Evaluation.{value_of};
 ghost use Rattle.rg_store.specs.Shown.{AreOfClasses, store_of};
 ghost use Rattle.rg_plain.specs.Shown.{AreNamed, locals_of};
 
+use crate::state::rows::LocalRow;
+use crate::values::paths::path_value;
 use rg_base::{Trap, Val};
 use rg_names::Book;
 use rg_store::{ObjectRow, as_bool, decides, is_nil, negative, operate};

@@ -12,6 +12,7 @@ ghost use Rattle.rg_plain.specs.Inner.Spots.{ReceiverIs, SpotIs};
 ghost use Rattle.rg_plain.specs.Shown.{AreNamed, locals_of};
 
 use crate::state::locals::variable;
+use crate::state::rows::LocalRow;
 use rg_base::{Trap, Val};
 use rg_names::Book;
 use rg_store::{ObjectRow, follow, object_place};

@@ -27,7 +27,8 @@ use Rattle.rg_stack.proofs.Judgements.OwesLemmas.{roomy_of}
 use Rattle.rg_stack.proofs.Callers.StepLemmas.{mirrors-shows}
 
 -- main's items lie where its code begins
-main_lies : (t : Tree) → Accepted t → (l : Level) → l.scope ≡ [] → StandsIn (lowered t).ops l 0 (main_code t) → Lies t.classes (lowered t).ops (l ∷ []) ((plain.opening t []).items) 0
+main_lies : (t : Tree) → Accepted t → (l : Level) → l.scope ≡ [] → StandsIn (lowered t).ops l 0 (main_code t)
+    → Lies t.classes (lowered t).ops (l ∷ []) ((plain.opening t []).items) 0
 main_lies t accepted l empty stands =
     let p = Accepted-parts t accepted in
     let ops = (lowered t).ops in
@@ -35,10 +36,13 @@ main_lies t accepted l empty stands =
     let end = i.Mark t.line ∷ i.End 0 ∷ i.Halt ∷ [] in
     let none : Level = record l { scope = [] } in
     let closed : StandsIn ops none (0 + length block) end = back_in ops none 0 block end stands in
-    let halts : slice_get ops (0 + length block + 2) ≡ Some i.Halt = get-stands ops (0 + length block + 2) i.Halt [] (stands-back ops (0 + length block) (i.Mark t.line ∷ i.End 0 ∷ []) (i.Halt ∷ []) closed.0) in
-    let leads : behind_end (slice_get ops (0 + length block + 2)) (0 + length block + 2) ≡ 0 + length block + 2 = ap (λ o. behind_end o (0 + length block + 2)) halts in
+    let halts : slice_get ops (0 + length block + 2) ≡ Some i.Halt = get-stands ops (0 + length block + 2) i.Halt []
+    (stands-back ops (0 + length block) (i.Mark t.line ∷ i.End 0 ∷ []) (i.Halt ∷ []) closed.0) in
+    let leads : behind_end (slice_get ops (0 + length block + 2)) (0 + length block + 2)
+    ≡ 0 + length block + 2 = ap (λ o. behind_end o (0 + length block + 2)) halts in
     subst (λ s. Lies t.classes ops (record l { scope = s } ∷ []) ((plain.opening t []).items) 0) (sym empty)
-    (lies_block t.classes ops t.body none [] 0 (EndAt 0 ∷ []) (front_in ops none 0 block end stands) (block-goes_on t.classes t.body (main_body t).front p.out p.main)
+    (lies_block t.classes ops t.body none [] 0 (EndAt 0 ∷ []) (front_in ops none 0 block end stands)
+    (block-goes_on t.classes t.body (main_body t).front p.out p.main)
     (block_end t.classes ops none [] t.body (0 + length block) t.line (i.Halt ∷ []) [] closed (ap (slice_get ops) leads ∙ halts)))
 
 pub opening-fit : (t : Tree) (input : List ℕ) → Accepted t → Fit t (plain.opening t input)
@@ -58,15 +62,18 @@ lowered_opens t input accepted =
     let mirrors : Mirrors t.classes (lowered t) (opening t (lowered t) input).machine (plain.opening t input) = record {
       slots = (ap (λ n. replicate n val.Nil) no_more, tt);
       windows = (record { number = refl; region = refl; owner = refl; base = refl }, tt);
-      places = subst (λ n. Lies t.classes (lowered t).ops (record { scope = []; slots = n; target = Drops; back = 0 } ∷ []) ((plain.opening t []).items) 0) (sym size) lies;
+      places = subst (λ n. Lies t.classes (lowered t).ops (record { scope = []; slots = n; target = Drops; back = 0 } ∷ [])
+          ((plain.opening t []).items) 0) (sym size) lies;
       windows_made = refl;
       managers = refl;
       store = refl;
     } in
     record {
-      shows = mirrors-shows t.classes (lowered t) (opening t (lowered t) input).machine (plain.opening t input) (fit-holds t (plain.opening t input) (opening-fit t input accepted)) mirrors;
+      shows = mirrors-shows t.classes (lowered t) (opening t (lowered t) input).machine (plain.opening t input)
+          (fit-holds t (plain.opening t input) (opening-fit t input accepted)) mirrors;
       input = refl;
     }
 
 pub opening-shows : OpeningShows
-opening-shows t code input accepted lowers = subst (λ c. Holds t.classes c (opening t c input) (plain.opening t input)) (sym lowers) (lowered_opens t input accepted)
+opening-shows t code input accepted lowers = subst (λ c. Holds t.classes c (opening t c input) (plain.opening t input)) (sym lowers)
+    (lowered_opens t input accepted)

@@ -24,7 +24,8 @@ use Rattle.rg_stack.proofs.Walks.FrameLemmas.{work_of}
 use Rattle.rg_stack.proofs.Judgements.ItemLemmas.{all-move}
 
 -- with what is held, a machine that mirrors a state shows it
-pub mirrors-shows : (classes : List Class) (code : Code) (m : Machine) (p : State) → HoldsAll classes p → Mirrors classes code m p → Shows classes code m p
+pub mirrors-shows : (classes : List Class) (code : Code) (m : Machine) (p : State) → HoldsAll classes p → Mirrors classes code m p
+    → Shows classes code m p
 mirrors-shows classes code m p held h = record {
   slots = h.slots;
   windows = h.windows;
@@ -36,13 +37,15 @@ mirrors-shows classes code m p held h = record {
   live_regions = held.live_regions;
 }
 
-reached : (classes : List Class) (code : Code) (before : List Val) (w : Work) (p : State) → HoldsAll classes p → MirrorsWork classes code before w p → Reached classes code before w p
+reached : (classes : List Class) (code : Code) (before : List Val) (w : Work) (p : State) → HoldsAll classes p → MirrorsWork classes code before w p
+    → Reached classes code before w p
 reached classes code before w p held h = record {
   holds = record { shows = mirrors-shows classes code w.machine p held h.mirrors; input = h.input };
   output = h.output;
 }
 
-same_step : (classes : List Class) (code : Code) (before : List Val) (d : Plain) (x : Stepped) → ((p : State) → d ≡ Went p → HoldsAll classes p) → SameMove classes code before d x → SameStep classes code before d x
+same_step : (classes : List Class) (code : Code) (before : List Val) (d : Plain) (x : Stepped) → ((p : State) → d ≡ Went p → HoldsAll classes p)
+    → SameMove classes code before d x → SameStep classes code before d x
 same_step classes code before (Went p) (Goes w) held h = (reached classes code before w p (held p refl) h.0, h.1)
 same_step classes code before (Went p) (Ends w) held h = (reached classes code before w p (held p refl) h.0, h.1)
 same_step classes code before (Went p) (Trapped t line) held h = absurd h
@@ -53,7 +56,8 @@ same_step classes code before (Fails t line) (Trapped u here) held h = h
 same_step classes code before (Fails t line) Lost held h = absurd h
 
 -- what the machine works on, by the parts that it shares with the state
-work-is : (w : Work) (store : List Seen) (managers : List Manager) (made : ℕ) (input : List ℕ) → w.machine.store ≡ store → w.machine.managers ≡ managers → w.machine.windows_made ≡ made → w.input ≡ input → w.printed ≡ None
+work-is : (w : Work) (store : List Seen) (managers : List Manager) (made : ℕ) (input : List ℕ) → w.machine.store ≡ store → w.machine.managers
+    ≡ managers → w.machine.windows_made ≡ made → w.input ≡ input → w.printed ≡ None
     → w ≡ work_of store w.machine.frames w.machine.windows managers made w.machine.at input
 work-is w store managers made input a b c d e =
     ap (λ s. record w { machine = record w.machine { store = s } }) a
@@ -67,14 +71,17 @@ lowered_moves : (t : Tree) (w : Work) (p : State) → Accepted t → Fit t p →
 lowered_moves t w p accepted fit h quiet left =
     let shows = h.shows in
     let same = work-is w p.store p.managers p.windows_made p.input shows.store shows.managers shows.windows_made h.input quiet in
-    let mirrors : Mirrors t.classes (lowered t) (work_of p.store w.machine.frames w.machine.windows p.managers p.windows_made w.machine.at p.input).machine p =
+    let mirrors : Mirrors t.classes (lowered t) (work_of p.store w.machine.frames w.machine.windows p.managers p.windows_made w.machine.at
+    p.input).machine p =
     record { slots = shows.slots; windows = shows.windows; places = shows.places; windows_made = refl; managers = refl; store = refl } in
     subst (λ x. SameMove t.classes (lowered t) p.output (next t.classes p) (step (lowered t) x)) (sym same)
-    (all-move t accepted p.store p.managers p.windows_made w.machine.at p.input p.output w.machine.frames w.machine.windows p.frames p.windows p.items left
+    (all-move t accepted p.store p.managers p.windows_made w.machine.at p.input p.output w.machine.frames w.machine.windows p.frames p.windows
+    p.items left
     fit.frames fit.values fit.objects fit.opened mirrors)
 
 pub step-shows : StepShows
 step-shows t code w p accepted lowers fit h quiet left =
     let moves = lowered_moves t w p accepted fit (subst (λ c. Holds t.classes c w p) lowers h) quiet left in
     subst (λ c. SameStep t.classes c p.output (next t.classes p) (step c w)) (sym lowers)
-    (same_step t.classes (lowered t) p.output (next t.classes p) (step (lowered t) w) (λ u went. fit-holds t u (step-keeps t p u accepted fit went).fit) moves)
+    (same_step t.classes (lowered t) p.output (next t.classes p) (step (lowered t) w)
+    (λ u went. fit-holds t u (step-keeps t p u accepted fit went).fit) moves)

@@ -183,7 +183,8 @@ check_of_nil = refl
 
 -- the machine with one more object
 abbrev made : Label → Work
-made l = work_of (record (machine_of plain_store (frame slots ∷ [])) { store = seen 5 Nil (label.Region 0) ∷ seen 6 (Obj 2) (label.Region 1) ∷ seen 7 Nil (label.Region 2) ∷ seen 0 Nil l ∷ [] })
+made l = work_of (record (machine_of plain_store (frame slots ∷ []))
+    { store = seen 5 Nil (label.Region 0) ∷ seen 6 (Obj 2) (label.Region 1) ∷ seen 7 Nil (label.Region 2) ∷ seen 0 Nil l ∷ [] })
 
 new : does (i.New 0) [] ≡ Returns 0 (Obj 3 ∷ []) (made (label.Region 0))
 new = refl
@@ -208,7 +209,8 @@ swap : does (i.Swap 2 1) (Obj 0 ∷ []) ≡ Returns 0 []
 swap = refl
 
 -- region 1 and region 2 beneath it
-freeze : does (i.Freeze 2) [] ≡ Returns 0 (Obj 1 ∷ []) (work_of (machine_of (store label.Frozen label.Frozen) (frame (Obj 0 ∷ Int (pos 3) ∷ Nil ∷ Nil ∷ []) ∷ [])))
+freeze : does (i.Freeze 2) [] ≡ Returns 0 (Obj 1 ∷ [])
+    (work_of (machine_of (store label.Frozen label.Frozen) (frame (Obj 0 ∷ Int (pos 3) ∷ Nil ∷ Nil ∷ []) ∷ [])))
 freeze = refl
 
 freeze_of_nil : does (i.Freeze 3) [] ≡ Traps trap.Nil
@@ -274,7 +276,8 @@ entered = work_of (record (machine_of plain_store (frame (Obj 0 ∷ Int (pos 3) 
   windows_made = 2;
 })
 
-leave : act code 10 (i.Leave 3) (λ skip left after. Returns skip left after) [] entered ≡ Returns 0 [] (record w { machine = record w.machine { windows_made = 2 } })
+leave : act code 10 (i.Leave 3) (λ skip left after. Returns skip left after) [] entered
+    ≡ Returns 0 [] (record w { machine = record w.machine { windows_made = 2 } })
 leave = refl
 
 end : does (i.End 1) [] ≡ Returns 0 [] (with (Obj 0 ∷ Nil ∷ Nil ∷ Nil ∷ []))

@@ -73,4 +73,10 @@ all_kinds = record {
 
 -- main arena { let i: int = 1; print i; }
 abbrev pub two_lines : Tree
-two_lines = record { classes = []; manager = manager.Arena; line = 1; body = lines 1 (declare (codes "i") int (value (whole 1)) ∷ print (use_of "i") ∷ []) }
+two_lines = record {
+  classes = [];
+  manager = manager.Arena;
+  line = 1;
+  body = lines 1
+      (declare (codes "i") int (value (whole 1)) ∷ print (use_of "i") ∷ []);
+}

@@ -23,24 +23,30 @@ there-under : (own under : List Window) → WindowThere under → WindowThere (o
 there-under [] under h = h
 there-under (w ∷ ws) under h = record { top = w; under = ws ++ under; are = refl }
 
-pub beneath-window : (t : Tree) (fs : List Frame) (ws : List Window) (items : List Item) (b : Body) (target : Target) → Beneath t fs ws items b target → WindowThere ws
+pub beneath-window : (t : Tree) (fs : List Frame) (ws : List Window) (items : List Item) (b : Body) (target : Target)
+    → Beneath t fs ws items b target → WindowThere ws
 beneath-window t [] ws items b target h = record { top = lowest h.2.0 h.2.1; under = []; are = h.2.2 }
 beneath-window t (f ∷ fs) ws items b target h = subst WindowThere (sym h.5) (there-under h.1 h.2 (beneath-window t fs h.2 h.4 h.0 f.target h.8))
 
 pub running-window : (t : Tree) (f : Frame) (fs : List Frame) (ws : List Window) (items : List Item) → Running t f fs ws items → WindowThere ws
-running-window t f fs ws items h = subst WindowThere (sym h.windows_are) (there-under h.own h.under (beneath-window t fs h.under h.rest h.body f.target h.beneath))
+running-window t f fs ws items h = subst WindowThere (sym h.windows_are)
+    (there-under h.own h.under (beneath-window t fs h.under h.rest h.body f.target h.beneath))
 
 -- the topmost window begins at the first slot behind the running body's variables, or in front of it
-pub top-begins : (t : Tree) → Accepted t → (mf : Shown) (mfs : List Shown) (mws : List Opened) (f : Frame) (fs : List Frame) (ws : List Window) (items : List Item) → ShowsFrames (mf ∷ mfs) (f ∷ fs) → ShowsWindows (sizes_of (mf ∷ mfs)) mws ws
+pub top-begins : (t : Tree) → Accepted t → (mf : Shown) (mfs : List Shown) (mws : List Opened) (f : Frame) (fs : List Frame) (ws : List Window)
+    (items : List Item) → ShowsFrames (mf ∷ mfs) (f ∷ fs) → ShowsWindows (sizes_of (mf ∷ mfs)) mws ws
     → Running t f fs ws items → begins_by mws (slots_below mfs + length f.locals) ≡ true
 top-begins t accepted mf mfs mws f fs ws items shows windows h =
     let w = running-window t f fs ws items h in
-    begins-there (sizes_of (mf ∷ mfs)) mws w.top w.under (slots_below mfs + length f.locals) (subst (ShowsWindows (sizes_of (mf ∷ mfs)) mws) w.are windows)
+    begins-there (sizes_of (mf ∷ mfs)) mws w.top w.under (slots_below mfs + length f.locals)
+    (subst (ShowsWindows (sizes_of (mf ∷ mfs)) mws) w.are windows)
     (based-bound mf mfs f fs w.top shows (running-based t accepted f fs ws items h w.top w.under w.are))
 
 -- and where the running body has none open, at the first slot behind the frames beneath, or in front of it
-pub beneath-begins : (t : Tree) → Accepted t → (mf mg : Shown) (mfs : List Shown) (mws : List Opened) (f g : Frame) (fs : List Frame) (ws : List Window) (items : List Item) → ShowsFrames (mf ∷ mg ∷ mfs) (f ∷ g ∷ fs)
-    → ShowsWindows (sizes_of (mf ∷ mg ∷ mfs)) mws ws → (h : Running t f (g ∷ fs) ws items) → h.own ≡ [] → begins_by mws (slots_below (mg ∷ mfs)) ≡ true
+pub beneath-begins : (t : Tree) → Accepted t → (mf mg : Shown) (mfs : List Shown) (mws : List Opened) (f g : Frame) (fs : List Frame)
+    (ws : List Window) (items : List Item) → ShowsFrames (mf ∷ mg ∷ mfs) (f ∷ g ∷ fs)
+    → ShowsWindows (sizes_of (mf ∷ mg ∷ mfs)) mws ws → (h : Running t f (g ∷ fs) ws items) → h.own ≡ [] → begins_by mws (slots_below (mg ∷ mfs))
+    ≡ true
 beneath-begins t accepted mf mg mfs mws f g fs ws items shows windows h none =
     let w = running-window t f (g ∷ fs) ws items h in
     let based = running-based-beneath t accepted f g fs ws items h none w.top w.under w.are in

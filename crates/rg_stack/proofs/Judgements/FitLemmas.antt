@@ -1,5 +1,6 @@
 -- What the invariant gives: declared types, classes of objects, truth values, regions of owner references, and the frames in which windows opened.
-use Rattle.std.proofs.Common.{◌≡◌, ℕ, suc, ◌≤◌, true, false, true≢false, ◌⊎◌, inl, inr, Bool as Truth, if◌then◌else◌, List, [], ◌∷◌, ◌++◌, length, find, Option, Some, None, option_map, Result, Ok, Err, refl, sym, ap, subst, ◌∙◌, arith, slice_get, unwrap_or}
+use Rattle.std.proofs.Common.{◌≡◌, ℕ, suc, ◌≤◌, true, false, true≢false, ◌⊎◌, inl, inr, Bool as Truth, if◌then◌else◌, List, [], ◌∷◌, ◌++◌, length}
+use Rattle.std.proofs.Common.{find, Option, Some, None, option_map, Ok, refl, sym, ap, subst, ◌∙◌, arith, slice_get, unwrap_or}
 use Rattle.std.specs.Prelude.{bytes_eq, reverse}
 use Rattle.std.proofs.lemmas.Option.{none-some}
 use Rattle.rg_base.specs.declared.words.Cap.{Cap}
@@ -32,14 +33,8 @@ use Rattle.rg_code.specs.Places.{scope_of}
 use Rattle.rg_stack.proofs.Walks.FrameLemmas.{OpenedBelow}
 use Rattle.rg_stack.proofs.Walks.SlotLemmas.{Has}
 use Rattle.rg_stack.proofs.Statements.RightLemmas.{InRegion}
-use Rattle.rg_stack.proofs.Judgements.FollowLemmas.{some-is}
+use Rattle.rg_stack.proofs.Basics.{some-is, err-ok}
 use Rattle.rg_stack.proofs.Judgements.JudgeLemmas.{OfType, Facts}
-
-ok-is : {A E : Type 0} (a b : A) → ◌≡◌ {A = Result A E} (Ok a) (Ok b) → a ≡ b
-ok-is a b e = ap (λ r. elim r [ Ok x ↦ x | Err t ↦ a ]) e
-
-err-ok : {A E : Type 0} (e : E) (a : A) → ◌≡◌ {A = Result A E} (Err e) (Ok a) → ⊥
-err-ok e a h = true≢false (sym (ap (λ r. elim r [ Ok x ↦ true | Err t ↦ false ]) h))
 
 -- a value that meets a type is of that type
 pub meets-of_type : (store : List Seen) (F : Cap → Label → Type 0) (t : Ty) (v : Val) → MeetsBy store F t v → OfType store t v
@@ -54,11 +49,14 @@ meets-of_type store F Bool (val.Obj a) h = absurd h
 meets-of_type store F (Ref cap c) val.Nil h = (λ o e. absurd (err-ok trap.Nil o e), λ e. absurd (true≢false (sym e)))
 meets-of_type store F (Ref cap c) (val.Int z) h = absurd h
 meets-of_type store F (Ref cap c) (val.Bool b) h = absurd h
-meets-of_type store F (Ref cap c) (val.Obj a) h =
-    (λ o e. ap Some (sym h.class_is ∙ ap (λ (o : Seen). o.class) (some-is h.object o (sym h.there ∙ ok_or-ok (slice_get store a) trap.Nil o e))), λ e. absurd (true≢false (sym e)))
+meets-of_type store F (Ref cap c) (val.Obj a) h = (
+  λ o e. ap Some (sym h.class_is ∙ ap (λ (o : Seen). o.class) (some-is h.object o (sym h.there ∙ ok_or-ok (slice_get store a) trap.Nil o e))),
+  λ e. absurd (true≢false (sym e)),
+)
 
 -- an owner reference leads into a region, where the labels that fit are those of regions
-pub meets-iso : (store : List Seen) (F : Cap → Label → Type 0) → ((l : Label) → F Iso l → (g : ℕ) × (region_of l ≡ Some g)) → (t : Ty) (v : Val) → is_iso t ≡ true → MeetsBy store F t v → InRegion store v
+pub meets-iso : (store : List Seen) (F : Cap → Label → Type 0) → ((l : Label) → F Iso l → (g : ℕ) × (region_of l ≡ Some g)) → (t : Ty) (v : Val)
+    → is_iso t ≡ true → MeetsBy store F t v → InRegion store v
 meets-iso store F regions Int v i h o e = absurd (true≢false (sym i))
 meets-iso store F regions Bool v i h o e = absurd (true≢false (sym i))
 meets-iso store F regions (Ref Mut c) v i h o e = absurd (true≢false (sym i))
@@ -100,7 +98,8 @@ pub record Found (locals : List Local) (x : Variable) (e : Entry) : Type 0 where
   pub value_is : value_in locals x ≡ local.value
   pub has : Has locals x
 
-found_by : (t u : Truth) (first : Entry) (rest : Option Entry) (l : Local) (ls : List Local) (x : Variable) (e : Entry) → u ≡ t → l.ty ≡ first.ty → same_variable l.name x ≡ u
+found_by : (t u : Truth) (first : Entry) (rest : Option Entry) (l : Local) (ls : List Local) (x : Variable) (e : Entry) → u ≡ t → l.ty ≡ first.ty
+    → same_variable l.name x ≡ u
     → (rest ≡ Some e → Found ls x e) → (if t then Some first else rest) ≡ Some e → Found (l ∷ ls) x e
 found_by true u first rest l ls x e is ty name more h =
     let same = some-is first e h in
@@ -112,7 +111,8 @@ found_by true u first rest l ls x e is ty name more h =
       ty_is = ty ∙ ap (λ (e : Entry). e.ty) same;
       type_is = ap (λ b. if b then l.ty else type_in (scope_of ls) x) yes_name ∙ ty ∙ ap (λ (e : Entry). e.ty) same;
       value_is = ap (λ b. if b then l.value else value_in ls x) yes_name;
-      has = let e : (if same_variable l.name x then 0 else suc (place_in ls x)) ≡ 0 = ap (λ b. if b then 0 else suc (place_in ls x)) yes_name in omega (arith, e);
+      has = let e : (if same_variable l.name x then 0 else suc (place_in ls x))
+          ≡ 0 = ap (λ b. if b then 0 else suc (place_in ls x)) yes_name in omega (arith, e);
     }
 found_by false u first rest l ls x e is ty name more h =
     let f = more h in
@@ -124,65 +124,85 @@ found_by false u first rest l ls x e is ty name more h =
       ty_is = f.ty_is;
       type_is = ap (λ b. if b then l.ty else type_in (scope_of ls) x) no_name ∙ f.type_is;
       value_is = ap (λ b. if b then l.value else value_in ls x) no_name ∙ f.value_is;
-      has = let e : (if same_variable l.name x then 0 else suc (place_in ls x)) ≡ suc (place_in ls x) = ap (λ b. if b then 0 else suc (place_in ls x)) no_name in omega (arith, e, f.has);
+      has = let e : (if same_variable l.name x then 0 else suc (place_in ls x))
+          ≡ suc (place_in ls x) = ap (λ b. if b then 0 else suc (place_in ls x)) no_name in omega (arith, e, f.has);
     }
 
-pub found-named : (entries : List Entry) (locals : List Local) (x : Variable) (e : Entry) → Named entries locals → find (λ (e : Entry). same_variable e.name x) entries ≡ Some e → Found locals x e
+pub found-named : (entries : List Entry) (locals : List Local) (x : Variable) (e : Entry) → Named entries locals
+    → find (λ (e : Entry). same_variable e.name x) entries ≡ Some e → Found locals x e
 found-named [] locals x e h there = absurd (none-some e there)
 found-named (d ∷ ds) [] x e h there = absurd h
 found-named (d ∷ ds) (l ∷ ls) x e h there =
-    found_by (same_variable d.name x) (same_variable l.name x) d (find (λ (e : Entry). same_variable e.name x) ds) l ls x e (ap (λ n. same_variable n x) h.0) h.1 refl (found-named ds ls x e h.2) there
+    found_by (same_variable d.name x) (same_variable l.name x) d (find (λ (e : Entry). same_variable e.name x) ds) l ls x e
+    (ap (λ n. same_variable n x) h.0) h.1 refl (found-named ds ls x e h.2) there
 
 -- a field of an object
 
-place_more : (p : Option ℕ) (v : Val) (vs : List Val) → ◌≡◌ {A = Val} (elim (option_map suc p) [ None ↦ val.Nil | Some k ↦ unwrap_or (slice_get (v ∷ vs) k) val.Nil ]) (elim p [ None ↦ val.Nil | Some k ↦ unwrap_or (slice_get vs k) val.Nil ])
+place_more : (p : Option ℕ) (v : Val) (vs : List Val)
+    → ◌≡◌ {A = Val} (elim (option_map suc p) [ None ↦ val.Nil | Some k ↦ unwrap_or (slice_get (v ∷ vs) k) val.Nil ])
+    (elim p [ None ↦ val.Nil | Some k ↦ unwrap_or (slice_get vs k) val.Nil ])
 place_more None v vs = refl
 place_more (Some k) v vs = refl
 
-field_by : (P : Ty → Val → Type 0) (b : Truth) (classes : List Class) (f : Field) (rest : Option Field) (place : Option ℕ) (t : Ty) (v : Val) (vs : List Val) → P (type_of classes f.ty) v
-    → (option_map (λ (f : Field). type_of classes f.ty) rest ≡ Some t → P t (elim place [ None ↦ val.Nil | Some k ↦ unwrap_or (slice_get vs k) val.Nil ]))
+field_by : (P : Ty → Val → Type 0) (b : Truth) (classes : List Class) (f : Field) (rest : Option Field) (place : Option ℕ) (t : Ty) (v : Val)
+    (vs : List Val) → P (type_of classes f.ty) v
+    → (option_map (λ (f : Field). type_of classes f.ty) rest ≡ Some t
+    → P t (elim place [ None ↦ val.Nil | Some k ↦ unwrap_or (slice_get vs k) val.Nil ]))
     → option_map (λ (f : Field). type_of classes f.ty) (if b then Some f else rest) ≡ Some t
     → P t (elim (if b then Some 0 else option_map suc place) [ None ↦ val.Nil | Some k ↦ unwrap_or (slice_get (v ∷ vs) k) val.Nil ])
 field_by P true classes f rest place t v vs first more h = subst (λ t. P t v) (some-is (type_of classes f.ty) t h) first
 field_by P false classes f rest place t v vs first more h = subst (P t) (sym (place_more place v vs)) (more h)
 
 -- what holds of each value that meets its field's type holds of the field of a name
-pub fields-meet : (P : Ty → Val → Type 0) (classes : List Class) (store : List Seen) (F : Cap → Label → Type 0) → ((t : Ty) (v : Val) → MeetsBy store F t v → P t v)
+pub fields-meet : (P : Ty → Val → Type 0) (classes : List Class) (store : List Seen) (F : Cap → Label → Type 0)
+    → ((t : Ty) (v : Val) → MeetsBy store F t v → P t v)
     → (fs : List Field) (vs : List Val) (x : Name) (t : Ty) → FieldsMeet classes store F fs vs
     → option_map (λ (f : Field). type_of classes f.ty) (find (λ (f : Field). bytes_eq f.name x) fs) ≡ Some t
     → P t (elim (field_place fs x) [ None ↦ val.Nil | Some k ↦ unwrap_or (slice_get vs k) val.Nil ])
 fields-meet P classes store F each [] vs x t h declared = absurd (none-some t declared)
 fields-meet P classes store F each (f ∷ fs) [] x t h declared = absurd h
 fields-meet P classes store F each (f ∷ fs) (v ∷ vs) x t h declared =
-    field_by P (bytes_eq f.name x) classes f (find (λ (f : Field). bytes_eq f.name x) fs) (field_place fs x) t v vs (each (type_of classes f.ty) v h.0) (fields-meet P classes store F each fs vs x t h.1) declared
+    field_by P (bytes_eq f.name x) classes f (find (λ (f : Field). bytes_eq f.name x) fs) (field_place fs x) t v vs
+    (each (type_of classes f.ty) v h.0) (fields-meet P classes store F each fs vs x t h.1) declared
 
 -- an owner reference in a field of an object that isn't frozen leads into a region
-pub field-in_region : (classes : List Class) (store : List Seen) (ws : List Window) → ObjectsFit classes store ws → (v : Val) (o : Seen) (f : Name) (t : Ty) → object_at store v ≡ Ok o → (o.label ≡ Frozen → ⊥) → field_type classes o.class f ≡ Some t → is_iso t ≡ true → InRegion store (field_value classes o f)
+pub field-in_region : (classes : List Class) (store : List Seen) (ws : List Window) → ObjectsFit classes store ws
+    → (v : Val) (o : Seen) (f : Name) (t : Ty) → object_at store v ≡ Ok o → (o.label ≡ Frozen → ⊥) → field_type classes o.class f ≡ Some t
+    → is_iso t ≡ true → InRegion store (field_value classes o f)
 field-in_region classes store ws h v o f t there live declared iso =
     let l = object_at-ok store v o there in
     let fit = h l.address o l.there in
-    fields-meet (λ t v. is_iso t ≡ true → InRegion store v) classes store (FieldFits ws o.label) (λ t v m i. meets-iso store (FieldFits ws o.label) (field_iso ws o.label live) t v i m) (fields_of classes o.class) o.fields f t fit.fields declared iso
+    fields-meet (λ t v. is_iso t ≡ true → InRegion store v) classes store (FieldFits ws o.label)
+    (λ t v m i. meets-iso store (FieldFits ws o.label) (field_iso ws o.label live) t v i m) (fields_of classes o.class) o.fields f t fit.fields
+    declared iso
 
-pub objects-fields : (classes : List Class) (store : List Seen) (ws : List Window) → ObjectsFit classes store ws → (v : Val) (o : Seen) (f : Name) (t : Ty) → object_at store v ≡ Ok o → field_type classes o.class f ≡ Some t → OfType store t (field_value classes o f)
+pub objects-fields : (classes : List Class) (store : List Seen) (ws : List Window) → ObjectsFit classes store ws
+    → (v : Val) (o : Seen) (f : Name) (t : Ty) → object_at store v ≡ Ok o → field_type classes o.class f ≡ Some t
+    → OfType store t (field_value classes o f)
 objects-fields classes store ws h v o f t there declared =
     let l = object_at-ok store v o there in
     let fit = h l.address o l.there in
-    fields-meet (OfType store) classes store (FieldFits ws o.label) (meets-of_type store (FieldFits ws o.label)) (fields_of classes o.class) o.fields f t fit.fields declared
+    fields-meet (OfType store) classes store (FieldFits ws o.label) (meets-of_type store (FieldFits ws o.label)) (fields_of classes o.class)
+    o.fields f t fit.fields declared
 
 -- the facts of the judgements' lemmas, of the frame that runs
-pub facts_of : (classes : List Class) (env : Env) (store : List Seen) (windows : List Window) (n : ℕ) (locals : List Local) → Named env.entries locals → FrameMeets store windows n locals → ObjectsFit classes store windows → Facts classes env store locals
+pub facts_of : (classes : List Class) (env : Env) (store : List Seen) (windows : List Window) (n : ℕ) (locals : List Local)
+    → Named env.entries locals → FrameMeets store windows n locals → ObjectsFit classes store windows → Facts classes env store locals
 facts_of classes env store windows n locals named meets objects = record {
   declared = λ x e there. (found-named env.entries locals x e named there).type_is;
   variables = λ x e there. let f = found-named env.entries locals x e named there in
-      subst (OfType store e.ty) (sym f.value_is) (subst (λ t. OfType store t f.local.value) f.ty_is (meets-of_type store (LabelFits (windows_of n f.place windows)) f.local.ty f.local.value (meets f.place f.local f.there)));
+      subst (OfType store e.ty) (sym f.value_is) (subst (λ t. OfType store t f.local.value) f.ty_is
+      (meets-of_type store (LabelFits (windows_of n f.place windows)) f.local.ty f.local.value (meets f.place f.local f.there)));
   fields = objects-fields classes store windows objects;
 }
 
 -- what `freeze`, `merge` and `enter x` want of their variable
-pub variable-in_region : (env : Env) (store : List Seen) (windows : List Window) (n : ℕ) (locals : List Local) (x : Variable) (e : Entry) → Named env.entries locals → FrameMeets store windows n locals → entry_of env x ≡ Some e → is_iso e.ty ≡ true → InRegion store (value_in locals x)
+pub variable-in_region : (env : Env) (store : List Seen) (windows : List Window) (n : ℕ) (locals : List Local) (x : Variable) (e : Entry)
+    → Named env.entries locals → FrameMeets store windows n locals → entry_of env x ≡ Some e → is_iso e.ty ≡ true → InRegion store (value_in locals x)
 variable-in_region env store windows n locals x e named meets there iso =
     let f = found-named env.entries locals x e named there in
-    subst (InRegion store) (sym f.value_is) (meets-in_region store (windows_of n f.place windows) f.local.ty f.local.value (ap is_iso f.ty_is ∙ iso) (meets f.place f.local f.there))
+    subst (InRegion store) (sym f.value_is) (meets-in_region store (windows_of n f.place windows) f.local.ty f.local.value (ap is_iso f.ty_is ∙ iso)
+    (meets f.place f.local f.there))
 
 -- a visible variable is there
 pub variable-there : (env : Env) (locals : List Local) (x : Variable) (e : Entry) → Named env.entries locals → entry_of env x ≡ Some e → Has locals x
@@ -204,15 +224,18 @@ below_entered n locals [] (w ∷ ws) h = absurd h
 below_entered n locals (p ∷ ps) [] h = absurd h
 below_entered n locals (p ∷ ps) (w ∷ ws) h = (let e = h.0 in omega (arith, e), below_entered n locals ps ws h.2)
 
-below_own : (classes : List Class) (b : Body) (f : Frame) (n : ℕ) (own : List Window) (mine : List Item) (callee : Body) (target : Target) → Waits classes b f n own mine callee target → OpenedBelow (suc n) own
+below_own : (classes : List Class) (b : Body) (f : Frame) (n : ℕ) (own : List Window) (mine : List Item) (callee : Body) (target : Target)
+    → Waits classes b f n own mine callee target → OpenedBelow (suc n) own
 below_own classes b f n own mine callee target h = below_entered n f.locals (reverse h.spot.enters) own h.stands.entered
 
-below_waits : (t : Tree) (b : Body) (f : Frame) (n : ℕ) (own : List Window) (mine : List Item) (callee : Body) (target : Target) → Waits t.classes b f n own mine callee target ⊎ WaitsEmpty t b f own mine callee target → OpenedBelow (suc n) own
+below_waits : (t : Tree) (b : Body) (f : Frame) (n : ℕ) (own : List Window) (mine : List Item) (callee : Body) (target : Target)
+    → Waits t.classes b f n own mine callee target ⊎ WaitsEmpty t b f own mine callee target → OpenedBelow (suc n) own
 below_waits t b f n own mine callee target (inl h) = below_own t.classes b f n own mine callee target h
 below_waits t b f n own mine callee target (inr h) = subst (OpenedBelow (suc n)) (sym h.no_window) tt
 
 -- windows beneath a frame opened in the frames beneath it, or in main's
-pub below-all : (t : Tree) (fs : List Frame) (ws : List Window) (items : List Item) (b : Body) (target : Target) → Beneath t fs ws items b target → OpenedBelow (suc (length fs)) ws
+pub below-all : (t : Tree) (fs : List Frame) (ws : List Window) (items : List Item) (b : Body) (target : Target) → Beneath t fs ws items b target
+    → OpenedBelow (suc (length fs)) ws
 below-all t [] ws items b target h = subst (OpenedBelow 1) (sym h.2.2) (omega arith, tt)
 below-all t (f ∷ fs) ws items b target h =
     let own = below_waits t h.0 f (length fs) h.1 h.3 b target h.7 in
@@ -220,19 +243,24 @@ below-all t (f ∷ fs) ws items b target h =
     subst (OpenedBelow (suc (length (f ∷ fs)))) (sym h.5)
     (below_more (h.1 ++ h.2) (suc (length fs)) (suc (length (f ∷ fs))) (omega arith) (below_append h.1 h.2 (suc (length fs)) own under))
 
-pub below-tight : (t : Tree) (f : Frame) (fs : List Frame) (ws : List Window) (items : List Item) (b : Body) (target : Target) → Beneath t (f ∷ fs) ws items b target → OpenedBelow (suc (length fs)) ws
+pub below-tight : (t : Tree) (f : Frame) (fs : List Frame) (ws : List Window) (items : List Item) (b : Body) (target : Target)
+    → Beneath t (f ∷ fs) ws items b target → OpenedBelow (suc (length fs)) ws
 below-tight t f fs ws items b target h =
     let own = below_waits t h.0 f (length fs) h.1 h.3 b target h.7 in
     let under = below-all t fs h.2 h.4 h.0 f.target h.8 in
     subst (OpenedBelow (suc (length fs))) (sym h.5) (below_append h.1 h.2 (suc (length fs)) own under)
 
 -- the windows of a state opened in the frames that are there
-pub running-below : (t : Tree) (top : Frame) (lower : List Frame) (ws : List Window) (items : List Item) → Running t top lower ws items → OpenedBelow (suc (length lower)) ws
+pub running-below : (t : Tree) (top : Frame) (lower : List Frame) (ws : List Window) (items : List Item) → Running t top lower ws items
+    → OpenedBelow (suc (length lower)) ws
 running-below t top lower ws items h =
     subst (OpenedBelow (suc (length lower))) (sym h.windows_are)
-    (below_append h.own h.under (suc (length lower)) (below_entered (length lower) top.locals (reverse h.spot.enters) h.own h.stands.entered) (below-all t lower h.under h.rest h.body top.target h.beneath))
+    (below_append h.own h.under (suc (length lower)) (below_entered (length lower) top.locals (reverse h.spot.enters) h.own h.stands.entered)
+    (below-all t lower h.under h.rest h.body top.target h.beneath))
 
 -- and where the running body has none open, in those beneath it
-pub running-beneath : (t : Tree) (top f : Frame) (fs : List Frame) (ws : List Window) (items : List Item) → (h : Running t top (f ∷ fs) ws items) → h.own ≡ [] → OpenedBelow (suc (length fs)) ws
+pub running-beneath : (t : Tree) (top f : Frame) (fs : List Frame) (ws : List Window) (items : List Item) → (h : Running t top (f ∷ fs) ws items)
+    → h.own ≡ [] → OpenedBelow (suc (length fs)) ws
 running-beneath t top f fs ws items h none =
-    subst (OpenedBelow (suc (length fs))) (sym (h.windows_are ∙ ap (λ l. l ++ h.under) none)) (below-tight t f fs h.under h.rest h.body top.target h.beneath)
+    subst (OpenedBelow (suc (length fs))) (sym (h.windows_are ∙ ap (λ l. l ++ h.under) none))
+    (below-tight t f fs h.under h.rest h.body top.target h.beneath)

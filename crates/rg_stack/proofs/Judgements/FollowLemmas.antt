@@ -1,5 +1,6 @@
 -- What the judgements and the invariant give of paths: each object on the way has the class of the declared type.
-use Rattle.std.proofs.Common.{◌≡◌, ℕ, suc, true, false, Bool as Truth, if◌then◌else◌, List, [], ◌∷◌, find, Option, Some, None, option_map, ok_or, Ok, Err, refl, sym, ap, subst, ◌∙◌, arith, slice_get, unwrap_or}
+use Rattle.std.proofs.Common.{◌≡◌, ℕ, suc, true, false, Bool as Truth, if◌then◌else◌, List, [], ◌∷◌, find, Option, Some, None, option_map, ok_or}
+use Rattle.std.proofs.Common.{Ok, Err, refl, sym, ap, subst, ◌∙◌, arith, slice_get, unwrap_or}
 use Rattle.std.specs.Prelude.{bytes_eq}
 use Rattle.std.proofs.lemmas.Option.{none-some}
 use Rattle.rg_base.specs.declared.ty.Ty.{Ty}
@@ -17,10 +18,8 @@ use Rattle.rg_rules.specs.Evaluation.{object_at, field_value}
 use Rattle.rg_rules.proofs.AnswersLemmas.{bind-ok}
 use Rattle.rg_rules.proofs.PathLemmas.{look_up-ok}
 use Rattle.rg_code.specs.Lowering.{field_number, type_behind}
+use Rattle.rg_stack.proofs.Basics.{some-is}
 use Rattle.rg_stack.proofs.Walks.WalkLemmas.{Follows}
-
-pub some-is : {A : Type 0} (a b : A) → Some a ≡ Some b → a ≡ b
-some-is a b e = ap (λ o. elim o [ Some x ↦ x | None ↦ a ]) e
 
 -- the class of a type of references
 abbrev pub class_is : Ty → Option ℕ
@@ -34,21 +33,27 @@ HasClass store t v = (o : Seen) → object_at store v ≡ Ok o → class_is t �
 
 -- the fields of objects lead as they are declared
 abbrev pub FieldsHaveClasses : List Class → List Seen → Type 0
-FieldsHaveClasses classes store = (v : Val) (o : Seen) (f : Name) (t : Ty) → object_at store v ≡ Ok o → field_type classes o.class f ≡ Some t → HasClass store t (field_value classes o f)
+FieldsHaveClasses classes store = (v : Val) (o : Seen) (f : Name) (t : Ty) → object_at store v ≡ Ok o → field_type classes o.class f ≡ Some t
+    → HasClass store t (field_value classes o f)
 
 -- a field has a place where it has a type
-place_of_type : (t : Truth) (ty : Option Ty) (place : Option ℕ) (first : Ty) (d : Ty) → ((d : Ty) → ty ≡ Some d → (k : ℕ) × (place ≡ Some k)) → (if t then Some first else ty) ≡ Some d → (k : ℕ) × ((if t then Some 0 else option_map suc place) ≡ Some k)
+place_of_type : (t : Truth) (ty : Option Ty) (place : Option ℕ) (first : Ty) (d : Ty) → ((d : Ty) → ty ≡ Some d → (k : ℕ) × (place ≡ Some k))
+    → (if t then Some first else ty) ≡ Some d → (k : ℕ) × ((if t then Some 0 else option_map suc place) ≡ Some k)
 place_of_type true ty place first d more h = (0, refl)
 place_of_type false ty place first d more h = let p = more d h in (suc p.0, ap (option_map suc) p.1)
 
-find_by : (classes : List Class) (t : Truth) (f : Field) (found : Option Field) → option_map (λ f. type_of classes f.ty) (if t then Some f else found) ≡ (if t then Some (type_of classes f.ty) else option_map (λ f. type_of classes f.ty) found)
+find_by : (classes : List Class) (t : Truth) (f : Field) (found : Option Field)
+    → option_map (λ f. type_of classes f.ty) (if t then Some f else found)
+    ≡ (if t then Some (type_of classes f.ty) else option_map (λ f. type_of classes f.ty) found)
 find_by classes true f found = refl
 find_by classes false f found = refl
 
-pub place_if_type : (classes : List Class) (fs : List Field) (x : Name) (d : Ty) → option_map (λ f. type_of classes f.ty) (find (λ f. bytes_eq f.name x) fs) ≡ Some d → (k : ℕ) × (field_place fs x ≡ Some k)
+pub place_if_type : (classes : List Class) (fs : List Field) (x : Name) (d : Ty)
+    → option_map (λ f. type_of classes f.ty) (find (λ f. bytes_eq f.name x) fs) ≡ Some d → (k : ℕ) × (field_place fs x ≡ Some k)
 place_if_type classes [] x d h = absurd (none-some d h)
 place_if_type classes (f ∷ fs) x d h =
-    place_of_type (bytes_eq f.name x) (option_map (λ f. type_of classes f.ty) (find (λ f. bytes_eq f.name x) fs)) (field_place fs x) (type_of classes f.ty) d (λ e g. place_if_type classes fs x e g)
+    place_of_type (bytes_eq f.name x) (option_map (λ f. type_of classes f.ty) (find (λ f. bytes_eq f.name x) fs)) (field_place fs x)
+    (type_of classes f.ty) d (λ e g. place_if_type classes fs x e g)
     (sym (find_by classes (bytes_eq f.name x) f (find (λ f. bytes_eq f.name x) fs)) ∙ h)
 
 -- a field as it is read has the declared class
@@ -58,7 +63,9 @@ read-class cap Bool x h = grind arith
 read-class cap (Ref k c) x h = let p = bind-ok (ok_or (adapt cap k) Capability) _ x h in ap (λ r. elim r [ Ok y ↦ class_is y | Err e ↦ None ]) p.2
 
 -- the field of a type by the type's class
-pub field_of_type : (classes : List Class) (t : Ty) (f : Name) (c : ℕ) → class_is t ≡ Some c → (field_number classes t f ≡ unwrap_or (field_place (fields_of classes c) f) 0) × (type_behind classes t f ≡ unwrap_or (field_type classes c f) Int)
+pub field_of_type : (classes : List Class) (t : Ty) (f : Name) (c : ℕ) → class_is t ≡ Some c
+    → (field_number classes t f ≡ unwrap_or (field_place (fields_of classes c) f) 0)
+    × (type_behind classes t f ≡ unwrap_or (field_type classes c f) Int)
 field_of_type classes Int f c e = absurd (none-some c e)
 field_of_type classes Bool f c e = absurd (none-some c e)
 field_of_type classes (Ref k b) f c e =
@@ -66,7 +73,8 @@ field_of_type classes (Ref k b) f c e =
     (ap (λ c. unwrap_or (field_place (fields_of classes c) f) 0) is, ap (λ c. unwrap_or (field_type classes c f) Int) is)
 
 -- a walk that the rules allow follows fields that are there
-pub follows_of : (classes : List Class) (store : List Seen) (fs : List Name) (u t r : Ty) (v : Val) → class_is u ≡ class_is t → walk_fields classes u fs ≡ Ok r → HasClass store t v → FieldsHaveClasses classes store → Follows classes store t v fs
+pub follows_of : (classes : List Class) (store : List Seen) (fs : List Name) (u t r : Ty) (v : Val) → class_is u ≡ class_is t
+    → walk_fields classes u fs ≡ Ok r → HasClass store t v → FieldsHaveClasses classes store → Follows classes store t v fs
 follows_of classes store [] u t r v same walked has fields = tt
 follows_of classes store (f ∷ fs) u t r v same walked has fields = λ o there.
     let p = bind-ok (walk_field classes u f) _ r walked in
@@ -78,10 +86,12 @@ follows_of classes store (f ∷ fs) u t r v same walked has fields = λ o there.
     let place = place_if_type classes (fields_of classes w.class) f q.0.ty w.declared in
     let behind : type_behind classes t f ≡ q.0.ty = at.1 ∙ ap (λ d. unwrap_or d Int) w.declared in
     let number : field_number classes t f ≡ place.0 = at.0 ∙ ap (λ k. unwrap_or k 0) place.1 in (
-      ap (λ k. elim k [ None ↦ val.Nil | Some n ↦ unwrap_or (slice_get o.fields n) val.Nil ]) (ap (λ c. field_place (fields_of classes c) f) class_of_o ∙ place.1)
+      ap (λ k. elim k [ None ↦ val.Nil | Some n ↦ unwrap_or (slice_get o.fields n) val.Nil ])
+          (ap (λ c. field_place (fields_of classes c) f) class_of_o ∙ place.1)
           ∙ ap (λ n. unwrap_or (slice_get o.fields n) val.Nil) (sym number),
       follows_of classes store fs p.0 (type_behind classes t f) r (field_value classes o f)
           (sym (read-class q.0.receiver q.0.ty p.0 q.2) ∙ ap class_is (sym behind)) p.2
-          (subst (λ d. HasClass store d (field_value classes o f)) (sym behind) (fields v o f q.0.ty there (ap (λ c. field_type classes c f) class_of_o ∙ w.declared)))
+          (subst (λ d. HasClass store d (field_value classes o f)) (sym behind)
+          (fields v o f q.0.ty there (ap (λ c. field_type classes c f) class_of_o ∙ w.declared)))
           fields,
     )

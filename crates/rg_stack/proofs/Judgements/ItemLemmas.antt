@@ -23,10 +23,10 @@ use Rattle.rg_stack.proofs.Mirrors.{Mirrors, SameMove}
 use Rattle.rg_stack.proofs.Walks.FrameLemmas.{work_of, state_of, OpenedBelow}
 use Rattle.rg_stack.proofs.Walks.PlaceLemmas.{GoesOn}
 use Rattle.rg_stack.proofs.Walks.EndLemmas.{Round}
-use Rattle.rg_stack.proofs.Statements.BlockLemmas.{sim_end}
+use Rattle.rg_stack.proofs.Statements.BlockLemmas.{end-mirrors}
 use Rattle.rg_stack.proofs.Statements.BaseLemmas.{as_many}
-use Rattle.rg_stack.proofs.Statements.WindowLemmas.{sim_leave}
-use Rattle.rg_stack.proofs.Statements.ReturnLemmas.{sim_back}
+use Rattle.rg_stack.proofs.Statements.WindowLemmas.{leave-mirrors}
+use Rattle.rg_stack.proofs.Statements.ReturnLemmas.{back-mirrors}
 use Rattle.rg_stack.proofs.Judgements.BaseLemmas.{beneath-begins}
 use Rattle.rg_stack.proofs.Judgements.FitLemmas.{running-beneath}
 use Rattle.rg_stack.proofs.Judgements.SpotLemmas.{leaves_frame}
@@ -36,68 +36,95 @@ use Rattle.rg_stack.proofs.Judgements.LeftLemmas.{do-other, leave-other, back-ot
 -- what both machines have
 module _ (t : Tree) (accepted : Accepted t) (store : List Seen) (managers : List Manager) (made at : ℕ) (input : List ℕ) (output : List Val) where
   abbrev Showing : List Frame → List Window → List Body → List Opened → List Item → Type 0
-  Showing mfs mws fs ws items = Mirrors t.classes (lowered t) (work_of store mfs mws managers made at input).machine (state_of store fs ws managers made input output items)
+  Showing mfs mws fs ws items = Mirrors t.classes (lowered t) (work_of store mfs mws managers made at input).machine
+      (state_of store fs ws managers made input output items)
 
   abbrev pub Moves : List Frame → List Window → List Body → List Opened → List Item → Type 0
   Moves mfs mws fs ws items =
-      SameMove t.classes (lowered t) output (next t.classes (state_of store fs ws managers made input output items)) (step (lowered t) (work_of store mfs mws managers made at input))
+      SameMove t.classes (lowered t) output (next t.classes (state_of store fs ws managers made input output items))
+      (step (lowered t) (work_of store mfs mws managers made at input))
 
   -- what stands round the topmost frame
   abbrev round : Frame → List Frame → List Window → Body → List Body → List Opened → Round
-  round mf mfs mws f fs ws = record { back = mf.back; frames = mfs; windows = mws; made = made; at = at; target = f.target; bodies = fs; opened = ws; output = output }
+  round mf mfs mws f fs ws = record {
+    back = mf.back;
+    frames = mfs;
+    windows = mws;
+    made = made;
+    at = at;
+    target = f.target;
+    bodies = fs;
+    opened =
+        ws;
+    output = output;
+  }
 
   -- as many frames
-  below-frames : (mg : Frame) (mfs : List Frame) (fs : List Body) (ws : List Opened) (n : ℕ) → length mfs ≡ length fs → n ≡ suc (length fs) → OpenedBelow n ws → OpenedBelow (length (sizes_of (mg ∷ mfs))) ws
+  below-frames : (mg : Frame) (mfs : List Frame) (fs : List Body) (ws : List Opened) (n : ℕ) → length mfs ≡ length fs → n ≡ suc (length fs)
+      → OpenedBelow n ws → OpenedBelow (length (sizes_of (mg ∷ mfs))) ws
   below-frames mg mfs fs ws n same is h =
       let sizes : n ≡ length (sizes_of (mg ∷ mfs)) =
-      is ∙ ap suc (sym same) ∙ sym (length-reverse (map (λ (f : Frame). length f.slots) (mg ∷ mfs)) ∙ length-map (mg ∷ mfs) (λ (f : Frame). length f.slots)) in
+      is ∙ ap suc (sym same) ∙ sym (length-reverse (map (λ (f : Frame). length f.slots) (mg ∷ mfs))
+      ∙ length-map (mg ∷ mfs) (λ (f : Frame). length f.slots)) in
       subst (λ k. OpenedBelow k ws) sizes h
 
   -- a statement that isn't a `return`
-  statement-moves : (mf : Frame) (mfs : List Frame) (mws : List Window) (f : Body) (fs : List Body) (ws : List Opened) (line : ℕ) (k : StmtKind) (j : Item) (rest : List Item) → GoesOn k
-      → Running t f fs ws (Do (stmt line k) ∷ j ∷ rest) → ValuesFit store ws (f ∷ fs) → ObjectsFit t.classes store ws → OpenFit t.classes store (f ∷ fs) ws
+  statement-moves : (mf : Frame) (mfs : List Frame) (mws : List Window) (f : Body) (fs : List Body) (ws : List Opened) (line : ℕ) (k : StmtKind)
+      (j : Item) (rest : List Item) → GoesOn k
+      → Running t f fs ws (Do (stmt line k) ∷ j ∷ rest) → ValuesFit store ws (f ∷ fs) → ObjectsFit t.classes store ws
+      → OpenFit t.classes store (f ∷ fs) ws
       → Showing (mf ∷ mfs) mws (f ∷ fs) ws (Do (stmt line k) ∷ j ∷ rest) → Moves (mf ∷ mfs) mws (f ∷ fs) ws (Do (stmt line k) ∷ j ∷ rest)
   statement-moves mf mfs mws f fs ws line k j rest goes h values objects regions shows =
       fit-statement t accepted (round mf mfs mws f fs ws) store mf.slots f.locals managers input line k j rest goes h values.0 objects
       (writable-live t accepted store f fs ws (Do (stmt line k) ∷ j ∷ rest) h values objects regions) shows
 
   -- `return`, and the end of a method without a result: a frame stands beneath
-  return-moves : (mf : Frame) (mfs : List Frame) (mws : List Window) (f : Body) (fs : List Body) (ws : List Opened) (line : ℕ) (e : _) (j : Item) (rest : List Item)
+  return-moves : (mf : Frame) (mfs : List Frame) (mws : List Window) (f : Body) (fs : List Body) (ws : List Opened) (line : ℕ) (e : _) (j : Item)
+      (rest : List Item)
       → Running t f fs ws (Do (stmt line (return e)) ∷ j ∷ rest) → ValuesFit store ws (f ∷ fs) → ObjectsFit t.classes store ws
-      → Showing (mf ∷ mfs) mws (f ∷ fs) ws (Do (stmt line (return e)) ∷ j ∷ rest) → Moves (mf ∷ mfs) mws (f ∷ fs) ws (Do (stmt line (return e)) ∷ j ∷ rest)
-  return-moves mf mfs mws f [] ws line e j rest h values objects shows = absurd (main-stays t accepted f ws (Do (stmt line (return e))) (j ∷ rest) h refl)
+      → Showing (mf ∷ mfs) mws (f ∷ fs) ws (Do (stmt line (return e)) ∷ j ∷ rest)
+      → Moves (mf ∷ mfs) mws (f ∷ fs) ws (Do (stmt line (return e)) ∷ j ∷ rest)
+  return-moves mf mfs mws f [] ws line e j rest h values objects shows = absurd
+      (main-stays t accepted f ws (Do (stmt line (return e))) (j ∷ rest) h refl)
   return-moves mf [] mws f (g ∷ fs) ws line e j rest h values objects shows = absurd shows.slots.1
   return-moves mf (mg ∷ mfs) mws f (g ∷ fs) ws line e j rest h values objects shows =
-      fit-return t accepted (round mg mfs mws g fs ws) mf.slots mg.slots f.locals g.locals mf.back f.target store managers input line e j rest h values.0 objects shows
+      fit-return t accepted (round mg mfs mws g fs ws) mf.slots mg.slots f.locals g.locals mf.back f.target store managers input line e j rest h
+      values.0 objects shows
 
   back-moves : (mf : Frame) (mfs : List Frame) (mws : List Window) (f : Body) (fs : List Body) (ws : List Opened) (j : Item) (rest : List Item)
-      → Running t f fs ws (Back ∷ j ∷ rest) → Showing (mf ∷ mfs) mws (f ∷ fs) ws (Back ∷ j ∷ rest) → Moves (mf ∷ mfs) mws (f ∷ fs) ws (Back ∷ j ∷ rest)
+      → Running t f fs ws (Back ∷ j ∷ rest) → Showing (mf ∷ mfs) mws (f ∷ fs) ws (Back ∷ j ∷ rest)
+      → Moves (mf ∷ mfs) mws (f ∷ fs) ws (Back ∷ j ∷ rest)
   back-moves mf mfs mws f [] ws j rest h shows = absurd (main-stays t accepted f ws Back (j ∷ rest) h refl)
   back-moves mf [] mws f (g ∷ fs) ws j rest h shows = absurd shows.slots.1
   back-moves mf (mg ∷ mfs) mws f (g ∷ fs) ws j rest h shows =
       let first : h.first ≡ Back = ap (λ l. elim l [ [] ↦ Back | i ∷ is ↦ i ]) (sym h.items_are) in
       let none = alone t accepted f (g ∷ fs) ws (Back ∷ j ∷ rest) h (ap leaves_frame (h.begins ∙ ap (λ i. i ∷ h.more) first)) in
-      sim_back t.classes (lowered t) store mf mg mfs mws managers made at input f g fs ws output j rest shows
+      back-mirrors t.classes (lowered t) store mf mg mfs mws managers made at input f g fs ws output j rest shows
       (below-frames mg mfs fs ws (suc (length fs)) (as_many mfs fs shows.slots.1.1) refl (running-beneath t f g fs ws (Back ∷ j ∷ rest) h none))
       (beneath-begins t accepted mf mg mfs mws f g fs ws (Back ∷ j ∷ rest) shows.slots shows.windows h none)
 
   -- the end of the block of an `enter`: a window is open beneath
-  leave-moves : (mf : Frame) (mfs : List Frame) (mws : List Window) (f : Body) (fs : List Body) (v w : Opened) (ws : List Opened) (k : ℕ) (j : Item) (rest : List Item)
+  leave-moves : (mf : Frame) (mfs : List Frame) (mws : List Window) (f : Body) (fs : List Body) (v w : Opened) (ws : List Opened) (k : ℕ) (j : Item)
+      (rest : List Item)
       → Showing (mf ∷ mfs) mws (f ∷ fs) (v ∷ w ∷ ws) (LeaveAt k ∷ j ∷ rest) → Moves (mf ∷ mfs) mws (f ∷ fs) (v ∷ w ∷ ws) (LeaveAt k ∷ j ∷ rest)
   leave-moves mf mfs [] f fs v w ws k j rest shows = absurd shows.windows
   leave-moves mf mfs (mv ∷ []) f fs v w ws k j rest shows = absurd shows.windows.1
   leave-moves mf mfs (mv ∷ mw ∷ mws) f fs v w ws k j rest shows =
-      sim_leave t.classes (lowered t) (round mf mfs (mv ∷ mw ∷ mws) f fs (v ∷ w ∷ ws)) store mf.slots f.locals managers input mv mw mws v w ws k j rest shows
+      leave-mirrors t.classes (lowered t) (round mf mfs (mv ∷ mw ∷ mws) f fs (v ∷ w ∷ ws)) store mf.slots f.locals managers input mv mw mws v w ws k j
+      rest shows
 
   -- each statement
-  do-moves : (mf : Frame) (mfs : List Frame) (mws : List Window) (f : Body) (fs : List Body) (ws : List Opened) (line : ℕ) (k : StmtKind) (j : Item) (rest : List Item)
-      → Running t f fs ws (Do (stmt line k) ∷ j ∷ rest) → ValuesFit store ws (f ∷ fs) → ObjectsFit t.classes store ws → OpenFit t.classes store (f ∷ fs) ws
+  do-moves : (mf : Frame) (mfs : List Frame) (mws : List Window) (f : Body) (fs : List Body) (ws : List Opened) (line : ℕ) (k : StmtKind) (j : Item)
+      (rest : List Item)
+      → Running t f fs ws (Do (stmt line k) ∷ j ∷ rest) → ValuesFit store ws (f ∷ fs) → ObjectsFit t.classes store ws
+      → OpenFit t.classes store (f ∷ fs) ws
       → Showing (mf ∷ mfs) mws (f ∷ fs) ws (Do (stmt line k) ∷ j ∷ rest) → Moves (mf ∷ mfs) mws (f ∷ fs) ws (Do (stmt line k) ∷ j ∷ rest)
   do-moves mf mfs mws f fs ws line (declare x ty r) j rest h a b c s = statement-moves mf mfs mws f fs ws line (declare x ty r) j rest tt h a b c s
   do-moves mf mfs mws f fs ws line (assign p r) j rest h a b c s = statement-moves mf mfs mws f fs ws line (assign p r) j rest tt h a b c s
   do-moves mf mfs mws f fs ws line (call d) j rest h a b c s = statement-moves mf mfs mws f fs ws line (call d) j rest tt h a b c s
   do-moves mf mfs mws f fs ws line (swap y p) j rest h a b c s = statement-moves mf mfs mws f fs ws line (swap y p) j rest tt h a b c s
-  do-moves mf mfs mws f fs ws line (branch e d other) j rest h a b c s = statement-moves mf mfs mws f fs ws line (branch e d other) j rest tt h a b c s
+  do-moves mf mfs mws f fs ws line (branch e d other) j rest h a b c s = statement-moves mf mfs mws f fs ws line (branch e d other) j rest tt h a b
+      c s
   do-moves mf mfs mws f fs ws line (while e d) j rest h a b c s = statement-moves mf mfs mws f fs ws line (while e d) j rest tt h a b c s
   do-moves mf mfs mws f fs ws line (enter p z d) j rest h a b c s = statement-moves mf mfs mws f fs ws line (enter p z d) j rest tt h a b c s
   do-moves mf mfs mws f fs ws line (print e) j rest h a b c s = statement-moves mf mfs mws f fs ws line (print e) j rest tt h a b c s
@@ -105,12 +132,14 @@ module _ (t : Tree) (accepted : Accepted t) (store : List Seen) (managers : List
   do-moves mf mfs mws f fs ws line (return e) j rest h a b c s = return-moves mf mfs mws f fs ws line e j rest h a b s
 
   -- each item that has one behind it
-  behind-moves : (mf : Frame) (mfs : List Frame) (mws : List Window) (f : Body) (fs : List Body) (ws : List Opened) (i : Item) (rest : List Item) → SomeLeft rest
+  behind-moves : (mf : Frame) (mfs : List Frame) (mws : List Window) (f : Body) (fs : List Body) (ws : List Opened) (i : Item) (rest : List Item)
+      → SomeLeft rest
       → Running t f fs ws (i ∷ rest) → ValuesFit store ws (f ∷ fs) → ObjectsFit t.classes store ws → OpenFit t.classes store (f ∷ fs) ws
       → Showing (mf ∷ mfs) mws (f ∷ fs) ws (i ∷ rest) → Moves (mf ∷ mfs) mws (f ∷ fs) ws (i ∷ rest)
   behind-moves mf mfs mws f fs ws i [] left h a b c s = absurd left
   behind-moves mf mfs mws f fs ws (Do (stmt line k)) (j ∷ rest) left h a b c s = do-moves mf mfs mws f fs ws line k j rest h a b c s
-  behind-moves mf mfs mws f fs ws (EndAt k) (j ∷ rest) left h a b c s = sim_end t.classes (lowered t) (round mf mfs mws f fs ws) store mf.slots f.locals managers input 0 k (j ∷ rest) s
+  behind-moves mf mfs mws f fs ws (EndAt k) (j ∷ rest) left h a b c s = end-mirrors t.classes (lowered t) (round mf mfs mws f fs ws) store mf.slots
+      f.locals managers input 0 k (j ∷ rest) s
   behind-moves mf mfs mws f fs ws (LeaveAt k) (j ∷ rest) left h a b c s =
       let two = leaving-windows t f fs ws k (j ∷ rest) h in
       let W = λ (vs : List Opened). Showing (mf ∷ mfs) mws (f ∷ fs) vs (LeaveAt k ∷ j ∷ rest) in
@@ -122,10 +151,15 @@ module _ (t : Tree) (accepted : Accepted t) (store : List Seen) (managers : List
   item-moves : (mf : Frame) (mfs : List Frame) (mws : List Window) (f : Body) (fs : List Body) (ws : List Opened) (i : Item) (rest : List Item)
       → Running t f fs ws (i ∷ rest) → ValuesFit store ws (f ∷ fs) → ObjectsFit t.classes store ws → OpenFit t.classes store (f ∷ fs) ws
       → Showing (mf ∷ mfs) mws (f ∷ fs) ws (i ∷ rest) → Moves (mf ∷ mfs) mws (f ∷ fs) ws (i ∷ rest)
-  item-moves mf mfs mws f fs ws (Do s) rest h a b c e = behind-moves mf mfs mws f fs ws (Do s) rest (running-left t f fs ws (Do s) rest h (do-other s)) h a b c e
-  item-moves mf mfs mws f fs ws (EndAt k) rest h a b c e = sim_end t.classes (lowered t) (round mf mfs mws f fs ws) store mf.slots f.locals managers input 0 k rest e
-  item-moves mf mfs mws f fs ws (LeaveAt k) rest h a b c e = behind-moves mf mfs mws f fs ws (LeaveAt k) rest (running-left t f fs ws (LeaveAt k) rest h (leave-other k)) h a b c e
-  item-moves mf mfs mws f fs ws Back rest h a b c e = behind-moves mf mfs mws f fs ws Back rest (running-left t f fs ws Back rest h back-other) h a b c e
+  item-moves mf mfs mws f fs ws (Do s) rest h a b c e = behind-moves mf mfs mws f fs ws (Do s) rest
+      (running-left t f fs ws (Do s) rest h (do-other s)) h a b c e
+  item-moves mf mfs mws f fs ws (EndAt k) rest h a b c e = end-mirrors t.classes (lowered t) (round mf mfs mws f fs ws) store mf.slots f.locals
+      managers
+      input 0 k rest e
+  item-moves mf mfs mws f fs ws (LeaveAt k) rest h a b c e = behind-moves mf mfs mws f fs ws (LeaveAt k) rest
+      (running-left t f fs ws (LeaveAt k) rest h (leave-other k)) h a b c e
+  item-moves mf mfs mws f fs ws Back rest h a b c e = behind-moves mf mfs mws f fs ws Back rest (running-left t f fs ws Back rest h back-other) h a
+      b c e
 
   -- a state that fits, with an item left
   pub all-move : (mfs : List Frame) (mws : List Window) (fs : List Body) (ws : List Opened) (items : List Item) → SomeLeft items

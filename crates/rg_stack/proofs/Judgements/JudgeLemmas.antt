@@ -1,5 +1,6 @@
 -- What the judgements and the invariant give of expressions, holders of fields, right sides and bodies.
-use Rattle.std.proofs.Common.{◌≡◌, ℕ, true, false, true≢false, inl, inr, Bool as Truth, not as negated, if◌then◌else◌, List, [], ◌∷◌, Option, Some, None, ok_or, Result, Ok, Err, refl, sym, ap, subst, ◌∙◌, unwrap_or}
+use Rattle.std.proofs.Common.{◌≡◌, ℕ, true, false, true≢false, inl, inr, Bool as Truth, not as negated, if◌then◌else◌, List, [], ◌∷◌, Option, Some}
+use Rattle.std.proofs.Common.{None, ok_or, Ok, refl, sym, ap, subst, ◌∙◌, unwrap_or}
 use Rattle.rg_base.specs.declared.words.Cap.{Cap}
 use Rattle.rg_base.specs.declared.ty.Ty.{Ty}
 use Rattle.rg_base.specs.declared.ty.Ty.TheVariants.{Int, Bool, Ref}
@@ -9,7 +10,8 @@ use Rattle.rg_base.specs.declared.object.Seen.{Seen}
 use Rattle.rg_base.specs.declared.fault.Code.TheVariants.{Unknown, Mismatch, Capability}
 use Rattle.rg_tree.specs.declared.rows.BinOp.{BinOp}
 use Rattle.rg_tree.specs.declared.rows.BinOp.TheVariants as op
-use Rattle.rg_tree.specs.Tree.{Name, Variable, Expr, number, boolean, nil, path, is_nil, neg, not, binary, StmtKind, stmt, declare, assign, call, swap, branch, while, enter, print, collect, return, Block, empty as none, then as more_of, Class}
+use Rattle.rg_tree.specs.Tree.{Name, Variable, Expr, number, boolean, nil, path, is_nil, neg, not, binary, StmtKind, stmt, declare, assign, call}
+use Rattle.rg_tree.specs.Tree.{swap, branch, while, enter, print, collect, return, Block, empty as none, then as more_of, Class}
 use Rattle.rg_rules.specs.Answers.{◌>>=◌}
 use Rattle.rg_rules.specs.Capabilities.{is_iso, below, pause, adapt}
 use Rattle.rg_rules.specs.Types.{fields_of, field_place, field_type}
@@ -26,11 +28,13 @@ use Rattle.rg_rules.proofs.PathLemmas.{look_up-ok}
 use Rattle.rg_rules.proofs.ExpressionLemmas.{binary-ok, operands-not_iso, judge_expr-env}
 use Rattle.rg_code.specs.Lowering.{type_in, field_number, type_behind, type_along}
 use Rattle.rg_code.specs.Places.{scope_of}
+use Rattle.rg_stack.proofs.Basics.{ok-is, err-ok}
 use Rattle.rg_stack.proofs.Walks.WalkLemmas.{FollowsPath, IsTruth, Logic, Agrees}
 use Rattle.rg_stack.proofs.Walks.PlaceLemmas.{GoesOn, AllGoOn}
 use Rattle.rg_stack.proofs.Statements.AssignLemmas.{HolderOwes}
 use Rattle.rg_stack.proofs.Statements.CallLemmas.{Gives}
-use Rattle.rg_stack.proofs.Judgements.FollowLemmas.{some-is, class_is, HasClass, place_if_type, read-class, field_of_type, follows_of}
+use Rattle.rg_stack.proofs.Basics.{some-is}
+use Rattle.rg_stack.proofs.Judgements.FollowLemmas.{class_is, HasClass, place_if_type, read-class, field_of_type, follows_of}
 
 -- whether a type is that of truth values
 abbrev pub is_bool : Ty → Truth
@@ -48,13 +52,8 @@ pub record Facts (classes : List Class) (env : Env) (store : List Seen) (locals 
   pub declared : (x : Variable) (e : Entry) → entry_of env x ≡ Some e → type_in (scope_of locals) x ≡ e.ty
   pub variables : (x : Variable) (e : Entry) → entry_of env x ≡ Some e → OfType store e.ty (value_in locals x)
   -- so has each field of an object
-  pub fields : (v : Val) (o : Seen) (f : Name) (t : Ty) → object_at store v ≡ Ok o → field_type classes o.class f ≡ Some t → OfType store t (field_value classes o f)
-
-ok-is : {A E : Type 0} (a b : A) → ◌≡◌ {A = Result A E} (Ok a) (Ok b) → a ≡ b
-ok-is a b e = ap (λ r. elim r [ Ok x ↦ x | Err t ↦ a ]) e
-
-err-ok : {A E : Type 0} (e : E) (a : A) → ◌≡◌ {A = Result A E} (Err e) (Ok a) → ⊥
-err-ok e a h = true≢false (sym (ap (λ r. elim r [ Ok x ↦ true | Err t ↦ false ]) h))
+  pub fields : (v : Val) (o : Seen) (f : Name) (t : Ty) → object_at store v ≡ Ok o → field_type classes o.class f ≡ Some t
+      → OfType store t (field_value classes o f)
 
 pause-class : (t : Ty) → class_is (pause t) ≡ class_is t
 pause-class Int = refl
@@ -92,8 +91,10 @@ pub record Reached (classes : List Class) (store : List Seen) (r d : Ty) (w : Va
   pub bool : is_bool r ≡ is_bool d
   pub value : OfType store d w
 
-pub reaches : (classes : List Class) (store : List Seen) (fs : List Name) (u t r : Ty) (v w : Val) → class_is u ≡ class_is t → is_bool u ≡ is_bool t → walk_fields classes u fs ≡ Ok r → OfType store t v
-    → ((v : Val) (o : Seen) (f : Name) (t : Ty) → object_at store v ≡ Ok o → field_type classes o.class f ≡ Some t → OfType store t (field_value classes o f))
+pub reaches : (classes : List Class) (store : List Seen) (fs : List Name) (u t r : Ty) (v w : Val) → class_is u ≡ class_is t → is_bool u ≡ is_bool t
+    → walk_fields classes u fs ≡ Ok r → OfType store t v
+    → ((v : Val) (o : Seen) (f : Name) (t : Ty) → object_at store v ≡ Ok o → field_type classes o.class f ≡ Some t
+    → OfType store t (field_value classes o f))
     → follow_fields classes store v fs ≡ Ok w → Reached classes store r (type_along classes t fs) w
 reaches classes store [] u t r v w same also walked has fields got = record {
   class = ap class_is (sym (ok-is u r walked)) ∙ same;
@@ -111,7 +112,8 @@ reaches classes store (f ∷ fs) u t r v w same also walked has fields got =
     reaches classes store fs p.0 (type_behind classes t f) r (field_value classes at.0 f) w
     (sym (read-class q.0.receiver q.0.ty p.0 q.2) ∙ ap class_is (sym behind))
     (sym (read-bool q.0.receiver q.0.ty p.0 q.2) ∙ ap is_bool (sym behind))
-    p.2 (subst (λ d. OfType store d (field_value classes at.0 f)) (sym behind) (fields v at.0 f q.0.ty at.1 (ap (λ c. field_type classes c f) class_of_o ∙ k.declared))) fields at.2
+    p.2 (subst (λ d. OfType store d (field_value classes at.0 f)) (sym behind)
+    (fields v at.0 f q.0.ty at.1 (ap (λ c. field_type classes c f) class_of_o ∙ k.declared))) fields at.2
 
 -- a value that was made as a truth value
 truth_is : (b : Truth) (v : Val) → ◌≡◌ {A = Computed} (Ok (val.Bool b)) (Ok v) → v ≡ val.Bool (as_bool v)
@@ -137,7 +139,8 @@ operated op.Mul x y v b e = absurd (true≢false (sym b))
 operated op.Div x y v b e = absurd (true≢false (sym b))
 operated op.Rem x y v b e = absurd (true≢false (sym b))
 
-right_by : (t : Truth) (o : BinOp) (x v : Val) (d : Computed) → below (result_type (among o)) Bool ≡ true → (if t then Ok (val.Bool (as_bool x)) else ◌>>=◌ d (λ y. operate o x y)) ≡ Ok v → v ≡ val.Bool (as_bool v)
+right_by : (t : Truth) (o : BinOp) (x v : Val) (d : Computed) → below (result_type (among o)) Bool ≡ true
+    → (if t then Ok (val.Bool (as_bool x)) else ◌>>=◌ d (λ y. operate o x y)) ≡ Ok v → v ≡ val.Bool (as_bool v)
 right_by true o x v d b e = truth_is (as_bool x) v e
 right_by false o x v d b e = let p = bind-ok d _ v e in operated o x p.0 v b p.2
 
@@ -157,13 +160,15 @@ logic_of op.Div P h = tt
 logic_of op.Rem P h = tt
 
 -- the type behind fields, by all but the last
-along-last : (classes : List Class) (t : Ty) (f : Name) (fs : List Name) → type_along classes t (f ∷ fs) ≡ type_behind classes (type_along classes t (all_but_last f fs)) (last_field f fs)
+along-last : (classes : List Class) (t : Ty) (f : Name) (fs : List Name) → type_along classes t (f ∷ fs)
+    ≡ type_behind classes (type_along classes t (all_but_last f fs)) (last_field f fs)
 along-last classes t f [] = refl
 along-last classes t f (g ∷ gs) = along-last classes (type_behind classes t f) g gs
 
 module _ (classes : List Class) (env : Env) (store : List Seen) (locals : List Local) (facts : Facts classes env store locals) where
   -- a walk that is allowed follows fields that are there
-  pub walk-follows : (x : Variable) (fs : List Name) (t : Ty) → walk classes env x fs ≡ Ok t → FollowsPath classes store locals (scope_of locals) (record { base = x; fields = fs })
+  pub walk-follows : (x : Variable) (fs : List Name) (t : Ty) → walk classes env x fs ≡ Ok t
+      → FollowsPath classes store locals (scope_of locals) (record { base = x; fields = fs })
   walk-follows x fs t h =
       let p = bind-ok (ok_or (entry_of env x) Unknown) _ t h in
       let e = p.0 in
@@ -173,25 +178,30 @@ module _ (classes : List Class) (env : Env) (store : List Seen) (locals : List L
       (subst (λ d. HasClass store d (value_in locals x)) (sym is) ((facts.variables x e there).0)) (λ v o f t a b. (facts.fields v o f t a b).0)
 
   -- and comes to a value of the declared type
-  pub walk-reaches : (x : Variable) (fs : List Name) (t : Ty) (w : Val) → walk classes env x fs ≡ Ok t → path_value classes store locals (record { base = x; fields = fs }) ≡ Ok w
+  pub walk-reaches : (x : Variable) (fs : List Name) (t : Ty) (w : Val) → walk classes env x fs ≡ Ok t
+      → path_value classes store locals (record { base = x; fields = fs }) ≡ Ok w
       → Reached classes store t (type_along classes (type_in (scope_of locals) x) fs) w
   walk-reaches x fs t w h got =
       let p = bind-ok (ok_or (entry_of env x) Unknown) _ t h in
       let e = p.0 in
       let there = ok_or-ok (entry_of env x) Unknown e p.1 in
       let is = facts.declared x e there in
-      reaches classes store fs (seen_type env e) (type_in (scope_of locals) x) t (value_in locals x) w (seen-class env e ∙ ap class_is (sym is)) (seen-bool env e ∙ ap is_bool (sym is)) p.2
+      reaches classes store fs (seen_type env e) (type_in (scope_of locals) x) t (value_in locals x) w (seen-class env e ∙ ap class_is (sym is))
+      (seen-bool env e ∙ ap is_bool (sym is)) p.2
       (subst (λ d. OfType store d (value_in locals x)) (sym is) (facts.variables x e there)) facts.fields got
 
-  path-follows : (x : Variable) (fs : List Name) (j : Judged) → judge_path classes env x fs ≡ Ok j → FollowsPath classes store locals (scope_of locals) (record { base = x; fields = fs })
+  path-follows : (x : Variable) (fs : List Name) (j : Judged) → judge_path classes env x fs ≡ Ok j
+      → FollowsPath classes store locals (scope_of locals) (record { base = x; fields = fs })
   path-follows x [] j h = tt
   path-follows x (f ∷ fs) j h = let p = bind-ok (walk classes env x (f ∷ fs)) _ j h in walk-follows x (f ∷ fs) p.0 p.1
 
-  nil-follows : (x : Variable) (fs : List Name) (u : Unit {0}) → judge_is_nil classes env x fs ≡ Ok u → FollowsPath classes store locals (scope_of locals) (record { base = x; fields = fs })
+  nil-follows : (x : Variable) (fs : List Name) (u : Unit {0}) → judge_is_nil classes env x fs ≡ Ok u
+      → FollowsPath classes store locals (scope_of locals) (record { base = x; fields = fs })
   nil-follows x [] u h = tt
   nil-follows x (f ∷ fs) u h = let p = bind-ok (walk classes env x (f ∷ fs)) _ u h in walk-follows x (f ∷ fs) p.0 p.1
 
-  path-truth : (x : Variable) (fs : List Name) (j : Judged) → judge_path classes env x fs ≡ Ok j → is_bool j.ty ≡ true → IsTruth (path_value classes store locals (record { base = x; fields = fs }))
+  path-truth : (x : Variable) (fs : List Name) (j : Judged) → judge_path classes env x fs ≡ Ok j → is_bool j.ty ≡ true
+      → IsTruth (path_value classes store locals (record { base = x; fields = fs }))
   path-truth x [] j h b v got =
       let p = bind-ok (ok_or (entry_of env x) Unknown) _ j h in
       let q = test-then (available p.0) _ _ j p.2 in
@@ -249,10 +259,12 @@ module _ (classes : List Class) (env : Env) (store : List Seen) (locals : List L
       )
 
   -- the premises on the object that has a field
-  pub holder-follows : (x : Variable) (f : Name) (fs : List Name) (r : Looked) → walk_receiver classes env x f fs ≡ Ok r → FollowsPath classes store locals (scope_of locals) (record { base = x; fields = all_but_last f fs })
+  pub holder-follows : (x : Variable) (f : Name) (fs : List Name) (r : Looked) → walk_receiver classes env x f fs ≡ Ok r
+      → FollowsPath classes store locals (scope_of locals) (record { base = x; fields = all_but_last f fs })
   holder-follows x f fs r h = let p = bind-ok (walk classes env x (all_but_last f fs)) _ r h in walk-follows x (all_but_last f fs) p.0 p.1
 
-  pub holder-owes : (x : Variable) (f : Name) (fs : List Name) (r : Looked) → walk_receiver classes env x f fs ≡ Ok r → HolderOwes classes store locals (scope_of locals) x f fs
+  pub holder-owes : (x : Variable) (f : Name) (fs : List Name) (r : Looked) → walk_receiver classes env x f fs ≡ Ok r
+      → HolderOwes classes store locals (scope_of locals) x f fs
   holder-owes x f fs r h u o got there =
       let g = last_field f fs in
       let p = bind-ok (walk classes env x (all_but_last f fs)) _ r h in
@@ -266,7 +278,8 @@ module _ (classes : List Class) (env : Env) (store : List Seen) (locals : List L
       ap (λ c. field_place (fields_of classes c) g) class_of_o ∙ place.1 ∙ ap Some (sym number)
 
   -- and the declared type of that field
-  pub holder-type : (x : Variable) (f : Name) (fs : List Name) (r : Looked) (u : Val) (o : Seen) → walk_receiver classes env x f fs ≡ Ok r → path_value classes store locals (record { base = x; fields = all_but_last f fs }) ≡ Ok u → object_at store u ≡ Ok o
+  pub holder-type : (x : Variable) (f : Name) (fs : List Name) (r : Looked) (u : Val) (o : Seen) → walk_receiver classes env x f fs ≡ Ok r
+      → path_value classes store locals (record { base = x; fields = all_but_last f fs }) ≡ Ok u → object_at store u ≡ Ok o
       → (field_type classes o.class (last_field f fs) ≡ Some r.ty) × (type_along classes (type_in (scope_of locals) x) (f ∷ fs) ≡ r.ty)
   holder-type x f fs r u o h got there =
       let g = last_field f fs in
@@ -277,7 +290,8 @@ module _ (classes : List Class) (env : Env) (store : List Seen) (locals : List L
       let class_of_d : class_is d ≡ Some k.class = sym at.class ∙ ap class_is k.reference in
       let class_of_o : o.class ≡ k.class = some-is o.class k.class (sym (at.value.0 o there) ∙ class_of_d) in (
         ap (λ c. field_type classes c g) class_of_o ∙ k.declared,
-        along-last classes (type_in (scope_of locals) x) f fs ∙ (field_of_type classes d g k.class class_of_d).1 ∙ ap (λ d. unwrap_or d Int) k.declared,
+        along-last classes (type_in (scope_of locals) x) f fs ∙ (field_of_type classes d g k.class class_of_d).1
+            ∙ ap (λ d. unwrap_or d Int) k.declared,
       )
 
 -- Blocks
@@ -319,7 +333,8 @@ return_of collect h = absurd (true≢false (sym h))
 return_of (return e) h = (e, refl)
 
 -- a body with a result gives it by its last statement
-pub block-gives : (classes : List Class) (result : Option Ty) (b : Block) (env out : Env) → judge_block classes result env b ≡ Ok out → ends_in_return b ≡ true → Gives b
+pub block-gives : (classes : List Class) (result : Option Ty) (b : Block) (env out : Env) → judge_block classes result env b ≡ Ok out
+    → ends_in_return b ≡ true → Gives b
 block-gives classes result none env out h last = absurd (true≢false (sym last))
 block-gives classes result (more_of (stmt line k) none) env out h last = let r = return_of k last in inl (r.0, r.1, refl)
 block-gives classes result (more_of (stmt line k) (more_of (stmt here next) b)) env out h last =

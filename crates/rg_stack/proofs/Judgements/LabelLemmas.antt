@@ -1,5 +1,6 @@
 -- The regions beneath one, found by labels and by owner references, are the same where objects fit.
-use Rattle.std.proofs.Common.{◌≡◌, ℕ, zero, suc, true, false, true≢false, ◌⊎◌, inl, inr, Bool as Truth, if◌then◌else◌, List, [], ◌∷◌, ◌++◌, Option, Some, None, option_and_then, refl, sym, ap, subst, ◌∙◌, arith, slice_get}
+use Rattle.std.proofs.Common.{◌≡◌, ℕ, zero, suc, true, false, true≢false, ◌⊎◌, inl, inr, Bool as Truth, if◌then◌else◌, List, [], ◌∷◌, ◌++◌, Option}
+use Rattle.std.proofs.Common.{Some, None, option_and_then, refl, sym, ap, subst, ◌∙◌, arith, slice_get}
 use Rattle.std.specs.Prelude.{filter_map, flat_map}
 use Rattle.rg_base.specs.declared.words.Cap.TheVariants.{Mut, Tmp, Paused, Imm, Iso}
 use Rattle.rg_base.specs.declared.ty.Ty.{Ty}
@@ -13,20 +14,20 @@ use Rattle.rg_tree.specs.Tree.{Field, Class}
 use Rattle.rg_rules.specs.Capabilities.{is_iso}
 use Rattle.rg_rules.specs.Types.{type_of, fields_of}
 use Rattle.rg_rules.specs.State.{Window}
-use Rattle.rg_rules.specs.Regions.{region_of, region_at, address, owned, owned_as, among, in_regions, led_from, joined_with, beneath, relabelled_object, relabelled}
+use Rattle.rg_rules.specs.Regions.{region_of, region_at, address, owned, owned_as, among, in_regions, led_from, joined_with, beneath}
+use Rattle.rg_rules.specs.Regions.{relabelled_object, relabelled}
 use Rattle.rg_rules.specs.Owners.{owned_by_slot, owned_by_field}
 use Rattle.rg_sound.specs.Values.{MeetsBy}
 use Rattle.rg_sound.specs.Objects.{FieldFits, ObjectsFit}
 use Rattle.rg_sound.proofs.HeldLemmas.{slot-meets}
-use Rattle.rg_sound.proofs.Stores.MemberLemmas.{In, among-in, in-among, not-among, among-not, in-left, in-right, in-split, filter-in, filter-back, joined-old, joined-new, joined-back}
+use Rattle.rg_sound.proofs.Stores.MemberLemmas.{In, among-in, in-among, not-among, among-not, in-left, in-right, in-split, filter-in, filter-back}
+use Rattle.rg_sound.proofs.Stores.MemberLemmas.{joined-old, joined-new, joined-back}
 use Rattle.rg_sound.proofs.Stores.BeneathLemmas.{Led, led-in, led-back}
+use Rattle.rg_stack.proofs.Basics.{some-is}
 use Rattle.rg_stack.specs.Effects.{led_by_labels, beneath_by_labels}
 
 none_some : {A : Type 0} {B : Type 0} (a : A) → None ≡ Some a → B
 none_some a e = grind arith
-
-some_same : {A : Type 0} (a b : A) → ◌≡◌ {A = Option A} (Some a) (Some b) → a ≡ b
-some_same a b e = grind arith
 
 -- two lists have the same numbers
 pub record Same (ns ms : List ℕ) : Type 0 where
@@ -89,7 +90,7 @@ address_back (val.Obj b ∷ vs) a (inr i) = let h = address_back vs a i in (suc 
 
 address_in : (vs : List Val) (k a : ℕ) → slice_get vs k ≡ Some (val.Obj a) → In a (filter_map address vs)
 address_in [] k a is = none_some (val.Obj a) is
-address_in (v ∷ vs) zero a is = subst (λ v. In a (filter_map address (v ∷ vs))) (sym (some_same v (val.Obj a) is)) (inl refl)
+address_in (v ∷ vs) zero a is = subst (λ v. In a (filter_map address (v ∷ vs))) (sym (some-is v (val.Obj a) is)) (inl refl)
 address_in (val.Nil ∷ vs) (suc k) a is = address_in vs k a is
 address_in (val.Int z ∷ vs) (suc k) a is = address_in vs k a is
 address_in (val.Bool b ∷ vs) (suc k) a is = address_in vs k a is
@@ -100,7 +101,8 @@ fields_back store vs n i =
     let a = filter-back (region_at store) (filter_map address vs) n i in
     let k = address_back vs a.0 a.1 in record { field = k.0; address = a.0; value = k.1; leads = a.2 }
 
-fields_in : (store : List Seen) (vs : List Val) (n k a : ℕ) → slice_get vs k ≡ Some (val.Obj a) → region_at store a ≡ Some n → In n (filter_map (region_at store) (filter_map address vs))
+fields_in : (store : List Seen) (vs : List Val) (n k a : ℕ) → slice_get vs k ≡ Some (val.Obj a) → region_at store a ≡ Some n
+    → In n (filter_map (region_at store) (filter_map address vs))
 fields_in store vs n k a is leads = filter-in (region_at store) (filter_map address vs) a n (address_in vs k a is) leads
 
 -- numbers that a region's objects lead to
@@ -109,12 +111,32 @@ labels_back store [] r n i = absurd i
 labels_back store (o ∷ os) r n i = by (in_regions (r ∷ []) o.label) refl i (λ i. labels_back store os r n i)
   where
     later : LeadsTo store os r n → LeadsTo store (o ∷ os) r n
-    later h = record { object = suc h.object; holder = h.holder; there = h.there; lies = h.lies; field = h.field; address = h.address; value = h.value; leads = h.leads }
+    later h = record {
+      object = suc h.object;
+      holder = h.holder;
+      there = h.there;
+      lies = h.lies;
+      field = h.field;
+      address = h.address;
+      value =
+          h.value;
+      leads = h.leads;
+    }
 
     first : in_regions (r ∷ []) o.label ≡ true → FieldLeads store o.fields n → LeadsTo store (o ∷ os) r n
-    first e h = record { object = 0; holder = o; there = refl; lies = of_one r o.label e; field = h.field; address = h.address; value = h.value; leads = h.leads }
+    first e h = record {
+      object = 0;
+      holder = o;
+      there = refl;
+      lies = of_one r o.label e;
+      field = h.field;
+      address = h.address;
+      value = h.value;
+      leads = h.leads;
+    }
 
-    by : (b : Truth) → in_regions (r ∷ []) o.label ≡ b → In n (if b then filter_map (region_at store) (filter_map address o.fields) ++ led_by_labels store os r else led_by_labels store os r)
+    by : (b : Truth) → in_regions (r ∷ []) o.label ≡ b
+        → In n (if b then filter_map (region_at store) (filter_map address o.fields) ++ led_by_labels store os r else led_by_labels store os r)
         → (In n (led_by_labels store os r) → LeadsTo store os r n) → LeadsTo store (o ∷ os) r n
     by false e i rest = later (rest i)
     by true e i rest = elim (in-split (filter_map (region_at store) (filter_map address o.fields)) (led_by_labels store os r) n i) [
@@ -122,15 +144,19 @@ labels_back store (o ∷ os) r n i = by (in_regions (r ∷ []) o.label) refl i (
       | inr there ↦ later (rest there)
     ]
 
-labels_in : (store os : List Seen) (r n k : ℕ) (o : Seen) → slice_get os k ≡ Some o → o.label ≡ Region r → In n (filter_map (region_at store) (filter_map address o.fields)) → In n (led_by_labels store os r)
+labels_in : (store os : List Seen) (r n k : ℕ) (o : Seen) → slice_get os k ≡ Some o → o.label ≡ Region r
+    → In n (filter_map (region_at store) (filter_map address o.fields)) → In n (led_by_labels store os r)
 labels_in store [] r n k o there lies i = none_some o there
 labels_in store (p ∷ os) r n zero o there lies i =
-    let same : p ≡ o = some_same p o there in
-    subst (λ b. In n (if b then filter_map (region_at store) (filter_map address p.fields) ++ led_by_labels store os r else led_by_labels store os r)) (sym (one_of r p.label (ap (λ (q : Seen). q.label) same ∙ lies)))
-    (in-left (filter_map (region_at store) (filter_map address p.fields)) (led_by_labels store os r) n (subst (λ (q : Seen). In n (filter_map (region_at store) (filter_map address q.fields))) (sym same) i))
+    let same : p ≡ o = some-is p o there in
+    subst (λ b. In n (if b then filter_map (region_at store) (filter_map address p.fields) ++ led_by_labels store os r
+    else led_by_labels store os r)) (sym (one_of r p.label (ap (λ (q : Seen). q.label) same ∙ lies)))
+    (in-left (filter_map (region_at store) (filter_map address p.fields)) (led_by_labels store os r) n
+    (subst (λ (q : Seen). In n (filter_map (region_at store) (filter_map address q.fields))) (sym same) i))
 labels_in store (p ∷ os) r n (suc k) o there lies i = by (in_regions (r ∷ []) p.label) (labels_in store os r n k o there lies i)
   where
-    by : (b : Truth) → In n (led_by_labels store os r) → In n (if b then filter_map (region_at store) (filter_map address p.fields) ++ led_by_labels store os r else led_by_labels store os r)
+    by : (b : Truth) → In n (led_by_labels store os r)
+        → In n (if b then filter_map (region_at store) (filter_map address p.fields) ++ led_by_labels store os r else led_by_labels store os r)
     by false i = i
     by true i = in-right (filter_map (region_at store) (filter_map address p.fields)) (led_by_labels store os r) n i
 
@@ -151,19 +177,23 @@ module _ (classes : List Class) (store : List Seen) (windows : List Window) (obj
   owned_value : (t : Ty) (a : ℕ) → is_iso t ≡ true → owned t (val.Obj a) ≡ Some a
   owned_value t a e = ap (λ b. if b then Some a else None) e
 
-  by_type : (r n a : ℕ) (t : Ty) → MeetsBy store (FieldFits windows (Region r)) t (val.Obj a) → region_at store a ≡ Some n → (r ≡ n) ⊎ (is_iso t ≡ true)
+  by_type : (r n a : ℕ) (t : Ty) → MeetsBy store (FieldFits windows (Region r)) t (val.Obj a) → region_at store a ≡ Some n → (r ≡ n)
+      ⊎ (is_iso t ≡ true)
   by_type r n a Int m leads = absurd m
   by_type r n a Bool m leads = absurd m
-  by_type r n a (Ref Mut c) m leads = inl (some_same r n (sym (ap (option_and_then (λ (o : Seen). region_of o.label)) m.there ∙ ap region_of m.label_fits) ∙ leads))
+  by_type r n a (Ref Mut c) m leads = inl (some-is r n
+      (sym (ap (option_and_then (λ (o : Seen). region_of o.label)) m.there ∙ ap region_of m.label_fits) ∙ leads))
   by_type r n a (Ref Tmp c) m leads = absurd m.label_fits
   by_type r n a (Ref Paused c) m leads = absurd m.label_fits
-  by_type r n a (Ref Imm c) m leads = none_some n (sym (ap (option_and_then (λ (o : Seen). region_of o.label)) m.there ∙ ap region_of m.label_fits) ∙ leads)
+  by_type r n a (Ref Imm c) m leads = none_some n (sym (ap (option_and_then (λ (o : Seen). region_of o.label)) m.there ∙ ap region_of m.label_fits)
+      ∙ leads)
   by_type r n a (Ref Iso c) m leads = inr refl
 
   to_owner : (qs : List ℕ) (r n : ℕ) → In r qs → LeadsTo store store r n → In n qs ⊎ In n (led_from classes store (in_regions qs) store)
   to_owner qs r n i h =
       let fit = objects h.object h.holder h.there in
-      let slot = slot-meets classes store (FieldFits windows h.holder.label) (fields_of classes h.holder.class) h.holder.fields h.field (val.Obj h.address) fit.fields h.value in
+      let slot = slot-meets classes store (FieldFits windows h.holder.label) (fields_of classes h.holder.class) h.holder.fields h.field
+      (val.Obj h.address) fit.fields h.value in
       let meets = subst (λ l. MeetsBy store (FieldFits windows l) (type_of classes slot.field.ty) (val.Obj h.address)) h.lies slot.meets in
       elim (by_type r n h.address (type_of classes slot.field.ty) meets h.leads) [
         | inl same ↦ inl (subst (λ n. In n qs) same i)
@@ -177,9 +207,11 @@ module _ (classes : List Class) (store : List Seen) (windows : List Window) (obj
         }))
       ]
     where
-      owns : (f : Field) → slice_get (fields_of classes h.holder.class) h.field ≡ Some f → is_iso (type_of classes f.ty) ≡ true → owned_by_field classes h.holder h.field ≡ Some h.address
+      owns : (f : Field) → slice_get (fields_of classes h.holder.class) h.field ≡ Some f → is_iso (type_of classes f.ty) ≡ true
+          → owned_by_field classes h.holder h.field ≡ Some h.address
       owns f is iso =
-          ap (λ l. elim l [ Region r ↦ owned_by_slot classes h.holder h.field | Temp n ↦ owned_by_slot classes h.holder h.field | Frozen ↦ None ]) h.lies
+          ap (λ l. elim l [ Region r ↦ owned_by_slot classes h.holder h.field | Temp n ↦ owned_by_slot classes h.holder h.field | Frozen ↦ None ])
+          h.lies
           ∙ ap (option_and_then (λ (f : Field). option_and_then (owned_as classes f) (slice_get h.holder.fields h.field))) is
           ∙ ap (option_and_then (owned_as classes f)) h.value
           ∙ owned_value (type_of classes f.ty) h.address iso
@@ -193,17 +225,20 @@ module _ (classes : List Class) (store : List Seen) (windows : List Window) (obj
   owned_obj true val.Nil a e = none_some a e
   owned_obj true (val.Int z) a e = none_some a e
   owned_obj true (val.Bool b) a e = none_some a e
-  owned_obj true (val.Obj b) a e = ap val.Obj (some_same b a e)
+  owned_obj true (val.Obj b) a e = ap val.Obj (some-is b a e)
 
   owner_value : (f : Field) (v : Option Val) (a : ℕ) → option_and_then (owned_as classes f) v ≡ Some a → v ≡ Some (val.Obj a)
   owner_value f None a e = none_some a e
   owner_value f (Some v) a e = ap Some (owned_obj (is_iso (type_of classes f.ty)) v a e)
 
-  slot_value : (o : Seen) (k a : ℕ) (f : Option Field) → option_and_then (λ (f : Field). option_and_then (owned_as classes f) (slice_get o.fields k)) f ≡ Some a → slice_get o.fields k ≡ Some (val.Obj a)
+  slot_value : (o : Seen) (k a : ℕ) (f : Option Field)
+      → option_and_then (λ (f : Field). option_and_then (owned_as classes f) (slice_get o.fields k)) f ≡ Some a → slice_get o.fields k
+      ≡ Some (val.Obj a)
   slot_value o k a None e = none_some a e
   slot_value o k a (Some f) e = owner_value f (slice_get o.fields k) a e
 
-  field_value_is : (o : Seen) (k a : ℕ) (l : Label) → elim l [ Region r ↦ owned_by_slot classes o k | Temp n ↦ owned_by_slot classes o k | Frozen ↦ None ] ≡ Some a → slice_get o.fields k ≡ Some (val.Obj a)
+  field_value_is : (o : Seen) (k a : ℕ) (l : Label) → elim l
+      [ Region r ↦ owned_by_slot classes o k | Temp n ↦ owned_by_slot classes o k | Frozen ↦ None ] ≡ Some a → slice_get o.fields k ≡ Some (val.Obj a)
   field_value_is o k a (Region r) e = slot_value o k a (slice_get (fields_of classes o.class) k) e
   field_value_is o k a (Temp n) e = slot_value o k a (slice_get (fields_of classes o.class) k) e
   field_value_is o k a Frozen e = none_some a e
@@ -211,18 +246,22 @@ module _ (classes : List Class) (store : List Seen) (windows : List Window) (obj
   from_owner : (rs qs : List ℕ) (n : ℕ) → Same rs qs → Led classes store (in_regions qs) store n → In n (flat_map (led_by_labels store store) rs)
   from_owner rs qs n same h = by_label h.holder.label refl h.passes
     where
-      by_address : (r : ℕ) → h.holder.label ≡ Region r → (a : Option ℕ) → owned_by_field classes h.holder h.field ≡ a → option_and_then (region_at store) a ≡ Some n → In n (led_by_labels store store r)
+      by_address : (r : ℕ) → h.holder.label ≡ Region r → (a : Option ℕ) → owned_by_field classes h.holder h.field ≡ a
+          → option_and_then (region_at store) a ≡ Some n → In n (led_by_labels store store r)
       by_address r lies None owns e = none_some n e
       by_address r lies (Some a) owns e =
-          labels_in store store r n h.object h.holder h.there lies (fields_in store h.holder.fields n h.field a (field_value_is h.holder h.field a h.holder.label owns) e)
+          labels_in store store r n h.object h.holder h.there lies
+          (fields_in store h.holder.fields n h.field a (field_value_is h.holder h.field a h.holder.label owns) e)
 
       by_label : (l : Label) → h.holder.label ≡ l → in_regions qs l ≡ true → In n (flat_map (led_by_labels store store) rs)
       by_label (Region r) lies e =
-          flat_in (led_by_labels store store) rs r n (same.back r (among-in qs r e)) (by_address r lies (owned_by_field classes h.holder h.field) refl h.leads)
+          flat_in (led_by_labels store store) rs r n (same.back r (among-in qs r e))
+          (by_address r lies (owned_by_field classes h.holder h.field) refl h.leads)
       by_label (Temp m) lies e = absurd (true≢false (sym e))
       by_label Frozen lies e = absurd (true≢false (sym e))
 
-  one_more : (rs qs : List ℕ) → Same rs qs → Same (joined_with rs (flat_map (led_by_labels store store) rs)) (joined_with qs (led_from classes store (in_regions qs) store))
+  one_more : (rs qs : List ℕ) → Same rs qs → Same (joined_with rs (flat_map (led_by_labels store store) rs))
+      (joined_with qs (led_from classes store (in_regions qs) store))
   one_more rs qs same = record {
     to = λ n i. elim (joined-back rs (flat_map (led_by_labels store store) rs) n i) [
       | inl old ↦ joined-old qs (led_from classes store (in_regions qs) store) n (same.to n old)
@@ -234,15 +273,19 @@ module _ (classes : List Class) (store : List Seen) (windows : List Window) (obj
     ];
     back = λ n i. elim (joined-back qs (led_from classes store (in_regions qs) store) n i) [
       | inl old ↦ joined-old rs (flat_map (led_by_labels store store) rs) n (same.back n old)
-      | inr new ↦ joined-new rs (flat_map (led_by_labels store store) rs) n (from_owner rs qs n same (led-back classes store (in_regions qs) store n new))
+      | inr new ↦ joined-new rs (flat_map (led_by_labels store store) rs) n
+          (from_owner rs qs n same (led-back classes store (in_regions qs) store n new))
     ];
   }
 
   beneath_same : (k : ℕ) (rs qs : List ℕ) → Same rs qs → Same (beneath_by_labels store k rs) (beneath classes store k qs)
   beneath_same zero rs qs same = same
-  beneath_same (suc k) rs qs same = beneath_same k (joined_with rs (flat_map (led_by_labels store store) rs)) (joined_with qs (led_from classes store (in_regions qs) store)) (one_more rs qs same)
+  beneath_same (suc k) rs qs same = beneath_same k (joined_with rs (flat_map (led_by_labels store store) rs))
+      (joined_with qs (led_from classes store (in_regions qs) store)) (one_more rs qs same)
 
   -- so the same objects get a label
-  pub by-labels : (k r : ℕ) (label : Label) → relabelled (beneath_by_labels store k (r ∷ [])) label store ≡ relabelled (beneath classes store k (r ∷ [])) label store
+  pub by-labels : (k r : ℕ) (label : Label) → relabelled (beneath_by_labels store k (r ∷ [])) label store
+      ≡ relabelled (beneath classes store k (r ∷ [])) label store
   by-labels k r label =
-      relabelled-same (beneath_by_labels store k (r ∷ [])) (beneath classes store k (r ∷ [])) label store (beneath_same k (r ∷ []) (r ∷ []) (record { to = λ n i. i; back = λ n i. i }))
+      relabelled-same (beneath_by_labels store k (r ∷ [])) (beneath classes store k (r ∷ [])) label store
+      (beneath_same k (r ∷ []) (r ∷ []) (record { to = λ n i. i; back = λ n i. i }))

@@ -1,5 +1,6 @@
 -- What stands behind the first item, and beneath the topmost frame and window, in a state that fits.
-use Rattle.std.proofs.Common.{◌≡◌, ℕ, true, false, true≢false, ◌⊎◌, inl, inr, List, [], ◌∷◌, ◌++◌, length, map, Option, Some, refl, sym, ap, subst, ◌∙◌, append_assoc, unwrap_or, slice_get, None, arith}
+use Rattle.std.proofs.Common.{◌≡◌, ℕ, true, false, true≢false, ◌⊎◌, inl, inr, List, [], ◌∷◌, ◌++◌, length, map, Option, Some, refl, sym, ap, subst}
+use Rattle.std.proofs.Common.{◌∙◌, append_assoc, unwrap_or, slice_get, None, arith}
 use Rattle.std.specs.Prelude.{Bool as Truth, drop}
 use Rattle.std.specs.Result.{result_ok}
 use Rattle.rg_base.specs.declared.ty.Ty.{Ty}
@@ -24,7 +25,8 @@ items_end : (b : Block) (after : List Item) → (front : List Item) × (items_of
 items_end none after = ([], refl)
 items_end (more_of s b) after = let h = items_end b after in (Do s ∷ h.0, ap (λ l. Do s ∷ l) h.1)
 
-spot-ends : (classes : List Class) (result : Option Ty) (env : Env) (b : Block) (after : List Item) (round : List Path) (p : Point) (s : Spot) → spot_in classes result env b after round p ≡ Some s
+pub spot-ends : (classes : List Class) (result : Option Ty) (env : Env) (b : Block) (after : List Item) (round : List Path) (p : Point) (s : Spot)
+    → spot_in classes result env b after round p ≡ Some s
     → (front : List Item) × (s.items ≡ front ++ after)
 spot-ends classes result env b after round here s is =
     let same : record { env = env; items = items_of b after; enters = round } ≡ s = grind arith in
@@ -47,11 +49,11 @@ spot-ends classes result env (more_of (stmt line k) b) after round (inside side 
 
 -- items are left
 
-left-front : (xs ys : List Item) → SomeLeft xs → SomeLeft (xs ++ ys)
+pub left-front : (xs ys : List Item) → SomeLeft xs → SomeLeft (xs ++ ys)
 left-front [] ys h = absurd h
 left-front (x ∷ xs) ys h = tt
 
-left-back : (xs ys : List Item) → SomeLeft ys → SomeLeft (xs ++ ys)
+pub left-back : (xs ys : List Item) → SomeLeft ys → SomeLeft (xs ++ ys)
 left-back [] ys h = h
 left-back (x ∷ xs) ys h = tt
 
@@ -61,7 +63,8 @@ left-last first last more [] e other = absurd (other (ap (λ l. unwrap_or (slice
 left-last first last more (x ∷ xs) e other = subst SomeLeft (sym (ap (drop 1) e)) (left-back xs (last ∷ []) tt)
 
 -- behind an item of main's body that isn't its end
-main-left : (t : Tree) (b : Body) (p : Point) (s : Spot) (first : Item) (more : List Item) → b ≡ main_body t → spot_at t.classes b p ≡ Some s → s.items ≡ first ∷ more → (first ≡ EndAt 0 → ⊥) → SomeLeft more
+main-left : (t : Tree) (b : Body) (p : Point) (s : Spot) (first : Item) (more : List Item) → b ≡ main_body t → spot_at t.classes b p ≡ Some s
+    → s.items ≡ first ∷ more → (first ≡ EndAt 0 → ⊥) → SomeLeft more
 main-left t b p s first more is at begins other =
     let here : spot_at t.classes (main_body t) p ≡ Some s = subst (λ b. spot_at t.classes b p ≡ Some s) is at in
     let h = spot-ends t.classes (main_body t).result (main_body t).front (main_body t).block (main_body t).after [] p s here in
@@ -84,7 +87,8 @@ pub back-other : Back ≡ EndAt 0 → ⊥
 back-other e = true≢false (sym (ap is_end e))
 
 -- beneath a frame that was called
-beneath-left : (t : Tree) (f : Frame) (fs : List Frame) (ws : List Window) (items : List Item) (b : Body) (target : Target) → Beneath t (f ∷ fs) ws items b target → SomeLeft items
+pub beneath-left : (t : Tree) (f : Frame) (fs : List Frame) (ws : List Window) (items : List Item) (b : Body) (target : Target)
+    → Beneath t (f ∷ fs) ws items b target → SomeLeft items
 beneath-left t f [] ws items b target h = subst SomeLeft (sym h.6) (left-front h.3 h.4 (mine_left h.7))
   where
     mine_left : Waits t.classes h.0 f 0 h.1 h.3 b target ⊎ WaitsEmpty t h.0 f h.1 h.3 b target → SomeLeft h.3
@@ -93,15 +97,18 @@ beneath-left t f [] ws items b target h = subst SomeLeft (sym h.6) (left-front h
 beneath-left t f (g ∷ gs) ws items b target h = subst SomeLeft (sym h.6) (left-back h.3 h.4 (beneath-left t g gs h.2 h.4 h.0 f.target h.8))
 
 -- behind the first item of a running body that isn't main's end
-pub running-left : (t : Tree) (top : Frame) (lower : List Frame) (ws : List Window) (first : Item) (rest : List Item) → Running t top lower ws (first ∷ rest) → (first ≡ EndAt 0 → ⊥) → SomeLeft rest
+pub running-left : (t : Tree) (top : Frame) (lower : List Frame) (ws : List Window) (first : Item) (rest : List Item)
+    → Running t top lower ws (first ∷ rest) → (first ≡ EndAt 0 → ⊥) → SomeLeft rest
 running-left t top [] ws first rest h other =
     let same : h.first ≡ first = ap (λ l. unwrap_or (slice_get l 0) h.first) (sym h.items_are) in
     subst SomeLeft (sym (ap (drop 1) h.items_are))
     (left-front h.more h.rest (main-left t h.body h.point h.spot h.first h.more h.beneath.0 h.spot_is h.begins (λ e. other (sym same ∙ e))))
-running-left t top (f ∷ fs) ws first rest h other = subst SomeLeft (sym (ap (drop 1) h.items_are)) (left-back h.more h.rest (beneath-left t f fs h.under h.rest h.body top.target h.beneath))
+running-left t top (f ∷ fs) ws first rest h other = subst SomeLeft (sym (ap (drop 1) h.items_are))
+    (left-back h.more h.rest (beneath-left t f fs h.under h.rest h.body top.target h.beneath))
 
 -- nothing in main's body ends its frame
-pub main-stays : (t : Tree) → Accepted t → (top : Frame) (ws : List Window) (first : Item) (rest : List Item) → Running t top [] ws (first ∷ rest) → leaves_frame (first ∷ rest) ≡ true → ⊥
+pub main-stays : (t : Tree) → Accepted t → (top : Frame) (ws : List Window) (first : Item) (rest : List Item) → Running t top [] ws (first ∷ rest)
+    → leaves_frame (first ∷ rest) ≡ true → ⊥
 main-stays t accepted top ws first rest h leaves =
     let b = body-judged t accepted [] h.under h.rest (main_body t) top.target (refl, h.beneath.1, h.beneath.2, h.beneath.3) in
     let at : spot_at t.classes (main_body t) h.point ≡ Some h.spot = subst (λ b. spot_at t.classes b h.point ≡ Some h.spot) h.beneath.0 h.spot_is in
@@ -136,9 +143,11 @@ two_of [] under a b = absurd (true≢false (sym (ap (λ l. elim l [ [] ↦ false
 two_of (w ∷ []) under a b = record { top = w; next = b.top; under = b.under; are = ap (λ l. w ∷ l) b.are }
 two_of (w ∷ v ∷ ws) under a b = record { top = w; next = v; under = ws ++ under; are = refl }
 
-pub leaving-windows : (t : Tree) (top : Frame) (lower : List Frame) (ws : List Window) (k : ℕ) (rest : List Item) → Running t top lower ws (LeaveAt k ∷ rest) → TwoWindows ws
+pub leaving-windows : (t : Tree) (top : Frame) (lower : List Frame) (ws : List Window) (k : ℕ) (rest : List Item)
+    → Running t top lower ws (LeaveAt k ∷ rest) → TwoWindows ws
 leaving-windows t top lower ws k rest h =
     let first : h.first ≡ LeaveAt k = ap (λ l. unwrap_or (slice_get l 0) (LeaveAt k)) (sym h.items_are) in
     let at : leaves h.spot.items ≡ k ∷ leaves h.more = ap leaves (h.begins ∙ ap (λ i. i ∷ h.more) first) in
     subst TwoWindows (sym h.windows_are)
-    (two_of h.own h.under (own_there h.own k (leaves h.more) (h.stands.bases ∙ at)) (beneath-window t lower h.under h.rest h.body top.target h.beneath))
+    (two_of h.own h.under (own_there h.own k (leaves h.more) (h.stands.bases ∙ at))
+    (beneath-window t lower h.under h.rest h.body top.target h.beneath))

@@ -1,5 +1,6 @@
 -- The premises of calls, right sides and entries, from the judgements of a statement and the invariant.
-use Rattle.std.proofs.Common.{◌≡◌, ℕ, suc, ◌+◌, ◌≤◌, true, false, true≢false, Bool as Truth, ◌&&◌, ◌==◌, if◌then◌else◌, List, [], ◌∷◌, length, map, find, Option, Some, None, ok_or, Ok, refl, sym, ap, subst, ◌∙◌, arith, slice_get, unwrap_or}
+use Rattle.std.proofs.Common.{◌≡◌, ℕ, suc, ◌+◌, ◌≤◌, true, false, true≢false, Bool as Truth, ◌&&◌, ◌==◌, if◌then◌else◌, List, [], ◌∷◌, length, map}
+use Rattle.std.proofs.Common.{find, Option, Some, None, ok_or, Ok, refl, sym, ap, subst, ◌∙◌, arith, slice_get, unwrap_or}
 use Rattle.std.specs.Prelude.{bytes_eq, not, nat_lt, max, filter_map}
 use Rattle.std.proofs.lemmas.Option.{none-some}
 use Rattle.std.proofs.lemmas.List.{length-map}
@@ -10,7 +11,8 @@ use Rattle.rg_base.specs.declared.ty.Ty.TheVariants.{Int, Bool, Ref}
 use Rattle.rg_base.specs.declared.value.Val.{Val}
 use Rattle.rg_base.specs.declared.object.Seen.{Seen}
 use Rattle.rg_base.specs.declared.fault.Code.TheVariants.{Unknown, Mismatch}
-use Rattle.rg_tree.specs.Tree.{Name, Variable, ref, Expr, number, boolean, nil, path, is_nil, neg, not as not_of, binary, Call, Right, value, new, new_tmp, new_iso, freeze, merge, read, more, result_of, Member, field, method, Method, Class, Tree}
+use Rattle.rg_tree.specs.Tree.{Name, Variable, ref, Expr, number, boolean, nil, path, is_nil, neg, not as not_of, binary, Call, Right, value, new}
+use Rattle.rg_tree.specs.Tree.{new_tmp, new_iso, freeze, merge, read, more, result_of, Member, field, method, Method, Class, Tree}
 use Rattle.rg_rules.specs.Capabilities.{is_iso, iso_class, below}
 use Rattle.rg_rules.specs.Types.{class_named, good_type, method_member, members_of, method_named, param_types, method_result}
 use Rattle.rg_rules.specs.Environment.{Env, Entry, Readiness, entry_of, seen_type, available, used, marked, marked_entry, gone, same_variable}
@@ -29,21 +31,24 @@ use Rattle.rg_sound.specs.Objects.{ObjectsFit}
 use Rattle.rg_sound.specs.Frames.{Named}
 use Rattle.rg_code.specs.declared.op.Op.{Op}
 use Rattle.rg_code.specs.declared.code.Entry.{Entry as CodeEntry}
-use Rattle.rg_code.specs.Lowering.{type_in, type_behind, type_along, class_of, above, slots_of, methods_among, method_place, method_number, number_called, method_code, main_code, lowered, target_class}
+use Rattle.rg_code.specs.Lowering.{type_in, type_behind, type_along, class_of, above, slots_of, methods_among, method_place, method_number}
+use Rattle.rg_code.specs.Lowering.{number_called, method_code, main_code, lowered, target_class}
 use Rattle.rg_code.specs.Places.{Stands, roomy, scope_of}
 use Rattle.rg_stack.proofs.Walks.WalkLemmas.{FollowsPath}
 use Rattle.rg_stack.proofs.Walks.ArgumentLemmas.{AllAgree}
 use Rattle.rg_stack.proofs.Statements.RightLemmas.{InRegion, RightOwes}
 use Rattle.rg_stack.proofs.Statements.CallLemmas.{BodyFits, Called}
 use Rattle.rg_stack.proofs.Walks.EntryLemmas.{entry_of as code_entry}
-use Rattle.rg_stack.proofs.Judgements.FollowLemmas.{some-is, class_is, read-class, field_of_type}
+use Rattle.rg_stack.proofs.Basics.{some-is}
+use Rattle.rg_stack.proofs.Judgements.FollowLemmas.{class_is, read-class, field_of_type}
 use Rattle.rg_stack.proofs.Judgements.JudgeLemmas.{seen-class, expr-agrees, walk-follows, walk-reaches}
 use Rattle.rg_stack.proofs.Judgements.LabelLemmas.{by-labels}
 use Rattle.rg_stack.proofs.Judgements.FitLemmas.{facts_of, variable-in_region}
 
 -- an environment's names and types behind an expression
 
-marked_by : (b : Truth) (now : Readiness) (e : Entry) (l : Local) → (l.name ≡ e.name) × (l.ty ≡ e.ty) → (l.name ≡ (if b then record e { readiness = now } else e).name) × (l.ty ≡ (if b then record e { readiness = now } else e).ty)
+marked_by : (b : Truth) (now : Readiness) (e : Entry) (l : Local) → (l.name ≡ e.name) × (l.ty ≡ e.ty)
+    → (l.name ≡ (if b then record e { readiness = now } else e).name) × (l.ty ≡ (if b then record e { readiness = now } else e).ty)
 marked_by true now e l h = h
 marked_by false now e l h = h
 
@@ -57,7 +62,8 @@ used_by : (b : Truth) (x : Variable) (env : Env) (ls : List Local) → Named env
 used_by true x env ls h = named-marked x gone env.entries ls h
 used_by false x env ls h = h
 
-path-named : (classes : List Class) (env : Env) (ls : List Local) (x : Variable) (fs : List Name) (j : Judged) → judge_path classes env x fs ≡ Ok j → Named env.entries ls → Named j.env.entries ls
+path-named : (classes : List Class) (env : Env) (ls : List Local) (x : Variable) (fs : List Name) (j : Judged) → judge_path classes env x fs ≡ Ok j
+    → Named env.entries ls → Named j.env.entries ls
 path-named classes env ls x [] j h named =
     let p = bind-ok (ok_or (entry_of env x) Unknown) _ j h in
     let q = test-then (available p.0) _ _ j p.2 in
@@ -72,7 +78,8 @@ path-named classes env ls x (f ∷ fs) j h named =
 kept : (ls : List Local) (a b : Env) → a ≡ b → Named b.entries ls → Named a.entries ls
 kept ls a b e h = subst (λ (e : Env). Named e.entries ls) (sym e) h
 
-pub expr-named : (classes : List Class) (env : Env) (ls : List Local) (w : Option Ty) (e : Expr) (j : Judged) → judge_expr classes env w e ≡ Ok j → Named env.entries ls → Named j.env.entries ls
+pub expr-named : (classes : List Class) (env : Env) (ls : List Local) (w : Option Ty) (e : Expr) (j : Judged) → judge_expr classes env w e ≡ Ok j
+    → Named env.entries ls → Named j.env.entries ls
 expr-named classes env ls w (number z) j h named = kept ls j.env env (against-ok w Int env j h).env_is named
 expr-named classes env ls w (boolean b) j h named = kept ls j.env env (against-ok w Bool env j h).env_is named
 expr-named classes env ls w nil j h named = let p = bind-ok (nil_type w) _ j h in kept ls j.env env (against-ok w p.0 env j p.2).env_is named
@@ -90,7 +97,8 @@ expr-named classes env ls w (not_of a) j h named =
 expr-named classes env ls w (binary o a b) j h named =
     let p = binary-ok classes env w (among o) a b j h in
     kept ls j.env p.r.env (against-ok w (result_type (among o)) p.r.env j p.last).env_is
-    (expr-named classes p.l.env ls (operand_type (among o)) b p.r p.operands.right (expr-named classes env ls (operand_type (among o)) a p.l p.operands.left named))
+    (expr-named classes p.l.env ls (operand_type (among o)) b p.r p.operands.right
+    (expr-named classes env ls (operand_type (among o)) a p.l p.operands.left named))
 
 -- slots are enough where the number says so
 
@@ -114,34 +122,46 @@ methods_are [] = refl
 methods_are (field f ∷ ms) = methods_are ms
 methods_are (method m ∷ ms) = ap (λ l. m ∷ l) (methods_are ms)
 
-place_by : (t : Truth) (a m : Method) (rest : Option Method) (ms : List Method) (n : ℕ) → (rest ≡ Some m → slice_get ms n ≡ Some m) → (if t then Some a else rest) ≡ Some m → slice_get (a ∷ ms) (if t then 0 else suc n) ≡ Some m
+place_by : (t : Truth) (a m : Method) (rest : Option Method) (ms : List Method) (n : ℕ) → (rest ≡ Some m → slice_get ms n ≡ Some m)
+    → (if t then Some a else rest) ≡ Some m → slice_get (a ∷ ms) (if t then 0 else suc n) ≡ Some m
 place_by true a m rest ms n deeper h = h
 place_by false a m rest ms n deeper h = deeper h
 
-place_of_method : (ms : List Method) (x : Name) (m : Method) → find (λ (m : Method). bytes_eq m.name x) ms ≡ Some m → slice_get ms (method_place ms x) ≡ Some m
+place_of_method : (ms : List Method) (x : Name) (m : Method) → find (λ (m : Method). bytes_eq m.name x) ms ≡ Some m
+    → slice_get ms (method_place ms x) ≡ Some m
 place_of_method [] x m h = absurd (none-some m h)
-place_of_method (a ∷ ms) x m h = place_by (bytes_eq a.name x) a m (find (λ (m : Method). bytes_eq m.name x) ms) ms (method_place ms x) (place_of_method ms x m) h
+place_of_method (a ∷ ms) x m h = place_by (bytes_eq a.name x) a m (find (λ (m : Method). bytes_eq m.name x) ms) ms (method_place ms x)
+    (place_of_method ms x m) h
 
-class_of_method : (o : Option Class) (x : Name) (m : Method) → find (λ (m : Method). bytes_eq m.name x) (filter_map method_member (members_of o)) ≡ Some m
+class_of_method : (o : Option Class) (x : Name) (m : Method) → find (λ (m : Method). bytes_eq m.name x) (filter_map method_member (members_of o))
+    ≡ Some m
     → (k : Class) × (o ≡ Some k) × (slice_get (methods_among k.members) (method_place (methods_among k.members) x) ≡ Some m)
 class_of_method None x m h = absurd (none-some m h)
-class_of_method (Some k) x m h = (k, refl, place_of_method (methods_among k.members) x m (ap (find (λ (m : Method). bytes_eq m.name x)) (methods_are k.members) ∙ h))
+class_of_method (Some k) x m h = (
+  k,
+  refl,
+  place_of_method (methods_among k.members) x m
+      (ap (find (λ (m : Method). bytes_eq m.name x)) (methods_are k.members) ∙ h),
+)
 
 -- the entry of a method in the code of a program
-pub callee_of : (t : Tree) (j : Item) (rest : List Item) (d : ℕ) (x : Name) (m : Method) → method_named t.classes d x ≡ Some m → BodyFits m.result m.body
+pub callee_of : (t : Tree) (j : Item) (rest : List Item) (d : ℕ) (x : Name) (m : Method) → method_named t.classes d x ≡ Some m
+    → BodyFits m.result m.body
     → (e : CodeEntry) × (slice_get (lowered t).entries (number_called t.classes d x) ≡ Some e) × Called t.classes (lowered t) j rest d m e
 callee_of t j rest d x m named fits =
     let k = class_of_method (slice_get t.classes d) x m named in
     let main = main_code t in
     let h = code_entry t.classes t.classes (length main) 0 d main k.0 x m refl k.1 k.2 in
     let is : 0 + d ≡ d = omega arith in
-    let number : number_called t.classes d x ≡ method_number t.classes d x = ap (λ o. elim o [ None ↦ 0 | Some m ↦ method_number t.classes d x ]) named in (
+    let number : number_called t.classes d x ≡ method_number t.classes d x = ap (λ o. elim o [ None ↦ 0 | Some m ↦ method_number t.classes d x ])
+    named in (
       h.entry,
       ap (slice_get (lowered t).entries) number ∙ h.there,
       record {
         stands = subst (λ c. Stands (lowered t).ops h.entry.at (method_code t.classes h.entry.at c m)) is h.stands;
         given = h.given;
-        room = λ n enough. subst (λ c. roomy n (method_code t.classes h.entry.at c m) ≡ true) is (roomy_of (suc (length m.params)) n (method_code t.classes h.entry.at (0 + d) m) (subst (λ s. s ≤ n) h.slots enough));
+        room = λ n enough. subst (λ c. roomy n (method_code t.classes h.entry.at c m) ≡ true) is
+            (roomy_of (suc (length m.params)) n (method_code t.classes h.entry.at (0 + d) m) (subst (λ s. s ≤ n) h.slots enough));
         fits = fits;
       },
     )
@@ -152,7 +172,8 @@ class_in classes Bool c h = absurd (none-some c h)
 class_in classes (Ref k b) c h = some-is b c h
 
 -- the class behind fields, by the types so far and by the declared ones
-pub along : (classes : List Class) (fs : List Name) (u t r : Ty) → class_is u ≡ class_is t → walk_fields classes u fs ≡ Ok r → class_is r ≡ class_is (type_along classes t fs)
+pub along : (classes : List Class) (fs : List Name) (u t r : Ty) → class_is u ≡ class_is t → walk_fields classes u fs ≡ Ok r → class_is r
+    ≡ class_is (type_along classes t fs)
 along classes [] u t r same h = let e : u ≡ r = grind arith in ap class_is (sym e) ∙ same
 along classes (f ∷ fs) u t r same h =
     let p = bind-ok (walk_field classes u f) _ r h in
@@ -174,12 +195,16 @@ iso_type (Ref Paused k) c h = absurd (none-some c h)
 iso_type (Ref Imm k) c h = absurd (none-some c h)
 iso_type (Ref Iso k) c h = (refl, h)
 
-named_class : (classes : List Class) (cap : Cap) (x : Name) (t : Ty) → good_type classes (ref cap x) ≡ Ok t → (k : Class) × (class_named classes x ≡ Some k)
-named_class classes cap x t h = let p = bind-ok (ok_or (class_named classes x) Unknown) _ t h in (p.0, ok_or-ok (class_named classes x) Unknown p.0 p.1)
+named_class : (classes : List Class) (cap : Cap) (x : Name) (t : Ty) → good_type classes (ref cap x) ≡ Ok t → (k : Class)
+    × (class_named classes x ≡ Some k)
+named_class classes cap x t h = let p = bind-ok (ok_or (class_named classes x) Unknown) _ t h in
+    (p.0, ok_or-ok (class_named classes x) Unknown p.0 p.1)
 
-module _ (classes : List Class) (store : List Seen) (windows : List Window) (n : ℕ) (locals : List Local) (meets : FrameMeets store windows n locals) (objects : ObjectsFit classes store windows) where
+module _ (classes : List Class) (store : List Seen) (windows : List Window) (n : ℕ) (locals : List Local)
+    (meets : FrameMeets store windows n locals) (objects : ObjectsFit classes store windows) where
   -- arguments
-  pub args-agree : (ts : List Ty) (es : List Expr) (env out : Env) → Named env.entries locals → judge_args classes env ts es ≡ Ok out → length es ≡ length ts → AllAgree classes store locals (scope_of locals) es
+  pub args-agree : (ts : List Ty) (es : List Expr) (env out : Env) → Named env.entries locals → judge_args classes env ts es ≡ Ok out → length es
+      ≡ length ts → AllAgree classes store locals (scope_of locals) es
   args-agree ts [] env out named h many = tt
   args-agree [] (e ∷ es) env out named h many = absurd (omega (arith, many))
   args-agree (t ∷ ts) (e ∷ es) env out named h many =
@@ -197,7 +222,8 @@ module _ (classes : List Class) (store : List Seen) (windows : List Window) (n :
     pub result : j.result ≡ method_result classes method
     pub follows : FollowsPath classes store locals (scope_of locals) c.target
     pub agrees : AllAgree classes store locals (scope_of locals) c.args
-    pub class : (v : Val) (o : Seen) → path_value classes store locals c.target ≡ Ok v → object_at store v ≡ Ok o → o.class ≡ target_class classes (scope_of locals) c
+    pub class : (v : Val) (o : Seen) → path_value classes store locals c.target ≡ Ok v → object_at store v ≡ Ok o → o.class
+        ≡ target_class classes (scope_of locals) c
 
   pub call-gives : (env : Env) (c : Call) (j : CallJudged) → Named env.entries locals → judge_call classes env c ≡ Ok j → CallGives c j
   call-gives env c j named h =
@@ -215,7 +241,8 @@ module _ (classes : List Class) (store : List Seen) (windows : List Window) (n :
       let d = type_along classes (type_in (scope_of locals) x) fs in
       let reference : class_is p.0 ≡ Some q.0.class = ap class_is (follow-ok p.0 q.0 q.1).reference in
       let class_of_d : class_is d ≡ Some q.0.class =
-      sym (along classes fs (seen_type env e.0) (type_in (scope_of locals) x) p.0 (seen-class env e.0 ∙ ap class_is (sym (facts.declared x e.0 there))) e.2) ∙ reference in
+      sym (along classes fs (seen_type env e.0) (type_in (scope_of locals) x) p.0
+      (seen-class env e.0 ∙ ap class_is (sym (facts.declared x e.0 there))) e.2) ∙ reference in
       let target : target_class classes (scope_of locals) c ≡ q.0.class = class_in classes d q.0.class class_of_d in
       let whole : record { result = method_result classes m.0; env = out.0 } ≡ j = grind arith in
       let result : j.result ≡ method_result classes m.0 = ap (λ (j : CallJudged). j.result) (sym whole) in
@@ -231,7 +258,8 @@ module _ (classes : List Class) (store : List Seen) (windows : List Window) (n :
             (sym ((walk-reaches classes env store locals facts x fs p.0 v p.1 led).value.0 o is) ∙ class_of_d ∙ ap Some (sym target));
       }
 
-  consumed-owes : (env : Env) (wanted : Ty) (cap : Cap) (y : Name) (j : Judged) → Named env.entries locals → judge_consumed env wanted cap y ≡ Ok j → InRegion store (value_in locals (Some y))
+  consumed-owes : (env : Env) (wanted : Ty) (cap : Cap) (y : Name) (j : Judged) → Named env.entries locals → judge_consumed env wanted cap y ≡ Ok j
+      → InRegion store (value_in locals (Some y))
   consumed-owes env wanted cap y j named h =
       let p = bind-ok (ok_or (entry_of env (Some y)) Unknown) _ j h in
       let q = bind-ok (ok_or (iso_class p.0.ty) Mismatch) _ j p.2 in
@@ -239,8 +267,10 @@ module _ (classes : List Class) (store : List Seen) (windows : List Window) (n :
       variable-in_region env store windows n locals (Some y) p.0 named meets (ok_or-ok (entry_of env (Some y)) Unknown p.0 p.1) iso.0
 
   -- a right side that makes no call
-  pub right-owes : (env : Env) (wanted : Ty) (right : Right) (j : Judged) → Named env.entries locals → judge_right classes env wanted right ≡ Ok j → is_call right ≡ false → RightOwes classes store locals (scope_of locals) right
-  right-owes env wanted (value e) j named h i = expr-agrees classes env store locals (facts_of classes env store windows n locals named meets objects) (Some wanted) e j h
+  pub right-owes : (env : Env) (wanted : Ty) (right : Right) (j : Judged) → Named env.entries locals → judge_right classes env wanted right ≡ Ok j
+      → is_call right ≡ false → RightOwes classes store locals (scope_of locals) right
+  right-owes env wanted (value e) j named h i = expr-agrees classes env store locals
+      (facts_of classes env store windows n locals named meets objects) (Some wanted) e j h
   right-owes env wanted (new x) j named h i = let p = bind-ok (good_type classes (ref Mut x)) _ j h in named_class classes Mut x p.0 p.1
   right-owes env wanted (new_tmp x) j named h i = let p = bind-ok (good_type classes (ref Tmp x)) _ j h in named_class classes Tmp x p.0 p.1
   right-owes env wanted (new_iso x m) j named h i = let p = bind-ok (good_type classes (ref Iso x)) _ j h in named_class classes Iso x p.0 p.1

@@ -1,5 +1,6 @@
 -- The statements `let x: T = r;`, `x = r;` and `q.f = r;` with a right side that makes no call.
-use Rattle.std.proofs.Common.{◌≡◌, ℕ, ◌+◌, ◌<◌, true, false, Bool as Truth, if◌then◌else◌, List, [], ◌∷◌, ◌++◌, length, drop, Option, Some, None, Result, Ok, Err, refl, sym, ap, subst, ◌∙◌, arith, append_assoc, length-append, slice_get, slice_set}
+use Rattle.std.proofs.Common.{◌≡◌, ℕ, ◌+◌, ◌<◌, true, false, Bool as Truth, if◌then◌else◌, List, [], ◌∷◌, ◌++◌, length, drop, Option, Some, None}
+use Rattle.std.proofs.Common.{Result, Ok, Err, refl, sym, ap, subst, ◌∙◌, arith, append_assoc, length-append, slice_get, slice_set}
 use Rattle.std.proofs.lemmas.List.{length-map, map-append, length-set}
 use Rattle.rg_base.specs.declared.value.Val.{Val}
 use Rattle.rg_base.specs.declared.value.Val.TheVariants as val
@@ -32,44 +33,62 @@ use Rattle.rg_stack.proofs.Walks.WalkLemmas.{FollowsPath, walk-path}
 use Rattle.rg_stack.proofs.Walks.PlaceLemmas.{and-left, roomy-back}
 use Rattle.rg_stack.proofs.Walks.FrameLemmas.{room_of, shows_next}
 use Rattle.rg_stack.proofs.Walks.SlotLemmas.{ShowsSlots, Has, shows_put, slot_place, scope-length, scope_set}
-use Rattle.rg_stack.proofs.Walks.EndLemmas.{EndsAs, value_ends, Round, work, state, level, RoundShows, Middle, Keeps, keeps_same, slots_hold, finish_at, statement_step}
+use Rattle.rg_stack.proofs.Walks.EndLemmas.{EndsAs, value_ends, Round, work, state, level, RoundShows, Middle, Keeps, keeps_same, slots_hold}
+use Rattle.rg_stack.proofs.Walks.EndLemmas.{finish_at, statement_step}
 use Rattle.rg_stack.proofs.Statements.RightLemmas.{Opens, RightOwes, right_ends, walk-pace}
 
 -- a state and a machine that shows it, in parts
-pub round_of : (classes : List Class) (code : Code) (r : Round) (store : List Seen) (slots : List Val) (locals : List Local) (managers : List Manager) (input : List ℕ) (items : List Item)
+pub round_of : (classes : List Class) (code : Code) (r : Round) (store : List Seen) (slots : List Val) (locals : List Local)
+    (managers : List Manager) (input : List ℕ) (items : List Item)
     → Mirrors classes code (work r store slots managers input).machine (state r store locals managers input items) → RoundShows r (length slots)
 round_of classes code r store slots locals managers input items h = record { frames = h.slots.1; windows = h.windows }
 
-pub middle_of : (classes : List Class) (code : Code) (r : Round) (store : List Seen) (slots : List Val) (locals : List Local) (managers : List Manager) (input : List ℕ) (items : List Item)
-    → Mirrors classes code (work r store slots managers input).machine (state r store locals managers input items) → Middle (scope_of locals) (length slots) store store slots locals
-middle_of classes code r store slots locals managers input items h = record { shows = h.slots.0; size_is = refl; scope_is = refl; keeps = keeps_same store }
+pub middle_of : (classes : List Class) (code : Code) (r : Round) (store : List Seen) (slots : List Val) (locals : List Local)
+    (managers : List Manager) (input : List ℕ) (items : List Item)
+    → Mirrors classes code (work r store slots managers input).machine (state r store locals managers input items)
+    → Middle (scope_of locals) (length slots) store store slots locals
+middle_of classes code r store slots locals managers input items h = record
+    { shows = h.slots.0; size_is = refl; scope_is = refl; keeps = keeps_same store }
 
 -- a value goes into a slot that is there, whether it owns or not
 walk_assign_by : (t : Truth) (classes : List Class) (code : Code) (s : ℕ) (rest : List Op) (here : ℕ) (v : Val) (stack : List Val) (w : Work)
-    → walk code ((if t then i.Own s else i.Store s) ∷ rest) here 0 (v ∷ stack) w ≡ walk code rest (here + 1) 0 stack (record w { machine = put_slot w.machine s v })
+    → walk code ((if t then i.Own s else i.Store s) ∷ rest) here 0 (v ∷ stack) w
+    ≡ walk code rest (here + 1) 0 stack (record w { machine = put_slot w.machine s v })
 walk_assign_by true classes code s rest here v stack w = refl
 walk_assign_by false classes code s rest here v stack w = refl
 
-pub walk-assign : (classes : List Class) (code : Code) (scope : Scope) (x : Variable) (rest : List Op) (here : ℕ) (v : Val) (stack : List Val) (w : Work)
-    → walk code (assign_op scope x ∷ rest) here 0 (v ∷ stack) w ≡ walk code rest (here + 1) 0 stack (record w { machine = put_slot w.machine (slot_of scope x) v })
+pub walk-assign : (classes : List Class) (code : Code) (scope : Scope) (x : Variable) (rest : List Op) (here : ℕ) (v : Val) (stack : List Val)
+    (w : Work)
+    → walk code (assign_op scope x ∷ rest) here 0 (v ∷ stack) w
+    ≡ walk code rest (here + 1) 0 stack (record w { machine = put_slot w.machine (slot_of scope x) v })
 walk-assign classes code scope x rest here v stack w = walk_assign_by (is_iso (type_in scope x)) classes code (slot_of scope x) rest here v stack w
 
 -- a variable is there in each middle of a step
-pub has_still : (scope : Scope) (locals after : List Local) (x : Variable) → scope_of locals ≡ scope → scope_of after ≡ scope → Has locals x → Has after x
+pub has_still : (scope : Scope) (locals after : List Local) (x : Variable) → scope_of locals ≡ scope → scope_of after ≡ scope → Has locals x
+    → Has after x
 has_still scope locals after x a b h =
     let place : place_in after x ≡ place_in locals x = sym (slot_place after x) ∙ ap (λ s. slot_of s x) (b ∙ sym a) ∙ slot_place locals x in
     omega (arith, h, place, scope-length after locals (b ∙ sym a))
 
 -- where a value leads to an object still, putting into its field is the same on both sides
-put_in_object : (classes : List Class) (r : Round) (locals : List Local) (managers : List Manager) (input : List ℕ) (items : List Item) (store : List Seen) (a : ℕ) (q : Seen) (g : Name) (k : ℕ) (v : Val)
+put_in_object : (classes : List Class) (r : Round) (locals : List Local) (managers : List Manager) (input : List ℕ) (items : List Item)
+    (store : List Seen) (a : ℕ) (q : Seen) (g : Name) (k : ℕ) (v : Val)
     → slice_get store a ≡ Some q → field_place (fields_of classes q.class) g ≡ Some k
-    → put_field classes (val.Obj a) g (state r store locals managers input items) v ≡ state r (put_in store (val.Obj a) k v) locals managers input items
+    → put_field classes (val.Obj a) g (state r store locals managers input items) v
+    ≡ state r (put_in store (val.Obj a) k v) locals managers input items
 put_in_object classes r locals managers input items store a q g k v there place =
-    ap (λ (o : Option Seen). elim o [ None ↦ state r store locals managers input items | Some o ↦ state r (slice_set store a (with_field classes g v o)) locals managers input items ]) there
-    ∙ ap (λ (p : Option ℕ). state r (slice_set store a (elim p [ None ↦ q | Some n ↦ record q { fields = slice_set q.fields n v } ])) locals managers input items) place
-    ∙ sym (ap (λ (o : Option Seen). state r (elim o [ None ↦ store | Some o ↦ slice_set store a (with_value_in o k v) ]) locals managers input items) there)
+    ap (λ (o : Option Seen). elim o [
+      | None ↦ state r store locals managers input items
+      | Some o
+          ↦ state r (slice_set store a (with_field classes g v o)) locals managers input items
+    ]) there
+    ∙ ap (λ (p : Option ℕ). state r (slice_set store a (elim p [ None ↦ q | Some n ↦ record q { fields = slice_set q.fields n v } ])) locals
+    managers input items) place
+    ∙ sym (ap (λ (o : Option Seen). state r (elim o [ None ↦ store | Some o ↦ slice_set store a (with_value_in o k v) ]) locals managers input
+    items) there)
 
-pub put_is : (classes : List Class) (r : Round) (locals : List Local) (managers : List Manager) (input : List ℕ) (items : List Item) (old store : List Seen) (u : Val) (o : Seen) (g : Name) (k : ℕ) (v : Val)
+pub put_is : (classes : List Class) (r : Round) (locals : List Local) (managers : List Manager) (input : List ℕ) (items : List Item)
+    (old store : List Seen) (u : Val) (o : Seen) (g : Name) (k : ℕ) (v : Val)
     → object_at old u ≡ Ok o → Keeps old store → field_place (fields_of classes o.class) g ≡ Some k
     → put_field classes u g (state r store locals managers input items) v ≡ state r (put_in store u k v) locals managers input items
 put_is classes r locals managers input items old store val.Nil o g k v is keeps place = refl
@@ -82,19 +101,22 @@ put_is classes r locals managers input items old store (val.Obj a) o g k v is ke
     put_in_object classes r locals managers input items store a q.0 g k v q.1 (ap (λ c. field_place (fields_of classes c) g) q.2 ∙ place)
 
 -- a test of an object in front of the rest
-pub tested_ends : (classes : List Class) (code : Code) (before : List Val) (r : Result Seen Trap) (k : Result State Trap) (go : Walked) → ((o : Seen) → r ≡ Ok o → EndsAs classes code before k go) → EndsAs classes code before (◌>>◌ r k) (elim r [ Ok o ↦ go | Err t ↦ Traps t ])
+pub tested_ends : (classes : List Class) (code : Code) (before : List Val) (r : Result Seen Trap) (k : Result State Trap) (go : Walked)
+    → ((o : Seen) → r ≡ Ok o → EndsAs classes code before k go) → EndsAs classes code before (◌>>◌ r k) (elim r [ Ok o ↦ go | Err t ↦ Traps t ])
 tested_ends classes code before (Ok o) k go h = h o refl
 tested_ends classes code before (Err t) k go h = refl
 
 -- what the invariant and the rules give of the object that has a field: its class has the field where the declared types say
 abbrev pub HolderOwes : List Class → List Seen → List Local → Scope → Variable → (f : Name) (fs : List Name) → Type 0
-HolderOwes classes store locals scope x f fs = (u : Val) (o : Seen) → path_value classes store locals (record { base = x; fields = all_but_last f fs }) ≡ Ok u → object_at store u ≡ Ok o
+HolderOwes classes store locals scope x f fs = (u : Val) (o : Seen)
+    → path_value classes store locals (record { base = x; fields = all_but_last f fs }) ≡ Ok u → object_at store u ≡ Ok o
     → field_place (fields_of classes o.class) (last_field f fs) ≡ Some (held_number classes scope x f fs)
 
 flat_put : (p e q t : List Op) (a b : Op) → ((p ++ a ∷ []) ++ (e ++ b ∷ q)) ++ t ≡ p ++ (a ∷ (e ++ (b ∷ (q ++ t))))
 flat_put p e q t a b = simp append_assoc
 
-module _ (classes : List Class) (code : Code) (r : Round) (store : List Seen) (slots : List Val) (locals : List Local) (managers : List Manager) (input : List ℕ) (line : ℕ) (j : Item) (rest : List Item) where
+module _ (classes : List Class) (code : Code) (r : Round) (store : List Seen) (slots : List Val) (locals : List Local) (managers : List Manager)
+    (input : List ℕ) (line : ℕ) (j : Item) (rest : List Item) where
   abbrev scope : Scope
   scope = scope_of locals
 
@@ -105,11 +127,13 @@ module _ (classes : List Class) (code : Code) (r : Round) (store : List Seen) (s
   Showing k = Mirrors classes code (work r store slots managers input).machine (state r store locals managers input (Do (stmt line k) ∷ j ∷ rest))
 
   abbrev Simulated : StmtKind → Type 0
-  Simulated k = SameMove classes code r.output (next classes (state r store locals managers input (Do (stmt line k) ∷ j ∷ rest))) (step code (work r store slots managers input))
+  Simulated k = SameMove classes code r.output (next classes (state r store locals managers input (Do (stmt line k) ∷ j ∷ rest)))
+      (step code (work r store slots managers input))
 
   -- `let x: T = r;`
-  pub sim_let : (x : Name) (t : Written) (right : Right) → Showing (declare x t right) → Opens classes code → RightOwes classes store locals (scope_of locals) right → Simulated (declare x t right)
-  sim_let x t right h opens owes =
+  pub declare-mirrors : (x : Name) (t : Written) (right : Right) → Showing (declare x t right) → Opens classes code
+      → RightOwes classes store locals (scope_of locals) right → Simulated (declare x t right)
+  declare-mirrors x t right h opens owes =
       let ty = type_of classes t in
       let size = length slots in
       let ops = right_code classes scope (r.at + 1) right in
@@ -124,23 +148,30 @@ module _ (classes : List Class) (code : Code) (r : Round) (store : List Seen) (s
       let named = and-left _ _ (roomy-back size (i.Mark line ∷ ops) (i.Store k ∷ pace) h.places.0.1) in
       let room : length locals < size = room_of size k (length locals) is named in
       let there : r.at + 1 + length ops + 1 + length pace ≡ end = omega (arith, length-append ops (i.Store k ∷ pace)) in
-      let ends = right_ends classes code r scope size store (j ∷ rest) (Declares x ty) (add_local (Some x) ty) right (i.Store k ∷ (pace ++ tail)) (r.at + 1) [] store slots locals managers input round opens middle owes
+      let ends = right_ends classes code r scope size store (j ∷ rest) (Declares x ty) (add_local (Some x) ty) right (i.Store k ∷ (pace ++ tail))
+      (r.at + 1) [] store slots locals managers input round opens middle owes
       (λ store slots locals managers input v m.
       let l : Local = record { name = Some x; ty = ty; value = v } in
       let many : k ≡ length locals = ap length (sym m.scope_is) ∙ length-map locals (λ (l : Local). record { name = l.name; ty = l.ty }) in
       let less : length locals < length slots = omega (arith, room, is, many, m.size_is) in
-      let names : with_slot scope (Some x) ty ≡ scope_of (locals ++ l ∷ []) = ap (λ s. with_slot s (Some x) ty) (sym m.scope_is) ∙ sym (map-append (λ (l : Local). record { name = l.name; ty = l.ty }) locals (l ∷ [])) in
-      subst (λ y. EndsAs classes code r.output (Ok (state r store (locals ++ l ∷ []) managers input (j ∷ rest))) y) (sym (walk-pace classes code right tail (r.at + 1 + length ops + 1) [] (work r store (slice_set slots k v) managers input)))
-      (finish_at classes code r store (slice_set slots k v) (locals ++ l ∷ []) managers input j rest size end (r.at + 1 + length ops + 1 + length pace) there
+      let names : with_slot scope (Some x) ty ≡ scope_of (locals ++ l ∷ []) = ap (λ s. with_slot s (Some x) ty) (sym m.scope_is)
+      ∙ sym (map-append (λ (l : Local). record { name = l.name; ty = l.ty }) locals (l ∷ [])) in
+      subst (λ y. EndsAs classes code r.output (Ok (state r store (locals ++ l ∷ []) managers input (j ∷ rest))) y)
+      (sym (walk-pace classes code right tail (r.at + 1 + length ops + 1) [] (work r store (slice_set slots k v) managers input)))
+      (finish_at classes code r store (slice_set slots k v) (locals ++ l ∷ []) managers input j rest size end
+      (r.at + 1 + length ops + 1 + length pace) there
       (subst (λ n. ShowsSlots (slice_set slots n v) (locals ++ l ∷ [])) (sym many) (shows_next slots locals l m.shows less))
       (length-set slots k v ∙ m.size_is) round
       (subst (λ s. Lies classes code.ops (level r s size ∷ levels) (j ∷ rest) end) names h.places.1))) in
       statement_step classes code r store slots locals managers input line (declare x t right) more (j ∷ rest) h.places.0.0
-      (subst (λ l. EndsAs classes code r.output (with_right classes (state r store locals managers input (j ∷ rest)) (Declares x ty) (add_local (Some x) ty) right) (walk code l (r.at + 1) 0 [] (work r store slots managers input))) (sym (append_assoc ops (i.Store k ∷ pace) tail)) ends)
+      (subst (λ l. EndsAs classes code r.output (with_right classes (state r store locals managers input (j ∷ rest)) (Declares x ty)
+      (add_local (Some x) ty) right) (walk code l (r.at + 1) 0 [] (work r store slots managers input)))
+      (sym (append_assoc ops (i.Store k ∷ pace) tail)) ends)
 
   -- `x = r;`
-  pub sim_set : (x : Variable) (right : Right) → Showing (assign (record { base = x; fields = [] }) right) → Opens classes code → RightOwes classes store locals (scope_of locals) right → Has locals x → Simulated (assign (record { base = x; fields = [] }) right)
-  sim_set x right h opens owes has =
+  pub assign-mirrors : (x : Variable) (right : Right) → Showing (assign (record { base = x; fields = [] }) right) → Opens classes code
+      → RightOwes classes store locals (scope_of locals) right → Has locals x → Simulated (assign (record { base = x; fields = [] }) right)
+  assign-mirrors x right h opens owes has =
       let size = length slots in
       let ops = right_code classes scope (r.at + 1) right in
       let o = assign_op scope x in
@@ -149,27 +180,37 @@ module _ (classes : List Class) (code : Code) (r : Round) (store : List Seen) (s
       let more = ops ++ (o ∷ pace) in
       let end = r.at + length (i.Mark line ∷ more) in
       let tail = drop end code.ops in
-      let round = round_of classes code r store slots locals managers input (Do (stmt line (assign (record { base = x; fields = [] }) right)) ∷ j ∷ rest) h in
-      let middle = middle_of classes code r store slots locals managers input (Do (stmt line (assign (record { base = x; fields = [] }) right)) ∷ j ∷ rest) h in
+      let round = round_of classes code r store slots locals managers input
+      (Do (stmt line (assign (record { base = x; fields = [] }) right)) ∷ j ∷ rest) h in
+      let middle = middle_of classes code r store slots locals managers input
+      (Do (stmt line (assign (record { base = x; fields = [] }) right)) ∷ j ∷ rest) h in
       let there : r.at + 1 + length ops + 1 + length pace ≡ end = omega (arith, length-append ops (o ∷ pace)) in
-      let ends = right_ends classes code r scope size store (j ∷ rest) (Assigns x) (put_local x) right (o ∷ (pace ++ tail)) (r.at + 1) [] store slots locals managers input round opens middle owes
+      let ends = right_ends classes code r scope size store (j ∷ rest) (Assigns x) (put_local x) right (o ∷ (pace ++ tail)) (r.at + 1) [] store
+      slots locals managers input round opens middle owes
       (λ store slots after managers input v m.
       let place : k ≡ place_in after x = ap (λ s. slot_of s x) (sym m.scope_is) ∙ slot_place after x in
       let names : scope ≡ scope_of (set_in x v after) = sym (scope_set x v after ∙ m.scope_is) in
       subst (λ y. EndsAs classes code r.output (Ok (state r store (set_in x v after) managers input (j ∷ rest))) y)
-      (sym (walk-assign classes code scope x (pace ++ tail) (r.at + 1 + length ops) v [] (work r store slots managers input) ∙ walk-pace classes code right tail (r.at + 1 + length ops + 1) [] (work r store (slice_set slots k v) managers input)))
-      (finish_at classes code r store (slice_set slots k v) (set_in x v after) managers input j rest size end (r.at + 1 + length ops + 1 + length pace) there
-      (subst (λ n. ShowsSlots (slice_set slots n v) (set_in x v after)) (sym place) (shows_put slots after x v m.shows (has_still scope locals after x refl m.scope_is has)))
+      (sym (walk-assign classes code scope x (pace ++ tail) (r.at + 1 + length ops) v [] (work r store slots managers input)
+      ∙ walk-pace classes code right tail (r.at + 1 + length ops + 1) [] (work r store (slice_set slots k v) managers input)))
+      (finish_at classes code r store (slice_set slots k v) (set_in x v after) managers input j rest size end
+      (r.at + 1 + length ops + 1 + length pace) there
+      (subst (λ n. ShowsSlots (slice_set slots n v) (set_in x v after)) (sym place)
+      (shows_put slots after x v m.shows (has_still scope locals after x refl m.scope_is has)))
       (length-set slots k v ∙ m.size_is) round
       (subst (λ s. Lies classes code.ops (level r s size ∷ levels) (j ∷ rest) end) names h.places.1))) in
-      statement_step classes code r store slots locals managers input line (assign (record { base = x; fields = [] }) right) more (j ∷ rest) h.places.0.0
-      (subst (λ l. EndsAs classes code r.output (with_right classes (state r store locals managers input (j ∷ rest)) (Assigns x) (put_local x) right) (walk code l (r.at + 1) 0 [] (work r store slots managers input))) (sym (append_assoc ops (o ∷ pace) tail)) ends)
+      statement_step classes code r store slots locals managers input line (assign (record { base = x; fields = [] }) right) more (j ∷ rest)
+      h.places.0.0
+      (subst (λ l. EndsAs classes code r.output (with_right classes (state r store locals managers input (j ∷ rest)) (Assigns x) (put_local x)
+      right) (walk code l (r.at + 1) 0 [] (work r store slots managers input))) (sym (append_assoc ops (o ∷ pace) tail)) ends)
 
   -- `q.f = r;`
-  pub sim_put : (x : Variable) (f : Name) (fs : List Name) (right : Right) → Showing (assign (record { base = x; fields = f ∷ fs }) right) → Opens classes code → RightOwes classes store locals (scope_of locals) right
-      → FollowsPath classes store locals (scope_of locals) (record { base = x; fields = all_but_last f fs }) → HolderOwes classes store locals (scope_of locals) x f fs
+  pub put-mirrors : (x : Variable) (f : Name) (fs : List Name) (right : Right) → Showing (assign (record { base = x; fields = f ∷ fs }) right)
+      → Opens classes code → RightOwes classes store locals (scope_of locals) right
+      → FollowsPath classes store locals (scope_of locals) (record { base = x; fields = all_but_last f fs })
+      → HolderOwes classes store locals (scope_of locals) x f fs
       → Simulated (assign (record { base = x; fields = f ∷ fs }) right)
-  sim_put x f fs right h opens owes follows holds =
+  put-mirrors x f fs right h opens owes follows holds =
       let size = length slots in
       let q : Path = record { base = x; fields = all_but_last f fs } in
       let path = holder_code classes scope x f fs in
@@ -190,18 +231,29 @@ module _ (classes : List Class) (code : Code) (r : Round) (store : List Seen) (s
       let begins : r.at + 1 + length path + 1 ≡ here = omega (arith, length-append path (i.Check ∷ [])) in
       let flat : more ++ tail ≡ path ++ (i.Check ∷ (ops ++ (i.Put k ∷ (pace ++ tail)))) = flat_put path ops pace tail i.Check (i.Put k) in
       let inner : (u : Val) (o : Seen) → path_value classes store locals q ≡ Ok u → object_at store u ≡ Ok o
-      → EndsAs classes code r.output (with_right classes (state r store locals managers input (j ∷ rest)) Drops (put_field classes u g) right) (walk code (ops ++ (i.Put k ∷ (pace ++ tail))) (r.at + 1 + length path + 1) 0 (u ∷ []) (work r store slots managers input)) =
+      → EndsAs classes code r.output (with_right classes (state r store locals managers input (j ∷ rest)) Drops (put_field classes u g) right)
+      (walk code (ops ++ (i.Put k ∷ (pace ++ tail))) (r.at + 1 + length path + 1) 0 (u ∷ []) (work r store slots managers input)) =
       λ u o led is.
-      subst (λ n. EndsAs classes code r.output (with_right classes (state r store locals managers input (j ∷ rest)) Drops (put_field classes u g) right) (walk code (ops ++ (i.Put k ∷ (pace ++ tail))) n 0 (u ∷ []) (work r store slots managers input))) (sym begins)
-      (right_ends classes code r scope size store (j ∷ rest) Drops (put_field classes u g) right (i.Put k ∷ (pace ++ tail)) here (u ∷ []) store slots locals managers input round opens middle owes
+      subst (λ n. EndsAs classes code r.output (with_right classes (state r store locals managers input (j ∷ rest)) Drops (put_field classes u g)
+      right) (walk code (ops ++ (i.Put k ∷ (pace ++ tail))) n 0 (u ∷ []) (work r store slots managers input))) (sym begins)
+      (right_ends classes code r scope size store (j ∷ rest) Drops (put_field classes u g) right (i.Put k ∷ (pace ++ tail)) here (u ∷ []) store
+      slots locals managers input round opens middle owes
       (λ now slots after managers input v m.
-      subst (λ s. EndsAs classes code r.output (Ok s) (walk code (pace ++ tail) (here + length ops + 1) 0 [] (work r (put_in now u k v) slots managers input)))
+      subst (λ s. EndsAs classes code r.output (Ok s) (walk code (pace ++ tail) (here + length ops + 1) 0 []
+      (work r (put_in now u k v) slots managers input)))
       (sym (put_is classes r after managers input (j ∷ rest) store now u o g k v is m.keeps (holds u o led is)))
-      (subst (λ y. EndsAs classes code r.output (Ok (state r (put_in now u k v) after managers input (j ∷ rest))) y) (sym (walk-pace classes code right tail (here + length ops + 1) [] (work r (put_in now u k v) slots managers input)))
-      (finish_at classes code r (put_in now u k v) slots after managers input j rest size end (here + length ops + 1 + length pace) there m.shows m.size_is round
+      (subst (λ y. EndsAs classes code r.output (Ok (state r (put_in now u k v) after managers input (j ∷ rest))) y)
+      (sym (walk-pace classes code right tail (here + length ops + 1) [] (work r (put_in now u k v) slots managers input)))
+      (finish_at classes code r (put_in now u k v) slots after managers input j rest size end (here + length ops + 1 + length pace) there m.shows
+      m.size_is round
       (subst (λ s. Lies classes code.ops (level r s size ∷ levels) (j ∷ rest) end) (sym m.scope_is) h.places.1))))) in
-      statement_step classes code r store slots locals managers input line (assign (record { base = x; fields = f ∷ fs }) right) more (j ∷ rest) h.places.0.0
-      (subst (λ y. EndsAs classes code r.output (◌>>=◌ (path_value classes store locals q) (λ u. ◌>>◌ (object_at store u) (with_right classes (state r store locals managers input (j ∷ rest)) Drops (put_field classes u g) right))) y)
+      statement_step classes code r store slots locals managers input line (assign (record { base = x; fields = f ∷ fs }) right) more (j ∷ rest)
+      h.places.0.0
+      (subst (λ y. EndsAs classes code r.output (◌>>=◌ (path_value classes store locals q)
+      (λ u. ◌>>◌ (object_at store u) (with_right classes (state r store locals managers input (j ∷ rest)) Drops (put_field classes u g) right)))
+      y)
       (sym (ap (λ l. walk code l (r.at + 1) 0 [] (work r store slots managers input)) flat
-      ∙ walk-path classes code q locals scope (r.at + 1) (i.Check ∷ (ops ++ (i.Put k ∷ (pace ++ tail)))) [] (work r store slots managers input) (slots_hold scope slots locals h.slots.0 refl) follows))
-      (value_ends classes code r.output (path_value classes store locals q) _ _ (λ u led. tested_ends classes code r.output (object_at store u) _ _ (λ o is. inner u o led is))))
+      ∙ walk-path classes code q locals scope (r.at + 1) (i.Check ∷ (ops ++ (i.Put k ∷ (pace ++ tail)))) [] (work r store slots managers input)
+      (slots_hold scope slots locals h.slots.0 refl) follows))
+      (value_ends classes code r.output (path_value classes store locals q) _ _
+      (λ u led. tested_ends classes code r.output (object_at store u) _ _ (λ o is. inner u o led is))))

@@ -1,5 +1,6 @@
 -- Where windows begin among the slots of all frames, against the place at which one opens or a frame ends.
-use Rattle.std.proofs.Common.{◌≡◌, ℕ, ◌+◌, ◌-◌, ◌<◌, ◌≤◌, true, inl, inr, Bool as Truth, if◌then◌else◌, List, [], ◌∷◌, ◌++◌, length, map, replicate, reverse, suc, Result, refl, sym, ap, subst, ◌∙◌, arith, length-append}
+use Rattle.std.proofs.Common.{◌≡◌, ℕ, ◌+◌, ◌-◌, ◌<◌, ◌≤◌, true, inl, inr, Bool as Truth, if◌then◌else◌, List, [], ◌∷◌, ◌++◌, length, map, replicate}
+use Rattle.std.proofs.Common.{reverse, suc, Result, refl, sym, ap, subst, ◌∙◌, arith, length-append}
 use Rattle.std.proofs.lemmas.List.{length-map, length-reverse, reverse-append}
 use Rattle.std.proofs.lemmas.Bool.{lt-ltb, le-leb}
 use Rattle.std.specs.Prelude.{nat_lt}
@@ -27,7 +28,8 @@ total-append (x ∷ xs) y = ap (λ n. x + n) (total-append xs y) ∙ omega arith
 
 total_of : (fs : List Frame) → total (sizes_of fs) ≡ slots_below fs
 total_of [] = refl
-total_of (f ∷ fs) = ap total (reverse-append (length f.slots ∷ []) (map (λ (f : Frame). length f.slots) fs)) ∙ total-append (sizes_of fs) (length f.slots) ∙ ap (λ n. n + length f.slots) (total_of fs) ∙ omega arith
+total_of (f ∷ fs) = ap total (reverse-append (length f.slots ∷ []) (map (λ (f : Frame). length f.slots) fs))
+    ∙ total-append (sizes_of fs) (length f.slots) ∙ ap (λ n. n + length f.slots) (total_of fs) ∙ omega arith
 
 place_top : (xs : List ℕ) (y k : ℕ) → place_among (xs ++ y ∷ []) (length xs) k ≡ total xs + k
 place_top [] y k = omega arith
@@ -39,9 +41,11 @@ as_many [] (b ∷ bs) h = absurd h
 as_many (f ∷ fs) [] h = absurd h
 as_many (f ∷ fs) (b ∷ bs) h = ap suc (as_many fs bs h.1)
 
-pub base_is : (fs : List Frame) (n many k m : ℕ) → many ≡ length fs → k ≡ m → slots_below fs + k ≡ place_among (reverse (n ∷ map (λ (f : Frame). length f.slots) fs)) many m
+pub base_is : (fs : List Frame) (n many k m : ℕ) → many ≡ length fs → k ≡ m → slots_below fs + k
+    ≡ place_among (reverse (n ∷ map (λ (f : Frame). length f.slots) fs)) many m
 base_is fs n many k m is same =
-    let count : length (sizes_of fs) ≡ many = length-reverse (map (λ (f : Frame). length f.slots) fs) ∙ length-map fs (λ (f : Frame). length f.slots) ∙ sym is in
+    let count : length (sizes_of fs) ≡ many = length-reverse (map (λ (f : Frame). length f.slots) fs)
+    ∙ length-map fs (λ (f : Frame). length f.slots) ∙ sym is in
     sym (ap (λ l. place_among l many m) (reverse-append (n ∷ []) (map (λ (f : Frame). length f.slots) fs))
     ∙ ap (λ c. place_among (sizes_of fs ++ n ∷ []) c m) (sym count)
     ∙ place_top (sizes_of fs) n m
@@ -52,7 +56,13 @@ base_is fs n many k m is same =
 shown-room : (f : Frame) (b : Body) → ShowsFrame f b → length b.locals ≤ length f.slots
 shown-room f b h =
     let vals = map (λ (l : Local). l.value) b.locals in
-    omega (arith, ap length h, length-append vals (replicate (length f.slots - length b.locals) val.Nil), length-map b.locals (λ (l : Local). l.value))
+    omega (
+      arith,
+      ap length h,
+      length-append vals (replicate (length f.slots - length b.locals) val.Nil),
+      length-map b.locals
+          (λ (l : Local). l.value),
+    )
 
 based-there : (fs : List Body) (p : Opened) → Based fs p → p.base_frame < length fs
 based-there [] p h = absurd h
@@ -84,7 +94,8 @@ based-bound mf (mg ∷ mgs) f (g ∷ gs) p h (inr based) =
     let there = based-there (g ∷ gs) p based in
     let less : p.base_frame < length (sizes_of (mg ∷ mgs)) = omega (arith, count, there) in
     let at : place_among (sizes_of (mf ∷ mg ∷ mgs)) p.base_frame p.base_place ≡ place_among (sizes_of (mg ∷ mgs)) p.base_frame p.base_place =
-    ap (λ l. place_among l p.base_frame p.base_place) (sizes-more mf (mg ∷ mgs)) ∙ place_below (sizes_of (mg ∷ mgs)) (length mf.slots) p.base_frame p.base_place less in
+    ap (λ l. place_among l p.base_frame p.base_place) (sizes-more mf (mg ∷ mgs))
+    ∙ place_below (sizes_of (mg ∷ mgs)) (length mf.slots) p.base_frame p.base_place less in
     let lower = based-bound mg mgs g gs p h.1 based in
     let room = shown-room mg g h.1.0 in
     let below : slots_below (mg ∷ mgs) ≡ length mg.slots + slots_below mgs = refl in
@@ -107,21 +118,25 @@ lower-within mf mg mfs g fs p h based =
     let there = based-there (g ∷ fs) p based in
     let less : p.base_frame < length (sizes_of (mg ∷ mfs)) = omega (arith, count, there) in
     let at : place_among (sizes_of (mf ∷ mg ∷ mfs)) p.base_frame p.base_place ≡ place_among (sizes_of (mg ∷ mfs)) p.base_frame p.base_place =
-    ap (λ l. place_among l p.base_frame p.base_place) (sizes-more mf (mg ∷ mfs)) ∙ place_below (sizes_of (mg ∷ mfs)) (length mf.slots) p.base_frame p.base_place less in
+    ap (λ l. place_among l p.base_frame p.base_place) (sizes-more mf (mg ∷ mfs))
+    ∙ place_below (sizes_of (mg ∷ mfs)) (length mf.slots) p.base_frame p.base_place less in
     let within = based-within mg mfs g fs p h based in
     omega (arith, at, within)
 
 -- the topmost window of the machine begins where that of the state does
-pub begins-there : (sizes : List ℕ) (mws : List Window) (p : Opened) (ps : List Opened) (place : ℕ) → ShowsWindows sizes mws (p ∷ ps) → place_among sizes p.base_frame p.base_place ≤ place → begins_by mws place ≡ true
+pub begins-there : (sizes : List ℕ) (mws : List Window) (p : Opened) (ps : List Opened) (place : ℕ) → ShowsWindows sizes mws (p ∷ ps)
+    → place_among sizes p.base_frame p.base_place ≤ place → begins_by mws place ≡ true
 begins-there sizes [] p ps place h le = absurd h
 begins-there sizes (w ∷ ws) p ps place h le = let base = h.0.base in le-leb w.base place (omega (arith, base, le))
 
 -- on both sides of a test that holds
-pub if_ends : (classes : List Class) (code : Code) (before : List Val) (r : Result State Trap) (t : Truth) (x y : Walked) → t ≡ true → EndsAs classes code before r x → EndsAs classes code before r (if t then x else y)
+pub if_ends : (classes : List Class) (code : Code) (before : List Val) (r : Result State Trap) (t : Truth) (x y : Walked) → t ≡ true
+    → EndsAs classes code before r x → EndsAs classes code before r (if t then x else y)
 if_ends classes code before r t x y e h = subst (λ b. EndsAs classes code before r (if b then x else y)) (sym e) h
 
 -- a window opens over a slot that is there
-pub opens_ends : (classes : List Class) (code : Code) (before : List Val) (r : Result State Trap) (m : Machine) (z : ℕ) (go : Walked) → z < length (top_slots m.frames) → begins_by m.windows (place_of m.frames z) ≡ true
+pub opens_ends : (classes : List Class) (code : Code) (before : List Val) (r : Result State Trap) (m : Machine) (z : ℕ) (go : Walked)
+    → z < length (top_slots m.frames) → begins_by m.windows (place_of m.frames z) ≡ true
     → EndsAs classes code before r go → EndsAs classes code before r (opens_at m z go)
 opens_ends classes code before r m z go room begins h =
     if_ends classes code before r (nat_lt z (length (top_slots m.frames))) _ _ (lt-ltb z (length (top_slots m.frames)) room)

@@ -1,5 +1,6 @@
 -- `return e;`: the frame goes, and its target in the frame beneath takes the value.
-use Rattle.std.proofs.Common.{◌≡◌, if◌then◌else◌, ℕ, ◌+◌, ◌<◌, true, true≢false, List, [], ◌∷◌, ◌++◌, length, map, drop, Some, Ok, refl, sym, ap, subst, ◌∙◌, append_assoc, slice_get, slice_set}
+use Rattle.std.proofs.Common.{◌≡◌, if◌then◌else◌, ℕ, ◌+◌, ◌<◌, true, true≢false, List, [], ◌∷◌, ◌++◌, length, map, drop, Some, Ok, refl, sym, ap}
+use Rattle.std.proofs.Common.{subst, ◌∙◌, append_assoc, slice_get, slice_set}
 use Rattle.std.proofs.lemmas.List.{length-map, map-append, length-set, reverse-append}
 use Rattle.rg_base.specs.declared.value.Val.{Val}
 use Rattle.rg_base.specs.declared.object.Seen.{Seen}
@@ -26,18 +27,22 @@ use Rattle.rg_stack.proofs.Walks.MarkLemmas.{mark-there, drop-stands, drop-drop,
 use Rattle.rg_stack.proofs.Walks.PlaceLemmas.{and-left}
 use Rattle.rg_stack.proofs.Walks.FrameLemmas.{work_of, state_of, room_of, shows_next, OpenedBelow, windows_below}
 use Rattle.rg_stack.proofs.Walks.SlotLemmas.{ShowsSlots, Has, shows_put, slot_place, scope_set}
-use Rattle.rg_stack.proofs.Walks.EndLemmas.{comes, Landed, EndsAs, computed_ends, Round, work, state, level, RoundShows, finish, statement_step, walk-whole}
+use Rattle.rg_stack.proofs.Walks.EndLemmas.{comes, Landed, EndsAs, computed_ends, Round, work, state, level, RoundShows, finish, statement_step}
+use Rattle.rg_stack.proofs.Walks.EndLemmas.{walk-whole}
 use Rattle.rg_stack.proofs.Statements.BaseLemmas.{if_ends}
 use Rattle.rg_stack.proofs.Statements.AssignLemmas.{walk-assign}
 
 -- the walk behind a frame's end comes to where items begin
-pub land_at : (classes : List Class) (code : Code) (r : Round) (store : List Seen) (slots : List Val) (locals : List Local) (managers : List Manager) (input : List ℕ) (j : Item) (rest : List Item) (n end : ℕ)
+pub land_at : (classes : List Class) (code : Code) (r : Round) (store : List Seen) (slots : List Val) (locals : List Local)
+    (managers : List Manager) (input : List ℕ) (j : Item) (rest : List Item) (n end : ℕ)
     → ShowsSlots slots locals → length slots ≡ n → RoundShows r n
     → Lies classes code.ops (level r (scope_of locals) n ∷ levels_of r.frames r.bodies) (j ∷ rest) end
-    → Landed classes code r.output (state r store locals managers input (j ∷ rest)) (walk code (drop end code.ops) end 0 [] (work r store slots managers input))
+    → Landed classes code r.output (state r store locals managers input (j ∷ rest))
+    (walk code (drop end code.ops) end 0 [] (work r store slots managers input))
 land_at classes code r store slots locals managers input j rest n end shows size round lies =
     subst (λ x. Landed classes code r.output (state r store locals managers input (j ∷ rest)) x)
-    (sym (walk_to_items classes code (level r (scope_of locals) n ∷ levels_of r.frames r.bodies) j rest end [] (work r store slots managers input) lies))
+    (sym (walk_to_items classes code (level r (scope_of locals) n ∷ levels_of r.frames r.bodies) j rest end [] (work r store slots managers input)
+    lies))
     (finish classes code r store slots locals managers input (j ∷ rest) n end shows size round lies)
 
 -- what a target assigns is there
@@ -47,17 +52,21 @@ TargetHas (Assigns x) locals = Has locals x
 TargetHas Drops locals = Unit {0}
 
 -- an instruction that drops
-dropped : (ops : List Op) (classes : List Class) (code : Code) (here : ℕ) (v : Val) (w : Work) → is_drop (slice_get ops 0) ≡ true → walk code ops here 0 (v ∷ []) w ≡ walk code (drop 1 ops) (here + 1) 0 [] w
+dropped : (ops : List Op) (classes : List Class) (code : Code) (here : ℕ) (v : Val) (w : Work) → is_drop (slice_get ops 0) ≡ true
+    → walk code ops here 0 (v ∷ []) w ≡ walk code (drop 1 ops) (here + 1) 0 [] w
 dropped [] classes code here v w e = absurd (true≢false (sym e))
 dropped (i.Pop ∷ ops) classes code here v w e = refl
 dropped (i.Drop ∷ ops) classes code here v w e = refl
 dropped (o ∷ ops) classes code here v w e = absurd (true≢false (sym e))
 
 -- a target takes a value, and the code goes on
-pub taken_lands : (classes : List Class) (code : Code) (r : Round) (store : List Seen) (slots : List Val) (locals : List Local) (managers : List Manager) (input : List ℕ) (j : Item) (rest : List Item) (target : Target) (back : ℕ) (v : Val)
+pub taken_lands : (classes : List Class) (code : Code) (r : Round) (store : List Seen) (slots : List Val) (locals : List Local)
+    (managers : List Manager) (input : List ℕ) (j : Item) (rest : List Item) (target : Target) (back : ℕ) (v : Val)
     → ShowsSlots slots locals → RoundShows r (length slots) → TargetHas target locals
-    → TakesResult code.ops target back (level r (scope_of locals) (length slots) ∷ levels_of r.frames r.bodies) (λ levels here. Lies classes code.ops levels (j ∷ rest) here)
-    → Landed classes code r.output (deliver target (state r store locals managers input (j ∷ rest)) v) (walk code (drop back code.ops) back 0 (v ∷ []) (work r store slots managers input))
+    → TakesResult code.ops target back (level r (scope_of locals) (length slots) ∷ levels_of r.frames r.bodies)
+    (λ levels here. Lies classes code.ops levels (j ∷ rest) here)
+    → Landed classes code r.output (deliver target (state r store locals managers input (j ∷ rest)) v)
+    (walk code (drop back code.ops) back 0 (v ∷ []) (work r store slots managers input))
 taken_lands classes code r store slots locals managers input j rest (Declares x t) back v shows round has takes =
     let l : Local = record { name = Some x; ty = t; value = v } in
     let scope = scope_of locals in
@@ -65,8 +74,10 @@ taken_lands classes code r store slots locals managers input j rest (Declares x 
     let size = length slots in
     let is : k ≡ length locals = length-map locals (λ (l : Local). record { name = l.name; ty = l.ty }) in
     let room : length locals < size = room_of size k (length locals) is (and-left _ _ takes.0.1) in
-    let names : with_slot scope (Some x) t ≡ scope_of (locals ++ l ∷ []) = sym (map-append (λ (l : Local). record { name = l.name; ty = l.ty }) locals (l ∷ [])) in
-    subst (λ ops. Landed classes code r.output (state r store (locals ++ l ∷ []) managers input (j ∷ rest)) (walk code ops back 0 (v ∷ []) (work r store slots managers input))) (sym (drop-stands code.ops back (i.Store k ∷ []) takes.0.0))
+    let names : with_slot scope (Some x) t ≡ scope_of (locals ++ l ∷ []) = sym
+    (map-append (λ (l : Local). record { name = l.name; ty = l.ty }) locals (l ∷ [])) in
+    subst (λ ops. Landed classes code r.output (state r store (locals ++ l ∷ []) managers input (j ∷ rest))
+    (walk code ops back 0 (v ∷ []) (work r store slots managers input))) (sym (drop-stands code.ops back (i.Store k ∷ []) takes.0.0))
     (land_at classes code r store (slice_set slots k v) (locals ++ l ∷ []) managers input j rest size (back + 1)
     (subst (λ n. ShowsSlots (slice_set slots n v) (locals ++ l ∷ [])) (sym is) (shows_next slots locals l shows room))
     (length-set slots k v) round
@@ -92,17 +103,26 @@ taken_lands classes code r store slots locals managers input j rest Drops back v
 
 -- the frames of a state in which a body was called
 abbrev pub above : Round → (slots : List Val) → (locals : List Local) → (back : ℕ) → Target → Round
-above r slots locals back target = record r { back = back; frames = record { slots = slots; back = r.back } ∷ r.frames; target = target; bodies = record { locals = locals; target = r.target } ∷ r.bodies }
+above r slots locals back target = record r {
+  back = back;
+  frames = record { slots = slots; back = r.back } ∷ r.frames;
+  target = target;
+  bodies =
+      record { locals = locals; target = r.target } ∷ r.bodies;
+}
 
 -- `return e;`: r is what stands round the frame that called
-pub sim_return : (classes : List Class) (code : Code) (r : Round) (slots under : List Val) (locals callers : List Local) (back : ℕ) (target : Target) (store : List Seen) (managers : List Manager) (input : List ℕ) (line : ℕ) (e : Expr) (j : Item) (rest : List Item)
-    → Mirrors classes code (work (above r under callers back target) store slots managers input).machine (state (above r under callers back target) store locals managers input (Do (stmt line (return e)) ∷ j ∷ rest))
+pub return-mirrors : (classes : List Class) (code : Code) (r : Round) (slots under : List Val) (locals callers : List Local) (back : ℕ)
+    (target : Target) (store : List Seen) (managers : List Manager) (input : List ℕ) (line : ℕ) (e : Expr) (j : Item) (rest : List Item)
+    → Mirrors classes code (work (above r under callers back target) store slots managers input).machine
+    (state (above r under callers back target) store locals managers input (Do (stmt line (return e)) ∷ j ∷ rest))
     → Agrees classes store locals (scope_of locals) e
     → OpenedBelow (length (sizes_of (record { slots = under; back = r.back } ∷ r.frames))) r.opened
     → begins_by r.windows (slots_below (record { slots = under; back = r.back } ∷ r.frames)) ≡ true
     → TargetHas target callers
-    → SameMove classes code r.output (next classes (state (above r under callers back target) store locals managers input (Do (stmt line (return e)) ∷ j ∷ rest))) (step code (work (above r under callers back target) store slots managers input))
-sim_return classes code r slots under locals callers back target store managers input line e j rest h agrees below begins has =
+    → SameMove classes code r.output (next classes (state (above r under callers back target) store locals managers input
+    (Do (stmt line (return e)) ∷ j ∷ rest))) (step code (work (above r under callers back target) store slots managers input))
+return-mirrors classes code r slots under locals callers back target store managers input line e j rest h agrees below begins has =
     let a = above r under callers back target in
     let scope = scope_of locals in
     let whole = whole_code classes scope (r.at + 1) e in
@@ -112,32 +132,52 @@ sim_return classes code r slots under locals callers back target store managers 
     let round : RoundShows r (length under) = record {
       frames = h.slots.1.1;
       windows = windows_below (sizes_of (record { slots = under; back = r.back } ∷ r.frames)) size r.windows r.opened below
-          (subst (λ k. ShowsWindows k r.windows r.opened) (reverse-append (size ∷ []) (length under ∷ map (λ (f : Frame). length f.slots) r.frames)) h.windows);
+          (subst (λ k. ShowsWindows k r.windows r.opened) (reverse-append (size ∷ []) (length under ∷ map (λ (f : Frame). length f.slots) r.frames))
+          h.windows);
     } in
     statement_step classes code a store slots locals managers input line (return e) more (j ∷ rest) h.places.0.0
-    (subst (λ x. EndsAs classes code r.output (◌>>=◌ (computed classes (state a store locals managers input (j ∷ rest)) e) (λ done. Ok (deliver target (state r store callers managers input (j ∷ rest)) done.1))) x)
-    (sym (ap (λ l. walk code l (r.at + 1) 0 [] (work a store slots managers input)) (append_assoc whole (i.Ret ∷ []) tail) ∙ walk-whole classes code a store managers input e scope slots locals (i.Ret ∷ tail) (r.at + 1) [] h.slots.0 refl agrees))
-    (computed_ends classes code r.output (value_of classes store locals e) (state a store (cleared (uses locals e) locals) managers input (j ∷ rest)) _ _ (λ v is.
-    if_ends classes code r.output (Ok (deliver target (state r store callers managers input (j ∷ rest)) v)) (begins_by r.windows (slots_below (record { slots = under; back = r.back } ∷ r.frames))) (Returns back (v ∷ []) (work r store under managers input)) Stuck begins
+    (subst (λ x. EndsAs classes code r.output (◌>>=◌ (computed classes (state a store locals managers input (j ∷ rest)) e)
+    (λ done. Ok (deliver target (state r store callers managers input (j ∷ rest)) done.1))) x)
+    (sym (ap (λ l. walk code l (r.at + 1) 0 [] (work a store slots managers input)) (append_assoc whole (i.Ret ∷ []) tail)
+    ∙ walk-whole classes code a store managers input e scope slots locals (i.Ret ∷ tail) (r.at + 1) [] h.slots.0 refl agrees))
+    (computed_ends classes code r.output (value_of classes store locals e)
+    (state a store (cleared (uses locals e) locals) managers input (j ∷ rest)) _ _ (λ v is.
+    if_ends classes code r.output (Ok (deliver target (state r store callers managers input (j ∷ rest)) v))
+    (begins_by r.windows (slots_below (record { slots = under; back = r.back } ∷ r.frames)))
+    (Returns back (v ∷ []) (work r store under managers input)) Stuck begins
     (taken_lands classes code r store under callers managers input j rest target back v h.slots.1.0 round has h.places.1))))
 
 -- the end of a method without a result
-pub sim_back : (classes : List Class) (code : Code) (store : List Seen) (mf mg : Frame) (mfs : List Frame) (ws : List Window) (managers : List Manager) (made at : ℕ) (input : List ℕ) (f g : Body) (fs : List Body) (pws : List Opened) (output : List Val) (j : Item) (rest : List Item)
-    → Mirrors classes code (work_of store (mf ∷ mg ∷ mfs) ws managers made at input).machine (state_of store (f ∷ g ∷ fs) pws managers made input output (Back ∷ j ∷ rest))
+pub back-mirrors : (classes : List Class) (code : Code) (store : List Seen) (mf mg : Frame) (mfs : List Frame) (ws : List Window)
+    (managers : List Manager) (made at : ℕ) (input : List ℕ) (f g : Body) (fs : List Body) (pws : List Opened) (output : List Val) (j : Item)
+    (rest : List Item)
+    → Mirrors classes code (work_of store (mf ∷ mg ∷ mfs) ws managers made at input).machine
+    (state_of store (f ∷ g ∷ fs) pws managers made input output (Back ∷ j ∷ rest))
     → OpenedBelow (length (sizes_of (mg ∷ mfs))) pws
     → begins_by ws (slots_below (mg ∷ mfs)) ≡ true
-    → SameMove classes code output (next classes (state_of store (f ∷ g ∷ fs) pws managers made input output (Back ∷ j ∷ rest))) (step code (work_of store (mf ∷ mg ∷ mfs) ws managers made at input))
-sim_back classes code store mf mg mfs ws managers made at input f g fs pws output j rest h below begins =
+    → SameMove classes code output (next classes (state_of store (f ∷ g ∷ fs) pws managers made input output (Back ∷ j ∷ rest)))
+    (step code (work_of store (mf ∷ mg ∷ mfs) ws managers made at input))
+back-mirrors classes code store mf mg mfs ws managers made at input f g fs pws output j rest h below begins =
     let w = work_of store (mf ∷ mg ∷ mfs) ws managers made at input in
     let x = work_of store (mg ∷ mfs) ws managers made at input in
     let levels = levels_of (mg ∷ mfs) (g ∷ fs) in
     let marked = mark-there code.ops at h.places.0 in
-    let front : drop at code.ops ≡ i.Mark marked.0 ∷ (i.RetVoid ∷ drop (at + 1 + 1) code.ops) = marked.1 ∙ ap (λ l. i.Mark marked.0 ∷ l) (drop-stands code.ops (at + 1) (i.RetVoid ∷ []) h.places.1) in
-    let lands = ap (λ b. finished code marked.0 (if b then Returns mf.back [] x else Stuck)) begins ∙ ap (landed code) (walk_to_items classes code levels j rest mf.back [] x h.places.3) in
+    let front : drop at code.ops ≡ i.Mark marked.0 ∷ (i.RetVoid ∷ drop (at + 1 + 1) code.ops) = marked.1
+    ∙ ap (λ l. i.Mark marked.0 ∷ l) (drop-stands code.ops (at + 1) (i.RetVoid ∷ []) h.places.1) in
+    let lands = ap (λ b. finished code marked.0 (if b then Returns mf.back [] x else Stuck)) begins
+    ∙ ap (landed code) (walk_to_items classes code levels j rest mf.back [] x h.places.3) in
     subst (λ t. SameMove classes code output (next classes (state_of store (f ∷ g ∷ fs) pws managers made input output (Back ∷ j ∷ rest))) t)
     (sym (ap (step_from code w) front ∙ lands))
     (comes classes code output mf.back x (state_of store (g ∷ fs) pws managers made input output (j ∷ rest)) (record {
-      mirrors = record { slots = h.slots.1; windows = windows_below (sizes_of (mg ∷ mfs)) (length mf.slots) ws pws below (subst (λ k. ShowsWindows k ws pws) (reverse-append (length mf.slots ∷ []) (map (λ (f : Frame). length f.slots) (mg ∷ mfs))) h.windows); places = h.places.3; windows_made = refl; managers = refl; store = refl };
+      mirrors = record {
+        slots = h.slots.1;
+        windows = windows_below (sizes_of (mg ∷ mfs)) (length mf.slots) ws pws below
+            (subst (λ k. ShowsWindows k ws pws) (reverse-append (length mf.slots ∷ []) (map (λ (f : Frame). length f.slots) (mg ∷ mfs))) h.windows);
+        places = h.places.3;
+        windows_made = refl;
+        managers = refl;
+        store = refl;
+      };
       input = refl;
       output = refl;
     }))

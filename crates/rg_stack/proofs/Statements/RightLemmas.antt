@@ -1,5 +1,6 @@
 -- Right sides: the code of each leaves the value that the step uses, in the middle of a step.
-use Rattle.std.proofs.Common.{◌≡◌, ℕ, zero, suc, ◌+◌, true, false, true≢false, Bool as Truth, if◌then◌else◌, List, [], ◌∷◌, ◌++◌, length, map, Option, Some, None, option_map, Ok, Err, refl, sym, ap, subst, ◌∙◌, arith, slice_get, slice_set, unwrap_or}
+use Rattle.std.proofs.Common.{◌≡◌, ℕ, zero, suc, ◌+◌, true, false, true≢false, Bool as Truth, if◌then◌else◌, List, [], ◌∷◌, ◌++◌, length, map}
+use Rattle.std.proofs.Common.{Option, Some, None, option_map, Ok, Err, refl, sym, ap, subst, ◌∙◌, arith, slice_get, slice_set, unwrap_or}
 use Rattle.std.proofs.lemmas.List.{length-set}
 use Rattle.std.specs.Prelude.{bytes_eq, filter_map}
 use Rattle.rg_base.specs.declared.value.Val.{Val}
@@ -9,7 +10,8 @@ use Rattle.rg_base.specs.declared.object.Label.{Label}
 use Rattle.rg_base.specs.declared.object.Label.TheVariants.{Region, Temp, Frozen}
 use Rattle.rg_base.specs.declared.words.Manager.{Manager}
 use Rattle.rg_base.specs.Input.{NextNumber, found, malformed, at_end, next_number}
-use Rattle.rg_tree.specs.Tree.{Name, Variable, Ty as Written, int, bool, ref, Field, Right, value, new, new_tmp, new_iso, freeze, merge, read, more, result_of, Member, field, method, Class}
+use Rattle.rg_tree.specs.Tree.{Name, Variable, Ty as Written, int, bool, ref, Field, Right, value, new, new_tmp, new_iso, freeze, merge, read, more}
+use Rattle.rg_tree.specs.Tree.{result_of, Member, field, method, Class}
 use Rattle.rg_rules.specs.Answers.{◌>>=◌}
 use Rattle.rg_rules.specs.Types.{field_member, members_of, fields_of, class_named, class_number}
 use Rattle.rg_rules.specs.Items.{Item}
@@ -25,7 +27,8 @@ use Rattle.rg_stack.specs.Effects.{beneath_by_labels, Work, Traps, walk, top_reg
 use Rattle.rg_stack.specs.Shows.{ShowsWindows}
 use Rattle.rg_stack.proofs.Walks.WalkLemmas.{Agrees}
 use Rattle.rg_stack.proofs.Walks.SlotLemmas.{ShowsSlots, cleared_slots, shows_clear, scope_set, slot_place}
-use Rattle.rg_stack.proofs.Walks.EndLemmas.{EndsAs, object_ends, computed_ends, Round, work, state, RoundShows, Middle, Keeps, slots_hold, walk-whole, middle_whole}
+use Rattle.rg_stack.proofs.Walks.EndLemmas.{EndsAs, object_ends, computed_ends, Round, work, state, RoundShows, Middle, Keeps, slots_hold}
+use Rattle.rg_stack.proofs.Walks.EndLemmas.{walk-whole, middle_whole}
 
 -- what a new object starts with
 
@@ -36,15 +39,18 @@ word_value (ref cap x) = refl
 
 words_values : (ms : List Member) → map value_of_word (opening_words ms) ≡ map (λ (f : Field). opening_value f.ty) (filter_map field_member ms)
 words_values [] = refl
-words_values (field f ∷ ms) = ap (λ v. v ∷ map value_of_word (opening_words ms)) (word_value f.ty) ∙ ap (λ l. opening_value f.ty ∷ l) (words_values ms)
+words_values (field f ∷ ms) = ap (λ v. v ∷ map value_of_word (opening_words ms)) (word_value f.ty)
+    ∙ ap (λ l. opening_value f.ty ∷ l) (words_values ms)
 words_values (method m ∷ ms) = words_values ms
 
-words_at : (classes : List Class) (n : ℕ) (k : Class) → slice_get classes n ≡ Some k → slice_get (map (λ (c : Class). opening_words c.members) classes) n ≡ Some (opening_words k.members)
+words_at : (classes : List Class) (n : ℕ) (k : Class) → slice_get classes n ≡ Some k
+    → slice_get (map (λ (c : Class). opening_words c.members) classes) n ≡ Some (opening_words k.members)
 words_at [] n k h = absurd (true≢false (sym (ap (λ (o : Option Class). elim o [ Some x ↦ true | None ↦ false ]) h)))
 words_at (c ∷ cs) zero k h = ap (option_map (λ (c : Class). opening_words c.members)) h
 words_at (c ∷ cs) (suc n) k h = words_at cs n k h
 
-class_by : (t : Truth) (c k : Class) (cs : List Class) (rest : Option Class) (n : ℕ) → (rest ≡ Some k → slice_get cs n ≡ Some k) → (if t then Some c else rest) ≡ Some k → slice_get (c ∷ cs) (if t then 0 else suc n) ≡ Some k
+class_by : (t : Truth) (c k : Class) (cs : List Class) (rest : Option Class) (n : ℕ) → (rest ≡ Some k → slice_get cs n ≡ Some k)
+    → (if t then Some c else rest) ≡ Some k → slice_get (c ∷ cs) (if t then 0 else suc n) ≡ Some k
 class_by true c k cs rest n ih h = h
 class_by false c k cs rest n ih h = ih h
 
@@ -57,18 +63,31 @@ class_at (c ∷ cs) x k h = class_by (bytes_eq c.name x) c k cs (class_named cs 
 abbrev pub Opens : List Class → Code → Type 0
 Opens classes code = code.openings ≡ map (λ (c : Class). opening_words c.members) classes
 
-opens_as : (classes : List Class) (code : Code) (n : ℕ) (k : Class) → Opens classes code → slice_get classes n ≡ Some k → map value_of_word (unwrap_or (slice_get code.openings n) []) ≡ map (λ (f : Field). opening_value f.ty) (fields_of classes n)
+opens_as : (classes : List Class) (code : Code) (n : ℕ) (k : Class) → Opens classes code → slice_get classes n ≡ Some k
+    → map value_of_word (unwrap_or (slice_get code.openings n) []) ≡ map (λ (f : Field). opening_value f.ty) (fields_of classes n)
 opens_as classes code n k opens there =
     ap (λ l. map value_of_word (unwrap_or (slice_get l n) [])) opens
     ∙ ap (λ o. map value_of_word (unwrap_or o [])) (words_at classes n k there)
     ∙ words_values k.members
     ∙ ap (λ o. map (λ (f : Field). opening_value f.ty) (filter_map field_member (members_of o))) (sym there)
 
-seen_is : (classes : List Class) (code : Code) (x : Name) (k : Class) (label here : Label) → Opens classes code → class_named classes x ≡ Some k → here ≡ label
-    → ◌≡◌ {A = Seen} (record { class = class_number classes x; fields = map value_of_word (unwrap_or (slice_get code.openings (class_number classes x)) []); label = here }) (new_object classes x label)
+seen_is : (classes : List Class) (code : Code) (x : Name) (k : Class) (label here : Label) → Opens classes code → class_named classes x ≡ Some k
+    → here ≡ label
+    → ◌≡◌ {A = Seen} (record {
+      class = class_number classes x;
+      fields = map value_of_word
+          (unwrap_or (slice_get code.openings (class_number classes x)) []);
+      label = here;
+    }) (new_object classes x label)
 seen_is classes code x k label here opens named same =
-    ap (λ fs. record { class = class_number classes x; fields = fs; label = here }) (opens_as classes code (class_number classes x) k opens (class_at classes x k named))
-    ∙ ap (λ l. record { class = class_number classes x; fields = map (λ (f : Field). opening_value f.ty) (fields_of classes (class_number classes x)); label = l }) same
+    ap (λ fs. record { class = class_number classes x; fields = fs; label = here })
+    (opens_as classes code (class_number classes x) k opens (class_at classes x k named))
+    ∙ ap (λ l. record {
+      class = class_number classes x;
+      fields = map (λ (f : Field). opening_value f.ty)
+          (fields_of classes (class_number classes x));
+      label = l;
+    }) same
 
 -- the topmost window
 pub same_region : (sizes : List ℕ) (ws : List Window) (ps : List Opened) → ShowsWindows sizes ws ps → top_region ws ≡ active ps
@@ -107,14 +126,22 @@ keeps_append old store q h a o e = let g = h a o e in (g.0, get_append store (q 
 
 keeps_relabelled : (old store : List Seen) (regions : List ℕ) (label : Label) → Keeps old store → Keeps old (relabelled regions label store)
 keeps_relabelled old store regions label h a o e =
-    let g = h a o e in (relabelled_object regions label g.0, get_map (relabelled_object regions label) store a g.0 g.1, class_kept (in_regions regions g.0.label) label g.0 ∙ g.2)
+    let g = h a o e in (
+      relabelled_object regions label g.0,
+      get_map (relabelled_object regions label) store a g.0 g.1,
+      class_kept
+          (in_regions regions g.0.label) label g.0 ∙ g.2,
+    )
 
-pub middle_store : (scope : Scope) (n : ℕ) (old store after : List Seen) (slots : List Val) (locals : List Local) → Keeps old after → Middle scope n old store slots locals → Middle scope n old after slots locals
+pub middle_store : (scope : Scope) (n : ℕ) (old store after : List Seen) (slots : List Val) (locals : List Local) → Keeps old after
+    → Middle scope n old store slots locals → Middle scope n old after slots locals
 middle_store scope n old store after slots locals k m = record { shows = m.shows; size_is = m.size_is; scope_is = m.scope_is; keeps = k }
 
-pub middle_clear : (scope : Scope) (n : ℕ) (old store : List Seen) (slots : List Val) (locals : List Local) (x : Variable) → Middle scope n old store slots locals → Middle scope n old store (slice_set slots (slot_of scope x) val.Nil) (set_in x val.Nil locals)
+pub middle_clear : (scope : Scope) (n : ℕ) (old store : List Seen) (slots : List Val) (locals : List Local) (x : Variable)
+    → Middle scope n old store slots locals → Middle scope n old store (slice_set slots (slot_of scope x) val.Nil) (set_in x val.Nil locals)
 middle_clear scope n old store slots locals x m = record {
-  shows = subst (λ k. ShowsSlots (slice_set slots k val.Nil) (set_in x val.Nil locals)) (sym (slot_place locals x) ∙ ap (λ s. slot_of s x) m.scope_is) (shows_clear slots locals x m.shows);
+  shows = subst (λ k. ShowsSlots (slice_set slots k val.Nil) (set_in x val.Nil locals))
+      (sym (slot_place locals x) ∙ ap (λ s. slot_of s x) m.scope_is) (shows_clear slots locals x m.shows);
   size_is = length-set slots (slot_of scope x) val.Nil ∙ m.size_is;
   scope_is = scope_set x val.Nil locals ∙ m.scope_is;
   keeps = m.keeps;
@@ -126,7 +153,8 @@ InRegion store v = (o : Seen) → object_at store v ≡ Ok o → (g : ℕ) × (r
 
 -- the regions beneath one by labels are those by owner references
 abbrev pub LabelsLead : List Class → List Seen → Type 0
-LabelsLead classes store = (k r : ℕ) (label : Label) → relabelled (beneath_by_labels store k (r ∷ [])) label store ≡ relabelled (beneath classes store k (r ∷ [])) label store
+LabelsLead classes store = (k r : ℕ) (label : Label) → relabelled (beneath_by_labels store k (r ∷ [])) label store
+    ≡ relabelled (beneath classes store k (r ∷ [])) label store
 
 -- what the rules and the invariant give of a right side that makes no call
 abbrev pub RightOwes : List Class → List Seen → List Local → Scope → Right → Type 0
@@ -143,84 +171,143 @@ RightOwes classes store locals scope (result_of c) = ⊥
 module _ (classes : List Class) (code : Code) (r : Round) (scope : Scope) (n : ℕ) (old : List Seen) (items : List Item) where
   -- what is done with the value, on both sides
   abbrev pub Then : Use → (tail : List Op) → (end : ℕ) → (stack : List Val) → Type 0
-  Then put tail end stack = (store : List Seen) (slots : List Val) (locals : List Local) (managers : List Manager) (input : List ℕ) (v : Val) → Middle scope n old store slots locals
-      → EndsAs classes code r.output (Ok (put (state r store locals managers input items) v)) (walk code tail end 0 (v ∷ stack) (work r store slots managers input))
+  Then put tail end stack = (store : List Seen) (slots : List Val) (locals : List Local) (managers : List Manager) (input : List ℕ) (v : Val)
+      → Middle scope n old store slots locals
+      → EndsAs classes code r.output (Ok (put (state r store locals managers input items) v))
+      (walk code tail end 0 (v ∷ stack) (work r store slots managers input))
 
-  new_ends : (put : Use) (x : Name) (label : Label) (tail : List Op) (end : ℕ) (stack : List Val) (store : List Seen) (slots : List Val) (locals : List Local) (managers : List Manager) (input : List ℕ)
+  new_ends : (put : Use) (x : Name) (label : Label) (tail : List Op) (end : ℕ) (stack : List Val) (store : List Seen) (slots : List Val)
+      (locals : List Local) (managers : List Manager) (input : List ℕ)
       → (k : Class) → class_named classes x ≡ Some k
-      → EndsAs classes code r.output (Ok (put (state r (store ++ new_object classes x label ∷ []) locals managers input items) (val.Obj (length store)))) (walk code tail end 0 (val.Obj (length store) ∷ stack) (work r (store ++ new_object classes x label ∷ []) slots managers input))
+      → EndsAs classes code r.output (Ok (put (state r (store ++ new_object classes x label ∷ []) locals managers input items)
+      (val.Obj (length store)))) (walk code tail end 0 (val.Obj (length store) ∷ stack)
+      (work r (store ++ new_object classes x label ∷ []) slots managers input))
       → Opens classes code → (here : Label) → here ≡ label
-      → EndsAs classes code r.output (Ok (elim (class_named classes x) [ None ↦ state r store locals managers input items | Some c ↦ put (state r (store ++ new_object classes x label ∷ []) locals managers input items) (val.Obj (length store)) ]))
-      (walk code tail end 0 (val.Obj (length store) ∷ stack) (work r (store ++ record { class = class_number classes x; fields = map value_of_word (unwrap_or (slice_get code.openings (class_number classes x)) []); label = here } ∷ []) slots managers input))
+      → EndsAs classes code r.output (Ok (elim (class_named classes x) [
+        | None ↦ state r store locals managers input items
+        | Some c
+            ↦ put (state r (store ++ new_object classes x label ∷ []) locals managers input items) (val.Obj (length store))
+      ]))
+      (walk code tail end 0 (val.Obj (length store) ∷ stack)
+      (work r (store ++ record {
+        class = class_number classes x;
+        fields = map value_of_word
+            (unwrap_or (slice_get code.openings (class_number classes x)) []);
+        label = here;
+      } ∷ []) slots managers input))
   new_ends put x label tail end stack store slots locals managers input k named h opens here same =
-      subst (λ q. EndsAs classes code r.output (Ok (elim (class_named classes x) [ None ↦ state r store locals managers input items | Some c ↦ put (state r (store ++ new_object classes x label ∷ []) locals managers input items) (val.Obj (length store)) ]))
-      (walk code tail end 0 (val.Obj (length store) ∷ stack) (work r (store ++ q ∷ []) slots managers input))) (sym (seen_is classes code x k label here opens named same))
-      (subst (λ o. EndsAs classes code r.output (Ok (elim o [ None ↦ state r store locals managers input items | Some c ↦ put (state r (store ++ new_object classes x label ∷ []) locals managers input items) (val.Obj (length store)) ]))
+      subst (λ q. EndsAs classes code r.output (Ok (elim (class_named classes x) [
+        | None ↦ state r store locals managers input items
+        | Some c
+            ↦ put (state r (store ++ new_object classes x label ∷ []) locals managers input items) (val.Obj (length store))
+      ]))
+      (walk code tail end 0 (val.Obj (length store) ∷ stack) (work r (store ++ q ∷ []) slots managers input)))
+      (sym (seen_is classes code x k label here opens named same))
+      (subst (λ o. EndsAs classes code r.output (Ok (elim o [
+        | None ↦ state r store locals managers input items
+        | Some c
+            ↦ put (state r (store ++ new_object classes x label ∷ []) locals managers input items) (val.Obj (length store))
+      ]))
       (walk code tail end 0 (val.Obj (length store) ∷ stack) (work r (store ++ new_object classes x label ∷ []) slots managers input))) (sym named) h)
 
-  read_ends : (put : Use) (next : NextNumber) (tail : List Op) (end : ℕ) (stack : List Val) (store : List Seen) (slots : List Val) (locals : List Local) (managers : List Manager) (input : List ℕ)
+  read_ends : (put : Use) (next : NextNumber) (tail : List Op) (end : ℕ) (stack : List Val) (store : List Seen) (slots : List Val)
+      (locals : List Local) (managers : List Manager) (input : List ℕ)
       → Middle scope n old store slots locals → Then put tail end stack
-      → EndsAs classes code r.output (taken (state r store locals managers input items) put next) (next_taken next (walk code tail end) stack (work r store slots managers input))
+      → EndsAs classes code r.output (taken (state r store locals managers input items) put next)
+      (next_taken next (walk code tail end) stack (work r store slots managers input))
   read_ends put (found z rest) tail end stack store slots locals managers input m go = go store slots locals managers rest (val.Int z) m
   read_ends put malformed tail end stack store slots locals managers input m go = refl
   read_ends put at_end tail end stack store slots locals managers input m go = refl
 
   -- a variable whose region is frozen or merged
-  region_ends : (put : Use) (x : Variable) (tail : List Op) (end : ℕ) (stack : List Val) (store : List Seen) (slots : List Val) (locals : List Local) (managers : List Manager) (input : List ℕ)
+  region_ends : (put : Use) (x : Variable) (tail : List Op) (end : ℕ) (stack : List Val) (store : List Seen) (slots : List Val)
+      (locals : List Local) (managers : List Manager) (input : List ℕ)
       → (plain : Option ℕ → Option State) (shown : Option ℕ → List Seen) (after : ℕ → List Seen)
-      → ((g : ℕ) → plain (Some g) ≡ Some (state r (after g) locals managers input items)) → ((g : ℕ) → shown (Some g) ≡ after g) → ((g : ℕ) → Keeps old (after g))
+      → ((g : ℕ) → plain (Some g) ≡ Some (state r (after g) locals managers input items)) → ((g : ℕ) → shown (Some g) ≡ after g)
+      → ((g : ℕ) → Keeps old (after g))
       → Middle scope n old store slots locals → InRegion store (value_in locals x) → Then put tail end stack
-      → EndsAs classes code r.output (◌>>=◌ (object_at store (value_in locals x)) (λ o. Ok (consumed (state r store locals managers input items) put x (plain (region_of o.label)))))
-      (elim (object_at store (unwrap_or (slice_get slots (slot_of scope x)) val.Nil)) [ Ok o ↦ walk code tail end 0 (unwrap_or (slice_get slots (slot_of scope x)) val.Nil ∷ stack) (work r (shown (region_of o.label)) (slice_set slots (slot_of scope x) val.Nil) managers input) | Err t ↦ Traps t ])
+      → EndsAs classes code r.output (◌>>=◌ (object_at store (value_in locals x))
+      (λ o. Ok (consumed (state r store locals managers input items) put x (plain (region_of o.label)))))
+      (elim (object_at store (unwrap_or (slice_get slots (slot_of scope x)) val.Nil)) [
+        | Ok o ↦ walk code tail end 0 (unwrap_or (slice_get slots (slot_of scope x)) val.Nil ∷ stack)
+            (work r (shown (region_of o.label)) (slice_set slots (slot_of scope x) val.Nil) managers input)
+        | Err t ↦ Traps t
+      ])
   region_ends put x tail end stack store slots locals managers input plain shown after a b c m owes go =
-      subst (λ u. EndsAs classes code r.output (◌>>=◌ (object_at store (value_in locals x)) (λ o. Ok (consumed (state r store locals managers input items) put x (plain (region_of o.label)))))
-      (elim (object_at store u) [ Ok o ↦ walk code tail end 0 (u ∷ stack) (work r (shown (region_of o.label)) (slice_set slots (slot_of scope x) val.Nil) managers input) | Err t ↦ Traps t ])) (sym (slots_hold scope slots locals m.shows m.scope_is x))
+      subst (λ u. EndsAs classes code r.output (◌>>=◌ (object_at store (value_in locals x))
+      (λ o. Ok (consumed (state r store locals managers input items) put x (plain (region_of o.label)))))
+      (elim (object_at store u) [
+        | Ok o ↦ walk code tail end 0 (u ∷ stack)
+            (work r (shown (region_of o.label)) (slice_set slots (slot_of scope x) val.Nil) managers input)
+        | Err t ↦ Traps t
+      ]))
+      (sym (slots_hold scope slots locals m.shows m.scope_is x))
       (object_ends classes code r.output (object_at store (value_in locals x)) _ _ (λ o is.
       let g = owes o is in
       let new_store = after g.0 in
-      subst (λ l. EndsAs classes code r.output (Ok (consumed (state r store locals managers input items) put x (plain l))) (walk code tail end 0 (value_in locals x ∷ stack) (work r (shown l) (slice_set slots (slot_of scope x) val.Nil) managers input))) (sym g.1)
-      (subst (λ l. EndsAs classes code r.output (Ok (consumed (state r store locals managers input items) put x l)) (walk code tail end 0 (value_in locals x ∷ stack) (work r (shown (Some g.0)) (slice_set slots (slot_of scope x) val.Nil) managers input))) (sym (a g.0))
-      (subst (λ l. EndsAs classes code r.output (Ok (put (state r new_store (set_in x val.Nil locals) managers input items) (value_in locals x))) (walk code tail end 0 (value_in locals x ∷ stack) (work r l (slice_set slots (slot_of scope x) val.Nil) managers input))) (sym (b g.0))
+      subst (λ l. EndsAs classes code r.output (Ok (consumed (state r store locals managers input items) put x (plain l)))
+      (walk code tail end 0 (value_in locals x ∷ stack) (work r (shown l) (slice_set slots (slot_of scope x) val.Nil) managers input))) (sym g.1)
+      (subst (λ l. EndsAs classes code r.output (Ok (consumed (state r store locals managers input items) put x l))
+      (walk code tail end 0 (value_in locals x ∷ stack) (work r (shown (Some g.0)) (slice_set slots (slot_of scope x) val.Nil) managers input)))
+      (sym (a g.0))
+      (subst (λ l. EndsAs classes code r.output (Ok (put (state r new_store (set_in x val.Nil locals) managers input items) (value_in locals x)))
+      (walk code tail end 0 (value_in locals x ∷ stack) (work r l (slice_set slots (slot_of scope x) val.Nil) managers input))) (sym (b g.0))
       (go new_store (slice_set slots (slot_of scope x) val.Nil) (set_in x val.Nil locals) managers input (value_in locals x)
       (middle_clear scope n old new_store slots locals x (middle_store scope n old store new_store slots locals (c g.0) m)))))))
 
-  pub right_ends : (target : Target) (put : Use) (right : Right) (tail : List Op) (here : ℕ) (stack : List Val) (store : List Seen) (slots : List Val) (locals : List Local) (managers : List Manager) (input : List ℕ)
+  pub right_ends : (target : Target) (put : Use) (right : Right) (tail : List Op) (here : ℕ) (stack : List Val) (store : List Seen)
+      (slots : List Val) (locals : List Local) (managers : List Manager) (input : List ℕ)
       → RoundShows r n → Opens classes code → Middle scope n old store slots locals → RightOwes classes store locals scope right
       → Then put tail (here + length (right_code classes scope here right)) stack
-      → EndsAs classes code r.output (with_right classes (state r store locals managers input items) target put right) (walk code (right_code classes scope here right ++ tail) here 0 stack (work r store slots managers input))
+      → EndsAs classes code r.output (with_right classes (state r store locals managers input items) target put right)
+      (walk code (right_code classes scope here right ++ tail) here 0 stack (work r store slots managers input))
   right_ends target put (value e) tail here stack store slots locals managers input round opens m owes go =
       subst (λ x. EndsAs classes code r.output (with_right classes (state r store locals managers input items) target put (value e)) x)
       (sym (walk-whole classes code r store managers input e scope slots locals tail here stack m.shows m.scope_is owes))
-      (computed_ends classes code r.output (value_of classes store locals e) (state r store (cleared (uses locals e) locals) managers input items) _ _ (λ v is.
-      go store (cleared_slots (used_slots scope e) slots) (cleared (uses locals e) locals) managers input v (middle_whole scope n old store e slots locals m)))
+      (computed_ends classes code r.output (value_of classes store locals e) (state r store (cleared (uses locals e) locals) managers input items) _
+      _ (λ v is.
+      go store (cleared_slots (used_slots scope e) slots) (cleared (uses locals e) locals) managers input v
+      (middle_whole scope n old store e slots locals m)))
   right_ends target put (new x) tail here stack store slots locals managers input round opens m owes go =
       let label = Region (active r.opened) in
       let q = new_object classes x label in
       new_ends put x label tail (here + 1) stack store slots locals managers input owes.0 owes.1
-      (go (store ++ q ∷ []) slots locals managers input (val.Obj (length store)) (middle_store scope n old store (store ++ q ∷ []) slots locals (keeps_append old store q m.keeps) m))
+      (go (store ++ q ∷ []) slots locals managers input (val.Obj (length store))
+      (middle_store scope n old store (store ++ q ∷ []) slots locals (keeps_append old store q m.keeps) m))
       opens (Region (top_region r.windows)) (ap Region (same_region _ r.windows r.opened round.windows))
   right_ends target put (new_tmp x) tail here stack store slots locals managers input round opens m owes go =
       let label = Temp (top_number r.opened) in
       let q = new_object classes x label in
       new_ends put x label tail (here + 1) stack store slots locals managers input owes.0 owes.1
-      (go (store ++ q ∷ []) slots locals managers input (val.Obj (length store)) (middle_store scope n old store (store ++ q ∷ []) slots locals (keeps_append old store q m.keeps) m))
+      (go (store ++ q ∷ []) slots locals managers input (val.Obj (length store))
+      (middle_store scope n old store (store ++ q ∷ []) slots locals (keeps_append old store q m.keeps) m))
       opens (Temp (top_window r.windows)) (ap Temp (same_window _ r.windows r.opened round.windows))
   right_ends target put (new_iso x k) tail here stack store slots locals managers input round opens m owes go =
       let label = Region (length managers) in
       let q = new_object classes x label in
       let after = state r (store ++ q ∷ []) locals (managers ++ k ∷ []) input items in
-      let goes = λ (q : Seen). walk code tail (here + 1) 0 (val.Obj (length store) ∷ stack) (work r (store ++ q ∷ []) slots (managers ++ k ∷ []) input) in
-      let last : EndsAs classes code r.output (Ok (put after (val.Obj (length store)))) (goes q) = go (store ++ q ∷ []) slots locals (managers ++ k ∷ []) input (val.Obj (length store)) (middle_store scope n old store (store ++ q ∷ []) slots locals (keeps_append old store q m.keeps) m) in
-      subst (λ q. EndsAs classes code r.output (with_right classes (state r store locals managers input items) target put (new_iso x k)) (goes q)) (sym (seen_is classes code x owes.0 label label opens owes.1 refl))
-      (subst (λ o. EndsAs classes code r.output (Ok (elim o [ None ↦ state r store locals managers input items | Some c ↦ put after (val.Obj (length store)) ])) (goes q)) (sym owes.1) last)
+      let goes = λ (q : Seen). walk code tail (here + 1) 0 (val.Obj (length store) ∷ stack)
+      (work r (store ++ q ∷ []) slots (managers ++ k ∷ []) input) in
+      let last : EndsAs classes code r.output (Ok (put after (val.Obj (length store)))) (goes q) = go (store ++ q ∷ []) slots locals
+      (managers ++ k ∷ []) input (val.Obj (length store))
+      (middle_store scope n old store (store ++ q ∷ []) slots locals (keeps_append old store q m.keeps) m) in
+      subst (λ q. EndsAs classes code r.output (with_right classes (state r store locals managers input items) target put (new_iso x k)) (goes q))
+      (sym (seen_is classes code x owes.0 label label opens owes.1 refl))
+      (subst (λ o. EndsAs classes code r.output (Ok (elim o
+      [ None ↦ state r store locals managers input items | Some c ↦ put after (val.Obj (length store)) ])) (goes q)) (sym owes.1) last)
   right_ends target put (freeze y) tail here stack store slots locals managers input round opens m owes go =
       region_ends put (Some y) tail (here + 1) stack store slots locals managers input
-      (option_map (frozen classes (state r store locals managers input items))) (relabel true Frozen (work r store slots managers input)) (λ g. relabelled (beneath classes store (length managers) (g ∷ [])) Frozen store)
-      (λ g. refl) (λ g. owes.1 (length managers) g Frozen) (λ g. keeps_relabelled old store (beneath classes store (length managers) (g ∷ [])) Frozen m.keeps) m owes.0 go
+      (option_map (frozen classes (state r store locals managers input items))) (relabel true Frozen (work r store slots managers input))
+      (λ g. relabelled (beneath classes store (length managers) (g ∷ [])) Frozen store)
+      (λ g. refl) (λ g. owes.1 (length managers) g Frozen)
+      (λ g. keeps_relabelled old store (beneath classes store (length managers) (g ∷ [])) Frozen m.keeps) m owes.0 go
   right_ends target put (merge y) tail here stack store slots locals managers input round opens m owes go =
       region_ends put (Some y) tail (here + 1) stack store slots locals managers input
-      (option_map (merged (state r store locals managers input items))) (relabel false (Region (top_region r.windows)) (work r store slots managers input)) (λ g. relabelled (g ∷ []) (Region (active r.opened)) store)
-      (λ g. refl) (λ g. ap (λ k. relabelled (g ∷ []) (Region k) store) (same_region _ r.windows r.opened round.windows)) (λ g. keeps_relabelled old store (g ∷ []) (Region (active r.opened)) m.keeps) m owes go
+      (option_map (merged (state r store locals managers input items)))
+      (relabel false (Region (top_region r.windows)) (work r store slots managers input))
+      (λ g. relabelled (g ∷ []) (Region (active r.opened)) store)
+      (λ g. refl) (λ g. ap (λ k. relabelled (g ∷ []) (Region k) store) (same_region _ r.windows r.opened round.windows))
+      (λ g. keeps_relabelled old store (g ∷ []) (Region (active r.opened)) m.keeps) m owes go
   right_ends target put read tail here stack store slots locals managers input round opens m owes go =
       read_ends put (next_number input) tail (here + 1) stack store slots locals managers input m go
   right_ends target put more tail here stack store slots locals managers input round opens m owes go =
@@ -228,7 +315,8 @@ module _ (classes : List Class) (code : Code) (r : Round) (scope : Scope) (n : �
   right_ends target put (result_of c) tail here stack store slots locals managers input round opens m owes go = absurd owes
 
 -- what comes last where an object is made
-pub walk-pace : (classes : List Class) (code : Code) (right : Right) (rest : List Op) (here : ℕ) (stack : List Val) (w : Work) → walk code (pace_code right ++ rest) here 0 stack w ≡ walk code rest (here + length (pace_code right)) 0 stack w
+pub walk-pace : (classes : List Class) (code : Code) (right : Right) (rest : List Op) (here : ℕ) (stack : List Val) (w : Work)
+    → walk code (pace_code right ++ rest) here 0 stack w ≡ walk code rest (here + length (pace_code right)) 0 stack w
 walk-pace classes code (value e) rest here stack w = let e : here ≡ here + 0 = omega arith in ap (λ n. walk code rest n 0 stack w) e
 walk-pace classes code (new x) rest here stack w = refl
 walk-pace classes code (new_tmp x) rest here stack w = let e : here ≡ here + 0 = omega arith in ap (λ n. walk code rest n 0 stack w) e

@@ -1,5 +1,6 @@
 -- `swap y, q.f;`, `enter x as z { .. }`, `enter q.f as z { .. }` and the end of such a block.
-use Rattle.std.proofs.Common.{◌≡◌, ℕ, ◌+◌, ◌<◌, true, false, true≢false, Bool as Truth, List, [], ◌∷◌, ◌++◌, length, take, drop, Some, None, Result, Ok, Err, refl, sym, ap, subst, ◌∙◌, arith, append_assoc, length-append, slice_get, slice_set, unwrap_or}
+use Rattle.std.proofs.Common.{◌≡◌, ℕ, ◌+◌, ◌<◌, true, false, true≢false, Bool as Truth, List, [], ◌∷◌, ◌++◌, length, take, drop, Some, None, Result}
+use Rattle.std.proofs.Common.{Ok, Err, refl, sym, ap, subst, ◌∙◌, arith, append_assoc, length-append, slice_get, slice_set, unwrap_or}
 use Rattle.std.proofs.lemmas.List.{length-map, map-append, length-set, take-map}
 use Rattle.std.proofs.Math.Seq.{take-append_seam}
 use Rattle.std.proofs.lemmas.Bool.{ltb-false}
@@ -25,7 +26,8 @@ use Rattle.rg_rules.specs.Steps.{Went, next, put_field, with_window, entered as 
 use Rattle.rg_code.specs.declared.op.Op.{Op}
 use Rattle.rg_code.specs.declared.op.Op.TheVariants as i
 use Rattle.rg_code.specs.Code.{Code}
-use Rattle.rg_code.specs.Lowering.{Slot, Scope, slot_of, type_in, type_along, class_of, holder_code, held_number, scope_inside, enter_code, kind_code, block_code}
+use Rattle.rg_code.specs.Lowering.{Slot, Scope, slot_of, type_in, type_along, class_of, holder_code, held_number, scope_inside, enter_code}
+use Rattle.rg_code.specs.Lowering.{kind_code, block_code}
 use Rattle.rg_code.specs.Places.{StandsIn, is_mark, roomy, scope_of, Level, Lies}
 use Rattle.rg_stack.specs.Machine.{Window, slots_below, ended_slots}
 use Rattle.rg_stack.specs.Effects.{begins_by, Walked, Stops, Traps, walk, put_in, entered, address as slot_address}
@@ -35,10 +37,12 @@ use Rattle.rg_stack.specs.Shows.{levels_of}
 use Rattle.rg_stack.proofs.Mirrors.{SameMove}
 use Rattle.rg_stack.proofs.Walks.WalkLemmas.{FollowsPath, walk-path}
 use Rattle.rg_stack.proofs.Walks.MarkLemmas.{drop-stands, mark-there, walk_at_mark}
-use Rattle.rg_stack.proofs.Walks.PlaceLemmas.{and-left, roomy-back, front_in, back_in, get-stands, stands-back, block_starts, block_scope, extends, AllGoOn, lies_block}
+use Rattle.rg_stack.proofs.Walks.PlaceLemmas.{and-left, roomy-back, front_in, back_in, get-stands, stands-back, block_starts, block_scope, extends}
+use Rattle.rg_stack.proofs.Walks.PlaceLemmas.{AllGoOn, lies_block}
 use Rattle.rg_stack.proofs.Walks.FrameLemmas.{room_of, shows_next}
 use Rattle.rg_stack.proofs.Walks.SlotLemmas.{ShowsSlots, Has, shows_put, slot_place, scope_set}
-use Rattle.rg_stack.proofs.Walks.EndLemmas.{EndsAs, ended, value_ends, object_ends, Round, work, state, level, RoundShows, keeps_same, slots_hold, finish, finish_at, statement_step}
+use Rattle.rg_stack.proofs.Walks.EndLemmas.{EndsAs, ended, value_ends, object_ends, Round, work, state, level, RoundShows, keeps_same, slots_hold}
+use Rattle.rg_stack.proofs.Walks.EndLemmas.{finish, finish_at, statement_step}
 use Rattle.rg_stack.proofs.Statements.BaseLemmas.{as_many, base_is, opens_ends}
 use Rattle.rg_stack.proofs.Statements.AssignLemmas.{round_of, put_is, HolderOwes}
 use Rattle.rg_stack.proofs.Statements.BlockLemmas.{shows_ended, ended-length}
@@ -76,7 +80,8 @@ same_address (val.Bool b) = refl
 same_address (val.Obj a) = refl
 
 -- where the end of the block of an `enter` stands
-leave_end : (classes : List Class) (code : List Op) (l : Level) (ls : List Level) (b : Block) (scope : Scope) (x : Slot) (here line : ℕ) (after : List Item)
+leave_end : (classes : List Class) (code : List Op) (l : Level) (ls : List Level) (b : Block) (scope : Scope) (x : Slot) (here line : ℕ)
+    (after : List Item)
     → StandsIn code l here (i.Mark line ∷ i.Leave (length scope) ∷ [])
     → Lies classes code (record l { scope = scope } ∷ ls) after (here + 2)
     → Lies classes code (record l { scope = block_scope classes (scope ++ x ∷ []) b } ∷ ls) (LeaveAt (length scope) ∷ after) here
@@ -89,7 +94,8 @@ leave_end classes code l ls b scope x here line after h lies =
       subst (λ s. Lies classes code (record l { scope = s } ∷ ls) after (here + 2)) (sym kept) lies,
     )
 
-module _ (classes : List Class) (code : Code) (r : Round) (store : List Seen) (slots : List Val) (locals : List Local) (managers : List Manager) (input : List ℕ) (line : ℕ) (j : Item) (rest : List Item) where
+module _ (classes : List Class) (code : Code) (r : Round) (store : List Seen) (slots : List Val) (locals : List Local) (managers : List Manager)
+    (input : List ℕ) (line : ℕ) (j : Item) (rest : List Item) where
   abbrev scope : Scope
   scope = scope_of locals
 
@@ -103,13 +109,16 @@ module _ (classes : List Class) (code : Code) (r : Round) (store : List Seen) (s
   Showing k = Mirrors classes code (work r store slots managers input).machine (state r store locals managers input (Do (stmt line k) ∷ j ∷ rest))
 
   abbrev Simulated : StmtKind → Type 0
-  Simulated k = SameMove classes code r.output (next classes (state r store locals managers input (Do (stmt line k) ∷ j ∷ rest))) (step code (work r store slots managers input))
+  Simulated k = SameMove classes code r.output (next classes (state r store locals managers input (Do (stmt line k) ∷ j ∷ rest)))
+      (step code (work r store slots managers input))
 
   -- `swap y, q.f;`
-  pub sim_swap : (y : Name) (x : Variable) (f : Name) (fs : List Name) → Showing (swap y (record { base = x; fields = f ∷ fs })) → Has locals (Some y)
-      → FollowsPath classes store locals (scope_of locals) (record { base = x; fields = all_but_last f fs }) → HolderOwes classes store locals (scope_of locals) x f fs
+  pub swap-mirrors : (y : Name) (x : Variable) (f : Name) (fs : List Name) → Showing (swap y (record { base = x; fields = f ∷ fs }))
+      → Has locals (Some y)
+      → FollowsPath classes store locals (scope_of locals) (record { base = x; fields = all_but_last f fs })
+      → HolderOwes classes store locals (scope_of locals) x f fs
       → Simulated (swap y (record { base = x; fields = f ∷ fs }))
-  sim_swap y x f fs h has follows holds =
+  swap-mirrors y x f fs h has follows holds =
       let size = length slots in
       let q : Path = record { base = x; fields = all_but_last f fs } in
       let path = holder_code classes scope x f fs in
@@ -124,22 +133,35 @@ module _ (classes : List Class) (code : Code) (r : Round) (store : List Seen) (s
       let mine = value_in locals (Some y) in
       let there : r.at + 1 + length path + 1 + 1 ≡ end = omega (arith, length-append path (i.Check ∷ i.Swap s k ∷ [])) in
       let holding : unwrap_or (slice_get slots s) val.Nil ≡ mine = slots_hold scope slots locals h.slots.0 refl (Some y) in
-      statement_step classes code r store slots locals managers input line (swap y (record { base = x; fields = f ∷ fs })) more (j ∷ rest) h.places.0.0
-      (subst (λ z. EndsAs classes code r.output (◌>>=◌ (path_value classes store locals q) (λ u. ◌>>=◌ (object_at store u) (λ o. Ok (put_local (Some y) (put_field classes u g (state r store locals managers input (j ∷ rest)) mine) (field_value classes o g))))) z)
+      statement_step classes code r store slots locals managers input line (swap y (record { base = x; fields = f ∷ fs })) more (j ∷ rest)
+      h.places.0.0
+      (subst (λ z. EndsAs classes code r.output (◌>>=◌ (path_value classes store locals q)
+      (λ u. ◌>>=◌ (object_at store u) (λ o. Ok (put_local (Some y) (put_field classes u g (state r store locals managers input (j ∷ rest)) mine)
+      (field_value classes o g))))) z)
       (sym (ap (λ l. walk code l (r.at + 1) 0 [] w) (flat_two path tail i.Check (i.Swap s k))
       ∙ walk-path classes code q locals scope (r.at + 1) (i.Check ∷ i.Swap s k ∷ tail) [] w (slots_hold scope slots locals h.slots.0 refl) follows))
       (value_ends classes code r.output (path_value classes store locals q) _ _ (λ u led.
-      subst (λ z. EndsAs classes code r.output (◌>>=◌ (object_at store u) (λ o. Ok (put_local (Some y) (put_field classes u g (state r store locals managers input (j ∷ rest)) mine) (field_value classes o g)))) z)
-      (sym (doubled (object_at store u) (λ o. walk code tail (r.at + 1 + length path + 1 + 1) 0 [] (work r (put_in store u k (unwrap_or (slice_get slots s) val.Nil)) (slice_set slots s (unwrap_or (slice_get o.fields k) val.Nil)) managers input))))
+      subst (λ z. EndsAs classes code r.output (◌>>=◌ (object_at store u)
+      (λ o. Ok (put_local (Some y) (put_field classes u g (state r store locals managers input (j ∷ rest)) mine) (field_value classes o g)))) z)
+      (sym (doubled (object_at store u) (λ o. walk code tail (r.at + 1 + length path + 1 + 1) 0 []
+      (work r (put_in store u k (unwrap_or (slice_get slots s) val.Nil)) (slice_set slots s (unwrap_or (slice_get o.fields k) val.Nil)) managers
+      input))))
       (object_ends classes code r.output (object_at store u) _ _ (λ o is.
-      let field : field_value classes o g ≡ unwrap_or (slice_get o.fields k) val.Nil = ap (λ p. elim p [ None ↦ val.Nil | Some n ↦ unwrap_or (slice_get o.fields n) val.Nil ]) (holds u o led is) in
+      let field : field_value classes o g ≡ unwrap_or (slice_get o.fields k) val.Nil = ap
+      (λ p. elim p [ None ↦ val.Nil | Some n ↦ unwrap_or (slice_get o.fields n) val.Nil ]) (holds u o led is) in
       let theirs = unwrap_or (slice_get o.fields k) val.Nil in
-      let goes = λ (v : Val). walk code tail (r.at + 1 + length path + 1 + 1) 0 [] (work r (put_in store u k v) (slice_set slots s theirs) managers input) in
-      subst (λ v. EndsAs classes code r.output (Ok (put_local (Some y) (put_field classes u g (state r store locals managers input (j ∷ rest)) mine) (field_value classes o g))) (goes v)) (sym holding)
-      (subst (λ v. EndsAs classes code r.output (Ok (put_local (Some y) (put_field classes u g (state r store locals managers input (j ∷ rest)) mine) v)) (goes mine)) (sym field)
-      (subst (λ z. EndsAs classes code r.output (Ok (put_local (Some y) z theirs)) (goes mine)) (sym (put_is classes r locals managers input (j ∷ rest) store store u o g k mine is (keeps_same store) (holds u o led is)))
-      (finish_at classes code r (put_in store u k mine) (slice_set slots s theirs) (set_in (Some y) theirs locals) managers input j rest size end (r.at + 1 + length path + 1 + 1) there
-      (subst (λ n. ShowsSlots (slice_set slots n theirs) (set_in (Some y) theirs locals)) (sym (slot_place locals (Some y))) (shows_put slots locals (Some y) theirs h.slots.0 has))
+      let goes = λ (v : Val). walk code tail (r.at + 1 + length path + 1 + 1) 0 []
+      (work r (put_in store u k v) (slice_set slots s theirs) managers input) in
+      subst (λ v. EndsAs classes code r.output (Ok (put_local (Some y) (put_field classes u g (state r store locals managers input (j ∷ rest)) mine)
+      (field_value classes o g))) (goes v)) (sym holding)
+      (subst (λ v. EndsAs classes code r.output (Ok (put_local (Some y)
+      (put_field classes u g (state r store locals managers input (j ∷ rest)) mine) v)) (goes mine)) (sym field)
+      (subst (λ z. EndsAs classes code r.output (Ok (put_local (Some y) z theirs)) (goes mine))
+      (sym (put_is classes r locals managers input (j ∷ rest) store store u o g k mine is (keeps_same store) (holds u o led is)))
+      (finish_at classes code r (put_in store u k mine) (slice_set slots s theirs) (set_in (Some y) theirs locals) managers input j rest size end
+      (r.at + 1 + length path + 1 + 1) there
+      (subst (λ n. ShowsSlots (slice_set slots n theirs) (set_in (Some y) theirs locals)) (sym (slot_place locals (Some y)))
+      (shows_put slots locals (Some y) theirs h.slots.0 has))
       (length-set slots s theirs) (round_of classes code r store slots locals managers input (item ∷ j ∷ rest) h)
       (subst (λ n. Lies classes code.ops (level r n size ∷ levels) (j ∷ rest) end) (sym (scope_set (Some y) theirs locals)) h.places.1)))))))))
 
@@ -149,7 +171,9 @@ module _ (classes : List Class) (code : Code) (r : Round) (store : List Seen) (s
       → o.class ≡ class_of classes (type_along classes (type_in (scope_of locals) p.base) p.fields) → AllGoOn b → length locals < length slots
       → let inside = r.at + 1 + length front in
       EndsAs classes code r.output (Ok (with_window (state r store locals managers input (j ∷ rest)) mine z b bridge o.class (region_of o.label)))
-      (walk code (block_code classes (scope_inside classes (scope_of locals) p z) inside b ++ (i.Mark line ∷ i.Leave (length (scope_of locals)) ∷ drop (r.at + length (kind_code classes (scope_of locals) r.at line (enter p z b))) code.ops)) inside 0 []
+      (walk code (block_code classes (scope_inside classes (scope_of locals) p z) inside b
+      ++ (i.Mark line ∷ i.Leave (length (scope_of locals)) ∷ drop (r.at + length (kind_code classes (scope_of locals) r.at line (enter p z b)))
+      code.ops)) inside 0 []
       (entered (work r store slots managers input) shown bridge (length (scope_of locals)) (region_of o.label)))
   opens p z b front mine shown bridge o g h fronts owner region class goes room =
       let inside = r.at + 1 + length front in
@@ -166,43 +190,65 @@ module _ (classes : List Class) (code : Code) (r : Round) (store : List Seen) (s
       ap (λ f. i.Mark line ∷ (f ++ (block_code classes within (r.at + 1 + length f) b ++ closing))) (sym fronts) in
       let inside_is : r.at + length (i.Mark line ∷ front) ≡ inside = omega arith in
       let outer : Level = record top { scope = within } in
-      let stands = subst (λ n. StandsIn code.ops top n (block ++ closing)) inside_is (back_in code.ops top r.at (i.Mark line ∷ front) (block ++ closing) (subst (StandsIn code.ops top r.at) whole h.places.0)) in
-      let ends : inside + length block + 2 ≡ r.at + length (kind_code classes scope r.at line (enter p z b)) = omega (arith, ap length whole, length-append (i.Mark line ∷ front) (block ++ closing), length-append block closing) in
+      let stands = subst (λ n. StandsIn code.ops top n (block ++ closing)) inside_is
+      (back_in code.ops top r.at (i.Mark line ∷ front) (block ++ closing) (subst (StandsIn code.ops top r.at) whole h.places.0)) in
+      let ends : inside + length block + 2 ≡ r.at + length (kind_code classes scope r.at line (enter p z b)) = omega
+      (arith, ap length whole, length-append (i.Mark line ∷ front) (block ++ closing), length-append block closing) in
       let behind = subst (Lies classes code.ops (top ∷ levels) (j ∷ rest)) (sym ends) h.places.1 in
       let l : Local = record { name = Some z; ty = Ref Mut o.class; value = bridge } in
       let bridge_slot : Slot = record { name = Some z; ty = Ref Mut (class_of classes (type_along classes (type_in scope p.base) p.fields)) } in
       let body = lies_block classes code.ops b outer levels inside (LeaveAt k ∷ j ∷ rest) (front_in code.ops outer inside block closing stands) goes
-      (leave_end classes code.ops outer levels b scope bridge_slot (inside + length block) line (j ∷ rest) (back_in code.ops outer inside block closing stands) behind) in
+      (leave_end classes code.ops outer levels b scope bridge_slot (inside + length block) line (j ∷ rest)
+      (back_in code.ops outer inside block closing stands) behind) in
       let names : within ≡ scope_of (locals ++ l ∷ []) =
-      ap (λ c. scope ++ record { name = Some z; ty = Ref Mut c } ∷ []) (sym class) ∙ sym (map-append (λ (l : Local). record { name = l.name; ty = l.ty }) locals (l ∷ [])) in
+      ap (λ c. scope ++ record { name = Some z; ty = Ref Mut c } ∷ []) (sym class)
+      ∙ sym (map-append (λ (l : Local). record { name = l.name; ty = l.ty }) locals (l ∷ [])) in
       let window : Window = record { number = r.made; region = g; owner = Some mine; base = slots_below r.frames + k } in
       let opened : Opened = record { number = r.made; region = g; owner = Some mine; base_frame = length r.bodies; base_place = length locals } in
       let inner : Round = record r { windows = window ∷ r.windows; made = r.made + 1; opened = opened ∷ r.opened } in
       let after = state inner store (locals ++ l ∷ []) managers input (items_of b (LeaveAt (length locals) ∷ j ∷ rest)) in
       let w = work inner store (slice_set slots k bridge) managers input in
-      let begins : is_mark (slice_get (block ++ (i.Mark line ∷ i.Leave k ∷ tail)) 0) ≡ true = block_starts classes within inside line b (i.Leave k ∷ tail) in
+      let begins : is_mark (slice_get (block ++ (i.Mark line ∷ i.Leave k ∷ tail)) 0)
+      ≡ true = block_starts classes within inside line b (i.Leave k ∷ tail) in
       let inner_shows : RoundShows inner size = record {
         frames = round.frames;
-        windows = (record { number = refl; region = refl; owner = refl; base = base_is r.frames size (length r.bodies) k (length locals) (sym (as_many r.frames r.bodies round.frames)) is }, round.windows);
+        windows = (
+          record {
+            number = refl;
+            region = refl;
+            owner = refl;
+            base = base_is r.frames size (length r.bodies) k (length locals)
+                (sym (as_many r.frames r.bodies round.frames)) is;
+          },
+          round.windows,
+        );
       } in
       let last : EndsAs classes code r.output (Ok after) (Stops inside w) =
-      finish classes code inner store (slice_set slots k bridge) (locals ++ l ∷ []) managers input (items_of b (LeaveAt (length locals) ∷ j ∷ rest)) size inside
+      finish classes code inner store (slice_set slots k bridge) (locals ++ l ∷ []) managers input (items_of b (LeaveAt (length locals) ∷ j ∷ rest))
+      size inside
       (subst (λ n. ShowsSlots (slice_set slots n bridge) (locals ++ l ∷ [])) (sym is) (shows_next slots locals l h.slots.0 room))
       (length-set slots k bridge) inner_shows
       (subst (λ s. Lies classes code.ops (level r s size ∷ levels) (items_of b (LeaveAt (length locals) ∷ j ∷ rest)) inside) names
       (subst (λ n. Lies classes code.ops (outer ∷ levels) (items_of b (LeaveAt n ∷ j ∷ rest)) inside) is body)) in
-      subst (λ n. EndsAs classes code r.output (Ok (with_window (state r store locals managers input (j ∷ rest)) mine z b bridge o.class n)) (walk code (block ++ (i.Mark line ∷ i.Leave k ∷ tail)) inside 0 [] (entered (work r store slots managers input) shown bridge k n))) (sym region)
-      (subst (λ m. EndsAs classes code r.output (Ok after) (walk code (block ++ (i.Mark line ∷ i.Leave k ∷ tail)) inside 0 [] (entered (work r store slots managers input) m bridge k (Some g)))) (sym owner)
-      (subst (λ x. EndsAs classes code r.output (Ok after) x) (sym (walk_at_mark classes code (block ++ (i.Mark line ∷ i.Leave k ∷ tail)) inside [] w begins)) last))
+      subst (λ n. EndsAs classes code r.output (Ok (with_window (state r store locals managers input (j ∷ rest)) mine z b bridge o.class n))
+      (walk code (block ++ (i.Mark line ∷ i.Leave k ∷ tail)) inside 0 [] (entered (work r store slots managers input) shown bridge k n)))
+      (sym region)
+      (subst (λ m. EndsAs classes code r.output (Ok after)
+      (walk code (block ++ (i.Mark line ∷ i.Leave k ∷ tail)) inside 0 [] (entered (work r store slots managers input) m bridge k (Some g))))
+      (sym owner)
+      (subst (λ x. EndsAs classes code r.output (Ok after) x)
+      (sym (walk_at_mark classes code (block ++ (i.Mark line ∷ i.Leave k ∷ tail)) inside [] w begins)) last))
 
   -- what the rules and the invariant give of the object that an owner leads to: it is in a region, and has the declared class
   abbrev pub BridgeOwes : Path → Val → Type 0
-  BridgeOwes p bridge = (o : Seen) → object_at store bridge ≡ Ok o → ((g : ℕ) × (region_of o.label ≡ Some g)) × (o.class ≡ class_of classes (type_along classes (type_in (scope_of locals) p.base) p.fields))
+  BridgeOwes p bridge = (o : Seen) → object_at store bridge ≡ Ok o → ((g : ℕ) × (region_of o.label ≡ Some g))
+      × (o.class ≡ class_of classes (type_along classes (type_in (scope_of locals) p.base) p.fields))
 
   -- `enter x as z { .. }`
-  pub sim_enter : (x : Variable) (z : Name) (b : Block) → Showing (enter (record { base = x; fields = [] }) z b) → AllGoOn b → begins_by r.windows (slots_below r.frames + length locals) ≡ true → BridgeOwes (record { base = x; fields = [] }) (value_in locals x)
+  pub enter-mirrors : (x : Variable) (z : Name) (b : Block) → Showing (enter (record { base = x; fields = [] }) z b) → AllGoOn b
+      → begins_by r.windows (slots_below r.frames + length locals) ≡ true → BridgeOwes (record { base = x; fields = [] }) (value_in locals x)
       → Simulated (enter (record { base = x; fields = [] }) z b)
-  sim_enter x z b h goes begins owes =
+  enter-mirrors x z b h goes begins owes =
       let p : Path = record { base = x; fields = [] } in
       let s = slot_of scope x in
       let k = length scope in
@@ -216,24 +262,33 @@ module _ (classes : List Class) (code : Code) (r : Round) (store : List Seen) (s
       let bridge = value_in locals x in
       let mine = place.Var (length r.bodies) (place_in locals x) in
       let shown = place.Var (length r.frames) s in
-      let owner : shown ≡ mine = ap (λ n. place.Var n s) (as_many r.frames r.bodies h.slots.1) ∙ ap (λ n. place.Var (length r.bodies) n) (slot_place locals x) in
+      let owner : shown ≡ mine = ap (λ n. place.Var n s) (as_many r.frames r.bodies h.slots.1)
+      ∙ ap (λ n. place.Var (length r.bodies) n) (slot_place locals x) in
       let two = and-left _ _ (roomy-back (length slots) (i.Mark line ∷ []) (front ++ (block ++ (i.Mark line ∷ i.Leave k ∷ []))) h.places.0.1) in
       let room : length locals < length slots = room_most (length slots) s k (length locals) is two in
       let item = Do (stmt line (enter p z b)) in
       statement_step classes code r store slots locals managers input line (enter p z b) more (j ∷ rest) h.places.0.0
-      (subst (λ l. EndsAs classes code r.output (plain_entered (state r store locals managers input (j ∷ rest)) mine z b bridge) (walk code l (r.at + 1) 0 [] w)) (sym (flat_enter front block tail (i.Mark line) (i.Leave k)))
-      (opens_ends classes code r.output _ w.machine k _ (let e = is in omega (arith, e, room)) (ap (λ n. begins_by r.windows (slots_below r.frames + n)) is ∙ begins)
+      (subst (λ l. EndsAs classes code r.output (plain_entered (state r store locals managers input (j ∷ rest)) mine z b bridge)
+      (walk code l (r.at + 1) 0 [] w)) (sym (flat_enter front block tail (i.Mark line) (i.Leave k)))
+      (opens_ends classes code r.output _ w.machine k _ (let e = is in omega (arith, e, room))
+      (ap (λ n. begins_by r.windows (slots_below r.frames + n)) is ∙ begins)
       (subst (λ u. EndsAs classes code r.output (plain_entered (state r store locals managers input (j ∷ rest)) mine z b bridge)
-      (elim (object_at store u) [ Ok o ↦ walk code (block ++ (i.Mark line ∷ i.Leave k ∷ tail)) inside 0 [] (entered w shown u k (region_of o.label)) | Err t ↦ Traps t ])) (sym (slots_hold scope slots locals h.slots.0 refl x))
+      (elim (object_at store u) [
+        | Ok o ↦ walk code (block ++ (i.Mark line ∷ i.Leave k ∷ tail)) inside 0 [] (entered w shown u k (region_of o.label))
+        | Err t ↦ Traps t
+      ])) (sym (slots_hold scope slots locals h.slots.0 refl x))
       (object_ends classes code r.output (object_at store bridge) _ _ (λ o there. let owed = owes o there in
       opens p z b front mine shown bridge o owed.0.0 h refl owner owed.0.1 owed.1 goes room)))))
 
   -- `enter q.f as z { .. }`
-  pub sim_enter_field : (x : Variable) (f : Name) (fs : List Name) (z : Name) (b : Block) → Showing (enter (record { base = x; fields = f ∷ fs }) z b) → AllGoOn b → begins_by r.windows (slots_below r.frames + length locals) ≡ true
-      → FollowsPath classes store locals (scope_of locals) (record { base = x; fields = all_but_last f fs }) → HolderOwes classes store locals (scope_of locals) x f fs
-      → ((u : Val) (o : Seen) → path_value classes store locals (record { base = x; fields = all_but_last f fs }) ≡ Ok u → object_at store u ≡ Ok o → BridgeOwes (record { base = x; fields = f ∷ fs }) (field_value classes o (last_field f fs)))
+  pub enter-field-mirrors : (x : Variable) (f : Name) (fs : List Name) (z : Name) (b : Block)
+      → Showing (enter (record { base = x; fields = f ∷ fs }) z b) → AllGoOn b → begins_by r.windows (slots_below r.frames + length locals) ≡ true
+      → FollowsPath classes store locals (scope_of locals) (record { base = x; fields = all_but_last f fs })
+      → HolderOwes classes store locals (scope_of locals) x f fs
+      → ((u : Val) (o : Seen) → path_value classes store locals (record { base = x; fields = all_but_last f fs }) ≡ Ok u → object_at store u ≡ Ok o
+      → BridgeOwes (record { base = x; fields = f ∷ fs }) (field_value classes o (last_field f fs)))
       → Simulated (enter (record { base = x; fields = f ∷ fs }) z b)
-  sim_enter_field x f fs z b h goes begins follows holds owes =
+  enter-field-mirrors x f fs z b h goes begins follows holds owes =
       let p : Path = record { base = x; fields = f ∷ fs } in
       let q : Path = record { base = x; fields = all_but_last f fs } in
       let path = holder_code classes scope x f fs in
@@ -251,41 +306,65 @@ module _ (classes : List Class) (code : Code) (r : Round) (store : List Seen) (s
       let flat : more ++ tail ≡ path ++ (i.EnterField n k ∷ (block ++ (i.Mark line ∷ i.Leave k ∷ tail))) =
       flat_enter front block tail (i.Mark line) (i.Leave k) ∙ flat_one path (block ++ (i.Mark line ∷ i.Leave k ∷ tail)) (i.EnterField n k) in
       let here : r.at + 1 + length path + 1 ≡ inside = omega (arith, length-append path (i.EnterField n k ∷ [])) in
-      let named = and-left _ _ (roomy-back (length slots) (i.Mark line ∷ path) (i.EnterField n k ∷ (block ++ closing)) (subst (λ l. roomy (length slots) l ≡ true) (ap (λ l. i.Mark line ∷ l) (flat_one path (block ++ closing) (i.EnterField n k))) h.places.0.1)) in
+      let named = and-left _ _ (roomy-back (length slots) (i.Mark line ∷ path) (i.EnterField n k ∷ (block ++ closing))
+      (subst (λ l. roomy (length slots) l ≡ true) (ap (λ l. i.Mark line ∷ l) (flat_one path (block ++ closing) (i.EnterField n k)))
+      h.places.0.1)) in
       let room : length locals < length slots = room_of (length slots) k (length locals) is named in
       statement_step classes code r store slots locals managers input line (enter p z b) more (j ∷ rest) h.places.0.0
-      (subst (λ y. EndsAs classes code r.output (◌>>=◌ (path_value classes store locals q) (λ u. ◌>>=◌ (object_at store u) (λ o. plain_entered (state r store locals managers input (j ∷ rest)) (field_at classes u o g) z b (field_value classes o g)))) y)
-      (sym (ap (λ l. walk code l (r.at + 1) 0 [] w) flat ∙ walk-path classes code q locals scope (r.at + 1) (i.EnterField n k ∷ (block ++ (i.Mark line ∷ i.Leave k ∷ tail))) [] w (slots_hold scope slots locals h.slots.0 refl) follows))
+      (subst (λ y. EndsAs classes code r.output (◌>>=◌ (path_value classes store locals q)
+      (λ u. ◌>>=◌ (object_at store u) (λ o. plain_entered (state r store locals managers input (j ∷ rest)) (field_at classes u o g) z b
+      (field_value classes o g)))) y)
+      (sym (ap (λ l. walk code l (r.at + 1) 0 [] w) flat
+      ∙ walk-path classes code q locals scope (r.at + 1) (i.EnterField n k ∷ (block ++ (i.Mark line ∷ i.Leave k ∷ tail))) [] w
+      (slots_hold scope slots locals h.slots.0 refl) follows))
       (value_ends classes code r.output (path_value classes store locals q) _ _ (λ u led.
-      opens_ends classes code r.output _ w.machine k _ (let e = is in omega (arith, e, room)) (ap (λ n. begins_by r.windows (slots_below r.frames + n)) is ∙ begins)
+      opens_ends classes code r.output _ w.machine k _ (let e = is in omega (arith, e, room))
+      (ap (λ n. begins_by r.windows (slots_below r.frames + n)) is ∙ begins)
       (object_ends classes code r.output (object_at store u) _ _ (λ o there.
       let bridge = field_value classes o g in
-      let field : bridge ≡ unwrap_or (slice_get o.fields n) val.Nil = ap (λ p. elim p [ None ↦ val.Nil | Some n ↦ unwrap_or (slice_get o.fields n) val.Nil ]) (holds u o led there) in
+      let field : bridge ≡ unwrap_or (slice_get o.fields n) val.Nil = ap
+      (λ p. elim p [ None ↦ val.Nil | Some n ↦ unwrap_or (slice_get o.fields n) val.Nil ]) (holds u o led there) in
       let mine = field_at classes u o g in
       let shown = place.Field (slot_address u) n in
-      let owner : shown ≡ mine = sym (ap (λ a. place.Field a (unwrap_or (field_place (fields_of classes o.class) g) 0)) (same_address u) ∙ ap (λ p. place.Field (slot_address u) (unwrap_or p 0)) (holds u o led there)) in
+      let owner : shown ≡ mine = sym (ap (λ a. place.Field a (unwrap_or (field_place (fields_of classes o.class) g) 0)) (same_address u)
+      ∙ ap (λ p. place.Field (slot_address u) (unwrap_or p 0)) (holds u o led there)) in
       subst (λ v. EndsAs classes code r.output (plain_entered (state r store locals managers input (j ∷ rest)) mine z b bridge)
-      (elim (object_at store v) [ Ok c ↦ walk code (block ++ (i.Mark line ∷ i.Leave k ∷ tail)) (r.at + 1 + length path + 1) 0 [] (entered w shown v k (region_of c.label)) | Err t ↦ Traps t ])) field
+      (elim (object_at store v) [
+        | Ok c ↦ walk code (block ++ (i.Mark line ∷ i.Leave k ∷ tail)) (r.at + 1 + length path + 1) 0 []
+            (entered w shown v k (region_of c.label))
+        | Err t ↦ Traps t
+      ])) field
       (subst (λ m. EndsAs classes code r.output (plain_entered (state r store locals managers input (j ∷ rest)) mine z b bridge)
-      (elim (object_at store bridge) [ Ok c ↦ walk code (block ++ (i.Mark line ∷ i.Leave k ∷ tail)) m 0 [] (entered w shown bridge k (region_of c.label)) | Err t ↦ Traps t ])) (sym here)
+      (elim (object_at store bridge) [
+        | Ok c ↦ walk code (block ++ (i.Mark line ∷ i.Leave k ∷ tail)) m 0 []
+            (entered w shown bridge k (region_of c.label))
+        | Err t ↦ Traps t
+      ])) (sym here)
       (object_ends classes code r.output (object_at store bridge) _ _ (λ c found. let owed = owes u o led there c found in
       opens p z b front mine shown bridge c owed.0.0 h refl owner owed.0.1 owed.1 goes room))))))))
 
 -- the end of the block of an `enter`; r is what stands round it, beneath its window
-pub sim_leave : (classes : List Class) (code : Code) (r : Round) (store : List Seen) (slots : List Val) (locals : List Local) (managers : List Manager) (input : List ℕ) (v w : Window) (ws : List Window) (p q : Opened) (ps : List Opened) (k : ℕ) (j : Item) (rest : List Item)
-    → Mirrors classes code (work (record r { windows = v ∷ w ∷ ws; opened = p ∷ q ∷ ps }) store slots managers input).machine (state (record r { windows = v ∷ w ∷ ws; opened = p ∷ q ∷ ps }) store locals managers input (LeaveAt k ∷ j ∷ rest))
-    → SameMove classes code r.output (next classes (state (record r { windows = v ∷ w ∷ ws; opened = p ∷ q ∷ ps }) store locals managers input (LeaveAt k ∷ j ∷ rest))) (step code (work (record r { windows = v ∷ w ∷ ws; opened = p ∷ q ∷ ps }) store slots managers input))
-sim_leave classes code r store slots locals managers input v w ws p q ps k j rest h =
+pub leave-mirrors : (classes : List Class) (code : Code) (r : Round) (store : List Seen) (slots : List Val) (locals : List Local)
+    (managers : List Manager) (input : List ℕ) (v w : Window) (ws : List Window) (p q : Opened) (ps : List Opened) (k : ℕ) (j : Item)
+    (rest : List Item)
+    → Mirrors classes code (work (record r { windows = v ∷ w ∷ ws; opened = p ∷ q ∷ ps }) store slots managers input).machine
+    (state (record r { windows = v ∷ w ∷ ws; opened = p ∷ q ∷ ps }) store locals managers input (LeaveAt k ∷ j ∷ rest))
+    → SameMove classes code r.output (next classes (state (record r { windows = v ∷ w ∷ ws; opened = p ∷ q ∷ ps }) store locals managers input
+    (LeaveAt k ∷ j ∷ rest))) (step code (work (record r { windows = v ∷ w ∷ ws; opened = p ∷ q ∷ ps }) store slots managers input))
+leave-mirrors classes code r store slots locals managers input v w ws p q ps k j rest h =
     let before = record r { windows = v ∷ w ∷ ws; opened = p ∷ q ∷ ps } in
     let inner = record r { windows = w ∷ ws; opened = q ∷ ps } in
     let after = state inner store (take k locals) managers input (j ∷ rest) in
     let size = length slots in
     let marked = mark-there code.ops r.at h.places.0 in
-    let front : drop r.at code.ops ≡ i.Mark marked.0 ∷ (i.Leave k ∷ drop (r.at + 2) code.ops) = marked.1 ∙ ap (λ l. i.Mark marked.0 ∷ l) (drop-stands code.ops (r.at + 1) (i.Leave k ∷ []) h.places.1 ∙ ap (λ n. i.Leave k ∷ drop n code.ops) (omega arith)) in
+    let front : drop r.at code.ops ≡ i.Mark marked.0 ∷ (i.Leave k ∷ drop (r.at + 2) code.ops) = marked.1
+    ∙ ap (λ l. i.Mark marked.0 ∷ l) (drop-stands code.ops (r.at + 1) (i.Leave k ∷ []) h.places.1
+    ∙ ap (λ n. i.Leave k ∷ drop n code.ops) (omega arith)) in
     let names : take k (scope_of locals) ≡ scope_of (take k locals) = take-map (λ (l : Local). record { name = l.name; ty = l.ty }) k locals in
     let at_two : r.at + 1 + 1 ≡ r.at + 2 = omega arith in
     subst (λ t. SameMove classes code r.output (Went after) t) (sym (ap (step_from code (work before store slots managers input)) front))
-    (ended classes code r.output marked.0 (Ok after) (walk code (drop (r.at + 2) code.ops) (r.at + 1 + 1) 0 [] (work inner store (ended_slots k slots) managers input))
+    (ended classes code r.output marked.0 (Ok after) (walk code (drop (r.at + 2) code.ops) (r.at + 1 + 1) 0 []
+    (work inner store (ended_slots k slots) managers input))
     (finish_at classes code inner store (ended_slots k slots) (take k locals) managers input j rest size (r.at + 2) (r.at + 1 + 1) at_two
     (shows_ended k slots locals h.slots.0) (ended-length k slots) (record { frames = h.slots.1; windows = h.windows.1 })
     (subst (λ s. Lies classes code.ops (level r s size ∷ levels_of r.frames r.bodies) (j ∷ rest) (r.at + 2)) names h.places.2)))

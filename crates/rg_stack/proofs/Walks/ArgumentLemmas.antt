@@ -1,5 +1,6 @@
 -- The code of arguments leaves their values on the stack.
-use Rattle.std.proofs.Common.{◌≡◌, ℕ, ◌+◌, List, [], ◌∷◌, ◌++◌, length, reverse, Result, Ok, Err, refl, sym, ap, ◌∙◌, arith, append_assoc, length-append}
+use Rattle.std.proofs.Common.{◌≡◌, ℕ, ◌+◌, List, [], ◌∷◌, ◌++◌, length, reverse, Result, Ok, Err, refl, sym, ap, ◌∙◌, arith, append_assoc}
+use Rattle.std.proofs.Common.{length-append}
 use Rattle.std.proofs.lemmas.List.{reverse-append}
 use Rattle.rg_base.specs.declared.value.Val.{Val}
 use Rattle.rg_base.specs.declared.object.Seen.{Seen}
@@ -36,7 +37,8 @@ AllAgree classes store locals scope [] = Unit {0}
 AllAgree classes store locals scope (e ∷ es) = Agrees classes store locals scope e × AllAgree classes store locals scope es
 
 -- one argument before the others
-first_then : (c : Computed) (r : Result (List Val) Trap) (f : Val → Walked) (g : List Val → Walked) → ((v : Val) → f v ≡ with_values r (λ vs. g (v ∷ vs)))
+first_then : (c : Computed) (r : Result (List Val) Trap) (f : Val → Walked) (g : List Val → Walked)
+    → ((v : Val) → f v ≡ with_values r (λ vs. g (v ∷ vs)))
     → with_value c f ≡ with_values (◌>>=◌ c (λ v. ◌>>=◌ r (λ vs. Ok (v ∷ vs)))) g
 first_then (Ok v) (Ok vs) f g h = h v
 first_then (Ok v) (Err t) f g h = h v
@@ -46,7 +48,8 @@ module _ (classes : List Class) (code : Code) where
   pub walk-exprs : (es : List Expr) (locals : List Local) (scope : Scope) (at : ℕ) (rest : List Op) (stack : List Val) (w : Work)
       → ((x : Variable) → slot_at w.machine (slot_of scope x) ≡ value_in locals x) → AllAgree classes w.machine.store locals scope es
       → walk code (exprs_code classes scope at es ++ rest) at 0 stack w
-      ≡ with_values (values_of classes w.machine.store locals es) (λ vs. walk code rest (at + length (exprs_code classes scope at es)) 0 (reverse vs ++ stack) w)
+      ≡ with_values (values_of classes w.machine.store locals es)
+      (λ vs. walk code rest (at + length (exprs_code classes scope at es)) 0 (reverse vs ++ stack) w)
   walk-exprs [] locals scope at rest stack w slots h = let e : at ≡ at + 0 = omega arith in ap (λ n. walk code rest n 0 stack w) e
   walk-exprs (x ∷ es) locals scope at rest stack w slots h =
       let first = expr_code classes scope at x in
@@ -60,4 +63,5 @@ module _ (classes : List Class) (code : Code) where
       (λ v. walk-exprs es locals scope (at + length first) rest (v ∷ stack) w slots h.1
       ∙ each_list (values_of classes w.machine.store locals es) _ _ (λ vs.
       ap (λ n. walk code rest n 0 (reverse vs ++ v ∷ stack) w) e
-      ∙ ap (λ s. walk code rest (at + length (first ++ others)) 0 s w) (sym (ap (λ r. r ++ stack) (reverse-append (v ∷ []) vs) ∙ append_assoc (reverse vs) (v ∷ []) stack))))
+      ∙ ap (λ s. walk code rest (at + length (first ++ others)) 0 s w)
+      (sym (ap (λ r. r ++ stack) (reverse-append (v ∷ []) vs) ∙ append_assoc (reverse vs) (v ∷ []) stack))))

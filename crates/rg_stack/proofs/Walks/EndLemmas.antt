@@ -1,5 +1,6 @@
 -- How a statement's walk ends against what its step gives, and the machine in the middle of a step.
-use Rattle.std.proofs.Common.{◌≡◌, ℕ, ◌+◌, ◌-◌, List, [], ◌∷◌, ◌++◌, length, map, reverse, drop, Option, None, Some, true, true≢false, Result, Ok, Err, refl, sym, ap, subst, ◌∙◌, arith, append_assoc, length-append, slice_get, slice_set, unwrap_or}
+use Rattle.std.proofs.Common.{◌≡◌, ℕ, ◌+◌, ◌-◌, List, [], ◌∷◌, ◌++◌, length, map, reverse, drop, Option, None, Some, true, true≢false, Result, Ok}
+use Rattle.std.proofs.Common.{Err, refl, sym, ap, subst, ◌∙◌, arith, append_assoc, length-append, slice_get, slice_set, unwrap_or}
 use Rattle.rg_base.specs.declared.value.Val.{Val}
 use Rattle.rg_base.specs.declared.value.Val.TheVariants as val
 use Rattle.rg_base.specs.declared.object.Seen.{Seen}
@@ -48,9 +49,11 @@ EndsAs classes code before (Err t) (Traps u) = u ≡ t
 EndsAs classes code before (Err t) Stuck = ⊥
 
 -- a step that has come where items lie goes on or ends as they say
-comes_by : (classes : List Class) (code : Code) (before : List Val) (at : ℕ) (w : Work) (p : State) (items : List Item) (ls : List Level) → p.items ≡ items → Lies classes code.ops ls items at
+comes_by : (classes : List Class) (code : Code) (before : List Val) (at : ℕ) (w : Work) (p : State) (items : List Item) (ls : List Level) → p.items
+    ≡ items → Lies classes code.ops ls items at
     → MirrorsWork classes code before w p → SameMove classes code before (Went p) (come_to (slice_get code.ops at) w)
-comes_by classes code before at w p [] ls is lies h = subst (λ o. SameMove classes code before (Went p) (come_to o w)) (sym lies) (h, subst NoneLeft (sym is) tt)
+comes_by classes code before at w p [] ls is lies h = subst (λ o. SameMove classes code before (Went p) (come_to o w)) (sym lies)
+    (h, subst NoneLeft (sym is) tt)
 comes_by classes code before at w p (j ∷ rest) ls is lies h = at_mark (slice_get code.ops at) (lies_at_mark classes code.ops ls j rest at lies)
   where
     at_mark : (o : Option Op) → is_mark o ≡ true → SameMove classes code before (Went p) (come_to o w)
@@ -59,17 +62,21 @@ comes_by classes code before at w p (j ∷ rest) ls is lies h = at_mark (slice_g
     at_mark (Some o) e = absurd (true≢false (sym e))
 
 -- a walk that stopped where items lie
-pub comes : (classes : List Class) (code : Code) (before : List Val) (at : ℕ) (w : Work) (p : State) → MirrorsWork classes code before (stopped at w) p
+pub comes : (classes : List Class) (code : Code) (before : List Val) (at : ℕ) (w : Work) (p : State)
+    → MirrorsWork classes code before (stopped at w) p
     → SameMove classes code before (Went p) (come_to (slice_get code.ops at) (stopped at w))
-comes classes code before at w p h = comes_by classes code before at (stopped at w) p p.items (levels_of w.machine.frames p.frames) refl h.mirrors.places h
+comes classes code before at w p h = comes_by classes code before at (stopped at w) p p.items (levels_of w.machine.frames p.frames) refl
+    h.mirrors.places h
 
-landed_same : (classes : List Class) (code : Code) (before : List Val) (p : State) (x : Walked) → Landed classes code before p x → SameMove classes code before (Went p) (landed code x)
+landed_same : (classes : List Class) (code : Code) (before : List Val) (p : State) (x : Walked) → Landed classes code before p x
+    → SameMove classes code before (Went p) (landed code x)
 landed_same classes code before p (Stops at w) h = comes classes code before at w p h
 landed_same classes code before p (Returns back stack w) h = absurd h
 landed_same classes code before p (Traps t) h = absurd h
 landed_same classes code before p Stuck h = absurd h
 
-pub ended : (classes : List Class) (code : Code) (before : List Val) (line : ℕ) (r : Result State Trap) (x : Walked) → EndsAs classes code before r x → SameMove classes code before (stepped line r) (finished code line x)
+pub ended : (classes : List Class) (code : Code) (before : List Val) (line : ℕ) (r : Result State Trap) (x : Walked)
+    → EndsAs classes code before r x → SameMove classes code before (stepped line r) (finished code line x)
 ended classes code before line (Ok p) (Stops at w) h = comes classes code before at w p h
 ended classes code before line (Ok p) (Returns back stack w) h = landed_same classes code before p (walk code (drop back code.ops) back 0 stack w) h
 ended classes code before line (Ok p) (Traps t) h = absurd h
@@ -80,19 +87,26 @@ ended classes code before line (Err t) (Traps u) h = (h, refl)
 ended classes code before line (Err t) Stuck h = absurd h
 
 -- one thing after another
-pub value_ends : (classes : List Class) (code : Code) (before : List Val) (c : Computed) (k : Val → Result State Trap) (go : Val → Walked) → ((v : Val) → c ≡ Ok v → EndsAs classes code before (k v) (go v)) → EndsAs classes code before (◌>>=◌ c k) (with_value c go)
+pub value_ends : (classes : List Class) (code : Code) (before : List Val) (c : Computed) (k : Val → Result State Trap) (go : Val → Walked)
+    → ((v : Val) → c ≡ Ok v → EndsAs classes code before (k v) (go v)) → EndsAs classes code before (◌>>=◌ c k) (with_value c go)
 value_ends classes code before (Ok v) k go h = h v refl
 value_ends classes code before (Err t) k go h = refl
 
-pub object_ends : (classes : List Class) (code : Code) (before : List Val) (r : Result Seen Trap) (k : Seen → Result State Trap) (go : Seen → Walked) → ((o : Seen) → r ≡ Ok o → EndsAs classes code before (k o) (go o)) → EndsAs classes code before (◌>>=◌ r k) (elim r [ Ok o ↦ go o | Err t ↦ Traps t ])
+pub object_ends : (classes : List Class) (code : Code) (before : List Val) (r : Result Seen Trap) (k : Seen → Result State Trap)
+    (go : Seen → Walked) → ((o : Seen) → r ≡ Ok o → EndsAs classes code before (k o) (go o))
+    → EndsAs classes code before (◌>>=◌ r k) (elim r [ Ok o ↦ go o | Err t ↦ Traps t ])
 object_ends classes code before (Ok o) k go h = h o refl
 object_ends classes code before (Err t) k go h = refl
 
-pub values_ends : (classes : List Class) (code : Code) (before : List Val) (r : Result (List Val) Trap) (k : List Val → Result State Trap) (go : List Val → Walked) → ((vs : List Val) → r ≡ Ok vs → EndsAs classes code before (k vs) (go vs)) → EndsAs classes code before (◌>>=◌ r k) (with_values r go)
+pub values_ends : (classes : List Class) (code : Code) (before : List Val) (r : Result (List Val) Trap) (k : List Val → Result State Trap)
+    (go : List Val → Walked) → ((vs : List Val) → r ≡ Ok vs → EndsAs classes code before (k vs) (go vs))
+    → EndsAs classes code before (◌>>=◌ r k) (with_values r go)
 values_ends classes code before (Ok vs) k go h = h vs refl
 values_ends classes code before (Err t) k go h = refl
 
-pub computed_ends : (classes : List Class) (code : Code) (before : List Val) (c : Computed) (s : State) (k : State × Val → Result State Trap) (go : Val → Walked) → ((v : Val) → c ≡ Ok v → EndsAs classes code before (k (s, v)) (go v)) → EndsAs classes code before (◌>>=◌ (◌>>=◌ c (λ v. Ok (s, v))) k) (with_value c go)
+pub computed_ends : (classes : List Class) (code : Code) (before : List Val) (c : Computed) (s : State) (k : State × Val → Result State Trap)
+    (go : Val → Walked) → ((v : Val) → c ≡ Ok v → EndsAs classes code before (k (s, v)) (go v))
+    → EndsAs classes code before (◌>>=◌ (◌>>=◌ c (λ v. Ok (s, v))) k) (with_value c go)
 computed_ends classes code before (Ok v) s k go h = h v refl
 computed_ends classes code before (Err t) s k go h = refl
 
@@ -114,7 +128,8 @@ work r store slots managers input = work_of store (record { slots = slots; back 
 
 -- the plain state in the middle of a step
 abbrev pub state : Round → (store : List Seen) → (locals : List Local) → (managers : List Manager) → (input : List ℕ) → List Item → State
-state r store locals managers input items = state_of store (record { locals = locals; target = r.target } ∷ r.bodies) r.opened managers r.made input r.output items
+state r store locals managers input items = state_of store (record { locals = locals; target = r.target } ∷ r.bodies) r.opened managers r.made input
+    r.output items
 
 -- the topmost frame as the code sees it
 abbrev pub level : Round → Scope → (size : ℕ) → Level
@@ -140,14 +155,16 @@ pub keeps_same : (store : List Seen) → Keeps store store
 keeps_same store a o e = (o, e, refl)
 
 -- a variable's slot holds its value
-pub slots_hold : (scope : Scope) (slots : List Val) (locals : List Local) → ShowsSlots slots locals → scope_of locals ≡ scope → (x : Variable) → unwrap_or (slice_get slots (slot_of scope x)) val.Nil ≡ value_in locals x
+pub slots_hold : (scope : Scope) (slots : List Val) (locals : List Local) → ShowsSlots slots locals → scope_of locals ≡ scope → (x : Variable)
+    → unwrap_or (slice_get slots (slot_of scope x)) val.Nil ≡ value_in locals x
 slots_hold scope slots locals h e x =
     ap (λ s. unwrap_or (slice_get slots (slot_of s x)) val.Nil) (sym e)
     ∙ ap (λ l. unwrap_or (slice_get l (slot_of (scope_of locals) x)) val.Nil) h
     ∙ shown_slot locals (length slots - length locals) x
 
 -- the step ends where items begin
-pub finish : (classes : List Class) (code : Code) (r : Round) (store : List Seen) (slots : List Val) (locals : List Local) (managers : List Manager) (input : List ℕ) (items : List Item) (n end : ℕ)
+pub finish : (classes : List Class) (code : Code) (r : Round) (store : List Seen) (slots : List Val) (locals : List Local) (managers : List Manager)
+    (input : List ℕ) (items : List Item) (n end : ℕ)
     → ShowsSlots slots locals → length slots ≡ n → RoundShows r n
     → Lies classes code.ops (level r (scope_of locals) n ∷ levels_of r.frames r.bodies) items end
     → EndsAs classes code r.output (Ok (state r store locals managers input items)) (Stops end (work r store slots managers input))
@@ -166,56 +183,73 @@ finish classes code r store slots locals managers input items n end shows size r
     }
 
 -- the same at the end of the code of a statement
-pub finish_at : (classes : List Class) (code : Code) (r : Round) (store : List Seen) (slots : List Val) (locals : List Local) (managers : List Manager) (input : List ℕ) (j : Item) (rest : List Item) (n end here : ℕ)
+pub finish_at : (classes : List Class) (code : Code) (r : Round) (store : List Seen) (slots : List Val) (locals : List Local)
+    (managers : List Manager) (input : List ℕ) (j : Item) (rest : List Item) (n end here : ℕ)
     → here ≡ end → ShowsSlots slots locals → length slots ≡ n → RoundShows r n
     → Lies classes code.ops (level r (scope_of locals) n ∷ levels_of r.frames r.bodies) (j ∷ rest) end
-    → EndsAs classes code r.output (Ok (state r store locals managers input (j ∷ rest))) (walk code (drop end code.ops) here 0 [] (work r store slots managers input))
+    → EndsAs classes code r.output (Ok (state r store locals managers input (j ∷ rest)))
+    (walk code (drop end code.ops) here 0 [] (work r store slots managers input))
 finish_at classes code r store slots locals managers input j rest n end here is shows size round lies =
     subst (λ x. EndsAs classes code r.output (Ok (state r store locals managers input (j ∷ rest))) x)
-    (sym (ap (λ k. walk code (drop end code.ops) k 0 [] (work r store slots managers input)) is ∙ walk_to_items classes code (level r (scope_of locals) n ∷ levels_of r.frames r.bodies) j rest end [] (work r store slots managers input) lies))
+    (sym (ap (λ k. walk code (drop end code.ops) k 0 [] (work r store slots managers input)) is
+    ∙ walk_to_items classes code (level r (scope_of locals) n ∷ levels_of r.frames r.bodies) j rest end [] (work r store slots managers input)
+    lies))
     (finish classes code r store slots locals managers input (j ∷ rest) n end shows size round lies)
 
 -- a statement's step from how its walk ends
-pub statement_step : (classes : List Class) (code : Code) (r : Round) (store : List Seen) (slots : List Val) (locals : List Local) (managers : List Manager) (input : List ℕ) (line : ℕ) (k : StmtKind) (more : List Op) (rest : List Item)
+pub statement_step : (classes : List Class) (code : Code) (r : Round) (store : List Seen) (slots : List Val) (locals : List Local)
+    (managers : List Manager) (input : List ℕ) (line : ℕ) (k : StmtKind) (more : List Op) (rest : List Item)
     → Stands code.ops r.at (i.Mark line ∷ more)
-    → EndsAs classes code r.output (step_kind classes (state r store locals managers input rest) line k) (walk code (more ++ drop (r.at + length (i.Mark line ∷ more)) code.ops) (r.at + 1) 0 [] (work r store slots managers input))
-    → SameMove classes code r.output (stepped line (step_kind classes (state r store locals managers input rest) line k)) (step code (work r store slots managers input))
+    → EndsAs classes code r.output (step_kind classes (state r store locals managers input rest) line k)
+    (walk code (more ++ drop (r.at + length (i.Mark line ∷ more)) code.ops) (r.at + 1) 0 [] (work r store slots managers input))
+    → SameMove classes code r.output (stepped line (step_kind classes (state r store locals managers input rest) line k))
+    (step code (work r store slots managers input))
 statement_step classes code r store slots locals managers input line k more rest stands h =
     subst (λ t. SameMove classes code r.output (stepped line (step_kind classes (state r store locals managers input rest) line k)) t)
     (sym (ap (step_from code (work r store slots managers input)) (drop-stands code.ops r.at (i.Mark line ∷ more) stands)))
-    (ended classes code r.output line (step_kind classes (state r store locals managers input rest) line k) (walk code (more ++ drop (r.at + length (i.Mark line ∷ more)) code.ops) (r.at + 1) 0 [] (work r store slots managers input)) h)
+    (ended classes code r.output line (step_kind classes (state r store locals managers input rest) line k)
+    (walk code (more ++ drop (r.at + length (i.Mark line ∷ more)) code.ops) (r.at + 1) 0 [] (work r store slots managers input)) h)
 
 -- slots that are cleared in order
-pub walk-clears : (classes : List Class) (code : Code) (r : Round) (store : List Seen) (managers : List Manager) (input : List ℕ) (us : List ℕ) (slots : List Val) (rest : List Op) (here : ℕ) (stack : List Val)
-    → walk code (clears us ++ rest) here 0 stack (work r store slots managers input) ≡ walk code rest (here + length (clears us)) 0 stack (work r store (cleared_slots us slots) managers input)
-walk-clears classes code r store managers input [] slots rest here stack = let e : here ≡ here + 0 = omega arith in ap (λ n. walk code rest n 0 stack (work r store slots managers input)) e
+pub walk-clears : (classes : List Class) (code : Code) (r : Round) (store : List Seen) (managers : List Manager) (input : List ℕ) (us : List ℕ)
+    (slots : List Val) (rest : List Op) (here : ℕ) (stack : List Val)
+    → walk code (clears us ++ rest) here 0 stack (work r store slots managers input)
+    ≡ walk code rest (here + length (clears us)) 0 stack (work r store (cleared_slots us slots) managers input)
+walk-clears classes code r store managers input [] slots rest here stack = let e : here
+    ≡ here + 0 = omega arith in ap (λ n. walk code rest n 0 stack (work r store slots managers input)) e
 walk-clears classes code r store managers input (u ∷ us) slots rest here stack =
     let e : here + 1 + length (clears us) ≡ here + length (clears (u ∷ us)) = omega arith in
     walk-clears classes code r store managers input us (slice_set slots u val.Nil) rest (here + 1) stack
     ∙ ap (λ n. walk code rest n 0 stack (work r store (cleared_slots (u ∷ us) slots) managers input)) e
 
 -- a whole expression
-pub walk-whole : (classes : List Class) (code : Code) (r : Round) (store : List Seen) (managers : List Manager) (input : List ℕ) (e : Expr) (scope : Scope) (slots : List Val) (locals : List Local) (rest : List Op) (here : ℕ) (stack : List Val)
+pub walk-whole : (classes : List Class) (code : Code) (r : Round) (store : List Seen) (managers : List Manager) (input : List ℕ) (e : Expr)
+    (scope : Scope) (slots : List Val) (locals : List Local) (rest : List Op) (here : ℕ) (stack : List Val)
     → ShowsSlots slots locals → scope_of locals ≡ scope → Agrees classes store locals scope e
     → walk code (whole_code classes scope here e ++ rest) here 0 stack (work r store slots managers input)
-    ≡ with_value (value_of classes store locals e) (λ v. walk code rest (here + length (whole_code classes scope here e)) 0 (v ∷ stack) (work r store (cleared_slots (used_slots scope e) slots) managers input))
+    ≡ with_value (value_of classes store locals e) (λ v. walk code rest (here + length (whole_code classes scope here e)) 0 (v ∷ stack)
+    (work r store (cleared_slots (used_slots scope e) slots) managers input))
 walk-whole classes code r store managers input e scope slots locals rest here stack shows is agrees =
     let ops = expr_code classes scope here e in
     let us = used_slots scope e in
     let end : here + length ops + length (clears us) ≡ here + length (ops ++ clears us) = omega (arith, length-append ops (clears us)) in
     ap (λ l. walk code l here 0 stack (work r store slots managers input)) (append_assoc ops (clears us) rest)
-    ∙ walk-expr classes code e locals scope here (clears us ++ rest) stack (work r store slots managers input) (slots_hold scope slots locals shows is) agrees
+    ∙ walk-expr classes code e locals scope here (clears us ++ rest) stack (work r store slots managers input)
+    (slots_hold scope slots locals shows is) agrees
     ∙ each_value (value_of classes store locals e) _ _ (λ v got.
     walk-clears classes code r store managers input us slots rest (here + length ops) (v ∷ stack)
     ∙ ap (λ n. walk code rest n 0 (v ∷ stack) (work r store (cleared_slots us slots) managers input)) end)
 
 -- the middle of a step behind a whole expression
-pub middle_whole : (scope : Scope) (n : ℕ) (old store : List Seen) (e : Expr) (slots : List Val) (locals : List Local) → Middle scope n old store slots locals
+pub middle_whole : (scope : Scope) (n : ℕ) (old store : List Seen) (e : Expr) (slots : List Val) (locals : List Local)
+    → Middle scope n old store slots locals
     → Middle scope n old store (cleared_slots (used_slots scope e) slots) (cleared (uses locals e) locals)
 middle_whole scope n old store e slots locals m =
-    let us : used_slots scope e ≡ map (slot_of scope) (uses locals e) = subst (λ s. used_slots s e ≡ map (slot_of s) (uses locals e)) m.scope_is (used-uses locals e) in
+    let us : used_slots scope e ≡ map (slot_of scope) (uses locals e) = subst (λ s. used_slots s e ≡ map (slot_of s) (uses locals e)) m.scope_is
+    (used-uses locals e) in
     record {
-      shows = subst (λ l. ShowsSlots (cleared_slots l slots) (cleared (uses locals e) locals)) (sym us) (shows_clears (uses locals e) scope slots locals m.scope_is m.shows);
+      shows = subst (λ l. ShowsSlots (cleared_slots l slots) (cleared (uses locals e) locals)) (sym us)
+          (shows_clears (uses locals e) scope slots locals m.scope_is m.shows);
       size_is = cleared-length (used_slots scope e) slots ∙ m.size_is;
       scope_is = scope_cleared (uses locals e) locals ∙ m.scope_is;
       keeps = m.keeps;

@@ -1,5 +1,6 @@
 -- The code of each method stands at its entry.
-use Rattle.std.proofs.Common.{◌≡◌, ℕ, zero, suc, ◌+◌, List, [], ◌∷◌, ◌++◌, length, drop, Some, None, refl, sym, ap, subst, ◌∙◌, arith, append_assoc, length-append, slice_get}
+use Rattle.std.proofs.Common.{◌≡◌, ℕ, zero, suc, ◌+◌, List, [], ◌∷◌, ◌++◌, length, drop, Some, refl, sym, ap, subst, ◌∙◌, arith, append_assoc}
+use Rattle.std.proofs.Common.{length-append, slice_get}
 use Rattle.std.proofs.lemmas.Option.{none-some}
 use Rattle.std.proofs.Math.Seq.{drop-append_seam}
 use Rattle.rg_tree.specs.Tree.{Name, Member, field, method, Method, Class}
@@ -7,6 +8,7 @@ use Rattle.rg_code.specs.declared.op.Op.{Op}
 use Rattle.rg_code.specs.declared.code.Entry.{Entry}
 use Rattle.rg_code.specs.Lowering.{Methods, methods_among, method_place, method_number, method_code, members_code, methods_code, slots_of}
 use Rattle.rg_code.specs.Places.{Stands}
+use Rattle.rg_stack.proofs.Basics.{some-is}
 use Rattle.rg_stack.proofs.Walks.PlaceLemmas.{stands-of}
 
 -- a method of the class of a number has an entry of a number among these, at which its code stands behind a front
@@ -17,11 +19,9 @@ pub record HasEntry (classes : List Class) (c : ℕ) (m : Method) (front : List 
   pub given : entry.given ≡ suc (length m.params)
   pub slots : entry.slots ≡ slots_of (suc (length m.params)) (method_code classes entry.at c m)
 
-some-is : {A : Type 0} (a b : A) → Some a ≡ Some b → a ≡ b
-some-is a b e = ap (λ o. elim o [ Some x ↦ x | None ↦ a ]) e
-
 -- among the members of a class
-pub entry_among : (classes : List Class) (ms : List Member) (at c k : ℕ) (go : ℕ → Methods) (front : List Op) (m : Method) → length front ≡ at → slice_get (methods_among ms) k ≡ Some m
+pub entry_among : (classes : List Class) (ms : List Member) (at c k : ℕ) (go : ℕ → Methods) (front : List Op) (m : Method) → length front ≡ at
+    → slice_get (methods_among ms) k ≡ Some m
     → HasEntry classes c m front (members_code classes at c ms go) k
 entry_among classes [] at c k go front m n is = absurd (none-some m is)
 entry_among classes (field f ∷ ms) at c k go front m n is = entry_among classes ms at c k go front m n is
@@ -29,7 +29,8 @@ entry_among classes (method o ∷ ms) at c zero go front m n is =
     let same = some-is o m is in
     let body = method_code classes at c o in
     let others = members_code classes (at + length body) c ms go in
-    let here : drop at (front ++ (body ++ others.ops)) ≡ body ++ others.ops = ap (λ k. drop k (front ++ (body ++ others.ops))) (sym n) ∙ drop-append_seam front (body ++ others.ops) in
+    let here : drop at (front ++ (body ++ others.ops)) ≡ body ++ others.ops = ap (λ k. drop k (front ++ (body ++ others.ops))) (sym n)
+    ∙ drop-append_seam front (body ++ others.ops) in
     subst (λ x. HasEntry classes c x front (members_code classes at c (method o ∷ ms) go) 0) same
     (record {
       entry = record { at = at; given = suc (length o.params); slots = slots_of (suc (length o.params)) body };
@@ -71,7 +72,8 @@ entry_behind classes (method o ∷ ms) at c d k go front m n h =
     })
 
 -- the entry of the number of a method of a name
-pub entry_of : (classes ks : List Class) (at c d : ℕ) (front : List Op) (k : Class) (x : Name) (m : Method) → length front ≡ at → slice_get ks d ≡ Some k
+pub entry_of : (classes ks : List Class) (at c d : ℕ) (front : List Op) (k : Class) (x : Name) (m : Method) → length front ≡ at → slice_get ks d
+    ≡ Some k
     → slice_get (methods_among k.members) (method_place (methods_among k.members) x) ≡ Some m
     → HasEntry classes (c + d) m front (methods_code classes at c ks) (method_number ks d x)
 entry_of classes [] at c d front k x m n there is = absurd (none-some k there)
@@ -84,4 +86,5 @@ entry_of classes (k' ∷ ks) at c zero front k x m n there is =
 entry_of classes (k' ∷ ks) at c (suc d) front k x m n there is =
     let e : suc c + d ≡ c + suc d = omega arith in
     entry_behind classes k'.members at c (c + suc d) (method_number ks d x) (λ here. methods_code classes here (suc c) ks) front m n
-    (λ here more size. subst (λ n. HasEntry classes n m more (methods_code classes here (suc c) ks) (method_number ks d x)) e (entry_of classes ks here (suc c) d more k x m size there is))
+    (λ here more size. subst (λ n. HasEntry classes n m more (methods_code classes here (suc c) ks) (method_number ks d x)) e
+    (entry_of classes ks here (suc c) d more k x m size there is))

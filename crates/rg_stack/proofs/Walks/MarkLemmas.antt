@@ -1,5 +1,6 @@
 -- A step of the stack machine is one of the machine that never frees: what all kinds of statement share.
-use Rattle.std.proofs.Common.{◌≡◌, ℕ, zero, suc, ◌+◌, true, false, Bool as Truth, true≢false, if◌then◌else◌, List, [], ◌∷◌, ◌++◌, length, map, drop, replicate, refl, sym, ap, ◌∙◌, arith, slice_get, unwrap_or}
+use Rattle.std.proofs.Common.{◌≡◌, ℕ, zero, suc, ◌+◌, true, false, Bool as Truth, true≢false, if◌then◌else◌, List, [], ◌∷◌, ◌++◌, length, map, drop}
+use Rattle.std.proofs.Common.{replicate, refl, sym, ap, ◌∙◌, arith, slice_get, unwrap_or}
 use Rattle.std.proofs.lemmas.List.{take-append-drop}
 use Rattle.rg_base.specs.declared.value.Val.{Val}
 use Rattle.rg_base.specs.declared.value.Val.TheVariants as val
@@ -40,12 +41,14 @@ none_first : (k : ℕ) → unwrap_or (slice_get (replicate k val.Nil) 0) val.Nil
 none_first zero = refl
 none_first (suc k) = refl
 
-pub shown_slot : (locals : List Local) (k : ℕ) (x : Variable) → unwrap_or (slice_get (map (λ (l : Local). l.value) locals ++ replicate k val.Nil) (slot_of (scope_of locals) x)) val.Nil ≡ value_in locals x
+pub shown_slot : (locals : List Local) (k : ℕ) (x : Variable)
+    → unwrap_or (slice_get (map (λ (l : Local). l.value) locals ++ replicate k val.Nil) (slot_of (scope_of locals) x)) val.Nil ≡ value_in locals x
 shown_slot [] k x = none_first k
 shown_slot (l ∷ ls) k x = shown_by (same_variable l.name x) l.value _ _ _ (shown_slot ls k x)
 
 -- a statement begins with its mark
-pub starts : (classes : List Class) (scope : Scope) (at line : ℕ) (k : StmtKind) (more : List Op) → is_mark (slice_get (kind_code classes scope at line k ++ more) 0) ≡ true
+pub starts : (classes : List Class) (scope : Scope) (at line : ℕ) (k : StmtKind) (more : List Op)
+    → is_mark (slice_get (kind_code classes scope at line k ++ more) 0) ≡ true
 starts classes scope at line (declare x t r) more = refl
 starts classes scope at line (assign p r) more = refl
 starts classes scope at line (call c) more = refl
@@ -58,7 +61,8 @@ starts classes scope at line collect more = refl
 starts classes scope at line (return e) more = refl
 
 -- a walk ends at a mark
-pub walk_at_mark : (classes : List Class) (code : Code) (ops : List Op) (at : ℕ) (stack : List Val) (w : Work) → is_mark (slice_get ops 0) ≡ true → walk code ops at 0 stack w ≡ Stops at w
+pub walk_at_mark : (classes : List Class) (code : Code) (ops : List Op) (at : ℕ) (stack : List Val) (w : Work) → is_mark (slice_get ops 0) ≡ true
+    → walk code ops at 0 stack w ≡ Stops at w
 walk_at_mark classes code [] at stack w e = absurd (true≢false (sym e))
 walk_at_mark classes code (i.Mark line ∷ ops) at stack w e = refl
 walk_at_mark classes code (o ∷ ops) at stack w e = absurd (true≢false (sym e))
@@ -70,16 +74,21 @@ first-drop [] (suc n) = refl
 first-drop (o ∷ os) (suc n) = first-drop os n
 
 -- items begin at a mark
-pub lies_at_mark : (classes : List Class) (code : List Op) (ls : List Level) (j : Item) (rest : List Item) (at : ℕ) → Lies classes code ls (j ∷ rest) at → is_mark (slice_get code at) ≡ true
+pub lies_at_mark : (classes : List Class) (code : List Op) (ls : List Level) (j : Item) (rest : List Item) (at : ℕ)
+    → Lies classes code ls (j ∷ rest) at → is_mark (slice_get code at) ≡ true
 lies_at_mark classes code [] j rest at h = absurd h
-lies_at_mark classes code (l ∷ ls) (Do (stmt line k)) rest at h = ap is_mark (sym (first-drop code at) ∙ ap (λ l. slice_get l 0) (drop-stands code at (kind_code classes l.scope at line k) h.0.0)) ∙ starts classes l.scope at line k (drop (at + length (kind_code classes l.scope at line k)) code)
+lies_at_mark classes code (l ∷ ls) (Do (stmt line k)) rest at h = ap is_mark
+    (sym (first-drop code at) ∙ ap (λ l. slice_get l 0) (drop-stands code at (kind_code classes l.scope at line k) h.0.0))
+    ∙ starts classes l.scope at line k (drop (at + length (kind_code classes l.scope at line k)) code)
 lies_at_mark classes code (l ∷ ls) (EndAt k) rest at h = h.0
 lies_at_mark classes code (l ∷ ls) (LeaveAt k) rest at h = h.0
 lies_at_mark classes code (l ∷ ls) Back rest at h = h.0
 
 -- a walk ends where items begin
-pub walk_to_items : (classes : List Class) (code : Code) (ls : List Level) (j : Item) (rest : List Item) (at : ℕ) (stack : List Val) (w : Work) → Lies classes code.ops ls (j ∷ rest) at → walk code (drop at code.ops) at 0 stack w ≡ Stops at w
-walk_to_items classes code ls j rest at stack w h = walk_at_mark classes code (drop at code.ops) at stack w (ap is_mark (first-drop code.ops at) ∙ lies_at_mark classes code.ops ls j rest at h)
+pub walk_to_items : (classes : List Class) (code : Code) (ls : List Level) (j : Item) (rest : List Item) (at : ℕ) (stack : List Val) (w : Work)
+    → Lies classes code.ops ls (j ∷ rest) at → walk code (drop at code.ops) at 0 stack w ≡ Stops at w
+walk_to_items classes code ls j rest at stack w h = walk_at_mark classes code (drop at code.ops) at stack w
+    (ap is_mark (first-drop code.ops at) ∙ lies_at_mark classes code.ops ls j rest at h)
 
 -- a mark that stands somewhere, and what is behind it
 mark-first : (ops : List Op) → is_mark (slice_get ops 0) ≡ true → (line : ℕ) × (ops ≡ i.Mark line ∷ drop 1 ops)
@@ -88,4 +97,5 @@ mark-first (i.Mark line ∷ ops) e = (line, refl)
 mark-first (o ∷ ops) e = absurd (true≢false (sym e))
 
 pub mark-there : (code : List Op) (at : ℕ) → is_mark (slice_get code at) ≡ true → (line : ℕ) × (drop at code ≡ i.Mark line ∷ drop (at + 1) code)
-mark-there code at e = let h = mark-first (drop at code) (ap is_mark (first-drop code at) ∙ e) in (h.0, h.1 ∙ ap (λ l. i.Mark h.0 ∷ l) (drop-drop at 1 code))
+mark-there code at e = let h = mark-first (drop at code) (ap is_mark (first-drop code at) ∙ e) in
+    (h.0, h.1 ∙ ap (λ l. i.Mark h.0 ∷ l) (drop-drop at 1 code))

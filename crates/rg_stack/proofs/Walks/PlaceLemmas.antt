@@ -1,7 +1,9 @@
 -- The items of a block begin where its code stands.
-use Rattle.std.proofs.Common.{◌≡◌, ℕ, ◌+◌, true, false, Bool as Truth, ◌&&◌, true≢false, List, [], ◌∷◌, ◌++◌, length, take, drop, Some, refl, sym, ap, subst, ◌∙◌, arith, append_assoc, append-nil, length-append, slice_get}
+use Rattle.std.proofs.Common.{◌≡◌, ℕ, ◌+◌, true, false, Bool as Truth, ◌&&◌, true≢false, List, [], ◌∷◌, ◌++◌, length, take, drop, Some, refl, sym}
+use Rattle.std.proofs.Common.{ap, subst, ◌∙◌, arith, append_assoc, append-nil, length-append, slice_get}
 use Rattle.std.proofs.Math.Seq.{drop-append_seam, take-append_seam}
-use Rattle.rg_tree.specs.Tree.{stmt, StmtKind, declare, assign, call, swap, branch, while, enter, print, collect, return, Block, empty as none, then as next, Class}
+use Rattle.rg_tree.specs.Tree.{stmt, StmtKind, declare, assign, call, swap, branch, while, enter, print, collect, return, Block, empty as none}
+use Rattle.rg_tree.specs.Tree.{then as next, Class}
 use Rattle.rg_rules.specs.Items.{Item, items_of}
 use Rattle.rg_code.specs.declared.op.Op.{Op}
 use Rattle.rg_code.specs.declared.op.Op.TheVariants as i
@@ -21,7 +23,8 @@ pub stands-of : (code : List Op) (at : ℕ) (ops more : List Op) → drop at cod
 stands-of code at ops more e = ap (take (length ops)) e ∙ take-append_seam ops more
 
 pub stands-front : (code : List Op) (at : ℕ) (xs ys : List Op) → Stands code at (xs ++ ys) → Stands code at xs
-stands-front code at xs ys h = stands-of code at xs (ys ++ drop (at + length (xs ++ ys)) code) (drop-stands code at (xs ++ ys) h ∙ append_assoc xs ys (drop (at + length (xs ++ ys)) code))
+stands-front code at xs ys h = stands-of code at xs (ys ++ drop (at + length (xs ++ ys)) code)
+    (drop-stands code at (xs ++ ys) h ∙ append_assoc xs ys (drop (at + length (xs ++ ys)) code))
 
 pub stands-back : (code : List Op) (at : ℕ) (xs ys : List Op) → Stands code at (xs ++ ys) → Stands code (at + length xs) ys
 stands-back code at xs ys h =
@@ -128,7 +131,8 @@ pub get-stands : (code : List Op) (at : ℕ) (o : Op) (more : List Op) → Stand
 get-stands code at o more h = sym (first-drop code at) ∙ ap (λ l. slice_get l 0) (drop-stands code at (o ∷ more) h)
 
 -- the code of a block, or what stands behind it, begins with a mark
-pub block_starts : (classes : List Class) (scope : Scope) (at line : ℕ) (b : Block) (more : List Op) → is_mark (slice_get (block_code classes scope at b ++ i.Mark line ∷ more) 0) ≡ true
+pub block_starts : (classes : List Class) (scope : Scope) (at line : ℕ) (b : Block) (more : List Op)
+    → is_mark (slice_get (block_code classes scope at b ++ i.Mark line ∷ more) 0) ≡ true
 block_starts classes scope at line none more = refl
 block_starts classes scope at line (next (stmt here k) b) more =
     let first = kind_code classes scope at here k in

@@ -1,5 +1,6 @@
 -- The code of an expression leaves the value that the expression has.
-use Rattle.std.proofs.Common.{◌≡◌, ℕ, ◌+◌, ◌-◌, true, false, Bool as Truth, ◌||◌, ◌&&◌, true≢false, if◌then◌else◌, not as negated, List, [], ◌∷◌, ◌++◌, length, Result, Ok, Err, refl, sym, ap, ◌∙◌, arith, append_assoc, length-append, slice_get, unwrap_or}
+use Rattle.std.proofs.Common.{◌≡◌, ℕ, ◌+◌, ◌-◌, true, false, Bool as Truth, ◌||◌, ◌&&◌, true≢false, if◌then◌else◌, not as negated, List, [], ◌∷◌}
+use Rattle.std.proofs.Common.{◌++◌, length, Result, Ok, Err, refl, sym, ap, ◌∙◌, arith, append_assoc, length-append, slice_get, unwrap_or}
 use Rattle.std.specs.Prelude.{neg_ℤ}
 use Rattle.rg_base.specs.declared.object.Seen.{Seen}
 use Rattle.rg_base.specs.declared.value.Val.{Val}
@@ -24,7 +25,8 @@ use Rattle.rg_stack.specs.Effects.{Work, Walked, Traps, Go, with_value, act, wal
 abbrev pub Follows : List Class → List Seen → Ty → Val → List Name → Type 0
 Follows classes store t v [] = Unit {0}
 Follows classes store t v (f ∷ fs) = (o : Seen) → object_at store v ≡ Ok o →
-    (field_value classes o f ≡ unwrap_or (slice_get o.fields (field_number classes t f)) val.Nil) × Follows classes store (type_behind classes t f) (field_value classes o f) fs
+    (field_value classes o f ≡ unwrap_or (slice_get o.fields (field_number classes t f)) val.Nil)
+    × Follows classes store (type_behind classes t f) (field_value classes o f) fs
 
 -- the same of a path
 abbrev pub FollowsPath : List Class → List Seen → List Local → Scope → Path → Type 0
@@ -64,11 +66,13 @@ Agrees classes store locals scope (binary o a b) =
     × Logic o (IsTruth (value_of classes store locals a) × IsTruth (value_of classes store locals b))
 
 -- one thing after another
-pub value_then : (c : Computed) (k : Val → Computed) (go behind : Val → Walked) → ((v : Val) → c ≡ Ok v → go v ≡ with_value (k v) behind) → with_value c go ≡ with_value (◌>>=◌ c k) behind
+pub value_then : (c : Computed) (k : Val → Computed) (go behind : Val → Walked) → ((v : Val) → c ≡ Ok v → go v ≡ with_value (k v) behind)
+    → with_value c go ≡ with_value (◌>>=◌ c k) behind
 value_then (Ok v) k go behind h = h v refl
 value_then (Err t) k go behind h = refl
 
-object_then : (r : Result Seen Trap) (go : Seen → Walked) (k : Seen → Computed) (behind : Val → Walked) → ((o : Seen) → r ≡ Ok o → go o ≡ with_value (k o) behind) → elim r [ Ok o ↦ go o | Err t ↦ Traps t ] ≡ with_value (◌>>=◌ r k) behind
+object_then : (r : Result Seen Trap) (go : Seen → Walked) (k : Seen → Computed) (behind : Val → Walked)
+    → ((o : Seen) → r ≡ Ok o → go o ≡ with_value (k o) behind) → elim r [ Ok o ↦ go o | Err t ↦ Traps t ] ≡ with_value (◌>>=◌ r k) behind
 object_then (Ok o) go k behind h = h o refl
 object_then (Err t) go k behind h = refl
 
@@ -93,17 +97,21 @@ and_both v y e = ap (λ t. Ok (val.Bool t)) (and_by (as_bool v) (as_bool y) e)
 
 module _ (classes : List Class) (code : Code) where
   -- instructions are passed over
-  pub walk-skip : (xs rest : List Op) (at : ℕ) (stack : List Val) (w : Work) → walk code (xs ++ rest) at (length xs) stack w ≡ walk code rest (at + length xs) 0 stack w
+  pub walk-skip : (xs rest : List Op) (at : ℕ) (stack : List Val) (w : Work) → walk code (xs ++ rest) at (length xs) stack w
+      ≡ walk code rest (at + length xs) 0 stack w
   walk-skip [] rest at stack w = let e : at ≡ at + 0 = omega arith in ap (λ n. walk code rest n 0 stack w) e
   walk-skip (x ∷ xs) rest at stack w =
       let e : at + 1 + length xs ≡ at + length (x ∷ xs) = omega arith in
       walk-skip xs rest (at + 1) stack w ∙ ap (λ n. walk code rest n 0 stack w) e
 
   -- another address
-  at_address : (rest : List Op) (stack : List Val) (w : Work) (c : Computed) (m n : ℕ) → m ≡ n → with_value c (λ u. walk code rest m 0 (u ∷ stack) w) ≡ with_value c (λ u. walk code rest n 0 (u ∷ stack) w)
+  at_address : (rest : List Op) (stack : List Val) (w : Work) (c : Computed) (m n : ℕ) → m ≡ n
+      → with_value c (λ u. walk code rest m 0 (u ∷ stack) w) ≡ with_value c (λ u. walk code rest n 0 (u ∷ stack) w)
   at_address rest stack w c m n e = ap (λ k. with_value c (λ u. walk code rest k 0 (u ∷ stack) w)) e
 
-  pub walk-fields : (fs : List Name) (t : Ty) (v : Val) (at : ℕ) (rest : List Op) (stack : List Val) (w : Work) → Follows classes w.machine.store t v fs → walk code (fields_code classes t fs ++ rest) at 0 (v ∷ stack) w ≡ with_value (follow_fields classes w.machine.store v fs) (λ u. walk code rest (at + length (fields_code classes t fs)) 0 (u ∷ stack) w)
+  pub walk-fields : (fs : List Name) (t : Ty) (v : Val) (at : ℕ) (rest : List Op) (stack : List Val) (w : Work)
+      → Follows classes w.machine.store t v fs → walk code (fields_code classes t fs ++ rest) at 0 (v ∷ stack) w
+      ≡ with_value (follow_fields classes w.machine.store v fs) (λ u. walk code rest (at + length (fields_code classes t fs)) 0 (u ∷ stack) w)
   walk-fields [] t v at rest stack w h = let e : at ≡ at + 0 = omega arith in ap (λ n. walk code rest n 0 (v ∷ stack) w) e
   walk-fields (f ∷ fs) t v at rest stack w h =
       let more = fields_code classes (type_behind classes t f) fs in
@@ -120,7 +128,8 @@ module _ (classes : List Class) (code : Code) where
   pub walk-path : (p : Path) (locals : List Local) (scope : Scope) (at : ℕ) (rest : List Op) (stack : List Val) (w : Work)
       → ((x : Variable) → slot_at w.machine (slot_of scope x) ≡ value_in locals x) → FollowsPath classes w.machine.store locals scope p
       → walk code (path_code classes scope p.base p.fields ++ rest) at 0 stack w
-      ≡ with_value (path_value classes w.machine.store locals p) (λ u. walk code rest (at + length (path_code classes scope p.base p.fields)) 0 (u ∷ stack) w)
+      ≡ with_value (path_value classes w.machine.store locals p)
+      (λ u. walk code rest (at + length (path_code classes scope p.base p.fields)) 0 (u ∷ stack) w)
   walk-path p locals scope at rest stack w slots h =
       let more = fields_code classes (type_in scope p.base) p.fields in
       let e : at + 1 + length more ≡ at + length (i.Load (slot_of scope p.base) ∷ more) = omega arith in
@@ -130,36 +139,44 @@ module _ (classes : List Class) (code : Code) where
 
   -- an operator behind its operand
   one_run : (o : Op) (k : Val → Computed) (ops : List Op) (c : Computed) (at : ℕ) (rest : List Op) (stack : List Val) (w : Work)
-      → ((here : ℕ) (v : Val) → act code here o (walk code rest (here + 1)) (v ∷ stack) w ≡ with_value (k v) (λ u. walk code rest (here + 1) 0 (u ∷ stack) w))
+      → ((here : ℕ) (v : Val) → act code here o (walk code rest (here + 1)) (v ∷ stack) w
+      ≡ with_value (k v) (λ u. walk code rest (here + 1) 0 (u ∷ stack) w))
       → walk code (ops ++ (o ∷ rest)) at 0 stack w ≡ with_value c (λ u. walk code (o ∷ rest) (at + length ops) 0 (u ∷ stack) w)
       → walk code ((ops ++ o ∷ []) ++ rest) at 0 stack w ≡ with_value (◌>>=◌ c k) (λ u. walk code rest (at + length (ops ++ o ∷ [])) 0 (u ∷ stack) w)
   one_run o k ops c at rest stack w does before =
       let e : at + length ops + 1 ≡ at + length (ops ++ o ∷ []) = omega (arith, length-append ops (o ∷ [])) in
       ap (λ l. walk code l at 0 stack w) (append_assoc ops (o ∷ []) rest)
       ∙ before
-      ∙ value_then c k (λ u. walk code (o ∷ rest) (at + length ops) 0 (u ∷ stack) w) (λ u. walk code rest (at + length ops + 1) 0 (u ∷ stack) w) (λ v is. does (at + length ops) v)
+      ∙ value_then c k (λ u. walk code (o ∷ rest) (at + length ops) 0 (u ∷ stack) w) (λ u. walk code rest (at + length ops + 1) 0 (u ∷ stack) w)
+      (λ v is. does (at + length ops) v)
       ∙ at_address rest stack w (◌>>=◌ c k) _ _ e
 
   -- an operator behind its two operands
   two_run : (b : BinOp) (o : Op) (left right : List Op) (c d : Computed) (at middle : ℕ) (rest : List Op) (stack : List Val) (w : Work)
-      → ((here : ℕ) (x y : Val) → act code here o (walk code rest (here + 1)) (y ∷ x ∷ stack) w ≡ with_value (operate b x y) (λ u. walk code rest (here + 1) 0 (u ∷ stack) w))
+      → ((here : ℕ) (x y : Val) → act code here o (walk code rest (here + 1)) (y ∷ x ∷ stack) w
+      ≡ with_value (operate b x y) (λ u. walk code rest (here + 1) 0 (u ∷ stack) w))
       → ((v : Val) → decides b v ≡ false)
       → middle ≡ at + length left
       → walk code (left ++ (right ++ o ∷ rest)) at 0 stack w ≡ with_value c (λ v. walk code (right ++ o ∷ rest) (at + length left) 0 (v ∷ stack) w)
-      → ((v : Val) → walk code (right ++ o ∷ rest) middle 0 (v ∷ stack) w ≡ with_value d (λ u. walk code (o ∷ rest) (middle + length right) 0 (u ∷ v ∷ stack) w))
-      → walk code ((left ++ (right ++ o ∷ [])) ++ rest) at 0 stack w ≡ with_value (◌>>=◌ c (λ v. with_right_operand b v d)) (λ u. walk code rest (at + length (left ++ (right ++ o ∷ []))) 0 (u ∷ stack) w)
+      → ((v : Val) → walk code (right ++ o ∷ rest) middle 0 (v ∷ stack) w
+      ≡ with_value d (λ u. walk code (o ∷ rest) (middle + length right) 0 (u ∷ v ∷ stack) w))
+      → walk code ((left ++ (right ++ o ∷ [])) ++ rest) at 0 stack w
+      ≡ with_value (◌>>=◌ c (λ v. with_right_operand b v d)) (λ u. walk code rest (at + length (left ++ (right ++ o ∷ []))) 0 (u ∷ stack) w)
   two_run b o left right c d at middle rest stack w does never m one two =
       let e : middle + length right + 1 ≡ at + length (left ++ (right ++ o ∷ [])) =
       omega (arith, m, length-append left (right ++ o ∷ []), length-append right (o ∷ [])) in
       let flat : (left ++ (right ++ o ∷ [])) ++ rest ≡ left ++ (right ++ o ∷ rest) = simp append_assoc in
       ap (λ l. walk code l at 0 stack w) flat
       ∙ one
-      ∙ value_then c (λ v. with_right_operand b v d) (λ v. walk code (right ++ o ∷ rest) (at + length left) 0 (v ∷ stack) w) (λ u. walk code rest (middle + length right + 1) 0 (u ∷ stack) w)
+      ∙ value_then c (λ v. with_right_operand b v d) (λ v. walk code (right ++ o ∷ rest) (at + length left) 0 (v ∷ stack) w)
+      (λ u. walk code rest (middle + length right + 1) 0 (u ∷ stack) w)
       (λ v is.
       ap (λ n. walk code (right ++ o ∷ rest) n 0 (v ∷ stack) w) (sym m)
       ∙ two v
-      ∙ value_then d (λ y. operate b v y) (λ u. walk code (o ∷ rest) (middle + length right) 0 (u ∷ v ∷ stack) w) (λ u. walk code rest (middle + length right + 1) 0 (u ∷ stack) w) (λ y also. does (middle + length right) v y)
-      ∙ sym (ap (λ t. with_value (if t then Ok (val.Bool (as_bool v)) else ◌>>=◌ d (λ y. operate b v y)) (λ u. walk code rest (middle + length right + 1) 0 (u ∷ stack) w)) (never v)))
+      ∙ value_then d (λ y. operate b v y) (λ u. walk code (o ∷ rest) (middle + length right) 0 (u ∷ v ∷ stack) w)
+      (λ u. walk code rest (middle + length right + 1) 0 (u ∷ stack) w) (λ y also. does (middle + length right) v y)
+      ∙ sym (ap (λ t. with_value (if t then Ok (val.Bool (as_bool v)) else ◌>>=◌ d (λ y. operate b v y))
+      (λ u. walk code rest (middle + length right + 1) 0 (u ∷ stack) w)) (never v)))
       ∙ at_address rest stack w (◌>>=◌ c (λ v. with_right_operand b v d)) _ _ e
 
   -- behind a jump of `and` or `or`, by whether the left operand decides
@@ -188,30 +205,38 @@ module _ (classes : List Class) (code : Code) where
 
   -- `and` and `or`: the jump goes behind the right operand where the left one decides
   choice_run : (b : BinOp) (o : Op) (left right : List Op) (c d : Computed) (at end : ℕ) (rest : List Op) (stack : List Val) (w : Work)
-      → ((here : ℕ) (v : Val) (go : Go) → act code here o go (v ∷ stack) w ≡ (if decides b v then go (end - (here + 1)) (v ∷ stack) w else go 0 stack w))
+      → ((here : ℕ) (v : Val) (go : Go) → act code here o go (v ∷ stack) w
+      ≡ (if decides b v then go (end - (here + 1)) (v ∷ stack) w else go 0 stack w))
       → end ≡ at + length left + 1 + length right
       → IsTruth c
       → IsTruth d
       → ((v y : Val) → decides b v ≡ false → operate b v y ≡ Ok (val.Bool (as_bool y)))
-      → walk code (left ++ (o ∷ (right ++ rest))) at 0 stack w ≡ with_value c (λ v. walk code (o ∷ (right ++ rest)) (at + length left) 0 (v ∷ stack) w)
-      → walk code (right ++ rest) (at + length left + 1) 0 stack w ≡ with_value d (λ u. walk code rest (at + length left + 1 + length right) 0 (u ∷ stack) w)
-      → walk code ((left ++ o ∷ right) ++ rest) at 0 stack w ≡ with_value (◌>>=◌ c (λ v. with_right_operand b v d)) (λ u. walk code rest (at + length (left ++ o ∷ right)) 0 (u ∷ stack) w)
+      → walk code (left ++ (o ∷ (right ++ rest))) at 0 stack w
+      ≡ with_value c (λ v. walk code (o ∷ (right ++ rest)) (at + length left) 0 (v ∷ stack) w)
+      → walk code (right ++ rest) (at + length left + 1) 0 stack w
+      ≡ with_value d (λ u. walk code rest (at + length left + 1 + length right) 0 (u ∷ stack) w)
+      → walk code ((left ++ o ∷ right) ++ rest) at 0 stack w
+      ≡ with_value (◌>>=◌ c (λ v. with_right_operand b v d)) (λ u. walk code rest (at + length (left ++ o ∷ right)) 0 (u ∷ stack) w)
   choice_run b o left right c d at end rest stack w does m lc ld both one two =
       let e : end ≡ at + length (left ++ o ∷ right) = omega (arith, m, length-append left (o ∷ right)) in
       ap (λ l. walk code l at 0 stack w) (append_assoc left (o ∷ right) rest)
       ∙ one
-      ∙ value_then c (λ v. with_right_operand b v d) (λ v. walk code (o ∷ (right ++ rest)) (at + length left) 0 (v ∷ stack) w) (λ u. walk code rest end 0 (u ∷ stack) w)
+      ∙ value_then c (λ v. with_right_operand b v d) (λ v. walk code (o ∷ (right ++ rest)) (at + length left) 0 (v ∷ stack) w)
+      (λ u. walk code rest end 0 (u ∷ stack) w)
       (λ v is. does (at + length left) v (walk code (right ++ rest) (at + length left + 1))
       ∙ chosen b right d (at + length left + 1) end rest stack w v (decides b v) refl m (lc v is) ld (both v) two)
       ∙ at_address rest stack w (◌>>=◌ c (λ v. with_right_operand b v d)) _ _ e
 
   -- an operator whose left operand never decides
   plain_run : (b : BinOp) (o : Op) (left right : List Op) (c d : Computed) (at : ℕ) (rest : List Op) (stack : List Val) (w : Work)
-      → ((here : ℕ) (x y : Val) → act code here o (walk code rest (here + 1)) (y ∷ x ∷ stack) w ≡ with_value (operate b x y) (λ u. walk code rest (here + 1) 0 (u ∷ stack) w))
+      → ((here : ℕ) (x y : Val) → act code here o (walk code rest (here + 1)) (y ∷ x ∷ stack) w
+      ≡ with_value (operate b x y) (λ u. walk code rest (here + 1) 0 (u ∷ stack) w))
       → ((v : Val) → decides b v ≡ false)
       → ((more : List Op) → walk code (left ++ more) at 0 stack w ≡ with_value c (λ v. walk code more (at + length left) 0 (v ∷ stack) w))
-      → ((more : List Op) (v : Val) → walk code (right ++ more) (at + length left + 0) 0 (v ∷ stack) w ≡ with_value d (λ u. walk code more (at + length left + 0 + length right) 0 (u ∷ v ∷ stack) w))
-      → walk code ((left ++ (right ++ o ∷ [])) ++ rest) at 0 stack w ≡ with_value (◌>>=◌ c (λ v. with_right_operand b v d)) (λ u. walk code rest (at + length (left ++ (right ++ o ∷ []))) 0 (u ∷ stack) w)
+      → ((more : List Op) (v : Val) → walk code (right ++ more) (at + length left + 0) 0 (v ∷ stack) w
+      ≡ with_value d (λ u. walk code more (at + length left + 0 + length right) 0 (u ∷ v ∷ stack) w))
+      → walk code ((left ++ (right ++ o ∷ [])) ++ rest) at 0 stack w
+      ≡ with_value (◌>>=◌ c (λ v. with_right_operand b v d)) (λ u. walk code rest (at + length (left ++ (right ++ o ∷ []))) 0 (u ∷ stack) w)
   plain_run b o left right c d at rest stack w does never one two =
       two_run b o left right c d at (at + length left + 0) rest stack w does never (omega arith) (one (right ++ o ∷ rest)) (λ v. two (o ∷ rest) v)
 
@@ -224,19 +249,23 @@ module _ (classes : List Class) (code : Code) where
   walk-expr nil locals scope at rest stack w slots h = refl
   walk-expr (path p) locals scope at rest stack w slots h = walk-path p locals scope at rest stack w slots h
   walk-expr (is_nil p) locals scope at rest stack w slots h =
-      one_run i.IsNil (λ v. Ok (val.Bool (is_nil_value v))) (path_code classes scope p.base p.fields) (path_value classes w.machine.store locals p) at rest stack w (λ here v. refl)
+      one_run i.IsNil (λ v. Ok (val.Bool (is_nil_value v))) (path_code classes scope p.base p.fields) (path_value classes w.machine.store locals p)
+      at rest stack w (λ here v. refl)
       (walk-path p locals scope at (i.IsNil ∷ rest) stack w slots h)
   walk-expr (neg a) locals scope at rest stack w slots h =
-      one_run i.Neg (λ v. number_value (neg_ℤ (as_int v))) (expr_code classes scope at a) (value_of classes w.machine.store locals a) at rest stack w (λ here v. refl)
+      one_run i.Neg (λ v. number_value (neg_ℤ (as_int v))) (expr_code classes scope at a) (value_of classes w.machine.store locals a) at rest stack
+      w (λ here v. refl)
       (walk-expr a locals scope at (i.Neg ∷ rest) stack w slots h)
   walk-expr (not a) locals scope at rest stack w slots h =
-      one_run i.Not (λ v. Ok (val.Bool (negated (as_bool v)))) (expr_code classes scope at a) (value_of classes w.machine.store locals a) at rest stack w (λ here v. refl)
+      one_run i.Not (λ v. Ok (val.Bool (negated (as_bool v)))) (expr_code classes scope at a) (value_of classes w.machine.store locals a) at rest
+      stack w (λ here v. refl)
       (walk-expr a locals scope at (i.Not ∷ rest) stack w slots h)
   walk-expr (binary op.Or a b) locals scope at rest stack w slots h =
       let left = expr_code classes scope at a in
       let middle = at + length left + 1 in
       let right = expr_code classes scope middle b in
-      choice_run op.Or (i.Or (middle + length right)) left right (value_of classes w.machine.store locals a) (value_of classes w.machine.store locals b) at (middle + length right) rest stack w
+      choice_run op.Or (i.Or (middle + length right)) left right (value_of classes w.machine.store locals a)
+      (value_of classes w.machine.store locals b) at (middle + length right) rest stack w
       (λ here v go. refl) refl h.2.0 h.2.1 or_both
       (walk-expr a locals scope at (i.Or (middle + length right) ∷ (right ++ rest)) stack w slots h.0)
       (walk-expr b locals scope middle rest stack w slots h.1)
@@ -244,51 +273,74 @@ module _ (classes : List Class) (code : Code) where
       let left = expr_code classes scope at a in
       let middle = at + length left + 1 in
       let right = expr_code classes scope middle b in
-      choice_run op.And (i.And (middle + length right)) left right (value_of classes w.machine.store locals a) (value_of classes w.machine.store locals b) at (middle + length right) rest stack w
+      choice_run op.And (i.And (middle + length right)) left right (value_of classes w.machine.store locals a)
+      (value_of classes w.machine.store locals b) at (middle + length right) rest stack w
       (λ here v go. turned (as_bool v) _ _) refl h.2.0 h.2.1 and_both
       (walk-expr a locals scope at (i.And (middle + length right) ∷ (right ++ rest)) stack w slots h.0)
       (walk-expr b locals scope middle rest stack w slots h.1)
   walk-expr (binary op.Eq a b) locals scope at rest stack w slots h =
       let left = expr_code classes scope at a in
-      plain_run op.Eq i.Eq left (expr_code classes scope (at + length left + 0) b) (value_of classes w.machine.store locals a) (value_of classes w.machine.store locals b) at rest stack w
-      (λ here x y. refl) (λ v. refl) (λ more. walk-expr a locals scope at more stack w slots h.0) (λ more v. walk-expr b locals scope (at + length left + 0) more (v ∷ stack) w slots h.1)
+      plain_run op.Eq i.Eq left (expr_code classes scope (at + length left + 0) b) (value_of classes w.machine.store locals a)
+      (value_of classes w.machine.store locals b) at rest stack w
+      (λ here x y. refl) (λ v. refl) (λ more. walk-expr a locals scope at more stack w slots h.0)
+      (λ more v. walk-expr b locals scope (at + length left + 0) more (v ∷ stack) w slots h.1)
   walk-expr (binary op.Ne a b) locals scope at rest stack w slots h =
       let left = expr_code classes scope at a in
-      plain_run op.Ne i.Ne left (expr_code classes scope (at + length left + 0) b) (value_of classes w.machine.store locals a) (value_of classes w.machine.store locals b) at rest stack w
-      (λ here x y. refl) (λ v. refl) (λ more. walk-expr a locals scope at more stack w slots h.0) (λ more v. walk-expr b locals scope (at + length left + 0) more (v ∷ stack) w slots h.1)
+      plain_run op.Ne i.Ne left (expr_code classes scope (at + length left + 0) b) (value_of classes w.machine.store locals a)
+      (value_of classes w.machine.store locals b) at rest stack w
+      (λ here x y. refl) (λ v. refl) (λ more. walk-expr a locals scope at more stack w slots h.0)
+      (λ more v. walk-expr b locals scope (at + length left + 0) more (v ∷ stack) w slots h.1)
   walk-expr (binary op.Lt a b) locals scope at rest stack w slots h =
       let left = expr_code classes scope at a in
-      plain_run op.Lt i.Lt left (expr_code classes scope (at + length left + 0) b) (value_of classes w.machine.store locals a) (value_of classes w.machine.store locals b) at rest stack w
-      (λ here x y. refl) (λ v. refl) (λ more. walk-expr a locals scope at more stack w slots h.0) (λ more v. walk-expr b locals scope (at + length left + 0) more (v ∷ stack) w slots h.1)
+      plain_run op.Lt i.Lt left (expr_code classes scope (at + length left + 0) b) (value_of classes w.machine.store locals a)
+      (value_of classes w.machine.store locals b) at rest stack w
+      (λ here x y. refl) (λ v. refl) (λ more. walk-expr a locals scope at more stack w slots h.0)
+      (λ more v. walk-expr b locals scope (at + length left + 0) more (v ∷ stack) w slots h.1)
   walk-expr (binary op.Le a b) locals scope at rest stack w slots h =
       let left = expr_code classes scope at a in
-      plain_run op.Le i.Le left (expr_code classes scope (at + length left + 0) b) (value_of classes w.machine.store locals a) (value_of classes w.machine.store locals b) at rest stack w
-      (λ here x y. refl) (λ v. refl) (λ more. walk-expr a locals scope at more stack w slots h.0) (λ more v. walk-expr b locals scope (at + length left + 0) more (v ∷ stack) w slots h.1)
+      plain_run op.Le i.Le left (expr_code classes scope (at + length left + 0) b) (value_of classes w.machine.store locals a)
+      (value_of classes w.machine.store locals b) at rest stack w
+      (λ here x y. refl) (λ v. refl) (λ more. walk-expr a locals scope at more stack w slots h.0)
+      (λ more v. walk-expr b locals scope (at + length left + 0) more (v ∷ stack) w slots h.1)
   walk-expr (binary op.Gt a b) locals scope at rest stack w slots h =
       let left = expr_code classes scope at a in
-      plain_run op.Gt i.Gt left (expr_code classes scope (at + length left + 0) b) (value_of classes w.machine.store locals a) (value_of classes w.machine.store locals b) at rest stack w
-      (λ here x y. refl) (λ v. refl) (λ more. walk-expr a locals scope at more stack w slots h.0) (λ more v. walk-expr b locals scope (at + length left + 0) more (v ∷ stack) w slots h.1)
+      plain_run op.Gt i.Gt left (expr_code classes scope (at + length left + 0) b) (value_of classes w.machine.store locals a)
+      (value_of classes w.machine.store locals b) at rest stack w
+      (λ here x y. refl) (λ v. refl) (λ more. walk-expr a locals scope at more stack w slots h.0)
+      (λ more v. walk-expr b locals scope (at + length left + 0) more (v ∷ stack) w slots h.1)
   walk-expr (binary op.Ge a b) locals scope at rest stack w slots h =
       let left = expr_code classes scope at a in
-      plain_run op.Ge i.Ge left (expr_code classes scope (at + length left + 0) b) (value_of classes w.machine.store locals a) (value_of classes w.machine.store locals b) at rest stack w
-      (λ here x y. refl) (λ v. refl) (λ more. walk-expr a locals scope at more stack w slots h.0) (λ more v. walk-expr b locals scope (at + length left + 0) more (v ∷ stack) w slots h.1)
+      plain_run op.Ge i.Ge left (expr_code classes scope (at + length left + 0) b) (value_of classes w.machine.store locals a)
+      (value_of classes w.machine.store locals b) at rest stack w
+      (λ here x y. refl) (λ v. refl) (λ more. walk-expr a locals scope at more stack w slots h.0)
+      (λ more v. walk-expr b locals scope (at + length left + 0) more (v ∷ stack) w slots h.1)
   walk-expr (binary op.Add a b) locals scope at rest stack w slots h =
       let left = expr_code classes scope at a in
-      plain_run op.Add i.Add left (expr_code classes scope (at + length left + 0) b) (value_of classes w.machine.store locals a) (value_of classes w.machine.store locals b) at rest stack w
-      (λ here x y. refl) (λ v. refl) (λ more. walk-expr a locals scope at more stack w slots h.0) (λ more v. walk-expr b locals scope (at + length left + 0) more (v ∷ stack) w slots h.1)
+      plain_run op.Add i.Add left (expr_code classes scope (at + length left + 0) b) (value_of classes w.machine.store locals a)
+      (value_of classes w.machine.store locals b) at rest stack w
+      (λ here x y. refl) (λ v. refl) (λ more. walk-expr a locals scope at more stack w slots h.0)
+      (λ more v. walk-expr b locals scope (at + length left + 0) more (v ∷ stack) w slots h.1)
   walk-expr (binary op.Sub a b) locals scope at rest stack w slots h =
       let left = expr_code classes scope at a in
-      plain_run op.Sub i.Sub left (expr_code classes scope (at + length left + 0) b) (value_of classes w.machine.store locals a) (value_of classes w.machine.store locals b) at rest stack w
-      (λ here x y. refl) (λ v. refl) (λ more. walk-expr a locals scope at more stack w slots h.0) (λ more v. walk-expr b locals scope (at + length left + 0) more (v ∷ stack) w slots h.1)
+      plain_run op.Sub i.Sub left (expr_code classes scope (at + length left + 0) b) (value_of classes w.machine.store locals a)
+      (value_of classes w.machine.store locals b) at rest stack w
+      (λ here x y. refl) (λ v. refl) (λ more. walk-expr a locals scope at more stack w slots h.0)
+      (λ more v. walk-expr b locals scope (at + length left + 0) more (v ∷ stack) w slots h.1)
   walk-expr (binary op.Mul a b) locals scope at rest stack w slots h =
       let left = expr_code classes scope at a in
-      plain_run op.Mul i.Mul left (expr_code classes scope (at + length left + 0) b) (value_of classes w.machine.store locals a) (value_of classes w.machine.store locals b) at rest stack w
-      (λ here x y. refl) (λ v. refl) (λ more. walk-expr a locals scope at more stack w slots h.0) (λ more v. walk-expr b locals scope (at + length left + 0) more (v ∷ stack) w slots h.1)
+      plain_run op.Mul i.Mul left (expr_code classes scope (at + length left + 0) b) (value_of classes w.machine.store locals a)
+      (value_of classes w.machine.store locals b) at rest stack w
+      (λ here x y. refl) (λ v. refl) (λ more. walk-expr a locals scope at more stack w slots h.0)
+      (λ more v. walk-expr b locals scope (at + length left + 0) more (v ∷ stack) w slots h.1)
   walk-expr (binary op.Div a b) locals scope at rest stack w slots h =
       let left = expr_code classes scope at a in
-      plain_run op.Div i.Div left (expr_code classes scope (at + length left + 0) b) (value_of classes w.machine.store locals a) (value_of classes w.machine.store locals b) at rest stack w
-      (λ here x y. refl) (λ v. refl) (λ more. walk-expr a locals scope at more stack w slots h.0) (λ more v. walk-expr b locals scope (at + length left + 0) more (v ∷ stack) w slots h.1)
+      plain_run op.Div i.Div left (expr_code classes scope (at + length left + 0) b) (value_of classes w.machine.store locals a)
+      (value_of classes w.machine.store locals b) at rest stack w
+      (λ here x y. refl) (λ v. refl) (λ more. walk-expr a locals scope at more stack w slots h.0)
+      (λ more v. walk-expr b locals scope (at + length left + 0) more (v ∷ stack) w slots h.1)
   walk-expr (binary op.Rem a b) locals scope at rest stack w slots h =
       let left = expr_code classes scope at a in
-      plain_run op.Rem i.Rem left (expr_code classes scope (at + length left + 0) b) (value_of classes w.machine.store locals a) (value_of classes w.machine.store locals b) at rest stack w
-      (λ here x y. refl) (λ v. refl) (λ more. walk-expr a locals scope at more stack w slots h.0) (λ more v. walk-expr b locals scope (at + length left + 0) more (v ∷ stack) w slots h.1)
+      plain_run op.Rem i.Rem left (expr_code classes scope (at + length left + 0) b) (value_of classes w.machine.store locals a)
+      (value_of classes w.machine.store locals b) at rest stack w
+      (λ here x y. refl) (λ v. refl) (λ more. walk-expr a locals scope at more stack w slots h.0)
+      (λ more v. walk-expr b locals scope (at + length left + 0) more (v ∷ stack) w slots h.1)

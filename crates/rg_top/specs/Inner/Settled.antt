@@ -20,8 +20,9 @@ use Rattle.rg_run.specs.Machine.{Kept, IsFresh, numbers_of}
 use Rattle.rg_run.specs.Sound.{Stands, NeverAsks}
 use Rattle.rg_top.specs.declared.status.Status.{Status}
 use Rattle.rg_top.specs.declared.status.Status.TheVariants as status
-use Rattle.rg_top.specs.Commands.{Command, run, plain, fmt, check, bulk, Origin, in_file, generated, origin_of}
-use Rattle.rg_top.specs.Expected.{too_long, faulty, spelt, HasSource, MeansFrom, Means, status_of, accepted_text, text_after, line_behind}
+use Rattle.rg_top.specs.Commands.{Command, run, plain, fmt, check, code, bulk, Origin, in_file, generated, origin_of}
+use Rattle.rg_top.specs.Expected.{too_long, faulty, spelt, HasSource, MeansFrom, Means, status_of}
+use Rattle.rg_top.specs.Expected.{accepted_text, listed_text, text_after, line_behind}
 use Rattle.rg_top.specs.Headline.{HasInput, ForInput, Runs, Untouched, StandsAfter, AsksAfter, CutOffAt, CutAtInput}
 
 -- the status of a run
@@ -123,12 +124,20 @@ pub record Passed (file source : List ℕ) (old new : Option (List ℕ)) (m : Ke
   pub wrote : Appends old new accepted_text
   pub fresh : IsFresh m
 
+-- the tree that the source spells is accepted, and the listing of its code was written
+pub record Listed (file source : List ℕ) (old new : Option (List ℕ)) (m : Kept) : Type 0 where
+  pub tree : Tree
+  pub runs : Runs (in_file file) source tree
+  pub wrote : Appends old new (listed_text tree)
+  pub fresh : IsFresh m
+
 -- a command that came to its end
 abbrev pub EndsWell : Command → (source : List ℕ) → (left old new : Option (List ℕ)) → Kept → (still : Type 0) → Type 0
 EndsWell (run file n) source left old new m still = RanWhole (in_file file) n source left status.Done old new m still
 EndsWell (plain file n) source left old new m still = RanBeside file n source left status.Done old new m still
 EndsWell (fmt file) source left old new m still = Formatted source old new m
 EndsWell (check file) source left old new m still = Passed file source old new m
+EndsWell (code file) source left old new m still = Listed file source old new m
 EndsWell (bulk size) source left old new m still = RanGenerated size source status.Done old new m
 
 -- a run that didn't
@@ -137,6 +146,7 @@ StopsRun (run file n) source left s old new m still = RanWhole (in_file file) n 
 StopsRun (plain file n) source left s old new m still = RanBeside file n source left s old new m still
 StopsRun (fmt file) source left s old new m still = ⊥
 StopsRun (check file) source left s old new m still = ⊥
+StopsRun (code file) source left s old new m still = ⊥
 StopsRun (bulk size) source left s old new m still = RanGenerated size source s old new m
 
 -- the tree that the source spells has that first fault
@@ -149,6 +159,7 @@ IsFaulted (run file n) source f = HasFault source f
 IsFaulted (plain file n) source f = HasFault source f
 IsFaulted (fmt file) source f = ⊥
 IsFaulted (check file) source f = HasFault source f
+IsFaulted (code file) source f = HasFault source f
 IsFaulted (bulk size) source f = ⊥
 
 -- a command that was cut off by the output or for want of memory; one that reads no input has none
@@ -157,6 +168,7 @@ CutOff (run file n) source left old new m still = ForInput left (λ input. CutOf
 CutOff (plain file n) source left old new m still = ForInput left (λ input. CutOffAt (plain file n) source input m old new still)
 CutOff (fmt file) source left old new m still = CutOffAt (fmt file) source [] m old new still
 CutOff (check file) source left old new m still = CutOffAt (check file) source [] m old new still
+CutOff (code file) source left old new m still = CutOffAt (code file) source [] m old new still
 CutOff (bulk size) source left old new m still = CutOffAt (bulk size) source [] m old new still
 
 -- what was answered to a source

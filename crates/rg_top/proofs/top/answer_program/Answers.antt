@@ -1,5 +1,5 @@
 use Rattle.std.proofs.Common.{refl}
-use Rattle.rg_top.specs.Commands.{fmt, check, bulk}
+use Rattle.rg_top.specs.Commands.{fmt, check, code, bulk}
 use Rattle.rg_top.proofs.SettledLemmas.{settles-still}
 use Rattle.rg_top.proofs.top.answer_program.Goals as goal
 
@@ -25,6 +25,13 @@ returns-in-Check-clause-settles g c = λ source means.
     (settles-still _ _ _ _ c.args.machine.now _ refl (check c.in-Check.file.now) _ refl
     (c.check_program.ensures.settles c.in-Check.file.now source (g.I.Source.left c.args.input.now) c.args.machine.now
     (rw c.in-Check.is at means) c.requires.fresh))
+
+pub returns-in-Code-clause-settles : goal.returns-in-Code-clause-settles
+returns-in-Code-clause-settles g c = λ source means.
+    rw c.in-Code.is
+    (settles-still _ _ _ _ c.args.machine.now _ refl (code c.in-Code.file.now) _ refl
+    (c.list_program.ensures.settles c.in-Code.file.now source (g.I.Source.left c.args.input.now) c.args.machine.now
+    (rw c.in-Code.is at means) c.requires.fresh))
 
 pub returns-in-Bulk-clause-settles : goal.returns-in-Bulk-clause-settles
 returns-in-Bulk-clause-settles g c = λ source means.

@@ -1,15 +1,16 @@
-use Rattle.std.proofs.Common.{◌≡◌, ◌-◌, ◌≤◌, true, false, length}
-use Rattle.rg_input.specs.Inner.Held.{pending, has_enough, Reads}
+use Rattle.std.proofs.Common.{◌≡◌, ◌-◌, ◌≤◌, length}
+use Rattle.rg_input.specs.Numbers.{Follows, IsSure}
+use Rattle.rg_input.specs.Inner.Held.{looked_at, pending, Reads}
 use Rattle.rg_input.proofs.held.Held.fill.Given as goal
 
-abbrev pub invariant-loop-source : goal.invariant-loop-source
-invariant-loop-source g l = record {
-  reads : Reads (g.S.Source.left l.fn.source) (g.S.Source.left l.source) (pending l.fn.self) (pending l.self);
-  went : l.fn.self.ended ≡ false;
-  going : l.self.ended ≡ false;
-  idle : has_enough l.fn.self ≡ true → l.self ≡ l.fn.self;
+abbrev pub invariant-loop-ahead : goal.invariant-loop-ahead
+invariant-loop-ahead g l = record {
+  follows : Follows l.ahead (g.S.Source.left l.source);
+  reads : Reads (g.S.Source.left l.fn.source) (g.S.Source.left l.source) (pending l.fn.self l.fn.ahead) (pending l.self l.ahead);
+  idle : IsSure (pending l.fn.self l.fn.ahead) → pending l.self l.ahead ≡ pending l.fn.self l.fn.ahead;
+  unasked : IsSure (pending l.fn.self l.fn.ahead) → l.source ≡ l.fn.source;
   never_falls : g.S.Source.faults l.fn.source ≤ g.S.Source.faults l.source;
 }
 
-abbrev pub decreases-loop-source : goal.decreases-loop-source
-decreases-loop-source g l = 4119 - length (pending l.self).held
+abbrev pub decreases-loop-ahead : goal.decreases-loop-ahead
+decreases-loop-ahead g l = 4119 - length (looked_at l.self)

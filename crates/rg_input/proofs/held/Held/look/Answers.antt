@@ -1,20 +1,22 @@
-use Rattle.std.proofs.Common.{ap, Ok, subst}
+use Rattle.std.proofs.Common.{ap, Ok, subst, sym}
 use Rattle.std.proofs.lemmas.Bool.{false≢true}
-use Rattle.rg_input.specs.Inner.Held.{Says}
-use Rattle.rg_input.proofs.HeldLemmas.{Settled-says, enough-refused, verdict-refused}
+use Rattle.rg_input.specs.Numbers.{Pending, Refuses}
+use Rattle.rg_input.proofs.HeldLemmas.{Settled-says, sure-refused, verdict-refused}
+use Rattle.rg_input.specs.Inner.Held.{pending}
 use Rattle.rg_input.proofs.held.Held.look.Goals as goal
 
 pub returns-in_err-fill-clause-refused : goal.returns-in_err-fill-clause-refused
 returns-in_err-fill-clause-refused g c why refused =
-    absurd (false≢true (c.in_err-fill.ensures.idle (enough-refused c.args.self.now why refused)).0)
+    absurd (false≢true (c.in_err-fill.ensures.idle (sure-refused (pending c.args.self.now c.args.ahead.now) why refused)).0)
 
 pub returns-clause-settled : goal.returns-clause-settled
-returns-clause-settled g c = Settled-says c.fill.new.self c.verdict.result c.verdict.ensures.says c.verdict.ensures.end c.in_ok-fill.ensures.whole
+returns-clause-settled g c =
+    Settled-says c.fill.new.self c.fill.new.ahead c.verdict.result c.verdict.ensures.says c.verdict.ensures.end c.in_ok-fill.ensures.whole
 
 pub returns-clause-refused : goal.returns-clause-refused
 returns-clause-refused g c why refused =
-    let idle = c.in_ok-fill.ensures.idle (enough-refused c.args.self.now why refused) in (
-      ap Ok (verdict-refused c.args.self.now c.verdict.result why
-          (subst (λ h. Says h c.verdict.result) idle.1 c.verdict.ensures.says) refused),
+    let idle = c.in_ok-fill.ensures.idle (sure-refused (pending c.args.self.now c.args.ahead.now) why refused) in
+    let still : Refuses (pending c.fill.new.self c.fill.new.ahead) why = subst (λ (n : Pending). Refuses n why) (sym idle.1) refused in (
+      ap Ok (verdict-refused c.fill.new.self c.fill.new.ahead c.verdict.result why c.verdict.ensures.says c.in_ok-fill.ensures.whole still),
       idle.1,
     )

@@ -2,7 +2,7 @@ use Rattle.std.proofs.Common.{◌≡◌, ◌∙◌, sym, ap, subst, refl, Ok, Er
 use Rattle.std.proofs.lemmas.Int.{to_z-of_z}
 use Rattle.rg_input.specs.declared.refusal.NumberRefusal.TheVariants as no
 use Rattle.rg_input.specs.Numbers.{Pending, Refuses, OnInput, Answers}
-use Rattle.rg_input.specs.Inner.Held.{pending, verdict_of}
+use Rattle.rg_input.specs.Inner.Held.{looked_at, pending, verdict_of}
 use Rattle.rg_input.proofs.HeldLemmas.{OnInput-read, found-said, malformed-said, refusal-end}
 use Rattle.rg_input.proofs.numbers.Numbers.next.Goals as goal
 
@@ -13,25 +13,30 @@ returns-in-Ok-Number-clause-answers g c =
     let old_left = g.S.Source.left c.args.source.now in
     let left = g.S.Source.left c.look.new.source in
     let h = c.look.new.self in
-    let new = pending c.take_token.new.self in
+    let ahead = c.look.new.ahead in
+    let between = pending h ahead in
+    let new = pending c.take_token.new.self ahead in
     rw z_is
     (subst (λ n. OnInput n new old_left left (Answers (Ok z))) c.self.view_is
-    (OnInput-read (pending c.self.inside.held) (pending h) new old_left left (Answers (Ok z)) c.look.ensures.reads c.take_token.ensures.ended
-    (found-said h left c.in-Ok-Number.field-0 z new c.in-Ok-Number.ensures.says c.in-Ok-Number.ensures.whole c.in-Ok-Number.field-0-is
-    c.take_token.ensures.held)))
+    (OnInput-read (pending c.self.inside.held c.self.inside.ahead) between new old_left left (Answers (Ok z)) c.look.ensures.reads refl
+    (found-said h ahead left c.in-Ok-Number.field-0 z (looked_at c.take_token.new.self) c.in-Ok-Number.ensures.says c.in-Ok-Number.ensures.whole
+    c.in-Ok-Number.field-0-is c.take_token.ensures)))
 
 pub returns-in-Ok-Malformed-clause-answers : goal.returns-in-Ok-Malformed-clause-answers
 returns-in-Ok-Malformed-clause-answers g c =
     let old_left = g.S.Source.left c.args.source.now in
     let left = g.S.Source.left c.look.new.source in
     let h = c.look.new.self in
-    subst (λ n. OnInput n (pending h) old_left left (Answers (Err no.Input))) c.self.view_is
-    (OnInput-read (pending c.self.inside.held) (pending h) (pending h) old_left left (Answers (Err no.Input)) c.look.ensures.reads refl
-    (malformed-said h left c.in-Ok-Malformed.field-0 c.in-Ok-Malformed.ensures.says c.in-Ok-Malformed.ensures.whole c.in-Ok-Malformed.field-0-is))
+    let ahead = c.look.new.ahead in
+    let new = pending h ahead in
+    subst (λ n. OnInput n new old_left left (Answers (Err no.Input))) c.self.view_is
+    (OnInput-read (pending c.self.inside.held c.self.inside.ahead) new new old_left left (Answers (Err no.Input)) c.look.ensures.reads refl
+    (malformed-said h ahead left c.in-Ok-Malformed.field-0 c.in-Ok-Malformed.ensures.says c.in-Ok-Malformed.ensures.whole
+    c.in-Ok-Malformed.field-0-is))
 
 pub returns-in-Ok-End-clause-refused : goal.returns-in-Ok-End-clause-refused
 returns-in-Ok-End-clause-refused g c why refused =
     let P : Pending → Type 0 = λ n. Refuses n why in
     let kept = c.in-Ok-End.ensures.refused why (subst P (sym c.self.view_is) refused) in
     let same : c.in-Ok-End.field-0 ≡ verdict_of why = cc (kept.0) in
-    (ap Err (sym (refusal-end why (sym c.in-Ok-End.field-0-is ∙ same))), ap pending kept.1 ∙ c.self.view_is)
+    (ap Err (sym (refusal-end why (sym c.in-Ok-End.field-0-is ∙ same))), kept.1 ∙ c.self.view_is)

@@ -1,7 +1,7 @@
 use Rattle.std.proofs.Common.{rules, ap, ◌∙◌}
 use Rattle.rg_tree.specs.Rows.RowTrees.{program_of}
 use Rattle.rg_tree.proofs.Programs.{program_of-at_first}
-use Rattle.rg_tree.proofs.program.Program.new.Goals as goal
+use Rattle.rg_tree.proofs.program.Program.keyed.Goals as goal
 
 pub returns-clause-tables : goal.returns-clause-tables
 returns-clause-tables c = search rules

@@ -1,0 +1,6 @@
+-- Lemmas for the crates that free, freeze or move regions.
+pub mod Told
+pub mod Chain
+pub mod Fewer
+pub mod RegionComes
+pub mod Changed

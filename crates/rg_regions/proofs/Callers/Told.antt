@@ -1,0 +1,92 @@
+-- What labels, fields, numbers and records tell (docs/architecture.md, "Regions").
+use Rattle.std.proofs.Common.{◌≡◌, ℕ, ◌<◌, List, Option, Some, None, IsSome, refl, ap, sym, ◌∙◌, ◌⊎◌, inl, inr}
+use Rattle.std.proofs.Common.{option_map, option_and_then, slice_get}
+use Rattle.std.proofs.lemmas.Bool.{cases_eq}
+use Rattle.std.proofs.lemmas.Option.{slice_get_within}
+use Rattle.rg_base.specs.declared.object.Label.{Label}
+use Rattle.rg_base.specs.declared.object.Label.TheVariants.{Region, Temp, Frozen}
+use Rattle.rg_base.specs.declared.value.Word.{Word}
+use Rattle.rg_base.specs.declared.value.Word.TheVariants.{Slot}
+use Rattle.rg_cells.specs.declared.cell.Body.{Body}
+use Rattle.rg_cells.specs.Table.{Heap, Table, body_at, field_at, label_at, width, IsHeld}
+use Rattle.rg_regions.specs.Table.{Record, RegionTable, record_at, HasNumber}
+use Rattle.rg_regions.specs.Reach.{LiesIn}
+use Rattle.rg_regions.specs.Grove.{Grove}
+
+-- a field that can be read is one of the cell's
+pub field_within : (h : Heap) (s k : ℕ) (w : Word) → field_at h s k ≡ Some w → k < width (body_at h s)
+field_within h s k w e = by_body (body_at h s) k w e
+  where
+    by_body : (b : Option Body) (k : ℕ) (w : Word) → option_and_then (λ (b : Body). slice_get b.fields k) b ≡ Some w → k < width b
+    by_body None k w e = cc
+    by_body (Some b) k w e = slice_get_within b.fields k w e
+
+-- a slot with a label has a cell
+pub labelled_held : (h : Heap) (s : ℕ) (l : Label) → label_at h s ≡ Some l → IsHeld h s
+labelled_held h s l e = by_body (body_at h s) e
+  where
+    by_body : (b : Option Body) → option_map (λ (b : Body). b.label) b ≡ Some l → IsSome b
+    by_body None e = cc
+    by_body (Some b) e = refl
+
+-- a cell lies in one region
+pub one_region : (h : Heap) (s a b : ℕ) → LiesIn h a s → LiesIn h b s → a ≡ b
+one_region h s a b p q = some_is a b (sym p ∙ q)
+  where
+    some_is : (a b : ℕ) → Some (Region a) ≡ Some (Region b) → a ≡ b
+    some_is a b q = cc
+
+-- a cell lies in a region, or doesn't
+pub lies_or_not : (h : Heap) (r s : ℕ) → (LiesIn h r s → ⊥) ⊎ LiesIn h r s
+lies_or_not h r s = by_body (body_at h s)
+  where
+    by_label : (l : Label) → (Some l ≡ Some (Region r) → ⊥) ⊎ (Some l ≡ Some (Region r))
+    by_label (Region q) = elim (cases_eq q r) [ inl e ↦ inr (ap (λ k. Some (Region k)) e) | inr d ↦ inl (λ e. d (number q r e)) ]
+      where
+        number : (a b : ℕ) → Some (Region a) ≡ Some (Region b) → a ≡ b
+        number a b q = cc
+    by_label (Temp n) = inl (λ e. cc)
+    by_label Frozen = inl (λ e. cc)
+    by_body : (b : Option Body)
+        → (option_map (λ (b : Body). b.label) b ≡ Some (Region r) → ⊥) ⊎ (option_map (λ (b : Body). b.label) b ≡ Some (Region r))
+    by_body None = inl (λ e. cc)
+    by_body (Some b) = by_label b.label
+
+-- a region has one number
+pub one_number : (t : RegionTable) (key a b : ℕ) → HasNumber t key a → HasNumber t key b → a ≡ b
+one_number t key a b p q = some_is a b (sym p ∙ q)
+  where
+    some_is : (a b : ℕ) → Some a ≡ Some b → a ≡ b
+    some_is a b q = cc
+
+-- a key has one record
+pub one_record : (a b : Record) → Some a ≡ Some b → a ≡ b
+one_record a b q = cc
+
+pub number_of : (t : RegionTable) (key n : ℕ) (r : Record) → record_at t key ≡ Some r → r.number ≡ n → HasNumber t key n
+number_of t key n r a b = ap (option_map (λ (y : Record). y.number)) a ∙ ap Some b
+
+-- the members that a key has are those of its record
+pub same_members : (o : Option Record) (r : Record) (members : List ℕ) → o ≡ Some r
+    → option_map (λ (r : Record). r.members) o ≡ Some members → r.members ≡ members
+same_members o r members e f = some_is r.members members (sym (ap (option_map (λ (r : Record). r.members)) e) ∙ f)
+  where
+    some_is : (a b : List ℕ) → Some a ≡ Some b → a ≡ b
+    some_is a b q = cc
+
+-- the record that has a number
+pub record_there : (o : Option Record) (n : ℕ) → option_map (λ (r : Record). r.number) o ≡ Some n
+    → (r : Record) × (o ≡ Some r) × (r.number ≡ n)
+record_there None n e = cc
+record_there (Some r) n e = (r, refl, some_is r.number n e)
+  where
+    some_is : (a b : ℕ) → Some a ≡ Some b → a ≡ b
+    some_is a b q = cc
+
+-- what a region's cells lead to is held
+pub led_held : (c : Table) (t : RegionTable) → Grove c t → (r p k s : ℕ) → LiesIn c.heap r p
+    → field_at c.heap p k ≡ Some (Slot s) → IsHeld c.heap s
+led_held c t g r p k s l f = elim (g.fields r p k s l f) [
+  | inl a ↦ labelled_held c.heap s Frozen a
+  | inr b ↦ elim b [ inl x ↦ labelled_held c.heap s (Region r) x | inr y ↦ labelled_held c.heap s (Region y.0) y.2 ]
+]

@@ -1,0 +1,7 @@
+mod OwnedFound
+mod CellsFreed
+mod GroveKept
+mod BelowLeft
+mod OneReleased
+mod AllReleased
+mod Examples

@@ -1,0 +1,5 @@
+-- The order of instructions in a step.
+pub mod OrderLemmas
+pub mod KindLemmas
+pub mod BehindLemmas
+pub mod ReadLemmas

@@ -1,0 +1,5 @@
+use Rattle.rg_stack.proofs.Callers.RefusalLemmas.{steps-orderly}
+use Rattle.rg_stack.proofs.laws.steps_orderly.Goals as goal
+
+pub returns : goal.returns
+returns c = steps-orderly
