@@ -80,6 +80,10 @@ begun r n = record {
 abbrev pub with_slot : Stack → ℕ → Word → Stack
 with_slot v s w = record v { slots = slice_set v.slots (v.first + s) w }
 
+-- the slots of the top frame from one on are nil
+abbrev pub ended : Stack → ℕ → Stack
+ended v s = record v { slots = take (v.first + s) v.slots ++ replicate (length v.slots - (v.first + s)) Nil }
+
 -- a frame of so many slots, all nil, comes on top
 abbrev pub pushed : Stack → (back slots : ℕ) → Stack
 pushed v back n = record v {
@@ -88,6 +92,16 @@ pushed v back n = record v {
   frames = v.frames ++ record { back = back; below = v.first } ∷ [];
   frame_room = v.frame_room - 1;
   slot_room = v.slot_room - n;
+}
+
+-- a frame of these words comes on top
+abbrev pub pushed_of : Stack → (back : ℕ) → List Word → Stack
+pushed_of v back words = record v {
+  slots = v.slots ++ words;
+  first = length v.slots;
+  frames = v.frames ++ record { back = back; below = v.first } ∷ [];
+  frame_room = v.frame_room - 1;
+  slot_room = v.slot_room - length words;
 }
 
 -- the top frame goes, with its slots
@@ -115,6 +129,10 @@ closed v = record v { windows = take (length v.windows - 1) v.windows; marks = t
 -- a temporary comes to the top window
 abbrev pub with_temp : Stack → ℕ → Stack
 with_temp v slot = record v { temps = v.temps ++ slot ∷ [] }
+
+-- the top window has no temporaries
+abbrev pub without_temps : Stack → Stack
+without_temps v = record v { temps = take (mark v) v.temps }
 
 -- whether a window has a region
 abbrev pub has_region : ℕ → Window → Bool

@@ -1,7 +1,7 @@
 //! Frames, windows and temporaries (docs/architecture.md, "Frames").
 
 ghost use Rattle.std.specs.Prelude.{◌≡◌, ◌≤◌, ◌+◌, ◌-◌, ◌<◌, ◌^◌, ◌++◌, ◌↔◌, None, Some, Ok, Err};
-ghost use Rattle.std.specs.Prelude.{IfSome, IsNone, OnOk, OnErr, length, drop, replicate};
+ghost use Rattle.std.specs.Prelude.{IfSome, IsNone, OnOk, OnErr, length, drop, take, replicate};
 ghost use Rattle.std.specs.Prelude.{slice_get, vec_len, vec_capacity};
 ghost use Rattle.std.specs.List.{list_any};
 ghost use Rattle.rg_base.specs.declared.limits.TheConstants.{FRAMES as MOST};
@@ -10,8 +10,8 @@ ghost use Rattle.rg_frames.specs.declared.rows.Window.{Window as WindowOf};
 ghost use Rattle.rg_frames.specs.declared.rows.Frame.{Frame as FrameOf};
 ghost use Rattle.rg_frames.specs.declared.rows.FrameRefusal.TheVariants.{Depth};
 ghost use Rattle.rg_frames.specs.Stack.{Begun, InTop, IsTopFrame, IsTop, BaseUpTo, mark};
-ghost use Rattle.rg_frames.specs.Stack.{IsEmpty, HasRoom, roomed, begun, with_slot, with_temp};
-ghost use Rattle.rg_frames.specs.Stack.{pushed, popped, opened, closed, has_region};
+ghost use Rattle.rg_frames.specs.Stack.{IsEmpty, HasRoom, roomed, begun, with_slot, with_temp, without_temps};
+ghost use Rattle.rg_frames.specs.Stack.{pushed, pushed_of, popped, opened, closed, has_region, ended};
 
 use crate::rows::{Frame, FrameRefusal, Window};
 use rg_base::{FRAMES, Memory, Place, Word};
@@ -103,7 +103,6 @@ impl Frames {
 
     /// Makes room for one more frame of so many slots.
     pub fn room(&mut self, slots: u32) -> Result<(), FrameRefusal>
-        requires { Begun self.old }
         ensures depth { result ≡ Err Depth ↔ (MOST ≤ length self.old.frames) }
         ensures same { self.new ≡ roomed self.old self.new.frame_room self.new.slot_room }
         ensures ok { OnOk result (HasRoom self.new slots) }
@@ -111,24 +110,47 @@ impl Frames {
         if self.frames.len() >= FRAMES {
             return Err(FrameRefusal::Depth);
         }
-        let Ok(()) = self.frames.reserve(1) else {
-            return Err(FrameRefusal::Memory);
-        };
-        let Ok(()) = self.slots.reserve(slots as usize) else {
+        let Ok(()) = self.reserve(slots as usize) else {
             return Err(FrameRefusal::Memory);
         };
         Ok(())
     }
 
+    /// Makes room for one more frame of so many slots, however many frames there are.
+    pub fn reserve(&mut self, slots: usize) -> Result<(), Memory>
+        ensures same { self.new ≡ roomed self.old self.new.frame_room self.new.slot_room }
+        ensures ok { OnOk result (HasRoom self.new slots) }
+    {
+        let Ok(()) = self.frames.reserve(1) else {
+            return Err(Memory);
+        };
+        let Ok(()) = self.slots.reserve(slots) else {
+            return Err(Memory);
+        };
+        Ok(())
+    }
+
+    /// A frame of these words and so many slots more, all nil, for which there is room.
+    pub fn push_frame_of(&mut self, back: usize, words: &[Word], more: usize)
+        requires { HasRoom self.old (length words.now + more) }
+        ensures { self.new ≡ pushed_of self.old back (words.now ++ replicate more Nil) }
+    {
+        let below = self.first;
+        let first = self.slots.len();
+        copy(&mut self.slots, words);
+        fill(&mut self.slots, more);
+        self.first = first;
+        self.frames.push_reserved(Frame { back, below });
+    }
+
     /// A frame of so many slots, all nil, for which there is room.
     pub fn push_frame(&mut self, back: usize, slots: u32)
-        requires begun { Begun self.old }
-        requires room { HasRoom self.old slots }
+        requires { HasRoom self.old slots }
         ensures { self.new ≡ pushed self.old back slots }
     {
         let below = self.first;
         let first = self.slots.len();
-        fill(&mut self.slots, slots);
+        fill(&mut self.slots, slots as usize);
         self.first = first;
         self.frames.push_reserved(Frame { back, below });
     }
@@ -175,6 +197,31 @@ impl Frames {
         self.slots[self.first + s as usize] = w;
     }
 
+    /// The number of slots of the top frame.
+    pub fn size(&self) -> usize
+        ensures { result ≡ length self.now.slots - self.now.first }
+    {
+        self.slots.len().saturating_sub(self.first)
+    }
+
+    /// The place of the top frame's first slot among all slots.
+    pub fn first(&self) -> usize
+        ensures { result ≡ self.now.first }
+    {
+        self.first
+    }
+
+    /// Makes nil the slots of the top frame from one on.
+    pub fn end_from(&mut self, s: u32)
+        requires { self.old.first + s ≤ length self.old.slots }
+        ensures { self.new ≡ ended self.old s }
+    {
+        let from = self.first + s as usize;
+        let more = self.slots.len() - from;
+        self.slots.truncate(from);
+        fill(&mut self.slots, more);
+    }
+
     /// All slots from the top window's base.
     pub fn slots(&self) -> &[Word]
         requires { Begun self.now }
@@ -185,7 +232,6 @@ impl Frames {
 
     /// Opens a window, with the next number.
     pub fn push_window(&mut self, region: usize, owner: Place, base: usize) -> Result<u64, Memory>
-        requires begun { Begun self.old }
         requires above { BaseUpTo self.old base }
         requires within { base ≤ length self.old.slots }
         ensures number { OnOk result (result ≡ Ok self.old.next) }
@@ -216,7 +262,6 @@ impl Frames {
 
     /// Closes the top window, which has no temporaries.
     pub fn pop_window(&mut self) -> Window
-        requires begun { Begun self.old }
         requires two { 2 ≤ length self.old.windows }
         requires none { length self.old.temps ≡ mark self.old }
         ensures top { IsTop self.old result }
@@ -230,10 +275,25 @@ impl Frames {
 
     /// The top window.
     pub fn top(&self) -> Window
-        requires { Begun self.now }
+        requires { 0 < length self.now.windows }
         ensures { IsTop self.now result }
     {
         self.windows[self.windows.len() - 1]
+    }
+
+    /// The top window; None where none is open.
+    pub fn top_window(&self) -> Option<Window>
+        ensures some { IfSome result (IsTop self.now) }
+        ensures none { IsNone result ↔ (length self.now.windows ≡ 0) }
+    {
+        self.windows.last().copied()
+    }
+
+    /// How many windows are open.
+    pub fn open_count(&self) -> usize
+        ensures { result ≡ length self.now.windows }
+    {
+        self.windows.len()
     }
 
     /// Whether a window has a region.
@@ -268,6 +328,15 @@ impl Frames {
         self.temps.pop()
     }
 
+    /// Takes all temporaries of the top window.
+    pub fn clear_temps(&mut self)
+        requires { 0 < length self.old.windows }
+        ensures gone { self.new ≡ without_temps self.old }
+        ensures none { length self.new.temps ≡ mark self.new }
+    {
+        self.temps.truncate(self.marks[self.marks.len() - 1]);
+    }
+
     /// The top window's temporaries.
     pub fn temps(&self) -> &[usize]
         requires { Begun self.now }
@@ -288,8 +357,19 @@ fn has(windows: &[Window], region: usize) -> bool
     false
 }
 
+// Words more, within the room.
+fn copy(all: &mut Vec<Word>, words: &[Word])
+    requires { vec_len all.old + length words.now ≤ vec_capacity all.old }
+    ensures items { all.new.items ≡ all.old.items ++ words.now }
+    ensures capacity { vec_capacity all.new ≡ vec_capacity all.old }
+{
+    for word in words {
+        all.push_reserved(*word);
+    }
+}
+
 // So many slots more, all nil, within the room.
-fn fill(all: &mut Vec<Word>, more: u32)
+fn fill(all: &mut Vec<Word>, more: usize)
     requires { vec_len all.old + more ≤ vec_capacity all.old }
     ensures items { all.new.items ≡ all.old.items ++ replicate more Nil }
     ensures capacity { vec_capacity all.new ≡ vec_capacity all.old }

@@ -1,0 +1,8 @@
+mod FrameLemmas
+mod WindowLemmas
+mod StackLemmas
+mod ObjectLemmas
+mod CallLemmas
+mod TurnLemmas
+mod AskLemmas
+mod StepLemmas

@@ -1,0 +1,4 @@
+-- What callers see of the stepper (docs/architecture.md, "The stepper").
+pub mod Shown
+pub mod Inner
+pub mod Steps

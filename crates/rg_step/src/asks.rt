@@ -1,0 +1,76 @@
+//! A walk along the code with what it asks of the input (docs/architecture.md, "The stepper").
+
+ghost use Rattle.std.specs.Prelude.{◌≡◌, ◌≤◌};
+ghost use Rattle.rg_io.specs.Content.{Rose};
+ghost use Rattle.rg_input.specs.Numbers.{Follows, OnInput};
+ghost use Rattle.rg_step.specs.Inner.Walks.{ComesTo};
+
+use crate::parts::Parts;
+use crate::walk::{End, walk};
+use rg_base::{Trap, Word};
+use rg_code::CodeList;
+use rg_input::{InputFault, NumberRefusal, Numbers};
+use rg_io::Source;
+use std::alloc::Global;
+
+/// How a walk along the code ends, where the input has answered.
+#[derive(Clone, Copy)]
+pub(crate) enum Come {
+    /// the step comes to an address
+    Stop(usize),
+    /// a frame has ended, and its call stands in front of this address
+    Return(usize),
+    /// the step traps
+    Trap(Trap),
+    /// the source of input numbers failed
+    InputFault,
+    /// no memory was found
+    Memory,
+    /// no code leads on
+    Lost,
+}
+
+/// Walks along the code from an address on, up to the step's end.
+pub(crate) fn walk_asking<S: Source>(
+    alloc: Global,
+    p: &mut Parts,
+    code: &CodeList,
+    from: usize,
+    input: &mut Numbers,
+    source: &mut S,
+) -> Come
+    requires { Follows input.old (S.left source.old) }
+    ensures comes { OnInput input.old input.new (S.left source.old) (S.left source.new)
+        (ComesTo code.now from p.old p.new result) }
+    ensures follows { Follows input.new (S.left source.new) }
+    ensures fault { result ≡ Come.InputFault → Rose (S.faults source.old) (S.faults source.new) }
+    ensures never_falls { S.faults source.old ≤ S.faults source.new }
+{
+    let mut at = from;
+    while at <= code.len() {
+        match walk(alloc, p, code, at) {
+            End::Read(place) => match input.next(source) {
+                Ok(z) => {
+                    p.set_top(Word::Int(z));
+                    at = place + 1;
+                }
+                Err(NumberRefusal::End) => return Come::Trap(Trap::End),
+                Err(NumberRefusal::Input) => return Come::Trap(Trap::Input),
+                Err(NumberRefusal::InputFault) => return Come::InputFault,
+            },
+            End::More(place) => match input.more(source) {
+                Ok(b) => {
+                    p.set_top(Word::Bool(b));
+                    at = place + 1;
+                }
+                Err(InputFault) => return Come::InputFault,
+            },
+            End::Stop(to) => return Come::Stop(to),
+            End::Return(back) => return Come::Return(back),
+            End::Trap(kind) => return Come::Trap(kind),
+            End::Memory => return Come::Memory,
+            End::Lost => return Come::Lost,
+        }
+    }
+    Come::Lost
+}

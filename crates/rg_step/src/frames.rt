@@ -1,0 +1,154 @@
+//! Calls, returns and windows (docs/architecture.md, "The stepper").
+
+ghost use Rattle.std.specs.Prelude.{◌≡◌, ◌∷◌, ◌<◌, ◌-◌, ◌^◌, [], ℕ, length, nat_lt, if◌then◌else◌, slice_get, unwrap_or};
+ghost use Rattle.rg_base.specs.declared.limits.TheConstants.{FRAMES};
+ghost use Rattle.rg_base.specs.declared.outcome.Trap.TheVariants.{Depth};
+ghost use Rattle.rg_base.specs.declared.object.Place.TheVariants as place;
+ghost use Rattle.rg_base.specs.declared.value.Val.TheVariants.{Nil};
+ghost use Rattle.rg_rules.specs.Regions.{region_of};
+ghost use Rattle.rg_stack.specs.Machine.{end_slots, slot_at, value_of_word};
+ghost use Rattle.rg_stack.specs.Effects.{Traps, address, entered, frame_number, on_object, on_top};
+ghost use Rattle.rg_stack.specs.Effects.{called, opens_at, returned, without_top};
+ghost use Rattle.rg_step.specs.Inner.Core.{ActIs};
+
+use crate::next::Next;
+use crate::parts::Parts;
+use rg_base::{Label, Place, Trap, Word};
+use rg_code::CodeList;
+use rg_frames::FrameRefusal;
+
+/// `room`
+pub(crate) fn room(p: &mut Parts) -> Next
+    ensures { (at : ℕ) → ActIs (λ go stack x.
+        if nat_lt (length x.machine.frames) FRAMES then go 0 stack x else Traps Depth)
+        at p.old p.new result }
+{
+    match p.room() {
+        Ok(()) => Next::On,
+        Err(FrameRefusal::Depth) => Next::Trap(Trap::Depth),
+        Err(FrameRefusal::Memory) => Next::Memory,
+    }
+}
+
+/// `ret`
+pub(crate) fn ret(p: &mut Parts) -> Next
+    ensures { (at : ℕ) → ActIs (λ go stack x. on_top stack (λ v rest.
+        returned x x.machine.frames (v ∷ []))) at p.old p.new result }
+{
+    let Some(_) = p.top() else {
+        return Next::Lost;
+    };
+    match p.pop_frame() {
+        Some(back) => {
+            p.keep_top();
+            Next::Return(back)
+        }
+        None => Next::Lost,
+    }
+}
+
+/// `retv`
+pub(crate) fn ret_void(p: &mut Parts) -> Next
+    ensures { (at : ℕ) → ActIs (λ go stack x. returned x x.machine.frames [])
+        at p.old p.new result }
+{
+    match p.pop_frame() {
+        Some(back) => {
+            p.empty();
+            Next::Return(back)
+        }
+        None => Next::Lost,
+    }
+}
+
+/// `enter s z`
+pub(crate) fn enter(p: &mut Parts, s: u32, z: u32) -> Next
+    ensures { (at : ℕ) → ActIs (λ go stack x. opens_at x.machine z
+        (on_object x.machine.store (slot_at x.machine s) (λ o. go 0 stack
+        (entered x (place.Var (frame_number x.machine.frames) s) (slot_at x.machine s) z
+        (region_of o.label))))) at p.old p.new result }
+{
+    if !p.can_open(z) {
+        return Next::Lost;
+    }
+    let bridge = p.slot(s);
+    match p.label(bridge) {
+        Ok(Label::Region(region)) => {
+            let frame = p.depth();
+            match p.open(region, Place::Var { frame, slot: s }, z, bridge) {
+                Ok(()) => Next::On,
+                Err(_) => Next::Memory,
+            }
+        }
+        Ok(Label::Temp(_) | Label::Frozen) => Next::On,
+        Err(kind) => Next::Trap(kind),
+    }
+}
+
+/// `leave s`
+pub(crate) fn leave(p: &mut Parts, s: u32) -> Next
+    ensures { (at : ℕ) → ActIs (λ go stack x. go 0 stack (record x {
+      machine = record (end_slots x.machine s) {
+        windows = without_top x.machine.windows;
+      };
+    })) at p.old p.new result }
+{
+    p.leave(s);
+    Next::On
+}
+
+/// `enterf k z`
+pub(crate) fn enter_field(p: &mut Parts, index: u32, z: u32) -> Next
+    ensures { (at : ℕ) → ActIs (λ go stack x. opens_at x.machine z (on_top stack (λ r rest.
+        on_object x.machine.store r (λ o.
+        on_object x.machine.store (unwrap_or (slice_get o.fields index) Nil) (λ b. go 0 rest
+        (entered x (place.Field (address r) index) (unwrap_or (slice_get o.fields index) Nil) z
+        (region_of b.label))))))) at p.old p.new result }
+{
+    if !p.can_open(z) {
+        return Next::Lost;
+    }
+    let Some(r) = p.pop() else {
+        return Next::Lost;
+    };
+    match p.field(r, index) {
+        Ok(bridge) => match p.label(bridge) {
+            Ok(Label::Region(region)) => {
+                let serial = serial_of(r);
+                match p.open(region, Place::Field { serial, index }, z, bridge) {
+                    Ok(()) => Next::On,
+                    Err(_) => Next::Memory,
+                }
+            }
+            Ok(Label::Temp(_) | Label::Frozen) => Next::On,
+            Err(kind) => Next::Trap(kind),
+        },
+        Err(kind) => Next::Trap(kind),
+    }
+}
+
+/// The address of what a word leads to.
+fn serial_of(w: Word) -> u64
+    ensures { result ≡ address (value_of_word w) }
+{
+    match w {
+        Word::Slot(slot) => slot as u64,
+        Word::Nil | Word::Int(_) | Word::Bool(_) => 0,
+    }
+}
+
+/// `call m`
+pub(crate) fn call(p: &mut Parts, code: &CodeList, at: usize, method: u32) -> Next
+    requires { at < 2 ^ 64 - 1 }
+    ensures { ActIs (λ go stack x. called at (slice_get code.now.entries method) stack x)
+        at p.old p.new result }
+{
+    if (method as usize) >= code.method_count() {
+        return Next::Lost;
+    }
+    let entry = code.entry(method);
+    match p.call(entry.given, entry.slots, at + 1) {
+        Ok(()) => Next::Stop(entry.at),
+        Err(_) => Next::Memory,
+    }
+}

@@ -1,0 +1,21 @@
+//! The stack machine as a program (docs/architecture.md, "The stepper").
+#![tactic(auto)]
+
+mod act;
+mod asks;
+mod frames;
+mod jumps;
+mod making;
+mod next;
+mod objects;
+mod parts;
+mod slots;
+mod step;
+mod stepper;
+mod values;
+mod variables;
+mod walk;
+mod windows;
+mod words;
+
+pub use stepper::Stepper;

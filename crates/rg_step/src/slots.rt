@@ -1,0 +1,125 @@
+//! Slots of the topmost frame, and frames that come and go (docs/architecture.md, "The stepper").
+
+ghost use Rattle.std.specs.Prelude.{◌≡◌, ◌≤◌, ◌+◌, ◌++◌, ◌∷◌, map, length, replicate, unwrap_or, OnOk, OnErr};
+ghost use Rattle.std.specs.Prelude.{slice_get, slice_set, IfSome, None, List};
+ghost use Rattle.rg_base.specs.declared.value.Val.TheVariants as val;
+ghost use Rattle.rg_base.specs.declared.value.Word.TheVariants as word;
+ghost use Rattle.rg_frames.specs.Stack.{HasRoom, roomed};
+ghost use Rattle.rg_stack.specs.Machine.{Frame, top_slots, value_of_word, with_slots, ended_slots};
+ghost use Rattle.rg_step.specs.Shown.{frames_of, windows_of};
+ghost use Rattle.rg_step.specs.Inner.Layout.{Lain, PopIs, SameWindows, values_of};
+ghost use Rattle.rg_step.specs.Inner.Core.{called_frame};
+
+use rg_base::{Memory, Word};
+use rg_frames::Frames;
+
+/// The word in a slot, or nil past the last one.
+#[inline]
+pub(crate) fn read_slot(frames: &Frames, s: u32) -> Word
+    requires { Lain frames.now }
+    ensures { value_of_word result
+        ≡ unwrap_or (slice_get (top_slots (frames_of frames.now)) s) val.Nil }
+{
+    if (s as usize) < frames.size() {
+        frames.slot(s)
+    } else {
+        Word::Nil
+    }
+}
+
+/// Writes a slot, where there is one.
+#[inline]
+pub(crate) fn write_slot(frames: &mut Frames, s: u32, w: Word)
+    requires { Lain frames.old }
+    ensures lain { Lain frames.new }
+    ensures frames { frames_of frames.new
+        ≡ with_slots (slice_set (top_slots (frames_of frames.old)) s (value_of_word w))
+        (frames_of frames.old) }
+    ensures windows { SameWindows frames.old frames.new }
+{
+    if (s as usize) < frames.size() {
+        frames.set_slot(s, w);
+    }
+}
+
+/// Makes nil the slots from one on.
+pub(crate) fn end_slots(frames: &mut Frames, s: u32)
+    requires { Lain frames.old }
+    ensures lain { Lain frames.new }
+    ensures frames { frames_of frames.new
+        ≡ with_slots (ended_slots s (top_slots (frames_of frames.old))) (frames_of frames.old) }
+    ensures windows { SameWindows frames.old frames.new }
+{
+    if (s as usize) < frames.size() {
+        frames.end_from(s);
+    }
+}
+
+/// A frame of these words and so many slots more, all nil.
+pub(crate) fn push_frame(
+    frames: &mut Frames,
+    back: usize,
+    words: &[Word],
+    more: usize,
+) -> Result<(), Memory>
+    requires { Lain frames.old }
+    ensures lain { Lain frames.new }
+    ensures ok { OnOk result (frames_of frames.new ≡ record {
+      slots = map value_of_word (words.now ++ replicate more word.Nil);
+      back = back;
+    }
+        ∷ frames_of frames.old) }
+    ensures err { OnErr result (frames_of frames.new ≡ frames_of frames.old) }
+    ensures windows { SameWindows frames.old frames.new }
+{
+    let Some(slots) = words.len().checked_add(more) else {
+        return Err(Memory);
+    };
+    frames.reserve(slots)?;
+    frames.push_frame_of(back, words, more);
+    Ok(())
+}
+
+/// The frame of a call, whose first slots are the last words of a stack.
+pub(crate) fn call_frame(
+    frames: &mut Frames,
+    stack: &[Word],
+    given: u32,
+    slots: u32,
+    back: usize,
+) -> Result<(), Memory>
+    requires { Lain frames.old }
+    ensures lain { Lain frames.new }
+    ensures ok { OnOk result (frames_of frames.new
+        ≡ called_frame given slots back (values_of stack.now) ∷ frames_of frames.old) }
+    ensures err { OnErr result (frames_of frames.new ≡ frames_of frames.old) }
+    ensures windows { SameWindows frames.old frames.new }
+{
+    let more = slots.saturating_sub(given) as usize;
+    let from = stack.len().saturating_sub(given as usize);
+    push_frame(frames, back, &stack[from..], more)?;
+    Ok(())
+}
+
+/// The topmost frame goes, where it isn't the last one and no window over its slots is open; answers
+/// the address behind its call.
+pub(crate) fn pop_frame(frames: &mut Frames) -> Option<usize>
+    requires { Lain frames.old }
+    ensures lain { Lain frames.new }
+    ensures gone { PopIs frames.old frames.new result }
+    ensures windows { SameWindows frames.old frames.new }
+{
+    if frames.count() < 2 {
+        return None;
+    }
+    let first = frames.first();
+    match frames.top_window() {
+        Some(window) => {
+            if window.base > first {
+                return None;
+            }
+            Some(frames.pop_frame())
+        }
+        None => None,
+    }
+}

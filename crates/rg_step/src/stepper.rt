@@ -1,0 +1,72 @@
+//! The stepper (docs/architecture.md, "The stepper").
+
+ghost use Rattle.std.specs.Prelude.{◌≡◌, ◌<◌, ◌≤◌, ◌-◌, ◌^◌, false};
+ghost use Rattle.rg_io.specs.Content.{Rose};
+ghost use Rattle.rg_input.specs.Numbers.{Follows, OnInput};
+ghost use Rattle.rg_step.specs.Steps.{LeadsOn, StepsTo};
+
+use crate::parts::Parts;
+use crate::step::{Did, step};
+use rg_base::Outcome;
+use rg_code::CodeList;
+use rg_input::Numbers;
+use rg_io::Source;
+use std::alloc::Global;
+use std::marker::Model;
+
+/// The machine that runs the code of a program, step by step.
+#[derive(Drop)]
+pub struct Stepper {
+    parts: Parts,
+    steps: u64,
+    done: bool,
+}
+
+impl Model for Stepper {
+    ghost use Rattle.rg_step.specs.Steps.{Stepping};
+
+    ghost Value = { Stepping };
+
+    ghost view = { λ s. record { machine = s.parts.machine; steps = s.steps; done = s.done } };
+}
+
+impl Stepper {
+    /// Makes one step.
+    pub fn step<S: Source>(
+        &mut self,
+        alloc: Global,
+        code: &CodeList,
+        input: &mut Numbers,
+        source: &mut S,
+    ) -> Outcome
+        requires running { self.old.done ≡ false }
+        requires steps { self.old.steps < 2 ^ 64 - 1 }
+        requires leads { LeadsOn code.now self.old.machine }
+        requires follows { Follows input.old (S.left source.old) }
+        ensures step { OnInput input.old input.new (S.left source.old) (S.left source.new)
+            (StepsTo code.now self.old self.new result) }
+        ensures follows { Follows input.new (S.left source.new) }
+        ensures fault { result ≡ Outcome.InputFault →
+            Rose (S.faults source.old) (S.faults source.new) }
+        ensures never_falls { S.faults source.old ≤ S.faults source.new }
+    {
+        match step(alloc, &mut self.parts, code, input, source) {
+            Did::Goes => {
+                self.steps += 1;
+                match self.parts.printed() {
+                    Some(v) => Outcome::Printed(v),
+                    None => Outcome::Running,
+                }
+            }
+            Did::Ends => {
+                self.steps += 1;
+                self.done = true;
+                Outcome::Done
+            }
+            Did::Trapped { kind, line } => Outcome::Trap { kind, line },
+            Did::InputFault => Outcome::InputFault,
+            Did::Memory => Outcome::Memory,
+            Did::Lost => unreachable!(),
+        }
+    }
+}
