@@ -4,3 +4,4 @@ pub mod StepLemmas
 pub mod OpeningLemmas
 pub mod RunLemmas
 pub mod RefusalLemmas
+pub mod ReadLemmas

@@ -1,3 +1,4 @@
+mod Basics
 mod Mirrors
 mod Walks
 mod Statements

@@ -2,3 +2,4 @@
 pub mod OrderLemmas
 pub mod KindLemmas
 pub mod BehindLemmas
+pub mod ReadLemmas

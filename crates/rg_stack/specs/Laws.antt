@@ -1,8 +1,9 @@
 -- The laws: the opening machine shows the opening state, and each step of the code of an accepted program does what the step of the
 -- machine that never frees does (docs/architecture.md, "The stack machine").
-use Rattle.std.specs.Prelude.{◌≡◌, ℕ, List, None}
+use Rattle.std.specs.Prelude.{◌≡◌, ℕ, ◌+◌, List, drop, None}
 use Rattle.rg_tree.specs.Tree.{Tree}
 use Rattle.rg_rules.specs.Acceptance.{Accepted}
+use Rattle.rg_rules.specs.Inputs.{first_asks}
 use Rattle.rg_rules.specs.State.{State}
 use Rattle.rg_rules.specs.Steps.{next}
 use Rattle.rg_rules.specs.Runs as plain
@@ -13,6 +14,7 @@ use Rattle.rg_stack.specs.Machine.{Machine}
 use Rattle.rg_stack.specs.Effects.{Work}
 use Rattle.rg_stack.specs.Runs.{step, opening, coded}
 use Rattle.rg_stack.specs.Shows.{Shows}
+use Rattle.rg_stack.specs.Reads.{reads}
 use Rattle.rg_stack.specs.Refusals.{Orderly}
 use Rattle.rg_stack.specs.Simulates.{Holds, SomeLeft, SameStep, SameRun}
 
@@ -35,3 +37,8 @@ RunShows = (t : Tree) (code : Code) (input : List ℕ) (n : ℕ) → Accepted t 
 abbrev pub StepsOrderly : Type 0
 StepsOrderly = (t : Tree) (code : Code) (m : Machine) (p : State) → Accepted t → Lowers t code → Fit t p → Shows t.classes code m p →
     SomeLeft p.items → Orderly code.ops m
+
+-- where a step begins, its code asks for the input exactly where the first thing to do does
+abbrev pub StepsAsk : Type 0
+StepsAsk = (t : Tree) (code : Code) (m : Machine) (p : State) → Fit t p → Shows t.classes code m p → SomeLeft p.items →
+    reads (drop (m.at + 1) code.ops) ≡ first_asks p.items

@@ -1,7 +1,7 @@
 //! The laws of the stack machine, each as the contract of a function that does nothing
 //! (docs/architecture.md, "The stack machine").
 
-ghost use Rattle.rg_stack.specs.Laws.{OpeningShows, StepShows, RunShows, StepsOrderly};
+ghost use Rattle.rg_stack.specs.Laws.{OpeningShows, StepShows, RunShows, StepsOrderly, StepsAsk};
 
 /// The opening machine of an accepted program shows its opening state.
 pub fn opening_shows()
@@ -23,4 +23,9 @@ pub fn run_shows()
 /// Where a step begins, all in it that can be refused stands in front of what changes the machine.
 pub fn steps_orderly()
     ensures { StepsOrderly }
+{}
+
+/// Where a step begins, its code asks for the input exactly where the first thing to do does.
+pub fn steps_ask()
+    ensures { StepsAsk }
 {}

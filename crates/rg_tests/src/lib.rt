@@ -29,5 +29,3 @@ mod report;
 mod streams;
 #[cfg(test)]
 mod tokens;
-#[cfg(test)]
-mod top;

@@ -1,5 +1,5 @@
 -- Where a step begins nothing in it is refused behind a change. For callers.
-use Rattle.std.proofs.Common.{◌≡◌, ℕ, ◌+◌, true, inl, inr, List, [], ◌∷◌, length, drop, subst}
+use Rattle.std.proofs.Common.{◌≡◌, false, ℕ, ◌+◌, true, inl, inr, List, [], ◌∷◌, length, drop, subst}
 use Rattle.rg_tree.specs.Tree.{stmt, Tree}
 use Rattle.rg_rules.specs.Acceptance.{Accepted}
 use Rattle.rg_rules.specs.Items.{Item, Do, EndAt, LeaveAt, Back}
@@ -23,7 +23,7 @@ module _ (t : Tree) (accepted : Accepted t) (code : List Op) (at : ℕ) where
 
   -- the first item's code
   item_orderly : (mf : Frame) (mfs : List Frame) (f : Body) (fs : List Body) (i : Item) (rest : List Item) → ((i ≡ EndAt 0 → ⊥) → SomeLeft rest)
-      → Lies t.classes code (levels_of (mf ∷ mfs) (f ∷ fs)) (i ∷ rest) at → orderly code (at + 1) (drop (at + 1) code) ≡ true
+      → Lies t.classes code (levels_of (mf ∷ mfs) (f ∷ fs)) (i ∷ rest) at → orderly code (at + 1) false (drop (at + 1) code) ≡ true
   item_orderly mf mfs f fs (Do (stmt line k)) [] left lies = absurd (left (do-other (stmt line k)))
   item_orderly mf mfs f fs (Do (stmt line k)) (j ∷ rest) left lies = statement-orderly t.classes code (level mf f) (levels_of mfs fs) line k j rest
       at lies
@@ -43,7 +43,7 @@ module _ (t : Tree) (accepted : Accepted t) (code : List Op) (at : ℕ) where
 
   pub all-orderly : (mfs : List Frame) (fs : List Body) (ws : List Opened) (items : List Item) → SomeLeft items → FramesFit t fs ws items
       → ShowsFrames mfs fs → Lies t.classes code (levels_of mfs fs) items at
-      → (orderly code (at + 1) (drop (at + 1) code) ≡ true) × CalmBehind code mfs
+      → (orderly code (at + 1) false (drop (at + 1) code) ≡ true) × CalmBehind code mfs
   all-orderly mfs fs ws [] left frames shows lies = absurd left
   all-orderly mfs [] ws (i ∷ rest) left frames shows lies = absurd frames
   all-orderly [] (f ∷ fs) ws (i ∷ rest) left frames shows lies = absurd shows

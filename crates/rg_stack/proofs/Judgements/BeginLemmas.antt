@@ -34,7 +34,7 @@ use Rattle.rg_stack.proofs.Statements.ReturnLemmas.{TargetHas, above}
 use Rattle.rg_stack.proofs.Judgements.BaseLemmas.{beneath-begins}
 use Rattle.rg_stack.proofs.Judgements.FitLemmas.{running-beneath}
 use Rattle.rg_stack.proofs.Judgements.SpotLemmas.{leaves_frame, outer-enters}
-use Rattle.rg_stack.proofs.Judgements.StatementLemmas.{Live, fits_of, law_statement, law_return, target-has}
+use Rattle.rg_stack.proofs.Judgements.StatementLemmas.{Live, fits_of, statement-judged, return-judged, target-has}
 
 end_free : (result : Option Written) → BeginsFree (method_end result)
 end_free None = tt
@@ -119,7 +119,7 @@ pub fit-statement : (t : Tree) (accepted : Accepted t) (r : Round) (store : List
     (step (lowered t) (work r store slots managers input))
 fit-statement t accepted r store slots locals managers input line k j rest goes h meets objects live shows =
     let judged = here-judged t accepted (record { locals = locals; target = r.target }) r.bodies r.opened line k (j ∷ rest) h in
-    law_statement t accepted r store slots locals managers input line j rest h.spot.env judged.last k judged.out goes
+    statement-judged t accepted r store slots locals managers input line j rest h.spot.env judged.last k judged.out goes
     (fits_of t accepted r store slots locals managers input line j rest h.spot.env shows.slots shows.windows (Do (stmt line k) ∷ j ∷ rest) h refl
     meets objects live)
     shows judged.right
@@ -148,7 +148,7 @@ fit-return t accepted r slots under locals callers back target store managers in
     let sizes : suc (length r.bodies) ≡ length (sizes_of (f ∷ r.frames)) =
     ap suc (sym (as_many r.frames r.bodies shows.slots.1.1))
     ∙ sym (length-reverse (map (λ (f : Shown). length f.slots) (f ∷ r.frames)) ∙ length-map (f ∷ r.frames) (λ (f : Shown). length f.slots)) in
-    law_return t r slots under locals callers back target store managers input line e j rest h.spot.env judged.last judged.out h.stands.named meets
+    return-judged t r slots under locals callers back target store managers input line e j rest h.spot.env judged.last judged.out h.stands.named meets
     objects shows judged.right
     (subst (λ n. OpenedBelow n r.opened) sizes below)
     (beneath-begins t accepted (record { slots = slots; back = back }) f r.frames r.windows top caller r.bodies r.opened

@@ -1,6 +1,6 @@
 -- What the invariant gives: declared types, classes of objects, truth values, regions of owner references, and the frames in which windows opened.
 use Rattle.std.proofs.Common.{◌≡◌, ℕ, suc, ◌≤◌, true, false, true≢false, ◌⊎◌, inl, inr, Bool as Truth, if◌then◌else◌, List, [], ◌∷◌, ◌++◌, length}
-use Rattle.std.proofs.Common.{find, Option, Some, None, option_map, Result, Ok, Err, refl, sym, ap, subst, ◌∙◌, arith, slice_get, unwrap_or}
+use Rattle.std.proofs.Common.{find, Option, Some, None, option_map, Ok, refl, sym, ap, subst, ◌∙◌, arith, slice_get, unwrap_or}
 use Rattle.std.specs.Prelude.{bytes_eq, reverse}
 use Rattle.std.proofs.lemmas.Option.{none-some}
 use Rattle.rg_base.specs.declared.words.Cap.{Cap}
@@ -33,14 +33,8 @@ use Rattle.rg_code.specs.Places.{scope_of}
 use Rattle.rg_stack.proofs.Walks.FrameLemmas.{OpenedBelow}
 use Rattle.rg_stack.proofs.Walks.SlotLemmas.{Has}
 use Rattle.rg_stack.proofs.Statements.RightLemmas.{InRegion}
-use Rattle.rg_stack.proofs.Judgements.FollowLemmas.{some-is}
+use Rattle.rg_stack.proofs.Basics.{some-is, err-ok}
 use Rattle.rg_stack.proofs.Judgements.JudgeLemmas.{OfType, Facts}
-
-ok-is : {A E : Type 0} (a b : A) → ◌≡◌ {A = Result A E} (Ok a) (Ok b) → a ≡ b
-ok-is a b e = ap (λ r. elim r [ Ok x ↦ x | Err t ↦ a ]) e
-
-err-ok : {A E : Type 0} (e : E) (a : A) → ◌≡◌ {A = Result A E} (Err e) (Ok a) → ⊥
-err-ok e a h = true≢false (sym (ap (λ r. elim r [ Ok x ↦ true | Err t ↦ false ]) h))
 
 -- a value that meets a type is of that type
 pub meets-of_type : (store : List Seen) (F : Cap → Label → Type 0) (t : Ty) (v : Val) → MeetsBy store F t v → OfType store t v

@@ -18,10 +18,8 @@ use Rattle.rg_rules.specs.Evaluation.{object_at, field_value}
 use Rattle.rg_rules.proofs.AnswersLemmas.{bind-ok}
 use Rattle.rg_rules.proofs.PathLemmas.{look_up-ok}
 use Rattle.rg_code.specs.Lowering.{field_number, type_behind}
+use Rattle.rg_stack.proofs.Basics.{some-is}
 use Rattle.rg_stack.proofs.Walks.WalkLemmas.{Follows}
-
-pub some-is : {A : Type 0} (a b : A) → Some a ≡ Some b → a ≡ b
-some-is a b e = ap (λ o. elim o [ Some x ↦ x | None ↦ a ]) e
 
 -- the class of a type of references
 abbrev pub class_is : Ty → Option ℕ

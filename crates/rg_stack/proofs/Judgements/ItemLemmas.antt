@@ -23,10 +23,10 @@ use Rattle.rg_stack.proofs.Mirrors.{Mirrors, SameMove}
 use Rattle.rg_stack.proofs.Walks.FrameLemmas.{work_of, state_of, OpenedBelow}
 use Rattle.rg_stack.proofs.Walks.PlaceLemmas.{GoesOn}
 use Rattle.rg_stack.proofs.Walks.EndLemmas.{Round}
-use Rattle.rg_stack.proofs.Statements.BlockLemmas.{sim_end}
+use Rattle.rg_stack.proofs.Statements.BlockLemmas.{end-mirrors}
 use Rattle.rg_stack.proofs.Statements.BaseLemmas.{as_many}
-use Rattle.rg_stack.proofs.Statements.WindowLemmas.{sim_leave}
-use Rattle.rg_stack.proofs.Statements.ReturnLemmas.{sim_back}
+use Rattle.rg_stack.proofs.Statements.WindowLemmas.{leave-mirrors}
+use Rattle.rg_stack.proofs.Statements.ReturnLemmas.{back-mirrors}
 use Rattle.rg_stack.proofs.Judgements.BaseLemmas.{beneath-begins}
 use Rattle.rg_stack.proofs.Judgements.FitLemmas.{running-beneath}
 use Rattle.rg_stack.proofs.Judgements.SpotLemmas.{leaves_frame}
@@ -99,7 +99,7 @@ module _ (t : Tree) (accepted : Accepted t) (store : List Seen) (managers : List
   back-moves mf (mg ∷ mfs) mws f (g ∷ fs) ws j rest h shows =
       let first : h.first ≡ Back = ap (λ l. elim l [ [] ↦ Back | i ∷ is ↦ i ]) (sym h.items_are) in
       let none = alone t accepted f (g ∷ fs) ws (Back ∷ j ∷ rest) h (ap leaves_frame (h.begins ∙ ap (λ i. i ∷ h.more) first)) in
-      sim_back t.classes (lowered t) store mf mg mfs mws managers made at input f g fs ws output j rest shows
+      back-mirrors t.classes (lowered t) store mf mg mfs mws managers made at input f g fs ws output j rest shows
       (below-frames mg mfs fs ws (suc (length fs)) (as_many mfs fs shows.slots.1.1) refl (running-beneath t f g fs ws (Back ∷ j ∷ rest) h none))
       (beneath-begins t accepted mf mg mfs mws f g fs ws (Back ∷ j ∷ rest) shows.slots shows.windows h none)
 
@@ -110,7 +110,7 @@ module _ (t : Tree) (accepted : Accepted t) (store : List Seen) (managers : List
   leave-moves mf mfs [] f fs v w ws k j rest shows = absurd shows.windows
   leave-moves mf mfs (mv ∷ []) f fs v w ws k j rest shows = absurd shows.windows.1
   leave-moves mf mfs (mv ∷ mw ∷ mws) f fs v w ws k j rest shows =
-      sim_leave t.classes (lowered t) (round mf mfs (mv ∷ mw ∷ mws) f fs (v ∷ w ∷ ws)) store mf.slots f.locals managers input mv mw mws v w ws k j
+      leave-mirrors t.classes (lowered t) (round mf mfs (mv ∷ mw ∷ mws) f fs (v ∷ w ∷ ws)) store mf.slots f.locals managers input mv mw mws v w ws k j
       rest shows
 
   -- each statement
@@ -138,7 +138,7 @@ module _ (t : Tree) (accepted : Accepted t) (store : List Seen) (managers : List
       → Showing (mf ∷ mfs) mws (f ∷ fs) ws (i ∷ rest) → Moves (mf ∷ mfs) mws (f ∷ fs) ws (i ∷ rest)
   behind-moves mf mfs mws f fs ws i [] left h a b c s = absurd left
   behind-moves mf mfs mws f fs ws (Do (stmt line k)) (j ∷ rest) left h a b c s = do-moves mf mfs mws f fs ws line k j rest h a b c s
-  behind-moves mf mfs mws f fs ws (EndAt k) (j ∷ rest) left h a b c s = sim_end t.classes (lowered t) (round mf mfs mws f fs ws) store mf.slots
+  behind-moves mf mfs mws f fs ws (EndAt k) (j ∷ rest) left h a b c s = end-mirrors t.classes (lowered t) (round mf mfs mws f fs ws) store mf.slots
       f.locals managers input 0 k (j ∷ rest) s
   behind-moves mf mfs mws f fs ws (LeaveAt k) (j ∷ rest) left h a b c s =
       let two = leaving-windows t f fs ws k (j ∷ rest) h in
@@ -153,7 +153,8 @@ module _ (t : Tree) (accepted : Accepted t) (store : List Seen) (managers : List
       → Showing (mf ∷ mfs) mws (f ∷ fs) ws (i ∷ rest) → Moves (mf ∷ mfs) mws (f ∷ fs) ws (i ∷ rest)
   item-moves mf mfs mws f fs ws (Do s) rest h a b c e = behind-moves mf mfs mws f fs ws (Do s) rest
       (running-left t f fs ws (Do s) rest h (do-other s)) h a b c e
-  item-moves mf mfs mws f fs ws (EndAt k) rest h a b c e = sim_end t.classes (lowered t) (round mf mfs mws f fs ws) store mf.slots f.locals managers
+  item-moves mf mfs mws f fs ws (EndAt k) rest h a b c e = end-mirrors t.classes (lowered t) (round mf mfs mws f fs ws) store mf.slots f.locals
+      managers
       input 0 k rest e
   item-moves mf mfs mws f fs ws (LeaveAt k) rest h a b c e = behind-moves mf mfs mws f fs ws (LeaveAt k) rest
       (running-left t f fs ws (LeaveAt k) rest h (leave-other k)) h a b c e

@@ -1,6 +1,6 @@
 -- What the judgements and the invariant give of expressions, holders of fields, right sides and bodies.
 use Rattle.std.proofs.Common.{◌≡◌, ℕ, true, false, true≢false, inl, inr, Bool as Truth, not as negated, if◌then◌else◌, List, [], ◌∷◌, Option, Some}
-use Rattle.std.proofs.Common.{None, ok_or, Result, Ok, Err, refl, sym, ap, subst, ◌∙◌, unwrap_or}
+use Rattle.std.proofs.Common.{None, ok_or, Ok, refl, sym, ap, subst, ◌∙◌, unwrap_or}
 use Rattle.rg_base.specs.declared.words.Cap.{Cap}
 use Rattle.rg_base.specs.declared.ty.Ty.{Ty}
 use Rattle.rg_base.specs.declared.ty.Ty.TheVariants.{Int, Bool, Ref}
@@ -28,11 +28,13 @@ use Rattle.rg_rules.proofs.PathLemmas.{look_up-ok}
 use Rattle.rg_rules.proofs.ExpressionLemmas.{binary-ok, operands-not_iso, judge_expr-env}
 use Rattle.rg_code.specs.Lowering.{type_in, field_number, type_behind, type_along}
 use Rattle.rg_code.specs.Places.{scope_of}
+use Rattle.rg_stack.proofs.Basics.{ok-is, err-ok}
 use Rattle.rg_stack.proofs.Walks.WalkLemmas.{FollowsPath, IsTruth, Logic, Agrees}
 use Rattle.rg_stack.proofs.Walks.PlaceLemmas.{GoesOn, AllGoOn}
 use Rattle.rg_stack.proofs.Statements.AssignLemmas.{HolderOwes}
 use Rattle.rg_stack.proofs.Statements.CallLemmas.{Gives}
-use Rattle.rg_stack.proofs.Judgements.FollowLemmas.{some-is, class_is, HasClass, place_if_type, read-class, field_of_type, follows_of}
+use Rattle.rg_stack.proofs.Basics.{some-is}
+use Rattle.rg_stack.proofs.Judgements.FollowLemmas.{class_is, HasClass, place_if_type, read-class, field_of_type, follows_of}
 
 -- whether a type is that of truth values
 abbrev pub is_bool : Ty → Truth
@@ -52,12 +54,6 @@ pub record Facts (classes : List Class) (env : Env) (store : List Seen) (locals 
   -- so has each field of an object
   pub fields : (v : Val) (o : Seen) (f : Name) (t : Ty) → object_at store v ≡ Ok o → field_type classes o.class f ≡ Some t
       → OfType store t (field_value classes o f)
-
-ok-is : {A E : Type 0} (a b : A) → ◌≡◌ {A = Result A E} (Ok a) (Ok b) → a ≡ b
-ok-is a b e = ap (λ r. elim r [ Ok x ↦ x | Err t ↦ a ]) e
-
-err-ok : {A E : Type 0} (e : E) (a : A) → ◌≡◌ {A = Result A E} (Err e) (Ok a) → ⊥
-err-ok e a h = true≢false (sym (ap (λ r. elim r [ Ok x ↦ true | Err t ↦ false ]) h))
 
 pause-class : (t : Ty) → class_is (pause t) ≡ class_is t
 pause-class Int = refl

@@ -23,13 +23,11 @@ use Rattle.rg_sound.proofs.HeldLemmas.{slot-meets}
 use Rattle.rg_sound.proofs.Stores.MemberLemmas.{In, among-in, in-among, not-among, among-not, in-left, in-right, in-split, filter-in, filter-back}
 use Rattle.rg_sound.proofs.Stores.MemberLemmas.{joined-old, joined-new, joined-back}
 use Rattle.rg_sound.proofs.Stores.BeneathLemmas.{Led, led-in, led-back}
+use Rattle.rg_stack.proofs.Basics.{some-is}
 use Rattle.rg_stack.specs.Effects.{led_by_labels, beneath_by_labels}
 
 none_some : {A : Type 0} {B : Type 0} (a : A) → None ≡ Some a → B
 none_some a e = grind arith
-
-some_same : {A : Type 0} (a b : A) → ◌≡◌ {A = Option A} (Some a) (Some b) → a ≡ b
-some_same a b e = grind arith
 
 -- two lists have the same numbers
 pub record Same (ns ms : List ℕ) : Type 0 where
@@ -92,7 +90,7 @@ address_back (val.Obj b ∷ vs) a (inr i) = let h = address_back vs a i in (suc 
 
 address_in : (vs : List Val) (k a : ℕ) → slice_get vs k ≡ Some (val.Obj a) → In a (filter_map address vs)
 address_in [] k a is = none_some (val.Obj a) is
-address_in (v ∷ vs) zero a is = subst (λ v. In a (filter_map address (v ∷ vs))) (sym (some_same v (val.Obj a) is)) (inl refl)
+address_in (v ∷ vs) zero a is = subst (λ v. In a (filter_map address (v ∷ vs))) (sym (some-is v (val.Obj a) is)) (inl refl)
 address_in (val.Nil ∷ vs) (suc k) a is = address_in vs k a is
 address_in (val.Int z ∷ vs) (suc k) a is = address_in vs k a is
 address_in (val.Bool b ∷ vs) (suc k) a is = address_in vs k a is
@@ -150,7 +148,7 @@ labels_in : (store os : List Seen) (r n k : ℕ) (o : Seen) → slice_get os k �
     → In n (filter_map (region_at store) (filter_map address o.fields)) → In n (led_by_labels store os r)
 labels_in store [] r n k o there lies i = none_some o there
 labels_in store (p ∷ os) r n zero o there lies i =
-    let same : p ≡ o = some_same p o there in
+    let same : p ≡ o = some-is p o there in
     subst (λ b. In n (if b then filter_map (region_at store) (filter_map address p.fields) ++ led_by_labels store os r
     else led_by_labels store os r)) (sym (one_of r p.label (ap (λ (q : Seen). q.label) same ∙ lies)))
     (in-left (filter_map (region_at store) (filter_map address p.fields)) (led_by_labels store os r) n
@@ -183,7 +181,7 @@ module _ (classes : List Class) (store : List Seen) (windows : List Window) (obj
       ⊎ (is_iso t ≡ true)
   by_type r n a Int m leads = absurd m
   by_type r n a Bool m leads = absurd m
-  by_type r n a (Ref Mut c) m leads = inl (some_same r n
+  by_type r n a (Ref Mut c) m leads = inl (some-is r n
       (sym (ap (option_and_then (λ (o : Seen). region_of o.label)) m.there ∙ ap region_of m.label_fits) ∙ leads))
   by_type r n a (Ref Tmp c) m leads = absurd m.label_fits
   by_type r n a (Ref Paused c) m leads = absurd m.label_fits
@@ -227,7 +225,7 @@ module _ (classes : List Class) (store : List Seen) (windows : List Window) (obj
   owned_obj true val.Nil a e = none_some a e
   owned_obj true (val.Int z) a e = none_some a e
   owned_obj true (val.Bool b) a e = none_some a e
-  owned_obj true (val.Obj b) a e = ap val.Obj (some_same b a e)
+  owned_obj true (val.Obj b) a e = ap val.Obj (some-is b a e)
 
   owner_value : (f : Field) (v : Option Val) (a : ℕ) → option_and_then (owned_as classes f) v ≡ Some a → v ≡ Some (val.Obj a)
   owner_value f None a e = none_some a e

@@ -39,7 +39,8 @@ use Rattle.rg_stack.proofs.Walks.ArgumentLemmas.{AllAgree}
 use Rattle.rg_stack.proofs.Statements.RightLemmas.{InRegion, RightOwes}
 use Rattle.rg_stack.proofs.Statements.CallLemmas.{BodyFits, Called}
 use Rattle.rg_stack.proofs.Walks.EntryLemmas.{entry_of as code_entry}
-use Rattle.rg_stack.proofs.Judgements.FollowLemmas.{some-is, class_is, read-class, field_of_type}
+use Rattle.rg_stack.proofs.Basics.{some-is}
+use Rattle.rg_stack.proofs.Judgements.FollowLemmas.{class_is, read-class, field_of_type}
 use Rattle.rg_stack.proofs.Judgements.JudgeLemmas.{seen-class, expr-agrees, walk-follows, walk-reaches}
 use Rattle.rg_stack.proofs.Judgements.LabelLemmas.{by-labels}
 use Rattle.rg_stack.proofs.Judgements.FitLemmas.{facts_of, variable-in_region}

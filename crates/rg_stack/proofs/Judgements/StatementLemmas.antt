@@ -47,12 +47,13 @@ use Rattle.rg_stack.proofs.Walks.FrameLemmas.{OpenedBelow}
 use Rattle.rg_stack.proofs.Walks.SlotLemmas.{Has}
 use Rattle.rg_stack.proofs.Walks.EndLemmas.{Round, work, state}
 use Rattle.rg_stack.proofs.Statements.RightLemmas.{RightOwes}
-use Rattle.rg_stack.proofs.Statements.AssignLemmas.{sim_let, sim_set, sim_put}
-use Rattle.rg_stack.proofs.Statements.BlockLemmas.{sim_if, sim_if_else, sim_while_any, sim_print_any, sim_collect}
-use Rattle.rg_stack.proofs.Statements.WindowLemmas.{sim_swap, sim_enter, sim_enter_field}
-use Rattle.rg_stack.proofs.Statements.ReturnLemmas.{TargetHas, above, sim_return}
-use Rattle.rg_stack.proofs.Statements.CallLemmas.{BodyFits, CallOwes, sim_call_any, sim_let_call, sim_set_call}
-use Rattle.rg_stack.proofs.Judgements.FollowLemmas.{some-is, class_is}
+use Rattle.rg_stack.proofs.Statements.AssignLemmas.{declare-mirrors, assign-mirrors, put-mirrors}
+use Rattle.rg_stack.proofs.Statements.BlockLemmas.{branch-mirrors, branch-else-mirrors, while-mirrors, print-mirrors, collect-mirrors}
+use Rattle.rg_stack.proofs.Statements.WindowLemmas.{swap-mirrors, enter-mirrors, enter-field-mirrors}
+use Rattle.rg_stack.proofs.Statements.ReturnLemmas.{TargetHas, above, return-mirrors}
+use Rattle.rg_stack.proofs.Statements.CallLemmas.{BodyFits, CallOwes, call-mirrors, declare-call-mirrors, assign-call-mirrors}
+use Rattle.rg_stack.proofs.Basics.{some-is}
+use Rattle.rg_stack.proofs.Judgements.FollowLemmas.{class_is}
 use Rattle.rg_stack.proofs.Judgements.JudgeLemmas.{Facts, expr-agrees, holder-follows, holder-owes, holder-type, block-goes_on, block-gives}
 use Rattle.rg_stack.specs.Effects.{begins_by}
 use Rattle.rg_stack.proofs.Statements.BaseLemmas.{as_many}
@@ -103,15 +104,15 @@ module _ (t : Tree) (accepted : Accepted t) (r : Round) (store : List Seen) (slo
   facts f = facts_of t.classes env store r.opened (length r.bodies) locals f.named f.meets f.objects
 
   -- `print e;`
-  pub law_print : (e : Expr) (out : Env) → Fits → Showing (print e) → judge_kind t.classes None line env (print e) ≡ Ok out → Simulated (print e)
-  law_print e out f h judged =
+  pub print-judged : (e : Expr) (out : Env) → Fits → Showing (print e) → judge_kind t.classes None line env (print e) ≡ Ok out → Simulated (print e)
+  print-judged e out f h judged =
       let q = at_line-ok line _ out judged in
       let p = bind-ok (judge_expr t.classes env None e) _ out q in
-      sim_print_any t.classes code r store slots locals managers input line e j rest h
+      print-mirrors t.classes code r store slots locals managers input line e j rest h
       (expr-agrees t.classes env store locals (facts f) None e p.0 p.1)
 
-  pub law_collect : Showing collect → Simulated collect
-  law_collect h = sim_collect t.classes code r store slots locals managers input line j rest h
+  pub collect-judged : Showing collect → Simulated collect
+  collect-judged h = collect-mirrors t.classes code r store slots locals managers input line j rest h
 
   test-agrees : (e : Expr) (front : Env) → Fits → at_line line (judge_test t.classes env e) ≡ Ok front
       → Agrees t.classes store locals (scope_of locals) e
@@ -121,26 +122,27 @@ module _ (t : Tree) (accepted : Accepted t) (r : Round) (store : List Seen) (slo
       expr-agrees t.classes env store locals (facts f) (Some Bool) e p.0 p.1
 
   -- `while e { .. }`
-  pub law_while : (e : Expr) (b : Block) (out : Env) → Fits → Showing (while e b) → judge_kind t.classes None line env (while e b) ≡ Ok out
+  pub while-judged : (e : Expr) (b : Block) (out : Env) → Fits → Showing (while e b) → judge_kind t.classes None line env (while e b) ≡ Ok out
       → Simulated (while e b)
-  law_while e b out f h judged =
+  while-judged e b out f h judged =
       let p = bind-ok (at_line line (judge_test t.classes env e)) _ out judged in
       let q = bind-ok (judge_block t.classes None p.0 b) _ out p.2 in
-      sim_while_any t.classes code r store slots locals managers input line e b j rest h (test-agrees e p.0 f p.1)
+      while-mirrors t.classes code r store slots locals managers input line e b j rest h (test-agrees e p.0 f p.1)
       (block-goes_on t.classes b p.0 q.0 q.1)
 
   -- `if e { .. }`, with and without `else`
-  pub law_if : (e : Expr) (b : Block) (other : Else) (out : Env) → Fits → Showing (branch e b other)
+  pub branch-judged : (e : Expr) (b : Block) (other : Else) (out : Env) → Fits → Showing (branch e b other)
       → judge_kind t.classes None line env (branch e b other) ≡ Ok out → Simulated (branch e b other)
-  law_if e b no_else out f h judged =
+  branch-judged e b no_else out f h judged =
       let p = bind-ok (at_line line (judge_test t.classes env e)) _ out judged in
       let q = bind-ok (judge_block t.classes None p.0 b) _ out p.2 in
-      sim_if t.classes code r store slots locals managers input line e b j rest h (test-agrees e p.0 f p.1) (block-goes_on t.classes b p.0 q.0 q.1)
-  law_if e b (otherwise c) out f h judged =
+      branch-mirrors t.classes code r store slots locals managers input line e b j rest h (test-agrees e p.0 f p.1)
+      (block-goes_on t.classes b p.0 q.0 q.1)
+  branch-judged e b (otherwise c) out f h judged =
       let p = bind-ok (at_line line (judge_test t.classes env e)) _ out judged in
       let q = bind-ok (judge_block t.classes None p.0 b) _ out p.2 in
       let s = bind-ok (judge_block t.classes None p.0 c) _ out q.2 in
-      sim_if_else t.classes code r store slots locals managers input line e b c j rest h (test-agrees e p.0 f p.1)
+      branch-else-mirrors t.classes code r store slots locals managers input line e b c j rest h (test-agrees e p.0 f p.1)
       (block-goes_on t.classes b p.0 q.0 q.1) (block-goes_on t.classes c p.0 s.0 s.1)
 
   -- what a judged call owes, with its method's entry
@@ -167,12 +169,12 @@ module _ (t : Tree) (accepted : Accepted t) (r : Round) (store : List Seen) (slo
       )
 
   -- `call q.m(a, b);`
-  pub law_call : (c : Call) (out : Env) → Fits → Showing (call c) → judge_kind t.classes None line env (call c) ≡ Ok out → Simulated (call c)
-  law_call c out f h judged =
+  pub call-judged : (c : Call) (out : Env) → Fits → Showing (call c) → judge_kind t.classes None line env (call c) ≡ Ok out → Simulated (call c)
+  call-judged c out f h judged =
       let q = at_line-ok line _ out judged in
       let p = bind-ok (judge_call t.classes env c) _ out q in
       let o = call-owes c p.0 f p.1 in
-      sim_call_any t.classes code j rest r store slots locals managers input line c o.0 o.1 h o.2
+      call-mirrors t.classes code j rest r store slots locals managers input line c o.0 o.1 h o.2
 
   owes-right : (ty : Ty) (right : Right) (out : _) → Fits → judge_right t.classes env ty right ≡ Ok out → is_call right ≡ false
       → RightOwes t.classes store locals (scope_of locals) right
@@ -191,7 +193,7 @@ module _ (t : Tree) (accepted : Accepted t) (r : Round) (store : List Seen) (slo
       let v = test-then (not (visible env (Some x))) _ _ out q in
       let d = bind-ok (good_type t.classes ty) _ out v.1 in
       let p = bind-ok (judge_right t.classes env d.0 right) _ out d.2 in
-      sim_let t.classes code r store slots locals managers input line j rest x ty right h refl (owes-right d.0 right p.0 f p.1 i)
+      declare-mirrors t.classes code r store slots locals managers input line j rest x ty right h refl (owes-right d.0 right p.0 f p.1 i)
 
   declare_call : (x : Name) (ty : Written) (c : Call) (out : Env) → Fits → Showing (declare x ty (result_of c))
       → judge_kind t.classes None line env (declare x ty (result_of c)) ≡ Ok out → Simulated (declare x ty (result_of c))
@@ -204,19 +206,19 @@ module _ (t : Tree) (accepted : Accepted t) (r : Round) (store : List Seen) (slo
       let u = bind-ok (ok_or k.0.result Mismatch) _ p.0 k.2 in
       let o = call-owes c k.0 f k.1 in
       let w = result_by o.0.result u.0 (sym o.3 ∙ ok_or-ok k.0.result Mismatch u.0 u.1) in
-      sim_let_call t.classes code j rest r store slots locals managers input line c o.0 o.1 x ty w.0 h o.2 w.1
+      declare-call-mirrors t.classes code j rest r store slots locals managers input line c o.0 o.1 x ty w.0 h o.2 w.1
 
-  pub law_declare : (x : Name) (ty : Written) (right : Right) (out : Env) → Fits → Showing (declare x ty right)
+  pub declare-judged : (x : Name) (ty : Written) (right : Right) (out : Env) → Fits → Showing (declare x ty right)
       → judge_kind t.classes None line env (declare x ty right) ≡ Ok out → Simulated (declare x ty right)
-  law_declare x ty (value e) out f h judged = declare_plain x ty (value e) out f h judged refl
-  law_declare x ty (new k) out f h judged = declare_plain x ty (new k) out f h judged refl
-  law_declare x ty (new_tmp k) out f h judged = declare_plain x ty (new_tmp k) out f h judged refl
-  law_declare x ty (new_iso k m) out f h judged = declare_plain x ty (new_iso k m) out f h judged refl
-  law_declare x ty (freeze y) out f h judged = declare_plain x ty (freeze y) out f h judged refl
-  law_declare x ty (merge y) out f h judged = declare_plain x ty (merge y) out f h judged refl
-  law_declare x ty read out f h judged = declare_plain x ty read out f h judged refl
-  law_declare x ty more out f h judged = declare_plain x ty more out f h judged refl
-  law_declare x ty (result_of c) out f h judged = declare_call x ty c out f h judged
+  declare-judged x ty (value e) out f h judged = declare_plain x ty (value e) out f h judged refl
+  declare-judged x ty (new k) out f h judged = declare_plain x ty (new k) out f h judged refl
+  declare-judged x ty (new_tmp k) out f h judged = declare_plain x ty (new_tmp k) out f h judged refl
+  declare-judged x ty (new_iso k m) out f h judged = declare_plain x ty (new_iso k m) out f h judged refl
+  declare-judged x ty (freeze y) out f h judged = declare_plain x ty (freeze y) out f h judged refl
+  declare-judged x ty (merge y) out f h judged = declare_plain x ty (merge y) out f h judged refl
+  declare-judged x ty read out f h judged = declare_plain x ty read out f h judged refl
+  declare-judged x ty more out f h judged = declare_plain x ty more out f h judged refl
+  declare-judged x ty (result_of c) out f h judged = declare_call x ty c out f h judged
 
   -- `x = r;`
   set_plain : (x : Variable) (right : Right) (out : Env) → Fits → Showing (assign (record { base = x; fields = [] }) right)
@@ -227,7 +229,7 @@ module _ (t : Tree) (accepted : Accepted t) (r : Round) (store : List Seen) (slo
       let b = test-then (at_depth env e.0 || not (stays_at_depth e.0.ty)) _ _ out a.1 in
       let c = test-then (not (is_lent e.0.readiness)) _ _ out b.1 in
       let p = bind-ok (judge_right t.classes env e.0.ty right) _ out c.1 in
-      sim_set t.classes code r store slots locals managers input line j rest x right h refl (owes-right e.0.ty right p.0 f p.1 i)
+      assign-mirrors t.classes code r store slots locals managers input line j rest x right h refl (owes-right e.0.ty right p.0 f p.1 i)
       (variable-there env locals x e.0 f.named (ok_or-ok (entry_of env x) Unknown e.0 e.1))
 
   set_call : (x : Variable) (c : Call) (out : Env) → Fits → Showing (assign (record { base = x; fields = [] }) (result_of c))
@@ -242,46 +244,46 @@ module _ (t : Tree) (accepted : Accepted t) (r : Round) (store : List Seen) (slo
       let u = bind-ok (ok_or k.0.result Mismatch) _ p.0 k.2 in
       let o = call-owes c k.0 f k.1 in
       let w = result_by o.0.result u.0 (sym o.3 ∙ ok_or-ok k.0.result Mismatch u.0 u.1) in
-      sim_set_call t.classes code j rest r store slots locals managers input line c o.0 o.1 x w.0 h o.2 w.1
+      assign-call-mirrors t.classes code j rest r store slots locals managers input line c o.0 o.1 x w.0 h o.2 w.1
 
-  law_set : (x : Variable) (right : Right) (out : Env) → Fits → Showing (assign (record { base = x; fields = [] }) right)
+  set-judged : (x : Variable) (right : Right) (out : Env) → Fits → Showing (assign (record { base = x; fields = [] }) right)
       → judge_assign t.classes env x [] right ≡ Ok out → Simulated (assign (record { base = x; fields = [] }) right)
-  law_set x (value e) out f h judged = set_plain x (value e) out f h judged refl
-  law_set x (new k) out f h judged = set_plain x (new k) out f h judged refl
-  law_set x (new_tmp k) out f h judged = set_plain x (new_tmp k) out f h judged refl
-  law_set x (new_iso k m) out f h judged = set_plain x (new_iso k m) out f h judged refl
-  law_set x (freeze y) out f h judged = set_plain x (freeze y) out f h judged refl
-  law_set x (merge y) out f h judged = set_plain x (merge y) out f h judged refl
-  law_set x read out f h judged = set_plain x read out f h judged refl
-  law_set x more out f h judged = set_plain x more out f h judged refl
-  law_set x (result_of c) out f h judged = set_call x c out f h judged
+  set-judged x (value e) out f h judged = set_plain x (value e) out f h judged refl
+  set-judged x (new k) out f h judged = set_plain x (new k) out f h judged refl
+  set-judged x (new_tmp k) out f h judged = set_plain x (new_tmp k) out f h judged refl
+  set-judged x (new_iso k m) out f h judged = set_plain x (new_iso k m) out f h judged refl
+  set-judged x (freeze y) out f h judged = set_plain x (freeze y) out f h judged refl
+  set-judged x (merge y) out f h judged = set_plain x (merge y) out f h judged refl
+  set-judged x read out f h judged = set_plain x read out f h judged refl
+  set-judged x more out f h judged = set_plain x more out f h judged refl
+  set-judged x (result_of c) out f h judged = set_call x c out f h judged
 
   not_true : (b : Truth) → not b ≡ true → b ≡ false
   not_true true h = absurd (true≢false (sym h))
   not_true false h = refl
 
   -- `q.f = r;`
-  law_put : (x : Variable) (g : Name) (gs : List Name) (right : Right) (out : Env) → Fits
+  put-judged : (x : Variable) (g : Name) (gs : List Name) (right : Right) (out : Env) → Fits
       → Showing (assign (record { base = x; fields = g ∷ gs }) right) → judge_assign t.classes env x (g ∷ gs) right ≡ Ok out
       → Simulated (assign (record { base = x; fields = g ∷ gs }) right)
-  law_put x g gs right out f h judged =
+  put-judged x g gs right out f h judged =
       let w = bind-ok (writable_field t.classes env x g gs) _ out judged in
       let a = test-then (not (is_iso w.0)) _ _ out w.2 in
       let b = test-then (not (is_call right)) _ _ out a.1 in
       let p = bind-ok (judge_right t.classes env w.0 right) _ out b.1 in
       let k = bind-ok (walk_receiver t.classes env x g gs) _ w.0 w.1 in
-      sim_put t.classes code r store slots locals managers input line j rest x g gs right h refl
+      put-mirrors t.classes code r store slots locals managers input line j rest x g gs right h refl
       (owes-right w.0 right p.0 f p.1 (not_true (is_call right) b.0))
       (holder-follows t.classes env store locals (facts f) x g gs k.0 k.1) (holder-owes t.classes env store locals (facts f) x g gs k.0 k.1)
 
   assign_by : (x : Variable) (fs : List Name) (right : Right) (out : Env) → Fits → Showing (assign (record { base = x; fields = fs }) right)
       → judge_assign t.classes env x fs right ≡ Ok out → Simulated (assign (record { base = x; fields = fs }) right)
-  assign_by x [] right out f h judged = law_set x right out f h judged
-  assign_by x (g ∷ gs) right out f h judged = law_put x g gs right out f h judged
+  assign_by x [] right out f h judged = set-judged x right out f h judged
+  assign_by x (g ∷ gs) right out f h judged = put-judged x g gs right out f h judged
 
-  pub law_assign : (p : Path) (right : Right) (out : Env) → Fits → Showing (assign p right) → judge_kind t.classes None line env (assign p right)
+  pub assign-judged : (p : Path) (right : Right) (out : Env) → Fits → Showing (assign p right) → judge_kind t.classes None line env (assign p right)
       ≡ Ok out → Simulated (assign p right)
-  law_assign p right out f h judged = assign_by p.base p.fields right out f h (at_line-ok line _ out judged)
+  assign-judged p right out f h judged = assign_by p.base p.fields right out f h (at_line-ok line _ out judged)
 
   -- `swap y, q.f;`
   swap_by : (y : Name) (x : Variable) (fs : List Name) (out : Env) → Fits → Showing (swap y (record { base = x; fields = fs }))
@@ -298,12 +300,12 @@ module _ (t : Tree) (accepted : Accepted t) (r : Round) (store : List Seen) (slo
       swap_fields y x [] ty f h judged has = grind arith
       swap_fields y x (g ∷ gs) ty f h judged has =
           let k = bind-ok (walk_receiver t.classes env x g gs) _ ty judged in
-          sim_swap t.classes code r store slots locals managers input line j rest y x g gs h has
+          swap-mirrors t.classes code r store slots locals managers input line j rest y x g gs h has
           (holder-follows t.classes env store locals (facts f) x g gs k.0 k.1) (holder-owes t.classes env store locals (facts f) x g gs k.0 k.1)
 
-  pub law_swap : (y : Name) (p : Path) (out : Env) → Fits → Showing (swap y p) → judge_kind t.classes None line env (swap y p) ≡ Ok out
+  pub swap-judged : (y : Name) (p : Path) (out : Env) → Fits → Showing (swap y p) → judge_kind t.classes None line env (swap y p) ≡ Ok out
       → Simulated (swap y p)
-  law_swap y p out f h judged = swap_by y p.base p.fields out f h (at_line-ok line _ out judged)
+  swap-judged y p out f h judged = swap_by y p.base p.fields out f h (at_line-ok line _ out judged)
 
   -- `enter x as z { .. }` and `enter q.f as z { .. }`
   enter_by : (x : Variable) (fs : List Name) (z : Name) (b : Block) (front : Env) → Fits → Showing (enter (record { base = x; fields = fs }) z b)
@@ -313,7 +315,7 @@ module _ (t : Tree) (accepted : Accepted t) (r : Round) (store : List Seen) (slo
       let c = bind-ok (ok_or (iso_class e.0.ty) Mismatch) _ front e.2 in
       let there = ok_or-ok (entry_of env x) Unknown e.0 e.1 in
       let iso = iso_type e.0.ty c.0 (ok_or-ok (iso_class e.0.ty) Mismatch c.0 c.1) in
-      sim_enter t.classes code r store slots locals managers input line j rest x z b h goes f.begins
+      enter-mirrors t.classes code r store slots locals managers input line j rest x z b h goes f.begins
       (λ o is. (
         variable-in_region env store r.opened (length r.bodies) locals x e.0 f.named f.meets there iso.0 o is,
         sym (class_in t.classes (type_in (scope_of locals) x) o.class
@@ -326,7 +328,7 @@ module _ (t : Tree) (accepted : Accepted t) (r : Round) (store : List Seen) (slo
       let m = test-then (may_write k.0.receiver) _ _ w.0 k.2 in
       let same : k.0.ty ≡ w.0 = grind arith in
       let iso = iso_type w.0 c.0 (ok_or-ok (iso_class w.0) Mismatch c.0 c.1) in
-      sim_enter_field t.classes code r store slots locals managers input line j rest x g gs z b h goes f.begins
+      enter-field-mirrors t.classes code r store slots locals managers input line j rest x g gs z b h goes f.begins
       (holder-follows t.classes env store locals (facts f) x g gs k.0 k.1) (holder-owes t.classes env store locals (facts f) x g gs k.0 k.1)
       (λ u o led there q is.
       let d = holder-type t.classes env store locals (facts f) x g gs k.0 u o k.1 led there in (
@@ -336,26 +338,26 @@ module _ (t : Tree) (accepted : Accepted t) (r : Round) (store : List Seen) (slo
             (ap class_is d.1 ∙ ((facts f).fields u o (last_field g gs) k.0.ty there d.0).0 q is)),
       ))
 
-  pub law_enter : (p : Path) (z : Name) (b : Block) (out : Env) → Fits → Showing (enter p z b) → judge_kind t.classes None line env (enter p z b)
+  pub enter-judged : (p : Path) (z : Name) (b : Block) (out : Env) → Fits → Showing (enter p z b) → judge_kind t.classes None line env (enter p z b)
       ≡ Ok out → Simulated (enter p z b)
-  law_enter p z b out f h judged =
+  enter-judged p z b out f h judged =
       let e = bind-ok (at_line line (judge_enter t.classes env p.base p.fields z)) _ out judged in
       let q = bind-ok (judge_block t.classes None e.0 b) _ out e.2 in
       enter_by p.base p.fields z b e.0 f h (at_line-ok line _ e.0 e.1) (block-goes_on t.classes b e.0 q.0 q.1)
 
   -- each statement but `return`, which may be the last one of its body
-  pub law_statement : (last : Option Ty) (k : StmtKind) (out : Env) → GoesOn k → Fits → Showing k → judge_kind t.classes last line env k ≡ Ok out
+  pub statement-judged : (last : Option Ty) (k : StmtKind) (out : Env) → GoesOn k → Fits → Showing k → judge_kind t.classes last line env k ≡ Ok out
       → Simulated k
-  law_statement last (declare x ty right) out goes f h judged = law_declare x ty right out f h judged
-  law_statement last (assign p right) out goes f h judged = law_assign p right out f h judged
-  law_statement last (call c) out goes f h judged = law_call c out f h judged
-  law_statement last (swap y p) out goes f h judged = law_swap y p out f h judged
-  law_statement last (branch e b other) out goes f h judged = law_if e b other out f h judged
-  law_statement last (while e b) out goes f h judged = law_while e b out f h judged
-  law_statement last (enter p z b) out goes f h judged = law_enter p z b out f h judged
-  law_statement last (print e) out goes f h judged = law_print e out f h judged
-  law_statement last collect out goes f h judged = law_collect h
-  law_statement last (return e) out goes f h judged = absurd goes
+  statement-judged last (declare x ty right) out goes f h judged = declare-judged x ty right out f h judged
+  statement-judged last (assign p right) out goes f h judged = assign-judged p right out f h judged
+  statement-judged last (call c) out goes f h judged = call-judged c out f h judged
+  statement-judged last (swap y p) out goes f h judged = swap-judged y p out f h judged
+  statement-judged last (branch e b other) out goes f h judged = branch-judged e b other out f h judged
+  statement-judged last (while e b) out goes f h judged = while-judged e b out f h judged
+  statement-judged last (enter p z b) out goes f h judged = enter-judged p z b out f h judged
+  statement-judged last (print e) out goes f h judged = print-judged e out f h judged
+  statement-judged last collect out goes f h judged = collect-judged h
+  statement-judged last (return e) out goes f h judged = absurd goes
 
   -- what stands where a statement begins, from the invariant
   pub fits_of : ShowsFrames (record { slots = slots; back = r.back } ∷ r.frames) (record { locals = locals; target = r.target } ∷ r.bodies)
@@ -407,7 +409,7 @@ target-has t last line env out locals collect c target named judged h = absurd (
 target-has t last line env out locals (return e) c target named judged h = absurd (none-some (c, target) h)
 
 -- `return e;` of an accepted program; r is what stands round the frame that called
-pub law_return : (t : Tree) (r : Round) (slots under : List Val) (locals callers : List Local) (back : ℕ) (target : Target) (store : List Seen)
+pub return-judged : (t : Tree) (r : Round) (slots under : List Val) (locals callers : List Local) (back : ℕ) (target : Target) (store : List Seen)
     (managers : List Manager) (input : List ℕ) (line : ℕ) (e : Expr) (j : Item) (rest : List Item) (env : Env) (last : Option Ty) (out : Env)
     → Named env.entries locals → FrameMeets store r.opened (suc (length r.bodies)) locals → ObjectsFit t.classes store r.opened
     → Mirrors t.classes (lowered t) (work (above r under callers back target) store slots managers input).machine
@@ -419,10 +421,11 @@ pub law_return : (t : Tree) (r : Round) (slots under : List Val) (locals callers
     → SameMove t.classes (lowered t) r.output (next t.classes
     (state (above r under callers back target) store locals managers input (Do (stmt line (return e)) ∷ j ∷ rest)))
     (step (lowered t) (work (above r under callers back target) store slots managers input))
-law_return t r slots under locals callers back target store managers input line e j rest env last out named meets objects h judged below begins has =
+return-judged t r slots under locals callers back target store managers input line e j rest env last out named meets objects h judged below begins
+    has =
     let q = at_line-ok line _ out judged in
     let w = bind-ok (ok_or last Return) _ out q in
     let p = bind-ok (judge_expr t.classes env (Some w.0) e) _ out w.2 in
-    sim_return t.classes (lowered t) r slots under locals callers back target store managers input line e j rest h
+    return-mirrors t.classes (lowered t) r slots under locals callers back target store managers input line e j rest h
     (expr-agrees t.classes env store locals (facts_of t.classes env store r.opened (suc (length r.bodies)) locals named meets objects) (Some w.0) e
     p.0 p.1) below begins has

@@ -1,5 +1,6 @@
 -- Behind the end of a frame the code is calm.
-use Rattle.std.proofs.Common.{◌≡◌, ℕ, ◌+◌, true, true≢false, ◌⊎◌, inl, inr, List, [], ◌∷◌, ◌++◌, length, drop, take, Option, Some, None, refl, sym}
+use Rattle.std.proofs.Common.{◌≡◌, false, ℕ, ◌+◌, true, true≢false, ◌⊎◌, inl, inr, List, [], ◌∷◌, ◌++◌, length, drop, take, Option, Some, None}
+use Rattle.std.proofs.Common.{refl, sym}
 use Rattle.std.proofs.Common.{ap, subst, ◌∙◌, arith, slice_get}
 use Rattle.std.specs.Result.{result_ok}
 use Rattle.rg_base.specs.declared.ty.Ty.{Ty}
@@ -180,26 +181,26 @@ method_leaves t c m (Some w) same gives p s is left = spot-leaves t.classes (Som
 
 -- what lies behind a call is calm
 
-drop_calm : (code os rest : List Op) → is_drop (slice_get os 0) ≡ true → drop 1 os ≡ rest → calm code rest ≡ true → calm code os ≡ true
+drop_calm : (code os rest : List Op) → is_drop (slice_get os 0) ≡ true → drop 1 os ≡ rest → calm code false rest ≡ true → calm code false os ≡ true
 drop_calm code [] rest e is h = refl
-drop_calm code (i.Pop ∷ os) rest e is h = ap (calm code) is ∙ h
-drop_calm code (i.Drop ∷ os) rest e is h = ap (calm code) is ∙ h
+drop_calm code (i.Pop ∷ os) rest e is h = ap (calm code false) is ∙ h
+drop_calm code (i.Drop ∷ os) rest e is h = ap (calm code false) is ∙ h
 drop_calm code (o ∷ os) rest e is h = absurd (true≢false (sym e))
 
 taken_calm : (classes : List Class) (code : List Op) (target : Target) (back : ℕ) (ls : List Level) (j : Item) (rest : List Item)
-    → TakesResult code target back ls (λ levels here. Lies classes code levels (j ∷ rest) here) → calm code (drop back code) ≡ true
+    → TakesResult code target back ls (λ levels here. Lies classes code levels (j ∷ rest) here) → calm code false (drop back code) ≡ true
 taken_calm classes code target back [] j rest h = absurd h
-taken_calm classes code (Declares x t) back (l ∷ ls) j rest h = ap (calm code) (drop-stands code back (i.Store (length l.scope) ∷ []) h.0.0)
+taken_calm classes code (Declares x t) back (l ∷ ls) j rest h = ap (calm code false) (drop-stands code back (i.Store (length l.scope) ∷ []) h.0.0)
     ∙ calm-lies classes code (record l { scope = with_slot l.scope (Some x) t } ∷ ls) j rest (back + 1) h.1
 taken_calm classes code (Assigns x) back (l ∷ ls) j rest h =
-    ap (calm code) (drop-stands code back (assign_op l.scope x ∷ []) h.0.0)
+    ap (calm code false) (drop-stands code back (assign_op l.scope x ∷ []) h.0.0)
     ∙ calm-assign code l.scope x (drop (back + 1) code) (calm-lies classes code (l ∷ ls) j rest (back + 1) h.1)
 taken_calm classes code Drops back (l ∷ ls) j rest h =
     drop_calm code (drop back code) (drop (back + 1) code) (ap is_drop (first-drop code back) ∙ h.0) (drop-drop back 1 code)
     (calm-lies classes code (l ∷ ls) j rest (back + 1) h.1)
 
 pub calm-back : (classes : List Class) (code : List Op) (items : List Item) (l : Level) (ls : List Level) (at : ℕ) → LeavesOn items
-    → Lies classes code (l ∷ ls) items at → calm code (drop l.back code) ≡ true
+    → Lies classes code (l ∷ ls) items at → calm code false (drop l.back code) ≡ true
 calm-back classes code [] l ls at leaves h = absurd leaves
 calm-back classes code (Do (stmt line (declare x t r)) ∷ rest) l ls at leaves h = calm-back classes code rest
     (record l { scope = scope_behind classes l.scope (declare x t r) }) ls _ leaves h.1

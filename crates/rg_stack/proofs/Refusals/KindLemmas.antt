@@ -12,6 +12,7 @@ use Rattle.rg_code.specs.declared.op.Op.TheVariants as i
 use Rattle.rg_code.specs.Lowering.{Scope, slot_of, holder_code, held_number, right_code, pace_code, dropped_code, whole_code, call_code}
 use Rattle.rg_code.specs.Lowering.{call_result, assign_code, assign_op, swap_code, enter_code, scope_behind, scope_inside, block_code, kind_code}
 use Rattle.rg_code.specs.Places.{Stands, StandsIn, is_mark, behind_end, Level, Lies}
+use Rattle.rg_stack.proofs.Basics.{is_halt}
 use Rattle.rg_stack.specs.Refusals.{calm, orderly}
 use Rattle.rg_stack.proofs.Walks.MarkLemmas.{drop-drop, drop-stands, first-drop, lies_at_mark}
 use Rattle.rg_stack.proofs.Walks.PlaceLemmas.{back_in, block_starts, GoesOn}
@@ -21,11 +22,12 @@ use Rattle.rg_stack.proofs.Refusals.OrderLemmas.{calm-assign}
 
 -- what lies somewhere is calm
 pub calm-lies : (classes : List Class) (code : List Op) (ls : List Level) (j : Item) (rest : List Item) (at : ℕ)
-    → Lies classes code ls (j ∷ rest) at → calm code (drop at code) ≡ true
-calm-lies classes code ls j rest at h = calm-mark code (drop at code) (ap is_mark (first-drop code at) ∙ lies_at_mark classes code ls j rest at h)
+    → Lies classes code ls (j ∷ rest) at → calm code false (drop at code) ≡ true
+calm-lies classes code ls j rest at h = calm-mark code false (drop at code)
+    (ap is_mark (first-drop code at) ∙ lies_at_mark classes code ls j rest at h)
 
 -- behind the first instruction of what stands
-behind_first : (code : List Op) (at : ℕ) (o : Op) (ops : List Op) → Stands code at (o ∷ ops) → drop (at + 1) code ≡ ops
+pub behind_first : (code : List Op) (at : ℕ) (o : Op) (ops : List Op) → Stands code at (o ∷ ops) → drop (at + 1) code ≡ ops
     ++ drop (at + length (o ∷ ops)) code
 behind_first code at o ops h = sym (drop-drop at 1 code) ∙ ap (drop 1) (drop-stands code at (o ∷ ops) h)
 
@@ -36,19 +38,19 @@ module _ (classes : List Class) (code : List Op) where
   holder-check scope x f fs at rest h =
       let path = holder_code classes scope x f fs in
       let n : at + length path + 1 ≡ at + length (path ++ i.Check ∷ []) = omega (arith, length-append path (i.Check ∷ [])) in
-      ap (orderly code at) (append_assoc path (i.Check ∷ []) rest)
-      ∙ before-path code classes scope x (all_but_last f fs) at (i.Check ∷ rest) (subst (λ k. orderly code k rest ≡ true) (sym n) h)
+      ap (orderly code at false) (append_assoc path (i.Check ∷ []) rest)
+      ∙ before-path code classes scope x (all_but_last f fs) at (i.Check ∷ rest) (subst (λ k. orderly code k false rest ≡ true) (sym n) h)
 
   quiet-declare : (scope : Scope) (at slot : ℕ) (r : Right) → Quiet code at (right_code classes scope at r ++ i.Store slot ∷ pace_code r)
   quiet-declare scope at slot r rest h =
       let ops = right_code classes scope at r in
-      ap (orderly code at) (append_assoc ops (i.Store slot ∷ pace_code r) rest)
+      ap (orderly code at false) (append_assoc ops (i.Store slot ∷ pace_code r) rest)
       ∙ quiet-right code classes scope at r (i.Store slot ∷ (pace_code r ++ rest)) (calm-pace code r rest h)
 
   quiet-assign : (scope : Scope) (at : ℕ) (x : Variable) (fs : List Name) (r : Right) → Quiet code at (assign_code classes scope at x fs r)
   quiet-assign scope at x [] r rest h =
       let ops = right_code classes scope at r in
-      ap (orderly code at) (append_assoc ops (assign_op scope x ∷ pace_code r) rest)
+      ap (orderly code at false) (append_assoc ops (assign_op scope x ∷ pace_code r) rest)
       ∙ quiet-right code classes scope at r (assign_op scope x ∷ (pace_code r ++ rest))
       (calm-assign code scope x (pace_code r ++ rest) (calm-pace code r rest h))
   quiet-assign scope at x (f ∷ fs) r rest h =
@@ -57,23 +59,23 @@ module _ (classes : List Class) (code : List Op) where
       let ops = right_code classes scope here r in
       let last = i.Put (held_number classes scope x f fs) ∷ pace_code r in
       quiet-append code holder (ops ++ last) at (holder-check scope x f fs at)
-      (λ more e. ap (orderly code here) (append_assoc ops last more)
+      (λ more e. ap (orderly code here false) (append_assoc ops last more)
       ∙ quiet-right code classes scope here r (last ++ more) (calm-pace code r more e)) rest h
 
-  calm-dropped : (t : Option Ty) (rest : List Op) → calm code rest ≡ true → calm code (dropped_code t ++ rest) ≡ true
+  calm-dropped : (t : Option Ty) (rest : List Op) → calm code false rest ≡ true → calm code false (dropped_code t ++ rest) ≡ true
   calm-dropped None rest h = h
   calm-dropped (Some t) rest h = by (is_iso t)
     where
-      by : (b : Truth) → calm code ((if b then i.Drop ∷ [] else i.Pop ∷ []) ++ rest) ≡ true
+      by : (b : Truth) → calm code false ((if b then i.Drop ∷ [] else i.Pop ∷ []) ++ rest) ≡ true
       by true = h
       by false = h
 
   quiet-swap : (scope : Scope) (at : ℕ) (y : Name) (x : Variable) (fs : List Name) → Quiet code at (swap_code classes scope y x fs)
-  quiet-swap scope at y x [] rest h = calm-orderly code at rest h
+  quiet-swap scope at y x [] rest h = calm-orderly code at false rest h
   quiet-swap scope at y x (f ∷ fs) rest h =
       let path = holder_code classes scope x f fs in
       let s = i.Swap (slot_of scope (Some y)) (held_number classes scope x f fs) in
-      ap (orderly code at) (append_assoc path (i.Check ∷ s ∷ []) rest)
+      ap (orderly code at false) (append_assoc path (i.Check ∷ s ∷ []) rest)
       ∙ before-path code classes scope x (all_but_last f fs) at (i.Check ∷ s ∷ rest) h
 
   quiet-enter : (scope : Scope) (at : ℕ) (x : Variable) (fs : List Name) → Quiet code at (enter_code classes scope x fs)
@@ -81,11 +83,11 @@ module _ (classes : List Class) (code : List Op) where
   quiet-enter scope at x (f ∷ fs) rest h =
       let path = holder_code classes scope x f fs in
       let e = i.EnterField (held_number classes scope x f fs) (length scope) in
-      ap (orderly code at) (append_assoc path (e ∷ []) rest) ∙ before-path code classes scope x (all_but_last f fs) at (e ∷ rest) h
+      ap (orderly code at false) (append_assoc path (e ∷ []) rest) ∙ before-path code classes scope x (all_but_last f fs) at (e ∷ rest) h
 
   -- a test, and a choice that leads to a mark
-  quiet-test : (scope : Scope) (at to : ℕ) (e : Expr) (more : List Op) → is_mark (slice_get code to) ≡ true → calm code more ≡ true
-      → orderly code at (whole_code classes scope at e ++ (i.JumpFalse to ∷ more)) ≡ true
+  quiet-test : (scope : Scope) (at to : ℕ) (e : Expr) (more : List Op) → is_mark (slice_get code to) ≡ true → calm code false more ≡ true
+      → orderly code at false (whole_code classes scope at e ++ (i.JumpFalse to ∷ more)) ≡ true
   quiet-test scope at to e more marked h = quiet-whole code classes scope at e (i.JumpFalse to ∷ more) (and_both _ _ marked h)
 
   marked_at : (at : ℕ) (ops : List Op) → Stands code at ops → is_mark (slice_get (ops ++ drop (at + length ops) code) 0) ≡ true
@@ -96,7 +98,7 @@ module _ (classes : List Class) (code : List Op) where
   branch-orderly : (l : Level) (at line : ℕ) (e : Expr) (b : Block) (other : Else)
       → StandsIn code l at (kind_code classes l.scope at line (branch e b other))
       → is_mark (slice_get code (at + length (kind_code classes l.scope at line (branch e b other)))) ≡ true
-      → orderly code (at + 1) (drop (at + 1) code) ≡ true
+      → orderly code (at + 1) false (drop (at + 1) code) ≡ true
   branch-orderly l at line e b no_else h ends =
       let scope = l.scope in
       let test = whole_code classes scope (at + 1) e in
@@ -116,9 +118,9 @@ module _ (classes : List Class) (code : List Op) where
       let begins : is_mark (slice_get (inner ++ tail) 0)
       ≡ true = ap (λ l. is_mark (slice_get l 0)) (append_assoc block (i.Mark line ∷ i.End (length scope) ∷ []) tail)
       ∙ block_starts classes scope inside line b (i.End (length scope) ∷ tail) in
-      ap (orderly code (at + 1)) (behind_first code at (i.Mark line) more h.0 ∙ append_assoc test (i.JumpFalse jump ∷ inner) tail)
+      ap (orderly code (at + 1) false) (behind_first code at (i.Mark line) more h.0 ∙ append_assoc test (i.JumpFalse jump ∷ inner) tail)
       ∙ quiet-test scope (at + 1) jump e (inner ++ tail) (subst (λ n. is_mark (slice_get code n) ≡ true) to_end ends)
-      (calm-mark code (inner ++ tail) begins)
+      (calm-mark code false (inner ++ tail) begins)
   branch-orderly l at line e b (otherwise c) h ends =
       let scope = l.scope in
       let test = whole_code classes scope (at + 1) e in
@@ -156,12 +158,12 @@ module _ (classes : List Class) (code : List Op) where
       let begins : is_mark (slice_get (inner ++ tail) 0) ≡ true =
       ap (λ l. is_mark (slice_get l 0)) (append_assoc block (i.Mark line ∷ i.End (length scope) ∷ i.Jump target ∷ second) tail)
       ∙ block_starts classes scope inside line b (i.End (length scope) ∷ i.Jump target ∷ (second ++ tail)) in
-      ap (orderly code (at + 1)) (behind_first code at (i.Mark line) more h.0 ∙ append_assoc test (i.JumpFalse jump ∷ inner) tail)
-      ∙ quiet-test scope (at + 1) jump e (inner ++ tail) marked (calm-mark code (inner ++ tail) begins)
+      ap (orderly code (at + 1) false) (behind_first code at (i.Mark line) more h.0 ∙ append_assoc test (i.JumpFalse jump ∷ inner) tail)
+      ∙ quiet-test scope (at + 1) jump e (inner ++ tail) marked (calm-mark code false (inner ++ tail) begins)
 
   while-orderly : (l : Level) (at line : ℕ) (e : Expr) (b : Block) → StandsIn code l at (kind_code classes l.scope at line (while e b))
       → is_mark (slice_get code (at + length (kind_code classes l.scope at line (while e b)))) ≡ true
-      → orderly code (at + 1) (drop (at + 1) code) ≡ true
+      → orderly code (at + 1) false (drop (at + 1) code) ≡ true
   while-orderly l at line e b h ends =
       let scope = l.scope in
       let test = whole_code classes scope (at + 1) e in
@@ -176,14 +178,14 @@ module _ (classes : List Class) (code : List Op) where
       let to_end : end ≡ jump = omega (arith, length-append test (i.JumpFalse jump ∷ inner), length-append block closing) in
       let begins : is_mark (slice_get (inner ++ tail) 0) ≡ true = ap (λ l. is_mark (slice_get l 0)) (append_assoc block closing tail)
       ∙ block_starts classes scope inside line b (i.End (length scope) ∷ i.Jump at ∷ tail) in
-      ap (orderly code (at + 1)) (behind_first code at (i.Mark line) more h.0 ∙ append_assoc test (i.JumpFalse jump ∷ inner) tail)
+      ap (orderly code (at + 1) false) (behind_first code at (i.Mark line) more h.0 ∙ append_assoc test (i.JumpFalse jump ∷ inner) tail)
       ∙ quiet-test scope (at + 1) jump e (inner ++ tail) (subst (λ n. is_mark (slice_get code n) ≡ true) to_end ends)
-      (calm-mark code (inner ++ tail) begins)
+      (calm-mark code false (inner ++ tail) begins)
 
   -- each other statement but `return` is quiet in front of its end
   quiet-orderly : (at line : ℕ) (ops : List Op) → Quiet code (at + 1) ops → Stands code at (i.Mark line ∷ ops)
-      → calm code (drop (at + length (i.Mark line ∷ ops)) code) ≡ true → orderly code (at + 1) (drop (at + 1) code) ≡ true
-  quiet-orderly at line ops q h ends = ap (orderly code (at + 1)) (behind_first code at (i.Mark line) ops h)
+      → calm code false (drop (at + length (i.Mark line ∷ ops)) code) ≡ true → orderly code (at + 1) false (drop (at + 1) code) ≡ true
+  quiet-orderly at line ops q h ends = ap (orderly code (at + 1) false) (behind_first code at (i.Mark line) ops h)
       ∙ q (drop (at + length (i.Mark line ∷ ops)) code) ends
 
   enter-quiet : (scope : Scope) (at line : ℕ) (p : Path) (z : Name) (b : Block)
@@ -193,14 +195,15 @@ module _ (classes : List Class) (code : List Op) where
       let front = enter_code classes scope p.base p.fields in
       let block = block_code classes (scope_inside classes scope p z) (at + length front) b in
       let closing = i.Mark line ∷ i.Leave (length scope) ∷ [] in
-      ap (orderly code at) (append_assoc front (block ++ closing) rest)
+      ap (orderly code at false) (append_assoc front (block ++ closing) rest)
       ∙ quiet-enter scope at p.base p.fields ((block ++ closing) ++ rest)
-      (calm-mark code ((block ++ closing) ++ rest) (ap (λ l. is_mark (slice_get l 0)) (append_assoc block closing rest)
+      (calm-mark code false ((block ++ closing) ++ rest) (ap (λ l. is_mark (slice_get l 0)) (append_assoc block closing rest)
       ∙ block_starts classes (scope_inside classes scope p z) (at + length front) line b (i.Leave (length scope) ∷ rest)))
 
   kind-orderly : (l : Level) (at line : ℕ) (k : StmtKind) → GoesOn k → StandsIn code l at (kind_code classes l.scope at line k)
       → is_mark (slice_get code (at + length (kind_code classes l.scope at line k))) ≡ true
-      → calm code (drop (at + length (kind_code classes l.scope at line k)) code) ≡ true → orderly code (at + 1) (drop (at + 1) code) ≡ true
+      → calm code false (drop (at + length (kind_code classes l.scope at line k)) code) ≡ true → orderly code (at + 1) false (drop (at + 1) code)
+      ≡ true
   kind-orderly l at line (declare x t r) g h ends quiet =
       quiet-orderly at line (right_code classes l.scope (at + 1) r ++ i.Store (length l.scope) ∷ pace_code r)
       (quiet-declare l.scope (at + 1) (length l.scope) r) h.0 quiet
@@ -210,7 +213,7 @@ module _ (classes : List Class) (code : List Op) where
       let ops = call_code classes l.scope (at + 1) c in
       let result = call_result classes l.scope c in
       quiet-orderly at line (ops ++ dropped_code result)
-      (λ rest e. ap (orderly code (at + 1)) (append_assoc ops (dropped_code result) rest)
+      (λ rest e. ap (orderly code (at + 1) false) (append_assoc ops (dropped_code result) rest)
       ∙ quiet-call code classes l.scope (at + 1) c (dropped_code result ++ rest) (calm-dropped result rest e)) h.0 quiet
   kind-orderly l at line (swap y p) g h ends quiet = quiet-orderly at line (swap_code classes l.scope y p.base p.fields)
       (quiet-swap l.scope (at + 1) y p.base p.fields) h.0 quiet
@@ -222,27 +225,22 @@ module _ (classes : List Class) (code : List Op) where
       ++ i.Mark line ∷ i.Leave (length l.scope) ∷ [])) (enter-quiet l.scope (at + 1) line p z b) h.0 quiet
   kind-orderly l at line (print e) g h ends quiet =
       let whole = whole_code classes l.scope (at + 1) e in
-      quiet-orderly at line (whole ++ i.Print ∷ []) (λ rest c. ap (orderly code (at + 1)) (append_assoc whole (i.Print ∷ []) rest)
+      quiet-orderly at line (whole ++ i.Print ∷ []) (λ rest c. ap (orderly code (at + 1) false) (append_assoc whole (i.Print ∷ []) rest)
       ∙ quiet-whole code classes l.scope (at + 1) e (i.Print ∷ rest) c) h.0 quiet
   kind-orderly l at line collect g h ends quiet = quiet-orderly at line (i.Collect ∷ []) (λ rest c. c) h.0 quiet
   kind-orderly l at line (return e) g h ends quiet = absurd g
 
   return-orderly : (l : Level) (at line : ℕ) (e : Expr) → StandsIn code l at (kind_code classes l.scope at line (return e))
-      → orderly code (at + 1) (drop (at + 1) code) ≡ true
+      → orderly code (at + 1) false (drop (at + 1) code) ≡ true
   return-orderly l at line e h =
       let whole = whole_code classes l.scope (at + 1) e in
       let tail = drop (at + length (i.Mark line ∷ whole ++ i.Ret ∷ [])) code in
-      ap (orderly code (at + 1)) (behind_first code at (i.Mark line) (whole ++ i.Ret ∷ []) h.0 ∙ append_assoc whole (i.Ret ∷ []) tail)
+      ap (orderly code (at + 1) false) (behind_first code at (i.Mark line) (whole ++ i.Ret ∷ []) h.0 ∙ append_assoc whole (i.Ret ∷ []) tail)
       ∙ quiet-whole code classes l.scope (at + 1) e (i.Ret ∷ tail) refl
 
   -- the end of a block
-  abbrev is_halt : Option Op → Truth
-  is_halt None = false
-  is_halt (Some i.Halt) = true
-  is_halt (Some o) = false
-
   calm-behind : (os : List Op) (n : ℕ) (items : List Item) (ls : List Level) → slice_get code n ≡ slice_get os 0
-      → Lies classes code ls items (behind_end (slice_get os 0) n) → calm code os ≡ true
+      → Lies classes code ls items (behind_end (slice_get os 0) n) → calm code false os ≡ true
   calm-behind [] n items ls is lies = refl
   calm-behind (i.Jump t ∷ os) n items ls is lies = refl
   calm-behind (i.Mark line ∷ os) n items ls is lies = refl
@@ -254,13 +252,13 @@ module _ (classes : List Class) (code : List Op) where
   do-orderly : (l : Level) (ls : List Level) (line : ℕ) (k : StmtKind) (j : Item) (rest : List Item) (at : ℕ) → GoesOn k
       → Lies classes code (l ∷ ls) (Do (stmt line k) ∷ j ∷ rest) at
       → (levels : List Level) → Lies classes code levels (j ∷ rest) (at + length (kind_code classes l.scope at line k))
-      → orderly code (at + 1) (drop (at + 1) code) ≡ true
+      → orderly code (at + 1) false (drop (at + 1) code) ≡ true
   do-orderly l ls line k j rest at g h levels lies =
       let end = at + length (kind_code classes l.scope at line k) in
       kind-orderly l at line k g h.0 (lies_at_mark classes code levels j rest end lies) (calm-lies classes code levels j rest end lies)
 
   pub statement-orderly : (l : Level) (ls : List Level) (line : ℕ) (k : StmtKind) (j : Item) (rest : List Item) (at : ℕ)
-      → Lies classes code (l ∷ ls) (Do (stmt line k) ∷ j ∷ rest) at → orderly code (at + 1) (drop (at + 1) code) ≡ true
+      → Lies classes code (l ∷ ls) (Do (stmt line k) ∷ j ∷ rest) at → orderly code (at + 1) false (drop (at + 1) code) ≡ true
   statement-orderly l ls line (declare x t r) j rest at h = do-orderly l ls line (declare x t r) j rest at tt h
       (record l { scope = scope_behind classes l.scope (declare x t r) } ∷ ls) h.1
   statement-orderly l ls line (assign p r) j rest at h = do-orderly l ls line (assign p r) j rest at tt h (l ∷ ls) h.1
@@ -274,21 +272,21 @@ module _ (classes : List Class) (code : List Op) where
   statement-orderly l ls line (return e) j rest at h = return-orderly l at line e h.0
 
   pub end-orderly : (l : Level) (ls : List Level) (k : ℕ) (rest : List Item) (at : ℕ) → Lies classes code (l ∷ ls) (EndAt k ∷ rest) at
-      → orderly code (at + 1) (drop (at + 1) code) ≡ true
+      → orderly code (at + 1) false (drop (at + 1) code) ≡ true
   end-orderly l ls k rest at h =
       let two : at + 1 + 1 ≡ at + 2 = omega arith in
-      ap (orderly code (at + 1)) (drop-stands code (at + 1) (i.End k ∷ []) h.1 ∙ ap (λ n. i.End k ∷ drop n code) two)
+      ap (orderly code (at + 1) false) (drop-stands code (at + 1) (i.End k ∷ []) h.1 ∙ ap (λ n. i.End k ∷ drop n code) two)
       ∙ calm-behind (drop (at + 2) code) (at + 2) rest (record l { scope = take k l.scope } ∷ ls) (sym (first-drop code (at + 2)))
       (subst (λ o. Lies classes code (record l { scope = take k l.scope } ∷ ls) rest (behind_end o (at + 2))) (sym (first-drop code (at + 2)))
       h.2)
 
   pub leave-orderly : (l : Level) (ls : List Level) (k : ℕ) (j : Item) (rest : List Item) (at : ℕ)
-      → Lies classes code (l ∷ ls) (LeaveAt k ∷ j ∷ rest) at → orderly code (at + 1) (drop (at + 1) code) ≡ true
+      → Lies classes code (l ∷ ls) (LeaveAt k ∷ j ∷ rest) at → orderly code (at + 1) false (drop (at + 1) code) ≡ true
   leave-orderly l ls k j rest at h =
       let two : at + 1 + 1 ≡ at + 2 = omega arith in
-      ap (orderly code (at + 1)) (drop-stands code (at + 1) (i.Leave k ∷ []) h.1 ∙ ap (λ n. i.Leave k ∷ drop n code) two)
+      ap (orderly code (at + 1) false) (drop-stands code (at + 1) (i.Leave k ∷ []) h.1 ∙ ap (λ n. i.Leave k ∷ drop n code) two)
       ∙ calm-lies classes code (record l { scope = take k l.scope } ∷ ls) j rest (at + 2) h.2
 
   pub back-orderly : (l : Level) (ls : List Level) (rest : List Item) (at : ℕ) → Lies classes code (l ∷ ls) (Back ∷ rest) at
-      → orderly code (at + 1) (drop (at + 1) code) ≡ true
-  back-orderly l ls rest at h = ap (orderly code (at + 1)) (drop-stands code (at + 1) (i.RetVoid ∷ []) h.1)
+      → orderly code (at + 1) false (drop (at + 1) code) ≡ true
+  back-orderly l ls rest at h = ap (orderly code (at + 1) false) (drop-stands code (at + 1) (i.RetVoid ∷ []) h.1)

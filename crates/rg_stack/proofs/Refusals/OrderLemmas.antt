@@ -13,7 +13,7 @@ use Rattle.rg_code.specs.Lowering.{Scope, slot_of, type_in, field_number, type_b
 use Rattle.rg_code.specs.Lowering.{exprs_code, used_slots, used_by_all, clears, whole_code, number_called, target_class, call_code, right_code}
 use Rattle.rg_code.specs.Lowering.{pace_code, assign_op}
 use Rattle.rg_stack.proofs.Callers.OrderLemmas.{and_both, and_first, and_second, calm-orderly}
-use Rattle.rg_stack.specs.Refusals.{Computes, Passes, manner, calm, all_compute, orderly_by, orderly}
+use Rattle.rg_stack.specs.Refusals.{Computes, Passes, manner, room_behind, calm, all_compute, orderly_by, orderly}
 
 -- what an expression's code consists of
 
@@ -69,19 +69,20 @@ compute-expr classes scope at (binary o a b) =
 module _ (code : List Op) where
   -- in front of what is orderly
   abbrev pub Before : (at : ℕ) → List Op → Type 0
-  Before at ops = (rest : List Op) → orderly code (at + length ops) rest ≡ true → orderly code at (ops ++ rest) ≡ true
+  Before at ops = (rest : List Op) → orderly code (at + length ops) false rest ≡ true → orderly code at false (ops ++ rest) ≡ true
 
   before-none : (at : ℕ) → Before at []
-  before-none at rest h = let same : at + 0 ≡ at = omega arith in subst (λ k. orderly code k rest ≡ true) same h
+  before-none at rest h = let same : at + 0 ≡ at = omega arith in subst (λ k. orderly code k false rest ≡ true) same h
 
   -- one that works on the stack alone
   before-one : (o : Op) → manner o ≡ Computes → (at : ℕ) → Before at (o ∷ [])
-  before-one o is at rest h = ap (λ m. orderly_by code at m rest (calm code rest) (orderly code (at + 1) rest)) is ∙ h
+  before-one o is at rest h =
+      ap (λ m. orderly_by code at false m rest (calm code (room_behind m false) rest) (orderly code (at + 1) (room_behind m false) rest)) is ∙ h
 
   before-append : (xs ys : List Op) (at : ℕ) → Before at xs → Before (at + length xs) ys → Before at (xs ++ ys)
   before-append xs ys at a b rest h =
       let same : at + length (xs ++ ys) ≡ at + length xs + length ys = omega (arith, length-append xs ys) in
-      ap (orderly code at) (append_assoc xs ys rest) ∙ a (ys ++ rest) (b rest (subst (λ k. orderly code k rest ≡ true) same h))
+      ap (orderly code at false) (append_assoc xs ys rest) ∙ a (ys ++ rest) (b rest (subst (λ k. orderly code k false rest ≡ true) same h))
 
   -- one that passes over the others
   before-choice : (o : Op) (end : ℕ) (ops : List Op) (at : ℕ) → manner o ≡ Passes end → end ≡ at + 1 + length ops → AllCompute ops
@@ -89,8 +90,10 @@ module _ (code : List Op) where
   before-choice o end ops at is e all go rest h =
       let n : end - (at + 1) ≡ length ops = omega (arith, e) in
       let same : at + length (o ∷ ops) ≡ at + 1 + length ops = omega arith in
-      ap (λ m. orderly_by code at m (ops ++ rest) (calm code (ops ++ rest)) (orderly code (at + 1) (ops ++ rest))) is
-      ∙ and_both _ _ (ap (λ k. all_compute k (ops ++ rest)) n ∙ compute-front ops rest all) (go rest (subst (λ k. orderly code k rest ≡ true) same h))
+      ap (λ m. orderly_by code at false m (ops ++ rest) (calm code (room_behind m false) (ops ++ rest))
+      (orderly code (at + 1) (room_behind m false) (ops ++ rest))) is
+      ∙ and_both _ _ (ap (λ k. all_compute k (ops ++ rest)) n ∙ compute-front ops rest all)
+      (go rest (subst (λ k. orderly code k false rest ≡ true) same h))
 
   before-more : (o : Op) → manner o ≡ Computes → (ops : List Op) (at : ℕ) → Before at ops → Before at (ops ++ o ∷ [])
   before-more o is ops at go = before-append ops (o ∷ []) at go (before-one o is (at + length ops))
@@ -150,17 +153,17 @@ module _ (code : List Op) where
 
   -- in front of what is calm
   abbrev pub Quiet : (at : ℕ) → List Op → Type 0
-  Quiet at ops = (rest : List Op) → calm code rest ≡ true → orderly code at (ops ++ rest) ≡ true
+  Quiet at ops = (rest : List Op) → calm code false rest ≡ true → orderly code at false (ops ++ rest) ≡ true
 
   pub quiet-append : (xs ys : List Op) (at : ℕ) → Before at xs → Quiet (at + length xs) ys → Quiet at (xs ++ ys)
-  quiet-append xs ys at a b rest h = ap (orderly code at) (append_assoc xs ys rest) ∙ a (ys ++ rest) (b rest h)
+  quiet-append xs ys at a b rest h = ap (orderly code at false) (append_assoc xs ys rest) ∙ a (ys ++ rest) (b rest h)
 
-  pub calm-clears : (us : List ℕ) (rest : List Op) → calm code rest ≡ true → calm code (clears us ++ rest) ≡ true
-  calm-clears [] rest h = h
-  calm-clears (u ∷ us) rest h = calm-clears us rest h
+  pub calm-clears : (room : Truth) (us : List ℕ) (rest : List Op) → calm code room rest ≡ true → calm code room (clears us ++ rest) ≡ true
+  calm-clears room [] rest h = h
+  calm-clears room (u ∷ us) rest h = calm-clears room us rest h
 
   pub quiet-clears : (us : List ℕ) (at : ℕ) → Quiet at (clears us)
-  quiet-clears us at rest h = calm-orderly code at (clears us ++ rest) (calm-clears us rest h)
+  quiet-clears us at rest h = calm-orderly code at false (clears us ++ rest) (calm-clears false us rest h)
 
   pub quiet-whole : (classes : List Class) (scope : Scope) (at : ℕ) (e : Expr) → Quiet at (whole_code classes scope at e)
   quiet-whole classes scope at e =
@@ -177,8 +180,9 @@ module _ (code : List Op) where
       quiet-append receiver (exprs ++ i.Room ∷ last) at (before-more i.Check refl path at
       (before-path classes scope c.target.base c.target.fields at))
       (quiet-append exprs (i.Room ∷ last) (at + length receiver) (before-exprs classes scope (at + length receiver) c.args)
-      (λ rest h. calm-orderly code (at + length receiver + length exprs + 1) (last ++ rest)
-      (ap (calm code) (append_assoc (clears (used_by_all scope c.args)) calls rest) ∙ calm-clears (used_by_all scope c.args) (calls ++ rest) refl)))
+      (λ rest h. calm-orderly code (at + length receiver + length exprs + 1) true (last ++ rest)
+      (ap (calm code true) (append_assoc (clears (used_by_all scope c.args)) calls rest)
+      ∙ calm-clears true (used_by_all scope c.args) (calls ++ rest) refl)))
 
   pub quiet-right : (classes : List Class) (scope : Scope) (at : ℕ) (r : Right) → Quiet at (right_code classes scope at r)
   quiet-right classes scope at (value e) = quiet-whole classes scope at e
@@ -188,11 +192,11 @@ module _ (code : List Op) where
   quiet-right classes scope at (freeze y) = λ rest h. h
   quiet-right classes scope at (merge y) = λ rest h. h
   quiet-right classes scope at read = λ rest h. h
-  quiet-right classes scope at more = λ rest h. calm-orderly code (at + 1) rest h
+  quiet-right classes scope at more = λ rest h. calm-orderly code (at + 1) false rest h
   quiet-right classes scope at (result_of c) = quiet-call classes scope at c
 
   -- what comes last
-  pub calm-pace : (r : Right) (rest : List Op) → calm code rest ≡ true → calm code (pace_code r ++ rest) ≡ true
+  pub calm-pace : (r : Right) (rest : List Op) → calm code false rest ≡ true → calm code false (pace_code r ++ rest) ≡ true
   calm-pace (value e) rest h = h
   calm-pace (new x) rest h = h
   calm-pace (new_tmp x) rest h = h
@@ -203,9 +207,9 @@ module _ (code : List Op) where
   calm-pace more rest h = h
   calm-pace (result_of c) rest h = h
 
-  pub calm-assign : (scope : Scope) (x : Variable) (rest : List Op) → calm code rest ≡ true → calm code (assign_op scope x ∷ rest) ≡ true
+  pub calm-assign : (scope : Scope) (x : Variable) (rest : List Op) → calm code false rest ≡ true → calm code false (assign_op scope x ∷ rest) ≡ true
   calm-assign scope x rest h = by (is_iso (type_in scope x))
     where
-      by : (b : Truth) → calm code ((if b then i.Own (slot_of scope x) else i.Store (slot_of scope x)) ∷ rest) ≡ true
+      by : (b : Truth) → calm code false ((if b then i.Own (slot_of scope x) else i.Store (slot_of scope x)) ∷ rest) ≡ true
       by true = h
       by false = h

@@ -131,9 +131,9 @@ module _ (classes : List Class) (code : Code) (r : Round) (store : List Seen) (s
       (step code (work r store slots managers input))
 
   -- `let x: T = r;`
-  pub sim_let : (x : Name) (t : Written) (right : Right) → Showing (declare x t right) → Opens classes code
+  pub declare-mirrors : (x : Name) (t : Written) (right : Right) → Showing (declare x t right) → Opens classes code
       → RightOwes classes store locals (scope_of locals) right → Simulated (declare x t right)
-  sim_let x t right h opens owes =
+  declare-mirrors x t right h opens owes =
       let ty = type_of classes t in
       let size = length slots in
       let ops = right_code classes scope (r.at + 1) right in
@@ -169,9 +169,9 @@ module _ (classes : List Class) (code : Code) (r : Round) (store : List Seen) (s
       (sym (append_assoc ops (i.Store k ∷ pace) tail)) ends)
 
   -- `x = r;`
-  pub sim_set : (x : Variable) (right : Right) → Showing (assign (record { base = x; fields = [] }) right) → Opens classes code
+  pub assign-mirrors : (x : Variable) (right : Right) → Showing (assign (record { base = x; fields = [] }) right) → Opens classes code
       → RightOwes classes store locals (scope_of locals) right → Has locals x → Simulated (assign (record { base = x; fields = [] }) right)
-  sim_set x right h opens owes has =
+  assign-mirrors x right h opens owes has =
       let size = length slots in
       let ops = right_code classes scope (r.at + 1) right in
       let o = assign_op scope x in
@@ -205,12 +205,12 @@ module _ (classes : List Class) (code : Code) (r : Round) (store : List Seen) (s
       right) (walk code l (r.at + 1) 0 [] (work r store slots managers input))) (sym (append_assoc ops (o ∷ pace) tail)) ends)
 
   -- `q.f = r;`
-  pub sim_put : (x : Variable) (f : Name) (fs : List Name) (right : Right) → Showing (assign (record { base = x; fields = f ∷ fs }) right)
+  pub put-mirrors : (x : Variable) (f : Name) (fs : List Name) (right : Right) → Showing (assign (record { base = x; fields = f ∷ fs }) right)
       → Opens classes code → RightOwes classes store locals (scope_of locals) right
       → FollowsPath classes store locals (scope_of locals) (record { base = x; fields = all_but_last f fs })
       → HolderOwes classes store locals (scope_of locals) x f fs
       → Simulated (assign (record { base = x; fields = f ∷ fs }) right)
-  sim_put x f fs right h opens owes follows holds =
+  put-mirrors x f fs right h opens owes follows holds =
       let size = length slots in
       let q : Path = record { base = x; fields = all_but_last f fs } in
       let path = holder_code classes scope x f fs in

@@ -18,6 +18,7 @@ use Rattle.rg_code.specs.declared.op.Op.TheVariants as i
 use Rattle.rg_code.specs.Code.{Code}
 use Rattle.rg_code.specs.Lowering.{Scope, used_slots, whole_code, block_code}
 use Rattle.rg_code.specs.Places.{StandsIn, is_mark, behind_end, scope_of, Level, Lies}
+use Rattle.rg_stack.proofs.Basics.{is_halt}
 use Rattle.rg_stack.specs.Machine.{ended_slots}
 use Rattle.rg_stack.specs.Effects.{Work, Walked, Stops, walk}
 use Rattle.rg_stack.specs.Runs.{step, step_from}
@@ -91,12 +92,6 @@ ended-length (suc k) (s ∷ ss) =
     let e : length (s ∷ ss) - suc k ≡ length ss - k = omega arith in
     ap (λ n. suc (length (take k ss ++ replicate n val.Nil))) e ∙ ap suc (ended-length k ss)
 
--- a `halt`
-abbrev is_halt : Option Op → Truth
-is_halt None = false
-is_halt (Some i.Halt) = true
-is_halt (Some o) = false
-
 module _ (classes : List Class) (code : Code) (r : Round) (store : List Seen) (slots : List Val) (locals : List Local) (managers : List Manager)
     (input : List ℕ) (line : ℕ) where
   abbrev scope : Scope
@@ -148,8 +143,8 @@ module _ (classes : List Class) (code : Code) (r : Round) (store : List Seen) (s
       (subst (λ o. Lies classes code.ops ls (j ∷ rest) (behind_end o n)) (sym (first-drop code.ops n)) lies) go
 
   -- the end of a block, wherever it leads
-  pub sim_end : (k : ℕ) (rest : List Item) → Showing (EndAt k ∷ rest) → Simulated (EndAt k ∷ rest)
-  sim_end k rest h =
+  pub end-mirrors : (k : ℕ) (rest : List Item) → Showing (EndAt k ∷ rest) → Simulated (EndAt k ∷ rest)
+  end-mirrors k rest h =
       let after = state r store (take k locals) managers input rest in
       let w = work r store (ended_slots k slots) managers input in
       let marked = mark-there code.ops r.at h.places.0 in
@@ -168,8 +163,8 @@ module _ (classes : List Class) (code : Code) (r : Round) (store : List Seen) (s
       (subst (λ s. Lies classes code.ops (level r s (length slots) ∷ levels) rest end) names lies)))))
 
   -- `collect;` changes nothing
-  pub sim_collect : (j : Item) (rest : List Item) → Showing (Do (stmt line collect) ∷ j ∷ rest) → Simulated (Do (stmt line collect) ∷ j ∷ rest)
-  sim_collect j rest h =
+  pub collect-mirrors : (j : Item) (rest : List Item) → Showing (Do (stmt line collect) ∷ j ∷ rest) → Simulated (Do (stmt line collect) ∷ j ∷ rest)
+  collect-mirrors j rest h =
       let end = r.at + 2 in
       let there : r.at + 1 + 1 ≡ end = omega arith in
       statement_step classes code r store slots locals managers input line collect (i.Collect ∷ []) (j ∷ rest) h.places.0.0
@@ -233,10 +228,10 @@ module _ (classes : List Class) (code : Code) (r : Round) (store : List Seen) (s
       (subst (λ s. Lies classes code.ops (level r s (length slots) ∷ levels) (j ∷ rest) end) (sym m.scope_is) lies)
 
   -- `if e { .. }`
-  pub sim_if : (e : Expr) (b : Block) (j : Item) (rest : List Item) → Showing (Do (stmt line (branch e b no_else)) ∷ j ∷ rest)
+  pub branch-mirrors : (e : Expr) (b : Block) (j : Item) (rest : List Item) → Showing (Do (stmt line (branch e b no_else)) ∷ j ∷ rest)
       → Agrees classes store locals (scope_of locals) e → AllGoOn b
       → Simulated (Do (stmt line (branch e b no_else)) ∷ j ∷ rest)
-  sim_if e b j rest h agrees goes =
+  branch-mirrors e b j rest h agrees goes =
       let item = Do (stmt line (branch e b no_else)) in
       let test = whole_code classes scope (r.at + 1) e in
       let inside = r.at + 1 + length test + 1 in
@@ -280,10 +275,10 @@ module _ (classes : List Class) (code : Code) (r : Round) (store : List Seen) (s
       (over_block e (item ∷ j ∷ rest) j rest (inside + length inner) end h behind h.places.1))))
 
   -- `if e { .. } else { .. }`
-  pub sim_if_else : (e : Expr) (b c : Block) (j : Item) (rest : List Item) → Showing (Do (stmt line (branch e b (otherwise c))) ∷ j ∷ rest)
+  pub branch-else-mirrors : (e : Expr) (b c : Block) (j : Item) (rest : List Item) → Showing (Do (stmt line (branch e b (otherwise c))) ∷ j ∷ rest)
       → Agrees classes store locals (scope_of locals) e → AllGoOn b → AllGoOn c
       → Simulated (Do (stmt line (branch e b (otherwise c))) ∷ j ∷ rest)
-  sim_if_else e b c j rest h agrees goes also =
+  branch-else-mirrors e b c j rest h agrees goes also =
       let item = Do (stmt line (branch e b (otherwise c))) in
       let test = whole_code classes scope (r.at + 1) e in
       let inside = r.at + 1 + length test + 1 in
@@ -357,10 +352,10 @@ module _ (classes : List Class) (code : Code) (r : Round) (store : List Seen) (s
       (into_block e c (item ∷ j ∷ rest) (length scope) other_at h refl (j ∷ rest) other_body))))
 
   -- `while e { .. }`
-  pub sim_while_any : (e : Expr) (b : Block) (j : Item) (rest : List Item) → Showing (Do (stmt line (while e b)) ∷ j ∷ rest)
+  pub while-mirrors : (e : Expr) (b : Block) (j : Item) (rest : List Item) → Showing (Do (stmt line (while e b)) ∷ j ∷ rest)
       → Agrees classes store locals (scope_of locals) e → AllGoOn b
       → Simulated (Do (stmt line (while e b)) ∷ j ∷ rest)
-  sim_while_any e b j rest h agrees goes =
+  while-mirrors e b j rest h agrees goes =
       let item = Do (stmt line (while e b)) in
       let test = whole_code classes scope (r.at + 1) e in
       let inside = r.at + 1 + length test + 1 in
@@ -405,9 +400,9 @@ module _ (classes : List Class) (code : Code) (r : Round) (store : List Seen) (s
       (over_block e (item ∷ j ∷ rest) j rest (inside + length inner) end h behind h.places.1))))
 
   -- `print e;`
-  pub sim_print_any : (e : Expr) (j : Item) (rest : List Item) → Showing (Do (stmt line (print e)) ∷ j ∷ rest)
+  pub print-mirrors : (e : Expr) (j : Item) (rest : List Item) → Showing (Do (stmt line (print e)) ∷ j ∷ rest)
       → Agrees classes store locals (scope_of locals) e → Simulated (Do (stmt line (print e)) ∷ j ∷ rest)
-  sim_print_any e j rest h agrees =
+  print-mirrors e j rest h agrees =
       let item = Do (stmt line (print e)) in
       let whole = whole_code classes scope (r.at + 1) e in
       let more = whole ++ i.Print ∷ [] in

@@ -300,8 +300,8 @@ module _ (classes : List Class) (code : Code) (j : Item) (rest : List Item) wher
     Owed = CallOwes r store slots locals c (target_class classes (scope_of locals) c) m e
 
     -- `call q.m(a, b);`
-    pub sim_call_any : Showing (call c) → Owed → Simulated (call c)
-    sim_call_any h owes =
+    pub call-mirrors : Showing (call c) → Owed → Simulated (call c)
+    call-mirrors h owes =
         let scope = scope_of locals in
         let top = level r scope (length slots) in
         let levels = levels_of r.frames r.bodies in
@@ -327,9 +327,9 @@ module _ (classes : List Class) (code : Code) (j : Item) (rest : List Item) wher
         (round_of classes code r store slots locals managers input (Do (stmt line (call c)) ∷ j ∷ rest) h) owes behind))
 
     -- `let x: T = call q.m(a, b);`
-    pub sim_let_call : (x : Name) (t u : Written) → Showing (declare x t (result_of c)) → Owed → m.result ≡ Some u
+    pub declare-call-mirrors : (x : Name) (t u : Written) → Showing (declare x t (result_of c)) → Owed → m.result ≡ Some u
         → Simulated (declare x t (result_of c))
-    sim_let_call x t u h owes gives =
+    declare-call-mirrors x t u h owes gives =
         let scope = scope_of locals in
         let top = level r scope (length slots) in
         let levels = levels_of r.frames r.bodies in
@@ -354,9 +354,10 @@ module _ (classes : List Class) (code : Code) (j : Item) (rest : List Item) wher
         (subst (λ k. Behind k target back (top ∷ levels)) (sym gives) behind)))
 
     -- `x = call q.m(a, b);`
-    pub sim_set_call : (x : Variable) (u : Written) → Showing (assign (record { base = x; fields = [] }) (result_of c)) → Owed → m.result ≡ Some u
+    pub assign-call-mirrors : (x : Variable) (u : Written) → Showing (assign (record { base = x; fields = [] }) (result_of c)) → Owed → m.result
+        ≡ Some u
         → Simulated (assign (record { base = x; fields = [] }) (result_of c))
-    sim_set_call x u h owes gives =
+    assign-call-mirrors x u h owes gives =
         let scope = scope_of locals in
         let top = level r scope (length slots) in
         let levels = levels_of r.frames r.bodies in

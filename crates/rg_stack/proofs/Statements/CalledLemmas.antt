@@ -1,5 +1,5 @@
 -- The values of arguments, on the stack, in parameters and in the frame that a call makes.
-use Rattle.std.proofs.Common.{◌≡◌, ℕ, suc, true, false, true≢false, List, [], ◌∷◌, ◌++◌, length, map, reverse, take, Some, Result, Ok, Err, refl}
+use Rattle.std.proofs.Common.{◌≡◌, ℕ, suc, List, [], ◌∷◌, ◌++◌, length, map, reverse, take, Some, Result, Ok, Err, refl}
 use Rattle.std.proofs.Common.{sym, ap, ◌∙◌, arith, append_assoc, append-nil, length-append}
 use Rattle.std.proofs.lemmas.List.{reverse-append, reverse-reverse, length-reverse}
 use Rattle.std.proofs.Math.Seq.{take-append_seam}
@@ -15,15 +15,10 @@ use Rattle.rg_rules.specs.Evaluation.{value_of, values_of}
 use Rattle.rg_rules.specs.RightSides.{bound}
 use Rattle.rg_code.specs.Lowering.{Scope, with_slot, with_params}
 use Rattle.rg_code.specs.Places.{scope_of}
+use Rattle.rg_stack.proofs.Basics.{ok-is, err-ok}
 use Rattle.rg_stack.specs.Machine.{Window}
 use Rattle.rg_stack.specs.Shows.{ShowsWindows}
 use Rattle.rg_stack.proofs.Walks.FrameLemmas.{OpenedBelow, place_below}
-
-ok-is : {A : Type 0} (a b : A) → ◌≡◌ {A = Result A Trap} (Ok a) (Ok b) → a ≡ b
-ok-is a b e = ap (λ r. elim r [ Ok x ↦ x | Err t ↦ a ]) e
-
-err-ok : {A : Type 0} (t : Trap) (a : A) → ◌≡◌ {A = Result A Trap} (Err t) (Ok a) → ⊥
-err-ok t a e = true≢false (sym (ap (λ r. elim r [ Ok x ↦ true | Err t ↦ false ]) e))
 
 length_by : (c : Computed) (r : Result (List Val) Trap) (vs : List Val) (n : ℕ) → ◌>>=◌ c (λ v. ◌>>=◌ r (λ us. Ok (v ∷ us))) ≡ Ok vs
     → ((us : List Val) → r ≡ Ok us → length us ≡ n) → length vs ≡ suc n

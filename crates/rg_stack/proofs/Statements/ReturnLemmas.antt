@@ -112,7 +112,7 @@ above r slots locals back target = record r {
 }
 
 -- `return e;`: r is what stands round the frame that called
-pub sim_return : (classes : List Class) (code : Code) (r : Round) (slots under : List Val) (locals callers : List Local) (back : ℕ)
+pub return-mirrors : (classes : List Class) (code : Code) (r : Round) (slots under : List Val) (locals callers : List Local) (back : ℕ)
     (target : Target) (store : List Seen) (managers : List Manager) (input : List ℕ) (line : ℕ) (e : Expr) (j : Item) (rest : List Item)
     → Mirrors classes code (work (above r under callers back target) store slots managers input).machine
     (state (above r under callers back target) store locals managers input (Do (stmt line (return e)) ∷ j ∷ rest))
@@ -122,7 +122,7 @@ pub sim_return : (classes : List Class) (code : Code) (r : Round) (slots under :
     → TargetHas target callers
     → SameMove classes code r.output (next classes (state (above r under callers back target) store locals managers input
     (Do (stmt line (return e)) ∷ j ∷ rest))) (step code (work (above r under callers back target) store slots managers input))
-sim_return classes code r slots under locals callers back target store managers input line e j rest h agrees below begins has =
+return-mirrors classes code r slots under locals callers back target store managers input line e j rest h agrees below begins has =
     let a = above r under callers back target in
     let scope = scope_of locals in
     let whole = whole_code classes scope (r.at + 1) e in
@@ -148,7 +148,7 @@ sim_return classes code r slots under locals callers back target store managers 
     (taken_lands classes code r store under callers managers input j rest target back v h.slots.1.0 round has h.places.1))))
 
 -- the end of a method without a result
-pub sim_back : (classes : List Class) (code : Code) (store : List Seen) (mf mg : Frame) (mfs : List Frame) (ws : List Window)
+pub back-mirrors : (classes : List Class) (code : Code) (store : List Seen) (mf mg : Frame) (mfs : List Frame) (ws : List Window)
     (managers : List Manager) (made at : ℕ) (input : List ℕ) (f g : Body) (fs : List Body) (pws : List Opened) (output : List Val) (j : Item)
     (rest : List Item)
     → Mirrors classes code (work_of store (mf ∷ mg ∷ mfs) ws managers made at input).machine
@@ -157,7 +157,7 @@ pub sim_back : (classes : List Class) (code : Code) (store : List Seen) (mf mg :
     → begins_by ws (slots_below (mg ∷ mfs)) ≡ true
     → SameMove classes code output (next classes (state_of store (f ∷ g ∷ fs) pws managers made input output (Back ∷ j ∷ rest)))
     (step code (work_of store (mf ∷ mg ∷ mfs) ws managers made at input))
-sim_back classes code store mf mg mfs ws managers made at input f g fs pws output j rest h below begins =
+back-mirrors classes code store mf mg mfs ws managers made at input f g fs pws output j rest h below begins =
     let w = work_of store (mf ∷ mg ∷ mfs) ws managers made at input in
     let x = work_of store (mg ∷ mfs) ws managers made at input in
     let levels = levels_of (mg ∷ mfs) (g ∷ fs) in

@@ -113,11 +113,12 @@ module _ (classes : List Class) (code : Code) (r : Round) (store : List Seen) (s
       (step code (work r store slots managers input))
 
   -- `swap y, q.f;`
-  pub sim_swap : (y : Name) (x : Variable) (f : Name) (fs : List Name) → Showing (swap y (record { base = x; fields = f ∷ fs })) → Has locals (Some y)
+  pub swap-mirrors : (y : Name) (x : Variable) (f : Name) (fs : List Name) → Showing (swap y (record { base = x; fields = f ∷ fs }))
+      → Has locals (Some y)
       → FollowsPath classes store locals (scope_of locals) (record { base = x; fields = all_but_last f fs })
       → HolderOwes classes store locals (scope_of locals) x f fs
       → Simulated (swap y (record { base = x; fields = f ∷ fs }))
-  sim_swap y x f fs h has follows holds =
+  swap-mirrors y x f fs h has follows holds =
       let size = length slots in
       let q : Path = record { base = x; fields = all_but_last f fs } in
       let path = holder_code classes scope x f fs in
@@ -244,10 +245,10 @@ module _ (classes : List Class) (code : Code) (r : Round) (store : List Seen) (s
       × (o.class ≡ class_of classes (type_along classes (type_in (scope_of locals) p.base) p.fields))
 
   -- `enter x as z { .. }`
-  pub sim_enter : (x : Variable) (z : Name) (b : Block) → Showing (enter (record { base = x; fields = [] }) z b) → AllGoOn b
+  pub enter-mirrors : (x : Variable) (z : Name) (b : Block) → Showing (enter (record { base = x; fields = [] }) z b) → AllGoOn b
       → begins_by r.windows (slots_below r.frames + length locals) ≡ true → BridgeOwes (record { base = x; fields = [] }) (value_in locals x)
       → Simulated (enter (record { base = x; fields = [] }) z b)
-  sim_enter x z b h goes begins owes =
+  enter-mirrors x z b h goes begins owes =
       let p : Path = record { base = x; fields = [] } in
       let s = slot_of scope x in
       let k = length scope in
@@ -280,14 +281,14 @@ module _ (classes : List Class) (code : Code) (r : Round) (store : List Seen) (s
       opens p z b front mine shown bridge o owed.0.0 h refl owner owed.0.1 owed.1 goes room)))))
 
   -- `enter q.f as z { .. }`
-  pub sim_enter_field : (x : Variable) (f : Name) (fs : List Name) (z : Name) (b : Block)
+  pub enter-field-mirrors : (x : Variable) (f : Name) (fs : List Name) (z : Name) (b : Block)
       → Showing (enter (record { base = x; fields = f ∷ fs }) z b) → AllGoOn b → begins_by r.windows (slots_below r.frames + length locals) ≡ true
       → FollowsPath classes store locals (scope_of locals) (record { base = x; fields = all_but_last f fs })
       → HolderOwes classes store locals (scope_of locals) x f fs
       → ((u : Val) (o : Seen) → path_value classes store locals (record { base = x; fields = all_but_last f fs }) ≡ Ok u → object_at store u ≡ Ok o
       → BridgeOwes (record { base = x; fields = f ∷ fs }) (field_value classes o (last_field f fs)))
       → Simulated (enter (record { base = x; fields = f ∷ fs }) z b)
-  sim_enter_field x f fs z b h goes begins follows holds owes =
+  enter-field-mirrors x f fs z b h goes begins follows holds owes =
       let p : Path = record { base = x; fields = f ∷ fs } in
       let q : Path = record { base = x; fields = all_but_last f fs } in
       let path = holder_code classes scope x f fs in
@@ -343,14 +344,14 @@ module _ (classes : List Class) (code : Code) (r : Round) (store : List Seen) (s
       opens p z b front mine shown bridge c owed.0.0 h refl owner owed.0.1 owed.1 goes room))))))))
 
 -- the end of the block of an `enter`; r is what stands round it, beneath its window
-pub sim_leave : (classes : List Class) (code : Code) (r : Round) (store : List Seen) (slots : List Val) (locals : List Local)
+pub leave-mirrors : (classes : List Class) (code : Code) (r : Round) (store : List Seen) (slots : List Val) (locals : List Local)
     (managers : List Manager) (input : List ℕ) (v w : Window) (ws : List Window) (p q : Opened) (ps : List Opened) (k : ℕ) (j : Item)
     (rest : List Item)
     → Mirrors classes code (work (record r { windows = v ∷ w ∷ ws; opened = p ∷ q ∷ ps }) store slots managers input).machine
     (state (record r { windows = v ∷ w ∷ ws; opened = p ∷ q ∷ ps }) store locals managers input (LeaveAt k ∷ j ∷ rest))
     → SameMove classes code r.output (next classes (state (record r { windows = v ∷ w ∷ ws; opened = p ∷ q ∷ ps }) store locals managers input
     (LeaveAt k ∷ j ∷ rest))) (step code (work (record r { windows = v ∷ w ∷ ws; opened = p ∷ q ∷ ps }) store slots managers input))
-sim_leave classes code r store slots locals managers input v w ws p q ps k j rest h =
+leave-mirrors classes code r store slots locals managers input v w ws p q ps k j rest h =
     let before = record r { windows = v ∷ w ∷ ws; opened = p ∷ q ∷ ps } in
     let inner = record r { windows = w ∷ ws; opened = q ∷ ps } in
     let after = state inner store (take k locals) managers input (j ∷ rest) in

@@ -1,5 +1,5 @@
 -- The code of each method stands at its entry.
-use Rattle.std.proofs.Common.{◌≡◌, ℕ, zero, suc, ◌+◌, List, [], ◌∷◌, ◌++◌, length, drop, Some, None, refl, sym, ap, subst, ◌∙◌, arith, append_assoc}
+use Rattle.std.proofs.Common.{◌≡◌, ℕ, zero, suc, ◌+◌, List, [], ◌∷◌, ◌++◌, length, drop, Some, refl, sym, ap, subst, ◌∙◌, arith, append_assoc}
 use Rattle.std.proofs.Common.{length-append, slice_get}
 use Rattle.std.proofs.lemmas.Option.{none-some}
 use Rattle.std.proofs.Math.Seq.{drop-append_seam}
@@ -8,6 +8,7 @@ use Rattle.rg_code.specs.declared.op.Op.{Op}
 use Rattle.rg_code.specs.declared.code.Entry.{Entry}
 use Rattle.rg_code.specs.Lowering.{Methods, methods_among, method_place, method_number, method_code, members_code, methods_code, slots_of}
 use Rattle.rg_code.specs.Places.{Stands}
+use Rattle.rg_stack.proofs.Basics.{some-is}
 use Rattle.rg_stack.proofs.Walks.PlaceLemmas.{stands-of}
 
 -- a method of the class of a number has an entry of a number among these, at which its code stands behind a front
@@ -17,9 +18,6 @@ pub record HasEntry (classes : List Class) (c : ℕ) (m : Method) (front : List 
   pub stands : Stands (front ++ r.ops) entry.at (method_code classes entry.at c m)
   pub given : entry.given ≡ suc (length m.params)
   pub slots : entry.slots ≡ slots_of (suc (length m.params)) (method_code classes entry.at c m)
-
-some-is : {A : Type 0} (a b : A) → Some a ≡ Some b → a ≡ b
-some-is a b e = ap (λ o. elim o [ Some x ↦ x | None ↦ a ]) e
 
 -- among the members of a class
 pub entry_among : (classes : List Class) (ms : List Member) (at c k : ℕ) (go : ℕ → Methods) (front : List Op) (m : Method) → length front ≡ at

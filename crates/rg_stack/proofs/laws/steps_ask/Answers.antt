@@ -1,0 +1,5 @@
+use Rattle.rg_stack.proofs.Callers.ReadLemmas.{steps-ask}
+use Rattle.rg_stack.proofs.laws.steps_ask.Goals as goal
+
+pub returns : goal.returns
+returns c = steps-ask
