@@ -22,6 +22,8 @@ mod programs;
 #[cfg(test)]
 mod regions;
 #[cfg(test)]
+mod release;
+#[cfg(test)]
 mod report;
 #[cfg(test)]
 mod streams;

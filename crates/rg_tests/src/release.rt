@@ -1,0 +1,49 @@
+//! Regions a thousand deep are released at once (docs/architecture.md, "Release").
+
+ghost use Rattle.std.specs.Prelude.{◌≡◌, ◌+◌, IfOk, OnOk};
+ghost use Rattle.rg_regions.specs.Grove.{Grove};
+ghost use Rattle.rg_tests.specs.Tops.{IsTop, LeadsToTop};
+
+use rg_base::{Label, Manager, Word};
+use rg_cells::Cells;
+use rg_regions::Regions;
+use rg_release::release;
+use std::test::*;
+
+const DEPTH: u64 = 1000;
+
+// A region comes, with a cell that is its bridge; the cell's field leads to the region that came
+// before.
+fn add_top(cells: &mut Cells, regions: &mut Regions, word: Word) -> Result<(usize, usize), Fail>
+    requires grove { Grove cells.old regions.old }
+    requires owns { LeadsToTop cells.old regions.old word }
+    ensures grove { OnOk result (Grove cells.new regions.new) }
+    ensures top { IfOk result (λ made.
+        IsTop cells.new regions.new regions.old.next made.0 made.1) }
+    ensures next { OnOk result (regions.new.next ≡ regions.old.next + 1) }
+{
+    let key = regions.add(Manager::Trace)?;
+    let number = regions.number(key);
+    regions.reserve(key, 1)?;
+    let bridge = cells.make(0, Label::Region(number), &[word])?;
+    regions.set_bridge(key, bridge);
+    regions.push_member(key, bridge);
+    Ok((key, bridge))
+}
+
+// Region 0 stays, and of the chain of owners above it the first one is released.
+#[test]
+fn a_thousand_regions_go_at_once(rt: HostRuntime) -> Result<(), Fail> {
+    let mut cells = Cells::new(rt.alloc());
+    let mut regions = Regions::new(rt.alloc());
+    add_top(&mut cells, &mut regions, Word::Nil)?;
+    let mut top = add_top(&mut cells, &mut regions, Word::Nil)?;
+    'deeper: for _ in 1..DEPTH {
+        top = add_top(&mut cells, &mut regions, Word::Slot(top.1))?;
+    }
+    assert_eq!(rt; (cells.held(), regions.count()), (1001, 1001));
+    let released = release(&mut cells, &mut regions, top.0);
+    assert_eq!(rt; (released, regions.count(), regions.key(0)), (DEPTH, 1, Some(0)));
+    assert_eq!(rt; (cells.held(), cells.find(0), cells.high()), (1, Some(0), 1001));
+    Ok(())
+}
