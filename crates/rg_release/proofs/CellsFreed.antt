@@ -28,7 +28,7 @@ count-freed (x ∷ xs) zero o e = rw e
 count-freed (x ∷ xs) (suc s) o e =
     let ih : count_by is_some (set xs s (Some None)) ≡ count_by is_some xs = count-freed xs s o e in
     sum_by-cons (λ y. cond (is_some y) 1 0) x (set xs s (Some None)) ∙ ap (λ n. cond (is_some x) 1 0 + n) ih
-        ∙ sym (sum_by-cons (λ y. cond (is_some y) 1 0) x xs)
+    ∙ sym (sum_by-cons (λ y. cond (is_some y) 1 0) x xs)
 
 held_once : (h : Heap) (s : ℕ) → IsHeld h s → (o : Option Body) × (get_or h.slots s None ≡ Some o)
 held_once h s l = by_slot (get_or h.slots s None) l
@@ -60,11 +60,11 @@ freed_more old t members i held f =
     let here : body_at (freed_from t s).heap s ≡ None = none_here h.slots s in
     let white : mark_at (freed_from t s) s ≡ 0 = zero_here t.marks s in
     let apart : (x : ℕ) → x ≢ s → IsSameCell t (freed_from t s) x =
-        λ x d. (
-          ap body_in (get_or-set_other h.slots s x (Some None) None d),
-          get_or-set_other t.marks s x 0 0 d,
-          get_or-set_other t.links s x None None d,
-        ) in
+    λ x d. (
+      ap body_in (get_or-set_other h.slots s x (Some None) None d),
+      get_or-set_other t.marks s x 0 0 d,
+      get_or-set_other t.links s x None None d,
+    ) in
     record {
       gone = λ j l. elim (cases_eq (get_or members j 0) s) [
         | inl e ↦ (ap (body_at (freed_from t s).heap) e ∙ here, ap (mark_at (freed_from t s)) e ∙ white)

@@ -38,8 +38,8 @@ module _ (c : Table) (t : RegionTable) (key : ℕ) (rec : Record) (cells : Table
   pub had_number : (k n : ℕ) → HasNumber regions k n → (k ≢ key) × HasNumber t k n
   had_number k n a =
       let d : k ≢ key = λ e.
-          let z : None ≡ Some n = sym (ap (option_map (λ (z : Record). z.number)) (ap (record_at regions) e ∙ w.removed)) ∙ a in
-          cc in
+      let z : None ≡ Some n = sym (ap (option_map (λ (z : Record). z.number)) (ap (record_at regions) e ∙ w.removed)) ∙ a in
+      cc in
       (d, sym (ap (option_map (λ (z : Record). z.number)) (w.stay k d)) ∙ a)
 
   pub keeps_number : (k n : ℕ) → k ≢ key → HasNumber t k n → HasNumber regions k n
@@ -60,13 +60,13 @@ module _ (c : Table) (t : RegionTable) (key : ℕ) (rec : Record) (cells : Table
       let lie : (q s : ℕ) → LiesIn cells.heap q s → LiesIn c.heap q s = λ q s l. (lay q s l).1 in
       let not : (q s : ℕ) → LiesIn cells.heap q s → q ≢ r = λ q s l. (lay q s l).0 in
       let fld : (s k : ℕ) (v : Word) → field_at cells.heap s k ≡ Some v → field_at c.heap s k ≡ Some v =
-          λ s k v f. field_before c.heap cells.heap s k v (fewer s) f in
+      λ s k v f. field_before c.heap cells.heap s k v (fewer s) f in
       let far : (s : ℕ) → (LiesIn c.heap r s → ⊥) → body_at cells.heap s ≡ body_at c.heap s = λ s n. (w.others s n).0 in
       let ice : (s : ℕ) → label_at c.heap s ≡ Some Frozen → label_at cells.heap s ≡ Some Frozen =
-          λ s l. ap (option_map (λ (b : Body). b.label)) (far s (λ i. let q : Some Frozen ≡ Some (Region r) = sym l ∙ i in cc)) ∙ l in
+      λ s l. ap (option_map (λ (b : Body). b.label)) (far s (λ i. let q : Some Frozen ≡ Some (Region r) = sym l ∙ i in cc)) ∙ l in
       let number_r : HasNumber t key r = number_of t key r rec e refl in
       let apart : (k : ℕ) (z : Record) → k ≢ key → record_at t k ≡ Some z → z.number ≢ r =
-          λ k z d a n. d (g.numbers k key r (number_of t k r z a n) number_r) in
+      λ k z d a n. d (g.numbers k key r (number_of t k r z a n) number_r) in
       record {
         numbers = λ k o n a b. g.numbers k o n (had_number k n a).1 (had_number o n b).1;
         members = λ k z a.
@@ -109,8 +109,8 @@ module _ (c : Table) (t : RegionTable) (key : ℕ) (rec : Record) (cells : Table
             let off = apart k z o.0 o.1 in
             let x : LiesIn c.heap z.number s = lie z.number s l in
             (w.others s (λ i. off (one_region c.heap s z.number r x i))).1
-                ∙ g.counts k s z o.1 m x
-                ∙ sym (referrers_kept c cells r z.number s off (λ n i. (w.gone n i).0) far);
+            ∙ g.counts k s z o.1 m x
+            ∙ sym (referrers_kept c cells r z.number s off (λ n i. (w.gone n i).0) far);
         unmarked = λ s n. elim (lies_or_not c.heap r s) [
           | inl out ↦ (w.others s out).1 ∙ g.unmarked s (λ k z a m l. elim (cases_eq k key) [
             | inl p ↦

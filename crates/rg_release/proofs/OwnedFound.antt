@@ -132,7 +132,7 @@ module _ (h : Heap) (r : ℕ) (members : List ℕ) where
           | inr a ↦
               let p : w.place ≡ i = elim (w.early) [ inl b ↦ omega (arith, a, b) | inr b ↦ absurd (omega (arith, b.1)) ] in
               let f : field_at h (get_or members i 0) w.field ≡ Some (Slot w.to) =
-                  ap (λ z. field_at h (get_or members z 0) w.field) (sym p) ∙ w.leads in
+              ap (λ z. field_at h (get_or members z 0) w.field) (sym p) ∙ w.leads in
               let b : w.field < width (body_at h (get_or members i 0)) = field_within h (get_or members i 0) w.field (Slot w.to) f in
               earlier (i + 1) 0 i k q w (inr (p, omega (arith, b, l)))
         ]
@@ -153,7 +153,7 @@ module _ (h : Heap) (r : ℕ) (members : List ℕ) where
               let L : ℕ → Type 0 = λ z. LiesIn h z e.2.to in
               let from = get_or members e.2.place 0 in
               let u = w.one q (get_or members i 0) k to from e.2.field e.2.to other (w.lie i l) leads lies
-                  (w.lie e.2.place e.2.within) e.2.leads (subst L same e.2.lies) in
+              (w.lie e.2.place e.2.within) e.2.leads (subst L same e.2.lies) in
               let p : i ≡ e.2.place = w.once i e.2.place l e.2.within u.0 in
               elim (e.2.early) [ inl a ↦ omega (arith, p, a) | inr b ↦ omega (arith, u.1, b.1) ]
         ] in
@@ -162,7 +162,7 @@ module _ (h : Heap) (r : ℕ) (members : List ℕ) where
         let D : Option ℕ → Type 0 = λ z. Chained (set now.links c.key head) z o.0 in
         let P : ℕ → Type 0 = λ z. Has o.0 z in
         let agree : (x : ℕ) → Has o.0 x → get_or (set now.links c.key head) x None ≡ get_or now.links x None =
-            λ x m. get_or-set_other now.links c.key x head None (λ e. fresh (subst P e m)) in (
+        λ x m. get_or-set_other now.links c.key x head None (λ e. fresh (subst P e m)) in (
           c.key ∷ o.0,
           record {
             records = ap (λ (z : RegionTable). z.records) c.new_is ∙ o.1.records;

@@ -83,7 +83,7 @@ pub fn chain_owned(
     requires labels { AllInTable cells.now.heap regions.old }
     ensures { (r : Record) → record_at regions.old key ≡ Some r
         → FollowsMembers cells.now.heap region r.members (length r.members)
-            regions.old regions.new head result }
+        regions.old regions.new head result }
 {
     for place in 0..regions.members(key).len() {
         let slot = regions.members(key)[place];

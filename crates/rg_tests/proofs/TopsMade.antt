@@ -30,7 +30,7 @@ module _ (c c2 : Table) (t t1 t2 t3 t4 : RegionTable) (key slot number room : �
   at_bridge : record_at t3 key ≡ Some (with_bridge slot (with_room room (fresh t m)))
   at_bridge =
       let at2 : record_at t2 key ≡ Some (with_room room (fresh t m)) =
-          ap (λ z. record_at z key) e2 ∙ changed_at t1 key (fresh t m) (with_room room) a.is in
+      ap (λ z. record_at z key) e2 ∙ changed_at t1 key (fresh t m) (with_room room) a.is in
       ap (λ z. record_at z key) e3 ∙ changed_at t2 key (with_room room (fresh t m)) (with_bridge slot) at2
 
   pub has_room : 1 ≤ room → (r : Record) × (record_at t3 key ≡ Some r) × (0 < r.room)
@@ -48,15 +48,15 @@ module _ (c c2 : Table) (t t1 t2 t3 t4 : RegionTable) (key slot number room : �
     others : (k : ℕ) → k ≢ key → record_at t4 k ≡ record_at t k
     others k d =
         ap (λ z. record_at z k) e4 ∙ changed_other t3 key (with_member slot) k d
-            ∙ ap (λ z. record_at z k) e3 ∙ changed_other t2 key (with_bridge slot) k d
-            ∙ ap (λ z. record_at z k) e2 ∙ changed_other t1 key (with_room room) k d
-            ∙ a.others k d
+        ∙ ap (λ z. record_at z k) e3 ∙ changed_other t2 key (with_bridge slot) k d
+        ∙ ap (λ z. record_at z k) e2 ∙ changed_other t1 key (with_room room) k d
+        ∙ a.others k d
 
     links : t4.links ≡ t1.links
     links =
         ap (λ (z : RegionTable). z.links) e4 ∙ (changed_links t3 key (with_member slot)).0
-            ∙ ap (λ (z : RegionTable). z.links) e3 ∙ (changed_links t2 key (with_bridge slot)).0
-            ∙ ap (λ (z : RegionTable). z.links) e2 ∙ (changed_links t1 key (with_room room)).0
+        ∙ ap (λ (z : RegionTable). z.links) e3 ∙ (changed_links t2 key (with_bridge slot)).0
+        ∙ ap (λ (z : RegionTable). z.links) e2 ∙ (changed_links t1 key (with_room room)).0
 
     field : (k to : ℕ) → slice_get b.fields k ≡ Some (Slot to) → (k ≡ 0) × (w ≡ Slot to)
     field k to e = only_word w (Slot to) k (sym (ap (λ ws. slice_get ws k) fields) ∙ e)

@@ -43,7 +43,13 @@ fn a_thousand_regions_go_at_once(rt: HostRuntime) -> Result<(), Fail> {
     }
     assert_eq!(rt; (cells.held(), regions.count()), (1001, 1001));
     let released = release(&mut cells, &mut regions, top.0);
-    assert_eq!(rt; (released, regions.count(), regions.key(0)), (DEPTH, 1, Some(0)));
-    assert_eq!(rt; (cells.held(), cells.find(0), cells.high()), (1, Some(0), 1001));
+    assert_eq!(rt;
+        (released, regions.count(), regions.key(0)),
+        (DEPTH, 1, Some(0))
+    );
+    assert_eq!(rt;
+        (cells.held(), cells.find(0), cells.high()),
+        (1, Some(0), 1001)
+    );
     Ok(())
 }

@@ -206,7 +206,7 @@ module _ (c : Table) (t : RegionTable) (cells : Table) (regions : RegionTable) (
   referrers_on q s d = total_alike (weight q s) refl c.heap.slots cells.heap.slots (λ n. elim (cases_eq n slot) [
     | inl e ↦
         let off : belongs q (body_at cells.heap n) ≡ false =
-            belongs_not q (body_at cells.heap n) (λ l. elim (lies_back q n l) [ inl y ↦ d y.0 | inr y ↦ y.1 e ]) in
+        belongs_not q (body_at cells.heap n) (λ l. elim (lies_back q n l) [ inl y ↦ d y.0 | inr y ↦ y.1 e ]) in
         weighs_none q s (body_at cells.heap n) off ∙ sym (ap (weight q s) (ap (body_at c.heap) e ∙ w.vacant))
     | inr a ↦ ap (weight q s) (same n a)
   ])
@@ -266,9 +266,9 @@ module _ (c : Table) (t : RegionTable) (cells : Table) (regions : RegionTable) (
     ];
     frozen = λ s k to l f.
         let d : s ≢ slot = λ e.
-            let P : ℕ → Type 0 = λ y. label_at cells.heap y ≡ Some Frozen in
-            let q : Some Frozen ≡ Some (Region rec.number) = sym (subst P e l) ∙ lies_new in
-            cc in
+        let P : ℕ → Type 0 = λ y. label_at cells.heap y ≡ Some Frozen in
+        let q : Some Frozen ≡ Some (Region rec.number) = sym (subst P e l) ∙ lies_new in
+        cc in
         label_on to Frozen (g.frozen s k to (label_back s Frozen d l) (field_back s k (Slot to) d f));
     fields = λ p s k to l f. elim (lies_back p s l) [
       | inl e ↦ elim (w.leads k to (field_new s k (Slot to) e.1 f)) [
@@ -332,12 +332,13 @@ module _ (c : Table) (t : RegionTable) (cells : Table) (regions : RegionTable) (
       | inl e ↦ ap (mark_at cells) e ∙ w.made.mark
       | inr d ↦
           w.made.marks s d
-              ∙ g.unmarked s (λ k z a m l. n k z (w.others k (other_key k z a) ∙ a) m (label_on s (Region z.number) l))
+          ∙ g.unmarked s (λ k z a m l. n k z (w.others k (other_key k z a) ∙ a) m (label_on s (Region z.number) l))
     ];
   }
     where
       was : (q s : ℕ) → q ≢ rec.number → LiesIn cells.heap q s → LiesIn c.heap q s
       was q s n l = elim (lies_back q s l) [ inl e ↦ absurd (n e.0) | inr x ↦ x.2 ]
+
       own : Members cells.heap rec.number rec.members
       own = let P : List ℕ → Type 0 = λ ms. Members cells.heap rec.number ms in subst P (sym w.members) (record {
         lie = λ i s q. let S : ℕ → Type 0 = λ y. LiesIn cells.heap rec.number y in subst S (sym (single slot i s q).1) lies_new;

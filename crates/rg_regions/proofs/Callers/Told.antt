@@ -47,6 +47,7 @@ lies_or_not h r s = by_body (body_at h s)
         number a b q = cc
     by_label (Temp n) = inl (λ e. cc)
     by_label Frozen = inl (λ e. cc)
+
     by_body : (b : Option Body)
         → (option_map (λ (b : Body). b.label) b ≡ Some (Region r) → ⊥) ⊎ (option_map (λ (b : Body). b.label) b ≡ Some (Region r))
     by_body None = inl (λ e. cc)

@@ -58,7 +58,7 @@ loop-place-preserved c = λ r e.
     let slot : ℕ = get_or c.members.result.now c.loop-place.place 0 in
     let is : get_or rec.members c.loop-place.place 0 ≡ slot = ap (λ (z : List ℕ). get_or z c.loop-place.place 0) now in
     let G : Record → Type 0 =
-        λ z. FollowsMembers h c.args.region z.members (c.loop-place.place + 1) old new c.args.head c.chain_fields-head.result in
+    λ z. FollowsMembers h c.args.region z.members (c.loop-place.place + 1) old new c.args.head c.chain_fields-head.result in
     subst G (one_record rec r (sym c.requires.there.1 ∙ e)) (members_more h c.args.region rec.members c.loop-place.place slot old
     c.loop-place.regions new c.args.head c.loop-place.head c.chain_fields-head.result c.requires.there.2 room is c.chain_fields-head.ensures inv)
 
@@ -70,8 +70,8 @@ returns c =
     let inv = c.loop-place.invariant rec c.requires.there.1 in
     let end = members_read old old c.args.key rec c.members-place-end.result.now refl c.requires.there.1 c.members-place-end.ensures in
     let all : c.loop-place.place ≡ length rec.members =
-        omega (arith, ap (length {A = ℕ}) end, c.loop-place-test.false, c.loop-place.auto.place-end) in
+    omega (arith, ap (length {A = ℕ}) end, c.loop-place-test.false, c.loop-place.auto.place-end) in
     let S : ℕ → Type 0 = λ n. FollowsMembers h c.args.region rec.members n old c.loop-place.regions c.args.head c.loop-place.head in
     let G : Record → Type 0 =
-        λ z. FollowsMembers h c.args.region z.members (length z.members) old c.loop-place.regions c.args.head c.loop-place.head in
+    λ z. FollowsMembers h c.args.region z.members (length z.members) old c.loop-place.regions c.args.head c.loop-place.head in
     λ r e. subst G (one_record rec r (sym c.requires.there.1 ∙ e)) (subst S all inv)

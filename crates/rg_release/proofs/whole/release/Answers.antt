@@ -28,7 +28,7 @@ next-preserved c = λ tops chain unowned.
       t.2,
       t.3,
       releasing_turn c.args.cells.now c.args.regions.now tops c.next.cells c.next.regions c.in-Some.key t.0 r.0
-      new.cells new.regions t.2 t.1 t.4 g c.release_first-next.ensures.count,
+          new.cells new.regions t.2 t.1 t.4 g c.release_first-next.ensures.count,
     )
 
 none_is : (o : Option ℕ) → ((x : ℕ) → o ≡ Some x → ⊥) → o ≡ None

@@ -70,5 +70,5 @@ returns-clause-count c =
     let s = c.chain_owned-next.ensures a.0 a.1 in
     let at = same_record old mid c.args.key a.0 s.records a.1 in
     ap (λ (z : RegionTable). count_by is_some z.records + 1) c.remove.ensures.gone
-        ∙ count-removed mid.records c.args.key a.0 at
-        ∙ ap (λ (rs : List (Option Record)). count_by is_some rs) s.records
+    ∙ count-removed mid.records c.args.key a.0 at
+    ∙ ap (λ (rs : List (Option Record)). count_by is_some rs) s.records
