@@ -19,11 +19,11 @@ ghost use Rattle.rg_step.specs.Inner.Objects.{LabelIs};
 ghost use Rattle.rg_step.specs.Inner.Core.{Left, below_top, called_frame, started, can_open, first_value, opened};
 ghost use Rattle.rg_step.specs.Inner.Core.{with_machine, with_made, with_top};
 
-use crate::opening::opening_frames;
-use crate::seen::seen;
 use crate::objects::{
     add_bridge, add_object, freeze_region, label_of, put_field, read_field, relabel_region,
 };
+use crate::opening::opening_frames;
+use crate::seen::seen;
 use crate::slots::{call_frame, end_slots, pop_frame, read_slot, write_slot};
 use crate::windows::{active, can_open, close_window, number, open_window};
 use crate::words::{value, word};

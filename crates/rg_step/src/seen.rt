@@ -19,11 +19,7 @@ fn list_of(alloc: Global, fields: &[Val]) -> Result<Vals, Memory>
 }
 
 /// The object of a serial; None past the last one.
-pub(crate) fn seen(
-    alloc: Global,
-    store: &[ObjectRow],
-    serial: u64,
-) -> Result<Option<Seen>, Memory>
+pub(crate) fn seen(alloc: Global, store: &[ObjectRow], serial: u64) -> Result<Option<Seen>, Memory>
     ensures { IfOk result (λ o. o ≡ slice_get (store_of store.now) serial) }
 {
     match store.get(serial as usize) {

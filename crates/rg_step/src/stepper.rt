@@ -44,12 +44,7 @@ impl Stepper {
     }
 
     /// Begins a program whose main has this manager, without a step.
-    pub fn begin(
-        &mut self,
-        alloc: Global,
-        code: &CodeList,
-        manager: Manager,
-    ) -> Result<(), Memory>
+    pub fn begin(&mut self, alloc: Global, code: &CodeList, manager: Manager) -> Result<(), Memory>
         requires { self.old ≡ fresh }
         ensures begun { OnOk result
             (self.new ≡ record fresh { machine = opening_machine code.now manager }) }

@@ -1,5 +1,5 @@
 -- The code of an accepted program leads on from a machine that shows a state in which something is left to do. For callers.
-use Rattle.std.proofs.Common.{◌≡◌, ℕ, List, refl, subst}
+use Rattle.std.proofs.Common.{ℕ, List, refl, subst}
 use Rattle.rg_base.specs.declared.value.Val.{Val}
 use Rattle.rg_tree.specs.Tree.{Class, Tree}
 use Rattle.rg_rules.specs.Acceptance.{Accepted}
@@ -10,7 +10,7 @@ use Rattle.rg_sound.proofs.HeldLemmas.{fit-holds}
 use Rattle.rg_code.specs.Code.{Code}
 use Rattle.rg_code.specs.Lowering.{Lowers}
 use Rattle.rg_stack.specs.Machine.{Machine}
-use Rattle.rg_stack.specs.Runs.{Stepped, Lost, step}
+use Rattle.rg_stack.specs.Runs.{Lost}
 use Rattle.rg_stack.specs.Shows.{Shows}
 use Rattle.rg_stack.specs.Simulates.{SameStep, SomeLeft}
 use Rattle.rg_stack.proofs.Callers.StepLemmas.{step-shows}
@@ -56,6 +56,6 @@ leads-on t code m p accepted lowers fit shows left input lost =
     let q = with_input p input in
     let fits = input-fits t p input fit in
     let same = step-shows t code (work_at m input) q accepted lowers fits
-        (record { shows = input-shows t code m p input fits shows; input = refl }) refl left in
+    (record { shows = input-shows t code m p input fits shows; input = refl }) refl left in
     not-lost t.classes code p.output (next t.classes q)
     (subst (SameStep t.classes code p.output (next t.classes q)) lost same)

@@ -1,4 +1,4 @@
-use Rattle.std.proofs.Common.{◌≡◌, ◌∷◌, [], ◌++◌, ◌∙◌, ap}
+use Rattle.std.proofs.Common.{◌∷◌, [], ◌++◌, ◌∙◌, ap}
 use Rattle.rg_frames.specs.Stack.{begun, roomed}
 use Rattle.rg_step.specs.Inner.Core.{with_machine}
 use Rattle.rg_step.specs.Inner.Layout.{core_of}
