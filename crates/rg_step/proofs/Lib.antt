@@ -6,3 +6,5 @@ mod CallLemmas
 mod TurnLemmas
 mod AskLemmas
 mod StepLemmas
+mod OpeningLemmas
+pub mod Callers

@@ -47,10 +47,10 @@ pub(crate) fn or(p: &mut Parts, to: usize) -> Next
     ensures { (at : ℕ) → ActIs (λ go stack x. on_top stack (λ v rest.
         if as_bool v then go (to - (at + 1)) (v ∷ rest) x else go 0 rest x)) at p.old p.new result }
 {
-    let Some(v) = p.top() else {
+    let Some(w) = p.top() else {
         return Next::Lost;
     };
-    if as_bool(value(v)) {
+    if as_bool(value(w)) {
         Next::To(to)
     } else {
         let _ = p.pop();

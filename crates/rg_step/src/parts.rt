@@ -4,6 +4,7 @@ ghost use Rattle.std.specs.Prelude.{◌≡◌, ◌∷◌, [], None, Some, Ok, Er
 ghost use Rattle.std.specs.Prelude.{IfOk, IfErr, length, map, ◌++◌, slice_get, true, unwrap_or, ◌<◌, ◌≤◌, ◌↔◌};
 ghost use Rattle.rg_base.specs.declared.object.Label.TheVariants.{Frozen, Region, Temp};
 ghost use Rattle.rg_base.specs.declared.object.Seen.{Seen};
+ghost use Rattle.rg_step.specs.Steps.{fresh, opening_machine};
 ghost use Rattle.rg_rules.specs.Regions.{relabelled};
 ghost use Rattle.rg_base.specs.declared.value.Val.{Val};
 ghost use Rattle.rg_base.specs.declared.value.Val.TheVariants.{Nil};
@@ -21,10 +22,13 @@ ghost use Rattle.rg_step.specs.Inner.Core.{with_machine, with_made, with_top};
 use crate::objects::{
     add_bridge, add_object, freeze_region, label_of, put_field, read_field, relabel_region,
 };
+use crate::opening::opening_frames;
+use crate::seen::seen;
 use crate::slots::{call_frame, end_slots, pop_frame, read_slot, write_slot};
 use crate::windows::{active, can_open, close_window, number, open_window};
 use crate::words::{value, word};
-use rg_base::{Label, Manager, Memory, Place, Trap, Val, Word};
+use rg_base::{Label, Manager, Memory, Place, Seen, Trap, Val, Word};
+use rg_code::CodeList;
 use rg_frames::{FrameRefusal, Frames};
 use rg_store::ObjectRow;
 use std::alloc::Global;
@@ -58,6 +62,54 @@ impl Model for Parts {
 }
 
 impl Parts {
+    /// Those of a machine on which no program has begun.
+    pub(crate) fn new(alloc: Global) -> Parts
+        ensures { result ≡ record { machine = fresh.machine; stack = []; printed = None } }
+    {
+        Parts {
+            store: Vec::new(alloc),
+            frames: Frames::new(alloc),
+            managers: Vec::new(alloc),
+            at: 0,
+            stack: Vec::new(alloc),
+            printed: None,
+        }
+    }
+
+    /// Main's frame comes, window 0 over it, and the manager of region 0.
+    pub(crate) fn begin(
+        &mut self,
+        alloc: Global,
+        code: &CodeList,
+        manager: Manager,
+    ) -> Result<(), Memory>
+        requires { self.old.machine ≡ fresh.machine }
+        ensures ok { OnOk result
+            (self.new ≡ with_machine self.old (opening_machine code.now manager)) }
+        ensures err { OnErr result (self.new ≡ self.old) }
+    {
+        let frames = opening_frames(alloc, code.main_slots())?;
+        let Ok(()) = self.managers.push(manager) else {
+            return Err(Memory);
+        };
+        self.frames = frames;
+        Ok(())
+    }
+
+    /// How many objects were made.
+    pub(crate) fn made(&self) -> u64
+        ensures { result ≡ length self.now.machine.store }
+    {
+        self.store.len() as u64
+    }
+
+    /// The object of a serial; None past the last one.
+    pub(crate) fn object(&self, alloc: Global, serial: u64) -> Result<Option<Seen>, Memory>
+        ensures { IfOk result (λ o. o ≡ slice_get self.now.machine.store serial) }
+    {
+        seen(alloc, &self.store, serial)
+    }
+
     /// Puts a word on the stack.
     #[inline]
     pub(crate) fn push(&mut self, w: Word) -> Result<(), Memory>

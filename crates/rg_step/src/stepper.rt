@@ -1,13 +1,14 @@
 //! The stepper (docs/architecture.md, "The stepper").
 
-ghost use Rattle.std.specs.Prelude.{◌≡◌, ◌<◌, ◌≤◌, ◌-◌, ◌^◌, false};
+ghost use Rattle.std.specs.Prelude.{◌≡◌, ◌<◌, ◌≤◌, ◌-◌, ◌^◌, false, length, slice_get};
+ghost use Rattle.std.specs.Prelude.{IfOk, OnErr, OnOk};
 ghost use Rattle.rg_io.specs.Content.{Rose};
 ghost use Rattle.rg_input.specs.Numbers.{Follows, OnInput};
-ghost use Rattle.rg_step.specs.Steps.{LeadsOn, StepsTo};
+ghost use Rattle.rg_step.specs.Steps.{LeadsOn, StepsTo, fresh, opening_machine};
 
 use crate::parts::Parts;
 use crate::step::{Did, step};
-use rg_base::Outcome;
+use rg_base::{Manager, Memory, Outcome, Seen};
 use rg_code::CodeList;
 use rg_input::Numbers;
 use rg_io::Source;
@@ -31,6 +32,48 @@ impl Model for Stepper {
 }
 
 impl Stepper {
+    /// A machine on which no program has begun.
+    pub fn new(alloc: Global) -> Stepper
+        ensures { result ≡ fresh }
+    {
+        Stepper {
+            parts: Parts::new(alloc),
+            steps: 0,
+            done: false,
+        }
+    }
+
+    /// Begins a program whose main has this manager, without a step.
+    pub fn begin(&mut self, alloc: Global, code: &CodeList, manager: Manager) -> Result<(), Memory>
+        requires { self.old ≡ fresh }
+        ensures begun { OnOk result
+            (self.new ≡ record fresh { machine = opening_machine code.now manager }) }
+        ensures kept { OnErr result (self.new ≡ self.old) }
+    {
+        self.parts.begin(alloc, code, manager)
+    }
+
+    /// How many objects were made.
+    pub fn made(&self) -> u64
+        ensures { result ≡ length self.now.machine.store }
+    {
+        self.parts.made()
+    }
+
+    /// How many steps were made.
+    pub fn steps(&self) -> u64
+        ensures { result ≡ self.now.steps }
+    {
+        self.steps
+    }
+
+    /// The object of a serial; None past the last one that was made.
+    pub fn object(&self, alloc: Global, serial: u64) -> Result<Option<Seen>, Memory>
+        ensures { IfOk result (λ o. o ≡ slice_get self.now.machine.store serial) }
+    {
+        self.parts.object(alloc, serial)
+    }
+
     /// Makes one step.
     pub fn step<S: Source>(
         &mut self,

@@ -1,0 +1,2 @@
+-- What callers cite: where the code leads on.
+pub mod LeadsLemmas
