@@ -1,7 +1,8 @@
 //! What the instructions of a step work on (docs/architecture.md, "The stepper").
 
 ghost use Rattle.std.specs.Prelude.{◌≡◌, ◌∷◌, [], None, Some, Ok, Err, OnOk, OnErr, IfSome};
-ghost use Rattle.std.specs.Prelude.{IfOk, IfErr, length, map, ◌++◌, slice_get, true, unwrap_or, ◌<◌, ◌≤◌, ◌↔◌};
+ghost use Rattle.std.specs.Prelude.{IfOk, IfErr, length, map, ◌++◌, slice_get, true, unwrap_or};
+ghost use Rattle.std.specs.Prelude.{◌<◌, ◌≤◌, ◌↔◌};
 ghost use Rattle.rg_base.specs.declared.object.Label.TheVariants.{Frozen, Region, Temp};
 ghost use Rattle.rg_base.specs.declared.object.Seen.{Seen};
 ghost use Rattle.rg_step.specs.Steps.{fresh, opening_machine};
@@ -16,7 +17,8 @@ ghost use Rattle.rg_stack.specs.Effects.{beneath_by_labels, frame_number, put_in
 ghost use Rattle.rg_stack.specs.Effects.{top_window, without_top};
 ghost use Rattle.rg_store.specs.Regions.{LabelFits};
 ghost use Rattle.rg_step.specs.Inner.Objects.{LabelIs};
-ghost use Rattle.rg_step.specs.Inner.Core.{Left, below_top, called_frame, started, can_open, first_value, opened};
+ghost use Rattle.rg_step.specs.Inner.Core.{Left, below_top, called_frame, started, can_open};
+ghost use Rattle.rg_step.specs.Inner.Core.{first_value, opened};
 ghost use Rattle.rg_step.specs.Inner.Core.{with_machine, with_made, with_top};
 
 use crate::objects::{
