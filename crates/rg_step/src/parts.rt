@@ -39,8 +39,8 @@ use std::marker::Model;
 /// As many slots as a frame has at most.
 const MOST_SLOTS: u32 = 256;
 
-/// Objects, frames with windows, the managers of the regions that were made, the address of the next
-/// step, the words on the stack, the topmost last, and what the step has printed.
+/// Objects, frames with windows, the managers of the regions that were made, the address of the
+/// next step, the words on the stack, the topmost last, and what the step has printed.
 #[derive(Drop)]
 pub struct Parts {
     store: Vec<ObjectRow>,
@@ -58,7 +58,8 @@ impl Model for Parts {
 
     ghost Value = { Core };
 
-    ghost view = { λ p. core_of p.store.items p.frames p.managers.items p.at p.stack.items p.printed };
+    ghost view = { λ p. core_of p.store.items p.frames p.managers.items p.at p.stack.items
+        p.printed };
 
     ghost invariant = { λ p. Keeps p.store.items p.frames (length p.managers.items) };
 }
@@ -136,7 +137,8 @@ impl Parts {
     /// The topmost word, if there is one.
     #[inline]
     pub(crate) fn top(&self) -> Option<Word>
-        ensures some { IfSome result (λ w. self.now ≡ with_top (below_top self.now) (value_of_word w)) }
+        ensures some { IfSome result (λ w.
+            self.now ≡ with_top (below_top self.now) (value_of_word w)) }
         ensures none { result ≡ None → self.now.stack ≡ [] }
     {
         self.stack.last().copied()

@@ -102,8 +102,8 @@ pub(crate) fn call_frame(
     Ok(())
 }
 
-/// The topmost frame goes, where it isn't the last one and no window over its slots is open; answers
-/// the address behind its call.
+/// The topmost frame goes, where it isn't the last one and no window over its slots is open;
+/// answers the address behind its call.
 pub(crate) fn pop_frame(frames: &mut Frames) -> Option<usize>
     requires { Lain frames.old }
     ensures lain { Lain frames.new }
