@@ -1,6 +1,8 @@
 -- Frames as the machine sees them: a slot that is read or written, slots that end, frames that come and go, and places.
-use Rattle.std.proofs.Common.{◌≡◌, ◌≤◌, ◌<◌, ℕ, zero, suc, ◌+◌, ◌-◌, List, [], ◌∷◌, ◌++◌, Some, length, take, drop, map, replicate, reverse, unwrap_or, slice_get, slice_set, length-append, refl, sym, ap, ◌∙◌, arith, subst, true, false}
-use Rattle.std.proofs.lemmas.List.{take_more, map-set, set_past, length-take-le, length-drop, map-append, take-map, drop-take, reverse-append, length-map, length-reverse, take-append-le, drop-append-le}
+use Rattle.std.proofs.Common.{◌≡◌, ◌≤◌, ◌<◌, ℕ, zero, suc, ◌+◌, ◌-◌, List, [], ◌∷◌, ◌++◌, Some, length, take, drop, map, replicate, reverse}
+use Rattle.std.proofs.Common.{unwrap_or, slice_get, slice_set, length-append, refl, sym, ap, ◌∙◌, arith, subst, true, false}
+use Rattle.std.proofs.lemmas.List.{take_more, map-set, set_past, length-take-le, length-drop, map-append, take-map, drop-take, reverse-append}
+use Rattle.std.proofs.lemmas.List.{length-map, length-reverse, take-append-le, drop-append-le}
 use Rattle.std.proofs.lemmas.Option.{slice_get_past, slice_get_within, slice_get-map, get_or_from_slice_get}
 use Rattle.std.proofs.Math.Seq.{take-length}
 use Rattle.rg_base.specs.declared.value.Val.{Val}
@@ -64,7 +66,8 @@ slice_get-drop (suc n) k [] = refl
 slice_get-drop (suc n) k (x ∷ xs) = let e : suc (n + k) ≡ suc n + k = omega arith in slice_get-drop n k xs ∙ ap (slice_get (x ∷ xs)) e
 
 -- a slot of the topmost frame is read
-pub slot-there : (slots : List Word) (first s : ℕ) (fs : List FrameRow) (w : Word) → Nested first (length slots) fs → slice_get slots (first + s) ≡ Some w
+pub slot-there : (slots : List Word) (first s : ℕ) (fs : List FrameRow) (w : Word) → Nested first (length slots) fs
+    → slice_get slots (first + s) ≡ Some w
     → unwrap_or (slice_get (top_slots (frames_from slots first fs)) s) val.Nil ≡ value_of_word w
 slot-there slots first s fs w h e =
     rw (top-slots slots first fs h, slice_get-map value_of_word (drop first slots) s, slice_get-drop first s slots, e) refl
@@ -74,7 +77,12 @@ pub slot-past : (slots : List Word) (first s : ℕ) (fs : List FrameRow) → Nes
     → unwrap_or (slice_get (top_slots (frames_from slots first fs)) s) val.Nil ≡ val.Nil
 slot-past slots first s fs h past =
     let dropped = length-drop first slots in
-    rw (top-slots slots first fs h, slice_get-map value_of_word (drop first slots) s, slice_get_past (drop first slots) s (omega (arith, dropped, past))) refl
+    rw (
+      top-slots slots first fs h,
+      slice_get-map value_of_word (drop first slots) s,
+      slice_get_past (drop first slots) s
+          (omega (arith, dropped, past)),
+    ) refl
 
 -- a slot of the topmost frame is written
 pub set-slot : (slots : List Word) (first s : ℕ) (w : Word) (fs : List FrameRow)
@@ -113,7 +121,8 @@ end-slots slots first s (f ∷ fs) h =
     let n = length slots - (first + s) in
     let taken = length-take-le (first + s) slots h in
     let top : drop first (take (first + s) slots ++ replicate n Nil) ≡ take s (drop first slots) ++ replicate n Nil =
-    drop-append-le first (take (first + s) slots) (replicate n Nil) (omega (arith, taken)) ∙ ap (λ xs. xs ++ replicate n Nil) (drop-take first s slots) in
+    drop-append-le first (take (first + s) slots) (replicate n Nil) (omega (arith, taken))
+    ∙ ap (λ xs. xs ++ replicate n Nil) (drop-take first s slots) in
     let under : take first (take (first + s) slots ++ replicate n Nil) ≡ take first slots =
     take-append-le first (take (first + s) slots) (replicate n Nil) (omega (arith, taken)) ∙ take-take first (first + s) slots (omega arith) in
     let count : n ≡ length (map value_of_word (drop first slots)) - s =
@@ -126,7 +135,8 @@ end-slots slots first s (f ∷ fs) h =
     rw (top, under, ended) refl
 
 -- the slots of all frames together
-pub all-slots : (slots : List Word) (first : ℕ) (fs : List FrameRow) → Nested first (length slots) fs → slots_below (frames_from slots first fs) ≡ length slots
+pub all-slots : (slots : List Word) (first : ℕ) (fs : List FrameRow) → Nested first (length slots) fs
+    → slots_below (frames_from slots first fs) ≡ length slots
 all-slots slots first [] h = sym h
 all-slots slots first (f ∷ fs) h =
     let taken = length-take-le first slots h.0 in
@@ -209,7 +219,8 @@ gone-by v f (g ∷ gs) is rev some h free =
       free = ap (begins_by (windows_of v)) (under v.slots v.first f (g ∷ gs) nested) ∙ free;
     }
 
-pub popped-gone : (v : Stack) (f : FrameRow) → 2 ≤ length v.frames → IsTopFrame v f → Lain v → begins_by (windows_of v) v.first ≡ true → Gone v (popped v f) f.back
+pub popped-gone : (v : Stack) (f : FrameRow) → 2 ≤ length v.frames → IsTopFrame v f → Lain v → begins_by (windows_of v) v.first ≡ true
+    → Gone v (popped v f) f.back
 popped-gone v f two top h free =
     let front = take (length v.frames - 1) v.frames in
     let some : 1 ≤ length (reverse front) = omega (arith, two, length-reverse front, length-take-le (length v.frames - 1) v.frames (omega arith)) in

@@ -1,5 +1,6 @@
 -- Objects to which values lead.
-use Rattle.std.proofs.Common.{◌≡◌, ◌<◌, ℕ, zero, suc, List, [], ◌∷◌, Some, Ok, length, slice_get, slice_index_or, take, drop, ◌++◌, refl, sym, ap, ◌∙◌, arith}
+use Rattle.std.proofs.Common.{◌≡◌, ◌<◌, ℕ, zero, suc, List, [], ◌∷◌, Some, Ok, length, slice_get, slice_index_or, take, drop, ◌++◌, refl, sym, ap}
+use Rattle.std.proofs.Common.{◌∙◌, arith}
 use Rattle.std.proofs.Math.Seq.{take-append_seam}
 use Rattle.rg_base.specs.declared.value.Val.{Val}
 use Rattle.rg_base.specs.declared.value.Val.TheVariants.{Obj}
@@ -8,7 +9,8 @@ use Rattle.rg_store.specs.declared.objects.ObjectRow.{ObjectRow}
 use Rattle.rg_store.specs.Read.{LeadsTo}
 use Rattle.rg_store.specs.Shown.{seen_of, store_of}
 
-row-there : (store : List ObjectRow) (a : ℕ) (d : ObjectRow) → a < length store → slice_get (store_of store) a ≡ Some (seen_of (slice_index_or store a d))
+row-there : (store : List ObjectRow) (a : ℕ) (d : ObjectRow) → a < length store
+    → slice_get (store_of store) a ≡ Some (seen_of (slice_index_or store a d))
 row-there [] a d within = absurd (omega (arith, within))
 row-there (r ∷ rows) zero d within = refl
 row-there (r ∷ rows) (suc a) d within = row-there rows a d (omega (arith, within))

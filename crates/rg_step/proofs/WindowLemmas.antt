@@ -1,5 +1,6 @@
 -- Windows as the machine sees them.
-use Rattle.std.proofs.Common.{◌≡◌, ◌≤◌, ◌<◌, ℕ, zero, suc, ◌+◌, ◌-◌, List, [], ◌∷◌, ◌++◌, Some, length, take, map, reverse, slice_get, nat_le, nat_lt, if◌then◌else◌, Bool, true, false, refl, sym, ap, subst, ◌∙◌, arith}
+use Rattle.std.proofs.Common.{◌≡◌, ◌≤◌, ◌<◌, ℕ, zero, suc, ◌+◌, ◌-◌, List, [], ◌∷◌, ◌++◌, Some, length, take, map, reverse, slice_get, nat_le}
+use Rattle.std.proofs.Common.{nat_lt, if◌then◌else◌, Bool, true, false, refl, sym, ap, subst, ◌∙◌, arith}
 use Rattle.std.proofs.lemmas.Bool.{false≢true}
 use Rattle.std.proofs.lemmas.List.{reverse-append, length-reverse, length-take-le}
 use Rattle.rg_frames.specs.declared.rows.Window.{Window as WindowRow}
@@ -11,7 +12,8 @@ use Rattle.rg_step.specs.Inner.Layout.{Lain, opens}
 use Rattle.rg_step.proofs.FrameLemmas.{last-reverse, there, top-size, place-there}
 
 -- the topmost window
-pub top-window : (v : Stack) (w : WindowRow) → IsTop v w → windows_of v ≡ window_of w ∷ map window_of (reverse (take (length v.windows - 1) v.windows))
+pub top-window : (v : Stack) (w : WindowRow) → IsTop v w → windows_of v ≡ window_of w ∷ map window_of
+    (reverse (take (length v.windows - 1) v.windows))
 top-window v w e = ap (map window_of) (last-reverse v.windows w e)
 
 -- where none is open

@@ -1,7 +1,8 @@
 //! What the instructions of a step work on (docs/architecture.md, "The stepper").
 
 ghost use Rattle.std.specs.Prelude.{◌≡◌, ◌∷◌, [], None, Some, Ok, Err, OnOk, OnErr, IfSome};
-ghost use Rattle.std.specs.Prelude.{IfOk, IfErr, length, map, ◌++◌, slice_get, true, unwrap_or, ◌<◌, ◌≤◌, ◌↔◌};
+ghost use Rattle.std.specs.Prelude.{IfOk, IfErr, length, map, ◌++◌, slice_get, true, unwrap_or};
+ghost use Rattle.std.specs.Prelude.{◌<◌, ◌≤◌, ◌↔◌};
 ghost use Rattle.rg_base.specs.declared.object.Label.TheVariants.{Frozen, Region, Temp};
 ghost use Rattle.rg_base.specs.declared.object.Seen.{Seen};
 ghost use Rattle.rg_step.specs.Steps.{fresh, opening_machine};
@@ -16,7 +17,8 @@ ghost use Rattle.rg_stack.specs.Effects.{beneath_by_labels, frame_number, put_in
 ghost use Rattle.rg_stack.specs.Effects.{top_window, without_top};
 ghost use Rattle.rg_store.specs.Regions.{LabelFits};
 ghost use Rattle.rg_step.specs.Inner.Objects.{LabelIs};
-ghost use Rattle.rg_step.specs.Inner.Core.{Left, below_top, called_frame, started, can_open, first_value, opened};
+ghost use Rattle.rg_step.specs.Inner.Core.{Left, below_top, called_frame, started, can_open};
+ghost use Rattle.rg_step.specs.Inner.Core.{first_value, opened};
 ghost use Rattle.rg_step.specs.Inner.Core.{with_machine, with_made, with_top};
 
 use crate::objects::{
@@ -37,8 +39,8 @@ use std::marker::Model;
 /// As many slots as a frame has at most.
 const MOST_SLOTS: u32 = 256;
 
-/// Objects, frames with windows, the managers of the regions that were made, the address of the next
-/// step, the words on the stack, the topmost last, and what the step has printed.
+/// Objects, frames with windows, the managers of the regions that were made, the address of the
+/// next step, the words on the stack, the topmost last, and what the step has printed.
 #[derive(Drop)]
 pub struct Parts {
     store: Vec<ObjectRow>,
@@ -56,7 +58,8 @@ impl Model for Parts {
 
     ghost Value = { Core };
 
-    ghost view = { λ p. core_of p.store.items p.frames p.managers.items p.at p.stack.items p.printed };
+    ghost view = { λ p. core_of p.store.items p.frames p.managers.items p.at p.stack.items
+        p.printed };
 
     ghost invariant = { λ p. Keeps p.store.items p.frames (length p.managers.items) };
 }
@@ -134,7 +137,8 @@ impl Parts {
     /// The topmost word, if there is one.
     #[inline]
     pub(crate) fn top(&self) -> Option<Word>
-        ensures some { IfSome result (λ w. self.now ≡ with_top (below_top self.now) (value_of_word w)) }
+        ensures some { IfSome result (λ w.
+            self.now ≡ with_top (below_top self.now) (value_of_word w)) }
         ensures none { result ≡ None → self.now.stack ≡ [] }
     {
         self.stack.last().copied()

@@ -1,6 +1,7 @@
 //! Slots of the topmost frame, and frames that come and go (docs/architecture.md, "The stepper").
 
-ghost use Rattle.std.specs.Prelude.{◌≡◌, ◌≤◌, ◌+◌, ◌++◌, ◌∷◌, map, length, replicate, unwrap_or, OnOk, OnErr};
+ghost use Rattle.std.specs.Prelude.{◌≡◌, ◌≤◌, ◌+◌, ◌++◌, ◌∷◌, map, length, replicate, unwrap_or};
+ghost use Rattle.std.specs.Prelude.{OnOk, OnErr};
 ghost use Rattle.std.specs.Prelude.{slice_get, slice_set, IfSome, None, List};
 ghost use Rattle.rg_base.specs.declared.value.Val.TheVariants as val;
 ghost use Rattle.rg_base.specs.declared.value.Word.TheVariants as word;
@@ -101,8 +102,8 @@ pub(crate) fn call_frame(
     Ok(())
 }
 
-/// The topmost frame goes, where it isn't the last one and no window over its slots is open; answers
-/// the address behind its call.
+/// The topmost frame goes, where it isn't the last one and no window over its slots is open;
+/// answers the address behind its call.
 pub(crate) fn pop_frame(frames: &mut Frames) -> Option<usize>
     requires { Lain frames.old }
     ensures lain { Lain frames.new }

@@ -1,5 +1,6 @@
 -- How frames lie over their slots, and what the fields of `Parts` show (docs/architecture.md, "The stepper").
-use Rattle.std.specs.Prelude.{◌≡◌, ◌≤◌, ◌<◌, ℕ, List, [], ◌∷◌, map, reverse, length, All, Option, Some, None, Bool as Truth, true, false, if◌then◌else◌, nat_lt}
+use Rattle.std.specs.Prelude.{◌≡◌, ◌≤◌, ◌<◌, ℕ, List, [], ◌∷◌, map, reverse, length, All, Option, Some, None, Bool as Truth, true, false}
+use Rattle.std.specs.Prelude.{if◌then◌else◌, nat_lt}
 use Rattle.rg_base.specs.declared.words.Manager.{Manager}
 use Rattle.rg_base.specs.declared.value.Val.{Val}
 use Rattle.rg_base.specs.declared.value.Word.{Word}

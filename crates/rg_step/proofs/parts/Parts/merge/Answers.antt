@@ -12,9 +12,11 @@ invariant_of-self c =
     let R : Core → Type 0 = λ n. c.args.region < length n.machine.managers in
     let there = subst R (sym c.self.view_is) c.requires in
     let P : List ObjectRow → Type 0 = λ os. LabelsFit (length c.self.inside.managers.items) (store_of os) in
-    rw (put-back c.relabel_region.new.store c.self.inside.store.items c.self.inside.store.len (sym c.deref_mut.ensures.len ∙ same) (c.relabel_region.ensures.count ∙ same))
+    rw (put-back c.relabel_region.new.store c.self.inside.store.items c.self.inside.store.len (sym c.deref_mut.ensures.len ∙ same)
+    (c.relabel_region.ensures.count ∙ same))
     (record {
       nested = c.self.invariant.nested;
-      labels = c.relabel_region.ensures.labels _ (c.active.ensures.below _ c.self.invariant.windows (omega (arith, there))) (subst P (sym c.deref_mut.ensures.value) c.self.invariant.labels);
+      labels = c.relabel_region.ensures.labels _ (c.active.ensures.below _ c.self.invariant.windows (omega (arith, there)))
+          (subst P (sym c.deref_mut.ensures.value) c.self.invariant.labels);
       windows = c.self.invariant.windows;
     })

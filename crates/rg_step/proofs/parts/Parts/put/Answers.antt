@@ -9,7 +9,8 @@ pub invariant_of-self : goal.invariant_of-self
 invariant_of-self c =
     let same = ap length c.deref_mut.ensures.value in
     let P : List ObjectRow → Type 0 = λ os. LabelsFit (length c.self.inside.managers.items) (store_of os) in
-    rw (put-back c.put_field.new.store c.self.inside.store.items c.self.inside.store.len (sym c.deref_mut.ensures.len ∙ same) (c.put_field.ensures.count ∙ same))
+    rw (put-back c.put_field.new.store c.self.inside.store.items c.self.inside.store.len (sym c.deref_mut.ensures.len ∙ same)
+    (c.put_field.ensures.count ∙ same))
     (record {
       nested = c.self.invariant.nested;
       labels = c.put_field.ensures.labels _ (subst P (sym c.deref_mut.ensures.value) c.self.invariant.labels);
