@@ -2,5 +2,5 @@
 mod Rows
 mod Expressions
 mod Statements
-mod Runs
+pub mod Runs
 pub mod BehindLemmas

@@ -2,3 +2,4 @@
 pub mod DispatchLemmas
 pub mod SoundLemmas
 pub mod RunLemmas
+pub mod MachineLemmas

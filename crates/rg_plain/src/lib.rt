@@ -9,4 +9,5 @@ mod state;
 mod steps;
 mod values;
 
+pub use line::put_value;
 pub use machine::PlainMachine;

@@ -28,7 +28,7 @@ fn line_of(v: Val) -> ArrayString<LINE_BYTES>
 }
 
 /// Gives the line of a value to a sink, with its newline, by one `put_all`.
-pub(crate) fn put_value<O: Sink>(out: &mut O, v: Val) -> Result<(), Failed>
+pub fn put_value<O: Sink>(out: &mut O, v: Val) -> Result<(), Failed>
     ensures ok { OnOk result (Appends (O.taken out.old) (O.taken out.new) (line_text v)) }
     ensures failed { OnErr result (Rose (O.faults out.old) (O.faults out.new)) }
     ensures part { OnErr result (AppendsPart (O.taken out.old) (O.taken out.new) (line_text v)) }

@@ -1,3 +1,5 @@
 pub mod SoundLemmas
 mod OutputLemmas
 pub mod RunLemmas
+mod TurnLemmas
+mod ShownLemmas

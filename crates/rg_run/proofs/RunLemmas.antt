@@ -1,32 +1,30 @@
--- Runs of the machine that never frees, of different numbers of steps, and the text that they print. For callers.
-use Rattle.std.proofs.Common.{◌≡◌, ◌≢◌, ℕ, zero, suc, ◌+◌, ◌-◌, ◌≤◌, inl, inr, Bool, true, List, [], ◌∷◌, ◌++◌, length, drop, Option}
+-- Runs of different numbers of steps, and the text that they print. For callers.
+use Rattle.std.proofs.Common.{◌≡◌, ◌≢◌, ℕ, zero, suc, ◌+◌, ◌-◌, ◌≤◌, inl, Bool, List, [], ◌∷◌, ◌++◌, length, drop, Option}
 use Rattle.std.proofs.Common.{refl, sym, ap, ◌∙◌}
 use Rattle.std.proofs.Common.{subst, arith, append-nil, append_assoc}
 use Rattle.std.proofs.Math.Seq.{drop-append_seam}
 use Rattle.rg_base.proofs.Callers.Texts.{text-append}
 use Rattle.rg_base.specs.declared.value.Val.{Val}
-use Rattle.rg_base.specs.declared.outcome.Ended.{Ended}
 use Rattle.rg_base.specs.declared.outcome.Ended.TheVariants as ended
 use Rattle.rg_base.specs.Text.{text}
 use Rattle.rg_io.specs.Content.{Appends, AppendsPart}
 use Rattle.rg_tree.specs.Tree.{Class, Tree, Block, empty as none, then as followed_by}
 use Rattle.rg_tree.specs.Rows.Tables.{Tables}
 use Rattle.rg_tree.specs.Rows.RowTrees.{program_of, block_of}
-use Rattle.rg_rules.specs.Acceptance.{Accepted}
 use Rattle.rg_rules.specs.Items.{Item, EndAt, items_of}
 use Rattle.rg_rules.specs.State.{State}
 use Rattle.rg_rules.specs.Steps.{Stepped, Went, Trapped, step_item}
 use Rattle.rg_rules.specs.Runs.{Done, opening, plain, plain_from}
 use Rattle.rg_rules.specs.Texts.{text_of, added}
 use Rattle.rg_input.specs.Numbers.{Pending, OnInput}
-use Rattle.rg_input.proofs.InputLemmas.{OnInput-still, OnInput-map}
+use Rattle.rg_input.proofs.InputLemmas.{OnInput-still}
 use Rattle.rg_plain.specs.Kept.{shown, items_from}
-use Rattle.rg_plain.specs.Machine.{Machine, Begins, state_of}
-use Rattle.rg_plain.specs.Runs.{RunIs, WroteUpTo, NoneAsks, begun}
-use Rattle.rg_run.specs.Machine.{Kept, IsFresh}
+use Rattle.rg_plain.specs.Machine.{Machine, Begins}
+use Rattle.rg_plain.specs.Runs.{WroteUpTo}
+use Rattle.rg_step.specs.Steps.{Stepping}
+use Rattle.rg_run.specs.Machine.{IsFresh}
 use Rattle.rg_run.specs.Runs.{RunsOn}
 use Rattle.rg_run.proofs.OutputLemmas.{GoesOn, run-later, ends-block}
-use Rattle.rg_run.proofs.SoundLemmas.{run-is-sound}
 
 -- main's block is never without a thing to do
 opening-some : (b : Block) → items_of b (EndAt 0 ∷ []) ≢ []
@@ -39,37 +37,15 @@ unfolding items_from
 begun-some t m begins empty =
     opening-some (block_of t t.body) (sym (ap (λ s. s.items) (begins.state [])) ∙ ap (shown t) empty)
 
--- a run of a machine that has begun is one from the opening state, sound, and reads nothing where no step asks
-pub begun-run : (t u : Tables) (n k : ℕ) (start m : Machine) (a b : Pending) (left behind old new : Option (List ℕ)) (e : Ended) (still : Type 0) →
-    t ≡ u → Accepted (program_of t) → Begins t start → begun e k ≤ n →
-    OnInput a b left behind (λ before after.
-    RunIs t (state_of t start before) n k m after old new e × (NoneAsks t (state_of t start before) (begun e k) → still)) →
-    OnInput a b left behind (RunsOn u n old new (record { begun = true; plain = m; steps = k }) e still)
-begun-run t u n k start m a b left behind old new e still same accepted begins within h =
-    let Q : Tables → Type 0 = λ q. OnInput a b left behind (RunsOn q n old new (record { begun = true; plain = m; steps = k }) e still) in
-    subst Q same
-    (OnInput-map a b left behind
-    (λ before after. RunIs t (state_of t start before) n k m after old new e × (NoneAsks t (state_of t start before) (begun e k) → still))
-    (RunsOn t n old new (record { begun = true; plain = m; steps = k }) e still) h
-    (λ before after ran.
-    let P : State → Type 0 = λ s. RunIs t s n k m after old new e × (NoneAsks t s (begun e k) → still) in
-    let there = subst P (begins.state before) ran in
-    inr (record {
-      begun = refl;
-      run = there.0;
-      sound = run-is-sound (program_of t) accepted before n;
-      unread = λ none. there.1 (λ j l. none j (omega (arith, within)));
-    })))
-
 -- where none has begun, nothing was read
-pub not-begun : (t : Tables) (n : ℕ) (b : Bool) (p q : Machine) (k : ℕ) (m : Kept) (a : Pending) (left old : Option (List ℕ)) (still : Type 0) →
-    m ≡ record { begun = b; plain = p; steps = k } → IsFresh m → q ≡ p → still →
-    OnInput a a left left (RunsOn t n old old (record { begun = b; plain = q; steps = k }) ended.Memory still)
-not-begun t n b p q k m a left old still is fresh same quiet =
-    let P : Machine → Type 0 = λ r. IsFresh (record { begun = b; plain = r; steps = k }) in
-    let fresh : P q = subst P (sym same) (subst IsFresh is fresh) in
-    OnInput-still a a left left (RunsOn t n old old (record { begun = b; plain = q; steps = k }) ended.Memory still) refl refl
-    (λ bytes. inl (record { answer_is = refl; fresh = fresh; untouched = refl; unread = quiet }))
+pub not-begun : (t : Tables) (n : ℕ) (b : Bool) (p q : Stepping) (k : ℕ) (a : Pending) (left old : Option (List ℕ)) (still : Type 0) →
+    IsFresh (record { begun = b; stepper = p; steps = k }) → q ≡ p → still →
+    OnInput a a left left (RunsOn t n old old (record { begun = b; stepper = q; steps = k }) ended.Memory still)
+not-begun t n b p q k a left old still fresh same quiet =
+    let P : Stepping → Type 0 = λ r. IsFresh (record { begun = b; stepper = r; steps = k }) in
+    let there : P q = subst P (sym same) fresh in
+    OnInput-still a a left left (RunsOn t n old old (record { begun = b; stepper = q; steps = k }) ended.Memory still) refl refl
+    (λ bytes. inl (record { answer_is = refl; fresh = there; untouched = refl; unread = quiet }))
 
 -- a run is the one of as many steps as it made, and where it is done, that one is
 pub record IsRunOf (classes : List Class) (d n made : ℕ) (s : State) : Type 0 where

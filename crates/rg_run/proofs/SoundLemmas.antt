@@ -21,7 +21,7 @@ run-is-sound t a input n = record {
 
 -- a machine that shows a state shows its held objects
 shows-held : (t : Tables) (m : Kept) (s : State) → Shows t m s → ShowsHeld (classes_of t) m s
-shows-held t m s shows serial h = ap (λ (q : State). slice_get q.store serial) shows.state ∙ h.there
+shows-held t m s shows serial h = ap (λ q. slice_get q serial) shows.state.store ∙ h.there
 
 -- a run whose state the machine shows stands there
 pub stands-shown : (t : Tables) (input : List ℕ) (n : ℕ) (m : Kept) → Accepted (program_of t) →

@@ -5,8 +5,8 @@ use Rattle.rg_base.specs.declared.outcome.Ended.TheVariants as ended
 use Rattle.rg_tree.specs.Rows.Tables.{Tables}
 use Rattle.rg_tree.specs.Rows.RowTrees.{program_of}
 use Rattle.rg_rules.specs.Runs.{opening}
-use Rattle.rg_plain.specs.Runs.{RunIs}
-use Rattle.rg_run.specs.Machine.{Kept, IsFresh}
+use Rattle.rg_plain.specs.Runs.{RunShows}
+use Rattle.rg_run.specs.Machine.{Kept, IsFresh, ShowsAt}
 use Rattle.rg_run.specs.Sound.{IsSound, NeverAsks}
 
 -- no memory was found to begin the run: nothing was written or read
@@ -20,7 +20,7 @@ pub record NotBegun (m : Kept) (old new : Option (List ℕ)) (result : Ended) (s
 -- state, and what always holds of its states and steps. Where no step asks for the input, it is still as it was.
 pub record Ran (t : Tables) (n : ℕ) (old new : Option (List ℕ)) (m : Kept) (result : Ended) (still : Type 0) (before after : List ℕ) : Type 0 where
   pub begun : m.begun ≡ true
-  pub run : RunIs t (opening (program_of t) before) n m.steps m.plain after old new result
+  pub run : RunShows t (opening (program_of t) before) n m.steps (ShowsAt t m after) old new result
   pub sound : IsSound (program_of t) before n
   pub unread : NeverAsks (program_of t) before n → still
 

@@ -1,7 +1,8 @@
-//! A whole run: the machine that never frees, and the numbers of what it did
-//! (docs/language.md, "Steps").
+//! A whole run: the stack machine on the code of an accepted program, and the numbers of what it
+//! did (docs/language.md, "Steps").
 #![tactic(auto)]
 
+mod inside;
 mod machine;
 
 pub use machine::Machine;

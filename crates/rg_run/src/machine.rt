@@ -1,37 +1,44 @@
 //! The machine that makes the steps of a run (docs/language.md, "Steps").
 
 ghost use Rattle.std.specs.Prelude.{◌≡◌, ◌≢◌, ◌≤◌, ◌↔◌, IsTrue, IfOk, true};
+ghost use Rattle.rg_tree.specs.Rows.RowTrees.{program_of};
+ghost use Rattle.rg_code.specs.Lowering.{Lowers};
 ghost use Rattle.rg_io.specs.Content.{Rose};
 ghost use Rattle.rg_input.specs.Numbers.{Follows, OnInput};
 ghost use Rattle.rg_run.specs.Machine.{IsFresh, numbers_of, object_at};
 ghost use Rattle.rg_run.specs.Runs.{RunsOn};
 
+use crate::inside::Inside;
 use rg_base::{EndNumbers, Ended, Memory, Seen};
 use rg_check::Accepted;
+use rg_code::CodeList;
 use rg_input::Numbers;
 use rg_io::{Sink, Source};
-use rg_plain::PlainMachine;
+use rg_step::Stepper;
 use std::alloc::Global;
 use std::marker::Model;
 
 /// A machine for one run. As long as none has begun, it holds nothing and has made no step.
 #[derive(Drop)]
 pub struct Machine {
-    begun: bool,
-    plain: PlainMachine,
-    steps: u64,
+    inside: Inside,
 }
 
 impl Model for Machine {
     ghost use Rattle.std.specs.Prelude.{◌≡◌, false};
-    ghost use Rattle.rg_plain.specs.Machine.{fresh};
+    ghost use Rattle.rg_step.specs.Steps.{fresh};
     ghost use Rattle.rg_run.specs.Machine.{Kept};
 
     ghost Value = { Kept };
 
-    ghost view = { λ m. record { begun = m.begun; plain = m.plain; steps = m.steps } };
+    ghost view = { λ m. record {
+      begun = m.inside.begun;
+      stepper = m.inside.stepper;
+      steps = m.inside.steps;
+    } };
 
-    ghost invariant = { λ m. m.begun ≡ false → (m.plain ≡ fresh) × (m.steps ≡ 0) };
+    ghost invariant = { λ m. m.inside.begun ≡ false →
+        (m.inside.stepper ≡ fresh) × (m.inside.steps ≡ 0) };
 }
 
 impl Machine {
@@ -40,9 +47,11 @@ impl Machine {
         ensures { IsFresh result }
     {
         Machine {
-            begun: false,
-            plain: PlainMachine::new(alloc),
-            steps: 0,
+            inside: Inside {
+                begun: false,
+                stepper: Stepper::new(alloc),
+                steps: 0,
+            },
         }
     }
 
@@ -50,16 +59,16 @@ impl Machine {
     pub fn is_fresh(&self) -> bool
         ensures { IsTrue result ↔ IsFresh self.now }
     {
-        !self.begun
+        !self.inside.begun
     }
 
     /// The numbers of the run so far.
     pub fn numbers(&self) -> EndNumbers
         ensures { result ≡ numbers_of self.now }
     {
-        let made = self.plain.made();
+        let made = self.inside.stepper.made();
         EndNumbers {
-            steps: self.steps,
+            steps: self.inside.steps,
             made,
             held: 0,
             frozen: 0,
@@ -73,21 +82,23 @@ impl Machine {
     pub fn shown(&self, alloc: Global, serial: u64) -> Result<Option<Seen>, Memory>
         ensures { IfOk result (λ o. o ≡ object_at self.now serial) }
     {
-        self.plain.object(alloc, serial)
+        self.inside.stepper.object(alloc, serial)
     }
 
-    /// Makes at most `n` steps of an accepted program. Each printed line is given to `out` in its
-    /// own step.
+    /// Makes at most `n` steps of an accepted program by its code. Each printed line is given to
+    /// `out` in its own step.
     pub fn run<I: Source, O: Sink>(
         &mut self,
         alloc: Global,
         accepted: &Accepted,
+        code: &CodeList,
         n: u64,
         input: &mut Numbers,
         source: &mut I,
         out: &mut O,
     ) -> Ended
         requires fresh { IsFresh self.old }
+        requires lowers { Lowers (program_of accepted.now.program) code.now }
         requires follows { Follows input.old (I.left source.old) }
 
         ensures run { OnInput input.old input.new (I.left source.old) (I.left source.new)
@@ -103,12 +114,7 @@ impl Machine {
         ensures source_never_falls { I.faults source.old ≤ I.faults source.new }
         ensures sink_never_falls { O.faults out.old ≤ O.faults out.new }
     {
-        let program = accepted.program();
-        let Ok(()) = self.plain.begin(alloc, program) else {
-            return Ended::Memory;
-        };
-        self.begun = true;
-        self.plain
-            .run_counting(alloc, program, n, &mut self.steps, input, source, out)
+        self.inside
+            .run(alloc, accepted, code, n, input, source, out)
     }
 }

@@ -1,5 +1,6 @@
 -- The words that a call takes from the stack.
-use Rattle.std.proofs.Common.{◌≡◌, ◌≤◌, ℕ, zero, suc, ◌-◌, List, [], ◌∷◌, ◌++◌, length, take, drop, map, replicate, reverse, nat_le, ◌<◌, Bool, true, false, refl, sym, ap, ◌∙◌, arith}
+use Rattle.std.proofs.Common.{◌≡◌, ◌≤◌, ℕ, zero, suc, ◌-◌, List, [], ◌∷◌, ◌++◌, length, take, drop, map, replicate, reverse, nat_le, ◌<◌, Bool}
+use Rattle.std.proofs.Common.{true, false, refl, sym, ap, ◌∙◌, arith}
 use Rattle.std.proofs.Math.Seq.{take-append_seam}
 use Rattle.std.proofs.lemmas.List.{reverse-append, reverse-reverse, length-reverse, map-append, take-map, take-append-drop, length-drop}
 use Rattle.rg_base.specs.declared.value.Val.{Val}
@@ -42,7 +43,8 @@ last-few ws n = few (nat_le n (length ws)) refl
 
 -- the frame of a call has the last words of the stack
 pub call-frame : (ws : List Word) (given slots back : ℕ)
-    → record { slots = map value_of_word (drop (length ws - given) ws ++ replicate (slots - given) Nil); back = back } ≡ called_frame given slots back (values_of ws)
+    → record { slots = map value_of_word (drop (length ws - given) ws ++ replicate (slots - given) Nil); back = back }
+    ≡ called_frame given slots back (values_of ws)
 call-frame ws given slots back = ap (λ (vs : List Val). record { slots = vs; back = back })
     (map-append value_of_word (drop (length ws - given) ws) (replicate (slots - given) Nil)
     ∙ ap (λ vs. vs ++ map value_of_word (replicate (slots - given) Nil)) taken

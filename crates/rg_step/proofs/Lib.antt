@@ -4,7 +4,10 @@ mod StackLemmas
 mod ObjectLemmas
 mod CallLemmas
 mod TurnLemmas
+mod ClearLemmas
+mod StandsLemmas
+mod LeavesLemmas
+mod RunLemmas
 mod AskLemmas
 mod StepLemmas
 mod OpeningLemmas
-pub mod Callers

@@ -3,3 +3,4 @@ pub mod Core
 pub mod Layout
 pub mod Objects
 pub mod Walks
+pub mod Refusals

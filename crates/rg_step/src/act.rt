@@ -1,13 +1,15 @@
 //! One instruction (docs/architecture.md, "The stepper").
 
-ghost use Rattle.std.specs.Prelude.{◌<◌, ◌-◌, ◌^◌, ◌∷◌, ℕ};
+ghost use Rattle.std.specs.Prelude.{true, ◌<◌, ◌-◌, ◌^◌, ◌∷◌, ℕ};
 ghost use Rattle.rg_base.specs.Input.{next_number};
 ghost use Rattle.rg_base.specs.declared.value.Val.TheVariants.{Bool};
 ghost use Rattle.rg_rules.specs.RightSides.{is_left};
 ghost use Rattle.rg_stack.specs.Effects.{act, next_taken};
+ghost use Rattle.rg_stack.specs.Refusals.{Computes, Takes, manner};
+ghost use Rattle.rg_step.specs.Inner.Refusals.{Keeping, asking};
 ghost use Rattle.rg_step.specs.Inner.Core.{ActIs};
 
-use crate::frames::{call, enter, enter_field, leave, ret, ret_void, room};
+use crate::frames::{call, enter, enter_field, leave, ret, ret_void};
 use crate::jumps::{and, jump_false, or};
 use crate::making::{freeze, merge, new, new_iso, new_temp};
 use crate::next::Next;
@@ -21,8 +23,9 @@ use std::alloc::Global;
 
 /// Leaves a place on the stack for the next number.
 fn ask_number(p: &mut Parts) -> Next
-    ensures { (at : ℕ) → ActIs (λ go stack x. next_taken (next_number x.input) go stack x)
+    ensures effect { (at : ℕ) → ActIs (λ go stack x. next_taken (next_number x.input) go stack x)
         at p.old p.new result }
+    ensures keeps { Keeping Takes true p.old.machine p.new.machine result }
 {
     match p.push(Word::Nil) {
         Ok(()) => Next::Read,
@@ -32,8 +35,9 @@ fn ask_number(p: &mut Parts) -> Next
 
 /// Leaves a place on the stack for whether anything is left.
 fn ask_more(p: &mut Parts) -> Next
-    ensures { (at : ℕ) → ActIs (λ go stack x.
+    ensures effect { (at : ℕ) → ActIs (λ go stack x.
         go 0 (Bool (is_left (next_number x.input)) ∷ stack) x) at p.old p.new result }
+    ensures keeps { Keeping Computes true p.old.machine p.new.machine result }
 {
     match p.push(Word::Nil) {
         Ok(()) => Next::More,
@@ -45,7 +49,8 @@ fn ask_more(p: &mut Parts) -> Next
 #[inline]
 pub(crate) fn act(alloc: Global, p: &mut Parts, code: &CodeList, at: usize, op: Op) -> Next
     requires { at < 2 ^ 64 - 1 }
-    ensures { ActIs (act code.now at op) at p.old p.new result }
+    ensures effect { ActIs (act code.now at op) at p.old p.new result }
+    ensures keeps { Keeping (manner op) (asking op) p.old.machine p.new.machine result }
 {
     match op {
         Op::Mark { line: _ } => Next::Stop(at),
@@ -89,7 +94,7 @@ pub(crate) fn act(alloc: Global, p: &mut Parts, code: &CodeList, at: usize, op: 
         Op::Merge { slot } => merge(p, slot),
         Op::Read => ask_number(p),
         Op::More => ask_more(p),
-        Op::Room => room(p),
+        Op::Room => Next::Room,
         Op::Call { method } => call(p, code, at, method),
         Op::Ret => ret(p),
         Op::RetVoid => ret_void(p),

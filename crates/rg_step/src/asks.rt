@@ -1,8 +1,10 @@
 //! A walk along the code with what it asks of the input (docs/architecture.md, "The stepper").
 
-ghost use Rattle.std.specs.Prelude.{◌≡◌, ◌≤◌};
+ghost use Rattle.std.specs.Prelude.{◌≡◌, ◌≤◌, Bool as Truth, false};
 ghost use Rattle.rg_io.specs.Content.{Rose};
 ghost use Rattle.rg_input.specs.Numbers.{Follows, OnInput};
+ghost use Rattle.rg_stack.specs.Machine.{Machine};
+ghost use Rattle.rg_step.specs.Inner.Refusals.{ComeBacks, ComeLeaves, Stands};
 ghost use Rattle.rg_step.specs.Inner.Walks.{ComesTo};
 
 use crate::parts::Parts;
@@ -42,6 +44,12 @@ pub(crate) fn walk_asking<S: Source>(
     requires { Follows input.old (S.left source.old) }
     ensures comes { OnInput input.old input.new (S.left source.old) (S.left source.new)
         (ComesTo code.now from p.old p.new result) }
+    ensures leaves { (start : Machine) (asks : Truth) →
+        Stands code.now.ops start asks from p.old.machine →
+        ComeLeaves start asks p.new.machine result }
+    ensures backs { ComeBacks p.old.machine result }
+    ensures unasked { (start : Machine) → Stands code.now.ops start false from p.old.machine →
+        (input.new ≡ input.old) × (source.new ≡ source.old) }
     ensures follows { Follows input.new (S.left source.new) }
     ensures fault { result ≡ Come.InputFault → Rose (S.faults source.old) (S.faults source.new) }
     ensures never_falls { S.faults source.old ≤ S.faults source.new }

@@ -1,39 +1,26 @@
 //! Calls, returns and windows (docs/architecture.md, "The stepper").
 
-ghost use Rattle.std.specs.Prelude.{◌≡◌, ◌∷◌, ◌<◌, ◌-◌, ◌^◌, [], ℕ, length, nat_lt, if◌then◌else◌, slice_get, unwrap_or};
-ghost use Rattle.rg_base.specs.declared.limits.TheConstants.{FRAMES};
-ghost use Rattle.rg_base.specs.declared.outcome.Trap.TheVariants.{Depth};
+ghost use Rattle.std.specs.Prelude.{false, ◌≡◌, ◌∷◌, ◌<◌, ◌-◌, ◌^◌, [], ℕ, slice_get, unwrap_or};
 ghost use Rattle.rg_base.specs.declared.object.Place.TheVariants as place;
 ghost use Rattle.rg_base.specs.declared.value.Val.TheVariants.{Nil};
 ghost use Rattle.rg_rules.specs.Regions.{region_of};
 ghost use Rattle.rg_stack.specs.Machine.{end_slots, slot_at, value_of_word};
-ghost use Rattle.rg_stack.specs.Effects.{Traps, address, entered, frame_number, on_object, on_top};
+ghost use Rattle.rg_stack.specs.Effects.{address, entered, frame_number, on_object, on_top};
 ghost use Rattle.rg_stack.specs.Effects.{called, opens_at, returned, without_top};
+ghost use Rattle.rg_stack.specs.Refusals.{Calls, Ends, Settles, Takes};
+ghost use Rattle.rg_step.specs.Inner.Refusals.{Keeping};
 ghost use Rattle.rg_step.specs.Inner.Core.{ActIs};
 
 use crate::next::Next;
 use crate::parts::Parts;
-use rg_base::{Label, Place, Trap, Word};
+use rg_base::{Label, Place, Word};
 use rg_code::CodeList;
-use rg_frames::FrameRefusal;
-
-/// `room`
-pub(crate) fn room(p: &mut Parts) -> Next
-    ensures { (at : ℕ) → ActIs (λ go stack x.
-        if nat_lt (length x.machine.frames) FRAMES then go 0 stack x else Traps Depth)
-        at p.old p.new result }
-{
-    match p.room() {
-        Ok(()) => Next::On,
-        Err(FrameRefusal::Depth) => Next::Trap(Trap::Depth),
-        Err(FrameRefusal::Memory) => Next::Memory,
-    }
-}
 
 /// `ret`
 pub(crate) fn ret(p: &mut Parts) -> Next
-    ensures { (at : ℕ) → ActIs (λ go stack x. on_top stack (λ v rest.
+    ensures effect { (at : ℕ) → ActIs (λ go stack x. on_top stack (λ v rest.
         returned x x.machine.frames (v ∷ []))) at p.old p.new result }
+    ensures keeps { Keeping Ends false p.old.machine p.new.machine result }
 {
     let Some(_) = p.top() else {
         return Next::Lost;
@@ -49,8 +36,9 @@ pub(crate) fn ret(p: &mut Parts) -> Next
 
 /// `retv`
 pub(crate) fn ret_void(p: &mut Parts) -> Next
-    ensures { (at : ℕ) → ActIs (λ go stack x. returned x x.machine.frames [])
+    ensures effect { (at : ℕ) → ActIs (λ go stack x. returned x x.machine.frames [])
         at p.old p.new result }
+    ensures keeps { Keeping Ends false p.old.machine p.new.machine result }
 {
     match p.pop_frame() {
         Some(back) => {
@@ -63,10 +51,11 @@ pub(crate) fn ret_void(p: &mut Parts) -> Next
 
 /// `enter s z`
 pub(crate) fn enter(p: &mut Parts, s: u32, z: u32) -> Next
-    ensures { (at : ℕ) → ActIs (λ go stack x. opens_at x.machine z
+    ensures effect { (at : ℕ) → ActIs (λ go stack x. opens_at x.machine z
         (on_object x.machine.store (slot_at x.machine s) (λ o. go 0 stack
         (entered x (place.Var (frame_number x.machine.frames) s) (slot_at x.machine s) z
         (region_of o.label))))) at p.old p.new result }
+    ensures keeps { Keeping Takes false p.old.machine p.new.machine result }
 {
     if !p.can_open(z) {
         return Next::Lost;
@@ -87,11 +76,12 @@ pub(crate) fn enter(p: &mut Parts, s: u32, z: u32) -> Next
 
 /// `leave s`
 pub(crate) fn leave(p: &mut Parts, s: u32) -> Next
-    ensures { (at : ℕ) → ActIs (λ go stack x. go 0 stack (record x {
+    ensures effect { (at : ℕ) → ActIs (λ go stack x. go 0 stack (record x {
       machine = record (end_slots x.machine s) {
         windows = without_top x.machine.windows;
       };
     })) at p.old p.new result }
+    ensures keeps { Keeping Settles false p.old.machine p.new.machine result }
 {
     p.leave(s);
     Next::On
@@ -99,11 +89,12 @@ pub(crate) fn leave(p: &mut Parts, s: u32) -> Next
 
 /// `enterf k z`
 pub(crate) fn enter_field(p: &mut Parts, index: u32, z: u32) -> Next
-    ensures { (at : ℕ) → ActIs (λ go stack x. opens_at x.machine z (on_top stack (λ r rest.
+    ensures effect { (at : ℕ) → ActIs (λ go stack x. opens_at x.machine z (on_top stack (λ r rest.
         on_object x.machine.store r (λ o.
         on_object x.machine.store (unwrap_or (slice_get o.fields index) Nil) (λ b. go 0 rest
         (entered x (place.Field (address r) index) (unwrap_or (slice_get o.fields index) Nil) z
         (region_of b.label))))))) at p.old p.new result }
+    ensures keeps { Keeping Takes false p.old.machine p.new.machine result }
 {
     if !p.can_open(z) {
         return Next::Lost;
@@ -140,8 +131,9 @@ fn serial_of(w: Word) -> u64
 /// `call m`
 pub(crate) fn call(p: &mut Parts, code: &CodeList, at: usize, method: u32) -> Next
     requires { at < 2 ^ 64 - 1 }
-    ensures { ActIs (λ go stack x. called at (slice_get code.now.entries method) stack x)
+    ensures effect { ActIs (λ go stack x. called at (slice_get code.now.entries method) stack x)
         at p.old p.new result }
+    ensures keeps { Keeping Calls false p.old.machine p.new.machine result }
 {
     if (method as usize) >= code.method_count() {
         return Next::Lost;

@@ -1,8 +1,10 @@
 //! Jumps within a step (docs/architecture.md, "The stepper").
 
-ghost use Rattle.std.specs.Prelude.{◌≡◌, ◌∷◌, ◌+◌, ◌-◌, ℕ, if◌then◌else◌};
+ghost use Rattle.std.specs.Prelude.{false, ◌≡◌, ◌∷◌, ◌+◌, ◌-◌, ℕ, if◌then◌else◌};
 ghost use Rattle.rg_rules.specs.Values.{as_bool};
 ghost use Rattle.rg_stack.specs.Effects.{on_top};
+ghost use Rattle.rg_stack.specs.Refusals.{Chooses, Passes};
+ghost use Rattle.rg_step.specs.Inner.Refusals.{Keeping};
 ghost use Rattle.rg_step.specs.Inner.Core.{ActIs};
 
 use crate::next::Next;
@@ -13,8 +15,9 @@ use rg_store::as_bool;
 /// `jfalse t`
 #[inline]
 pub(crate) fn jump_false(p: &mut Parts, to: usize) -> Next
-    ensures { (at : ℕ) → ActIs (λ go stack x. on_top stack (λ v rest.
+    ensures effect { (at : ℕ) → ActIs (λ go stack x. on_top stack (λ v rest.
         if as_bool v then go 0 rest x else go (to - (at + 1)) rest x)) at p.old p.new result }
+    ensures keeps { Keeping (Chooses to) false p.old.machine p.new.machine result }
 {
     let Some(v) = p.pop() else {
         return Next::Lost;
@@ -28,8 +31,9 @@ pub(crate) fn jump_false(p: &mut Parts, to: usize) -> Next
 
 /// `and t`
 pub(crate) fn and(p: &mut Parts, to: usize) -> Next
-    ensures { (at : ℕ) → ActIs (λ go stack x. on_top stack (λ v rest.
+    ensures effect { (at : ℕ) → ActIs (λ go stack x. on_top stack (λ v rest.
         if as_bool v then go 0 rest x else go (to - (at + 1)) (v ∷ rest) x)) at p.old p.new result }
+    ensures keeps { Keeping (Passes to) false p.old.machine p.new.machine result }
 {
     let Some(v) = p.top() else {
         return Next::Lost;
@@ -44,8 +48,9 @@ pub(crate) fn and(p: &mut Parts, to: usize) -> Next
 
 /// `or t`
 pub(crate) fn or(p: &mut Parts, to: usize) -> Next
-    ensures { (at : ℕ) → ActIs (λ go stack x. on_top stack (λ v rest.
+    ensures effect { (at : ℕ) → ActIs (λ go stack x. on_top stack (λ v rest.
         if as_bool v then go (to - (at + 1)) (v ∷ rest) x else go 0 rest x)) at p.old p.new result }
+    ensures keeps { Keeping (Passes to) false p.old.machine p.new.machine result }
 {
     let Some(w) = p.top() else {
         return Next::Lost;

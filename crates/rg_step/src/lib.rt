@@ -10,6 +10,7 @@ mod next;
 mod objects;
 mod opening;
 mod parts;
+mod room;
 mod seen;
 mod slots;
 mod step;

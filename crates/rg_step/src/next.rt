@@ -13,6 +13,8 @@ pub(crate) enum Next {
     Read,
     /// with whether anything is left of the input on the stack
     More,
+    /// at the next instruction, where one more frame may come, with room for it
+    Room,
     /// nowhere: the step comes to an address
     Stop(usize),
     /// nowhere: the frame has ended, and its call stands in front of this address

@@ -1,8 +1,8 @@
 //! What the instructions of a step work on (docs/architecture.md, "The stepper").
 
 ghost use Rattle.std.specs.Prelude.{◌≡◌, ◌∷◌, [], None, Some, Ok, Err, OnOk, OnErr, IfSome};
-ghost use Rattle.std.specs.Prelude.{IfOk, IfErr, length, map, ◌++◌, slice_get, true, unwrap_or};
-ghost use Rattle.std.specs.Prelude.{◌<◌, ◌≤◌, ◌↔◌};
+ghost use Rattle.std.specs.Prelude.{IfOk, IfErr, drop, length, nat_lt, map, ◌++◌, slice_get, true};
+ghost use Rattle.std.specs.Prelude.{unwrap_or, ◌<◌};
 ghost use Rattle.rg_base.specs.declared.object.Label.TheVariants.{Frozen, Region, Temp};
 ghost use Rattle.rg_base.specs.declared.object.Seen.{Seen};
 ghost use Rattle.rg_step.specs.Steps.{fresh, opening_machine};
@@ -12,11 +12,12 @@ ghost use Rattle.rg_base.specs.declared.value.Val.TheVariants.{Nil};
 ghost use Rattle.rg_rules.specs.Evaluation.{object_at};
 ghost use Rattle.rg_stack.specs.Machine.{end_slots, put_slot, slot_at, value_of_word};
 ghost use Rattle.rg_base.specs.declared.limits.TheConstants.{FRAMES as FRAMES_MOST};
-ghost use Rattle.rg_frames.specs.declared.rows.FrameRefusal.TheVariants.{Depth};
 ghost use Rattle.rg_stack.specs.Effects.{beneath_by_labels, frame_number, put_in, top_region};
 ghost use Rattle.rg_stack.specs.Effects.{top_window, without_top};
 ghost use Rattle.rg_store.specs.Regions.{LabelFits};
+ghost use Rattle.rg_step.specs.Inner.Layout.{cleared};
 ghost use Rattle.rg_step.specs.Inner.Objects.{LabelIs};
+ghost use Rattle.rg_step.specs.Inner.Refusals.{SameBacks};
 ghost use Rattle.rg_step.specs.Inner.Core.{Left, below_top, called_frame, started, can_open};
 ghost use Rattle.rg_step.specs.Inner.Core.{first_value, opened};
 ghost use Rattle.rg_step.specs.Inner.Core.{with_machine, with_made, with_top};
@@ -26,18 +27,17 @@ use crate::objects::{
 };
 use crate::opening::opening_frames;
 use crate::seen::seen;
-use crate::slots::{call_frame, end_slots, pop_frame, read_slot, write_slot};
+use crate::slots::{
+    call_frame, clear_slots, end_slots, most_slots, pop_frame, read_slot, write_slot,
+};
 use crate::windows::{active, can_open, close_window, number, open_window};
 use crate::words::{value, word};
-use rg_base::{Label, Manager, Memory, Place, Seen, Trap, Val, Word};
+use rg_base::{FRAMES, Label, Manager, Memory, Place, Seen, Trap, Val, Word};
 use rg_code::CodeList;
-use rg_frames::{FrameRefusal, Frames};
+use rg_frames::Frames;
 use rg_store::ObjectRow;
 use std::alloc::Global;
 use std::marker::Model;
-
-/// As many slots as a frame has at most.
-const MOST_SLOTS: u32 = 256;
 
 /// Objects, frames with windows, the managers of the regions that were made, the address of the
 /// next step, the words on the stack, the topmost last, and what the step has printed.
@@ -155,14 +155,6 @@ impl Parts {
         }
     }
 
-    /// Leaves one word alone on the stack.
-    pub(crate) fn keep(&mut self, w: Word) -> Result<(), Memory>
-        ensures ok { OnOk result (self.new ≡ record self.old { stack = value_of_word w ∷ [] }) }
-    {
-        self.stack.clear();
-        self.push(w)
-    }
-
     /// Takes all words from the stack.
     pub(crate) fn empty(&mut self)
         ensures { self.new ≡ record self.old { stack = [] } }
@@ -181,15 +173,17 @@ impl Parts {
     /// Writes a slot.
     #[inline]
     pub(crate) fn set_slot(&mut self, s: u32, w: Word)
-        ensures { self.new
+        ensures put { self.new
             ≡ with_machine self.old (put_slot self.old.machine s (value_of_word w)) }
+        ensures backs { SameBacks self.old.machine self.new.machine }
     {
         write_slot(&mut self.frames, s, w);
     }
 
     /// Makes nil the slots from one on.
     pub(crate) fn end_from(&mut self, s: u32)
-        ensures { self.new ≡ with_machine self.old (end_slots self.old.machine s) }
+        ensures ended { self.new ≡ with_machine self.old (end_slots self.old.machine s) }
+        ensures backs { SameBacks self.old.machine self.new.machine }
     {
         end_slots(&mut self.frames, s);
     }
@@ -253,12 +247,11 @@ impl Parts {
         self.frames.count().saturating_sub(1) as u64
     }
 
-    /// Makes room for one more frame.
-    pub(crate) fn room(&mut self) -> Result<(), FrameRefusal>
-        ensures same { self.new ≡ self.old }
-        ensures depth { result ≡ Err Depth ↔ (FRAMES_MOST ≤ length self.old.machine.frames) }
+    /// Whether one more frame may come.
+    pub(crate) fn may_call(&self) -> bool
+        ensures { result ≡ nat_lt (length self.now.machine.frames) FRAMES_MOST }
     {
-        self.frames.room(MOST_SLOTS)
+        self.frames.count() < FRAMES
     }
 
     /// The topmost frame goes, where it may; answers the address behind its call.
@@ -288,15 +281,17 @@ impl Parts {
         ensures ok { OnOk result (self.new ≡ with_machine self.old
             (opened self.old.machine region owner z (value_of_word bridge))) }
         ensures err { OnErr result (self.new ≡ self.old) }
+        ensures backs { SameBacks self.old.machine self.new.machine }
     {
         open_window(&mut self.frames, region as usize, owner, z, bridge)
     }
 
     /// Makes nil the slots from one on, and then the topmost window goes, where it isn't the last.
     pub(crate) fn leave(&mut self, s: u32)
-        ensures { self.new ≡ with_machine self.old (record (end_slots self.old.machine s) {
+        ensures left { self.new ≡ with_machine self.old (record (end_slots self.old.machine s) {
           windows = without_top self.old.machine.windows;
         }) }
+        ensures backs { SameBacks self.old.machine self.new.machine }
     {
         end_slots(&mut self.frames, s);
         close_window(&mut self.frames);
@@ -398,7 +393,30 @@ impl Parts {
         })) }
         ensures err { OnErr result (self.new ≡ self.old) }
     {
-        call_frame(&mut self.frames, &self.stack, given, slots, back)
+        self.frames.reserve(most_slots(given, slots) as usize)?;
+        call_frame(&mut self.frames, &self.stack, given, slots, back);
+        Ok(())
+    }
+
+    /// The slots that code clears from an address on, and then a call.
+    pub(crate) fn clear_and_call(
+        &mut self,
+        code: &CodeList,
+        from: usize,
+        given: u32,
+        slots: u32,
+        back: usize,
+    ) -> Result<(), Memory>
+        ensures ok { OnOk result (self.new ≡ with_machine self.old (record self.old.machine {
+          frames = called_frame given slots back self.old.stack
+              ∷ cleared (drop from code.now.ops) self.old.machine.frames;
+        })) }
+        ensures err { OnErr result (self.new ≡ self.old) }
+    {
+        self.frames.reserve(most_slots(given, slots) as usize)?;
+        clear_slots(&mut self.frames, code, from);
+        call_frame(&mut self.frames, &self.stack, given, slots, back);
+        Ok(())
     }
 
     /// The address of the next step.

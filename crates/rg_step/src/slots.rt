@@ -1,17 +1,18 @@
 //! Slots of the topmost frame, and frames that come and go (docs/architecture.md, "The stepper").
 
-ghost use Rattle.std.specs.Prelude.{◌≡◌, ◌≤◌, ◌+◌, ◌++◌, ◌∷◌, map, length, replicate, unwrap_or};
-ghost use Rattle.std.specs.Prelude.{OnOk, OnErr};
+ghost use Rattle.std.specs.Prelude.{◌≡◌, ◌≤◌, ◌+◌, ◌-◌, ◌∷◌, drop, length, unwrap_or};
 ghost use Rattle.std.specs.Prelude.{slice_get, slice_set, IfSome, None, List};
 ghost use Rattle.rg_base.specs.declared.value.Val.TheVariants as val;
 ghost use Rattle.rg_base.specs.declared.value.Word.TheVariants as word;
 ghost use Rattle.rg_frames.specs.Stack.{HasRoom, roomed};
 ghost use Rattle.rg_stack.specs.Machine.{Frame, top_slots, value_of_word, with_slots, ended_slots};
 ghost use Rattle.rg_step.specs.Shown.{frames_of, windows_of};
-ghost use Rattle.rg_step.specs.Inner.Layout.{Lain, PopIs, SameWindows, values_of};
+ghost use Rattle.rg_step.specs.Inner.Layout.{Lain, PopIs, SameRoom, SameWindows, cleared};
+ghost use Rattle.rg_step.specs.Inner.Layout.{values_of};
 ghost use Rattle.rg_step.specs.Inner.Core.{called_frame};
 
-use rg_base::{Memory, Word};
+use rg_base::Word;
+use rg_code::{CodeList, Op};
 use rg_frames::Frames;
 
 /// The word in a slot, or nil past the last one.
@@ -37,6 +38,7 @@ pub(crate) fn write_slot(frames: &mut Frames, s: u32, w: Word)
         ≡ with_slots (slice_set (top_slots (frames_of frames.old)) s (value_of_word w))
         (frames_of frames.old) }
     ensures windows { SameWindows frames.old frames.new }
+    ensures room { SameRoom frames.old frames.new }
 {
     if (s as usize) < frames.size() {
         frames.set_slot(s, w);
@@ -56,50 +58,44 @@ pub(crate) fn end_slots(frames: &mut Frames, s: u32)
     }
 }
 
-/// A frame of these words and so many slots more, all nil.
-pub(crate) fn push_frame(
-    frames: &mut Frames,
-    back: usize,
-    words: &[Word],
-    more: usize,
-) -> Result<(), Memory>
+/// Makes nil the slots that code clears from an address on.
+pub(crate) fn clear_slots(frames: &mut Frames, code: &CodeList, from: usize)
     requires { Lain frames.old }
     ensures lain { Lain frames.new }
-    ensures ok { OnOk result (frames_of frames.new ≡ record {
-      slots = map value_of_word (words.now ++ replicate more word.Nil);
-      back = back;
-    }
-        ∷ frames_of frames.old) }
-    ensures err { OnErr result (frames_of frames.new ≡ frames_of frames.old) }
+    ensures frames { frames_of frames.new
+        ≡ cleared (drop from code.now.ops) (frames_of frames.old) }
     ensures windows { SameWindows frames.old frames.new }
+    ensures room { SameRoom frames.old frames.new }
 {
-    let Some(slots) = words.len().checked_add(more) else {
-        return Err(Memory);
-    };
-    frames.reserve(slots)?;
-    frames.push_frame_of(back, words, more);
-    Ok(())
+    let mut at = from;
+    while at < code.len() {
+        let Op::Clear { slot } = code.get(at) else {
+            return;
+        };
+        write_slot(frames, slot, Word::Nil);
+        at += 1;
+    }
 }
 
-/// The frame of a call, whose first slots are the last words of a stack.
-pub(crate) fn call_frame(
-    frames: &mut Frames,
-    stack: &[Word],
-    given: u32,
-    slots: u32,
-    back: usize,
-) -> Result<(), Memory>
-    requires { Lain frames.old }
+/// As many slots as the frame of a call gets at most.
+pub(crate) fn most_slots(given: u32, slots: u32) -> u32
+    ensures { result ≡ given + (slots - given) }
+{
+    if given > slots { given } else { slots }
+}
+
+/// The frame of a call, whose first slots are the last words of a stack; there is room for it.
+pub(crate) fn call_frame(frames: &mut Frames, stack: &[Word], given: u32, slots: u32, back: usize)
+    requires lain { Lain frames.old }
+    requires room { HasRoom frames.old (given + (slots - given)) }
     ensures lain { Lain frames.new }
-    ensures ok { OnOk result (frames_of frames.new
-        ≡ called_frame given slots back (values_of stack.now) ∷ frames_of frames.old) }
-    ensures err { OnErr result (frames_of frames.new ≡ frames_of frames.old) }
+    ensures frames { frames_of frames.new
+        ≡ called_frame given slots back (values_of stack.now) ∷ frames_of frames.old }
     ensures windows { SameWindows frames.old frames.new }
 {
     let more = slots.saturating_sub(given) as usize;
     let from = stack.len().saturating_sub(given as usize);
-    push_frame(frames, back, &stack[from..], more)?;
-    Ok(())
+    frames.push_frame_of(back, &stack[from..], more);
 }
 
 /// The topmost frame goes, where it isn't the last one and no window over its slots is open;

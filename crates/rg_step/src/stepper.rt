@@ -1,10 +1,14 @@
 //! The stepper (docs/architecture.md, "The stepper").
 
-ghost use Rattle.std.specs.Prelude.{◌≡◌, ◌<◌, ◌≤◌, ◌-◌, ◌^◌, false, length, slice_get};
+ghost use Rattle.std.specs.Prelude.{◌≡◌, ◌≤◌, true, false, length, slice_get};
 ghost use Rattle.std.specs.Prelude.{IfOk, OnErr, OnOk};
 ghost use Rattle.rg_io.specs.Content.{Rose};
 ghost use Rattle.rg_input.specs.Numbers.{Follows, OnInput};
-ghost use Rattle.rg_step.specs.Steps.{LeadsOn, StepsTo, fresh, opening_machine};
+ghost use Rattle.rg_tree.specs.Tree.{Tree};
+ghost use Rattle.rg_rules.specs.Inputs.{first_asks};
+ghost use Rattle.rg_rules.specs.State.{State};
+ghost use Rattle.rg_step.specs.Steps.{Counts, IsRunning, Runs, StepsOn, counted};
+ghost use Rattle.rg_step.specs.Steps.{fresh, opening_machine};
 
 use crate::parts::Parts;
 use crate::step::{Did, step};
@@ -20,7 +24,6 @@ use std::marker::Model;
 pub struct Stepper {
     parts: Parts,
     steps: u64,
-    done: bool,
 }
 
 impl Model for Stepper {
@@ -28,7 +31,7 @@ impl Model for Stepper {
 
     ghost Value = { Stepping };
 
-    ghost view = { λ s. record { machine = s.parts.machine; steps = s.steps; done = s.done } };
+    ghost view = { λ s. record { machine = s.parts.machine; steps = s.steps } };
 }
 
 impl Stepper {
@@ -39,7 +42,6 @@ impl Stepper {
         Stepper {
             parts: Parts::new(alloc),
             steps: 0,
-            done: false,
         }
     }
 
@@ -74,7 +76,8 @@ impl Stepper {
         self.parts.object(alloc, serial)
     }
 
-    /// Makes one step.
+    /// Makes one step. One that was refused leaves what is shown, the input and the count; the
+    /// input is asked at most where the first thing to do asks.
     pub fn step<S: Source>(
         &mut self,
         alloc: Global,
@@ -82,12 +85,15 @@ impl Stepper {
         input: &mut Numbers,
         source: &mut S,
     ) -> Outcome
-        requires running { self.old.done ≡ false }
-        requires steps { self.old.steps < 2 ^ 64 - 1 }
-        requires leads { LeadsOn code.now self.old.machine }
+        requires runs { IsRunning code.now self.old.machine }
         requires follows { Follows input.old (S.left source.old) }
         ensures step { OnInput input.old input.new (S.left source.old) (S.left source.new)
-            (StepsTo code.now self.old self.new result) }
+            (StepsOn code.now self.old.machine self.new.machine result) }
+        ensures counts { Counts self.old.steps self.new.steps result }
+        ensures reads_nothing { (t : Tree) (p : State) → Runs t code.now self.old.machine p →
+            first_asks p.items ≡ false → (input.new ≡ input.old) × (source.new ≡ source.old) }
+        ensures input_fault { result ≡ Outcome.InputFault → (t : Tree) (p : State) →
+            Runs t code.now self.old.machine p → first_asks p.items ≡ true }
         ensures follows { Follows input.new (S.left source.new) }
         ensures fault { result ≡ Outcome.InputFault →
             Rose (S.faults source.old) (S.faults source.new) }
@@ -95,16 +101,18 @@ impl Stepper {
     {
         match step(alloc, &mut self.parts, code, input, source) {
             Did::Goes => {
-                self.steps += 1;
+                self.steps = one_more(self.steps);
                 match self.parts.printed() {
                     Some(v) => Outcome::Printed(v),
                     None => Outcome::Running,
                 }
             }
             Did::Ends => {
-                self.steps += 1;
-                self.done = true;
-                Outcome::Done
+                self.steps = one_more(self.steps);
+                match self.parts.printed() {
+                    Some(v) => Outcome::Printed(v),
+                    None => Outcome::Done,
+                }
             }
             Did::Trapped { kind, line } => Outcome::Trap { kind, line },
             Did::InputFault => Outcome::InputFault,
@@ -112,4 +120,11 @@ impl Stepper {
             Did::Lost => unreachable!(),
         }
     }
+}
+
+/// One step more, as far as 64 bits count.
+fn one_more(steps: u64) -> u64
+    ensures { result ≡ counted steps }
+{
+    if steps < u64::MAX { steps + 1 } else { steps }
 }

@@ -1,10 +1,12 @@
 //! Instructions on the values of the stack (docs/architecture.md, "The stepper").
 
-ghost use Rattle.std.specs.Prelude.{◌≡◌, ◌∷◌, ℕ, not, neg_ℤ};
+ghost use Rattle.std.specs.Prelude.{false, ◌≡◌, ◌∷◌, ℕ, not, neg_ℤ};
 ghost use Rattle.rg_base.specs.declared.value.Val.TheVariants.{Bool};
 ghost use Rattle.rg_rules.specs.Values.{as_bool, as_int, is_nil_value, number_value};
 ghost use Rattle.rg_stack.specs.Machine.{value_of_word};
 ghost use Rattle.rg_stack.specs.Effects.{on_two, on_top, pushed};
+ghost use Rattle.rg_stack.specs.Refusals.{Computes, Settles};
+ghost use Rattle.rg_step.specs.Inner.Refusals.{Keeping};
 ghost use Rattle.rg_step.specs.Inner.Core.{ActIs};
 
 use crate::next::Next;
@@ -17,8 +19,9 @@ use rg_tree::BinOp;
 /// `bool b` and `nil`
 #[inline]
 pub(crate) fn constant(p: &mut Parts, w: Word) -> Next
-    ensures { (at : ℕ) →
+    ensures effect { (at : ℕ) →
         ActIs (λ go stack x. go 0 (value_of_word w ∷ stack) x) at p.old p.new result }
+    ensures keeps { Keeping Computes false p.old.machine p.new.machine result }
 {
     match p.push(w) {
         Ok(()) => Next::On,
@@ -29,7 +32,8 @@ pub(crate) fn constant(p: &mut Parts, w: Word) -> Next
 /// An operator on the two topmost values.
 #[inline]
 pub(crate) fn binary(p: &mut Parts, op: BinOp) -> Next
-    ensures { (at : ℕ) → ActIs (on_two op) at p.old p.new result }
+    ensures effect { (at : ℕ) → ActIs (on_two op) at p.old p.new result }
+    ensures keeps { Keeping Computes false p.old.machine p.new.machine result }
 {
     let Some(y) = p.pop() else {
         return Next::Lost;
@@ -48,8 +52,9 @@ pub(crate) fn binary(p: &mut Parts, op: BinOp) -> Next
 
 /// `neg`
 pub(crate) fn negate(p: &mut Parts) -> Next
-    ensures { (at : ℕ) → ActIs (λ go stack x. on_top stack (λ v rest.
+    ensures effect { (at : ℕ) → ActIs (λ go stack x. on_top stack (λ v rest.
         pushed (number_value (neg_ℤ (as_int v))) go rest x)) at p.old p.new result }
+    ensures keeps { Keeping Computes false p.old.machine p.new.machine result }
 {
     let Some(v) = p.pop() else {
         return Next::Lost;
@@ -65,8 +70,9 @@ pub(crate) fn negate(p: &mut Parts) -> Next
 
 /// `not`
 pub(crate) fn invert(p: &mut Parts) -> Next
-    ensures { (at : ℕ) → ActIs (λ go stack x. on_top stack (λ v rest.
+    ensures effect { (at : ℕ) → ActIs (λ go stack x. on_top stack (λ v rest.
         go 0 (Bool (not (as_bool v)) ∷ rest) x)) at p.old p.new result }
+    ensures keeps { Keeping Computes false p.old.machine p.new.machine result }
 {
     let Some(v) = p.pop() else {
         return Next::Lost;
@@ -79,8 +85,9 @@ pub(crate) fn invert(p: &mut Parts) -> Next
 
 /// `isnil`
 pub(crate) fn test_nil(p: &mut Parts) -> Next
-    ensures { (at : ℕ) → ActIs (λ go stack x. on_top stack (λ v rest.
+    ensures effect { (at : ℕ) → ActIs (λ go stack x. on_top stack (λ v rest.
         go 0 (Bool (is_nil_value v) ∷ rest) x)) at p.old p.new result }
+    ensures keeps { Keeping Computes false p.old.machine p.new.machine result }
 {
     let Some(v) = p.pop() else {
         return Next::Lost;
@@ -93,8 +100,9 @@ pub(crate) fn test_nil(p: &mut Parts) -> Next
 
 /// `pop` and `drop`
 pub(crate) fn drop_top(p: &mut Parts) -> Next
-    ensures { (at : ℕ) → ActIs (λ go stack x. on_top stack (λ v rest. go 0 rest x))
+    ensures effect { (at : ℕ) → ActIs (λ go stack x. on_top stack (λ v rest. go 0 rest x))
         at p.old p.new result }
+    ensures keeps { Keeping Settles false p.old.machine p.new.machine result }
 {
     match p.pop() {
         Some(_) => Next::On,

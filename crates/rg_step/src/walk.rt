@@ -1,10 +1,14 @@
 //! The loop over the instructions of a step (docs/architecture.md, "The stepper").
 
+ghost use Rattle.std.specs.Prelude.{Bool as Truth};
+ghost use Rattle.rg_stack.specs.Machine.{Machine};
+ghost use Rattle.rg_step.specs.Inner.Refusals.{EndBacks, EndLeaves, Stands};
 ghost use Rattle.rg_step.specs.Inner.Walks.{WalkIs};
 
 use crate::act::act;
 use crate::next::Next;
 use crate::parts::Parts;
+use crate::room::{Roomed, make_room};
 use rg_base::Trap;
 use rg_code::CodeList;
 use std::alloc::Global;
@@ -31,7 +35,11 @@ pub(crate) enum End {
 /// Walks along the code from an address on, up to the step's end or an instruction that asks the
 /// input.
 pub(crate) fn walk(alloc: Global, p: &mut Parts, code: &CodeList, from: usize) -> End
-    ensures { WalkIs code.now from p.old p.new result }
+    ensures walk { WalkIs code.now from p.old p.new result }
+    ensures leaves { (start : Machine) (asks : Truth) →
+        Stands code.now.ops start asks from p.old.machine →
+        EndLeaves code.now.ops start asks p.new.machine result }
+    ensures backs { EndBacks p.old.machine p.new.machine result }
 {
     let mut at = from;
     while at < code.len() {
@@ -46,6 +54,13 @@ pub(crate) fn walk(alloc: Global, p: &mut Parts, code: &CodeList, from: usize) -
             }
             Next::Read => return End::Read(at),
             Next::More => return End::More(at),
+            Next::Room => match make_room(p, code, at + 1) {
+                Roomed::Free => at += 1,
+                Roomed::Called(to) => return End::Stop(to),
+                Roomed::Full => return End::Trap(Trap::Depth),
+                Roomed::Memory => return End::Memory,
+                Roomed::Lost => return End::Lost,
+            },
             Next::Stop(to) => return End::Stop(to),
             Next::Return(back) => return End::Return(back),
             Next::Trap(kind) => return End::Trap(kind),

@@ -12,8 +12,8 @@ use Rattle.rg_rules.specs.Runs as rules
 use Rattle.rg_rules.specs.Texts.{added}
 use Rattle.rg_input.specs.Numbers.{Pending, Follows, CanCome, OnInput}
 use Rattle.rg_plain.specs.Machine.{Machine, Begins, state_of}
-use Rattle.rg_plain.specs.Runs.{answer, RunIs, NoneAsks, begun, Whole, StandsAt, CutOff, CutAtInput}
-use Rattle.rg_run.specs.Machine.{Kept, IsFresh, Shows}
+use Rattle.rg_plain.specs.Runs.{answer, RunIs, RunShows, IsState, NoneAsks, begun, Whole, StandsAt, CutOff, CutAtInput}
+use Rattle.rg_run.specs.Machine.{Kept, IsFresh, ShowsAt}
 use Rattle.rg_run.specs.Runs.{RunsOn}
 use Rattle.rg_run.specs.Sound.{Stands, NeverAsks}
 use Rattle.rg_run.proofs.SoundLemmas.{run-is-sound, stands-shown}
@@ -47,12 +47,12 @@ status-answer Done = refl
 status-answer (Stopped kind line) = refl
 
 module _ (origin : Origin) (n : ℕ) (source : List ℕ) (left : Option (List ℕ)) (t : Tables) (runs : Runs origin source (program_of t)) (input : List ℕ)
-    (is : HasInput left input) (k : ℕ) (plain_machine : Machine) (rest : List ℕ) (old new : Option (List ℕ)) where
-  answered : (e : Ended) (s : Status) → status_of_ended e ≡ s → Whole t (opening (program_of t) input) n k plain_machine rest old new e →
+    (is : HasInput left input) (k : ℕ) (Shown : State → Type 0) (old new : Option (List ℕ)) where
+  answered : (e : Ended) (s : Status) → status_of_ended e ≡ s → Whole t (opening (program_of t) input) n k Shown old new e →
       s ≡ status_of (rules.plain (program_of t) input n).ending
   answered e s same w = sym same ∙ ap status_of_ended w.answer_is ∙ status-answer (rules.plain (program_of t) input n).ending
 
-  asks_after : CutAtInput t (opening (program_of t) input) n k plain_machine rest old new → AsksAfter (program_of t) input n k old new
+  asks_after : CutAtInput t (opening (program_of t) input) n k Shown old new → AsksAfter (program_of t) input n k old new
   asks_after c = record {
     before = c.before;
     made = c.stands.made;
@@ -62,23 +62,23 @@ module _ (origin : Origin) (n : ℕ) (source : List ℕ) (left : Option (List �
   }
 
 module _ (file : List ℕ) (n : ℕ) (source : List ℕ) (left : Option (List ℕ)) (t : Tables) (runs : Runs (in_file file) source (program_of t))
-    (input : List ℕ) (is : HasInput left input) (k : ℕ) (plain_machine : Machine) (rest : List ℕ) (old new : Option (List ℕ)) where
+    (input : List ℕ) (is : HasInput left input) (k : ℕ) (Shown : State → Type 0) (old new : Option (List ℕ)) where
   beside : (m : Kept) (still : Type 0) (unread : NeverAsks (program_of t) input n → still) (e : Ended) (s : Status) → IsFresh m →
-      status_of_ended e ≡ s → Whole t (opening (program_of t) input) n k plain_machine rest old new e →
+      status_of_ended e ≡ s → Whole t (opening (program_of t) input) n k Shown old new e →
       RanBeside file n source left s old new m still
   beside m still unread e s fresh same w = record {
     tree = program_of t;
     runs = runs;
     input = input;
     input_is = is;
-    status_is = answered (in_file file) n source left t runs input is k plain_machine rest old new e s same w;
+    status_is = answered (in_file file) n source left t runs input is k Shown old new e s same w;
     wrote = w.text_is;
     fresh = fresh;
     unread = unread;
   }
 
   beside_cut : (m : Kept) (still : Type 0) → (NeverAsks (program_of t) input n → still) → IsFresh m →
-      CutOff t (opening (program_of t) input) n k plain_machine rest old new →
+      CutOff t (opening (program_of t) input) n k Shown old new →
       ForInput left (λ input. CutOffAt (plain file n) source input m old new still)
   beside_cut m still unread fresh h = (
     input,
@@ -94,49 +94,46 @@ module _ (file : List ℕ) (n : ℕ) (source : List ℕ) (left : Option (List �
   )
 
   pub beside-settles : (m : Kept) (still : Type 0) → (NeverAsks (program_of t) input n → still) → (e : Ended) → IsFresh m →
-      RunIs t (opening (program_of t) input) n k plain_machine rest old new e →
+      RunShows t (opening (program_of t) input) n k Shown old new e →
       Settles (plain file n) source left (status_of_ended e) old new m still
   beside-settles m still unread ended.Done fresh h = beside m still unread ended.Done status.Done fresh refl h
   beside-settles m still unread ended.Spent fresh h = beside m still unread ended.Spent status.Spent fresh refl h
   beside-settles m still unread (ended.Trap kind line) fresh h = beside m still unread (ended.Trap kind line) (status.Trap kind line) fresh refl h
   beside-settles m still unread ended.InputFault fresh h =
-      (input, is, (program_of t, runs, fresh, k, asks_after (in_file file) n source left t runs input is k plain_machine rest old new h))
+      (input, is, (program_of t, runs, fresh, k, asks_after (in_file file) n source left t runs input is k Shown old new h))
   beside-settles m still unread ended.OutputFault fresh h = inr (beside_cut m still unread fresh h)
   beside-settles m still unread ended.Memory fresh h = inr (beside_cut m still unread fresh h)
 
 module _ (origin : Origin) (n : ℕ) (source : List ℕ) (left : Option (List ℕ)) (t : Tables) (runs : Runs origin source (program_of t)) (input : List ℕ)
-    (is : HasInput left input) (m : Kept) (begun : m.begun ≡ true) (rest : List ℕ) (old new : Option (List ℕ)) (still : Type 0)
+    (is : HasInput left input) (m : Kept) (rest : List ℕ) (old new : Option (List ℕ)) (still : Type 0)
     (unread : NeverAsks (program_of t) input n → still) where
-  shows : (s : State) → state_of t m.plain rest ≡ s → Shows t m s
-  shows s e = record { begun = begun; rest = rest; state = e }
-
-  whole : (e : Ended) (s : Status) → status_of_ended e ≡ s → Whole t (opening (program_of t) input) n m.steps m.plain rest old new e →
+  whole : (e : Ended) (s : Status) → status_of_ended e ≡ s → Whole t (opening (program_of t) input) n m.steps (ShowsAt t m rest) old new e →
       RanWhole origin n source left s old new m still
   whole e s same w = record {
     tables = t;
     runs = runs;
     input = input;
     input_is = is;
-    status_is = answered origin n source left t runs input is m.steps m.plain rest old new e s same w;
+    status_is = answered origin n source left t runs input is m.steps (ShowsAt t m rest) old new e s same w;
     wrote = w.text_is;
-    stands = stands-shown t input n m runs.accepted (shows _ w.state_is) w.steps_are;
+    stands = stands-shown t input n m runs.accepted w.shows.0 w.steps_are;
     unread = unread;
   }
 
-  stands : StandsAt t (opening (program_of t) input) n m.steps m.plain rest → Stands t input m.steps m
-  stands c = stands-shown t input m.steps m runs.accepted (shows _ c.state_is) (sym c.made)
+  stands : StandsAt t (opening (program_of t) input) n m.steps (ShowsAt t m rest) → Stands t input m.steps m
+  stands c = stands-shown t input m.steps m runs.accepted c.shows.0 (sym c.made)
 
-  stands_after : CutOff t (opening (program_of t) input) n m.steps m.plain rest old new →
+  stands_after : CutOff t (opening (program_of t) input) n m.steps (ShowsAt t m rest) old new →
       StandsAfter t input n m.steps m (added t (opening (program_of t) input) m.steps) old new
   stands_after c = record { within = c.stands.within; made = c.stands.made; stands = stands c.stands; wrote = c.wrote }
 
-  ran-from : (e : Ended) → RunIs t (opening (program_of t) input) n m.steps m.plain rest old new e →
+  ran-from : (e : Ended) → RunShows t (opening (program_of t) input) n m.steps (ShowsAt t m rest) old new e →
       RanFrom origin n source left (status_of_ended e) old new m still
   ran-from ended.Done h = whole ended.Done status.Done refl h
   ran-from ended.Spent h = whole ended.Spent status.Spent refl h
   ran-from (ended.Trap kind line) h = whole (ended.Trap kind line) (status.Trap kind line) refl h
   ran-from ended.InputFault h =
-      (input, is, (t, runs, stands h.stands, asks_after origin n source left t runs input is m.steps m.plain rest old new h))
+      (input, is, (t, runs, stands h.stands, asks_after origin n source left t runs input is m.steps (ShowsAt t m rest) old new h))
   ran-from ended.OutputFault h = inr (input, is, (t, runs, stands_after h, unread))
   ran-from ended.Memory h = inr (input, is, (t, runs, stands_after h, unread))
 
@@ -149,7 +146,7 @@ run-from origin n source left t m e old new quiet still more runs h = elim h.2.1
   | inl none ↦
       let P : Ended → Type 0 = λ q. RanFrom origin n source left (status_of_ended q) old new m still in
       subst P (sym none.answer_is) (inl (none.fresh, none.untouched, more none.unread))
-  | inr ran ↦ ran-from origin n source left t runs h.0 h.1 m ran.begun h.2.0 old new still (λ none. more (ran.unread none)) e ran.run
+  | inr ran ↦ ran-from origin n source left t runs h.0 h.1 m h.2.0 old new still (λ none. more (ran.unread none)) e ran.run
 ]
 
 -- is what `run` has answered, where the program comes from a file
@@ -186,5 +183,5 @@ plain-settles file n k source left t u start new_machine m e old new quiet still
     let P : State → Type 0 = λ s. RunIs t s n k new_machine h.2.0 old new e in
     let N : State → Type 0 = λ s. NoneAsks t s (begun e k) → quiet in
     let Q : Tables → Type 0 = λ q. Runs (in_file file) source (program_of q) in
-    beside-settles file n source left t (subst Q (sym same) runs) h.0 h.1 k new_machine h.2.0 old new m still
+    beside-settles file n source left t (subst Q (sym same) runs) h.0 h.1 k (IsState t new_machine h.2.0) old new m still
     (λ none. more (subst N (begins.state h.0) h.2.1.1 (λ j l. none j (omega (arith, within))))) e fresh (subst P (begins.state h.0) h.2.1.0)

@@ -80,7 +80,7 @@ fn read(alloc: Global, source: &[u8]) -> Result<Program, Stop>
     parse(alloc, source, &found)
 }
 
-/// Runs an accepted program on the machine for at most so many steps.
+/// Lowers an accepted program and runs its code on the machine for at most so many steps.
 fn run_accepted<I: Source, O: Sink>(
     alloc: Global,
     accepted: &Accepted,
@@ -97,8 +97,11 @@ fn run_accepted<I: Source, O: Sink>(
     ensures caused { Caused result (I.faults input.old) (I.faults input.new)
         (O.faults out.old) (O.faults out.new) }
 {
+    let Ok(code) = lower(alloc, accepted) else {
+        return Status::Memory;
+    };
     let mut numbers = Numbers::new();
-    let ended = machine.run(alloc, accepted, steps, &mut numbers, input, out);
+    let ended = machine.run(alloc, accepted, &code, steps, &mut numbers, input, out);
     status_of(ended)
 }
 

@@ -1,4 +1,4 @@
--- A run from its first step to its end, over plain variables.
+-- A run from its first step to its end, over plain states: whatever machine shows them. For callers.
 use Rattle.std.proofs.Common.{◌≡◌, ◌≢◌, ℕ, ◌+◌, ◌-◌, ◌<◌, true, false, List, [], ◌∷◌, ◌++◌, length, drop, Option, refl, sym, ap, ◌∙◌, subst}
 use Rattle.std.proofs.Common.{arith, append-nil, append_assoc, add-one}
 use Rattle.std.proofs.Math.Seq.{drop-append_seam}
@@ -18,10 +18,9 @@ use Rattle.rg_rules.specs.State.{State}
 use Rattle.rg_rules.specs.Steps.{next, Went, Trapped}
 use Rattle.rg_rules.specs.Runs.{Ending, Running, Done, Stopped, Ran, ending_of, plain_from}
 use Rattle.rg_rules.proofs.RunLemmas.{one_more, one_more-went, one_more-trapped, one_more-done, plain_from-suc, plain_from-stays}
-use Rattle.rg_plain.specs.Kept.{shown}
 use Rattle.rg_rules.specs.Inputs.{first_asks}
-use Rattle.rg_plain.specs.Machine.{Machine, state_of, StepsOn}
-use Rattle.rg_plain.specs.Runs.{answer, StandsAt, CutOff, CutAtInput, Whole, RunIs, NoneAsks, begun}
+use Rattle.rg_plain.specs.Outcomes.{Settles}
+use Rattle.rg_plain.specs.Runs.{answer, StandsAt, CutOff, CutAtInput, Whole, NoneAsks}
 use Rattle.rg_rules.specs.Texts.{ran, output_after, text_of, added}
 
 ending-some : (items : List Item) → items ≢ [] → ending_of items ≡ Running
@@ -65,47 +64,38 @@ ran-done t s u v k n within is some went none =
 text-append : (xs ys : List Val) → text (xs ++ ys) ≡ text xs ++ text ys
 text-append xs ys = flat_map-append line_text xs ys
 
--- A run so far: where it stands, what was printed before its last step and in it, and that the text was taken.
-pub record RanSoFar (t : Tables) (s : State) (k : ℕ) (m : Machine) (rest : List ℕ) (old new : Option (List ℕ)) : Type 0 where
-  pub some : shown t m.kept.items ≢ []
-  pub ran_is : ran t s k ≡ at_state (state_of t m rest) k Running
+-- A run so far: the state u where it stands, what was printed before its last step and in it, and that the text was taken.
+pub record RanSoFar (t : Tables) (s : State) (k : ℕ) (u : State) (old new : Option (List ℕ)) : Type 0 where
+  pub some : u.items ≢ []
+  pub ran_is : ran t s k ≡ at_state u k Running
   pub before : List Val
   pub last : List Val
   pub output_before : output_after t s (k - 1) ≡ s.output ++ before
-  pub output : m.kept.output ≡ s.output ++ (before ++ last)
+  pub output : u.output ≡ s.output ++ (before ++ last)
   pub took : Appends old new (text (before ++ last))
 
--- the same of a machine that started on these bytes
-abbrev pub RanOn : Tables → (start : Machine) → (k : ℕ) → (m : Machine) → (old new : Option (List ℕ)) → (before after : List ℕ) → Type 0
-RanOn t start k m old new before after = RanSoFar t (state_of t start before) k m after old new
-
--- what such a run has answered
-abbrev pub RunOn : Tables → (start : Machine) → (n k : ℕ) → (m : Machine) → (old new : Option (List ℕ)) → Ended → (before after : List ℕ) → Type 0
-RunOn t start n k m old new result before after = RunIs t (state_of t start before) n k m after old new result
-
-pub opening : (t : Tables) (m : Machine) (bytes : List ℕ) (content : Option (List ℕ)) → shown t m.kept.items ≢ [] → Appends content content [] →
-    RanSoFar t (state_of t m bytes) 0 m bytes content content
+pub opening : (t : Tables) (s : State) (content : Option (List ℕ)) → s.items ≢ [] → Appends content content [] → RanSoFar t s 0 s content content
 unfolding plain_from
-opening t m bytes content some nothing = record {
+opening t s content some nothing = record {
   some = some;
-  ran_is = ap (at_state (state_of t m bytes) 0) (ending-some (shown t m.kept.items) some);
+  ran_is = ap (at_state s 0) (ending-some s.items some);
   before = [];
   last = [];
-  output_before = sym (append-nil m.kept.output);
-  output = sym (append-nil m.kept.output);
+  output_before = sym (append-nil s.output);
+  output = sym (append-nil s.output);
   took = nothing;
 }
 
 -- a step that went on and printed nothing
-pub quiet : (t : Tables) (s : State) (k : ℕ) (m new : Machine) (rest rest' : List ℕ) (old out : Option (List ℕ)) →
-    RanSoFar t s k m rest old out → StepsOn t m new outcome.Running rest rest' → RanSoFar t s (k + 1) new rest' old out
-quiet t s k m new rest rest' old out so_far step =
+pub quiet : (t : Tables) (s : State) (k : ℕ) (u v : State) (old out : Option (List ℕ)) →
+    RanSoFar t s k u old out → Settles (next (classes_of t) u) u v outcome.Running → RanSoFar t s (k + 1) v old out
+quiet t s k u v old out so_far step =
     let P : List Val → Type 0 = λ vs. Appends old out (text vs) in
     let back : (k + 1) - 1 ≡ k = omega arith in
-    let went = ran-went t s (state_of t m rest) (state_of t new rest') k so_far.ran_is so_far.some step.0 in
+    let went = ran-went t s u v k so_far.ran_is so_far.some step.0 in
     record {
       some = step.1;
-      ran_is = went ∙ ap (at_state (state_of t new rest') (k + 1)) (ending-some (shown t new.kept.items) step.1);
+      ran_is = went ∙ ap (at_state v (k + 1)) (ending-some v.items step.1);
       before = so_far.before ++ so_far.last;
       last = [];
       output_before = ap (output_after t s) back ∙ ap (λ q. q.state.output) so_far.ran_is ∙ so_far.output;
@@ -114,24 +104,24 @@ quiet t s k m new rest rest' old out so_far step =
     }
 
 -- a step that printed a value, whose line was then taken
-pub printed : (t : Tables) (s : State) (k : ℕ) (m new : Machine) (v : Val) (rest rest' : List ℕ) (old between out : Option (List ℕ)) →
-    RanSoFar t s k m rest old between → StepsOn t m new (outcome.Printed v) rest rest' → Appends between out (line_text v) →
-    RanSoFar t s (k + 1) new rest' old out
-printed t s k m new v rest rest' old between out so_far step line =
+pub printed : (t : Tables) (s : State) (k : ℕ) (u v : State) (value : Val) (old between out : Option (List ℕ)) →
+    RanSoFar t s k u old between → Settles (next (classes_of t) u) u v (outcome.Printed value) → Appends between out (line_text value) →
+    RanSoFar t s (k + 1) v old out
+printed t s k u v value old between out so_far step line =
     let P : List ℕ → Type 0 = λ bytes. Appends old out bytes in
     let back : (k + 1) - 1 ≡ k = omega arith in
-    let went = ran-went t s (state_of t m rest) (state_of t new rest') k so_far.ran_is so_far.some step.0 in
+    let went = ran-went t s u v k so_far.ran_is so_far.some step.0 in
     let all = so_far.before ++ so_far.last in
     record {
       some = step.1;
-      ran_is = went ∙ ap (at_state (state_of t new rest') (k + 1)) (ending-some (shown t new.kept.items) step.1);
+      ran_is = went ∙ ap (at_state v (k + 1)) (ending-some v.items step.1);
       before = all;
-      last = v ∷ [];
+      last = value ∷ [];
       output_before = ap (output_after t s) back ∙ ap (λ q. q.state.output) so_far.ran_is ∙ so_far.output;
-      output = step.2 ∙ ap (λ q. q ++ v ∷ []) so_far.output ∙ append_assoc s.output all (v ∷ []);
+      output = step.2 ∙ ap (λ q. q ++ value ∷ []) so_far.output ∙ append_assoc s.output all (value ∷ []);
       took =
-          subst P (sym (text-append all (v ∷ []) ∙ ap (λ q. text all ++ q) (append-nil (line_text v))))
-          (Appends-more old between out (text all) (line_text v) so_far.took line);
+          subst P (sym (text-append all (value ∷ []) ∙ ap (λ q. text all ++ q) (append-nil (line_text value))))
+          (Appends-more old between out (text all) (line_text value) so_far.took line);
     }
 
 -- the text up to a step, by the values that were printed
@@ -146,66 +136,64 @@ added-is t s k before last before_is is =
     ∙ ap text (drop-append_seam (s.output ++ before) last)
 
 -- all steps were made
-pub spent : (t : Tables) (s : State) (n k : ℕ) (m : Machine) (rest : List ℕ) (old new : Option (List ℕ)) → k ≡ n →
-    RanSoFar t s k m rest old new → Whole t s n k m rest old new ended_as.Spent
-spent t s n k m rest old new all so_far =
-    let P : ℕ → Type 0 = λ q. RanSoFar t s q m rest old new in
-    let end : RanSoFar t s n m rest old new = subst P all so_far in
+pub spent : (t : Tables) (s : State) (n k : ℕ) (u : State) (Shows : State → Type 0) (old new : Option (List ℕ)) → k ≡ n →
+    RanSoFar t s k u old new → Shows u → Whole t s n k Shows old new ended_as.Spent
+spent t s n k u Shows old new all so_far shows =
+    let P : ℕ → Type 0 = λ q. RanSoFar t s q u old new in
+    let end : RanSoFar t s n u old new = subst P all so_far in
     let Q : List ℕ → Type 0 = λ bytes. Appends old new bytes in
     record {
       answer_is = sym (ap (λ q. answer q.ending) end.ran_is);
       text_is = subst Q (sym (text-is t s n (end.before ++ end.last) (ap (λ q. q.state.output) end.ran_is ∙ end.output))) end.took;
       steps_are = all ∙ sym (ap (λ q. q.steps) end.ran_is);
-      state_is = sym (ap (λ q. q.state) end.ran_is);
+      shows = subst Shows (sym (ap (λ q. q.state) end.ran_is)) shows;
     }
 
 -- a run that ended before its last step
-ended_early : (t : Tables) (s : State) (n k : ℕ) (m new : Machine) (rest rest' : List ℕ) (old out : Option (List ℕ)) (result : Ended) (u : State)
-    (steps : ℕ) (e : Ending) → (so_far : RanSoFar t s k m rest old out) → ran t s n ≡ at_state u steps e → result ≡ answer e →
-    state_of t new rest' ≡ u → u.output ≡ m.kept.output → Whole t s n steps new rest' old out result
-ended_early t s n k m new rest rest' old out result u steps e so_far ran_is is state output =
+ended_early : (t : Tables) (s : State) (n k : ℕ) (u v : State) (Shows : State → Type 0) (old out : Option (List ℕ)) (result : Ended) (steps : ℕ)
+    (e : Ending) → (so_far : RanSoFar t s k u old out) → ran t s n ≡ at_state v steps e → result ≡ answer e → v.output ≡ u.output → Shows v →
+    Whole t s n steps Shows old out result
+ended_early t s n k u v Shows old out result steps e so_far ran_is is output shows =
     let Q : List ℕ → Type 0 = λ bytes. Appends old out bytes in
     record {
       answer_is = is ∙ sym (ap (λ q. answer q.ending) ran_is);
       text_is = subst Q (sym (text-is t s n (so_far.before ++ so_far.last) (ap (λ q. q.state.output) ran_is ∙ output ∙ so_far.output))) so_far.took;
       steps_are = sym (ap (λ q. q.steps) ran_is);
-      state_is = state ∙ sym (ap (λ q. q.state) ran_is);
+      shows = subst Shows (sym (ap (λ q. q.state) ran_is)) shows;
     }
 
-pub done : (t : Tables) (s : State) (n k : ℕ) (m new : Machine) (rest rest' : List ℕ) (old out : Option (List ℕ)) → k < n →
-    RanSoFar t s k m rest old out → StepsOn t m new outcome.Done rest rest' → Whole t s n (k + 1) new rest' old out ended_as.Done
-done t s n k m new rest rest' old out within so_far step =
-    ended_early t s n k m new rest rest' old out ended_as.Done (state_of t new rest') (k + 1) Done so_far
-    (ran-done t s (state_of t m rest) (state_of t new rest') k n within so_far.ran_is so_far.some step.0 step.1)
-    refl refl step.2
+pub done : (t : Tables) (s : State) (n k : ℕ) (u v : State) (Shows : State → Type 0) (old out : Option (List ℕ)) → k < n →
+    RanSoFar t s k u old out → Settles (next (classes_of t) u) u v outcome.Done → Shows v → Whole t s n (k + 1) Shows old out ended_as.Done
+done t s n k u v Shows old out within so_far step shows =
+    ended_early t s n k u v Shows old out ended_as.Done (k + 1) Done so_far
+    (ran-done t s u v k n within so_far.ran_is so_far.some step.0 step.1) refl step.2 shows
 
-pub trapped : (t : Tables) (s : State) (n k : ℕ) (m new : Machine) (kind : Trap) (line : ℕ) (rest rest' : List ℕ) (old out : Option (List ℕ)) →
-    k < n → RanSoFar t s k m rest old out → StepsOn t m new (outcome.Trap kind line) rest rest' →
-    Whole t s n k new rest' old out (ended_as.Trap kind line)
-trapped t s n k m new kind line rest rest' old out within so_far step =
-    ended_early t s n k m new rest rest' old out (ended_as.Trap kind line) (state_of t m rest) k (Stopped kind line) so_far
-    (ran-trapped t s (state_of t m rest) k n kind line within so_far.ran_is step.0)
-    refl step.1 refl
+pub trapped : (t : Tables) (s : State) (n k : ℕ) (u v : State) (kind : Trap) (line : ℕ) (Shows : State → Type 0) (old out : Option (List ℕ)) →
+    k < n → RanSoFar t s k u old out → Settles (next (classes_of t) u) u v (outcome.Trap kind line) → Shows v →
+    Whole t s n k Shows old out (ended_as.Trap kind line)
+trapped t s n k u v kind line Shows old out within so_far step shows =
+    ended_early t s n k u u Shows old out (ended_as.Trap kind line) k (Stopped kind line) so_far
+    (ran-trapped t s u k n kind line within so_far.ran_is step.0) refl refl (subst Shows step.1 shows)
 
--- a machine that stands where a run so far stood
-stands : (t : Tables) (s : State) (n k : ℕ) (m new : Machine) (rest rest' : List ℕ) (old out : Option (List ℕ)) → k < n →
-    RanSoFar t s k m rest old out → state_of t new rest' ≡ state_of t m rest → StandsAt t s n k new rest'
-stands t s n k m new rest rest' old out within so_far same = record {
+-- a state that is still shown where a run so far stood
+stands : (t : Tables) (s : State) (n k : ℕ) (u v : State) (Shows : State → Type 0) (old out : Option (List ℕ)) → k < n →
+    RanSoFar t s k u old out → v ≡ u → Shows v → StandsAt t s n k Shows
+stands t s n k u v Shows old out within so_far same shows = record {
   within = omega arith;
   made = ap (λ q. q.steps) so_far.ran_is;
-  state_is = same ∙ sym (ap (λ q. q.state) so_far.ran_is);
+  shows = subst Shows (same ∙ sym (ap (λ q. q.state) so_far.ran_is)) shows;
 }
 
 -- a run that was cut off before a step
-pub cut_before : (t : Tables) (s : State) (n k : ℕ) (m new : Machine) (rest rest' : List ℕ) (old out : Option (List ℕ)) → k < n →
-    RanSoFar t s k m rest old out → state_of t new rest' ≡ state_of t m rest → CutOff t s n k new rest' old out
-cut_before t s n k m new rest rest' old out within so_far same =
+pub cut_before : (t : Tables) (s : State) (n k : ℕ) (u v : State) (Shows : State → Type 0) (old out : Option (List ℕ)) → k < n →
+    RanSoFar t s k u old out → v ≡ u → Shows v → CutOff t s n k Shows old out
+cut_before t s n k u v Shows old out within so_far same shows =
     let Q : List ℕ → Type 0 = λ bytes. Appends old out bytes in
     let output_is : output_after t s k ≡ s.output ++ (so_far.before ++ so_far.last) = ap (λ q. q.state.output) so_far.ran_is ∙ so_far.output in
     let whole = added-is t s k so_far.before so_far.last so_far.output_before output_is in
     let before_is = text-is t s (k - 1) so_far.before so_far.output_before in
     record {
-      stands = stands t s n k m new rest rest' old out within so_far same;
+      stands = stands t s n k u v Shows old out within so_far same shows;
       wrote = (
         text so_far.last,
         record { rest = []; whole_is = whole ∙ sym (append-nil (text so_far.last)) },
@@ -214,34 +202,34 @@ cut_before t s n k m new rest rest' old out within so_far same =
     }
 
 -- a run that was cut off before a step that asks for the input
-pub cut_at_input : (t : Tables) (s : State) (n k : ℕ) (m new : Machine) (rest rest' : List ℕ) (old out : Option (List ℕ)) → k < n →
-    first_asks (shown t m.kept.items) ≡ true → RanSoFar t s k m rest old out → state_of t new rest' ≡ state_of t m rest →
-    CutAtInput t s n k new rest' old out
-cut_at_input t s n k m new rest rest' old out within asks so_far same =
+pub cut_at_input : (t : Tables) (s : State) (n k : ℕ) (u v : State) (Shows : State → Type 0) (old out : Option (List ℕ)) → k < n →
+    first_asks u.items ≡ true → RanSoFar t s k u old out → v ≡ u → Shows v → CutAtInput t s n k Shows old out
+cut_at_input t s n k u v Shows old out within asks so_far same shows =
     let Q : List ℕ → Type 0 = λ bytes. Appends old out bytes in
     record {
-      stands = stands t s n k m new rest rest' old out within so_far same;
+      stands = stands t s n k u v Shows old out within so_far same shows;
       before = within;
       asks = ap (λ q. first_asks q.state.items) so_far.ran_is ∙ asks;
       wrote = subst Q (sym (text-is t s k (so_far.before ++ so_far.last) (ap (λ q. q.state.output) so_far.ran_is ∙ so_far.output))) so_far.took;
     }
 
 -- a run whose last line wasn't taken whole
-pub cut_behind : (t : Tables) (s : State) (n k : ℕ) (m new : Machine) (v : Val) (rest rest' : List ℕ) (old between out : Option (List ℕ)) → k < n →
-    RanSoFar t s k m rest old between → StepsOn t m new (outcome.Printed v) rest rest' → AppendsPart between out (line_text v) →
-    CutOff t s n (k + 1) new rest' old out
-cut_behind t s n k m new v rest rest' old between out within so_far step part =
+pub cut_behind : (t : Tables) (s : State) (n k : ℕ) (u v : State) (value : Val) (Shows : State → Type 0) (old between out : Option (List ℕ)) →
+    k < n → RanSoFar t s k u old between → Settles (next (classes_of t) u) u v (outcome.Printed value) → Shows v →
+    AppendsPart between out (line_text value) → CutOff t s n (k + 1) Shows old out
+cut_behind t s n k u v value Shows old between out within so_far step shows part =
     let back : (k + 1) - 1 ≡ k = omega arith in
     let all = so_far.before ++ so_far.last in
-    let went = ran-went t s (state_of t m rest) (state_of t new rest') k so_far.ran_is so_far.some step.0 in
+    let went = ran-went t s u v k so_far.ran_is so_far.some step.0 in
     let before_is : output_after t s ((k + 1) - 1) ≡ s.output ++ all =
     ap (output_after t s) back ∙ ap (λ q. q.state.output) so_far.ran_is ∙ so_far.output in
-    let now_is : output_after t s (k + 1) ≡ s.output ++ (all ++ v ∷ []) =
-    ap (λ q. q.state.output) went ∙ step.2 ∙ ap (λ q. q ++ v ∷ []) so_far.output ∙ append_assoc s.output all (v ∷ []) in
-    let line_is : added t s (k + 1) ≡ line_text v = added-is t s (k + 1) all (v ∷ []) before_is now_is ∙ append-nil (line_text v) in
+    let now_is : output_after t s (k + 1) ≡ s.output ++ (all ++ value ∷ []) =
+    ap (λ q. q.state.output) went ∙ step.2 ∙ ap (λ q. q ++ value ∷ []) so_far.output ∙ append_assoc s.output all (value ∷ []) in
+    let line_is : added t s (k + 1) ≡ line_text value =
+    added-is t s (k + 1) all (value ∷ []) before_is now_is ∙ append-nil (line_text value) in
     let Q : List ℕ → Type 0 = λ bytes. Appends old out (bytes ++ part.0) in
     record {
-      stands = record { within = omega arith; made = ap (λ q. q.steps) went; state_is = sym (ap (λ q. q.state) went) };
+      stands = record { within = omega arith; made = ap (λ q. q.steps) went; shows = subst Shows (sym (ap (λ q. q.state) went)) shows };
       wrote = (
         part.0,
         record { rest = part.1.rest; whole_is = line_is ∙ part.1.whole_is },
@@ -250,20 +238,7 @@ cut_behind t s n k m new v rest rest' old between out within so_far step part =
     }
 
 -- where none of the steps so far asks, and this one doesn't either, what held before it holds behind it
-pub none_more : (t : Tables) (s : State) (k : ℕ) (m : Machine) (rest : List ℕ) (old new : Option (List ℕ)) (Before After : Type 0) →
-    RanSoFar t s k m rest old new → (NoneAsks t s k → Before) → (first_asks (shown t m.kept.items) ≡ false → Before → After) →
-    NoneAsks t s (k + 1) → After
-none_more t s k m rest old new Before After so_far before more none =
+pub none_more : (t : Tables) (s : State) (k : ℕ) (u : State) (old new : Option (List ℕ)) (Before After : Type 0) →
+    RanSoFar t s k u old new → (NoneAsks t s k → Before) → (first_asks u.items ≡ false → Before → After) → NoneAsks t s (k + 1) → After
+none_more t s k u old new Before After so_far before more none =
     more (ap (λ q. first_asks q.state.items) (sym so_far.ran_is) ∙ none k (omega arith)) (before (λ j l. none j (omega arith)))
-
--- a run so far of a machine that started on these bytes; where none of its steps asks, something is as it was
-abbrev pub UnreadOn : Tables → (start : Machine) → (k : ℕ) → (m : Machine) → (old new : Option (List ℕ)) → (Still : Type 0) →
-    (before after : List ℕ) → Type 0
-UnreadOn t start k m old new Still before after =
-    RanOn t start k m old new before after × (NoneAsks t (state_of t start before) k → Still)
-
--- what a run has answered, and that something is as it was where none of the steps that it began asks
-abbrev pub QuietOn : Tables → (start : Machine) → (n k : ℕ) → (m : Machine) → (old new : Option (List ℕ)) → Ended → (Still : Type 0) →
-    (before after : List ℕ) → Type 0
-QuietOn t start n k m old new result Still before after =
-    RunOn t start n k m old new result before after × (NoneAsks t (state_of t start before) (begun result k) → Still)

@@ -1,15 +1,18 @@
 -- How frames lie over their slots, and what the fields of `Parts` show (docs/architecture.md, "The stepper").
-use Rattle.std.specs.Prelude.{◌≡◌, ◌≤◌, ◌<◌, ℕ, List, [], ◌∷◌, map, reverse, length, All, Option, Some, None, Bool as Truth, true, false}
-use Rattle.std.specs.Prelude.{if◌then◌else◌, nat_lt}
+use Rattle.std.specs.Prelude.{◌≡◌, ◌≤◌, ◌<◌, ℕ, suc, List, [], ◌∷◌, map, reverse, length, All, Option, Some, None, Bool as Truth, true, false}
+use Rattle.std.specs.Prelude.{slice_get, slice_set, if◌then◌else◌, nat_lt}
 use Rattle.rg_base.specs.declared.words.Manager.{Manager}
 use Rattle.rg_base.specs.declared.value.Val.{Val}
+use Rattle.rg_base.specs.declared.value.Val.TheVariants.{Nil}
 use Rattle.rg_base.specs.declared.value.Word.{Word}
+use Rattle.rg_code.specs.declared.op.Op.{Op}
+use Rattle.rg_code.specs.declared.op.Op.TheVariants as i
 use Rattle.rg_store.specs.declared.objects.ObjectRow.{ObjectRow}
 use Rattle.rg_store.specs.Shown.{store_of}
 use Rattle.rg_store.specs.Regions.{LabelsFit}
 use Rattle.rg_frames.specs.declared.rows.Frame.{Frame as FrameRow}
 use Rattle.rg_frames.specs.Stack.{Stack}
-use Rattle.rg_stack.specs.Machine.{Frame, value_of_word, slots_below, top_slots, place_of}
+use Rattle.rg_stack.specs.Machine.{Frame, value_of_word, slots_below, top_slots, with_slots, place_of}
 use Rattle.rg_stack.specs.Effects.{begins_by}
 use Rattle.rg_step.specs.Shown.{frames_of, windows_of, machine_of}
 use Rattle.rg_step.specs.Inner.Core.{Core, may_return}
@@ -64,3 +67,30 @@ opens v z = if nat_lt z (length (top_slots (frames_of v))) then begins_by (windo
 -- windows have some of the first regions, so many
 abbrev pub AreBelow : (regions : ℕ) → Stack → Type 0
 AreBelow n v = All (λ w. w.region < n) v.windows
+
+-- as much room as before
+pub record SameRoom (old new : Stack) : Type 0 where
+  pub frames : new.frame_room ≡ old.frame_room
+  pub slots : new.slot_room ≡ old.slot_room
+
+-- frames, behind the clears with which instructions begin
+abbrev pub cleared : List Op → List Frame → List Frame
+cleared [] fs = fs
+cleared (i.Clear s ∷ os) fs = cleared os (with_slots (slice_set (top_slots fs) s Nil) fs)
+cleared (o ∷ os) fs = fs
+
+-- how many clears instructions begin with
+abbrev pub clears : List Op → ℕ
+clears [] = 0
+clears (i.Clear s ∷ os) = suc (clears os)
+clears (o ∷ os) = 0
+
+-- whether an instruction is a call
+abbrev pub is_call : Option Op → Truth
+is_call None = false
+is_call (Some (i.Call m)) = true
+is_call (Some o) = false
+
+-- whether a call stands behind the clears with which instructions begin
+abbrev pub calls_next : List Op → Truth
+calls_next os = is_call (slice_get os (clears os))

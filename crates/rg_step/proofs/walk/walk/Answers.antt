@@ -1,43 +1,183 @@
-use Rattle.std.proofs.Common.{arith}
-use Rattle.rg_step.proofs.TurnLemmas.{turn-on, turn-to, turn-back, turn-ends, turn-read, turn-more}
+use Rattle.std.proofs.Common.{◌∙◌, ◌+◌, ap, subst, sym, arith}
+use Rattle.rg_stack.specs.Refusals.{manner}
+use Rattle.rg_step.specs.Inner.Core.{Core}
+use Rattle.rg_step.specs.Inner.Refusals.{WantsRoom}
+use Rattle.rg_step.specs.Inner.Walks.{walk_from}
+use Rattle.rg_step.proofs.TurnLemmas.{turn-on, turn-to, turn-back, turn-ends, turn-read, turn-more, turn-room, turn-full}
+use Rattle.rg_step.proofs.StandsLemmas.{stands-on, stands-to, stands-back, stands-left, stands-asking, stands-number, stands-free, stands-roomless}
+use Rattle.rg_step.proofs.LeavesLemmas.{on-backs, to-backs, asks-backs, room-backs, same-back}
 use Rattle.rg_step.proofs.walk.walk.Goals as goal
 
 pub loop-at-preserved-in-On : goal.loop-at-preserved-in-On
-loop-at-preserved-in-On c = (
-  omega (arith, c.loop-at.invariant.0),
-  turn-on c.args.code.now c.loop-at.at c.get.result c.loop-at.p c.act.new.p _ c.loop-at.invariant.1 c.get.ensures c.in-On.ensures,
-)
+loop-at-preserved-in-On c =
+    let code = c.args.code.now in
+    let i = c.loop-at.invariant in
+    let old = c.loop-at.p in
+    let new = c.act.new.p in
+    let op = c.get.result in
+    record {
+      further = omega (arith, i.further);
+      walks = turn-on code c.loop-at.at op old new _ i.walks c.get.ensures c.in-On.ensures.effect;
+      stands = λ start asks h. stands-on code.ops start asks c.loop-at.at old.machine new.machine op c.get.ensures c.in-On.ensures.keeps
+          (i.stands start asks h);
+      backs = on-backs (manner op) old.machine new.machine c.in-On.ensures.keeps ∙ i.backs;
+    }
 
 pub loop-at-preserved-then-to-at : goal.loop-at-preserved-then-to-at
-loop-at-preserved-then-to-at c = (
-  omega (arith, c.loop-at.invariant.0, c.if-to-at.true),
-  turn-to c.args.code.now c.loop-at.at c.in-To.to c.get.result c.loop-at.p c.act.new.p _ c.loop-at.invariant.1 c.get.ensures (omega (arith, c.if-to-at.true)) c.in-To.ensures,
-)
+loop-at-preserved-then-to-at c =
+    let code = c.args.code.now in
+    let i = c.loop-at.invariant in
+    let old = c.loop-at.p in
+    let new = c.act.new.p in
+    let op = c.get.result in
+    record {
+      further = omega (arith, i.further, c.if-to-at.true);
+      walks = turn-to code c.loop-at.at c.in-To.to op old new _ i.walks c.get.ensures (omega (arith, c.if-to-at.true)) c.in-To.ensures.effect;
+      stands = λ start asks h. stands-to code.ops start asks c.loop-at.at old.machine new.machine op c.get.ensures c.in-To.to
+          (omega (arith, c.if-to-at.true))
+          c.in-To.ensures.keeps (i.stands start asks h);
+      backs = to-backs (manner op) c.in-To.to old.machine new.machine c.in-To.ensures.keeps ∙ i.backs;
+    }
+
+pub loop-at-preserved-else-to-at : goal.loop-at-preserved-else-to-at
+loop-at-preserved-else-to-at c =
+    let code = c.args.code.now in
+    let i = c.loop-at.invariant in
+    let old = c.loop-at.p in
+    let new = c.act.new.p in
+    let op = c.get.result in
+    record {
+      further = omega (arith, i.further);
+      walks = turn-back code c.loop-at.at c.in-To.to op old new _ i.walks c.get.ensures (omega (arith, c.if-to-at.false)) c.in-To.ensures.effect;
+      stands = λ start asks h. stands-back code.ops start asks c.loop-at.at old.machine new.machine op c.get.ensures c.in-To.to
+          c.in-To.ensures.keeps (i.stands start asks h);
+      backs = to-backs (manner op) c.in-To.to old.machine new.machine c.in-To.ensures.keeps ∙ i.backs;
+    }
 
 pub loop-at-preserved : goal.loop-at-preserved
-loop-at-preserved c = (
-  omega (arith, c.loop-at.invariant.0),
-  turn-back c.args.code.now c.loop-at.at c.in-To.to c.get.result c.loop-at.p c.act.new.p _ c.loop-at.invariant.1 c.get.ensures (omega (arith, c.if-to-at.false)) c.in-To.ensures,
-)
+loop-at-preserved c =
+    let code = c.args.code.now in
+    let i = c.loop-at.invariant in
+    let old = c.loop-at.p in
+    let new = c.make_room.new.p in
+    let op = c.get.result in
+    let W : Core → Type 0 = λ n. WantsRoom (manner op) old.machine n.machine in
+    let wants = subst W (sym c.in-Free.ensures.0) c.in-Room.ensures.keeps in
+    record {
+      further = omega (arith, i.further);
+      walks = λ input. turn-room code c.loop-at.at op old c.act.new.p _ i.walks c.get.ensures c.in-Room.ensures.effect c.in-Free.ensures.1 input
+          ∙ sym (ap (λ n. walk_from code (c.loop-at.at + 1) n input) c.in-Free.ensures.0);
+      stands = λ start asks h. stands-free code.ops start asks c.loop-at.at old.machine new.machine op c.get.ensures wants c.in-Free.ensures.2
+          (i.stands start asks h);
+      backs = room-backs (manner op) old.machine new.machine wants ∙ i.backs;
+    }
+
+pub returns-in-Called : goal.returns-in-Called
+returns-in-Called c =
+    let i = c.loop-at.invariant in record {
+      walk = λ input. turn-room c.args.code.now c.loop-at.at c.get.result c.loop-at.p c.act.new.p _ i.walks c.get.ensures c.in-Room.ensures.effect
+          c.in-Called.ensures.0 input
+          ∙ c.in-Called.ensures.1 input;
+      leaves = λ start asks h. tt;
+      backs = tt;
+    }
+
+pub returns-in-Lost-make_room : goal.returns-in-Lost-make_room
+returns-in-Lost-make_room c =
+    let i = c.loop-at.invariant in record {
+      walk = λ input. turn-room c.args.code.now c.loop-at.at c.get.result c.loop-at.p c.act.new.p _ i.walks c.get.ensures c.in-Room.ensures.effect
+          c.in-Lost-make_room.ensures.0 input
+          ∙ c.in-Lost-make_room.ensures.1 input;
+      leaves = λ start asks h. tt;
+      backs = tt;
+    }
+
+pub returns-in-Full : goal.returns-in-Full
+returns-in-Full c =
+    let i = c.loop-at.invariant in
+    let op = c.get.result in
+    let same = c.in-Full.ensures.0 in
+    record {
+      walk = turn-full c.args.code.now c.loop-at.at op c.loop-at.p c.act.new.p _ i.walks c.get.ensures c.in-Room.ensures.effect c.in-Full.ensures.1;
+      leaves = λ start asks h. ap (λ (n : Core). n.machine) same
+          ∙ stands-roomless c.args.code.now.ops start asks c.loop-at.at c.loop-at.p.machine c.act.new.p.machine op c.get.ensures
+          c.in-Room.ensures.keeps (i.stands start asks h);
+      backs = tt;
+    }
+
+pub returns-in-Memory-make_room : goal.returns-in-Memory-make_room
+returns-in-Memory-make_room c =
+    let i = c.loop-at.invariant in
+    let op = c.get.result in
+    record {
+      walk = tt;
+      leaves = λ start asks h. ap (λ (n : Core). n.machine) c.in-Memory-make_room.ensures
+          ∙ stands-roomless c.args.code.now.ops start asks c.loop-at.at c.loop-at.p.machine c.act.new.p.machine op c.get.ensures
+          c.in-Room.ensures.keeps (i.stands start asks h);
+      backs = tt;
+    }
 
 pub returns-in-Stop : goal.returns-in-Stop
-returns-in-Stop c = turn-ends c.args.code.now c.loop-at.at c.get.result c.loop-at.p _ _ c.loop-at.invariant.1 c.get.ensures c.in-Stop.ensures
+returns-in-Stop c = record {
+  walk = turn-ends c.args.code.now c.loop-at.at c.get.result c.loop-at.p _ _ c.loop-at.invariant.walks c.get.ensures c.in-Stop.ensures.effect;
+  leaves = λ start asks h. tt;
+  backs = tt;
+}
 
 pub returns-in-Return : goal.returns-in-Return
-returns-in-Return c = turn-ends c.args.code.now c.loop-at.at c.get.result c.loop-at.p _ _ c.loop-at.invariant.1 c.get.ensures c.in-Return.ensures
+returns-in-Return c = record {
+  walk = turn-ends c.args.code.now c.loop-at.at c.get.result c.loop-at.p _ _ c.loop-at.invariant.walks c.get.ensures c.in-Return.ensures.effect;
+  leaves = λ start asks h. tt;
+  backs = same-back c.args.p.now.machine.frames c.loop-at.p.machine.frames c.in-Return.back c.loop-at.invariant.backs c.in-Return.ensures.keeps;
+}
 
 pub returns-in-Trap : goal.returns-in-Trap
-returns-in-Trap c = turn-ends c.args.code.now c.loop-at.at c.get.result c.loop-at.p _ _ c.loop-at.invariant.1 c.get.ensures c.in-Trap.ensures
+returns-in-Trap c = record {
+  walk = turn-ends c.args.code.now c.loop-at.at c.get.result c.loop-at.p _ _ c.loop-at.invariant.walks c.get.ensures c.in-Trap.ensures.effect;
+  leaves = λ start asks h. stands-left c.args.code.now.ops start asks c.loop-at.at c.loop-at.p.machine c.act.new.p.machine c.get.result c.get.ensures
+      c.in-Trap.ensures.keeps (c.loop-at.invariant.stands start asks h);
+  backs = tt;
+}
+
+pub returns-in-Memory : goal.returns-in-Memory
+returns-in-Memory c = record {
+  walk = tt;
+  leaves = λ start asks h. stands-left c.args.code.now.ops start asks c.loop-at.at c.loop-at.p.machine c.act.new.p.machine c.get.result c.get.ensures
+      c.in-Memory.ensures.keeps (c.loop-at.invariant.stands start asks h);
+  backs = tt;
+}
 
 pub returns-in-Lost : goal.returns-in-Lost
-returns-in-Lost c = turn-ends c.args.code.now c.loop-at.at c.get.result c.loop-at.p _ _ c.loop-at.invariant.1 c.get.ensures c.in-Lost.ensures
+returns-in-Lost c = record {
+  walk = turn-ends c.args.code.now c.loop-at.at c.get.result c.loop-at.p _ _ c.loop-at.invariant.walks c.get.ensures c.in-Lost.ensures.effect;
+  leaves = λ start asks h. tt;
+  backs = tt;
+}
 
 pub returns-in-Read : goal.returns-in-Read
 returns-in-Read c =
-    let r = turn-read c.args.code.now c.loop-at.at c.get.result c.loop-at.p c.act.new.p _ c.loop-at.invariant.1 c.get.ensures c.in-Read.ensures in
-    (c.loop-at.invariant.0, omega (arith, c.loop-at-test.true, c.len.ensures), r.0, r.1)
+    let i = c.loop-at.invariant in
+    let op = c.get.result in
+    let r = turn-read c.args.code.now c.loop-at.at op c.loop-at.p c.act.new.p _ i.walks c.get.ensures c.in-Read.ensures.effect in
+    record {
+      walk = (i.further, omega (arith, c.loop-at-test.true, c.len.ensures), r.0, r.1);
+      leaves = λ start asks h. (
+        stands-asking c.args.code.now.ops start asks c.loop-at.at c.loop-at.p.machine c.act.new.p.machine op c.get.ensures
+            c.in-Read.ensures.keeps.0 c.in-Read.ensures.keeps.1 (i.stands start asks h),
+        stands-number c.args.code.now.ops start asks c.loop-at.at c.loop-at.p.machine c.act.new.p.machine op c.get.ensures
+            c.in-Read.ensures.keeps.2 c.in-Read.ensures.keeps.1 (i.stands start asks h),
+      );
+      backs = asks-backs (manner op) c.loop-at.p.machine c.act.new.p.machine c.in-Read.ensures.keeps.1 ∙ i.backs;
+    }
 
 pub returns-in-More : goal.returns-in-More
 returns-in-More c =
-    let r = turn-more c.args.code.now c.loop-at.at c.get.result c.loop-at.p c.act.new.p _ c.loop-at.invariant.1 c.get.ensures c.in-More.ensures in
-    (c.loop-at.invariant.0, omega (arith, c.loop-at-test.true, c.len.ensures), r.0, r.1)
+    let i = c.loop-at.invariant in
+    let op = c.get.result in
+    let r = turn-more c.args.code.now c.loop-at.at op c.loop-at.p c.act.new.p _ i.walks c.get.ensures c.in-More.ensures.effect in
+    record {
+      walk = (i.further, omega (arith, c.loop-at-test.true, c.len.ensures), r.0, r.1);
+      leaves = λ start asks h. stands-asking c.args.code.now.ops start asks c.loop-at.at c.loop-at.p.machine c.act.new.p.machine op c.get.ensures
+          c.in-More.ensures.keeps.0 c.in-More.ensures.keeps.1 (i.stands start asks h);
+      backs = asks-backs (manner op) c.loop-at.p.machine c.act.new.p.machine c.in-More.ensures.keeps.1 ∙ i.backs;
+    }

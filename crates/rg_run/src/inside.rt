@@ -1,0 +1,87 @@
+//! What a machine holds, and the loop of its steps (docs/language.md, "Steps").
+
+ghost use Rattle.std.specs.Prelude.{◌≡◌, ◌≢◌, ◌≤◌, false, true};
+ghost use Rattle.rg_tree.specs.Rows.RowTrees.{program_of};
+ghost use Rattle.rg_code.specs.Lowering.{Lowers};
+ghost use Rattle.rg_io.specs.Content.{Rose};
+ghost use Rattle.rg_input.specs.Numbers.{Follows, OnInput};
+ghost use Rattle.rg_step.specs.Steps.{fresh};
+ghost use Rattle.rg_run.specs.Inner.{kept_of};
+ghost use Rattle.rg_run.specs.Machine.{IsFresh};
+ghost use Rattle.rg_run.specs.Runs.{RunsOn};
+
+use rg_base::{Ended, Outcome};
+use rg_check::Accepted;
+use rg_code::CodeList;
+use rg_input::Numbers;
+use rg_io::{Failed, Sink, Source};
+use rg_plain::put_value;
+use rg_step::Stepper;
+use std::alloc::Global;
+
+/// Whether a run has begun, the stack machine, and the whole steps that it made.
+#[derive(Drop)]
+pub(crate) struct Inside {
+    pub(crate) begun: bool,
+    pub(crate) stepper: Stepper,
+    pub(crate) steps: u64,
+}
+
+impl Inside {
+    /// Makes at most `n` steps of an accepted program.
+    pub(crate) fn run<I: Source, O: Sink>(
+        &mut self,
+        alloc: Global,
+        accepted: &Accepted,
+        code: &CodeList,
+        n: u64,
+        input: &mut Numbers,
+        source: &mut I,
+        out: &mut O,
+    ) -> Ended
+        requires fresh { IsFresh (kept_of self.old) }
+        requires lowers { Lowers (program_of accepted.now.program) code.now }
+        requires follows { Follows input.old (I.left source.old) }
+
+        ensures run { OnInput input.old input.new (I.left source.old) (I.left source.new)
+            (RunsOn accepted.now.program n (O.taken out.old) (O.taken out.new) (kept_of self.new)
+            result ((input.new ≡ input.old) × (source.new ≡ source.old))) }
+        ensures begun { result ≢ Ended.Memory → self.new.begun ≡ true }
+        ensures kept { self.new.begun ≡ false →
+            (self.new.stepper ≡ fresh) × (self.new.steps ≡ 0) }
+        ensures follows { Follows input.new (I.left source.new) }
+
+        ensures input_fault { result ≡ Ended.InputFault →
+            Rose (I.faults source.old) (I.faults source.new) }
+        ensures output_fault { result ≡ Ended.OutputFault →
+            Rose (O.faults out.old) (O.faults out.new) }
+        ensures source_never_falls { I.faults source.old ≤ I.faults source.new }
+        ensures sink_never_falls { O.faults out.old ≤ O.faults out.new }
+    {
+        let program = accepted.program();
+        let Ok(()) = self.stepper.begin(alloc, code, program.main_manager()) else {
+            return Ended::Memory;
+        };
+        self.begun = true;
+        while self.steps < n {
+            match self.stepper.step(alloc, code, input, source) {
+                Outcome::Running => self.steps += 1,
+                Outcome::Printed(v) => {
+                    self.steps += 1;
+                    match put_value(out, v) {
+                        Ok(()) => (),
+                        Err(Failed) => return Ended::OutputFault,
+                    }
+                }
+                Outcome::Done => {
+                    self.steps += 1;
+                    return Ended::Done;
+                }
+                Outcome::Trap { kind, line } => return Ended::Trap { kind, line },
+                Outcome::InputFault => return Ended::InputFault,
+                Outcome::Memory => return Ended::Memory,
+            }
+        }
+        Ended::Spent
+    }
+}

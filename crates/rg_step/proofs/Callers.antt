@@ -1,2 +1,0 @@
--- What callers cite: where the code leads on.
-pub mod LeadsLemmas
