@@ -5,9 +5,12 @@
 mod code;
 mod headings;
 mod op;
+mod shape;
+mod shapes;
 mod texts;
 mod whole;
 
 pub use code::{CodeList, Entry};
 pub use op::Op;
+pub use shape::Shape;
 pub use whole::listing;
