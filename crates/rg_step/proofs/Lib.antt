@@ -11,3 +11,5 @@ mod RunLemmas
 mod AskLemmas
 mod StepLemmas
 mod OpeningLemmas
+mod ShapeLemmas
+mod LeapLemmas

@@ -4,3 +4,4 @@ pub mod Layout
 pub mod Objects
 pub mod Walks
 pub mod Refusals
+pub mod Leaps

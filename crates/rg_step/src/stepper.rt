@@ -7,9 +7,10 @@ ghost use Rattle.rg_input.specs.Numbers.{Follows, OnInput};
 ghost use Rattle.rg_tree.specs.Tree.{Tree};
 ghost use Rattle.rg_rules.specs.Inputs.{first_asks};
 ghost use Rattle.rg_rules.specs.State.{State};
-ghost use Rattle.rg_step.specs.Steps.{Counts, IsRunning, Runs, StepsOn, counted};
-ghost use Rattle.rg_step.specs.Steps.{fresh, opening_machine};
+ghost use Rattle.rg_step.specs.Steps.{Counts, IsRunning, Leapt, Runs, StepsOn, counted};
+ghost use Rattle.rg_step.specs.Steps.{counted_by, fresh, opening_machine};
 
+use crate::leap::leap;
 use crate::parts::Parts;
 use crate::step::{Did, step};
 use rg_base::{Manager, Memory, Outcome, Seen};
@@ -76,6 +77,18 @@ impl Stepper {
         self.parts.object(alloc, serial)
     }
 
+    /// Makes as many steps as can be made at once, at most so many, and answers how many. None of
+    /// them is the last one, prints, or asks for the input.
+    pub fn leap(&mut self, code: &CodeList, most: u64) -> u64
+        ensures leaps { Leapt code.now result self.old.machine self.new.machine }
+        ensures most { result ≤ most }
+        ensures counts { self.new.steps ≡ counted_by result self.old.steps }
+    {
+        let made = leap(&mut self.parts, code, most);
+        self.steps = more(self.steps, made);
+        made
+    }
+
     /// Makes one step. One that was refused leaves what is shown, the input and the count; the
     /// input is asked at most where the first thing to do asks.
     pub fn step<S: Source>(
@@ -120,6 +133,13 @@ impl Stepper {
             Did::Lost => unreachable!(),
         }
     }
+}
+
+/// So many steps more, as far as 64 bits count.
+fn more(steps: u64, made: u64) -> u64
+    ensures { result ≡ counted_by made steps }
+{
+    if steps <= u64::MAX - made { steps + made } else { u64::MAX }
 }
 
 /// One step more, as far as 64 bits count.
