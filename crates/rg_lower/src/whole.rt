@@ -27,7 +27,9 @@ pub fn lower(alloc: Global, accepted: &Accepted) -> Result<CodeList, Memory>
     write_main(alloc, &book, &mut code)?;
     write_methods(alloc, &book, &mut code)?;
     write_openings(alloc, &book, &mut code)?;
-    Ok(code.finish())
+    let mut list = code.finish();
+    list.find_shapes()?;
+    Ok(list)
 }
 
 // Appends main's code to the empty one, with main's number of slots.

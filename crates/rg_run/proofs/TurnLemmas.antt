@@ -1,5 +1,5 @@
 -- A run of the stack machine, one step after another, beside that of the machine that never frees.
-use Rattle.std.proofs.Common.{◌≡◌, ◌≢◌, ℕ, ◌+◌, ◌≤◌, ◌<◌, Bool, true, false, inr, List, [], ◌∷◌, ◌++◌, Option, Some, None}
+use Rattle.std.proofs.Common.{◌≡◌, ◌≢◌, ℕ, zero, suc, ◌+◌, ◌≤◌, ◌<◌, Bool, true, false, inr, List, [], ◌∷◌, ◌++◌, Option, Some, None}
 use Rattle.std.proofs.Common.{refl, sym, subst, arith}
 use Rattle.rg_base.specs.declared.outcome.Outcome.{Outcome}
 use Rattle.rg_base.specs.declared.outcome.Outcome.TheVariants as outcome
@@ -33,7 +33,7 @@ use Rattle.rg_stack.specs.Shows as stack
 use Rattle.rg_stack.specs.Simulates.{NoneLeft, SomeLeft}
 use Rattle.rg_stack.proofs.Callers.OpeningLemmas.{opening-shows, opening-fit}
 use Rattle.rg_step.specs.Steps.{Stepping, opening_machine}
-use Rattle.rg_step.specs.Steps.{Runs, IsRunning, StepsOn}
+use Rattle.rg_step.specs.Steps.{Leapt, Runs, IsRunning, StepsOn}
 use Rattle.rg_step.specs.Steps as stepper
 use Rattle.rg_run.specs.Machine.{Kept, ShowsAt}
 use Rattle.rg_run.specs.Runs.{Ran, RunsOn}
@@ -188,6 +188,20 @@ module _ (t : Tables) (code : Code) (k : ℕ) (m new : Machine) (Before After : 
         ends = ends-on t b.state q.state b.runs.left b.ends q.settles.0;
         unread = still-behind old middle b;
       }
+
+-- so many steps that went on, printed nothing and left the input
+pub leapt : (t : Tables) (code : Code) (k j : ℕ) (m new : Machine) (Before : Type 0) (before between : List ℕ) (old out : Option (List ℕ)) →
+    Between t code k m old out Before before between → Leapt code j m new → Between t code (k + j) new old out Before before between
+leapt t code k zero m new Before before between old out b h =
+    let same : k ≡ k + 0 = omega arith in
+    let P : Machine → Type 0 = λ x. Between t code (k + 0) x old out Before before between in
+    let Q : ℕ → Type 0 = λ n. Between t code n m old out Before before between in
+    subst P (sym h) (subst Q same b)
+leapt t code k (suc j) m new Before before between old out b h =
+    let same : k + j + 1 ≡ k + suc j = omega arith in
+    let Q : ℕ → Type 0 = λ n. Between t code n new old out Before before between in
+    subst Q same (quiet t code (k + j) h.0 new Before Before before between between (λ p runs none x. x) old out
+    (leapt t code k j m h.0 Before before between old out b h.1) (h.2 between))
 
 module _ (t : Tables) (code : Code) (n k : ℕ) (within : k < n) (m : Machine) (new : Stepping) (Before After : Type 0) (before between after : List ℕ)
     (more : (p : State) → Runs (program_of t) code m p → first_asks p.items ≡ false → Before → After) (started : Bool) (is : started ≡ true) where

@@ -65,7 +65,10 @@ impl Inside {
         self.begun = true;
         while self.steps < n {
             match self.stepper.step(alloc, code, input, source) {
-                Outcome::Running => self.steps += 1,
+                Outcome::Running => {
+                    self.steps += 1;
+                    self.steps += self.stepper.leap(code, n - self.steps);
+                }
                 Outcome::Printed(v) => {
                     self.steps += 1;
                     match put_value(out, v) {

@@ -13,7 +13,7 @@ use Rattle.rg_step.specs.Steps.{Stepping, opening_machine, Runs, StepsOn}
 use Rattle.rg_run.specs.Machine.{Kept}
 use Rattle.rg_run.proofs.RunLemmas.{not-begun}
 use Rattle.rg_run.proofs.TurnLemmas.{Between, Turns, RanOn, begins, quiet, printed, done, trapped, cut_before, cut_at_input, cut_behind, spent, is-running}
-use Rattle.rg_run.proofs.TurnLemmas.{turn, told}
+use Rattle.rg_run.proofs.TurnLemmas.{turn, told, leapt}
 use Rattle.rg_run.proofs.inside.Inside.run.Goals as goal
 
 pub loop-self-init : goal.loop-self-init
@@ -58,15 +58,17 @@ loop-self-preserved-in-Running g c =
     let within : k < c.args.n = omega (arith, c.loop-self-test.true) in
     let more : (p : State) → Runs (program_of t) code m p → first_asks p.items ≡ false → Before → After =
     (λ p runs no b. let n = c.in-Running.ensures.reads_nothing (program_of t) p runs no in (n.0 ∙ b.0, n.1 ∙ b.1)) in
+    let stepped = turn _ _ _ _ _ _ (Turns t code k m old middle Before) (StepsOn code m new.machine outcome.Running)
+    (Turns t code (k + 1) new.machine old middle After) c.loop-self.invariant.turns c.in-Running.ensures.step
+    (λ x y z b step. quiet t code k m new.machine Before After x y z more old middle b step) in
     record {
       begun = c.loop-self.invariant.begun;
       follows = c.in-Running.ensures.follows;
-      within = omega arith;
+      within = omega (arith, within, c.leap.ensures.most);
       source_never_falls = omega (arith, c.loop-self.invariant.source_never_falls, c.in-Running.ensures.never_falls);
       sink_never_falls = c.loop-self.invariant.sink_never_falls;
-      turns = turn _ _ _ _ _ _ (Turns t code k m old middle Before) (StepsOn code m new.machine outcome.Running)
-          (Turns t code (k + 1) new.machine old middle After) c.loop-self.invariant.turns c.in-Running.ensures.step
-          (λ x y z b step. quiet t code k m new.machine Before After x y z more old middle b step);
+      turns = OnInput-map _ _ _ _ (Turns t code (k + 1) new.machine old middle After) (Turns t code (k + 1 + c.leap.result) c.leap.new.self.machine old middle After)
+          stepped (λ x y b. leapt t code (k + 1) c.leap.result new.machine c.leap.new.self.machine After x y old middle b c.leap.ensures.leaps);
     }
 
 pub loop-self-preserved : goal.loop-self-preserved
