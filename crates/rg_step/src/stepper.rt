@@ -139,7 +139,11 @@ impl Stepper {
 fn more(steps: u64, made: u64) -> u64
     ensures { result ≡ counted_by made steps }
 {
-    if steps <= u64::MAX - made { steps + made } else { u64::MAX }
+    if steps <= u64::MAX - made {
+        steps + made
+    } else {
+        u64::MAX
+    }
 }
 
 /// One step more, as far as 64 bits count.
