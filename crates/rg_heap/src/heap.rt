@@ -1,0 +1,154 @@
+//! The heap: cells and regions (docs/architecture.md, "The heap").
+
+ghost use Rattle.std.specs.Prelude.{◌≡◌, ◌<◌, ℕ, [], true, false, IfOk, OnErr, length, option_map};
+ghost use Rattle.std.specs.Prelude.{Some};
+ghost use Rattle.rg_base.specs.declared.object.Label.TheVariants.{Temp};
+ghost use Rattle.rg_cells.specs.declared.cell.Body.{Body as BodyOf};
+ghost use Rattle.rg_cells.specs.Table.{IsHeld, body_at, label_at};
+ghost use Rattle.rg_regions.specs.Table.{IsKey, Added, fresh};
+ghost use Rattle.rg_regions.specs.Grove.{Grove};
+ghost use Rattle.rg_heap.specs.Parts.{OnTop};
+ghost use Rattle.rg_heap.specs.Answers.{CanRead, Reads, AllLead, Shows, end_numbers, Tells};
+ghost use Rattle.rg_heap.specs.Answers.{LeadsIntoClosed};
+
+use crate::answers::Active;
+use crate::reading::{region_of, vals};
+use rg_base::{EndNumbers, Manager, Memory, Seen, Trap, Word};
+use rg_cells::Cells;
+use rg_frames::Frames;
+use rg_regions::Regions;
+use std::alloc::Global;
+use std::marker::Model;
+
+/// Cells and regions. The regions are a forest (`Grove`), between any two calls.
+#[derive(Drop)]
+pub struct Heap {
+    cells: Cells,
+    regions: Regions,
+}
+
+impl Model for Heap {
+    ghost use Rattle.rg_heap.specs.Parts.{Parts, Sound};
+
+    ghost Value = { Parts };
+
+    ghost view = { λ h. record { cells = h.cells; regions = h.regions } };
+
+    ghost invariant = { λ h. Sound h.cells h.regions };
+}
+
+impl Heap {
+    /// No cell and no region.
+    pub fn new(alloc: Global) -> Heap
+        ensures slots { result.cells.heap.slots ≡ [] }
+        ensures serials { result.cells.heap.next ≡ 0 }
+        ensures records { result.regions.records ≡ [] }
+        ensures numbers { result.regions.next ≡ 0 }
+    {
+        Heap {
+            cells: Cells::new(alloc),
+            regions: Regions::new(alloc),
+        }
+    }
+
+    /// Adds region 0, without cells, to a heap that has made no region; answers its key.
+    pub fn begin(&mut self, manager: Manager) -> Result<usize, Memory>
+        requires { self.old.regions.next ≡ 0 }
+        ensures added { IfOk result (λ key.
+            Added self.old.regions self.new.regions key (fresh self.old.regions manager)) }
+        ensures cells { self.new.cells ≡ self.old.cells }
+        ensures err { OnErr result (self.new ≡ self.old) }
+    {
+        self.regions.add(manager)
+    }
+
+    /// What always holds of the regions.
+    pub fn is_forest(&self)
+        ensures { Grove self.now.cells self.now.regions }
+    {
+        let _ = &self.cells;
+    }
+
+    /// A field of the object that is referred to. `Nil` comes exactly at nil.
+    pub fn read(&self, at: Word, k: u32) -> Result<Word, Trap>
+        requires { CanRead self.now.cells.heap at k }
+        ensures { Reads self.now.cells.heap at k result }
+    {
+        match at {
+            Word::Nil => Err(Trap::Nil),
+            Word::Int(_) | Word::Bool(_) => unreachable!(),
+            Word::Slot(slot) => Ok(self.cells.field(slot, k)),
+        }
+    }
+
+    /// The serial of a held cell.
+    pub fn serial(&self, slot: usize) -> u64
+        requires { IsHeld self.now.cells.heap slot }
+        ensures { option_map (λ (b : BodyOf). b.serial) (body_at self.now.cells.heap slot)
+            ≡ Some result }
+    {
+        self.cells.serial(slot)
+    }
+
+    /// The active region.
+    pub fn active(&self, frames: &Frames) -> Active
+        requires window { 0 < length frames.now.windows }
+        requires key { OnTop frames.now (λ w. IsKey self.now.regions w.region) }
+        ensures { OnTop frames.now (λ w. Tells self.now.regions w.region result) }
+    {
+        let key = frames.top().region;
+        Active {
+            region: self.regions.number(key),
+            manager: self.regions.manager(key),
+            held: self.regions.members(key).len() as u64,
+        }
+    }
+
+    /// Whether a word leads to a cell of a region that no window has open.
+    pub fn owns(&self, frames: &Frames, at: Word) -> bool
+        requires { (s : ℕ) → at ≡ Word.Slot s → IsHeld self.now.cells.heap s }
+        ensures closed { result ≡ true → LeadsIntoClosed self.now frames.now at }
+        ensures only { LeadsIntoClosed self.now frames.now at → result ≡ true }
+    {
+        let Word::Slot(slot) = at else {
+            return false;
+        };
+        match region_of(&self.cells, &self.regions, slot) {
+            Some(key) => !frames.is_open(key),
+            None => false,
+        }
+    }
+
+    /// The object with a serial, as it is shown; None exactly where no held cell has that serial.
+    pub fn shown(&self, alloc: Global, serial: u64) -> Result<Option<Seen>, Memory>
+        requires { (s n : ℕ) → label_at self.now.cells.heap s ≡ Some (Temp n)
+            → AllLead self.now.cells.heap s }
+        ensures { IfOk result (Shows self.now.cells.heap serial) }
+    {
+        let Some(slot) = self.cells.find(serial) else {
+            return Ok(None);
+        };
+        let fields = vals(alloc, &self.cells, slot)?;
+        Ok(Some(Seen {
+            class: self.cells.class(slot),
+            fields,
+            label: self.cells.label(slot),
+        }))
+    }
+
+    /// The numbers of the heap.
+    pub fn numbers(&self) -> EndNumbers
+        ensures { result ≡ end_numbers self.now }
+    {
+        let frozen = self.cells.frozen();
+        EndNumbers {
+            steps: 0,
+            made: self.cells.made(),
+            held: self.cells.held() - frozen,
+            frozen,
+            regions: self.regions.count() as u64,
+            collections: 0,
+            high: self.cells.high() as u64,
+        }
+    }
+}

@@ -1,0 +1,11 @@
+//! The heap (docs/architecture.md, "The heap"). `Heap` owns cells and regions, and keeps the
+//! forest (`Grove`) as an invariant: making, reading and writing objects, and opening, leaving and
+//! dropping regions, each exact on cells, regions and windows.
+#![tactic(auto)]
+
+mod answers;
+mod heap;
+mod reading;
+
+pub use answers::{Active, Refusal};
+pub use heap::Heap;
