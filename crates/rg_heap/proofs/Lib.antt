@@ -1,3 +1,4 @@
 mod Readers
 mod Alike
 mod Grows
+mod Comes

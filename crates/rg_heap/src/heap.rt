@@ -2,18 +2,22 @@
 
 ghost use Rattle.std.specs.Prelude.{◌≡◌, ◌<◌, ℕ, [], true, false, IfOk, OnErr, length, option_map};
 ghost use Rattle.std.specs.Prelude.{Some};
-ghost use Rattle.rg_base.specs.declared.object.Label.TheVariants.{Temp};
+ghost use Rattle.rg_base.specs.declared.object.Label.TheVariants.{Region, Temp};
 ghost use Rattle.rg_cells.specs.declared.cell.Body.{Body as BodyOf};
 ghost use Rattle.rg_cells.specs.Table.{IsHeld, body_at, label_at};
 ghost use Rattle.rg_regions.specs.Table.{IsKey, Added, fresh};
 ghost use Rattle.rg_regions.specs.Grove.{Grove};
+ghost use Rattle.rg_frames.specs.Stack.{Begun, with_temp};
 ghost use Rattle.rg_heap.specs.Parts.{OnTop};
+ghost use Rattle.rg_heap.specs.Changes.{LeadsNowhere, OnActive, Makes, SameCells, SameRecords};
+ghost use Rattle.rg_heap.specs.Changes.{Rewritten, OpensOne, as_it_is, with_one};
 ghost use Rattle.rg_heap.specs.Answers.{CanRead, Reads, AllLead, Shows, end_numbers, Tells};
 ghost use Rattle.rg_heap.specs.Answers.{LeadsIntoClosed};
 
 use crate::answers::Active;
+use crate::making::{make_bridge, make_in};
 use crate::reading::{region_of, vals};
-use rg_base::{EndNumbers, Manager, Memory, Seen, Trap, Word};
+use rg_base::{EndNumbers, Label, Manager, Memory, Seen, Trap, Word};
 use rg_cells::Cells;
 use rg_frames::Frames;
 use rg_regions::Regions;
@@ -67,6 +71,74 @@ impl Heap {
         ensures { Grove self.now.cells self.now.regions }
     {
         let _ = &self.cells;
+    }
+
+    /// Makes an object in the active region; answers its slot.
+    pub fn make(
+        &mut self,
+        frames: &Frames,
+        class: u32,
+        fields: &[Word],
+    ) -> Result<usize, Memory>
+        requires window { 0 < length frames.now.windows }
+        requires key { OnTop frames.now (λ w. IsKey self.old.regions w.region) }
+        requires plain { LeadsNowhere fields.now }
+        ensures cell { IfOk result (λ slot. OnActive self.old.regions frames.now (λ key number.
+            Makes self.old.cells self.new.cells slot class (Region number) fields.now)) }
+        ensures member { IfOk result (λ slot. OnTop frames.now (λ w.
+            Rewritten self.old.regions self.new.regions w.region (with_one slot))) }
+        ensures cells { OnErr result (self.new.cells ≡ self.old.cells) }
+        ensures regions { OnErr result (OnTop frames.now (λ w.
+            Rewritten self.old.regions self.new.regions w.region as_it_is)) }
+    {
+        let key = frames.top().region;
+        make_in(&mut self.cells, &mut self.regions, key, class, fields)
+    }
+
+    /// Makes a temporary of the top window; answers its slot. Where there is no memory, one slot
+    /// more may have been held.
+    pub fn make_tmp(
+        &mut self,
+        frames: &mut Frames,
+        class: u32,
+        fields: &[Word],
+    ) -> Result<usize, Memory>
+        requires begun { Begun frames.old }
+        requires plain { LeadsNowhere fields.now }
+        ensures cell { IfOk result (λ slot. OnTop frames.old (λ w.
+            Makes self.old.cells self.new.cells slot class (Temp w.number) fields.now)) }
+        ensures temp { IfOk result (λ slot. frames.new ≡ with_temp frames.old slot) }
+        ensures cells { OnErr result (SameCells self.old.cells self.new.cells) }
+        ensures frames { OnErr result (frames.new ≡ frames.old) }
+        ensures regions { self.new.regions ≡ self.old.regions }
+    {
+        let number = frames.top().number;
+        let Ok(slot) = self.cells.make(class, Label::Temp(number), fields) else {
+            return Err(Memory);
+        };
+        let Ok(()) = frames.push_temp(slot) else {
+            self.cells.cancel(slot);
+            return Err(Memory);
+        };
+        Ok(slot)
+    }
+
+    /// Makes an object with a region of its own, which is closed; answers its slot, the bridge.
+    pub fn make_region(
+        &mut self,
+        class: u32,
+        fields: &[Word],
+        manager: Manager,
+    ) -> Result<usize, Memory>
+        requires { LeadsNowhere fields.now }
+        ensures cell { IfOk result (λ slot. Makes self.old.cells self.new.cells slot class
+            (Region self.old.regions.next) fields.now) }
+        ensures region { IfOk result (λ slot.
+            OpensOne self.old.regions self.new.regions slot manager) }
+        ensures cells { OnErr result (self.new.cells ≡ self.old.cells) }
+        ensures regions { OnErr result (SameRecords self.old.regions self.new.regions) }
+    {
+        make_bridge(&mut self.cells, &mut self.regions, class, fields, manager)
     }
 
     /// A field of the object that is referred to. `Nil` comes exactly at nil.

@@ -5,6 +5,7 @@
 
 mod answers;
 mod heap;
+mod making;
 mod reading;
 
 pub use answers::{Active, Refusal};
