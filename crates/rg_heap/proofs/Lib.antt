@@ -2,3 +2,4 @@ mod Readers
 mod Alike
 mod Grows
 mod Comes
+mod Written

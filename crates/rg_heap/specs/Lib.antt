@@ -1,3 +1,4 @@
 pub mod Parts
 pub mod Answers
 pub mod Changes
+pub mod Writes

@@ -7,6 +7,7 @@ mod answers;
 mod heap;
 mod making;
 mod reading;
+mod writing;
 
 pub use answers::{Active, Refusal};
 pub use heap::Heap;

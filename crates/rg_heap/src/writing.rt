@@ -1,0 +1,58 @@
+//! Fields that are written (docs/architecture.md, "The heap").
+
+ghost use Rattle.std.specs.Prelude.{◌≡◌, ◌<◌, ◌+◌, ◌-◌, ◌^◌, ℕ, None, IfSome};
+ghost use Rattle.rg_cells.specs.Table.{IsHeld, mark_at};
+ghost use Rattle.rg_regions.specs.Reach.{LiesIn};
+ghost use Rattle.rg_heap.specs.Writes.{counted};
+
+use rg_base::{Label, Word};
+use rg_cells::Cells;
+
+// The cell of a region to which a word leads, if it leads to one.
+fn target(cells: &Cells, region: u64, w: Word) -> Option<usize>
+    requires { (s : ℕ) → w ≡ Word.Slot s → IsHeld cells.now.heap s }
+    ensures some { IfSome result (λ s. (w ≡ Word.Slot s) × LiesIn cells.now.heap region s) }
+    ensures none { result ≡ None → (s : ℕ) → w ≡ Word.Slot s → LiesIn cells.now.heap region s → ⊥ }
+{
+    let Word::Slot(to) = w else {
+        return None;
+    };
+    let Label::Region(number) = cells.label(to) else {
+        return None;
+    };
+    if number != region {
+        return None;
+    }
+    Some(to)
+}
+
+/// One more field of a region leads where a word leads.
+pub fn raise(cells: &mut Cells, region: u64, w: Word)
+    requires held { (s : ℕ) → w ≡ Word.Slot s → IsHeld cells.old.heap s }
+    requires room { (s : ℕ) → LiesIn cells.old.heap region s → mark_at cells.old s < 2 ^ 64 - 1 }
+    ensures heap { cells.new.heap ≡ cells.old.heap }
+    ensures marks { (s : ℕ) → mark_at cells.new s
+        ≡ mark_at cells.old s + counted cells.old.heap region w s }
+{
+    let Some(to) = target(cells, region, w) else {
+        return;
+    };
+    let mark = cells.mark(to);
+    cells.set_mark(to, mark + 1);
+}
+
+/// One field less of a region leads where a word leads.
+pub fn lower(cells: &mut Cells, region: u64, w: Word)
+    requires held { (s : ℕ) → w ≡ Word.Slot s → IsHeld cells.old.heap s }
+    requires marked { (s : ℕ) → w ≡ Word.Slot s → LiesIn cells.old.heap region s
+        → 0 < mark_at cells.old s }
+    ensures heap { cells.new.heap ≡ cells.old.heap }
+    ensures marks { (s : ℕ) → mark_at cells.new s + counted cells.old.heap region w s
+        ≡ mark_at cells.old s }
+{
+    let Some(to) = target(cells, region, w) else {
+        return;
+    };
+    let mark = cells.mark(to);
+    cells.set_mark(to, mark - 1);
+}
