@@ -3,3 +3,4 @@ mod Alike
 mod Grows
 mod Comes
 mod Written
+mod Marked

@@ -19,14 +19,11 @@ use Rattle.rg_regions.specs.Grove.{Grove, Parent, Above, direct, further, referr
 use Rattle.rg_regions.proofs.Callers.Told.{one_region, lies_or_not}
 use Rattle.rg_regions.proofs.Callers.Fewer.{above_both, belongs_not, total_alike}
 use Rattle.rg_heap.specs.Writes.{Ownerless, Comes, Stays, IsCounting}
+use Rattle.rg_heap.specs.Inner.Marks.{leads_once}
 
 -- a word may stand in a field of a region's cell
 abbrev pub MayHold : Heap → RegionTable → (region : ℕ) → Word → Type 0
 MayHold h t r w = Stays h r w ⊎ Comes h t r w
-
--- one where a word leads to a slot
-abbrev pub leads_once : ℕ → Word → ℕ
-leads_once s w = cond (leads_to s w) 1 0
 
 -- a field of a cell is written, and the marks follow where the cell's region counts
 pub record Writes (c : Table) (t : RegionTable) (cells : Table) (slot k : ℕ) (b : Body) (old w : Word) : Type 0 where
@@ -50,7 +47,7 @@ set_got (y ∷ ws) zero w old (suc j) x e f = inr f
 set_got (y ∷ ws) (suc k) w old zero x e f = inr f
 set_got (y ∷ ws) (suc k) w old (suc j) x e f = elim (set_got ws k w old j x e f) [ inl a ↦ inl (ap suc a.0, a.1) | inr a ↦ inr a ]
 
-count-set : (s : ℕ) (ws : List Word) (k : ℕ) (w old : Word) → slice_get ws k ≡ Some old
+pub count-set : (s : ℕ) (ws : List Word) (k : ℕ) (w old : Word) → slice_get ws k ≡ Some old
     → count_by (leads_to s) (set ws k w) + leads_once s old ≡ count_by (leads_to s) ws + leads_once s w
 count-set s ws k w old e =
     let a : count_by (leads_to s) (set ws k w) + leads_once s (get_or ws k old) ≡ count_by (leads_to s) ws + leads_once s w =
@@ -58,13 +55,13 @@ count-set s ws k w old e =
     ap (λ z. count_by (leads_to s) (set ws k w) + leads_once s z) (sym (get_or_from_slice_get ws k old old e)) ∙ a
 
 -- a total with one slot written
-total-set : (f : Option Body → ℕ) (xs : List (Option (Option Body))) (slot : ℕ) (b d : Body) → body_in (get_or xs slot None) ≡ Some b
+pub total-set : (f : Option Body → ℕ) (xs : List (Option (Option Body))) (slot : ℕ) (b d : Body) → body_in (get_or xs slot None) ≡ Some b
     → total f (set xs slot (Some (Some d))) + f (Some b) ≡ total f xs + f (Some d)
 total-set f [] slot b d e = cc
 total-set f (x ∷ xs) zero b d e = let q = ap f e in omega (arith, q)
 total-set f (x ∷ xs) (suc slot) b d e = omega (arith, total-set f xs slot b d e)
 
-there-set : (xs : List (Option (Option Body))) (slot : ℕ) (b d : Body) → body_in (get_or xs slot None) ≡ Some b
+pub there-set : (xs : List (Option (Option Body))) (slot : ℕ) (b d : Body) → body_in (get_or xs slot None) ≡ Some b
     → body_in (get_or (set xs slot (Some (Some d))) slot None) ≡ Some d
 there-set [] slot b d e = cc
 there-set (x ∷ xs) zero b d e = refl

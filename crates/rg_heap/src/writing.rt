@@ -1,12 +1,16 @@
 //! Fields that are written (docs/architecture.md, "The heap").
 
 ghost use Rattle.std.specs.Prelude.{◌≡◌, ◌<◌, ◌+◌, ◌-◌, ◌^◌, ℕ, None, IfSome};
-ghost use Rattle.rg_cells.specs.Table.{IsHeld, mark_at};
+ghost use Rattle.rg_cells.specs.Table.{IsHeld, body_at, mark_at, width, with_field};
+ghost use Rattle.rg_regions.specs.Table.{IsKey};
 ghost use Rattle.rg_regions.specs.Reach.{LiesIn};
+ghost use Rattle.rg_heap.specs.Parts.{Sound};
 ghost use Rattle.rg_heap.specs.Writes.{counted};
+ghost use Rattle.rg_heap.specs.Inner.Marks.{MayWrite, Recounts};
 
-use rg_base::{Label, Word};
+use rg_base::{Label, Manager, Word};
 use rg_cells::Cells;
+use rg_regions::Regions;
 
 // The cell of a region to which a word leads, if it leads to one.
 fn target(cells: &Cells, region: u64, w: Word) -> Option<usize>
@@ -26,8 +30,8 @@ fn target(cells: &Cells, region: u64, w: Word) -> Option<usize>
     Some(to)
 }
 
-/// One more field of a region leads where a word leads.
-pub fn raise(cells: &mut Cells, region: u64, w: Word)
+// One more field of a region leads where a word leads.
+fn raise(cells: &mut Cells, region: u64, w: Word)
     requires held { (s : ℕ) → w ≡ Word.Slot s → IsHeld cells.old.heap s }
     requires room { (s : ℕ) → LiesIn cells.old.heap region s → mark_at cells.old s < 2 ^ 64 - 1 }
     ensures heap { cells.new.heap ≡ cells.old.heap }
@@ -41,8 +45,8 @@ pub fn raise(cells: &mut Cells, region: u64, w: Word)
     cells.set_mark(to, mark + 1);
 }
 
-/// One field less of a region leads where a word leads.
-pub fn lower(cells: &mut Cells, region: u64, w: Word)
+// One field less of a region leads where a word leads.
+fn lower(cells: &mut Cells, region: u64, w: Word)
     requires held { (s : ℕ) → w ≡ Word.Slot s → IsHeld cells.old.heap s }
     requires marked { (s : ℕ) → w ≡ Word.Slot s → LiesIn cells.old.heap region s
         → 0 < mark_at cells.old s }
@@ -55,4 +59,43 @@ pub fn lower(cells: &mut Cells, region: u64, w: Word)
     };
     let mark = cells.mark(to);
     cells.set_mark(to, mark - 1);
+}
+
+// The marks follow where a field will lead, if the cell's region counts.
+fn recount(cells: &mut Cells, regions: &Regions, key: usize, slot: usize, k: u32, w: Word)
+    requires sound { Sound cells.old regions.now }
+    requires key { IsKey regions.now key }
+    requires width { k < width (body_at cells.old.heap slot) }
+    requires place { MayWrite cells.old.heap regions.now key slot w }
+    ensures { Recounts cells.old regions.now cells.new slot k w }
+{
+    let Manager::Count = regions.manager(key) else {
+        return;
+    };
+    let Label::Region(region) = cells.label(slot) else {
+        return;
+    };
+    let old = cells.field(slot, k);
+    raise(cells, region, w);
+    lower(cells, region, old);
+}
+
+/// Writes a field of a cell of the region of a key, or of a temporary.
+pub fn write_field(
+    cells: &mut Cells,
+    regions: &Regions,
+    key: usize,
+    slot: usize,
+    k: u32,
+    w: Word,
+)
+    requires sound { Sound cells.old regions.now }
+    requires key { IsKey regions.now key }
+    requires width { k < width (body_at cells.old.heap slot) }
+    requires place { MayWrite cells.old.heap regions.now key slot w }
+    ensures heap { cells.new.heap ≡ with_field cells.old.heap slot k w }
+    ensures sound { Sound cells.new regions.now }
+{
+    recount(cells, regions, key, slot, k, w);
+    cells.set_field(slot, k, w);
 }
