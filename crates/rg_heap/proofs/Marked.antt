@@ -19,7 +19,10 @@ use Rattle.rg_regions.specs.Grove.{Grove, referrers, leads_to}
 use Rattle.rg_regions.proofs.Callers.Told.{one_region, lies_or_not, number_of}
 use Rattle.rg_regions.proofs.Callers.Fewer.{belongs_not}
 use Rattle.rg_heap.specs.Parts.{Sound}
-use Rattle.rg_heap.specs.Writes.{Stays, IsTemp, IsCounting, counted}
+use Rattle.rg_frames.specs.declared.rows.Window.{Window}
+use Rattle.rg_frames.specs.Stack.{Stack, IsTop}
+use Rattle.rg_heap.specs.Writes.{Stays, Comes, LeadsOut, InActive, IsTemp, IsCounting, counted}
+use Rattle.rg_heap.proofs.Readers.{one_top}
 use Rattle.rg_heap.specs.Inner.Marks.{MayWrite, Recounts, leads_once}
 use Rattle.rg_heap.proofs.Written.{Writes, MayHold, grove_written, total-set, count-set}
 
@@ -232,5 +235,65 @@ sound_written c mid cells t key slot k w g a e l may =
         let y : label_at c.heap slot ≡ Some Frozen = ap (option_map (λ (b : Body). b.label)) x ∙ ap Some f in
         elim may [
           | inl m ↦ let z : Some Frozen ≡ Some (Region m.0) = sym y ∙ m.2 in cc
+          | inr m ↦ let z : Some Frozen ≡ Some (Temp m.0) = sym y ∙ m.1 in cc
+        ]
+
+-- the top window names the region of the cell
+pub may_write : (h : Heap) (t : RegionTable) (v : Stack) (top : Window) (slot : ℕ) (w : Word) → IsTop v top
+    → InActive h t v slot (λ n. Stays h n w) ⊎ IsTemp h slot → MayWrite h t top.region slot w
+may_write h t v top slot w a p = elim p [
+  | inl x ↦
+      let P : Window → Type 0 = λ z. HasNumber t z.region x.1 in
+      inl (x.1, subst P (one_top v x.0 top x.2 a) x.3, x.4, x.5)
+  | inr x ↦ inr x
+]
+
+leads_zero : (s : ℕ) (w : Word) → (w ≡ Slot s → ⊥) → leads_once s w ≡ 0
+leads_zero s Nil n = refl
+leads_zero s (Int i) n = refl
+leads_zero s (Truth b) n = refl
+leads_zero s (Slot x) n = elim (eqb_tells s x) [ inl e ↦ absurd (n (ap Slot (sym e.1))) | inr e ↦ ap (λ b. cond {A = ℕ} b 1 0) e.0 ]
+
+-- what a field owns is swapped: no mark changes
+pub sound_swapped : (c cells : Table) (t : RegionTable) (v : Stack) (slot k : ℕ) (w : Word) → Sound c t
+    → cells ≡ record c { heap = with_field c.heap slot k w } → k < width (body_at c.heap slot)
+    → InActive c.heap t v slot (λ n. Comes c.heap t n w × LeadsOut c.heap slot k n) ⊎ IsTemp c.heap slot → Sound cells t
+sound_swapped c cells t v slot k w g e l place =
+    let x = field_there c.heap slot k l in
+    let now : cells.heap ≡ with_field c.heap slot k w = ap (λ (z : Table). z.heap) e in
+    let total = ap field_total now ∙ field_total-written c.heap slot k x.0 w x.2 in
+    let few = g.few in
+    record {
+      grove = grove_written c t cells slot k x.0 x.1 w g.grove (record {
+        is = x.2;
+        was = x.3;
+        now = now;
+        not_frozen = λ f. not_ice x.0 x.2 f;
+        may = λ r i. inr (here r i).0;
+        recounted = λ r s i j m.
+            let a = leads_zero s x.1 (λ q.
+                let F : Word → Type 0 = λ z. field_at c.heap slot k ≡ Some z in
+                (here r i).1 s (subst F q (ap (option_and_then (λ (b : Body). slice_get b.fields k)) x.2 ∙ x.3)) m) in
+            let b = leads_zero s w (λ q. let y = (here r i).0 s q in y.2 (one_region c.heap s y.0 r y.1.lies m)) in
+            let u = ap (λ (z : Table). mark_at z s) e in
+            omega (arith, a, b, u);
+        uncounted = λ s n. ap (λ (z : Table). mark_at z s) e;
+      });
+      few = omega (arith, total, few);
+    }
+  where
+    here : (r : ℕ) → LiesIn c.heap r slot → Comes c.heap t r w × LeadsOut c.heap slot k r
+    here r i = elim place [
+      | inl a ↦
+          let P : ℕ → Type 0 = λ n. Comes c.heap t n w × LeadsOut c.heap slot k n in
+          subst P (one_region c.heap slot a.1 r a.4 i) a.5
+      | inr a ↦ absurd (temp_apart c.heap slot r a i)
+    ]
+
+    not_ice : (b : Body) → body_at c.heap slot ≡ Some b → b.label ≡ Frozen → ⊥
+    not_ice b x f =
+        let y : label_at c.heap slot ≡ Some Frozen = ap (option_map (λ (b : Body). b.label)) x ∙ ap Some f in
+        elim place [
+          | inl m ↦ let z : Some Frozen ≡ Some (Region m.1) = sym y ∙ m.4 in cc
           | inr m ↦ let z : Some Frozen ≡ Some (Temp m.0) = sym y ∙ m.1 in cc
         ]

@@ -34,6 +34,10 @@ IsTemp h slot = (n : ℕ) × (label_at h slot ≡ Some (Temp n))
 abbrev pub InActive : Heap → RegionTable → Stack → (slot : ℕ) → ((number : ℕ) → Type 0) → Type 0
 InActive h t v slot P = (w : Window) × (n : ℕ) × IsTop v w × HasNumber t w.region n × LiesIn h n slot × P n
 
+-- a field doesn't lead into the region
+abbrev pub LeadsOut : Heap → (slot k region : ℕ) → Type 0
+LeadsOut h slot k r = (to : ℕ) → field_at h slot k ≡ Some (Slot to) → LiesIn h r to → ⊥
+
 -- one where a word leads to a slot that lies in a region
 abbrev pub counted : Heap → (region : ℕ) → Word → (slot : ℕ) → ℕ
 counted h r w s = cond (leads_to s w) (cond (belongs r (body_at h s)) 1 0) 0

@@ -1,22 +1,24 @@
 //! The heap: cells and regions (docs/architecture.md, "The heap").
 
 ghost use Rattle.std.specs.Prelude.{◌≡◌, ◌<◌, ℕ, [], true, false, IfOk, OnErr, length, option_map};
-ghost use Rattle.std.specs.Prelude.{Some};
+ghost use Rattle.std.specs.Prelude.{Some, ◌⊎◌};
 ghost use Rattle.rg_base.specs.declared.object.Label.TheVariants.{Region, Temp};
 ghost use Rattle.rg_cells.specs.declared.cell.Body.{Body as BodyOf};
-ghost use Rattle.rg_cells.specs.Table.{IsHeld, body_at, label_at};
+ghost use Rattle.rg_cells.specs.Table.{IsHeld, body_at, field_at, label_at, width, with_field};
 ghost use Rattle.rg_regions.specs.Table.{IsKey, Added, fresh};
 ghost use Rattle.rg_regions.specs.Grove.{Grove};
 ghost use Rattle.rg_frames.specs.Stack.{Begun, with_temp};
 ghost use Rattle.rg_heap.specs.Parts.{OnTop};
 ghost use Rattle.rg_heap.specs.Changes.{LeadsNowhere, OnActive, Makes, SameCells, SameRecords};
 ghost use Rattle.rg_heap.specs.Changes.{Rewritten, OpensOne, as_it_is, with_one};
+ghost use Rattle.rg_heap.specs.Writes.{Comes, InActive, IsTemp, LeadsOut, Stays};
 ghost use Rattle.rg_heap.specs.Answers.{CanRead, Reads, AllLead, Shows, end_numbers, Tells};
 ghost use Rattle.rg_heap.specs.Answers.{LeadsIntoClosed};
 
 use crate::answers::Active;
 use crate::making::{make_bridge, make_in};
 use crate::reading::{region_of, vals};
+use crate::writing::write_field;
 use rg_base::{EndNumbers, Label, Manager, Memory, Seen, Trap, Word};
 use rg_cells::Cells;
 use rg_frames::Frames;
@@ -151,6 +153,38 @@ impl Heap {
             Word::Int(_) | Word::Bool(_) => unreachable!(),
             Word::Slot(slot) => Ok(self.cells.field(slot, k)),
         }
+    }
+
+    /// Writes a field of a cell of the active region, or of a temporary.
+    pub fn write(&mut self, frames: &Frames, slot: usize, k: u32, w: Word)
+        requires window { 0 < length frames.now.windows }
+        requires key { OnTop frames.now (λ top. IsKey self.old.regions top.region) }
+        requires width { k < width (body_at self.old.cells.heap slot) }
+        requires place { InActive self.old.cells.heap self.old.regions frames.now slot
+            (λ number. Stays self.old.cells.heap number w) ⊎ IsTemp self.old.cells.heap slot }
+        ensures heap { self.new.cells.heap ≡ with_field self.old.cells.heap slot k w }
+        ensures regions { self.new.regions ≡ self.old.regions }
+    {
+        let key = frames.top().region;
+        write_field(&mut self.cells, &self.regions, key, slot, k, w);
+    }
+
+    /// Writes a field of a cell of the active region, or of a temporary, and answers what stood
+    /// there. The field may have owned a region, and may come to own one.
+    pub fn swap(&mut self, frames: &Frames, slot: usize, k: u32, w: Word) -> Word
+        requires width { k < width (body_at self.old.cells.heap slot) }
+        requires place { InActive self.old.cells.heap self.old.regions frames.now slot
+            (λ number. Comes self.old.cells.heap self.old.regions number w
+                × LeadsOut self.old.cells.heap slot k number)
+            ⊎ IsTemp self.old.cells.heap slot }
+        ensures value { field_at self.old.cells.heap slot k ≡ Some result }
+        ensures heap { self.new.cells.heap ≡ with_field self.old.cells.heap slot k w }
+        ensures regions { self.new.regions ≡ self.old.regions }
+    {
+        let _ = frames;
+        let old = self.cells.field(slot, k);
+        self.cells.set_field(slot, k, w);
+        old
     }
 
     /// The serial of a held cell.
