@@ -4,3 +4,5 @@ mod Grows
 mod Comes
 mod Written
 mod Marked
+mod OwnedChained
+mod Ended

@@ -2,4 +2,5 @@ pub mod Parts
 pub mod Answers
 pub mod Changes
 pub mod Writes
+pub mod Ends
 pub mod Inner

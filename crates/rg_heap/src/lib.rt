@@ -4,6 +4,7 @@
 #![tactic(auto)]
 
 mod answers;
+mod ending;
 mod heap;
 mod making;
 mod reading;

@@ -4,8 +4,8 @@ ghost use Rattle.std.specs.Prelude.{◌≡◌, ℕ, Some, None, IfSome, IfOk};
 ghost use Rattle.rg_cells.specs.Table.{IsHeld};
 ghost use Rattle.rg_regions.specs.Table.{HasNumber};
 ghost use Rattle.rg_regions.specs.Reach.{LiesIn};
-ghost use Rattle.rg_regions.specs.Grove.{Grove};
 ghost use Rattle.rg_heap.specs.Answers.{val_of, AllLead, shown_fields};
+ghost use Rattle.rg_heap.specs.Inner.Chains.{AllInTable};
 
 use rg_base::{Label, Memory, Val, Vals, Word};
 use rg_cells::Cells;
@@ -14,7 +14,7 @@ use std::alloc::Global;
 
 /// The key of the region in which a held cell lies, if it lies in one.
 pub fn region_of(cells: &Cells, regions: &Regions, slot: usize) -> Option<usize>
-    requires grove { Grove cells.now regions.now }
+    requires labels { AllInTable cells.now.heap regions.now }
     requires held { IsHeld cells.now.heap slot }
     ensures some { IfSome result (λ key. (q : ℕ) × LiesIn cells.now.heap q slot
         × HasNumber regions.now key q) }
