@@ -6,3 +6,4 @@ mod Written
 mod Marked
 mod OwnedChained
 mod Ended
+mod Left

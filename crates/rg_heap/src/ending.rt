@@ -5,7 +5,9 @@ ghost use Rattle.rg_cells.specs.Table.{IsHeld, body_at, width};
 ghost use Rattle.rg_regions.specs.Table.{Chained};
 ghost use Rattle.rg_release.specs.Released.{Unowned};
 ghost use Rattle.rg_heap.specs.Parts.{Sound};
+ghost use Rattle.rg_frames.specs.Stack.{Begun};
 ghost use Rattle.rg_heap.specs.Answers.{AllLead};
+ghost use Rattle.rg_heap.specs.Ends.{CanLeave, GoesAlong, IsTopTemp, Released};
 ghost use Rattle.rg_heap.specs.Inner.Chains.{AllInTable, ChainsCells, ChainsFields, FirstFreed};
 ghost use Rattle.rg_heap.specs.Inner.Chains.{Gone, OneKey, PutFirst, PutNone};
 
@@ -124,4 +126,20 @@ pub fn free_cells(cells: &mut Cells, slots: &[usize])
     for slot in slots {
         cells.free(*slot);
     }
+}
+
+/// Releases the regions that the top window's temporaries own, and frees these.
+pub fn end_temps(cells: &mut Cells, regions: &mut Regions, frames: &Frames)
+    requires sound { Sound cells.old regions.old }
+    requires begun { Begun frames.now }
+    requires temps { CanLeave (record { cells = cells.old; regions = regions.old }) frames.now }
+    ensures released { Released (record { cells = cells.old; regions = regions.old })
+        (record { cells = cells.new; regions = regions.new })
+        (GoesAlong (record { cells = cells.old; regions = regions.old }) frames.now)
+        (IsTopTemp frames.now) }
+    ensures sound { Sound cells.new regions.new }
+{
+    let head = chain_cells(cells, regions, frames, frames.temps());
+    release_all(cells, regions, head);
+    free_cells(cells, frames.temps());
 }
