@@ -1,18 +1,17 @@
 -- The forest is kept where cells and records stay but for rooms, and where a region without cells comes
 -- (docs/architecture.md, "The heap").
-use Rattle.std.proofs.Common.{◌≡◌, ◌≢◌, ℕ, cond, List, Option, Some, None, refl, ap, sym, ◌∙◌, subst, ◌⊎◌, inl, inr}
+use Rattle.std.proofs.Common.{◌≡◌, ◌≢◌, ℕ, cond, Option, Some, None, refl, ap, sym, ◌∙◌, subst, ◌⊎◌, inl, inr}
 use Rattle.std.proofs.Common.{option_map, option_and_then, slice_get, count_by, Result, Ok, Err, IfOk, OnErr}
 use Rattle.rg_base.specs.declared.fault.Memory.{Memory}
 use Rattle.std.proofs.lemmas.Bool.{cases_eq}
 use Rattle.rg_base.specs.declared.words.Manager.{Manager}
-use Rattle.rg_base.specs.declared.words.Manager.TheVariants.{Count}
 use Rattle.rg_base.specs.declared.object.Label.{Label}
 use Rattle.rg_base.specs.declared.object.Label.TheVariants.{Region, Frozen}
 use Rattle.rg_base.specs.declared.value.Word.{Word}
 use Rattle.rg_base.specs.declared.value.Word.TheVariants.{Slot}
 use Rattle.rg_cells.specs.declared.cell.Body.{Body}
 use Rattle.rg_cells.specs.Table.{Table, body_at, field_at, label_at, mark_at}
-use Rattle.rg_regions.specs.Table.{Record, RegionTable, record_at, HasNumber, IsBridge, Added, fresh}
+use Rattle.rg_regions.specs.Table.{Record, RegionTable, record_at, HasNumber, Added, fresh}
 use Rattle.rg_regions.specs.Reach.{LiesIn, belongs}
 use Rattle.rg_regions.specs.Grove.{Grove, Members, Parent, Above, direct, further, referrers, leads_to}
 use Rattle.rg_regions.proofs.Callers.Told.{one_record, number_of, record_there}

@@ -2,8 +2,7 @@
 use Rattle.std.proofs.Common.{◌≡◌, ◌≢◌, ℕ, zero, suc, ◌+◌, ◌-◌, ◌<◌, ◌≤◌, ◌^◌, List, [], ◌∷◌, ◌++◌, Option, Some, None, IsSome, refl, ap, sym, ◌∙◌}
 use Rattle.std.proofs.Common.{subst, ◌⊎◌, inl, inr, option_map, slice_get, length, arith, get_or, set}
 use Rattle.std.proofs.lemmas.Bool.{cases_eq}
-use Rattle.std.proofs.lemmas.List.{get_or-set_other, get_or-set_same}
-use Rattle.std.proofs.lemmas.Option.{slice_get_within}
+use Rattle.std.proofs.lemmas.List.{get_or-set_other}
 use Rattle.rg_base.specs.declared.words.Manager.{Manager}
 use Rattle.rg_base.specs.declared.object.Label.{Label}
 use Rattle.rg_base.specs.declared.object.Label.TheVariants.{Region, Temp}
@@ -16,7 +15,7 @@ use Rattle.rg_regions.specs.Reach.{LiesIn}
 use Rattle.rg_regions.specs.Grove.{Grove, Members}
 use Rattle.rg_regions.proofs.Callers.Told.{one_record, number_of}
 use Rattle.rg_regions.proofs.Callers.Changed.{changed_at, changed_other, changed_links}
-use Rattle.rg_regions.proofs.Callers.RegionComes.{RegionComes, grove_comes}
+use Rattle.rg_regions.proofs.Callers.RegionComes.{grove_comes}
 use Rattle.rg_heap.specs.Parts.{Sound}
 use Rattle.rg_heap.specs.Changes.{LeadsNowhere, Makes, SameCells, SameRecords, Opens, OpensOne, Rewritten, as_it_is, with_one}
 use Rattle.rg_heap.proofs.Alike.{Alike, IsAlike, grove_alike}
@@ -298,8 +297,11 @@ opens t mid roomy bridged regions key more slot m a r b e =
     ap (λ (z : RegionTable). record_at z key) b ∙ changed_at roomy key (with_room y.0 (fresh t m)) (with_bridge slot) y.1 in
     record {
       vacant = a.vacant;
-      is = (y.0 - 1, ap (λ (z : RegionTable). record_at z key) e
-          ∙ changed_at bridged key (with_bridge slot (with_room y.0 (fresh t m))) (with_member slot) z);
+      is = (
+        y.0 - 1,
+        ap (λ (z : RegionTable). record_at z key) e
+            ∙ changed_at bridged key (with_bridge slot (with_room y.0 (fresh t m))) (with_member slot) z,
+      );
       others = λ k d. ap (λ (z : RegionTable). record_at z k) e ∙ changed_other bridged key (with_member slot) k d
           ∙ ap (λ (z : RegionTable). record_at z k) b ∙ changed_other roomy key (with_bridge slot) k d ∙ x.others k d ∙ a.others k d;
       next = ap (λ (z : RegionTable). z.next) e ∙ (changed_links bridged key (with_member slot)).1

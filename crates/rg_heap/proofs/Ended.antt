@@ -1,25 +1,17 @@
 -- Cells that are freed, and regions that are released (docs/architecture.md, "The heap").
-use Rattle.std.proofs.Common.{◌≡◌, ◌≢◌, ℕ, zero, suc, ◌+◌, ◌-◌, ◌<◌, ◌≤◌, ◌^◌, cond, List, [], ◌∷◌, Option, Some, None, IsSome, get_or, set, length}
-use Rattle.std.proofs.Common.{refl, ap, sym, ◌∙◌, subst, ◌⊎◌, inl, inr, slice_get, slice_set, arith, option_map, option_and_then, count_by, is_some}
+use Rattle.std.proofs.Common.{◌≡◌, ◌≢◌, ℕ, zero, suc, ◌+◌, ◌<◌, ◌≤◌, cond, List, [], ◌∷◌, Option, Some, None, IsSome, get_or, set, length}
+use Rattle.std.proofs.Common.{refl, ap, sym, ◌∙◌, subst, ◌⊎◌, inl, inr, slice_get, arith, option_map, count_by, is_some}
 use Rattle.std.proofs.lemmas.Bool.{cases_eq, cases_lt}
 use Rattle.std.proofs.lemmas.List.{get_or-set_other, get_or-set_same}
 use Rattle.std.proofs.lemmas.List.Sums.{sum_by-cons}
-use Rattle.rg_base.specs.declared.object.Label.{Label}
-use Rattle.rg_base.specs.declared.object.Label.TheVariants.{Region, Temp, Frozen}
-use Rattle.rg_base.specs.declared.value.Word.{Word}
-use Rattle.rg_base.specs.declared.value.Word.TheVariants.{Slot}
 use Rattle.rg_cells.specs.declared.cell.Body.{Body}
-use Rattle.rg_cells.specs.Table.{Heap, Table, IsHeld, body_at, body_in, field_at, label_at, mark_at, total, width, field_total, high_of, freed_from}
-use Rattle.rg_regions.specs.Table.{Record, RegionTable, record_at, link_at, HasNumber, IsKey, InTable, Has, Chained}
-use Rattle.rg_regions.specs.Reach.{LiesIn, belongs}
-use Rattle.rg_regions.specs.Grove.{Grove, Below, Parent, referrers, leads_to}
-use Rattle.rg_regions.proofs.Callers.Told.{one_region, lies_or_not}
-use Rattle.rg_regions.proofs.Callers.Fewer.{label_before, field_before, above_before, belongs_not, total_alike}
-use Rattle.rg_release.specs.Released.{Unowned, BelowOne, OnChain, CellsGo, CellsStay, RecordsGo, RecordsStay}
+use Rattle.rg_cells.specs.Table.{Heap, Table, IsHeld, body_at, body_in, mark_at, total, width, field_total, freed_from}
+use Rattle.rg_regions.specs.Table.{Record, RegionTable, record_at, HasNumber, IsKey, Has, Chained}
+use Rattle.rg_regions.specs.Grove.{Grove, Below}
+use Rattle.rg_release.specs.Released.{Unowned, BelowOne, CellsGo, CellsStay}
 use Rattle.rg_heap.specs.Parts.{Sound}
 use Rattle.rg_heap.specs.Changes.{SameRecords}
 use Rattle.rg_heap.proofs.OwnedChained.{number_on}
-use Rattle.rg_heap.specs.Writes.{IsTemp}
 use Rattle.rg_heap.specs.Inner.Chains.{FirstFreed, Gone}
 
 -- nothing is there where a cell was freed

@@ -1,19 +1,18 @@
 -- A cell comes whose fields are numbers, truth values and nil: the forest stays one (docs/architecture.md, "The heap").
-use Rattle.std.proofs.Common.{◌≡◌, ◌≢◌, ℕ, zero, suc, Bool, false, true, cond, List, [], ◌∷◌, Option, Some, None, refl, ap, sym, ◌∙◌}
-use Rattle.std.proofs.Common.{subst, ◌⊎◌, inl, inr, option_map, option_and_then, slice_get, count_by}
+use Rattle.std.proofs.Common.{◌≡◌, ◌≢◌, ℕ, suc, Bool, false, true, cond, List, [], ◌∷◌, Option, Some, None, refl, ap, sym, ◌∙◌}
+use Rattle.std.proofs.Common.{subst, inl, inr, option_map, option_and_then, slice_get, count_by}
 use Rattle.std.proofs.lemmas.Bool.{cases_eq}
 use Rattle.std.proofs.lemmas.Bool.Decides.{eqb_tells}
-use Rattle.rg_base.specs.declared.words.Manager.TheVariants.{Count}
 use Rattle.rg_base.specs.declared.object.Label.{Label}
 use Rattle.rg_base.specs.declared.object.Label.TheVariants.{Region, Frozen}
 use Rattle.rg_base.specs.declared.value.Word.{Word}
 use Rattle.rg_base.specs.declared.value.Word.TheVariants.{Nil, Int, Bool as Truth, Slot}
 use Rattle.rg_cells.specs.declared.cell.Body.{Body}
-use Rattle.rg_cells.specs.Table.{Table, Made, body_at, body_in, field_at, label_at, mark_at, IsHeld}
+use Rattle.rg_cells.specs.Table.{Table, Made, body_at, body_in, field_at, label_at, mark_at}
 use Rattle.rg_regions.specs.Table.{Record, RegionTable, record_at, HasNumber, InTable}
 use Rattle.rg_regions.specs.Reach.{LiesIn, belongs}
 use Rattle.rg_regions.specs.Grove.{Grove, Members, Parent, Above, direct, further, referrers, leads_to}
-use Rattle.rg_regions.proofs.Callers.Told.{number_of, record_there, lies_or_not, led_held, labelled_held}
+use Rattle.rg_regions.proofs.Callers.Told.{number_of, record_there, lies_or_not}
 use Rattle.rg_regions.proofs.Callers.Fewer.{total_alike, belongs_not}
 use Rattle.rg_heap.specs.Changes.{LeadsNowhere}
 
@@ -156,7 +155,7 @@ module _ (c : Table) (t : RegionTable) (cells : Table) (regions : RegionTable) (
       by_body n l (Some x) e =
           ap (weight q slot) e
           ∙ cond_none (belongs q (Some x)) (count_by (leads_to slot) x.fields) (none_lead_to slot x.fields (λ k f.
-              not_to q n k slot l (ap (option_and_then (λ (b : Body). slice_get b.fields k)) e ∙ f) refl))
+          not_to q n k slot l (ap (option_and_then (λ (b : Body). slice_get b.fields k)) e ∙ f) refl))
 
   pub grove_grows : Grove cells regions
   grove_grows = record {

@@ -1,7 +1,6 @@
 -- A window is left: its temporaries go, and the regions that they own (docs/architecture.md, "The heap").
-use Rattle.std.proofs.Common.{◌≡◌, ◌≢◌, ℕ, zero, suc, ◌+◌, ◌-◌, ◌<◌, ◌≤◌, ◌^◌, cond, List, [], ◌∷◌, Option, Some, None, IsSome, get_or, length}
-use Rattle.std.proofs.Common.{refl, ap, sym, ◌∙◌, subst, ◌⊎◌, inl, inr, slice_get, arith, option_map, option_and_then, count_by, true, false}
-use Rattle.std.specs.List.{list_any}
+use Rattle.std.proofs.Common.{◌≡◌, ◌≢◌, ℕ, zero, suc, cond, List, [], ◌∷◌, Option, Some, None, length}
+use Rattle.std.proofs.Common.{refl, ap, sym, ◌∙◌, subst, ◌⊎◌, inl, inr, slice_get, arith, option_map, count_by, true, false}
 use Rattle.std.proofs.lemmas.Bool.{cases_eq}
 use Rattle.std.proofs.lemmas.Option.{slice_get_within}
 use Rattle.rg_base.specs.declared.object.Label.{Label}
@@ -10,19 +9,19 @@ use Rattle.rg_base.specs.declared.value.Word.{Word}
 use Rattle.rg_base.specs.declared.value.Word.TheVariants.{Slot}
 use Rattle.rg_cells.specs.declared.cell.Body.{Body}
 use Rattle.rg_cells.specs.Table.{Heap, Table, IsHeld, body_at, field_at, label_at, mark_at}
-use Rattle.rg_regions.specs.Table.{Record, RegionTable, record_at, HasNumber, Has, Chained}
+use Rattle.rg_regions.specs.Table.{RegionTable, HasNumber, Has}
 use Rattle.rg_regions.specs.Reach.{LiesIn, belongs}
-use Rattle.rg_regions.specs.Grove.{Grove, Below, Parent, referrers, leads_to}
+use Rattle.rg_regions.specs.Grove.{Grove, Below, referrers, leads_to}
 use Rattle.rg_regions.proofs.Callers.Told.{one_number, labelled_held}
 use Rattle.rg_regions.proofs.Callers.Fewer.{label_before, field_before, above_before, belongs_not, total_alike}
 use Rattle.rg_release.specs.Released.{Unowned, BelowOne}
-use Rattle.rg_frames.specs.Stack.{Stack, has_region}
+use Rattle.rg_frames.specs.Stack.{Stack}
 use Rattle.rg_heap.specs.Parts.{Parts, Sound}
 use Rattle.rg_heap.specs.Answers.{IsClosed}
 use Rattle.rg_heap.specs.Writes.{IsTemp}
-use Rattle.rg_heap.specs.Ends.{Released, CanLeave, GoesAlong, OwnedByOne, IsTopTemp, top_temps}
-use Rattle.rg_heap.specs.Inner.Chains.{Chains, ChainsCells, FirstFreed, Gone, OneKey, OwnedBefore, OwnsOnce}
-use Rattle.rg_heap.proofs.OwnedChained.{number_on, closed_on}
+use Rattle.rg_heap.specs.Ends.{Released, CanLeave, GoesAlong, OwnedByOne, IsTopTemp, NoCell, top_temps}
+use Rattle.rg_heap.specs.Inner.Chains.{Chains, ChainsCells, FirstFreed, Gone, OwnedBefore, OwnsOnce}
+use Rattle.rg_heap.proofs.OwnedChained.{number_on}
 use Rattle.rg_heap.proofs.Comes.{sound_same, same_cells}
 use Rattle.rg_heap.proofs.Ended.{field_total-less, gone_on, same_records}
 
@@ -157,7 +156,7 @@ module _ (c : Table) (t : RegionTable) (v : Stack) (g : Grove c t) (a : CanLeave
           let C : ℕ → Type 0 = λ z. IsClosed t v z in
           let L : ℕ → Type 0 = λ z. LiesIn c.heap z o.to in
           let same = a.one_outside q s k to o.slot o.field o.to (subst C b.1 o.closed) (λ y. d (lies_one s p q l y)) f i
-              (temp_apart c.heap o.slot q temp) o.leads (subst L b.1 o.lies) in
+          (temp_apart c.heap o.slot q temp) o.leads (subst L b.1 o.lies) in
           let T : ℕ → Type 0 = λ z. LiesIn c.heap p z in
           temp_apart c.heap o.slot p temp (subst T same.0 l);
     }
@@ -268,3 +267,29 @@ sound_chained c t mid g e n = record {
   grove = sound_same c t c mid g.grove (same_cells c c refl) (same_records t mid e n);
   few = g.few;
 }
+
+-- one region is released
+pub released_one : (old new : Parts) (key n : ℕ) → HasNumber old.regions key n → Gone old.cells old.regions (key ∷ []) new.cells new.regions
+    → Released old new (Below old.cells.heap old.regions n) NoCell
+released_one old new key n has g = record {
+  freed = λ q s w l. g.freed q s (below_one q w) l;
+  ended = λ s w. absurd w;
+  cells = λ s m o. (g.stay s (λ q w l. m q (below q w) l)).0;
+  removed = λ k q w a. g.removed k q (below_one q w) a;
+  records = λ k m. g.records k (λ q w a. m q (below q w) a);
+  serials = g.serials;
+  high = g.high;
+  numbers = g.numbers;
+}
+  where
+    below_one : (q : ℕ) → Below old.cells.heap old.regions n q → BelowOne old.cells.heap old.regions (key ∷ []) q
+    below_one q w = record { key = key; top = n; one = inl refl; has = has; below = w }
+
+    below : (q : ℕ) → BelowOne old.cells.heap old.regions (key ∷ []) q → Below old.cells.heap old.regions n q
+    below q w = elim w.one [
+      | inl e ↦
+          let N : ℕ → Type 0 = λ z. HasNumber old.regions z w.top in
+          let P : ℕ → Type 0 = λ z. Below old.cells.heap old.regions z q in
+          subst P (one_number old.regions key w.top n (subst N e w.has) has) w.below
+      | inr e ↦ absurd e
+    ]

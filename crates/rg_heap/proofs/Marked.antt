@@ -1,10 +1,9 @@
 -- Marks of cells in regions that count, and how they follow a write (docs/architecture.md, "The heap").
-use Rattle.std.proofs.Common.{◌≡◌, ◌≢◌, ℕ, zero, suc, ◌+◌, ◌-◌, ◌<◌, ◌≤◌, ◌^◌, Bool, false, true, cond, List, [], ◌∷◌, Option, Some, None, refl, ap, sym, ◌∙◌}
+use Rattle.std.proofs.Common.{◌≡◌, ℕ, zero, suc, ◌+◌, ◌-◌, ◌<◌, ◌≤◌, ◌^◌, Bool, false, true, cond, List, [], ◌∷◌, Option, Some, None, refl, ap, sym, ◌∙◌}
 use Rattle.std.proofs.Common.{subst, ◌⊎◌, inl, inr, option_map, option_and_then, slice_get, count_by, get_or, set, length, arith}
 use Rattle.std.proofs.lemmas.Bool.Decides.{eqb_tells}
 use Rattle.std.proofs.lemmas.List.Sums.{count_by-le-length}
 use Rattle.std.proofs.lemmas.List.{length-set}
-use Rattle.std.proofs.lemmas.Option.{slice_get_within}
 use Rattle.rg_base.specs.declared.words.Manager.{Manager}
 use Rattle.rg_base.specs.declared.words.Manager.TheVariants.{Count}
 use Rattle.rg_base.specs.declared.object.Label.{Label}
@@ -12,11 +11,11 @@ use Rattle.rg_base.specs.declared.object.Label.TheVariants.{Region, Temp, Frozen
 use Rattle.rg_base.specs.declared.value.Word.{Word}
 use Rattle.rg_base.specs.declared.value.Word.TheVariants.{Nil, Int, Bool as Truth, Slot}
 use Rattle.rg_cells.specs.declared.cell.Body.{Body}
-use Rattle.rg_cells.specs.Table.{Heap, Table, body_at, body_in, field_at, label_at, mark_at, total, width, field_total, with_field, with_body}
+use Rattle.rg_cells.specs.Table.{Heap, Table, body_at, body_in, field_at, label_at, mark_at, total, width, field_total, with_field}
 use Rattle.rg_regions.specs.Table.{Record, RegionTable, record_at, HasNumber}
 use Rattle.rg_regions.specs.Reach.{LiesIn, belongs, is_region}
 use Rattle.rg_regions.specs.Grove.{Grove, referrers, leads_to}
-use Rattle.rg_regions.proofs.Callers.Told.{one_region, lies_or_not, number_of}
+use Rattle.rg_regions.proofs.Callers.Told.{one_region, number_of}
 use Rattle.rg_regions.proofs.Callers.Fewer.{belongs_not}
 use Rattle.rg_heap.specs.Parts.{Sound}
 use Rattle.rg_frames.specs.declared.rows.Window.{Window}
@@ -24,7 +23,7 @@ use Rattle.rg_frames.specs.Stack.{Stack, IsTop}
 use Rattle.rg_heap.specs.Writes.{Stays, Comes, LeadsOut, InActive, IsTemp, IsCounting, counted}
 use Rattle.rg_heap.proofs.Readers.{one_top}
 use Rattle.rg_heap.specs.Inner.Marks.{MayWrite, Recounts, leads_once}
-use Rattle.rg_heap.proofs.Written.{Writes, MayHold, grove_written, total-set, count-set}
+use Rattle.rg_heap.proofs.Written.{grove_written, total-set, count-set}
 
 belongs_is : (q : ℕ) (b : Option Body) → option_map (λ (b : Body). b.label) b ≡ Some (Region q) → belongs q b ≡ true
 belongs_is q None e = cc
@@ -203,9 +202,9 @@ field_there h slot k l = by_body (body_at h slot) refl l
 
 pub field_total-written : (h : Heap) (slot k : ℕ) (b : Body) (w : Word) → body_at h slot ≡ Some b → field_total (with_field h slot k w) ≡ field_total h
 field_total-written h slot k b w e = rw (with_field, e) (
-  let a = total-set width h.slots slot b (record b { fields = set b.fields k w }) e in
-  let l : length (set b.fields k w) ≡ length b.fields = length-set b.fields k w in
-  omega (arith, a, l))
+    let a = total-set width h.slots slot b (record b { fields = set b.fields k w }) e in
+    let l : length (set b.fields k w) ≡ length b.fields = length-set b.fields k w in
+    omega (arith, a, l))
 
 -- the field is written behind that
 pub sound_written : (c mid cells : Table) (t : RegionTable) (key slot k : ℕ) (w : Word) → Sound c t → Recounts c t mid slot k w
@@ -272,8 +271,8 @@ sound_swapped c cells t v slot k w g e l place =
         may = λ r i. inr (here r i).0;
         recounted = λ r s i j m.
             let a = leads_zero s x.1 (λ q.
-                let F : Word → Type 0 = λ z. field_at c.heap slot k ≡ Some z in
-                (here r i).1 s (subst F q (ap (option_and_then (λ (b : Body). slice_get b.fields k)) x.2 ∙ x.3)) m) in
+            let F : Word → Type 0 = λ z. field_at c.heap slot k ≡ Some z in
+            (here r i).1 s (subst F q (ap (option_and_then (λ (b : Body). slice_get b.fields k)) x.2 ∙ x.3)) m) in
             let b = leads_zero s w (λ q. let y = (here r i).0 s q in y.2 (one_region c.heap s y.0 r y.1.lies m)) in
             let u = ap (λ (z : Table). mark_at z s) e in
             omega (arith, a, b, u);

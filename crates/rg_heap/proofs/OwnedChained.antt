@@ -1,6 +1,6 @@
 -- The closed regions that some cells own, chained one by one (docs/architecture.md, "The heap").
-use Rattle.std.proofs.Common.{◌≡◌, ◌≢◌, ℕ, ◌+◌, ◌<◌, List, [], ◌∷◌, Option, Some, None, get_or, set, length, refl, ap, sym, ◌∙◌}
-use Rattle.std.proofs.Common.{subst, ◌⊎◌, inl, inr, slice_get, slice_set, arith, option_map, false, true}
+use Rattle.std.proofs.Common.{◌≡◌, ◌≢◌, ℕ, ◌+◌, ◌<◌, List, [], ◌∷◌, Option, Some, None, get_or, set, refl, ap, sym, ◌∙◌}
+use Rattle.std.proofs.Common.{subst, ◌⊎◌, inl, inr, slice_get, arith, option_map, false, true}
 use Rattle.std.specs.List.{list_any}
 use Rattle.std.proofs.lemmas.Bool.{cases_lt}
 use Rattle.std.proofs.lemmas.List.{get_or-set_other, get_or-set_same}

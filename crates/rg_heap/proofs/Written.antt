@@ -1,23 +1,22 @@
 -- A field of a cell is written: the forest stays one (docs/architecture.md, "The heap").
-use Rattle.std.proofs.Common.{◌≡◌, ◌≢◌, ℕ, zero, suc, ◌+◌, Bool, false, true, cond, List, [], ◌∷◌, Option, Some, None, refl, ap, sym, ◌∙◌}
+use Rattle.std.proofs.Common.{◌≡◌, ◌≢◌, ℕ, zero, suc, ◌+◌, false, true, cond, List, [], ◌∷◌, Option, Some, None, refl, ap, sym, ◌∙◌}
 use Rattle.std.proofs.Common.{subst, ◌⊎◌, inl, inr, option_map, option_and_then, slice_get, count_by, get_or, set, arith}
 use Rattle.std.proofs.lemmas.Bool.{cases_eq}
 use Rattle.std.proofs.lemmas.Bool.Decides.{eqb_tells}
 use Rattle.std.proofs.lemmas.List.Sums.{sum_by-set}
 use Rattle.std.proofs.lemmas.Option.{slice_get_within, get_or_from_slice_get}
 use Rattle.std.proofs.lemmas.List.{get_or-set_other}
-use Rattle.rg_base.specs.declared.words.Manager.TheVariants.{Count}
 use Rattle.rg_base.specs.declared.object.Label.{Label}
 use Rattle.rg_base.specs.declared.object.Label.TheVariants.{Region, Frozen}
 use Rattle.rg_base.specs.declared.value.Word.{Word}
 use Rattle.rg_base.specs.declared.value.Word.TheVariants.{Slot}
 use Rattle.rg_cells.specs.declared.cell.Body.{Body}
 use Rattle.rg_cells.specs.Table.{Heap, Table, body_at, body_in, field_at, label_at, mark_at, total, with_body, with_field}
-use Rattle.rg_regions.specs.Table.{Record, RegionTable, record_at, IsBridge}
+use Rattle.rg_regions.specs.Table.{RegionTable}
 use Rattle.rg_regions.specs.Reach.{LiesIn, belongs, is_region}
 use Rattle.rg_regions.specs.Grove.{Grove, Parent, Above, direct, further, referrers, leads_to}
 use Rattle.rg_regions.proofs.Callers.Told.{one_region, lies_or_not}
-use Rattle.rg_regions.proofs.Callers.Fewer.{above_both, belongs_not, total_alike}
+use Rattle.rg_regions.proofs.Callers.Fewer.{above_both, belongs_not}
 use Rattle.rg_heap.specs.Writes.{Ownerless, Comes, Stays, IsCounting}
 use Rattle.rg_heap.specs.Inner.Marks.{leads_once}
 
@@ -241,7 +240,7 @@ module _ (c : Table) (t : RegionTable) (cells : Table) (slot k : ℕ) (b : Body)
       | inl e ↦
           let P : ℕ → Type 0 = λ z. label_at c.heap z ≡ Some Frozen in
           absurd (a.not_frozen (one_label b.label Frozen
-              (sym (ap (option_map (λ (b : Body). b.label)) a.is) ∙ subst P e.0 (sym (label_on s) ∙ l))))
+          (sym (ap (option_map (λ (b : Body). b.label)) a.is) ∙ subst P e.0 (sym (label_on s) ∙ l))))
       | inr e ↦ label_on to ∙ g.frozen s j to (sym (label_on s) ∙ l) e
     ];
     fields = λ p s j to l f. elim (field_back s j (Slot to) f) [
@@ -283,8 +282,8 @@ module _ (c : Table) (t : RegionTable) (cells : Table) (slot k : ℕ) (b : Body)
         ];
     unmarked = λ s n.
         a.uncounted s (λ r x y v.
-            let P : ℕ → Type 0 = λ z. LiesIn c.heap z s in
-            n y.0 y.1 y.2 y.4 (lies_on y.1.number s (subst P (sym y.3) v)))
+        let P : ℕ → Type 0 = λ z. LiesIn c.heap z s in
+        n y.0 y.1 y.2 y.4 (lies_on y.1.number s (subst P (sym y.3) v)))
         ∙ g.unmarked s (λ o z e m l. n o z e m (lies_on z.number s l));
   }
     where

@@ -1,5 +1,5 @@
 -- What the readers of the heap answer (docs/architecture.md, "The heap").
-use Rattle.std.specs.Prelude.{◌≡◌, ◌≢◌, ℕ, ◌-◌, Bool, true, false, List, [], map, Option, Some, None, Result, Ok, Err, count_by, is_some, ◌<◌, length}
+use Rattle.std.specs.Prelude.{◌≡◌, ℕ, ◌-◌, false, List, [], map, Option, Some, None, Result, Ok, Err, count_by, is_some, ◌<◌, length}
 use Rattle.std.specs.List.{list_any}
 use Rattle.rg_base.specs.declared.object.Seen.{Seen}
 use Rattle.rg_base.specs.declared.outcome.EndNumbers.{EndNumbers}

@@ -1,11 +1,9 @@
 -- What calls of the heap leave (docs/architecture.md, "The heap").
-use Rattle.std.specs.Prelude.{◌≡◌, ◌≢◌, ℕ, ◌+◌, List, [], ◌∷◌, ◌++◌, Option, Some, None, slice_get}
+use Rattle.std.specs.Prelude.{◌≡◌, ◌≢◌, ℕ, ◌+◌, List, [], ◌∷◌, ◌++◌, Some, None, slice_get}
 use Rattle.rg_base.specs.declared.object.Label.{Label}
-use Rattle.rg_base.specs.declared.object.Label.TheVariants.{Region}
 use Rattle.rg_base.specs.declared.words.Manager.{Manager}
 use Rattle.rg_base.specs.declared.value.Word.{Word}
 use Rattle.rg_base.specs.declared.value.Word.TheVariants.{Slot}
-use Rattle.rg_cells.specs.declared.cell.Body.{Body}
 use Rattle.rg_cells.specs.Table.{Table, Made, Takes, body_at, mark_at, high_of, high_after}
 use Rattle.rg_regions.specs.Table.{Record, RegionTable, record_at, HasNumber, with_room}
 use Rattle.rg_frames.specs.declared.rows.Window.{Window}
@@ -55,12 +53,12 @@ pub record SameRecords (old new : RegionTable) : Type 0 where
 pub record Opens (old new : RegionTable) (key slot : ℕ) (manager : Manager) : Type 0 where
   pub vacant : record_at old key ≡ None
   pub is : (room : ℕ) × (record_at new key ≡ Some (record {
-      number = old.next;
-      manager = manager;
-      members = slot ∷ [];
-      bridge = Some slot;
-      room = room;
-    }))
+    number = old.next;
+    manager = manager;
+    members = slot ∷ [];
+    bridge = Some slot;
+    room = room;
+  }))
   pub others : (k : ℕ) → k ≢ key → record_at new k ≡ record_at old k
   pub next : new.next ≡ old.next + 1
 

@@ -1,5 +1,5 @@
 -- What goes where a region is released or a window is left, and what both ask for (docs/architecture.md, "The heap").
-use Rattle.std.specs.Prelude.{◌≡◌, ◌≢◌, ℕ, ◌⊎◌, true, drop, List, Some, None, slice_get}
+use Rattle.std.specs.Prelude.{◌≡◌, ℕ, true, drop, List, Some, None, slice_get}
 use Rattle.std.specs.List.{list_any}
 use Rattle.rg_base.specs.declared.value.Word.{Word}
 use Rattle.rg_base.specs.declared.value.Word.TheVariants.{Nil, Int, Bool as Truth, Slot}
@@ -18,6 +18,14 @@ CanEnter h Nil = Unit {0}
 CanEnter h (Int i) = ⊥
 CanEnter h (Truth b) = ⊥
 CanEnter h (Slot s) = (q : ℕ) × LiesIn h q s
+
+-- what holds of the slot to which a word leads, if it leads to one
+abbrev pub OnSlot : Word → (ℕ → Type 0) → Type 0
+OnSlot w P = (slot : ℕ) → w ≡ Slot slot → P slot
+
+-- what holds of the region in which a cell lies: of its key and its number
+abbrev pub OnRegion : Parts → (slot : ℕ) → ((key number : ℕ) → Type 0) → Type 0
+OnRegion p slot P = (key n : ℕ) → LiesIn p.cells.heap n slot → HasNumber p.regions key n → P key n
 
 -- Some regions go, with their cells and records, and some cells go by themselves; all else stays.
 pub record Released (old new : Parts) (Region : ℕ → Type 0) (Cell : ℕ → Type 0) : Type 0 where

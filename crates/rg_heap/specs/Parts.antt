@@ -1,5 +1,5 @@
 -- What callers see of the heap: its cells and its regions (docs/architecture.md, "The heap").
-use Rattle.std.specs.Prelude.{◌≡◌, ℕ, ◌<◌, ◌-◌, ◌^◌}
+use Rattle.std.specs.Prelude.{◌<◌, ◌-◌, ◌^◌}
 use Rattle.rg_cells.specs.Table.{Table, field_total}
 use Rattle.rg_regions.specs.Table.{RegionTable}
 use Rattle.rg_regions.specs.Grove.{Grove}

@@ -1,10 +1,10 @@
 -- What may be written into a field, and what a write does to marks (docs/architecture.md, "The heap").
-use Rattle.std.specs.Prelude.{◌≡◌, ◌≢◌, ℕ, ◌⊎◌, Bool, cond, Option, Some}
+use Rattle.std.specs.Prelude.{◌≡◌, ◌≢◌, ℕ, ◌⊎◌, cond, Some}
 use Rattle.rg_base.specs.declared.words.Manager.TheVariants.{Count}
 use Rattle.rg_base.specs.declared.object.Label.TheVariants.{Temp, Frozen}
 use Rattle.rg_base.specs.declared.value.Word.{Word}
 use Rattle.rg_base.specs.declared.value.Word.TheVariants.{Slot}
-use Rattle.rg_cells.specs.Table.{Heap, Table, body_at, label_at, field_at}
+use Rattle.rg_cells.specs.Table.{Heap, body_at, label_at, field_at}
 use Rattle.rg_regions.specs.Table.{Record, RegionTable, record_at, HasNumber, IsBridge}
 use Rattle.rg_regions.specs.Reach.{LiesIn, belongs}
 use Rattle.rg_regions.specs.Grove.{Above, leads_to}

@@ -1,25 +1,29 @@
 //! The heap: cells and regions (docs/architecture.md, "The heap").
 
 ghost use Rattle.std.specs.Prelude.{◌≡◌, ◌<◌, ℕ, [], true, false, IfOk, OnErr, length, option_map};
-ghost use Rattle.std.specs.Prelude.{Some, ◌⊎◌};
+ghost use Rattle.std.specs.Prelude.{Some, Err, ◌⊎◌, ◌≤◌, ◌↔◌};
 ghost use Rattle.rg_base.specs.declared.object.Label.TheVariants.{Region, Temp};
 ghost use Rattle.rg_cells.specs.declared.cell.Body.{Body as BodyOf};
 ghost use Rattle.rg_cells.specs.Table.{IsHeld, body_at, field_at, label_at, width, with_field};
 ghost use Rattle.rg_regions.specs.Table.{IsKey, Added, fresh};
-ghost use Rattle.rg_regions.specs.Grove.{Grove};
-ghost use Rattle.rg_frames.specs.Stack.{Begun, with_temp};
+ghost use Rattle.rg_regions.specs.Grove.{Below, Grove};
+ghost use Rattle.rg_frames.specs.Stack.{BaseUpTo, Begun, closed, opened, with_temp};
+ghost use Rattle.rg_frames.specs.Stack.{without_temps};
 ghost use Rattle.rg_heap.specs.Parts.{OnTop};
 ghost use Rattle.rg_heap.specs.Changes.{LeadsNowhere, OnActive, Makes, SameCells, SameRecords};
 ghost use Rattle.rg_heap.specs.Changes.{Rewritten, OpensOne, as_it_is, with_one};
-ghost use Rattle.rg_heap.specs.Writes.{Comes, InActive, IsTemp, LeadsOut, Stays};
+ghost use Rattle.rg_heap.specs.Writes.{Comes, InActive, IsTemp, LeadsOut, Ownerless, Stays};
+ghost use Rattle.rg_heap.specs.Ends.{CanEnter, CanLeave, GoesAlong, IsTopTemp, NoCell};
+ghost use Rattle.rg_heap.specs.Ends.{OnRegion, OnSlot, Released};
 ghost use Rattle.rg_heap.specs.Answers.{CanRead, Reads, AllLead, Shows, end_numbers, Tells};
 ghost use Rattle.rg_heap.specs.Answers.{LeadsIntoClosed};
 
-use crate::answers::Active;
+use crate::answers::{Active, Refusal};
+use crate::ending::{end_temps, release_one};
 use crate::making::{make_bridge, make_in};
 use crate::reading::{region_of, vals};
 use crate::writing::write_field;
-use rg_base::{EndNumbers, Label, Manager, Memory, Seen, Trap, Word};
+use rg_base::{EndNumbers, Label, Manager, Memory, Place, Seen, Trap, Word};
 use rg_cells::Cells;
 use rg_frames::Frames;
 use rg_regions::Regions;
@@ -76,12 +80,7 @@ impl Heap {
     }
 
     /// Makes an object in the active region; answers its slot.
-    pub fn make(
-        &mut self,
-        frames: &Frames,
-        class: u32,
-        fields: &[Word],
-    ) -> Result<usize, Memory>
+    pub fn make(&mut self, frames: &Frames, class: u32, fields: &[Word]) -> Result<usize, Memory>
         requires window { 0 < length frames.now.windows }
         requires key { OnTop frames.now (λ w. IsKey self.old.regions w.region) }
         requires plain { LeadsNowhere fields.now }
@@ -175,7 +174,7 @@ impl Heap {
         requires width { k < width (body_at self.old.cells.heap slot) }
         requires place { InActive self.old.cells.heap self.old.regions frames.now slot
             (λ number. Comes self.old.cells.heap self.old.regions number w
-                × LeadsOut self.old.cells.heap slot k number)
+            × LeadsOut self.old.cells.heap slot k number)
             ⊎ IsTemp self.old.cells.heap slot }
         ensures value { field_at self.old.cells.heap slot k ≡ Some result }
         ensures heap { self.new.cells.heap ≡ with_field self.old.cells.heap slot k w }
@@ -185,6 +184,74 @@ impl Heap {
         let old = self.cells.field(slot, k);
         self.cells.set_field(slot, k, w);
         old
+    }
+
+    /// Opens a window with the region of the object that is referred to, and answers that object's
+    /// slot. `Nil` comes exactly at nil. The window has the next number, and its base is a place
+    /// among all slots.
+    pub fn enter(
+        &mut self,
+        frames: &mut Frames,
+        at: Word,
+        owner: Place,
+        base: usize,
+    ) -> Result<usize, Refusal>
+        requires region { CanEnter self.old.cells.heap at }
+        requires above { BaseUpTo frames.old base }
+        requires within { base ≤ length frames.old.slots }
+        ensures nil { result ≡ Err Refusal.Nil ↔ at ≡ Word.Nil }
+        ensures slot { IfOk result (λ slot. at ≡ Word.Slot slot) }
+        ensures opened { IfOk result (λ slot. OnRegion self.old slot (λ key number.
+            frames.new ≡ opened frames.old key owner base)) }
+        ensures err { OnErr result (frames.new ≡ frames.old) }
+        ensures same { self.new ≡ self.old }
+    {
+        let slot = match at {
+            Word::Nil => return Err(Refusal::Nil),
+            Word::Int(_) | Word::Bool(_) => unreachable!(),
+            Word::Slot(slot) => slot,
+        };
+        let Some(key) = region_of(&self.cells, &self.regions, slot) else {
+            unreachable!();
+        };
+        let Ok(_) = frames.push_window(key, owner, base) else {
+            return Err(Refusal::Memory);
+        };
+        Ok(slot)
+    }
+
+    /// Leaves the top window. Its temporaries go, and so do the closed regions that they own, with
+    /// all beneath these.
+    pub fn leave(&mut self, frames: &mut Frames)
+        requires begun { Begun frames.old }
+        requires two { 2 ≤ length frames.old.windows }
+        requires temps { CanLeave self.old frames.old }
+        ensures released { Released self.old self.new (GoesAlong self.old frames.old)
+            (IsTopTemp frames.old) }
+        ensures window { frames.new ≡ closed (without_temps frames.old) }
+    {
+        end_temps(&mut self.cells, &mut self.regions, frames);
+        frames.clear_temps();
+        frames.pop_window();
+    }
+
+    /// Releases the region that a word owns, and all beneath it; where the word is no reference,
+    /// nothing goes.
+    pub fn drop_iso(&mut self, at: Word)
+        requires { OnSlot at (λ slot. (number : ℕ)
+            × Ownerless self.old.cells.heap self.old.regions number slot) }
+        ensures released { OnSlot at (λ slot. OnRegion self.old slot (λ key number.
+            Released self.old self.new (Below self.old.cells.heap self.old.regions number)
+            NoCell)) }
+        ensures none { ((slot : ℕ) → at ≡ Word.Slot slot → ⊥) → self.new ≡ self.old }
+    {
+        let Word::Slot(slot) = at else {
+            return;
+        };
+        let Some(key) = region_of(&self.cells, &self.regions, slot) else {
+            unreachable!();
+        };
+        release_one(&mut self.cells, &mut self.regions, key);
     }
 
     /// The serial of a held cell.

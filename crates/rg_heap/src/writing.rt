@@ -81,14 +81,7 @@ fn recount(cells: &mut Cells, regions: &Regions, key: usize, slot: usize, k: u32
 }
 
 /// Writes a field of a cell of the region of a key, or of a temporary.
-pub fn write_field(
-    cells: &mut Cells,
-    regions: &Regions,
-    key: usize,
-    slot: usize,
-    k: u32,
-    w: Word,
-)
+pub fn write_field(cells: &mut Cells, regions: &Regions, key: usize, slot: usize, k: u32, w: Word)
     requires sound { Sound cells.old regions.now }
     requires key { IsKey regions.now key }
     requires width { k < width (body_at cells.old.heap slot) }

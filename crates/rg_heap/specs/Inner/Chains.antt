@@ -1,9 +1,9 @@
 -- The regions that temporaries own, put on a chain, and what goes with them (docs/architecture.md, "The heap").
-use Rattle.std.specs.Prelude.{◌≡◌, ◌≢◌, ℕ, ◌⊎◌, ◌<◌, false, List, length, Option, Some, None, slice_get, slice_set, slice_index}
+use Rattle.std.specs.Prelude.{◌≡◌, ℕ, ◌⊎◌, ◌<◌, false, List, length, Option, Some, None, slice_get, slice_set}
 use Rattle.std.specs.List.{list_any}
 use Rattle.rg_base.specs.declared.value.Word.{Word}
 use Rattle.rg_base.specs.declared.value.Word.TheVariants.{Slot}
-use Rattle.rg_cells.specs.Table.{Heap, Table, body_at, field_at, mark_at, high_of, IsHeld}
+use Rattle.rg_cells.specs.Table.{Heap, Table, body_at, field_at, mark_at, high_of}
 use Rattle.rg_regions.specs.Table.{RegionTable, record_at, HasNumber, InTable, Has, Chained}
 use Rattle.rg_regions.specs.Reach.{LiesIn}
 use Rattle.rg_frames.specs.Stack.{Stack, has_region}

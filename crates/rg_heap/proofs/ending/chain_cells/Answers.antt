@@ -1,4 +1,4 @@
-use Rattle.std.proofs.Common.{◌≡◌, ℕ, ap, ◌∙◌, arith, length}
+use Rattle.std.proofs.Common.{◌∙◌}
 use Rattle.std.proofs.lemmas.Option.{slice_get-get_or}
 use Rattle.rg_heap.proofs.OwnedChained.{chains_next}
 use Rattle.rg_heap.proofs.ending.chain_cells.Goals as goal

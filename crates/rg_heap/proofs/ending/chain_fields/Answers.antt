@@ -1,5 +1,4 @@
 use Rattle.std.proofs.Common.{◌≡◌, ◌∷◌, ℕ, ap, ◌∙◌, inl, inr, subst, arith}
-use Rattle.rg_cells.specs.Table.{body_at, width}
 use Rattle.rg_regions.specs.Table.{RegionTable}
 use Rattle.rg_heap.specs.Inner.Chains.{ChainsFields}
 use Rattle.rg_heap.proofs.OwnedChained.{chains_put, chains_none}

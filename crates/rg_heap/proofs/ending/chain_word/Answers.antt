@@ -1,4 +1,4 @@
-use Rattle.std.proofs.Common.{◌≡◌, ℕ, inr, refl, subst, sym, ◌∙◌}
+use Rattle.std.proofs.Common.{ℕ, inr, refl, subst, sym, ◌∙◌}
 use Rattle.rg_regions.specs.Reach.{LiesIn}
 use Rattle.rg_heap.proofs.OwnedChained.{not_closed, slot_to}
 use Rattle.rg_heap.proofs.ending.chain_word.Goals as goal

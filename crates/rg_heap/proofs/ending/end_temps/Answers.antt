@@ -1,4 +1,4 @@
-use Rattle.std.proofs.Common.{◌≡◌, ℕ, Some, sym, ap, ◌∙◌, slice_get}
+use Rattle.std.proofs.Common.{sym, ap, ◌∙◌, slice_get}
 use Rattle.rg_heap.proofs.Left.{unowned, temp_held, temp_on, sound_left, released, chain_of, freed_of, sound_chained}
 use Rattle.rg_heap.proofs.ending.end_temps.Goals as goal
 
@@ -8,7 +8,7 @@ release_all-requires-clause-sound c =
     let t = c.args.regions.now in
     let mid = c.chain_cells-head.new.regions in
     let k = chain_of old t c.args.frames.now mid c.chain_cells-head.result c.temps.result.now c.requires.sound.grove c.requires.temps c.temps.ensures
-        c.chain_cells-head.ensures.chains in
+    c.chain_cells-head.ensures.chains in
     sound_chained old t mid c.requires.sound k.1.records k.1.next
 
 pub release_all-requires-clause-chain : goal.release_all-requires-clause-chain
@@ -32,7 +32,7 @@ free_cells-requires-clause-held c = λ i s e.
     let now = c.release_all.new.cells in
     let x = ap (λ ss. slice_get ss i) (sym c.temps-2.ensures) ∙ e in
     temp_held now.heap s (temp_on old t v c.requires.sound.grove c.requires.temps mid head k.0 k.1 now c.release_all.new.regions
-        (c.release_all.ensures.gone k.0 k.1.chain) s (c.requires.temps.temps i s x))
+    (c.release_all.ensures.gone k.0 k.1.chain) s (c.requires.temps.temps i s x))
 
 pub returns-clause-released : goal.returns-clause-released
 returns-clause-released c =

@@ -1,8 +1,8 @@
-use Rattle.std.proofs.Common.{◌≡◌, ◌+◌, sym, subst}
+use Rattle.std.proofs.Common.{◌+◌, sym, subst}
 use Rattle.std.proofs.lemmas.Option.{slice_get-get_or}
 use Rattle.rg_cells.specs.Table.{Table}
 use Rattle.rg_heap.specs.Inner.Chains.{FirstFreed}
-use Rattle.rg_heap.proofs.Ended.{freed_more, still_held}
+use Rattle.rg_heap.proofs.Ended.{freed_more}
 use Rattle.rg_heap.proofs.ending.free_cells.Goals as goal
 
 pub loop-slot-preserved : goal.loop-slot-preserved

@@ -1,4 +1,4 @@
-use Rattle.std.proofs.Common.{◌≡◌, ℕ, Option, subst}
+use Rattle.std.proofs.Common.{ℕ, Option, subst}
 use Rattle.rg_regions.specs.Table.{Chained}
 use Rattle.rg_regions.proofs.Callers.Chain.{chained_none}
 use Rattle.rg_heap.proofs.Ended.{gone_none, none_is, sound_gone}

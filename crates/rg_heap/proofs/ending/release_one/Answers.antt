@@ -1,4 +1,4 @@
-use Rattle.std.proofs.Common.{◌≡◌, ℕ, ◌∷◌, [], inl, refl, ap}
+use Rattle.std.proofs.Common.{◌∷◌, [], inl, refl, ap}
 use Rattle.rg_regions.specs.Table.{RegionTable}
 use Rattle.rg_heap.proofs.Comes.{sound_same, same_cells}
 use Rattle.rg_heap.proofs.Ended.{key_there, same_records, one_chained, unowned_on, gone_on}

@@ -1,9 +1,9 @@
-use Rattle.std.proofs.Common.{◌≡◌, ◌≢◌, ℕ, refl, ap, subst, sym}
+use Rattle.std.proofs.Common.{◌≡◌, ℕ, refl, ap, subst, sym}
 use Rattle.rg_base.specs.declared.object.Label.TheVariants.{Region}
 use Rattle.rg_cells.specs.Table.{Table}
 use Rattle.rg_regions.specs.Table.{RegionTable, record_at, fresh}
 use Rattle.rg_heap.specs.Parts.{Sound}
-use Rattle.rg_heap.specs.Changes.{Makes, OpensOne, SameRecords}
+use Rattle.rg_heap.specs.Changes.{Makes, OpensOne}
 use Rattle.rg_heap.proofs.Comes.{same_cancelled, opens, sound_opens, sound_same, same_cells, newest_fresh, room_bridged, rewritten_room, number_next}
 use Rattle.rg_heap.proofs.making.make_bridge.Goals as goal
 
@@ -18,7 +18,7 @@ returns-in_default-clause-sound c =
     let key = c.in_ok-key.key in
     let e = c.in_default.ensures.err in
     let s = same_cancelled t mid new c.cancel.new.self key c.args.manager c.in_ok-key.ensures.added
-        (λ k d. ap (λ (z : RegionTable). record_at z k) e) (ap (λ (z : RegionTable). z.next) e) c.cancel.ensures in
+    (λ k d. ap (λ (z : RegionTable). record_at z k) e) (ap (λ (z : RegionTable). z.next) e) c.cancel.ensures in
     record {
       grove = sound_same c.args.cells.now t c.args.cells.now c.cancel.new.self c.requires.sound.grove (same_cells c.args.cells.now c.args.cells.now refl) s;
       few = c.requires.sound.few;

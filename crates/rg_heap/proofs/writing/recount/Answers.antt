@@ -1,9 +1,6 @@
-use Rattle.std.proofs.Common.{◌≡◌, ℕ, ◌<◌, ◌+◌, Some, ap, sym, ◌∙◌, subst, arith}
-use Rattle.rg_base.specs.declared.object.Label.TheVariants.{Region}
-use Rattle.rg_cells.specs.Table.{Heap, label_at, mark_at}
+use Rattle.std.proofs.Common.{Some, ap, ◌∙◌, subst, arith}
+use Rattle.rg_cells.specs.Table.{Heap}
 use Rattle.rg_regions.specs.Reach.{LiesIn}
-use Rattle.rg_base.specs.declared.value.Word.TheVariants.{Slot}
-use Rattle.rg_heap.specs.Writes.{IsCounting}
 use Rattle.rg_heap.proofs.Marked.{recounts_none, not_counting, counts_here, mark_room, mark_is, referrers_some, recounts}
 use Rattle.rg_heap.proofs.writing.recount.Goals as goal
 

@@ -1,5 +1,4 @@
 use Rattle.rg_heap.proofs.Alike.{begins}
-use Rattle.rg_heap.proofs.Grows.{grove_grows}
 use Rattle.rg_heap.proofs.heap.Heap.begin.Goals as goal
 
 pub invariant_of-self : goal.invariant_of-self

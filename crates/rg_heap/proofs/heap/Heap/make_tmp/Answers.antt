@@ -1,4 +1,4 @@
-use Rattle.std.proofs.Common.{◌≡◌, ℕ, refl, ap, subst, sym, arith, ◌≤◌}
+use Rattle.std.proofs.Common.{refl, ap, arith}
 use Rattle.rg_cells.specs.Table.{Table, field_total}
 use Rattle.rg_heap.specs.Changes.{SameCells}
 use Rattle.rg_heap.proofs.Comes.{sound_temp, sound_same, same_taken_back, vacant_unmarked, field_total-cancelled}

@@ -1,4 +1,3 @@
-use Rattle.std.proofs.Common.{◌≡◌, ◌≤◌, sym, subst}
 use Rattle.rg_heap.proofs.Readers.{frozen_held}
 use Rattle.rg_heap.proofs.heap.Heap.numbers.Goals as goal
 
