@@ -4,3 +4,4 @@ pub mod Chain
 pub mod Fewer
 pub mod RegionComes
 pub mod Changed
+pub mod Freed

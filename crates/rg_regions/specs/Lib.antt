@@ -2,4 +2,5 @@ pub mod Table
 pub mod Reach
 pub mod Spent
 pub mod Grove
+pub mod Chains
 pub mod Inner

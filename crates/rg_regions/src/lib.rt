@@ -4,9 +4,11 @@
 //! `add` and `reserve` alone take memory. `specs/{Reach,Spent,Grove}` say what collectors keep.
 #![tactic(auto)]
 
+mod chains;
 mod places;
 mod region;
 mod regions;
 
+pub use chains::chain_word;
 pub use region::Kept;
 pub use regions::Regions;

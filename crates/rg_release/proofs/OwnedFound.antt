@@ -8,9 +8,10 @@ use Rattle.rg_base.specs.declared.value.Word.TheVariants.{Slot}
 use Rattle.rg_cells.specs.Table.{Heap, field_at, body_at, width}
 use Rattle.rg_regions.specs.Table.{Record, RegionTable, record_at, HasNumber, Has, Chained}
 use Rattle.rg_regions.specs.Reach.{LiesIn}
+use Rattle.rg_regions.specs.Chains.{PutFirst, Follows, OwnsOnce}
 use Rattle.rg_regions.proofs.Callers.Told.{field_within, one_region, one_number, same_members}
 use Rattle.rg_regions.proofs.Callers.Chain.{chained_agree}
-use Rattle.rg_release.specs.Inner.Owned.{Owned, ChainsOwned, PutFirst, Follows, OwnsOnce, OwnsNone, FollowsFields, FollowsMembers}
+use Rattle.rg_release.specs.Inner.Owned.{Owned, ChainsOwned, OwnsNone, FollowsFields, FollowsMembers}
 
 slot_is : (a b : ℕ) → Some (Slot a) ≡ Some (Slot b) → a ≡ b
 slot_is a b q = cc

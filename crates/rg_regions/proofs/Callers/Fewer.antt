@@ -67,14 +67,17 @@ belongs_not q (Some b) n = by_label b.label n
     by_label (Temp m) n = refl
     by_label Frozen n = refl
 
--- where one region's cells went, the number of fields that lead to a cell of another region stays
-pub referrers_kept : (c cells : Table) (r q s : ℕ) → q ≢ r → ((n : ℕ) → LiesIn c.heap r n → body_at cells.heap n ≡ None)
+-- where cells of one region went, the number of fields that lead to a cell of another region stays
+pub referrers_kept : (c cells : Table) (r q s : ℕ) → q ≢ r → ((n : ℕ) → (body_at cells.heap n ≡ body_at c.heap n) ⊎ (body_at cells.heap n ≡ None))
     → ((n : ℕ) → (LiesIn c.heap r n → ⊥) → body_at cells.heap n ≡ body_at c.heap n) → referrers cells.heap q s ≡ referrers c.heap q s
-referrers_kept c cells r q s d gone far =
+referrers_kept c cells r q s d sub far =
     let F : Option Body → ℕ = λ b. cond (belongs q b) (elim b [ None ↦ 0 | Some b ↦ count_by (leads_to s) b.fields ]) 0 in
     total_alike F refl c.heap.slots cells.heap.slots (λ n. elim (lies_or_not c.heap r n) [
       | inl out ↦ ap F (far n out)
-      | inr l ↦ ap F (gone n l) ∙ sym (nothing (body_at c.heap n) (belongs_not q (body_at c.heap n) (λ y. d (one_region c.heap n q r y l))))
+      | inr l ↦ elim (sub n) [
+        | inl same ↦ ap F same
+        | inr gone ↦ ap F gone ∙ sym (nothing (body_at c.heap n) (belongs_not q (body_at c.heap n) (λ y. d (one_region c.heap n q r y l))))
+      ]
     ])
   where
     nothing : (b : Option Body) → belongs q b ≡ false

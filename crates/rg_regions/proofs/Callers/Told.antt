@@ -1,8 +1,8 @@
 -- What labels, fields, numbers and records tell (docs/architecture.md, "Regions").
 use Rattle.std.proofs.Common.{◌≡◌, ℕ, ◌<◌, List, Option, Some, None, IsSome, refl, ap, sym, ◌∙◌, ◌⊎◌, inl, inr}
-use Rattle.std.proofs.Common.{option_map, option_and_then, slice_get}
+use Rattle.std.proofs.Common.{option_map, option_and_then, slice_get, get_or}
 use Rattle.std.proofs.lemmas.Bool.{cases_eq}
-use Rattle.std.proofs.lemmas.Option.{slice_get_within}
+use Rattle.std.proofs.lemmas.Option.{slice_get_within, slice_get-get_or}
 use Rattle.rg_base.specs.declared.object.Label.{Label}
 use Rattle.rg_base.specs.declared.object.Label.TheVariants.{Region, Temp, Frozen}
 use Rattle.rg_base.specs.declared.value.Word.{Word}
@@ -12,6 +12,7 @@ use Rattle.rg_cells.specs.Table.{Heap, Table, body_at, field_at, label_at, width
 use Rattle.rg_regions.specs.Table.{Record, RegionTable, record_at, HasNumber}
 use Rattle.rg_regions.specs.Reach.{LiesIn}
 use Rattle.rg_regions.specs.Grove.{Grove}
+use Rattle.rg_regions.specs.Chains.{OwnsOnce}
 
 -- a field that can be read is one of the cell's
 pub field_within : (h : Heap) (s k : ℕ) (w : Word) → field_at h s k ≡ Some w → k < width (body_at h s)
@@ -28,6 +29,9 @@ labelled_held h s l e = by_body (body_at h s) e
     by_body : (b : Option Body) → option_map (λ (b : Body). b.label) b ≡ Some l → IsSome b
     by_body None e = cc
     by_body (Some b) e = refl
+
+pub lies_held : (h : Heap) (r s : ℕ) → LiesIn h r s → IsHeld h s
+lies_held h r s l = labelled_held h s (Region r) l
 
 -- a cell lies in one region
 pub one_region : (h : Heap) (s a b : ℕ) → LiesIn h a s → LiesIn h b s → a ≡ b
@@ -91,3 +95,15 @@ led_held c t g r p k s l f = elim (g.fields r p k s l f) [
   | inl a ↦ labelled_held c.heap s Frozen a
   | inr b ↦ elim b [ inl x ↦ labelled_held c.heap s (Region r) x | inr y ↦ labelled_held c.heap s (Region y.0) y.2 ]
 ]
+
+-- the members of a region of the forest own each other region at most once
+pub owns_once : (c : Table) (t : RegionTable) (key : ℕ) (rec : Record) → Grove c t → record_at t key ≡ Some rec
+    → OwnsOnce c.heap rec.number rec.members
+owns_once c t key rec g e =
+    let m = g.members key rec e in
+    record {
+      one = λ q s k to s2 k2 to2 d l f i l2 f2 i2. g.one_in q rec.number s k to rec.number s2 k2 to2 (λ z. d (sym z)) l f i (λ z. d (sym z)) l2 f2 i2;
+      lie = λ j l. m.lie j (get_or rec.members j 0) (slice_get-get_or rec.members j 0 l);
+      once = λ a b l n z.
+          m.once a b (get_or rec.members a 0) (slice_get-get_or rec.members a 0 l) (slice_get-get_or rec.members b 0 n ∙ ap Some (sym z));
+    }
