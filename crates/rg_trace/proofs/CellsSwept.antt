@@ -35,8 +35,11 @@ lies-freed h r s x l i = elim (cases_eq x s) [
       let b : body_at (freed h s) x ≡ None = ap (body_at (freed h s)) e ∙ freed-here h s l in
       let q : None ≡ Some (Region r) = sym (ap (option_map (λ (b : Body). b.label)) b) ∙ i in
       cc
-  | inr d ↦ (d, let L : Option (Option Body) → Type 0 = λ o. option_map (λ (b : Body). b.label) (body_in o)
-      ≡ Some (Region r) in subst L (freed-other h s x d) i)
+  | inr d ↦ (
+    d,
+    let L : Option (Option Body) → Type 0 = λ o. option_map (λ (b : Body). b.label) (body_in o)
+        ≡ Some (Region r) in subst L (freed-other h s x d) i,
+  )
 ]
 
 freed-lies : (h : Heap) (r s x : ℕ) → x ≢ s → LiesIn h r x → LiesIn (freed h s) r x
@@ -123,7 +126,7 @@ swept-free h marks r members p s t is white w =
           let e = swapped members p j inside (omega (arith, n, m)) in
           let a = w.after e.0 (elim (e.4) [ inl x ↦ omega (arith, x.0, x.1, l) | inr x ↦ omega (arith, x.1, n, m, l) ]) e.1 in
           let black : get_or marks (get_or (swap_remove members p 0) j 0) 0
-              ≡ get_or marks (get_or members e.0 0) 0 = ap (λ z. get_or marks z 0) e.3 in
+          ≡ get_or marks (get_or members e.0 0) 0 = ap (λ z. get_or marks z 0) e.3 in
           (omega (arith, black, a.0), ap (λ z. get_or (set t.marks s 0) z 0) e.3 ∙ mark (get_or members e.0 0) (apart e.0 e.1 e.2) ∙ a.1);
       black = λ x i m.
           let d : x ≢ s = λ q. let z : get_or marks x 0 ≡ 0 = ap (λ k. get_or marks k 0) q ∙ was in absurd (omega (arith, z, m)) in
@@ -135,8 +138,11 @@ swept-free h marks r members p s t is white w =
       only = λ x i. let f = lies-freed t.heap r s x room i in ap body_in (freed-other t.heap s x f.0) ∙ w.only x f.1;
       either = λ x i. elim (cases_eq x s) [
         | inl e ↦ inr (ap (body_at (freed t.heap s)) e ∙ freed-here t.heap s room, ap (λ z. get_or (set t.marks s 0) z 0) e ∙ zero_here t.marks s)
-        | inr d ↦ elim (w.either x i) [ inl q ↦ inl (ap body_in (freed-other t.heap s x d) ∙ q) | inr q
-            ↦ inr (ap body_in (freed-other t.heap s x d) ∙ q.0, mark x d ∙ q.1) ]
+        | inr d ↦ elim (w.either x i) [
+          | inl q ↦ inl (ap body_in (freed-other t.heap s x d) ∙ q)
+          | inr q
+              ↦ inr (ap body_in (freed-other t.heap s x d) ∙ q.0, mark x d ∙ q.1)
+        ]
       ];
       next = w.next;
       high = let o = held_once t.heap s (lies_held t.heap r s lies) in count-freed t.heap.slots s o.0 o.1 ∙ w.high;
@@ -177,8 +183,11 @@ swept-keep h marks r members p s t is black none w =
       only = w.only;
       either = λ x i. elim (w.either x i) [
         | inl q ↦ inl q
-        | inr q ↦ elim (cases_eq x s) [ inl e ↦ inr (q.0, ap (λ z. get_or (set t.marks s 0) z 0) e ∙ zero_here t.marks s) | inr d
-            ↦ inr (q.0, mark x d ∙ q.1) ]
+        | inr q ↦ elim (cases_eq x s) [
+          | inl e ↦ inr (q.0, ap (λ z. get_or (set t.marks s 0) z 0) e ∙ zero_here t.marks s)
+          | inr d
+              ↦ inr (q.0, mark x d ∙ q.1)
+        ]
       ];
       next = w.next;
       high = w.high;

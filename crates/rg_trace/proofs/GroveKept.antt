@@ -26,21 +26,21 @@ grove-kept c t key rec slots temps cells regions g e traced w =
     let r = rec.number in
     let lie : (q s : ℕ) → LiesIn cells.heap q s → LiesIn c.heap q s = λ q s l. label_before c.heap cells.heap s (Region q) (w.sub s) l in
     let fld : (s k : ℕ) (v : Word) → field_at cells.heap s k ≡ Some v → field_at c.heap s k
-        ≡ Some v = λ s k v f. field_before c.heap cells.heap s k v (w.sub s) f in
+    ≡ Some v = λ s k v f. field_before c.heap cells.heap s k v (w.sub s) f in
     let far : (s : ℕ) → (LiesIn c.heap r s → ⊥) → body_at cells.heap s ≡ body_at c.heap s = λ s n. (w.others s n).0 in
     let stay : (q s : ℕ) → q ≢ r → LiesIn c.heap q s → LiesIn cells.heap q s = λ q s d l. ap (option_map (λ (b : Body). b.label))
-        (far s (λ i. d (one_region c.heap s q r l i))) ∙ l in
+    (far s (λ i. d (one_region c.heap s q r l i))) ∙ l in
     let ice : (s : ℕ) → label_at c.heap s ≡ Some Frozen → label_at cells.heap s
-        ≡ Some Frozen = λ s l. ap (option_map (λ (b : Body). b.label)) (far s (λ i. let q : Some Frozen ≡ Some (Region r) = sym l ∙ i in cc)) ∙ l in
+    ≡ Some Frozen = λ s l. ap (option_map (λ (b : Body). b.label)) (far s (λ i. let q : Some Frozen ≡ Some (Region r) = sym l ∙ i in cc)) ∙ l in
     let live : (s : ℕ) → Reach c.heap r roots s → LiesIn c.heap r s
-        → LiesIn cells.heap r s = λ s n l. ap (option_map (λ (b : Body). b.label)) (w.kept s n) ∙ l in
+    → LiesIn cells.heap r s = λ s n l. ap (option_map (λ (b : Body). b.label)) (w.kept s n) ∙ l in
     let has : (k n : ℕ) → HasNumber regions k n → HasNumber t k n = λ k n a. elim (cases_eq k key) [
       | inl q ↦
           let P : ℕ → Type 0 = λ y. HasNumber regions y n in
           let N : ℕ → Type 0 = λ y. HasNumber t y n in
           let b : HasNumber regions key n = subst P q a in
           subst N (sym q) (ap (option_map (λ (z : Record). z.number)) e ∙ ap Some (sym w.own.2)
-              ∙ sym (ap (option_map (λ (z : Record). z.number)) w.own.1) ∙ b)
+          ∙ sym (ap (option_map (λ (z : Record). z.number)) w.own.1) ∙ b)
       | inr d ↦ sym (ap (option_map (λ (z : Record). z.number)) (w.records k d)) ∙ a
     ] in
     let has_back : (k n : ℕ) → HasNumber t k n → HasNumber regions k n = λ k n a. elim (cases_eq k key) [
@@ -49,13 +49,13 @@ grove-kept c t key rec slots temps cells regions g e traced w =
           let N : ℕ → Type 0 = λ y. HasNumber regions y n in
           let b : HasNumber t key n = subst P q a in
           subst N (sym q) (ap (option_map (λ (z : Record). z.number)) w.own.1 ∙ ap Some w.own.2 ∙ sym (ap (option_map (λ (z : Record). z.number)) e)
-              ∙ b)
+          ∙ b)
       | inr d ↦ ap (option_map (λ (z : Record). z.number)) (w.records k d) ∙ a
     ] in
     let number_of : (k n : ℕ) (z : Record) → record_at t k ≡ Some z → z.number ≡ n
-        → HasNumber t k n = λ k n z a b. ap (option_map (λ (y : Record). y.number)) a ∙ ap Some b in
+    → HasNumber t k n = λ k n z a b. ap (option_map (λ (y : Record). y.number)) a ∙ ap Some b in
     let apart : (k : ℕ) (z : Record) → k ≢ key → record_at t k ≡ Some z
-        → z.number ≢ r = λ k z d a n. d (g.numbers k key r (number_of k r z a n) (number_of key r rec e refl)) in
+    → z.number ≢ r = λ k z d a n. d (g.numbers k key r (number_of k r z a n) (number_of key r rec e refl)) in
     let bridge_to : (q to : ℕ) → IsBridge t q to → IsBridge regions q to = λ q to b. elim (cases_eq b.0 key) [
       | inl p ↦
           let same : b.1 ≡ rec = one_record b.1 rec (sym b.2 ∙ ap (record_at t) p ∙ e) in
@@ -139,7 +139,7 @@ grove-kept c t key rec slots temps cells regions g e traced w =
           let off = apart k z d b in
           let x : LiesIn c.heap z.number s = lie z.number s l in
           (w.others s (λ i. off (one_region c.heap s z.number r x i))).1 ∙ g.counts k s z b m x
-              ∙ sym (referrers_kept c cells r z.number s off w.sub far);
+          ∙ sym (referrers_kept c cells r z.number s off w.sub far);
       unmarked = λ s n. elim (lies_or_not c.heap r s) [
         | inl off ↦
             (w.others s off).1 ∙ g.unmarked s (λ k z a m l. elim (cases_eq k key) [

@@ -46,34 +46,34 @@ local-roots c t key rec slots lower temps cells regions g e local held w =
     let safe = survives c t key rec roots cells regions w in
     let by_bridge : (x : ℕ) → LiesIn c.heap r x → rec.bridge ≡ Some x → Reach c.heap r roots x = λ x l b. (0, omega arith, (l, is_bridge b)) in
     let near : (s k x : ℕ) (l : Option Label) → label_at c.heap s ≡ l → label_at cells.heap s ≡ l → field_at c.heap s k ≡ Some (Slot x)
-        → LiesIn c.heap r x → Reach c.heap r roots x = λ s k x l. elim l as
-        (λ l. label_at c.heap s ≡ l → label_at cells.heap s ≡ l → field_at c.heap s k ≡ Some (Slot x) → LiesIn c.heap r x → Reach c.heap r roots x) [
+    → LiesIn c.heap r x → Reach c.heap r roots x = λ s k x l. elim l as
+    (λ l. label_at c.heap s ≡ l → label_at cells.heap s ≡ l → field_at c.heap s k ≡ Some (Slot x) → LiesIn c.heap r x → Reach c.heap r roots x) [
       | None ↦ λ a b f i. absurd (none_has c.heap s k (Slot x) a f)
       | Some m ↦ elim m as (λ m. label_at c.heap s ≡ Some m → label_at cells.heap s ≡ Some m → field_at c.heap s k ≡ Some (Slot x)
           → LiesIn c.heap r x → Reach c.heap r roots x) [
-        | Region q ↦ λ a b f i. elim (cases_eq q r) [
-          | inl p ↦ let L : ℕ → Type 0 = λ n. LiesIn cells.heap n s in w.closed s k x (w.within s (subst L p b)) f i
-          | inr d ↦ elim (g.fields q s k x a f) [
-            | inl z ↦ let v : Some Frozen ≡ Some (Region r) = sym z ∙ i in cc
-            | inr y ↦ elim y [
-              | inl z ↦ absurd (d (number_is q r (sym z ∙ i)))
-              | inr z ↦
-                  let p : z.0 ≡ r = number_is z.0 r (sym z.2 ∙ i) in
-                  let v = z.3 in
-                  let a2 : HasNumber t v.0 r = ap (option_map (λ (y : Record). y.number)) v.2 ∙ ap Some (v.3 ∙ p) in
-                  let a3 : HasNumber t key r = ap (option_map (λ (y : Record). y.number)) e in
-                  let k2 : v.0 ≡ key = g.numbers v.0 key r a2 a3 in
-                  let same : v.1 ≡ rec = one_record v.1 rec (sym v.2 ∙ ap (record_at t) k2 ∙ e) in
-                  by_bridge x i (sym (ap (λ (y : Record). y.bridge) same) ∙ v.4)
+            | Region q ↦ λ a b f i. elim (cases_eq q r) [
+              | inl p ↦ let L : ℕ → Type 0 = λ n. LiesIn cells.heap n s in w.closed s k x (w.within s (subst L p b)) f i
+              | inr d ↦ elim (g.fields q s k x a f) [
+                | inl z ↦ let v : Some Frozen ≡ Some (Region r) = sym z ∙ i in cc
+                | inr y ↦ elim y [
+                  | inl z ↦ absurd (d (number_is q r (sym z ∙ i)))
+                  | inr z ↦
+                      let p : z.0 ≡ r = number_is z.0 r (sym z.2 ∙ i) in
+                      let v = z.3 in
+                      let a2 : HasNumber t v.0 r = ap (option_map (λ (y : Record). y.number)) v.2 ∙ ap Some (v.3 ∙ p) in
+                      let a3 : HasNumber t key r = ap (option_map (λ (y : Record). y.number)) e in
+                      let k2 : v.0 ≡ key = g.numbers v.0 key r a2 a3 in
+                      let same : v.1 ≡ rec = one_record v.1 rec (sym v.2 ∙ ap (record_at t) k2 ∙ e) in
+                      by_bridge x i (sym (ap (λ (y : Record). y.bridge) same) ∙ v.4)
+                ]
+              ]
             ]
+            | Temp n ↦ λ a b f i. elim (local.fields s n k x a f i) [
+              | inl z ↦ (0, omega arith, (i, in_temps z.0 k s z.1 f))
+              | inr z ↦ by_bridge x i z
+            ]
+            | Frozen ↦ λ a b f i. let v : Some Frozen ≡ Some (Region r) = sym (g.frozen s k x a f) ∙ i in cc
           ]
-        ]
-        | Temp n ↦ λ a b f i. elim (local.fields s n k x a f i) [
-          | inl z ↦ (0, omega arith, (i, in_temps z.0 k s z.1 f))
-          | inr z ↦ by_bridge x i z
-        ]
-        | Frozen ↦ λ a b f i. let v : Some Frozen ≡ Some (Region r) = sym (g.frozen s k x a f) ∙ i in cc
-      ]
     ] in (
       (λ s k x f.
           let f0 = field_before c.heap cells.heap s k (Slot x) (w.sub s) f in

@@ -22,8 +22,17 @@ word_is a b q = cc
 -- what is owned by earlier fields is owned by more fields
 later : (h : Heap) (marks : List ℕ) (r : ℕ) (members : List ℕ) (i k m n q : ℕ)
     → ((p f : ℕ) → ((p < i) ⊎ ((p ≡ i) × (f < k))) → (p < m) ⊎ ((p ≡ m) × (f < n))) → Owned h marks r members i k q → Owned h marks r members m n q
-later h marks r members i k m n q w o = record { place = o.place; field = o.field; to = o.to; early = w o.place o.field o.early; within = o.within;
-    white = o.white; leads = o.leads; lies = o.lies; other = o.other }
+later h marks r members i k m n q w o = record {
+  place = o.place;
+  field = o.field;
+  to = o.to;
+  early = w o.place o.field o.early;
+  within = o.within;
+  white = o.white;
+  leads = o.leads;
+  lies = o.lies;
+  other = o.other;
+}
 
 -- by another field no region more is owned, where it leads into no other region
 pub orphans-skip : (h : Heap) (marks : List ℕ) (r : ℕ) (members : List ℕ) (t : RegionTable) (i k : ℕ) (now : RegionTable) (head : Option ℕ)
@@ -35,23 +44,46 @@ orphans-skip h marks r members t i k now head none o = (
     records = o.1.records;
     next = o.1.next;
     chain = o.1.chain;
-    each = λ key m. let e = o.1.each key m in (e.0, e.1, later h marks r members i k i (k + 1) e.0
-        (λ p f w. elim w [ inl a ↦ inl a | inr b ↦ inr (b.0, omega (arith, b.1)) ]) e.2);
+    each = λ key m. let e = o.1.each key m in (
+      e.0,
+      e.1,
+      later h marks r members i k i (k + 1) e.0
+          (λ p f w. elim w [ inl a ↦ inl a | inr b ↦ inr (b.0, omega (arith, b.1)) ]) e.2,
+    );
     all = λ q key w n. o.1.all q key (back q w) n;
   },
 )
   where
     back : (q : ℕ) → Owned h marks r members i (k + 1) q → Owned h marks r members i k q
     back q w = elim (w.early) [
-      | inl a ↦ record { place = w.place; field = w.field; to = w.to; early = inl a; within = w.within; white = w.white; leads = w.leads; lies =
-          w.lies; other = w.other }
+      | inl a ↦ record {
+        place = w.place;
+        field = w.field;
+        to = w.to;
+        early = inl a;
+        within = w.within;
+        white = w.white;
+        leads = w.leads;
+        lies =
+            w.lies;
+        other = w.other;
+      }
       | inr b ↦ elim (cases_lt w.field k) [
-        | inl c ↦ record { place = w.place; field = w.field; to = w.to; early = inr (b.0, c); within = w.within; white = w.white; leads = w.leads;
-            lies = w.lies; other = w.other }
+        | inl c ↦ record {
+          place = w.place;
+          field = w.field;
+          to = w.to;
+          early = inr (b.0, c);
+          within = w.within;
+          white = w.white;
+          leads = w.leads;
+          lies = w.lies;
+          other = w.other;
+        }
         | inr c ↦
             let same : w.field ≡ k = omega (arith, b.1) in
             let f : field_at h (get_or members i 0) k ≡ Some (Slot w.to) = ap (λ z. field_at h (get_or members i 0) z) (sym same)
-                ∙ ap (λ z. field_at h (get_or members z 0) w.field) (sym b.0) ∙ w.leads in
+            ∙ ap (λ z. field_at h (get_or members z 0) w.field) (sym b.0) ∙ w.leads in
             absurd (none w.to q f w.lies w.other)
       ]
     ]
@@ -63,16 +95,16 @@ pub orphans-chain : (h : Heap) (marks : List ℕ) (r : ℕ) (members : List ℕ)
 orphans-chain h marks r members t i k now new head result to q ow l white leads lies other c o =
     let H : List (Option Record) → ℕ → ℕ → Type 0 = λ rs key n. HasNumber (record t { records = rs }) key n in
     let has : HasNumber t c.key q = let P : List (Option Record) → Type 0 = λ rs. option_map (λ (r : Record). r.number) (get_or rs c.key None)
-        ≡ Some q in subst P o.1.records c.has in
+    ≡ Some q in subst P o.1.records c.has in
     let only : (key : ℕ) → HasNumber t key q → key ≡ c.key = λ key n. let P : List (Option Record)
-        → Type 0 = λ rs. option_map (λ (r : Record). r.number) (get_or rs key None) ≡ Some q in c.only key (subst P (sym o.1.records) n) in
+    → Type 0 = λ rs. option_map (λ (r : Record). r.number) (get_or rs key None) ≡ Some q in c.only key (subst P (sym o.1.records) n) in
     let links : new.links ≡ set now.links c.key head = ap (λ (z : RegionTable). z.links) c.new_is in
     let fresh : Has o.0 c.key → ⊥ = λ m.
     let e = o.1.each c.key m in
     let same : e.0 ≡ q = one_number t c.key e.0 q e.1 has in
     let L : ℕ → Type 0 = λ z. LiesIn h z e.2.to in
     let u = ow.one q (get_or members i 0) k to (get_or members e.2.place 0) e.2.field e.2.to other (ow.lie i l) leads lies (ow.lie e.2.place e.2.within)
-        e.2.leads (subst L same e.2.lies) in
+    e.2.leads (subst L same e.2.lies) in
     let p : i ≡ e.2.place = ow.once i e.2.place l e.2.within u.0 in
     elim (e.2.early) [ inl a ↦ omega (arith, p, a) | inr b ↦ omega (arith, u.1, b.1) ] in
     let C : List (Option ℕ) → Type 0 = λ ls. Chained ls (Some c.key) (c.key ∷ o.0) in
@@ -87,25 +119,61 @@ orphans-chain h marks r members t i k now new head result to q ow l white leads 
           fresh,
           subst D (sym (get_or-set_same now.links c.key head None c.within))
               (chained_agree now.links (set now.links c.key head) head o.0
-                  (λ x m. get_or-set_other now.links c.key x head None (λ e. let P : ℕ → Type 0 = λ z. Has o.0 z in fresh (subst P e m))) o.1.chain),
+              (λ x m. get_or-set_other now.links c.key x head None (λ e. let P : ℕ → Type 0 = λ z. Has o.0 z in fresh (subst P e m))) o.1.chain),
         ));
         each = λ key m. elim m [
-          | inl e ↦ let P : ℕ → Type 0 = λ z. HasNumber t z q in
-              (q, subst P (sym e) has, record { place = i; field = k; to = to; early = inr (refl, omega arith); within = l; white = white; leads =
-              leads; lies = lies; other = other })
-          | inr n ↦ let e = o.1.each key n in (e.0, e.1, later h marks r members i k i (k + 1) e.0
-              (λ p f w. elim w [ inl a ↦ inl a | inr b ↦ inr (b.0, omega (arith, b.1)) ]) e.2)
+          | inl e ↦ let P : ℕ → Type 0 = λ z. HasNumber t z q in (
+            q,
+            subst P (sym e) has,
+            record {
+              place = i;
+              field = k;
+              to = to;
+              early = inr (refl, omega arith);
+              within = l;
+              white = white;
+              leads =
+                  leads;
+              lies = lies;
+              other = other;
+            },
+          )
+          | inr n ↦ let e = o.1.each key n in (
+            e.0,
+            e.1,
+            later h marks r members i k i (k + 1) e.0
+                (λ p f w. elim w [ inl a ↦ inl a | inr b ↦ inr (b.0, omega (arith, b.1)) ]) e.2,
+          )
         ];
         all = λ x key w n. elim (w.early) [
-          | inl a ↦ inr (o.1.all x key (record { place = w.place; field = w.field; to = w.to; early = inl a; within = w.within; white = w.white;
-              leads = w.leads; lies = w.lies; other = w.other }) n)
+          | inl a ↦ inr (o.1.all x key (record {
+            place = w.place;
+            field = w.field;
+            to = w.to;
+            early = inl a;
+            within = w.within;
+            white = w.white;
+            leads = w.leads;
+            lies = w.lies;
+            other = w.other;
+          }) n)
           | inr b ↦ elim (cases_lt w.field k) [
-            | inl a ↦ inr (o.1.all x key (record { place = w.place; field = w.field; to = w.to; early = inr (b.0, a); within = w.within; white =
-                w.white; leads = w.leads; lies = w.lies; other = w.other }) n)
+            | inl a ↦ inr (o.1.all x key (record {
+              place = w.place;
+              field = w.field;
+              to = w.to;
+              early = inr (b.0, a);
+              within = w.within;
+              white =
+                  w.white;
+              leads = w.leads;
+              lies = w.lies;
+              other = w.other;
+            }) n)
             | inr a ↦
                 let same : w.field ≡ k = omega (arith, b.1) in
                 let f : field_at h (get_or members i 0) k ≡ Some (Slot w.to) = ap (λ z. field_at h (get_or members i 0) z) (sym same)
-                    ∙ ap (λ z. field_at h (get_or members z 0) w.field) (sym b.0) ∙ w.leads in
+                ∙ ap (λ z. field_at h (get_or members z 0) w.field) (sym b.0) ∙ w.leads in
                 let z : w.to ≡ to = word_is w.to to (sym f ∙ leads) in
                 let L : ℕ → Type 0 = λ y. LiesIn h x y in
                 let y : x ≡ q = one_region h to x q (subst L z w.lies) lies in
@@ -125,22 +193,46 @@ orphans-next h marks r members t i k now head l o = (
     records = o.1.records;
     next = o.1.next;
     chain = o.1.chain;
-    each = λ key m. let e = o.1.each key m in (e.0, e.1, later h marks r members i k (i + 1) 0 e.0
-        (λ p f w. elim w [ inl a ↦ inl (omega (arith, a)) | inr b ↦ inl (omega (arith, b.0)) ]) e.2);
+    each = λ key m. let e = o.1.each key m in (
+      e.0,
+      e.1,
+      later h marks r members i k (i + 1) 0 e.0
+          (λ p f w. elim w [ inl a ↦ inl (omega (arith, a)) | inr b ↦ inl (omega (arith, b.0)) ]) e.2,
+    );
     all = λ q key w n. o.1.all q key (back q w) n;
   },
 )
   where
     back : (q : ℕ) → Owned h marks r members (i + 1) 0 q → Owned h marks r members i k q
     back q w = elim (cases_lt w.place i) [
-      | inl a ↦ record { place = w.place; field = w.field; to = w.to; early = inl a; within = w.within; white = w.white; leads = w.leads; lies =
-          w.lies; other = w.other }
+      | inl a ↦ record {
+        place = w.place;
+        field = w.field;
+        to = w.to;
+        early = inl a;
+        within = w.within;
+        white = w.white;
+        leads = w.leads;
+        lies =
+            w.lies;
+        other = w.other;
+      }
       | inr a ↦
           let p : w.place ≡ i = elim (w.early) [ inl b ↦ omega (arith, a, b) | inr b ↦ absurd (omega (arith, b.1)) ] in
           let f : field_at h (get_or members i 0) w.field ≡ Some (Slot w.to) = ap (λ z. field_at h (get_or members z 0) w.field) (sym p) ∙ w.leads in
           let b : w.field < width (body_at h (get_or members i 0)) = field_within h (get_or members i 0) w.field (Slot w.to) f in
-          record { place = w.place; field = w.field; to = w.to; early = inr (p, omega (arith, b, l)); within = w.within; white = w.white; leads =
-              w.leads; lies = w.lies; other = w.other }
+          record {
+            place = w.place;
+            field = w.field;
+            to = w.to;
+            early = inr (p, omega (arith, b, l));
+            within = w.within;
+            white = w.white;
+            leads =
+                w.leads;
+            lies = w.lies;
+            other = w.other;
+          }
     ]
 
 -- a member that isn't white owns nothing that is lost
@@ -152,16 +244,30 @@ orphans-black h marks r members t i now head black o = (
     records = o.1.records;
     next = o.1.next;
     chain = o.1.chain;
-    each = λ key m. let e = o.1.each key m in (e.0, e.1, later h marks r members i 0 (i + 1) 0 e.0
-        (λ p f w. elim w [ inl a ↦ inl (omega (arith, a)) | inr b ↦ inl (omega (arith, b.0)) ]) e.2);
+    each = λ key m. let e = o.1.each key m in (
+      e.0,
+      e.1,
+      later h marks r members i 0 (i + 1) 0 e.0
+          (λ p f w. elim w [ inl a ↦ inl (omega (arith, a)) | inr b ↦ inl (omega (arith, b.0)) ]) e.2,
+    );
     all = λ q key w n. o.1.all q key (back q w) n;
   },
 )
   where
     back : (q : ℕ) → Owned h marks r members (i + 1) 0 q → Owned h marks r members i 0 q
     back q w = elim (cases_lt w.place i) [
-      | inl a ↦ record { place = w.place; field = w.field; to = w.to; early = inl a; within = w.within; white = w.white; leads = w.leads; lies =
-          w.lies; other = w.other }
+      | inl a ↦ record {
+        place = w.place;
+        field = w.field;
+        to = w.to;
+        early = inl a;
+        within = w.within;
+        white = w.white;
+        leads = w.leads;
+        lies =
+            w.lies;
+        other = w.other;
+      }
       | inr a ↦
           let p : w.place ≡ i = elim (w.early) [ inl b ↦ omega (arith, a, b) | inr b ↦ absurd (omega (arith, b.1)) ] in
           absurd (black (ap (λ z. get_or marks (get_or members z 0) 0) (sym p) ∙ w.white))

@@ -49,9 +49,12 @@ swept-begin c d t key rec g e h =
       once = λ j k l n z. let q : j ≡ k = o.once j k (omega arith) n z in omega (arith, q);
       all = λ s l.
           let L : Heap → Type 0 = λ z. LiesIn z rec.number s in
-          let a = m.all s (subst L h l) in
-          (a.0, slice_get_within rec.members a.0 s a.1, some_is (get_or rec.members a.0 0) s
-              (sym (slice_get-get_or rec.members a.0 0 (slice_get_within rec.members a.0 s a.1)) ∙ a.1));
+          let a = m.all s (subst L h l) in (
+            a.0,
+            slice_get_within rec.members a.0 s a.1,
+            some_is (get_or rec.members a.0 0) s
+                (sym (slice_get-get_or rec.members a.0 0 (slice_get_within rec.members a.0 s a.1)) ∙ a.1),
+          );
       before = λ j l. refl;
       after = λ j l n. absurd (omega arith);
       black = λ s l n. refl;
@@ -140,9 +143,12 @@ collected c d t u key rec roots cells regions e m a b w =
               let a = slice_get_within s.0.members i x p in
               let b = slice_get_within s.0.members j x q in
               let z : get_or s.0.members i 0 ≡ get_or s.0.members j 0 = some_number (get_or s.0.members i 0) (get_or s.0.members j 0)
-                  (sym (slice_get-get_or s.0.members i 0 a) ∙ p ∙ sym q ∙ slice_get-get_or s.0.members j 0 b) in
-              elim (cases_lt i j) [ inl y ↦ absurd (s.5.once i j y b z) | inr y
-                  ↦ elim (cases_eq i j) [ inl k ↦ k | inr k ↦ let v : j < i = omega arith in absurd (s.5.once j i v a (sym z)) ] ];
+              (sym (slice_get-get_or s.0.members i 0 a) ∙ p ∙ sym q ∙ slice_get-get_or s.0.members j 0 b) in
+              elim (cases_lt i j) [
+                | inl y ↦ absurd (s.5.once i j y b z)
+                | inr y
+                    ↦ elim (cases_eq i j) [ inl k ↦ k | inr k ↦ let v : j < i = omega arith in absurd (s.5.once j i v a (sym z)) ]
+              ];
         },
       );
     }
@@ -182,7 +188,7 @@ orphaning c d t u key rec roots result g e m o =
             let a = ms.all l.slot l.from in
             let within = slice_get_within rec.members a.0 l.slot a.1 in
             let is : get_or rec.members a.0 0 ≡ l.slot = some_is (get_or rec.members a.0 0) l.slot
-                (sym (slice_get-get_or rec.members a.0 0 within) ∙ a.1) in
+            (sym (slice_get-get_or rec.members a.0 0 within) ∙ a.1) in
             k.1.all q y (record {
               place = a.0;
               field = l.field;

@@ -27,7 +27,7 @@ pub sweeps-free : (c : Table) (t : RegionTable) (key : ℕ) (cells new : Table) 
     → Sweeps c t key new next (place - 1)
 sweeps-free c t key cells new regions next place slot rec now e f l is white a b w =
     let n : next ≡ record regions { records = set regions.records key (Some (shorter (place - 1) now)) } = b
-        ∙ changed-at regions key (place - 1) now f in
+    ∙ changed-at regions key (place - 1) now f in
     let room : key < length regions.records = there regions.records key now f in
     record {
       links = ap (λ (z : RegionTable). z.links) n ∙ w.links;

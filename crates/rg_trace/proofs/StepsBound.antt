@@ -78,5 +78,5 @@ ticks h r marks members lie once =
     let a = sum-agree (if_white h marks) (spot (white r) h.slots marks) members (λ i l. white-spot h r marks (get_or members i 0) (lie i l)) in
     let b = sum-distinct (white r) (white-none r) marks h.slots members once in
     let c = weighed-two (white r) (λ b m. cond (belongs r b) (if_black (width b) m) 0) (λ b. cond (belongs r b) (width b) 0) (white-black r) h.slots
-        marks in
+    marks in
     omega (arith, a, b, c)

@@ -69,10 +69,10 @@ pub record Lost (h : Heap) (r : ℕ) (roots : Roots) (q : ℕ) : Type 0 where
 
 -- exactly the regions that lost their owner are chained, each once
 pub record Orphaning (c : Table) (t : RegionTable) (r : ℕ) (roots : Roots) (links : List (Option ℕ)) (orphans : Option ℕ) (keys : List ℕ) : Type 0
-    where
-  pub chain : Chained links orphans keys
-  pub each : (k : ℕ) → Has keys k → (q : ℕ) × HasNumber t k q × Lost c.heap r roots q
-  pub all : (q k : ℕ) → Lost c.heap r roots q → HasNumber t k q → Has keys k
+  where
+    pub chain : Chained links orphans keys
+    pub each : (k : ℕ) → Has keys k → (q : ℕ) × HasNumber t k q × Lost c.heap r roots q
+    pub all : (q k : ℕ) → Lost c.heap r roots q → HasNumber t k q → Has keys k
 
 abbrev pub ChainsOrphans : Table → RegionTable → ℕ → Roots → (links : List (Option ℕ)) → (orphans : Option ℕ) → Type 0
 ChainsOrphans c t r roots links orphans = (keys : List ℕ) × Orphaning c t r roots links orphans keys

@@ -125,7 +125,7 @@ pub fn mark_region<L: Ledger>(
         cells.old cells.new }
     ensures cost { steps.new
         ≡ steps.old + sum_by (λ t. width (body_at cells.old.heap t)) temps.now
-            + black_fields cells.old.heap region cells.new.marks }
+        + black_fields cells.old.heap region cells.new.marks }
 {
     let mut head = grey_bridge(cells, region, bridge);
     head = grey_words(cells, region, slots, head);

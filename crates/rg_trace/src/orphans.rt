@@ -8,7 +8,7 @@ ghost use Rattle.rg_trace.specs.Inner.Orphans.{FollowsFields, FollowsWhite, if_w
 
 use rg_base::{Steps, Word};
 use rg_cells::Cells;
-use rg_regions::{chain_word, Regions};
+use rg_regions::{Regions, chain_word};
 use std::sync::ledger::Ledger;
 
 /// The regions into which the fields of a white member lead become heads of the chain, one by one.
@@ -49,7 +49,7 @@ pub fn chain_orphans<L: Ledger>(
     requires labels { AllInTable cells.now.heap regions.old }
     ensures searched { (r : Record) → record_at regions.old key ≡ Some r
         → FollowsWhite cells.now.heap cells.now.marks region r.members (length r.members)
-            regions.old regions.new result }
+        regions.old regions.new result }
     ensures cost { (r : Record) → record_at regions.old key ≡ Some r
         → steps.new ≡ steps.old + sum_by (if_white cells.now.heap cells.now.marks) r.members }
 {

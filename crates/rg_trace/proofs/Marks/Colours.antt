@@ -53,7 +53,7 @@ greyed h r roots marks links head grey t lies white l n near tri =
         off,
         subst C (sym (get_or-set_same links t head None n))
             (chain-agree h r marks (set marks t 1) links (set links t head) head grey (λ s q. other s (differs s q))
-                (λ s q. get_or-set_other links t s head None (differs s q)) tri.chain),
+            (λ s q. get_or-set_other links t s head None (differs s q)) tri.chain),
       );
       listed = λ s i m. elim (cases_eq s t) [ inl e ↦ inl e | inr d ↦ inr (tri.listed s i (sym (other s d) ∙ m)) ];
       walked = λ s i m. elim (cases_eq s t) [
@@ -69,10 +69,16 @@ went-grey h r marks t lies white l =
     let same : get_or (set marks t 1) t 0 ≡ 1 = get_or-set_same marks t 1 0 l in
     let other : (s : ℕ) → s ≢ t → get_or (set marks t 1) s 0 ≡ get_or marks s 0 = λ s d. get_or-set_other marks t s 1 0 d in
     record {
-      grows = λ s m. elim (cases_eq s t) [ inl e ↦ let q : get_or (set marks t 1) s 0 ≡ 1 = ap (λ k. get_or (set marks t 1) k 0) e
-          ∙ same in omega (arith, q) | inr d ↦ let o = other s d in omega (arith, o, m) ];
-      blacks = λ s i m. elim (cases_eq s t) [ inl e ↦ let q : get_or (set marks t 1) s 0 ≡ 1 = ap (λ k. get_or (set marks t 1) k 0) e
-          ∙ same in absurd (omega (arith, q, m)) | inr d ↦ let o = other s d in omega (arith, o, m) ];
+      grows = λ s m. elim (cases_eq s t) [
+        | inl e ↦ let q : get_or (set marks t 1) s 0 ≡ 1 = ap (λ k. get_or (set marks t 1) k 0) e
+            ∙ same in omega (arith, q)
+        | inr d ↦ let o = other s d in omega (arith, o, m)
+      ];
+      blacks = λ s i m. elim (cases_eq s t) [
+        | inl e ↦ let q : get_or (set marks t 1) s 0 ≡ 1 = ap (λ k. get_or (set marks t 1) k 0) e
+            ∙ same in absurd (omega (arith, q, m))
+        | inr d ↦ let o = other s d in omega (arith, o, m)
+      ];
       count = omega (arith, known-grey h r t marks lies white l);
       fields = fields-grey h r t marks lies white l;
       rest = pending-grey h r t marks lies white l;

@@ -82,8 +82,13 @@ scanned-more h r word n old mid new head middle result w at a b = record {
 
 -- a temporary more
 pub traced-none : (h : Heap) (r : ℕ) (temps : List ℕ) (t : Table) (head : Option ℕ) → t.heap ≡ h → ScannedTemps h r temps 0 t t head head
-traced-none h r temps t head e = record { heap = e; went = went-none h r t.marks; found = λ i k s temp l. absurd (omega arith); marking = λ roots
-    same m. m }
+traced-none h r temps t head e = record {
+  heap = e;
+  went = went-none h r t.marks;
+  found = λ i k s temp l. absurd (omega arith);
+  marking = λ roots
+      same m. m;
+}
 
 pub traced-more : (h : Heap) (r : ℕ) (temps : List ℕ) (n : ℕ) (old mid new : Table) (head middle result : Option ℕ) (temp : ℕ) → slice_get temps n
     ≡ Some temp → ScannedTemps h r temps n old mid head middle → Scanned h r (λ k. field_at h temp k) (width (body_at h temp)) mid new middle result
@@ -118,15 +123,17 @@ goes-more h r roots first old mid new s result l e g b =
     let marking : Marking h r roots mid (link_at old s) = subst M (sym e) (p.0, p.3) in
     let same : get_or mid.marks s 0 ≡ 2 = ap (λ ms. get_or ms s 0) marks ∙ get_or-set_same old.marks s 2 0 l in
     let other : (k : ℕ) → k ≢ s → get_or mid.marks k 0 ≡ get_or old.marks k 0 = λ k d. ap (λ ms. get_or ms k 0) marks
-        ∙ get_or-set_other old.marks s k 2 0 d in
+    ∙ get_or-set_other old.marks s k 2 0 d in
     let w = g.marking.1.walked s p.1 (omega (arith, p.2)) in
     let W : Walk h r roots w.0 s = w.2 in
     let count : known_count h r mid.marks ≡ known_count h r old.marks = ap (known_count h r) marks ∙ known-black h r s old.marks p.1 p.2 l in
     let near : (k t : ℕ) → field_at h s k ≡ Some (Slot t) → LiesIn h r t
-        → Near h r roots mid.marks t = λ k t f i. (suc w.0, omega (arith, w.1, count), (i, (s, k, W, f))) in
-    let kept : (x : ℕ) → 0 < get_or old.marks x 0 → 0 < get_or mid.marks x 0 = λ x m. elim (cases_eq x s)
-        [ inl q ↦ let o : get_or mid.marks x 0 ≡ 2 = ap (λ y. get_or mid.marks y 0) q ∙ same in omega (arith, o) | inr d
-        ↦ let o = other x d in omega (arith, o, m) ] in
+    → Near h r roots mid.marks t = λ k t f i. (suc w.0, omega (arith, w.1, count), (i, (s, k, W, f))) in
+    let kept : (x : ℕ) → 0 < get_or old.marks x 0 → 0 < get_or mid.marks x 0 = λ x m. elim (cases_eq x s) [
+      | inl q ↦ let o : get_or mid.marks x 0 ≡ 2 = ap (λ y. get_or mid.marks y 0) q ∙ same in omega (arith, o)
+      | inr d
+          ↦ let o = other x d in omega (arith, o, m)
+    ] in
     record {
       heap = b.heap;
       marking = b.marking roots near marking;
@@ -218,9 +225,9 @@ belongs-cases r (Some b) = by_label b.label
 pub fields-white : (h : Heap) (r : ℕ) (marks : List ℕ) → ((s : ℕ) → LiesIn h r s → get_or marks s 0 ≡ 0) → black_fields h r marks ≡ 0
 fields-white h r marks white = weighed-zero (λ b m. cond (belongs r b) (if_black (width b) m) 0) h.slots marks
     (λ k. elim (belongs-cases r (body_at h k)) [
-  | inl e ↦ rw e refl
-  | inr l ↦ rw (white k l) (cond-zero (belongs r (body_at h k)))
-])
+      | inl e ↦ rw e refl
+      | inr l ↦ rw (white k l) (cond-zero (belongs r (body_at h k)))
+    ])
   where
     cond-zero : (b : Bool) → cond {A = ℕ} b 0 0 ≡ 0
     cond-zero true = refl

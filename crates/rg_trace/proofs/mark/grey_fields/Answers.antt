@@ -9,6 +9,6 @@ loop-k-preserved g c = (
       c.grey-head.new.cells c.args.head c.loop-k.head c.grey-head.result c.look-w.result
       (ap (λ (h : Heap). field_at h c.args.slot c.loop-k.k) (sym c.loop-k.invariant.0.heap) ∙ c.look-w.ensures.value) c.loop-k.invariant.0
       (turn c.args.cells.now.heap c.args.region c.look-w.result c.loop-k.cells c.grey-head.new.cells c.loop-k.head c.grey-head.result
-          c.loop-k.invariant.0.heap c.grey-head.ensures),
+      c.loop-k.invariant.0.heap c.grey-head.ensures),
   omega (arith, c.loop-k.invariant.1, c.look-w.ensures.cost),
 )

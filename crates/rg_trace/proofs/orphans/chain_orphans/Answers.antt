@@ -18,7 +18,7 @@ members-requires g c =
     let rec = c.requires.there.0 in
     let inv = c.loop-place.invariant rec c.requires.there.1 in
     let at : record_at c.loop-place.regions c.args.key ≡ Some rec = ap (λ (rs : List (Option Record)). get_or rs c.args.key None) inv.0.records
-        ∙ c.requires.there.1 in
+    ∙ c.requires.there.1 in
     rw at refl
 
 pub bounds-members-place : goal.bounds-members-place
@@ -26,10 +26,10 @@ bounds-members-place g c =
     let rec = c.requires.there.0 in
     let inv = c.loop-place.invariant rec c.requires.there.1 in
     let at : record_at c.loop-place.regions c.args.key ≡ Some rec = ap (λ (rs : List (Option Record)). get_or rs c.args.key None) inv.0.records
-        ∙ c.requires.there.1 in
+    ∙ c.requires.there.1 in
     let mem : rec.members ≡ c.members.result.now = same_members _ rec c.members.result.now at c.members.ensures in
     let end : rec.members ≡ c.members-place-end.result.now = same_members _ rec c.members-place-end.result.now c.requires.there.1
-        c.members-place-end.ensures in
+    c.members-place-end.ensures in
     let room : c.loop-place.place < length rec.members = omega (arith, ap (length {A = ℕ}) end, c.loop-place-test.true) in
     omega (arith, ap (length {A = ℕ}) mem, room)
 
@@ -38,10 +38,10 @@ mark-requires g c =
     let rec = c.requires.there.0 in
     let inv = c.loop-place.invariant rec c.requires.there.1 in
     let at : record_at c.loop-place.regions c.args.key ≡ Some rec = ap (λ (rs : List (Option Record)). get_or rs c.args.key None) inv.0.records
-        ∙ c.requires.there.1 in
+    ∙ c.requires.there.1 in
     let mem : rec.members ≡ c.members.result.now = same_members _ rec c.members.result.now at c.members.ensures in
     let end : rec.members ≡ c.members-place-end.result.now = same_members _ rec c.members-place-end.result.now c.requires.there.1
-        c.members-place-end.ensures in
+    c.members-place-end.ensures in
     let room : c.loop-place.place < length rec.members = omega (arith, ap (length {A = ℕ}) end, c.loop-place-test.true) in
     let slot : ℕ = get_or c.members.result.now c.loop-place.place 0 in
     let is : get_or rec.members c.loop-place.place 0 ≡ slot = ap (λ (z : List ℕ). get_or z c.loop-place.place 0) mem in
@@ -54,10 +54,10 @@ chain_fields-head-requires g c =
     let rec = c.requires.there.0 in
     let inv = c.loop-place.invariant rec c.requires.there.1 in
     let at : record_at c.loop-place.regions c.args.key ≡ Some rec = ap (λ (rs : List (Option Record)). get_or rs c.args.key None) inv.0.records
-        ∙ c.requires.there.1 in
+    ∙ c.requires.there.1 in
     let mem : rec.members ≡ c.members.result.now = same_members _ rec c.members.result.now at c.members.ensures in
     let end : rec.members ≡ c.members-place-end.result.now = same_members _ rec c.members-place-end.result.now c.requires.there.1
-        c.members-place-end.ensures in
+    c.members-place-end.ensures in
     let room : c.loop-place.place < length rec.members = omega (arith, ap (length {A = ℕ}) end, c.loop-place-test.true) in
     let slot : ℕ = get_or c.members.result.now c.loop-place.place 0 in
     let is : get_or rec.members c.loop-place.place 0 ≡ slot = ap (λ (z : List ℕ). get_or z c.loop-place.place 0) mem in
@@ -75,10 +75,10 @@ loop-place-preserved-then-mark-ne0 g c = λ r e.
     let rec = c.requires.there.0 in
     let inv = c.loop-place.invariant rec c.requires.there.1 in
     let at : record_at c.loop-place.regions c.args.key ≡ Some rec = ap (λ (rs : List (Option Record)). get_or rs c.args.key None) inv.0.records
-        ∙ c.requires.there.1 in
+    ∙ c.requires.there.1 in
     let mem : rec.members ≡ c.members.result.now = same_members _ rec c.members.result.now at c.members.ensures in
     let end : rec.members ≡ c.members-place-end.result.now = same_members _ rec c.members-place-end.result.now c.requires.there.1
-        c.members-place-end.ensures in
+    c.members-place-end.ensures in
     let room : c.loop-place.place < length rec.members = omega (arith, ap (length {A = ℕ}) end, c.loop-place-test.true) in
     let slot : ℕ = get_or c.members.result.now c.loop-place.place 0 in
     let is : get_or rec.members c.loop-place.place 0 ≡ slot = ap (λ (z : List ℕ). get_or z c.loop-place.place 0) mem in
@@ -86,11 +86,11 @@ loop-place-preserved-then-mark-ne0 g c = λ r e.
     let more = sum_by_more (if_white c.args.cells.now.heap c.args.cells.now.marks) rec.members c.loop-place.place 0 room in
     let none = black-width c.args.cells.now.heap c.args.cells.now.marks slot black in
     let same : if_white c.args.cells.now.heap c.args.cells.now.marks (get_or rec.members c.loop-place.place 0)
-        ≡ if_white c.args.cells.now.heap c.args.cells.now.marks slot = ap (if_white c.args.cells.now.heap c.args.cells.now.marks) is in
+    ≡ if_white c.args.cells.now.heap c.args.cells.now.marks slot = ap (if_white c.args.cells.now.heap c.args.cells.now.marks) is in
     let G : Record → Type 0 = λ z. FollowsWhite c.args.cells.now.heap c.args.cells.now.marks c.args.region z.members (c.loop-place.place + 1)
-        c.args.regions.now c.loop-place.regions c.loop-place.head
+    c.args.regions.now c.loop-place.regions c.loop-place.head
     × (c.loop-place.steps ≡ c.args.steps.now + sum_by (if_white c.args.cells.now.heap c.args.cells.now.marks)
-        (take (c.loop-place.place + 1) z.members)) in
+    (take (c.loop-place.place + 1) z.members)) in
     subst G (one_record rec r (sym c.requires.there.1 ∙ e)) (
       searched-black c.args.cells.now.heap c.args.cells.now.marks c.args.region rec.members c.loop-place.place slot c.args.regions.now
           c.loop-place.regions c.loop-place.head is black inv.0,
@@ -102,10 +102,10 @@ loop-place-preserved g c = λ r e.
     let rec = c.requires.there.0 in
     let inv = c.loop-place.invariant rec c.requires.there.1 in
     let at : record_at c.loop-place.regions c.args.key ≡ Some rec = ap (λ (rs : List (Option Record)). get_or rs c.args.key None) inv.0.records
-        ∙ c.requires.there.1 in
+    ∙ c.requires.there.1 in
     let mem : rec.members ≡ c.members.result.now = same_members _ rec c.members.result.now at c.members.ensures in
     let end : rec.members ≡ c.members-place-end.result.now = same_members _ rec c.members-place-end.result.now c.requires.there.1
-        c.members-place-end.ensures in
+    c.members-place-end.ensures in
     let room : c.loop-place.place < length rec.members = omega (arith, ap (length {A = ℕ}) end, c.loop-place-test.true) in
     let slot : ℕ = get_or c.members.result.now c.loop-place.place 0 in
     let is : get_or rec.members c.loop-place.place 0 ≡ slot = ap (λ (z : List ℕ). get_or z c.loop-place.place 0) mem in
@@ -113,11 +113,11 @@ loop-place-preserved g c = λ r e.
     let more = sum_by_more (if_white c.args.cells.now.heap c.args.cells.now.marks) rec.members c.loop-place.place 0 room in
     let wide = white-width c.args.cells.now.heap c.args.cells.now.marks slot white in
     let same : if_white c.args.cells.now.heap c.args.cells.now.marks (get_or rec.members c.loop-place.place 0)
-        ≡ if_white c.args.cells.now.heap c.args.cells.now.marks slot = ap (if_white c.args.cells.now.heap c.args.cells.now.marks) is in
+    ≡ if_white c.args.cells.now.heap c.args.cells.now.marks slot = ap (if_white c.args.cells.now.heap c.args.cells.now.marks) is in
     let G : Record → Type 0 = λ z. FollowsWhite c.args.cells.now.heap c.args.cells.now.marks c.args.region z.members (c.loop-place.place + 1)
-        c.args.regions.now c.chain_fields-head.new.regions c.chain_fields-head.result
+    c.args.regions.now c.chain_fields-head.new.regions c.chain_fields-head.result
     × (c.chain_fields-head.new.steps ≡ c.args.steps.now + sum_by (if_white c.args.cells.now.heap c.args.cells.now.marks)
-        (take (c.loop-place.place + 1) z.members)) in
+    (take (c.loop-place.place + 1) z.members)) in
     subst G (one_record rec r (sym c.requires.there.1 ∙ e)) (
       searched-white c.args.cells.now.heap c.args.cells.now.marks c.args.region rec.members c.loop-place.place slot c.args.regions.now
           c.loop-place.regions c.chain_fields-head.new.regions c.loop-place.head c.chain_fields-head.result c.requires.there.2 room is white
@@ -130,13 +130,13 @@ returns g c =
     let rec = c.requires.there.0 in
     let inv = c.loop-place.invariant rec c.requires.there.1 in
     let end : rec.members ≡ c.members-place-end.result.now = same_members _ rec c.members-place-end.result.now c.requires.there.1
-        c.members-place-end.ensures in
+    c.members-place-end.ensures in
     let all : c.loop-place.place ≡ length rec.members = omega
-        (arith, ap (length {A = ℕ}) end, c.loop-place-test.false, c.loop-place.auto.place-end) in
+    (arith, ap (length {A = ℕ}) end, c.loop-place-test.false, c.loop-place.auto.place-end) in
     let S : ℕ → Type 0 = λ n. FollowsWhite c.args.cells.now.heap c.args.cells.now.marks c.args.region rec.members n c.args.regions.now
-        c.loop-place.regions c.loop-place.head in
+    c.loop-place.regions c.loop-place.head in
     let G : Record → Type 0 = λ z. FollowsWhite c.args.cells.now.heap c.args.cells.now.marks c.args.region z.members (length z.members)
-        c.args.regions.now c.loop-place.regions c.loop-place.head in
+    c.args.regions.now c.loop-place.regions c.loop-place.head in
     let C : Record → Type 0 = λ z. c.loop-place.steps ≡ c.args.steps.now + sum_by (if_white c.args.cells.now.heap c.args.cells.now.marks) z.members in
     let whole : take c.loop-place.place rec.members ≡ rec.members = take_all c.loop-place.place rec.members (omega (arith, all)) in
     record {

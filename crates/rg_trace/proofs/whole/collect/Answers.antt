@@ -67,7 +67,7 @@ sweep-requires g c =
     let h : c.mark_region.new.cells.heap ≡ c.args.cells.now.heap = c.mark_region.ensures.marked.heap in
     let s = c.chain_orphans-orphans.ensures.searched rec e in
     let M : ℕ → Type 0 = λ n. Marked c.args.cells.now.heap n
-        (record { bridge = c.bridge-bridge.result; slots = c.args.slots.now; temps = c.args.temps.now }) c.args.cells.now c.mark_region.new.cells in
+    (record { bridge = c.bridge-bridge.result; slots = c.args.slots.now; temps = c.args.temps.now }) c.args.cells.now c.mark_region.new.cells in
     let m = subst M (sym num) c.mark_region.ensures.marked in
     let L : Heap → Type 0 = λ z. (x : ℕ) → LiesIn z rec.number x → mark_at c.mark_region.new.cells x ≢ 1 in (
       rec,
@@ -82,7 +82,7 @@ members-requires g c =
     let e = c.requires.trace.1 in
     let s = c.chain_orphans-orphans.ensures.searched rec e in
     let f : record_at c.chain_orphans-orphans.new.regions c.args.key
-        ≡ Some rec = ap (λ (rs : List (Option Record)). get_or rs c.args.key None) s.records ∙ e in
+    ≡ Some rec = ap (λ (rs : List (Option Record)). get_or rs c.args.key None) s.records ∙ e in
     let w = c.sweep.ensures.swept rec f in
     rw w.1 refl
 
@@ -94,35 +94,35 @@ returns g c =
     let bri : rec.bridge ≡ c.bridge-bridge.result = bridge_is _ rec c.bridge-bridge.result e c.bridge-bridge.ensures in
     let s = c.chain_orphans-orphans.ensures.searched rec e in
     let M : ℕ → Type 0 = λ n. Marked c.args.cells.now.heap n
-        (record { bridge = c.bridge-bridge.result; slots = c.args.slots.now; temps = c.args.temps.now }) c.args.cells.now c.mark_region.new.cells in
+    (record { bridge = c.bridge-bridge.result; slots = c.args.slots.now; temps = c.args.temps.now }) c.args.cells.now c.mark_region.new.cells in
     let B : Option ℕ → Type 0 = λ b. Marked c.args.cells.now.heap rec.number
-        (record { bridge = b; slots = c.args.slots.now; temps = c.args.temps.now }) c.args.cells.now c.mark_region.new.cells in
+    (record { bridge = b; slots = c.args.slots.now; temps = c.args.temps.now }) c.args.cells.now c.mark_region.new.cells in
     let m = subst B (sym bri) (subst M (sym num) c.mark_region.ensures.marked) in
     let S : ℕ → Type 0 = λ n. FollowsWhite c.mark_region.new.cells.heap c.mark_region.new.cells.marks n rec.members (length rec.members)
-        c.args.regions.now c.chain_orphans-orphans.new.regions c.chain_orphans-orphans.result in
+    c.args.regions.now c.chain_orphans-orphans.new.regions c.chain_orphans-orphans.result in
     let t = subst S (sym num) s in
     let roots : Roots = record { bridge = rec.bridge; slots = c.args.slots.now; temps = c.args.temps.now } in
     let C : Record → Type 0 = λ r. Collected c.args.cells.now c.args.regions.now c.args.key r
-        (record { bridge = r.bridge; slots = c.args.slots.now; temps = c.args.temps.now }) c.sweep.new.cells c.sweep.new.regions in
+    (record { bridge = r.bridge; slots = c.args.slots.now; temps = c.args.temps.now }) c.sweep.new.cells c.sweep.new.regions in
     let O : Record → Type 0 = λ r. (keys : List ℕ) × Orphaning c.args.cells.now c.args.regions.now r.number
-        (record { bridge = r.bridge; slots = c.args.slots.now; temps = c.args.temps.now }) c.sweep.new.regions.links c.chain_orphans-orphans.result
-        keys in
+    (record { bridge = r.bridge; slots = c.args.slots.now; temps = c.args.temps.now }) c.sweep.new.regions.links c.chain_orphans-orphans.result
+    keys in
     let o = orphaning c.args.cells.now c.mark_region.new.cells c.args.regions.now c.chain_orphans-orphans.new.regions c.args.key rec roots
-        c.chain_orphans-orphans.result c.requires.grove e m t in
+    c.chain_orphans-orphans.result c.requires.grove e m t in
     let K : List (Option ℕ) → Type 0 = λ ls. (keys : List ℕ)
-        × Orphaning c.args.cells.now c.args.regions.now rec.number roots ls c.chain_orphans-orphans.result keys in
+    × Orphaning c.args.cells.now c.args.regions.now rec.number roots ls c.chain_orphans-orphans.result keys in
     let whole = collected c.args.cells.now c.mark_region.new.cells c.args.regions.now c.chain_orphans-orphans.new.regions c.args.key rec roots
-        c.sweep.new.cells c.sweep.new.regions e m s.records t.orphans.1.next c.sweep.ensures in
+    c.sweep.new.cells c.sweep.new.regions e m s.records t.orphans.1.next c.sweep.ensures in
     let ow = owns_once c.args.cells.now c.args.regions.now c.args.key rec c.requires.grove e in
     let h : c.mark_region.new.cells.heap ≡ c.args.cells.now.heap = c.mark_region.ensures.marked.heap in
     let T : Heap → ℕ → Type 0 = λ z n. black_fields c.args.cells.now.heap n c.mark_region.new.cells.marks + sum_by
-        (if_white z c.mark_region.new.cells.marks) rec.members ≤ region_fields c.args.cells.now.heap rec.number in
+    (if_white z c.mark_region.new.cells.marks) rec.members ≤ region_fields c.args.cells.now.heap rec.number in
     let T1 : ℕ → Type 0 = λ n. T c.args.cells.now.heap n in
     let T2 : Heap → Type 0 = λ z. T z c.number-region.result in
     let bound = subst T2 (sym h) (subst T1 num (ticks c.args.cells.now.heap rec.number c.mark_region.new.cells.marks rec.members ow.lie
-        (λ i j l n q. let z : i ≡ j = ow.once i j (omega arith) n q in omega (arith, z)))) in
+    (λ i j l n q. let z : i ≡ j = ow.once i j (omega arith) n q in omega (arith, z)))) in
     let Q : Record → Type 0 = λ r. c.chain_orphans-orphans.new.steps ≤ c.args.steps.now + sum_by (λ t. width (body_at c.args.cells.now.heap t))
-        c.args.temps.now + region_fields c.args.cells.now.heap r.number in
+    c.args.temps.now + region_fields c.args.cells.now.heap r.number in
     let most : Q rec = omega (arith, bound, c.mark_region.ensures.cost, c.chain_orphans-orphans.ensures.cost rec e) in
     record {
       cost = λ r f. subst Q (one_record rec r (sym e ∙ f)) most;
