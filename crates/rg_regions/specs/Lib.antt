@@ -3,4 +3,7 @@ pub mod Reach
 pub mod Spent
 pub mod Grove
 pub mod Chains
+pub mod Owned
+pub mod Collection
+pub mod Dropped
 pub mod Inner

@@ -13,7 +13,7 @@ use Rattle.rg_regions.specs.Chains.{OwnsOnce}
 use Rattle.rg_regions.proofs.Callers.Told.{one_number, number_of, owns_once}
 use Rattle.rg_regions.proofs.Callers.Chain.{chained_agree}
 use Rattle.rg_release.specs.Released.{Unowned}
-use Rattle.rg_release.specs.Inner.Owned.{OwnedInFront, OwnsNone}
+use Rattle.rg_regions.specs.Owned.{Every, OwnedInFront, OwnsNone}
 use Rattle.rg_release.specs.Inner.Turns.{FreedFirst, IsClear, Emptied, Turned}
 
 -- one region less
@@ -44,7 +44,7 @@ owns_none h t key r rest l = λ k q s f to m n d i x y. l.alone k q r s f to (in
 
 module _ (c : Table) (t : RegionTable) (key : ℕ) (rec : Record) (rest : List ℕ) (mid : RegionTable) (head : Option ℕ) (cells : Table)
     (regions : RegionTable) (keys : List ℕ) (g : Grove c t) (e : record_at t key ≡ Some rec) (fresh : Has rest key → ⊥)
-    (o : OwnedInFront c.heap rec.number rec.members rest t (length rec.members) 0 mid head keys)
+    (o : OwnedInFront c.heap Every rec.number rec.members rest t (length rec.members) 0 mid head keys)
     (f : FreedFirst c rec.members (length rec.members) cells) (is : regions ≡ removed mid key) where
   own : OwnsOnce c.heap rec.number rec.members
   own = owns_once c t key rec g e
@@ -113,6 +113,7 @@ module _ (c : Table) (t : RegionTable) (key : ℕ) (rec : Record) (rest : List �
           to = a.to;
           early = inl p.1;
           within = p.1;
+          gone = tt;
           leads = subst P (sym p.2) a.leads;
           lies = a.child_has;
           other = λ z. a.differ (sym z);

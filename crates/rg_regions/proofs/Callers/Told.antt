@@ -107,3 +107,12 @@ owns_once c t key rec g e =
       once = λ a b l n z.
           m.once a b (get_or rec.members a 0) (slice_get-get_or rec.members a 0 l) (slice_get-get_or rec.members b 0 n ∙ ap Some (sym z));
     }
+
+-- the key's record stays while links are set, and so do its members
+pub same_record : (old now : RegionTable) (key : ℕ) (rec : Record) → now.records ≡ old.records
+    → record_at old key ≡ Some rec → record_at now key ≡ Some rec
+same_record old now key rec e at = ap (λ (rs : List (Option Record)). get_or rs key None) e ∙ at
+
+pub members_read : (old now : RegionTable) (key : ℕ) (rec : Record) (members : List ℕ) → now.records ≡ old.records → record_at old key ≡ Some rec
+    → option_map (λ (r : Record). r.members) (record_at now key) ≡ Some members → rec.members ≡ members
+members_read old now key rec members e at is = same_members (record_at now key) rec members (same_record old now key rec e at) is
