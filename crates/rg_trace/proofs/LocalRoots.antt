@@ -28,7 +28,7 @@ survives : (c : Table) (t : RegionTable) (key : ℕ) (rec : Record) (roots : Roo
 survives c t key rec roots cells regions w x h near =
     let P : Option Body → Type 0 = λ o. IsSome o in
     elim (lies_or_not c.heap rec.number x) [
-      | inl out ↦ subst P (sym (w.others x out).0) h
+      | inl out ↦ subst P (sym (w.shrinks.others x out).0) h
       | inr l ↦ subst P (sym (w.kept x (near l))) h
     ]
 
@@ -76,8 +76,8 @@ local-roots c t key rec slots lower temps cells regions g e local held w =
           ]
     ] in (
       (λ s k x f.
-          let f0 = field_before c.heap cells.heap s k (Slot x) (w.sub s) f in
-          let same : label_at cells.heap s ≡ label_at c.heap s = elim (w.sub s) [
+          let f0 = field_before c.heap cells.heap s k (Slot x) (w.shrinks.fewer s) f in
+          let same : label_at cells.heap s ≡ label_at c.heap s = elim (w.shrinks.fewer s) [
             | inl q ↦ ap (option_map (λ (b : Body). b.label)) q
             | inr q ↦ absurd (none_has cells.heap s k (Slot x) (ap (option_map (λ (b : Body). b.label)) q) f)
           ] in

@@ -16,8 +16,9 @@ use Rattle.rg_regions.specs.Reach.{LiesIn, Roots, Walk, Reach}
 use Rattle.rg_regions.specs.Grove.{Grove, Members}
 use Rattle.rg_trace.specs.Inner.Marking.{Marked}
 use Rattle.rg_trace.specs.Inner.Sweeping.{Swept, Sweeps}
-use Rattle.rg_trace.specs.Inner.Orphans.{Owned, HasOrphans, Orphaned, FollowsWhite}
-use Rattle.rg_trace.specs.Collected.{Lost, Collected, Orphaning}
+use Rattle.rg_regions.specs.Collection.{ChainsOrphans}
+use Rattle.rg_trace.specs.Inner.Orphans.{FollowsWhite}
+use Rattle.rg_trace.specs.Collected.{Collected, OutOfReach}
 use Rattle.rg_trace.proofs.Marks.Colours.{walk-lies}
 use Rattle.rg_regions.proofs.Callers.Told.{one_record, owns_once, lies_or_not}
 
@@ -85,13 +86,47 @@ pub collected : (c d : Table) (t u : RegionTable) (key : ℕ) (rec : Record) (ro
     → Collected c t key rec roots cells regions
 collected c d t u key rec roots cells regions e m a b w =
     let f : record_at u key ≡ Some rec = ap (λ (rs : List (Option Record)). get_or rs key None) a ∙ e in
-    let s = w.swept rec f in
+    let s = w.left rec f in
     let h : d.heap ≡ c.heap = m.heap in
     let D : Heap → ℕ → Type 0 = λ z x. LiesIn z rec.number x in
     let to_d : (x : ℕ) → LiesIn c.heap rec.number x → LiesIn d.heap rec.number x = λ x l. let P : Heap → Type 0 = λ z. D z x in subst P (sym h) l in
     let of_d : (x : ℕ) → LiesIn d.heap rec.number x → LiesIn c.heap rec.number x = λ x l. let P : Heap → Type 0 = λ z. D z x in subst P h l in
     let bodies : (x : ℕ) → body_at d.heap x ≡ body_at c.heap x = λ x. ap (λ (z : Heap). body_at z x) h in
     record {
+      shrinks = record {
+        fewer = λ x. elim (lies_or_not c.heap rec.number x) [
+          | inl z ↦ inl (ap body_in (s.5.others x (λ l. z (of_d x l))).0 ∙ bodies x)
+          | inr l ↦ elim (s.5.either x (to_d x l)) [ inl a ↦ inl (a ∙ bodies x) | inr a ↦ inr a.0 ]
+        ];
+        others = λ x n. let o = s.5.others x (λ l. n (of_d x l)) in (ap body_in o.0 ∙ bodies x, o.1 ∙ m.outside x n);
+        serials = s.5.next ∙ ap (λ (z : Heap). z.next) h;
+        high = s.5.high ∙ ap high_of h;
+        numbers = w.next ∙ b;
+        records = λ k n. w.others k n ∙ ap (λ (rs : List (Option Record)). get_or rs k None) a;
+        own = (
+          s.0,
+          s.1,
+          s.2,
+          s.3,
+          s.4,
+          record {
+            lie = λ j x q. let e = some_number (get_or s.0.members j 0) x
+                (sym (slice_get-get_or s.0.members j 0 (slice_get_within s.0.members j x q)) ∙ q) in let L : ℕ
+                → Type 0 = λ y. LiesIn cells.heap rec.number y in subst L e (s.5.lie j (slice_get_within s.0.members j x q));
+            all = λ x l. let p = s.5.all x l in (p.0, slice_get-get_or s.0.members p.0 0 p.1 ∙ ap Some p.2);
+            once = λ i j x p q.
+                let a = slice_get_within s.0.members i x p in
+                let b = slice_get_within s.0.members j x q in
+                let z : get_or s.0.members i 0 ≡ get_or s.0.members j 0 = some_number (get_or s.0.members i 0) (get_or s.0.members j 0)
+                (sym (slice_get-get_or s.0.members i 0 a) ∙ p ∙ sym q ∙ slice_get-get_or s.0.members j 0 b) in
+                elim (cases_lt i j) [
+                  | inl y ↦ absurd (s.5.once i j y b z)
+                  | inr y
+                      ↦ elim (cases_eq i j) [ inl k ↦ k | inr k ↦ let v : j < i = omega arith in absurd (s.5.once j i v a (sym z)) ]
+                ];
+          },
+        );
+      };
       kept = λ x r. s.5.black x (to_d x (walk-lies c.heap rec.number roots r.0 x r.2)) (m.reached x r) ∙ bodies x;
       gone = λ x l n.
           let z = white-gone c.heap rec.number roots c d x m l n in
@@ -104,20 +139,10 @@ collected c d t u key rec roots cells regions e m a b w =
             | inl a ↦ absurd (off (ap (option_map (λ (y : Body). y.label)) a ∙ to_d x l))
             | inr a ↦ a.0
           ];
-      others = λ x n. let o = s.5.others x (λ l. n (of_d x l)) in (ap body_in o.0 ∙ bodies x, o.1 ∙ m.outside x n);
-      white = λ x l. let p = s.5.all x l in let q = s.5.after p.0 (omega arith) p.1 in ap (λ y. mark_at cells y) (sym p.2) ∙ q.1;
-      serials = s.5.next ∙ ap (λ (z : Heap). z.next) h;
-      high = s.5.high ∙ ap high_of h;
-      numbers = w.next ∙ b;
-      records = λ k n. w.others k n ∙ ap (λ (rs : List (Option Record)). get_or rs k None) a;
       unmarked = λ x l. elim (s.5.either x (to_d x l)) [
         | inl a ↦ let i : LiesIn cells.heap rec.number x = ap (option_map (λ (y : Body). y.label)) a
             ∙ to_d x l in let p = s.5.all x i in let q = s.5.after p.0 (omega arith) p.1 in ap (λ y. mark_at cells y) (sym p.2) ∙ q.1
         | inr a ↦ a.1
-      ];
-      sub = λ x. elim (lies_or_not c.heap rec.number x) [
-        | inl z ↦ inl (ap body_in (s.5.others x (λ l. z (of_d x l))).0 ∙ bodies x)
-        | inr l ↦ elim (s.5.either x (to_d x l)) [ inl a ↦ inl (a ∙ bodies x) | inr a ↦ inr a.0 ]
       ];
       within = λ x i.
           let l : LiesIn c.heap rec.number x = of_d x (ap (option_map (λ (y : Body). y.label)) (sym (s.5.only x i)) ∙ i) in
@@ -128,35 +153,12 @@ collected c d t u key rec roots cells regions e m a b w =
       closed = λ x k to n f i.
           let z = m.closed x k to (walk-lies c.heap rec.number roots n.0 x n.2) (m.reached x n) f i in
           m.only to i (omega (arith, z));
-      own = (
-        s.0,
-        s.1,
-        s.2,
-        s.3,
-        s.4,
-        record {
-          lie = λ j x q. let e = some_number (get_or s.0.members j 0) x
-              (sym (slice_get-get_or s.0.members j 0 (slice_get_within s.0.members j x q)) ∙ q) in let L : ℕ
-              → Type 0 = λ y. LiesIn cells.heap rec.number y in subst L e (s.5.lie j (slice_get_within s.0.members j x q));
-          all = λ x l. let p = s.5.all x l in (p.0, slice_get-get_or s.0.members p.0 0 p.1 ∙ ap Some p.2);
-          once = λ i j x p q.
-              let a = slice_get_within s.0.members i x p in
-              let b = slice_get_within s.0.members j x q in
-              let z : get_or s.0.members i 0 ≡ get_or s.0.members j 0 = some_number (get_or s.0.members i 0) (get_or s.0.members j 0)
-              (sym (slice_get-get_or s.0.members i 0 a) ∙ p ∙ sym q ∙ slice_get-get_or s.0.members j 0 b) in
-              elim (cases_lt i j) [
-                | inl y ↦ absurd (s.5.once i j y b z)
-                | inr y
-                    ↦ elim (cases_eq i j) [ inl k ↦ k | inr k ↦ let v : j < i = omega arith in absurd (s.5.once j i v a (sym z)) ]
-              ];
-        },
-      );
     }
 
 -- exactly the regions that lost their owner were chained
 pub orphaning : (c d : Table) (t u : RegionTable) (key : ℕ) (rec : Record) (roots : Roots) (result : Option ℕ) → Grove c t → record_at t key
     ≡ Some rec → Marked c.heap rec.number roots c d → FollowsWhite d.heap d.marks rec.number rec.members (length rec.members) t u result
-    → (keys : List ℕ) × Orphaning c t rec.number roots u.links result keys
+    → ChainsOrphans c.heap t rec.number (OutOfReach c.heap rec.number roots) u.links result
 orphaning c d t u key rec roots result g e m o =
     let h : d.heap ≡ c.heap = m.heap in
     let k = o.orphans in
@@ -168,7 +170,7 @@ orphaning c d t u key rec roots result g e m o =
       record {
         chain = k.1.chain;
         each = λ y n.
-            let w = k.1.each y n in
+            let w = by_none (k.1.each y n) in
             let own = w.2 in
             let s : ℕ = get_or rec.members own.place 0 in (
               w.0,
@@ -178,7 +180,7 @@ orphaning c d t u key rec roots result g e m o =
                 field = own.field;
                 to = own.to;
                 from = ow.lie own.place own.within;
-                freed = λ r. let z = m.reached s r in omega (arith, z, own.white);
+                gone = λ r. let z = m.reached s r in omega (arith, z, own.gone);
                 leads = ap (λ (z : Heap). field_at z s own.field) (sym h) ∙ own.leads;
                 lies = lies_of w.0 own.to own.lies;
                 other = own.other;
@@ -195,13 +197,17 @@ orphaning c d t u key rec roots result g e m o =
               to = l.to;
               early = inl within;
               within = within;
-              white = ap (λ z. mark_at d z) is ∙ white-gone c.heap rec.number roots c d l.slot m l.from l.freed;
+              gone = ap (λ z. mark_at d z) is ∙ white-gone c.heap rec.number roots c d l.slot m l.from l.gone;
               leads = ap (λ z. field_at d.heap z l.field) is ∙ ap (λ (z : Heap). field_at z l.slot l.field) h ∙ l.leads;
               lies = of_lies q l.to l.lies;
               other = l.other;
             }) n;
+        apart = k.1.apart;
       },
     )
   where
     some_is : (a b : ℕ) → Some a ≡ Some b → a ≡ b
     some_is a b q = cc
+
+    by_none : {A : Type 0} → ⊥ ⊎ A → A
+    by_none o = elim o [ inl x ↦ absurd x | inr a ↦ a ]

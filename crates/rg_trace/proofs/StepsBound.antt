@@ -9,7 +9,7 @@ use Rattle.rg_cells.specs.Table.{Heap, total, body_in, body_at, width}
 use Rattle.rg_regions.specs.Reach.{LiesIn, belongs}
 use Rattle.rg_trace.specs.Inner.Marking.{weighed, if_black, black_fields}
 use Rattle.rg_trace.specs.Inner.Orphans.{if_white}
-use Rattle.rg_trace.specs.Collected.{region_fields}
+use Rattle.rg_regions.specs.Collection.{region_fields}
 use Rattle.rg_trace.proofs.Marks.Weights.{lies-belongs}
 
 abbrev spot : (Option Body → ℕ → ℕ) → List (Option (Option Body)) → List ℕ → ℕ → ℕ

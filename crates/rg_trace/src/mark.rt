@@ -4,9 +4,9 @@
 ghost use Rattle.std.specs.Prelude.{◌≡◌, ℕ, ◌+◌, Some, length, slice_get, sum_by};
 ghost use Rattle.rg_cells.specs.Table.{IsHeld, body_at, field_at, width};
 ghost use Rattle.rg_regions.specs.Chains.{LeadsToHeld};
-ghost use Rattle.rg_trace.specs.Collected.{AllWhite, WordsLeadToHeld, AllHeld};
-ghost use Rattle.rg_trace.specs.Collected.{TempsLeadToHeld, roots_of};
-ghost use Rattle.rg_trace.specs.Inner.Marking.{Greys, Scanned, ScannedTemps, ScannedBridge};
+ghost use Rattle.rg_regions.specs.Collection.{roots_of, WordsLeadToHeld, AllHeld};
+ghost use Rattle.rg_regions.specs.Collection.{TempsLeadToHeld};
+ghost use Rattle.rg_trace.specs.Inner.Marking.{AllWhite, Greys, Scanned, ScannedTemps, ScannedBridge};
 ghost use Rattle.rg_trace.specs.Inner.Marking.{Marked, black_fields};
 
 use rg_base::{Label, Steps, Word};

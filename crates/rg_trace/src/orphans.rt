@@ -4,7 +4,8 @@ ghost use Rattle.std.specs.Prelude.{◌≡◌, ◌+◌, ℕ, Some, length, sum_b
 ghost use Rattle.rg_cells.specs.Table.{IsHeld, body_at, field_at, width};
 ghost use Rattle.rg_regions.specs.Table.{Record, record_at};
 ghost use Rattle.rg_regions.specs.Chains.{AllInTable, LeadsToHeld, OwnsOnce};
-ghost use Rattle.rg_trace.specs.Inner.Orphans.{FollowsFields, FollowsWhite, if_white};
+ghost use Rattle.rg_regions.specs.Owned.{FollowsFields};
+ghost use Rattle.rg_trace.specs.Inner.Orphans.{IsWhite, FollowsWhite, if_white};
 
 use rg_base::{Steps, Word};
 use rg_cells::Cells;
@@ -24,7 +25,7 @@ fn chain_fields<L: Ledger>(
     requires lead { (k s : ℕ) → field_at cells.now.heap slot k ≡ Some (Word.Slot s)
         → IsHeld cells.now.heap s }
     requires labels { AllInTable cells.now.heap regions.old }
-    ensures fields { FollowsFields cells.now.heap cells.now.marks region slot
+    ensures fields { FollowsFields cells.now.heap (IsWhite cells.now.marks) region slot
         (width (body_at cells.now.heap slot)) regions.old regions.new head result }
     ensures cost { steps.new ≡ steps.old + width (body_at cells.now.heap slot) }
 {

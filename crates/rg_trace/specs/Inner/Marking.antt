@@ -8,6 +8,10 @@ use Rattle.rg_cells.specs.Table.{Heap, Table, label_at, field_at, body_in, width
 use Rattle.rg_regions.specs.Reach.{LiesIn, Roots, Walk, Reach, belongs}
 use Rattle.rg_regions.specs.Table.{Has}
 
+-- no cell of a region has a mark
+abbrev pub AllWhite : Table → (region : ℕ) → Type 0
+AllWhite c r = (s : ℕ) → LiesIn c.heap r s → mark_at c s ≡ 0
+
 -- one for a mark that is grey or black; one for a mark that isn't black; the weight, where the mark is black
 abbrev pub known : ℕ → ℕ
 known zero = 0

@@ -3,6 +3,7 @@ use Rattle.std.specs.Prelude.{◌≡◌, ◌≢◌, ℕ, ◌<◌, ◌≤◌, ◌
 use Rattle.rg_cells.specs.Table.{Heap, Table, body_at, mark_at, high_of}
 use Rattle.rg_regions.specs.Table.{Record, RegionTable, record_at}
 use Rattle.rg_regions.specs.Reach.{LiesIn}
+use Rattle.rg_regions.specs.Dropped.{MembersLeft}
 
 -- The heap and marks are those behind marking. Members before the place are as they were, those from it on are in reach and
 -- white again, and of the region only cells out of reach were freed.
@@ -21,13 +22,9 @@ pub record Swept (h : Heap) (marks : List ℕ) (r : ℕ) (members : List ℕ) (p
   pub next : t.heap.next ≡ h.next
   pub high : high_of t.heap ≡ high_of h
 
--- the same of the region table: of one region alone the members change
-pub record Sweeps (c : Table) (t : RegionTable) (key : ℕ) (cells : Table) (regions : RegionTable) (place : ℕ) : Type 0 where
-  pub links : regions.links ≡ t.links
-  pub next : regions.next ≡ t.next
-  pub others : (k : ℕ) → k ≢ key → record_at regions k ≡ record_at t k
-  pub swept : (r : Record) → record_at t key ≡ Some r → (now : Record) × (record_at regions key ≡ Some now)
-      × (now.number ≡ r.number) × (now.manager ≡ r.manager) × (now.bridge ≡ r.bridge) × Swept c.heap c.marks r.number now.members place cells
+-- the same with the region table
+abbrev pub Sweeps : Table → RegionTable → (key : ℕ) → Table → RegionTable → (place : ℕ) → Type 0
+Sweeps c t key cells regions place = MembersLeft t key (λ r members. Swept c.heap c.marks r members place cells) regions
 
 -- a region is marked, and no cell of it is grey
 abbrev pub IsMarked : Table → RegionTable → (key : ℕ) → Type 0

@@ -7,7 +7,8 @@ use Rattle.rg_regions.specs.Reach.{LiesIn, Roots}
 use Rattle.rg_trace.specs.Inner.Marking.{Marked, black_fields}
 use Rattle.rg_trace.specs.Inner.Sweeping.{Swept, Sweeps}
 use Rattle.rg_trace.specs.Inner.Orphans.{FollowsWhite, if_white}
-use Rattle.rg_trace.specs.Collected.{Collected, Orphaning, region_fields}
+use Rattle.rg_regions.specs.Collection.{ChainsOrphans, region_fields}
+use Rattle.rg_trace.specs.Collected.{Collected, OutOfReach}
 use Rattle.rg_trace.proofs.PartsJoined.{all-white, swept-begin, not-grey, collected, orphaning}
 use Rattle.rg_trace.proofs.GroveKept.{grove-kept}
 use Rattle.rg_trace.proofs.StepsBound.{ticks}
@@ -83,7 +84,7 @@ members-requires g c =
     let s = c.chain_orphans-orphans.ensures.searched rec e in
     let f : record_at c.chain_orphans-orphans.new.regions c.args.key
     ≡ Some rec = ap (λ (rs : List (Option Record)). get_or rs c.args.key None) s.records ∙ e in
-    let w = c.sweep.ensures.swept rec f in
+    let w = c.sweep.ensures.left rec f in
     rw w.1 refl
 
 pub returns : goal.returns
@@ -104,13 +105,14 @@ returns g c =
     let roots : Roots = record { bridge = rec.bridge; slots = c.args.slots.now; temps = c.args.temps.now } in
     let C : Record → Type 0 = λ r. Collected c.args.cells.now c.args.regions.now c.args.key r
     (record { bridge = r.bridge; slots = c.args.slots.now; temps = c.args.temps.now }) c.sweep.new.cells c.sweep.new.regions in
-    let O : Record → Type 0 = λ r. (keys : List ℕ) × Orphaning c.args.cells.now c.args.regions.now r.number
-    (record { bridge = r.bridge; slots = c.args.slots.now; temps = c.args.temps.now }) c.sweep.new.regions.links c.chain_orphans-orphans.result
-    keys in
+    let F : Record → ℕ → Type 0 =
+    λ r. OutOfReach c.args.cells.now.heap r.number (record { bridge = r.bridge; slots = c.args.slots.now; temps = c.args.temps.now }) in
+    let O : Record → Type 0 = λ r. ChainsOrphans c.args.cells.now.heap c.args.regions.now r.number (F r) c.sweep.new.regions.links
+        c.chain_orphans-orphans.result in
     let o = orphaning c.args.cells.now c.mark_region.new.cells c.args.regions.now c.chain_orphans-orphans.new.regions c.args.key rec roots
     c.chain_orphans-orphans.result c.requires.grove e m t in
-    let K : List (Option ℕ) → Type 0 = λ ls. (keys : List ℕ)
-    × Orphaning c.args.cells.now c.args.regions.now rec.number roots ls c.chain_orphans-orphans.result keys in
+    let K : List (Option ℕ) → Type 0 = λ ls. ChainsOrphans c.args.cells.now.heap c.args.regions.now rec.number (F rec) ls
+        c.chain_orphans-orphans.result in
     let whole = collected c.args.cells.now c.mark_region.new.cells c.args.regions.now c.chain_orphans-orphans.new.regions c.args.key rec roots
     c.sweep.new.cells c.sweep.new.regions e m s.records t.orphans.1.next c.sweep.ensures in
     let ow = owns_once c.args.cells.now c.args.regions.now c.args.key rec c.requires.grove e in
