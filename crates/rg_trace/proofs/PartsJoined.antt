@@ -39,7 +39,7 @@ all-white c t key rec g e m s l = g.unmarked s (λ k r f n i.
 
 -- behind marking, before the first turn of sweeping
 pub swept-begin : (c d : Table) (t : RegionTable) (key : ℕ) (rec : Record) → Grove c t → record_at t key ≡ Some rec → d.heap ≡ c.heap
-    → Swept d.heap d.marks rec.number rec.members (length rec.members) d
+    → Swept d rec.number rec.members (length rec.members) d
 swept-begin c d t key rec g e h =
     let m = g.members key rec e in
     let o = owns_once c t key rec g e in
@@ -59,7 +59,7 @@ swept-begin c d t key rec g e h =
       before = λ j l. refl;
       after = λ j l n. absurd (omega arith);
       black = λ s l n. refl;
-      others = λ s l. (refl, refl);
+      others = λ s l. (refl, refl, refl);
       only = λ s l. refl;
       either = λ s l. inl refl;
       next = refl;
@@ -98,7 +98,7 @@ collected c d t u key rec roots cells regions e m a b w =
           | inl z ↦ inl (ap body_in (s.5.others x (λ l. z (of_d x l))).0 ∙ bodies x)
           | inr l ↦ elim (s.5.either x (to_d x l)) [ inl a ↦ inl (a ∙ bodies x) | inr a ↦ inr a.0 ]
         ];
-        others = λ x n. let o = s.5.others x (λ l. n (of_d x l)) in (ap body_in o.0 ∙ bodies x, o.1 ∙ m.outside x n);
+        others = λ x n. let o = s.5.others x (λ l. n (of_d x l)) in (ap body_in o.0 ∙ bodies x, o.1 ∙ (m.outside x n).0, o.2 ∙ (m.outside x n).1);
         serials = s.5.next ∙ ap (λ (z : Heap). z.next) h;
         high = s.5.high ∙ ap high_of h;
         numbers = w.next ∙ b;

@@ -13,7 +13,7 @@ use Rattle.rg_base.specs.declared.object.Label.TheVariants.{Region, Temp, Frozen
 use Rattle.rg_cells.specs.Table.{Heap, Table, field_at, body_at, body_in, width, mark_at, link_at, IsHeld}
 use Rattle.rg_regions.specs.Reach.{LiesIn, Roots, Walk, Reach, belongs, is_region, is_bridge, in_slots, in_temps}
 use Rattle.rg_trace.specs.Inner.Marking.{known_count, pending, black_fields, GreyChain, TriColour, Marking, FieldClosed, BlackDoneBut, BlackDone}
-use Rattle.rg_trace.specs.Inner.Marking.{OnlyGreyed, Near, StaysKnown, BecomesGrey, Greys, Scanned, ScannedTemps, ScannedBridge, MarkingGoes}
+use Rattle.rg_trace.specs.Inner.Marking.{OnlyGreyed, LinksStay, Near, StaysKnown, BecomesGrey, Greys, Scanned, ScannedTemps, ScannedBridge, MarkingGoes}
 use Rattle.rg_trace.specs.Inner.Marking.{Marked, weighed, if_black}
 use Rattle.rg_trace.proofs.Marks.Weights.{known-size, known-black, fields-black, pending-black}
 use Rattle.rg_trace.proofs.Marks.Colours.{greyed, went-grey, went-none, went-then, popped, reached-marked, marked-reached, none-grey, walk-lies}
@@ -32,19 +32,21 @@ near-later h r roots old new s w n = (n.0, omega (arith, n.1, w.count), n.2)
 pub record Turn (h : Heap) (r : ℕ) (w : Word) (old new : Table) (head result : Option ℕ) : Type 0 where
   pub heap : new.heap ≡ h
   pub went : OnlyGreyed h r old.marks new.marks
+  pub links : LinksStay h r old new
   pub found : (s : ℕ) → w ≡ Slot s → LiesIn h r s → 0 < mark_at new s
   pub marking : (roots : Roots) → ((s : ℕ) → w ≡ Slot s → LiesIn h r s → Near h r roots old.marks s) → Marking h r roots old head
       → Marking h r roots new result
 
 turn-stays : (r : ℕ) (w : Word) (t : Table) (head : Option ℕ) → ((s : ℕ) → w ≡ Slot s → LiesIn t.heap r s → 0 < mark_at t s)
     → Turn t.heap r w t t head head
-turn-stays r w t head known = record { heap = refl; went = went-none t.heap r t.marks; found = known; marking = λ roots near m. m }
+turn-stays r w t head known = record { heap = refl; went = went-none t.heap r t.marks; links = λ s n. refl; found = known; marking = λ roots near m. m }
 
 turn-taken : (r slot : ℕ) (t : Table) (head : Option ℕ) → LiesIn t.heap r slot → mark_at t slot ≡ 0 → slot < length t.marks → slot < length t.links
     → Turn t.heap r (Slot slot) t (record t { marks = set t.marks slot 1; links = set t.links slot head }) head (Some slot)
 turn-taken r slot t head lies white l n = record {
   heap = refl;
   went = went-grey t.heap r t.marks slot lies white l;
+  links = λ s n. get_or-set_other t.links slot s head None (λ q. let L : ℕ → Type 0 = λ y. LiesIn t.heap r y in n (subst L (sym q) lies));
   found = λ s e i. let q : slot ≡ s = slot_is slot s e in let o : get_or (set t.marks slot 1) s 0
       ≡ 1 = ap (λ k. get_or (set t.marks slot 1) k 0) (sym q) ∙ get_or-set_same t.marks slot 1 0 l in omega (arith, o);
   marking = λ roots near m. (slot ∷ m.0, greyed t.heap r roots t.marks t.links head m.0 slot lies white l n (near slot refl lies) m.1);
@@ -65,13 +67,14 @@ turn h r w old new head result e g =
     ])
 
 pub scanned-none : (h : Heap) (r : ℕ) (word : ℕ → Option Word) (t : Table) (head : Option ℕ) → t.heap ≡ h → Scanned h r word 0 t t head head
-scanned-none h r word t head e = record { heap = e; went = went-none h r t.marks; found = λ k s l. absurd (omega arith); marking = λ roots near m. m }
+scanned-none h r word t head e = record { heap = e; went = went-none h r t.marks; links = λ s n. refl; found = λ k s l. absurd (omega arith); marking = λ roots near m. m }
 
 pub scanned-more : (h : Heap) (r : ℕ) (word : ℕ → Option Word) (n : ℕ) (old mid new : Table) (head middle result : Option ℕ) (w : Word) → word n
     ≡ Some w → Scanned h r word n old mid head middle → Turn h r w mid new middle result → Scanned h r word (n + 1) old new head result
 scanned-more h r word n old mid new head middle result w at a b = record {
   heap = b.heap;
   went = went-then h r old.marks mid.marks new.marks a.went b.went;
+  links = λ s n. b.links s n ∙ a.links s n;
   found = λ k s l e i. elim (cases_lt k n) [
     | inl m ↦ b.went.grows s (a.found k s m e i)
     | inr m ↦ let q : k ≡ n = omega arith in b.found s (word_is w (Slot s) (sym at ∙ ap word (sym q) ∙ e)) i
@@ -85,6 +88,7 @@ pub traced-none : (h : Heap) (r : ℕ) (temps : List ℕ) (t : Table) (head : Op
 traced-none h r temps t head e = record {
   heap = e;
   went = went-none h r t.marks;
+  links = λ s n. refl;
   found = λ i k s temp l. absurd (omega arith);
   marking = λ roots
       same m. m;
@@ -96,6 +100,7 @@ pub traced-more : (h : Heap) (r : ℕ) (temps : List ℕ) (n : ℕ) (old mid new
 traced-more h r temps n old mid new head middle result temp at a b = record {
   heap = b.heap;
   went = went-then h r old.marks mid.marks new.marks a.went b.went;
+  links = λ s n. b.links s n ∙ a.links s n;
   found = λ i k s other l e f lies. elim (cases_lt i n) [
     | inl m ↦ b.went.grows s (a.found i k s other m e f lies)
     | inr m ↦
@@ -112,7 +117,7 @@ traced-more h r temps n old mid new head middle result temp at a b = record {
     number_is a b q = cc
 
 -- the first grey cell becomes black, and its fields are looked at
-pub goes-more : (h : Heap) (r : ℕ) (roots : Roots) (first : List ℕ) (old mid new : Table) (s : ℕ) (result : Option ℕ) → s < length old.marks → mid
+pub goes-more : (h : Heap) (r : ℕ) (roots : Roots) (first : Table) (old mid new : Table) (s : ℕ) (result : Option ℕ) → s < length old.marks → mid
     ≡ record old { marks = set old.marks s 2 } → MarkingGoes h r roots first old (Some s)
     → Scanned h r (λ k. field_at h s k) (width (body_at h s)) mid new (link_at old s) result → MarkingGoes h r roots first new result
 goes-more h r roots first old mid new s result l e g b =
@@ -144,11 +149,14 @@ goes-more h r roots first old mid new s result l e g b =
             (kept t (g.done x k i (omega (arith, o, was)) t f z))
       ];
       roots_known = λ x v. b.went.grows x (kept x (g.roots_known x v));
-      outside = λ x i. b.went.outside x i ∙ other x (λ q. let L : ℕ → Type 0 = λ y. LiesIn h r y in i (subst L (sym q) p.1)) ∙ g.outside x i;
+      outside = λ x i.
+          let L : ℕ → Type 0 = λ y. LiesIn h r y in
+          let o = g.outside x i in
+          (b.went.outside x i ∙ other x (λ q. i (subst L (sym q) p.1)) ∙ o.0, b.links x i ∙ ap (λ (t : Table). link_at t x) e ∙ o.1);
     }
 
 -- where no grey cell is left, the region is marked
-pub goes-done : (h : Heap) (r : ℕ) (roots : Roots) (first : List ℕ) (old t : Table) → first ≡ old.marks → MarkingGoes h r roots first t None
+pub goes-done : (h : Heap) (r : ℕ) (roots : Roots) (first : Table) (old t : Table) → first ≡ old → MarkingGoes h r roots first t None
     → Marked h r roots old t
 goes-done h r roots first old t e g = record {
   heap = g.heap;
@@ -161,7 +169,7 @@ goes-done h r roots first old t e g = record {
       let n : mark_at t to ≢ 1 = none-grey h r roots t.marks t.links g.marking.0 g.marking.1 to i in
       omega (arith, d, n);
   only = λ s i m. marked-reached h r roots t.marks t.links None g.marking.0 s g.marking.1 i m;
-  outside = λ s i. g.outside s i ∙ ap (λ ms. get_or ms s 0) e;
+  outside = λ s i. let o = g.outside s i in (o.0 ∙ ap (λ (z : Table). mark_at z s) e, o.1 ∙ ap (λ (z : Table). link_at z s) e);
 }
 
 -- a region whose cells are white, before its roots are looked at
@@ -176,7 +184,7 @@ goes-nothing h r roots t white = (
 )
 
 -- the fields of black cells, and the cells that aren't black, after a turn
-pub fields-more : (h : Heap) (r : ℕ) (roots : Roots) (first : List ℕ) (old mid new : Table) (s : ℕ) → s < length old.marks → mid
+pub fields-more : (h : Heap) (r : ℕ) (roots : Roots) (first : Table) (old mid new : Table) (s : ℕ) → s < length old.marks → mid
     ≡ record old { marks = set old.marks s 2 } → MarkingGoes h r roots first old (Some s) → OnlyGreyed h r mid.marks new.marks
     → black_fields h r new.marks ≡ black_fields h r old.marks + width (body_at h s)
 fields-more h r roots first old mid new s l e g w =
@@ -185,7 +193,7 @@ fields-more h r roots first old mid new s l e g w =
     let a : black_fields h r mid.marks ≡ black_fields h r (set old.marks s 2) = ap (black_fields h r) marks in
     omega (arith, w.fields, a, fields-black h r s old.marks p.1 p.2 l)
 
-pub pending-less : (h : Heap) (r : ℕ) (roots : Roots) (first : List ℕ) (old mid new : Table) (s : ℕ) → s < length old.marks → mid
+pub pending-less : (h : Heap) (r : ℕ) (roots : Roots) (first : Table) (old mid new : Table) (s : ℕ) → s < length old.marks → mid
     ≡ record old { marks = set old.marks s 2 } → MarkingGoes h r roots first old (Some s) → OnlyGreyed h r mid.marks new.marks
     → pending h r new.marks < pending h r old.marks
 pending-less h r roots first old mid new s l e g w =
@@ -235,7 +243,7 @@ fields-white h r marks white = weighed-zero (λ b m. cond (belongs r b) (if_blac
 
 -- the bridge is looked at
 pub bridged-none : (r : ℕ) (t : Table) → ScannedBridge t.heap r None t t None
-bridged-none r t = record { heap = refl; went = went-none t.heap r t.marks; found = λ s e. let q : None ≡ Some s = e in cc; marking = λ roots e m. m }
+bridged-none r t = record { heap = refl; went = went-none t.heap r t.marks; links = λ s n. refl; found = λ s e. let q : None ≡ Some s = e in cc; marking = λ roots e m. m }
 
 pub bridged-some : (r s : ℕ) (old new : Table) (result : Option ℕ) → Greys r (Slot s) None result old new
     → ScannedBridge old.heap r (Some s) old new result
@@ -244,6 +252,7 @@ bridged-some r s old new result g =
     record {
       heap = b.heap;
       went = b.went;
+      links = b.links;
       found = λ x e l. b.found x (ap Slot (number_is s x e)) l;
       marking = λ roots e m. b.marking roots (λ x q l. (0, omega arith, (l, is_bridge (e ∙ ap Some (slot_is s x q))))) m;
     }
@@ -255,7 +264,7 @@ bridged-some r s old new result g =
 pub goes-begin : (h : Heap) (r : ℕ) (bridge : Option ℕ) (slots : List Word) (temps : List ℕ) (a b c d : Table) (first second third : Option ℕ)
     → a.heap ≡ h → ((s : ℕ) → LiesIn h r s → mark_at a s ≡ 0) → ScannedBridge h r bridge a b first
     → Scanned h r (λ k. slice_get slots k) (length slots) b c first second → ScannedTemps h r temps (length temps) c d second third
-    → MarkingGoes h r (record { bridge = bridge; slots = slots; temps = temps }) a.marks d third
+    → MarkingGoes h r (record { bridge = bridge; slots = slots; temps = temps }) a d third
 goes-begin h r bridge slots temps a b c d first second third e white p q t =
     let roots : Roots = record { bridge = bridge; slots = slots; temps = temps } in
     let w : OnlyGreyed h r a.marks d.marks = went-then h r a.marks b.marks d.marks p.went (went-then h r b.marks c.marks d.marks q.went t.went) in
@@ -269,7 +278,7 @@ goes-begin h r bridge slots temps a b c d first second third e white p q t =
         | in_slots k f ↦ t.went.grows s (q.found k s (slice_get_within slots k (Slot s) f) f v.0)
         | in_temps i k temp f z ↦ t.found i k s temp (slice_get_within temps i temp f) f z v.0
       ];
-      outside = λ s i. w.outside s i;
+      outside = λ s i. (w.outside s i, t.links s i ∙ q.links s i ∙ p.links s i);
     }
 
 -- .. and no field of a black cell was looked at yet

@@ -79,6 +79,10 @@ pub record OnlyGreyed (h : Heap) (r : ℕ) (old new : List ℕ) : Type 0 where
   pub rest : pending h r new ≡ pending h r old
   pub outside : (s : ℕ) → (LiesIn h r s → ⊥) → slice_index new s ≡ slice_index old s
 
+-- cells of other regions keep their links
+abbrev pub LinksStay : Heap → (region : ℕ) → (old new : Table) → Type 0
+LinksStay h r old new = (s : ℕ) → (LiesIn h r s → ⊥) → link_at new s ≡ link_at old s
+
 -- a cell that may become grey: it is in reach by no more links than cells are known
 abbrev pub Near : Heap → ℕ → Roots → List ℕ → ℕ → Type 0
 Near h r roots marks s = (n : ℕ) × (n ≤ known_count h r marks) × Walk h r roots n s
@@ -107,6 +111,7 @@ Greys r w head result old new = StaysKnown r w head result old new ⊎ BecomesGr
 pub record Scanned (h : Heap) (r : ℕ) (word : ℕ → Option Word) (n : ℕ) (old new : Table) (head result : Option ℕ) : Type 0 where
   pub heap : new.heap ≡ h
   pub went : OnlyGreyed h r old.marks new.marks
+  pub links : LinksStay h r old new
   pub found : (k s : ℕ) → k < n → word k ≡ Some (Slot s) → LiesIn h r s → 0 < mark_at new s
   pub marking : (roots : Roots) → ((k s : ℕ) → word k ≡ Some (Slot s) → LiesIn h r s → Near h r roots old.marks s) → Marking h r roots old head
       → Marking h r roots new result
@@ -115,6 +120,7 @@ pub record Scanned (h : Heap) (r : ℕ) (word : ℕ → Option Word) (n : ℕ) (
 pub record ScannedTemps (h : Heap) (r : ℕ) (temps : List ℕ) (n : ℕ) (old new : Table) (head result : Option ℕ) : Type 0 where
   pub heap : new.heap ≡ h
   pub went : OnlyGreyed h r old.marks new.marks
+  pub links : LinksStay h r old new
   pub found : (i k s temp : ℕ) → i < n → slice_get temps i ≡ Some temp → field_at h temp k ≡ Some (Slot s) → LiesIn h r s → 0 < mark_at new s
   pub marking : (roots : Roots) → roots.temps ≡ temps → Marking h r roots old head → Marking h r roots new result
 
@@ -122,21 +128,22 @@ pub record ScannedTemps (h : Heap) (r : ℕ) (temps : List ℕ) (n : ℕ) (old n
 pub record ScannedBridge (h : Heap) (r : ℕ) (bridge : Option ℕ) (old new : Table) (result : Option ℕ) : Type 0 where
   pub heap : new.heap ≡ h
   pub went : OnlyGreyed h r old.marks new.marks
+  pub links : LinksStay h r old new
   pub found : (s : ℕ) → bridge ≡ Some s → LiesIn h r s → 0 < mark_at new s
   pub marking : (roots : Roots) → roots.bridge ≡ bridge → Marking h r roots old None → Marking h r roots new result
 
 -- the marking of a region goes on: the roots are known, and the fields of black cells lead to no white cell
-pub record MarkingGoes (h : Heap) (r : ℕ) (roots : Roots) (first : List ℕ) (t : Table) (head : Option ℕ) : Type 0 where
+pub record MarkingGoes (h : Heap) (r : ℕ) (roots : Roots) (first t : Table) (head : Option ℕ) : Type 0 where
   pub heap : t.heap ≡ h
   pub marking : Marking h r roots t head
   pub done : BlackDone h r t.marks
   pub roots_known : (s : ℕ) → Walk h r roots zero s → 0 < mark_at t s
-  pub outside : (s : ℕ) → (LiesIn h r s → ⊥) → mark_at t s ≡ slice_index first s
+  pub outside : (s : ℕ) → (LiesIn h r s → ⊥) → (mark_at t s ≡ mark_at first s) × (link_at t s ≡ link_at first s)
 
--- a region is marked: the cells in reach are black, its other cells are white, and no other mark changed
+-- a region is marked: the cells in reach are black, its other cells are white, and no other mark or link changed
 pub record Marked (h : Heap) (r : ℕ) (roots : Roots) (old new : Table) : Type 0 where
   pub heap : new.heap ≡ h
   pub reached : (s : ℕ) → Reach h r roots s → 1 < mark_at new s
   pub only : (s : ℕ) → LiesIn h r s → 0 < mark_at new s → Reach h r roots s
   pub closed : (s k to : ℕ) → LiesIn h r s → 1 < mark_at new s → field_at h s k ≡ Some (Slot to) → LiesIn h r to → 1 < mark_at new to
-  pub outside : (s : ℕ) → (LiesIn h r s → ⊥) → mark_at new s ≡ mark_at old s
+  pub outside : (s : ℕ) → (LiesIn h r s → ⊥) → (mark_at new s ≡ mark_at old s) × (link_at new s ≡ link_at old s)

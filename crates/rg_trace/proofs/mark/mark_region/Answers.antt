@@ -32,7 +32,7 @@ pub link-head-requires : goal.link-head-requires
 link-head-requires g c =
     let i = c.grey.invariant.0 in
     let G : Option ℕ → Type 0 = λ o. MarkingGoes c.args.cells.now.heap c.args.region
-    (record { bridge = c.args.bridge; slots = c.args.slots.now; temps = c.args.temps.now }) c.args.cells.now.marks c.grey.cells o in
+    (record { bridge = c.args.bridge; slots = c.args.slots.now; temps = c.args.temps.now }) c.args.cells.now c.grey.cells o in
     let j = subst G c.in-Some.is i in
     let H : Heap → Type 0 = λ z. IsHeld z c.in-Some.slot in
     subst H (sym i.heap) (lies_held c.args.cells.now.heap c.args.region c.in-Some.slot
@@ -42,7 +42,7 @@ pub set_mark-requires : goal.set_mark-requires
 set_mark-requires g c =
     let i = c.grey.invariant.0 in
     let G : Option ℕ → Type 0 = λ o. MarkingGoes c.args.cells.now.heap c.args.region
-    (record { bridge = c.args.bridge; slots = c.args.slots.now; temps = c.args.temps.now }) c.args.cells.now.marks c.grey.cells o in
+    (record { bridge = c.args.bridge; slots = c.args.slots.now; temps = c.args.temps.now }) c.args.cells.now c.grey.cells o in
     let j = subst G c.in-Some.is i in
     let H : Heap → Type 0 = λ z. IsHeld z c.in-Some.slot in
     subst H (sym i.heap) (lies_held c.args.cells.now.heap c.args.region c.in-Some.slot
@@ -52,7 +52,7 @@ pub grey_fields-head-requires : goal.grey_fields-head-requires
 grey_fields-head-requires g c =
     let i = c.grey.invariant.0 in
     let G : Option ℕ → Type 0 = λ o. MarkingGoes c.args.cells.now.heap c.args.region
-    (record { bridge = c.args.bridge; slots = c.args.slots.now; temps = c.args.temps.now }) c.args.cells.now.marks c.grey.cells o in
+    (record { bridge = c.args.bridge; slots = c.args.slots.now; temps = c.args.temps.now }) c.args.cells.now c.grey.cells o in
     let j = subst G c.in-Some.is i in
     let lies = head-lies c.args.cells.now.heap c.args.region _ c.grey.cells c.in-Some.slot j.marking in
     let same : c.set_mark.new.self.heap ≡ c.args.cells.now.heap = ap (λ (t : Table). t.heap) c.set_mark.ensures.set ∙ i.heap in
@@ -68,7 +68,7 @@ grey-preserved g c =
     let i = c.grey.invariant.0 in
     let h = c.args.cells.now.heap in
     let roots : Roots = record { bridge = c.args.bridge; slots = c.args.slots.now; temps = c.args.temps.now } in
-    let G : Option ℕ → Type 0 = λ o. MarkingGoes h c.args.region roots c.args.cells.now.marks c.grey.cells o in
+    let G : Option ℕ → Type 0 = λ o. MarkingGoes h c.args.region roots c.args.cells.now c.grey.cells o in
     let j = subst G c.in-Some.is i in
     let same : c.set_mark.new.self.heap ≡ h = ap (λ (t : Table). t.heap) c.set_mark.ensures.set ∙ i.heap in
     let S : Heap → Type 0 = λ z. Scanned z c.args.region (λ k. field_at z c.in-Some.slot k) (width (body_at z c.in-Some.slot)) c.set_mark.new.self
@@ -78,9 +78,9 @@ grey-preserved g c =
     let s = subst R c.link-head.ensures (subst S same c.grey_fields-head.ensures.scanned) in
     let C : Heap → Type 0 = λ z. c.grey_fields-head.new.steps ≡ c.grey.steps + width (body_at z c.in-Some.slot) in
     let cost = subst C same c.grey_fields-head.ensures.cost in
-    let more = fields-more h c.args.region roots c.args.cells.now.marks c.grey.cells c.set_mark.new.self c.grey_fields-head.new.cells c.in-Some.slot
+    let more = fields-more h c.args.region roots c.args.cells.now c.grey.cells c.set_mark.new.self c.grey_fields-head.new.cells c.in-Some.slot
     c.set_mark.ensures.within c.set_mark.ensures.set j s.went in (
-      goes-more h c.args.region roots c.args.cells.now.marks c.grey.cells c.set_mark.new.self c.grey_fields-head.new.cells c.in-Some.slot
+      goes-more h c.args.region roots c.args.cells.now c.grey.cells c.set_mark.new.self c.grey_fields-head.new.cells c.in-Some.slot
           c.grey_fields-head.result c.set_mark.ensures.within c.set_mark.ensures.set j s,
       omega (arith, c.grey.invariant.1, cost, more),
     )
@@ -90,13 +90,13 @@ grey-smaller g c =
     let i = c.grey.invariant.0 in
     let h = c.args.cells.now.heap in
     let roots : Roots = record { bridge = c.args.bridge; slots = c.args.slots.now; temps = c.args.temps.now } in
-    let G : Option ℕ → Type 0 = λ o. MarkingGoes h c.args.region roots c.args.cells.now.marks c.grey.cells o in
+    let G : Option ℕ → Type 0 = λ o. MarkingGoes h c.args.region roots c.args.cells.now c.grey.cells o in
     let j = subst G c.in-Some.is i in
     let same : c.set_mark.new.self.heap ≡ h = ap (λ (t : Table). t.heap) c.set_mark.ensures.set ∙ i.heap in
     let S : Heap → Type 0 = λ z. Scanned z c.args.region (λ k. field_at z c.in-Some.slot k) (width (body_at z c.in-Some.slot)) c.set_mark.new.self
     c.grey_fields-head.new.cells c.link-head.result c.grey_fields-head.result in
     let s = subst S same c.grey_fields-head.ensures.scanned in
-    pending-less h c.args.region roots c.args.cells.now.marks c.grey.cells c.set_mark.new.self c.grey_fields-head.new.cells c.in-Some.slot
+    pending-less h c.args.region roots c.args.cells.now c.grey.cells c.set_mark.new.self c.grey_fields-head.new.cells c.in-Some.slot
     c.set_mark.ensures.within c.set_mark.ensures.set j s.went
 
 none_is : (o : Option ℕ) → ((x : ℕ) → o ≡ Some x → ⊥) → o ≡ None
@@ -107,9 +107,9 @@ pub returns : goal.returns
 returns g c =
     let h = c.args.cells.now.heap in
     let roots : Roots = record { bridge = c.args.bridge; slots = c.args.slots.now; temps = c.args.temps.now } in
-    let G : Option ℕ → Type 0 = λ o. MarkingGoes h c.args.region roots c.args.cells.now.marks c.grey.cells o in
+    let G : Option ℕ → Type 0 = λ o. MarkingGoes h c.args.region roots c.args.cells.now c.grey.cells o in
     record {
-      marked = goes-done h c.args.region roots c.args.cells.now.marks c.args.cells.now c.grey.cells refl
+      marked = goes-done h c.args.region roots c.args.cells.now c.args.cells.now c.grey.cells refl
           (subst G (none_is c.grey.head c.in_default.not-Some) c.grey.invariant.0);
       cost = c.grey.invariant.1;
     }
