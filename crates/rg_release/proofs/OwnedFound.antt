@@ -1,6 +1,5 @@
 -- Each turn of the search for the regions that a region owns (docs/architecture.md, "Release").
 use Rattle.std.proofs.Common.{◌≡◌, ℕ, ◌+◌, ◌<◌, List, length, Option, get_or, refl, ap, ◌∙◌, arith}
-use Rattle.std.specs.Bool.{⊤}
 use Rattle.rg_cells.specs.Table.{Heap, body_at, width}
 use Rattle.rg_regions.specs.Table.{RegionTable}
 use Rattle.rg_regions.specs.Chains.{OwnsOnce}

@@ -9,7 +9,7 @@ ghost use Rattle.rg_release.specs.Inner.Owned.{FollowsMembers};
 
 use rg_base::Word;
 use rg_cells::Cells;
-use rg_regions::{chain_word, Regions};
+use rg_regions::{Regions, chain_word};
 
 /// The regions into which the fields of a cell lead become heads of the chain, one by one.
 fn chain_fields(

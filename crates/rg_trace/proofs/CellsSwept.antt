@@ -1,14 +1,11 @@
 -- Each turn of sweeping: a white member is freed, a black one becomes white (docs/architecture.md, "Mark and sweep").
-use Rattle.std.proofs.Common.{◌≡◌, ◌≢◌, ℕ, ◌+◌, ◌-◌, ◌<◌, ◌≤◌, zero, suc, List, [], ◌∷◌, length, Option, Some, None, get_or, set, take, refl, ap}
-use Rattle.std.proofs.Common.{sym, ◌∙◌, subst, arith, ◌⊎◌, inl, inr, option_map, count_by, is_some, cond}
+use Rattle.std.proofs.Common.{◌≡◌, ◌≢◌, ℕ, ◌+◌, ◌-◌, ◌<◌, List, length, None, get_or, set, ap}
+use Rattle.std.proofs.Common.{sym, ◌∙◌, subst, arith, inl, inr, option_map}
 use Rattle.std.specs.List.{swap_remove}
-use Rattle.std.proofs.lemmas.List.{get_or-set_same, get_or-set_other, get_or-take, get_or_past, length-take-le, length-set, set_past}
+use Rattle.std.proofs.lemmas.List.{get_or-set_other}
 use Rattle.std.proofs.lemmas.Bool.{cases_eq, cases_lt}
-use Rattle.std.proofs.lemmas.List.Sums.{sum_by-cons}
-use Rattle.rg_base.specs.declared.object.Label.{Label}
-use Rattle.rg_base.specs.declared.object.Label.TheVariants.{Region, Temp, Frozen}
 use Rattle.rg_cells.specs.declared.cell.Body.{Body}
-use Rattle.rg_cells.specs.Table.{Heap, Table, body_at, body_in, label_at, mark_at, freed, freed_from}
+use Rattle.rg_cells.specs.Table.{Table, body_at, body_in, mark_at, freed, freed_from}
 use Rattle.rg_regions.specs.Reach.{LiesIn}
 use Rattle.rg_trace.specs.Inner.Sweeping.{Swept}
 use Rattle.rg_regions.proofs.Callers.Freed.{zero_here, count-freed, held_once, lies_within, freed_here, freed_other}

@@ -17,7 +17,7 @@ pub grove-kept : (c : Table) (t : RegionTable) (key : ℕ) (rec : Record) (slots
     → Collected c t key rec (roots_of rec.bridge slots temps) cells regions → Grove cells regions
 grove-kept c t key rec slots temps cells regions g e traced w =
     let live : (s : ℕ) → Reach c.heap rec.number (roots_of rec.bridge slots temps) s → LiesIn c.heap rec.number s
-        → LiesIn cells.heap rec.number s = λ s n l. ap (option_map (λ (b : Body). b.label)) (w.kept s n) ∙ l in
+    → LiesIn cells.heap rec.number s = λ s n l. ap (option_map (λ (b : Body). b.label)) (w.kept s n) ∙ l in
     grove_shrinks c t key rec cells regions g e w.shrinks
     (λ s b l. live s (0, omega arith, (l, is_bridge b)) l)
     (λ s k to l f z. live to (w.closed s k to (w.within s l) f z) z)

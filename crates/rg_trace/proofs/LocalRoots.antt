@@ -9,7 +9,7 @@ use Rattle.rg_base.specs.declared.value.Word.{Word}
 use Rattle.rg_base.specs.declared.value.Word.TheVariants.{Slot}
 use Rattle.rg_cells.specs.Table.{Heap, Table, IsHeld, body_at, label_at, field_at}
 use Rattle.rg_regions.specs.Table.{Record, RegionTable, record_at, HasNumber}
-use Rattle.rg_regions.specs.Reach.{LiesIn, Roots, Reach, belongs, is_bridge, in_slots, in_temps}
+use Rattle.rg_regions.specs.Reach.{LiesIn, Roots, Reach, is_bridge, in_slots, in_temps}
 use Rattle.rg_regions.specs.Grove.{Grove}
 use Rattle.rg_trace.specs.Collected.{Collected}
 use Rattle.rg_regions.proofs.Callers.Told.{one_record, lies_or_not}

@@ -1,19 +1,15 @@
 -- From the forest to the parts of a collection, and from the parts to the whole (docs/architecture.md, "Mark and sweep").
-use Rattle.std.proofs.Common.{◌≡◌, ◌≢◌, ℕ, ◌+◌, ◌<◌, ◌≤◌, zero, suc, List, length, Option, Some, None, IsSome, get_or, refl, ap, sym, ◌∙◌, subst}
-use Rattle.std.proofs.Common.{arith, ◌⊎◌, inl, inr, option_map, slice_get}
+use Rattle.std.proofs.Common.{◌≡◌, ◌≢◌, ℕ, ◌<◌, List, length, Option, Some, None, get_or, refl, ap, sym, ◌∙◌, subst}
+use Rattle.std.proofs.Common.{arith, ◌⊎◌, inl, inr, option_map}
 use Rattle.std.proofs.lemmas.Bool.{cases_eq, cases_lt}
 use Rattle.std.proofs.lemmas.Option.{slice_get_within, slice_get-get_or}
-use Rattle.rg_base.specs.declared.object.Label.{Label}
-use Rattle.rg_base.specs.declared.object.Label.TheVariants.{Region, Temp, Frozen}
-use Rattle.rg_base.specs.declared.words.Manager.{Manager}
-use Rattle.rg_base.specs.declared.words.Manager.TheVariants.{Arena, Count, Trace}
+use Rattle.rg_base.specs.declared.object.Label.TheVariants.{Region}
+use Rattle.rg_base.specs.declared.words.Manager.TheVariants.{Count, Trace}
 use Rattle.rg_cells.specs.declared.cell.Body.{Body}
-use Rattle.rg_base.specs.declared.value.Word.{Word}
-use Rattle.rg_base.specs.declared.value.Word.TheVariants.{Slot}
-use Rattle.rg_cells.specs.Table.{Heap, Table, field_at, body_at, body_in, label_at, width, mark_at, IsHeld, high_of}
-use Rattle.rg_regions.specs.Table.{Record, RegionTable, record_at, HasNumber, InTable, Has}
-use Rattle.rg_regions.specs.Reach.{LiesIn, Roots, Walk, Reach}
-use Rattle.rg_regions.specs.Grove.{Grove, Members}
+use Rattle.rg_cells.specs.Table.{Heap, Table, field_at, body_at, body_in, mark_at, high_of}
+use Rattle.rg_regions.specs.Table.{Record, RegionTable, record_at, HasNumber}
+use Rattle.rg_regions.specs.Reach.{LiesIn, Roots, Reach}
+use Rattle.rg_regions.specs.Grove.{Grove}
 use Rattle.rg_trace.specs.Inner.Marking.{Marked}
 use Rattle.rg_trace.specs.Inner.Sweeping.{Swept, Sweeps}
 use Rattle.rg_regions.specs.Collection.{ChainsOrphans}

@@ -1,6 +1,6 @@
 -- The bound on ticks: what is looked at is at most the fields of the region's cells and of the temporaries (docs/architecture.md, "Mark and sweep").
 use Rattle.std.proofs.Common.{◌≡◌, ◌≢◌, ℕ, ◌+◌, ◌<◌, ◌≤◌, zero, suc, Bool, true, false, cond, if◌then◌else◌, ◌==◌, List, [], ◌∷◌, length, Option}
-use Rattle.std.proofs.Common.{Some, None, get_or, set, sum_by, refl, ap, sym, ◌∙◌, subst, arith, inl, inr}
+use Rattle.std.proofs.Common.{None, get_or, set, sum_by, refl, ap, sym, arith, inl, inr}
 use Rattle.std.proofs.lemmas.List.{get_or-set_other}
 use Rattle.std.proofs.lemmas.Bool.Decides.{eqb_tells}
 use Rattle.std.proofs.lemmas.List.Sums.{sum_by-cons}

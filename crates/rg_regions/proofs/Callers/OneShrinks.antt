@@ -1,5 +1,5 @@
 -- Where cells of one region go and none comes, the forest is kept (docs/architecture.md, "Regions").
-use Rattle.std.proofs.Common.{◌≡◌, ◌≢◌, ℕ, Option, Some, None, refl, ap, sym, ◌∙◌, subst, inl, inr, option_map}
+use Rattle.std.proofs.Common.{◌≡◌, ◌≢◌, ℕ, Some, refl, ap, sym, ◌∙◌, subst, inl, inr, option_map}
 use Rattle.std.proofs.lemmas.Bool.{cases_eq}
 use Rattle.rg_base.specs.declared.object.Label.TheVariants.{Region, Frozen}
 use Rattle.rg_base.specs.declared.words.Manager.TheVariants.{Count}
@@ -143,7 +143,7 @@ grove_shrinks c t key rec cells regions g e w bridge closed counts unmarked =
             let off = apart k z d b in
             let x : LiesIn c.heap z.number s = lie z.number s l in
             (w.others s (λ i. off (one_region c.heap s z.number r x i))).1 ∙ g.counts k s z b m x
-                ∙ sym (referrers_kept c cells r z.number s off w.fewer far)
+            ∙ sym (referrers_kept c cells r z.number s off w.fewer far)
       ];
       unmarked = λ s n. elim (lies_or_not c.heap r s) [
         | inl off ↦

@@ -6,10 +6,10 @@ use Rattle.std.proofs.lemmas.Bool.{cases_lt}
 use Rattle.rg_base.specs.declared.value.Word.{Word}
 use Rattle.rg_base.specs.declared.value.Word.TheVariants.{Slot}
 use Rattle.rg_cells.specs.Table.{Heap, field_at, body_at, width}
-use Rattle.rg_regions.specs.Table.{Record, RegionTable, record_at, HasNumber, Has, Chained}
+use Rattle.rg_regions.specs.Table.{Record, RegionTable, HasNumber, Has, Chained}
 use Rattle.rg_regions.specs.Reach.{LiesIn}
 use Rattle.rg_regions.specs.Chains.{PutFirst, Follows, OwnsOnce}
-use Rattle.rg_regions.proofs.Callers.Told.{field_within, one_region, one_number, same_members}
+use Rattle.rg_regions.proofs.Callers.Told.{field_within, one_region, one_number}
 use Rattle.rg_regions.proofs.Callers.Chain.{chained_agree}
 use Rattle.rg_regions.specs.Owned.{Owned, ChainsOwned, OwnsNone, FollowsFields}
 
@@ -260,4 +260,3 @@ fields_more h goes r slot k old mid new head middle result w at g f = elim g [
   where
     word_is : (a b : Word) → Some a ≡ Some b → a ≡ b
     word_is a b q = cc
-

@@ -1,14 +1,12 @@
 -- The steps of marking keep its invariant, and at its end what is marked is what is in reach (docs/architecture.md, "Mark and sweep").
-use Rattle.std.proofs.Common.{◌≡◌, ◌≢◌, ℕ, ◌+◌, ◌<◌, ◌≤◌, zero, suc, Bool, true, false, cond, List, [], ◌∷◌, length, Option, Some, None, get_or}
-use Rattle.std.proofs.Common.{set, refl, ap, sym, ◌∙◌, subst, arith, ◌⊎◌, inl, inr}
-use Rattle.std.proofs.lemmas.List.{get_or-set_same, get_or-set_other, get_or_past}
-use Rattle.std.proofs.lemmas.Bool.{cases_eq, cases_lt}
-use Rattle.rg_base.specs.declared.value.Word.{Word}
-use Rattle.rg_base.specs.declared.value.Word.TheVariants.{Slot}
-use Rattle.rg_cells.specs.Table.{Heap, Table, field_at, mark_at}
-use Rattle.rg_regions.specs.Reach.{LiesIn, Roots, Walk, Reach, region_size}
-use Rattle.rg_trace.specs.Inner.Marking.{known_count, pending, black_fields, GreyChain, TriColour, Marking, FieldClosed, BlackDoneBut, BlackDone}
-use Rattle.rg_trace.specs.Inner.Marking.{OnlyGreyed, Near, StaysKnown, BecomesGrey, Greys}
+use Rattle.std.proofs.Common.{◌≡◌, ◌≢◌, ℕ, ◌+◌, ◌<◌, zero, suc, List, [], ◌∷◌, length, Option, Some, None, get_or}
+use Rattle.std.proofs.Common.{set, refl, ap, sym, ◌∙◌, subst, arith, inl, inr}
+use Rattle.std.proofs.lemmas.List.{get_or-set_same, get_or-set_other}
+use Rattle.std.proofs.lemmas.Bool.{cases_eq}
+use Rattle.rg_cells.specs.Table.{Heap}
+use Rattle.rg_regions.specs.Reach.{LiesIn, Roots, Walk, Reach}
+use Rattle.rg_trace.specs.Inner.Marking.{known_count, GreyChain, TriColour, BlackDone}
+use Rattle.rg_trace.specs.Inner.Marking.{OnlyGreyed, Near}
 use Rattle.rg_trace.proofs.Marks.Weights.{known-grey, pending-grey, fields-grey, known-black, known-size}
 use Rattle.rg_regions.specs.Table.{Has}
 

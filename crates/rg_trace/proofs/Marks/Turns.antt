@@ -1,6 +1,6 @@
 -- Each turn of the loops of marking (docs/architecture.md, "Mark and sweep").
-use Rattle.std.proofs.Common.{◌≡◌, ◌≢◌, ℕ, ◌+◌, ◌<◌, ◌≤◌, zero, suc, Bool, true, false, cond, List, [], ◌∷◌, length, Option, Some, None, get_or}
-use Rattle.std.proofs.Common.{set, refl, ap, sym, ◌∙◌, subst, arith, ◌⊎◌, inl, inr, slice_get, option_and_then, option_map, IsSome, ◌==◌}
+use Rattle.std.proofs.Common.{◌≡◌, ◌≢◌, ℕ, ◌+◌, ◌<◌, suc, Bool, true, false, cond, List, [], ◌∷◌, length, Option, Some, None, get_or}
+use Rattle.std.proofs.Common.{set, refl, ap, sym, ◌∙◌, subst, arith, ◌⊎◌, inl, inr, slice_get, option_map}
 use Rattle.rg_cells.specs.declared.cell.Body.{Body}
 use Rattle.std.proofs.lemmas.List.{get_or-set_same, get_or-set_other}
 use Rattle.std.proofs.lemmas.Option.{slice_get_within}
@@ -10,12 +10,12 @@ use Rattle.rg_base.specs.declared.value.Word.{Word}
 use Rattle.rg_base.specs.declared.value.Word.TheVariants.{Slot}
 use Rattle.rg_base.specs.declared.object.Label.{Label}
 use Rattle.rg_base.specs.declared.object.Label.TheVariants.{Region, Temp, Frozen}
-use Rattle.rg_cells.specs.Table.{Heap, Table, field_at, body_at, body_in, width, mark_at, link_at, IsHeld}
-use Rattle.rg_regions.specs.Reach.{LiesIn, Roots, Walk, Reach, belongs, is_region, is_bridge, in_slots, in_temps}
-use Rattle.rg_trace.specs.Inner.Marking.{known_count, pending, black_fields, GreyChain, TriColour, Marking, FieldClosed, BlackDoneBut, BlackDone}
-use Rattle.rg_trace.specs.Inner.Marking.{OnlyGreyed, LinksStay, Near, StaysKnown, BecomesGrey, Greys, Scanned, ScannedTemps, ScannedBridge, MarkingGoes}
+use Rattle.rg_cells.specs.Table.{Heap, Table, field_at, body_at, body_in, width, mark_at, link_at}
+use Rattle.rg_regions.specs.Reach.{LiesIn, Roots, Walk, belongs, is_region, is_bridge, in_slots, in_temps}
+use Rattle.rg_trace.specs.Inner.Marking.{known_count, pending, black_fields, GreyChain, Marking}
+use Rattle.rg_trace.specs.Inner.Marking.{OnlyGreyed, LinksStay, Near, Greys, Scanned, ScannedTemps, ScannedBridge, MarkingGoes}
 use Rattle.rg_trace.specs.Inner.Marking.{Marked, weighed, if_black}
-use Rattle.rg_trace.proofs.Marks.Weights.{known-size, known-black, fields-black, pending-black}
+use Rattle.rg_trace.proofs.Marks.Weights.{known-black, fields-black, pending-black}
 use Rattle.rg_trace.proofs.Marks.Colours.{greyed, went-grey, went-none, went-then, popped, reached-marked, marked-reached, none-grey, walk-lies}
 use Rattle.rg_regions.proofs.Callers.Told.{field_within}
 

@@ -1,8 +1,7 @@
 -- Weights of marked slots after one mark is written (docs/architecture.md, "Mark and sweep").
-use Rattle.std.proofs.Common.{◌≡◌, ◌≢◌, ℕ, ◌+◌, ◌<◌, ◌≤◌, zero, suc, Bool, true, false, cond, List, [], ◌∷◌, length, Option, Some, None, get_or}
-use Rattle.std.proofs.Common.{set, refl, ap, sym, ◌∙◌, subst, arith, option_map, ◌==◌, eqb, eq-eqb}
-use Rattle.rg_base.specs.declared.object.Label.{Label}
-use Rattle.rg_base.specs.declared.object.Label.TheVariants.{Region, Temp, Frozen}
+use Rattle.std.proofs.Common.{◌≡◌, ℕ, ◌+◌, ◌<◌, ◌≤◌, zero, suc, Bool, true, false, cond, List, [], ◌∷◌, length, Option, Some, None, get_or}
+use Rattle.std.proofs.Common.{set, refl, ap, ◌∙◌, arith, option_map, eq-eqb}
+use Rattle.rg_base.specs.declared.object.Label.TheVariants.{Region}
 use Rattle.rg_cells.specs.declared.cell.Body.{Body}
 use Rattle.rg_cells.specs.Table.{Heap, total, body_in, body_at, width}
 use Rattle.rg_regions.specs.Reach.{LiesIn, belongs, is_region, region_size}

@@ -1,10 +1,10 @@
 -- The three colours of marking: white 0, grey 1, black 2; the grey list runs through the links (docs/architecture.md, "Mark and sweep").
-use Rattle.std.specs.Prelude.{◌≡◌, ℕ, zero, suc, ◌+◌, ◌<◌, ◌≤◌, Bool, cond, List, [], ◌∷◌, length, Option, Some, None, slice_get, slice_set}
+use Rattle.std.specs.Prelude.{◌≡◌, ℕ, zero, suc, ◌+◌, ◌<◌, ◌≤◌, cond, List, [], ◌∷◌, length, Option, Some, None, slice_get, slice_set}
 use Rattle.std.specs.Prelude.{slice_index, slice_index_or, ◌⊎◌}
 use Rattle.rg_cells.specs.declared.cell.Body.{Body}
 use Rattle.rg_base.specs.declared.value.Word.{Word}
 use Rattle.rg_base.specs.declared.value.Word.TheVariants.{Slot}
-use Rattle.rg_cells.specs.Table.{Heap, Table, label_at, field_at, body_in, width, mark_at, link_at}
+use Rattle.rg_cells.specs.Table.{Heap, Table, field_at, body_in, width, mark_at, link_at}
 use Rattle.rg_regions.specs.Reach.{LiesIn, Roots, Walk, Reach, belongs}
 use Rattle.rg_regions.specs.Table.{Has}
 

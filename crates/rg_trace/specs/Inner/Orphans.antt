@@ -14,6 +14,6 @@ if_white h marks s = if slice_index marks s == 0 then width (body_at h s) else 0
 
 -- all fields of the white ones among so many members were followed
 pub record FollowsWhite (h : Heap) (marks : List ℕ) (r : ℕ) (members : List ℕ) (i : ℕ) (old new : RegionTable) (result : Option ℕ) : Type 0
-    where
-  pub records : new.records ≡ old.records
-  pub orphans : ChainsOwned h (IsWhite marks) r members [] old i 0 new result
+  where
+    pub records : new.records ≡ old.records
+    pub orphans : ChainsOwned h (IsWhite marks) r members [] old i 0 new result

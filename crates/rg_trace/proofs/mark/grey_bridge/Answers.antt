@@ -1,4 +1,4 @@
-use Rattle.std.proofs.Common.{◌≡◌, Option, Some, ℕ, subst, sym}
+use Rattle.std.proofs.Common.{Option, ℕ, subst, sym}
 use Rattle.rg_trace.specs.Inner.Marking.{ScannedBridge}
 use Rattle.rg_trace.proofs.Marks.Turns.{bridged-some}
 use Rattle.rg_trace.proofs.mark.grey_bridge.Goals as goal

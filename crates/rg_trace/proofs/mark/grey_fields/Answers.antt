@@ -1,4 +1,4 @@
-use Rattle.std.proofs.Common.{◌≡◌, ap, sym, ◌∙◌, arith}
+use Rattle.std.proofs.Common.{ap, sym, ◌∙◌, arith}
 use Rattle.rg_cells.specs.Table.{Heap, field_at}
 use Rattle.rg_trace.proofs.Marks.Turns.{turn, scanned-more}
 use Rattle.rg_trace.proofs.mark.grey_fields.Goals as goal

@@ -1,4 +1,4 @@
-use Rattle.std.proofs.Common.{◌≡◌, ℕ, ◌+◌, ap, sym, ◌∙◌, arith, subst, get_or, slice_get, sum_by, take}
+use Rattle.std.proofs.Common.{◌≡◌, ℕ, ◌+◌, arith, subst, get_or}
 use Rattle.std.proofs.lemmas.Option.{slice_get-get_or}
 use Rattle.std.proofs.lemmas.List.Sums.{sum_by_more}
 use Rattle.rg_cells.specs.Table.{Heap, field_at, body_at, width}

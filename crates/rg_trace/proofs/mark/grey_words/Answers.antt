@@ -1,4 +1,4 @@
-use Rattle.std.proofs.Common.{slice_get, ◌<◌, length, refl}
+use Rattle.std.proofs.Common.{slice_get}
 use Rattle.std.proofs.lemmas.Option.{slice_get-get_or}
 use Rattle.rg_trace.proofs.Marks.Turns.{turn, scanned-more}
 use Rattle.rg_trace.proofs.mark.grey_words.Goals as goal

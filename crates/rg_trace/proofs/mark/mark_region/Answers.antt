@@ -1,8 +1,8 @@
-use Rattle.std.proofs.Common.{◌≡◌, ℕ, ◌+◌, ◌≤◌, length, slice_get, sum_by, subst, sym, ap, ◌∙◌, arith, refl, Some, None, Option, set}
+use Rattle.std.proofs.Common.{◌≡◌, ℕ, ◌+◌, length, slice_get, sum_by, subst, sym, ap, ◌∙◌, arith, refl, Some, None, Option}
 use Rattle.rg_base.specs.declared.value.Word.TheVariants.{Slot}
-use Rattle.rg_cells.specs.Table.{Heap, Table, IsHeld, body_at, field_at, width, link_at}
-use Rattle.rg_regions.specs.Reach.{LiesIn, Roots}
-use Rattle.rg_trace.specs.Inner.Marking.{ScannedBridge, Scanned, ScannedTemps, MarkingGoes, black_fields, pending}
+use Rattle.rg_cells.specs.Table.{Heap, Table, IsHeld, body_at, field_at, width}
+use Rattle.rg_regions.specs.Reach.{Roots}
+use Rattle.rg_trace.specs.Inner.Marking.{Scanned, ScannedTemps, MarkingGoes}
 use Rattle.rg_trace.proofs.Marks.Turns.{goes-begin, fields-begin, goes-more, fields-more, pending-less, head-lies, goes-done}
 use Rattle.rg_trace.proofs.mark.mark_region.Goals as goal
 use Rattle.rg_regions.proofs.Callers.Told.{lies_held}

@@ -1,9 +1,8 @@
-use Rattle.std.proofs.Common.{◌≡◌, ◌≢◌, ℕ, ◌+◌, ◌<◌, ◌≤◌, List, length, Option, Some, None, IsSome, get_or, sum_by, take, ap, sym, ◌∙◌, subst}
+use Rattle.std.proofs.Common.{◌≡◌, ◌≢◌, ℕ, ◌+◌, ◌<◌, List, length, Option, Some, None, get_or, sum_by, take, ap, sym, ◌∙◌, subst}
 use Rattle.std.proofs.Common.{arith, refl}
 use Rattle.std.proofs.lemmas.List.{take_all}
 use Rattle.std.proofs.lemmas.List.Sums.{sum_by_more}
-use Rattle.rg_cells.specs.Table.{width, body_at}
-use Rattle.rg_regions.specs.Table.{Record, RegionTable, record_at, InTable}
+use Rattle.rg_regions.specs.Table.{Record, record_at, InTable}
 use Rattle.rg_regions.specs.Reach.{LiesIn}
 use Rattle.rg_trace.specs.Inner.Orphans.{FollowsWhite, if_white}
 use Rattle.rg_trace.proofs.OrphansFound.{searched-none, searched-white, searched-black, white-width, black-width}

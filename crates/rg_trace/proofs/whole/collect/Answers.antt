@@ -1,11 +1,10 @@
-use Rattle.std.proofs.Common.{◌≡◌, ◌≢◌, ℕ, ◌+◌, ◌≤◌, sum_by, List, length, Option, Some, None, IsSome, get_or, ap, sym, ◌∙◌, subst, arith, refl}
+use Rattle.std.proofs.Common.{◌≡◌, ◌≢◌, ℕ, ◌+◌, ◌≤◌, sum_by, List, length, Option, Some, None, get_or, ap, sym, ◌∙◌, subst, arith, refl}
 use Rattle.std.proofs.Common.{option_map}
-use Rattle.rg_cells.specs.Table.{Heap, Table, field_at, body_at, width, IsHeld, mark_at}
+use Rattle.rg_cells.specs.Table.{Heap, field_at, body_at, width, IsHeld, mark_at}
 use Rattle.rg_base.specs.declared.value.Word.TheVariants.{Slot}
-use Rattle.rg_regions.specs.Table.{Record, RegionTable, record_at, HasNumber, InTable}
+use Rattle.rg_regions.specs.Table.{Record, record_at, InTable}
 use Rattle.rg_regions.specs.Reach.{LiesIn, Roots}
 use Rattle.rg_trace.specs.Inner.Marking.{Marked, black_fields}
-use Rattle.rg_trace.specs.Inner.Sweeping.{Swept, Sweeps}
 use Rattle.rg_trace.specs.Inner.Orphans.{FollowsWhite, if_white}
 use Rattle.rg_regions.specs.Collection.{ChainsOrphans, region_fields}
 use Rattle.rg_trace.specs.Collected.{Collected, OutOfReach}
@@ -108,11 +107,11 @@ returns g c =
     let F : Record → ℕ → Type 0 =
     λ r. OutOfReach c.args.cells.now.heap r.number (record { bridge = r.bridge; slots = c.args.slots.now; temps = c.args.temps.now }) in
     let O : Record → Type 0 = λ r. ChainsOrphans c.args.cells.now.heap c.args.regions.now r.number (F r) c.sweep.new.regions.links
-        c.chain_orphans-orphans.result in
+    c.chain_orphans-orphans.result in
     let o = orphaning c.args.cells.now c.mark_region.new.cells c.args.regions.now c.chain_orphans-orphans.new.regions c.args.key rec roots
     c.chain_orphans-orphans.result c.requires.grove e m t in
     let K : List (Option ℕ) → Type 0 = λ ls. ChainsOrphans c.args.cells.now.heap c.args.regions.now rec.number (F rec) ls
-        c.chain_orphans-orphans.result in
+    c.chain_orphans-orphans.result in
     let whole = collected c.args.cells.now c.mark_region.new.cells c.args.regions.now c.chain_orphans-orphans.new.regions c.args.key rec roots
     c.sweep.new.cells c.sweep.new.regions e m s.records t.orphans.1.next c.sweep.ensures in
     let ow = owns_once c.args.cells.now c.args.regions.now c.args.key rec c.requires.grove e in
