@@ -5,10 +5,12 @@
 #![tactic(auto)]
 
 mod chains;
+mod counts;
 mod places;
 mod region;
 mod regions;
 
 pub use chains::chain_word;
+pub use counts::{added, removed};
 pub use region::Kept;
 pub use regions::Regions;

@@ -10,7 +10,7 @@ use Rattle.rg_regions.specs.Reach.{LiesIn, belongs}
 use Rattle.rg_trace.specs.Inner.Marking.{weighed, if_black, black_fields}
 use Rattle.rg_trace.specs.Inner.Orphans.{if_white}
 use Rattle.rg_regions.specs.Collection.{region_fields}
-use Rattle.rg_trace.proofs.Marks.Weights.{lies-belongs}
+use Rattle.rg_regions.proofs.Callers.Fewer.{lies_belongs}
 
 abbrev spot : (Option Body → ℕ → ℕ) → List (Option (Option Body)) → List ℕ → ℕ → ℕ
 spot f xs ms s = f (body_in (get_or xs s None)) (get_or ms s 0)
@@ -69,7 +69,7 @@ white-black r b m = both-le (belongs r b) (width b) m
 
 white-spot : (h : Heap) (r : ℕ) (marks : List ℕ) (s : ℕ) → LiesIn h r s → if_white h marks s ≡ spot (white r) h.slots marks s
 unfolding white
-white-spot h r marks s l = let b : belongs r (body_at h s) ≡ true = lies-belongs r (body_at h s) l in rw b refl
+white-spot h r marks s l = let b : belongs r (body_at h s) ≡ true = lies_belongs r (body_at h s) l in rw b refl
 
 pub ticks : (h : Heap) (r : ℕ) (marks members : List ℕ) → ((j : ℕ) → j < length members → LiesIn h r (get_or members j 0))
     → ((i j : ℕ) → i < j → j < length members → get_or members i 0 ≢ get_or members j 0)

@@ -1,6 +1,6 @@
 -- What holds where cells went and none came: each body is as it was, or there is none (docs/architecture.md, "Regions").
-use Rattle.std.proofs.Common.{◌≡◌, ◌≢◌, ℕ, suc, false, cond, List, [], ◌∷◌, Option, Some, None, get_or, refl, ap, sym, ◌∙◌}
-use Rattle.std.proofs.Common.{arith, ◌⊎◌, inl, inr, option_map, option_and_then, slice_get, count_by}
+use Rattle.std.proofs.Common.{◌≡◌, ◌≢◌, ℕ, suc, true, false, cond, List, [], ◌∷◌, Option, Some, None, get_or, refl, ap, sym, ◌∙◌}
+use Rattle.std.proofs.Common.{arith, ◌⊎◌, inl, inr, option_map, option_and_then, slice_get, count_by, eq-eqb}
 use Rattle.std.proofs.lemmas.Bool.Decides.{eqb_tells}
 use Rattle.rg_base.specs.declared.object.Label.{Label}
 use Rattle.rg_base.specs.declared.object.Label.TheVariants.{Region, Temp, Frozen}
@@ -66,6 +66,11 @@ belongs_not q (Some b) n = by_label b.label n
     by_label (Region p) n = elim (eqb_tells q p) [ inl e ↦ absurd (n (ap (λ k. Some (Region k)) (sym e.1))) | inr e ↦ e.0 ]
     by_label (Temp m) n = refl
     by_label Frozen n = refl
+
+-- a cell of the region is counted
+pub lies_belongs : (r : ℕ) (b : Option Body) → option_map (λ (b : Body). b.label) b ≡ Some (Region r) → belongs r b ≡ true
+lies_belongs r None e = cc
+lies_belongs r (Some b) e = let h : b.label ≡ Region r = cc in ap (is_region r) h ∙ eq-eqb r r refl
 
 -- where cells of one region went, the number of fields that lead to a cell of another region stays
 pub referrers_kept : (c cells : Table) (r q s : ℕ) → q ≢ r → ((n : ℕ) → (body_at cells.heap n ≡ body_at c.heap n) ⊎ (body_at cells.heap n ≡ None))

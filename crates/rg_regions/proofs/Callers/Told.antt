@@ -79,6 +79,20 @@ same_members o r members e f = some_is r.members members (sym (ap (option_map (�
     some_is : (a b : List ℕ) → Some a ≡ Some b → a ≡ b
     some_is a b q = cc
 
+-- .. and so are its number and its bridge
+pub same_number : (o : Option Record) (r : Record) (n : ℕ) → o ≡ Some r → option_map (λ (r : Record). r.number) o ≡ Some n → r.number ≡ n
+same_number o r n e f = some_is r.number n (sym (ap (option_map (λ (r : Record). r.number)) e) ∙ f)
+  where
+    some_is : (a b : ℕ) → Some a ≡ Some b → a ≡ b
+    some_is a b q = cc
+
+pub same_bridge : (o : Option Record) (r : Record) (b : Option ℕ) → o ≡ Some r → option_map (λ (r : Record). r.bridge) o ≡ Some b
+    → r.bridge ≡ b
+same_bridge o r b e f = some_is r.bridge b (sym (ap (option_map (λ (r : Record). r.bridge)) e) ∙ f)
+  where
+    some_is : (a b : Option ℕ) → Some a ≡ Some b → a ≡ b
+    some_is a b q = cc
+
 -- the record that has a number
 pub record_there : (o : Option Record) (n : ℕ) → option_map (λ (r : Record). r.number) o ≡ Some n
     → (r : Record) × (o ≡ Some r) × (r.number ≡ n)

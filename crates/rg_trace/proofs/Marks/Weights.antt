@@ -5,6 +5,7 @@ use Rattle.rg_base.specs.declared.object.Label.TheVariants.{Region}
 use Rattle.rg_cells.specs.declared.cell.Body.{Body}
 use Rattle.rg_cells.specs.Table.{Heap, total, body_in, body_at, width}
 use Rattle.rg_regions.specs.Reach.{LiesIn, belongs, is_region, region_size}
+use Rattle.rg_regions.proofs.Callers.Fewer.{lies_belongs}
 use Rattle.rg_trace.specs.Inner.Marking.{known, unfinished, if_black, weighed, known_count, pending, black_fields}
 
 pub weighed-set : (f : Option Body → ℕ → ℕ) → ((m : ℕ) → f None m ≡ 0) → (xs : List (Option (Option Body))) (ms : List ℕ) (s v : ℕ) → s < length ms
@@ -19,10 +20,6 @@ pub weighed-le : (f : Option Body → ℕ → ℕ) (g : Option Body → ℕ) →
 weighed-le f g h [] ms = omega arith
 weighed-le f g h (x ∷ xs) [] = omega (arith, h (body_in x) 0, weighed-le f g h xs [])
 weighed-le f g h (x ∷ xs) (m ∷ ms) = omega (arith, h (body_in x) m, weighed-le f g h xs ms)
-
-pub lies-belongs : (r : ℕ) (b : Option Body) → option_map (λ (b : Body). b.label) b ≡ Some (Region r) → belongs r b ≡ true
-lies-belongs r None e = cc
-lies-belongs r (Some b) e = let h : b.label ≡ Region r = cc in ap (is_region r) h ∙ eq-eqb r r refl
 
 known-le : (m : ℕ) → known m ≤ 1
 known-le zero = omega arith
@@ -41,7 +38,7 @@ known-size h r marks = weighed-le (λ b m. cond (belongs r b) (known m) 0) (λ b
 pub known-grey : (h : Heap) (r s : ℕ) (marks : List ℕ) → LiesIn h r s → get_or marks s 0 ≡ 0 → s < length marks → known_count h r (set marks s 1)
     ≡ known_count h r marks + 1
 known-grey h r s marks lies w l =
-    let b : belongs r (body_at h s) ≡ true = lies-belongs r (body_at h s) lies in
+    let b : belongs r (body_at h s) ≡ true = lies_belongs r (body_at h s) lies in
     let e = weighed-set (λ b m. cond (belongs r b) (known m) 0) (λ m. refl) h.slots marks s 1 l in
     let p : cond (belongs r (body_at h s)) (known (get_or marks s 0)) 0 ≡ 0 = rw (b, w) refl in
     let q : cond {A = ℕ} (belongs r (body_at h s)) 1 0 ≡ 1 = rw b refl in
@@ -50,7 +47,7 @@ known-grey h r s marks lies w l =
 pub pending-grey : (h : Heap) (r s : ℕ) (marks : List ℕ) → LiesIn h r s → get_or marks s 0 ≡ 0 → s < length marks → pending h r (set marks s 1)
     ≡ pending h r marks
 pending-grey h r s marks lies w l =
-    let b : belongs r (body_at h s) ≡ true = lies-belongs r (body_at h s) lies in
+    let b : belongs r (body_at h s) ≡ true = lies_belongs r (body_at h s) lies in
     let e = weighed-set (λ b m. cond (belongs r b) (unfinished m) 0) (λ m. cond-zero (belongs r None) (unfinished m)) h.slots marks s 1 l in
     let p : cond (belongs r (body_at h s)) (unfinished (get_or marks s 0)) 0 ≡ 1 = rw (b, w) refl in
     let q : cond {A = ℕ} (belongs r (body_at h s)) 1 0 ≡ 1 = rw b refl in
@@ -62,7 +59,7 @@ pending-grey h r s marks lies w l =
 pub fields-grey : (h : Heap) (r s : ℕ) (marks : List ℕ) → LiesIn h r s → get_or marks s 0 ≡ 0 → s < length marks → black_fields h r (set marks s 1)
     ≡ black_fields h r marks
 fields-grey h r s marks lies w l =
-    let b : belongs r (body_at h s) ≡ true = lies-belongs r (body_at h s) lies in
+    let b : belongs r (body_at h s) ≡ true = lies_belongs r (body_at h s) lies in
     let e = weighed-set (λ b m. cond (belongs r b) (if_black (width b) m) 0) (λ m. refl) h.slots marks s 1 l in
     let p : cond (belongs r (body_at h s)) (if_black (width (body_at h s)) (get_or marks s 0)) 0 ≡ 0 = rw (b, w) refl in
     let q : cond (belongs r (body_at h s)) (if_black (width (body_at h s)) 1) 0 ≡ 0 = rw b refl in
@@ -72,7 +69,7 @@ fields-grey h r s marks lies w l =
 pub known-black : (h : Heap) (r s : ℕ) (marks : List ℕ) → LiesIn h r s → get_or marks s 0 ≡ 1 → s < length marks → known_count h r (set marks s 2)
     ≡ known_count h r marks
 known-black h r s marks lies w l =
-    let b : belongs r (body_at h s) ≡ true = lies-belongs r (body_at h s) lies in
+    let b : belongs r (body_at h s) ≡ true = lies_belongs r (body_at h s) lies in
     let e = weighed-set (λ b m. cond (belongs r b) (known m) 0) (λ m. refl) h.slots marks s 2 l in
     let p : cond (belongs r (body_at h s)) (known (get_or marks s 0)) 0 ≡ 1 = rw (b, w) refl in
     let q : cond {A = ℕ} (belongs r (body_at h s)) 1 0 ≡ 1 = rw b refl in
@@ -81,7 +78,7 @@ known-black h r s marks lies w l =
 pub pending-black : (h : Heap) (r s : ℕ) (marks : List ℕ) → LiesIn h r s → get_or marks s 0 ≡ 1 → s < length marks → pending h r (set marks s 2) + 1
     ≡ pending h r marks
 pending-black h r s marks lies w l =
-    let b : belongs r (body_at h s) ≡ true = lies-belongs r (body_at h s) lies in
+    let b : belongs r (body_at h s) ≡ true = lies_belongs r (body_at h s) lies in
     let e = weighed-set (λ b m. cond (belongs r b) (unfinished m) 0) (λ m. refl) h.slots marks s 2 l in
     let p : cond (belongs r (body_at h s)) (unfinished (get_or marks s 0)) 0 ≡ 1 = rw (b, w) refl in
     let q : cond {A = ℕ} (belongs r (body_at h s)) 0 0 ≡ 0 = rw b refl in
@@ -90,7 +87,7 @@ pending-black h r s marks lies w l =
 pub fields-black : (h : Heap) (r s : ℕ) (marks : List ℕ) → LiesIn h r s → get_or marks s 0 ≡ 1 → s < length marks → black_fields h r (set marks s 2)
     ≡ black_fields h r marks + width (body_at h s)
 fields-black h r s marks lies w l =
-    let b : belongs r (body_at h s) ≡ true = lies-belongs r (body_at h s) lies in
+    let b : belongs r (body_at h s) ≡ true = lies_belongs r (body_at h s) lies in
     let e = weighed-set (λ b m. cond (belongs r b) (if_black (width b) m) 0) (λ m. refl) h.slots marks s 2 l in
     let p : cond (belongs r (body_at h s)) (if_black (width (body_at h s)) (get_or marks s 0)) 0 ≡ 0 = rw (b, w) refl in
     let q : cond (belongs r (body_at h s)) (width (body_at h s)) 0 ≡ width (body_at h s) = rw b refl in

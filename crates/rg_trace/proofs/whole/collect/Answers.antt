@@ -12,27 +12,15 @@ use Rattle.rg_trace.proofs.PartsJoined.{all-white, swept-begin, not-grey, collec
 use Rattle.rg_trace.proofs.GroveKept.{grove-kept}
 use Rattle.rg_trace.proofs.StepsBound.{ticks}
 use Rattle.rg_trace.proofs.whole.collect.Goals as goal
-use Rattle.rg_regions.proofs.Callers.Told.{one_record, same_members, led_held, owns_once, lies_held}
+use Rattle.rg_regions.proofs.Callers.Told.{one_record, same_members, same_number, same_bridge, led_held, owns_once, lies_held}
 use Rattle.rg_regions.specs.Chains.{OwnsOnce}
-
-number_is : (o : Option Record) (r : Record) (n : ℕ) → o ≡ Some r → option_map (λ (r : Record). r.number) o ≡ Some n → r.number ≡ n
-number_is o r n e f = some_is r.number n (sym (ap (option_map (λ (r : Record). r.number)) e) ∙ f)
-  where
-    some_is : (a b : ℕ) → Some a ≡ Some b → a ≡ b
-    some_is a b q = cc
-
-bridge_is : (o : Option Record) (r : Record) (n : Option ℕ) → o ≡ Some r → option_map (λ (r : Record). r.bridge) o ≡ Some n → r.bridge ≡ n
-bridge_is o r n e f = some_is r.bridge n (sym (ap (option_map (λ (r : Record). r.bridge)) e) ∙ f)
-  where
-    some_is : (a b : Option ℕ) → Some a ≡ Some b → a ≡ b
-    some_is a b q = cc
 
 pub mark_region-requires : goal.mark_region-requires
 mark_region-requires g c =
     let rec = c.requires.trace.0 in
     let e = c.requires.trace.1 in
-    let num : rec.number ≡ c.number-region.result = number_is _ rec c.number-region.result e c.number-region.ensures in
-    let bri : rec.bridge ≡ c.bridge-bridge.result = bridge_is _ rec c.bridge-bridge.result e c.bridge-bridge.ensures in
+    let num : rec.number ≡ c.number-region.result = same_number _ rec c.number-region.result e c.number-region.ensures in
+    let bri : rec.bridge ≡ c.bridge-bridge.result = same_bridge _ rec c.bridge-bridge.result e c.bridge-bridge.ensures in
     let W : ℕ → Type 0 = λ n. (s : ℕ) → LiesIn c.args.cells.now.heap n s → mark_at c.args.cells.now s ≡ 0 in
     record {
       white = subst W num (all-white c.args.cells.now c.args.regions.now c.args.key rec c.requires.grove e c.requires.trace.2);
@@ -47,7 +35,7 @@ pub chain_orphans-orphans-requires : goal.chain_orphans-orphans-requires
 chain_orphans-orphans-requires g c =
     let rec = c.requires.trace.0 in
     let e = c.requires.trace.1 in
-    let num : rec.number ≡ c.number-region.result = number_is _ rec c.number-region.result e c.number-region.ensures in
+    let num : rec.number ≡ c.number-region.result = same_number _ rec c.number-region.result e c.number-region.ensures in
     let h : c.mark_region.new.cells.heap ≡ c.args.cells.now.heap = c.mark_region.ensures.marked.heap in
     let O : ℕ → Type 0 = λ n. OwnsOnce c.args.cells.now.heap n rec.members in
     let P : Heap → Type 0 = λ z. OwnsOnce z c.number-region.result rec.members in
@@ -63,7 +51,7 @@ pub sweep-requires : goal.sweep-requires
 sweep-requires g c =
     let rec = c.requires.trace.0 in
     let e = c.requires.trace.1 in
-    let num : rec.number ≡ c.number-region.result = number_is _ rec c.number-region.result e c.number-region.ensures in
+    let num : rec.number ≡ c.number-region.result = same_number _ rec c.number-region.result e c.number-region.ensures in
     let h : c.mark_region.new.cells.heap ≡ c.args.cells.now.heap = c.mark_region.ensures.marked.heap in
     let s = c.chain_orphans-orphans.ensures.searched rec e in
     let M : ℕ → Type 0 = λ n. Marked c.args.cells.now.heap n
@@ -90,8 +78,8 @@ pub returns : goal.returns
 returns g c =
     let rec = c.requires.trace.0 in
     let e = c.requires.trace.1 in
-    let num : rec.number ≡ c.number-region.result = number_is _ rec c.number-region.result e c.number-region.ensures in
-    let bri : rec.bridge ≡ c.bridge-bridge.result = bridge_is _ rec c.bridge-bridge.result e c.bridge-bridge.ensures in
+    let num : rec.number ≡ c.number-region.result = same_number _ rec c.number-region.result e c.number-region.ensures in
+    let bri : rec.bridge ≡ c.bridge-bridge.result = same_bridge _ rec c.bridge-bridge.result e c.bridge-bridge.ensures in
     let s = c.chain_orphans-orphans.ensures.searched rec e in
     let M : ℕ → Type 0 = λ n. Marked c.args.cells.now.heap n
     (record { bridge = c.bridge-bridge.result; slots = c.args.slots.now; temps = c.args.temps.now }) c.args.cells.now c.mark_region.new.cells in
