@@ -1,16 +1,13 @@
 -- Each turn of sweeping: a member without a count and a flag is freed, any other stays.
-use Rattle.std.proofs.Common.{◌≡◌, ◌≢◌, ℕ, ◌+◌, ◌-◌, ◌<◌, zero, suc, List, [], ◌∷◌, length, Option, Some, None, get_or, set, refl, ap, sym, ◌∙◌, subst, arith, ◌⊎◌, inl, inr, option_map, count_by, is_some, cond}
+use Rattle.std.proofs.Common.{◌≡◌, ◌≢◌, ℕ, ◌+◌, ◌-◌, ◌<◌, List, length, Some, None, get_or, set, ap, sym, ◌∙◌, subst, arith, ◌⊎◌, inl, inr, option_map}
 use Rattle.std.specs.List.{swap_remove}
-use Rattle.std.proofs.lemmas.List.{get_or-set_same, get_or-set_other, get_or-take, get_or_past, length-take-le, length-set, set_past}
-use Rattle.std.proofs.lemmas.Bool.{cases_eq, cases_lt, false≢true}
-use Rattle.std.proofs.lemmas.List.Sums.{sum_by-cons}
+use Rattle.std.proofs.lemmas.List.{get_or-set_other}
+use Rattle.std.proofs.lemmas.Bool.{cases_eq, cases_lt}
 use Rattle.rg_base.specs.declared.object.Label.TheVariants.{Region}
 use Rattle.rg_cells.specs.declared.cell.Body.{Body}
-use Rattle.rg_cells.specs.Table.{Heap, Table, body_at, body_in, mark_at, link_at, freed, freed_from}
+use Rattle.rg_cells.specs.Table.{Table, body_at, body_in, mark_at, link_at, freed, freed_from}
 use Rattle.rg_regions.specs.Reach.{LiesIn}
 use Rattle.rg_regions.proofs.Callers.Told.{lies_or_not}
-use Rattle.rg_regions.proofs.Callers.Fewer.{belongs_not}
-use Rattle.rg_regions.proofs.Callers.Fewer.{lies_belongs}
 use Rattle.rg_regions.proofs.Callers.Told.{lies_held}
 use Rattle.rg_regions.proofs.Callers.Freed.{zero_here, count-freed, held_once, lies_within, freed_here, freed_other}
 use Rattle.rg_regions.proofs.Callers.Freed.{lies_freed, freed_lies, swapped, swapped-length, swapped-here, swapped-other}

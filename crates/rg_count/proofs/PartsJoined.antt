@@ -1,10 +1,10 @@
 -- From the forest to the parts of a collection, and from the parts to the whole.
-use Rattle.std.proofs.Common.{◌≡◌, ℕ, ◌<◌, suc, List, [], ◌∷◌, length, Option, Some, None, get_or, refl, ap, sym, ◌∙◌, subst, arith, ◌⊎◌, inl, inr, option_map}
-use Rattle.std.proofs.lemmas.Bool.{cases_eq, cases_lt, false≢true}
+use Rattle.std.proofs.Common.{◌≡◌, ℕ, ◌<◌, List, [], length, Option, Some, None, get_or, refl, ap, sym, ◌∙◌, subst, arith, ◌⊎◌, inl, inr, option_map}
+use Rattle.std.proofs.lemmas.Bool.{cases_eq, cases_lt}
 use Rattle.std.proofs.lemmas.Option.{slice_get_within, slice_get-get_or}
 use Rattle.rg_cells.specs.declared.cell.Body.{Body}
 use Rattle.rg_base.specs.declared.object.Label.TheVariants.{Region}
-use Rattle.rg_cells.specs.Table.{Heap, Table, field_at, body_at, body_in, mark_at, link_at, high_of, total}
+use Rattle.rg_cells.specs.Table.{Heap, Table, field_at, body_at, body_in, mark_at, link_at, high_of}
 use Rattle.rg_regions.specs.Table.{Record, RegionTable, record_at, Has}
 use Rattle.rg_regions.specs.Reach.{LiesIn, Roots}
 use Rattle.rg_regions.specs.Spent.{Spent}
@@ -13,8 +13,6 @@ use Rattle.rg_regions.specs.Owned.{Every, ChainsOwned}
 use Rattle.rg_regions.specs.Collection.{IsSameCell, ChainsOrphans}
 use Rattle.rg_regions.proofs.Callers.Fewer.{total_alike}
 use Rattle.rg_regions.proofs.Callers.Told.{lies_or_not}
-use Rattle.rg_regions.proofs.Callers.Fewer.{belongs_not}
-use Rattle.rg_regions.proofs.Callers.Fewer.{lies_belongs}
 use Rattle.rg_regions.proofs.Callers.Told.{owns_once}
 use Rattle.rg_count.specs.Inner.Counting.{weight, nothing, in_turn, Counts}
 use Rattle.rg_count.specs.Inner.Sweeping.{Goes, Swept, Sweeps}

@@ -1,8 +1,7 @@
 -- The turns of sweeping, with the region table (docs/architecture.md, "Counting").
-use Rattle.std.proofs.Common.{◌≡◌, ◌≢◌, ℕ, ◌+◌, ◌-◌, ◌<◌, ◌≤◌, List, length, Some, get_or, set, swap_remove, sym, subst, arith, ◌⊎◌}
+use Rattle.std.proofs.Common.{◌≡◌, ◌≢◌, ℕ, ◌+◌, ◌-◌, ◌<◌, ◌≤◌, List, length, Some, get_or, swap_remove, sym, subst, arith, ◌⊎◌}
 use Rattle.rg_cells.specs.Table.{Table, mark_at, link_at, freed_from, IsHeld}
 use Rattle.rg_regions.specs.Table.{Record, RegionTable, record_at, changed, without_member}
-use Rattle.rg_regions.specs.Reach.{LiesIn}
 use Rattle.rg_regions.proofs.Callers.Told.{lies_held}
 use Rattle.rg_regions.proofs.Callers.Dropped.{left_begin, left_now, left_keep, left_drop}
 use Rattle.rg_count.specs.Inner.Sweeping.{Swept, Sweeps}

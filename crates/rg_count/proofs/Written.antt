@@ -1,16 +1,16 @@
 -- Counts where a field is written or a cell is made; what the heap's own calls need beside `added` and `removed`.
-use Rattle.std.proofs.Common.{◌≡◌, ◌≢◌, ℕ, ◌+◌, ◌<◌, ◌≤◌, zero, suc, Bool, true, false, cond, List, [], ◌∷◌, length, Option, Some, None, get_or, set, refl, ap, sym, ◌∙◌, subst, arith, ◌⊎◌, inl, inr, slice_get, count_by, option_map, option_and_then}
-use Rattle.std.proofs.lemmas.List.{get_or-set_same, get_or-set_other, get_or_past}
+use Rattle.std.proofs.Common.{◌≡◌, ℕ, ◌+◌, ◌<◌, ◌≤◌, zero, suc, Bool, true, false, cond, List, [], ◌∷◌, length, Option, Some, None, set, refl, ap, sym, ◌∙◌, arith, inl, inr, slice_get, count_by, option_map, option_and_then}
+use Rattle.std.proofs.lemmas.List.{get_or_past}
 use Rattle.std.proofs.lemmas.List.Sums.{sum_by-cons, count_by-le-length}
 use Rattle.std.proofs.lemmas.Bool.{cases_eq, cases_lt}
-use Rattle.rg_base.specs.declared.object.Label.TheVariants.{Region, Temp, Frozen}
+use Rattle.rg_base.specs.declared.object.Label.TheVariants.{Region}
 use Rattle.rg_cells.specs.declared.cell.Body.{Body}
 use Rattle.rg_base.specs.declared.value.Word.{Word}
 use Rattle.rg_cells.specs.Table.{Heap, Table, body_at, body_in, field_at, field_total, total, width, with_field, with_body, Made}
-use Rattle.rg_regions.specs.Reach.{LiesIn, belongs, is_region}
+use Rattle.rg_regions.specs.Reach.{LiesIn, belongs}
 use Rattle.rg_regions.specs.Grove.{leads_to, referrers}
 use Rattle.rg_regions.proofs.Callers.Fewer.{lies_belongs}
-use Rattle.rg_count.specs.Inner.Counting.{weight, words_of}
+use Rattle.rg_count.specs.Inner.Counting.{weight}
 use Rattle.rg_count.proofs.CountsLowered.{referrers-total}
 use Rattle.rg_count.proofs.Shares.{share}
 use Rattle.rg_regions.proofs.Callers.Fewer.{total_alike}
@@ -62,6 +62,7 @@ referrers-written h r s k x old w l f = by_body (body_at h s) refl
           let q : None ≡ Some (Region r) = sym (ap (option_map (λ (b : Body). b.label)) e) ∙ l in
           cc
     ]
+
     by_body : (o : Option Body) → body_at h s ≡ o → referrers (with_field h s k w) r x + cond {A = ℕ} (leads_to x old) 1 0 ≡ referrers h r x + cond {A = ℕ} (leads_to x w) 1 0
     by_body None e = let q : None ≡ Some (Region r) = sym (ap (option_map (λ (b : Body). b.label)) e) ∙ l in cc
     by_body (Some b) e =

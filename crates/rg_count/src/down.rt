@@ -17,7 +17,7 @@ ghost use Rattle.rg_count.specs.Inner.Flags.{Rooted, LinksStay};
 use crate::roots::{clear, flag_bridge, flag_temps, flag_words};
 use rg_base::{Label, Steps, Word};
 use rg_cells::Cells;
-use rg_regions::{chain_word, removed, Regions};
+use rg_regions::{Regions, chain_word, removed};
 use std::sync::ledger::Ledger;
 
 /// The heads of the zero list and of the chain of regions without an owner.

@@ -8,5 +8,5 @@ mod roots;
 mod sweeping;
 mod whole;
 
-pub use rg_regions::{added, removed, Kept};
+pub use rg_regions::{Kept, added, removed};
 pub use whole::collect;

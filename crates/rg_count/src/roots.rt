@@ -76,12 +76,7 @@ fn flag_fields<L: Ledger>(cells: &mut Cells, region: u64, slot: usize, steps: &m
 
 /// The cells of the region to which fields of temporaries lead link to themselves; one step a
 /// field.
-pub fn flag_temps<L: Ledger>(
-    cells: &mut Cells,
-    region: u64,
-    temps: &[usize],
-    steps: &mut Steps<L>,
-)
+pub fn flag_temps<L: Ledger>(cells: &mut Cells, region: u64, temps: &[usize], steps: &mut Steps<L>)
     requires held { AllHeld cells.old.heap temps.now }
     requires lead { TempsLeadToHeld cells.old.heap temps.now }
     ensures flagged { Flagged cells.old.heap region (InTemps cells.old.heap temps.now

@@ -40,7 +40,7 @@ pub fn collect<L: Ledger>(
     ensures kept { OfRegion regions.new key (λ r. result.kept ≡ length r.members) }
     ensures cost { OfRegion regions.old key (λ r. steps.new
         ≤ steps.old + sum_by (λ t. width (body_at cells.old.heap t)) temps.now
-            + region_fields cells.old.heap r.number) }
+        + region_fields cells.old.heap r.number) }
     ensures grove { Grove cells.new regions.new }
 {
     let region = regions.number(key);

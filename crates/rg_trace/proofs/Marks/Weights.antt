@@ -1,10 +1,9 @@
 -- Weights of marked slots after one mark is written (docs/architecture.md, "Mark and sweep").
-use Rattle.std.proofs.Common.{◌≡◌, ℕ, ◌+◌, ◌<◌, ◌≤◌, zero, suc, Bool, true, false, cond, List, [], ◌∷◌, length, Option, Some, None, get_or}
-use Rattle.std.proofs.Common.{set, refl, ap, ◌∙◌, arith, option_map, eq-eqb}
-use Rattle.rg_base.specs.declared.object.Label.TheVariants.{Region}
+use Rattle.std.proofs.Common.{◌≡◌, ℕ, ◌+◌, ◌<◌, ◌≤◌, zero, suc, Bool, true, false, cond, List, [], ◌∷◌, length, Option, None, get_or}
+use Rattle.std.proofs.Common.{set, refl, arith}
 use Rattle.rg_cells.specs.declared.cell.Body.{Body}
 use Rattle.rg_cells.specs.Table.{Heap, total, body_in, body_at, width}
-use Rattle.rg_regions.specs.Reach.{LiesIn, belongs, is_region, region_size}
+use Rattle.rg_regions.specs.Reach.{LiesIn, belongs, region_size}
 use Rattle.rg_regions.proofs.Callers.Fewer.{lies_belongs}
 use Rattle.rg_trace.specs.Inner.Marking.{known, unfinished, if_black, weighed, known_count, pending, black_fields}
 

@@ -1,4 +1,4 @@
-use Rattle.std.proofs.Common.{◌≡◌, ◌+◌, []}
+use Rattle.std.proofs.Common.{◌≡◌, ◌+◌}
 use Rattle.rg_count.specs.Inner.Counting.{Lowered}
 use Rattle.rg_regions.specs.Owned.{Every, FollowsFields}
 use Rattle.rg_count.proofs.down.lower_fields.Given as goal

@@ -1,4 +1,4 @@
-use Rattle.std.proofs.Common.{◌+◌, arith, sym, ◌∙◌, ap}
+use Rattle.std.proofs.Common.{arith, sym, ◌∙◌, ap}
 use Rattle.rg_cells.specs.Table.{Heap, field_at}
 use Rattle.rg_count.proofs.RootsFlagged.{among-more}
 use Rattle.rg_count.proofs.roots.flag_fields.Goals as goal

@@ -14,34 +14,34 @@ loop-place-init c =
 pub mark-requires : goal.mark-requires
 mark-requires c =
     let a = at-turn c.args.cells.now c.args.regions.now c.args.key c.requires.0 c.requires.1 c.loop-place.cells c.loop-place.regions
-        c.loop-place.place c.loop-place.invariant in
+    c.loop-place.place c.loop-place.invariant in
     let H : List ℕ → Type 0 = λ z. IsHeld c.loop-place.cells.heap (get_or z (c.loop-place.place - 1) 0) in
     subst H (same_members _ a.0 c.members.result.now a.1 c.members.ensures) (a.3 (c.loop-place.place - 1) (omega arith))
 
 pub free-requires : goal.free-requires
 free-requires c =
     let a = at-turn c.args.cells.now c.args.regions.now c.args.key c.requires.0 c.requires.1 c.loop-place.cells c.loop-place.regions
-        c.loop-place.place c.loop-place.invariant in
+    c.loop-place.place c.loop-place.invariant in
     let H : List ℕ → Type 0 = λ z. IsHeld c.loop-place.cells.heap (get_or z (c.loop-place.place - 1) 0) in
     subst H (same_members _ a.0 c.members.result.now a.1 c.members.ensures) (a.3 (c.loop-place.place - 1) (omega arith))
 
 pub drop_member-requires : goal.drop_member-requires
 drop_member-requires c =
     let a = at-turn c.args.cells.now c.args.regions.now c.args.key c.requires.0 c.requires.1 c.loop-place.cells c.loop-place.regions
-        c.loop-place.place c.loop-place.invariant in
+    c.loop-place.place c.loop-place.invariant in
     (a.0, a.1, omega (arith, a.2))
 
 pub is_root-requires : goal.is_root-requires
 is_root-requires c =
     let a = at-turn c.args.cells.now c.args.regions.now c.args.key c.requires.0 c.requires.1 c.loop-place.cells c.loop-place.regions
-        c.loop-place.place c.loop-place.invariant in
+    c.loop-place.place c.loop-place.invariant in
     let H : List ℕ → Type 0 = λ z. IsHeld c.loop-place.cells.heap (get_or z (c.loop-place.place - 1) 0) in
     subst H (same_members _ a.0 c.members.result.now a.1 c.members.ensures) (a.3 (c.loop-place.place - 1) (omega arith))
 
 pub loop-place-preserved : goal.loop-place-preserved
 loop-place-preserved c =
     let a = at-turn c.args.cells.now c.args.regions.now c.args.key c.requires.0 c.requires.1 c.loop-place.cells c.loop-place.regions
-        c.loop-place.place c.loop-place.invariant in
+    c.loop-place.place c.loop-place.invariant in
     let slot : ℕ = get_or c.members.result.now (c.loop-place.place - 1) 0 in
     sweeps-free c.args.cells.now c.args.regions.now c.args.key c.requires.0 c.requires.1 c.loop-place.cells c.loop-place.regions
     c.loop-place.place c.loop-place.invariant a.0 a.1 slot (omega arith)
@@ -51,7 +51,7 @@ loop-place-preserved c =
 pub loop-place-preserved-then-mark-ne0 : goal.loop-place-preserved-then-mark-ne0
 loop-place-preserved-then-mark-ne0 c =
     let a = at-turn c.args.cells.now c.args.regions.now c.args.key c.requires.0 c.requires.1 c.loop-place.cells c.loop-place.regions
-        c.loop-place.place c.loop-place.invariant in
+    c.loop-place.place c.loop-place.invariant in
     let slot : ℕ = get_or c.members.result.now (c.loop-place.place - 1) 0 in
     sweeps-keep c.args.cells.now c.args.regions.now c.args.key c.requires.0 c.requires.1 c.loop-place.cells c.loop-place.regions
     c.loop-place.place c.loop-place.invariant a.0 a.1 slot (omega arith)
@@ -61,7 +61,7 @@ loop-place-preserved-then-mark-ne0 c =
 pub loop-place-preserved-then-is_root : goal.loop-place-preserved-then-is_root
 loop-place-preserved-then-is_root c =
     let a = at-turn c.args.cells.now c.args.regions.now c.args.key c.requires.0 c.requires.1 c.loop-place.cells c.loop-place.regions
-        c.loop-place.place c.loop-place.invariant in
+    c.loop-place.place c.loop-place.invariant in
     let slot : ℕ = get_or c.members.result.now (c.loop-place.place - 1) 0 in
     sweeps-keep c.args.cells.now c.args.regions.now c.args.key c.requires.0 c.requires.1 c.loop-place.cells c.loop-place.regions
     c.loop-place.place c.loop-place.invariant a.0 a.1 slot (omega arith)

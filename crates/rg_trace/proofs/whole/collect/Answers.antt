@@ -1,5 +1,4 @@
 use Rattle.std.proofs.Common.{◌≡◌, ◌≢◌, ℕ, ◌+◌, ◌≤◌, sum_by, List, length, Option, Some, None, get_or, ap, sym, ◌∙◌, subst, arith, refl}
-use Rattle.std.proofs.Common.{option_map}
 use Rattle.rg_cells.specs.Table.{Heap, field_at, body_at, width, IsHeld, mark_at}
 use Rattle.rg_base.specs.declared.value.Word.TheVariants.{Slot}
 use Rattle.rg_regions.specs.Table.{Record, record_at, InTable}
