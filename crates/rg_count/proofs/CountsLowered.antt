@@ -1,5 +1,7 @@
 -- Each turn of counting down.
-use Rattle.std.proofs.Common.{◌≡◌, ◌≢◌, ℕ, ◌+◌, ◌-◌, ◌<◌, ◌≤◌, ◌⊎◌, zero, suc, Bool, true, false, cond, List, [], ◌∷◌, length, Option, Some, None, get_or, set, count_by, drop, refl, ap, sym, ◌∙◌, subst, arith, inl, inr, slice_get, option_and_then, eq-eqb}
+use Rattle.std.proofs.Common.{◌≡◌, ◌≢◌, ℕ, ◌+◌, ◌-◌, ◌<◌, ◌≤◌, ◌⊎◌, zero, suc, Bool, true, false, cond, List, [], ◌∷◌}
+use Rattle.std.proofs.Common.{length, Option, Some, None, get_or, set, count_by, drop, refl, ap, sym, ◌∙◌, subst, arith}
+use Rattle.std.proofs.Common.{inl, inr, slice_get, option_and_then, eq-eqb}
 use Rattle.std.proofs.lemmas.List.{get_or-set_same, get_or-set_other}
 use Rattle.std.proofs.lemmas.Bool.{cases_eq, false≢true}
 use Rattle.std.proofs.lemmas.Bool.Decides.{eqb_tells}
@@ -20,11 +22,13 @@ use Rattle.rg_count.proofs.Shares.{Distinct, parted-le, parted-more, has-cases}
 pub referrers-total : (h : Heap) (r s : ℕ) → referrers h r s ≡ total (weight r s) h.slots
 referrers-total h r s = total-same _ (weight r s) (λ b. by_body b) h.slots
   where
-    by_body : (b : Option Body) → cond {A = ℕ} (belongs r b) (elim b [ None ↦ 0 | Some b ↦ count_by (leads_to s) b.fields ]) 0 ≡ weight r s b
+    by_body : (b : Option Body) → cond {A = ℕ} (belongs r b)
+        (elim b [ None ↦ 0 | Some b ↦ count_by (leads_to s) b.fields ]) 0 ≡ weight r s b
     by_body None = refl
     by_body (Some b) = refl
 
-    total-same : (f g : Option Body → ℕ) → ((b : Option Body) → f b ≡ g b) → (xs : List (Option (Option Body))) → total f xs ≡ total g xs
+    total-same : (f g : Option Body → ℕ) → ((b : Option Body) → f b ≡ g b) → (xs : List (Option (Option Body)))
+        → total f xs ≡ total g xs
     total-same f g e [] = refl
     total-same f g e (x ∷ xs) = omega (arith, e (body_in x), total-same f g e xs)
 
@@ -49,7 +53,8 @@ count-has : (s : ℕ) (ws : List Word) (k : ℕ) → slice_get ws k ≡ Some (Sl
 count-has s [] k e = cc
 count-has s (w ∷ ws) zero e =
     let q : w ≡ Slot s = word_is w (Slot s) e in
-    let a : cond {A = ℕ} (leads_to s w) 1 0 ≡ 1 = ap (λ z. cond {A = ℕ} (leads_to s z) 1 0) q ∙ ap (λ b. cond {A = ℕ} b 1 0) (leads-self s) in
+    let a : cond {A = ℕ} (leads_to s w) 1 0 ≡ 1 = ap (λ z. cond {A = ℕ} (leads_to s z) 1 0) q
+    ∙ ap (λ b. cond {A = ℕ} b 1 0) (leads-self s) in
     omega (arith, sum_by-cons (λ z. cond {A = ℕ} (leads_to s z) 1 0) w ws, a)
   where
     word_is : (a b : Word) → Some a ≡ Some b → a ≡ b
@@ -58,7 +63,8 @@ count-has s (w ∷ ws) (suc k) e =
     let ih = count-has s ws k e in
     omega (arith, sum_by-cons (λ z. cond {A = ℕ} (leads_to s z) 1 0) w ws, ih)
 
-fields-of : (b : Option Body) (k : ℕ) (w : Word) → option_and_then (λ (b : Body). slice_get b.fields k) b ≡ Some w → slice_get (words_of b) k ≡ Some w
+fields-of : (b : Option Body) (k : ℕ) (w : Word) → option_and_then (λ (b : Body). slice_get b.fields k) b ≡ Some w
+    → slice_get (words_of b) k ≡ Some w
 fields-of None k w e = cc
 fields-of (Some b) k w e = e
 
@@ -67,15 +73,18 @@ pub weighs : (h : Heap) (r s p k : ℕ) → LiesIn h r p → field_at h p k ≡ 
 weighs h r s p k l f =
     let b : belongs r (body_at h p) ≡ true = lies_belongs r (body_at h p) l in
     let n = count-has s (words_of (body_at h p)) k (fields-of (body_at h p) k (Slot s) f) in
-    let e : weight r s (body_at h p) ≡ count_by (leads_to s) (words_of (body_at h p)) = ap (λ c. cond {A = ℕ} c (count_by (leads_to s) (words_of (body_at h p))) 0) b in
+    let e : weight r s (body_at h p) ≡ count_by (leads_to s) (words_of (body_at h p)) =
+    ap (λ c. cond {A = ℕ} c (count_by (leads_to s) (words_of (body_at h p))) 0) b in
     omega (arith, n, e)
 
 -- all fields of a cell are owed
 pub owed-all : (h : Heap) (r s p : ℕ) → LiesIn h r p → owed h p 0 s ≡ weight r s (body_at h p)
-owed-all h r s p l = sym (ap (λ c. cond {A = ℕ} c (count_by (leads_to s) (words_of (body_at h p))) 0) (lies_belongs r (body_at h p) l))
+owed-all h r s p l = sym (ap (λ c. cond {A = ℕ} c (count_by (leads_to s) (words_of (body_at h p))) 0)
+    (lies_belongs r (body_at h p) l))
 
 -- one field less is owed
-pub owed-next : (h : Heap) (p k : ℕ) (w : Word) → field_at h p k ≡ Some w → (s : ℕ) → owed h p k s ≡ cond {A = ℕ} (leads_to s w) 1 0 + owed h p (k + 1) s
+pub owed-next : (h : Heap) (p k : ℕ) (w : Word) → field_at h p k ≡ Some w → (s : ℕ)
+    → owed h p k s ≡ cond {A = ℕ} (leads_to s w) 1 0 + owed h p (k + 1) s
 owed-next h p k w f s =
     let g = fields-of (body_at h p) k w f in
     let l = slice_get_within (words_of (body_at h p)) k w g in
@@ -99,7 +108,8 @@ pub spends-distinct : (h : Heap) (r : ℕ) (roots : Roots) (done : List ℕ) →
 spends-distinct h r roots [] w = w
 spends-distinct h r roots (s ∷ done) w = (w.2, spends-distinct h r roots done w.4)
 
-pub spends-lie : (h : Heap) (r : ℕ) (roots : Roots) (done : List ℕ) → Spends h r roots done → (s : ℕ) → Has done s → LiesIn h r s
+pub spends-lie : (h : Heap) (r : ℕ) (roots : Roots) (done : List ℕ) → Spends h r roots done → (s : ℕ) → Has done s
+    → LiesIn h r s
 spends-lie h r roots [] w s m = absurd m
 spends-lie h r roots (x ∷ done) w s m = elim m [
   | inl e ↦ let L : ℕ → Type 0 = λ y. LiesIn h r y in subst L (sym e) w.0
@@ -107,11 +117,14 @@ spends-lie h r roots (x ∷ done) w s m = elim m [
 ]
 
 -- what is done pays at most what all referrers are
-pub paid-le : (h : Heap) (r : ℕ) (roots : Roots) (done : List ℕ) (s : ℕ) → Spends h r roots done → paid h r s done ≤ referrers h r s
-paid-le h r roots done s w = let a = parted-le (weight r s) refl h.slots done (spends-distinct h r roots done w) in omega (arith, a, referrers-total h r s)
+pub paid-le : (h : Heap) (r : ℕ) (roots : Roots) (done : List ℕ) (s : ℕ) → Spends h r roots done
+    → paid h r s done ≤ referrers h r s
+paid-le h r roots done s w = let a = parted-le (weight r s) refl h.slots done (spends-distinct h r roots done w) in
+    omega (arith, a, referrers-total h r s)
 
 -- a cell without a count has no referrer that isn't done
-pub all-done : (h : Heap) (r : ℕ) (roots : Roots) (done : List ℕ) (s p k : ℕ) → Spends h r roots done → paid h r s done ≡ referrers h r s → LiesIn h r p → field_at h p k ≡ Some (Slot s) → Has done p
+pub all-done : (h : Heap) (r : ℕ) (roots : Roots) (done : List ℕ) (s p k : ℕ) → Spends h r roots done
+    → paid h r s done ≡ referrers h r s → LiesIn h r p → field_at h p k ≡ Some (Slot s) → Has done p
 all-done h r roots done s p k w e l f = elim (has-cases done p) [
   | inl m ↦ m
   | inr n ↦
@@ -121,7 +134,8 @@ all-done h r roots done s p k w e l f = elim (has-cases done p) [
 ]
 
 -- the head stands in the list
-pub chained-head : (links : List (Option ℕ)) (head : Option ℕ) (keys : List ℕ) (s : ℕ) → Chained links head keys → head ≡ Some s → Has keys s
+pub chained-head : (links : List (Option ℕ)) (head : Option ℕ) (keys : List ℕ) (s : ℕ) → Chained links head keys
+    → head ≡ Some s → Has keys s
 chained-head links head [] s c e = let q : None ≡ Some s = sym c ∙ e in cc
 chained-head links head (x ∷ keys) s c e = inl (num_is s x (sym e ∙ c.0))
   where
@@ -129,7 +143,10 @@ chained-head links head (x ∷ keys) s c e = inl (num_is s x (sym e ∙ c.0))
     num_is a b q = cc
 
 -- a word of the cell at work was looked at
-pub count-turn : (h : Heap) (r : ℕ) (roots : Roots) (first : Table) (was rest : ℕ → ℕ) (done zeros : List ℕ) (old new : Table) (head result : Option ℕ) (w : Word) → ((s : ℕ) → was s ≡ cond {A = ℕ} (leads_to s w) 1 0 + rest s) → Lowers r w head result old new → Counts h r roots first was done zeros old head → (now : List ℕ) × Counts h r roots first rest done now new result
+pub count-turn : (h : Heap) (r : ℕ) (roots : Roots) (first : Table) (was rest : ℕ → ℕ) (done zeros : List ℕ)
+    (old new : Table) (head result : Option ℕ) (w : Word) → ((s : ℕ) → was s ≡ cond {A = ℕ} (leads_to s w) 1 0 + rest s)
+    → Lowers r w head result old new → Counts h r roots first was done zeros old head
+    → (now : List ℕ) × Counts h r roots first rest done now new result
 count-turn h r roots first was rest done zeros old new head result w less g c = elim g [
   | inl p ↦
       let C : Table → Option ℕ → Type 0 = λ t o. Counts h r roots first rest done zeros t o in
@@ -140,7 +157,8 @@ count-turn h r roots first was rest done zeros old new head result w less g c = 
           heap = c.heap;
           sum = λ x l.
               let off : leads_to x w ≡ false = elim (bool-cases (leads_to x w)) [
-                | inl y ↦ let L : Heap → Type 0 = λ z. LiesIn z r x in absurd (p.none x (leads-is x w y) (subst L (sym c.heap) l))
+                | inl y ↦ let L : Heap → Type 0 = λ z. LiesIn z r x in
+                    absurd (p.none x (leads-is x w y) (subst L (sym c.heap) l))
                 | inr y ↦ y
               ] in
               let z : cond {A = ℕ} (leads_to x w) 1 0 ≡ 0 = ap (λ b. cond {A = ℕ} b 1 0) off in
@@ -170,7 +188,8 @@ count-turn h r roots first was rest done zeros old new head result w less g c = 
             heap = ap (λ (t : Table). t.heap) p.new_is ∙ c.heap;
             sum = f.1;
             spends = c.spends;
-            chain = let P : List (Option ℕ) → Type 0 = λ z. Chained z head zeros in subst P (sym (ap (λ (t : Table). t.links) p.new_is)) c.chain;
+            chain = let P : List (Option ℕ) → Type 0 = λ z. Chained z head zeros in
+                subst P (sym (ap (λ (t : Table). t.links) p.new_is)) c.chain;
             zero_lies = c.zero_lies;
             zero_mark = λ x m. f.3 x (c.zero_mark x m);
             zero_root = c.zero_root;
@@ -197,8 +216,11 @@ count-turn h r roots first was rest done zeros old new head result w less g c = 
         let f = facts p.slot p.leads lies p.within (ap (λ (t : Table). t.marks) p.new_is) in
         let C2 : Option ℕ → Type 0 = λ o. Counts h r roots first rest done (p.slot ∷ zeros) new o in
         let fresh : Has zeros p.slot → ⊥ = λ m. omega (arith, f.0, c.zero_mark p.slot m) in
-        let self : link_at new p.slot ≡ head = ap (λ (t : Table). link_at t p.slot) p.new_is ∙ get_or-set_same old.links p.slot head None p.in_links in
-        let other : (x : ℕ) → x ≢ p.slot → link_at new x ≡ link_at old x = λ x d. ap (λ (t : Table). link_at t x) p.new_is ∙ get_or-set_other old.links p.slot x head None d in
+        let self : link_at new p.slot ≡ head = ap (λ (t : Table). link_at t p.slot) p.new_is
+        ∙ get_or-set_same old.links p.slot head None p.in_links in
+        let other : (x : ℕ) → x ≢ p.slot
+        → link_at new x ≡ link_at old x = λ x d. ap (λ (t : Table). link_at t x) p.new_is
+        ∙ get_or-set_other old.links p.slot x head None d in
         let no_root : Stands h roots p.slot → ⊥ = λ s. p.no_root (c.rooted p.slot lies s) in
         let M : ℕ → Type 0 = λ z. LiesIn h r z in
         let D : ℕ → Type 0 = λ z. Has done z in
@@ -210,19 +232,33 @@ count-turn h r roots first was rest done zeros old new head result w less g c = 
             heap = ap (λ (t : Table). t.heap) p.new_is ∙ c.heap;
             sum = f.1;
             spends = c.spends;
-            chain = (refl, fresh, subst C (sym self) (chained_agree old.links new.links head zeros (λ k m. other k (λ e. fresh (subst Z e m))) c.chain));
+            chain = (
+              refl,
+              fresh,
+              subst C (sym self)
+                  (chained_agree old.links new.links head zeros (λ k m. other k (λ e. fresh (subst Z e m))) c.chain),
+            );
             zero_lies = λ x m. elim m [ inl e ↦ subst M (sym e) lies | inr n ↦ c.zero_lies x n ];
             zero_mark = λ x m. elim m [ inl e ↦ ap (mark_at new) e ∙ f.2 ∙ p.last | inr n ↦ f.3 x (c.zero_mark x n) ];
             zero_root = λ x m s. elim m [ inl e ↦ no_root (subst S e s) | inr n ↦ c.zero_root x n s ];
-            zero_done = λ x m d. elim m [ inl e ↦ omega (arith, f.0, c.done_mark p.slot (subst D e d)) | inr n ↦ c.zero_done x n d ];
+            zero_done = λ x m d. elim m [
+              | inl e ↦ omega (
+                arith,
+                f.0,
+                c.done_mark p.slot (subst D e d),
+              )
+              | inr n ↦ c.zero_done x n d
+            ];
             done_mark = λ x m. f.3 x (c.done_mark x m);
             all = λ x l z n. elim (cases_eq x p.slot) [
               | inl e ↦ inr (inl e)
               | inr d ↦ elim (c.all x l (sym (f.4 x d) ∙ z) n) [ inl a ↦ inl a | inr a ↦ inr (inr a) ]
             ];
-            rooted = λ x l s. elim (cases_eq x p.slot) [ inl e ↦ absurd (no_root (subst S e s)) | inr d ↦ other x d ∙ c.rooted x l s ];
+            rooted = λ x l s. elim (cases_eq x p.slot)
+                [ inl e ↦ absurd (no_root (subst S e s)) | inr d ↦ other x d ∙ c.rooted x l s ];
             only = λ x l k. elim (cases_eq x p.slot) [
-              | inl e ↦ absurd (fresh (subst Z e (chained-head old.links head zeros x c.chain (sym self ∙ ap (link_at new) (sym e) ∙ k))))
+              | inl e ↦ absurd (fresh (subst Z e
+                  (chained-head old.links head zeros x c.chain (sym self ∙ ap (link_at new) (sym e) ∙ k))))
               | inr d ↦ c.only x l (sym (other x d) ∙ k)
             ];
             outside = λ x n.
@@ -238,36 +274,51 @@ count-turn h r roots first was rest done zeros old new head result w less g c = 
     bool-cases false = inr refl
 
     -- what holds where a mark falls by one
-    facts : (slot : ℕ) → w ≡ Slot slot → LiesIn h r slot → slot < length old.marks → new.marks ≡ set old.marks slot (mark_at old slot - 1) →
+    facts : (slot : ℕ) → w ≡ Slot slot → LiesIn h r slot → slot < length old.marks
+        → new.marks ≡ set old.marks slot (mark_at old slot - 1) →
         (0 < mark_at old slot) × ((x : ℕ) → LiesIn h r x → mark_at new x + paid h r x done ≡ referrers h r x + rest x)
-        × (mark_at new slot ≡ mark_at old slot - 1) × ((x : ℕ) → mark_at old x ≡ 0 → mark_at new x ≡ 0) × ((x : ℕ) → x ≢ slot → mark_at new x ≡ mark_at old x)
+        × (mark_at new slot ≡ mark_at old slot - 1) × ((x : ℕ) → mark_at old x ≡ 0 → mark_at new x ≡ 0)
+        × ((x : ℕ) → x ≢ slot → mark_at new x ≡ mark_at old x)
     facts slot e lies room n =
-        let one : cond {A = ℕ} (leads_to slot w) 1 0 ≡ 1 = ap (λ z. cond {A = ℕ} (leads_to slot z) 1 0) e ∙ ap (λ b. cond {A = ℕ} b 1 0) (leads-self slot) in
-        let above : 0 < mark_at old slot = omega (arith, c.sum slot lies, less slot, one, paid-le h r roots done slot c.spends) in
-        let here : mark_at new slot ≡ mark_at old slot - 1 = ap (λ z. get_or z slot 0) n ∙ get_or-set_same old.marks slot (mark_at old slot - 1) 0 room in
-        let other : (x : ℕ) → x ≢ slot → mark_at new x ≡ mark_at old x = λ x d. ap (λ z. get_or z x 0) n ∙ get_or-set_other old.marks slot x (mark_at old slot - 1) 0 d in (
+        let one : cond {A = ℕ} (leads_to slot w) 1 0 ≡ 1 = ap (λ z. cond {A = ℕ} (leads_to slot z) 1 0) e
+        ∙ ap (λ b. cond {A = ℕ} b 1 0) (leads-self slot) in
+        let above : 0 < mark_at old slot =
+        omega (arith, c.sum slot lies, less slot, one, paid-le h r roots done slot c.spends) in
+        let here : mark_at new slot ≡ mark_at old slot - 1 = ap (λ z. get_or z slot 0) n
+        ∙ get_or-set_same old.marks slot (mark_at old slot - 1) 0 room in
+        let other : (x : ℕ) → x ≢ slot → mark_at new x ≡ mark_at old x = λ x d. ap (λ z. get_or z x 0) n
+        ∙ get_or-set_other old.marks slot x (mark_at old slot - 1) 0 d in (
           above,
           (λ x l. elim (cases_eq x slot) [
             | inl q ↦
                 let P : ℕ → Type 0 = λ z. mark_at new z + paid h r z done ≡ referrers h r z + rest z in
                 subst P (sym q) (omega (arith, c.sum slot lies, less slot, one, above, here))
             | inr d ↦
-                let none : cond {A = ℕ} (leads_to x w) 1 0 ≡ 0 = ap (λ z. cond {A = ℕ} (leads_to x z) 1 0) e ∙ ap (λ b. cond {A = ℕ} b 1 0) (leads-other slot x d) in
+                let none : cond {A = ℕ} (leads_to x w) 1 0 ≡ 0 = ap (λ z. cond {A = ℕ} (leads_to x z) 1 0) e
+                ∙ ap (λ b. cond {A = ℕ} b 1 0) (leads-other slot x d) in
                 omega (arith, c.sum x l, less x, none, other x d)
           ]),
           here,
-          (λ x z. elim (cases_eq x slot) [ inl q ↦ let y : mark_at old slot ≡ 0 = ap (mark_at old) (sym q) ∙ z in absurd (omega (arith, y, above)) | inr d ↦ other x d ∙ z ]),
+          (λ x z. elim (cases_eq x slot) [
+            | inl q ↦ let y : mark_at old slot ≡ 0 = ap (mark_at old) (sym q) ∙ z in
+                absurd (omega (arith, y, above))
+            | inr d ↦ other x d ∙ z
+          ]),
           other,
         )
 
 -- the mark is above 0 where a field is still owed
-pub count-above : (h : Heap) (r : ℕ) (roots : Roots) (first : Table) (was rest : ℕ → ℕ) (done zeros : List ℕ) (t : Table) (head : Option ℕ) (s : ℕ) → was s ≡ cond {A = ℕ} (leads_to s (Slot s)) 1 0 + rest s → Counts h r roots first was done zeros t head → LiesIn h r s → 0 < mark_at t s
+pub count-above : (h : Heap) (r : ℕ) (roots : Roots) (first : Table) (was rest : ℕ → ℕ) (done zeros : List ℕ)
+    (t : Table) (head : Option ℕ) (s : ℕ) → was s ≡ cond {A = ℕ} (leads_to s (Slot s)) 1 0 + rest s
+    → Counts h r roots first was done zeros t head → LiesIn h r s → 0 < mark_at t s
 count-above h r roots first was rest done zeros t head s e c l =
     let one : cond {A = ℕ} (leads_to s (Slot s)) 1 0 ≡ 1 = ap (λ b. cond {A = ℕ} b 1 0) (leads-self s) in
     omega (arith, c.sum s l, e, one, paid-le h r roots done s c.spends)
 
 -- the head of the zero list is done next, and all its fields are owed
-pub count-pop : (h : Heap) (r : ℕ) (roots : Roots) (first : Table) (done zeros : List ℕ) (t : Table) (s : ℕ) → Counts h r roots first nothing done zeros t (Some s) → (rest : List ℕ) × Counts h r roots first (owed h s 0) (s ∷ done) rest t (link_at t s)
+pub count-pop : (h : Heap) (r : ℕ) (roots : Roots) (first : Table) (done zeros : List ℕ) (t : Table) (s : ℕ)
+    → Counts h r roots first nothing done zeros t (Some s)
+    → (rest : List ℕ) × Counts h r roots first (owed h s 0) (s ∷ done) rest t (link_at t s)
 count-pop h r roots first done [] t s c = let q : Some s ≡ None = c.chain in cc
 count-pop h r roots first done (z ∷ rest) t s c =
     let same : s ≡ z = num_is s z c.chain.0 in
@@ -280,8 +331,19 @@ count-pop h r roots first done (z ∷ rest) t s c =
       rest,
       record {
         heap = c.heap;
-        sum = λ x l. omega (arith, c.sum x l, owed-all h r x s lies, sum_by-cons (λ p. weight r x (body_at h p)) s done);
-        spends = (lies, c.zero_root s (inl same), c.zero_done s (inl same), (λ p k l f. all-done h r roots done s p k c.spends full l f), c.spends);
+        sum = λ x l. omega (
+          arith,
+          c.sum x l,
+          owed-all h r x s lies,
+          sum_by-cons (λ p. weight r x (body_at h p)) s done,
+        );
+        spends = (
+          lies,
+          c.zero_root s (inl same),
+          c.zero_done s (inl same),
+          (λ p k l f. all-done h r roots done s p k c.spends full l f),
+          c.spends,
+        );
         chain = subst C (ap (link_at t) (sym same)) c.chain.2;
         zero_lies = λ x m. c.zero_lies x (inr m);
         zero_mark = λ x m. c.zero_mark x (inr m);
@@ -302,7 +364,9 @@ count-pop h r roots first done (z ∷ rest) t s c =
     num_is a b q = cc
 
 -- behind the last field nothing is owed
-pub count-done : (h : Heap) (r : ℕ) (roots : Roots) (first : Table) (was rest : ℕ → ℕ) (done zeros : List ℕ) (t : Table) (head : Option ℕ) → ((s : ℕ) → was s ≡ rest s) → Counts h r roots first was done zeros t head → Counts h r roots first rest done zeros t head
+pub count-done : (h : Heap) (r : ℕ) (roots : Roots) (first : Table) (was rest : ℕ → ℕ) (done zeros : List ℕ) (t : Table)
+    (head : Option ℕ) → ((s : ℕ) → was s ≡ rest s) → Counts h r roots first was done zeros t head
+    → Counts h r roots first rest done zeros t head
 count-done h r roots first was rest done zeros t head e c = record {
   heap = c.heap;
   sum = λ x l. omega (arith, c.sum x l, e x);
@@ -322,16 +386,20 @@ count-done h r roots first was rest done zeros t head e c = record {
 pub lowered-none : (h : Heap) (r slot : ℕ) (t : Table) (head : Option ℕ) → t.heap ≡ h → Lowered h r slot 0 t t head head
 lowered-none h r slot t head e = record { heap = e; counts = λ roots first done zeros c. (zeros, c) }
 
-pub lowers-heap : (r : ℕ) (w : Word) (head result : Option ℕ) (old new : Table) → Lowers r w head result old new → new.heap ≡ old.heap
+pub lowers-heap : (r : ℕ) (w : Word) (head result : Option ℕ) (old new : Table) → Lowers r w head result old new
+    → new.heap ≡ old.heap
 lowers-heap r w head result old new g = elim g [
   | inl p ↦ ap (λ (t : Table). t.heap) p.same
   | inr q ↦ elim q [ inl p ↦ ap (λ (t : Table). t.heap) p.new_is | inr p ↦ ap (λ (t : Table). t.heap) p.new_is ]
 ]
 
-pub lowered-more : (h : Heap) (r slot k : ℕ) (old mid new : Table) (head middle result : Option ℕ) (w : Word) → field_at h slot k ≡ Some w → Lowers r w middle result mid new → Lowered h r slot k old mid head middle → Lowered h r slot (k + 1) old new head result
+pub lowered-more : (h : Heap) (r slot k : ℕ) (old mid new : Table) (head middle result : Option ℕ) (w : Word)
+    → field_at h slot k ≡ Some w → Lowers r w middle result mid new → Lowered h r slot k old mid head middle
+    → Lowered h r slot (k + 1) old new head result
 lowered-more h r slot k old mid new head middle result w at g f = record {
   heap = lowers-heap r w middle result mid new g ∙ f.heap;
   counts = λ roots first done zeros c.
       let d = f.counts roots first done zeros c in
-      count-turn h r roots first (owed h slot k) (owed h slot (k + 1)) done d.0 mid new middle result w (owed-next h slot k w at) g d.1;
+      count-turn h r roots first (owed h slot k)
+      (owed h slot (k + 1)) done d.0 mid new middle result w (owed-next h slot k w at) g d.1;
 }

@@ -16,7 +16,8 @@ use Rattle.rg_regions.proofs.Callers.OneShrinks.{grove_shrinks}
 use Rattle.rg_count.specs.Counted.{Counted}
 
 -- what leads to a spent cell is spent
-pub spent-back : (h : Heap) (r : ℕ) (roots : Roots) (s k to : ℕ) → LiesIn h r s → field_at h s k ≡ Some (Slot to) → Spent h r roots to
+pub spent-back : (h : Heap) (r : ℕ) (roots : Roots) (s k to : ℕ) → LiesIn h r s → field_at h s k ≡ Some (Slot to)
+    → Spent h r roots to
     → Spent h r roots s
 spent-back h r roots s k to l f w = let z = w.1.earlier w.2.0 to s k w.2.1 l f in (w.0, w.1, (z.0, z.2))
 
@@ -25,7 +26,8 @@ pub spent-root : (h : Heap) (r : ℕ) (roots : Roots) (s : ℕ) → Stands h roo
 spent-root h r roots s n w = w.1.no_root w.2.0 s w.2.1 n
 
 -- the bridge is a root, and what isn't spent leads to nothing that is spent
-pub grove-kept : (c : Table) (t : RegionTable) (key : ℕ) (rec : Record) (slots : List Word) (temps : List ℕ) (cells : Table)
+pub grove-kept : (c : Table) (t : RegionTable) (key : ℕ) (rec : Record) (slots : List Word) (temps : List ℕ)
+    (cells : Table)
     (regions : RegionTable) → Grove c t → record_at t key ≡ Some rec → rec.manager ≡ Count
     → Counted c t key rec (roots_of rec.bridge slots temps) cells regions → Grove cells regions
 grove-kept c t key rec slots temps cells regions g e counting w =

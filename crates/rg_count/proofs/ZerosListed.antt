@@ -1,5 +1,6 @@
 -- Each turn of the search for cells without a count.
-use Rattle.std.proofs.Common.{◌≡◌, ◌≢◌, ℕ, ◌+◌, ◌<◌, List, [], ◌∷◌, length, Option, Some, None, get_or, set, refl, ap, sym, ◌∙◌, subst, arith, ◌⊎◌, inl, inr, slice_get}
+use Rattle.std.proofs.Common.{◌≡◌, ◌≢◌, ℕ, ◌+◌, ◌<◌, List, [], ◌∷◌, length, Option, Some, None, get_or, set, refl, ap}
+use Rattle.std.proofs.Common.{sym, ◌∙◌, subst, arith, ◌⊎◌, inl, inr, slice_get}
 use Rattle.std.proofs.lemmas.List.{get_or-set_same, get_or-set_other}
 use Rattle.std.proofs.lemmas.Bool.{cases_eq, cases_lt}
 use Rattle.rg_cells.specs.Table.{Table, mark_at, link_at}
@@ -24,7 +25,10 @@ listed-none members t = record {
 }
 
 -- a member has a count, or is a root
-pub listed-skip : (members : List ℕ) (n s : ℕ) (old mid : Table) (head : Option ℕ) → ((i j s : ℕ) → slice_get members i ≡ Some s → slice_get members j ≡ Some s → i ≡ j) → slice_get members n ≡ Some s → ((mark_at mid s ≢ 0) ⊎ (link_at mid s ≡ Some s)) → Listed members n old mid head → Listed members (n + 1) old mid head
+pub listed-skip : (members : List ℕ) (n s : ℕ) (old mid : Table) (head : Option ℕ)
+    → ((i j s : ℕ) → slice_get members i ≡ Some s → slice_get members j ≡ Some s → i ≡ j) → slice_get members n ≡ Some s
+    → ((mark_at mid s ≢ 0) ⊎ (link_at mid s ≡ Some s)) → Listed members n old mid head
+    → Listed members (n + 1) old mid head
 listed-skip members n s old mid head once at why w = record {
   zeros = w.zeros;
   heap = w.heap;
@@ -36,7 +40,8 @@ listed-skip members n s old mid head once at why w = record {
     | inr a ↦
         let e : i ≡ n = omega (arith, l) in
         let same : s ≡ x = num_is s x (sym at ∙ ap (slice_get members) (sym e) ∙ q) in
-        let fresh : Has w.zeros s → ⊥ = λ m. let y = w.each s m in let v : y.0 ≡ n = once y.0 n s y.2 at in omega (arith, v, y.1) in
+        let fresh : Has w.zeros s → ⊥ = λ m. let y = w.each s m in let v : y.0 ≡ n = once y.0 n s y.2 at in
+        omega (arith, v, y.1) in
         elim why [
           | inl b ↦ absurd (b (ap (λ ms. get_or ms s 0) w.marks ∙ ap (mark_at old) same ∙ z))
           | inr b ↦ absurd (d (ap (link_at old) (sym same) ∙ sym (w.same s fresh) ∙ b ∙ ap Some same))
@@ -47,18 +52,29 @@ listed-skip members n s old mid head once at why w = record {
 }
 
 -- a member without a count that is no root
-pub listed-more : (members : List ℕ) (n s : ℕ) (old mid new : Table) (head : Option ℕ) → ((i j s : ℕ) → slice_get members i ≡ Some s → slice_get members j ≡ Some s → i ≡ j) → slice_get members n ≡ Some s → mark_at mid s ≡ 0 → link_at mid s ≢ Some s → s < length mid.links → new ≡ record mid { links = set mid.links s head } → Listed members n old mid head → Listed members (n + 1) old new (Some s)
+pub listed-more : (members : List ℕ) (n s : ℕ) (old mid new : Table) (head : Option ℕ)
+    → ((i j s : ℕ) → slice_get members i ≡ Some s → slice_get members j ≡ Some s → i ≡ j) → slice_get members n ≡ Some s
+    → mark_at mid s ≡ 0 → link_at mid s ≢ Some s → s < length mid.links
+    → new ≡ record mid { links = set mid.links s head } → Listed members n old mid head
+    → Listed members (n + 1) old new (Some s)
 listed-more members n s old mid new head once at zero off room e w =
-    let fresh : Has w.zeros s → ⊥ = λ m. let y = w.each s m in let v : y.0 ≡ n = once y.0 n s y.2 at in omega (arith, v, y.1) in
+    let fresh : Has w.zeros s → ⊥ = λ m. let y = w.each s m in let v : y.0 ≡ n = once y.0 n s y.2 at in
+    omega (arith, v, y.1) in
     let self : link_at new s ≡ head = ap (λ (t : Table). link_at t s) e ∙ get_or-set_same mid.links s head None room in
-    let other : (x : ℕ) → x ≢ s → link_at new x ≡ link_at mid x = λ x d. ap (λ (t : Table). link_at t x) e ∙ get_or-set_other mid.links s x head None d in
+    let other : (x : ℕ) → x ≢ s → link_at new x ≡ link_at mid x = λ x d. ap (λ (t : Table). link_at t x) e
+    ∙ get_or-set_other mid.links s x head None d in
     let Z : ℕ → Type 0 = λ z. Has w.zeros z in
     let C : Option ℕ → Type 0 = λ o. Chained new.links o w.zeros in
     record {
       zeros = s ∷ w.zeros;
       heap = ap (λ (t : Table). t.heap) e ∙ w.heap;
       marks = ap (λ (t : Table). t.marks) e ∙ w.marks;
-      chain = (refl, fresh, subst C (sym self) (chained_agree mid.links new.links head w.zeros (λ k m. other k (λ q. fresh (subst Z q m))) w.chain));
+      chain = (
+        refl,
+        fresh,
+        subst C (sym self)
+            (chained_agree mid.links new.links head w.zeros (λ k m. other k (λ q. fresh (subst Z q m))) w.chain),
+      );
       each = λ x m. elim m [
         | inl q ↦ (
           n,
@@ -75,7 +91,8 @@ listed-more members n s old mid new head once at zero off room e w =
       ];
       same = λ x k. other x (λ q. k (inl q)) ∙ w.same x (λ m. k (inr m));
       off = λ x m l. elim (cases_eq x s) [
-        | inl q ↦ fresh (subst Z q (chained-head mid.links head w.zeros x w.chain (sym self ∙ ap (link_at new) (sym q) ∙ l)))
+        | inl q ↦ fresh (subst Z q (chained-head mid.links head w.zeros x w.chain
+            (sym self ∙ ap (link_at new) (sym q) ∙ l)))
         | inr d ↦ elim m [ inl q ↦ d q | inr k ↦ w.off x k (sym (other x d) ∙ l) ]
       ];
     }

@@ -7,12 +7,14 @@ use Rattle.rg_regions.specs.Spent.{Spent}
 use Rattle.rg_regions.specs.Grove.{referrers}
 use Rattle.rg_regions.specs.Collection.{OneShrinks}
 
--- Of the region exactly what is spent is freed, and all else of it is kept as it was. All other cells and records stay, and of
--- the region's own record the members alone change.
-pub record Counted (c : Table) (t : RegionTable) (key : ℕ) (rec : Record) (roots : Roots) (cells : Table) (regions : RegionTable) : Type 0
+-- Of the region exactly what is spent is freed, and all else of it is kept as it was. All other cells and records stay,
+-- and of the region's own record the members alone change.
+pub record Counted (c : Table) (t : RegionTable) (key : ℕ) (rec : Record) (roots : Roots) (cells : Table)
+    (regions : RegionTable) : Type 0
   where
     pub shrinks : OneShrinks c t key rec cells regions
-    pub kept : (s : ℕ) → LiesIn c.heap rec.number s → (Spent c.heap rec.number roots s → ⊥) → body_at cells.heap s ≡ body_at c.heap s
+    pub kept : (s : ℕ) → LiesIn c.heap rec.number s → (Spent c.heap rec.number roots s → ⊥)
+        → body_at cells.heap s ≡ body_at c.heap s
     pub gone : (s : ℕ) → Spent c.heap rec.number roots s → body_at cells.heap s ≡ None
     -- so what was freed is spent
     pub freed : (s : ℕ) → LiesIn c.heap rec.number s → body_at cells.heap s ≡ None → Spent c.heap rec.number roots s

@@ -1,4 +1,5 @@
--- A word of a region's cell leads into another region, which becomes the head of a chain (docs/architecture.md, "Regions").
+-- A word of a region's cell leads into another region, which becomes the head of a chain (docs/architecture.md,
+-- "Regions").
 use Rattle.std.specs.Prelude.{◌≡◌, ◌≢◌, ℕ, ◌⊎◌, ◌<◌, List, length, Option, Some, slice_index, slice_set}
 use Rattle.rg_base.specs.declared.value.Word.{Word}
 use Rattle.rg_base.specs.declared.value.Word.TheVariants.{Slot}

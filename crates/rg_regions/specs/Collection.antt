@@ -35,9 +35,10 @@ abbrev pub IsSameCell : (old new : Table) → (slot : ℕ) → Type 0
 IsSameCell old new s =
     (body_at new.heap s ≡ body_at old.heap s) × (mark_at new s ≡ mark_at old s) × (link_at new s ≡ link_at old s)
 
--- Cells of one region may have gone, and nothing else has: each body is as it was or gone, and other cells and other regions
--- stay; of the region's own record the members alone change.
-pub record OneShrinks (c : Table) (t : RegionTable) (key : ℕ) (rec : Record) (cells : Table) (regions : RegionTable) : Type 0 where
+-- Cells of one region may have gone, and nothing else has: each body is as it was or gone, and other cells and other
+-- regions stay; of the region's own record the members alone change.
+pub record OneShrinks (c : Table) (t : RegionTable) (key : ℕ) (rec : Record) (cells : Table)
+    (regions : RegionTable) : Type 0 where
   pub fewer : (s : ℕ) → (body_at cells.heap s ≡ body_at c.heap s) ⊎ (body_at cells.heap s ≡ None)
   pub others : (s : ℕ) → (LiesIn c.heap rec.number s → ⊥) → IsSameCell c cells s
   -- the next serial, the slots ever held, and the next number stay
@@ -45,7 +46,8 @@ pub record OneShrinks (c : Table) (t : RegionTable) (key : ℕ) (rec : Record) (
   pub high : high_of cells.heap ≡ high_of c.heap
   pub numbers : regions.next ≡ t.next
   pub records : (k : ℕ) → k ≢ key → record_at regions k ≡ record_at t k
-  pub own : (now : Record) × (record_at regions key ≡ Some now) × (now.number ≡ rec.number) × (now.manager ≡ rec.manager)
+  pub own : (now : Record) × (record_at regions key ≡ Some now) × (now.number ≡ rec.number)
+      × (now.manager ≡ rec.manager)
       × (now.bridge ≡ rec.bridge) × Members cells.heap rec.number now.members
 
 -- a region lost its owner: a cell that was freed has a field that leads into it
@@ -60,7 +62,8 @@ pub record Lost (h : Heap) (r : ℕ) (freed : ℕ → Type 0) (q : ℕ) : Type 0
   pub other : q ≢ r
 
 -- exactly the regions that lost their owner are chained, each once; links of other keys stay
-pub record Orphaning (h : Heap) (t : RegionTable) (r : ℕ) (freed : ℕ → Type 0) (links : List (Option ℕ)) (orphans : Option ℕ)
+pub record Orphaning (h : Heap) (t : RegionTable) (r : ℕ) (freed : ℕ → Type 0) (links : List (Option ℕ))
+    (orphans : Option ℕ)
     (keys : List ℕ) : Type 0 where
   pub chain : Chained links orphans keys
   pub each : (k : ℕ) → Has keys k → (q : ℕ) × HasNumber t k q × Lost h r freed q

@@ -10,8 +10,8 @@ use Rattle.rg_regions.specs.Chains.{OwnsOnce}
 abbrev pub Every : ℕ → Type 0
 Every s = ⊤
 
--- A field of a member that goes leads into another region: a field of one of the first members, or one of the first fields of
--- the next.
+-- A field of a member that goes leads into another region: a field of one of the first members, or one of the first
+-- fields of the next.
 pub record Owned (h : Heap) (goes : ℕ → Type 0) (r : ℕ) (members : List ℕ) (i k q : ℕ) : Type 0 where
   pub place : ℕ
   pub field : ℕ
@@ -36,7 +36,8 @@ pub record OwnedInFront (h : Heap) (goes : ℕ → Type 0) (r : ℕ) (members re
 
 abbrev pub ChainsOwned : Heap → (goes : ℕ → Type 0) → ℕ → (members rest : List ℕ) → RegionTable → (i k : ℕ)
     → RegionTable → Option ℕ → Type 0
-ChainsOwned h goes r members rest t i k now head = (keys : List ℕ) × OwnedInFront h goes r members rest t i k now head keys
+ChainsOwned h goes r members rest t i k now head = (keys : List ℕ)
+    × OwnedInFront h goes r members rest t i k now head keys
 
 -- no field of the region leads into one of the rest
 abbrev pub OwnsNone : Heap → ℕ → RegionTable → List ℕ → Type 0
@@ -44,7 +45,8 @@ OwnsNone h r t rest = (key q s k to : ℕ) → Has rest key → HasNumber t key 
     q ≢ r → LiesIn h r s → field_at h s k ≡ Some (Slot to) → LiesIn h q to → ⊥
 
 -- so many fields of one member that goes were followed
-pub record FollowsFields (h : Heap) (goes : ℕ → Type 0) (r slot k : ℕ) (old new : RegionTable) (head result : Option ℕ) : Type 0 where
+pub record FollowsFields (h : Heap) (goes : ℕ → Type 0) (r slot k : ℕ) (old new : RegionTable)
+    (head result : Option ℕ) : Type 0 where
   pub records : new.records ≡ old.records
   pub chained : (members rest : List ℕ) (t : RegionTable) (i : ℕ) →
       OwnsOnce h r members → OwnsNone h r t rest → i < length members → slice_index members i ≡ slot → goes slot →

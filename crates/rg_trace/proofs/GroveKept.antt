@@ -12,7 +12,8 @@ use Rattle.rg_regions.proofs.Callers.OneShrinks.{grove_shrinks}
 use Rattle.rg_trace.specs.Collected.{Collected}
 
 -- the bridge is a root, and what is in reach leads to what is in reach
-pub grove-kept : (c : Table) (t : RegionTable) (key : ℕ) (rec : Record) (slots : List Word) (temps : List ℕ) (cells : Table)
+pub grove-kept : (c : Table) (t : RegionTable) (key : ℕ) (rec : Record) (slots : List Word) (temps : List ℕ)
+    (cells : Table)
     (regions : RegionTable) → Grove c t → record_at t key ≡ Some rec → rec.manager ≡ Trace
     → Collected c t key rec (roots_of rec.bridge slots temps) cells regions → Grove cells regions
 grove-kept c t key rec slots temps cells regions g e traced w =

@@ -1,5 +1,7 @@
--- Why the roots of the top window suffice: behind a collection every reference still leads to a held cell (docs/architecture.md, "Mark and sweep").
-use Rattle.std.proofs.Common.{◌≡◌, ◌≢◌, ℕ, ◌≤◌, List, Option, Some, None, IsSome, refl, ap, sym, ◌∙◌, subst, arith, ◌⊎◌, inl, inr, option_map}
+-- Why the roots of the top window suffice: behind a collection every reference still leads to a held cell
+-- (docs/architecture.md, "Mark and sweep").
+use Rattle.std.proofs.Common.{◌≡◌, ◌≢◌, ℕ, ◌≤◌, List, Option, Some, None, IsSome, refl, ap, sym, ◌∙◌, subst, arith, ◌⊎◌}
+use Rattle.std.proofs.Common.{inl, inr, option_map}
 use Rattle.std.proofs.Common.{slice_get}
 use Rattle.std.proofs.lemmas.Bool.{cases_eq}
 use Rattle.rg_base.specs.declared.object.Label.{Label}
@@ -22,8 +24,10 @@ pub record Local (h : Heap) (r : ℕ) (bridge : Option ℕ) (lower : List Word) 
       ((i : ℕ) × (slice_get temps i ≡ Some s)) ⊎ (bridge ≡ Some x)
 
 -- a held cell that is in reach, where it lies in the region, is still held
-survives : (c : Table) (t : RegionTable) (key : ℕ) (rec : Record) (roots : Roots) (cells : Table) (regions : RegionTable)
-    → Collected c t key rec roots cells regions → (x : ℕ) → IsHeld c.heap x → (LiesIn c.heap rec.number x → Reach c.heap rec.number roots x)
+survives : (c : Table) (t : RegionTable) (key : ℕ) (rec : Record) (roots : Roots) (cells : Table)
+    (regions : RegionTable)
+    → Collected c t key rec roots cells regions → (x : ℕ) → IsHeld c.heap x
+    → (LiesIn c.heap rec.number x → Reach c.heap rec.number roots x)
     → IsHeld cells.heap x
 survives c t key rec roots cells regions w x h near =
     let P : Option Body → Type 0 = λ o. IsSome o in
@@ -33,7 +37,8 @@ survives c t key rec roots cells regions w x h near =
     ]
 
 -- the cells to which fields and slots lead are held behind the collection, where they were before
-pub local-roots : (c : Table) (t : RegionTable) (key : ℕ) (rec : Record) (slots lower : List Word) (temps : List ℕ) (cells : Table)
+pub local-roots : (c : Table) (t : RegionTable) (key : ℕ) (rec : Record) (slots lower : List Word) (temps : List ℕ)
+    (cells : Table)
     (regions : RegionTable) → Grove c t → record_at t key ≡ Some rec → Local c.heap rec.number rec.bridge lower temps →
     ((s k x : ℕ) → field_at c.heap s k ≡ Some (Slot x) → IsHeld c.heap x) →
     Collected c t key rec (record { bridge = rec.bridge; slots = slots; temps = temps }) cells regions →
@@ -44,12 +49,16 @@ local-roots c t key rec slots lower temps cells regions g e local held w =
     let roots : Roots = record { bridge = rec.bridge; slots = slots; temps = temps } in
     let r = rec.number in
     let safe = survives c t key rec roots cells regions w in
-    let by_bridge : (x : ℕ) → LiesIn c.heap r x → rec.bridge ≡ Some x → Reach c.heap r roots x = λ x l b. (0, omega arith, (l, is_bridge b)) in
-    let near : (s k x : ℕ) (l : Option Label) → label_at c.heap s ≡ l → label_at cells.heap s ≡ l → field_at c.heap s k ≡ Some (Slot x)
+    let by_bridge : (x : ℕ) → LiesIn c.heap r x → rec.bridge ≡ Some x
+    → Reach c.heap r roots x = λ x l b. (0, omega arith, (l, is_bridge b)) in
+    let near : (s k x : ℕ) (l : Option Label) → label_at c.heap s ≡ l → label_at cells.heap s ≡ l
+    → field_at c.heap s k ≡ Some (Slot x)
     → LiesIn c.heap r x → Reach c.heap r roots x = λ s k x l. elim l as
-    (λ l. label_at c.heap s ≡ l → label_at cells.heap s ≡ l → field_at c.heap s k ≡ Some (Slot x) → LiesIn c.heap r x → Reach c.heap r roots x) [
+    (λ l. label_at c.heap s ≡ l → label_at cells.heap s ≡ l → field_at c.heap s k ≡ Some (Slot x) → LiesIn c.heap r x
+    → Reach c.heap r roots x) [
       | None ↦ λ a b f i. absurd (none_has c.heap s k (Slot x) a f)
-      | Some m ↦ elim m as (λ m. label_at c.heap s ≡ Some m → label_at cells.heap s ≡ Some m → field_at c.heap s k ≡ Some (Slot x)
+      | Some m ↦ elim m as (λ m. label_at c.heap s ≡ Some m → label_at cells.heap s ≡ Some m
+          → field_at c.heap s k ≡ Some (Slot x)
           → LiesIn c.heap r x → Reach c.heap r roots x) [
             | Region q ↦ λ a b f i. elim (cases_eq q r) [
               | inl p ↦ let L : ℕ → Type 0 = λ n. LiesIn cells.heap n s in w.closed s k x (w.within s (subst L p b)) f i

@@ -1,4 +1,5 @@
--- From the forest to the parts of a collection, and from the parts to the whole (docs/architecture.md, "Mark and sweep").
+-- From the forest to the parts of a collection, and from the parts to the whole (docs/architecture.md, "Mark and
+-- sweep").
 use Rattle.std.proofs.Common.{◌≡◌, ◌≢◌, ℕ, ◌<◌, List, length, Option, Some, None, get_or, refl, ap, sym, ◌∙◌, subst}
 use Rattle.std.proofs.Common.{arith, ◌⊎◌, inl, inr, option_map}
 use Rattle.std.proofs.lemmas.Bool.{cases_eq, cases_lt}
@@ -19,7 +20,8 @@ use Rattle.rg_trace.proofs.Marks.Colours.{walk-lies}
 use Rattle.rg_regions.proofs.Callers.Told.{one_record, owns_once, lies_or_not}
 
 -- a cell of a trace region is white
-pub all-white : (c : Table) (t : RegionTable) (key : ℕ) (rec : Record) → Grove c t → record_at t key ≡ Some rec → rec.manager ≡ Trace → (s : ℕ)
+pub all-white : (c : Table) (t : RegionTable) (key : ℕ) (rec : Record) → Grove c t → record_at t key ≡ Some rec
+    → rec.manager ≡ Trace → (s : ℕ)
     → LiesIn c.heap rec.number s → mark_at c s ≡ 0
 all-white c t key rec g e m s l = g.unmarked s (λ k r f n i.
     let same : r.number ≡ rec.number = number_is r.number rec.number (sym i ∙ l) in
@@ -34,7 +36,8 @@ all-white c t key rec g e m s l = g.unmarked s (λ k r f n i.
     number_is a b q = cc
 
 -- behind marking, before the first turn of sweeping
-pub swept-begin : (c d : Table) (t : RegionTable) (key : ℕ) (rec : Record) → Grove c t → record_at t key ≡ Some rec → d.heap ≡ c.heap
+pub swept-begin : (c d : Table) (t : RegionTable) (key : ℕ) (rec : Record) → Grove c t → record_at t key ≡ Some rec
+    → d.heap ≡ c.heap
     → Swept d rec.number rec.members (length rec.members) d
 swept-begin c d t key rec g e h =
     let m = g.members key rec e in
@@ -66,27 +69,34 @@ swept-begin c d t key rec g e h =
     some_is a b q = cc
 
 -- what a marked region's marks say, turned round
-pub white-gone : (h : Heap) (r : ℕ) (roots : Roots) (old new : Table) (s : ℕ) → Marked h r roots old new → LiesIn h r s → (Reach h r roots s → ⊥)
+pub white-gone : (h : Heap) (r : ℕ) (roots : Roots) (old new : Table) (s : ℕ) → Marked h r roots old new → LiesIn h r s
+    → (Reach h r roots s → ⊥)
     → mark_at new s ≡ 0
-white-gone h r roots old new s m l n = elim (cases_eq (mark_at new s) 0) [ inl e ↦ e | inr d ↦ absurd (n (m.only s l (omega arith))) ]
+white-gone h r roots old new s m l n =
+    elim (cases_eq (mark_at new s) 0) [ inl e ↦ e | inr d ↦ absurd (n (m.only s l (omega arith))) ]
 
-pub not-grey : (h : Heap) (r : ℕ) (roots : Roots) (old new : Table) → Marked h r roots old new → (s : ℕ) → LiesIn h r s → mark_at new s ≢ 1
+pub not-grey : (h : Heap) (r : ℕ) (roots : Roots) (old new : Table) → Marked h r roots old new → (s : ℕ) → LiesIn h r s
+    → mark_at new s ≢ 1
 not-grey h r roots old new m s l e = let q = m.reached s (m.only s l (omega (arith, e))) in omega (arith, q, e)
 
 some_number : (a b : ℕ) → Some a ≡ Some b → a ≡ b
 some_number a b q = cc
 
 -- the parts together
-pub collected : (c d : Table) (t u : RegionTable) (key : ℕ) (rec : Record) (roots : Roots) (cells : Table) (regions : RegionTable) → record_at t key
-    ≡ Some rec → Marked c.heap rec.number roots c d → u.records ≡ t.records → u.next ≡ t.next → Sweeps d u key cells regions 0
+pub collected : (c d : Table) (t u : RegionTable) (key : ℕ) (rec : Record) (roots : Roots) (cells : Table)
+    (regions : RegionTable) → record_at t key
+    ≡ Some rec → Marked c.heap rec.number roots c d → u.records ≡ t.records → u.next ≡ t.next
+    → Sweeps d u key cells regions 0
     → Collected c t key rec roots cells regions
 collected c d t u key rec roots cells regions e m a b w =
     let f : record_at u key ≡ Some rec = ap (λ (rs : List (Option Record)). get_or rs key None) a ∙ e in
     let s = w.left rec f in
     let h : d.heap ≡ c.heap = m.heap in
     let D : Heap → ℕ → Type 0 = λ z x. LiesIn z rec.number x in
-    let to_d : (x : ℕ) → LiesIn c.heap rec.number x → LiesIn d.heap rec.number x = λ x l. let P : Heap → Type 0 = λ z. D z x in subst P (sym h) l in
-    let of_d : (x : ℕ) → LiesIn d.heap rec.number x → LiesIn c.heap rec.number x = λ x l. let P : Heap → Type 0 = λ z. D z x in subst P h l in
+    let to_d : (x : ℕ) → LiesIn c.heap rec.number x → LiesIn d.heap rec.number x = λ x l. let P : Heap
+    → Type 0 = λ z. D z x in subst P (sym h) l in
+    let of_d : (x : ℕ) → LiesIn d.heap rec.number x → LiesIn c.heap rec.number x = λ x l. let P : Heap
+    → Type 0 = λ z. D z x in subst P h l in
     let bodies : (x : ℕ) → body_at d.heap x ≡ body_at c.heap x = λ x. ap (λ (z : Heap). body_at z x) h in
     record {
       shrinks = record {
@@ -94,7 +104,8 @@ collected c d t u key rec roots cells regions e m a b w =
           | inl z ↦ inl (ap body_in (s.5.others x (λ l. z (of_d x l))).0 ∙ bodies x)
           | inr l ↦ elim (s.5.either x (to_d x l)) [ inl a ↦ inl (a ∙ bodies x) | inr a ↦ inr a.0 ]
         ];
-        others = λ x n. let o = s.5.others x (λ l. n (of_d x l)) in (ap body_in o.0 ∙ bodies x, o.1 ∙ (m.outside x n).0, o.2 ∙ (m.outside x n).1);
+        others = λ x n. let o = s.5.others x (λ l. n (of_d x l)) in
+            (ap body_in o.0 ∙ bodies x, o.1 ∙ (m.outside x n).0, o.2 ∙ (m.outside x n).1);
         serials = s.5.next ∙ ap (λ (z : Heap). z.next) h;
         high = s.5.high ∙ ap high_of h;
         numbers = w.next ∙ b;
@@ -108,17 +119,23 @@ collected c d t u key rec roots cells regions e m a b w =
           record {
             lie = λ j x q. let e = some_number (get_or s.0.members j 0) x
                 (sym (slice_get-get_or s.0.members j 0 (slice_get_within s.0.members j x q)) ∙ q) in let L : ℕ
-                → Type 0 = λ y. LiesIn cells.heap rec.number y in subst L e (s.5.lie j (slice_get_within s.0.members j x q));
+                → Type 0 = λ y. LiesIn cells.heap rec.number y in
+                subst L e (s.5.lie j (slice_get_within s.0.members j x q));
             all = λ x l. let p = s.5.all x l in (p.0, slice_get-get_or s.0.members p.0 0 p.1 ∙ ap Some p.2);
             once = λ i j x p q.
                 let a = slice_get_within s.0.members i x p in
                 let b = slice_get_within s.0.members j x q in
-                let z : get_or s.0.members i 0 ≡ get_or s.0.members j 0 = some_number (get_or s.0.members i 0) (get_or s.0.members j 0)
+                let z : get_or s.0.members i 0 ≡ get_or s.0.members j 0 = some_number (get_or s.0.members i 0)
+                (get_or s.0.members j 0)
                 (sym (slice_get-get_or s.0.members i 0 a) ∙ p ∙ sym q ∙ slice_get-get_or s.0.members j 0 b) in
                 elim (cases_lt i j) [
                   | inl y ↦ absurd (s.5.once i j y b z)
                   | inr y
-                      ↦ elim (cases_eq i j) [ inl k ↦ k | inr k ↦ let v : j < i = omega arith in absurd (s.5.once j i v a (sym z)) ]
+                      ↦ elim (cases_eq i j) [
+                        | inl k ↦ k
+                        | inr k ↦ let v : j < i = omega arith in
+                            absurd (s.5.once j i v a (sym z))
+                      ]
                 ];
           },
         );
@@ -137,11 +154,13 @@ collected c d t u key rec roots cells regions e m a b w =
           ];
       unmarked = λ x l. elim (s.5.either x (to_d x l)) [
         | inl a ↦ let i : LiesIn cells.heap rec.number x = ap (option_map (λ (y : Body). y.label)) a
-            ∙ to_d x l in let p = s.5.all x i in let q = s.5.after p.0 (omega arith) p.1 in ap (λ y. mark_at cells y) (sym p.2) ∙ q.1
+            ∙ to_d x l in let p = s.5.all x i in let q = s.5.after p.0 (omega arith) p.1 in
+            ap (λ y. mark_at cells y) (sym p.2) ∙ q.1
         | inr a ↦ a.1
       ];
       within = λ x i.
-          let l : LiesIn c.heap rec.number x = of_d x (ap (option_map (λ (y : Body). y.label)) (sym (s.5.only x i)) ∙ i) in
+          let l : LiesIn c.heap rec.number x =
+          of_d x (ap (option_map (λ (y : Body). y.label)) (sym (s.5.only x i)) ∙ i) in
           let p = s.5.all x i in
           let q = s.5.after p.0 (omega arith) p.1 in
           let v : get_or d.marks (get_or s.0.members p.0 0) 0 ≡ mark_at d x = ap (λ y. get_or d.marks y 0) p.2 in
@@ -152,16 +171,20 @@ collected c d t u key rec roots cells regions e m a b w =
     }
 
 -- exactly the regions that lost their owner were chained
-pub orphaning : (c d : Table) (t u : RegionTable) (key : ℕ) (rec : Record) (roots : Roots) (result : Option ℕ) → Grove c t → record_at t key
-    ≡ Some rec → Marked c.heap rec.number roots c d → FollowsWhite d.heap d.marks rec.number rec.members (length rec.members) t u result
+pub orphaning : (c d : Table) (t u : RegionTable) (key : ℕ) (rec : Record) (roots : Roots) (result : Option ℕ)
+    → Grove c t → record_at t key
+    ≡ Some rec → Marked c.heap rec.number roots c d
+    → FollowsWhite d.heap d.marks rec.number rec.members (length rec.members) t u result
     → ChainsOrphans c.heap t rec.number (OutOfReach c.heap rec.number roots) u.links result
 orphaning c d t u key rec roots result g e m o =
     let h : d.heap ≡ c.heap = m.heap in
     let k = o.orphans in
     let ms = g.members key rec e in
     let ow = owns_once c t key rec g e in
-    let lies_of : (q x : ℕ) → LiesIn d.heap q x → LiesIn c.heap q x = λ q x l. let P : Heap → Type 0 = λ z. LiesIn z q x in subst P h l in
-    let of_lies : (q x : ℕ) → LiesIn c.heap q x → LiesIn d.heap q x = λ q x l. let P : Heap → Type 0 = λ z. LiesIn z q x in subst P (sym h) l in (
+    let lies_of : (q x : ℕ) → LiesIn d.heap q x → LiesIn c.heap q x = λ q x l. let P : Heap
+    → Type 0 = λ z. LiesIn z q x in subst P h l in
+    let of_lies : (q x : ℕ) → LiesIn c.heap q x → LiesIn d.heap q x = λ q x l. let P : Heap
+    → Type 0 = λ z. LiesIn z q x in subst P (sym h) l in (
       k.0,
       record {
         chain = k.1.chain;

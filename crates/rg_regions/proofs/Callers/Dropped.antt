@@ -26,7 +26,8 @@ module _ (t : RegionTable) (key : ℕ) (rec : Record) (e : record_at t key ≡ S
       is_now : (z : Record) → record_at regions key ≡ Some z → z ≡ now
       is_now z g = one_record z now (sym g ∙ f)
 
-      of_now : (r : Record) (z : Record) → record_at t key ≡ Some r → record_at regions key ≡ Some z → P r.number z.members
+      of_now : (r : Record) (z : Record) → record_at t key ≡ Some r → record_at regions key ≡ Some z
+          → P r.number z.members
           → P rec.number now.members
       of_now r z q g p =
           let R : Record → Type 0 = λ y. P y.number now.members in
@@ -60,7 +61,8 @@ module _ (t : RegionTable) (key : ℕ) (rec : Record) (e : record_at t key ≡ S
           record {
             links = ap (λ (z : RegionTable). z.links) n ∙ l.0 ∙ w.links;
             next = ap (λ (z : RegionTable). z.next) n ∙ l.1 ∙ w.next;
-            others = λ k d. ap (λ (z : RegionTable). record_at z k) n ∙ changed_other regions key (without_member place) k d ∙ w.others k d;
+            others = λ k d. ap (λ (z : RegionTable). record_at z k) n
+                ∙ changed_other regions key (without_member place) k d ∙ w.others k d;
             left = λ r q.
                 let s = w.left r q in
                 let same = is_now s.0 s.1 in

@@ -1,9 +1,11 @@
--- A cell that was freed: nothing is at its slot, and as many slots were ever held; a member that was dropped: the last one took
--- its place (docs/architecture.md, "Regions").
-use Rattle.std.proofs.Common.{◌≡◌, ◌≢◌, ℕ, ◌+◌, ◌-◌, ◌<◌, zero, suc, List, [], ◌∷◌, length, Option, Some, None, IsSome, get_or, set}
+-- A cell that was freed: nothing is at its slot, and as many slots were ever held; a member that was dropped: the last
+-- one took its place (docs/architecture.md, "Regions").
+use Rattle.std.proofs.Common.{◌≡◌, ◌≢◌, ℕ, ◌+◌, ◌-◌, ◌<◌, zero, suc, List, [], ◌∷◌, length, Option, Some, None, IsSome}
+use Rattle.std.proofs.Common.{get_or, set}
 use Rattle.std.proofs.Common.{refl, ap, sym, ◌∙◌, subst, arith, ◌⊎◌, inl, inr, option_map, count_by, is_some, cond}
 use Rattle.std.specs.List.{swap_remove}
-use Rattle.std.proofs.lemmas.List.{get_or-set_same, get_or-set_other, get_or-take, get_or_past, length-take-le, length-set}
+use Rattle.std.proofs.lemmas.List.{get_or-set_same, get_or-set_other, get_or-take, get_or_past, length-take-le}
+use Rattle.std.proofs.lemmas.List.{length-set}
 use Rattle.std.proofs.lemmas.Bool.{cases_eq, cases_lt}
 use Rattle.std.proofs.lemmas.List.Sums.{sum_by-cons}
 use Rattle.rg_cells.specs.declared.cell.Body.{Body}
@@ -74,15 +76,18 @@ freed_lies h r s x d i = let L : Option (Option Body) → Type 0 = λ o. option_
 -- the elements after a swap_remove
 pub swapped-length : (xs : List ℕ) (p : ℕ) → p < length xs → length (swap_remove xs p 0) + 1 ≡ length xs
 swapped-length xs p l =
-    let n : length (set xs p (get_or xs (length xs - 1) 0)) ≡ length xs = length-set xs p (get_or xs (length xs - 1) 0) in
+    let n : length (set xs p (get_or xs (length xs - 1) 0)) ≡ length xs =
+    length-set xs p (get_or xs (length xs - 1) 0) in
     let m = length-take-le (length xs - 1) (set xs p (get_or xs (length xs - 1) 0)) (omega (arith, n)) in
     omega (arith, m)
 
-pub swapped-here : (xs : List ℕ) (p : ℕ) → p + 1 < length xs → get_or (swap_remove xs p 0) p 0 ≡ get_or xs (length xs - 1) 0
+pub swapped-here : (xs : List ℕ) (p : ℕ) → p + 1 < length xs
+    → get_or (swap_remove xs p 0) p 0 ≡ get_or xs (length xs - 1) 0
 swapped-here xs p l = get_or-take (length xs - 1) (set xs p (get_or xs (length xs - 1) 0)) p 0 (omega arith)
     ∙ get_or-set_same xs p (get_or xs (length xs - 1) 0) 0 (omega arith)
 
-pub swapped-other : (xs : List ℕ) (p j : ℕ) → j ≢ p → j + 1 < length xs → get_or (swap_remove xs p 0) j 0 ≡ get_or xs j 0
+pub swapped-other : (xs : List ℕ) (p j : ℕ) → j ≢ p → j + 1 < length xs
+    → get_or (swap_remove xs p 0) j 0 ≡ get_or xs j 0
 swapped-other xs p j d l = get_or-take (length xs - 1) (set xs p (get_or xs (length xs - 1) 0)) j 0 (omega arith)
     ∙ get_or-set_other xs p j (get_or xs (length xs - 1) 0) 0 d
 

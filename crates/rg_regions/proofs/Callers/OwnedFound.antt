@@ -1,5 +1,6 @@
 -- Each turn of the search for the regions that cells own which go (docs/architecture.md, "Regions").
-use Rattle.std.proofs.Common.{◌≡◌, ◌≢◌, ℕ, ◌+◌, ◌<◌, ◌≤◌, List, ◌∷◌, length, Option, Some, None, get_or, set, refl, ap, sym, ◌∙◌}
+use Rattle.std.proofs.Common.{◌≡◌, ◌≢◌, ℕ, ◌+◌, ◌<◌, ◌≤◌, List, ◌∷◌, length, Option, Some, None, get_or, set, refl, ap}
+use Rattle.std.proofs.Common.{sym, ◌∙◌}
 use Rattle.std.proofs.Common.{subst, arith, ◌⊎◌, inl, inr, option_map}
 use Rattle.std.proofs.lemmas.List.{get_or-set_same, get_or-set_other}
 use Rattle.std.proofs.lemmas.Bool.{cases_lt}
@@ -33,7 +34,8 @@ module _ (h : Heap) (goes : ℕ → Type 0) (r : ℕ) (members : List ℕ) where
   }
 
   -- it is owned by the fields that are meant
-  earlier : (i k m n q : ℕ) (o : Owned h goes r members i k q) → ((o.place < m) ⊎ ((o.place ≡ m) × (o.field < n))) → Owned h goes r members m n q
+  earlier : (i k m n q : ℕ) (o : Owned h goes r members i k q) → ((o.place < m) ⊎ ((o.place ≡ m) × (o.field < n)))
+      → Owned h goes r members m n q
   earlier i k m n q o e = record {
     place = o.place;
     field = o.field;
@@ -50,14 +52,16 @@ module _ (h : Heap) (goes : ℕ → Type 0) (r : ℕ) (members : List ℕ) where
   next_field i k q = later i k i (k + 1) q (λ p f w. elim w [ inl a ↦ inl a | inr b ↦ inr (b.0, omega (arith, b.1)) ])
 
   next_member : (i k q : ℕ) → Owned h goes r members i k q → Owned h goes r members (i + 1) 0 q
-  next_member i k q = later i k (i + 1) 0 q (λ p f w. elim w [ inl a ↦ inl (omega (arith, a)) | inr b ↦ inl (omega (arith, b.0)) ])
+  next_member i k q = later i k (i + 1) 0 q
+      (λ p f w. elim w [ inl a ↦ inl (omega (arith, a)) | inr b ↦ inl (omega (arith, b.0)) ])
 
   -- the last field of those followed is the one that leads there
   at_last : (i k q : ℕ) (o : Owned h goes r members i (k + 1) q) → o.place ≡ i → o.field < k + 1 → k ≤ o.field
       → field_at h (get_or members i 0) k ≡ Some (Slot o.to)
   at_last i k q o p l a =
       let same : o.field ≡ k = omega (arith, l, a) in
-      ap (λ z. field_at h (get_or members i 0) z) (sym same) ∙ ap (λ z. field_at h (get_or members z 0) o.field) (sym p) ∙ o.leads
+      ap (λ z. field_at h (get_or members i 0) z) (sym same) ∙ ap (λ z. field_at h (get_or members z 0) o.field) (sym p)
+      ∙ o.leads
 
   module _ (rest : List ℕ) (t : RegionTable) where
     -- before the first member
@@ -124,10 +128,12 @@ module _ (h : Heap) (goes : ℕ → Type 0) (r : ℕ) (members : List ℕ) where
         back q w = elim (cases_lt w.place i) [
           | inl a ↦ earlier (i + 1) 0 i k q w (inl a)
           | inr a ↦
-              let p : w.place ≡ i = elim (w.early) [ inl b ↦ omega (arith, a, b) | inr b ↦ absurd (omega (arith, b.1)) ] in
+              let p : w.place ≡ i = elim (w.early)
+              [ inl b ↦ omega (arith, a, b) | inr b ↦ absurd (omega (arith, b.1)) ] in
               let f : field_at h (get_or members i 0) w.field ≡ Some (Slot w.to) =
               ap (λ z. field_at h (get_or members z 0) w.field) (sym p) ∙ w.leads in
-              let b : w.field < width (body_at h (get_or members i 0)) = field_within h (get_or members i 0) w.field (Slot w.to) f in
+              let b : w.field < width (body_at h (get_or members i 0)) =
+              field_within h (get_or members i 0) w.field (Slot w.to) f in
               earlier (i + 1) 0 i k q w (inr (p, omega (arith, b, l)))
         ]
 
@@ -154,19 +160,25 @@ module _ (h : Heap) (goes : ℕ → Type 0) (r : ℕ) (members : List ℕ) where
         back q w = elim (cases_lt w.place i) [
           | inl a ↦ earlier (i + 1) 0 i 0 q w (inl a)
           | inr a ↦
-              let p : w.place ≡ i = elim (w.early) [ inl b ↦ omega (arith, a, b) | inr b ↦ absurd (omega (arith, b.1)) ] in
+              let p : w.place ≡ i = elim (w.early)
+              [ inl b ↦ omega (arith, a, b) | inr b ↦ absurd (omega (arith, b.1)) ] in
               let G : ℕ → Type 0 = λ z. goes (get_or members z 0) in
               absurd (stays (subst G p w.gone))
         ]
 
     -- a field of a member leads into another region, which becomes the head of the chain
-    pub owned_more : (i k : ℕ) (now new : RegionTable) (head result : Option ℕ) (to q : ℕ) → OwnsOnce h r members → OwnsNone h r t rest
-        → i < length members → goes (get_or members i 0) → field_at h (get_or members i 0) k ≡ Some (Slot to) → LiesIn h q to → q ≢ r
-        → PutFirst now q head result new → ChainsOwned h goes r members rest t i k now head → ChainsOwned h goes r members rest t i (k + 1) new result
+    pub owned_more : (i k : ℕ) (now new : RegionTable) (head result : Option ℕ) (to q : ℕ) → OwnsOnce h r members
+        → OwnsNone h r t rest
+        → i < length members → goes (get_or members i 0) → field_at h (get_or members i 0) k ≡ Some (Slot to)
+        → LiesIn h q to → q ≢ r
+        → PutFirst now q head result new → ChainsOwned h goes r members rest t i k now head
+        → ChainsOwned h goes r members rest t i (k + 1) new result
     owned_more i k now new head result to q w free l gone leads lies other c o =
-        let N : (key n : ℕ) → List (Option Record) → Type 0 = λ key n rs. option_map (λ (r : Record). r.number) (get_or rs key None) ≡ Some n in
+        let N : (key n : ℕ) → List (Option Record)
+        → Type 0 = λ key n rs. option_map (λ (r : Record). r.number) (get_or rs key None) ≡ Some n in
         let has : HasNumber t c.key q = subst (N c.key q) o.1.records c.has in
-        let only : (key : ℕ) → HasNumber t key q → key ≡ c.key = λ key n. c.only key (subst (N key q) (sym o.1.records) n) in
+        let only : (key : ℕ) → HasNumber t key q
+        → key ≡ c.key = λ key n. c.only key (subst (N key q) (sym o.1.records) n) in
         let links : new.links ≡ set now.links c.key head = ap (λ (z : RegionTable). z.links) c.new_is in
         let fresh : Has o.0 c.key → ⊥ = λ m. elim (o.1.each c.key m) [
           | inl a ↦ free c.key q (get_or members i 0) k to a has other (w.lie i l) leads lies
@@ -232,12 +244,15 @@ module _ (h : Heap) (goes : ℕ → Type 0) (r : ℕ) (members : List ℕ) where
           },
         )
 
-pub fields_none : (h : Heap) (goes : ℕ → Type 0) (r slot : ℕ) (t : RegionTable) (head : Option ℕ) → FollowsFields h goes r slot 0 t t head head
+pub fields_none : (h : Heap) (goes : ℕ → Type 0) (r slot : ℕ) (t : RegionTable) (head : Option ℕ)
+    → FollowsFields h goes r slot 0 t t head head
 fields_none h goes r slot t head = record { records = refl; chained = λ members rest s i o f l e a q. q }
 
 -- a word of a member was followed
-pub fields_more : (h : Heap) (goes : ℕ → Type 0) (r slot k : ℕ) (old mid new : RegionTable) (head middle result : Option ℕ) (w : Word) → field_at h slot k ≡ Some w
-    → Follows h r w middle result mid new → FollowsFields h goes r slot k old mid head middle → FollowsFields h goes r slot (k + 1) old new head result
+pub fields_more : (h : Heap) (goes : ℕ → Type 0) (r slot k : ℕ) (old mid new : RegionTable)
+    (head middle result : Option ℕ) (w : Word) → field_at h slot k ≡ Some w
+    → Follows h r w middle result mid new → FollowsFields h goes r slot k old mid head middle
+    → FollowsFields h goes r slot (k + 1) old new head result
 fields_more h goes r slot k old mid new head middle result w at g f = elim g [
   | inl s ↦
       let F : Option ℕ → RegionTable → Type 0 = λ o t. FollowsFields h goes r slot (k + 1) old t head o in
@@ -254,7 +269,8 @@ fields_more h goes r slot k old mid new head middle result w at g f = elim g [
     records = ap (λ (t : RegionTable). t.records) j.chains.new_is ∙ f.records;
     chained = λ members rest t i o n l e a q.
         owned_more h goes r members rest t i k mid new middle result j.to j.number o n l (subst goes (sym e) a)
-        (ap (λ y. field_at h y k) e ∙ at ∙ ap Some j.leads) j.lies j.other j.chains (f.chained members rest t i o n l e a q);
+        (ap (λ y. field_at h y k) e ∙ at ∙ ap Some j.leads) j.lies j.other j.chains
+        (f.chained members rest t i o n l e a q);
   }
 ]
   where

@@ -1,4 +1,5 @@
--- What sweeping has done when it stands before so many of the members, from the last one down (docs/architecture.md, "Mark and sweep").
+-- What sweeping has done when it stands before so many of the members, from the last one down (docs/architecture.md,
+-- "Mark and sweep").
 use Rattle.std.specs.Prelude.{◌≡◌, ◌≢◌, ℕ, ◌<◌, ◌≤◌, ◌⊎◌, List, length, None, Some, slice_index, slice_index_or}
 use Rattle.rg_cells.specs.Table.{Table, body_at, mark_at, link_at, high_of}
 use Rattle.rg_regions.specs.Table.{Record, RegionTable, record_at}
@@ -13,12 +14,15 @@ pub record Swept (c : Table) (r : ℕ) (members : List ℕ) (place : ℕ) (t : T
   pub once : (j k : ℕ) → j < k → k < length members → slice_index members j ≢ slice_index members k
   pub all : (s : ℕ) → LiesIn t.heap r s → (j : ℕ) × (j < length members) × (slice_index members j ≡ s)
   pub before : (j : ℕ) → j < place → mark_at t (slice_index members j) ≡ slice_index c.marks (slice_index members j)
-  pub after : (j : ℕ) → place ≤ j → j < length members → (1 < slice_index c.marks (slice_index members j)) × (mark_at t (slice_index members j) ≡ 0)
+  pub after : (j : ℕ) → place ≤ j → j < length members
+      → (1 < slice_index c.marks (slice_index members j)) × (mark_at t (slice_index members j) ≡ 0)
   pub black : (s : ℕ) → LiesIn c.heap r s → 1 < slice_index c.marks s → body_at t.heap s ≡ body_at c.heap s
-  pub others : (s : ℕ) → (LiesIn c.heap r s → ⊥) → (slice_index_or t.heap.slots s None ≡ slice_index_or c.heap.slots s None)
+  pub others : (s : ℕ) → (LiesIn c.heap r s → ⊥)
+      → (slice_index_or t.heap.slots s None ≡ slice_index_or c.heap.slots s None)
       × (mark_at t s ≡ mark_at c s) × (link_at t s ≡ link_at c s)
   pub only : (s : ℕ) → LiesIn t.heap r s → body_at t.heap s ≡ body_at c.heap s
-  pub either : (s : ℕ) → LiesIn c.heap r s → (body_at t.heap s ≡ body_at c.heap s) ⊎ ((body_at t.heap s ≡ None) × (mark_at t s ≡ 0))
+  pub either : (s : ℕ) → LiesIn c.heap r s
+      → (body_at t.heap s ≡ body_at c.heap s) ⊎ ((body_at t.heap s ≡ None) × (mark_at t s ≡ 0))
   pub next : t.heap.next ≡ c.heap.next
   pub high : high_of t.heap ≡ high_of c.heap
 
