@@ -4,3 +4,7 @@ pub mod Chain
 pub mod Fewer
 pub mod RegionComes
 pub mod Changed
+pub mod Freed
+pub mod OwnedFound
+pub mod OneShrinks
+pub mod Dropped

@@ -4,9 +4,13 @@
 //! `add` and `reserve` alone take memory. `specs/{Reach,Spent,Grove}` say what collectors keep.
 #![tactic(auto)]
 
+mod chains;
+mod counts;
 mod places;
 mod region;
 mod regions;
 
+pub use chains::chain_word;
+pub use counts::{added, removed};
 pub use region::Kept;
 pub use regions::Regions;

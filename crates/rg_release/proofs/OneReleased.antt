@@ -9,10 +9,11 @@ use Rattle.rg_cells.specs.Table.{Heap, Table, field_at}
 use Rattle.rg_regions.specs.Table.{Record, RegionTable, record_at, link_at, Has, Chained, removed}
 use Rattle.rg_regions.specs.Reach.{LiesIn}
 use Rattle.rg_regions.specs.Grove.{Grove}
-use Rattle.rg_regions.proofs.Callers.Told.{one_number, number_of}
+use Rattle.rg_regions.specs.Chains.{OwnsOnce}
+use Rattle.rg_regions.proofs.Callers.Told.{one_number, number_of, owns_once}
 use Rattle.rg_regions.proofs.Callers.Chain.{chained_agree}
 use Rattle.rg_release.specs.Released.{Unowned}
-use Rattle.rg_release.specs.Inner.Owned.{OwnedInFront, OwnsOnce, OwnsNone}
+use Rattle.rg_regions.specs.Owned.{Every, OwnedInFront, OwnsNone}
 use Rattle.rg_release.specs.Inner.Turns.{FreedFirst, IsClear, Emptied, Turned}
 
 -- one region less
@@ -37,25 +38,13 @@ none_there (x ∷ xs) (suc key) = none_there xs key
 slot_of : (a b : ℕ) → Some a ≡ Some b → a ≡ b
 slot_of a b q = cc
 
--- the members of a region of the forest own each other region at most once
-pub owns_once : (c : Table) (t : RegionTable) (key : ℕ) (rec : Record) → Grove c t → record_at t key ≡ Some rec
-    → OwnsOnce c.heap rec.number rec.members
-owns_once c t key rec g e =
-    let m = g.members key rec e in
-    record {
-      one = λ q s k to s2 k2 to2 d l f i l2 f2 i2. g.one_in q rec.number s k to rec.number s2 k2 to2 (λ z. d (sym z)) l f i (λ z. d (sym z)) l2 f2 i2;
-      lie = λ j l. m.lie j (get_or rec.members j 0) (slice_get-get_or rec.members j 0 l);
-      once = λ a b l n z.
-          m.once a b (get_or rec.members a 0) (slice_get-get_or rec.members a 0 l) (slice_get-get_or rec.members b 0 n ∙ ap Some (sym z));
-    }
-
 -- no field of the first of unowned regions leads into one of the others
 pub owns_none : (h : Heap) (t : RegionTable) (key r : ℕ) (rest : List ℕ) → Unowned h t (key ∷ rest) → OwnsNone h r t rest
 owns_none h t key r rest l = λ k q s f to m n d i x y. l.alone k q r s f to (inr m) n (λ z. d (sym z)) i x y
 
 module _ (c : Table) (t : RegionTable) (key : ℕ) (rec : Record) (rest : List ℕ) (mid : RegionTable) (head : Option ℕ) (cells : Table)
     (regions : RegionTable) (keys : List ℕ) (g : Grove c t) (e : record_at t key ≡ Some rec) (fresh : Has rest key → ⊥)
-    (o : OwnedInFront c.heap rec.number rec.members rest t (length rec.members) 0 mid head keys)
+    (o : OwnedInFront c.heap Every rec.number rec.members rest t (length rec.members) 0 mid head keys)
     (f : FreedFirst c rec.members (length rec.members) cells) (is : regions ≡ removed mid key) where
   own : OwnsOnce c.heap rec.number rec.members
   own = owns_once c t key rec g e
@@ -124,6 +113,7 @@ module _ (c : Table) (t : RegionTable) (key : ℕ) (rec : Record) (rest : List �
           to = a.to;
           early = inl p.1;
           within = p.1;
+          gone = tt;
           leads = subst P (sym p.2) a.leads;
           lies = a.child_has;
           other = λ z. a.differ (sym z);

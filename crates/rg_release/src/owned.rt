@@ -2,49 +2,14 @@
 
 ghost use Rattle.std.specs.Prelude.{◌≡◌, ℕ, Some, length};
 ghost use Rattle.rg_cells.specs.Table.{IsHeld, body_at, field_at, width};
-ghost use Rattle.rg_regions.specs.Table.{Record, InTable, record_at};
-ghost use Rattle.rg_release.specs.Inner.Owned.{PutFirst, Follows, FollowsFields, FollowsMembers};
-ghost use Rattle.rg_release.specs.Inner.Owned.{OwnsOnce, LeadsToHeld, AllInTable};
+ghost use Rattle.rg_regions.specs.Table.{Record, record_at};
+ghost use Rattle.rg_regions.specs.Chains.{AllInTable, LeadsToHeld, OwnsOnce};
+ghost use Rattle.rg_regions.specs.Owned.{Every, FollowsFields};
+ghost use Rattle.rg_release.specs.Inner.Owned.{FollowsMembers};
 
-use rg_base::{Label, Word};
+use rg_base::Word;
 use rg_cells::Cells;
-use rg_regions::Regions;
-
-/// The region of a number becomes the head of the chain.
-fn chain(regions: &mut Regions, number: u64, head: Option<usize>) -> Option<usize>
-    requires { InTable regions.old number }
-    ensures { PutFirst regions.old number head result regions.new }
-{
-    let Some(key) = regions.key(number) else {
-        unreachable!();
-    };
-    regions.set_link(key, head);
-    Some(key)
-}
-
-/// A region into which a word leads from a region becomes the head of the chain.
-fn chain_word(
-    cells: &Cells,
-    regions: &mut Regions,
-    region: u64,
-    w: Word,
-    head: Option<usize>,
-) -> Option<usize>
-    requires held { (s : ℕ) → w ≡ Word.Slot s → IsHeld cells.now.heap s }
-    requires labels { AllInTable cells.now.heap regions.old }
-    ensures { Follows cells.now.heap region w head result regions.old regions.new }
-{
-    let Word::Slot(to) = w else {
-        return head;
-    };
-    let Label::Region(number) = cells.label(to) else {
-        return head;
-    };
-    if number == region {
-        return head;
-    }
-    chain(regions, number, head)
-}
+use rg_regions::{Regions, chain_word};
 
 /// The regions into which the fields of a cell lead become heads of the chain, one by one.
 fn chain_fields(
@@ -58,7 +23,7 @@ fn chain_fields(
     requires lead { (k s : ℕ) → field_at cells.now.heap slot k ≡ Some (Word.Slot s)
         → IsHeld cells.now.heap s }
     requires labels { AllInTable cells.now.heap regions.old }
-    ensures { FollowsFields cells.now.heap region slot (width (body_at cells.now.heap slot))
+    ensures { FollowsFields cells.now.heap Every region slot (width (body_at cells.now.heap slot))
         regions.old regions.new head result }
 {
     for k in 0..cells.field_count(slot) {

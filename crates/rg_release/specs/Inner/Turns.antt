@@ -4,7 +4,8 @@ use Rattle.rg_cells.specs.Table.{Heap, Table, IsHeld, body_at, mark_at, high_of}
 use Rattle.rg_regions.specs.Table.{Record, RegionTable, record_at, link_at, HasNumber, Has, Chained}
 use Rattle.rg_regions.specs.Reach.{LiesIn}
 use Rattle.rg_regions.specs.Grove.{Grove, Parent}
-use Rattle.rg_release.specs.Released.{Unowned, BelowOne, IsSameCell, CellsStay, RecordsStay}
+use Rattle.rg_release.specs.Released.{Unowned, BelowOne, CellsStay, RecordsStay}
+use Rattle.rg_regions.specs.Collection.{IsSameCell}
 
 -- a cell is held at each of some slots, and they differ
 abbrev pub AllHeld : Heap → List ℕ → Type 0
