@@ -7,3 +7,4 @@ mod Marked
 mod OwnedChained
 mod Ended
 mod Left
+pub mod Callers

@@ -3,4 +3,5 @@ pub mod Answers
 pub mod Changes
 pub mod Writes
 pub mod Ends
+pub mod Opened
 pub mod Inner
