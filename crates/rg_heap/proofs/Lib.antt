@@ -7,4 +7,5 @@ mod Marked
 mod OwnedChained
 mod Ended
 mod Left
+mod Orphaned
 pub mod Callers

@@ -4,4 +4,5 @@ pub mod Changes
 pub mod Writes
 pub mod Ends
 pub mod Opened
+pub mod Collects
 pub mod Inner

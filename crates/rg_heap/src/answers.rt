@@ -16,3 +16,14 @@ pub struct Active {
     pub manager: Manager,
     pub held: u64,
 }
+
+/// A collection: the region's number, its manager, how many cells it had before and after, and how
+/// many regions went with those that were freed.
+#[derive(Clone, Copy)]
+pub struct Collected {
+    pub region: u64,
+    pub manager: Manager,
+    pub held: u64,
+    pub kept: u64,
+    pub released: u64,
+}

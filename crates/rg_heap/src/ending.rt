@@ -1,6 +1,7 @@
 //! Regions that go, and the cells of a window that is left (docs/architecture.md, "The heap").
 
-ghost use Rattle.std.specs.Prelude.{◌≡◌, ◌⊎◌, ◌∷◌, [], ℕ, Some, List, length, slice_get};
+ghost use Rattle.std.specs.Prelude.{◌≡◌, ◌⊎◌, ◌∷◌, ◌+◌, [], ℕ, Some, List, length, slice_get};
+ghost use Rattle.std.specs.Prelude.{count_by, is_some};
 ghost use Rattle.rg_cells.specs.Table.{IsHeld, body_at, width};
 ghost use Rattle.rg_regions.specs.Table.{Chained};
 ghost use Rattle.rg_release.specs.Released.{Unowned};
@@ -18,19 +19,22 @@ use rg_frames::Frames;
 use rg_regions::Regions;
 use rg_release::release;
 
-/// Releases the regions that are chained from a head, and all beneath them.
-pub fn release_all(cells: &mut Cells, regions: &mut Regions, head: Option<usize>)
+/// Releases the regions that are chained from a head, and all beneath them; answers how many they
+/// were.
+pub fn release_all(cells: &mut Cells, regions: &mut Regions, head: Option<usize>) -> u64
     requires sound { Sound cells.old regions.old }
     requires chain { (keys : List ℕ) × Chained regions.old.links head keys
         × Unowned cells.old.heap regions.old keys }
     ensures gone { (keys : List ℕ) → Chained regions.old.links head keys
         → Gone cells.old regions.old keys cells.new regions.new }
+    ensures count { result + count_by is_some regions.new.records
+        ≡ count_by is_some regions.old.records }
     ensures sound { Sound cells.new regions.new }
 {
     let Some(key) = head else {
-        return;
+        return 0;
     };
-    release(cells, regions, key);
+    release(cells, regions, key)
 }
 
 /// Releases the region of a key, and all beneath it.

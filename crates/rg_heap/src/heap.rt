@@ -1,7 +1,7 @@
 //! The heap: cells and regions (docs/architecture.md, "The heap").
 
 ghost use Rattle.std.specs.Prelude.{◌≡◌, ◌<◌, ℕ, [], true, false, IfOk, OnErr, length, option_map};
-ghost use Rattle.std.specs.Prelude.{Some, Err, ◌⊎◌, ◌≤◌, ◌↔◌};
+ghost use Rattle.std.specs.Prelude.{Some, Err, ◌⊎◌, ◌≤◌, ◌↔◌, ◌+◌, drop, sum_by};
 ghost use Rattle.rg_base.specs.declared.object.Label.TheVariants.{Region, Temp};
 ghost use Rattle.rg_cells.specs.declared.cell.Body.{Body as BodyOf};
 ghost use Rattle.rg_cells.specs.Table.{IsHeld, body_at, field_at, label_at, width, with_field};
@@ -14,21 +14,26 @@ ghost use Rattle.rg_heap.specs.Changes.{LeadsNowhere, OnActive, Makes, SameCells
 ghost use Rattle.rg_heap.specs.Changes.{Rewritten, OpensOne, as_it_is, with_one};
 ghost use Rattle.rg_heap.specs.Writes.{Comes, InActive, IsTemp, LeadsOut, Ownerless, Stays};
 ghost use Rattle.rg_heap.specs.Ends.{CanEnter, CanLeave, GoesAlong, IsTopTemp, NoCell};
-ghost use Rattle.rg_heap.specs.Ends.{OnRegion, OnSlot, Released};
+ghost use Rattle.rg_heap.specs.Ends.{OnRegion, OnSlot, Released, top_temps};
+ghost use Rattle.rg_regions.specs.Collection.{AllHeld, TempsLeadToHeld, WordsLeadToHeld};
+ghost use Rattle.rg_regions.specs.Collection.{OfRegion, region_fields, roots_of};
+ghost use Rattle.rg_heap.specs.Collects.{CollectsBy};
 ghost use Rattle.rg_heap.specs.Answers.{CanRead, Reads, AllLead, Shows, end_numbers, Tells};
 ghost use Rattle.rg_heap.specs.Answers.{LeadsIntoClosed};
 
-use crate::answers::{Active, Refusal};
+use crate::answers::{Active, Collected, Refusal};
+use crate::collecting::collect_by;
 use crate::ending::{end_temps, release_one};
 use crate::making::{make_bridge, make_in};
 use crate::reading::{region_of, vals};
 use crate::writing::write_field;
-use rg_base::{EndNumbers, Label, Manager, Memory, Place, Seen, Trap, Word};
+use rg_base::{EndNumbers, Label, Manager, Memory, Place, Seen, Steps, Trap, Word};
 use rg_cells::Cells;
 use rg_frames::Frames;
 use rg_regions::Regions;
 use std::alloc::Global;
 use std::marker::Model;
+use std::sync::ledger::Ledger;
 
 /// Cells and regions. The regions are a forest (`Grove`), between any two calls.
 #[derive(Drop)]
@@ -252,6 +257,31 @@ impl Heap {
             unreachable!();
         };
         release_one(&mut self.cells, &mut self.regions, key);
+    }
+
+    /// Collects the active region by its manager, and releases the regions that were owned by what
+    /// went; None exactly where the manager is an arena. The roots are the bridge, the slots from
+    /// the top window's base, and the top window's temporaries. One step is counted for each field
+    /// that is looked at.
+    pub fn collect<L: Ledger>(&mut self, frames: &Frames, steps: &mut Steps<L>) -> Option<Collected>
+        requires begun { Begun frames.now }
+        requires key { OnTop frames.now (λ top. IsKey self.old.regions top.region) }
+        requires slots { OnTop frames.now (λ top.
+            WordsLeadToHeld self.old.cells.heap (drop top.base frames.now.slots)) }
+        requires temps { AllHeld self.old.cells.heap (top_temps frames.now) }
+        requires temps_lead { TempsLeadToHeld self.old.cells.heap (top_temps frames.now) }
+        ensures collects { OnTop frames.now (λ top. OfRegion self.old.regions top.region (λ r.
+            CollectsBy r.manager self.old self.new top.region r (roots_of r.bridge
+            (drop top.base frames.now.slots) (top_temps frames.now)) result)) }
+        ensures cost { OnTop frames.now (λ top. OfRegion self.old.regions top.region (λ r.
+            steps.new ≤ steps.old
+            + sum_by (λ t. width (body_at self.old.cells.heap t)) (top_temps frames.now)
+            + region_fields self.old.cells.heap r.number)) }
+    {
+        let key = frames.top().region;
+        let slots = frames.slots();
+        let temps = frames.temps();
+        collect_by(&mut self.cells, &mut self.regions, key, slots, temps, steps)
     }
 
     /// The serial of a held cell.

@@ -4,11 +4,12 @@
 #![tactic(auto)]
 
 mod answers;
+mod collecting;
 mod ending;
 mod heap;
 mod making;
 mod reading;
 mod writing;
 
-pub use answers::{Active, Refusal};
+pub use answers::{Active, Collected, Refusal};
 pub use heap::Heap;
