@@ -5,3 +5,6 @@ pub mod Fewer
 pub mod RegionComes
 pub mod Changed
 pub mod Freed
+pub mod OwnedFound
+pub mod Removed
+pub mod HandedOver

@@ -5,10 +5,12 @@
 #![tactic(auto)]
 
 mod chains;
+mod owned;
 mod places;
 mod region;
 mod regions;
 
 pub use chains::chain_word;
+pub use owned::chain_owned;
 pub use region::Kept;
 pub use regions::Regions;

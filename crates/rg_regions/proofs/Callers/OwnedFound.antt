@@ -1,4 +1,4 @@
--- Each turn of the search for the regions that a region owns (docs/architecture.md, "Release").
+-- Each turn of the search for the regions that a region owns (docs/architecture.md, "Regions").
 use Rattle.std.proofs.Common.{◌≡◌, ◌≢◌, ℕ, ◌+◌, ◌<◌, ◌≤◌, List, ◌∷◌, length, Option, Some, None, get_or, set, refl, ap, sym, ◌∙◌}
 use Rattle.std.proofs.Common.{subst, arith, ◌⊎◌, inl, inr, option_map}
 use Rattle.std.proofs.lemmas.List.{get_or-set_same, get_or-set_other}
@@ -11,7 +11,7 @@ use Rattle.rg_regions.specs.Reach.{LiesIn}
 use Rattle.rg_regions.specs.Chains.{PutFirst, Follows, OwnsOnce}
 use Rattle.rg_regions.proofs.Callers.Told.{field_within, one_region, one_number, same_members}
 use Rattle.rg_regions.proofs.Callers.Chain.{chained_agree}
-use Rattle.rg_release.specs.Inner.Owned.{Owned, ChainsOwned, OwnsNone, FollowsFields, FollowsMembers}
+use Rattle.rg_regions.specs.Owned.{Owned, ChainsOwned, OwnsNone, FollowsFields, FollowsMembers}
 
 slot_is : (a b : ℕ) → Some (Slot a) ≡ Some (Slot b) → a ≡ b
 slot_is a b q = cc
