@@ -1,13 +1,9 @@
-// A library with one function.
+//! Regions that are frozen or merged (docs/architecture.md, "Freeze and merge"). `freeze` labels
+//! the cells of a closed region and of all regions beneath it as frozen and removes their
+//! records. It takes no memory.
 #![tactic(auto)]
 
-ghost use Rattle.std.specs.Prelude.{◌≡◌};
-ghost use Rattle.rg_move.specs.Echo.{echo_of};
+mod freezing;
+mod labels;
 
-// The `ensures` clause is the contract: what `echo` returns is `echo_of` of its argument, a definition
-// in `specs/Echo.antt`, which a caller's clause can cite too.
-pub fn echo(x: usize) -> usize
-    ensures { result ≡ echo_of x }
-{
-    x
-}
+pub use freezing::freeze;

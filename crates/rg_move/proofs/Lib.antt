@@ -1,0 +1,5 @@
+mod CellsLabelled
+mod OneFrozen
+mod PartFrozen
+mod GroveFrozen
+mod NextFrozen
