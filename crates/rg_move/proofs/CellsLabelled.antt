@@ -23,7 +23,7 @@ count-kept [] s o y e = cc
 count-kept (x ∷ xs) zero o y e = rw e
 count-kept (x ∷ xs) (suc s) o y e =
     sum_by-cons (λ z. cond (is_some z) 1 0) x (set xs s (Some y)) ∙ ap (λ n. cond (is_some x) 1 0 + n) (count-kept xs s o y e)
-        ∙ sym (sum_by-cons (λ z. cond (is_some z) 1 0) x xs)
+    ∙ sym (sum_by-cons (λ z. cond (is_some z) 1 0) x xs)
 
 with_label_is : (h : Heap) (s : ℕ) (l : Label) (b : Body) → body_at h s ≡ Some b → with_label h s l ≡ with_body h s (record b { label = l })
 with_label_is h s l b e = ap (λ (o : Option Body). elim o [ None ↦ h | Some b ↦ with_body h s (record b { label = l }) ]) e
@@ -38,14 +38,14 @@ label_here h s l held =
     let b = body_there (body_at h s) held in
     let o = held_once h s held in
     ap (λ z. body_at z s) (with_label_is h s l b.0 b.1)
-        ∙ ap body_in (set_there h.slots s o.0 (Some (Some (record b.0 { label = l }))) o.1)
-        ∙ ap (labelled l) (sym b.1)
+    ∙ ap body_in (set_there h.slots s o.0 (Some (Some (record b.0 { label = l }))) o.1)
+    ∙ ap (labelled l) (sym b.1)
 
 pub label_apart : (h : Heap) (s : ℕ) (l : Label) (x : ℕ) → IsHeld h s → x ≢ s → body_at (with_label h s l) x ≡ body_at h x
 label_apart h s l x held d =
     let b = body_there (body_at h s) held in
     ap (λ z. body_at z x) (with_label_is h s l b.0 b.1)
-        ∙ ap body_in (get_or-set_other h.slots s x (Some (Some (record b.0 { label = l }))) None d)
+    ∙ ap body_in (get_or-set_other h.slots s x (Some (Some (record b.0 { label = l }))) None d)
 
 pub label_kept : (h : Heap) (s : ℕ) (l : Label) → IsHeld h s → ((with_label h s l).next ≡ h.next) × (high_of (with_label h s l) ≡ high_of h)
 label_kept h s l held =
@@ -78,11 +78,11 @@ labelled_more l old t new members i once m held within is f =
     let s = get_or members i 0 in
     let was = f.others s (λ j n. once j i n m) in
     let apart : (x : ℕ) → x ≢ s → IsSameCell t new x =
-        λ x d. (
-          ap (λ (z : Table). body_at z.heap x) is ∙ label_apart t.heap s l x held d,
-          ap (λ z. mark_at z x) is ∙ get_or-set_other t.marks s x 0 0 d,
-          ap (λ (z : Table). get_or z.links x None) is,
-        ) in
+    λ x d. (
+      ap (λ (z : Table). body_at z.heap x) is ∙ label_apart t.heap s l x held d,
+      ap (λ z. mark_at z x) is ∙ get_or-set_other t.marks s x 0 0 d,
+      ap (λ (z : Table). get_or z.links x None) is,
+    ) in
     let here : IsLabelled l old new s = (
       ap (λ (z : Table). body_at z.heap s) is ∙ label_here t.heap s l held ∙ ap (labelled l) was.0,
       ap (λ z. mark_at z s) is ∙ get_or-set_same t.marks s 0 0 within,

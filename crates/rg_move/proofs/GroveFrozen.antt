@@ -55,12 +55,12 @@ module _ (c : Table) (t : RegionTable) (cells : Table) (regions : RegionTable) (
       total_alike F refl c.heap.slots cells.heap.slots (λ k. elim (either c t cells regions g w k) [
         | inl a ↦
             let now : belongs q (body_at cells.heap k) ≡ false =
-                belongs_not q (body_at cells.heap k) (λ l.
-                    let z : Some Frozen ≡ Some (Region q) = sym (frozen_now a.0 k a.1 a.2) ∙ l in
-                    cc) in
+            belongs_not q (body_at cells.heap k) (λ l.
+            let z : Some Frozen ≡ Some (Region q) = sym (frozen_now a.0 k a.1 a.2) ∙ l in
+            cc) in
             let was : belongs q (body_at c.heap k) ≡ false =
-                belongs_not q (body_at c.heap k) (λ l.
-                    n (one_gone a.0 q k a.2 l a.1)) in
+            belongs_not q (body_at c.heap k) (λ l.
+            n (one_gone a.0 q k a.2 l a.1)) in
             weightless q s (body_at cells.heap k) now ∙ sym (weightless q s (body_at c.heap k) was)
         | inr a ↦ ap F a.1.0
       ])
@@ -120,13 +120,13 @@ module _ (c : Table) (t : RegionTable) (cells : Table) (regions : RegionTable) (
             ];
         one_in = λ q p s k to p2 s2 k2 to2 d l f i d2 l2 f2 i2.
             g.one_in q p s k to p2 s2 k2 to2 d (was p s l) (sym (fld s k) ∙ f) (was q to i)
-                d2 (was p2 s2 l2) (sym (fld s2 k2) ∙ f2) (was q to2 i2);
+            d2 (was p2 s2 l2) (sym (fld s2 k2) ∙ f2) (was q to2 i2);
         none_into_first = λ p s k to d l f i. g.none_into_first p s k to d (was p s l) (sym (fld s k) ∙ f) (was 0 to i);
         no_cycle = λ q a. g.no_cycle q (above_was q q a);
         counts = λ k s z a m l.
             let x = lay c t cells regions g w z.number s l in
             let same : mark_at cells s ≡ mark_at c s =
-                elim (either c t cells regions g w s) [ inl a ↦ absurd (x.1 (one_gone a.0 z.number s a.2 x.0 a.1)) | inr a ↦ a.1.1 ] in
+            elim (either c t cells regions g w s) [ inl a ↦ absurd (x.1 (one_gone a.0 z.number s a.2 x.0 a.1)) | inr a ↦ a.1.1 ] in
             same ∙ g.counts k s z (rec_was k z a) m x.0 ∙ sym (referrers_on z.number s x.1);
         unmarked = λ s n. elim (either c t cells regions g w s) [
           | inl a ↦ a.3.1

@@ -1,5 +1,10 @@
 mod CellsLabelled
-mod OneFrozen
+mod MembersLabelled
 mod PartFrozen
 mod GroveFrozen
 mod NextFrozen
+mod FieldsCounted
+mod MembersMoved
+mod GroveJoined
+mod CellsJoined
+mod RecordsJoined

@@ -22,8 +22,8 @@ pub freezing_begin : (c : Table) (t : RegionTable) (key : ℕ) (regions : Region
 freezing_begin c t key regions o same next links =
     let at : (k : ℕ) → record_at regions k ≡ record_at t k = λ k. same_at k in
     let none : (q : ℕ) → IsGone t regions q → ⊥ = λ q a.
-        let v : None ≡ Some q = sym (ap (option_map (λ (z : Record). z.number)) (sym (at a.0) ∙ a.2)) ∙ a.1 in
-        cc in
+    let v : None ≡ Some q = sym (ap (option_map (λ (z : Record). z.number)) (sym (at a.0) ∙ a.2)) ∙ a.1 in
+    cc in
     record {
       hardened = record {
         records = λ k. inl (at k);
@@ -91,7 +91,7 @@ module _ (c : Table) (t : RegionTable) (key : ℕ) (cells : Table) (regions : Re
             let S : ℕ → Type 0 = λ n. LiesIn c.heap z.0 n in
             let G : ℕ → Type 0 = λ n. IsGone t regions n in
             let one = g.one_in q p s f to z.0 u.from u.field u.to d a.0 lead b
-                (λ n. u.differ (n ∙ sym same)) u.lies u.leads (subst L same u.child_has) in
+            (λ n. u.differ (n ∙ sym same)) u.lies u.leads (subst L same u.child_has) in
             a.1 (subst G (one_region c.heap s z.0 p (subst S (sym one.0) u.lies) a.0) z.2)
       ]
 
@@ -112,7 +112,7 @@ module _ (c : Table) (t : RegionTable) (key : ℕ) (cells : Table) (regions : Re
         owns = record {
           one = λ q s f to s2 f2 to2 d l x y l2 x2 y2.
               u.one q s f to s2 f2 to2 d (was rec.number s l) (field_was s f to x) (was q to y)
-                  (was rec.number s2 l2) (field_was s2 f2 to2 x2) (was q to2 y2);
+              (was rec.number s2 l2) (field_was s2 f2 to2 x2) (was q to2 y2);
           lie = λ j n. lies_on c t cells regions g i.hardened rec.number (get_or rec.members j 0) here (u.lie j n);
           once = u.once;
         };
@@ -169,11 +169,14 @@ module _ (c : Table) (t : RegionTable) (key : ℕ) (cells : Table) (regions : Re
     left_below j q h v = elim v [
       | inl z ↦ let P : ℕ → Type 0 = λ u. HasNumber t u q in (q, subst P z h, inl refl)
       | inr z ↦
-          let b = z.2 in
-          (b.0, b.1, elim (b.2) [
-            | inl y ↦ let P : ℕ → Type 0 = λ u. Parent c.heap u q in inr ((j, h), direct (subst P y z.1))
-            | inr y ↦ inr ((j, h), further y.1 z.1)
-          ])
+          let b = z.2 in (
+            b.0,
+            b.1,
+            elim (b.2) [
+              | inl y ↦ let P : ℕ → Type 0 = λ u. Parent c.heap u q in inr ((j, h), direct (subst P y z.1))
+              | inr y ↦ inr ((j, h), further y.1 z.1)
+            ],
+          )
     ]
 
     first_below : BelowKey c.heap t key rec.number
@@ -249,10 +252,10 @@ module _ (c : Table) (t : RegionTable) (key : ℕ) (cells : Table) (regions : Re
       links = λ j n.
           let d : j ≢ k = λ z. let P : ℕ → Type 0 = λ u. HasNumber t u rec.number in n rec.number first_below (subst P (sym z) number_first) in
           let m : Has keys j → ⊥ = λ y.
-              let v = left_on j y in
-              let h : HasNumber regions j v.0 = ap (option_map (λ (z : Record). z.number)) (sym (hand.stay j d)) ∙ v.1 in
-              let has = number_was c t cells regions g i.hardened j v.0 h in
-              n v.0 (left_below j v.0 has (elim (v.2) [ inl z ↦ inl z | inr z ↦ inr (z.0, z.1, gone_below z.0 z.2) ])) has in
+          let v = left_on j y in
+          let h : HasNumber regions j v.0 = ap (option_map (λ (z : Record). z.number)) (sym (hand.stay j d)) ∙ v.1 in
+          let has = number_was c t cells regions g i.hardened j v.0 h in
+          n v.0 (left_below j v.0 has (elim (v.2) [ inl z ↦ inl z | inr z ↦ inr (z.0, z.1, gone_below z.0 z.2) ])) has in
           hand.apart j d m ∙ i.links j n;
     }
 

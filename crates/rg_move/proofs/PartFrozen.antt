@@ -119,7 +119,7 @@ module _ (c : Table) (t : RegionTable) (cells : Table) (regions : RegionTable) (
   lay q s l = elim (either s) [
     | inl a ↦
         let e : Region q ≡ Frozen =
-            label_only Frozen (Region q) (body_at c.heap s) (ap (option_map (λ (b : Body). b.label)) (sym a.3.0) ∙ l) in
+        label_only Frozen (Region q) (body_at c.heap s) (ap (option_map (λ (b : Body). b.label)) (sym a.3.0) ∙ l) in
         cc
     | inr a ↦ let o = ap (option_map (λ (b : Body). b.label)) (sym a.1.0) ∙ l in (o, a.0 q o)
   ]

@@ -8,3 +8,4 @@ pub mod Freed
 pub mod OwnedFound
 pub mod Removed
 pub mod HandedOver
+pub mod Shares

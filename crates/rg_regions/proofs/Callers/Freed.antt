@@ -24,7 +24,7 @@ count-freed (x ∷ xs) zero o e = rw e
 count-freed (x ∷ xs) (suc s) o e =
     let ih : count_by is_some (set xs s (Some None)) ≡ count_by is_some xs = count-freed xs s o e in
     sum_by-cons (λ y. cond (is_some y) 1 0) x (set xs s (Some None)) ∙ ap (λ n. cond (is_some x) 1 0 + n) ih
-        ∙ sym (sum_by-cons (λ y. cond (is_some y) 1 0) x xs)
+    ∙ sym (sum_by-cons (λ y. cond (is_some y) 1 0) x xs)
 
 pub held_once : (h : Heap) (s : ℕ) → IsHeld h s → (o : Option Body) × (get_or h.slots s None ≡ Some o)
 held_once h s l = by_slot (get_or h.slots s None) l

@@ -13,7 +13,7 @@ next-init c =
     let key = c.args.key in
     let is = c.set_link.ensures.set in
     let own : get_or c.set_link.new.self.links key None ≡ None =
-        ap (λ (z : RegionTable). get_or z.links key None) is ∙ get_or-set_same old.links key None None c.set_link.ensures.within in (
+    ap (λ (z : RegionTable). get_or z.links key None) is ∙ get_or-set_same old.links key None None c.set_link.ensures.within in (
       key ∷ [],
       (refl, (λ n. n), own),
       freezing_begin c.args.cells.now old key c.set_link.new.self c.requires.closed (ap (λ (z : RegionTable). z.records) is)
@@ -48,7 +48,7 @@ next-preserved c =
     let v = g.left c.in-Some.first (inl refl) in
     let rec = record_there (record_at c.next.regions c.in-Some.first) v.0 v.1 in
     let ready = ready_first c.args.cells.now c.args.regions.now c.args.key c.next.cells c.next.regions c.in-Some.first r.0 c.requires.grove
-        c.requires.closed g rec.0 rec.1 (subst K r.1 (subst C c.in-Some.is i.1)) in
+    c.requires.closed g rec.0 rec.1 (subst K r.1 (subst C c.in-Some.is i.1)) in
     let t = c.freeze_first-next.ensures.turned rec.0 r.0 ready in
     let new = c.freeze_first-next.new in (
       t.1,

@@ -1,15 +1,15 @@
-use Rattle.std.proofs.Common.{◌≡◌, ℕ, ◌+◌, List, length, Option, None, Some, get_or, ap, sym, ◌∙◌, refl, subst, arith, count_by, is_some}
-use Rattle.rg_base.specs.declared.object.Label.TheVariants.{Region, Frozen}
+use Rattle.std.proofs.Common.{◌≡◌, ℕ, ◌+◌, List, length, Option, None, Some, get_or, ap, sym, ◌∙◌, refl, subst, count_by, is_some}
+use Rattle.rg_base.specs.declared.object.Label.TheVariants.{Frozen}
 use Rattle.rg_regions.specs.Table.{Record, RegionTable, HasNumber, Chained}
 use Rattle.rg_regions.specs.Chains.{LeadsToHeld, OwnsOnce}
 use Rattle.rg_regions.specs.Owned.{OwnsNone, ChainsOwned}
 use Rattle.rg_regions.specs.Same.{AllHeld, AllDiffer}
-use Rattle.rg_regions.proofs.Callers.Told.{labelled_held, number_of, one_number}
+use Rattle.rg_regions.proofs.Callers.Told.{number_of, one_number}
 use Rattle.rg_regions.proofs.Callers.OwnedFound.{members_read, same_record}
 use Rattle.rg_regions.proofs.Callers.HandedOver.{handed_over}
 use Rattle.rg_regions.proofs.Callers.Removed.{count-removed}
 use Rattle.rg_move.specs.Inner.Labels.{LabelledFirst}
-use Rattle.rg_move.proofs.OneFrozen.{members_labelled, others_kept}
+use Rattle.rg_move.proofs.MembersLabelled.{members_held, members_differ, members_labelled, others_kept}
 use Rattle.rg_move.proofs.freezing.freeze_first.Goals as goal
 
 -- the number that is read
@@ -24,7 +24,7 @@ chain_owned-next-requires c =
     let same = number_read c.args.regions.now c.args.key c.number-region.result rec w.at c.number-region.ensures in
     let O : ℕ → Type 0 = λ n. OwnsOnce h n rec.members in
     let L : ℕ → Type 0 = λ n. LeadsToHeld h n in
-    record { there = (rec, w.at, subst O same w.owns); lead = subst L same w.lead; labels = w.labels; }
+    record { there = (rec, w.at, subst O same w.owns); lead = subst L same w.lead; labels = w.labels }
 
 -- the members that are read
 members_now : (c : goal.After-members) → c.requires.0.members ≡ c.members.result.now
@@ -36,15 +36,15 @@ members_now c =
 
 pub label_members-requires-clause-held : goal.label_members-requires-clause-held
 label_members-requires-clause-held c =
-    let h = c.args.cells.now.heap in
     let rec = c.requires.0 in
-    let H : List ℕ → Type 0 = λ z. AllHeld h z in
-    subst H (members_now c) (λ j l. labelled_held h (get_or rec.members j 0) (Region rec.number) (c.requires.2.owns.lie j l))
+    let H : List ℕ → Type 0 = λ z. AllHeld c.args.cells.now.heap z in
+    subst H (members_now c) (members_held c.args.cells.now.heap rec.number rec.members c.requires.2.owns)
 
 pub label_members-requires-clause-once : goal.label_members-requires-clause-once
 label_members-requires-clause-once c =
+    let rec = c.requires.0 in
     let H : List ℕ → Type 0 = λ z. AllDiffer z in
-    subst H (members_now c) (λ i j l n q. let z : i ≡ j = c.requires.2.owns.once i j (omega arith) n q in omega (arith, z, l))
+    subst H (members_now c) (members_differ c.args.cells.now.heap rec.number rec.members c.requires.2.owns)
 
 pub returns-clause-turned : goal.returns-clause-turned
 returns-clause-turned c = λ rec rest w.
@@ -81,5 +81,5 @@ returns-clause-count c =
     let s = c.chain_owned-next.ensures rec c.requires.2.at in
     let at = same_record c.args.regions.now mid c.args.key rec s.records c.requires.2.at in
     ap (λ (z : RegionTable). count_by is_some z.records + 1) c.remove.ensures.gone
-        ∙ count-removed mid.records c.args.key rec at
-        ∙ ap (λ (rs : List (Option Record)). count_by is_some rs) s.records
+    ∙ count-removed mid.records c.args.key rec at
+    ∙ ap (λ (rs : List (Option Record)). count_by is_some rs) s.records
