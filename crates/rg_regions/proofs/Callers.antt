@@ -11,3 +11,4 @@ pub mod Dropped
 pub mod Removed
 pub mod HandedOver
 pub mod Shares
+pub mod CellComes
