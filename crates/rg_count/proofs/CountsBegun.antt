@@ -10,9 +10,10 @@ use Rattle.rg_regions.specs.Reach.{LiesIn, Roots, Stands, is_bridge, in_slots, i
 use Rattle.rg_regions.specs.Grove.{Members, referrers}
 use Rattle.rg_regions.proofs.Callers.OwnedFound.{owned_begin}
 use Rattle.rg_regions.specs.Owned.{Every}
-use Rattle.rg_count.specs.Inner.Flags.{Cleared, Flagged, Among, InTemps, Rooted, LinksStay}
+use Rattle.rg_count.specs.Inner.Flags.{Cleared, Flagged, Among, InTemps, Rooted}
+use Rattle.rg_regions.specs.Same.{LinksStay}
 use Rattle.rg_count.specs.Inner.Counting.{Counts, Listed, nothing, Down}
-use Rattle.rg_count.proofs.Shares.{has-cases}
+use Rattle.rg_regions.proofs.Callers.Shares.{has-cases}
 
 pub rooted-of : (h : Heap) (r : ℕ) (members : List ℕ) (bridge : Option ℕ) (slots : List Word) (temps : List ℕ)
     (old a b d e : Table) → Members h r members → Cleared members (length members) old a

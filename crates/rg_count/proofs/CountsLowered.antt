@@ -17,7 +17,7 @@ use Rattle.rg_regions.specs.Grove.{leads_to, referrers}
 use Rattle.rg_regions.proofs.Callers.Fewer.{lies_belongs}
 use Rattle.rg_regions.proofs.Callers.Chain.{chained_agree}
 use Rattle.rg_count.specs.Inner.Counting.{words_of, weight, paid, owed, nothing, Spends, Counts, Lowers, Lowered}
-use Rattle.rg_count.proofs.Shares.{Distinct, parted-le, parted-more, has-cases}
+use Rattle.rg_regions.proofs.Callers.Shares.{Distinct, parted-le, parted-more, has-cases}
 
 pub referrers-total : (h : Heap) (r s : ℕ) → referrers h r s ≡ total (weight r s) h.slots
 referrers-total h r s = total-same _ (weight r s) (λ b. by_body b) h.slots

@@ -1,5 +1,4 @@
 mod RootsFlagged
-mod Shares
 mod CountsLowered
 mod ZerosListed
 mod SpentInTurn

@@ -11,14 +11,15 @@ use Rattle.rg_regions.specs.Reach.{LiesIn, Roots}
 use Rattle.rg_regions.specs.Spent.{Spent}
 use Rattle.rg_regions.specs.Grove.{Grove, referrers}
 use Rattle.rg_regions.specs.Owned.{Every, ChainsOwned}
-use Rattle.rg_regions.specs.Collection.{IsSameCell, ChainsOrphans}
+use Rattle.rg_regions.specs.Collection.{ChainsOrphans}
+use Rattle.rg_regions.specs.Same.{IsSameCell}
 use Rattle.rg_regions.proofs.Callers.Fewer.{total_alike}
 use Rattle.rg_regions.proofs.Callers.Told.{lies_or_not}
 use Rattle.rg_regions.proofs.Callers.Told.{owns_once}
 use Rattle.rg_count.specs.Inner.Counting.{weight, nothing, in_turn, Counts}
 use Rattle.rg_count.specs.Inner.Sweeping.{Goes, Swept, Sweeps}
 use Rattle.rg_count.specs.Counted.{Counted}
-use Rattle.rg_count.proofs.Shares.{has-cases, without, without-off, without-in, parted}
+use Rattle.rg_regions.proofs.Callers.Shares.{has-cases, without, without-off, without-in, parted}
 use Rattle.rg_count.proofs.CountsLowered.{referrers-total, spends-distinct, spends-lie}
 use Rattle.rg_count.proofs.SpentInTurn.{done-spent, spent-done, has-turn, turn-has, no-root}
 

@@ -23,7 +23,7 @@ use Rattle.rg_regions.proofs.Callers.Fewer.{belongs_not}
 use Rattle.rg_regions.proofs.Callers.Fewer.{lies_belongs}
 use Rattle.rg_count.specs.Inner.Counting.{words_of, weight, owed, nothing, Spends, in_turn, Counts, Lowered, Down}
 use Rattle.rg_count.specs.Inner.Counting.{IsReady, CountedDown}
-use Rattle.rg_count.proofs.Shares.{Distinct, share, parted-le, parted-all}
+use Rattle.rg_regions.proofs.Callers.Shares.{Distinct, share, parted-le, parted-all}
 use Rattle.rg_count.proofs.CountsLowered.{spends-lie, spends-distinct, count-pop, count-done, owed-none}
 use Rattle.rg_count.proofs.CountsLowered.{referrers-total, leads-is}
 

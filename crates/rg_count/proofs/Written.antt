@@ -15,7 +15,7 @@ use Rattle.rg_regions.specs.Grove.{leads_to, referrers}
 use Rattle.rg_regions.proofs.Callers.Fewer.{lies_belongs}
 use Rattle.rg_count.specs.Inner.Counting.{weight}
 use Rattle.rg_count.proofs.CountsLowered.{referrers-total}
-use Rattle.rg_count.proofs.Shares.{share}
+use Rattle.rg_regions.proofs.Callers.Shares.{share}
 use Rattle.rg_regions.proofs.Callers.Fewer.{total_alike}
 
 total-le : (f g : Option Body → ℕ) → ((b : Option Body) → f b ≤ g b) → (xs : List (Option (Option Body)))

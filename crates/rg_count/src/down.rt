@@ -12,7 +12,8 @@ ghost use Rattle.rg_regions.specs.Owned.{Every, FollowsFields};
 ghost use Rattle.rg_regions.specs.Collection.{roots_of, WordsLeadToHeld, AllHeld};
 ghost use Rattle.rg_regions.specs.Collection.{TempsLeadToHeld};
 ghost use Rattle.rg_count.specs.Inner.Counting.{Lowers, Lowered, IsReady, Listed, CountedDown};
-ghost use Rattle.rg_count.specs.Inner.Flags.{Rooted, LinksStay};
+ghost use Rattle.rg_count.specs.Inner.Flags.{Rooted};
+ghost use Rattle.rg_regions.specs.Same.{LinksStay};
 
 use crate::roots::{clear, flag_bridge, flag_temps, flag_words};
 use rg_base::{Label, Steps, Word};

@@ -8,3 +8,7 @@ pub mod Freed
 pub mod OwnedFound
 pub mod OneShrinks
 pub mod Dropped
+pub mod Removed
+pub mod HandedOver
+pub mod Shares
+pub mod CellComes

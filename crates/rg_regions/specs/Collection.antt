@@ -3,10 +3,11 @@ use Rattle.std.specs.Prelude.{◌≡◌, ◌≢◌, ℕ, ◌⊎◌, List, Option
 use Rattle.rg_base.specs.declared.value.Word.{Word}
 use Rattle.rg_base.specs.declared.value.Word.TheVariants.{Slot}
 use Rattle.rg_base.specs.declared.words.Manager.{Manager}
-use Rattle.rg_cells.specs.Table.{Heap, Table, IsHeld, body_at, field_at, width, mark_at, link_at, total, high_of}
+use Rattle.rg_cells.specs.Table.{Heap, Table, IsHeld, body_at, field_at, width, total, high_of}
 use Rattle.rg_regions.specs.Table.{Record, RegionTable, record_at, HasNumber, Has, Chained}
 use Rattle.rg_regions.specs.Reach.{LiesIn, Roots, belongs}
 use Rattle.rg_regions.specs.Grove.{Members}
+use Rattle.rg_regions.specs.Same.{IsSameCell}
 
 -- the roots of a region
 abbrev pub roots_of : Option ℕ → List Word → List ℕ → Roots
@@ -29,11 +30,6 @@ AllHeld h temps = (i t : ℕ) → slice_get temps i ≡ Some t → IsHeld h t
 
 abbrev pub TempsLeadToHeld : Heap → List ℕ → Type 0
 TempsLeadToHeld h temps = (i t k s : ℕ) → slice_get temps i ≡ Some t → field_at h t k ≡ Some (Slot s) → IsHeld h s
-
--- a slot has the body, the mark and the link that it had
-abbrev pub IsSameCell : (old new : Table) → (slot : ℕ) → Type 0
-IsSameCell old new s =
-    (body_at new.heap s ≡ body_at old.heap s) × (mark_at new s ≡ mark_at old s) × (link_at new s ≡ link_at old s)
 
 -- Cells of one region may have gone, and nothing else has: each body is as it was or gone, and other cells and other
 -- regions stay; of the region's own record the members alone change.

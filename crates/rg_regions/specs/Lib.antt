@@ -6,4 +6,5 @@ pub mod Chains
 pub mod Owned
 pub mod Collection
 pub mod Dropped
+pub mod Same
 pub mod Inner

@@ -1,9 +1,10 @@
 -- The regions that cells own which go, put in front of a chain (docs/architecture.md, "Regions").
-use Rattle.std.specs.Prelude.{◌≡◌, ◌≢◌, ℕ, ◌⊎◌, ◌<◌, ⊤, List, length, Option, Some, slice_index}
+use Rattle.std.specs.Prelude.{◌≡◌, ◌≢◌, ℕ, ◌⊎◌, ◌<◌, ⊤, List, length, Option, Some, None, slice_index}
 use Rattle.rg_base.specs.declared.value.Word.TheVariants.{Slot}
 use Rattle.rg_cells.specs.Table.{Heap, field_at}
-use Rattle.rg_regions.specs.Table.{RegionTable, link_at, HasNumber, Has, Chained}
+use Rattle.rg_regions.specs.Table.{RegionTable, record_at, link_at, HasNumber, Has, Chained}
 use Rattle.rg_regions.specs.Reach.{LiesIn}
+use Rattle.rg_regions.specs.Grove.{Parent}
 use Rattle.rg_regions.specs.Chains.{OwnsOnce}
 
 -- every cell goes
@@ -51,3 +52,23 @@ pub record FollowsFields (h : Heap) (goes : ℕ → Type 0) (r slot k : ℕ) (ol
   pub chained : (members rest : List ℕ) (t : RegionTable) (i : ℕ) →
       OwnsOnce h r members → OwnsNone h r t rest → i < length members → slice_index members i ≡ slot → goes slot →
       ChainsOwned h goes r members rest t i 0 old head → ChainsOwned h goes r members rest t i k new result
+
+-- all fields of so many members were followed
+pub record FollowsMembers (h : Heap) (r : ℕ) (members : List ℕ) (i : ℕ) (old new : RegionTable)
+    (head result : Option ℕ) : Type 0 where
+  pub records : new.records ≡ old.records
+  pub next : (rest : List ℕ) → OwnsNone h r old rest → Chained old.links head rest
+      → ChainsOwned h Every r members rest old i 0 new result
+
+-- a region leaves the table and the head of a chain, and the regions that it owns come to the rest of the keys
+pub record HandsOver (h : Heap) (t : RegionTable) (key r : ℕ) (rest : List ℕ) (new : RegionTable) (head : Option ℕ)
+    (keys : List ℕ) : Type 0 where
+  pub gone : record_at new key ≡ None
+  pub stay : (k : ℕ) → k ≢ key → record_at new k ≡ record_at t k
+  pub numbers : new.next ≡ t.next
+  pub chain : Chained new.links head keys
+  pub old : (k : ℕ) → Has rest k → Has keys k
+  pub each : (k : ℕ) → Has keys k → Has rest k ⊎ ((q : ℕ) × HasNumber t k q × Parent h r q)
+  pub all : (k q : ℕ) → Parent h r q → HasNumber t k q → Has keys k
+  pub apart : (k : ℕ) → k ≢ key → (Has keys k → ⊥) → link_at new k ≡ link_at t k
+  pub unkeyed : Has keys key → ⊥

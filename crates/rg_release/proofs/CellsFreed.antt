@@ -6,8 +6,8 @@ use Rattle.std.proofs.lemmas.Bool.{cases_eq, cases_lt}
 use Rattle.rg_cells.specs.declared.cell.Body.{Body}
 use Rattle.rg_cells.specs.Table.{Table, IsHeld, body_at, body_in, mark_at, freed_from}
 use Rattle.rg_regions.proofs.Callers.Freed.{none_here, zero_here, count-freed, held_once}
-use Rattle.rg_regions.specs.Collection.{IsSameCell}
-use Rattle.rg_release.specs.Inner.Turns.{FreedFirst, AllDiffer}
+use Rattle.rg_regions.specs.Same.{IsSameCell, AllDiffer}
+use Rattle.rg_release.specs.Inner.Turns.{FreedFirst}
 
 pub freed_none : (t : Table) (members : List ℕ) → FreedFirst t members 0 t
 freed_none t members = record {

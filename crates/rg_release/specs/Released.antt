@@ -2,10 +2,10 @@
 use Rattle.std.specs.Prelude.{◌≡◌, ◌≢◌, ℕ, List, Some, None}
 use Rattle.rg_base.specs.declared.value.Word.TheVariants.{Slot}
 use Rattle.rg_cells.specs.Table.{Heap, Table, body_at, field_at}
-use Rattle.rg_regions.specs.Table.{RegionTable, record_at, link_at, HasNumber, Has, Chained}
+use Rattle.rg_regions.specs.Table.{RegionTable, record_at, HasNumber, Has, Chained}
 use Rattle.rg_regions.specs.Reach.{LiesIn}
 use Rattle.rg_regions.specs.Grove.{Below}
-use Rattle.rg_regions.specs.Collection.{IsSameCell}
+use Rattle.rg_regions.specs.Same.{IsSameCell, IsSameRegion}
 
 -- The regions of some keys are in the table, none of them is region 0, and no field of another region's cell leads into one.
 pub record Unowned (h : Heap) (t : RegionTable) (keys : List ℕ) : Type 0 where
@@ -37,10 +37,6 @@ CellsStay old t new keys = (s : ℕ) → ((q : ℕ) → BelowOne old.heap t keys
 -- the records of these regions and of those beneath are gone
 abbrev pub RecordsGo : Heap → (old new : RegionTable) → (keys : List ℕ) → Type 0
 RecordsGo h old new keys = (key q : ℕ) → BelowOne h old keys q → HasNumber old key q → record_at new key ≡ None
-
--- a key has the record and the link that it had
-abbrev pub IsSameRegion : (old new : RegionTable) → (key : ℕ) → Type 0
-IsSameRegion old new key = (record_at new key ≡ record_at old key) × (link_at new key ≡ link_at old key)
 
 -- every key without such a region stays
 abbrev pub RecordsStay : Heap → (old new : RegionTable) → (keys : List ℕ) → Type 0

@@ -3,11 +3,8 @@ use Rattle.std.specs.Prelude.{◌≡◌, ℕ, ◌<◌, ◌⊎◌, List, Option, 
 use Rattle.rg_base.specs.declared.value.Word.{Word}
 use Rattle.rg_base.specs.declared.value.Word.TheVariants.{Slot}
 use Rattle.rg_cells.specs.Table.{Heap, Table, field_at, link_at}
+use Rattle.rg_regions.specs.Same.{LinksStay}
 use Rattle.rg_regions.specs.Reach.{LiesIn, Roots, Stands}
-
--- cells of other regions keep their links
-abbrev pub LinksStay : Heap → (region : ℕ) → (old new : Table) → Type 0
-LinksStay h r old new = (s : ℕ) → (LiesIn h r s → ⊥) → link_at new s ≡ link_at old s
 
 -- the first of some members link to no cell, and other links stay
 pub record Cleared (members : List ℕ) (n : ℕ) (old new : Table) : Type 0 where

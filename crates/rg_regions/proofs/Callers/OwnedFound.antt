@@ -12,7 +12,7 @@ use Rattle.rg_regions.specs.Reach.{LiesIn}
 use Rattle.rg_regions.specs.Chains.{PutFirst, Follows, OwnsOnce}
 use Rattle.rg_regions.proofs.Callers.Told.{field_within, one_region, one_number}
 use Rattle.rg_regions.proofs.Callers.Chain.{chained_agree}
-use Rattle.rg_regions.specs.Owned.{Owned, ChainsOwned, OwnsNone, FollowsFields}
+use Rattle.rg_regions.specs.Owned.{Owned, ChainsOwned, OwnsNone, Every, FollowsFields, FollowsMembers}
 
 slot_is : (a b : ℕ) → Some (Slot a) ≡ Some (Slot b) → a ≡ b
 slot_is a b q = cc
@@ -276,3 +276,23 @@ fields_more h goes r slot k old mid new head middle result w at g f = elim g [
   where
     word_is : (a b : Word) → Some a ≡ Some b → a ≡ b
     word_is a b q = cc
+
+pub members_none : (h : Heap) (r : ℕ) (members : List ℕ) (t : RegionTable) (head : Option ℕ)
+    → FollowsMembers h r members 0 t t head head
+members_none h r members t head =
+    record { records = refl; next = λ rest n c. owned_begin h Every r members rest t head c }
+
+-- the fields of a member were followed
+pub members_more : (h : Heap) (r : ℕ) (members : List ℕ) (i slot : ℕ) (old mid new : RegionTable)
+    (head middle result : Option ℕ)
+    → OwnsOnce h r members → i < length members → get_or members i 0 ≡ slot
+    → FollowsFields h Every r slot (width (body_at h slot)) mid new middle result
+    → FollowsMembers h r members i old mid head middle
+    → FollowsMembers h r members (i + 1) old new head result
+members_more h r members i slot old mid new head middle result o l is f s = record {
+  records = f.records ∙ s.records;
+  next = λ rest n c.
+      owned_next h Every r members rest old i (width (body_at h slot)) new result
+      (omega (arith, ap (λ z. width (body_at h z)) is))
+      (f.chained members rest old i o n l is tt (s.next rest n c));
+}

@@ -14,7 +14,8 @@ use Rattle.rg_base.specs.declared.object.Label.TheVariants.{Region, Temp, Frozen
 use Rattle.rg_cells.specs.Table.{Heap, Table, field_at, body_at, body_in, width, mark_at, link_at}
 use Rattle.rg_regions.specs.Reach.{LiesIn, Roots, Walk, belongs, is_region, is_bridge, in_slots, in_temps}
 use Rattle.rg_trace.specs.Inner.Marking.{known_count, pending, black_fields, GreyChain, Marking}
-use Rattle.rg_trace.specs.Inner.Marking.{OnlyGreyed, LinksStay, Near, Greys, Scanned, ScannedTemps, ScannedBridge}
+use Rattle.rg_trace.specs.Inner.Marking.{OnlyGreyed, Near, Greys, Scanned, ScannedTemps, ScannedBridge}
+use Rattle.rg_regions.specs.Same.{LinksStay}
 use Rattle.rg_trace.specs.Inner.Marking.{MarkingGoes}
 use Rattle.rg_trace.specs.Inner.Marking.{Marked, weighed, if_black}
 use Rattle.rg_trace.proofs.Marks.Weights.{known-black, fields-black, pending-black}

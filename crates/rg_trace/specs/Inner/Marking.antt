@@ -7,6 +7,7 @@ use Rattle.rg_cells.specs.declared.cell.Body.{Body}
 use Rattle.rg_base.specs.declared.value.Word.{Word}
 use Rattle.rg_base.specs.declared.value.Word.TheVariants.{Slot}
 use Rattle.rg_cells.specs.Table.{Heap, Table, field_at, body_in, width, mark_at, link_at}
+use Rattle.rg_regions.specs.Same.{LinksStay}
 use Rattle.rg_regions.specs.Reach.{LiesIn, Roots, Walk, Reach, belongs}
 use Rattle.rg_regions.specs.Table.{Has}
 
@@ -84,10 +85,6 @@ pub record OnlyGreyed (h : Heap) (r : ℕ) (old new : List ℕ) : Type 0 where
   pub fields : black_fields h r new ≡ black_fields h r old
   pub rest : pending h r new ≡ pending h r old
   pub outside : (s : ℕ) → (LiesIn h r s → ⊥) → slice_index new s ≡ slice_index old s
-
--- cells of other regions keep their links
-abbrev pub LinksStay : Heap → (region : ℕ) → (old new : Table) → Type 0
-LinksStay h r old new = (s : ℕ) → (LiesIn h r s → ⊥) → link_at new s ≡ link_at old s
 
 -- a cell that may become grey: it is in reach by no more links than cells are known
 abbrev pub Near : Heap → ℕ → Roots → List ℕ → ℕ → Type 0

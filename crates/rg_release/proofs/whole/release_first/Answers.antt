@@ -4,8 +4,10 @@ use Rattle.rg_regions.specs.Table.{Record, RegionTable, record_at, Chained}
 use Rattle.rg_regions.specs.Chains.{OwnsOnce}
 use Rattle.rg_regions.proofs.Callers.Told.{record_there, labelled_held, led_held, owns_once, members_read, same_record}
 use Rattle.rg_regions.specs.Owned.{Every, ChainsOwned}
-use Rattle.rg_release.specs.Inner.Turns.{FreedFirst, AllHeld, AllDiffer}
-use Rattle.rg_release.proofs.OneReleased.{owns_none, chain_made, turn_made, count-removed}
+use Rattle.rg_regions.specs.Same.{AllHeld, AllDiffer}
+use Rattle.rg_release.specs.Inner.Turns.{FreedFirst}
+use Rattle.rg_regions.proofs.Callers.Removed.{count-removed}
+use Rattle.rg_release.proofs.OneReleased.{owns_none, chain_made, turn_made}
 use Rattle.rg_release.proofs.whole.release_first.Goals as goal
 
 pub chain_owned-next-requires-clause-there : goal.chain_owned-next-requires-clause-there

@@ -1,6 +1,6 @@
 use Rattle.rg_regions.specs.Owned.{Every}
 use Rattle.rg_regions.proofs.Callers.OwnedFound.{fields_more}
-use Rattle.rg_release.proofs.owned.chain_fields.Goals as goal
+use Rattle.rg_regions.proofs.owned.chain_fields.Goals as goal
 
 pub loop-k-preserved : goal.loop-k-preserved
 loop-k-preserved c =

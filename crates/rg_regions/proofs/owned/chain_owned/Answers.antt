@@ -3,9 +3,9 @@ use Rattle.rg_base.specs.declared.object.Label.TheVariants.{Region}
 use Rattle.rg_regions.specs.Table.{Record, InTable}
 use Rattle.rg_regions.specs.Reach.{LiesIn}
 use Rattle.rg_regions.proofs.Callers.Told.{one_record, labelled_held, members_read, same_record}
-use Rattle.rg_release.specs.Inner.Owned.{FollowsMembers}
-use Rattle.rg_release.proofs.OwnedFound.{members_none, members_more}
-use Rattle.rg_release.proofs.owned.chain_owned.Goals as goal
+use Rattle.rg_regions.specs.Owned.{FollowsMembers}
+use Rattle.rg_regions.proofs.Callers.OwnedFound.{members_none, members_more}
+use Rattle.rg_regions.proofs.owned.chain_owned.Goals as goal
 
 pub loop-place-init : goal.loop-place-init
 loop-place-init c = λ r e. members_none c.args.cells.now.heap c.args.region r.members c.args.regions.now c.args.head

@@ -1,15 +1,15 @@
-//! The regions that the cells of a region own (docs/architecture.md, "Release").
+//! The regions that the cells of a region own (docs/architecture.md, "Regions").
 
 ghost use Rattle.std.specs.Prelude.{◌≡◌, ℕ, Some, length};
 ghost use Rattle.rg_cells.specs.Table.{IsHeld, body_at, field_at, width};
 ghost use Rattle.rg_regions.specs.Table.{Record, record_at};
 ghost use Rattle.rg_regions.specs.Chains.{AllInTable, LeadsToHeld, OwnsOnce};
-ghost use Rattle.rg_regions.specs.Owned.{Every, FollowsFields};
-ghost use Rattle.rg_release.specs.Inner.Owned.{FollowsMembers};
+ghost use Rattle.rg_regions.specs.Owned.{Every, FollowsFields, FollowsMembers};
 
+use crate::chains::chain_word;
+use crate::regions::Regions;
 use rg_base::Word;
 use rg_cells::Cells;
-use rg_regions::{Regions, chain_word};
 
 /// The regions into which the fields of a cell lead become heads of the chain, one by one.
 fn chain_fields(
