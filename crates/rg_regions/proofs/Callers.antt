@@ -4,3 +4,11 @@ pub mod Chain
 pub mod Fewer
 pub mod RegionComes
 pub mod Changed
+pub mod Freed
+pub mod OwnedFound
+pub mod OneShrinks
+pub mod Dropped
+pub mod Removed
+pub mod HandedOver
+pub mod Shares
+pub mod CellComes

@@ -2,4 +2,9 @@ pub mod Table
 pub mod Reach
 pub mod Spent
 pub mod Grove
+pub mod Chains
+pub mod Owned
+pub mod Collection
+pub mod Dropped
+pub mod Same
 pub mod Inner

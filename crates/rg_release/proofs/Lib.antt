@@ -1,4 +1,3 @@
-mod OwnedFound
 mod CellsFreed
 mod GroveKept
 mod BelowLeft

@@ -1,10 +1,11 @@
 -- What a release asks for, which cells and regions go, and what stays (docs/architecture.md, "Release").
 use Rattle.std.specs.Prelude.{◌≡◌, ◌≢◌, ℕ, List, Some, None}
 use Rattle.rg_base.specs.declared.value.Word.TheVariants.{Slot}
-use Rattle.rg_cells.specs.Table.{Heap, Table, body_at, field_at, mark_at, link_at as cell_link_at}
-use Rattle.rg_regions.specs.Table.{RegionTable, record_at, link_at, HasNumber, Has, Chained}
+use Rattle.rg_cells.specs.Table.{Heap, Table, body_at, field_at}
+use Rattle.rg_regions.specs.Table.{RegionTable, record_at, HasNumber, Has, Chained}
 use Rattle.rg_regions.specs.Reach.{LiesIn}
 use Rattle.rg_regions.specs.Grove.{Below}
+use Rattle.rg_regions.specs.Same.{IsSameCell, IsSameRegion}
 
 -- The regions of some keys are in the table, none of them is region 0, and no field of another region's cell leads into one.
 pub record Unowned (h : Heap) (t : RegionTable) (keys : List ℕ) : Type 0 where
@@ -29,11 +30,6 @@ OnChain t head P = (keys : List ℕ) → Chained t.links (Some head) keys → P 
 abbrev pub CellsGo : (old : Table) → RegionTable → (new : Table) → (keys : List ℕ) → Type 0
 CellsGo old t new keys = (q s : ℕ) → BelowOne old.heap t keys q → LiesIn old.heap q s → body_at new.heap s ≡ None
 
--- a slot has the body, the mark and the link that it had
-abbrev pub IsSameCell : (old new : Table) → (slot : ℕ) → Type 0
-IsSameCell old new s =
-    (body_at new.heap s ≡ body_at old.heap s) × (mark_at new s ≡ mark_at old s) × (cell_link_at new s ≡ cell_link_at old s)
-
 -- every slot without a cell of such a region stays
 abbrev pub CellsStay : (old : Table) → RegionTable → (new : Table) → (keys : List ℕ) → Type 0
 CellsStay old t new keys = (s : ℕ) → ((q : ℕ) → BelowOne old.heap t keys q → LiesIn old.heap q s → ⊥) → IsSameCell old new s
@@ -41,10 +37,6 @@ CellsStay old t new keys = (s : ℕ) → ((q : ℕ) → BelowOne old.heap t keys
 -- the records of these regions and of those beneath are gone
 abbrev pub RecordsGo : Heap → (old new : RegionTable) → (keys : List ℕ) → Type 0
 RecordsGo h old new keys = (key q : ℕ) → BelowOne h old keys q → HasNumber old key q → record_at new key ≡ None
-
--- a key has the record and the link that it had
-abbrev pub IsSameRegion : (old new : RegionTable) → (key : ℕ) → Type 0
-IsSameRegion old new key = (record_at new key ≡ record_at old key) × (link_at new key ≡ link_at old key)
 
 -- every key without such a region stays
 abbrev pub RecordsStay : Heap → (old new : RegionTable) → (keys : List ℕ) → Type 0

@@ -1,7 +1,8 @@
 //! The cells of a region go (docs/architecture.md, "Release").
 
 ghost use Rattle.std.specs.Prelude.{ℕ, length};
-ghost use Rattle.rg_release.specs.Inner.Turns.{FreedFirst, AllHeld, AllDiffer};
+ghost use Rattle.rg_regions.specs.Same.{AllHeld, AllDiffer};
+ghost use Rattle.rg_release.specs.Inner.Turns.{FreedFirst};
 
 use rg_cells::Cells;
 

@@ -3,7 +3,6 @@
 #![tactic(auto)]
 
 mod freeing;
-mod owned;
 mod whole;
 
 pub use whole::release;

@@ -9,9 +9,8 @@ ghost use Rattle.rg_release.specs.Released.{CellsGo, CellsStay, RecordsGo, Recor
 ghost use Rattle.rg_release.specs.Inner.Turns.{Turns};
 
 use crate::freeing::free_members;
-use crate::owned::chain_owned;
 use rg_cells::Cells;
-use rg_regions::Regions;
+use rg_regions::{Regions, chain_owned};
 
 /// The first of some chained regions goes, and the regions that it owns come in front of the
 /// others.

@@ -3,6 +3,7 @@
 ghost use Rattle.std.specs.Prelude.{◌≡◌, ◌+◌, IfOk, OnOk};
 ghost use Rattle.rg_regions.specs.Grove.{Grove};
 ghost use Rattle.rg_tests.specs.Tops.{IsTop, LeadsToTop};
+ghost use Rattle.rg_tests.specs.Traced.{InTraced};
 
 use rg_base::{Label, Manager, Word};
 use rg_cells::Cells;
@@ -14,12 +15,13 @@ const DEPTH: u64 = 1000;
 
 // A region comes, with a cell that is its bridge; the cell's field leads to the region that came
 // before.
-fn add_top(cells: &mut Cells, regions: &mut Regions, word: Word) -> Result<(usize, usize), Fail>
+pub fn add_top(cells: &mut Cells, regions: &mut Regions, word: Word) -> Result<(usize, usize), Fail>
     requires grove { Grove cells.old regions.old }
     requires owns { LeadsToTop cells.old regions.old word }
     ensures grove { OnOk result (Grove cells.new regions.new) }
     ensures top { IfOk result (λ made.
         IsTop cells.new regions.new regions.old.next made.0 made.1) }
+    ensures cell { IfOk result (λ made. InTraced cells.new regions.new made.0 made.1) }
     ensures next { OnOk result (regions.new.next ≡ regions.old.next + 1) }
 {
     let key = regions.add(Manager::Trace)?;

@@ -47,7 +47,7 @@ single slot zero s e = (refl, slot_is s slot (sym e))
 single slot (suc i) s e = cc
 
 -- words none of which leads to a slot
-none_leads : (s : ℕ) (ws : List Word) → ((k : ℕ) → slice_get ws k ≡ Some (Slot s) → ⊥) → count_by (leads_to s) ws ≡ 0
+pub none_leads : (s : ℕ) (ws : List Word) → ((k : ℕ) → slice_get ws k ≡ Some (Slot s) → ⊥) → count_by (leads_to s) ws ≡ 0
 none_leads s [] h = refl
 none_leads s (Nil ∷ ws) h = none_leads s ws (λ k. h (suc k))
 none_leads s (Int i ∷ ws) h = none_leads s ws (λ k. h (suc k))

@@ -1,8 +1,8 @@
 -- What labels, fields, numbers and records tell (docs/architecture.md, "Regions").
 use Rattle.std.proofs.Common.{◌≡◌, ℕ, ◌<◌, List, Option, Some, None, IsSome, refl, ap, sym, ◌∙◌, ◌⊎◌, inl, inr}
-use Rattle.std.proofs.Common.{option_map, option_and_then, slice_get}
+use Rattle.std.proofs.Common.{option_map, option_and_then, slice_get, get_or}
 use Rattle.std.proofs.lemmas.Bool.{cases_eq}
-use Rattle.std.proofs.lemmas.Option.{slice_get_within}
+use Rattle.std.proofs.lemmas.Option.{slice_get_within, slice_get-get_or}
 use Rattle.rg_base.specs.declared.object.Label.{Label}
 use Rattle.rg_base.specs.declared.object.Label.TheVariants.{Region, Temp, Frozen}
 use Rattle.rg_base.specs.declared.value.Word.{Word}
@@ -12,12 +12,14 @@ use Rattle.rg_cells.specs.Table.{Heap, Table, body_at, field_at, label_at, width
 use Rattle.rg_regions.specs.Table.{Record, RegionTable, record_at, HasNumber}
 use Rattle.rg_regions.specs.Reach.{LiesIn}
 use Rattle.rg_regions.specs.Grove.{Grove}
+use Rattle.rg_regions.specs.Chains.{OwnsOnce}
 
 -- a field that can be read is one of the cell's
 pub field_within : (h : Heap) (s k : ℕ) (w : Word) → field_at h s k ≡ Some w → k < width (body_at h s)
 field_within h s k w e = by_body (body_at h s) k w e
   where
-    by_body : (b : Option Body) (k : ℕ) (w : Word) → option_and_then (λ (b : Body). slice_get b.fields k) b ≡ Some w → k < width b
+    by_body : (b : Option Body) (k : ℕ) (w : Word) → option_and_then (λ (b : Body). slice_get b.fields k) b ≡ Some w
+        → k < width b
     by_body None k w e = cc
     by_body (Some b) k w e = slice_get_within b.fields k w e
 
@@ -28,6 +30,9 @@ labelled_held h s l e = by_body (body_at h s) e
     by_body : (b : Option Body) → option_map (λ (b : Body). b.label) b ≡ Some l → IsSome b
     by_body None e = cc
     by_body (Some b) e = refl
+
+pub lies_held : (h : Heap) (r s : ℕ) → LiesIn h r s → IsHeld h s
+lies_held h r s l = labelled_held h s (Region r) l
 
 -- a cell lies in one region
 pub one_region : (h : Heap) (s a b : ℕ) → LiesIn h a s → LiesIn h b s → a ≡ b
@@ -41,7 +46,8 @@ pub lies_or_not : (h : Heap) (r s : ℕ) → (LiesIn h r s → ⊥) ⊎ LiesIn h
 lies_or_not h r s = by_body (body_at h s)
   where
     by_label : (l : Label) → (Some l ≡ Some (Region r) → ⊥) ⊎ (Some l ≡ Some (Region r))
-    by_label (Region q) = elim (cases_eq q r) [ inl e ↦ inr (ap (λ k. Some (Region k)) e) | inr d ↦ inl (λ e. d (number q r e)) ]
+    by_label (Region q) = elim (cases_eq q r)
+        [ inl e ↦ inr (ap (λ k. Some (Region k)) e) | inr d ↦ inl (λ e. d (number q r e)) ]
       where
         number : (a b : ℕ) → Some (Region a) ≡ Some (Region b) → a ≡ b
         number a b q = cc
@@ -49,7 +55,8 @@ lies_or_not h r s = by_body (body_at h s)
     by_label Frozen = inl (λ e. cc)
 
     by_body : (b : Option Body)
-        → (option_map (λ (b : Body). b.label) b ≡ Some (Region r) → ⊥) ⊎ (option_map (λ (b : Body). b.label) b ≡ Some (Region r))
+        → (option_map (λ (b : Body). b.label) b ≡ Some (Region r) → ⊥)
+        ⊎ (option_map (λ (b : Body). b.label) b ≡ Some (Region r))
     by_body None = inl (λ e. cc)
     by_body (Some b) = by_label b.label
 
@@ -75,6 +82,22 @@ same_members o r members e f = some_is r.members members (sym (ap (option_map (�
     some_is : (a b : List ℕ) → Some a ≡ Some b → a ≡ b
     some_is a b q = cc
 
+-- .. and so are its number and its bridge
+pub same_number : (o : Option Record) (r : Record) (n : ℕ) → o ≡ Some r
+    → option_map (λ (r : Record). r.number) o ≡ Some n → r.number ≡ n
+same_number o r n e f = some_is r.number n (sym (ap (option_map (λ (r : Record). r.number)) e) ∙ f)
+  where
+    some_is : (a b : ℕ) → Some a ≡ Some b → a ≡ b
+    some_is a b q = cc
+
+pub same_bridge : (o : Option Record) (r : Record) (b : Option ℕ) → o ≡ Some r
+    → option_map (λ (r : Record). r.bridge) o ≡ Some b
+    → r.bridge ≡ b
+same_bridge o r b e f = some_is r.bridge b (sym (ap (option_map (λ (r : Record). r.bridge)) e) ∙ f)
+  where
+    some_is : (a b : Option ℕ) → Some a ≡ Some b → a ≡ b
+    some_is a b q = cc
+
 -- the record that has a number
 pub record_there : (o : Option Record) (n : ℕ) → option_map (λ (r : Record). r.number) o ≡ Some n
     → (r : Record) × (o ≡ Some r) × (r.number ≡ n)
@@ -91,3 +114,28 @@ led_held c t g r p k s l f = elim (g.fields r p k s l f) [
   | inl a ↦ labelled_held c.heap s Frozen a
   | inr b ↦ elim b [ inl x ↦ labelled_held c.heap s (Region r) x | inr y ↦ labelled_held c.heap s (Region y.0) y.2 ]
 ]
+
+-- the members of a region of the forest own each other region at most once
+pub owns_once : (c : Table) (t : RegionTable) (key : ℕ) (rec : Record) → Grove c t → record_at t key ≡ Some rec
+    → OwnsOnce c.heap rec.number rec.members
+owns_once c t key rec g e =
+    let m = g.members key rec e in
+    record {
+      one = λ q s k to s2 k2 to2 d l f i l2 f2 i2.
+          g.one_in q rec.number s k to rec.number s2 k2 to2 (λ z. d (sym z)) l f i (λ z. d (sym z)) l2 f2 i2;
+      lie = λ j l. m.lie j (get_or rec.members j 0) (slice_get-get_or rec.members j 0 l);
+      once = λ a b l n z.
+          m.once a b (get_or rec.members a 0) (slice_get-get_or rec.members a 0 l)
+          (slice_get-get_or rec.members b 0 n ∙ ap Some (sym z));
+    }
+
+-- the key's record stays while links are set, and so do its members
+pub same_record : (old now : RegionTable) (key : ℕ) (rec : Record) → now.records ≡ old.records
+    → record_at old key ≡ Some rec → record_at now key ≡ Some rec
+same_record old now key rec e at = ap (λ (rs : List (Option Record)). get_or rs key None) e ∙ at
+
+pub members_read : (old now : RegionTable) (key : ℕ) (rec : Record) (members : List ℕ) → now.records ≡ old.records
+    → record_at old key ≡ Some rec
+    → option_map (λ (r : Record). r.members) (record_at now key) ≡ Some members → rec.members ≡ members
+members_read old now key rec members e at is =
+    same_members (record_at now key) rec members (same_record old now key rec e at) is

@@ -1,17 +1,11 @@
 -- What the release of one region does, and what holds between two of them (docs/architecture.md, "Release").
-use Rattle.std.specs.Prelude.{◌≡◌, ◌≢◌, ℕ, ◌⊎◌, ◌<◌, ◌≤◌, List, ◌∷◌, length, Option, Some, None, slice_index, is_some, count_by}
-use Rattle.rg_cells.specs.Table.{Heap, Table, IsHeld, body_at, mark_at, high_of}
+use Rattle.std.specs.Prelude.{◌≡◌, ◌≢◌, ℕ, ◌⊎◌, ◌<◌, ◌≤◌, List, ◌∷◌, Option, Some, None, slice_index, is_some, count_by}
+use Rattle.rg_cells.specs.Table.{Table, body_at, mark_at, high_of}
 use Rattle.rg_regions.specs.Table.{Record, RegionTable, record_at, link_at, HasNumber, Has, Chained}
 use Rattle.rg_regions.specs.Reach.{LiesIn}
 use Rattle.rg_regions.specs.Grove.{Grove, Parent}
-use Rattle.rg_release.specs.Released.{Unowned, BelowOne, IsSameCell, CellsStay, RecordsStay}
-
--- a cell is held at each of some slots, and they differ
-abbrev pub AllHeld : Heap → List ℕ → Type 0
-AllHeld h slots = (j : ℕ) → j < length slots → IsHeld h (slice_index slots j)
-
-abbrev pub AllDiffer : List ℕ → Type 0
-AllDiffer slots = (a b : ℕ) → a < b → b < length slots → slice_index slots a ≢ slice_index slots b
+use Rattle.rg_regions.specs.Same.{IsSameCell}
+use Rattle.rg_release.specs.Released.{Unowned, BelowOne, CellsStay, RecordsStay}
 
 -- a slot has no cell and no mark
 abbrev pub IsClear : Table → (slot : ℕ) → Type 0

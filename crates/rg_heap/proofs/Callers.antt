@@ -1,0 +1,2 @@
+-- Lemmas for the crates that call the heap.
+pub mod Opens

@@ -1,0 +1,11 @@
+mod Readers
+mod Alike
+mod Grows
+mod Comes
+mod Written
+mod Marked
+mod OwnedChained
+mod Ended
+mod Left
+mod Orphaned
+pub mod Callers

@@ -1,0 +1,280 @@
+-- A region is collected, and the regions that lost their owner are released (docs/architecture.md, "The heap").
+use Rattle.std.proofs.Common.{◌≡◌, ◌≢◌, ℕ, suc, ◌+◌, cond, List, [], ◌∷◌, Option, Some, None}
+use Rattle.std.proofs.Common.{refl, ap, sym, ◌∙◌, subst, ◌⊎◌, inl, inr, arith, option_map, option_and_then, slice_get, count_by, is_some, length, get_or}
+use Rattle.std.proofs.lemmas.Bool.{cases_eq}
+use Rattle.std.proofs.lemmas.List.Sums.{sum_by-cons}
+use Rattle.rg_base.specs.declared.object.Label.TheVariants.{Region}
+use Rattle.rg_base.specs.declared.value.Word.{Word}
+use Rattle.rg_base.specs.declared.value.Word.TheVariants.{Slot}
+use Rattle.rg_cells.specs.declared.cell.Body.{Body}
+use Rattle.rg_cells.specs.Table.{Table, body_at, field_at, label_at}
+use Rattle.rg_regions.specs.Table.{Record, RegionTable, record_at, HasNumber, Has, Chained}
+use Rattle.rg_regions.specs.Reach.{LiesIn, Roots}
+use Rattle.rg_regions.specs.Grove.{Grove, Parent, Above, direct, further}
+use Rattle.rg_regions.specs.Collection.{OneShrinks, Lost, Orphaning, ChainsOrphans, HasManager}
+use Rattle.rg_regions.proofs.Callers.Told.{one_number, one_record, one_region, lies_or_not, number_of, same_members}
+use Rattle.rg_regions.proofs.Callers.Fewer.{label_before, field_before, above_before, above_both}
+use Rattle.rg_release.specs.Released.{Unowned, BelowOne}
+use Rattle.rg_heap.specs.Parts.{Parts, Sound}
+use Rattle.rg_base.specs.declared.words.Manager.{Manager}
+use Rattle.rg_regions.specs.Spent.{Spent}
+use Rattle.rg_count.specs.Counted.{Counted}
+use Rattle.rg_trace.specs.Collected.{Collected, OutOfReach}
+use Rattle.rg_heap.specs.Collects.{Collects, LostBelow, Told}
+use Rattle.rg_heap.specs.Inner.Chains.{Gone}
+use Rattle.rg_heap.proofs.Ended.{field_total-less, gone_sub}
+
+module _ (c : Table) (t : RegionTable) (key : ℕ) (rec : Record) (mid : Table) (tm : RegionTable) (Cell : ℕ → Type 0) (g : Grove c t)
+    (at : record_at t key ≡ Some rec) (w : OneShrinks c t key rec mid tm)
+    (gone : (s : ℕ) → LiesIn c.heap rec.number s → Cell s → body_at mid.heap s ≡ None)
+    (freed : (s : ℕ) → LiesIn c.heap rec.number s → body_at mid.heap s ≡ None → Cell s)
+    (links : List (Option ℕ)) (head : Option ℕ) (keys : List ℕ)
+    (o : Orphaning c.heap t rec.number Cell links head keys) where
+  r : ℕ
+  r = rec.number
+
+  lay : (q s : ℕ) → LiesIn mid.heap q s → LiesIn c.heap q s
+  lay q s l = label_before c.heap mid.heap s (Region q) (w.fewer s) l
+
+  had : (s k : ℕ) (v : Word) → field_at mid.heap s k ≡ Some v → field_at c.heap s k ≡ Some v
+  had s k v f = field_before c.heap mid.heap s k v (w.fewer s) f
+
+  same : (q s : ℕ) → q ≢ rec.number → LiesIn c.heap q s → body_at mid.heap s ≡ body_at c.heap s
+  same q s d l = (w.others s (λ i. d (one_region c.heap s q rec.number l i))).0
+
+  own_number : HasNumber t key rec.number
+  own_number = number_of t key rec.number rec at refl
+
+  number_back : (k n : ℕ) → HasNumber tm k n → HasNumber t k n
+  number_back k n a = elim (cases_eq k key) [
+    | inl e ↦
+        let P : ℕ → Type 0 = λ z. HasNumber tm z n in
+        let N : ℕ → Type 0 = λ z. HasNumber t z n in
+        let b = one_number tm key w.own.0.number n (number_of tm key w.own.0.number w.own.0 w.own.1 refl) (subst P e a) in
+        subst N (sym e) (number_of t key n rec at (sym w.own.2 ∙ b))
+    | inr d ↦ sym (ap (option_map (λ (z : Record). z.number)) (w.records k d)) ∙ a
+  ]
+
+  number_on : (k n : ℕ) → HasNumber t k n → HasNumber tm k n
+  number_on k n a = elim (cases_eq k key) [
+    | inl e ↦
+        let P : ℕ → Type 0 = λ z. HasNumber t z n in
+        let N : ℕ → Type 0 = λ z. HasNumber tm z n in
+        let b = one_number t key rec.number n own_number (subst P e a) in
+        subst N (sym e) (number_of tm key n w.own.0 w.own.1 (w.own.2 ∙ b))
+    | inr d ↦ ap (option_map (λ (z : Record). z.number)) (w.records k d) ∙ a
+  ]
+
+  -- the region of a key on the chain lost its owner
+  lost_one : (k q : ℕ) → Has keys k → HasNumber t k q → Lost c.heap rec.number Cell q
+  lost_one k q x a =
+      let b = o.each k x in
+      let P : ℕ → Type 0 = λ z. Lost c.heap rec.number Cell z in
+      subst P (one_number t k b.0 q b.1 a) b.2
+
+  pub unowned : Unowned mid.heap tm keys
+  unowned = record {
+    there = λ k x. let b = o.each k x in (b.0, number_on k b.0 b.1);
+    not_first = λ k x a.
+        let l = lost_one k 0 x (number_back k 0 a) in
+        g.none_into_first rec.number l.slot l.field l.to (λ e. l.other (sym e)) l.from l.leads l.lies;
+    alone = λ k q p s j to x a d l f i.
+        let y = lost_one k q x (number_back k q a) in
+        let z = g.one_in q p s j to rec.number y.slot y.field y.to d (lay p s l) (had s j (Slot to) f) (lay q to i)
+        (λ e. y.other (sym e)) y.from y.leads y.lies in
+        let B : ℕ → Type 0 = λ n. label_at mid.heap n ≡ Some (Region p) in
+        let n : None ≡ Some (Region p) = sym (ap (option_map (λ (b : Body). b.label)) (gone y.slot y.from y.gone)) ∙ subst B z.0 l in
+        cc;
+  }
+
+  -- the collected region isn't beneath one that lost its owner
+  parent_of : (top : ℕ) → Lost c.heap rec.number Cell top → Parent c.heap rec.number top
+  parent_of top l = record {
+    differ = λ e. l.other (sym e);
+    from = l.slot;
+    field = l.field;
+    to = l.to;
+    lies = l.from;
+    leads = l.leads;
+    child_has = l.lies;
+  }
+
+  apart : (top q : ℕ) → Lost c.heap rec.number Cell top → (q ≡ top) ⊎ Above c.heap top q → q ≢ rec.number
+  apart top q l b e = elim b [
+    | inl x ↦ l.other (sym x ∙ e)
+    | inr x ↦
+        let P : ℕ → Type 0 = λ z. Above c.heap top z in
+        g.no_cycle rec.number (above_both c.heap rec.number top rec.number (direct (parent_of top l)) (subst P e x))
+  ]
+
+  parent_on : (p q : ℕ) → p ≢ rec.number → q ≢ rec.number → Parent c.heap p q → Parent mid.heap p q
+  parent_on p q d n a = record {
+    differ = a.differ;
+    from = a.from;
+    field = a.field;
+    to = a.to;
+    lies = ap (option_map (λ (b : Body). b.label)) (same p a.from d a.lies) ∙ a.lies;
+    leads = ap (option_and_then (λ (b : Body). slice_get b.fields a.field)) (same p a.from d a.lies) ∙ a.leads;
+    child_has = ap (option_map (λ (b : Body). b.label)) (same q a.to n a.child_has) ∙ a.child_has;
+  }
+
+  above_on : (top q : ℕ) → Lost c.heap rec.number Cell top → Above c.heap top q → Above mid.heap top q
+  above_on top q l (direct a) = direct (parent_on top q (apart top top l (inl refl)) (apart top q l (inr (direct a))) a)
+  above_on top q l (further {q = m} a b) =
+      further (above_on top m l a) (parent_on m q (apart top m l (inr a)) (apart top q l (inr (further a b))) b)
+
+  abbrev old : Parts
+  old = record { cells = c; regions = t }
+
+  lost_apart : (q : ℕ) → LostBelow old rec.number Cell q → q ≢ rec.number
+  lost_apart q x = apart x.0 q x.1 (elim x.2 [ inl e ↦ inl e | inr a ↦ inr a.1 ])
+
+  below_one : (q : ℕ) → LostBelow old rec.number Cell q → BelowOne mid.heap tm keys q
+  below_one q x =
+      let k = g.labels x.0 x.1.to x.1.lies in
+      record {
+        key = k.0;
+        top = x.0;
+        one = o.all x.0 k.0 x.1 k.1;
+        has = number_on k.0 x.0 k.1;
+        below = elim x.2 [
+          | inl e ↦ inl e
+          | inr a ↦ inr ((a.0.0, number_on a.0.0 q a.0.1), above_on x.0 q x.1 a.1)
+        ];
+      }
+
+  lost_below : (q : ℕ) → BelowOne mid.heap tm keys q → LostBelow old rec.number Cell q
+  lost_below q x = (
+    x.top,
+    lost_one x.key x.top x.one (number_back x.key x.top x.has),
+    elim x.below [
+      | inl e ↦ inl e
+      | inr a ↦ inr ((a.0.0, number_back a.0.0 q a.0.1), above_before c.heap mid.heap w.fewer x.top q a.1)
+    ],
+  )
+
+  module _ (cells : Table) (regions : RegionTable) (n : Gone mid tm keys cells regions) where
+    own_stays : record_at regions key ≡ record_at tm key
+    own_stays = n.records key (λ q x a. lost_apart q (lost_below q x) (one_number t key q rec.number (number_back key q a) own_number))
+
+    pub own_now : (now : Record) → record_at regions key ≡ Some now → record_at tm key ≡ Some now
+    own_now now e = sym own_stays ∙ e
+
+    pub collects : Collects old (record { cells = cells; regions = regions }) key rec Cell
+    collects = record {
+      freed = λ s l x. elim (gone_sub mid tm keys cells n.freed n.stay s) [ inl e ↦ e ∙ gone s l x | inr e ↦ e ];
+      lost = λ q s x l.
+          n.freed q s (below_one q x) (ap (option_map (λ (b : Body). b.label)) (same q s (lost_apart q x) l) ∙ l);
+      cells = λ s a b. (n.stay s (λ q x l. b q (lost_below q x) (lay q s l))).0 ∙ elim (w.fewer s) [
+        | inl e ↦ e
+        | inr e ↦ elim (lies_or_not c.heap rec.number s) [
+          | inl out ↦ (w.others s out).0
+          | inr l ↦ absurd (a l (freed s l e))
+        ]
+      ];
+      removed = λ k q x a. n.removed k q (below_one q x) (number_on k q a);
+      records = λ k d b. n.records k (λ q x a. b q (lost_below q x) (number_back k q a)) ∙ w.records k d;
+      own = (w.own.0, own_stays ∙ w.own.1, w.own.2, w.own.3, w.own.4);
+      serials = n.serials ∙ w.serials;
+      high = n.high ∙ w.high;
+      numbers = n.numbers ∙ w.numbers;
+    }
+
+  pub sound_mid : Sound c t → Grove mid tm → Sound mid tm
+  sound_mid x new =
+      let le = field_total-less c.heap mid.heap w.fewer in
+      let few = x.few in
+      record { grove = new; few = omega (arith, le, few) }
+
+  -- as many regions as before
+  pub count_mid : count_by is_some tm.records ≡ count_by is_some t.records
+  count_mid = by_records t.records tm.records (λ k. elim (cases_eq k key) [
+    | inl e ↦
+        let P : ℕ → Type 0 = λ z. is_some (record_at tm z) ≡ is_some (record_at t z) in
+        subst P (sym e) (ap is_some w.own.1 ∙ sym (ap is_some at))
+    | inr d ↦ ap is_some (w.records k d)
+  ])
+    where
+      head_more : (x : Option Record) (xs : List (Option Record)) → count_by is_some (x ∷ xs) ≡ cond {A = ℕ} (is_some x) 1 0 + count_by is_some xs
+      head_more x xs = sum_by-cons (λ y. cond (is_some y) 1 0) x xs
+
+      by_records : (xs ys : List (Option Record)) → ((k : ℕ) → is_some (get_or ys k None) ≡ is_some (get_or xs k None))
+          → count_by is_some ys ≡ count_by is_some xs
+      by_records [] [] e = refl
+      by_records [] (y ∷ ys) e =
+          let a = head_more y ys in
+          let b : cond {A = ℕ} (is_some y) 1 0 ≡ 0 = ap (λ z. cond {A = ℕ} z 1 0) (e 0) in
+          let i : count_by is_some ys ≡ 0 = by_records [] ys (λ k. e (suc k)) in
+          a ∙ omega (arith, b, i)
+      by_records (x ∷ xs) [] e =
+          let a = head_more x xs in
+          let b : 0 ≡ cond {A = ℕ} (is_some x) 1 0 = ap (λ z. cond {A = ℕ} z 1 0) (e 0) in
+          let i : 0 ≡ count_by is_some xs = by_records xs [] (λ k. e (suc k)) in
+          sym (a ∙ omega (arith, b, i))
+      by_records (x ∷ xs) (y ∷ ys) e =
+          let b : cond {A = ℕ} (is_some y) 1 0 ≡ cond {A = ℕ} (is_some x) 1 0 = ap (λ z. cond {A = ℕ} z 1 0) (e 0) in
+          let i = by_records xs ys (λ k. e (suc k)) in
+          let j : cond {A = ℕ} (is_some y) 1 0 + count_by is_some ys ≡ cond {A = ℕ} (is_some x) 1 0 + count_by is_some xs = omega (arith, b, i) in
+          head_more y ys ∙ j ∙ sym (head_more x xs)
+
+-- one region was collected: which cells of it went, and which regions are chained
+pub record Shrunk (c : Table) (t : RegionTable) (key : ℕ) (rec : Record) (mid : Table) (tm : RegionTable) (Cell : ℕ → Type 0)
+    (head : Option ℕ) : Type 0 where
+  pub shrinks : OneShrinks c t key rec mid tm
+  pub gone : (s : ℕ) → LiesIn c.heap rec.number s → Cell s → body_at mid.heap s ≡ None
+  pub freed : (s : ℕ) → LiesIn c.heap rec.number s → body_at mid.heap s ≡ None → Cell s
+  pub orphans : ChainsOrphans c.heap t rec.number Cell tm.links head
+
+pub of_counted : (c : Table) (t : RegionTable) (key : ℕ) (rec : Record) (roots : Roots) (mid : Table) (tm : RegionTable) (head : Option ℕ)
+    → Counted c t key rec roots mid tm → ChainsOrphans c.heap t rec.number (Spent c.heap rec.number roots) tm.links head
+    → Shrunk c t key rec mid tm (Spent c.heap rec.number roots) head
+of_counted c t key rec roots mid tm head w o = record {
+  shrinks = w.shrinks;
+  gone = λ s l x. w.gone s x;
+  freed = w.freed;
+  orphans = o;
+}
+
+pub of_collected : (c : Table) (t : RegionTable) (key : ℕ) (rec : Record) (roots : Roots) (mid : Table) (tm : RegionTable) (head : Option ℕ)
+    → Collected c t key rec roots mid tm → ChainsOrphans c.heap t rec.number (OutOfReach c.heap rec.number roots) tm.links head
+    → Shrunk c t key rec mid tm (OutOfReach c.heap rec.number roots) head
+of_collected c t key rec roots mid tm head w o = record {
+  shrinks = w.shrinks;
+  gone = w.gone;
+  freed = λ s l e x.
+      let z : None ≡ Some (Region rec.number) = sym (ap (option_map (λ (b : Body). b.label)) (sym (w.kept s x) ∙ e)) ∙ l in
+      cc;
+  orphans = o;
+}
+
+module _ (c : Table) (t : RegionTable) (key : ℕ) (rec : Record) (mid : Table) (tm : RegionTable) (Cell : ℕ → Type 0) (head : Option ℕ)
+    (x : Sound c t) (at : record_at t key ≡ Some rec) (w : Shrunk c t key rec mid tm Cell head) where
+  pub shrunk_sound : Grove mid tm → Sound mid tm
+  shrunk_sound new = sound_mid c t key rec mid tm Cell x.grove at w.shrinks w.gone w.freed tm.links head w.orphans.0 w.orphans.1 x new
+
+  pub shrunk_chain : (keys : List ℕ) × Chained tm.links head keys × Unowned mid.heap tm keys
+  shrunk_chain = (
+    w.orphans.0,
+    w.orphans.1.chain,
+    unowned c t key rec mid tm Cell x.grove at w.shrinks w.gone w.freed tm.links head w.orphans.0 w.orphans.1,
+  )
+
+  module _ (cells : Table) (regions : RegionTable) (n : (keys : List ℕ) → Chained tm.links head keys → Gone mid tm keys cells regions) where
+    pub shrunk_collects : Collects (record { cells = c; regions = t }) (record { cells = cells; regions = regions }) key rec Cell
+    shrunk_collects = collects c t key rec mid tm Cell x.grove at w.shrinks w.gone w.freed tm.links head w.orphans.0 w.orphans.1 cells regions
+        (n w.orphans.0 w.orphans.1.chain)
+
+    pub shrunk_told : (number held kept released : ℕ) (m : Manager) (members : List ℕ) → HasNumber t key number → HasManager t key m
+        → option_map (λ (z : Record). z.members) (record_at t key) ≡ Some members → held ≡ length members
+        → ((now : Record) → record_at tm key ≡ Some now → kept ≡ length now.members)
+        → released + count_by is_some regions.records ≡ count_by is_some tm.records
+        → Told (record { cells = c; regions = t }) (record { cells = cells; regions = regions }) key rec
+        (record { region = number; manager = m; held = held; kept = kept; released = released })
+    shrunk_told number held kept released m members a b d e f h = record {
+      region = one_number t key number rec.number a (number_of t key rec.number rec at refl);
+      manager = sym b.2 ∙ ap (λ (z : Record). z.manager) (one_record b.0 rec (sym b.1 ∙ at));
+      held = e ∙ ap length (sym (same_members (record_at t key) rec members at d));
+      kept = λ now y. f now (own_now c t key rec mid tm Cell x.grove at w.shrinks w.gone w.freed tm.links head w.orphans.0 w.orphans.1 cells regions
+          (n w.orphans.0 w.orphans.1.chain) now y);
+      released = h ∙ count_mid c t key rec mid tm Cell x.grove at w.shrinks w.gone w.freed tm.links head w.orphans.0 w.orphans.1;
+    }

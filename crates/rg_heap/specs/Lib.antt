@@ -1,0 +1,8 @@
+pub mod Parts
+pub mod Answers
+pub mod Changes
+pub mod Writes
+pub mod Ends
+pub mod Opened
+pub mod Collects
+pub mod Inner

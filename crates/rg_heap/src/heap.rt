@@ -1,0 +1,357 @@
+//! The heap: cells and regions (docs/architecture.md, "The heap").
+
+ghost use Rattle.std.specs.Prelude.{◌≡◌, ◌<◌, ℕ, [], true, false, IfOk, OnErr, length, option_map};
+ghost use Rattle.std.specs.Prelude.{Some, Err, ◌⊎◌, ◌≤◌, ◌↔◌, ◌+◌, drop, sum_by};
+ghost use Rattle.rg_base.specs.declared.object.Label.TheVariants.{Region, Temp};
+ghost use Rattle.rg_cells.specs.declared.cell.Body.{Body as BodyOf};
+ghost use Rattle.rg_cells.specs.Table.{IsHeld, body_at, field_at, label_at, width, with_field};
+ghost use Rattle.rg_regions.specs.Table.{IsKey, Added, fresh};
+ghost use Rattle.rg_regions.specs.Grove.{Below, Grove};
+ghost use Rattle.rg_frames.specs.Stack.{BaseUpTo, Begun, closed, opened, with_temp};
+ghost use Rattle.rg_frames.specs.Stack.{without_temps};
+ghost use Rattle.rg_heap.specs.Parts.{OnTop};
+ghost use Rattle.rg_heap.specs.Changes.{LeadsNowhere, OnActive, Makes, SameCells, SameRecords};
+ghost use Rattle.rg_heap.specs.Changes.{Rewritten, OpensOne, as_it_is, with_one};
+ghost use Rattle.rg_heap.specs.Writes.{Comes, InActive, IsTemp, LeadsOut, Ownerless, Stays};
+ghost use Rattle.rg_heap.specs.Ends.{CanEnter, CanLeave, GoesAlong, IsTopTemp, NoCell};
+ghost use Rattle.rg_heap.specs.Ends.{OnRegion, OnSlot, Released, top_temps};
+ghost use Rattle.rg_regions.specs.Collection.{AllHeld, TempsLeadToHeld, WordsLeadToHeld};
+ghost use Rattle.rg_regions.specs.Collection.{OfRegion, region_fields, roots_of};
+ghost use Rattle.rg_heap.specs.Collects.{CollectsBy};
+ghost use Rattle.rg_heap.specs.Answers.{CanRead, Reads, AllLead, Shows, end_numbers, Tells};
+ghost use Rattle.rg_heap.specs.Answers.{LeadsIntoClosed};
+
+use crate::answers::{Active, Collected, Refusal};
+use crate::collecting::collect_by;
+use crate::ending::{end_temps, release_one};
+use crate::making::{make_bridge, make_in};
+use crate::reading::{region_of, vals};
+use crate::writing::write_field;
+use rg_base::{EndNumbers, Label, Manager, Memory, Place, Seen, Steps, Trap, Word};
+use rg_cells::Cells;
+use rg_frames::Frames;
+use rg_regions::Regions;
+use std::alloc::Global;
+use std::marker::Model;
+use std::sync::ledger::Ledger;
+
+/// Cells and regions. The regions are a forest (`Grove`), between any two calls.
+#[derive(Drop)]
+pub struct Heap {
+    cells: Cells,
+    regions: Regions,
+}
+
+impl Model for Heap {
+    ghost use Rattle.rg_heap.specs.Parts.{Parts, Sound};
+
+    ghost Value = { Parts };
+
+    ghost view = { λ h. record { cells = h.cells; regions = h.regions } };
+
+    ghost invariant = { λ h. Sound h.cells h.regions };
+}
+
+impl Heap {
+    /// No cell and no region.
+    pub fn new(alloc: Global) -> Heap
+        ensures slots { result.cells.heap.slots ≡ [] }
+        ensures serials { result.cells.heap.next ≡ 0 }
+        ensures records { result.regions.records ≡ [] }
+        ensures numbers { result.regions.next ≡ 0 }
+    {
+        Heap {
+            cells: Cells::new(alloc),
+            regions: Regions::new(alloc),
+        }
+    }
+
+    /// Adds region 0, without cells, to a heap that has made no region; answers its key.
+    pub fn begin(&mut self, manager: Manager) -> Result<usize, Memory>
+        requires { self.old.regions.next ≡ 0 }
+        ensures added { IfOk result (λ key.
+            Added self.old.regions self.new.regions key (fresh self.old.regions manager)) }
+        ensures cells { self.new.cells ≡ self.old.cells }
+        ensures err { OnErr result (self.new ≡ self.old) }
+    {
+        self.regions.add(manager)
+    }
+
+    /// What always holds of the regions.
+    pub fn is_forest(&self)
+        ensures { Grove self.now.cells self.now.regions }
+    {
+        let _ = &self.cells;
+    }
+
+    /// Makes an object in the active region; answers its slot.
+    pub fn make(&mut self, frames: &Frames, class: u32, fields: &[Word]) -> Result<usize, Memory>
+        requires window { 0 < length frames.now.windows }
+        requires key { OnTop frames.now (λ w. IsKey self.old.regions w.region) }
+        requires plain { LeadsNowhere fields.now }
+        ensures cell { IfOk result (λ slot. OnActive self.old.regions frames.now (λ key number.
+            Makes self.old.cells self.new.cells slot class (Region number) fields.now)) }
+        ensures member { IfOk result (λ slot. OnTop frames.now (λ w.
+            Rewritten self.old.regions self.new.regions w.region (with_one slot))) }
+        ensures cells { OnErr result (self.new.cells ≡ self.old.cells) }
+        ensures regions { OnErr result (OnTop frames.now (λ w.
+            Rewritten self.old.regions self.new.regions w.region as_it_is)) }
+    {
+        let key = frames.top().region;
+        make_in(&mut self.cells, &mut self.regions, key, class, fields)
+    }
+
+    /// Makes a temporary of the top window; answers its slot. Where there is no memory, one slot
+    /// more may have been held.
+    pub fn make_tmp(
+        &mut self,
+        frames: &mut Frames,
+        class: u32,
+        fields: &[Word],
+    ) -> Result<usize, Memory>
+        requires begun { Begun frames.old }
+        requires plain { LeadsNowhere fields.now }
+        ensures cell { IfOk result (λ slot. OnTop frames.old (λ w.
+            Makes self.old.cells self.new.cells slot class (Temp w.number) fields.now)) }
+        ensures temp { IfOk result (λ slot. frames.new ≡ with_temp frames.old slot) }
+        ensures cells { OnErr result (SameCells self.old.cells self.new.cells) }
+        ensures frames { OnErr result (frames.new ≡ frames.old) }
+        ensures regions { self.new.regions ≡ self.old.regions }
+    {
+        let number = frames.top().number;
+        let Ok(slot) = self.cells.make(class, Label::Temp(number), fields) else {
+            return Err(Memory);
+        };
+        let Ok(()) = frames.push_temp(slot) else {
+            self.cells.cancel(slot);
+            return Err(Memory);
+        };
+        Ok(slot)
+    }
+
+    /// Makes an object with a region of its own, which is closed; answers its slot, the bridge.
+    pub fn make_region(
+        &mut self,
+        class: u32,
+        fields: &[Word],
+        manager: Manager,
+    ) -> Result<usize, Memory>
+        requires { LeadsNowhere fields.now }
+        ensures cell { IfOk result (λ slot. Makes self.old.cells self.new.cells slot class
+            (Region self.old.regions.next) fields.now) }
+        ensures region { IfOk result (λ slot.
+            OpensOne self.old.regions self.new.regions slot manager) }
+        ensures cells { OnErr result (self.new.cells ≡ self.old.cells) }
+        ensures regions { OnErr result (SameRecords self.old.regions self.new.regions) }
+    {
+        make_bridge(&mut self.cells, &mut self.regions, class, fields, manager)
+    }
+
+    /// A field of the object that is referred to. `Nil` comes exactly at nil.
+    pub fn read(&self, at: Word, k: u32) -> Result<Word, Trap>
+        requires { CanRead self.now.cells.heap at k }
+        ensures { Reads self.now.cells.heap at k result }
+    {
+        match at {
+            Word::Nil => Err(Trap::Nil),
+            Word::Int(_) | Word::Bool(_) => unreachable!(),
+            Word::Slot(slot) => Ok(self.cells.field(slot, k)),
+        }
+    }
+
+    /// Writes a field of a cell of the active region, or of a temporary.
+    pub fn write(&mut self, frames: &Frames, slot: usize, k: u32, w: Word)
+        requires window { 0 < length frames.now.windows }
+        requires key { OnTop frames.now (λ top. IsKey self.old.regions top.region) }
+        requires width { k < width (body_at self.old.cells.heap slot) }
+        requires place { InActive self.old.cells.heap self.old.regions frames.now slot
+            (λ number. Stays self.old.cells.heap number w) ⊎ IsTemp self.old.cells.heap slot }
+        ensures heap { self.new.cells.heap ≡ with_field self.old.cells.heap slot k w }
+        ensures regions { self.new.regions ≡ self.old.regions }
+    {
+        let key = frames.top().region;
+        write_field(&mut self.cells, &self.regions, key, slot, k, w);
+    }
+
+    /// Writes a field of a cell of the active region, or of a temporary, and answers what stood
+    /// there. The field may have owned a region, and may come to own one.
+    pub fn swap(&mut self, frames: &Frames, slot: usize, k: u32, w: Word) -> Word
+        requires width { k < width (body_at self.old.cells.heap slot) }
+        requires place { InActive self.old.cells.heap self.old.regions frames.now slot
+            (λ number. Comes self.old.cells.heap self.old.regions number w
+            × LeadsOut self.old.cells.heap slot k number)
+            ⊎ IsTemp self.old.cells.heap slot }
+        ensures value { field_at self.old.cells.heap slot k ≡ Some result }
+        ensures heap { self.new.cells.heap ≡ with_field self.old.cells.heap slot k w }
+        ensures regions { self.new.regions ≡ self.old.regions }
+    {
+        let _ = frames;
+        let old = self.cells.field(slot, k);
+        self.cells.set_field(slot, k, w);
+        old
+    }
+
+    /// Opens a window with the region of the object that is referred to, and answers that object's
+    /// slot. `Nil` comes exactly at nil. The window has the next number, and its base is a place
+    /// among all slots.
+    pub fn enter(
+        &mut self,
+        frames: &mut Frames,
+        at: Word,
+        owner: Place,
+        base: usize,
+    ) -> Result<usize, Refusal>
+        requires region { CanEnter self.old.cells.heap at }
+        requires above { BaseUpTo frames.old base }
+        requires within { base ≤ length frames.old.slots }
+        ensures nil { result ≡ Err Refusal.Nil ↔ at ≡ Word.Nil }
+        ensures slot { IfOk result (λ slot. at ≡ Word.Slot slot) }
+        ensures opened { IfOk result (λ slot. OnRegion self.old slot (λ key number.
+            frames.new ≡ opened frames.old key owner base)) }
+        ensures err { OnErr result (frames.new ≡ frames.old) }
+        ensures same { self.new ≡ self.old }
+    {
+        let slot = match at {
+            Word::Nil => return Err(Refusal::Nil),
+            Word::Int(_) | Word::Bool(_) => unreachable!(),
+            Word::Slot(slot) => slot,
+        };
+        let Some(key) = region_of(&self.cells, &self.regions, slot) else {
+            unreachable!();
+        };
+        let Ok(_) = frames.push_window(key, owner, base) else {
+            return Err(Refusal::Memory);
+        };
+        Ok(slot)
+    }
+
+    /// Leaves the top window. Its temporaries go, and so do the closed regions that they own, with
+    /// all beneath these.
+    pub fn leave(&mut self, frames: &mut Frames)
+        requires begun { Begun frames.old }
+        requires two { 2 ≤ length frames.old.windows }
+        requires temps { CanLeave self.old frames.old }
+        ensures released { Released self.old self.new (GoesAlong self.old frames.old)
+            (IsTopTemp frames.old) }
+        ensures window { frames.new ≡ closed (without_temps frames.old) }
+    {
+        end_temps(&mut self.cells, &mut self.regions, frames);
+        frames.clear_temps();
+        frames.pop_window();
+    }
+
+    /// Releases the region that a word owns, and all beneath it; where the word is no reference,
+    /// nothing goes.
+    pub fn drop_iso(&mut self, at: Word)
+        requires { OnSlot at (λ slot. (number : ℕ)
+            × Ownerless self.old.cells.heap self.old.regions number slot) }
+        ensures released { OnSlot at (λ slot. OnRegion self.old slot (λ key number.
+            Released self.old self.new (Below self.old.cells.heap self.old.regions number)
+            NoCell)) }
+        ensures none { ((slot : ℕ) → at ≡ Word.Slot slot → ⊥) → self.new ≡ self.old }
+    {
+        let Word::Slot(slot) = at else {
+            return;
+        };
+        let Some(key) = region_of(&self.cells, &self.regions, slot) else {
+            unreachable!();
+        };
+        release_one(&mut self.cells, &mut self.regions, key);
+    }
+
+    /// Collects the active region by its manager, and releases the regions that were owned by what
+    /// went; None exactly where the manager is an arena. The roots are the bridge, the slots from
+    /// the top window's base, and the top window's temporaries. One step is counted for each field
+    /// that is looked at.
+    pub fn collect<L: Ledger>(&mut self, frames: &Frames, steps: &mut Steps<L>) -> Option<Collected>
+        requires begun { Begun frames.now }
+        requires key { OnTop frames.now (λ top. IsKey self.old.regions top.region) }
+        requires slots { OnTop frames.now (λ top.
+            WordsLeadToHeld self.old.cells.heap (drop top.base frames.now.slots)) }
+        requires temps { AllHeld self.old.cells.heap (top_temps frames.now) }
+        requires temps_lead { TempsLeadToHeld self.old.cells.heap (top_temps frames.now) }
+        ensures collects { OnTop frames.now (λ top. OfRegion self.old.regions top.region (λ r.
+            CollectsBy r.manager self.old self.new top.region r (roots_of r.bridge
+            (drop top.base frames.now.slots) (top_temps frames.now)) result)) }
+        ensures cost { OnTop frames.now (λ top. OfRegion self.old.regions top.region (λ r.
+            steps.new ≤ steps.old
+            + sum_by (λ t. width (body_at self.old.cells.heap t)) (top_temps frames.now)
+            + region_fields self.old.cells.heap r.number)) }
+    {
+        let key = frames.top().region;
+        let slots = frames.slots();
+        let temps = frames.temps();
+        collect_by(&mut self.cells, &mut self.regions, key, slots, temps, steps)
+    }
+
+    /// The serial of a held cell.
+    pub fn serial(&self, slot: usize) -> u64
+        requires { IsHeld self.now.cells.heap slot }
+        ensures { option_map (λ (b : BodyOf). b.serial) (body_at self.now.cells.heap slot)
+            ≡ Some result }
+    {
+        self.cells.serial(slot)
+    }
+
+    /// The active region.
+    pub fn active(&self, frames: &Frames) -> Active
+        requires window { 0 < length frames.now.windows }
+        requires key { OnTop frames.now (λ w. IsKey self.now.regions w.region) }
+        ensures { OnTop frames.now (λ w. Tells self.now.regions w.region result) }
+    {
+        let key = frames.top().region;
+        Active {
+            region: self.regions.number(key),
+            manager: self.regions.manager(key),
+            held: self.regions.members(key).len() as u64,
+        }
+    }
+
+    /// Whether a word leads to a cell of a region that no window has open.
+    pub fn owns(&self, frames: &Frames, at: Word) -> bool
+        requires { (s : ℕ) → at ≡ Word.Slot s → IsHeld self.now.cells.heap s }
+        ensures closed { result ≡ true → LeadsIntoClosed self.now frames.now at }
+        ensures only { LeadsIntoClosed self.now frames.now at → result ≡ true }
+    {
+        let Word::Slot(slot) = at else {
+            return false;
+        };
+        match region_of(&self.cells, &self.regions, slot) {
+            Some(key) => !frames.is_open(key),
+            None => false,
+        }
+    }
+
+    /// The object with a serial, as it is shown; None exactly where no held cell has that serial.
+    pub fn shown(&self, alloc: Global, serial: u64) -> Result<Option<Seen>, Memory>
+        requires { (s n : ℕ) → label_at self.now.cells.heap s ≡ Some (Temp n)
+            → AllLead self.now.cells.heap s }
+        ensures { IfOk result (Shows self.now.cells.heap serial) }
+    {
+        let Some(slot) = self.cells.find(serial) else {
+            return Ok(None);
+        };
+        let fields = vals(alloc, &self.cells, slot)?;
+        Ok(Some(Seen {
+            class: self.cells.class(slot),
+            fields,
+            label: self.cells.label(slot),
+        }))
+    }
+
+    /// The numbers of the heap.
+    pub fn numbers(&self) -> EndNumbers
+        ensures { result ≡ end_numbers self.now }
+    {
+        let frozen = self.cells.frozen();
+        EndNumbers {
+            steps: 0,
+            made: self.cells.made(),
+            held: self.cells.held() - frozen,
+            frozen,
+            regions: self.regions.count() as u64,
+            collections: 0,
+            high: self.cells.high() as u64,
+        }
+    }
+}

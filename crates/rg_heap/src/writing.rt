@@ -1,0 +1,94 @@
+//! Fields that are written (docs/architecture.md, "The heap").
+
+ghost use Rattle.std.specs.Prelude.{◌≡◌, ◌<◌, ◌+◌, ◌-◌, ◌^◌, ℕ, None, IfSome};
+ghost use Rattle.rg_cells.specs.Table.{IsHeld, body_at, mark_at, width, with_field};
+ghost use Rattle.rg_regions.specs.Table.{IsKey};
+ghost use Rattle.rg_regions.specs.Reach.{LiesIn};
+ghost use Rattle.rg_heap.specs.Parts.{Sound};
+ghost use Rattle.rg_heap.specs.Writes.{counted};
+ghost use Rattle.rg_heap.specs.Inner.Marks.{MayWrite, Recounts};
+
+use rg_base::{Label, Manager, Word};
+use rg_cells::Cells;
+use rg_regions::Regions;
+
+// The cell of a region to which a word leads, if it leads to one.
+fn target(cells: &Cells, region: u64, w: Word) -> Option<usize>
+    requires { (s : ℕ) → w ≡ Word.Slot s → IsHeld cells.now.heap s }
+    ensures some { IfSome result (λ s. (w ≡ Word.Slot s) × LiesIn cells.now.heap region s) }
+    ensures none { result ≡ None → (s : ℕ) → w ≡ Word.Slot s → LiesIn cells.now.heap region s → ⊥ }
+{
+    let Word::Slot(to) = w else {
+        return None;
+    };
+    let Label::Region(number) = cells.label(to) else {
+        return None;
+    };
+    if number != region {
+        return None;
+    }
+    Some(to)
+}
+
+// One more field of a region leads where a word leads.
+fn raise(cells: &mut Cells, region: u64, w: Word)
+    requires held { (s : ℕ) → w ≡ Word.Slot s → IsHeld cells.old.heap s }
+    requires room { (s : ℕ) → LiesIn cells.old.heap region s → mark_at cells.old s < 2 ^ 64 - 1 }
+    ensures heap { cells.new.heap ≡ cells.old.heap }
+    ensures marks { (s : ℕ) → mark_at cells.new s
+        ≡ mark_at cells.old s + counted cells.old.heap region w s }
+{
+    let Some(to) = target(cells, region, w) else {
+        return;
+    };
+    let mark = cells.mark(to);
+    cells.set_mark(to, mark + 1);
+}
+
+// One field less of a region leads where a word leads.
+fn lower(cells: &mut Cells, region: u64, w: Word)
+    requires held { (s : ℕ) → w ≡ Word.Slot s → IsHeld cells.old.heap s }
+    requires marked { (s : ℕ) → w ≡ Word.Slot s → LiesIn cells.old.heap region s
+        → 0 < mark_at cells.old s }
+    ensures heap { cells.new.heap ≡ cells.old.heap }
+    ensures marks { (s : ℕ) → mark_at cells.new s + counted cells.old.heap region w s
+        ≡ mark_at cells.old s }
+{
+    let Some(to) = target(cells, region, w) else {
+        return;
+    };
+    let mark = cells.mark(to);
+    cells.set_mark(to, mark - 1);
+}
+
+// The marks follow where a field will lead, if the cell's region counts.
+fn recount(cells: &mut Cells, regions: &Regions, key: usize, slot: usize, k: u32, w: Word)
+    requires sound { Sound cells.old regions.now }
+    requires key { IsKey regions.now key }
+    requires width { k < width (body_at cells.old.heap slot) }
+    requires place { MayWrite cells.old.heap regions.now key slot w }
+    ensures { Recounts cells.old regions.now cells.new slot k w }
+{
+    let Manager::Count = regions.manager(key) else {
+        return;
+    };
+    let Label::Region(region) = cells.label(slot) else {
+        return;
+    };
+    let old = cells.field(slot, k);
+    raise(cells, region, w);
+    lower(cells, region, old);
+}
+
+/// Writes a field of a cell of the region of a key, or of a temporary.
+pub fn write_field(cells: &mut Cells, regions: &Regions, key: usize, slot: usize, k: u32, w: Word)
+    requires sound { Sound cells.old regions.now }
+    requires key { IsKey regions.now key }
+    requires width { k < width (body_at cells.old.heap slot) }
+    requires place { MayWrite cells.old.heap regions.now key slot w }
+    ensures heap { cells.new.heap ≡ with_field cells.old.heap slot k w }
+    ensures sound { Sound cells.new regions.now }
+{
+    recount(cells, regions, key, slot, k, w);
+    cells.set_field(slot, k, w);
+}

@@ -1,0 +1,10 @@
+mod CellsLabelled
+mod MembersLabelled
+mod PartFrozen
+mod GroveFrozen
+mod NextFrozen
+mod FieldsCounted
+mod MembersMoved
+mod GroveJoined
+mod CellsJoined
+mod RecordsJoined

@@ -1,0 +1,67 @@
+-- The records of a region that goes into another one (docs/architecture.md, "Freeze and merge").
+use Rattle.std.proofs.Common.{◌≡◌, ◌≢◌, ℕ, ◌-◌, ◌≤◌, List, ◌++◌, length, Option, Some, None, get_or, ap, sym, ◌∙◌, subst, arith}
+use Rattle.std.proofs.lemmas.List.{get_or-set_other, take_all}
+use Rattle.rg_regions.specs.Table.{Record, RegionTable, record_at, link_at, with_room, Roomier, removed}
+use Rattle.rg_regions.proofs.Callers.Told.{one_record}
+use Rattle.rg_regions.proofs.Callers.Changed.{changed_at, changed_other, changed_links}
+use Rattle.rg_regions.proofs.Callers.Removed.{none_there}
+use Rattle.rg_move.specs.Merged.{RecordsMerge}
+use Rattle.rg_move.specs.Inner.Moves.{PushedFirst, HasRoomToMove}
+
+module _ (t roomy : RegionTable) (from into more : ℕ) (a b : Record) (d : from ≢ into) (at : record_at t from ≡ Some a)
+    (to : record_at t into ≡ Some b) (r : Roomier t roomy into more) where
+  pub from_roomy : record_at roomy from ≡ Some a
+  from_roomy = ap (λ z. record_at z from) r.2 ∙ changed_other t into (with_room r.0) from d ∙ at
+
+  pub into_roomy : record_at roomy into ≡ Some (with_room r.0 b)
+  into_roomy = ap (λ z. record_at z into) r.2 ∙ changed_at t into b (with_room r.0) to
+
+  pub has_room : more ≡ length a.members → HasRoomToMove roomy from into
+  has_room e = record {
+    one = a;
+    other = with_room r.0 b;
+    at = from_roomy;
+    to = into_roomy;
+    differ = d;
+    room = let P : ℕ → Type 0 = λ n. n ≤ r.0 in subst P e r.1;
+  }
+
+  module _ (full new : RegionTable) (p : PushedFirst roomy from into a (with_room r.0 b) (length a.members) full) (is : new ≡ removed full from) where
+    next_same : new.next ≡ t.next
+    next_same =
+        ap (λ (z : RegionTable). z.next) is ∙ p.next ∙ ap (λ (z : RegionTable). z.next) r.2 ∙ (changed_links t into (with_room r.0)).1
+
+    pub numbers_kept : new.next ≡ t.next
+    numbers_kept = next_same
+
+    record_on : (k : ℕ) → k ≢ from → record_at new k ≡ record_at full k
+    record_on k e = ap (λ z. record_at z k) is ∙ get_or-set_other full.records from k None None e
+
+    link_on : (k : ℕ) → k ≢ from → link_at new k ≡ link_at t k
+    link_on k e =
+        ap (λ (z : RegionTable). get_or z.links k None) is ∙ get_or-set_other full.links from k None None e
+        ∙ ap (λ (ls : List (Option ℕ)). get_or ls k None)
+        (p.links ∙ ap (λ (z : RegionTable). z.links) r.2 ∙ (changed_links t into (with_room r.0)).0)
+
+    pub records_merge : RecordsMerge t new from into
+    records_merge = record {
+      gone = ap (λ z. record_at z from) is ∙ none_there full.records from;
+      members = λ x y e f.
+          let one : a ≡ x = one_record a x (sym at ∙ e) in
+          let two : b ≡ y = one_record b y (sym to ∙ f) in
+          let P : Record → Record → Type 0 = λ u v.
+          (room : ℕ) × (record_at new into ≡ Some (record v { members = v.members ++ u.members; room = room })) in
+          let Q : Record → Type 0 = λ u. P u y in
+          let R : Record → Type 0 = λ v. P a v in
+          subst Q one (subst R two (
+            r.0 - length a.members,
+            record_on into (λ q. d (sym q)) ∙ p.pushed
+                ∙ ap (λ ms. Some (record b { members = b.members ++ ms; room = r.0 - length a.members }))
+                (take_all (length a.members) a.members (omega arith)),
+          ));
+      link = link_on into (λ q. d (sym q));
+      others = λ k e f. (
+        record_on k e ∙ p.others k f ∙ ap (λ z. record_at z k) r.2 ∙ changed_other t into (with_room r.0) k f,
+        link_on k e,
+      );
+    }

@@ -1,0 +1,20 @@
+-- What a merge does to cells, in the parts from which the forest follows (docs/architecture.md, "Freeze and merge").
+use Rattle.std.specs.Prelude.{◌≡◌, ℕ}
+use Rattle.rg_base.specs.declared.object.Label.TheVariants.{Region}
+use Rattle.rg_base.specs.declared.words.Manager.TheVariants.{Count}
+use Rattle.rg_cells.specs.Table.{Table, body_at, mark_at}
+use Rattle.rg_regions.specs.Table.{Record}
+use Rattle.rg_regions.specs.Reach.{LiesIn}
+use Rattle.rg_move.specs.Frozen.{labelled}
+use Rattle.rg_move.specs.Inner.Moves.{led_by}
+
+-- the cells of the one region have the number of the other, and all bodies else stay
+pub record Relabels (c : Table) (r n : ℕ) (cells : Table) : Type 0 where
+  pub moved : (s : ℕ) → LiesIn c.heap r s → body_at cells.heap s ≡ labelled (Region n) (body_at c.heap s)
+  pub others : (s : ℕ) → (LiesIn c.heap r s → ⊥) → body_at cells.heap s ≡ body_at c.heap s
+
+-- the moved cells have marks for the manager of the other region, and all marks else stay
+pub record Marks (c : Table) (a b : Record) (cells : Table) : Type 0 where
+  pub counted : (s : ℕ) → LiesIn c.heap a.number s → b.manager ≡ Count → mark_at cells s ≡ led_by cells.heap a.members s
+  pub uncounted : (s : ℕ) → LiesIn c.heap a.number s → (b.manager ≡ Count → ⊥) → mark_at cells s ≡ 0
+  pub kept : (s : ℕ) → (LiesIn c.heap a.number s → ⊥) → mark_at cells s ≡ mark_at c s

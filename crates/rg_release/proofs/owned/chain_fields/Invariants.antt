@@ -1,5 +1,0 @@
-use Rattle.rg_release.specs.Inner.Owned.{FollowsFields}
-use Rattle.rg_release.proofs.owned.chain_fields.Given as goal
-
-abbrev pub invariant-loop-k : goal.invariant-loop-k
-invariant-loop-k l = FollowsFields l.cells.heap l.region l.slot l.k l.initial.regions l.regions l.initial.head l.head

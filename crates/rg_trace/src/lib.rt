@@ -1,0 +1,11 @@
+//! Mark and sweep (docs/architecture.md, "Mark and sweep"). `collect` keeps of a region what its
+//! roots reach, and chains the regions that lost their owner. It takes no memory.
+#![tactic(auto)]
+
+mod mark;
+mod orphans;
+mod sweeping;
+mod whole;
+
+pub use rg_regions::Kept;
+pub use whole::collect;
