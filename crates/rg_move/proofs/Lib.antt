@@ -8,3 +8,4 @@ mod MembersMoved
 mod GroveJoined
 mod CellsJoined
 mod RecordsJoined
+mod Examples
