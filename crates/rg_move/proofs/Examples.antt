@@ -1,5 +1,5 @@
 -- What freeze and merge ask for, and which regions freeze, on a small heap (docs/architecture.md, "Freeze and merge").
-use Rattle.std.proofs.Common.{◌≡◌, ℕ, ◌⊎◌, inl, inr, zero, suc, List, [], ◌∷◌, Option, Some, None, refl, subst, arith}
+use Rattle.std.proofs.Common.{◌≡◌, ℕ, ◌⊎◌, inl, inr, zero, suc, [], ◌∷◌, Option, Some, None, refl, subst, arith}
 use Rattle.rg_base.specs.declared.object.Label.TheVariants.{Region}
 use Rattle.rg_base.specs.declared.words.Manager.TheVariants.{Trace}
 use Rattle.rg_base.specs.declared.value.Word.{Word}
@@ -8,7 +8,7 @@ use Rattle.rg_cells.specs.declared.cell.Body.{Body}
 use Rattle.rg_cells.specs.Table.{Heap, field_at}
 use Rattle.rg_regions.specs.Table.{Record, RegionTable, HasNumber}
 use Rattle.rg_regions.specs.Reach.{LiesIn}
-use Rattle.rg_regions.specs.Grove.{Parent, Above, direct, further}
+use Rattle.rg_regions.specs.Grove.{Above, direct, further}
 use Rattle.rg_move.specs.Closed.{Closed, BelowKey}
 use Rattle.rg_move.specs.Merged.{CanTake}
 
