@@ -6,6 +6,9 @@ pub mod RegionComes
 pub mod Changed
 pub mod Freed
 pub mod OwnedFound
+pub mod OneShrinks
+pub mod Dropped
 pub mod Removed
 pub mod HandedOver
 pub mod Shares
+pub mod CellComes

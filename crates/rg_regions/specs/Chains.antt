@@ -1,4 +1,5 @@
--- A word of a region's cell leads into another region, which becomes the head of a chain (docs/architecture.md, "Regions").
+-- A word of a region's cell leads into another region, which becomes the head of a chain (docs/architecture.md,
+-- "Regions").
 use Rattle.std.specs.Prelude.{◌≡◌, ◌≢◌, ℕ, ◌⊎◌, ◌<◌, List, length, Option, Some, slice_index, slice_set}
 use Rattle.rg_base.specs.declared.value.Word.{Word}
 use Rattle.rg_base.specs.declared.value.Word.TheVariants.{Slot}
@@ -14,10 +15,14 @@ AllInTable h t = (q s : ℕ) → LiesIn h q s → InTable t q
 abbrev pub LeadsToHeld : Heap → (region : ℕ) → Type 0
 LeadsToHeld h r = (p k s : ℕ) → LiesIn h r p → field_at h p k ≡ Some (Slot s) → IsHeld h s
 
+-- into each other region at most one field of a region's cells leads
+abbrev pub LeadsOnce : Heap → (region : ℕ) → Type 0
+LeadsOnce h r = (q s k to s₂ k₂ to₂ : ℕ) → q ≢ r → LiesIn h r s → field_at h s k ≡ Some (Slot to) → LiesIn h q to →
+    LiesIn h r s₂ → field_at h s₂ k₂ ≡ Some (Slot to₂) → LiesIn h q to₂ → (s ≡ s₂) × (k ≡ k₂)
+
 -- the members of a region are cells of it, each once, and into each other region at most one of their fields leads
 pub record OwnsOnce (h : Heap) (r : ℕ) (members : List ℕ) : Type 0 where
-  pub one : (q s k to s₂ k₂ to₂ : ℕ) → q ≢ r → LiesIn h r s → field_at h s k ≡ Some (Slot to) → LiesIn h q to →
-      LiesIn h r s₂ → field_at h s₂ k₂ ≡ Some (Slot to₂) → LiesIn h q to₂ → (s ≡ s₂) × (k ≡ k₂)
+  pub one : LeadsOnce h r
   pub lie : (j : ℕ) → j < length members → LiesIn h r (slice_index members j)
   pub once : (a b : ℕ) → a < length members → b < length members → slice_index members a ≡ slice_index members b → a ≡ b
 

@@ -4,5 +4,7 @@ pub mod Spent
 pub mod Grove
 pub mod Chains
 pub mod Owned
+pub mod Collection
+pub mod Dropped
 pub mod Same
 pub mod Inner

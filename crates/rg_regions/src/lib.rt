@@ -5,12 +5,14 @@
 #![tactic(auto)]
 
 mod chains;
+mod counts;
 mod owned;
 mod places;
 mod region;
 mod regions;
 
 pub use chains::chain_word;
+pub use counts::{added, removed};
 pub use owned::chain_owned;
 pub use region::Kept;
 pub use regions::Regions;

@@ -4,7 +4,7 @@ ghost use Rattle.std.specs.Prelude.{◌≡◌, ℕ, Some, length};
 ghost use Rattle.rg_cells.specs.Table.{IsHeld, body_at, field_at, width};
 ghost use Rattle.rg_regions.specs.Table.{Record, record_at};
 ghost use Rattle.rg_regions.specs.Chains.{AllInTable, LeadsToHeld, OwnsOnce};
-ghost use Rattle.rg_regions.specs.Owned.{FollowsFields, FollowsMembers};
+ghost use Rattle.rg_regions.specs.Owned.{Every, FollowsFields, FollowsMembers};
 
 use crate::chains::chain_word;
 use crate::regions::Regions;
@@ -23,7 +23,7 @@ fn chain_fields(
     requires lead { (k s : ℕ) → field_at cells.now.heap slot k ≡ Some (Word.Slot s)
         → IsHeld cells.now.heap s }
     requires labels { AllInTable cells.now.heap regions.old }
-    ensures { FollowsFields cells.now.heap region slot (width (body_at cells.now.heap slot))
+    ensures { FollowsFields cells.now.heap Every region slot (width (body_at cells.now.heap slot))
         regions.old regions.new head result }
 {
     for k in 0..cells.field_count(slot) {

@@ -109,8 +109,8 @@ module _ (c : Table) (t : RegionTable) (key : ℕ) (rec : Record) (cells : Table
             let off = apart k z o.0 o.1 in
             let x : LiesIn c.heap z.number s = lie z.number s l in
             (w.others s (λ i. off (one_region c.heap s z.number r x i))).1
-                ∙ g.counts k s z o.1 m x
-                ∙ sym (referrers_kept c cells r z.number s off fewer far);
+            ∙ g.counts k s z o.1 m x
+            ∙ sym (referrers_kept c cells r z.number s off fewer far);
         unmarked = λ s n. elim (lies_or_not c.heap r s) [
           | inl out ↦ (w.others s out).1 ∙ g.unmarked s (λ k z a m l. elim (cases_eq k key) [
             | inl p ↦

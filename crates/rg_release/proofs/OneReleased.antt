@@ -8,7 +8,7 @@ use Rattle.rg_regions.specs.Grove.{Grove}
 use Rattle.rg_regions.specs.Chains.{OwnsOnce}
 use Rattle.rg_regions.proofs.Callers.Told.{number_of, owns_once}
 use Rattle.rg_release.specs.Released.{Unowned}
-use Rattle.rg_regions.specs.Owned.{OwnedInFront, OwnsNone, HandsOver}
+use Rattle.rg_regions.specs.Owned.{Every, OwnedInFront, OwnsNone, HandsOver}
 use Rattle.rg_regions.proofs.Callers.HandedOver.{member_place, handed_over}
 use Rattle.rg_release.specs.Inner.Turns.{FreedFirst, IsClear, Emptied, Turned}
 
@@ -18,7 +18,7 @@ owns_none h t key r rest l = λ k q s f to m n d i x y. l.alone k q r s f to (in
 
 module _ (c : Table) (t : RegionTable) (key : ℕ) (rec : Record) (rest : List ℕ) (mid : RegionTable) (head : Option ℕ) (cells : Table)
     (regions : RegionTable) (keys : List ℕ) (g : Grove c t) (e : record_at t key ≡ Some rec) (fresh : Has rest key → ⊥)
-    (o : OwnedInFront c.heap rec.number rec.members rest t (length rec.members) 0 mid head keys)
+    (o : OwnedInFront c.heap Every rec.number rec.members rest t (length rec.members) 0 mid head keys)
     (f : FreedFirst c rec.members (length rec.members) cells) (is : regions ≡ removed mid key) where
   own : OwnsOnce c.heap rec.number rec.members
   own = owns_once c t key rec g e
@@ -26,7 +26,7 @@ module _ (c : Table) (t : RegionTable) (key : ℕ) (rec : Record) (rest : List �
   hand : HandsOver c.heap t key rec.number rest regions head keys
   hand =
       handed_over c.heap t key rec.number rec.members rest mid head regions keys (g.members key rec e) own
-          (number_of t key rec.number rec e refl) fresh o is
+      (number_of t key rec.number rec e refl) fresh o is
 
   -- the chain stands without the region that goes
   pub chain_made : Chained regions.links head keys

@@ -10,7 +10,7 @@ ghost use Rattle.rg_release.specs.Inner.Turns.{Turns};
 
 use crate::freeing::free_members;
 use rg_cells::Cells;
-use rg_regions::{chain_owned, Regions};
+use rg_regions::{Regions, chain_owned};
 
 /// The first of some chained regions goes, and the regions that it owns come in front of the
 /// others.

@@ -1,1 +1,2 @@
 mod TopsMade
+mod CellsTraced

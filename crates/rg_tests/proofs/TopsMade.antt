@@ -3,6 +3,7 @@ use Rattle.std.proofs.Common.{◌≡◌, ◌≢◌, ℕ, ◌<◌, ◌≤◌, zer
 use Rattle.std.proofs.Common.{subst, arith, inl, inr, option_map, slice_get}
 use Rattle.rg_base.specs.declared.object.Label.TheVariants.{Region}
 use Rattle.rg_base.specs.declared.words.Manager.{Manager}
+use Rattle.rg_base.specs.declared.words.Manager.TheVariants.{Trace}
 use Rattle.rg_base.specs.declared.value.Word.{Word}
 use Rattle.rg_base.specs.declared.value.Word.TheVariants.{Slot}
 use Rattle.rg_cells.specs.declared.cell.Body.{Body}
@@ -18,6 +19,7 @@ use Rattle.rg_release.specs.Released.{Unowned}
 use Rattle.rg_move.specs.Closed.{Closed}
 use Rattle.rg_move.specs.Merged.{CanTake}
 use Rattle.rg_tests.specs.Tops.{IsTop, LeadsToTop}
+use Rattle.rg_tests.specs.Traced.{InTraced}
 
 only_word : (w v : Word) (k : ℕ) → slice_get (w ∷ []) k ≡ Some v → (k ≡ 0) × (w ≡ v)
 only_word w v zero e = (refl, word_is w v e)
@@ -82,6 +84,14 @@ module _ (c c2 : Table) (t t1 t2 t3 t4 : RegionTable) (key slot number room : �
 
     pub grove_made : Grove c2 t4
     grove_made = grove_comes c t c2 t4 key slot (with_member slot (with_bridge slot (with_room room (fresh t m)))) b g comes
+
+    pub top_in : m ≡ Trace → InTraced c2 t4 key slot
+    top_in e = (
+      with_member slot (with_bridge slot (with_room room (fresh t m))),
+      at_end,
+      e,
+      ap (option_map (λ (b : Body). b.label)) made.body ∙ ap Some label_is,
+    )
 
     pub top_made : IsTop c2 t4 t.next key slot
     top_made = record {

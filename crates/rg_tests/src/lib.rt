@@ -8,6 +8,8 @@ mod capabilities;
 #[cfg(test)]
 mod cells;
 #[cfg(test)]
+mod collections;
+#[cfg(test)]
 mod flow;
 #[cfg(test)]
 mod frames;

@@ -3,6 +3,7 @@
 ghost use Rattle.std.specs.Prelude.{◌≡◌, ◌+◌, IfOk, OnOk};
 ghost use Rattle.rg_regions.specs.Grove.{Grove};
 ghost use Rattle.rg_tests.specs.Tops.{IsTop, LeadsToTop};
+ghost use Rattle.rg_tests.specs.Traced.{InTraced};
 
 use rg_base::{Label, Manager, Word};
 use rg_cells::Cells;
@@ -25,6 +26,7 @@ pub fn add_top(
     ensures grove { OnOk result (Grove cells.new regions.new) }
     ensures top { IfOk result (λ made.
         IsTop cells.new regions.new regions.old.next made.0 made.1) }
+    ensures cell { IfOk result (λ made. InTraced cells.new regions.new made.0 made.1) }
     ensures next { OnOk result (regions.new.next ≡ regions.old.next + 1) }
 {
     let key = regions.add(Manager::Trace)?;

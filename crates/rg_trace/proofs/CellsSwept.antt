@@ -1,110 +1,63 @@
 -- Each turn of sweeping: a white member is freed, a black one becomes white (docs/architecture.md, "Mark and sweep").
-use Rattle.std.proofs.Common.{◌≡◌, ◌≢◌, ℕ, ◌+◌, ◌-◌, ◌<◌, ◌≤◌, zero, suc, List, [], ◌∷◌, length, Option, Some, None, get_or, set, take, refl, ap}
-use Rattle.std.proofs.Common.{sym, ◌∙◌, subst, arith, ◌⊎◌, inl, inr, option_map, count_by, is_some, cond}
+use Rattle.std.proofs.Common.{◌≡◌, ◌≢◌, ℕ, ◌+◌, ◌-◌, ◌<◌, List, length, None, get_or, set, ap}
+use Rattle.std.proofs.Common.{sym, ◌∙◌, subst, arith, inl, inr, option_map}
 use Rattle.std.specs.List.{swap_remove}
-use Rattle.std.proofs.lemmas.List.{get_or-set_same, get_or-set_other, get_or-take, get_or_past, length-take-le, length-set, set_past}
+use Rattle.std.proofs.lemmas.List.{get_or-set_other}
 use Rattle.std.proofs.lemmas.Bool.{cases_eq, cases_lt}
-use Rattle.std.proofs.lemmas.List.Sums.{sum_by-cons}
-use Rattle.rg_base.specs.declared.object.Label.{Label}
-use Rattle.rg_base.specs.declared.object.Label.TheVariants.{Region, Temp, Frozen}
 use Rattle.rg_cells.specs.declared.cell.Body.{Body}
-use Rattle.rg_cells.specs.Table.{Heap, Table, body_at, body_in, label_at, mark_at, freed, freed_from}
+use Rattle.rg_cells.specs.Table.{Table, body_at, body_in, mark_at, freed, freed_from}
 use Rattle.rg_regions.specs.Reach.{LiesIn}
 use Rattle.rg_trace.specs.Inner.Sweeping.{Swept}
-use Rattle.rg_regions.proofs.Callers.Freed.{zero_here, count-freed, held_once}
+use Rattle.rg_regions.proofs.Callers.Freed.{zero_here, count-freed, held_once, lies_within, freed_here, freed_other}
+use Rattle.rg_regions.proofs.Callers.Freed.{lies_freed, freed_lies, swapped, swapped-length, swapped-here}
+use Rattle.rg_regions.proofs.Callers.Freed.{swapped-other}
 use Rattle.rg_regions.proofs.Callers.Told.{lies_held}
 
-lies-within : (h : Heap) (r s : ℕ) → LiesIn h r s → s < length h.slots
-lies-within h r s l = elim (cases_lt s (length h.slots)) [
-  | inl m ↦ m
-  | inr m ↦
-      let e : body_at h s ≡ None = ap body_in (get_or_past h.slots s None m) in
-      let q : None ≡ Some (Region r) = sym (ap (option_map (λ (b : Body). b.label)) e) ∙ l in
-      cc
-]
-
-freed-here : (h : Heap) (s : ℕ) → s < length h.slots → body_at (freed h s) s ≡ None
-freed-here h s l = ap body_in (get_or-set_same h.slots s (Some None) None l)
-
-freed-other : (h : Heap) (s x : ℕ) → x ≢ s → get_or (freed h s).slots x None ≡ get_or h.slots x None
-freed-other h s x d = get_or-set_other h.slots s x (Some None) None d
-
-lies-freed : (h : Heap) (r s x : ℕ) → s < length h.slots → LiesIn (freed h s) r x → (x ≢ s) × LiesIn h r x
-lies-freed h r s x l i = elim (cases_eq x s) [
-  | inl e ↦
-      let b : body_at (freed h s) x ≡ None = ap (body_at (freed h s)) e ∙ freed-here h s l in
-      let q : None ≡ Some (Region r) = sym (ap (option_map (λ (b : Body). b.label)) b) ∙ i in
-      cc
-  | inr d ↦ (d, let L : Option (Option Body) → Type 0 = λ o. option_map (λ (b : Body). b.label) (body_in o)
-      ≡ Some (Region r) in subst L (freed-other h s x d) i)
-]
-
-freed-lies : (h : Heap) (r s x : ℕ) → x ≢ s → LiesIn h r x → LiesIn (freed h s) r x
-freed-lies h r s x d i = let L : Option (Option Body) → Type 0 = λ o. option_map (λ (b : Body). b.label) (body_in o)
-    ≡ Some (Region r) in subst L (sym (freed-other h s x d)) i
-
--- the elements after a swap_remove
-swapped-length : (xs : List ℕ) (p : ℕ) → p < length xs → length (swap_remove xs p 0) + 1 ≡ length xs
-swapped-length xs p l =
-    let n : length (set xs p (get_or xs (length xs - 1) 0)) ≡ length xs = length-set xs p (get_or xs (length xs - 1) 0) in
-    let m = length-take-le (length xs - 1) (set xs p (get_or xs (length xs - 1) 0)) (omega (arith, n)) in
-    omega (arith, m)
-
-swapped-here : (xs : List ℕ) (p : ℕ) → p + 1 < length xs → get_or (swap_remove xs p 0) p 0 ≡ get_or xs (length xs - 1) 0
-swapped-here xs p l = get_or-take (length xs - 1) (set xs p (get_or xs (length xs - 1) 0)) p 0 (omega arith)
-    ∙ get_or-set_same xs p (get_or xs (length xs - 1) 0) 0 (omega arith)
-
-swapped-other : (xs : List ℕ) (p j : ℕ) → j ≢ p → j + 1 < length xs → get_or (swap_remove xs p 0) j 0 ≡ get_or xs j 0
-swapped-other xs p j d l = get_or-take (length xs - 1) (set xs p (get_or xs (length xs - 1) 0)) j 0 (omega arith)
-    ∙ get_or-set_other xs p j (get_or xs (length xs - 1) 0) 0 d
-
--- each element that is left was at a place: at its own, or at the last one
-swapped : (xs : List ℕ) (p j : ℕ) → p < length xs → j + 1 < length xs → (k : ℕ) × (k < length xs) × (k ≢ p)
-    × (get_or (swap_remove xs p 0) j 0 ≡ get_or xs k 0) × (((j ≢ p) × (k ≡ j)) ⊎ ((j ≡ p) × (k + 1 ≡ length xs)))
-swapped xs p j l m = elim (cases_eq j p) [
-  | inl e ↦ (
-    length xs - 1,
-    omega arith,
-    (λ q. let a : p + 1 ≡ length xs = omega arith in absurd (omega (arith, e))),
-    ap (λ z. get_or (swap_remove xs p 0) z 0) e ∙ swapped-here xs p (omega (arith, e)),
-    inr (e, omega arith),
-  )
-  | inr d ↦ (j, omega arith, d, swapped-other xs p j d m, inl (d, refl))
-]
-
 -- a white member is freed
-pub swept-free : (h : Heap) (marks : List ℕ) (r : ℕ) (members : List ℕ) (p s : ℕ) (t : Table) → get_or members p 0 ≡ s → mark_at t s ≡ 0
-    → Swept h marks r members (p + 1) t → Swept h marks r (swap_remove members p 0) p (freed_from t s)
-swept-free h marks r members p s t is white w =
+pub swept-free : (c : Table) (r : ℕ) (members : List ℕ) (p s : ℕ) (t : Table) → get_or members p 0 ≡ s → mark_at t s ≡ 0
+    → Swept c r members (p + 1) t → Swept c r (swap_remove members p 0) p (freed_from t s)
+swept-free c r members p s t is white w =
     let inside : p < length members = omega (arith, w.fits) in
     let P : ℕ → Type 0 = λ z. LiesIn t.heap r z in
     let lies : LiesIn t.heap r s = subst P is (w.lie p inside) in
-    let room : s < length t.heap.slots = lies-within t.heap r s lies in
-    let was : get_or marks s 0 ≡ 0 = ap (λ z. get_or marks z 0) (sym is) ∙ sym (w.before p (omega arith)) ∙ ap (λ z. mark_at t z) is ∙ white in
-    let here : LiesIn h r s = ap (option_map (λ (b : Body). b.label)) (sym (w.only s lies)) ∙ lies in
+    let room : s < length t.heap.slots = lies_within t.heap r s lies in
+    let was : get_or c.marks s 0 ≡ 0 = ap (λ z. get_or c.marks z 0) (sym is) ∙ sym (w.before p (omega arith))
+    ∙ ap (λ z. mark_at t z) is ∙ white in
+    let here : LiesIn c.heap r s = ap (option_map (λ (b : Body). b.label)) (sym (w.only s lies)) ∙ lies in
     let n = swapped-length members p inside in
     let apart : (k : ℕ) → k < length members → k ≢ p → get_or members k 0 ≢ s = λ k l d e. elim (cases_lt k p) [
       | inl m ↦ w.once k p m inside (e ∙ sym is)
       | inr m ↦ let q : p < k = omega arith in w.once p k q l (is ∙ sym e)
     ] in
-    let mark : (x : ℕ) → x ≢ s → get_or (set t.marks s 0) x 0 ≡ get_or t.marks x 0 = λ x d. get_or-set_other t.marks s x 0 0 d in
+    let mark : (x : ℕ) → x ≢ s → get_or (set t.marks s 0) x 0 ≡ get_or t.marks x 0 =
+    λ x d. get_or-set_other t.marks s x 0 0 d in
     record {
       fits = omega (arith, n, inside);
       lie = λ j l.
           let e = swapped members p j inside (omega (arith, n, l)) in
           let L : ℕ → Type 0 = λ z. LiesIn (freed t.heap s) r z in
-          subst L (sym e.3) (freed-lies t.heap r s (get_or members e.0 0) (apart e.0 e.1 e.2) (w.lie e.0 e.1));
+          subst L (sym e.3) (freed_lies t.heap r s (get_or members e.0 0) (apart e.0 e.1 e.2) (w.lie e.0 e.1));
       once = λ j k m l q.
           let a = swapped members p j inside (omega (arith, n, l)) in
           let b = swapped members p k inside (omega (arith, n, l)) in
           let same : get_or members a.0 0 ≡ get_or members b.0 0 = sym a.3 ∙ q ∙ b.3 in
           let d : a.0 ≢ b.0 = λ z. elim (a.4) [
-            | inl x ↦ elim (b.4) [ inl y ↦ absurd (omega (arith, x.1, y.1)) | inr y ↦ absurd (omega (arith, x.1, y.1, n, l)) ]
-            | inr x ↦ elim (b.4) [ inl y ↦ absurd (omega (arith, x.1, y.1, n, l)) | inr y ↦ absurd (omega (arith, x.0, y.0)) ]
+            | inl x ↦ elim (b.4) [
+              | inl y ↦ absurd (omega (arith, x.1, y.1))
+              | inr y ↦ absurd (omega (arith, x.1, y.1, n, l))
+            ]
+            | inr x ↦ elim (b.4) [
+              | inl y ↦ absurd (omega (arith, x.1, y.1, n, l))
+              | inr y ↦ absurd (omega (arith, x.0, y.0))
+            ]
           ] in
-          elim (cases_lt a.0 b.0) [ inl z ↦ w.once a.0 b.0 z b.1 same | inr z ↦ let v : b.0 < a.0 = omega arith in w.once b.0 a.0 v a.1 (sym same) ];
+          elim (cases_lt a.0 b.0) [
+            | inl z ↦ w.once a.0 b.0 z b.1 same
+            | inr z ↦ let v : b.0 < a.0 = omega arith in
+                w.once b.0 a.0 v a.1 (sym same)
+          ];
       all = λ x i.
-          let f = lies-freed t.heap r s x room i in
+          let f = lies_freed t.heap r s x room i in
           let a = w.all x f.1 in
           let off : a.0 ≢ p = λ z. f.0 (sym a.2 ∙ ap (λ k. get_or members k 0) z ∙ is) in
           elim (cases_lt (a.0 + 1) (length members)) [
@@ -118,42 +71,56 @@ swept-free h marks r members p s t is white w =
           let d : j ≢ p = omega arith in
           let e = swapped-other members p j d (omega (arith, inside)) in
           let off = apart j (omega (arith, inside)) d in
-          ap (λ z. get_or (set t.marks s 0) z 0) e ∙ mark (get_or members j 0) off ∙ w.before j (omega arith) ∙ ap (λ z. get_or marks z 0) (sym e);
+          ap (λ z. get_or (set t.marks s 0) z 0) e ∙ mark (get_or members j 0) off ∙ w.before j (omega arith)
+          ∙ ap (λ z. get_or c.marks z 0) (sym e);
       after = λ j l m.
           let e = swapped members p j inside (omega (arith, n, m)) in
-          let a = w.after e.0 (elim (e.4) [ inl x ↦ omega (arith, x.0, x.1, l) | inr x ↦ omega (arith, x.1, n, m, l) ]) e.1 in
-          let black : get_or marks (get_or (swap_remove members p 0) j 0) 0
-              ≡ get_or marks (get_or members e.0 0) 0 = ap (λ z. get_or marks z 0) e.3 in
-          (omega (arith, black, a.0), ap (λ z. get_or (set t.marks s 0) z 0) e.3 ∙ mark (get_or members e.0 0) (apart e.0 e.1 e.2) ∙ a.1);
+          let a = w.after e.0 (elim (e.4) [ inl x ↦ omega (arith, x.0, x.1, l) | inr x ↦ omega (arith, x.1, n, m, l) ])
+          e.1 in
+          let black : get_or c.marks (get_or (swap_remove members p 0) j 0) 0
+          ≡ get_or c.marks (get_or members e.0 0) 0 = ap (λ z. get_or c.marks z 0) e.3 in (
+            omega (arith, black, a.0),
+            ap (λ z. get_or (set t.marks s 0) z 0) e.3 ∙ mark (get_or members e.0 0)
+                (apart e.0 e.1 e.2) ∙ a.1,
+          );
       black = λ x i m.
-          let d : x ≢ s = λ q. let z : get_or marks x 0 ≡ 0 = ap (λ k. get_or marks k 0) q ∙ was in absurd (omega (arith, z, m)) in
-          ap body_in (freed-other t.heap s x d) ∙ w.black x i m;
+          let d : x ≢ s = λ q. let z : get_or c.marks x 0 ≡ 0 = ap (λ k. get_or c.marks k 0) q ∙ was in
+          absurd (omega (arith, z, m)) in
+          ap body_in (freed_other t.heap s x d) ∙ w.black x i m;
       others = λ x i.
-          let d : x ≢ s = λ q. let L : ℕ → Type 0 = λ k. LiesIn h r k in i (subst L (sym q) here) in
+          let d : x ≢ s = λ q. let L : ℕ → Type 0 = λ k. LiesIn c.heap r k in i (subst L (sym q) here) in
           let o = w.others x i in
-          (freed-other t.heap s x d ∙ o.0, mark x d ∙ o.1);
-      only = λ x i. let f = lies-freed t.heap r s x room i in ap body_in (freed-other t.heap s x f.0) ∙ w.only x f.1;
+          (freed_other t.heap s x d ∙ o.0, mark x d ∙ o.1, get_or-set_other t.links s x None None d ∙ o.2);
+      only = λ x i. let f = lies_freed t.heap r s x room i in ap body_in (freed_other t.heap s x f.0) ∙ w.only x f.1;
       either = λ x i. elim (cases_eq x s) [
-        | inl e ↦ inr (ap (body_at (freed t.heap s)) e ∙ freed-here t.heap s room, ap (λ z. get_or (set t.marks s 0) z 0) e ∙ zero_here t.marks s)
-        | inr d ↦ elim (w.either x i) [ inl q ↦ inl (ap body_in (freed-other t.heap s x d) ∙ q) | inr q
-            ↦ inr (ap body_in (freed-other t.heap s x d) ∙ q.0, mark x d ∙ q.1) ]
+        | inl e ↦ inr (
+          ap (body_at (freed t.heap s)) e ∙ freed_here t.heap s room,
+          ap (λ z. get_or (set t.marks s 0) z 0) e ∙ zero_here t.marks s,
+        )
+        | inr d ↦ elim (w.either x i) [
+          | inl q ↦ inl (ap body_in (freed_other t.heap s x d) ∙ q)
+          | inr q
+              ↦ inr (ap body_in (freed_other t.heap s x d) ∙ q.0, mark x d ∙ q.1)
+        ]
       ];
       next = w.next;
       high = let o = held_once t.heap s (lies_held t.heap r s lies) in count-freed t.heap.slots s o.0 o.1 ∙ w.high;
     }
 
 -- a black member becomes white
-pub swept-keep : (h : Heap) (marks : List ℕ) (r : ℕ) (members : List ℕ) (p s : ℕ) (t : Table) → get_or members p 0 ≡ s → mark_at t s ≢ 0
-    → ((x : ℕ) → LiesIn h r x → get_or marks x 0 ≢ 1) → Swept h marks r members (p + 1) t
-    → Swept h marks r members p (record t { marks = set t.marks s 0 })
-swept-keep h marks r members p s t is black none w =
+pub swept-keep : (c : Table) (r : ℕ) (members : List ℕ) (p s : ℕ) (t : Table) → get_or members p 0 ≡ s → mark_at t s ≢ 0
+    → ((x : ℕ) → LiesIn c.heap r x → get_or c.marks x 0 ≢ 1) → Swept c r members (p + 1) t
+    → Swept c r members p (record t { marks = set t.marks s 0 })
+swept-keep c r members p s t is black none w =
     let inside : p < length members = omega (arith, w.fits) in
     let P : ℕ → Type 0 = λ z. LiesIn t.heap r z in
     let lies : LiesIn t.heap r s = subst P is (w.lie p inside) in
-    let here : LiesIn h r s = ap (option_map (λ (b : Body). b.label)) (sym (w.only s lies)) ∙ lies in
-    let was : mark_at t s ≡ get_or marks s 0 = ap (λ z. mark_at t z) (sym is) ∙ w.before p (omega arith) ∙ ap (λ z. get_or marks z 0) is in
-    let deep : 1 < get_or marks s 0 = let z = none s here in omega (arith, was, black, z) in
-    let mark : (x : ℕ) → x ≢ s → get_or (set t.marks s 0) x 0 ≡ get_or t.marks x 0 = λ x d. get_or-set_other t.marks s x 0 0 d in
+    let here : LiesIn c.heap r s = ap (option_map (λ (b : Body). b.label)) (sym (w.only s lies)) ∙ lies in
+    let was : mark_at t s ≡ get_or c.marks s 0 = ap (λ z. mark_at t z) (sym is) ∙ w.before p (omega arith)
+    ∙ ap (λ z. get_or c.marks z 0) is in
+    let deep : 1 < get_or c.marks s 0 = let z = none s here in omega (arith, was, black, z) in
+    let mark : (x : ℕ) → x ≢ s → get_or (set t.marks s 0) x 0 ≡ get_or t.marks x 0 =
+    λ x d. get_or-set_other t.marks s x 0 0 d in
     let apart : (k : ℕ) → k < length members → k ≢ p → get_or members k 0 ≢ s = λ k l d e. elim (cases_lt k p) [
       | inl m ↦ w.once k p m inside (e ∙ sym is)
       | inr m ↦ let q : p < k = omega arith in w.once p k q l (is ∙ sym e)
@@ -163,22 +130,27 @@ swept-keep h marks r members p s t is black none w =
       lie = w.lie;
       once = w.once;
       all = w.all;
-      before = λ j l. mark (get_or members j 0) (apart j (omega (arith, inside)) (omega arith)) ∙ w.before j (omega arith);
+      before = λ j l. mark (get_or members j 0) (apart j (omega (arith, inside)) (omega arith))
+          ∙ w.before j (omega arith);
       after = λ j l m. elim (cases_eq j p) [
         | inl e ↦
             let at : get_or members j 0 ≡ s = ap (λ z. get_or members z 0) e ∙ is in
-            let q : get_or marks (get_or members j 0) 0 ≡ get_or marks s 0 = ap (λ z. get_or marks z 0) at in
+            let q : get_or c.marks (get_or members j 0) 0 ≡ get_or c.marks s 0 = ap (λ z. get_or c.marks z 0) at in
             (omega (arith, q, deep), ap (λ z. get_or (set t.marks s 0) z 0) at ∙ zero_here t.marks s)
         | inr d ↦ let a = w.after j (omega arith) m in (a.0, mark (get_or members j 0) (apart j m d) ∙ a.1)
       ];
       black = w.black;
-      others = λ x i. let d : x ≢ s = λ q. let L : ℕ → Type 0 = λ k. LiesIn h r k in i (subst L (sym q) here) in let o = w.others x i in
-          (o.0, mark x d ∙ o.1);
+      others = λ x i. let d : x ≢ s = λ q. let L : ℕ → Type 0 = λ k. LiesIn c.heap r k in i (subst L (sym q) here) in
+          let o = w.others x i in
+          (o.0, mark x d ∙ o.1, o.2);
       only = w.only;
       either = λ x i. elim (w.either x i) [
         | inl q ↦ inl q
-        | inr q ↦ elim (cases_eq x s) [ inl e ↦ inr (q.0, ap (λ z. get_or (set t.marks s 0) z 0) e ∙ zero_here t.marks s) | inr d
-            ↦ inr (q.0, mark x d ∙ q.1) ]
+        | inr q ↦ elim (cases_eq x s) [
+          | inl e ↦ inr (q.0, ap (λ z. get_or (set t.marks s 0) z 0) e ∙ zero_here t.marks s)
+          | inr d
+              ↦ inr (q.0, mark x d ∙ q.1)
+        ]
       ];
       next = w.next;
       high = w.high;

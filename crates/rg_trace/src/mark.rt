@@ -4,10 +4,10 @@
 ghost use Rattle.std.specs.Prelude.{◌≡◌, ℕ, ◌+◌, Some, length, slice_get, sum_by};
 ghost use Rattle.rg_cells.specs.Table.{IsHeld, body_at, field_at, width};
 ghost use Rattle.rg_regions.specs.Chains.{LeadsToHeld};
-ghost use Rattle.rg_trace.specs.Collected.{AllWhite, WordsLeadToHeld, AllHeld};
-ghost use Rattle.rg_trace.specs.Collected.{TempsLeadToHeld, roots_of};
-ghost use Rattle.rg_trace.specs.Inner.Marking.{Greys, Scanned, ScannedTemps, ScannedBridge};
-ghost use Rattle.rg_trace.specs.Inner.Marking.{Marked, black_fields};
+ghost use Rattle.rg_regions.specs.Collection.{roots_of, WordsLeadToHeld, AllHeld};
+ghost use Rattle.rg_regions.specs.Collection.{TempsLeadToHeld};
+ghost use Rattle.rg_trace.specs.Inner.Marking.{AllWhite, Greys, Scanned, ScannedTemps};
+ghost use Rattle.rg_trace.specs.Inner.Marking.{ScannedBridge, Marked, black_fields};
 
 use rg_base::{Label, Steps, Word};
 use rg_cells::Cells;
@@ -125,7 +125,7 @@ pub fn mark_region<L: Ledger>(
         cells.old cells.new }
     ensures cost { steps.new
         ≡ steps.old + sum_by (λ t. width (body_at cells.old.heap t)) temps.now
-            + black_fields cells.old.heap region cells.new.marks }
+        + black_fields cells.old.heap region cells.new.marks }
 {
     let mut head = grey_bridge(cells, region, bridge);
     head = grey_words(cells, region, slots, head);

@@ -4,11 +4,12 @@ ghost use Rattle.std.specs.Prelude.{◌≡◌, ◌+◌, ℕ, Some, length, sum_b
 ghost use Rattle.rg_cells.specs.Table.{IsHeld, body_at, field_at, width};
 ghost use Rattle.rg_regions.specs.Table.{Record, record_at};
 ghost use Rattle.rg_regions.specs.Chains.{AllInTable, LeadsToHeld, OwnsOnce};
-ghost use Rattle.rg_trace.specs.Inner.Orphans.{FollowsFields, FollowsWhite, if_white};
+ghost use Rattle.rg_regions.specs.Owned.{FollowsFields};
+ghost use Rattle.rg_trace.specs.Inner.Orphans.{IsWhite, FollowsWhite, if_white};
 
 use rg_base::{Steps, Word};
 use rg_cells::Cells;
-use rg_regions::{chain_word, Regions};
+use rg_regions::{Regions, chain_word};
 use std::sync::ledger::Ledger;
 
 /// The regions into which the fields of a white member lead become heads of the chain, one by one.
@@ -24,7 +25,7 @@ fn chain_fields<L: Ledger>(
     requires lead { (k s : ℕ) → field_at cells.now.heap slot k ≡ Some (Word.Slot s)
         → IsHeld cells.now.heap s }
     requires labels { AllInTable cells.now.heap regions.old }
-    ensures fields { FollowsFields cells.now.heap cells.now.marks region slot
+    ensures fields { FollowsFields cells.now.heap (IsWhite cells.now.marks) region slot
         (width (body_at cells.now.heap slot)) regions.old regions.new head result }
     ensures cost { steps.new ≡ steps.old + width (body_at cells.now.heap slot) }
 {
@@ -49,7 +50,7 @@ pub fn chain_orphans<L: Ledger>(
     requires labels { AllInTable cells.now.heap regions.old }
     ensures searched { (r : Record) → record_at regions.old key ≡ Some r
         → FollowsWhite cells.now.heap cells.now.marks region r.members (length r.members)
-            regions.old regions.new result }
+        regions.old regions.new result }
     ensures cost { (r : Record) → record_at regions.old key ≡ Some r
         → steps.new ≡ steps.old + sum_by (if_white cells.now.heap cells.now.marks) r.members }
 {

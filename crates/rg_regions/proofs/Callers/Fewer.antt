@@ -1,6 +1,8 @@
--- What holds where cells went and none came: each body is as it was, or there is none (docs/architecture.md, "Regions").
-use Rattle.std.proofs.Common.{◌≡◌, ◌≢◌, ℕ, suc, false, cond, List, [], ◌∷◌, Option, Some, None, get_or, refl, ap, sym, ◌∙◌}
-use Rattle.std.proofs.Common.{arith, ◌⊎◌, inl, inr, option_map, option_and_then, slice_get, count_by}
+-- What holds where cells went and none came: each body is as it was, or there is none (docs/architecture.md,
+-- "Regions").
+use Rattle.std.proofs.Common.{◌≡◌, ◌≢◌, ℕ, suc, true, false, cond, List, [], ◌∷◌, Option, Some, None, get_or, refl, ap}
+use Rattle.std.proofs.Common.{sym, ◌∙◌}
+use Rattle.std.proofs.Common.{arith, ◌⊎◌, inl, inr, option_map, option_and_then, slice_get, count_by, eq-eqb}
 use Rattle.std.proofs.lemmas.Bool.Decides.{eqb_tells}
 use Rattle.rg_base.specs.declared.object.Label.{Label}
 use Rattle.rg_base.specs.declared.object.Label.TheVariants.{Region, Temp, Frozen}
@@ -42,7 +44,8 @@ parent_before h new sub p q w = record {
 pub above_before : (h new : Heap) → ((s : ℕ) → (body_at new s ≡ body_at h s) ⊎ (body_at new s ≡ None))
     → (p q : ℕ) → Above new p q → Above h p q
 above_before h new sub p q (direct w) = direct (parent_before h new sub p q w)
-above_before h new sub p q (further {q = m} a w) = further (above_before h new sub p m a) (parent_before h new sub m q w)
+above_before h new sub p q (further {q = m} a w) = further (above_before h new sub p m a)
+    (parent_before h new sub m q w)
 
 -- chains of parents, one behind the other
 pub above_both : (h : Heap) (p q r : ℕ) → Above h p q → Above h q r → Above h p r
@@ -58,25 +61,37 @@ total_alike f z (x ∷ xs) [] h = let a = h 0 in omega (arith, a, z, total_alike
 total_alike f z (x ∷ xs) (y ∷ ys) h = let a = h 0 in omega (arith, a, total_alike f z xs ys (λ k. h (suc k)))
 
 -- a cell of another region, or of none, isn't counted
-pub belongs_not : (q : ℕ) (b : Option Body) → (option_map (λ (b : Body). b.label) b ≡ Some (Region q) → ⊥) → belongs q b ≡ false
+pub belongs_not : (q : ℕ) (b : Option Body) → (option_map (λ (b : Body). b.label) b ≡ Some (Region q) → ⊥)
+    → belongs q b ≡ false
 belongs_not q None n = refl
 belongs_not q (Some b) n = by_label b.label n
   where
     by_label : (l : Label) → (Some l ≡ Some (Region q) → ⊥) → is_region q l ≡ false
-    by_label (Region p) n = elim (eqb_tells q p) [ inl e ↦ absurd (n (ap (λ k. Some (Region k)) (sym e.1))) | inr e ↦ e.0 ]
+    by_label (Region p) n = elim (eqb_tells q p)
+        [ inl e ↦ absurd (n (ap (λ k. Some (Region k)) (sym e.1))) | inr e ↦ e.0 ]
     by_label (Temp m) n = refl
     by_label Frozen n = refl
 
+-- a cell of the region is counted
+pub lies_belongs : (r : ℕ) (b : Option Body) → option_map (λ (b : Body). b.label) b ≡ Some (Region r)
+    → belongs r b ≡ true
+lies_belongs r None e = cc
+lies_belongs r (Some b) e = let h : b.label ≡ Region r = cc in ap (is_region r) h ∙ eq-eqb r r refl
+
 -- where cells of one region went, the number of fields that lead to a cell of another region stays
-pub referrers_kept : (c cells : Table) (r q s : ℕ) → q ≢ r → ((n : ℕ) → (body_at cells.heap n ≡ body_at c.heap n) ⊎ (body_at cells.heap n ≡ None))
-    → ((n : ℕ) → (LiesIn c.heap r n → ⊥) → body_at cells.heap n ≡ body_at c.heap n) → referrers cells.heap q s ≡ referrers c.heap q s
+pub referrers_kept : (c cells : Table) (r q s : ℕ) → q ≢ r
+    → ((n : ℕ) → (body_at cells.heap n ≡ body_at c.heap n) ⊎ (body_at cells.heap n ≡ None))
+    → ((n : ℕ) → (LiesIn c.heap r n → ⊥) → body_at cells.heap n ≡ body_at c.heap n)
+    → referrers cells.heap q s ≡ referrers c.heap q s
 referrers_kept c cells r q s d sub far =
-    let F : Option Body → ℕ = λ b. cond (belongs q b) (elim b [ None ↦ 0 | Some b ↦ count_by (leads_to s) b.fields ]) 0 in
+    let F : Option Body → ℕ = λ b. cond (belongs q b)
+    (elim b [ None ↦ 0 | Some b ↦ count_by (leads_to s) b.fields ]) 0 in
     total_alike F refl c.heap.slots cells.heap.slots (λ n. elim (lies_or_not c.heap r n) [
       | inl out ↦ ap F (far n out)
       | inr l ↦ elim (sub n) [
         | inl same ↦ ap F same
-        | inr gone ↦ ap F gone ∙ sym (nothing (body_at c.heap n) (belongs_not q (body_at c.heap n) (λ y. d (one_region c.heap n q r y l))))
+        | inr gone ↦ ap F gone ∙ sym (nothing (body_at c.heap n)
+            (belongs_not q (body_at c.heap n) (λ y. d (one_region c.heap n q r y l))))
       ]
     ])
   where

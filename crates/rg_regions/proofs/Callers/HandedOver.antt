@@ -8,7 +8,7 @@ use Rattle.rg_regions.specs.Table.{RegionTable, record_at, link_at, HasNumber, H
 use Rattle.rg_regions.specs.Reach.{LiesIn}
 use Rattle.rg_regions.specs.Grove.{Members}
 use Rattle.rg_regions.specs.Chains.{OwnsOnce}
-use Rattle.rg_regions.specs.Owned.{OwnedInFront, HandsOver}
+use Rattle.rg_regions.specs.Owned.{Every, OwnedInFront, HandsOver}
 use Rattle.rg_regions.proofs.Callers.Told.{one_number}
 use Rattle.rg_regions.proofs.Callers.Chain.{chained_agree}
 use Rattle.rg_regions.proofs.Callers.Removed.{none_there}
@@ -25,8 +25,9 @@ member_place h r members m s l =
     (a.0, w, slot_of (get_or members a.0 0) s (sym (slice_get-get_or members a.0 0 w) ∙ a.1))
 
 module _ (h : Heap) (t : RegionTable) (key r : ℕ) (members rest : List ℕ) (mid : RegionTable) (head : Option ℕ)
-    (new : RegionTable) (keys : List ℕ) (m : Members h r members) (own : OwnsOnce h r members) (number : HasNumber t key r) (fresh : Has rest key → ⊥)
-    (o : OwnedInFront h r members rest t (length members) 0 mid head keys) (is : new ≡ removed mid key) where
+    (new : RegionTable) (keys : List ℕ) (m : Members h r members) (own : OwnsOnce h r members)
+    (number : HasNumber t key r) (fresh : Has rest key → ⊥)
+    (o : OwnedInFront h Every r members rest t (length members) 0 mid head keys) (is : new ≡ removed mid key) where
   without : Has keys key → ⊥
   without a = elim (o.each key a) [ inl b ↦ fresh b | inr b ↦ b.2.other (one_number t key b.0 r b.1 number) ]
 
@@ -36,7 +37,8 @@ module _ (h : Heap) (t : RegionTable) (key r : ℕ) (members rest : List ℕ) (m
   pub handed_over : HandsOver h t key r rest new head keys
   handed_over = record {
     gone = ap (λ (z : RegionTable). record_at z key) is ∙ none_there mid.records key;
-    stay = λ k d. ap (λ (z : RegionTable). record_at z k) is ∙ get_or-set_other mid.records key k None None d ∙ ap (λ rs. get_or rs k None) o.records;
+    stay = λ k d. ap (λ (z : RegionTable). record_at z k) is ∙ get_or-set_other mid.records key k None None d
+        ∙ ap (λ rs. get_or rs k None) o.records;
     numbers = ap (λ (z : RegionTable). z.next) is ∙ o.next;
     chain =
         let P : ℕ → Type 0 = λ v. Has keys v in
@@ -69,6 +71,7 @@ module _ (h : Heap) (t : RegionTable) (key r : ℕ) (members rest : List ℕ) (m
           to = a.to;
           early = inl p.1;
           within = p.1;
+          gone = tt;
           leads = subst P (sym p.2) a.leads;
           lies = a.child_has;
           other = λ z. a.differ (sym z);

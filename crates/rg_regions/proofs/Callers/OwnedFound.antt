@@ -1,74 +1,71 @@
--- Each turn of the search for the regions that a region owns (docs/architecture.md, "Regions").
-use Rattle.std.proofs.Common.{◌≡◌, ◌≢◌, ℕ, ◌+◌, ◌<◌, ◌≤◌, List, ◌∷◌, length, Option, Some, None, get_or, set, refl, ap, sym, ◌∙◌}
+-- Each turn of the search for the regions that cells own which go (docs/architecture.md, "Regions").
+use Rattle.std.proofs.Common.{◌≡◌, ◌≢◌, ℕ, ◌+◌, ◌<◌, ◌≤◌, List, ◌∷◌, length, Option, Some, None, get_or, set, refl, ap}
+use Rattle.std.proofs.Common.{sym, ◌∙◌}
 use Rattle.std.proofs.Common.{subst, arith, ◌⊎◌, inl, inr, option_map}
 use Rattle.std.proofs.lemmas.List.{get_or-set_same, get_or-set_other}
 use Rattle.std.proofs.lemmas.Bool.{cases_lt}
 use Rattle.rg_base.specs.declared.value.Word.{Word}
 use Rattle.rg_base.specs.declared.value.Word.TheVariants.{Slot}
 use Rattle.rg_cells.specs.Table.{Heap, field_at, body_at, width}
-use Rattle.rg_regions.specs.Table.{Record, RegionTable, record_at, HasNumber, Has, Chained}
+use Rattle.rg_regions.specs.Table.{Record, RegionTable, HasNumber, Has, Chained}
 use Rattle.rg_regions.specs.Reach.{LiesIn}
 use Rattle.rg_regions.specs.Chains.{PutFirst, Follows, OwnsOnce}
-use Rattle.rg_regions.proofs.Callers.Told.{field_within, one_region, one_number, same_members}
+use Rattle.rg_regions.proofs.Callers.Told.{field_within, one_region, one_number}
 use Rattle.rg_regions.proofs.Callers.Chain.{chained_agree}
-use Rattle.rg_regions.specs.Owned.{Owned, ChainsOwned, OwnsNone, FollowsFields, FollowsMembers}
+use Rattle.rg_regions.specs.Owned.{Owned, ChainsOwned, OwnsNone, Every, FollowsFields, FollowsMembers}
 
 slot_is : (a b : ℕ) → Some (Slot a) ≡ Some (Slot b) → a ≡ b
 slot_is a b q = cc
 
--- the key's record stays while links are set, and so do its members
-pub same_record : (old now : RegionTable) (key : ℕ) (rec : Record) → now.records ≡ old.records
-    → record_at old key ≡ Some rec → record_at now key ≡ Some rec
-same_record old now key rec e at = ap (λ (rs : List (Option Record)). get_or rs key None) e ∙ at
-
-pub members_read : (old now : RegionTable) (key : ℕ) (rec : Record) (members : List ℕ) → now.records ≡ old.records → record_at old key ≡ Some rec
-    → option_map (λ (r : Record). r.members) (record_at now key) ≡ Some members → rec.members ≡ members
-members_read old now key rec members e at is = same_members (record_at now key) rec members (same_record old now key rec e at) is
-
-module _ (h : Heap) (r : ℕ) (members : List ℕ) where
+module _ (h : Heap) (goes : ℕ → Type 0) (r : ℕ) (members : List ℕ) where
   -- what is owned by earlier fields is owned by more fields
   later : (i k m n q : ℕ) → ((p f : ℕ) → ((p < i) ⊎ ((p ≡ i) × (f < k))) → (p < m) ⊎ ((p ≡ m) × (f < n)))
-      → Owned h r members i k q → Owned h r members m n q
+      → Owned h goes r members i k q → Owned h goes r members m n q
   later i k m n q w o = record {
     place = o.place;
     field = o.field;
     to = o.to;
     early = w o.place o.field o.early;
     within = o.within;
+    gone = o.gone;
     leads = o.leads;
     lies = o.lies;
     other = o.other;
   }
 
   -- it is owned by the fields that are meant
-  earlier : (i k m n q : ℕ) (o : Owned h r members i k q) → ((o.place < m) ⊎ ((o.place ≡ m) × (o.field < n))) → Owned h r members m n q
+  earlier : (i k m n q : ℕ) (o : Owned h goes r members i k q) → ((o.place < m) ⊎ ((o.place ≡ m) × (o.field < n)))
+      → Owned h goes r members m n q
   earlier i k m n q o e = record {
     place = o.place;
     field = o.field;
     to = o.to;
     early = e;
     within = o.within;
+    gone = o.gone;
     leads = o.leads;
     lies = o.lies;
     other = o.other;
   }
 
-  next_field : (i k q : ℕ) → Owned h r members i k q → Owned h r members i (k + 1) q
+  next_field : (i k q : ℕ) → Owned h goes r members i k q → Owned h goes r members i (k + 1) q
   next_field i k q = later i k i (k + 1) q (λ p f w. elim w [ inl a ↦ inl a | inr b ↦ inr (b.0, omega (arith, b.1)) ])
 
-  next_member : (i k q : ℕ) → Owned h r members i k q → Owned h r members (i + 1) 0 q
-  next_member i k q = later i k (i + 1) 0 q (λ p f w. elim w [ inl a ↦ inl (omega (arith, a)) | inr b ↦ inl (omega (arith, b.0)) ])
+  next_member : (i k q : ℕ) → Owned h goes r members i k q → Owned h goes r members (i + 1) 0 q
+  next_member i k q = later i k (i + 1) 0 q
+      (λ p f w. elim w [ inl a ↦ inl (omega (arith, a)) | inr b ↦ inl (omega (arith, b.0)) ])
 
   -- the last field of those followed is the one that leads there
-  at_last : (i k q : ℕ) (o : Owned h r members i (k + 1) q) → o.place ≡ i → o.field < k + 1 → k ≤ o.field
+  at_last : (i k q : ℕ) (o : Owned h goes r members i (k + 1) q) → o.place ≡ i → o.field < k + 1 → k ≤ o.field
       → field_at h (get_or members i 0) k ≡ Some (Slot o.to)
   at_last i k q o p l a =
       let same : o.field ≡ k = omega (arith, l, a) in
-      ap (λ z. field_at h (get_or members i 0) z) (sym same) ∙ ap (λ z. field_at h (get_or members z 0) o.field) (sym p) ∙ o.leads
+      ap (λ z. field_at h (get_or members i 0) z) (sym same) ∙ ap (λ z. field_at h (get_or members z 0) o.field) (sym p)
+      ∙ o.leads
 
   module _ (rest : List ℕ) (t : RegionTable) where
     -- before the first member
-    pub owned_begin : (head : Option ℕ) → Chained t.links head rest → ChainsOwned h r members rest t 0 0 t head
+    pub owned_begin : (head : Option ℕ) → Chained t.links head rest → ChainsOwned h goes r members rest t 0 0 t head
     owned_begin head c = (
       rest,
       record {
@@ -85,7 +82,7 @@ module _ (h : Heap) (r : ℕ) (members : List ℕ) where
     -- by another field no region more is owned, where it leads into no other region
     pub owned_skip : (i k : ℕ) (now : RegionTable) (head : Option ℕ)
         → ((to q : ℕ) → field_at h (get_or members i 0) k ≡ Some (Slot to) → LiesIn h q to → q ≢ r → ⊥)
-        → ChainsOwned h r members rest t i k now head → ChainsOwned h r members rest t i (k + 1) now head
+        → ChainsOwned h goes r members rest t i k now head → ChainsOwned h goes r members rest t i (k + 1) now head
     owned_skip i k now head none o = (
       o.0,
       record {
@@ -99,7 +96,7 @@ module _ (h : Heap) (r : ℕ) (members : List ℕ) where
       },
     )
       where
-        back : (q : ℕ) → Owned h r members i (k + 1) q → Owned h r members i k q
+        back : (q : ℕ) → Owned h goes r members i (k + 1) q → Owned h goes r members i k q
         back q w = elim (w.early) [
           | inl a ↦ earlier i (k + 1) i k q w (inl a)
           | inr b ↦ elim (cases_lt w.field k) [
@@ -110,7 +107,7 @@ module _ (h : Heap) (r : ℕ) (members : List ℕ) where
 
     -- all fields of a member were followed
     pub owned_next : (i k : ℕ) (now : RegionTable) (head : Option ℕ) → width (body_at h (get_or members i 0)) ≤ k
-        → ChainsOwned h r members rest t i k now head → ChainsOwned h r members rest t (i + 1) 0 now head
+        → ChainsOwned h goes r members rest t i k now head → ChainsOwned h goes r members rest t (i + 1) 0 now head
     owned_next i k now head l o = (
       o.0,
       record {
@@ -127,25 +124,61 @@ module _ (h : Heap) (r : ℕ) (members : List ℕ) where
       },
     )
       where
-        back : (q : ℕ) → Owned h r members (i + 1) 0 q → Owned h r members i k q
+        back : (q : ℕ) → Owned h goes r members (i + 1) 0 q → Owned h goes r members i k q
         back q w = elim (cases_lt w.place i) [
           | inl a ↦ earlier (i + 1) 0 i k q w (inl a)
           | inr a ↦
-              let p : w.place ≡ i = elim (w.early) [ inl b ↦ omega (arith, a, b) | inr b ↦ absurd (omega (arith, b.1)) ] in
+              let p : w.place ≡ i = elim (w.early)
+              [ inl b ↦ omega (arith, a, b) | inr b ↦ absurd (omega (arith, b.1)) ] in
               let f : field_at h (get_or members i 0) w.field ≡ Some (Slot w.to) =
               ap (λ z. field_at h (get_or members z 0) w.field) (sym p) ∙ w.leads in
-              let b : w.field < width (body_at h (get_or members i 0)) = field_within h (get_or members i 0) w.field (Slot w.to) f in
+              let b : w.field < width (body_at h (get_or members i 0)) =
+              field_within h (get_or members i 0) w.field (Slot w.to) f in
               earlier (i + 1) 0 i k q w (inr (p, omega (arith, b, l)))
         ]
 
+    -- a member that stays owns nothing that is lost
+    pub owned_stays : (i : ℕ) (now : RegionTable) (head : Option ℕ) → (goes (get_or members i 0) → ⊥)
+        → ChainsOwned h goes r members rest t i 0 now head → ChainsOwned h goes r members rest t (i + 1) 0 now head
+    owned_stays i now head stays o = (
+      o.0,
+      record {
+        records = o.1.records;
+        next = o.1.next;
+        chain = o.1.chain;
+        old = o.1.old;
+        each = λ key m. elim (o.1.each key m) [
+          | inl a ↦ inl a
+          | inr e ↦ inr (e.0, e.1, next_member i 0 e.0 e.2)
+        ];
+        all = λ q key w n. o.1.all q key (back q w) n;
+        apart = o.1.apart;
+      },
+    )
+      where
+        back : (q : ℕ) → Owned h goes r members (i + 1) 0 q → Owned h goes r members i 0 q
+        back q w = elim (cases_lt w.place i) [
+          | inl a ↦ earlier (i + 1) 0 i 0 q w (inl a)
+          | inr a ↦
+              let p : w.place ≡ i = elim (w.early)
+              [ inl b ↦ omega (arith, a, b) | inr b ↦ absurd (omega (arith, b.1)) ] in
+              let G : ℕ → Type 0 = λ z. goes (get_or members z 0) in
+              absurd (stays (subst G p w.gone))
+        ]
+
     -- a field of a member leads into another region, which becomes the head of the chain
-    pub owned_more : (i k : ℕ) (now new : RegionTable) (head result : Option ℕ) (to q : ℕ) → OwnsOnce h r members → OwnsNone h r t rest
-        → i < length members → field_at h (get_or members i 0) k ≡ Some (Slot to) → LiesIn h q to → q ≢ r
-        → PutFirst now q head result new → ChainsOwned h r members rest t i k now head → ChainsOwned h r members rest t i (k + 1) new result
-    owned_more i k now new head result to q w free l leads lies other c o =
-        let N : (key n : ℕ) → List (Option Record) → Type 0 = λ key n rs. option_map (λ (r : Record). r.number) (get_or rs key None) ≡ Some n in
+    pub owned_more : (i k : ℕ) (now new : RegionTable) (head result : Option ℕ) (to q : ℕ) → OwnsOnce h r members
+        → OwnsNone h r t rest
+        → i < length members → goes (get_or members i 0) → field_at h (get_or members i 0) k ≡ Some (Slot to)
+        → LiesIn h q to → q ≢ r
+        → PutFirst now q head result new → ChainsOwned h goes r members rest t i k now head
+        → ChainsOwned h goes r members rest t i (k + 1) new result
+    owned_more i k now new head result to q w free l gone leads lies other c o =
+        let N : (key n : ℕ) → List (Option Record)
+        → Type 0 = λ key n rs. option_map (λ (r : Record). r.number) (get_or rs key None) ≡ Some n in
         let has : HasNumber t c.key q = subst (N c.key q) o.1.records c.has in
-        let only : (key : ℕ) → HasNumber t key q → key ≡ c.key = λ key n. c.only key (subst (N key q) (sym o.1.records) n) in
+        let only : (key : ℕ) → HasNumber t key q
+        → key ≡ c.key = λ key n. c.only key (subst (N key q) (sym o.1.records) n) in
         let links : new.links ≡ set now.links c.key head = ap (λ (z : RegionTable). z.links) c.new_is in
         let fresh : Has o.0 c.key → ⊥ = λ m. elim (o.1.each c.key m) [
           | inl a ↦ free c.key q (get_or members i 0) k to a has other (w.lie i l) leads lies
@@ -187,6 +220,7 @@ module _ (h : Heap) (r : ℕ) (members : List ℕ) where
                       to = to;
                       early = inr (refl, omega arith);
                       within = l;
+                      gone = gone;
                       leads = leads;
                       lies = lies;
                       other = other;
@@ -210,46 +244,55 @@ module _ (h : Heap) (r : ℕ) (members : List ℕ) where
           },
         )
 
-pub fields_none : (h : Heap) (r slot : ℕ) (t : RegionTable) (head : Option ℕ) → FollowsFields h r slot 0 t t head head
-fields_none h r slot t head = record { records = refl; chained = λ members rest s i o f l e q. q }
+pub fields_none : (h : Heap) (goes : ℕ → Type 0) (r slot : ℕ) (t : RegionTable) (head : Option ℕ)
+    → FollowsFields h goes r slot 0 t t head head
+fields_none h goes r slot t head = record { records = refl; chained = λ members rest s i o f l e a q. q }
 
 -- a word of a member was followed
-pub fields_more : (h : Heap) (r slot k : ℕ) (old mid new : RegionTable) (head middle result : Option ℕ) (w : Word) → field_at h slot k ≡ Some w
-    → Follows h r w middle result mid new → FollowsFields h r slot k old mid head middle → FollowsFields h r slot (k + 1) old new head result
-fields_more h r slot k old mid new head middle result w at g f = elim g [
+pub fields_more : (h : Heap) (goes : ℕ → Type 0) (r slot k : ℕ) (old mid new : RegionTable)
+    (head middle result : Option ℕ) (w : Word) → field_at h slot k ≡ Some w
+    → Follows h r w middle result mid new → FollowsFields h goes r slot k old mid head middle
+    → FollowsFields h goes r slot (k + 1) old new head result
+fields_more h goes r slot k old mid new head middle result w at g f = elim g [
   | inl s ↦
-      let F : Option ℕ → RegionTable → Type 0 = λ o t. FollowsFields h r slot (k + 1) old t head o in
+      let F : Option ℕ → RegionTable → Type 0 = λ o t. FollowsFields h goes r slot (k + 1) old t head o in
       let R : Option ℕ → Type 0 = λ o. F o new in
       let N : RegionTable → Type 0 = λ t. F middle t in
       subst R (sym s.head_is) (subst N (sym s.same) (record {
         records = f.records;
-        chained = λ members rest t i o n l e q.
-            owned_skip h r members rest t i k mid middle
-            (λ to n a b d. s.none to n (word_is w (Slot to) (sym at ∙ ap (λ y. field_at h y k) (sym e) ∙ a)) b d)
-            (f.chained members rest t i o n l e q);
+        chained = λ members rest t i o n l e a q.
+            owned_skip h goes r members rest t i k mid middle
+            (λ to n f b d. s.none to n (word_is w (Slot to) (sym at ∙ ap (λ y. field_at h y k) (sym e) ∙ f)) b d)
+            (f.chained members rest t i o n l e a q);
       }))
   | inr j ↦ record {
     records = ap (λ (t : RegionTable). t.records) j.chains.new_is ∙ f.records;
-    chained = λ members rest t i o n l e q.
-        owned_more h r members rest t i k mid new middle result j.to j.number o n l
-        (ap (λ y. field_at h y k) e ∙ at ∙ ap Some j.leads) j.lies j.other j.chains (f.chained members rest t i o n l e q);
+    chained = λ members rest t i o n l e a q.
+        owned_more h goes r members rest t i k mid new middle result j.to j.number o n l (subst goes (sym e) a)
+        (ap (λ y. field_at h y k) e ∙ at ∙ ap Some j.leads) j.lies j.other j.chains
+        (f.chained members rest t i o n l e a q);
   }
 ]
   where
     word_is : (a b : Word) → Some a ≡ Some b → a ≡ b
     word_is a b q = cc
 
-pub members_none : (h : Heap) (r : ℕ) (members : List ℕ) (t : RegionTable) (head : Option ℕ) → FollowsMembers h r members 0 t t head head
-members_none h r members t head = record { records = refl; next = λ rest n c. owned_begin h r members rest t head c }
+pub members_none : (h : Heap) (r : ℕ) (members : List ℕ) (t : RegionTable) (head : Option ℕ)
+    → FollowsMembers h r members 0 t t head head
+members_none h r members t head =
+    record { records = refl; next = λ rest n c. owned_begin h Every r members rest t head c }
 
 -- the fields of a member were followed
-pub members_more : (h : Heap) (r : ℕ) (members : List ℕ) (i slot : ℕ) (old mid new : RegionTable) (head middle result : Option ℕ)
+pub members_more : (h : Heap) (r : ℕ) (members : List ℕ) (i slot : ℕ) (old mid new : RegionTable)
+    (head middle result : Option ℕ)
     → OwnsOnce h r members → i < length members → get_or members i 0 ≡ slot
-    → FollowsFields h r slot (width (body_at h slot)) mid new middle result → FollowsMembers h r members i old mid head middle
+    → FollowsFields h Every r slot (width (body_at h slot)) mid new middle result
+    → FollowsMembers h r members i old mid head middle
     → FollowsMembers h r members (i + 1) old new head result
 members_more h r members i slot old mid new head middle result o l is f s = record {
   records = f.records ∙ s.records;
   next = λ rest n c.
-      owned_next h r members rest old i (width (body_at h slot)) new result (omega (arith, ap (λ z. width (body_at h z)) is))
-      (f.chained members rest old i o n l is (s.next rest n c));
+      owned_next h Every r members rest old i (width (body_at h slot)) new result
+      (omega (arith, ap (λ z. width (body_at h z)) is))
+      (f.chained members rest old i o n l is tt (s.next rest n c));
 }

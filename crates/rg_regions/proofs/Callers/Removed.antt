@@ -1,5 +1,6 @@
 -- A record that was removed (docs/architecture.md, "Regions").
-use Rattle.std.proofs.Common.{◌≡◌, ℕ, ◌+◌, zero, suc, List, [], ◌∷◌, Option, Some, None, is_some, count_by, cond, get_or, set, refl, ap, arith}
+use Rattle.std.proofs.Common.{◌≡◌, ℕ, ◌+◌, zero, suc, List, [], ◌∷◌, Option, Some, None, is_some, count_by, cond}
+use Rattle.std.proofs.Common.{get_or, set, refl, ap, arith}
 use Rattle.std.proofs.lemmas.List.Sums.{sum_by-cons}
 use Rattle.rg_regions.specs.Table.{Record}
 

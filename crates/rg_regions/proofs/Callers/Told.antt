@@ -18,7 +18,8 @@ use Rattle.rg_regions.specs.Chains.{OwnsOnce}
 pub field_within : (h : Heap) (s k : ℕ) (w : Word) → field_at h s k ≡ Some w → k < width (body_at h s)
 field_within h s k w e = by_body (body_at h s) k w e
   where
-    by_body : (b : Option Body) (k : ℕ) (w : Word) → option_and_then (λ (b : Body). slice_get b.fields k) b ≡ Some w → k < width b
+    by_body : (b : Option Body) (k : ℕ) (w : Word) → option_and_then (λ (b : Body). slice_get b.fields k) b ≡ Some w
+        → k < width b
     by_body None k w e = cc
     by_body (Some b) k w e = slice_get_within b.fields k w e
 
@@ -45,7 +46,8 @@ pub lies_or_not : (h : Heap) (r s : ℕ) → (LiesIn h r s → ⊥) ⊎ LiesIn h
 lies_or_not h r s = by_body (body_at h s)
   where
     by_label : (l : Label) → (Some l ≡ Some (Region r) → ⊥) ⊎ (Some l ≡ Some (Region r))
-    by_label (Region q) = elim (cases_eq q r) [ inl e ↦ inr (ap (λ k. Some (Region k)) e) | inr d ↦ inl (λ e. d (number q r e)) ]
+    by_label (Region q) = elim (cases_eq q r)
+        [ inl e ↦ inr (ap (λ k. Some (Region k)) e) | inr d ↦ inl (λ e. d (number q r e)) ]
       where
         number : (a b : ℕ) → Some (Region a) ≡ Some (Region b) → a ≡ b
         number a b q = cc
@@ -53,7 +55,8 @@ lies_or_not h r s = by_body (body_at h s)
     by_label Frozen = inl (λ e. cc)
 
     by_body : (b : Option Body)
-        → (option_map (λ (b : Body). b.label) b ≡ Some (Region r) → ⊥) ⊎ (option_map (λ (b : Body). b.label) b ≡ Some (Region r))
+        → (option_map (λ (b : Body). b.label) b ≡ Some (Region r) → ⊥)
+        ⊎ (option_map (λ (b : Body). b.label) b ≡ Some (Region r))
     by_body None = inl (λ e. cc)
     by_body (Some b) = by_label b.label
 
@@ -79,6 +82,22 @@ same_members o r members e f = some_is r.members members (sym (ap (option_map (�
     some_is : (a b : List ℕ) → Some a ≡ Some b → a ≡ b
     some_is a b q = cc
 
+-- .. and so are its number and its bridge
+pub same_number : (o : Option Record) (r : Record) (n : ℕ) → o ≡ Some r
+    → option_map (λ (r : Record). r.number) o ≡ Some n → r.number ≡ n
+same_number o r n e f = some_is r.number n (sym (ap (option_map (λ (r : Record). r.number)) e) ∙ f)
+  where
+    some_is : (a b : ℕ) → Some a ≡ Some b → a ≡ b
+    some_is a b q = cc
+
+pub same_bridge : (o : Option Record) (r : Record) (b : Option ℕ) → o ≡ Some r
+    → option_map (λ (r : Record). r.bridge) o ≡ Some b
+    → r.bridge ≡ b
+same_bridge o r b e f = some_is r.bridge b (sym (ap (option_map (λ (r : Record). r.bridge)) e) ∙ f)
+  where
+    some_is : (a b : Option ℕ) → Some a ≡ Some b → a ≡ b
+    some_is a b q = cc
+
 -- the record that has a number
 pub record_there : (o : Option Record) (n : ℕ) → option_map (λ (r : Record). r.number) o ≡ Some n
     → (r : Record) × (o ≡ Some r) × (r.number ≡ n)
@@ -102,8 +121,21 @@ pub owns_once : (c : Table) (t : RegionTable) (key : ℕ) (rec : Record) → Gro
 owns_once c t key rec g e =
     let m = g.members key rec e in
     record {
-      one = λ q s k to s2 k2 to2 d l f i l2 f2 i2. g.one_in q rec.number s k to rec.number s2 k2 to2 (λ z. d (sym z)) l f i (λ z. d (sym z)) l2 f2 i2;
+      one = λ q s k to s2 k2 to2 d l f i l2 f2 i2.
+          g.one_in q rec.number s k to rec.number s2 k2 to2 (λ z. d (sym z)) l f i (λ z. d (sym z)) l2 f2 i2;
       lie = λ j l. m.lie j (get_or rec.members j 0) (slice_get-get_or rec.members j 0 l);
       once = λ a b l n z.
-          m.once a b (get_or rec.members a 0) (slice_get-get_or rec.members a 0 l) (slice_get-get_or rec.members b 0 n ∙ ap Some (sym z));
+          m.once a b (get_or rec.members a 0) (slice_get-get_or rec.members a 0 l)
+          (slice_get-get_or rec.members b 0 n ∙ ap Some (sym z));
     }
+
+-- the key's record stays while links are set, and so do its members
+pub same_record : (old now : RegionTable) (key : ℕ) (rec : Record) → now.records ≡ old.records
+    → record_at old key ≡ Some rec → record_at now key ≡ Some rec
+same_record old now key rec e at = ap (λ (rs : List (Option Record)). get_or rs key None) e ∙ at
+
+pub members_read : (old now : RegionTable) (key : ℕ) (rec : Record) (members : List ℕ) → now.records ≡ old.records
+    → record_at old key ≡ Some rec
+    → option_map (λ (r : Record). r.members) (record_at now key) ≡ Some members → rec.members ≡ members
+members_read old now key rec members e at is =
+    same_members (record_at now key) rec members (same_record old now key rec e at) is

@@ -1,6 +1,7 @@
 -- Each turn of the loops of marking (docs/architecture.md, "Mark and sweep").
-use Rattle.std.proofs.Common.{◌≡◌, ◌≢◌, ℕ, ◌+◌, ◌<◌, ◌≤◌, zero, suc, Bool, true, false, cond, List, [], ◌∷◌, length, Option, Some, None, get_or}
-use Rattle.std.proofs.Common.{set, refl, ap, sym, ◌∙◌, subst, arith, ◌⊎◌, inl, inr, slice_get, option_and_then, option_map, IsSome, ◌==◌}
+use Rattle.std.proofs.Common.{◌≡◌, ◌≢◌, ℕ, ◌+◌, ◌<◌, suc, Bool, true, false, cond, List, [], ◌∷◌, length, Option, Some}
+use Rattle.std.proofs.Common.{None, get_or}
+use Rattle.std.proofs.Common.{set, refl, ap, sym, ◌∙◌, subst, arith, ◌⊎◌, inl, inr, slice_get, option_map}
 use Rattle.rg_cells.specs.declared.cell.Body.{Body}
 use Rattle.std.proofs.lemmas.List.{get_or-set_same, get_or-set_other}
 use Rattle.std.proofs.lemmas.Option.{slice_get_within}
@@ -10,13 +11,16 @@ use Rattle.rg_base.specs.declared.value.Word.{Word}
 use Rattle.rg_base.specs.declared.value.Word.TheVariants.{Slot}
 use Rattle.rg_base.specs.declared.object.Label.{Label}
 use Rattle.rg_base.specs.declared.object.Label.TheVariants.{Region, Temp, Frozen}
-use Rattle.rg_cells.specs.Table.{Heap, Table, field_at, body_at, body_in, width, mark_at, link_at, IsHeld}
-use Rattle.rg_regions.specs.Reach.{LiesIn, Roots, Walk, Reach, belongs, is_region, is_bridge, in_slots, in_temps}
-use Rattle.rg_trace.specs.Inner.Marking.{known_count, pending, black_fields, GreyChain, TriColour, Marking, FieldClosed, BlackDoneBut, BlackDone}
-use Rattle.rg_trace.specs.Inner.Marking.{OnlyGreyed, Near, StaysKnown, BecomesGrey, Greys, Scanned, ScannedTemps, ScannedBridge, MarkingGoes}
+use Rattle.rg_cells.specs.Table.{Heap, Table, field_at, body_at, body_in, width, mark_at, link_at}
+use Rattle.rg_regions.specs.Reach.{LiesIn, Roots, Walk, belongs, is_region, is_bridge, in_slots, in_temps}
+use Rattle.rg_trace.specs.Inner.Marking.{known_count, pending, black_fields, GreyChain, Marking}
+use Rattle.rg_trace.specs.Inner.Marking.{OnlyGreyed, Near, Greys, Scanned, ScannedTemps, ScannedBridge}
+use Rattle.rg_regions.specs.Same.{LinksStay}
+use Rattle.rg_trace.specs.Inner.Marking.{MarkingGoes}
 use Rattle.rg_trace.specs.Inner.Marking.{Marked, weighed, if_black}
-use Rattle.rg_trace.proofs.Marks.Weights.{known-size, known-black, fields-black, pending-black}
-use Rattle.rg_trace.proofs.Marks.Colours.{greyed, went-grey, went-none, went-then, popped, reached-marked, marked-reached, none-grey, walk-lies}
+use Rattle.rg_trace.proofs.Marks.Weights.{known-black, fields-black, pending-black}
+use Rattle.rg_trace.proofs.Marks.Colours.{greyed, went-grey, went-none, went-then, popped, reached-marked}
+use Rattle.rg_trace.proofs.Marks.Colours.{marked-reached, none-grey, walk-lies}
 use Rattle.rg_regions.proofs.Callers.Told.{field_within}
 
 slot_is : (a b : ℕ) → Slot a ≡ Slot b → a ≡ b
@@ -25,32 +29,50 @@ slot_is a b q = cc
 word_is : (a b : Word) → Some a ≡ Some b → a ≡ b
 word_is a b q = cc
 
-pub near-later : (h : Heap) (r : ℕ) (roots : Roots) (old new : List ℕ) (s : ℕ) → OnlyGreyed h r old new → Near h r roots old s → Near h r roots new s
+pub near-later : (h : Heap) (r : ℕ) (roots : Roots) (old new : List ℕ) (s : ℕ) → OnlyGreyed h r old new
+    → Near h r roots old s → Near h r roots new s
 near-later h r roots old new s w n = (n.0, omega (arith, n.1, w.count), n.2)
 
 -- one word is looked at
 pub record Turn (h : Heap) (r : ℕ) (w : Word) (old new : Table) (head result : Option ℕ) : Type 0 where
   pub heap : new.heap ≡ h
   pub went : OnlyGreyed h r old.marks new.marks
+  pub links : LinksStay h r old new
   pub found : (s : ℕ) → w ≡ Slot s → LiesIn h r s → 0 < mark_at new s
-  pub marking : (roots : Roots) → ((s : ℕ) → w ≡ Slot s → LiesIn h r s → Near h r roots old.marks s) → Marking h r roots old head
+  pub marking : (roots : Roots) → ((s : ℕ) → w ≡ Slot s → LiesIn h r s → Near h r roots old.marks s)
+      → Marking h r roots old head
       → Marking h r roots new result
 
-turn-stays : (r : ℕ) (w : Word) (t : Table) (head : Option ℕ) → ((s : ℕ) → w ≡ Slot s → LiesIn t.heap r s → 0 < mark_at t s)
+turn-stays : (r : ℕ) (w : Word) (t : Table) (head : Option ℕ)
+    → ((s : ℕ) → w ≡ Slot s → LiesIn t.heap r s → 0 < mark_at t s)
     → Turn t.heap r w t t head head
-turn-stays r w t head known = record { heap = refl; went = went-none t.heap r t.marks; found = known; marking = λ roots near m. m }
+turn-stays r w t head known = record {
+  heap = refl;
+  went = went-none t.heap r t.marks;
+  links = λ s n. refl;
+  found = known;
+  marking = λ roots near m. m;
+}
 
-turn-taken : (r slot : ℕ) (t : Table) (head : Option ℕ) → LiesIn t.heap r slot → mark_at t slot ≡ 0 → slot < length t.marks → slot < length t.links
-    → Turn t.heap r (Slot slot) t (record t { marks = set t.marks slot 1; links = set t.links slot head }) head (Some slot)
+turn-taken : (r slot : ℕ) (t : Table) (head : Option ℕ) → LiesIn t.heap r slot → mark_at t slot ≡ 0
+    → slot < length t.marks → slot < length t.links
+    → Turn t.heap r (Slot slot) t (record t { marks = set t.marks slot 1; links = set t.links slot head }) head
+    (Some slot)
 turn-taken r slot t head lies white l n = record {
   heap = refl;
   went = went-grey t.heap r t.marks slot lies white l;
+  links = λ s n. get_or-set_other t.links slot s head None (λ q. let L : ℕ → Type 0 = λ y. LiesIn t.heap r y in
+      n (subst L (sym q) lies));
   found = λ s e i. let q : slot ≡ s = slot_is slot s e in let o : get_or (set t.marks slot 1) s 0
       ≡ 1 = ap (λ k. get_or (set t.marks slot 1) k 0) (sym q) ∙ get_or-set_same t.marks slot 1 0 l in omega (arith, o);
-  marking = λ roots near m. (slot ∷ m.0, greyed t.heap r roots t.marks t.links head m.0 slot lies white l n (near slot refl lies) m.1);
+  marking = λ roots near m. (
+    slot ∷ m.0,
+    greyed t.heap r roots t.marks t.links head m.0 slot lies white l n (near slot refl lies) m.1,
+  );
 }
 
-pub turn : (h : Heap) (r : ℕ) (w : Word) (old new : Table) (head result : Option ℕ) → old.heap ≡ h → Greys r w head result old new
+pub turn : (h : Heap) (r : ℕ) (w : Word) (old new : Table) (head result : Option ℕ) → old.heap ≡ h
+    → Greys r w head result old new
     → Turn h r w old new head result
 turn h r w old new head result e g =
     let H : Heap → Type 0 = λ z. Turn z r w old new head result in
@@ -60,37 +82,59 @@ turn h r w old new head result e g =
     subst H e (elim g [
       | inl s ↦ subst R (sym s.head_is) (subst (T head) (sym s.same) (turn-stays r w old head s.known_is))
       | inr t ↦ subst R (sym t.head_is) (subst (T (Some t.slot)) (sym t.new_is)
-          (subst (W (Some t.slot) (record old { marks = set old.marks t.slot 1; links = set old.links t.slot head })) (sym t.leads)
+          (subst (W (Some t.slot) (record old { marks = set old.marks t.slot 1; links = set old.links t.slot head }))
+          (sym t.leads)
           (turn-taken r t.slot old head t.lies t.white t.within t.in_links)))
     ])
 
-pub scanned-none : (h : Heap) (r : ℕ) (word : ℕ → Option Word) (t : Table) (head : Option ℕ) → t.heap ≡ h → Scanned h r word 0 t t head head
-scanned-none h r word t head e = record { heap = e; went = went-none h r t.marks; found = λ k s l. absurd (omega arith); marking = λ roots near m. m }
+pub scanned-none : (h : Heap) (r : ℕ) (word : ℕ → Option Word) (t : Table) (head : Option ℕ) → t.heap ≡ h
+    → Scanned h r word 0 t t head head
+scanned-none h r word t head e = record {
+  heap = e;
+  went = went-none h r t.marks;
+  links = λ s n. refl;
+  found = λ k s l. absurd (omega arith);
+  marking = λ roots near m. m;
+}
 
-pub scanned-more : (h : Heap) (r : ℕ) (word : ℕ → Option Word) (n : ℕ) (old mid new : Table) (head middle result : Option ℕ) (w : Word) → word n
-    ≡ Some w → Scanned h r word n old mid head middle → Turn h r w mid new middle result → Scanned h r word (n + 1) old new head result
+pub scanned-more : (h : Heap) (r : ℕ) (word : ℕ → Option Word) (n : ℕ) (old mid new : Table)
+    (head middle result : Option ℕ) (w : Word) → word n
+    ≡ Some w → Scanned h r word n old mid head middle → Turn h r w mid new middle result
+    → Scanned h r word (n + 1) old new head result
 scanned-more h r word n old mid new head middle result w at a b = record {
   heap = b.heap;
   went = went-then h r old.marks mid.marks new.marks a.went b.went;
+  links = λ s n. b.links s n ∙ a.links s n;
   found = λ k s l e i. elim (cases_lt k n) [
     | inl m ↦ b.went.grows s (a.found k s m e i)
     | inr m ↦ let q : k ≡ n = omega arith in b.found s (word_is w (Slot s) (sym at ∙ ap word (sym q) ∙ e)) i
   ];
-  marking = λ roots near m. b.marking roots (λ s e i. near-later h r roots old.marks mid.marks s a.went (near n s (at ∙ ap Some e) i))
+  marking = λ roots near m. b.marking roots
+      (λ s e i. near-later h r roots old.marks mid.marks s a.went (near n s (at ∙ ap Some e) i))
       (a.marking roots near m);
 }
 
 -- a temporary more
-pub traced-none : (h : Heap) (r : ℕ) (temps : List ℕ) (t : Table) (head : Option ℕ) → t.heap ≡ h → ScannedTemps h r temps 0 t t head head
-traced-none h r temps t head e = record { heap = e; went = went-none h r t.marks; found = λ i k s temp l. absurd (omega arith); marking = λ roots
-    same m. m }
+pub traced-none : (h : Heap) (r : ℕ) (temps : List ℕ) (t : Table) (head : Option ℕ) → t.heap ≡ h
+    → ScannedTemps h r temps 0 t t head head
+traced-none h r temps t head e = record {
+  heap = e;
+  went = went-none h r t.marks;
+  links = λ s n. refl;
+  found = λ i k s temp l. absurd (omega arith);
+  marking = λ roots
+      same m. m;
+}
 
-pub traced-more : (h : Heap) (r : ℕ) (temps : List ℕ) (n : ℕ) (old mid new : Table) (head middle result : Option ℕ) (temp : ℕ) → slice_get temps n
-    ≡ Some temp → ScannedTemps h r temps n old mid head middle → Scanned h r (λ k. field_at h temp k) (width (body_at h temp)) mid new middle result
+pub traced-more : (h : Heap) (r : ℕ) (temps : List ℕ) (n : ℕ) (old mid new : Table) (head middle result : Option ℕ)
+    (temp : ℕ) → slice_get temps n
+    ≡ Some temp → ScannedTemps h r temps n old mid head middle
+    → Scanned h r (λ k. field_at h temp k) (width (body_at h temp)) mid new middle result
     → ScannedTemps h r temps (n + 1) old new head result
 traced-more h r temps n old mid new head middle result temp at a b = record {
   heap = b.heap;
   went = went-then h r old.marks mid.marks new.marks a.went b.went;
+  links = λ s n. b.links s n ∙ a.links s n;
   found = λ i k s other l e f lies. elim (cases_lt i n) [
     | inl m ↦ b.went.grows s (a.found i k s other m e f lies)
     | inr m ↦
@@ -99,7 +143,8 @@ traced-more h r temps n old mid new head middle result temp at a b = record {
         let here : field_at h temp k ≡ Some (Slot s) = ap (λ z. field_at h z k) same ∙ f in
         b.found k s (field_within h temp k (Slot s) here) here lies
   ];
-  marking = λ roots same m. b.marking roots (λ k s f lies. (0, omega arith, (lies, in_temps n k temp (ap (λ ts. slice_get ts n) same ∙ at) f)))
+  marking = λ roots same m. b.marking roots
+      (λ k s f lies. (0, omega arith, (lies, in_temps n k temp (ap (λ ts. slice_get ts n) same ∙ at) f)))
       (a.marking roots same m);
 }
   where
@@ -107,9 +152,11 @@ traced-more h r temps n old mid new head middle result temp at a b = record {
     number_is a b q = cc
 
 -- the first grey cell becomes black, and its fields are looked at
-pub goes-more : (h : Heap) (r : ℕ) (roots : Roots) (first : List ℕ) (old mid new : Table) (s : ℕ) (result : Option ℕ) → s < length old.marks → mid
+pub goes-more : (h : Heap) (r : ℕ) (roots : Roots) (first : Table) (old mid new : Table) (s : ℕ) (result : Option ℕ)
+    → s < length old.marks → mid
     ≡ record old { marks = set old.marks s 2 } → MarkingGoes h r roots first old (Some s)
-    → Scanned h r (λ k. field_at h s k) (width (body_at h s)) mid new (link_at old s) result → MarkingGoes h r roots first new result
+    → Scanned h r (λ k. field_at h s k) (width (body_at h s)) mid new (link_at old s) result
+    → MarkingGoes h r roots first new result
 goes-more h r roots first old mid new s result l e g b =
     let p = popped h r roots old.marks old.links s g.marking.0 l g.marking.1 in
     let marks : mid.marks ≡ set old.marks s 2 = ap (λ (t : Table). t.marks) e in
@@ -118,15 +165,18 @@ goes-more h r roots first old mid new s result l e g b =
     let marking : Marking h r roots mid (link_at old s) = subst M (sym e) (p.0, p.3) in
     let same : get_or mid.marks s 0 ≡ 2 = ap (λ ms. get_or ms s 0) marks ∙ get_or-set_same old.marks s 2 0 l in
     let other : (k : ℕ) → k ≢ s → get_or mid.marks k 0 ≡ get_or old.marks k 0 = λ k d. ap (λ ms. get_or ms k 0) marks
-        ∙ get_or-set_other old.marks s k 2 0 d in
+    ∙ get_or-set_other old.marks s k 2 0 d in
     let w = g.marking.1.walked s p.1 (omega (arith, p.2)) in
     let W : Walk h r roots w.0 s = w.2 in
-    let count : known_count h r mid.marks ≡ known_count h r old.marks = ap (known_count h r) marks ∙ known-black h r s old.marks p.1 p.2 l in
+    let count : known_count h r mid.marks ≡ known_count h r old.marks = ap (known_count h r) marks
+    ∙ known-black h r s old.marks p.1 p.2 l in
     let near : (k t : ℕ) → field_at h s k ≡ Some (Slot t) → LiesIn h r t
-        → Near h r roots mid.marks t = λ k t f i. (suc w.0, omega (arith, w.1, count), (i, (s, k, W, f))) in
-    let kept : (x : ℕ) → 0 < get_or old.marks x 0 → 0 < get_or mid.marks x 0 = λ x m. elim (cases_eq x s)
-        [ inl q ↦ let o : get_or mid.marks x 0 ≡ 2 = ap (λ y. get_or mid.marks y 0) q ∙ same in omega (arith, o) | inr d
-        ↦ let o = other x d in omega (arith, o, m) ] in
+    → Near h r roots mid.marks t = λ k t f i. (suc w.0, omega (arith, w.1, count), (i, (s, k, W, f))) in
+    let kept : (x : ℕ) → 0 < get_or old.marks x 0 → 0 < get_or mid.marks x 0 = λ x m. elim (cases_eq x s) [
+      | inl q ↦ let o : get_or mid.marks x 0 ≡ 2 = ap (λ y. get_or mid.marks y 0) q ∙ same in omega (arith, o)
+      | inr d
+          ↦ let o = other x d in omega (arith, o, m)
+    ] in
     record {
       heap = b.heap;
       marking = b.marking roots near marking;
@@ -137,28 +187,38 @@ goes-more h r roots first old mid new s result l e g b =
             (kept t (g.done x k i (omega (arith, o, was)) t f z))
       ];
       roots_known = λ x v. b.went.grows x (kept x (g.roots_known x v));
-      outside = λ x i. b.went.outside x i ∙ other x (λ q. let L : ℕ → Type 0 = λ y. LiesIn h r y in i (subst L (sym q) p.1)) ∙ g.outside x i;
+      outside = λ x i.
+          let L : ℕ → Type 0 = λ y. LiesIn h r y in
+          let o = g.outside x i in (
+            b.went.outside x i ∙ other x (λ q. i (subst L (sym q) p.1)) ∙ o.0,
+            b.links x i ∙ ap (λ (t : Table). link_at t x) e ∙ o.1,
+          );
     }
 
 -- where no grey cell is left, the region is marked
-pub goes-done : (h : Heap) (r : ℕ) (roots : Roots) (first : List ℕ) (old t : Table) → first ≡ old.marks → MarkingGoes h r roots first t None
+pub goes-done : (h : Heap) (r : ℕ) (roots : Roots) (first : Table) (old t : Table) → first ≡ old
+    → MarkingGoes h r roots first t None
     → Marked h r roots old t
 goes-done h r roots first old t e g = record {
   heap = g.heap;
   reached = λ s q.
-      let m : 0 < mark_at t s = reached-marked h r roots t.marks t.links g.marking.0 g.marking.1 g.done g.roots_known q.0 s q.2 in
-      let n : mark_at t s ≢ 1 = none-grey h r roots t.marks t.links g.marking.0 g.marking.1 s (walk-lies h r roots q.0 s q.2) in
+      let m : 0 < mark_at t s = reached-marked h r roots t.marks t.links g.marking.0 g.marking.1 g.done g.roots_known
+      q.0 s q.2 in
+      let n : mark_at t s ≢ 1 = none-grey h r roots t.marks t.links g.marking.0 g.marking.1 s
+      (walk-lies h r roots q.0 s q.2) in
       omega (arith, m, n);
   closed = λ s k to l m f i.
       let d : 0 < mark_at t to = g.done s k l m to f i in
       let n : mark_at t to ≢ 1 = none-grey h r roots t.marks t.links g.marking.0 g.marking.1 to i in
       omega (arith, d, n);
   only = λ s i m. marked-reached h r roots t.marks t.links None g.marking.0 s g.marking.1 i m;
-  outside = λ s i. g.outside s i ∙ ap (λ ms. get_or ms s 0) e;
+  outside = λ s i. let o = g.outside s i in
+      (o.0 ∙ ap (λ (z : Table). mark_at z s) e, o.1 ∙ ap (λ (z : Table). link_at z s) e);
 }
 
 -- a region whose cells are white, before its roots are looked at
-pub goes-nothing : (h : Heap) (r : ℕ) (roots : Roots) (t : Table) → ((s : ℕ) → LiesIn h r s → mark_at t s ≡ 0) → Marking h r roots t None
+pub goes-nothing : (h : Heap) (r : ℕ) (roots : Roots) (t : Table) → ((s : ℕ) → LiesIn h r s → mark_at t s ≡ 0)
+    → Marking h r roots t None
 goes-nothing h r roots t white = (
   [],
   record {
@@ -169,8 +229,10 @@ goes-nothing h r roots t white = (
 )
 
 -- the fields of black cells, and the cells that aren't black, after a turn
-pub fields-more : (h : Heap) (r : ℕ) (roots : Roots) (first : List ℕ) (old mid new : Table) (s : ℕ) → s < length old.marks → mid
-    ≡ record old { marks = set old.marks s 2 } → MarkingGoes h r roots first old (Some s) → OnlyGreyed h r mid.marks new.marks
+pub fields-more : (h : Heap) (r : ℕ) (roots : Roots) (first : Table) (old mid new : Table) (s : ℕ)
+    → s < length old.marks → mid
+    ≡ record old { marks = set old.marks s 2 } → MarkingGoes h r roots first old (Some s)
+    → OnlyGreyed h r mid.marks new.marks
     → black_fields h r new.marks ≡ black_fields h r old.marks + width (body_at h s)
 fields-more h r roots first old mid new s l e g w =
     let p = popped h r roots old.marks old.links s g.marking.0 l g.marking.1 in
@@ -178,8 +240,10 @@ fields-more h r roots first old mid new s l e g w =
     let a : black_fields h r mid.marks ≡ black_fields h r (set old.marks s 2) = ap (black_fields h r) marks in
     omega (arith, w.fields, a, fields-black h r s old.marks p.1 p.2 l)
 
-pub pending-less : (h : Heap) (r : ℕ) (roots : Roots) (first : List ℕ) (old mid new : Table) (s : ℕ) → s < length old.marks → mid
-    ≡ record old { marks = set old.marks s 2 } → MarkingGoes h r roots first old (Some s) → OnlyGreyed h r mid.marks new.marks
+pub pending-less : (h : Heap) (r : ℕ) (roots : Roots) (first : Table) (old mid new : Table) (s : ℕ)
+    → s < length old.marks → mid
+    ≡ record old { marks = set old.marks s 2 } → MarkingGoes h r roots first old (Some s)
+    → OnlyGreyed h r mid.marks new.marks
     → pending h r new.marks < pending h r old.marks
 pending-less h r roots first old mid new s l e g w =
     let p = popped h r roots old.marks old.links s g.marking.0 l g.marking.1 in
@@ -206,7 +270,8 @@ weighed-zero f (x ∷ xs) [] z = omega (arith, z 0, weighed-zero f xs [] (λ k. 
 weighed-zero f (x ∷ xs) (m ∷ ms) z = omega (arith, z 0, weighed-zero f xs ms (λ k. z (suc k)))
 
 -- what isn't in a region weighs nothing, and what is in it has its label
-pub belongs-cases : (r : ℕ) (b : Option Body) → (belongs r b ≡ false) ⊎ (option_map (λ (b : Body). b.label) b ≡ Some (Region r))
+pub belongs-cases : (r : ℕ) (b : Option Body)
+    → (belongs r b ≡ false) ⊎ (option_map (λ (b : Body). b.label) b ≡ Some (Region r))
 belongs-cases r None = inl refl
 belongs-cases r (Some b) = by_label b.label
   where
@@ -215,12 +280,13 @@ belongs-cases r (Some b) = by_label b.label
     by_label (Temp n) = inl refl
     by_label Frozen = inl refl
 
-pub fields-white : (h : Heap) (r : ℕ) (marks : List ℕ) → ((s : ℕ) → LiesIn h r s → get_or marks s 0 ≡ 0) → black_fields h r marks ≡ 0
+pub fields-white : (h : Heap) (r : ℕ) (marks : List ℕ) → ((s : ℕ) → LiesIn h r s → get_or marks s 0 ≡ 0)
+    → black_fields h r marks ≡ 0
 fields-white h r marks white = weighed-zero (λ b m. cond (belongs r b) (if_black (width b) m) 0) h.slots marks
     (λ k. elim (belongs-cases r (body_at h k)) [
-  | inl e ↦ rw e refl
-  | inr l ↦ rw (white k l) (cond-zero (belongs r (body_at h k)))
-])
+      | inl e ↦ rw e refl
+      | inr l ↦ rw (white k l) (cond-zero (belongs r (body_at h k)))
+    ])
   where
     cond-zero : (b : Bool) → cond {A = ℕ} b 0 0 ≡ 0
     cond-zero true = refl
@@ -228,7 +294,13 @@ fields-white h r marks white = weighed-zero (λ b m. cond (belongs r b) (if_blac
 
 -- the bridge is looked at
 pub bridged-none : (r : ℕ) (t : Table) → ScannedBridge t.heap r None t t None
-bridged-none r t = record { heap = refl; went = went-none t.heap r t.marks; found = λ s e. let q : None ≡ Some s = e in cc; marking = λ roots e m. m }
+bridged-none r t = record {
+  heap = refl;
+  went = went-none t.heap r t.marks;
+  links = λ s n. refl;
+  found = λ s e. let q : None ≡ Some s = e in cc;
+  marking = λ roots e m. m;
+}
 
 pub bridged-some : (r s : ℕ) (old new : Table) (result : Option ℕ) → Greys r (Slot s) None result old new
     → ScannedBridge old.heap r (Some s) old new result
@@ -237,21 +309,26 @@ bridged-some r s old new result g =
     record {
       heap = b.heap;
       went = b.went;
+      links = b.links;
       found = λ x e l. b.found x (ap Slot (number_is s x e)) l;
-      marking = λ roots e m. b.marking roots (λ x q l. (0, omega arith, (l, is_bridge (e ∙ ap Some (slot_is s x q))))) m;
+      marking = λ roots e m. b.marking roots (λ x q l. (0, omega arith, (l, is_bridge (e ∙ ap Some (slot_is s x q)))))
+          m;
     }
   where
     number_is : (a b : ℕ) → Some a ≡ Some b → a ≡ b
     number_is a b q = cc
 
 -- the bridge, the slots and the temporaries were looked at
-pub goes-begin : (h : Heap) (r : ℕ) (bridge : Option ℕ) (slots : List Word) (temps : List ℕ) (a b c d : Table) (first second third : Option ℕ)
+pub goes-begin : (h : Heap) (r : ℕ) (bridge : Option ℕ) (slots : List Word) (temps : List ℕ) (a b c d : Table)
+    (first second third : Option ℕ)
     → a.heap ≡ h → ((s : ℕ) → LiesIn h r s → mark_at a s ≡ 0) → ScannedBridge h r bridge a b first
-    → Scanned h r (λ k. slice_get slots k) (length slots) b c first second → ScannedTemps h r temps (length temps) c d second third
-    → MarkingGoes h r (record { bridge = bridge; slots = slots; temps = temps }) a.marks d third
+    → Scanned h r (λ k. slice_get slots k) (length slots) b c first second
+    → ScannedTemps h r temps (length temps) c d second third
+    → MarkingGoes h r (record { bridge = bridge; slots = slots; temps = temps }) a d third
 goes-begin h r bridge slots temps a b c d first second third e white p q t =
     let roots : Roots = record { bridge = bridge; slots = slots; temps = temps } in
-    let w : OnlyGreyed h r a.marks d.marks = went-then h r a.marks b.marks d.marks p.went (went-then h r b.marks c.marks d.marks q.went t.went) in
+    let w : OnlyGreyed h r a.marks d.marks =
+    went-then h r a.marks b.marks d.marks p.went (went-then h r b.marks c.marks d.marks q.went t.went) in
     record {
       heap = t.heap;
       marking = t.marking roots refl (q.marking roots (λ k s f l. (0, omega arith, (l, in_slots k f)))
@@ -262,13 +339,15 @@ goes-begin h r bridge slots temps a b c d first second third e white p q t =
         | in_slots k f ↦ t.went.grows s (q.found k s (slice_get_within slots k (Slot s) f) f v.0)
         | in_temps i k temp f z ↦ t.found i k s temp (slice_get_within temps i temp f) f z v.0
       ];
-      outside = λ s i. w.outside s i;
+      outside = λ s i. (w.outside s i, t.links s i ∙ q.links s i ∙ p.links s i);
     }
 
 -- .. and no field of a black cell was looked at yet
-pub fields-begin : (h : Heap) (r : ℕ) (bridge : Option ℕ) (slots : List Word) (temps : List ℕ) (a b c d : Table) (first second third : Option ℕ)
+pub fields-begin : (h : Heap) (r : ℕ) (bridge : Option ℕ) (slots : List Word) (temps : List ℕ) (a b c d : Table)
+    (first second third : Option ℕ)
     → ((s : ℕ) → LiesIn h r s → mark_at a s ≡ 0) → ScannedBridge h r bridge a b first
-    → Scanned h r (λ k. slice_get slots k) (length slots) b c first second → ScannedTemps h r temps (length temps) c d second third
+    → Scanned h r (λ k. slice_get slots k) (length slots) b c first second
+    → ScannedTemps h r temps (length temps) c d second third
     → black_fields h r d.marks ≡ 0
 fields-begin h r bridge slots temps a b c d first second third white p q t =
     t.went.fields ∙ q.went.fields ∙ p.went.fields ∙ fields-white h r a.marks white

@@ -1,12 +1,19 @@
--- The three colours of marking: white 0, grey 1, black 2; the grey list runs through the links (docs/architecture.md, "Mark and sweep").
-use Rattle.std.specs.Prelude.{◌≡◌, ℕ, zero, suc, ◌+◌, ◌<◌, ◌≤◌, Bool, cond, List, [], ◌∷◌, length, Option, Some, None, slice_get, slice_set}
+-- The three colours of marking: white 0, grey 1, black 2; the grey list runs through the links (docs/architecture.md,
+-- "Mark and sweep").
+use Rattle.std.specs.Prelude.{◌≡◌, ℕ, zero, suc, ◌+◌, ◌<◌, ◌≤◌, cond, List, [], ◌∷◌, length, Option, Some, None}
+use Rattle.std.specs.Prelude.{slice_get, slice_set}
 use Rattle.std.specs.Prelude.{slice_index, slice_index_or, ◌⊎◌}
 use Rattle.rg_cells.specs.declared.cell.Body.{Body}
 use Rattle.rg_base.specs.declared.value.Word.{Word}
 use Rattle.rg_base.specs.declared.value.Word.TheVariants.{Slot}
-use Rattle.rg_cells.specs.Table.{Heap, Table, label_at, field_at, body_in, width, mark_at, link_at}
+use Rattle.rg_cells.specs.Table.{Heap, Table, field_at, body_in, width, mark_at, link_at}
+use Rattle.rg_regions.specs.Same.{LinksStay}
 use Rattle.rg_regions.specs.Reach.{LiesIn, Roots, Walk, Reach, belongs}
 use Rattle.rg_regions.specs.Table.{Has}
+
+-- no cell of a region has a mark
+abbrev pub AllWhite : Table → (region : ℕ) → Type 0
+AllWhite c r = (s : ℕ) → LiesIn c.heap r s → mark_at c s ≡ 0
 
 -- one for a mark that is grey or black; one for a mark that isn't black; the weight, where the mark is black
 abbrev pub known : ℕ → ℕ
@@ -43,13 +50,16 @@ black_fields h r marks = weighed (λ b m. cond (belongs r b) (if_black (width b)
 abbrev pub GreyChain : Heap → ℕ → List ℕ → List (Option ℕ) → Option ℕ → List ℕ → Type 0
 GreyChain h r marks links head [] = head ≡ None
 GreyChain h r marks links head (s ∷ grey) =
-    (head ≡ Some s) × LiesIn h r s × (slice_index marks s ≡ 1) × (Has grey s → ⊥) × GreyChain h r marks links (slice_index_or links s None) grey
+    (head ≡ Some s) × LiesIn h r s × (slice_index marks s ≡ 1) × (Has grey s → ⊥)
+    × GreyChain h r marks links (slice_index_or links s None) grey
 
 -- each grey cell is in the list, and each grey or black cell is in reach by fewer links than cells are known
-pub record TriColour (h : Heap) (r : ℕ) (roots : Roots) (marks : List ℕ) (links : List (Option ℕ)) (head : Option ℕ) (grey : List ℕ) : Type 0 where
+pub record TriColour (h : Heap) (r : ℕ) (roots : Roots) (marks : List ℕ) (links : List (Option ℕ)) (head : Option ℕ)
+    (grey : List ℕ) : Type 0 where
   pub chain : GreyChain h r marks links head grey
   pub listed : (s : ℕ) → LiesIn h r s → slice_index marks s ≡ 1 → Has grey s
-  pub walked : (s : ℕ) → LiesIn h r s → 0 < slice_index marks s → (n : ℕ) × (n < known_count h r marks) × Walk h r roots n s
+  pub walked : (s : ℕ) → LiesIn h r s → 0 < slice_index marks s
+      → (n : ℕ) × (n < known_count h r marks) × Walk h r roots n s
 
 -- there is such a list
 abbrev pub Marking : Heap → ℕ → Roots → Table → Option ℕ → Type 0
@@ -61,7 +71,8 @@ FieldClosed h r marks s k = (t : ℕ) → field_at h s k ≡ Some (Slot t) → L
 
 -- so it is for all fields of black cells, but for the fields of one cell from a number on
 abbrev pub BlackDoneBut : Heap → ℕ → List ℕ → (held from : ℕ) → Type 0
-BlackDoneBut h r marks held from = (s k : ℕ) → LiesIn h r s → 1 < slice_index marks s → (s ≡ held → k < from) → FieldClosed h r marks s k
+BlackDoneBut h r marks held from = (s k : ℕ) → LiesIn h r s → 1 < slice_index marks s → (s ≡ held → k < from)
+    → FieldClosed h r marks s k
 
 abbrev pub BlackDone : Heap → ℕ → List ℕ → Type 0
 BlackDone h r marks = (s k : ℕ) → LiesIn h r s → 1 < slice_index marks s → FieldClosed h r marks s k
@@ -100,39 +111,47 @@ abbrev pub Greys : ℕ → Word → (head result : Option ℕ) → (old new : Ta
 Greys r w head result old new = StaysKnown r w head result old new ⊎ BecomesGrey r w head result old new
 
 -- so many words were looked at in turn: what they lead to in the region is known
-pub record Scanned (h : Heap) (r : ℕ) (word : ℕ → Option Word) (n : ℕ) (old new : Table) (head result : Option ℕ) : Type 0 where
+pub record Scanned (h : Heap) (r : ℕ) (word : ℕ → Option Word) (n : ℕ) (old new : Table)
+    (head result : Option ℕ) : Type 0 where
   pub heap : new.heap ≡ h
   pub went : OnlyGreyed h r old.marks new.marks
+  pub links : LinksStay h r old new
   pub found : (k s : ℕ) → k < n → word k ≡ Some (Slot s) → LiesIn h r s → 0 < mark_at new s
-  pub marking : (roots : Roots) → ((k s : ℕ) → word k ≡ Some (Slot s) → LiesIn h r s → Near h r roots old.marks s) → Marking h r roots old head
+  pub marking : (roots : Roots) → ((k s : ℕ) → word k ≡ Some (Slot s) → LiesIn h r s → Near h r roots old.marks s)
+      → Marking h r roots old head
       → Marking h r roots new result
 
 -- so many temporaries were looked at in turn: what their fields lead to in the region is known
-pub record ScannedTemps (h : Heap) (r : ℕ) (temps : List ℕ) (n : ℕ) (old new : Table) (head result : Option ℕ) : Type 0 where
+pub record ScannedTemps (h : Heap) (r : ℕ) (temps : List ℕ) (n : ℕ) (old new : Table)
+    (head result : Option ℕ) : Type 0 where
   pub heap : new.heap ≡ h
   pub went : OnlyGreyed h r old.marks new.marks
-  pub found : (i k s temp : ℕ) → i < n → slice_get temps i ≡ Some temp → field_at h temp k ≡ Some (Slot s) → LiesIn h r s → 0 < mark_at new s
+  pub links : LinksStay h r old new
+  pub found : (i k s temp : ℕ) → i < n → slice_get temps i ≡ Some temp → field_at h temp k ≡ Some (Slot s)
+      → LiesIn h r s → 0 < mark_at new s
   pub marking : (roots : Roots) → roots.temps ≡ temps → Marking h r roots old head → Marking h r roots new result
 
 -- the bridge was looked at: it is known where it lies in the region
 pub record ScannedBridge (h : Heap) (r : ℕ) (bridge : Option ℕ) (old new : Table) (result : Option ℕ) : Type 0 where
   pub heap : new.heap ≡ h
   pub went : OnlyGreyed h r old.marks new.marks
+  pub links : LinksStay h r old new
   pub found : (s : ℕ) → bridge ≡ Some s → LiesIn h r s → 0 < mark_at new s
   pub marking : (roots : Roots) → roots.bridge ≡ bridge → Marking h r roots old None → Marking h r roots new result
 
 -- the marking of a region goes on: the roots are known, and the fields of black cells lead to no white cell
-pub record MarkingGoes (h : Heap) (r : ℕ) (roots : Roots) (first : List ℕ) (t : Table) (head : Option ℕ) : Type 0 where
+pub record MarkingGoes (h : Heap) (r : ℕ) (roots : Roots) (first t : Table) (head : Option ℕ) : Type 0 where
   pub heap : t.heap ≡ h
   pub marking : Marking h r roots t head
   pub done : BlackDone h r t.marks
   pub roots_known : (s : ℕ) → Walk h r roots zero s → 0 < mark_at t s
-  pub outside : (s : ℕ) → (LiesIn h r s → ⊥) → mark_at t s ≡ slice_index first s
+  pub outside : (s : ℕ) → (LiesIn h r s → ⊥) → (mark_at t s ≡ mark_at first s) × (link_at t s ≡ link_at first s)
 
--- a region is marked: the cells in reach are black, its other cells are white, and no other mark changed
+-- a region is marked: the cells in reach are black, its other cells are white, and no other mark or link changed
 pub record Marked (h : Heap) (r : ℕ) (roots : Roots) (old new : Table) : Type 0 where
   pub heap : new.heap ≡ h
   pub reached : (s : ℕ) → Reach h r roots s → 1 < mark_at new s
   pub only : (s : ℕ) → LiesIn h r s → 0 < mark_at new s → Reach h r roots s
-  pub closed : (s k to : ℕ) → LiesIn h r s → 1 < mark_at new s → field_at h s k ≡ Some (Slot to) → LiesIn h r to → 1 < mark_at new to
-  pub outside : (s : ℕ) → (LiesIn h r s → ⊥) → mark_at new s ≡ mark_at old s
+  pub closed : (s k to : ℕ) → LiesIn h r s → 1 < mark_at new s → field_at h s k ≡ Some (Slot to) → LiesIn h r to
+      → 1 < mark_at new to
+  pub outside : (s : ℕ) → (LiesIn h r s → ⊥) → (mark_at new s ≡ mark_at old s) × (link_at new s ≡ link_at old s)

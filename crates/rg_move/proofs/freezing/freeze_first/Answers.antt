@@ -2,10 +2,9 @@ use Rattle.std.proofs.Common.{◌≡◌, ℕ, ◌+◌, List, length, Option, Non
 use Rattle.rg_base.specs.declared.object.Label.TheVariants.{Frozen}
 use Rattle.rg_regions.specs.Table.{Record, RegionTable, HasNumber, Chained}
 use Rattle.rg_regions.specs.Chains.{LeadsToHeld, OwnsOnce}
-use Rattle.rg_regions.specs.Owned.{OwnsNone, ChainsOwned}
+use Rattle.rg_regions.specs.Owned.{Every, OwnsNone, ChainsOwned}
 use Rattle.rg_regions.specs.Same.{AllHeld, AllDiffer}
-use Rattle.rg_regions.proofs.Callers.Told.{number_of, one_number}
-use Rattle.rg_regions.proofs.Callers.OwnedFound.{members_read, same_record}
+use Rattle.rg_regions.proofs.Callers.Told.{number_of, one_number, members_read, same_record}
 use Rattle.rg_regions.proofs.Callers.HandedOver.{handed_over}
 use Rattle.rg_regions.proofs.Callers.Removed.{count-removed}
 use Rattle.rg_move.specs.Inner.Labels.{LabelledFirst}
@@ -59,7 +58,7 @@ returns-clause-turned c = λ rec rest w.
     let C : Option ℕ → Type 0 = λ o. Chained old.links o rest in
     let N : ℕ → Type 0 = λ n. OwnsNone h n old rest in
     let k = s.next rest (subst N same w.free) (subst C (sym c.link-rest.ensures) w.chain.2) in
-    let O : ℕ → Type 0 = λ n. ChainsOwned h n rec.members rest old (length rec.members) 0 mid head in
+    let O : ℕ → Type 0 = λ n. ChainsOwned h Every n rec.members rest old (length rec.members) 0 mid head in
     let own = subst O (sym same) k in
     let F : List ℕ → Type 0 = λ z. LabelledFirst Frozen c.args.cells.now z (length z) cells in
     let done = subst F (sym mem) c.label_members.ensures in (

@@ -1,5 +1,5 @@
-use Rattle.rg_regions.specs.Owned.{FollowsFields}
+use Rattle.rg_regions.specs.Owned.{Every, FollowsFields}
 use Rattle.rg_regions.proofs.owned.chain_fields.Given as goal
 
 abbrev pub invariant-loop-k : goal.invariant-loop-k
-invariant-loop-k l = FollowsFields l.cells.heap l.region l.slot l.k l.initial.regions l.regions l.initial.head l.head
+invariant-loop-k l = FollowsFields l.cells.heap Every l.region l.slot l.k l.initial.regions l.regions l.initial.head l.head

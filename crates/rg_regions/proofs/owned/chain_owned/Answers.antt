@@ -2,9 +2,9 @@ use Rattle.std.proofs.Common.{◌≡◌, ℕ, ◌+◌, ◌<◌, List, length, Op
 use Rattle.rg_base.specs.declared.object.Label.TheVariants.{Region}
 use Rattle.rg_regions.specs.Table.{Record, InTable}
 use Rattle.rg_regions.specs.Reach.{LiesIn}
-use Rattle.rg_regions.proofs.Callers.Told.{one_record, labelled_held}
+use Rattle.rg_regions.proofs.Callers.Told.{one_record, labelled_held, members_read, same_record}
 use Rattle.rg_regions.specs.Owned.{FollowsMembers}
-use Rattle.rg_regions.proofs.Callers.OwnedFound.{members_none, members_more, members_read, same_record}
+use Rattle.rg_regions.proofs.Callers.OwnedFound.{members_none, members_more}
 use Rattle.rg_regions.proofs.owned.chain_owned.Goals as goal
 
 pub loop-place-init : goal.loop-place-init

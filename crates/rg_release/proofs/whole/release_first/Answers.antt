@@ -2,11 +2,10 @@ use Rattle.std.proofs.Common.{◌≡◌, ℕ, ◌+◌, List, length, Option, get
 use Rattle.rg_base.specs.declared.object.Label.TheVariants.{Region}
 use Rattle.rg_regions.specs.Table.{Record, RegionTable, record_at, Chained}
 use Rattle.rg_regions.specs.Chains.{OwnsOnce}
-use Rattle.rg_regions.proofs.Callers.Told.{record_there, labelled_held, led_held, owns_once}
-use Rattle.rg_regions.specs.Owned.{ChainsOwned}
+use Rattle.rg_regions.proofs.Callers.Told.{record_there, labelled_held, led_held, owns_once, members_read, same_record}
+use Rattle.rg_regions.specs.Owned.{Every, ChainsOwned}
 use Rattle.rg_regions.specs.Same.{AllHeld, AllDiffer}
 use Rattle.rg_release.specs.Inner.Turns.{FreedFirst}
-use Rattle.rg_regions.proofs.Callers.OwnedFound.{members_read, same_record}
 use Rattle.rg_regions.proofs.Callers.Removed.{count-removed}
 use Rattle.rg_release.proofs.OneReleased.{owns_none, chain_made, turn_made}
 use Rattle.rg_release.proofs.whole.release_first.Goals as goal
@@ -53,7 +52,7 @@ returns-clause-turned c = λ rest chain unowned.
     let mem = members_read old mid c.args.key a.0 c.members.result.now s.records a.1 c.members.ensures in
     let C : Option ℕ → Type 0 = λ o. Chained old.links o rest in
     let k = s.next rest (owns_none h old c.args.key c.number-region.result rest unowned) (subst C (sym c.link-rest.ensures) chain.2) in
-    let O : ℕ → Type 0 = λ n. ChainsOwned h n a.0.members rest old (length a.0.members) 0 mid head in
+    let O : ℕ → Type 0 = λ n. ChainsOwned h Every n a.0.members rest old (length a.0.members) 0 mid head in
     let own = subst O (sym a.2) k in
     let F : List ℕ → Type 0 = λ z. FreedFirst c.args.cells.now z (length z) cells in
     let freed = subst F (sym mem) c.free_members.ensures in

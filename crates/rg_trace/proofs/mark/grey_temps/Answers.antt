@@ -1,4 +1,4 @@
-use Rattle.std.proofs.Common.{◌≡◌, ℕ, ◌+◌, ap, sym, ◌∙◌, arith, subst, get_or, slice_get, sum_by, take}
+use Rattle.std.proofs.Common.{◌≡◌, ℕ, ◌+◌, arith, subst, get_or}
 use Rattle.std.proofs.lemmas.Option.{slice_get-get_or}
 use Rattle.std.proofs.lemmas.List.Sums.{sum_by_more}
 use Rattle.rg_cells.specs.Table.{Heap, field_at, body_at, width}
@@ -9,12 +9,15 @@ use Rattle.rg_trace.proofs.mark.grey_temps.Goals as goal
 pub loop-temp-preserved : goal.loop-temp-preserved
 loop-temp-preserved g c =
     let temp : ℕ = get_or c.args.temps.now c.loop-temp.temp-index 0 in
-    let S : Heap → Type 0 = λ h. Scanned h c.args.region (λ k. field_at h temp k) (width (body_at h temp)) c.loop-temp.cells
-        c.grey_fields-head.new.cells c.loop-temp.head c.grey_fields-head.result in
+    let S : Heap → Type 0 = λ h. Scanned h c.args.region (λ k. field_at h temp k)
+    (width (body_at h temp)) c.loop-temp.cells
+    c.grey_fields-head.new.cells c.loop-temp.head c.grey_fields-head.result in
     let W : Heap → Type 0 = λ h. c.grey_fields-head.new.steps ≡ c.loop-temp.steps + width (body_at h temp) in
     let cost = subst W c.loop-temp.invariant.0.heap c.grey_fields-head.ensures.cost in
-    let more = sum_by_more (λ t. width (body_at c.args.cells.now.heap t)) c.args.temps.now c.loop-temp.temp-index 0 c.loop-temp-test.true in (
-      traced-more c.args.cells.now.heap c.args.region c.args.temps.now c.loop-temp.temp-index c.args.cells.now c.loop-temp.cells
+    let more = sum_by_more (λ t. width (body_at c.args.cells.now.heap t)) c.args.temps.now c.loop-temp.temp-index 0
+    c.loop-temp-test.true in (
+      traced-more c.args.cells.now.heap c.args.region c.args.temps.now c.loop-temp.temp-index c.args.cells.now
+          c.loop-temp.cells
           c.grey_fields-head.new.cells c.args.head c.loop-temp.head c.grey_fields-head.result temp
           (slice_get-get_or c.args.temps.now c.loop-temp.temp-index 0 c.loop-temp-test.true) c.loop-temp.invariant.0
           (subst S c.loop-temp.invariant.0.heap c.grey_fields-head.ensures.scanned),

@@ -5,8 +5,10 @@ use Rattle.rg_trace.proofs.mark.mark_region.Given as goal
 
 abbrev pub invariant-grey : goal.invariant-grey
 invariant-grey g l =
-    MarkingGoes l.fn.cells.heap l.region (record { bridge = l.fn.bridge; slots = l.slots; temps = l.temps }) l.fn.cells.marks l.cells l.head
-    × (l.steps ≡ l.fn.steps + sum_by (λ t. width (body_at l.fn.cells.heap t)) l.temps + black_fields l.fn.cells.heap l.region l.cells.marks)
+    MarkingGoes l.fn.cells.heap l.region (record { bridge = l.fn.bridge; slots = l.slots; temps = l.temps }) l.fn.cells
+    l.cells l.head
+    × (l.steps ≡ l.fn.steps + sum_by (λ t. width (body_at l.fn.cells.heap t)) l.temps + black_fields l.fn.cells.heap
+    l.region l.cells.marks)
 
 abbrev pub decreases-grey : goal.decreases-grey
 decreases-grey g l = pending l.fn.cells.heap l.region l.cells.marks

@@ -1,9 +1,9 @@
-use Rattle.std.proofs.Common.{◌≡◌, ◌≢◌, ℕ, ◌+◌, ◌<◌, ◌≤◌, List, length, Option, Some, None, IsSome, get_or, sum_by, take, ap, sym, ◌∙◌, subst}
+use Rattle.std.proofs.Common.{◌≡◌, ◌≢◌, ℕ, ◌+◌, ◌<◌, List, length, Option, Some, None, get_or, sum_by, take, ap, sym}
+use Rattle.std.proofs.Common.{◌∙◌, subst}
 use Rattle.std.proofs.Common.{arith, refl}
 use Rattle.std.proofs.lemmas.List.{take_all}
 use Rattle.std.proofs.lemmas.List.Sums.{sum_by_more}
-use Rattle.rg_cells.specs.Table.{width, body_at}
-use Rattle.rg_regions.specs.Table.{Record, RegionTable, record_at, InTable}
+use Rattle.rg_regions.specs.Table.{Record, record_at, InTable}
 use Rattle.rg_regions.specs.Reach.{LiesIn}
 use Rattle.rg_trace.specs.Inner.Orphans.{FollowsWhite, if_white}
 use Rattle.rg_trace.proofs.OrphansFound.{searched-none, searched-white, searched-black, white-width, black-width}
@@ -11,62 +11,79 @@ use Rattle.rg_trace.proofs.orphans.chain_orphans.Goals as goal
 use Rattle.rg_regions.proofs.Callers.Told.{one_record, same_members, lies_held}
 
 pub loop-place-init : goal.loop-place-init
-loop-place-init g c = λ r e. (searched-none c.args.cells.now.heap c.args.cells.now.marks c.args.region r.members c.args.regions.now, omega arith)
+loop-place-init g c = λ r e. (
+  searched-none c.args.cells.now.heap c.args.cells.now.marks c.args.region r.members
+      c.args.regions.now,
+  omega arith,
+)
 
 pub members-requires : goal.members-requires
 members-requires g c =
     let rec = c.requires.there.0 in
     let inv = c.loop-place.invariant rec c.requires.there.1 in
-    let at : record_at c.loop-place.regions c.args.key ≡ Some rec = ap (λ (rs : List (Option Record)). get_or rs c.args.key None) inv.0.records
-        ∙ c.requires.there.1 in
+    let at : record_at c.loop-place.regions c.args.key ≡ Some rec =
+    ap (λ (rs : List (Option Record)). get_or rs c.args.key None) inv.0.records
+    ∙ c.requires.there.1 in
     rw at refl
 
 pub bounds-members-place : goal.bounds-members-place
 bounds-members-place g c =
     let rec = c.requires.there.0 in
     let inv = c.loop-place.invariant rec c.requires.there.1 in
-    let at : record_at c.loop-place.regions c.args.key ≡ Some rec = ap (λ (rs : List (Option Record)). get_or rs c.args.key None) inv.0.records
-        ∙ c.requires.there.1 in
+    let at : record_at c.loop-place.regions c.args.key ≡ Some rec =
+    ap (λ (rs : List (Option Record)). get_or rs c.args.key None) inv.0.records
+    ∙ c.requires.there.1 in
     let mem : rec.members ≡ c.members.result.now = same_members _ rec c.members.result.now at c.members.ensures in
-    let end : rec.members ≡ c.members-place-end.result.now = same_members _ rec c.members-place-end.result.now c.requires.there.1
-        c.members-place-end.ensures in
-    let room : c.loop-place.place < length rec.members = omega (arith, ap (length {A = ℕ}) end, c.loop-place-test.true) in
+    let end : rec.members ≡ c.members-place-end.result.now =
+    same_members _ rec c.members-place-end.result.now c.requires.there.1
+    c.members-place-end.ensures in
+    let room : c.loop-place.place < length rec.members =
+    omega (arith, ap (length {A = ℕ}) end, c.loop-place-test.true) in
     omega (arith, ap (length {A = ℕ}) mem, room)
 
 pub mark-requires : goal.mark-requires
 mark-requires g c =
     let rec = c.requires.there.0 in
     let inv = c.loop-place.invariant rec c.requires.there.1 in
-    let at : record_at c.loop-place.regions c.args.key ≡ Some rec = ap (λ (rs : List (Option Record)). get_or rs c.args.key None) inv.0.records
-        ∙ c.requires.there.1 in
+    let at : record_at c.loop-place.regions c.args.key ≡ Some rec =
+    ap (λ (rs : List (Option Record)). get_or rs c.args.key None) inv.0.records
+    ∙ c.requires.there.1 in
     let mem : rec.members ≡ c.members.result.now = same_members _ rec c.members.result.now at c.members.ensures in
-    let end : rec.members ≡ c.members-place-end.result.now = same_members _ rec c.members-place-end.result.now c.requires.there.1
-        c.members-place-end.ensures in
-    let room : c.loop-place.place < length rec.members = omega (arith, ap (length {A = ℕ}) end, c.loop-place-test.true) in
+    let end : rec.members ≡ c.members-place-end.result.now =
+    same_members _ rec c.members-place-end.result.now c.requires.there.1
+    c.members-place-end.ensures in
+    let room : c.loop-place.place < length rec.members =
+    omega (arith, ap (length {A = ℕ}) end, c.loop-place-test.true) in
     let slot : ℕ = get_or c.members.result.now c.loop-place.place 0 in
     let is : get_or rec.members c.loop-place.place 0 ≡ slot = ap (λ (z : List ℕ). get_or z c.loop-place.place 0) mem in
     let L : ℕ → Type 0 = λ z. LiesIn c.args.cells.now.heap c.args.region z in
-    let lies : LiesIn c.args.cells.now.heap c.args.region slot = subst L is (c.requires.there.2.lie c.loop-place.place room) in
+    let lies : LiesIn c.args.cells.now.heap c.args.region slot =
+    subst L is (c.requires.there.2.lie c.loop-place.place room) in
     lies_held c.args.cells.now.heap c.args.region slot lies
 
 pub chain_fields-head-requires : goal.chain_fields-head-requires
 chain_fields-head-requires g c =
     let rec = c.requires.there.0 in
     let inv = c.loop-place.invariant rec c.requires.there.1 in
-    let at : record_at c.loop-place.regions c.args.key ≡ Some rec = ap (λ (rs : List (Option Record)). get_or rs c.args.key None) inv.0.records
-        ∙ c.requires.there.1 in
+    let at : record_at c.loop-place.regions c.args.key ≡ Some rec =
+    ap (λ (rs : List (Option Record)). get_or rs c.args.key None) inv.0.records
+    ∙ c.requires.there.1 in
     let mem : rec.members ≡ c.members.result.now = same_members _ rec c.members.result.now at c.members.ensures in
-    let end : rec.members ≡ c.members-place-end.result.now = same_members _ rec c.members-place-end.result.now c.requires.there.1
-        c.members-place-end.ensures in
-    let room : c.loop-place.place < length rec.members = omega (arith, ap (length {A = ℕ}) end, c.loop-place-test.true) in
+    let end : rec.members ≡ c.members-place-end.result.now =
+    same_members _ rec c.members-place-end.result.now c.requires.there.1
+    c.members-place-end.ensures in
+    let room : c.loop-place.place < length rec.members =
+    omega (arith, ap (length {A = ℕ}) end, c.loop-place-test.true) in
     let slot : ℕ = get_or c.members.result.now c.loop-place.place 0 in
     let is : get_or rec.members c.loop-place.place 0 ≡ slot = ap (λ (z : List ℕ). get_or z c.loop-place.place 0) mem in
     let L : ℕ → Type 0 = λ z. LiesIn c.args.cells.now.heap c.args.region z in
-    let lies : LiesIn c.args.cells.now.heap c.args.region slot = subst L is (c.requires.there.2.lie c.loop-place.place room) in
+    let lies : LiesIn c.args.cells.now.heap c.args.region slot =
+    subst L is (c.requires.there.2.lie c.loop-place.place room) in
     record {
       held = lies_held c.args.cells.now.heap c.args.region slot lies;
       lead = λ k s f. c.requires.lead slot k s lies f;
-      labels = λ q s l. let P : List (Option Record) → Type 0 = λ rs. InTable (record c.loop-place.regions { records = rs }) q in subst P
+      labels = λ q s l. let P : List (Option Record)
+          → Type 0 = λ rs. InTable (record c.loop-place.regions { records = rs }) q in subst P
           (sym inv.0.records) (c.requires.labels q s l);
     }
 
@@ -74,25 +91,32 @@ pub loop-place-preserved-then-mark-ne0 : goal.loop-place-preserved-then-mark-ne0
 loop-place-preserved-then-mark-ne0 g c = λ r e.
     let rec = c.requires.there.0 in
     let inv = c.loop-place.invariant rec c.requires.there.1 in
-    let at : record_at c.loop-place.regions c.args.key ≡ Some rec = ap (λ (rs : List (Option Record)). get_or rs c.args.key None) inv.0.records
-        ∙ c.requires.there.1 in
+    let at : record_at c.loop-place.regions c.args.key ≡ Some rec =
+    ap (λ (rs : List (Option Record)). get_or rs c.args.key None) inv.0.records
+    ∙ c.requires.there.1 in
     let mem : rec.members ≡ c.members.result.now = same_members _ rec c.members.result.now at c.members.ensures in
-    let end : rec.members ≡ c.members-place-end.result.now = same_members _ rec c.members-place-end.result.now c.requires.there.1
-        c.members-place-end.ensures in
-    let room : c.loop-place.place < length rec.members = omega (arith, ap (length {A = ℕ}) end, c.loop-place-test.true) in
+    let end : rec.members ≡ c.members-place-end.result.now =
+    same_members _ rec c.members-place-end.result.now c.requires.there.1
+    c.members-place-end.ensures in
+    let room : c.loop-place.place < length rec.members =
+    omega (arith, ap (length {A = ℕ}) end, c.loop-place-test.true) in
     let slot : ℕ = get_or c.members.result.now c.loop-place.place 0 in
     let is : get_or rec.members c.loop-place.place 0 ≡ slot = ap (λ (z : List ℕ). get_or z c.loop-place.place 0) mem in
     let black : get_or c.args.cells.now.marks slot 0 ≢ 0 = λ q. c.if-mark-ne0.true (c.mark.ensures ∙ q) in
-    let more = sum_by_more (if_white c.args.cells.now.heap c.args.cells.now.marks) rec.members c.loop-place.place 0 room in
+    let more = sum_by_more (if_white c.args.cells.now.heap c.args.cells.now.marks) rec.members c.loop-place.place 0
+    room in
     let none = black-width c.args.cells.now.heap c.args.cells.now.marks slot black in
     let same : if_white c.args.cells.now.heap c.args.cells.now.marks (get_or rec.members c.loop-place.place 0)
-        ≡ if_white c.args.cells.now.heap c.args.cells.now.marks slot = ap (if_white c.args.cells.now.heap c.args.cells.now.marks) is in
-    let G : Record → Type 0 = λ z. FollowsWhite c.args.cells.now.heap c.args.cells.now.marks c.args.region z.members (c.loop-place.place + 1)
-        c.args.regions.now c.loop-place.regions c.loop-place.head
+    ≡ if_white c.args.cells.now.heap c.args.cells.now.marks slot =
+    ap (if_white c.args.cells.now.heap c.args.cells.now.marks) is in
+    let G : Record → Type 0 = λ z. FollowsWhite c.args.cells.now.heap c.args.cells.now.marks c.args.region z.members
+    (c.loop-place.place + 1)
+    c.args.regions.now c.loop-place.regions c.loop-place.head
     × (c.loop-place.steps ≡ c.args.steps.now + sum_by (if_white c.args.cells.now.heap c.args.cells.now.marks)
-        (take (c.loop-place.place + 1) z.members)) in
+    (take (c.loop-place.place + 1) z.members)) in
     subst G (one_record rec r (sym c.requires.there.1 ∙ e)) (
-      searched-black c.args.cells.now.heap c.args.cells.now.marks c.args.region rec.members c.loop-place.place slot c.args.regions.now
+      searched-black c.args.cells.now.heap c.args.cells.now.marks c.args.region rec.members c.loop-place.place slot
+          c.args.regions.now
           c.loop-place.regions c.loop-place.head is black inv.0,
       omega (arith, inv.1, more, none, same),
     )
@@ -101,26 +125,34 @@ pub loop-place-preserved : goal.loop-place-preserved
 loop-place-preserved g c = λ r e.
     let rec = c.requires.there.0 in
     let inv = c.loop-place.invariant rec c.requires.there.1 in
-    let at : record_at c.loop-place.regions c.args.key ≡ Some rec = ap (λ (rs : List (Option Record)). get_or rs c.args.key None) inv.0.records
-        ∙ c.requires.there.1 in
+    let at : record_at c.loop-place.regions c.args.key ≡ Some rec =
+    ap (λ (rs : List (Option Record)). get_or rs c.args.key None) inv.0.records
+    ∙ c.requires.there.1 in
     let mem : rec.members ≡ c.members.result.now = same_members _ rec c.members.result.now at c.members.ensures in
-    let end : rec.members ≡ c.members-place-end.result.now = same_members _ rec c.members-place-end.result.now c.requires.there.1
-        c.members-place-end.ensures in
-    let room : c.loop-place.place < length rec.members = omega (arith, ap (length {A = ℕ}) end, c.loop-place-test.true) in
+    let end : rec.members ≡ c.members-place-end.result.now =
+    same_members _ rec c.members-place-end.result.now c.requires.there.1
+    c.members-place-end.ensures in
+    let room : c.loop-place.place < length rec.members =
+    omega (arith, ap (length {A = ℕ}) end, c.loop-place-test.true) in
     let slot : ℕ = get_or c.members.result.now c.loop-place.place 0 in
     let is : get_or rec.members c.loop-place.place 0 ≡ slot = ap (λ (z : List ℕ). get_or z c.loop-place.place 0) mem in
     let white : get_or c.args.cells.now.marks slot 0 ≡ 0 = sym c.mark.ensures ∙ c.if-mark-ne0.false in
-    let more = sum_by_more (if_white c.args.cells.now.heap c.args.cells.now.marks) rec.members c.loop-place.place 0 room in
+    let more = sum_by_more (if_white c.args.cells.now.heap c.args.cells.now.marks) rec.members c.loop-place.place 0
+    room in
     let wide = white-width c.args.cells.now.heap c.args.cells.now.marks slot white in
     let same : if_white c.args.cells.now.heap c.args.cells.now.marks (get_or rec.members c.loop-place.place 0)
-        ≡ if_white c.args.cells.now.heap c.args.cells.now.marks slot = ap (if_white c.args.cells.now.heap c.args.cells.now.marks) is in
-    let G : Record → Type 0 = λ z. FollowsWhite c.args.cells.now.heap c.args.cells.now.marks c.args.region z.members (c.loop-place.place + 1)
-        c.args.regions.now c.chain_fields-head.new.regions c.chain_fields-head.result
+    ≡ if_white c.args.cells.now.heap c.args.cells.now.marks slot =
+    ap (if_white c.args.cells.now.heap c.args.cells.now.marks) is in
+    let G : Record → Type 0 = λ z. FollowsWhite c.args.cells.now.heap c.args.cells.now.marks c.args.region z.members
+    (c.loop-place.place + 1)
+    c.args.regions.now c.chain_fields-head.new.regions c.chain_fields-head.result
     × (c.chain_fields-head.new.steps ≡ c.args.steps.now + sum_by (if_white c.args.cells.now.heap c.args.cells.now.marks)
-        (take (c.loop-place.place + 1) z.members)) in
+    (take (c.loop-place.place + 1) z.members)) in
     subst G (one_record rec r (sym c.requires.there.1 ∙ e)) (
-      searched-white c.args.cells.now.heap c.args.cells.now.marks c.args.region rec.members c.loop-place.place slot c.args.regions.now
-          c.loop-place.regions c.chain_fields-head.new.regions c.loop-place.head c.chain_fields-head.result c.requires.there.2 room is white
+      searched-white c.args.cells.now.heap c.args.cells.now.marks c.args.region rec.members c.loop-place.place slot
+          c.args.regions.now
+          c.loop-place.regions c.chain_fields-head.new.regions c.loop-place.head c.chain_fields-head.result
+          c.requires.there.2 room is white
           c.chain_fields-head.ensures.fields inv.0,
       omega (arith, inv.1, more, wide, same, c.chain_fields-head.ensures.cost),
     )
@@ -129,18 +161,25 @@ pub returns : goal.returns
 returns g c =
     let rec = c.requires.there.0 in
     let inv = c.loop-place.invariant rec c.requires.there.1 in
-    let end : rec.members ≡ c.members-place-end.result.now = same_members _ rec c.members-place-end.result.now c.requires.there.1
-        c.members-place-end.ensures in
+    let end : rec.members ≡ c.members-place-end.result.now =
+    same_members _ rec c.members-place-end.result.now c.requires.there.1
+    c.members-place-end.ensures in
     let all : c.loop-place.place ≡ length rec.members = omega
-        (arith, ap (length {A = ℕ}) end, c.loop-place-test.false, c.loop-place.auto.place-end) in
-    let S : ℕ → Type 0 = λ n. FollowsWhite c.args.cells.now.heap c.args.cells.now.marks c.args.region rec.members n c.args.regions.now
-        c.loop-place.regions c.loop-place.head in
-    let G : Record → Type 0 = λ z. FollowsWhite c.args.cells.now.heap c.args.cells.now.marks c.args.region z.members (length z.members)
-        c.args.regions.now c.loop-place.regions c.loop-place.head in
-    let C : Record → Type 0 = λ z. c.loop-place.steps ≡ c.args.steps.now + sum_by (if_white c.args.cells.now.heap c.args.cells.now.marks) z.members in
-    let whole : take c.loop-place.place rec.members ≡ rec.members = take_all c.loop-place.place rec.members (omega (arith, all)) in
+    (arith, ap (length {A = ℕ}) end, c.loop-place-test.false, c.loop-place.auto.place-end) in
+    let S : ℕ → Type 0 = λ n. FollowsWhite c.args.cells.now.heap c.args.cells.now.marks c.args.region rec.members n
+    c.args.regions.now
+    c.loop-place.regions c.loop-place.head in
+    let G : Record → Type 0 = λ z. FollowsWhite c.args.cells.now.heap c.args.cells.now.marks c.args.region z.members
+    (length z.members)
+    c.args.regions.now c.loop-place.regions c.loop-place.head in
+    let C : Record → Type 0 = λ z.
+    c.loop-place.steps ≡ c.args.steps.now + sum_by
+    (if_white c.args.cells.now.heap c.args.cells.now.marks) z.members in
+    let whole : take c.loop-place.place rec.members ≡ rec.members =
+    take_all c.loop-place.place rec.members (omega (arith, all)) in
     record {
       searched = λ r e. subst G (one_record rec r (sym c.requires.there.1 ∙ e)) (subst S all inv.0);
       cost = λ r e. subst C (one_record rec r (sym c.requires.there.1 ∙ e))
-          (inv.1 ∙ ap (λ (z : List ℕ). c.args.steps.now + sum_by (if_white c.args.cells.now.heap c.args.cells.now.marks) z) whole);
+          (inv.1 ∙ ap (λ (z : List ℕ). c.args.steps.now + sum_by
+          (if_white c.args.cells.now.heap c.args.cells.now.marks) z) whole);
     }

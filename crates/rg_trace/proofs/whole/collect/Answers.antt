@@ -1,43 +1,37 @@
-use Rattle.std.proofs.Common.{◌≡◌, ◌≢◌, ℕ, ◌+◌, ◌≤◌, sum_by, List, length, Option, Some, None, IsSome, get_or, ap, sym, ◌∙◌, subst, arith, refl}
-use Rattle.std.proofs.Common.{option_map}
-use Rattle.rg_cells.specs.Table.{Heap, Table, field_at, body_at, width, IsHeld, mark_at}
+use Rattle.std.proofs.Common.{◌≡◌, ◌≢◌, ℕ, ◌+◌, ◌≤◌, sum_by, List, length, Option, Some, None, get_or, ap, sym, ◌∙◌}
+use Rattle.std.proofs.Common.{subst, arith, refl}
+use Rattle.rg_cells.specs.Table.{Heap, field_at, body_at, width, IsHeld, mark_at}
 use Rattle.rg_base.specs.declared.value.Word.TheVariants.{Slot}
-use Rattle.rg_regions.specs.Table.{Record, RegionTable, record_at, HasNumber, InTable}
+use Rattle.rg_regions.specs.Table.{Record, record_at, InTable}
 use Rattle.rg_regions.specs.Reach.{LiesIn, Roots}
 use Rattle.rg_trace.specs.Inner.Marking.{Marked, black_fields}
-use Rattle.rg_trace.specs.Inner.Sweeping.{Swept, Sweeps}
 use Rattle.rg_trace.specs.Inner.Orphans.{FollowsWhite, if_white}
-use Rattle.rg_trace.specs.Collected.{Collected, Orphaning, region_fields}
+use Rattle.rg_regions.specs.Collection.{ChainsOrphans, region_fields}
+use Rattle.rg_trace.specs.Collected.{Collected, OutOfReach}
 use Rattle.rg_trace.proofs.PartsJoined.{all-white, swept-begin, not-grey, collected, orphaning}
 use Rattle.rg_trace.proofs.GroveKept.{grove-kept}
 use Rattle.rg_trace.proofs.StepsBound.{ticks}
 use Rattle.rg_trace.proofs.whole.collect.Goals as goal
-use Rattle.rg_regions.proofs.Callers.Told.{one_record, same_members, led_held, owns_once, lies_held}
+use Rattle.rg_regions.proofs.Callers.Told.{one_record, same_members, same_number, same_bridge, led_held, owns_once}
+use Rattle.rg_regions.proofs.Callers.Told.{lies_held}
 use Rattle.rg_regions.specs.Chains.{OwnsOnce}
-
-number_is : (o : Option Record) (r : Record) (n : ℕ) → o ≡ Some r → option_map (λ (r : Record). r.number) o ≡ Some n → r.number ≡ n
-number_is o r n e f = some_is r.number n (sym (ap (option_map (λ (r : Record). r.number)) e) ∙ f)
-  where
-    some_is : (a b : ℕ) → Some a ≡ Some b → a ≡ b
-    some_is a b q = cc
-
-bridge_is : (o : Option Record) (r : Record) (n : Option ℕ) → o ≡ Some r → option_map (λ (r : Record). r.bridge) o ≡ Some n → r.bridge ≡ n
-bridge_is o r n e f = some_is r.bridge n (sym (ap (option_map (λ (r : Record). r.bridge)) e) ∙ f)
-  where
-    some_is : (a b : Option ℕ) → Some a ≡ Some b → a ≡ b
-    some_is a b q = cc
 
 pub mark_region-requires : goal.mark_region-requires
 mark_region-requires g c =
     let rec = c.requires.trace.0 in
     let e = c.requires.trace.1 in
-    let num : rec.number ≡ c.number-region.result = number_is _ rec c.number-region.result e c.number-region.ensures in
-    let bri : rec.bridge ≡ c.bridge-bridge.result = bridge_is _ rec c.bridge-bridge.result e c.bridge-bridge.ensures in
+    let num : rec.number ≡ c.number-region.result =
+    same_number _ rec c.number-region.result e c.number-region.ensures in
+    let bri : rec.bridge ≡ c.bridge-bridge.result =
+    same_bridge _ rec c.bridge-bridge.result e c.bridge-bridge.ensures in
     let W : ℕ → Type 0 = λ n. (s : ℕ) → LiesIn c.args.cells.now.heap n s → mark_at c.args.cells.now s ≡ 0 in
     record {
-      white = subst W num (all-white c.args.cells.now c.args.regions.now c.args.key rec c.requires.grove e c.requires.trace.2);
-      lead = λ p k s l f. led_held c.args.cells.now c.args.regions.now c.requires.grove c.number-region.result p k s l f;
-      bridge = λ s q. lies_held c.args.cells.now.heap rec.number s (c.requires.grove.bridges c.args.key s rec e (bri ∙ q));
+      white = subst W num (all-white c.args.cells.now c.args.regions.now c.args.key rec c.requires.grove e
+          c.requires.trace.2);
+      lead = λ p k s l f. led_held c.args.cells.now c.args.regions.now c.requires.grove c.number-region.result p k s l
+          f;
+      bridge = λ s q. lies_held c.args.cells.now.heap rec.number s
+          (c.requires.grove.bridges c.args.key s rec e (bri ∙ q));
       slots = c.requires.slots;
       temps = c.requires.temps;
       temps_lead = c.requires.temps_lead;
@@ -47,15 +41,23 @@ pub chain_orphans-orphans-requires : goal.chain_orphans-orphans-requires
 chain_orphans-orphans-requires g c =
     let rec = c.requires.trace.0 in
     let e = c.requires.trace.1 in
-    let num : rec.number ≡ c.number-region.result = number_is _ rec c.number-region.result e c.number-region.ensures in
+    let num : rec.number ≡ c.number-region.result =
+    same_number _ rec c.number-region.result e c.number-region.ensures in
     let h : c.mark_region.new.cells.heap ≡ c.args.cells.now.heap = c.mark_region.ensures.marked.heap in
     let O : ℕ → Type 0 = λ n. OwnsOnce c.args.cells.now.heap n rec.members in
     let P : Heap → Type 0 = λ z. OwnsOnce z c.number-region.result rec.members in
-    let L : Heap → Type 0 = λ z. (p k s : ℕ) → LiesIn z c.number-region.result p → field_at z p k ≡ Some (Slot s) → IsHeld z s in
+    let L : Heap → Type 0 = λ z. (p k s : ℕ) → LiesIn z c.number-region.result p → field_at z p k ≡ Some (Slot s)
+    → IsHeld z s in
     let T : Heap → Type 0 = λ z. (q s : ℕ) → LiesIn z q s → InTable c.args.regions.now q in
     record {
-      there = (rec, e, subst P (sym h) (subst O num (owns_once c.args.cells.now c.args.regions.now c.args.key rec c.requires.grove e)));
-      lead = subst L (sym h) (λ p k s l f. led_held c.args.cells.now c.args.regions.now c.requires.grove c.number-region.result p k s l f);
+      there = (
+        rec,
+        e,
+        subst P (sym h)
+            (subst O num (owns_once c.args.cells.now c.args.regions.now c.args.key rec c.requires.grove e)),
+      );
+      lead = subst L (sym h) (λ p k s l f.
+          led_held c.args.cells.now c.args.regions.now c.requires.grove c.number-region.result p k s l f);
       labels = subst T (sym h) (λ q s l. c.requires.grove.labels q s l);
     }
 
@@ -63,11 +65,13 @@ pub sweep-requires : goal.sweep-requires
 sweep-requires g c =
     let rec = c.requires.trace.0 in
     let e = c.requires.trace.1 in
-    let num : rec.number ≡ c.number-region.result = number_is _ rec c.number-region.result e c.number-region.ensures in
+    let num : rec.number ≡ c.number-region.result =
+    same_number _ rec c.number-region.result e c.number-region.ensures in
     let h : c.mark_region.new.cells.heap ≡ c.args.cells.now.heap = c.mark_region.ensures.marked.heap in
     let s = c.chain_orphans-orphans.ensures.searched rec e in
     let M : ℕ → Type 0 = λ n. Marked c.args.cells.now.heap n
-        (record { bridge = c.bridge-bridge.result; slots = c.args.slots.now; temps = c.args.temps.now }) c.args.cells.now c.mark_region.new.cells in
+    (record { bridge = c.bridge-bridge.result; slots = c.args.slots.now; temps = c.args.temps.now }) c.args.cells.now
+    c.mark_region.new.cells in
     let m = subst M (sym num) c.mark_region.ensures.marked in
     let L : Heap → Type 0 = λ z. (x : ℕ) → LiesIn z rec.number x → mark_at c.mark_region.new.cells x ≢ 1 in (
       rec,
@@ -82,54 +86,70 @@ members-requires g c =
     let e = c.requires.trace.1 in
     let s = c.chain_orphans-orphans.ensures.searched rec e in
     let f : record_at c.chain_orphans-orphans.new.regions c.args.key
-        ≡ Some rec = ap (λ (rs : List (Option Record)). get_or rs c.args.key None) s.records ∙ e in
-    let w = c.sweep.ensures.swept rec f in
+    ≡ Some rec = ap (λ (rs : List (Option Record)). get_or rs c.args.key None) s.records ∙ e in
+    let w = c.sweep.ensures.left rec f in
     rw w.1 refl
 
 pub returns : goal.returns
 returns g c =
     let rec = c.requires.trace.0 in
     let e = c.requires.trace.1 in
-    let num : rec.number ≡ c.number-region.result = number_is _ rec c.number-region.result e c.number-region.ensures in
-    let bri : rec.bridge ≡ c.bridge-bridge.result = bridge_is _ rec c.bridge-bridge.result e c.bridge-bridge.ensures in
+    let num : rec.number ≡ c.number-region.result =
+    same_number _ rec c.number-region.result e c.number-region.ensures in
+    let bri : rec.bridge ≡ c.bridge-bridge.result =
+    same_bridge _ rec c.bridge-bridge.result e c.bridge-bridge.ensures in
     let s = c.chain_orphans-orphans.ensures.searched rec e in
     let M : ℕ → Type 0 = λ n. Marked c.args.cells.now.heap n
-        (record { bridge = c.bridge-bridge.result; slots = c.args.slots.now; temps = c.args.temps.now }) c.args.cells.now c.mark_region.new.cells in
+    (record { bridge = c.bridge-bridge.result; slots = c.args.slots.now; temps = c.args.temps.now }) c.args.cells.now
+    c.mark_region.new.cells in
     let B : Option ℕ → Type 0 = λ b. Marked c.args.cells.now.heap rec.number
-        (record { bridge = b; slots = c.args.slots.now; temps = c.args.temps.now }) c.args.cells.now c.mark_region.new.cells in
+    (record { bridge = b; slots = c.args.slots.now; temps = c.args.temps.now }) c.args.cells.now
+    c.mark_region.new.cells in
     let m = subst B (sym bri) (subst M (sym num) c.mark_region.ensures.marked) in
-    let S : ℕ → Type 0 = λ n. FollowsWhite c.mark_region.new.cells.heap c.mark_region.new.cells.marks n rec.members (length rec.members)
-        c.args.regions.now c.chain_orphans-orphans.new.regions c.chain_orphans-orphans.result in
+    let S : ℕ → Type 0 = λ n. FollowsWhite c.mark_region.new.cells.heap c.mark_region.new.cells.marks n rec.members
+    (length rec.members)
+    c.args.regions.now c.chain_orphans-orphans.new.regions c.chain_orphans-orphans.result in
     let t = subst S (sym num) s in
     let roots : Roots = record { bridge = rec.bridge; slots = c.args.slots.now; temps = c.args.temps.now } in
     let C : Record → Type 0 = λ r. Collected c.args.cells.now c.args.regions.now c.args.key r
-        (record { bridge = r.bridge; slots = c.args.slots.now; temps = c.args.temps.now }) c.sweep.new.cells c.sweep.new.regions in
-    let O : Record → Type 0 = λ r. (keys : List ℕ) × Orphaning c.args.cells.now c.args.regions.now r.number
-        (record { bridge = r.bridge; slots = c.args.slots.now; temps = c.args.temps.now }) c.sweep.new.regions.links c.chain_orphans-orphans.result
-        keys in
-    let o = orphaning c.args.cells.now c.mark_region.new.cells c.args.regions.now c.chain_orphans-orphans.new.regions c.args.key rec roots
-        c.chain_orphans-orphans.result c.requires.grove e m t in
-    let K : List (Option ℕ) → Type 0 = λ ls. (keys : List ℕ)
-        × Orphaning c.args.cells.now c.args.regions.now rec.number roots ls c.chain_orphans-orphans.result keys in
-    let whole = collected c.args.cells.now c.mark_region.new.cells c.args.regions.now c.chain_orphans-orphans.new.regions c.args.key rec roots
-        c.sweep.new.cells c.sweep.new.regions e m s.records t.orphans.1.next c.sweep.ensures in
+    (record { bridge = r.bridge; slots = c.args.slots.now; temps = c.args.temps.now }) c.sweep.new.cells
+    c.sweep.new.regions in
+    let F : Record → ℕ → Type 0 =
+    λ r. OutOfReach c.args.cells.now.heap r.number
+    (record { bridge = r.bridge; slots = c.args.slots.now; temps = c.args.temps.now }) in
+    let O : Record → Type 0 = λ r. ChainsOrphans c.args.cells.now.heap c.args.regions.now r.number
+    (F r) c.sweep.new.regions.links
+    c.chain_orphans-orphans.result in
+    let o = orphaning c.args.cells.now c.mark_region.new.cells c.args.regions.now c.chain_orphans-orphans.new.regions
+    c.args.key rec roots
+    c.chain_orphans-orphans.result c.requires.grove e m t in
+    let K : List (Option ℕ) → Type 0 =
+    λ ls. ChainsOrphans c.args.cells.now.heap c.args.regions.now rec.number (F rec) ls
+    c.chain_orphans-orphans.result in
+    let whole = collected c.args.cells.now c.mark_region.new.cells c.args.regions.now
+    c.chain_orphans-orphans.new.regions c.args.key rec roots
+    c.sweep.new.cells c.sweep.new.regions e m s.records t.orphans.1.next c.sweep.ensures in
     let ow = owns_once c.args.cells.now c.args.regions.now c.args.key rec c.requires.grove e in
     let h : c.mark_region.new.cells.heap ≡ c.args.cells.now.heap = c.mark_region.ensures.marked.heap in
     let T : Heap → ℕ → Type 0 = λ z n. black_fields c.args.cells.now.heap n c.mark_region.new.cells.marks + sum_by
-        (if_white z c.mark_region.new.cells.marks) rec.members ≤ region_fields c.args.cells.now.heap rec.number in
+    (if_white z c.mark_region.new.cells.marks) rec.members ≤ region_fields c.args.cells.now.heap rec.number in
     let T1 : ℕ → Type 0 = λ n. T c.args.cells.now.heap n in
     let T2 : Heap → Type 0 = λ z. T z c.number-region.result in
-    let bound = subst T2 (sym h) (subst T1 num (ticks c.args.cells.now.heap rec.number c.mark_region.new.cells.marks rec.members ow.lie
-        (λ i j l n q. let z : i ≡ j = ow.once i j (omega arith) n q in omega (arith, z)))) in
-    let Q : Record → Type 0 = λ r. c.chain_orphans-orphans.new.steps ≤ c.args.steps.now + sum_by (λ t. width (body_at c.args.cells.now.heap t))
-        c.args.temps.now + region_fields c.args.cells.now.heap r.number in
+    let bound = subst T2 (sym h) (subst T1 num
+    (ticks c.args.cells.now.heap rec.number c.mark_region.new.cells.marks rec.members ow.lie
+    (λ i j l n q. let z : i ≡ j = ow.once i j (omega arith) n q in omega (arith, z)))) in
+    let Q : Record → Type 0 = λ r. c.chain_orphans-orphans.new.steps ≤ c.args.steps.now + sum_by
+    (λ t. width (body_at c.args.cells.now.heap t))
+    c.args.temps.now + region_fields c.args.cells.now.heap r.number in
     let most : Q rec = omega (arith, bound, c.mark_region.ensures.cost, c.chain_orphans-orphans.ensures.cost rec e) in
     record {
       cost = λ r f. subst Q (one_record rec r (sym e ∙ f)) most;
-      grove = grove-kept c.args.cells.now c.args.regions.now c.args.key rec c.args.slots.now c.args.temps.now c.sweep.new.cells c.sweep.new.regions
+      grove = grove-kept c.args.cells.now c.args.regions.now c.args.key rec c.args.slots.now c.args.temps.now
+          c.sweep.new.cells c.sweep.new.regions
           c.requires.grove e c.requires.trace.2 whole;
       collected = λ r f. subst C (one_record rec r (sym e ∙ f))
-          (collected c.args.cells.now c.mark_region.new.cells c.args.regions.now c.chain_orphans-orphans.new.regions c.args.key rec roots
+          (collected c.args.cells.now c.mark_region.new.cells c.args.regions.now c.chain_orphans-orphans.new.regions
+          c.args.key rec roots
           c.sweep.new.cells c.sweep.new.regions e m s.records t.orphans.1.next c.sweep.ensures);
       orphans = λ r f. subst O (one_record rec r (sym e ∙ f)) (subst K (sym c.sweep.ensures.links) o);
       kept = λ r f. sym (ap (length {A = ℕ}) (same_members _ r c.members.result.now f c.members.ensures));

@@ -1,0 +1,10 @@
+mod RootsFlagged
+mod CountsLowered
+mod ZerosListed
+mod SpentInTurn
+mod CountsBegun
+mod CellsSwept
+mod RecordsSwept
+mod PartsJoined
+mod GroveKept
+pub mod Written

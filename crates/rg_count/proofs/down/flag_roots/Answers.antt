@@ -1,0 +1,45 @@
+use Rattle.std.proofs.Common.{◌≡◌, length, slice_get, Some, subst}
+use Rattle.rg_cells.specs.Table.{Heap}
+use Rattle.rg_count.specs.Inner.Flags.{Flagged, Among, InTemps}
+use Rattle.rg_count.proofs.CountsBegun.{rooted-of, links-of}
+use Rattle.rg_count.proofs.down.flag_roots.Goals as goal
+
+pub returns-clause-rooted : goal.returns-clause-rooted
+returns-clause-rooted g c =
+    let h = c.args.cells.now.heap in
+    let r = c.args.region in
+    let a = c.clear.new.cells in
+    let b = c.flag_bridge.new.cells in
+    let d = c.flag_words.new.cells in
+    let e = c.flag_temps.new.cells in
+    let one : a.heap ≡ h = c.clear.ensures.heap in
+    let B : Heap → Type 0 = λ z. Flagged z r (λ s. c.args.bridge ≡ Some s) a b in
+    let fb = subst B one c.flag_bridge.ensures in
+    let W : Heap → Type 0 = λ z. Flagged z r (Among (λ k. slice_get c.args.slots.now k)
+    (length c.args.slots.now)) b d in
+    let fw = subst W fb.heap c.flag_words.ensures in
+    let T : Heap → Type 0 = λ z. Flagged z r (InTemps z c.args.temps.now (length c.args.temps.now)) d e in
+    let ft = subst T fw.heap c.flag_temps.ensures.flagged in
+    rooted-of h r c.args.members.now c.args.bridge c.args.slots.now c.args.temps.now c.args.cells.now a b d e
+    c.requires.members c.clear.ensures fb fw ft
+
+pub returns-clause-links : goal.returns-clause-links
+returns-clause-links g c =
+    let h = c.args.cells.now.heap in
+    let r = c.args.region in
+    let a = c.clear.new.cells in
+    let b = c.flag_bridge.new.cells in
+    let d = c.flag_words.new.cells in
+    let e = c.flag_temps.new.cells in
+    let one : a.heap ≡ h = c.clear.ensures.heap in
+    let B : Heap → Type 0 = λ z. Flagged z r (λ s. c.args.bridge ≡ Some s) a b in
+    let fb = subst B one c.flag_bridge.ensures in
+    let W : Heap → Type 0 = λ z. Flagged z r (Among (λ k. slice_get c.args.slots.now k)
+    (length c.args.slots.now)) b d in
+    let fw = subst W fb.heap c.flag_words.ensures in
+    let T : Heap → Type 0 = λ z. Flagged z r (InTemps z c.args.temps.now (length c.args.temps.now)) d e in
+    let ft = subst T fw.heap c.flag_temps.ensures.flagged in
+    links-of h r c.args.members.now (λ s. c.args.bridge ≡ Some s)
+    (Among (λ k. slice_get c.args.slots.now k) (length c.args.slots.now))
+    (InTemps h c.args.temps.now (length c.args.temps.now)) c.args.cells.now a b d e c.requires.members c.clear.ensures
+    fb fw ft

@@ -1,0 +1,54 @@
+//! A collection of one region (docs/architecture.md, "Counting").
+
+ghost use Rattle.std.specs.Prelude.{◌≡◌, ◌+◌, ◌≤◌, length, sum_by};
+ghost use Rattle.rg_cells.specs.Table.{body_at, width};
+ghost use Rattle.rg_regions.specs.Grove.{Grove};
+ghost use Rattle.rg_regions.specs.Spent.{Spent};
+ghost use Rattle.rg_regions.specs.Collection.{HasManager, WordsLeadToHeld, AllHeld};
+ghost use Rattle.rg_regions.specs.Collection.{TempsLeadToHeld, OfRegion, ChainsOrphans};
+ghost use Rattle.rg_regions.specs.Collection.{roots_of, region_fields};
+ghost use Rattle.rg_count.specs.Counted.{Counted};
+
+use crate::down::count_down;
+use crate::sweeping::sweep;
+use rg_base::{Manager, Steps, Word};
+use rg_cells::Cells;
+use rg_regions::{Kept, Regions};
+use std::sync::ledger::Ledger;
+
+/// Frees of a counting region what is spent; its roots are its bridge, and its cells in slots and
+/// in fields of temporaries. It answers how many it kept, and the chain of the regions that lost
+/// their owner.
+pub fn collect<L: Ledger>(
+    cells: &mut Cells,
+    regions: &mut Regions,
+    key: usize,
+    slots: &[Word],
+    temps: &[usize],
+    steps: &mut Steps<L>,
+) -> Kept
+    requires grove { Grove cells.old regions.old }
+    requires count { HasManager regions.old key Manager.Count }
+    requires slots { WordsLeadToHeld cells.old.heap slots.now }
+    requires temps { AllHeld cells.old.heap temps.now }
+    requires temps_lead { TempsLeadToHeld cells.old.heap temps.now }
+    ensures counted { OfRegion regions.old key (λ r. Counted cells.old regions.old key r
+        (roots_of r.bridge slots.now temps.now) cells.new regions.new) }
+    ensures orphans { OfRegion regions.old key (λ r. ChainsOrphans cells.old.heap regions.old
+        r.number (Spent cells.old.heap r.number (roots_of r.bridge slots.now temps.now))
+        regions.new.links result.orphans) }
+    ensures kept { OfRegion regions.new key (λ r. result.kept ≡ length r.members) }
+    ensures cost { OfRegion regions.old key (λ r. steps.new
+        ≤ steps.old + sum_by (λ t. width (body_at cells.old.heap t)) temps.now
+        + region_fields cells.old.heap r.number) }
+    ensures grove { Grove cells.new regions.new }
+{
+    let region = regions.number(key);
+    let bridge = regions.bridge(key);
+    let orphans = count_down(cells, regions, key, region, bridge, slots, temps, steps);
+    sweep(cells, regions, key);
+    Kept {
+        kept: regions.members(key).len() as u64,
+        orphans,
+    }
+}
