@@ -5,7 +5,7 @@ use Rattle.std.proofs.lemmas.List.Sums.{sum_by-cons, sum_by-le-sum_by, count_by-
 use Rattle.rg_base.specs.declared.object.Label.{Label}
 use Rattle.rg_base.specs.declared.object.Label.TheVariants.{Region}
 use Rattle.rg_cells.specs.declared.cell.Body.{Body}
-use Rattle.rg_cells.specs.Table.{Heap, Table, IsHeld, body_at, mark_at, link_at as cell_link_at, width, high_of}
+use Rattle.rg_cells.specs.Table.{Heap, Table, IsHeld, body_at, mark_at, link_at as cell_link_at, width}
 use Rattle.rg_regions.specs.Table.{Record, RegionTable, record_at, Has}
 use Rattle.rg_regions.specs.Reach.{LiesIn, belongs}
 use Rattle.rg_regions.specs.Grove.{Grove, leads_to}
@@ -153,9 +153,3 @@ module _ (c : Table) (t : RegionTable) (from into : ℕ) (a b : Record) (g : Gro
       uncounted = λ s l m. ap (λ z. mark_at z s) (n.same m) ∙ (moved s l).1;
       kept = λ s out. mark_kept s out ∙ (others s out).1;
     }
-
-    pub cells_kept : (s : ℕ) → (LiesIn c.heap a.number s → ⊥) → IsSameCell c cells s
-    cells_kept s out = (relabels.others s out, marks.kept s out, links_kept s)
-
-    pub heap_kept : (cells.heap.next ≡ c.heap.next) × (high_of cells.heap ≡ high_of c.heap)
-    heap_kept = (ap (λ (h : Heap). h.next) same_heap ∙ f.serials, ap high_of same_heap ∙ f.high)

@@ -8,3 +8,5 @@ mod MembersMoved
 mod GroveJoined
 mod CellsJoined
 mod RecordsJoined
+mod MergeTold
+mod Examples

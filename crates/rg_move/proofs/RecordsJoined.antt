@@ -27,12 +27,10 @@ module _ (t roomy : RegionTable) (from into more : ℕ) (a b : Record) (d : from
   }
 
   module _ (full new : RegionTable) (p : PushedFirst roomy from into a (with_room r.0 b) (length a.members) full) (is : new ≡ removed full from) where
-    next_same : new.next ≡ t.next
-    next_same =
-        ap (λ (z : RegionTable). z.next) is ∙ p.next ∙ ap (λ (z : RegionTable). z.next) r.2 ∙ (changed_links t into (with_room r.0)).1
-
     pub numbers_kept : new.next ≡ t.next
-    numbers_kept = next_same
+    numbers_kept =
+        ap (λ (z : RegionTable). z.next) is ∙ p.next ∙ ap (λ (z : RegionTable). z.next) r.2
+        ∙ (changed_links t into (with_room r.0)).1
 
     record_on : (k : ℕ) → k ≢ from → record_at new k ≡ record_at full k
     record_on k e = ap (λ z. record_at z k) is ∙ get_or-set_other full.records from k None None e

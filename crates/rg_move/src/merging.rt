@@ -17,7 +17,8 @@ use rg_regions::Regions;
 /// The members of the one region come behind those of the other, which has room for them.
 fn move_members(regions: &mut Regions, from: usize, into: usize)
     requires { HasRoomToMove regions.old from into }
-    ensures { (a b : Record) → record_at regions.old from ≡ Some a → record_at regions.old into ≡ Some b
+    ensures { (a b : Record) → record_at regions.old from ≡ Some a
+        → record_at regions.old into ≡ Some b
         → PushedFirst regions.old from into a b (length a.members) regions.new }
 {
     for place in 0..regions.members(from).len() {

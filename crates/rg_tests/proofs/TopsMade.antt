@@ -1,5 +1,5 @@
 -- Regions one above the other, as a test builds them: the forest stays one (docs/architecture.md, "Tests").
-use Rattle.std.proofs.Common.{◌≡◌, ◌≢◌, ℕ, ◌<◌, ◌≤◌, zero, suc, List, [], ◌∷◌, Some, None, get_or, refl, ap, sym, ◌∙◌}
+use Rattle.std.proofs.Common.{◌≡◌, ◌≢◌, ℕ, ◌<◌, ◌≤◌, zero, suc, List, [], ◌∷◌, Option, Some, None, IsSome, get_or, refl, ap, sym, ◌∙◌}
 use Rattle.std.proofs.Common.{subst, arith, inl, inr, option_map, slice_get}
 use Rattle.rg_base.specs.declared.object.Label.TheVariants.{Region}
 use Rattle.rg_base.specs.declared.words.Manager.{Manager}
@@ -11,11 +11,13 @@ use Rattle.rg_cells.specs.Table.{Table, Made, body_at}
 use Rattle.rg_regions.specs.Table.{Record, RegionTable, record_at, HasNumber, Chained, Added, fresh, changed}
 use Rattle.rg_regions.specs.Table.{with_room, with_bridge, with_member}
 use Rattle.rg_regions.specs.Reach.{LiesIn}
-use Rattle.rg_regions.specs.Grove.{Grove}
+use Rattle.rg_regions.specs.Grove.{Grove, Parent, Above, direct, further}
 use Rattle.rg_regions.proofs.Callers.Told.{one_number, number_of}
 use Rattle.rg_regions.proofs.Callers.Changed.{changed_at, changed_other, changed_links}
 use Rattle.rg_regions.proofs.Callers.RegionComes.{RegionComes, grove_comes, alone_new}
 use Rattle.rg_release.specs.Released.{Unowned}
+use Rattle.rg_move.specs.Closed.{Closed}
+use Rattle.rg_move.specs.Merged.{CanTake}
 use Rattle.rg_tests.specs.Tops.{IsTop, LeadsToTop}
 use Rattle.rg_tests.specs.Traced.{InTraced}
 
@@ -122,3 +124,33 @@ top_unowned c t n key slot d o = (
     ];
   },
 )
+
+-- such a region is closed, but for region 0
+pub top_closed : (c : Table) (t : RegionTable) (n key slot : ℕ) → n ≢ 0 → IsTop c t n key slot → Closed c.heap t key
+top_closed c t n key slot d o = record { number = n; has = o.has; not_first = d; alone = o.alone }
+
+-- region 0 can take the cells of each other one, since nothing leads into it
+pub first_takes : (c : Table) (t : RegionTable) (n key first : ℕ) → Grove c t → n ≢ 0 → HasNumber t key n → HasNumber t first 0
+    → CanTake c.heap t key first
+first_takes c t n key first g d h f = record {
+  there = number_there (record_at t first) 0 f;
+  differ = λ e. let P : ℕ → Type 0 = λ z. HasNumber t z n in d (one_number t first n 0 (subst P e h) f);
+  above = λ q e b.
+      let same : q ≡ 0 = one_number t first q 0 e f in
+      let top : b.0 ≡ n = one_number t key b.0 n b.1 h in
+      elim (b.2) [
+        | inl z ↦ d (sym top ∙ sym z ∙ same)
+        | inr z ↦ let A : ℕ → Type 0 = λ y. Above c.heap b.0 y in not_above b.0 (subst A same z.1)
+      ];
+}
+  where
+    number_there : (o : Option Record) (m : ℕ) → option_map (λ (r : Record). r.number) o ≡ Some m → IsSome o
+    number_there None m e = cc
+    number_there (Some r) m e = refl
+
+    not_child : (p : ℕ) → Parent c.heap p 0 → ⊥
+    not_child p u = g.none_into_first p u.from u.field u.to u.differ u.lies u.leads u.child_has
+
+    not_above : (p : ℕ) → Above c.heap p 0 → ⊥
+    not_above p (direct u) = not_child p u
+    not_above p (further {q = m} a u) = not_child m u

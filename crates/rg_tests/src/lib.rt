@@ -18,6 +18,8 @@ mod generated;
 #[cfg(test)]
 mod lists;
 #[cfg(test)]
+mod moves;
+#[cfg(test)]
 mod numbers;
 #[cfg(test)]
 mod programs;
