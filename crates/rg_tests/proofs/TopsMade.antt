@@ -127,7 +127,7 @@ top_unowned c t n key slot d o = (
 
 -- such a region is closed, but for region 0
 pub top_closed : (c : Table) (t : RegionTable) (n key slot : ℕ) → n ≢ 0 → IsTop c t n key slot → Closed c.heap t key
-top_closed c t n key slot d o = record { number = n; has = o.has; not_first = d; alone = o.alone; }
+top_closed c t n key slot d o = record { number = n; has = o.has; not_first = d; alone = o.alone }
 
 -- region 0 can take the cells of each other one, since nothing leads into it
 pub first_takes : (c : Table) (t : RegionTable) (n key first : ℕ) → Grove c t → n ≢ 0 → HasNumber t key n → HasNumber t first 0

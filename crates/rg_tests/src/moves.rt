@@ -1,7 +1,7 @@
 //! Regions a thousand deep are frozen at once, and ample memory is enough for a merge
 //! (docs/architecture.md, "Freeze and merge").
 
-use crate::release::{add_top, DEPTH};
+use crate::release::{DEPTH, add_top};
 use rg_base::Word;
 use rg_cells::Cells;
 use rg_move::{freeze, merge};
@@ -37,10 +37,7 @@ fn a_region_goes_into_the_first_one(rt: HostRuntime) -> Result<(), Fail> {
         merge(&mut cells, &mut regions, top.0, first)?;
     }
     assert_eq!(rt; (cells.held(), regions.count()), (3, 2));
-    assert_eq!(rt;
-        (regions.key(1), regions.key(2)),
-        (Some(beneath.0), None)
-    );
+    assert_eq!(rt; (regions.key(1), regions.key(2)), (Some(beneath.0), None));
     if let Some(first) = regions.key(0) {
         assert_eq!(rt; regions.members(first).len(), 2);
     }

@@ -16,11 +16,7 @@ pub const DEPTH: u64 = 1000;
 
 /// A region comes, with a cell that is its bridge; the cell's field leads to the region that came
 /// before. It answers the region's key and its bridge.
-pub fn add_top(
-    cells: &mut Cells,
-    regions: &mut Regions,
-    word: Word,
-) -> Result<(usize, usize), Fail>
+pub fn add_top(cells: &mut Cells, regions: &mut Regions, word: Word) -> Result<(usize, usize), Fail>
     requires grove { Grove cells.old regions.old }
     requires owns { LeadsToTop cells.old regions.old word }
     ensures grove { OnOk result (Grove cells.new regions.new) }
