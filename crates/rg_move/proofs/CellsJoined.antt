@@ -1,5 +1,6 @@
 -- The cells of a region that goes into another one, with their marks (docs/architecture.md, "Freeze and merge").
-use Rattle.std.proofs.Common.{◌≡◌, ℕ, ◌<◌, ◌≤◌, ◌^◌, List, [], ◌∷◌, length, cond, Option, Some, None, IsSome, get_or, sum_by, refl}
+use Rattle.std.proofs.Common.{◌≡◌, ℕ, ◌<◌, ◌≤◌, ◌^◌, List, [], ◌∷◌, length, cond, Option, Some, None, IsSome, get_or}
+use Rattle.std.proofs.Common.{sum_by, refl}
 use Rattle.std.proofs.Common.{ap, sym, ◌∙◌, subst, arith, inl, inr}
 use Rattle.std.proofs.lemmas.List.Sums.{sum_by-cons, sum_by-le-sum_by, count_by-le-length}
 use Rattle.rg_base.specs.declared.object.Label.{Label}
@@ -22,7 +23,8 @@ use Rattle.rg_move.specs.Inner.Joins.{Relabels, Marks}
 use Rattle.rg_move.proofs.PartFrozen.{same_held}
 use Rattle.rg_move.proofs.MembersLabelled.{members_labelled, others_kept}
 use Rattle.rg_move.proofs.FieldsCounted.{belongs_there}
-use Rattle.rg_move.proofs.GroveJoined.{counts_or_not, led_none, leads_not, fields_stay, on_moved, was_or_moved, has_place}
+use Rattle.rg_move.proofs.GroveJoined.{counts_or_not, led_none, leads_not, fields_stay, on_moved, was_or_moved}
+use Rattle.rg_move.proofs.GroveJoined.{has_place}
 
 sum_none : (f : ℕ → ℕ) (ss : List ℕ) → ((s : ℕ) → Has ss s → f s ≡ 0) → sum_by f ss ≡ 0
 sum_none f [] h = refl
@@ -53,12 +55,14 @@ module _ (c : Table) (t : RegionTable) (from into : ℕ) (a b : Record) (g : Gro
 
   -- the members lie in the region that takes them
   pub lie_now : (j : ℕ) → j < length a.members → LiesIn mid.heap b.number (get_or a.members j 0)
-  lie_now j l = on_moved c t from into a b g at to o w mid relabelled (get_or a.members j 0) ((owns_once c t from a g at).lie j l)
+  lie_now j l = on_moved c t from into a b g at to o w mid relabelled (get_or a.members j 0)
+      ((owns_once c t from a g at).lie j l)
 
   held_on : (s : ℕ) → IsHeld c.heap s → IsHeld mid.heap s
   held_on s e = elim (lies_or_not c.heap a.number s) [
     | inl n ↦ let P : Option Body → Type 0 = λ z. IsSome z in subst P (sym (others s n).0) e
-    | inr l ↦ let P : Option Body → Type 0 = λ z. IsSome z in subst P (sym (moved s l).0) (same_held (Region b.number) (body_at c.heap s) e)
+    | inr l ↦ let P : Option Body
+        → Type 0 = λ z. IsSome z in subst P (sym (moved s l).0) (same_held (Region b.number) (body_at c.heap s) e)
   ]
 
   pub leads_now : LeadsToHeld mid.heap b.number
@@ -86,7 +90,8 @@ module _ (c : Table) (t : RegionTable) (from into : ℕ) (a b : Record) (g : Gro
       let n = led_within x (body_at mid.heap s) in
       omega (arith, n, same))
 
-  pub room_now : sum_by (λ s. width (body_at c.heap s)) a.members < 2 ^ 64 → HasRoomFor b.number mid (led_by mid.heap a.members)
+  pub room_now : sum_by (λ s. width (body_at c.heap s)) a.members < 2 ^ 64
+      → HasRoomFor b.number mid (led_by mid.heap a.members)
   room_now few = λ x l more. elim (was_or_moved c t from into a b g at to o w mid relabelled b.number x l) [
     | inl y ↦ let z = led_none_there x y.1 in absurd (omega (arith, z, more))
     | inr y ↦ let z = (moved x y.1).1 in omega (arith, z, led_within_all x, few)
@@ -118,10 +123,12 @@ module _ (c : Table) (t : RegionTable) (from into : ℕ) (a b : Record) (g : Gro
           elim (lies_or_not mid.heap b.number s) [
             | inl off ↦
                 let no : cond {A = ℕ} (belongs b.number (body_at mid.heap s)) (led_by mid.heap a.members s) 0 ≡ 0 =
-                ap (λ x. cond {A = ℕ} x (led_by mid.heap a.members s) 0) (belongs_not b.number (body_at mid.heap s) off) in
+                ap (λ x. cond {A = ℕ} x (led_by mid.heap a.members s) 0) (belongs_not b.number (body_at mid.heap s)
+                off) in
                 omega (arith, k, no)
             | inr l ↦
-                let yes : cond {A = ℕ} (belongs b.number (body_at mid.heap s)) (led_by mid.heap a.members s) 0 ≡ led_by mid.heap a.members s =
+                let yes : cond {A = ℕ} (belongs b.number (body_at mid.heap s)) (led_by mid.heap a.members s)
+                0 ≡ led_by mid.heap a.members s =
                 ap (λ x. cond {A = ℕ} x (led_by mid.heap a.members s) 0) (belongs_there mid.heap b.number s l) in
                 elim (was_or_moved c t from into a b g at to o w mid relabelled b.number s l) [
                   | inl y ↦ let z = led_none_there s y.1 in omega (arith, k, yes, z)
@@ -138,13 +145,15 @@ module _ (c : Table) (t : RegionTable) (from into : ℕ) (a b : Record) (g : Gro
     }
 
     pub links_kept : (s : ℕ) → cell_link_at cells s ≡ cell_link_at c s
-    links_kept s = link_now s ∙ elim (lies_or_not c.heap a.number s) [ inl out ↦ (others s out).2 | inr l ↦ (moved s l).2 ]
+    links_kept s = link_now s
+        ∙ elim (lies_or_not c.heap a.number s) [ inl out ↦ (others s out).2 | inr l ↦ (moved s l).2 ]
 
     pub marks : Marks c a b cells
     marks = record {
       counted = λ s l m.
           let k = (n.counted m).marks s in
-          let yes : cond {A = ℕ} (belongs b.number (body_at mid.heap s)) (led_by mid.heap a.members s) 0 ≡ led_by mid.heap a.members s =
+          let yes : cond {A = ℕ} (belongs b.number (body_at mid.heap s)) (led_by mid.heap a.members s)
+          0 ≡ led_by mid.heap a.members s =
           ap (λ x. cond {A = ℕ} x (led_by mid.heap a.members s) 0)
           (belongs_there mid.heap b.number s (on_moved c t from into a b g at to o w mid relabelled s l)) in
           let now : led_by mid.heap a.members s ≡ led_by cells.heap a.members s =

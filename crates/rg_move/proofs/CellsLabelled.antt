@@ -1,5 +1,6 @@
 -- Cells that get another label, one by one (docs/architecture.md, "Freeze and merge").
-use Rattle.std.proofs.Common.{◌≡◌, ◌≢◌, ℕ, ◌+◌, ◌<◌, zero, suc, List, [], ◌∷◌, length, Option, Some, None, IsSome, is_some, count_by, cond}
+use Rattle.std.proofs.Common.{◌≡◌, ◌≢◌, ℕ, ◌+◌, ◌<◌, zero, suc, List, [], ◌∷◌, length, Option, Some, None, IsSome}
+use Rattle.std.proofs.Common.{is_some, count_by, cond}
 use Rattle.std.proofs.Common.{get_or, set, refl, ap, sym, ◌∙◌, subst, arith, inl, inr}
 use Rattle.std.proofs.lemmas.List.{get_or-set_same, get_or-set_other}
 use Rattle.std.proofs.lemmas.List.Sums.{sum_by-cons}
@@ -12,7 +13,8 @@ use Rattle.rg_regions.proofs.Callers.Freed.{held_once}
 use Rattle.rg_move.specs.Frozen.{labelled, IsLabelled}
 use Rattle.rg_move.specs.Inner.Labels.{LabelledFirst}
 
-set_there : {X : Type 0} (xs : List (Option X)) (s : ℕ) (x : X) (y : Option X) → get_or xs s None ≡ Some x → get_or (set xs s y) s None ≡ y
+set_there : {X : Type 0} (xs : List (Option X)) (s : ℕ) (x : X) (y : Option X) → get_or xs s None ≡ Some x
+    → get_or (set xs s y) s None ≡ y
 set_there [] s x y e = cc
 set_there (z ∷ xs) zero x y e = refl
 set_there (z ∷ xs) (suc s) x y e = set_there xs s x y e
@@ -22,11 +24,16 @@ count-kept : (xs : List (Option (Option Body))) (s : ℕ) (o y : Option Body) �
 count-kept [] s o y e = cc
 count-kept (x ∷ xs) zero o y e = rw e
 count-kept (x ∷ xs) (suc s) o y e =
-    sum_by-cons (λ z. cond (is_some z) 1 0) x (set xs s (Some y)) ∙ ap (λ n. cond (is_some x) 1 0 + n) (count-kept xs s o y e)
+    sum_by-cons (λ z. cond (is_some z) 1 0) x (set xs s (Some y))
+    ∙ ap (λ n. cond (is_some x) 1 0 + n) (count-kept xs s o y e)
     ∙ sym (sum_by-cons (λ z. cond (is_some z) 1 0) x xs)
 
-with_label_is : (h : Heap) (s : ℕ) (l : Label) (b : Body) → body_at h s ≡ Some b → with_label h s l ≡ with_body h s (record b { label = l })
-with_label_is h s l b e = ap (λ (o : Option Body). elim o [ None ↦ h | Some b ↦ with_body h s (record b { label = l }) ]) e
+with_label_is : (h : Heap) (s : ℕ) (l : Label) (b : Body) → body_at h s ≡ Some b
+    → with_label h s l ≡ with_body h s (record b { label = l })
+with_label_is h s l b e = ap (λ (o : Option Body). elim o [
+  | None ↦ h
+  | Some b ↦ with_body h s (record b { label = l })
+]) e
 
 body_there : (o : Option Body) → IsSome o → (b : Body) × (o ≡ Some b)
 body_there None e = cc
@@ -41,13 +48,15 @@ label_here h s l held =
     ∙ ap body_in (set_there h.slots s o.0 (Some (Some (record b.0 { label = l }))) o.1)
     ∙ ap (labelled l) (sym b.1)
 
-pub label_apart : (h : Heap) (s : ℕ) (l : Label) (x : ℕ) → IsHeld h s → x ≢ s → body_at (with_label h s l) x ≡ body_at h x
+pub label_apart : (h : Heap) (s : ℕ) (l : Label) (x : ℕ) → IsHeld h s → x ≢ s
+    → body_at (with_label h s l) x ≡ body_at h x
 label_apart h s l x held d =
     let b = body_there (body_at h s) held in
     ap (λ z. body_at z x) (with_label_is h s l b.0 b.1)
     ∙ ap body_in (get_or-set_other h.slots s x (Some (Some (record b.0 { label = l }))) None d)
 
-pub label_kept : (h : Heap) (s : ℕ) (l : Label) → IsHeld h s → ((with_label h s l).next ≡ h.next) × (high_of (with_label h s l) ≡ high_of h)
+pub label_kept : (h : Heap) (s : ℕ) (l : Label) → IsHeld h s
+    → ((with_label h s l).next ≡ h.next) × (high_of (with_label h s l) ≡ high_of h)
 label_kept h s l held =
     let b = body_there (body_at h s) held in
     let o = held_once h s held in
@@ -63,7 +72,8 @@ labelled_none l t members = record {
 }
 
 -- the next one is still held
-pub next_held : (l : Label) (old t : Table) (members : List ℕ) (i : ℕ) → AllDiffer members → IsHeld old.heap (get_or members i 0)
+pub next_held : (l : Label) (old t : Table) (members : List ℕ) (i : ℕ) → AllDiffer members
+    → IsHeld old.heap (get_or members i 0)
     → i < length members → LabelledFirst l old members i t → IsHeld t.heap (get_or members i 0)
 next_held l old t members i once held m f =
     let P : Option Body → Type 0 = λ o. IsSome o in

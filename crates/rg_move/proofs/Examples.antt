@@ -12,7 +12,8 @@ use Rattle.rg_regions.specs.Grove.{Above, direct, further}
 use Rattle.rg_move.specs.Closed.{Closed, BelowKey}
 use Rattle.rg_move.specs.Merged.{CanTake}
 
--- Four regions with a cell each, at the slot and under the key of the region's number: region 1 owns region 2, which owns region 3.
+-- Four regions with a cell each, at the slot and under the key of the region's number. Region 1 owns region 2, which owns
+-- region 3.
 abbrev cell : (number : ℕ) → Word → Option (Option Body)
 cell n w = Some (Some (record { class = 0; label = Region n; serial = n; fields = w ∷ [] }))
 
@@ -23,7 +24,12 @@ abbrev region : (number : ℕ) → Option Record
 region n = Some (record { number = n; manager = Trace; members = n ∷ []; bridge = Some n; room = 0 })
 
 abbrev table : RegionTable
-table = record { records = region 0 ∷ region 1 ∷ region 2 ∷ region 3 ∷ []; links = None ∷ None ∷ None ∷ None ∷ []; next = 4 }
+table = record {
+  records = region 0 ∷ region 1 ∷ region 2 ∷ region 3 ∷ [];
+  links = None ∷ None ∷ None ∷ None ∷ [];
+  next
+      = 4;
+}
 
 -- each cell lies in the region of its slot's number, and each key has its own number
 its_own : (q s : ℕ) → LiesIn small q s → q ≡ s
@@ -85,7 +91,11 @@ three_freezes : BelowKey small table 1 3
 three_freezes = (
   1,
   refl,
-  inr ((3, refl), further down (record { differ = λ e. cc; from = 2; field = 0; to = 3; lies = refl; leads = refl; child_has = refl })),
+  inr (
+    (3, refl),
+    further down
+        (record { differ = λ e. cc; from = 2; field = 0; to = 3; lies = refl; leads = refl; child_has = refl }),
+  ),
 )
 
 -- nothing leads into region 0

@@ -1,5 +1,6 @@
 -- Fields of a region's cells that are counted, one by one (docs/architecture.md, "Freeze and merge").
-use Rattle.std.proofs.Common.{◌≡◌, ℕ, ◌+◌, ◌<◌, ◌≤◌, Bool, true, false, cond, List, length, take, Option, Some, None, get_or, refl, ap, sym, ◌∙◌}
+use Rattle.std.proofs.Common.{◌≡◌, ℕ, ◌+◌, ◌<◌, ◌≤◌, Bool, true, false, cond, List, length, take, Option, Some, None}
+use Rattle.std.proofs.Common.{get_or, refl, ap, sym, ◌∙◌}
 use Rattle.std.proofs.Common.{subst, arith, inl, inr, option_map, option_and_then, slice_get, count_by}
 use Rattle.std.proofs.lemmas.List.{take_all}
 use Rattle.std.proofs.lemmas.List.Sums.{sum_by_more, sum_by_more_le}
@@ -36,41 +37,53 @@ both true m n = refl
 both false m n = refl
 
 pub grown_none : (r : ℕ) (t : Table) (f : ℕ → ℕ) → ((x : ℕ) → f x ≡ 0) → Grown r t f t
-grown_none r t f z = record { heap = refl; links = refl; marks = λ x. by_test (belongs r (body_at t.heap x)) (f x) (z x) }
+grown_none r t f z = record {
+  heap = refl;
+  links = refl;
+  marks = λ x. by_test (belongs r (body_at t.heap x)) (f x)
+      (z x);
+}
   where
     by_test : (b : Bool) (m : ℕ) {n : ℕ} → m ≡ 0 → n ≡ n + cond {A = ℕ} b m 0
     by_test true m {n} e = omega (arith, e)
     by_test false m {n} e = omega arith
 
 -- what is counted in two turns
-pub grown_then : (r : ℕ) (old t new : Table) (f g h : ℕ → ℕ) → ((x : ℕ) → f x + g x ≡ h x) → Grown r old f t → Grown r t g new → Grown r old h new
+pub grown_then : (r : ℕ) (old t new : Table) (f g h : ℕ → ℕ) → ((x : ℕ) → f x + g x ≡ h x) → Grown r old f t
+    → Grown r t g new → Grown r old h new
 grown_then r old t new f g h sum a b = record {
   heap = b.heap ∙ a.heap;
   links = b.links ∙ a.links;
   marks = λ x.
       let p = a.marks x in
       let q = b.marks x in
-      let same : cond {A = ℕ} (belongs r (body_at t.heap x)) (g x) 0 ≡ cond {A = ℕ} (belongs r (body_at old.heap x)) (g x) 0 =
+      let same : cond {A = ℕ} (belongs r (body_at t.heap x)) (g x) 0 ≡ cond {A = ℕ} (belongs r (body_at old.heap x))
+      (g x) 0 =
       ap (λ (z : Heap). cond {A = ℕ} (belongs r (body_at z x)) (g x) 0) a.heap in
       let two = both (belongs r (body_at old.heap x)) (f x) (g x) in
-      let all : cond {A = ℕ} (belongs r (body_at old.heap x)) (f x + g x) 0 ≡ cond {A = ℕ} (belongs r (body_at old.heap x)) (h x) 0 =
+      let all : cond {A = ℕ} (belongs r (body_at old.heap x)) (f x + g x) 0 ≡ cond {A = ℕ} (belongs r
+      (body_at old.heap x)) (h x) 0 =
       ap (λ n. cond {A = ℕ} (belongs r (body_at old.heap x)) n 0) (sum x) in
       omega (arith, p, q, same, two, all);
 }
 
-pub room_then : (r : ℕ) (old t : Table) (f g h : ℕ → ℕ) → ((x : ℕ) → f x + g x ≤ h x) → HasRoomFor r old h → Grown r old f t → HasRoomFor r t g
+pub room_then : (r : ℕ) (old t : Table) (f g h : ℕ → ℕ) → ((x : ℕ) → f x + g x ≤ h x) → HasRoomFor r old h
+    → Grown r old f t → HasRoomFor r t g
 room_then r old t f g h sum room a = λ x l more.
     let L : Heap → Type 0 = λ z. LiesIn z r x in
     let m = subst L a.heap l in
     let p = a.marks x in
-    let in_r : cond {A = ℕ} (belongs r (body_at old.heap x)) (f x) 0 ≡ f x = ap (λ b. cond {A = ℕ} b (f x) 0) (belongs_there old.heap r x m) in
+    let in_r : cond {A = ℕ} (belongs r (body_at old.heap x)) (f x) 0 ≡ f x = ap (λ b. cond {A = ℕ} b (f x) 0)
+    (belongs_there old.heap r x m) in
     let s = sum x in
     let b = room x m (omega (arith, more, s)) in
     omega (arith, p, in_r, s, b)
 
 -- one field more of a body
-next_led : (x : ℕ) (o : Option Body) (k : ℕ) (w : Word) → option_and_then (λ (b : Body). slice_get b.fields k) o ≡ Some w
-    → (led_first x o k + cond {A = ℕ} (leads_to x w) 1 0 ≡ led_first x o (k + 1)) × (led_first x o k + cond {A = ℕ} (leads_to x w) 1 0 ≤ led x o)
+next_led : (x : ℕ) (o : Option Body) (k : ℕ) (w : Word)
+    → option_and_then (λ (b : Body). slice_get b.fields k) o ≡ Some w
+    → (led_first x o k + cond {A = ℕ} (leads_to x w) 1 0 ≡ led_first x o (k + 1)) × (led_first x o k + cond {A = ℕ}
+    (leads_to x w) 1 0 ≤ led x o)
 next_led x None k w e = cc
 next_led x (Some b) k w e =
     let f : Word → ℕ = λ y. cond {A = ℕ} (leads_to x y) 1 0 in
@@ -102,17 +115,20 @@ all_led x None k l = refl
 all_led x (Some b) k l = ap (count_by (leads_to x)) (take_all k b.fields l)
 
 pub fields_grown : (r slot k : ℕ) (old new : Table) → width (body_at old.heap slot) ≤ k
-    → Grown r old (λ x. led_first x (body_at old.heap slot) k) new → Grown r old (λ x. led x (body_at old.heap slot)) new
+    → Grown r old (λ x. led_first x (body_at old.heap slot) k) new
+    → Grown r old (λ x. led x (body_at old.heap slot)) new
 fields_grown r slot k old new l a = record {
   heap = a.heap;
   links = a.links;
   marks = λ x. a.marks x
-      ∙ ap (λ n. mark_at old x + cond {A = ℕ} (belongs r (body_at old.heap x)) n 0) (all_led x (body_at old.heap slot) k l);
+      ∙ ap (λ n. mark_at old x + cond {A = ℕ} (belongs r (body_at old.heap x)) n 0) (all_led x (body_at old.heap slot)
+      k l);
 }
 
 -- the fields of one cell more
 pub member_grown : (r : ℕ) (members : List ℕ) (i : ℕ) (old t new : Table) → i < length members
-    → Grown r old (led_by old.heap (take i members)) t → Grown r t (λ x. led x (body_at t.heap (get_or members i 0))) new
+    → Grown r old (led_by old.heap (take i members)) t
+    → Grown r t (λ x. led x (body_at t.heap (get_or members i 0))) new
     → Grown r old (led_by old.heap (take (i + 1) members)) new
 member_grown r members i old t new n a b =
     grown_then r old t new (led_by old.heap (take i members)) (λ x. led x (body_at t.heap (get_or members i 0)))
@@ -124,10 +140,13 @@ member_grown r members i old t new n a b =
     omega (arith, sum_by_more f members i 0 n, same))
     a b
 
-pub member_room : (r : ℕ) (members : List ℕ) (i : ℕ) (old t : Table) → i < length members → HasRoomFor r old (led_by old.heap members)
-    → Grown r old (led_by old.heap (take i members)) t → HasRoomFor r t (λ x. led x (body_at t.heap (get_or members i 0)))
+pub member_room : (r : ℕ) (members : List ℕ) (i : ℕ) (old t : Table) → i < length members
+    → HasRoomFor r old (led_by old.heap members)
+    → Grown r old (led_by old.heap (take i members)) t
+    → HasRoomFor r t (λ x. led x (body_at t.heap (get_or members i 0)))
 member_room r members i old t n room a =
-    room_then r old t (led_by old.heap (take i members)) (λ x. led x (body_at t.heap (get_or members i 0))) (led_by old.heap members)
+    room_then r old t (led_by old.heap (take i members)) (λ x. led x (body_at t.heap (get_or members i 0)))
+    (led_by old.heap members)
     (λ x.
     let f : ℕ → ℕ = λ s. led x (body_at old.heap s) in
     let same : led x (body_at t.heap (get_or members i 0)) ≡ f (get_or members i 0) =

@@ -1,5 +1,6 @@
 -- Where regions are frozen with all that they own, the forest is kept (docs/architecture.md, "Freeze and merge").
-use Rattle.std.proofs.Common.{◌≡◌, ℕ, cond, Option, Some, None, refl, ap, sym, ◌∙◌, subst, ◌⊎◌, inl, inr, option_map, count_by, false}
+use Rattle.std.proofs.Common.{◌≡◌, ℕ, cond, Option, Some, None, refl, ap, sym, ◌∙◌, subst, ◌⊎◌, inl, inr, option_map}
+use Rattle.std.proofs.Common.{count_by, false}
 use Rattle.rg_base.specs.declared.object.Label.TheVariants.{Region, Frozen}
 use Rattle.rg_cells.specs.declared.cell.Body.{Body}
 use Rattle.rg_cells.specs.Table.{Table, body_at, mark_at, label_at}
@@ -9,9 +10,11 @@ use Rattle.rg_regions.specs.Grove.{Grove, Parent, Above, direct, further, referr
 use Rattle.rg_regions.proofs.Callers.Told.{number_of, labelled_held, one_region}
 use Rattle.rg_regions.proofs.Callers.Fewer.{total_alike, belongs_not}
 use Rattle.rg_move.specs.Inner.Freezes.{IsGone, Hardened}
-use Rattle.rg_move.proofs.PartFrozen.{label_there, record_was, number_was, not_gone, lies_on, gone_or_here, either, fields_same, lay, in_table, parent_was}
+use Rattle.rg_move.proofs.PartFrozen.{label_there, record_was, number_was, not_gone, lies_on, gone_or_here, either}
+use Rattle.rg_move.proofs.PartFrozen.{fields_same, lay, in_table, parent_was}
 
-module _ (c : Table) (t : RegionTable) (cells : Table) (regions : RegionTable) (g : Grove c t) (w : Hardened c t cells regions)
+module _ (c : Table) (t : RegionTable) (cells : Table) (regions : RegionTable) (g : Grove c t)
+    (w : Hardened c t cells regions)
     (down : (p q : ℕ) → Parent c.heap p q → IsGone t regions p → IsGone t regions q) where
   above_was : (p q : ℕ) → Above cells.heap p q → Above c.heap p q
   above_was p q (direct a) = direct (parent_was c t cells regions g w p q a)
@@ -28,14 +31,19 @@ module _ (c : Table) (t : RegionTable) (cells : Table) (regions : RegionTable) (
 
   frozen_now : (q s : ℕ) → IsGone t regions q → LiesIn c.heap q s → label_at cells.heap s ≡ Some Frozen
   frozen_now q s a l =
-      ap (option_map (λ (b : Body). b.label)) (w.froze q s a l).0 ∙ label_there Frozen (body_at c.heap s) (labelled_held c.heap s (Region q) l)
+      ap (option_map (λ (b : Body). b.label)) (w.froze q s a l).0
+      ∙ label_there Frozen (body_at c.heap s) (labelled_held c.heap s (Region q) l)
 
   -- what a field of a region leads to: it is frozen, or lies where it lay
   frozen_or_here : (q s : ℕ) → LiesIn c.heap q s → (label_at cells.heap s ≡ Some Frozen) ⊎ LiesIn cells.heap q s
-  frozen_or_here q s l = elim (gone_or_here c t cells regions g w q s l) [ inl a ↦ inl (frozen_now q s a l) | inr a ↦ inr a.1 ]
+  frozen_or_here q s l = elim (gone_or_here c t cells regions g w q s l) [
+    | inl a ↦ inl (frozen_now q s a l)
+    | inr a ↦ inr a.1
+  ]
 
   -- a record of a region that hasn't gone is there
-  record_on : (k q o : ℕ) (z : Record) → record_at t k ≡ Some z → z.number ≡ q → HasNumber regions o q → record_at regions k ≡ Some z
+  record_on : (k q o : ℕ) (z : Record) → record_at t k ≡ Some z → z.number ≡ q → HasNumber regions o q
+      → record_at regions k ≡ Some z
   record_on k q o z e n h = elim (w.records k) [
     | inl r ↦ r ∙ e
     | inr r ↦ absurd (not_gone c t cells regions g w o q h (k, number_of t k q z e n, r))
@@ -51,7 +59,8 @@ module _ (c : Table) (t : RegionTable) (cells : Table) (regions : RegionTable) (
 
   referrers_on : (q s : ℕ) → (IsGone t regions q → ⊥) → referrers cells.heap q s ≡ referrers c.heap q s
   referrers_on q s n =
-      let F : Option Body → ℕ = λ b. cond (belongs q b) (elim b [ None ↦ 0 | Some b ↦ count_by (leads_to s) b.fields ]) 0 in
+      let F : Option Body → ℕ = λ b. cond (belongs q b) (elim b [ None ↦ 0 | Some b ↦ count_by (leads_to s) b.fields ])
+      0 in
       total_alike F refl c.heap.slots cells.heap.slots (λ k. elim (either c t cells regions g w k) [
         | inl a ↦
             let now : belongs q (body_at cells.heap k) ≡ false =
@@ -80,7 +89,8 @@ module _ (c : Table) (t : RegionTable) (cells : Table) (regions : RegionTable) (
               all = λ s l. m.all s (was z.number s l);
               once = m.once;
             };
-        bridges = λ k s z a b. lies_on c t cells regions g w z.number s (here k z a) (g.bridges k s z (rec_was k z a) b);
+        bridges = λ k s z a b. lies_on c t cells regions g w z.number s (here k z a) (g.bridges k s z (rec_was k z a)
+            b);
         labels = in_table c t cells regions g w;
         frozen = λ s k to l f.
             let field = sym (fld s k) ∙ f in
@@ -126,7 +136,10 @@ module _ (c : Table) (t : RegionTable) (cells : Table) (regions : RegionTable) (
         counts = λ k s z a m l.
             let x = lay c t cells regions g w z.number s l in
             let same : mark_at cells s ≡ mark_at c s =
-            elim (either c t cells regions g w s) [ inl a ↦ absurd (x.1 (one_gone a.0 z.number s a.2 x.0 a.1)) | inr a ↦ a.1.1 ] in
+            elim (either c t cells regions g w s) [
+              | inl a ↦ absurd (x.1 (one_gone a.0 z.number s a.2 x.0 a.1))
+              | inr a ↦ a.1.1
+            ] in
             same ∙ g.counts k s z (rec_was k z a) m x.0 ∙ sym (referrers_on z.number s x.1);
         unmarked = λ s n. elim (either c t cells regions g w s) [
           | inl a ↦ a.3.1

@@ -1,5 +1,6 @@
 -- Where a region goes into another one, the forest is kept (docs/architecture.md, "Freeze and merge").
-use Rattle.std.proofs.Common.{◌≡◌, ◌≢◌, ℕ, ◌+◌, ◌<◌, zero, suc, Bool, false, true, cond, List, [], ◌∷◌, ◌++◌, length, Option, Some, None}
+use Rattle.std.proofs.Common.{◌≡◌, ◌≢◌, ℕ, ◌+◌, ◌<◌, zero, suc, Bool, false, true, cond, List, [], ◌∷◌, ◌++◌, length}
+use Rattle.std.proofs.Common.{Option, Some, None}
 use Rattle.std.proofs.Common.{refl, ap, sym, ◌∙◌, subst, arith, ◌⊎◌, inl, inr, option_map, option_and_then, slice_get}
 use Rattle.std.proofs.lemmas.Bool.{cases_eq}
 use Rattle.rg_base.specs.declared.object.Label.TheVariants.{Region, Frozen}
@@ -11,7 +12,8 @@ use Rattle.rg_cells.specs.Table.{Heap, Table, body_at, field_at, label_at, mark_
 use Rattle.rg_regions.specs.Table.{Record, RegionTable, record_at, HasNumber, IsBridge, Has}
 use Rattle.rg_regions.specs.Reach.{LiesIn, belongs}
 use Rattle.rg_regions.specs.Grove.{Grove, Members, Parent, Above, direct, further, referrers}
-use Rattle.rg_regions.proofs.Callers.Told.{one_region, one_number, one_record, lies_or_not, number_of, record_there, labelled_held}
+use Rattle.rg_regions.proofs.Callers.Told.{one_region, one_number, one_record, lies_or_not, number_of, record_there}
+use Rattle.rg_regions.proofs.Callers.Told.{labelled_held}
 use Rattle.rg_regions.proofs.Callers.Fewer.{total_alike, belongs_not, above_both}
 use Rattle.rg_regions.proofs.Callers.RegionComes.{none_leads}
 use Rattle.rg_regions.proofs.Callers.Shares.{Distinct, share, sum-agree, parted-all}
@@ -95,7 +97,8 @@ weighs_led q x o e = by_test (belongs q o) (led x o) e
 pub led_none : (h : Heap) (s x : ℕ) → ((k : ℕ) → field_at h s k ≡ Some (Slot x) → ⊥) → led x (body_at h s) ≡ 0
 led_none h s x n = by_body (body_at h s) n
   where
-    by_body : (o : Option Body) → ((k : ℕ) → option_and_then (λ (b : Body). slice_get b.fields k) o ≡ Some (Slot x) → ⊥) → led x o ≡ 0
+    by_body : (o : Option Body) → ((k : ℕ) → option_and_then (λ (b : Body). slice_get b.fields k) o ≡ Some (Slot x)
+        → ⊥) → led x o ≡ 0
     by_body None n = refl
     by_body (Some b) n = none_leads x b.fields n
 
@@ -108,10 +111,12 @@ module _ (c : Table) (t : RegionTable) (from into : ℕ) (a b : Record) (g : Gro
   has_into = number_of t into b.number b to refl
 
   pub apart : a.number ≢ b.number
-  apart e = let P : ℕ → Type 0 = λ n. HasNumber t from n in w.differ (g.numbers from into b.number (subst P e has_from) has_into)
+  apart e = let P : ℕ → Type 0 = λ n. HasNumber t from n in w.differ (g.numbers from into b.number (subst P e has_from)
+      has_into)
 
   -- nothing leads into the region that goes
-  pub alone_from : (p s k x : ℕ) → p ≢ a.number → LiesIn c.heap p s → field_at c.heap s k ≡ Some (Slot x) → LiesIn c.heap a.number x → ⊥
+  pub alone_from : (p s k x : ℕ) → p ≢ a.number → LiesIn c.heap p s → field_at c.heap s k ≡ Some (Slot x)
+      → LiesIn c.heap a.number x → ⊥
   alone_from p s k x d l f i =
       let same : o.number ≡ a.number = one_number t from o.number a.number o.has has_from in
       let L : ℕ → Type 0 = λ n. LiesIn c.heap n x in
@@ -121,23 +126,27 @@ module _ (c : Table) (t : RegionTable) (from into : ℕ) (a b : Record) (g : Gro
   not_above e = w.above b.number has_into (a.number, has_from, inr ((into, has_into), e))
 
   -- and it doesn't lead into the other one
-  pub leads_not : (s k x : ℕ) → LiesIn c.heap a.number s → field_at c.heap s k ≡ Some (Slot x) → LiesIn c.heap b.number x → ⊥
+  pub leads_not : (s k x : ℕ) → LiesIn c.heap a.number s → field_at c.heap s k ≡ Some (Slot x)
+      → LiesIn c.heap b.number x → ⊥
   leads_not s k x l f i =
       not_above (direct (record { differ = apart; from = s; field = k; to = x; lies = l; leads = f; child_has = i }))
 
   -- the key of another number
   not_from : (k q : ℕ) → q ≢ a.number → HasNumber t k q → k ≢ from
-  not_from k q d h e = let P : ℕ → Type 0 = λ z. HasNumber t z q in d (one_number t from q a.number (subst P e h) has_from)
+  not_from k q d h e = let P : ℕ
+      → Type 0 = λ z. HasNumber t z q in d (one_number t from q a.number (subst P e h) has_from)
 
   not_into : (k q : ℕ) → q ≢ b.number → HasNumber t k q → k ≢ into
-  not_into k q d h e = let P : ℕ → Type 0 = λ z. HasNumber t z q in d (one_number t into q b.number (subst P e h) has_into)
+  not_into k q d h e = let P : ℕ
+      → Type 0 = λ z. HasNumber t z q in d (one_number t into q b.number (subst P e h) has_into)
 
   module _ (cells : Table) (j : Relabels c a.number b.number cells) where
     pub fields_stay : (s k : ℕ) → field_at cells.heap s k ≡ field_at c.heap s k
     fields_stay s k = elim (lies_or_not c.heap a.number s) [
       | inl n ↦ ap (option_and_then (λ (b : Body). slice_get b.fields k)) (j.others s n)
       | inr l ↦
-          ap (option_and_then (λ (b : Body). slice_get b.fields k)) (j.moved s l) ∙ same_fields (Region b.number) (body_at c.heap s) k
+          ap (option_and_then (λ (b : Body). slice_get b.fields k)) (j.moved s l)
+          ∙ same_fields (Region b.number) (body_at c.heap s) k
     ]
 
     pub on_moved : (s : ℕ) → LiesIn c.heap a.number s → LiesIn cells.heap b.number s
@@ -146,23 +155,27 @@ module _ (c : Table) (t : RegionTable) (from into : ℕ) (a b : Record) (g : Gro
         ∙ label_there (Region b.number) (body_at c.heap s) (labelled_held c.heap s (Region a.number) l)
 
     on_other : (q s : ℕ) → q ≢ a.number → LiesIn c.heap q s → LiesIn cells.heap q s
-    on_other q s d l = ap (option_map (λ (b : Body). b.label)) (j.others s (λ i. d (one_region c.heap s q a.number l i))) ∙ l
+    on_other q s d l = ap (option_map (λ (b : Body). b.label)) (j.others s (λ i. d
+        (one_region c.heap s q a.number l i))) ∙ l
 
     -- what lies in a region now lay there, or was moved
-    pub was_or_moved : (q s : ℕ) → LiesIn cells.heap q s → ((q ≢ a.number) × LiesIn c.heap q s) ⊎ ((q ≡ b.number) × LiesIn c.heap a.number s)
+    pub was_or_moved : (q s : ℕ) → LiesIn cells.heap q s
+        → ((q ≢ a.number) × LiesIn c.heap q s) ⊎ ((q ≡ b.number) × LiesIn c.heap a.number s)
     was_or_moved q s l = elim (lies_or_not c.heap a.number s) [
       | inl n ↦
           let i : LiesIn c.heap q s = ap (option_map (λ (b : Body). b.label)) (sym (j.others s n)) ∙ l in
           let P : ℕ → Type 0 = λ z. LiesIn c.heap z s in
           inl ((λ e. n (subst P e i)), i)
       | inr m ↦
-          let e = label_only (Region b.number) (Region q) (body_at c.heap s) (ap (option_map (λ (b : Body). b.label)) (sym (j.moved s m)) ∙ l) in
+          let e = label_only (Region b.number) (Region q) (body_at c.heap s) (ap (option_map (λ (b : Body). b.label))
+          (sym (j.moved s m)) ∙ l) in
           inr (region_is q b.number e, m)
     ]
 
     frozen_on : (s : ℕ) → label_at c.heap s ≡ Some Frozen → label_at cells.heap s ≡ Some Frozen
     frozen_on s l =
-        ap (option_map (λ (b : Body). b.label)) (j.others s (λ i. let q : Some Frozen ≡ Some (Region a.number) = sym l ∙ i in cc)) ∙ l
+        ap (option_map (λ (b : Body). b.label)) (j.others s (λ i. let q : Some Frozen ≡ Some (Region a.number) = sym l
+        ∙ i in cc)) ∙ l
 
     frozen_was : (s : ℕ) → label_at cells.heap s ≡ Some Frozen → label_at c.heap s ≡ Some Frozen
     frozen_was s l = elim (lies_or_not c.heap a.number s) [
@@ -171,8 +184,10 @@ module _ (c : Table) (t : RegionTable) (from into : ℕ) (a b : Record) (g : Gro
     ]
 
     -- a field of another region's cell leads into a region as before, from another region as before
-    owned_was : (p q s k x : ℕ) → p ≢ q → LiesIn cells.heap p s → field_at cells.heap s k ≡ Some (Slot x) → LiesIn cells.heap q x
-        → (q ≢ a.number) × LiesIn c.heap q x × ((p₀ : ℕ) × (p₀ ≢ q) × LiesIn c.heap p₀ s × ((p₀ ≡ p) ⊎ ((p ≡ b.number) × (p₀ ≡ a.number))))
+    owned_was : (p q s k x : ℕ) → p ≢ q → LiesIn cells.heap p s → field_at cells.heap s k ≡ Some (Slot x)
+        → LiesIn cells.heap q x
+        → (q ≢ a.number) × LiesIn c.heap q x × ((p₀ : ℕ) × (p₀ ≢ q) × LiesIn c.heap p₀ s × ((p₀ ≡ p) ⊎ ((p ≡ b.number)
+        × (p₀ ≡ a.number))))
     owned_was p q s k x d l f i =
         let lead = sym (fields_stay s k) ∙ f in
         elim (was_or_moved q x i) [
@@ -217,13 +232,16 @@ module _ (c : Table) (t : RegionTable) (from into : ℕ) (a b : Record) (g : Gro
     ]
 
     -- counts of the fields that lead to a cell that stays
-    referrers_stay : (q x : ℕ) → q ≢ a.number → ((s : ℕ) → LiesIn c.heap a.number s → weight q x (body_at cells.heap s) ≡ 0)
+    referrers_stay : (q x : ℕ) → q ≢ a.number → ((s : ℕ) → LiesIn c.heap a.number s
+        → weight q x (body_at cells.heap s) ≡ 0)
         → referrers cells.heap q x ≡ referrers c.heap q x
-    referrers_stay q x d none = total_alike (weight q x) refl c.heap.slots cells.heap.slots (λ s. elim (lies_or_not c.heap a.number s) [
-      | inl n ↦ ap (weight q x) (j.others s n)
-      | inr l ↦
-          none s l ∙ sym (weighs_none q x (body_at c.heap s) (belongs_not q (body_at c.heap s) (λ i. d (one_region c.heap s q a.number i l))))
-    ])
+    referrers_stay q x d none = total_alike (weight q x) refl c.heap.slots cells.heap.slots (λ s. elim
+        (lies_or_not c.heap a.number s) [
+          | inl n ↦ ap (weight q x) (j.others s n)
+          | inr l ↦
+              none s l ∙ sym (weighs_none q x (body_at c.heap s) (belongs_not q (body_at c.heap s) (λ i. d
+              (one_region c.heap s q a.number i l))))
+        ])
 
     referrers_other : (q x : ℕ) → q ≢ a.number → q ≢ b.number → referrers cells.heap q x ≡ referrers c.heap q x
     referrers_other q x d e = referrers_stay q x d (λ s l.
@@ -236,7 +254,8 @@ module _ (c : Table) (t : RegionTable) (from into : ℕ) (a b : Record) (g : Gro
         (led_none cells.heap s x (λ k f. leads_not s k x l (sym (fields_stay s k) ∙ f) i)))
 
     -- what leads to a moved cell are fields of moved cells
-    referrers_moved : (x : ℕ) → LiesIn c.heap a.number x → led_by cells.heap a.members x ≡ referrers cells.heap b.number x
+    referrers_moved : (x : ℕ) → LiesIn c.heap a.number x
+        → led_by cells.heap a.members x ≡ referrers cells.heap b.number x
     referrers_moved x i =
         let m = g.members from a at in
         let all = parted-all (weight b.number x) refl cells.heap.slots a.members (distinct_by a.members m.once) (λ s n.
@@ -251,7 +270,8 @@ module _ (c : Table) (t : RegionTable) (from into : ℕ) (a b : Record) (g : Gro
         ]) in
         sum-agree (λ s. led x (body_at cells.heap s)) (share (weight b.number x) cells.heap.slots) a.members (λ s n.
         let p = has_place a.members s n in
-        sym (weighs b.number x (body_at cells.heap s) (belongs_there cells.heap b.number s (on_moved s (m.lie p.0 s p.1)))))
+        sym (weighs b.number x (body_at cells.heap s) (belongs_there cells.heap b.number s (on_moved s
+        (m.lie p.0 s p.1)))))
         ∙ all
 
     module _ (regions : RegionTable) (r : RecordsMerge t regions from into) (marks : Marks c a b cells) where
@@ -275,7 +295,12 @@ module _ (c : Table) (t : RegionTable) (from into : ℕ) (a b : Record) (g : Gro
               let y = sym (r.others k d f).0 ∙ e in
               let h = number_of t k z.number z y refl in
               let P : ℕ → Type 0 = λ n. HasNumber t k n in
-              inr ((λ n. d (g.numbers k from a.number (subst P n h) has_from)), (λ n. f (g.numbers k into b.number (subst P n h) has_into)), y)
+              inr (
+                (λ n. d (g.numbers k from a.number (subst P n h) has_from)),
+                (λ n. f (g.numbers k into b.number
+                    (subst P n h) has_into)),
+                y,
+              )
         ]
       ]
 
@@ -305,8 +330,14 @@ module _ (c : Table) (t : RegionTable) (from into : ℕ) (a b : Record) (g : Gro
           let off : v.0 ≢ from = not_from v.0 q d (number_of t v.0 q v.1 v.2 v.3) in
           elim (cases_eq v.0 into) [
             | inl e ↦
-                let same : b ≡ v.1 = one_record b v.1 (sym to ∙ sym (ap (record_at t) e) ∙ v.2) in
-                (into, grown, grown_at, ap (λ (z : Record). z.number) same ∙ v.3, ap (λ (z : Record). z.bridge) same ∙ v.4)
+                let same : b ≡ v.1 = one_record b v.1 (sym to ∙ sym (ap (record_at t) e) ∙ v.2) in (
+                  into,
+                  grown,
+                  grown_at,
+                  ap (λ (z : Record). z.number) same ∙ v.3,
+                  ap (λ (z : Record). z.bridge) same
+                      ∙ v.4,
+                )
             | inr e ↦ (v.0, v.1, (r.others v.0 off e).0 ∙ v.2, v.3, v.4)
           ]
 
@@ -327,10 +358,12 @@ module _ (c : Table) (t : RegionTable) (from into : ℕ) (a b : Record) (g : Gro
             once = λ i k s e f. elim (of_both b.members a.members i) [
               | inl u ↦ elim (of_both b.members a.members k) [
                 | inl v ↦ m.once i k s (sym u.0 ∙ e) (sym v.0 ∙ f)
-                | inr v ↦ absurd (apart (one_region c.heap s a.number b.number (n.lie v.0 s (sym v.2 ∙ f)) (m.lie i s (sym u.0 ∙ e))))
+                | inr v ↦ absurd (apart (one_region c.heap s a.number b.number (n.lie v.0 s (sym v.2
+                    ∙ f)) (m.lie i s (sym u.0 ∙ e))))
               ]
               | inr u ↦ elim (of_both b.members a.members k) [
-                | inl v ↦ absurd (apart (one_region c.heap s a.number b.number (n.lie u.0 s (sym u.2 ∙ e)) (m.lie k s (sym v.0 ∙ f))))
+                | inl v ↦ absurd (apart (one_region c.heap s a.number b.number (n.lie u.0 s (sym u.2
+                    ∙ e)) (m.lie k s (sym v.0 ∙ f))))
                 | inr v ↦ let q = n.once u.0 v.0 s (sym u.2 ∙ e) (sym v.2 ∙ f) in omega (arith, u.1, v.1, q)
               ]
             ];
@@ -340,7 +373,8 @@ module _ (c : Table) (t : RegionTable) (from into : ℕ) (a b : Record) (g : Gro
       grove_joined = record {
         numbers = λ k l q x y. g.numbers k l q (number_was k q x) (number_was l q y);
         members = λ k z e. elim (record_was k z e) [
-          | inl u ↦ let P : Record → Type 0 = λ y. Members cells.heap y.number y.members in subst P (sym u.1) members_both
+          | inl u ↦ let P : Record
+              → Type 0 = λ y. Members cells.heap y.number y.members in subst P (sym u.1) members_both
           | inr u ↦
               let m = g.members k z u.2 in
               record {
@@ -352,7 +386,8 @@ module _ (c : Table) (t : RegionTable) (from into : ℕ) (a b : Record) (g : Gro
         bridges = λ k s z e f. elim (record_was k z e) [
           | inl u ↦
               let P : Record → Type 0 = λ y. LiesIn cells.heap y.number s in
-              let own : LiesIn c.heap b.number s = g.bridges into s b to (sym (ap (λ (y : Record). y.bridge) u.1) ∙ f) in
+              let own : LiesIn c.heap b.number s = g.bridges into s b to (sym (ap (λ (y : Record). y.bridge) u.1)
+              ∙ f) in
               subst P (sym u.1) (on_other b.number s (λ q. apart (sym q)) own)
           | inr u ↦ on_other z.number s u.0 (g.bridges k s z u.2 f)
         ];
@@ -377,7 +412,8 @@ module _ (c : Table) (t : RegionTable) (from into : ℕ) (a b : Record) (g : Gro
               | inr y ↦ elim (g.fields a.number s k x y.1 lead) [
                 | inl u ↦ inl (frozen_on x u)
                 | inr u ↦ elim u [
-                  | inl v ↦ let L : ℕ → Type 0 = λ z. LiesIn cells.heap z x in inr (inl (subst L (sym y.0) (on_moved x v)))
+                  | inl v ↦ let L : ℕ → Type 0 = λ z. LiesIn cells.heap z x in inr (inl (subst L (sym y.0)
+                      (on_moved x v)))
                   | inr v ↦
                       let L : ℕ → Type 0 = λ z. LiesIn c.heap z x in
                       let d : v.0 ≢ p = λ e. leads_not s k x y.1 lead (subst L (e ∙ y.0) v.2) in

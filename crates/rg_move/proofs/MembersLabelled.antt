@@ -29,4 +29,5 @@ members_labelled l c r members cells m f s i =
 
 pub others_kept : (l : Label) (c : Table) (r : ℕ) (members : List ℕ) (cells : Table) → OwnsOnce c.heap r members
     → LabelledFirst l c members (length members) cells → (s : ℕ) → (LiesIn c.heap r s → ⊥) → IsSameCell c cells s
-others_kept l c r members cells o f s n = f.others s (λ j m q. let P : ℕ → Type 0 = λ v. LiesIn c.heap r v in n (subst P q (o.lie j m)))
+others_kept l c r members cells o f s n = f.others s (λ j m q. let P : ℕ
+    → Type 0 = λ v. LiesIn c.heap r v in n (subst P q (o.lie j m)))

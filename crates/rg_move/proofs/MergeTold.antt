@@ -12,7 +12,8 @@ use Rattle.rg_move.specs.Merged.{CanTake, CellsMove, OthersStay}
 use Rattle.rg_move.specs.Inner.Joins.{Merges}
 use Rattle.rg_move.proofs.GroveJoined.{grove_joined}
 
-module _ (c : Table) (t : RegionTable) (from into : ℕ) (cells : Table) (regions : RegionTable) (m : Merges c t from into cells regions) where
+module _ (c : Table) (t : RegionTable) (from into : ℕ) (cells : Table) (regions : RegionTable)
+    (m : Merges c t from into cells regions) where
   has_one : HasNumber t from m.one.number
   has_one = number_of t from m.one.number m.one m.at refl
 
@@ -31,4 +32,5 @@ module _ (c : Table) (t : RegionTable) (from into : ℕ) (cells : Table) (region
       (m.relabels.others s out, m.marks.kept s out, m.links s)
 
   pub grove_merged : Grove c t → Closed c.heap t from → CanTake c.heap t from into → Grove cells regions
-  grove_merged g o w = grove_joined c t from into m.one m.other g m.at m.to o w cells m.relabels regions m.records m.marks
+  grove_merged g o w = grove_joined c t from into m.one m.other g m.at m.to o w cells m.relabels regions m.records
+      m.marks

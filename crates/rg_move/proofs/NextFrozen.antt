@@ -1,5 +1,6 @@
 -- From one frozen region to the next, and the end (docs/architecture.md, "Freeze and merge").
-use Rattle.std.proofs.Common.{◌≡◌, ◌≢◌, ℕ, List, [], ◌∷◌, Option, Some, None, get_or, refl, ap, sym, ◌∙◌, subst, ◌⊎◌, inl, inr, option_map}
+use Rattle.std.proofs.Common.{◌≡◌, ◌≢◌, ℕ, List, [], ◌∷◌, Option, Some, None, get_or, refl, ap, sym, ◌∙◌, subst, ◌⊎◌}
+use Rattle.std.proofs.Common.{inl, inr, option_map}
 use Rattle.std.proofs.lemmas.Bool.{cases_eq}
 use Rattle.rg_base.specs.declared.object.Label.TheVariants.{Frozen}
 use Rattle.rg_base.specs.declared.value.Word.TheVariants.{Slot}
@@ -12,13 +13,16 @@ use Rattle.rg_regions.proofs.Callers.Told.{one_region, one_number, number_of, le
 use Rattle.rg_move.specs.Closed.{Closed, BelowKey}
 use Rattle.rg_move.specs.Frozen.{labelled, CellsFreeze, CellsStay, RecordsGo, RecordsStay}
 use Rattle.rg_move.specs.Inner.Freezes.{IsReady, Hardens, IsGone, Goes, Hardened, IsLeft, Freezing}
-use Rattle.rg_move.proofs.PartFrozen.{record_was, number_was, not_gone, lies_on, gone_or_here, same_here, fields_same, held_on, lay, in_table}
+use Rattle.rg_move.proofs.PartFrozen.{record_was, number_was, not_gone, lies_on, gone_or_here, same_here, fields_same}
+use Rattle.rg_move.proofs.PartFrozen.{held_on, lay, in_table}
 use Rattle.rg_move.proofs.PartFrozen.{parent_was}
 use Rattle.rg_move.proofs.GroveFrozen.{grove_frozen}
 
 -- before the first region
-pub freezing_begin : (c : Table) (t : RegionTable) (key : ℕ) (regions : RegionTable) → Closed c.heap t key → regions.records ≡ t.records
-    → regions.next ≡ t.next → ((k : ℕ) → k ≢ key → link_at regions k ≡ link_at t k) → Freezing c t key c regions (key ∷ [])
+pub freezing_begin : (c : Table) (t : RegionTable) (key : ℕ) (regions : RegionTable) → Closed c.heap t key
+    → regions.records ≡ t.records
+    → regions.next ≡ t.next → ((k : ℕ) → k ≢ key → link_at regions k ≡ link_at t k)
+    → Freezing c t key c regions (key ∷ [])
 freezing_begin c t key regions o same next links =
     let at : (k : ℕ) → record_at regions k ≡ record_at t k = λ k. same_at k in
     let none : (q : ℕ) → IsGone t regions q → ⊥ = λ q a.
@@ -53,8 +57,10 @@ freezing_begin c t key regions o same next links =
         records_are : (z : RegionTable) (rs : List (Option Record)) → z.records ≡ rs → z ≡ record z { records = rs }
         records_are z rs e = ap (λ ys. record z { records = ys }) e
 
-module _ (c : Table) (t : RegionTable) (key : ℕ) (cells : Table) (regions : RegionTable) (k : ℕ) (rest : List ℕ) (g : Grove c t)
-    (o : Closed c.heap t key) (i : Freezing c t key cells regions (k ∷ rest)) (rec : Record) (e : record_at regions k ≡ Some rec) where
+module _ (c : Table) (t : RegionTable) (key : ℕ) (cells : Table) (regions : RegionTable) (k : ℕ) (rest : List ℕ)
+    (g : Grove c t)
+    (o : Closed c.heap t key) (i : Freezing c t key cells regions (k ∷ rest)) (rec : Record)
+    (e : record_at regions k ≡ Some rec) where
   number_now : HasNumber regions k rec.number
   number_now = number_of regions k rec.number rec e refl
 
@@ -82,7 +88,8 @@ module _ (c : Table) (t : RegionTable) (key : ℕ) (cells : Table) (regions : Re
       elim (v.2) [
         | inl z ↦
             let P : ℕ → Type 0 = λ u. HasNumber t u q in
-            let n : q ≡ o.number = one_number t key q o.number (subst P z (number_was c t cells regions g i.hardened j q h)) o.has in
+            let n : q ≡ o.number = one_number t key q o.number (subst P z
+            (number_was c t cells regions g i.hardened j q h)) o.has in
             let L : ℕ → Type 0 = λ u. LiesIn c.heap u to in
             o.alone p s f to (λ u. d (u ∙ sym n)) a.0 lead (subst L n b)
         | inr z ↦
@@ -117,7 +124,8 @@ module _ (c : Table) (t : RegionTable) (key : ℕ) (cells : Table) (regions : Re
           once = u.once;
         };
         lead = λ p f s l x.
-            held_on c t cells regions g i.hardened s (led_held c t g rec.number p f s (was rec.number p l) (field_was p f s x));
+            held_on c t cells regions g i.hardened s (led_held c t g rec.number p f s (was rec.number p l)
+            (field_was p f s x));
         labels = in_table c t cells regions g i.hardened;
         free = λ j q s f to n h d l x y. unowned_left j q rec.number s f to (inr n) h (λ z. d (sym z)) l x y;
       }
@@ -134,7 +142,8 @@ module _ (c : Table) (t : RegionTable) (key : ℕ) (cells : Table) (regions : Re
 
     gone_back : (q : ℕ) → IsGone t new q → IsGone t regions q ⊎ (q ≡ rec.number)
     gone_back q a = elim (cases_eq a.0 k) [
-      | inl z ↦ let P : ℕ → Type 0 = λ u. HasNumber t u q in inr (one_number t k q rec.number (subst P z a.1) number_first)
+      | inl z ↦ let P : ℕ → Type 0 = λ u. HasNumber t u q in inr (one_number t k q rec.number (subst P z a.1)
+          number_first)
       | inr d ↦ inl (a.0, a.1, sym (hand.stay a.0 d) ∙ a.2)
     ]
 
@@ -165,7 +174,8 @@ module _ (c : Table) (t : RegionTable) (key : ℕ) (cells : Table) (regions : Re
     ]
 
     -- what is left is below the first of all
-    left_below : (j q : ℕ) → HasNumber t j q → ((j ≡ key) ⊎ ((p : ℕ) × Parent c.heap p q × BelowKey c.heap t key p)) → BelowKey c.heap t key q
+    left_below : (j q : ℕ) → HasNumber t j q → ((j ≡ key) ⊎ ((p : ℕ) × Parent c.heap p q × BelowKey c.heap t key p))
+        → BelowKey c.heap t key q
     left_below j q h v = elim v [
       | inl z ↦ let P : ℕ → Type 0 = λ u. HasNumber t u q in (q, subst P z h, inl refl)
       | inr z ↦
@@ -204,10 +214,21 @@ module _ (c : Table) (t : RegionTable) (key : ℕ) (cells : Table) (regions : Re
     left_on : (j : ℕ) → Has keys j → IsLeft c.heap t new key j
     left_on j m = elim (hand.each j m) [
       | inl n ↦
-          let v = i.left j (inr n) in
-          (v.0, number_on j v.0 (not_first j m) v.1, elim (v.2) [ inl z ↦ inl z | inr z ↦ inr (z.0, z.1, gone_on z.0 z.2) ])
-      | inr n ↦
-          (n.0, number_on j n.0 (not_first j m) n.1, inr (rec.number, parent_was c t cells regions g i.hardened rec.number n.0 n.2, gone_first))
+          let v = i.left j (inr n) in (
+            v.0,
+            number_on j v.0 (not_first j m) v.1,
+            elim (v.2) [
+              | inl z ↦ inl z
+              | inr z ↦ inr
+                  (z.0, z.1, gone_on z.0 z.2)
+            ],
+          )
+      | inr n ↦ (
+        n.0,
+        number_on j n.0 (not_first j m) n.1,
+        inr
+            (rec.number, parent_was c t cells regions g i.hardened rec.number n.0 n.2, gone_first),
+      )
     ]
 
     hardened_on : Hardened c t done new
@@ -220,7 +241,8 @@ module _ (c : Table) (t : RegionTable) (key : ℕ) (cells : Table) (regions : Re
         | inl b ↦
             let f = i.hardened.froze q s b l in
             let G : ℕ → Type 0 = λ u. IsGone t regions u in
-            let off : LiesIn cells.heap rec.number s → ⊥ = λ y. here (subst G (one_region c.heap s q rec.number l (was rec.number s y)) b) in
+            let off : LiesIn cells.heap rec.number s
+            → ⊥ = λ y. here (subst G (one_region c.heap s q rec.number l (was rec.number s y)) b) in
             let x = hard.others s off in
             (x.0 ∙ f.0, x.1 ∙ f.1, x.2 ∙ f.2)
         | inr z ↦
@@ -250,17 +272,20 @@ module _ (c : Table) (t : RegionTable) (key : ℕ) (cells : Table) (regions : Re
         | inr z ↦ let P : ℕ → Type 0 = λ u. Parent c.heap u q in child_goes q (subst P z a)
       ];
       links = λ j n.
-          let d : j ≢ k = λ z. let P : ℕ → Type 0 = λ u. HasNumber t u rec.number in n rec.number first_below (subst P (sym z) number_first) in
+          let d : j ≢ k = λ z. let P : ℕ
+          → Type 0 = λ u. HasNumber t u rec.number in n rec.number first_below (subst P (sym z) number_first) in
           let m : Has keys j → ⊥ = λ y.
           let v = left_on j y in
           let h : HasNumber regions j v.0 = ap (option_map (λ (z : Record). z.number)) (sym (hand.stay j d)) ∙ v.1 in
           let has = number_was c t cells regions g i.hardened j v.0 h in
-          n v.0 (left_below j v.0 has (elim (v.2) [ inl z ↦ inl z | inr z ↦ inr (z.0, z.1, gone_below z.0 z.2) ])) has in
+          n v.0 (left_below j v.0 has (elim (v.2) [ inl z ↦ inl z | inr z ↦ inr (z.0, z.1, gone_below z.0 z.2) ]))
+          has in
           hand.apart j d m ∙ i.links j n;
     }
 
 -- no key is left
-module _ (c : Table) (t : RegionTable) (key : ℕ) (cells : Table) (regions : RegionTable) (g : Grove c t) (i : Freezing c t key cells regions []) where
+module _ (c : Table) (t : RegionTable) (key : ℕ) (cells : Table) (regions : RegionTable) (g : Grove c t)
+    (i : Freezing c t key cells regions []) where
   goes_gone : (q : ℕ) → Goes t regions [] q → IsGone t regions q
   goes_gone q a = elim a [ inl b ↦ b | inr b ↦ absurd b.2 ]
 
@@ -297,7 +322,8 @@ module _ (c : Table) (t : RegionTable) (key : ℕ) (cells : Table) (regions : Re
       none_before : (k : ℕ) → ((q : ℕ) → BelowKey c.heap t key q → HasNumber t k q → ⊥) → record_at regions k ≡ None
           → (o : Option Record) → record_at t k ≡ o → record_at t k ≡ None
       none_before k n e None f = f
-      none_before k n e (Some z) f = let h = number_of t k z.number z f refl in absurd (n z.number (i.below z.number (k, h, e)) h)
+      none_before k n e (Some z) f = let h = number_of t k z.number z f refl in absurd (n z.number (i.below z.number
+          (k, h, e)) h)
 
   pub grove_kept : Grove cells regions
   grove_kept = grove_frozen c t cells regions g i.hardened child_gone

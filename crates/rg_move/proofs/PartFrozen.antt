@@ -15,7 +15,8 @@ use Rattle.rg_move.specs.Inner.Freezes.{IsGone, Hardened}
 
 -- a body with another label has its fields, and is there where it was
 pub same_fields : (l : Label) (o : Option Body) (k : ℕ)
-    → option_and_then (λ (b : Body). slice_get b.fields k) (labelled l o) ≡ option_and_then (λ (b : Body). slice_get b.fields k) o
+    → option_and_then (λ (b : Body). slice_get b.fields k) (labelled l o) ≡ option_and_then (λ
+    (b : Body). slice_get b.fields k) o
 same_fields l None k = refl
 same_fields l (Some b) k = refl
 
@@ -49,7 +50,8 @@ some_region h s = by_body (body_at h s)
     by_body None = inr (λ q e. cc)
     by_body (Some b) = by_label b.label
 
-module _ (c : Table) (t : RegionTable) (cells : Table) (regions : RegionTable) (g : Grove c t) (w : Hardened c t cells regions) where
+module _ (c : Table) (t : RegionTable) (cells : Table) (regions : RegionTable) (g : Grove c t)
+    (w : Hardened c t cells regions) where
   -- a record that is left was there
   pub record_was : (k : ℕ) (z : Record) → record_at regions k ≡ Some z → record_at t k ≡ Some z
   record_was k z e = elim (w.records k) [ inl q ↦ sym q ∙ e | inr q ↦ let v : None ≡ Some z = sym q ∙ e in cc ]
@@ -61,7 +63,8 @@ module _ (c : Table) (t : RegionTable) (cells : Table) (regions : RegionTable) (
   pub not_gone : (k q : ℕ) → HasNumber regions k q → IsGone t regions q → ⊥
   not_gone k q h a =
       let e : a.0 ≡ k = g.numbers a.0 k q a.1 (number_was k q h) in
-      let v : None ≡ Some q = sym (ap (option_map (λ (z : Record). z.number)) (ap (record_at regions) (sym e) ∙ a.2)) ∙ h in
+      let v : None ≡ Some q = sym (ap (option_map (λ (z : Record). z.number)) (ap (record_at regions) (sym e) ∙ a.2))
+      ∙ h in
       cc
 
   -- a key of the table is left, or its region has gone
@@ -73,7 +76,8 @@ module _ (c : Table) (t : RegionTable) (cells : Table) (regions : RegionTable) (
 
   -- a cell of a region that hasn't gone is as it was
   pub same_here : (q s : ℕ) → (IsGone t regions q → ⊥) → LiesIn c.heap q s → IsSameCell c cells s
-  same_here q s n l = w.others s (λ p a i. let P : ℕ → Type 0 = λ z. IsGone t regions z in n (subst P (one_region c.heap s p q i l) a))
+  same_here q s n l = w.others s (λ p a i. let P : ℕ
+      → Type 0 = λ z. IsGone t regions z in n (subst P (one_region c.heap s p q i l) a))
 
   pub lies_on : (q s : ℕ) → (IsGone t regions q → ⊥) → LiesIn c.heap q s → LiesIn cells.heap q s
   lies_on q s n l = ap (option_map (λ (b : Body). b.label)) (same_here q s n l).0 ∙ l
@@ -110,7 +114,8 @@ module _ (c : Table) (t : RegionTable) (cells : Table) (regions : RegionTable) (
 
   pub held_on : (s : ℕ) → IsHeld c.heap s → IsHeld cells.heap s
   held_on s e = elim (either s) [
-    | inl a ↦ let P : Option Body → Type 0 = λ o. IsSome o in subst P (sym a.3.0) (same_held Frozen (body_at c.heap s) e)
+    | inl a ↦ let P : Option Body
+        → Type 0 = λ o. IsSome o in subst P (sym a.3.0) (same_held Frozen (body_at c.heap s) e)
     | inr a ↦ let P : Option Body → Type 0 = λ o. IsSome o in subst P (sym a.1.0) e
   ]
 

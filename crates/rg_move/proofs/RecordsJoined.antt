@@ -1,5 +1,6 @@
 -- The records of a region that goes into another one (docs/architecture.md, "Freeze and merge").
-use Rattle.std.proofs.Common.{◌≡◌, ◌≢◌, ℕ, ◌-◌, ◌≤◌, List, ◌++◌, length, Option, Some, None, get_or, ap, sym, ◌∙◌, subst, arith}
+use Rattle.std.proofs.Common.{◌≡◌, ◌≢◌, ℕ, ◌-◌, ◌≤◌, List, ◌++◌, length, Option, Some, None, get_or, ap, sym, ◌∙◌}
+use Rattle.std.proofs.Common.{subst, arith}
 use Rattle.std.proofs.lemmas.List.{get_or-set_other, take_all}
 use Rattle.rg_regions.specs.Table.{Record, RegionTable, record_at, link_at, with_room, Roomier, removed}
 use Rattle.rg_regions.proofs.Callers.Told.{one_record}
@@ -26,7 +27,8 @@ module _ (t roomy : RegionTable) (from into more : ℕ) (a b : Record) (d : from
     room = let P : ℕ → Type 0 = λ n. n ≤ r.0 in subst P e r.1;
   }
 
-  module _ (full new : RegionTable) (p : PushedFirst roomy from into a (with_room r.0 b) (length a.members) full) (is : new ≡ removed full from) where
+  module _ (full new : RegionTable) (p : PushedFirst roomy from into a (with_room r.0 b) (length a.members) full)
+      (is : new ≡ removed full from) where
     pub numbers_kept : new.next ≡ t.next
     numbers_kept =
         ap (λ (z : RegionTable). z.next) is ∙ p.next ∙ ap (λ (z : RegionTable). z.next) r.2

@@ -16,7 +16,8 @@ labelled l b = option_map (λ (b : Body). record b { label = l }) b
 -- a slot has its cell with another label, and mark 0; its link stays
 abbrev pub IsLabelled : Label → (old new : Table) → (slot : ℕ) → Type 0
 IsLabelled l old new s =
-    (body_at new.heap s ≡ labelled l (body_at old.heap s)) × (mark_at new s ≡ 0) × (cell_link_at new s ≡ cell_link_at old s)
+    (body_at new.heap s ≡ labelled l (body_at old.heap s)) × (mark_at new s ≡ 0) ×
+    (cell_link_at new s ≡ cell_link_at old s)
 
 -- the cells of the region and of those beneath it are frozen
 abbrev pub CellsFreeze : (old : Table) → RegionTable → (new : Table) → (key : ℕ) → Type 0
@@ -24,7 +25,8 @@ CellsFreeze old t new key = (q s : ℕ) → BelowKey old.heap t key q → LiesIn
 
 -- every slot without a cell of such a region stays
 abbrev pub CellsStay : (old : Table) → RegionTable → (new : Table) → (key : ℕ) → Type 0
-CellsStay old t new key = (s : ℕ) → ((q : ℕ) → BelowKey old.heap t key q → LiesIn old.heap q s → ⊥) → IsSameCell old new s
+CellsStay old t new key = (s : ℕ) → ((q : ℕ) → BelowKey old.heap t key q → LiesIn old.heap q s → ⊥)
+    → IsSameCell old new s
 
 -- the records of the region and of those beneath it are gone
 abbrev pub RecordsGo : Heap → (old new : RegionTable) → (key : ℕ) → Type 0

@@ -12,6 +12,7 @@ ghost use Rattle.rg_move.specs.Inner.Moves.{Counts};
 
 use rg_base::{Label, Manager, Word};
 use rg_cells::Cells;
+use rg_regions::added;
 
 /// A field of a region's cell is counted, where it leads to a cell of the region.
 fn count_word(cells: &mut Cells, region: u64, w: Word)
@@ -28,8 +29,7 @@ fn count_word(cells: &mut Cells, region: u64, w: Word)
     if number != region {
         return;
     }
-    let mark = cells.mark(to);
-    cells.set_mark(to, mark + 1);
+    added(cells, to);
 }
 
 /// The fields of a cell are counted.

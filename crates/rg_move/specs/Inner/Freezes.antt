@@ -11,7 +11,7 @@ use Rattle.rg_regions.specs.Same.{IsSameCell}
 use Rattle.rg_move.specs.Closed.{BelowKey}
 use Rattle.rg_move.specs.Frozen.{IsLabelled}
 
--- what the first of some chained regions needs to be frozen: the parts of the forest that the search for owners asks for
+-- what the first of some chained regions needs to be frozen: the parts of the forest that the owner search asks for
 pub record IsReady (h : Heap) (t : RegionTable) (key : ℕ) (rec : Record) (rest : List ℕ) : Type 0 where
   pub at : record_at t key ≡ Some rec
   pub chain : Chained t.links (Some key) (key ∷ rest)
@@ -57,7 +57,8 @@ IsLeft h t regions key k =
     (q : ℕ) × HasNumber regions k q × ((k ≡ key) ⊎ ((p : ℕ) × Parent h p q × IsGone t regions p))
 
 -- of the regions that go, some have gone, and those below one of the keys are left
-pub record Freezing (c : Table) (t : RegionTable) (key : ℕ) (cells : Table) (regions : RegionTable) (keys : List ℕ) : Type 0 where
+pub record Freezing (c : Table) (t : RegionTable) (key : ℕ) (cells : Table) (regions : RegionTable) (keys : List ℕ)
+    : Type 0 where
   pub hardened : Hardened c t cells regions
   pub below : (q : ℕ) → IsGone t regions q → BelowKey c.heap t key q
   pub left : (k : ℕ) → Has keys k → IsLeft c.heap t regions key k

@@ -1,5 +1,6 @@
 -- Members that move to another record, and fields that are counted (docs/architecture.md, "Freeze and merge").
-use Rattle.std.specs.Prelude.{◌≡◌, ◌≢◌, ℕ, ◌+◌, ◌-◌, ◌<◌, ◌≤◌, ◌^◌, ◌++◌, List, length, Some, None, Option, cond, take, sum_by, count_by}
+use Rattle.std.specs.Prelude.{◌≡◌, ◌≢◌, ℕ, ◌+◌, ◌-◌, ◌<◌, ◌≤◌, ◌^◌, ◌++◌, List, length, Some, None, Option, cond}
+use Rattle.std.specs.Prelude.{take, sum_by, count_by}
 use Rattle.rg_base.specs.declared.words.Manager.{Manager}
 use Rattle.rg_base.specs.declared.words.Manager.TheVariants.{Count}
 use Rattle.rg_cells.specs.declared.cell.Body.{Body}

@@ -5,12 +5,14 @@ use Rattle.rg_move.proofs.counting.count_fields.Goals as goal
 
 pub count_word-requires-clause-room : goal.count_word-requires-clause-room
 count_word-requires-clause-room c =
-    field_room c.args.region c.args.slot c.loop-k.k c.args.cells.now c.loop-k.cells c.field-w.result c.field-w.ensures c.requires.room
+    field_room c.args.region c.args.slot c.loop-k.k c.args.cells.now c.loop-k.cells c.field-w.result c.field-w.ensures
+    c.requires.room
     c.loop-k.invariant
 
 pub loop-k-preserved : goal.loop-k-preserved
 loop-k-preserved c =
-    field_grown c.args.region c.args.slot c.loop-k.k c.args.cells.now c.loop-k.cells c.count_word.new.cells c.field-w.result c.field-w.ensures
+    field_grown c.args.region c.args.slot c.loop-k.k c.args.cells.now c.loop-k.cells c.count_word.new.cells
+    c.field-w.result c.field-w.ensures
     c.loop-k.invariant c.count_word.ensures
 
 pub returns : goal.returns

@@ -1,4 +1,5 @@
-use Rattle.std.proofs.Common.{◌≡◌, ℕ, ◌+◌, List, length, Option, None, Some, get_or, ap, sym, ◌∙◌, refl, subst, count_by, is_some}
+use Rattle.std.proofs.Common.{◌≡◌, ℕ, ◌+◌, List, length, Option, None, Some, get_or, ap, sym, ◌∙◌, refl, subst}
+use Rattle.std.proofs.Common.{count_by, is_some}
 use Rattle.rg_base.specs.declared.object.Label.TheVariants.{Frozen}
 use Rattle.rg_regions.specs.Table.{Record, RegionTable, HasNumber, Chained}
 use Rattle.rg_regions.specs.Chains.{LeadsToHeld, OwnsOnce}
@@ -12,7 +13,8 @@ use Rattle.rg_move.proofs.MembersLabelled.{members_held, members_differ, members
 use Rattle.rg_move.proofs.freezing.freeze_first.Goals as goal
 
 -- the number that is read
-number_read : (t : RegionTable) (key n : ℕ) (rec : Record) → get_or t.records key None ≡ Some rec → HasNumber t key n → rec.number ≡ n
+number_read : (t : RegionTable) (key n : ℕ) (rec : Record) → get_or t.records key None ≡ Some rec → HasNumber t key n
+    → rec.number ≡ n
 number_read t key n rec at has = one_number t key rec.number n (number_of t key rec.number rec at refl) has
 
 pub chain_owned-next-requires : goal.chain_owned-next-requires
@@ -31,7 +33,8 @@ members_now c =
     let old = c.args.regions.now in
     let rec = c.requires.0 in
     let s = c.chain_owned-next.ensures rec c.requires.2.at in
-    members_read old c.chain_owned-next.new.regions c.args.key rec c.members.result.now s.records c.requires.2.at c.members.ensures
+    members_read old c.chain_owned-next.new.regions c.args.key rec c.members.result.now s.records c.requires.2.at
+    c.members.ensures
 
 pub label_members-requires-clause-held : goal.label_members-requires-clause-held
 label_members-requires-clause-held c =

@@ -1,4 +1,5 @@
-use Rattle.std.proofs.Common.{◌≡◌, ◌<◌, ◌^◌, ℕ, List, length, Option, Some, ap, sym, ◌∙◌, subst, sum_by, refl, get_or, option_map}
+use Rattle.std.proofs.Common.{◌≡◌, ◌<◌, ◌^◌, ℕ, List, length, Option, Some, ap, sym, ◌∙◌, subst, sum_by, refl, get_or}
+use Rattle.std.proofs.Common.{option_map}
 use Rattle.rg_base.specs.declared.object.Label.TheVariants.{Region}
 use Rattle.rg_base.specs.declared.words.Manager.{Manager}
 use Rattle.rg_cells.specs.Table.{Table, body_at, width}
@@ -94,15 +95,19 @@ count_members-requires c =
     let M : List ℕ → Type 0 = λ z. (j : ℕ) → j < length z → LiesIn mid.heap n (get_or z j 0) in
     let H : ℕ → Type 0 = λ z. LeadsToHeld mid.heap z in
     record {
-      lie = subst M now (subst L b.2 (lie_now cells old from into a.0 b.0 c.requires.grove a.1 b.1 c.requires.closed c.requires.into mid l));
-      lead = subst H b.2 (leads_now cells old from into a.0 b.0 c.requires.grove a.1 b.1 c.requires.closed c.requires.into mid l);
+      lie = subst M now (subst L b.2
+          (lie_now cells old from into a.0 b.0 c.requires.grove a.1 b.1 c.requires.closed c.requires.into mid l));
+      lead = subst H b.2 (leads_now cells old from into a.0 b.0 c.requires.grove a.1 b.1 c.requires.closed
+          c.requires.into mid l);
       room = λ m.
           let first = same_members (record_at old from) a.0 c.members.result.now a.1 c.members.ensures in
           let F : List ℕ → Type 0 = λ z. sum_by (λ s. width (body_at cells.heap s)) z < 2 ^ 64 in
           let few = subst F (sym first) (c.if-not-can_count.ensures m) in
           let R : ℕ → Type 0 = λ z. HasRoomFor z mid (led_by mid.heap a.0.members) in
           let T : List ℕ → Type 0 = λ z. HasRoomFor n mid (led_by mid.heap z) in
-          subst T now (subst R b.2 (room_now cells old from into a.0 b.0 c.requires.grove a.1 b.1 c.requires.closed c.requires.into mid l few));
+          subst T now (subst R b.2
+          (room_now cells old from into a.0 b.0 c.requires.grove a.1 b.1 c.requires.closed c.requires.into mid l
+          few));
     }
 
 pub move_members-requires : goal.move_members-requires
@@ -134,7 +139,8 @@ remove-requires c =
     rw (p.others from c.requires.into.differ ∙ on) refl
 
 -- all that was done
-done : (c : goal.After-remove) → Merges c.args.cells.now c.args.regions.now c.args.from c.args.into c.count_members.new.cells c.remove.new.self
+done : (c : goal.After-remove)
+    → Merges c.args.cells.now c.args.regions.now c.args.from c.args.into c.count_members.new.cells c.remove.new.self
 done c =
     let old = c.args.regions.now in
     let cells = c.args.cells.now in
@@ -155,29 +161,35 @@ done c =
     let now = same_members (record_at roomy from) a.0 c.members-4.result.now on c.members-4.ensures in
     let read = manager_read (record_at old into) b.0 c.manager-manager.result b.1 c.manager-manager.ensures in
     let new = c.count_members.new.cells in
-    let w = counted_by b.0.manager c.manager-manager.result b.0.number c.number-number.result a.0.members c.members-4.result.now
+    let w = counted_by b.0.manager c.manager-manager.result b.0.number c.number-number.result a.0.members
+    c.members-4.result.now
     mid new read b.2 now c.count_members.ensures in
     record {
       one = a.0;
       other = b.0;
       at = a.1;
       to = b.1;
-      relabels = relabels cells old from into a.0 b.0 c.requires.grove a.1 b.1 c.requires.closed c.requires.into mid l new w;
+      relabels = relabels cells old from into a.0 b.0 c.requires.grove a.1 b.1 c.requires.closed c.requires.into mid l
+          new w;
       marks = marks cells old from into a.0 b.0 c.requires.grove a.1 b.1 c.requires.closed c.requires.into mid l new w;
-      links = links_kept cells old from into a.0 b.0 c.requires.grove a.1 b.1 c.requires.closed c.requires.into mid l new w;
-      records = records_merge old roomy from into more a.0 b.0 c.requires.into.differ a.1 b.1 r c.move_members.new.regions c.remove.new.self p c.remove.ensures.gone;
+      links = links_kept cells old from into a.0 b.0 c.requires.grove a.1 b.1 c.requires.closed c.requires.into mid l
+          new w;
+      records = records_merge old roomy from into more a.0 b.0 c.requires.into.differ a.1 b.1 r
+          c.move_members.new.regions c.remove.new.self p c.remove.ensures.gone;
     }
 
 pub returns-clause-moved : goal.returns-clause-moved
 returns-clause-moved c =
-    cells_move c.args.cells.now c.args.regions.now c.args.from c.args.into c.count_members.new.cells c.remove.new.self (done c)
+    cells_move c.args.cells.now c.args.regions.now c.args.from c.args.into c.count_members.new.cells c.remove.new.self
+    (done c)
 
 pub returns-clause-merged : goal.returns-clause-merged
 returns-clause-merged c = (done c).records
 
 pub returns-clause-cells : goal.returns-clause-cells
 returns-clause-cells c =
-    others_stay c.args.cells.now c.args.regions.now c.args.from c.args.into c.count_members.new.cells c.remove.new.self (done c)
+    others_stay c.args.cells.now c.args.regions.now c.args.from c.args.into c.count_members.new.cells c.remove.new.self
+    (done c)
 
 pub returns-clause-numbers : goal.returns-clause-numbers
 returns-clause-numbers c =
@@ -192,9 +204,11 @@ returns-clause-numbers c =
     let on = from_roomy old roomy from into more a.0 b.0 c.requires.into.differ a.1 b.1 r in
     let in_roomy = into_roomy old roomy from into more a.0 b.0 c.requires.into.differ a.1 b.1 r in
     let p = c.move_members.ensures a.0 _ on in_roomy in
-    numbers_kept old roomy from into more a.0 b.0 c.requires.into.differ a.1 b.1 r c.move_members.new.regions c.remove.new.self p c.remove.ensures.gone
+    numbers_kept old roomy from into more a.0 b.0 c.requires.into.differ a.1 b.1 r c.move_members.new.regions
+    c.remove.new.self p c.remove.ensures.gone
 
 pub returns-clause-grove : goal.returns-clause-grove
 returns-clause-grove c =
-    grove_merged c.args.cells.now c.args.regions.now c.args.from c.args.into c.count_members.new.cells c.remove.new.self (done c)
+    grove_merged c.args.cells.now c.args.regions.now c.args.from c.args.into c.count_members.new.cells
+    c.remove.new.self (done c)
     c.requires.grove c.requires.closed c.requires.into

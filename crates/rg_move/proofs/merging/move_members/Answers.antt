@@ -15,9 +15,16 @@ bounds-members-place c =
     let w = c.requires in
     let old = c.args.regions.now in
     let p = c.loop-place.invariant w.one w.other w.at w.to in
-    let end = same_members (record_at old c.args.from) w.one c.members-place-end.result.now w.at c.members-place-end.ensures in
-    let there : c.loop-place.place < length w.one.members = omega (arith, ap (length {A = ℕ}) end, c.loop-place-test.true) in
-    let now = same_members (record_at c.loop-place.regions c.args.from) w.one c.members.result.now (p.others c.args.from w.differ ∙ w.at) c.members.ensures in
+    let end = same_members (record_at old c.args.from)
+    w.one c.members-place-end.result.now w.at c.members-place-end.ensures in
+    let there : c.loop-place.place < length w.one.members = omega (
+      arith,
+      ap (length {A = ℕ})
+          end,
+      c.loop-place-test.true,
+    ) in
+    let now = same_members (record_at c.loop-place.regions c.args.from) w.one c.members.result.now
+    (p.others c.args.from w.differ ∙ w.at) c.members.ensures in
     omega (arith, ap (length {A = ℕ}) now, there)
 
 pub push_member-requires : goal.push_member-requires
@@ -25,8 +32,14 @@ push_member-requires c =
     let w = c.requires in
     let old = c.args.regions.now in
     let p = c.loop-place.invariant w.one w.other w.at w.to in
-    let end = same_members (record_at old c.args.from) w.one c.members-place-end.result.now w.at c.members-place-end.ensures in
-    let there : c.loop-place.place < length w.one.members = omega (arith, ap (length {A = ℕ}) end, c.loop-place-test.true) in
+    let end = same_members (record_at old c.args.from)
+    w.one c.members-place-end.result.now w.at c.members-place-end.ensures in
+    let there : c.loop-place.place < length w.one.members = omega (
+      arith,
+      ap (length {A = ℕ})
+          end,
+      c.loop-place-test.true,
+    ) in
     (_, p.pushed, omega (arith, there, w.room))
 
 pub loop-place-preserved : goal.loop-place-preserved
@@ -34,19 +47,30 @@ loop-place-preserved c = λ a b e f.
     let w = c.requires in
     let old = c.args.regions.now in
     let p = c.loop-place.invariant w.one w.other w.at w.to in
-    let end = same_members (record_at old c.args.from) w.one c.members-place-end.result.now w.at c.members-place-end.ensures in
-    let there : c.loop-place.place < length w.one.members = omega (arith, ap (length {A = ℕ}) end, c.loop-place-test.true) in
-    let now = same_members (record_at c.loop-place.regions c.args.from) w.one c.members.result.now (p.others c.args.from w.differ ∙ w.at) c.members.ensures in
-    let G : Record → Type 0 = λ z. PushedFirst c.args.regions.now c.args.from c.args.into z b (c.loop-place.place + 1) c.push_member.new.self in
-    let H : Record → Type 0 = λ z. PushedFirst c.args.regions.now c.args.from c.args.into w.one z (c.loop-place.place + 1) c.push_member.new.self in
+    let end = same_members (record_at old c.args.from)
+    w.one c.members-place-end.result.now w.at c.members-place-end.ensures in
+    let there : c.loop-place.place < length w.one.members = omega (
+      arith,
+      ap (length {A = ℕ})
+          end,
+      c.loop-place-test.true,
+    ) in
+    let now = same_members (record_at c.loop-place.regions c.args.from) w.one c.members.result.now
+    (p.others c.args.from w.differ ∙ w.at) c.members.ensures in
+    let G : Record → Type 0 = λ z. PushedFirst c.args.regions.now c.args.from c.args.into z b (c.loop-place.place + 1)
+    c.push_member.new.self in
+    let H : Record → Type 0 = λ z. PushedFirst c.args.regions.now c.args.from c.args.into w.one z
+    (c.loop-place.place + 1) c.push_member.new.self in
     subst G (one_record w.one a (sym w.at ∙ e)) (subst H (one_record w.other b (sym w.to ∙ f))
-    (pushed_more c.args.regions.now c.loop-place.regions c.push_member.new.self c.args.from c.args.into w.one w.other c.loop-place.place
+    (pushed_more c.args.regions.now c.loop-place.regions c.push_member.new.self c.args.from c.args.into w.one w.other
+    c.loop-place.place
     (get_or c.members.result.now c.loop-place.place 0) there (ap (λ (z : List ℕ). get_or z c.loop-place.place 0) now)
     p c.push_member.ensures))
 
 pub returns : goal.returns
 returns c = λ a b e f.
-    let end = same_members (record_at c.args.regions.now c.args.from) a c.members-place-end.result.now e c.members-place-end.ensures in
+    let end = same_members (record_at c.args.regions.now c.args.from)
+    a c.members-place-end.result.now e c.members-place-end.ensures in
     let all : c.loop-place.place ≡ length a.members =
     omega (arith, ap (length {A = ℕ}) end, c.loop-place-test.false, c.loop-place.auto.place-end) in
     let G : ℕ → Type 0 = λ n. PushedFirst c.args.regions.now c.args.from c.args.into a b n c.loop-place.regions in
