@@ -8,4 +8,5 @@ mod OwnedChained
 mod Ended
 mod Left
 mod Orphaned
+mod Moved
 pub mod Callers

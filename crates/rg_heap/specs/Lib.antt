@@ -5,4 +5,5 @@ pub mod Writes
 pub mod Ends
 pub mod Opened
 pub mod Collects
+pub mod Moves
 pub mod Inner

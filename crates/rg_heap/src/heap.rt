@@ -18,6 +18,7 @@ ghost use Rattle.rg_heap.specs.Ends.{OnRegion, OnSlot, Released, top_temps};
 ghost use Rattle.rg_regions.specs.Collection.{AllHeld, TempsLeadToHeld, WordsLeadToHeld};
 ghost use Rattle.rg_regions.specs.Collection.{OfRegion, region_fields, roots_of};
 ghost use Rattle.rg_heap.specs.Collects.{CollectsBy};
+ghost use Rattle.rg_heap.specs.Moves.{BridgeOrNil, CanMove, Freezes, Merges, NotBeneath};
 ghost use Rattle.rg_heap.specs.Answers.{CanRead, Reads, AllLead, Shows, end_numbers, Tells};
 ghost use Rattle.rg_heap.specs.Answers.{LeadsIntoClosed};
 
@@ -25,6 +26,7 @@ use crate::answers::{Active, Collected, Refusal};
 use crate::collecting::collect_by;
 use crate::ending::{end_temps, release_one};
 use crate::making::{make_bridge, make_in};
+use crate::moving::{freeze_one, merge_into};
 use crate::reading::{region_of, vals};
 use crate::writing::write_field;
 use rg_base::{EndNumbers, Label, Manager, Memory, Place, Seen, Steps, Trap, Word};
@@ -257,6 +259,56 @@ impl Heap {
             unreachable!();
         };
         release_one(&mut self.cells, &mut self.regions, key);
+    }
+
+    /// Freezes the region that a word owns, and all beneath it; answers the slot of the bridge.
+    /// `Nil` comes exactly at nil, and changes nothing.
+    pub fn freeze(&mut self, at: Word) -> Result<usize, Trap>
+        requires { CanMove self.old.cells.heap self.old.regions at }
+        ensures slot { BridgeOrNil at result }
+        ensures freezes { OnSlot at (λ slot. OnRegion self.old slot (λ key number.
+            Freezes self.old self.new key)) }
+        ensures nil { OnErr result (self.new ≡ self.old) }
+    {
+        let slot = match at {
+            Word::Nil => return Err(Trap::Nil),
+            Word::Int(_) | Word::Bool(_) => unreachable!(),
+            Word::Slot(slot) => slot,
+        };
+        let Some(key) = region_of(&self.cells, &self.regions, slot) else {
+            unreachable!();
+        };
+        freeze_one(&mut self.cells, &mut self.regions, key);
+        Ok(slot)
+    }
+
+    /// Merges the region that a word owns into the active one; answers the slot of its bridge.
+    /// `Nil` comes exactly at nil. What is refused changes nothing.
+    pub fn merge(&mut self, frames: &Frames, at: Word) -> Result<usize, Refusal>
+        requires owned { CanMove self.old.cells.heap self.old.regions at }
+        requires window { 0 < length frames.now.windows }
+        requires key { OnTop frames.now (λ top. IsKey self.old.regions top.region) }
+        requires apart { OnSlot at (λ slot. OnTop frames.now (λ top.
+            NotBeneath self.old slot top.region)) }
+        ensures nil { result ≡ Err Refusal.Nil ↔ at ≡ Word.Nil }
+        ensures slot { IfOk result (λ slot. at ≡ Word.Slot slot) }
+        ensures merges { IfOk result (λ slot. OnTop frames.now (λ top.
+            OnRegion self.old slot (λ key number. Merges self.old self.new key top.region))) }
+        ensures err { OnErr result (self.new ≡ self.old) }
+    {
+        let slot = match at {
+            Word::Nil => return Err(Refusal::Nil),
+            Word::Int(_) | Word::Bool(_) => unreachable!(),
+            Word::Slot(slot) => slot,
+        };
+        let Some(key) = region_of(&self.cells, &self.regions, slot) else {
+            unreachable!();
+        };
+        let into = frames.top().region;
+        let Ok(()) = merge_into(&mut self.cells, &mut self.regions, key, into) else {
+            return Err(Refusal::Memory);
+        };
+        Ok(slot)
     }
 
     /// Collects the active region by its manager, and releases the regions that were owned by what

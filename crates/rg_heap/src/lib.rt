@@ -8,6 +8,7 @@ mod collecting;
 mod ending;
 mod heap;
 mod making;
+mod moving;
 mod reading;
 mod writing;
 
