@@ -1,16 +1,16 @@
 -- Regions that are frozen or merged: cells have the fields that they had (docs/architecture.md, "The heap").
-use Rattle.std.proofs.Common.{◌≡◌, ◌≢◌, ℕ, zero, suc, ◌-◌, ◌<◌, ◌≤◌, ◌^◌, List, [], ◌∷◌, Option, Some, None, refl, ap, sym, ◌∙◌, subst}
-use Rattle.std.proofs.Common.{◌⊎◌, inl, inr, arith, get_or, option_map}
+use Rattle.std.proofs.Common.{◌≡◌, ℕ, suc, ◌≤◌, List, [], ◌∷◌, Option, Some, None, refl, ap, sym, ◌∙◌, subst}
+use Rattle.std.proofs.Common.{inl, inr, arith, get_or}
 use Rattle.std.proofs.lemmas.Bool.{cases_lt}
 use Rattle.rg_base.specs.declared.object.Label.{Label}
 use Rattle.rg_base.specs.declared.object.Label.TheVariants.{Region, Frozen}
 use Rattle.rg_cells.specs.declared.cell.Body.{Body}
-use Rattle.rg_cells.specs.Table.{Heap, Table, body_at, body_in, total, width, field_total}
-use Rattle.rg_regions.specs.Table.{RegionTable, HasNumber, InTable, IsKey}
+use Rattle.rg_cells.specs.Table.{Heap, body_at, body_in, total, width, field_total}
+use Rattle.rg_regions.specs.Table.{RegionTable, HasNumber, IsKey}
 use Rattle.rg_regions.specs.Reach.{LiesIn}
 use Rattle.rg_regions.specs.Grove.{Grove, Below}
 use Rattle.rg_regions.proofs.Callers.Told.{one_number, one_region, number_of}
-use Rattle.rg_move.specs.Closed.{Closed, BelowKey}
+use Rattle.rg_move.specs.Closed.{Closed}
 use Rattle.rg_move.specs.Frozen.{labelled}
 use Rattle.rg_move.specs.Merged.{CanTake}
 use Rattle.rg_heap.proofs.Comes.{record_of_key}

@@ -16,6 +16,8 @@ mod frames;
 #[cfg(test)]
 mod generated;
 #[cfg(test)]
+mod heap;
+#[cfg(test)]
 mod lists;
 #[cfg(test)]
 mod moves;
