@@ -256,9 +256,8 @@ impl Parts {
 
     /// The address behind the call of the topmost frame, where it is known: so far it never is, since
     /// `Frames` tells it only where the frame goes.
-    pub(crate) fn behind(&mut self) -> Option<usize>
-        ensures some { IfSome result (GoesBack self.old.machine.frames) }
-        ensures same { self.new.machine ≡ self.old.machine }
+    pub(crate) fn behind(&self) -> Option<usize>
+        ensures { IfSome result (GoesBack self.now.machine.frames) }
     {
         None
     }
