@@ -12,4 +12,5 @@ mod AskLemmas
 mod StepLemmas
 mod OpeningLemmas
 mod ShapeLemmas
+mod CallShapeLemmas
 mod LeapLemmas

@@ -15,9 +15,9 @@ ghost use Rattle.rg_base.specs.declared.limits.TheConstants.{FRAMES as FRAMES_MO
 ghost use Rattle.rg_stack.specs.Effects.{beneath_by_labels, frame_number, put_in, top_region};
 ghost use Rattle.rg_stack.specs.Effects.{top_window, without_top};
 ghost use Rattle.rg_store.specs.Regions.{LabelFits};
-ghost use Rattle.rg_step.specs.Inner.Layout.{cleared};
+ghost use Rattle.rg_step.specs.Inner.Layout.{cleared, values_of};
 ghost use Rattle.rg_step.specs.Inner.Objects.{LabelIs};
-ghost use Rattle.rg_step.specs.Inner.Refusals.{SameBacks};
+ghost use Rattle.rg_step.specs.Inner.Refusals.{GoesBack, SameBacks};
 ghost use Rattle.rg_step.specs.Inner.Core.{Left, below_top, called_frame, started, can_open};
 ghost use Rattle.rg_step.specs.Inner.Core.{first_value, opened};
 ghost use Rattle.rg_step.specs.Inner.Core.{with_machine, with_made, with_top};
@@ -254,6 +254,14 @@ impl Parts {
         self.frames.count() < FRAMES
     }
 
+    /// The address behind the call of the topmost frame, where it is known: so far it never is, since
+    /// `Frames` tells it only where the frame goes.
+    pub(crate) fn behind(&self) -> Option<usize>
+        ensures { IfSome result (GoesBack self.now.machine.frames) }
+    {
+        None
+    }
+
     /// The topmost frame goes, where it may; answers the address behind its call.
     pub(crate) fn pop_frame(&mut self) -> Option<usize>
         ensures { Left self.old self.new result }
@@ -395,6 +403,24 @@ impl Parts {
     {
         self.frames.reserve(most_slots(given, slots) as usize)?;
         call_frame(&mut self.frames, &self.stack, given, slots, back);
+        Ok(())
+    }
+
+    /// A call whose new frame has so many of these words, the last ones, as its first slots.
+    pub(crate) fn call_with(
+        &mut self,
+        words: &[Word],
+        given: u32,
+        slots: u32,
+        back: usize,
+    ) -> Result<(), Memory>
+        ensures ok { OnOk result (self.new ≡ with_machine self.old (record self.old.machine {
+          frames = called_frame given slots back (values_of words.now) ∷ self.old.machine.frames;
+        })) }
+        ensures err { OnErr result (self.new ≡ self.old) }
+    {
+        self.frames.reserve(most_slots(given, slots) as usize)?;
+        call_frame(&mut self.frames, words, given, slots, back);
         Ok(())
     }
 
