@@ -173,6 +173,17 @@ impl Frames {
         }
     }
 
+    /// Where the return of the top frame goes to; None where there is no frame.
+    #[inline]
+    pub fn back(&self) -> Option<usize>
+        ensures { IfSome result (λ back. (f : FrameOf) × IsTopFrame self.now f × (f.back ≡ back)) }
+    {
+        match self.frames.last() {
+            Some(frame) => Some(frame.back),
+            None => None,
+        }
+    }
+
     /// The place of a slot of the top frame among all slots.
     pub fn place(&self, s: u32) -> usize
         requires { InTop self.now s }

@@ -18,6 +18,7 @@ use Rattle.rg_stack.specs.Effects.{begins_by, frame_number}
 use Rattle.rg_frames.specs.Stack.{Stack, IsTopFrame, pushed_of, popped}
 use Rattle.rg_step.specs.Shown.{frames_of, windows_of}
 use Rattle.rg_step.specs.Inner.Layout.{Nested, Lain, Gone}
+use Rattle.rg_step.specs.Inner.Refusals.{GoesBack}
 use Rattle.rg_step.specs.Inner.Core.{may_return}
 
 -- a list is its front and its last element
@@ -225,6 +226,18 @@ popped-gone v f two top h free =
     let front = take (length v.frames - 1) v.frames in
     let some : 1 ≤ length (reverse front) = omega (arith, two, length-reverse front, length-take-le (length v.frames - 1) v.frames (omega arith)) in
     gone-by v f (reverse front) refl (last-reverse v.frames f top) some h free
+
+-- where the topmost frame goes back to
+goes-by : (slots : List Word) (first : ℕ) (f : FrameRow) (fs : List FrameRow) → 1 ≤ length fs → GoesBack (frames_from slots first (f ∷ fs)) f.back
+goes-by slots first f [] some = absurd (omega (arith, some))
+goes-by slots first f (g ∷ gs) some = refl
+
+pub goes-back : (v : Stack) (f : FrameRow) → 2 ≤ length v.frames → IsTopFrame v f → GoesBack (frames_of v) f.back
+goes-back v f two top =
+    let front = take (length v.frames - 1) v.frames in
+    let some : 1 ≤ length (reverse front) = omega (arith, two, length-reverse front, length-take-le (length v.frames - 1) v.frames (omega arith)) in
+    let P : List FrameRow → Type 0 = λ fs. GoesBack (frames_from v.slots v.first fs) f.back in
+    subst P (sym (last-reverse v.frames f top)) (goes-by v.slots v.first f (reverse front) some)
 
 pub popped-lain : (v : Stack) (f : FrameRow) → IsTopFrame v f → Lain v → Lain (popped v f)
 popped-lain v f top h =

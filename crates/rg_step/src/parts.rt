@@ -28,7 +28,7 @@ use crate::objects::{
 use crate::opening::opening_frames;
 use crate::seen::seen;
 use crate::slots::{
-    call_frame, clear_slots, end_slots, most_slots, pop_frame, read_slot, write_slot,
+    behind, call_frame, clear_slots, end_slots, most_slots, pop_frame, read_slot, write_slot,
 };
 use crate::windows::{active, can_open, close_window, number, open_window};
 use crate::words::{value, word};
@@ -254,12 +254,12 @@ impl Parts {
         self.frames.count() < FRAMES
     }
 
-    /// The address behind the call of the topmost frame, where it is known: so far it never is, since
-    /// `Frames` tells it only where the frame goes.
+    /// The address behind the call of the topmost frame, which isn't the last one.
+    #[inline]
     pub(crate) fn behind(&self) -> Option<usize>
         ensures { IfSome result (GoesBack self.now.machine.frames) }
     {
-        None
+        behind(&self.frames)
     }
 
     /// The topmost frame goes, where it may; answers the address behind its call.

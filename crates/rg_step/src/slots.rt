@@ -10,6 +10,7 @@ ghost use Rattle.rg_step.specs.Shown.{frames_of, windows_of};
 ghost use Rattle.rg_step.specs.Inner.Layout.{Lain, PopIs, SameRoom, SameWindows, cleared};
 ghost use Rattle.rg_step.specs.Inner.Layout.{values_of};
 ghost use Rattle.rg_step.specs.Inner.Core.{called_frame};
+ghost use Rattle.rg_step.specs.Inner.Refusals.{GoesBack};
 
 use rg_base::Word;
 use rg_code::{CodeList, Op};
@@ -96,6 +97,20 @@ pub(crate) fn call_frame(frames: &mut Frames, stack: &[Word], given: u32, slots:
     let more = slots.saturating_sub(given) as usize;
     let from = stack.len().saturating_sub(given as usize);
     frames.push_frame_of(back, &stack[from..], more);
+}
+
+/// Where the return of the topmost frame goes to, where it isn't the last one.
+#[inline]
+pub(crate) fn behind(frames: &Frames) -> Option<usize>
+    ensures { IfSome result (GoesBack (frames_of frames.now)) }
+{
+    if frames.count() < 2 {
+        return None;
+    }
+    match frames.back() {
+        Some(back) => Some(back),
+        None => None,
+    }
 }
 
 /// The topmost frame goes, where it isn't the last one and no window over its slots is open;
