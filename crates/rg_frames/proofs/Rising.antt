@@ -7,7 +7,7 @@ use Rattle.rg_frames.specs.Stack.{Stack, IsTop}
 use Rattle.rg_frames.specs.Inner.Layout.{Rises, BasesRise, Lies}
 
 -- an element of a longer list is one of the list, or the new one
-data From {X : Type 0} (xs : List X) (new : X) (k : ℕ) (x : X) : Type 0 where
+pub data From {X : Type 0} (xs : List X) (new : X) (k : ℕ) (x : X) : Type 0 where
   old : slice_get xs k ≡ Some x → From xs new k x
   last : k ≡ length xs → x ≡ new → From xs new k x
 
@@ -15,7 +15,7 @@ further : {X : Type 0} → (y : X) (xs : List X) (new : X) (k : ℕ) (x : X) →
 further y xs new k x (old p) = old p
 further y xs new k x (last p q) = last (omega (arith, p)) q
 
-got-append : {X : Type 0} → (xs : List X) (new : X) (k : ℕ) (x : X) → slice_get (xs ++ new ∷ []) k ≡ Some x → From xs new k x
+pub got-append : {X : Type 0} → (xs : List X) (new : X) (k : ℕ) (x : X) → slice_get (xs ++ new ∷ []) k ≡ Some x → From xs new k x
 got-append [] new zero x e = last refl (cc)
 got-append [] new (suc k) x e = absurd cc
 got-append (y ∷ xs) new zero x e = old e
@@ -69,7 +69,7 @@ lies-push v top new next n e is le within h = rw e (record {
   as_many = omega (arith, h.as_many, length-append v.marks (length v.temps ∷ []), length-append v.windows (new ∷ []));
 })
 
-got-take : {X : Type 0} → (n : ℕ) (xs : List X) (k : ℕ) (x : X) → slice_get (take n xs) k ≡ Some x → slice_get xs k ≡ Some x
+pub got-take : {X : Type 0} → (n : ℕ) (xs : List X) (k : ℕ) (x : X) → slice_get (take n xs) k ≡ Some x → slice_get xs k ≡ Some x
 got-take zero [] k x e = e
 got-take zero (y ∷ xs) k x e = absurd cc
 got-take (suc n) [] k x e = e

@@ -9,6 +9,7 @@ ghost use Rattle.rg_base.specs.declared.value.Word.TheVariants.{Nil};
 ghost use Rattle.rg_frames.specs.declared.rows.Window.{Window as WindowOf};
 ghost use Rattle.rg_frames.specs.declared.rows.Frame.{Frame as FrameOf};
 ghost use Rattle.rg_frames.specs.declared.rows.FrameRefusal.TheVariants.{Depth};
+ghost use Rattle.rg_frames.specs.Inner.Layout.{NilFrom};
 ghost use Rattle.rg_frames.specs.Stack.{Begun, InTop, IsTopFrame, IsTop, BaseUpTo, mark};
 ghost use Rattle.rg_frames.specs.Stack.{IsEmpty, HasRoom, roomed, begun, with_slot, with_temp, without_temps};
 ghost use Rattle.rg_frames.specs.Stack.{pushed, pushed_of, popped, opened, closed, has_region, ended};
@@ -25,7 +26,11 @@ pub struct Frames {
     slots: Vec<Word>,
     // the first slot of the top frame
     first: usize,
+    // from this place on the slots of the top frame are nil
+    live: usize,
     frames: Vec<Frame>,
+    // what `live` was in front of each frame
+    kept: Vec<usize>,
     windows: Vec<Window>,
     // the temporaries of all windows, and where those of each begin
     temps: Vec<usize>,
@@ -35,14 +40,15 @@ pub struct Frames {
 
 impl Model for Frames {
     ghost use Rattle.rg_frames.specs.Stack.{Stack};
-    ghost use Rattle.rg_frames.specs.Inner.Layout.{Lies, stack_of};
+    ghost use Rattle.rg_frames.specs.Inner.Layout.{Lies, Unwritten, stack_of};
 
     ghost Value = { Stack };
 
-    ghost view = { λ s. stack_of s.slots s.first s.frames s.windows s.temps s.marks s.next };
+    ghost view = { λ s. stack_of s.slots s.first s.frames s.kept s.windows s.temps s.marks s.next };
 
     ghost invariant = { λ s. Lies
-        (stack_of s.slots s.first s.frames s.windows s.temps s.marks s.next) };
+        (stack_of s.slots s.first s.frames s.kept s.windows s.temps s.marks s.next)
+        × Unwritten s.slots.items s.first s.frames.items s.live s.kept.items };
 }
 
 impl Frames {
@@ -54,7 +60,9 @@ impl Frames {
         Frames {
             slots: Vec::new(alloc),
             first: 0,
+            live: 0,
             frames: Vec::new(alloc),
+            kept: Vec::new(alloc),
             windows: Vec::new(alloc),
             temps: Vec::new(alloc),
             marks: Vec::new(alloc),
@@ -73,6 +81,9 @@ impl Frames {
         let Ok(()) = self.frames.reserve(1) else {
             return Err(Memory);
         };
+        let Ok(()) = self.kept.reserve(1) else {
+            return Err(Memory);
+        };
         let Ok(()) = self.windows.reserve(1) else {
             return Err(Memory);
         };
@@ -83,6 +94,8 @@ impl Frames {
             return Err(Memory);
         };
         self.frames.push_reserved(Frame { back: 0, below: 0 });
+        self.kept.push_reserved(0);
+        self.live = 0;
         self.windows.push_reserved(Window {
             number: 0,
             region,
@@ -124,6 +137,9 @@ impl Frames {
         let Ok(()) = self.frames.reserve(1) else {
             return Err(Memory);
         };
+        let Ok(()) = self.kept.reserve(1) else {
+            return Err(Memory);
+        };
         let Ok(()) = self.slots.reserve(slots) else {
             return Err(Memory);
         };
@@ -138,8 +154,11 @@ impl Frames {
         let below = self.first;
         let first = self.slots.len();
         copy(&mut self.slots, words);
+        let live = self.slots.len();
         fill(&mut self.slots, more);
+        self.kept.push_reserved(self.live);
         self.first = first;
+        self.live = live;
         self.frames.push_reserved(Frame { back, below });
     }
 
@@ -151,7 +170,9 @@ impl Frames {
         let below = self.first;
         let first = self.slots.len();
         fill(&mut self.slots, slots as usize);
+        self.kept.push_reserved(self.live);
         self.first = first;
+        self.live = first;
         self.frames.push_reserved(Frame { back, below });
     }
 
@@ -163,10 +184,14 @@ impl Frames {
         ensures back { (f : FrameOf) → IsTopFrame self.old f → result ≡ f.back }
         ensures gone { (f : FrameOf) → IsTopFrame self.old f → self.new ≡ popped self.old f }
     {
+        let Some(live) = self.kept.pop() else {
+            unreachable!();
+        };
         match self.frames.pop() {
             Some(frame) => {
                 self.slots.truncate(self.first);
                 self.first = frame.below;
+                self.live = live;
                 frame.back
             }
             None => unreachable!(),
@@ -193,6 +218,7 @@ impl Frames {
     }
 
     /// The word in a slot of the top frame.
+    #[inline]
     pub fn slot(&self, s: u32) -> Word
         requires { InTop self.now s }
         ensures { slice_get self.now.slots (self.now.first + s) ≡ Some result }
@@ -201,14 +227,20 @@ impl Frames {
     }
 
     /// Writes a slot of the top frame.
+    #[inline]
     pub fn set_slot(&mut self, s: u32, w: Word)
         requires { InTop self.old s }
         ensures { self.new ≡ with_slot self.old s w }
     {
-        self.slots[self.first + s as usize] = w;
+        let place = self.first + s as usize;
+        self.slots[place] = w;
+        if self.live <= place {
+            self.live = place + 1;
+        }
     }
 
     /// The number of slots of the top frame.
+    #[inline]
     pub fn size(&self) -> usize
         ensures { result ≡ length self.now.slots - self.now.first }
     {
@@ -216,6 +248,7 @@ impl Frames {
     }
 
     /// The place of the top frame's first slot among all slots.
+    #[inline]
     pub fn first(&self) -> usize
         ensures { result ≡ self.now.first }
     {
@@ -223,14 +256,16 @@ impl Frames {
     }
 
     /// Makes nil the slots of the top frame from one on.
+    #[inline]
     pub fn end_from(&mut self, s: u32)
         requires { self.old.first + s ≤ length self.old.slots }
         ensures { self.new ≡ ended self.old s }
     {
         let from = self.first + s as usize;
-        let more = self.slots.len() - from;
-        self.slots.truncate(from);
-        fill(&mut self.slots, more);
+        if from < self.live {
+            clear(&mut self.slots, from, self.live);
+            self.live = from;
+        }
     }
 
     /// All slots from the top window's base.
@@ -389,5 +424,20 @@ fn fill(all: &mut Vec<Word>, more: usize)
     'fill: while left > 0 {
         all.push_reserved(Word::Nil);
         left -= 1;
+    }
+}
+
+// Makes nil the slots from one place up to another, from which on they are nil.
+fn clear(all: &mut Vec<Word>, from: usize, to: usize)
+    requires order { from ≤ to }
+    requires nil { NilFrom all.old.items to (length all.old.items) }
+    ensures items { all.new.items
+        ≡ take from all.old.items ++ replicate (length all.old.items - from) Nil }
+    ensures capacity { vec_capacity all.new ≡ vec_capacity all.old }
+{
+    let mut at = to;
+    'clear: while at > from {
+        at -= 1;
+        all[at] = Word::Nil;
     }
 }

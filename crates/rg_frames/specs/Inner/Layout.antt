@@ -1,7 +1,8 @@
 -- How the windows lie over slots and temporaries, and what the fields of `Frames` show.
-use Rattle.std.specs.Prelude.{◌≡◌, ℕ, ◌≤◌, ◌-◌, List, Some, length, slice_get, vec_capacity}
+use Rattle.std.specs.Prelude.{◌≡◌, ℕ, suc, ◌≤◌, ◌<◌, ◌-◌, List, Some, length, min, slice_get, vec_capacity}
 use Rattle.std.specs.declared.vec.Vec.{Vec}
 use Rattle.rg_base.specs.declared.value.Word.{Word}
+use Rattle.rg_base.specs.declared.value.Word.TheVariants.{Nil}
 use Rattle.rg_frames.specs.declared.rows.Frame.{Frame}
 use Rattle.rg_frames.specs.declared.rows.Window.{Window}
 use Rattle.rg_frames.specs.Stack.{Stack}
@@ -22,9 +23,25 @@ pub record Lies (v : Stack) : Type 0 where
   pub marks : Rises (length v.temps) v.marks
   pub as_many : length v.marks ≡ length v.windows
 
+-- the slots from one place up to another are nil
+pub record NilFrom (slots : List Word) (from to : ℕ) : Type 0 where
+  pub order : from ≤ to
+  pub nil : (i : ℕ) (w : Word) → from ≤ i → i < to → slice_get slots i ≡ Some w → w ≡ Nil
+
+-- what was never written is nil: the top frame's slots from `live` on, and those of each frame beneath from the place that is
+-- kept for it on, up to the first slot of the frame over it
+pub record Unwritten (slots : List Word) (first : ℕ) (frames : List Frame) (live : ℕ) (kept : List ℕ) : Type 0 where
+  pub top : NilFrom slots live (length slots)
+  pub under : (k l : ℕ) → suc k ≡ length kept → slice_get kept k ≡ Some l → NilFrom slots l first
+  pub beneath : (k l : ℕ) (f : Frame) → slice_get kept k ≡ Some l → slice_get frames (suc k) ≡ Some f → NilFrom slots l f.below
+  pub rise : (j k : ℕ) (f g : Frame) → j ≤ k → slice_get frames j ≡ Some f → slice_get frames k ≡ Some g → f.below ≤ g.below
+  pub below : (k : ℕ) (f : Frame) → slice_get frames k ≡ Some f → f.below ≤ first
+  pub within : first ≤ length slots
+  pub as_many : length kept ≡ length frames
+
 -- what the fields show
-abbrev pub stack_of : {Z : Type 0} → (slots : Vec Word Z) → (first : ℕ) → Vec Frame Z → Vec Window Z → (temps marks : Vec ℕ Z) → ℕ → Stack
-stack_of slots first frames windows temps marks next = record {
+abbrev pub stack_of : {Z : Type 0} → (slots : Vec Word Z) → (first : ℕ) → Vec Frame Z → Vec ℕ Z → Vec Window Z → (temps marks : Vec ℕ Z) → ℕ → Stack
+stack_of slots first frames kept windows temps marks next = record {
   slots = slots.items;
   first = first;
   frames = frames.items;
@@ -32,6 +49,6 @@ stack_of slots first frames windows temps marks next = record {
   temps = temps.items;
   marks = marks.items;
   next = next;
-  frame_room = vec_capacity frames - length frames.items;
+  frame_room = min (vec_capacity frames - length frames.items) (vec_capacity kept - length kept.items);
   slot_room = vec_capacity slots - length slots.items;
 }
