@@ -1,2 +1,0 @@
-mod TopsMade
-mod CellsTraced

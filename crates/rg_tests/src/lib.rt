@@ -6,29 +6,15 @@
 #[cfg(test)]
 mod capabilities;
 #[cfg(test)]
-mod cells;
-#[cfg(test)]
-mod collections;
-#[cfg(test)]
 mod flow;
-#[cfg(test)]
-mod frames;
 #[cfg(test)]
 mod generated;
 #[cfg(test)]
-mod heap;
-#[cfg(test)]
 mod lists;
-#[cfg(test)]
-mod moves;
 #[cfg(test)]
 mod numbers;
 #[cfg(test)]
 mod programs;
-#[cfg(test)]
-mod regions;
-#[cfg(test)]
-mod release;
 #[cfg(test)]
 mod report;
 #[cfg(test)]

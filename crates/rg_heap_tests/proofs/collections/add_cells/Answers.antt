@@ -1,5 +1,5 @@
-use Rattle.rg_tests.proofs.CellsTraced.{all_more}
-use Rattle.rg_tests.proofs.collections.add_cells.Goals as goal
+use Rattle.rg_heap_tests.proofs.CellsTraced.{all_more}
+use Rattle.rg_heap_tests.proofs.collections.add_cells.Goals as goal
 
 pub loop-to-preserved : goal.loop-to-preserved
 loop-to-preserved c =

@@ -1,6 +1,6 @@
 use Rattle.std.proofs.Common.{refl}
-use Rattle.rg_tests.proofs.TopsMade.{has_room, grove_made, top_made, top_in}
-use Rattle.rg_tests.proofs.release.add_top.Goals as goal
+use Rattle.rg_heap_tests.proofs.TopsMade.{has_room, grove_made, top_made, top_in}
+use Rattle.rg_heap_tests.proofs.release.add_top.Goals as goal
 
 pub push_member-requires : goal.push_member-requires
 push_member-requires c =

@@ -2,8 +2,8 @@
 
 ghost use Rattle.std.specs.Prelude.{◌≡◌, ◌+◌, IfOk, OnOk};
 ghost use Rattle.rg_regions.specs.Grove.{Grove};
-ghost use Rattle.rg_tests.specs.Tops.{IsTop, LeadsToTop};
-ghost use Rattle.rg_tests.specs.Traced.{InTraced};
+ghost use Rattle.rg_heap_tests.specs.Tops.{IsTop, LeadsToTop};
+ghost use Rattle.rg_heap_tests.specs.Traced.{InTraced};
 
 use rg_base::{Label, Manager, Word};
 use rg_cells::Cells;

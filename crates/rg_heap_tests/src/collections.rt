@@ -3,7 +3,7 @@
 ghost use Rattle.std.specs.Prelude.{◌≡◌, ◌<◌, ℕ, Some, IfOk, OnOk, slice_get};
 ghost use Rattle.rg_regions.specs.Grove.{Grove};
 ghost use Rattle.rg_regions.specs.Collection.{HasManager};
-ghost use Rattle.rg_tests.specs.Traced.{InTraced, AllTraced};
+ghost use Rattle.rg_heap_tests.specs.Traced.{InTraced, AllTraced};
 
 use crate::release::add_top;
 use rg_base::{Label, Manager, Steps, Word};

@@ -1,6 +1,6 @@
 use Rattle.std.proofs.Common.{◌≢◌, ℕ, arith}
-use Rattle.rg_tests.proofs.TopsMade.{first_takes}
-use Rattle.rg_tests.proofs.moves.a_region_goes_into_the_first_one.Goals as goal
+use Rattle.rg_heap_tests.proofs.TopsMade.{first_takes}
+use Rattle.rg_heap_tests.proofs.moves.a_region_goes_into_the_first_one.Goals as goal
 
 pub merge-requires-clause-into : goal.merge-requires-clause-into
 merge-requires-clause-into g c =

@@ -1,5 +1,5 @@
-use Rattle.rg_tests.proofs.TopsMade.{top_closed}
-use Rattle.rg_tests.proofs.moves.a_thousand_regions_are_frozen_at_once.Goals as goal
+use Rattle.rg_heap_tests.proofs.TopsMade.{top_closed}
+use Rattle.rg_heap_tests.proofs.moves.a_thousand_regions_are_frozen_at_once.Goals as goal
 
 pub freeze-requires-clause-closed : goal.freeze-requires-clause-closed
 freeze-requires-clause-closed g c =

@@ -1,5 +1,5 @@
-use Rattle.rg_tests.proofs.TopsMade.{top_unowned}
-use Rattle.rg_tests.proofs.release.a_thousand_regions_go_at_once.Goals as goal
+use Rattle.rg_heap_tests.proofs.TopsMade.{top_unowned}
+use Rattle.rg_heap_tests.proofs.release.a_thousand_regions_go_at_once.Goals as goal
 
 pub release-released-requires-clause-unowned : goal.release-released-requires-clause-unowned
 release-released-requires-clause-unowned g c =

@@ -18,8 +18,8 @@ use Rattle.rg_regions.proofs.Callers.RegionComes.{RegionComes, grove_comes, alon
 use Rattle.rg_release.specs.Released.{Unowned}
 use Rattle.rg_move.specs.Closed.{Closed}
 use Rattle.rg_move.specs.Merged.{CanTake}
-use Rattle.rg_tests.specs.Tops.{IsTop, LeadsToTop}
-use Rattle.rg_tests.specs.Traced.{InTraced}
+use Rattle.rg_heap_tests.specs.Tops.{IsTop, LeadsToTop}
+use Rattle.rg_heap_tests.specs.Traced.{InTraced}
 
 only_word : (w v : Word) (k : ℕ) → slice_get (w ∷ []) k ≡ Some v → (k ≡ 0) × (w ≡ v)
 only_word w v zero e = (refl, word_is w v e)

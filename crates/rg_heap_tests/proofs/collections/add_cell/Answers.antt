@@ -1,6 +1,6 @@
 use Rattle.std.proofs.Common.{refl}
-use Rattle.rg_tests.proofs.CellsTraced.{cell_room, cell_grove, cell_in, cells_stay}
-use Rattle.rg_tests.proofs.collections.add_cell.Goals as goal
+use Rattle.rg_heap_tests.proofs.CellsTraced.{cell_room, cell_grove, cell_in, cells_stay}
+use Rattle.rg_heap_tests.proofs.collections.add_cell.Goals as goal
 
 pub push_member-requires : goal.push_member-requires
 push_member-requires c =

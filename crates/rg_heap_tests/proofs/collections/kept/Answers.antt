@@ -1,8 +1,8 @@
 use Rattle.std.proofs.Common.{ℕ, List, ap, sym, ◌∙◌, slice_get}
 use Rattle.rg_base.specs.declared.value.Word.TheVariants.{Slot}
 use Rattle.rg_regions.proofs.Callers.Told.{lies_held}
-use Rattle.rg_tests.proofs.CellsTraced.{only_word}
-use Rattle.rg_tests.proofs.collections.kept.Goals as goal
+use Rattle.rg_heap_tests.proofs.CellsTraced.{only_word}
+use Rattle.rg_heap_tests.proofs.collections.kept.Goals as goal
 
 pub collect-kept-requires-clause-slots : goal.collect-kept-requires-clause-slots
 collect-kept-requires-clause-slots g c = λ k s e.

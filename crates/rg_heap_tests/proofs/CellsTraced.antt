@@ -15,7 +15,7 @@ use Rattle.rg_regions.specs.Grove.{Grove}
 use Rattle.rg_regions.proofs.Callers.Told.{one_number, one_record, number_of}
 use Rattle.rg_regions.proofs.Callers.Changed.{changed_at, changed_other}
 use Rattle.rg_regions.proofs.Callers.CellComes.{CellComes, grove_cell, comes_in, label_on, one_more}
-use Rattle.rg_tests.specs.Traced.{InTraced, AllTraced}
+use Rattle.rg_heap_tests.specs.Traced.{InTraced, AllTraced}
 
 pub only_word : (w v : Word) (k : ℕ) → slice_get (w ∷ []) k ≡ Some v → w ≡ v
 only_word w v zero e = word_is w v e

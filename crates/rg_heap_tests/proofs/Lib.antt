@@ -1,0 +1,2 @@
+mod TopsMade
+mod CellsTraced
