@@ -24,6 +24,8 @@ mod moves;
 #[cfg(test)]
 mod numbers;
 #[cfg(test)]
+mod pacers;
+#[cfg(test)]
 mod programs;
 #[cfg(test)]
 mod regions;
