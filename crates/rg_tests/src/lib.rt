@@ -14,6 +14,8 @@ mod lists;
 #[cfg(test)]
 mod numbers;
 #[cfg(test)]
+mod pacers;
+#[cfg(test)]
 mod programs;
 #[cfg(test)]
 mod report;
