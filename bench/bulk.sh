@@ -5,10 +5,8 @@
 # Both programs take turns in one run, and the best of their times counts. The three sums of both are compared, and the
 # steps with what is known of the program. Not a part of the gate. Usage: bench/bulk.sh [TURNS [PROGRAM]]
 set -eu
-here=$(cd "$(dirname "$0")/.." && pwd)
+. "$(dirname "$0")/common.sh"
 turns=${1:-5}
-if [ $# -lt 2 ]; then "$here/build"; fi
-program=${2:-$here/bin/reggio}
 python3 - "$program" "$turns" "$here/bench/lua/bulk.lua" "$(command -v lua5.4 || true)" <<'PY'
 import os, subprocess, sys, time
 program, turns, twin, lua = sys.argv[1], int(sys.argv[2]), sys.argv[3], sys.argv[4]

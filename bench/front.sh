@@ -6,7 +6,7 @@
 # empty program; for each kind the ratio of the greatest to the smallest. Time and memory should stay within 1.5 for
 # the five kinds, and 1 MiB of each within two seconds; names that are chosen should take at most twice the time of
 # others. It needs python3 and a C compiler. The names are found in a minute or two.
-# Not a part of the gate. Usage: bench/front.sh [TURNS]
+# Not a part of the gate. Usage: bench/front.sh [TURNS [PROGRAM]]
 set -eu
 . "$(dirname "$0")/common.sh"
 

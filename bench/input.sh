@@ -9,12 +9,8 @@
 # Last, where standard input is closed before the start, the source must not be read as the input.
 # Not a part of the gate. Usage: bench/input.sh [TURNS [PROGRAM]]
 set -eu
-here=$(cd "$(dirname "$0")/.." && pwd)
+. "$(dirname "$0")/common.sh"
 turns=${1:-5}
-if [ $# -lt 2 ]; then "$here/build"; fi
-program=${2:-$here/bin/reggio}
-work=$(mktemp -d)
-trap 'rm -rf "$work"' EXIT
 python3 - "$work" "$program" "$turns" "$here/bench/lua/input.lua" "$(command -v lua5.4 || true)" <<'PY'
 import os, select, subprocess, sys, time
 work, program, turns, twin, lua = sys.argv[1], sys.argv[2], int(sys.argv[3]), sys.argv[4], sys.argv[5]

@@ -4,7 +4,7 @@
 # subtracts `fmt FILE` of the same source, which cuts and parses it too, and prints it. So it shows two rows of
 # nanoseconds per member: all of `check` less its start, which is the upper bound, and the difference to `fmt`.
 # Both should be flat: the largest within 1.5 of the smallest.
-# Not a part of the gate. Usage: bench/names.sh [TURNS]
+# Not a part of the gate. Usage: bench/names.sh [TURNS [PROGRAM]]
 set -eu
 . "$(dirname "$0")/common.sh"
 turns=${1:-20}

@@ -12,12 +12,8 @@
 # The machine that runs today never frees, and a freeze walks all objects that were made; so one freeze is measured,
 # at the end. Not a part of the gate. Usage: bench/run.sh [TURNS [PROGRAM]]
 set -eu
-here=$(cd "$(dirname "$0")/.." && pwd)
+. "$(dirname "$0")/common.sh"
 turns=${1:-5}
-if [ $# -lt 2 ]; then "$here/build"; fi
-program=${2:-$here/bin/reggio}
-work=$(mktemp -d)
-trap 'rm -rf "$work"' EXIT
 python3 - "$work" "$program" "$turns" "$here/bench/lua" "$(command -v lua5.4 || true)" <<'PY'
 import subprocess, sys, time
 work, program, turns, twins, lua = sys.argv[1], sys.argv[2], int(sys.argv[3]), sys.argv[4], sys.argv[5]
