@@ -1,10 +1,9 @@
 -- The list of free places after a place is taken from it, added to it, or made.
 use Rattle.std.proofs.Common.{◌≡◌, ◌≢◌, ℕ, ◌+◌, ◌<◌, ◌≤◌, List, [], ◌∷◌, ◌++◌, length, Some, None, get_or, set, map, arith, length-append, sym, ap}
-use Rattle.std.proofs.Common.{subst, ◌∙◌, ◌⊎◌, inl, inr, refl, Option, count_by, is_some, IsSome, zero, suc, cond, ◌==◌, if◌then◌else◌, eqb, eq-eqb}
-use Rattle.std.proofs.Common.{◌-◌}
+use Rattle.std.proofs.Common.{subst, ◌∙◌, inl, inr, refl, Option, count_by, is_some, zero, suc, cond}
+use Rattle.std.proofs.Common.{◌-◌, ◌^◌}
 use Rattle.std.proofs.lemmas.List.Sums.{sum_by-cons}
 use Rattle.std.proofs.Math.ListN.{get_or-append}
-use Rattle.std.proofs.lemmas.List.{get_or-set_same, get_or-set_other}
 use Rattle.std.proofs.lemmas.Bool.{cases_lt}
 use Rattle.slab.specs.Slab.{Slab, get, with_value, Updates, slab_len}
 use Rattle.slab.proofs.SlabLemmas.{Updates-with_value}
@@ -15,7 +14,7 @@ use Rattle.rg_cells.specs.declared.cell.Place.{Place}
 use Rattle.rg_cells.specs.declared.cell.Place.TheVariants.{Held, Free}
 use Rattle.rg_cells.specs.Table.{total, one, one_frozen, one_frozen_by, width, body_in}
 use Rattle.rg_cells.specs.Inner.Places.{shown, IsFreeList, Kept, Counts}
-use Rattle.rg_cells.proofs.Shown.{shown-at, within}
+use Rattle.rg_cells.proofs.Shown.{shown-at}
 use Rattle.rg_cells.proofs.Totals.{total-update}
 
 at_end : (xs : List ℕ) (x : ℕ) → get_or (xs ++ x ∷ []) (length xs) 0 ≡ x
@@ -113,11 +112,11 @@ given_up places free new room more slot c h e r f =
     }
 
 -- the numbers that are kept, after a place changes
-pub counted : (places new : Slab Place) (slot frozen words icy wide : ℕ) (o : Option Place) → Updates places new slot o → icy + one_frozen (body_in (shown (get places slot))) ≡ frozen + one_frozen (body_in (shown o)) → wide + width (body_in (shown (get places slot))) ≡ words + width (body_in (shown o)) → Counts places frozen words → Counts new icy wide
-counted places new slot frozen words icy wide o u f w h =
+pub counted : (places new : Slab Place) (slot frozen words icy wide : ℕ) (o : Option Place) → Updates places new slot o → icy + one_frozen (body_in (shown (get places slot))) ≡ frozen + one_frozen (body_in (shown o)) → wide + width (body_in (shown (get places slot))) ≡ words + width (body_in (shown o)) → wide < 2 ^ 64 - 1 → Counts places frozen words → Counts new icy wide
+counted places new slot frozen words icy wide o u f w few h =
     let a = total-updated one_frozen places new slot o refl u in
     let b = total-updated width places new slot o refl u in
-    record { frozen_is = omega (arith, a, f, h.frozen_is); words_is = omega (arith, b, w, h.words_is) }
+    record { frozen_is = omega (arith, a, f, h.frozen_is); words_is = omega (arith, b, w, h.words_is); few = few }
 
 -- a held place holds another cell
 pub kept-written : (places : Slab Place) (free : List ℕ) (room slot : ℕ) (c d : Cell) → get places slot ≡ Some (Held c) → Kept places free room → Kept (with_value places slot (Held d)) free room

@@ -1,16 +1,16 @@
 -- What the places show, place by place.
-use Rattle.std.proofs.Common.{◌≡◌, ◌≢◌, ℕ, ◌+◌, ◌<◌, ◌≤◌, ◌-◌, zero, suc, List, [], ◌∷◌, length, map, Option, Some, None, IsSome, IfSome, IfNone}
+use Rattle.std.proofs.Common.{◌≡◌, ◌≢◌, ℕ, ◌+◌, ◌<◌, ◌≤◌, zero, suc, List, [], ◌∷◌, length, map, Option, Some, None, IsSome, IfSome, IfNone}
 use Rattle.std.proofs.Common.{is_some, count_by, get_or, set, refl, ap, sym, ◌∙◌, subst, arith, cond, ◌==◌, if◌then◌else◌}
 use Rattle.std.proofs.lemmas.List.{map-set, length-map}
 use Rattle.std.proofs.lemmas.List.Sums.{sum_by-cons}
-use Rattle.slab.specs.Slab.{Slab, get, with_value, slab_len, Updates}
+use Rattle.slab.specs.Slab.{Slab, get, slab_len, Updates}
 use Rattle.rg_cells.specs.declared.cell.Body.{Body}
 use Rattle.rg_cells.specs.declared.cell.Cell.{Cell}
 use Rattle.rg_cells.specs.declared.cell.Place.{Place}
 use Rattle.rg_cells.specs.declared.cell.Place.TheVariants.{Held, Free}
 use Rattle.rg_base.specs.declared.value.Word.{Word}
 use Rattle.rg_base.specs.declared.object.Label.{Label}
-use Rattle.rg_cells.specs.Table.{Heap, Table, body_in, body_at, IsHeld, mark_at, link_at, width, Made, with_body, with_field, with_label, freed_from}
+use Rattle.rg_cells.specs.Table.{Heap, Table, body_in, body_at, IsHeld, width, Made, with_body, with_field, with_label, freed_from}
 use Rattle.rg_cells.specs.Table.{total, one, one_frozen, one_frozen_by, held_count, high_of}
 use Rattle.rg_cells.specs.Inner.Places.{shown, mark_of, link_of, table_of}
 

@@ -1,12 +1,13 @@
-use Rattle.std.proofs.Common.{◌≡◌, ◌+◌, ◌≤◌, ◌<◌, ◌-◌, subst, sym, ap, ◌∙◌, refl, arith, Some, map, length}
-use Rattle.slab.specs.Slab.{Slab, get, with_value}
-use Rattle.rg_cells.specs.Table.{Table, IsHeld, body_at, freed_from, total, one, one_frozen, one_frozen_by}
-use Rattle.rg_cells.specs.Inner.Places.{table_of, shown, Kept, Counts}
+use Rattle.std.proofs.Common.{◌≡◌, ◌-◌, subst, sym, ap, ◌∙◌, arith, Some, length}
+use Rattle.slab.specs.Slab.{Slab}
+use Rattle.rg_cells.specs.Table.{Table, IsHeld, body_at, freed_from, one_frozen_by}
+use Rattle.rg_cells.specs.Inner.Places.{table_of}
 use Rattle.rg_cells.specs.declared.cell.Body.{Body}
 use Rattle.rg_cells.specs.declared.cell.Place.{Place}
-use Rattle.rg_cells.specs.declared.cell.Place.TheVariants.{Held, Free}
+use Rattle.rg_cells.specs.declared.cell.Place.TheVariants.{Free}
 use Rattle.rg_cells.proofs.Shown.{held_cell, free-put, one_if_frozen-le, wide-le, same_body}
 use Rattle.rg_cells.proofs.Listed.{counted, written}
+use Rattle.rg_cells.proofs.SerialsKept.{serials-freed}
 use Rattle.rg_cells.proofs.cells.Cells.free.Goals as goal
 
 pub give_up-requires-clause-held : goal.give_up-requires-clause-held
@@ -41,7 +42,8 @@ invariant_of-self c =
       c.give_up.ensures.kept,
       rw c.give_up.ensures.freed
           (counted c.self.inside.places _ c.args.slot c.self.inside.frozen c.self.inside.words (c.self.inside.frozen - c.one_if_frozen-was.result) (c.self.inside.words - c.len-less.result) _ (written c.self.inside.places c.args.slot h.0 Free h.1)
-          (rw h.1 (omega (arith, was, e, c.one_if_frozen-was.ensures, c.self.invariant.1.frozen_is))) (rw h.1 (omega (arith, less, f, c.len-less.ensures.value, c.self.invariant.1.words_is))) c.self.invariant.1),
+          (rw h.1 (omega (arith, was, e, c.one_if_frozen-was.ensures, c.self.invariant.1.frozen_is))) (rw h.1 (omega (arith, less, f, c.len-less.ensures.value, c.self.invariant.1.words_is))) (omega (arith, c.self.invariant.1.few)) c.self.invariant.1),
+      rw c.give_up.ensures.freed (serials-freed c.self.inside.places c.self.inside.next c.args.slot h.0 h.1 c.self.invariant.2),
     )
 
 pub returns : goal.returns
