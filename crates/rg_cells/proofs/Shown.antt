@@ -1,16 +1,16 @@
 -- What the places show, place by place.
-use Rattle.std.proofs.Common.{◌≡◌, ◌≢◌, ℕ, ◌+◌, ◌<◌, ◌≤◌, ◌-◌, zero, suc, List, [], ◌∷◌, length, map, Option, Some, None, IsSome, IfSome, IfNone}
+use Rattle.std.proofs.Common.{◌≡◌, ◌≢◌, ℕ, ◌+◌, ◌<◌, ◌≤◌, zero, suc, List, [], ◌∷◌, length, map, Option, Some, None, IsSome, IfSome, IfNone}
 use Rattle.std.proofs.Common.{is_some, count_by, get_or, set, refl, ap, sym, ◌∙◌, subst, arith, cond, ◌==◌, if◌then◌else◌}
 use Rattle.std.proofs.lemmas.List.{map-set, length-map}
 use Rattle.std.proofs.lemmas.List.Sums.{sum_by-cons}
-use Rattle.slab.specs.Slab.{Slab, get, with_value, slab_len, Updates}
+use Rattle.slab.specs.Slab.{Slab, get, slab_len, Updates}
 use Rattle.rg_cells.specs.declared.cell.Body.{Body}
 use Rattle.rg_cells.specs.declared.cell.Cell.{Cell}
 use Rattle.rg_cells.specs.declared.cell.Place.{Place}
 use Rattle.rg_cells.specs.declared.cell.Place.TheVariants.{Held, Free}
 use Rattle.rg_base.specs.declared.value.Word.{Word}
 use Rattle.rg_base.specs.declared.object.Label.{Label}
-use Rattle.rg_cells.specs.Table.{Heap, Table, body_in, body_at, IsHeld, mark_at, link_at, width, Made, with_body, with_field, with_label, freed_from}
+use Rattle.rg_cells.specs.Table.{Heap, Table, body_in, body_at, IsHeld, width, Made, with_body, with_field, with_label, freed_from}
 use Rattle.rg_cells.specs.Table.{total, one, one_frozen, one_frozen_by, held_count, high_of}
 use Rattle.rg_cells.specs.Inner.Places.{shown, mark_of, link_of, table_of}
 
@@ -35,12 +35,14 @@ held_place (Some Free) h = cc
 held_place (Some (Held c)) h = (c, refl)
 
 -- a held slot has a cell in its place
-pub held_cell : (xs : List (Option Place)) (next slot : ℕ) → IsHeld (table_of xs next).heap slot → (c : Cell) × (get_or xs slot None ≡ Some (Held c))
+pub held_cell : (xs : List (Option Place)) (next slot : ℕ) → IsHeld (table_of xs next).heap slot → (c : Cell)
+    × (get_or xs slot None ≡ Some (Held c))
 held_cell xs next slot h =
     let P : Option (Option Body) → Type 0 = λ o. IsSome (body_in o) in
     held_place (get_or xs slot None) (subst P (shown-at xs slot) h)
 
-pub body-held : (xs : List (Option Place)) (next slot : ℕ) (c : Cell) → get_or xs slot None ≡ Some (Held c) → body_at (table_of xs next).heap slot ≡ Some c.body
+pub body-held : (xs : List (Option Place)) (next slot : ℕ) (c : Cell) → get_or xs slot None ≡ Some (Held c)
+    → body_at (table_of xs next).heap slot ≡ Some c.body
 body-held xs next slot c e = ap body_in (shown-at xs slot) ∙ ap (λ o. body_in (shown o)) e
 
 pub within : (xs : List (Option Place)) (slot : ℕ) (c : Cell) → get_or xs slot None ≡ Some (Held c) → slot < length xs
@@ -49,49 +51,89 @@ within (x ∷ xs) zero c e = omega arith
 within (x ∷ xs) (suc slot) c e = omega (arith, within xs slot c e)
 
 -- a list that is written as it was
-pub shown-same : (xs : List (Option Place)) (slot : ℕ) (c d : Cell) → get_or xs slot None ≡ Some (Held c) → d.body ≡ c.body → map shown (set xs slot (Some (Held d))) ≡ map shown xs
+pub shown-same : (xs : List (Option Place)) (slot : ℕ) (c d : Cell) → get_or xs slot None ≡ Some (Held c) → d.body ≡ c.body
+    → map shown (set xs slot (Some (Held d))) ≡ map shown xs
 shown-same [] slot c d e h = refl
-shown-same (x ∷ xs) zero c d e h = let a : shown x ≡ Some (Some c.body) = ap shown e in ap (λ b. Some (Some b) ∷ map shown xs) h ∙ ap (λ o. o ∷ map shown xs) (sym a)
+shown-same (x ∷ xs) zero c d e h = let a : shown x ≡ Some (Some c.body) = ap shown e in
+    ap (λ b. Some (Some b) ∷ map shown xs) h ∙ ap (λ o. o ∷ map shown xs) (sym a)
 shown-same (x ∷ xs) (suc slot) c d e h = ap (λ ys. shown x ∷ ys) (shown-same xs slot c d e h)
 
-pub mark-same : (xs : List (Option Place)) (slot : ℕ) (c d : Cell) → get_or xs slot None ≡ Some (Held c) → d.mark ≡ c.mark → map mark_of (set xs slot (Some (Held d))) ≡ map mark_of xs
+pub mark-same : (xs : List (Option Place)) (slot : ℕ) (c d : Cell) → get_or xs slot None ≡ Some (Held c) → d.mark ≡ c.mark
+    → map mark_of (set xs slot (Some (Held d))) ≡ map mark_of xs
 mark-same [] slot c d e h = refl
 mark-same (x ∷ xs) zero c d e h = let a : mark_of x ≡ c.mark = ap mark_of e in ap (λ b. b ∷ map mark_of xs) h ∙ ap (λ o. o ∷ map mark_of xs) (sym a)
 mark-same (x ∷ xs) (suc slot) c d e h = ap (λ ys. mark_of x ∷ ys) (mark-same xs slot c d e h)
 
-pub link-same : (xs : List (Option Place)) (slot : ℕ) (c d : Cell) → get_or xs slot None ≡ Some (Held c) → d.link ≡ c.link → map link_of (set xs slot (Some (Held d))) ≡ map link_of xs
+pub link-same : (xs : List (Option Place)) (slot : ℕ) (c d : Cell) → get_or xs slot None ≡ Some (Held c) → d.link ≡ c.link
+    → map link_of (set xs slot (Some (Held d))) ≡ map link_of xs
 link-same [] slot c d e h = refl
 link-same (x ∷ xs) zero c d e h = let a : link_of x ≡ c.link = ap link_of e in ap (λ b. b ∷ map link_of xs) h ∙ ap (λ o. o ∷ map link_of xs) (sym a)
 link-same (x ∷ xs) (suc slot) c d e h = ap (λ ys. link_of x ∷ ys) (link-same xs slot c d e h)
 
 -- a mark is written
-pub marked : (xs : List (Option Place)) (next slot m : ℕ) (c : Cell) → get_or xs slot None ≡ Some (Held c) → table_of (set xs slot (Some (Held (record c { mark = m })))) next ≡ record (table_of xs next) { marks = set (table_of xs next).marks slot m }
+pub marked : (xs : List (Option Place)) (next slot m : ℕ) (c : Cell) → get_or xs slot None ≡ Some (Held c)
+    → table_of (set xs slot (Some (Held (record c { mark = m })))) next ≡ record (table_of xs next) { marks = set (table_of xs next).marks slot m }
 marked xs next slot m c e =
     let a = shown-same xs slot c (record c { mark = m }) e refl in
     let b = link-same xs slot c (record c { mark = m }) e refl in
     let d = map-set mark_of xs slot (Some (Held (record c { mark = m }))) in
-    ap (λ ys. record { heap = record { slots = ys; next = next }; marks = map mark_of (set xs slot (Some (Held (record c { mark = m })))); links = map link_of (set xs slot (Some (Held (record c { mark = m })))) }) a
-    ∙ ap (λ ys. record { heap = record { slots = map shown xs; next = next }; marks = ys; links = map link_of (set xs slot (Some (Held (record c { mark = m })))) }) d
+    ap (λ ys. record {
+      heap = record { slots = ys; next = next };
+      marks = map mark_of (set xs slot (Some (Held (record c { mark = m }))));
+      links =
+          map link_of (set xs slot (Some (Held (record c { mark = m }))));
+    }) a
+    ∙ ap (λ ys. record {
+      heap = record { slots = map shown xs; next = next };
+      marks = ys;
+      links =
+          map link_of (set xs slot (Some (Held (record c { mark = m }))));
+    }) d
     ∙ ap (λ ys. record { heap = record { slots = map shown xs; next = next }; marks = set (map mark_of xs) slot m; links = ys }) b
 
 -- a link is written
-pub linked : (xs : List (Option Place)) (next slot : ℕ) (l : Option ℕ) (c : Cell) → get_or xs slot None ≡ Some (Held c) → table_of (set xs slot (Some (Held (record c { link = l })))) next ≡ record (table_of xs next) { links = set (table_of xs next).links slot l }
+pub linked : (xs : List (Option Place)) (next slot : ℕ) (l : Option ℕ) (c : Cell) → get_or xs slot None ≡ Some (Held c)
+    → table_of (set xs slot (Some (Held (record c { link = l })))) next ≡ record (table_of xs next) { links = set (table_of xs next).links slot l }
 linked xs next slot l c e =
     let a = shown-same xs slot c (record c { link = l }) e refl in
     let b = mark-same xs slot c (record c { link = l }) e refl in
     let d = map-set link_of xs slot (Some (Held (record c { link = l }))) in
-    ap (λ ys. record { heap = record { slots = ys; next = next }; marks = map mark_of (set xs slot (Some (Held (record c { link = l })))); links = map link_of (set xs slot (Some (Held (record c { link = l })))) }) a
-    ∙ ap (λ ys. record { heap = record { slots = map shown xs; next = next }; marks = ys; links = map link_of (set xs slot (Some (Held (record c { link = l })))) }) b
+    ap (λ ys. record {
+      heap = record { slots = ys; next = next };
+      marks = map mark_of (set xs slot (Some (Held (record c { link = l }))));
+      links =
+          map link_of (set xs slot (Some (Held (record c { link = l }))));
+    }) a
+    ∙ ap (λ ys. record {
+      heap = record { slots = map shown xs; next = next };
+      marks = ys;
+      links =
+          map link_of (set xs slot (Some (Held (record c { link = l }))));
+    }) b
     ∙ ap (λ ys. record { heap = record { slots = map shown xs; next = next }; marks = map mark_of xs; links = ys }) d
 
 -- another body is written
-pub bodied : (xs : List (Option Place)) (next slot : ℕ) (c : Cell) (b : Body) → get_or xs slot None ≡ Some (Held c) → table_of (set xs slot (Some (Held (record c { body = b })))) next ≡ record (table_of xs next) { heap = record { slots = set (map shown xs) slot (Some (Some b)); next = next } }
+pub bodied : (xs : List (Option Place)) (next slot : ℕ) (c : Cell) (b : Body) → get_or xs slot None ≡ Some (Held c)
+    → table_of (set xs slot (Some (Held (record c { body = b })))) next ≡ record (table_of xs next) {
+      heap =
+          record { slots = set (map shown xs) slot (Some (Some b)); next = next };
+    }
 bodied xs next slot c b e =
     let a = map-set shown xs slot (Some (Held (record c { body = b }))) in
     let d = mark-same xs slot c (record c { body = b }) e refl in
     let f = link-same xs slot c (record c { body = b }) e refl in
-    ap (λ ys. record { heap = record { slots = ys; next = next }; marks = map mark_of (set xs slot (Some (Held (record c { body = b })))); links = map link_of (set xs slot (Some (Held (record c { body = b })))) }) a
-    ∙ ap (λ ys. record { heap = record { slots = set (map shown xs) slot (Some (Some b)); next = next }; marks = ys; links = map link_of (set xs slot (Some (Held (record c { body = b })))) }) d
+    ap (λ ys. record {
+      heap = record { slots = ys; next = next };
+      marks = map mark_of (set xs slot (Some (Held (record c { body = b }))));
+      links =
+          map link_of (set xs slot (Some (Held (record c { body = b }))));
+    }) a
+    ∙ ap (λ ys. record {
+      heap = record { slots = set (map shown xs) slot (Some (Some b)); next = next };
+      marks = ys;
+      links =
+          map link_of (set xs slot (Some (Held (record c { body = b }))));
+    }) d
     ∙ ap (λ ys. record { heap = record { slots = set (map shown xs) slot (Some (Some b)); next = next }; marks = map mark_of xs; links = ys }) f
 
 shown-some : (x : Option Place) → is_some (shown x) ≡ is_some x
@@ -107,14 +149,17 @@ count-shown (x ∷ xs) =
     ∙ ap (λ b. cond b 1 0 + count_by is_some xs) (shown-some x) ∙ sym (sum_by-cons (λ o. cond (is_some o) 1 0) x xs)
 
 -- the marks and links have as many places
-pub within-marks : (xs : List (Option Place)) (next slot : ℕ) (c : Cell) → get_or xs slot None ≡ Some (Held c) → slot < length (table_of xs next).marks
+pub within-marks : (xs : List (Option Place)) (next slot : ℕ) (c : Cell) → get_or xs slot None ≡ Some (Held c)
+    → slot < length (table_of xs next).marks
 within-marks xs next slot c e = omega (arith, within xs slot c e, length-map xs mark_of)
 
-pub within-links : (xs : List (Option Place)) (next slot : ℕ) (c : Cell) → get_or xs slot None ≡ Some (Held c) → slot < length (table_of xs next).links
+pub within-links : (xs : List (Option Place)) (next slot : ℕ) (c : Cell) → get_or xs slot None ≡ Some (Held c)
+    → slot < length (table_of xs next).links
 within-links xs next slot c e = omega (arith, within xs slot c e, length-map xs link_of)
 
 -- a cell that has a field of that number
-pub wide_cell : (xs : List (Option Place)) (next slot k : ℕ) → k < width (body_at (table_of xs next).heap slot) → (c : Cell) × (get_or xs slot None ≡ Some (Held c)) × (k < length c.body.fields)
+pub wide_cell : (xs : List (Option Place)) (next slot k : ℕ) → k < width (body_at (table_of xs next).heap slot) → (c : Cell)
+    × (get_or xs slot None ≡ Some (Held c)) × (k < length c.body.fields)
 wide_cell xs next slot k h =
     let P : Option (Option Body) → Type 0 = λ o. k < width (body_in o) in
     wide_place (get_or xs slot None) (subst P (shown-at xs slot) h)
@@ -124,22 +169,31 @@ wide_cell xs next slot k h =
     wide_place (Some Free) h = absurd (omega arith)
     wide_place (Some (Held c)) h = (c, refl, h)
 
-field-of : (h : Heap) (slot k : ℕ) (w : Word) (b : Body) → body_at h slot ≡ Some b → with_field h slot k w ≡ with_body h slot (record b { fields = set b.fields k w })
+field-of : (h : Heap) (slot k : ℕ) (w : Word) (b : Body) → body_at h slot ≡ Some b
+    → with_field h slot k w ≡ with_body h slot (record b { fields = set b.fields k w })
 field-of h slot k w b e = ap (λ (o : Option Body). elim o [ None ↦ h | Some b ↦ with_body h slot (record b { fields = set b.fields k w }) ]) e
 
 label-of : (h : Heap) (slot : ℕ) (l : Label) (b : Body) → body_at h slot ≡ Some b → with_label h slot l ≡ with_body h slot (record b { label = l })
 label-of h slot l b e = ap (λ (o : Option Body). elim o [ None ↦ h | Some b ↦ with_body h slot (record b { label = l }) ]) e
 
-pub field-put : (xs : List (Option Place)) (next slot k : ℕ) (w : Word) (c : Cell) → get_or xs slot None ≡ Some (Held c) → table_of (set xs slot (Some (Held (record c { body = record c.body { fields = set c.body.fields k w } })))) next ≡ record (table_of xs next) { heap = with_field (table_of xs next).heap slot k w }
+pub field-put : (xs : List (Option Place)) (next slot k : ℕ) (w : Word) (c : Cell) → get_or xs slot None ≡ Some (Held c)
+    → table_of (set xs slot (Some (Held (record c { body = record c.body { fields = set c.body.fields k w } })))) next ≡ record (table_of xs next)
+    { heap = with_field (table_of xs next).heap slot k w }
 field-put xs next slot k w c e =
     let b : Body = record c.body { fields = set c.body.fields k w } in
-    let q : with_field (table_of xs next).heap slot k w ≡ with_body (table_of xs next).heap slot b = field-of (table_of xs next).heap slot k w c.body (body-held xs next slot c e) in
+    let q : with_field (table_of xs next).heap slot k w ≡ with_body (table_of xs next).heap slot b =
+    field-of (table_of xs next).heap slot k w c.body (body-held xs next slot c e) in
     bodied xs next slot c b e ∙ ap (λ z. record (table_of xs next) { heap = z }) (sym q)
 
-pub label-put : (xs : List (Option Place)) (next slot : ℕ) (l : Label) (c : Cell) → get_or xs slot None ≡ Some (Held c) → table_of (set xs slot (Some (Held (record c { body = record c.body { label = l } })))) next ≡ record (table_of xs next) { heap = with_label (table_of xs next).heap slot l }
+pub label-put : (xs : List (Option Place)) (next slot : ℕ) (l : Label) (c : Cell) → get_or xs slot None ≡ Some (Held c)
+    → table_of (set xs slot (Some (Held (record c { body = record c.body { label = l } })))) next ≡ record (table_of xs next) {
+      heap =
+          with_label (table_of xs next).heap slot l;
+    }
 label-put xs next slot l c e =
     let b : Body = record c.body { label = l } in
-    let q : with_label (table_of xs next).heap slot l ≡ with_body (table_of xs next).heap slot b = label-of (table_of xs next).heap slot l c.body (body-held xs next slot c e) in
+    let q : with_label (table_of xs next).heap slot l ≡ with_body (table_of xs next).heap slot b =
+    label-of (table_of xs next).heap slot l c.body (body-held xs next slot c e) in
     bodied xs next slot c b e ∙ ap (λ z. record (table_of xs next) { heap = z }) (sym q)
 
 pub free-put : (xs : List (Option Place)) (next slot : ℕ) → table_of (set xs slot (Some Free)) next ≡ freed_from (table_of xs next) slot
@@ -147,9 +201,24 @@ free-put xs next slot =
     let a : map shown (set xs slot (Some Free)) ≡ set (map shown xs) slot (Some None) = map-set shown xs slot (Some Free) in
     let b : map mark_of (set xs slot (Some Free)) ≡ set (map mark_of xs) slot 0 = map-set mark_of xs slot (Some Free) in
     let d : map link_of (set xs slot (Some Free)) ≡ set (map link_of xs) slot None = map-set link_of xs slot (Some Free) in
-    ap (λ ys. record { heap = record { slots = ys; next = next }; marks = map mark_of (set xs slot (Some Free)); links = map link_of (set xs slot (Some Free)) }) a
-    ∙ ap (λ ys. record { heap = record { slots = set (map shown xs) slot (Some None); next = next }; marks = ys; links = map link_of (set xs slot (Some Free)) }) b
-    ∙ ap (λ ys. record { heap = record { slots = set (map shown xs) slot (Some None); next = next }; marks = set (map mark_of xs) slot 0; links = ys }) d
+    ap (λ ys. record {
+      heap = record { slots = ys; next = next };
+      marks = map mark_of (set xs slot (Some Free));
+      links =
+          map link_of (set xs slot (Some Free));
+    }) a
+    ∙ ap (λ ys. record {
+      heap = record { slots = set (map shown xs) slot (Some None); next = next };
+      marks = ys;
+      links =
+          map link_of (set xs slot (Some Free));
+    }) b
+    ∙ ap (λ ys. record {
+      heap = record { slots = set (map shown xs) slot (Some None); next = next };
+      marks = set (map mark_of xs) slot 0;
+      links =
+          ys;
+    }) d
 
 pub part-le : (f : Option Body → ℕ) → f None ≡ 0 → (xs : List (Option (Option Body))) (k : ℕ) → f (body_in (get_or xs k None)) ≤ total f xs
 part-le f z [] k = omega (arith, z)
@@ -157,18 +226,21 @@ part-le f z (x ∷ xs) zero = omega arith
 part-le f z (x ∷ xs) (suc k) = omega (arith, part-le f z xs k)
 
 pub one_if_frozen-le : (h : Heap) (slot : ℕ) (b : Body) → body_at h slot ≡ Some b → one_frozen_by b.label ≤ total one_frozen h.slots
-one_if_frozen-le h slot b e = let p = part-le one_frozen refl h.slots slot in let q : one_frozen (body_at h slot) ≡ one_frozen_by b.label = ap one_frozen e in omega (arith, p, q)
+one_if_frozen-le h slot b e = let p = part-le one_frozen refl h.slots slot in
+    let q : one_frozen (body_at h slot) ≡ one_frozen_by b.label = ap one_frozen e in omega (arith, p, q)
 
 pub wide-le : (h : Heap) (slot : ℕ) (b : Body) → body_at h slot ≡ Some b → length b.fields ≤ total width h.slots
 wide-le h slot b e = let p = part-le width refl h.slots slot in let q : width (body_at h slot) ≡ length b.fields = ap width e in omega (arith, p, q)
 
-pub same_body : (xs : List (Option Place)) (next slot : ℕ) (c : Cell) (b : Body) → get_or xs slot None ≡ Some (Held c) → body_at (table_of xs next).heap slot ≡ Some b → c.body ≡ b
+pub same_body : (xs : List (Option Place)) (next slot : ℕ) (c : Cell) (b : Body) → get_or xs slot None ≡ Some (Held c)
+    → body_at (table_of xs next).heap slot ≡ Some b → c.body ≡ b
 same_body xs next slot c b e f = some_body (c.body) b (sym (body-held xs next slot c e) ∙ f)
   where
     some_body : (a b : Body) → Some a ≡ Some b → a ≡ b
     some_body a b q = cc
 
-pub made : (places new : Slab Place) (next later slot : ℕ) (c : Cell) → c.mark ≡ 0 → c.link ≡ None → Updates places new slot (Some (Held c)) → Made (table_of places.slots next) (table_of new.slots later) slot c.body
+pub made : (places new : Slab Place) (next later slot : ℕ) (c : Cell) → c.mark ≡ 0 → c.link ≡ None → Updates places new slot (Some (Held c))
+    → Made (table_of places.slots next) (table_of new.slots later) slot c.body
 made places new next later slot c m l u = record {
   body = ap body_in (shown-at new.slots slot) ∙ ap (λ o. body_in (shown o)) u.changed;
   others = λ k d. shown-at new.slots k ∙ ap shown (u.others k d) ∙ sym (shown-at places.slots k);
@@ -179,12 +251,17 @@ made places new next later slot c m l u = record {
 }
 
 -- the number of slots ever held, after a cell is made
-pub high-made : (places new : Slab Place) (next later : ℕ) (now : Table) → table_of places.slots next ≡ now → slab_len new ≡ (if total one (map shown places.slots) == slab_len places then slab_len places + 1 else slab_len places) → high_of (table_of new.slots later).heap ≡ (if held_count now.heap == high_of now.heap then high_of now.heap + 1 else high_of now.heap)
+pub high-made : (places new : Slab Place) (next later : ℕ) (now : Table) → table_of places.slots next ≡ now
+    → slab_len new ≡ (if total one (map shown places.slots) == slab_len places then slab_len places + 1 else slab_len places)
+    → high_of (table_of new.slots later).heap ≡ (if held_count now.heap == high_of now.heap then high_of now.heap + 1 else high_of now.heap)
 high-made places new next later now e l =
-    let P : Table → Type 0 = λ t. high_of (table_of new.slots later).heap ≡ (if held_count t.heap == high_of t.heap then high_of t.heap + 1 else high_of t.heap) in
+    let P : Table → Type 0 = λ t. high_of (table_of new.slots later).heap ≡ (if held_count t.heap == high_of t.heap then high_of t.heap + 1 else
+    high_of t.heap) in
     subst P e (count-shown new.slots ∙ l ∙ ap (λ n. if total one (map shown places.slots) == n then n + 1 else n) (sym (count-shown places.slots)))
 
-pub again-made : (places : Slab Place) (next slot : ℕ) (now : Table) → table_of places.slots next ≡ now → (total one (map shown places.slots) < slab_len places → IsSome (get places slot)) → held_count now.heap < high_of now.heap → IsSome (get_or now.heap.slots slot None)
+pub again-made : (places : Slab Place) (next slot : ℕ) (now : Table) → table_of places.slots next ≡ now
+    → (total one (map shown places.slots) < slab_len places → IsSome (get places slot)) → held_count now.heap < high_of now.heap
+    → IsSome (get_or now.heap.slots slot None)
 again-made places next slot now e h =
     let P : Table → Type 0 = λ t. held_count t.heap < high_of t.heap → IsSome (get_or t.heap.slots slot None) in
     let Q : Option (Option Body) → Type 0 = λ o. IsSome o in
@@ -196,13 +273,17 @@ again-made places next slot now e h =
     some_shown (Some (Held c)) q = refl
 
 -- what was found in the places, of the table
-pub find-some : (xs : List (Option Place)) (next serial : ℕ) (now : Table) (r : Option ℕ) → table_of xs next ≡ now → IfSome r (λ slot. (c : Cell) × (get_or xs slot None ≡ Some (Held c)) × (c.body.serial ≡ serial)) → IfSome r (λ slot. (b : Body) × (body_at now.heap slot ≡ Some b) × (b.serial ≡ serial))
+pub find-some : (xs : List (Option Place)) (next serial : ℕ) (now : Table) (r : Option ℕ) → table_of xs next ≡ now
+    → IfSome r (λ slot. (c : Cell) × (get_or xs slot None ≡ Some (Held c)) × (c.body.serial ≡ serial))
+    → IfSome r (λ slot. (b : Body) × (body_at now.heap slot ≡ Some b) × (b.serial ≡ serial))
 find-some xs next serial now None e h = h
 find-some xs next serial now (Some slot) e h =
     let P : Table → Type 0 = λ t. body_at t.heap slot ≡ Some h.0.body in
     (h.0.body, subst P e (body-held xs next slot h.0 h.1), h.2)
 
-pub find-none : (xs : List (Option Place)) (next serial : ℕ) (now : Table) (r : Option ℕ) → table_of xs next ≡ now → IfNone r ((slot : ℕ) (c : Cell) → get_or xs slot None ≡ Some (Held c) → c.body.serial ≢ serial) → IfNone r ((slot : ℕ) (b : Body) → body_at now.heap slot ≡ Some b → b.serial ≢ serial)
+pub find-none : (xs : List (Option Place)) (next serial : ℕ) (now : Table) (r : Option ℕ) → table_of xs next ≡ now
+    → IfNone r ((slot : ℕ) (c : Cell) → get_or xs slot None ≡ Some (Held c) → c.body.serial ≢ serial)
+    → IfNone r ((slot : ℕ) (b : Body) → body_at now.heap slot ≡ Some b → b.serial ≢ serial)
 find-none xs next serial now (Some slot) e h = h
 find-none xs next serial now None e h = λ slot b f q.
     let P : Table → Type 0 = λ t. body_at t.heap slot ≡ Some b in

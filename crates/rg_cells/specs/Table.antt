@@ -5,7 +5,6 @@ use Rattle.rg_base.specs.declared.object.Label.{Label}
 use Rattle.rg_base.specs.declared.object.Label.TheVariants.{Region, Temp, Frozen}
 use Rattle.rg_cells.specs.declared.cell.Body.{Body}
 use Rattle.rg_base.specs.declared.value.Word.{Word}
-use Rattle.rg_base.specs.declared.value.Word.TheVariants.{Slot}
 
 -- The cells without their marks and links. A slot has None where no cell was ever held, Some None where its cell was freed,
 -- and else the body of its cell. The next cell gets the serial `next`.
@@ -131,6 +130,11 @@ IsNewest h slot = (b : Body) × (body_at h slot ≡ Some b) × (b.serial + 1 ≡
 -- the cell is taken back: it isn't held, and its serial is the next one again
 abbrev pub cancelled : Table → ℕ → Table
 cancelled t slot = (let u = freed_from t slot in record u { heap = record u.heap { next = t.heap.next - 1 } })
+
+-- the serials of held cells are below the next one, and differ
+pub record Serials (h : Heap) : Type 0 where
+  pub below : (slot : ℕ) (b : Body) → body_at h slot ≡ Some b → b.serial < h.next
+  pub differ : (slot other : ℕ) (b d : Body) → body_at h slot ≡ Some b → body_at h other ≡ Some d → b.serial ≡ d.serial → slot ≡ other
 
 -- a held cell has that serial
 abbrev pub HasSerial : Heap → (slot serial : ℕ) → Type 0

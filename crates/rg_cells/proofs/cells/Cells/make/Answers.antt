@@ -1,14 +1,11 @@
-use Rattle.std.proofs.Common.{◌≡◌, ◌+◌, ◌≤◌, ◌<◌, ◌-◌, subst, sym, ap, ◌∙◌, refl, arith, Some, None, map, length, List}
-use Rattle.slab.specs.Slab.{Slab, get}
-use Rattle.rg_cells.specs.Table.{Table, body_at, body_in, total, one, one_frozen, one_frozen_by, width, Made}
-use Rattle.rg_cells.specs.Inner.Places.{table_of, shown, Kept, Counts}
+use Rattle.std.proofs.Common.{◌≡◌, ◌+◌, subst, ap, refl, arith, map, length, List}
+use Rattle.slab.specs.Slab.{get}
+use Rattle.rg_cells.specs.Table.{Table, body_in, one_frozen, width, Made}
+use Rattle.rg_cells.specs.Inner.Places.{table_of, shown}
 use Rattle.rg_base.specs.declared.value.Word.{Word}
-use Rattle.rg_cells.specs.declared.cell.Body.{Body}
-use Rattle.rg_cells.specs.declared.cell.Cell.{Cell}
-use Rattle.rg_cells.specs.declared.cell.Place.{Place}
-use Rattle.rg_cells.specs.declared.cell.Place.TheVariants.{Held, Free}
-use Rattle.rg_cells.proofs.Shown.{made, high-made, again-made}
+use Rattle.rg_cells.proofs.Shown.{made, high-made}
 use Rattle.rg_cells.proofs.Listed.{counted, frozen-le}
+use Rattle.rg_cells.proofs.SerialsKept.{serials-made}
 use Rattle.rg_cells.proofs.cells.Cells.make.Goals as goal
 
 pub invariant_of-self-2 : goal.invariant_of-self-2
@@ -18,8 +15,11 @@ invariant_of-self-2 c =
     let wide : width (body_in (shown (get c.self.inside.places c.in_ok-slot.slot))) ≡ 0 = ap width v in
     let fields = ap (length {A = Word}) c.in_ok-of.ensures in (
       c.hold.ensures.kept,
-      counted c.self.inside.places c.hold.new.places c.in_ok-slot.slot c.self.inside.frozen c.self.inside.words (c.self.inside.frozen + c.one_if_frozen.result) (c.self.inside.words + length c.args.fields.now) _ c.in_ok-slot.ensures.updates
-          (omega (arith, icy, c.one_if_frozen.ensures)) (omega (arith, wide, fields)) c.self.invariant.1,
+      counted c.self.inside.places c.hold.new.places c.in_ok-slot.slot c.self.inside.frozen c.self.inside.words
+          (c.self.inside.frozen + c.one_if_frozen.result) (c.self.inside.words + length c.args.fields.now) _ c.in_ok-slot.ensures.updates
+          (omega (arith, icy, c.one_if_frozen.ensures)) (omega (arith, wide, fields)) (omega (arith, c.if-more-self.false)) c.self.invariant.1,
+      serials-made c.self.inside.places c.hold.new.places c.self.inside.next c.in_ok-slot.slot _ refl c.in_ok-slot.ensures.updates
+          c.self.invariant.2,
     )
 
 pub overflow_add-self-3 : goal.overflow_add-self-3
@@ -28,18 +28,32 @@ overflow_add-self-3 c =
     let icy : one_frozen (body_in (shown (get c.self.inside.places c.in_ok-slot.slot))) ≡ 0 = ap one_frozen v in
     let wide : width (body_in (shown (get c.self.inside.places c.in_ok-slot.slot))) ≡ 0 = ap width v in
     let fields = ap (length {A = Word}) c.in_ok-of.ensures in
-    let i = counted c.self.inside.places c.hold.new.places c.in_ok-slot.slot c.self.inside.frozen c.self.inside.words (c.self.inside.frozen + c.one_if_frozen.result) (c.self.inside.words + length c.args.fields.now) _ c.in_ok-slot.ensures.updates (omega (arith, icy, c.one_if_frozen.ensures)) (omega (arith, wide, fields)) c.self.invariant.1 in
-    omega (arith, i.frozen_is, c.hold.ensures.kept.all, c.hold.ensures.kept.fits, frozen-le (map shown c.hold.new.places.slots), c.hold.new.free.ok.0)
+    let i = counted c.self.inside.places c.hold.new.places c.in_ok-slot.slot c.self.inside.frozen c.self.inside.words
+    (c.self.inside.frozen + c.one_if_frozen.result) (c.self.inside.words + length c.args.fields.now) _ c.in_ok-slot.ensures.updates
+    (omega (arith, icy, c.one_if_frozen.ensures)) (omega (arith, wide, fields)) (omega (arith, c.if-more-self.false)) c.self.invariant.1 in
+    omega (
+      arith,
+      i.frozen_is,
+      c.hold.ensures.kept.all,
+      c.hold.ensures.kept.fits,
+      frozen-le (map shown c.hold.new.places.slots),
+      c.hold.new.free.ok.0,
+    )
 
 pub returns-clause-made : goal.returns-clause-made
 returns-clause-made c =
     let new : Table = table_of c.hold.new.places.slots (c.self.inside.next + 1) in
-    let M : Table → Type 0 = λ t. Made t new c.in_ok-slot.slot (record { class = c.args.class; label = c.args.label; serial = t.heap.next; fields = c.args.fields.now }) in
-    let F : List Word → Type 0 = λ fs. Made (table_of c.self.inside.places.slots c.self.inside.next) new c.in_ok-slot.slot (record { class = c.args.class; label = c.args.label; serial = c.self.inside.next; fields = fs }) in
-    subst M c.self.view_is (subst F c.in_ok-of.ensures (made c.self.inside.places c.hold.new.places c.self.inside.next (c.self.inside.next + 1) c.in_ok-slot.slot _ refl refl c.in_ok-slot.ensures.updates))
+    let M : Table → Type 0 = λ t. Made t new c.in_ok-slot.slot
+    (record { class = c.args.class; label = c.args.label; serial = t.heap.next; fields = c.args.fields.now }) in
+    let F : List Word → Type 0 = λ fs. Made (table_of c.self.inside.places.slots c.self.inside.next) new c.in_ok-slot.slot
+    (record { class = c.args.class; label = c.args.label; serial = c.self.inside.next; fields = fs }) in
+    subst M c.self.view_is (subst F c.in_ok-of.ensures
+    (made c.self.inside.places c.hold.new.places c.self.inside.next (c.self.inside.next + 1) c.in_ok-slot.slot _ refl refl
+    c.in_ok-slot.ensures.updates))
 
 pub returns-clause-high : goal.returns-clause-high
-returns-clause-high c = high-made c.self.inside.places c.hold.new.places c.self.inside.next (c.self.inside.next + 1) c.args.self.now c.self.view_is c.in_ok-slot.ensures.len
+returns-clause-high c = high-made c.self.inside.places c.hold.new.places c.self.inside.next (c.self.inside.next + 1) c.args.self.now
+    c.self.view_is c.in_ok-slot.ensures.len
 
 pub returns-clause-fields : goal.returns-clause-fields
 returns-clause-fields c =
@@ -47,5 +61,7 @@ returns-clause-fields c =
     let icy : one_frozen (body_in (shown (get c.self.inside.places c.in_ok-slot.slot))) ≡ 0 = ap one_frozen v in
     let wide : width (body_in (shown (get c.self.inside.places c.in_ok-slot.slot))) ≡ 0 = ap width v in
     let fields = ap (length {A = Word}) c.in_ok-of.ensures in
-    let i = counted c.self.inside.places c.hold.new.places c.in_ok-slot.slot c.self.inside.frozen c.self.inside.words (c.self.inside.frozen + c.one_if_frozen.result) (c.self.inside.words + length c.args.fields.now) _ c.in_ok-slot.ensures.updates (omega (arith, icy, c.one_if_frozen.ensures)) (omega (arith, wide, fields)) c.self.invariant.1 in
+    let i = counted c.self.inside.places c.hold.new.places c.in_ok-slot.slot c.self.inside.frozen c.self.inside.words
+    (c.self.inside.frozen + c.one_if_frozen.result) (c.self.inside.words + length c.args.fields.now) _ c.in_ok-slot.ensures.updates
+    (omega (arith, icy, c.one_if_frozen.ensures)) (omega (arith, wide, fields)) (omega (arith, c.if-more-self.false)) c.self.invariant.1 in
     omega (arith, i.words_is, c.if-more-self.false)
