@@ -2,3 +2,4 @@
 pub mod Instructions
 pub mod Programs
 pub mod Steps
+pub mod Needed

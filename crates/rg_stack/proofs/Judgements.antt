@@ -2,6 +2,8 @@ pub mod FollowLemmas
 pub mod JudgeLemmas
 pub mod FitLemmas
 pub mod OwesLemmas
+pub mod UseLemmas
+pub mod MiddleLemmas
 pub mod StatementLemmas
 pub mod BeginLemmas
 pub mod SpotLemmas

@@ -4,5 +4,6 @@ mod Walks
 mod Statements
 mod Judgements
 mod Refusals
+mod Needs
 pub mod Callers
 mod Examples

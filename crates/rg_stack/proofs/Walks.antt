@@ -4,5 +4,7 @@ pub mod SlotLemmas
 pub mod PlaceLemmas
 pub mod EntryLemmas
 pub mod ArgumentLemmas
+pub mod NeedLemmas
 pub mod EndLemmas
+pub mod GivenLemmas
 pub mod FrameLemmas

@@ -2,6 +2,7 @@
 //! (docs/architecture.md, "The stack machine").
 
 ghost use Rattle.rg_stack.specs.Laws.{OpeningShows, StepShows, RunShows, StepsOrderly, StepsAsk};
+ghost use Rattle.rg_stack.specs.Laws.{StepsGiven};
 
 /// The opening machine of an accepted program shows its opening state.
 pub fn opening_shows()
@@ -28,4 +29,10 @@ pub fn steps_orderly()
 /// Where a step begins, its code asks for the input exactly where the first thing to do does.
 pub fn steps_ask()
     ensures { StepsAsk }
+{}
+
+/// Where a step begins, no instruction of it lacks what it needs of a machine that frees: what is
+/// written may be written, and each closed region keeps one owner until it is given up with it.
+pub fn steps_given()
+    ensures { StepsGiven }
 {}

@@ -140,36 +140,60 @@ leave_runs t a s k later fit f fs at is =
     own-first n ls p ps [] h = absurd h
     own-first n ls p ps (w ∷ us) h = (w, us, refl)
 
-leave_fits : (t : Tree) → Accepted t → (s : State) (k : ℕ) (later : List Item) → s.items ≡ LeaveAt k ∷ later → Fit t s → (fs : List Frame) →
-    s.frames ≡ fs →
-    Fit t (step_leave k (record s { items = later }) s.windows)
-leave_fits t a s k later is fit [] at = let P : List Frame → Type 0 = λ q. FramesFit t q s.windows s.items in absurd (subst P at fit.frames)
-leave_fits t a s k later is fit (f ∷ fs) at =
+-- where the topmost window closes: its variables are gone, and those that are left stand in front of its base
+pub record Leaving (t : Tree) (s : State) (f : Frame) (fs : List Frame) (k : ℕ) (later : List Item) : Type 0 where
+  pub w : Window
+  pub v : Window
+  pub us : List Window
+  pub windows : s.windows ≡ w ∷ v ∷ us
+  pub frames_fit : FramesFit t (record f { locals = take k f.locals } ∷ fs) (v ∷ us) later
+  pub fits : Data t.classes s.store (record f { locals = take k f.locals } ∷ fs) (w ∷ v ∷ us) (length s.managers) s.windows_made
+  pub front : FramesInFront w (record f { locals = take k f.locals } ∷ fs)
+
+pub leaving : (t : Tree) → Accepted t → (s : State) (k : ℕ) (later : List Item) → Fit t s → (f : Frame) (fs : List Frame) → s.frames ≡ f ∷ fs →
+    s.items ≡ LeaveAt k ∷ later →
+    Leaving t s f fs k later
+leaving t a s k later fit f fs at is =
     let e = leave_runs t a s k later fit f fs at is in
-    let g : Frame = record f { locals = take k f.locals } in
     let P : List Frame → Type 0 = λ q. Data t.classes s.store q s.windows (length s.managers) s.windows_made in
     let d = subst P at (fit-data t s fit) in
     let now = shrink-locals t.classes s.store f fs s.windows (length s.managers) s.windows_made (take k f.locals) d
     (λ i l h. get-take k f.locals i l h)
     (AllOwners-map s.windows (IsBefore (length fs) k) _ (leads-taken t.classes s.store f fs k) e.before) in
-    let Q : List Window → Type 0 = λ q. Data t.classes s.store (g ∷ fs) q (length s.managers) s.windows_made in
-    let front : FramesInFront e.w (g ∷ fs) = (
-      λ i l h. inr (sym e.base_frame, let b = taken-within k f.locals i l h in let c = e.base_place in omega (arith, b, c)),
-      lower-in_front e.w fs (let c = e.base_frame in omega (arith, c)),
-    ) in
-    let popped = pop-window t.classes s.store (g ∷ fs) e.w e.v e.us (length s.managers) s.windows_made (subst Q e.windows now) front in
-    let T : List Window → Type 0 = λ q. Fit t (step_leave k (record s { items = later }) q) in
-    let u : State = record (keep_locals k (record s { items = later })) { windows = e.v ∷ e.us } in
-    let frames : u.frames ≡ g ∷ fs = rw at refl in
-    subst T (sym e.windows) (data-fit t u
-    (let R : List Frame → Type 0 = λ q. FramesFit t q (e.v ∷ e.us) later in subst R (sym frames) e.fit)
-    (let R : List Frame → Type 0 = λ q. Data t.classes s.store q (e.v ∷ e.us) (length s.managers) s.windows_made in subst R (sym frames) popped))
+    let Q : List Window → Type 0 = λ q. Data t.classes s.store (record f { locals = take k f.locals } ∷ fs) q (length s.managers) s.windows_made in
+    record {
+      w = e.w;
+      v = e.v;
+      us = e.us;
+      windows = e.windows;
+      frames_fit = e.fit;
+      fits = subst Q e.windows now;
+      front = (
+        λ i l h. inr (sym e.base_frame, let b = taken-within k f.locals i l h in let c = e.base_place in omega (arith, b, c)),
+        lower-in_front e.w fs (let c = e.base_frame in omega (arith, c)),
+      );
+    }
   where
     taken-within : (k : ℕ) (ls : List Local) (i : ℕ) (l : Local) → slice_get (take k ls) i ≡ Some l → i < k
     taken-within zero ls i l h = none-some h
     taken-within (suc k) [] i l h = none-some h
     taken-within (suc k) (m ∷ ls) zero l h = omega arith
     taken-within (suc k) (m ∷ ls) (suc i) l h = let r = taken-within k ls i l h in omega (arith, r)
+
+leave_fits : (t : Tree) → Accepted t → (s : State) (k : ℕ) (later : List Item) → s.items ≡ LeaveAt k ∷ later → Fit t s → (fs : List Frame) →
+    s.frames ≡ fs →
+    Fit t (step_leave k (record s { items = later }) s.windows)
+leave_fits t a s k later is fit [] at = let P : List Frame → Type 0 = λ q. FramesFit t q s.windows s.items in absurd (subst P at fit.frames)
+leave_fits t a s k later is fit (f ∷ fs) at =
+    let e = leaving t a s k later fit f fs at is in
+    let g : Frame = record f { locals = take k f.locals } in
+    let popped = pop-window t.classes s.store (g ∷ fs) e.w e.v e.us (length s.managers) s.windows_made e.fits e.front in
+    let T : List Window → Type 0 = λ q. Fit t (step_leave k (record s { items = later }) q) in
+    let u : State = record (keep_locals k (record s { items = later })) { windows = e.v ∷ e.us } in
+    let frames : u.frames ≡ g ∷ fs = rw at refl in
+    subst T (sym e.windows) (data-fit t u
+    (let R : List Frame → Type 0 = λ q. FramesFit t q (e.v ∷ e.us) later in subst R (sym frames) e.frames_fit)
+    (let R : List Frame → Type 0 = λ q. Data t.classes s.store q (e.v ∷ e.us) (length s.managers) s.windows_made in subst R (sym frames) popped))
 
 leave-store : (k : ℕ) (s : State) (ws : List Window) → (step_leave k s ws).store ≡ s.store
 leave-store k s [] = refl

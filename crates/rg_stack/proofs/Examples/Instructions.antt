@@ -20,16 +20,16 @@ abbrev seen : ℕ → Val → Label → Seen
 seen n r l = record { class = 0; fields = Int (pos n) ∷ r ∷ []; label = l }
 
 -- object 0 lies in region 0; object 1 is the bridge of region 1, which owns region 2 with object 2
-abbrev store : Label → Label → List Seen
+abbrev pub store : Label → Label → List Seen
 store one two = seen 5 Nil (label.Region 0) ∷ seen 6 (Obj 2) one ∷ seen 7 Nil two ∷ []
 
-abbrev plain_store : List Seen
+abbrev pub plain_store : List Seen
 plain_store = store (label.Region 1) (label.Region 2)
 
-abbrev window : Window
+abbrev pub window : Window
 window = record { number = 0; region = 0; owner = None; base = 0 }
 
-abbrev machine_of : List Seen → List Frame → Machine
+abbrev pub machine_of : List Seen → List Frame → Machine
 machine_of objects frames = record {
   store = objects;
   frames = frames;
@@ -39,24 +39,24 @@ machine_of objects frames = record {
   at = 10;
 }
 
-abbrev work_of : Machine → Work
+abbrev pub work_of : Machine → Work
 work_of m = record { machine = m; input = codes "12 x"; printed = None }
 
 -- slots: a reference to object 0, a number, the owner of region 1, and one that is free
-abbrev slots : List Val
+abbrev pub slots : List Val
 slots = Obj 0 ∷ Int (pos 3) ∷ Obj 1 ∷ Nil ∷ []
 
-abbrev frame : List Val → Frame
+abbrev pub frame : List Val → Frame
 frame values = record { slots = values; back = 0 }
 
 -- the machine with these slots
-abbrev with : List Val → Work
+abbrev pub with : List Val → Work
 with values = work_of (machine_of plain_store (frame values ∷ []))
 
 abbrev w : Work
 w = with slots
 
-abbrev code : Code
+abbrev pub code : Code
 code = record {
   ops = [];
   openings = (word.Int (pos 0) ∷ word.Nil ∷ []) ∷ [];
@@ -270,7 +270,7 @@ enter_of_nil : does (i.Enter 3 3) [] ≡ Traps trap.Nil
 enter_of_nil = refl
 
 -- the machine in the block of an `enter`
-abbrev entered : Work
+abbrev pub entered : Work
 entered = work_of (record (machine_of plain_store (frame (Obj 0 ∷ Int (pos 3) ∷ Obj 1 ∷ Obj 1 ∷ []) ∷ [])) {
   windows = record { number = 1; region = 1; owner = Some (place.Var 0 2); base = 3 } ∷ window ∷ [];
   windows_made = 2;

@@ -1,40 +1,61 @@
 -- From the invariant itself: where a statement begins that isn't a `return`, and at a `return`.
 use Rattle.std.proofs.Common.{true, reverse, ◌≡◌, ℕ, suc, ◌⊎◌, inl, inr, List, [], ◌∷◌, length, map, Option, Some, None, Ok, refl, sym, ap, subst}
-use Rattle.std.proofs.Common.{◌∙◌, slice_get, unwrap_or}
+use Rattle.std.proofs.Common.{◌∙◌, ◌++◌, ok_or, true≢false, false, Bool as Truth, slice_get, unwrap_or}
 use Rattle.std.proofs.lemmas.List.{length-map, length-reverse}
 use Rattle.rg_base.specs.declared.ty.Ty.{Ty}
 use Rattle.rg_base.specs.declared.value.Val.{Val}
 use Rattle.rg_base.specs.declared.object.Seen.{Seen}
 use Rattle.rg_base.specs.declared.words.Manager.{Manager}
-use Rattle.rg_tree.specs.Tree.{Name, Ty as Written, Expr, stmt, StmtKind, return, Method, Tree}
+use Rattle.rg_tree.specs.Tree.{Name, Ty as Written, Variable, Expr, Call, Right, stmt, StmtKind, declare, assign, call, swap, branch, while, enter}
+use Rattle.rg_tree.specs.Tree.{print, collect, return, Method, Class, Tree}
+use Rattle.rg_base.specs.declared.fault.Code.TheVariants.{Unknown}
+use Rattle.std.proofs.lemmas.Option.{none-some}
+use Rattle.std.specs.Prelude.{not, ◌||◌}
 use Rattle.rg_rules.specs.Acceptance.{Accepted}
-use Rattle.rg_rules.specs.Types.{method_named}
-use Rattle.rg_rules.specs.Environment.{Env}
+use Rattle.rg_rules.specs.Types.{type_of, method_named}
+use Rattle.rg_rules.specs.Environment.{Env, Entry, entry_of, at_depth, is_lent}
+use Rattle.rg_rules.specs.Capabilities.{stays_at_depth}
 use Rattle.rg_rules.specs.Items.{Item, Do}
 use Rattle.rg_rules.specs.Bodies.{Body, method_body, method_end}
-use Rattle.rg_rules.specs.Statements.{judge_block, judge_kind}
-use Rattle.rg_rules.specs.State.{Local, Target, Frame, Window}
+use Rattle.rg_rules.specs.Statements.{judge_block, judge_kind, judge_assign}
+use Rattle.rg_rules.specs.State.{Local, Target, Declares, Assigns, Drops, Frame, Window, State}
+use Rattle.rg_rules.specs.Owners.{leads_into}
+use Rattle.rg_rules.specs.Evaluation.{uses, cleared}
 use Rattle.rg_rules.specs.Steps.{next}
+use Rattle.rg_rules.proofs.AnswersLemmas.{bind-ok, test-then, ok_or-ok, at_line-ok}
 use Rattle.rg_rules.proofs.AcceptanceLemmas.{Accepted-parts, Accepted-method}
 use Rattle.rg_rules.proofs.PointLemmas.{BeginsFree, spot-advance}
-use Rattle.rg_sound.specs.Values.{FrameMeets}
-use Rattle.rg_sound.specs.Objects.{ObjectsFit}
-use Rattle.rg_sound.specs.Frames.{Entered, Waits, WaitsEmpty, Beneath, Running}
-use Rattle.rg_code.specs.Lowering.{lowered}
+use Rattle.rg_sound.specs.Values.{Meets}
+use Rattle.rg_sound.specs.OpenRegions.{AllOwned}
+use Rattle.rg_sound.proofs.Frames.StandsLemmas.{IsElsewhere}
+use Rattle.rg_sound.proofs.Frames.TopLemmas.{running-top}
+use Rattle.rg_sound.proofs.Owners.OwnerLemmas.{AllOwners, AllOwners-map}
+use Rattle.rg_sound.proofs.Owners.DataLemmas.{Data, pop-frame}
+use Rattle.rg_sound.proofs.Values.RightLemmas.{OwnsFreshAs}
+use Rattle.rg_sound.proofs.Values.DeliverLemmas.{waits-doing, pop-leads, elsewhere-leads}
+use Rattle.rg_sound.specs.Frames.{Entered, Waits, WaitsEmpty, Beneath, Running, right_call, with_target, assigned_call, call_of}
+use Rattle.rg_code.specs.Lowering.{assign_op, lowered}
+use Rattle.rg_code.specs.Places.{scope_of}
 use Rattle.rg_stack.specs.Machine.{Frame as Shown}
-use Rattle.rg_stack.specs.Runs.{step}
+use Rattle.rg_stack.specs.Given.{given_step as step}
 use Rattle.rg_stack.proofs.Mirrors.{Mirrors}
-use Rattle.rg_stack.specs.Shows.{sizes_of}
+use Rattle.rg_stack.specs.Shows.{ShowsFrames, ShowsWindows, sizes_of}
+use Rattle.rg_stack.specs.Needs.{needs, owned_once, loose}
 use Rattle.rg_stack.proofs.Mirrors.{SameMove}
 use Rattle.rg_stack.proofs.Walks.PlaceLemmas.{GoesOn}
 use Rattle.rg_stack.proofs.Walks.FrameLemmas.{OpenedBelow}
 use Rattle.rg_stack.proofs.Walks.EndLemmas.{Round, work, state}
 use Rattle.rg_stack.proofs.Statements.BaseLemmas.{as_many}
-use Rattle.rg_stack.proofs.Statements.ReturnLemmas.{TargetHas, above}
+use Rattle.rg_stack.proofs.Basics.{some-is}
+use Rattle.rg_stack.proofs.Needs.LeadLemmas.{ShowsFit}
+use Rattle.rg_stack.proofs.Needs.OnceLemmas.{owned_once-fits, loose-fits}
+use Rattle.rg_stack.proofs.Walks.NeedLemmas.{and-both}
+use Rattle.rg_stack.proofs.Statements.ReturnLemmas.{TargetHas, TargetNeeds, above}
 use Rattle.rg_stack.proofs.Judgements.BaseLemmas.{beneath-begins}
-use Rattle.rg_stack.proofs.Judgements.FitLemmas.{running-beneath}
+use Rattle.rg_stack.proofs.Judgements.FitLemmas.{found-named, running-beneath}
+use Rattle.rg_stack.proofs.Judgements.MiddleLemmas.{Begun, begun_of, variable-needs}
 use Rattle.rg_stack.proofs.Judgements.SpotLemmas.{leaves_frame, outer-enters}
-use Rattle.rg_stack.proofs.Judgements.StatementLemmas.{Live, fits_of, statement-judged, return-judged, target-has}
+use Rattle.rg_stack.proofs.Judgements.StatementLemmas.{Live, not_true, fits_of, statement-judged, return-judged, target-has}
 
 end_free : (result : Option Written) → BeginsFree (method_end result)
 end_free None = tt
@@ -111,32 +132,160 @@ pub fit-statement : (t : Tree) (accepted : Accepted t) (r : Round) (store : List
     (managers : List Manager) (input : List ℕ) (line : ℕ) (k : StmtKind) (j : Item) (rest : List Item)
     → GoesOn k
     → (h : Running t (record { locals = locals; target = r.target }) r.bodies r.opened (Do (stmt line k) ∷ j ∷ rest))
-    → FrameMeets store r.opened (length r.bodies) locals
-    → ObjectsFit t.classes store r.opened
+    → Data t.classes store (record { locals = locals; target = r.target } ∷ r.bodies) r.opened (length managers) r.made
     → Live t accepted r store slots locals managers input line j rest h.spot.env
     → Mirrors t.classes (lowered t) (work r store slots managers input).machine (state r store locals managers input (Do (stmt line k) ∷ j ∷ rest))
     → SameMove t.classes (lowered t) r.output (next t.classes (state r store locals managers input (Do (stmt line k) ∷ j ∷ rest)))
     (step (lowered t) (work r store slots managers input))
-fit-statement t accepted r store slots locals managers input line k j rest goes h meets objects live shows =
+fit-statement t accepted r store slots locals managers input line k j rest goes h fits live shows =
     let judged = here-judged t accepted (record { locals = locals; target = r.target }) r.bodies r.opened line k (j ∷ rest) h in
     statement-judged t accepted r store slots locals managers input line j rest h.spot.env judged.last k judged.out goes
     (fits_of t accepted r store slots locals managers input line j rest h.spot.env shows.slots shows.windows (Do (stmt line k) ∷ j ∷ rest) h refl
-    meets objects live)
+    fits live)
     shows judged.right
+
+-- a variable that takes a result isn't lent
+abbrev TargetFree : Env → Target → Type 0
+TargetFree env (Declares x t) = Unit {0}
+TargetFree env (Assigns x) = (e : Entry) × (entry_of env x ≡ Some e) × (is_lent e.readiness ≡ false)
+TargetFree env Drops = Unit {0}
+
+with_free : (env : Env) (o : Option Call) (first target : Target) (c : Call) → with_target first o ≡ Some (c, target)
+    → TargetFree env first → TargetFree env target
+with_free env None first target c h free = absurd (none-some (c, target) h)
+with_free env (Some d) first target c h free = subst (λ k. TargetFree env k) (ap (λ p. p.1) (some-is (d, first) (c, target) h)) free
+
+assigned_free : (classes : List Class) (env out : Env) (x : Variable) (fs : List Name) (right : Right) (c : Call) (target : Target)
+    → judge_assign classes env x fs right ≡ Ok out → assigned_call x fs right ≡ Some (c, target) → TargetFree env target
+assigned_free classes env out x [] right c target judged h =
+    let e = bind-ok (ok_or (entry_of env x) Unknown) _ out judged in
+    let a = test-then (e.0.assignable) _ _ out e.2 in
+    let b = test-then (at_depth env e.0 || not (stays_at_depth e.0.ty)) _ _ out a.1 in
+    let l = test-then (not (is_lent e.0.readiness)) _ _ out b.1 in
+    with_free env (right_call right) (Assigns x) target c h
+    (e.0, ok_or-ok (entry_of env x) Unknown e.0 e.1, not_true (is_lent e.0.readiness) l.0)
+assigned_free classes env out x (g ∷ gs) right c target judged h = absurd (none-some (c, target) h)
+
+target_free : (classes : List Class) (last : Option Ty) (line : ℕ) (env out : Env) (k : StmtKind) (c : Call) (target : Target)
+    → judge_kind classes last line env k ≡ Ok out → call_of classes k ≡ Some (c, target) → TargetFree env target
+target_free classes last line env out (declare x ty right) c target judged h =
+    with_free env (right_call right) (Declares x (type_of classes ty)) target
+    c h tt
+target_free classes last line env out (assign p right) c target judged h = assigned_free classes env out p.base p.fields right c target
+    (at_line-ok line _ out judged) h
+target_free classes last line env out (call d) c target judged h = with_free env (Some d) Drops target c h tt
+target_free classes last line env out (swap y p) c target judged h = absurd (none-some (c, target) h)
+target_free classes last line env out (branch e b other) c target judged h = absurd (none-some (c, target) h)
+target_free classes last line env out (while e b) c target judged h = absurd (none-some (c, target) h)
+target_free classes last line env out (enter p z b) c target judged h = absurd (none-some (c, target) h)
+target_free classes last line env out (print e) c target judged h = absurd (none-some (c, target) h)
+target_free classes last line env out collect c target judged h = absurd (none-some (c, target) h)
+target_free classes last line env out (return e) c target judged h = absurd (none-some (c, target) h)
+
+-- a result that is owned nowhere may go to its target in the frame beneath
+module _ (t : Tree) (accepted : Accepted t) (r : Round) (slots under : List Val) (locals callers : List Local) (back : ℕ) (target : Target)
+    (store : List Seen) (managers : List Manager) (input : List ℕ) (items : List Item)
+    (h : Running t (record { locals = locals; target = target }) (record { locals = callers; target = r.target } ∷ r.bodies) r.opened items)
+    (none : h.own ≡ []) (shows : ShowsFrames (record { slots = under; back = r.back } ∷ r.frames)
+    (record { locals = callers; target = r.target } ∷ r.bodies))
+    (windows : ShowsWindows (sizes_of (record { slots = slots; back = back } ∷ record { slots = under; back = r.back } ∷ r.frames)) r.windows
+    r.opened)
+    (v : Val) (ty : Ty) (after : List Local) where
+  abbrev caller : Frame
+  caller = record { locals = callers; target = r.target }
+
+  abbrev gone_frame : Frame
+  gone_frame = record { locals = after; target = target }
+
+  popped : AllOwned t.classes store (record { locals = locals; target = target } ∷ caller ∷ r.bodies) r.opened
+      → Data t.classes store (gone_frame ∷ caller ∷ r.bodies) r.opened (length managers) r.made
+      → Data t.classes store (caller ∷ r.bodies) r.opened (length managers) r.made
+  popped owned fits =
+      let top = running-top t accepted store (record { locals = locals; target = target }) (caller ∷ r.bodies) r.opened items h owned in
+      let are : r.opened ≡ h.under = h.windows_are ∙ ap (λ l. l ++ h.under) none in
+      pop-frame t.classes store gone_frame (caller ∷ r.bodies) r.opened (length managers) r.made fits
+      (subst (λ q. AllOwners q (λ p. leads_into t.classes store (caller ∷ r.bodies) p
+      ≡ leads_into t.classes store (gone_frame ∷ caller ∷ r.bodies) p)) (sym are)
+      (AllOwners-map h.under (IsElsewhere (length (caller ∷ r.bodies))) (λ p. leads_into t.classes store (caller ∷ r.bodies) p
+      ≡ leads_into t.classes store (gone_frame ∷ caller ∷ r.bodies) p)
+      (elsewhere-leads t.classes store gone_frame (caller ∷ r.bodies)) top.elsewhere))
+
+  taken_by : Data t.classes store (caller ∷ r.bodies) r.opened (length managers) r.made → Meets store r.opened ty v
+      → OwnsFreshAs t.classes store (caller ∷ r.bodies) ty v
+      → (k : Target) → k ≡ target → TargetNeeds (lowered t) k callers v (work r store under managers input).machine
+  taken_by fits meets fresh (Declares x w) is = tt
+  taken_by fits meets fresh Drops is =
+      let d = shown fits in
+      let m = (work r store under managers input).machine in
+      and-both (owned_once m) (loose m v) (owned_once-fits t.classes m (caller ∷ r.bodies) r.opened d)
+      (loose-fits t.classes m (caller ∷ r.bodies) r.opened r.opened d (λ l o. o) ty v meets fresh)
+    where
+      shown : Data t.classes store (caller ∷ r.bodies) r.opened (length managers) r.made
+          → ShowsFit t.classes (work r store under managers input).machine (caller ∷ r.bodies) r.opened
+      shown fits = record {
+        regions = length managers;
+        made = r.made;
+        sizes = sizes_of (record { slots = slots; back = back } ∷ record { slots = under; back = r.back } ∷ r.frames);
+        fits = fits;
+        slots = shows;
+        windows = windows;
+      }
+  taken_by fits meets fresh (Assigns x) is = by_waiting h.beneath.7
+    where
+      by_waiting : Waits t.classes h.beneath.0 caller (length r.bodies) h.beneath.1 h.beneath.3 h.body target
+          ⊎ WaitsEmpty t h.beneath.0 caller h.beneath.1 h.beneath.3 h.body target
+          → needs (lowered t) (assign_op (scope_of callers) x) (v ∷ []) (work r store under managers input).machine ≡ true
+      by_waiting (inr w) = absurd (true≢false (ap is_assign (is ∙ w.nothing_taken)))
+        where
+          is_assign : Target → Truth
+          is_assign (Declares x t) = false
+          is_assign (Assigns x) = true
+          is_assign Drops = false
+      by_waiting (inl w) =
+          let b = h.beneath in
+          let s : State = state r store callers managers input (Do (stmt w.line w.kind) ∷ (b.3 ++ b.4)) in
+          let are : r.opened ≡ b.1 ++ b.2 = h.windows_are ∙ ap (λ l. l ++ h.under) none ∙ b.5 in
+          let doing = waits-doing t accepted s b.0 caller r.bodies b.1 b.2 b.3 b.4 h.body target w b.8 are fits refl in
+          let begun : Begun t r store under callers managers w.spot.env = record {
+            items = Do (stmt w.line w.kind) ∷ (b.3 ++ b.4);
+            run = doing.r;
+            is = refl;
+            top = doing.top;
+            fits = fits;
+            frames = shows.1;
+            sizes = sizes_of (record { slots = slots; back = back } ∷ record { slots = under; back = r.back } ∷ r.frames);
+            windows = windows;
+            shows = shows.0;
+          } in
+          let judged = body-judged t accepted r.bodies b.2 b.4 b.0 r.target b.8 in
+          let a = spot-advance t.classes b.0.result b.0.front judged.out b.0.block b.0.after [] w.point w.spot (stmt w.line w.kind) b.3 judged.free
+          judged.right w.spot_is w.begins in
+          let free = target_free t.classes a.last w.line w.spot.env a.out w.kind w.calls.made (Assigns x) a.right
+          (w.calls.made_is ∙ ap (λ k. Some (w.calls.made, k)) (sym is)) in
+          variable-needs t r store under callers managers input w.spot.env begun (lowered t) x free.0 free.1 free.2
+          (found-named w.spot.env.entries callers x free.0 w.stands.named free.1).type_is ty store under callers managers input v shows.0 refl
+          (record { named = w.stands.named; fits = fits; meets = meets; fresh = fresh; keeps = λ b o there is. there })
+
+  pub returned-needs : AllOwned t.classes store (record { locals = locals; target = target } ∷ caller ∷ r.bodies) r.opened
+      → Data t.classes store (gone_frame ∷ caller ∷ r.bodies) r.opened (length managers) r.made → Meets store r.opened ty v
+      → OwnsFreshAs t.classes store (gone_frame ∷ caller ∷ r.bodies) ty v
+      → TargetNeeds (lowered t) target callers v (work r store under managers input).machine
+  returned-needs owned fits meets fresh = taken_by (popped owned fits) meets
+      (λ n y. let q = fresh n y in (q.0, λ z o. q.1 z (pop-leads t.classes store gone_frame (caller ∷ r.bodies) z n o))) target refl
 
 -- a `return`
 pub fit-return : (t : Tree) (accepted : Accepted t) (r : Round) (slots under : List Val) (locals callers : List Local) (back : ℕ) (target : Target)
     (store : List Seen) (managers : List Manager) (input : List ℕ) (line : ℕ) (e : Expr) (j : Item) (rest : List Item)
     → (h : Running t (record { locals = locals; target = target }) (record { locals = callers; target = r.target } ∷ r.bodies) r.opened
     (Do (stmt line (return e)) ∷ j ∷ rest))
-    → FrameMeets store r.opened (suc (length r.bodies)) locals
-    → ObjectsFit t.classes store r.opened
+    → Data t.classes store (record { locals = locals; target = target } ∷ record { locals = callers; target = r.target } ∷ r.bodies) r.opened
+    (length managers) r.made
     → Mirrors t.classes (lowered t) (work (above r under callers back target) store slots managers input).machine
     (state (above r under callers back target) store locals managers input (Do (stmt line (return e)) ∷ j ∷ rest))
     → SameMove t.classes (lowered t) r.output (next t.classes
     (state (above r under callers back target) store locals managers input (Do (stmt line (return e)) ∷ j ∷ rest)))
     (step (lowered t) (work (above r under callers back target) store slots managers input))
-fit-return t accepted r slots under locals callers back target store managers input line e j rest h meets objects shows =
+fit-return t accepted r slots under locals callers back target store managers input line e j rest h fits shows =
     let top : Frame = record { locals = locals; target = target } in
     let caller : Frame = record { locals = callers; target = r.target } in
     let f : Shown = record { slots = under; back = r.back } in
@@ -148,9 +297,14 @@ fit-return t accepted r slots under locals callers back target store managers in
     let sizes : suc (length r.bodies) ≡ length (sizes_of (f ∷ r.frames)) =
     ap suc (sym (as_many r.frames r.bodies shows.slots.1.1))
     ∙ sym (length-reverse (map (λ (f : Shown). length f.slots) (f ∷ r.frames)) ∙ length-map (f ∷ r.frames) (λ (f : Shown). length f.slots)) in
-    return-judged t r slots under locals callers back target store managers input line e j rest h.spot.env judged.last judged.out h.stands.named meets
-    objects shows judged.right
+    return-judged t r slots under locals callers back target store managers input line e j rest h.spot.env judged.last judged.out h.stands.named
+    fits.values.0 fits.objects shows judged.right
     (subst (λ n. OpenedBelow n r.opened) sizes below)
     (beneath-begins t accepted (record { slots = slots; back = back }) f r.frames r.windows top caller r.bodies r.opened
     (Do (stmt line (return e)) ∷ j ∷ rest) shows.slots shows.windows h none)
     (beneath-has t accepted caller r.bodies h.under h.rest h.body target h.beneath)
+    (begun_of t accepted (above r under callers back target) store slots locals managers h.spot.env shows.slots shows.windows
+    (Do (stmt line (return e)) ∷ j ∷ rest) h refl fits)
+    (λ v ty store_fits meets fresh. returned-needs t accepted r slots under locals callers back target store managers input
+    (Do (stmt line (return e)) ∷ j ∷ rest) h none shows.slots.1 shows.windows v ty
+    (cleared (uses locals e) locals) fits.opened.owned store_fits meets fresh)

@@ -1,8 +1,9 @@
 -- What the invariant gives: declared types, classes of objects, truth values, regions of owner references, and the frames in which windows opened.
-use Rattle.std.proofs.Common.{◌≡◌, ℕ, suc, ◌≤◌, true, false, true≢false, ◌⊎◌, inl, inr, Bool as Truth, if◌then◌else◌, List, [], ◌∷◌, ◌++◌, length}
-use Rattle.std.proofs.Common.{find, Option, Some, None, option_map, Ok, refl, sym, ap, subst, ◌∙◌, arith, slice_get, unwrap_or}
+use Rattle.std.proofs.Common.{◌≡◌, ℕ, suc, ◌≤◌, ◌<◌, true, false, true≢false, ◌⊎◌, inl, inr, Bool as Truth, if◌then◌else◌, List, [], ◌∷◌, ◌++◌}
+use Rattle.std.proofs.Common.{length, find, Option, Some, None, option_map, Ok, refl, sym, ap, subst, ◌∙◌, arith, slice_get, unwrap_or}
 use Rattle.std.specs.Prelude.{bytes_eq, reverse}
 use Rattle.std.proofs.lemmas.Option.{none-some}
+use Rattle.std.proofs.lemmas.Bool.{lt-ltb}
 use Rattle.rg_base.specs.declared.words.Cap.{Cap}
 use Rattle.rg_base.specs.declared.words.Cap.TheVariants.{Mut, Tmp, Paused, Imm, Iso}
 use Rattle.rg_base.specs.declared.ty.Ty.{Ty}
@@ -34,6 +35,7 @@ use Rattle.rg_stack.proofs.Walks.FrameLemmas.{OpenedBelow}
 use Rattle.rg_stack.proofs.Walks.SlotLemmas.{Has}
 use Rattle.rg_stack.proofs.Statements.RightLemmas.{InRegion}
 use Rattle.rg_stack.proofs.Basics.{some-is, err-ok}
+use Rattle.rg_stack.proofs.Judgements.FollowLemmas.{HaveFields}
 use Rattle.rg_stack.proofs.Judgements.JudgeLemmas.{OfType, Facts}
 
 -- a value that meets a type is of that type
@@ -176,6 +178,26 @@ field-in_region classes store ws h v o f t there live declared iso =
     (λ t v m i. meets-iso store (FieldFits ws o.label) (field_iso ws o.label live) t v i m) (fields_of classes o.class) o.fields f t fit.fields
     declared iso
 
+place_within : (b : Truth) (place : Option ℕ) (n k : ℕ) → ((j : ℕ) → place ≡ Some j → j < n)
+    → (if b then Some 0 else option_map suc place) ≡ Some k → k < suc n
+place_within true place n k more e = let is = some-is 0 k e in omega (arith, is)
+place_within false None n k more e = absurd (none-some k e)
+place_within false (Some j) n k more e = let is = some-is (suc j) k e in let less = more j refl in omega (arith, is, less)
+
+-- an object has the fields of its class
+fields-there : (classes : List Class) (store : List Seen) (F : Cap → Label → Type 0) (fs : List Field) (vs : List Val) (x : Name) (k : ℕ)
+    → FieldsMeet classes store F fs vs → field_place fs x ≡ Some k → k < length vs
+fields-there classes store F [] vs x k h e = absurd (none-some k e)
+fields-there classes store F (f ∷ fs) [] x k h e = absurd h
+fields-there classes store F (f ∷ fs) (v ∷ vs) x k h e = place_within (bytes_eq f.name x) (field_place fs x) (length vs) k
+    (λ j is. fields-there classes store F fs vs x j h.1 is) e
+
+objects-sizes : (classes : List Class) (store : List Seen) (ws : List Window) → ObjectsFit classes store ws → HaveFields classes store
+objects-sizes classes store ws h v o f k there place =
+    let l = object_at-ok store v o there in
+    lt-ltb k (length o.fields)
+    (fields-there classes store (FieldFits ws o.label) (fields_of classes o.class) o.fields f k (h l.address o l.there).fields place)
+
 pub objects-fields : (classes : List Class) (store : List Seen) (ws : List Window) → ObjectsFit classes store ws
     → (v : Val) (o : Seen) (f : Name) (t : Ty) → object_at store v ≡ Ok o → field_type classes o.class f ≡ Some t
     → OfType store t (field_value classes o f)
@@ -194,6 +216,7 @@ facts_of classes env store windows n locals named meets objects = record {
       subst (OfType store e.ty) (sym f.value_is) (subst (λ t. OfType store t f.local.value) f.ty_is
       (meets-of_type store (LabelFits (windows_of n f.place windows)) f.local.ty f.local.value (meets f.place f.local f.there)));
   fields = objects-fields classes store windows objects;
+  sizes = objects-sizes classes store windows objects;
 }
 
 -- what `freeze`, `merge` and `enter x` want of their variable

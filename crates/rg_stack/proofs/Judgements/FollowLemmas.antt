@@ -1,7 +1,7 @@
 -- What the judgements and the invariant give of paths: each object on the way has the class of the declared type.
 use Rattle.std.proofs.Common.{◌≡◌, ℕ, suc, true, false, Bool as Truth, if◌then◌else◌, List, [], ◌∷◌, find, Option, Some, None, option_map, ok_or}
 use Rattle.std.proofs.Common.{Ok, Err, refl, sym, ap, subst, ◌∙◌, arith, slice_get, unwrap_or}
-use Rattle.std.specs.Prelude.{bytes_eq}
+use Rattle.std.specs.Prelude.{bytes_eq, nat_lt, length}
 use Rattle.std.proofs.lemmas.Option.{none-some}
 use Rattle.rg_base.specs.declared.ty.Ty.{Ty}
 use Rattle.rg_base.specs.declared.ty.Ty.TheVariants.{Int, Bool, Ref}
@@ -35,6 +35,11 @@ HasClass store t v = (o : Seen) → object_at store v ≡ Ok o → class_is t �
 abbrev pub FieldsHaveClasses : List Class → List Seen → Type 0
 FieldsHaveClasses classes store = (v : Val) (o : Seen) (f : Name) (t : Ty) → object_at store v ≡ Ok o → field_type classes o.class f ≡ Some t
     → HasClass store t (field_value classes o f)
+
+-- objects have the fields of their classes
+abbrev pub HaveFields : List Class → List Seen → Type 0
+HaveFields classes store = (v : Val) (o : Seen) (f : Name) (k : ℕ) → object_at store v ≡ Ok o → field_place (fields_of classes o.class) f ≡ Some k
+    → nat_lt k (length o.fields) ≡ true
 
 -- a field has a place where it has a type
 place_of_type : (t : Truth) (ty : Option Ty) (place : Option ℕ) (first : Ty) (d : Ty) → ((d : Ty) → ty ≡ Some d → (k : ℕ) × (place ≡ Some k))
@@ -74,9 +79,9 @@ field_of_type classes (Ref k b) f c e =
 
 -- a walk that the rules allow follows fields that are there
 pub follows_of : (classes : List Class) (store : List Seen) (fs : List Name) (u t r : Ty) (v : Val) → class_is u ≡ class_is t
-    → walk_fields classes u fs ≡ Ok r → HasClass store t v → FieldsHaveClasses classes store → Follows classes store t v fs
-follows_of classes store [] u t r v same walked has fields = tt
-follows_of classes store (f ∷ fs) u t r v same walked has fields = λ o there.
+    → walk_fields classes u fs ≡ Ok r → HasClass store t v → FieldsHaveClasses classes store → HaveFields classes store → Follows classes store t v fs
+follows_of classes store [] u t r v same walked has fields sizes = tt
+follows_of classes store (f ∷ fs) u t r v same walked has fields sizes = λ o there.
     let p = bind-ok (walk_field classes u f) _ r walked in
     let q = bind-ok (look_up classes u f) _ p.0 p.1 in
     let w = look_up-ok classes u f q.0 q.1 in
@@ -89,9 +94,11 @@ follows_of classes store (f ∷ fs) u t r v same walked has fields = λ o there.
       ap (λ k. elim k [ None ↦ val.Nil | Some n ↦ unwrap_or (slice_get o.fields n) val.Nil ])
           (ap (λ c. field_place (fields_of classes c) f) class_of_o ∙ place.1)
           ∙ ap (λ n. unwrap_or (slice_get o.fields n) val.Nil) (sym number),
+      ap (λ n. nat_lt n (length o.fields)) number
+          ∙ sizes v o f place.0 there (ap (λ c. field_place (fields_of classes c) f) class_of_o ∙ place.1),
       follows_of classes store fs p.0 (type_behind classes t f) r (field_value classes o f)
           (sym (read-class q.0.receiver q.0.ty p.0 q.2) ∙ ap class_is (sym behind)) p.2
           (subst (λ d. HasClass store d (field_value classes o f)) (sym behind)
           (fields v o f q.0.ty there (ap (λ c. field_type classes c f) class_of_o ∙ w.declared)))
-          fields,
+          fields sizes,
     )

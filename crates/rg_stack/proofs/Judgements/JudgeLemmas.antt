@@ -34,7 +34,7 @@ use Rattle.rg_stack.proofs.Walks.PlaceLemmas.{GoesOn, AllGoOn}
 use Rattle.rg_stack.proofs.Statements.AssignLemmas.{HolderOwes}
 use Rattle.rg_stack.proofs.Statements.CallLemmas.{Gives}
 use Rattle.rg_stack.proofs.Basics.{some-is}
-use Rattle.rg_stack.proofs.Judgements.FollowLemmas.{class_is, HasClass, place_if_type, read-class, field_of_type, follows_of}
+use Rattle.rg_stack.proofs.Judgements.FollowLemmas.{class_is, HasClass, place_if_type, read-class, field_of_type, follows_of, HaveFields}
 
 -- whether a type is that of truth values
 abbrev pub is_bool : Ty → Truth
@@ -54,6 +54,8 @@ pub record Facts (classes : List Class) (env : Env) (store : List Seen) (locals 
   -- so has each field of an object
   pub fields : (v : Val) (o : Seen) (f : Name) (t : Ty) → object_at store v ≡ Ok o → field_type classes o.class f ≡ Some t
       → OfType store t (field_value classes o f)
+  -- and each object has the fields of its class
+  pub sizes : HaveFields classes store
 
 pause-class : (t : Ty) → class_is (pause t) ≡ class_is t
 pause-class Int = refl
@@ -175,7 +177,8 @@ module _ (classes : List Class) (env : Env) (store : List Seen) (locals : List L
       let there = ok_or-ok (entry_of env x) Unknown e p.1 in
       let is = facts.declared x e there in
       follows_of classes store fs (seen_type env e) (type_in (scope_of locals) x) t (value_in locals x) (seen-class env e ∙ ap class_is (sym is)) p.2
-      (subst (λ d. HasClass store d (value_in locals x)) (sym is) ((facts.variables x e there).0)) (λ v o f t a b. (facts.fields v o f t a b).0)
+      (subst (λ d. HasClass store d (value_in locals x)) (sym is) ((facts.variables x e there).0))
+      (λ v o f t a b. (facts.fields v o f t a b).0) facts.sizes
 
   -- and comes to a value of the declared type
   pub walk-reaches : (x : Variable) (fs : List Name) (t : Ty) (w : Val) → walk classes env x fs ≡ Ok t

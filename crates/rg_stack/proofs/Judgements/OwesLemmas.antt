@@ -215,17 +215,20 @@ module _ (classes : List Class) (store : List Seen) (windows : List Window) (n :
       )
 
   -- what a judged call gives: its method, by the class that the code names, and what its path and its arguments want
-  pub record CallGives (c : Call) (j : CallJudged) : Type 0 where
+  pub record CallGives (env : Env) (c : Call) (j : CallJudged) : Type 0 where
+    pub out : Env
     pub method : Method
     pub named : method_named classes (target_class classes (scope_of locals) c) c.method ≡ Some method
     pub arity : length c.args ≡ length method.params
+    pub judged : judge_args classes env (param_types classes method) c.args ≡ Ok out
+    pub many : length c.args ≡ length (param_types classes method)
     pub result : j.result ≡ method_result classes method
     pub follows : FollowsPath classes store locals (scope_of locals) c.target
     pub agrees : AllAgree classes store locals (scope_of locals) c.args
     pub class : (v : Val) (o : Seen) → path_value classes store locals c.target ≡ Ok v → object_at store v ≡ Ok o → o.class
         ≡ target_class classes (scope_of locals) c
 
-  pub call-gives : (env : Env) (c : Call) (j : CallJudged) → Named env.entries locals → judge_call classes env c ≡ Ok j → CallGives c j
+  pub call-gives : (env : Env) (c : Call) (j : CallJudged) → Named env.entries locals → judge_call classes env c ≡ Ok j → CallGives env c j
   call-gives env c j named h =
       let facts = facts_of classes env store windows n locals named meets objects in
       let x = c.target.base in
@@ -248,6 +251,9 @@ module _ (classes : List Class) (store : List Seen) (windows : List Window) (n :
       let result : j.result ≡ method_result classes m.0 = ap (λ (j : CallJudged). j.result) (sym whole) in
       let many : length c.args ≡ length m.0.params = same_number (length c.args) (length m.0.params) a.0 in
       record {
+        out = out.0;
+        judged = out.1;
+        many = many ∙ sym (length-map m.0.params _);
         method = m.0;
         named = ap (λ k. method_named classes k c.method) target ∙ ok_or-ok (method_named classes q.0.class c.method) Unknown m.0 m.1;
         arity = many;

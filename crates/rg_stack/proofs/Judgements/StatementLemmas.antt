@@ -1,7 +1,8 @@
 -- A statement of an accepted program: its step of the stack machine is one of the machine that never frees.
 use Rattle.std.proofs.Common.{◌≡◌, ◌+◌, ℕ, suc, true, false, true≢false, Bool as Truth, List, [], ◌∷◌, length, map, Option, Some, None, option_map}
 use Rattle.std.proofs.Common.{ok_or, Ok, refl, sym, ap, ◌∙◌, arith, subst}
-use Rattle.std.specs.Prelude.{not, ◌||◌}
+use Rattle.std.specs.Prelude.{not, nat_lt, ◌||◌, ◌&&◌}
+use Rattle.std.proofs.Common.{◌≤◌}
 use Rattle.std.proofs.lemmas.Option.{none-some}
 use Rattle.std.proofs.lemmas.List.{length-map, length-reverse}
 use Rattle.rg_base.specs.declared.ty.Ty.{Ty}
@@ -16,50 +17,66 @@ use Rattle.rg_tree.specs.Tree.{result_of, stmt, StmtKind, declare, assign, call,
 use Rattle.rg_tree.specs.Tree.{otherwise, Block, Method, Tree}
 use Rattle.rg_rules.specs.Answers.{at_line}
 use Rattle.rg_rules.specs.Acceptance.{Accepted}
-use Rattle.rg_rules.specs.Capabilities.{is_iso, iso_class, below, may_write, stays_at_depth}
-use Rattle.rg_rules.specs.Types.{type_of, good_type, method_named, method_result}
+use Rattle.rg_rules.specs.Capabilities.{is_iso, iso_class, below, same_type, may_write, stays_at_depth, printable}
+use Rattle.rg_rules.specs.Types.{type_of, good_type, method_named, method_result, param_types}
 use Rattle.rg_rules.specs.Environment.{Env, entry_of, visible, at_depth, is_ready, is_lent}
 use Rattle.rg_rules.specs.Paths.{walk_receiver, writable_field, all_but_last, last_field}
 use Rattle.rg_rules.specs.Items.{Item, Do}
 use Rattle.rg_rules.specs.Bodies.{gives_result, method_body}
-use Rattle.rg_rules.specs.Expressions.{judge_expr}
+use Rattle.rg_rules.specs.Expressions.{Judged, judge_expr}
 use Rattle.rg_rules.specs.Rights.{Called as CallJudged, judge_call, judge_right}
 use Rattle.rg_rules.specs.Statements.{judge_test, judge_block, judge_kind, is_call, judge_assign, judge_swap, judge_enter, swapped_field}
-use Rattle.rg_rules.specs.State.{Local, Target, Declares, Assigns, Drops}
-use Rattle.rg_rules.specs.Evaluation.{object_at, path_value}
+use Rattle.rg_rules.specs.State.{Local, Target, Declares, Assigns, Drops, place_in}
+use Rattle.rg_rules.specs.Evaluation.{object_at, path_value, value_of, uses, cleared}
 use Rattle.rg_rules.specs.Steps.{next}
 use Rattle.rg_rules.proofs.AnswersLemmas.{bind-ok, test-then, ok_or-ok, at_line-ok}
 use Rattle.rg_rules.proofs.AcceptanceLemmas.{Accepted-method}
-use Rattle.rg_sound.specs.Values.{FrameMeets}
+use Rattle.rg_sound.specs.Values.{Meets, FrameMeets}
 use Rattle.rg_sound.specs.Objects.{ObjectsFit}
+use Rattle.rg_sound.proofs.Owners.DataLemmas.{Data}
+use Rattle.rg_sound.proofs.Values.RightLemmas.{OwnsFreshAs, below-iso, ready-not_lent}
 use Rattle.rg_sound.specs.Frames.{Named, Running, right_call, with_target, assigned_call, call_of}
 use Rattle.rg_code.specs.Code.{Code}
-use Rattle.rg_code.specs.Lowering.{type_in, type_along, lowered, target_class}
+use Rattle.rg_code.specs.Lowering.{slot_of, type_in, type_along, used_slots, held_number, lowered, target_class}
 use Rattle.rg_code.specs.Places.{scope_of}
-use Rattle.rg_stack.specs.Runs.{step}
-use Rattle.rg_stack.specs.Machine.{Frame, slots_below}
+use Rattle.rg_stack.specs.Machine.{Frame, slots_below, slot_at}
+use Rattle.rg_stack.specs.Needs.{is_closed, owned_once, owns_or_nil, loose}
+use Rattle.rg_stack.specs.Given.{given_step as step}
 use Rattle.rg_stack.proofs.Mirrors.{Mirrors}
 use Rattle.rg_stack.specs.Shows.{ShowsFrames, ShowsWindows, sizes_of}
 use Rattle.rg_stack.proofs.Mirrors.{SameMove}
-use Rattle.rg_stack.proofs.Walks.WalkLemmas.{Agrees}
-use Rattle.rg_stack.proofs.Walks.PlaceLemmas.{GoesOn, AllGoOn}
+use Rattle.rg_stack.proofs.Walks.WalkLemmas.{Agrees, IsTruth}
+use Rattle.rg_stack.proofs.Walks.PlaceLemmas.{GoesOn, AllGoOn, and-left}
 use Rattle.rg_stack.proofs.Walks.FrameLemmas.{OpenedBelow}
-use Rattle.rg_stack.proofs.Walks.SlotLemmas.{Has}
-use Rattle.rg_stack.proofs.Walks.EndLemmas.{Round, work, state}
-use Rattle.rg_stack.proofs.Statements.RightLemmas.{RightOwes}
+use Rattle.rg_stack.proofs.Walks.SlotLemmas.{Has, cleared_slots, slot_place}
+use Rattle.rg_stack.proofs.Walks.EndLemmas.{Round, work, state, UsesUp, middle_whole, keeps_same}
+use Rattle.rg_stack.proofs.Walks.NeedLemmas.{and-both, not-false}
+use Rattle.rg_stack.proofs.Needs.ClosedLemmas.{behind-closed}
+use Rattle.rg_stack.proofs.Needs.OnceLemmas.{owned_once-fits, loose-fits}
+use Rattle.rg_stack.proofs.Statements.RightLemmas.{RightOwes, RightNeeds}
 use Rattle.rg_stack.proofs.Statements.AssignLemmas.{declare-mirrors, assign-mirrors, put-mirrors}
 use Rattle.rg_stack.proofs.Statements.BlockLemmas.{branch-mirrors, branch-else-mirrors, while-mirrors, print-mirrors, collect-mirrors}
 use Rattle.rg_stack.proofs.Statements.WindowLemmas.{swap-mirrors, enter-mirrors, enter-field-mirrors}
-use Rattle.rg_stack.proofs.Statements.ReturnLemmas.{TargetHas, above, return-mirrors}
+use Rattle.rg_stack.proofs.Statements.ReturnLemmas.{TargetHas, TargetNeeds, above, return-mirrors}
 use Rattle.rg_stack.proofs.Statements.CallLemmas.{BodyFits, CallOwes, call-mirrors, declare-call-mirrors, assign-call-mirrors}
 use Rattle.rg_stack.proofs.Basics.{some-is}
 use Rattle.rg_stack.proofs.Judgements.FollowLemmas.{class_is}
-use Rattle.rg_stack.proofs.Judgements.JudgeLemmas.{Facts, expr-agrees, holder-follows, holder-owes, holder-type, block-goes_on, block-gives}
+use Rattle.rg_stack.proofs.Judgements.JudgeLemmas.{Facts, expr-agrees, expr-truth, holder-follows, holder-owes, holder-type, block-goes_on}
+use Rattle.rg_stack.proofs.Judgements.JudgeLemmas.{block-gives}
 use Rattle.rg_stack.specs.Effects.{begins_by}
 use Rattle.rg_stack.proofs.Statements.BaseLemmas.{as_many}
 use Rattle.rg_stack.proofs.Judgements.BaseLemmas.{top-begins}
 use Rattle.rg_stack.proofs.Judgements.FitLemmas.{facts_of, variable-in_region, variable-there, field-in_region, running-below}
 use Rattle.rg_stack.proofs.Judgements.OwesLemmas.{call-gives, right-owes, callee_of, class_in, iso_type}
+use Rattle.rg_stack.proofs.Judgements.UseLemmas.{uses-up, args-up}
+use Rattle.rg_stack.proofs.Judgements.MiddleLemmas.{Begun, begun_of, running, shows_fit, right-below, fit_here, right-comes, value-comes}
+use Rattle.rg_stack.proofs.Judgements.MiddleLemmas.{owner-needs, right-needs}
+use Rattle.rg_stack.proofs.Judgements.MiddleLemmas.{receives, receiver-open, shown-room, printed-open, swap-needs, enter_field-needs}
+use Rattle.rg_stack.proofs.Judgements.MiddleLemmas.{variable-needs, field-needs}
+
+pub not_true : (b : Truth) → not b ≡ true → b ≡ false
+not_true true h = absurd (true≢false (sym h))
+not_true false h = refl
 
 -- a method's body fits its result
 fits_by : (t : Tree) (result : Option Written) (m : Method) (env out : Env)
@@ -91,6 +108,7 @@ module _ (t : Tree) (accepted : Accepted t) (r : Round) (store : List Seen) (slo
     pub live : Live
     pub below : OpenedBelow (length (sizes_of (record { slots = slots; back = r.back } ∷ r.frames))) r.opened
     pub begins : begins_by r.windows (slots_below r.frames + length locals) ≡ true
+    pub begun : Begun t r store slots locals managers env
 
   abbrev Showing : StmtKind → Type 0
   Showing k = Mirrors t.classes (lowered t) (work r store slots managers input).machine
@@ -103,13 +121,25 @@ module _ (t : Tree) (accepted : Accepted t) (r : Round) (store : List Seen) (slo
   facts : Fits → Facts t.classes env store locals
   facts f = facts_of t.classes env store r.opened (length r.bodies) locals f.named f.meets f.objects
 
+  -- what an expression uses up
+  up : Fits → (w : Option Ty) (e : Expr) (j : Judged) → judge_expr t.classes env w e ≡ Ok j
+      → UsesUp t.classes store slots locals (scope_of locals) e []
+  up f w e j judged = uses-up t.classes store slots locals f.begun.shows env w e j [] f.named judged
+
+  once : Fits → owned_once (work r store slots managers input).machine ≡ true
+  once f = owned_once-fits t.classes (work r store slots managers input).machine (running r locals ∷ r.bodies) r.opened
+      (fit_here t r store slots locals managers input env f.begun)
+
   -- `print e;`
   pub print-judged : (e : Expr) (out : Env) → Fits → Showing (print e) → judge_kind t.classes None line env (print e) ≡ Ok out → Simulated (print e)
   print-judged e out f h judged =
       let q = at_line-ok line _ out judged in
       let p = bind-ok (judge_expr t.classes env None e) _ out q in
+      let k = test-then (printable p.0.ty) _ _ out p.2 in
       print-mirrors t.classes code r store slots locals managers input line e j rest h
-      (expr-agrees t.classes env store locals (facts f) None e p.0 p.1)
+      (expr-agrees t.classes env store locals (facts f) None e p.0 p.1) (once f) (up f None e p.0 p.1)
+      (λ v got. printed-open (work r store (cleared_slots (used_slots (scope_of locals) e) slots) managers input).machine store r.opened p.0.ty v k.0
+      (value-comes t r store slots locals managers input env f.begun None e p.0 v p.1 got).meets)
 
   pub collect-judged : Showing collect → Simulated collect
   collect-judged h = collect-mirrors t.classes code r store slots locals managers input line j rest h
@@ -121,6 +151,19 @@ module _ (t : Tree) (accepted : Accepted t) (r : Round) (store : List Seen) (slo
       let p = bind-ok (judge_expr t.classes env (Some Bool) e) _ front q in
       expr-agrees t.classes env store locals (facts f) (Some Bool) e p.0 p.1
 
+  test-up : (e : Expr) (front : Env) → Fits → at_line line (judge_test t.classes env e) ≡ Ok front
+      → UsesUp t.classes store slots locals (scope_of locals) e []
+  test-up e front f judged =
+      let q = at_line-ok line _ front judged in
+      let p = bind-ok (judge_expr t.classes env (Some Bool) e) _ front q in
+      up f (Some Bool) e p.0 p.1
+
+  test-truth : (e : Expr) (front : Env) → Fits → at_line line (judge_test t.classes env e) ≡ Ok front → IsTruth (value_of t.classes store locals e)
+  test-truth e front f judged =
+      let q = at_line-ok line _ front judged in
+      let p = bind-ok (judge_expr t.classes env (Some Bool) e) _ front q in
+      expr-truth t.classes env store locals (facts f) e p.0 p.1
+
   -- `while e { .. }`
   pub while-judged : (e : Expr) (b : Block) (out : Env) → Fits → Showing (while e b) → judge_kind t.classes None line env (while e b) ≡ Ok out
       → Simulated (while e b)
@@ -128,6 +171,7 @@ module _ (t : Tree) (accepted : Accepted t) (r : Round) (store : List Seen) (slo
       let p = bind-ok (at_line line (judge_test t.classes env e)) _ out judged in
       let q = bind-ok (judge_block t.classes None p.0 b) _ out p.2 in
       while-mirrors t.classes code r store slots locals managers input line e b j rest h (test-agrees e p.0 f p.1)
+      (once f) (test-up e p.0 f p.1) (test-truth e p.0 f p.1)
       (block-goes_on t.classes b p.0 q.0 q.1)
 
   -- `if e { .. }`, with and without `else`
@@ -137,12 +181,14 @@ module _ (t : Tree) (accepted : Accepted t) (r : Round) (store : List Seen) (slo
       let p = bind-ok (at_line line (judge_test t.classes env e)) _ out judged in
       let q = bind-ok (judge_block t.classes None p.0 b) _ out p.2 in
       branch-mirrors t.classes code r store slots locals managers input line e b j rest h (test-agrees e p.0 f p.1)
+      (once f) (test-up e p.0 f p.1) (test-truth e p.0 f p.1)
       (block-goes_on t.classes b p.0 q.0 q.1)
   branch-judged e b (otherwise c) out f h judged =
       let p = bind-ok (at_line line (judge_test t.classes env e)) _ out judged in
       let q = bind-ok (judge_block t.classes None p.0 b) _ out p.2 in
       let s = bind-ok (judge_block t.classes None p.0 c) _ out q.2 in
       branch-else-mirrors t.classes code r store slots locals managers input line e b c j rest h (test-agrees e p.0 f p.1)
+      (once f) (test-up e p.0 f p.1) (test-truth e p.0 f p.1)
       (block-goes_on t.classes b p.0 q.0 q.1) (block-goes_on t.classes c p.0 s.0 s.1)
 
   -- what a judged call owes, with its method's entry
@@ -158,6 +204,7 @@ module _ (t : Tree) (accepted : Accepted t) (r : Round) (store : List Seen) (slo
         record {
           follows = g.follows;
           agrees = g.agrees;
+          uses = args-up t.classes store slots locals f.begun.shows (param_types t.classes g.method) c.args env g.out f.named g.judged g.many;
           entry = k.1;
           callee = k.2;
           below = f.below;
@@ -174,12 +221,16 @@ module _ (t : Tree) (accepted : Accepted t) (r : Round) (store : List Seen) (slo
       let q = at_line-ok line _ out judged in
       let p = bind-ok (judge_call t.classes env c) _ out q in
       let o = call-owes c p.0 f p.1 in
-      call-mirrors t.classes code j rest r store slots locals managers input line c o.0 o.1 h o.2
+      call-mirrors t.classes code j rest r store slots locals managers input line c o.0 o.1 h o.2 (once f)
 
   owes-right : (ty : Ty) (right : Right) (out : _) → Fits → judge_right t.classes env ty right ≡ Ok out → is_call right ≡ false
       → RightOwes t.classes store locals (scope_of locals) right
   owes-right ty right out f judged i = right-owes t.classes store r.opened (length r.bodies) locals f.meets f.objects env ty right out f.named
       judged i
+
+  needs-right : (ty : Ty) (right : Right) (out : _) → Fits → judge_right t.classes env ty right ≡ Ok out
+      → RightNeeds t.classes code r (scope_of locals) store slots locals managers input [] right
+  needs-right ty right out f judged = right-needs t r store slots locals managers input env f.begun code ty right out [] refl judged
 
   result_by : (o : Option Written) (u : Ty) → option_map (type_of t.classes) o ≡ Some u → (w : Written) × (o ≡ Some w)
   result_by None u h = absurd (none-some u h)
@@ -194,6 +245,7 @@ module _ (t : Tree) (accepted : Accepted t) (r : Round) (store : List Seen) (slo
       let d = bind-ok (good_type t.classes ty) _ out v.1 in
       let p = bind-ok (judge_right t.classes env d.0 right) _ out d.2 in
       declare-mirrors t.classes code r store slots locals managers input line j rest x ty right h refl (owes-right d.0 right p.0 f p.1 i)
+      (needs-right d.0 right p.0 f p.1)
 
   declare_call : (x : Name) (ty : Written) (c : Call) (out : Env) → Fits → Showing (declare x ty (result_of c))
       → judge_kind t.classes None line env (declare x ty (result_of c)) ≡ Ok out → Simulated (declare x ty (result_of c))
@@ -206,7 +258,7 @@ module _ (t : Tree) (accepted : Accepted t) (r : Round) (store : List Seen) (slo
       let u = bind-ok (ok_or k.0.result Mismatch) _ p.0 k.2 in
       let o = call-owes c k.0 f k.1 in
       let w = result_by o.0.result u.0 (sym o.3 ∙ ok_or-ok k.0.result Mismatch u.0 u.1) in
-      declare-call-mirrors t.classes code j rest r store slots locals managers input line c o.0 o.1 x ty w.0 h o.2 w.1
+      declare-call-mirrors t.classes code j rest r store slots locals managers input line c o.0 o.1 x ty w.0 h o.2 (once f) w.1
 
   pub declare-judged : (x : Name) (ty : Written) (right : Right) (out : Env) → Fits → Showing (declare x ty right)
       → judge_kind t.classes None line env (declare x ty right) ≡ Ok out → Simulated (declare x ty right)
@@ -231,6 +283,13 @@ module _ (t : Tree) (accepted : Accepted t) (r : Round) (store : List Seen) (slo
       let p = bind-ok (judge_right t.classes env e.0.ty right) _ out c.1 in
       assign-mirrors t.classes code r store slots locals managers input line j rest x right h refl (owes-right e.0.ty right p.0 f p.1 i)
       (variable-there env locals x e.0 f.named (ok_or-ok (entry_of env x) Unknown e.0 e.1))
+      (needs-right e.0.ty right p.0 f p.1)
+      (λ now after_slots after made left v m gave.
+      let there = ok_or-ok (entry_of env x) Unknown e.0 e.1 in
+      let k = right-comes t r store slots locals managers input env f.begun (Assigns x) right e.0.ty p.0 (j ∷ rest) p.1 i now after made
+      left v gave in
+      variable-needs t r store slots locals managers input env f.begun code x e.0 there (not_true (is_lent e.0.readiness) c.0)
+      ((facts f).declared x e.0 there) p.0.ty now after_slots after made left v m.shows m.scope_is k)
 
   set_call : (x : Variable) (c : Call) (out : Env) → Fits → Showing (assign (record { base = x; fields = [] }) (result_of c))
       → judge_assign t.classes env x [] (result_of c) ≡ Ok out → Simulated (assign (record { base = x; fields = [] }) (result_of c))
@@ -244,7 +303,7 @@ module _ (t : Tree) (accepted : Accepted t) (r : Round) (store : List Seen) (slo
       let u = bind-ok (ok_or k.0.result Mismatch) _ p.0 k.2 in
       let o = call-owes c k.0 f k.1 in
       let w = result_by o.0.result u.0 (sym o.3 ∙ ok_or-ok k.0.result Mismatch u.0 u.1) in
-      assign-call-mirrors t.classes code j rest r store slots locals managers input line c o.0 o.1 x w.0 h o.2 w.1
+      assign-call-mirrors t.classes code j rest r store slots locals managers input line c o.0 o.1 x w.0 h o.2 (once f) w.1
 
   set-judged : (x : Variable) (right : Right) (out : Env) → Fits → Showing (assign (record { base = x; fields = [] }) right)
       → judge_assign t.classes env x [] right ≡ Ok out → Simulated (assign (record { base = x; fields = [] }) right)
@@ -257,10 +316,6 @@ module _ (t : Tree) (accepted : Accepted t) (r : Round) (store : List Seen) (slo
   set-judged x read out f h judged = set_plain x read out f h judged refl
   set-judged x more out f h judged = set_plain x more out f h judged refl
   set-judged x (result_of c) out f h judged = set_call x c out f h judged
-
-  not_true : (b : Truth) → not b ≡ true → b ≡ false
-  not_true true h = absurd (true≢false (sym h))
-  not_true false h = refl
 
   -- `q.f = r;`
   put-judged : (x : Variable) (g : Name) (gs : List Name) (right : Right) (out : Env) → Fits
@@ -275,6 +330,18 @@ module _ (t : Tree) (accepted : Accepted t) (r : Round) (store : List Seen) (slo
       put-mirrors t.classes code r store slots locals managers input line j rest x g gs right h refl
       (owes-right w.0 right p.0 f p.1 (not_true (is_call right) b.0))
       (holder-follows t.classes env store locals (facts f) x g gs k.0 k.1) (holder-owes t.classes env store locals (facts f) x g gs k.0 k.1)
+      (λ u o led there.
+      let h = receives t r store slots locals managers input env f.begun x g gs w.0 u o w.1 led there in (
+        right-needs t r store slots locals managers input env f.begun code w.0 right p.0 (u ∷ [])
+            (receiver-open t r store slots locals managers input env f.begun (last_field g gs) w.0 u o h) p.1,
+        λ now after_slots after made left v m gave.
+            let c = right-comes t r store slots locals managers input env f.begun Drops right w.0 p.0 (j ∷ rest) p.1 (not_true (is_call right) b.0)
+            now after made left v gave in
+            field-needs t r store slots locals managers input env f.begun accepted code x g gs w.0 p.0.ty (not_true (is_iso w.0) a.0)
+            (right-below right (not_true (is_call right) b.0) t.classes env w.0 p.0 p.1)
+            (held_number t.classes (scope_of locals) x g gs) u o h
+            (holder-owes t.classes env store locals (facts f) x g gs k.0 k.1 u o led there) now after_slots after made left v m.shows c,
+      ))
 
   assign_by : (x : Variable) (fs : List Name) (right : Right) (out : Env) → Fits → Showing (assign (record { base = x; fields = fs }) right)
       → judge_assign t.classes env x fs right ≡ Ok out → Simulated (assign (record { base = x; fields = fs }) right)
@@ -293,19 +360,39 @@ module _ (t : Tree) (accepted : Accepted t) (r : Round) (store : List Seen) (slo
       let a = test-then (is_iso e.0.ty) _ _ out e.2 in
       let b = test-then (is_ready e.0.readiness) _ _ out a.1 in
       let w = bind-ok (swapped_field t.classes env x fs) _ out b.1 in
-      swap_fields y x fs w.0 f h w.1 (variable-there env locals (Some y) e.0 f.named (ok_or-ok (entry_of env (Some y)) Unknown e.0 e.1))
+      let same = test-then (same_type w.0 e.0.ty) _ _ out w.2 in
+      let there = ok_or-ok (entry_of env (Some y)) Unknown e.0 e.1 in
+      swap_fields y x fs w.0 f h w.1 (variable-there env locals (Some y) e.0 f.named there)
+      (below-iso w.0 e.0.ty (and-left (below w.0 e.0.ty) (below e.0.ty w.0) same.0) ∙ a.0)
+      (owner-needs t r store slots locals managers input env f.begun (Some y) e.0 there a.0 (ready-not_lent e.0.readiness b.0))
     where
       swap_fields : (y : Name) (x : Variable) (fs : List Name) (ty : Ty) → Fits → Showing (swap y (record { base = x; fields = fs }))
-          → swapped_field t.classes env x fs ≡ Ok ty → Has locals (Some y) → Simulated (swap y (record { base = x; fields = fs }))
-      swap_fields y x [] ty f h judged has = grind arith
-      swap_fields y x (g ∷ gs) ty f h judged has =
+          → swapped_field t.classes env x fs ≡ Ok ty → Has locals (Some y) → is_iso ty ≡ true
+          → (let m = (work r store slots managers input).machine in owns_or_nil m (slot_at m (slot_of (scope_of locals) (Some y))) ≡ true)
+          → Simulated (swap y (record { base = x; fields = fs }))
+      swap_fields y x [] ty f h judged has iso slot = grind arith
+      swap_fields y x (g ∷ gs) ty f h judged has iso slot =
           let k = bind-ok (walk_receiver t.classes env x g gs) _ ty judged in
           swap-mirrors t.classes code r store slots locals managers input line j rest y x g gs h has
           (holder-follows t.classes env store locals (facts f) x g gs k.0 k.1) (holder-owes t.classes env store locals (facts f) x g gs k.0 k.1)
+          (λ u led. swap-needs t.classes code (work r store slots managers input).machine (running r locals) r.bodies r.opened
+          (fit_here t r store slots locals managers input env f.begun) (slot_of (scope_of locals) (Some y))
+          (held_number t.classes (scope_of locals) x g gs) u (last_field g gs) ty iso
+          (subst (λ n. nat_lt n (length slots) ≡ true) (sym (slot_place locals (Some y)))
+          (shown-room slots locals (place_in locals (Some y)) f.begun.shows has))
+          (λ o there. let h = receives t r store slots locals managers input env f.begun x g gs ty u o judged led there in (
+            h,
+            some-is h.field.place (held_number t.classes (scope_of locals) x g gs)
+                (sym h.field.place_is ∙ holder-owes t.classes env store locals (facts f) x g gs k.0 k.1 u o led there),
+          )) slot)
 
   pub swap-judged : (y : Name) (p : Path) (out : Env) → Fits → Showing (swap y p) → judge_kind t.classes None line env (swap y p) ≡ Ok out
       → Simulated (swap y p)
   swap-judged y p out f h judged = swap_by y p.base p.fields out f h (at_line-ok line _ out judged)
+
+  behind : length locals ≤ length (scope_of locals)
+  behind =
+      let e : length (scope_of locals) ≡ length locals = length-map locals (λ (l : Local). record { name = l.name; ty = l.ty }) in omega (arith, e)
 
   -- `enter x as z { .. }` and `enter q.f as z { .. }`
   enter_by : (x : Variable) (fs : List Name) (z : Name) (b : Block) (front : Env) → Fits → Showing (enter (record { base = x; fields = fs }) z b)
@@ -321,6 +408,14 @@ module _ (t : Tree) (accepted : Accepted t) (r : Round) (store : List Seen) (slo
         sym (class_in t.classes (type_in (scope_of locals) x) o.class
             (ap class_is ((facts f).declared x e.0 there) ∙ ((facts f).variables x e.0 there).0 o is)),
       ))
+      (let m = (work r store slots managers input).machine in
+      let s = slot_of (scope_of locals) x in
+      let ready = test-then (is_ready e.0.readiness) _ _ front c.2 in
+      and-both (owned_once m && owns_or_nil m (slot_at m s)) (not (is_closed m (slot_at m (length (scope_of locals)))))
+      (and-both (owned_once m) (owns_or_nil m (slot_at m s)) (once f)
+      (owner-needs t r store slots locals managers input env f.begun x e.0 there iso.0 (ready-not_lent e.0.readiness ready.0)))
+      (not-false _ (behind-closed t.classes m (running r locals) r.bodies r.opened (fit_here t r store slots locals managers input env f.begun)
+      (length (scope_of locals)) behind)))
   enter_by x (g ∷ gs) z b front f h judged goes =
       let w = bind-ok (writable_field t.classes env x g gs) _ front judged in
       let c = bind-ok (ok_or (iso_class w.0) Mismatch) _ front w.2 in
@@ -337,6 +432,14 @@ module _ (t : Tree) (accepted : Accepted t) (r : Round) (store : List Seen) (slo
         sym (class_in t.classes (type_along t.classes (type_in (scope_of locals) x) (g ∷ gs)) q.class
             (ap class_is d.1 ∙ ((facts f).fields u o (last_field g gs) k.0.ty there d.0).0 q is)),
       ))
+      (λ u led. enter_field-needs t.classes code (work r store slots managers input).machine (running r locals) r.bodies r.opened
+      (fit_here t r store slots locals managers input env f.begun) (held_number t.classes (scope_of locals) x g gs) (length (scope_of locals)) u
+      (last_field g gs) w.0 iso.0 behind
+      (λ o there. let h = receives t r store slots locals managers input env f.begun x g gs w.0 u o w.1 led there in (
+        h,
+        some-is h.field.place (held_number t.classes (scope_of locals) x g gs)
+            (sym h.field.place_is ∙ holder-owes t.classes env store locals (facts f) x g gs k.0 k.1 u o led there),
+      )))
 
   pub enter-judged : (p : Path) (z : Name) (b : Block) (out : Env) → Fits → Showing (enter p z b) → judge_kind t.classes None line env (enter p z b)
       ≡ Ok out → Simulated (enter p z b)
@@ -363,19 +466,20 @@ module _ (t : Tree) (accepted : Accepted t) (r : Round) (store : List Seen) (slo
   pub fits_of : ShowsFrames (record { slots = slots; back = r.back } ∷ r.frames) (record { locals = locals; target = r.target } ∷ r.bodies)
       → ShowsWindows (sizes_of (record { slots = slots; back = r.back } ∷ r.frames)) r.windows r.opened
       → (items : List Item) (h : Running t (record { locals = locals; target = r.target }) r.bodies r.opened items) → h.spot.env ≡ env
-      → FrameMeets store r.opened (length r.bodies) locals → ObjectsFit t.classes store r.opened → Live → Fits
-  fits_of shows windows items h is meets objects live =
+      → Data t.classes store (record { locals = locals; target = r.target } ∷ r.bodies) r.opened (length managers) r.made → Live → Fits
+  fits_of shows windows items h is fits live =
       let f : Frame = record { slots = slots; back = r.back } in
       let sizes : suc (length r.bodies) ≡ length (sizes_of (f ∷ r.frames)) =
       ap suc (sym (as_many r.frames r.bodies shows.1)) ∙ sym
       (length-reverse (map (λ (f : Frame). length f.slots) (f ∷ r.frames)) ∙ length-map (f ∷ r.frames) (λ (f : Frame). length f.slots)) in
       record {
         named = subst (λ (e : Env). Named e.entries locals) is h.stands.named;
-        meets = meets;
-        objects = objects;
+        meets = fits.values.0;
+        objects = fits.objects;
         live = live;
         below = subst (λ n. OpenedBelow n r.opened) sizes (running-below t (record { locals = locals; target = r.target }) r.bodies r.opened items h);
         begins = top-begins t accepted f r.frames r.windows (record { locals = locals; target = r.target }) r.bodies r.opened items shows windows h;
+        begun = begun_of t accepted r store slots locals managers env shows windows items h is fits;
       }
 
 -- a target of a call that is judged is there
@@ -418,14 +522,36 @@ pub return-judged : (t : Tree) (r : Round) (slots under : List Val) (locals call
     → OpenedBelow (length (sizes_of (record { slots = under; back = r.back } ∷ r.frames))) r.opened
     → begins_by r.windows (slots_below (record { slots = under; back = r.back } ∷ r.frames)) ≡ true
     → TargetHas target callers
+    → Begun t (above r under callers back target) store slots locals managers env
+    → ((v : Val) (ty : Ty) → Data t.classes store (record { locals = cleared (uses locals e) locals; target = target }
+    ∷ record { locals = callers; target = r.target } ∷ r.bodies) r.opened (length managers) r.made → Meets store r.opened ty v
+    → OwnsFreshAs t.classes store (record { locals = cleared (uses locals e) locals; target = target }
+    ∷ record { locals = callers; target = r.target } ∷ r.bodies) ty v
+    → TargetNeeds (lowered t) target callers v (work r store under managers input).machine)
     → SameMove t.classes (lowered t) r.output (next t.classes
     (state (above r under callers back target) store locals managers input (Do (stmt line (return e)) ∷ j ∷ rest)))
     (step (lowered t) (work (above r under callers back target) store slots managers input))
-return-judged t r slots under locals callers back target store managers input line e j rest env last out named meets objects h judged below begins
-    has =
+return-judged t r slots under locals callers back target store managers input line e j rest env last out named meets objects h judged lower begins
+    has begun takes =
     let q = at_line-ok line _ out judged in
     let w = bind-ok (ok_or last Return) _ out q in
     let p = bind-ok (judge_expr t.classes env (Some w.0) e) _ out w.2 in
+    let a = above r under callers back target in
+    let here = fit_here t a store slots locals managers input env begun in
     return-mirrors t.classes (lowered t) r slots under locals callers back target store managers input line e j rest h
     (expr-agrees t.classes env store locals (facts_of t.classes env store r.opened (suc (length r.bodies)) locals named meets objects) (Some w.0) e
-    p.0 p.1) below begins has
+    p.0 p.1) lower begins has
+    (owned_once-fits t.classes (work a store slots managers input).machine (running a locals ∷ a.bodies) r.opened here)
+    (uses-up t.classes store slots locals h.slots.0 env (Some w.0) e p.0 [] named p.1)
+    (λ v is.
+    let c = value-comes t a store slots locals managers input env begun (Some w.0) e p.0 v p.1 is in
+    let whole = middle_whole (scope_of locals) (length slots) store store e slots locals
+    (record { shows = h.slots.0; size_is = refl; scope_is = refl; keeps = keeps_same store }) in
+    let m = (work a store (cleared_slots (used_slots (scope_of locals) e) slots) managers input).machine in
+    let d = shows_fit t a store slots locals managers input env begun store (cleared_slots (used_slots (scope_of locals) e) slots)
+    (cleared (uses locals e) locals) managers input c.fits whole.shows in (
+      and-both (owned_once m) (loose m v)
+          (owned_once-fits t.classes m (running a (cleared (uses locals e) locals) ∷ a.bodies) r.opened d)
+          (loose-fits t.classes m (running a (cleared (uses locals e) locals) ∷ a.bodies) r.opened r.opened d (λ l o. o) p.0.ty v c.meets c.fresh),
+      takes v p.0.ty c.fits c.meets c.fresh,
+    ))

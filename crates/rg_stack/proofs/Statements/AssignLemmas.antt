@@ -1,6 +1,9 @@
 -- The statements `let x: T = r;`, `x = r;` and `q.f = r;` with a right side that makes no call.
 use Rattle.std.proofs.Common.{◌≡◌, ℕ, ◌+◌, ◌<◌, true, false, Bool as Truth, if◌then◌else◌, List, [], ◌∷◌, ◌++◌, length, drop, Option, Some, None}
 use Rattle.std.proofs.Common.{Result, Ok, Err, refl, sym, ap, subst, ◌∙◌, arith, append_assoc, length-append, slice_get, slice_set}
+use Rattle.std.proofs.Common.{unwrap_or}
+use Rattle.std.specs.Prelude.{not, nat_lt, ◌&&◌}
+use Rattle.std.proofs.lemmas.Bool.{lt-ltb}
 use Rattle.std.proofs.lemmas.List.{length-map, map-append, length-set}
 use Rattle.rg_base.specs.declared.value.Val.{Val}
 use Rattle.rg_base.specs.declared.value.Val.TheVariants as val
@@ -13,7 +16,7 @@ use Rattle.rg_rules.specs.Capabilities.{is_iso}
 use Rattle.rg_rules.specs.Types.{type_of, fields_of, field_place}
 use Rattle.rg_rules.specs.Paths.{all_but_last, last_field}
 use Rattle.rg_rules.specs.Items.{Item, Do}
-use Rattle.rg_rules.specs.State.{Local, Declares, Assigns, Drops, place_in, set_in, State, add_local, put_local}
+use Rattle.rg_rules.specs.State.{Local, Target, Declares, Assigns, Drops, place_in, set_in, State, add_local, put_local}
 use Rattle.rg_rules.specs.Evaluation.{object_at, with_field, path_value}
 use Rattle.rg_rules.specs.RightSides.{with_right}
 use Rattle.rg_rules.specs.Steps.{put_field, next}
@@ -23,9 +26,10 @@ use Rattle.rg_code.specs.declared.op.Op.TheVariants as i
 use Rattle.rg_code.specs.Code.{Code}
 use Rattle.rg_code.specs.Lowering.{Scope, with_slot, slot_of, type_in, holder_code, held_number, right_code, pace_code, assign_op}
 use Rattle.rg_code.specs.Places.{scope_of, Level, Lies}
-use Rattle.rg_stack.specs.Machine.{put_slot}
-use Rattle.rg_stack.specs.Effects.{Work, Walked, Traps, walk, put_in, with_value_in}
-use Rattle.rg_stack.specs.Runs.{step}
+use Rattle.rg_stack.specs.Machine.{Machine, put_slot}
+use Rattle.rg_stack.specs.Effects.{Work, Walked, Traps, Stuck, put_in, with_value_in}
+use Rattle.rg_stack.specs.Needs.{needs, is_closed}
+use Rattle.rg_stack.specs.Given.{given_step as step, given_walk as walk}
 use Rattle.rg_stack.proofs.Mirrors.{Mirrors}
 use Rattle.rg_stack.specs.Shows.{levels_of}
 use Rattle.rg_stack.proofs.Mirrors.{SameMove}
@@ -35,7 +39,9 @@ use Rattle.rg_stack.proofs.Walks.FrameLemmas.{room_of, shows_next}
 use Rattle.rg_stack.proofs.Walks.SlotLemmas.{ShowsSlots, Has, shows_put, slot_place, scope-length, scope_set}
 use Rattle.rg_stack.proofs.Walks.EndLemmas.{EndsAs, value_ends, Round, work, state, level, RoundShows, Middle, Keeps, keeps_same, slots_hold}
 use Rattle.rg_stack.proofs.Walks.EndLemmas.{finish_at, statement_step}
-use Rattle.rg_stack.proofs.Statements.RightLemmas.{Opens, RightOwes, right_ends, walk-pace}
+use Rattle.rg_stack.proofs.Walks.NeedLemmas.{given, and-both, not-false, nil-open, free_slot}
+use Rattle.rg_stack.proofs.Statements.BaseLemmas.{if_ends}
+use Rattle.rg_stack.proofs.Statements.RightLemmas.{Opens, RightOwes, RightNeeds, Gave, right_ends, walk-pace}
 
 -- a state and a machine that shows it, in parts
 pub round_of : (classes : List Class) (code : Code) (r : Round) (store : List Seen) (slots : List Val) (locals : List Local)
@@ -51,17 +57,18 @@ middle_of classes code r store slots locals managers input items h = record
     { shows = h.slots.0; size_is = refl; scope_is = refl; keeps = keeps_same store }
 
 -- a value goes into a slot that is there, whether it owns or not
-walk_assign_by : (t : Truth) (classes : List Class) (code : Code) (s : ℕ) (rest : List Op) (here : ℕ) (v : Val) (stack : List Val) (w : Work)
-    → walk code ((if t then i.Own s else i.Store s) ∷ rest) here 0 (v ∷ stack) w
-    ≡ walk code rest (here + 1) 0 stack (record w { machine = put_slot w.machine s v })
-walk_assign_by true classes code s rest here v stack w = refl
-walk_assign_by false classes code s rest here v stack w = refl
+walk_assign_by : (t : Truth) (classes : List Class) (code : Code) (s : ℕ) (rest : List Op) (here : ℕ) (v : Val) (w : Work)
+    → needs code (if t then i.Own s else i.Store s) (v ∷ []) w.machine ≡ true
+    → walk code ((if t then i.Own s else i.Store s) ∷ rest) here 0 (v ∷ []) w
+    ≡ walk code rest (here + 1) 0 [] (record w { machine = put_slot w.machine s v })
+walk_assign_by true classes code s rest here v w need = given (needs code (i.Own s) (v ∷ []) w.machine) _ need
+walk_assign_by false classes code s rest here v w need = given (needs code (i.Store s) (v ∷ []) w.machine) _ need
 
-pub walk-assign : (classes : List Class) (code : Code) (scope : Scope) (x : Variable) (rest : List Op) (here : ℕ) (v : Val) (stack : List Val)
-    (w : Work)
-    → walk code (assign_op scope x ∷ rest) here 0 (v ∷ stack) w
-    ≡ walk code rest (here + 1) 0 stack (record w { machine = put_slot w.machine (slot_of scope x) v })
-walk-assign classes code scope x rest here v stack w = walk_assign_by (is_iso (type_in scope x)) classes code (slot_of scope x) rest here v stack w
+pub walk-assign : (classes : List Class) (code : Code) (scope : Scope) (x : Variable) (rest : List Op) (here : ℕ) (v : Val) (w : Work)
+    → needs code (assign_op scope x) (v ∷ []) w.machine ≡ true
+    → walk code (assign_op scope x ∷ rest) here 0 (v ∷ []) w
+    ≡ walk code rest (here + 1) 0 [] (record w { machine = put_slot w.machine (slot_of scope x) v })
+walk-assign classes code scope x rest here v w need = walk_assign_by (is_iso (type_in scope x)) classes code (slot_of scope x) rest here v w need
 
 -- a variable is there in each middle of a step
 pub has_still : (scope : Scope) (locals after : List Local) (x : Variable) → scope_of locals ≡ scope → scope_of after ≡ scope → Has locals x
@@ -130,10 +137,18 @@ module _ (classes : List Class) (code : Code) (r : Round) (store : List Seen) (s
   Simulated k = SameMove classes code r.output (next classes (state r store locals managers input (Do (stmt line k) ∷ j ∷ rest)))
       (step code (work r store slots managers input))
 
+  -- each value that a right side gives may be taken, in the middle of the step
+  abbrev pub Takes : Target → Right → (Val → Machine → Type 0) → Type 0
+  Takes target right may = (now : List Seen) (after_slots : List Val) (after : List Local) (made : List Manager) (left : List ℕ) (v : Val)
+      → Middle (scope_of locals) (length slots) store now after_slots after
+      → Gave classes r (j ∷ rest) store locals managers input target right now after made left v
+      → may v (work r now after_slots made left).machine
+
   -- `let x: T = r;`
   pub declare-mirrors : (x : Name) (t : Written) (right : Right) → Showing (declare x t right) → Opens classes code
-      → RightOwes classes store locals (scope_of locals) right → Simulated (declare x t right)
-  declare-mirrors x t right h opens owes =
+      → RightOwes classes store locals (scope_of locals) right
+      → RightNeeds classes code r (scope_of locals) store slots locals managers input [] right → Simulated (declare x t right)
+  declare-mirrors x t right h opens owes need =
       let ty = type_of classes t in
       let size = length slots in
       let ops = right_code classes scope (r.at + 1) right in
@@ -149,20 +164,28 @@ module _ (classes : List Class) (code : Code) (r : Round) (store : List Seen) (s
       let room : length locals < size = room_of size k (length locals) is named in
       let there : r.at + 1 + length ops + 1 + length pace ≡ end = omega (arith, length-append ops (i.Store k ∷ pace)) in
       let ends = right_ends classes code r scope size store (j ∷ rest) (Declares x ty) (add_local (Some x) ty) right (i.Store k ∷ (pace ++ tail))
-      (r.at + 1) [] store slots locals managers input round opens middle owes
-      (λ store slots locals managers input v m.
+      (r.at + 1) [] store slots locals managers input round opens middle owes need
+      (λ store slots locals managers input v m gave.
       let l : Local = record { name = Some x; ty = ty; value = v } in
       let many : k ≡ length locals = ap length (sym m.scope_is) ∙ length-map locals (λ (l : Local). record { name = l.name; ty = l.ty }) in
       let less : length locals < length slots = omega (arith, room, is, many, m.size_is) in
       let names : with_slot scope (Some x) ty ≡ scope_of (locals ++ l ∷ []) = ap (λ s. with_slot s (Some x) ty) (sym m.scope_is)
       ∙ sym (map-append (λ (l : Local). record { name = l.name; ty = l.ty }) locals (l ∷ [])) in
-      subst (λ y. EndsAs classes code r.output (Ok (state r store (locals ++ l ∷ []) managers input (j ∷ rest))) y)
-      (sym (walk-pace classes code right tail (r.at + 1 + length ops + 1) [] (work r store (slice_set slots k v) managers input)))
+      let free = nil-open (work r store slots managers input).machine (unwrap_or (slice_get slots k) val.Nil)
+      (ap (λ n. unwrap_or (slice_get slots n) val.Nil) many ∙ free_slot slots locals m.shows) in
+      let room : k < length slots = omega (arith, many, less) in
+      if_ends classes code r.output (Ok (state r store (locals ++ l ∷ []) managers input (j ∷ rest)))
+      (nat_lt k (length slots) && not (is_closed (work r store slots managers input).machine (unwrap_or (slice_get slots k) val.Nil)))
+      (walk code (pace ++ tail) (r.at + 1 + length ops + 1) 0 [] (work r store (slice_set slots k v) managers input)) Stuck
+      (and-both (nat_lt k (length slots)) (not (is_closed (work r store slots managers input).machine (unwrap_or (slice_get slots k) val.Nil)))
+      (lt-ltb k (length slots) room) (not-false _ free))
+      (subst (λ y. EndsAs classes code r.output (Ok (state r store (locals ++ l ∷ []) managers input (j ∷ rest))) y)
+      (sym (walk-pace classes code right tail (r.at + 1 + length ops + 1) (work r store (slice_set slots k v) managers input)))
       (finish_at classes code r store (slice_set slots k v) (locals ++ l ∷ []) managers input j rest size end
       (r.at + 1 + length ops + 1 + length pace) there
       (subst (λ n. ShowsSlots (slice_set slots n v) (locals ++ l ∷ [])) (sym many) (shows_next slots locals l m.shows less))
       (length-set slots k v ∙ m.size_is) round
-      (subst (λ s. Lies classes code.ops (level r s size ∷ levels) (j ∷ rest) end) names h.places.1))) in
+      (subst (λ s. Lies classes code.ops (level r s size ∷ levels) (j ∷ rest) end) names h.places.1)))) in
       statement_step classes code r store slots locals managers input line (declare x t right) more (j ∷ rest) h.places.0.0
       (subst (λ l. EndsAs classes code r.output (with_right classes (state r store locals managers input (j ∷ rest)) (Declares x ty)
       (add_local (Some x) ty) right) (walk code l (r.at + 1) 0 [] (work r store slots managers input)))
@@ -170,8 +193,11 @@ module _ (classes : List Class) (code : Code) (r : Round) (store : List Seen) (s
 
   -- `x = r;`
   pub assign-mirrors : (x : Variable) (right : Right) → Showing (assign (record { base = x; fields = [] }) right) → Opens classes code
-      → RightOwes classes store locals (scope_of locals) right → Has locals x → Simulated (assign (record { base = x; fields = [] }) right)
-  assign-mirrors x right h opens owes has =
+      → RightOwes classes store locals (scope_of locals) right → Has locals x
+      → RightNeeds classes code r (scope_of locals) store slots locals managers input [] right
+      → Takes (Assigns x) right (λ v m. needs code (assign_op (scope_of locals) x) (v ∷ []) m ≡ true)
+      → Simulated (assign (record { base = x; fields = [] }) right)
+  assign-mirrors x right h opens owes has need takes =
       let size = length slots in
       let ops = right_code classes scope (r.at + 1) right in
       let o = assign_op scope x in
@@ -186,14 +212,15 @@ module _ (classes : List Class) (code : Code) (r : Round) (store : List Seen) (s
       (Do (stmt line (assign (record { base = x; fields = [] }) right)) ∷ j ∷ rest) h in
       let there : r.at + 1 + length ops + 1 + length pace ≡ end = omega (arith, length-append ops (o ∷ pace)) in
       let ends = right_ends classes code r scope size store (j ∷ rest) (Assigns x) (put_local x) right (o ∷ (pace ++ tail)) (r.at + 1) [] store
-      slots locals managers input round opens middle owes
-      (λ store slots after managers input v m.
+      slots locals managers input round opens middle owes need
+      (λ now slots after made left v m gave.
       let place : k ≡ place_in after x = ap (λ s. slot_of s x) (sym m.scope_is) ∙ slot_place after x in
       let names : scope ≡ scope_of (set_in x v after) = sym (scope_set x v after ∙ m.scope_is) in
-      subst (λ y. EndsAs classes code r.output (Ok (state r store (set_in x v after) managers input (j ∷ rest))) y)
-      (sym (walk-assign classes code scope x (pace ++ tail) (r.at + 1 + length ops) v [] (work r store slots managers input)
-      ∙ walk-pace classes code right tail (r.at + 1 + length ops + 1) [] (work r store (slice_set slots k v) managers input)))
-      (finish_at classes code r store (slice_set slots k v) (set_in x v after) managers input j rest size end
+      subst (λ y. EndsAs classes code r.output (Ok (state r now (set_in x v after) made left (j ∷ rest))) y)
+      (sym (walk-assign classes code scope x (pace ++ tail) (r.at + 1 + length ops) v (work r now slots made left)
+      (takes now slots after made left v m gave)
+      ∙ walk-pace classes code right tail (r.at + 1 + length ops + 1) (work r now (slice_set slots k v) made left)))
+      (finish_at classes code r now (slice_set slots k v) (set_in x v after) made left j rest size end
       (r.at + 1 + length ops + 1 + length pace) there
       (subst (λ n. ShowsSlots (slice_set slots n v) (set_in x v after)) (sym place)
       (shows_put slots after x v m.shows (has_still scope locals after x refl m.scope_is has)))
@@ -209,8 +236,11 @@ module _ (classes : List Class) (code : Code) (r : Round) (store : List Seen) (s
       → Opens classes code → RightOwes classes store locals (scope_of locals) right
       → FollowsPath classes store locals (scope_of locals) (record { base = x; fields = all_but_last f fs })
       → HolderOwes classes store locals (scope_of locals) x f fs
+      → ((u : Val) (o : Seen) → path_value classes store locals (record { base = x; fields = all_but_last f fs }) ≡ Ok u → object_at store u ≡ Ok o
+      → RightNeeds classes code r (scope_of locals) store slots locals managers input (u ∷ []) right
+      × Takes Drops right (λ v m. needs code (i.Put (held_number classes (scope_of locals) x f fs)) (v ∷ u ∷ []) m ≡ true))
       → Simulated (assign (record { base = x; fields = f ∷ fs }) right)
-  put-mirrors x f fs right h opens owes follows holds =
+  put-mirrors x f fs right h opens owes follows holds need =
       let size = length slots in
       let q : Path = record { base = x; fields = all_but_last f fs } in
       let path = holder_code classes scope x f fs in
@@ -237,16 +267,20 @@ module _ (classes : List Class) (code : Code) (r : Round) (store : List Seen) (s
       subst (λ n. EndsAs classes code r.output (with_right classes (state r store locals managers input (j ∷ rest)) Drops (put_field classes u g)
       right) (walk code (ops ++ (i.Put k ∷ (pace ++ tail))) n 0 (u ∷ []) (work r store slots managers input))) (sym begins)
       (right_ends classes code r scope size store (j ∷ rest) Drops (put_field classes u g) right (i.Put k ∷ (pace ++ tail)) here (u ∷ []) store
-      slots locals managers input round opens middle owes
-      (λ now slots after managers input v m.
-      subst (λ s. EndsAs classes code r.output (Ok s) (walk code (pace ++ tail) (here + length ops + 1) 0 []
+      slots locals managers input round opens middle owes (need u o led is).0
+      (λ now slots after managers input v m gave.
+      if_ends classes code r.output (Ok (put_field classes u g (state r now after managers input (j ∷ rest)) v))
+      (needs code (i.Put k) (v ∷ u ∷ []) (work r now slots managers input).machine)
+      (walk code (pace ++ tail) (here + length ops + 1) 0 [] (work r (put_in now u k v) slots managers input)) Stuck
+      ((need u o led is).1 now slots after managers input v m gave)
+      (subst (λ s. EndsAs classes code r.output (Ok s) (walk code (pace ++ tail) (here + length ops + 1) 0 []
       (work r (put_in now u k v) slots managers input)))
       (sym (put_is classes r after managers input (j ∷ rest) store now u o g k v is m.keeps (holds u o led is)))
       (subst (λ y. EndsAs classes code r.output (Ok (state r (put_in now u k v) after managers input (j ∷ rest))) y)
-      (sym (walk-pace classes code right tail (here + length ops + 1) [] (work r (put_in now u k v) slots managers input)))
+      (sym (walk-pace classes code right tail (here + length ops + 1) (work r (put_in now u k v) slots managers input)))
       (finish_at classes code r (put_in now u k v) slots after managers input j rest size end (here + length ops + 1 + length pace) there m.shows
       m.size_is round
-      (subst (λ s. Lies classes code.ops (level r s size ∷ levels) (j ∷ rest) end) (sym m.scope_is) h.places.1))))) in
+      (subst (λ s. Lies classes code.ops (level r s size ∷ levels) (j ∷ rest) end) (sym m.scope_is) h.places.1)))))) in
       statement_step classes code r store slots locals managers input line (assign (record { base = x; fields = f ∷ fs }) right) more (j ∷ rest)
       h.places.0.0
       (subst (λ y. EndsAs classes code r.output (◌>>=◌ (path_value classes store locals q)

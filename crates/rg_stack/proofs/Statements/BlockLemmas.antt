@@ -2,6 +2,7 @@
 use Rattle.std.proofs.Common.{◌≡◌, ℕ, zero, suc, ◌+◌, ◌-◌, true, false, true≢false, Bool as Truth, if◌then◌else◌, List, [], ◌∷◌, ◌++◌, length, take}
 use Rattle.std.proofs.Common.{drop, replicate, Option, Some, None, Ok, refl, sym, ap, subst, ◌∙◌, arith, append_assoc, length-append, slice_get}
 use Rattle.std.proofs.lemmas.List.{length-map, length-replicate, take-map}
+use Rattle.std.specs.Prelude.{not}
 use Rattle.rg_base.specs.declared.value.Val.{Val}
 use Rattle.rg_base.specs.declared.value.Val.TheVariants as val
 use Rattle.rg_base.specs.declared.object.Seen.{Seen}
@@ -18,20 +19,23 @@ use Rattle.rg_code.specs.declared.op.Op.TheVariants as i
 use Rattle.rg_code.specs.Code.{Code}
 use Rattle.rg_code.specs.Lowering.{Scope, used_slots, whole_code, block_code}
 use Rattle.rg_code.specs.Places.{StandsIn, is_mark, behind_end, scope_of, Level, Lies}
+use Rattle.rg_stack.specs.Given.{given_step as step, given_step_from as step_from, given_walk as walk}
 use Rattle.rg_stack.proofs.Basics.{is_halt}
 use Rattle.rg_stack.specs.Machine.{ended_slots}
-use Rattle.rg_stack.specs.Effects.{Work, Walked, Stops, walk}
-use Rattle.rg_stack.specs.Runs.{step, step_from}
+use Rattle.rg_stack.specs.Effects.{Work, Walked, Stops, Stuck}
+use Rattle.rg_stack.specs.Needs.{is_closed, owned_once}
 use Rattle.rg_stack.proofs.Mirrors.{Mirrors}
 use Rattle.rg_stack.specs.Shows.{levels_of}
 use Rattle.rg_stack.proofs.Mirrors.{SameMove}
-use Rattle.rg_stack.proofs.Walks.WalkLemmas.{Agrees, walk-skip}
+use Rattle.rg_stack.proofs.Walks.WalkLemmas.{Agrees, IsTruth, walk-skip}
 use Rattle.rg_stack.proofs.Walks.MarkLemmas.{drop-stands, first-drop, mark-there, lies_at_mark, walk_at_mark, walk_to_items}
 use Rattle.rg_stack.proofs.Walks.PlaceLemmas.{front_in, back_in, get-stands, stands-front, stands-back, block_starts, AllGoOn, lies_block}
 use Rattle.rg_stack.proofs.Walks.PlaceLemmas.{take-block_scope, block_scope}
 use Rattle.rg_stack.proofs.Walks.SlotLemmas.{ShowsSlots, values_in, shows_at, cleared_slots}
 use Rattle.rg_stack.proofs.Walks.EndLemmas.{EndsAs, ended, computed_ends, Round, work, state, level, finish, finish_at, statement_step, walk-whole}
-use Rattle.rg_stack.proofs.Walks.EndLemmas.{middle_whole}
+use Rattle.rg_stack.proofs.Walks.EndLemmas.{middle_whole, UsesUp}
+use Rattle.rg_stack.proofs.Walks.NeedLemmas.{not-false}
+use Rattle.rg_stack.proofs.Statements.BaseLemmas.{if_ends}
 use Rattle.rg_stack.proofs.Statements.AssignLemmas.{round_of, middle_of}
 
 -- two ways on both sides
@@ -143,8 +147,9 @@ module _ (classes : List Class) (code : Code) (r : Round) (store : List Seen) (s
       (subst (λ o. Lies classes code.ops ls (j ∷ rest) (behind_end o n)) (sym (first-drop code.ops n)) lies) go
 
   -- the end of a block, wherever it leads
-  pub end-mirrors : (k : ℕ) (rest : List Item) → Showing (EndAt k ∷ rest) → Simulated (EndAt k ∷ rest)
-  end-mirrors k rest h =
+  pub end-mirrors : (k : ℕ) (rest : List Item) → Showing (EndAt k ∷ rest) → owned_once (work r store slots managers input).machine ≡ true
+      → Simulated (EndAt k ∷ rest)
+  end-mirrors k rest h ends =
       let after = state r store (take k locals) managers input rest in
       let w = work r store (ended_slots k slots) managers input in
       let marked = mark-there code.ops r.at h.places.0 in
@@ -154,13 +159,15 @@ module _ (classes : List Class) (code : Code) (r : Round) (store : List Seen) (s
       let names : take k scope ≡ scope_of (take k locals) = take-map (λ (l : Local). record { name = l.name; ty = l.ty }) k locals in
       let at_two : r.at + 1 + 1 ≡ r.at + 2 = omega arith in
       subst (λ t. SameMove classes code r.output (Went after) t) (sym (ap (step_from code (work r store slots managers input)) front))
-      (ended classes code r.output marked.0 (Ok after) (walk code (drop (r.at + 2) code.ops) (r.at + 1 + 1) 0 [] w)
+      (ended classes code r.output marked.0 (Ok after) _
+      (if_ends classes code r.output (Ok after) (owned_once (work r store slots managers input).machine)
+      (walk code (drop (r.at + 2) code.ops) (r.at + 1 + 1) 0 [] w) Stuck ends
       (subst (λ n. EndsAs classes code r.output (Ok after) (walk code (drop (r.at + 2) code.ops) n 0 [] w)) (sym at_two)
       (last_walk (r.at + 2) w after rest (level r (take k scope) (length slots) ∷ levels) h.places.2
       (λ end lies. finish classes code r store (ended_slots k slots) (take k locals) managers input rest (length slots) end
       (shows_ended k slots locals h.slots.0) (ended-length k slots)
       (round_of classes code r store slots locals managers input (EndAt k ∷ rest) h)
-      (subst (λ s. Lies classes code.ops (level r s (length slots) ∷ levels) rest end) names lies)))))
+      (subst (λ s. Lies classes code.ops (level r s (length slots) ∷ levels) rest end) names lies))))))
 
   -- `collect;` changes nothing
   pub collect-mirrors : (j : Item) (rest : List Item) → Showing (Do (stmt line collect) ∷ j ∷ rest) → Simulated (Do (stmt line collect) ∷ j ∷ rest)
@@ -180,7 +187,8 @@ module _ (classes : List Class) (code : Code) (r : Round) (store : List Seen) (s
 
   -- a test in front of what stands behind it
   test_ends : (e : Expr) (jump : ℕ) (inner : List Op) (items : List Item) (into over : State → State) → ShowsSlots slots locals
-      → Agrees classes store locals (scope_of locals) e →
+      → Agrees classes store locals (scope_of locals) e → owned_once (work r store slots managers input).machine ≡ true
+      → UsesUp classes store slots locals (scope_of locals) e [] → IsTruth (value_of classes store locals e) →
       let inside = r.at + 1 + length (whole_code classes (scope_of locals) (r.at + 1) e) + 1 in
       let s = state r store (locals_after e) managers input items in
       let w = work r store (slots_after e) managers input in
@@ -190,14 +198,20 @@ module _ (classes : List Class) (code : Code) (r : Round) (store : List Seen) (s
       (λ done. Ok (if as_bool done.1 then into done.0 else over done.0)))
       (walk code (whole_code classes (scope_of locals) (r.at + 1) e ++ (i.JumpFalse jump ∷ inner)) (r.at + 1) 0 []
       (work r store slots managers input))
-  test_ends e jump inner items into over shows agrees one two =
+  test_ends e jump inner items into over shows agrees once used truth one two =
       let s = state r store (locals_after e) managers input items in
       subst (λ x. EndsAs classes code r.output (◌>>=◌ (computed classes (state r store locals managers input items) e)
       (λ done. Ok (if as_bool done.1 then into done.0 else over done.0))) x)
       (sym (walk-whole classes code r store managers input e (scope_of locals) slots locals (i.JumpFalse jump ∷ inner) (r.at + 1) [] shows refl
-      agrees))
+      agrees once used))
       (computed_ends classes code r.output (value_of classes store locals e) s _ _
-      (λ v is. ways_end classes code r.output (as_bool v) (into s) (over s) _ _ one two))
+      (λ v is. if_ends classes code r.output (Ok (if as_bool v then into s else over s))
+      (not (is_closed (work r store (slots_after e) managers input).machine v)) (if as_bool v then
+      walk code inner (r.at + 1 + length (whole_code classes (scope_of locals) (r.at + 1) e) + 1) 0 [] (work r store (slots_after e) managers input)
+      else walk code inner (r.at + 1 + length (whole_code classes (scope_of locals) (r.at + 1) e) + 1)
+      (jump - (r.at + 1 + length (whole_code classes (scope_of locals) (r.at + 1) e) + 1)) [] (work r store (slots_after e) managers input)) Stuck
+      (not-false _ (ap (is_closed (work r store (slots_after e) managers input).machine) (truth v is)))
+      (ways_end classes code r.output (as_bool v) (into s) (over s) _ _ one two)))
 
   -- a step into a block: it begins where its items lie
   pub into_block : (e : Expr) (b : Block) (after : List Item) (n inside : ℕ) → Showing after → n ≡ length (scope_of locals)
@@ -229,9 +243,11 @@ module _ (classes : List Class) (code : Code) (r : Round) (store : List Seen) (s
 
   -- `if e { .. }`
   pub branch-mirrors : (e : Expr) (b : Block) (j : Item) (rest : List Item) → Showing (Do (stmt line (branch e b no_else)) ∷ j ∷ rest)
-      → Agrees classes store locals (scope_of locals) e → AllGoOn b
+      → Agrees classes store locals (scope_of locals) e → owned_once (work r store slots managers input).machine ≡ true
+      → UsesUp classes store slots locals (scope_of locals) e [] → IsTruth (value_of classes store locals e)
+      → AllGoOn b
       → Simulated (Do (stmt line (branch e b no_else)) ∷ j ∷ rest)
-  branch-mirrors e b j rest h agrees goes =
+  branch-mirrors e b j rest h agrees once used truth goes =
       let item = Do (stmt line (branch e b no_else)) in
       let test = whole_code classes scope (r.at + 1) e in
       let inside = r.at + 1 + length test + 1 in
@@ -266,9 +282,9 @@ module _ (classes : List Class) (code : Code) (r : Round) (store : List Seen) (s
       (subst (λ l. EndsAs classes code r.output (◌>>=◌ (computed classes (state r store locals managers input (j ∷ rest)) e)
       (λ done. Ok (if as_bool done.1 then begin_block done.0 b else done.0))) (walk code l (r.at + 1) 0 [] (work r store slots managers input)))
       (sym (append_assoc test (i.JumpFalse jump ∷ inner) tail))
-      (test_ends e jump (inner ++ tail) (j ∷ rest) (λ s. begin_block s b) (λ s. s) h.slots.0 agrees
+      (test_ends e jump (inner ++ tail) (j ∷ rest) (λ s. begin_block s b) (λ s. s) h.slots.0 agrees once used truth
       (subst (λ x. EndsAs classes code r.output (Ok (begin_block (state r store (locals_after e) managers input (j ∷ rest)) b)) x)
-      (sym (walk_at_mark classes code (inner ++ tail) inside [] w begins))
+      (sym (walk_at_mark classes code (inner ++ tail) inside w begins))
       (into_block e b (item ∷ j ∷ rest) (length scope) inside h refl (j ∷ rest) body))
       (subst (λ x. EndsAs classes code r.output (Ok (state r store (locals_after e) managers input (j ∷ rest))) x)
       (sym (ap (λ k. walk code (inner ++ tail) inside k [] w) skip ∙ walk-skip classes code inner tail inside [] w))
@@ -276,9 +292,11 @@ module _ (classes : List Class) (code : Code) (r : Round) (store : List Seen) (s
 
   -- `if e { .. } else { .. }`
   pub branch-else-mirrors : (e : Expr) (b c : Block) (j : Item) (rest : List Item) → Showing (Do (stmt line (branch e b (otherwise c))) ∷ j ∷ rest)
-      → Agrees classes store locals (scope_of locals) e → AllGoOn b → AllGoOn c
+      → Agrees classes store locals (scope_of locals) e → owned_once (work r store slots managers input).machine ≡ true
+      → UsesUp classes store slots locals (scope_of locals) e [] → IsTruth (value_of classes store locals e)
+      → AllGoOn b → AllGoOn c
       → Simulated (Do (stmt line (branch e b (otherwise c))) ∷ j ∷ rest)
-  branch-else-mirrors e b c j rest h agrees goes also =
+  branch-else-mirrors e b c j rest h agrees once used truth goes also =
       let item = Do (stmt line (branch e b (otherwise c))) in
       let test = whole_code classes scope (r.at + 1) e in
       let inside = r.at + 1 + length test + 1 in
@@ -341,21 +359,23 @@ module _ (classes : List Class) (code : Code) (r : Round) (store : List Seen) (s
       (λ done. Ok (if as_bool done.1 then begin_block done.0 b else begin_block done.0 c)))
       (walk code l (r.at + 1) 0 [] (work r store slots managers input)))
       (sym (append_assoc test (i.JumpFalse jump ∷ inner) tail))
-      (test_ends e jump (inner ++ tail) (j ∷ rest) (λ s. begin_block s b) (λ s. begin_block s c) h.slots.0 agrees
+      (test_ends e jump (inner ++ tail) (j ∷ rest) (λ s. begin_block s b) (λ s. begin_block s c) h.slots.0 agrees once used truth
       (subst (λ x. EndsAs classes code r.output (Ok (begin_block (state r store (locals_after e) managers input (j ∷ rest)) b)) x)
-      (sym (walk_at_mark classes code (inner ++ tail) inside [] w begins))
+      (sym (walk_at_mark classes code (inner ++ tail) inside w begins))
       (into_block e b (item ∷ j ∷ rest) (length scope) inside h refl (j ∷ rest) body))
       (subst (λ x. EndsAs classes code r.output (Ok (begin_block (state r store (locals_after e) managers input (j ∷ rest)) c)) x)
       (sym (ap (λ k. walk code (inner ++ tail) inside k [] w) skip ∙ ap (λ l. walk code l inside (length first_part) [] w) apart
       ∙ walk-skip classes code first_part (second ++ tail) inside [] w ∙ ap (λ n. walk code (second ++ tail) n 0 [] w) to_other
-      ∙ walk_at_mark classes code (second ++ tail) other_at [] w other_begins))
+      ∙ walk_at_mark classes code (second ++ tail) other_at w other_begins))
       (into_block e c (item ∷ j ∷ rest) (length scope) other_at h refl (j ∷ rest) other_body))))
 
   -- `while e { .. }`
   pub while-mirrors : (e : Expr) (b : Block) (j : Item) (rest : List Item) → Showing (Do (stmt line (while e b)) ∷ j ∷ rest)
-      → Agrees classes store locals (scope_of locals) e → AllGoOn b
+      → Agrees classes store locals (scope_of locals) e → owned_once (work r store slots managers input).machine ≡ true
+      → UsesUp classes store slots locals (scope_of locals) e [] → IsTruth (value_of classes store locals e)
+      → AllGoOn b
       → Simulated (Do (stmt line (while e b)) ∷ j ∷ rest)
-  while-mirrors e b j rest h agrees goes =
+  while-mirrors e b j rest h agrees once used truth goes =
       let item = Do (stmt line (while e b)) in
       let test = whole_code classes scope (r.at + 1) e in
       let inside = r.at + 1 + length test + 1 in
@@ -391,9 +411,10 @@ module _ (classes : List Class) (code : Code) (r : Round) (store : List Seen) (s
       (λ done. Ok (if as_bool done.1 then begin_block (record done.0 { items = item ∷ j ∷ rest }) b else done.0)))
       (walk code l (r.at + 1) 0 [] (work r store slots managers input)))
       (sym (append_assoc test (i.JumpFalse jump ∷ inner) tail))
-      (test_ends e jump (inner ++ tail) (j ∷ rest) (λ s. begin_block (record s { items = item ∷ j ∷ rest }) b) (λ s. s) h.slots.0 agrees
+      (test_ends e jump (inner ++ tail) (j ∷ rest) (λ s. begin_block (record s { items = item ∷ j ∷ rest }) b) (λ s. s) h.slots.0 agrees once
+      used truth
       (subst (λ x. EndsAs classes code r.output (Ok (begin_block (state r store (locals_after e) managers input (item ∷ j ∷ rest)) b)) x)
-      (sym (walk_at_mark classes code (inner ++ tail) inside [] w begins))
+      (sym (walk_at_mark classes code (inner ++ tail) inside w begins))
       (into_block e b (item ∷ j ∷ rest) (length scope) inside h refl (item ∷ j ∷ rest) body))
       (subst (λ x. EndsAs classes code r.output (Ok (state r store (locals_after e) managers input (j ∷ rest))) x)
       (sym (ap (λ k. walk code (inner ++ tail) inside k [] w) skip ∙ walk-skip classes code inner tail inside [] w))
@@ -401,8 +422,11 @@ module _ (classes : List Class) (code : Code) (r : Round) (store : List Seen) (s
 
   -- `print e;`
   pub print-mirrors : (e : Expr) (j : Item) (rest : List Item) → Showing (Do (stmt line (print e)) ∷ j ∷ rest)
-      → Agrees classes store locals (scope_of locals) e → Simulated (Do (stmt line (print e)) ∷ j ∷ rest)
-  print-mirrors e j rest h agrees =
+      → Agrees classes store locals (scope_of locals) e → owned_once (work r store slots managers input).machine ≡ true
+      → UsesUp classes store slots locals (scope_of locals) e []
+      → ((v : Val) → value_of classes store locals e ≡ Ok v → is_closed (work r store (slots_after e) managers input).machine v ≡ false)
+      → Simulated (Do (stmt line (print e)) ∷ j ∷ rest)
+  print-mirrors e j rest h agrees once used plain =
       let item = Do (stmt line (print e)) in
       let whole = whole_code classes scope (r.at + 1) e in
       let more = whole ++ i.Print ∷ [] in
@@ -416,14 +440,16 @@ module _ (classes : List Class) (code : Code) (r : Round) (store : List Seen) (s
       (subst (λ x. EndsAs classes code r.output (◌>>=◌ (computed classes (state r store locals managers input (j ∷ rest)) e)
       (λ done. Ok (record done.0 { output = r.output ++ done.1 ∷ [] }))) x)
       (sym (ap (λ l. walk code l (r.at + 1) 0 [] (work r store slots managers input)) (append_assoc whole (i.Print ∷ []) tail)
-      ∙ walk-whole classes code r store managers input e scope slots locals (i.Print ∷ tail) (r.at + 1) [] h.slots.0 refl agrees))
+      ∙ walk-whole classes code r store managers input e scope slots locals (i.Print ∷ tail) (r.at + 1) [] h.slots.0 refl agrees once used))
       (computed_ends classes code r.output (value_of classes store locals e) (state r store (locals_after e) managers input (j ∷ rest)) _ _ (λ v is.
       let after = state (record r { output = r.output ++ v ∷ [] }) store (locals_after e) managers input (j ∷ rest) in
       let w = record (work r store (slots_after e) managers input) { printed = Some v } in
       let lies = subst (λ s. Lies classes code.ops (level r s (length slots) ∷ levels) (j ∷ rest) end) (sym m.scope_is) h.places.1 in
-      subst (λ x. EndsAs classes code r.output (Ok after) x)
+      if_ends classes code r.output (Ok after) (not (is_closed (work r store (slots_after e) managers input).machine v))
+      (walk code tail (r.at + 1 + length whole + 1) 0 [] w) Stuck (not-false _ (plain v is))
+      (subst (λ x. EndsAs classes code r.output (Ok after) x)
       (sym (ap (λ k. walk code tail k 0 [] w) there ∙ walk_to_items classes code (level r (scope_of (locals_after e)) (length slots) ∷ levels) j
-      rest end [] w lies))
+      rest end w lies))
       (let ended = finish classes code r store (slots_after e) (locals_after e) managers input (j ∷ rest) (length slots) end m.shows m.size_is round
       lies in
       record {
@@ -437,4 +463,4 @@ module _ (classes : List Class) (code : Code) (r : Round) (store : List Seen) (s
         };
         input = refl;
         output = refl;
-      }))))
+      })))))

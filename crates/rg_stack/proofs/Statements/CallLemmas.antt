@@ -2,7 +2,7 @@
 use Rattle.std.proofs.Common.{◌≡◌, ℕ, suc, ◌+◌, ◌-◌, ◌≤◌, true, false, ◌⊎◌, inl, inr, Bool as Truth, if◌then◌else◌, List, [], ◌∷◌, ◌++◌, length}
 use Rattle.std.proofs.Common.{map, reverse, take, drop, replicate, Option, Some, None, Ok, refl, sym, ap, subst, ◌∙◌, arith, append_assoc}
 use Rattle.std.proofs.Common.{length-append, slice_get}
-use Rattle.std.proofs.lemmas.List.{reverse-append, length-replicate}
+use Rattle.std.proofs.lemmas.List.{reverse-append, length-replicate, length-reverse}
 use Rattle.std.specs.Prelude.{nat_lt, flat_map, option_map}
 use Rattle.rg_base.specs.declared.limits.TheConstants.{FRAMES}
 use Rattle.rg_base.specs.declared.ty.Ty.TheVariants.{Ref}
@@ -30,8 +30,9 @@ use Rattle.rg_code.specs.Lowering.{with_slot, scope_behind, method_scope, method
 use Rattle.rg_code.specs.Lowering.{dropped_code, call_result, call_code, assign_op, kind_code, used_by_all, number_called, target_class}
 use Rattle.rg_code.specs.Places.{Stands, StandsIn, roomy, is_mark, is_drop, scope_of, Level, Lies, TakesResult}
 use Rattle.rg_stack.specs.Machine.{Frame}
-use Rattle.rg_stack.specs.Effects.{Walked, Stops, Traps, called, walk}
-use Rattle.rg_stack.specs.Runs.{step}
+use Rattle.rg_stack.specs.Effects.{Walked, Stops, Traps, called}
+use Rattle.rg_stack.specs.Needs.{needs, owned_once}
+use Rattle.rg_stack.specs.Given.{given_step as step, given_walk as walk}
 use Rattle.rg_stack.proofs.Mirrors.{Mirrors}
 use Rattle.rg_stack.specs.Shows.{ShowsWindows, sizes_of, levels_of}
 use Rattle.rg_stack.proofs.Mirrors.{SameMove}
@@ -43,6 +44,7 @@ use Rattle.rg_stack.proofs.Statements.CalledLemmas.{values-length, from_stack, b
 use Rattle.rg_stack.proofs.Walks.SlotLemmas.{ShowsSlots, shows_at, cleared_slots, cleared-length, shows_clears, scope_cleared, used-all}
 use Rattle.rg_stack.proofs.Walks.EndLemmas.{EndsAs, value_ends, object_ends, values_ends, Round, work, state, level, RoundShows, slots_hold}
 use Rattle.rg_stack.proofs.Walks.EndLemmas.{statement_step, walk-clears}
+use Rattle.rg_stack.proofs.Walks.NeedLemmas.{given, call-given, AllOnStack}
 use Rattle.rg_stack.proofs.Statements.AssignLemmas.{round_of}
 use Rattle.rg_stack.proofs.Statements.BaseLemmas.{as_many}
 
@@ -182,6 +184,8 @@ module _ (classes : List Class) (code : Code) (j : Item) (rest : List Item) wher
     where
       pub follows : FollowsPath classes store locals (scope_of locals) c.target
       pub agrees : AllAgree classes store locals (scope_of locals) c.args
+      pub uses : (v : Val) (vs : List Val) → values_of classes store locals c.args ≡ Ok vs
+          → AllOnStack (used_by_all (scope_of locals) c.args) slots (reverse vs ++ v ∷ [])
       pub entry : slice_get code.entries (number_called classes (target_class classes (scope_of locals) c) c.method) ≡ Some e
       pub callee : Called d m e
       pub below : OpenedBelow (length (sizes_of (record { slots = slots; back = r.back } ∷ r.frames))) r.opened
@@ -200,11 +204,12 @@ module _ (classes : List Class) (code : Code) (j : Item) (rest : List Item) wher
   pub call_ends : (r : Round) (store : List Seen) (slots : List Val) (locals : List Local) (managers : List Manager) (input : List ℕ) (c : Call)
       (d : ℕ) (m : Method) (e : Entry) (target : Target) (at : ℕ) (tail : List Op)
       → ShowsSlots slots locals → RoundShows r (length slots) → CallOwes r store slots locals c d m e
+      → owned_once (work r store slots managers input).machine ≡ true
       → Behind m.result target (at + length (call_code classes (scope_of locals) at c))
       (level r (scope_of locals) (length slots) ∷ levels_of r.frames r.bodies)
       → EndsAs classes code r.output (step_call classes (state r store locals managers input (j ∷ rest)) target c)
       (walk code (call_code classes (scope_of locals) at c ++ tail) at 0 [] (work r store slots managers input))
-  call_ends r store slots locals managers input c d m e target at tail shows round owes behind =
+  call_ends r store slots locals managers input c d m e target at tail shows round owes once behind =
       let scope = scope_of locals in
       let path = path_code classes scope c.target.base c.target.fields in
       let receiver = path ++ i.Check ∷ [] in
@@ -232,6 +237,9 @@ module _ (classes : List Class) (code : Code) (j : Item) (rest : List Item) wher
       let round_after : RoundShows r (length slots_after) = subst (RoundShows r) (sym size_after) round in
       let below_after : OpenedBelow (length (sizes_of (record { slots = slots_after; back = r.back } ∷ r.frames))) r.opened =
       subst (λ k. OpenedBelow (length (reverse (k ∷ map (λ (f : Frame). length f.slots) r.frames))) r.opened) (sym size_after) owes.below in
+      let on_stack : (v : Val) (vs : List Val) → values_of classes store locals c.args ≡ Ok vs → length (reverse vs ++ v ∷ []) ≡ e.given =
+      λ v vs got. let size = values-length classes store locals c.args vs got in
+      omega (arith, size, owes.arity, owes.callee.given, length-append (reverse vs) (v ∷ []), length-reverse vs) in
       let inner = exprs ++ (i.Room ∷ (clears used ++ (i.Call n ∷ tail))) in
       subst (λ x. EndsAs classes code r.output (step_call classes s target c) x)
       (sym (ap (λ l. walk code l at 0 [] w) (flat path exprs (clears used) tail i.Check i.Room (i.Call n))
@@ -259,6 +267,9 @@ module _ (classes : List Class) (code : Code) (j : Item) (rest : List Item) wher
       (room_ends (nat_lt (suc (length r.bodies)) FRAMES) r.output after goes
       (subst (λ x. EndsAs classes code r.output (Ok after) x)
       (sym (walk-clears classes code r store managers input used slots (i.Call n ∷ tail) (at + length receiver + length exprs + 1) stack
+      once (owes.uses v vs got)
+      ∙ given (needs code (i.Call n) stack (work r store slots_after managers input).machine) _
+      (call-given code n e stack (work r store slots_after managers input).machine owes.entry (on_stack v vs got))
       ∙ ap (λ k. called (at + length receiver + length exprs + 1 + length (clears used)) k stack (work r store slots_after managers input))
       owes.entry))
       (frame_ends r store slots_after locals_after managers input d m e target v vs
@@ -299,9 +310,12 @@ module _ (classes : List Class) (code : Code) (j : Item) (rest : List Item) wher
     abbrev pub Owed : Type 0
     Owed = CallOwes r store slots locals c (target_class classes (scope_of locals) c) m e
 
+    abbrev pub Once : Type 0
+    Once = owned_once (work r store slots managers input).machine ≡ true
+
     -- `call q.m(a, b);`
-    pub call-mirrors : Showing (call c) → Owed → Simulated (call c)
-    call-mirrors h owes =
+    pub call-mirrors : Showing (call c) → Owed → Once → Simulated (call c)
+    call-mirrors h owes once =
         let scope = scope_of locals in
         let top = level r scope (length slots) in
         let levels = levels_of r.frames r.bodies in
@@ -324,12 +338,12 @@ module _ (classes : List Class) (code : Code) (j : Item) (rest : List Item) wher
         (subst (λ l. EndsAs classes code r.output (step_call classes (state r store locals managers input (j ∷ rest)) Drops c)
         (walk code l (r.at + 1) 0 [] (work r store slots managers input))) (sym (append_assoc ops dropped tail))
         (call_ends r store slots locals managers input c d m e Drops (r.at + 1) (dropped ++ tail) h.slots.0
-        (round_of classes code r store slots locals managers input (Do (stmt line (call c)) ∷ j ∷ rest) h) owes behind))
+        (round_of classes code r store slots locals managers input (Do (stmt line (call c)) ∷ j ∷ rest) h) owes once behind))
 
     -- `let x: T = call q.m(a, b);`
-    pub declare-call-mirrors : (x : Name) (t u : Written) → Showing (declare x t (result_of c)) → Owed → m.result ≡ Some u
+    pub declare-call-mirrors : (x : Name) (t u : Written) → Showing (declare x t (result_of c)) → Owed → Once → m.result ≡ Some u
         → Simulated (declare x t (result_of c))
-    declare-call-mirrors x t u h owes gives =
+    declare-call-mirrors x t u h owes once gives =
         let scope = scope_of locals in
         let top = level r scope (length slots) in
         let levels = levels_of r.frames r.bodies in
@@ -350,14 +364,14 @@ module _ (classes : List Class) (code : Code) (j : Item) (rest : List Item) wher
         (subst (λ l. EndsAs classes code r.output (step_call classes (state r store locals managers input (j ∷ rest)) target c)
         (walk code l (r.at + 1) 0 [] (work r store slots managers input))) (sym (append_assoc ops (o ∷ []) tail))
         (call_ends r store slots locals managers input c d m e target (r.at + 1) (o ∷ tail) h.slots.0
-        (round_of classes code r store slots locals managers input (Do (stmt line (declare x t (result_of c))) ∷ j ∷ rest) h) owes
+        (round_of classes code r store slots locals managers input (Do (stmt line (declare x t (result_of c))) ∷ j ∷ rest) h) owes once
         (subst (λ k. Behind k target back (top ∷ levels)) (sym gives) behind)))
 
     -- `x = call q.m(a, b);`
-    pub assign-call-mirrors : (x : Variable) (u : Written) → Showing (assign (record { base = x; fields = [] }) (result_of c)) → Owed → m.result
-        ≡ Some u
+    pub assign-call-mirrors : (x : Variable) (u : Written) → Showing (assign (record { base = x; fields = [] }) (result_of c)) → Owed → Once
+        → m.result ≡ Some u
         → Simulated (assign (record { base = x; fields = [] }) (result_of c))
-    assign-call-mirrors x u h owes gives =
+    assign-call-mirrors x u h owes once gives =
         let scope = scope_of locals in
         let top = level r scope (length slots) in
         let levels = levels_of r.frames r.bodies in
@@ -378,5 +392,5 @@ module _ (classes : List Class) (code : Code) (j : Item) (rest : List Item) wher
         (subst (λ l. EndsAs classes code r.output (step_call classes (state r store locals managers input (j ∷ rest)) target c)
         (walk code l (r.at + 1) 0 [] (work r store slots managers input))) (sym (append_assoc ops (o ∷ []) tail))
         (call_ends r store slots locals managers input c d m e target (r.at + 1) (o ∷ tail) h.slots.0
-        (round_of classes code r store slots locals managers input (Do (stmt line k) ∷ j ∷ rest) h) owes
+        (round_of classes code r store slots locals managers input (Do (stmt line k) ∷ j ∷ rest) h) owes once
         (subst (λ k. Behind k target back (top ∷ levels)) (sym gives) behind)))

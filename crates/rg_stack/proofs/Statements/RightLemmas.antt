@@ -5,6 +5,7 @@ use Rattle.std.proofs.lemmas.List.{length-set}
 use Rattle.std.specs.Prelude.{bytes_eq, filter_map}
 use Rattle.rg_base.specs.declared.value.Val.{Val}
 use Rattle.rg_base.specs.declared.value.Val.TheVariants as val
+use Rattle.rg_base.specs.declared.value.Word.{Word}
 use Rattle.rg_base.specs.declared.object.Seen.{Seen}
 use Rattle.rg_base.specs.declared.object.Label.{Label}
 use Rattle.rg_base.specs.declared.object.Label.TheVariants.{Region, Temp, Frozen}
@@ -20,15 +21,19 @@ use Rattle.rg_rules.specs.Evaluation.{object_at, value_of, uses, cleared}
 use Rattle.rg_rules.specs.Regions.{region_of, in_regions, beneath, relabelled, relabelled_object}
 use Rattle.rg_rules.specs.RightSides.{Use, opening_value, new_object, frozen, merged, consumed, taken, is_left, with_right}
 use Rattle.rg_code.specs.declared.op.Op.{Op}
+use Rattle.rg_code.specs.declared.op.Op.TheVariants as i
 use Rattle.rg_code.specs.Code.{Code}
 use Rattle.rg_code.specs.Lowering.{Scope, slot_of, used_slots, right_code, pace_code, opening_word, opening_words}
 use Rattle.rg_stack.specs.Machine.{Window, value_of_word}
-use Rattle.rg_stack.specs.Effects.{beneath_by_labels, Work, Traps, walk, top_region, top_window, relabel, next_taken}
+use Rattle.rg_stack.specs.Effects.{beneath_by_labels, Work, Traps, Stuck, top_region, top_window, relabel, next_taken}
+use Rattle.rg_stack.specs.Needs.{needs, owned_once, leads_nowhere, opens_plain}
 use Rattle.rg_stack.specs.Shows.{ShowsWindows}
+use Rattle.rg_stack.specs.Given.{given_walk as walk}
 use Rattle.rg_stack.proofs.Walks.WalkLemmas.{Agrees}
 use Rattle.rg_stack.proofs.Walks.SlotLemmas.{ShowsSlots, cleared_slots, shows_clear, scope_set, slot_place}
 use Rattle.rg_stack.proofs.Walks.EndLemmas.{EndsAs, object_ends, computed_ends, Round, work, state, RoundShows, Middle, Keeps, slots_hold}
-use Rattle.rg_stack.proofs.Walks.EndLemmas.{walk-whole, middle_whole}
+use Rattle.rg_stack.proofs.Walks.EndLemmas.{walk-whole, middle_whole, UsesUp}
+use Rattle.rg_stack.proofs.Statements.BaseLemmas.{if_ends}
 
 -- what a new object starts with
 
@@ -168,11 +173,60 @@ RightOwes classes store locals scope read = Unit {0}
 RightOwes classes store locals scope more = Unit {0}
 RightOwes classes store locals scope (result_of c) = ⊥
 
+-- a use of a value that keeps it, in front of the output
+abbrev pub kept : Use
+kept s v = record s { output = v ∷ s.output }
+
+-- what is known of a value and of the parts of the state that is there with it
+abbrev pub Known : Type 1
+Known = (store : List Seen) → List Local → List Manager → (input : List ℕ) → Val → Type 0
+
+-- the right side gave them to the plain machine, from a state in parts
+abbrev pub Gave : List Class → Round → List Item → (store : List Seen) → List Local → List Manager → (input : List ℕ) → Target → Right → Known
+Gave classes r items store locals managers input target right = λ now after made left v.
+    with_right classes (state r store locals managers input items) target kept right ≡ Ok (kept (state r now after made left items) v)
+
+-- what the instructions of a right side need beside what all give
+abbrev pub RightNeeds : List Class → Code → Round → Scope → List Seen → (slots : List Val) → List Local → List Manager → (input : List ℕ)
+    → (stack : List Val) → Right → Type 0
+RightNeeds classes code r scope store slots locals managers input stack (value e) =
+    (owned_once (work r store slots managers input).machine ≡ true) × UsesUp classes store slots locals scope e stack
+RightNeeds classes code r scope store slots locals managers input stack (new x) = Unit {0}
+RightNeeds classes code r scope store slots locals managers input stack (new_tmp x) = Unit {0}
+RightNeeds classes code r scope store slots locals managers input stack (new_iso x m) = Unit {0}
+RightNeeds classes code r scope store slots locals managers input stack (freeze y) =
+    needs code (i.Freeze (slot_of scope (Some y))) stack (work r store slots managers input).machine ≡ true
+RightNeeds classes code r scope store slots locals managers input stack (merge y) =
+    needs code (i.Merge (slot_of scope (Some y))) stack (work r store slots managers input).machine ≡ true
+RightNeeds classes code r scope store slots locals managers input stack read = Unit {0}
+RightNeeds classes code r scope store slots locals managers input stack more = Unit {0}
+RightNeeds classes code r scope store slots locals managers input stack (result_of c) = Unit {0}
+
+-- the openings of the classes are plain
+
+plain_word : (t : Written) (ws : List Word) → leads_nowhere (opening_word t ∷ ws) ≡ leads_nowhere ws
+plain_word int ws = refl
+plain_word bool ws = refl
+plain_word (ref cap x) ws = refl
+
+plain_words : (ms : List Member) → leads_nowhere (opening_words ms) ≡ true
+plain_words [] = refl
+plain_words (field f ∷ ms) = plain_word f.ty (opening_words ms) ∙ plain_words ms
+plain_words (method m ∷ ms) = plain_words ms
+
+plain-opens : (classes : List Class) (code : Code) (x : Name) (k : Class) → Opens classes code → class_named classes x ≡ Some k
+    → opens_plain code (class_number classes x) ≡ true
+plain-opens classes code x k opens named =
+    ap (λ l. leads_nowhere (unwrap_or (slice_get l (class_number classes x)) [])) opens
+    ∙ ap (λ o. leads_nowhere (unwrap_or o [])) (words_at classes (class_number classes x) k (class_at classes x k named))
+    ∙ plain_words k.members
+
 module _ (classes : List Class) (code : Code) (r : Round) (scope : Scope) (n : ℕ) (old : List Seen) (items : List Item) where
   -- what is done with the value, on both sides
-  abbrev pub Then : Use → (tail : List Op) → (end : ℕ) → (stack : List Val) → Type 0
-  Then put tail end stack = (store : List Seen) (slots : List Val) (locals : List Local) (managers : List Manager) (input : List ℕ) (v : Val)
-      → Middle scope n old store slots locals
+  abbrev pub Then : Known → Use → (tail : List Op) → (end : ℕ) → (stack : List Val) → Type 0
+  Then known put tail end stack =
+      (store : List Seen) (slots : List Val) (locals : List Local) (managers : List Manager) (input : List ℕ) (v : Val)
+      → Middle scope n old store slots locals → known store locals managers input v
       → EndsAs classes code r.output (Ok (put (state r store locals managers input items) v))
       (walk code tail end 0 (v ∷ stack) (work r store slots managers input))
 
@@ -188,15 +242,26 @@ module _ (classes : List Class) (code : Code) (r : Round) (scope : Scope) (n : �
         | Some c
             ↦ put (state r (store ++ new_object classes x label ∷ []) locals managers input items) (val.Obj (length store))
       ]))
-      (walk code tail end 0 (val.Obj (length store) ∷ stack)
+      (if opens_plain code (class_number classes x) then walk code tail end 0 (val.Obj (length store) ∷ stack)
       (work r (store ++ record {
         class = class_number classes x;
         fields = map value_of_word
             (unwrap_or (slice_get code.openings (class_number classes x)) []);
         label = here;
-      } ∷ []) slots managers input))
+      } ∷ []) slots managers input) else Stuck)
   new_ends put x label tail end stack store slots locals managers input k named h opens here same =
-      subst (λ q. EndsAs classes code r.output (Ok (elim (class_named classes x) [
+      if_ends classes code r.output (Ok (elim (class_named classes x) [
+        | None ↦ state r store locals managers input items
+        | Some c
+            ↦ put (state r (store ++ new_object classes x label ∷ []) locals managers input items) (val.Obj (length store))
+      ])) (opens_plain code (class_number classes x))
+      (walk code tail end 0 (val.Obj (length store) ∷ stack) (work r (store ++ record {
+        class = class_number classes x;
+        fields = map value_of_word
+            (unwrap_or (slice_get code.openings (class_number classes x)) []);
+        label = here;
+      } ∷ []) slots managers input)) Stuck (plain-opens classes code x k opens named)
+      (subst (λ q. EndsAs classes code r.output (Ok (elim (class_named classes x) [
         | None ↦ state r store locals managers input items
         | Some c
             ↦ put (state r (store ++ new_object classes x label ∷ []) locals managers input items) (val.Obj (length store))
@@ -208,14 +273,17 @@ module _ (classes : List Class) (code : Code) (r : Round) (scope : Scope) (n : �
         | Some c
             ↦ put (state r (store ++ new_object classes x label ∷ []) locals managers input items) (val.Obj (length store))
       ]))
-      (walk code tail end 0 (val.Obj (length store) ∷ stack) (work r (store ++ new_object classes x label ∷ []) slots managers input))) (sym named) h)
+      (walk code tail end 0 (val.Obj (length store) ∷ stack) (work r (store ++ new_object classes x label ∷ []) slots managers input)))
+      (sym named) h))
 
   read_ends : (put : Use) (next : NextNumber) (tail : List Op) (end : ℕ) (stack : List Val) (store : List Seen) (slots : List Val)
       (locals : List Local) (managers : List Manager) (input : List ℕ)
-      → Middle scope n old store slots locals → Then put tail end stack
+      → Middle scope n old store slots locals
+      → Then (λ now after made left v. taken (state r store locals managers input items) kept next ≡ Ok (kept (state r now after made left items) v))
+      put tail end stack
       → EndsAs classes code r.output (taken (state r store locals managers input items) put next)
       (next_taken next (walk code tail end) stack (work r store slots managers input))
-  read_ends put (found z rest) tail end stack store slots locals managers input m go = go store slots locals managers rest (val.Int z) m
+  read_ends put (found z rest) tail end stack store slots locals managers input m go = go store slots locals managers rest (val.Int z) m refl
   read_ends put malformed tail end stack store slots locals managers input m go = refl
   read_ends put at_end tail end stack store slots locals managers input m go = refl
 
@@ -225,7 +293,10 @@ module _ (classes : List Class) (code : Code) (r : Round) (scope : Scope) (n : �
       → (plain : Option ℕ → Option State) (shown : Option ℕ → List Seen) (after : ℕ → List Seen)
       → ((g : ℕ) → plain (Some g) ≡ Some (state r (after g) locals managers input items)) → ((g : ℕ) → shown (Some g) ≡ after g)
       → ((g : ℕ) → Keeps old (after g))
-      → Middle scope n old store slots locals → InRegion store (value_in locals x) → Then put tail end stack
+      → Middle scope n old store slots locals → InRegion store (value_in locals x)
+      → Then (λ now after made left v. ◌>>=◌ (object_at store (value_in locals x))
+      (λ o. Ok (consumed (state r store locals managers input items) kept x (plain (region_of o.label))))
+      ≡ Ok (kept (state r now after made left items) v)) put tail end stack
       → EndsAs classes code r.output (◌>>=◌ (object_at store (value_in locals x))
       (λ o. Ok (consumed (state r store locals managers input items) put x (plain (region_of o.label)))))
       (elim (object_at store (unwrap_or (slice_get slots (slot_of scope x)) val.Nil)) [
@@ -253,36 +324,53 @@ module _ (classes : List Class) (code : Code) (r : Round) (scope : Scope) (n : �
       (subst (λ l. EndsAs classes code r.output (Ok (put (state r new_store (set_in x val.Nil locals) managers input items) (value_in locals x)))
       (walk code tail end 0 (value_in locals x ∷ stack) (work r l (slice_set slots (slot_of scope x) val.Nil) managers input))) (sym (b g.0))
       (go new_store (slice_set slots (slot_of scope x) val.Nil) (set_in x val.Nil locals) managers input (value_in locals x)
-      (middle_clear scope n old new_store slots locals x (middle_store scope n old store new_store slots locals (c g.0) m)))))))
+      (middle_clear scope n old new_store slots locals x (middle_store scope n old store new_store slots locals (c g.0) m))
+      (ap (λ q. ◌>>=◌ q (λ o. Ok (consumed (state r store locals managers input items) kept x (plain (region_of o.label))))) is
+      ∙ ap (λ l. Ok (consumed (state r store locals managers input items) kept x (plain l))) g.1
+      ∙ ap (λ l. Ok (consumed (state r store locals managers input items) kept x l)) (a g.0)))))))
 
   pub right_ends : (target : Target) (put : Use) (right : Right) (tail : List Op) (here : ℕ) (stack : List Val) (store : List Seen)
       (slots : List Val) (locals : List Local) (managers : List Manager) (input : List ℕ)
       → RoundShows r n → Opens classes code → Middle scope n old store slots locals → RightOwes classes store locals scope right
-      → Then put tail (here + length (right_code classes scope here right)) stack
+      → RightNeeds classes code r scope store slots locals managers input stack right
+      → Then (Gave classes r items store locals managers input target right) put tail (here + length (right_code classes scope here right)) stack
       → EndsAs classes code r.output (with_right classes (state r store locals managers input items) target put right)
       (walk code (right_code classes scope here right ++ tail) here 0 stack (work r store slots managers input))
-  right_ends target put (value e) tail here stack store slots locals managers input round opens m owes go =
+  right_ends target put (value e) tail here stack store slots locals managers input round opens m owes need go =
       subst (λ x. EndsAs classes code r.output (with_right classes (state r store locals managers input items) target put (value e)) x)
-      (sym (walk-whole classes code r store managers input e scope slots locals tail here stack m.shows m.scope_is owes))
+      (sym (walk-whole classes code r store managers input e scope slots locals tail here stack m.shows m.scope_is owes need.0 need.1))
       (computed_ends classes code r.output (value_of classes store locals e) (state r store (cleared (uses locals e) locals) managers input items) _
       _ (λ v is.
       go store (cleared_slots (used_slots scope e) slots) (cleared (uses locals e) locals) managers input v
-      (middle_whole scope n old store e slots locals m)))
-  right_ends target put (new x) tail here stack store slots locals managers input round opens m owes go =
+      (middle_whole scope n old store e slots locals m)
+      (ap (λ c. ◌>>=◌ {A = State × Val} (◌>>=◌ c (λ v. Ok (state r store (cleared (uses locals e) locals) managers input items, v)))
+      (λ done. Ok (kept done.0 done.1)))
+      is)))
+  right_ends target put (new x) tail here stack store slots locals managers input round opens m owes need go =
       let label = Region (active r.opened) in
       let q = new_object classes x label in
       new_ends put x label tail (here + 1) stack store slots locals managers input owes.0 owes.1
       (go (store ++ q ∷ []) slots locals managers input (val.Obj (length store))
-      (middle_store scope n old store (store ++ q ∷ []) slots locals (keeps_append old store q m.keeps) m))
+      (middle_store scope n old store (store ++ q ∷ []) slots locals (keeps_append old store q m.keeps) m)
+      (ap (λ k. Ok (elim k [
+        | None ↦ state r store locals managers input items
+        | Some c
+            ↦ kept (state r (store ++ q ∷ []) locals managers input items) (val.Obj (length store))
+      ])) owes.1))
       opens (Region (top_region r.windows)) (ap Region (same_region _ r.windows r.opened round.windows))
-  right_ends target put (new_tmp x) tail here stack store slots locals managers input round opens m owes go =
+  right_ends target put (new_tmp x) tail here stack store slots locals managers input round opens m owes need go =
       let label = Temp (top_number r.opened) in
       let q = new_object classes x label in
       new_ends put x label tail (here + 1) stack store slots locals managers input owes.0 owes.1
       (go (store ++ q ∷ []) slots locals managers input (val.Obj (length store))
-      (middle_store scope n old store (store ++ q ∷ []) slots locals (keeps_append old store q m.keeps) m))
+      (middle_store scope n old store (store ++ q ∷ []) slots locals (keeps_append old store q m.keeps) m)
+      (ap (λ k. Ok (elim k [
+        | None ↦ state r store locals managers input items
+        | Some c
+            ↦ kept (state r (store ++ q ∷ []) locals managers input items) (val.Obj (length store))
+      ])) owes.1))
       opens (Temp (top_window r.windows)) (ap Temp (same_window _ r.windows r.opened round.windows))
-  right_ends target put (new_iso x k) tail here stack store slots locals managers input round opens m owes go =
+  right_ends target put (new_iso x k) tail here stack store slots locals managers input round opens m owes need go =
       let label = Region (length managers) in
       let q = new_object classes x label in
       let after = state r (store ++ q ∷ []) locals (managers ++ k ∷ []) input items in
@@ -290,39 +378,68 @@ module _ (classes : List Class) (code : Code) (r : Round) (scope : Scope) (n : �
       (work r (store ++ q ∷ []) slots (managers ++ k ∷ []) input) in
       let last : EndsAs classes code r.output (Ok (put after (val.Obj (length store)))) (goes q) = go (store ++ q ∷ []) slots locals
       (managers ++ k ∷ []) input (val.Obj (length store))
-      (middle_store scope n old store (store ++ q ∷ []) slots locals (keeps_append old store q m.keeps) m) in
-      subst (λ q. EndsAs classes code r.output (with_right classes (state r store locals managers input items) target put (new_iso x k)) (goes q))
+      (middle_store scope n old store (store ++ q ∷ []) slots locals (keeps_append old store q m.keeps) m)
+      (ap (λ k. Ok (elim k [
+        | None ↦ state r store locals managers input items
+        | Some c
+            ↦ kept (after) (val.Obj (length store))
+      ])) owes.1) in
+      if_ends classes code r.output (with_right classes (state r store locals managers input items) target put (new_iso x k))
+      (opens_plain code (class_number classes x))
+      (goes (record {
+        class = class_number classes x;
+        fields = map value_of_word
+            (unwrap_or (slice_get code.openings (class_number classes x)) []);
+        label = label;
+      })) Stuck (plain-opens classes code x owes.0 opens owes.1)
+      (subst (λ q. EndsAs classes code r.output (with_right classes (state r store locals managers input items) target put (new_iso x k)) (goes q))
       (sym (seen_is classes code x owes.0 label label opens owes.1 refl))
       (subst (λ o. EndsAs classes code r.output (Ok (elim o
-      [ None ↦ state r store locals managers input items | Some c ↦ put after (val.Obj (length store)) ])) (goes q)) (sym owes.1) last)
-  right_ends target put (freeze y) tail here stack store slots locals managers input round opens m owes go =
-      region_ends put (Some y) tail (here + 1) stack store slots locals managers input
+      [ None ↦ state r store locals managers input items | Some c ↦ put after (val.Obj (length store)) ])) (goes q)) (sym owes.1) last))
+  right_ends target put (freeze y) tail here stack store slots locals managers input round opens m owes need go =
+      if_ends classes code r.output (with_right classes (state r store locals managers input items) target put (freeze y))
+      (needs code (i.Freeze (slot_of scope (Some y))) stack (work r store slots managers input).machine)
+      (elim (object_at store (unwrap_or (slice_get slots (slot_of scope (Some y))) val.Nil)) [
+        | Ok o ↦ walk code tail (here + 1) 0 (unwrap_or (slice_get slots (slot_of scope (Some y))) val.Nil ∷ stack)
+            (work r (relabel true Frozen (work r store slots managers input) (region_of o.label))
+            (slice_set slots (slot_of scope (Some y)) val.Nil) managers input)
+        | Err t ↦ Traps t
+      ]) Stuck need
+      (region_ends put (Some y) tail (here + 1) stack store slots locals managers input
       (option_map (frozen classes (state r store locals managers input items))) (relabel true Frozen (work r store slots managers input))
       (λ g. relabelled (beneath classes store (length managers) (g ∷ [])) Frozen store)
       (λ g. refl) (λ g. owes.1 (length managers) g Frozen)
-      (λ g. keeps_relabelled old store (beneath classes store (length managers) (g ∷ [])) Frozen m.keeps) m owes.0 go
-  right_ends target put (merge y) tail here stack store slots locals managers input round opens m owes go =
-      region_ends put (Some y) tail (here + 1) stack store slots locals managers input
+      (λ g. keeps_relabelled old store (beneath classes store (length managers) (g ∷ [])) Frozen m.keeps) m owes.0 go)
+  right_ends target put (merge y) tail here stack store slots locals managers input round opens m owes need go =
+      if_ends classes code r.output (with_right classes (state r store locals managers input items) target put (merge y))
+      (needs code (i.Merge (slot_of scope (Some y))) stack (work r store slots managers input).machine)
+      (elim (object_at store (unwrap_or (slice_get slots (slot_of scope (Some y))) val.Nil)) [
+        | Ok o ↦ walk code tail (here + 1) 0 (unwrap_or (slice_get slots (slot_of scope (Some y))) val.Nil ∷ stack)
+            (work r (relabel false (Region (top_region r.windows)) (work r store slots managers input) (region_of o.label))
+            (slice_set slots (slot_of scope (Some y)) val.Nil) managers input)
+        | Err t ↦ Traps t
+      ]) Stuck need
+      (region_ends put (Some y) tail (here + 1) stack store slots locals managers input
       (option_map (merged (state r store locals managers input items)))
       (relabel false (Region (top_region r.windows)) (work r store slots managers input))
       (λ g. relabelled (g ∷ []) (Region (active r.opened)) store)
       (λ g. refl) (λ g. ap (λ k. relabelled (g ∷ []) (Region k) store) (same_region _ r.windows r.opened round.windows))
-      (λ g. keeps_relabelled old store (g ∷ []) (Region (active r.opened)) m.keeps) m owes go
-  right_ends target put read tail here stack store slots locals managers input round opens m owes go =
+      (λ g. keeps_relabelled old store (g ∷ []) (Region (active r.opened)) m.keeps) m owes go)
+  right_ends target put read tail here stack store slots locals managers input round opens m owes need go =
       read_ends put (next_number input) tail (here + 1) stack store slots locals managers input m go
-  right_ends target put more tail here stack store slots locals managers input round opens m owes go =
-      go store slots locals managers input (val.Bool (is_left (next_number input))) m
-  right_ends target put (result_of c) tail here stack store slots locals managers input round opens m owes go = absurd owes
+  right_ends target put more tail here stack store slots locals managers input round opens m owes need go =
+      go store slots locals managers input (val.Bool (is_left (next_number input))) m refl
+  right_ends target put (result_of c) tail here stack store slots locals managers input round opens m owes need go = absurd owes
 
 -- what comes last where an object is made
-pub walk-pace : (classes : List Class) (code : Code) (right : Right) (rest : List Op) (here : ℕ) (stack : List Val) (w : Work)
-    → walk code (pace_code right ++ rest) here 0 stack w ≡ walk code rest (here + length (pace_code right)) 0 stack w
-walk-pace classes code (value e) rest here stack w = let e : here ≡ here + 0 = omega arith in ap (λ n. walk code rest n 0 stack w) e
-walk-pace classes code (new x) rest here stack w = refl
-walk-pace classes code (new_tmp x) rest here stack w = let e : here ≡ here + 0 = omega arith in ap (λ n. walk code rest n 0 stack w) e
-walk-pace classes code (new_iso x m) rest here stack w = let e : here ≡ here + 0 = omega arith in ap (λ n. walk code rest n 0 stack w) e
-walk-pace classes code (freeze y) rest here stack w = let e : here ≡ here + 0 = omega arith in ap (λ n. walk code rest n 0 stack w) e
-walk-pace classes code (merge y) rest here stack w = let e : here ≡ here + 0 = omega arith in ap (λ n. walk code rest n 0 stack w) e
-walk-pace classes code read rest here stack w = let e : here ≡ here + 0 = omega arith in ap (λ n. walk code rest n 0 stack w) e
-walk-pace classes code more rest here stack w = let e : here ≡ here + 0 = omega arith in ap (λ n. walk code rest n 0 stack w) e
-walk-pace classes code (result_of c) rest here stack w = let e : here ≡ here + 0 = omega arith in ap (λ n. walk code rest n 0 stack w) e
+pub walk-pace : (classes : List Class) (code : Code) (right : Right) (rest : List Op) (here : ℕ) (w : Work)
+    → walk code (pace_code right ++ rest) here 0 [] w ≡ walk code rest (here + length (pace_code right)) 0 [] w
+walk-pace classes code (value e) rest here w = let e : here ≡ here + 0 = omega arith in ap (λ n. walk code rest n 0 [] w) e
+walk-pace classes code (new x) rest here w = refl
+walk-pace classes code (new_tmp x) rest here w = let e : here ≡ here + 0 = omega arith in ap (λ n. walk code rest n 0 [] w) e
+walk-pace classes code (new_iso x m) rest here w = let e : here ≡ here + 0 = omega arith in ap (λ n. walk code rest n 0 [] w) e
+walk-pace classes code (freeze y) rest here w = let e : here ≡ here + 0 = omega arith in ap (λ n. walk code rest n 0 [] w) e
+walk-pace classes code (merge y) rest here w = let e : here ≡ here + 0 = omega arith in ap (λ n. walk code rest n 0 [] w) e
+walk-pace classes code read rest here w = let e : here ≡ here + 0 = omega arith in ap (λ n. walk code rest n 0 [] w) e
+walk-pace classes code more rest here w = let e : here ≡ here + 0 = omega arith in ap (λ n. walk code rest n 0 [] w) e
+walk-pace classes code (result_of c) rest here w = let e : here ≡ here + 0 = omega arith in ap (λ n. walk code rest n 0 [] w) e

@@ -1,6 +1,6 @@
 -- `swap y, q.f;`, `enter x as z { .. }`, `enter q.f as z { .. }` and the end of such a block.
 use Rattle.std.proofs.Common.{◌≡◌, ℕ, ◌+◌, ◌<◌, true, false, true≢false, Bool as Truth, List, [], ◌∷◌, ◌++◌, length, take, drop, Some, None, Result}
-use Rattle.std.proofs.Common.{Ok, Err, refl, sym, ap, subst, ◌∙◌, arith, append_assoc, length-append, slice_get, slice_set, unwrap_or}
+use Rattle.std.proofs.Common.{if◌then◌else◌, Ok, Err, refl, sym, ap, subst, ◌∙◌, arith, append_assoc, length-append, slice_get, slice_set, unwrap_or}
 use Rattle.std.proofs.lemmas.List.{length-map, map-append, length-set, take-map}
 use Rattle.std.proofs.Math.Seq.{take-append_seam}
 use Rattle.std.proofs.lemmas.Bool.{ltb-false}
@@ -30,8 +30,9 @@ use Rattle.rg_code.specs.Lowering.{Slot, Scope, slot_of, type_in, type_along, cl
 use Rattle.rg_code.specs.Lowering.{kind_code, block_code}
 use Rattle.rg_code.specs.Places.{StandsIn, is_mark, roomy, scope_of, Level, Lies}
 use Rattle.rg_stack.specs.Machine.{Window, slots_below, ended_slots}
-use Rattle.rg_stack.specs.Effects.{begins_by, Walked, Stops, Traps, walk, put_in, entered, address as slot_address}
-use Rattle.rg_stack.specs.Runs.{step, step_from}
+use Rattle.rg_stack.specs.Needs.{needs}
+use Rattle.rg_stack.specs.Effects.{opens_at, begins_by, Walked, Stops, Traps, Stuck, put_in, entered, address as slot_address}
+use Rattle.rg_stack.specs.Given.{given_step as step, given_step_from as step_from, given_walk as walk}
 use Rattle.rg_stack.proofs.Mirrors.{Mirrors}
 use Rattle.rg_stack.specs.Shows.{levels_of}
 use Rattle.rg_stack.proofs.Mirrors.{SameMove}
@@ -43,17 +44,19 @@ use Rattle.rg_stack.proofs.Walks.FrameLemmas.{room_of, shows_next}
 use Rattle.rg_stack.proofs.Walks.SlotLemmas.{ShowsSlots, Has, shows_put, slot_place, scope_set}
 use Rattle.rg_stack.proofs.Walks.EndLemmas.{EndsAs, ended, value_ends, object_ends, Round, work, state, level, RoundShows, keeps_same, slots_hold}
 use Rattle.rg_stack.proofs.Walks.EndLemmas.{finish, finish_at, statement_step}
-use Rattle.rg_stack.proofs.Statements.BaseLemmas.{as_many, base_is, opens_ends}
+use Rattle.rg_stack.proofs.Walks.NeedLemmas.{given}
+use Rattle.rg_stack.proofs.Statements.BaseLemmas.{as_many, base_is, opens_ends, if_ends}
 use Rattle.rg_stack.proofs.Statements.AssignLemmas.{round_of, put_is, HolderOwes}
 use Rattle.rg_stack.proofs.Statements.BlockLemmas.{shows_ended, ended-length}
 
--- an object that was there is there
+-- an object that was there is there, where the instruction behind its test is given what it needs
 abbrev on_result : Result Seen Trap → (Seen → Walked) → Walked
 on_result r go = elim r [ Ok o ↦ go o | Err t ↦ Traps t ]
 
-doubled : (r : Result Seen Trap) (go : Seen → Walked) → on_result r (λ o. on_result r go) ≡ on_result r go
-doubled (Ok o) go = refl
-doubled (Err t) go = refl
+doubled : (r : Result Seen Trap) (t : Truth) (go : Seen → Walked) → t ≡ true
+    → on_result r (λ o. if t then on_result r go else Stuck) ≡ on_result r go
+doubled (Ok o) t go e = given t (go o) e
+doubled (Err k) t go e = refl
 
 flat_two : (p t : List Op) (a b : Op) → (p ++ (a ∷ b ∷ [])) ++ t ≡ p ++ (a ∷ b ∷ t)
 flat_two p t a b = simp append_assoc
@@ -117,8 +120,11 @@ module _ (classes : List Class) (code : Code) (r : Round) (store : List Seen) (s
       → Has locals (Some y)
       → FollowsPath classes store locals (scope_of locals) (record { base = x; fields = all_but_last f fs })
       → HolderOwes classes store locals (scope_of locals) x f fs
+      → ((u : Val) → path_value classes store locals (record { base = x; fields = all_but_last f fs }) ≡ Ok u
+      → needs code (i.Swap (slot_of (scope_of locals) (Some y)) (held_number classes (scope_of locals) x f fs)) (u ∷ [])
+      (work r store slots managers input).machine ≡ true)
       → Simulated (swap y (record { base = x; fields = f ∷ fs }))
-  swap-mirrors y x f fs h has follows holds =
+  swap-mirrors y x f fs h has follows holds need =
       let size = length slots in
       let q : Path = record { base = x; fields = all_but_last f fs } in
       let path = holder_code classes scope x f fs in
@@ -143,9 +149,9 @@ module _ (classes : List Class) (code : Code) (r : Round) (store : List Seen) (s
       (value_ends classes code r.output (path_value classes store locals q) _ _ (λ u led.
       subst (λ z. EndsAs classes code r.output (◌>>=◌ (object_at store u)
       (λ o. Ok (put_local (Some y) (put_field classes u g (state r store locals managers input (j ∷ rest)) mine) (field_value classes o g)))) z)
-      (sym (doubled (object_at store u) (λ o. walk code tail (r.at + 1 + length path + 1 + 1) 0 []
+      (sym (doubled (object_at store u) (needs code (i.Swap s k) (u ∷ []) w.machine) (λ o. walk code tail (r.at + 1 + length path + 1 + 1) 0 []
       (work r (put_in store u k (unwrap_or (slice_get slots s) val.Nil)) (slice_set slots s (unwrap_or (slice_get o.fields k) val.Nil)) managers
-      input))))
+      input)) (need u led)))
       (object_ends classes code r.output (object_at store u) _ _ (λ o is.
       let field : field_value classes o g ≡ unwrap_or (slice_get o.fields k) val.Nil = ap
       (λ p. elim p [ None ↦ val.Nil | Some n ↦ unwrap_or (slice_get o.fields n) val.Nil ]) (holds u o led is) in
@@ -237,7 +243,7 @@ module _ (classes : List Class) (code : Code) (r : Round) (store : List Seen) (s
       (walk code (block ++ (i.Mark line ∷ i.Leave k ∷ tail)) inside 0 [] (entered (work r store slots managers input) m bridge k (Some g))))
       (sym owner)
       (subst (λ x. EndsAs classes code r.output (Ok after) x)
-      (sym (walk_at_mark classes code (block ++ (i.Mark line ∷ i.Leave k ∷ tail)) inside [] w begins)) last))
+      (sym (walk_at_mark classes code (block ++ (i.Mark line ∷ i.Leave k ∷ tail)) inside w begins)) last))
 
   -- what the rules and the invariant give of the object that an owner leads to: it is in a region, and has the declared class
   abbrev pub BridgeOwes : Path → Val → Type 0
@@ -247,8 +253,9 @@ module _ (classes : List Class) (code : Code) (r : Round) (store : List Seen) (s
   -- `enter x as z { .. }`
   pub enter-mirrors : (x : Variable) (z : Name) (b : Block) → Showing (enter (record { base = x; fields = [] }) z b) → AllGoOn b
       → begins_by r.windows (slots_below r.frames + length locals) ≡ true → BridgeOwes (record { base = x; fields = [] }) (value_in locals x)
+      → needs code (i.Enter (slot_of (scope_of locals) x) (length (scope_of locals))) [] (work r store slots managers input).machine ≡ true
       → Simulated (enter (record { base = x; fields = [] }) z b)
-  enter-mirrors x z b h goes begins owes =
+  enter-mirrors x z b h goes begins owes need =
       let p : Path = record { base = x; fields = [] } in
       let s = slot_of scope x in
       let k = length scope in
@@ -270,6 +277,13 @@ module _ (classes : List Class) (code : Code) (r : Round) (store : List Seen) (s
       statement_step classes code r store slots locals managers input line (enter p z b) more (j ∷ rest) h.places.0.0
       (subst (λ l. EndsAs classes code r.output (plain_entered (state r store locals managers input (j ∷ rest)) mine z b bridge)
       (walk code l (r.at + 1) 0 [] w)) (sym (flat_enter front block tail (i.Mark line) (i.Leave k)))
+      (if_ends classes code r.output (plain_entered (state r store locals managers input (j ∷ rest)) mine z b bridge)
+      (needs code (i.Enter s k) [] w.machine)
+      (opens_at w.machine k (elim (object_at store (unwrap_or (slice_get slots s) val.Nil)) [
+        | Ok o ↦ walk code (block ++ (i.Mark line ∷ i.Leave k ∷ tail)) inside 0 []
+            (entered w shown (unwrap_or (slice_get slots s) val.Nil) k (region_of o.label))
+        | Err t ↦ Traps t
+      ])) Stuck need
       (opens_ends classes code r.output _ w.machine k _ (let e = is in omega (arith, e, room))
       (ap (λ n. begins_by r.windows (slots_below r.frames + n)) is ∙ begins)
       (subst (λ u. EndsAs classes code r.output (plain_entered (state r store locals managers input (j ∷ rest)) mine z b bridge)
@@ -278,7 +292,7 @@ module _ (classes : List Class) (code : Code) (r : Round) (store : List Seen) (s
         | Err t ↦ Traps t
       ])) (sym (slots_hold scope slots locals h.slots.0 refl x))
       (object_ends classes code r.output (object_at store bridge) _ _ (λ o there. let owed = owes o there in
-      opens p z b front mine shown bridge o owed.0.0 h refl owner owed.0.1 owed.1 goes room)))))
+      opens p z b front mine shown bridge o owed.0.0 h refl owner owed.0.1 owed.1 goes room))))))
 
   -- `enter q.f as z { .. }`
   pub enter-field-mirrors : (x : Variable) (f : Name) (fs : List Name) (z : Name) (b : Block)
@@ -287,8 +301,11 @@ module _ (classes : List Class) (code : Code) (r : Round) (store : List Seen) (s
       → HolderOwes classes store locals (scope_of locals) x f fs
       → ((u : Val) (o : Seen) → path_value classes store locals (record { base = x; fields = all_but_last f fs }) ≡ Ok u → object_at store u ≡ Ok o
       → BridgeOwes (record { base = x; fields = f ∷ fs }) (field_value classes o (last_field f fs)))
+      → ((u : Val) → path_value classes store locals (record { base = x; fields = all_but_last f fs }) ≡ Ok u
+      → needs code (i.EnterField (held_number classes (scope_of locals) x f fs) (length (scope_of locals))) (u ∷ [])
+      (work r store slots managers input).machine ≡ true)
       → Simulated (enter (record { base = x; fields = f ∷ fs }) z b)
-  enter-field-mirrors x f fs z b h goes begins follows holds owes =
+  enter-field-mirrors x f fs z b h goes begins follows holds owes need =
       let p : Path = record { base = x; fields = f ∷ fs } in
       let q : Path = record { base = x; fields = all_but_last f fs } in
       let path = holder_code classes scope x f fs in
@@ -318,7 +335,18 @@ module _ (classes : List Class) (code : Code) (r : Round) (store : List Seen) (s
       ∙ walk-path classes code q locals scope (r.at + 1) (i.EnterField n k ∷ (block ++ (i.Mark line ∷ i.Leave k ∷ tail))) [] w
       (slots_hold scope slots locals h.slots.0 refl) follows))
       (value_ends classes code r.output (path_value classes store locals q) _ _ (λ u led.
-      opens_ends classes code r.output _ w.machine k _ (let e = is in omega (arith, e, room))
+      if_ends classes code r.output (◌>>=◌ (object_at store u) (λ o. plain_entered (state r store locals managers input (j ∷ rest))
+      (field_at classes u o g) z b (field_value classes o g)))
+      (needs code (i.EnterField n k) (u ∷ []) w.machine)
+      (opens_at w.machine k (elim (object_at store u) [
+        | Ok o ↦ elim (object_at store (unwrap_or (slice_get o.fields n) val.Nil)) [
+          | Ok c ↦ walk code (block ++ (i.Mark line ∷ i.Leave k ∷ tail)) (r.at + 1 + length path + 1) 0 []
+              (entered w (place.Field (slot_address u) n) (unwrap_or (slice_get o.fields n) val.Nil) k (region_of c.label))
+          | Err t ↦ Traps t
+        ]
+        | Err t ↦ Traps t
+      ])) Stuck (need u led)
+      (opens_ends classes code r.output _ w.machine k _ (let e = is in omega (arith, e, room))
       (ap (λ n. begins_by r.windows (slots_below r.frames + n)) is ∙ begins)
       (object_ends classes code r.output (object_at store u) _ _ (λ o there.
       let bridge = field_value classes o g in
@@ -341,7 +369,7 @@ module _ (classes : List Class) (code : Code) (r : Round) (store : List Seen) (s
         | Err t ↦ Traps t
       ])) (sym here)
       (object_ends classes code r.output (object_at store bridge) _ _ (λ c found. let owed = owes u o led there c found in
-      opens p z b front mine shown bridge c owed.0.0 h refl owner owed.0.1 owed.1 goes room))))))))
+      opens p z b front mine shown bridge c owed.0.0 h refl owner owed.0.1 owed.1 goes room)))))))))
 
 -- the end of the block of an `enter`; r is what stands round it, beneath its window
 pub leave-mirrors : (classes : List Class) (code : Code) (r : Round) (store : List Seen) (slots : List Val) (locals : List Local)
@@ -349,9 +377,10 @@ pub leave-mirrors : (classes : List Class) (code : Code) (r : Round) (store : Li
     (rest : List Item)
     → Mirrors classes code (work (record r { windows = v ∷ w ∷ ws; opened = p ∷ q ∷ ps }) store slots managers input).machine
     (state (record r { windows = v ∷ w ∷ ws; opened = p ∷ q ∷ ps }) store locals managers input (LeaveAt k ∷ j ∷ rest))
+    → needs code (i.Leave k) [] (work (record r { windows = v ∷ w ∷ ws; opened = p ∷ q ∷ ps }) store slots managers input).machine ≡ true
     → SameMove classes code r.output (next classes (state (record r { windows = v ∷ w ∷ ws; opened = p ∷ q ∷ ps }) store locals managers input
     (LeaveAt k ∷ j ∷ rest))) (step code (work (record r { windows = v ∷ w ∷ ws; opened = p ∷ q ∷ ps }) store slots managers input))
-leave-mirrors classes code r store slots locals managers input v w ws p q ps k j rest h =
+leave-mirrors classes code r store slots locals managers input v w ws p q ps k j rest h need =
     let before = record r { windows = v ∷ w ∷ ws; opened = p ∷ q ∷ ps } in
     let inner = record r { windows = w ∷ ws; opened = q ∷ ps } in
     let after = state inner store (take k locals) managers input (j ∷ rest) in
@@ -363,8 +392,9 @@ leave-mirrors classes code r store slots locals managers input v w ws p q ps k j
     let names : take k (scope_of locals) ≡ scope_of (take k locals) = take-map (λ (l : Local). record { name = l.name; ty = l.ty }) k locals in
     let at_two : r.at + 1 + 1 ≡ r.at + 2 = omega arith in
     subst (λ t. SameMove classes code r.output (Went after) t) (sym (ap (step_from code (work before store slots managers input)) front))
-    (ended classes code r.output marked.0 (Ok after) (walk code (drop (r.at + 2) code.ops) (r.at + 1 + 1) 0 []
-    (work inner store (ended_slots k slots) managers input))
+    (ended classes code r.output marked.0 (Ok after) _
+    (if_ends classes code r.output (Ok after) (needs code (i.Leave k) [] (work before store slots managers input).machine)
+    (walk code (drop (r.at + 2) code.ops) (r.at + 1 + 1) 0 [] (work inner store (ended_slots k slots) managers input)) Stuck need
     (finish_at classes code inner store (ended_slots k slots) (take k locals) managers input j rest size (r.at + 2) (r.at + 1 + 1) at_two
     (shows_ended k slots locals h.slots.0) (ended-length k slots) (record { frames = h.slots.1; windows = h.windows.1 })
-    (subst (λ s. Lies classes code.ops (level r s size ∷ levels_of r.frames r.bodies) (j ∷ rest) (r.at + 2)) names h.places.2)))
+    (subst (λ s. Lies classes code.ops (level r s size ∷ levels_of r.frames r.bodies) (j ∷ rest) (r.at + 2)) names h.places.2))))

@@ -19,14 +19,17 @@ use Rattle.rg_code.specs.Code.{Code}
 use Rattle.rg_code.specs.Lowering.{Scope, slot_of, expr_code, used_slots, clears, whole_code}
 use Rattle.rg_code.specs.Places.{is_mark, Stands, scope_of, Level, Lies}
 use Rattle.rg_stack.specs.Machine.{Frame, Window}
-use Rattle.rg_stack.specs.Effects.{Work, Walked, Stops, Returns, Traps, Stuck, with_value, walk}
-use Rattle.rg_stack.specs.Runs.{come_to, finished, landed, step_from, step, stopped}
+use Rattle.rg_stack.specs.Effects.{Work, Walked, Stops, Returns, Traps, Stuck, with_value}
+use Rattle.rg_stack.specs.Runs.{come_to, landed, stopped}
+use Rattle.rg_stack.specs.Needs.{needs, owned_once}
 use Rattle.rg_stack.specs.Shows.{ShowsFrames, ShowsWindows, levels_of}
 use Rattle.rg_stack.specs.Simulates.{NoneLeft, SomeLeft}
+use Rattle.rg_stack.specs.Given.{given_finished as finished, given_step as step, given_step_from as step_from, given_walk as walk}
 use Rattle.rg_stack.proofs.Mirrors.{MirrorsWork, SameMove}
 use Rattle.rg_stack.proofs.Walks.WalkLemmas.{Agrees, walk-expr}
 use Rattle.rg_stack.proofs.Walks.MarkLemmas.{lies_at_mark, drop-stands, shown_slot, walk_to_items}
 use Rattle.rg_stack.proofs.Walks.FrameLemmas.{work_of, state_of}
+use Rattle.rg_stack.proofs.Walks.NeedLemmas.{given, clear-given, once-cleared, AllOnStack, all-cleared}
 use Rattle.rg_stack.proofs.Walks.ArgumentLemmas.{with_values, each_value}
 use Rattle.rg_stack.proofs.Walks.SlotLemmas.{ShowsSlots, cleared_slots, cleared-length, shows_clears, scope_cleared, used-uses}
 
@@ -192,7 +195,7 @@ pub finish_at : (classes : List Class) (code : Code) (r : Round) (store : List S
 finish_at classes code r store slots locals managers input j rest n end here is shows size round lies =
     subst (λ x. EndsAs classes code r.output (Ok (state r store locals managers input (j ∷ rest))) x)
     (sym (ap (λ k. walk code (drop end code.ops) k 0 [] (work r store slots managers input)) is
-    ∙ walk_to_items classes code (level r (scope_of locals) n ∷ levels_of r.frames r.bodies) j rest end [] (work r store slots managers input)
+    ∙ walk_to_items classes code (level r (scope_of locals) n ∷ levels_of r.frames r.bodies) j rest end (work r store slots managers input)
     lies))
     (finish classes code r store slots locals managers input (j ∷ rest) n end shows size round lies)
 
@@ -210,26 +213,37 @@ statement_step classes code r store slots locals managers input line k more rest
     (ended classes code r.output line (step_kind classes (state r store locals managers input rest) line k)
     (walk code (more ++ drop (r.at + length (i.Mark line ∷ more)) code.ops) (r.at + 1) 0 [] (work r store slots managers input)) h)
 
--- slots that are cleared in order
+-- slots whose values are on the stack are cleared in order
 pub walk-clears : (classes : List Class) (code : Code) (r : Round) (store : List Seen) (managers : List Manager) (input : List ℕ) (us : List ℕ)
     (slots : List Val) (rest : List Op) (here : ℕ) (stack : List Val)
+    → owned_once (work r store slots managers input).machine ≡ true → AllOnStack us slots stack
     → walk code (clears us ++ rest) here 0 stack (work r store slots managers input)
     ≡ walk code rest (here + length (clears us)) 0 stack (work r store (cleared_slots us slots) managers input)
-walk-clears classes code r store managers input [] slots rest here stack = let e : here
+walk-clears classes code r store managers input [] slots rest here stack once h = let e : here
     ≡ here + 0 = omega arith in ap (λ n. walk code rest n 0 stack (work r store slots managers input)) e
-walk-clears classes code r store managers input (u ∷ us) slots rest here stack =
+walk-clears classes code r store managers input (u ∷ us) slots rest here stack once h =
     let e : here + 1 + length (clears us) ≡ here + length (clears (u ∷ us)) = omega arith in
-    walk-clears classes code r store managers input us (slice_set slots u val.Nil) rest (here + 1) stack
+    given (needs code (i.Clear u) stack (work r store slots managers input).machine) _
+    (clear-given code (work r store slots managers input).machine u stack once h.0)
+    ∙ walk-clears classes code r store managers input us (slice_set slots u val.Nil) rest (here + 1) stack
+    (once-cleared (work r store slots managers input).machine (record { slots = slots; back = r.back }) r.frames u once)
+    (all-cleared us u slots stack h.1)
     ∙ ap (λ n. walk code rest n 0 stack (work r store (cleared_slots (u ∷ us) slots) managers input)) e
+
+-- what an expression uses up is on the stack once it is computed
+abbrev pub UsesUp : List Class → List Seen → (slots : List Val) → List Local → Scope → Expr → (stack : List Val) → Type 0
+UsesUp classes store slots locals scope e stack =
+    (v : Val) → value_of classes store locals e ≡ Ok v → AllOnStack (used_slots scope e) slots (v ∷ stack)
 
 -- a whole expression
 pub walk-whole : (classes : List Class) (code : Code) (r : Round) (store : List Seen) (managers : List Manager) (input : List ℕ) (e : Expr)
     (scope : Scope) (slots : List Val) (locals : List Local) (rest : List Op) (here : ℕ) (stack : List Val)
     → ShowsSlots slots locals → scope_of locals ≡ scope → Agrees classes store locals scope e
+    → owned_once (work r store slots managers input).machine ≡ true → UsesUp classes store slots locals scope e stack
     → walk code (whole_code classes scope here e ++ rest) here 0 stack (work r store slots managers input)
     ≡ with_value (value_of classes store locals e) (λ v. walk code rest (here + length (whole_code classes scope here e)) 0 (v ∷ stack)
     (work r store (cleared_slots (used_slots scope e) slots) managers input))
-walk-whole classes code r store managers input e scope slots locals rest here stack shows is agrees =
+walk-whole classes code r store managers input e scope slots locals rest here stack shows is agrees once clear =
     let ops = expr_code classes scope here e in
     let us = used_slots scope e in
     let end : here + length ops + length (clears us) ≡ here + length (ops ++ clears us) = omega (arith, length-append ops (clears us)) in
@@ -237,7 +251,7 @@ walk-whole classes code r store managers input e scope slots locals rest here st
     ∙ walk-expr classes code e locals scope here (clears us ++ rest) stack (work r store slots managers input)
     (slots_hold scope slots locals shows is) agrees
     ∙ each_value (value_of classes store locals e) _ _ (λ v got.
-    walk-clears classes code r store managers input us slots rest (here + length ops) (v ∷ stack)
+    walk-clears classes code r store managers input us slots rest (here + length ops) (v ∷ stack) once (clear v got)
     ∙ ap (λ n. walk code rest n 0 (v ∷ stack) (work r store (cleared_slots us slots) managers input)) end)
 
 -- the middle of a step behind a whole expression

@@ -13,7 +13,8 @@ use Rattle.rg_code.specs.declared.op.Op.TheVariants as i
 use Rattle.rg_code.specs.Code.{Code}
 use Rattle.rg_code.specs.Lowering.{Scope, slot_of, kind_code}
 use Rattle.rg_code.specs.Places.{Stands, is_mark, scope_of, Level, Lies}
-use Rattle.rg_stack.specs.Effects.{Work, Stops, walk}
+use Rattle.rg_stack.specs.Effects.{Work, Stops}
+use Rattle.rg_stack.specs.Given.{given_walk as walk}
 
 drop-none : (n : ℕ) → drop {A = Op} n [] ≡ []
 drop-none zero = refl
@@ -60,12 +61,12 @@ starts classes scope at line (print e) more = refl
 starts classes scope at line collect more = refl
 starts classes scope at line (return e) more = refl
 
--- a walk ends at a mark
-pub walk_at_mark : (classes : List Class) (code : Code) (ops : List Op) (at : ℕ) (stack : List Val) (w : Work) → is_mark (slice_get ops 0) ≡ true
-    → walk code ops at 0 stack w ≡ Stops at w
-walk_at_mark classes code [] at stack w e = absurd (true≢false (sym e))
-walk_at_mark classes code (i.Mark line ∷ ops) at stack w e = refl
-walk_at_mark classes code (o ∷ ops) at stack w e = absurd (true≢false (sym e))
+-- a walk with nothing on the stack ends at a mark
+pub walk_at_mark : (classes : List Class) (code : Code) (ops : List Op) (at : ℕ) (w : Work) → is_mark (slice_get ops 0) ≡ true
+    → walk code ops at 0 [] w ≡ Stops at w
+walk_at_mark classes code [] at w e = absurd (true≢false (sym e))
+walk_at_mark classes code (i.Mark line ∷ ops) at w e = refl
+walk_at_mark classes code (o ∷ ops) at w e = absurd (true≢false (sym e))
 
 -- the first of some instructions
 pub first-drop : (code : List Op) (at : ℕ) → slice_get (drop at code) 0 ≡ slice_get code at
@@ -85,9 +86,9 @@ lies_at_mark classes code (l ∷ ls) (LeaveAt k) rest at h = h.0
 lies_at_mark classes code (l ∷ ls) Back rest at h = h.0
 
 -- a walk ends where items begin
-pub walk_to_items : (classes : List Class) (code : Code) (ls : List Level) (j : Item) (rest : List Item) (at : ℕ) (stack : List Val) (w : Work)
-    → Lies classes code.ops ls (j ∷ rest) at → walk code (drop at code.ops) at 0 stack w ≡ Stops at w
-walk_to_items classes code ls j rest at stack w h = walk_at_mark classes code (drop at code.ops) at stack w
+pub walk_to_items : (classes : List Class) (code : Code) (ls : List Level) (j : Item) (rest : List Item) (at : ℕ) (w : Work)
+    → Lies classes code.ops ls (j ∷ rest) at → walk code (drop at code.ops) at 0 [] w ≡ Stops at w
+walk_to_items classes code ls j rest at w h = walk_at_mark classes code (drop at code.ops) at w
     (ap is_mark (first-drop code.ops at) ∙ lies_at_mark classes code.ops ls j rest at h)
 
 -- a mark that stands somewhere, and what is behind it

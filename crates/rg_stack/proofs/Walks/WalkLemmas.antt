@@ -1,7 +1,7 @@
 -- The code of an expression leaves the value that the expression has.
 use Rattle.std.proofs.Common.{◌≡◌, ℕ, ◌+◌, ◌-◌, true, false, Bool as Truth, ◌||◌, ◌&&◌, true≢false, if◌then◌else◌, not as negated, List, [], ◌∷◌}
 use Rattle.std.proofs.Common.{◌++◌, length, Result, Ok, Err, refl, sym, ap, ◌∙◌, arith, append_assoc, length-append, slice_get, unwrap_or}
-use Rattle.std.specs.Prelude.{neg_ℤ}
+use Rattle.std.specs.Prelude.{neg_ℤ, nat_lt}
 use Rattle.rg_base.specs.declared.object.Seen.{Seen}
 use Rattle.rg_base.specs.declared.value.Val.{Val}
 use Rattle.rg_base.specs.declared.value.Val.TheVariants as val
@@ -19,13 +19,15 @@ use Rattle.rg_code.specs.declared.op.Op.TheVariants as i
 use Rattle.rg_code.specs.Code.{Code}
 use Rattle.rg_code.specs.Lowering.{Scope, slot_of, type_in, field_number, type_behind, fields_code, path_code, expr_code}
 use Rattle.rg_stack.specs.Machine.{slot_at}
-use Rattle.rg_stack.specs.Effects.{Work, Walked, Traps, Go, with_value, act, walk}
+use Rattle.rg_stack.specs.Effects.{Work, Walked, Traps, Stuck, Go, with_value}
+use Rattle.rg_stack.specs.Given.{given_act as act, given_walk as walk}
 
--- the fields behind a type are those of the objects that are there
+-- the fields behind a type are those of the objects that are there, which have them
 abbrev pub Follows : List Class → List Seen → Ty → Val → List Name → Type 0
 Follows classes store t v [] = Unit {0}
 Follows classes store t v (f ∷ fs) = (o : Seen) → object_at store v ≡ Ok o →
     (field_value classes o f ≡ unwrap_or (slice_get o.fields (field_number classes t f)) val.Nil)
+    × (nat_lt (field_number classes t f) (length o.fields) ≡ true)
     × Follows classes store (type_behind classes t f) (field_value classes o f) fs
 
 -- the same of a path
@@ -76,6 +78,13 @@ object_then : (r : Result Seen Trap) (go : Seen → Walked) (k : Seen → Comput
 object_then (Ok o) go k behind h = h o refl
 object_then (Err t) go k behind h = refl
 
+-- a test of an object that holds of the one that is there
+object_given : (r : Result Seen Trap) (test : Seen → Truth) (go : Seen → Walked) → ((o : Seen) → r ≡ Ok o → test o ≡ true)
+    → (if elim r [ Ok o ↦ test o | Err t ↦ true ] then elim r [ Ok o ↦ go o | Err t ↦ Traps t ] else Stuck)
+    ≡ elim r [ Ok o ↦ go o | Err t ↦ Traps t ]
+object_given (Ok o) test go h = ap (λ b. if b then go o else Stuck) (h o refl)
+object_given (Err t) test go h = refl
+
 -- the two ways round
 turned : (t : Truth) (a b : Walked) → (if t then a else b) ≡ (if negated t then b else a)
 turned true a b = refl
@@ -116,13 +125,16 @@ module _ (classes : List Class) (code : Code) where
   walk-fields (f ∷ fs) t v at rest stack w h =
       let more = fields_code classes (type_behind classes t f) fs in
       let e : at + 1 + length more ≡ at + length (i.Field (field_number classes t f) ∷ more) = omega arith in
-      object_then (object_at w.machine.store v)
+      object_given (object_at w.machine.store v) (λ o. nat_lt (field_number classes t f) (length o.fields))
+      (λ o. walk code (more ++ rest) (at + 1) 0 (unwrap_or (slice_get o.fields (field_number classes t f)) val.Nil ∷ stack) w)
+      (λ o there. (h o there).1)
+      ∙ object_then (object_at w.machine.store v)
       (λ o. walk code (more ++ rest) (at + 1) 0 (unwrap_or (slice_get o.fields (field_number classes t f)) val.Nil ∷ stack) w)
       (λ o. follow_fields classes w.machine.store (field_value classes o f) fs)
       (λ u. walk code rest (at + length (i.Field (field_number classes t f) ∷ more)) 0 (u ∷ stack) w)
       (λ o there.
       ap (λ u. walk code (more ++ rest) (at + 1) 0 (u ∷ stack) w) (sym ((h o there).0))
-      ∙ walk-fields fs (type_behind classes t f) (field_value classes o f) (at + 1) rest stack w (h o there).1
+      ∙ walk-fields fs (type_behind classes t f) (field_value classes o f) (at + 1) rest stack w (h o there).2
       ∙ at_address rest stack w (follow_fields classes w.machine.store (field_value classes o f) fs) _ _ e)
 
   pub walk-path : (p : Path) (locals : List Local) (scope : Scope) (at : ℕ) (rest : List Op) (stack : List Val) (w : Work)

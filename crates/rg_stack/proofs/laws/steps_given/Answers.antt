@@ -1,0 +1,5 @@
+use Rattle.rg_stack.proofs.Callers.StepLemmas.{steps-given}
+use Rattle.rg_stack.proofs.laws.steps_given.Goals as goal
+
+pub returns : goal.returns
+returns c = steps-given
