@@ -1,5 +1,6 @@
 -- What was never written stays nil through each change of the frames.
-use Rattle.std.proofs.Common.{◌≡◌, ◌≤◌, ◌<◌, ◌+◌, ◌-◌, ◌++◌, ◌∷◌, ℕ, zero, suc, [], Some, List, length, take, drop, replicate, slice_get, slice_set, refl, sym, ap, ◌∙◌, arith, length-append, min, ◌↔◌, Option, None, IsSome, IsNone, get_or, option_to_list}
+use Rattle.std.proofs.Common.{◌≡◌, ◌≤◌, ◌<◌, ◌+◌, ◌-◌, ◌++◌, ◌∷◌, ℕ, zero, suc, [], Some, List, length, take, drop, replicate, slice_get}
+use Rattle.std.proofs.Common.{slice_set, refl, sym, ap, ◌∙◌, arith, length-append, min, ◌↔◌, Option, None, IsSome, IsNone, get_or, option_to_list}
 use Rattle.std.proofs.lemmas.Option.{slice_get_within, slice_get-get_or}
 use Rattle.std.proofs.Math.Seq.{take-append_seam}
 use Rattle.std.proofs.lemmas.List.{length-take-le, length-replicate, take-append-drop, length-set}
@@ -71,7 +72,8 @@ nils (w ∷ ws) (suc k) n e h = nils ws k n (omega (arith, e)) (record {
 -- the slots in front of a seam, and behind it nothing but nil
 pub all-nils : (slots : List Word) (from : ℕ) → NilFrom slots from (length slots)
     → slots ≡ take from slots ++ replicate (length slots - from) Nil
-all-nils slots from h = sym (take-append-drop from slots) ∙ ap (λ xs. take from slots ++ xs) (nils slots from (length slots - from) (omega (arith, h.order)) h)
+all-nils slots from h = sym (take-append-drop from slots)
+    ∙ ap (λ xs. take from slots ++ xs) (nils slots from (length slots - from) (omega (arith, h.order)) h)
 
 -- other slots, which are the same in front of a place
 pub nil-same : (slots new : List Word) (most from to : ℕ) → to ≤ most

@@ -45,6 +45,13 @@ BaseUpTo v place = (w : Window) × IsTop v w × (w.base ≤ place)
 abbrev pub mark : Stack → ℕ
 mark v = slice_index_or v.marks (length v.marks - 1) 0
 
+-- the temporaries of each window are a stretch of all: a window has a mark where its own begin, the next mark is their end, marks don't
+-- fall, and none is above the number of temporaries
+pub record MarksLie (v : Stack) : Type 0 where
+  pub as_many : length v.marks ≡ length v.windows
+  pub rise : (j k m n : ℕ) → j ≤ k → slice_get v.marks j ≡ Some m → slice_get v.marks k ≡ Some n → m ≤ n
+  pub within : (k n : ℕ) → slice_get v.marks k ≡ Some n → n ≤ length v.temps
+
 -- nothing was made yet
 pub record IsEmpty (v : Stack) : Type 0 where
   pub slots : v.slots ≡ []

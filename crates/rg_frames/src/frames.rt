@@ -11,8 +11,9 @@ ghost use Rattle.rg_frames.specs.declared.rows.Frame.{Frame as FrameOf};
 ghost use Rattle.rg_frames.specs.declared.rows.FrameRefusal.TheVariants.{Depth};
 ghost use Rattle.rg_frames.specs.Inner.Layout.{NilFrom};
 ghost use Rattle.rg_frames.specs.Stack.{Begun, InTop, IsTopFrame, IsTop, BaseUpTo, mark};
-ghost use Rattle.rg_frames.specs.Stack.{IsEmpty, HasRoom, roomed, begun, with_slot, with_temp, without_temps};
-ghost use Rattle.rg_frames.specs.Stack.{pushed, pushed_of, popped, opened, closed, has_region, ended};
+ghost use Rattle.rg_frames.specs.Stack.{IsEmpty, HasRoom, roomed, begun, with_slot, with_temp};
+ghost use Rattle.rg_frames.specs.Stack.{without_temps, ended, MarksLie};
+ghost use Rattle.rg_frames.specs.Stack.{pushed, pushed_of, popped, opened, closed, has_region};
 
 use crate::rows::{Frame, FrameRefusal, Window};
 use rg_base::{FRAMES, Memory, Place, Word};
@@ -327,8 +328,10 @@ impl Frames {
         self.windows[self.windows.len() - 1]
     }
 
-    /// The top window; None where none is open.
+    /// The top window; None where none is open. Whatever it is, it tells where the windows'
+    /// temporaries lie.
     pub fn top_window(&self) -> Option<Window>
+        ensures marks { MarksLie self.now }
         ensures some { IfSome result (IsTop self.now) }
         ensures none { IsNone result ↔ (length self.now.windows ≡ 0) }
     {

@@ -1,5 +1,5 @@
 -- What holds where an object is made, or where there was no memory for it (docs/architecture.md, "The heap").
-use Rattle.std.proofs.Common.{◌≡◌, ◌≢◌, ℕ, zero, suc, ◌+◌, ◌-◌, ◌<◌, ◌≤◌, ◌^◌, List, [], ◌∷◌, ◌++◌, Option, Some, None, IsSome, refl, ap, sym, ◌∙◌}
+use Rattle.std.proofs.Common.{◌≡◌, ◌≢◌, ℕ, zero, suc, ◌+◌, ◌-◌, List, [], ◌∷◌, ◌++◌, Option, Some, None, IsSome, refl, ap, sym, ◌∙◌}
 use Rattle.std.proofs.Common.{subst, ◌⊎◌, inl, inr, option_map, slice_get, length, arith, get_or, set}
 use Rattle.std.proofs.lemmas.Bool.{cases_eq}
 use Rattle.std.proofs.lemmas.List.{get_or-set_other}
@@ -8,7 +8,7 @@ use Rattle.rg_base.specs.declared.object.Label.{Label}
 use Rattle.rg_base.specs.declared.object.Label.TheVariants.{Region, Temp}
 use Rattle.rg_base.specs.declared.value.Word.{Word}
 use Rattle.rg_cells.specs.declared.cell.Body.{Body}
-use Rattle.rg_cells.specs.Table.{Table, Made, body_at, body_in, label_at, mark_at, total, width, field_total, cancelled as cell_cancelled}
+use Rattle.rg_cells.specs.Table.{Table, Made, body_at, body_in, label_at, mark_at, cancelled as cell_cancelled}
 use Rattle.rg_regions.specs.Table.{Record, RegionTable, record_at, HasNumber, IsKey, IsNewest, HasRoom, Roomier, Added, fresh, changed, cancelled}
 use Rattle.rg_regions.specs.Table.{with_room, with_member, with_bridge}
 use Rattle.rg_regions.specs.Reach.{LiesIn}
@@ -16,7 +16,7 @@ use Rattle.rg_regions.specs.Grove.{Grove, Members}
 use Rattle.rg_regions.proofs.Callers.Told.{one_record, number_of}
 use Rattle.rg_regions.proofs.Callers.Changed.{changed_at, changed_other, changed_links}
 use Rattle.rg_regions.proofs.Callers.RegionComes.{grove_comes}
-use Rattle.rg_heap.specs.Parts.{Sound}
+use Rattle.rg_regions.proofs.Callers.CellComes.{one_more, old_one, last_one}
 use Rattle.rg_heap.specs.Changes.{LeadsNowhere, Makes, SameCells, SameRecords, Opens, OpensOne, Rewritten, as_it_is, with_one}
 use Rattle.rg_heap.proofs.Alike.{Alike, IsAlike, grove_alike}
 use Rattle.rg_heap.proofs.Grows.{Grows, IsKin, grove_grows}
@@ -27,25 +27,6 @@ record_of_key t key k = by_record (record_at t key) k
     by_record : (o : Option Record) → IsSome o → (r : Record) × (o ≡ Some r)
     by_record None k = cc
     by_record (Some r) k = (r, refl)
-
--- an element of a list with one more at its end
-pub got_one_more : (xs : List ℕ) (x i s : ℕ) → slice_get (xs ++ x ∷ []) i ≡ Some s → (slice_get xs i ≡ Some s) ⊎ ((i ≡ length xs) × (s ≡ x))
-got_one_more [] x zero s e = inr (refl, some_is s x (sym e))
-  where
-    some_is : (a b : ℕ) → Some a ≡ Some b → a ≡ b
-    some_is a b q = cc
-got_one_more [] x (suc i) s e = cc
-got_one_more (y ∷ xs) x zero s e = inl e
-got_one_more (y ∷ xs) x (suc i) s e = elim (got_one_more xs x i s e) [ inl a ↦ inl a | inr a ↦ inr (ap suc a.0, a.1) ]
-
-pub get_before : (xs : List ℕ) (x i s : ℕ) → slice_get xs i ≡ Some s → slice_get (xs ++ x ∷ []) i ≡ Some s
-get_before [] x i s e = cc
-get_before (y ∷ xs) x zero s e = e
-get_before (y ∷ xs) x (suc i) s e = get_before xs x i s e
-
-pub get_last : (xs : List ℕ) (x : ℕ) → slice_get (xs ++ x ∷ []) (length xs) ≡ Some x
-get_last [] x = refl
-get_last (y ∷ xs) x = get_last xs x
 
 -- records that stay but for the room
 pub rewritten_same : (t regions : RegionTable) (key : ℕ) → regions ≡ t → Rewritten t regions key as_it_is
@@ -79,11 +60,11 @@ alike_self : (r : Record) (room : ℕ) → IsAlike r (with_room room r)
 alike_self r room = record { number = refl; manager = refl; members = refl; bridge = refl }
 
 -- where cells stay, and records but for the room of one, all holds as before
-pub sound_roomed : (c : Table) (t : RegionTable) (cells : Table) (regions : RegionTable) (key : ℕ) → Sound c t → IsKey t key → cells ≡ c
-    → Rewritten t regions key as_it_is → Sound cells regions
-sound_roomed c t cells regions key g k e w =
-    let P : Table → Type 0 = λ (z : Table). Sound z regions in
-    subst P (sym e) (record { grove = grove_alike c t c regions alike g.grove; few = g.few })
+pub grove_roomed : (c : Table) (t : RegionTable) (cells : Table) (regions : RegionTable) (key : ℕ) → Grove c t → IsKey t key → cells ≡ c
+    → Rewritten t regions key as_it_is → Grove cells regions
+grove_roomed c t cells regions key g k e w =
+    let P : Table → Type 0 = λ (z : Table). Grove z regions in
+    subst P (sym e) (grove_alike c t c regions alike g)
   where
     alike : Alike c t c regions
     alike =
@@ -111,9 +92,9 @@ sound_roomed c t cells regions key g k e w =
         }
 
 -- where cells and records are as they were
-pub sound_same : (c : Table) (t : RegionTable) (cells : Table) (regions : RegionTable) → Grove c t → SameCells c cells → SameRecords t regions
+pub grove_same : (c : Table) (t : RegionTable) (cells : Table) (regions : RegionTable) → Grove c t → SameCells c cells → SameRecords t regions
     → Grove cells regions
-sound_same c t cells regions g b r = grove_alike c t cells regions (record {
+grove_same c t cells regions g b r = grove_alike c t cells regions (record {
   bodies = b.bodies;
   marks = b.marks;
   back = λ k z a. (z, sym (r.records k) ∙ a, alike_self z z.room);
@@ -167,21 +148,21 @@ module _ (c cells : Table) (slot : ℕ) (b : Body) (vacant : body_at c.heap slot
   -- members of the region to which it belongs
   members_more : (q : ℕ) (members : List ℕ) → b.label ≡ Region q → Members c.heap q members → Members cells.heap q (members ++ slot ∷ [])
   members_more q members e w = record {
-    lie = λ i s a. elim (got_one_more members slot i s a) [
+    lie = λ i s a. elim (one_more members slot i s a) [
       | inl o ↦ lies_on q s (w.lie i s o)
       | inr o ↦ let P : ℕ → Type 0 = λ z. LiesIn cells.heap q z in subst P (sym o.1) (label_new ∙ ap Some e)
     ];
     all = λ s l. elim (lies_back q s l) [
       | inl o ↦ let P : ℕ → Type 0 = λ z. slice_get (members ++ slot ∷ []) (length members) ≡ Some z in
-          (length members, subst P (sym o.0) (get_last members slot))
-      | inr o ↦ let a = w.all s o.1 in (a.0, get_before members slot a.0 s a.1)
+          (length members, subst P (sym o.0) (last_one members slot))
+      | inr o ↦ let a = w.all s o.1 in (a.0, old_one members slot a.0 s a.1)
     ];
-    once = λ i j s a b. elim (got_one_more members slot i s a) [
-      | inl o ↦ elim (got_one_more members slot j s b) [
+    once = λ i j s a b. elim (one_more members slot i s a) [
+      | inl o ↦ elim (one_more members slot j s b) [
         | inl u ↦ w.once i j s o u
         | inr u ↦ absurd (lay_apart q s (w.lie i s o) u.1)
       ]
-      | inr o ↦ elim (got_one_more members slot j s b) [
+      | inr o ↦ elim (one_more members slot j s b) [
         | inl u ↦ absurd (lay_apart q s (w.lie j s u) o.1)
         | inr u ↦ o.0 ∙ sym u.0
       ]
@@ -195,10 +176,10 @@ kin_self : (r : Record) (members : List ℕ) (room : ℕ) → IsKin r (record r 
 kin_self r members room = record { number = refl; manager = refl; bridge = refl }
 
 -- a cell comes into the region of a key
-pub sound_member : (c : Table) (t : RegionTable) (cells : Table) (regions : RegionTable) (key n slot class : ℕ) (fields : List Word)
-    → Sound c t → HasNumber t key n → LeadsNowhere fields → Makes c cells slot class (Region n) fields → Rewritten t regions key (with_one slot)
-    → field_total cells.heap < 2 ^ 64 - 1 → IsKey t key → Sound cells regions
-sound_member c t cells regions key n slot class fields g has plain m w few k = record { grove = grove_grows c t cells regions slot b g.grove grows; few = few }
+pub grove_member : (c : Table) (t : RegionTable) (cells : Table) (regions : RegionTable) (key n slot class : ℕ) (fields : List Word)
+    → Grove c t → HasNumber t key n → LeadsNowhere fields → Makes c cells slot class (Region n) fields → Rewritten t regions key (with_one slot)
+    → IsKey t key → Grove cells regions
+grove_member c t cells regions key n slot class fields g has plain m w k = grove_grows c t cells regions slot b g grows
   where
     b : Body
     b = record { class = class; label = Region n; serial = c.heap.next; fields = fields }
@@ -245,18 +226,18 @@ sound_member c t cells regions key n slot class fields g has plain m w few k = r
             let P : ℕ → Type 0 = λ y. record_at regions y ≡ Some z in
             let M : Record → Type 0 = λ y. Members cells.heap y.number y.members in
             subst M (one_record new z (sym new_is ∙ subst P q a))
-            (members_more c cells slot b m.takes.vacant m.made r.0.number r.0.members (ap Region number) (g.grove.members key r.0 r.1))
+            (members_more c cells slot b m.takes.vacant m.made r.0.number r.0.members (ap Region number) (g.members key r.0 r.1))
         | inr d ↦
             let x = sym (w.others o d) ∙ a in
             members_on c cells slot b m.takes.vacant m.made z.number z.members
-            (λ e. d (g.grove.numbers o key n (number_of t o n z x (sym (region_is n z.number e))) has)) (g.grove.members o z x)
+            (λ e. d (g.numbers o key n (number_of t o n z x (sym (region_is n z.number e))) has)) (g.members o z x)
       ];
     }
 
 -- a temporary comes
-pub sound_temp : (c : Table) (t : RegionTable) (cells : Table) (number slot class : ℕ) (fields : List Word)
+pub grove_temp : (c : Table) (t : RegionTable) (cells : Table) (number slot class : ℕ) (fields : List Word)
     → Grove c t → LeadsNowhere fields → Makes c cells slot class (Temp number) fields → Grove cells t
-sound_temp c t cells number slot class fields g plain m = grove_grows c t cells t slot b g (record {
+grove_temp c t cells number slot class fields g plain m = grove_grows c t cells t slot b g (record {
   vacant = m.takes.vacant;
   made = m.made;
   plain = plain;
@@ -308,10 +289,10 @@ opens t mid roomy bridged regions key more slot m a r b e =
           ∙ ap (λ (z : RegionTable). z.next) b ∙ (changed_links roomy key (with_bridge slot)).1 ∙ x.next ∙ a.next;
     }
 
-pub sound_opens : (c : Table) (t : RegionTable) (cells : Table) (regions : RegionTable) (slot class : ℕ) (m : Manager) (fields : List Word)
+pub grove_opens : (c : Table) (t : RegionTable) (cells : Table) (regions : RegionTable) (slot class : ℕ) (m : Manager) (fields : List Word)
     → Grove c t → ((k : ℕ) → HasNumber t k t.next → ⊥) → LeadsNowhere fields → Makes c cells slot class (Region t.next) fields
     → OpensOne t regions slot m → Grove cells regions
-sound_opens c t cells regions slot class m fields g new plain w o =
+grove_opens c t cells regions slot class m fields g new plain w o =
     let key = o.0 in
     let x = o.1 in
     let b : Body = record { class = class; label = Region t.next; serial = c.heap.next; fields = fields } in
@@ -375,7 +356,8 @@ newest_fresh t mid new key m a e = (
   sym (ap (λ (z : RegionTable). z.next) e ∙ a.next),
 )
 
-pub room_bridged : (mid roomy bridged : RegionTable) (key more slot : ℕ) (r : Record) → record_at mid key ≡ Some r → Roomier mid roomy key (suc more)
+pub room_bridged : (mid roomy bridged : RegionTable) (key more slot : ℕ) (r : Record) → record_at mid key ≡ Some r
+    → Roomier mid roomy key (suc more)
     → bridged ≡ changed roomy key (with_bridge slot) → HasRoom bridged key
 room_bridged mid roomy bridged key more slot r e w b =
     let x = ap (λ (z : RegionTable). record_at z key) w.2 ∙ changed_at mid key r (with_room w.0) e in
@@ -399,12 +381,3 @@ pub vacant_unmarked : (c : Table) (t : RegionTable) (slot : ℕ) → Grove c t �
 vacant_unmarked c t slot g e = g.unmarked slot (λ k r a m l.
     let z : None ≡ Some (Region r.number) = sym (ap (option_map (λ (b : Body). b.label)) e) ∙ l in
     cc)
-
--- a cell that goes takes its fields along
-pub field_total-cancelled : (t : Table) (slot : ℕ) → field_total (cell_cancelled t slot).heap ≤ field_total t.heap
-field_total-cancelled t slot = less t.heap.slots slot
-  where
-    less : (xs : List (Option (Option Body))) (k : ℕ) → total width (set xs k (Some None)) ≤ total width xs
-    less [] k = omega arith
-    less (x ∷ xs) zero = omega arith
-    less (x ∷ xs) (suc k) = omega (arith, less xs k)

@@ -1,15 +1,14 @@
 -- Cells that are freed, and regions that are released (docs/architecture.md, "The heap").
-use Rattle.std.proofs.Common.{◌≡◌, ◌≢◌, ℕ, zero, suc, ◌+◌, ◌<◌, ◌≤◌, cond, List, [], ◌∷◌, Option, Some, None, IsSome, get_or, set, length}
+use Rattle.std.proofs.Common.{◌≡◌, ◌≢◌, ℕ, zero, suc, ◌+◌, ◌<◌, cond, List, [], ◌∷◌, Option, Some, None, IsSome, get_or, set, length}
 use Rattle.std.proofs.Common.{refl, ap, sym, ◌∙◌, subst, ◌⊎◌, inl, inr, slice_get, arith, option_map, count_by, is_some}
 use Rattle.std.proofs.lemmas.Bool.{cases_eq, cases_lt}
 use Rattle.std.proofs.lemmas.List.{get_or-set_other, get_or-set_same}
 use Rattle.std.proofs.lemmas.List.Sums.{sum_by-cons}
 use Rattle.rg_cells.specs.declared.cell.Body.{Body}
-use Rattle.rg_cells.specs.Table.{Heap, Table, IsHeld, body_at, body_in, mark_at, total, width, field_total, freed_from}
+use Rattle.rg_cells.specs.Table.{Heap, Table, IsHeld, body_at, body_in, mark_at, freed_from}
 use Rattle.rg_regions.specs.Table.{Record, RegionTable, record_at, HasNumber, IsKey, Has, Chained}
-use Rattle.rg_regions.specs.Grove.{Grove, Below}
+use Rattle.rg_regions.specs.Grove.{Below}
 use Rattle.rg_release.specs.Released.{Unowned, BelowOne, CellsGo, CellsStay}
-use Rattle.rg_heap.specs.Parts.{Sound}
 use Rattle.rg_heap.specs.Changes.{SameRecords}
 use Rattle.rg_heap.proofs.OwnedChained.{number_on}
 use Rattle.rg_heap.specs.Inner.Chains.{FirstFreed, Gone}
@@ -81,26 +80,6 @@ freed_more old t slots i s once stands held f =
     slot_is : (a b : ℕ) → Some a ≡ Some b → a ≡ b
     slot_is a b q = cc
 
--- where cells only go, there are no more fields
-pub field_total-less : (h new : Heap) → ((s : ℕ) → (body_at new s ≡ body_at h s) ⊎ (body_at new s ≡ None)) → field_total new ≤ field_total h
-field_total-less h new sub = by_slots h.slots new.slots sub
-  where
-    width_less : (a b : Option Body) → (b ≡ a) ⊎ (b ≡ None) → width b ≤ width a
-    width_less a b (inl e) = let q = ap width e in omega (arith, q)
-    width_less a b (inr e) = let q : width b ≡ 0 = ap width e in omega (arith, q)
-
-    by_slots : (xs ys : List (Option (Option Body)))
-        → ((k : ℕ) → (body_in (get_or ys k None) ≡ body_in (get_or xs k None)) ⊎ (body_in (get_or ys k None) ≡ None)) → total width ys ≤ total width xs
-    by_slots xs [] s = omega arith
-    by_slots [] (y ∷ ys) s =
-        let a = width_less None (body_in y) (s 0) in
-        let i = by_slots [] ys (λ k. s (suc k)) in
-        omega (arith, a, i)
-    by_slots (x ∷ xs) (y ∷ ys) s =
-        let a = width_less (body_in x) (body_in y) (s 0) in
-        let i = by_slots xs ys (λ k. s (suc k)) in
-        omega (arith, a, i)
-
 -- a body is as it was, or there is none
 pub gone_sub : (c : Table) (t : RegionTable) (keys : List ℕ) (cells : Table) → CellsGo c t cells keys → CellsStay c t cells keys
     → (s : ℕ) → (body_at cells.heap s ≡ body_at c.heap s) ⊎ (body_at cells.heap s ≡ None)
@@ -129,14 +108,6 @@ pub none_is : (o : Option ℕ) → ((x : ℕ) → o ≡ Some x → ⊥) → o �
 none_is None h = refl
 none_is (Some x) h = absurd (h x refl)
 
--- all holds as before where regions went
-pub sound_gone : (c : Table) (t : RegionTable) (keys : List ℕ) (cells : Table) (regions : RegionTable) → Sound c t → Grove cells regions
-    → CellsGo c t cells keys → CellsStay c t cells keys → Sound cells regions
-sound_gone c t keys cells regions g new go stay =
-    let le = field_total-less c.heap cells.heap (gone_sub c t keys cells go stay) in
-    let few = g.few in
-    record { grove = new; few = omega (arith, le, few) }
-
 pub key_there : (t : RegionTable) (key n : ℕ) → HasNumber t key n → IsKey t key
 key_there t key n a = by_record (record_at t key) a
   where
@@ -151,7 +122,8 @@ below_on h old new top q e b = elim b [
   | inr x ↦ inr ((x.0.0, number_on old new x.0.0 q e x.0.1), x.1)
 ]
 
-pub below_one_on : (h : Heap) (old new : RegionTable) (keys : List ℕ) (q : ℕ) → new.records ≡ old.records → BelowOne h old keys q → BelowOne h new keys q
+pub below_one_on : (h : Heap) (old new : RegionTable) (keys : List ℕ) (q : ℕ) → new.records ≡ old.records → BelowOne h old keys q
+    → BelowOne h new keys q
 below_one_on h old new keys q e w = record {
   key = w.key;
   top = w.top;

@@ -14,6 +14,7 @@ use Rattle.rg_regions.specs.Reach.{LiesIn, belongs}
 use Rattle.rg_regions.specs.Grove.{Grove, Members, Parent, Above, direct, further, referrers, leads_to}
 use Rattle.rg_regions.proofs.Callers.Told.{number_of, record_there, lies_or_not}
 use Rattle.rg_regions.proofs.Callers.Fewer.{total_alike, belongs_not}
+use Rattle.rg_count.proofs.Written.{referrers-made}
 use Rattle.rg_heap.specs.Changes.{LeadsNowhere}
 
 -- two records have the same number, manager and bridge
@@ -132,13 +133,7 @@ module _ (c : Table) (t : RegionTable) (cells : Table) (regions : RegionTable) (
   weight q s x = cond (belongs q x) (elim x [ None ↦ 0 | Some y ↦ count_by (leads_to s) y.fields ]) 0
 
   referrers_on : (q s : ℕ) → referrers cells.heap q s ≡ referrers c.heap q s
-  referrers_on q s = total_alike (weight q s) refl c.heap.slots cells.heap.slots (λ n. elim (cases_eq n slot) [
-    | inl e ↦
-        ap (weight q s) (ap (body_at cells.heap) e ∙ w.made.body)
-        ∙ cond_none (belongs q (Some b)) (count_by (leads_to s) b.fields) (none_leads s b.fields w.plain)
-        ∙ sym (ap (weight q s) (ap (body_at c.heap) e ∙ w.vacant))
-    | inr d ↦ ap (weight q s) (same n d)
-  ])
+  referrers_on q s = referrers-made c cells slot q s b w.made w.vacant (none_leads s b.fields w.plain)
 
   -- no field of a region's cells leads to a slot that isn't held
   referrers_none : (q : ℕ) → referrers c.heap q slot ≡ 0

@@ -1,6 +1,6 @@
 -- A window is left: its temporaries go, and the regions that they own (docs/architecture.md, "The heap").
 use Rattle.std.proofs.Common.{◌≡◌, ◌≢◌, ℕ, zero, suc, cond, List, [], ◌∷◌, Option, Some, None, length}
-use Rattle.std.proofs.Common.{refl, ap, sym, ◌∙◌, subst, ◌⊎◌, inl, inr, slice_get, arith, option_map, count_by, true, false}
+use Rattle.std.proofs.Common.{refl, ap, sym, ◌∙◌, subst, ◌⊎◌, inl, inr, slice_get, option_map, count_by, true, false}
 use Rattle.std.proofs.lemmas.Bool.{cases_eq}
 use Rattle.std.proofs.lemmas.Option.{slice_get_within}
 use Rattle.rg_base.specs.declared.object.Label.{Label}
@@ -16,14 +16,14 @@ use Rattle.rg_regions.proofs.Callers.Told.{one_number, labelled_held}
 use Rattle.rg_regions.proofs.Callers.Fewer.{label_before, field_before, above_before, belongs_not, total_alike}
 use Rattle.rg_release.specs.Released.{Unowned, BelowOne}
 use Rattle.rg_frames.specs.Stack.{Stack}
-use Rattle.rg_heap.specs.Parts.{Parts, Sound}
+use Rattle.rg_heap.specs.Parts.{Parts}
 use Rattle.rg_heap.specs.Answers.{IsClosed}
 use Rattle.rg_heap.specs.Writes.{IsTemp}
 use Rattle.rg_heap.specs.Ends.{Released, CanLeave, GoesAlong, OwnedByOne, IsTopTemp, NoCell, top_temps}
 use Rattle.rg_heap.specs.Inner.Chains.{Chains, ChainsCells, FirstFreed, Gone, OwnedBefore, OwnsOnce}
 use Rattle.rg_heap.proofs.OwnedChained.{number_on}
-use Rattle.rg_heap.proofs.Comes.{sound_same, same_cells}
-use Rattle.rg_heap.proofs.Ended.{field_total-less, gone_on, same_records}
+use Rattle.rg_heap.proofs.Comes.{grove_same, same_cells}
+use Rattle.rg_heap.proofs.Ended.{gone_on, same_records}
 
 temp_apart : (h : Heap) (s q : ℕ) → IsTemp h s → LiesIn h q s → ⊥
 temp_apart h s q a l = let z : Some (Temp a.0) ≡ Some (Region q) = sym a.1 ∙ l in cc
@@ -135,120 +135,119 @@ module _ (c : Table) (t : RegionTable) (v : Stack) (g : Grove c t) (a : CanLeave
         a.one_outside q s k to s2 k2 to2 d (temp_apart c.heap s q (a.temps i s e)) f l (temp_apart c.heap s2 q (a.temps j s2 e2)) f2 l2;
   }
 
-  module _ (mid : RegionTable) (head : Option ℕ) (keys : List ℕ) (chains : Chains c.heap t v (top_temps v) (length (top_temps v)) 0 mid head keys) where
-    number_is : (key q n : ℕ) → Has keys key → HasNumber t key n → (o : ℕ) × (o ≡ n) × OwnedBefore c.heap t v (top_temps v) (length (top_temps v)) 0 o
-    number_is key q n x e = let b = chains.each key x in (b.0, one_number t key b.0 n b.1 e, b.2)
+  module _ (mid : RegionTable) (head : Option ℕ) (keys : List ℕ) (chains : Chains c.heap t v (top_temps v) (length (top_temps v)) 0 mid head keys)
+    where
+      number_is : (key q n : ℕ) → Has keys key → HasNumber t key n → (o : ℕ) × (o ≡ n)
+          × OwnedBefore c.heap t v (top_temps v) (length (top_temps v)) 0 o
+      number_is key q n x e = let b = chains.each key x in (b.0, one_number t key b.0 n b.1 e, b.2)
 
-    pub unowned : Unowned c.heap mid keys
-    unowned = record {
-      there = λ key x. let b = chains.each key x in (b.0, number_on t mid key b.0 chains.records b.1);
-      not_first = λ key x n.
-          let b = number_is key 0 0 x (number_on mid t key 0 (sym chains.records) n) in
-          let o = b.2 in
+      pub unowned : Unowned c.heap mid keys
+      unowned = record {
+        there = λ key x. let b = chains.each key x in (b.0, number_on t mid key b.0 chains.records b.1);
+        not_first = λ key x n.
+            let b = number_is key 0 0 x (number_on mid t key 0 (sym chains.records) n) in
+            let o = b.2 in
+            let d = o.closed in
+            let P : ℕ → Type 0 = λ z. HasNumber t d.0 z in
+            let z : true ≡ false = sym (a.first d.0 (subst P b.1 d.1)) ∙ d.2 in
+            cc;
+        alone = λ key q p s k to x n d l f i.
+            let b = number_is key q q x (number_on mid t key q (sym chains.records) n) in
+            let o = b.2 in
+            let temp = a.temps o.place o.slot o.stands in
+            let C : ℕ → Type 0 = λ z. IsClosed t v z in
+            let L : ℕ → Type 0 = λ z. LiesIn c.heap z o.to in
+            let same = a.one_outside q s k to o.slot o.field o.to (subst C b.1 o.closed) (λ y. d (lies_one s p q l y)) f i
+            (temp_apart c.heap o.slot q temp) o.leads (subst L b.1 o.lies) in
+            let T : ℕ → Type 0 = λ z. LiesIn c.heap p z in
+            temp_apart c.heap o.slot p temp (subst T same.0 l);
+      }
+        where
+          lies_one : (s p q : ℕ) → LiesIn c.heap p s → LiesIn c.heap q s → p ≡ q
+          lies_one s p q x y = region_is p q (sym x ∙ y)
+            where
+              region_is : (a b : ℕ) → Some (Region a) ≡ Some (Region b) → a ≡ b
+              region_is a b q = cc
+
+      -- what goes along is below a key of the chain, and the other way round
+      pub below_one : (q : ℕ) → GoesAlong (record { cells = c; regions = t }) v q → BelowOne c.heap t keys q
+      below_one q x =
+          let o = x.1 in
           let d = o.closed in
-          let P : ℕ → Type 0 = λ z. HasNumber t d.0 z in
-          let z : true ≡ false = sym (a.first d.0 (subst P b.1 d.1)) ∙ d.2 in
-          cc;
-      alone = λ key q p s k to x n d l f i.
-          let b = number_is key q q x (number_on mid t key q (sym chains.records) n) in
+          record {
+            key = d.0;
+            top = x.0;
+            one = chains.all d.0 x.0 d.1 (record {
+              closed = d;
+              place = o.place;
+              slot = o.slot;
+              field = o.field;
+              to = o.to;
+              before = inl (slice_get_within (top_temps v) o.place o.slot o.stands);
+              stands = o.stands;
+              leads = o.leads;
+              lies = o.lies;
+            });
+            has = d.1;
+            below = x.2;
+          }
+
+      pub goes_along : (q : ℕ) → BelowOne c.heap t keys q → GoesAlong (record { cells = c; regions = t }) v q
+      goes_along q x =
+          let b = number_is x.key x.top x.top x.one x.has in
           let o = b.2 in
-          let temp = a.temps o.place o.slot o.stands in
-          let C : ℕ → Type 0 = λ z. IsClosed t v z in
-          let L : ℕ → Type 0 = λ z. LiesIn c.heap z o.to in
-          let same = a.one_outside q s k to o.slot o.field o.to (subst C b.1 o.closed) (λ y. d (lies_one s p q l y)) f i
-          (temp_apart c.heap o.slot q temp) o.leads (subst L b.1 o.lies) in
-          let T : ℕ → Type 0 = λ z. LiesIn c.heap p z in
-          temp_apart c.heap o.slot p temp (subst T same.0 l);
-    }
-      where
-        lies_one : (s p q : ℕ) → LiesIn c.heap p s → LiesIn c.heap q s → p ≡ q
-        lies_one s p q x y = region_is p q (sym x ∙ y)
-          where
-            region_is : (a b : ℕ) → Some (Region a) ≡ Some (Region b) → a ≡ b
-            region_is a b q = cc
+          let P : ℕ → Type 0 = λ z. OwnedByOne c.heap t v (top_temps v) z in (
+            x.top,
+            subst P b.1 (record {
+              closed = o.closed;
+              place = o.place;
+              slot = o.slot;
+              field = o.field;
+              to = o.to;
+              stands = o.stands;
+              leads = o.leads;
+              lies = o.lies;
+            }),
+            x.below,
+          )
 
-    -- what goes along is below a key of the chain, and the other way round
-    pub below_one : (q : ℕ) → GoesAlong (record { cells = c; regions = t }) v q → BelowOne c.heap t keys q
-    below_one q x =
-        let o = x.1 in
-        let d = o.closed in
-        record {
-          key = d.0;
-          top = x.0;
-          one = chains.all d.0 x.0 d.1 (record {
-            closed = d;
-            place = o.place;
-            slot = o.slot;
-            field = o.field;
-            to = o.to;
-            before = inl (slice_get_within (top_temps v) o.place o.slot o.stands);
-            stands = o.stands;
-            leads = o.leads;
-            lies = o.lies;
-          });
-          has = d.1;
-          below = x.2;
-        }
+      module _ (freed : Table) (regions : RegionTable) (gone : Gone c mid keys freed regions) where
+        was_gone : Gone c t keys freed regions
+        was_gone = gone_on c t mid keys freed regions chains.records chains.next gone
 
-    pub goes_along : (q : ℕ) → BelowOne c.heap t keys q → GoesAlong (record { cells = c; regions = t }) v q
-    goes_along q x =
-        let b = number_is x.key x.top x.top x.one x.has in
-        let o = b.2 in
-        let P : ℕ → Type 0 = λ z. OwnedByOne c.heap t v (top_temps v) z in (
-          x.top,
-          subst P b.1 (record {
-            closed = o.closed;
-            place = o.place;
-            slot = o.slot;
-            field = o.field;
-            to = o.to;
-            stands = o.stands;
-            leads = o.leads;
-            lies = o.lies;
-          }),
-          x.below,
-        )
+        temp_stays : (s : ℕ) → IsTemp c.heap s → body_at freed.heap s ≡ body_at c.heap s
+        temp_stays s x = (was_gone.stay s (λ q w l. temp_apart c.heap s q x l)).0
 
-    module _ (freed : Table) (regions : RegionTable) (gone : Gone c mid keys freed regions) where
-      was_gone : Gone c t keys freed regions
-      was_gone = gone_on c t mid keys freed regions chains.records chains.next gone
+        pub temp_on : (s : ℕ) → IsTemp c.heap s → IsTemp freed.heap s
+        temp_on s x = (x.0, ap (option_map (λ (b : Body). b.label)) (temp_stays s x) ∙ x.1)
 
-      temp_stays : (s : ℕ) → IsTemp c.heap s → body_at freed.heap s ≡ body_at c.heap s
-      temp_stays s x = (was_gone.stay s (λ q w l. temp_apart c.heap s q x l)).0
+        module _ (cells : Table) (ended : FirstFreed freed (top_temps v) (length (top_temps v)) cells) where
+          is_gone : (j s : ℕ) → slice_get (top_temps v) j ≡ Some s → (body_at cells.heap s ≡ None) × (mark_at cells s ≡ 0)
+          is_gone j s e = ended.gone j s (slice_get_within (top_temps v) j s e) e
 
-      pub temp_on : (s : ℕ) → IsTemp c.heap s → IsTemp freed.heap s
-      temp_on s x = (x.0, ap (option_map (λ (b : Body). b.label)) (temp_stays s x) ∙ x.1)
+          pub stays_or_ends : (s : ℕ) → StaysOrEnds freed cells s
+          stays_or_ends s = elim (among (top_temps v) s) [
+            | inl x ↦ let y = is_gone x.0 s x.1 in inr (temp_on s (a.temps x.0 s x.1), y.0, y.1)
+            | inr n ↦ inl (ended.others s (λ j l e. n j e))
+          ]
 
-      module _ (cells : Table) (ended : FirstFreed freed (top_temps v) (length (top_temps v)) cells) where
-        is_gone : (j s : ℕ) → slice_get (top_temps v) j ≡ Some s → (body_at cells.heap s ≡ None) × (mark_at cells s ≡ 0)
-        is_gone j s e = ended.gone j s (slice_get_within (top_temps v) j s e) e
+          pub grove_left : Grove freed regions → Grove cells regions
+          grove_left g = grove_ended freed cells regions stays_or_ends g
 
-        pub stays_or_ends : (s : ℕ) → StaysOrEnds freed cells s
-        stays_or_ends s = elim (among (top_temps v) s) [
-          | inl x ↦ let y = is_gone x.0 s x.1 in inr (temp_on s (a.temps x.0 s x.1), y.0, y.1)
-          | inr n ↦ inl (ended.others s (λ j l e. n j e))
-        ]
-
-        pub sound_left : Sound freed regions → Sound cells regions
-        sound_left x =
-            let le = field_total-less freed.heap cells.heap (λ s. elim (stays_or_ends s) [ inl y ↦ inl y.0 | inr y ↦ inr y.1 ]) in
-            let few = x.few in
-            record { grove = grove_ended freed cells regions stays_or_ends x.grove; few = omega (arith, le, few) }
-
-        pub released : Released (record { cells = c; regions = t }) (record { cells = cells; regions = regions })
-            (GoesAlong (record { cells = c; regions = t }) v) (IsTopTemp v)
-        released = record {
-          freed = λ q s w l.
-              (ended.others s (λ j m e. temp_apart c.heap s q (a.temps j s e) l)).0 ∙ was_gone.freed q s (below_one q w) l;
-          ended = λ s w. (is_gone w.0 s w.1).0;
-          cells = λ s n m.
-              (ended.others s (λ j l e. m (j, e))).0 ∙ (was_gone.stay s (λ q w l. n q (goes_along q w) l)).0;
-          removed = λ key q w e. was_gone.removed key q (below_one q w) e;
-          records = λ key n. was_gone.records key (λ q w e. n q (goes_along q w) e);
-          serials = ended.serials ∙ was_gone.serials;
-          high = ended.high ∙ was_gone.high;
-          numbers = was_gone.numbers;
-        }
+          pub released : Released (record { cells = c; regions = t }) (record { cells = cells; regions = regions })
+              (GoesAlong (record { cells = c; regions = t }) v) (IsTopTemp v)
+          released = record {
+            freed = λ q s w l.
+                (ended.others s (λ j m e. temp_apart c.heap s q (a.temps j s e) l)).0 ∙ was_gone.freed q s (below_one q w) l;
+            ended = λ s w. (is_gone w.0 s w.1).0;
+            cells = λ s n m.
+                (ended.others s (λ j l e. m (j, e))).0 ∙ (was_gone.stay s (λ q w l. n q (goes_along q w) l)).0;
+            removed = λ key q w e. was_gone.removed key q (below_one q w) e;
+            records = λ key n. was_gone.records key (λ q w e. n q (goes_along q w) e);
+            serials = ended.serials ∙ was_gone.serials;
+            high = ended.high ∙ was_gone.high;
+            numbers = was_gone.numbers;
+          }
 
 -- the chain that was made of the temporaries
 pub chain_of : (c : Table) (t : RegionTable) (v : Stack) (mid : RegionTable) (head : Option ℕ) (slots : List ℕ) → Grove c t
@@ -262,11 +261,8 @@ pub freed_of : (old new : Table) (v : Stack) (slots : List ℕ) → slots ≡ to
     → FirstFreed old (top_temps v) (length (top_temps v)) new
 freed_of old new v slots e f = let P : List ℕ → Type 0 = λ z. FirstFreed old z (length z) new in subst P e f
 
-pub sound_chained : (c : Table) (t mid : RegionTable) → Sound c t → mid.records ≡ t.records → mid.next ≡ t.next → Sound c mid
-sound_chained c t mid g e n = record {
-  grove = sound_same c t c mid g.grove (same_cells c c refl) (same_records t mid e n);
-  few = g.few;
-}
+pub grove_chained : (c : Table) (t mid : RegionTable) → Grove c t → mid.records ≡ t.records → mid.next ≡ t.next → Grove c mid
+grove_chained c t mid g e n = grove_same c t c mid g (same_cells c c refl) (same_records t mid e n)
 
 -- one region is released
 pub released_one : (old new : Parts) (key n : ℕ) → HasNumber old.regions key n → Gone old.cells old.regions (key ∷ []) new.cells new.regions

@@ -1,82 +1,34 @@
 -- Marks of cells in regions that count, and how they follow a write (docs/architecture.md, "The heap").
-use Rattle.std.proofs.Common.{◌≡◌, ℕ, zero, suc, ◌+◌, ◌-◌, ◌<◌, ◌≤◌, ◌^◌, Bool, false, true, cond, List, [], ◌∷◌, Option, Some, None, refl, ap, sym, ◌∙◌}
-use Rattle.std.proofs.Common.{subst, ◌⊎◌, inl, inr, option_map, option_and_then, slice_get, count_by, get_or, set, length, arith}
+use Rattle.std.proofs.Common.{◌≡◌, ℕ, zero, suc, ◌+◌, ◌-◌, ◌<◌, ◌^◌, Bool, false, true, cond, List, [], ◌∷◌, Option, Some, None, refl, ap}
+use Rattle.std.proofs.Common.{sym, ◌∙◌}
+use Rattle.std.proofs.Common.{subst, ◌⊎◌, inl, inr, option_map, option_and_then, slice_get, length, arith}
 use Rattle.std.proofs.lemmas.Bool.Decides.{eqb_tells}
-use Rattle.std.proofs.lemmas.List.Sums.{count_by-le-length}
-use Rattle.std.proofs.lemmas.List.{length-set}
 use Rattle.rg_base.specs.declared.words.Manager.{Manager}
 use Rattle.rg_base.specs.declared.words.Manager.TheVariants.{Count}
-use Rattle.rg_base.specs.declared.object.Label.{Label}
 use Rattle.rg_base.specs.declared.object.Label.TheVariants.{Region, Temp, Frozen}
 use Rattle.rg_base.specs.declared.value.Word.{Word}
 use Rattle.rg_base.specs.declared.value.Word.TheVariants.{Nil, Int, Bool as Truth, Slot}
 use Rattle.rg_cells.specs.declared.cell.Body.{Body}
-use Rattle.rg_cells.specs.Table.{Heap, Table, body_at, body_in, field_at, label_at, mark_at, total, width, field_total, with_field}
+use Rattle.rg_cells.specs.Table.{Heap, Table, body_at, field_at, label_at, mark_at, width, field_total, with_field}
 use Rattle.rg_regions.specs.Table.{Record, RegionTable, record_at, HasNumber}
-use Rattle.rg_regions.specs.Reach.{LiesIn, belongs, is_region}
+use Rattle.rg_regions.specs.Reach.{LiesIn, belongs}
 use Rattle.rg_regions.specs.Grove.{Grove, referrers, leads_to}
 use Rattle.rg_regions.proofs.Callers.Told.{one_region, number_of}
-use Rattle.rg_regions.proofs.Callers.Fewer.{belongs_not}
-use Rattle.rg_heap.specs.Parts.{Sound}
+use Rattle.rg_regions.proofs.Callers.Fewer.{belongs_not, lies_belongs}
+use Rattle.rg_count.proofs.Written.{count-fits, referrers-written}
 use Rattle.rg_frames.specs.declared.rows.Window.{Window}
 use Rattle.rg_frames.specs.Stack.{Stack, IsTop}
 use Rattle.rg_heap.specs.Writes.{Stays, Comes, LeadsOut, InActive, IsTemp, IsCounting, counted}
 use Rattle.rg_heap.proofs.Readers.{one_top}
 use Rattle.rg_heap.specs.Inner.Marks.{MayWrite, Recounts, leads_once}
-use Rattle.rg_heap.proofs.Written.{grove_written, total-set, count-set}
-
-belongs_is : (q : ℕ) (b : Option Body) → option_map (λ (b : Body). b.label) b ≡ Some (Region q) → belongs q b ≡ true
-belongs_is q None e = cc
-belongs_is q (Some b) e = ap (is_region q) (label_is b.label (Region q) e) ∙ self q
-  where
-    label_is : (x y : Label) → Some x ≡ Some y → x ≡ y
-    label_is x y e = cc
-
-    self : (n : ℕ) → is_region n (Region n) ≡ true
-    self n = elim (eqb_tells n n) [ inl e ↦ e.0 | inr e ↦ absurd (e.1 refl) ]
-
--- a region has no more fields that lead to a slot than all cells have fields
-pub referrers_few : (h : Heap) (q s : ℕ) → referrers h q s ≤ field_total h
-referrers_few h q s = by_slots h.slots
-  where
-    cond_less : (x : Bool) (n m : ℕ) → n ≤ m → cond {A = ℕ} x n 0 ≤ m
-    cond_less false n m e = omega arith
-    cond_less true n m e = e
-
-    by_body : (b : Option Body) → cond {A = ℕ} (belongs q b) (elim b [ None ↦ 0 | Some y ↦ count_by (leads_to s) y.fields ]) 0 ≤ width b
-    by_body None = omega arith
-    by_body (Some b) = cond_less (belongs q (Some b)) (count_by (leads_to s) b.fields) (length b.fields) (count_by-le-length (leads_to s) b.fields)
-
-    by_slots : (xs : List (Option (Option Body)))
-        → total (λ b. cond {A = ℕ} (belongs q b) (elim b [ None ↦ 0 | Some y ↦ count_by (leads_to s) y.fields ]) 0) xs ≤ total width xs
-    by_slots [] = omega arith
-    by_slots (x ∷ xs) = let a = by_body (body_in x) in let i = by_slots xs in omega (arith, a, i)
-
-abbrev weight : (region slot : ℕ) → Option Body → ℕ
-weight q s b = cond {A = ℕ} (belongs q b) (elim b [ None ↦ 0 | Some y ↦ count_by (leads_to s) y.fields ]) 0
+use Rattle.rg_heap.proofs.Written.{grove_written}
 
 -- where a field leads to a slot, it is counted
 pub referrers_some : (h : Heap) (q p k s : ℕ) → LiesIn h q p → field_at h p k ≡ Some (Slot s) → 0 < referrers h q s
-referrers_some h q p k s l f = by_body (body_at h p) refl f
-  where
-    at_least : (xs : List (Option (Option Body))) (n : ℕ) → weight q s (body_in (get_or xs n None)) ≤ total (weight q s) xs
-    at_least [] n = omega arith
-    at_least (x ∷ xs) zero = omega arith
-    at_least (x ∷ xs) (suc n) = let i = at_least xs n in omega (arith, i)
-
-    once : leads_once s (Slot s) ≡ 1
-    once = elim (eqb_tells s s) [ inl e ↦ ap (λ x. cond {A = ℕ} x 1 0) e.0 | inr e ↦ absurd (e.1 refl) ]
-
-    by_body : (o : Option Body) → body_at h p ≡ o → option_and_then (λ (b : Body). slice_get b.fields k) o ≡ Some (Slot s) → 0 < referrers h q s
-    by_body None e f = cc
-    by_body (Some b) e f =
-        let a : count_by (leads_to s) (set b.fields k Nil) + leads_once s (Slot s) ≡ count_by (leads_to s) b.fields + 0 = count-set s b.fields k Nil (Slot s) f in
-        let m : belongs q (Some b) ≡ true = ap (belongs q) (sym e) ∙ belongs_is q (body_at h p) l in
-        let u : weight q s (Some b) ≡ count_by (leads_to s) b.fields = ap (λ x. cond {A = ℕ} x (count_by (leads_to s) b.fields) 0) m in
-        let v : weight q s (body_at h p) ≡ weight q s (Some b) = ap (weight q s) e in
-        let le : weight q s (body_at h p) ≤ referrers h q s = at_least h.slots p in
-        let o = once in
-        omega (arith, a, u, v, le, o)
+referrers_some h q p k s l f =
+    let a = referrers-written h q p k s (Slot s) Nil l f in
+    let o : leads_once s (Slot s) ≡ 1 = elim (eqb_tells s s) [ inl e ↦ ap (λ x. cond {A = ℕ} x 1 0) e.0 | inr e ↦ absurd (e.1 refl) ] in
+    omega (arith, a, o)
 
 pub counting_of : (t : RegionTable) (key n : ℕ) (m : Manager) → option_map (λ (r : Record). r.manager) (record_at t key) ≡ Some m → m ≡ Count
     → HasNumber t key n → IsCounting t n
@@ -116,11 +68,11 @@ mark_is c t r s g a l =
     let P : ℕ → Type 0 = λ n. LiesIn c.heap n s in
     g.counts a.0 s a.1 a.2 a.4 (subst P (sym a.3) l) ∙ ap (λ n. referrers c.heap n s) a.3
 
-pub mark_room : (c : Table) (t : RegionTable) (r s : ℕ) → Sound c t → IsCounting t r → LiesIn c.heap r s → mark_at c s < 2 ^ 64 - 1
-mark_room c t r s g a l =
-    let e = mark_is c t r s g.grove a l in
-    let le = referrers_few c.heap r s in
-    let few = g.few in
+pub mark_room : (c : Table) (t : RegionTable) (r s : ℕ) → Grove c t → field_total c.heap < 2 ^ 64 - 1 → IsCounting t r → LiesIn c.heap r s
+    → mark_at c s < 2 ^ 64 - 1
+mark_room c t r s g few a l =
+    let e = mark_is c t r s g a l in
+    let le = count-fits c.heap r s in
     omega (arith, e, le, few)
 
 -- no region counts in which the cell lies
@@ -137,7 +89,7 @@ not_counting c t key slot w m g may a n r l i =
 
 counted_here : (h : Heap) (r : ℕ) (w : Word) (s : ℕ) → LiesIn h r s → counted h r w s ≡ leads_once s w
 counted_here h r w s l =
-    let b : cond {A = ℕ} (belongs r (body_at h s)) 1 0 ≡ 1 = ap (λ x. cond {A = ℕ} x 1 0) (belongs_is r (body_at h s) l) in
+    let b : cond {A = ℕ} (belongs r (body_at h s)) 1 0 ≡ 1 = ap (λ x. cond {A = ℕ} x 1 0) (lies_belongs r (body_at h s) l) in
     ap (λ n. cond {A = ℕ} (leads_to s w) n 0) b
 
 counted_there : (h : Heap) (r : ℕ) (w : Word) (s : ℕ) → (LiesIn h r s → ⊥) → counted h r w s ≡ 0
@@ -150,7 +102,8 @@ counted_there h r w s out =
     both true = refl
 
 -- no mark changes where none counts
-pub recounts_none : (c : Table) (t : RegionTable) (slot k : ℕ) (w : Word) → ((r : ℕ) → LiesIn c.heap r slot → IsCounting t r → ⊥) → Recounts c t c slot k w
+pub recounts_none : (c : Table) (t : RegionTable) (slot k : ℕ) (w : Word) → ((r : ℕ) → LiesIn c.heap r slot → IsCounting t r → ⊥)
+    → Recounts c t c slot k w
 recounts_none c t slot k w n = record {
   heap = refl;
   recounted = λ r s old f l i m. absurd (n r l i);
@@ -187,7 +140,8 @@ recounts c mid cells t region slot k old w i here f e up d down = record {
     word_is x y q = cc
 
 -- the cell and the word at a place of a field
-pub field_there : (h : Heap) (slot k : ℕ) → k < width (body_at h slot) → (b : Body) × (old : Word) × (body_at h slot ≡ Some b) × (slice_get b.fields k ≡ Some old)
+pub field_there : (h : Heap) (slot k : ℕ) → k < width (body_at h slot) → (b : Body) × (old : Word) × (body_at h slot ≡ Some b)
+    × (slice_get b.fields k ≡ Some old)
 field_there h slot k l = by_body (body_at h slot) refl l
   where
     got : (ws : List Word) (k : ℕ) → k < length ws → (old : Word) × (slice_get ws k ≡ Some old)
@@ -200,34 +154,23 @@ field_there h slot k l = by_body (body_at h slot) refl l
     by_body None e l = absurd (omega (arith, l))
     by_body (Some b) e l = let x = got b.fields k l in (b, x.0, e, x.1)
 
-pub field_total-written : (h : Heap) (slot k : ℕ) (b : Body) (w : Word) → body_at h slot ≡ Some b → field_total (with_field h slot k w) ≡ field_total h
-field_total-written h slot k b w e = rw (with_field, e) (
-    let a = total-set width h.slots slot b (record b { fields = set b.fields k w }) e in
-    let l : length (set b.fields k w) ≡ length b.fields = length-set b.fields k w in
-    omega (arith, a, l))
-
 -- the field is written behind that
-pub sound_written : (c mid cells : Table) (t : RegionTable) (key slot k : ℕ) (w : Word) → Sound c t → Recounts c t mid slot k w
-    → cells ≡ record mid { heap = with_field mid.heap slot k w } → k < width (body_at c.heap slot) → MayWrite c.heap t key slot w → Sound cells t
-sound_written c mid cells t key slot k w g a e l may =
+pub grove_recounted : (c mid cells : Table) (t : RegionTable) (key slot k : ℕ) (w : Word) → Grove c t → Recounts c t mid slot k w
+    → cells ≡ record mid { heap = with_field mid.heap slot k w } → k < width (body_at c.heap slot) → MayWrite c.heap t key slot w → Grove cells t
+grove_recounted c mid cells t key slot k w g a e l may =
     let x = field_there c.heap slot k l in
     let now : cells.heap ≡ with_field c.heap slot k w = ap (λ (z : Table). z.heap) e ∙ ap (λ h. with_field h slot k w) a.heap in
-    let total = ap field_total now ∙ field_total-written c.heap slot k x.0 w x.2 in
-    let few = g.few in
-    record {
-      grove = grove_written c t cells slot k x.0 x.1 w g.grove (record {
-        is = x.2;
-        was = x.3;
-        now = now;
-        not_frozen = λ f. not_ice x.0 x.2 f;
-        may = λ r i. inl (region_here c.heap t key slot r w may i).1;
-        recounted = λ r s i j m.
-            ap (λ (z : Table). mark_at z s + leads_once s x.1) e
-            ∙ a.recounted r s x.1 (ap (option_and_then (λ (b : Body). slice_get b.fields k)) x.2 ∙ x.3) i j m;
-        uncounted = λ s n. ap (λ (z : Table). mark_at z s) e ∙ a.uncounted s n;
-      });
-      few = omega (arith, total, few);
-    }
+    grove_written c t cells slot k x.0 x.1 w g (record {
+      is = x.2;
+      was = x.3;
+      now = now;
+      not_frozen = λ f. not_ice x.0 x.2 f;
+      may = λ r i. inl (region_here c.heap t key slot r w may i).1;
+      recounted = λ r s i j m.
+          ap (λ (z : Table). mark_at z s + leads_once s x.1) e
+          ∙ a.recounted r s x.1 (ap (option_and_then (λ (b : Body). slice_get b.fields k)) x.2 ∙ x.3) i j m;
+      uncounted = λ s n. ap (λ (z : Table). mark_at z s) e ∙ a.uncounted s n;
+    })
   where
     not_ice : (b : Body) → body_at c.heap slot ≡ Some b → b.label ≡ Frozen → ⊥
     not_ice b x f =
@@ -254,32 +197,27 @@ leads_zero s (Truth b) n = refl
 leads_zero s (Slot x) n = elim (eqb_tells s x) [ inl e ↦ absurd (n (ap Slot (sym e.1))) | inr e ↦ ap (λ b. cond {A = ℕ} b 1 0) e.0 ]
 
 -- what a field owns is swapped: no mark changes
-pub sound_swapped : (c cells : Table) (t : RegionTable) (v : Stack) (slot k : ℕ) (w : Word) → Sound c t
+pub grove_swapped : (c cells : Table) (t : RegionTable) (v : Stack) (slot k : ℕ) (w : Word) → Grove c t
     → cells ≡ record c { heap = with_field c.heap slot k w } → k < width (body_at c.heap slot)
-    → InActive c.heap t v slot (λ n. Comes c.heap t n w × LeadsOut c.heap slot k n) ⊎ IsTemp c.heap slot → Sound cells t
-sound_swapped c cells t v slot k w g e l place =
+    → InActive c.heap t v slot (λ n. Comes c.heap t n w × LeadsOut c.heap slot k n) ⊎ IsTemp c.heap slot → Grove cells t
+grove_swapped c cells t v slot k w g e l place =
     let x = field_there c.heap slot k l in
     let now : cells.heap ≡ with_field c.heap slot k w = ap (λ (z : Table). z.heap) e in
-    let total = ap field_total now ∙ field_total-written c.heap slot k x.0 w x.2 in
-    let few = g.few in
-    record {
-      grove = grove_written c t cells slot k x.0 x.1 w g.grove (record {
-        is = x.2;
-        was = x.3;
-        now = now;
-        not_frozen = λ f. not_ice x.0 x.2 f;
-        may = λ r i. inr (here r i).0;
-        recounted = λ r s i j m.
-            let a = leads_zero s x.1 (λ q.
-            let F : Word → Type 0 = λ z. field_at c.heap slot k ≡ Some z in
-            (here r i).1 s (subst F q (ap (option_and_then (λ (b : Body). slice_get b.fields k)) x.2 ∙ x.3)) m) in
-            let b = leads_zero s w (λ q. let y = (here r i).0 s q in y.2 (one_region c.heap s y.0 r y.1.lies m)) in
-            let u = ap (λ (z : Table). mark_at z s) e in
-            omega (arith, a, b, u);
-        uncounted = λ s n. ap (λ (z : Table). mark_at z s) e;
-      });
-      few = omega (arith, total, few);
-    }
+    grove_written c t cells slot k x.0 x.1 w g (record {
+      is = x.2;
+      was = x.3;
+      now = now;
+      not_frozen = λ f. not_ice x.0 x.2 f;
+      may = λ r i. inr (here r i).0;
+      recounted = λ r s i j m.
+          let a = leads_zero s x.1 (λ q.
+          let F : Word → Type 0 = λ z. field_at c.heap slot k ≡ Some z in
+          (here r i).1 s (subst F q (ap (option_and_then (λ (b : Body). slice_get b.fields k)) x.2 ∙ x.3)) m) in
+          let b = leads_zero s w (λ q. let y = (here r i).0 s q in y.2 (one_region c.heap s y.0 r y.1.lies m)) in
+          let u = ap (λ (z : Table). mark_at z s) e in
+          omega (arith, a, b, u);
+      uncounted = λ s n. ap (λ (z : Table). mark_at z s) e;
+    })
   where
     here : (r : ℕ) → LiesIn c.heap r slot → Comes c.heap t r w × LeadsOut c.heap slot k r
     here r i = elim place [

@@ -1,6 +1,7 @@
 -- A region is collected, and the regions that lost their owner are released (docs/architecture.md, "The heap").
 use Rattle.std.proofs.Common.{◌≡◌, ◌≢◌, ℕ, suc, ◌+◌, cond, List, [], ◌∷◌, Option, Some, None}
-use Rattle.std.proofs.Common.{refl, ap, sym, ◌∙◌, subst, ◌⊎◌, inl, inr, arith, option_map, option_and_then, slice_get, count_by, is_some, length, get_or}
+use Rattle.std.proofs.Common.{refl, ap, sym, ◌∙◌, subst, ◌⊎◌, inl, inr, arith, option_map, option_and_then, slice_get, count_by, is_some, length}
+use Rattle.std.proofs.Common.{get_or}
 use Rattle.std.proofs.lemmas.Bool.{cases_eq}
 use Rattle.std.proofs.lemmas.List.Sums.{sum_by-cons}
 use Rattle.rg_base.specs.declared.object.Label.TheVariants.{Region}
@@ -15,14 +16,14 @@ use Rattle.rg_regions.specs.Collection.{OneShrinks, Lost, Orphaning, ChainsOrpha
 use Rattle.rg_regions.proofs.Callers.Told.{one_number, one_record, one_region, lies_or_not, number_of, same_members}
 use Rattle.rg_regions.proofs.Callers.Fewer.{label_before, field_before, above_before, above_both}
 use Rattle.rg_release.specs.Released.{Unowned, BelowOne}
-use Rattle.rg_heap.specs.Parts.{Parts, Sound}
+use Rattle.rg_heap.specs.Parts.{Parts}
 use Rattle.rg_base.specs.declared.words.Manager.{Manager}
 use Rattle.rg_regions.specs.Spent.{Spent}
 use Rattle.rg_count.specs.Counted.{Counted}
 use Rattle.rg_trace.specs.Collected.{Collected, OutOfReach}
 use Rattle.rg_heap.specs.Collects.{Collects, LostBelow, Told}
 use Rattle.rg_heap.specs.Inner.Chains.{Gone}
-use Rattle.rg_heap.proofs.Ended.{field_total-less, gone_sub}
+use Rattle.rg_heap.proofs.Ended.{gone_sub}
 
 module _ (c : Table) (t : RegionTable) (key : ℕ) (rec : Record) (mid : Table) (tm : RegionTable) (Cell : ℕ → Type 0) (g : Grove c t)
     (at : record_at t key ≡ Some rec) (w : OneShrinks c t key rec mid tm)
@@ -180,12 +181,6 @@ module _ (c : Table) (t : RegionTable) (key : ℕ) (rec : Record) (mid : Table) 
       numbers = n.numbers ∙ w.numbers;
     }
 
-  pub sound_mid : Sound c t → Grove mid tm → Sound mid tm
-  sound_mid x new =
-      let le = field_total-less c.heap mid.heap w.fewer in
-      let few = x.few in
-      record { grove = new; few = omega (arith, le, few) }
-
   -- as many regions as before
   pub count_mid : count_by is_some tm.records ≡ count_by is_some t.records
   count_mid = by_records t.records tm.records (λ k. elim (cases_eq k key) [
@@ -248,20 +243,17 @@ of_collected c t key rec roots mid tm head w o = record {
 }
 
 module _ (c : Table) (t : RegionTable) (key : ℕ) (rec : Record) (mid : Table) (tm : RegionTable) (Cell : ℕ → Type 0) (head : Option ℕ)
-    (x : Sound c t) (at : record_at t key ≡ Some rec) (w : Shrunk c t key rec mid tm Cell head) where
-  pub shrunk_sound : Grove mid tm → Sound mid tm
-  shrunk_sound new = sound_mid c t key rec mid tm Cell x.grove at w.shrinks w.gone w.freed tm.links head w.orphans.0 w.orphans.1 x new
-
+    (g : Grove c t) (at : record_at t key ≡ Some rec) (w : Shrunk c t key rec mid tm Cell head) where
   pub shrunk_chain : (keys : List ℕ) × Chained tm.links head keys × Unowned mid.heap tm keys
   shrunk_chain = (
     w.orphans.0,
     w.orphans.1.chain,
-    unowned c t key rec mid tm Cell x.grove at w.shrinks w.gone w.freed tm.links head w.orphans.0 w.orphans.1,
+    unowned c t key rec mid tm Cell g at w.shrinks w.gone w.freed tm.links head w.orphans.0 w.orphans.1,
   )
 
   module _ (cells : Table) (regions : RegionTable) (n : (keys : List ℕ) → Chained tm.links head keys → Gone mid tm keys cells regions) where
     pub shrunk_collects : Collects (record { cells = c; regions = t }) (record { cells = cells; regions = regions }) key rec Cell
-    shrunk_collects = collects c t key rec mid tm Cell x.grove at w.shrinks w.gone w.freed tm.links head w.orphans.0 w.orphans.1 cells regions
+    shrunk_collects = collects c t key rec mid tm Cell g at w.shrinks w.gone w.freed tm.links head w.orphans.0 w.orphans.1 cells regions
         (n w.orphans.0 w.orphans.1.chain)
 
     pub shrunk_told : (number held kept released : ℕ) (m : Manager) (members : List ℕ) → HasNumber t key number → HasManager t key m
@@ -274,7 +266,7 @@ module _ (c : Table) (t : RegionTable) (key : ℕ) (rec : Record) (mid : Table) 
       region = one_number t key number rec.number a (number_of t key rec.number rec at refl);
       manager = sym b.2 ∙ ap (λ (z : Record). z.manager) (one_record b.0 rec (sym b.1 ∙ at));
       held = e ∙ ap length (sym (same_members (record_at t key) rec members at d));
-      kept = λ now y. f now (own_now c t key rec mid tm Cell x.grove at w.shrinks w.gone w.freed tm.links head w.orphans.0 w.orphans.1 cells regions
+      kept = λ now y. f now (own_now c t key rec mid tm Cell g at w.shrinks w.gone w.freed tm.links head w.orphans.0 w.orphans.1 cells regions
           (n w.orphans.0 w.orphans.1.chain) now y);
-      released = h ∙ count_mid c t key rec mid tm Cell x.grove at w.shrinks w.gone w.freed tm.links head w.orphans.0 w.orphans.1;
+      released = h ∙ count_mid c t key rec mid tm Cell g at w.shrinks w.gone w.freed tm.links head w.orphans.0 w.orphans.1;
     }

@@ -1,5 +1,6 @@
 -- What the readers of the heap answer (docs/architecture.md, "The heap").
-use Rattle.std.proofs.Common.{◌≡◌, ℕ, zero, suc, ◌+◌, ◌≤◌, List, [], ◌∷◌, ◌++◌, Option, Some, None, IsSome, refl, ap, sym, ◌∙◌, subst, arith, length, option_map}
+use Rattle.std.proofs.Common.{◌≡◌, ℕ, zero, suc, ◌+◌, ◌≤◌, List, [], ◌∷◌, ◌++◌, Option, Some, None, IsSome, refl, ap, sym, ◌∙◌, subst, arith}
+use Rattle.std.proofs.Common.{length, option_map}
 use Rattle.std.proofs.Common.{option_and_then, slice_get, take, map, add-one}
 use Rattle.rg_base.specs.declared.words.Manager.{Manager}
 use Rattle.rg_base.specs.declared.object.Label.{Label}
@@ -9,7 +10,8 @@ use Rattle.rg_base.specs.declared.value.Val.{Val}
 use Rattle.rg_base.specs.declared.value.Word.{Word}
 use Rattle.rg_regions.specs.Grove.{Grove}
 use Rattle.rg_regions.proofs.Callers.Told.{led_held, labelled_held}
-use Rattle.rg_cells.specs.Table.{Heap, Table, IsHeld, HasSerial, body_at, label_at, total, one, one_frozen, one_frozen_by, body_in, held_count, frozen_count}
+use Rattle.rg_cells.specs.Table.{Heap, Table, IsHeld, HasSerial, body_at, label_at, total, one, one_frozen, one_frozen_by, body_in, held_count}
+use Rattle.rg_cells.specs.Table.{frozen_count}
 use Rattle.rg_regions.specs.Table.{Record, RegionTable, record_at, HasNumber}
 use Rattle.rg_frames.specs.declared.rows.Window.{Window}
 use Rattle.rg_frames.specs.Stack.{Stack, IsTop}

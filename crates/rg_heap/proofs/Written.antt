@@ -1,10 +1,7 @@
 -- A field of a cell is written: the forest stays one (docs/architecture.md, "The heap").
-use Rattle.std.proofs.Common.{◌≡◌, ◌≢◌, ℕ, zero, suc, ◌+◌, false, true, cond, List, [], ◌∷◌, Option, Some, None, refl, ap, sym, ◌∙◌}
+use Rattle.std.proofs.Common.{◌≡◌, ◌≢◌, ℕ, zero, suc, ◌+◌, false, cond, List, [], ◌∷◌, Option, Some, None, refl, ap, sym, ◌∙◌}
 use Rattle.std.proofs.Common.{subst, ◌⊎◌, inl, inr, option_map, option_and_then, slice_get, count_by, get_or, set, arith}
 use Rattle.std.proofs.lemmas.Bool.{cases_eq}
-use Rattle.std.proofs.lemmas.Bool.Decides.{eqb_tells}
-use Rattle.std.proofs.lemmas.List.Sums.{sum_by-set}
-use Rattle.std.proofs.lemmas.Option.{slice_get_within, get_or_from_slice_get}
 use Rattle.std.proofs.lemmas.List.{get_or-set_other}
 use Rattle.rg_base.specs.declared.object.Label.{Label}
 use Rattle.rg_base.specs.declared.object.Label.TheVariants.{Region, Frozen}
@@ -13,10 +10,11 @@ use Rattle.rg_base.specs.declared.value.Word.TheVariants.{Slot}
 use Rattle.rg_cells.specs.declared.cell.Body.{Body}
 use Rattle.rg_cells.specs.Table.{Heap, Table, body_at, body_in, field_at, label_at, mark_at, total, with_body, with_field}
 use Rattle.rg_regions.specs.Table.{RegionTable}
-use Rattle.rg_regions.specs.Reach.{LiesIn, belongs, is_region}
+use Rattle.rg_regions.specs.Reach.{LiesIn, belongs}
 use Rattle.rg_regions.specs.Grove.{Grove, Parent, Above, direct, further, referrers, leads_to}
 use Rattle.rg_regions.proofs.Callers.Told.{one_region, lies_or_not}
 use Rattle.rg_regions.proofs.Callers.Fewer.{above_both, belongs_not}
+use Rattle.rg_count.proofs.Written.{referrers-written}
 use Rattle.rg_heap.specs.Writes.{Ownerless, Comes, Stays, IsCounting}
 use Rattle.rg_heap.specs.Inner.Marks.{leads_once}
 
@@ -31,7 +29,8 @@ pub record Writes (c : Table) (t : RegionTable) (cells : Table) (slot k : ℕ) (
   pub now : cells.heap ≡ with_field c.heap slot k w
   pub not_frozen : b.label ≢ Frozen
   pub may : (r : ℕ) → LiesIn c.heap r slot → MayHold c.heap t r w
-  pub recounted : (r s : ℕ) → LiesIn c.heap r slot → IsCounting t r → LiesIn c.heap r s → mark_at cells s + leads_once s old ≡ mark_at c s + leads_once s w
+  pub recounted : (r s : ℕ) → LiesIn c.heap r slot → IsCounting t r → LiesIn c.heap r s
+      → mark_at cells s + leads_once s old ≡ mark_at c s + leads_once s w
   pub uncounted : (s : ℕ) → ((r : ℕ) → LiesIn c.heap r slot → IsCounting t r → LiesIn c.heap r s → ⊥) → mark_at cells s ≡ mark_at c s
 
 -- lists of words with one written
@@ -45,13 +44,6 @@ set_got (y ∷ ws) zero w old zero x e f = inl (refl, word_is w x f)
 set_got (y ∷ ws) zero w old (suc j) x e f = inr f
 set_got (y ∷ ws) (suc k) w old zero x e f = inr f
 set_got (y ∷ ws) (suc k) w old (suc j) x e f = elim (set_got ws k w old j x e f) [ inl a ↦ inl (ap suc a.0, a.1) | inr a ↦ inr a ]
-
-pub count-set : (s : ℕ) (ws : List Word) (k : ℕ) (w old : Word) → slice_get ws k ≡ Some old
-    → count_by (leads_to s) (set ws k w) + leads_once s old ≡ count_by (leads_to s) ws + leads_once s w
-count-set s ws k w old e =
-    let a : count_by (leads_to s) (set ws k w) + leads_once s (get_or ws k old) ≡ count_by (leads_to s) ws + leads_once s w =
-    sum_by-set (leads_once s) ws k w old (slice_get_within ws k old e) in
-    ap (λ z. count_by (leads_to s) (set ws k w) + leads_once s z) (sym (get_or_from_slice_get ws k old old e)) ∙ a
 
 -- a total with one slot written
 pub total-set : (f : Option Body → ℕ) (xs : List (Option (Option Body))) (slot : ℕ) (b d : Body) → body_in (get_or xs slot None) ≡ Some b
@@ -196,25 +188,13 @@ module _ (c : Table) (t : RegionTable) (cells : Table) (slot k : ℕ) (b : Body)
   weight q s x = cond (belongs q x) (elim x [ None ↦ 0 | Some y ↦ count_by (leads_to s) y.fields ]) 0
 
   referrers_set : (q s : ℕ) → referrers cells.heap q s + weight q s (Some b) ≡ referrers c.heap q s + weight q s (Some new)
-  referrers_set q s = ap (λ (h : Heap). total (weight q s) h.slots + weight q s (Some b)) heap_is ∙ total-set (weight q s) c.heap.slots slot b new a.is
-
-  label_is : (q : ℕ) → LiesIn c.heap q slot → b.label ≡ Region q
-  label_is q l = one_label b.label (Region q) (sym (ap (option_map (λ (b : Body). b.label)) a.is) ∙ l)
-    where
-      one_label : (x y : Label) → Some x ≡ Some y → x ≡ y
-      one_label x y e = cc
+  referrers_set q s = ap (λ (h : Heap). total (weight q s) h.slots + weight q s (Some b)) heap_is
+      ∙ total-set (weight q s) c.heap.slots slot b new a.is
 
   referrers_here : (q s : ℕ) → LiesIn c.heap q slot → referrers cells.heap q s + leads_once s old ≡ referrers c.heap q s + leads_once s w
   referrers_here q s l =
-      let x = referrers_set q s in
-      let y = count-set s b.fields k w old a.was in
-      let m : is_region q b.label ≡ true = ap (is_region q) (label_is q l) ∙ eqb_self q in
-      let u : weight q s (Some b) ≡ count_by (leads_to s) b.fields = ap (λ z. cond {A = ℕ} z (count_by (leads_to s) b.fields) 0) m in
-      let v : weight q s (Some new) ≡ count_by (leads_to s) (set b.fields k w) = ap (λ z. cond {A = ℕ} z (count_by (leads_to s) (set b.fields k w)) 0) m in
-      omega (arith, x, y, u, v)
-    where
-      eqb_self : (n : ℕ) → is_region n (Region n) ≡ true
-      eqb_self n = elim (eqb_tells n n) [ inl e ↦ e.0 | inr e ↦ absurd (e.1 refl) ]
+      ap (λ (h : Heap). referrers h q s + leads_once s old) a.now
+      ∙ referrers-written c.heap q slot k s old w l (ap (option_and_then (λ (b : Body). slice_get b.fields k)) a.is ∙ a.was)
 
   referrers_there : (q s : ℕ) → (LiesIn c.heap q slot → ⊥) → referrers cells.heap q s ≡ referrers c.heap q s
   referrers_there q s out =

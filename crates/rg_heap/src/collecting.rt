@@ -7,7 +7,7 @@ ghost use Rattle.rg_cells.specs.Table.{body_at, width};
 ghost use Rattle.rg_regions.specs.Table.{IsKey};
 ghost use Rattle.rg_regions.specs.Collection.{HasManager, WordsLeadToHeld, AllHeld};
 ghost use Rattle.rg_regions.specs.Collection.{TempsLeadToHeld, OfRegion, roots_of, region_fields};
-ghost use Rattle.rg_heap.specs.Parts.{Sound};
+ghost use Rattle.rg_regions.specs.Grove.{Grove};
 ghost use Rattle.rg_heap.specs.Collects.{CollectsBy};
 
 use crate::answers::Collected;
@@ -28,7 +28,7 @@ fn collect_count<L: Ledger>(
     temps: &[usize],
     steps: &mut Steps<L>,
 ) -> Collected
-    requires sound { Sound cells.old regions.old }
+    requires grove { Grove cells.old regions.old }
     requires count { HasManager regions.old key Count }
     requires slots { WordsLeadToHeld cells.old.heap slots.now }
     requires temps { AllHeld cells.old.heap temps.now }
@@ -40,7 +40,7 @@ fn collect_count<L: Ledger>(
     ensures cost { OfRegion regions.old key (λ r. steps.new
         ≤ steps.old + sum_by (λ t. width (body_at cells.old.heap t)) temps.now
         + region_fields cells.old.heap r.number) }
-    ensures sound { Sound cells.new regions.new }
+    ensures grove { Grove cells.new regions.new }
 {
     let region = regions.number(key);
     let held = regions.members(key).len() as u64;
@@ -64,7 +64,7 @@ fn collect_trace<L: Ledger>(
     temps: &[usize],
     steps: &mut Steps<L>,
 ) -> Collected
-    requires sound { Sound cells.old regions.old }
+    requires grove { Grove cells.old regions.old }
     requires trace { HasManager regions.old key Trace }
     requires slots { WordsLeadToHeld cells.old.heap slots.now }
     requires temps { AllHeld cells.old.heap temps.now }
@@ -76,7 +76,7 @@ fn collect_trace<L: Ledger>(
     ensures cost { OfRegion regions.old key (λ r. steps.new
         ≤ steps.old + sum_by (λ t. width (body_at cells.old.heap t)) temps.now
         + region_fields cells.old.heap r.number) }
-    ensures sound { Sound cells.new regions.new }
+    ensures grove { Grove cells.new regions.new }
 {
     let region = regions.number(key);
     let held = regions.members(key).len() as u64;
@@ -100,7 +100,7 @@ pub fn collect_by<L: Ledger>(
     temps: &[usize],
     steps: &mut Steps<L>,
 ) -> Option<Collected>
-    requires sound { Sound cells.old regions.old }
+    requires grove { Grove cells.old regions.old }
     requires key { IsKey regions.old key }
     requires slots { WordsLeadToHeld cells.old.heap slots.now }
     requires temps { AllHeld cells.old.heap temps.now }
@@ -112,7 +112,7 @@ pub fn collect_by<L: Ledger>(
     ensures cost { OfRegion regions.old key (λ r. steps.new
         ≤ steps.old + sum_by (λ t. width (body_at cells.old.heap t)) temps.now
         + region_fields cells.old.heap r.number) }
-    ensures sound { Sound cells.new regions.new }
+    ensures grove { Grove cells.new regions.new }
 {
     match regions.manager(key) {
         Manager::Arena => None,

@@ -5,7 +5,7 @@ ghost use Rattle.std.specs.Prelude.{count_by, is_some};
 ghost use Rattle.rg_cells.specs.Table.{IsHeld, body_at, width};
 ghost use Rattle.rg_regions.specs.Table.{Chained};
 ghost use Rattle.rg_release.specs.Released.{Unowned};
-ghost use Rattle.rg_heap.specs.Parts.{Sound};
+ghost use Rattle.rg_regions.specs.Grove.{Grove};
 ghost use Rattle.rg_frames.specs.Stack.{Begun};
 ghost use Rattle.rg_heap.specs.Answers.{AllLead};
 ghost use Rattle.rg_heap.specs.Ends.{CanLeave, GoesAlong, IsTopTemp, Released};
@@ -22,14 +22,14 @@ use rg_release::release;
 /// Releases the regions that are chained from a head, and all beneath them; answers how many they
 /// were.
 pub fn release_all(cells: &mut Cells, regions: &mut Regions, head: Option<usize>) -> u64
-    requires sound { Sound cells.old regions.old }
+    requires grove { Grove cells.old regions.old }
     requires chain { (keys : List ℕ) × Chained regions.old.links head keys
         × Unowned cells.old.heap regions.old keys }
     ensures gone { (keys : List ℕ) → Chained regions.old.links head keys
         → Gone cells.old regions.old keys cells.new regions.new }
     ensures count { result + count_by is_some regions.new.records
         ≡ count_by is_some regions.old.records }
-    ensures sound { Sound cells.new regions.new }
+    ensures grove { Grove cells.new regions.new }
 {
     let Some(key) = head else {
         return 0;
@@ -39,10 +39,10 @@ pub fn release_all(cells: &mut Cells, regions: &mut Regions, head: Option<usize>
 
 /// Releases the region of a key, and all beneath it.
 pub fn release_one(cells: &mut Cells, regions: &mut Regions, key: usize)
-    requires sound { Sound cells.old regions.old }
+    requires grove { Grove cells.old regions.old }
     requires unowned { Unowned cells.old.heap regions.old (key ∷ []) }
     ensures gone { Gone cells.old regions.old (key ∷ []) cells.new regions.new }
-    ensures sound { Sound cells.new regions.new }
+    ensures grove { Grove cells.new regions.new }
 {
     regions.set_link(key, None);
     release_all(cells, regions, Some(key));
@@ -134,14 +134,14 @@ pub fn free_cells(cells: &mut Cells, slots: &[usize])
 
 /// Releases the regions that the top window's temporaries own, and frees these.
 pub fn end_temps(cells: &mut Cells, regions: &mut Regions, frames: &Frames)
-    requires sound { Sound cells.old regions.old }
+    requires grove { Grove cells.old regions.old }
     requires begun { Begun frames.now }
     requires temps { CanLeave (record { cells = cells.old; regions = regions.old }) frames.now }
     ensures released { Released (record { cells = cells.old; regions = regions.old })
         (record { cells = cells.new; regions = regions.new })
         (GoesAlong (record { cells = cells.old; regions = regions.old }) frames.now)
         (IsTopTemp frames.now) }
-    ensures sound { Sound cells.new regions.new }
+    ensures grove { Grove cells.new regions.new }
 {
     let head = chain_cells(cells, regions, frames, frames.temps());
     release_all(cells, regions, head);

@@ -5,6 +5,7 @@ ghost use Rattle.std.specs.Prelude.{Some, Err, ◌⊎◌, ◌≤◌, ◌↔◌, 
 ghost use Rattle.rg_base.specs.declared.object.Label.TheVariants.{Region, Temp};
 ghost use Rattle.rg_cells.specs.declared.cell.Body.{Body as BodyOf};
 ghost use Rattle.rg_cells.specs.Table.{IsHeld, body_at, field_at, label_at, width, with_field};
+ghost use Rattle.rg_cells.specs.Table.{Serials};
 ghost use Rattle.rg_regions.specs.Table.{IsKey, Added, fresh};
 ghost use Rattle.rg_regions.specs.Grove.{Below, Grove};
 ghost use Rattle.rg_frames.specs.Stack.{BaseUpTo, Begun, closed, opened, with_temp};
@@ -45,13 +46,14 @@ pub struct Heap {
 }
 
 impl Model for Heap {
-    ghost use Rattle.rg_heap.specs.Parts.{Parts, Sound};
+    ghost use Rattle.rg_regions.specs.Grove.{Grove};
+    ghost use Rattle.rg_heap.specs.Parts.{Parts};
 
     ghost Value = { Parts };
 
     ghost view = { λ h. record { cells = h.cells; regions = h.regions } };
 
-    ghost invariant = { λ h. Sound h.cells h.regions };
+    ghost invariant = { λ h. Grove h.cells h.regions };
 }
 
 impl Heap {
@@ -79,11 +81,12 @@ impl Heap {
         self.regions.add(manager)
     }
 
-    /// What always holds of the regions.
+    /// What always holds of the regions, and of the serials.
     pub fn is_forest(&self)
-        ensures { Grove self.now.cells self.now.regions }
+        ensures forest { Grove self.now.cells self.now.regions }
+        ensures serials { Serials self.now.cells.heap }
     {
-        let _ = &self.cells;
+        let _ = self.cells.made();
     }
 
     /// Makes an object in the active region; answers its slot.

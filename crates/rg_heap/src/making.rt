@@ -3,7 +3,7 @@
 ghost use Rattle.std.specs.Prelude.{◌≡◌, ℕ, IfOk, OnErr};
 ghost use Rattle.rg_base.specs.declared.object.Label.TheVariants.{Region as Of};
 ghost use Rattle.rg_regions.specs.Table.{IsKey, HasNumber};
-ghost use Rattle.rg_heap.specs.Parts.{Sound};
+ghost use Rattle.rg_regions.specs.Grove.{Grove};
 ghost use Rattle.rg_heap.specs.Changes.{LeadsNowhere, Makes, SameRecords};
 ghost use Rattle.rg_heap.specs.Changes.{OpensOne, Rewritten, as_it_is, with_one};
 
@@ -19,7 +19,7 @@ pub fn make_in(
     class: u32,
     fields: &[Word],
 ) -> Result<usize, Memory>
-    requires sound { Sound cells.old regions.old }
+    requires grove { Grove cells.old regions.old }
     requires key { IsKey regions.old key }
     requires plain { LeadsNowhere fields.now }
     ensures cell { IfOk result (λ slot. (n : ℕ) → HasNumber regions.old key n
@@ -27,7 +27,7 @@ pub fn make_in(
     ensures member { IfOk result (λ slot. Rewritten regions.old regions.new key (with_one slot)) }
     ensures cells { OnErr result (cells.new ≡ cells.old) }
     ensures regions { OnErr result (Rewritten regions.old regions.new key as_it_is) }
-    ensures sound { Sound cells.new regions.new }
+    ensures grove { Grove cells.new regions.new }
 {
     let Ok(()) = regions.reserve(key, 1) else {
         return Err(Memory);
@@ -48,14 +48,14 @@ pub fn make_bridge(
     fields: &[Word],
     manager: Manager,
 ) -> Result<usize, Memory>
-    requires sound { Sound cells.old regions.old }
+    requires grove { Grove cells.old regions.old }
     requires plain { LeadsNowhere fields.now }
     ensures cell { IfOk result (λ slot.
         Makes cells.old cells.new slot class (Of regions.old.next) fields.now) }
     ensures region { IfOk result (λ slot. OpensOne regions.old regions.new slot manager) }
     ensures cells { OnErr result (cells.new ≡ cells.old) }
     ensures regions { OnErr result (SameRecords regions.old regions.new) }
-    ensures sound { Sound cells.new regions.new }
+    ensures grove { Grove cells.new regions.new }
 {
     let key = regions.add(manager)?;
     let Ok(()) = regions.reserve(key, 1) else {

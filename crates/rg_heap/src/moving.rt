@@ -3,7 +3,7 @@
 ghost use Rattle.std.specs.Prelude.{◌≡◌, OnOk, OnErr};
 ghost use Rattle.rg_move.specs.Closed.{Closed};
 ghost use Rattle.rg_move.specs.Merged.{CanTake};
-ghost use Rattle.rg_heap.specs.Parts.{Sound};
+ghost use Rattle.rg_regions.specs.Grove.{Grove};
 ghost use Rattle.rg_heap.specs.Moves.{Freezes, Merges};
 
 use rg_base::Memory;
@@ -13,11 +13,11 @@ use rg_regions::Regions;
 
 /// Freezes the region of a key, and all beneath it.
 pub fn freeze_one(cells: &mut Cells, regions: &mut Regions, key: usize)
-    requires sound { Sound cells.old regions.old }
+    requires grove { Grove cells.old regions.old }
     requires closed { Closed cells.old.heap regions.old key }
     ensures freezes { Freezes (record { cells = cells.old; regions = regions.old })
         (record { cells = cells.new; regions = regions.new }) key }
-    ensures sound { Sound cells.new regions.new }
+    ensures grove { Grove cells.new regions.new }
 {
     freeze(cells, regions, key);
 }
@@ -29,14 +29,14 @@ pub fn merge_into(
     from: usize,
     into: usize,
 ) -> Result<(), Memory>
-    requires sound { Sound cells.old regions.old }
+    requires grove { Grove cells.old regions.old }
     requires closed { Closed cells.old.heap regions.old from }
     requires into { CanTake cells.old.heap regions.old from into }
     ensures merges { OnOk result (Merges (record { cells = cells.old; regions = regions.old })
         (record { cells = cells.new; regions = regions.new }) from into) }
     ensures cells { OnErr result (cells.new ≡ cells.old) }
     ensures regions { OnErr result (regions.new ≡ regions.old) }
-    ensures sound { Sound cells.new regions.new }
+    ensures grove { Grove cells.new regions.new }
 {
     let Ok(()) = merge(cells, regions, from, into) else {
         return Err(Memory);

@@ -4,13 +4,13 @@ ghost use Rattle.std.specs.Prelude.{◌≡◌, ◌<◌, ◌+◌, ◌-◌, ◌^�
 ghost use Rattle.rg_cells.specs.Table.{IsHeld, body_at, mark_at, width, with_field};
 ghost use Rattle.rg_regions.specs.Table.{IsKey};
 ghost use Rattle.rg_regions.specs.Reach.{LiesIn};
-ghost use Rattle.rg_heap.specs.Parts.{Sound};
+ghost use Rattle.rg_regions.specs.Grove.{Grove};
 ghost use Rattle.rg_heap.specs.Writes.{counted};
 ghost use Rattle.rg_heap.specs.Inner.Marks.{MayWrite, Recounts};
 
 use rg_base::{Label, Manager, Word};
 use rg_cells::Cells;
-use rg_regions::Regions;
+use rg_regions::{Regions, added, removed};
 
 // The cell of a region to which a word leads, if it leads to one.
 fn target(cells: &Cells, region: u64, w: Word) -> Option<usize>
@@ -41,8 +41,7 @@ fn raise(cells: &mut Cells, region: u64, w: Word)
     let Some(to) = target(cells, region, w) else {
         return;
     };
-    let mark = cells.mark(to);
-    cells.set_mark(to, mark + 1);
+    added(cells, to);
 }
 
 // One field less of a region leads where a word leads.
@@ -57,13 +56,12 @@ fn lower(cells: &mut Cells, region: u64, w: Word)
     let Some(to) = target(cells, region, w) else {
         return;
     };
-    let mark = cells.mark(to);
-    cells.set_mark(to, mark - 1);
+    removed(cells, to);
 }
 
 // The marks follow where a field will lead, if the cell's region counts.
 fn recount(cells: &mut Cells, regions: &Regions, key: usize, slot: usize, k: u32, w: Word)
-    requires sound { Sound cells.old regions.now }
+    requires grove { Grove cells.old regions.now }
     requires key { IsKey regions.now key }
     requires width { k < width (body_at cells.old.heap slot) }
     requires place { MayWrite cells.old.heap regions.now key slot w }
@@ -75,6 +73,8 @@ fn recount(cells: &mut Cells, regions: &Regions, key: usize, slot: usize, k: u32
     let Label::Region(region) = cells.label(slot) else {
         return;
     };
+    // all fields together can be counted
+    let _ = cells.fields();
     let old = cells.field(slot, k);
     raise(cells, region, w);
     lower(cells, region, old);
@@ -82,12 +82,12 @@ fn recount(cells: &mut Cells, regions: &Regions, key: usize, slot: usize, k: u32
 
 /// Writes a field of a cell of the region of a key, or of a temporary.
 pub fn write_field(cells: &mut Cells, regions: &Regions, key: usize, slot: usize, k: u32, w: Word)
-    requires sound { Sound cells.old regions.now }
+    requires grove { Grove cells.old regions.now }
     requires key { IsKey regions.now key }
     requires width { k < width (body_at cells.old.heap slot) }
     requires place { MayWrite cells.old.heap regions.now key slot w }
     ensures heap { cells.new.heap ≡ with_field cells.old.heap slot k w }
-    ensures sound { Sound cells.new regions.now }
+    ensures grove { Grove cells.new regions.now }
 {
     recount(cells, regions, key, slot, k, w);
     cells.set_field(slot, k, w);

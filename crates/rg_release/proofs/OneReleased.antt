@@ -34,7 +34,8 @@ module _ (c : Table) (t : RegionTable) (key : ℕ) (rec : Record) (rest : List �
 
   emptied_made : Emptied c t key rec cells regions
   emptied_made = record {
-    gone = λ s l. let p = member_place c.heap rec.number rec.members (g.members key rec e) s l in let P : ℕ → Type 0 = λ v. IsClear cells v in subst P p.2 (f.gone p.0 p.1);
+    gone = λ s l. let p = member_place c.heap rec.number rec.members (g.members key rec e) s l in let P : ℕ → Type 0 = λ v. IsClear cells v in
+        subst P p.2 (f.gone p.0 p.1);
     others = λ s n. f.others s (λ j l q. let P : ℕ → Type 0 = λ v. LiesIn c.heap rec.number v in n (subst P q (own.lie j l)));
     removed = hand.gone;
     stay = hand.stay;

@@ -68,7 +68,8 @@ top_temp : (v : Stack) (i s : ℕ) → length v.marks ≡ length v.windows → 0
 top_temp v i s e l a =
     let n = length v.windows in
     let q : n - 1 + 1 ≡ n = omega (arith, l) in
-    let b : get_or v.marks (n - 1 + 1) (length v.temps) ≡ length v.temps = ap (λ k. get_or v.marks k (length v.temps)) q ∙ get_past v.marks n (length v.temps) e in
+    let b : get_or v.marks (n - 1 + 1) (length v.temps) ≡ length v.temps =
+    ap (λ k. get_or v.marks k (length v.temps)) q ∙ get_past v.marks n (length v.temps) e in
     let t : take (get_or v.marks (n - 1 + 1) (length v.temps)) v.temps ≡ v.temps = ap (λ k. take k v.temps) b ∙ take-length v.temps in
     let m : mark v ≡ get_or v.marks (n - 1) 0 = ap (λ k. get_or v.marks (k - 1) 0) e in
     (i, ap (λ ts. slice_get (drop (get_or v.marks (n - 1) 0) ts) i) t ∙ ap (λ k. slice_get (drop k v.temps) i) (sym m) ∙ a)

@@ -50,7 +50,8 @@ pub record OwnedBefore (h : Heap) (t : RegionTable) (v : Stack) (slots : List �
   pub lies : LiesIn h q to
 
 -- exactly these regions are chained
-pub record Chains (h : Heap) (t : RegionTable) (v : Stack) (slots : List ℕ) (i k : ℕ) (now : RegionTable) (head : Option ℕ) (keys : List ℕ) : Type 0 where
+pub record Chains (h : Heap) (t : RegionTable) (v : Stack) (slots : List ℕ) (i k : ℕ) (now : RegionTable) (head : Option ℕ)
+    (keys : List ℕ) : Type 0 where
   pub records : now.records ≡ t.records
   pub next : now.next ≡ t.next
   pub chain : Chained now.links head keys
@@ -88,6 +89,7 @@ pub record Gone (c : Table) (t : RegionTable) (keys : List ℕ) (cells : Table) 
 -- the first of some cells are freed, and all others stay
 pub record FirstFreed (old : Table) (slots : List ℕ) (i : ℕ) (new : Table) : Type 0 where
   pub gone : (j s : ℕ) → j < i → slice_get slots j ≡ Some s → (body_at new.heap s ≡ None) × (mark_at new s ≡ 0)
-  pub others : (s : ℕ) → ((j : ℕ) → j < i → slice_get slots j ≡ Some s → ⊥) → (body_at new.heap s ≡ body_at old.heap s) × (mark_at new s ≡ mark_at old s)
+  pub others : (s : ℕ) → ((j : ℕ) → j < i → slice_get slots j ≡ Some s → ⊥) → (body_at new.heap s ≡ body_at old.heap s)
+      × (mark_at new s ≡ mark_at old s)
   pub serials : new.heap.next ≡ old.heap.next
   pub high : high_of new.heap ≡ high_of old.heap

@@ -2,20 +2,8 @@ use Rattle.std.proofs.Common.{refl}
 use Rattle.rg_base.specs.declared.words.Manager.TheVariants.{Count}
 use Rattle.rg_regions.specs.Collection.{roots_of}
 use Rattle.rg_regions.specs.Spent.{Spent}
-use Rattle.rg_heap.proofs.Orphaned.{of_counted, shrunk_sound, shrunk_chain, shrunk_collects, shrunk_told}
+use Rattle.rg_heap.proofs.Orphaned.{of_counted, shrunk_chain, shrunk_collects, shrunk_told}
 use Rattle.rg_heap.proofs.collecting.collect_count.Goals as goal
-
-pub release_all-released-requires-clause-sound : goal.release_all-released-requires-clause-sound
-release_all-released-requires-clause-sound g c =
-    let old = c.args.cells.now in
-    let t = c.args.regions.now in
-    let key = c.args.key in
-    let r = c.requires.count.0 in
-    let at = c.requires.count.1 in
-    let k = c.collect-kept in
-    let roots = roots_of r.bridge c.args.slots.now c.args.temps.now in
-    shrunk_sound old t key r k.new.cells k.new.regions (Spent old.heap r.number roots) k.result.orphans c.requires.sound at
-    (of_counted old t key r roots k.new.cells k.new.regions k.result.orphans (k.ensures.counted r at) (k.ensures.orphans r at)) k.ensures.grove
 
 pub release_all-released-requires-clause-chain : goal.release_all-released-requires-clause-chain
 release_all-released-requires-clause-chain g c =
@@ -26,7 +14,7 @@ release_all-released-requires-clause-chain g c =
     let at = c.requires.count.1 in
     let k = c.collect-kept in
     let roots = roots_of r.bridge c.args.slots.now c.args.temps.now in
-    shrunk_chain old t key r k.new.cells k.new.regions (Spent old.heap r.number roots) k.result.orphans c.requires.sound at
+    shrunk_chain old t key r k.new.cells k.new.regions (Spent old.heap r.number roots) k.result.orphans c.requires.grove at
     (of_counted old t key r roots k.new.cells k.new.regions k.result.orphans (k.ensures.counted r at) (k.ensures.orphans r at))
 
 pub returns-clause-collects : goal.returns-clause-collects
@@ -40,9 +28,9 @@ returns-clause-collects g c = λ r at.
     let w = of_counted old t key r roots k.new.cells k.new.regions k.result.orphans (k.ensures.counted r at) (k.ensures.orphans r at) in (
       _,
       refl,
-      shrunk_told old t key r k.new.cells k.new.regions (Spent old.heap r.number roots) k.result.orphans c.requires.sound at w
+      shrunk_told old t key r k.new.cells k.new.regions (Spent old.heap r.number roots) k.result.orphans c.requires.grove at w
           n.new.cells n.new.regions n.ensures.gone c.number-region.result _ k.result.kept n.result Count c.members.result.now
           c.number-region.ensures c.requires.count c.members.ensures refl k.ensures.kept n.ensures.count,
-      shrunk_collects old t key r k.new.cells k.new.regions (Spent old.heap r.number roots) k.result.orphans c.requires.sound at w
+      shrunk_collects old t key r k.new.cells k.new.regions (Spent old.heap r.number roots) k.result.orphans c.requires.grove at w
           n.new.cells n.new.regions n.ensures.gone,
     )

@@ -20,8 +20,16 @@ loop-k-preserved c =
       chains = λ t slots i keys once stands chains.
           let m = c.loop-k.invariant.chains t slots i keys once stands chains in
           elim c.chain_word-head.ensures [
-            | inl p ↦ (p.key ∷ m.0, chains_put h t v slots i k c.args.slot now new c.loop-k.head c.chain_word-head.result m.0 w once stands c.field-w.ensures m.1 p)
-            | inr p ↦ (m.0, chains_none h t v slots i k c.args.slot now new c.loop-k.head c.chain_word-head.result m.0 w stands c.field-w.ensures m.1 p)
+            | inl p ↦ (
+              p.key ∷ m.0,
+              chains_put h t v slots i k c.args.slot now new c.loop-k.head c.chain_word-head.result m.0 w once stands
+                  c.field-w.ensures m.1 p,
+            )
+            | inr p ↦ (
+              m.0,
+              chains_none h t v slots i k c.args.slot now new c.loop-k.head c.chain_word-head.result m.0 w stands c.field-w.ensures
+                  m.1 p,
+            )
           ];
     }
 
@@ -30,5 +38,6 @@ returns-clause-chains c =
     let at_end = c.loop-k-test.false in
     let le = c.loop-k.auto.k-end in
     let e : c.loop-k.k ≡ c.field_count-k-end.result = omega (arith, at_end, le) in
-    let P : ℕ → Type 0 = λ k. ChainsFields c.args.cells.now.heap c.args.frames.now c.args.slot k c.args.regions.now c.args.head c.loop-k.regions c.loop-k.head in
+    let P : ℕ → Type 0 = λ k. ChainsFields c.args.cells.now.heap c.args.frames.now c.args.slot k c.args.regions.now c.args.head c.loop-k.regions
+    c.loop-k.head in
     subst P (e ∙ c.field_count-k-end.ensures) c.loop-k.invariant.chains

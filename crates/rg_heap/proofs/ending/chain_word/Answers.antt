@@ -12,7 +12,8 @@ returns-then-is_open c =
       none = λ q to e l i.
           let s = slot_to to c.in-Slot.to (sym e ∙ c.in-Slot.is) in
           let L : ℕ → Type 0 = λ z. LiesIn h q z in
-          not_closed h t c.args.frames.now c.in-Some.key a.0 c.in-Slot.to q c.requires.keys a.1 a.2 (sym c.is_open.ensures ∙ c.if-is_open.true) (subst L s l) i;
+          not_closed h t c.args.frames.now c.in-Some.key a.0 c.in-Slot.to q c.requires.keys a.1 a.2 (sym c.is_open.ensures ∙ c.if-is_open.true)
+          (subst L s l) i;
       head_is = refl;
       same = refl;
     })

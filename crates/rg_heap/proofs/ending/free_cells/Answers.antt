@@ -11,4 +11,5 @@ loop-slot-preserved c =
     let i = c.loop-slot.slot-index in
     let stands = slice_get-get_or slots i 0 c.loop-slot-test.true in
     let F : Table → Type 0 = λ t. FirstFreed c.args.cells.now slots (i + 1) t in
-    subst F (sym c.free.ensures) (freed_more c.args.cells.now c.loop-slot.cells slots i _ c.requires.once stands (c.requires.held i _ stands) c.loop-slot.invariant)
+    subst F (sym c.free.ensures) (freed_more c.args.cells.now c.loop-slot.cells slots i _ c.requires.once stands (c.requires.held i _ stands)
+    c.loop-slot.invariant)

@@ -1,7 +1,7 @@
 use Rattle.std.proofs.Common.{ℕ, Option, subst}
 use Rattle.rg_regions.specs.Table.{Chained}
 use Rattle.rg_regions.proofs.Callers.Chain.{chained_none}
-use Rattle.rg_heap.proofs.Ended.{gone_none, none_is, sound_gone}
+use Rattle.rg_heap.proofs.Ended.{gone_none, none_is}
 use Rattle.rg_heap.proofs.ending.release_all.Goals as goal
 
 pub returns-in_default-clause-gone : goal.returns-in_default-clause-gone
@@ -23,11 +23,3 @@ returns-clause-gone c = λ keys chain.
       high = r.high;
       numbers = r.numbers;
     }
-
-pub returns-clause-sound : goal.returns-clause-sound
-returns-clause-sound c =
-    let keys = c.requires.chain.0 in
-    let C : Option ℕ → Type 0 = λ o. Chained c.args.regions.now.links o keys in
-    let x = subst C c.in-Some.is c.requires.chain.1 in
-    let r = c.release.ensures in
-    sound_gone c.args.cells.now c.args.regions.now keys c.release.new.cells c.release.new.regions c.requires.sound r.grove (r.freed keys x) (r.cells keys x)

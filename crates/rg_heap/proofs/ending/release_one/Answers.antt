@@ -1,23 +1,20 @@
 use Rattle.std.proofs.Common.{◌∷◌, [], inl, refl, ap}
 use Rattle.rg_regions.specs.Table.{RegionTable}
-use Rattle.rg_heap.proofs.Comes.{sound_same, same_cells}
+use Rattle.rg_heap.proofs.Comes.{grove_same, same_cells}
 use Rattle.rg_heap.proofs.Ended.{key_there, same_records, one_chained, unowned_on, gone_on}
 use Rattle.rg_heap.proofs.ending.release_one.Goals as goal
 
 pub set_link-requires : goal.set_link-requires
 set_link-requires c = let a = c.requires.unowned.there c.args.key (inl refl) in key_there c.args.regions.now c.args.key a.0 a.1
 
-pub release_all-requires-clause-sound : goal.release_all-requires-clause-sound
-release_all-requires-clause-sound c =
+pub release_all-requires-clause-grove : goal.release_all-requires-clause-grove
+release_all-requires-clause-grove c =
     let c0 = c.args.cells.now in
     let t = c.args.regions.now in
     let mid = c.set_link.new.self in
     let e = c.set_link.ensures.set in
-    record {
-      grove = sound_same c0 t c0 mid c.requires.sound.grove (same_cells c0 c0 refl)
-          (same_records t mid (ap (λ (z : RegionTable). z.records) e) (ap (λ (z : RegionTable). z.next) e));
-      few = c.requires.sound.few;
-    }
+    grove_same c0 t c0 mid c.requires.grove (same_cells c0 c0 refl)
+    (same_records t mid (ap (λ (z : RegionTable). z.records) e) (ap (λ (z : RegionTable). z.next) e))
 
 pub release_all-requires-clause-chain : goal.release_all-requires-clause-chain
 release_all-requires-clause-chain c =
@@ -36,5 +33,6 @@ returns-clause-gone c =
     let mid = c.set_link.new.self in
     let e = c.set_link.ensures.set in
     let keys = c.args.key ∷ [] in
-    gone_on c.args.cells.now t mid keys c.release_all.new.cells c.release_all.new.regions (ap (λ (z : RegionTable). z.records) e) (ap (λ (z : RegionTable). z.next) e)
+    gone_on c.args.cells.now t mid keys c.release_all.new.cells c.release_all.new.regions (ap (λ (z : RegionTable). z.records) e)
+    (ap (λ (z : RegionTable). z.next) e)
     (c.release_all.ensures.gone keys (one_chained t.links mid.links c.args.key (ap (λ (z : RegionTable). z.links) e) c.set_link.ensures.within))

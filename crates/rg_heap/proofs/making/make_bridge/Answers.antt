@@ -1,17 +1,18 @@
 use Rattle.std.proofs.Common.{◌≡◌, ℕ, refl, ap, subst, sym}
 use Rattle.rg_base.specs.declared.object.Label.TheVariants.{Region}
 use Rattle.rg_cells.specs.Table.{Table}
+use Rattle.rg_regions.specs.Grove.{Grove}
 use Rattle.rg_regions.specs.Table.{RegionTable, record_at, fresh}
-use Rattle.rg_heap.specs.Parts.{Sound}
 use Rattle.rg_heap.specs.Changes.{Makes, OpensOne}
-use Rattle.rg_heap.proofs.Comes.{same_cancelled, opens, sound_opens, sound_same, same_cells, newest_fresh, room_bridged, rewritten_room, number_next}
+use Rattle.rg_heap.proofs.Comes.{same_cancelled, opens, grove_opens, grove_same, same_cells, newest_fresh, room_bridged, rewritten_room, number_next}
 use Rattle.rg_heap.proofs.making.make_bridge.Goals as goal
 
 pub cancel-requires : goal.cancel-requires
-cancel-requires c = newest_fresh c.args.regions.now c.add.new.self c.reserve.new.self c.in_ok-key.key c.args.manager c.in_ok-key.ensures.added c.in_default.ensures.err
+cancel-requires c = newest_fresh c.args.regions.now c.add.new.self c.reserve.new.self c.in_ok-key.key c.args.manager c.in_ok-key.ensures.added
+    c.in_default.ensures.err
 
-pub returns-in_default-clause-sound : goal.returns-in_default-clause-sound
-returns-in_default-clause-sound c =
+pub returns-in_default-clause-grove : goal.returns-in_default-clause-grove
+returns-in_default-clause-grove c =
     let t = c.args.regions.now in
     let mid = c.add.new.self in
     let new = c.reserve.new.self in
@@ -19,13 +20,10 @@ returns-in_default-clause-sound c =
     let e = c.in_default.ensures.err in
     let s = same_cancelled t mid new c.cancel.new.self key c.args.manager c.in_ok-key.ensures.added
     (λ k d. ap (λ (z : RegionTable). record_at z k) e) (ap (λ (z : RegionTable). z.next) e) c.cancel.ensures in
-    record {
-      grove = sound_same c.args.cells.now t c.args.cells.now c.cancel.new.self c.requires.sound.grove (same_cells c.args.cells.now c.args.cells.now refl) s;
-      few = c.requires.sound.few;
-    }
+    grove_same c.args.cells.now t c.args.cells.now c.cancel.new.self c.requires.grove (same_cells c.args.cells.now c.args.cells.now refl) s
 
-pub returns-in_default-make-clause-sound : goal.returns-in_default-make-clause-sound
-returns-in_default-make-clause-sound c =
+pub returns-in_default-make-clause-grove : goal.returns-in_default-make-clause-grove
+returns-in_default-make-clause-grove c =
     let t = c.args.regions.now in
     let old = c.args.cells.now in
     let mid = c.add.new.self in
@@ -35,8 +33,8 @@ returns-in_default-make-clause-sound c =
     let regions = c.cancel-in_default-make.new.self in
     let s = same_cancelled t mid new regions key c.args.manager c.in_ok-key.ensures.added w.others w.next c.cancel-in_default-make.ensures in
     let e = c.in_default-make.ensures.err in
-    let P : Table → Type 0 = λ (z : Table). Sound z regions in
-    subst P (sym e) (record { grove = sound_same old t old regions c.requires.sound.grove (same_cells old old refl) s; few = c.requires.sound.few })
+    let P : Table → Type 0 = λ (z : Table). Grove z regions in
+    subst P (sym e) (grove_same old t old regions c.requires.grove (same_cells old old refl) s)
 
 pub push_member-requires : goal.push_member-requires
 push_member-requires c =
@@ -55,7 +53,8 @@ number : (c : goal.After-push_member) → c.number-number.result ≡ c.args.regi
 number c = number_next c.args.regions.now c.add.new.self c.reserve.new.self c.in_ok-key.key 1 c.number-number.result c.args.manager
     c.in_ok-key.ensures.added c.in-Ok.ensures.ok c.number-number.ensures
 
-made : (c : goal.After-push_member) → Makes c.args.cells.now c.make.new.self c.in-Ok-make.slot c.args.class (Region c.args.regions.now.next) c.args.fields.now
+made : (c : goal.After-push_member) → Makes c.args.cells.now c.make.new.self c.in-Ok-make.slot c.args.class (Region c.args.regions.now.next)
+    c.args.fields.now
 made c =
     let x = c.in-Ok-make.ensures in
     let P : ℕ → Type 0 = λ n. Makes c.args.cells.now c.make.new.self c.in-Ok-make.slot c.args.class (Region n) c.args.fields.now in
@@ -64,10 +63,7 @@ made c =
 pub returns-clause-region : goal.returns-clause-region
 returns-clause-region c = opened c
 
-pub returns-clause-sound : goal.returns-clause-sound
-returns-clause-sound c =
-    record {
-      grove = sound_opens c.args.cells.now c.args.regions.now c.make.new.self c.push_member.new.self c.in-Ok-make.slot c.args.class c.args.manager
-          c.args.fields.now c.requires.sound.grove c.in_ok-key.ensures.fresh c.requires.plain (made c) (opened c);
-      few = c.in-Ok-make.ensures.fields;
-    }
+pub returns-clause-grove : goal.returns-clause-grove
+returns-clause-grove c =
+    grove_opens c.args.cells.now c.args.regions.now c.make.new.self c.push_member.new.self c.in-Ok-make.slot c.args.class c.args.manager
+    c.args.fields.now c.requires.grove c.in_ok-key.ensures.fresh c.requires.plain (made c) (opened c)

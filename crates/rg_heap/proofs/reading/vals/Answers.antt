@@ -10,4 +10,5 @@ loop-k-preserved c =
     let ws = fields_of (body_at h c.args.slot) in
     c.in_ok-push.ensures.ok
     ∙ ap (λ vs. vs ++ c.val.result ∷ []) c.loop-k.invariant
-    ∙ rw (c.val.ensures) (shown_more (val_of h) ws c.loop-k.k c.field.result (field_read (body_at h c.args.slot) c.loop-k.k c.field.result c.field.ensures))
+    ∙ rw (c.val.ensures) (shown_more (val_of h) ws c.loop-k.k c.field.result
+    (field_read (body_at h c.args.slot) c.loop-k.k c.field.result c.field.ensures))

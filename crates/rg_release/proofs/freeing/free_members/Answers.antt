@@ -15,5 +15,6 @@ loop-slot-preserved c =
     let i = c.loop-slot.slot-index in
     let F : Table → Type 0 = λ t. FreedFirst c.args.cells.now c.args.members.now (i + 1) t in
     let first = c.requires.held i c.loop-slot-test.true in
-    let held = still_held c.args.cells.now c.loop-slot.cells c.args.members.now i c.requires.once first c.loop-slot-test.true c.loop-slot.invariant in
+    let held = still_held c.args.cells.now c.loop-slot.cells c.args.members.now i c.requires.once first c.loop-slot-test.true
+    c.loop-slot.invariant in
     subst F (sym c.free.ensures) (freed_more c.args.cells.now c.loop-slot.cells c.args.members.now i held c.loop-slot.invariant)

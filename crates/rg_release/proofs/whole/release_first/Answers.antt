@@ -17,7 +17,8 @@ chain_owned-next-requires-clause-there c =
     (a.0, a.1, subst O a.2 (owns_once c.args.cells.now c.args.regions.now c.args.key a.0 c.requires.grove a.1))
 
 pub chain_owned-next-requires-clause-lead : goal.chain_owned-next-requires-clause-lead
-chain_owned-next-requires-clause-lead c = λ p k s l f. led_held c.args.cells.now c.args.regions.now c.requires.grove c.number-region.result p k s l f
+chain_owned-next-requires-clause-lead c = λ p k s l f. led_held c.args.cells.now c.args.regions.now c.requires.grove c.number-region.result p k s
+    l f
 
 pub free_members-requires-clause-held : goal.free_members-requires-clause-held
 free_members-requires-clause-held c =

@@ -4,7 +4,4 @@ use Rattle.rg_heap.proofs.heap.Heap.begin.Goals as goal
 pub invariant_of-self : goal.invariant_of-self
 invariant_of-self c =
     let s = c.self.inside in
-    record {
-      grove = begins s.cells s.regions c.add.new.self c.args.manager c.add.result c.self.invariant.grove c.add.ensures.added c.add.ensures.fresh c.add.ensures.err;
-      few = c.self.invariant.few;
-    }
+    begins s.cells s.regions c.add.new.self c.args.manager c.add.result c.self.invariant c.add.ensures.added c.add.ensures.fresh c.add.ensures.err

@@ -15,7 +15,8 @@ returns-clause-released c =
     let s = c.self.inside in
     let a = c.in-Some.ensures.some in
     let new : Parts = record { cells = c.release_one.new.cells; regions = c.release_one.new.regions } in
-    let P : Parts → Type 0 = λ (p : Parts). (slot : ℕ) → c.args.at ≡ Slot slot → (key n : ℕ) → LiesIn p.cells.heap n slot → HasNumber p.regions key n
+    let P : Parts → Type 0 = λ (p : Parts). (slot : ℕ) → c.args.at ≡ Slot slot → (key n : ℕ) → LiesIn p.cells.heap n slot
+    → HasNumber p.regions key n
     → Released p new (Below p.cells.heap p.regions n) NoCell in
     subst P c.self.view_is (λ slot e key n l has.
     let same = slot_to c.in-Slot.slot slot (sym c.in-Slot.is ∙ e) in

@@ -14,10 +14,11 @@ returns-clause-freezes c =
     let new : Parts = record { cells = c.freeze_one.new.cells; regions = c.freeze_one.new.regions } in
     let a = c.in-Some.ensures.some in
     let F : ℕ → Type 0 = λ k. Freezes s new k in
-    let P : Parts → Type 0 = λ (p : Parts). (slot : ℕ) → c.args.at ≡ Slot slot → (key n : ℕ) → LiesIn p.cells.heap n slot → HasNumber p.regions key n
+    let P : Parts → Type 0 = λ (p : Parts). (slot : ℕ) → c.args.at ≡ Slot slot → (key n : ℕ) → LiesIn p.cells.heap n slot
+    → HasNumber p.regions key n
     → Freezes p new key in
     subst P c.self.view_is (λ slot e key n l has.
     let L : ℕ → Type 0 = λ z. LiesIn s.cells.heap n z in
     let i = subst L (sym (slot_to c.in-Slot.slot slot (sym c.in-Slot.is ∙ e))) l in
-    subst F (one_key s.cells.heap s.regions c.in-Slot.slot a.0 n c.in-Some.key key c.self.invariant.grove.numbers a.1 a.2 i has)
+    subst F (one_key s.cells.heap s.regions c.in-Slot.slot a.0 n c.in-Some.key key c.self.invariant.numbers a.1 a.2 i has)
     c.freeze_one.ensures.freezes)

@@ -29,4 +29,4 @@ returns-clause-merges c = λ w is key n l has.
     let M : ℕ → Type 0 = λ k. Merges s new k w.region in
     let P : Parts → Type 0 = λ (p : Parts). (key n : ℕ) → LiesIn p.cells.heap n slot → HasNumber p.regions key n → Merges p new key w.region in
     subst P c.self.view_is (λ key n l has.
-    subst M (one_key s.cells.heap s.regions slot a.0 n c.in-Some.key key c.self.invariant.grove.numbers a.1 a.2 l has) m) key n l has
+    subst M (one_key s.cells.heap s.regions slot a.0 n c.in-Some.key key c.self.invariant.numbers a.1 a.2 l has) m) key n l has

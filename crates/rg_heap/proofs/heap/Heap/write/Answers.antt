@@ -9,4 +9,5 @@ write_field-requires-clause-place c =
     let s = c.self.inside in
     let P : Parts → Type 0 = λ (p : Parts). InActive p.cells.heap p.regions c.args.frames.now c.args.slot
     (λ n. Stays p.cells.heap n c.args.w) ⊎ IsTemp p.cells.heap c.args.slot in
-    may_write s.cells.heap s.regions c.args.frames.now c.top-key.result c.args.slot c.args.w c.top-key.ensures (subst P (sym c.self.view_is) c.requires.place)
+    may_write s.cells.heap s.regions c.args.frames.now c.top-key.result c.args.slot c.args.w c.top-key.ensures
+    (subst P (sym c.self.view_is) c.requires.place)
