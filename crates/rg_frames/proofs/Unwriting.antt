@@ -289,9 +289,27 @@ ended-long slots from b = omega (
   b,
 )
 
--- what is nil already needs no change
-pub ended-still : (v : Stack) (s : ℕ) → NilFrom v.slots (v.first + s) (length v.slots) → v ≡ ended v s
-ended-still v s h = ap (λ (xs : List Word). record v { slots = xs }) (all-nils v.slots (v.first + s) h)
+-- what is nil already from a place on needs no change, however far that lies
+all-ended : (xs : List Word) (from : ℕ) → ((i : ℕ) (w : Word) → from ≤ i → slice_get xs i ≡ Some w → w ≡ Nil)
+    → xs ≡ take from xs ++ replicate (length xs - from) Nil
+all-ended [] zero h = refl
+all-ended [] (suc n) h = let none : 0 ≡ 0 - suc n = omega arith in ap (λ k. replicate k Nil) none
+all-ended (x ∷ xs) zero h =
+    let count : length (x ∷ xs) - 0 ≡ suc (length xs) = omega arith in
+    let same : length xs - 0 ≡ length xs = omega arith in
+    let rest : xs ≡ replicate (length xs) Nil =
+    all-ended xs 0 (λ i w p e. h (suc i) w (omega arith) e) ∙ ap (λ n. replicate n Nil) same in
+    let first : x ≡ Nil = h 0 x (omega arith) refl in
+    ap (λ y. y ∷ xs) first ∙ ap (λ ys. Nil ∷ ys) rest ∙ ap (λ n. replicate n Nil) (sym count)
+all-ended (x ∷ xs) (suc n) h =
+    let count : length xs - n ≡ length (x ∷ xs) - suc n = omega arith in
+    ap (λ ys. x ∷ ys) (all-ended xs n (λ i w p e. h (suc i) w (omega (arith, p)) e))
+    ∙ ap (λ k. x ∷ (take n xs ++ replicate k Nil)) count
+
+pub ended-past : (v : Stack) (s live : ℕ) → live ≤ v.first + s → NilFrom v.slots live (length v.slots) → v ≡ ended v s
+ended-past v s live a h =
+    ap (λ (xs : List Word). record v { slots = xs })
+    (all-ended v.slots (v.first + s) (λ i w p e. h.nil i w (omega (arith, a, p)) (slice_get_within v.slots i w e) e))
 
 nil-set : (slots : List Word) (k : ℕ) → ((i : ℕ) (w : Word) → k < i → slice_get slots i ≡ Some w → w ≡ Nil) → (i : ℕ) (w : Word) → k ≤ i
     → slice_get (slice_set slots k Nil) i ≡ Some w → w ≡ Nil
@@ -315,11 +333,6 @@ pub cleared : (slots new : List Word) (from at : ℕ) → from ≤ at → at ≤
 cleared slots new from at a b t n h =
     let e : at ≡ from = omega (arith, a, b) in
     rw (← t, ← n) (all-nils new from (rw (← e) h))
-
--- nil from an earlier place on
-pub nil-later : (slots : List Word) (from later : ℕ) → from ≤ later → later ≤ length slots → NilFrom slots from (length slots)
-    → NilFrom slots later (length slots)
-nil-later slots from later a b h = record { order = b; nil = λ i w p q e. h.nil i w (omega (arith, a, p)) q e }
 
 pub lies-longer : (v : Stack) (slots more : List Word) (first : ℕ) (frames : List Frame) (a b : ℕ) → slots ≡ v.slots ++ more → Lies v
     → Lies (record v { slots = slots; first = first; frames = frames; frame_room = a; slot_room = b })

@@ -2,7 +2,7 @@
 
 ghost use Rattle.std.specs.Prelude.{◌≡◌, ◌≤◌, ◌+◌, ◌-◌, ◌<◌, ◌^◌, ◌++◌, ◌↔◌, None, Some, Ok, Err};
 ghost use Rattle.std.specs.Prelude.{IfSome, IsNone, OnOk, OnErr, length, drop, take, replicate};
-ghost use Rattle.std.specs.Prelude.{slice_get, vec_len, vec_capacity};
+ghost use Rattle.std.specs.Prelude.{slice_get, unwrap_or, vec_len, vec_capacity};
 ghost use Rattle.std.specs.List.{list_any};
 ghost use Rattle.rg_base.specs.declared.limits.TheConstants.{FRAMES as MOST};
 ghost use Rattle.rg_base.specs.declared.value.Word.TheVariants.{Nil};
@@ -233,10 +233,47 @@ impl Frames {
         requires { InTop self.old s }
         ensures { self.new ≡ with_slot self.old s w }
     {
+        self.set_word(s, w);
+    }
+
+    /// The word in a slot of the top frame, or nil past the last one.
+    #[inline]
+    pub fn word(&self, s: u32) -> Word
+        ensures { result ≡ unwrap_or (slice_get self.now.slots (self.now.first + s)) Nil }
+    {
+        let len = self.slots.len();
         let place = self.first + s as usize;
-        self.slots[place] = w;
-        if self.live <= place {
-            self.live = place + 1;
+        if place < len {
+            self.slots[place]
+        } else {
+            Word::Nil
+        }
+    }
+
+    /// Writes a slot of the top frame, where there is one.
+    #[inline]
+    pub fn set_word(&mut self, s: u32, w: Word)
+        ensures { self.new ≡ with_slot self.old s w }
+    {
+        let len = self.slots.len();
+        let place = self.first + s as usize;
+        if place < len {
+            self.slots[place] = w;
+            if self.live <= place {
+                self.live = place + 1;
+            }
+        }
+    }
+
+    /// Makes nil the slots of the top frame from one on, where there are any.
+    #[inline]
+    pub fn end_words(&mut self, s: u32)
+        ensures { self.new ≡ ended self.old s }
+    {
+        let from = self.first + s as usize;
+        if from < self.live {
+            clear(&mut self.slots, from, self.live);
+            self.live = from;
         }
     }
 
@@ -262,11 +299,7 @@ impl Frames {
         requires { self.old.first + s ≤ length self.old.slots }
         ensures { self.new ≡ ended self.old s }
     {
-        let from = self.first + s as usize;
-        if from < self.live {
-            clear(&mut self.slots, from, self.live);
-            self.live = from;
-        }
+        self.end_words(s);
     }
 
     /// All slots from the top window's base.

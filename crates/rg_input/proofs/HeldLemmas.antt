@@ -1,17 +1,18 @@
 -- What is said of the bytes that are held, and what of it stays.
-use Rattle.std.proofs.Common.{◌≡◌, ℕ, inl, inr, true, false, List, [], ◌++◌, Bool, Option, Some, None, IfSome, ℤ, Ok, Err, refl, sym, ◌∙◌, ap}
+use Rattle.std.proofs.Common.{◌≡◌, ℕ, inl, inr, true, false, List, [], ◌++◌, Bool, Option, Some, None, IfSome, ℤ, Result, Ok, Err, IfOk, OnOk, refl, sym, ◌∙◌, ap}
 use Rattle.std.proofs.Common.{subst, append_assoc}
 use Rattle.std.specs.Option.{option_to_list}
 use Rattle.std.proofs.lemmas.Bool.{false≢true}
-use Rattle.rg_base.specs.Input.{found, malformed, at_end, next_number}
+use Rattle.rg_base.specs.Input.{found, malformed, at_end, next_number, found_or_malformed}
 use Rattle.rg_io.specs.Content.{Gives}
 use Rattle.rg_input.specs.declared.held.Held.{Held}
 use Rattle.rg_input.specs.declared.held.Verdict.{Verdict}
 use Rattle.rg_input.specs.declared.held.Verdict.TheVariants as says
+use Rattle.rg_input.specs.declared.refusal.InputFault.{InputFault}
 use Rattle.rg_input.specs.declared.refusal.NumberRefusal.{NumberRefusal}
 use Rattle.rg_input.specs.declared.refusal.NumberRefusal.TheVariants as no
-use Rattle.rg_input.specs.Inner.Held.{looked_at, pending, Reads, has_enough, IsWhole, with_rest, Says, Settled, verdict_of}
-use Rattle.rg_input.specs.Numbers.{Pending, IsSure, CanCome, OnInput, is_more, Looks, Answers, Refuses}
+use Rattle.rg_input.specs.Inner.Held.{looked_at, pending, Reads, has_enough, IsWhole, with_rest, Says, Settled, says_more, verdict_of}
+use Rattle.rg_input.specs.Numbers.{Pending, IsSure, CanCome, OnInput, is_more, is_input, Looks, Answers, Refuses}
 use Rattle.rg_input.specs.Read.{is_whole}
 use Rattle.rg_input.proofs.AheadLemmas.{not-sure}
 use Rattle.rg_input.proofs.ReadLemmas.{is_whole-read, is_whole-more}
@@ -56,12 +57,6 @@ said-coming h ahead left v said (inl enough) more can =
 said-coming h ahead left v said (inr over) more can =
     let none : ahead.held ++ more ≡ [] = ap (λ q. q ++ more) over.1 ∙ can.ended over.0 in
     ap next_number (append_assoc (looked_at h) ahead.held more) ∙ said (ahead.held ++ more) (inr none)
-
--- whether a verdict says that more comes
-abbrev pub says_more : Verdict → Bool
-says_more (says.Number z) = true
-says_more says.Malformed = true
-says_more says.End = false
 
 is_more-said : (v : Verdict) (rest : List ℕ) → is_more (with_rest v rest) ≡ says_more v
 is_more-said (says.Number z) rest = refl
@@ -149,3 +144,35 @@ pub refusal-end : (why : NumberRefusal) → says.End ≡ verdict_of why → why 
 refusal-end no.End e = refl
 refusal-end no.Input e = cc
 refusal-end no.InputFault e = cc
+
+-- where a refusal stays, the answer whether more comes is that of the refusal
+pub more-refused : (h : Held) (ahead : Pending) (v : Verdict) (why : NumberRefusal) → Says h v → IsWhole h ahead →
+    Refuses (pending h ahead) why → says_more v ≡ is_input why
+more-refused h ahead v why said whole r = ap says_more (verdict-refused h ahead v why said whole r) ∙ same why
+  where
+    same : (why : NumberRefusal) → says_more (verdict_of why) ≡ is_input why
+    same no.End = refl
+    same no.Input = refl
+    same no.InputFault = refl
+
+-- the verdict on a token
+abbrev pub verdict_on : Option ℤ → Verdict
+verdict_on (Some z) = says.Number z
+verdict_on None = says.Malformed
+
+pub with-token : (o : Option ℤ) (rest : List ℕ) → found_or_malformed rest o ≡ with_rest (verdict_on o) rest
+with-token (Some z) rest = refl
+with-token None rest = refl
+
+pub more-token : (o : Option ℤ) → says_more (verdict_on o) ≡ true
+more-token (Some z) = refl
+more-token None = refl
+
+-- what `more` answers, by what was said where it didn't fail
+pub looks-answered : (h : Held) (ahead : Pending) (left : Option (List ℕ)) (r : Result Bool InputFault) →
+    IfOk r (λ b. (v : Verdict) × Says h v × (says_more v ≡ b)) → OnOk r (IsWhole h ahead) → (more : List ℕ) → CanCome (pending h ahead) left more →
+    Looks r ((pending h ahead).held ++ more) ((pending h ahead).held ++ more)
+looks-answered h ahead left (Ok b) said whole more can =
+    let held = (pending h ahead).held ++ more in
+    subst (λ x. Looks (Ok x) held held) said.2 (looks-said h ahead left said.0 said.1 whole more can)
+looks-answered h ahead left (Err f) said whole more can = refl

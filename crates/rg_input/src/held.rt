@@ -5,7 +5,8 @@ ghost use Rattle.std.specs.Option.{option_to_list};
 ghost use Rattle.rg_base.specs.Pieces.{is_blank};
 ghost use Rattle.rg_io.specs.Content.{Rose};
 ghost use Rattle.rg_input.specs.Read.{IsRead};
-ghost use Rattle.rg_input.specs.Numbers.{Follows, IsSure, Refuses};
+ghost use Rattle.rg_input.specs.declared.held.Verdict.{Verdict as Saying};
+ghost use Rattle.rg_input.specs.Numbers.{Follows, IsSure, Refuses, is_input};
 
 use crate::ahead::Ahead;
 use crate::number::token_number;
@@ -47,7 +48,7 @@ fn is_blank_byte(byte: u8) -> bool
 
 impl Held {
     ghost use Rattle.rg_input.specs.Inner.Held.{looked_at, pending, has_enough, Reads, IsWhole};
-    ghost use Rattle.rg_input.specs.Inner.Held.{Says, Settled, verdict_of};
+    ghost use Rattle.rg_input.specs.Inner.Held.{Says, Settled, says_more, verdict_of};
 
     /// Nothing was looked at.
     pub(crate) fn new() -> Held
@@ -144,6 +145,44 @@ impl Held {
     {
         self.fill(ahead, source)?;
         Ok(self.verdict())
+    }
+
+    /// Whether the bytes are a number, or what is none.
+    fn has_more(&self) -> bool
+        ensures { (v : Saying) × Says self.now v × (says_more v ≡ result) }
+    {
+        if self.blanks.len() > INPUT_BLANKS {
+            return true;
+        }
+        if self.token.is_empty() {
+            return false;
+        }
+        true
+    }
+
+    /// Looks on as far as it takes, and says whether a number comes next, or what is none.
+    pub(crate) fn look_more<S: Source>(
+        &mut self,
+        ahead: &mut Ahead,
+        source: &mut S,
+    ) -> Result<bool, InputFault>
+        requires { Follows ahead.old (S.left source.old) }
+        ensures follows { Follows ahead.new (S.left source.new) }
+
+        ensures reads { Reads (S.left source.old) (S.left source.new)
+            (pending self.old ahead.old) (pending self.new ahead.new) }
+        ensures whole { OnOk result (IsWhole self.new ahead.new) }
+        ensures says { IfOk result (λ b. (v : Saying) × Says self.new v × (says_more v ≡ b)) }
+        ensures refused { (why : NumberRefusal) → Refuses (pending self.old ahead.old) why →
+            (result ≡ Ok (is_input why))
+            × (pending self.new ahead.new ≡ pending self.old ahead.old) }
+        ensures unasked { IsSure (pending self.old ahead.old) → source.new ≡ source.old }
+
+        ensures fault { OnErr result (Rose (S.faults source.old) (S.faults source.new)) }
+        ensures never_falls { S.faults source.old ≤ S.faults source.new }
+    {
+        self.fill(ahead, source)?;
+        Ok(self.has_more())
     }
 
     /// Takes the token with the blanks in front of it.

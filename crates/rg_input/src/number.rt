@@ -21,10 +21,12 @@ fn value(digits: &[u8], most: u64) -> Option<u64>
     ensures within { IfSome result (λ v. v ≤ most) }
     ensures past { IfNone result (most < value_of digits.now) }
 {
+    // below it any digit may come
+    let near = most / 10;
     let mut value: u64 = 0;
     for b in digits {
         let digit = u64::from(*b - b'0');
-        if value > (most - digit) / 10 {
+        if value >= near && value > (most - digit) / 10 {
             return None;
         }
         value = value * 10 + digit;

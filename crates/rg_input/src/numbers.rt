@@ -53,10 +53,7 @@ impl Numbers {
         ensures fault { OnErr result (Rose (S.faults source.old) (S.faults source.new)) }
         ensures never_falls { S.faults source.old ≤ S.faults source.new }
     {
-        match self.held.look(&mut self.ahead, source)? {
-            Verdict::Number(_) | Verdict::Malformed => Ok(true),
-            Verdict::End => Ok(false),
-        }
+        self.held.look_more(&mut self.ahead, source)
     }
 
     /// Takes the next number. A refusal takes nothing.

@@ -1,6 +1,6 @@
 -- Frames as the machine sees them: a slot that is read or written, slots that end, frames that come and go, and places.
 use Rattle.std.proofs.Common.{◌≡◌, ◌≤◌, ◌<◌, ℕ, zero, suc, ◌+◌, ◌-◌, List, [], ◌∷◌, ◌++◌, Some, length, take, drop, map, replicate, reverse}
-use Rattle.std.proofs.Common.{unwrap_or, slice_get, slice_set, length-append, refl, sym, ap, ◌∙◌, arith, subst, true, false}
+use Rattle.std.proofs.Common.{unwrap_or, slice_get, slice_set, Option, None, option_map, ◌⊎◌, inl, inr, length-append, refl, sym, ap, ◌∙◌, arith, subst, true, false}
 use Rattle.std.proofs.lemmas.List.{take_more, map-set, set_past, length-take-le, length-drop, map-append, take-map, drop-take, reverse-append}
 use Rattle.std.proofs.lemmas.List.{length-map, length-reverse, take-append-le, drop-append-le}
 use Rattle.std.proofs.lemmas.Option.{slice_get_past, slice_get_within, slice_get-map, get_or_from_slice_get}
@@ -66,24 +66,16 @@ slice_get-drop zero k xs = let e : k ≡ 0 + k = omega arith in ap (slice_get xs
 slice_get-drop (suc n) k [] = refl
 slice_get-drop (suc n) k (x ∷ xs) = let e : suc (n + k) ≡ suc n + k = omega arith in slice_get-drop n k xs ∙ ap (slice_get (x ∷ xs)) e
 
--- a slot of the topmost frame is read
-pub slot-there : (slots : List Word) (first s : ℕ) (fs : List FrameRow) (w : Word) → Nested first (length slots) fs
-    → slice_get slots (first + s) ≡ Some w
-    → unwrap_or (slice_get (top_slots (frames_from slots first fs)) s) val.Nil ≡ value_of_word w
-slot-there slots first s fs w h e =
-    rw (top-slots slots first fs h, slice_get-map value_of_word (drop first slots) s, slice_get-drop first s slots, e) refl
-
--- past the slots of the topmost frame there is nil
-pub slot-past : (slots : List Word) (first s : ℕ) (fs : List FrameRow) → Nested first (length slots) fs → length slots - first ≤ s
-    → unwrap_or (slice_get (top_slots (frames_from slots first fs)) s) val.Nil ≡ val.Nil
-slot-past slots first s fs h past =
-    let dropped = length-drop first slots in
-    rw (
-      top-slots slots first fs h,
-      slice_get-map value_of_word (drop first slots) s,
-      slice_get_past (drop first slots) s
-          (omega (arith, dropped, past)),
-    ) refl
+-- a slot of the topmost frame is read, or nil past the last one
+pub slot-any : (slots : List Word) (first s : ℕ) (fs : List FrameRow) → Nested first (length slots) fs
+    → unwrap_or (slice_get (top_slots (frames_from slots first fs)) s) val.Nil ≡ value_of_word (unwrap_or (slice_get slots (first + s)) Nil)
+slot-any slots first s fs h =
+    rw (top-slots slots first fs h, slice_get-map value_of_word (drop first slots) s, slice_get-drop first s slots)
+    (found (slice_get slots (first + s)))
+  where
+    found : (o : Option Word) → unwrap_or (option_map value_of_word o) val.Nil ≡ value_of_word (unwrap_or o Nil)
+    found (Some w) = refl
+    found None = refl
 
 -- a slot of the topmost frame is written
 pub set-slot : (slots : List Word) (first s : ℕ) (w : Word) (fs : List FrameRow)
@@ -93,15 +85,6 @@ set-slot slots first s w [] = refl
 set-slot slots first s w (f ∷ fs) =
     ap (map frame_of) (layers-set slots first s w f fs)
     ∙ ap (λ vs. framed vs f.back (frames_from (take first slots) f.below fs)) (map-set value_of_word (drop first slots) s w)
-
--- nothing is written past them
-pub set-past : (slots : List Word) (first s : ℕ) (v : Val) (fs : List FrameRow) → length slots - first ≤ s
-    → frames_from slots first fs ≡ with_slots (slice_set (top_slots (frames_from slots first fs)) s v) (frames_from slots first fs)
-set-past slots first s v [] past = refl
-set-past slots first s v (f ∷ fs) past =
-    let dropped = length-drop first slots in
-    let mapped = length-map (drop first slots) value_of_word in
-    rw (set_past (map value_of_word (drop first slots)) s v (omega (arith, dropped, mapped, past))) refl
 
 pub map-nil : (n : ℕ) → map value_of_word (replicate n Nil) ≡ replicate n val.Nil
 map-nil zero = refl
@@ -165,6 +148,29 @@ end-past slots first s (f ∷ fs) past =
     stays (v ∷ vs) (suc n) le =
         let e : length vs - n ≡ suc (length vs) - suc n = omega arith in
         ap (λ us. v ∷ us) (stays vs n (omega (arith, le)) ∙ ap (λ k. take n vs ++ replicate k val.Nil) e)
+
+either : (a b : ℕ) → (a ≤ b) ⊎ (b < a)
+either zero b = inl (omega arith)
+either (suc a) zero = inr (omega arith)
+either (suc a) (suc b) = elim (either a b) [ inl le ↦ inl (omega (arith, le)) | inr lt ↦ inr (omega (arith, lt)) ]
+
+-- past the last slot none is taken away
+kept : (xs : List Word) (n : ℕ) → length xs ≤ n → take n xs ++ replicate (length xs - n) Nil ≡ xs
+kept [] zero le = refl
+kept [] (suc n) le = let e : 0 - suc n ≡ 0 = omega arith in ap (λ k. replicate k Nil) e
+kept (x ∷ xs) zero le = absurd (omega (arith, le))
+kept (x ∷ xs) (suc n) le =
+    let e : suc (length xs) - suc n ≡ length xs - n = omega arith in
+    ap (λ us. x ∷ us) (ap (λ k. take n xs ++ replicate k Nil) e ∙ kept xs n (omega (arith, le)))
+
+-- the slots of the topmost frame from one on are nil, where there are any
+pub end-any : (slots : List Word) (first s : ℕ) (fs : List FrameRow)
+    → frames_from (take (first + s) slots ++ replicate (length slots - (first + s)) Nil) first fs
+    ≡ with_slots (ended_slots s (top_slots (frames_from slots first fs))) (frames_from slots first fs)
+end-any slots first s fs = elim (either (first + s) (length slots)) [
+  | inl le ↦ end-slots slots first s fs le
+  | inr lt ↦ ap (λ xs. frames_from xs first fs) (kept slots (first + s) (omega (arith, lt))) ∙ end-past slots first s fs (omega (arith, lt))
+]
 
 -- the slots of the frames beneath the topmost one
 under : (slots : List Word) (first : ℕ) (f : FrameRow) (fs : List FrameRow) → Nested first (length slots) (f ∷ fs)

@@ -12,6 +12,7 @@ mod objects;
 mod opening;
 mod parts;
 mod quick;
+mod reads;
 mod room;
 mod seen;
 mod slots;

@@ -23,11 +23,7 @@ pub(crate) fn read_slot(frames: &Frames, s: u32) -> Word
     ensures { value_of_word result
         ≡ unwrap_or (slice_get (top_slots (frames_of frames.now)) s) val.Nil }
 {
-    if (s as usize) < frames.size() {
-        frames.slot(s)
-    } else {
-        Word::Nil
-    }
+    frames.word(s)
 }
 
 /// Writes a slot, where there is one.
@@ -41,9 +37,7 @@ pub(crate) fn write_slot(frames: &mut Frames, s: u32, w: Word)
     ensures windows { SameWindows frames.old frames.new }
     ensures room { SameRoom frames.old frames.new }
 {
-    if (s as usize) < frames.size() {
-        frames.set_slot(s, w);
-    }
+    frames.set_word(s, w);
 }
 
 /// Makes nil the slots from one on.
@@ -54,9 +48,7 @@ pub(crate) fn end_slots(frames: &mut Frames, s: u32)
         ≡ with_slots (ended_slots s (top_slots (frames_of frames.old))) (frames_of frames.old) }
     ensures windows { SameWindows frames.old frames.new }
 {
-    if (s as usize) < frames.size() {
-        frames.end_from(s);
-    }
+    frames.end_words(s);
 }
 
 /// Makes nil the slots that code clears from an address on.

@@ -1,5 +1,5 @@
 -- The bytes that are held, and what they say (docs/language.md, "Input numbers").
-use Rattle.std.specs.Prelude.{◌≡◌, ℕ, ◌⊎◌, true, Bool, List, [], ◌++◌, Option}
+use Rattle.std.specs.Prelude.{◌≡◌, ℕ, ◌⊎◌, true, false, Bool, List, [], ◌++◌, Option}
 use Rattle.std.specs.Option.{option_to_list}
 use Rattle.rg_base.specs.Input.{NextNumber, found, malformed, at_end, next_number}
 use Rattle.rg_io.specs.Content.{Gives}
@@ -44,6 +44,12 @@ with_rest says.End rest = at_end
 abbrev pub Says : Held → Verdict → Type 0
 Says h v = (more : List ℕ) → (has_enough h ≡ true) ⊎ (more ≡ []) →
     next_number (looked_at h ++ more) ≡ with_rest v (option_to_list h.behind ++ more)
+
+-- whether a verdict says that more comes
+abbrev pub says_more : Verdict → Bool
+says_more (says.Number z) = true
+says_more says.Malformed = true
+says_more says.End = false
 
 -- what was said stays: a refusal stays a refusal
 abbrev pub Settled : Verdict → Pending → Type 0
