@@ -1,9 +1,9 @@
 -- Frames as the machine sees them: a slot that is read or written, slots that end, frames that come and go, and places.
 use Rattle.std.proofs.Common.{◌≡◌, ◌≤◌, ◌<◌, ℕ, zero, suc, ◌+◌, ◌-◌, List, [], ◌∷◌, ◌++◌, Some, length, take, drop, map, replicate, reverse}
 use Rattle.std.proofs.Common.{unwrap_or, slice_get, slice_set, Option, None, option_map, ◌⊎◌, inl, inr, length-append, refl, sym, ap, ◌∙◌, arith, subst, true, false}
-use Rattle.std.proofs.lemmas.List.{take_more, map-set, set_past, length-take-le, length-drop, map-append, take-map, drop-take, reverse-append}
+use Rattle.std.proofs.lemmas.List.{take_more, map-set, length-take-le, length-drop, map-append, take-map, drop-take, reverse-append}
 use Rattle.std.proofs.lemmas.List.{length-map, length-reverse, take-append-le, drop-append-le}
-use Rattle.std.proofs.lemmas.Option.{slice_get_past, slice_get_within, slice_get-map, get_or_from_slice_get}
+use Rattle.std.proofs.lemmas.Option.{slice_get_within, slice_get-map, get_or_from_slice_get}
 use Rattle.std.proofs.Math.Seq.{take-length}
 use Rattle.rg_base.specs.declared.value.Val.{Val}
 use Rattle.rg_base.specs.declared.value.Val.TheVariants as val
