@@ -5,6 +5,7 @@ pub mod Makes
 pub mod Methods
 pub mod Moves
 pub mod Rooms
+pub mod Says
 pub mod Spots
 pub mod Steps
 pub mod Windows
