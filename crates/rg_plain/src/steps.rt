@@ -15,7 +15,7 @@ mod says;
 mod swap;
 pub(crate) mod targets;
 
-ghost use Rattle.std.specs.Prelude.{◌++◌, ◌∷◌, ◌≡◌, ◌≢◌, ◌≤◌, [], List, false, length, true, ℕ};
+ghost use Rattle.std.specs.Prelude.{◌++◌, ◌∷◌, ◌≡◌, ◌≢◌, ◌≤◌, [], List, false, length, true};
 ghost use Rattle.rg_tree.specs.Rows.RowTrees.{kind_over, stmt_at};
 ghost use Rattle.rg_tree.specs.Rows.RowsExist.{IsKindIn};
 ghost use Rattle.rg_tree.specs.Tree.{collect};
