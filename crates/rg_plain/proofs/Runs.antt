@@ -3,3 +3,4 @@ pub mod DispatchLemmas
 pub mod SoundLemmas
 pub mod RunLemmas
 pub mod MachineLemmas
+pub mod CountLemmas

@@ -3,6 +3,7 @@
 //! say that what is kept stands for the states of `rg_rules`, step by step (`Settles`, `RunIs`).
 #![tactic(auto)]
 
+mod counting;
 mod line;
 mod machine;
 mod state;

@@ -14,14 +14,14 @@ ghost use Rattle.rg_plain.specs.Machine.{state_of};
 ghost use Rattle.rg_plain.specs.Outcomes.{LeavesRows};
 ghost use Rattle.rg_plain.specs.Runs.{NoneAsks, RunIs, begun};
 
-use crate::line::put_value;
+use crate::counting::count;
 use crate::state::items::open;
 use crate::state::parts::Parts;
 use crate::state::rows::{FrameRow, TargetRow, WindowRow};
 use crate::steps::whole_step;
 use rg_base::{Ended, Memory, Outcome, Seen, Stop, Val, Vals};
 use rg_input::Numbers;
-use rg_io::{Failed, Sink, Source};
+use rg_io::{Sink, Source};
 use rg_names::{Book, Classes};
 use rg_tree::Program;
 use std::alloc::Global;
@@ -221,7 +221,6 @@ impl PlainMachine {
         requires fits { Fits program.now self.old }
         requires follows { Follows input.old (S.left source.old) }
         requires none { steps.old ≡ 0 }
-
         ensures run { OnInput input.old input.new (S.left source.old) (S.left source.new)
             (λ before after. RunIs program.now (state_of program.now self.old before) n steps.new
             self.new after (O.taken out.old) (O.taken out.new) result) }
@@ -242,22 +241,8 @@ impl PlainMachine {
         ensures sink_never_falls { O.faults out.old ≤ O.faults out.new }
     {
         while *steps < n {
-            match self.step(alloc, program, input, source) {
-                Outcome::Running => *steps += 1,
-                Outcome::Printed(v) => {
-                    *steps += 1;
-                    match put_value(out, v) {
-                        Ok(()) => (),
-                        Err(Failed) => return Ended::OutputFault,
-                    }
-                }
-                Outcome::Done => {
-                    *steps += 1;
-                    return Ended::Done;
-                }
-                Outcome::Trap { kind, line } => return Ended::Trap { kind, line },
-                Outcome::InputFault => return Ended::InputFault,
-                Outcome::Memory => return Ended::Memory,
+            if let Some(ended) = count(self.step(alloc, program, input, source), steps, out) {
+                return ended;
             }
         }
         Ended::Spent

@@ -11,10 +11,11 @@ mod new;
 mod print;
 pub(crate) mod refusal;
 mod return_;
+mod says;
 mod swap;
 pub(crate) mod targets;
 
-ghost use Rattle.std.specs.Prelude.{◌++◌, ◌∷◌, ◌≡◌, ◌≢◌, ◌≤◌, [], List, false, length, true, ℕ};
+ghost use Rattle.std.specs.Prelude.{◌++◌, ◌∷◌, ◌≡◌, ◌≢◌, ◌≤◌, [], List, false, length, true};
 ghost use Rattle.rg_tree.specs.Rows.RowTrees.{kind_over, stmt_at};
 ghost use Rattle.rg_tree.specs.Rows.RowsExist.{IsKindIn};
 ghost use Rattle.rg_tree.specs.Tree.{collect};
@@ -25,7 +26,7 @@ ghost use Rattle.rg_plain.specs.Fits.{PartsFit};
 ghost use Rattle.rg_plain.specs.Inner.Inputs.{SettlesOn, StepOn};
 ghost use Rattle.rg_plain.specs.Inner.Steps.{Makes, Stands};
 ghost use Rattle.rg_plain.specs.Kept.{kept_of, shown};
-ghost use Rattle.rg_plain.specs.Outcomes.{EndsMain, LeavesRows, PrintsOrStays, QuietOrPrints};
+ghost use Rattle.rg_plain.specs.Outcomes.{EndsMain, LeavesRows, QuietOrPrints, prints};
 ghost use Rattle.rg_plain.specs.Outcomes.{settled_outcome};
 
 use crate::state::items::{At, advance, first};
@@ -35,11 +36,13 @@ use crate::steps::assign::right_step;
 use crate::steps::branch::{branch_step, end_step, while_step};
 use crate::steps::call::call_step;
 use crate::steps::enter::{enter_step, leave_step};
+use crate::steps::input::{more_step, read_step};
 use crate::steps::print::print_step;
 use crate::steps::refusal::{Refusal, outcome, printed};
 use crate::steps::return_::{back_step, return_step};
+use crate::steps::says::{Says, said};
 use crate::steps::swap::swap_step;
-use crate::steps::targets::Left;
+use crate::steps::targets::{Assignment, Left};
 use rg_base::Outcome;
 use rg_input::Numbers;
 use rg_io::Source;
@@ -47,55 +50,40 @@ use rg_names::Book;
 use rg_tree::{Span, StmtKind};
 use std::alloc::Global;
 
-/// Does what a statement says.
-fn kind_step<S: Source>(
+/// Does what a statement says that neither reads nor prints.
+fn kind_step(
     alloc: Global,
     book: &Book,
     m: &mut Parts,
     at: At,
     kind: StmtKind,
-    numbers: &mut Numbers,
-    source: &mut S,
-) -> Outcome
+) -> Result<(), Refusal>
     requires stands { Stands book.now.program m.old at (kind_over book.now.program (stmt_at
         book.now.program) kind) }
     requires below { IsKindIn book.now.program (length book.now.program.stmts) kind }
-    requires follows { Follows numbers.old (S.left source.old) }
-
-    ensures step { OnInput numbers.old numbers.new (S.left source.old) (S.left source.new)
-        (StepOn book.now.program (kept_of m.old) (kept_of m.new) result) }
-    ensures reads_nothing { kind_asks (kind_over book.now.program (stmt_at book.now.program) kind) ≡
-        false → (numbers.new ≡ numbers.old) × (source.new ≡ source.old) }
+    requires asks_nothing { kind_asks (kind_over book.now.program (stmt_at book.now.program) kind) ≡
+        false }
+    requires silent { prints (kind_over book.now.program (stmt_at book.now.program) kind) ≡ false }
+    ensures step { Makes book.now.program (kept_of m.old) (kept_of m.new) at.line result }
     ensures fit { PartsFit book.now.program m.new }
-    ensures prints { (e : ℕ) → kind ≡ StmtKind.Print e → PrintsOrStays result }
-
-    ensures follows { Follows numbers.new (S.left source.new) }
-    ensures input_fault { result ≡ Outcome.InputFault →
-        kind_asks (kind_over book.now.program (stmt_at book.now.program) kind) ≡ true }
-    ensures fault { result ≡ Outcome.InputFault → Rose (S.faults source.old) (S.faults source.new) }
-    ensures never_falls { S.faults source.old ≤ S.faults source.new }
 {
     match kind {
         StmtKind::Let { name, ty, right } => {
             let left = Left::Let { name, ty };
-            right_step(alloc, book, m, at, left, right, numbers, source)
+            right_step(alloc, book, m, Assignment { at, left }, right)
         }
         StmtKind::Set { path, right } => {
             let left = Left::Set(path);
-            right_step(alloc, book, m, at, left, right, numbers, source)
+            right_step(alloc, book, m, Assignment { at, left }, right)
         }
-        StmtKind::If { test, yes, no } => {
-            outcome(branch_step(book, m, at, test, yes, no), at.line)
-        }
-        StmtKind::While { test, body } => outcome(while_step(book, m, at, test, body), at.line),
-        StmtKind::Print(e) => printed(print_step(book, m, at, e), at.line),
-        StmtKind::Collect => outcome(collect_step(book, m, at), at.line),
-        StmtKind::Call(row) => outcome(call_step(alloc, book, m, at, row), at.line),
-        StmtKind::Swap { name, path } => outcome(swap_step(book, m, at, name, path), at.line),
-        StmtKind::Enter { path, name, body } => {
-            outcome(enter_step(book, m, at, path, name, body), at.line)
-        }
-        StmtKind::Return(e) => outcome(return_step(book, m, at, e), at.line),
+        StmtKind::If { test, yes, no } => branch_step(book, m, at, test, yes, no),
+        StmtKind::While { test, body } => while_step(book, m, at, test, body),
+        StmtKind::Print(_) => unreachable!(),
+        StmtKind::Collect => collect_step(book, m, at),
+        StmtKind::Call(row) => call_step(alloc, book, m, at, row),
+        StmtKind::Swap { name, path } => swap_step(book, m, at, name, path),
+        StmtKind::Enter { path, name, body } => enter_step(book, m, at, path, name, body),
+        StmtKind::Return(e) => return_step(book, m, at, e),
     }
 }
 
@@ -132,7 +120,12 @@ fn statement_step<S: Source>(
         number,
         line: row.line,
     };
-    kind_step(alloc, book, m, at, row.kind, numbers, source)
+    match said(row.kind) {
+        Says::Reads(left) => read_step(book, m, Assignment { at, left }, numbers, source),
+        Says::Asks(left) => more_step(book, m, Assignment { at, left }, numbers, source),
+        Says::Prints(e) => printed(print_step(book, m, at, e), at.line),
+        Says::Nothing => outcome(kind_step(alloc, book, m, at, row.kind), at.line),
+    }
 }
 
 /// Makes the step of the topmost row.

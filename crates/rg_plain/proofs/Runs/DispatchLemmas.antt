@@ -4,15 +4,14 @@ use Rattle.std.proofs.lemmas.List.Elements.{All-head}
 use Rattle.rg_base.specs.declared.outcome.Outcome.{Outcome}
 use Rattle.rg_base.specs.declared.outcome.Outcome.TheVariants as outcome
 use Rattle.rg_tree.specs.Rows.Tables.{Tables}
-use Rattle.rg_tree.specs.Rows.RowTrees.{classes_of, block_of, stmt_at}
-use Rattle.rg_tree.specs.Tree.{Block, empty as no_more, then as followed_by, StmtKind, stmt}
+use Rattle.rg_tree.specs.Rows.RowTrees.{classes_of, block_of}
+use Rattle.rg_tree.specs.Tree.{Block, empty as no_more, then as followed_by}
 use Rattle.rg_rules.specs.Items.{Item, Do, EndAt, LeaveAt, Back, items_of}
 use Rattle.rg_plain.specs.declared.state.rows.ItemRow.{ItemRow}
 use Rattle.rg_plain.specs.declared.state.rows.ItemRow.TheVariants as row
 use Rattle.rg_plain.specs.Kept.{Kept, items_from, put_row, shown, plain_of, ItemFits, ItemsFit}
 use Rattle.rg_plain.specs.Inner.Inputs.{StepOn, SettlesOn}
 use Rattle.rg_plain.specs.Outcomes.{EndsMain, PrintsOrStays, QuietOrPrints, LeavesRows, item_prints, first_prints, settled_outcome}
-use Rattle.rg_rules.specs.Inputs.{kind_asks, first_asks}
 use Rattle.rg_plain.proofs.Rows.ItemLemmas.{shown-none, put_row-first}
 use Rattle.rg_plain.proofs.BehindLemmas.{MadeOf, settles, ends_main}
 
@@ -107,11 +106,6 @@ leaves_rows t old new before after outcome.Done fit h = rows-none t new.items fi
 leaves_rows t old new before after (outcome.Trap kind line) fit h = tt
 leaves_rows t old new before after outcome.InputFault fit h = tt
 leaves_rows t old new before after outcome.Memory fit h = tt
-
--- whether the first thing to do asks for the input, where it is a statement
-pub asks-first : (t : Tables) (rows : List ItemRow) (number line : ℕ) (k : StmtKind) (rest : List Item) →
-    shown t rows ≡ Do (stmt_at t number) ∷ rest → stmt_at t number ≡ stmt line k → first_asks (shown t rows) ≡ kind_asks k
-asks-first t rows number line k rest top tree = ap first_asks (top ∙ ap (λ s. Do s ∷ rest) tree)
 
 -- a fault of the input stays one
 pub settled-fault : (r : Outcome) (is_last : Bool) → settled_outcome r is_last ≡ outcome.InputFault → r ≡ outcome.InputFault

@@ -41,7 +41,6 @@ pub(crate) fn advance(book: &Book, items: &mut Vec<ItemRow>, span: Span, number:
     ensures room { vec_capacity items.new ≡ vec_capacity items.old }
     ensures shorter { length items.new.items ≤ length items.old.items }
 {
-    let _ = book;
     let _ = items.pop();
     let from = span.from + 1;
     if from < span.to {
@@ -58,7 +57,6 @@ pub(crate) fn put_block(book: &Book, items: &mut Vec<ItemRow>, body: Span)
         ≡ put_row book.now.program (ItemRow.Rest body) (shown book.now.program items.old.items) }
     ensures fit { ItemsFit book.now.program items.new.items }
 {
-    let _ = book;
     if body.from < body.to {
         items.push_reserved(ItemRow::Rest(body));
     }
@@ -85,8 +83,6 @@ pub(crate) fn pop_row(book: &Book, items: &mut Vec<ItemRow>, row: ItemRow)
         ≡ put_row book.now.program row (shown book.now.program items.new.items) }
     ensures fit { ItemsFit book.now.program items.new.items }
 {
-    let _ = book;
-    let _ = row;
     let _ = items.pop();
 }
 

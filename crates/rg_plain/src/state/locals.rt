@@ -111,6 +111,5 @@ pub(crate) fn keep(book: &Book, locals: &mut Vec<LocalRow>, kept: usize)
         ≡ take kept (locals_of book.now.program locals.old.items) }
     ensures named { AreNamed book.now.program locals.new.items }
 {
-    let _ = book;
     locals.truncate(kept);
 }

@@ -20,12 +20,12 @@ ghost use Rattle.rg_plain.specs.Shown.{AreNamed, locals_of};
 use crate::state::items::{At, advance, open_body};
 use crate::state::parts::Parts;
 use crate::state::rows::{FrameRow, LocalRow, TargetRow};
-use crate::steps::frames::new_frame;
+use crate::steps::frames::{Callee, new_frame};
 use crate::steps::refusal::Refusal;
-use crate::steps::targets::{Aim, Left, aim_of};
+use crate::steps::targets::{Aim, Assignment, aim_of};
 use crate::values::arguments::{arguments, use_up_all};
 use crate::values::methods::{MethodRow, method_of};
-use crate::values::paths::{Receiver, find_receiver};
+use crate::values::paths::find_receiver;
 use rg_base::{FRAMES, Trap};
 use rg_names::Book;
 use rg_tree::{CallRow, Span};
@@ -79,18 +79,16 @@ fn call_method(
     book: &Book,
     m: &mut Parts,
     at: At,
-    to: TargetRow,
     call: CallRow,
-    found: Receiver,
-    method: MethodRow,
+    callee: Callee,
 ) -> Result<(), Refusal>
     requires fit { PartsFit book.now.program m.old }
     requires at { IsAt book.now.program m.old.items.items at.span at.number }
     requires call { IsCallIn book.now.program call }
-    requires to { TargetFits book.now.program to }
-    requires method { MethodFits book.now.program method }
-    ensures called { CalledIs book.now.program (kept_of m.old) (kept_of m.new) at.number at.line to
-        call found method result }
+    requires to { TargetFits book.now.program callee.to }
+    requires method { MethodFits book.now.program callee.method }
+    ensures called { CalledIs book.now.program (kept_of m.old) (kept_of m.new) at.number at.line
+        callee.to call callee.found callee.method result }
     ensures fit { PartsFit book.now.program m.new }
 {
     let order = book.order(call.args);
@@ -98,10 +96,10 @@ fn call_method(
     if is_deep(m) {
         return Err(Refusal::Trap(Trap::Depth));
     }
-    let frame = new_frame(alloc, book, to, method, found, &args)?;
+    let frame = new_frame(alloc, book, callee, &args)?;
     m.below.reserve(1)?;
     m.items.reserve(2)?;
-    enter_method(book, m, at, call.args, method, frame);
+    enter_method(book, m, at, call.args, callee.method, frame);
     Ok(())
 }
 
@@ -124,7 +122,10 @@ pub(crate) fn call_named(
 {
     let found = find_receiver(book, &m.store, &m.frame.locals, call.path)?;
     match method_of(book, found.class, call.method) {
-        Some(method) => call_method(alloc, book, m, at, to, call, found, method),
+        Some(method) => {
+            let callee = Callee { to, found, method };
+            call_method(alloc, book, m, at, call, callee)
+        }
         None => {
             advance(book, &mut m.items, at.span, at.number);
             Ok(())
@@ -165,17 +166,16 @@ pub(crate) fn result_step(
     alloc: Global,
     book: &Book,
     m: &mut Parts,
-    at: At,
-    left: Left,
+    to: Assignment,
     row: CallRow,
 ) -> Result<(), Refusal>
-    requires stands { Stands book.now.program m.old at (statement_of book.now.program left
+    requires stands { Stands book.now.program m.old to.at (statement_of book.now.program to.left
         (result_of (call_of book.now.program row))) }
-    requires left { LeftFits book.now.program left }
+    requires left { LeftFits book.now.program to.left }
     requires row { IsCallIn book.now.program row }
-    ensures step { Makes book.now.program (kept_of m.old) (kept_of m.new) at.line result }
+    ensures step { Makes book.now.program (kept_of m.old) (kept_of m.new) to.at.line result }
     ensures fit { PartsFit book.now.program m.new }
 {
-    let aim = aim_of(book, m, left)?;
-    call_named(alloc, book, m, at, sent_to(aim), row)
+    let aim = aim_of(book, m, to.left)?;
+    call_named(alloc, book, m, to.at, sent_to(aim), row)
 }

@@ -46,34 +46,43 @@ fn bind(book: &Book, locals: &mut Vec<LocalRow>, params: &[u32], values: &[Val])
     }
 }
 
+/// A call whose method was found: where its result goes, `self`, and the method.
+#[derive(Clone, Copy)]
+pub(crate) struct Callee {
+    pub(crate) to: TargetRow,
+    pub(crate) found: Receiver,
+    pub(crate) method: MethodRow,
+}
+
 /// A frame with `self` and the parameters.
 pub(crate) fn new_frame(
     alloc: Global,
     book: &Book,
-    target: TargetRow,
-    method: MethodRow,
-    found: Receiver,
+    callee: Callee,
     args: &[Val],
 ) -> Result<FrameRow, Memory>
-    requires method { MethodFits book.now.program method }
+    requires method { MethodFits book.now.program callee.method }
     ensures frame { IfOk result (λ f. frame_of book.now.program (kept_frame f)
-        ≡ called_frame (classes_of book.now.program) (target_of book.now.program target)
-        (method_of book.now.program method) found.class found.value args.now) }
+        ≡ called_frame (classes_of book.now.program) (target_of book.now.program callee.to)
+        (method_of book.now.program callee.method) callee.found.class callee.found.value args.now) }
     ensures named { IfOk result (λ f. AreNamed book.now.program f.locals.items) }
-    ensures target { IfOk result (λ f. f.target ≡ target) }
+    ensures target { IfOk result (λ f. f.target ≡ callee.to) }
 {
-    let params = book.order(method.params);
+    let params = book.order(callee.method.params);
     let Ok(mut locals) = Vec::with_capacity(alloc, params.len() + 1) else {
         return Err(Memory);
     };
     locals.push_reserved(LocalRow {
         name: None,
         ty: Ty::Ref {
-            cap: method.cap,
-            class: found.class,
+            cap: callee.method.cap,
+            class: callee.found.class,
         },
-        value: found.value,
+        value: callee.found.value,
     });
     bind(book, &mut locals, params, args);
-    Ok(FrameRow { locals, target })
+    Ok(FrameRow {
+        locals,
+        target: callee.to,
+    })
 }

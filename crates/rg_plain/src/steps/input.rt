@@ -10,9 +10,9 @@ ghost use Rattle.rg_plain.specs.Inner.Spots.{LeftFits, statement_of};
 ghost use Rattle.rg_plain.specs.Inner.Steps.{Stands};
 ghost use Rattle.rg_plain.specs.Kept.{kept_of};
 
-use crate::state::items::{At, advance};
+use crate::state::items::advance;
 use crate::state::parts::Parts;
-use crate::steps::targets::{Left, aim_of, make_room, put};
+use crate::steps::targets::{Assignment, aim_of, make_room, put};
 use rg_base::{Outcome, Trap, Val};
 use rg_input::{InputFault, NumberRefusal, Numbers};
 use rg_io::Source;
@@ -39,13 +39,13 @@ fn refused(refusal: NumberRefusal, line: u64) -> Outcome
 pub(crate) fn read_step<S: Source>(
     book: &Book,
     m: &mut Parts,
-    at: At,
-    left: Left,
+    to: Assignment,
     numbers: &mut Numbers,
     source: &mut S,
 ) -> Outcome
-    requires stands { Stands book.now.program m.old at (statement_of book.now.program left read) }
-    requires left { LeftFits book.now.program left }
+    requires stands { Stands book.now.program m.old to.at (statement_of book.now.program to.left
+        read) }
+    requires left { LeftFits book.now.program to.left }
     requires follows { Follows numbers.old (S.left source.old) }
 
     ensures step { OnInput numbers.old numbers.new (S.left source.old) (S.left source.new)
@@ -56,11 +56,11 @@ pub(crate) fn read_step<S: Source>(
     ensures fault { result ≡ Outcome.InputFault → Rose (S.faults source.old) (S.faults source.new) }
     ensures never_falls { S.faults source.old ≤ S.faults source.new }
 {
-    let aim = match aim_of(book, m, left) {
+    let aim = match aim_of(book, m, to.left) {
         Ok(aim) => aim,
         Err(kind) => return Outcome::Trap {
             kind,
-            line: at.line,
+            line: to.at.line,
         },
     };
     let Ok(()) = make_room(book, m, aim) else {
@@ -68,9 +68,9 @@ pub(crate) fn read_step<S: Source>(
     };
     let z = match numbers.next(source) {
         Ok(z) => z,
-        Err(refusal) => return refused(refusal, at.line),
+        Err(refusal) => return refused(refusal, to.at.line),
     };
-    advance(book, &mut m.items, at.span, at.number);
+    advance(book, &mut m.items, to.at.span, to.at.number);
     put(book, m, aim, Val::Int(z));
     Outcome::Running
 }
@@ -79,13 +79,13 @@ pub(crate) fn read_step<S: Source>(
 pub(crate) fn more_step<S: Source>(
     book: &Book,
     m: &mut Parts,
-    at: At,
-    left: Left,
+    to: Assignment,
     numbers: &mut Numbers,
     source: &mut S,
 ) -> Outcome
-    requires stands { Stands book.now.program m.old at (statement_of book.now.program left more) }
-    requires left { LeftFits book.now.program left }
+    requires stands { Stands book.now.program m.old to.at (statement_of book.now.program to.left
+        more) }
+    requires left { LeftFits book.now.program to.left }
     requires follows { Follows numbers.old (S.left source.old) }
 
     ensures step { OnInput numbers.old numbers.new (S.left source.old) (S.left source.new)
@@ -96,11 +96,11 @@ pub(crate) fn more_step<S: Source>(
     ensures fault { result ≡ Outcome.InputFault → Rose (S.faults source.old) (S.faults source.new) }
     ensures never_falls { S.faults source.old ≤ S.faults source.new }
 {
-    let aim = match aim_of(book, m, left) {
+    let aim = match aim_of(book, m, to.left) {
         Ok(aim) => aim,
         Err(kind) => return Outcome::Trap {
             kind,
-            line: at.line,
+            line: to.at.line,
         },
     };
     let Ok(()) = make_room(book, m, aim) else {
@@ -110,7 +110,7 @@ pub(crate) fn more_step<S: Source>(
         Ok(b) => b,
         Err(InputFault) => return Outcome::InputFault,
     };
-    advance(book, &mut m.items, at.span, at.number);
+    advance(book, &mut m.items, to.at.span, to.at.number);
     put(book, m, aim, Val::Bool(b));
     Outcome::Running
 }

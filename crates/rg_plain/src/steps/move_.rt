@@ -14,11 +14,11 @@ ghost use Rattle.rg_plain.specs.Inner.Spots.{AimFits, LeftFits, statement_of};
 ghost use Rattle.rg_plain.specs.Inner.Steps.{Makes, Stands};
 ghost use Rattle.rg_plain.specs.Kept.{kept_of, plain_of};
 
-use crate::state::items::{At, advance};
+use crate::state::items::advance;
 use crate::state::locals::{set, variable};
 use crate::state::parts::Parts;
 use crate::steps::refusal::Refusal;
-use crate::steps::targets::{Aim, Left, aim_of, make_room, put};
+use crate::steps::targets::{Aim, Assignment, aim_of, make_room, put};
 use rg_base::{Label, Memory, Trap, Val};
 use rg_names::Book;
 use rg_store::{Regions, beneath, object_place, region_at, relabel};
@@ -99,31 +99,30 @@ fn new_label(m: &Parts, how: Move) -> Label
     }
 }
 
-/// Gives the objects of regions another label, and takes a value out of its variable to where it
-/// goes.
-fn carry(
-    book: &Book,
-    m: &mut Parts,
-    regions: &Regions,
-    label: Label,
-    aim: Aim,
+/// A value, and the variable out of which it is taken.
+#[derive(Clone, Copy)]
+struct Taken {
     name: u32,
     value: Val,
-)
+}
+
+/// Gives the objects of regions another label, and takes a value out of its variable to where it
+/// goes.
+fn carry(book: &Book, m: &mut Parts, regions: &Regions, label: Label, taken: Taken, aim: Aim)
     requires fit { PartsFit book.now.program m.old }
     requires regions { (these : List ℕ) × AreRegions regions.now these }
     requires label { LabelFits (length m.old.managers.items) label }
     requires aim { AimFits book.now.program (length m.old.store.items) aim }
     requires room { HasRoom m.old aim }
-    requires name { IsNameIn book.now.program name }
+    requires name { IsNameIn book.now.program taken.name }
     ensures carried { (input : List ℕ) (these : List ℕ) → AreRegions regions.now these → plain_of
-        book.now.program (kept_of m.new) input ≡ carried book.now.program aim name (plain_of
-        book.now.program (kept_of m.old) input) these label value }
+        book.now.program (kept_of m.new) input ≡ carried book.now.program aim taken.name (plain_of
+        book.now.program (kept_of m.old) input) these label taken.value }
     ensures fit { PartsFit book.now.program m.new }
 {
     relabel(&mut m.store, regions, label);
-    set(book, &mut m.frame.locals, Some(name), Val::Nil);
-    put(book, m, aim, value);
+    set(book, &mut m.frame.locals, Some(taken.name), Val::Nil);
+    put(book, m, aim, taken.value);
 }
 
 /// Moves the region of an object out of a variable. Where it lies in none, nothing changes.
@@ -131,28 +130,31 @@ pub(crate) fn move_step(
     alloc: Global,
     book: &Book,
     m: &mut Parts,
-    at: At,
-    left: Left,
+    to: Assignment,
     name: u32,
     how: Move,
 ) -> Result<(), Refusal>
-    requires stands { Stands book.now.program m.old at (statement_of book.now.program left (right_of
+    requires stands { Stands book.now.program m.old to.at (statement_of book.now.program to.left (right_of
         book.now.program name how)) }
-    requires left { LeftFits book.now.program left }
+    requires left { LeftFits book.now.program to.left }
     requires name { IsNameIn book.now.program name }
-    ensures step { Makes book.now.program (kept_of m.old) (kept_of m.new) at.line result }
+    ensures step { Makes book.now.program (kept_of m.old) (kept_of m.new) to.at.line result }
     ensures fit { PartsFit book.now.program m.new }
 {
-    let aim = aim_of(book, m, left)?;
+    let aim = aim_of(book, m, to.left)?;
     let held = value_held(book, m, name)?;
     let Some(region) = held.region else {
-        advance(book, &mut m.items, at.span, at.number);
+        advance(book, &mut m.items, to.at.span, to.at.number);
         return Ok(());
     };
     make_room(book, m, aim)?;
     let regions = regions_with(alloc, book, m, how, region)?;
     let label = new_label(m, how);
-    advance(book, &mut m.items, at.span, at.number);
-    carry(book, m, &regions, label, aim, name, held.value);
+    advance(book, &mut m.items, to.at.span, to.at.number);
+    let taken = Taken {
+        name,
+        value: held.value,
+    };
+    carry(book, m, &regions, label, taken, aim);
     Ok(())
 }

@@ -13,10 +13,10 @@ ghost use Rattle.rg_plain.specs.Inner.Spots.{AimFits, LeftFits, statement_of};
 ghost use Rattle.rg_plain.specs.Inner.Steps.{Makes, Stands};
 ghost use Rattle.rg_plain.specs.Kept.{kept_of, plain_of};
 
-use crate::state::items::{At, advance};
+use crate::state::items::advance;
 use crate::state::parts::Parts;
 use crate::steps::refusal::Refusal;
-use crate::steps::targets::{Aim, Left, aim_of, make_room, put};
+use crate::steps::targets::{Aim, Assignment, aim_of, make_room, put};
 use rg_base::{Label, Manager, Memory, Val};
 use rg_names::Book;
 use rg_store::{ObjectRow, new_object};
@@ -98,26 +98,25 @@ pub(crate) fn new_step(
     alloc: Global,
     book: &Book,
     m: &mut Parts,
-    at: At,
-    left: Left,
+    to: Assignment,
     name: u32,
     kind: Kind,
 ) -> Result<(), Refusal>
-    requires stands { Stands book.now.program m.old at (statement_of book.now.program left (right_of
+    requires stands { Stands book.now.program m.old to.at (statement_of book.now.program to.left (right_of
         book.now.program name kind)) }
-    requires left { LeftFits book.now.program left }
+    requires left { LeftFits book.now.program to.left }
     requires name { IsNameIn book.now.program name }
-    ensures step { Makes book.now.program (kept_of m.old) (kept_of m.new) at.line result }
+    ensures step { Makes book.now.program (kept_of m.old) (kept_of m.new) to.at.line result }
     ensures fit { PartsFit book.now.program m.new }
 {
-    let aim = aim_of(book, m, left)?;
+    let aim = aim_of(book, m, to.left)?;
     let Some(class) = book.class_of(name) else {
-        advance(book, &mut m.items, at.span, at.number);
+        advance(book, &mut m.items, to.at.span, to.at.number);
         return Ok(());
     };
     let object = new_object(alloc, book, class, label(m, kind))?;
     make_rooms(book, m, aim)?;
-    advance(book, &mut m.items, at.span, at.number);
+    advance(book, &mut m.items, to.at.span, to.at.number);
     make(book, m, aim, object, kind);
     Ok(())
 }

@@ -6,6 +6,7 @@ ghost use Rattle.rg_plain.specs.Inner.Rooms.{HasRoom};
 ghost use Rattle.rg_plain.specs.Inner.Spots.{AimFits, AimIs, LeftFits, use_of};
 ghost use Rattle.rg_plain.specs.Kept.{kept_of, plain_of};
 
+use crate::state::items::At;
 use crate::state::locals::set;
 use crate::state::parts::Parts;
 use crate::state::rows::LocalRow;
@@ -23,6 +24,13 @@ pub enum Left {
     Let { name: u32, ty: TypeRow },
     /// `x` or `q.f`
     Set(Path),
+}
+
+/// A statement without its right side: where it stands, and what stands left of `=`.
+#[derive(Clone, Copy)]
+pub(crate) struct Assignment {
+    pub(crate) at: At,
+    pub(crate) left: Left,
 }
 
 /// Where a value goes.
@@ -62,7 +70,6 @@ pub(crate) fn make_room(book: &Book, m: &mut Parts, aim: Aim) -> Result<(), Memo
     ensures kept { kept_of m.new ≡ kept_of m.old }
     ensures fit { PartsFit book.now.program m.new }
 {
-    let _ = book;
     match aim {
         Aim::Declares { .. } => {
             let Ok(()) = m.frame.locals.reserve(1) else {

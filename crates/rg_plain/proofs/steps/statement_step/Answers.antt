@@ -1,26 +1,22 @@
-use Rattle.std.proofs.Common.{◌≡◌, ap, sym, ◌∙◌, rules}
-use Rattle.rg_tree.specs.Rows.RowTrees.{stmt_at, kind_over}
-use Rattle.rg_plain.specs.Kept.{shown}
-use Rattle.rg_rules.specs.Inputs.{first_asks}
-use Rattle.rg_plain.proofs.Runs.DispatchLemmas.{asks-first}
+use Rattle.rg_plain.specs.Kept.{kept_of}
+use Rattle.rg_plain.proofs.Statements.InputLemmas.{does, prints}
 use Rattle.rg_plain.proofs.steps.statement_step.Goals as goal
 
-pub returns-clause-reads_nothing : goal.returns-clause-reads_nothing
-returns-clause-reads_nothing g c quiet =
-    let t = c.args.book.now.program in
-    let at = c.first-number.ensures.at in
-    let row = c.stmt-row.result in
-    let same : c.deref.result.now ≡ c.args.m.now.items.items = search rules in
-    c.kind_step.ensures.reads_nothing
-    (sym (asks-first t c.deref.result.now c.first-number.result row.line (kind_over t (stmt_at t) row.kind) at.rest at.items c.stmt-row.ensures.tree)
-    ∙ ap (λ rows. first_asks (shown t rows)) same ∙ quiet)
+pub read_step-requires-clause-left : goal.read_step-requires-clause-left
+read_step-requires-clause-left g c = c.in-Reads.ensures.fits c.args.book.now.program c.first-number.result c.stmt-row.ensures.below
 
-pub returns-clause-input_fault : goal.returns-clause-input_fault
-returns-clause-input_fault g c fault =
-    let t = c.args.book.now.program in
-    let at = c.first-number.ensures.at in
-    let row = c.stmt-row.result in
-    let same : c.deref.result.now ≡ c.args.m.now.items.items = search rules in
-    ap (λ rows. first_asks (shown t rows)) (sym same)
-    ∙ asks-first t c.deref.result.now c.first-number.result row.line (kind_over t (stmt_at t) row.kind) at.rest at.items c.stmt-row.ensures.tree
-    ∙ c.kind_step.ensures.input_fault fault
+pub more_step-requires-clause-left : goal.more_step-requires-clause-left
+more_step-requires-clause-left g c = c.in-Asks.ensures.fits c.args.book.now.program c.first-number.result c.stmt-row.ensures.below
+
+pub print_step-requires-clause-there : goal.print_step-requires-clause-there
+print_step-requires-clause-there g c = c.in-Prints.ensures.fits c.args.book.now.program c.first-number.result c.stmt-row.ensures.below
+
+pub returns-in-Prints-clause-step : goal.returns-in-Prints-clause-step
+returns-in-Prints-clause-step g c =
+    prints c.args.book.now.program (kept_of c.args.m.now) (kept_of c.print_step.new.m) c.stmt-row.result.line c.print_step.result c.printed.result _ _
+    c.printed.ensures.is c.print_step.ensures.step
+
+pub returns-in-Nothing-clause-step : goal.returns-in-Nothing-clause-step
+returns-in-Nothing-clause-step g c =
+    does c.args.book.now.program (kept_of c.args.m.now) (kept_of c.kind_step.new.m) c.stmt-row.result.line c.kind_step.result c.outcome.result _ _
+    c.outcome.ensures.is c.kind_step.ensures.step

@@ -43,11 +43,11 @@ pub returns-clause-carried : goal.returns-clause-carried
 returns-clause-carried c input these are =
     let t = c.args.book.now.program in
     let m = c.args.m.now in
-    let y = Some (name_at t c.args.name) in
+    let y = Some (name_at t c.args.taken.name) in
     let store = with_items_is m.store c.relabel.new.store (c.relabel.auto.store ∙ c.deref_mut.ensures.len) in
     let locals = with_items_is m.frame.locals c.set.new.locals (c.set.auto.locals ∙ c.deref_mut-2.ensures.len) in
     c.put.ensures.put input
-    ∙ ap (λ s. use_of t c.args.aim s c.args.value)
+    ∙ ap (λ s. use_of t c.args.aim s c.args.taken.value)
     (set-nil t (kept_of m) input y _ (relabelled these c.args.label (store_of m.store.items)) _
     (ap store_of store ∙ c.relabel.ensures.relabelled these are ∙ ap (λ q. relabelled these c.args.label (store_of q)) c.deref_mut.ensures.value)
     (ap (locals_of t) locals ∙ c.set.ensures.set ∙ ap (λ q. set_in y Nil (locals_of t q)) c.deref_mut-2.ensures.value))

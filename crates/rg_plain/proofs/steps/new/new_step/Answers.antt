@@ -34,7 +34,7 @@ returns-clause-step c input =
     let new : Kept → Seen → State =
     λ q o. use_with t c.in_ok-aim.aim c.args.kind (with_object (plain_of t (record q { items = items }) input) o) (Obj (length q.store)) in
     let label_is = c.label.ensures t input in
-    made-step t k input c.args.at.number c.args.at.line c.args.left c.args.name c.in-Some.class c.args.kind c.in_ok-aim.aim items _
+    made-step t k input c.args.to.at.number c.args.to.at.line c.args.to.left c.args.name c.in-Some.class c.args.kind c.in_ok-aim.aim items _
     c.in_ok-aim.ensures (sym (ap (λ (q : Kept). shown t q.items) kept) ∙ c.advance-2.ensures.rest) c.requires.stands.tree
     c.in-Some.ensures.is
     (c.make.ensures.made input ∙ ap (λ q. new q (seen_of c.in_ok-object.object)) kept
