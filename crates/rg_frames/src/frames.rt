@@ -202,7 +202,9 @@ impl Frames {
     /// Where the return of the top frame goes to; None where there is no frame.
     #[inline]
     pub fn back(&self) -> Option<usize>
-        ensures { IfSome result (λ back. (f : FrameOf) × IsTopFrame self.now f × (f.back ≡ back)) }
+        ensures some { IfSome result (λ back. (f : FrameOf)
+            × IsTopFrame self.now f × (f.back ≡ back)) }
+        ensures none { IsNone result ↔ (length self.now.frames ≡ 0) }
     {
         match self.frames.last() {
             Some(frame) => Some(frame.back),
