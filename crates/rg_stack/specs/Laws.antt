@@ -13,6 +13,7 @@ use Rattle.rg_code.specs.Lowering.{Lowers}
 use Rattle.rg_stack.specs.Machine.{Machine}
 use Rattle.rg_stack.specs.Effects.{Work}
 use Rattle.rg_stack.specs.Runs.{step, opening, coded}
+use Rattle.rg_stack.specs.Given.{given_step}
 use Rattle.rg_stack.specs.Shows.{Shows}
 use Rattle.rg_stack.specs.Reads.{reads}
 use Rattle.rg_stack.specs.Refusals.{Orderly}
@@ -42,3 +43,8 @@ StepsOrderly = (t : Tree) (code : Code) (m : Machine) (p : State) → Accepted t
 abbrev pub StepsAsk : Type 0
 StepsAsk = (t : Tree) (code : Code) (m : Machine) (p : State) → Fit t p → Shows t.classes code m p → SomeLeft p.items →
     reads (drop (m.at + 1) code.ops) ≡ first_asks p.items
+
+-- where a step begins, no instruction of it lacks what it needs
+abbrev pub StepsGiven : Type 0
+StepsGiven = (t : Tree) (code : Code) (w : Work) (p : State) → Accepted t → Lowers t code → Fit t p → Holds t.classes code w p →
+    w.printed ≡ None → SomeLeft p.items → given_step code w ≡ step code w
