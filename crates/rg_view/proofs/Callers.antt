@@ -1,2 +1,4 @@
 -- What callers cite.
 pub mod LookLemmas
+pub mod ShownLemmas
+pub mod MakeLemmas
