@@ -2,3 +2,10 @@
 pub mod LookLemmas
 pub mod ShownLemmas
 pub mod MakeLemmas
+pub mod WriteLemmas
+pub mod BecomeLemmas
+pub mod ReleaseLemmas
+pub mod ManagerLemmas
+pub mod FrameLemmas
+pub mod WindowLemmas
+pub mod LabelLemmas

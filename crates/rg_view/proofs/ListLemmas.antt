@@ -1,5 +1,5 @@
 -- Lists by what stands at each place, and lists made from numbers.
-use Rattle.std.proofs.Common.{◌≡◌, ◌≢◌, ◌≤◌, ◌<◌, ◌==◌, ℕ, zero, suc, ◌+◌, Bool, true, false, List, [], ◌∷◌, ◌++◌, map, length, Option, Some, None, option_map}
+use Rattle.std.proofs.Common.{◌≡◌, ◌≢◌, ◌≤◌, ◌<◌, ◌==◌, ℕ, zero, suc, ◌+◌, Bool, true, false, List, [], ◌∷◌, ◌++◌, map, length, Option, Some, None, option_map, ◌⊎◌, inl, inr}
 use Rattle.std.proofs.Common.{slice_get, refl, sym, ap, ◌∙◌, arith}
 use Rattle.std.specs.List.{range_with_len}
 use Rattle.std.proofs.lemmas.Option.{same_Some, slice_get-map}
@@ -58,3 +58,10 @@ eq-is a b h = grind (arith, h)
 
 pub eq-not : (a b : ℕ) → a ≢ b → (a == b) ≡ false
 eq-not a b h = grind (arith, h)
+
+-- one number is below another, or not
+pub order : (a c : ℕ) → (a < c) ⊎ (c ≤ a)
+order zero zero = inr (omega arith)
+order zero (suc c) = inl (omega arith)
+order (suc a) zero = inr (omega arith)
+order (suc a) (suc c) = elim (order a c) [ inl lt ↦ inl (omega (arith, lt)) | inr le ↦ inr (omega (arith, le)) ]

@@ -1,1 +1,4 @@
 pub mod View
+pub mod Bury
+pub mod Numbers
+pub mod Lain
