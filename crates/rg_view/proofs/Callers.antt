@@ -9,3 +9,4 @@ pub mod ManagerLemmas
 pub mod FrameLemmas
 pub mod WindowLemmas
 pub mod LabelLemmas
+pub mod LinkLemmas

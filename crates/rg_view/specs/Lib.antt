@@ -2,3 +2,4 @@ pub mod View
 pub mod Bury
 pub mod Numbers
 pub mod Lain
+pub mod Links
