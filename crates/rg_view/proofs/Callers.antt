@@ -10,3 +10,4 @@ pub mod FrameLemmas
 pub mod WindowLemmas
 pub mod LabelLemmas
 pub mod LinkLemmas
+pub mod OpenLemmas
