@@ -11,3 +11,4 @@ pub mod WindowLemmas
 pub mod LabelLemmas
 pub mod LinkLemmas
 pub mod OpenLemmas
+pub mod NeedLemmas
