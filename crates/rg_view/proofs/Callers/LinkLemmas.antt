@@ -19,7 +19,7 @@ use Rattle.rg_regions.specs.Grove.{Parent, Above, direct, further, Below}
 use Rattle.rg_heap.specs.Answers.{val_of, obj_of}
 use Rattle.rg_view.specs.View.{gone, object_of, seen_of, store_of}
 use Rattle.rg_view.specs.Bury.{Names}
-use Rattle.rg_view.specs.Links.{Link, Reached, first, next, Spans}
+use Rattle.rg_view.specs.Links.{Link, Reached, first, next, Spans, BelowSome}
 use Rattle.rg_view.proofs.Callers.LookLemmas.{Here, Missing, look, store-at, store-held, store-length, val-held}
 use Rattle.rg_view.proofs.Callers.ShownLemmas.{field-in}
 
@@ -151,18 +151,19 @@ parent-link h p r q a = by (body_at h a.from) refl (body_at h a.to) refl
       leads = region-there h a.to r c q f a.child_has;
     }
 
-module _ (h : Heap) (t : RegionTable) (top : ℕ) (regions : List ℕ) (q : Serials h) (labels : (r s : ℕ) → LiesIn h r s → InTable t r)
-    (spans : Spans (store_of h) top regions) where
-  reached-below : {r : ℕ} → Reached (store_of h) top r → Below h t top r
-  reached-below first = inl refl
+module _ (h : Heap) (t : RegionTable) (tops regions : List ℕ) (q : Serials h) (labels : (r s : ℕ) → LiesIn h r s → InTable t r)
+    (spans : Spans (store_of h) tops regions) where
+  reached-below : {r : ℕ} → Reached (store_of h) tops r → BelowSome h t tops r
+  reached-below (first {r = r} i) = (r, i, inl refl)
   reached-below (next {p = p} {r = r} before l) = elim (cases_eq p r) [
-    | inl same ↦ subst (Below h t top) same (reached-below before)
+    | inl same ↦ subst (BelowSome h t tops) same (reached-below before)
     | inr d ↦
         let a = link-parent h p r q d l in
         let known : InTable t r = labels r a.to a.child_has in
-        elim (reached-below before) [
-          | inl is ↦ inr (known, subst (λ x. Above h x r) is (direct a))
-          | inr x ↦ inr (known, further x.1 a)
+        let b = reached-below before in
+        elim b.2 [
+          | inl is ↦ (b.0, b.1, inr (known, subst (λ x. Above h x r) is (direct a)))
+          | inr x ↦ (b.0, b.1, inr (known, further x.1 a))
         ]
   ]
 
@@ -170,12 +171,12 @@ module _ (h : Heap) (t : RegionTable) (top : ℕ) (regions : List ℕ) (q : Seri
   above-among (direct {p = p} {r = r} a) i = spans.along p r i (parent-link h p r q a)
   above-among (further {p = p} {q = m} {r = r} x a) i = spans.along m r (above-among x i) (parent-link h m r q a)
 
-  -- a list that names what links reach names the region and all beneath it
-  pub spans-below : Names regions (Below h t top)
+  -- a list that names what links reach names these regions and all beneath them
+  pub spans-below : Names regions (BelowSome h t tops)
   spans-below = record {
-    all = λ r b. elim b [
-      | inl is ↦ ap (among regions) is ∙ spans.start
-      | inr x ↦ above-among x.1 spans.start
+    all = λ r b. elim b.2 [
+      | inl is ↦ ap (among regions) is ∙ spans.start b.0 b.1
+      | inr x ↦ above-among x.1 (spans.start b.0 b.1)
     ];
     only = λ r i. reached-below (spans.only r i);
   }
