@@ -12,3 +12,5 @@ pub mod LabelLemmas
 pub mod LinkLemmas
 pub mod OpenLemmas
 pub mod NeedLemmas
+pub mod TableLemmas
+pub mod GoneLemmas
