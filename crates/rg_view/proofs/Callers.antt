@@ -14,3 +14,6 @@ pub mod OpenLemmas
 pub mod NeedLemmas
 pub mod TableLemmas
 pub mod GoneLemmas
+pub mod LeaveLemmas
+pub mod ReadLemmas
+pub mod CallLemmas
