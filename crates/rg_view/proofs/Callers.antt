@@ -17,3 +17,5 @@ pub mod GoneLemmas
 pub mod LeaveLemmas
 pub mod ReadLemmas
 pub mod CallLemmas
+pub mod TempLemmas
+pub mod KeyLemmas

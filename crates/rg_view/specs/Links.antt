@@ -3,6 +3,9 @@ use Rattle.std.specs.Prelude.{◌≡◌, ℕ, true, List, Some, slice_get}
 use Rattle.rg_base.specs.declared.object.Label.TheVariants.{Region}
 use Rattle.rg_base.specs.declared.object.Seen.{Seen}
 use Rattle.rg_base.specs.declared.value.Val.TheVariants.{Obj}
+use Rattle.rg_base.specs.declared.value.Val.{Val}
+use Rattle.rg_stack.specs.Machine.{Machine}
+use Rattle.rg_stack.specs.Needs.{is_top_temp, closed_into}
 use Rattle.rg_rules.specs.Regions.{region_at, among}
 use Rattle.rg_cells.specs.Table.{Heap}
 use Rattle.rg_regions.specs.Table.{RegionTable}
@@ -33,3 +36,14 @@ pub record Spans (store : List Seen) (tops regions : List ℕ) : Type 0 where
 -- a region is one of these, or beneath one
 abbrev pub BelowSome : Heap → RegionTable → (tops : List ℕ) → (region : ℕ) → Type 0
 BelowSome h t tops r = (top : ℕ) × (among tops top ≡ true) × Below h t top r
+
+-- a closed region into which a field of one of the topmost window's temporaries leads
+pub record ByTemp (m : Machine) (region : ℕ) : Type 0 where
+  pub object : ℕ
+  pub holder : Seen
+  pub there : slice_get m.store object ≡ Some holder
+  pub temp : is_top_temp m holder.label ≡ true
+  pub field : ℕ
+  pub value : Val
+  pub stands : slice_get holder.fields field ≡ Some value
+  pub leads : closed_into m value ≡ Some region

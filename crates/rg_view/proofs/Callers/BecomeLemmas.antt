@@ -1,5 +1,5 @@
 -- What is shown where each object becomes another one, or is gone, by a rule that goes by what it shows.
-use Rattle.std.proofs.Common.{◌≡◌, ◌≢◌, ◌≤◌, ◌<◌, ◌⊎◌, inl, inr, ℕ, ◌+◌, List, map, Option, Some, None, refl, sym, ap, ◌∙◌, arith}
+use Rattle.std.proofs.Common.{◌≡◌, ◌⊎◌, inl, inr, ℕ, map, Option, Some, None, refl, sym, ap, ◌∙◌, arith}
 use Rattle.std.specs.List.{range_with_len}
 use Rattle.std.proofs.lemmas.Option.{none-some, same_Some}
 use Rattle.rg_base.specs.declared.object.Seen.{Seen}
@@ -8,7 +8,7 @@ use Rattle.rg_cells.specs.Table.{Heap, body_at, Serials}
 use Rattle.rg_cells.proofs.SerialsKept.{serials_of}
 use Rattle.rg_view.specs.View.{gone, object_of, seen_of, store_of}
 use Rattle.rg_view.proofs.ListLemmas.{map-numbers, map-map}
-use Rattle.rg_view.proofs.Callers.LookLemmas.{Here, Missing, look, seen-held, seen-gone}
+use Rattle.rg_view.proofs.Callers.LookLemmas.{look, seen-held, seen-gone}
 
 -- a held cell shows what the rule makes of it
 pub record Turned (old new : Heap) (F : Seen → Seen) (slot : ℕ) (b : Body) : Type 0 where

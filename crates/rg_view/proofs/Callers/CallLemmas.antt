@@ -1,10 +1,9 @@
 -- The conditions of the heap's calls for whole instructions: enter, swap, freeze and merge.
-use Rattle.std.proofs.Common.{◌≡◌, ◌⊎◌, inl, inr, ℕ, true, Some, refl, sym, ap, ◌∙◌, subst}
-use Rattle.rg_base.specs.declared.object.Label.TheVariants.{Region}
+use Rattle.std.proofs.Common.{◌≡◌, ◌⊎◌, ℕ, true, Some, refl, sym, ap, ◌∙◌, subst}
 use Rattle.rg_base.specs.declared.value.Word.{Word}
 use Rattle.rg_base.specs.declared.value.Word.TheVariants as word
 use Rattle.rg_cells.specs.declared.cell.Body.{Body}
-use Rattle.rg_cells.specs.Table.{Heap, body_at, field_at, Serials, IsHeld}
+use Rattle.rg_cells.specs.Table.{body_at, field_at, Serials, IsHeld}
 use Rattle.rg_regions.specs.Table.{IsBridge}
 use Rattle.rg_regions.specs.Reach.{LiesIn}
 use Rattle.rg_regions.specs.Grove.{Grove}

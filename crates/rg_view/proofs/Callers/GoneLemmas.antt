@@ -1,11 +1,10 @@
 -- The records that are left where regions are released, frozen or merged.
-use Rattle.std.proofs.Common.{◌≡◌, ◌≢◌, ◌⊎◌, inl, inr, ℕ, Bool as Truth, true, false, List, Option, Some, None, option_map, refl, sym, ap, ◌∙◌}
+use Rattle.std.proofs.Common.{◌≡◌, ◌⊎◌, inl, inr, ℕ, Bool as Truth, true, false, List, Option, Some, None, option_map, refl, sym, ap, ◌∙◌}
 use Rattle.std.proofs.lemmas.Bool.{false≢true, cases_eq}
 use Rattle.std.proofs.lemmas.Option.{none-some, same_Some}
 use Rattle.rg_rules.specs.Regions.{among}
 use Rattle.rg_regions.specs.Table.{Record, RegionTable, record_at, HasNumber}
 use Rattle.rg_move.specs.Closed.{BelowKey}
-use Rattle.rg_move.specs.Merged.{RecordsMerge}
 use Rattle.rg_heap.specs.Parts.{Parts}
 use Rattle.rg_heap.specs.Ends.{Released}
 use Rattle.rg_heap.specs.Moves.{Freezes, Merges}

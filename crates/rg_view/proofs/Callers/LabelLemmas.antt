@@ -1,26 +1,25 @@
 -- What is shown where cells get another label: the store with that label of all objects in some regions.
-use Rattle.std.proofs.Common.{◌≡◌, ◌≢◌, ◌⊎◌, inl, inr, ℕ, ◌==◌, Bool as Truth, true, false, if◌then◌else◌, cond, List, [], ◌∷◌, map, Option, Some, None}
-use Rattle.std.proofs.Common.{option_map, is_some, find, slice_get, refl, sym, ap, ◌∙◌, subst}
+use Rattle.std.proofs.Common.{◌≡◌, ◌⊎◌, inl, inr, ℕ, ◌==◌, Bool as Truth, true, false, if◌then◌else◌, cond, List, [], ◌∷◌, Option, Some, None}
+use Rattle.std.proofs.Common.{option_map, is_some, refl, sym, ap, ◌∙◌, subst}
 use Rattle.std.proofs.lemmas.Bool.{false≢true}
 use Rattle.std.proofs.lemmas.Option.{none-some, same_Some}
 use Rattle.rg_base.specs.declared.object.Label.{Label}
 use Rattle.rg_base.specs.declared.object.Label.TheVariants.{Region, Temp, Frozen}
-use Rattle.rg_base.specs.declared.object.Seen.{Seen}
 use Rattle.rg_rules.specs.Regions.{among, in_regions, relabelled_object, relabelled}
 use Rattle.rg_cells.specs.declared.cell.Body.{Body}
 use Rattle.rg_cells.specs.Table.{Heap, body_at, label_at, Serials}
-use Rattle.rg_regions.specs.Table.{Record, RegionTable, record_at, HasNumber}
+use Rattle.rg_regions.specs.Table.{RegionTable, HasNumber}
 use Rattle.rg_regions.specs.Reach.{LiesIn}
 use Rattle.rg_move.specs.Closed.{BelowKey}
 use Rattle.rg_move.specs.Frozen.{labelled}
 use Rattle.rg_heap.specs.Parts.{Parts}
 use Rattle.rg_heap.specs.Answers.{obj_of}
 use Rattle.rg_heap.specs.Moves.{Freezes, Merges}
-use Rattle.rg_view.specs.View.{gone, object_of, store_of}
+use Rattle.rg_view.specs.View.{object_of, store_of}
 use Rattle.rg_view.specs.Bury.{Names}
 use Rattle.rg_view.proofs.ListLemmas.{eq-true, eq-is}
 use Rattle.rg_view.proofs.Callers.ShownLemmas.{IsSameObject, object-same}
-use Rattle.rg_view.proofs.Callers.BecomeLemmas.{Turned, Ended, Becomes, becomes-store, becomes-serials}
+use Rattle.rg_view.proofs.Callers.BecomeLemmas.{Becomes, becomes-store, becomes-serials}
 
 -- the cells of some regions get a label, and all else stays
 pub record Labels (old new : Heap) (regions : List ℕ) (label : Label) : Type 0 where
@@ -133,14 +132,14 @@ freeze-labels old new key regions f names = record {
 }
 
 -- one number among one
-one-is : (q p : ℕ) → among (q ∷ []) p ≡ true → q ≡ p
+pub one-is : (q p : ℕ) → among (q ∷ []) p ≡ true → q ≡ p
 one-is q p e = by (q == p) refl
   where
     by : (t : Truth) → (q == p) ≡ t → q ≡ p
     by true is = eq-true q p is
     by false is = absurd (false≢true (sym (ap (λ b. is_some (cond b (Some q) None)) is) ∙ e))
 
-one-there : (q p : ℕ) → q ≡ p → among (q ∷ []) p ≡ true
+pub one-there : (q p : ℕ) → q ≡ p → among (q ∷ []) p ≡ true
 one-there q p e = ap (λ b. is_some (cond b (Some q) None)) (eq-is q p e)
 
 has-one : (t : RegionTable) (key n m : ℕ) → HasNumber t key n → HasNumber t key m → n ≡ m

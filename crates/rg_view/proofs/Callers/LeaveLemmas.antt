@@ -1,12 +1,7 @@
 -- What leaving a window asks of the heap, from what holds between calls.
-use Rattle.std.proofs.Common.{◌≡◌, ◌≢◌, ◌≤◌, ◌<◌, ◌⊎◌, inl, inr, ℕ, zero, suc, ◌+◌, ◌-◌, true, List, [], ◌∷◌, length, drop, take, Some, None, slice_get}
-use Rattle.std.proofs.Common.{slice_index_or, refl, sym, ap, ◌∙◌, subst, arith}
-use Rattle.std.specs.List.{list_any}
-use Rattle.std.proofs.lemmas.Option.{none-some, slice_get_within}
-use Rattle.rg_base.specs.declared.object.Label.TheVariants.{Temp}
-use Rattle.rg_cells.specs.Table.{Heap, label_at}
+use Rattle.std.proofs.Common.{◌≡◌, ◌≤◌, ℕ, zero, suc, ◌+◌, ◌-◌, List, [], ◌∷◌, length, drop, take, Some, slice_get}
+use Rattle.std.proofs.Common.{slice_index_or, refl, sym, ap, ◌∙◌, arith}
 use Rattle.rg_regions.specs.Grove.{Grove}
-use Rattle.rg_frames.specs.declared.rows.Window.{Window as WindowRow}
 use Rattle.rg_frames.specs.Stack.{Stack, has_region, mark}
 use Rattle.rg_heap.specs.Parts.{Parts}
 use Rattle.rg_heap.specs.Ends.{CanLeave, top_temps}
@@ -30,8 +25,9 @@ take-whole (suc n) (x ∷ xs) le = ap (λ ys. x ∷ ys) (take-whole n xs (omega 
 
 module _ (p : Parts) (v : Stack) (g : Grove p.cells p.regions) (o : Opened p v) where
   -- the topmost window's temporaries are those of the window at the last place
-  pub top-temp : (i s : ℕ) → slice_get (top_temps v) i ≡ Some s → IsTempOf v (length v.windows - 1) s
-  top-temp i s e =
+  same-temps : drop (slice_index_or v.marks (length v.windows - 1) 0)
+      (take (slice_index_or v.marks (length v.windows - 1 + 1) (length v.temps)) v.temps) ≡ top_temps v
+  same-temps =
       let some = o.some in
       let many = o.as_many in
       let last : length v.windows - 1 ≡ length v.marks - 1 = omega (arith, many) in
@@ -39,12 +35,13 @@ module _ (p : Parts) (v : Stack) (g : Grove p.cells p.regions) (o : Opened p v) 
       past-end v.marks (length v.windows - 1 + 1) (length v.temps) (omega (arith, many, some)) in
       let all : take (slice_index_or v.marks (length v.windows - 1 + 1) (length v.temps)) v.temps ≡ v.temps =
       ap (λ n. take n v.temps) end ∙ take-whole (length v.temps) v.temps (omega arith) in
-      (
-        i,
-        ap (λ xs. slice_get (drop (slice_index_or v.marks (length v.windows - 1) 0) xs) i) all
-        ∙ ap (λ n. slice_get (drop (slice_index_or v.marks n 0) v.temps) i) last
-        ∙ e,
-      )
+      ap (drop (slice_index_or v.marks (length v.windows - 1) 0)) all ∙ ap (λ n. drop (slice_index_or v.marks n 0) v.temps) last
+
+  pub top-temp : (i s : ℕ) → slice_get (top_temps v) i ≡ Some s → IsTempOf v (length v.windows - 1) s
+  top-temp i s e = (i, ap (λ xs. slice_get xs i) same-temps ∙ e)
+
+  pub temp-top : (s : ℕ) → IsTempOf v (length v.windows - 1) s → (i : ℕ) × (slice_get (top_temps v) i ≡ Some s)
+  temp-top s t = (t.0, ap (λ xs. slice_get xs t.0) (sym same-temps) ∙ t.1)
 
   top-place : (i s : ℕ) → slice_get (top_temps v) i ≡ Some s → slice_get v.temps (mark v + i) ≡ Some s
   top-place i s e = sym (get-drop (mark v) i v.temps) ∙ e

@@ -1,5 +1,5 @@
 -- The regions beneath another one, in the heap and in the store that it shows.
-use Rattle.std.proofs.Common.{◌≡◌, ◌≢◌, ◌<◌, ◌⊎◌, inl, inr, ℕ, true, List, [], ◌∷◌, map, length, Option, Some, None, option_map, option_and_then}
+use Rattle.std.proofs.Common.{◌≡◌, ◌≢◌, ◌<◌, ◌⊎◌, inl, inr, ℕ, true, List, map, Option, Some, None, option_map, option_and_then}
 use Rattle.std.proofs.Common.{slice_get, refl, sym, ap, ◌∙◌, subst, arith}
 use Rattle.std.proofs.lemmas.Bool.{cases_eq}
 use Rattle.std.proofs.lemmas.Option.{none-some, same_Some, slice_get-map, slice_get_within}
@@ -12,15 +12,15 @@ use Rattle.rg_base.specs.declared.value.Word.{Word}
 use Rattle.rg_base.specs.declared.value.Word.TheVariants as word
 use Rattle.rg_rules.specs.Regions.{among, region_of, region_at}
 use Rattle.rg_cells.specs.declared.cell.Body.{Body}
-use Rattle.rg_cells.specs.Table.{Heap, body_at, label_at, field_at, Serials}
+use Rattle.rg_cells.specs.Table.{Heap, body_at, label_at, Serials}
 use Rattle.rg_regions.specs.Table.{RegionTable, InTable}
 use Rattle.rg_regions.specs.Reach.{LiesIn}
-use Rattle.rg_regions.specs.Grove.{Parent, Above, direct, further, Below}
+use Rattle.rg_regions.specs.Grove.{Parent, Above, direct, further}
 use Rattle.rg_heap.specs.Answers.{val_of, obj_of}
 use Rattle.rg_view.specs.View.{gone, object_of, seen_of, store_of}
 use Rattle.rg_view.specs.Bury.{Names}
 use Rattle.rg_view.specs.Links.{Link, Reached, first, next, Spans, BelowSome}
-use Rattle.rg_view.proofs.Callers.LookLemmas.{Here, Missing, look, store-at, store-held, store-length, val-held}
+use Rattle.rg_view.proofs.Callers.LookLemmas.{look, store-at, store-held, store-length, val-held}
 use Rattle.rg_view.proofs.Callers.ShownLemmas.{field-in}
 
 -- a held cell whose object is shown

@@ -1,20 +1,19 @@
 -- What is shown where a cell is made: one object more, and all else as it was.
-use Rattle.std.proofs.Common.{◌≡◌, ◌≢◌, ◌≤◌, ◌<◌, ◌⊎◌, inl, inr, ℕ, ◌+◌, List, [], ◌∷◌, ◌++◌, map, Option, Some, None, slice_get, refl, sym, ap, ◌∙◌, arith}
-use Rattle.std.specs.List.{range_with_len}
+use Rattle.std.proofs.Common.{◌≡◌, ◌≢◌, ◌<◌, inl, inr, ℕ, List, [], ◌∷◌, ◌++◌, map, Some, slice_get, refl, sym, ap, ◌∙◌, arith}
 use Rattle.std.proofs.lemmas.Bool.{cases_eq}
 use Rattle.std.proofs.lemmas.Option.{none-some, same_Some}
 use Rattle.rg_base.specs.declared.object.Label.{Label}
 use Rattle.rg_base.specs.declared.value.Word.{Word}
 use Rattle.rg_base.specs.declared.value.Word.TheVariants as word
 use Rattle.rg_cells.specs.declared.cell.Body.{Body}
-use Rattle.rg_cells.specs.Table.{Heap, Table, body_in, body_at, IsHeld, Serials}
+use Rattle.rg_cells.specs.Table.{Table, body_in, body_at, IsHeld, Serials}
 use Rattle.rg_stack.specs.Machine.{value_of_word}
 use Rattle.rg_heap.specs.Answers.{val_of, obj_of, AllLead}
 use Rattle.rg_heap.specs.Changes.{Makes, LeadsNowhere}
-use Rattle.rg_view.specs.View.{gone, object_of, seen_of, store_of}
+use Rattle.rg_view.specs.View.{object_of, seen_of, store_of}
 use Rattle.rg_view.proofs.ListLemmas.{map-numbers, map-more}
-use Rattle.rg_view.proofs.Callers.LookLemmas.{Here, Missing, look, seen-held, seen-gone}
-use Rattle.rg_view.proofs.Callers.ShownLemmas.{IsSameObject, LeadToSame, object-same, vals-same, plain-vals, held-body, body-held, field-in}
+use Rattle.rg_view.proofs.Callers.LookLemmas.{look, seen-held, seen-gone}
+use Rattle.rg_view.proofs.Callers.ShownLemmas.{IsSameObject, object-same, plain-vals, held-body, field-in}
 
 module _ (old new : Table) (slot class : ℕ) (label : Label) (fields : List Word) (m : Makes old new slot class label fields) where
   -- the new cell's body

@@ -1,5 +1,5 @@
 -- What the managers show: those of the regions of a table, by their numbers.
-use Rattle.std.proofs.Common.{◌≡◌, ◌≢◌, ◌≤◌, ◌<◌, ◌==◌, ◌⊎◌, inl, inr, ℕ, zero, suc, ◌+◌, Bool as Truth, true, false, if◌then◌else◌, List, [], ◌∷◌, ◌++◌, map}
+use Rattle.std.proofs.Common.{◌≡◌, ◌≢◌, ◌<◌, ◌==◌, ◌⊎◌, inl, inr, ℕ, zero, suc, Bool as Truth, true, false, if◌then◌else◌, List, [], ◌∷◌, ◌++◌, map}
 use Rattle.std.proofs.Common.{length, Option, Some, None, slice_get, slice_index_or, refl, sym, ap, ◌∙◌, arith}
 use Rattle.std.specs.List.{range_with_len}
 use Rattle.std.proofs.lemmas.Bool.{cases_eq}
@@ -7,8 +7,8 @@ use Rattle.std.proofs.lemmas.Option.{none-some, same_Some}
 use Rattle.std.proofs.lemmas.List.FromFn.{length-map-range_with_len}
 use Rattle.rg_base.specs.declared.words.Manager.{Manager}
 use Rattle.rg_base.specs.declared.words.Manager.TheVariants.{Arena}
-use Rattle.rg_regions.specs.Table.{Record, RegionTable, record_at, with_room}
-use Rattle.rg_heap.specs.Changes.{Rewritten, Opens, OpensOne}
+use Rattle.rg_regions.specs.Table.{Record, RegionTable, record_at}
+use Rattle.rg_heap.specs.Changes.{Opens}
 use Rattle.rg_view.specs.View.{manager_with, managers_of}
 use Rattle.rg_view.specs.Numbers.{Numbers}
 use Rattle.rg_view.proofs.ListLemmas.{map-numbers, map-more, map-at, eq-true, eq-false}

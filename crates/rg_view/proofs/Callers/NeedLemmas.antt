@@ -1,6 +1,6 @@
 -- The conditions of the heap's calls, from what instructions need of the machine that the heap shows.
-use Rattle.std.proofs.Common.{◌≡◌, ◌≢◌, ◌≤◌, ◌<◌, ◌==◌, ◌||◌, ◌&&◌, ◌⊎◌, inl, inr, ℕ, zero, suc, ◌+◌, ◌-◌, Bool as Truth, true, false, if◌then◌else◌, cond, not}
-use Rattle.std.proofs.Common.{List, [], ◌∷◌, map, length, Option, Some, None, option_map, is_some, slice_get, unwrap_or, count_by, nat_le, nat_lt}
+use Rattle.std.proofs.Common.{◌≡◌, ◌≢◌, ◌≤◌, ◌<◌, ◌==◌, ◌||◌, ◌&&◌, ◌⊎◌, inl, inr, ℕ, zero, suc, ◌-◌, Bool as Truth, true, false, cond, not}
+use Rattle.std.proofs.Common.{List, [], ◌∷◌, map, length, Option, Some, None, option_map, slice_get, unwrap_or, count_by, nat_le}
 use Rattle.std.proofs.Common.{refl, sym, ap, ◌∙◌, subst, arith}
 use Rattle.std.specs.List.{sum_by}
 use Rattle.std.proofs.lemmas.Bool.{false≢true, cases_eq}
@@ -14,31 +14,31 @@ use Rattle.rg_base.specs.declared.value.Val.TheVariants as val
 use Rattle.rg_base.specs.declared.value.Word.{Word}
 use Rattle.rg_base.specs.declared.value.Word.TheVariants as word
 use Rattle.rg_cells.specs.declared.cell.Body.{Body}
-use Rattle.rg_cells.specs.Table.{Heap, body_at, label_at, field_at, Serials, IsHeld}
-use Rattle.rg_regions.specs.Table.{Record, RegionTable, record_at, HasNumber, InTable, IsBridge}
+use Rattle.rg_cells.specs.Table.{body_at, label_at, field_at, Serials, IsHeld}
+use Rattle.rg_regions.specs.Table.{Record, record_at, HasNumber, IsBridge}
 use Rattle.rg_regions.specs.Reach.{LiesIn}
-use Rattle.rg_regions.specs.Grove.{Grove, Parent, Above, direct, further, Below}
+use Rattle.rg_regions.specs.Grove.{Grove, Above, direct, further}
 use Rattle.rg_frames.specs.declared.rows.Window.{Window as WindowRow}
 use Rattle.rg_frames.specs.Stack.{Stack, IsTop}
 use Rattle.rg_stack.specs.Machine.{Frame, top_slots, slot_at}
-use Rattle.rg_stack.specs.Effects.{top_region, top_window}
-use Rattle.rg_stack.specs.Needs.{is_open, is_into, label_of, is_outside, slots_into, fields_into, places_into, all_below, owned_once, loose, closed_into}
-use Rattle.rg_stack.specs.Needs.{is_writable, may_stand, owns_or_nil}
+use Rattle.rg_stack.specs.Effects.{top_region}
+use Rattle.rg_stack.specs.Needs.{is_open, is_into, label_of, is_outside, slots_into, fields_into, places_into, all_below, owned_once, loose}
+use Rattle.rg_stack.specs.Needs.{is_writable, may_stand}
 use Rattle.rg_heap.specs.Parts.{Parts}
-use Rattle.rg_heap.specs.Answers.{val_of, obj_of, IsClosed, LeadsIntoClosed}
+use Rattle.rg_heap.specs.Answers.{val_of, IsClosed, LeadsIntoClosed}
 use Rattle.rg_heap.specs.Opened.{Opened}
 use Rattle.rg_heap.specs.Writes.{Stays, Ownerless, Comes, IsTemp, InActive, LeadsOut}
 use Rattle.rg_heap.specs.Moves.{NotBeneath}
-use Rattle.rg_view.specs.View.{object_of, store_of, number_of, windows_of, frames_of, managers_of, machine_of}
+use Rattle.rg_view.specs.View.{object_of, store_of, windows_of, frames_of, managers_of, machine_of}
 use Rattle.rg_view.specs.Numbers.{Numbers}
-use Rattle.rg_view.proofs.ListLemmas.{eq-true, eq-is, eq-not}
+use Rattle.rg_view.proofs.ListLemmas.{eq-true, eq-not}
 use Rattle.rg_view.proofs.Callers.LookLemmas.{store-held, val-held}
 use Rattle.rg_view.proofs.Callers.ShownLemmas.{held-body, field-in}
 use Rattle.rg_view.proofs.Callers.ManagerLemmas.{managers-length}
 use Rattle.rg_view.proofs.Callers.WindowLemmas.{active-region}
 use Rattle.rg_view.proofs.Callers.FrameLemmas.{there}
-use Rattle.rg_view.proofs.Callers.OpenLemmas.{Keyed, number-is, open-back, window-open, closed-not-open, never, label-shown, label-lies, label-back}
-use Rattle.rg_view.proofs.Callers.OpenLemmas.{into-there, closed-there, owner-leads}
+use Rattle.rg_view.proofs.Callers.OpenLemmas.{Keyed, number-is, open-back, window-open, closed-not-open, label-shown}
+use Rattle.rg_view.proofs.Callers.OpenLemmas.{into-there, closed-there}
 
 -- Counts
 

@@ -1,6 +1,6 @@
 -- Which regions the machine sees as open or closed, and where values lead.
-use Rattle.std.proofs.Common.{◌≡◌, ◌≢◌, ◌<◌, ◌==◌, ◌||◌, ◌⊎◌, inl, inr, ℕ, zero, suc, ◌-◌, Bool as Truth, true, false, if◌then◌else◌, List, [], ◌∷◌, ◌++◌, map, reverse}
-use Rattle.std.proofs.Common.{length, Option, Some, None, option_map, option_and_then, is_some, slice_get, refl, sym, ap, ◌∙◌, subst, arith}
+use Rattle.std.proofs.Common.{◌≡◌, ◌==◌, ◌||◌, ℕ, zero, suc, Bool as Truth, true, false, if◌then◌else◌, List, [], ◌∷◌, ◌++◌, map, reverse}
+use Rattle.std.proofs.Common.{Option, Some, None, option_map, option_and_then, is_some, slice_get, refl, sym, ap, ◌∙◌, subst}
 use Rattle.std.specs.List.{list_any}
 use Rattle.std.proofs.lemmas.Bool.{false≢true}
 use Rattle.std.proofs.lemmas.List.{reverse-append}
@@ -8,22 +8,19 @@ use Rattle.std.proofs.lemmas.Option.{none-some, same_Some}
 use Rattle.rg_base.specs.declared.object.Label.{Label}
 use Rattle.rg_base.specs.declared.object.Label.TheVariants.{Region, Temp, Frozen}
 use Rattle.rg_base.specs.declared.object.Seen.{Seen}
-use Rattle.rg_base.specs.declared.value.Val.{Val}
-use Rattle.rg_base.specs.declared.value.Val.TheVariants as val
 use Rattle.rg_base.specs.declared.value.Word.{Word}
 use Rattle.rg_base.specs.declared.value.Word.TheVariants as word
-use Rattle.rg_rules.specs.Regions.{address}
 use Rattle.rg_cells.specs.declared.cell.Body.{Body}
 use Rattle.rg_cells.specs.Table.{Heap, body_at, label_at, Serials, IsHeld}
 use Rattle.rg_regions.specs.Table.{Record, RegionTable, record_at, HasNumber, InTable}
 use Rattle.rg_regions.specs.Reach.{LiesIn}
 use Rattle.rg_frames.specs.declared.rows.Window.{Window as WindowRow}
-use Rattle.rg_frames.specs.Stack.{Stack, IsTop, has_region}
+use Rattle.rg_frames.specs.Stack.{Stack, has_region}
 use Rattle.rg_stack.specs.Machine.{Window}
 use Rattle.rg_stack.specs.Needs.{is_open, label_of, lies_in, is_into, closed_of, closed_into, is_closed, owns_or_nil}
 use Rattle.rg_heap.specs.Parts.{Parts}
 use Rattle.rg_heap.specs.Answers.{val_of, obj_of, IsClosed, LeadsIntoClosed}
-use Rattle.rg_view.specs.View.{object_of, store_of, number_of, number_in, window_of, windows_of, machine_of}
+use Rattle.rg_view.specs.View.{store_of, number_of, number_in, window_of, windows_of, machine_of}
 use Rattle.rg_view.proofs.ListLemmas.{eq-true, eq-is}
 use Rattle.rg_view.proofs.Callers.LookLemmas.{store-held, val-held}
 

@@ -1,11 +1,10 @@
 -- What the machine reads of an object that a word leads to, and of a stack of words.
-use Rattle.std.proofs.Common.{◌≡◌, ◌<◌, ℕ, true, List, [], ◌∷◌, ◌++◌, map, reverse, length, Option, Some, None, option_map, slice_get, unwrap_or, nat_lt}
-use Rattle.std.proofs.Common.{Ok, Err, ok_or, Bool as Truth, refl, sym, ap, ◌∙◌, arith}
+use Rattle.std.proofs.Common.{◌≡◌, ◌<◌, ℕ, true, List, [], ◌∷◌, ◌++◌, map, length, Option, Some, option_map, unwrap_or, nat_lt}
+use Rattle.std.proofs.Common.{Ok, Err, ok_or, Bool as Truth, sym, ap, ◌∙◌, arith}
 use Rattle.std.proofs.lemmas.List.{reverse-append, length-map}
 use Rattle.std.proofs.lemmas.Option.{slice_get-map}
 use Rattle.rg_base.specs.declared.object.Seen.{Seen}
 use Rattle.rg_base.specs.declared.outcome.Trap.TheVariants as trap
-use Rattle.rg_base.specs.declared.value.Val.{Val}
 use Rattle.rg_base.specs.declared.value.Val.TheVariants as val
 use Rattle.rg_base.specs.declared.value.Word.{Word}
 use Rattle.rg_base.specs.declared.value.Word.TheVariants as word

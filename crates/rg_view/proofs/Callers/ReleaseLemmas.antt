@@ -1,24 +1,21 @@
 -- What is shown where regions are released and temporaries end: their objects are gone, and all others are as they were.
-use Rattle.std.proofs.Common.{◌≡◌, ◌≢◌, ◌⊎◌, inl, inr, ℕ, ◌==◌, ◌||◌, Bool as Truth, true, false, if◌then◌else◌, List, map, Option, Some, None}
-use Rattle.std.proofs.Common.{option_map, slice_get, refl, sym, ap, ◌∙◌, subst}
+use Rattle.std.proofs.Common.{◌≡◌, ◌⊎◌, inl, inr, ℕ, ◌==◌, ◌||◌, Bool as Truth, true, false, if◌then◌else◌, List, Option, Some, None}
+use Rattle.std.proofs.Common.{option_map, refl, sym, ap, ◌∙◌}
 use Rattle.std.proofs.lemmas.Bool.{false≢true}
 use Rattle.std.proofs.lemmas.Option.{none-some, same_Some}
 use Rattle.rg_base.specs.declared.object.Label.{Label}
 use Rattle.rg_base.specs.declared.object.Label.TheVariants.{Region, Temp, Frozen}
-use Rattle.rg_base.specs.declared.object.Seen.{Seen}
-use Rattle.rg_base.specs.declared.value.Word.TheVariants as word
 use Rattle.rg_rules.specs.Regions.{among, in_regions}
 use Rattle.rg_cells.specs.declared.cell.Body.{Body}
-use Rattle.rg_cells.specs.Table.{Heap, body_at, label_at, Serials, IsHeld}
-use Rattle.rg_regions.specs.Reach.{LiesIn}
+use Rattle.rg_cells.specs.Table.{body_at, label_at, Serials, IsHeld}
 use Rattle.rg_heap.specs.Parts.{Parts}
 use Rattle.rg_heap.specs.Answers.{AllLead, obj_of}
 use Rattle.rg_heap.specs.Ends.{Released}
 use Rattle.rg_view.specs.View.{gone, object_of, store_of}
 use Rattle.rg_view.specs.Bury.{is_temp, buried, bury, Names, AreTemps}
 use Rattle.rg_view.proofs.ListLemmas.{eq-true, eq-false}
-use Rattle.rg_view.proofs.Callers.ShownLemmas.{LeadToSame, IsSameObject, object-same, held-body, field-in}
-use Rattle.rg_view.proofs.Callers.BecomeLemmas.{Turned, Ended, Becomes, becomes-store, becomes-serials}
+use Rattle.rg_view.proofs.Callers.ShownLemmas.{IsSameObject, object-same, held-body, field-in}
+use Rattle.rg_view.proofs.Callers.BecomeLemmas.{Becomes, becomes-store, becomes-serials}
 
 -- whether an object with a label goes
 abbrev goes : List ℕ → Option ℕ → Label → Truth

@@ -1,18 +1,17 @@
 -- What words, fields and frames show where cells change but keep their serials.
-use Rattle.std.proofs.Common.{◌≡◌, ◌≢◌, ◌≤◌, ◌<◌, ℕ, zero, suc, ◌+◌, List, [], ◌∷◌, ◌++◌, map, take, drop, reverse, length, replicate, Option, Some, None}
-use Rattle.std.proofs.Common.{IsSome, option_and_then, slice_get, refl, sym, ap, ◌∙◌, arith, ◌⊎◌, inl, inr}
+use Rattle.std.proofs.Common.{◌≡◌, ℕ, zero, suc, ◌+◌, List, [], ◌∷◌, map, take, drop, reverse, Option, Some, None}
+use Rattle.std.proofs.Common.{IsSome, option_and_then, slice_get, refl, sym, ap, ◌∙◌, arith}
 use Rattle.std.proofs.lemmas.Option.{none-some}
 use Rattle.rg_base.specs.declared.object.Label.{Label}
 use Rattle.rg_base.specs.declared.object.Seen.{Seen}
 use Rattle.rg_base.specs.declared.value.Val.{Val}
-use Rattle.rg_base.specs.declared.value.Val.TheVariants as val
 use Rattle.rg_base.specs.declared.value.Word.{Word}
 use Rattle.rg_base.specs.declared.value.Word.TheVariants as word
 use Rattle.rg_cells.specs.declared.cell.Body.{Body}
 use Rattle.rg_cells.specs.Table.{Heap, body_at, field_at, IsHeld}
 use Rattle.rg_frames.specs.declared.rows.Frame.{Frame as FrameRow}
 use Rattle.rg_frames.specs.Stack.{Stack}
-use Rattle.rg_frames.specs.Layers.{Layer, layers_from}
+use Rattle.rg_frames.specs.Layers.{layers_from}
 use Rattle.rg_stack.specs.Machine.{Frame, value_of_word}
 use Rattle.rg_heap.specs.Answers.{val_of, obj_of}
 use Rattle.rg_heap.specs.Changes.{LeadsNowhere}

@@ -1,17 +1,17 @@
 -- What managers and windows show where the records of a table change.
-use Rattle.std.proofs.Common.{◌≡◌, ◌≢◌, ◌<◌, ◌⊎◌, inl, inr, ℕ, List, Option, Some, None, IsSome, option_map, slice_get, refl, sym, ap, ◌∙◌, subst, arith}
+use Rattle.std.proofs.Common.{◌≡◌, ◌⊎◌, inl, inr, ℕ, List, Option, Some, None, IsSome, slice_get, refl, sym, ap, ◌∙◌, arith}
 use Rattle.std.proofs.Common.{reverse, [], ◌∷◌, ◌++◌, zero, suc}
 use Rattle.std.proofs.lemmas.Bool.{cases_eq}
 use Rattle.std.proofs.lemmas.List.{reverse-append}
 use Rattle.std.proofs.lemmas.Option.{none-some, same_Some}
 use Rattle.rg_base.specs.declared.words.Manager.{Manager}
-use Rattle.rg_regions.specs.Table.{Record, RegionTable, record_at, HasNumber, IsKey, with_room}
+use Rattle.rg_regions.specs.Table.{Record, RegionTable, record_at, IsKey, with_room}
 use Rattle.rg_frames.specs.declared.rows.Window.{Window as WindowRow}
 use Rattle.rg_frames.specs.Stack.{Stack}
 use Rattle.rg_heap.specs.Changes.{Rewritten, SameRecords, Opens}
 use Rattle.rg_view.specs.View.{number_in, number_of, managers_of, windows_of}
 use Rattle.rg_view.specs.Numbers.{Numbers}
-use Rattle.rg_view.proofs.Callers.ManagerLemmas.{SameNumbers, manager-at, same-managers}
+use Rattle.rg_view.proofs.Callers.ManagerLemmas.{SameNumbers, manager-at}
 use Rattle.rg_view.proofs.Callers.WindowLemmas.{windows-same}
 
 -- an element of a list that was turned round

@@ -1,13 +1,13 @@
 -- Windows as the machine sees them.
-use Rattle.std.proofs.Common.{◌≡◌, ◌≤◌, ◌<◌, ℕ, zero, suc, ◌+◌, ◌-◌, List, [], ◌∷◌, ◌++◌, Some, length, take, map, reverse, slice_get, nat_le, refl, sym, ap}
+use Rattle.std.proofs.Common.{◌≡◌, ◌≤◌, ◌<◌, ℕ, suc, ◌-◌, List, [], ◌∷◌, Some, length, take, map, reverse, slice_get, nat_le, refl, sym, ap}
 use Rattle.std.proofs.Common.{◌∙◌, arith}
 use Rattle.std.proofs.lemmas.List.{reverse-append, length-reverse, length-take-le}
 use Rattle.rg_base.specs.declared.object.Place.{Place}
-use Rattle.rg_regions.specs.Table.{RegionTable, HasNumber}
+use Rattle.rg_regions.specs.Table.{RegionTable}
 use Rattle.rg_frames.specs.declared.rows.Window.{Window as WindowRow}
 use Rattle.rg_frames.specs.Stack.{Stack, IsTop, opened, closed}
 use Rattle.rg_stack.specs.Effects.{begins_by, top_region, top_window, without_top}
-use Rattle.rg_view.specs.View.{number_of, number_in, window_of, windows_of}
+use Rattle.rg_view.specs.View.{number_of, window_of, windows_of}
 use Rattle.rg_view.proofs.Callers.FrameLemmas.{last-reverse}
 
 -- windows show the same where their regions keep their numbers

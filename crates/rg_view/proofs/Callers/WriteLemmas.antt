@@ -1,12 +1,9 @@
 -- What is shown where a field is written: that field of that object.
-use Rattle.std.proofs.Common.{◌≡◌, ◌≢◌, ◌≤◌, ◌<◌, ◌⊎◌, inl, inr, ℕ, zero, suc, ◌+◌, List, [], ◌∷◌, map, length, Option, Some, None, slice_get, slice_set}
-use Rattle.std.proofs.Common.{slice_index_or, refl, sym, ap, ◌∙◌, arith, subst}
-use Rattle.std.specs.List.{range_with_len}
+use Rattle.std.proofs.Common.{◌≡◌, ◌≢◌, inl, inr, ℕ, zero, suc, List, [], ◌∷◌, Option, Some, None, slice_get, slice_set}
+use Rattle.std.proofs.Common.{slice_index_or, refl, sym, ap, ◌∙◌, arith}
 use Rattle.std.proofs.lemmas.Bool.{cases_eq}
 use Rattle.std.proofs.lemmas.Option.{none-some, same_Some, slice_get_past}
-use Rattle.std.proofs.lemmas.List.{map-set, length-set}
-use Rattle.rg_base.specs.declared.object.Seen.{Seen}
-use Rattle.rg_base.specs.declared.value.Val.{Val}
+use Rattle.std.proofs.lemmas.List.{map-set}
 use Rattle.rg_base.specs.declared.value.Word.{Word}
 use Rattle.rg_base.specs.declared.value.Word.TheVariants as word
 use Rattle.rg_cells.specs.declared.cell.Body.{Body}
@@ -16,8 +13,8 @@ use Rattle.rg_stack.specs.Effects.{put_in, with_value_in}
 use Rattle.rg_heap.specs.Answers.{val_of, obj_of}
 use Rattle.rg_view.specs.View.{object_of, seen_of, store_of}
 use Rattle.rg_view.proofs.ListLemmas.{same_lists, order}
-use Rattle.rg_view.proofs.Callers.LookLemmas.{Here, Missing, look, seen-held, seen-gone, store-length, store-at, store-held, val-held}
-use Rattle.rg_view.proofs.Callers.ShownLemmas.{IsSameObject, object-same, val-same, vals-same}
+use Rattle.rg_view.proofs.Callers.LookLemmas.{look, seen-held, seen-gone, store-length, store-at, store-held, val-held}
+use Rattle.rg_view.proofs.Callers.ShownLemmas.{IsSameObject, object-same, val-same}
 
 -- a list with another element
 set-there : (xs : List (Option (Option Body))) (s : ℕ) (b : Body) (x : Option (Option Body)) → body_in (slice_index_or xs s None) ≡ Some b

@@ -1,15 +1,13 @@
 -- Two held cells, a slot that was freed and taken again, and a region that is gone.
 use Rattle.std.proofs.Common.{◌≡◌, refl, [], ◌∷◌, Some, None, true}
 use Rattle.rg_base.specs.declared.object.Label.TheVariants.{Region, Frozen}
-use Rattle.rg_base.specs.declared.object.Seen.{Seen}
 use Rattle.rg_base.specs.declared.words.Manager.TheVariants.{Arena, Count, Trace}
 use Rattle.rg_base.specs.declared.value.Val.TheVariants as val
 use Rattle.rg_base.specs.declared.value.Word.TheVariants as word
-use Rattle.rg_cells.specs.Table.{Heap, Table}
-use Rattle.rg_regions.specs.Table.{Record, RegionTable}
+use Rattle.rg_cells.specs.Table.{Heap}
+use Rattle.rg_regions.specs.Table.{RegionTable}
 use Rattle.rg_frames.specs.Stack.{Stack, begun, pushed_of, opened}
 use Rattle.rg_heap.specs.Parts.{Parts}
-use Rattle.rg_stack.specs.Machine.{Machine}
 use Rattle.rg_base.specs.declared.object.Place.TheVariants as place
 use Rattle.rg_view.specs.View.{gone, store_of, machine_of}
 
