@@ -19,3 +19,4 @@ pub mod ReadLemmas
 pub mod CallLemmas
 pub mod TempLemmas
 pub mod KeyLemmas
+pub mod MachineLemmas
