@@ -20,3 +20,4 @@ pub mod CallLemmas
 pub mod TempLemmas
 pub mod KeyLemmas
 pub mod MachineLemmas
+pub mod HeldLemmas
