@@ -54,9 +54,9 @@ module _ (old new : Heap) (F : Seen → Seen) (q : Serials old) (r : Becomes old
           ∙ ap F (sym here.shown)
       | inr t ↦
           seen-gone new a (λ s d e f.
-            let x = was s d e in
-            let at : s ≡ here.slot = q.differ s here.slot x.0 here.body x.1 here.held (x.2 ∙ f ∙ sym here.serial) in
-            none-some d (sym t.freed ∙ ap (body_at new) (sym at) ∙ e))
+          let x = was s d e in
+          let at : s ≡ here.slot = q.differ s here.slot x.0 here.body x.1 here.held (x.2 ∙ f ∙ sym here.serial) in
+          none-some d (sym t.freed ∙ ap (body_at new) (sym at) ∙ e))
           ∙ sym t.shown
           ∙ ap F (sym here.shown)
     ]

@@ -69,7 +69,7 @@ module _ (p : Parts) (v : Stack) (at : ℕ) (q : Serials p.cells.heap) (g : Grov
       → InActive p.cells.heap p.regions v s (λ n. Stays p.cells.heap n w) ⊎ IsTemp p.cells.heap s
   can-write s b w e may held stand =
       write-place p v at q g o s b (λ n. Stays p.cells.heap n w) e may (λ n is label.
-        stays p v at q g o n w held (sym (ap (λ l. may_stand (machine_of p v at) l (val_of p.cells.heap w)) label) ∙ stand))
+      stays p v at q g o n w held (sym (ap (λ l. may_stand (machine_of p v at) l (val_of p.cells.heap w)) label) ∙ stand))
 
   -- a field that owns changes places with a slot that owns
   pub can-swap : (s k i : ℕ) (b : Body) (w : Word) → Numbers p.regions → body_at p.cells.heap s ≡ Some b
@@ -81,9 +81,11 @@ module _ (p : Parts) (v : Stack) (at : ℕ) (q : Serials p.cells.heap) (g : Grov
       → InActive p.cells.heap p.regions v s (λ n. Comes p.cells.heap p.regions n w × LeadsOut p.cells.heap s k n) ⊎ IsTemp p.cells.heap s
   can-swap s k i b w n e may held leads bridge is once owner field =
       write-place p v at q g o s b (λ n. Comes p.cells.heap p.regions n w × LeadsOut p.cells.heap s k n) e may (λ r same label.
-        subst (λ r. Comes p.cells.heap p.regions r w × LeadsOut p.cells.heap s k r) (sym same) (
-          comes p v at q g o w
-          (λ to r f lies c. ownerless-slot p v at q g o r to i n lies c (bridge to r f lies c) (is ∙ ap (val_of p.cells.heap) f) once)
-          (λ to f. subst (LeadsIntoClosed p v) (sym f) (owns to (held to f) (sym (ap (λ w. owns_or_nil (machine_of p v at) (val_of p.cells.heap w)) f) ∙ owner))),
-          leads-out p v at q g o s k (λ to f. owns to (leads to f) (field (word.Slot to) f)),
-        ))
+      subst (λ r. Comes p.cells.heap p.regions r w × LeadsOut p.cells.heap s k r) (sym same) (
+        comes p v at q g o w
+            (λ to r f lies c. ownerless-slot p v at q g o r to i n lies c (bridge to r f lies c) (is ∙ ap (val_of p.cells.heap) f) once)
+            (λ to f.
+            let owns_it = sym (ap (λ w. owns_or_nil (machine_of p v at) (val_of p.cells.heap w)) f) ∙ owner in
+            subst (LeadsIntoClosed p v) (sym f) (owns to (held to f) owns_it)),
+        leads-out p v at q g o s k (λ to f. owns to (leads to f) (field (word.Slot to) f)),
+      ))

@@ -21,12 +21,14 @@ by-names old new regions Gone names goes stays key = by (record_at old key) refl
     number-of : (o : Option Record) → record_at old key ≡ o → option_map (λ (r : Record). r.number) (record_at old key)
         ≡ option_map (λ (r : Record). r.number) o
     number-of o e = ap (option_map (λ (r : Record). r.number)) e
+
     test : (r : Record) → record_at old key ≡ Some r → (t : Truth) → among regions r.number ≡ t
         → (record_at new key ≡ None) ⊎ (record_at new key ≡ record_at old key)
     test r e true a = inl (goes key r.number (names.only r.number a) (number-of (Some r) e))
     test r e false a = inr (stays key (λ q g h.
-      let same : r.number ≡ q = same_Some r.number q (sym (number-of (Some r) e) ∙ h) in
-      false≢true (sym a ∙ ap (among regions) same ∙ names.all q g)))
+        let same : r.number ≡ q = same_Some r.number q (sym (number-of (Some r) e) ∙ h) in
+        false≢true (sym a ∙ ap (among regions) same ∙ names.all q g)))
+
     by : (o : Option Record) → record_at old key ≡ o → (record_at new key ≡ None) ⊎ (record_at new key ≡ record_at old key)
     by None e = inr (stays key (λ q g h. none-some q (sym (number-of None e) ∙ h)))
     by (Some r) e = test r e (among regions r.number) refl
@@ -52,8 +54,7 @@ merge-numbers old new source into a b m from to = record {
     | inr d ↦ elim (cases_eq k into) [
       | inl is ↦
           let now = m.records.members a b from to in
-          let same = same_Some _ r (sym now.1 ∙ ap (record_at new.regions) (sym is) ∙ e) in
-          (
+          let same = same_Some _ r (sym now.1 ∙ ap (record_at new.regions) (sym is) ∙ e) in (
             b,
             ap (record_at old.regions) is ∙ to,
             ap (λ (x : Record). x.number) same,

@@ -1,14 +1,13 @@
 -- That words lead to held cells, and that regions of objects are below the next number, from what holds between calls.
-use Rattle.std.proofs.Common.{◌≡◌, ◌<◌, ◌⊎◌, inl, inr, ℕ, ◌+◌, List, drop, take, length, Option, Some, None, option_map, option_and_then, slice_get}
-use Rattle.std.proofs.Common.{slice_index_or, refl, sym, ap, ◌∙◌, subst, arith}
+use Rattle.std.proofs.Common.{◌≡◌, ◌<◌, inl, inr, ℕ, ◌+◌, take, length, Option, Some, None, option_map, option_and_then, slice_get}
+use Rattle.std.proofs.Common.{slice_index_or, refl, sym, ap, ◌∙◌, arith}
 use Rattle.std.proofs.lemmas.Option.{none-some, same_Some}
 use Rattle.rg_base.specs.declared.object.Label.{Label}
 use Rattle.rg_base.specs.declared.object.Label.TheVariants.{Region, Temp, Frozen}
-use Rattle.rg_base.specs.declared.value.Word.{Word}
 use Rattle.rg_base.specs.declared.value.Word.TheVariants as word
 use Rattle.rg_rules.specs.Regions.{region_at}
 use Rattle.rg_cells.specs.declared.cell.Body.{Body}
-use Rattle.rg_cells.specs.Table.{Heap, body_at, label_at, field_at, Serials, IsHeld}
+use Rattle.rg_cells.specs.Table.{Heap, body_at, label_at, Serials, IsHeld}
 use Rattle.rg_regions.specs.Table.{Record, RegionTable, record_at, InTable}
 use Rattle.rg_regions.specs.Reach.{LiesIn}
 use Rattle.rg_regions.specs.Grove.{Grove}
@@ -19,7 +18,7 @@ use Rattle.rg_heap.specs.Answers.{AllLead}
 use Rattle.rg_heap.specs.Opened.{Opened, IsWindow}
 use Rattle.rg_view.specs.View.{store_of, managers_of}
 use Rattle.rg_view.specs.Numbers.{Numbers}
-use Rattle.rg_view.proofs.Callers.ShownLemmas.{get-drop, get-take, body-held, field-in}
+use Rattle.rg_view.proofs.Callers.ShownLemmas.{get-drop, get-take, body-held}
 use Rattle.rg_view.proofs.Callers.ManagerLemmas.{managers-length}
 use Rattle.rg_view.proofs.Callers.LinkLemmas.{region-back}
 
@@ -54,6 +53,7 @@ all-lead p v g o temps s k to e = by (body_at p.cells.heap s) refl
         let end = slice_index_or v.marks (w.0 + 1) (length v.temps) in
         o.lead (begin + t.0) s (get-take end (begin + t.0) v.temps s (sym (get-drop begin t.0 (take end v.temps)) ∙ t.1)) k to e
     label Frozen is = labelled-held p.cells.heap to Frozen (g.frozen s k to is e)
+
     by : (c : Option Body) → body_at p.cells.heap s ≡ c → IsHeld p.cells.heap to
     by None f = absurd (none-some (word.Slot to) (sym (ap (option_and_then (λ (b : Body). slice_get b.fields k)) f) ∙ e))
     by (Some b) f = label b.label (ap (option_map (λ (b : Body). b.label)) f)

@@ -1,5 +1,6 @@
 -- Lists that name one region and all beneath it, and objects that go in two steps.
-use Rattle.std.proofs.Common.{◌≡◌, ℕ, ◌==◌, ◌||◌, Bool as Truth, true, false, if◌then◌else◌, cond, List, [], ◌∷◌, ◌++◌, map, Option, Some, None, find, is_some}
+use Rattle.std.proofs.Common.{◌≡◌, ℕ, ◌==◌, ◌||◌, Bool as Truth, true, false, if◌then◌else◌, cond, List, [], ◌∷◌, ◌++◌}
+use Rattle.std.proofs.Common.{Option, Some, None, find, is_some}
 use Rattle.std.proofs.Common.{refl, sym, ap, ◌∙◌, subst}
 use Rattle.std.proofs.lemmas.Option.{same_Some}
 use Rattle.rg_base.specs.declared.object.Label.{Label}
@@ -60,8 +61,8 @@ pub bury-more : (early late : List ℕ) (temps : Option ℕ) (store : List Seen)
 bury-more early late temps [] = refl
 bury-more early late temps (o ∷ os) =
     ap (λ x. x ∷ bury late temps (bury early None os)) (
-      two-steps o (in_regions early o.label) (in_regions late o.label) (is_temp temps o.label)
-      (λ x. in_regions late x.label || is_temp temps x.label) refl
-      ∙ ap (λ b. if b || is_temp temps o.label then gone else o) (sym (more-regions early late o.label))
+    two-steps o (in_regions early o.label) (in_regions late o.label) (is_temp temps o.label)
+    (λ x. in_regions late x.label || is_temp temps x.label) refl
+    ∙ ap (λ b. if b || is_temp temps o.label then gone else o) (sym (more-regions early late o.label))
     )
     ∙ ap (λ xs. buried (early ++ late) temps o ∷ xs) (bury-more early late temps os)

@@ -52,11 +52,13 @@ module _ (old new : Heap) (regions : List ℕ) (label : Label) (l : Labels old n
     where
       label-is : label_at old s ≡ Some b.label
       label-is = ap (option_map (λ (b : Body). b.label)) e
+
       by : (k : Label) → b.label ≡ k → Gets s b ⊎ Keeps s b
       by (Region q) is = test (among regions q) refl
         where
           lies : label_at old s ≡ Some (Region q)
           lies = label-is ∙ ap Some is
+
           test : (t : Truth) → among regions q ≡ t → Gets s b ⊎ Keeps s b
           test true a = inl (record {
             test = ap (in_regions regions) is ∙ a;

@@ -63,6 +63,7 @@ val-back h (word.Slot s) a e = by (body_at h s) refl
   where
     serial-is : (b : Body) → val.Obj b.serial ≡ val.Obj a → b.serial ≡ a
     serial-is b q = cc
+
     by : (o : Option Body) → body_at h s ≡ o → RefersTo h (word.Slot s) a
     by None f = let c : val.Nil ≡ val.Obj a = sym (ap obj_of f) ∙ e in absurd cc
     by (Some b) f = record { slot = s; body = b; is = refl; held = f; serial = serial-is b (sym (ap obj_of f) ∙ e) }

@@ -52,6 +52,7 @@ look-in n (Some r ∷ rs) = test (r.number == n) refl (look-in n rs)
     none : Nowhere rs n → r.number ≢ n → (key : ℕ) (u : Record) → slice_index_or (Some r ∷ rs) key None ≡ Some u → u.number ≢ n
     none w d zero u e = λ f. d (ap (λ (x : Record). x.number) (same_Some r u e) ∙ f)
     none w d (suc key) u e = w.none key u e
+
     test : (t : Truth) → (r.number == n) ≡ t → Found rs n ⊎ Nowhere rs n → Found (Some r ∷ rs) n ⊎ Nowhere (Some r ∷ rs) n
     test true e rest = inl (record {
       key = 0;

@@ -118,6 +118,7 @@ module _ (p : Parts) (v : Stack) (at : ℕ) (q : Serials p.cells.heap) (g : Grov
     where
       label-is : (l : Label) → b.label ≡ l → label_at p.cells.heap s ≡ Some l
       label-is l is = ap (option_map (λ (b : Body). b.label)) e ∙ ap Some is
+
       by : (l : Label) → b.label ≡ l → InActive p.cells.heap p.regions v s P ⊎ IsTemp p.cells.heap s
       by (Region r) is =
           let same : r ≡ top.number =
@@ -131,18 +132,20 @@ module _ (p : Parts) (v : Stack) (at : ℕ) (q : Serials p.cells.heap) (g : Grov
       → may_stand (machine_of p v at) (Region n) (val_of p.cells.heap w) ≡ true → Stays p.cells.heap n w
   stays n w held e to is =
       let b = held-body p.cells.heap to (held to is) in
-      by b.0 b.1 b.0.label refl (sym (ap (λ (x : Val). may_stand (machine_of p v at) (Region n) x) (ap (val_of p.cells.heap) is ∙ val-held p.cells.heap to b.0 b.1)) ∙ e)
+      let shown = ap (val_of p.cells.heap) is ∙ val-held p.cells.heap to b.0 b.1 in
+      by b.0 b.1 b.0.label refl (sym (ap (λ (x : Val). may_stand (machine_of p v at) (Region n) x) shown) ∙ e)
     where
       answer : Option Label → Truth
       answer x = elim x [
         | None ↦ false
         | Some k ↦ elim k [ Region r ↦ r == n | Temp m ↦ false | Frozen ↦ true ]
       ]
+
       by : (b : Body) → body_at p.cells.heap to ≡ Some b → (l : Label) → b.label ≡ l
           → may_stand (machine_of p v at) (Region n) (val.Obj b.serial) ≡ true
           → (label_at p.cells.heap to ≡ Some Frozen) ⊎ LiesIn p.cells.heap n to
       by b f l is may = label l is (sym (ap answer (sym (ap (label_of (store_of p.cells.heap)) (val-held p.cells.heap to b f))
-            ∙ label-shown p.cells.heap to b q f ∙ ap Some is)) ∙ may)
+          ∙ label-shown p.cells.heap to b q f ∙ ap Some is)) ∙ may)
         where
           label : (l : Label) → b.label ≡ l → answer (Some l) ≡ true → (label_at p.cells.heap to ≡ Some Frozen) ⊎ LiesIn p.cells.heap n to
           label (Region r) is e =
@@ -206,6 +209,7 @@ module _ (p : Parts) (v : Stack) (at : ℕ) (q : Serials p.cells.heap) (g : Grov
           → 1 ≤ count_by (is_into (store_of p.cells.heap) r) vs
       found vs None f e = absurd (false≢true e)
       found vs (Some u) f e = count-hit (is_into (store_of p.cells.heap) r) vs i u f e
+
       by : (fs : List Frame) → is_into (store_of p.cells.heap) r (unwrap_or (slice_get (top_slots fs) i) val.Nil) ≡ true
           → 1 ≤ slots_into (store_of p.cells.heap) r fs
       by [] e = absurd (false≢true e)
@@ -289,5 +293,6 @@ module _ (p : Parts) (v : Stack) (at : ℕ) (q : Serials p.cells.heap) (g : Grov
     where
       slot-same : (a b : ℕ) → word.Slot a ≡ word.Slot b → a ≡ b
       slot-same a b e = cc
+
       region-same : (a b : ℕ) → Some (Region a) ≡ Some (Region b) → a ≡ b
       region-same a b e = cc

@@ -112,17 +112,20 @@ module _ (t : RegionTable) (v : Stack) (k : Keyed t v) where
   -- a closed region isn't open
   pub closed-not-open : (r : ℕ) → IsClosed t v r → is_open (windows_of t v) r ≡ false
   closed-not-open r c = never (is_open (windows_of t v) r) (λ e.
-    let a = open-back r e in
-    let same : a.1.region ≡ c.0 = k.numbers a.1.region c.0 r a.3 c.1 in
-    false≢true (sym c.2 ∙ any-in (has_region c.0) v.windows a.0 a.1 a.2 (eq-is a.1.region c.0 same)))
+      let a = open-back r e in
+      let same : a.1.region ≡ c.0 = k.numbers a.1.region c.0 r a.3 c.1 in
+      false≢true (sym c.2 ∙ any-in (has_region c.0) v.windows a.0 a.1 a.2 (eq-is a.1.region c.0 same)))
 
   -- a region of the table that isn't open is closed
   pub not-open-closed : (r : ℕ) → InTable t r → is_open (windows_of t v) r ≡ false → IsClosed t v r
-  not-open-closed r known e =
-      (known.0, known.1, never (list_any (has_region known.0) v.windows) (λ f.
+  not-open-closed r known e = (
+    known.0,
+    known.1,
+    never (list_any (has_region known.0) v.windows) (λ f.
         let a = any-back (has_region known.0) v.windows f in
         let same : known.0 ≡ a.1.region = sym (eq-true a.1.region known.0 a.3) in
-        false≢true (sym e ∙ window-open r a.0 a.1 a.2 (subst (λ key. HasNumber t key r) same known.1))))
+        false≢true (sym e ∙ window-open r a.0 a.1 a.2 (subst (λ key. HasNumber t key r) same known.1))),
+  )
 
 -- Values
 
@@ -174,6 +177,7 @@ module _ (p : Parts) (v : Stack) (at : ℕ) (q : Serials p.cells.heap) (k : Keye
           test false o c = let same : n ≡ r = same_Some n r c in (ap Region same, ap (is_open (windows_of p.regions v)) (sym same) ∙ o)
       label (Temp n) c = absurd (none-some r c)
       label Frozen c = absurd (none-some r c)
+
       by : (o : Option Label) → label_of (store_of p.cells.heap) (val_of p.cells.heap w) ≡ o
           → (s : ℕ) × (w ≡ word.Slot s) × LiesIn p.cells.heap r s × IsClosed p.regions v r
       by None f = absurd (none-some r (sym (ap (option_and_then (closed_of (windows_of p.regions v))) f) ∙ e))

@@ -61,11 +61,13 @@ module _ (old new : Parts) (Gone Cell : ℕ → Type 0) (regions : List ℕ) (te
     where
       label-is : label_at old.cells.heap s ≡ Some b.label
       label-is = ap (option_map (λ (b : Body). b.label)) e
+
       by : (l : Label) → b.label ≡ l → Goes s b ⊎ Stays s b
       by (Region q) is = test (among regions q) refl
         where
           lies : label_at old.cells.heap s ≡ Some (Region q)
           lies = label-is ∙ ap Some is
+
           test : (t : Truth) → among regions q ≡ t → Goes s b ⊎ Stays s b
           test true a = inl (record {
             test = ap (goes regions temps) is ∙ ap (λ t. t || is_temp temps (Region q)) a;
@@ -75,16 +77,18 @@ module _ (old new : Parts) (Gone Cell : ℕ → Type 0) (regions : List ℕ) (te
             test = ap (goes regions temps) is ∙ ap (λ t. t || is_temp temps (Region q)) a ∙ no-temp temps q;
             same =
                 r.cells s (λ p g l.
-                  let one = same-region p q (sym l ∙ lies) in
-                  false≢true (sym a ∙ ap (among regions) (sym one) ∙ names.all p g))
+                let one = same-region p q (sym l ∙ lies) in
+                false≢true (sym a ∙ ap (among regions) (sym one) ∙ names.all p g))
                 (λ c. let t = cells.only s c in temp-region t.0 q (sym t.1 ∙ lies)) ∙ e;
           })
       by (Temp n) is = test temps refl
         where
           lies : label_at old.cells.heap s ≡ Some (Temp n)
           lies = label-is ∙ ap Some is
+
           stays : (Cell s → ⊥) → body_at new.cells.heap s ≡ Some b
           stays out = r.cells s (λ p g l. temp-region n p (sym lies ∙ l)) out ∙ e
+
           told : (k : ℕ) → temps ≡ Some k → (t : Truth) → (n == k) ≡ t → Goes s b ⊎ Stays s b
           told k f true a = inl (record {
             test = ap (goes regions temps) is ∙ ap (λ o. is_temp o (Temp n)) f ∙ a;
@@ -93,8 +97,9 @@ module _ (old new : Parts) (Gone Cell : ℕ → Type 0) (regions : List ℕ) (te
           told k f false a = inr (record {
             test = ap (goes regions temps) is ∙ ap (λ o. is_temp o (Temp n)) f ∙ a;
             same = stays (λ c. let t = cells.only s c in
-              eq-false n k a (same-temp n t.0 (sym lies ∙ t.1) ∙ same_Some t.0 k (sym t.2 ∙ f)));
+                eq-false n k a (same-temp n t.0 (sym lies ∙ t.1) ∙ same_Some t.0 k (sym t.2 ∙ f)));
           })
+
           test : (o : Option ℕ) → temps ≡ o → Goes s b ⊎ Stays s b
           test None f = inr (record {
             test = ap (goes regions temps) is ∙ ap (λ o. is_temp o (Temp n)) f;

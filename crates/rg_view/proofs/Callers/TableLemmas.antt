@@ -54,8 +54,7 @@ rewritten-numbers old new key f w known number manager =
       next = w.next;
       there = λ k u e. elim (cases_eq k key) [
         | inl is ↦
-            let same : with_room now.0 (f r.0) ≡ u = same_Some (with_room now.0 (f r.0)) u (sym now.1 ∙ ap (record_at new) (sym is) ∙ e) in
-            (
+            let same : with_room now.0 (f r.0) ≡ u = same_Some (with_room now.0 (f r.0)) u (sym now.1 ∙ ap (record_at new) (sym is) ∙ e) in (
               r.0,
               ap (record_at old) is ∙ r.1,
               sym (number r.0) ∙ ap (λ (x : Record). x.number) same,
@@ -104,8 +103,8 @@ same-windows old new v s known = kept-windows old new v (λ i w e. same-number o
 pub opens-windows : (old new : RegionTable) (v : Stack) (key slot : ℕ) (manager : Manager) → Opens old new key slot manager
     → ((i : ℕ) (w : WindowRow) → slice_get v.windows i ≡ Some w → IsKey old w.region) → windows_of new v ≡ windows_of old v
 opens-windows old new v key slot manager o known = kept-windows old new v (λ i w e.
-  let r = record-there old w.region (known i w e) in
-  ap number_in (o.others w.region (λ is. none-some r.0 (sym o.vacant ∙ ap (record_at old) (sym is) ∙ r.1))))
+    let r = record-there old w.region (known i w e) in
+    ap number_in (o.others w.region (λ is. none-some r.0 (sym o.vacant ∙ ap (record_at old) (sym is) ∙ r.1))))
 
 -- Some regions go, and the others keep their records' numbers and managers.
 pub record FewerNumbers (old new : RegionTable) : Type 0 where

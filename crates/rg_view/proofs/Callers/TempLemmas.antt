@@ -1,26 +1,24 @@
 -- The regions that go with a window's temporaries, in the heap and in the store that it shows.
-use Rattle.std.proofs.Common.{◌≡◌, ◌<◌, ◌≤◌, ◌⊎◌, inl, inr, ℕ, ◌+◌, ◌-◌, true, List, map, length, drop, take, Option, Some, None, option_map, slice_get}
-use Rattle.std.proofs.Common.{slice_index_or, refl, sym, ap, ◌∙◌, subst, arith}
+use Rattle.std.proofs.Common.{◌≡◌, inl, inr, ℕ, ◌-◌, true, List, map, length, Option, Some, None, option_map, slice_get}
+use Rattle.std.proofs.Common.{refl, sym, ap, ◌∙◌, arith}
 use Rattle.std.proofs.lemmas.Bool.{false≢true}
 use Rattle.std.proofs.lemmas.Option.{none-some, slice_get-map}
 use Rattle.rg_base.specs.declared.object.Label.{Label}
 use Rattle.rg_base.specs.declared.object.Label.TheVariants.{Region, Temp, Frozen}
 use Rattle.rg_base.specs.declared.object.Seen.{Seen}
-use Rattle.rg_base.specs.declared.value.Val.{Val}
 use Rattle.rg_base.specs.declared.value.Word.TheVariants as word
-use Rattle.rg_rules.specs.Regions.{among}
 use Rattle.rg_cells.specs.declared.cell.Body.{Body}
-use Rattle.rg_cells.specs.Table.{Heap, body_at, label_at, Serials}
-use Rattle.rg_regions.specs.Grove.{Grove, Below}
+use Rattle.rg_cells.specs.Table.{body_at, label_at, Serials}
+use Rattle.rg_regions.specs.Grove.{Grove}
 use Rattle.rg_frames.specs.declared.rows.Window.{Window as WindowRow}
-use Rattle.rg_frames.specs.Stack.{Stack, mark}
+use Rattle.rg_frames.specs.Stack.{Stack}
 use Rattle.rg_stack.specs.Effects.{top_window}
 use Rattle.rg_stack.specs.Needs.{is_top_temp, closed_into}
 use Rattle.rg_heap.specs.Parts.{Parts}
-use Rattle.rg_heap.specs.Answers.{val_of, IsClosed}
+use Rattle.rg_heap.specs.Answers.{val_of}
 use Rattle.rg_heap.specs.Ends.{OwnedByOne, GoesAlong, top_temps, IsTopTemp}
-use Rattle.rg_heap.specs.Opened.{Opened, IsTempOf}
-use Rattle.rg_view.specs.View.{gone, object_of, store_of, windows_of, machine_of}
+use Rattle.rg_heap.specs.Opened.{Opened}
+use Rattle.rg_view.specs.View.{object_of, windows_of, machine_of}
 use Rattle.rg_view.specs.Bury.{Names, AreTemps}
 use Rattle.rg_view.specs.Links.{BelowSome, ByTemp}
 use Rattle.rg_view.proofs.ListLemmas.{eq-true, eq-is}
@@ -28,7 +26,7 @@ use Rattle.rg_view.proofs.Callers.LookLemmas.{store-held}
 use Rattle.rg_view.proofs.Callers.ShownLemmas.{field-in}
 use Rattle.rg_view.proofs.Callers.FrameLemmas.{there}
 use Rattle.rg_view.proofs.Callers.WindowLemmas.{active-number}
-use Rattle.rg_view.proofs.Callers.LinkLemmas.{HeldAs, store-back, word-back}
+use Rattle.rg_view.proofs.Callers.LinkLemmas.{store-back, word-back}
 use Rattle.rg_view.proofs.Callers.OpenLemmas.{into-closed, closed-there}
 use Rattle.rg_view.proofs.Callers.NeedLemmas.{keyed}
 use Rattle.rg_view.proofs.Callers.LeaveLemmas.{top-temp, temp-top}
@@ -57,6 +55,7 @@ module _ (p : Parts) (v : Stack) (at : ℕ) (q : Serials p.cells.heap) (g : Grov
     where
       labelled : label_at p.cells.heap a.slot ≡ Some (Temp top-row.0.number)
       labelled = o.temps (length v.windows - 1) a.slot top-row.0 top-row.1 (top-temp p v g o a.place a.slot a.stands)
+
       by : (c : Option Body) → body_at p.cells.heap a.slot ≡ c → ByTemp (machine_of p v at) r
       by None e = absurd (none-some (Temp top-row.0.number) (sym (ap (option_map (λ (b : Body). b.label)) e) ∙ labelled))
       by (Some b) e =
@@ -76,6 +75,7 @@ module _ (p : Parts) (v : Stack) (at : ℕ) (q : Serials p.cells.heap) (g : Grov
         where
           some-label : (l k : Label) → Some l ≡ Some k → l ≡ k
           some-label l k e = cc
+
           temp-label : (b : Body) → Some b.label ≡ Some (Temp top-row.0.number) → is_top_temp (machine_of p v at) b.label ≡ true
           temp-label b e =
               ap (is_top_temp (machine_of p v at)) (some-label b.label (Temp top-row.0.number) e)

@@ -97,8 +97,8 @@ module _ (h : Heap) (slot k : ℕ) (w : Word) (b : Body) (e : body_at h slot ≡
   shown-beside q a d = elim (look h a) [
     | inl here ↦
         let other : here.slot ≢ slot = (λ is.
-            let same : here.body ≡ b = same_Some here.body b (sym here.held ∙ ap (body_at h) is ∙ e) in
-            d (sym here.serial ∙ ap (λ (c : Body). c.serial) same)) in
+        let same : here.body ≡ b = same_Some here.body b (sym here.held ∙ ap (body_at h) is ∙ e) in
+        d (sym here.serial ∙ ap (λ (c : Body). c.serial) same)) in
         let there : body_at after here.slot ≡ Some here.body = written-beside here.slot other ∙ here.held in
         ap (seen_of after) (sym here.serial)
         ∙ seen-held after here.slot here.body (written-serials q) there
