@@ -1,0 +1,23 @@
+-- What callers cite.
+pub mod LookLemmas
+pub mod ShownLemmas
+pub mod MakeLemmas
+pub mod WriteLemmas
+pub mod BecomeLemmas
+pub mod ReleaseLemmas
+pub mod ManagerLemmas
+pub mod FrameLemmas
+pub mod WindowLemmas
+pub mod LabelLemmas
+pub mod LinkLemmas
+pub mod OpenLemmas
+pub mod NeedLemmas
+pub mod TableLemmas
+pub mod GoneLemmas
+pub mod LeaveLemmas
+pub mod ReadLemmas
+pub mod CallLemmas
+pub mod TempLemmas
+pub mod KeyLemmas
+pub mod MachineLemmas
+pub mod HeldLemmas

@@ -1,0 +1,2 @@
+-- What small heaps show, computed.
+pub mod Heaps

@@ -1,0 +1,3 @@
+pub mod Callers
+mod Examples
+mod ListLemmas
