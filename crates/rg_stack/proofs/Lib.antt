@@ -2,8 +2,8 @@ mod Basics
 mod Mirrors
 mod Walks
 mod Statements
-mod Judgements
+pub mod Judgements
 mod Refusals
-mod Needs
+pub mod Needs
 pub mod Callers
 mod Examples

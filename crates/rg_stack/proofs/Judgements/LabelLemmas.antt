@@ -101,12 +101,12 @@ fields_back store vs n i =
     let a = filter-back (region_at store) (filter_map address vs) n i in
     let k = address_back vs a.0 a.1 in record { field = k.0; address = a.0; value = k.1; leads = a.2 }
 
-fields_in : (store : List Seen) (vs : List Val) (n k a : ℕ) → slice_get vs k ≡ Some (val.Obj a) → region_at store a ≡ Some n
+pub fields_in : (store : List Seen) (vs : List Val) (n k a : ℕ) → slice_get vs k ≡ Some (val.Obj a) → region_at store a ≡ Some n
     → In n (filter_map (region_at store) (filter_map address vs))
 fields_in store vs n k a is leads = filter-in (region_at store) (filter_map address vs) a n (address_in vs k a is) leads
 
 -- numbers that a region's objects lead to
-labels_back : (store os : List Seen) (r n : ℕ) → In n (led_by_labels store os r) → LeadsTo store os r n
+pub labels_back : (store os : List Seen) (r n : ℕ) → In n (led_by_labels store os r) → LeadsTo store os r n
 labels_back store [] r n i = absurd i
 labels_back store (o ∷ os) r n i = by (in_regions (r ∷ []) o.label) refl i (λ i. labels_back store os r n i)
   where
@@ -144,7 +144,7 @@ labels_back store (o ∷ os) r n i = by (in_regions (r ∷ []) o.label) refl i (
       | inr there ↦ later (rest there)
     ]
 
-labels_in : (store os : List Seen) (r n k : ℕ) (o : Seen) → slice_get os k ≡ Some o → o.label ≡ Region r
+pub labels_in : (store os : List Seen) (r n k : ℕ) (o : Seen) → slice_get os k ≡ Some o → o.label ≡ Region r
     → In n (filter_map (region_at store) (filter_map address o.fields)) → In n (led_by_labels store os r)
 labels_in store [] r n k o there lies i = none_some o there
 labels_in store (p ∷ os) r n zero o there lies i =
@@ -160,14 +160,14 @@ labels_in store (p ∷ os) r n (suc k) o there lies i = by (in_regions (r ∷ []
     by false i = i
     by true i = in-right (filter_map (region_at store) (filter_map address p.fields)) (led_by_labels store os r) n i
 
-flat_back : (f : ℕ → List ℕ) (rs : List ℕ) (n : ℕ) → In n (flat_map f rs) → (r : ℕ) × In r rs × In n (f r)
+pub flat_back : (f : ℕ → List ℕ) (rs : List ℕ) (n : ℕ) → In n (flat_map f rs) → (r : ℕ) × In r rs × In n (f r)
 flat_back f [] n i = absurd i
 flat_back f (r ∷ rs) n i = elim (in-split (f r) (flat_map f rs) n i) [
   | inl here ↦ (r, inl refl, here)
   | inr there ↦ (let h = flat_back f rs n there in (h.0, inr h.1, h.2))
 ]
 
-flat_in : (f : ℕ → List ℕ) (rs : List ℕ) (r n : ℕ) → In r rs → In n (f r) → In n (flat_map f rs)
+pub flat_in : (f : ℕ → List ℕ) (rs : List ℕ) (r n : ℕ) → In r rs → In n (f r) → In n (flat_map f rs)
 flat_in f [] r n a b = absurd a
 flat_in f (q ∷ rs) r n (inl same) b = in-left (f q) (flat_map f rs) n (subst (λ r. In n (f r)) (sym same) b)
 flat_in f (q ∷ rs) r n (inr a) b = in-right (f q) (flat_map f rs) n (flat_in f rs r n a b)

@@ -1,0 +1,196 @@
+-- A walk beside that over the growing store: no instruction is refused behind a change, so what is taken from its place stays on the stack.
+use Rattle.std.proofs.Common.{◌≡◌, ℕ, zero, suc, ◌+◌, ◌-◌, ◌⊎◌, inl, inr, true, false, not, Bool as Truth, List, [], ◌∷◌, Option, Some}
+use Rattle.std.proofs.Common.{None, refl, sym, ap, subst, ◌∙◌, arith, drop, slice_get}
+use Rattle.std.specs.Prelude.{◌||◌, if◌then◌else◌}
+use Rattle.rg_base.specs.declared.value.Val.{Val}
+use Rattle.rg_code.specs.declared.op.Op.{Op}
+use Rattle.rg_code.specs.declared.op.Op.TheVariants as i
+use Rattle.rg_code.specs.Code.{Code}
+use Rattle.rg_code.specs.Places.{is_mark}
+use Rattle.rg_stack.specs.Effects.{Work, Walked, Stops, Returns, Traps, Stuck, act}
+use Rattle.rg_stack.specs.Needs.{is_empty, needs}
+use Rattle.rg_stack.specs.Given.{given_walk}
+use Rattle.rg_stack.specs.Refusals.{Manner, Ends, Clears, Settles, Takes, Computes, Prepares, Calls, Chooses, Passes, manner, room_behind, calm_by}
+use Rattle.rg_stack.specs.Refusals.{calm, computes, all_compute, orderly_by, orderly}
+use Rattle.rg_held.specs.Frees.{free_act, free_walk}
+use Rattle.rg_held.specs.Ends.{Match, SameEnd}
+use Rattle.rg_held.specs.Laws.{owners_of, may_follow, taken_behind, goes_on, skipped, GoesTo, InOrder, WalksSame}
+use Rattle.rg_held.proofs.Lists.{some-is, none-some, off}
+use Rattle.rg_held.proofs.Places.{and-left, and-right}
+use Rattle.rg_held.proofs.Easy.{stop-same}
+use Rattle.rg_held.proofs.Acts.{act-same}
+
+stuck-same : (x : Walked) → SameEnd x Stuck
+stuck-same (Stops at w) = tt
+stuck-same (Returns back stack w) = tt
+stuck-same (Traps t) = tt
+stuck-same Stuck = tt
+
+mark-there : (o : Option Op) → is_mark o ≡ true → (line : ℕ) × (o ≡ Some (i.Mark line))
+mark-there None e = off e
+mark-there (Some (i.Mark line)) e = (line, refl)
+mark-there (Some o) e = off e
+
+drop-get : {A : Type 0} (xs : List A) (n j : ℕ) → slice_get (drop n xs) j ≡ slice_get xs (n + j)
+drop-get xs zero j = let e : j ≡ 0 + j = omega arith in ap (slice_get xs) e
+drop-get [] (suc n) j = refl
+drop-get (x ∷ xs) (suc n) j = let e : suc (n + j) ≡ suc n + j = omega arith in drop-get xs n j ∙ ap (slice_get (x ∷ xs)) e
+
+drop-next : {A : Type 0} (xs : List A) (n : ℕ) (o : A) (os : List A) → drop n xs ≡ o ∷ os → drop (n + 1) xs ≡ os
+drop-next [] zero o os e = none-some o (ap (λ l. slice_get l 0) e)
+drop-next [] (suc n) o os e = none-some o (ap (λ l. slice_get l 0) e)
+drop-next (x ∷ xs) zero o os e = ap (λ l. drop 1 l) e
+drop-next (x ∷ xs) (suc n) o os e = let k : suc n + 1 ≡ suc (n + 1) = omega arith in ap (λ j. drop j (x ∷ xs)) k ∙ drop-next xs n o os e
+
+-- what an instruction of a manner leaves in front
+record Turn (code : List Op) (at : ℕ) (room taken : Truth) (m : Manner) (os : List Op) : Type 0 where
+  allowed : (may_follow m || not taken) ≡ true
+  on : goes_on m ≡ true → InOrder code (at + 1) (room_behind m room) (taken_behind m taken) os
+  to : goes_on m ≡ true → (skipped at m ≡ 0) ⊎ (((taken_behind m taken ≡ false) × (all_compute (skipped at m) os ≡ true))
+      ⊎ ((t : ℕ) × (skipped at m ≡ t - (at + 1)) × (is_mark (slice_get code t) ≡ true)))
+
+first-turn : (code : List Op) (at : ℕ) (room : Truth) (m : Manner) (os : List Op)
+    → orderly_by code at room m os (calm code (room_behind m room) os) (orderly code (at + 1) (room_behind m room) os) ≡ true
+    → Turn code at room false m os
+first-turn code at room Ends os h = record { allowed = refl; on = λ e. off e; to = λ e. off e }
+first-turn code at room Clears os h = record { allowed = refl; on = λ e. h; to = λ e. inl refl }
+first-turn code at room Settles os h = record { allowed = refl; on = λ e. h; to = λ e. inl refl }
+first-turn code at room Takes os h = record { allowed = refl; on = λ e. h; to = λ e. inl refl }
+first-turn code at room Computes os h = record { allowed = refl; on = λ e. h; to = λ e. inl refl }
+first-turn code at room Prepares os h = record { allowed = refl; on = λ e. h; to = λ e. inl refl }
+first-turn code at room Calls os h = record { allowed = refl; on = λ e. off e; to = λ e. off e }
+first-turn code at room (Chooses t) os h = record {
+  allowed = refl;
+  on = λ e. and-right (is_mark (slice_get code t)) (orderly code (at + 1) false os) h;
+  to = λ e. inr (inr (t, refl, and-left (is_mark (slice_get code t)) (orderly code (at + 1) false os) h));
+}
+first-turn code at room (Passes t) os h = record {
+  allowed = refl;
+  on = λ e. and-right (all_compute (t - (at + 1)) os) (orderly code (at + 1) false os) h;
+  to = λ e. inr (inl (refl, and-left (all_compute (t - (at + 1)) os) (orderly code (at + 1) false os) h));
+}
+
+later-turn : (code : List Op) (at : ℕ) (room : Truth) (m : Manner) (os : List Op) → calm_by code room m (calm code (room_behind m room) os) ≡ true
+    → Turn code at room true m os
+later-turn code at room Ends os h = record { allowed = refl; on = λ e. off e; to = λ e. off e }
+later-turn code at room Clears os h = record { allowed = refl; on = λ e. h; to = λ e. inl refl }
+later-turn code at room Settles os h = record { allowed = refl; on = λ e. h; to = λ e. inl refl }
+later-turn code at room Takes os h = off h
+later-turn code at room Computes os h = off h
+later-turn code at room Prepares os h = off h
+later-turn code at room Calls os h = record { allowed = refl; on = λ e. off e; to = λ e. off e }
+later-turn code at room (Chooses t) os h = record {
+  allowed = refl;
+  on = λ e. and-right (is_mark (slice_get code t)) (calm code false os) h;
+  to = λ e. inr (inr (t, refl, and-left (is_mark (slice_get code t)) (calm code false os) h));
+}
+later-turn code at room (Passes t) os h = off h
+
+turn : (code : List Op) (at : ℕ) (room taken : Truth) (o : Op) (os : List Op) → InOrder code at room taken (o ∷ os)
+    → Turn code at room taken (manner o) os
+turn code at room true o os h = later-turn code at room (manner o) os h
+turn code at room false o os h = first-turn code at room (manner o) os h
+
+-- what computes is passed over
+passed : (code : List Op) (at : ℕ) (room : Truth) (m : Manner) (os : List Op) (c r : Truth) → computes m ≡ true
+    → orderly_by code at room m os c r ≡ true → r ≡ true
+passed code at room Ends os c r e h = off e
+passed code at room Clears os c r e h = off e
+passed code at room Settles os c r e h = off e
+passed code at room Takes os c r e h = off e
+passed code at room Computes os c r e h = h
+passed code at room Prepares os c r e h = off e
+passed code at room Calls os c r e h = off e
+passed code at room (Chooses t) os c r e h = off e
+passed code at room (Passes t) os c r e h = and-right (all_compute (t - (at + 1)) os) r h
+
+-- a walk to a mark
+mark-same : (code : Code) (line : ℕ) (os : List Op) (at skip : ℕ) (taken : Truth) (stack : List Val) (u w : Work)
+    → slice_get os skip ≡ Some (i.Mark line) → Match (owners_of taken stack) u w stack
+    → SameEnd (free_walk code os at skip stack u) (given_walk code os at skip stack w)
+mark-same code line [] at skip taken stack u w e m = none-some (i.Mark line) e
+mark-same code line (o ∷ os) at (suc k) taken stack u w e m = mark-same code line os (at + 1) k taken stack u w e m
+mark-same code line (o ∷ os) at zero taken stack u w e m =
+    subst (λ o. SameEnd (free_walk code (o ∷ os) at 0 stack u) (given_walk code (o ∷ os) at 0 stack w)) (sym (some-is o (i.Mark line) e))
+    (by (is_empty stack) refl)
+  where
+    by : (b : Truth) → is_empty stack ≡ b → SameEnd (Stops at u) (if b then Stops at w else Stuck)
+    by true h = (refl, stop-same at taken stack u w h m)
+    by false h = tt
+
+-- where a walk stands
+abbrev Ahead : (code : List Op) → (at : ℕ) → (room taken : Truth) → (skip : ℕ) → List Op → Type 0
+Ahead code at room taken skip os = ((skip ≡ 0) × InOrder code at room taken os)
+    ⊎ ((taken ≡ false) × ((all_compute skip os ≡ true) × (orderly code at room os ≡ true)))
+
+-- an instruction, from which the walk goes on as is known
+act-by : (code : Code) (o : Op) (os : List Op) (at : ℕ) (room taken : Truth) (stack : List Val) (u w : Work) → drop (at + 1) code.ops ≡ os
+    → InOrder code.ops at room taken (o ∷ os) → Match (owners_of taken stack) u w stack
+    → ((r t : Truth) (k : ℕ) (st : List Val) (x y : Work) → Ahead code.ops (at + 1) r t k os → Match (owners_of t st) x y st
+    → SameEnd (free_walk code os (at + 1) k st x) (given_walk code os (at + 1) k st y))
+    → SameEnd (free_walk code (o ∷ os) at 0 stack u) (given_walk code (o ∷ os) at 0 stack w)
+act-by code o os at room taken stack u w here h m rest = by (needs code o stack w.machine) refl
+  where
+    r : Truth
+    r = room_behind (manner o) room
+
+    behind : Truth
+    behind = taken_behind (manner o) taken
+
+    t : Turn code.ops at room taken (manner o) os
+    t = turn code.ops at room taken o os h
+
+    on : goes_on (manner o) ≡ true → GoesTo 0 behind (free_walk code os (at + 1)) (given_walk code os (at + 1))
+    on e st x y = rest r behind 0 st x y (inl (refl, t.on e))
+
+    orderly-if : (b : Truth) → b ≡ false → InOrder code.ops (at + 1) r b os → orderly code.ops (at + 1) r os ≡ true
+    orderly-if false e i = i
+    orderly-if true e i = off (sym e)
+
+    far : (k j : ℕ) → k ≡ j - (at + 1) → (line : ℕ) → slice_get code.ops j ≡ Some (i.Mark line) → (k ≡ 0) ⊎ (slice_get os k ≡ Some (i.Mark line))
+    far zero j e line is = inl refl
+    far (suc k) j e line is = inr (ap (λ l. slice_get l (suc k)) (sym here) ∙ drop-get code.ops (at + 1) (suc k)
+        ∙ ap (slice_get code.ops) (omega (arith, e)) ∙ is)
+
+    to-by : goes_on (manner o) ≡ true → (k : ℕ) → (k ≡ 0) ⊎ (((behind ≡ false) × (all_compute k os ≡ true))
+        ⊎ ((j : ℕ) × (k ≡ j - (at + 1)) × (is_mark (slice_get code.ops j) ≡ true)))
+        → GoesTo k behind (free_walk code os (at + 1)) (given_walk code os (at + 1))
+    to-by e k (inl z) st x y n = rest r behind k st x y (inl (z, t.on e)) n
+    to-by e k (inr (inl q)) st x y n = rest r behind k st x y (inr (q.0, (q.1, orderly-if behind q.0 (t.on e)))) n
+    to-by e k (inr (inr q)) st x y n = elim (far k q.0 q.1 (mark-there (slice_get code.ops q.0) q.2).0 (mark-there (slice_get code.ops q.0) q.2).1) [
+      | inl z ↦ rest r behind k st x y (inl (z, t.on e)) n
+      | inr is ↦ mark-same code (mark-there (slice_get code.ops q.0) q.2).0 os (at + 1) k behind st x y is n
+    ]
+
+    by : (b : Truth) → needs code o stack w.machine ≡ b → SameEnd (free_act code at o (free_walk code os (at + 1)) stack u)
+        (if b then act code at o (given_walk code os (at + 1)) stack w else Stuck)
+    by false n = stuck-same (free_act code at o (free_walk code os (at + 1)) stack u)
+    by true n = act-same o code at (free_walk code os (at + 1)) (given_walk code os (at + 1)) taken stack u w t.allowed n m on
+        (λ e. to-by e (skipped at (manner o)) (t.to e))
+
+walk-same : (code : Code) (os : List Op) (at : ℕ) (room taken : Truth) (skip : ℕ) (stack : List Val) (u w : Work) → drop at code.ops ≡ os
+    → Ahead code.ops at room taken skip os → Match (owners_of taken stack) u w stack
+    → SameEnd (free_walk code os at skip stack u) (given_walk code os at skip stack w)
+walk-same code [] at room taken skip stack u w here ahead m = tt
+walk-same code (o ∷ os) at room taken (suc k) stack u w here (inl h) m = absurd (let e = h.0 in omega (arith, e))
+walk-same code (o ∷ os) at room taken (suc k) stack u w here (inr h) m =
+    let first = and-left (computes (manner o)) (all_compute k os) h.1.0 in
+    walk-same code os (at + 1) (room_behind (manner o) room) taken k stack u w (drop-next code.ops at o os here)
+    (inr (
+      h.0,
+      (
+        and-right (computes (manner o)) (all_compute k os) h.1.0,
+        passed code.ops at room (manner o) os
+            (calm code.ops (room_behind (manner o) room) os) (orderly code.ops (at + 1) (room_behind (manner o) room) os) first h.1.1,
+      ),
+    )) m
+walk-same code (o ∷ os) at room taken zero stack u w here ahead m =
+    act-by code o os at room taken stack u w (drop-next code.ops at o os here) (in-order ahead) m
+    (λ r t k st x y. walk-same code os (at + 1) r t k st x y (drop-next code.ops at o os here))
+  where
+    in-order : Ahead code.ops at room taken zero (o ∷ os) → InOrder code.ops at room taken (o ∷ os)
+    in-order (inl h) = h.1
+    in-order (inr h) = subst (λ t. InOrder code.ops at room t (o ∷ os)) (sym h.0) h.1.1
+
+pub walks-same : WalksSame
+walks-same code at room taken stack u w h m = walk-same code (drop at code.ops) at room taken 0 stack u w refl (inl (refl, h)) m

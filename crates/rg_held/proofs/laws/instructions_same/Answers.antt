@@ -1,0 +1,5 @@
+use Rattle.rg_held.proofs.Acts.{act-same}
+use Rattle.rg_held.proofs.laws.instructions_same.Goals as goal
+
+pub returns : goal.returns
+returns c = act-same

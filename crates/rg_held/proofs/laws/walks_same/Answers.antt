@@ -1,0 +1,5 @@
+use Rattle.rg_held.proofs.Walking.{walks-same}
+use Rattle.rg_held.proofs.laws.walks_same.Goals as goal
+
+pub returns : goal.returns
+returns c = walks-same

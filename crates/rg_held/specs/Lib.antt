@@ -1,0 +1,5 @@
+pub mod Frees
+pub mod Part
+pub mod Ends
+pub mod Laws
+pub mod Gather

@@ -1,0 +1,23 @@
+//! The laws of the machine that frees, each as the contract of a function that does nothing
+//! (docs/architecture.md, "The stack machine").
+
+ghost use Rattle.rg_held.specs.Laws.{InstructionsSame, WalksSame};
+ghost use Rattle.rg_held.specs.Gather.{GathersFit};
+
+/// Each instruction that is given what it needs does what it does over the growing store, and
+/// leaves the same held, but for what it gives up.
+pub fn instructions_same()
+    ensures { InstructionsSame }
+{}
+
+/// So does a walk in which each instruction is given what it needs, and in which nothing is
+/// refused behind a change.
+pub fn walks_same()
+    ensures { WalksSame }
+{}
+
+/// Where a step begins or has ended, a collection of the active region leaves the machine beside
+/// the one over the growing store: what its window sees of the region is enough.
+pub fn collections_same()
+    ensures { GathersFit }
+{}
