@@ -1,5 +1,5 @@
 pub mod View
-pub mod Bury
+pub mod Names
 pub mod Numbers
 pub mod Lain
 pub mod Links

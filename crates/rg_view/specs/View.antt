@@ -1,8 +1,7 @@
--- The machine that a heap with its frames shows (docs/architecture.md, "The stack machine"): an object is named by its serial, and a
+-- The machine that a heap with its frames shows (docs/architecture.md, "The machine that frees"): an object is named by its serial, and a
 -- region by its number.
-use Rattle.std.specs.Prelude.{ℕ, ◌-◌, ◌^◌, ◌==◌, Bool as Truth, false, if◌then◌else◌, List, [], ◌∷◌, map, reverse, Option, Some, None}
+use Rattle.std.specs.Prelude.{ℕ, ◌==◌, Bool as Truth, false, if◌then◌else◌, List, [], ◌∷◌, map, reverse, Option, Some, None}
 use Rattle.std.specs.List.{range_with_len}
-use Rattle.rg_base.specs.declared.object.Label.TheVariants.{Temp}
 use Rattle.rg_base.specs.declared.object.Seen.{Seen}
 use Rattle.rg_base.specs.declared.words.Manager.{Manager}
 use Rattle.rg_base.specs.declared.words.Manager.TheVariants.{Arena}
@@ -17,10 +16,7 @@ use Rattle.rg_frames.specs.Layers.{Layer, layers}
 use Rattle.rg_stack.specs.Machine.{Frame, Window, Machine}
 use Rattle.rg_heap.specs.Parts.{Parts}
 use Rattle.rg_heap.specs.Answers.{val_of}
-
--- what stands at the serial of an object that is gone
-abbrev pub gone : Seen
-gone = record { class = 0; fields = []; label = Temp (2 ^ 64 - 1) }
+use Rattle.rg_held.specs.Frees.{gone}
 
 -- whether a body has a serial
 abbrev pub has_serial : (serial : ℕ) → Option Body → Truth

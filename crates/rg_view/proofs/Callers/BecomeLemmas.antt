@@ -6,9 +6,10 @@ use Rattle.rg_base.specs.declared.object.Seen.{Seen}
 use Rattle.rg_cells.specs.declared.cell.Body.{Body}
 use Rattle.rg_cells.specs.Table.{Heap, body_at, Serials}
 use Rattle.rg_cells.proofs.SerialsKept.{serials_of}
-use Rattle.rg_view.specs.View.{gone, object_of, seen_of, store_of}
+use Rattle.rg_view.specs.View.{object_of, seen_of, store_of}
 use Rattle.rg_view.proofs.ListLemmas.{map-numbers, map-map}
 use Rattle.rg_view.proofs.Callers.LookLemmas.{look, seen-held, seen-gone}
+use Rattle.rg_held.specs.Frees.{gone}
 
 -- a held cell shows what the rule makes of it
 pub record Turned (old new : Heap) (F : Seen → Seen) (slot : ℕ) (b : Body) : Type 0 where

@@ -8,7 +8,7 @@ use Rattle.rg_move.specs.Closed.{BelowKey}
 use Rattle.rg_heap.specs.Parts.{Parts}
 use Rattle.rg_heap.specs.Ends.{Released}
 use Rattle.rg_heap.specs.Moves.{Freezes, Merges}
-use Rattle.rg_view.specs.Bury.{Names}
+use Rattle.rg_view.specs.Names.{Names}
 use Rattle.rg_view.proofs.Callers.TableLemmas.{FewerNumbers, gone-or-same}
 
 -- a region goes, or the record of its key stays

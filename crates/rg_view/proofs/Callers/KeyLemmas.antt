@@ -11,10 +11,10 @@ use Rattle.rg_cells.specs.Table.{Heap}
 use Rattle.rg_regions.specs.Table.{RegionTable, HasNumber}
 use Rattle.rg_regions.specs.Grove.{Below}
 use Rattle.rg_move.specs.Closed.{BelowKey}
-use Rattle.rg_view.specs.View.{gone}
-use Rattle.rg_view.specs.Bury.{is_temp, buried, bury, Names}
+use Rattle.rg_view.specs.Names.{Names}
 use Rattle.rg_view.specs.Links.{BelowSome}
 use Rattle.rg_view.proofs.Callers.LabelLemmas.{one-is, one-there}
+use Rattle.rg_held.specs.Frees.{gone, is_temp, buried, bury}
 
 -- a region and all beneath it
 pub one-names : (h : Heap) (t : RegionTable) (top : ℕ) (regions : List ℕ) → Names regions (BelowSome h t (top ∷ [])) → Names regions (Below h t top)

@@ -16,7 +16,7 @@ use Rattle.rg_heap.specs.Parts.{Parts}
 use Rattle.rg_heap.specs.Answers.{obj_of}
 use Rattle.rg_heap.specs.Moves.{Freezes, Merges}
 use Rattle.rg_view.specs.View.{object_of, store_of}
-use Rattle.rg_view.specs.Bury.{Names}
+use Rattle.rg_view.specs.Names.{Names}
 use Rattle.rg_view.proofs.ListLemmas.{eq-true, eq-is}
 use Rattle.rg_view.proofs.Callers.ShownLemmas.{IsSameObject, object-same}
 use Rattle.rg_view.proofs.Callers.BecomeLemmas.{Becomes, becomes-store, becomes-serials}

@@ -17,11 +17,12 @@ use Rattle.rg_regions.specs.Table.{RegionTable, InTable}
 use Rattle.rg_regions.specs.Reach.{LiesIn}
 use Rattle.rg_regions.specs.Grove.{Parent, Above, direct, further}
 use Rattle.rg_heap.specs.Answers.{val_of, obj_of}
-use Rattle.rg_view.specs.View.{gone, object_of, seen_of, store_of}
-use Rattle.rg_view.specs.Bury.{Names}
+use Rattle.rg_view.specs.View.{object_of, seen_of, store_of}
+use Rattle.rg_view.specs.Names.{Names}
 use Rattle.rg_view.specs.Links.{Link, Reached, first, next, Spans, BelowSome}
 use Rattle.rg_view.proofs.Callers.LookLemmas.{look, store-at, store-held, store-length, val-held}
 use Rattle.rg_view.proofs.Callers.ShownLemmas.{field-in}
+use Rattle.rg_held.specs.Frees.{gone}
 
 -- a held cell whose object is shown
 pub record HeldAs (h : Heap) (a : ℕ) (o : Seen) : Type 0 where

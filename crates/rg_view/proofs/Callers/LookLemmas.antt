@@ -8,8 +8,9 @@ use Rattle.rg_base.specs.declared.value.Word.TheVariants as word
 use Rattle.rg_cells.specs.declared.cell.Body.{Body}
 use Rattle.rg_cells.specs.Table.{Heap, body_in, body_at, Serials, LacksSerial}
 use Rattle.rg_heap.specs.Answers.{val_of, obj_of}
-use Rattle.rg_view.specs.View.{gone, has_serial, body_with, object_of, seen_of, store_of}
+use Rattle.rg_view.specs.View.{has_serial, body_with, object_of, seen_of, store_of}
 use Rattle.rg_view.proofs.ListLemmas.{map-at, eq-true, eq-false}
+use Rattle.rg_held.specs.Frees.{gone}
 
 -- what is found is at the head, or behind it
 found-by : (a : ℕ) (o under : Option Body) (b : Body) → (if has_serial a o then o else under) ≡ Some b

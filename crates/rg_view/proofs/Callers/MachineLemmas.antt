@@ -18,7 +18,7 @@ use Rattle.rg_heap.specs.Answers.{val_of, AllLead}
 use Rattle.rg_heap.specs.Changes.{Makes, LeadsNowhere, OpensOne}
 use Rattle.rg_heap.specs.Ends.{Released}
 use Rattle.rg_view.specs.View.{store_of, frames_of, windows_of, managers_of, number_of, machine_of}
-use Rattle.rg_view.specs.Bury.{bury, Names, AreTemps}
+use Rattle.rg_view.specs.Names.{Names, AreTemps}
 use Rattle.rg_view.specs.Numbers.{Numbers}
 use Rattle.rg_view.proofs.Callers.ShownLemmas.{frames-same}
 use Rattle.rg_view.proofs.Callers.MakeLemmas.{made-same, made-plain}
@@ -27,6 +27,7 @@ use Rattle.rg_view.proofs.Callers.ReleaseLemmas.{kept-same, released-store}
 use Rattle.rg_view.proofs.Callers.LabelLemmas.{Labels, labels-same, labels-store}
 use Rattle.rg_view.proofs.Callers.ManagerLemmas.{SameNumbers, same-managers, opens-managers}
 use Rattle.rg_view.proofs.Callers.TableLemmas.{kept-windows, same-windows, opens-windows}
+use Rattle.rg_held.specs.Frees.{bury}
 
 -- words in slots lead to held cells
 abbrev pub SlotsLead : Heap → Stack → Type 0

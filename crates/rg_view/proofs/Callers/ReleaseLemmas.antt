@@ -11,11 +11,12 @@ use Rattle.rg_cells.specs.Table.{body_at, label_at, Serials, IsHeld}
 use Rattle.rg_heap.specs.Parts.{Parts}
 use Rattle.rg_heap.specs.Answers.{AllLead, obj_of}
 use Rattle.rg_heap.specs.Ends.{Released}
-use Rattle.rg_view.specs.View.{gone, object_of, store_of}
-use Rattle.rg_view.specs.Bury.{is_temp, buried, bury, Names, AreTemps}
+use Rattle.rg_view.specs.View.{object_of, store_of}
+use Rattle.rg_view.specs.Names.{Names, AreTemps}
 use Rattle.rg_view.proofs.ListLemmas.{eq-true, eq-false}
 use Rattle.rg_view.proofs.Callers.ShownLemmas.{IsSameObject, object-same, held-body, field-in}
 use Rattle.rg_view.proofs.Callers.BecomeLemmas.{Becomes, becomes-store, becomes-serials}
+use Rattle.rg_held.specs.Frees.{gone, is_temp, buried, bury}
 
 -- whether an object with a label goes
 abbrev goes : List ℕ → Option ℕ → Label → Truth

@@ -19,7 +19,7 @@ use Rattle.rg_heap.specs.Answers.{val_of}
 use Rattle.rg_heap.specs.Ends.{OwnedByOne, GoesAlong, top_temps, IsTopTemp}
 use Rattle.rg_heap.specs.Opened.{Opened}
 use Rattle.rg_view.specs.View.{object_of, windows_of, machine_of}
-use Rattle.rg_view.specs.Bury.{Names, AreTemps}
+use Rattle.rg_view.specs.Names.{Names, AreTemps}
 use Rattle.rg_view.specs.Links.{BelowSome, ByTemp}
 use Rattle.rg_view.proofs.ListLemmas.{eq-true, eq-is}
 use Rattle.rg_view.proofs.Callers.LookLemmas.{store-held}
