@@ -20,3 +20,7 @@ mod Walking
 mod Gather
 mod Examples
 mod Stops
+mod Backs
+mod Steps
+mod Opens
+mod Runs

@@ -36,7 +36,7 @@ drop-get xs zero j = let e : j ≡ 0 + j = omega arith in ap (slice_get xs) e
 drop-get [] (suc n) j = refl
 drop-get (x ∷ xs) (suc n) j = let e : suc (n + j) ≡ suc n + j = omega arith in drop-get xs n j ∙ ap (slice_get (x ∷ xs)) e
 
-drop-next : {A : Type 0} (xs : List A) (n : ℕ) (o : A) (os : List A) → drop n xs ≡ o ∷ os → drop (n + 1) xs ≡ os
+pub drop-next : {A : Type 0} (xs : List A) (n : ℕ) (o : A) (os : List A) → drop n xs ≡ o ∷ os → drop (n + 1) xs ≡ os
 drop-next [] zero o os e = none-some o (ap (λ l. slice_get l 0) e)
 drop-next [] (suc n) o os e = none-some o (ap (λ l. slice_get l 0) e)
 drop-next (x ∷ xs) zero o os e = ap (λ l. drop 1 l) e

@@ -1,8 +1,8 @@
--- Walks and steps of the machine that frees end as those over the growing store do (docs/architecture.md, "The stack machine").
+-- Walks, steps and runs of the machine that frees end as those over the growing store do (docs/architecture.md, "The stack machine").
 use Rattle.std.specs.Prelude.{◌≡◌, ℕ, Bool as Truth, List, []}
 use Rattle.rg_base.specs.declared.value.Val.{Val}
 use Rattle.rg_stack.specs.Effects.{Work, Walked, Stops, Returns, Traps, Stuck}
-use Rattle.rg_stack.specs.Runs.{Stepped, Goes, Ends, Trapped, Lost}
+use Rattle.rg_stack.specs.Runs.{Stepped, Goes, Ends, Trapped, Lost, Ran}
 use Rattle.rg_held.specs.Part.{Alike}
 
 -- with some objects held, the two work on the same
@@ -46,3 +46,10 @@ SameStep Lost (Goes w) = ⊥
 SameStep Lost (Ends w) = ⊥
 SameStep Lost (Trapped t line) = ⊥
 SameStep Lost Lost = ⊥
+
+-- runs do the same: as many steps, the same output and the same ending, and the two machines match
+pub record SameRun (r s : Ran) : Type 0 where
+  pub match : Match [] r.work s.work []
+  pub output : r.output ≡ s.output
+  pub steps : r.steps ≡ s.steps
+  pub standing : r.standing ≡ s.standing

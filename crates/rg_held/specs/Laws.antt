@@ -1,15 +1,22 @@
--- The laws: what an instruction, a walk and a step of the machine that frees do beside those over the growing store (docs/architecture.md,
+-- The laws: what an instruction, a walk, a step and a run of the machine that frees do beside those over the growing store (docs/architecture.md,
 -- "The stack machine").
-use Rattle.std.specs.Prelude.{◌≡◌, ℕ, ◌+◌, ◌-◌, Bool as Truth, true, false, ◌||◌, not, List, [], drop}
+use Rattle.std.specs.Prelude.{◌≡◌, ℕ, ◌+◌, ◌-◌, Bool as Truth, true, false, ◌||◌, not, List, [], drop, None}
 use Rattle.rg_base.specs.declared.value.Val.{Val}
+use Rattle.rg_tree.specs.Tree.{Tree}
+use Rattle.rg_rules.specs.Acceptance.{Accepted}
+use Rattle.rg_rules.specs.State.{State}
+use Rattle.rg_sound.specs.Fit.{Fit}
 use Rattle.rg_code.specs.declared.op.Op.{Op}
 use Rattle.rg_code.specs.Code.{Code}
+use Rattle.rg_code.specs.Lowering.{Lowers}
 use Rattle.rg_stack.specs.Effects.{Work, Go, act}
+use Rattle.rg_stack.specs.Runs.{step, coded}
+use Rattle.rg_stack.specs.Simulates.{Holds, SomeLeft}
 use Rattle.rg_stack.specs.Needs.{needs}
 use Rattle.rg_stack.specs.Refusals.{Manner, Ends, Clears, Settles, Takes, Computes, Prepares, Calls, Chooses, Passes, manner, calm, orderly}
 use Rattle.rg_stack.specs.Given.{given_walk}
-use Rattle.rg_held.specs.Frees.{free_act, free_walk}
-use Rattle.rg_held.specs.Ends.{Match, SameEnd}
+use Rattle.rg_held.specs.Frees.{free_act, free_walk, free_step, free_coded}
+use Rattle.rg_held.specs.Ends.{Match, SameEnd, SameStep, SameRun}
 
 -- the values that count as owners: all on the stack, behind what takes an owner reference from its place, and else none
 abbrev pub owners_of : (taken : Truth) → List Val → List Val
@@ -95,3 +102,14 @@ abbrev pub WalksSame : Type 0
 WalksSame = (code : Code) (at : ℕ) (room taken : Truth) (stack : List Val) (u w : Work) → InOrder code.ops at room taken (drop at code.ops)
     → Match (owners_of taken stack) u w stack
     → SameEnd (free_walk code (drop at code.ops) at 0 stack u) (given_walk code (drop at code.ops) at 0 stack w)
+
+-- so a step of an accepted program from a state that fits, where the two machines match: both go on, both end, or both trap, at the same
+-- line, and they match behind it
+abbrev pub StepsSame : Type 0
+StepsSame = (t : Tree) (code : Code) (u w : Work) (p : State) → Accepted t → Lowers t code → Fit t p → Holds t.classes code w p
+    → w.printed ≡ None → SomeLeft p.items → Match [] u w [] → SameStep (free_step code u) (step code w)
+
+-- and so each run of an accepted program does
+abbrev pub RunsSame : Type 0
+RunsSame = (t : Tree) (code : Code) (input : List ℕ) (n : ℕ) → Accepted t → Lowers t code
+    → SameRun (free_coded t code input n) (coded t code input n)

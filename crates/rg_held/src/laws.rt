@@ -1,7 +1,7 @@
 //! The laws of the machine that frees, each as the contract of a function that does nothing
 //! (docs/architecture.md, "The stack machine").
 
-ghost use Rattle.rg_held.specs.Laws.{InstructionsSame, WalksSame};
+ghost use Rattle.rg_held.specs.Laws.{InstructionsSame, RunsSame, StepsSame, WalksSame};
 ghost use Rattle.rg_held.specs.Gather.{GathersFit};
 
 /// Each instruction that is given what it needs does what it does over the growing store, and
@@ -14,6 +14,17 @@ pub fn instructions_same()
 /// refused behind a change.
 pub fn walks_same()
     ensures { WalksSame }
+{}
+
+/// So does a step of an accepted program from a state that fits: both machines go on, both end, or
+/// both trap, at the same line, and what is held behind it is the same in both.
+pub fn steps_same()
+    ensures { StepsSame }
+{}
+
+/// And so does each run of an accepted program: as many steps, the same output and the same ending.
+pub fn runs_same()
+    ensures { RunsSame }
 {}
 
 /// Where a step begins or has ended, a collection of the active region leaves the machine beside

@@ -1,9 +1,9 @@
 //! The stack machine that frees, against the one over a store that only grows
 //! (docs/architecture.md, "The stack machine"). Each law is a function whose contract it is:
-//! `instructions_same` of each instruction, and from it `walks_same` of a walk; `collections_same`
-//! of a collection between two steps.
+//! `instructions_same` of each instruction, from it `walks_same` of a walk, from that `steps_same`
+//! of a step and `runs_same` of a run; `collections_same` of a collection between two steps.
 #![tactic(auto)]
 
 mod laws;
 
-pub use laws::{collections_same, instructions_same, walks_same};
+pub use laws::{collections_same, instructions_same, runs_same, steps_same, walks_same};

@@ -1,0 +1,5 @@
+use Rattle.rg_held.proofs.Runs.{runs-same}
+use Rattle.rg_held.proofs.laws.runs_same.Goals as goal
+
+pub returns : goal.returns
+returns c = runs-same

@@ -1,0 +1,5 @@
+use Rattle.rg_held.proofs.Steps.{steps-same}
+use Rattle.rg_held.proofs.laws.steps_same.Goals as goal
+
+pub returns : goal.returns
+returns c = steps-same
