@@ -15,12 +15,13 @@ mod Objects
 mod Labels
 mod Consumes
 mod Enters
-mod Acts
-mod Walking
-mod Gather
+pub mod Acts
+pub mod Walking
+pub mod Needs
+pub mod Gather
 mod Examples
 mod Stops
 mod Backs
-mod Steps
+pub mod Steps
 mod Opens
-mod Runs
+pub mod Runs

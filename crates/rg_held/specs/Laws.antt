@@ -80,6 +80,11 @@ GoesTo skip taken also go = (stack : List Val) (u w : Work) → Match (owners_of
 abbrev pub GoesOn : (taken : Truth) → Go → Go → Type 0
 GoesOn taken also go = GoesTo 0 taken also go
 
+-- what an instruction needs over the growing store, it has in the machine that frees too
+abbrev pub NeedsSame : Type 0
+NeedsSame = (code : Code) (o : Op) (owners stack : List Val) (u w : Work) → Match owners u w stack → needs code o stack w.machine ≡ true
+    → needs code o stack u.machine ≡ true
+
 -- an instruction that is given what it needs does the same, where the two machines match, and they match behind it
 abbrev pub ActSame : Op → Type 0
 ActSame o = (code : Code) (at : ℕ) (also go : Go) (taken : Truth) (stack : List Val) (u w : Work) → (may_follow (manner o) || not taken) ≡ true

@@ -1,8 +1,14 @@
 //! The laws of the machine that frees, each as the contract of a function that does nothing
 //! (docs/architecture.md, "The stack machine").
 
-ghost use Rattle.rg_held.specs.Laws.{InstructionsSame, RunsSame, StepsSame, WalksSame};
+ghost use Rattle.rg_held.specs.Laws.{InstructionsSame, NeedsSame, RunsSame, StepsSame, WalksSame};
 ghost use Rattle.rg_held.specs.Gather.{GathersFit};
+
+/// What an instruction needs over the growing store, it has in the machine that frees too: what
+/// it looks at is held, and no more places lead into a region.
+pub fn needs_same()
+    ensures { NeedsSame }
+{}
 
 /// Each instruction that is given what it needs does what it does over the growing store, and
 /// leaves the same held, but for what it gives up.

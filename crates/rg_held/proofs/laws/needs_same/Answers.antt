@@ -1,0 +1,5 @@
+use Rattle.rg_held.proofs.Needs.{needs-same}
+use Rattle.rg_held.proofs.laws.needs_same.Goals as goal
+
+pub returns : goal.returns
+returns c = needs-same
