@@ -7,7 +7,7 @@ ghost use Rattle.rg_rules.specs.RightSides.{is_left};
 ghost use Rattle.rg_stack.specs.Effects.{act, next_taken};
 ghost use Rattle.rg_stack.specs.Refusals.{Computes, Takes, manner};
 ghost use Rattle.rg_step.specs.Inner.Refusals.{Keeping, asking};
-ghost use Rattle.rg_step.specs.Inner.Core.{ActIs};
+ghost use Rattle.rg_step.specs.Inner.Core.{ActIs, Given};
 
 use crate::frames::{call, enter, enter_field, leave, ret, ret_void};
 use crate::jumps::{and, jump_false, or};
@@ -48,7 +48,8 @@ fn ask_more(p: &mut Parts) -> Next
 /// Does the instruction at an address.
 #[inline]
 pub(crate) fn act(alloc: Global, p: &mut Parts, code: &CodeList, at: usize, op: Op) -> Next
-    requires { at < 2 ^ 64 - 1 }
+    requires near { at < 2 ^ 64 - 1 }
+    requires given { Given code.now op p.old }
     ensures effect { ActIs (act code.now at op) at p.old p.new result }
     ensures keeps { Keeping (manner op) (asking op) p.old.machine p.new.machine result }
 {

@@ -7,7 +7,8 @@ ghost use Rattle.rg_stack.specs.Machine.{end_slots, put_slot, slot_at};
 ghost use Rattle.rg_stack.specs.Effects.{on_object, on_top, put_in, with_store};
 ghost use Rattle.rg_stack.specs.Refusals.{Clears, Computes, Settles, Takes};
 ghost use Rattle.rg_step.specs.Inner.Refusals.{Keeping};
-ghost use Rattle.rg_step.specs.Inner.Core.{ActIs};
+ghost use Rattle.rg_step.specs.Inner.Core.{ActIs, Has};
+ghost use Rattle.rg_code.specs.declared.op.Op.TheVariants as i;
 
 use crate::next::Next;
 use crate::parts::Parts;
@@ -99,6 +100,7 @@ pub(crate) fn check(p: &mut Parts) -> Next
 /// `put k`
 #[inline]
 pub(crate) fn put(p: &mut Parts, index: u32) -> Next
+    requires given { Has (i.Put index) p.old }
     ensures effect { (at : ℕ) → ActIs (λ go stack x. on_top stack (λ v rest. on_top rest (λ r under.
         go 0 under (with_store x (put_in x.machine.store r index v))))) at p.old p.new result }
     ensures keeps { Keeping Settles false p.old.machine p.new.machine result }
