@@ -14,8 +14,8 @@ use crate::jumps::{and, jump_false, or};
 use crate::making::{freeze, merge, new, new_iso, new_temp};
 use crate::next::Next;
 use crate::parts::Parts;
-use crate::values::{binary, constant, drop_top, invert, negate, test_nil};
-use crate::variables::{check, clear, end, field, load, print, put, store, swap};
+use crate::values::{binary, constant, drop_top, invert, negate, pop_top, test_nil};
+use crate::variables::{check, clear, end, field, load, own, print, put, store, swap};
 use rg_base::Word;
 use rg_code::{CodeList, Op};
 use rg_tree::BinOp;
@@ -64,7 +64,7 @@ pub(crate) fn act(alloc: Global, p: &mut Parts, code: &CodeList, at: usize, op: 
         Op::Load { slot } => load(p, slot),
         Op::Clear { slot } => clear(p, slot),
         Op::Store { slot } => store(p, slot),
-        Op::Own { slot } => store(p, slot),
+        Op::Own { slot } => own(p, slot),
         Op::Field { index } => field(p, index),
         Op::IsNil => test_nil(p),
         Op::Neg => negate(p),
@@ -105,7 +105,7 @@ pub(crate) fn act(alloc: Global, p: &mut Parts, code: &CodeList, at: usize, op: 
         Op::End { slot } => end(p, slot),
         Op::Print => print(p),
         Op::Collect => Next::On,
-        Op::Pop => drop_top(p),
+        Op::Pop => pop_top(p),
         Op::Drop => drop_top(p),
         Op::Halt => Next::Stop(at),
     }
