@@ -50,7 +50,7 @@ pub(crate) fn store(p: &mut Parts, s: u32) -> Next
     let Some(w) = p.pop() else {
         return Next::Lost;
     };
-    p.set_slot(s, w);
+    p.store(s, w);
     Next::On
 }
 
