@@ -18,8 +18,7 @@ ghost use Rattle.rg_store.specs.Regions.{LabelFits};
 ghost use Rattle.rg_step.specs.Inner.Layout.{cleared, values_of};
 ghost use Rattle.rg_step.specs.Inner.Objects.{LabelIs};
 ghost use Rattle.rg_step.specs.Inner.Refusals.{GoesBack, SameBacks};
-ghost use Rattle.rg_code.specs.declared.op.Op.TheVariants as i;
-ghost use Rattle.rg_step.specs.Inner.Core.{Has, Left, below_top, called_frame, started, can_open};
+ghost use Rattle.rg_step.specs.Inner.Core.{MayStore, Left, below_top, called_frame, started, can_open};
 ghost use Rattle.rg_step.specs.Inner.Core.{first_value, opened};
 ghost use Rattle.rg_step.specs.Inner.Core.{with_machine, with_made, with_top};
 ghost use Rattle.rg_step.specs.Inner.Walks.{Unstuck, walk_from};
@@ -185,7 +184,7 @@ impl Parts {
     /// Puts a word into a slot, as `store s` does with the topmost one.
     #[inline]
     pub(crate) fn store(&mut self, s: u32, w: Word)
-        requires { Has (i.Store s) (with_top self.old (value_of_word w)) }
+        requires { MayStore self.old.machine s }
         ensures put { self.new
             ≡ with_machine self.old (put_slot self.old.machine s (value_of_word w)) }
         ensures backs { SameBacks self.old.machine self.new.machine }
