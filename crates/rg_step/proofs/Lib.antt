@@ -14,3 +14,4 @@ mod OpeningLemmas
 mod ShapeLemmas
 mod CallShapeLemmas
 mod LeapLemmas
+mod ShapeNeedLemmas

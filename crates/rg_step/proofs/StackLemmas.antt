@@ -1,9 +1,12 @@
 -- The stack of values.
-use Rattle.std.proofs.Common.{◌≡◌, ◌-◌, ◌∷◌, List, Option, Some, None, IfSome, length, take, drop, map, reverse, slice_get, refl, sym, ap, ◌∙◌}
+use Rattle.std.proofs.Common.{◌≡◌, ℕ, ◌-◌, ◌∷◌, ◌&&◌, Bool as Truth, true, false, true≢false, not, nat_lt, subst, List, Option, Some, None, IfSome, length, take, drop, map, reverse, slice_get, refl, sym, ap, ◌∙◌}
 use Rattle.rg_base.specs.declared.value.Val.{Val}
 use Rattle.rg_base.specs.declared.value.Word.{Word}
-use Rattle.rg_stack.specs.Machine.{value_of_word}
-use Rattle.rg_step.specs.Inner.Core.{Core, with_top, below_top}
+use Rattle.rg_code.specs.declared.op.Op.TheVariants as i
+use Rattle.rg_stack.specs.Machine.{slot_at, value_of_word}
+use Rattle.rg_stack.specs.Needs.{is_closed, is_empty, owned_once, size_of}
+use Rattle.rg_stack.proofs.Callers.OrderLemmas.{and_second}
+use Rattle.rg_step.specs.Inner.Core.{Core, Has, MayStore, with_top, below_top}
 use Rattle.rg_step.specs.Inner.Layout.{values_of}
 use Rattle.rg_step.proofs.FrameLemmas.{last-reverse}
 
@@ -15,3 +18,17 @@ top-value c ws (Some w) is e = ap (λ s. record c { stack = s }) (shows c.stack 
   where
     shows : (s : List Val) → s ≡ value_of_word w ∷ map value_of_word (reverse (take (length ws - 1) ws)) → s ≡ value_of_word w ∷ drop 1 s
     shows s e = rw e refl
+
+-- the last two of three that hold
+two-hold : (a b c : Truth) → (a && b && c) ≡ true → (b && c) ≡ true
+two-hold true b c h = h
+two-hold false b c h = absurd (true≢false (sym h))
+
+-- what is popped may be stored into its slot
+pub store-given : (c new : Core) (s : ℕ) (v : Val) → Has (i.Store s) c → c ≡ with_top new v → MayStore new.machine s
+store-given c new s v has e =
+    two-hold (is_empty new.stack) (nat_lt s (size_of new.machine)) (not (is_closed new.machine (slot_at new.machine s))) (subst (Has (i.Store s)) e has)
+
+-- nothing but the stack has to be empty where slots end
+pub end-given : (c : Core) (s : ℕ) → Has (i.End s) c → owned_once c.machine ≡ true
+end-given c s has = and_second _ _ has

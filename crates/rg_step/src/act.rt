@@ -7,15 +7,15 @@ ghost use Rattle.rg_rules.specs.RightSides.{is_left};
 ghost use Rattle.rg_stack.specs.Effects.{act, next_taken};
 ghost use Rattle.rg_stack.specs.Refusals.{Computes, Takes, manner};
 ghost use Rattle.rg_step.specs.Inner.Refusals.{Keeping, asking};
-ghost use Rattle.rg_step.specs.Inner.Core.{ActIs};
+ghost use Rattle.rg_step.specs.Inner.Core.{ActIs, Given};
 
 use crate::frames::{call, enter, enter_field, leave, ret, ret_void};
 use crate::jumps::{and, jump_false, or};
 use crate::making::{freeze, merge, new, new_iso, new_temp};
 use crate::next::Next;
 use crate::parts::Parts;
-use crate::values::{binary, constant, drop_top, invert, negate, test_nil};
-use crate::variables::{check, clear, end, field, load, print, put, store, swap};
+use crate::values::{binary, constant, drop_top, invert, negate, pop_top, test_nil};
+use crate::variables::{check, clear, end, field, load, own, print, put, store, swap};
 use rg_base::Word;
 use rg_code::{CodeList, Op};
 use rg_tree::BinOp;
@@ -48,7 +48,8 @@ fn ask_more(p: &mut Parts) -> Next
 /// Does the instruction at an address.
 #[inline]
 pub(crate) fn act(alloc: Global, p: &mut Parts, code: &CodeList, at: usize, op: Op) -> Next
-    requires { at < 2 ^ 64 - 1 }
+    requires near { at < 2 ^ 64 - 1 }
+    requires given { Given code.now op p.old }
     ensures effect { ActIs (act code.now at op) at p.old p.new result }
     ensures keeps { Keeping (manner op) (asking op) p.old.machine p.new.machine result }
 {
@@ -63,7 +64,7 @@ pub(crate) fn act(alloc: Global, p: &mut Parts, code: &CodeList, at: usize, op: 
         Op::Load { slot } => load(p, slot),
         Op::Clear { slot } => clear(p, slot),
         Op::Store { slot } => store(p, slot),
-        Op::Own { slot } => store(p, slot),
+        Op::Own { slot } => own(p, slot),
         Op::Field { index } => field(p, index),
         Op::IsNil => test_nil(p),
         Op::Neg => negate(p),
@@ -104,7 +105,7 @@ pub(crate) fn act(alloc: Global, p: &mut Parts, code: &CodeList, at: usize, op: 
         Op::End { slot } => end(p, slot),
         Op::Print => print(p),
         Op::Collect => Next::On,
-        Op::Pop => drop_top(p),
+        Op::Pop => pop_top(p),
         Op::Drop => drop_top(p),
         Op::Halt => Next::Stop(at),
     }

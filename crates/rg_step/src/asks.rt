@@ -5,7 +5,7 @@ ghost use Rattle.rg_io.specs.Content.{Rose};
 ghost use Rattle.rg_input.specs.Numbers.{Follows, OnInput};
 ghost use Rattle.rg_stack.specs.Machine.{Machine};
 ghost use Rattle.rg_step.specs.Inner.Refusals.{ComeBacks, ComeLeaves, Stands};
-ghost use Rattle.rg_step.specs.Inner.Walks.{ComesTo};
+ghost use Rattle.rg_step.specs.Inner.Walks.{ComesTo, UnstuckOn, walk_from};
 
 use crate::parts::Parts;
 use crate::walk::{End, walk};
@@ -41,7 +41,8 @@ pub(crate) fn walk_asking<S: Source>(
     input: &mut Numbers,
     source: &mut S,
 ) -> Come
-    requires { Follows input.old (S.left source.old) }
+    requires follows { Follows input.old (S.left source.old) }
+    requires given { UnstuckOn input.old (S.left source.old) (walk_from code.now from p.old) }
     ensures comes { OnInput input.old input.new (S.left source.old) (S.left source.new)
         (ComesTo code.now from p.old p.new result) }
     ensures leaves { (start : Machine) (asks : Truth) →

@@ -4,12 +4,13 @@ ghost use Rattle.std.specs.Prelude.{false, ◌≡◌, ◌∷◌, ◌<◌, ◌-�
 ghost use Rattle.rg_base.specs.declared.object.Place.TheVariants as place;
 ghost use Rattle.rg_base.specs.declared.value.Val.TheVariants.{Nil};
 ghost use Rattle.rg_rules.specs.Regions.{region_of};
+ghost use Rattle.rg_code.specs.declared.op.Op.TheVariants as i;
 ghost use Rattle.rg_stack.specs.Machine.{end_slots, slot_at, value_of_word};
 ghost use Rattle.rg_stack.specs.Effects.{address, entered, frame_number, on_object, on_top};
 ghost use Rattle.rg_stack.specs.Effects.{called, opens_at, returned, without_top};
 ghost use Rattle.rg_stack.specs.Refusals.{Calls, Ends, Settles, Takes};
 ghost use Rattle.rg_step.specs.Inner.Refusals.{Keeping};
-ghost use Rattle.rg_step.specs.Inner.Core.{ActIs};
+ghost use Rattle.rg_step.specs.Inner.Core.{ActIs, Given, Has};
 
 use crate::next::Next;
 use crate::parts::Parts;
@@ -18,6 +19,7 @@ use rg_code::CodeList;
 
 /// `ret`
 pub(crate) fn ret(p: &mut Parts) -> Next
+    requires given { Has i.Ret p.old }
     ensures effect { (at : ℕ) → ActIs (λ go stack x. on_top stack (λ v rest.
         returned x x.machine.frames (v ∷ []))) at p.old p.new result }
     ensures keeps { Keeping Ends false p.old.machine p.new.machine result }
@@ -36,6 +38,7 @@ pub(crate) fn ret(p: &mut Parts) -> Next
 
 /// `retv`
 pub(crate) fn ret_void(p: &mut Parts) -> Next
+    requires given { Has i.RetVoid p.old }
     ensures effect { (at : ℕ) → ActIs (λ go stack x. returned x x.machine.frames [])
         at p.old p.new result }
     ensures keeps { Keeping Ends false p.old.machine p.new.machine result }
@@ -51,6 +54,7 @@ pub(crate) fn ret_void(p: &mut Parts) -> Next
 
 /// `enter s z`
 pub(crate) fn enter(p: &mut Parts, s: u32, z: u32) -> Next
+    requires given { Has (i.Enter s z) p.old }
     ensures effect { (at : ℕ) → ActIs (λ go stack x. opens_at x.machine z
         (on_object x.machine.store (slot_at x.machine s) (λ o. go 0 stack
         (entered x (place.Var (frame_number x.machine.frames) s) (slot_at x.machine s) z
@@ -76,6 +80,7 @@ pub(crate) fn enter(p: &mut Parts, s: u32, z: u32) -> Next
 
 /// `leave s`
 pub(crate) fn leave(p: &mut Parts, s: u32) -> Next
+    requires given { Has (i.Leave s) p.old }
     ensures effect { (at : ℕ) → ActIs (λ go stack x. go 0 stack (record x {
       machine = record (end_slots x.machine s) {
         windows = without_top x.machine.windows;
@@ -89,6 +94,7 @@ pub(crate) fn leave(p: &mut Parts, s: u32) -> Next
 
 /// `enterf k z`
 pub(crate) fn enter_field(p: &mut Parts, index: u32, z: u32) -> Next
+    requires given { Has (i.EnterField index z) p.old }
     ensures effect { (at : ℕ) → ActIs (λ go stack x. opens_at x.machine z (on_top stack (λ r rest.
         on_object x.machine.store r (λ o.
         on_object x.machine.store (unwrap_or (slice_get o.fields index) Nil) (λ b. go 0 rest
@@ -130,7 +136,8 @@ fn serial_of(w: Word) -> u64
 
 /// `call m`
 pub(crate) fn call(p: &mut Parts, code: &CodeList, at: usize, method: u32) -> Next
-    requires { at < 2 ^ 64 - 1 }
+    requires near { at < 2 ^ 64 - 1 }
+    requires given { Given code.now (i.Call method) p.old }
     ensures effect { ActIs (λ go stack x. called at (slice_get code.now.entries method) stack x)
         at p.old p.new result }
     ensures keeps { Keeping Calls false p.old.machine p.new.machine result }

@@ -18,9 +18,10 @@ ghost use Rattle.rg_store.specs.Regions.{LabelFits};
 ghost use Rattle.rg_step.specs.Inner.Layout.{cleared, values_of};
 ghost use Rattle.rg_step.specs.Inner.Objects.{LabelIs};
 ghost use Rattle.rg_step.specs.Inner.Refusals.{GoesBack, SameBacks};
-ghost use Rattle.rg_step.specs.Inner.Core.{Left, below_top, called_frame, started, can_open};
+ghost use Rattle.rg_step.specs.Inner.Core.{MayStore, Left, below_top, called_frame, started, can_open};
 ghost use Rattle.rg_step.specs.Inner.Core.{first_value, opened};
 ghost use Rattle.rg_step.specs.Inner.Core.{with_machine, with_made, with_top};
+ghost use Rattle.rg_step.specs.Inner.Walks.{Unstuck, walk_from};
 
 use crate::objects::{
     add_bridge, add_object, freeze_region, label_of, put_field, read_field, relabel_region,
@@ -173,6 +174,17 @@ impl Parts {
     /// Writes a slot.
     #[inline]
     pub(crate) fn set_slot(&mut self, s: u32, w: Word)
+        ensures put { self.new
+            ≡ with_machine self.old (put_slot self.old.machine s (value_of_word w)) }
+        ensures backs { SameBacks self.old.machine self.new.machine }
+    {
+        write_slot(&mut self.frames, s, w);
+    }
+
+    /// Puts a word into a slot, as `store s` does with the topmost one.
+    #[inline]
+    pub(crate) fn store(&mut self, s: u32, w: Word)
+        requires { MayStore self.old.machine s }
         ensures put { self.new
             ≡ with_machine self.old (put_slot self.old.machine s (value_of_word w)) }
         ensures backs { SameBacks self.old.machine self.new.machine }
@@ -433,6 +445,7 @@ impl Parts {
         slots: u32,
         back: usize,
     ) -> Result<(), Memory>
+        requires { Unstuck (walk_from code.now from self.old) }
         ensures ok { OnOk result (self.new ≡ with_machine self.old (record self.old.machine {
           frames = called_frame given slots back self.old.stack
               ∷ cleared (drop from code.now.ops) self.old.machine.frames;

@@ -3,11 +3,12 @@
 ghost use Rattle.std.specs.Prelude.{false, ◌≡◌, ◌∷◌, ℕ, not, neg_ℤ};
 ghost use Rattle.rg_base.specs.declared.value.Val.TheVariants.{Bool};
 ghost use Rattle.rg_rules.specs.Values.{as_bool, as_int, is_nil_value, number_value};
+ghost use Rattle.rg_code.specs.declared.op.Op.TheVariants as i;
 ghost use Rattle.rg_stack.specs.Machine.{value_of_word};
 ghost use Rattle.rg_stack.specs.Effects.{on_two, on_top, pushed};
 ghost use Rattle.rg_stack.specs.Refusals.{Computes, Settles};
 ghost use Rattle.rg_step.specs.Inner.Refusals.{Keeping};
-ghost use Rattle.rg_step.specs.Inner.Core.{ActIs};
+ghost use Rattle.rg_step.specs.Inner.Core.{ActIs, Has};
 
 use crate::next::Next;
 use crate::parts::Parts;
@@ -98,8 +99,22 @@ pub(crate) fn test_nil(p: &mut Parts) -> Next
     }
 }
 
-/// `pop` and `drop`
+/// `pop`
+pub(crate) fn pop_top(p: &mut Parts) -> Next
+    requires given { Has i.Pop p.old }
+    ensures effect { (at : ℕ) → ActIs (λ go stack x. on_top stack (λ v rest. go 0 rest x))
+        at p.old p.new result }
+    ensures keeps { Keeping Settles false p.old.machine p.new.machine result }
+{
+    match p.pop() {
+        Some(_) => Next::On,
+        None => Next::Lost,
+    }
+}
+
+/// `drop`
 pub(crate) fn drop_top(p: &mut Parts) -> Next
+    requires given { Has i.Drop p.old }
     ensures effect { (at : ℕ) → ActIs (λ go stack x. on_top stack (λ v rest. go 0 rest x))
         at p.old p.new result }
     ensures keeps { Keeping Settles false p.old.machine p.new.machine result }

@@ -7,7 +7,8 @@ ghost use Rattle.rg_stack.specs.Machine.{end_slots, put_slot, slot_at};
 ghost use Rattle.rg_stack.specs.Effects.{on_object, on_top, put_in, with_store};
 ghost use Rattle.rg_stack.specs.Refusals.{Clears, Computes, Settles, Takes};
 ghost use Rattle.rg_step.specs.Inner.Refusals.{Keeping};
-ghost use Rattle.rg_step.specs.Inner.Core.{ActIs};
+ghost use Rattle.rg_step.specs.Inner.Core.{ActIs, Has};
+ghost use Rattle.rg_code.specs.declared.op.Op.TheVariants as i;
 
 use crate::next::Next;
 use crate::parts::Parts;
@@ -29,6 +30,7 @@ pub(crate) fn load(p: &mut Parts, s: u32) -> Next
 
 /// `clear s`
 pub(crate) fn clear(p: &mut Parts, s: u32) -> Next
+    requires given { Has (i.Clear s) p.old }
     ensures effect { (at : ℕ) → ActIs (λ go stack x.
         go 0 stack (record x { machine = put_slot x.machine s Nil })) at p.old p.new result }
     ensures keeps { Keeping Clears false p.old.machine p.new.machine result }
@@ -37,9 +39,25 @@ pub(crate) fn clear(p: &mut Parts, s: u32) -> Next
     Next::On
 }
 
-/// `store s` and `own s`
+/// `store s`
 #[inline]
 pub(crate) fn store(p: &mut Parts, s: u32) -> Next
+    requires given { Has (i.Store s) p.old }
+    ensures effect { (at : ℕ) → ActIs (λ go stack x. on_top stack (λ v rest.
+        go 0 rest (record x { machine = put_slot x.machine s v }))) at p.old p.new result }
+    ensures keeps { Keeping Settles false p.old.machine p.new.machine result }
+{
+    let Some(w) = p.pop() else {
+        return Next::Lost;
+    };
+    p.store(s, w);
+    Next::On
+}
+
+/// `own s`
+#[inline]
+pub(crate) fn own(p: &mut Parts, s: u32) -> Next
+    requires given { Has (i.Own s) p.old }
     ensures effect { (at : ℕ) → ActIs (λ go stack x. on_top stack (λ v rest.
         go 0 rest (record x { machine = put_slot x.machine s v }))) at p.old p.new result }
     ensures keeps { Keeping Settles false p.old.machine p.new.machine result }
@@ -53,6 +71,7 @@ pub(crate) fn store(p: &mut Parts, s: u32) -> Next
 
 /// `end s`
 pub(crate) fn end(p: &mut Parts, s: u32) -> Next
+    requires given { Has (i.End s) p.old }
     ensures effect { (at : ℕ) → ActIs (λ go stack x.
         go 0 stack (record x { machine = end_slots x.machine s })) at p.old p.new result }
     ensures keeps { Keeping Settles false p.old.machine p.new.machine result }
@@ -64,6 +83,7 @@ pub(crate) fn end(p: &mut Parts, s: u32) -> Next
 /// `field k`
 #[inline]
 pub(crate) fn field(p: &mut Parts, index: u32) -> Next
+    requires given { Has (i.Field index) p.old }
     ensures effect { (at : ℕ) → ActIs (λ go stack x. on_top stack (λ v rest.
         on_object x.machine.store v (λ o.
         go 0 (unwrap_or (slice_get o.fields index) Nil ∷ rest) x))) at p.old p.new result }
@@ -99,6 +119,7 @@ pub(crate) fn check(p: &mut Parts) -> Next
 /// `put k`
 #[inline]
 pub(crate) fn put(p: &mut Parts, index: u32) -> Next
+    requires given { Has (i.Put index) p.old }
     ensures effect { (at : ℕ) → ActIs (λ go stack x. on_top stack (λ v rest. on_top rest (λ r under.
         go 0 under (with_store x (put_in x.machine.store r index v))))) at p.old p.new result }
     ensures keeps { Keeping Settles false p.old.machine p.new.machine result }
@@ -115,6 +136,7 @@ pub(crate) fn put(p: &mut Parts, index: u32) -> Next
 
 /// `print`
 pub(crate) fn print(p: &mut Parts) -> Next
+    requires given { Has i.Print p.old }
     ensures effect { (at : ℕ) → ActIs (λ go stack x. on_top stack (λ v rest.
         go 0 rest (record x { printed = Some v }))) at p.old p.new result }
     ensures keeps { Keeping Settles false p.old.machine p.new.machine result }
@@ -128,6 +150,7 @@ pub(crate) fn print(p: &mut Parts) -> Next
 
 /// `swap s k`
 pub(crate) fn swap(p: &mut Parts, s: u32, index: u32) -> Next
+    requires given { Has (i.Swap s index) p.old }
     ensures effect { (at : ℕ) → ActIs (λ go stack x. on_top stack (λ r rest.
         on_object x.machine.store r (λ o. go 0 rest
         (let y = with_store x (put_in x.machine.store r index (slot_at x.machine s)) in

@@ -3,7 +3,7 @@
 ghost use Rattle.std.specs.Prelude.{Bool as Truth};
 ghost use Rattle.rg_stack.specs.Machine.{Machine};
 ghost use Rattle.rg_step.specs.Inner.Refusals.{EndBacks, EndLeaves, Stands};
-ghost use Rattle.rg_step.specs.Inner.Walks.{WalkIs};
+ghost use Rattle.rg_step.specs.Inner.Walks.{Unstuck, WalkIs, walk_from};
 
 use crate::act::act;
 use crate::next::Next;
@@ -35,6 +35,7 @@ pub(crate) enum End {
 /// Walks along the code from an address on, up to the step's end or an instruction that asks the
 /// input.
 pub(crate) fn walk(alloc: Global, p: &mut Parts, code: &CodeList, from: usize) -> End
+    requires { Unstuck (walk_from code.now from p.old) }
     ensures walk { WalkIs code.now from p.old p.new result }
     ensures leaves { (start : Machine) (asks : Truth) →
         Stands code.now.ops start asks from p.old.machine →

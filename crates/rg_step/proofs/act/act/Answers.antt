@@ -16,7 +16,7 @@ pub returns-in-Store : goal.returns-in-Store
 returns-in-Store c = rw c.in-Store.is (record { effect = c.store.ensures.effect c.args.at; keeps = c.store.ensures.keeps })
 
 pub returns-in-Own : goal.returns-in-Own
-returns-in-Own c = rw c.in-Own.is (record { effect = c.store-in-Own.ensures.effect c.args.at; keeps = c.store-in-Own.ensures.keeps })
+returns-in-Own c = rw c.in-Own.is (record { effect = c.own.ensures.effect c.args.at; keeps = c.own.ensures.keeps })
 
 pub returns-in-Field : goal.returns-in-Field
 returns-in-Field c = rw c.in-Field.is (record { effect = c.field.ensures.effect c.args.at; keeps = c.field.ensures.keeps })
@@ -127,7 +127,7 @@ pub returns-in-Print : goal.returns-in-Print
 returns-in-Print c = rw c.in-Print.is (record { effect = c.print.ensures.effect c.args.at; keeps = c.print.ensures.keeps })
 
 pub returns-in-Pop : goal.returns-in-Pop
-returns-in-Pop c = rw c.in-Pop.is (record { effect = c.drop_top.ensures.effect c.args.at; keeps = c.drop_top.ensures.keeps })
+returns-in-Pop c = rw c.in-Pop.is (record { effect = c.pop_top.ensures.effect c.args.at; keeps = c.pop_top.ensures.keeps })
 
 pub returns-in-Drop : goal.returns-in-Drop
-returns-in-Drop c = rw c.in-Drop.is (record { effect = c.drop_top-in-Drop.ensures.effect c.args.at; keeps = c.drop_top-in-Drop.ensures.keeps })
+returns-in-Drop c = rw c.in-Drop.is (record { effect = c.drop_top.ensures.effect c.args.at; keeps = c.drop_top.ensures.keeps })

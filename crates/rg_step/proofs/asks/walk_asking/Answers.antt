@@ -6,14 +6,25 @@ use Rattle.rg_input.specs.declared.refusal.NumberRefusal.{NumberRefusal}
 use Rattle.rg_input.specs.declared.refusal.NumberRefusal.TheVariants as no
 use Rattle.rg_input.specs.Numbers.{Answers, Looks, OnInput}
 use Rattle.rg_input.proofs.InputLemmas.{OnInput-map}
-use Rattle.rg_stack.specs.Effects.{Traps, next_taken, walk}
+use Rattle.rg_stack.specs.Effects.{Traps, next_taken}
+use Rattle.rg_stack.specs.Given.{given_walk}
 use Rattle.rg_step.specs.Inner.Core.{below_top, with_top, work_of}
 use Rattle.rg_step.specs.declared.asks.Come.TheVariants as come
 use Rattle.rg_step.specs.Inner.Refusals.{Unread, StillLeft}
 use Rattle.rg_step.specs.Inner.Walks.{ComesTo, walk_from}
-use Rattle.rg_step.proofs.AskLemmas.{OnInput-both, read-on, more-on}
+use Rattle.rg_step.proofs.AskLemmas.{OnInput-both, read-on, more-on, unstuck-there}
 use Rattle.rg_step.proofs.LeavesLemmas.{stands-put, put-backs, same-back, no-asking, no-machine, unread-left, unread-number}
 use Rattle.rg_step.proofs.asks.walk_asking.Goals as goal
+
+pub walk-requires : goal.walk-requires
+walk-requires g c =
+    let code = c.args.code.now in
+    let i = c.loop-at.invariant in
+    unstuck-there _ _ _ _
+    (λ before after. (walk_from code c.args.from c.args.p.now before ≡ walk_from code c.loop-at.at c.loop-at.p after)
+    × Unread code.ops c.args.from c.args.p.now.machine c.loop-at.at before after)
+    (walk_from code c.args.from c.args.p.now) (walk_from code c.loop-at.at c.loop-at.p)
+    c.requires.given i.follows i.so_far (λ before after h. h.0)
 
 pub loop-at-preserved-in-Ok : goal.loop-at-preserved-in-Ok
 loop-at-preserved-in-Ok g c =
@@ -81,7 +92,7 @@ returns-in-Err-End-clause-comes g c =
     c.loop-at.invariant.so_far (subst Q c.in-Err-End.field-0-is c.in-Err-End.ensures.answers)
     (λ before between after p q. (
       p.0 ∙ c.in-Read.ensures.walk.3 between
-          ∙ ap (λ n. next_taken n (walk code (drop (c.in-Read.place + 1) code.ops) (c.in-Read.place + 1)) (below_top c.walk.new.p).stack
+          ∙ ap (λ n. next_taken n (given_walk code (drop (c.in-Read.place + 1) code.ops) (c.in-Read.place + 1)) (below_top c.walk.new.p).stack
           (work_of c.walk.new.p between)) q.0,
       λ start asks h. q.1 ∙ unread-left code.ops c.args.from c.loop-at.at c.args.p.now.machine before between p.1
           (λ calm. no-asking code.ops c.in-Read.place c.walk.new.p.machine (λ m a. (c.in-Read.ensures.leaves m a (inr calm)).0)) start asks h,
@@ -100,7 +111,7 @@ returns-in-Err-Input-clause-comes g c =
     c.loop-at.invariant.so_far (subst Q c.in-Err-Input.field-0-is c.in-Err-Input.ensures.answers)
     (λ before between after p q. (
       p.0 ∙ c.in-Read.ensures.walk.3 between
-          ∙ ap (λ n. next_taken n (walk code (drop (c.in-Read.place + 1) code.ops) (c.in-Read.place + 1)) (below_top c.walk.new.p).stack
+          ∙ ap (λ n. next_taken n (given_walk code (drop (c.in-Read.place + 1) code.ops) (c.in-Read.place + 1)) (below_top c.walk.new.p).stack
           (work_of c.walk.new.p between)) q.0,
       λ start asks h. q.1 ∙ unread-left code.ops c.args.from c.loop-at.at c.args.p.now.machine before between p.1
           (λ calm. no-asking code.ops c.in-Read.place c.walk.new.p.machine (λ m a. (c.in-Read.ensures.leaves m a (inr calm)).0)) start asks h,

@@ -3,10 +3,21 @@ use Rattle.rg_stack.specs.Refusals.{manner}
 use Rattle.rg_step.specs.Inner.Core.{Core}
 use Rattle.rg_step.specs.Inner.Refusals.{WantsRoom}
 use Rattle.rg_step.specs.Inner.Walks.{walk_from}
-use Rattle.rg_step.proofs.TurnLemmas.{turn-on, turn-to, turn-back, turn-ends, turn-read, turn-more, turn-room, turn-full}
+use Rattle.rg_step.proofs.TurnLemmas.{given-here, turn-on, turn-to, turn-back, turn-ends, turn-read, turn-more, turn-room, turn-full}
 use Rattle.rg_step.proofs.StandsLemmas.{stands-on, stands-to, stands-back, stands-left, stands-asking, stands-number, stands-free, stands-roomless}
 use Rattle.rg_step.proofs.LeavesLemmas.{on-backs, to-backs, asks-backs, room-backs, same-back}
 use Rattle.rg_step.proofs.walk.walk.Goals as goal
+
+pub act-requires-clause-given : goal.act-requires-clause-given
+act-requires-clause-given c = given-here c.args.code.now c.loop-at.at c.get.result c.loop-at.p _ c.requires c.loop-at.invariant.walks c.get.ensures
+
+pub make_room-requires : goal.make_room-requires
+make_room-requires c lt =
+    let some = c.requires in (
+      some.0,
+      λ stuck. some.1 (turn-room c.args.code.now c.loop-at.at c.get.result c.loop-at.p c.act.new.p _ some c.loop-at.invariant.walks c.get.ensures
+          c.in-Room.ensures.effect lt some.0 ∙ stuck),
+    )
 
 pub loop-at-preserved-in-On : goal.loop-at-preserved-in-On
 loop-at-preserved-in-On c =
@@ -17,7 +28,7 @@ loop-at-preserved-in-On c =
     let op = c.get.result in
     record {
       further = omega (arith, i.further);
-      walks = turn-on code c.loop-at.at op old new _ i.walks c.get.ensures c.in-On.ensures.effect;
+      walks = turn-on code c.loop-at.at op old new _ c.requires i.walks c.get.ensures c.in-On.ensures.effect;
       stands = λ start asks h. stands-on code.ops start asks c.loop-at.at old.machine new.machine op c.get.ensures c.in-On.ensures.keeps
           (i.stands start asks h);
       backs = on-backs (manner op) old.machine new.machine c.in-On.ensures.keeps ∙ i.backs;
@@ -32,7 +43,7 @@ loop-at-preserved-then-to-at c =
     let op = c.get.result in
     record {
       further = omega (arith, i.further, c.if-to-at.true);
-      walks = turn-to code c.loop-at.at c.in-To.to op old new _ i.walks c.get.ensures (omega (arith, c.if-to-at.true)) c.in-To.ensures.effect;
+      walks = turn-to code c.loop-at.at c.in-To.to op old new _ c.requires i.walks c.get.ensures (omega (arith, c.if-to-at.true)) c.in-To.ensures.effect;
       stands = λ start asks h. stands-to code.ops start asks c.loop-at.at old.machine new.machine op c.get.ensures c.in-To.to
           (omega (arith, c.if-to-at.true))
           c.in-To.ensures.keeps (i.stands start asks h);
@@ -48,7 +59,7 @@ loop-at-preserved-else-to-at c =
     let op = c.get.result in
     record {
       further = omega (arith, i.further);
-      walks = turn-back code c.loop-at.at c.in-To.to op old new _ i.walks c.get.ensures (omega (arith, c.if-to-at.false)) c.in-To.ensures.effect;
+      walks = turn-back code c.loop-at.at c.in-To.to op old new _ c.requires i.walks c.get.ensures (omega (arith, c.if-to-at.false)) c.in-To.ensures.effect;
       stands = λ start asks h. stands-back code.ops start asks c.loop-at.at old.machine new.machine op c.get.ensures c.in-To.to
           c.in-To.ensures.keeps (i.stands start asks h);
       backs = to-backs (manner op) c.in-To.to old.machine new.machine c.in-To.ensures.keeps ∙ i.backs;
@@ -65,7 +76,7 @@ loop-at-preserved c =
     let wants = subst W (sym c.in-Free.ensures.0) c.in-Room.ensures.keeps in
     record {
       further = omega (arith, i.further);
-      walks = λ input. turn-room code c.loop-at.at op old c.act.new.p _ i.walks c.get.ensures c.in-Room.ensures.effect c.in-Free.ensures.1 input
+      walks = λ input. turn-room code c.loop-at.at op old c.act.new.p _ c.requires i.walks c.get.ensures c.in-Room.ensures.effect c.in-Free.ensures.1 input
           ∙ sym (ap (λ n. walk_from code (c.loop-at.at + 1) n input) c.in-Free.ensures.0);
       stands = λ start asks h. stands-free code.ops start asks c.loop-at.at old.machine new.machine op c.get.ensures wants c.in-Free.ensures.2
           (i.stands start asks h);
@@ -75,7 +86,7 @@ loop-at-preserved c =
 pub returns-in-Called : goal.returns-in-Called
 returns-in-Called c =
     let i = c.loop-at.invariant in record {
-      walk = λ input. turn-room c.args.code.now c.loop-at.at c.get.result c.loop-at.p c.act.new.p _ i.walks c.get.ensures c.in-Room.ensures.effect
+      walk = λ input. turn-room c.args.code.now c.loop-at.at c.get.result c.loop-at.p c.act.new.p _ c.requires i.walks c.get.ensures c.in-Room.ensures.effect
           c.in-Called.ensures.0 input
           ∙ c.in-Called.ensures.1 input;
       leaves = λ start asks h. tt;
@@ -85,7 +96,7 @@ returns-in-Called c =
 pub returns-in-Lost-make_room : goal.returns-in-Lost-make_room
 returns-in-Lost-make_room c =
     let i = c.loop-at.invariant in record {
-      walk = λ input. turn-room c.args.code.now c.loop-at.at c.get.result c.loop-at.p c.act.new.p _ i.walks c.get.ensures c.in-Room.ensures.effect
+      walk = λ input. turn-room c.args.code.now c.loop-at.at c.get.result c.loop-at.p c.act.new.p _ c.requires i.walks c.get.ensures c.in-Room.ensures.effect
           c.in-Lost-make_room.ensures.0 input
           ∙ c.in-Lost-make_room.ensures.1 input;
       leaves = λ start asks h. tt;
@@ -98,7 +109,7 @@ returns-in-Full c =
     let op = c.get.result in
     let same = c.in-Full.ensures.0 in
     record {
-      walk = turn-full c.args.code.now c.loop-at.at op c.loop-at.p c.act.new.p _ i.walks c.get.ensures c.in-Room.ensures.effect c.in-Full.ensures.1;
+      walk = turn-full c.args.code.now c.loop-at.at op c.loop-at.p c.act.new.p _ c.requires i.walks c.get.ensures c.in-Room.ensures.effect c.in-Full.ensures.1;
       leaves = λ start asks h. ap (λ (n : Core). n.machine) same
           ∙ stands-roomless c.args.code.now.ops start asks c.loop-at.at c.loop-at.p.machine c.act.new.p.machine op c.get.ensures
           c.in-Room.ensures.keeps (i.stands start asks h);
@@ -119,21 +130,21 @@ returns-in-Memory-make_room c =
 
 pub returns-in-Stop : goal.returns-in-Stop
 returns-in-Stop c = record {
-  walk = turn-ends c.args.code.now c.loop-at.at c.get.result c.loop-at.p _ _ c.loop-at.invariant.walks c.get.ensures c.in-Stop.ensures.effect;
+  walk = turn-ends c.args.code.now c.loop-at.at c.get.result c.loop-at.p _ _ c.requires c.loop-at.invariant.walks c.get.ensures c.in-Stop.ensures.effect;
   leaves = λ start asks h. tt;
   backs = tt;
 }
 
 pub returns-in-Return : goal.returns-in-Return
 returns-in-Return c = record {
-  walk = turn-ends c.args.code.now c.loop-at.at c.get.result c.loop-at.p _ _ c.loop-at.invariant.walks c.get.ensures c.in-Return.ensures.effect;
+  walk = turn-ends c.args.code.now c.loop-at.at c.get.result c.loop-at.p _ _ c.requires c.loop-at.invariant.walks c.get.ensures c.in-Return.ensures.effect;
   leaves = λ start asks h. tt;
   backs = same-back c.args.p.now.machine.frames c.loop-at.p.machine.frames c.in-Return.back c.loop-at.invariant.backs c.in-Return.ensures.keeps;
 }
 
 pub returns-in-Trap : goal.returns-in-Trap
 returns-in-Trap c = record {
-  walk = turn-ends c.args.code.now c.loop-at.at c.get.result c.loop-at.p _ _ c.loop-at.invariant.walks c.get.ensures c.in-Trap.ensures.effect;
+  walk = turn-ends c.args.code.now c.loop-at.at c.get.result c.loop-at.p _ _ c.requires c.loop-at.invariant.walks c.get.ensures c.in-Trap.ensures.effect;
   leaves = λ start asks h. stands-left c.args.code.now.ops start asks c.loop-at.at c.loop-at.p.machine c.act.new.p.machine c.get.result c.get.ensures
       c.in-Trap.ensures.keeps (c.loop-at.invariant.stands start asks h);
   backs = tt;
@@ -149,7 +160,7 @@ returns-in-Memory c = record {
 
 pub returns-in-Lost : goal.returns-in-Lost
 returns-in-Lost c = record {
-  walk = turn-ends c.args.code.now c.loop-at.at c.get.result c.loop-at.p _ _ c.loop-at.invariant.walks c.get.ensures c.in-Lost.ensures.effect;
+  walk = turn-ends c.args.code.now c.loop-at.at c.get.result c.loop-at.p _ _ c.requires c.loop-at.invariant.walks c.get.ensures c.in-Lost.ensures.effect;
   leaves = λ start asks h. tt;
   backs = tt;
 }
@@ -158,7 +169,7 @@ pub returns-in-Read : goal.returns-in-Read
 returns-in-Read c =
     let i = c.loop-at.invariant in
     let op = c.get.result in
-    let r = turn-read c.args.code.now c.loop-at.at op c.loop-at.p c.act.new.p _ i.walks c.get.ensures c.in-Read.ensures.effect in
+    let r = turn-read c.args.code.now c.loop-at.at op c.loop-at.p c.act.new.p _ c.requires i.walks c.get.ensures c.in-Read.ensures.effect in
     record {
       walk = (i.further, omega (arith, c.loop-at-test.true, c.len.ensures), r.0, r.1);
       leaves = λ start asks h. (
@@ -174,7 +185,7 @@ pub returns-in-More : goal.returns-in-More
 returns-in-More c =
     let i = c.loop-at.invariant in
     let op = c.get.result in
-    let r = turn-more c.args.code.now c.loop-at.at op c.loop-at.p c.act.new.p _ i.walks c.get.ensures c.in-More.ensures.effect in
+    let r = turn-more c.args.code.now c.loop-at.at op c.loop-at.p c.act.new.p _ c.requires i.walks c.get.ensures c.in-More.ensures.effect in
     record {
       walk = (i.further, omega (arith, c.loop-at-test.true, c.len.ensures), r.0, r.1);
       leaves = λ start asks h. stands-asking c.args.code.now.ops start asks c.loop-at.at c.loop-at.p.machine c.act.new.p.machine op c.get.ensures

@@ -8,10 +8,15 @@ use Rattle.rg_step.specs.declared.step.Did.TheVariants as did
 use Rattle.rg_step.specs.Inner.Walks.{StepIs}
 use Rattle.rg_step.specs.Steps.{IsRunning, Runs, Stepping, StepsOn}
 use Rattle.rg_step.proofs.AskLemmas.{OnInput-some}
-use Rattle.rg_step.proofs.RunLemmas.{runs-ask, runs-on, runs-orderly, unasked-there}
+use Rattle.rg_step.proofs.RunLemmas.{runs-ask, runs-given, runs-on, runs-orderly, unasked-there}
 use Rattle.rg_step.proofs.RunLemmas.{settles-running, settles-printed, settles-last, settles-done, settles-trap, settles-fault, settles-memory}
 use Rattle.rg_step.proofs.stepper.Stepper.step.Goals.{in-Some, in-None, in-Some-printed, in-None-printed}
 use Rattle.rg_step.proofs.stepper.Stepper.step.Goals as goal
+
+pub step-requires-clause-given : goal.step-requires-clause-given
+step-requires-clause-given g c =
+    let P : Stepping → Type 0 = λ n. IsRunning c.args.code.now n.machine in
+    runs-given c.args.code.now c.self.inside.parts (subst P (sym c.self.view_is) c.requires.runs)
 
 pub unreachable-requires : goal.unreachable-requires
 unreachable-requires g c =
