@@ -19,7 +19,7 @@ ghost use Rattle.rg_step.specs.Inner.Layout.{cleared, values_of};
 ghost use Rattle.rg_step.specs.Inner.Objects.{LabelIs};
 ghost use Rattle.rg_step.specs.Inner.Refusals.{GoesBack, SameBacks};
 ghost use Rattle.rg_step.specs.Inner.Core.{MayStore, Left, below_top, called_frame, started, can_open};
-ghost use Rattle.rg_step.specs.Inner.Core.{first_value, opened};
+ghost use Rattle.rg_step.specs.Inner.Core.{opened};
 ghost use Rattle.rg_step.specs.Inner.Core.{with_machine, with_made, with_top};
 ghost use Rattle.rg_step.specs.Inner.Walks.{Unstuck, walk_from};
 
@@ -156,13 +156,6 @@ impl Parts {
         }
     }
 
-    /// Takes all words from the stack.
-    pub(crate) fn empty(&mut self)
-        ensures { self.new ≡ record self.old { stack = [] } }
-    {
-        self.stack.clear();
-    }
-
     /// The word in a slot.
     #[inline]
     pub(crate) fn slot(&self, s: u32) -> Word
@@ -236,20 +229,6 @@ impl Parts {
         ensures { self.new ≡ record self.old { printed = Some (value_of_word w) } }
     {
         self.printed = Some(value(w));
-    }
-
-    /// Leaves the topmost word alone on the stack.
-    pub(crate) fn keep_top(&mut self)
-        requires { self.old ≡ with_top (below_top self.old) (first_value self.old) }
-        ensures { self.new ≡ record self.old { stack = first_value self.old ∷ [] } }
-    {
-        match self.stack.pop() {
-            Some(w) => {
-                self.stack.clear();
-                self.stack.push_reserved(w);
-            }
-            None => unreachable!(),
-        }
     }
 
     /// The number of frames beneath the topmost one.
