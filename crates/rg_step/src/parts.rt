@@ -2,7 +2,7 @@
 
 ghost use Rattle.std.specs.Prelude.{◌≡◌, ◌∷◌, [], None, Some, Ok, Err, OnOk, OnErr, IfSome};
 ghost use Rattle.std.specs.Prelude.{IfOk, IfErr, drop, length, nat_lt, map, ◌++◌, slice_get, true};
-ghost use Rattle.std.specs.Prelude.{unwrap_or, ◌<◌};
+ghost use Rattle.std.specs.Prelude.{unwrap_or, ◌<◌, ◌==◌};
 ghost use Rattle.rg_base.specs.declared.object.Label.TheVariants.{Frozen, Region, Temp};
 ghost use Rattle.rg_base.specs.declared.object.Seen.{Seen};
 ghost use Rattle.rg_step.specs.Steps.{fresh, opening_machine};
@@ -388,6 +388,7 @@ impl Parts {
 
     /// A call: so many of the topmost words are the first slots of a new frame.
     pub(crate) fn call(&mut self, given: u32, slots: u32, back: usize) -> Result<(), Memory>
+        requires { length self.old.stack == given ≡ true }
         ensures ok { OnOk result (self.new ≡ with_machine self.old (record self.old.machine {
           frames = called_frame given slots back self.old.stack ∷ self.old.machine.frames;
         })) }
@@ -425,7 +426,8 @@ impl Parts {
         slots: u32,
         back: usize,
     ) -> Result<(), Memory>
-        requires { Unstuck (walk_from code.now from self.old) }
+        requires walks { Unstuck (walk_from code.now from self.old) }
+        requires all { length self.old.stack == given ≡ true }
         ensures ok { OnOk result (self.new ≡ with_machine self.old (record self.old.machine {
           frames = called_frame given slots back self.old.stack
               ∷ cleared (drop from code.now.ops) self.old.machine.frames;
