@@ -18,7 +18,9 @@ ghost use Rattle.rg_store.specs.Regions.{LabelFits};
 ghost use Rattle.rg_step.specs.Inner.Layout.{cleared, values_of};
 ghost use Rattle.rg_step.specs.Inner.Objects.{LabelIs};
 ghost use Rattle.rg_step.specs.Inner.Refusals.{GoesBack, SameBacks};
-ghost use Rattle.rg_step.specs.Inner.Core.{MayStore, Left, below_top, called_frame, started};
+ghost use Rattle.rg_step.specs.Inner.Core.{Has, MayStore, Left, below_top, called_frame, started};
+ghost use Rattle.rg_code.specs.declared.op.Op.TheVariants as i;
+ghost use Rattle.rg_stack.specs.Needs.{leads_nowhere};
 ghost use Rattle.rg_step.specs.Inner.Core.{can_open};
 ghost use Rattle.rg_step.specs.Inner.Core.{opened};
 ghost use Rattle.rg_step.specs.Inner.Core.{with_machine, with_made, with_top};
@@ -288,6 +290,7 @@ impl Parts {
 
     /// Makes nil the slots from one on, and then the topmost window goes, where it isn't the last.
     pub(crate) fn leave(&mut self, s: u32)
+        requires { Has (i.Leave s) self.old }
         ensures left { self.new ≡ with_machine self.old (record (end_slots self.old.machine s) {
           windows = without_top self.old.machine.windows;
         }) }
@@ -299,6 +302,7 @@ impl Parts {
 
     /// Makes an object of a class in the active region, and pushes it.
     pub(crate) fn make(&mut self, alloc: Global, class: u32, words: &[Word]) -> Result<(), Memory>
+        requires { leads_nowhere words.now ≡ true }
         ensures ok { OnOk result (self.new ≡ with_made self.old class
             (map value_of_word words.now) (Region (top_region self.old.machine.windows))) }
         ensures err { OnErr result (self.new.machine ≡ self.old.machine) }
@@ -321,6 +325,7 @@ impl Parts {
         class: u32,
         words: &[Word],
     ) -> Result<(), Memory>
+        requires { leads_nowhere words.now ≡ true }
         ensures ok { OnOk result (self.new ≡ with_made self.old class
             (map value_of_word words.now) (Temp (top_window self.old.machine.windows))) }
         ensures err { OnErr result (self.new.machine ≡ self.old.machine) }
@@ -340,6 +345,7 @@ impl Parts {
         words: &[Word],
         manager: Manager,
     ) -> Result<(), Memory>
+        requires { leads_nowhere words.now ≡ true }
         ensures ok { OnOk result (self.new ≡ with_made (with_machine self.old
             (record self.old.machine { managers = self.old.machine.managers ++ manager ∷ [] }))
             class (map value_of_word words.now) (Region (length self.old.machine.managers))) }
