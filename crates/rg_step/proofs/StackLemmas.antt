@@ -1,5 +1,6 @@
 -- The stack of values.
-use Rattle.std.proofs.Common.{◌≡◌, ℕ, ◌-◌, ◌∷◌, ◌&&◌, Bool as Truth, true, false, true≢false, not, nat_lt, subst, List, Option, Some, None, IfSome, length, take, drop, map, reverse, slice_get, refl, sym, ap, ◌∙◌}
+use Rattle.std.proofs.Common.{◌≡◌, ℕ, ◌-◌, ◌∷◌, ◌&&◌, Bool as Truth, true, false, true≢false, not, nat_lt, subst, List, Option, Some, None}
+use Rattle.std.proofs.Common.{IfSome, length, take, drop, map, reverse, slice_get, refl, sym, ap, ◌∙◌}
 use Rattle.rg_base.specs.declared.value.Val.{Val}
 use Rattle.rg_base.specs.declared.value.Word.{Word}
 use Rattle.rg_code.specs.declared.op.Op.TheVariants as i
@@ -27,7 +28,8 @@ two-hold false b c h = absurd (true≢false (sym h))
 -- what is popped may be stored into its slot
 pub store-given : (c new : Core) (s : ℕ) (v : Val) → Has (i.Store s) c → c ≡ with_top new v → MayStore new.machine s
 store-given c new s v has e =
-    two-hold (is_empty new.stack) (nat_lt s (size_of new.machine)) (not (is_closed new.machine (slot_at new.machine s))) (subst (Has (i.Store s)) e has)
+    two-hold (is_empty new.stack) (nat_lt s (size_of new.machine)) (not (is_closed new.machine (slot_at new.machine s))) (subst (Has (i.Store s)) e
+    has)
 
 -- nothing but the stack has to be empty where slots end
 pub end-given : (c : Core) (s : ℕ) → Has (i.End s) c → owned_once c.machine ≡ true

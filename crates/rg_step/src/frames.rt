@@ -28,10 +28,7 @@ pub(crate) fn ret(p: &mut Parts) -> Next
         return Next::Lost;
     };
     match p.pop_frame() {
-        Some(back) => {
-            p.keep_top();
-            Next::Return(back)
-        }
+        Some(back) => Next::Return(back),
         None => Next::Lost,
     }
 }
@@ -44,10 +41,7 @@ pub(crate) fn ret_void(p: &mut Parts) -> Next
     ensures keeps { Keeping Ends false p.old.machine p.new.machine result }
 {
     match p.pop_frame() {
-        Some(back) => {
-            p.empty();
-            Next::Return(back)
-        }
+        Some(back) => Next::Return(back),
         None => Next::Lost,
     }
 }

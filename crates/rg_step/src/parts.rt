@@ -2,7 +2,7 @@
 
 ghost use Rattle.std.specs.Prelude.{◌≡◌, ◌∷◌, [], None, Some, Ok, Err, OnOk, OnErr, IfSome};
 ghost use Rattle.std.specs.Prelude.{IfOk, IfErr, drop, length, nat_lt, map, ◌++◌, slice_get, true};
-ghost use Rattle.std.specs.Prelude.{unwrap_or, ◌<◌};
+ghost use Rattle.std.specs.Prelude.{unwrap_or, ◌<◌, ◌==◌};
 ghost use Rattle.rg_base.specs.declared.object.Label.TheVariants.{Frozen, Region, Temp};
 ghost use Rattle.rg_base.specs.declared.object.Seen.{Seen};
 ghost use Rattle.rg_step.specs.Steps.{fresh, opening_machine};
@@ -18,8 +18,11 @@ ghost use Rattle.rg_store.specs.Regions.{LabelFits};
 ghost use Rattle.rg_step.specs.Inner.Layout.{cleared, values_of};
 ghost use Rattle.rg_step.specs.Inner.Objects.{LabelIs};
 ghost use Rattle.rg_step.specs.Inner.Refusals.{GoesBack, SameBacks};
-ghost use Rattle.rg_step.specs.Inner.Core.{MayStore, Left, below_top, called_frame, started, can_open};
-ghost use Rattle.rg_step.specs.Inner.Core.{first_value, opened};
+ghost use Rattle.rg_step.specs.Inner.Core.{Has, MayStore, Left, below_top, called_frame, started};
+ghost use Rattle.rg_code.specs.declared.op.Op.TheVariants as i;
+ghost use Rattle.rg_stack.specs.Needs.{leads_nowhere};
+ghost use Rattle.rg_step.specs.Inner.Core.{can_open};
+ghost use Rattle.rg_step.specs.Inner.Core.{opened};
 ghost use Rattle.rg_step.specs.Inner.Core.{with_machine, with_made, with_top};
 ghost use Rattle.rg_step.specs.Inner.Walks.{Unstuck, walk_from};
 
@@ -156,13 +159,6 @@ impl Parts {
         }
     }
 
-    /// Takes all words from the stack.
-    pub(crate) fn empty(&mut self)
-        ensures { self.new ≡ record self.old { stack = [] } }
-    {
-        self.stack.clear();
-    }
-
     /// The word in a slot.
     #[inline]
     pub(crate) fn slot(&self, s: u32) -> Word
@@ -238,20 +234,6 @@ impl Parts {
         self.printed = Some(value(w));
     }
 
-    /// Leaves the topmost word alone on the stack.
-    pub(crate) fn keep_top(&mut self)
-        requires { self.old ≡ with_top (below_top self.old) (first_value self.old) }
-        ensures { self.new ≡ record self.old { stack = first_value self.old ∷ [] } }
-    {
-        match self.stack.pop() {
-            Some(w) => {
-                self.stack.clear();
-                self.stack.push_reserved(w);
-            }
-            None => unreachable!(),
-        }
-    }
-
     /// The number of frames beneath the topmost one.
     pub(crate) fn depth(&self) -> u64
         ensures { result ≡ frame_number self.now.machine.frames }
@@ -308,6 +290,7 @@ impl Parts {
 
     /// Makes nil the slots from one on, and then the topmost window goes, where it isn't the last.
     pub(crate) fn leave(&mut self, s: u32)
+        requires { Has (i.Leave s) self.old }
         ensures left { self.new ≡ with_machine self.old (record (end_slots self.old.machine s) {
           windows = without_top self.old.machine.windows;
         }) }
@@ -319,6 +302,7 @@ impl Parts {
 
     /// Makes an object of a class in the active region, and pushes it.
     pub(crate) fn make(&mut self, alloc: Global, class: u32, words: &[Word]) -> Result<(), Memory>
+        requires { leads_nowhere words.now ≡ true }
         ensures ok { OnOk result (self.new ≡ with_made self.old class
             (map value_of_word words.now) (Region (top_region self.old.machine.windows))) }
         ensures err { OnErr result (self.new.machine ≡ self.old.machine) }
@@ -341,6 +325,7 @@ impl Parts {
         class: u32,
         words: &[Word],
     ) -> Result<(), Memory>
+        requires { leads_nowhere words.now ≡ true }
         ensures ok { OnOk result (self.new ≡ with_made self.old class
             (map value_of_word words.now) (Temp (top_window self.old.machine.windows))) }
         ensures err { OnErr result (self.new.machine ≡ self.old.machine) }
@@ -360,6 +345,7 @@ impl Parts {
         words: &[Word],
         manager: Manager,
     ) -> Result<(), Memory>
+        requires { leads_nowhere words.now ≡ true }
         ensures ok { OnOk result (self.new ≡ with_made (with_machine self.old
             (record self.old.machine { managers = self.old.machine.managers ++ manager ∷ [] }))
             class (map value_of_word words.now) (Region (length self.old.machine.managers))) }
@@ -408,6 +394,7 @@ impl Parts {
 
     /// A call: so many of the topmost words are the first slots of a new frame.
     pub(crate) fn call(&mut self, given: u32, slots: u32, back: usize) -> Result<(), Memory>
+        requires { length self.old.stack == given ≡ true }
         ensures ok { OnOk result (self.new ≡ with_machine self.old (record self.old.machine {
           frames = called_frame given slots back self.old.stack ∷ self.old.machine.frames;
         })) }
@@ -445,7 +432,8 @@ impl Parts {
         slots: u32,
         back: usize,
     ) -> Result<(), Memory>
-        requires { Unstuck (walk_from code.now from self.old) }
+        requires walks { Unstuck (walk_from code.now from self.old) }
+        requires all { length self.old.stack == given ≡ true }
         ensures ok { OnOk result (self.new ≡ with_machine self.old (record self.old.machine {
           frames = called_frame given slots back self.old.stack
               ∷ cleared (drop from code.now.ops) self.old.machine.frames;

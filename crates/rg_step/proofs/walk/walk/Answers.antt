@@ -43,7 +43,8 @@ loop-at-preserved-then-to-at c =
     let op = c.get.result in
     record {
       further = omega (arith, i.further, c.if-to-at.true);
-      walks = turn-to code c.loop-at.at c.in-To.to op old new _ c.requires i.walks c.get.ensures (omega (arith, c.if-to-at.true)) c.in-To.ensures.effect;
+      walks = turn-to code c.loop-at.at c.in-To.to op old new _ c.requires i.walks c.get.ensures (omega (arith, c.if-to-at.true))
+          c.in-To.ensures.effect;
       stands = λ start asks h. stands-to code.ops start asks c.loop-at.at old.machine new.machine op c.get.ensures c.in-To.to
           (omega (arith, c.if-to-at.true))
           c.in-To.ensures.keeps (i.stands start asks h);
@@ -59,7 +60,8 @@ loop-at-preserved-else-to-at c =
     let op = c.get.result in
     record {
       further = omega (arith, i.further);
-      walks = turn-back code c.loop-at.at c.in-To.to op old new _ c.requires i.walks c.get.ensures (omega (arith, c.if-to-at.false)) c.in-To.ensures.effect;
+      walks = turn-back code c.loop-at.at c.in-To.to op old new _ c.requires i.walks c.get.ensures (omega (arith, c.if-to-at.false))
+          c.in-To.ensures.effect;
       stands = λ start asks h. stands-back code.ops start asks c.loop-at.at old.machine new.machine op c.get.ensures c.in-To.to
           c.in-To.ensures.keeps (i.stands start asks h);
       backs = to-backs (manner op) c.in-To.to old.machine new.machine c.in-To.ensures.keeps ∙ i.backs;
@@ -76,7 +78,8 @@ loop-at-preserved c =
     let wants = subst W (sym c.in-Free.ensures.0) c.in-Room.ensures.keeps in
     record {
       further = omega (arith, i.further);
-      walks = λ input. turn-room code c.loop-at.at op old c.act.new.p _ c.requires i.walks c.get.ensures c.in-Room.ensures.effect c.in-Free.ensures.1 input
+      walks = λ input. turn-room code c.loop-at.at op old c.act.new.p _ c.requires i.walks c.get.ensures c.in-Room.ensures.effect
+          c.in-Free.ensures.1 input
           ∙ sym (ap (λ n. walk_from code (c.loop-at.at + 1) n input) c.in-Free.ensures.0);
       stands = λ start asks h. stands-free code.ops start asks c.loop-at.at old.machine new.machine op c.get.ensures wants c.in-Free.ensures.2
           (i.stands start asks h);
@@ -86,7 +89,8 @@ loop-at-preserved c =
 pub returns-in-Called : goal.returns-in-Called
 returns-in-Called c =
     let i = c.loop-at.invariant in record {
-      walk = λ input. turn-room c.args.code.now c.loop-at.at c.get.result c.loop-at.p c.act.new.p _ c.requires i.walks c.get.ensures c.in-Room.ensures.effect
+      walk = λ input. turn-room c.args.code.now c.loop-at.at c.get.result c.loop-at.p c.act.new.p _ c.requires i.walks c.get.ensures
+          c.in-Room.ensures.effect
           c.in-Called.ensures.0 input
           ∙ c.in-Called.ensures.1 input;
       leaves = λ start asks h. tt;
@@ -96,7 +100,8 @@ returns-in-Called c =
 pub returns-in-Lost-make_room : goal.returns-in-Lost-make_room
 returns-in-Lost-make_room c =
     let i = c.loop-at.invariant in record {
-      walk = λ input. turn-room c.args.code.now c.loop-at.at c.get.result c.loop-at.p c.act.new.p _ c.requires i.walks c.get.ensures c.in-Room.ensures.effect
+      walk = λ input. turn-room c.args.code.now c.loop-at.at c.get.result c.loop-at.p c.act.new.p _ c.requires i.walks c.get.ensures
+          c.in-Room.ensures.effect
           c.in-Lost-make_room.ensures.0 input
           ∙ c.in-Lost-make_room.ensures.1 input;
       leaves = λ start asks h. tt;
@@ -109,7 +114,8 @@ returns-in-Full c =
     let op = c.get.result in
     let same = c.in-Full.ensures.0 in
     record {
-      walk = turn-full c.args.code.now c.loop-at.at op c.loop-at.p c.act.new.p _ c.requires i.walks c.get.ensures c.in-Room.ensures.effect c.in-Full.ensures.1;
+      walk = turn-full c.args.code.now c.loop-at.at op c.loop-at.p c.act.new.p _ c.requires i.walks c.get.ensures c.in-Room.ensures.effect
+          c.in-Full.ensures.1;
       leaves = λ start asks h. ap (λ (n : Core). n.machine) same
           ∙ stands-roomless c.args.code.now.ops start asks c.loop-at.at c.loop-at.p.machine c.act.new.p.machine op c.get.ensures
           c.in-Room.ensures.keeps (i.stands start asks h);
@@ -130,21 +136,24 @@ returns-in-Memory-make_room c =
 
 pub returns-in-Stop : goal.returns-in-Stop
 returns-in-Stop c = record {
-  walk = turn-ends c.args.code.now c.loop-at.at c.get.result c.loop-at.p _ _ c.requires c.loop-at.invariant.walks c.get.ensures c.in-Stop.ensures.effect;
+  walk = turn-ends c.args.code.now c.loop-at.at c.get.result c.loop-at.p _ _ c.requires c.loop-at.invariant.walks c.get.ensures
+      c.in-Stop.ensures.effect;
   leaves = λ start asks h. tt;
   backs = tt;
 }
 
 pub returns-in-Return : goal.returns-in-Return
 returns-in-Return c = record {
-  walk = turn-ends c.args.code.now c.loop-at.at c.get.result c.loop-at.p _ _ c.requires c.loop-at.invariant.walks c.get.ensures c.in-Return.ensures.effect;
+  walk = turn-ends c.args.code.now c.loop-at.at c.get.result c.loop-at.p _ _ c.requires c.loop-at.invariant.walks c.get.ensures
+      c.in-Return.ensures.effect;
   leaves = λ start asks h. tt;
   backs = same-back c.args.p.now.machine.frames c.loop-at.p.machine.frames c.in-Return.back c.loop-at.invariant.backs c.in-Return.ensures.keeps;
 }
 
 pub returns-in-Trap : goal.returns-in-Trap
 returns-in-Trap c = record {
-  walk = turn-ends c.args.code.now c.loop-at.at c.get.result c.loop-at.p _ _ c.requires c.loop-at.invariant.walks c.get.ensures c.in-Trap.ensures.effect;
+  walk = turn-ends c.args.code.now c.loop-at.at c.get.result c.loop-at.p _ _ c.requires c.loop-at.invariant.walks c.get.ensures
+      c.in-Trap.ensures.effect;
   leaves = λ start asks h. stands-left c.args.code.now.ops start asks c.loop-at.at c.loop-at.p.machine c.act.new.p.machine c.get.result c.get.ensures
       c.in-Trap.ensures.keeps (c.loop-at.invariant.stands start asks h);
   backs = tt;
@@ -160,7 +169,8 @@ returns-in-Memory c = record {
 
 pub returns-in-Lost : goal.returns-in-Lost
 returns-in-Lost c = record {
-  walk = turn-ends c.args.code.now c.loop-at.at c.get.result c.loop-at.p _ _ c.requires c.loop-at.invariant.walks c.get.ensures c.in-Lost.ensures.effect;
+  walk = turn-ends c.args.code.now c.loop-at.at c.get.result c.loop-at.p _ _ c.requires c.loop-at.invariant.walks c.get.ensures
+      c.in-Lost.ensures.effect;
   leaves = λ start asks h. tt;
   backs = tt;
 }
