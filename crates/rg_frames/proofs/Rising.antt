@@ -3,8 +3,8 @@ use Rattle.std.proofs.Common.{◌≡◌, ◌≤◌, ◌-◌, ◌++◌, ◌∷◌
 use Rattle.std.proofs.lemmas.Option.{slice_get_within}
 use Rattle.std.proofs.lemmas.List.{length-take-le}
 use Rattle.rg_frames.specs.declared.rows.Window.{Window}
-use Rattle.rg_frames.specs.Stack.{Stack, IsTop}
-use Rattle.rg_frames.specs.Inner.Layout.{Rises, BasesRise, Lies}
+use Rattle.rg_frames.specs.Stack.{BasesRise, Stack, IsTop}
+use Rattle.rg_frames.specs.Inner.Layout.{Rises, Lies}
 
 -- an element of a longer list is one of the list, or the new one
 pub data From {X : Type 0} (xs : List X) (new : X) (k : ℕ) (x : X) : Type 0 where

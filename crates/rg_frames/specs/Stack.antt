@@ -52,6 +52,11 @@ pub record MarksLie (v : Stack) : Type 0 where
   pub rise : (j k m n : ℕ) → j ≤ k → slice_get v.marks j ≡ Some m → slice_get v.marks k ≡ Some n → m ≤ n
   pub within : (k n : ℕ) → slice_get v.marks k ≡ Some n → n ≤ length v.temps
 
+-- each window's base is no lower than the one's beneath, and none is above the number of slots
+pub record BasesRise (most : ℕ) (ws : List Window) : Type 0 where
+  pub rise : (j k : ℕ) (v w : Window) → j ≤ k → slice_get ws j ≡ Some v → slice_get ws k ≡ Some w → v.base ≤ w.base
+  pub within : (k : ℕ) (w : Window) → slice_get ws k ≡ Some w → w.base ≤ most
+
 -- nothing was made yet
 pub record IsEmpty (v : Stack) : Type 0 where
   pub slots : v.slots ≡ []

@@ -12,7 +12,7 @@ ghost use Rattle.rg_frames.specs.declared.rows.FrameRefusal.TheVariants.{Depth};
 ghost use Rattle.rg_frames.specs.Inner.Layout.{NilFrom};
 ghost use Rattle.rg_frames.specs.Stack.{Begun, InTop, IsTopFrame, IsTop, BaseUpTo, mark};
 ghost use Rattle.rg_frames.specs.Stack.{IsEmpty, HasRoom, roomed, begun, with_slot, with_temp};
-ghost use Rattle.rg_frames.specs.Stack.{without_temps, ended, MarksLie};
+ghost use Rattle.rg_frames.specs.Stack.{without_temps, ended, BasesRise, MarksLie};
 ghost use Rattle.rg_frames.specs.Stack.{pushed, pushed_of, popped, opened, closed, has_region};
 
 use crate::rows::{Frame, FrameRefusal, Window};
@@ -267,6 +267,29 @@ impl Frames {
         }
     }
 
+    /// The word in a slot of the top frame, whatever its number.
+    pub fn nth_word(&self, s: usize) -> Word
+        requires { InTop self.now s }
+        ensures { slice_get self.now.slots (self.now.first + s) ≡ Some result }
+    {
+        self.slots[self.first + s]
+    }
+
+    /// Makes nil a slot of the top frame, whatever its number.
+    pub fn clear_word(&mut self, s: usize)
+        requires { InTop self.old s }
+        ensures { self.new ≡ with_slot self.old s Nil }
+    {
+        let len = self.slots.len();
+        let place = self.first + s;
+        if place < len {
+            self.slots[place] = Word::Nil;
+            if self.live <= place {
+                self.live = place + 1;
+            }
+        }
+    }
+
     /// Makes nil the slots of the top frame from one on, where there are any.
     #[inline]
     pub fn end_words(&mut self, s: u32)
@@ -277,6 +300,15 @@ impl Frames {
             clear(&mut self.slots, from, self.live);
             self.live = from;
         }
+    }
+
+    /// From this slot of the top frame on all are nil.
+    #[inline]
+    pub fn live(&self) -> usize
+        ensures nil { ended self.now result ≡ self.now }
+        ensures within { self.now.first + result ≤ length self.now.slots }
+    {
+        self.live.saturating_sub(self.first)
     }
 
     /// The number of slots of the top frame.
@@ -371,6 +403,21 @@ impl Frames {
         ensures none { IsNone result ↔ (length self.now.windows ≡ 0) }
     {
         self.windows.last().copied()
+    }
+
+    /// How the windows lie over slots and temporaries, whenever they are looked at.
+    pub fn lie(&self)
+        ensures marks { MarksLie self.now }
+        ensures bases { BasesRise (length self.now.slots) self.now.windows }
+    {
+        let _ = &self.windows;
+    }
+
+    /// The number that the next window gets.
+    pub fn next_number(&self) -> u64
+        ensures { result ≡ self.now.next }
+    {
+        self.next
     }
 
     /// How many windows are open.

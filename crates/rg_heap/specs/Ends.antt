@@ -64,6 +64,12 @@ pub record OwnedByOne (h : Heap) (t : RegionTable) (v : Stack) (slots : List ℕ
 abbrev pub GoesAlong : Parts → Stack → ℕ → Type 0
 GoesAlong p v q = (top : ℕ) × OwnedByOne p.cells.heap p.regions v (top_temps v) top × Below p.cells.heap p.regions top q
 
+-- into a closed region at most one field of the cells outside it leads
+abbrev pub OneOutside : Parts → Stack → Type 0
+OneOutside p v = (q s k to s₂ k₂ to₂ : ℕ) → IsClosed p.regions v q →
+    (LiesIn p.cells.heap q s → ⊥) → field_at p.cells.heap s k ≡ Some (Slot to) → LiesIn p.cells.heap q to →
+    (LiesIn p.cells.heap q s₂ → ⊥) → field_at p.cells.heap s₂ k₂ ≡ Some (Slot to₂) → LiesIn p.cells.heap q to₂ → (s ≡ s₂) × (k ≡ k₂)
+
 -- What leaving a window asks for: region 0 is open; the top window's temporaries are held cells with such a label, each once, whose
 -- references lead to held cells; and into a closed region at most one field of the cells outside it leads.
 pub record CanLeave (p : Parts) (v : Stack) : Type 0 where
@@ -71,6 +77,4 @@ pub record CanLeave (p : Parts) (v : Stack) : Type 0 where
   pub temps : (i s : ℕ) → slice_get (top_temps v) i ≡ Some s → IsTemp p.cells.heap s
   pub once : (i j s : ℕ) → slice_get (top_temps v) i ≡ Some s → slice_get (top_temps v) j ≡ Some s → i ≡ j
   pub lead : (i s : ℕ) → slice_get (top_temps v) i ≡ Some s → AllLead p.cells.heap s
-  pub one_outside : (q s k to s₂ k₂ to₂ : ℕ) → IsClosed p.regions v q →
-      (LiesIn p.cells.heap q s → ⊥) → field_at p.cells.heap s k ≡ Some (Slot to) → LiesIn p.cells.heap q to →
-      (LiesIn p.cells.heap q s₂ → ⊥) → field_at p.cells.heap s₂ k₂ ≡ Some (Slot to₂) → LiesIn p.cells.heap q to₂ → (s ≡ s₂) × (k ≡ k₂)
+  pub one_outside : OneOutside p v

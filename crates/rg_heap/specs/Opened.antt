@@ -2,14 +2,13 @@
 use Rattle.std.specs.Prelude.{◌≡◌, ℕ, ◌+◌, ◌<◌, Some, drop, length, slice_get, slice_index_or, take}
 use Rattle.rg_base.specs.declared.object.Label.TheVariants.{Temp}
 use Rattle.rg_base.specs.declared.value.Word.TheVariants.{Slot}
-use Rattle.rg_cells.specs.Table.{label_at, field_at, IsHeld}
+use Rattle.rg_cells.specs.Table.{label_at, IsHeld}
 use Rattle.rg_regions.specs.Table.{HasNumber}
-use Rattle.rg_regions.specs.Reach.{LiesIn}
 use Rattle.rg_regions.specs.Grove.{Parent}
 use Rattle.rg_frames.specs.declared.rows.Window.{Window}
 use Rattle.rg_frames.specs.Stack.{Stack}
 use Rattle.rg_heap.specs.Parts.{Parts}
-use Rattle.rg_heap.specs.Answers.{AllLead, IsClosed}
+use Rattle.rg_heap.specs.Answers.{AllLead}
 
 -- the window at a place, counted from window 0
 abbrev pub IsWindow : Stack → (place : ℕ) → Window → Type 0
@@ -38,7 +37,3 @@ pub record Opened (p : Parts) (v : Stack) : Type 0 where
   -- the parent of an open region is the region of the window beneath
   pub parents : (i : ℕ) (w : Window) (n q : ℕ) → IsWindow v i w → HasNumber p.regions w.region n → Parent p.cells.heap q n →
       (j : ℕ) × (u : Window) × (i ≡ j + 1) × IsWindow v j u × HasNumber p.regions u.region q
-  -- into a closed region at most one field of the cells outside it leads
-  pub one_outside : (q s k to s₂ k₂ to₂ : ℕ) → IsClosed p.regions v q →
-      (LiesIn p.cells.heap q s → ⊥) → field_at p.cells.heap s k ≡ Some (Slot to) → LiesIn p.cells.heap q to →
-      (LiesIn p.cells.heap q s₂ → ⊥) → field_at p.cells.heap s₂ k₂ ≡ Some (Slot to₂) → LiesIn p.cells.heap q to₂ → (s ≡ s₂) × (k ≡ k₂)

@@ -5,17 +5,12 @@ use Rattle.rg_base.specs.declared.value.Word.{Word}
 use Rattle.rg_base.specs.declared.value.Word.TheVariants.{Nil}
 use Rattle.rg_frames.specs.declared.rows.Frame.{Frame}
 use Rattle.rg_frames.specs.declared.rows.Window.{Window}
-use Rattle.rg_frames.specs.Stack.{Stack}
+use Rattle.rg_frames.specs.Stack.{BasesRise, Stack}
 
 -- numbers that don't fall, none above a most one
 pub record Rises (most : ℕ) (ns : List ℕ) : Type 0 where
   pub rise : (j k m n : ℕ) → j ≤ k → slice_get ns j ≡ Some m → slice_get ns k ≡ Some n → m ≤ n
   pub within : (k n : ℕ) → slice_get ns k ≡ Some n → n ≤ most
-
--- each window's base is no lower than the one's beneath, and none is above the number of slots
-pub record BasesRise (most : ℕ) (ws : List Window) : Type 0 where
-  pub rise : (j k : ℕ) (v w : Window) → j ≤ k → slice_get ws j ≡ Some v → slice_get ws k ≡ Some w → v.base ≤ w.base
-  pub within : (k : ℕ) (w : Window) → slice_get ws k ≡ Some w → w.base ≤ most
 
 -- windows over slots and temporaries, as they lie between all calls
 pub record Lies (v : Stack) : Type 0 where

@@ -10,7 +10,7 @@ use Rattle.rg_frames.specs.declared.rows.Window.{Window}
 use Rattle.rg_frames.specs.Stack.{Stack, has_region, mark}
 use Rattle.rg_heap.specs.Parts.{Parts}
 use Rattle.rg_heap.specs.Answers.{IsClosed}
-use Rattle.rg_heap.specs.Ends.{CanLeave, top_temps}
+use Rattle.rg_heap.specs.Ends.{CanLeave, OneOutside, top_temps}
 use Rattle.rg_heap.specs.Opened.{Opened, IsWindow, IsTempOf}
 
 -- a region that a window has is open
@@ -80,8 +80,8 @@ window_at (w ∷ ws) zero l = (w, refl)
 window_at (w ∷ ws) (suc i) l = window_at ws i (omega (arith, l))
 
 -- a window can be left
-pub can_leave : (p : Parts) (v : Stack) → Grove p.cells p.regions → Opened p v → CanLeave p v
-can_leave p v g o =
+pub can_leave : (p : Parts) (v : Stack) → Grove p.cells p.regions → Opened p v → OneOutside p v → CanLeave p v
+can_leave p v g o once =
     let zero_at = window_at v.windows 0 o.some in
     let some = o.some in
     let top_at = window_at v.windows (length v.windows - 1) (omega (arith, some)) in
@@ -97,5 +97,5 @@ can_leave p v g o =
           let y = b.1 in
           omega (arith, q, x, y);
       lead = λ i s e. let a = got_drop (mark v) v.temps i s e in o.lead a.0 s a.2;
-      one_outside = o.one_outside;
+      one_outside = once;
     }
