@@ -4,6 +4,7 @@ pub mod CountLemmas
 pub mod LeadLemmas
 pub mod OnceLemmas
 pub mod ClosedLemmas
+pub mod KeepLemmas
 pub mod HolderLemmas
 pub mod TempLemmas
 pub mod OwnerLemmas

@@ -54,6 +54,10 @@ field_behind = refl
 field_of_nil : given (i.Field 2) (Nil ∷ []) ≡ true
 field_of_nil = refl
 
+-- no field is read through the owner of a closed region
+field_of_owner : given (i.Field 0) (Obj 1 ∷ []) ≡ false
+field_of_owner = refl
+
 -- object 0 may be written, but not with what leads into another region; object 1 lies in a closed region
 put : given (i.Put 1) (Obj 0 ∷ Obj 0 ∷ []) ≡ true
 put = refl
@@ -89,9 +93,32 @@ enter = refl
 enter_of_no_owner : given (i.Enter 0 3) [] ≡ false
 enter_of_no_owner = refl
 
+-- inside the window that begins at slot 3, where slot 0 is nil: a slot in front of it takes nothing that leads into an open region
+abbrev inside : Op → List Val → Truth
+inside o stack = needs code o stack (record entered.machine { frames = frame (Nil ∷ Int (pos 3) ∷ Obj 1 ∷ Obj 1 ∷ []) ∷ [] })
+
+store_inside : inside (i.Store 3) (Obj 1 ∷ []) ≡ true
+store_inside = refl
+
+store_in_front : inside (i.Store 1) (Int (pos 4) ∷ []) ≡ true
+store_in_front = refl
+
+store_open_in_front : inside (i.Store 1) (Obj 1 ∷ []) ≡ false
+store_open_in_front = refl
+
+own_in_front : inside (i.Own 0) (Nil ∷ []) ≡ true
+own_in_front = refl
+
+own_open_in_front : inside (i.Own 0) (Obj 0 ∷ []) ≡ false
+own_open_in_front = refl
+
 -- the window that closes has its region's owner
 leave : needs code (i.Leave 3) [] entered.machine ≡ true
 leave = refl
+
+-- and all its slots end
+leave_keeps_a_slot : needs code (i.Leave 4) [] entered.machine ≡ false
+leave_keeps_a_slot = refl
 
 -- a result that is owned elsewhere isn't given up, one that is owned nowhere is
 drop_owned : given i.Drop (Obj 1 ∷ []) ≡ false

@@ -6,17 +6,21 @@ use Rattle.rg_base.specs.declared.ty.Ty.{Ty}
 use Rattle.rg_base.specs.declared.value.Val.{Val}
 use Rattle.rg_base.specs.declared.object.Seen.{Seen}
 use Rattle.rg_base.specs.declared.words.Manager.{Manager}
-use Rattle.rg_tree.specs.Tree.{Name, Ty as Written, Variable, Expr, Call, Right, stmt, StmtKind, declare, assign, call, swap, branch, while, enter}
-use Rattle.rg_tree.specs.Tree.{print, collect, return, Method, Class, Tree}
-use Rattle.rg_base.specs.declared.fault.Code.TheVariants.{Unknown}
+use Rattle.rg_tree.specs.Tree.{Name, Ty as Written, Variable, Expr, Call, Right, value, new, new_tmp, new_iso, freeze, merge, read, more}
+use Rattle.rg_tree.specs.Tree.{result_of, stmt, StmtKind, declare, assign, call, swap, branch, while, enter, print, collect, return, Method, Class}
+use Rattle.rg_tree.specs.Tree.{Tree}
+use Rattle.rg_base.specs.declared.fault.Code.TheVariants.{Unknown, Mismatch}
 use Rattle.std.proofs.lemmas.Option.{none-some}
-use Rattle.std.specs.Prelude.{not, ◌||◌}
+use Rattle.std.specs.Prelude.{not, ◌||◌, ◌+◌, nat_le}
 use Rattle.rg_rules.specs.Acceptance.{Accepted}
 use Rattle.rg_rules.specs.Types.{type_of, method_named}
 use Rattle.rg_rules.specs.Environment.{Env, Entry, entry_of, at_depth, is_lent}
-use Rattle.rg_rules.specs.Capabilities.{stays_at_depth}
+use Rattle.rg_rules.specs.Capabilities.{below, stays_at_depth}
 use Rattle.rg_rules.specs.Items.{Item, Do}
 use Rattle.rg_rules.specs.Bodies.{Body, method_body, method_end}
+use Rattle.rg_rules.specs.Answers.{at_line}
+use Rattle.rg_rules.specs.Expressions.{Judged}
+use Rattle.rg_rules.specs.Rights.{Called, judge_call, judge_right}
 use Rattle.rg_rules.specs.Statements.{judge_block, judge_kind, judge_assign}
 use Rattle.rg_rules.specs.State.{Local, Target, Declares, Assigns, Drops, Frame, Window, State}
 use Rattle.rg_rules.specs.Owners.{leads_into}
@@ -24,38 +28,40 @@ use Rattle.rg_rules.specs.Evaluation.{uses, cleared}
 use Rattle.rg_rules.specs.Steps.{next}
 use Rattle.rg_rules.proofs.AnswersLemmas.{bind-ok, test-then, ok_or-ok, at_line-ok}
 use Rattle.rg_rules.proofs.AcceptanceLemmas.{Accepted-parts, Accepted-method}
+use Rattle.rg_rules.proofs.ExpressionLemmas.{against-ok, against-below}
 use Rattle.rg_rules.proofs.PointLemmas.{BeginsFree, spot-advance}
 use Rattle.rg_sound.specs.Values.{Meets}
 use Rattle.rg_sound.specs.OpenRegions.{AllOwned}
+use Rattle.rg_sound.proofs.Frames.SpotReturnLemmas.{spot-return}
 use Rattle.rg_sound.proofs.Frames.StandsLemmas.{IsElsewhere}
 use Rattle.rg_sound.proofs.Frames.TopLemmas.{running-top}
 use Rattle.rg_sound.proofs.Owners.OwnerLemmas.{AllOwners, AllOwners-map}
 use Rattle.rg_sound.proofs.Owners.DataLemmas.{Data, pop-frame}
 use Rattle.rg_sound.proofs.Values.RightLemmas.{OwnsFreshAs}
-use Rattle.rg_sound.proofs.Values.DeliverLemmas.{waits-doing, pop-leads, elsewhere-leads}
+use Rattle.rg_sound.proofs.Values.DeliverLemmas.{waits-doing, pop-leads, elsewhere-leads, call-result}
 use Rattle.rg_sound.specs.Frames.{Entered, Waits, WaitsEmpty, Beneath, Running, right_call, with_target, assigned_call, call_of}
 use Rattle.rg_code.specs.Lowering.{assign_op, lowered}
 use Rattle.rg_code.specs.Places.{scope_of}
-use Rattle.rg_stack.specs.Machine.{Frame as Shown}
+use Rattle.rg_stack.specs.Machine.{Frame as Shown, slots_below}
 use Rattle.rg_stack.specs.Given.{given_step as step}
 use Rattle.rg_stack.proofs.Mirrors.{Mirrors}
 use Rattle.rg_stack.specs.Shows.{ShowsFrames, ShowsWindows, sizes_of}
-use Rattle.rg_stack.specs.Needs.{needs, owned_once, loose}
+use Rattle.rg_stack.specs.Needs.{needs, owned_once, loose, top_base}
 use Rattle.rg_stack.proofs.Mirrors.{SameMove}
 use Rattle.rg_stack.proofs.Walks.PlaceLemmas.{GoesOn}
-use Rattle.rg_stack.proofs.Walks.FrameLemmas.{OpenedBelow}
+use Rattle.rg_stack.proofs.Walks.FrameLemmas.{OpenedBelow, windows_below}
 use Rattle.rg_stack.proofs.Walks.EndLemmas.{Round, work, state}
-use Rattle.rg_stack.proofs.Statements.BaseLemmas.{as_many}
+use Rattle.rg_stack.proofs.Statements.BaseLemmas.{as_many, sizes-more}
 use Rattle.rg_stack.proofs.Basics.{some-is}
 use Rattle.rg_stack.proofs.Needs.LeadLemmas.{ShowsFit}
 use Rattle.rg_stack.proofs.Needs.OnceLemmas.{owned_once-fits, loose-fits}
-use Rattle.rg_stack.proofs.Walks.NeedLemmas.{and-both}
+use Rattle.rg_stack.proofs.Walks.NeedLemmas.{and-both, not_true}
 use Rattle.rg_stack.proofs.Statements.ReturnLemmas.{TargetHas, TargetNeeds, above}
 use Rattle.rg_stack.proofs.Judgements.BaseLemmas.{beneath-begins}
 use Rattle.rg_stack.proofs.Judgements.FitLemmas.{found-named, running-beneath}
 use Rattle.rg_stack.proofs.Judgements.MiddleLemmas.{Begun, begun_of, variable-needs}
 use Rattle.rg_stack.proofs.Judgements.SpotLemmas.{leaves_frame, outer-enters}
-use Rattle.rg_stack.proofs.Judgements.StatementLemmas.{Live, not_true, fits_of, statement-judged, return-judged, target-has}
+use Rattle.rg_stack.proofs.Judgements.StatementLemmas.{Live, fits_of, statement-judged, return-judged, target-has}
 
 end_free : (result : Option Written) → BeginsFree (method_end result)
 end_free None = tt
@@ -144,36 +150,73 @@ fit-statement t accepted r store slots locals managers input line k j rest goes 
     fits live)
     shows judged.right
 
--- a variable that takes a result isn't lent
-abbrev TargetFree : Env → Target → Type 0
-TargetFree env (Declares x t) = Unit {0}
-TargetFree env (Assigns x) = (e : Entry) × (entry_of env x ≡ Some e) × (is_lent e.readiness ≡ false)
-TargetFree env Drops = Unit {0}
+-- a variable that takes the result of a call isn't lent, and it may be assigned and take what the call gives
+record FreeVariable (classes : List Class) (env : Env) (x : Variable) (c : Call) : Type 0 where
+  pub entry : Entry
+  pub there : entry_of env x ≡ Some entry
+  pub not_lent : is_lent entry.readiness ≡ false
+  pub may : (at_depth env entry || not (stays_at_depth entry.ty)) ≡ true
+  pub takes : (ty : Ty) → ((k : Called) → judge_call classes env c ≡ Ok k → k.result ≡ Some ty) → below ty entry.ty ≡ true
 
-with_free : (env : Env) (o : Option Call) (first target : Target) (c : Call) → with_target first o ≡ Some (c, target)
-    → TargetFree env first → TargetFree env target
-with_free env None first target c h free = absurd (none-some (c, target) h)
-with_free env (Some d) first target c h free = subst (λ k. TargetFree env k) (ap (λ p. p.1) (some-is (d, first) (c, target) h)) free
+abbrev TargetFree : List Class → Env → Target → Call → Type 0
+TargetFree classes env (Declares x t) c = Unit {0}
+TargetFree classes env (Assigns x) c = FreeVariable classes env x c
+TargetFree classes env Drops c = Unit {0}
+
+with_free : (classes : List Class) (env : Env) (o : Option Call) (first target : Target) (c : Call) → with_target first o ≡ Some (c, target)
+    → ((d : Call) → o ≡ Some d → TargetFree classes env first d) → TargetFree classes env target c
+with_free classes env None first target c h free = absurd (none-some (c, target) h)
+with_free classes env (Some d) first target c h free = subst (λ (p : Call × Target). TargetFree classes env p.1 p.0)
+    (some-is (d, first) (c, target) h) (free d refl)
+
+-- the call of a right side
+called_right : (right : Right) (d : Call) → right_call right ≡ Some d → right ≡ result_of d
+called_right (value e) d h = absurd (none-some d h)
+called_right (new x) d h = absurd (none-some d h)
+called_right (new_tmp x) d h = absurd (none-some d h)
+called_right (new_iso x m) d h = absurd (none-some d h)
+called_right (freeze y) d h = absurd (none-some d h)
+called_right (merge y) d h = absurd (none-some d h)
+called_right read d h = absurd (none-some d h)
+called_right more d h = absurd (none-some d h)
+called_right (result_of c) d h = ap result_of (some-is c d h)
+
+-- what a call gives is below what is expected of it
+result_below : (classes : List Class) (env : Env) (wanted : Ty) (c : Call) (j : Judged) (ty : Ty)
+    → judge_right classes env wanted (result_of c) ≡ Ok j
+    → ((k : Called) → judge_call classes env c ≡ Ok k → k.result ≡ Some ty) → below ty wanted ≡ true
+result_below classes env wanted c j ty judged gives =
+    let p = bind-ok (judge_call classes env c) _ j judged in
+    let u = bind-ok (ok_or p.0.result Mismatch) _ j p.2 in
+    let is : u.0 ≡ ty = some-is u.0 ty (sym (ok_or-ok p.0.result Mismatch u.0 u.1) ∙ gives p.0 p.1) in
+    subst (λ q. below q wanted ≡ true) ((against-ok (Some wanted) u.0 p.0.env j u.2).ty ∙ is) (against-below wanted u.0 p.0.env j u.2)
 
 assigned_free : (classes : List Class) (env out : Env) (x : Variable) (fs : List Name) (right : Right) (c : Call) (target : Target)
-    → judge_assign classes env x fs right ≡ Ok out → assigned_call x fs right ≡ Some (c, target) → TargetFree env target
+    → judge_assign classes env x fs right ≡ Ok out → assigned_call x fs right ≡ Some (c, target) → TargetFree classes env target c
 assigned_free classes env out x [] right c target judged h =
     let e = bind-ok (ok_or (entry_of env x) Unknown) _ out judged in
     let a = test-then (e.0.assignable) _ _ out e.2 in
     let b = test-then (at_depth env e.0 || not (stays_at_depth e.0.ty)) _ _ out a.1 in
     let l = test-then (not (is_lent e.0.readiness)) _ _ out b.1 in
-    with_free env (right_call right) (Assigns x) target c h
-    (e.0, ok_or-ok (entry_of env x) Unknown e.0 e.1, not_true (is_lent e.0.readiness) l.0)
+    let j = bind-ok (judge_right classes env e.0.ty right) _ out l.1 in
+    with_free classes env (right_call right) (Assigns x) target c h (λ d is. record {
+      entry = e.0;
+      there = ok_or-ok (entry_of env x) Unknown e.0 e.1;
+      not_lent = not_true (is_lent e.0.readiness) l.0;
+      may = b.0;
+      takes = λ ty. result_below classes env e.0.ty d j.0 ty
+          (subst (λ q. judge_right classes env e.0.ty q ≡ Ok j.0) (called_right right d is) j.1);
+    })
 assigned_free classes env out x (g ∷ gs) right c target judged h = absurd (none-some (c, target) h)
 
 target_free : (classes : List Class) (last : Option Ty) (line : ℕ) (env out : Env) (k : StmtKind) (c : Call) (target : Target)
-    → judge_kind classes last line env k ≡ Ok out → call_of classes k ≡ Some (c, target) → TargetFree env target
+    → judge_kind classes last line env k ≡ Ok out → call_of classes k ≡ Some (c, target) → TargetFree classes env target c
 target_free classes last line env out (declare x ty right) c target judged h =
-    with_free env (right_call right) (Declares x (type_of classes ty)) target
-    c h tt
+    with_free classes env (right_call right) (Declares x (type_of classes ty)) target
+    c h (λ d is. tt)
 target_free classes last line env out (assign p right) c target judged h = assigned_free classes env out p.base p.fields right c target
     (at_line-ok line _ out judged) h
-target_free classes last line env out (call d) c target judged h = with_free env (Some d) Drops target c h tt
+target_free classes last line env out (call d) c target judged h = with_free classes env (Some d) Drops target c h (λ u is. tt)
 target_free classes last line env out (swap y p) c target judged h = absurd (none-some (c, target) h)
 target_free classes last line env out (branch e b other) c target judged h = absurd (none-some (c, target) h)
 target_free classes last line env out (while e b) c target judged h = absurd (none-some (c, target) h)
@@ -181,6 +224,12 @@ target_free classes last line env out (enter p z b) c target judged h = absurd (
 target_free classes last line env out (print e) c target judged h = absurd (none-some (c, target) h)
 target_free classes last line env out collect c target judged h = absurd (none-some (c, target) h)
 target_free classes last line env out (return e) c target judged h = absurd (none-some (c, target) h)
+
+-- whether a target takes a result
+abbrev takes_any : Target → Truth
+takes_any (Declares x t) = true
+takes_any (Assigns x) = true
+takes_any Drops = false
 
 -- a result that is owned nowhere may go to its target in the frame beneath
 module _ (t : Tree) (accepted : Accepted t) (r : Round) (slots under : List Val) (locals callers : List Local) (back : ℕ) (target : Target)
@@ -190,7 +239,8 @@ module _ (t : Tree) (accepted : Accepted t) (r : Round) (slots under : List Val)
     (record { locals = callers; target = r.target } ∷ r.bodies))
     (windows : ShowsWindows (sizes_of (record { slots = slots; back = back } ∷ record { slots = under; back = r.back } ∷ r.frames)) r.windows
     r.opened)
-    (v : Val) (ty : Ty) (after : List Local) where
+    (lower : OpenedBelow (length (sizes_of (record { slots = under; back = r.back } ∷ r.frames))) r.opened)
+    (v : Val) (ty : Ty) (gives : h.body.result ≡ Some ty) (after : List Local) where
   abbrev caller : Frame
   caller = record { locals = callers; target = r.target }
 
@@ -210,10 +260,31 @@ module _ (t : Tree) (accepted : Accepted t) (r : Round) (slots under : List Val)
       ≡ leads_into t.classes store (gone_frame ∷ caller ∷ r.bodies) p)
       (elsewhere-leads t.classes store gone_frame (caller ∷ r.bodies)) top.elsewhere))
 
+  -- a frame that waits begins its calling statement
+  abbrev Waiting : Type 0
+  Waiting = Waits t.classes h.beneath.0 caller (length r.bodies) h.beneath.1 h.beneath.3 h.body target
+
+  waiting_begun : Data t.classes store (caller ∷ r.bodies) r.opened (length managers) r.made → (w : Waiting)
+      → Begun t r store under callers managers w.spot.env
+  waiting_begun fits w =
+      let b = h.beneath in
+      let s : State = state r store callers managers input (Do (stmt w.line w.kind) ∷ (b.3 ++ b.4)) in
+      let are : r.opened ≡ b.1 ++ b.2 = h.windows_are ∙ ap (λ l. l ++ h.under) none ∙ b.5 in
+      let doing = waits-doing t accepted s b.0 caller r.bodies b.1 b.2 b.3 b.4 h.body target w b.8 are fits refl in
+      let there = windows_below (sizes_of (record { slots = under; back = r.back } ∷ r.frames)) (length slots) r.windows r.opened lower
+      (subst (λ k. ShowsWindows k r.windows r.opened)
+      (sizes-more (record { slots = slots; back = back }) (record { slots = under; back = r.back } ∷ r.frames)) windows) in
+      begun_of t accepted r store under callers managers w.spot.env shows there (Do (stmt w.line w.kind) ∷ (b.3 ++ b.4)) doing.r refl fits
+
   taken_by : Data t.classes store (caller ∷ r.bodies) r.opened (length managers) r.made → Meets store r.opened ty v
       → OwnsFreshAs t.classes store (caller ∷ r.bodies) ty v
       → (k : Target) → k ≡ target → TargetNeeds (lowered t) k callers v (work r store under managers input).machine
-  taken_by fits meets fresh (Declares x w) is = tt
+  taken_by fits meets fresh (Declares x w) is = by_waiting h.beneath.7
+    where
+      by_waiting : Waiting ⊎ WaitsEmpty t h.beneath.0 caller h.beneath.1 h.beneath.3 h.body target
+          → nat_le (top_base r.windows) (slots_below r.frames + length callers) ≡ true
+      by_waiting (inr w) = absurd (true≢false (ap takes_any (is ∙ w.nothing_taken)))
+      by_waiting (inl w) = let begun = waiting_begun fits w in begun.seen (length callers) begun.top.next
   taken_by fits meets fresh Drops is =
       let d = shown fits in
       let m = (work r store under managers input).machine in
@@ -232,38 +303,21 @@ module _ (t : Tree) (accepted : Accepted t) (r : Round) (slots under : List Val)
       }
   taken_by fits meets fresh (Assigns x) is = by_waiting h.beneath.7
     where
-      by_waiting : Waits t.classes h.beneath.0 caller (length r.bodies) h.beneath.1 h.beneath.3 h.body target
-          ⊎ WaitsEmpty t h.beneath.0 caller h.beneath.1 h.beneath.3 h.body target
+      by_waiting : Waiting ⊎ WaitsEmpty t h.beneath.0 caller h.beneath.1 h.beneath.3 h.body target
           → needs (lowered t) (assign_op (scope_of callers) x) (v ∷ []) (work r store under managers input).machine ≡ true
-      by_waiting (inr w) = absurd (true≢false (ap is_assign (is ∙ w.nothing_taken)))
-        where
-          is_assign : Target → Truth
-          is_assign (Declares x t) = false
-          is_assign (Assigns x) = true
-          is_assign Drops = false
+      by_waiting (inr w) = absurd (true≢false (ap takes_any (is ∙ w.nothing_taken)))
       by_waiting (inl w) =
           let b = h.beneath in
-          let s : State = state r store callers managers input (Do (stmt w.line w.kind) ∷ (b.3 ++ b.4)) in
-          let are : r.opened ≡ b.1 ++ b.2 = h.windows_are ∙ ap (λ l. l ++ h.under) none ∙ b.5 in
-          let doing = waits-doing t accepted s b.0 caller r.bodies b.1 b.2 b.3 b.4 h.body target w b.8 are fits refl in
-          let begun : Begun t r store under callers managers w.spot.env = record {
-            items = Do (stmt w.line w.kind) ∷ (b.3 ++ b.4);
-            run = doing.r;
-            is = refl;
-            top = doing.top;
-            fits = fits;
-            frames = shows.1;
-            sizes = sizes_of (record { slots = slots; back = back } ∷ record { slots = under; back = r.back } ∷ r.frames);
-            windows = windows;
-            shows = shows.0;
-          } in
+          let begun = waiting_begun fits w in
           let judged = body-judged t accepted r.bodies b.2 b.4 b.0 r.target b.8 in
           let a = spot-advance t.classes b.0.result b.0.front judged.out b.0.block b.0.after [] w.point w.spot (stmt w.line w.kind) b.3 judged.free
           judged.right w.spot_is w.begins in
           let free = target_free t.classes a.last w.line w.spot.env a.out w.kind w.calls.made (Assigns x) a.right
           (w.calls.made_is ∙ ap (λ k. Some (w.calls.made, k)) (sym is)) in
-          variable-needs t r store under callers managers input w.spot.env begun (lowered t) x free.0 free.1 free.2
-          (found-named w.spot.env.entries callers x free.0 w.stands.named free.1).type_is ty store under callers managers input v shows.0 refl
+          variable-needs t r store under callers managers input w.spot.env begun (lowered t) x free.entry free.there free.not_lent
+          (found-named w.spot.env.entries callers x free.entry w.stands.named free.there).type_is free.may ty
+          (free.takes ty (λ k called. call-result t.classes w.spot.env w.calls.made w.calls.cap w.calls.class w.calls.called k w.calls.receiver
+          w.calls.called_is called ∙ ap (λ (q : Body). q.result) (sym w.calls.callee_is) ∙ gives)) store under callers managers input v shows.0 refl
           (record { named = w.stands.named; fits = fits; meets = meets; fresh = fresh; keeps = λ b o there is. there })
 
   pub returned-needs : AllOwned t.classes store (record { locals = locals; target = target } ∷ caller ∷ r.bodies) r.opened
@@ -289,22 +343,24 @@ fit-return t accepted r slots under locals callers back target store managers in
     let top : Frame = record { locals = locals; target = target } in
     let caller : Frame = record { locals = callers; target = r.target } in
     let f : Shown = record { slots = under; back = r.back } in
-    let judged = here-judged t accepted top (caller ∷ r.bodies) r.opened line (return e) (j ∷ rest) h in
+    let b = body-judged t accepted (caller ∷ r.bodies) h.under h.rest h.body top.target h.beneath in
     let first : h.first ≡ Do (stmt line (return e)) = ap (λ l. unwrap_or (slice_get l 0) (Do (stmt line (return e)))) (sym h.items_are) in
-    let none = alone t accepted top (caller ∷ r.bodies) r.opened (Do (stmt line (return e)) ∷ j ∷ rest) h
-    (ap leaves_frame (h.begins ∙ ap (λ i. i ∷ h.more) first)) in
+    let begins : h.spot.items ≡ Do (stmt line (return e)) ∷ h.more = h.begins ∙ ap (λ i. i ∷ h.more) first in
+    let last = spot-return t.classes h.body.result h.body.front b.out h.body.block h.body.after [] h.point h.spot line e h.more b.free b.right
+    h.spot_is begins in
+    let none = alone t accepted top (caller ∷ r.bodies) r.opened (Do (stmt line (return e)) ∷ j ∷ rest) h (ap leaves_frame begins) in
     let below = running-beneath t top caller r.bodies r.opened (Do (stmt line (return e)) ∷ j ∷ rest) h none in
     let sizes : suc (length r.bodies) ≡ length (sizes_of (f ∷ r.frames)) =
     ap suc (sym (as_many r.frames r.bodies shows.slots.1.1))
     ∙ sym (length-reverse (map (λ (f : Shown). length f.slots) (f ∷ r.frames)) ∙ length-map (f ∷ r.frames) (λ (f : Shown). length f.slots)) in
-    return-judged t r slots under locals callers back target store managers input line e j rest h.spot.env judged.last judged.out h.stands.named
-    fits.values.0 fits.objects shows judged.right
-    (subst (λ n. OpenedBelow n r.opened) sizes below)
+    let lower = subst (λ n. OpenedBelow n r.opened) sizes below in
+    return-judged t r slots under locals callers back target store managers input line e j rest h.spot.env (Some last.ty) last.out h.stands.named
+    fits.values.0 fits.objects shows (ap (at_line line) last.judged) lower
     (beneath-begins t accepted (record { slots = slots; back = back }) f r.frames r.windows top caller r.bodies r.opened
     (Do (stmt line (return e)) ∷ j ∷ rest) shows.slots shows.windows h none)
     (beneath-has t accepted caller r.bodies h.under h.rest h.body target h.beneath)
     (begun_of t accepted (above r under callers back target) store slots locals managers h.spot.env shows.slots shows.windows
     (Do (stmt line (return e)) ∷ j ∷ rest) h refl fits)
-    (λ v ty store_fits meets fresh. returned-needs t accepted r slots under locals callers back target store managers input
-    (Do (stmt line (return e)) ∷ j ∷ rest) h none shows.slots.1 shows.windows v ty
+    (λ v ty is store_fits meets fresh. returned-needs t accepted r slots under locals callers back target store managers input
+    (Do (stmt line (return e)) ∷ j ∷ rest) h none shows.slots.1 shows.windows lower v ty (last.gives ∙ is)
     (cleared (uses locals e) locals) fits.opened.owned store_fits meets fresh)

@@ -17,7 +17,7 @@ use Rattle.rg_base.specs.declared.outcome.Trap.TheVariants as trap
 use Rattle.rg_tree.specs.Tree.{Name, Variable, Path, Field, Class, Tree}
 use Rattle.rg_rules.specs.Capabilities.{is_iso}
 use Rattle.rg_rules.specs.Types.{type_of, fields_of, field_place, field_type}
-use Rattle.rg_rules.specs.Environment.{Env, Entry, entry_of, same_variable}
+use Rattle.rg_rules.specs.Environment.{seen_type, Env, Entry, entry_of, same_variable}
 use Rattle.rg_rules.specs.Items.{Item}
 use Rattle.rg_rules.specs.Bodies.{Body}
 use Rattle.rg_rules.specs.State.{Local, Target, value_in, place_in, Frame, Window}
@@ -37,6 +37,8 @@ use Rattle.rg_stack.proofs.Statements.RightLemmas.{InRegion}
 use Rattle.rg_stack.proofs.Basics.{some-is, err-ok}
 use Rattle.rg_stack.proofs.Judgements.FollowLemmas.{HaveFields}
 use Rattle.rg_stack.proofs.Judgements.JudgeLemmas.{OfType, Facts}
+use Rattle.rg_stack.specs.Machine.{Window as Now}
+use Rattle.rg_stack.proofs.Walks.WalkLemmas.{is_shut}
 
 -- a value that meets a type is of that type
 pub meets-of_type : (store : List Seen) (F : Cap → Label → Type 0) (t : Ty) (v : Val) → MeetsBy store F t v → OfType store t v
@@ -208,15 +210,21 @@ objects-fields classes store ws h v o f t there declared =
     o.fields f t fit.fields declared
 
 -- the facts of the judgements' lemmas, of the frame that runs
-pub facts_of : (classes : List Class) (env : Env) (store : List Seen) (windows : List Window) (n : ℕ) (locals : List Local)
-    → Named env.entries locals → FrameMeets store windows n locals → ObjectsFit classes store windows → Facts classes env store locals
-facts_of classes env store windows n locals named meets objects = record {
+pub facts_of : (classes : List Class) (env : Env) (store : List Seen) (now : List Now) (windows : List Window) (n : ℕ) (locals : List Local)
+    → Named env.entries locals → FrameMeets store windows n locals → ObjectsFit classes store windows
+    → ((t : Ty) (v : Val) → Meets store windows t v → is_iso t ≡ false → is_shut store now v ≡ false)
+    → ((x : Variable) (e : Entry) → entry_of env x ≡ Some e → Meets store windows (seen_type env e) (value_in locals x))
+    → Facts classes env store now locals
+facts_of classes env store now windows n locals named meets objects shut seen = record {
   declared = λ x e there. (found-named env.entries locals x e named there).type_is;
   variables = λ x e there. let f = found-named env.entries locals x e named there in
       subst (OfType store e.ty) (sym f.value_is) (subst (λ t. OfType store t f.local.value) f.ty_is
       (meets-of_type store (LabelFits (windows_of n f.place windows)) f.local.ty f.local.value (meets f.place f.local f.there)));
   fields = objects-fields classes store windows objects;
   sizes = objects-sizes classes store windows objects;
+  opened = windows;
+  safe = record { objects = objects; shut = shut };
+  meets = seen;
 }
 
 -- what `freeze`, `merge` and `enter x` want of their variable

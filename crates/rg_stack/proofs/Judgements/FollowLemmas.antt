@@ -1,7 +1,7 @@
 -- What the judgements and the invariant give of paths: each object on the way has the class of the declared type.
 use Rattle.std.proofs.Common.{◌≡◌, ℕ, suc, true, false, Bool as Truth, if◌then◌else◌, List, [], ◌∷◌, find, Option, Some, None, option_map, ok_or}
 use Rattle.std.proofs.Common.{Ok, Err, refl, sym, ap, subst, ◌∙◌, arith, slice_get, unwrap_or}
-use Rattle.std.specs.Prelude.{bytes_eq, nat_lt, length}
+use Rattle.std.specs.Prelude.{bytes_eq, nat_lt, length, not}
 use Rattle.std.proofs.lemmas.Option.{none-some}
 use Rattle.rg_base.specs.declared.ty.Ty.{Ty}
 use Rattle.rg_base.specs.declared.ty.Ty.TheVariants.{Int, Bool, Ref}
@@ -13,13 +13,19 @@ use Rattle.rg_base.specs.declared.fault.Code.TheVariants.{Capability}
 use Rattle.rg_tree.specs.Tree.{Name, Field, Class}
 use Rattle.rg_rules.specs.Types.{type_of, fields_of, field_place, field_type}
 use Rattle.rg_rules.specs.Paths.{look_up, read_through, walk_field, walk_fields}
-use Rattle.rg_rules.specs.Capabilities.{adapt}
+use Rattle.rg_rules.specs.Capabilities.{adapt, is_iso}
+use Rattle.rg_rules.specs.State.{Window as Opened}
 use Rattle.rg_rules.specs.Evaluation.{object_at, field_value}
 use Rattle.rg_rules.proofs.AnswersLemmas.{bind-ok}
 use Rattle.rg_rules.proofs.PathLemmas.{look_up-ok}
 use Rattle.rg_code.specs.Lowering.{field_number, type_behind}
 use Rattle.rg_stack.proofs.Basics.{some-is}
-use Rattle.rg_stack.proofs.Walks.WalkLemmas.{Follows}
+use Rattle.rg_sound.specs.Values.{Meets}
+use Rattle.rg_sound.specs.Objects.{ObjectsFit}
+use Rattle.rg_sound.proofs.Values.ValueLemmas.{walk_field-meets}
+use Rattle.rg_stack.specs.Machine.{Window}
+use Rattle.rg_stack.proofs.Walks.NeedLemmas.{and-both, not-false}
+use Rattle.rg_stack.proofs.Walks.WalkLemmas.{Follows, is_shut}
 
 -- the class of a type of references
 abbrev pub class_is : Ty → Option ℕ
@@ -77,11 +83,18 @@ field_of_type classes (Ref k b) f c e =
     let is = some-is b c e in
     (ap (λ c. unwrap_or (field_place (fields_of classes c) f) 0) is, ap (λ c. unwrap_or (field_type classes c f) Int) is)
 
+-- what is known of values that meet types: those that aren't `iso` lead into no closed region
+pub record Safe (classes : List Class) (store : List Seen) (windows : List Window) (opened : List Opened) : Type 0 where
+  pub objects : ObjectsFit classes store opened
+  pub shut : (t : Ty) (v : Val) → Meets store opened t v → is_iso t ≡ false → is_shut store windows v ≡ false
+
 -- a walk that the rules allow follows fields that are there
-pub follows_of : (classes : List Class) (store : List Seen) (fs : List Name) (u t r : Ty) (v : Val) → class_is u ≡ class_is t
-    → walk_fields classes u fs ≡ Ok r → HasClass store t v → FieldsHaveClasses classes store → HaveFields classes store → Follows classes store t v fs
-follows_of classes store [] u t r v same walked has fields sizes = tt
-follows_of classes store (f ∷ fs) u t r v same walked has fields sizes = λ o there.
+pub follows_of : (classes : List Class) (store : List Seen) (windows : List Window) (opened : List Opened) → Safe classes store windows opened
+    → (fs : List Name) (u t r : Ty) (v : Val) → Meets store opened u v → class_is u ≡ class_is t
+    → walk_fields classes u fs ≡ Ok r → HasClass store t v → FieldsHaveClasses classes store → HaveFields classes store
+    → Follows classes store windows t v fs
+follows_of classes store windows opened safe [] u t r v meets same walked has fields sizes = tt
+follows_of classes store windows opened safe (f ∷ fs) u t r v meets same walked has fields sizes = λ o there.
     let p = bind-ok (walk_field classes u f) _ r walked in
     let q = bind-ok (look_up classes u f) _ p.0 p.1 in
     let w = look_up-ok classes u f q.0 q.1 in
@@ -94,9 +107,12 @@ follows_of classes store (f ∷ fs) u t r v same walked has fields sizes = λ o 
       ap (λ k. elim k [ None ↦ val.Nil | Some n ↦ unwrap_or (slice_get o.fields n) val.Nil ])
           (ap (λ c. field_place (fields_of classes c) f) class_of_o ∙ place.1)
           ∙ ap (λ n. unwrap_or (slice_get o.fields n) val.Nil) (sym number),
-      ap (λ n. nat_lt n (length o.fields)) number
-          ∙ sizes v o f place.0 there (ap (λ c. field_place (fields_of classes c) f) class_of_o ∙ place.1),
-      follows_of classes store fs p.0 (type_behind classes t f) r (field_value classes o f)
+      and-both (nat_lt (field_number classes t f) (length o.fields)) (not (is_shut store windows v))
+          (ap (λ n. nat_lt n (length o.fields)) number
+          ∙ sizes v o f place.0 there (ap (λ c. field_place (fields_of classes c) f) class_of_o ∙ place.1))
+          (not-false (is_shut store windows v) (safe.shut u v meets w.not_iso)),
+      follows_of classes store windows opened safe fs p.0 (type_behind classes t f) r (field_value classes o f)
+          (walk_field-meets classes store opened safe.objects u p.0 f v o meets p.1 there)
           (sym (read-class q.0.receiver q.0.ty p.0 q.2) ∙ ap class_is (sym behind)) p.2
           (subst (λ d. HasClass store d (field_value classes o f)) (sym behind)
           (fields v o f q.0.ty there (ap (λ c. field_type classes c f) class_of_o ∙ w.declared)))

@@ -1,6 +1,6 @@
 -- Each step of an accepted program from a state that fits, whatever the first item is: the machines do the same.
 use Rattle.std.proofs.Common.{◌≡◌, ℕ, suc, inl, inr, List, [], ◌∷◌, length, map, refl, sym, ap, subst, ◌∙◌, true}
-use Rattle.std.specs.Prelude.{◌&&◌}
+use Rattle.std.specs.Prelude.{◌&&◌, ◌+◌, nat_le}
 use Rattle.std.proofs.lemmas.List.{length-map, length-reverse}
 use Rattle.rg_base.specs.declared.value.Val.{Val}
 use Rattle.rg_base.specs.declared.object.Seen.{Seen}
@@ -15,9 +15,9 @@ use Rattle.rg_sound.proofs.Owners.DataLemmas.{Data, data-fit}
 use Rattle.rg_sound.proofs.WritableLemmas.{writable-live}
 use Rattle.rg_code.specs.declared.op.Op.TheVariants as i
 use Rattle.rg_code.specs.Lowering.{lowered}
-use Rattle.rg_stack.specs.Machine.{Frame, Window, end_slots}
-use Rattle.rg_stack.specs.Needs.{needs, owned_once, temps_may_go, owner_leads}
-use Rattle.rg_stack.specs.Shows.{sizes_of}
+use Rattle.rg_stack.specs.Machine.{Frame, Window, slots_below, end_slots}
+use Rattle.rg_stack.specs.Needs.{needs, owned_once, temps_may_go, owner_leads, top_base}
+use Rattle.rg_stack.specs.Shows.{ShowsWindows, sizes_of}
 use Rattle.rg_stack.specs.Simulates.{SomeLeft}
 use Rattle.rg_stack.specs.Given.{given_step as step}
 use Rattle.rg_stack.proofs.Mirrors.{Mirrors, SameMove}
@@ -29,7 +29,7 @@ use Rattle.rg_stack.proofs.Needs.OnceLemmas.{owned_once-fits}
 use Rattle.rg_stack.proofs.Needs.LeaveLemmas.{leave-fits}
 use Rattle.rg_stack.proofs.Walks.NeedLemmas.{and-both}
 use Rattle.rg_stack.proofs.Statements.BlockLemmas.{end-mirrors}
-use Rattle.rg_stack.proofs.Statements.BaseLemmas.{as_many}
+use Rattle.rg_stack.proofs.Statements.BaseLemmas.{as_many, base_is, starts-behind}
 use Rattle.rg_stack.proofs.Statements.WindowLemmas.{leave-mirrors}
 use Rattle.rg_stack.proofs.Statements.ReturnLemmas.{back-mirrors}
 use Rattle.rg_stack.proofs.Judgements.BaseLemmas.{beneath-begins}
@@ -168,9 +168,14 @@ module _ (t : Tree) (accepted : Accepted t) (store : List Seen) (managers : List
       let m = (work_of store (mf ∷ mfs) mws managers made at input).machine in
       let p = state_of store (f ∷ fs) ws managers made input output (LeaveAt k ∷ j ∷ rest) in
       let last = leave-fits t accepted p k (j ∷ rest) (data-fit t p (inl h) a) f fs refl refl m refl s.slots (sizes_of (mf ∷ mfs)) s.windows in
-      let need = and-both (owned_once m && temps_may_go (end_slots m k)) (owner_leads (end_slots m k))
-      (and-both (owned_once m) (temps_may_go (end_slots m k)) (once (mf ∷ mfs) mws (f ∷ fs) ws (LeaveAt k ∷ j ∷ rest) a s) last.0) last.1 in
       let two = leaving-windows t f fs ws k (j ∷ rest) h in
+      let base : nat_le (slots_below mfs + k) (top_base mws) ≡ true = starts-behind (sizes_of (mf ∷ mfs)) mws two.top (two.next ∷ two.under)
+      (slots_below mfs + k) (subst (ShowsWindows (sizes_of (mf ∷ mfs)) mws) two.are s.windows)
+      (base_is mfs (length mf.slots) two.top.base_frame k two.top.base_place (two.base_frame ∙ sym (as_many mfs fs s.slots.1))
+      (sym two.base_place)) in
+      let need = and-both (owned_once m && temps_may_go (end_slots m k) && owner_leads (end_slots m k)) (nat_le (slots_below mfs + k) (top_base mws))
+      (and-both (owned_once m && temps_may_go (end_slots m k)) (owner_leads (end_slots m k))
+      (and-both (owned_once m) (temps_may_go (end_slots m k)) (once (mf ∷ mfs) mws (f ∷ fs) ws (LeaveAt k ∷ j ∷ rest) a s) last.0) last.1) base in
       let W = λ (vs : List Opened). Showing (mf ∷ mfs) mws (f ∷ fs) vs (LeaveAt k ∷ j ∷ rest) in
       let M = λ (vs : List Opened). Moves (mf ∷ mfs) mws (f ∷ fs) vs (LeaveAt k ∷ j ∷ rest) in
       subst M (sym two.are) (leave-moves mf mfs mws f fs two.top two.next two.under k j rest need (subst W two.are s))

@@ -20,7 +20,8 @@ use Rattle.rg_rules.specs.Paths.{Looked, look_up, read_through, walk_field, walk
 use Rattle.rg_rules.specs.Expressions.{Judged, judge_path, judge_is_nil, logic, among, operand_type, result_type, judge_expr}
 use Rattle.rg_rules.specs.Statements.{judge_block, judge_kind, judge_stmt, last_of}
 use Rattle.rg_rules.specs.Bodies.{is_return, ends_in_return}
-use Rattle.rg_rules.specs.State.{Local, value_in}
+use Rattle.rg_sound.specs.Values.{Meets}
+use Rattle.rg_rules.specs.State.{Local, value_in, Window as Opened}
 use Rattle.rg_rules.specs.Values.{as_bool, operate, decides, Computed}
 use Rattle.rg_rules.specs.Evaluation.{object_at, field_value, follow_fields, path_value, value_of}
 use Rattle.rg_rules.proofs.AnswersLemmas.{bind-ok, then-ok, test-then, ok_or-ok}
@@ -34,7 +35,8 @@ use Rattle.rg_stack.proofs.Walks.PlaceLemmas.{GoesOn, AllGoOn}
 use Rattle.rg_stack.proofs.Statements.AssignLemmas.{HolderOwes}
 use Rattle.rg_stack.proofs.Statements.CallLemmas.{Gives}
 use Rattle.rg_stack.proofs.Basics.{some-is}
-use Rattle.rg_stack.proofs.Judgements.FollowLemmas.{class_is, HasClass, place_if_type, read-class, field_of_type, follows_of, HaveFields}
+use Rattle.rg_stack.proofs.Judgements.FollowLemmas.{Safe, class_is, HasClass, place_if_type, read-class, field_of_type, follows_of, HaveFields}
+use Rattle.rg_stack.specs.Machine.{Window}
 
 -- whether a type is that of truth values
 abbrev pub is_bool : Ty → Truth
@@ -47,7 +49,7 @@ abbrev pub OfType : List Seen → Ty → Val → Type 0
 OfType store t v = HasClass store t v × (is_bool t ≡ true → v ≡ val.Bool (as_bool v))
 
 -- what the invariant gives at a point of a body
-pub record Facts (classes : List Class) (env : Env) (store : List Seen) (locals : List Local) : Type 0 where
+pub record Facts (classes : List Class) (env : Env) (store : List Seen) (windows : List Window) (locals : List Local) : Type 0 where
   -- a visible variable has its declared type in its slot, and a value of that type
   pub declared : (x : Variable) (e : Entry) → entry_of env x ≡ Some e → type_in (scope_of locals) x ≡ e.ty
   pub variables : (x : Variable) (e : Entry) → entry_of env x ≡ Some e → OfType store e.ty (value_in locals x)
@@ -56,6 +58,10 @@ pub record Facts (classes : List Class) (env : Env) (store : List Seen) (locals 
       → OfType store t (field_value classes o f)
   -- and each object has the fields of its class
   pub sizes : HaveFields classes store
+  -- a visible variable meets the type as which it is seen, and what isn't `iso` leads into no closed region
+  pub opened : List Opened
+  pub safe : Safe classes store windows opened
+  pub meets : (x : Variable) (e : Entry) → entry_of env x ≡ Some e → Meets store opened (seen_type env e) (value_in locals x)
 
 pause-class : (t : Ty) → class_is (pause t) ≡ class_is t
 pause-class Int = refl
@@ -167,16 +173,18 @@ along-last : (classes : List Class) (t : Ty) (f : Name) (fs : List Name) → typ
 along-last classes t f [] = refl
 along-last classes t f (g ∷ gs) = along-last classes (type_behind classes t f) g gs
 
-module _ (classes : List Class) (env : Env) (store : List Seen) (locals : List Local) (facts : Facts classes env store locals) where
+module _ (classes : List Class) (env : Env) (store : List Seen) (windows : List Window) (locals : List Local)
+    (facts : Facts classes env store windows locals) where
   -- a walk that is allowed follows fields that are there
   pub walk-follows : (x : Variable) (fs : List Name) (t : Ty) → walk classes env x fs ≡ Ok t
-      → FollowsPath classes store locals (scope_of locals) (record { base = x; fields = fs })
+      → FollowsPath classes store windows locals (scope_of locals) (record { base = x; fields = fs })
   walk-follows x fs t h =
       let p = bind-ok (ok_or (entry_of env x) Unknown) _ t h in
       let e = p.0 in
       let there = ok_or-ok (entry_of env x) Unknown e p.1 in
       let is = facts.declared x e there in
-      follows_of classes store fs (seen_type env e) (type_in (scope_of locals) x) t (value_in locals x) (seen-class env e ∙ ap class_is (sym is)) p.2
+      follows_of classes store windows facts.opened facts.safe fs (seen_type env e) (type_in (scope_of locals) x) t (value_in locals x)
+      (facts.meets x e there) (seen-class env e ∙ ap class_is (sym is)) p.2
       (subst (λ d. HasClass store d (value_in locals x)) (sym is) ((facts.variables x e there).0))
       (λ v o f t a b. (facts.fields v o f t a b).0) facts.sizes
 
@@ -194,12 +202,12 @@ module _ (classes : List Class) (env : Env) (store : List Seen) (locals : List L
       (subst (λ d. OfType store d (value_in locals x)) (sym is) (facts.variables x e there)) facts.fields got
 
   path-follows : (x : Variable) (fs : List Name) (j : Judged) → judge_path classes env x fs ≡ Ok j
-      → FollowsPath classes store locals (scope_of locals) (record { base = x; fields = fs })
+      → FollowsPath classes store windows locals (scope_of locals) (record { base = x; fields = fs })
   path-follows x [] j h = tt
   path-follows x (f ∷ fs) j h = let p = bind-ok (walk classes env x (f ∷ fs)) _ j h in walk-follows x (f ∷ fs) p.0 p.1
 
   nil-follows : (x : Variable) (fs : List Name) (u : Unit {0}) → judge_is_nil classes env x fs ≡ Ok u
-      → FollowsPath classes store locals (scope_of locals) (record { base = x; fields = fs })
+      → FollowsPath classes store windows locals (scope_of locals) (record { base = x; fields = fs })
   nil-follows x [] u h = tt
   nil-follows x (f ∷ fs) u h = let p = bind-ok (walk classes env x (f ∷ fs)) _ u h in walk-follows x (f ∷ fs) p.0 p.1
 
@@ -240,7 +248,7 @@ module _ (classes : List Class) (env : Env) (store : List Seen) (locals : List L
   same_env mid w e j is h = subst (λ m. judge_expr classes m w e ≡ Ok j) is h
 
   -- the premise of the law of expressions
-  pub expr-agrees : (w : Option Ty) (e : Expr) (j : Judged) → judge_expr classes env w e ≡ Ok j → Agrees classes store locals (scope_of locals) e
+  pub expr-agrees : (w : Option Ty) (e : Expr) (j : Judged) → judge_expr classes env w e ≡ Ok j → Agrees classes store windows locals (scope_of locals) e
   expr-agrees w (number z) j h = tt
   expr-agrees w (boolean b) j h = tt
   expr-agrees w nil j h = tt
@@ -263,7 +271,7 @@ module _ (classes : List Class) (env : Env) (store : List Seen) (locals : List L
 
   -- the premises on the object that has a field
   pub holder-follows : (x : Variable) (f : Name) (fs : List Name) (r : Looked) → walk_receiver classes env x f fs ≡ Ok r
-      → FollowsPath classes store locals (scope_of locals) (record { base = x; fields = all_but_last f fs })
+      → FollowsPath classes store windows locals (scope_of locals) (record { base = x; fields = all_but_last f fs })
   holder-follows x f fs r h = let p = bind-ok (walk classes env x (all_but_last f fs)) _ r h in walk-follows x (all_but_last f fs) p.0 p.1
 
   pub holder-owes : (x : Variable) (f : Name) (fs : List Name) (r : Looked) → walk_receiver classes env x f fs ≡ Ok r

@@ -1,7 +1,7 @@
 -- What stands behind the first item, and beneath the topmost frame and window, in a state that fits.
 use Rattle.std.proofs.Common.{◌≡◌, ℕ, true, false, true≢false, ◌⊎◌, inl, inr, List, [], ◌∷◌, ◌++◌, length, map, Option, Some, refl, sym, ap, subst}
 use Rattle.std.proofs.Common.{◌∙◌, append_assoc, unwrap_or, slice_get, None, arith}
-use Rattle.std.specs.Prelude.{Bool as Truth, drop}
+use Rattle.std.specs.Prelude.{Bool as Truth, drop, reverse}
 use Rattle.std.specs.Result.{result_ok}
 use Rattle.rg_base.specs.declared.ty.Ty.{Ty}
 use Rattle.rg_tree.specs.Tree.{Path, stmt, Stmt, Block, empty as none, then as more_of, Class, Tree}
@@ -11,9 +11,9 @@ use Rattle.rg_rules.specs.Items.{Item, Do, EndAt, LeaveAt, Back, items_of}
 use Rattle.rg_rules.specs.Statements.{judge_stmt, last_of}
 use Rattle.rg_rules.specs.Bodies.{Body, main_body}
 use Rattle.rg_rules.specs.Points.{Point, here, behind, inside, Spot, spot_in, spot_at, inner_block, block_end, entered_path}
-use Rattle.rg_rules.specs.State.{Target, Frame, Window}
+use Rattle.rg_rules.specs.State.{Local, Target, Frame, Window}
 use Rattle.rg_rules.proofs.PointLemmas.{and_then-some}
-use Rattle.rg_sound.specs.Frames.{leaves, Waits, WaitsEmpty, Beneath, Running}
+use Rattle.rg_sound.specs.Frames.{leaves, Entered, Waits, WaitsEmpty, Beneath, Running}
 use Rattle.rg_stack.specs.Simulates.{SomeLeft}
 use Rattle.rg_stack.proofs.Judgements.SpotLemmas.{leaves_frame, inner_stays}
 use Rattle.rg_stack.proofs.Judgements.BaseLemmas.{WindowThere, beneath-window}
@@ -127,27 +127,44 @@ main-stays t accepted top ws first rest h leaves =
 
 -- windows
 
-own_there : (own : List Window) (k : ℕ) (ks : List ℕ) → map (λ (w : Window). w.base_place) own ≡ k ∷ ks → WindowThere own
-own_there [] k ks e = absurd (true≢false (sym (ap (λ l. elim l [ [] ↦ false | n ∷ ns ↦ true ]) e)))
-own_there (w ∷ ws) k ks e = record { top = w; under = ws; are = refl }
-
--- where the block of an `enter` ends, two windows are open
-pub record TwoWindows (ws : List Window) : Type 0 where
+-- where the block of an `enter` ends, two windows are open, and the topmost one begins where the block's variables do
+pub record TwoWindows (ws : List Window) (n k : ℕ) : Type 0 where
   pub top : Window
   pub next : Window
   pub under : List Window
   pub are : ws ≡ top ∷ next ∷ under
+  pub base_frame : top.base_frame ≡ n
+  pub base_place : top.base_place ≡ k
 
-two_of : (own under : List Window) → WindowThere own → WindowThere under → TwoWindows (own ++ under)
-two_of [] under a b = absurd (true≢false (sym (ap (λ l. elim l [ [] ↦ false | n ∷ ns ↦ true ]) a.are)))
-two_of (w ∷ []) under a b = record { top = w; next = b.top; under = b.under; are = ap (λ l. w ∷ l) b.are }
-two_of (w ∷ v ∷ ws) under a b = record { top = w; next = v; under = ws ++ under; are = refl }
+entered_first : (n : ℕ) (locals : List Local) (ps : List Path) (w : Window) (ws : List Window) → Entered n locals ps (w ∷ ws) → w.base_frame ≡ n
+entered_first n locals [] w ws h = absurd h
+entered_first n locals (p ∷ ps) w ws h = h.0
+
+two_of : (n : ℕ) (locals : List Local) (ps : List Path) (own under : List Window) (k : ℕ) (ks : List ℕ) → Entered n locals ps own
+    → map (λ (w : Window). w.base_place) own ≡ k ∷ ks → WindowThere under → TwoWindows (own ++ under) n k
+two_of n locals ps [] under k ks entered e b = absurd (true≢false (sym (ap (λ l. elim l [ [] ↦ false | n ∷ ns ↦ true ]) e)))
+two_of n locals ps (w ∷ []) under k ks entered e b = record {
+  top = w;
+  next = b.top;
+  under = b.under;
+  are = ap (λ l. w ∷ l) b.are;
+  base_frame = entered_first n locals ps w [] entered;
+  base_place = ap (λ l. unwrap_or (slice_get l 0) k) e;
+}
+two_of n locals ps (w ∷ v ∷ ws) under k ks entered e b = record {
+  top = w;
+  next = v;
+  under = ws ++ under;
+  are = refl;
+  base_frame = entered_first n locals ps w (v ∷ ws) entered;
+  base_place = ap (λ l. unwrap_or (slice_get l 0) k) e;
+}
 
 pub leaving-windows : (t : Tree) (top : Frame) (lower : List Frame) (ws : List Window) (k : ℕ) (rest : List Item)
-    → Running t top lower ws (LeaveAt k ∷ rest) → TwoWindows ws
+    → Running t top lower ws (LeaveAt k ∷ rest) → TwoWindows ws (length lower) k
 leaving-windows t top lower ws k rest h =
     let first : h.first ≡ LeaveAt k = ap (λ l. unwrap_or (slice_get l 0) (LeaveAt k)) (sym h.items_are) in
     let at : leaves h.spot.items ≡ k ∷ leaves h.more = ap leaves (h.begins ∙ ap (λ i. i ∷ h.more) first) in
-    subst TwoWindows (sym h.windows_are)
-    (two_of h.own h.under (own_there h.own k (leaves h.more) (h.stands.bases ∙ at))
+    subst (λ q. TwoWindows q (length lower) k) (sym h.windows_are)
+    (two_of (length lower) top.locals (reverse h.spot.enters) h.own h.under k (leaves h.more) h.stands.entered (h.stands.bases ∙ at)
     (beneath-window t lower h.under h.rest h.body top.target h.beneath))

@@ -2,7 +2,7 @@
 use Rattle.std.proofs.Common.{◌≡◌, ◌≤◌, ℕ, true, false, Bool as Truth, ◌&&◌, if◌then◌else◌, List, [], ◌∷◌, length, Option, Some, None, ok_or, Ok}
 use Rattle.std.proofs.Common.{Result, Err}
 use Rattle.std.proofs.Common.{true≢false, refl, sym, ap, subst, ◌∙◌, arith, slice_get, unwrap_or}
-use Rattle.std.specs.Prelude.{not, nat_lt, is_some, option_and_then, ◌||◌, ◌==◌}
+use Rattle.std.specs.Prelude.{not, nat_lt, nat_le, ◌+◌, is_some, option_and_then, ◌||◌, ◌==◌}
 use Rattle.std.specs.List.{list_any}
 use Rattle.std.proofs.lemmas.Bool.{lt-ltb}
 use Rattle.std.proofs.lemmas.List.{length-map}
@@ -23,9 +23,9 @@ use Rattle.rg_base.specs.declared.value.Val.TheVariants as val
 use Rattle.rg_tree.specs.Tree.{Name, Variable, ref, Expr, Right, value, new, new_tmp, new_iso, freeze, merge, read, more, result_of, Class, Tree}
 use Rattle.rg_rules.specs.Acceptance.{Accepted}
 use Rattle.rg_rules.specs.Answers.{◌>>=◌}
-use Rattle.rg_rules.specs.Capabilities.{is_iso, iso_class, below, printable}
+use Rattle.rg_rules.specs.Capabilities.{is_iso, iso_class, below, printable, stays_at_depth}
 use Rattle.rg_rules.specs.Types.{good_type, fields_of, field_place}
-use Rattle.rg_rules.specs.Environment.{Env, Entry, entry_of, gone, marked, is_ready, is_lent}
+use Rattle.rg_rules.specs.Environment.{Env, Entry, entry_of, at_depth, gone, marked, is_ready, is_lent}
 use Rattle.rg_rules.specs.Expressions.{Judged, judge_expr}
 use Rattle.rg_rules.specs.Rights.{judge_consumed, judge_right}
 use Rattle.rg_rules.specs.Statements.{is_call}
@@ -35,6 +35,7 @@ use Rattle.rg_rules.specs.Paths.{all_but_last, last_field, writable_field}
 use Rattle.rg_rules.specs.Evaluation.{object_at, path_value, value_of, uses, cleared}
 use Rattle.rg_rules.proofs.AnswersLemmas.{bind-ok, test-then, ok_or-ok}
 use Rattle.rg_rules.proofs.ExpressionLemmas.{against-below}
+use Rattle.rg_sound.specs.Windows.{windows_of}
 use Rattle.rg_sound.specs.Values.{MeetsBy, Meets}
 use Rattle.rg_sound.specs.Objects.{FieldFits}
 use Rattle.rg_sound.specs.Frames.{Named, Running}
@@ -49,23 +50,26 @@ use Rattle.rg_sound.proofs.Values.AssignLemmas.{more-below}
 use Rattle.rg_sound.proofs.Values.ValueLemmas.{Sees, below-meets}
 use Rattle.rg_sound.proofs.Stores.FieldLemmas.{field-holds}
 use Rattle.rg_sound.proofs.Owners.ReceiverLemmas.{IsTop, Receiver, receiver-at}
-use Rattle.rg_sound.proofs.Values.RightLemmas.{OwnsFreshAs, KeepsTop, Gives, expression-gives, ready-not_lent}
+use Rattle.rg_sound.proofs.Values.RightLemmas.{OwnsFreshAs, KeepsTop, Gives, expression-gives, ready-not_lent, below-iso}
 use Rattle.rg_code.specs.declared.op.Op.TheVariants as i
 use Rattle.rg_code.specs.Code.{Code}
 use Rattle.rg_code.specs.Lowering.{slot_of, type_in, assign_op}
 use Rattle.rg_code.specs.Places.{scope_of}
-use Rattle.rg_stack.specs.Machine.{Window, Machine, slot_at}
+use Rattle.rg_stack.specs.Machine.{Window, Machine, slot_at, slots_below}
 use Rattle.rg_stack.specs.Shows.{ShowsFrames, ShowsWindows, sizes_of}
 use Rattle.rg_stack.specs.Needs.{needs, is_open, closed_of, is_closed, owned_once, owns_or_nil, loose, size_of, field_of, is_field, may_stand}
+use Rattle.rg_stack.specs.Needs.{top_base, may_keep}
 use Rattle.rg_stack.proofs.Needs.LeadLemmas.{ShowsFit}
 use Rattle.rg_stack.proofs.Needs.OnceLemmas.{owned_once-fits, loose-fits}
 use Rattle.rg_stack.proofs.Needs.ClosedLemmas.{slot-closed, behind-closed, slot-owns, field-owns}
+use Rattle.rg_stack.proofs.Needs.KeepLemmas.{base-by, keep-here, keep-away, fresh-open, plain-open}
 use Rattle.rg_stack.proofs.Needs.HolderLemmas.{top-field, field-closed, may_stand-fits}
 use Rattle.rg_stack.proofs.Basics.{some-is}
-use Rattle.rg_stack.proofs.Walks.NeedLemmas.{and-both, not-false, same}
+use Rattle.rg_stack.proofs.Walks.NeedLemmas.{and-both, not-false, not_true, same}
 use Rattle.rg_stack.proofs.Walks.SlotLemmas.{ShowsSlots, slot_place}
 use Rattle.rg_stack.proofs.Walks.EndLemmas.{Round, work, state}
 use Rattle.rg_stack.proofs.Statements.RightLemmas.{Gave, RightNeeds, kept}
+use Rattle.rg_stack.proofs.Judgements.BaseLemmas.{seen-begins}
 use Rattle.rg_stack.proofs.Judgements.OwesLemmas.{iso_type}
 use Rattle.rg_stack.proofs.Judgements.UseLemmas.{uses-up}
 
@@ -130,6 +134,8 @@ pub record Begun (t : Tree) (r : Round) (store : List Seen) (slots : List Val) (
     pub sizes : List ℕ
     pub windows : ShowsWindows sizes r.windows r.opened
     pub shows : ShowsSlots slots locals
+    -- the slot of a variable that all windows see is one of the topmost window's
+    pub seen : (k : ℕ) → windows_of (length r.bodies) k r.opened ≡ r.opened → nat_le (top_base r.windows) (slots_below r.frames + k) ≡ true
 
 -- what a computed value finds, and that it may go where its type is
 pub record Comes (t : Tree) (r : Round) (env : Env) (ty : Ty) (store now : List Seen) (after : List Local) (made : List Manager) (v : Val) : Type 0
@@ -156,6 +162,9 @@ begun_of t accepted r store slots locals managers env shows windows items h is f
   sizes = sizes_of (record { slots = slots; back = r.back } ∷ r.frames);
   windows = windows;
   shows = shows.0;
+  seen = λ k all. base-by r.windows (slots_below r.frames + k)
+      (seen-begins t accepted (record { slots = slots; back = r.back }) r.frames r.windows (running r locals) r.bodies r.opened items shows windows h
+      k all);
 }
 
 carried : (P : List Seen → List Local → List Manager → Val → Type 0) (a b : List Seen) (c d : List Local) (e f : List Manager) (g h : Val)
@@ -283,14 +292,16 @@ module _ (t : Tree) (r : Round) (store : List Seen) (slots : List Val) (locals :
   right-needs code wanted more j stack shut judged = tt
   right-needs code wanted (result_of c) j stack shut judged = tt
 
+  pub sees_here : Sees store r.opened (length r.bodies) env locals
+  sees_here = subst (λ (e : Env). Sees store r.opened (length r.bodies) e locals) begun.is
+      (top-sees t store (running r locals) r.bodies r.opened begun.items begun.run begun.top begun.fits.values)
+
   -- the object whose field a statement names
   pub receives : (x : Variable) (g : Name) (gs : List Name) (ty : Ty) (u : Val) (o : Seen) → writable_field t.classes env x g gs ≡ Ok ty
       → path_value t.classes store locals (record { base = x; fields = all_but_last g gs }) ≡ Ok u → object_at store u ≡ Ok o
       → Receiver t.classes store r.opened u o (last_field g gs) ty
   receives x g gs ty u o writable led there =
-      let sees = subst (λ (e : Env). Sees store r.opened (length r.bodies) e locals) begun.is
-      (top-sees t store (running r locals) r.bodies r.opened begun.items begun.run begun.top begun.fits.values) in
-      receiver-at t.classes store r.opened (length r.bodies) env locals begun.fits.objects sees x g gs ty u o writable led there
+      receiver-at t.classes store r.opened (length r.bodies) env locals begun.fits.objects sees_here x g gs ty u o writable led there
 
   -- it owns nothing
   pub receiver-open : (x : Name) (ty : Ty) (u : Val) (o : Seen) → Receiver t.classes store r.opened u o x ty
@@ -318,17 +329,20 @@ shown-room slots locals k h less =
 pub assign-needs : (classes : List Class) (code : Code) (m : Machine) (f : Body) (fs : List Body) (opened : List Opened)
     → ShowsFit classes m (f ∷ fs) opened → (k : ℕ) (l : Local) → slice_get f.locals k ≡ Some l → nat_lt k (size_of m) ≡ true
     → NotOwner opened (length fs) k
-    → (ty : Ty) (v : Val) → Meets m.store opened ty v → OwnsFreshAs classes m.store (f ∷ fs) ty v → (b : Truth) → is_iso l.ty ≡ b
+    → (ty : Ty) (v : Val) → Meets m.store opened ty v → OwnsFreshAs classes m.store (f ∷ fs) ty v → may_keep m k v ≡ true
+    → (b : Truth) → is_iso l.ty ≡ b
     → needs code (if b then i.Own k else i.Store k) (v ∷ []) m ≡ true
-assign-needs classes code m f fs opened d k l there room apart_from ty v meets fresh true iso =
-    and-both (nat_lt k (size_of m) && owned_once m && owns_or_nil m (slot_at m k)) (loose m v)
+assign-needs classes code m f fs opened d k l there room apart_from ty v meets fresh keeps true iso =
+    and-both (nat_lt k (size_of m) && owned_once m && owns_or_nil m (slot_at m k) && loose m v) (may_keep m k v)
+    (and-both (nat_lt k (size_of m) && owned_once m && owns_or_nil m (slot_at m k)) (loose m v)
     (and-both (nat_lt k (size_of m) && owned_once m) (owns_or_nil m (slot_at m k))
     (and-both (nat_lt k (size_of m)) (owned_once m) room (owned_once-fits classes m (f ∷ fs) opened d))
     (slot-owns classes m f fs opened d k l there iso apart_from))
-    (loose-fits classes m (f ∷ fs) opened opened d (λ l o. o) ty v meets fresh)
-assign-needs classes code m f fs opened d k l there room apart_from ty v meets fresh false iso =
-    and-both (nat_lt k (size_of m)) (not (is_closed m (slot_at m k))) room
-    (not-false (is_closed m (slot_at m k)) (slot-closed classes m f fs opened d k l there iso))
+    (loose-fits classes m (f ∷ fs) opened opened d (λ l o. o) ty v meets fresh)) keeps
+assign-needs classes code m f fs opened d k l there room apart_from ty v meets fresh keeps false iso =
+    and-both (nat_lt k (size_of m) && not (is_closed m (slot_at m k))) (may_keep m k v)
+    (and-both (nat_lt k (size_of m)) (not (is_closed m (slot_at m k))) room
+    (not-false (is_closed m (slot_at m k)) (slot-closed classes m f fs opened d k l there iso))) keeps
 
 -- The holder of a field
 
@@ -412,13 +426,33 @@ module _ (classes : List Class) (code : Code) (m : Machine) (f : Body) (fs : Lis
 
 module _ (t : Tree) (r : Round) (store : List Seen) (slots : List Val) (locals : List Local) (managers : List Manager) (input : List ℕ) (env : Env)
     (begun : Begun t r store slots locals managers env) where
+  -- what may be assigned may stand in the variable's slot
+  variable-keeps : (e : Entry) (k : ℕ) → slice_get env.entries k ≡ Some e → (at_depth env e || not (stays_at_depth e.ty)) ≡ true
+      → (ty : Ty) → below ty e.ty ≡ true
+      → (now : List Seen) (after_slots : List Val) (after : List Local) (made : List Manager) (left : List ℕ) (v : Val)
+      → ShowsSlots after_slots after → Comes t r env ty store now after made v → may_keep (work r now after_slots made left).machine k v ≡ true
+  variable-keeps e k there may ty less now after_slots after made left v shows c = by (at_depth env e) refl (is_iso e.ty) refl may
+    where
+      by : (b : Truth) → at_depth env e ≡ b → (i : Truth) → is_iso e.ty ≡ i → (b || not (stays_at_depth e.ty)) ≡ true
+          → may_keep (work r now after_slots made left).machine k v ≡ true
+      by true here i iso h = keep-here (work r now after_slots made left).machine k v (begun.seen k (begun.top.here k e
+          (subst (λ (q : Env). slice_get q.entries k ≡ Some e) (sym begun.is) there)
+          (subst (λ (q : Env). at_depth q e ≡ true) (sym begun.is) here)))
+      by false away true iso h = keep-away (work r now after_slots made left).machine k v (fresh-open t.classes
+          (work r now after_slots made left).machine (running r after ∷ r.bodies) r.opened
+          (shows_fit t r store slots locals managers input env begun now after_slots after made left c.fits shows) ty v
+          (below-iso ty e.ty less ∙ iso) c.fresh)
+      by false away false iso h = keep-away (work r now after_slots made left).machine k v (plain-open (work r now after_slots made left).machine
+          r.opened e.ty v (below-meets now r.opened ty e.ty v less c.meets) iso (not_true (stays_at_depth e.ty) h))
+
   -- a variable takes what a right side gave
   pub variable-needs : (code : Code) (x : Variable) (e : Entry) → entry_of env x ≡ Some e → is_lent e.readiness ≡ false
-      → type_in (scope_of locals) x ≡ e.ty
-      → (ty : Ty) (now : List Seen) (after_slots : List Val) (after : List Local) (made : List Manager) (left : List ℕ) (v : Val)
+      → type_in (scope_of locals) x ≡ e.ty → (at_depth env e || not (stays_at_depth e.ty)) ≡ true
+      → (ty : Ty) → below ty e.ty ≡ true
+      → (now : List Seen) (after_slots : List Val) (after : List Local) (made : List Manager) (left : List ℕ) (v : Val)
       → ShowsSlots after_slots after → scope_of after ≡ scope_of locals → Comes t r env ty store now after made v
       → needs code (assign_op (scope_of locals) x) (v ∷ []) (work r now after_slots made left).machine ≡ true
-  variable-needs code x e there not_lent declared ty now after_slots after made left v shows scope c =
+  variable-needs code x e there not_lent declared may ty less now after_slots after made left v shows scope c =
       let m = (work r now after_slots made left).machine in
       let a = first-at env.entries after x e c.named there in
       let place : place_in after x ≡ slot_of (scope_of locals) x = sym (slot_place after x) ∙ ap (λ s. slot_of s x) scope in
@@ -428,6 +462,7 @@ module _ (t : Tree) (r : Round) (store : List Seen) (slots : List Val) (locals :
       (place_in after x) a.local a.local_at
       (shown-room after_slots after (place_in after x) shows (slice_get_within after (place_in after x) a.local a.local_at))
       (free t r store slots locals managers input env begun after x e c.named there not_lent) ty v c.meets c.fresh
+      (variable-keeps e (place_in after x) a.entry_at may ty less now after_slots after made left v shows c)
       (is_iso (type_in (scope_of locals) x)) (ap is_iso (a.pair.ty ∙ sym declared)))
 
   -- and so does a field

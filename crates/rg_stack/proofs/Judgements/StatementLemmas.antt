@@ -1,5 +1,5 @@
 -- A statement of an accepted program: its step of the stack machine is one of the machine that never frees.
-use Rattle.std.proofs.Common.{◌≡◌, ◌+◌, ℕ, suc, true, false, true≢false, Bool as Truth, List, [], ◌∷◌, length, map, Option, Some, None, option_map}
+use Rattle.std.proofs.Common.{◌≡◌, ◌+◌, ℕ, suc, true, false, List, [], ◌∷◌, length, map, Option, Some, None, option_map}
 use Rattle.std.proofs.Common.{ok_or, Ok, refl, sym, ap, ◌∙◌, arith, subst}
 use Rattle.std.specs.Prelude.{not, nat_lt, ◌||◌, ◌&&◌}
 use Rattle.std.proofs.Common.{◌≤◌}
@@ -31,10 +31,13 @@ use Rattle.rg_rules.specs.Evaluation.{object_at, path_value, value_of, uses, cle
 use Rattle.rg_rules.specs.Steps.{next}
 use Rattle.rg_rules.proofs.AnswersLemmas.{bind-ok, test-then, ok_or-ok, at_line-ok}
 use Rattle.rg_rules.proofs.AcceptanceLemmas.{Accepted-method}
+use Rattle.rg_rules.proofs.ExpressionLemmas.{judge_expr-below}
 use Rattle.rg_sound.specs.Values.{Meets, FrameMeets}
 use Rattle.rg_sound.specs.Objects.{ObjectsFit}
 use Rattle.rg_sound.proofs.Owners.DataLemmas.{Data}
 use Rattle.rg_sound.proofs.Values.RightLemmas.{OwnsFreshAs, below-iso, ready-not_lent}
+use Rattle.rg_sound.proofs.Values.ValueLemmas.{seen-meets, below-meets}
+use Rattle.rg_sound.proofs.Values.LocalLemmas.{fresh-as}
 use Rattle.rg_sound.specs.Frames.{Named, Running, right_call, with_target, assigned_call, call_of}
 use Rattle.rg_code.specs.Code.{Code}
 use Rattle.rg_code.specs.Lowering.{slot_of, type_in, type_along, used_slots, held_number, lowered, target_class}
@@ -45,13 +48,14 @@ use Rattle.rg_stack.specs.Given.{given_step as step}
 use Rattle.rg_stack.proofs.Mirrors.{Mirrors}
 use Rattle.rg_stack.specs.Shows.{ShowsFrames, ShowsWindows, sizes_of}
 use Rattle.rg_stack.proofs.Mirrors.{SameMove}
-use Rattle.rg_stack.proofs.Walks.WalkLemmas.{Agrees, IsTruth}
+use Rattle.rg_stack.proofs.Walks.WalkLemmas.{Agrees, IsTruth, is_shut}
 use Rattle.rg_stack.proofs.Walks.PlaceLemmas.{GoesOn, AllGoOn, and-left}
 use Rattle.rg_stack.proofs.Walks.FrameLemmas.{OpenedBelow}
 use Rattle.rg_stack.proofs.Walks.SlotLemmas.{Has, cleared_slots, slot_place}
 use Rattle.rg_stack.proofs.Walks.EndLemmas.{Round, work, state, UsesUp, middle_whole, keeps_same}
-use Rattle.rg_stack.proofs.Walks.NeedLemmas.{and-both, not-false}
-use Rattle.rg_stack.proofs.Needs.ClosedLemmas.{behind-closed}
+use Rattle.rg_stack.proofs.Walks.NeedLemmas.{and-both, not-false, not_true}
+use Rattle.rg_stack.proofs.Needs.ClosedLemmas.{not_iso-closed, behind-closed}
+use Rattle.rg_stack.proofs.Needs.KeepLemmas.{base-by}
 use Rattle.rg_stack.proofs.Needs.OnceLemmas.{owned_once-fits, loose-fits}
 use Rattle.rg_stack.proofs.Statements.RightLemmas.{RightOwes, RightNeeds}
 use Rattle.rg_stack.proofs.Statements.AssignLemmas.{declare-mirrors, assign-mirrors, put-mirrors}
@@ -67,16 +71,12 @@ use Rattle.rg_stack.specs.Effects.{begins_by}
 use Rattle.rg_stack.proofs.Statements.BaseLemmas.{as_many}
 use Rattle.rg_stack.proofs.Judgements.BaseLemmas.{top-begins}
 use Rattle.rg_stack.proofs.Judgements.FitLemmas.{facts_of, variable-in_region, variable-there, field-in_region, running-below}
-use Rattle.rg_stack.proofs.Judgements.OwesLemmas.{call-gives, right-owes, callee_of, class_in, iso_type}
+use Rattle.rg_stack.proofs.Judgements.OwesLemmas.{SeenMeets, call-gives, right-owes, callee_of, class_in, iso_type}
 use Rattle.rg_stack.proofs.Judgements.UseLemmas.{uses-up, args-up}
-use Rattle.rg_stack.proofs.Judgements.MiddleLemmas.{Begun, begun_of, running, shows_fit, right-below, fit_here, right-comes, value-comes}
+use Rattle.rg_stack.proofs.Judgements.MiddleLemmas.{sees_here, Begun, begun_of, running, shows_fit, right-below, fit_here, right-comes, value-comes}
 use Rattle.rg_stack.proofs.Judgements.MiddleLemmas.{owner-needs, right-needs}
 use Rattle.rg_stack.proofs.Judgements.MiddleLemmas.{receives, receiver-open, shown-room, printed-open, swap-needs, enter_field-needs}
 use Rattle.rg_stack.proofs.Judgements.MiddleLemmas.{variable-needs, field-needs}
-
-pub not_true : (b : Truth) → not b ≡ true → b ≡ false
-not_true true h = absurd (true≢false (sym h))
-not_true false h = refl
 
 -- a method's body fits its result
 fits_by : (t : Tree) (result : Option Written) (m : Method) (env out : Env)
@@ -118,8 +118,16 @@ module _ (t : Tree) (accepted : Accepted t) (r : Round) (store : List Seen) (slo
   Simulated k = SameMove t.classes (lowered t) r.output (next t.classes (state r store locals managers input (Do (stmt line k) ∷ j ∷ rest)))
       (step (lowered t) (work r store slots managers input))
 
-  facts : Fits → Facts t.classes env store locals
-  facts f = facts_of t.classes env store r.opened (length r.bodies) locals f.named f.meets f.objects
+  shut : Fits → (ty : Ty) (v : Val) → Meets store r.opened ty v → is_iso ty ≡ false → is_shut store r.windows v ≡ false
+  shut f ty v meets iso = not_iso-closed t.classes (work r store slots managers input).machine (running r locals ∷ r.bodies) r.opened r.opened
+      (fit_here t r store slots locals managers input env f.begun) (λ l o. o) ty v meets iso
+
+  seen : Fits → SeenMeets store r.opened locals env
+  seen f = seen-meets store r.opened (length r.bodies) env locals (sees_here t r store slots locals managers input env f.begun)
+
+  facts : Fits → Facts t.classes env store r.windows locals
+  facts f = facts_of t.classes env store r.windows r.opened (length r.bodies) locals f.named f.meets f.objects
+      (shut f) (seen f)
 
   -- what an expression uses up
   up : Fits → (w : Option Ty) (e : Expr) (j : Judged) → judge_expr t.classes env w e ≡ Ok j
@@ -137,7 +145,7 @@ module _ (t : Tree) (accepted : Accepted t) (r : Round) (store : List Seen) (slo
       let p = bind-ok (judge_expr t.classes env None e) _ out q in
       let k = test-then (printable p.0.ty) _ _ out p.2 in
       print-mirrors t.classes code r store slots locals managers input line e j rest h
-      (expr-agrees t.classes env store locals (facts f) None e p.0 p.1) (once f) (up f None e p.0 p.1)
+      (expr-agrees t.classes env store r.windows locals (facts f) None e p.0 p.1) (once f) (up f None e p.0 p.1)
       (λ v got. printed-open (work r store (cleared_slots (used_slots (scope_of locals) e) slots) managers input).machine store r.opened p.0.ty v k.0
       (value-comes t r store slots locals managers input env f.begun None e p.0 v p.1 got).meets)
 
@@ -145,11 +153,11 @@ module _ (t : Tree) (accepted : Accepted t) (r : Round) (store : List Seen) (slo
   collect-judged h = collect-mirrors t.classes code r store slots locals managers input line j rest h
 
   test-agrees : (e : Expr) (front : Env) → Fits → at_line line (judge_test t.classes env e) ≡ Ok front
-      → Agrees t.classes store locals (scope_of locals) e
+      → Agrees t.classes store r.windows locals (scope_of locals) e
   test-agrees e front f judged =
       let q = at_line-ok line _ front judged in
       let p = bind-ok (judge_expr t.classes env (Some Bool) e) _ front q in
-      expr-agrees t.classes env store locals (facts f) (Some Bool) e p.0 p.1
+      expr-agrees t.classes env store r.windows locals (facts f) (Some Bool) e p.0 p.1
 
   test-up : (e : Expr) (front : Env) → Fits → at_line line (judge_test t.classes env e) ≡ Ok front
       → UsesUp t.classes store slots locals (scope_of locals) e []
@@ -162,7 +170,7 @@ module _ (t : Tree) (accepted : Accepted t) (r : Round) (store : List Seen) (slo
   test-truth e front f judged =
       let q = at_line-ok line _ front judged in
       let p = bind-ok (judge_expr t.classes env (Some Bool) e) _ front q in
-      expr-truth t.classes env store locals (facts f) e p.0 p.1
+      expr-truth t.classes env store r.windows locals (facts f) e p.0 p.1
 
   -- `while e { .. }`
   pub while-judged : (e : Expr) (b : Block) (out : Env) → Fits → Showing (while e b) → judge_kind t.classes None line env (while e b) ≡ Ok out
@@ -196,7 +204,7 @@ module _ (t : Tree) (accepted : Accepted t) (r : Round) (store : List Seen) (slo
       × CallOwes t.classes (lowered t) j rest r store slots locals c (target_class t.classes (scope_of locals) c) m e
       × (out.result ≡ method_result t.classes m)
   call-owes c out f judged =
-      let g = call-gives t.classes store r.opened (length r.bodies) locals f.meets f.objects env c out f.named judged in
+      let g = call-gives t.classes store r.windows r.opened (length r.bodies) locals f.meets f.objects (shut f) env c out f.named (seen f) judged in
       let d = target_class t.classes (scope_of locals) c in
       let k = callee_of t j rest d c.method g.method g.named (body-fits t accepted d c.method g.method g.named) in (
         g.method,
@@ -224,8 +232,8 @@ module _ (t : Tree) (accepted : Accepted t) (r : Round) (store : List Seen) (slo
       call-mirrors t.classes code j rest r store slots locals managers input line c o.0 o.1 h o.2 (once f)
 
   owes-right : (ty : Ty) (right : Right) (out : _) → Fits → judge_right t.classes env ty right ≡ Ok out → is_call right ≡ false
-      → RightOwes t.classes store locals (scope_of locals) right
-  owes-right ty right out f judged i = right-owes t.classes store r.opened (length r.bodies) locals f.meets f.objects env ty right out f.named
+      → RightOwes t.classes store r.windows locals (scope_of locals) right
+  owes-right ty right out f judged i = right-owes t.classes store r.windows r.opened (length r.bodies) locals f.meets f.objects (shut f) env ty right out f.named (seen f)
       judged i
 
   needs-right : (ty : Ty) (right : Right) (out : _) → Fits → judge_right t.classes env ty right ≡ Ok out
@@ -245,7 +253,7 @@ module _ (t : Tree) (accepted : Accepted t) (r : Round) (store : List Seen) (slo
       let d = bind-ok (good_type t.classes ty) _ out v.1 in
       let p = bind-ok (judge_right t.classes env d.0 right) _ out d.2 in
       declare-mirrors t.classes code r store slots locals managers input line j rest x ty right h refl (owes-right d.0 right p.0 f p.1 i)
-      (needs-right d.0 right p.0 f p.1)
+      (needs-right d.0 right p.0 f p.1) (base-by r.windows (slots_below r.frames + length locals) f.begins)
 
   declare_call : (x : Name) (ty : Written) (c : Call) (out : Env) → Fits → Showing (declare x ty (result_of c))
       → judge_kind t.classes None line env (declare x ty (result_of c)) ≡ Ok out → Simulated (declare x ty (result_of c))
@@ -289,7 +297,8 @@ module _ (t : Tree) (accepted : Accepted t) (r : Round) (store : List Seen) (slo
       let k = right-comes t r store slots locals managers input env f.begun (Assigns x) right e.0.ty p.0 (j ∷ rest) p.1 i now after made
       left v gave in
       variable-needs t r store slots locals managers input env f.begun code x e.0 there (not_true (is_lent e.0.readiness) c.0)
-      ((facts f).declared x e.0 there) p.0.ty now after_slots after made left v m.shows m.scope_is k)
+      ((facts f).declared x e.0 there) b.0 p.0.ty (right-below right i t.classes env e.0.ty p.0 p.1) now after_slots after made left v m.shows
+      m.scope_is k)
 
   set_call : (x : Variable) (c : Call) (out : Env) → Fits → Showing (assign (record { base = x; fields = [] }) (result_of c))
       → judge_assign t.classes env x [] (result_of c) ≡ Ok out → Simulated (assign (record { base = x; fields = [] }) (result_of c))
@@ -329,7 +338,7 @@ module _ (t : Tree) (accepted : Accepted t) (r : Round) (store : List Seen) (slo
       let k = bind-ok (walk_receiver t.classes env x g gs) _ w.0 w.1 in
       put-mirrors t.classes code r store slots locals managers input line j rest x g gs right h refl
       (owes-right w.0 right p.0 f p.1 (not_true (is_call right) b.0))
-      (holder-follows t.classes env store locals (facts f) x g gs k.0 k.1) (holder-owes t.classes env store locals (facts f) x g gs k.0 k.1)
+      (holder-follows t.classes env store r.windows locals (facts f) x g gs k.0 k.1) (holder-owes t.classes env store r.windows locals (facts f) x g gs k.0 k.1)
       (λ u o led there.
       let h = receives t r store slots locals managers input env f.begun x g gs w.0 u o w.1 led there in (
         right-needs t r store slots locals managers input env f.begun code w.0 right p.0 (u ∷ [])
@@ -340,7 +349,7 @@ module _ (t : Tree) (accepted : Accepted t) (r : Round) (store : List Seen) (slo
             field-needs t r store slots locals managers input env f.begun accepted code x g gs w.0 p.0.ty (not_true (is_iso w.0) a.0)
             (right-below right (not_true (is_call right) b.0) t.classes env w.0 p.0 p.1)
             (held_number t.classes (scope_of locals) x g gs) u o h
-            (holder-owes t.classes env store locals (facts f) x g gs k.0 k.1 u o led there) now after_slots after made left v m.shows c,
+            (holder-owes t.classes env store r.windows locals (facts f) x g gs k.0 k.1 u o led there) now after_slots after made left v m.shows c,
       ))
 
   assign_by : (x : Variable) (fs : List Name) (right : Right) (out : Env) → Fits → Showing (assign (record { base = x; fields = fs }) right)
@@ -374,7 +383,7 @@ module _ (t : Tree) (accepted : Accepted t) (r : Round) (store : List Seen) (slo
       swap_fields y x (g ∷ gs) ty f h judged has iso slot =
           let k = bind-ok (walk_receiver t.classes env x g gs) _ ty judged in
           swap-mirrors t.classes code r store slots locals managers input line j rest y x g gs h has
-          (holder-follows t.classes env store locals (facts f) x g gs k.0 k.1) (holder-owes t.classes env store locals (facts f) x g gs k.0 k.1)
+          (holder-follows t.classes env store r.windows locals (facts f) x g gs k.0 k.1) (holder-owes t.classes env store r.windows locals (facts f) x g gs k.0 k.1)
           (λ u led. swap-needs t.classes code (work r store slots managers input).machine (running r locals) r.bodies r.opened
           (fit_here t r store slots locals managers input env f.begun) (slot_of (scope_of locals) (Some y))
           (held_number t.classes (scope_of locals) x g gs) u (last_field g gs) ty iso
@@ -383,7 +392,7 @@ module _ (t : Tree) (accepted : Accepted t) (r : Round) (store : List Seen) (slo
           (λ o there. let h = receives t r store slots locals managers input env f.begun x g gs ty u o judged led there in (
             h,
             some-is h.field.place (held_number t.classes (scope_of locals) x g gs)
-                (sym h.field.place_is ∙ holder-owes t.classes env store locals (facts f) x g gs k.0 k.1 u o led there),
+                (sym h.field.place_is ∙ holder-owes t.classes env store r.windows locals (facts f) x g gs k.0 k.1 u o led there),
           )) slot)
 
   pub swap-judged : (y : Name) (p : Path) (out : Env) → Fits → Showing (swap y p) → judge_kind t.classes None line env (swap y p) ≡ Ok out
@@ -424,9 +433,9 @@ module _ (t : Tree) (accepted : Accepted t) (r : Round) (store : List Seen) (slo
       let same : k.0.ty ≡ w.0 = grind arith in
       let iso = iso_type w.0 c.0 (ok_or-ok (iso_class w.0) Mismatch c.0 c.1) in
       enter-field-mirrors t.classes code r store slots locals managers input line j rest x g gs z b h goes f.begins
-      (holder-follows t.classes env store locals (facts f) x g gs k.0 k.1) (holder-owes t.classes env store locals (facts f) x g gs k.0 k.1)
+      (holder-follows t.classes env store r.windows locals (facts f) x g gs k.0 k.1) (holder-owes t.classes env store r.windows locals (facts f) x g gs k.0 k.1)
       (λ u o led there q is.
-      let d = holder-type t.classes env store locals (facts f) x g gs k.0 u o k.1 led there in (
+      let d = holder-type t.classes env store r.windows locals (facts f) x g gs k.0 u o k.1 led there in (
         field-in_region t.classes store r.opened f.objects u o (last_field g gs) k.0.ty there (f.live x g gs w.0 u o w.1 led there) d.0
             (ap is_iso same ∙ iso.0) q is,
         sym (class_in t.classes (type_along t.classes (type_in (scope_of locals) x) (g ∷ gs)) q.class
@@ -438,7 +447,7 @@ module _ (t : Tree) (accepted : Accepted t) (r : Round) (store : List Seen) (slo
       (λ o there. let h = receives t r store slots locals managers input env f.begun x g gs w.0 u o w.1 led there in (
         h,
         some-is h.field.place (held_number t.classes (scope_of locals) x g gs)
-            (sym h.field.place_is ∙ holder-owes t.classes env store locals (facts f) x g gs k.0 k.1 u o led there),
+            (sym h.field.place_is ∙ holder-owes t.classes env store r.windows locals (facts f) x g gs k.0 k.1 u o led there),
       )))
 
   pub enter-judged : (p : Path) (z : Name) (b : Block) (out : Env) → Fits → Showing (enter p z b) → judge_kind t.classes None line env (enter p z b)
@@ -523,7 +532,7 @@ pub return-judged : (t : Tree) (r : Round) (slots under : List Val) (locals call
     → begins_by r.windows (slots_below (record { slots = under; back = r.back } ∷ r.frames)) ≡ true
     → TargetHas target callers
     → Begun t (above r under callers back target) store slots locals managers env
-    → ((v : Val) (ty : Ty) → Data t.classes store (record { locals = cleared (uses locals e) locals; target = target }
+    → ((v : Val) (ty : Ty) → last ≡ Some ty → Data t.classes store (record { locals = cleared (uses locals e) locals; target = target }
     ∷ record { locals = callers; target = r.target } ∷ r.bodies) r.opened (length managers) r.made → Meets store r.opened ty v
     → OwnsFreshAs t.classes store (record { locals = cleared (uses locals e) locals; target = target }
     ∷ record { locals = callers; target = r.target } ∷ r.bodies) ty v
@@ -536,11 +545,14 @@ return-judged t r slots under locals callers back target store managers input li
     let q = at_line-ok line _ out judged in
     let w = bind-ok (ok_or last Return) _ out q in
     let p = bind-ok (judge_expr t.classes env (Some w.0) e) _ out w.2 in
+    let less = judge_expr-below t.classes env w.0 e p.0 p.1 in
     let a = above r under callers back target in
     let here = fit_here t a store slots locals managers input env begun in
     return-mirrors t.classes (lowered t) r slots under locals callers back target store managers input line e j rest h
-    (expr-agrees t.classes env store locals (facts_of t.classes env store r.opened (suc (length r.bodies)) locals named meets objects) (Some w.0) e
-    p.0 p.1) lower begins has
+    (expr-agrees t.classes env store r.windows locals (facts_of t.classes env store r.windows r.opened (suc (length r.bodies)) locals named meets
+    objects (λ ty v m iso. not_iso-closed t.classes (work a store slots managers input).machine (running a locals ∷ a.bodies) r.opened r.opened here
+    (λ l o. o) ty v m iso) (seen-meets store r.opened (suc (length r.bodies)) env locals (sees_here t a store slots locals managers input env begun)))
+    (Some w.0) e p.0 p.1) lower begins has
     (owned_once-fits t.classes (work a store slots managers input).machine (running a locals ∷ a.bodies) r.opened here)
     (uses-up t.classes store slots locals h.slots.0 env (Some w.0) e p.0 [] named p.1)
     (λ v is.
@@ -553,5 +565,6 @@ return-judged t r slots under locals callers back target store managers input li
       and-both (owned_once m) (loose m v)
           (owned_once-fits t.classes m (running a (cleared (uses locals e) locals) ∷ a.bodies) r.opened d)
           (loose-fits t.classes m (running a (cleared (uses locals e) locals) ∷ a.bodies) r.opened r.opened d (λ l o. o) p.0.ty v c.meets c.fresh),
-      takes v p.0.ty c.fits c.meets c.fresh,
+      takes v w.0 (ok_or-ok last Return w.0 w.1) c.fits (below-meets store r.opened p.0.ty w.0 v less c.meets)
+          (fresh-as t.classes store (running a (cleared (uses locals e) locals) ∷ a.bodies) p.0.ty w.0 v (below-iso p.0.ty w.0 less) c.fresh),
     ))

@@ -125,7 +125,7 @@ iso-leads store F regions (ty.Ref Iso c) (val.Obj a) e m =
     )
 
 -- and owns it
-iso-owns : (store : List Seen) (t : Ty) (v : Val) (r : ℕ) → is_iso t ≡ true → LeadsInto store r v →
+pub iso-owns : (store : List Seen) (t : Ty) (v : Val) (r : ℕ) → is_iso t ≡ true → LeadsInto store r v →
     option_and_then (region_at store) (owned t v) ≡ Some r
 iso-owns store t v r e d =
     ap (λ (b : Truth). option_and_then (region_at store) (if b then address v else None)) e

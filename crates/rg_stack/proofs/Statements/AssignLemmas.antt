@@ -2,7 +2,7 @@
 use Rattle.std.proofs.Common.{◌≡◌, ℕ, ◌+◌, ◌<◌, true, false, Bool as Truth, if◌then◌else◌, List, [], ◌∷◌, ◌++◌, length, drop, Option, Some, None}
 use Rattle.std.proofs.Common.{Result, Ok, Err, refl, sym, ap, subst, ◌∙◌, arith, append_assoc, length-append, slice_get, slice_set}
 use Rattle.std.proofs.Common.{unwrap_or}
-use Rattle.std.specs.Prelude.{not, nat_lt, ◌&&◌}
+use Rattle.std.specs.Prelude.{not, nat_lt, nat_le}
 use Rattle.std.proofs.lemmas.Bool.{lt-ltb}
 use Rattle.std.proofs.lemmas.List.{length-map, map-append, length-set}
 use Rattle.rg_base.specs.declared.value.Val.{Val}
@@ -26,9 +26,9 @@ use Rattle.rg_code.specs.declared.op.Op.TheVariants as i
 use Rattle.rg_code.specs.Code.{Code}
 use Rattle.rg_code.specs.Lowering.{Scope, with_slot, slot_of, type_in, holder_code, held_number, right_code, pace_code, assign_op}
 use Rattle.rg_code.specs.Places.{scope_of, Level, Lies}
-use Rattle.rg_stack.specs.Machine.{Machine, put_slot}
+use Rattle.rg_stack.specs.Machine.{Machine, put_slot, slots_below}
 use Rattle.rg_stack.specs.Effects.{Work, Walked, Traps, Stuck, put_in, with_value_in}
-use Rattle.rg_stack.specs.Needs.{needs, is_closed}
+use Rattle.rg_stack.specs.Needs.{needs, is_closed, top_base, may_keep}
 use Rattle.rg_stack.specs.Given.{given_step as step, given_walk as walk}
 use Rattle.rg_stack.proofs.Mirrors.{Mirrors}
 use Rattle.rg_stack.specs.Shows.{levels_of}
@@ -40,6 +40,7 @@ use Rattle.rg_stack.proofs.Walks.SlotLemmas.{ShowsSlots, Has, shows_put, slot_pl
 use Rattle.rg_stack.proofs.Walks.EndLemmas.{EndsAs, value_ends, Round, work, state, level, RoundShows, Middle, Keeps, keeps_same, slots_hold}
 use Rattle.rg_stack.proofs.Walks.EndLemmas.{finish_at, statement_step}
 use Rattle.rg_stack.proofs.Walks.NeedLemmas.{given, and-both, not-false, nil-open, free_slot}
+use Rattle.rg_stack.proofs.Needs.KeepLemmas.{keep-here}
 use Rattle.rg_stack.proofs.Statements.BaseLemmas.{if_ends}
 use Rattle.rg_stack.proofs.Statements.RightLemmas.{Opens, RightOwes, RightNeeds, Gave, right_ends, walk-pace}
 
@@ -146,9 +147,10 @@ module _ (classes : List Class) (code : Code) (r : Round) (store : List Seen) (s
 
   -- `let x: T = r;`
   pub declare-mirrors : (x : Name) (t : Written) (right : Right) → Showing (declare x t right) → Opens classes code
-      → RightOwes classes store locals (scope_of locals) right
-      → RightNeeds classes code r (scope_of locals) store slots locals managers input [] right → Simulated (declare x t right)
-  declare-mirrors x t right h opens owes need =
+      → RightOwes classes store r.windows locals (scope_of locals) right
+      → RightNeeds classes code r (scope_of locals) store slots locals managers input [] right
+      → nat_le (top_base r.windows) (slots_below r.frames + length locals) ≡ true → Simulated (declare x t right)
+  declare-mirrors x t right h opens owes need base =
       let ty = type_of classes t in
       let size = length slots in
       let ops = right_code classes scope (r.at + 1) right in
@@ -162,6 +164,7 @@ module _ (classes : List Class) (code : Code) (r : Round) (store : List Seen) (s
       let is : k ≡ length locals = length-map locals (λ (l : Local). record { name = l.name; ty = l.ty }) in
       let named = and-left _ _ (roomy-back size (i.Mark line ∷ ops) (i.Store k ∷ pace) h.places.0.1) in
       let room : length locals < size = room_of size k (length locals) is named in
+      let begins = subst (λ n. nat_le (top_base r.windows) (slots_below r.frames + n) ≡ true) (sym is) base in
       let there : r.at + 1 + length ops + 1 + length pace ≡ end = omega (arith, length-append ops (i.Store k ∷ pace)) in
       let ends = right_ends classes code r scope size store (j ∷ rest) (Declares x ty) (add_local (Some x) ty) right (i.Store k ∷ (pace ++ tail))
       (r.at + 1) [] store slots locals managers input round opens middle owes need
@@ -174,11 +177,13 @@ module _ (classes : List Class) (code : Code) (r : Round) (store : List Seen) (s
       let free = nil-open (work r store slots managers input).machine (unwrap_or (slice_get slots k) val.Nil)
       (ap (λ n. unwrap_or (slice_get slots n) val.Nil) many ∙ free_slot slots locals m.shows) in
       let room : k < length slots = omega (arith, many, less) in
+      let keeps = keep-here (work r store slots managers input).machine k v begins in
       if_ends classes code r.output (Ok (state r store (locals ++ l ∷ []) managers input (j ∷ rest)))
-      (nat_lt k (length slots) && not (is_closed (work r store slots managers input).machine (unwrap_or (slice_get slots k) val.Nil)))
+      (needs code (i.Store k) (v ∷ []) (work r store slots managers input).machine)
       (walk code (pace ++ tail) (r.at + 1 + length ops + 1) 0 [] (work r store (slice_set slots k v) managers input)) Stuck
+      (and-both _ (may_keep (work r store slots managers input).machine k v)
       (and-both (nat_lt k (length slots)) (not (is_closed (work r store slots managers input).machine (unwrap_or (slice_get slots k) val.Nil)))
-      (lt-ltb k (length slots) room) (not-false _ free))
+      (lt-ltb k (length slots) room) (not-false _ free)) keeps)
       (subst (λ y. EndsAs classes code r.output (Ok (state r store (locals ++ l ∷ []) managers input (j ∷ rest))) y)
       (sym (walk-pace classes code right tail (r.at + 1 + length ops + 1) (work r store (slice_set slots k v) managers input)))
       (finish_at classes code r store (slice_set slots k v) (locals ++ l ∷ []) managers input j rest size end
@@ -193,7 +198,7 @@ module _ (classes : List Class) (code : Code) (r : Round) (store : List Seen) (s
 
   -- `x = r;`
   pub assign-mirrors : (x : Variable) (right : Right) → Showing (assign (record { base = x; fields = [] }) right) → Opens classes code
-      → RightOwes classes store locals (scope_of locals) right → Has locals x
+      → RightOwes classes store r.windows locals (scope_of locals) right → Has locals x
       → RightNeeds classes code r (scope_of locals) store slots locals managers input [] right
       → Takes (Assigns x) right (λ v m. needs code (assign_op (scope_of locals) x) (v ∷ []) m ≡ true)
       → Simulated (assign (record { base = x; fields = [] }) right)
@@ -233,8 +238,8 @@ module _ (classes : List Class) (code : Code) (r : Round) (store : List Seen) (s
 
   -- `q.f = r;`
   pub put-mirrors : (x : Variable) (f : Name) (fs : List Name) (right : Right) → Showing (assign (record { base = x; fields = f ∷ fs }) right)
-      → Opens classes code → RightOwes classes store locals (scope_of locals) right
-      → FollowsPath classes store locals (scope_of locals) (record { base = x; fields = all_but_last f fs })
+      → Opens classes code → RightOwes classes store r.windows locals (scope_of locals) right
+      → FollowsPath classes store r.windows locals (scope_of locals) (record { base = x; fields = all_but_last f fs })
       → HolderOwes classes store locals (scope_of locals) x f fs
       → ((u : Val) (o : Seen) → path_value classes store locals (record { base = x; fields = all_but_last f fs }) ≡ Ok u → object_at store u ≡ Ok o
       → RightNeeds classes code r (scope_of locals) store slots locals managers input (u ∷ []) right

@@ -2,17 +2,21 @@
 use Rattle.std.proofs.Common.{◌≡◌, ℕ, ◌+◌, ◌-◌, ◌<◌, ◌≤◌, true, inl, inr, Bool as Truth, if◌then◌else◌, List, [], ◌∷◌, ◌++◌, length, map, replicate}
 use Rattle.std.proofs.Common.{reverse, suc, Result, refl, sym, ap, subst, ◌∙◌, arith, length-append}
 use Rattle.std.proofs.lemmas.List.{length-map, length-reverse, reverse-append}
-use Rattle.std.proofs.lemmas.Bool.{lt-ltb, le-leb}
-use Rattle.std.specs.Prelude.{nat_lt}
+use Rattle.std.proofs.Common.{false, true≢false}
+use Rattle.std.proofs.lemmas.Bool.{lt-ltb, le-leb, leb-true, leb-false}
+use Rattle.std.specs.Prelude.{nat_lt, nat_le}
 use Rattle.rg_base.specs.declared.value.Val.{Val}
 use Rattle.rg_base.specs.declared.value.Val.TheVariants as val
 use Rattle.rg_base.specs.declared.outcome.Trap.{Trap}
 use Rattle.rg_tree.specs.Tree.{Class}
 use Rattle.rg_rules.specs.State.{Local, State, Frame as Body, Window as Opened}
+use Rattle.rg_sound.specs.Windows.{covers}
 use Rattle.rg_sound.proofs.BaseLemmas.{Based}
+use Rattle.rg_sound.proofs.Owners.WindowLemmas.{covers-not}
 use Rattle.rg_code.specs.Code.{Code}
 use Rattle.rg_stack.specs.Machine.{Machine, Frame, Window, top_slots, slots_below, place_of}
 use Rattle.rg_stack.specs.Effects.{Walked, Stuck, begins_by, opens_at}
+use Rattle.rg_stack.specs.Needs.{top_base}
 use Rattle.rg_stack.specs.Shows.{ShowsFrame, ShowsFrames, ShowsWindows, place_among, sizes_of}
 use Rattle.rg_stack.proofs.Walks.FrameLemmas.{place_below}
 use Rattle.rg_stack.proofs.Walks.EndLemmas.{EndsAs}
@@ -72,7 +76,7 @@ based-there (f ∷ fs) p (inr h) = let l = based-there fs p h in omega (arith, l
 sizes-length : (mfs : List Frame) (fs : List Body) → ShowsFrames mfs fs → length (sizes_of mfs) ≡ length fs
 sizes-length mfs fs h = length-reverse (map (λ (f : Frame). length f.slots) mfs) ∙ length-map mfs (λ (f : Frame). length f.slots) ∙ as_many mfs fs h
 
-sizes-more : (mf : Frame) (mfs : List Frame) → sizes_of (mf ∷ mfs) ≡ sizes_of mfs ++ length mf.slots ∷ []
+pub sizes-more : (mf : Frame) (mfs : List Frame) → sizes_of (mf ∷ mfs) ≡ sizes_of mfs ++ length mf.slots ∷ []
 sizes-more mf mfs = reverse-append (length mf.slots ∷ []) (map (λ (f : Frame). length f.slots) mfs)
 
 -- a window begins at the first slot behind the topmost frame's variables, or in front of it
@@ -123,11 +127,37 @@ lower-within mf mg mfs g fs p h based =
     let within = based-within mg mfs g fs p h based in
     omega (arith, at, within)
 
+-- a window begins at each slot that it covers, or in front of it
+pub covered-bound : (mf : Frame) (mfs : List Frame) (f : Body) (fs : List Body) (p : Opened) (k : ℕ) → ShowsFrames (mf ∷ mfs) (f ∷ fs)
+    → Based (f ∷ fs) p → covers (length fs) k p ≡ true → place_among (sizes_of (mf ∷ mfs)) p.base_frame p.base_place ≤ slots_below mfs + k
+covered-bound mf mfs f fs p k h (inl based) e =
+    let at : slots_below mfs + p.base_place ≡ place_among (sizes_of (mf ∷ mfs)) p.base_frame p.base_place =
+    base_is mfs (length mf.slots) p.base_frame p.base_place p.base_place (based.0 ∙ sym (as_many mfs fs h.1)) refl in
+    let in_front : p.base_place ≤ k = not_behind (length fs) k p based.0 e in
+    omega (arith, at, in_front)
+  where
+    not_behind : (n i : ℕ) (w : Opened) → w.base_frame ≡ n → covers n i w ≡ true → w.base_place ≤ i
+    not_behind n i w is c = by (nat_le w.base_place i) refl
+      where
+        by : (b : Truth) → nat_le w.base_place i ≡ b → w.base_place ≤ i
+        by true le = leb-true w.base_place i le
+        by false le = absurd (true≢false (sym c ∙ covers-not n i w (inr (sym is, leb-false w.base_place i le))))
+covered-bound mf [] f [] p k h (inr based) e = absurd based
+covered-bound mf [] f (g ∷ gs) p k h (inr based) e = absurd h.1
+covered-bound mf (mg ∷ mgs) f [] p k h (inr based) e = absurd based
+covered-bound mf (mg ∷ mgs) f (g ∷ gs) p k h (inr based) e =
+    let within = lower-within mf mg mgs g gs p h.1 based in omega (arith, within)
+
 -- the topmost window of the machine begins where that of the state does
 pub begins-there : (sizes : List ℕ) (mws : List Window) (p : Opened) (ps : List Opened) (place : ℕ) → ShowsWindows sizes mws (p ∷ ps)
     → place_among sizes p.base_frame p.base_place ≤ place → begins_by mws place ≡ true
 begins-there sizes [] p ps place h le = absurd h
 begins-there sizes (w ∷ ws) p ps place h le = let base = h.0.base in le-leb w.base place (omega (arith, base, le))
+
+pub starts-behind : (sizes : List ℕ) (mws : List Window) (p : Opened) (ps : List Opened) (place : ℕ) → ShowsWindows sizes mws (p ∷ ps)
+    → place ≡ place_among sizes p.base_frame p.base_place → nat_le place (top_base mws) ≡ true
+starts-behind sizes [] p ps place h is = absurd h
+starts-behind sizes (w ∷ ws) p ps place h is = let base = h.0.base in le-leb place w.base (omega (arith, base, is))
 
 -- on both sides of a test that holds
 pub if_ends : (classes : List Class) (code : Code) (before : List Val) (r : Result State Trap) (t : Truth) (x y : Walked) → t ≡ true

@@ -187,7 +187,7 @@ module _ (classes : List Class) (code : Code) (r : Round) (store : List Seen) (s
 
   -- a test in front of what stands behind it
   test_ends : (e : Expr) (jump : ℕ) (inner : List Op) (items : List Item) (into over : State → State) → ShowsSlots slots locals
-      → Agrees classes store locals (scope_of locals) e → owned_once (work r store slots managers input).machine ≡ true
+      → Agrees classes store r.windows locals (scope_of locals) e → owned_once (work r store slots managers input).machine ≡ true
       → UsesUp classes store slots locals (scope_of locals) e [] → IsTruth (value_of classes store locals e) →
       let inside = r.at + 1 + length (whole_code classes (scope_of locals) (r.at + 1) e) + 1 in
       let s = state r store (locals_after e) managers input items in
@@ -243,7 +243,7 @@ module _ (classes : List Class) (code : Code) (r : Round) (store : List Seen) (s
 
   -- `if e { .. }`
   pub branch-mirrors : (e : Expr) (b : Block) (j : Item) (rest : List Item) → Showing (Do (stmt line (branch e b no_else)) ∷ j ∷ rest)
-      → Agrees classes store locals (scope_of locals) e → owned_once (work r store slots managers input).machine ≡ true
+      → Agrees classes store r.windows locals (scope_of locals) e → owned_once (work r store slots managers input).machine ≡ true
       → UsesUp classes store slots locals (scope_of locals) e [] → IsTruth (value_of classes store locals e)
       → AllGoOn b
       → Simulated (Do (stmt line (branch e b no_else)) ∷ j ∷ rest)
@@ -292,7 +292,7 @@ module _ (classes : List Class) (code : Code) (r : Round) (store : List Seen) (s
 
   -- `if e { .. } else { .. }`
   pub branch-else-mirrors : (e : Expr) (b c : Block) (j : Item) (rest : List Item) → Showing (Do (stmt line (branch e b (otherwise c))) ∷ j ∷ rest)
-      → Agrees classes store locals (scope_of locals) e → owned_once (work r store slots managers input).machine ≡ true
+      → Agrees classes store r.windows locals (scope_of locals) e → owned_once (work r store slots managers input).machine ≡ true
       → UsesUp classes store slots locals (scope_of locals) e [] → IsTruth (value_of classes store locals e)
       → AllGoOn b → AllGoOn c
       → Simulated (Do (stmt line (branch e b (otherwise c))) ∷ j ∷ rest)
@@ -371,7 +371,7 @@ module _ (classes : List Class) (code : Code) (r : Round) (store : List Seen) (s
 
   -- `while e { .. }`
   pub while-mirrors : (e : Expr) (b : Block) (j : Item) (rest : List Item) → Showing (Do (stmt line (while e b)) ∷ j ∷ rest)
-      → Agrees classes store locals (scope_of locals) e → owned_once (work r store slots managers input).machine ≡ true
+      → Agrees classes store r.windows locals (scope_of locals) e → owned_once (work r store slots managers input).machine ≡ true
       → UsesUp classes store slots locals (scope_of locals) e [] → IsTruth (value_of classes store locals e)
       → AllGoOn b
       → Simulated (Do (stmt line (while e b)) ∷ j ∷ rest)
@@ -422,7 +422,7 @@ module _ (classes : List Class) (code : Code) (r : Round) (store : List Seen) (s
 
   -- `print e;`
   pub print-mirrors : (e : Expr) (j : Item) (rest : List Item) → Showing (Do (stmt line (print e)) ∷ j ∷ rest)
-      → Agrees classes store locals (scope_of locals) e → owned_once (work r store slots managers input).machine ≡ true
+      → Agrees classes store r.windows locals (scope_of locals) e → owned_once (work r store slots managers input).machine ≡ true
       → UsesUp classes store slots locals (scope_of locals) e []
       → ((v : Val) → value_of classes store locals e ≡ Ok v → is_closed (work r store (slots_after e) managers input).machine v ≡ false)
       → Simulated (Do (stmt line (print e)) ∷ j ∷ rest)

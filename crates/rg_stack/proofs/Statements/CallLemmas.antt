@@ -182,8 +182,8 @@ module _ (classes : List Class) (code : Code) (j : Item) (rest : List Item) wher
   -- what the rules, the code and the invariant give of a call
   pub record CallOwes (r : Round) (store : List Seen) (slots : List Val) (locals : List Local) (c : Call) (d : ℕ) (m : Method) (e : Entry) : Type 0
     where
-      pub follows : FollowsPath classes store locals (scope_of locals) c.target
-      pub agrees : AllAgree classes store locals (scope_of locals) c.args
+      pub follows : FollowsPath classes store r.windows locals (scope_of locals) c.target
+      pub agrees : AllAgree classes store r.windows locals (scope_of locals) c.args
       pub uses : (v : Val) (vs : List Val) → values_of classes store locals c.args ≡ Ok vs
           → AllOnStack (used_by_all (scope_of locals) c.args) slots (reverse vs ++ v ∷ [])
       pub entry : slice_get code.entries (number_called classes (target_class classes (scope_of locals) c) c.method) ≡ Some e

@@ -1,7 +1,7 @@
 -- `return e;`: the frame goes, and its target in the frame beneath takes the value.
 use Rattle.std.proofs.Common.{◌≡◌, if◌then◌else◌, ℕ, ◌+◌, ◌<◌, true, true≢false, List, [], ◌∷◌, ◌++◌, length, map, drop, Some, Ok, refl, sym, ap}
 use Rattle.std.proofs.Common.{subst, ◌∙◌, append_assoc, slice_get, slice_set, unwrap_or}
-use Rattle.std.specs.Prelude.{not, nat_lt, ◌&&◌}
+use Rattle.std.specs.Prelude.{not, nat_lt, nat_le, ◌&&◌}
 use Rattle.std.proofs.lemmas.Bool.{lt-ltb}
 use Rattle.std.proofs.Common.{arith}
 use Rattle.std.proofs.lemmas.List.{length-map, map-append, length-set, reverse-append}
@@ -20,8 +20,8 @@ use Rattle.rg_code.specs.declared.op.Op.TheVariants as i
 use Rattle.rg_code.specs.Code.{Code}
 use Rattle.rg_code.specs.Lowering.{with_slot, slot_of, used_slots, whole_code, assign_op}
 use Rattle.rg_code.specs.Places.{is_drop, scope_of, Lies, TakesResult}
-use Rattle.rg_stack.specs.Machine.{Frame, Window, Machine, slots_below}
-use Rattle.rg_stack.specs.Needs.{needs, is_closed, owned_once, loose}
+use Rattle.rg_stack.specs.Machine.{Frame, Window, Machine, slots_below, place_of}
+use Rattle.rg_stack.specs.Needs.{needs, is_closed, owned_once, loose, top_base, may_keep}
 use Rattle.rg_stack.specs.Effects.{Returns, Stuck, begins_by, Work}
 use Rattle.rg_stack.specs.Runs.{landed}
 use Rattle.rg_stack.specs.Given.{given_finished as finished, given_step as step, given_step_from as step_from, given_walk as walk}
@@ -36,6 +36,7 @@ use Rattle.rg_stack.proofs.Walks.SlotLemmas.{ShowsSlots, Has, cleared_slots, sho
 use Rattle.rg_stack.proofs.Walks.NeedLemmas.{given, and-both, not-false, nil-open, free_slot}
 use Rattle.rg_stack.proofs.Walks.EndLemmas.{comes, Landed, EndsAs, computed_ends, Round, work, state, level, RoundShows, finish, statement_step}
 use Rattle.rg_stack.proofs.Walks.EndLemmas.{walk-whole, UsesUp}
+use Rattle.rg_stack.proofs.Needs.KeepLemmas.{keep-here}
 use Rattle.rg_stack.proofs.Statements.BaseLemmas.{if_ends}
 use Rattle.rg_stack.proofs.Statements.AssignLemmas.{walk-assign}
 
@@ -60,7 +61,7 @@ TargetHas Drops locals = Unit {0}
 
 -- what taking a value into a target needs
 abbrev pub TargetNeeds : Code → Target → List Local → Val → Machine → Type 0
-TargetNeeds code (Declares x t) locals v m = Unit {0}
+TargetNeeds code (Declares x t) locals v m = nat_le (top_base m.windows) (place_of m.frames (length locals)) ≡ true
 TargetNeeds code (Assigns x) locals v m = needs code (assign_op (scope_of locals) x) (v ∷ []) m ≡ true
 TargetNeeds code Drops locals v m = (owned_once m && loose m v) ≡ true
 
@@ -89,11 +90,13 @@ taken_lands classes code r store slots locals managers input j rest (Declares x 
     let size = length slots in
     let is : k ≡ length locals = length-map locals (λ (l : Local). record { name = l.name; ty = l.ty }) in
     let room : length locals < size = room_of size k (length locals) is (and-left _ _ takes.0.1) in
-    let free : (nat_lt k (length slots) && not (is_closed (work r store slots managers input).machine (unwrap_or (slice_get slots k) val.Nil)))
-    ≡ true = and-both (nat_lt k (length slots)) (not (is_closed (work r store slots managers input).machine (unwrap_or (slice_get slots k) val.Nil)))
+    let m = (work r store slots managers input).machine in
+    let free : needs code (i.Store k) (v ∷ []) m ≡ true =
+    and-both (nat_lt k (length slots) && not (is_closed m (unwrap_or (slice_get slots k) val.Nil))) (may_keep m k v)
+    (and-both (nat_lt k (length slots)) (not (is_closed m (unwrap_or (slice_get slots k) val.Nil)))
     (lt-ltb k (length slots) (omega (arith, is, room))) (not-false _
-    (nil-open (work r store slots managers input).machine (unwrap_or (slice_get slots k) val.Nil)
-    (ap (λ n. unwrap_or (slice_get slots n) val.Nil) is ∙ free_slot slots locals shows))) in
+    (nil-open m (unwrap_or (slice_get slots k) val.Nil) (ap (λ n. unwrap_or (slice_get slots n) val.Nil) is ∙ free_slot slots locals shows))))
+    (keep-here m k v (subst (λ n. nat_le (top_base r.windows) (slots_below r.frames + n) ≡ true) (sym is) need)) in
     let names : with_slot scope (Some x) t ≡ scope_of (locals ++ l ∷ []) = sym
     (map-append (λ (l : Local). record { name = l.name; ty = l.ty }) locals (l ∷ [])) in
     subst (λ ops. Landed classes code r.output (state r store (locals ++ l ∷ []) managers input (j ∷ rest))
@@ -138,7 +141,7 @@ pub return-mirrors : (classes : List Class) (code : Code) (r : Round) (slots und
     (target : Target) (store : List Seen) (managers : List Manager) (input : List ℕ) (line : ℕ) (e : Expr) (j : Item) (rest : List Item)
     → Mirrors classes code (work (above r under callers back target) store slots managers input).machine
     (state (above r under callers back target) store locals managers input (Do (stmt line (return e)) ∷ j ∷ rest))
-    → Agrees classes store locals (scope_of locals) e
+    → Agrees classes store r.windows locals (scope_of locals) e
     → OpenedBelow (length (sizes_of (record { slots = under; back = r.back } ∷ r.frames))) r.opened
     → begins_by r.windows (slots_below (record { slots = under; back = r.back } ∷ r.frames)) ≡ true
     → TargetHas target callers

@@ -162,16 +162,16 @@ LabelsLead classes store = (k r : ℕ) (label : Label) → relabelled (beneath_b
     ≡ relabelled (beneath classes store k (r ∷ [])) label store
 
 -- what the rules and the invariant give of a right side that makes no call
-abbrev pub RightOwes : List Class → List Seen → List Local → Scope → Right → Type 0
-RightOwes classes store locals scope (value e) = Agrees classes store locals scope e
-RightOwes classes store locals scope (new x) = (k : Class) × (class_named classes x ≡ Some k)
-RightOwes classes store locals scope (new_tmp x) = (k : Class) × (class_named classes x ≡ Some k)
-RightOwes classes store locals scope (new_iso x m) = (k : Class) × (class_named classes x ≡ Some k)
-RightOwes classes store locals scope (freeze y) = InRegion store (value_in locals (Some y)) × LabelsLead classes store
-RightOwes classes store locals scope (merge y) = InRegion store (value_in locals (Some y))
-RightOwes classes store locals scope read = Unit {0}
-RightOwes classes store locals scope more = Unit {0}
-RightOwes classes store locals scope (result_of c) = ⊥
+abbrev pub RightOwes : List Class → List Seen → List Window → List Local → Scope → Right → Type 0
+RightOwes classes store windows locals scope (value e) = Agrees classes store windows locals scope e
+RightOwes classes store windows locals scope (new x) = (k : Class) × (class_named classes x ≡ Some k)
+RightOwes classes store windows locals scope (new_tmp x) = (k : Class) × (class_named classes x ≡ Some k)
+RightOwes classes store windows locals scope (new_iso x m) = (k : Class) × (class_named classes x ≡ Some k)
+RightOwes classes store windows locals scope (freeze y) = InRegion store (value_in locals (Some y)) × LabelsLead classes store
+RightOwes classes store windows locals scope (merge y) = InRegion store (value_in locals (Some y))
+RightOwes classes store windows locals scope read = Unit {0}
+RightOwes classes store windows locals scope more = Unit {0}
+RightOwes classes store windows locals scope (result_of c) = ⊥
 
 -- a use of a value that keeps it, in front of the output
 abbrev pub kept : Use
@@ -331,7 +331,7 @@ module _ (classes : List Class) (code : Code) (r : Round) (scope : Scope) (n : �
 
   pub right_ends : (target : Target) (put : Use) (right : Right) (tail : List Op) (here : ℕ) (stack : List Val) (store : List Seen)
       (slots : List Val) (locals : List Local) (managers : List Manager) (input : List ℕ)
-      → RoundShows r n → Opens classes code → Middle scope n old store slots locals → RightOwes classes store locals scope right
+      → RoundShows r n → Opens classes code → Middle scope n old store slots locals → RightOwes classes store r.windows locals scope right
       → RightNeeds classes code r scope store slots locals managers input stack right
       → Then (Gave classes r items store locals managers input target right) put tail (here + length (right_code classes scope here right)) stack
       → EndsAs classes code r.output (with_right classes (state r store locals managers input items) target put right)

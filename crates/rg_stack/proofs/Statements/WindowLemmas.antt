@@ -118,7 +118,7 @@ module _ (classes : List Class) (code : Code) (r : Round) (store : List Seen) (s
   -- `swap y, q.f;`
   pub swap-mirrors : (y : Name) (x : Variable) (f : Name) (fs : List Name) → Showing (swap y (record { base = x; fields = f ∷ fs }))
       → Has locals (Some y)
-      → FollowsPath classes store locals (scope_of locals) (record { base = x; fields = all_but_last f fs })
+      → FollowsPath classes store r.windows locals (scope_of locals) (record { base = x; fields = all_but_last f fs })
       → HolderOwes classes store locals (scope_of locals) x f fs
       → ((u : Val) → path_value classes store locals (record { base = x; fields = all_but_last f fs }) ≡ Ok u
       → needs code (i.Swap (slot_of (scope_of locals) (Some y)) (held_number classes (scope_of locals) x f fs)) (u ∷ [])
@@ -297,7 +297,7 @@ module _ (classes : List Class) (code : Code) (r : Round) (store : List Seen) (s
   -- `enter q.f as z { .. }`
   pub enter-field-mirrors : (x : Variable) (f : Name) (fs : List Name) (z : Name) (b : Block)
       → Showing (enter (record { base = x; fields = f ∷ fs }) z b) → AllGoOn b → begins_by r.windows (slots_below r.frames + length locals) ≡ true
-      → FollowsPath classes store locals (scope_of locals) (record { base = x; fields = all_but_last f fs })
+      → FollowsPath classes store r.windows locals (scope_of locals) (record { base = x; fields = all_but_last f fs })
       → HolderOwes classes store locals (scope_of locals) x f fs
       → ((u : Val) (o : Seen) → path_value classes store locals (record { base = x; fields = all_but_last f fs }) ≡ Ok u → object_at store u ≡ Ok o
       → BridgeOwes (record { base = x; fields = f ∷ fs }) (field_value classes o (last_field f fs)))

@@ -17,6 +17,7 @@ use Rattle.rg_stack.specs.Machine.{slot_at}
 use Rattle.rg_stack.specs.Effects.{Work, Walked, Traps, with_value}
 use Rattle.rg_stack.specs.Given.{given_walk as walk}
 use Rattle.rg_stack.proofs.Walks.WalkLemmas.{Agrees, walk-expr}
+use Rattle.rg_stack.specs.Machine.{Window}
 
 -- goes on with values, or traps
 abbrev pub with_values : Result (List Val) Trap → (List Val → Walked) → Walked
@@ -33,9 +34,9 @@ each_list (Ok vs) f g h = h vs
 each_list (Err t) f g h = refl
 
 -- the rules give of each argument what they give of an expression
-abbrev pub AllAgree : List Class → List Seen → List Local → Scope → List Expr → Type 0
-AllAgree classes store locals scope [] = Unit {0}
-AllAgree classes store locals scope (e ∷ es) = Agrees classes store locals scope e × AllAgree classes store locals scope es
+abbrev pub AllAgree : List Class → List Seen → List Window → List Local → Scope → List Expr → Type 0
+AllAgree classes store windows locals scope [] = Unit {0}
+AllAgree classes store windows locals scope (e ∷ es) = Agrees classes store windows locals scope e × AllAgree classes store windows locals scope es
 
 -- one argument before the others
 first_then : (c : Computed) (r : Result (List Val) Trap) (f : Val → Walked) (g : List Val → Walked)
@@ -47,7 +48,7 @@ first_then (Err t) r f g h = refl
 
 module _ (classes : List Class) (code : Code) where
   pub walk-exprs : (es : List Expr) (locals : List Local) (scope : Scope) (at : ℕ) (rest : List Op) (stack : List Val) (w : Work)
-      → ((x : Variable) → slot_at w.machine (slot_of scope x) ≡ value_in locals x) → AllAgree classes w.machine.store locals scope es
+      → ((x : Variable) → slot_at w.machine (slot_of scope x) ≡ value_in locals x) → AllAgree classes w.machine.store w.machine.windows locals scope es
       → walk code (exprs_code classes scope at es ++ rest) at 0 stack w
       ≡ with_values (values_of classes w.machine.store locals es)
       (λ vs. walk code rest (at + length (exprs_code classes scope at es)) 0 (reverse vs ++ stack) w)

@@ -238,7 +238,7 @@ UsesUp classes store slots locals scope e stack =
 -- a whole expression
 pub walk-whole : (classes : List Class) (code : Code) (r : Round) (store : List Seen) (managers : List Manager) (input : List ℕ) (e : Expr)
     (scope : Scope) (slots : List Val) (locals : List Local) (rest : List Op) (here : ℕ) (stack : List Val)
-    → ShowsSlots slots locals → scope_of locals ≡ scope → Agrees classes store locals scope e
+    → ShowsSlots slots locals → scope_of locals ≡ scope → Agrees classes store r.windows locals scope e
     → owned_once (work r store slots managers input).machine ≡ true → UsesUp classes store slots locals scope e stack
     → walk code (whole_code classes scope here e ++ rest) here 0 stack (work r store slots managers input)
     ≡ with_value (value_of classes store locals e) (λ v. walk code rest (here + length (whole_code classes scope here e)) 0 (v ∷ stack)

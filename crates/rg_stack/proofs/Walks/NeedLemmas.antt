@@ -37,6 +37,10 @@ pub not-false : (t : Truth) → t ≡ false → not t ≡ true
 not-false true e = absurd (true≢false e)
 not-false false e = refl
 
+pub not_true : (t : Truth) → not t ≡ true → t ≡ false
+not_true true h = absurd (true≢false (sym h))
+not_true false h = refl
+
 -- the slot behind the variables is nil
 first_behind : (vals : List Val) (k : ℕ) → unwrap_or (slice_get (vals ++ replicate k val.Nil) (length vals)) val.Nil ≡ val.Nil
 first_behind [] zero = refl

@@ -1,7 +1,7 @@
 -- The code of an expression leaves the value that the expression has.
 use Rattle.std.proofs.Common.{◌≡◌, ℕ, ◌+◌, ◌-◌, true, false, Bool as Truth, ◌||◌, ◌&&◌, true≢false, if◌then◌else◌, not as negated, List, [], ◌∷◌}
 use Rattle.std.proofs.Common.{◌++◌, length, Result, Ok, Err, refl, sym, ap, ◌∙◌, arith, append_assoc, length-append, slice_get, unwrap_or}
-use Rattle.std.specs.Prelude.{neg_ℤ, nat_lt}
+use Rattle.std.specs.Prelude.{neg_ℤ, nat_lt, is_some, option_and_then}
 use Rattle.rg_base.specs.declared.object.Seen.{Seen}
 use Rattle.rg_base.specs.declared.value.Val.{Val}
 use Rattle.rg_base.specs.declared.value.Val.TheVariants as val
@@ -18,21 +18,26 @@ use Rattle.rg_code.specs.declared.op.Op.{Op}
 use Rattle.rg_code.specs.declared.op.Op.TheVariants as i
 use Rattle.rg_code.specs.Code.{Code}
 use Rattle.rg_code.specs.Lowering.{Scope, slot_of, type_in, field_number, type_behind, fields_code, path_code, expr_code}
-use Rattle.rg_stack.specs.Machine.{slot_at}
+use Rattle.rg_stack.specs.Machine.{Window, slot_at}
+use Rattle.rg_stack.specs.Needs.{closed_of, is_closed, label_of}
 use Rattle.rg_stack.specs.Effects.{Work, Walked, Traps, Stuck, Go, with_value}
 use Rattle.rg_stack.specs.Given.{given_act as act, given_walk as walk}
 
--- the fields behind a type are those of the objects that are there, which have them
-abbrev pub Follows : List Class → List Seen → Ty → Val → List Name → Type 0
-Follows classes store t v [] = Unit {0}
-Follows classes store t v (f ∷ fs) = (o : Seen) → object_at store v ≡ Ok o →
+-- whether a value leads into a region that no window has open
+abbrev pub is_shut : List Seen → List Window → Val → Truth
+is_shut store windows v = is_some (option_and_then (closed_of windows) (label_of store v))
+
+-- the fields behind a type are those of the objects that are there, which have them and lie in no closed region
+abbrev pub Follows : List Class → List Seen → List Window → Ty → Val → List Name → Type 0
+Follows classes store windows t v [] = Unit {0}
+Follows classes store windows t v (f ∷ fs) = (o : Seen) → object_at store v ≡ Ok o →
     (field_value classes o f ≡ unwrap_or (slice_get o.fields (field_number classes t f)) val.Nil)
-    × (nat_lt (field_number classes t f) (length o.fields) ≡ true)
-    × Follows classes store (type_behind classes t f) (field_value classes o f) fs
+    × ((nat_lt (field_number classes t f) (length o.fields) && negated (is_shut store windows v)) ≡ true)
+    × Follows classes store windows (type_behind classes t f) (field_value classes o f) fs
 
 -- the same of a path
-abbrev pub FollowsPath : List Class → List Seen → List Local → Scope → Path → Type 0
-FollowsPath classes store locals scope p = Follows classes store (type_in scope p.base) (value_in locals p.base) p.fields
+abbrev pub FollowsPath : List Class → List Seen → List Window → List Local → Scope → Path → Type 0
+FollowsPath classes store windows locals scope p = Follows classes store windows (type_in scope p.base) (value_in locals p.base) p.fields
 
 -- a computed value is a truth value
 abbrev pub IsTruth : Computed → Type 0
@@ -55,16 +60,16 @@ Logic op.Div P = Unit {0}
 Logic op.Rem P = Unit {0}
 
 -- what the rules give of an expression: its paths lead along the declared types, and operands of `and` and `or` are truth values
-abbrev pub Agrees : List Class → List Seen → List Local → Scope → Expr → Type 0
-Agrees classes store locals scope (number z) = Unit {0}
-Agrees classes store locals scope (boolean b) = Unit {0}
-Agrees classes store locals scope nil = Unit {0}
-Agrees classes store locals scope (path p) = FollowsPath classes store locals scope p
-Agrees classes store locals scope (is_nil p) = FollowsPath classes store locals scope p
-Agrees classes store locals scope (neg a) = Agrees classes store locals scope a
-Agrees classes store locals scope (not a) = Agrees classes store locals scope a
-Agrees classes store locals scope (binary o a b) =
-    Agrees classes store locals scope a × Agrees classes store locals scope b
+abbrev pub Agrees : List Class → List Seen → List Window → List Local → Scope → Expr → Type 0
+Agrees classes store windows locals scope (number z) = Unit {0}
+Agrees classes store windows locals scope (boolean b) = Unit {0}
+Agrees classes store windows locals scope nil = Unit {0}
+Agrees classes store windows locals scope (path p) = FollowsPath classes store windows locals scope p
+Agrees classes store windows locals scope (is_nil p) = FollowsPath classes store windows locals scope p
+Agrees classes store windows locals scope (neg a) = Agrees classes store windows locals scope a
+Agrees classes store windows locals scope (not a) = Agrees classes store windows locals scope a
+Agrees classes store windows locals scope (binary o a b) =
+    Agrees classes store windows locals scope a × Agrees classes store windows locals scope b
     × Logic o (IsTruth (value_of classes store locals a) × IsTruth (value_of classes store locals b))
 
 -- one thing after another
@@ -119,13 +124,13 @@ module _ (classes : List Class) (code : Code) where
   at_address rest stack w c m n e = ap (λ k. with_value c (λ u. walk code rest k 0 (u ∷ stack) w)) e
 
   pub walk-fields : (fs : List Name) (t : Ty) (v : Val) (at : ℕ) (rest : List Op) (stack : List Val) (w : Work)
-      → Follows classes w.machine.store t v fs → walk code (fields_code classes t fs ++ rest) at 0 (v ∷ stack) w
+      → Follows classes w.machine.store w.machine.windows t v fs → walk code (fields_code classes t fs ++ rest) at 0 (v ∷ stack) w
       ≡ with_value (follow_fields classes w.machine.store v fs) (λ u. walk code rest (at + length (fields_code classes t fs)) 0 (u ∷ stack) w)
   walk-fields [] t v at rest stack w h = let e : at ≡ at + 0 = omega arith in ap (λ n. walk code rest n 0 (v ∷ stack) w) e
   walk-fields (f ∷ fs) t v at rest stack w h =
       let more = fields_code classes (type_behind classes t f) fs in
       let e : at + 1 + length more ≡ at + length (i.Field (field_number classes t f) ∷ more) = omega arith in
-      object_given (object_at w.machine.store v) (λ o. nat_lt (field_number classes t f) (length o.fields))
+      object_given (object_at w.machine.store v) (λ o. nat_lt (field_number classes t f) (length o.fields) && negated (is_closed w.machine v))
       (λ o. walk code (more ++ rest) (at + 1) 0 (unwrap_or (slice_get o.fields (field_number classes t f)) val.Nil ∷ stack) w)
       (λ o there. (h o there).1)
       ∙ object_then (object_at w.machine.store v)
@@ -138,7 +143,7 @@ module _ (classes : List Class) (code : Code) where
       ∙ at_address rest stack w (follow_fields classes w.machine.store (field_value classes o f) fs) _ _ e)
 
   pub walk-path : (p : Path) (locals : List Local) (scope : Scope) (at : ℕ) (rest : List Op) (stack : List Val) (w : Work)
-      → ((x : Variable) → slot_at w.machine (slot_of scope x) ≡ value_in locals x) → FollowsPath classes w.machine.store locals scope p
+      → ((x : Variable) → slot_at w.machine (slot_of scope x) ≡ value_in locals x) → FollowsPath classes w.machine.store w.machine.windows locals scope p
       → walk code (path_code classes scope p.base p.fields ++ rest) at 0 stack w
       ≡ with_value (path_value classes w.machine.store locals p)
       (λ u. walk code rest (at + length (path_code classes scope p.base p.fields)) 0 (u ∷ stack) w)
@@ -253,7 +258,7 @@ module _ (classes : List Class) (code : Code) where
       two_run b o left right c d at (at + length left + 0) rest stack w does never (omega arith) (one (right ++ o ∷ rest)) (λ v. two (o ∷ rest) v)
 
   pub walk-expr : (e : Expr) (locals : List Local) (scope : Scope) (at : ℕ) (rest : List Op) (stack : List Val) (w : Work)
-      → ((x : Variable) → slot_at w.machine (slot_of scope x) ≡ value_in locals x) → Agrees classes w.machine.store locals scope e
+      → ((x : Variable) → slot_at w.machine (slot_of scope x) ≡ value_in locals x) → Agrees classes w.machine.store w.machine.windows locals scope e
       → walk code (expr_code classes scope at e ++ rest) at 0 stack w
       ≡ with_value (value_of classes w.machine.store locals e) (λ u. walk code rest (at + length (expr_code classes scope at e)) 0 (u ∷ stack) w)
   walk-expr (number z) locals scope at rest stack w slots h = refl
