@@ -16,7 +16,7 @@ use Rattle.rg_code.specs.Code.{Code}
 use Rattle.rg_stack.specs.Machine.{Machine, slot_at, put_slot}
 use Rattle.rg_stack.specs.Effects.{Work, Go, Traps, act, beneath_by_labels, relabel, top_region, with_store, stored, on_object}
 use Rattle.rg_stack.specs.Needs.{is_open, label_of, is_into, is_closed, closed_of, owns_or_nil, owned_once, is_outside, needs}
-use Rattle.rg_held.specs.Frees.{free_act}
+use Rattle.rg_held.specs.Frees.{forgotten, free_act}
 use Rattle.rg_held.specs.Part.{leads_to, Placed, Tidy, Part, may_lead, is_shut_or_above}
 use Rattle.rg_held.specs.Ends.{Match, SameEnd}
 use Rattle.rg_held.specs.Laws.{owners_of, GoesOn}
@@ -26,6 +26,7 @@ use Rattle.rg_held.proofs.Places.{label-there, region-into, closed-there, label-
 use Rattle.rg_held.proofs.Links.{Link, beneath-links, beneath-first, beneath-all}
 use Rattle.rg_held.proofs.Parts.{shut-above, closed-above, part-owners}
 use Rattle.rg_held.proofs.Burials.{link-held, held-link, closed-link, link-field, region-given, same-region}
+use Rattle.rg_held.proofs.Callers.ForgetLemmas.{match-forgets}
 use Rattle.rg_held.proofs.Stack.{match-more, slot-leads, slot-same}
 use Rattle.rg_held.proofs.Slots.{part-put}
 use Rattle.rg_held.proofs.Releases.{slot-at-into, slot-and-field, two-fields}
@@ -272,14 +273,21 @@ module _ (also go : Go) (u w : Work) (s : ℕ) (stack : List Val) (xu xw : Optio
           (sym (m.1.machine.same a lead)) (of a is owns (slice_get w.machine.store a) refl)
 
 module _ (code : Code) (at : ℕ) (also go : Go) (u w : Work) (taken : Truth) where
+  -- behind the instruction, managers of regions that don't live any more are forgotten
+  abbrev forgets : Go
+  forgets = λ skip stack x. also skip stack (forgotten x)
+
+  forgets-on : GoesOn true also go → GoesOn true forgets go
+  forgets-on next stack x y m = next stack (forgotten x) y (match-forgets stack x y stack m)
+
   pub freeze-same : (s : ℕ) (stack : List Val) → needs code (i.Freeze s) stack w.machine ≡ true → Match (owners_of taken stack) u w stack
       → GoesOn true also go → SameEnd (free_act code at (i.Freeze s) also stack u) (act code at (i.Freeze s) go stack w)
   freeze-same s stack n m next =
       let now = match-more taken u w stack m in
       let none = not (list_any (is_closed w.machine) stack) in
       let first = and-left (none && owned_once w.machine) (owns_or_nil w.machine (slot_at w.machine s)) n in
-      take-same also go u w s stack (relabel true Frozen u) (relabel true Frozen w)
-      (and-right (none && owned_once w.machine) (owns_or_nil w.machine (slot_at w.machine s)) n) now next (λ r c into. (
+      take-same forgets go u w s stack (relabel true Frozen u) (relabel true Frozen w)
+      (and-right (none && owned_once w.machine) (owns_or_nil w.machine (slot_at w.machine s)) n) now (forgets-on next) (λ r c into. (
         now.0,
         record {
           machine = part-freeze now.0 u.machine w.machine stack
@@ -298,11 +306,11 @@ module _ (code : Code) (at : ℕ) (also go : Go) (u w : Work) (taken : Truth) wh
       let none = not (list_any (is_closed w.machine) stack) in
       let first = and-left (none && owned_once w.machine) (owns_or_nil w.machine (slot_at w.machine s)) n in
       subst (λ z. SameEnd (on_object u.machine.store (slot_at u.machine s)
-      (λ o. also 0 (slot_at u.machine s ∷ stack) (stored (with_store u (relabel false (Region z) u (region_of o.label))) s val.Nil)))
+      (λ o. forgets 0 (slot_at u.machine s ∷ stack) (stored (with_store u (relabel false (Region z) u (region_of o.label))) s val.Nil)))
       (act code at (i.Merge s) go stack w)) (sym (ap top_region now.1.machine.windows))
-      (take-same also go u w s stack (relabel false (Region (top_region w.machine.windows)) u)
+      (take-same forgets go u w s stack (relabel false (Region (top_region w.machine.windows)) u)
       (relabel false (Region (top_region w.machine.windows)) w)
-      (and-right (none && owned_once w.machine) (owns_or_nil w.machine (slot_at w.machine s)) n) now next (λ r c into. (
+      (and-right (none && owned_once w.machine) (owns_or_nil w.machine (slot_at w.machine s)) n) now (forgets-on next) (λ r c into. (
         now.0,
         record {
           machine = part-merge now.0 u.machine w.machine stack

@@ -1,7 +1,7 @@
 -- Instructions that free nothing and leave objects as they are, each beside the same over the growing store.
 use Rattle.std.proofs.Common.{◌≡◌, ℕ, ◌+◌, ◌-◌, ◌==◌, inl, inr, true, false, not, Bool as Truth, List, [], ◌∷◌, length, Option, Some}
 use Rattle.std.proofs.Common.{None, Result, Ok, Err, unwrap_or, refl, sym, ap, subst, ◌∙◌, slice_get}
-use Rattle.std.specs.Prelude.{nat_lt, neg_ℤ, if◌then◌else◌}
+use Rattle.std.specs.Prelude.{◌&&◌, nat_lt, neg_ℤ, if◌then◌else◌}
 use Rattle.std.specs.List.{list_any}
 use Rattle.rg_base.specs.declared.limits.TheConstants.{FRAMES}
 use Rattle.rg_base.specs.declared.object.Seen.{Seen}
@@ -18,7 +18,7 @@ use Rattle.rg_code.specs.Code.{Code}
 use Rattle.rg_stack.specs.Machine.{slot_at}
 use Rattle.rg_stack.specs.Effects.{Work, Traps, Go, act, next_taken, on_top, stored, called}
 use Rattle.rg_code.specs.declared.code.Entry.{Entry}
-use Rattle.rg_stack.specs.Needs.{is_into, is_closed, is_empty, owned_once, size_of, needs}
+use Rattle.rg_stack.specs.Needs.{is_into, is_closed, is_empty, owned_once, size_of, may_keep, needs}
 use Rattle.rg_held.specs.Frees.{free_act}
 use Rattle.rg_held.specs.Part.{leads_to}
 use Rattle.rg_held.specs.Ends.{Match, SameEnd}
@@ -210,9 +210,11 @@ module _ (code : Code) (at : ℕ) (also go : Go) (u w : Work) where
   store-same s taken (x ∷ y ∷ rest) n m next = off n
   store-same s taken (v ∷ []) n m next =
       let now = match-more taken u w (v ∷ []) m in
-      let less = and-left (nat_lt s (size_of w.machine)) (not (is_closed w.machine (slot_at w.machine s))) n in
-      let free = not-true (is_closed w.machine (slot_at w.machine s)) (and-right (nat_lt s (size_of w.machine))
-      (not (is_closed w.machine (slot_at w.machine s))) n) in
+      let room = nat_lt s (size_of w.machine) in
+      let shut = not (is_closed w.machine (slot_at w.machine s)) in
+      let both = and-left (room && shut) (may_keep w.machine s v) n in
+      let less = and-left room shut both in
+      let free = not-true (is_closed w.machine (slot_at w.machine s)) (and-right room shut both) in
       next [] (stored u s v) (stored w s v) (
         now.0,
         record {

@@ -1,7 +1,7 @@
 -- The end of a window: slots, temporaries and the window go, and its region is closed.
 use Rattle.std.proofs.Common.{◌≡◌, ℕ, zero, suc, ◌==◌, ◌⊎◌, inl, inr, true, false, not, Bool as Truth, List, [], ◌∷◌, ◌++◌}
 use Rattle.std.proofs.Common.{length, Option, Some, None, unwrap_or, option_map, drop, reverse, refl, sym, ap, subst, ◌∙◌, arith, slice_get}
-use Rattle.std.specs.Prelude.{◌||◌, ◌&&◌, cond, if◌then◌else◌, filter, flat_map}
+use Rattle.std.specs.Prelude.{◌||◌, ◌&&◌, cond, if◌then◌else◌, filter, flat_map, nat_le}
 use Rattle.std.specs.List.{list_any}
 use Rattle.rg_base.specs.declared.object.Label.{Label}
 use Rattle.rg_base.specs.declared.object.Label.TheVariants.{Region, Temp, Frozen}
@@ -14,10 +14,10 @@ use Rattle.rg_rules.specs.Regions.{in_regions}
 use Rattle.rg_sound.proofs.Stores.MemberLemmas.{In, in-left, in-right, in-split}
 use Rattle.rg_code.specs.declared.op.Op.TheVariants as i
 use Rattle.rg_code.specs.Code.{Code}
-use Rattle.rg_stack.specs.Machine.{Frame, Window, Machine, top_slots, end_slots}
+use Rattle.rg_stack.specs.Machine.{Frame, Window, Machine, top_slots, end_slots, place_of}
 use Rattle.rg_stack.specs.Effects.{Work, Go, act, without_top, top_window, beneath_by_labels}
 use Rattle.rg_stack.specs.Needs.{is_open, has_window, label_of, is_into, closed_into, is_outside, owned_once, is_top_temp, is_to_temp, outlives, field_of}
-use Rattle.rg_stack.specs.Needs.{temps_may_go, owner_leads, owner_at, value_at, needs}
+use Rattle.rg_stack.specs.Needs.{top_base, temps_may_go, owner_leads, owner_at, value_at, needs}
 use Rattle.rg_held.specs.Frees.{gone, is_temp, closed_among, closed_by_temps, left_with, window_that_ends, bury, free_act, freed}
 use Rattle.rg_held.specs.Part.{leads_to, SlotInto, FieldInto, Placed, Tidy, Part, is_of, OwnerHeld, OwnersHeld, SomeWindow, is_shut_or_above, may_lead, Differ}
 use Rattle.rg_held.specs.Ends.{Match, SameEnd}
@@ -27,6 +27,7 @@ use Rattle.rg_held.proofs.Places.{and-left, and-right, or-split, not-true, same-
 use Rattle.rg_held.proofs.Places.{closed-back, closed-there}
 use Rattle.rg_held.proofs.Parts.{closed-above, field-frames, closed-same, top-slot}
 use Rattle.rg_held.proofs.Burials.{Burial, left_held, is_buried, NotBelow, temp-label, part-bury}
+use Rattle.rg_held.proofs.Callers.ForgetLemmas.{part-remembers}
 use Rattle.rg_held.proofs.Stack.{match-more}
 use Rattle.rg_held.proofs.Slots.{end-back, part-end}
 use Rattle.rg_held.proofs.Releases.{given-in, given-back, top-into, two-slots, slot-and-field, two-fields, Ending, among-in, among-back}
@@ -444,6 +445,10 @@ module _ (held : ℕ → Truth) (f m : Machine) (s : ℕ) (p : Part held [] f m 
       (owner-placed (left_held held m.store all (Some n)) (record (end_slots f s) { store = bury all (Some n) f.store }) (end_slots m s) buried
       w v rest e o)
 
+or-more : (a b : Truth) → b ≡ true → (a || b) ≡ true
+or-more true b e = refl
+or-more false b e = e
+
 module _ (code : Code) (at : ℕ) (also go : Go) (u w : Work) (taken : Truth) where
   -- behind the end of a window, of which these remain
   abbrev after : (s : ℕ) → Option ℕ → List Window → Work
@@ -463,13 +468,20 @@ module _ (code : Code) (at : ℕ) (also go : Go) (u w : Work) (taken : Truth) wh
       now : Match [] u w []
       now = match-more taken u w [] m
 
+      both : Truth
+      both = owned_once w.machine && temps_may_go (end_slots w.machine s)
+
+      goes : (both && owner_leads (end_slots w.machine s)) ≡ true
+      goes = and-left (both && owner_leads (end_slots w.machine s)) (nat_le (place_of w.machine.frames s) (top_base w.machine.windows)) n
+
       once : owned_once w.machine ≡ true
-      once = and-left (owned_once w.machine) (temps_may_go (end_slots w.machine s))
-          (and-left (owned_once w.machine && temps_may_go (end_slots w.machine s)) (owner_leads (end_slots w.machine s)) n)
+      once = and-left (owned_once w.machine) (temps_may_go (end_slots w.machine s)) (and-left both (owner_leads (end_slots w.machine s)) goes)
 
       may_go : temps_may_go (end_slots w.machine s) ≡ true
-      may_go = and-right (owned_once w.machine) (temps_may_go (end_slots w.machine s))
-          (and-left (owned_once w.machine && temps_may_go (end_slots w.machine s)) (owner_leads (end_slots w.machine s)) n)
+      may_go = and-right (owned_once w.machine) (temps_may_go (end_slots w.machine s)) (and-left both (owner_leads (end_slots w.machine s)) goes)
+
+      leads : owner_leads (end_slots w.machine s) ≡ true
+      leads = and-right both (owner_leads (end_slots w.machine s)) goes
 
       by : (ws : List Window) → w.machine.windows ≡ ws → Match [] (after s (window_that_ends ws) (without_top ws))
           (record w { machine = record (end_slots w.machine s) { windows = without_top ws } }) []
@@ -494,13 +506,15 @@ module _ (code : Code) (at : ℕ) (also go : Go) (u w : Work) (taken : Truth) wh
               subst (λ l. Part held [] (after s None l).machine (record (end_slots w.machine s) { windows = x ∷ [] }) [])
               (now.1.machine.windows ∙ e)
               (subst (λ l. Part held [] (after s None u.machine.windows).machine (record (end_slots w.machine s) { windows = l }) []) e
-              (part-end-freed now.0 u.machine w.machine s now.1.machine once))
+              (part-remembers _ [] _ (end_slots w.machine s) [] (part-end-freed now.0 u.machine w.machine s now.1.machine once) u.machine.windows
+              (λ r o. ap (λ ws. is_open ws r) now.1.machine.windows ∙ o)))
       by (x ∷ v ∷ rest) e = (
         left_held now.0 w.machine.store (beneath_by_labels u.machine.store (length u.machine.managers)
             (closed_among u.machine (drop s (top_slots u.machine.frames)) ++ closed_by_temps u.machine)) (Some x.number),
         record {
-          machine = part-leave now.0 u.machine w.machine s now.1.machine x v rest e once may_go
-              (and-right (owned_once w.machine && temps_may_go (end_slots w.machine s)) (owner_leads (end_slots w.machine s)) n);
+          machine = part-remembers _ [] _ (record (end_slots w.machine s) { windows = v ∷ rest }) []
+              (part-leave now.0 u.machine w.machine s now.1.machine x v rest e once may_go leads) u.machine.windows
+              (λ r o. ap (λ ws. is_open ws r) (now.1.machine.windows ∙ e) ∙ or-more (x.region == r) (is_open (v ∷ rest) r) o);
           input = now.1.input;
           printed = now.1.printed;
         },

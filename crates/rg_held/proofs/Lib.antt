@@ -16,12 +16,10 @@ mod Labels
 mod Consumes
 mod Enters
 pub mod Acts
+mod Less
 pub mod Walking
-pub mod Needs
 pub mod Gather
 mod Examples
 mod Stops
 mod Backs
-pub mod Steps
-mod Opens
-pub mod Runs
+pub mod Callers

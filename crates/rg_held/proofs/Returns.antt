@@ -7,9 +7,9 @@ use Rattle.rg_base.specs.declared.value.Val.{Val}
 use Rattle.rg_sound.proofs.Stores.MemberLemmas.{In}
 use Rattle.rg_code.specs.declared.op.Op.TheVariants as i
 use Rattle.rg_code.specs.Code.{Code}
-use Rattle.rg_stack.specs.Machine.{Frame, Machine, top_slots, slot_at, end_slots, slots_below}
+use Rattle.rg_stack.specs.Machine.{Frame, Machine, top_slots, slot_at, put_slot, end_slots, slots_below}
 use Rattle.rg_stack.specs.Effects.{Work, Returns, Stuck, Go, act, stored, returned, begins_by, beneath_by_labels}
-use Rattle.rg_stack.specs.Needs.{is_open, is_into, loose, owned_once, owns_or_nil, places_into, size_of, needs}
+use Rattle.rg_stack.specs.Needs.{is_open, is_into, loose, owned_once, owns_or_nil, places_into, size_of, may_keep, needs}
 use Rattle.rg_held.specs.Frees.{closed_among, bury, free_act, freed, given_up}
 use Rattle.rg_held.specs.Part.{leads_to, SlotInto, Part}
 use Rattle.rg_held.specs.Ends.{Match, SameEnd}
@@ -17,6 +17,7 @@ use Rattle.rg_held.specs.Laws.{owners_of, GoesOn}
 use Rattle.rg_held.proofs.Lists.{some-is, none-some, off, any-at, at-any, any-left, any-right, any-split}
 use Rattle.rg_held.proofs.Places.{and-left, and-right, or-split, ClosedRef}
 use Rattle.rg_held.proofs.Parts.{field-frames, part-stack, part-frames, lead-any}
+use Rattle.rg_held.proofs.Callers.ForgetLemmas.{part-remembers}
 use Rattle.rg_held.proofs.Burials.{left_held, part-bury}
 use Rattle.rg_held.proofs.Stack.{match-more}
 use Rattle.rg_held.proofs.Releases.{Loose, loose-one, top-into, two-slots, slot-and-field, two-fields, no-place-slot, no-place-field, plain-burial}
@@ -162,6 +163,11 @@ returned-same u w stack frames windows match =
         (returned w (x ∷ g ∷ gs) stack)) (sym windows) (last x g gs e (begins_by w.machine.windows (slots_below (g ∷ gs))))
 
 module _ (code : Code) (at : ℕ) (also go : Go) (u w : Work) (taken : Truth) where
+  -- what is open was open in front of the instruction
+  was-open : (held : ℕ → Truth) (owners stack : List Val) → Part held owners u.machine w.machine stack → (r : ℕ)
+      → is_open w.machine.windows r ≡ true → is_open u.machine.windows r ≡ true
+  was-open held owners stack p r e = ap (λ ws. is_open ws r) p.windows ∙ e
+
   pub own-same : (s : ℕ) (stack : List Val) → needs code (i.Own s) stack w.machine ≡ true → Match (owners_of taken stack) u w stack
       → GoesOn true also go → SameEnd (free_act code at (i.Own s) also stack u) (act code at (i.Own s) go stack w)
   own-same s [] n m next = tt
@@ -170,16 +176,19 @@ module _ (code : Code) (at : ℕ) (also go : Go) (u w : Work) (taken : Truth) wh
       let now = match-more taken u w (v ∷ []) m in
       let room = nat_lt s (size_of w.machine) in
       let first = room && owned_once w.machine in
-      let both = and-left first (owns_or_nil w.machine (slot_at w.machine s))
-      (and-left (first && owns_or_nil w.machine (slot_at w.machine s)) (loose w.machine v) n) in
+      let owns = first && owns_or_nil w.machine (slot_at w.machine s) in
+      let goes = and-left (owns && loose w.machine v) (may_keep w.machine s v) n in
+      let both = and-left first (owns_or_nil w.machine (slot_at w.machine s)) (and-left owns (loose w.machine v) goes) in
       let less = and-left room (owned_once w.machine) both in
       let once = and-right room (owned_once w.machine) both in
-      let free = and-right (first && owns_or_nil w.machine (slot_at w.machine s)) (loose w.machine v) n in
+      let free = and-right owns (loose w.machine v) goes in
       next [] (stored (freed (given_up (i.Own s) (v ∷ []) u.machine) u) s v) (stored w s v) (
         left_held now.0 w.machine.store
             (beneath_by_labels u.machine.store (length u.machine.managers) (closed_among u.machine (slot_at u.machine s ∷ []))) None,
         record {
-          machine = part-own now.0 u.machine w.machine v s now.1.machine less once free;
+          machine = part-remembers _ [] _ (put_slot w.machine s v) []
+              (part-own now.0 u.machine w.machine v s now.1.machine less once free) u.machine.windows
+              (was-open now.0 (v ∷ []) (v ∷ []) now.1.machine);
           input = now.1.input;
           printed = now.1.printed;
         },
@@ -195,7 +204,8 @@ module _ (code : Code) (at : ℕ) (also go : Go) (u w : Work) (taken : Truth) wh
       (record w { machine = end_slots w.machine s }) (
         left_held now.0 w.machine.store all None,
         record {
-          machine = part-end-freed now.0 u.machine w.machine s now.1.machine n;
+          machine = part-remembers _ [] _ (end_slots w.machine s) [] (part-end-freed now.0 u.machine w.machine s now.1.machine n) u.machine.windows
+              (was-open now.0 [] [] now.1.machine);
           input = now.1.input;
           printed = now.1.printed;
         },
@@ -212,7 +222,8 @@ module _ (code : Code) (at : ℕ) (also go : Go) (u w : Work) (taken : Truth) wh
       next [] (freed (given_up i.Drop (v ∷ []) u.machine) u) w (
         left_held now.0 w.machine.store (beneath_by_labels u.machine.store (length u.machine.managers) (closed_among u.machine (v ∷ []))) None,
         record {
-          machine = part-drop now.0 u.machine w.machine v now.1.machine free once;
+          machine = part-remembers _ [] _ w.machine [] (part-drop now.0 u.machine w.machine v now.1.machine free once) u.machine.windows
+              (was-open now.0 (v ∷ []) (v ∷ []) now.1.machine);
           input = now.1.input;
           printed = now.1.printed;
         },
@@ -234,7 +245,9 @@ module _ (code : Code) (at : ℕ) (also go : Go) (u w : Work) (taken : Truth) wh
     left_held now.0 w.machine.store
         (beneath_by_labels u.machine.store (length u.machine.managers) (closed_among u.machine (top_slots u.machine.frames))) None,
     record {
-      machine = part-return now.0 u.machine w.machine stack x (g ∷ gs) e now.1.machine once free;
+      machine = part-remembers _ stack _ (record w.machine { frames = g ∷ gs }) stack
+          (part-return now.0 u.machine w.machine stack x (g ∷ gs) e now.1.machine once free) u.machine.windows
+          (was-open now.0 stack stack now.1.machine);
       input = now.1.input;
       printed = now.1.printed;
     },

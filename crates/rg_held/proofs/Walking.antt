@@ -12,13 +12,15 @@ use Rattle.rg_stack.specs.Needs.{is_empty, needs}
 use Rattle.rg_stack.specs.Given.{given_walk}
 use Rattle.rg_stack.specs.Refusals.{Manner, Ends, Clears, Settles, Takes, Computes, Prepares, Calls, Chooses, Passes, manner, room_behind, calm_by}
 use Rattle.rg_stack.specs.Refusals.{calm, computes, all_compute, orderly_by, orderly}
-use Rattle.rg_held.specs.Frees.{free_act, free_walk}
+use Rattle.rg_held.specs.Frees.{free_act, free_walk, free_given_walk}
 use Rattle.rg_held.specs.Ends.{Match, SameEnd}
 use Rattle.rg_held.specs.Laws.{owners_of, may_follow, taken_behind, goes_on, skipped, GoesTo, InOrder, WalksSame}
 use Rattle.rg_held.proofs.Lists.{some-is, none-some, off}
 use Rattle.rg_held.proofs.Places.{and-left, and-right}
 use Rattle.rg_held.proofs.Easy.{stop-same}
 use Rattle.rg_held.proofs.Acts.{act-same}
+use Rattle.rg_held.proofs.Callers.NeedLemmas.{needs-same}
+use Rattle.rg_held.proofs.Less.{Less, walk-less}
 
 stuck-same : (x : Walked) → SameEnd x Stuck
 stuck-same (Stops at w) = tt
@@ -107,14 +109,14 @@ passed code at room (Passes t) os c r e h = and-right (all_compute (t - (at + 1)
 -- a walk to a mark
 mark-same : (code : Code) (line : ℕ) (os : List Op) (at skip : ℕ) (taken : Truth) (stack : List Val) (u w : Work)
     → slice_get os skip ≡ Some (i.Mark line) → Match (owners_of taken stack) u w stack
-    → SameEnd (free_walk code os at skip stack u) (given_walk code os at skip stack w)
+    → SameEnd (free_given_walk code os at skip stack u) (given_walk code os at skip stack w)
 mark-same code line [] at skip taken stack u w e m = none-some (i.Mark line) e
 mark-same code line (o ∷ os) at (suc k) taken stack u w e m = mark-same code line os (at + 1) k taken stack u w e m
 mark-same code line (o ∷ os) at zero taken stack u w e m =
-    subst (λ o. SameEnd (free_walk code (o ∷ os) at 0 stack u) (given_walk code (o ∷ os) at 0 stack w)) (sym (some-is o (i.Mark line) e))
+    subst (λ o. SameEnd (free_given_walk code (o ∷ os) at 0 stack u) (given_walk code (o ∷ os) at 0 stack w)) (sym (some-is o (i.Mark line) e))
     (by (is_empty stack) refl)
   where
-    by : (b : Truth) → is_empty stack ≡ b → SameEnd (Stops at u) (if b then Stops at w else Stuck)
+    by : (b : Truth) → is_empty stack ≡ b → SameEnd (if b then Stops at u else Stuck) (if b then Stops at w else Stuck)
     by true h = (refl, stop-same at taken stack u w h m)
     by false h = tt
 
@@ -127,8 +129,8 @@ Ahead code at room taken skip os = ((skip ≡ 0) × InOrder code at room taken o
 act-by : (code : Code) (o : Op) (os : List Op) (at : ℕ) (room taken : Truth) (stack : List Val) (u w : Work) → drop (at + 1) code.ops ≡ os
     → InOrder code.ops at room taken (o ∷ os) → Match (owners_of taken stack) u w stack
     → ((r t : Truth) (k : ℕ) (st : List Val) (x y : Work) → Ahead code.ops (at + 1) r t k os → Match (owners_of t st) x y st
-    → SameEnd (free_walk code os (at + 1) k st x) (given_walk code os (at + 1) k st y))
-    → SameEnd (free_walk code (o ∷ os) at 0 stack u) (given_walk code (o ∷ os) at 0 stack w)
+    → SameEnd (free_given_walk code os (at + 1) k st x) (given_walk code os (at + 1) k st y))
+    → SameEnd (free_given_walk code (o ∷ os) at 0 stack u) (given_walk code (o ∷ os) at 0 stack w)
 act-by code o os at room taken stack u w here h m rest = by (needs code o stack w.machine) refl
   where
     r : Truth
@@ -140,7 +142,7 @@ act-by code o os at room taken stack u w here h m rest = by (needs code o stack 
     t : Turn code.ops at room taken (manner o) os
     t = turn code.ops at room taken o os h
 
-    on : goes_on (manner o) ≡ true → GoesTo 0 behind (free_walk code os (at + 1)) (given_walk code os (at + 1))
+    on : goes_on (manner o) ≡ true → GoesTo 0 behind (free_given_walk code os (at + 1)) (given_walk code os (at + 1))
     on e st x y = rest r behind 0 st x y (inl (refl, t.on e))
 
     orderly-if : (b : Truth) → b ≡ false → InOrder code.ops (at + 1) r b os → orderly code.ops (at + 1) r os ≡ true
@@ -154,7 +156,7 @@ act-by code o os at room taken stack u w here h m rest = by (needs code o stack 
 
     to-by : goes_on (manner o) ≡ true → (k : ℕ) → (k ≡ 0) ⊎ (((behind ≡ false) × (all_compute k os ≡ true))
         ⊎ ((j : ℕ) × (k ≡ j - (at + 1)) × (is_mark (slice_get code.ops j) ≡ true)))
-        → GoesTo k behind (free_walk code os (at + 1)) (given_walk code os (at + 1))
+        → GoesTo k behind (free_given_walk code os (at + 1)) (given_walk code os (at + 1))
     to-by e k (inl z) st x y n = rest r behind k st x y (inl (z, t.on e)) n
     to-by e k (inr (inl q)) st x y n = rest r behind k st x y (inr (q.0, (q.1, orderly-if behind q.0 (t.on e)))) n
     to-by e k (inr (inr q)) st x y n = elim (far k q.0 q.1 (mark-there (slice_get code.ops q.0) q.2).0 (mark-there (slice_get code.ops q.0) q.2).1) [
@@ -162,15 +164,17 @@ act-by code o os at room taken stack u w here h m rest = by (needs code o stack 
       | inr is ↦ mark-same code (mark-there (slice_get code.ops q.0) q.2).0 os (at + 1) k behind st x y is n
     ]
 
-    by : (b : Truth) → needs code o stack w.machine ≡ b → SameEnd (free_act code at o (free_walk code os (at + 1)) stack u)
+    by : (b : Truth) → needs code o stack w.machine ≡ b → SameEnd (free_given_walk code (o ∷ os) at 0 stack u)
         (if b then act code at o (given_walk code os (at + 1)) stack w else Stuck)
-    by false n = stuck-same (free_act code at o (free_walk code os (at + 1)) stack u)
-    by true n = act-same o code at (free_walk code os (at + 1)) (given_walk code os (at + 1)) taken stack u w t.allowed n m on
-        (λ e. to-by e (skipped at (manner o)) (t.to e))
+    by false n = stuck-same (free_given_walk code (o ∷ os) at 0 stack u)
+    by true n = subst (λ b. SameEnd (if b then free_act code at o (free_given_walk code os (at + 1)) stack u else Stuck)
+        (act code at o (given_walk code os (at + 1)) stack w)) (sym (needs-same code o (owners_of taken stack) stack u w m n))
+        (act-same o code at (free_given_walk code os (at + 1)) (given_walk code os (at + 1)) taken stack u w t.allowed n m on
+        (λ e. to-by e (skipped at (manner o)) (t.to e)))
 
 walk-same : (code : Code) (os : List Op) (at : ℕ) (room taken : Truth) (skip : ℕ) (stack : List Val) (u w : Work) → drop at code.ops ≡ os
     → Ahead code.ops at room taken skip os → Match (owners_of taken stack) u w stack
-    → SameEnd (free_walk code os at skip stack u) (given_walk code os at skip stack w)
+    → SameEnd (free_given_walk code os at skip stack u) (given_walk code os at skip stack w)
 walk-same code [] at room taken skip stack u w here ahead m = tt
 walk-same code (o ∷ os) at room taken (suc k) stack u w here (inl h) m = absurd (let e = h.0 in omega (arith, e))
 walk-same code (o ∷ os) at room taken (suc k) stack u w here (inr h) m =
@@ -192,5 +196,25 @@ walk-same code (o ∷ os) at room taken zero stack u w here ahead m =
     in-order (inl h) = h.1
     in-order (inr h) = subst (λ t. InOrder code.ops at room t (o ∷ os)) (sym h.0) h.1.1
 
+-- where each instruction over the growing store is given what it needs, it is so in the machine that frees
+pub given-walks-same : (code : Code) (at : ℕ) (room taken : Truth) (stack : List Val) (u w : Work) → InOrder code.ops at room taken (drop at code.ops)
+    → Match (owners_of taken stack) u w stack
+    → SameEnd (free_given_walk code (drop at code.ops) at 0 stack u) (given_walk code (drop at code.ops) at 0 stack w)
+given-walks-same code at room taken stack u w h m =
+    walk-same code (drop at code.ops) at room taken 0 stack u w refl (inl (refl, h)) m
+
+less-end : (x y z : Walked) → Less x y → SameEnd x z → SameEnd y z
+less-end x y z (inr same) h = subst (λ q. SameEnd q z) same h
+less-end x y z (inl stuck) h = by z (subst (λ q. SameEnd q z) stuck h)
+  where
+    by : (z : Walked) → SameEnd Stuck z → SameEnd y z
+    by (Stops at w) h = absurd h
+    by (Returns back stack w) h = absurd h
+    by (Traps t) h = absurd h
+    by Stuck h = stuck-same y
+
 pub walks-same : WalksSame
-walks-same code at room taken stack u w h m = walk-same code (drop at code.ops) at room taken 0 stack u w refl (inl (refl, h)) m
+walks-same code at room taken stack u w h m =
+    less-end (free_given_walk code (drop at code.ops) at 0 stack u) (free_walk code (drop at code.ops) at 0 stack u)
+    (given_walk code (drop at code.ops) at 0 stack w) (walk-less code (drop at code.ops) at 0 stack u)
+    (given-walks-same code at room taken stack u w h m)

@@ -1,4 +1,4 @@
--- Walks, steps and runs of the machine that frees end as those over the growing store do (docs/architecture.md, "The stack machine").
+-- Walks, steps and runs of the machine that frees end as those over the growing store do (docs/architecture.md, "The machine that frees").
 use Rattle.std.specs.Prelude.{◌≡◌, ℕ, Bool as Truth, List, []}
 use Rattle.rg_base.specs.declared.value.Val.{Val}
 use Rattle.rg_stack.specs.Effects.{Work, Walked, Stops, Returns, Traps, Stuck}

@@ -1,5 +1,5 @@
 -- What a collection of the active region keeps, and what goes with the objects that it doesn't: the closed regions that these owned, and all
--- beneath them (docs/architecture.md, "The stack machine").
+-- beneath them (docs/architecture.md, "The machine that frees").
 use Rattle.std.specs.Prelude.{◌≡◌, ℕ, ◌≤◌, Bool as Truth, true, false, List, [], ◌∷◌, length, drop, Some, None, option_map, slice_get}
 use Rattle.rg_base.specs.declared.object.Label.TheVariants.{Region, Temp}
 use Rattle.rg_base.specs.declared.object.Seen.{Seen}
@@ -13,15 +13,10 @@ use Rattle.rg_sound.specs.Fit.{Fit}
 use Rattle.rg_code.specs.Code.{Code}
 use Rattle.rg_stack.specs.Machine.{Frame, Window, Machine, place_of}
 use Rattle.rg_stack.specs.Effects.{top_region, top_window}
-use Rattle.rg_stack.specs.Needs.{value_at}
+use Rattle.rg_stack.specs.Needs.{top_base, value_at}
 use Rattle.rg_stack.specs.Shows.{Shows}
 use Rattle.rg_held.specs.Frees.{gone}
 use Rattle.rg_held.specs.Part.{Part}
-
--- where the slots of the topmost window begin, among those of all frames
-abbrev pub top_base : List Window → ℕ
-top_base [] = 0
-top_base (w ∷ ws) = w.base
 
 -- the value of the topmost window's owner reference; the lowest window has none
 abbrev pub bridge_value : Machine → List Window → Val

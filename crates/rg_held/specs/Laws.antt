@@ -10,12 +10,12 @@ use Rattle.rg_code.specs.declared.op.Op.{Op}
 use Rattle.rg_code.specs.Code.{Code}
 use Rattle.rg_code.specs.Lowering.{Lowers}
 use Rattle.rg_stack.specs.Effects.{Work, Go, act}
-use Rattle.rg_stack.specs.Runs.{step, coded}
+use Rattle.rg_stack.specs.Runs.{Lost, step, coded}
 use Rattle.rg_stack.specs.Simulates.{Holds, SomeLeft}
 use Rattle.rg_stack.specs.Needs.{needs}
 use Rattle.rg_stack.specs.Refusals.{Manner, Ends, Clears, Settles, Takes, Computes, Prepares, Calls, Chooses, Passes, manner, calm, orderly}
 use Rattle.rg_stack.specs.Given.{given_walk}
-use Rattle.rg_held.specs.Frees.{free_act, free_walk, free_step, free_coded}
+use Rattle.rg_held.specs.Frees.{free_act, free_walk, free_step, free_given_step, free_coded}
 use Rattle.rg_held.specs.Ends.{Match, SameEnd, SameStep, SameRun}
 
 -- the values that count as owners: all on the stack, behind what takes an owner reference from its place, and else none
@@ -113,6 +113,12 @@ WalksSame = (code : Code) (at : ℕ) (room taken : Truth) (stack : List Val) (u 
 abbrev pub StepsSame : Type 0
 StepsSame = (t : Tree) (code : Code) (u w : Work) (p : State) → Accepted t → Lowers t code → Fit t p → Holds t.classes code w p
     → w.printed ≡ None → SomeLeft p.items → Match [] u w [] → SameStep (free_step code u) (step code w)
+
+-- in such a step each instruction is given what it needs, in the machine that frees too
+abbrev pub FreeGivenSame : Type 0
+FreeGivenSame = (t : Tree) (code : Code) (u w : Work) (p : State) → Accepted t → Lowers t code → Fit t p → Holds t.classes code w p
+    → w.printed ≡ None → SomeLeft p.items → Match [] u w []
+    → (free_given_step code u ≡ free_step code u) × (free_given_step code u ≡ Lost → ⊥)
 
 -- and so each run of an accepted program does
 abbrev pub RunsSame : Type 0

@@ -1,7 +1,8 @@
 //! The laws of the machine that frees, each as the contract of a function that does nothing
-//! (docs/architecture.md, "The stack machine").
+//! (docs/architecture.md, "The machine that frees").
 
-ghost use Rattle.rg_held.specs.Laws.{InstructionsSame, NeedsSame, RunsSame, StepsSame, WalksSame};
+ghost use Rattle.rg_held.specs.Laws.{FreeGivenSame, InstructionsSame, NeedsSame, RunsSame};
+ghost use Rattle.rg_held.specs.Laws.{StepsSame, WalksSame};
 ghost use Rattle.rg_held.specs.Gather.{GathersFit};
 
 /// What an instruction needs over the growing store, it has in the machine that frees too: what
@@ -26,6 +27,11 @@ pub fn walks_same()
 /// both trap, at the same line, and what is held behind it is the same in both.
 pub fn steps_same()
     ensures { StepsSame }
+{}
+
+/// In such a step the machine that frees, too, has in front of each instruction what it needs.
+pub fn free_given_same()
+    ensures { FreeGivenSame }
 {}
 
 /// And so does each run of an accepted program: as many steps, the same output and the same ending.

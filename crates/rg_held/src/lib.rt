@@ -1,12 +1,14 @@
 //! The stack machine that frees, against the one over a store that only grows
-//! (docs/architecture.md, "The stack machine"). Each law is a function whose contract it is:
+//! (docs/architecture.md, "The machine that frees"). Each law is a function whose contract it is:
 //! `needs_same` of what an instruction needs, `instructions_same` of what it does, from that
 //! `walks_same` of a walk, from that `steps_same` of a step and `runs_same` of a run;
-//! `collections_same` of a collection between two steps.
+//! `free_given_same` of what a step's instructions need, `collections_same` of a collection between
+//! two steps.
 #![tactic(auto)]
 
 mod laws;
 
 pub use laws::{
-    collections_same, instructions_same, needs_same, runs_same, steps_same, walks_same,
+    collections_same, free_given_same, instructions_same, needs_same, runs_same, steps_same,
+    walks_same,
 };

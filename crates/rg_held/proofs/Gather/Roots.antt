@@ -30,9 +30,9 @@ use Rattle.rg_sound.proofs.Stores.MemberLemmas.{In, in-among}
 use Rattle.rg_code.specs.Code.{Code}
 use Rattle.rg_stack.specs.Machine.{Frame, Window, Machine, slots_below, place_of}
 use Rattle.rg_stack.specs.Effects.{top_region, top_window}
-use Rattle.rg_stack.specs.Needs.{has_window, field_of, value_at}
+use Rattle.rg_stack.specs.Needs.{has_window, field_of, value_at, top_base}
 use Rattle.rg_stack.specs.Shows.{Shows, ShowsFrame, ShowsFrames, ShowsWindows, place_among, sizes_of}
-use Rattle.rg_held.specs.Gather.{top_base, bridge_value, Keeps}
+use Rattle.rg_held.specs.Gather.{bridge_value, Keeps}
 use Rattle.rg_held.proofs.Lists.{some-is, none-some, off, push-last, push-below, get-below, replicate-back}
 use Rattle.rg_held.proofs.Places.{and-left, and-right, or-split, same-number, either}
 use Rattle.rg_held.proofs.Gather.Frees.{Outside}

@@ -22,9 +22,10 @@ use Rattle.rg_rules.specs.Regions.{address}
 use Rattle.rg_code.specs.declared.op.Op.{Op}
 use Rattle.rg_code.specs.declared.op.Op.TheVariants as i
 use Rattle.rg_code.specs.Code.{Code}
-use Rattle.rg_stack.specs.Machine.{Frame, Window, Machine, top_slots, slot_at, end_slots}
+use Rattle.rg_stack.specs.Machine.{Frame, Window, Machine, top_slots, slot_at, end_slots, place_of}
 use Rattle.rg_stack.specs.Needs.{is_open, label_of, lies_in, is_into, closed_of, closed_into, is_closed, is_outside, slots_into, fields_into}
 use Rattle.rg_stack.specs.Needs.{places_into, all_below, owned_once, loose, owns_or_nil, is_top_temp, is_to_temp, outlives, temps_may_go, is_writable}
+use Rattle.rg_stack.specs.Needs.{top_base, is_open_label, may_keep}
 use Rattle.rg_stack.specs.Needs.{may_stand, field_of, of_object, is_field, value_at, owner_leads, is_empty, of_top, needs}
 use Rattle.rg_held.specs.Frees.{gone}
 use Rattle.rg_held.specs.Part.{leads_to, AllLead, Part, OwnerHeld, OwnersHeld}
@@ -166,6 +167,10 @@ module _ (held : ℕ → Truth) (store : List Seen) (managers : List Manager) (m
       by : (f : Option Val) → slice_get o.fields k ≡ f → leads_to held (unwrap_or f val.Nil) ≡ true
       by None e = refl
       by (Some v) e = b.fields a o k v h there e
+
+  keep-over : (s : ℕ) (v : Val) → leads_to held v ≡ true → may_keep g s v ≡ may_keep m s v
+  keep-over s v h = ap (λ (o : Option Label). nat_le (top_base m.windows) (place_of m.frames s)
+      || not (elim o [ None ↦ false | Some l ↦ is_open_label m.windows l ])) (label-over v h)
 
   object-leads : (v : Val) (o : Seen) (k : ℕ) → leads_to held v ≡ true → object_at m.store v ≡ Ok o → leads_to held (field_of o k) ≡ true
   object-leads val.Nil o k h e = absurd (grind arith)
@@ -390,6 +395,9 @@ module _ (held : ℕ → Truth) (store : List Seen) (managers : List Manager) (m
   let-go : (v : Val) → leads_to held v ≡ true → loose m v ≡ true → loose f v ≡ true
   let-go = loose-over held store managers m b
 
+  may-keep : (s : ℕ) (v : Val) → leads_to held v ≡ true → may_keep m s v ≡ true → may_keep f s v ≡ true
+  may-keep s v l e = keep-over held store managers m b s v l ∙ e
+
   -- what a slot owns is on the stack
   clear-more : (s : ℕ) (stack : List Val) → AllLead held stack
       → elim (closed_into m (slot_at m s)) [ None ↦ true | Some r ↦ list_any (is_into m.store r) stack ] ≡ true
@@ -442,6 +450,20 @@ module _ (held : ℕ → Truth) (store : List Seen) (managers : List Manager) (m
       → (not (list_any (is_closed f) stack) && owned_once f && owns_or_nil f (slot_at m s)) ≡ true
   whole-more s stack a e = and-more _ _ _ _ e (λ e. and-more _ _ _ _ e (stack-shut stack a) once) (slot-owns s)
 
+  -- the topmost window may end
+  leave-more : (s : ℕ) (stack : List Val)
+      → (is_empty stack && owned_once m && temps_may_go (end_slots m s) && owner_leads (end_slots m s)
+      && nat_le (place_of m.frames s) (top_base m.windows)) ≡ true
+      → (is_empty stack && owned_once f && temps_may_go (end_slots f s) && owner_leads (end_slots f s)
+      && nat_le (place_of m.frames s) (top_base m.windows)) ≡ true
+  leave-more s stack e =
+      let below = nat_le (place_of m.frames s) (top_base m.windows) in
+      and-more (is_empty stack && owned_once m && temps_may_go (end_slots m s) && owner_leads (end_slots m s)) below
+      (is_empty stack && owned_once f && temps_may_go (end_slots f s) && owner_leads (end_slots f s)) below e
+      (λ e. and-more _ _ _ _ e (λ e. and-more _ _ _ _ e (λ e. and-more _ _ _ _ e (λ e. e) once)
+      (temps-over held store managers (end_slots m s) (beside-end held store managers m s b)))
+      (leads-over held store managers (end_slots m s) (beside-end held store managers m s b))) (λ e. e)
+
   needs-over : (code : Code) (o : Op) (stack : List Val) → AllLead held stack → needs code o stack m ≡ true → needs code o stack f ≡ true
   needs-over code (i.Mark line) stack a e = e
   needs-over code (i.Int z) stack a e = e
@@ -449,10 +471,12 @@ module _ (held : ℕ → Truth) (store : List Seen) (managers : List Manager) (m
   needs-over code i.Nil stack a e = e
   needs-over code (i.Load s) stack a e = e
   needs-over code (i.Clear s) stack a e = and-more _ _ _ _ e once (clear-more s stack a)
-  needs-over code (i.Store s) stack a e = top-more stack _ _ a e (λ v rest l a e. and-more _ _ _ _ e (λ e. e) (slot-shut s))
+  needs-over code (i.Store s) stack a e = top-more stack _ _ a e (λ v rest l a e. and-more _ _ _ _ e
+      (λ e. and-more _ _ _ _ e (λ e. e) (slot-shut s)) (may-keep s v l))
   needs-over code (i.Own s) stack a e = top-more stack _ _ a e (λ v rest l a e. and-more _ _ _ _ e (λ e. and-more _ _ _ _ e
-      (λ e. and-more _ _ _ _ e (λ e. e) once) (slot-owns s)) (let-go v l))
-  needs-over code (i.Field k) stack a e = top-more stack _ _ a e (λ v rest l a e. object-more v _ _ l e (λ o h e. e))
+      (λ e. and-more _ _ _ _ e (λ e. and-more _ _ _ _ e (λ e. e) once) (slot-owns s)) (let-go v l)) (may-keep s v l))
+  needs-over code (i.Field k) stack a e =
+      top-more stack _ _ a e (λ v rest l a e. object-more v _ _ l e (λ o h e. and-more _ _ _ _ e (λ e. e) (shut v l)))
   needs-over code i.IsNil stack a e = e
   needs-over code i.Neg stack a e = e
   needs-over code i.Add stack a e = e
@@ -494,9 +518,7 @@ module _ (held : ℕ → Truth) (store : List Seen) (managers : List Manager) (m
   needs-over code (i.EnterField k z) stack a e = top-more stack _ _ a e (λ r rest l a e. and-more _ _ _ _ e (λ e. e)
       (λ e. object-more r _ _ l e (λ o h e. and-more _ _ _ _ e (λ e. and-more _ _ _ _ e
       (λ e. and-more _ _ _ _ e once (field-may k o)) (owns (field_of o k) (h k))) (slot-shut z))))
-  needs-over code (i.Leave s) stack a e = and-more _ _ _ _ e (λ e. and-more _ _ _ _ e (λ e. and-more _ _ _ _ e (λ e. e) once)
-      (temps-over held store managers (end_slots m s) (beside-end held store managers m s b)))
-      (leads-over held store managers (end_slots m s) (beside-end held store managers m s b))
+  needs-over code (i.Leave s) stack a e = leave-more s stack e
   needs-over code (i.End s) stack a e = and-more _ _ _ _ e (λ e. e) once
   needs-over code i.Print stack a e = top-more stack _ _ a e (λ v rest l a e. and-more _ _ _ _ e (λ e. e) (shut v l))
   needs-over code i.Collect stack a e = e

@@ -20,8 +20,8 @@ use Rattle.rg_stack.proofs.Callers.OpeningLemmas.{opening-shows, opening-fit}
 use Rattle.rg_held.specs.Frees.{free_coded_from, free_step}
 use Rattle.rg_held.specs.Ends.{Match, SameStep, SameRun}
 use Rattle.rg_held.specs.Laws.{RunsSame}
-use Rattle.rg_held.proofs.Opens.{opening-match}
-use Rattle.rg_held.proofs.Steps.{steps-same}
+use Rattle.rg_held.proofs.Callers.OpeningLemmas.{opening-match}
+use Rattle.rg_held.proofs.Callers.StepLemmas.{steps-same}
 
 -- what was printed is said
 quiet-match : (u w : Work) → Match [] u w [] → Match [] (record u { printed = None }) (record w { printed = None }) []

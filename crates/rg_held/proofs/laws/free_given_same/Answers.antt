@@ -1,0 +1,5 @@
+use Rattle.rg_held.proofs.Callers.StepLemmas.{free-given-same}
+use Rattle.rg_held.proofs.laws.free_given_same.Goals as goal
+
+pub returns : goal.returns
+returns c = free-given-same
