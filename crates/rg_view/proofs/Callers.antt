@@ -21,3 +21,7 @@ pub mod TempLemmas
 pub mod KeyLemmas
 pub mod MachineLemmas
 pub mod HeldLemmas
+pub mod BeneathLemmas
+pub mod ForgetLemmas
+pub mod OnceLemmas
+pub mod AfterLemmas

@@ -1,4 +1,4 @@
--- Regions to which fields lead, as the machine's store shows them (docs/architecture.md, "The stack machine").
+-- Regions to which fields lead, as the machine's store shows them (docs/architecture.md, "The machine that frees").
 use Rattle.std.specs.Prelude.{◌≡◌, ℕ, true, List, Some, slice_get}
 use Rattle.rg_base.specs.declared.object.Label.TheVariants.{Region}
 use Rattle.rg_base.specs.declared.object.Seen.{Seen}

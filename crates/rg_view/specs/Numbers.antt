@@ -1,8 +1,12 @@
 -- The numbers of regions (docs/architecture.md, "Regions").
-use Rattle.std.specs.Prelude.{◌≡◌, ◌<◌, ℕ, Some}
+use Rattle.std.specs.Prelude.{◌≡◌, ◌≢◌, ◌<◌, ℕ, Some, IsSome}
 use Rattle.rg_regions.specs.Table.{Record, RegionTable, record_at}
 
 -- they are below the next one, and differ
 pub record Numbers (t : RegionTable) : Type 0 where
   pub below : (key : ℕ) (r : Record) → record_at t key ≡ Some r → r.number < t.next
   pub differ : (key other : ℕ) (r u : Record) → record_at t key ≡ Some r → record_at t other ≡ Some u → r.number ≡ u.number → key ≡ other
+
+-- each region but region 0 has a bridge
+abbrev pub HasBridges : RegionTable → Type 0
+HasBridges t = (key : ℕ) (r : Record) → record_at t key ≡ Some r → r.number ≢ 0 → IsSome r.bridge

@@ -1,3 +1,3 @@
-//! The stack machine that a heap with its frames shows (docs/architecture.md, "The stack machine"):
+//! The stack machine that a heap with its frames shows (docs/architecture.md, "The machine that frees"):
 //! definitions, and laws for the crates that run code over a heap.
 #![tactic(auto)]

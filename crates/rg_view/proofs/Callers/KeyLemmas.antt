@@ -31,7 +31,7 @@ key-names h t key top regions has n = record {
   only = λ r e. (top, has, n.only r e);
 }
 
-among-append : (ns ms : List ℕ) (n : ℕ) → among (ns ++ ms) n ≡ (among ns n || among ms n)
+pub among-append : (ns ms : List ℕ) (n : ℕ) → among (ns ++ ms) n ≡ (among ns n || among ms n)
 among-append [] ms n = refl
 among-append (m ∷ ns) ms n = by (m == n) (among-append ns ms n)
   where

@@ -4,7 +4,7 @@ use Rattle.std.proofs.Common.{slice_index_or, refl, sym, ap, ◌∙◌, arith}
 use Rattle.rg_regions.specs.Grove.{Grove}
 use Rattle.rg_frames.specs.Stack.{Stack, has_region, mark}
 use Rattle.rg_heap.specs.Parts.{Parts}
-use Rattle.rg_heap.specs.Ends.{CanLeave, top_temps}
+use Rattle.rg_heap.specs.Ends.{CanLeave, OneOutside, top_temps}
 use Rattle.rg_heap.specs.Opened.{Opened, IsTempOf}
 use Rattle.rg_view.proofs.ListLemmas.{eq-is}
 use Rattle.rg_view.proofs.Callers.FrameLemmas.{there}
@@ -46,8 +46,8 @@ module _ (p : Parts) (v : Stack) (g : Grove p.cells p.regions) (o : Opened p v) 
   top-place : (i s : ℕ) → slice_get (top_temps v) i ≡ Some s → slice_get v.temps (mark v + i) ≡ Some s
   top-place i s e = sym (get-drop (mark v) i v.temps) ∙ e
 
-  pub can-leave : CanLeave p v
-  can-leave = record {
+  pub can-leave : OneOutside p v → CanLeave p v
+  can-leave once = record {
     first = λ key n.
         let w = there v.windows 0 o.some in
         let same : w.0.region ≡ key = g.numbers w.0.region key 0 (o.first w.0 w.1) n in
@@ -60,5 +60,5 @@ module _ (p : Parts) (v : Stack) (g : Grove p.cells p.regions) (o : Opened p v) 
         let same = o.once (mark v + i) (mark v + j) s (top-place i s e) (top-place j s f) in
         omega (arith, same);
     lead = λ i s e. o.lead (mark v + i) s (top-place i s e);
-    one_outside = o.one_outside;
+    one_outside = once;
   }

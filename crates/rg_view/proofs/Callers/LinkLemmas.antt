@@ -84,7 +84,7 @@ region-is (Region q) r e = ap Region (same_Some q r e)
 region-is (Temp n) r e = absurd (none-some r e)
 region-is Frozen r e = absurd (none-some r e)
 
-gone-region : (r : ℕ) → gone.label ≡ Region r → ⊥
+pub gone-region : (r : ℕ) → gone.label ≡ Region r → ⊥
 gone-region r e = let c : None ≡ Some r = ap region_of e in none-some r c
 
 label-in : (h : Heap) (s : ℕ) (b : Body) (l : Label) → body_at h s ≡ Some b → b.label ≡ l → label_at h s ≡ Some l

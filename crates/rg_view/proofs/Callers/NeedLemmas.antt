@@ -42,24 +42,24 @@ use Rattle.rg_view.proofs.Callers.OpenLemmas.{into-there, closed-there}
 
 -- Counts
 
-sum-hit : {A : Type 0} (f : A → ℕ) (xs : List A) (i : ℕ) (x : A) → slice_get xs i ≡ Some x → f x ≤ sum_by f xs
+pub sum-hit : {A : Type 0} (f : A → ℕ) (xs : List A) (i : ℕ) (x : A) → slice_get xs i ≡ Some x → f x ≤ sum_by f xs
 sum-hit f [] i x e = absurd (none-some x e)
 sum-hit f (y ∷ xs) zero x e =
     let c = sum_by-cons f y xs in let same : f y ≡ f x = ap f (same_Some y x e) in omega (arith, c, same)
 sum-hit f (y ∷ xs) (suc i) x e = let c = sum_by-cons f y xs in let h = sum-hit f xs i x e in omega (arith, c, h)
 
 -- one where a test passes
-abbrev weight : Truth → ℕ
+abbrev pub weight : Truth → ℕ
 weight b = cond b 1 0
 
-count-hit : {A : Type 0} (test : A → Truth) (xs : List A) (i : ℕ) (x : A) → slice_get xs i ≡ Some x → test x ≡ true → 1 ≤ count_by test xs
+pub count-hit : {A : Type 0} (test : A → Truth) (xs : List A) (i : ℕ) (x : A) → slice_get xs i ≡ Some x → test x ≡ true → 1 ≤ count_by test xs
 count-hit test xs i x e is =
     let h : weight (test x) ≤ count_by test xs = sum-hit (λ x. weight (test x)) xs i x e in
     let one : weight (test x) ≡ weight true = ap weight is in
     omega (arith, h, one)
 
 -- a test of all numbers below one
-all_below-at : (n : ℕ) (test : ℕ → Truth) (k : ℕ) → all_below n test ≡ true → k < n → test k ≡ true
+pub all_below-at : (n : ℕ) (test : ℕ → Truth) (k : ℕ) → all_below n test ≡ true → k < n → test k ≡ true
 all_below-at zero test k e lt = absurd (omega (arith, lt))
 all_below-at (suc n) test k e lt = elim (cases_eq k n) [
   | inl is ↦ ap test is ∙ (both (test n) (all_below n test) e).0
@@ -156,7 +156,7 @@ module _ (p : Parts) (v : Stack) (at : ℕ) (q : Serials p.cells.heap) (g : Grov
   -- Owners
 
   -- a field of another region's cell that leads into a region is counted
-  field-counts : (r p₂ s k x : ℕ) → p₂ ≢ r → LiesIn p.cells.heap p₂ s → field_at p.cells.heap s k ≡ Some (word.Slot x) → LiesIn p.cells.heap r x
+  pub field-counts : (r p₂ s k x : ℕ) → p₂ ≢ r → LiesIn p.cells.heap p₂ s → field_at p.cells.heap s k ≡ Some (word.Slot x) → LiesIn p.cells.heap r x
       → 1 ≤ fields_into (store_of p.cells.heap) (windows_of p.regions v) r (store_of p.cells.heap)
   field-counts r p₂ s k x d lies leads into = by (body_at p.cells.heap s) refl
     where
@@ -201,7 +201,7 @@ module _ (p : Parts) (v : Stack) (at : ℕ) (q : Serials p.cells.heap) (g : Grov
       ownerless r s lies c bridge (omega (arith, none))
 
   -- the slots of the topmost frame that lead into a region are counted
-  slot-counts : (r i : ℕ) → is_into (store_of p.cells.heap) r (slot_at (machine_of p v at) i) ≡ true
+  pub slot-counts : (r i : ℕ) → is_into (store_of p.cells.heap) r (slot_at (machine_of p v at) i) ≡ true
       → 1 ≤ slots_into (store_of p.cells.heap) r (frames_of p.cells.heap v)
   slot-counts r i e = by (frames_of p.cells.heap v) e
     where

@@ -34,7 +34,7 @@ any-append test (x ∷ xs) ys = ap (λ b. test x || b) (any-append test xs ys) �
     or-or true b c = refl
     or-or false b c = refl
 
-any-reverse : {A : Type 0} → (test : A → Truth) (xs : List A) → list_any test (reverse xs) ≡ list_any test xs
+pub any-reverse : {A : Type 0} → (test : A → Truth) (xs : List A) → list_any test (reverse xs) ≡ list_any test xs
 any-reverse test [] = refl
 any-reverse test (x ∷ xs) =
     ap (list_any test) (reverse-append (x ∷ []) xs)
@@ -48,7 +48,7 @@ any-reverse test (x ∷ xs) =
     turn false true = refl
     turn false false = refl
 
-any-map : {A B : Type 0} → (f : A → B) (test : B → Truth) (xs : List A) → list_any test (map f xs) ≡ list_any (λ x. test (f x)) xs
+pub any-map : {A B : Type 0} → (f : A → B) (test : B → Truth) (xs : List A) → list_any test (map f xs) ≡ list_any (λ x. test (f x)) xs
 any-map f test [] = refl
 any-map f test (x ∷ xs) = ap (λ b. test (f x) || b) (any-map f test xs)
 

@@ -36,7 +36,7 @@ module _ (p : Parts) (v : Stack) (at : ℕ) (q : Serials p.cells.heap) (g : Grov
   pub top-row : (w : WindowRow) × (slice_get v.windows (length v.windows - 1) ≡ Some w)
   top-row = let some = o.some in there v.windows (length v.windows - 1) (omega (arith, some))
 
-  number-shown : top_window (windows_of p.regions v) ≡ top-row.0.number
+  pub number-shown : top_window (windows_of p.regions v) ≡ top-row.0.number
   number-shown = active-number p.regions v top-row.0 top-row.1
 
   -- the topmost window's temporaries are the cells that are labelled with its number
