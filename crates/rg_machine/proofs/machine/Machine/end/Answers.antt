@@ -1,0 +1,6 @@
+use Rattle.rg_machine.specs.Parts.{core_of}
+use Rattle.rg_machine.proofs.TakeLemmas.{end-effect}
+use Rattle.rg_machine.proofs.machine.Machine.end.Goals as goal
+
+pub returns-clause-effect : goal.returns-clause-effect
+returns-clause-effect c = end-effect (core_of c.args.self.now) (core_of c.end_from.new.self) c.args.s c.end_from.ensures.ended

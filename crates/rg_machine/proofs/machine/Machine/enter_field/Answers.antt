@@ -1,0 +1,220 @@
+use Rattle.std.proofs.Common.{◌≡◌, ◌+◌, ◌∷◌, ◌++◌, [], inl, inr, Some, Result, Ok, Err, refl, true, ◌∙◌, sym, ap, subst}
+use Rattle.rg_base.specs.declared.object.Place.{Place}
+use Rattle.rg_base.specs.declared.object.Place.TheVariants as place
+use Rattle.rg_base.specs.declared.object.Seen.{Seen}
+use Rattle.rg_base.specs.declared.outcome.Trap.{Trap}
+use Rattle.rg_base.specs.declared.outcome.Trap.TheVariants as trap
+use Rattle.rg_base.specs.declared.value.Word.{Word}
+use Rattle.rg_base.specs.declared.value.Word.TheVariants.{Slot}
+use Rattle.rg_rules.specs.Evaluation.{object_at}
+use Rattle.rg_code.specs.Code.{empty}
+use Rattle.rg_code.specs.declared.op.Op.TheVariants as i
+use Rattle.rg_cells.specs.Table.{field_at}
+use Rattle.rg_regions.specs.Reach.{LiesIn}
+use Rattle.rg_frames.specs.Stack.{Stack, opened, with_slot}
+use Rattle.rg_heap.specs.Parts.{Parts as HeapParts}
+use Rattle.rg_heap.specs.Answers.{val_of}
+use Rattle.rg_heap.specs.Ends.{CanEnter}
+use Rattle.rg_held.specs.Frees.{free_act}
+use Rattle.rg_stack.specs.Effects.{Traps}
+use Rattle.rg_stack.specs.Machine.{place_of}
+use Rattle.rg_view.specs.View.{store_of}
+use Rattle.rg_machine.specs.Core.{Has, work_of}
+use Rattle.rg_machine.specs.Frames.{can_open}
+use Rattle.rg_machine.specs.Keeps.{SameBacks}
+use Rattle.rg_machine.specs.Parts.{Parts, core_of, machine_in}
+use Rattle.rg_machine.specs.Stands.{AllLead, Stands}
+use Rattle.rg_machine.proofs.EnterLemmas.{ParentBeneath, opens-within, stands-entered, all-still-lead, same-backs, Entered, entered_stack, slot-same}
+use Rattle.rg_machine.proofs.EnterFieldLemmas.{Holds, holds, field-entered, field-parent, front-lead, enter-field-effect, enter-field-nil}
+use Rattle.rg_machine.proofs.machine.Machine.enter_field.Goals as goal
+
+same-ok : (u w : Word) → ◌≡◌ {A = Result Word Trap} (Ok u) (Ok w) → u ≡ w
+same-ok u w e = cc
+
+pub read-requires : goal.read-requires
+read-requires c =
+    let m = c.self.inside in
+    let h = c.self.invariant.0 in
+    let rest = c.pop.new.self.items in
+    let is = c.in-Some-pop.ensures.items ∙ ap (λ w. rest ++ w ∷ []) c.in-Slot.is in
+    let x = holds m.heap m.frames m.at h c.is_forest.ensures.serials c.is_forest.ensures.forest c.in-Slot.holder c.args.index c.args.z
+    m.stack.items rest m.printed c.self.invariant.1 is
+    (subst (λ (m : Parts). Has (i.EnterField c.args.index c.args.z) (core_of m)) (sym c.self.view_is) c.requires.given) in
+    x.within
+
+pub enter-requires-clause-region : goal.enter-requires-clause-region
+enter-requires-clause-region c =
+    let m = c.self.inside in
+    let h = c.self.invariant.0 in
+    let rest = c.pop.new.self.items in
+    let is = c.in-Some-pop.ensures.items ∙ ap (λ w. rest ++ w ∷ []) c.in-Slot.is in
+    let x = holds m.heap m.frames m.at h c.is_forest.ensures.serials c.is_forest.ensures.forest c.in-Slot.holder c.args.index c.args.z
+    m.stack.items rest m.printed c.self.invariant.1 is
+    (subst (λ (m : Parts). Has (i.EnterField c.args.index c.args.z) (core_of m)) (sym c.self.view_is) c.requires.given) in
+    let r = c.in-Ok.ensures in
+    let b = c.in-Slot-bridge.field-0 in
+    let leads : field_at m.heap.cells.heap c.in-Slot.holder c.args.index ≡ Some (Slot b) =
+    r.2 ∙ ap Some (same-ok r.0 c.in-Ok.bridge (sym r.1) ∙ c.in-Slot-bridge.is) in
+    let e = field-entered m.heap m.frames m.at h c.is_forest.ensures.serials c.is_forest.ensures.forest c.in-Slot.holder c.args.index c.args.z b
+    x leads in
+    subst (CanEnter m.heap.cells.heap) (sym c.in-Slot-bridge.is) (e.region, e.lies)
+
+pub invariant_of-self-in_default-enter : goal.invariant_of-self-in_default-enter
+invariant_of-self-in_default-enter c =
+    let m = c.self.inside in
+    let rest = c.pop.new.self.items in
+    let lead = front-lead m.heap m.frames m.stack.items rest c.in-Some-pop.r c.in-Some-pop.ensures.items c.self.invariant.1 in (
+      subst (λ (p : HeapParts). Stands p c.enter.new.frames) (sym c.enter.ensures.same)
+          (subst (Stands m.heap) (sym c.in_default-enter.ensures.err) c.self.invariant.0),
+      subst (λ (p : HeapParts). AllLead p c.enter.new.frames rest) (sym c.enter.ensures.same)
+          (subst (λ v. AllLead m.heap v rest) (sym c.in_default-enter.ensures.err) lead),
+    )
+
+-- what stands behind the call
+record Behind (c : goal.After-set_word) : Type 0 where
+  x : Holds c.self.inside.heap c.self.inside.frames c.self.inside.at c.self.invariant.0 c.is_forest.ensures.serials c.is_forest.ensures.forest
+      c.in-Slot.holder c.args.index c.args.z
+  words : c.self.inside.stack.items ≡ c.pop.new.self.items ++ Slot c.in-Slot.holder ∷ []
+  leads : field_at c.self.inside.heap.cells.heap c.in-Slot.holder c.args.index ≡ Some (Slot c.in-Slot-bridge.field-0)
+  e : Entered c.self.inside.heap c.self.inside.frames c.self.inside.at c.self.invariant.0 c.in-Slot-bridge.field-0
+  e_is : e ≡ field-entered c.self.inside.heap c.self.inside.frames c.self.inside.at c.self.invariant.0 c.is_forest.ensures.serials
+      c.is_forest.ensures.forest c.in-Slot.holder c.args.index c.args.z c.in-Slot-bridge.field-0 x leads
+  opens : can_open (machine_in (record {
+    heap = c.self.inside.heap;
+    frames = c.self.inside.frames;
+    words = c.self.inside.stack.items;
+    at = c.self.inside.at;
+    printed = c.self.inside.printed;
+  })) c.args.z ≡ true
+  is : ◌≡◌ {A = Parts} (record {
+    heap = c.self.inside.heap;
+    frames = entered_stack c.self.inside.frames e.closed.0 (place.Field c.serial.result c.args.index) c.args.z c.in-Slot-bridge.field-0;
+    words = c.pop.new.self.items;
+    at = c.self.inside.at;
+    printed = c.self.inside.printed;
+  }) (record {
+    heap = c.enter.new.self;
+    frames = c.set_word.new.self;
+    words = c.pop.new.self.items;
+    at = c.self.inside.at;
+    printed = c.self.inside.printed;
+  })
+
+behind : (c : goal.After-set_word) → Behind c
+behind c =
+    let m = c.self.inside in
+    let h = c.self.invariant.0 in
+    let rest = c.pop.new.self.items in
+    let is = c.in-Some-pop.ensures.items ∙ ap (λ w. rest ++ w ∷ []) c.in-Slot.is in
+    let x = holds m.heap m.frames m.at h c.is_forest.ensures.serials c.is_forest.ensures.forest c.in-Slot.holder c.args.index c.args.z
+    m.stack.items rest m.printed c.self.invariant.1 is
+    (subst (λ (m : Parts). Has (i.EnterField c.args.index c.args.z) (core_of m)) (sym c.self.view_is) c.requires.given) in
+    let r = c.in-Ok.ensures in
+    let b = c.in-Slot-bridge.field-0 in
+    let leads : field_at m.heap.cells.heap c.in-Slot.holder c.args.index ≡ Some (Slot b) =
+    r.2 ∙ ap Some (same-ok r.0 c.in-Ok.bridge (sym r.1) ∙ c.in-Slot-bridge.is) in
+    let e = field-entered m.heap m.frames m.at h c.is_forest.ensures.serials c.is_forest.ensures.forest c.in-Slot.holder c.args.index c.args.z b
+    x leads in
+    let opens = subst (λ (m : Parts). can_open (machine_in m) c.args.z ≡ true) (sym c.self.view_is) c.in-Some.ensures.some.0 in
+    let base = subst (λ (m : Parts). c.in-Some.base ≡ place_of (machine_in m).frames c.args.z) (sym c.self.view_is) c.in-Some.ensures.some.1 in
+    let at = base ∙ (opens-within m.heap m.frames m.at h c.args.z opens).1 in
+    let same = slot-same b c.in-Ok-enter.field-0 (sym c.in-Slot-bridge.is ∙ c.in-Ok-enter.ensures.slot) in
+    let lies = subst (LiesIn m.heap.cells.heap e.region) same e.lies in
+    let key = e.closed.0 in
+    let owner : Place = place.Field c.serial.result c.args.index in
+    let frames =
+    c.set_word.ensures
+    ∙ ap (λ f. with_slot f c.args.z c.in-Ok.bridge) (c.in-Ok-enter.ensures.opened key e.region lies e.closed.1)
+    ∙ ap (λ n. with_slot (opened m.frames key owner n) c.args.z c.in-Ok.bridge) at
+    ∙ ap (λ w. with_slot (opened m.frames key owner (m.frames.first + c.args.z)) c.args.z w) c.in-Slot-bridge.is in
+    record {
+      x = x;
+      words = is;
+      leads = leads;
+      e = e;
+      e_is = refl;
+      opens = opens;
+      is =
+          ap (λ (v : Stack). record { heap = m.heap; frames = v; words = rest; at = m.at; printed = m.printed }) (sym frames)
+          ∙ ap (λ (p : HeapParts). record { heap = p; frames = c.set_word.new.self; words = rest; at = m.at; printed = m.printed })
+          (sym c.enter.ensures.same);
+    }
+
+pub invariant_of-self-in-Slot-bridge : goal.invariant_of-self-in-Slot-bridge
+invariant_of-self-in-Slot-bridge c =
+    let m = c.self.inside in
+    let h = c.self.invariant.0 in
+    let rest = c.pop.new.self.items in
+    let b = behind c in
+    let e = b.e in
+    let owner : Place = place.Field c.serial.result c.args.index in
+    let parent = field-parent m.heap m.frames m.at h c.is_forest.ensures.serials c.is_forest.ensures.forest c.in-Slot.holder c.args.index c.args.z
+    c.in-Slot-bridge.field-0 b.x b.leads in
+    let P : Entered m.heap m.frames m.at h c.in-Slot-bridge.field-0 → Type 0 = λ e. ParentBeneath m.heap m.frames e.region in
+    let stands = stands-entered m.heap m.frames e.closed.0 owner c.args.z e.region c.in-Slot-bridge.field-0 h e.closed.1 e.closed.2 e.lies
+    (subst P (sym b.e_is) parent) in
+    let front = front-lead m.heap m.frames m.stack.items rest c.in-Some-pop.r c.in-Some-pop.ensures.items c.self.invariant.1 in
+    let lead = all-still-lead m.heap m.frames e.closed.0 owner c.args.z e.region c.in-Slot-bridge.field-0 h e.closed.1 e.closed.2 e.lies rest front
+    in
+    (subst (λ (n : Parts). Stands n.heap n.frames) b.is stands, subst (λ (n : Parts). AllLead n.heap n.frames n.words) b.is lead)
+
+pub returns-in-Ok-enter-clause-effect : goal.returns-in-Ok-enter-clause-effect
+returns-in-Ok-enter-clause-effect c =
+    let m = c.self.inside in
+    let h = c.self.invariant.0 in
+    let b = behind c in
+    let rest = c.pop.new.self.items in
+    let new : Parts = record { heap = c.enter.new.self; frames = c.set_word.new.self; words = rest; at = m.at; printed = m.printed } in
+    let start : Entered m.heap m.frames m.at h c.in-Slot-bridge.field-0 → Parts = λ e. record {
+      heap = m.heap;
+      frames = entered_stack m.frames e.closed.0 (place.Field c.serial.result c.args.index) c.args.z c.in-Slot-bridge.field-0;
+      words = rest;
+      at = m.at;
+      printed = m.printed;
+    } in
+    λ at go input.
+    subst (λ (m : Parts). free_act empty at (i.EnterField c.args.index c.args.z) go (core_of m).stack (work_of (core_of m) input)
+    ≡ go 0 (core_of new).stack (work_of (core_of new) input)) c.self.view_is (
+    enter-field-effect m.heap m.frames m.at h c.is_forest.ensures.serials c.is_forest.ensures.forest c.in-Slot.holder c.args.index c.args.z
+    c.in-Slot-bridge.field-0 c.serial.result m.stack.items rest m.printed at b.x b.leads b.words c.serial.ensures b.opens go input
+    ∙ ap (λ (x : Parts). go 0 (core_of x).stack (work_of (core_of x) input)) (ap start (sym b.e_is) ∙ b.is))
+
+pub returns-in-Ok-enter-clause-keeps : goal.returns-in-Ok-enter-clause-keeps
+returns-in-Ok-enter-clause-keeps c =
+    let m = c.self.inside in
+    let b = behind c in
+    let e = b.e in
+    let owner : Place = place.Field c.serial.result c.args.index in
+    let old : Parts = record { heap = m.heap; frames = m.frames; words = m.stack.items; at = m.at; printed = m.printed } in
+    let new : Parts = record { heap = c.enter.new.self; frames = c.set_word.new.self; words = c.pop.new.self.items; at = m.at; printed = m.printed }
+    in
+    subst (λ (m : Parts). SameBacks (machine_in m) (machine_in new)) c.self.view_is
+    (subst (λ (n : Parts). SameBacks (machine_in old) (machine_in n)) b.is
+    (same-backs m.heap m.frames e.closed.0 owner c.args.z e.region c.in-Slot-bridge.field-0 c.self.invariant.0 e.closed.1 e.closed.2 e.lies m.at))
+
+pub returns-in-Nil : goal.returns-in-Nil
+returns-in-Nil c =
+    let m = c.self.inside in
+    let h = c.self.invariant.0 in
+    let rest = c.pop.new.self.items in
+    let is = c.in-Some-pop.ensures.items ∙ ap (λ w. rest ++ w ∷ []) c.in-Slot.is in
+    let x = holds m.heap m.frames m.at h c.is_forest.ensures.serials c.is_forest.ensures.forest c.in-Slot.holder c.args.index c.args.z
+    m.stack.items rest m.printed c.self.invariant.1 is
+    (subst (λ (m : Parts). Has (i.EnterField c.args.index c.args.z) (core_of m)) (sym c.self.view_is) c.requires.given) in
+    let r = c.in-Ok.ensures in
+    let u = c.in-Ok.bridge in
+    let leads : field_at m.heap.cells.heap c.in-Slot.holder c.args.index ≡ Some u = r.2 ∙ ap Some (same-ok r.0 u (sym r.1)) in
+    let look : Word → Result Seen Trap = λ w. object_at (store_of m.heap.cells.heap) (val_of m.heap.cells.heap w) in
+    let none : look u ≡ Err trap.Nil = elim c.in-Nil.is [
+      | inl e ↦ ap look e
+      | inr x ↦ elim x [ inl e ↦ ap look e.1 | inr e ↦ ap look e.1 ]
+    ] in
+    let opens = subst (λ (m : Parts). can_open (machine_in m) c.args.z ≡ true) (sym c.self.view_is) c.in-Some.ensures.some.0 in
+    record {
+      effect = λ at go input.
+          subst (λ (m : Parts). free_act empty at (i.EnterField c.args.index c.args.z) go (core_of m).stack (work_of (core_of m) input)
+          ≡ Traps trap.Nil)
+          c.self.view_is (enter-field-nil m.heap m.frames m.at h c.is_forest.ensures.serials c.is_forest.ensures.forest c.in-Slot.holder
+          c.args.index c.args.z u m.stack.items rest m.printed at x leads is none opens go input);
+      keeps = ap machine_in c.self.view_is;
+    }

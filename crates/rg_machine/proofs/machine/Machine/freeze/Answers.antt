@@ -1,0 +1,53 @@
+use Rattle.std.proofs.Common.{◌∷◌, [], ◌++◌, refl, sym, ap, subst, ◌∙◌}
+use Rattle.rg_heap.specs.Moves.{CanMove, Freezes}
+use Rattle.rg_machine.proofs.FreezeLemmas.{Owned, Owns, may-move, owned}
+use Rattle.rg_machine.proofs.MovedLemmas.{freeze-backs, freeze-does, freeze-invariant, freeze-owns, no-object-acts, no-slot}
+use Rattle.rg_machine.proofs.machine.Machine.freeze.Goals as goal
+
+pub freeze-requires : goal.freeze-requires
+freeze-requires c =
+    let x = c.self.inside in
+    let o = freeze-owns _ _ c.self.view_is c.args.s c.in-Slot.field-0 _ c.requires.given c.word-w.ensures c.in-Slot.is in
+    subst (CanMove x.heap.cells.heap x.heap.regions) (sym c.in-Slot.is)
+    (may-move x.heap x.frames x.at c.is_forest.ensures.serials c.is_forest.ensures.forest c.self.invariant.0 c.args.s c.in-Slot.field-0 o)
+
+owns : (c : goal.After-push_reserved) → Owns c.self.inside.heap c.self.inside.frames c.self.inside.at c.args.s c.in-Slot.field-0
+owns c = freeze-owns _ _ c.self.view_is c.args.s c.in-Slot.field-0 _ c.requires.given c.word-w.ensures c.in-Slot.is
+
+region : (c : goal.After-push_reserved) → Owned c.self.inside.heap c.self.inside.frames c.in-Slot.field-0
+region c =
+    let x = c.self.inside in
+    owned x.heap x.frames x.at c.is_forest.ensures.serials c.is_forest.ensures.forest c.self.invariant.0 c.args.s c.in-Slot.field-0 (owns c)
+
+freezes : (c : goal.After-push_reserved) → Freezes c.self.inside.heap c.freeze.new.self (region c).key
+freezes c =
+    let r = region c in
+    c.freeze.ensures.freezes c.in-Slot.field-0 c.in-Slot.is r.key r.region r.lies r.has
+
+pub invariant_of-self-in-Slot : goal.invariant_of-self-in-Slot
+invariant_of-self-in-Slot c =
+    let x = c.self.inside in
+    rw (c.set_word.ensures, c.push_reserved.ensures.items, c.reserve.ensures.items, c.in-Slot.is)
+    (freeze-invariant x.heap x.frames x.at c.is_forest.ensures.serials c.is_forest.ensures.forest c.self.invariant.0 c.args.s
+    c.in-Slot.field-0 (owns c) (region c) x.stack.items c.self.invariant.1 c.freeze.new.self (freezes c))
+
+pub returns-in-Ok-clause-effect : goal.returns-in-Ok-clause-effect
+returns-in-Ok-clause-effect c =
+    freeze-does _ _ c.self.view_is c.is_forest.ensures.serials c.is_forest.ensures.forest c.self.invariant.0 c.args.s c.in-Slot.field-0
+    (owns c) (region c) c.freeze.new.self c.is_forest-in-Slot.ensures.forest _ c.set_word.ensures _
+    (c.push_reserved.ensures.items ∙ ap (λ ws. ws ++ c.word-w.result ∷ []) c.reserve.ensures.items
+    ∙ ap (λ w. c.self.inside.stack.items ++ w ∷ []) c.in-Slot.is) (freezes c)
+
+pub returns-in-Ok-clause-keeps : goal.returns-in-Ok-clause-keeps
+returns-in-Ok-clause-keeps c =
+    let x = c.self.inside in
+    rw (← c.self.view_is, c.set_word.ensures)
+    (freeze-backs x.heap x.frames x.at c.is_forest.ensures.serials c.is_forest.ensures.forest c.self.invariant.0 c.args.s
+    c.in-Slot.field-0 (owns c) (region c) c.freeze.new.self (freezes c))
+
+pub returns-in-Nil : goal.returns-in-Nil
+returns-in-Nil c =
+    record {
+      effect = λ at go input. no-object-acts _ _ c.self.view_is c.self.invariant.0 c.args.s _ c.word-w.ensures (no-slot _ c.in-Nil.is) _;
+      keeps = refl;
+    }

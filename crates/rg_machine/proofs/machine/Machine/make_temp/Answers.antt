@@ -1,0 +1,72 @@
+use Rattle.std.proofs.Common.{◌≡◌, ◌∷◌, ◌++◌, [], List, map, ap, subst, sym, ◌∙◌}
+use Rattle.rg_base.specs.declared.object.Label.TheVariants.{Temp}
+use Rattle.rg_base.specs.declared.value.Word.{Word}
+use Rattle.rg_base.specs.declared.value.Word.TheVariants.{Slot}
+use Rattle.rg_frames.specs.Stack.{Stack, with_temp}
+use Rattle.rg_stack.specs.Machine.{value_of_word}
+use Rattle.rg_stack.specs.Effects.{top_window}
+use Rattle.rg_view.specs.View.{machine_of, managers_of, windows_of}
+use Rattle.rg_machine.specs.Core.{with_made}
+use Rattle.rg_machine.specs.Parts.{Parts, core_of, machine_in}
+use Rattle.rg_machine.specs.Stands.{AllLead, Stands}
+use Rattle.rg_machine.proofs.MadeLemmas.{nowhere}
+use Rattle.rg_machine.proofs.MakeLemmas.{Pushed, temp-pushed}
+use Rattle.rg_machine.proofs.RefuseLemmas.{Refused, temp-refused, on-err}
+use Rattle.rg_machine.proofs.machine.Machine.make_temp.Goals as goal
+
+pub make_tmp-requires-clause-plain : goal.make_tmp-requires-clause-plain
+make_tmp-requires-clause-plain c = nowhere c.args.words.now c.requires
+
+refused : (c : goal.After-from_residual) → Refused c.self.inside.heap c.make_tmp.new.self c.self.inside.frames c.self.inside.stack.items
+    c.self.inside.at
+refused c = temp-refused c.self.inside.heap c.make_tmp.new.self c.self.inside.frames c.self.inside.stack.items c.self.inside.at
+    c.is_forest.ensures.forest c.is_forest.ensures.serials c.self.invariant.0 c.self.invariant.1 c.in_err-slot.ensures.cells
+    c.in_err-slot.ensures.regions
+
+pub invariant_of-self-in_err-slot : goal.invariant_of-self-in_err-slot
+invariant_of-self-in_err-slot c =
+    let r = refused c in
+    let P : Stack → List Word → Type 0 = λ v ws. Stands c.make_tmp.new.self v × AllLead c.make_tmp.new.self v ws in
+    subst (λ (v : Stack). P v c.reserve.new.self.items) (sym c.in_err-slot.ensures.frames)
+    (subst (P c.self.inside.frames) (sym c.reserve.ensures.items) (r.stands, r.lead))
+
+pub returns-in_err-slot-clause-err : goal.returns-in_err-slot-clause-err
+returns-in_err-slot-clause-err c =
+    let P : Stack → Parts → Type 0 = λ v m. machine_of c.make_tmp.new.self v c.self.inside.at ≡ machine_in m in
+    on-err c.from_residual.result (P c.make_tmp.new.frames c.args.self.now)
+    (subst (λ (v : Stack). P v c.args.self.now) (sym c.in_err-slot.ensures.frames)
+    (subst (P c.self.inside.frames) c.self.view_is (refused c).machine))
+
+pushed : (c : goal.After-push_reserved) → Pushed c.self.inside.heap c.make_tmp.new.self c.self.inside.frames
+    (with_temp c.self.inside.frames c.in_ok-slot.slot) c.self.inside.stack.items c.in_ok-slot.slot c.args.class
+    (Temp (top_window (windows_of c.self.inside.heap.regions c.self.inside.frames))) c.args.words.now (managers_of c.self.inside.heap.regions)
+    c.self.inside.at c.self.inside.printed
+pushed c = temp-pushed c.self.inside.heap c.make_tmp.new.self c.self.inside.frames c.self.inside.stack.items c.self.inside.at c.self.inside.printed
+    c.in_ok-slot.slot c.args.class c.args.words.now c.is_forest.ensures.forest c.is_forest.ensures.serials c.lie.ensures.marks
+    c.self.invariant.0 c.self.invariant.1 (nowhere c.args.words.now c.requires) c.in_ok-slot.ensures.cell c.in_ok-slot.ensures.regions
+
+items : (c : goal.After-push_reserved) → c.push_reserved.new.self.items ≡ c.self.inside.stack.items ++ Slot c.in_ok-slot.slot ∷ []
+items c = c.push_reserved.ensures.items ∙ ap (λ (ws : List Word). ws ++ Slot c.in_ok-slot.slot ∷ []) c.reserve.ensures.items
+
+pub invariant_of-self-2 : goal.invariant_of-self-2
+invariant_of-self-2 c =
+    let p = pushed c in
+    let P : Stack → List Word → Type 0 = λ v ws. Stands c.make_tmp.new.self v × AllLead c.make_tmp.new.self v ws in
+    subst (λ (v : Stack). P v c.push_reserved.new.self.items) (sym c.in_ok-slot.ensures.temp)
+    (subst (P (with_temp c.self.inside.frames c.in_ok-slot.slot)) (sym (items c)) (p.stands, p.lead))
+
+pub returns-clause-ok : goal.returns-clause-ok
+returns-clause-ok c =
+    let made : Stack → List Word → Parts = λ v ws. record {
+      heap = c.make_tmp.new.self;
+      frames = v;
+      words = ws;
+      at = c.self.inside.at;
+      printed = c.self.inside.printed;
+    } in
+    let v = with_temp c.self.inside.frames c.in_ok-slot.slot in
+    let P : Parts → Type 0 = λ m.
+    core_of (made v (c.self.inside.stack.items ++ Slot c.in_ok-slot.slot ∷ []))
+    ≡ with_made (core_of m) c.args.class (map value_of_word c.args.words.now) (Temp (top_window (windows_of m.heap.regions m.frames))) in
+    ap (λ (v : Stack). core_of (made v c.push_reserved.new.self.items)) c.in_ok-slot.ensures.temp
+    ∙ (ap (λ ws. core_of (made v ws)) (items c) ∙ subst P c.self.view_is (pushed c).core)

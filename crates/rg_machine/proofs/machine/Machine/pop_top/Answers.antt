@@ -1,0 +1,8 @@
+use Rattle.rg_machine.specs.Parts.{core_of, val_in}
+use Rattle.rg_machine.proofs.OwnLemmas.{pop-effect}
+use Rattle.rg_machine.proofs.machine.Machine.pop_top.Goals as goal
+
+pub returns-in-Some-clause-effect : goal.returns-in-Some-clause-effect
+returns-in-Some-clause-effect c =
+    pop-effect (core_of c.args.self.now) (core_of c.pop.new.self) (core_of c.release.new.self) (val_in c.pop.new.self c.in-Some.w)
+    c.in-Some.ensures.core c.release.ensures.gone

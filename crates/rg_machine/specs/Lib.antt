@@ -1,0 +1,8 @@
+-- What callers see of the machine (docs/architecture.md, "The machine").
+pub mod Core
+pub mod Keeps
+pub mod Parts
+pub mod Stands
+pub mod Frames
+pub mod Effects
+pub mod Collects

@@ -1,0 +1,156 @@
+//! What ends with slots, and what they own (docs/architecture.md, "The machine").
+
+ghost use Rattle.std.specs.Prelude.{◌≡◌, ◌<◌, ◌∷◌, [], ℕ, Some, false, length, slice_get};
+ghost use Rattle.std.specs.Prelude.{true};
+ghost use Rattle.rg_base.specs.declared.value.Val.TheVariants.{Nil};
+ghost use Rattle.rg_code.specs.Code.{empty};
+ghost use Rattle.rg_code.specs.declared.op.Op.TheVariants as i;
+ghost use Rattle.rg_held.specs.Frees.{free_act};
+ghost use Rattle.rg_stack.specs.Machine.{put_slot, slot_at, top_slots};
+ghost use Rattle.rg_stack.specs.Needs.{loose, owned_once};
+ghost use Rattle.rg_stack.specs.Refusals.{Settles};
+ghost use Rattle.rg_machine.specs.Core.{ActIs, Has, with_machine};
+ghost use Rattle.rg_machine.specs.Effects.{Apart, AllLoose, ending, without};
+ghost use Rattle.rg_machine.specs.Keeps.{Keeping, SameBacks};
+ghost use Rattle.rg_machine.specs.Parts.{core_of, machine_in, val_in};
+ghost use Rattle.rg_machine.specs.Stands.{Leads};
+
+use super::Machine;
+use crate::next::Next;
+use rg_base::Word;
+
+impl Machine {
+    /// The closed region into which a word leads goes, with all beneath it, if it leads into one.
+    fn release(&mut self, w: Word)
+        requires leads { Leads self.old.heap self.old.frames w }
+        requires once { owned_once (machine_in self.old) ≡ true }
+        requires loose { loose (machine_in self.old) (val_in self.old w) ≡ true }
+        requires stack { Apart (core_of self.old) (val_in self.old w) }
+        ensures gone { core_of self.new ≡ without (core_of self.old) (val_in self.old w ∷ []) }
+        ensures words { self.new.words ≡ self.old.words }
+        ensures frames { self.new.frames ≡ self.old.frames }
+    {
+        self.heap.is_forest();
+        if self.heap.owns(&self.frames, w) {
+            self.heap.drop_iso(w);
+            self.heap.is_forest();
+        }
+    }
+
+    /// What a slot of the topmost frame owns goes, and the slot is nil.
+    fn drop_slot(&mut self, s: u32)
+        requires once { owned_once (machine_in self.old) ≡ true }
+        requires stack { AllLoose (core_of self.old) }
+        ensures gone { core_of self.new ≡ with_machine (core_of self.old)
+            (put_slot (without (core_of self.old)
+            (slot_at (machine_in self.old) s ∷ [])).machine s Nil) }
+        ensures words { self.new.words ≡ self.old.words }
+        ensures backs { SameBacks (machine_in self.old) (machine_in self.new) }
+    {
+        self.heap.is_forest();
+        let w = self.slot(s);
+        self.set_slot(s, Word::Nil);
+        self.release(w);
+    }
+
+    /// What a slot of the topmost frame owns goes, and the slot is nil, whatever its number.
+    fn drop_nth(&mut self, k: usize)
+        requires there { k < length (top_slots (machine_in self.old).frames) }
+        requires once { owned_once (machine_in self.old) ≡ true }
+        requires stack { AllLoose (core_of self.old) }
+        ensures gone { core_of self.new ≡ with_machine (core_of self.old)
+            (put_slot (without (core_of self.old)
+            (slot_at (machine_in self.old) k ∷ [])).machine k Nil) }
+        ensures words { self.new.words ≡ self.old.words }
+        ensures backs { SameBacks (machine_in self.old) (machine_in self.new) }
+    {
+        self.heap.is_forest();
+        let w = self.frames.nth_word(k);
+        self.frames.clear_word(k);
+        self.release(w);
+    }
+
+    /// What the slots of the topmost frame from one on own goes, and they are nil.
+    pub fn end_from(&mut self, s: u32)
+        requires once { owned_once (machine_in self.old) ≡ true }
+        requires stack { AllLoose (core_of self.old) }
+        ensures ended { core_of self.new ≡ ending (core_of self.old) s }
+        ensures words { self.new.words ≡ self.old.words }
+        ensures backs { SameBacks (machine_in self.old) (machine_in self.new) }
+    {
+        self.heap.is_forest();
+        let live = self.frames.live();
+        if live <= s as usize {
+            return;
+        }
+        let mut left = live;
+        'slots: while left > s as usize {
+            left -= 1;
+            self.drop_nth(left);
+        }
+        self.frames.end_words(s);
+    }
+
+    /// `own s`
+    pub fn own(&mut self, s: u32) -> Next
+        requires given { Has (i.Own s) (core_of self.old) }
+        ensures effect { (at : ℕ) → ActIs (free_act empty at (i.Own s)) at
+            (core_of self.old) (core_of self.new) result }
+        ensures keeps { Keeping Settles false (machine_in self.old) (machine_in self.new) result }
+    {
+        let Some(_) = self.top() else {
+            return Next::Lost;
+        };
+        self.drop_slot(s);
+        match self.pop() {
+            Some(w) => {
+                self.set_slot(s, w);
+                Next::On
+            }
+            None => Next::Lost,
+        }
+    }
+
+    /// `end s`
+    pub fn end(&mut self, s: u32) -> Next
+        requires given { Has (i.End s) (core_of self.old) }
+        ensures effect { (at : ℕ) → ActIs (free_act empty at (i.End s)) at
+            (core_of self.old) (core_of self.new) result }
+        ensures keeps { Keeping Settles false (machine_in self.old) (machine_in self.new) result }
+    {
+        self.end_from(s);
+        Next::On
+    }
+
+    /// `pop`
+    pub fn pop_top(&mut self) -> Next
+        requires given { Has i.Pop (core_of self.old) }
+        ensures effect { (at : ℕ) → ActIs (free_act empty at i.Pop) at
+            (core_of self.old) (core_of self.new) result }
+        ensures keeps { Keeping Settles false (machine_in self.old) (machine_in self.new) result }
+    {
+        match self.pop() {
+            Some(w) => {
+                self.release(w);
+                Next::On
+            }
+            None => Next::Lost,
+        }
+    }
+
+    /// `drop`
+    pub fn drop_top(&mut self) -> Next
+        requires given { Has i.Drop (core_of self.old) }
+        ensures effect { (at : ℕ) → ActIs (free_act empty at i.Drop) at
+            (core_of self.old) (core_of self.new) result }
+        ensures keeps { Keeping Settles false (machine_in self.old) (machine_in self.new) result }
+    {
+        match self.pop() {
+            Some(w) => {
+                self.release(w);
+                Next::On
+            }
+            None => Next::Lost,
+        }
+    }
+}

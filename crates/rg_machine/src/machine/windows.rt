@@ -1,0 +1,120 @@
+//! Windows that open and close (docs/architecture.md, "The machine").
+
+ghost use Rattle.std.specs.Prelude.{◌≡◌, ◌<◌, ℕ, IfSome, None, false, length, true};
+ghost use Rattle.rg_frames.specs.Stack.{BaseUpTo};
+ghost use Rattle.rg_machine.specs.Frames.{can_open};
+ghost use Rattle.rg_stack.specs.Machine.{place_of};
+ghost use Rattle.rg_code.specs.Code.{empty};
+ghost use Rattle.rg_code.specs.declared.op.Op.TheVariants as i;
+ghost use Rattle.rg_held.specs.Frees.{free_act};
+ghost use Rattle.rg_stack.specs.Refusals.{Settles, Takes};
+ghost use Rattle.rg_machine.specs.Core.{ActIs, Has};
+ghost use Rattle.rg_machine.specs.Keeps.{Keeping};
+ghost use Rattle.rg_machine.specs.Parts.{core_of, machine_in};
+
+use super::Machine;
+use crate::next::Next;
+use rg_base::{Place, Trap, Word};
+
+impl Machine {
+    /// Where a window over a slot of the topmost frame begins; None where none can be opened there.
+    fn base_at(&self, z: u32) -> Option<usize>
+        ensures some { IfSome result (λ base. (can_open (machine_in self.now) z ≡ true)
+            × (base ≡ place_of (machine_in self.now).frames z)
+            × BaseUpTo self.now.frames base × (base < length self.now.frames.slots)) }
+        ensures none { result ≡ None → can_open (machine_in self.now) z ≡ false }
+    {
+        if (z as usize) >= self.frames.size() {
+            return None;
+        }
+        let place = self.frames.place(z);
+        if self.frames.top().base <= place {
+            Some(place)
+        } else {
+            None
+        }
+    }
+
+    /// `enter s z`
+    pub fn enter(&mut self, s: u32, z: u32) -> Next
+        requires given { Has (i.Enter s z) (core_of self.old) }
+        ensures effect { (at : ℕ) → ActIs (free_act empty at (i.Enter s z)) at
+            (core_of self.old) (core_of self.new) result }
+        ensures keeps { Keeping Takes false (machine_in self.old) (machine_in self.new) result }
+    {
+        let Some(base) = self.base_at(z) else {
+            return Next::Lost;
+        };
+        self.heap.is_forest();
+        let bridge = self.frames.word(s);
+        match bridge {
+            Word::Slot(_) => {
+                let owner = Place::Var {
+                    frame: self.depth(),
+                    slot: s,
+                };
+                let Ok(_) = self.heap.enter(&mut self.frames, bridge, owner, base) else {
+                    return Next::Memory;
+                };
+                self.frames.set_word(z, bridge);
+                Next::On
+            }
+            Word::Nil | Word::Int(_) | Word::Bool(_) => Next::Trap(Trap::Nil),
+        }
+    }
+
+    /// `enterf k z`
+    pub fn enter_field(&mut self, index: u32, z: u32) -> Next
+        requires given { Has (i.EnterField index z) (core_of self.old) }
+        ensures effect { (at : ℕ) → ActIs (free_act empty at (i.EnterField index z)) at
+            (core_of self.old) (core_of self.new) result }
+        ensures keeps { Keeping Takes false (machine_in self.old) (machine_in self.new) result }
+    {
+        let Some(base) = self.base_at(z) else {
+            return Next::Lost;
+        };
+        self.heap.is_forest();
+        let Some(r) = self.stack.pop() else {
+            return Next::Lost;
+        };
+        let Word::Slot(holder) = r else {
+            return Next::Trap(Trap::Nil);
+        };
+        let Ok(bridge) = self.heap.read(r, index) else {
+            return Next::Trap(Trap::Nil);
+        };
+        match bridge {
+            Word::Slot(_) => {
+                let owner = Place::Field {
+                    serial: self.heap.serial(holder),
+                    index,
+                };
+                let Ok(_) = self.heap.enter(&mut self.frames, bridge, owner, base) else {
+                    return Next::Memory;
+                };
+                self.frames.set_word(z, bridge);
+                Next::On
+            }
+            Word::Nil | Word::Int(_) | Word::Bool(_) => Next::Trap(Trap::Nil),
+        }
+    }
+
+    /// `leave s`
+    pub fn leave(&mut self, s: u32) -> Next
+        requires given { Has (i.Leave s) (core_of self.old) }
+        ensures effect { (at : ℕ) → ActIs (free_act empty at (i.Leave s)) at
+            (core_of self.old) (core_of self.new) result }
+        ensures keeps { Keeping Settles false (machine_in self.old) (machine_in self.new) result }
+    {
+        self.heap.is_forest();
+        self.end_from(s);
+        if self.frames.open_count() >= 2 {
+            self.heap.is_forest();
+            self.frames.lie();
+            let _ = self.frames.next_number();
+            self.heap.leave(&mut self.frames);
+            self.heap.is_forest();
+        }
+        Next::On
+    }
+}

@@ -1,0 +1,81 @@
+//! Slots and fields that are written (docs/architecture.md, "The machine").
+
+ghost use Rattle.std.specs.Prelude.{◌≡◌, ◌∷◌, [], ℕ, false, true};
+ghost use Rattle.rg_code.specs.declared.op.Op.TheVariants as i;
+ghost use Rattle.rg_held.specs.Frees.{free_act};
+ghost use Rattle.rg_code.specs.Code.{empty};
+ghost use Rattle.rg_stack.specs.Machine.{put_slot};
+ghost use Rattle.rg_stack.specs.Effects.{put_in};
+ghost use Rattle.rg_stack.specs.Needs.{may_keep};
+ghost use Rattle.rg_stack.specs.Refusals.{Takes};
+ghost use Rattle.rg_machine.specs.Core.{ActIs, Has, with_machine};
+ghost use Rattle.rg_machine.specs.Keeps.{Keeping, SameBacks};
+ghost use Rattle.rg_machine.specs.Parts.{core_of, machine_in, val_in};
+ghost use Rattle.rg_machine.specs.Stands.{Leads};
+
+use super::Machine;
+use crate::next::Next;
+use rg_base::{Trap, Word};
+
+impl Machine {
+    /// Writes a slot of the topmost frame, where there is one; what stood there is lost.
+    #[inline]
+    pub fn set_slot(&mut self, s: u32, w: Word)
+        requires leads { Leads self.old.heap self.old.frames w }
+        requires keeps { may_keep (machine_in self.old) s (val_in self.old w) ≡ true }
+        ensures put { core_of self.new ≡ with_machine (core_of self.old)
+            (put_slot (machine_in self.old) s (val_in self.old w)) }
+        ensures words { self.new.words ≡ self.old.words }
+        ensures heap { self.new.heap ≡ self.old.heap }
+        ensures leads { (x : Word) → Leads self.old.heap self.old.frames x →
+            Leads self.new.heap self.new.frames x }
+        ensures backs { SameBacks (machine_in self.old) (machine_in self.new) }
+    {
+        self.heap.is_forest();
+        self.frames.lie();
+        self.frames.set_word(s, w);
+    }
+
+    /// Writes a field of the object to which a word leads, as `put k` does.
+    #[inline]
+    pub fn put(&mut self, r: Word, index: u32, w: Word)
+        requires object { Leads self.old.heap self.old.frames r }
+        requires leads { Leads self.old.heap self.old.frames w }
+        requires given { Has (i.Put index) (record (core_of self.old) {
+          stack = val_in self.old w ∷ val_in self.old r ∷ [];
+        }) }
+        ensures put { core_of self.new ≡ with_machine (core_of self.old)
+            (record (machine_in self.old) {
+              store = put_in (machine_in self.old).store (val_in self.old r) index
+                  (val_in self.old w);
+            }) }
+    {
+        self.heap.is_forest();
+        match r {
+            Word::Slot(slot) => self.heap.write(&self.frames, slot, index, w),
+            Word::Nil | Word::Int(_) | Word::Bool(_) => unreachable!(),
+        }
+    }
+
+    /// `swap s k`
+    pub fn swap(&mut self, s: u32, index: u32) -> Next
+        requires given { Has (i.Swap s index) (core_of self.old) }
+        ensures effect { (at : ℕ) → ActIs (free_act empty at (i.Swap s index)) at
+            (core_of self.old) (core_of self.new) result }
+        ensures keeps { Keeping Takes false (machine_in self.old) (machine_in self.new) result }
+    {
+        self.heap.is_forest();
+        let Some(r) = self.stack.pop() else {
+            return Next::Lost;
+        };
+        match r {
+            Word::Slot(slot) => {
+                let w = self.frames.word(s);
+                let held = self.heap.swap(&self.frames, slot, index, w);
+                self.frames.set_word(s, held);
+                Next::On
+            }
+            Word::Nil | Word::Int(_) | Word::Bool(_) => Next::Trap(Trap::Nil),
+        }
+    }
+}

@@ -1,0 +1,103 @@
+//! Instructions on the values of the stack (docs/architecture.md, "The machine").
+
+ghost use Rattle.std.specs.Prelude.{false, ◌≡◌, ◌∷◌, ℕ, not, neg_ℤ};
+ghost use Rattle.rg_base.specs.declared.value.Val.TheVariants.{Bool};
+ghost use Rattle.rg_rules.specs.Values.{as_bool, as_int, is_nil_value, number_value};
+ghost use Rattle.rg_stack.specs.Machine.{value_of_word};
+ghost use Rattle.rg_stack.specs.Effects.{on_two, on_top, pushed};
+ghost use Rattle.rg_stack.specs.Refusals.{Computes};
+ghost use Rattle.rg_machine.specs.Keeps.{Keeping};
+ghost use Rattle.rg_machine.specs.Core.{ActIs};
+ghost use Rattle.rg_machine.specs.Parts.{core_of, machine_in};
+
+use crate::machine::Machine;
+use crate::next::Next;
+use crate::scalars::word_of;
+use rg_base::Word;
+use rg_store::{as_bool, is_nil, negative, operate};
+use rg_tree::BinOp;
+
+/// `bool b` and `nil`
+#[inline]
+pub(crate) fn constant(p: &mut Machine, w: Word) -> Next
+    requires { (s : ℕ) → w ≡ Word.Slot s → ⊥ }
+    ensures effect { (at : ℕ) →
+        ActIs (λ go stack x. go 0 (value_of_word w ∷ stack) x)
+        at (core_of p.old) (core_of p.new) result }
+    ensures keeps { Keeping Computes false (machine_in p.old) (machine_in p.new) result }
+{
+    match p.push(w) {
+        Ok(()) => Next::On,
+        Err(_) => Next::Memory,
+    }
+}
+
+/// An operator on the two topmost values.
+#[inline]
+pub(crate) fn binary(p: &mut Machine, op: BinOp) -> Next
+    ensures effect { (at : ℕ) → ActIs (on_two op) at (core_of p.old) (core_of p.new) result }
+    ensures keeps { Keeping Computes false (machine_in p.old) (machine_in p.new) result }
+{
+    let Some(y) = p.pop() else {
+        return Next::Lost;
+    };
+    let Some(x) = p.pop() else {
+        return Next::Lost;
+    };
+    match operate(op, p.value(x), p.value(y)) {
+        Ok(v) => match p.push(word_of(v)) {
+            Ok(()) => Next::On,
+            Err(_) => Next::Memory,
+        },
+        Err(kind) => Next::Trap(kind),
+    }
+}
+
+/// `neg`
+pub(crate) fn negate(p: &mut Machine) -> Next
+    ensures effect { (at : ℕ) → ActIs (λ go stack x. on_top stack (λ v rest.
+        pushed (number_value (neg_ℤ (as_int v))) go rest x))
+        at (core_of p.old) (core_of p.new) result }
+    ensures keeps { Keeping Computes false (machine_in p.old) (machine_in p.new) result }
+{
+    let Some(v) = p.pop() else {
+        return Next::Lost;
+    };
+    match negative(p.value(v)) {
+        Ok(v) => match p.push(word_of(v)) {
+            Ok(()) => Next::On,
+            Err(_) => Next::Memory,
+        },
+        Err(kind) => Next::Trap(kind),
+    }
+}
+
+/// `not`
+pub(crate) fn invert(p: &mut Machine) -> Next
+    ensures effect { (at : ℕ) → ActIs (λ go stack x. on_top stack (λ v rest.
+        go 0 (Bool (not (as_bool v)) ∷ rest) x)) at (core_of p.old) (core_of p.new) result }
+    ensures keeps { Keeping Computes false (machine_in p.old) (machine_in p.new) result }
+{
+    let Some(v) = p.pop() else {
+        return Next::Lost;
+    };
+    match p.push(Word::Bool(!as_bool(p.value(v)))) {
+        Ok(()) => Next::On,
+        Err(_) => Next::Memory,
+    }
+}
+
+/// `isnil`
+pub(crate) fn test_nil(p: &mut Machine) -> Next
+    ensures effect { (at : ℕ) → ActIs (λ go stack x. on_top stack (λ v rest.
+        go 0 (Bool (is_nil_value v) ∷ rest) x)) at (core_of p.old) (core_of p.new) result }
+    ensures keeps { Keeping Computes false (machine_in p.old) (machine_in p.new) result }
+{
+    let Some(v) = p.pop() else {
+        return Next::Lost;
+    };
+    match p.push(Word::Bool(is_nil(p.value(v)))) {
+        Ok(()) => Next::On,
+        Err(_) => Next::Memory,
+    }
+}
