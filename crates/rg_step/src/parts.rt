@@ -18,9 +18,9 @@ ghost use Rattle.rg_store.specs.Regions.{LabelFits};
 ghost use Rattle.rg_step.specs.Inner.Layout.{cleared, values_of};
 ghost use Rattle.rg_step.specs.Inner.Objects.{LabelIs};
 ghost use Rattle.rg_step.specs.Inner.Refusals.{GoesBack, SameBacks};
-ghost use Rattle.rg_step.specs.Inner.Core.{Has, MayStore, Left, below_top, called_frame, started};
 ghost use Rattle.rg_code.specs.declared.op.Op.TheVariants as i;
-ghost use Rattle.rg_stack.specs.Needs.{leads_nowhere};
+ghost use Rattle.rg_stack.specs.Needs.{leads_nowhere, owned_once};
+ghost use Rattle.rg_step.specs.Inner.Core.{Has, MayStore, Left, below_top, called_frame, started};
 ghost use Rattle.rg_step.specs.Inner.Core.{can_open};
 ghost use Rattle.rg_step.specs.Inner.Core.{opened};
 ghost use Rattle.rg_step.specs.Inner.Core.{with_machine, with_made, with_top};
@@ -180,7 +180,7 @@ impl Parts {
     /// Puts a word into a slot, as `store s` does with the topmost one.
     #[inline]
     pub(crate) fn store(&mut self, s: u32, w: Word)
-        requires { MayStore self.old.machine s }
+        requires { MayStore self.old.machine s (value_of_word w) }
         ensures put { self.new
             ≡ with_machine self.old (put_slot self.old.machine s (value_of_word w)) }
         ensures backs { SameBacks self.old.machine self.new.machine }
@@ -190,6 +190,7 @@ impl Parts {
 
     /// Makes nil the slots from one on.
     pub(crate) fn end_from(&mut self, s: u32)
+        requires { owned_once self.old.machine ≡ true }
         ensures ended { self.new ≡ with_machine self.old (end_slots self.old.machine s) }
         ensures backs { SameBacks self.old.machine self.new.machine }
     {

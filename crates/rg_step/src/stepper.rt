@@ -80,6 +80,7 @@ impl Stepper {
     /// Makes as many steps as can be made at once, at most so many, and answers how many. None of
     /// them is the last one, prints, or asks for the input.
     pub fn leap(&mut self, code: &CodeList, most: u64) -> u64
+        requires { IsRunning code.now self.old.machine }
         ensures leaps { Leapt code.now result self.old.machine self.new.machine }
         ensures most { result ≤ most }
         ensures counts { self.new.steps ≡ counted_by result self.old.steps }

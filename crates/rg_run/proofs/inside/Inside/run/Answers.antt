@@ -44,6 +44,24 @@ step-requires-clause-runs g c =
     is-running c.args.accepted.now.program c.args.code.now c.loop-self.self.steps c.loop-self.self.stepper.machine _ _ _ _ _ _ _
     c.loop-self.invariant.follows c.loop-self.invariant.turns
 
+pub leap-requires : goal.leap-requires
+leap-requires g c =
+    let t = c.args.accepted.now.program in
+    let code = c.args.code.now in
+    let k = c.loop-self.self.steps in
+    let m = c.loop-self.self.stepper.machine in
+    let new = c.step.new.self in
+    let old = g.O.Sink.taken c.args.out.now in
+    let middle = g.O.Sink.taken c.loop-self.out in
+    let Before : Type 0 = (c.loop-self.input ≡ c.args.input.now) × (c.loop-self.source ≡ c.args.source.now) in
+    let After : Type 0 = (c.step.new.input ≡ c.args.input.now) × (c.step.new.source ≡ c.args.source.now) in
+    let more : (p : State) → Runs (program_of t) code m p → first_asks p.items ≡ false → Before → After =
+    (λ p runs no b. let n = c.in-Running.ensures.reads_nothing (program_of t) p runs no in (n.0 ∙ b.0, n.1 ∙ b.1)) in
+    let stepped = turn _ _ _ _ _ _ (Turns t code k m old middle Before) (StepsOn code m new.machine outcome.Running)
+    (Turns t code (k + 1) new.machine old middle After) c.loop-self.invariant.turns c.in-Running.ensures.step
+    (λ x y z b step. quiet t code k m new.machine Before After x y z more old middle b step) in
+    is-running t code (k + 1) new.machine _ _ _ _ _ _ _ c.in-Running.ensures.follows stepped
+
 pub loop-self-preserved-in-Running : goal.loop-self-preserved-in-Running
 loop-self-preserved-in-Running g c =
     let t = c.args.accepted.now.program in
