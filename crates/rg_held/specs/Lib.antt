@@ -3,3 +3,4 @@ pub mod Part
 pub mod Ends
 pub mod Laws
 pub mod Gather
+pub mod Shown
