@@ -8,6 +8,7 @@ ghost use Rattle.rg_base.specs.declared.object.Seen.{Seen as Object};
 ghost use Rattle.rg_base.specs.declared.value.Val.{Val as Value};
 ghost use Rattle.rg_base.specs.declared.value.Val.TheVariants.{Nil};
 ghost use Rattle.rg_heap.specs.Answers.{Shows};
+ghost use Rattle.rg_held.specs.Shown.{Finds};
 ghost use Rattle.rg_rules.specs.Evaluation.{object_at};
 ghost use Rattle.rg_code.specs.declared.op.Op.TheVariants as i;
 ghost use Rattle.rg_stack.specs.Machine.{put_slot, slot_at};
@@ -91,8 +92,10 @@ impl Machine {
 
     /// The object with a serial, as it is shown; None where none that is held has it.
     pub fn object(&self, alloc: Global, serial: u64) -> Result<Option<Seen>, Memory>
-        ensures { IfOk result (Shows self.now.heap.cells.heap serial) }
+        ensures shows { IfOk result (Shows self.now.heap.cells.heap serial) }
+        ensures finds { IfOk result (Finds (machine_in self.now).store serial) }
     {
+        self.heap.is_forest();
         self.heap.shown(alloc, serial)
     }
 
