@@ -8,8 +8,9 @@ use Rattle.rg_stack.specs.Refusals.{Manner, Ends, Clears, Settles, Takes, Comput
 use Rattle.rg_stack.specs.Refusals.{calm}
 use Rattle.rg_stack.specs.Refusals.{orderly, CalmBehind, Orderly}
 use Rattle.rg_stack.specs.Reads.{reads}
-use Rattle.rg_step.specs.Inner.Core.{Core, below_top, started, with_top}
-use Rattle.rg_step.specs.Inner.Refusals.{backs, GoesBack, GoesOn, GoesTo, Asks, WantsRoom, SameBacks, asks_at, Stands}
+use Rattle.rg_machine.specs.Core.{Core, below_top, started, with_top}
+use Rattle.rg_machine.specs.Keeps.{Asks, GoesBack, GoesOn, GoesTo, SameBacks, WantsRoom, backs}
+use Rattle.rg_step.specs.Inner.Refusals.{asks_at, Stands}
 use Rattle.rg_step.specs.Inner.Refusals.{Asking, Unread, StillLeft}
 use Rattle.rg_step.proofs.StandsLemmas.{to-on}
 

@@ -1,8 +1,3 @@
-mod FrameLemmas
-mod WindowLemmas
-mod StackLemmas
-mod ObjectLemmas
-mod CallLemmas
 mod TurnLemmas
 mod ClearLemmas
 mod StandsLemmas
@@ -10,8 +5,9 @@ mod LeavesLemmas
 mod RunLemmas
 mod AskLemmas
 mod StepLemmas
-mod OpeningLemmas
 mod ShapeLemmas
 mod CallShapeLemmas
 mod LeapLemmas
 mod ShapeNeedLemmas
+mod WordLemmas
+mod HeldLemmas

@@ -11,8 +11,9 @@ use Rattle.rg_stack.specs.Refusals.{all_compute, orderly_by, orderly}
 use Rattle.rg_stack.specs.Reads.{reads}
 use Rattle.rg_stack.proofs.Callers.OrderLemmas.{and_first, and_second, calm-mark, orderly-skip}
 use Rattle.rg_stack.proofs.Callers.ReadLemmas.{reads-skip}
-use Rattle.rg_step.specs.Inner.Layout.{calls_next}
-use Rattle.rg_step.specs.Inner.Refusals.{GoesOn, GoesTo, Leaves, Asks, WantsRoom, asking, AtStart, Stands}
+use Rattle.rg_machine.specs.Frames.{calls_next}
+use Rattle.rg_machine.specs.Keeps.{Asks, GoesOn, GoesTo, Leaves, WantsRoom, asking}
+use Rattle.rg_step.specs.Inner.Refusals.{AtStart, Stands}
 use Rattle.rg_step.specs.Inner.Refusals.{Asking}
 use Rattle.rg_step.proofs.TurnLemmas.{drop-drop}
 use Rattle.rg_step.proofs.ClearLemmas.{at-place}

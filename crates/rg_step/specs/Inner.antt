@@ -1,7 +1,5 @@
 -- What joins the private layers of this crate; no clause of a public call cites it (docs/architecture.md, "The stepper").
-pub mod Core
-pub mod Layout
-pub mod Objects
 pub mod Walks
 pub mod Refusals
 pub mod Leaps
+pub mod Held

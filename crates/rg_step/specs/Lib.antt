@@ -1,4 +1,3 @@
 -- What callers see of the stepper (docs/architecture.md, "The stepper").
-pub mod Shown
 pub mod Inner
 pub mod Steps

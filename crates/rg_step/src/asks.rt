@@ -3,17 +3,17 @@
 ghost use Rattle.std.specs.Prelude.{◌≡◌, ◌≤◌, Bool as Truth, false};
 ghost use Rattle.rg_io.specs.Content.{Rose};
 ghost use Rattle.rg_input.specs.Numbers.{Follows, OnInput};
-ghost use Rattle.rg_stack.specs.Machine.{Machine};
+ghost use Rattle.rg_stack.specs.Machine.{Machine as StackMachine};
+ghost use Rattle.rg_machine.specs.Parts.{core_of, machine_in};
 ghost use Rattle.rg_step.specs.Inner.Refusals.{ComeBacks, ComeLeaves, Stands};
 ghost use Rattle.rg_step.specs.Inner.Walks.{ComesTo, UnstuckOn, walk_from};
 
-use crate::parts::Parts;
 use crate::walk::{End, walk};
 use rg_base::{Trap, Word};
 use rg_code::CodeList;
 use rg_input::{InputFault, NumberRefusal, Numbers};
 use rg_io::Source;
-use std::alloc::Global;
+use rg_machine::Machine;
 
 /// How a walk along the code ends, where the input has answered.
 #[derive(Clone, Copy)]
@@ -34,22 +34,21 @@ pub(crate) enum Come {
 
 /// Walks along the code from an address on, up to the step's end.
 pub(crate) fn walk_asking<S: Source>(
-    alloc: Global,
-    p: &mut Parts,
+    p: &mut Machine,
     code: &CodeList,
     from: usize,
     input: &mut Numbers,
     source: &mut S,
 ) -> Come
     requires follows { Follows input.old (S.left source.old) }
-    requires given { UnstuckOn input.old (S.left source.old) (walk_from code.now from p.old) }
+    requires given { UnstuckOn input.old (S.left source.old) (walk_from code.now from (core_of p.old)) }
     ensures comes { OnInput input.old input.new (S.left source.old) (S.left source.new)
-        (ComesTo code.now from p.old p.new result) }
-    ensures leaves { (start : Machine) (asks : Truth) →
-        Stands code.now.ops start asks from p.old.machine →
-        ComeLeaves start asks p.new.machine result }
-    ensures backs { ComeBacks p.old.machine result }
-    ensures unasked { (start : Machine) → Stands code.now.ops start false from p.old.machine →
+        (ComesTo code.now from (core_of p.old) (core_of p.new) result) }
+    ensures leaves { (start : StackMachine) (asks : Truth) →
+        Stands code.now.ops start asks from (machine_in p.old) →
+        ComeLeaves start asks (machine_in p.new) result }
+    ensures backs { ComeBacks (machine_in p.old) result }
+    ensures unasked { (start : StackMachine) → Stands code.now.ops start false from (machine_in p.old) →
         (input.new ≡ input.old) × (source.new ≡ source.old) }
     ensures follows { Follows input.new (S.left source.new) }
     ensures fault { result ≡ Come.InputFault → Rose (S.faults source.old) (S.faults source.new) }
@@ -57,7 +56,7 @@ pub(crate) fn walk_asking<S: Source>(
 {
     let mut at = from;
     while at <= code.len() {
-        match walk(alloc, p, code, at) {
+        match walk(p, code, at) {
             End::Read(place) => match input.next(source) {
                 Ok(z) => {
                     p.set_top(Word::Int(z));

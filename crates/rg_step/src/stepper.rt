@@ -1,47 +1,49 @@
 //! The stepper (docs/architecture.md, "The stepper").
 
-ghost use Rattle.std.specs.Prelude.{◌≡◌, ◌≤◌, true, false, length, slice_get};
+ghost use Rattle.std.specs.Prelude.{◌≡◌, ◌≤◌, true, false, length};
 ghost use Rattle.std.specs.Prelude.{IfOk, OnErr, OnOk};
 ghost use Rattle.rg_io.specs.Content.{Rose};
 ghost use Rattle.rg_input.specs.Numbers.{Follows, OnInput};
 ghost use Rattle.rg_tree.specs.Tree.{Tree};
 ghost use Rattle.rg_rules.specs.Inputs.{first_asks};
 ghost use Rattle.rg_rules.specs.State.{State};
+ghost use Rattle.rg_held.specs.Shown.{Finds};
 ghost use Rattle.rg_step.specs.Steps.{Counts, IsRunning, Leapt, Runs, StepsOn, counted};
 ghost use Rattle.rg_step.specs.Steps.{counted_by, fresh, opening_machine};
 
 use crate::leap::leap;
-use crate::parts::Parts;
 use crate::step::{Did, step};
 use rg_base::{Manager, Memory, Outcome, Seen};
 use rg_code::CodeList;
 use rg_input::Numbers;
 use rg_io::Source;
+use rg_machine::Machine;
 use std::alloc::Global;
 use std::marker::Model;
 
-/// The machine that runs the code of a program, step by step.
+/// The machine that runs the code of a program, step by step; there is none before a program begins.
 #[derive(Drop)]
 pub struct Stepper {
-    parts: Parts,
+    machine: Option<Machine>,
     steps: u64,
 }
 
 impl Model for Stepper {
+    ghost use Rattle.rg_step.specs.Inner.Held.{shown};
     ghost use Rattle.rg_step.specs.Steps.{Stepping};
 
     ghost Value = { Stepping };
 
-    ghost view = { λ s. record { machine = s.parts.machine; steps = s.steps } };
+    ghost view = { λ s. record { machine = shown s.machine; steps = s.steps } };
 }
 
 impl Stepper {
     /// A machine on which no program has begun.
-    pub fn new(alloc: Global) -> Stepper
+    pub fn new() -> Stepper
         ensures { result ≡ fresh }
     {
         Stepper {
-            parts: Parts::new(alloc),
+            machine: None,
             steps: 0,
         }
     }
@@ -53,14 +55,19 @@ impl Stepper {
             (self.new ≡ record fresh { machine = opening_machine code.now manager }) }
         ensures kept { OnErr result (self.new ≡ self.old) }
     {
-        self.parts.begin(alloc, code, manager)
+        let machine = Machine::begin(alloc, code.main_slots(), manager)?;
+        self.machine = Some(machine);
+        Ok(())
     }
 
     /// How many objects were made.
     pub fn made(&self) -> u64
         ensures { result ≡ length self.now.machine.store }
     {
-        self.parts.made()
+        match &self.machine {
+            Some(p) => p.made(),
+            None => 0,
+        }
     }
 
     /// How many steps were made.
@@ -70,11 +77,14 @@ impl Stepper {
         self.steps
     }
 
-    /// The object of a serial; None past the last one that was made.
+    /// The object of a serial; None where none that is held has it.
     pub fn object(&self, alloc: Global, serial: u64) -> Result<Option<Seen>, Memory>
-        ensures { IfOk result (λ o. o ≡ slice_get self.now.machine.store serial) }
+        ensures { IfOk result (Finds self.now.machine.store serial) }
     {
-        self.parts.object(alloc, serial)
+        match &self.machine {
+            Some(p) => p.object(alloc, serial),
+            None => Ok(None),
+        }
     }
 
     /// Makes as many steps as can be made at once, at most so many, and answers how many. None of
@@ -85,7 +95,10 @@ impl Stepper {
         ensures most { result ≤ most }
         ensures counts { self.new.steps ≡ counted_by result self.old.steps }
     {
-        let made = leap(&mut self.parts, code, most);
+        let Some(p) = &mut self.machine else {
+            unreachable!();
+        };
+        let made = leap(p, code, most);
         self.steps = more(self.steps, made);
         made
     }
@@ -94,7 +107,6 @@ impl Stepper {
     /// input is asked at most where the first thing to do asks.
     pub fn step<S: Source>(
         &mut self,
-        alloc: Global,
         code: &CodeList,
         input: &mut Numbers,
         source: &mut S,
@@ -113,17 +125,22 @@ impl Stepper {
             Rose (S.faults source.old) (S.faults source.new) }
         ensures never_falls { S.faults source.old ≤ S.faults source.new }
     {
-        match step(alloc, &mut self.parts, code, input, source) {
+        let Some(p) = &mut self.machine else {
+            unreachable!();
+        };
+        match step(p, code, input, source) {
             Did::Goes => {
+                let printed = p.printed();
                 self.steps = one_more(self.steps);
-                match self.parts.printed() {
+                match printed {
                     Some(v) => Outcome::Printed(v),
                     None => Outcome::Running,
                 }
             }
             Did::Ends => {
+                let printed = p.printed();
                 self.steps = one_more(self.steps);
-                match self.parts.printed() {
+                match printed {
                     Some(v) => Outcome::Printed(v),
                     None => Outcome::Done,
                 }

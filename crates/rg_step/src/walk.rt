@@ -1,17 +1,15 @@
 //! The loop over the instructions of a step (docs/architecture.md, "The stepper").
 
 ghost use Rattle.std.specs.Prelude.{Bool as Truth};
-ghost use Rattle.rg_stack.specs.Machine.{Machine};
+ghost use Rattle.rg_stack.specs.Machine.{Machine as StackMachine};
+ghost use Rattle.rg_machine.specs.Parts.{core_of, machine_in};
 ghost use Rattle.rg_step.specs.Inner.Refusals.{EndBacks, EndLeaves, Stands};
 ghost use Rattle.rg_step.specs.Inner.Walks.{Unstuck, WalkIs, walk_from};
 
-use crate::act::act;
-use crate::next::Next;
-use crate::parts::Parts;
 use crate::room::{Roomed, make_room};
 use rg_base::Trap;
 use rg_code::CodeList;
-use std::alloc::Global;
+use rg_machine::{Machine, Next, act};
 
 /// How a walk along the code ends.
 #[derive(Clone, Copy)]
@@ -34,17 +32,17 @@ pub(crate) enum End {
 
 /// Walks along the code from an address on, up to the step's end or an instruction that asks the
 /// input.
-pub(crate) fn walk(alloc: Global, p: &mut Parts, code: &CodeList, from: usize) -> End
-    requires { Unstuck (walk_from code.now from p.old) }
-    ensures walk { WalkIs code.now from p.old p.new result }
-    ensures leaves { (start : Machine) (asks : Truth) →
-        Stands code.now.ops start asks from p.old.machine →
-        EndLeaves code.now.ops start asks p.new.machine result }
-    ensures backs { EndBacks p.old.machine p.new.machine result }
+pub(crate) fn walk(p: &mut Machine, code: &CodeList, from: usize) -> End
+    requires { Unstuck (walk_from code.now from (core_of p.old)) }
+    ensures walk { WalkIs code.now from (core_of p.old) (core_of p.new) result }
+    ensures leaves { (start : StackMachine) (asks : Truth) →
+        Stands code.now.ops start asks from (machine_in p.old) →
+        EndLeaves code.now.ops start asks (machine_in p.new) result }
+    ensures backs { EndBacks (machine_in p.old) (machine_in p.new) result }
 {
     let mut at = from;
     while at < code.len() {
-        match act(alloc, p, code, at, code.get(at)) {
+        match act(p, code, at, code.get(at)) {
             Next::On => at += 1,
             Next::To(to) => {
                 if to > at {

@@ -5,8 +5,8 @@ use Rattle.rg_code.specs.declared.op.Op.TheVariants as i
 use Rattle.rg_stack.specs.Machine.{Frame, Machine}
 use Rattle.rg_stack.specs.Refusals.{Manner, Ends, Clears, Settles, Takes, Computes, Prepares, Calls, Chooses, Passes, Orderly, calm, orderly}
 use Rattle.rg_stack.specs.Reads.{reads}
-use Rattle.rg_step.specs.declared.next.Next.{Next}
-use Rattle.rg_step.specs.declared.next.Next.TheVariants as next
+use Rattle.rg_machine.specs.declared.next.Next.{Next}
+use Rattle.rg_machine.specs.declared.next.Next.TheVariants as next
 use Rattle.rg_step.specs.declared.asks.Come.{Come}
 use Rattle.rg_step.specs.declared.asks.Come.TheVariants as come
 use Rattle.rg_step.specs.declared.step.Did.{Did}

@@ -1,21 +1,22 @@
 use Rattle.std.proofs.Common.{◌∙◌, ◌+◌, ap, subst, sym, arith}
 use Rattle.rg_stack.specs.Refusals.{manner}
-use Rattle.rg_step.specs.Inner.Core.{Core}
-use Rattle.rg_step.specs.Inner.Refusals.{WantsRoom}
+use Rattle.rg_machine.specs.Core.{Core}
+use Rattle.rg_machine.specs.Keeps.{WantsRoom}
 use Rattle.rg_step.specs.Inner.Walks.{walk_from}
-use Rattle.rg_step.proofs.TurnLemmas.{given-here, turn-on, turn-to, turn-back, turn-ends, turn-read, turn-more, turn-room, turn-full}
+use Rattle.rg_step.proofs.TurnLemmas.{given-here, past-code, turn-on, turn-to, turn-back, turn-ends, turn-read, turn-more, turn-room, turn-full}
 use Rattle.rg_step.proofs.StandsLemmas.{stands-on, stands-to, stands-back, stands-left, stands-asking, stands-number, stands-free, stands-roomless}
 use Rattle.rg_step.proofs.LeavesLemmas.{on-backs, to-backs, asks-backs, room-backs, same-back}
+use Rattle.rg_machine.specs.Parts.{core_of, machine_in}
 use Rattle.rg_step.proofs.walk.walk.Goals as goal
 
 pub act-requires-clause-given : goal.act-requires-clause-given
-act-requires-clause-given c = given-here c.args.code.now c.loop-at.at c.get.result c.loop-at.p _ c.requires c.loop-at.invariant.walks c.get.ensures
+act-requires-clause-given c = given-here c.args.code.now c.loop-at.at c.get.result (core_of c.loop-at.p) _ c.requires c.loop-at.invariant.walks c.get.ensures
 
 pub make_room-requires : goal.make_room-requires
 make_room-requires c lt =
     let some = c.requires in (
       some.0,
-      λ stuck. some.1 (turn-room c.args.code.now c.loop-at.at c.get.result c.loop-at.p c.act.new.p _ some c.loop-at.invariant.walks c.get.ensures
+      λ stuck. some.1 (turn-room c.args.code.now c.loop-at.at c.get.result (core_of c.loop-at.p) (core_of c.act.new.p) _ some c.loop-at.invariant.walks c.get.ensures
           c.in-Room.ensures.effect lt some.0 ∙ stuck),
     )
 
@@ -23,8 +24,8 @@ pub loop-at-preserved-in-On : goal.loop-at-preserved-in-On
 loop-at-preserved-in-On c =
     let code = c.args.code.now in
     let i = c.loop-at.invariant in
-    let old = c.loop-at.p in
-    let new = c.act.new.p in
+    let old = (core_of c.loop-at.p) in
+    let new = (core_of c.act.new.p) in
     let op = c.get.result in
     record {
       further = omega (arith, i.further);
@@ -38,8 +39,8 @@ pub loop-at-preserved-then-to-at : goal.loop-at-preserved-then-to-at
 loop-at-preserved-then-to-at c =
     let code = c.args.code.now in
     let i = c.loop-at.invariant in
-    let old = c.loop-at.p in
-    let new = c.act.new.p in
+    let old = (core_of c.loop-at.p) in
+    let new = (core_of c.act.new.p) in
     let op = c.get.result in
     record {
       further = omega (arith, i.further, c.if-to-at.true);
@@ -55,8 +56,8 @@ pub loop-at-preserved-else-to-at : goal.loop-at-preserved-else-to-at
 loop-at-preserved-else-to-at c =
     let code = c.args.code.now in
     let i = c.loop-at.invariant in
-    let old = c.loop-at.p in
-    let new = c.act.new.p in
+    let old = (core_of c.loop-at.p) in
+    let new = (core_of c.act.new.p) in
     let op = c.get.result in
     record {
       further = omega (arith, i.further);
@@ -71,14 +72,14 @@ pub loop-at-preserved : goal.loop-at-preserved
 loop-at-preserved c =
     let code = c.args.code.now in
     let i = c.loop-at.invariant in
-    let old = c.loop-at.p in
-    let new = c.make_room.new.p in
+    let old = (core_of c.loop-at.p) in
+    let new = (core_of c.make_room.new.p) in
     let op = c.get.result in
     let W : Core → Type 0 = λ n. WantsRoom (manner op) old.machine n.machine in
     let wants = subst W (sym c.in-Free.ensures.0) c.in-Room.ensures.keeps in
     record {
       further = omega (arith, i.further);
-      walks = λ input. turn-room code c.loop-at.at op old c.act.new.p _ c.requires i.walks c.get.ensures c.in-Room.ensures.effect
+      walks = λ input. turn-room code c.loop-at.at op old (core_of c.act.new.p) _ c.requires i.walks c.get.ensures c.in-Room.ensures.effect
           c.in-Free.ensures.1 input
           ∙ sym (ap (λ n. walk_from code (c.loop-at.at + 1) n input) c.in-Free.ensures.0);
       stands = λ start asks h. stands-free code.ops start asks c.loop-at.at old.machine new.machine op c.get.ensures wants c.in-Free.ensures.2
@@ -89,7 +90,7 @@ loop-at-preserved c =
 pub returns-in-Called : goal.returns-in-Called
 returns-in-Called c =
     let i = c.loop-at.invariant in record {
-      walk = λ input. turn-room c.args.code.now c.loop-at.at c.get.result c.loop-at.p c.act.new.p _ c.requires i.walks c.get.ensures
+      walk = λ input. turn-room c.args.code.now c.loop-at.at c.get.result (core_of c.loop-at.p) (core_of c.act.new.p) _ c.requires i.walks c.get.ensures
           c.in-Room.ensures.effect
           c.in-Called.ensures.0 input
           ∙ c.in-Called.ensures.1 input;
@@ -100,7 +101,7 @@ returns-in-Called c =
 pub returns-in-Lost-make_room : goal.returns-in-Lost-make_room
 returns-in-Lost-make_room c =
     let i = c.loop-at.invariant in record {
-      walk = λ input. turn-room c.args.code.now c.loop-at.at c.get.result c.loop-at.p c.act.new.p _ c.requires i.walks c.get.ensures
+      walk = λ input. turn-room c.args.code.now c.loop-at.at c.get.result (core_of c.loop-at.p) (core_of c.act.new.p) _ c.requires i.walks c.get.ensures
           c.in-Room.ensures.effect
           c.in-Lost-make_room.ensures.0 input
           ∙ c.in-Lost-make_room.ensures.1 input;
@@ -114,10 +115,10 @@ returns-in-Full c =
     let op = c.get.result in
     let same = c.in-Full.ensures.0 in
     record {
-      walk = turn-full c.args.code.now c.loop-at.at op c.loop-at.p c.act.new.p _ c.requires i.walks c.get.ensures c.in-Room.ensures.effect
+      walk = turn-full c.args.code.now c.loop-at.at op (core_of c.loop-at.p) (core_of c.act.new.p) _ c.requires i.walks c.get.ensures c.in-Room.ensures.effect
           c.in-Full.ensures.1;
       leaves = λ start asks h. ap (λ (n : Core). n.machine) same
-          ∙ stands-roomless c.args.code.now.ops start asks c.loop-at.at c.loop-at.p.machine c.act.new.p.machine op c.get.ensures
+          ∙ stands-roomless c.args.code.now.ops start asks c.loop-at.at (machine_in c.loop-at.p) (machine_in c.act.new.p) op c.get.ensures
           c.in-Room.ensures.keeps (i.stands start asks h);
       backs = tt;
     }
@@ -129,14 +130,14 @@ returns-in-Memory-make_room c =
     record {
       walk = tt;
       leaves = λ start asks h. ap (λ (n : Core). n.machine) c.in-Memory-make_room.ensures
-          ∙ stands-roomless c.args.code.now.ops start asks c.loop-at.at c.loop-at.p.machine c.act.new.p.machine op c.get.ensures
+          ∙ stands-roomless c.args.code.now.ops start asks c.loop-at.at (machine_in c.loop-at.p) (machine_in c.act.new.p) op c.get.ensures
           c.in-Room.ensures.keeps (i.stands start asks h);
       backs = tt;
     }
 
 pub returns-in-Stop : goal.returns-in-Stop
 returns-in-Stop c = record {
-  walk = turn-ends c.args.code.now c.loop-at.at c.get.result c.loop-at.p _ _ c.requires c.loop-at.invariant.walks c.get.ensures
+  walk = turn-ends c.args.code.now c.loop-at.at c.get.result (core_of c.loop-at.p) _ _ c.requires c.loop-at.invariant.walks c.get.ensures
       c.in-Stop.ensures.effect;
   leaves = λ start asks h. tt;
   backs = tt;
@@ -144,17 +145,17 @@ returns-in-Stop c = record {
 
 pub returns-in-Return : goal.returns-in-Return
 returns-in-Return c = record {
-  walk = turn-ends c.args.code.now c.loop-at.at c.get.result c.loop-at.p _ _ c.requires c.loop-at.invariant.walks c.get.ensures
+  walk = turn-ends c.args.code.now c.loop-at.at c.get.result (core_of c.loop-at.p) _ _ c.requires c.loop-at.invariant.walks c.get.ensures
       c.in-Return.ensures.effect;
   leaves = λ start asks h. tt;
-  backs = same-back c.args.p.now.machine.frames c.loop-at.p.machine.frames c.in-Return.back c.loop-at.invariant.backs c.in-Return.ensures.keeps;
+  backs = same-back (machine_in c.args.p.now).frames (machine_in c.loop-at.p).frames c.in-Return.back c.loop-at.invariant.backs c.in-Return.ensures.keeps;
 }
 
 pub returns-in-Trap : goal.returns-in-Trap
 returns-in-Trap c = record {
-  walk = turn-ends c.args.code.now c.loop-at.at c.get.result c.loop-at.p _ _ c.requires c.loop-at.invariant.walks c.get.ensures
+  walk = turn-ends c.args.code.now c.loop-at.at c.get.result (core_of c.loop-at.p) _ _ c.requires c.loop-at.invariant.walks c.get.ensures
       c.in-Trap.ensures.effect;
-  leaves = λ start asks h. stands-left c.args.code.now.ops start asks c.loop-at.at c.loop-at.p.machine c.act.new.p.machine c.get.result c.get.ensures
+  leaves = λ start asks h. stands-left c.args.code.now.ops start asks c.loop-at.at (machine_in c.loop-at.p) (machine_in c.act.new.p) c.get.result c.get.ensures
       c.in-Trap.ensures.keeps (c.loop-at.invariant.stands start asks h);
   backs = tt;
 }
@@ -162,14 +163,14 @@ returns-in-Trap c = record {
 pub returns-in-Memory : goal.returns-in-Memory
 returns-in-Memory c = record {
   walk = tt;
-  leaves = λ start asks h. stands-left c.args.code.now.ops start asks c.loop-at.at c.loop-at.p.machine c.act.new.p.machine c.get.result c.get.ensures
+  leaves = λ start asks h. stands-left c.args.code.now.ops start asks c.loop-at.at (machine_in c.loop-at.p) (machine_in c.act.new.p) c.get.result c.get.ensures
       c.in-Memory.ensures.keeps (c.loop-at.invariant.stands start asks h);
   backs = tt;
 }
 
 pub returns-in-Lost : goal.returns-in-Lost
 returns-in-Lost c = record {
-  walk = turn-ends c.args.code.now c.loop-at.at c.get.result c.loop-at.p _ _ c.requires c.loop-at.invariant.walks c.get.ensures
+  walk = turn-ends c.args.code.now c.loop-at.at c.get.result (core_of c.loop-at.p) _ _ c.requires c.loop-at.invariant.walks c.get.ensures
       c.in-Lost.ensures.effect;
   leaves = λ start asks h. tt;
   backs = tt;
@@ -179,26 +180,30 @@ pub returns-in-Read : goal.returns-in-Read
 returns-in-Read c =
     let i = c.loop-at.invariant in
     let op = c.get.result in
-    let r = turn-read c.args.code.now c.loop-at.at op c.loop-at.p c.act.new.p _ c.requires i.walks c.get.ensures c.in-Read.ensures.effect in
+    let r = turn-read c.args.code.now c.loop-at.at op (core_of c.loop-at.p) (core_of c.act.new.p) _ c.requires i.walks c.get.ensures c.in-Read.ensures.effect in
     record {
       walk = (i.further, omega (arith, c.loop-at-test.true, c.len.ensures), r.0, r.1);
       leaves = λ start asks h. (
-        stands-asking c.args.code.now.ops start asks c.loop-at.at c.loop-at.p.machine c.act.new.p.machine op c.get.ensures
+        stands-asking c.args.code.now.ops start asks c.loop-at.at (machine_in c.loop-at.p) (machine_in c.act.new.p) op c.get.ensures
             c.in-Read.ensures.keeps.0 c.in-Read.ensures.keeps.1 (i.stands start asks h),
-        stands-number c.args.code.now.ops start asks c.loop-at.at c.loop-at.p.machine c.act.new.p.machine op c.get.ensures
+        stands-number c.args.code.now.ops start asks c.loop-at.at (machine_in c.loop-at.p) (machine_in c.act.new.p) op c.get.ensures
             c.in-Read.ensures.keeps.2 c.in-Read.ensures.keeps.1 (i.stands start asks h),
       );
-      backs = asks-backs (manner op) c.loop-at.p.machine c.act.new.p.machine c.in-Read.ensures.keeps.1 ∙ i.backs;
+      backs = asks-backs (manner op) (machine_in c.loop-at.p) (machine_in c.act.new.p) c.in-Read.ensures.keeps.1 ∙ i.backs;
     }
 
 pub returns-in-More : goal.returns-in-More
 returns-in-More c =
     let i = c.loop-at.invariant in
     let op = c.get.result in
-    let r = turn-more c.args.code.now c.loop-at.at op c.loop-at.p c.act.new.p _ c.requires i.walks c.get.ensures c.in-More.ensures.effect in
+    let r = turn-more c.args.code.now c.loop-at.at op (core_of c.loop-at.p) (core_of c.act.new.p) _ c.requires i.walks c.get.ensures c.in-More.ensures.effect in
     record {
       walk = (i.further, omega (arith, c.loop-at-test.true, c.len.ensures), r.0, r.1);
-      leaves = λ start asks h. stands-asking c.args.code.now.ops start asks c.loop-at.at c.loop-at.p.machine c.act.new.p.machine op c.get.ensures
+      leaves = λ start asks h. stands-asking c.args.code.now.ops start asks c.loop-at.at (machine_in c.loop-at.p) (machine_in c.act.new.p) op c.get.ensures
           c.in-More.ensures.keeps.0 c.in-More.ensures.keeps.1 (i.stands start asks h);
-      backs = asks-backs (manner op) c.loop-at.p.machine c.act.new.p.machine c.in-More.ensures.keeps.1 ∙ i.backs;
+      backs = asks-backs (manner op) (machine_in c.loop-at.p) (machine_in c.act.new.p) c.in-More.ensures.keeps.1 ∙ i.backs;
     }
+
+pub returns-clause-walk : goal.returns-clause-walk
+returns-clause-walk c input = c.loop-at.invariant.walks input
+    ∙ past-code c.args.code.now c.loop-at.at (core_of c.loop-at.p) input (omega (arith, c.loop-at-test.false, c.len.ensures))
