@@ -36,7 +36,7 @@ pub fn call<F: Files>(
         &mut source,
         &mut out,
         &mut notes,
-        &mut Machine::new(alloc),
+        &mut Machine::new(),
     );
     Some(Called {
         out,

@@ -107,7 +107,7 @@ fn streams_that_fail_are_named(rt: HostRuntime) -> Result<(), Fail> {
             rt.alloc(),
             &[command, of],
             &mut taken,
-            &mut Machine::new(rt.alloc()),
+            &mut Machine::new(),
         );
         assert_eq!(rt; answer, status);
         assert_eq!(rt; taken.out.taken(), output.as_bytes());
@@ -121,7 +121,7 @@ fn the_machine_shows_what_a_run_made(rt: HostRuntime) -> Result<(), Fail> {
     let source: &[u8] =
         b"class N { v: int; } main trace { let a: mut N = new N; a.v = 5; print a.v; }";
     let mut taken = ample_streams(rt.alloc(), source, b"")?;
-    let mut machine = Machine::new(rt.alloc());
+    let mut machine = Machine::new();
     let status = call(rt.alloc(), &["run", "a"], &mut taken, &mut machine);
     assert_eq!(rt; status, Status::Done);
     assert_eq!(rt; machine.numbers().steps, 4);

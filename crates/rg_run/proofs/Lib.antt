@@ -1,5 +1,6 @@
+mod HoldsLemmas
+pub mod ShownLemmas
 pub mod SoundLemmas
 mod OutputLemmas
 pub mod RunLemmas
 mod TurnLemmas
-mod ShownLemmas

@@ -1,14 +1,14 @@
--- Each run of an accepted program is sound, and a machine that shows a state shows all that is held. For callers.
-use Rattle.std.proofs.Common.{◌≡◌, ℕ, List, slice_get, ap, ◌∙◌}
+-- Each run of an accepted program is sound, and of a machine that shows a state what it holds is known. For callers.
+use Rattle.std.proofs.Common.{◌≡◌, ℕ, List}
 use Rattle.rg_tree.specs.Tree.{Tree}
 use Rattle.rg_tree.specs.Rows.Tables.{Tables}
-use Rattle.rg_tree.specs.Rows.RowTrees.{classes_of, program_of}
+use Rattle.rg_tree.specs.Rows.RowTrees.{program_of}
 use Rattle.rg_rules.specs.Acceptance.{Accepted}
-use Rattle.rg_rules.specs.State.{State}
 use Rattle.rg_rules.specs.Runs.{plain}
 use Rattle.rg_sound.proofs.LawLemmas.{run-fits, run-allowed, run-holds}
 use Rattle.rg_run.specs.Machine.{Kept, Shows}
-use Rattle.rg_run.specs.Sound.{IsSound, ShowsHeld, Stands}
+use Rattle.rg_run.specs.Sound.{IsSound, Stands}
+use Rattle.rg_run.proofs.HoldsLemmas.{holds-of}
 
 -- each run of an accepted program is sound
 pub run-is-sound : (t : Tree) → Accepted t → (input : List ℕ) (n : ℕ) → IsSound t input n
@@ -19,16 +19,12 @@ run-is-sound t a input n = record {
   writes = λ k l. run-allowed t a input k;
 }
 
--- a machine that shows a state shows its held objects
-shows-held : (t : Tables) (m : Kept) (s : State) → Shows t m s → ShowsHeld (classes_of t) m s
-shows-held t m s shows serial h = ap (λ q. slice_get q serial) shows.state.store ∙ h.there
-
 -- a run whose state the machine shows stands there
 pub stands-shown : (t : Tables) (input : List ℕ) (n : ℕ) (m : Kept) → Accepted (program_of t) →
     Shows t m (plain (program_of t) input n).state → m.steps ≡ (plain (program_of t) input n).steps → Stands t input n m
 stands-shown t input n m a shows steps = record {
   shows = shows;
-  held = shows-held t m _ shows;
+  held = holds-of (program_of t) shows.code m _ (run-fits (program_of t) a input n) shows.state;
   steps = steps;
   sound = run-is-sound (program_of t) a input n;
 }

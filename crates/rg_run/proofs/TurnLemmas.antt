@@ -29,9 +29,11 @@ use Rattle.rg_plain.proofs.BehindLemmas.{settles_by, ends_by}
 use Rattle.rg_plain.proofs.Runs.RunLemmas.{RanSoFar}
 use Rattle.rg_plain.proofs.Runs.RunLemmas as run
 use Rattle.rg_stack.specs.Machine.{Machine}
-use Rattle.rg_stack.specs.Shows as stack
+use Rattle.rg_stack.specs.Runs.{opening as opened}
 use Rattle.rg_stack.specs.Simulates.{NoneLeft, SomeLeft}
 use Rattle.rg_stack.proofs.Callers.OpeningLemmas.{opening-shows, opening-fit}
+use Rattle.rg_held.specs.Shown.{ShowsHeld}
+use Rattle.rg_held.proofs.Callers.OpeningLemmas.{opening-match}
 use Rattle.rg_step.specs.Steps.{Stepping, opening_machine}
 use Rattle.rg_step.specs.Steps.{Leapt, Runs, IsRunning, StepsOn}
 use Rattle.rg_step.specs.Steps as stepper
@@ -102,7 +104,8 @@ pub begins : (t : Tables) (code : Code) (m : Machine) (content : Option (List �
     Between t code 0 m content content Still bytes bytes
 begins t code m content Still bytes accepted lowers is nothing still =
     let p = program_of t in
-    let P : Machine → Type 0 = λ q. stack.Shows p.classes code q (opening p bytes) in
+    let P : Machine → Type 0 = λ q. ShowsHeld p.classes code q (opening p bytes) in
+    let w = opened p code bytes in
     let left = opening-left p.body in
     record {
       state = opening p bytes;
@@ -111,7 +114,12 @@ begins t code m content Still bytes accepted lowers is nothing still =
         accepted = accepted;
         lowers = lowers;
         fits = opening-fit p bytes accepted;
-        shows = subst P (sym is) (opening-shows p code bytes accepted lowers).shows;
+        shows = subst P (sym is) (record {
+          grown = w.machine;
+          held = (opening-match p code bytes).0;
+          shows = (opening-shows p code bytes accepted lowers).shows;
+          beside = (opening-match p code bytes).1.machine;
+        });
         left = left;
       };
       input = refl;
@@ -123,7 +131,7 @@ begins t code m content Still bytes accepted lowers is nothing still =
 record Stepped (t : Tables) (code : Code) (new : Machine) (p : State) (r : Outcome) (after : List ℕ) : Type 0 where
   pub state : State
   pub settles : Settles (next (classes_of t) p) p state r
-  pub shows : stack.Shows (classes_of t) code new state
+  pub shows : ShowsHeld (classes_of t) code new state
   pub input : state.input ≡ after
 
 step-is : (t : Tables) (code : Code) (k : ℕ) (m new : Machine) (old out : Option (List ℕ)) (Still : Type 0) (before between after : List ℕ) (r : Outcome) →
@@ -140,7 +148,7 @@ step-is t code k m new old out Still before between after r b step =
 
 -- the program runs on behind a step that went on
 runs-on : (t : Tables) (code : Code) (m new : Machine) (p q : State) → Runs (program_of t) code m p → next (classes_of t) p ≡ Went q → q.items ≢ [] →
-    stack.Shows (classes_of t) code new q → Runs (program_of t) code new q
+    ShowsHeld (classes_of t) code new q → Runs (program_of t) code new q
 runs-on t code m new p q runs went some shows = record {
   accepted = runs.accepted;
   lowers = runs.lowers;
@@ -209,7 +217,7 @@ module _ (t : Tables) (code : Code) (n k : ℕ) (within : k < n) (m : Machine) (
   abbrev behind : ℕ → Kept
   behind steps = record { begun = started; stepper = new; steps = steps }
 
-  shows-at : (steps : ℕ) (p q : State) → Runs (program_of t) code m p → stack.Shows (classes_of t) code new.machine q → q.input ≡ after →
+  shows-at : (steps : ℕ) (p q : State) → Runs (program_of t) code m p → ShowsHeld (classes_of t) code new.machine q → q.input ≡ after →
       ShowsAt t (behind steps) after q
   shows-at steps p q runs shows input = (record { begun = is; code = code; lowers = runs.lowers; state = shows }, input)
 

@@ -64,7 +64,7 @@ impl Inside {
         };
         self.begun = true;
         while self.steps < n {
-            match self.stepper.step(alloc, code, input, source) {
+            match self.stepper.step(code, input, source) {
                 Outcome::Running => {
                     self.steps += 1;
                     self.steps += self.stepper.leap(code, n - self.steps);

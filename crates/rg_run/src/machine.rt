@@ -5,7 +5,7 @@ ghost use Rattle.rg_tree.specs.Rows.RowTrees.{program_of};
 ghost use Rattle.rg_code.specs.Lowering.{Lowers};
 ghost use Rattle.rg_io.specs.Content.{Rose};
 ghost use Rattle.rg_input.specs.Numbers.{Follows, OnInput};
-ghost use Rattle.rg_run.specs.Machine.{IsFresh, numbers_of, object_at};
+ghost use Rattle.rg_run.specs.Machine.{IsFresh, IsShown, numbers_of};
 ghost use Rattle.rg_run.specs.Runs.{RunsOn};
 
 use crate::inside::Inside;
@@ -43,13 +43,13 @@ impl Model for Machine {
 
 impl Machine {
     /// A machine on which no run has begun.
-    pub fn new(alloc: Global) -> Machine
+    pub fn new() -> Machine
         ensures { IsFresh result }
     {
         Machine {
             inside: Inside {
                 begun: false,
-                stepper: Stepper::new(alloc),
+                stepper: Stepper::new(),
                 steps: 0,
             },
         }
@@ -62,7 +62,7 @@ impl Machine {
         !self.inside.begun
     }
 
-    /// The numbers of the run so far.
+    /// The numbers of the run so far. How many cells it holds, and ever held, isn't told yet.
     pub fn numbers(&self) -> EndNumbers
         ensures { result ≡ numbers_of self.now }
     {
@@ -78,9 +78,9 @@ impl Machine {
         }
     }
 
-    /// The object of a serial; None past the last one that was made.
+    /// The object of a serial; None where the machine holds none.
     pub fn shown(&self, alloc: Global, serial: u64) -> Result<Option<Seen>, Memory>
-        ensures { IfOk result (λ o. o ≡ object_at self.now serial) }
+        ensures { IfOk result (IsShown self.now serial) }
     {
         self.inside.stepper.object(alloc, serial)
     }

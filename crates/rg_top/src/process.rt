@@ -80,7 +80,7 @@ fn called(rt: &HostRuntime) -> Status {
             &mut StdSource::new(rt.stdin()),
             &mut StdSink::new(rt.stdout()),
             &mut notes,
-            &mut Machine::new(alloc),
+            &mut Machine::new(),
         ),
     }
 }
