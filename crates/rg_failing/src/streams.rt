@@ -103,12 +103,7 @@ fn streams_that_fail_are_named(rt: HostRuntime) -> Result<(), Fail> {
         taken.input.fail_at(input)?;
         taken.out.fail_at(out)?;
         taken.notes.fail_at(notes)?;
-        let answer = call(
-            rt.alloc(),
-            &[command, of],
-            &mut taken,
-            &mut Machine::new(),
-        );
+        let answer = call(rt.alloc(), &[command, of], &mut taken, &mut Machine::new());
         assert_eq!(rt; answer, status);
         assert_eq!(rt; taken.out.taken(), output.as_bytes());
         assert_eq!(rt; taken.notes.taken(), told.as_bytes());
