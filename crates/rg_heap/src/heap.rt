@@ -371,7 +371,15 @@ impl Heap {
         let Word::Slot(slot) = at else {
             return false;
         };
-        match region_of(&self.cells, &self.regions, slot) {
+        let Label::Region(number) = self.cells.label(slot) else {
+            return false;
+        };
+        if let Some(top) = frames.top_window() {
+            if self.regions.has_number(top.region, number) {
+                return false;
+            }
+        }
+        match self.regions.key(number) {
             Some(key) => !frames.is_open(key),
             None => false,
         }

@@ -1,6 +1,7 @@
 //! The table of regions (docs/architecture.md, "Regions").
 
 ghost use Rattle.std.specs.Prelude.{◌≡◌, ◌<◌, ◌-◌, ◌^◌, ℕ, [], Some, None, IfSome, IfOk};
+ghost use Rattle.std.specs.Prelude.{true, false};
 ghost use Rattle.std.specs.Prelude.{OnOk, OnErr, length, option_map, slice_index_or, slice_set};
 ghost use Rattle.std.specs.Prelude.{count_by, is_some};
 ghost use Rattle.rg_regions.specs.Table.{Record, record_at, link_at, IsKey, HasNumber};
@@ -86,6 +87,18 @@ impl Regions {
         ensures { HasNumber self.now key result }
     {
         self.region(key).number
+    }
+
+    /// Whether the region of a key, if there is one, has a number; nothing is looked up by the number.
+    #[inline]
+    pub fn has_number(&self, key: usize, number: u64) -> bool
+        ensures yes { result ≡ true → HasNumber self.now key number }
+        ensures no { result ≡ false → HasNumber self.now key number → ⊥ }
+    {
+        match self.records.get(key) {
+            Some(region) => region.number == number,
+            None => false,
+        }
     }
 
     /// The manager of a region.
