@@ -5,3 +5,4 @@ pub mod OpeningLemmas
 pub mod RunLemmas
 pub mod RefusalLemmas
 pub mod ReadLemmas
+pub mod DueLemmas

@@ -9,5 +9,6 @@ pub mod BeginLemmas
 pub mod SpotLemmas
 pub mod LeftLemmas
 pub mod ItemLemmas
+pub mod MakeLemmas
 pub mod LabelLemmas
 pub mod BaseLemmas

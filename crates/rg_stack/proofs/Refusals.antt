@@ -2,4 +2,6 @@
 pub mod OrderLemmas
 pub mod KindLemmas
 pub mod BehindLemmas
+pub mod PlainLemmas
 pub mod ReadLemmas
+pub mod DueLemmas

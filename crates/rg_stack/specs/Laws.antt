@@ -16,6 +16,7 @@ use Rattle.rg_stack.specs.Runs.{step, opening, coded}
 use Rattle.rg_stack.specs.Given.{given_step}
 use Rattle.rg_stack.specs.Shows.{Shows}
 use Rattle.rg_stack.specs.Reads.{reads}
+use Rattle.rg_stack.specs.Dues.{due_at, first_due}
 use Rattle.rg_stack.specs.Refusals.{Orderly}
 use Rattle.rg_stack.specs.Simulates.{Holds, SomeLeft, SameStep, SameRun}
 
@@ -43,6 +44,11 @@ StepsOrderly = (t : Tree) (code : Code) (m : Machine) (p : State) → Accepted t
 abbrev pub StepsAsk : Type 0
 StepsAsk = (t : Tree) (code : Code) (m : Machine) (p : State) → Fit t p → Shows t.classes code m p → SomeLeft p.items →
     reads (drop (m.at + 1) code.ops) ≡ first_asks p.items
+
+-- where a step begins, its code may collect exactly where the first thing to do may, and for the same cause
+abbrev pub StepsDue : Type 0
+StepsDue = (t : Tree) (code : Code) (m : Machine) (p : State) → Accepted t → Fit t p → Shows t.classes code m p → SomeLeft p.items →
+    due_at code.ops m.at ≡ first_due t.classes p.items
 
 -- where a step begins, no instruction of it lacks what it needs
 abbrev pub StepsGiven : Type 0

@@ -2,7 +2,7 @@
 //! (docs/architecture.md, "The stack machine").
 
 ghost use Rattle.rg_stack.specs.Laws.{OpeningShows, StepShows, RunShows, StepsOrderly, StepsAsk};
-ghost use Rattle.rg_stack.specs.Laws.{StepsGiven};
+ghost use Rattle.rg_stack.specs.Laws.{StepsDue, StepsGiven};
 
 /// The opening machine of an accepted program shows its opening state.
 pub fn opening_shows()
@@ -29,6 +29,12 @@ pub fn steps_orderly()
 /// Where a step begins, its code asks for the input exactly where the first thing to do does.
 pub fn steps_ask()
     ensures { StepsAsk }
+{}
+
+/// Where a step begins, its code may collect exactly where the first thing to do may: where that is
+/// `collect`, or makes an object by `new C`.
+pub fn steps_due()
+    ensures { StepsDue }
 {}
 
 /// Where a step begins, no instruction of it lacks what it needs of a machine that frees: what is

@@ -239,7 +239,7 @@ iso_type (Ref Paused k) c h = absurd (none-some c h)
 iso_type (Ref Imm k) c h = absurd (none-some c h)
 iso_type (Ref Iso k) c h = (refl, h)
 
-named_class : (classes : List Class) (cap : Cap) (x : Name) (t : Ty) → good_type classes (ref cap x) ≡ Ok t → (k : Class)
+pub named_class : (classes : List Class) (cap : Cap) (x : Name) (t : Ty) → good_type classes (ref cap x) ≡ Ok t → (k : Class)
     × (class_named classes x ≡ Some k)
 named_class classes cap x t h = let p = bind-ok (ok_or (class_named classes x) Unknown) _ t h in
     (p.0, ok_or-ok (class_named classes x) Unknown p.0 p.1)

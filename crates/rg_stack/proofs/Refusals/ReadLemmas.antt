@@ -2,9 +2,7 @@
 use Rattle.std.proofs.Common.{◌≡◌, ℕ, ◌+◌, true, false, true≢false, Bool as Truth, if◌then◌else◌, List, [], ◌∷◌, ◌++◌, length, drop, Option, Some}
 use Rattle.std.proofs.Common.{None, refl, sym, ap, ◌∙◌, append_assoc, slice_get}
 use Rattle.rg_base.specs.declared.ty.Ty.{Ty}
-use Rattle.rg_tree.specs.declared.rows.BinOp.{BinOp}
-use Rattle.rg_tree.specs.declared.rows.BinOp.TheVariants as op
-use Rattle.rg_tree.specs.Tree.{Name, Variable, Expr, number, boolean, nil, path, is_nil, neg, not, binary, Call, Right, value, new, new_tmp}
+use Rattle.rg_tree.specs.Tree.{Name, Variable, Expr, Call, Right, value, new, new_tmp}
 use Rattle.rg_tree.specs.Tree.{new_iso, freeze, merge, read, more, result_of}
 use Rattle.rg_tree.specs.Tree.{StmtKind, declare, assign, call, swap, branch, while, enter, print, collect, return, no_else, otherwise, Block, Class}
 use Rattle.rg_rules.specs.Capabilities.{is_iso}
@@ -13,84 +11,20 @@ use Rattle.rg_rules.specs.Bodies.{is_return}
 use Rattle.rg_rules.specs.Inputs.{asks, kind_asks}
 use Rattle.rg_code.specs.declared.op.Op.{Op}
 use Rattle.rg_code.specs.declared.op.Op.TheVariants as i
-use Rattle.rg_code.specs.Lowering.{Scope, type_in, slot_of, type_behind, fields_code, path_code, holder_code, held_number, gap, operator_code}
-use Rattle.rg_code.specs.Lowering.{expr_code, exprs_code, used_slots, used_by_all, clears, whole_code, number_called, target_class, call_code}
+use Rattle.rg_code.specs.Lowering.{Scope, type_in, slot_of, path_code, holder_code, held_number}
+use Rattle.rg_code.specs.Lowering.{exprs_code, used_by_all, clears, whole_code, number_called, target_class, call_code}
 use Rattle.rg_code.specs.Lowering.{call_result, dropped_code, right_code, pace_code, assign_op, assign_code, swap_code, enter_code, scope_inside}
 use Rattle.rg_code.specs.Lowering.{else_code, block_code, kind_code}
 use Rattle.rg_code.specs.Places.{Stands, is_mark}
 use Rattle.rg_stack.specs.Reads.{reads}
 use Rattle.rg_stack.proofs.Walks.PlaceLemmas.{block_starts}
 use Rattle.rg_stack.proofs.Refusals.KindLemmas.{behind_first}
+use Rattle.rg_stack.proofs.Refusals.PlainLemmas.{plain-check, plain-clears, plain-exprs, plain-path, plain-whole}
 
 pub reads-mark : (os : List Op) → is_mark (slice_get os 0) ≡ true → reads os ≡ false
 reads-mark [] e = refl
 reads-mark (i.Mark line ∷ os) e = refl
 reads-mark (o ∷ os) e = absurd (true≢false (sym e))
-
--- instructions that don't ask, and aren't marks
-abbrev Plain : List Op → Type 0
-Plain ops = (rest : List Op) → reads (ops ++ rest) ≡ reads rest
-
-plain-append : (xs ys : List Op) → Plain xs → Plain ys → Plain (xs ++ ys)
-plain-append xs ys a b rest = ap reads (append_assoc xs ys rest) ∙ a (ys ++ rest) ∙ b rest
-
-plain-fields : (classes : List Class) (t : Ty) (fs : List Name) → Plain (fields_code classes t fs)
-plain-fields classes t [] rest = refl
-plain-fields classes t (f ∷ fs) rest = plain-fields classes (type_behind classes t f) fs rest
-
-plain-path : (classes : List Class) (scope : Scope) (x : Variable) (fs : List Name) → Plain (path_code classes scope x fs)
-plain-path classes scope x fs rest = plain-fields classes (type_in scope x) fs rest
-
-plain-operator : (o : BinOp) (end : ℕ) (right : List Op) → Plain right → Plain (operator_code o end right)
-plain-operator op.Or end right h = h
-plain-operator op.And end right h = h
-plain-operator op.Eq end right h = plain-append right (i.Eq ∷ []) h (λ rest. refl)
-plain-operator op.Ne end right h = plain-append right (i.Ne ∷ []) h (λ rest. refl)
-plain-operator op.Lt end right h = plain-append right (i.Lt ∷ []) h (λ rest. refl)
-plain-operator op.Le end right h = plain-append right (i.Le ∷ []) h (λ rest. refl)
-plain-operator op.Gt end right h = plain-append right (i.Gt ∷ []) h (λ rest. refl)
-plain-operator op.Ge end right h = plain-append right (i.Ge ∷ []) h (λ rest. refl)
-plain-operator op.Add end right h = plain-append right (i.Add ∷ []) h (λ rest. refl)
-plain-operator op.Sub end right h = plain-append right (i.Sub ∷ []) h (λ rest. refl)
-plain-operator op.Mul end right h = plain-append right (i.Mul ∷ []) h (λ rest. refl)
-plain-operator op.Div end right h = plain-append right (i.Div ∷ []) h (λ rest. refl)
-plain-operator op.Rem end right h = plain-append right (i.Rem ∷ []) h (λ rest. refl)
-
-plain-expr : (classes : List Class) (scope : Scope) (at : ℕ) (e : Expr) → Plain (expr_code classes scope at e)
-plain-expr classes scope at (number z) rest = refl
-plain-expr classes scope at (boolean b) rest = refl
-plain-expr classes scope at nil rest = refl
-plain-expr classes scope at (path p) rest = plain-path classes scope p.base p.fields rest
-plain-expr classes scope at (is_nil p) rest = plain-append (path_code classes scope p.base p.fields) (i.IsNil ∷ [])
-    (plain-path classes scope p.base p.fields) (λ rest. refl) rest
-plain-expr classes scope at (neg a) rest = plain-append (expr_code classes scope at a) (i.Neg ∷ []) (plain-expr classes scope at a) (λ rest. refl)
-    rest
-plain-expr classes scope at (not a) rest = plain-append (expr_code classes scope at a) (i.Not ∷ []) (plain-expr classes scope at a) (λ rest. refl)
-    rest
-plain-expr classes scope at (binary o a b) rest =
-    let left = expr_code classes scope at a in
-    let middle = at + length left + gap o in
-    let right = expr_code classes scope middle b in
-    plain-append left (operator_code o (middle + length right) right) (plain-expr classes scope at a)
-    (plain-operator o (middle + length right) right (plain-expr classes scope middle b)) rest
-
-plain-exprs : (classes : List Class) (scope : Scope) (at : ℕ) (es : List Expr) → Plain (exprs_code classes scope at es)
-plain-exprs classes scope at [] rest = refl
-plain-exprs classes scope at (e ∷ es) rest =
-    let first = expr_code classes scope at e in
-    plain-append first (exprs_code classes scope (at + length first) es) (plain-expr classes scope at e)
-    (plain-exprs classes scope (at + length first) es) rest
-
-plain-clears : (us : List ℕ) → Plain (clears us)
-plain-clears [] rest = refl
-plain-clears (u ∷ us) rest = plain-clears us rest
-
-plain-whole : (classes : List Class) (scope : Scope) (at : ℕ) (e : Expr) → Plain (whole_code classes scope at e)
-plain-whole classes scope at e = plain-append (expr_code classes scope at e) (clears (used_slots scope e)) (plain-expr classes scope at e)
-    (plain-clears (used_slots scope e))
-
-plain-check : (classes : List Class) (scope : Scope) (x : Variable) (fs : List Name) → Plain (path_code classes scope x fs ++ i.Check ∷ [])
-plain-check classes scope x fs = plain-append (path_code classes scope x fs) (i.Check ∷ []) (plain-path classes scope x fs) (λ rest. refl)
 
 call-reads : (classes : List Class) (scope : Scope) (at : ℕ) (c : Call) (rest : List Op) → reads (call_code classes scope at c ++ rest) ≡ false
 call-reads classes scope at c rest =
@@ -99,15 +33,15 @@ call-reads classes scope at c rest =
     let used = clears (used_by_all scope c.args) in
     let calls = i.Call (number_called classes (target_class classes scope c) c.method) ∷ [] in
     let last = i.Room ∷ (used ++ calls) in
-    ap reads (append_assoc receiver (exprs ++ last) rest) ∙ plain-check classes scope c.target.base c.target.fields ((exprs ++ last) ++ rest)
-    ∙ ap reads (append_assoc exprs last rest) ∙ plain-exprs classes scope (at + length receiver) c.args (last ++ rest)
-    ∙ ap reads (append_assoc used calls rest) ∙ plain-clears (used_by_all scope c.args) (calls ++ rest)
+    ap reads (append_assoc receiver (exprs ++ last) rest) ∙ (plain-check classes scope c.target.base c.target.fields ((exprs ++ last) ++ rest)).0
+    ∙ ap reads (append_assoc exprs last rest) ∙ (plain-exprs classes scope (at + length receiver) c.args (last ++ rest)).0
+    ∙ ap reads (append_assoc used calls rest) ∙ (plain-clears (used_by_all scope c.args) (calls ++ rest)).0
 
 -- right sides, and what comes last
 
 right-reads : (classes : List Class) (scope : Scope) (at : ℕ) (r : Right) (rest : List Op) → reads rest ≡ false
     → reads (right_code classes scope at r ++ rest) ≡ asks r
-right-reads classes scope at (value e) rest h = plain-whole classes scope at e rest ∙ h
+right-reads classes scope at (value e) rest h = (plain-whole classes scope at e rest).0 ∙ h
 right-reads classes scope at (new x) rest h = h
 right-reads classes scope at (new_tmp x) rest h = h
 right-reads classes scope at (new_iso x m) rest h = h
@@ -146,7 +80,7 @@ assign-reads classes scope at x (f ∷ fs) r rest h =
     let holder = holder_code classes scope x f fs ++ i.Check ∷ [] in
     let ops = right_code classes scope (at + length holder) r in
     let last = i.Put (held_number classes scope x f fs) ∷ pace_code r in
-    ap reads (append_assoc holder (ops ++ last) rest) ∙ plain-check classes scope x (all_but_last f fs) ((ops ++ last) ++ rest)
+    ap reads (append_assoc holder (ops ++ last) rest) ∙ (plain-check classes scope x (all_but_last f fs) ((ops ++ last) ++ rest)).0
     ∙ ap reads (append_assoc ops last rest)
     ∙ right-reads classes scope (at + length holder) r (last ++ rest) (pace-reads r rest h)
 
@@ -173,14 +107,14 @@ test-reads classes scope at to inside line e b closing rest =
     let whole = whole_code classes scope at e in
     let block = block_code classes scope inside b in
     let more = block ++ i.Mark line ∷ closing in
-    ap reads (append_assoc whole (i.JumpFalse to ∷ more) rest) ∙ plain-whole classes scope at e (i.JumpFalse to ∷ (more ++ rest))
+    ap reads (append_assoc whole (i.JumpFalse to ∷ more) rest) ∙ (plain-whole classes scope at e (i.JumpFalse to ∷ (more ++ rest))).0
     ∙ reads-mark (more ++ rest) (ap (λ l. is_mark (slice_get l 0)) (append_assoc block (i.Mark line ∷ closing) rest)
     ∙ block_starts classes scope inside line b (closing ++ rest))
 
 holder-reads : (classes : List Class) (scope : Scope) (x : Variable) (fs : List Name) (o : Op) (rest : List Op) → reads (o ∷ rest) ≡ false
     → reads ((path_code classes scope x fs ++ o ∷ []) ++ rest) ≡ false
 holder-reads classes scope x fs o rest h = ap reads (append_assoc (path_code classes scope x fs) (o ∷ []) rest)
-    ∙ plain-path classes scope x fs (o ∷ rest) ∙ h
+    ∙ (plain-path classes scope x fs (o ∷ rest)).0 ∙ h
 
 swap-reads : (classes : List Class) (scope : Scope) (y : Name) (x : Variable) (fs : List Name) (rest : List Op) → reads rest ≡ false
     → reads (swap_code classes scope y x fs ++ rest) ≡ false
@@ -188,7 +122,7 @@ swap-reads classes scope y x [] rest h = h
 swap-reads classes scope y x (f ∷ fs) rest h =
     let path = holder_code classes scope x f fs in
     ap reads (append_assoc path (i.Check ∷ i.Swap (slot_of scope (Some y)) (held_number classes scope x f fs) ∷ []) rest)
-    ∙ plain-path classes scope x (all_but_last f fs) (i.Check ∷ i.Swap (slot_of scope (Some y)) (held_number classes scope x f fs) ∷ rest) ∙ h
+    ∙ (plain-path classes scope x (all_but_last f fs) (i.Check ∷ i.Swap (slot_of scope (Some y)) (held_number classes scope x f fs) ∷ rest)).0 ∙ h
 
 enter-reads : (classes : List Class) (scope : Scope) (x : Variable) (fs : List Name) (rest : List Op) → reads rest ≡ false
     → reads (enter_code classes scope x fs ++ rest) ≡ false
@@ -239,10 +173,10 @@ kind-reads classes code scope at line (enter p z b) h ends =
 kind-reads classes code scope at line (print e) h ends =
     let whole = whole_code classes scope (at + 1) e in
     quiet-reads code at line (whole ++ i.Print ∷ []) false h
-    (λ rest c. ap reads (append_assoc whole (i.Print ∷ []) rest) ∙ plain-whole classes scope (at + 1) e (i.Print ∷ rest) ∙ c) (ends refl)
+    (λ rest c. ap reads (append_assoc whole (i.Print ∷ []) rest) ∙ (plain-whole classes scope (at + 1) e (i.Print ∷ rest)).0 ∙ c) (ends refl)
 kind-reads classes code scope at line collect h ends = quiet-reads code at line (i.Collect ∷ []) false h (λ rest c. c) (ends refl)
 kind-reads classes code scope at line (return e) h ends =
     let whole = whole_code classes scope (at + 1) e in
     let tail = drop (at + length (i.Mark line ∷ whole ++ i.Ret ∷ [])) code in
     ap reads (behind_first code at (i.Mark line) (whole ++ i.Ret ∷ []) h ∙ append_assoc whole (i.Ret ∷ []) tail)
-    ∙ plain-whole classes scope (at + 1) e (i.Ret ∷ tail)
+    ∙ (plain-whole classes scope (at + 1) e (i.Ret ∷ tail)).0

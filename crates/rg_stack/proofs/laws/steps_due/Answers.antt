@@ -1,0 +1,5 @@
+use Rattle.rg_stack.proofs.Callers.DueLemmas.{steps-due}
+use Rattle.rg_stack.proofs.laws.steps_due.Goals as goal
+
+pub returns : goal.returns
+returns c = steps-due
