@@ -24,6 +24,7 @@ use Rattle.rg_held.proofs.Places.{and-left, and-right, or-split, or-left, or-rig
 use Rattle.rg_held.proofs.Places.{label-there, into-back, region-into, at-label}
 use Rattle.rg_held.proofs.Links.{Link, AllLinks, beneath-links, beneath-first, beneath-all, beneath-from}
 use Rattle.rg_held.proofs.Parts.{shut-above, open-region}
+use Rattle.rg_held.proofs.Halves.{Half, whole}
 
 -- whether an object is freed
 abbrev pub is_buried : (regions : List ℕ) → (temps : Option ℕ) → Seen → Truth
@@ -366,8 +367,16 @@ module _ (held : ℕ → Truth) (owners : List Val) (f m : Machine) (stack : Lis
       of (Some (place.Field a k)) h =
           (still a h.1.0 h.0 h.1.1 (buried-not h.1.0 h.1.2 (is_buried all temps h.1.0) refl), h.1)
 
-  pub part-bury : Part left kept (record f { store = bury all temps f.store }) m stack
-  part-bury = record {
+  -- a temporary of no window that ends is held as before
+  pub unburied : (a : ℕ) (o : Seen) (n : ℕ) → left a ≡ false → slice_get m.store a ≡ Some o → o.label ≡ Temp n → is_temp temps (Temp n) ≡ false
+      → held a ≡ false
+  unburied a o n e there lies other = elim (either (held a)) [
+    | inl here ↦ clash (left a) (still a o here there (ap (λ l. in_regions all l || is_temp temps l) lies ∙ other)) e
+    | inr away ↦ away
+  ]
+
+  pub half-bury : Half left kept (record f { store = bury all temps f.store }) m stack
+  half-bury = record {
     frames = p.frames;
     windows = p.windows;
     windows_made = p.windows_made;
@@ -414,3 +423,19 @@ module _ (held : ℕ → Truth) (owners : List Val) (f m : Machine) (stack : Lis
         (let j = at 0 v refl in leads v h.0 (λ q i into. stack-free q j.0 v i j.1 into) (λ k t l. b.stack_stays j.0 v k j.1 t l)),
         on-stack vs (λ i u e. at (suc i) u e) h.1,
       )
+
+-- behind it the two are as before, but where temporaries of a window go, which still has to end
+abbrev pub BuriedAs : (temps : Option ℕ) → (ℕ → Truth) → List Val → (f m : Machine) → List Val → Type 0
+BuriedAs None held kept f m stack = Part held kept f m stack
+BuriedAs (Some n) held kept f m stack = Half held kept f m stack
+
+pub part-bury : (held : ℕ → Truth) (owners : List Val) (f m : Machine) (stack : List Val) (p : Part held owners f m stack) (regions : List ℕ)
+    (temps : Option ℕ) (kept : List Val) → Burial held owners m stack regions temps kept
+    → let all : List ℕ = beneath_by_labels f.store (length f.managers) regions in
+    BuriedAs temps (left_held held m.store all temps) kept (record f { store = bury all temps f.store }) m stack
+part-bury held owners f m stack p regions None kept b =
+    let all : List ℕ = beneath_by_labels f.store (length f.managers) regions in
+    whole (left_held held m.store all None) kept (record f { store = bury all None f.store }) m stack
+    (half-bury held owners f m stack p regions None kept b)
+    (λ a o n away there lies. p.lost_temps a o n (unburied held owners f m stack p regions None kept b a o n away there lies refl) there lies)
+part-bury held owners f m stack p regions (Some n) kept b = half-bury held owners f m stack p regions (Some n) kept b

@@ -119,6 +119,10 @@ module _ (held : ℕ → Truth) (f m : Machine) (p : Part held [] f m []) (w : W
     same = p.same;
     others = p.others;
     temps = λ a o n e at lies. more n (p.temps a o n e at lies);
+    lost_temps = λ a o n e at lies. (let l = p.lost_temps a o n e at lies in let less = l.0 in (
+      omega (arith, less),
+      ap (λ b. b || has_window m.windows n) (other-number w.number n (λ same. omega (arith, less, same, numbered))) ∙ l.1,
+    ));
     slots = p.slots;
     on_stack = p.on_stack;
     fields = p.fields;

@@ -2,5 +2,5 @@
 mod Frees
 mod Roots
 mod Held
-mod Told
+pub mod Told
 pub mod Whole

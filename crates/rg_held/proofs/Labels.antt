@@ -232,6 +232,8 @@ module _ (held : ℕ → Truth) (owners : List Val) (f m : Machine) (stack : Lis
     same = same;
     others = others;
     temps = λ a h n e at lies. (let w = was a h at in p.temps a w.before n e w.found (temp-back w.before.label n (sym w.label ∙ lies)));
+    lost_temps = λ a h n e at lies. (let w = was a h at in
+        p.lost_temps a w.before n e w.found (temp-back w.before.label n (sym w.label ∙ lies)));
     slots = p.slots;
     on_stack = p.on_stack;
     fields = λ a h k v e at field. (let w = was a h at in

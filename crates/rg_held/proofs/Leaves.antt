@@ -23,10 +23,11 @@ use Rattle.rg_held.specs.Part.{leads_to, SlotInto, FieldInto, Placed, Tidy, Part
 use Rattle.rg_held.specs.Ends.{Match, SameEnd}
 use Rattle.rg_held.specs.Laws.{owners_of, GoesOn}
 use Rattle.rg_held.proofs.Lists.{some-is, none-some, off, any-at, at-any, drop-back, reverse-back}
-use Rattle.rg_held.proofs.Places.{and-left, and-right, or-split, not-true, same-number, number-same, either, clash}
+use Rattle.rg_held.proofs.Places.{and-left, and-right, or-right, or-split, not-true, same-number, number-same, either, clash}
 use Rattle.rg_held.proofs.Places.{closed-back, closed-there}
 use Rattle.rg_held.proofs.Parts.{closed-above, field-frames, closed-same, top-slot}
-use Rattle.rg_held.proofs.Burials.{Burial, left_held, is_buried, NotBelow, temp-label, part-bury}
+use Rattle.rg_held.proofs.Halves.{Half, Lost, whole}
+use Rattle.rg_held.proofs.Burials.{Burial, left_held, is_buried, NotBelow, temp-label, part-bury, unburied}
 use Rattle.rg_held.proofs.Callers.ForgetLemmas.{part-remembers}
 use Rattle.rg_held.proofs.Stack.{match-more}
 use Rattle.rg_held.proofs.Slots.{end-back, part-end}
@@ -71,7 +72,7 @@ mapped-in h (y ∷ ys) zero x q e j =
 mapped-in h (y ∷ ys) (suc i) x q e j = in-right (h y) (flat_map h ys) q (mapped-in h ys i x q e j)
 
 -- the topmost window goes, where none of its temporaries is held, and its region has an owner reference
-module _ (held : ℕ → Truth) (f m : Machine) (p : Part held [] f m []) (w : Window) (ws : List Window) (e : m.windows ≡ w ∷ ws)
+module _ (held : ℕ → Truth) (f m : Machine) (p : Half held [] f m []) (w : Window) (ws : List Window) (e : m.windows ≡ w ∷ ws)
     (some : (v : Window) × ((rest : List Window) × (ws ≡ v ∷ rest)))
     (no_temp : (a : ℕ) (o : Seen) → held a ≡ true → slice_get m.store a ≡ Some o → o.label ≡ Temp w.number → ⊥)
     (owner : Placed held (record m { windows = ws }) w.region) where
@@ -152,8 +153,8 @@ module _ (held : ℕ → Truth) (f m : Machine) (p : Part held [] f m []) (w : W
     inside = λ a o k j v l there lies at is. may-stay k l (p.tidy.inside a o k j v l there lies at is);
   }
 
-  pub part-close : Part held [] (record f { windows = ws }) (record m { windows = ws }) []
-  part-close = record {
+  pub half-close : Half held [] (record f { windows = ws }) (record m { windows = ws }) []
+  half-close = record {
     frames = p.frames;
     windows = refl;
     windows_made = p.windows_made;
@@ -185,7 +186,7 @@ module _ (held : ℕ → Truth) (f m : Machine) (p : Part held [] f m []) (w : W
           ]
 
 -- the region that is closed has its owner reference where the window says
-module _ (held : ℕ → Truth) (f m : Machine) (p : Part held [] f m []) (w v : Window) (rest : List Window) (e : m.windows ≡ w ∷ v ∷ rest)
+module _ (held : ℕ → Truth) (f m : Machine) (p : Half held [] f m []) (w v : Window) (rest : List Window) (e : m.windows ≡ w ∷ v ∷ rest)
     (o : owner_leads m ≡ true) where
   abbrev ws : List Window
   ws = v ∷ rest
@@ -429,8 +430,22 @@ module _ (held : ℕ → Truth) (f m : Machine) (s : ℕ) (p : Part held [] f m 
         (among-in held [] f m [] p (drop s (top_slots f.frames)) h.0 h.1.0 q (ap (λ l. slice_get l h.0) same ∙ h.1.1) (lead h.0 h.1.0 h.1.1) h.1.2 c));
   }
 
-  buried : Part (left_held held m.store all (Some n)) [] (record (end_slots f s) { store = bury all (Some n) f.store }) (end_slots m s) []
+  buried : Half (left_held held m.store all (Some n)) [] (record (end_slots f s) { store = bury all (Some n) f.store }) (end_slots m s) []
   buried = part-bury held behind (end_slots f s) (end_slots m s) [] (part-end held [] f m [] p s [] tt (λ r c h. off h)) given (Some n) [] burial
+
+  -- a temporary that isn't held is one of the window that ends, or wasn't held before
+  lost : Lost (left_held held m.store all (Some n)) (record (end_slots m s) { windows = v ∷ rest })
+  lost a h k away there lies = elim (either (k == n)) [
+    | inl same ↦
+        (let is = same-number k n same in (
+          p.tidy.numbers k (ap (λ l. has_window l k) e ∙ ap (λ b. b || has_window (v ∷ rest) k) (number-same n k (sym is))),
+          ap (has_window (v ∷ rest)) is ∙ (subst Differ e p.tidy.differ).1,
+        ))
+    | inr other ↦
+        let x = p.lost_temps a h k (unburied held behind (end_slots f s) (end_slots m s) [] (part-end held [] f m [] p s [] tt (λ r c h. off h))
+        given (Some n) [] burial a h k away there lies other) there lies in
+        (x.0, or-right (n == k) (has_window (v ∷ rest) k) (sym (ap (λ l. has_window l k) e) ∙ x.1))
+  ]
 
   no-temp : (a : ℕ) (h : Seen) → left_held held m.store all (Some n) a ≡ true → slice_get m.store a ≡ Some h → h.label ≡ Temp n → ⊥
   no-temp a h l there lies = clash (is_buried all (Some n) h) (ap (λ l. in_regions all l || is_temp (Some n) l) lies ∙ number-same n n refl)
@@ -440,10 +455,13 @@ module _ (held : ℕ → Truth) (f m : Machine) (s : ℕ) (p : Part held [] f m 
   pub part-leave : Part (left_held held m.store all (Some n)) []
       (record (record (end_slots f s) { store = bury all (Some n) f.store }) { windows = v ∷ rest })
       (record (end_slots m s) { windows = v ∷ rest }) []
-  part-leave = part-close (left_held held m.store all (Some n)) (record (end_slots f s) { store = bury all (Some n) f.store }) (end_slots m s)
+  part-leave = whole (left_held held m.store all (Some n)) []
+      (record (record (end_slots f s) { store = bury all (Some n) f.store }) { windows = v ∷ rest })
+      (record (end_slots m s) { windows = v ∷ rest }) []
+      (half-close (left_held held m.store all (Some n)) (record (end_slots f s) { store = bury all (Some n) f.store }) (end_slots m s)
       buried w (v ∷ rest) e (v, (rest, refl)) no-temp
       (owner-placed (left_held held m.store all (Some n)) (record (end_slots f s) { store = bury all (Some n) f.store }) (end_slots m s) buried
-      w v rest e o)
+      w v rest e o)) lost
 
 or-more : (a b : Truth) → b ≡ true → (a || b) ≡ true
 or-more true b e = refl

@@ -2,6 +2,7 @@ mod Lists
 mod Places
 mod Links
 mod Parts
+mod Halves
 mod Burials
 mod Stack
 mod Slots

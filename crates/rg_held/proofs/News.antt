@@ -17,7 +17,7 @@ use Rattle.rg_held.specs.Frees.{gone}
 use Rattle.rg_held.specs.Part.{leads_to, Placed, Part, OwnerHeld, OwnersHeld}
 use Rattle.rg_held.proofs.Lists.{none-some, off, push-back, push-old, push-below, push-past, push-last, push-length, get-below}
 use Rattle.rg_held.proofs.Lists.{any-at, at-any}
-use Rattle.rg_held.proofs.Places.{or-split, or-left, or-right, same-number, number-same, either, region-into}
+use Rattle.rg_held.proofs.Places.{or-split, or-left, or-right, same-number, number-same, either, clash, region-into}
 use Rattle.rg_held.proofs.Parts.{lead-any, lead-more, all-more}
 
 -- no reference
@@ -58,6 +58,7 @@ part-region held owners f m stack g p = record {
   same = p.same;
   others = p.others;
   temps = p.temps;
+  lost_temps = p.lost_temps;
   slots = p.slots;
   on_stack = p.on_stack;
   fields = p.fields;
@@ -244,6 +245,10 @@ module _ (held : ℕ → Truth) (f m : Machine) (stack : List Val) (o : Seen) (p
     temps = λ a h k e there lies. elim (found a h e there) [
       | inl new ↦ fits.temps k (ap (λ (q : Seen). q.label) (sym new) ∙ lies)
       | inr was ↦ p.temps a h k was.1 was.0 lies
+    ];
+    lost_temps = λ a h k e there lies. elim (push-back m.store o h a there) [
+      | inl new ↦ clash (a == n) (number-same a n new.0) (or-right (held a) (a == n) e)
+      | inr was ↦ p.lost_temps a h k (or-left (held a) (a == n) e) was lies
     ];
     slots = λ i h s v there at. lead-more held also v more (p.slots i h s v there at);
     on_stack = (is-new, all-more held also stack more p.on_stack);

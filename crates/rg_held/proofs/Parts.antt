@@ -169,6 +169,7 @@ module _ (held : ℕ → Truth) (owners : List Val) (f m : Machine) (stack : Lis
     same = p.same;
     others = p.others;
     temps = p.temps;
+    lost_temps = p.lost_temps;
     slots = p.slots;
     on_stack = h;
     fields = p.fields;
@@ -194,6 +195,7 @@ module _ (held : ℕ → Truth) (owners : List Val) (f m : Machine) (stack : Lis
     same = p.same;
     others = p.others;
     temps = p.temps;
+    lost_temps = p.lost_temps;
     slots = p.slots;
     on_stack = p.on_stack;
     fields = p.fields;
@@ -227,6 +229,7 @@ module _ (held : ℕ → Truth) (owners : List Val) (f m : Machine) (stack : Lis
     same = p.same;
     others = p.others;
     temps = p.temps;
+    lost_temps = p.lost_temps;
     slots = slots;
     on_stack = lead;
     fields = p.fields;

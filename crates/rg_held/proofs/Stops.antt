@@ -49,6 +49,7 @@ part-at held owners f m stack at p = record {
   same = p.same;
   others = p.others;
   temps = p.temps;
+  lost_temps = p.lost_temps;
   slots = p.slots;
   on_stack = p.on_stack;
   fields = p.fields;

@@ -176,6 +176,7 @@ module _ (held : ℕ → Truth) (owners : List Val) (f m : Machine) (stack : Lis
           ∙ ap (option_map (λ (q : Seen). gone)) (sym (set-apart m.store a b n (differs b other)))
     ];
     temps = λ b h i e at lies. (let w = was b h at in p.temps b w.before i e w.found (w.label ∙ lies));
+    lost_temps = λ b h i e at lies. (let w = was b h at in p.lost_temps b w.before i e w.found (w.label ∙ lies));
     slots = p.slots;
     on_stack = leads;
     fields = λ b h j u e at field. (let w = was b h at in elim (w.fields j u field) [

@@ -125,6 +125,9 @@ pub record Part (held : ℕ → Truth) (owners : List Val) (f m : Machine) (stac
   pub others : (a : ℕ) → held a ≡ false → slice_get f.store a ≡ option_map (λ (o : Seen). gone) (slice_get m.store a)
   -- a temporary that is held is one of an open window
   pub temps : (a : ℕ) (o : Seen) (n : ℕ) → held a ≡ true → slice_get m.store a ≡ Some o → o.label ≡ Temp n → has_window m.windows n ≡ true
+  -- and one that isn't held is one of a window that was opened and has ended
+  pub lost_temps : (a : ℕ) (o : Seen) (n : ℕ) → held a ≡ false → slice_get m.store a ≡ Some o → o.label ≡ Temp n
+      → (n < m.windows_made) × (has_window m.windows n ≡ false)
   -- slots, the stack and what is held lead to what is held
   pub slots : (n : ℕ) (h : Frame) (s : ℕ) (v : Val) → slice_get m.frames n ≡ Some h → slice_get h.slots s ≡ Some v → leads_to held v ≡ true
   pub on_stack : AllLead held stack

@@ -79,6 +79,7 @@ part-remembers held owners f m stack p ws opened = record {
   same = p.same;
   others = p.others;
   temps = p.temps;
+  lost_temps = p.lost_temps;
   slots = p.slots;
   on_stack = p.on_stack;
   fields = p.fields;

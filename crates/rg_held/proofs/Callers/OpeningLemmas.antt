@@ -54,6 +54,7 @@ module _ (t : Tree) (code : Code) (input : List ℕ) where
     same = λ a h. off h;
     others = λ a h. refl;
     temps = λ a o n h. off h;
+    lost_temps = λ a o n h there. none-some o there;
     slots = main-leads (λ a. false) code.main_slots;
     on_stack = tt;
     fields = λ a o k v h. off h;

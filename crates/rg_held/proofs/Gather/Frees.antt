@@ -28,6 +28,9 @@ pub record Outside (held kept : ℕ → Truth) (m : Machine) : Type 0 where
   pub fields : (a k : ℕ) (o : Seen) (v : Val) → held a ≡ true → slice_get m.store a ≡ Some o → (o.label ≡ Region (top_region m.windows) → ⊥)
       → ((n : ℕ) → o.label ≡ Temp n → has_window m.windows n ≡ true) → slice_get o.fields k ≡ Some v → KeepsOf kept m v
 
+temp-region : (n r : ℕ) → Temp n ≡ Region r → ⊥
+temp-region n r e = cc
+
 -- where the topmost window's objects may lead, but to their own region, is closed
 top-closed : (ws : List Window) (q : ℕ) → Differ ws → (top_region ws ≡ q → ⊥) → may_lead ws (top_region ws) (Region q) ≡ true
     → is_open ws q ≡ false
@@ -275,6 +278,11 @@ module _ (held kept : ℕ → Truth) (f after m : Machine) (p : Part held [] f m
         same = λ a stays. g.same a stays ∙ p.same a (g.fewer a stays);
         others = gone-there;
         temps = λ a o n stays there l. p.temps a o n (g.fewer a stays) there l;
+        lost_temps = λ a o n away there l. p.lost_temps a o n (elim (either (held a)) [
+          | inl here ↦ clash (kept a) (g.stays a o here there (λ x. temp-region n (top_region m.windows) (sym l ∙ x))
+              (λ q x lost. temp-region n q (sym l ∙ x))) away
+          | inr no_more ↦ no_more
+        ]) there l;
         slots = kept-slots;
         on_stack = tt;
         fields = kept-fields;

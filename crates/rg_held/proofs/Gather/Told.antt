@@ -28,6 +28,7 @@ module _ (held also : ℕ → Truth) (owners : List Val) (f m : Machine) (stack 
     same = λ a here. p.same a (eq a ∙ here);
     others = λ a away. p.others a (eq a ∙ away);
     temps = λ a o n here there l. p.temps a o n (eq a ∙ here) there l;
+    lost_temps = λ a o n away there l. p.lost_temps a o n (eq a ∙ away) there l;
     slots = λ n h s v there at. lead v (p.slots n h s v there at);
     on_stack = all-more held also stack now p.on_stack;
     fields = λ a o k v here there at. lead v (p.fields a o k v (eq a ∙ here) there at);

@@ -124,7 +124,7 @@ module _ (old new : Parts) (f : FewerNumbers old.regions new.regions) (n : Numbe
   known-lives ws r w k = elim (cases_eq r 0) [
     | inl is ↦ ap (λ t. t || list_any (λ (o : Seen). lies_in r o.label) (store_of new.cells.heap)) (ap (is_open ws) is ∙ w.first)
     | inr d ↦
-        let s = slot-there k.rec.bridge (b k.key k.rec k.there (λ zero. d (sym k.number ∙ zero))) in
+        let s = slot-there k.rec.bridge ((b k.key k.rec k.there).0 (λ zero. d (sym k.number ∙ zero))) in
         let lies : LiesIn new.cells.heap r s.0 = subst (λ x. LiesIn new.cells.heap x s.0) k.number (g.bridges k.key s.0 k.rec k.there s.1) in
         later (is_open ws r) (object-lies new.cells.heap r s.0 q lies)
   ]
