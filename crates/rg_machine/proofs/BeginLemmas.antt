@@ -100,9 +100,9 @@ module _ (p : Parts) (old : RegionTable) (key n a b : ℕ) (manager : Manager) (
     lain = (omega arith, refl);
     some = omega arith;
     numbers = begin-numbers;
-    bridges = λ k r e d.
+    bridges = λ k r e.
         let is : old.next ≡ r.number = ap (λ (x : Record). x.number) (only k r e).1 in
-        absurd (d (sym is ∙ next));
+        (λ d. absurd (d (sym is ∙ next)), λ zero. sym (ap (λ (x : Record). x.bridge) (only k r e).1));
     window_numbers = λ i j w u e f same. (the-one (first-window key) w i e).0 ∙ sym (the-one (first-window key) u j f).0;
     windows_next = λ i w e.
         let is : 0 ≡ w.number = ap (λ (x : Window). x.number) (the-one (first-window key) w i e).1 in

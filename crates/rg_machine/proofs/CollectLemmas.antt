@@ -1,6 +1,6 @@
 -- What stands behind a collection of the active region: what its roots lead to is kept, and nothing that stays leads into a region that went.
 use Rattle.std.proofs.Common.{◌≡◌, ◌≤◌, ◌<◌, inl, inr, ℕ, ◌+◌, ◌-◌, true, drop, length}
-use Rattle.std.proofs.Common.{Option, Some, None, IsSome, option_map, option_and_then, slice_get, refl, sym, ap, ◌∙◌, subst, arith}
+use Rattle.std.proofs.Common.{Option, Some, None, option_map, option_and_then, slice_get, refl, sym, ap, ◌∙◌, subst, arith}
 use Rattle.std.proofs.lemmas.Bool.{cases_eq}
 use Rattle.std.proofs.lemmas.Option.{none-some, same_Some, slice_get_within}
 use Rattle.rg_base.specs.declared.object.Label.{Label}
@@ -34,6 +34,7 @@ use Rattle.rg_view.proofs.Callers.OpenLemmas.{not-open-closed, never, number-is,
 use Rattle.rg_view.proofs.Callers.ShownLemmas.{get-drop, held-body, body-held}
 use Rattle.rg_view.proofs.Callers.TableLemmas.{FewerNumbers, fewer-numbers}
 use Rattle.rg_view.proofs.Callers.WindowLemmas.{active-region}
+use Rattle.rg_machine.proofs.KeptLemmas.{bridged-as}
 use Rattle.rg_machine.proofs.ReleaseLemmas.{order, temp-window, most-one, slot-counts-one}
 use Rattle.rg_machine.specs.Stands.{BeginsBehind, Stands}
 
@@ -67,7 +68,7 @@ active p v o =
     }
 
 -- a field is that of a held cell
-field-held : (h : Heap) (s k : ℕ) (w : Word) → field_at h s k ≡ Some w → IsHeld h s
+pub field-held : (h : Heap) (s k : ℕ) (w : Word) → field_at h s k ≡ Some w → IsHeld h s
 field-held h s k w e = by (body_at h s) refl
   where
     by : (o : Option Body) → body_at h s ≡ o → IsHeld h s
@@ -362,9 +363,7 @@ module _ (old new : Parts) (v : Stack) (at : ℕ) (q : Serials old.cells.heap) (
     lain = st.lain;
     some = st.some;
     numbers = fewer-numbers old.regions new.regions fewer st.numbers;
-    bridges = λ key r e d.
-        let u = record-was key r e in
-        subst IsSome u.4 (st.bridges key u.0 u.1 (λ zero. d (sym u.2 ∙ zero)));
+    bridges = λ key r e. let u = record-was key r e in bridged-as u.0 r u.2 u.4 (st.bridges key u.0 u.1);
     window_numbers = st.window_numbers;
     windows_next = st.windows_next;
     temps = λ s n e. st.temps s n (label-was s (Temp n) e);

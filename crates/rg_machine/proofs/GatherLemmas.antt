@@ -131,7 +131,7 @@ lacks-not h a e s b is same =
 -- What a machine shows
 
 -- a value in a slot of a frame is that of a word among all slots
-frame-slot : (h : Heap) (slots : List Word) (at : ℕ) (fs : List FrameRow) (n : ℕ) (f : Frame) (s : ℕ) (x : Val)
+pub frame-slot : (h : Heap) (slots : List Word) (at : ℕ) (fs : List FrameRow) (n : ℕ) (f : Frame) (s : ℕ) (x : Val)
     → slice_get (frames_from h slots at fs) n ≡ Some f → slice_get f.slots s ≡ Some x
     → (j : ℕ) × (w : Word) × (slice_get slots j ≡ Some w) × (val_of h w ≡ x)
 frame-slot h slots at [] n f s x e is = absurd (none-some f e)

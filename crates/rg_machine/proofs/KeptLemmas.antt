@@ -1,11 +1,11 @@
 -- Regions that keep their numbers and bridges where records change or one comes.
-use Rattle.std.proofs.Common.{◌≡◌, inl, inr, ℕ, [], ◌∷◌, Option, Some, None, option_map, IsSome, refl, sym, ap, ◌∙◌, subst, arith}
+use Rattle.std.proofs.Common.{◌≡◌, ◌<◌, inl, inr, ℕ, [], ◌∷◌, Option, Some, None, option_map, refl, sym, ap, ◌∙◌, subst, arith}
 use Rattle.std.proofs.lemmas.Bool.{cases_eq}
 use Rattle.std.proofs.lemmas.Option.{none-some, same_Some}
 use Rattle.rg_base.specs.declared.words.Manager.{Manager}
 use Rattle.rg_regions.specs.Table.{Record, RegionTable, record_at, HasNumber, IsBridge, IsKey, with_room}
 use Rattle.rg_heap.specs.Changes.{Opens, Rewritten, SameRecords}
-use Rattle.rg_view.specs.Numbers.{HasBridges, Numbers}
+use Rattle.rg_view.specs.Numbers.{Bridged, HasBridges, Numbers}
 use Rattle.rg_view.proofs.Callers.ManagerLemmas.{SameNumbers, opens-numbers}
 use Rattle.rg_view.proofs.Callers.TableLemmas.{record-there}
 
@@ -35,6 +35,10 @@ numbered t k n h = by (record_at t k) refl
 has-number : (t : RegionTable) (k n : ℕ) (r : Record) → record_at t k ≡ Some r → r.number ≡ n → HasNumber t k n
 has-number t k n r e is = ap (option_map (λ (x : Record). x.number)) e ∙ ap Some is
 
+-- another record with its number and its bridge
+pub bridged-as : (u r : Record) → u.number ≡ r.number → u.bridge ≡ r.bridge → Bridged u.number u.bridge → Bridged r.number r.bridge
+bridged-as u r number bridge b = subst (λ n. Bridged n r.bridge) number (subst (Bridged u.number) bridge b)
+
 kin-kept : (old new : RegionTable) → Kin old new → Numbers old → HasBridges old → Kept old new
 kin-kept old new w q b = record {
   number = λ k n h. let r = numbered old k n h in let u = w.on k r.0 r.1 in has-number new k n u.0 u.1 (u.2 ∙ r.2);
@@ -51,9 +55,7 @@ kin-kept old new w q b = record {
         let y = w.back o u f in
         q.differ k o x.0 y.0 x.1 y.1 (sym x.2 ∙ same ∙ y.2);
   };
-  bridges = λ k r e d.
-      let u = w.back k r e in
-      subst (λ (o : Option ℕ). IsSome o) (sym u.3) (b k u.0 u.1 (λ z. d (u.2 ∙ z)));
+  bridges = λ k r e. let u = w.back k r e in bridged-as u.0 r (sym u.2) (sym u.3) (b k u.0 u.1);
 }
 
 -- a record is written again, but for its number and bridge
@@ -107,16 +109,17 @@ equal-kept old new e q b = subst (λ (t : RegionTable). Kept old t) (sym e) (rec
 
 -- a region comes with its bridge
 pub opens-kept : (old new : RegionTable) (key slot : ℕ) (manager : Manager) → Opens old new key slot manager → Numbers old → HasBridges old
-    → Kept old new
-opens-kept old new key slot manager o q b = record {
+    → 0 < old.next → Kept old new
+opens-kept old new key slot manager o q b made = record {
   number = λ k n h. let r = numbered old k n h in has-number new k n r.0 (kept k r.0 r.1) r.2;
   bridge = λ r s h. (h.0, h.1, kept h.0 h.1 h.2, h.3, h.4);
   numbers = opens-numbers old new key slot manager o q;
-  bridges = λ k r e d. elim (cases_eq k key) [
+  bridges = λ k r e. elim (cases_eq k key) [
     | inl is ↦
         let same : Some fresh ≡ Some r = sym o.is.1 ∙ ap (record_at new) (sym is) ∙ e in
-        subst (λ (x : Record). IsSome x.bridge) (same_Some fresh r same) refl
-    | inr n ↦ b k r (sym (o.others k n) ∙ e) d
+        subst (λ (x : Record). Bridged x.number x.bridge) (same_Some fresh r same)
+        (λ d. refl, λ zero. absurd (omega (arith, zero, made)))
+    | inr n ↦ b k r (sym (o.others k n) ∙ e)
   ];
 }
   where

@@ -413,7 +413,7 @@ module _ (old : Parts) (v : Stack) (at : ℕ) (q : Serials old.cells.heap) (g : 
     lain = s.lain;
     some = s.some;
     numbers = fewer-numbers old.regions new.regions (released-numbers old new Goes (IsTopTemp v) regions released names) s.numbers;
-    bridges = λ key r e d. s.bridges key r (record-was key r e) d;
+    bridges = λ key r e. s.bridges key r (record-was key r e);
     window_numbers = λ i j w u e f. s.window_numbers i j w u (window-was v many two lie i w e).0 (window-was v many two lie j u f).0;
     windows_next = λ i w e. s.windows_next i w (window-was v many two lie i w e).0;
     temps = λ x n e.

@@ -40,3 +40,12 @@ mod CollectLemmas
 mod GatherLemmas
 mod CollectingLemmas
 pub mod PartLemmas
+pub mod OwnedLemmas
+mod ReachPathLemmas
+mod ReachSlotLemmas
+mod ReachCountLemmas
+mod ReachShownLemmas
+mod ReachBridgeLemmas
+mod ReachRootLemmas
+mod ReachHeldLemmas
+pub mod ReachLemmas

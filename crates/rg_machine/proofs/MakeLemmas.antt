@@ -38,7 +38,7 @@ use Rattle.rg_machine.proofs.GrowLemmas.{Grown, grown-stands, grown-more-lead}
 use Rattle.rg_machine.proofs.TempLemmas.{got-within, in-front-or, temp-on, temp-back, temp-new, temp-held}
 use Rattle.rg_machine.proofs.MadeLemmas.{held-other, made-held, made-label, made-back, label-new, label-was, made-field, held-new}
 use Rattle.rg_machine.proofs.KeptLemmas.{Kept, rewritten-kept, equal-kept, opens-kept, opens-bridge, equal-numbers}
-use Rattle.rg_machine.proofs.KnownLemmas.{top-window, key-there, windows-known, open-not}
+use Rattle.rg_machine.proofs.KnownLemmas.{top-window, key-there, region-made, windows-known, open-not}
 
 -- words of one heap show the same in the other, and the new slot shows the new object
 pub made-values : (old new : Parts) (v : Stack) (words : List Word) (slot class : ℕ) (label : Label) (fields : List Word)
@@ -162,7 +162,7 @@ module _ (old new : Parts) (v : Stack) (words : List Word) (at : ℕ) (printed :
       → Pushed old new v v words slot class (Region (length (managers_of old.regions))) fields (managers_of old.regions ++ manager ∷ []) at printed
   region-pushed manager m o =
       let n = old.regions.next in
-      let kept = opens-kept old.regions new.regions o.0 slot manager o.1 st.numbers st.bridges in
+      let kept = opens-kept old.regions new.regions o.0 slot manager o.1 st.numbers st.bridges (region-made old v st) in
       subst (λ r. Pushed old new v v words slot class (Region r) fields (managers_of old.regions ++ manager ∷ []) at printed)
       (sym (managers-length old.regions)) (record {
         stands = made-stands old new v slot class (Region n) fields m plain g st kept n refl;

@@ -1,6 +1,6 @@
 -- What always holds behind a freeze and a merge, where the slot that owned the region is made nil.
 use Rattle.std.proofs.Common.{◌≡◌, ◌≢◌, ◌⊎◌, inl, inr, ℕ, zero, suc, ◌+◌, Bool as Truth, true, false, List, [], ◌∷◌, reverse, length}
-use Rattle.std.proofs.Common.{Option, Some, None, IsSome, option_map, option_and_then, slice_get, slice_set, refl, sym, ap, ◌∙◌, subst}
+use Rattle.std.proofs.Common.{Option, Some, None, option_map, option_and_then, slice_get, slice_set, refl, sym, ap, ◌∙◌, subst}
 use Rattle.std.proofs.lemmas.Bool.{false≢true}
 use Rattle.std.proofs.lemmas.Option.{none-some, same_Some}
 use Rattle.rg_base.specs.declared.object.Label.{Label}
@@ -27,6 +27,7 @@ use Rattle.rg_view.proofs.Callers.LabelLemmas.{Labels}
 use Rattle.rg_view.proofs.Callers.TableLemmas.{FewerNumbers, fewer-numbers}
 use Rattle.rg_view.proofs.Callers.OpenLemmas.{Keyed, window-open}
 use Rattle.rg_machine.specs.Stands.{Leads, Stands}
+use Rattle.rg_machine.proofs.KeptLemmas.{bridged-as}
 
 -- Numbers of records
 
@@ -264,9 +265,7 @@ module _ (p new : Parts) (v : Stack) (i : ℕ) (regions : List ℕ) (label : Lab
     lain = subst (λ n. Nested v.first n (reverse v.frames)) (sym (set-length v.slots (v.first + i) word.Nil)) st.lain;
     some = st.some;
     numbers = fewer-numbers p.regions new.regions m.numbers st.numbers;
-    bridges = λ key r e d.
-        let u = m.were key r e in
-        subst IsSome u.3 (st.bridges key u.0 u.1 (λ zero. d (sym u.2 ∙ zero)));
+    bridges = λ key r e. let u = m.were key r e in bridged-as u.0 r u.2 u.3 (st.bridges key u.0 u.1);
     window_numbers = st.window_numbers;
     windows_next = st.windows_next;
     first_mark = st.first_mark;

@@ -29,6 +29,7 @@ use Rattle.rg_view.proofs.Callers.LookLemmas.{store-held}
 use Rattle.rg_held.specs.Frees.{gone}
 use Rattle.rg_held.specs.Part.{Differ, OwnerHeld, OwnersHeld, Part, is_of}
 use Rattle.rg_held.proofs.Callers.NeedLemmas.{needs-same}
+use Rattle.rg_held.proofs.Gather.Told.{held-as, part-as}
 use Rattle.rg_held.proofs.Gather.Whole.{gathers-fit}
 use Rattle.rg_machine.specs.Collects.{Gathers, OwnerOutside, holds}
 use Rattle.rg_machine.specs.Parts.{Parts as Whole, machine_in}
@@ -110,3 +111,11 @@ module _ (p : Parts) (v : Stack) (q : Serials p.cells.heap) (st : Stands p v) wh
     | inl x ↦ absurd (lacks-not p.cells.heap a e x.slot x.body x.held x.serial)
     | inr is ↦ is
   ]
+
+-- what is held may be said to be what the heap holds
+pub shown-part : (w : Whole) (m : Machine) (held : ℕ → Truth) → Serials w.heap.cells.heap → Stands w.heap w.frames → w.frames.next ≤ 2 ^ 64 - 1
+    → Part held [] (machine_in w) m [] → Part (holds w.heap.cells.heap) [] (machine_in w) m []
+shown-part w m held q st few p =
+    part-as held (holds w.heap.cells.heap) [] (machine_in w) m [] p
+    (held-as held (holds w.heap.cells.heap) [] (machine_in w) m [] p (subst (λ n. n ≤ 2 ^ 64 - 1) p.windows_made few)
+    (held-shown w.heap w.frames q st few) (gone-shown w.heap w.frames q st))

@@ -61,14 +61,14 @@ pub none-loose : (m : Machine) (v : Val) (r : ℕ) → closed_into m v ≡ Some 
 none-loose m v r c free =
     is-zero (places_into m r) (sym (ap (λ (x : Option ℕ). elim x [ None ↦ true | Some n ↦ places_into m n == 0 ]) c) ∙ free)
 
-get-taken : {A : Type 0} (n k : ℕ) (xs : List A) → k < n → slice_get (take n xs) k ≡ slice_get xs k
+pub get-taken : {A : Type 0} (n k : ℕ) (xs : List A) → k < n → slice_get (take n xs) k ≡ slice_get xs k
 get-taken zero k xs lt = absurd (omega (arith, lt))
 get-taken (suc n) k [] lt = refl
 get-taken (suc n) zero (x ∷ xs) lt = refl
 get-taken (suc n) (suc k) (x ∷ xs) lt = get-taken n k xs (omega (arith, lt))
 
 -- a slot of any frame that leads into a region is counted
-slots-count : (h : Heap) (r j : ℕ) (w : Word) (slots : List Word) (first : ℕ) (fs : List FrameRow) → Nested first (length slots) fs
+pub slots-count : (h : Heap) (r j : ℕ) (w : Word) (slots : List Word) (first : ℕ) (fs : List FrameRow) → Nested first (length slots) fs
     → slice_get slots j ≡ Some w → is_into (store_of h) r (val_of h w) ≡ true → 1 ≤ slots_into (store_of h) r (frames_from h slots first fs)
 slots-count h r j w slots first [] n e is = let within = slice_get_within slots j w e in absurd (omega (arith, n, within))
 slots-count h r j w slots first (f ∷ fs) n e is =
@@ -382,7 +382,7 @@ module _ (old : Parts) (v : Stack) (at : ℕ) (q : Serials old.cells.heap) (g : 
       some = s.some;
       numbers =
           fewer-numbers old.regions new.regions (released-numbers old new Goes NoCell regions released names) s.numbers;
-      bridges = λ key r e d. s.bridges key r (record-was key r e) d;
+      bridges = λ key r e. s.bridges key r (record-was key r e);
       window_numbers = s.window_numbers;
       windows_next = s.windows_next;
       temps = λ x n e. s.temps x n (old-label x (Temp n) e);

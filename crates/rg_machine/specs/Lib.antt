@@ -6,3 +6,4 @@ pub mod Stands
 pub mod Frames
 pub mod Effects
 pub mod Collects
+pub mod Owned

@@ -36,7 +36,7 @@ pub record Stands (p : Parts) (v : Stack) : Type 0 where
   -- frames lie over their slots, and there is one
   pub lain : Lain v
   pub some : 0 < length v.frames
-  -- regions have their own numbers, and all but region 0 a bridge
+  -- regions have their own numbers, and all but region 0 a bridge, which it has not
   pub numbers : Numbers p.regions
   pub bridges : HasBridges p.regions
   -- windows have their own numbers, and each temporary is one of a window

@@ -24,6 +24,7 @@ mod collecting;
 mod ending;
 mod making;
 mod moving;
+mod reading;
 mod windows;
 mod writing;
 
