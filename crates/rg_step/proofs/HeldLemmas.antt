@@ -1,16 +1,12 @@
--- The machine that a stepper shows.
-use Rattle.std.proofs.Common.{◌≡◌, ℕ, Option, Some, None, sym, ap, ◌∙◌}
-use Rattle.rg_machine.specs.Parts.{Parts, machine_in}
-use Rattle.rg_step.specs.Inner.Held.{shown}
-use Rattle.rg_step.specs.Steps.{Stepping, fresh}
+-- What is seen of a stepper, with a machine or none.
+use Rattle.std.proofs.Common.{◌≡◌, Option, Some, None, sym, ap, ◌∙◌}
+use Rattle.rg_machine.specs.Parts.{Parts}
+use Rattle.rg_step.specs.declared.kept.Kept.{Kept}
+use Rattle.rg_step.specs.Inner.Held.{parts_of, stepping}
+use Rattle.rg_step.specs.Steps.{Stepping, nothing}
 
-abbrev seen : ℕ → Option Parts → Stepping
-seen n o = record { machine = shown o; steps = n }
+pub shows-some : (o : Option Parts) (p : Parts) (k : Kept) (s : Stepping) → o ≡ Some p → stepping (parts_of o) k ≡ s → stepping p k ≡ s
+shows-some o p k s e is = ap (λ q. stepping (parts_of q) k) (sym e) ∙ is
 
-pub shows-some : (o : Option Parts) (p : Parts) (n : ℕ) (s : Stepping) → o ≡ Some p → record { machine = shown o; steps = n } ≡ s
-    → record { machine = machine_in p; steps = n } ≡ s
-shows-some o p n s e is = ap (seen n) (sym e) ∙ is
-
-pub shows-none : (o : Option Parts) (n : ℕ) (s : Stepping) → o ≡ None → record { machine = shown o; steps = n } ≡ s
-    → record { machine = fresh.machine; steps = n } ≡ s
-shows-none o n s e is = ap (seen n) (sym e) ∙ is
+pub shows-none : (o : Option Parts) (k : Kept) (s : Stepping) → o ≡ None → stepping (parts_of o) k ≡ s → stepping nothing k ≡ s
+shows-none o k s e is = ap (λ q. stepping (parts_of q) k) (sym e) ∙ is

@@ -6,8 +6,14 @@ mod RunLemmas
 mod AskLemmas
 mod StepLemmas
 mod ShapeLemmas
+mod UndueLemmas
 mod CallShapeLemmas
 mod LeapLemmas
 mod ShapeNeedLemmas
 mod WordLemmas
 mod HeldLemmas
+mod OutcomeLemmas
+mod ServeLemmas
+mod DueLemmas
+mod WriteLemmas
+mod ReachedLemmas

@@ -3,3 +3,4 @@ pub mod Walks
 pub mod Refusals
 pub mod Leaps
 pub mod Held
+pub mod Serving

@@ -1,3 +1,5 @@
 -- What callers see of the stepper (docs/architecture.md, "The stepper").
 pub mod Inner
 pub mod Steps
+pub mod Collections
+pub mod Writes

@@ -2,7 +2,10 @@
 #![tactic(auto)]
 
 mod asks;
+mod collecting;
+mod kept;
 mod leap;
+mod outcome;
 mod quick;
 mod reads;
 mod room;

@@ -1,23 +1,35 @@
 //! The stepper (docs/architecture.md, "The stepper").
 
-ghost use Rattle.std.specs.Prelude.{◌≡◌, ◌≤◌, true, false, length};
-ghost use Rattle.std.specs.Prelude.{IfOk, OnErr, OnOk};
+ghost use Rattle.std.specs.Prelude.{◌≡◌, ◌≤◌, None, IfOk, IfSome, OnErr, OnOk, false, true};
 ghost use Rattle.rg_io.specs.Content.{Rose};
 ghost use Rattle.rg_input.specs.Numbers.{Follows, OnInput};
 ghost use Rattle.rg_tree.specs.Tree.{Tree};
 ghost use Rattle.rg_rules.specs.Inputs.{first_asks};
 ghost use Rattle.rg_rules.specs.State.{State};
-ghost use Rattle.rg_held.specs.Shown.{Finds};
-ghost use Rattle.rg_step.specs.Steps.{Counts, IsRunning, Leapt, Runs, StepsOn, counted};
-ghost use Rattle.rg_step.specs.Steps.{counted_by, fresh, opening_machine};
+ghost use Rattle.rg_sound.specs.Fit.{Fit};
+ghost use Rattle.rg_code.specs.Code.{Code};
+ghost use Rattle.rg_stack.specs.Dues.{due_at};
+ghost use Rattle.rg_held.specs.Shown.{Finds, ShowsHeld};
+ghost use Rattle.rg_machine.specs.Owned.{IsOwned};
+ghost use Rattle.rg_machine.specs.Parts.{Parts, machine_in};
+ghost use Rattle.rg_step.specs.Steps.{Counts, IsRunning, Leapt, Runs, StepsOn};
+ghost use Rattle.rg_step.specs.Steps.{counted_by, fresh, nothing, numbers_of, opening_machine};
+ghost use Rattle.rg_step.specs.Writes.{WritesOnly};
+ghost use Rattle.rg_step.specs.Collections.{ReachesOn, ServesBy};
+ghost use Rattle.rg_step.specs.Inner.Held.{stepping};
 
+use crate::collecting::{due_at, is_made, make_place, one_more, serve};
+use crate::kept::{Kept, Since};
 use crate::leap::leap;
-use crate::step::{Did, step};
-use rg_base::{Manager, Memory, Outcome, Seen};
+use crate::outcome::outcome;
+use rg_base::{EndNumbers, Event, Manager, Memory, Outcome, Seen};
 use rg_code::CodeList;
+use rg_frames::Frames;
+use rg_heap::Heap;
 use rg_input::Numbers;
 use rg_io::Source;
 use rg_machine::Machine;
+use rg_pace::Pacer;
 use std::alloc::Global;
 use std::marker::Model;
 
@@ -25,34 +37,39 @@ use std::marker::Model;
 #[derive(Drop)]
 pub struct Stepper {
     machine: Option<Machine>,
-    steps: u64,
+    kept: Kept,
 }
 
 impl Model for Stepper {
-    ghost use Rattle.rg_step.specs.Inner.Held.{shown};
+    ghost use Rattle.rg_step.specs.Inner.Held.{parts_of, stepping};
     ghost use Rattle.rg_step.specs.Steps.{Stepping};
 
     ghost Value = { Stepping };
 
-    ghost view = { λ s. record { machine = shown s.machine; steps = s.steps } };
+    ghost view = { λ s. stepping (parts_of s.machine) s.kept };
 }
 
 impl Stepper {
     /// A machine on which no program has begun.
-    pub fn new() -> Stepper
+    pub fn new(alloc: Global) -> Stepper
         ensures { result ≡ fresh }
     {
         Stepper {
             machine: None,
-            steps: 0,
+            kept: Kept {
+                steps: 0,
+                since: Since { count: 0, trace: 0 },
+                events: Vec::new(alloc),
+            },
         }
     }
 
     /// Begins a program whose main has this manager, without a step.
     pub fn begin(&mut self, alloc: Global, code: &CodeList, manager: Manager) -> Result<(), Memory>
         requires { self.old ≡ fresh }
-        ensures begun { OnOk result
-            (self.new ≡ record fresh { machine = opening_machine code.now manager }) }
+        ensures begun { OnOk result ((p : Parts)
+            × (machine_in p ≡ opening_machine code.now manager)
+            × (self.new ≡ record fresh { parts = p })) }
         ensures kept { OnErr result (self.new ≡ self.old) }
     {
         let machine = Machine::begin(alloc, code.main_slots(), manager)?;
@@ -60,26 +77,64 @@ impl Stepper {
         Ok(())
     }
 
-    /// How many objects were made.
-    pub fn made(&self) -> u64
-        ensures { result ≡ length self.now.machine.store }
+    /// The cells and regions, once a program has begun.
+    pub fn heap(&self) -> Option<&Heap>
+        ensures none { result ≡ None → self.now.parts ≡ nothing }
+        ensures some { IfSome result (λ heap. heap.now ≡ self.now.parts.heap) }
     {
         match &self.machine {
-            Some(p) => p.made(),
-            None => 0,
+            Some(p) => Some(p.heap()),
+            None => None,
         }
     }
 
-    /// How many steps were made.
-    pub fn steps(&self) -> u64
-        ensures { result ≡ self.now.steps }
+    /// The frames, windows and temporaries, once a program has begun.
+    pub fn frames(&self) -> Option<&Frames>
+        ensures none { result ≡ None → self.now.parts ≡ nothing }
+        ensures some { IfSome result (λ frames. frames.now ≡ self.now.parts.frames) }
     {
-        self.steps
+        match &self.machine {
+            Some(p) => Some(p.frames()),
+            None => None,
+        }
+    }
+
+    /// The collections so far, in order.
+    pub fn events(&self) -> &[Event]
+        ensures { result.now ≡ self.now.events }
+    {
+        self.kept.events.as_slice()
+    }
+
+    /// The numbers of the run so far.
+    pub fn numbers(&self) -> EndNumbers
+        ensures { result ≡ numbers_of self.now }
+    {
+        let collections = self.kept.events.len() as u64;
+        match &self.machine {
+            Some(p) => {
+                let heap = p.numbers();
+                EndNumbers {
+                    steps: self.kept.steps,
+                    collections,
+                    ..heap
+                }
+            }
+            None => EndNumbers {
+                steps: self.kept.steps,
+                made: 0,
+                held: 0,
+                frozen: 0,
+                regions: 0,
+                collections,
+                high: 0,
+            },
+        }
     }
 
     /// The object of a serial; None where none that is held has it.
     pub fn object(&self, alloc: Global, serial: u64) -> Result<Option<Seen>, Memory>
-        ensures { IfOk result (Finds self.now.machine.store serial) }
+        ensures { IfOk result (Finds (machine_in self.now.parts).store serial) }
     {
         match &self.machine {
             Some(p) => p.object(alloc, serial),
@@ -87,39 +142,92 @@ impl Stepper {
         }
     }
 
+    /// Where a state that fits a program is shown, each closed region of the machine has one owner.
+    pub fn is_owned(&self)
+        ensures { (t : Tree) (code : Code) (p : State) → Fit t p
+            → ShowsHeld t.classes code (machine_in self.now.parts) p → IsOwned self.now.parts }
+    {
+        if let Some(p) = &self.machine {
+            p.is_owned();
+        }
+    }
+
     /// Makes as many steps as can be made at once, at most so many, and answers how many. None of
-    /// them is the last one, prints, or asks for the input.
+    /// them is the last one, prints, asks for the input, or may collect.
     pub fn leap(&mut self, code: &CodeList, most: u64) -> u64
-        requires { IsRunning code.now self.old.machine }
-        ensures leaps { Leapt code.now result self.old.machine self.new.machine }
+        requires { IsRunning code.now (machine_in self.old.parts) }
+        ensures leaps { Leapt code.now result
+            (machine_in self.old.parts) (machine_in self.new.parts) }
         ensures most { result ≤ most }
         ensures counts { self.new.steps ≡ counted_by result self.old.steps }
+        ensures since { self.new.since ≡ self.old.since }
+        ensures events { self.new.events ≡ self.old.events }
     {
         let Some(p) = &mut self.machine else {
             unreachable!();
         };
         let made = leap(p, code, most);
-        self.steps = more(self.steps, made);
+        self.kept.steps = more(self.kept.steps, made);
         made
     }
 
     /// Makes one step. One that was refused leaves what is shown, the input and the count; the
-    /// input is asked at most where the first thing to do asks.
+    /// input is asked at most where the first thing to do asks. Behind a `collect` the active
+    /// region is collected, and behind an object made by `new C` where the pacer of the region's
+    /// manager says so; the pacers decide nothing else.
     pub fn step<S: Source>(
         &mut self,
         code: &CodeList,
         input: &mut Numbers,
         source: &mut S,
+        count: &mut dyn Pacer,
+        trace: &mut dyn Pacer,
     ) -> Outcome
-        requires runs { IsRunning code.now self.old.machine }
+        requires runs { IsRunning code.now (machine_in self.old.parts) }
         requires follows { Follows input.old (S.left source.old) }
         ensures step { OnInput input.old input.new (S.left source.old) (S.left source.new)
-            (StepsOn code.now self.old.machine self.new.machine result) }
+            (StepsOn code.now (machine_in self.old.parts) (machine_in self.new.parts) result) }
+        ensures serves { (mid : Parts)
+            × OnInput input.old input.new (S.left source.old) (S.left source.new)
+            (StepsOn code.now (machine_in self.old.parts) (machine_in mid) result)
+            × ServesBy (due_at code.now.ops self.old.parts.at) self.old mid self.new
+            (record {
+              count = record {
+                asks = asks count.old;
+                yeses = yeses count.old;
+                told = told count.old;
+                tuned = tuned count.old;
+              };
+              trace = record {
+                asks = asks trace.old;
+                yeses = yeses trace.old;
+                told = told trace.old;
+                tuned = tuned trace.old;
+              };
+            })
+            (record {
+              count = record {
+                asks = asks count.new;
+                yeses = yeses count.new;
+                told = told count.new;
+                tuned = tuned count.new;
+              };
+              trace = record {
+                asks = asks trace.new;
+                yeses = yeses trace.new;
+                told = told trace.new;
+                tuned = tuned trace.new;
+              };
+            }) result }
+        ensures reaches { OnInput input.old input.new (S.left source.old) (S.left source.new)
+            (ReachesOn code.now (machine_in self.old.parts) self.old.events self.new.events) }
+        ensures writes { WritesOnly (machine_in self.old.parts) (machine_in self.new.parts) }
         ensures counts { Counts self.old.steps self.new.steps result }
-        ensures reads_nothing { (t : Tree) (p : State) → Runs t code.now self.old.machine p →
+        ensures reads_nothing { (t : Tree) (p : State) →
+            Runs t code.now (machine_in self.old.parts) p →
             first_asks p.items ≡ false → (input.new ≡ input.old) × (source.new ≡ source.old) }
         ensures input_fault { result ≡ Outcome.InputFault → (t : Tree) (p : State) →
-            Runs t code.now self.old.machine p → first_asks p.items ≡ true }
+            Runs t code.now (machine_in self.old.parts) p → first_asks p.items ≡ true }
         ensures follows { Follows input.new (S.left source.new) }
         ensures fault { result ≡ Outcome.InputFault →
             Rose (S.faults source.old) (S.faults source.new) }
@@ -128,28 +236,7 @@ impl Stepper {
         let Some(p) = &mut self.machine else {
             unreachable!();
         };
-        match step(p, code, input, source) {
-            Did::Goes => {
-                let printed = p.printed();
-                self.steps = one_more(self.steps);
-                match printed {
-                    Some(v) => Outcome::Printed(v),
-                    None => Outcome::Running,
-                }
-            }
-            Did::Ends => {
-                let printed = p.printed();
-                self.steps = one_more(self.steps);
-                match printed {
-                    Some(v) => Outcome::Printed(v),
-                    None => Outcome::Done,
-                }
-            }
-            Did::Trapped { kind, line } => Outcome::Trap { kind, line },
-            Did::InputFault => Outcome::InputFault,
-            Did::Memory => Outcome::Memory,
-            Did::Lost => unreachable!(),
-        }
+        step_on(p, &mut self.kept, code, input, source, count, trace)
     }
 }
 
@@ -164,9 +251,80 @@ fn more(steps: u64, made: u64) -> u64
     }
 }
 
-/// One step more, as far as 64 bits count.
-fn one_more(steps: u64) -> u64
-    ensures { result ≡ counted steps }
+/// Makes one step, and what may follow for its `collect` or its `pace`.
+fn step_on<S: Source>(
+    p: &mut Machine,
+    kept: &mut Kept,
+    code: &CodeList,
+    input: &mut Numbers,
+    source: &mut S,
+    count: &mut dyn Pacer,
+    trace: &mut dyn Pacer,
+) -> Outcome
+    requires runs { IsRunning code.now (machine_in p.old) }
+    requires follows { Follows input.old (S.left source.old) }
+    ensures step { OnInput input.old input.new (S.left source.old) (S.left source.new)
+        (StepsOn code.now (machine_in p.old) (machine_in p.new) result) }
+    ensures serves { (mid : Parts)
+        × OnInput input.old input.new (S.left source.old) (S.left source.new)
+        (StepsOn code.now (machine_in p.old) (machine_in mid) result)
+        × ServesBy (due_at code.now.ops p.old.at) (stepping p.old kept.old) mid
+        (stepping p.new kept.new)
+        (record {
+          count = record {
+            asks = asks count.old;
+            yeses = yeses count.old;
+            told = told count.old;
+            tuned = tuned count.old;
+          };
+          trace = record {
+            asks = asks trace.old;
+            yeses = yeses trace.old;
+            told = told trace.old;
+            tuned = tuned trace.old;
+          };
+        })
+        (record {
+          count = record {
+            asks = asks count.new;
+            yeses = yeses count.new;
+            told = told count.new;
+            tuned = tuned count.new;
+          };
+          trace = record {
+            asks = asks trace.new;
+            yeses = yeses trace.new;
+            told = told trace.new;
+            tuned = tuned trace.new;
+          };
+        }) result }
+    ensures reaches { OnInput input.old input.new (S.left source.old) (S.left source.new)
+        (ReachesOn code.now (machine_in p.old) kept.old.events.items kept.new.events.items) }
+    ensures counts { Counts kept.old.steps kept.new.steps result }
+    ensures reads_nothing { (t : Tree) (s : State) → Runs t code.now (machine_in p.old) s →
+        first_asks s.items ≡ false → (input.new ≡ input.old) × (source.new ≡ source.old) }
+    ensures input_fault { result ≡ Outcome.InputFault → (t : Tree) (s : State) →
+        Runs t code.now (machine_in p.old) s → first_asks s.items ≡ true }
+    ensures follows { Follows input.new (S.left source.new) }
+    ensures fault { result ≡ Outcome.InputFault →
+        Rose (S.faults source.old) (S.faults source.new) }
+    ensures never_falls { S.faults source.old ≤ S.faults source.new }
 {
-    if steps < u64::MAX { steps + 1 } else { steps }
+    let due = due_at(code, p.at());
+    let Ok(()) = make_place(due, &mut kept.events) else {
+        return Outcome::Memory;
+    };
+    let outcome = outcome(p, code, input, source);
+    let made = is_made(outcome);
+    if !made {
+        return outcome;
+    }
+    kept.steps = one_more(kept.steps);
+    let Some(why) = due else {
+        return outcome;
+    };
+    p.is_sound();
+    serve(p, why, kept, count, trace);
+    p.is_sound();
+    outcome
 }

@@ -1,0 +1,55 @@
+use Rattle.std.proofs.Common.{◌≡◌, sym, ap, subst, ◌∙◌}
+use Rattle.rg_input.proofs.InputLemmas.{OnInput-map}
+use Rattle.rg_input.specs.Numbers.{OnInput}
+use Rattle.rg_machine.specs.Parts.{core_of, machine_in}
+use Rattle.rg_stack.specs.Machine.{Machine}
+use Rattle.rg_step.specs.Inner.Refusals.{DidLeaves, asks_at}
+use Rattle.rg_step.specs.Inner.Serving.{answer}
+use Rattle.rg_step.specs.Inner.Walks.{StepIs}
+use Rattle.rg_step.specs.Steps.{StepsOn}
+use Rattle.rg_step.proofs.AskLemmas.{OnInput-some}
+use Rattle.rg_step.proofs.OutcomeLemmas.{answer-fault, answer-settles}
+use Rattle.rg_step.proofs.RunLemmas.{runs-ask, runs-given, runs-on, runs-orderly, unasked-there}
+use Rattle.rg_step.proofs.outcome.outcome.Goals as goal
+
+pub step-did-requires-clause-given : goal.step-did-requires-clause-given
+step-did-requires-clause-given g c = runs-given c.args.code.now (core_of c.args.p.now) c.requires.runs
+
+pub answer-requires : goal.answer-requires
+answer-requires g c lost =
+    let is = StepIs c.args.code.now (core_of c.args.p.now) (core_of c.step-did.new.p) c.step-did.result in
+    let s = OnInput-some _ _ _ _ is c.step-did.ensures.follows c.step-did.ensures.step in
+    runs-on c.args.code.now (core_of c.args.p.now) (core_of c.step-did.new.p) s.0 s.1 c.requires.runs
+    (subst (λ d. StepIs c.args.code.now (core_of c.args.p.now) (core_of c.step-did.new.p) d s.0 s.1) lost s.2)
+
+pub returns-clause-step : goal.returns-clause-step
+returns-clause-step g c =
+    let code = c.args.code.now in
+    let old = core_of c.args.p.now in
+    let new = core_of c.step-did.new.p in
+    let result = answer c.step-did.result c.printed-printed.result in
+    let same : machine_in c.start.new.self ≡ new.machine = ap machine_in c.start.ensures in
+    let On : Machine → Type 0 = λ m. OnInput c.args.input.now c.step-did.new.input (g.S.Source.left c.args.source.now)
+    (g.S.Source.left c.step-did.new.source)
+    (StepsOn code old.machine m c.answer.result) in
+    subst On (sym same) (rw c.answer.ensures (OnInput-map _ _ _ _ (StepIs code old new c.step-did.result) (StepsOn code old.machine new.machine result)
+    c.step-did.ensures.step
+    (λ before after is. answer-settles code old new c.step-did.result c.printed-printed.result before after c.requires.runs
+    (sym c.printed-printed.ensures) c.step-did.ensures.leaves is)))
+
+pub returns-clause-reads_nothing : goal.returns-clause-reads_nothing
+returns-clause-reads_nothing g c t s r e =
+    let m = machine_in c.args.p.now in
+    c.step-did.ensures.unasked (runs-orderly t c.args.code.now m s r) (unasked-there c.args.code.now m t s r e)
+
+pub returns-clause-input_fault : goal.returns-clause-input_fault
+returns-clause-input_fault g c e t s r =
+    let m = machine_in c.args.p.now in
+    let fault = answer-fault c.step-did.result c.printed-printed.result (sym c.answer.ensures ∙ e) in
+    let left = subst (DidLeaves (asks_at c.args.code.now.ops m) m (machine_in c.step-did.new.p)) fault
+    (c.step-did.ensures.leaves (runs-orderly t c.args.code.now m s r)) in
+    sym (runs-ask t c.args.code.now m s r) ∙ left.0
+
+pub returns-clause-fault : goal.returns-clause-fault
+returns-clause-fault g c e =
+    c.step-did.ensures.fault (answer-fault c.step-did.result c.printed-printed.result (sym c.answer.ensures ∙ e))

@@ -1,0 +1,121 @@
+-- What a step that was made does for its `collect` or its `pace`, behind its other instructions (docs/architecture.md, "The stepper").
+use Rattle.std.specs.Prelude.{◌≡◌, ℕ, Bool, true, false, List, [], ◌∷◌, ◌++◌, Option, Some, None, drop, length, if◌then◌else◌}
+use Rattle.rg_base.specs.declared.words.Manager.{Manager}
+use Rattle.rg_base.specs.declared.words.Manager.TheVariants.{Arena, Count, Trace}
+use Rattle.rg_base.specs.declared.event.Cause.{Cause}
+use Rattle.rg_base.specs.declared.event.Cause.TheVariants as cause
+use Rattle.rg_base.specs.declared.event.Event.{Event}
+use Rattle.rg_base.specs.declared.outcome.Outcome.{Outcome}
+use Rattle.rg_base.specs.declared.outcome.Outcome.TheVariants as outcome
+use Rattle.rg_tree.specs.Tree.{Tree}
+use Rattle.rg_rules.specs.Reach.{plain_reach}
+use Rattle.rg_rules.specs.State.{State}
+use Rattle.rg_rules.specs.Steps.{Went, next}
+use Rattle.rg_code.specs.Code.{Code}
+use Rattle.rg_stack.specs.Machine.{Machine}
+use Rattle.rg_regions.specs.Collection.{OfRegion, roots_of}
+use Rattle.rg_heap.specs.declared.answers.Active.{Active}
+use Rattle.rg_heap.specs.declared.answers.Collected.{Collected}
+use Rattle.rg_heap.specs.Answers.{Tells}
+use Rattle.rg_heap.specs.Collects.{CollectsBy}
+use Rattle.rg_heap.specs.Ends.{top_temps}
+use Rattle.rg_heap.specs.Parts.{OnTop}
+use Rattle.rg_pace.specs.Asked.{Asked, one_more, with_ask}
+use Rattle.rg_machine.specs.Collects.{Gathers}
+use Rattle.rg_machine.specs.Parts.{Parts}
+use Rattle.rg_step.specs.Steps.{Runs, Stepping}
+
+-- what the two pacers tell of themselves
+pub record Asks : Type 0 where
+  pub count : Asked
+  pub trace : Asked
+
+-- what is told of a collection that a step made
+abbrev pub event_of : (step : ℕ) → Cause → Collected → Event
+event_of step why told = record {
+  step = step;
+  region = told.region;
+  manager = told.manager;
+  cause = why;
+  held = told.held;
+  kept = told.kept;
+  released = told.released;
+}
+
+-- the active region was collected by its manager, which is told; all else is as it was behind the step's instructions
+pub record IsCollected (why : Cause) (mid : Parts) (events : List Event) (new : Stepping) : Type 0 where
+  pub told : Collected
+  pub gathers : Gathers mid new.parts
+  pub collects : OnTop mid.frames (λ top. OfRegion mid.heap.regions top.region
+      (λ r. CollectsBy r.manager mid.heap new.parts.heap top.region r (roots_of r.bridge (drop top.base mid.frames.slots) (top_temps mid.frames)) (Some told)))
+  pub events_are : new.events ≡ events ++ event_of new.steps why told ∷ []
+
+-- nothing was collected
+pub record IsLeft (mid : Parts) (events : List Event) (new : Stepping) : Type 0 where
+  pub parts : new.parts ≡ mid
+  pub events_are : new.events ≡ events
+
+-- the active region is collected on a yes
+abbrev pub CollectsOn : (answer : Bool) → (mid : Parts) → (events : List Event) → (new : Stepping) → Type 0
+CollectsOn true mid events new = IsCollected cause.Paced mid events new
+CollectsOn false mid events new = IsLeft mid events new
+
+-- how often a pacer was asked since its last yes, behind one more answer
+abbrev pub since_then : (answer : Bool) → ℕ → ℕ
+since_then answer n = if answer then 0 else one_more n
+
+-- no pacer was asked
+pub record Unasked (old new : Stepping) (before after : Asks) : Type 0 where
+  pub since : new.since ≡ old.since
+  pub pacers : after ≡ before
+
+-- A region of a manager that has a pacer asks it, with how many cells the region has, and how often that pacer was asked since its last yes, this
+-- time included; an arena asks nobody.
+abbrev pub Paces : Manager → (held : ℕ) → (old : Stepping) → (mid : Parts) → (new : Stepping) → (before after : Asks) → Type 0
+Paces Arena held old mid new before after = IsLeft mid old.events new × Unasked old new before after
+Paces Count held old mid new before after =
+    (answer : Bool) × CollectsOn answer mid old.events new × (new.since ≡ record old.since { count = since_then answer old.since.count })
+    × (after ≡ record before { count = with_ask before.count (record { held = held; since = one_more old.since.count }) answer })
+Paces Trace held old mid new before after =
+    (answer : Bool) × CollectsOn answer mid old.events new × (new.since ≡ record old.since { trace = since_then answer old.since.trace })
+    × (after ≡ record before { trace = with_ask before.trace (record { held = held; since = one_more old.since.trace }) answer })
+
+-- a region is collected that was asked for, unless it is an arena
+abbrev pub CollectsAsked : Manager → (mid : Parts) → (events : List Event) → (new : Stepping) → Type 0
+CollectsAsked Arena mid events new = IsLeft mid events new
+CollectsAsked Count mid events new = IsCollected cause.Asked mid events new
+CollectsAsked Trace mid events new = IsCollected cause.Asked mid events new
+
+-- what holds of the active region: its manager, and how many cells it has
+abbrev pub OnActive : Parts → (Active → Type 0) → Type 0
+OnActive mid P = (a : Active) × OnTop mid.frames (λ top. Tells mid.heap.regions top.region a) × P a
+
+-- what is done for the cause for which a step may collect
+abbrev pub Serves : Option Cause → (old : Stepping) → (mid : Parts) → (new : Stepping) → (before after : Asks) → Type 0
+Serves None old mid new before after = IsLeft mid old.events new × Unasked old new before after
+Serves (Some cause.Asked) old mid new before after =
+    OnActive mid (λ a. CollectsAsked a.manager mid old.events new) × Unasked old new before after
+Serves (Some cause.Paced) old mid new before after = OnActive mid (λ a. Paces a.manager a.held old mid new before after)
+
+-- a step that was refused neither collects nor asks
+pub record IsRefused (old new : Stepping) (before after : Asks) : Type 0 where
+  pub events_are : new.events ≡ old.events
+  pub unasked : Unasked old new before after
+
+-- what a step did that may collect for a cause; behind its instructions it left `mid`
+abbrev pub ServesBy : Option Cause → (old : Stepping) → (mid : Parts) → (new : Stepping) → (before after : Asks) → Outcome → Type 0
+ServesBy due old mid new before after outcome.Running = Serves due old mid new before after
+ServesBy due old mid new before after (outcome.Printed v) = Serves due old mid new before after
+ServesBy due old mid new before after outcome.Done = Serves due old mid new before after
+ServesBy due old mid new before after (outcome.Trap kind line) = IsRefused old new before after
+ServesBy due old mid new before after outcome.InputFault = IsRefused old new before after
+ServesBy due old mid new before after outcome.Memory = IsRefused old new before after
+
+-- where a step has told of a collection by mark and sweep, what was kept are as many objects as the roots of the window reach in a state
+abbrev pub KeepsReached : (old new : List Event) → State → Type 0
+KeepsReached old new q = (e : Event) → new ≡ old ++ e ∷ [] → e.manager ≡ Trace → e.kept ≡ length (plain_reach q)
+
+-- so it is in the state behind the step, whatever state of an accepted program the machine showed
+abbrev pub ReachesOn : Code → (old : Machine) → (events behind : List Event) → (before after : List ℕ) → Type 0
+ReachesOn code old events behind before after =
+    (t : Tree) (p q : State) → Runs t code old p → p.input ≡ before → next t.classes p ≡ Went q → KeepsReached events behind q

@@ -1,0 +1,47 @@
+-- What a step does behind its instructions (docs/architecture.md, "The stepper").
+use Rattle.std.specs.Prelude.{◌≡◌, ℕ, Bool, true, false, Option, Some, None}
+use Rattle.rg_base.specs.declared.words.Manager.{Manager}
+use Rattle.rg_base.specs.declared.words.Manager.TheVariants.{Arena, Count, Trace}
+use Rattle.rg_base.specs.declared.event.Cause.{Cause}
+use Rattle.rg_base.specs.declared.event.Cause.TheVariants.{Asked, Paced}
+use Rattle.rg_base.specs.declared.value.Val.{Val}
+use Rattle.rg_base.specs.declared.outcome.Outcome.{Outcome}
+use Rattle.rg_base.specs.declared.outcome.Outcome.TheVariants as outcome
+use Rattle.rg_pace.specs.Asked.{one_more, with_ask}
+use Rattle.rg_step.specs.declared.step.Did.{Did}
+use Rattle.rg_step.specs.declared.step.Did.TheVariants as did
+use Rattle.rg_step.specs.Steps.{Since}
+use Rattle.rg_step.specs.Collections.{Asks, since_then}
+
+-- what is answered of what a step did and printed
+abbrev pub answer : Did → (printed : Option Val) → Outcome
+answer did.Goes (Some v) = outcome.Printed v
+answer did.Goes None = outcome.Running
+answer did.Ends (Some v) = outcome.Printed v
+answer did.Ends None = outcome.Done
+answer (did.Trapped kind line) printed = outcome.Trap kind line
+answer did.InputFault printed = outcome.InputFault
+answer did.Memory printed = outcome.Memory
+answer did.Lost printed = outcome.Memory
+
+-- whether a step with this answer was made
+abbrev pub is_made : Outcome → Bool
+is_made outcome.Running = true
+is_made (outcome.Printed v) = true
+is_made outcome.Done = true
+is_made (outcome.Trap kind line) = false
+is_made outcome.InputFault = false
+is_made outcome.Memory = false
+
+-- whether a region of this manager, with so many cells, is to be collected, and what became of the pacers
+abbrev pub Wants : Cause → Manager → (held : ℕ) → (old new : Since) → (before after : Asks) → (wanted : Bool) → Type 0
+Wants Asked Arena held old new before after wanted = (wanted ≡ false) × (new ≡ old) × (after ≡ before)
+Wants Asked Count held old new before after wanted = (wanted ≡ true) × (new ≡ old) × (after ≡ before)
+Wants Asked Trace held old new before after wanted = (wanted ≡ true) × (new ≡ old) × (after ≡ before)
+Wants Paced Arena held old new before after wanted = (wanted ≡ false) × (new ≡ old) × (after ≡ before)
+Wants Paced Count held old new before after wanted =
+    (new ≡ record old { count = since_then wanted old.count })
+    × (after ≡ record before { count = with_ask before.count (record { held = held; since = one_more old.count }) wanted })
+Wants Paced Trace held old new before after wanted =
+    (new ≡ record old { trace = since_then wanted old.trace })
+    × (after ≡ record before { trace = with_ask before.trace (record { held = held; since = one_more old.trace }) wanted })
