@@ -33,6 +33,7 @@ use Rattle.rg_stack.proofs.Needs.LeadLemmas.{frame-leads, leads-more, field-lead
 use Rattle.rg_held.specs.Frees.{gone}
 use Rattle.rg_held.specs.Part.{leads_to, SlotInto, FieldInto, Placed, Part}
 use Rattle.rg_held.specs.Shown.{ShowsHeld}
+use Rattle.rg_machine.specs.Parts.{machine_in}
 use Rattle.rg_run.specs.Machine.{Kept}
 use Rattle.rg_run.specs.Sound.{HoldsOf}
 
@@ -235,9 +236,9 @@ module _ (t : Tree) (code : Code) (f m : Machine) (s : State) (held : ℕ → Tr
   gone-there None o e = none-some e
   gone-there (Some x) o e = sym (some-same gone o e)
 
-  pub holds-by : (k : Kept) → k.stepper.machine ≡ f → HoldsOf t.classes k s
+  pub holds-by : (k : Kept) → (machine_in k.stepper.parts) ≡ f → HoldsOf t.classes k s
   holds-by k is =
-      let stored : k.stepper.machine.store ≡ f.store = ap (λ (x : Machine). x.store) is in
+      let stored : (machine_in k.stepper.parts).store ≡ f.store = ap (λ (x : Machine). x.store) is in
       record {
         holds = held;
         made = ap length stored ∙ p.objects_made ∙ ap length shows.store;
@@ -250,5 +251,5 @@ module _ (t : Tree) (code : Code) (f m : Machine) (s : State) (held : ℕ → Tr
       }
 
 -- a machine that shows a state that fits, as far as it holds it
-pub holds-of : (t : Tree) (code : Code) (k : Kept) (s : State) → Fit t s → ShowsHeld t.classes code k.stepper.machine s → HoldsOf t.classes k s
-holds-of t code k s fit h = holds-by t code k.stepper.machine h.grown s h.held fit h.shows h.beside k refl
+pub holds-of : (t : Tree) (code : Code) (k : Kept) (s : State) → Fit t s → ShowsHeld t.classes code (machine_in k.stepper.parts) s → HoldsOf t.classes k s
+holds-of t code k s fit h = holds-by t code (machine_in k.stepper.parts) h.grown s h.held fit h.shows h.beside k refl

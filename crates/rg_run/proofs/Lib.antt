@@ -2,5 +2,6 @@ mod HoldsLemmas
 pub mod ShownLemmas
 pub mod SoundLemmas
 mod OutputLemmas
+mod ReportLemmas
 pub mod RunLemmas
 mod TurnLemmas

@@ -1,5 +1,5 @@
 -- A run of the stack machine, one step after another, beside that of the machine that never frees.
-use Rattle.std.proofs.Common.{◌≡◌, ◌≢◌, ℕ, zero, suc, ◌+◌, ◌≤◌, ◌<◌, Bool, true, false, inr, List, [], ◌∷◌, ◌++◌, Option, Some, None}
+use Rattle.std.proofs.Common.{◌≡◌, ◌≢◌, ℕ, zero, suc, ◌+◌, ◌≤◌, ◌<◌, Bool, true, false, inl, inr, List, [], ◌∷◌, ◌++◌, Option, Some, None}
 use Rattle.std.proofs.Common.{refl, sym, subst, arith}
 use Rattle.rg_base.specs.declared.outcome.Outcome.{Outcome}
 use Rattle.rg_base.specs.declared.outcome.Outcome.TheVariants as outcome
@@ -24,7 +24,7 @@ use Rattle.rg_input.proofs.InputLemmas.{OnInput-map, OnInput-then}
 use Rattle.rg_code.specs.Code.{Code}
 use Rattle.rg_code.specs.Lowering.{Lowers}
 use Rattle.rg_plain.specs.Outcomes.{EndsMain, Settles}
-use Rattle.rg_plain.specs.Runs.{RunShows, NoneAsks, begun}
+use Rattle.rg_plain.specs.Runs.{RunShows, NoneAsks, Whole, CutOff, begun}
 use Rattle.rg_plain.proofs.BehindLemmas.{settles_by, ends_by}
 use Rattle.rg_plain.proofs.Runs.RunLemmas.{RanSoFar}
 use Rattle.rg_plain.proofs.Runs.RunLemmas as run
@@ -34,12 +34,15 @@ use Rattle.rg_stack.specs.Simulates.{NoneLeft, SomeLeft}
 use Rattle.rg_stack.proofs.Callers.OpeningLemmas.{opening-shows, opening-fit}
 use Rattle.rg_held.specs.Shown.{ShowsHeld}
 use Rattle.rg_held.proofs.Callers.OpeningLemmas.{opening-match}
+use Rattle.rg_machine.specs.Parts.{machine_in}
 use Rattle.rg_step.specs.Steps.{Stepping, opening_machine}
 use Rattle.rg_step.specs.Steps.{Leapt, Runs, IsRunning, StepsOn}
 use Rattle.rg_step.specs.Steps as stepper
 use Rattle.rg_run.specs.Machine.{Kept, ShowsAt}
 use Rattle.rg_run.specs.Runs.{Ran, RunsOn}
+use Rattle.rg_run.specs.Inner.{IsUntold}
 use Rattle.rg_run.proofs.OutputLemmas.{ends-block}
+use Rattle.rg_run.proofs.RunLemmas.{wrote-whole}
 use Rattle.rg_run.proofs.SoundLemmas.{run-is-sound}
 
 pub some-is : (items : List Item) → SomeLeft items → items ≢ []
@@ -209,7 +212,22 @@ leapt t code k (suc j) m new Before before between old out b h =
     let same : k + j + 1 ≡ k + suc j = omega arith in
     let Q : ℕ → Type 0 = λ n. Between t code n new old out Before before between in
     subst Q same (quiet t code (k + j) h.0 new Before Before before between between (λ p runs none x. x) old out
-    (leapt t code k j m h.0 Before before between old out b h.1) (h.2 between))
+    (leapt t code k j m h.0 Before before between old out b h.1) (h.3 between))
+
+-- a run of k steps that nothing cut off, as one of more steps that was cut off behind them
+cut-whole : (t : Tables) (before : List ℕ) (n k : ℕ) (Shows : State → Type 0) (old out : Option (List ℕ)) (whole e : Ended) → k ≤ n → IsUntold e →
+    Whole t (opening (program_of t) before) k k Shows old out whole → RunShows t (opening (program_of t) before) n k Shows old out e
+cut-whole t before n k Shows old out whole e within untold w = by untold
+  where
+    cut : CutOff t (opening (program_of t) before) n k Shows old out
+    cut = record {
+      stands = record { within = within; made = sym w.steps_are; shows = w.shows };
+      wrote = wrote-whole t before k old out w.text_is;
+    }
+
+    by : IsUntold e → RunShows t (opening (program_of t) before) n k Shows old out e
+    by (inl is) = let P : Ended → Type 0 = λ q. RunShows t (opening (program_of t) before) n k Shows old out q in subst P (sym is) cut
+    by (inr is) = let P : Ended → Type 0 = λ q. RunShows t (opening (program_of t) before) n k Shows old out q in subst P (sym is) cut
 
 module _ (t : Tables) (code : Code) (n k : ℕ) (within : k < n) (m : Machine) (new : Stepping) (Before After : Type 0) (before between after : List ℕ)
     (more : (p : State) → Runs (program_of t) code m p → first_asks p.items ≡ false → Before → After) (started : Bool) (is : started ≡ true) where
@@ -217,7 +235,7 @@ module _ (t : Tables) (code : Code) (n k : ℕ) (within : k < n) (m : Machine) (
   abbrev behind : ℕ → Kept
   behind steps = record { begun = started; stepper = new; steps = steps }
 
-  shows-at : (steps : ℕ) (p q : State) → Runs (program_of t) code m p → ShowsHeld (classes_of t) code new.machine q → q.input ≡ after →
+  shows-at : (steps : ℕ) (p q : State) → Runs (program_of t) code m p → ShowsHeld (classes_of t) code (machine_in new.parts) q → q.input ≡ after →
       ShowsAt t (behind steps) after q
   shows-at steps p q runs shows input = (record { begun = is; code = code; lowers = runs.lowers; state = shows }, input)
 
@@ -230,55 +248,70 @@ module _ (t : Tables) (code : Code) (n k : ℕ) (within : k < n) (m : Machine) (
         begun = is;
         run = h;
         sound = run-is-sound (program_of t) b.runs.accepted before n;
-        unread = λ none. still-behind t code k m new.machine Before After before between after more old mid b (λ j l. none j (omega (arith, l, all, began)));
+        unread = λ none. still-behind t code k m (machine_in new.parts) Before After before between after more old mid b (λ j l. none j (omega (arith, l, all, began)));
       }
 
-  pub done : (old out : Option (List ℕ)) → Between t code k m old out Before before between → StepsOn code m new.machine outcome.Done between after →
+  pub done : (old out : Option (List ℕ)) → Between t code k m old out Before before between → StepsOn code m (machine_in new.parts) outcome.Done between after →
       Ran t n old out (behind (k + 1)) ended.Done After before after
   done old out b step =
-      let q = step-is t code k m new.machine old out Before before between after outcome.Done b step in
+      let q = step-is t code k m (machine_in new.parts) old out Before before between after outcome.Done b step in
       ran-is (k + 1) old out out ended.Done (omega (arith, within)) refl b
       (run.done t (opening (program_of t) before) n k b.state q.state (ShowsAt t (behind (k + 1)) after) old out within b.so_far q.settles
       (shows-at (k + 1) b.state q.state b.runs q.shows q.input))
 
+  -- the last step was made, and its collection wasn't told
+  pub done_untold : (e : Ended) → IsUntold e → (old out : Option (List ℕ)) → Between t code k m old out Before before between →
+      StepsOn code m (machine_in new.parts) outcome.Done between after → Ran t n old out (behind (k + 1)) e After before after
+  done_untold e untold old out b step =
+      let q = step-is t code k m (machine_in new.parts) old out Before before between after outcome.Done b step in
+      let less : k < k + 1 = omega arith in
+      let w = run.done t (opening (program_of t) before) (k + 1) k b.state q.state (ShowsAt t (behind (k + 1)) after) old out less b.so_far q.settles
+      (shows-at (k + 1) b.state q.state b.runs q.shows q.input) in
+      record {
+        begun = is;
+        run = cut-whole t before n (k + 1) (ShowsAt t (behind (k + 1)) after) old out ended.Done e (omega (arith, within)) untold w;
+        sound = run-is-sound (program_of t) b.runs.accepted before n;
+        unread = λ none. still-behind t code k m (machine_in new.parts) Before After before between after more old out b (λ j l. none j (omega (arith, l, within)));
+      }
+
   pub trapped : (kind : Trap) (line : ℕ) (old out : Option (List ℕ)) → Between t code k m old out Before before between →
-      StepsOn code m new.machine (outcome.Trap kind line) between after →
+      StepsOn code m (machine_in new.parts) (outcome.Trap kind line) between after →
       Ran t n old out (behind k) (ended.Trap kind line) After before after
   trapped kind line old out b step =
-      let q = step-is t code k m new.machine old out Before before between after (outcome.Trap kind line) b step in
+      let q = step-is t code k m (machine_in new.parts) old out Before before between after (outcome.Trap kind line) b step in
       ran-is k old out out (ended.Trap kind line) (omega (arith, within)) refl b
       (run.trapped t (opening (program_of t) before) n k b.state q.state kind line (ShowsAt t (behind k) after) old out within b.so_far q.settles
       (shows-at k b.state q.state b.runs q.shows q.input))
 
   pub cut_before : (old out : Option (List ℕ)) → Between t code k m old out Before before between →
-      StepsOn code m new.machine outcome.Memory between after → Ran t n old out (behind k) ended.Memory After before after
+      StepsOn code m (machine_in new.parts) outcome.Memory between after → Ran t n old out (behind k) ended.Memory After before after
   cut_before old out b step =
-      let q = step-is t code k m new.machine old out Before before between after outcome.Memory b step in
+      let q = step-is t code k m (machine_in new.parts) old out Before before between after outcome.Memory b step in
       ran-is k old out out ended.Memory (omega (arith, within)) refl b
       (run.cut_before t (opening (program_of t) before) n k b.state q.state (ShowsAt t (behind k) after) old out within b.so_far q.settles
       (shows-at k b.state q.state b.runs q.shows q.input))
 
   pub cut_at_input : (old out : Option (List ℕ)) → ((p : State) → Runs (program_of t) code m p → first_asks p.items ≡ true) →
-      Between t code k m old out Before before between → StepsOn code m new.machine outcome.InputFault between after →
+      Between t code k m old out Before before between → StepsOn code m (machine_in new.parts) outcome.InputFault between after →
       Ran t n old out (behind k) ended.InputFault After before after
   cut_at_input old out asks b step =
-      let q = step-is t code k m new.machine old out Before before between after outcome.InputFault b step in
+      let q = step-is t code k m (machine_in new.parts) old out Before before between after outcome.InputFault b step in
       ran-is k old out out ended.InputFault (omega (arith, within)) refl b
       (run.cut_at_input t (opening (program_of t) before) n k b.state q.state (ShowsAt t (behind k) after) old out within (asks b.state b.runs)
       b.so_far q.settles (shows-at k b.state q.state b.runs q.shows q.input))
 
   pub cut_behind : (v : Val) (old middle out : Option (List ℕ)) → Between t code k m old middle Before before between →
-      StepsOn code m new.machine (outcome.Printed v) between after → AppendsPart middle out (line_text v) →
+      StepsOn code m (machine_in new.parts) (outcome.Printed v) between after → AppendsPart middle out (line_text v) →
       Ran t n old out (behind (k + 1)) ended.OutputFault After before after
   cut_behind v old middle out b step part =
-      let q = step-is t code k m new.machine old middle Before before between after (outcome.Printed v) b step in
+      let q = step-is t code k m (machine_in new.parts) old middle Before before between after (outcome.Printed v) b step in
       ran-is (k + 1) old middle out ended.OutputFault (omega (arith, within)) refl b
       (run.cut_behind t (opening (program_of t) before) n k b.state q.state v (ShowsAt t (behind (k + 1)) after) old middle out within b.so_far
       q.settles (shows-at (k + 1) b.state q.state b.runs q.shows q.input) part)
 
 -- all steps were made
 pub spent : (t : Tables) (code : Code) (n k : ℕ) (st : Stepping) (old out : Option (List ℕ)) (Still : Type 0) (before after : List ℕ) (started : Bool) →
-    started ≡ true → k ≡ n → Between t code k st.machine old out Still before after →
+    started ≡ true → k ≡ n → Between t code k (machine_in st.parts) old out Still before after →
     Ran t n old out (record { begun = started; stepper = st; steps = k }) ended.Spent Still before after
 spent t code n k st old out Still before after started is all b =
     let m : Kept = record { begun = started; stepper = st; steps = k } in
@@ -288,6 +321,21 @@ spent t code n k st old out Still before after started is all b =
           (record { begun = is; code = code; lowers = b.runs.lowers; state = b.runs.shows }, b.input);
       sound = run-is-sound (program_of t) b.runs.accepted before n;
       unread = λ none. b.unread (λ j l. none j (omega (arith, l, all)));
+    }
+
+-- a step went on, and its collection wasn't told
+pub untold : (t : Tables) (code : Code) (n k : ℕ) (st : Stepping) (old out : Option (List ℕ)) (Still : Type 0) (before after : List ℕ) (started : Bool) →
+    started ≡ true → k ≤ n → (e : Ended) → IsUntold e → Between t code k (machine_in st.parts) old out Still before after →
+    Ran t n old out (record { begun = started; stepper = st; steps = k }) e Still before after
+untold t code n k st old out Still before after started is within e cut b =
+    let m : Kept = record { begun = started; stepper = st; steps = k } in
+    let w = run.spent t (opening (program_of t) before) k k b.state (ShowsAt t m after) old out refl b.so_far
+    (record { begun = is; code = code; lowers = b.runs.lowers; state = b.runs.shows }, b.input) in
+    record {
+      begun = is;
+      run = cut-whole t before n k (ShowsAt t m after) old out ended.Spent e within cut w;
+      sound = run-is-sound (program_of t) b.runs.accepted before n;
+      unread = λ none. b.unread (λ j l. none j (omega (arith, l, within)));
     }
 
 -- some program runs on the machine

@@ -1,7 +1,45 @@
 -- What joins the private layers of this crate; no clause of a public call cites it (docs/language.md, "Steps").
+use Rattle.std.specs.Prelude.{◌≡◌, ◌⊎◌, ℕ, List, [], ◌∷◌, ◌++◌, Option, Result, Ok, Err}
+use Rattle.rg_base.specs.declared.event.Event.{Event}
+use Rattle.rg_base.specs.declared.outcome.Outcome.{Outcome}
+use Rattle.rg_base.specs.declared.outcome.Outcome.TheVariants as outcome
+use Rattle.rg_base.specs.declared.outcome.Ended.{Ended}
+use Rattle.rg_base.specs.declared.outcome.Ended.TheVariants as ended
+use Rattle.rg_io.specs.Content.{AppendsPart}
 use Rattle.rg_run.specs.declared.inside.Inside.{Inside}
 use Rattle.rg_run.specs.Machine.{Kept}
 
 -- what a machine shows of what it holds
 abbrev pub kept_of : Inside → Kept
 kept_of i = record { begun = i.begun; stepper = i.stepper; steps = i.steps }
+
+-- at most one collection more
+abbrev pub OneMore : (old new : List Event) → Type 0
+OneMore old new = (new ≡ old) ⊎ ((e : Event) × (new ≡ old ++ e ∷ []))
+
+-- the collections of a step: at most one more, and none where it was refused
+abbrev pub Adds : (old new : List Event) → Outcome → Type 0
+Adds old new outcome.Running = OneMore old new
+Adds old new (outcome.Printed v) = OneMore old new
+Adds old new outcome.Done = OneMore old new
+Adds old new (outcome.Trap kind line) = new ≡ old
+Adds old new outcome.InputFault = new ≡ old
+Adds old new outcome.Memory = new ≡ old
+
+-- how a run stands where telling a collection went well, or has ended it
+abbrev pub ended_by : {A : Type 0} → Result A Ended → Ended
+ended_by (Ok x) = ended.Spent
+ended_by (Err e) = e
+
+-- for want of memory, or by a fault of the notes
+abbrev pub IsUntold : Ended → Type 0
+IsUntold e = (e ≡ ended.Memory) ⊎ (e ≡ ended.OutputFault)
+
+-- what the notes have taken of a line that ended a run: nothing where no memory was found, and a part after a fault
+abbrev pub CutsLine : Ended → (old new : Option (List ℕ)) → (bytes : List ℕ) → Type 0
+CutsLine ended.Done old new bytes = ⊥
+CutsLine ended.Spent old new bytes = ⊥
+CutsLine (ended.Trap kind line) old new bytes = ⊥
+CutsLine ended.InputFault old new bytes = ⊥
+CutsLine ended.OutputFault old new bytes = AppendsPart old new bytes
+CutsLine ended.Memory old new bytes = new ≡ old

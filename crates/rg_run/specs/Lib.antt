@@ -1,4 +1,5 @@
 pub mod Machine
 pub mod Sound
 pub mod Runs
+pub mod Reports
 pub mod Inner

@@ -1,5 +1,5 @@
 -- What a machine keeps, and when it shows a state of the machine that never frees (docs/language.md, "Steps").
-use Rattle.std.specs.Prelude.{◌≡◌, ℕ, Bool, true, false, List, length, Option, Some, None, slice_get}
+use Rattle.std.specs.Prelude.{◌≡◌, ℕ, Bool, true, false, List, Option, Some, None, slice_get}
 use Rattle.rg_base.specs.declared.object.Seen.{Seen}
 use Rattle.rg_base.specs.declared.outcome.EndNumbers.{EndNumbers}
 use Rattle.rg_tree.specs.Rows.Tables.{Tables}
@@ -9,7 +9,9 @@ use Rattle.rg_code.specs.Code.{Code}
 use Rattle.rg_code.specs.Lowering.{Lowers}
 use Rattle.rg_held.specs.Frees.{gone}
 use Rattle.rg_held.specs.Shown.{ShowsHeld}
+use Rattle.rg_machine.specs.Parts.{machine_in}
 use Rattle.rg_step.specs.Steps.{Stepping, fresh}
+use Rattle.rg_step.specs.Steps as stepper
 
 -- whether a run has begun, the stack machine, and the whole steps that it made
 pub record Kept : Type 0 where
@@ -28,7 +30,7 @@ pub record Shows (t : Tables) (m : Kept) (s : State) : Type 0 where
   pub begun : m.begun ≡ true
   pub code : Code
   pub lowers : Lowers (program_of t) code
-  pub state : ShowsHeld (classes_of t) code m.stepper.machine s
+  pub state : ShowsHeld (classes_of t) code (machine_in m.stepper.parts) s
 
 -- the machine shows a state, and so much is left of the input there
 abbrev pub ShowsAt : Tables → Kept → (rest : List ℕ) → State → Type 0
@@ -36,21 +38,13 @@ ShowsAt t m rest s = Shows t m s × (s.input ≡ rest)
 
 -- the object at a serial, where one was made; one that was freed is gone
 abbrev pub object_at : Kept → (serial : ℕ) → Option Seen
-object_at m serial = slice_get m.stepper.machine.store serial
+object_at m serial = slice_get (machine_in m.stepper.parts).store serial
 
 -- what is answered for a serial: the object that the machine holds there, and none where it holds none
 abbrev pub IsShown : Kept → (serial : ℕ) → Option Seen → Type 0
 IsShown m serial (Some o) = object_at m serial ≡ Some o
 IsShown m serial None = (o : Seen) → object_at m serial ≡ Some o → o ≡ gone
 
--- the numbers of a run: its steps, and the objects that it made, held or not; for `high` they stand too
+-- the numbers of a run: its whole steps, those of the heap, and the collections
 abbrev pub numbers_of : Kept → EndNumbers
-numbers_of m = record {
-  steps = m.steps;
-  made = length m.stepper.machine.store;
-  held = 0;
-  frozen = 0;
-  regions = 0;
-  collections = 0;
-  high = length m.stepper.machine.store;
-}
+numbers_of m = record (stepper.numbers_of m.stepper) { steps = m.steps }

@@ -12,6 +12,7 @@ use Rattle.rg_sound.specs.Fit.{Fit}
 use Rattle.rg_sound.specs.Held.{IsHeld, NoneStale, LiveFit}
 use Rattle.rg_sound.specs.Writes.{Allowed}
 use Rattle.rg_held.specs.Frees.{gone}
+use Rattle.rg_machine.specs.Parts.{machine_in}
 use Rattle.rg_run.specs.Machine.{Kept, Shows, object_at}
 
 -- What holds of each state of the first n steps of a program on an input, the opening one and the last one too, and of each
@@ -32,7 +33,7 @@ pub record HoldsOf (classes : List Class) (m : Kept) (s : State) : Type 0 where
   -- the serials of the objects that the machine holds
   pub holds : ℕ → Bool
   -- as many objects were made
-  pub made : length m.stepper.machine.store ≡ length s.store
+  pub made : length (machine_in m.stepper.parts).store ≡ length s.store
   -- such an object is held in the state, and has there the class, the fields and the label that it has here
   pub held : (serial : ℕ) → holds serial ≡ true → IsHeld classes s serial
   pub same : (serial : ℕ) (o : Seen) → holds serial ≡ true → slice_get s.store serial ≡ Some o → object_at m serial ≡ Some o

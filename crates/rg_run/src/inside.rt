@@ -1,6 +1,6 @@
 //! What a machine holds, and the loop of its steps (docs/language.md, "Steps").
 
-ghost use Rattle.std.specs.Prelude.{◌≡◌, ◌≢◌, ◌≤◌, false, true};
+ghost use Rattle.std.specs.Prelude.{◌≡◌, ◌≢◌, ◌≤◌, ◌⊎◌, false, true};
 ghost use Rattle.rg_tree.specs.Rows.RowTrees.{program_of};
 ghost use Rattle.rg_code.specs.Lowering.{Lowers};
 ghost use Rattle.rg_io.specs.Content.{Rose};
@@ -8,13 +8,17 @@ ghost use Rattle.rg_input.specs.Numbers.{Follows, OnInput};
 ghost use Rattle.rg_step.specs.Steps.{fresh};
 ghost use Rattle.rg_run.specs.Inner.{kept_of};
 ghost use Rattle.rg_run.specs.Machine.{IsFresh};
+ghost use Rattle.rg_run.specs.Reports.{Reports};
 ghost use Rattle.rg_run.specs.Runs.{RunsOn};
 
+use crate::stepping::step;
+use crate::telling::tell;
 use rg_base::{Ended, Outcome};
 use rg_check::Accepted;
 use rg_code::CodeList;
 use rg_input::Numbers;
 use rg_io::{Failed, Sink, Source};
+use rg_pace::Pacer;
 use rg_plain::put_value;
 use rg_step::Stepper;
 use std::alloc::Global;
@@ -29,15 +33,19 @@ pub(crate) struct Inside {
 
 impl Inside {
     /// Makes at most `n` steps of an accepted program.
-    pub(crate) fn run<I: Source, O: Sink>(
+    pub(crate) fn run<I: Source, O: Sink, R: Sink>(
         &mut self,
         alloc: Global,
         accepted: &Accepted,
         code: &CodeList,
         n: u64,
+        report: bool,
         input: &mut Numbers,
         source: &mut I,
         out: &mut O,
+        notes: &mut R,
+        count: &mut dyn Pacer,
+        trace: &mut dyn Pacer,
     ) -> Ended
         requires fresh { IsFresh (kept_of self.old) }
         requires lowers { Lowers (program_of accepted.now.program) code.now }
@@ -49,14 +57,19 @@ impl Inside {
         ensures begun { result ≢ Ended.Memory → self.new.begun ≡ true }
         ensures kept { self.new.begun ≡ false →
             (self.new.stepper ≡ fresh) × (self.new.steps ≡ 0) }
+        ensures notes { Reports report result self.new.stepper.events
+            (R.taken notes.old) (R.taken notes.new) }
+        ensures tuned { (tuned count.new ≡ tuned count.old) × (tuned trace.new ≡ tuned trace.old) }
         ensures follows { Follows input.new (I.left source.new) }
 
         ensures input_fault { result ≡ Ended.InputFault →
             Rose (I.faults source.old) (I.faults source.new) }
         ensures output_fault { result ≡ Ended.OutputFault →
-            Rose (O.faults out.old) (O.faults out.new) }
+            Rose (O.faults out.old) (O.faults out.new)
+            ⊎ Rose (R.faults notes.old) (R.faults notes.new) }
         ensures source_never_falls { I.faults source.old ≤ I.faults source.new }
         ensures sink_never_falls { O.faults out.old ≤ O.faults out.new }
+        ensures notes_never_fall { R.faults notes.old ≤ R.faults notes.new }
     {
         let program = accepted.program();
         let Ok(()) = self.stepper.begin(alloc, code, program.main_manager()) else {
@@ -64,9 +77,14 @@ impl Inside {
         };
         self.begun = true;
         while self.steps < n {
-            match self.stepper.step(code, input, source) {
+            let told = self.stepper.events().len();
+            match step(&mut self.stepper, code, input, source, count, trace) {
                 Outcome::Running => {
                     self.steps += 1;
+                    match tell(alloc, report, self.stepper.events(), told, notes) {
+                        Ok(()) => (),
+                        Err(ended) => return ended,
+                    }
                     self.steps += self.stepper.leap(code, n - self.steps);
                 }
                 Outcome::Printed(v) => {
@@ -75,9 +93,17 @@ impl Inside {
                         Ok(()) => (),
                         Err(Failed) => return Ended::OutputFault,
                     }
+                    match tell(alloc, report, self.stepper.events(), told, notes) {
+                        Ok(()) => (),
+                        Err(ended) => return ended,
+                    }
                 }
                 Outcome::Done => {
                     self.steps += 1;
+                    match tell(alloc, report, self.stepper.events(), told, notes) {
+                        Ok(()) => (),
+                        Err(ended) => return ended,
+                    }
                     return Ended::Done;
                 }
                 Outcome::Trap { kind, line } => return Ended::Trap { kind, line },

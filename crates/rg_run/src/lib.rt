@@ -4,6 +4,8 @@
 
 mod inside;
 mod machine;
+mod stepping;
+mod telling;
 
 pub use machine::Machine;
 pub use rg_base::Ended;

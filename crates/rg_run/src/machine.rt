@@ -1,19 +1,24 @@
 //! The machine that makes the steps of a run (docs/language.md, "Steps").
 
-ghost use Rattle.std.specs.Prelude.{◌≡◌, ◌≢◌, ◌≤◌, ◌↔◌, IsTrue, IfOk, true};
+ghost use Rattle.std.specs.Prelude.{ℕ, List, ◌≡◌, ◌≢◌, ◌≤◌, ◌↔◌, ◌⊎◌, IsTrue, IfOk, true};
+ghost use Rattle.rg_tree.specs.Rows.Tables.{Tables};
 ghost use Rattle.rg_tree.specs.Rows.RowTrees.{program_of};
 ghost use Rattle.rg_code.specs.Lowering.{Lowers};
 ghost use Rattle.rg_io.specs.Content.{Rose};
 ghost use Rattle.rg_input.specs.Numbers.{Follows, OnInput};
+ghost use Rattle.rg_machine.specs.Owned.{IsOwned};
 ghost use Rattle.rg_run.specs.Machine.{IsFresh, IsShown, numbers_of};
+ghost use Rattle.rg_run.specs.Reports.{Reports};
 ghost use Rattle.rg_run.specs.Runs.{RunsOn};
+ghost use Rattle.rg_run.specs.Sound.{Stands};
 
 use crate::inside::Inside;
-use rg_base::{EndNumbers, Ended, Memory, Seen};
+use rg_base::{EndNumbers, Ended, Event, Memory, Seen};
 use rg_check::Accepted;
 use rg_code::CodeList;
 use rg_input::Numbers;
 use rg_io::{Sink, Source};
+use rg_pace::Pacer;
 use rg_step::Stepper;
 use std::alloc::Global;
 use std::marker::Model;
@@ -43,13 +48,13 @@ impl Model for Machine {
 
 impl Machine {
     /// A machine on which no run has begun.
-    pub fn new() -> Machine
+    pub fn new(alloc: Global) -> Machine
         ensures { IsFresh result }
     {
         Machine {
             inside: Inside {
                 begun: false,
-                stepper: Stepper::new(),
+                stepper: Stepper::new(alloc),
                 steps: 0,
             },
         }
@@ -62,20 +67,21 @@ impl Machine {
         !self.inside.begun
     }
 
-    /// The numbers of the run so far. How many cells it holds, and ever held, isn't told yet.
+    /// The numbers of the run so far: its steps, and what the machine made, holds and ever held.
     pub fn numbers(&self) -> EndNumbers
         ensures { result ≡ numbers_of self.now }
     {
-        let made = self.inside.stepper.made();
         EndNumbers {
             steps: self.inside.steps,
-            made,
-            held: 0,
-            frozen: 0,
-            regions: 0,
-            collections: 0,
-            high: made,
+            ..self.inside.stepper.numbers()
         }
+    }
+
+    /// The collections of the run so far, in order.
+    pub fn events(&self) -> &[Event]
+        ensures { result.now ≡ self.now.stepper.events }
+    {
+        self.inside.stepper.events()
     }
 
     /// The object of a serial; None where the machine holds none.
@@ -85,17 +91,31 @@ impl Machine {
         self.inside.stepper.object(alloc, serial)
     }
 
+    /// Where a run stands on it, each closed region of its own heap has one owner.
+    pub fn is_owned(&self)
+        ensures { (t : Tables) (input : List ℕ) (n : ℕ) → Stands t input n self.now
+            → IsOwned self.now.stepper.parts }
+    {
+        self.inside.stepper.is_owned();
+    }
+
     /// Makes at most `n` steps of an accepted program by its code. Each printed line is given to
-    /// `out` in its own step.
-    pub fn run<I: Source, O: Sink>(
+    /// `out` in its own step and, where `report` is true, the line of each collection to `notes` in
+    /// its own. What the pacers answer decides nothing of what is written to `out`, nor of the
+    /// state that the machine shows.
+    pub fn run<I: Source, O: Sink, R: Sink>(
         &mut self,
         alloc: Global,
         accepted: &Accepted,
         code: &CodeList,
         n: u64,
+        report: bool,
         input: &mut Numbers,
         source: &mut I,
         out: &mut O,
+        notes: &mut R,
+        count: &mut dyn Pacer,
+        trace: &mut dyn Pacer,
     ) -> Ended
         requires fresh { IsFresh self.old }
         requires lowers { Lowers (program_of accepted.now.program) code.now }
@@ -105,16 +125,22 @@ impl Machine {
             (RunsOn accepted.now.program n (O.taken out.old) (O.taken out.new) self.new result
             ((input.new ≡ input.old) × (source.new ≡ source.old))) }
         ensures begun { result ≢ Ended.Memory → self.new.begun ≡ true }
+        ensures notes { Reports report result self.new.stepper.events
+            (R.taken notes.old) (R.taken notes.new) }
+        ensures tuned { (tuned count.new ≡ tuned count.old) × (tuned trace.new ≡ tuned trace.old) }
         ensures follows { Follows input.new (I.left source.new) }
 
         ensures input_fault { result ≡ Ended.InputFault →
             Rose (I.faults source.old) (I.faults source.new) }
         ensures output_fault { result ≡ Ended.OutputFault →
-            Rose (O.faults out.old) (O.faults out.new) }
+            Rose (O.faults out.old) (O.faults out.new)
+            ⊎ Rose (R.faults notes.old) (R.faults notes.new) }
         ensures source_never_falls { I.faults source.old ≤ I.faults source.new }
         ensures sink_never_falls { O.faults out.old ≤ O.faults out.new }
+        ensures notes_never_fall { R.faults notes.old ≤ R.faults notes.new }
     {
-        self.inside
-            .run(alloc, accepted, code, n, input, source, out)
+        self.inside.run(
+            alloc, accepted, code, n, report, input, source, out, notes, count, trace,
+        )
     }
 }

@@ -1,38 +1,46 @@
 -- The turns and the ends of a run, by the lemma of each.
-use Rattle.std.proofs.Common.{◌≡◌, ◌<◌, ◌+◌, ℕ, false, refl, sym, ap, subst, arith, ◌∙◌}
+use Rattle.std.proofs.Common.{◌≡◌, ◌<◌, ◌+◌, ℕ, [], false, Err, inl, inr, refl, sym, ap, subst, arith, ◌∙◌, true≢false}
 use Rattle.rg_base.specs.declared.outcome.Ended.TheVariants as ended
 use Rattle.rg_base.specs.declared.outcome.Outcome.TheVariants as outcome
-use Rattle.rg_io.proofs.ContentLemmas.{Appends-none}
+use Rattle.rg_io.proofs.ContentLemmas.{Appends-none, Rose-since}
 use Rattle.rg_tree.specs.Rows.Tables.{Tables}
 use Rattle.rg_tree.specs.Rows.RowTrees.{program_of}
 use Rattle.rg_rules.specs.Acceptance.{Accepted}
 use Rattle.rg_rules.specs.Inputs.{first_asks}
 use Rattle.rg_rules.specs.State.{State}
 use Rattle.rg_input.proofs.InputLemmas.{OnInput-still, OnInput-map}
+use Rattle.rg_machine.specs.Parts.{machine_in}
 use Rattle.rg_step.specs.Steps.{Stepping, opening_machine, Runs, StepsOn}
 use Rattle.rg_run.specs.Machine.{Kept}
 use Rattle.rg_run.proofs.RunLemmas.{not-begun}
 use Rattle.rg_run.proofs.TurnLemmas.{Between, Turns, RanOn, begins, quiet, printed, done, trapped, cut_before, cut_at_input, cut_behind, spent, is-running}
-use Rattle.rg_run.proofs.TurnLemmas.{turn, told, leapt}
+use Rattle.rg_run.proofs.TurnLemmas.{turn, told, leapt, untold, done_untold}
+use Rattle.rg_run.proofs.ReportLemmas.{reports-none, reports-whole, reports-same, reports-part, reports-front, reports-of, reports-unbegun, untold-input}
 use Rattle.rg_run.proofs.inside.Inside.run.Goals as goal
 
 pub loop-self-init : goal.loop-self-init
 loop-self-init g c =
     let t = c.args.accepted.now.program in
     let code = c.args.code.now in
-    let m = c.begin.new.self.machine in
+    let m = machine_in c.begin.new.self.parts in
     let content = g.O.Sink.taken c.args.out.now in
     let Still : Type 0 = (c.args.input.now ≡ c.args.input.now) × (c.args.source.now ≡ c.args.source.now) in
     let P : Tables → Type 0 = λ q. Accepted (program_of q) in
     let accepted : P t = subst P c.program-program.ensures.program c.program-program.ensures.accepted in
+    let h = c.in-Ok.ensures.begun in
     let is : m ≡ opening_machine code t.manager =
-    ap (λ (s : Stepping). s.machine) c.in-Ok.ensures.begun ∙ ap (opening_machine code) (c.main_manager.ensures ∙ ap (λ (q : Tables). q.manager) c.program-program.ensures.program) in
+    ap (λ (s : Stepping). machine_in s.parts) h.2 ∙ h.1 ∙ ap (opening_machine code) (c.main_manager.ensures ∙ ap (λ (q : Tables). q.manager) c.program-program.ensures.program) in
     record {
       begun = refl;
       follows = c.requires.follows;
       within = omega (arith, c.requires.fresh.steps);
       source_never_falls = omega arith;
       sink_never_falls = omega arith;
+      notes_never_fall = omega arith;
+      count_tuned = refl;
+      trace_tuned = refl;
+      reports = reports-same c.args.report ended.Spent [] c.begin.new.self.events _ _ (ap (λ (s : Stepping). s.events) h.2)
+          (reports-none c.args.report (g.R.Sink.taken c.args.notes.now));
       turns = OnInput-still _ _ _ _ (Turns t code c.args.self.now.steps m content content Still) refl refl (λ bytes.
           let Q : ℕ → Type 0 = λ k. Between t code k m content content Still bytes bytes in
           subst Q (sym c.requires.fresh.steps)
@@ -41,7 +49,7 @@ loop-self-init g c =
 
 pub step-requires-clause-runs : goal.step-requires-clause-runs
 step-requires-clause-runs g c =
-    is-running c.args.accepted.now.program c.args.code.now c.loop-self.self.steps c.loop-self.self.stepper.machine _ _ _ _ _ _ _
+    is-running c.args.accepted.now.program c.args.code.now c.loop-self.self.steps (machine_in c.loop-self.self.stepper.parts) _ _ _ _ _ _ _
     c.loop-self.invariant.follows c.loop-self.invariant.turns
 
 pub leap-requires : goal.leap-requires
@@ -49,26 +57,26 @@ leap-requires g c =
     let t = c.args.accepted.now.program in
     let code = c.args.code.now in
     let k = c.loop-self.self.steps in
-    let m = c.loop-self.self.stepper.machine in
-    let new = c.step.new.self in
+    let m = machine_in c.loop-self.self.stepper.parts in
+    let new = c.step.new.stepper in
     let old = g.O.Sink.taken c.args.out.now in
     let middle = g.O.Sink.taken c.loop-self.out in
     let Before : Type 0 = (c.loop-self.input ≡ c.args.input.now) × (c.loop-self.source ≡ c.args.source.now) in
     let After : Type 0 = (c.step.new.input ≡ c.args.input.now) × (c.step.new.source ≡ c.args.source.now) in
     let more : (p : State) → Runs (program_of t) code m p → first_asks p.items ≡ false → Before → After =
     (λ p runs no b. let n = c.in-Running.ensures.reads_nothing (program_of t) p runs no in (n.0 ∙ b.0, n.1 ∙ b.1)) in
-    let stepped = turn _ _ _ _ _ _ (Turns t code k m old middle Before) (StepsOn code m new.machine outcome.Running)
-    (Turns t code (k + 1) new.machine old middle After) c.loop-self.invariant.turns c.in-Running.ensures.step
-    (λ x y z b step. quiet t code k m new.machine Before After x y z more old middle b step) in
-    is-running t code (k + 1) new.machine _ _ _ _ _ _ _ c.in-Running.ensures.follows stepped
+    let stepped = turn _ _ _ _ _ _ (Turns t code k m old middle Before) (StepsOn code m (machine_in new.parts) outcome.Running)
+    (Turns t code (k + 1) (machine_in new.parts) old middle After) c.loop-self.invariant.turns c.in-Running.ensures.step
+    (λ x y z b step. quiet t code k m (machine_in new.parts) Before After x y z more old middle b step) in
+    is-running t code (k + 1) (machine_in new.parts) _ _ _ _ _ _ _ c.in-Running.ensures.follows stepped
 
 pub loop-self-preserved-in-Running : goal.loop-self-preserved-in-Running
 loop-self-preserved-in-Running g c =
     let t = c.args.accepted.now.program in
     let code = c.args.code.now in
     let k = c.loop-self.self.steps in
-    let m = c.loop-self.self.stepper.machine in
-    let new = c.step.new.self in
+    let m = machine_in c.loop-self.self.stepper.parts in
+    let new = c.step.new.stepper in
     let old = g.O.Sink.taken c.args.out.now in
     let middle = g.O.Sink.taken c.loop-self.out in
     let Before : Type 0 = (c.loop-self.input ≡ c.args.input.now) × (c.loop-self.source ≡ c.args.source.now) in
@@ -76,17 +84,25 @@ loop-self-preserved-in-Running g c =
     let within : k < c.args.n = omega (arith, c.loop-self-test.true) in
     let more : (p : State) → Runs (program_of t) code m p → first_asks p.items ≡ false → Before → After =
     (λ p runs no b. let n = c.in-Running.ensures.reads_nothing (program_of t) p runs no in (n.0 ∙ b.0, n.1 ∙ b.1)) in
-    let stepped = turn _ _ _ _ _ _ (Turns t code k m old middle Before) (StepsOn code m new.machine outcome.Running)
-    (Turns t code (k + 1) new.machine old middle After) c.loop-self.invariant.turns c.in-Running.ensures.step
-    (λ x y z b step. quiet t code k m new.machine Before After x y z more old middle b step) in
+    let stepped = turn _ _ _ _ _ _ (Turns t code k m old middle Before) (StepsOn code m (machine_in new.parts) outcome.Running)
+    (Turns t code (k + 1) (machine_in new.parts) old middle After) c.loop-self.invariant.turns c.in-Running.ensures.step
+    (λ x y z b step. quiet t code k m (machine_in new.parts) Before After x y z more old middle b step) in
     record {
       begun = c.loop-self.invariant.begun;
       follows = c.in-Running.ensures.follows;
       within = omega (arith, within, c.leap.ensures.most);
       source_never_falls = omega (arith, c.loop-self.invariant.source_never_falls, c.in-Running.ensures.never_falls);
       sink_never_falls = c.loop-self.invariant.sink_never_falls;
-      turns = OnInput-map _ _ _ _ (Turns t code (k + 1) new.machine old middle After) (Turns t code (k + 1 + c.leap.result) c.leap.new.self.machine old middle After)
-          stepped (λ x y b. leapt t code (k + 1) c.leap.result new.machine c.leap.new.self.machine After x y old middle b c.leap.ensures.leaps);
+      notes_never_fall = omega (arith, c.loop-self.invariant.notes_never_fall, c.in-Ok-tell.ensures.never_falls);
+      count_tuned = c.in-Running.ensures.count ∙ c.loop-self.invariant.count_tuned;
+      trace_tuned = c.in-Running.ensures.trace ∙ c.loop-self.invariant.trace_tuned;
+      reports = reports-same c.args.report ended.Spent new.events c.leap.new.self.events _ _ c.leap.ensures.events
+          (reports-of c.args.report ended.Spent c.events.result.now c.step.new.stepper.events _ _ c.events.ensures
+          (c.in-Ok-tell.ensures.reports (g.R.Sink.taken c.args.notes.now)
+          (reports-front c.args.report c.loop-self.self.stepper.events c.step.new.stepper.events c.events-told.result.now c.events.result.now _ _ c.events-told.ensures c.events.ensures
+          c.in-Running.ensures.events c.loop-self.invariant.reports)));
+      turns = OnInput-map _ _ _ _ (Turns t code (k + 1) (machine_in new.parts) old middle After) (Turns t code (k + 1 + c.leap.result) (machine_in c.leap.new.self.parts) old middle After)
+          stepped (λ x y b. leapt t code (k + 1) c.leap.result (machine_in new.parts) (machine_in c.leap.new.self.parts) After x y old middle b c.leap.ensures.leaps);
     }
 
 pub loop-self-preserved : goal.loop-self-preserved
@@ -94,8 +110,8 @@ loop-self-preserved g c =
     let t = c.args.accepted.now.program in
     let code = c.args.code.now in
     let k = c.loop-self.self.steps in
-    let m = c.loop-self.self.stepper.machine in
-    let new = c.step.new.self in
+    let m = machine_in c.loop-self.self.stepper.parts in
+    let new = c.step.new.stepper in
     let old = g.O.Sink.taken c.args.out.now in
     let middle = g.O.Sink.taken c.loop-self.out in
     let Before : Type 0 = (c.loop-self.input ≡ c.args.input.now) × (c.loop-self.source ≡ c.args.source.now) in
@@ -111,9 +127,16 @@ loop-self-preserved g c =
       within = omega arith;
       source_never_falls = omega (arith, c.loop-self.invariant.source_never_falls, c.in-Printed.ensures.never_falls);
       sink_never_falls = omega (arith, c.loop-self.invariant.sink_never_falls, c.in-Ok-put_value.ensures.never_falls);
-      turns = turn _ _ _ _ _ _ (Turns t code k m old middle Before) (StepsOn code m new.machine (outcome.Printed v))
-          (Turns t code (k + 1) new.machine old out After) c.loop-self.invariant.turns c.in-Printed.ensures.step
-          (λ x y z b step. printed t code k m new.machine Before After x y z more v old middle out b step c.in-Ok-put_value.ensures.ok);
+      notes_never_fall = omega (arith, c.loop-self.invariant.notes_never_fall, c.in-Ok-tell-2.ensures.never_falls);
+      count_tuned = c.in-Printed.ensures.count ∙ c.loop-self.invariant.count_tuned;
+      trace_tuned = c.in-Printed.ensures.trace ∙ c.loop-self.invariant.trace_tuned;
+      reports = reports-of c.args.report ended.Spent c.events-in-Printed.result.now c.step.new.stepper.events _ _ c.events-in-Printed.ensures
+          (c.in-Ok-tell-2.ensures.reports (g.R.Sink.taken c.args.notes.now)
+          (reports-front c.args.report c.loop-self.self.stepper.events c.step.new.stepper.events c.events-told.result.now c.events-in-Printed.result.now _ _ c.events-told.ensures c.events-in-Printed.ensures
+          c.in-Printed.ensures.events c.loop-self.invariant.reports));
+      turns = turn _ _ _ _ _ _ (Turns t code k m old middle Before) (StepsOn code m (machine_in new.parts) (outcome.Printed v))
+          (Turns t code (k + 1) (machine_in new.parts) old out After) c.loop-self.invariant.turns c.in-Printed.ensures.step
+          (λ x y z b step. printed t code k m (machine_in new.parts) Before After x y z more v old middle out b step c.in-Ok-put_value.ensures.ok);
     }
 
 pub returns-in-Err-clause-run : goal.returns-in-Err-clause-run
@@ -121,8 +144,30 @@ returns-in-Err-clause-run g c =
     let t = c.args.accepted.now.program in
     let code = c.args.code.now in
     let k = c.loop-self.self.steps in
-    let m = c.loop-self.self.stepper.machine in
-    let new = c.step.new.self in
+    let m = machine_in c.loop-self.self.stepper.parts in
+    let new = c.step.new.stepper in
+    let old = g.O.Sink.taken c.args.out.now in
+    let middle = g.O.Sink.taken c.loop-self.out in
+    let Before : Type 0 = (c.loop-self.input ≡ c.args.input.now) × (c.loop-self.source ≡ c.args.source.now) in
+    let After : Type 0 = (c.step.new.input ≡ c.args.input.now) × (c.step.new.source ≡ c.args.source.now) in
+    let within : k < c.args.n = omega (arith, c.loop-self-test.true) in
+    let more : (p : State) → Runs (program_of t) code m p → first_asks p.items ≡ false → Before → After =
+    (λ p runs no b. let n = c.in-Running.ensures.reads_nothing (program_of t) p runs no in (n.0 ∙ b.0, n.1 ∙ b.1)) in
+    let e = c.in-Err.ended in
+    let behind : Kept = record { begun = c.loop-self.self.begun; stepper = new; steps = k + 1 } in
+    told _ _ _ _ t c.args.n old middle behind e After
+    (turn _ _ _ _ _ _ (Turns t code k m old middle Before) (StepsOn code m (machine_in new.parts) outcome.Running) (RanOn t c.args.n old middle behind e After)
+    c.loop-self.invariant.turns c.in-Running.ensures.step
+    (λ x y z b step. untold t code c.args.n (k + 1) new old middle After x z c.loop-self.self.begun c.loop-self.invariant.begun (omega (arith, within)) e
+    c.in-Err.ensures.untold (quiet t code k m (machine_in new.parts) Before After x y z more old middle b step)))
+
+pub returns-in-Err-put_value-clause-run : goal.returns-in-Err-put_value-clause-run
+returns-in-Err-put_value-clause-run g c =
+    let t = c.args.accepted.now.program in
+    let code = c.args.code.now in
+    let k = c.loop-self.self.steps in
+    let m = machine_in c.loop-self.self.stepper.parts in
+    let new = c.step.new.stepper in
     let old = g.O.Sink.taken c.args.out.now in
     let middle = g.O.Sink.taken c.loop-self.out in
     let Before : Type 0 = (c.loop-self.input ≡ c.args.input.now) × (c.loop-self.source ≡ c.args.source.now) in
@@ -134,17 +179,64 @@ returns-in-Err-clause-run g c =
     let out = g.O.Sink.taken c.put_value.new.out in
     let behind : Kept = record { begun = c.loop-self.self.begun; stepper = new; steps = k + 1 } in
     told _ _ _ _ t c.args.n old out behind ended.OutputFault After
-    (turn _ _ _ _ _ _ (Turns t code k m old middle Before) (StepsOn code m new.machine (outcome.Printed v)) (RanOn t c.args.n old out behind ended.OutputFault After)
+    (turn _ _ _ _ _ _ (Turns t code k m old middle Before) (StepsOn code m (machine_in new.parts) (outcome.Printed v)) (RanOn t c.args.n old out behind ended.OutputFault After)
     c.loop-self.invariant.turns c.in-Printed.ensures.step
-    (λ x y z b step. cut_behind t code c.args.n k within m new Before After x y z more c.loop-self.self.begun c.loop-self.invariant.begun v old middle out b step c.in-Err.ensures.part))
+    (λ x y z b step. cut_behind t code c.args.n k within m new Before After x y z more c.loop-self.self.begun c.loop-self.invariant.begun v old middle out b step c.in-Err-put_value.ensures.part))
+
+pub returns-in-Err-tell-clause-run : goal.returns-in-Err-tell-clause-run
+returns-in-Err-tell-clause-run g c =
+    let t = c.args.accepted.now.program in
+    let code = c.args.code.now in
+    let k = c.loop-self.self.steps in
+    let m = machine_in c.loop-self.self.stepper.parts in
+    let new = c.step.new.stepper in
+    let old = g.O.Sink.taken c.args.out.now in
+    let middle = g.O.Sink.taken c.loop-self.out in
+    let Before : Type 0 = (c.loop-self.input ≡ c.args.input.now) × (c.loop-self.source ≡ c.args.source.now) in
+    let After : Type 0 = (c.step.new.input ≡ c.args.input.now) × (c.step.new.source ≡ c.args.source.now) in
+    let within : k < c.args.n = omega (arith, c.loop-self-test.true) in
+    let more : (p : State) → Runs (program_of t) code m p → first_asks p.items ≡ false → Before → After =
+    (λ p runs no b. let n = c.in-Printed.ensures.reads_nothing (program_of t) p runs no in (n.0 ∙ b.0, n.1 ∙ b.1)) in
+    let v = c.in-Printed.v in
+    let out = g.O.Sink.taken c.put_value.new.out in
+    let e = c.in-Err-tell.ended in
+    let behind : Kept = record { begun = c.loop-self.self.begun; stepper = new; steps = k + 1 } in
+    told _ _ _ _ t c.args.n old out behind e After
+    (turn _ _ _ _ _ _ (Turns t code k m old middle Before) (StepsOn code m (machine_in new.parts) (outcome.Printed v)) (RanOn t c.args.n old out behind e After)
+    c.loop-self.invariant.turns c.in-Printed.ensures.step
+    (λ x y z b step. untold t code c.args.n (k + 1) new old out After x z c.loop-self.self.begun c.loop-self.invariant.begun (omega (arith, within)) e
+    c.in-Err-tell.ensures.untold
+    (printed t code k m (machine_in new.parts) Before After x y z more v old middle out b step c.in-Ok-put_value.ensures.ok)))
+
+pub returns-in-Err-tell-2-clause-run : goal.returns-in-Err-tell-2-clause-run
+returns-in-Err-tell-2-clause-run g c =
+    let t = c.args.accepted.now.program in
+    let code = c.args.code.now in
+    let k = c.loop-self.self.steps in
+    let m = machine_in c.loop-self.self.stepper.parts in
+    let new = c.step.new.stepper in
+    let old = g.O.Sink.taken c.args.out.now in
+    let middle = g.O.Sink.taken c.loop-self.out in
+    let Before : Type 0 = (c.loop-self.input ≡ c.args.input.now) × (c.loop-self.source ≡ c.args.source.now) in
+    let After : Type 0 = (c.step.new.input ≡ c.args.input.now) × (c.step.new.source ≡ c.args.source.now) in
+    let within : k < c.args.n = omega (arith, c.loop-self-test.true) in
+    let more : (p : State) → Runs (program_of t) code m p → first_asks p.items ≡ false → Before → After =
+    (λ p runs no b. let n = c.in-Done.ensures.reads_nothing (program_of t) p runs no in (n.0 ∙ b.0, n.1 ∙ b.1)) in
+    let e = c.in-Err-tell-2.ended in
+    let behind : Kept = record { begun = c.loop-self.self.begun; stepper = new; steps = k + 1 } in
+    told _ _ _ _ t c.args.n old middle behind e After
+    (turn _ _ _ _ _ _ (Turns t code k m old middle Before) (StepsOn code m (machine_in new.parts) outcome.Done) (RanOn t c.args.n old middle behind e After)
+    c.loop-self.invariant.turns c.in-Done.ensures.step
+    (λ x y z b step. done_untold t code c.args.n k within m new Before After x y z more c.loop-self.self.begun c.loop-self.invariant.begun e
+    c.in-Err-tell-2.ensures.untold old middle b step))
 
 pub returns-in-Done-clause-run : goal.returns-in-Done-clause-run
 returns-in-Done-clause-run g c =
     let t = c.args.accepted.now.program in
     let code = c.args.code.now in
     let k = c.loop-self.self.steps in
-    let m = c.loop-self.self.stepper.machine in
-    let new = c.step.new.self in
+    let m = machine_in c.loop-self.self.stepper.parts in
+    let new = c.step.new.stepper in
     let old = g.O.Sink.taken c.args.out.now in
     let middle = g.O.Sink.taken c.loop-self.out in
     let Before : Type 0 = (c.loop-self.input ≡ c.args.input.now) × (c.loop-self.source ≡ c.args.source.now) in
@@ -154,7 +246,7 @@ returns-in-Done-clause-run g c =
     (λ p runs no b. let n = c.in-Done.ensures.reads_nothing (program_of t) p runs no in (n.0 ∙ b.0, n.1 ∙ b.1)) in
     let behind : Kept = record { begun = c.loop-self.self.begun; stepper = new; steps = k + 1 } in
     told _ _ _ _ t c.args.n old middle behind ended.Done After
-    (turn _ _ _ _ _ _ (Turns t code k m old middle Before) (StepsOn code m new.machine outcome.Done) (RanOn t c.args.n old middle behind ended.Done After)
+    (turn _ _ _ _ _ _ (Turns t code k m old middle Before) (StepsOn code m (machine_in new.parts) outcome.Done) (RanOn t c.args.n old middle behind ended.Done After)
     c.loop-self.invariant.turns c.in-Done.ensures.step
     (λ x y z b step. done t code c.args.n k within m new Before After x y z more c.loop-self.self.begun c.loop-self.invariant.begun old middle b step))
 
@@ -163,8 +255,8 @@ returns-in-Trap-clause-run g c =
     let t = c.args.accepted.now.program in
     let code = c.args.code.now in
     let k = c.loop-self.self.steps in
-    let m = c.loop-self.self.stepper.machine in
-    let new = c.step.new.self in
+    let m = machine_in c.loop-self.self.stepper.parts in
+    let new = c.step.new.stepper in
     let old = g.O.Sink.taken c.args.out.now in
     let middle = g.O.Sink.taken c.loop-self.out in
     let Before : Type 0 = (c.loop-self.input ≡ c.args.input.now) × (c.loop-self.source ≡ c.args.source.now) in
@@ -176,7 +268,7 @@ returns-in-Trap-clause-run g c =
     let line = c.in-Trap.line in
     let behind : Kept = record { begun = c.loop-self.self.begun; stepper = new; steps = k } in
     told _ _ _ _ t c.args.n old middle behind (ended.Trap kind line) After
-    (turn _ _ _ _ _ _ (Turns t code k m old middle Before) (StepsOn code m new.machine (outcome.Trap kind line)) (RanOn t c.args.n old middle behind (ended.Trap kind line) After)
+    (turn _ _ _ _ _ _ (Turns t code k m old middle Before) (StepsOn code m (machine_in new.parts) (outcome.Trap kind line)) (RanOn t c.args.n old middle behind (ended.Trap kind line) After)
     c.loop-self.invariant.turns c.in-Trap.ensures.step
     (λ x y z b step. trapped t code c.args.n k within m new Before After x y z more c.loop-self.self.begun c.loop-self.invariant.begun kind line old middle b step))
 
@@ -185,8 +277,8 @@ returns-in-InputFault-clause-run g c =
     let t = c.args.accepted.now.program in
     let code = c.args.code.now in
     let k = c.loop-self.self.steps in
-    let m = c.loop-self.self.stepper.machine in
-    let new = c.step.new.self in
+    let m = machine_in c.loop-self.self.stepper.parts in
+    let new = c.step.new.stepper in
     let old = g.O.Sink.taken c.args.out.now in
     let middle = g.O.Sink.taken c.loop-self.out in
     let Before : Type 0 = (c.loop-self.input ≡ c.args.input.now) × (c.loop-self.source ≡ c.args.source.now) in
@@ -196,7 +288,7 @@ returns-in-InputFault-clause-run g c =
     (λ p runs no b. let n = c.in-InputFault.ensures.reads_nothing (program_of t) p runs no in (n.0 ∙ b.0, n.1 ∙ b.1)) in
     let behind : Kept = record { begun = c.loop-self.self.begun; stepper = new; steps = k } in
     told _ _ _ _ t c.args.n old middle behind ended.InputFault After
-    (turn _ _ _ _ _ _ (Turns t code k m old middle Before) (StepsOn code m new.machine outcome.InputFault) (RanOn t c.args.n old middle behind ended.InputFault After)
+    (turn _ _ _ _ _ _ (Turns t code k m old middle Before) (StepsOn code m (machine_in new.parts) outcome.InputFault) (RanOn t c.args.n old middle behind ended.InputFault After)
     c.loop-self.invariant.turns c.in-InputFault.ensures.step
     (λ x y z b step. cut_at_input t code c.args.n k within m new Before After x y z more c.loop-self.self.begun c.loop-self.invariant.begun old middle
     (c.in-InputFault.ensures.input_fault refl (program_of t)) b step))
@@ -206,8 +298,8 @@ returns-in-Memory-clause-run g c =
     let t = c.args.accepted.now.program in
     let code = c.args.code.now in
     let k = c.loop-self.self.steps in
-    let m = c.loop-self.self.stepper.machine in
-    let new = c.step.new.self in
+    let m = machine_in c.loop-self.self.stepper.parts in
+    let new = c.step.new.stepper in
     let old = g.O.Sink.taken c.args.out.now in
     let middle = g.O.Sink.taken c.loop-self.out in
     let Before : Type 0 = (c.loop-self.input ≡ c.args.input.now) × (c.loop-self.source ≡ c.args.source.now) in
@@ -217,7 +309,7 @@ returns-in-Memory-clause-run g c =
     (λ p runs no b. let n = c.in-Memory.ensures.reads_nothing (program_of t) p runs no in (n.0 ∙ b.0, n.1 ∙ b.1)) in
     let behind : Kept = record { begun = c.loop-self.self.begun; stepper = new; steps = k } in
     told _ _ _ _ t c.args.n old middle behind ended.Memory After
-    (turn _ _ _ _ _ _ (Turns t code k m old middle Before) (StepsOn code m new.machine outcome.Memory) (RanOn t c.args.n old middle behind ended.Memory After)
+    (turn _ _ _ _ _ _ (Turns t code k m old middle Before) (StepsOn code m (machine_in new.parts) outcome.Memory) (RanOn t c.args.n old middle behind ended.Memory After)
     c.loop-self.invariant.turns c.in-Memory.ensures.step
     (λ x y z b step. cut_before t code c.args.n k within m new Before After x y z more c.loop-self.self.begun c.loop-self.invariant.begun old middle b step))
 
@@ -233,9 +325,310 @@ returns-clause-run g c =
     let all : k ≡ c.args.n = omega (arith, c.loop-self-test.false, c.loop-self.invariant.within) in
     let behind : Kept = record { begun = c.loop-self.self.begun; stepper = st; steps = k } in
     told _ _ _ _ t c.args.n old out behind ended.Spent Still
-    (OnInput-map _ _ _ _ (Turns t code k st.machine old out Still) (RanOn t c.args.n old out behind ended.Spent Still) c.loop-self.invariant.turns
+    (OnInput-map _ _ _ _ (Turns t code k (machine_in st.parts) old out Still) (RanOn t c.args.n old out behind ended.Spent Still) c.loop-self.invariant.turns
     (λ before after b. spent t code c.args.n k st old out Still before after c.loop-self.self.begun c.loop-self.invariant.begun all b))
 
 pub returns-in_default-clause-run : goal.returns-in_default-clause-run
 returns-in_default-clause-run g c =
     not-begun _ c.args.n _ _ _ _ _ _ _ _ c.requires.fresh c.in_default.ensures.kept (refl, refl)
+
+pub returns-in-Err-clause-notes : goal.returns-in-Err-clause-notes
+returns-in-Err-clause-notes g c =
+    reports-of c.args.report c.in-Err.ended c.events.result.now c.step.new.stepper.events _ _ c.events.ensures
+    (c.in-Err.ensures.reports (g.R.Sink.taken c.args.notes.now)
+    (reports-front c.args.report c.loop-self.self.stepper.events c.step.new.stepper.events c.events-told.result.now c.events.result.now _ _ c.events-told.ensures c.events.ensures
+    c.in-Running.ensures.events c.loop-self.invariant.reports))
+
+pub returns-in-Err-put_value-clause-notes : goal.returns-in-Err-put_value-clause-notes
+returns-in-Err-put_value-clause-notes g c =
+    reports-part c.args.report c.loop-self.self.stepper.events c.step.new.stepper.events _ _ c.in-Printed.ensures.events c.loop-self.invariant.reports
+
+pub returns-in-Err-tell-clause-notes : goal.returns-in-Err-tell-clause-notes
+returns-in-Err-tell-clause-notes g c =
+    reports-of c.args.report c.in-Err-tell.ended c.events-in-Printed.result.now c.step.new.stepper.events _ _ c.events-in-Printed.ensures
+    (c.in-Err-tell.ensures.reports (g.R.Sink.taken c.args.notes.now)
+    (reports-front c.args.report c.loop-self.self.stepper.events c.step.new.stepper.events c.events-told.result.now c.events-in-Printed.result.now _ _ c.events-told.ensures c.events-in-Printed.ensures
+    c.in-Printed.ensures.events c.loop-self.invariant.reports))
+
+pub returns-in-Err-tell-2-clause-notes : goal.returns-in-Err-tell-2-clause-notes
+returns-in-Err-tell-2-clause-notes g c =
+    reports-of c.args.report c.in-Err-tell-2.ended c.events-in-Done.result.now c.step.new.stepper.events _ _ c.events-in-Done.ensures
+    (c.in-Err-tell-2.ensures.reports (g.R.Sink.taken c.args.notes.now)
+    (reports-front c.args.report c.loop-self.self.stepper.events c.step.new.stepper.events c.events-told.result.now c.events-in-Done.result.now _ _ c.events-told.ensures c.events-in-Done.ensures
+    c.in-Done.ensures.events c.loop-self.invariant.reports))
+
+pub returns-in-Done-clause-notes : goal.returns-in-Done-clause-notes
+returns-in-Done-clause-notes g c =
+    reports-whole c.args.report ended.Done c.step.new.stepper.events _ _
+    (reports-of c.args.report ended.Spent c.events-in-Done.result.now c.step.new.stepper.events _ _ c.events-in-Done.ensures
+    (c.in-Ok-tell-3.ensures.reports (g.R.Sink.taken c.args.notes.now)
+    (reports-front c.args.report c.loop-self.self.stepper.events c.step.new.stepper.events c.events-told.result.now c.events-in-Done.result.now _ _ c.events-told.ensures c.events-in-Done.ensures
+    c.in-Done.ensures.events c.loop-self.invariant.reports)))
+
+pub returns-in-Trap-clause-notes : goal.returns-in-Trap-clause-notes
+returns-in-Trap-clause-notes g c =
+    reports-same c.args.report (ended.Trap c.in-Trap.kind c.in-Trap.line) c.loop-self.self.stepper.events c.step.new.stepper.events _ _ c.in-Trap.ensures.events c.loop-self.invariant.reports
+
+pub returns-in-InputFault-clause-notes : goal.returns-in-InputFault-clause-notes
+returns-in-InputFault-clause-notes g c =
+    reports-same c.args.report ended.InputFault c.loop-self.self.stepper.events c.step.new.stepper.events _ _ c.in-InputFault.ensures.events c.loop-self.invariant.reports
+
+pub returns-in-Memory-clause-notes : goal.returns-in-Memory-clause-notes
+returns-in-Memory-clause-notes g c =
+    reports-same c.args.report ended.Memory c.loop-self.self.stepper.events c.step.new.stepper.events _ _ c.in-Memory.ensures.events c.loop-self.invariant.reports
+
+pub returns-in_default-clause-notes : goal.returns-in_default-clause-notes
+returns-in_default-clause-notes g c =
+    reports-unbegun c.args.report _ _ (ap (λ (s : Stepping). s.events) (c.in_default.ensures.kept ∙ c.requires.fresh.stepper))
+
+pub returns-in-Err-clause-tuned : goal.returns-in-Err-clause-tuned
+returns-in-Err-clause-tuned g c =
+    (c.in-Running.ensures.count ∙ c.loop-self.invariant.count_tuned, c.in-Running.ensures.trace ∙ c.loop-self.invariant.trace_tuned)
+
+pub returns-in-Err-put_value-clause-tuned : goal.returns-in-Err-put_value-clause-tuned
+returns-in-Err-put_value-clause-tuned g c =
+    (c.in-Printed.ensures.count ∙ c.loop-self.invariant.count_tuned, c.in-Printed.ensures.trace ∙ c.loop-self.invariant.trace_tuned)
+
+pub returns-in-Err-tell-clause-tuned : goal.returns-in-Err-tell-clause-tuned
+returns-in-Err-tell-clause-tuned g c =
+    (c.in-Printed.ensures.count ∙ c.loop-self.invariant.count_tuned, c.in-Printed.ensures.trace ∙ c.loop-self.invariant.trace_tuned)
+
+pub returns-in-Err-tell-2-clause-tuned : goal.returns-in-Err-tell-2-clause-tuned
+returns-in-Err-tell-2-clause-tuned g c =
+    (c.in-Done.ensures.count ∙ c.loop-self.invariant.count_tuned, c.in-Done.ensures.trace ∙ c.loop-self.invariant.trace_tuned)
+
+pub returns-in-Done-clause-tuned : goal.returns-in-Done-clause-tuned
+returns-in-Done-clause-tuned g c =
+    (c.in-Done.ensures.count ∙ c.loop-self.invariant.count_tuned, c.in-Done.ensures.trace ∙ c.loop-self.invariant.trace_tuned)
+
+pub returns-in-Trap-clause-tuned : goal.returns-in-Trap-clause-tuned
+returns-in-Trap-clause-tuned g c =
+    (c.in-Trap.ensures.count ∙ c.loop-self.invariant.count_tuned, c.in-Trap.ensures.trace ∙ c.loop-self.invariant.trace_tuned)
+
+pub returns-in-InputFault-clause-tuned : goal.returns-in-InputFault-clause-tuned
+returns-in-InputFault-clause-tuned g c =
+    (c.in-InputFault.ensures.count ∙ c.loop-self.invariant.count_tuned, c.in-InputFault.ensures.trace ∙ c.loop-self.invariant.trace_tuned)
+
+pub returns-in-Memory-clause-tuned : goal.returns-in-Memory-clause-tuned
+returns-in-Memory-clause-tuned g c =
+    (c.in-Memory.ensures.count ∙ c.loop-self.invariant.count_tuned, c.in-Memory.ensures.trace ∙ c.loop-self.invariant.trace_tuned)
+
+pub returns-clause-tuned : goal.returns-clause-tuned
+returns-clause-tuned g c =
+    (c.loop-self.invariant.count_tuned, c.loop-self.invariant.trace_tuned)
+
+pub returns-in-Err-clause-begun : goal.returns-in-Err-clause-begun
+returns-in-Err-clause-begun g c = λ h. c.loop-self.invariant.begun
+
+pub returns-in-Err-clause-kept : goal.returns-in-Err-clause-kept
+returns-in-Err-clause-kept g c = λ e. absurd (true≢false (sym c.loop-self.invariant.begun ∙ e))
+
+pub returns-in-Err-clause-follows : goal.returns-in-Err-clause-follows
+returns-in-Err-clause-follows g c = c.in-Running.ensures.follows
+
+pub returns-in-Err-clause-source_never_falls : goal.returns-in-Err-clause-source_never_falls
+returns-in-Err-clause-source_never_falls g c = omega (arith, c.loop-self.invariant.source_never_falls, c.in-Running.ensures.never_falls)
+
+pub returns-in-Err-clause-sink_never_falls : goal.returns-in-Err-clause-sink_never_falls
+returns-in-Err-clause-sink_never_falls g c = c.loop-self.invariant.sink_never_falls
+
+pub returns-in-Err-clause-notes_never_fall : goal.returns-in-Err-clause-notes_never_fall
+returns-in-Err-clause-notes_never_fall g c = omega (arith, c.loop-self.invariant.notes_never_fall, c.in-Err.ensures.never_falls)
+
+pub returns-in-Err-clause-input_fault : goal.returns-in-Err-clause-input_fault
+returns-in-Err-clause-input_fault g c = λ h. absurd (untold-input _ c.in-Err.ensures.untold h)
+
+pub returns-in-Err-clause-output_fault : goal.returns-in-Err-clause-output_fault
+returns-in-Err-clause-output_fault g c = λ h. inr (Rose-since _ _ _ c.loop-self.invariant.notes_never_fall (c.in-Err.ensures.failed (ap Err h)))
+
+pub returns-in-Err-put_value-clause-begun : goal.returns-in-Err-put_value-clause-begun
+returns-in-Err-put_value-clause-begun g c = λ h. c.loop-self.invariant.begun
+
+pub returns-in-Err-put_value-clause-kept : goal.returns-in-Err-put_value-clause-kept
+returns-in-Err-put_value-clause-kept g c = λ e. absurd (true≢false (sym c.loop-self.invariant.begun ∙ e))
+
+pub returns-in-Err-put_value-clause-follows : goal.returns-in-Err-put_value-clause-follows
+returns-in-Err-put_value-clause-follows g c = c.in-Printed.ensures.follows
+
+pub returns-in-Err-put_value-clause-source_never_falls : goal.returns-in-Err-put_value-clause-source_never_falls
+returns-in-Err-put_value-clause-source_never_falls g c = omega (arith, c.loop-self.invariant.source_never_falls, c.in-Printed.ensures.never_falls)
+
+pub returns-in-Err-put_value-clause-sink_never_falls : goal.returns-in-Err-put_value-clause-sink_never_falls
+returns-in-Err-put_value-clause-sink_never_falls g c = omega (arith, c.loop-self.invariant.sink_never_falls, c.in-Err-put_value.ensures.never_falls)
+
+pub returns-in-Err-put_value-clause-notes_never_fall : goal.returns-in-Err-put_value-clause-notes_never_fall
+returns-in-Err-put_value-clause-notes_never_fall g c = c.loop-self.invariant.notes_never_fall
+
+pub returns-in-Err-put_value-clause-input_fault : goal.returns-in-Err-put_value-clause-input_fault
+returns-in-Err-put_value-clause-input_fault g c = λ h. cc
+
+pub returns-in-Err-put_value-clause-output_fault : goal.returns-in-Err-put_value-clause-output_fault
+returns-in-Err-put_value-clause-output_fault g c = λ h. inl (Rose-since _ _ _ c.loop-self.invariant.sink_never_falls c.in-Err-put_value.ensures.failed)
+
+pub returns-in-Err-tell-clause-begun : goal.returns-in-Err-tell-clause-begun
+returns-in-Err-tell-clause-begun g c = λ h. c.loop-self.invariant.begun
+
+pub returns-in-Err-tell-clause-kept : goal.returns-in-Err-tell-clause-kept
+returns-in-Err-tell-clause-kept g c = λ e. absurd (true≢false (sym c.loop-self.invariant.begun ∙ e))
+
+pub returns-in-Err-tell-clause-follows : goal.returns-in-Err-tell-clause-follows
+returns-in-Err-tell-clause-follows g c = c.in-Printed.ensures.follows
+
+pub returns-in-Err-tell-clause-source_never_falls : goal.returns-in-Err-tell-clause-source_never_falls
+returns-in-Err-tell-clause-source_never_falls g c = omega (arith, c.loop-self.invariant.source_never_falls, c.in-Printed.ensures.never_falls)
+
+pub returns-in-Err-tell-clause-sink_never_falls : goal.returns-in-Err-tell-clause-sink_never_falls
+returns-in-Err-tell-clause-sink_never_falls g c = omega (arith, c.loop-self.invariant.sink_never_falls, c.in-Ok-put_value.ensures.never_falls)
+
+pub returns-in-Err-tell-clause-notes_never_fall : goal.returns-in-Err-tell-clause-notes_never_fall
+returns-in-Err-tell-clause-notes_never_fall g c = omega (arith, c.loop-self.invariant.notes_never_fall, c.in-Err-tell.ensures.never_falls)
+
+pub returns-in-Err-tell-clause-input_fault : goal.returns-in-Err-tell-clause-input_fault
+returns-in-Err-tell-clause-input_fault g c = λ h. absurd (untold-input _ c.in-Err-tell.ensures.untold h)
+
+pub returns-in-Err-tell-clause-output_fault : goal.returns-in-Err-tell-clause-output_fault
+returns-in-Err-tell-clause-output_fault g c = λ h. inr (Rose-since _ _ _ c.loop-self.invariant.notes_never_fall (c.in-Err-tell.ensures.failed (ap Err h)))
+
+pub returns-in-Err-tell-2-clause-begun : goal.returns-in-Err-tell-2-clause-begun
+returns-in-Err-tell-2-clause-begun g c = λ h. c.loop-self.invariant.begun
+
+pub returns-in-Err-tell-2-clause-kept : goal.returns-in-Err-tell-2-clause-kept
+returns-in-Err-tell-2-clause-kept g c = λ e. absurd (true≢false (sym c.loop-self.invariant.begun ∙ e))
+
+pub returns-in-Err-tell-2-clause-follows : goal.returns-in-Err-tell-2-clause-follows
+returns-in-Err-tell-2-clause-follows g c = c.in-Done.ensures.follows
+
+pub returns-in-Err-tell-2-clause-source_never_falls : goal.returns-in-Err-tell-2-clause-source_never_falls
+returns-in-Err-tell-2-clause-source_never_falls g c = omega (arith, c.loop-self.invariant.source_never_falls, c.in-Done.ensures.never_falls)
+
+pub returns-in-Err-tell-2-clause-sink_never_falls : goal.returns-in-Err-tell-2-clause-sink_never_falls
+returns-in-Err-tell-2-clause-sink_never_falls g c = c.loop-self.invariant.sink_never_falls
+
+pub returns-in-Err-tell-2-clause-notes_never_fall : goal.returns-in-Err-tell-2-clause-notes_never_fall
+returns-in-Err-tell-2-clause-notes_never_fall g c = omega (arith, c.loop-self.invariant.notes_never_fall, c.in-Err-tell-2.ensures.never_falls)
+
+pub returns-in-Err-tell-2-clause-input_fault : goal.returns-in-Err-tell-2-clause-input_fault
+returns-in-Err-tell-2-clause-input_fault g c = λ h. absurd (untold-input _ c.in-Err-tell-2.ensures.untold h)
+
+pub returns-in-Err-tell-2-clause-output_fault : goal.returns-in-Err-tell-2-clause-output_fault
+returns-in-Err-tell-2-clause-output_fault g c = λ h. inr (Rose-since _ _ _ c.loop-self.invariant.notes_never_fall (c.in-Err-tell-2.ensures.failed (ap Err h)))
+
+pub returns-in-Done-clause-begun : goal.returns-in-Done-clause-begun
+returns-in-Done-clause-begun g c = λ h. c.loop-self.invariant.begun
+
+pub returns-in-Done-clause-kept : goal.returns-in-Done-clause-kept
+returns-in-Done-clause-kept g c = λ e. absurd (true≢false (sym c.loop-self.invariant.begun ∙ e))
+
+pub returns-in-Done-clause-follows : goal.returns-in-Done-clause-follows
+returns-in-Done-clause-follows g c = c.in-Done.ensures.follows
+
+pub returns-in-Done-clause-source_never_falls : goal.returns-in-Done-clause-source_never_falls
+returns-in-Done-clause-source_never_falls g c = omega (arith, c.loop-self.invariant.source_never_falls, c.in-Done.ensures.never_falls)
+
+pub returns-in-Done-clause-sink_never_falls : goal.returns-in-Done-clause-sink_never_falls
+returns-in-Done-clause-sink_never_falls g c = c.loop-self.invariant.sink_never_falls
+
+pub returns-in-Done-clause-notes_never_fall : goal.returns-in-Done-clause-notes_never_fall
+returns-in-Done-clause-notes_never_fall g c = omega (arith, c.loop-self.invariant.notes_never_fall, c.in-Ok-tell-3.ensures.never_falls)
+
+pub returns-in-Done-clause-input_fault : goal.returns-in-Done-clause-input_fault
+returns-in-Done-clause-input_fault g c = λ h. cc
+
+pub returns-in-Done-clause-output_fault : goal.returns-in-Done-clause-output_fault
+returns-in-Done-clause-output_fault g c = λ h. cc
+
+pub returns-in-Trap-clause-begun : goal.returns-in-Trap-clause-begun
+returns-in-Trap-clause-begun g c = λ h. c.loop-self.invariant.begun
+
+pub returns-in-Trap-clause-kept : goal.returns-in-Trap-clause-kept
+returns-in-Trap-clause-kept g c = λ e. absurd (true≢false (sym c.loop-self.invariant.begun ∙ e))
+
+pub returns-in-Trap-clause-follows : goal.returns-in-Trap-clause-follows
+returns-in-Trap-clause-follows g c = c.in-Trap.ensures.follows
+
+pub returns-in-Trap-clause-source_never_falls : goal.returns-in-Trap-clause-source_never_falls
+returns-in-Trap-clause-source_never_falls g c = omega (arith, c.loop-self.invariant.source_never_falls, c.in-Trap.ensures.never_falls)
+
+pub returns-in-Trap-clause-sink_never_falls : goal.returns-in-Trap-clause-sink_never_falls
+returns-in-Trap-clause-sink_never_falls g c = c.loop-self.invariant.sink_never_falls
+
+pub returns-in-Trap-clause-notes_never_fall : goal.returns-in-Trap-clause-notes_never_fall
+returns-in-Trap-clause-notes_never_fall g c = c.loop-self.invariant.notes_never_fall
+
+pub returns-in-Trap-clause-input_fault : goal.returns-in-Trap-clause-input_fault
+returns-in-Trap-clause-input_fault g c = λ h. cc
+
+pub returns-in-Trap-clause-output_fault : goal.returns-in-Trap-clause-output_fault
+returns-in-Trap-clause-output_fault g c = λ h. cc
+
+pub returns-in-InputFault-clause-begun : goal.returns-in-InputFault-clause-begun
+returns-in-InputFault-clause-begun g c = λ h. c.loop-self.invariant.begun
+
+pub returns-in-InputFault-clause-kept : goal.returns-in-InputFault-clause-kept
+returns-in-InputFault-clause-kept g c = λ e. absurd (true≢false (sym c.loop-self.invariant.begun ∙ e))
+
+pub returns-in-InputFault-clause-follows : goal.returns-in-InputFault-clause-follows
+returns-in-InputFault-clause-follows g c = c.in-InputFault.ensures.follows
+
+pub returns-in-InputFault-clause-source_never_falls : goal.returns-in-InputFault-clause-source_never_falls
+returns-in-InputFault-clause-source_never_falls g c = omega (arith, c.loop-self.invariant.source_never_falls, c.in-InputFault.ensures.never_falls)
+
+pub returns-in-InputFault-clause-sink_never_falls : goal.returns-in-InputFault-clause-sink_never_falls
+returns-in-InputFault-clause-sink_never_falls g c = c.loop-self.invariant.sink_never_falls
+
+pub returns-in-InputFault-clause-notes_never_fall : goal.returns-in-InputFault-clause-notes_never_fall
+returns-in-InputFault-clause-notes_never_fall g c = c.loop-self.invariant.notes_never_fall
+
+pub returns-in-InputFault-clause-input_fault : goal.returns-in-InputFault-clause-input_fault
+returns-in-InputFault-clause-input_fault g c = λ h. Rose-since _ _ _ c.loop-self.invariant.source_never_falls (c.in-InputFault.ensures.fault refl)
+
+pub returns-in-InputFault-clause-output_fault : goal.returns-in-InputFault-clause-output_fault
+returns-in-InputFault-clause-output_fault g c = λ h. cc
+
+pub returns-in-Memory-clause-begun : goal.returns-in-Memory-clause-begun
+returns-in-Memory-clause-begun g c = λ h. c.loop-self.invariant.begun
+
+pub returns-in-Memory-clause-kept : goal.returns-in-Memory-clause-kept
+returns-in-Memory-clause-kept g c = λ e. absurd (true≢false (sym c.loop-self.invariant.begun ∙ e))
+
+pub returns-in-Memory-clause-follows : goal.returns-in-Memory-clause-follows
+returns-in-Memory-clause-follows g c = c.in-Memory.ensures.follows
+
+pub returns-in-Memory-clause-source_never_falls : goal.returns-in-Memory-clause-source_never_falls
+returns-in-Memory-clause-source_never_falls g c = omega (arith, c.loop-self.invariant.source_never_falls, c.in-Memory.ensures.never_falls)
+
+pub returns-in-Memory-clause-sink_never_falls : goal.returns-in-Memory-clause-sink_never_falls
+returns-in-Memory-clause-sink_never_falls g c = c.loop-self.invariant.sink_never_falls
+
+pub returns-in-Memory-clause-notes_never_fall : goal.returns-in-Memory-clause-notes_never_fall
+returns-in-Memory-clause-notes_never_fall g c = c.loop-self.invariant.notes_never_fall
+
+pub returns-in-Memory-clause-input_fault : goal.returns-in-Memory-clause-input_fault
+returns-in-Memory-clause-input_fault g c = λ h. cc
+
+pub returns-in-Memory-clause-output_fault : goal.returns-in-Memory-clause-output_fault
+returns-in-Memory-clause-output_fault g c = λ h. cc
+
+pub returns-clause-begun : goal.returns-clause-begun
+returns-clause-begun g c = λ h. c.loop-self.invariant.begun
+
+pub returns-clause-kept : goal.returns-clause-kept
+returns-clause-kept g c = λ e. absurd (true≢false (sym c.loop-self.invariant.begun ∙ e))
+
+pub returns-clause-follows : goal.returns-clause-follows
+returns-clause-follows g c = c.loop-self.invariant.follows
+
+pub returns-clause-source_never_falls : goal.returns-clause-source_never_falls
+returns-clause-source_never_falls g c = c.loop-self.invariant.source_never_falls
+
+pub returns-clause-sink_never_falls : goal.returns-clause-sink_never_falls
+returns-clause-sink_never_falls g c = c.loop-self.invariant.sink_never_falls
+
+pub returns-clause-notes_never_fall : goal.returns-clause-notes_never_fall
+returns-clause-notes_never_fall g c = c.loop-self.invariant.notes_never_fall
+
+pub returns-clause-input_fault : goal.returns-clause-input_fault
+returns-clause-input_fault g c = λ h. cc
+
+pub returns-clause-output_fault : goal.returns-clause-output_fault
+returns-clause-output_fault g c = λ h. cc

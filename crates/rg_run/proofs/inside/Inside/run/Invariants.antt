@@ -1,6 +1,9 @@
 -- Between two steps of a run: how far it has come, and what was written.
 use Rattle.std.proofs.Common.{◌≡◌, ◌-◌, ◌≤◌, true}
+use Rattle.rg_base.specs.declared.outcome.Ended.TheVariants as ended
 use Rattle.rg_input.specs.Numbers.{Follows, OnInput}
+use Rattle.rg_machine.specs.Parts.{machine_in}
+use Rattle.rg_run.specs.Reports.{Reports}
 use Rattle.rg_run.proofs.TurnLemmas.{Turns}
 use Rattle.rg_run.proofs.inside.Inside.run.Given as goal
 
@@ -11,8 +14,12 @@ invariant-loop-self g l = record {
   within : l.self.steps ≤ l.n;
   source_never_falls : g.I.Source.faults l.fn.source ≤ g.I.Source.faults l.source;
   sink_never_falls : g.O.Sink.faults l.fn.out ≤ g.O.Sink.faults l.out;
+  notes_never_fall : g.R.Sink.faults l.fn.notes ≤ g.R.Sink.faults l.notes;
+  count_tuned : (goal.Pacer-dyn g l.count.now).tuned l.count.now.1 ≡ (goal.Pacer-dyn g l.fn.count.now).tuned l.fn.count.now.1;
+  trace_tuned : (goal.Pacer-dyn g l.trace.now).tuned l.trace.now.1 ≡ (goal.Pacer-dyn g l.fn.trace.now).tuned l.fn.trace.now.1;
+  reports : Reports l.report ended.Spent l.self.stepper.events (g.R.Sink.taken l.fn.notes) (g.R.Sink.taken l.notes);
   turns : OnInput l.fn.input l.input (g.I.Source.left l.fn.source) (g.I.Source.left l.source)
-      (Turns l.accepted.program l.code l.self.steps l.self.stepper.machine (g.O.Sink.taken l.fn.out) (g.O.Sink.taken l.out)
+      (Turns l.accepted.program l.code l.self.steps (machine_in l.self.stepper.parts) (g.O.Sink.taken l.fn.out) (g.O.Sink.taken l.out)
       ((l.input ≡ l.fn.input) × (l.source ≡ l.fn.source)));
 }
 
