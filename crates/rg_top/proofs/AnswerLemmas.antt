@@ -1,34 +1,23 @@
 -- From what the layers under the top call have answered to the words of the headline.
-use Rattle.std.proofs.Common.{◌≡◌, ◌≢◌, ℕ, suc, ◌<◌, ◌⊎◌, inl, inr, Bool, true, false, List, [], length, replicate, Option, Some, None, refl}
+use Rattle.std.proofs.Common.{◌≡◌, ◌≢◌, ℕ, suc, ◌<◌, ◌≤◌, ◌⊎◌, inl, inr, Bool, true, false, List, length, replicate, Option, Some, None, refl}
 use Rattle.std.proofs.Common.{sym, ◌∙◌, ap, subst, arith}
 use Rattle.std.specs.Bool.{OnTrue, OnFalse}
 use Rattle.std.proofs.lemmas.List.{length-replicate}
 use Rattle.rg_base.specs.declared.limits.TheConstants.{SOURCE_BYTES}
-use Rattle.rg_io.specs.Content.{AppendsPart}
+use Rattle.rg_io.specs.Content.{Rose}
 use Rattle.rg_io.specs.Files.{Told, HasLongFile}
 use Rattle.rg_run.specs.Machine.{Kept, IsFresh}
 use Rattle.rg_top.specs.declared.status.Status.{Status}
 use Rattle.rg_top.specs.declared.status.Status.TheVariants as status
 use Rattle.rg_top.specs.Commands.{Command, command, Origin, in_file, origin_of, reads_input, may_read, opens_file, may_open}
-use Rattle.rg_top.specs.Statuses.{status_text, is_answer, is_refusal, is_cut_off, is_from_outside}
+use Rattle.rg_top.specs.Statuses.{is_answer, is_refusal, is_cut_off, is_from_outside}
 use Rattle.rg_top.specs.Expected.{HasSource, ExpectsStatus}
-use Rattle.rg_top.specs.Headline.{ForInput, ForSource, ExactlyWhere, Answers, Untouched, CutOffAt, CutAtInput, TookNotes}
-use Rattle.rg_top.specs.Inner.Settled.{Settles, Unread, source_fault, memory, SettlesCommand, Refuses, Caused}
+use Rattle.rg_top.specs.Headline.{ForInput, ForSource, Exactly, ExactlyWhere, Answers, Untouched, CutOffAt, CutAtInput}
+use Rattle.rg_top.specs.Inner.Settled.{Settles, Unread, source_fault, memory, SettlesCommand, Refuses, Caused, Tunes, Becomes}
 use Rattle.rg_top.proofs.MeaningLemmas.{expects-one, refusal-any}
 use Rattle.rg_top.proofs.SettledLemmas.{answers-of, cut-of, status-of}
-
--- what is told after a fault of the output
-pub took-output_fault : (steps : ℕ) (old new : Option (List ℕ)) → AppendsPart old new (status_text 0 status.OutputFault)
-    → TookNotes steps status.OutputFault old new
-took-output_fault steps old new h = record {
-  other = status.Done;
-  another = λ e. cc;
-  first = [];
-  second = h.0;
-  first_of = record { rest = []; whole_is = refl };
-  second_of = h.1;
-  took = h.2;
-}
+use Rattle.rg_top.proofs.BulkLemmas.{no-fault}
+use Rattle.rg_top.proofs.NotesLemmas.{rose-then, rose-later}
 
 -- there are lists of any length
 long-list : (n : ℕ) → (source : List ℕ) × (n < length source)
@@ -53,13 +42,24 @@ refuses-settles told c status.OutputFault left old m still h fresh quiet = absur
 refuses-settles told c status.Memory left old m still h fresh quiet = inr (memory, (fresh, refl, quiet))
 refuses-settles told c status.Long left old m still h fresh quiet = inl (h.0, h.1, (h.2, (fresh, refl, quiet)))
 
--- and neither the input nor the output failed
-pub refuses-caused : (told : Option Told) (origin : Origin) (s : Status) (i o : ℕ) → Refuses told origin s → Caused s i i o o
-refuses-caused told origin s i o h = record {
+-- and neither the input nor the output or the notes failed
+pub refuses-caused : (told : Option Told) (origin : Origin) (s : Status) (i o n : ℕ) → Refuses told origin s → Caused s i i o o n n
+refuses-caused told origin s i o n h = record {
   input_fault = λ e. let P : Status → Type 0 = Refuses told origin in absurd (subst P e h);
   output_fault = λ e. let P : Status → Type 0 = Refuses told origin in absurd (subst P e h);
   input_never_falls = omega arith;
   output_never_falls = omega arith;
+  notes_never_fall = omega arith;
+}
+
+-- an input that never fails is as good as one that didn't
+pub caused-unread : (s : Status) (i o p n m : ℕ) → Caused s 0 0 o p n m → Caused s i i o p n m
+caused-unread s i o p n m c = record {
+  input_fault = λ e. absurd (no-fault s c.input_fault e);
+  output_fault = c.output_fault;
+  input_never_falls = omega arith;
+  output_never_falls = c.output_never_falls;
+  notes_never_fall = c.notes_never_fall;
 }
 
 -- what was answered to a source is no fault of a file
@@ -67,11 +67,11 @@ pub settles-inside : (c : Command) (source : List ℕ) (left : Option (List ℕ)
     Settles c source left s old new m still → s ≢ status.SourceFault
 settles-inside c source left s old new m still h e = let P : Status → Type 0 = λ x. Settles c source left x old new m still in absurd (subst P e h)
 
--- facts on the status that the layers under the top call gave, and on an output fault, hold of what was told
-pub told-status : (P : Status → Type 0) (given answer : Status) → P given → P status.OutputFault
-    → (answer ≡ given) ⊎ (answer ≡ status.OutputFault) → P answer
-told-status P given answer h g (inl e) = subst P (sym e) h
-told-status P given answer h g (inr e) = subst P (sym e) g
+-- facts on the status that the layers under the top call gave, on an output fault and on want of memory hold of what was told
+pub told-status : (P : Status → Type 0) (given answer : Status) → P given → P status.OutputFault → P status.Memory → Becomes given answer → P answer
+told-status P given answer h o m (inl e) = subst P (sym e) h
+told-status P given answer h o m (inr (inl e)) = subst P (sym e) o
+told-status P given answer h o m (inr (inr e)) = subst P (sym e) m
 
 -- a fact that holds under a test leads to another
 on-true : (P Q : Type 0) (b : Bool) → OnTrue b P → (P → Q) → OnTrue b Q
@@ -185,26 +185,41 @@ expected-unless P status.OutputFault (inr o) x y z = absurd (z refl)
 expected-unless P status.Memory (inr o) x y z = inr refl
 expected-unless P status.Long (inr o) x y z = cc
 
--- an answer of another kind than an output fault is the one that was given
-pub given-is : (given answer : Status) → (answer ≡ given) ⊎ (answer ≡ status.OutputFault) → answer ≢ status.OutputFault → given ≡ answer
-given-is given answer (inl t) n = sym t
-given-is given answer (inr t) n = absurd (n t)
+-- an answer of another kind is the one that was given
+pub given-is : (given answer : Status) → Becomes given answer → answer ≢ status.OutputFault → answer ≢ status.Memory → given ≡ answer
+given-is given answer (inl t) n m = sym t
+given-is given answer (inr (inl t)) n m = absurd (n t)
+given-is given answer (inr (inr t)) n m = absurd (m t)
 
--- What the top call answers behind the layers under it: the words' command, what was answered to its file, and that the notes
--- were told that or an output fault.
+-- a fault of the output or the notes came while the command was done, or while its status was told
+pub answer-output : (given : Status) (o p a b c : ℕ) → (given ≡ status.OutputFault → Rose o p ⊎ Rose a b) → a ≤ b → b ≤ c →
+    (given ≡ status.OutputFault) ⊎ Rose b c → Rose o p ⊎ Rose a c
+answer-output given o p a b c h l k (inl e) = elim (h e) [ inl r ↦ inl r | inr r ↦ inr (rose-then a b c r k) ]
+answer-output given o p a b c h l k (inr r) = inr (rose-later a b c l r)
+
+-- the pacers are tuned to the number of the command that the words give
+pub answer-tuned : (words : List (List ℕ)) (c : Command) (m : Kept) (count trace : ℕ) → command words ≡ Some c → Tunes c m count trace →
+    (d : Command) → command words ≡ Some d → Tunes d m count trace
+answer-tuned words c m count trace e h d again =
+    let same : d ≡ c = cc in
+    let P : Command → Type 0 = λ x. Tunes x m count trace in
+    subst P (sym same) h
+
+-- What the top call answers behind the layers under it: the words' command, what was answered to its file, and that this was told, or an output
+-- fault or want of memory.
 pub record Answered (told : Option Told) (left : Option (List ℕ)) (words : List (List ℕ)) (given answer : Status) (old new : Option (List ℕ))
     (m : Kept) (still : Type 0) : Type 0 where
   pub asked : Command
   pub command_is : command words ≡ Some asked
   pub settles : SettlesCommand told asked left given old new m still
-  pub told_is : (answer ≡ given) ⊎ (answer ≡ status.OutputFault)
+  pub told_is : Becomes given answer
 
 module _ {told : Option Told} {left : Option (List ℕ)} {words : List (List ℕ)} {given answer : Status} {old new : Option (List ℕ)} {m : Kept}
     {still : Type 0} (a : Answered told left words given answer old new m still) where
   pub answer-answered : OnTrue (is_answer answer) (ForSource told left words (λ c source input. Answers c source input answer old new m still))
   answer-answered =
       told-status (λ s. OnTrue (is_answer s) (ForSource told left words (λ c source input. Answers c source input s old new m still))) given answer
-      (file-answers told left words a.asked given old new m still a.command_is a.settles) tt a.told_is
+      (file-answers told left words a.asked given old new m still a.command_is a.settles) tt tt a.told_is
 
   pub answer-cut : OnTrue (is_cut_off answer)
       (Untouched m old new still ⊎ ForSource told left words (λ c source input. CutOffAt c source input m old new still))
@@ -212,33 +227,40 @@ module _ {told : Option Told} {left : Option (List ℕ)} {words : List (List ℕ
 
   pub answer-input : answer ≡ status.InputFault → ForSource told left words (λ c source input. CutAtInput c source input m old new)
   answer-input e =
-      file-input told left words a.asked given old new m still a.command_is (given-is given answer a.told_is (λ o. cc) ∙ e) a.settles
+      file-input told left words a.asked given old new m still a.command_is (given-is given answer a.told_is (λ o. cc) (λ o. cc) ∙ e) a.settles
 
   -- each answer to a source comes exactly where it is expected
   pub answer-exactly : (s : Status) → is_answer s ≡ true → ExactlyWhere told left words answer s
   answer-exactly s i =
       told-status (λ x. ExactlyWhere told left words x s) given answer
       (exactly-where told left words given s i (file-status told left words a.asked given old new m still a.command_is a.settles))
-      (outside-exactly told left words status.OutputFault s i left refl) a.told_is
+      (outside-exactly told left words status.OutputFault s i left refl) (outside-exactly told left words status.Memory s i left refl) a.told_is
 
   -- and a refusal whatever the input has
   pub answer-refused : (s : Status) → is_answer s ≡ true → is_refusal s ≡ true → (bytes : List ℕ) → ExactlyWhere told (Some bytes) words answer s
   answer-refused s i r bytes =
       told-status (λ x. ExactlyWhere told (Some bytes) words x s) given answer
       (exactly-refused told left words given s i r bytes (file-status told left words a.asked given old new m still a.command_is a.settles))
-      (outside-exactly told left words status.OutputFault s i (Some bytes) refl) a.told_is
+      (outside-exactly told left words status.OutputFault s i (Some bytes) refl)
+      (outside-exactly told left words status.Memory s i (Some bytes) refl) a.told_is
 
   -- where no count rose, the answer is the expected one, or there was no memory
   pub answer-complete : (F I O N : Type 0) → (answer ≡ status.SourceFault → F) → (answer ≡ status.InputFault → I) →
       (answer ≡ status.OutputFault → O ⊎ N) → ¬ F → ¬ I → ¬ O → ¬ N →
       ForSource told left words (λ c source input. ExpectsStatus c source input answer) ⊎ (answer ≡ status.Memory)
-  answer-complete F I O N x y z nf ni nout nn =
-      let no_output_fault : answer ≢ status.OutputFault = λ i. elim (z i) [ inl o ↦ nout o | inr n ↦ nn n ] in
-      let P : Status → Type 0 =
-      λ s. ForSource told left words (λ c source input. ExpectsStatus c source input s) ⊎ (is_from_outside s ≡ true) in
-      expected-unless (ForSource told left words (λ c source input. ExpectsStatus c source input answer)) answer
-      (subst P (given-is given answer a.told_is no_output_fault) (file-status told left words a.asked given old new m still a.command_is a.settles))
-      (λ i. nf (x i)) (λ i. ni (y i)) no_output_fault
+  answer-complete F I O N x y z nf ni nout nn = by a.told_is
+    where
+      Expected : Status → Type 0
+      Expected s = ForSource told left words (λ c source input. ExpectsStatus c source input s)
+
+      by : Becomes given answer → Expected answer ⊎ (answer ≡ status.Memory)
+      by (inl e) =
+          let P : Status → Type 0 = λ s. Expected s ⊎ (is_from_outside s ≡ true) in
+          expected-unless (Expected answer) answer
+          (subst P (sym e) (file-status told left words a.asked given old new m still a.command_is a.settles)) (λ i. nf (x i)) (λ i. ni (y i))
+          (λ i. elim (z i) [ inl o ↦ nout o | inr n ↦ nn n ])
+      by (inr (inl e)) = elim (z e) [ inl o ↦ absurd (nout o) | inr n ↦ absurd (nn n) ]
+      by (inr (inr e)) = inr e
 
 -- a refusal leaves nothing
 untouched-of : (told : Option Told) (left : Option (List ℕ)) (c : Command) (s : Status) (old new : Option (List ℕ)) (m : Kept) (still : Type 0) →
@@ -262,7 +284,26 @@ pub answer-untouched : {told : Option Told} {left : Option (List ℕ)} {words : 
     {m : Kept} {still : Type 0} → Answered told left words given answer old new m still → OnTrue (is_refusal answer) (Untouched m old new still)
 answer-untouched {told = told} {left = left} {given = given} {answer = answer} {old = old} {new = new} {m = m} {still = still} a =
     told-status (λ s. OnTrue (is_refusal s) (Untouched m old new still)) given answer
-    (untouched-of told left a.asked given old new m still a.settles) tt a.told_is
+    (untouched-of told left a.asked given old new m still a.settles) tt tt a.told_is
+
+-- a command is answered no usage
+usage-unread : (told : Option Told) (c : Command) (s : Status) → Unread told c s → s ≢ status.Usage
+usage-unread told c s source_fault e = cc
+usage-unread told c s memory e = cc
+
+no-usage : (told : Option Told) (left : Option (List ℕ)) (c : Command) (old new : Option (List ℕ)) (m : Kept) (still : Type 0) →
+    SettlesCommand told c left status.Usage old new m still → ⊥
+no-usage told left c old new m still (inl h) = h.2
+no-usage told left c old new m still (inr u) = usage-unread told c status.Usage u.0 refl
+
+pub answer-usage : {told : Option Told} {left : Option (List ℕ)} {words : List (List ℕ)} {given answer : Status} {old new : Option (List ℕ)}
+    {m : Kept} {still : Type 0} → Answered told left words given answer old new m still → Exactly answer status.Usage (command words ≡ None)
+answer-usage {told = told} {left = left} {words = words} {given = given} {answer = answer} {old = old} {new = new} {m = m} {still = still} a = (
+  λ e.
+      let P : Status → Type 0 = λ s. SettlesCommand told a.asked left s old new m still in
+      absurd (no-usage told left a.asked old new m still (subst P (given-is given answer a.told_is (λ o. cc) (λ o. cc) ∙ e) a.settles)),
+  λ none. let lie : None ≡ Some a.asked = sym none ∙ a.command_is in absurd (cc),
+)
 
 -- words that are no command are answered a usage, or an output fault, and nothing else
 pub usage-exactly : (told : Option Told) (left : Option (List ℕ)) (words : List (List ℕ)) (answer s : Status) → command words ≡ None →

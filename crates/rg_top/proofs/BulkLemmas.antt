@@ -45,7 +45,7 @@ generated-found told size t is accepted = record {
 }
 
 -- texts are written one after another
-appends-both : (old mid new : Option (List ℕ)) (xs ys : List ℕ) → Appends old mid xs → Appends mid new ys → Appends old new (xs ++ ys)
+pub appends-both : (old mid new : Option (List ℕ)) (xs ys : List ℕ) → Appends old mid xs → Appends mid new ys → Appends old new (xs ++ ys)
 appends-both None mid new xs ys h g = let P : Option (List ℕ) → Type 0 = λ q. Appends q new ys in subst P h g
 appends-both (Some zs) mid new xs ys h g =
     let P : Option (List ℕ) → Type 0 = λ q. Appends q new ys in subst P h g ∙ ap Some (append_assoc zs xs ys)
@@ -97,7 +97,7 @@ stopped-generated size source s old new m still n r =
     }
 
 -- a prefix is one of more, too
-prefix-more : (part whole more : List ℕ) → IsPrefix part whole → IsPrefix part (whole ++ more)
+pub prefix-more : (part whole more : List ℕ) → IsPrefix part whole → IsPrefix part (whole ++ more)
 prefix-more part whole more p =
     record { rest = p.rest ++ more; whole_is = ap (λ q. q ++ more) p.whole_is ∙ append_assoc part p.rest more }
 

@@ -1,6 +1,9 @@
 mod NumberLemmas
+mod OptionLemmas
+mod CommandExamples
 mod MeaningLemmas
 mod SettledLemmas
 mod RanLemmas
 mod BulkLemmas
+mod NotesLemmas
 mod AnswerLemmas

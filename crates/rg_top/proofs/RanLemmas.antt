@@ -1,5 +1,5 @@
 -- From what the machines have answered to what was answered to the source.
-use Rattle.std.proofs.Common.{◌≡◌, ◌≤◌, ℕ, inl, inr, false, List, [], ◌++◌, Option, Some, None, Ok, refl, sym, ◌∙◌, ap, subst, arith}
+use Rattle.std.proofs.Common.{◌≡◌, ◌≤◌, ℕ, inl, inr, Bool, false, List, [], ◌++◌, Option, Some, None, Ok, refl, sym, ◌∙◌, ap, subst, arith}
 use Rattle.std.specs.Result.{result_err}
 use Rattle.rg_base.specs.declared.outcome.Ended.{Ended}
 use Rattle.rg_base.specs.declared.outcome.Ended.TheVariants as ended
@@ -150,19 +150,19 @@ run-from origin n source left t m e old new quiet still more runs h = elim h.2.1
 ]
 
 -- is what `run` has answered, where the program comes from a file
-pub run-settles : (file : List ℕ) (n : ℕ) (source : List ℕ) (left : Option (List ℕ)) (s : Status) (old new : Option (List ℕ)) (m : Kept)
+pub run-settles : (file : List ℕ) (n every : ℕ) (report : Bool) (source : List ℕ) (left : Option (List ℕ)) (s : Status) (old new : Option (List ℕ)) (m : Kept)
     (still : Type 0) →
-    RanFrom (in_file file) n source left s old new m still → Settles (run file n) source left s old new m still
-run-settles file n source left status.Done old new m still h = h
-run-settles file n source left (status.Refused f) old new m still h = absurd h
-run-settles file n source left status.Usage old new m still h = h
-run-settles file n source left (status.Trap kind line) old new m still h = h
-run-settles file n source left status.Spent old new m still h = h
-run-settles file n source left status.SourceFault old new m still h = h
-run-settles file n source left status.InputFault old new m still h = h
-run-settles file n source left status.OutputFault old new m still h = h
-run-settles file n source left status.Memory old new m still h = h
-run-settles file n source left status.Long old new m still h = absurd h
+    RanFrom (in_file file) n source left s old new m still → Settles (run file n every report) source left s old new m still
+run-settles file n every report source left status.Done old new m still h = h
+run-settles file n every report source left (status.Refused f) old new m still h = absurd h
+run-settles file n every report source left status.Usage old new m still h = h
+run-settles file n every report source left (status.Trap kind line) old new m still h = h
+run-settles file n every report source left status.Spent old new m still h = h
+run-settles file n every report source left status.SourceFault old new m still h = h
+run-settles file n every report source left status.InputFault old new m still h = h
+run-settles file n every report source left status.OutputFault old new m still h = h
+run-settles file n every report source left status.Memory old new m still h = h
+run-settles file n every report source left status.Long old new m still h = absurd h
 
 -- a program that the checker has passed
 pub runs-checked : (origin : Origin) (source : List ℕ) (t u : Tables) → u ≡ t → MeansFrom origin source (spelt (program_of t)) →

@@ -1,7 +1,10 @@
 -- The words of the headline: what a call leaves, and from which cause its answer comes (docs/promises.md).
-use Rattle.std.specs.Prelude.{◌≡◌, ◌≢◌, ℕ, ◌-◌, ◌<◌, ◌≤◌, true, ◌⊎◌, List, [], ◌++◌, Option, Some, None, IfSome}
+use Rattle.std.specs.Prelude.{◌≡◌, ◌≢◌, ℕ, ◌-◌, ◌<◌, ◌≤◌, Bool, true, false, ◌⊎◌, List, [], ◌++◌, take, Option, Some, None, IfSome}
 use Rattle.rg_base.specs.declared.fault.Fault.{Fault}
 use Rattle.rg_base.specs.declared.limits.TheConstants.{MOST_STEPS}
+use Rattle.rg_base.specs.declared.event.Event.{Event}
+use Rattle.rg_base.specs.declared.outcome.EndNumbers.{EndNumbers}
+use Rattle.rg_base.specs.Report.{end_line}
 use Rattle.rg_io.specs.Content.{Appends, AppendsPart, AppendsUpTo, IsPrefix}
 use Rattle.rg_io.specs.Files.{Told}
 use Rattle.rg_tree.specs.Tree.{Tree}
@@ -15,6 +18,7 @@ use Rattle.rg_rules.specs.Runs as rules
 use Rattle.rg_rules.specs.Texts.{text_of, added}
 use Rattle.rg_rules.specs.Inputs.{first_asks}
 use Rattle.rg_run.specs.Machine.{Kept, IsFresh, numbers_of}
+use Rattle.rg_run.specs.Reports.{event_lines}
 use Rattle.rg_run.specs.Sound.{IsSound, Stands, NeverAsks}
 use Rattle.rg_top.specs.declared.status.Status.{Status}
 use Rattle.rg_top.specs.declared.status.Status.TheVariants as status
@@ -52,7 +56,7 @@ RunStands t input n m = (tables : Tables) × (program_of tables ≡ t) × Stands
 abbrev pub Leaves : Command → (input : List ℕ) → Meaning → Kept → (still : Type 0) → Type 0
 Leaves c input too_long m still = IsFresh m × still
 Leaves c input (faulty f) m still = IsFresh m × still
-Leaves (run file n) input (spelt t) m still =
+Leaves (run file n every report) input (spelt t) m still =
     IfAccepted (first_fault t) (RunStands t input n m × (NeverAsks t input n → still)) (IsFresh m × still)
 Leaves (plain file n) input (spelt t) m still =
     IsFresh m × IfAccepted (first_fault t) (IsSound t input n × (NeverAsks t input n → still)) still
@@ -96,7 +100,7 @@ bulk_added size t k m = added t (opening (program_of t) []) k ++ line_behind siz
 -- What a call leaves that was cut off by the output or the notes, or for want of memory. A run stands at a whole step. Else no
 -- run has begun, and the output has taken a prefix of the command's text. Where no step asks for the input, it is still as it was.
 abbrev pub CutOffAt : Command → (source input : List ℕ) → Kept → (old new : Option (List ℕ)) → (still : Type 0) → Type 0
-CutOffAt (run file n) source input m old new still =
+CutOffAt (run file n every report) source input m old new still =
     (t : Tables) × Runs (in_file file) source (program_of t)
     × StandsAfter t input n m.steps m (added t (opening (program_of t) input) m.steps) old new
     × (NeverAsks (program_of t) input n → still)
@@ -120,7 +124,7 @@ pub record AsksAfter (t : Tree) (input : List ℕ) (n k : ℕ) (old new : Option
 
 -- what a call leaves that was cut off by the input; commands other than `run` and `plain` never are
 abbrev pub CutAtInput : Command → (source input : List ℕ) → Kept → (old new : Option (List ℕ)) → Type 0
-CutAtInput (run file n) source input m old new =
+CutAtInput (run file n every report) source input m old new =
     (t : Tables) × Runs (in_file file) source (program_of t) × Stands t input m.steps m × AsksAfter (program_of t) input n m.steps old new
 CutAtInput (plain file n) source input m old new =
     (t : Tree) × Runs (in_file file) source t × IsFresh m × (k : ℕ) × AsksAfter t input n k old new
@@ -134,20 +138,67 @@ abbrev pub steps_asked : Option Command → ℕ
 steps_asked None = 0
 steps_asked (Some c) = steps_of c
 
--- What the notes have taken: the status's text. After a fault of the output or the notes it is a prefix of
--- another status's text and then a prefix of the text of that fault.
-pub record TookPart (steps : ℕ) (old new : Option (List ℕ)) : Type 0 where
+-- What stands in front of the text of a status where a report is asked for: the lines of the collections of a run that wasn't cut off.
+abbrev pub lines_before : Status → List Event → List ℕ
+lines_before status.Done events = event_lines events
+lines_before (status.Refused f) events = []
+lines_before status.Usage events = []
+lines_before (status.Trap kind line) events = event_lines events
+lines_before status.Spent events = event_lines events
+lines_before status.SourceFault events = []
+lines_before status.InputFault events = event_lines events
+lines_before status.OutputFault events = []
+lines_before status.Memory events = []
+lines_before status.Long events = []
+
+-- and what stands behind it: the numbers of a run that came to its end
+abbrev pub line_after : Status → EndNumbers → List ℕ
+line_after status.Done n = end_line n
+line_after (status.Refused f) n = []
+line_after status.Usage n = []
+line_after (status.Trap kind line) n = end_line n
+line_after status.Spent n = end_line n
+line_after status.SourceFault n = []
+line_after status.InputFault n = []
+line_after status.OutputFault n = []
+line_after status.Memory n = []
+line_after status.Long n = []
+
+-- what the notes take of a status, with or without a report
+abbrev pub notes_text : (report : Bool) → (steps : ℕ) → Kept → Status → List ℕ
+notes_text false steps m s = status_text steps s
+notes_text true steps m s = lines_before s m.stepper.events ++ status_text steps s ++ line_after s (numbers_of m)
+
+-- The text that the notes take. With a report and for want of memory, the lines of the first collections, of all or of fewer, each whole, and then
+-- the status's text.
+abbrev pub IsNotes : (report : Bool) → (steps : ℕ) → Kept → Status → (text : List ℕ) → Type 0
+IsNotes true steps m status.Memory text = (k : ℕ) × (text ≡ event_lines (take k m.stepper.events) ++ status_text steps status.Memory)
+IsNotes report steps m s text = text ≡ notes_text report steps m s
+
+-- After a fault of the output or the notes, the notes have taken a prefix of what they take of another status, and then a prefix of the text of that
+-- fault.
+pub record TookPart (report : Bool) (steps : ℕ) (m : Kept) (old new : Option (List ℕ)) : Type 0 where
   pub other : Status
   pub another : other ≢ status.OutputFault
+  pub whole : List ℕ
+  pub is_whole : IsNotes report steps m other whole
   pub first : List ℕ
   pub second : List ℕ
-  pub first_of : IsPrefix first (status_text steps other)
+  pub first_of : IsPrefix first whole
   pub second_of : IsPrefix second (status_text steps status.OutputFault)
   pub took : Appends old new (first ++ second)
 
-abbrev pub TookNotes : ℕ → Status → (old new : Option (List ℕ)) → Type 0
-TookNotes steps status.OutputFault old new = TookPart steps old new
-TookNotes steps s old new = Appends old new (status_text steps s)
+-- what the notes have taken, where so many steps were asked for
+abbrev pub TookNotes : (report : Bool) → (steps : ℕ) → Kept → Status → (old new : Option (List ℕ)) → Type 0
+TookNotes report steps m status.OutputFault old new = TookPart report steps m old new
+TookNotes report steps m s old new = (text : List ℕ) × IsNotes report steps m s text × Appends old new text
+
+-- What the notes have taken where they took the whole text of an output fault: with a report some first bytes of the lines of the run's collections
+-- in front of it.
+abbrev pub ToldFault : (report : Bool) → List Event → (old new : Option (List ℕ)) → Type 0
+ToldFault false events old new = Appends old new (status_text 0 status.OutputFault)
+ToldFault true events old new =
+    (front : List ℕ) × IsPrefix front (event_lines events) × Appends old new (front ++ status_text 0 status.OutputFault)
 
 -- this status is answered exactly where the fact holds, unless the call was cut off from outside
 abbrev pub Exactly : Status → Status → Type 0 → Type 0

@@ -59,6 +59,19 @@ is_answer status.OutputFault = false
 is_answer status.Memory = false
 is_answer status.Long = true
 
+-- a run that came to its end: it is done, has trapped, or has made all its steps
+abbrev pub ends_run : Status → Bool
+ends_run status.Done = true
+ends_run (status.Refused f) = false
+ends_run status.Usage = false
+ends_run (status.Trap kind line) = true
+ends_run status.Spent = true
+ends_run status.SourceFault = false
+ends_run status.InputFault = false
+ends_run status.OutputFault = false
+ends_run status.Memory = false
+ends_run status.Long = false
+
 -- a refusal before any run
 abbrev pub is_refusal : Status → Bool
 is_refusal status.Done = false

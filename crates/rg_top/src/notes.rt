@@ -2,17 +2,23 @@
 //! memory.
 
 ghost use Rattle.std.specs.Prelude.{◌≡◌, ◌+◌, ◌≤◌, ◌⊎◌, [], ◌∷◌, ◌++◌, length, decimal, OnOk};
-ghost use Rattle.std.specs.Prelude.{OnErr};
+ghost use Rattle.std.specs.Prelude.{OnErr, List, ℕ, Option, false};
 ghost use Rattle.arrayvec.specs.ArrayVec.{array_vec_len};
 ghost use Rattle.rg_io.specs.Content.{Rose, Appends, AppendsPart};
-ghost use Rattle.rg_top.specs.Headline.{TookNotes};
-ghost use Rattle.rg_top.specs.Statuses.{status_text, trap_text};
+ghost use Rattle.rg_run.specs.Machine.{Kept, numbers_of};
+ghost use Rattle.rg_top.specs.Headline.{TookNotes, ToldFault};
+ghost use Rattle.rg_top.specs.Inner.Settled.{Reported, Gave, Becomes};
+ghost use Rattle.rg_base.specs.Report as report;
+ghost use Rattle.rg_top.specs.Statuses.{status_text, trap_text, ends_run};
 
 use crate::status::Status;
 use arrayvec::ArrayVec;
 use rg_base::Trap;
 use rg_check::code_text;
 use rg_io::{Failed, Sink, put_all};
+use rg_report::end_line;
+use rg_run::Machine;
+use std::alloc::Global;
 
 /// How the program is called.
 pub(crate) const USAGE: &[u8] =
@@ -107,12 +113,28 @@ fn tell_output_fault<R: Sink>(notes: &mut R) -> Status
 }
 
 /// Gives the text of a status to the notes and answers it; where that fails, the answer is
+/// OutputFault.
+fn give<R: Sink>(notes: &mut R, status: Status, steps: u64) -> Status
+    ensures gave { Gave (status_text steps status) status result
+        (R.taken notes.old) (R.taken notes.new) }
+    ensures failed { result ≡ Status.OutputFault →
+        (status ≡ Status.OutputFault) ⊎ Rose (R.faults notes.old) (R.faults notes.new) }
+    ensures never_falls { R.faults notes.old ≤ R.faults notes.new }
+{
+    match put_text(notes, status, steps) {
+        Ok(()) => status,
+        Err(_) => tell_output_fault(notes),
+    }
+}
+
+/// Gives the text of a status to the notes and answers it; where that fails, the answer is
 /// OutputFault. `steps` is the number of steps that were asked for.
 pub fn tell<R: Sink>(notes: &mut R, status: Status, steps: u64) -> Status
     ensures told { (result ≡ status) ⊎ (result ≡ Status.OutputFault) }
     ensures failed { result ≡ Status.OutputFault →
         (status ≡ Status.OutputFault) ⊎ Rose (R.faults notes.old) (R.faults notes.new) }
-    ensures took { TookNotes steps result (R.taken notes.old) (R.taken notes.new) }
+    ensures took { (m : Kept) →
+        TookNotes false steps m result (R.taken notes.old) (R.taken notes.new) }
     ensures output_fault_told { result ≡ Status.OutputFault →
         ¬ Rose (R.faults notes.old) (R.faults notes.new) →
         Appends (R.taken notes.old) (R.taken notes.new) (status_text 0 Status.OutputFault) }
@@ -121,8 +143,79 @@ pub fn tell<R: Sink>(notes: &mut R, status: Status, steps: u64) -> Status
     if let Status::OutputFault = status {
         return tell_output_fault(notes);
     }
-    match put_text(notes, status, steps) {
+    give(notes, status, steps)
+}
+
+/// Whether a run came to its end.
+fn ends_run(status: Status) -> bool
+    ensures { result ≡ ends_run status }
+{
+    match status {
+        Status::Done | Status::Trap { .. } | Status::Spent => true,
+        Status::Refused(_) | Status::Usage | Status::SourceFault | Status::InputFault => false,
+        Status::OutputFault | Status::Memory | Status::Long => false,
+    }
+}
+
+/// Gives the text of a status to the notes, and the line of a run's end. The line is made first, so
+/// want of memory is told in place of both.
+fn give_end<R: Sink>(
+    alloc: Global,
+    notes: &mut R,
+    status: Status,
+    steps: u64,
+    machine: &Machine,
+) -> Status
+    ensures gave { Gave (status_text steps status ++ report.end_line (numbers_of machine.now))
+        status result (R.taken notes.old) (R.taken notes.new)
+        ⊎ Gave (status_text steps Status.Memory) Status.Memory result
+        (R.taken notes.old) (R.taken notes.new) }
+    ensures failed { result ≡ Status.OutputFault →
+        (status ≡ Status.OutputFault) ⊎ Rose (R.faults notes.old) (R.faults notes.new) }
+    ensures never_falls { R.faults notes.old ≤ R.faults notes.new }
+{
+    let Ok(line) = end_line(alloc, &machine.numbers()) else {
+        return give(notes, Status::Memory, steps);
+    };
+    let Ok(()) = put_text(notes, status, steps) else {
+        return tell_output_fault(notes);
+    };
+    match put_all(notes, line.bytes()) {
         Ok(()) => status,
         Err(_) => tell_output_fault(notes),
     }
+}
+
+/// Gives to the notes what stands behind the lines of a run's collections: the text of the status
+/// and, with a report, the line of the run's end.
+pub(crate) fn tell_behind<R: Sink>(
+    alloc: Global,
+    notes: &mut R,
+    status: Status,
+    steps: u64,
+    report: bool,
+    machine: &Machine,
+) -> Status
+    ensures told { Becomes status result }
+    ensures failed { result ≡ Status.OutputFault →
+        (status ≡ Status.OutputFault) ⊎ Rose (R.faults notes.old) (R.faults notes.new) }
+    ensures took { (old : Option (List ℕ)) →
+        Reported report status machine.now.stepper.events old (R.taken notes.old) →
+        TookNotes report steps machine.now result old (R.taken notes.new) }
+    ensures output_fault_told { (old : Option (List ℕ)) →
+        Reported report status machine.now.stepper.events old (R.taken notes.old) →
+        result ≡ Status.OutputFault → ¬ Rose (R.faults notes.old) (R.faults notes.new) →
+        ToldFault report machine.now.stepper.events old (R.taken notes.new) }
+    ensures never_falls { R.faults notes.old ≤ R.faults notes.new }
+{
+    if let Status::OutputFault = status {
+        return tell_output_fault(notes);
+    }
+    if !report {
+        return give(notes, status, steps);
+    }
+    if !ends_run(status) {
+        return give(notes, status, steps);
+    }
+    give_end(alloc, notes, status, steps, machine)
 }

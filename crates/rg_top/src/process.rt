@@ -1,8 +1,9 @@
 //! A whole process: the words of the command line, the files of the system and the standard streams
 //! are handed to the top call (docs/language.md, "The command line").
 
-ghost use Rattle.std.specs.Prelude.{◌≡◌, ◌⊎◌};
+ghost use Rattle.std.specs.Prelude.{◌≡◌, ◌⊎◌, false};
 ghost use Rattle.std.specs.Process.{exit_status};
+ghost use Rattle.rg_run.specs.Machine.{Kept};
 ghost use Rattle.rg_top.specs.Headline.{TookNotes};
 ghost use Rattle.rg_top.specs.Inner.Words.{status_without};
 ghost use Rattle.rg_top.specs.Statuses.{number_of};
@@ -11,6 +12,7 @@ use crate::notes::tell;
 use crate::status::Status;
 use crate::top::reggio;
 use rg_io::{Sink, StdFiles, StdSink, StdSource};
+use rg_pace::EveryN;
 use rg_run::Machine;
 use std::alloc::{AllocError, Global};
 use std::env;
@@ -55,7 +57,8 @@ fn texts(alloc: Global, words: &[String]) -> Result<Vec<&str>, AllocError> {
 /// Says why there are no words.
 fn tell_no_words<R: Sink>(notes: &mut R, why: NoWords) -> Status
     ensures told { (result ≡ status_without why) ⊎ (result ≡ Status.OutputFault) }
-    ensures took { TookNotes 0 result (R.taken notes.old) (R.taken notes.new) }
+    ensures took { (m : Kept) →
+        TookNotes false 0 m result (R.taken notes.old) (R.taken notes.new) }
 {
     match why {
         NoWords::NotText => tell(notes, Status::Usage, 0),
@@ -63,7 +66,30 @@ fn tell_no_words<R: Sink>(notes: &mut R, why: NoWords) -> Status
     }
 }
 
-/// Calls `reggio` with standard input, standard output and, for the notes, standard error.
+/// Calls `reggio` with standard input, standard output and, for the notes, standard error, and with
+/// pacers of its own, which end with the call.
+fn paced<R: Sink>(rt: &HostRuntime, words: &[&str], notes: &mut R) -> Status {
+    let alloc = rt.alloc();
+    let Ok(mut count) = Box::new(alloc, EveryN::new()) else {
+        return tell_no_words(notes, NoWords::Memory);
+    };
+    let Ok(mut trace) = Box::new(alloc, EveryN::new()) else {
+        return tell_no_words(notes, NoWords::Memory);
+    };
+    reggio(
+        alloc,
+        words,
+        &mut StdFiles::new(rt),
+        &mut StdSource::new(rt.stdin()),
+        &mut StdSink::new(rt.stdout()),
+        notes,
+        &mut *count,
+        &mut *trace,
+        &mut Machine::new(alloc),
+    )
+}
+
+/// Makes the call that the words of the command line ask for.
 fn called(rt: &HostRuntime) -> Status {
     let alloc = rt.alloc();
     let mut notes = StdSink::new(rt.stderr());
@@ -73,15 +99,7 @@ fn called(rt: &HostRuntime) -> Status {
     };
     match texts(alloc, words.as_slice()) {
         Err(_) => tell_no_words(&mut notes, NoWords::Memory),
-        Ok(texts) => reggio(
-            alloc,
-            texts.as_slice(),
-            &mut StdFiles::new(rt),
-            &mut StdSource::new(rt.stdin()),
-            &mut StdSink::new(rt.stdout()),
-            &mut notes,
-            &mut Machine::new(),
-        ),
+        Ok(texts) => paced(rt, texts.as_slice(), &mut notes),
     }
 }
 

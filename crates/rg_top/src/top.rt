@@ -1,37 +1,42 @@
 //! The top call: from words, files and input to the output, the notes and the status
 //! (docs/promises.md).
 
-ghost use Rattle.std.specs.Prelude.{◌≡◌, ◌≢◌, ◌≤◌, ◌⊎◌, ℕ, List, false, length, Option, Some};
-ghost use Rattle.std.specs.Prelude.{None, Err, IfOk};
+ghost use Rattle.std.specs.Prelude.{◌≡◌, ◌≢◌, ◌≤◌, ◌⊎◌, ℕ, List, true, false, length, Option};
+ghost use Rattle.std.specs.Prelude.{Some, None, Err, IfOk};
 ghost use Rattle.std.specs.Bool.{OnTrue, OnFalse};
 ghost use Rattle.rg_base.specs.declared.fault.Fault.{Fault};
 ghost use Rattle.rg_base.specs.declared.limits.TheConstants.{SOURCE_BYTES};
 ghost use Rattle.rg_base.specs.declared.outcome.Trap.{Trap};
 ghost use Rattle.rg_base.specs.Report as report;
 ghost use Rattle.rg_base.specs.Tokens.{cut};
+ghost use Rattle.rg_tree.specs.Rows.Tables.{Tables};
 ghost use Rattle.rg_tree.specs.Rows.RowTrees.{program_of};
 ghost use Rattle.rg_io.specs.Content.{Rose, Appends};
 ghost use Rattle.rg_io.specs.Files.{Told};
 ghost use Rattle.rg_make.specs.declared.whole.TheConstants.{MOST_SIZE};
+ghost use Rattle.rg_machine.specs.Owned.{IsOwned};
+ghost use Rattle.rg_run.specs.Sound.{Stands};
 ghost use Rattle.rg_run.specs.Machine.{IsFresh, Kept, numbers_of};
 ghost use Rattle.rg_rules.specs.Acceptance.{Accepted as IsAccepted};
 ghost use Rattle.rg_rules.specs.Names.{FewNames};
-ghost use Rattle.rg_top.specs.Commands.{command, texts, run, plain, fmt, check, code, bulk};
+ghost use Rattle.rg_top.specs.Commands.{Command, command, texts, run, plain, fmt, check, code, bulk};
 ghost use Rattle.rg_top.specs.Commands.{Origin, in_file, generated, origin_of};
 ghost use Rattle.rg_top.specs.Commands.{steps_of, opens_file, may_open, reads_input, may_read};
+ghost use Rattle.rg_top.specs.Commands.{every_of, runs_on, reports, may_report};
 ghost use Rattle.rg_top.specs.Inner.Requests.{command_of, AsksWithin};
 ghost use Rattle.rg_top.specs.Statuses.{status_text, is_answer, is_refusal, is_cut_off};
 ghost use Rattle.rg_top.specs.Expected.{spelt, Means, MeansFrom, IsStuck, SpellsTree};
 ghost use Rattle.rg_top.specs.Expected.{ExpectsStatus};
 ghost use Rattle.rg_top.specs.Headline.{ForSource, Exactly, ExactlyWhere, Answers};
 ghost use Rattle.rg_top.specs.Headline.{Runs, Untouched, CutOffAt, CutAtInput};
-ghost use Rattle.rg_top.specs.Headline.{TookNotes, steps_asked};
+ghost use Rattle.rg_top.specs.Headline.{TookNotes, ToldFault, steps_asked};
 ghost use Rattle.rg_top.specs.Inner.Settled.{status_of_ended, RanFrom, PutLine, Settles};
 ghost use Rattle.rg_top.specs.Inner.Settled.{SettlesCommand, IfGenerated, Brings};
-ghost use Rattle.rg_top.specs.Inner.Settled.{Caused, CausedByOutput};
+ghost use Rattle.rg_top.specs.Inner.Settled.{Caused, CausedBeside, CausedByOutput};
+ghost use Rattle.rg_top.specs.Inner.Settled.{Reported, Tunes};
 
 use crate::no_input::NoInput;
-use crate::notes::tell;
+use crate::notes::{tell, tell_behind};
 use crate::status::Status;
 use crate::words::{self, Request};
 use rg_base::{Ended, Fault, MOST_STEPS, SOURCE_BYTES, Stop};
@@ -42,6 +47,7 @@ use rg_io::{Files, Sink, Source, Taken, put_all, take_all};
 use rg_lex::tokens;
 use rg_lower::lower;
 use rg_make::program_of;
+use rg_pace::Pacer;
 use rg_parse::parse;
 use rg_plain::PlainMachine;
 use rg_print::{canon_parses_back, text};
@@ -80,13 +86,19 @@ fn read(alloc: Global, source: &[u8]) -> Result<Program, Stop>
     parse(alloc, source, &found)
 }
 
-/// Lowers an accepted program and runs its code on the machine for at most so many steps.
-fn run_accepted<I: Source, O: Sink>(
+/// Tunes both pacers, lowers an accepted program and runs its code on the machine for at most so
+/// many steps. With a report, the lines of collections are given to the notes.
+fn run_accepted<I: Source, O: Sink, R: Sink>(
     alloc: Global,
     accepted: &Accepted,
     steps: u64,
+    every: u64,
+    report: bool,
     input: &mut I,
     out: &mut O,
+    notes: &mut R,
+    count: &mut dyn Pacer,
+    trace: &mut dyn Pacer,
     machine: &mut Machine,
 ) -> Status
     requires { IsFresh machine.old }
@@ -94,38 +106,66 @@ fn run_accepted<I: Source, O: Sink>(
         Runs origin source (program_of accepted.now.program) →
         RanFrom origin steps source (I.left input.old) result
         (O.taken out.old) (O.taken out.new) machine.new (input.new ≡ input.old) }
+    ensures notes { Reported report result machine.new.stepper.events
+        (R.taken notes.old) (R.taken notes.new) }
+    ensures tuned { (tuned count.new ≡ every) × (tuned trace.new ≡ every) }
     ensures caused { Caused result (I.faults input.old) (I.faults input.new)
-        (O.faults out.old) (O.faults out.new) }
+        (O.faults out.old) (O.faults out.new) (R.faults notes.old) (R.faults notes.new) }
 {
+    count.tune(every);
+    trace.tune(every);
     let Ok(code) = lower(alloc, accepted) else {
         return Status::Memory;
     };
     let mut numbers = Numbers::new();
-    let ended = machine.run(alloc, accepted, &code, steps, &mut numbers, input, out);
-    status_of(ended)
+    let ran = machine.run(
+        alloc,
+        accepted,
+        &code,
+        steps,
+        report,
+        &mut numbers,
+        input,
+        out,
+        notes,
+        count,
+        trace,
+    );
+    status_of(ran)
 }
 
 /// Checks a program, and runs it on the machine.
-fn run_program<I: Source, O: Sink>(
+fn run_program<I: Source, O: Sink, R: Sink>(
     alloc: Global,
     program: Program,
     steps: u64,
+    every: u64,
+    report: bool,
     input: &mut I,
     out: &mut O,
+    notes: &mut R,
+    count: &mut dyn Pacer,
+    trace: &mut dyn Pacer,
     machine: &mut Machine,
 ) -> Status
     requires fresh { IsFresh machine.old }
     requires names { FewNames (program_of program) }
     ensures settles { (file source : List ℕ) → Means source (spelt (program_of program)) →
-        Settles (run file steps) source (I.left input.old) result
+        Settles (run file steps every report) source (I.left input.old) result
         (O.taken out.old) (O.taken out.new) machine.new (input.new ≡ input.old) }
+    ensures notes { Reported report result machine.new.stepper.events
+        (R.taken notes.old) (R.taken notes.new) }
+    ensures tuned { ¬ IsFresh machine.new →
+        (tuned count.new ≡ every) × (tuned trace.new ≡ every) }
     ensures caused { Caused result (I.faults input.old) (I.faults input.new)
-        (O.faults out.old) (O.faults out.new) }
+        (O.faults out.old) (O.faults out.new) (R.faults notes.old) (R.faults notes.new) }
 {
     match check(alloc, program) {
         Err(Stop::Fault(fault)) => Status::Refused(fault),
         Err(Stop::Memory) => Status::Memory,
-        Ok(accepted) => run_accepted(alloc, &accepted, steps, input, out, machine),
+        Ok(accepted) => run_accepted(
+            alloc, &accepted, steps, every, report, input, out, notes, count, trace, machine,
+        ),
     }
 }
 
@@ -141,7 +181,7 @@ fn plain_accepted<I: Source, O: Sink>(
         Runs (in_file file) source (program_of accepted.now.program) → IsFresh m →
         Settles (plain file steps) source (I.left input.old) result
         (O.taken out.old) (O.taken out.new) m (input.new ≡ input.old) }
-    ensures caused { Caused result (I.faults input.old) (I.faults input.new)
+    ensures caused { CausedBeside result (I.faults input.old) (I.faults input.new)
         (O.faults out.old) (O.faults out.new) }
 {
     let program = accepted.program();
@@ -168,7 +208,7 @@ fn plain_program<I: Source, O: Sink>(
         Means source (spelt (program_of program)) → IsFresh m →
         Settles (plain file steps) source (I.left input.old) result
         (O.taken out.old) (O.taken out.new) m (input.new ≡ input.old) }
-    ensures caused { Caused result (I.faults input.old) (I.faults input.new)
+    ensures caused { CausedBeside result (I.faults input.old) (I.faults input.new)
         (O.faults out.old) (O.faults out.new) }
 {
     match check(alloc, program) {
@@ -269,11 +309,14 @@ fn put_bulk_line<O: Sink>(alloc: Global, size: u32, out: &mut O, machine: &Machi
 
 /// Runs a generated program on the machine, without an input, and tells the machine's numbers
 /// behind it.
-fn bulk_accepted<O: Sink>(
+fn bulk_accepted<O: Sink, R: Sink>(
     alloc: Global,
     accepted: &Accepted,
     size: u32,
     out: &mut O,
+    notes: &mut R,
+    count: &mut dyn Pacer,
+    trace: &mut dyn Pacer,
     machine: &mut Machine,
 ) -> Status
     requires { IsFresh machine.old }
@@ -281,10 +324,15 @@ fn bulk_accepted<O: Sink>(
         Runs (generated size) source (program_of accepted.now.program) →
         Settles (bulk size) source left result
         (O.taken out.old) (O.taken out.new) machine.new (Unit {0}) }
-    ensures caused { CausedByOutput result (O.faults out.old) (O.faults out.new) }
+    ensures notes { R.taken notes.new ≡ R.taken notes.old }
+    ensures tuned { (tuned count.new ≡ 0) × (tuned trace.new ≡ 0) }
+    ensures caused { Caused result 0 0
+        (O.faults out.old) (O.faults out.new) (R.faults notes.old) (R.faults notes.new) }
 {
     let mut input = NoInput;
-    let ran = run_accepted(alloc, accepted, MOST_STEPS, &mut input, out, machine);
+    let ran = run_accepted(
+        alloc, accepted, MOST_STEPS, 0, false, &mut input, out, notes, count, trace, machine,
+    );
     if let Status::Done = ran {
         return put_bulk_line(alloc, size, out, machine);
     }
@@ -292,11 +340,14 @@ fn bulk_accepted<O: Sink>(
 }
 
 /// Runs a generated program: it is accepted.
-fn bulk_program<O: Sink>(
+fn bulk_program<O: Sink, R: Sink>(
     alloc: Global,
     program: Program,
     size: u32,
     out: &mut O,
+    notes: &mut R,
+    count: &mut dyn Pacer,
+    trace: &mut dyn Pacer,
     machine: &mut Machine,
 ) -> Status
     requires fresh { IsFresh machine.old }
@@ -306,22 +357,28 @@ fn bulk_program<O: Sink>(
         MeansFrom (generated size) source (spelt (program_of program)) →
         Settles (bulk size) source left result
         (O.taken out.old) (O.taken out.new) machine.new (Unit {0}) }
-    ensures caused { CausedByOutput result (O.faults out.old) (O.faults out.new) }
+    ensures notes { R.taken notes.new ≡ R.taken notes.old }
+    ensures tuned { ¬ IsFresh machine.new → (tuned count.new ≡ 0) × (tuned trace.new ≡ 0) }
+    ensures caused { Caused result 0 0
+        (O.faults out.old) (O.faults out.new) (R.faults notes.old) (R.faults notes.new) }
 {
     match check(alloc, program) {
         Err(Stop::Fault(_)) => unreachable!(),
         Err(Stop::Memory) => Status::Memory,
-        Ok(accepted) => bulk_accepted(alloc, &accepted, size, out, machine),
+        Ok(accepted) => bulk_accepted(alloc, &accepted, size, out, notes, count, trace, machine),
     }
 }
 
 /// Does what is asked for with its program.
-fn answer_program<I: Source, O: Sink>(
+fn answer_program<I: Source, O: Sink, R: Sink>(
     alloc: Global,
     request: Request<'_>,
     program: Program,
     input: &mut I,
     out: &mut O,
+    notes: &mut R,
+    count: &mut dyn Pacer,
+    trace: &mut dyn Pacer,
     machine: &mut Machine,
 ) -> Status
     requires fresh { IsFresh machine.old }
@@ -334,16 +391,29 @@ fn answer_program<I: Source, O: Sink>(
         (O.taken out.old) (O.taken out.new) machine.new (input.new ≡ input.old) }
     ensures reads_nothing { reads_input (command_of request.entry) ≡ false →
         input.new ≡ input.old }
+    ensures notes { Reported (reports (command_of request.entry)) result
+        machine.new.stepper.events (R.taken notes.old) (R.taken notes.new) }
+    ensures tuned { Tunes (command_of request.entry) machine.new
+        (tuned count.new) (tuned trace.new) }
     ensures caused { Caused result (I.faults input.old) (I.faults input.new)
-        (O.faults out.old) (O.faults out.new) }
+        (O.faults out.old) (O.faults out.new) (R.faults notes.old) (R.faults notes.new) }
 {
     match request {
-        Request::Run { steps, .. } => run_program(alloc, program, steps, input, out, machine),
+        Request::Run {
+            steps,
+            every,
+            report,
+            ..
+        } => run_program(
+            alloc, program, steps, every, report, input, out, notes, count, trace, machine,
+        ),
         Request::Plain { steps, .. } => plain_program(alloc, program, steps, input, out),
         Request::Format { .. } => format_program(alloc, &program, out),
         Request::Check { .. } => check_program(alloc, program, out),
         Request::Code { .. } => list_program(alloc, program, out),
-        Request::Bulk { size } => bulk_program(alloc, program, size, out, machine),
+        Request::Bulk { size } => {
+            bulk_program(alloc, program, size, out, notes, count, trace, machine)
+        }
     }
 }
 
@@ -402,12 +472,15 @@ fn program_from<F: Files>(
 }
 
 /// Does what is asked for.
-fn answer<F: Files, I: Source, O: Sink>(
+fn answer<F: Files, I: Source, O: Sink, R: Sink>(
     alloc: Global,
     request: Request<'_>,
     files: &mut F,
     input: &mut I,
     out: &mut O,
+    notes: &mut R,
+    count: &mut dyn Pacer,
+    trace: &mut dyn Pacer,
     machine: &mut Machine,
 ) -> Status
     requires fresh { IsFresh machine.old }
@@ -419,15 +492,21 @@ fn answer<F: Files, I: Source, O: Sink>(
         files.new ≡ files.old }
     ensures reads_nothing { reads_input (command_of request.entry) ≡ false →
         input.new ≡ input.old }
+    ensures notes { Reported (reports (command_of request.entry)) result
+        machine.new.stepper.events (R.taken notes.old) (R.taken notes.new) }
+    ensures tuned { Tunes (command_of request.entry) machine.new
+        (tuned count.new) (tuned trace.new) }
     ensures source_fault { result ≡ Status.SourceFault →
         Rose (F.faults files.old) (F.faults files.new) }
     ensures files_never_fall { F.faults files.old ≤ F.faults files.new }
     ensures caused { Caused result (I.faults input.old) (I.faults input.new)
-        (O.faults out.old) (O.faults out.new) }
+        (O.faults out.old) (O.faults out.new) (R.faults notes.old) (R.faults notes.new) }
 {
     match program_from(alloc, request, files) {
         Err(status) => status,
-        Ok(program) => answer_program(alloc, request, program, input, out, machine),
+        Ok(program) => answer_program(
+            alloc, request, program, input, out, notes, count, trace, machine,
+        ),
     }
 }
 
@@ -442,9 +521,21 @@ fn steps_of(request: Request<'_>) -> u64
     }
 }
 
+/// Whether a report is asked for.
+fn reports(request: Request<'_>) -> bool
+    ensures { result ≡ reports (command_of request.entry) }
+{
+    match request {
+        Request::Run { report, .. } => report,
+        Request::Plain { .. } | Request::Format { .. } | Request::Check { .. } => false,
+        Request::Code { .. } | Request::Bulk { .. } => false,
+    }
+}
+
 /// Does what the words say: reads the file that they name, or generates the program of the size
 /// that they say, runs it for as many steps as they say, a file's on the input, gives the output
-/// to `out` and the text of the status to `notes`, and answers the status.
+/// to `out` and the text of the status to `notes`, with a report where the words ask for it, and
+/// answers the status. The pacers say when an active region is collected, and decide nothing else.
 pub fn reggio<F: Files, I: Source, O: Sink, R: Sink>(
     alloc: Global,
     words: &[&str],
@@ -452,6 +543,8 @@ pub fn reggio<F: Files, I: Source, O: Sink, R: Sink>(
     input: &mut I,
     out: &mut O,
     notes: &mut R,
+    count: &mut dyn Pacer,
+    trace: &mut dyn Pacer,
     machine: &mut Machine,
 ) -> Status
     requires { IsFresh machine.old }
@@ -473,11 +566,18 @@ pub fn reggio<F: Files, I: Source, O: Sink, R: Sink>(
     ensures cut_at_input { result ≡ Status.InputFault →
         ForSource (F.told files.old) (I.left input.old) (texts words.now) (λ c source bytes.
         CutAtInput c source bytes machine.new (O.taken out.old) (O.taken out.new)) }
-    ensures notes { TookNotes (steps_asked (command (texts words.now))) result
+    ensures notes { TookNotes (may_report (command (texts words.now)))
+        (steps_asked (command (texts words.now))) machine.new result
         (R.taken notes.old) (R.taken notes.new) }
+    ensures tuned { (c : Command) → command (texts words.now) ≡ Some c → runs_on c ≡ true →
+        ¬ IsFresh machine.new →
+        (tuned count.new ≡ every_of c) × (tuned trace.new ≡ every_of c) }
+    ensures owned { (t : Tables) (bytes : List ℕ) (n : ℕ) → Stands t bytes n machine.new →
+        IsOwned machine.new.stepper.parts }
     ensures output_fault_told { result ≡ Status.OutputFault →
         ¬ Rose (R.faults notes.old) (R.faults notes.new) →
-        Appends (R.taken notes.old) (R.taken notes.new) (status_text 0 Status.OutputFault) }
+        ToldFault (may_report (command (texts words.now))) machine.new.stepper.events
+        (R.taken notes.old) (R.taken notes.new) }
     ensures files_unread { OnFalse (may_open (command (texts words.now)))
         (files.new ≡ files.old) }
     ensures reads_nothing { OnFalse (may_read (command (texts words.now)))
@@ -518,10 +618,23 @@ pub fn reggio<F: Files, I: Source, O: Sink, R: Sink>(
     ensures notes_never_fall { R.faults notes.old ≤ R.faults notes.new }
 {
     match words::command(words) {
-        None => tell(notes, Status::Usage, 0),
+        None => {
+            machine.is_owned();
+            tell(notes, Status::Usage, 0)
+        }
         Some(request) => {
-            let status = answer(alloc, request, files, input, out, machine);
-            tell(notes, status, steps_of(request))
+            let status = answer(
+                alloc, request, files, input, out, notes, count, trace, machine,
+            );
+            machine.is_owned();
+            tell_behind(
+                alloc,
+                notes,
+                status,
+                steps_of(request),
+                reports(request),
+                machine,
+            )
         }
     }
 }

@@ -2,32 +2,63 @@
 //! line").
 
 ghost use Rattle.std.specs.Prelude.{◌≡◌, ◌<◌, ◌≤◌, ◌^◌, Some, None, true, MatchOption, IfSome};
-ghost use Rattle.std.specs.Prelude.{is_some};
+ghost use Rattle.std.specs.Prelude.{is_some, option_map};
 ghost use Rattle.std.specs.List.{list_all};
 ghost use Rattle.rg_base.specs.Pieces.{is_digit};
 ghost use Rattle.rg_make.specs.declared.whole.TheConstants.{MOST_SIZE};
 ghost use Rattle.rg_top.specs.Commands.{command, texts, is_file, is_number, value_up_to, number_in};
-ghost use Rattle.rg_top.specs.Commands.{steps_in, named, sized};
+ghost use Rattle.rg_top.specs.Commands.{no_options, with_report, with_steps, with_every};
+ghost use Rattle.rg_top.specs.Commands.{with_number, options_in, running, steps_in, named, sized};
 ghost use Rattle.rg_top.specs.Inner.Requests.{command_of, AsksWithin};
 
 use rg_base::{MOST_STEPS, USUAL_STEPS};
 use rg_make::MOST_SIZE;
 
+/// How often a pacer is asked before it says yes, where no option says so.
+pub(crate) const USUAL_EVERY: u64 = 1_000;
+
+/// The greatest number of `--every`.
+pub(crate) const MOST_EVERY: u64 = 1_000_000_000;
+
 /// What the words ask for, with the file that they name or the size of a generated program.
 #[derive(Clone, Copy)]
 pub(crate) enum Request<'a> {
-    /// `run FILE --steps N`
-    Run { file: &'a str, steps: u64 },
+    /// `run FILE --steps N --every N --report`
+    Run {
+        file: &'a str,
+        steps: u64,
+        every: u64,
+        report: bool,
+    },
     /// `plain FILE --steps N`
-    Plain { file: &'a str, steps: u64 },
+    Plain {
+        file: &'a str,
+        steps: u64,
+    },
     /// `fmt FILE`
-    Format { file: &'a str },
+    Format {
+        file: &'a str,
+    },
     /// `check FILE`
-    Check { file: &'a str },
+    Check {
+        file: &'a str,
+    },
     /// `code FILE`
-    Code { file: &'a str },
+    Code {
+        file: &'a str,
+    },
     /// `bulk N`
-    Bulk { size: u32 },
+    Bulk {
+        size: u32,
+    },
+}
+
+/// What the words behind the file of `run` have given so far.
+#[derive(Clone, Copy)]
+struct Options {
+    steps: Option<u64>,
+    every: Option<u64>,
+    report: bool,
 }
 
 /// Whether a word can name a file.
@@ -91,7 +122,103 @@ fn number(word: &str, most: u64) -> Option<u64>
     }
 }
 
-/// The number of steps that the words behind the file ask for.
+impl Options {
+    /// The options with `--report` too, where it isn't given yet.
+    fn with_report(self) -> Option<Options>
+        ensures { result ≡ with_report self }
+    {
+        if self.report {
+            return None;
+        }
+        Some(Options {
+            report: true,
+            ..self
+        })
+    }
+
+    /// The options with `--steps` and its number too, where it isn't given yet.
+    fn with_steps(self, word: &str) -> Option<Options>
+        ensures { result ≡ with_steps self word.now }
+    {
+        if self.steps.is_some() {
+            return None;
+        }
+        let steps = number(word, MOST_STEPS)?;
+        Some(Options {
+            steps: Some(steps),
+            ..self
+        })
+    }
+
+    /// The options with `--every` and its number too, where it isn't given yet.
+    fn with_every(self, word: &str) -> Option<Options>
+        ensures { result ≡ with_every self word.now }
+    {
+        if self.every.is_some() {
+            return None;
+        }
+        let every = number(word, MOST_EVERY)?;
+        Some(Options {
+            every: Some(every),
+            ..self
+        })
+    }
+
+    /// The options with one more and the number in the next word.
+    fn with_number(self, option: &str, word: &str) -> Option<Options>
+        ensures { result ≡ with_number self option.now word.now }
+    {
+        if option == "--steps" {
+            return self.with_steps(word);
+        }
+        if option == "--every" {
+            return self.with_every(word);
+        }
+        None
+    }
+}
+
+/// The options that words give.
+fn options_in(words: &[&str]) -> Option<Options>
+    ensures { result ≡ options_in (texts words.now) no_options }
+{
+    let mut so_far = Options {
+        steps: None,
+        every: None,
+        report: false,
+    };
+    let mut left = words;
+    while let [option, behind @ ..] = left {
+        if *option == "--report" {
+            so_far = so_far.with_report()?;
+            left = behind;
+        } else {
+            let [word, rest @ ..] = behind else {
+                return None;
+            };
+            so_far = so_far.with_number(option, word)?;
+            left = rest;
+        }
+    }
+    Some(so_far)
+}
+
+/// `run` on a file with the options that words give.
+fn run<'a>(file: &'a str, words: &[&str]) -> Option<Request<'a>>
+    ensures is { option_map command_of result
+        ≡ option_map (running file.now) (options_in (texts words.now) no_options) }
+    ensures within { IfSome result AsksWithin }
+{
+    let given = options_in(words)?;
+    Some(Request::Run {
+        file,
+        steps: given.steps.unwrap_or(USUAL_STEPS),
+        every: given.every.unwrap_or(USUAL_EVERY),
+        report: given.report,
+    })
+}
+
+/// The number of steps that the words behind the file of `plain` ask for.
 fn steps(options: &[&str]) -> Option<u64>
     ensures { result ≡ steps_in (texts options.now) }
 {
@@ -133,10 +260,7 @@ fn named<'a>(name: &str, file: &'a str, options: &[&str]) -> Option<Request<'a>>
     ensures within { IfSome result AsksWithin }
 {
     if name == "run" {
-        return match steps(options) {
-            Some(steps) => Some(Request::Run { file, steps }),
-            None => None,
-        };
+        return run(file, options);
     }
     if name == "plain" {
         return match steps(options) {

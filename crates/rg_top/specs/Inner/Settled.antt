@@ -1,10 +1,11 @@
 -- What the layers under the top call have answered and left, by the status (docs/promises.md).
-use Rattle.std.specs.Prelude.{◌≡◌, ◌≢◌, ◌≤◌, ℕ, ◌⊎◌, ⊤, List, [], ◌++◌, Option, Some, Result, Ok, Err}
+use Rattle.std.specs.Prelude.{◌≡◌, ◌≢◌, ◌≤◌, ℕ, ◌⊎◌, ⊤, Bool, true, false, List, [], ◌++◌, take, Option, Some, Result, Ok, Err}
+use Rattle.rg_base.specs.declared.event.Event.{Event}
 use Rattle.rg_base.specs.declared.fault.Fault.{Fault}
 use Rattle.rg_base.specs.declared.limits.TheConstants.{MOST_STEPS}
 use Rattle.rg_base.specs.declared.outcome.Ended.{Ended}
 use Rattle.rg_base.specs.declared.outcome.Ended.TheVariants as ended
-use Rattle.rg_io.specs.Content.{Rose, Appends, AppendsPart}
+use Rattle.rg_io.specs.Content.{Rose, Appends, AppendsPart, IsPrefix}
 use Rattle.rg_io.specs.Files.{Told}
 use Rattle.rg_tree.specs.Tree.{Tree}
 use Rattle.rg_tree.specs.Rows.Tables.{Tables}
@@ -17,10 +18,12 @@ use Rattle.rg_rules.specs.Runs.{opening}
 use Rattle.rg_rules.specs.Runs as rules
 use Rattle.rg_rules.specs.Texts.{added}
 use Rattle.rg_run.specs.Machine.{Kept, IsFresh, numbers_of}
+use Rattle.rg_run.specs.Reports.{event_lines}
 use Rattle.rg_run.specs.Sound.{Stands, NeverAsks}
 use Rattle.rg_top.specs.declared.status.Status.{Status}
 use Rattle.rg_top.specs.declared.status.Status.TheVariants as status
-use Rattle.rg_top.specs.Commands.{Command, run, plain, fmt, check, code, bulk, Origin, in_file, generated, origin_of}
+use Rattle.rg_top.specs.Commands.{Command, run, plain, fmt, check, code, bulk, Origin, in_file, generated, origin_of, every_of, runs_on}
+use Rattle.rg_top.specs.Statuses.{status_text}
 use Rattle.rg_top.specs.Expected.{too_long, faulty, spelt, HasSource, MeansFrom, Means, status_of}
 use Rattle.rg_top.specs.Expected.{accepted_text, listed_text, text_after, line_behind}
 use Rattle.rg_top.specs.Headline.{HasInput, ForInput, Runs, Untouched, StandsAfter, AsksAfter, CutOffAt, CutAtInput}
@@ -133,7 +136,7 @@ pub record Listed (file source : List ℕ) (old new : Option (List ℕ)) (m : Ke
 
 -- a command that came to its end
 abbrev pub EndsWell : Command → (source : List ℕ) → (left old new : Option (List ℕ)) → Kept → (still : Type 0) → Type 0
-EndsWell (run file n) source left old new m still = RanWhole (in_file file) n source left status.Done old new m still
+EndsWell (run file n every report) source left old new m still = RanWhole (in_file file) n source left status.Done old new m still
 EndsWell (plain file n) source left old new m still = RanBeside file n source left status.Done old new m still
 EndsWell (fmt file) source left old new m still = Formatted source old new m
 EndsWell (check file) source left old new m still = Passed file source old new m
@@ -142,7 +145,7 @@ EndsWell (bulk size) source left old new m still = RanGenerated size source stat
 
 -- a run that didn't
 abbrev pub StopsRun : Command → (source : List ℕ) → (left : Option (List ℕ)) → Status → (old new : Option (List ℕ)) → Kept → (still : Type 0) → Type 0
-StopsRun (run file n) source left s old new m still = RanWhole (in_file file) n source left s old new m still
+StopsRun (run file n every report) source left s old new m still = RanWhole (in_file file) n source left s old new m still
 StopsRun (plain file n) source left s old new m still = RanBeside file n source left s old new m still
 StopsRun (fmt file) source left s old new m still = ⊥
 StopsRun (check file) source left s old new m still = ⊥
@@ -155,7 +158,7 @@ HasFault source f = (t : Tree) × Means source (spelt t) × (first_fault t ≡ S
 
 -- the checker's fault, where a command checks
 abbrev pub IsFaulted : Command → List ℕ → Fault → Type 0
-IsFaulted (run file n) source f = HasFault source f
+IsFaulted (run file n every report) source f = HasFault source f
 IsFaulted (plain file n) source f = HasFault source f
 IsFaulted (fmt file) source f = ⊥
 IsFaulted (check file) source f = HasFault source f
@@ -164,7 +167,7 @@ IsFaulted (bulk size) source f = ⊥
 
 -- a command that was cut off by the output or for want of memory; one that reads no input has none
 abbrev pub CutOff : Command → (source : List ℕ) → (left old new : Option (List ℕ)) → Kept → (still : Type 0) → Type 0
-CutOff (run file n) source left old new m still = ForInput left (λ input. CutOffAt (run file n) source input m old new still)
+CutOff (run file n every report) source left old new m still = ForInput left (λ input. CutOffAt (run file n every report) source input m old new still)
 CutOff (plain file n) source left old new m still = ForInput left (λ input. CutOffAt (plain file n) source input m old new still)
 CutOff (fmt file) source left old new m still = CutOffAt (fmt file) source [] m old new still
 CutOff (check file) source left old new m still = CutOffAt (check file) source [] m old new still
@@ -227,15 +230,59 @@ abbrev pub Brings : Option Told → Origin → Result Tables Status → Type 0
 Brings told origin (Ok t) = Found told origin (program_of t)
 Brings told origin (Err s) = Refuses told origin s
 
--- a command names a fault of the input or of the output only where its count rose, and no count falls
-pub record Caused (s : Status) (input_old input_new out_old out_new : ℕ) : Type 0 where
+-- A call names a fault of the input only where its count rose, and one of the output only where its own count or that of the notes rose; and no
+-- count falls.
+pub record Caused (s : Status) (input_old input_new out_old out_new notes_old notes_new : ℕ) : Type 0 where
+  pub input_fault : s ≡ status.InputFault → Rose input_old input_new
+  pub output_fault : s ≡ status.OutputFault → Rose out_old out_new ⊎ Rose notes_old notes_new
+  pub input_never_falls : input_old ≤ input_new
+  pub output_never_falls : out_old ≤ out_new
+  pub notes_never_fall : notes_old ≤ notes_new
+
+-- the same of a command that gives nothing to the notes
+pub record CausedBeside (s : Status) (input_old input_new out_old out_new : ℕ) : Type 0 where
   pub input_fault : s ≡ status.InputFault → Rose input_old input_new
   pub output_fault : s ≡ status.OutputFault → Rose out_old out_new
   pub input_never_falls : input_old ≤ input_new
   pub output_never_falls : out_old ≤ out_new
 
--- the same of a command that reads no input
+-- and that reads no input either
 pub record CausedByOutput (s : Status) (out_old out_new : ℕ) : Type 0 where
   pub no_input_fault : s ≢ status.InputFault
   pub output_fault : s ≡ status.OutputFault → Rose out_old out_new
   pub output_never_falls : out_old ≤ out_new
+
+-- What the notes have taken before a status is told: with a report the lines of a run's collections, of one that was cut off the first of them,
+-- and else nothing.
+abbrev pub Reported : (report : Bool) → Status → List Event → (old new : Option (List ℕ)) → Type 0
+Reported false s events old new = new ≡ old
+Reported true status.Done events old new = Appends old new (event_lines events)
+Reported true (status.Refused f) events old new = new ≡ old
+Reported true status.Usage events old new = new ≡ old
+Reported true (status.Trap kind line) events old new = Appends old new (event_lines events)
+Reported true status.Spent events old new = Appends old new (event_lines events)
+Reported true status.SourceFault events old new = new ≡ old
+Reported true status.InputFault events old new = Appends old new (event_lines events)
+Reported true status.OutputFault events old new = AppendsPart old new (event_lines events)
+Reported true status.Memory events old new = (k : ℕ) × Appends old new (event_lines (take k events))
+Reported true status.Long events old new = new ≡ old
+
+-- a part of a text, and then a part of the text of an output fault
+pub record CutText (whole : List ℕ) (old new : Option (List ℕ)) : Type 0 where
+  pub first : List ℕ
+  pub second : List ℕ
+  pub first_of : IsPrefix first whole
+  pub second_of : IsPrefix second (status_text 0 status.OutputFault)
+  pub took : Appends old new (first ++ second)
+
+-- what the notes have taken of a text that tells a status: the whole of it, or after a fault of the notes a part
+abbrev pub Gave : (whole : List ℕ) → (given answer : Status) → (old new : Option (List ℕ)) → Type 0
+Gave whole given answer old new = ((answer ≡ given) × Appends old new whole) ⊎ ((answer ≡ status.OutputFault) × CutText whole old new)
+
+-- both pacers were tuned to the command's number, where it has begun a run
+abbrev pub Tunes : Command → Kept → (count trace : ℕ) → Type 0
+Tunes c m count trace = runs_on c ≡ true → ¬ IsFresh m → (count ≡ every_of c) × (trace ≡ every_of c)
+
+-- what is told is the status that was given, or that the rest couldn't be told
+abbrev pub Becomes : (given answer : Status) → Type 0
+Becomes given answer = (answer ≡ given) ⊎ ((answer ≡ status.OutputFault) ⊎ (answer ≡ status.Memory))

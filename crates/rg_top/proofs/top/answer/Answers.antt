@@ -1,5 +1,7 @@
 use Rattle.std.proofs.Common.{refl, inl}
 use Rattle.rg_top.specs.Inner.Requests.{command_of}
+use Rattle.rg_top.specs.Commands.{reports}
+use Rattle.rg_top.proofs.NotesLemmas.{quiet-refuses}
 use Rattle.rg_top.proofs.AnswerLemmas.{refuses-settles, refuses-caused, settles-inside}
 use Rattle.rg_top.proofs.top.answer.Goals as goal
 
@@ -8,7 +10,10 @@ returns-in-Err-clause-settles g c =
     refuses-settles _ (command_of c.args.request) c.in-Err.status _ _ _ _ c.in-Err.ensures.brings c.requires.fresh refl
 
 pub returns-in-Err-clause-caused : goal.returns-in-Err-clause-caused
-returns-in-Err-clause-caused g c = refuses-caused _ _ c.in-Err.status _ _ c.in-Err.ensures.brings
+returns-in-Err-clause-caused g c = refuses-caused _ _ c.in-Err.status _ _ _ c.in-Err.ensures.brings
+
+pub returns-in-Err-clause-notes : goal.returns-in-Err-clause-notes
+returns-in-Err-clause-notes g c = quiet-refuses (reports (command_of c.args.request)) _ _ c.in-Err.status _ _ c.in-Err.ensures.brings
 
 pub returns-in-Ok-clause-settles : goal.returns-in-Ok-clause-settles
 returns-in-Ok-clause-settles g c =

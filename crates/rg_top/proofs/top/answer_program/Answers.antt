@@ -1,6 +1,7 @@
 use Rattle.std.proofs.Common.{refl}
 use Rattle.rg_top.specs.Commands.{fmt, check, code, bulk}
 use Rattle.rg_top.proofs.SettledLemmas.{settles-still}
+use Rattle.rg_top.proofs.AnswerLemmas.{caused-unread}
 use Rattle.rg_top.proofs.top.answer_program.Goals as goal
 
 pub returns-in-Run-clause-settles : goal.returns-in-Run-clause-settles
@@ -38,3 +39,6 @@ returns-in-Bulk-clause-settles g c = λ source means.
     rw c.in-Bulk.is
     (settles-still _ _ _ _ _ _ refl (bulk c.in-Bulk.size) _ refl
     (c.bulk_program.ensures.settles source (g.I.Source.left c.args.input.now) (rw c.in-Bulk.is at means)))
+
+pub returns-in-Bulk-clause-caused : goal.returns-in-Bulk-clause-caused
+returns-in-Bulk-clause-caused g c = caused-unread _ _ _ _ _ _ c.bulk_program.ensures.caused

@@ -11,11 +11,3 @@ pub returns-clause-settles : goal.returns-clause-settles
 returns-clause-settles g c = λ source left runs.
     generated-stops c.args.size source left c.run_accepted-ran.result _ _ _ _ c.in_default.not-Done
     (no-fault _ c.run_accepted-ran.ensures.caused.input_fault) (c.run_accepted-ran.ensures.ran (generated c.args.size) source runs)
-
-pub returns-clause-caused : goal.returns-clause-caused
-returns-clause-caused g c =
-    let caused = c.run_accepted-ran.ensures.caused in record {
-      no_input_fault = no-fault _ caused.input_fault;
-      output_fault = caused.output_fault;
-      output_never_falls = caused.output_never_falls;
-    }

@@ -1,24 +1,52 @@
 -- What the top call promises, from what the layers under it have answered.
-use Rattle.std.proofs.Common.{◌≡◌, refl, inl, inr, ◌∙◌}
+use Rattle.std.proofs.Common.{◌≡◌, ◌⊎◌, refl, ◌∙◌}
+use Rattle.rg_io.specs.Content.{Rose}
 use Rattle.rg_top.specs.declared.status.Status.TheVariants as status
 use Rattle.rg_top.specs.Commands.{texts}
 use Rattle.rg_top.specs.Inner.Requests.{command_of}
 use Rattle.rg_top.proofs.AnswerLemmas.{Answered, answer-answered, answer-cut, answer-input, answer-exactly, answer-refused, answer-complete}
-use Rattle.rg_top.proofs.AnswerLemmas.{answer-unread, answer-unopened, answer-untouched, given-is, usage-exactly}
+use Rattle.rg_top.proofs.AnswerLemmas.{answer-unread, answer-unopened, answer-untouched, answer-output, answer-tuned, answer-usage, given-is, usage-exactly}
+use Rattle.rg_top.proofs.NotesLemmas.{asked-notes, asked-fault, rose-later}
 use Rattle.rg_top.proofs.top.reggio.Given.{Over}
 use Rattle.rg_top.proofs.top.reggio.Goals as goal
 
 -- the answer behind the layers under it
-answered : (g : Over) (c : goal.After-tell-in-Some g) →
+answered : (g : Over) (c : goal.After-tell_behind g) →
     Answered (g.F.Files.told c.args.files.now) (g.I.Source.left c.args.input.now) (texts c.args.words.now) c.answer-status.result
-    c.tell-in-Some.result (g.O.Sink.taken c.args.out.now) (g.O.Sink.taken c.answer-status.new.out) c.answer-status.new.machine
+    c.tell_behind.result (g.O.Sink.taken c.args.out.now) (g.O.Sink.taken c.answer-status.new.out) c.answer-status.new.machine
     (c.answer-status.new.input ≡ c.args.input.now)
 answered g c = record {
   asked = command_of c.in-Some.request;
   command_is = c.in-Some.ensures.is;
   settles = c.answer-status.ensures.settles;
-  told_is = c.tell-in-Some.ensures.told;
+  told_is = c.tell_behind.ensures.told;
 }
+
+-- from which count an output fault comes
+output-cause : (g : Over) (c : goal.After-tell_behind g) → c.tell_behind.result ≡ status.OutputFault →
+    Rose (g.O.Sink.faults c.args.out.now) (g.O.Sink.faults c.answer-status.new.out)
+    ⊎ Rose (g.R.Sink.faults c.args.notes.now) (g.R.Sink.faults c.tell_behind.new.notes)
+output-cause g c = λ e.
+    let caused = c.answer-status.ensures.caused in
+    answer-output _ _ _ _ _ _ caused.output_fault caused.notes_never_fall c.tell_behind.ensures.never_falls (c.tell_behind.ensures.failed e)
+
+pub returns-in-Some-clause-output_fault : goal.returns-in-Some-clause-output_fault
+returns-in-Some-clause-output_fault g c = output-cause g c
+
+pub returns-in-Some-clause-notes : goal.returns-in-Some-clause-notes
+returns-in-Some-clause-notes g c =
+    asked-notes (texts c.args.words.now) (command_of c.in-Some.request) _ c.answer-status.new.machine _ _ _ _ _ c.in-Some.ensures.is
+    c.reports.ensures c.answer-status.ensures.notes _ c.steps_of.ensures c.tell_behind.ensures.took
+
+pub returns-in-Some-clause-output_fault_told : goal.returns-in-Some-clause-output_fault_told
+returns-in-Some-clause-output_fault_told g c = λ e n.
+    asked-fault (texts c.args.words.now) (command_of c.in-Some.request) _ c.answer-status.new.machine _ status.OutputFault _ _ _ c.in-Some.ensures.is
+    c.reports.ensures c.answer-status.ensures.notes
+    (λ old h. c.tell_behind.ensures.output_fault_told old h e (λ r. n (rose-later _ _ _ c.answer-status.ensures.caused.notes_never_fall r)))
+
+pub returns-in-Some-clause-tuned : goal.returns-in-Some-clause-tuned
+returns-in-Some-clause-tuned g c =
+    answer-tuned (texts c.args.words.now) (command_of c.in-Some.request) _ _ _ c.in-Some.ensures.is c.answer-status.ensures.tuned
 
 pub returns-in-Some-clause-answered : goal.returns-in-Some-clause-answered
 returns-in-Some-clause-answered g c = answer-answered (answered g c)
@@ -40,6 +68,9 @@ pub returns-in-Some-clause-files_unread : goal.returns-in-Some-clause-files_unre
 returns-in-Some-clause-files_unread g c =
     answer-unopened (texts c.args.words.now) (command_of c.in-Some.request) _ c.in-Some.ensures.is c.answer-status.ensures.files_unread
 
+pub returns-in-Some-clause-usage : goal.returns-in-Some-clause-usage
+returns-in-Some-clause-usage g c = answer-usage (answered g c)
+
 pub returns-in-Some-clause-done : goal.returns-in-Some-clause-done
 returns-in-Some-clause-done g c = answer-exactly (answered g c) status.Done refl
 
@@ -57,14 +88,14 @@ returns-in-Some-clause-long g c = answer-refused (answered g c) status.Long refl
 
 pub returns-in-Some-clause-input_fault : goal.returns-in-Some-clause-input_fault
 returns-in-Some-clause-input_fault g c = λ i.
-    c.answer-status.ensures.caused.input_fault (given-is _ _ c.tell-in-Some.ensures.told (λ o. cc) ∙ i)
+    c.answer-status.ensures.caused.input_fault (given-is _ _ c.tell_behind.ensures.told (λ o. cc) (λ o. cc) ∙ i)
 
 pub returns-in-Some-clause-complete : goal.returns-in-Some-clause-complete
 returns-in-Some-clause-complete g c =
     λ asks. answer-complete (answered g c) _ _ _ _
-    (λ i. c.answer-status.ensures.source_fault (given-is _ _ c.tell-in-Some.ensures.told (λ o. cc) ∙ i))
-    (λ i. c.answer-status.ensures.caused.input_fault (given-is _ _ c.tell-in-Some.ensures.told (λ o. cc) ∙ i))
-    (λ i. elim (c.tell-in-Some.ensures.failed i) [ inl o ↦ inl (c.answer-status.ensures.caused.output_fault o) | inr n ↦ inr n ])
+    (λ i. c.answer-status.ensures.source_fault (given-is _ _ c.tell_behind.ensures.told (λ o. cc) (λ o. cc) ∙ i))
+    (λ i. c.answer-status.ensures.caused.input_fault (given-is _ _ c.tell_behind.ensures.told (λ o. cc) (λ o. cc) ∙ i))
+    (output-cause g c)
 
 pub returns-in-None-clause-done : goal.returns-in-None-clause-done
 returns-in-None-clause-done g c = usage-exactly _ _ _ _ status.Done c.in-None.ensures.is c.tell.ensures.told refl

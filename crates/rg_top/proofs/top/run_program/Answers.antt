@@ -1,9 +1,16 @@
 use Rattle.rg_top.specs.Commands.{in_file}
 use Rattle.rg_top.proofs.RanLemmas.{run-settles, runs-checked}
+use Rattle.rg_top.proofs.NotesLemmas.{quiet-refused, quiet-memory}
 use Rattle.rg_top.proofs.top.run_program.Goals as goal
 
 pub returns-in-Ok-clause-settles : goal.returns-in-Ok-clause-settles
 returns-in-Ok-clause-settles g c = λ file source means.
-    run-settles file c.args.steps source _ _ _ _ _ _
+    run-settles file c.args.steps c.args.every c.args.report source _ _ _ _ _ _
     (c.run_accepted.ensures.ran (in_file file) source
     (runs-checked (in_file file) source c.args.program _ c.in-Ok.ensures.program means c.in-Ok.ensures.judged))
+
+pub returns-in-Err-Fault-clause-notes : goal.returns-in-Err-Fault-clause-notes
+returns-in-Err-Fault-clause-notes g c = quiet-refused c.args.report _ _ _
+
+pub returns-in-Err-Memory-clause-notes : goal.returns-in-Err-Memory-clause-notes
+returns-in-Err-Memory-clause-notes g c = quiet-memory c.args.report _ _

@@ -1,0 +1,56 @@
+-- Words of the command line, read as commands.
+use Rattle.std.proofs.Common.{◌≡◌, ℕ, true, false, List, [], ◌∷◌, Some, None, codes, refl}
+use Rattle.rg_top.specs.Commands.{run, plain, command}
+
+-- `run a`, and what stands behind it
+abbrev run_a : List (List ℕ) → List (List ℕ)
+run_a options = codes "run" ∷ codes "a" ∷ options
+
+without_options : command (run_a []) ≡ Some (run (codes "a") 10000000 1000 false)
+without_options = refl
+
+every_option : command (run_a (codes "--every" ∷ codes "0" ∷ codes "--report" ∷ codes "--steps" ∷ codes "0000000007" ∷ []))
+    ≡ Some (run (codes "a") 7 0 true)
+every_option = refl
+
+a_report_in_front : command (run_a (codes "--report" ∷ codes "--steps" ∷ codes "5" ∷ [])) ≡ Some (run (codes "a") 5 1000 true)
+a_report_in_front = refl
+
+a_report_at_the_end : command (run_a (codes "--every" ∷ codes "100" ∷ codes "--report" ∷ [])) ≡ Some (run (codes "a") 10000000 100 true)
+a_report_at_the_end = refl
+
+the_greatest_number : command (run_a (codes "--every" ∷ codes "1000000000" ∷ [])) ≡ Some (run (codes "a") 10000000 1000000000 false)
+the_greatest_number = refl
+
+a_greater_one : command (run_a (codes "--every" ∷ codes "1000000001" ∷ [])) ≡ None
+a_greater_one = refl
+
+steps_given_twice : command (run_a (codes "--steps" ∷ codes "5" ∷ codes "--steps" ∷ codes "6" ∷ [])) ≡ None
+steps_given_twice = refl
+
+every_given_twice : command (run_a (codes "--every" ∷ codes "5" ∷ codes "--steps" ∷ codes "6" ∷ codes "--every" ∷ codes "5" ∷ [])) ≡ None
+every_given_twice = refl
+
+a_report_given_twice : command (run_a (codes "--report" ∷ codes "--report" ∷ [])) ≡ None
+a_report_given_twice = refl
+
+no_number : command (run_a (codes "--every" ∷ [])) ≡ None
+no_number = refl
+
+an_option_for_a_number : command (run_a (codes "--steps" ∷ codes "--report" ∷ [])) ≡ None
+an_option_for_a_number = refl
+
+a_number_in_the_word_itself : command (run_a (codes "--every=5" ∷ [])) ≡ None
+a_number_in_the_word_itself = refl
+
+a_word_behind_a_report : command (run_a (codes "--report" ∷ codes "5" ∷ [])) ≡ None
+a_word_behind_a_report = refl
+
+options_of_plain : command (codes "plain" ∷ codes "a" ∷ codes "--steps" ∷ codes "5" ∷ []) ≡ Some (plain (codes "a") 5)
+options_of_plain = refl
+
+no_report_of_plain : command (codes "plain" ∷ codes "a" ∷ codes "--report" ∷ []) ≡ None
+no_report_of_plain = refl
+
+no_report_of_bulk : command (codes "bulk" ∷ codes "5" ∷ codes "--report" ∷ []) ≡ None
+no_report_of_bulk = refl
