@@ -1,6 +1,7 @@
 //! Calls of the top call with sinks in memory.
 
 use rg_io::{Files, MemSink, MemSource};
+use rg_pace::EveryN;
 use rg_run::Machine;
 use rg_top::reggio;
 use std::alloc::Global;
@@ -16,7 +17,8 @@ pub struct Called {
     pub status: u8,
 }
 
-/// Calls the program with these words and this input; None where no memory was found.
+/// Calls the program with these words, this input and pacers of its own; None where no memory was
+/// found.
 pub fn call<F: Files>(
     alloc: Global,
     words: &[&str],
@@ -36,7 +38,9 @@ pub fn call<F: Files>(
         &mut source,
         &mut out,
         &mut notes,
-        &mut Machine::new(),
+        &mut EveryN::new(),
+        &mut EveryN::new(),
+        &mut Machine::new(alloc),
     );
     Some(Called {
         out,

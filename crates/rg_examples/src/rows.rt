@@ -44,6 +44,17 @@ fn cells(line: &str) -> Option<Row<'_>> {
     })
 }
 
+/// Whether notes are what a cell says. A line `..` of the cell stands for any lines. None where no
+/// memory was found.
+fn are_as(alloc: Global, cell: &str, notes: &[u8]) -> Option<bool> {
+    let Some((first, last)) = cell.split_once("..~") else {
+        return Some(notes == expanded(alloc, cell)?.as_slice());
+    };
+    let first = expanded(alloc, first)?;
+    let last = expanded(alloc, last)?;
+    Some(notes.starts_with(first.as_slice()) && notes.ends_with(last.as_slice()))
+}
+
 /// Whether the call of a row gives what it says; None where no memory was found.
 fn gives(alloc: Global, row: &Row<'_>) -> Option<bool> {
     let mut words = Vec::new(alloc);
@@ -55,11 +66,9 @@ fn gives(alloc: Global, row: &Row<'_>) -> Option<bool> {
     let input = expanded(alloc, row.input)?;
     let called = call(alloc, &words, &mut files, &input)?;
     let output = expanded(alloc, row.output)?;
-    let notes = expanded(alloc, row.notes)?;
+    let notes = are_as(alloc, row.notes, called.notes.taken())?;
     Some(
-        row.status.parse() == Ok(called.status)
-            && called.out.taken() == output.as_slice()
-            && called.notes.taken() == notes.as_slice(),
+        row.status.parse() == Ok(called.status) && called.out.taken() == output.as_slice() && notes,
     )
 }
 
