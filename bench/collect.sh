@@ -1,0 +1,117 @@
+#!/usr/bin/env bash
+# What a collection of the active region costs, by the number of its cells, 1,000 to 1,000,000:
+#   list      one list, of which all is kept
+#   tree      one tree of two children a node, of which all is kept
+#   none      one list that nothing leads to any more, so nothing is kept
+# under `trace` and under `count`, and `list` under `trace` once more beside 1,000 other regions of 1,000 cells each.
+# A collection's time is that of a program that collects, less that of the same one that doesn't, for each cell of the
+# region; the slowest size should be within 1.3 of the fastest. Beside it stands a full collection of the same heap in
+# Lua, where lua5.4 is installed: that looks at the other regions too.
+# Not a part of the gate. Usage: bench/collect.sh [TURNS [PROGRAM]]
+set -eu
+. "$(dirname "$0")/common.sh"
+turns=${1:-3}
+python3 - "$work" "$program" "$turns" "$(command -v lua5.4 || true)" <<'PY'
+import subprocess, sys, time
+work, program, turns, lua = sys.argv[1], sys.argv[2], int(sys.argv[3]), sys.argv[4]
+
+NODE = "class Node { left: mut Node; right: mut Node; }\n"
+MAKER = """class Maker {
+  made: int;
+  def mut tree(size: int): mut Node {
+    let n: mut Node = nil;
+    if size > 0 {
+      n = new Node;
+      let half: int = (size - 1) / 2;
+      n.left = call self.tree(half);
+      n.right = call self.tree(size - 1 - half);
+    }
+    return n;
+  }
+}
+class Room { inner: iso Room; first: mut Node; }
+"""
+LIST = """  let a: mut Node = nil;
+  let i: int = 0;
+  while i < SIZE { let n: mut Node = new Node; n.left = a; a = n; i = i + 1; }
+"""
+TREE = """  let maker: mut Maker = new Maker;
+  let a: mut Node = call maker.tree(SIZE);
+"""
+ROOMS = """  let rooms: iso Room = nil;
+  let r: int = 0;
+  while r < 1000 {
+    let room: iso Room = new iso Room in trace;
+    enter room as inside {
+      swap rooms, inside.inner;
+      let b: mut Node = nil;
+      let j: int = 0;
+      while j < 999 { let n: mut Node = new Node; n.left = b; b = n; j = j + 1; }
+      inside.first = b;
+    }
+    rooms = room;
+    r = r + 1;
+  }
+"""
+LUA_LIST = "local a = nil for i = 1, SIZE do a = { left = a, right = false } end\n"
+LUA_TREE = """local function tree(size)
+  if size == 0 then return false end
+  local half = (size - 1) // 2
+  return { left = tree(half), right = tree(size - 1 - half) }
+end
+local a = tree(SIZE)
+"""
+LUA_ROOMS = """local rooms = nil
+for r = 1, 1000 do
+  local b = false
+  for j = 1, 999 do b = { left = b, right = false } end
+  rooms = { inner = rooms, first = b }
+end
+"""
+
+def source(kind, manager, size, collects):
+    body = (ROOMS if kind == "rooms" else "") + (TREE if kind == "tree" else LIST)
+    if kind == "none":
+        body += "  a = nil;\n"
+    body += "  collect;\n" * collects
+    return NODE + MAKER + f"main {manager} {{\n" + body.replace("SIZE", str(size)) + "}\n"
+
+def lua_source(kind, size, collects):
+    body = (LUA_ROOMS if kind == "rooms" else "") + (LUA_TREE if kind == "tree" else LUA_LIST)
+    if kind == "none":
+        body += "a = nil\n"
+    return 'collectgarbage("stop")\n' + body.replace("SIZE", str(size)) + 'collectgarbage("collect")\n' * collects
+
+def seconds(words, often):
+    taken = []
+    for _ in range(often):
+        at = time.perf_counter()
+        subprocess.run(words, stdout=subprocess.DEVNULL, check=True)
+        taken.append(time.perf_counter() - at)
+    return min(taken)
+
+def written(name, text):
+    path = f"{work}/{name}"
+    with open(path, "w") as file: file.write(text)
+    return path
+
+def cost(words_of, size, collects, often):
+    without = seconds(words_of(0), often)
+    return max(seconds(words_of(collects), often) - without, 1e-9) * 1e9 / (size * collects)
+
+print(f"{'manager':<8} {'kind':<6} {'cells':>9} {'ns/cell':>9} {'lua':>9}")
+for manager, kind in [("trace", "list"), ("trace", "tree"), ("trace", "none"), ("trace", "rooms"), ("count", "list"), ("count", "tree"), ("count", "none")]:
+    rates = []
+    for size in [1000, 10_000, 100_000, 1_000_000]:
+        collects = 1 if kind == "none" else max(1, min(200, 1_000_000 // size))
+        often = turns * (1 if kind == "rooms" else min(20, max(1, 1_000_000 // size)))
+        def run(n): return [program, "run", written("a.rg", source(kind, manager, size, n)), "--every", "0", "--steps", "1000000000"]
+        rate = cost(run, size, collects, often)
+        rates.append(rate)
+        of_lua = ""
+        if lua and manager == "trace":
+            def run_lua(n): return [lua, written("a.lua", lua_source(kind, size, n))]
+            of_lua = f"{cost(run_lua, size, collects, often):9.1f}"
+        print(f"{manager:<8} {kind:<6} {size:>9} {rate:>9.1f} {of_lua}", flush=True)
+    print(f"{'':<8} {kind:<6} slowest {max(rates) / min(rates):.2f} times the fastest", flush=True)
+PY

@@ -1,0 +1,104 @@
+#!/usr/bin/env bash
+# What objects cost, by how many there are, 1,000 to 1,000,000:
+#   make      objects of two fields, each in the list of those before it
+#   write     a field of each object of such a list is written
+#   release   a list in a closed region whose owner goes
+#   freeze    a closed region with such a list is frozen
+# in nanoseconds an object, as a program that does it takes more than the same one that doesn't; the slowest size should
+# be within 1.3 of the fastest. Then the peak of memory for a live object of two fields, beside Lua's table of two
+# fields; and a run that makes 10,000,000 objects as a window's temporaries, one at a time, whose peak should be that of
+# one of 10,000.
+# Not a part of the gate. Usage: bench/heap.sh [TURNS [PROGRAM]]
+set -eu
+. "$(dirname "$0")/common.sh"
+turns=${1:-3}
+python3 - "$work" "$program" "$turns" "$(command -v lua5.4 || true)" <<'PY'
+import os, subprocess, sys, time
+work, program, turns, lua = sys.argv[1], sys.argv[2], int(sys.argv[3]), sys.argv[4]
+
+NODE = "class Node { left: mut Node; value: int; }\nclass Room { first: mut Node; }\ntmp class Point { x: int; y: int; }\n"
+BUILT = """  let box: iso Room = new iso Room in MANAGER;
+  enter box as room {
+    let a: mut Node = nil;
+    let i: int = 0;
+    while i < SIZE { let n: mut Node = new Node; n.left = a; a = n; i = i + 1; }
+    room.first = a;
+WRITE  }
+"""
+EMPTY = """  let box: iso Room = new iso Room in MANAGER;
+  enter box as room {
+    let a: mut Node = nil;
+    let i: int = 0;
+    while i < SIZE { let n: mut Node = nil; n = a; a = n; i = i + 1; }
+    room.first = a;
+  }
+"""
+WALK = "    let p: mut Node = a;\n    while not p is nil { STORE p = p.left; }\n"
+def main(body, manager, size):
+    return NODE + "main arena {\n" + body.replace("MANAGER", manager).replace("SIZE", str(size)) + "}\n"
+
+def write(text): return BUILT.replace("WRITE", WALK.replace("STORE", text))
+
+BARE = BUILT.replace("WRITE", "")
+# a trap in front of main's end: what its variables own isn't released
+TRAP = "  let stop: int = 1 / 0;\n"
+KINDS = {
+    "make": (BARE + TRAP, EMPTY + TRAP),
+    "write": (write("p.value = 7;") + TRAP, write("let v: int = 7;") + TRAP),
+    "release": (BARE, BARE + TRAP),
+    "freeze": (BARE + "  let frozen: imm Room = freeze box;\n" + TRAP, BARE + TRAP),
+}
+
+def run(path): return [program, "run", path, "--every", "0", "--steps", "1000000000"]
+
+def written(name, text):
+    path = f"{work}/{name}"
+    with open(path, "w") as file: file.write(text)
+    return path
+
+def seconds(words, often):
+    taken = []
+    for _ in range(often):
+        at = time.perf_counter()
+        subprocess.run(words, stdout=subprocess.DEVNULL, stderr=subprocess.DEVNULL)
+        taken.append(time.perf_counter() - at)
+    return min(taken)
+
+def peak(words):
+    pid = os.fork()
+    if pid == 0:
+        os.dup2(os.open(os.devnull, os.O_WRONLY), 1)
+        os.execv(words[0], words)
+    return os.wait4(pid, 0)[2].ru_maxrss * 1024
+
+print(f"{'kind':<8} {'manager':<8} {'objects':>9} {'ns/object':>10}")
+for manager in ["arena", "count", "trace"]:
+    for kind, (with_it, without) in KINDS.items():
+        rates = []
+        for size in [1000, 10_000, 100_000, 1_000_000]:
+            often = turns * min(20, max(1, 1_000_000 // size))
+            took = seconds(run(written("a.rg", main(with_it, manager, size))), often)
+            less = seconds(run(written("b.rg", main(without, manager, size))), often)
+            rates.append(max(took - less, 1e-9) * 1e9 / size)
+            print(f"{kind:<8} {manager:<8} {size:>9} {rates[-1]:>10.1f}", flush=True)
+        print(f"{kind:<8} {manager:<8} slowest {max(rates) / min(rates):.2f} times the fastest", flush=True)
+
+size = 1_000_000
+live = peak(run(written("a.rg", main(BARE, "arena", size)))) - peak(run(written("b.rg", main(EMPTY, "arena", size))))
+print(f"a live object of two fields takes {live / size:.0f} bytes at the peak")
+if lua:
+    text = "local a = nil for i = 1, SIZE do a = { left = a, value = 0 } end\n"
+    live = peak([lua, written("a.lua", text.replace("SIZE", str(size)))]) - peak([lua, written("b.lua", "")])
+    print(f"Lua's table of two fields takes {live / size:.0f} bytes at the peak")
+
+TEMPS = """class Maker {
+  def mut one(): int { let y: iso Room = new iso Room in arena; let v: int = 0; enter y as z { let t: tmp Point = new tmp Point; t.x = 7; v = t.x; } return v; }
+}
+"""
+def temporaries(size):
+    return NODE + TEMPS + "main arena {\n  let m: mut Maker = new Maker;\n  let i: int = 0;\n  let s: int = 0;\n" \
+        f"  while i < {size} {{ let v: int = call m.one(); s = s + v; i = i + 1; }}\n  print s;\n}}\n"
+few = peak(run(written("a.rg", temporaries(10_000))))
+many = peak(run(written("b.rg", temporaries(10_000_000))))
+print(f"10,000 regions and temporaries, one at a time: {few / 2**20:.1f} MiB at the peak; 10,000,000: {many / 2**20:.1f} MiB")
+PY
