@@ -16,8 +16,14 @@ _reggio() {
     *)
       case ${COMP_WORDS[1]},$before in
         *,--steps) mapfile -t COMPREPLY < <(compgen -W '1000 1000000 1000000000' -- "$word") ;;
+        run,--every) mapfile -t COMPREPLY < <(compgen -W '0 1 100 1000' -- "$word") ;;
         run,* | plain,*)
-          case " ${COMP_WORDS[*]} " in *' --steps '*) ;; *) mapfile -t COMPREPLY < <(compgen -W '--steps' -- "$word") ;; esac
+          local option left='--steps'
+          [ "${COMP_WORDS[1]}" = run ] && left='--steps --every --report'
+          for option in $left; do
+            case " ${COMP_WORDS[*]:0:COMP_CWORD} " in *" $option "*) left=${left/$option/} ;; esac
+          done
+          mapfile -t COMPREPLY < <(compgen -W "$left" -- "$word")
           ;;
       esac
       ;;
