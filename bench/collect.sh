@@ -18,13 +18,15 @@ work, program, turns, lua = sys.argv[1], sys.argv[2], int(sys.argv[3]), sys.argv
 NODE = "class Node { left: mut Node; right: mut Node; }\n"
 MAKER = """class Maker {
   made: int;
-  def mut tree(size: int): mut Node {
+  def mut tree(many: int): mut Node {
     let n: mut Node = nil;
-    if size > 0 {
+    if many > 0 {
       n = new Node;
-      let half: int = (size - 1) / 2;
-      n.left = call self.tree(half);
-      n.right = call self.tree(size - 1 - half);
+      let half: int = (many - 1) / 2;
+      let l: mut Node = call self.tree(half);
+      let r: mut Node = call self.tree(many - 1 - half);
+      n.left = l;
+      n.right = r;
     }
     return n;
   }

@@ -1,52 +1,49 @@
 #!/usr/bin/env bash
 # What objects cost, by how many there are, 1,000 to 1,000,000:
-#   make      objects of two fields, each in the list of those before it
+#   make      objects of two fields, each in the list of those before it, in a region that is released then
 #   write     a field of each object of such a list is written
-#   release   a list in a closed region whose owner goes
-#   freeze    a closed region with such a list is frozen
-# in nanoseconds an object, as a program that does it takes more than the same one that doesn't; the slowest size should
-# be within 1.3 of the fastest. Then the peak of memory for a live object of two fields, beside Lua's table of two
-# fields; and a run that makes 10,000,000 objects as a window's temporaries, one at a time, whose peak should be that of
-# one of 10,000.
+#   freeze    the region of such a list is frozen and kept, in place of released
+# in nanoseconds an object, 1,000,000 objects in all, as a program that does it takes more than the same one that doesn't;
+# the slowest size should be within 1.3 of the fastest. Then the peak of memory for a live object of two fields, beside
+# Lua's table of two fields; and a run that makes 10,000,000 objects as a window's temporaries, one at a time, whose peak
+# should be that of one of 10,000.
 # Not a part of the gate. Usage: bench/heap.sh [TURNS [PROGRAM]]
 set -eu
 . "$(dirname "$0")/common.sh"
 turns=${1:-3}
 python3 - "$work" "$program" "$turns" "$(command -v lua5.4 || true)" <<'PY'
-import os, subprocess, sys, time
+import subprocess, sys, time
 work, program, turns, lua = sys.argv[1], sys.argv[2], int(sys.argv[3]), sys.argv[4]
 
 NODE = "class Node { left: mut Node; value: int; }\nclass Room { first: mut Node; }\ntmp class Point { x: int; y: int; }\n"
-BUILT = """  let box: iso Room = new iso Room in MANAGER;
-  enter box as room {
-    let a: mut Node = nil;
-    let i: int = 0;
-    while i < SIZE { let n: mut Node = new Node; n.left = a; a = n; i = i + 1; }
-    room.first = a;
-WRITE  }
-"""
-EMPTY = """  let box: iso Room = new iso Room in MANAGER;
-  enter box as room {
-    let a: mut Node = nil;
-    let i: int = 0;
-    while i < SIZE { let n: mut Node = nil; n = a; a = n; i = i + 1; }
-    room.first = a;
+TURN = """  let t: int = 0;
+  while t < TIMES {
+    let box: iso Room = new iso Room in MANAGER;
+    enter box as room {
+      let a: mut Node = nil;
+      let i: int = 0;
+      while i < SIZE { LINK a = n; i = i + 1; }
+      room.first = a;
+WALK    }
+LAST    t = t + 1;
   }
 """
-WALK = "    let p: mut Node = a;\n    while not p is nil { STORE p = p.left; }\n"
+MADE = "let n: mut Node = new Node; n.left = a;"
+NOT_MADE = "let n: mut Node = nil; n = a;"
+WALKED = "      let p: mut Node = a;\n      while not p is nil { STORE p = p.left; }\n"
+
+def turn(link, store="", last=""):
+    walk = WALKED.replace("STORE", store) if store else ""
+    return TURN.replace("LINK", link).replace("WALK", walk).replace("LAST", last)
+
 def main(body, manager, size):
-    return NODE + "main arena {\n" + body.replace("MANAGER", manager).replace("SIZE", str(size)) + "}\n"
+    text = body.replace("MANAGER", manager).replace("SIZE", str(size)).replace("TIMES", str(max(1, 1_000_000 // size)))
+    return NODE + "main arena {\n" + text + "}\n"
 
-def write(text): return BUILT.replace("WRITE", WALK.replace("STORE", text))
-
-BARE = BUILT.replace("WRITE", "")
-# a trap in front of main's end: what its variables own isn't released
-TRAP = "  let stop: int = 1 / 0;\n"
 KINDS = {
-    "make": (BARE + TRAP, EMPTY + TRAP),
-    "write": (write("p.value = 7;") + TRAP, write("let v: int = 7;") + TRAP),
-    "release": (BARE, BARE + TRAP),
-    "freeze": (BARE + "  let frozen: imm Room = freeze box;\n" + TRAP, BARE + TRAP),
+    "make": (turn(MADE), turn(NOT_MADE)),
+    "write": (turn(MADE, "p.value = 7;"), turn(MADE, "let v: int = 7;")),
+    "freeze": (turn(MADE, last="    let frozen: imm Room = freeze box;\n"), turn(NOT_MADE, last="    let frozen: imm Room = freeze box;\n")),
 }
 
 def run(path): return [program, "run", path, "--every", "0", "--steps", "1000000000"]
@@ -65,26 +62,33 @@ def seconds(words, often):
     return min(taken)
 
 def peak(words):
-    pid = os.fork()
-    if pid == 0:
-        os.dup2(os.open(os.devnull, os.O_WRONLY), 1)
-        os.execv(words[0], words)
-    return os.wait4(pid, 0)[2].ru_maxrss * 1024
+    """The peak of memory in bytes, read off while it runs: that of a waited child counts the process that started it."""
+    most = 0
+    with subprocess.Popen(words, stdout=subprocess.DEVNULL, stderr=subprocess.DEVNULL) as process:
+        while process.poll() is None:
+            try:
+                with open(f"/proc/{process.pid}/status") as status:
+                    here = [int(line.split()[1]) for line in status if line.startswith("VmHWM")]
+                with open(f"/proc/{process.pid}/comm") as name:
+                    most = max([most] + here) if not name.read().startswith("python") else most
+            except OSError:
+                pass
+            time.sleep(0.0005)
+    return most * 1024
 
 print(f"{'kind':<8} {'manager':<8} {'objects':>9} {'ns/object':>10}")
 for manager in ["arena", "count", "trace"]:
     for kind, (with_it, without) in KINDS.items():
         rates = []
         for size in [1000, 10_000, 100_000, 1_000_000]:
-            often = turns * min(20, max(1, 1_000_000 // size))
-            took = seconds(run(written("a.rg", main(with_it, manager, size))), often)
-            less = seconds(run(written("b.rg", main(without, manager, size))), often)
-            rates.append(max(took - less, 1e-9) * 1e9 / size)
+            took = seconds(run(written("a.rg", main(with_it, manager, size))), turns)
+            less = seconds(run(written("b.rg", main(without, manager, size))), turns)
+            rates.append(max(took - less, 1e-9) * 1e3)
             print(f"{kind:<8} {manager:<8} {size:>9} {rates[-1]:>10.1f}", flush=True)
         print(f"{kind:<8} {manager:<8} slowest {max(rates) / min(rates):.2f} times the fastest", flush=True)
 
 size = 1_000_000
-live = peak(run(written("a.rg", main(BARE, "arena", size)))) - peak(run(written("b.rg", main(EMPTY, "arena", size))))
+live = peak(run(written("a.rg", main(turn(MADE), "arena", size)))) - peak(run(written("b.rg", main(turn(NOT_MADE), "arena", size))))
 print(f"a live object of two fields takes {live / size:.0f} bytes at the peak")
 if lua:
     text = "local a = nil for i = 1, SIZE do a = { left = a, value = 0 } end\n"
