@@ -17,3 +17,7 @@ mod ServeLemmas
 mod DueLemmas
 mod WriteLemmas
 mod ReachedLemmas
+mod ActiveLemmas
+mod YesLemmas
+mod PacedLemmas
+mod AskedLemmas

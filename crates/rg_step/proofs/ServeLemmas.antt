@@ -171,7 +171,7 @@ steps-nowhere code m bytes t p r e = (p, refl, r.shows, e)
 
 -- The region that is collected
 
-has-record : (t : RegionTable) (key n : ℕ) → HasNumber t key n → (r : Record) × (record_at t key ≡ Some r)
+pub has-record : (t : RegionTable) (key n : ℕ) → HasNumber t key n → (r : Record) × (record_at t key ≡ Some r)
 has-record t key n h = by (record_at t key) refl
   where
     by : (o : Option Record) → record_at t key ≡ o → (r : Record) × (record_at t key ≡ Some r)

@@ -3,3 +3,4 @@ pub mod Inner
 pub mod Steps
 pub mod Collections
 pub mod Writes
+pub mod Asking

@@ -1,6 +1,7 @@
 //! The stepper (docs/architecture.md, "The stepper").
 
-ghost use Rattle.std.specs.Prelude.{◌≡◌, ◌≤◌, None, IfOk, IfSome, OnErr, OnOk, false, true};
+ghost use Rattle.std.specs.Prelude.{◌≡◌, ◌≤◌, ◌++◌, List, None, IfOk, IfSome, OnErr, OnOk};
+ghost use Rattle.std.specs.Prelude.{false, true};
 ghost use Rattle.rg_io.specs.Content.{Rose};
 ghost use Rattle.rg_input.specs.Numbers.{Follows, OnInput};
 ghost use Rattle.rg_tree.specs.Tree.{Tree};
@@ -15,6 +16,7 @@ ghost use Rattle.rg_machine.specs.Parts.{Parts, machine_in};
 ghost use Rattle.rg_step.specs.Steps.{Counts, IsRunning, Leapt, Runs, StepsOn};
 ghost use Rattle.rg_step.specs.Steps.{counted_by, fresh, nothing, numbers_of, opening_machine};
 ghost use Rattle.rg_step.specs.Writes.{WritesOnly};
+ghost use Rattle.rg_step.specs.Asking.{AsksOn, YesesTold};
 ghost use Rattle.rg_step.specs.Collections.{ReachesOn, ServesBy};
 ghost use Rattle.rg_step.specs.Inner.Held.{stepping};
 
@@ -221,6 +223,65 @@ impl Stepper {
             }) result }
         ensures reaches { OnInput input.old input.new (S.left source.old) (S.left source.new)
             (ReachesOn code.now (machine_in self.old.parts) self.old.events self.new.events) }
+        ensures asked { AsksOn code.now (machine_in self.old.parts) result
+            (record {
+              count = record {
+                asks = asks count.old;
+                yeses = yeses count.old;
+                told = told count.old;
+                tuned = tuned count.old;
+              };
+              trace = record {
+                asks = asks trace.old;
+                yeses = yeses trace.old;
+                told = told trace.old;
+                tuned = tuned trace.old;
+              };
+            })
+            (record {
+              count = record {
+                asks = asks count.new;
+                yeses = yeses count.new;
+                told = told count.new;
+                tuned = tuned count.new;
+              };
+              trace = record {
+                asks = asks trace.new;
+                yeses = yeses trace.new;
+                told = told trace.new;
+                tuned = tuned trace.new;
+              };
+            }) }
+        ensures yeses { (behind : List Event) × (self.new.events ≡ self.old.events ++ behind)
+            × YesesTold behind
+            (record {
+              count = record {
+                asks = asks count.old;
+                yeses = yeses count.old;
+                told = told count.old;
+                tuned = tuned count.old;
+              };
+              trace = record {
+                asks = asks trace.old;
+                yeses = yeses trace.old;
+                told = told trace.old;
+                tuned = tuned trace.old;
+              };
+            })
+            (record {
+              count = record {
+                asks = asks count.new;
+                yeses = yeses count.new;
+                told = told count.new;
+                tuned = tuned count.new;
+              };
+              trace = record {
+                asks = asks trace.new;
+                yeses = yeses trace.new;
+                told = told trace.new;
+                tuned = tuned trace.new;
+              };
+            }) }
         ensures writes { WritesOnly (machine_in self.old.parts) (machine_in self.new.parts) }
         ensures counts { Counts self.old.steps self.new.steps result }
         ensures reads_nothing { (t : Tree) (p : State) →
@@ -300,6 +361,66 @@ fn step_on<S: Source>(
         }) result }
     ensures reaches { OnInput input.old input.new (S.left source.old) (S.left source.new)
         (ReachesOn code.now (machine_in p.old) kept.old.events.items kept.new.events.items) }
+    ensures asked { AsksOn code.now (machine_in p.old) result
+        (record {
+          count = record {
+            asks = asks count.old;
+            yeses = yeses count.old;
+            told = told count.old;
+            tuned = tuned count.old;
+          };
+          trace = record {
+            asks = asks trace.old;
+            yeses = yeses trace.old;
+            told = told trace.old;
+            tuned = tuned trace.old;
+          };
+        })
+        (record {
+          count = record {
+            asks = asks count.new;
+            yeses = yeses count.new;
+            told = told count.new;
+            tuned = tuned count.new;
+          };
+          trace = record {
+            asks = asks trace.new;
+            yeses = yeses trace.new;
+            told = told trace.new;
+            tuned = tuned trace.new;
+          };
+        }) }
+    ensures yeses { (behind : List Event)
+        × (kept.new.events.items ≡ kept.old.events.items ++ behind)
+        × YesesTold behind
+        (record {
+          count = record {
+            asks = asks count.old;
+            yeses = yeses count.old;
+            told = told count.old;
+            tuned = tuned count.old;
+          };
+          trace = record {
+            asks = asks trace.old;
+            yeses = yeses trace.old;
+            told = told trace.old;
+            tuned = tuned trace.old;
+          };
+        })
+        (record {
+          count = record {
+            asks = asks count.new;
+            yeses = yeses count.new;
+            told = told count.new;
+            tuned = tuned count.new;
+          };
+          trace = record {
+            asks = asks trace.new;
+            yeses = yeses trace.new;
+            told = told trace.new;
+            tuned = tuned trace.new;
+          };
+        }) }
     ensures counts { Counts kept.old.steps kept.new.steps result }
     ensures reads_nothing { (t : Tree) (s : State) → Runs t code.now (machine_in p.old) s →
         first_asks s.items ≡ false → (input.new ≡ input.old) × (source.new ≡ source.old) }

@@ -9,6 +9,8 @@ use Rattle.rg_step.specs.Collections.{ReachesOn}
 use Rattle.rg_step.specs.Steps.{StepsOn}
 use Rattle.rg_step.proofs.ServeLemmas.{once-behind, serves-none, serves-refused, serves-shows, serves-some, steps-nowhere}
 use Rattle.rg_step.proofs.ReachedLemmas.{none-reached, serves-reached}
+use Rattle.rg_step.proofs.AskedLemmas.{asks-refused, asks-served, asks-undue}
+use Rattle.rg_step.proofs.YesLemmas.{no-yes, yeses-served}
 use Rattle.rg_step.proofs.stepper.step_on.Goals as goal
 
 pub returns-in_default-clause-step : goal.returns-in_default-clause-step
@@ -104,3 +106,42 @@ returns-clause-reaches g c =
     (c.serve.ensures.serves c.args.p.now c.args.kept.now.steps) c.is_sound.ensures.stands c.is_sound.ensures.serials
     c.is_sound.ensures.windows c.is_sound.ensures.forest c.is_sound-2.ensures.forest m c.args.kept.now.events.items
     (sym c.make_place.ensures.items) before after steps)
+
+pub returns-in_default-clause-asked : goal.returns-in_default-clause-asked
+returns-in_default-clause-asked g c = refl
+
+pub returns-then-not-made-clause-asked : goal.returns-then-not-made-clause-asked
+returns-then-not-made-clause-asked g c =
+    let no : is_made c.outcome-outcome.result ≡ false = sym c.is_made-made.ensures ∙ c.if-not-made.true in
+    asks-refused c.args.code.now (machine_in c.args.p.now) c.outcome-outcome.result _ _ no refl
+
+pub returns-in_default-due-clause-asked : goal.returns-in_default-due-clause-asked
+returns-in_default-due-clause-asked g c =
+    let made : is_made c.outcome-outcome.result ≡ true = sym c.is_made-made.ensures ∙ c.if-not-made.false in
+    let none : due_at c.args.code.now.ops c.args.p.now.at ≡ None =
+    sym (c.due_at-due.ensures ∙ ap (due_at c.args.code.now.ops) c.at.ensures) ∙ c.in_default-due.is in
+    asks-undue c.args.code.now (machine_in c.args.p.now) c.outcome-outcome.result _ _ made none refl
+
+pub returns-clause-asked : goal.returns-clause-asked
+returns-clause-asked g c =
+    let made : is_made c.outcome-outcome.result ≡ true = sym c.is_made-made.ensures ∙ c.if-not-made.false in
+    let some : due_at c.args.code.now.ops c.args.p.now.at ≡ Some c.in-Some.why =
+    sym (c.due_at-due.ensures ∙ ap (due_at c.args.code.now.ops) c.at.ensures) ∙ c.in-Some.is in
+    asks-served c.args.code.now (machine_in c.args.p.now) (Some c.in-Some.why) _ c.outcome-outcome.new.p
+    (stepping c.serve.new.p c.serve.new.kept) _ _ c.outcome-outcome.result _ _ _ _ made some
+    (c.serve.ensures.serves c.args.p.now c.args.kept.now.steps) c.is_sound.ensures.stands c.outcome-outcome.ensures.follows
+    c.outcome-outcome.ensures.step
+
+pub returns-in_default-clause-yeses : goal.returns-in_default-clause-yeses
+returns-in_default-clause-yeses g c = no-yes _ _ _ _ c.make_place.ensures.items refl
+
+pub returns-then-not-made-clause-yeses : goal.returns-then-not-made-clause-yeses
+returns-then-not-made-clause-yeses g c = no-yes _ _ _ _ c.make_place.ensures.items refl
+
+pub returns-in_default-due-clause-yeses : goal.returns-in_default-due-clause-yeses
+returns-in_default-due-clause-yeses g c = no-yes _ _ _ _ c.make_place.ensures.items refl
+
+pub returns-clause-yeses : goal.returns-clause-yeses
+returns-clause-yeses g c =
+    yeses-served (Some c.in-Some.why) _ c.outcome-outcome.new.p (stepping c.serve.new.p c.serve.new.kept) _ _ c.is_sound.ensures.stands
+    (c.serve.ensures.serves c.args.p.now c.args.kept.now.steps) c.args.kept.now.events.items c.make_place.ensures.items

@@ -48,3 +48,11 @@ returns-clause-writes g c =
 pub returns-clause-reaches : goal.returns-clause-reaches
 returns-clause-reaches g c =
     rw (← shows-some c.self.inside.machine c.in-Some.p c.self.inside.kept c.args.self.now c.in-Some.is c.self.view_is) c.step_on.ensures.reaches
+
+pub returns-clause-asked : goal.returns-clause-asked
+returns-clause-asked g c =
+    rw (← shows-some c.self.inside.machine c.in-Some.p c.self.inside.kept c.args.self.now c.in-Some.is c.self.view_is) c.step_on.ensures.asked
+
+pub returns-clause-yeses : goal.returns-clause-yeses
+returns-clause-yeses g c =
+    rw (← shows-some c.self.inside.machine c.in-Some.p c.self.inside.kept c.args.self.now c.in-Some.is c.self.view_is) c.step_on.ensures.yeses
