@@ -5,3 +5,4 @@ mod OutputLemmas
 mod ReportLemmas
 pub mod RunLemmas
 mod TurnLemmas
+mod AskLemmas

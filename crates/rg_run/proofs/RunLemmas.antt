@@ -11,6 +11,7 @@ use Rattle.rg_io.specs.Content.{Appends, AppendsPart}
 use Rattle.rg_tree.specs.Tree.{Class, Tree, Block, empty as none, then as followed_by}
 use Rattle.rg_tree.specs.Rows.Tables.{Tables}
 use Rattle.rg_tree.specs.Rows.RowTrees.{program_of, block_of}
+use Rattle.rg_rules.specs.Asks.{asks_from}
 use Rattle.rg_rules.specs.Items.{Item, EndAt, items_of}
 use Rattle.rg_rules.specs.State.{State}
 use Rattle.rg_rules.specs.Steps.{Stepped, Went, Trapped, step_item}
@@ -21,9 +22,10 @@ use Rattle.rg_input.proofs.InputLemmas.{OnInput-still}
 use Rattle.rg_plain.specs.Kept.{shown, items_from}
 use Rattle.rg_plain.specs.Machine.{Machine, Begins}
 use Rattle.rg_plain.specs.Runs.{WroteUpTo}
+use Rattle.rg_step.specs.Collections.{Asks}
 use Rattle.rg_step.specs.Steps.{Stepping}
+use Rattle.rg_run.specs.Asked.{AskedOver, RunsAsking}
 use Rattle.rg_run.specs.Machine.{IsFresh}
-use Rattle.rg_run.specs.Runs.{RunsOn}
 use Rattle.rg_run.proofs.OutputLemmas.{GoesOn, run-later, ends-block}
 
 -- main's block is never without a thing to do
@@ -37,15 +39,23 @@ unfolding items_from
 begun-some t m begins empty =
     opening-some (block_of t t.body) (sym (ap (λ s. s.items) (begins.state [])) ∙ ap (shown t) empty)
 
+-- no step has asked
+asked-first : (t : Tree) (input : List ℕ) (a : Asks) → AskedOver t input 0 a a
+unfolding asks_from
+asked-first t input a = record { count = refl; trace = refl }
+
+pub asked-none : (t : Tree) (input : List ℕ) (k : ℕ) (a : Asks) → k ≡ 0 → AskedOver t input k a a
+asked-none t input k a zero_is = let P : ℕ → Type 0 = λ q. AskedOver t input q a a in subst P (sym zero_is) (asked-first t input a)
+
 -- where none has begun, nothing was read
-pub not-begun : (t : Tables) (n : ℕ) (b : Bool) (p q : Stepping) (k : ℕ) (a : Pending) (left old : Option (List ℕ)) (still : Type 0) →
+pub not-begun : (t : Tables) (n : ℕ) (b : Bool) (p q : Stepping) (k : ℕ) (a : Pending) (left old : Option (List ℕ)) (still : Type 0) (first : Asks) →
     IsFresh (record { begun = b; stepper = p; steps = k }) → q ≡ p → still →
-    OnInput a a left left (RunsOn t n old old (record { begun = b; stepper = q; steps = k }) ended.Memory still)
-not-begun t n b p q k a left old still fresh same quiet =
+    OnInput a a left left (RunsAsking t n old old (record { begun = b; stepper = q; steps = k }) ended.Memory still first first)
+not-begun t n b p q k a left old still first fresh same quiet =
     let P : Stepping → Type 0 = λ r. IsFresh (record { begun = b; stepper = r; steps = k }) in
     let there : P q = subst P (sym same) fresh in
-    OnInput-still a a left left (RunsOn t n old old (record { begun = b; stepper = q; steps = k }) ended.Memory still) refl refl
-    (λ bytes. inl (record { answer_is = refl; fresh = there; untouched = refl; unread = quiet }))
+    OnInput-still a a left left (RunsAsking t n old old (record { begun = b; stepper = q; steps = k }) ended.Memory still first first) refl refl
+    (λ bytes. (inl (record { answer_is = refl; fresh = there; untouched = refl; unread = quiet }), asked-none (program_of t) bytes k first fresh.steps))
 
 -- a run is the one of as many steps as it made, and where it is done, that one is
 pub record IsRunOf (classes : List Class) (d n made : ℕ) (s : State) : Type 0 where

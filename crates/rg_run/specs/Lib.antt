@@ -2,4 +2,5 @@ pub mod Machine
 pub mod Sound
 pub mod Runs
 pub mod Reports
+pub mod Asked
 pub mod Inner

@@ -7,6 +7,8 @@ ghost use Rattle.rg_code.specs.Lowering.{Lowers};
 ghost use Rattle.rg_io.specs.Content.{Rose};
 ghost use Rattle.rg_input.specs.Numbers.{Follows, OnInput};
 ghost use Rattle.rg_machine.specs.Owned.{IsOwned};
+ghost use Rattle.rg_step.specs.Asking.{YesesTold};
+ghost use Rattle.rg_run.specs.Asked.{RunsAsking};
 ghost use Rattle.rg_run.specs.Machine.{IsFresh, IsShown, numbers_of};
 ghost use Rattle.rg_run.specs.Reports.{Reports};
 ghost use Rattle.rg_run.specs.Runs.{RunsOn};
@@ -102,7 +104,8 @@ impl Machine {
     /// Makes at most `n` steps of an accepted program by its code. Each printed line is given to
     /// `out` in its own step and, where `report` is true, the line of each collection to `notes` in
     /// its own. What the pacers answer decides nothing of what is written to `out`, nor of the
-    /// state that the machine shows.
+    /// state that the machine shows. A pacer is asked once for each step made that makes an object
+    /// by `new C` in a region of its manager, and each of its yeses is a collection.
     pub fn run<I: Source, O: Sink, R: Sink>(
         &mut self,
         alloc: Global,
@@ -128,6 +131,66 @@ impl Machine {
         ensures notes { Reports report result self.new.stepper.events
             (R.taken notes.old) (R.taken notes.new) }
         ensures tuned { (tuned count.new ≡ tuned count.old) × (tuned trace.new ≡ tuned trace.old) }
+        ensures asked { OnInput input.old input.new (I.left source.old) (I.left source.new)
+            (RunsAsking accepted.now.program n (O.taken out.old) (O.taken out.new) self.new
+            result ((input.new ≡ input.old) × (source.new ≡ source.old))
+            (record {
+              count = record {
+                asks = asks count.old;
+                yeses = yeses count.old;
+                told = told count.old;
+                tuned = tuned count.old;
+              };
+              trace = record {
+                asks = asks trace.old;
+                yeses = yeses trace.old;
+                told = told trace.old;
+                tuned = tuned trace.old;
+              };
+            })
+            (record {
+              count = record {
+                asks = asks count.new;
+                yeses = yeses count.new;
+                told = told count.new;
+                tuned = tuned count.new;
+              };
+              trace = record {
+                asks = asks trace.new;
+                yeses = yeses trace.new;
+                told = told trace.new;
+                tuned = tuned trace.new;
+              };
+            })) }
+        ensures yeses { YesesTold self.new.stepper.events
+            (record {
+              count = record {
+                asks = asks count.old;
+                yeses = yeses count.old;
+                told = told count.old;
+                tuned = tuned count.old;
+              };
+              trace = record {
+                asks = asks trace.old;
+                yeses = yeses trace.old;
+                told = told trace.old;
+                tuned = tuned trace.old;
+              };
+            })
+            (record {
+              count = record {
+                asks = asks count.new;
+                yeses = yeses count.new;
+                told = told count.new;
+                tuned = tuned count.new;
+              };
+              trace = record {
+                asks = asks trace.new;
+                yeses = yeses trace.new;
+                told = told trace.new;
+                tuned = tuned trace.new;
+              };
+            }) }
         ensures follows { Follows input.new (I.left source.new) }
 
         ensures input_fault { result ≡ Ended.InputFault →

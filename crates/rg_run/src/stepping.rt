@@ -1,16 +1,17 @@
 //! A step of the stack machine, as the loop of a run takes it (docs/language.md, "Steps").
 
-ghost use Rattle.std.specs.Prelude.{◌≡◌, ◌≤◌, false, true};
+ghost use Rattle.std.specs.Prelude.{◌≡◌, ◌≤◌, ◌++◌, List, false, true};
 ghost use Rattle.rg_io.specs.Content.{Rose};
 ghost use Rattle.rg_input.specs.Numbers.{Follows, OnInput};
 ghost use Rattle.rg_machine.specs.Parts.{machine_in};
 ghost use Rattle.rg_rules.specs.Inputs.{first_asks};
 ghost use Rattle.rg_rules.specs.State.{State};
+ghost use Rattle.rg_step.specs.Asking.{AsksOn, YesesTold};
 ghost use Rattle.rg_step.specs.Steps.{IsRunning, Runs, StepsOn};
 ghost use Rattle.rg_tree.specs.Tree.{Tree};
 ghost use Rattle.rg_run.specs.Inner.{Adds};
 
-use rg_base::Outcome;
+use rg_base::{Event, Outcome};
 use rg_code::CodeList;
 use rg_input::Numbers;
 use rg_io::Source;
@@ -33,6 +34,65 @@ pub(crate) fn step<S: Source>(
     ensures events { Adds stepper.old.events stepper.new.events result }
     ensures count { tuned count.new ≡ tuned count.old }
     ensures trace { tuned trace.new ≡ tuned trace.old }
+    ensures asked { AsksOn code.now (machine_in stepper.old.parts) result
+        (record {
+          count = record {
+            asks = asks count.old;
+            yeses = yeses count.old;
+            told = told count.old;
+            tuned = tuned count.old;
+          };
+          trace = record {
+            asks = asks trace.old;
+            yeses = yeses trace.old;
+            told = told trace.old;
+            tuned = tuned trace.old;
+          };
+        })
+        (record {
+          count = record {
+            asks = asks count.new;
+            yeses = yeses count.new;
+            told = told count.new;
+            tuned = tuned count.new;
+          };
+          trace = record {
+            asks = asks trace.new;
+            yeses = yeses trace.new;
+            told = told trace.new;
+            tuned = tuned trace.new;
+          };
+        }) }
+    ensures yeses { (behind : List Event) × (stepper.new.events ≡ stepper.old.events ++ behind)
+        × YesesTold behind
+        (record {
+          count = record {
+            asks = asks count.old;
+            yeses = yeses count.old;
+            told = told count.old;
+            tuned = tuned count.old;
+          };
+          trace = record {
+            asks = asks trace.old;
+            yeses = yeses trace.old;
+            told = told trace.old;
+            tuned = tuned trace.old;
+          };
+        })
+        (record {
+          count = record {
+            asks = asks count.new;
+            yeses = yeses count.new;
+            told = told count.new;
+            tuned = tuned count.new;
+          };
+          trace = record {
+            asks = asks trace.new;
+            yeses = yeses trace.new;
+            told = told trace.new;
+            tuned = tuned trace.new;
+          };
+        }) }
     ensures reads_nothing { (t : Tree) (p : State) →
         Runs t code.now (machine_in stepper.old.parts) p →
         first_asks p.items ≡ false → (input.new ≡ input.old) × (source.new ≡ source.old) }

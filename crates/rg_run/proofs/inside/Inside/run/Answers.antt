@@ -12,9 +12,10 @@ use Rattle.rg_input.proofs.InputLemmas.{OnInput-still, OnInput-map}
 use Rattle.rg_machine.specs.Parts.{machine_in}
 use Rattle.rg_step.specs.Steps.{Stepping, opening_machine, Runs, StepsOn}
 use Rattle.rg_run.specs.Machine.{Kept}
-use Rattle.rg_run.proofs.RunLemmas.{not-begun}
+use Rattle.rg_run.proofs.AskLemmas.{asked-by, asked-leapt, yeses-none, yeses-of, yeses-more}
+use Rattle.rg_run.proofs.RunLemmas.{asked-none, not-begun}
 use Rattle.rg_run.proofs.TurnLemmas.{Between, Turns, RanOn, begins, quiet, printed, done, trapped, cut_before, cut_at_input, cut_behind, spent, is-running}
-use Rattle.rg_run.proofs.TurnLemmas.{turn, told, leapt, untold, done_untold}
+use Rattle.rg_run.proofs.TurnLemmas.{turn, told, ran-only, leapt, untold, done_untold}
 use Rattle.rg_run.proofs.ReportLemmas.{reports-none, reports-whole, reports-same, reports-part, reports-front, reports-of, reports-unbegun, untold-input}
 use Rattle.rg_run.proofs.inside.Inside.run.Goals as goal
 
@@ -41,15 +42,18 @@ loop-self-init g c =
       trace_tuned = refl;
       reports = reports-same c.args.report ended.Spent [] c.begin.new.self.events _ _ (ap (λ (s : Stepping). s.events) h.2)
           (reports-none c.args.report (g.R.Sink.taken c.args.notes.now));
-      turns = OnInput-still _ _ _ _ (Turns t code c.args.self.now.steps m content content Still) refl refl (λ bytes.
-          let Q : ℕ → Type 0 = λ k. Between t code k m content content Still bytes bytes in
-          subst Q (sym c.requires.fresh.steps)
-          (begins t code m content Still bytes accepted c.requires.lowers is (Appends-none content) (refl, refl)));
+      yeses = yeses-none c.begin.new.self.events _ (ap (λ (s : Stepping). s.events) h.2);
+      turns = OnInput-still _ _ _ _ (Turns t code c.args.self.now.steps m content content Still _ _) refl refl (λ bytes.
+          let Q : ℕ → Type 0 = λ k. Between t code k m content content Still bytes bytes in (
+            subst Q (sym c.requires.fresh.steps)
+                (begins t code m content Still bytes accepted c.requires.lowers is (Appends-none content) (refl, refl)),
+            asked-none (program_of t) bytes c.args.self.now.steps _ c.requires.fresh.steps,
+          ));
     }
 
 pub step-requires-clause-runs : goal.step-requires-clause-runs
 step-requires-clause-runs g c =
-    is-running c.args.accepted.now.program c.args.code.now c.loop-self.self.steps (machine_in c.loop-self.self.stepper.parts) _ _ _ _ _ _ _
+    is-running c.args.accepted.now.program c.args.code.now c.loop-self.self.steps (machine_in c.loop-self.self.stepper.parts) _ _ _ _ _ _ _ _ _
     c.loop-self.invariant.follows c.loop-self.invariant.turns
 
 pub leap-requires : goal.leap-requires
@@ -65,10 +69,13 @@ leap-requires g c =
     let After : Type 0 = (c.step.new.input ≡ c.args.input.now) × (c.step.new.source ≡ c.args.source.now) in
     let more : (p : State) → Runs (program_of t) code m p → first_asks p.items ≡ false → Before → After =
     (λ p runs no b. let n = c.in-Running.ensures.reads_nothing (program_of t) p runs no in (n.0 ∙ b.0, n.1 ∙ b.1)) in
-    let stepped = turn _ _ _ _ _ _ (Turns t code k m old middle Before) (StepsOn code m (machine_in new.parts) outcome.Running)
-    (Turns t code (k + 1) (machine_in new.parts) old middle After) c.loop-self.invariant.turns c.in-Running.ensures.step
-    (λ x y z b step. quiet t code k m (machine_in new.parts) Before After x y z more old middle b step) in
-    is-running t code (k + 1) (machine_in new.parts) _ _ _ _ _ _ _ c.in-Running.ensures.follows stepped
+    let stepped = turn _ _ _ _ _ _ (Turns t code k m old middle Before _ _) (StepsOn code m (machine_in new.parts) outcome.Running)
+    (Turns t code (k + 1) (machine_in new.parts) old middle After _ _) c.loop-self.invariant.turns c.in-Running.ensures.step
+    (λ x y z b step. (
+      quiet t code k m (machine_in new.parts) Before After x y z more old middle b.0 step,
+      asked-by t code k m old middle Before x y _ _ b.0 b.1 (machine_in new.parts) z _ outcome.Running step c.in-Running.ensures.asked,
+    )) in
+    is-running t code (k + 1) (machine_in new.parts) _ _ _ _ _ _ _ _ _ c.in-Running.ensures.follows stepped
 
 pub loop-self-preserved-in-Running : goal.loop-self-preserved-in-Running
 loop-self-preserved-in-Running g c =
@@ -84,9 +91,12 @@ loop-self-preserved-in-Running g c =
     let within : k < c.args.n = omega (arith, c.loop-self-test.true) in
     let more : (p : State) → Runs (program_of t) code m p → first_asks p.items ≡ false → Before → After =
     (λ p runs no b. let n = c.in-Running.ensures.reads_nothing (program_of t) p runs no in (n.0 ∙ b.0, n.1 ∙ b.1)) in
-    let stepped = turn _ _ _ _ _ _ (Turns t code k m old middle Before) (StepsOn code m (machine_in new.parts) outcome.Running)
-    (Turns t code (k + 1) (machine_in new.parts) old middle After) c.loop-self.invariant.turns c.in-Running.ensures.step
-    (λ x y z b step. quiet t code k m (machine_in new.parts) Before After x y z more old middle b step) in
+    let stepped = turn _ _ _ _ _ _ (Turns t code k m old middle Before _ _) (StepsOn code m (machine_in new.parts) outcome.Running)
+    (Turns t code (k + 1) (machine_in new.parts) old middle After _ _) c.loop-self.invariant.turns c.in-Running.ensures.step
+    (λ x y z b step. (
+      quiet t code k m (machine_in new.parts) Before After x y z more old middle b.0 step,
+      asked-by t code k m old middle Before x y _ _ b.0 b.1 (machine_in new.parts) z _ outcome.Running step c.in-Running.ensures.asked,
+    )) in
     record {
       begun = c.loop-self.invariant.begun;
       follows = c.in-Running.ensures.follows;
@@ -101,8 +111,13 @@ loop-self-preserved-in-Running g c =
           (c.in-Ok-tell.ensures.reports (g.R.Sink.taken c.args.notes.now)
           (reports-front c.args.report c.loop-self.self.stepper.events c.step.new.stepper.events c.events-told.result.now c.events.result.now _ _ c.events-told.ensures c.events.ensures
           c.in-Running.ensures.events c.loop-self.invariant.reports)));
-      turns = OnInput-map _ _ _ _ (Turns t code (k + 1) (machine_in new.parts) old middle After) (Turns t code (k + 1 + c.leap.result) (machine_in c.leap.new.self.parts) old middle After)
-          stepped (λ x y b. leapt t code (k + 1) c.leap.result (machine_in new.parts) (machine_in c.leap.new.self.parts) After x y old middle b c.leap.ensures.leaps);
+      yeses = yeses-of new.events c.leap.new.self.events _ _ c.leap.ensures.events
+          (yeses-more c.loop-self.self.stepper.events new.events _ _ _ c.loop-self.invariant.yeses c.in-Running.ensures.yeses);
+      turns = OnInput-map _ _ _ _ (Turns t code (k + 1) (machine_in new.parts) old middle After _ _) (Turns t code (k + 1 + c.leap.result) (machine_in c.leap.new.self.parts) old middle After _ _)
+          stepped (λ x y b. (
+            leapt t code (k + 1) c.leap.result (machine_in new.parts) (machine_in c.leap.new.self.parts) After x y old middle b.0 c.leap.ensures.leaps,
+            asked-leapt t code (k + 1) c.leap.result (machine_in new.parts) (machine_in c.leap.new.self.parts) After x y old middle _ _ b.0 b.1 c.leap.ensures.leaps,
+          ));
     }
 
 pub loop-self-preserved : goal.loop-self-preserved
@@ -134,13 +149,17 @@ loop-self-preserved g c =
           (c.in-Ok-tell-2.ensures.reports (g.R.Sink.taken c.args.notes.now)
           (reports-front c.args.report c.loop-self.self.stepper.events c.step.new.stepper.events c.events-told.result.now c.events-in-Printed.result.now _ _ c.events-told.ensures c.events-in-Printed.ensures
           c.in-Printed.ensures.events c.loop-self.invariant.reports));
-      turns = turn _ _ _ _ _ _ (Turns t code k m old middle Before) (StepsOn code m (machine_in new.parts) (outcome.Printed v))
-          (Turns t code (k + 1) (machine_in new.parts) old out After) c.loop-self.invariant.turns c.in-Printed.ensures.step
-          (λ x y z b step. printed t code k m (machine_in new.parts) Before After x y z more v old middle out b step c.in-Ok-put_value.ensures.ok);
+      yeses = yeses-more c.loop-self.self.stepper.events new.events _ _ _ c.loop-self.invariant.yeses c.in-Printed.ensures.yeses;
+      turns = turn _ _ _ _ _ _ (Turns t code k m old middle Before _ _) (StepsOn code m (machine_in new.parts) (outcome.Printed v))
+          (Turns t code (k + 1) (machine_in new.parts) old out After _ _) c.loop-self.invariant.turns c.in-Printed.ensures.step
+          (λ x y z b step. (
+            printed t code k m (machine_in new.parts) Before After x y z more v old middle out b.0 step c.in-Ok-put_value.ensures.ok,
+            asked-by t code k m old middle Before x y _ _ b.0 b.1 (machine_in new.parts) z _ (outcome.Printed v) step c.in-Printed.ensures.asked,
+          ));
     }
 
-pub returns-in-Err-clause-run : goal.returns-in-Err-clause-run
-returns-in-Err-clause-run g c =
+pub returns-in-Err-clause-asked : goal.returns-in-Err-clause-asked
+returns-in-Err-clause-asked g c =
     let t = c.args.accepted.now.program in
     let code = c.args.code.now in
     let k = c.loop-self.self.steps in
@@ -155,14 +174,20 @@ returns-in-Err-clause-run g c =
     (λ p runs no b. let n = c.in-Running.ensures.reads_nothing (program_of t) p runs no in (n.0 ∙ b.0, n.1 ∙ b.1)) in
     let e = c.in-Err.ended in
     let behind : Kept = record { begun = c.loop-self.self.begun; stepper = new; steps = k + 1 } in
-    told _ _ _ _ t c.args.n old middle behind e After
-    (turn _ _ _ _ _ _ (Turns t code k m old middle Before) (StepsOn code m (machine_in new.parts) outcome.Running) (RanOn t c.args.n old middle behind e After)
+    told _ _ _ _ t c.args.n old middle behind e After _ _
+    (turn _ _ _ _ _ _ (Turns t code k m old middle Before _ _) (StepsOn code m (machine_in new.parts) outcome.Running) (RanOn t c.args.n old middle behind e After _ _)
     c.loop-self.invariant.turns c.in-Running.ensures.step
-    (λ x y z b step. untold t code c.args.n (k + 1) new old middle After x z c.loop-self.self.begun c.loop-self.invariant.begun (omega (arith, within)) e
-    c.in-Err.ensures.untold (quiet t code k m (machine_in new.parts) Before After x y z more old middle b step)))
+    (λ x y z b step. (
+      untold t code c.args.n (k + 1) new old middle After x z c.loop-self.self.begun c.loop-self.invariant.begun (omega (arith, within)) e
+          c.in-Err.ensures.untold (quiet t code k m (machine_in new.parts) Before After x y z more old middle b.0 step),
+      asked-by t code k m old middle Before x y _ _ b.0 b.1 (machine_in new.parts) z _ outcome.Running step c.in-Running.ensures.asked,
+    )))
 
-pub returns-in-Err-put_value-clause-run : goal.returns-in-Err-put_value-clause-run
-returns-in-Err-put_value-clause-run g c =
+pub returns-in-Err-clause-run : goal.returns-in-Err-clause-run
+returns-in-Err-clause-run g c = ran-only (returns-in-Err-clause-asked g c)
+
+pub returns-in-Err-put_value-clause-asked : goal.returns-in-Err-put_value-clause-asked
+returns-in-Err-put_value-clause-asked g c =
     let t = c.args.accepted.now.program in
     let code = c.args.code.now in
     let k = c.loop-self.self.steps in
@@ -178,13 +203,19 @@ returns-in-Err-put_value-clause-run g c =
     let v = c.in-Printed.v in
     let out = g.O.Sink.taken c.put_value.new.out in
     let behind : Kept = record { begun = c.loop-self.self.begun; stepper = new; steps = k + 1 } in
-    told _ _ _ _ t c.args.n old out behind ended.OutputFault After
-    (turn _ _ _ _ _ _ (Turns t code k m old middle Before) (StepsOn code m (machine_in new.parts) (outcome.Printed v)) (RanOn t c.args.n old out behind ended.OutputFault After)
+    told _ _ _ _ t c.args.n old out behind ended.OutputFault After _ _
+    (turn _ _ _ _ _ _ (Turns t code k m old middle Before _ _) (StepsOn code m (machine_in new.parts) (outcome.Printed v)) (RanOn t c.args.n old out behind ended.OutputFault After _ _)
     c.loop-self.invariant.turns c.in-Printed.ensures.step
-    (λ x y z b step. cut_behind t code c.args.n k within m new Before After x y z more c.loop-self.self.begun c.loop-self.invariant.begun v old middle out b step c.in-Err-put_value.ensures.part))
+    (λ x y z b step. (
+      cut_behind t code c.args.n k within m new Before After x y z more c.loop-self.self.begun c.loop-self.invariant.begun v old middle out b.0 step c.in-Err-put_value.ensures.part,
+      asked-by t code k m old middle Before x y _ _ b.0 b.1 (machine_in new.parts) z _ (outcome.Printed v) step c.in-Printed.ensures.asked,
+    )))
 
-pub returns-in-Err-tell-clause-run : goal.returns-in-Err-tell-clause-run
-returns-in-Err-tell-clause-run g c =
+pub returns-in-Err-put_value-clause-run : goal.returns-in-Err-put_value-clause-run
+returns-in-Err-put_value-clause-run g c = ran-only (returns-in-Err-put_value-clause-asked g c)
+
+pub returns-in-Err-tell-clause-asked : goal.returns-in-Err-tell-clause-asked
+returns-in-Err-tell-clause-asked g c =
     let t = c.args.accepted.now.program in
     let code = c.args.code.now in
     let k = c.loop-self.self.steps in
@@ -201,15 +232,21 @@ returns-in-Err-tell-clause-run g c =
     let out = g.O.Sink.taken c.put_value.new.out in
     let e = c.in-Err-tell.ended in
     let behind : Kept = record { begun = c.loop-self.self.begun; stepper = new; steps = k + 1 } in
-    told _ _ _ _ t c.args.n old out behind e After
-    (turn _ _ _ _ _ _ (Turns t code k m old middle Before) (StepsOn code m (machine_in new.parts) (outcome.Printed v)) (RanOn t c.args.n old out behind e After)
+    told _ _ _ _ t c.args.n old out behind e After _ _
+    (turn _ _ _ _ _ _ (Turns t code k m old middle Before _ _) (StepsOn code m (machine_in new.parts) (outcome.Printed v)) (RanOn t c.args.n old out behind e After _ _)
     c.loop-self.invariant.turns c.in-Printed.ensures.step
-    (λ x y z b step. untold t code c.args.n (k + 1) new old out After x z c.loop-self.self.begun c.loop-self.invariant.begun (omega (arith, within)) e
-    c.in-Err-tell.ensures.untold
-    (printed t code k m (machine_in new.parts) Before After x y z more v old middle out b step c.in-Ok-put_value.ensures.ok)))
+    (λ x y z b step. (
+      untold t code c.args.n (k + 1) new old out After x z c.loop-self.self.begun c.loop-self.invariant.begun (omega (arith, within)) e
+          c.in-Err-tell.ensures.untold
+          (printed t code k m (machine_in new.parts) Before After x y z more v old middle out b.0 step c.in-Ok-put_value.ensures.ok),
+      asked-by t code k m old middle Before x y _ _ b.0 b.1 (machine_in new.parts) z _ (outcome.Printed v) step c.in-Printed.ensures.asked,
+    )))
 
-pub returns-in-Err-tell-2-clause-run : goal.returns-in-Err-tell-2-clause-run
-returns-in-Err-tell-2-clause-run g c =
+pub returns-in-Err-tell-clause-run : goal.returns-in-Err-tell-clause-run
+returns-in-Err-tell-clause-run g c = ran-only (returns-in-Err-tell-clause-asked g c)
+
+pub returns-in-Err-tell-2-clause-asked : goal.returns-in-Err-tell-2-clause-asked
+returns-in-Err-tell-2-clause-asked g c =
     let t = c.args.accepted.now.program in
     let code = c.args.code.now in
     let k = c.loop-self.self.steps in
@@ -224,14 +261,20 @@ returns-in-Err-tell-2-clause-run g c =
     (λ p runs no b. let n = c.in-Done.ensures.reads_nothing (program_of t) p runs no in (n.0 ∙ b.0, n.1 ∙ b.1)) in
     let e = c.in-Err-tell-2.ended in
     let behind : Kept = record { begun = c.loop-self.self.begun; stepper = new; steps = k + 1 } in
-    told _ _ _ _ t c.args.n old middle behind e After
-    (turn _ _ _ _ _ _ (Turns t code k m old middle Before) (StepsOn code m (machine_in new.parts) outcome.Done) (RanOn t c.args.n old middle behind e After)
+    told _ _ _ _ t c.args.n old middle behind e After _ _
+    (turn _ _ _ _ _ _ (Turns t code k m old middle Before _ _) (StepsOn code m (machine_in new.parts) outcome.Done) (RanOn t c.args.n old middle behind e After _ _)
     c.loop-self.invariant.turns c.in-Done.ensures.step
-    (λ x y z b step. done_untold t code c.args.n k within m new Before After x y z more c.loop-self.self.begun c.loop-self.invariant.begun e
-    c.in-Err-tell-2.ensures.untold old middle b step))
+    (λ x y z b step. (
+      done_untold t code c.args.n k within m new Before After x y z more c.loop-self.self.begun c.loop-self.invariant.begun e
+          c.in-Err-tell-2.ensures.untold old middle b.0 step,
+      asked-by t code k m old middle Before x y _ _ b.0 b.1 (machine_in new.parts) z _ outcome.Done step c.in-Done.ensures.asked,
+    )))
 
-pub returns-in-Done-clause-run : goal.returns-in-Done-clause-run
-returns-in-Done-clause-run g c =
+pub returns-in-Err-tell-2-clause-run : goal.returns-in-Err-tell-2-clause-run
+returns-in-Err-tell-2-clause-run g c = ran-only (returns-in-Err-tell-2-clause-asked g c)
+
+pub returns-in-Done-clause-asked : goal.returns-in-Done-clause-asked
+returns-in-Done-clause-asked g c =
     let t = c.args.accepted.now.program in
     let code = c.args.code.now in
     let k = c.loop-self.self.steps in
@@ -245,13 +288,19 @@ returns-in-Done-clause-run g c =
     let more : (p : State) → Runs (program_of t) code m p → first_asks p.items ≡ false → Before → After =
     (λ p runs no b. let n = c.in-Done.ensures.reads_nothing (program_of t) p runs no in (n.0 ∙ b.0, n.1 ∙ b.1)) in
     let behind : Kept = record { begun = c.loop-self.self.begun; stepper = new; steps = k + 1 } in
-    told _ _ _ _ t c.args.n old middle behind ended.Done After
-    (turn _ _ _ _ _ _ (Turns t code k m old middle Before) (StepsOn code m (machine_in new.parts) outcome.Done) (RanOn t c.args.n old middle behind ended.Done After)
+    told _ _ _ _ t c.args.n old middle behind ended.Done After _ _
+    (turn _ _ _ _ _ _ (Turns t code k m old middle Before _ _) (StepsOn code m (machine_in new.parts) outcome.Done) (RanOn t c.args.n old middle behind ended.Done After _ _)
     c.loop-self.invariant.turns c.in-Done.ensures.step
-    (λ x y z b step. done t code c.args.n k within m new Before After x y z more c.loop-self.self.begun c.loop-self.invariant.begun old middle b step))
+    (λ x y z b step. (
+      done t code c.args.n k within m new Before After x y z more c.loop-self.self.begun c.loop-self.invariant.begun old middle b.0 step,
+      asked-by t code k m old middle Before x y _ _ b.0 b.1 (machine_in new.parts) z _ outcome.Done step c.in-Done.ensures.asked,
+    )))
 
-pub returns-in-Trap-clause-run : goal.returns-in-Trap-clause-run
-returns-in-Trap-clause-run g c =
+pub returns-in-Done-clause-run : goal.returns-in-Done-clause-run
+returns-in-Done-clause-run g c = ran-only (returns-in-Done-clause-asked g c)
+
+pub returns-in-Trap-clause-asked : goal.returns-in-Trap-clause-asked
+returns-in-Trap-clause-asked g c =
     let t = c.args.accepted.now.program in
     let code = c.args.code.now in
     let k = c.loop-self.self.steps in
@@ -267,13 +316,19 @@ returns-in-Trap-clause-run g c =
     let kind = c.in-Trap.kind in
     let line = c.in-Trap.line in
     let behind : Kept = record { begun = c.loop-self.self.begun; stepper = new; steps = k } in
-    told _ _ _ _ t c.args.n old middle behind (ended.Trap kind line) After
-    (turn _ _ _ _ _ _ (Turns t code k m old middle Before) (StepsOn code m (machine_in new.parts) (outcome.Trap kind line)) (RanOn t c.args.n old middle behind (ended.Trap kind line) After)
+    told _ _ _ _ t c.args.n old middle behind (ended.Trap kind line) After _ _
+    (turn _ _ _ _ _ _ (Turns t code k m old middle Before _ _) (StepsOn code m (machine_in new.parts) (outcome.Trap kind line)) (RanOn t c.args.n old middle behind (ended.Trap kind line) After _ _)
     c.loop-self.invariant.turns c.in-Trap.ensures.step
-    (λ x y z b step. trapped t code c.args.n k within m new Before After x y z more c.loop-self.self.begun c.loop-self.invariant.begun kind line old middle b step))
+    (λ x y z b step. (
+      trapped t code c.args.n k within m new Before After x y z more c.loop-self.self.begun c.loop-self.invariant.begun kind line old middle b.0 step,
+      asked-by t code k m old middle Before x y _ _ b.0 b.1 (machine_in new.parts) z _ (outcome.Trap kind line) step c.in-Trap.ensures.asked,
+    )))
 
-pub returns-in-InputFault-clause-run : goal.returns-in-InputFault-clause-run
-returns-in-InputFault-clause-run g c =
+pub returns-in-Trap-clause-run : goal.returns-in-Trap-clause-run
+returns-in-Trap-clause-run g c = ran-only (returns-in-Trap-clause-asked g c)
+
+pub returns-in-InputFault-clause-asked : goal.returns-in-InputFault-clause-asked
+returns-in-InputFault-clause-asked g c =
     let t = c.args.accepted.now.program in
     let code = c.args.code.now in
     let k = c.loop-self.self.steps in
@@ -287,14 +342,20 @@ returns-in-InputFault-clause-run g c =
     let more : (p : State) → Runs (program_of t) code m p → first_asks p.items ≡ false → Before → After =
     (λ p runs no b. let n = c.in-InputFault.ensures.reads_nothing (program_of t) p runs no in (n.0 ∙ b.0, n.1 ∙ b.1)) in
     let behind : Kept = record { begun = c.loop-self.self.begun; stepper = new; steps = k } in
-    told _ _ _ _ t c.args.n old middle behind ended.InputFault After
-    (turn _ _ _ _ _ _ (Turns t code k m old middle Before) (StepsOn code m (machine_in new.parts) outcome.InputFault) (RanOn t c.args.n old middle behind ended.InputFault After)
+    told _ _ _ _ t c.args.n old middle behind ended.InputFault After _ _
+    (turn _ _ _ _ _ _ (Turns t code k m old middle Before _ _) (StepsOn code m (machine_in new.parts) outcome.InputFault) (RanOn t c.args.n old middle behind ended.InputFault After _ _)
     c.loop-self.invariant.turns c.in-InputFault.ensures.step
-    (λ x y z b step. cut_at_input t code c.args.n k within m new Before After x y z more c.loop-self.self.begun c.loop-self.invariant.begun old middle
-    (c.in-InputFault.ensures.input_fault refl (program_of t)) b step))
+    (λ x y z b step. (
+      cut_at_input t code c.args.n k within m new Before After x y z more c.loop-self.self.begun c.loop-self.invariant.begun old middle
+          (c.in-InputFault.ensures.input_fault refl (program_of t)) b.0 step,
+      asked-by t code k m old middle Before x y _ _ b.0 b.1 (machine_in new.parts) z _ outcome.InputFault step c.in-InputFault.ensures.asked,
+    )))
 
-pub returns-in-Memory-clause-run : goal.returns-in-Memory-clause-run
-returns-in-Memory-clause-run g c =
+pub returns-in-InputFault-clause-run : goal.returns-in-InputFault-clause-run
+returns-in-InputFault-clause-run g c = ran-only (returns-in-InputFault-clause-asked g c)
+
+pub returns-in-Memory-clause-asked : goal.returns-in-Memory-clause-asked
+returns-in-Memory-clause-asked g c =
     let t = c.args.accepted.now.program in
     let code = c.args.code.now in
     let k = c.loop-self.self.steps in
@@ -308,13 +369,19 @@ returns-in-Memory-clause-run g c =
     let more : (p : State) → Runs (program_of t) code m p → first_asks p.items ≡ false → Before → After =
     (λ p runs no b. let n = c.in-Memory.ensures.reads_nothing (program_of t) p runs no in (n.0 ∙ b.0, n.1 ∙ b.1)) in
     let behind : Kept = record { begun = c.loop-self.self.begun; stepper = new; steps = k } in
-    told _ _ _ _ t c.args.n old middle behind ended.Memory After
-    (turn _ _ _ _ _ _ (Turns t code k m old middle Before) (StepsOn code m (machine_in new.parts) outcome.Memory) (RanOn t c.args.n old middle behind ended.Memory After)
+    told _ _ _ _ t c.args.n old middle behind ended.Memory After _ _
+    (turn _ _ _ _ _ _ (Turns t code k m old middle Before _ _) (StepsOn code m (machine_in new.parts) outcome.Memory) (RanOn t c.args.n old middle behind ended.Memory After _ _)
     c.loop-self.invariant.turns c.in-Memory.ensures.step
-    (λ x y z b step. cut_before t code c.args.n k within m new Before After x y z more c.loop-self.self.begun c.loop-self.invariant.begun old middle b step))
+    (λ x y z b step. (
+      cut_before t code c.args.n k within m new Before After x y z more c.loop-self.self.begun c.loop-self.invariant.begun old middle b.0 step,
+      asked-by t code k m old middle Before x y _ _ b.0 b.1 (machine_in new.parts) z _ outcome.Memory step c.in-Memory.ensures.asked,
+    )))
 
-pub returns-clause-run : goal.returns-clause-run
-returns-clause-run g c =
+pub returns-in-Memory-clause-run : goal.returns-in-Memory-clause-run
+returns-in-Memory-clause-run g c = ran-only (returns-in-Memory-clause-asked g c)
+
+pub returns-clause-asked : goal.returns-clause-asked
+returns-clause-asked g c =
     let t = c.args.accepted.now.program in
     let code = c.args.code.now in
     let k = c.loop-self.self.steps in
@@ -324,13 +391,19 @@ returns-clause-run g c =
     let Still : Type 0 = (c.loop-self.input ≡ c.args.input.now) × (c.loop-self.source ≡ c.args.source.now) in
     let all : k ≡ c.args.n = omega (arith, c.loop-self-test.false, c.loop-self.invariant.within) in
     let behind : Kept = record { begun = c.loop-self.self.begun; stepper = st; steps = k } in
-    told _ _ _ _ t c.args.n old out behind ended.Spent Still
-    (OnInput-map _ _ _ _ (Turns t code k (machine_in st.parts) old out Still) (RanOn t c.args.n old out behind ended.Spent Still) c.loop-self.invariant.turns
-    (λ before after b. spent t code c.args.n k st old out Still before after c.loop-self.self.begun c.loop-self.invariant.begun all b))
+    told _ _ _ _ t c.args.n old out behind ended.Spent Still _ _
+    (OnInput-map _ _ _ _ (Turns t code k (machine_in st.parts) old out Still _ _) (RanOn t c.args.n old out behind ended.Spent Still _ _) c.loop-self.invariant.turns
+    (λ before after b. (spent t code c.args.n k st old out Still before after c.loop-self.self.begun c.loop-self.invariant.begun all b.0, b.1)))
+
+pub returns-clause-run : goal.returns-clause-run
+returns-clause-run g c = ran-only (returns-clause-asked g c)
+
+pub returns-in_default-clause-asked : goal.returns-in_default-clause-asked
+returns-in_default-clause-asked g c =
+    not-begun _ c.args.n _ _ _ _ _ _ _ _ _ c.requires.fresh c.in_default.ensures.kept (refl, refl)
 
 pub returns-in_default-clause-run : goal.returns-in_default-clause-run
-returns-in_default-clause-run g c =
-    not-begun _ c.args.n _ _ _ _ _ _ _ _ c.requires.fresh c.in_default.ensures.kept (refl, refl)
+returns-in_default-clause-run g c = ran-only (returns-in_default-clause-asked g c)
 
 pub returns-in-Err-clause-notes : goal.returns-in-Err-clause-notes
 returns-in-Err-clause-notes g c =
@@ -380,6 +453,44 @@ returns-in-Memory-clause-notes g c =
 pub returns-in_default-clause-notes : goal.returns-in_default-clause-notes
 returns-in_default-clause-notes g c =
     reports-unbegun c.args.report _ _ (ap (λ (s : Stepping). s.events) (c.in_default.ensures.kept ∙ c.requires.fresh.stepper))
+
+pub returns-in-Err-clause-yeses : goal.returns-in-Err-clause-yeses
+returns-in-Err-clause-yeses g c =
+    yeses-more c.loop-self.self.stepper.events c.step.new.stepper.events _ _ _ c.loop-self.invariant.yeses c.in-Running.ensures.yeses
+
+pub returns-in-Err-put_value-clause-yeses : goal.returns-in-Err-put_value-clause-yeses
+returns-in-Err-put_value-clause-yeses g c =
+    yeses-more c.loop-self.self.stepper.events c.step.new.stepper.events _ _ _ c.loop-self.invariant.yeses c.in-Printed.ensures.yeses
+
+pub returns-in-Err-tell-clause-yeses : goal.returns-in-Err-tell-clause-yeses
+returns-in-Err-tell-clause-yeses g c =
+    yeses-more c.loop-self.self.stepper.events c.step.new.stepper.events _ _ _ c.loop-self.invariant.yeses c.in-Printed.ensures.yeses
+
+pub returns-in-Err-tell-2-clause-yeses : goal.returns-in-Err-tell-2-clause-yeses
+returns-in-Err-tell-2-clause-yeses g c =
+    yeses-more c.loop-self.self.stepper.events c.step.new.stepper.events _ _ _ c.loop-self.invariant.yeses c.in-Done.ensures.yeses
+
+pub returns-in-Done-clause-yeses : goal.returns-in-Done-clause-yeses
+returns-in-Done-clause-yeses g c =
+    yeses-more c.loop-self.self.stepper.events c.step.new.stepper.events _ _ _ c.loop-self.invariant.yeses c.in-Done.ensures.yeses
+
+pub returns-in-Trap-clause-yeses : goal.returns-in-Trap-clause-yeses
+returns-in-Trap-clause-yeses g c =
+    yeses-more c.loop-self.self.stepper.events c.step.new.stepper.events _ _ _ c.loop-self.invariant.yeses c.in-Trap.ensures.yeses
+
+pub returns-in-InputFault-clause-yeses : goal.returns-in-InputFault-clause-yeses
+returns-in-InputFault-clause-yeses g c =
+    yeses-more c.loop-self.self.stepper.events c.step.new.stepper.events _ _ _ c.loop-self.invariant.yeses c.in-InputFault.ensures.yeses
+
+pub returns-in-Memory-clause-yeses : goal.returns-in-Memory-clause-yeses
+returns-in-Memory-clause-yeses g c =
+    yeses-more c.loop-self.self.stepper.events c.step.new.stepper.events _ _ _ c.loop-self.invariant.yeses c.in-Memory.ensures.yeses
+
+pub returns-clause-yeses : goal.returns-clause-yeses
+returns-clause-yeses g c = c.loop-self.invariant.yeses
+
+pub returns-in_default-clause-yeses : goal.returns-in_default-clause-yeses
+returns-in_default-clause-yeses g c = yeses-none _ _ (ap (λ (s : Stepping). s.events) (c.in_default.ensures.kept ∙ c.requires.fresh.stepper))
 
 pub returns-in-Err-clause-tuned : goal.returns-in-Err-clause-tuned
 returns-in-Err-clause-tuned g c =

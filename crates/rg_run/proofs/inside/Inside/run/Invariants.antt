@@ -3,6 +3,7 @@ use Rattle.std.proofs.Common.{◌≡◌, ◌-◌, ◌≤◌, true}
 use Rattle.rg_base.specs.declared.outcome.Ended.TheVariants as ended
 use Rattle.rg_input.specs.Numbers.{Follows, OnInput}
 use Rattle.rg_machine.specs.Parts.{machine_in}
+use Rattle.rg_step.specs.Asking.{YesesTold}
 use Rattle.rg_run.specs.Reports.{Reports}
 use Rattle.rg_run.proofs.TurnLemmas.{Turns}
 use Rattle.rg_run.proofs.inside.Inside.run.Given as goal
@@ -18,9 +19,64 @@ invariant-loop-self g l = record {
   count_tuned : (goal.Pacer-dyn g l.count.now).tuned l.count.now.1 ≡ (goal.Pacer-dyn g l.fn.count.now).tuned l.fn.count.now.1;
   trace_tuned : (goal.Pacer-dyn g l.trace.now).tuned l.trace.now.1 ≡ (goal.Pacer-dyn g l.fn.trace.now).tuned l.fn.trace.now.1;
   reports : Reports l.report ended.Spent l.self.stepper.events (g.R.Sink.taken l.fn.notes) (g.R.Sink.taken l.notes);
+  yeses : YesesTold l.self.stepper.events (record {
+    count = record {
+      asks = (goal.Pacer-dyn g l.fn.count.now).asks l.fn.count.now.1;
+      yeses = (goal.Pacer-dyn g l.fn.count.now).yeses l.fn.count.now.1;
+      told = (goal.Pacer-dyn g l.fn.count.now).told l.fn.count.now.1;
+      tuned = (goal.Pacer-dyn g l.fn.count.now).tuned l.fn.count.now.1;
+    };
+    trace = record {
+      asks = (goal.Pacer-dyn g l.fn.trace.now).asks l.fn.trace.now.1;
+      yeses = (goal.Pacer-dyn g l.fn.trace.now).yeses l.fn.trace.now.1;
+      told = (goal.Pacer-dyn g l.fn.trace.now).told l.fn.trace.now.1;
+      tuned = (goal.Pacer-dyn g l.fn.trace.now).tuned l.fn.trace.now.1;
+    };
+  })
+      (record {
+        count = record {
+          asks = (goal.Pacer-dyn g l.count.now).asks l.count.now.1;
+          yeses = (goal.Pacer-dyn g l.count.now).yeses l.count.now.1;
+          told = (goal.Pacer-dyn g l.count.now).told l.count.now.1;
+          tuned = (goal.Pacer-dyn g l.count.now).tuned l.count.now.1;
+        };
+        trace = record {
+          asks = (goal.Pacer-dyn g l.trace.now).asks l.trace.now.1;
+          yeses = (goal.Pacer-dyn g l.trace.now).yeses l.trace.now.1;
+          told = (goal.Pacer-dyn g l.trace.now).told l.trace.now.1;
+          tuned = (goal.Pacer-dyn g l.trace.now).tuned l.trace.now.1;
+        };
+      });
   turns : OnInput l.fn.input l.input (g.I.Source.left l.fn.source) (g.I.Source.left l.source)
       (Turns l.accepted.program l.code l.self.steps (machine_in l.self.stepper.parts) (g.O.Sink.taken l.fn.out) (g.O.Sink.taken l.out)
-      ((l.input ≡ l.fn.input) × (l.source ≡ l.fn.source)));
+      ((l.input ≡ l.fn.input) × (l.source ≡ l.fn.source)) (record {
+        count = record {
+          asks = (goal.Pacer-dyn g l.fn.count.now).asks l.fn.count.now.1;
+          yeses = (goal.Pacer-dyn g l.fn.count.now).yeses l.fn.count.now.1;
+          told = (goal.Pacer-dyn g l.fn.count.now).told l.fn.count.now.1;
+          tuned = (goal.Pacer-dyn g l.fn.count.now).tuned l.fn.count.now.1;
+        };
+        trace = record {
+          asks = (goal.Pacer-dyn g l.fn.trace.now).asks l.fn.trace.now.1;
+          yeses = (goal.Pacer-dyn g l.fn.trace.now).yeses l.fn.trace.now.1;
+          told = (goal.Pacer-dyn g l.fn.trace.now).told l.fn.trace.now.1;
+          tuned = (goal.Pacer-dyn g l.fn.trace.now).tuned l.fn.trace.now.1;
+        };
+      })
+      (record {
+        count = record {
+          asks = (goal.Pacer-dyn g l.count.now).asks l.count.now.1;
+          yeses = (goal.Pacer-dyn g l.count.now).yeses l.count.now.1;
+          told = (goal.Pacer-dyn g l.count.now).told l.count.now.1;
+          tuned = (goal.Pacer-dyn g l.count.now).tuned l.count.now.1;
+        };
+        trace = record {
+          asks = (goal.Pacer-dyn g l.trace.now).asks l.trace.now.1;
+          yeses = (goal.Pacer-dyn g l.trace.now).yeses l.trace.now.1;
+          told = (goal.Pacer-dyn g l.trace.now).told l.trace.now.1;
+          tuned = (goal.Pacer-dyn g l.trace.now).tuned l.trace.now.1;
+        };
+      }));
 }
 
 abbrev pub decreases-loop-self : goal.decreases-loop-self
