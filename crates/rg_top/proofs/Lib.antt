@@ -6,4 +6,5 @@ mod SettledLemmas
 mod RanLemmas
 mod BulkLemmas
 mod NotesLemmas
+mod AskedLemmas
 mod AnswerLemmas

@@ -2,7 +2,7 @@
 //! (docs/promises.md).
 
 ghost use Rattle.std.specs.Prelude.{◌≡◌, ◌≢◌, ◌≤◌, ◌⊎◌, ℕ, List, true, false, length, Option};
-ghost use Rattle.std.specs.Prelude.{Some, None, Err, IfOk};
+ghost use Rattle.std.specs.Prelude.{Some, None, Err, IfOk, []};
 ghost use Rattle.std.specs.Bool.{OnTrue, OnFalse};
 ghost use Rattle.rg_base.specs.declared.fault.Fault.{Fault};
 ghost use Rattle.rg_base.specs.declared.limits.TheConstants.{SOURCE_BYTES};
@@ -29,11 +29,13 @@ ghost use Rattle.rg_top.specs.Expected.{spelt, Means, MeansFrom, IsStuck, Spells
 ghost use Rattle.rg_top.specs.Expected.{ExpectsStatus};
 ghost use Rattle.rg_top.specs.Headline.{ForSource, Exactly, ExactlyWhere, Answers};
 ghost use Rattle.rg_top.specs.Headline.{Runs, Untouched, CutOffAt, CutAtInput};
+ghost use Rattle.rg_top.specs.Asked.{Unasked, RunAsks, SayYes, input_for};
 ghost use Rattle.rg_top.specs.Headline.{TookNotes, ToldFault, steps_asked};
 ghost use Rattle.rg_top.specs.Inner.Settled.{status_of_ended, RanFrom, PutLine, Settles};
 ghost use Rattle.rg_top.specs.Inner.Settled.{SettlesCommand, IfGenerated, Brings};
 ghost use Rattle.rg_top.specs.Inner.Settled.{Caused, CausedBeside, CausedByOutput};
 ghost use Rattle.rg_top.specs.Inner.Settled.{Reported, Tunes};
+ghost use Rattle.rg_top.specs.Inner.Settled.{AskedCommand, AskedFrom, RunAsked};
 
 use crate::no_input::NoInput;
 use crate::notes::{tell, tell_behind};
@@ -109,6 +111,12 @@ fn run_accepted<I: Source, O: Sink, R: Sink>(
     ensures notes { Reported report result machine.new.stepper.events
         (R.taken notes.old) (R.taken notes.new) }
     ensures tuned { (tuned count.new ≡ every) × (tuned trace.new ≡ every) }
+    ensures asked { (origin : Origin) (source : List ℕ) →
+        Runs origin source (program_of accepted.now.program) →
+        RunAsked origin source (I.left input.old) machine.new
+        (asks count.old) (asks count.new) (asks trace.old) (asks trace.new) }
+    ensures yeses { SayYes machine.new
+        (yeses count.old) (yeses count.new) (yeses trace.old) (yeses trace.new) }
     ensures caused { Caused result (I.faults input.old) (I.faults input.new)
         (O.faults out.old) (O.faults out.new) (R.faults notes.old) (R.faults notes.new) }
 {
@@ -157,6 +165,11 @@ fn run_program<I: Source, O: Sink, R: Sink>(
         (R.taken notes.old) (R.taken notes.new) }
     ensures tuned { ¬ IsFresh machine.new →
         (tuned count.new ≡ every) × (tuned trace.new ≡ every) }
+    ensures asked { (file source : List ℕ) → Means source (spelt (program_of program)) →
+        RunAsked (in_file file) source (I.left input.old) machine.new
+        (asks count.old) (asks count.new) (asks trace.old) (asks trace.new) }
+    ensures yeses { SayYes machine.new
+        (yeses count.old) (yeses count.new) (yeses trace.old) (yeses trace.new) }
     ensures caused { Caused result (I.faults input.old) (I.faults input.new)
         (O.faults out.old) (O.faults out.new) (R.faults notes.old) (R.faults notes.new) }
 {
@@ -326,6 +339,12 @@ fn bulk_accepted<O: Sink, R: Sink>(
         (O.taken out.old) (O.taken out.new) machine.new (Unit {0}) }
     ensures notes { R.taken notes.new ≡ R.taken notes.old }
     ensures tuned { (tuned count.new ≡ 0) × (tuned trace.new ≡ 0) }
+    ensures asked { (source : List ℕ) →
+        Runs (generated size) source (program_of accepted.now.program) →
+        RunAsked (generated size) source (Some []) machine.new
+        (asks count.old) (asks count.new) (asks trace.old) (asks trace.new) }
+    ensures yeses { SayYes machine.new
+        (yeses count.old) (yeses count.new) (yeses trace.old) (yeses trace.new) }
     ensures caused { Caused result 0 0
         (O.faults out.old) (O.faults out.new) (R.faults notes.old) (R.faults notes.new) }
 {
@@ -359,6 +378,12 @@ fn bulk_program<O: Sink, R: Sink>(
         (O.taken out.old) (O.taken out.new) machine.new (Unit {0}) }
     ensures notes { R.taken notes.new ≡ R.taken notes.old }
     ensures tuned { ¬ IsFresh machine.new → (tuned count.new ≡ 0) × (tuned trace.new ≡ 0) }
+    ensures asked { (source : List ℕ) →
+        MeansFrom (generated size) source (spelt (program_of program)) →
+        RunAsked (generated size) source (Some []) machine.new
+        (asks count.old) (asks count.new) (asks trace.old) (asks trace.new) }
+    ensures yeses { SayYes machine.new
+        (yeses count.old) (yeses count.new) (yeses trace.old) (yeses trace.new) }
     ensures caused { Caused result 0 0
         (O.faults out.old) (O.faults out.new) (R.faults notes.old) (R.faults notes.new) }
 {
@@ -395,6 +420,12 @@ fn answer_program<I: Source, O: Sink, R: Sink>(
         machine.new.stepper.events (R.taken notes.old) (R.taken notes.new) }
     ensures tuned { Tunes (command_of request.entry) machine.new
         (tuned count.new) (tuned trace.new) }
+    ensures asked { (source : List ℕ) →
+        MeansFrom (origin_of (command_of request.entry)) source (spelt (program_of program)) →
+        AskedFrom (origin_of (command_of request.entry)) source (I.left input.old) machine.new
+        (asks count.old) (asks count.new) (asks trace.old) (asks trace.new) }
+    ensures yeses { SayYes machine.new
+        (yeses count.old) (yeses count.new) (yeses trace.old) (yeses trace.new) }
     ensures caused { Caused result (I.faults input.old) (I.faults input.new)
         (O.faults out.old) (O.faults out.new) (R.faults notes.old) (R.faults notes.new) }
 {
@@ -496,6 +527,11 @@ fn answer<F: Files, I: Source, O: Sink, R: Sink>(
         machine.new.stepper.events (R.taken notes.old) (R.taken notes.new) }
     ensures tuned { Tunes (command_of request.entry) machine.new
         (tuned count.new) (tuned trace.new) }
+    ensures asked { AskedCommand (F.told files.old) (origin_of (command_of request.entry))
+        (I.left input.old) machine.new
+        (asks count.old) (asks count.new) (asks trace.old) (asks trace.new) }
+    ensures yeses { SayYes machine.new
+        (yeses count.old) (yeses count.new) (yeses trace.old) (yeses trace.new) }
     ensures source_fault { result ≡ Status.SourceFault →
         Rose (F.faults files.old) (F.faults files.new) }
     ensures files_never_fall { F.faults files.old ≤ F.faults files.new }
@@ -572,6 +608,13 @@ pub fn reggio<F: Files, I: Source, O: Sink, R: Sink>(
     ensures tuned { (c : Command) → command (texts words.now) ≡ Some c → runs_on c ≡ true →
         ¬ IsFresh machine.new →
         (tuned count.new ≡ every_of c) × (tuned trace.new ≡ every_of c) }
+    ensures asked { Unasked machine.new
+        (asks count.old) (asks count.new) (asks trace.old) (asks trace.new)
+        ⊎ ForSource (F.told files.old) (I.left input.old) (texts words.now)
+        (λ c source bytes. RunAsks (origin_of c) source (input_for (origin_of c) bytes) machine.new
+        (asks count.old) (asks count.new) (asks trace.old) (asks trace.new)) }
+    ensures yeses { SayYes machine.new
+        (yeses count.old) (yeses count.new) (yeses trace.old) (yeses trace.new) }
     ensures owned { (t : Tables) (bytes : List ℕ) (n : ℕ) → Stands t bytes n machine.new →
         IsOwned machine.new.stepper.parts }
     ensures output_fault_told { result ≡ Status.OutputFault →

@@ -20,6 +20,7 @@ use Rattle.rg_rules.specs.Texts.{added}
 use Rattle.rg_run.specs.Machine.{Kept, IsFresh, numbers_of}
 use Rattle.rg_run.specs.Reports.{event_lines}
 use Rattle.rg_run.specs.Sound.{Stands, NeverAsks}
+use Rattle.rg_top.specs.Asked.{Unasked, RunAsks, input_for}
 use Rattle.rg_top.specs.declared.status.Status.{Status}
 use Rattle.rg_top.specs.declared.status.Status.TheVariants as status
 use Rattle.rg_top.specs.Commands.{Command, run, plain, fmt, check, code, bulk, Origin, in_file, generated, origin_of, every_of, runs_on}
@@ -286,3 +287,22 @@ Tunes c m count trace = runs_on c ≡ true → ¬ IsFresh m → (count ≡ every
 -- what is told is the status that was given, or that the rest couldn't be told
 abbrev pub Becomes : (given answer : Status) → Type 0
 Becomes given answer = (answer ≡ given) ⊎ ((answer ≡ status.OutputFault) ⊎ (answer ≡ status.Memory))
+
+-- how often a run of a program that comes from there asked the pacers, on an input that its source has
+abbrev pub RunAsked : Origin → (source : List ℕ) → (left : Option (List ℕ)) → Kept → (count_old count_new trace_old trace_new : ℕ) → Type 0
+RunAsked origin source left m count_old count_new trace_old trace_new =
+    Unasked m count_old count_new trace_old trace_new
+    ⊎ ForInput left (λ input. RunAsks origin source input m count_old count_new trace_old trace_new)
+
+-- the same of what a command did with its program
+abbrev pub AskedFrom : Origin → (source : List ℕ) → (left : Option (List ℕ)) → Kept → (count_old count_new trace_old trace_new : ℕ) → Type 0
+AskedFrom origin source left m count_old count_new trace_old trace_new =
+    Unasked m count_old count_new trace_old trace_new
+    ⊎ ForInput left (λ input. RunAsks origin source (input_for origin input) m count_old count_new trace_old trace_new)
+
+-- and of a command, with a source that its program has
+abbrev pub AskedCommand : Option Told → Origin → (left : Option (List ℕ)) → Kept → (count_old count_new trace_old trace_new : ℕ) → Type 0
+AskedCommand told origin left m count_old count_new trace_old trace_new =
+    Unasked m count_old count_new trace_old trace_new
+    ⊎ ((source : List ℕ) × HasSource told origin source
+    × ForInput left (λ input. RunAsks origin source (input_for origin input) m count_old count_new trace_old trace_new))

@@ -3,6 +3,7 @@ use Rattle.rg_top.specs.Inner.Requests.{command_of}
 use Rattle.rg_top.specs.Commands.{reports}
 use Rattle.rg_top.proofs.NotesLemmas.{quiet-refuses}
 use Rattle.rg_top.proofs.AnswerLemmas.{refuses-settles, refuses-caused, settles-inside}
+use Rattle.rg_top.proofs.AskedLemmas.{asked-command, yeses-fresh}
 use Rattle.rg_top.proofs.top.answer.Goals as goal
 
 pub returns-in-Err-clause-settles : goal.returns-in-Err-clause-settles
@@ -23,3 +24,17 @@ pub returns-in-Ok-clause-source_fault : goal.returns-in-Ok-clause-source_fault
 returns-in-Ok-clause-source_fault g c =
     let found = c.in-Ok.ensures.brings in
     λ e. absurd (settles-inside (command_of c.args.request) found.source _ _ _ _ _ _ (c.answer_program.ensures.settles found.source found.means) e)
+
+pub returns-in-Err-clause-asked : goal.returns-in-Err-clause-asked
+returns-in-Err-clause-asked g c = inl (record { fresh = c.requires.fresh; count = refl; trace = refl })
+
+pub returns-in-Err-clause-yeses : goal.returns-in-Err-clause-yeses
+returns-in-Err-clause-yeses g c = yeses-fresh _ _ _ _ _ c.requires.fresh refl refl
+
+pub returns-in-Ok-clause-asked : goal.returns-in-Ok-clause-asked
+returns-in-Ok-clause-asked g c =
+    let found = c.in-Ok.ensures.brings in
+    asked-command _ _ found.source _ _ _ _ _ _ found.has (c.answer_program.ensures.asked found.source found.means)
+
+pub returns-in-Ok-clause-yeses : goal.returns-in-Ok-clause-yeses
+returns-in-Ok-clause-yeses g c = c.answer_program.ensures.yeses

@@ -1,7 +1,8 @@
-use Rattle.std.proofs.Common.{refl}
+use Rattle.std.proofs.Common.{inl, refl}
 use Rattle.rg_top.specs.Commands.{fmt, check, code, bulk}
 use Rattle.rg_top.proofs.SettledLemmas.{settles-still}
 use Rattle.rg_top.proofs.AnswerLemmas.{caused-unread}
+use Rattle.rg_top.proofs.AskedLemmas.{asked-generated, yeses-fresh}
 use Rattle.rg_top.proofs.top.answer_program.Goals as goal
 
 pub returns-in-Run-clause-settles : goal.returns-in-Run-clause-settles
@@ -42,3 +43,43 @@ returns-in-Bulk-clause-settles g c = λ source means.
 
 pub returns-in-Bulk-clause-caused : goal.returns-in-Bulk-clause-caused
 returns-in-Bulk-clause-caused g c = caused-unread _ _ _ _ _ _ c.bulk_program.ensures.caused
+
+pub returns-in-Run-clause-asked : goal.returns-in-Run-clause-asked
+returns-in-Run-clause-asked g c = λ source means.
+    rw c.in-Run.is (c.run_program.ensures.asked c.in-Run.file.now source (rw c.in-Run.is at means))
+
+pub returns-in-Run-clause-yeses : goal.returns-in-Run-clause-yeses
+returns-in-Run-clause-yeses g c = c.run_program.ensures.yeses
+
+pub returns-in-Bulk-clause-asked : goal.returns-in-Bulk-clause-asked
+returns-in-Bulk-clause-asked g c = λ source means.
+    rw c.in-Bulk.is
+    (asked-generated c.in-Bulk.size source (g.I.Source.left c.args.input.now) _ _ _ _ _
+    (c.bulk_program.ensures.asked source (rw c.in-Bulk.is at means)))
+
+pub returns-in-Bulk-clause-yeses : goal.returns-in-Bulk-clause-yeses
+returns-in-Bulk-clause-yeses g c = c.bulk_program.ensures.yeses
+
+pub returns-in-Plain-clause-asked : goal.returns-in-Plain-clause-asked
+returns-in-Plain-clause-asked g c = λ source means. inl (record { fresh = c.requires.fresh; count = refl; trace = refl })
+
+pub returns-in-Plain-clause-yeses : goal.returns-in-Plain-clause-yeses
+returns-in-Plain-clause-yeses g c = yeses-fresh _ _ _ _ _ c.requires.fresh refl refl
+
+pub returns-in-Format-clause-asked : goal.returns-in-Format-clause-asked
+returns-in-Format-clause-asked g c = λ source means. inl (record { fresh = c.requires.fresh; count = refl; trace = refl })
+
+pub returns-in-Format-clause-yeses : goal.returns-in-Format-clause-yeses
+returns-in-Format-clause-yeses g c = yeses-fresh _ _ _ _ _ c.requires.fresh refl refl
+
+pub returns-in-Check-clause-asked : goal.returns-in-Check-clause-asked
+returns-in-Check-clause-asked g c = λ source means. inl (record { fresh = c.requires.fresh; count = refl; trace = refl })
+
+pub returns-in-Check-clause-yeses : goal.returns-in-Check-clause-yeses
+returns-in-Check-clause-yeses g c = yeses-fresh _ _ _ _ _ c.requires.fresh refl refl
+
+pub returns-in-Code-clause-asked : goal.returns-in-Code-clause-asked
+returns-in-Code-clause-asked g c = λ source means. inl (record { fresh = c.requires.fresh; count = refl; trace = refl })
+
+pub returns-in-Code-clause-yeses : goal.returns-in-Code-clause-yeses
+returns-in-Code-clause-yeses g c = yeses-fresh _ _ _ _ _ c.requires.fresh refl refl

@@ -11,3 +11,15 @@ pub returns-clause-settles : goal.returns-clause-settles
 returns-clause-settles g c = λ source left runs.
     generated-stops c.args.size source left c.run_accepted-ran.result _ _ _ _ c.in_default.not-Done
     (no-fault _ c.run_accepted-ran.ensures.caused.input_fault) (c.run_accepted-ran.ensures.ran (generated c.args.size) source runs)
+
+pub returns-in-Done-clause-asked : goal.returns-in-Done-clause-asked
+returns-in-Done-clause-asked g c = λ source runs. c.run_accepted-ran.ensures.asked (generated c.args.size) source runs
+
+pub returns-in-Done-clause-yeses : goal.returns-in-Done-clause-yeses
+returns-in-Done-clause-yeses g c = c.run_accepted-ran.ensures.yeses
+
+pub returns-clause-asked : goal.returns-clause-asked
+returns-clause-asked g c = λ source runs. c.run_accepted-ran.ensures.asked (generated c.args.size) source runs
+
+pub returns-clause-yeses : goal.returns-clause-yeses
+returns-clause-yeses g c = c.run_accepted-ran.ensures.yeses

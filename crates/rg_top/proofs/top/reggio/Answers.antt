@@ -1,5 +1,5 @@
 -- What the top call promises, from what the layers under it have answered.
-use Rattle.std.proofs.Common.{◌≡◌, ◌⊎◌, refl, ◌∙◌}
+use Rattle.std.proofs.Common.{◌≡◌, ◌⊎◌, inl, refl, ◌∙◌}
 use Rattle.rg_io.specs.Content.{Rose}
 use Rattle.rg_top.specs.declared.status.Status.TheVariants as status
 use Rattle.rg_top.specs.Commands.{texts}
@@ -7,6 +7,7 @@ use Rattle.rg_top.specs.Inner.Requests.{command_of}
 use Rattle.rg_top.proofs.AnswerLemmas.{Answered, answer-answered, answer-cut, answer-input, answer-exactly, answer-refused, answer-complete}
 use Rattle.rg_top.proofs.AnswerLemmas.{answer-unread, answer-unopened, answer-untouched, answer-output, answer-tuned, answer-usage, given-is, usage-exactly}
 use Rattle.rg_top.proofs.NotesLemmas.{asked-notes, asked-fault, rose-later}
+use Rattle.rg_top.proofs.AskedLemmas.{asked-words, yeses-fresh}
 use Rattle.rg_top.proofs.top.reggio.Given.{Over}
 use Rattle.rg_top.proofs.top.reggio.Goals as goal
 
@@ -111,3 +112,16 @@ returns-in-None-clause-refused g c = λ f bytes. usage-exactly _ _ _ _ (status.R
 
 pub returns-in-None-clause-long : goal.returns-in-None-clause-long
 returns-in-None-clause-long g c = λ bytes. usage-exactly _ _ _ _ status.Long c.in-None.ensures.is c.tell.ensures.told refl
+
+pub returns-in-Some-clause-asked : goal.returns-in-Some-clause-asked
+returns-in-Some-clause-asked g c =
+    asked-words _ (texts c.args.words.now) (command_of c.in-Some.request) _ _ _ _ _ _ c.in-Some.ensures.is c.answer-status.ensures.asked
+
+pub returns-in-Some-clause-yeses : goal.returns-in-Some-clause-yeses
+returns-in-Some-clause-yeses g c = c.answer-status.ensures.yeses
+
+pub returns-in-None-clause-asked : goal.returns-in-None-clause-asked
+returns-in-None-clause-asked g c = inl (record { fresh = c.requires; count = refl; trace = refl })
+
+pub returns-in-None-clause-yeses : goal.returns-in-None-clause-yeses
+returns-in-None-clause-yeses g c = yeses-fresh _ _ _ _ _ c.requires refl refl

@@ -1,6 +1,7 @@
 use Rattle.std.proofs.Common.{inl, refl}
 use Rattle.rg_top.proofs.RanLemmas.{on-input, run-from}
 use Rattle.rg_top.proofs.NotesLemmas.{ran-reported, quiet-memory}
+use Rattle.rg_top.proofs.AskedLemmas.{asked-from, yeses-of-run, yeses-fresh}
 use Rattle.rg_top.proofs.top.run_accepted.Goals as goal
 
 pub returns-clause-ran : goal.returns-clause-ran
@@ -17,3 +18,18 @@ returns-clause-notes g c = rw c.status_of.ensures.is (ran-reported c.args.report
 
 pub returns-in_default-clause-notes : goal.returns-in_default-clause-notes
 returns-in_default-clause-notes g c = quiet-memory c.args.report _ _
+
+pub returns-clause-asked : goal.returns-clause-asked
+returns-clause-asked g c = λ origin source runs.
+    asked-from origin c.args.steps source _ c.args.accepted.now.program _ _ _ _ _ _ _ _ _ c.tune.ensures.1.0 c.tune-2.ensures.1.0 runs
+    (on-input _ _ _ _ _ c.new-numbers.ensures c.run-ran.ensures.follows c.run-ran.ensures.asked)
+
+pub returns-clause-yeses : goal.returns-clause-yeses
+returns-clause-yeses g c = yeses-of-run _ _ _ _ _ c.tune.ensures.1.1.0 c.tune-2.ensures.1.1.0 c.run-ran.ensures.yeses
+
+pub returns-in_default-clause-asked : goal.returns-in_default-clause-asked
+returns-in_default-clause-asked g c = λ origin source runs.
+    inl (record { fresh = c.requires; count = c.tune.ensures.1.0; trace = c.tune-2.ensures.1.0 })
+
+pub returns-in_default-clause-yeses : goal.returns-in_default-clause-yeses
+returns-in_default-clause-yeses g c = yeses-fresh _ _ _ _ _ c.requires c.tune.ensures.1.1.0 c.tune-2.ensures.1.1.0

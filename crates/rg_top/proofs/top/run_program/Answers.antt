@@ -1,6 +1,8 @@
 use Rattle.rg_top.specs.Commands.{in_file}
 use Rattle.rg_top.proofs.RanLemmas.{run-settles, runs-checked}
 use Rattle.rg_top.proofs.NotesLemmas.{quiet-refused, quiet-memory}
+use Rattle.std.proofs.Common.{inl, refl}
+use Rattle.rg_top.proofs.AskedLemmas.{yeses-fresh}
 use Rattle.rg_top.proofs.top.run_program.Goals as goal
 
 pub returns-in-Ok-clause-settles : goal.returns-in-Ok-clause-settles
@@ -14,3 +16,23 @@ returns-in-Err-Fault-clause-notes g c = quiet-refused c.args.report _ _ _
 
 pub returns-in-Err-Memory-clause-notes : goal.returns-in-Err-Memory-clause-notes
 returns-in-Err-Memory-clause-notes g c = quiet-memory c.args.report _ _
+
+pub returns-in-Ok-clause-asked : goal.returns-in-Ok-clause-asked
+returns-in-Ok-clause-asked g c = λ file source means.
+    c.run_accepted.ensures.asked (in_file file) source
+    (runs-checked (in_file file) source c.args.program _ c.in-Ok.ensures.program means c.in-Ok.ensures.judged)
+
+pub returns-in-Ok-clause-yeses : goal.returns-in-Ok-clause-yeses
+returns-in-Ok-clause-yeses g c = c.run_accepted.ensures.yeses
+
+pub returns-in-Err-Fault-clause-asked : goal.returns-in-Err-Fault-clause-asked
+returns-in-Err-Fault-clause-asked g c = λ file source means. inl (record { fresh = c.requires.fresh; count = refl; trace = refl })
+
+pub returns-in-Err-Fault-clause-yeses : goal.returns-in-Err-Fault-clause-yeses
+returns-in-Err-Fault-clause-yeses g c = yeses-fresh _ _ _ _ _ c.requires.fresh refl refl
+
+pub returns-in-Err-Memory-clause-asked : goal.returns-in-Err-Memory-clause-asked
+returns-in-Err-Memory-clause-asked g c = λ file source means. inl (record { fresh = c.requires.fresh; count = refl; trace = refl })
+
+pub returns-in-Err-Memory-clause-yeses : goal.returns-in-Err-Memory-clause-yeses
+returns-in-Err-Memory-clause-yeses g c = yeses-fresh _ _ _ _ _ c.requires.fresh refl refl
