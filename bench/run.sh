@@ -9,8 +9,8 @@
 # kind how far the slowest size is above the fastest: that should be within 1.3. Beside it stand the seconds of the
 # same program in Lua (bench/lua), where lua5.4 is installed. The number of steps of each program is known, and is
 # tried first: the program is done after so many, and is spent after one less.
-# The machine that runs today never frees, and a freeze walks all objects that were made; so one freeze is measured,
-# at the end. Not a part of the gate. Usage: bench/run.sh [TURNS [PROGRAM]]
+# Pacers are tuned to never (--every 0), so that a step's own time is measured: bench/collect.sh has collections.
+# Not a part of the gate. Usage: bench/run.sh [TURNS [PROGRAM]]
 set -eu
 . "$(dirname "$0")/common.sh"
 turns=${1:-5}
@@ -109,7 +109,7 @@ KINDS = {
 }
 
 def status(path, steps):
-    return subprocess.run([program, "run", path, "--steps", str(steps)], stdout=subprocess.DEVNULL, stderr=subprocess.DEVNULL).returncode
+    return subprocess.run([program, "run", path, "--every", "0", "--steps", str(steps)], stdout=subprocess.DEVNULL, stderr=subprocess.DEVNULL).returncode
 
 def output(words):
     return subprocess.run(words, stdout=subprocess.PIPE).stdout
@@ -139,12 +139,12 @@ for kind, (text, sizes, steps_of) in KINDS.items():
             sys.exit(f"{kind} {size}: it doesn't take {steps} steps")
         # short programs more often, since they are about as short as a start
         often = turns * min(20, max(1, 1_000_000 // steps))
-        took = max(best([program, "run", path, "--steps", str(steps)], often) - start, 1e-6)
+        took = max(best([program, "run", path, "--every", "0", "--steps", str(steps)], often) - start, 1e-6)
         rates.append(took * 1e9 / steps)
         beside = ""
         if lua:
             words = [lua, f"{twins}/{kind}.lua", str(size), str(times)]
-            if output(words) != output([program, "run", path, "--steps", str(steps)]): sys.exit(f"{kind} {size}: Lua's output differs")
+            if output(words) != output([program, "run", path, "--every", "0", "--steps", str(steps)]): sys.exit(f"{kind} {size}: Lua's output differs")
             twin = max(best(words, often) - lua_start, 1e-6)
             beside = f"{twin:>9.4f} {took / twin:>7.1f}"
         print(f"{kind:<10} {size:>9} {times:>7} {steps:>10} {took:>9.4f} {rates[-1]:>9.1f} {beside}", flush=True)
