@@ -11,8 +11,9 @@
 set -eu
 . "$(dirname "$0")/common.sh"
 turns=${1:-3}
-python3 - "$work" "$program" "$turns" "$(command -v lua5.4 || true)" <<'PY'
-import subprocess, sys, time
+PYTHONDONTWRITEBYTECODE=1 PYTHONPATH=$here/bench python3 - "$work" "$program" "$turns" "$(command -v lua5.4 || true)" <<'PY'
+import sys
+from timed import seconds, written
 work, program, turns, lua = sys.argv[1], sys.argv[2], int(sys.argv[3]), sys.argv[4]
 
 NODE = "class Node { left: mut Node; right: mut Node; }\n"
@@ -84,19 +85,6 @@ def lua_source(kind, size, collects):
         body += "a = nil\n"
     return 'collectgarbage("stop")\n' + body.replace("SIZE", str(size)) + 'collectgarbage("collect")\n' * collects
 
-def seconds(words, often):
-    taken = []
-    for _ in range(often):
-        at = time.perf_counter()
-        subprocess.run(words, stdout=subprocess.DEVNULL, check=True)
-        taken.append(time.perf_counter() - at)
-    return min(taken)
-
-def written(name, text):
-    path = f"{work}/{name}"
-    with open(path, "w") as file: file.write(text)
-    return path
-
 def cost(words_of, size, collects, often):
     without = seconds(words_of(0), often)
     return max(seconds(words_of(collects), often) - without, 1e-9) * 1e9 / (size * collects)
@@ -107,12 +95,12 @@ for manager, kind in [("trace", "list"), ("trace", "tree"), ("trace", "none"), (
     for size in [1000, 10_000, 100_000, 1_000_000]:
         collects = 1 if kind == "none" else max(1, min(200, 1_000_000 // size))
         often = turns * (1 if kind == "rooms" else min(20, max(1, 1_000_000 // size)))
-        def run(n): return [program, "run", written("a.rg", source(kind, manager, size, n)), "--every", "0", "--steps", "1000000000"]
+        def run(n): return [program, "run", written(f"{work}/a.rg", source(kind, manager, size, n)), "--every", "0", "--steps", "1000000000"]
         rate = cost(run, size, collects, often)
         rates.append(rate)
         of_lua = ""
         if lua and manager == "trace":
-            def run_lua(n): return [lua, written("a.lua", lua_source(kind, size, n))]
+            def run_lua(n): return [lua, written(f"{work}/a.lua", lua_source(kind, size, n))]
             of_lua = f"{cost(run_lua, size, collects, often):9.1f}"
         print(f"{manager:<8} {kind:<6} {size:>9} {rate:>9.1f} {of_lua}", flush=True)
     print(f"{'':<8} {kind:<6} slowest {max(rates) / min(rates):.2f} times the fastest", flush=True)

@@ -11,8 +11,9 @@
 set -eu
 . "$(dirname "$0")/common.sh"
 turns=${1:-3}
-python3 - "$work" "$program" "$turns" "$(command -v lua5.4 || true)" <<'PY'
+PYTHONDONTWRITEBYTECODE=1 PYTHONPATH=$here/bench python3 - "$work" "$program" "$turns" "$(command -v lua5.4 || true)" <<'PY'
 import subprocess, sys, time
+from timed import seconds, written
 work, program, turns, lua = sys.argv[1], sys.argv[2], int(sys.argv[3]), sys.argv[4]
 
 NODE = "class Node { left: mut Node; value: int; }\nclass Room { first: mut Node; }\ntmp class Point { x: int; y: int; }\n"
@@ -48,19 +49,6 @@ KINDS = {
 
 def run(path): return [program, "run", path, "--every", "0", "--steps", "1000000000"]
 
-def written(name, text):
-    path = f"{work}/{name}"
-    with open(path, "w") as file: file.write(text)
-    return path
-
-def seconds(words, often):
-    taken = []
-    for _ in range(often):
-        at = time.perf_counter()
-        subprocess.run(words, stdout=subprocess.DEVNULL, stderr=subprocess.DEVNULL)
-        taken.append(time.perf_counter() - at)
-    return min(taken)
-
 def peak(words):
     """The peak of memory in bytes, read off while it runs: that of a waited child counts the process that started it."""
     most = 0
@@ -81,18 +69,18 @@ for manager in ["arena", "count", "trace"]:
     for kind, (with_it, without) in KINDS.items():
         rates = []
         for size in [1000, 10_000, 100_000, 1_000_000]:
-            took = seconds(run(written("a.rg", main(with_it, manager, size))), turns)
-            less = seconds(run(written("b.rg", main(without, manager, size))), turns)
+            took = seconds(run(written(f"{work}/a.rg", main(with_it, manager, size))), turns)
+            less = seconds(run(written(f"{work}/b.rg", main(without, manager, size))), turns)
             rates.append(max(took - less, 1e-9) * 1e3)
             print(f"{kind:<8} {manager:<8} {size:>9} {rates[-1]:>10.1f}", flush=True)
         print(f"{kind:<8} {manager:<8} slowest {max(rates) / min(rates):.2f} times the fastest", flush=True)
 
 size = 1_000_000
-live = peak(run(written("a.rg", main(turn(MADE), "arena", size)))) - peak(run(written("b.rg", main(turn(NOT_MADE), "arena", size))))
+live = peak(run(written(f"{work}/a.rg", main(turn(MADE), "arena", size)))) - peak(run(written(f"{work}/b.rg", main(turn(NOT_MADE), "arena", size))))
 print(f"a live object of two fields takes {live / size:.0f} bytes at the peak")
 if lua:
     text = "local a = nil for i = 1, SIZE do a = { left = a, value = 0 } end\n"
-    live = peak([lua, written("a.lua", text.replace("SIZE", str(size)))]) - peak([lua, written("b.lua", "")])
+    live = peak([lua, written(f"{work}/a.lua", text.replace("SIZE", str(size)))]) - peak([lua, written(f"{work}/b.lua", "")])
     print(f"Lua's table of two fields takes {live / size:.0f} bytes at the peak")
 
 TEMPS = """class Maker {
@@ -102,7 +90,7 @@ TEMPS = """class Maker {
 def temporaries(size):
     return NODE + TEMPS + "main arena {\n  let m: mut Maker = new Maker;\n  let i: int = 0;\n  let s: int = 0;\n" \
         f"  while i < {size} {{ let v: int = call m.one(); s = s + v; i = i + 1; }}\n  print s;\n}}\n"
-few = peak(run(written("a.rg", temporaries(10_000))))
-many = peak(run(written("b.rg", temporaries(10_000_000))))
+few = peak(run(written(f"{work}/a.rg", temporaries(10_000))))
+many = peak(run(written(f"{work}/b.rg", temporaries(10_000_000))))
 print(f"10,000 regions and temporaries, one at a time: {few / 2**20:.1f} MiB at the peak; 10,000,000: {many / 2**20:.1f} MiB")
 PY

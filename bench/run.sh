@@ -14,8 +14,9 @@
 set -eu
 . "$(dirname "$0")/common.sh"
 turns=${1:-5}
-python3 - "$work" "$program" "$turns" "$here/bench/lua" "$(command -v lua5.4 || true)" <<'PY'
-import subprocess, sys, time
+PYTHONDONTWRITEBYTECODE=1 PYTHONPATH=$here/bench python3 - "$work" "$program" "$turns" "$here/bench/lua" "$(command -v lua5.4 || true)" <<'PY'
+import subprocess, sys
+from timed import seconds, written
 work, program, turns, twins, lua = sys.argv[1], sys.argv[2], int(sys.argv[3]), sys.argv[4], sys.argv[5]
 
 LIST = """class Node { value: int; next: mut Node; }
@@ -114,38 +115,25 @@ def status(path, steps):
 def output(words):
     return subprocess.run(words, stdout=subprocess.PIPE).stdout
 
-def best(words, turns):
-    taken = []
-    for _ in range(turns):
-        at = time.perf_counter()
-        subprocess.run(words, stdout=subprocess.DEVNULL, check=True)
-        taken.append(time.perf_counter() - at)
-    return min(taken)
-
-def source(name, text):
-    path = f"{work}/{name}.rg"
-    with open(path, "w") as file: file.write(text)
-    return path
-
-start = best([program, "run", source("empty", "main arena { }\n")], 20 * turns)
-lua_start = best([lua, "-e", ""], 20 * turns) if lua else 0
+start = seconds([program, "run", written(f"{work}/empty.rg", "main arena { }\n")], 20 * turns)
+lua_start = seconds([lua, "-e", ""], 20 * turns) if lua else 0
 print(f"{'kind':<10} {'size':>9} {'times':>7} {'steps':>10} {'seconds':>9} {'ns/step':>9} {'lua':>9} {'to lua':>7}")
 for kind, (text, sizes, steps_of) in KINDS.items():
     rates = []
     for size, times in sizes:
-        path = source(f"{kind}.{size}", text.replace("SIZE", str(size)).replace("TIMES", str(times)))
+        path = written(f"{work}/{kind}.{size}.rg", text.replace("SIZE", str(size)).replace("TIMES", str(times)))
         steps = steps_of(size, times)
         if status(path, steps) != 0 or status(path, steps - 1) != 4:
             sys.exit(f"{kind} {size}: it doesn't take {steps} steps")
         # short programs more often, since they are about as short as a start
         often = turns * min(20, max(1, 1_000_000 // steps))
-        took = max(best([program, "run", path, "--every", "0", "--steps", str(steps)], often) - start, 1e-6)
+        took = max(seconds([program, "run", path, "--every", "0", "--steps", str(steps)], often) - start, 1e-6)
         rates.append(took * 1e9 / steps)
         beside = ""
         if lua:
             words = [lua, f"{twins}/{kind}.lua", str(size), str(times)]
             if output(words) != output([program, "run", path, "--every", "0", "--steps", str(steps)]): sys.exit(f"{kind} {size}: Lua's output differs")
-            twin = max(best(words, often) - lua_start, 1e-6)
+            twin = max(seconds(words, often) - lua_start, 1e-6)
             beside = f"{twin:>9.4f} {took / twin:>7.1f}"
         print(f"{kind:<10} {size:>9} {times:>7} {steps:>10} {took:>9.4f} {rates[-1]:>9.1f} {beside}", flush=True)
     print(f"{kind:<10} the slowest is {max(rates) / min(rates):.2f} times the fastest")
