@@ -4,3 +4,4 @@ mod HeldLemmas
 pub mod InputLemmas
 mod NextLemmas
 mod ReadLemmas
+mod RunLemmas

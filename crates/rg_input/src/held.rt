@@ -1,8 +1,11 @@
 //! The bytes that were looked at and not taken (docs/language.md, "Input numbers").
 
-ghost use Rattle.std.specs.Prelude.{◌≡◌, ◌≤◌, false, [], ◌∷◌, ◌++◌, IfOk, OnOk, OnErr, IsOk};
+ghost use Rattle.std.specs.Prelude.{◌≡◌, ◌+◌, ◌<◌, ◌≤◌, false, [], ◌++◌, length, take};
+ghost use Rattle.std.specs.Prelude.{IfOk, OnOk, OnErr, IsOk};
+ghost use Rattle.std.specs.List.{prefix_len};
 ghost use Rattle.std.specs.Option.{option_to_list};
 ghost use Rattle.rg_base.specs.Pieces.{is_blank};
+ghost use Rattle.arrayvec.specs.ArrayVec.{array_vec_len};
 ghost use Rattle.rg_io.specs.Content.{Rose};
 ghost use Rattle.rg_input.specs.Read.{IsRead};
 ghost use Rattle.rg_input.specs.declared.held.Verdict.{Verdict as Saying};
@@ -11,6 +14,7 @@ ghost use Rattle.rg_input.specs.Numbers.{Follows, IsSure, Refuses, is_input};
 use crate::ahead::Ahead;
 use crate::number::token_number;
 use crate::refusal::{InputFault, NumberRefusal};
+use crate::runs::{blank_run, first, token_run};
 use arrayvec::ArrayVec;
 use rg_base::{INPUT_BLANKS, INPUT_TOKEN};
 use rg_io::Source;
@@ -39,11 +43,15 @@ pub(crate) struct Held {
     ghost read: { IsRead blanks.items token.items behind },
 }
 
-/// A space, a tab, the end of a line or a carriage return.
-fn is_blank_byte(byte: u8) -> bool
-    ensures { result ≡ is_blank byte }
+/// Appends bytes that there is room for.
+fn append<const N: usize>(list: &mut ArrayVec<u8, N>, bytes: &[u8])
+    requires { array_vec_len list.old + length bytes.now ≤ N }
+    ensures { list.new.items ≡ list.old.items ++ bytes.now }
 {
-    matches!(byte, b' ' | b'\t' | b'\n' | b'\r')
+    match list.try_extend_from_slice(bytes) {
+        Ok(()) => {}
+        Err(_) => unreachable!(),
+    }
 }
 
 impl Held {
@@ -68,18 +76,65 @@ impl Held {
         self.behind.is_some() || self.blanks.len() > INPUT_BLANKS || self.token.len() > INPUT_TOKEN
     }
 
-    /// Adds a byte.
-    fn push(&mut self, byte: u8)
-        requires { has_enough self.old ≡ false }
-        ensures { looked_at self.new ≡ looked_at self.old ++ byte ∷ [] }
+    /// Adds the blanks at the front in front of a token, and answers how many.
+    fn push_blanks(&mut self, bytes: &[u8]) -> usize
+        requires short { has_enough self.old ≡ false }
+        requires no_token { self.old.token.items ≡ [] }
+        ensures within { result ≤ length bytes.now }
+        ensures looked { looked_at self.new ≡ looked_at self.old ++ take result bytes.now }
+        ensures none { result ≡ 0 → (self.new ≡ self.old) × (prefix_len is_blank bytes.now ≡ 0) }
     {
-        if !is_blank_byte(byte) {
-            self.token.push(byte);
-        } else if self.token.is_empty() {
-            self.blanks.push(byte);
-        } else {
-            self.behind = Some(byte);
+        let front = first(bytes, MOST_BLANKS - self.blanks.len());
+        let n = blank_run(front);
+        append(&mut self.blanks, &front[..n]);
+        n
+    }
+
+    /// Adds the bytes of a token at the front, with the blank behind it, and answers how many.
+    fn push_token(&mut self, bytes: &[u8]) -> usize
+        requires short { has_enough self.old ≡ false }
+        requires some { 0 < length bytes.now }
+        requires inside { self.old.token.items ≡ [] → prefix_len is_blank bytes.now ≡ 0 }
+        ensures within { result ≤ length bytes.now }
+        ensures looked { looked_at self.new ≡ looked_at self.old ++ take result bytes.now }
+        ensures moves { 0 < result }
+    {
+        let front = first(bytes, MOST_TOKEN - self.token.len());
+        let n = token_run(front);
+        append(&mut self.token, &front[..n]);
+        if n == front.len() {
+            return n;
         }
+        self.behind = Some(front[n]);
+        n + 1
+    }
+
+    /// Adds the bytes at the front that are of one kind, and answers how many.
+    fn push(&mut self, bytes: &[u8]) -> usize
+        requires short { has_enough self.old ≡ false }
+        requires some { 0 < length bytes.now }
+        ensures within { result ≤ length bytes.now }
+        ensures looked { looked_at self.new ≡ looked_at self.old ++ take result bytes.now }
+        ensures moves { 0 < result }
+    {
+        if self.token.is_empty() {
+            let n = self.push_blanks(bytes);
+            if n > 0 {
+                return n;
+            }
+        }
+        self.push_token(bytes)
+    }
+
+    /// Looks at what lies ahead.
+    fn take_run(&mut self, ahead: &mut Ahead)
+        requires short { has_enough self.old ≡ false }
+        requires some { 0 < length ahead.old.held }
+        ensures kept { pending self.new ahead.new ≡ pending self.old ahead.old }
+        ensures nearer { length (looked_at self.old) < length (looked_at self.new) }
+    {
+        let n = self.push(ahead.bytes());
+        ahead.skip(n);
     }
 
     /// Looks on until there is enough or the input ends.
@@ -96,10 +151,11 @@ impl Held {
         ensures never_falls { S.faults source.old ≤ S.faults source.new }
     {
         while !self.has_enough() {
-            match ahead.next(source)? {
-                Some(byte) => self.push(byte),
-                None => return Ok(()),
+            ahead.refill(source)?;
+            if ahead.bytes().is_empty() {
+                return Ok(());
             }
+            self.take_run(ahead);
         }
         Ok(())
     }

@@ -6,6 +6,7 @@ mod held;
 mod number;
 mod numbers;
 mod refusal;
+mod runs;
 
 pub use numbers::Numbers;
 pub use refusal::{InputFault, NumberRefusal};
