@@ -5,17 +5,16 @@ ghost use Rattle.std.specs.Prelude.{IfOk, OnOk, OnErr, IsOk};
 ghost use Rattle.std.specs.List.{prefix_len};
 ghost use Rattle.std.specs.Option.{option_to_list};
 ghost use Rattle.rg_base.specs.Pieces.{is_blank};
-ghost use Rattle.arrayvec.specs.ArrayVec.{array_vec_len};
 ghost use Rattle.rg_io.specs.Content.{Rose};
 ghost use Rattle.rg_input.specs.Read.{IsRead};
 ghost use Rattle.rg_input.specs.declared.held.Verdict.{Verdict as Saying};
 ghost use Rattle.rg_input.specs.Numbers.{Follows, IsSure, Refuses, is_input};
 
 use crate::ahead::Ahead;
+use crate::bytes::Bytes;
 use crate::number::token_number;
 use crate::refusal::{InputFault, NumberRefusal};
 use crate::runs::{blank_run, first, token_run};
-use arrayvec::ArrayVec;
 use rg_base::{INPUT_BLANKS, INPUT_TOKEN};
 use rg_io::Source;
 
@@ -37,21 +36,10 @@ pub(crate) enum Verdict {
 /// it.
 #[derive(Drop)]
 pub(crate) struct Held {
-    blanks: ArrayVec<u8, MOST_BLANKS>,
-    token: ArrayVec<u8, MOST_TOKEN>,
+    blanks: Bytes<MOST_BLANKS>,
+    token: Bytes<MOST_TOKEN>,
     behind: Option<u8>,
-    ghost read: { IsRead blanks.items token.items behind },
-}
-
-/// Appends bytes that there is room for.
-fn append<const N: usize>(list: &mut ArrayVec<u8, N>, bytes: &[u8])
-    requires { array_vec_len list.old + length bytes.now ≤ N }
-    ensures { list.new.items ≡ list.old.items ++ bytes.now }
-{
-    match list.try_extend_from_slice(bytes) {
-        Ok(()) => {}
-        Err(_) => unreachable!(),
-    }
+    ghost read: { IsRead blanks token behind },
 }
 
 impl Held {
@@ -63,8 +51,8 @@ impl Held {
         ensures { looked_at result ≡ [] }
     {
         Held {
-            blanks: ArrayVec::new(),
-            token: ArrayVec::new(),
+            blanks: Bytes::new(),
+            token: Bytes::new(),
             behind: None,
         }
     }
@@ -79,14 +67,14 @@ impl Held {
     /// Adds the blanks at the front in front of a token, and answers how many.
     fn push_blanks(&mut self, bytes: &[u8]) -> usize
         requires short { has_enough self.old ≡ false }
-        requires no_token { self.old.token.items ≡ [] }
+        requires no_token { self.old.token ≡ [] }
         ensures within { result ≤ length bytes.now }
         ensures looked { looked_at self.new ≡ looked_at self.old ++ take result bytes.now }
         ensures none { result ≡ 0 → (self.new ≡ self.old) × (prefix_len is_blank bytes.now ≡ 0) }
     {
         let front = first(bytes, MOST_BLANKS - self.blanks.len());
         let n = blank_run(front);
-        append(&mut self.blanks, &front[..n]);
+        self.blanks.append(&front[..n]);
         n
     }
 
@@ -94,14 +82,14 @@ impl Held {
     fn push_token(&mut self, bytes: &[u8]) -> usize
         requires short { has_enough self.old ≡ false }
         requires some { 0 < length bytes.now }
-        requires inside { self.old.token.items ≡ [] → prefix_len is_blank bytes.now ≡ 0 }
+        requires inside { self.old.token ≡ [] → prefix_len is_blank bytes.now ≡ 0 }
         ensures within { result ≤ length bytes.now }
         ensures looked { looked_at self.new ≡ looked_at self.old ++ take result bytes.now }
         ensures moves { 0 < result }
     {
         let front = first(bytes, MOST_TOKEN - self.token.len());
         let n = token_run(front);
-        append(&mut self.token, &front[..n]);
+        self.token.append(&front[..n]);
         if n == front.len() {
             return n;
         }

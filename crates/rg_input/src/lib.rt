@@ -2,6 +2,7 @@
 #![tactic(auto)]
 
 mod ahead;
+mod bytes;
 mod held;
 mod number;
 mod numbers;

@@ -9,7 +9,7 @@ ghost use Rattle.rg_input.specs.Read.{is_in_token};
 fn is_blank_byte(byte: u8) -> bool
     ensures { result ≡ is_blank byte }
 {
-    matches!(byte, b' ' | b'\t' | b'\n' | b'\r')
+    byte <= b' ' && matches!(byte, b' ' | b'\t' | b'\n' | b'\r')
 }
 
 /// How many bytes at the front are blanks.

@@ -11,10 +11,10 @@ invariant_of-self c = record {
 pub invariant_of-self-2 : goal.invariant_of-self-2
 invariant_of-self-2 c =
     let h = c.args.self.now in
-    let token = c.append.new.list.items in
+    let token = c.append.new.self in
     let front = c.first-front.result.now in
-    let fits : length h.token.items ≤ INPUT_TOKEN = short-token h.blanks.items h.token.items h.behind c.requires.short in
-    let some : 0 < length token = token-some h.token.items token c.args.bytes.now front (21 - c.len.result) c.token_run-n.result
+    let fits : length h.token ≤ INPUT_TOKEN = short-token h.blanks h.token h.behind c.requires.short in
+    let some : 0 < length token = token-some h.token token c.args.bytes.now front (21 - c.len.result) c.token_run-n.result
     (omega (arith, fits, c.len.ensures.value)) c.requires.some c.requires.inside c.first-front.ensures.first c.token_run-n.ensures.run
     c.append.ensures in record {
       read = IsRead-behind _ _ _ _ _ (IsRead-token _ _ _ _ _ _ h.read c.token_run-n.ensures.run c.append.ensures) some
