@@ -50,8 +50,11 @@ pub IsRead-behind : (blanks token bytes : List ℕ) (behind : Option ℕ) (n : �
 IsRead-behind blanks token bytes behind n read some run within = record {
   blanks_alone = read.blanks_alone;
   no_blank = read.no_blank;
-  behind_a_token = λ b here. (ap is_blank (sym (Some-same here)) ∙ not-inside (slice_index_or bytes n 0)
-      (ap (λ k. is_in_token (slice_index_or bytes k 0)) run ∙ prefix_len_stops is_in_token bytes 0 (omega (arith, run))), some);
+  behind_a_token = λ b here. (
+    ap is_blank (sym (Some-same here)) ∙ not-inside (slice_index_or bytes n 0)
+        (ap (λ k. is_in_token (slice_index_or bytes k 0)) run ∙ prefix_len_stops is_in_token bytes 0 (omega (arith, run))),
+    some,
+  );
 }
   where
     Some-same : {a b : ℕ} → Some a ≡ Some b → a ≡ b

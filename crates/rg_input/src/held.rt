@@ -74,6 +74,9 @@ impl Held {
     {
         let front = first(bytes, MOST_BLANKS - self.blanks.len());
         let n = blank_run(front);
+        if n == 0 {
+            return 0;
+        }
         self.blanks.append(&front[..n]);
         n
     }
@@ -187,6 +190,9 @@ impl Held {
         ensures fault { OnErr result (Rose (S.faults source.old) (S.faults source.new)) }
         ensures never_falls { S.faults source.old ≤ S.faults source.new }
     {
+        if self.has_enough() {
+            return Ok(self.verdict());
+        }
         self.fill(ahead, source)?;
         Ok(self.verdict())
     }
