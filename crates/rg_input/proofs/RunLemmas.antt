@@ -1,6 +1,6 @@
 -- Runs of bytes of one kind, behind what was read.
 use Rattle.std.proofs.Common.{◌≡◌, ℕ, ◌<◌, ◌≤◌, Bool, true, false, not, List, [], ◌∷◌, ◌++◌, length, take, Option, Some, arith, refl, sym, ◌∙◌, ap}
-use Rattle.std.proofs.Common.{slice_index_or, length-append, zero, suc, cond, ◌+◌, ◌||◌, subst, nat_lt, is_some}
+use Rattle.std.proofs.Common.{slice_index_or, slice_index, length-append, zero, suc, ◌+◌, ◌||◌, subst, nat_lt, is_some}
 use Rattle.std.proofs.lemmas.Bool.Decides.{nat_tests}
 use Rattle.rg_base.specs.declared.limits.TheConstants.{INPUT_BLANKS, INPUT_TOKEN}
 use Rattle.std.specs.List.{list_all, prefix_len}
@@ -60,25 +60,21 @@ IsRead-behind blanks token bytes behind n read some run within = record {
     Some-same : {a b : ℕ} → Some a ≡ Some b → a ≡ b
     Some-same e = cc
 
--- no blank comes first
-run-some_by : (t : Bool) (m k : ℕ) → cond t (1 + m) 0 ≡ 0 → 0 < cond (not t) (1 + k) 0
-run-some_by true m k none = absurd (omega arith)
-run-some_by false m k none = omega arith
-
-run-some : (room : ℕ) (bytes : List ℕ) → 0 < room → 0 < length bytes → prefix_len is_blank bytes ≡ 0 →
-    0 < prefix_len is_in_token (take room bytes)
-run-some zero bytes fits some none = absurd (omega arith)
-run-some (suc room) [] fits some none = absurd (omega arith)
-run-some (suc room) (b ∷ bs) fits some none =
-    run-some_by (is_blank b) (prefix_len is_blank bs) (prefix_len is_in_token (take room bs)) none
+-- a run whose first byte is of its kind has a byte
+pub run-some : (test : ℕ → Bool) (room : ℕ) (bytes : List ℕ) → 0 < room → 0 < length bytes → test (slice_index bytes 0) ≡ true →
+    0 < prefix_len test (take room bytes)
+run-some test zero bytes fits some passes = absurd (omega arith)
+run-some test (suc room) [] fits some passes = absurd (omega arith)
+run-some test (suc room) (b ∷ bs) fits some passes = rw passes (omega arith)
 
 -- a token has a byte
-pub token-some : (token new bytes front : List ℕ) (room n : ℕ) → 0 < room → 0 < length bytes → (token ≡ [] → prefix_len is_blank bytes ≡ 0) →
-    front ≡ take room bytes → n ≡ prefix_len is_in_token front → new ≡ token ++ take n front → 0 < length new
+pub token-some : (token new bytes front : List ℕ) (room n : ℕ) → 0 < room → 0 < length bytes →
+    (token ≡ [] → is_blank (slice_index bytes 0) ≡ false) → front ≡ take room bytes → n ≡ prefix_len is_in_token front →
+    new ≡ token ++ take n front → 0 < length new
 token-some [] new bytes front room n fits some inside first run is =
     let long : length new ≡ n = ap length is ∙ ap (λ k. length (take k front)) run ∙ length-prefix_len is_in_token front ∙ sym run in
     let more : 0 < prefix_len is_in_token front =
-    subst (λ f. 0 < prefix_len is_in_token f) (sym first) (run-some room bytes fits some (inside refl)) in
+    subst (λ f. 0 < prefix_len is_in_token f) (sym first) (run-some is_in_token room bytes fits some (ap not (inside refl))) in
     omega (arith, long, run, more)
 token-some (t ∷ ts) new bytes front room n fits some inside first run is =
     let long : length new ≡ suc (length (ts ++ take n front)) = ap length is in omega (arith, long)

@@ -1,8 +1,8 @@
 //! The bytes that were looked at and not taken (docs/language.md, "Input numbers").
 
-ghost use Rattle.std.specs.Prelude.{◌≡◌, ◌+◌, ◌<◌, ◌≤◌, false, [], ◌++◌, length, take};
+ghost use Rattle.std.specs.Prelude.{◌≡◌, ◌+◌, ◌<◌, ◌≤◌, true, false, [], ◌++◌, length, take};
+ghost use Rattle.std.specs.Prelude.{slice_index};
 ghost use Rattle.std.specs.Prelude.{IfOk, OnOk, OnErr, IsOk};
-ghost use Rattle.std.specs.List.{prefix_len};
 ghost use Rattle.std.specs.Option.{option_to_list};
 ghost use Rattle.rg_base.specs.Pieces.{is_blank};
 ghost use Rattle.rg_io.specs.Content.{Rose};
@@ -14,7 +14,7 @@ use crate::ahead::Ahead;
 use crate::bytes::Bytes;
 use crate::number::token_number;
 use crate::refusal::{InputFault, NumberRefusal};
-use crate::runs::{blank_run, first, token_run};
+use crate::runs::{blank_run, first, is_blank_byte, token_run};
 use rg_base::{INPUT_BLANKS, INPUT_TOKEN};
 use rg_io::Source;
 
@@ -64,19 +64,18 @@ impl Held {
         self.behind.is_some() || self.blanks.len() > INPUT_BLANKS || self.token.len() > INPUT_TOKEN
     }
 
-    /// Adds the blanks at the front in front of a token, and answers how many.
+    /// Adds the blanks at the front, and answers how many.
     fn push_blanks(&mut self, bytes: &[u8]) -> usize
         requires short { has_enough self.old ≡ false }
+        requires some { 0 < length bytes.now }
         requires no_token { self.old.token ≡ [] }
+        requires first { is_blank (slice_index bytes.now 0) ≡ true }
         ensures within { result ≤ length bytes.now }
         ensures looked { looked_at self.new ≡ looked_at self.old ++ take result bytes.now }
-        ensures none { result ≡ 0 → (self.new ≡ self.old) × (prefix_len is_blank bytes.now ≡ 0) }
+        ensures moves { 0 < result }
     {
         let front = first(bytes, MOST_BLANKS - self.blanks.len());
         let n = blank_run(front);
-        if n == 0 {
-            return 0;
-        }
         self.blanks.append(&front[..n]);
         n
     }
@@ -85,7 +84,7 @@ impl Held {
     fn push_token(&mut self, bytes: &[u8]) -> usize
         requires short { has_enough self.old ≡ false }
         requires some { 0 < length bytes.now }
-        requires inside { self.old.token ≡ [] → prefix_len is_blank bytes.now ≡ 0 }
+        requires inside { self.old.token ≡ [] → is_blank (slice_index bytes.now 0) ≡ false }
         ensures within { result ≤ length bytes.now }
         ensures looked { looked_at self.new ≡ looked_at self.old ++ take result bytes.now }
         ensures moves { 0 < result }
@@ -108,11 +107,8 @@ impl Held {
         ensures looked { looked_at self.new ≡ looked_at self.old ++ take result bytes.now }
         ensures moves { 0 < result }
     {
-        if self.token.is_empty() {
-            let n = self.push_blanks(bytes);
-            if n > 0 {
-                return n;
-            }
+        if self.token.is_empty() && is_blank_byte(bytes[0]) {
+            return self.push_blanks(bytes);
         }
         self.push_token(bytes)
     }

@@ -6,7 +6,7 @@ ghost use Rattle.rg_base.specs.Pieces.{is_blank};
 ghost use Rattle.rg_input.specs.Read.{is_in_token};
 
 /// A space, a tab, the end of a line or a carriage return.
-fn is_blank_byte(byte: u8) -> bool
+pub(crate) fn is_blank_byte(byte: u8) -> bool
     ensures { result ≡ is_blank byte }
 {
     byte <= b' ' && matches!(byte, b' ' | b'\t' | b'\n' | b'\r')
