@@ -1,10 +1,10 @@
-//! A list of bytes in a place of its own (docs/language.md, "Input numbers").
+//! A list of bytes that lie in the value itself (docs/language.md, "Input numbers").
 
 ghost use Rattle.std.specs.Prelude.{◌≡◌, ◌+◌, ◌<◌, ◌≤◌, ◌==◌, [], ◌∷◌, ◌++◌, length, take, drop};
 
 use std::marker::Model;
 
-/// At most `N` bytes, which lie in the value itself. To forget them takes no time.
+/// At most `N` bytes. To forget them writes none of them.
 #[derive(Drop)]
 pub(crate) struct Bytes<const N: usize> {
     cells: [u8; N],

@@ -1,8 +1,7 @@
 //! The bytes that were looked at and not taken (docs/language.md, "Input numbers").
 
-ghost use Rattle.std.specs.Prelude.{◌≡◌, ◌+◌, ◌<◌, ◌≤◌, true, false, [], ◌++◌, length, take};
-ghost use Rattle.std.specs.Prelude.{slice_index};
-ghost use Rattle.std.specs.Prelude.{IfOk, OnOk, OnErr, IsOk};
+ghost use Rattle.std.specs.Prelude.{◌≡◌, ◌<◌, ◌≤◌, true, false, [], ◌++◌, length, take};
+ghost use Rattle.std.specs.Prelude.{slice_index, IfOk, OnOk, OnErr, IsOk};
 ghost use Rattle.std.specs.Option.{option_to_list};
 ghost use Rattle.rg_base.specs.Pieces.{is_blank};
 ghost use Rattle.rg_io.specs.Content.{Rose};
@@ -113,7 +112,7 @@ impl Held {
         self.push_token(bytes)
     }
 
-    /// Looks at what lies ahead.
+    /// Looks at the bytes of one kind that lie ahead.
     fn take_run(&mut self, ahead: &mut Ahead)
         requires short { has_enough self.old ≡ false }
         requires some { 0 < length ahead.old.held }
