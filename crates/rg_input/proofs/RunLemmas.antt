@@ -61,7 +61,7 @@ IsRead-behind blanks token bytes behind n read some run within = record {
     Some-same e = cc
 
 -- a run whose first byte is of its kind has a byte
-pub run-some : (test : ℕ → Bool) (room : ℕ) (bytes : List ℕ) → 0 < room → 0 < length bytes → test (slice_index bytes 0) ≡ true →
+run-some : (test : ℕ → Bool) (room : ℕ) (bytes : List ℕ) → 0 < room → 0 < length bytes → test (slice_index bytes 0) ≡ true →
     0 < prefix_len test (take room bytes)
 run-some test zero bytes fits some passes = absurd (omega arith)
 run-some test (suc room) [] fits some passes = absurd (omega arith)
