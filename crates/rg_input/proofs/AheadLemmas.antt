@@ -1,6 +1,6 @@
 -- What is held of an input where bytes came.
-use Rattle.std.proofs.Common.{◌≡◌, ℕ, ◌+◌, ◌-◌, ◌≤◌, inl, inr, false, List, [], ◌++◌, Bool, Option, refl, sym, ◌∙◌, ap, subst, append-nil, append_assoc}
-use Rattle.std.proofs.Common.{length, take, drop, arith}
+use Rattle.std.proofs.Common.{◌≡◌, ℕ, ◌+◌, ◌-◌, ◌≤◌, inl, inr, false, List, [], ◌++◌, length, take, drop, Bool, Option, refl, sym, ◌∙◌, ap}
+use Rattle.std.proofs.Common.{subst, append-nil, append_assoc, arith}
 use Rattle.std.proofs.lemmas.List.{length-take, drop-take, drop-drop}
 use Rattle.std.proofs.lemmas.Bool.{false≢true}
 use Rattle.rg_io.proofs.ContentLemmas.{Gives-more}
