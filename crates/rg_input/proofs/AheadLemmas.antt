@@ -1,5 +1,7 @@
--- What is held of an input where a byte came from what lies ahead.
-use Rattle.std.proofs.Common.{◌≡◌, ℕ, inl, inr, false, List, [], ◌++◌, Bool, Option, refl, sym, ◌∙◌, ap, subst, append-nil, append_assoc}
+-- What is held of an input where bytes came.
+use Rattle.std.proofs.Common.{◌≡◌, ℕ, ◌+◌, ◌-◌, ◌≤◌, inl, inr, false, List, [], ◌++◌, length, take, drop, Bool, Option, refl, sym, ◌∙◌, ap}
+use Rattle.std.proofs.Common.{subst, append-nil, append_assoc, arith}
+use Rattle.std.proofs.lemmas.List.{length-take, drop-take, drop-drop}
 use Rattle.std.proofs.lemmas.Bool.{false≢true}
 use Rattle.rg_io.proofs.ContentLemmas.{Gives-more}
 use Rattle.rg_input.specs.Inner.Ahead.{Came}
@@ -11,20 +13,18 @@ use Rattle.rg_input.specs.Read.{is_whole}
 abbrev pub beside : List ℕ → Pending → Pending
 beside looked ahead = record { held = looked ++ ahead.held; ended = ahead.ended }
 
--- the bytes that were taken from what lay ahead were looked at
-moved : (b c : Option (List ℕ)) (ahead next : Pending) (looked new first : List ℕ) (came : Came b c ahead next first) → new ≡ looked ++ first →
-    new ++ next.held ≡ (looked ++ ahead.held) ++ came.read
-moved b c ahead next looked new first came is =
-    ap (λ q. q ++ next.held) is ∙ append_assoc looked first next.held ∙ ap (λ q. looked ++ q) (sym came.kept)
-    ∙ sym (append_assoc looked ahead.held came.read)
+-- what came stands behind all that was held
+behind-all : (b c : Option (List ℕ)) (ahead next : Pending) (looked : List ℕ) (came : Came b c ahead next) →
+    looked ++ next.held ≡ (looked ++ ahead.held) ++ came.read
+behind-all b c ahead next looked came = ap (λ q. looked ++ q) came.kept ∙ sym (append_assoc looked ahead.held came.read)
 
 -- more bytes came
-pub Reads-came : (a b c : Option (List ℕ)) (old ahead next : Pending) (looked new first : List ℕ) → Reads a b old (beside looked ahead) →
-    Came b c ahead next first → new ≡ looked ++ first → Reads a c old (beside new next)
-Reads-came a b c old ahead next looked new first r came is = record {
+pub Reads-came : (a b c : Option (List ℕ)) (old ahead next : Pending) (looked : List ℕ) → Reads a b old (beside looked ahead) →
+    Came b c ahead next → Reads a c old (beside looked next)
+Reads-came a b c old ahead next looked r came = record {
   read = r.read ++ came.read;
   given = Gives-more a b c r.read came.read r.given came.given;
-  kept = moved b c ahead next looked new first came is ∙ ap (λ q. q ++ came.read) r.kept ∙ append_assoc old.held r.read came.read;
+  kept = behind-all b c ahead next looked came ∙ ap (λ q. q ++ came.read) r.kept ∙ append_assoc old.held r.read came.read;
   ended = λ over.
       let before = r.ended over in
       let now = came.ended before.1 in (ap (λ q. q ++ came.read) before.0 ∙ now.0, now.1);
@@ -47,12 +47,21 @@ same-beside : (looked : List ℕ) (ahead : Pending) (held : List ℕ) (ended : B
 same-beside looked ahead held ended bytes end = rw (bytes, end) refl
 
 -- where no more has to be read nothing was asked for, and what is held stays
-pub still-held : (b c : Option (List ℕ)) (old ahead next : Pending) (looked new first : List ℕ) → is_whole looked ≡ false →
-    Came b c ahead next first → new ≡ looked ++ first → (IsSure old → beside looked ahead ≡ old) → IsSure old → beside new next ≡ old
-still-held b c old ahead next looked new first short came is same sure = elim came.asked [
+pub still-held : (b c : Option (List ℕ)) (old ahead next : Pending) (looked : List ℕ) → is_whole looked ≡ false → Came b c ahead next →
+    (IsSure old → beside looked ahead ≡ old) → IsSure old → beside looked next ≡ old
+still-held b c old ahead next looked short came same sure = elim came.asked [
   | inl none ↦
-      let bytes : new ++ next.held ≡ looked ++ ahead.held =
-      moved b c ahead next looked new first came is ∙ ap (λ q. (looked ++ ahead.held) ++ q) none.0 ∙ append-nil (looked ++ ahead.held) in
-      same-beside looked ahead (new ++ next.held) next.ended bytes none.1 ∙ same sure
+      let bytes : looked ++ next.held ≡ looked ++ ahead.held =
+      behind-all b c ahead next looked came ∙ ap (λ q. (looked ++ ahead.held) ++ q) none.0 ∙ append-nil (looked ++ ahead.held) in
+      same-beside looked ahead (looked ++ next.held) next.ended bytes none.1 ∙ same sure
   | inr asked ↦ absurd (not-sure old ahead looked short asked (same sure) sure)
 ]
+
+-- what is left behind the first bytes
+pub skipped : (piece : List ℕ) (from left n : ℕ) → n ≤ length (take left (drop from piece)) →
+    take (left - n) (drop (from + n) piece) ≡ drop n (take left (drop from piece))
+skipped piece from left n within =
+    let fits : n ≤ left = omega (arith, within, length-take left (drop from piece)) in
+    let whole : n + (left - n) ≡ left = omega (arith, fits) in
+    sym (ap (λ k. drop n (take k (drop from piece))) (sym whole) ∙ drop-take n (left - n) (drop from piece)
+    ∙ ap (λ q. take (left - n) q) (drop-drop n from piece))

@@ -97,7 +97,7 @@ pub Settled-says : (h : Held) (ahead : Pending) (v : Verdict) → Says h v → (
     Settled v (pending h ahead)
 Settled-says h ahead (says.Number z) said short whole = tt
 Settled-says h ahead says.Malformed said short (inl enough) = (
-  inr (is_whole-more (looked_at h) ahead.held (is_whole-read h.blanks.items h.token.items h.behind h.read ∙ enough)),
+  inr (is_whole-more (looked_at h) ahead.held (is_whole-read h.blanks h.token h.behind h.read ∙ enough)),
   says_alone h ahead says.Malformed said (inl enough),
 )
 Settled-says h ahead says.Malformed said short (inr over) = (inl over.0, says_alone h ahead says.Malformed said (inr over))
@@ -106,7 +106,7 @@ Settled-says h ahead says.End said short (inr over) = (over.0, says_alone h ahea
 
 -- too little was looked at
 pub short-looked : (h : Held) → has_enough h ≡ false → is_whole (looked_at h) ≡ false
-short-looked h short = is_whole-read h.blanks.items h.token.items h.behind h.read ∙ short
+short-looked h short = is_whole-read h.blanks h.token h.behind h.read ∙ short
 
 -- where too little was looked at, and no more has to be read, something lies ahead or the source has ended
 pub has-more : (h : Held) (old ahead : Pending) → has_enough h ≡ false → (IsSure old → pending h ahead ≡ old) → IsSure old →

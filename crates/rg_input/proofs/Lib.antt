@@ -3,4 +3,6 @@ mod AheadLemmas
 mod HeldLemmas
 pub mod InputLemmas
 mod NextLemmas
+mod NumberLemmas
 mod ReadLemmas
+mod RunLemmas

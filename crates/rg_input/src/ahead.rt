@@ -1,10 +1,8 @@
 //! What came from a source and was not looked at (docs/language.md, "Input numbers").
 
-ghost use Rattle.std.specs.Prelude.{◌≡◌, ◌⊎◌, ◌<◌, ◌≤◌, ◌++◌, true, false, [], length};
-ghost use Rattle.std.specs.Prelude.{IfNone, OnOk, OnErr, Ok, None};
-ghost use Rattle.std.specs.Option.{option_to_list};
+ghost use Rattle.std.specs.Prelude.{◌≡◌, ◌⊎◌, ◌<◌, ◌≤◌, true, false, [], length, drop, OnOk, OnErr};
 ghost use Rattle.rg_io.specs.Content.{Rose};
-ghost use Rattle.rg_input.specs.Inner.Ahead.{Came, taken};
+ghost use Rattle.rg_input.specs.Inner.Ahead.{Came};
 ghost use Rattle.rg_input.specs.Numbers.{Follows};
 
 use crate::refusal::InputFault;
@@ -50,10 +48,10 @@ impl Ahead {
     }
 
     /// Asks for the next piece where nothing is left of the last one.
-    fn refill<S: Source>(&mut self, source: &mut S) -> Result<(), InputFault>
+    pub(crate) fn refill<S: Source>(&mut self, source: &mut S) -> Result<(), InputFault>
         requires { Follows self.old (S.left source.old) }
         ensures follows { Follows self.new (S.left source.new) }
-        ensures came { Came (S.left source.old) (S.left source.new) self.old self.new [] }
+        ensures came { Came (S.left source.old) (S.left source.new) self.old self.new }
         ensures filled { OnOk result ((0 < length self.new.held) ⊎ (self.new.ended ≡ true)) }
         ensures needed { OnErr result (self.old ≡ record { held = []; ended = false }) }
         ensures unasked { (self.old ≡ record { held = []; ended = false } → ⊥) →
@@ -78,35 +76,19 @@ impl Ahead {
         }
     }
 
-    /// Takes the first byte, where one is left.
-    fn take(&mut self) -> Option<u8>
-        ensures took { self.old.held ≡ option_to_list result ++ self.new.held }
-        ensures none { IfNone result (self.new.held ≡ []) }
-        ensures ended { self.new.ended ≡ self.old.ended }
+    /// The bytes that are left.
+    pub(crate) fn bytes(&self) -> &[u8]
+        ensures { result.now ≡ self.now.held }
     {
-        if self.left == 0 {
-            return None;
-        }
-        let byte = self.piece[self.from];
-        self.from += 1;
-        self.left -= 1;
-        Some(byte)
+        &self.piece[self.from..self.from + self.left]
     }
 
-    /// Takes the next byte of the input; none at its end.
-    pub(crate) fn next<S: Source>(&mut self, source: &mut S) -> Result<Option<u8>, InputFault>
-        requires { Follows self.old (S.left source.old) }
-        ensures follows { Follows self.new (S.left source.new) }
-        ensures came { Came (S.left source.old) (S.left source.new)
-            self.old self.new (taken result) }
-        ensures end { result ≡ Ok None → (self.new.ended ≡ true) × (self.new.held ≡ []) }
-        ensures needed { OnErr result (self.old ≡ record { held = []; ended = false }) }
-        ensures unasked { (self.old ≡ record { held = []; ended = false } → ⊥) →
-            source.new ≡ source.old }
-        ensures fault { OnErr result (Rose (S.faults source.old) (S.faults source.new)) }
-        ensures never_falls { S.faults source.old ≤ S.faults source.new }
+    /// Takes the first bytes.
+    pub(crate) fn skip(&mut self, n: usize)
+        requires { n ≤ length self.old.held }
+        ensures { self.new ≡ record { held = drop n self.old.held; ended = self.old.ended } }
     {
-        self.refill(source)?;
-        Ok(self.take())
+        self.from += n;
+        self.left -= n;
     }
 }

@@ -1,6 +1,7 @@
 //! The bytes that were looked at and not taken (docs/language.md, "Input numbers").
 
-ghost use Rattle.std.specs.Prelude.{◌≡◌, ◌≤◌, false, [], ◌∷◌, ◌++◌, IfOk, OnOk, OnErr, IsOk};
+ghost use Rattle.std.specs.Prelude.{◌≡◌, ◌<◌, ◌≤◌, true, false, [], ◌++◌, length, take};
+ghost use Rattle.std.specs.Prelude.{slice_index, IfOk, OnOk, OnErr, IsOk};
 ghost use Rattle.std.specs.Option.{option_to_list};
 ghost use Rattle.rg_base.specs.Pieces.{is_blank};
 ghost use Rattle.rg_io.specs.Content.{Rose};
@@ -9,9 +10,10 @@ ghost use Rattle.rg_input.specs.declared.held.Verdict.{Verdict as Saying};
 ghost use Rattle.rg_input.specs.Numbers.{Follows, IsSure, Refuses, is_input};
 
 use crate::ahead::Ahead;
+use crate::bytes::Bytes;
 use crate::number::token_number;
 use crate::refusal::{InputFault, NumberRefusal};
-use arrayvec::ArrayVec;
+use crate::runs::{blank_run, first, is_blank_byte, token_run};
 use rg_base::{INPUT_BLANKS, INPUT_TOKEN};
 use rg_io::Source;
 
@@ -33,17 +35,10 @@ pub(crate) enum Verdict {
 /// it.
 #[derive(Drop)]
 pub(crate) struct Held {
-    blanks: ArrayVec<u8, MOST_BLANKS>,
-    token: ArrayVec<u8, MOST_TOKEN>,
+    blanks: Bytes<MOST_BLANKS>,
+    token: Bytes<MOST_TOKEN>,
     behind: Option<u8>,
-    ghost read: { IsRead blanks.items token.items behind },
-}
-
-/// A space, a tab, the end of a line or a carriage return.
-fn is_blank_byte(byte: u8) -> bool
-    ensures { result ≡ is_blank byte }
-{
-    matches!(byte, b' ' | b'\t' | b'\n' | b'\r')
+    ghost read: { IsRead blanks token behind },
 }
 
 impl Held {
@@ -55,8 +50,8 @@ impl Held {
         ensures { looked_at result ≡ [] }
     {
         Held {
-            blanks: ArrayVec::new(),
-            token: ArrayVec::new(),
+            blanks: Bytes::new(),
+            token: Bytes::new(),
             behind: None,
         }
     }
@@ -68,18 +63,64 @@ impl Held {
         self.behind.is_some() || self.blanks.len() > INPUT_BLANKS || self.token.len() > INPUT_TOKEN
     }
 
-    /// Adds a byte.
-    fn push(&mut self, byte: u8)
-        requires { has_enough self.old ≡ false }
-        ensures { looked_at self.new ≡ looked_at self.old ++ byte ∷ [] }
+    /// Adds the blanks at the front, and answers how many.
+    fn push_blanks(&mut self, bytes: &[u8]) -> usize
+        requires short { has_enough self.old ≡ false }
+        requires some { 0 < length bytes.now }
+        requires no_token { self.old.token ≡ [] }
+        requires first { is_blank (slice_index bytes.now 0) ≡ true }
+        ensures within { result ≤ length bytes.now }
+        ensures looked { looked_at self.new ≡ looked_at self.old ++ take result bytes.now }
+        ensures moves { 0 < result }
     {
-        if !is_blank_byte(byte) {
-            self.token.push(byte);
-        } else if self.token.is_empty() {
-            self.blanks.push(byte);
-        } else {
-            self.behind = Some(byte);
+        let front = first(bytes, MOST_BLANKS - self.blanks.len());
+        let n = blank_run(front);
+        self.blanks.append(&front[..n]);
+        n
+    }
+
+    /// Adds the bytes of a token at the front, with the blank behind it, and answers how many.
+    fn push_token(&mut self, bytes: &[u8]) -> usize
+        requires short { has_enough self.old ≡ false }
+        requires some { 0 < length bytes.now }
+        requires inside { self.old.token ≡ [] → is_blank (slice_index bytes.now 0) ≡ false }
+        ensures within { result ≤ length bytes.now }
+        ensures looked { looked_at self.new ≡ looked_at self.old ++ take result bytes.now }
+        ensures moves { 0 < result }
+    {
+        let front = first(bytes, MOST_TOKEN - self.token.len());
+        let n = token_run(front);
+        self.token.append(&front[..n]);
+        if n == front.len() {
+            return n;
         }
+        self.behind = Some(front[n]);
+        n + 1
+    }
+
+    /// Adds the bytes at the front that are of one kind, and answers how many.
+    fn push(&mut self, bytes: &[u8]) -> usize
+        requires short { has_enough self.old ≡ false }
+        requires some { 0 < length bytes.now }
+        ensures within { result ≤ length bytes.now }
+        ensures looked { looked_at self.new ≡ looked_at self.old ++ take result bytes.now }
+        ensures moves { 0 < result }
+    {
+        if self.token.is_empty() && is_blank_byte(bytes[0]) {
+            return self.push_blanks(bytes);
+        }
+        self.push_token(bytes)
+    }
+
+    /// Looks at the bytes of one kind that lie ahead.
+    fn take_run(&mut self, ahead: &mut Ahead)
+        requires short { has_enough self.old ≡ false }
+        requires some { 0 < length ahead.old.held }
+        ensures kept { pending self.new ahead.new ≡ pending self.old ahead.old }
+        ensures nearer { length (looked_at self.old) < length (looked_at self.new) }
+    {
+        let n = self.push(ahead.bytes());
+        ahead.skip(n);
     }
 
     /// Looks on until there is enough or the input ends.
@@ -96,10 +137,11 @@ impl Held {
         ensures never_falls { S.faults source.old ≤ S.faults source.new }
     {
         while !self.has_enough() {
-            match ahead.next(source)? {
-                Some(byte) => self.push(byte),
-                None => return Ok(()),
+            ahead.refill(source)?;
+            if ahead.bytes().is_empty() {
+                return Ok(());
             }
+            self.take_run(ahead);
         }
         Ok(())
     }
@@ -143,6 +185,9 @@ impl Held {
         ensures fault { OnErr result (Rose (S.faults source.old) (S.faults source.new)) }
         ensures never_falls { S.faults source.old ≤ S.faults source.new }
     {
+        if self.has_enough() {
+            return Ok(self.verdict());
+        }
         self.fill(ahead, source)?;
         Ok(self.verdict())
     }

@@ -2,10 +2,12 @@
 #![tactic(auto)]
 
 mod ahead;
+mod bytes;
 mod held;
 mod number;
 mod numbers;
 mod refusal;
+mod runs;
 
 pub use numbers::Numbers;
 pub use refusal::{InputFault, NumberRefusal};

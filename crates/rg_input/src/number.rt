@@ -13,34 +13,6 @@ use rg_base::{GREATEST_NUMBER, INPUT_TOKEN};
 /// How far below 0 the least `i64` lies.
 const FARTHEST: u64 = 1 << 63;
 
-/// The value of digits, where it is within the limit.
-fn value(digits: &[u8], most: u64) -> Option<u64>
-    requires digits { list_all is_digit digits.now ≡ true }
-    requires most { 9 ≤ most }
-    ensures value { IfSome result (λ v. v ≡ value_of digits.now) }
-    ensures within { IfSome result (λ v. v ≤ most) }
-    ensures past { IfNone result (most < value_of digits.now) }
-{
-    // below it any digit may come
-    let near = most / 10;
-    let mut value: u64 = 0;
-    for b in digits {
-        let digit = u64::from(*b - b'0');
-        if value >= near && value > (most - digit) / 10 {
-            return None;
-        }
-        value = value * 10 + digit;
-    }
-    Some(value)
-}
-
-/// Whether all bytes are digits.
-fn all_digits(bytes: &[u8]) -> bool
-    ensures { result ≡ list_all is_digit bytes.now }
-{
-    bytes.iter().all(|b| b.is_ascii_digit())
-}
-
 /// The value of one or more digits, where it is within the limit.
 fn value_within(digits: &[u8], most: u64) -> Option<u64>
     requires { 9 ≤ most }
@@ -49,11 +21,20 @@ fn value_within(digits: &[u8], most: u64) -> Option<u64>
     if digits.is_empty() {
         return None;
     }
-    if all_digits(digits) {
-        value(digits, most)
-    } else {
-        None
+    // below it any digit may come
+    let near = most / 10;
+    let mut value: u64 = 0;
+    for b in digits {
+        if !b.is_ascii_digit() {
+            return None;
+        }
+        let digit = u64::from(*b - b'0');
+        if value >= near && value > (most - digit) / 10 {
+            return None;
+        }
+        value = value * 10 + digit;
     }
+    Some(value)
 }
 
 /// The number of digits behind a minus.

@@ -13,7 +13,7 @@ use Rattle.rg_input.specs.Read.{read_bytes, is_enough}
 
 -- the bytes that were looked at
 abbrev pub looked_at : Held → List ℕ
-looked_at h = read_bytes h.blanks.items h.token.items h.behind
+looked_at h = read_bytes h.blanks h.token h.behind
 
 -- what callers see of it: the bytes that were looked at, and behind them those that came ahead
 abbrev pub pending : Held → Pending → Pending
@@ -28,7 +28,7 @@ pub record Reads (old_left new_left : Option (List ℕ)) (old new : Pending) : T
 
 -- whether what was looked at says what the next number is, whatever comes
 abbrev pub has_enough : Held → Bool
-has_enough h = is_enough h.blanks.items h.token.items h.behind
+has_enough h = is_enough h.blanks h.token h.behind
 
 -- no more has to be looked at, or no more comes
 abbrev pub IsWhole : Held → Pending → Type 0

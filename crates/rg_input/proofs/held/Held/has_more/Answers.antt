@@ -13,7 +13,7 @@ returns-then-is_empty c = (says.End, λ more end. says_end _ _ _ more c.args.sel
 
 pub returns : goal.returns
 returns c =
-    let token = token_number c.args.self.now.token.items in (
+    let token = token_number c.args.self.now.token in (
       verdict_on token,
       λ more end. says_token _ _ _ more c.args.self.now.read (omega arith) (grind arith) end ∙ with-token token _,
       more-token token,

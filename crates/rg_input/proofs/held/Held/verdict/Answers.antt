@@ -22,10 +22,10 @@ returns-then-is_empty-clause-end c e = enough-empty _ _ _ c.args.self.now.read (
 pub returns-in-Some-clause-says : goal.returns-in-Some-clause-says
 returns-in-Some-clause-says c more end = says_token _ _ _ more c.args.self.now.read (omega arith) (grind arith) end
     ∙ ap (found_or_malformed (option_to_list c.args.self.now.behind ++ more))
-    (token_is c.token_number.result c.as_slice.result.now _ _ c.token_number.ensures c.as_slice.ensures.value c.in-Some.is)
+    (token_is c.token_number.result c.as_slice.result.now _ _ c.token_number.ensures c.as_slice.ensures c.in-Some.is)
     ∙ (let z_is : to_z w64 (of_z w64 c.in-Some.z) ≡ c.in-Some.z = grind (arith, to_z-of_z) in rw z_is refl)
 
 pub returns-in-None-clause-says : goal.returns-in-None-clause-says
 returns-in-None-clause-says c more end = says_token _ _ _ more c.args.self.now.read (omega arith) (grind arith) end
     ∙ ap (found_or_malformed (option_to_list c.args.self.now.behind ++ more))
-    (token_is c.token_number.result c.as_slice.result.now _ _ c.token_number.ensures c.as_slice.ensures.value c.in-None.is)
+    (token_is c.token_number.result c.as_slice.result.now _ _ c.token_number.ensures c.as_slice.ensures c.in-None.is)

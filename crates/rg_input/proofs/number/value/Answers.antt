@@ -1,7 +1,0 @@
-use Rattle.std.proofs.Common.{arith}
-use Rattle.rg_base.proofs.Callers.Digits.{value_of-past}
-use Rattle.rg_input.proofs.number.value.Goals as goal
-
-pub returns-then-value-most-clause-past : goal.returns-then-value-most-clause-past
-returns-then-value-most-clause-past c =
-    value_of-past _ _ _ c.loop-b.value c.loop-b-test.true c.loop-b.invariant.same (omega (arith, c.from-digit.ensures))
