@@ -19,8 +19,7 @@ use Rattle.rg_machine.specs.Parts.{Parts, machine_in}
 use Rattle.rg_machine.specs.Stands.{Stands}
 use Rattle.rg_step.specs.Asking.{AsksFrom, AsksOn, first_makes, raised_if}
 use Rattle.rg_step.specs.Collections.{Asks, Paces, Serves}
-use Rattle.rg_step.specs.Inner.Serving.{is_made}
-use Rattle.rg_step.specs.Steps.{Runs, Stepping, StepsOn}
+use Rattle.rg_step.specs.Steps.{Runs, Stepping, StepsOn, is_made}
 use Rattle.rg_step.proofs.ActiveLemmas.{shown-manager}
 use Rattle.rg_step.proofs.AskLemmas.{OnInput-some}
 use Rattle.rg_step.proofs.PacedLemmas.{first-paced, is_pace, next-stays}

@@ -4,9 +4,8 @@ use Rattle.rg_input.proofs.InputLemmas.{OnInput-map, OnInput-still}
 use Rattle.rg_stack.specs.Dues.{due_at}
 use Rattle.rg_machine.specs.Parts.{machine_in}
 use Rattle.rg_step.specs.Inner.Held.{stepping}
-use Rattle.rg_step.specs.Inner.Serving.{is_made}
 use Rattle.rg_step.specs.Collections.{ReachesOn}
-use Rattle.rg_step.specs.Steps.{StepsOn}
+use Rattle.rg_step.specs.Steps.{StepsOn, is_made}
 use Rattle.rg_step.proofs.ServeLemmas.{once-behind, serves-none, serves-refused, serves-shows, serves-some, steps-nowhere}
 use Rattle.rg_step.proofs.ReachedLemmas.{none-reached, serves-reached}
 use Rattle.rg_step.proofs.AskedLemmas.{asks-refused, asks-served, asks-undue}
