@@ -11,7 +11,6 @@ use Rattle.rg_rules.specs.Asks.{is_managed, managed_by, paced_as}
 use Rattle.rg_rules.specs.State.{State, active}
 use Rattle.rg_rules.specs.Steps.{next}
 use Rattle.rg_code.specs.Code.{Code}
-use Rattle.rg_input.specs.Numbers.{Follows, OnInput, Pending}
 use Rattle.rg_stack.specs.Dues.{due_at}
 use Rattle.rg_stack.specs.Machine.{Machine}
 use Rattle.rg_stack.proofs.Callers.DueLemmas.{steps-due}
@@ -21,7 +20,6 @@ use Rattle.rg_step.specs.Asking.{AsksFrom, AsksOn, first_makes, raised_if}
 use Rattle.rg_step.specs.Collections.{Asks, Paces, Serves}
 use Rattle.rg_step.specs.Steps.{Runs, Stepping, StepsOn, is_made}
 use Rattle.rg_step.proofs.ActiveLemmas.{shown-manager}
-use Rattle.rg_step.proofs.AskLemmas.{OnInput-some}
 use Rattle.rg_step.proofs.PacedLemmas.{first-paced, is_pace, next-stays}
 use Rattle.rg_step.proofs.RunLemmas.{with-input}
 use Rattle.rg_step.proofs.ServeLemmas.{made-went}
@@ -119,10 +117,8 @@ asks-undue code was result before after made none same =
 
 -- what was due was done
 pub asks-served : (code : Code) (was : Machine) (due : Option Cause) (old : Stepping) (mid : Parts) (new : Stepping) (before after : Asks)
-    (result : Outcome) (first last : Pending) (left still : Option (List ℕ)) → is_made result ≡ true → due_at code.ops was.at ≡ due
-    → Serves due old mid new before after → Stands mid.heap mid.frames → Follows last still
-    → OnInput first last left still (StepsOn code was (machine_in mid) result) → AsksOn code was result before after
-asks-served code was due old mid new before after result first last left still made is serves stands follows on =
-    let some = OnInput-some first last left still (StepsOn code was (machine_in mid) result) follows on in
+    (result : Outcome) (bytes left : List ℕ) → is_made result ≡ true → due_at code.ops was.at ≡ due → Serves due old mid new before after
+    → Stands mid.heap mid.frames → StepsOn code was (machine_in mid) result bytes left → AsksOn code was result before after
+asks-served code was due old mid new before after result bytes left made is serves stands steps =
     asks-made code was result before after made
-    (λ t s r. serves-ask t code was old mid new before after result made stands some.0 some.1 some.2 s r due is serves)
+    (λ t s r. serves-ask t code was old mid new before after result made stands bytes left steps s r due is serves)

@@ -21,3 +21,5 @@ mod ActiveLemmas
 mod YesLemmas
 mod PacedLemmas
 mod AskedLemmas
+mod OneLemmas
+pub mod ChainLemmas

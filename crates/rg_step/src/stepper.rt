@@ -1,6 +1,6 @@
 //! The stepper (docs/architecture.md, "The stepper").
 
-ghost use Rattle.std.specs.Prelude.{◌≡◌, ◌≤◌, ◌++◌, List, None, IfOk, IfSome, OnErr, OnOk};
+ghost use Rattle.std.specs.Prelude.{◌≡◌, ◌≤◌, ℕ, List, None, IfOk, IfSome, OnErr, OnOk};
 ghost use Rattle.std.specs.Prelude.{false, true};
 ghost use Rattle.rg_io.specs.Content.{Rose};
 ghost use Rattle.rg_input.specs.Numbers.{Follows, OnInput};
