@@ -36,11 +36,13 @@ pub record OneStep (code : Code) (old new : Standing) (result : Outcome) (before
   pub yeses : (behind : List Event) × (new.stepper.events ≡ old.stepper.events ++ behind) × YesesTold behind old.pacers new.pacers
   -- it writes into objects of the active region and temporaries of the topmost window alone
   pub writes : WritesOnly (machine_in old.stepper.parts) (machine_in new.stepper.parts)
+  pub high : Raises result old.stepper.parts new.stepper.parts
   pub counts : Counts old.stepper.steps new.stepper.steps result
 
 -- nothing but the room for frames differs
 pub record IsRoomed (old new : Standing) : Type 0 where
   pub shown : machine_in new.stepper.parts ≡ machine_in old.stepper.parts
+  pub heap : new.stepper.parts.heap ≡ old.stepper.parts.heap
   pub rest : new ≡ record old { stepper = record old.stepper { parts = new.stepper.parts } }
 
 -- So many steps that were made, one after the other: a list of one state more, from the first to the last, each of which follows from the one
