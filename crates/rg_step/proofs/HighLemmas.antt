@@ -1,6 +1,7 @@
 -- One object is made at most by a walk along orderly code: what makes one stands where the heap is still that of the start, and nothing
 -- behind it may be refused.
-use Rattle.std.proofs.Common.{◌≡◌, ◌<◌, ℕ, inl, inr, List, Bool as Truth, true, false, true≢false, drop, Option, Some, None, refl, ap, subst, sym, ◌∙◌, slice_get}
+use Rattle.std.proofs.Common.{◌≡◌, ◌<◌, ℕ, inl, inr, List, Bool as Truth, true, false, true≢false, drop, slice_get}
+use Rattle.std.proofs.Common.{Option, Some, None, refl, ap, subst, sym, ◌∙◌}
 use Rattle.std.proofs.Common.{◌+◌, ◌-◌, arith}
 use Rattle.rg_base.specs.declared.outcome.Outcome.{Outcome}
 use Rattle.rg_base.specs.declared.outcome.Outcome.TheVariants as outcome
@@ -17,7 +18,7 @@ use Rattle.rg_stack.proofs.Callers.OrderLemmas.{and_first, and_second, calm-mark
 use Rattle.rg_machine.specs.Frames.{calls_next}
 use Rattle.rg_machine.specs.High.{Made, NoneMade, making}
 use Rattle.rg_machine.specs.Keeps.{Asks, GoesOn, GoesTo, WantsRoom}
-use Rattle.rg_machine.specs.Parts.{Parts as MachineParts}
+use Rattle.rg_machine.specs.Parts.{Parts as MachineParts, machine_in}
 use Rattle.rg_step.specs.declared.step.Did.{Did}
 use Rattle.rg_step.specs.declared.step.Did.TheVariants as did
 use Rattle.rg_step.specs.Inner.High.{Calmed, DidMade, MayMake, OneAtMost, Untouched}
@@ -136,7 +137,19 @@ module _ (old new : Parts) where
 
 -- Turns
 
-module _ (code : List Op) (start : Parts) (at : ℕ) (old new : Parts) (was now : Machine) where
+module _ (code : List Op) (start : Parts) (at : ℕ) (old new : MachineParts) where
+  abbrev before : Parts
+  before = old.heap
+
+  abbrev after : Parts
+  after = new.heap
+
+  abbrev was : Machine
+  was = machine_in old
+
+  abbrev now : Machine
+  now = machine_in new
+
   abbrev Ordered : Manner → Type 0
   Ordered m = orderly_by code at false m (drop (at + 1) code) (calm code (room_behind m false) (drop (at + 1) code))
       (orderly code (at + 1) (room_behind m false) (drop (at + 1) code)) ≡ true
@@ -147,39 +160,39 @@ module _ (code : List Op) (start : Parts) (at : ℕ) (old new : Parts) (was now 
   abbrev Only : Manner → Truth → Type 0
   Only m makes = makes ≡ true → takes m ≡ true
 
-  changed : (m : Manner) (makes : Truth) → Made m makes old new → old ≡ start → calm code false (drop (at + 1) code) ≡ true
-      → MayMake code start (at + 1) new
-  changed m makes h same r = inr (record { calmed = r; made = most-from start old new same (one-made old new m makes h) })
+  changed : (m : Manner) (makes : Truth) → Made m makes before after → before ≡ start → calm code false (drop (at + 1) code) ≡ true
+      → MayMake code start (at + 1) after
+  changed m makes h same r = inr (record { calmed = r; made = most-from start before after same (one-made before after m makes h) })
 
-  kept : new ≡ old → old ≡ start → orderly code (at + 1) false (drop (at + 1) code) ≡ true → MayMake code start (at + 1) new
+  kept : after ≡ before → before ≡ start → orderly code (at + 1) false (drop (at + 1) code) ≡ true → MayMake code start (at + 1) after
   kept h same r = inl (record { same = h ∙ same; ordered = r })
 
-  settled : NoneMade old new → OneAtMost start old → calm code false (drop (at + 1) code) ≡ true → MayMake code start (at + 1) new
-  settled h few r = inr (record { calmed = r; made = most-none start old new few h })
+  settled : NoneMade before after → OneAtMost start before → calm code false (drop (at + 1) code) ≡ true → MayMake code start (at + 1) after
+  settled h few r = inr (record { calmed = r; made = most-none start before after few h })
 
-  on-start : (m : Manner) (makes : Truth) → Only m makes → GoesOn m was now → Made m makes old new → old ≡ start → Ordered m
-      → MayMake code start (at + 1) new
+  on-start : (m : Manner) (makes : Truth) → Only m makes → GoesOn m was now → Made m makes before after → before ≡ start → Ordered m
+      → MayMake code start (at + 1) after
   on-start Ends b only g h same r = absurd g
   on-start Clears b only g h same r = changed Clears b h same r
   on-start Settles b only g h same r = changed Settles b h same r
   on-start Takes b only g h same r = changed Takes b h same r
-  on-start Computes b only g h same r = kept (not-made old new Computes b only refl h) same r
+  on-start Computes b only g h same r = kept (not-made before after Computes b only refl h) same r
   on-start Prepares b only g h same r = absurd g
   on-start Calls b only g h same r = absurd g
-  on-start (Chooses t) b only g h same r = kept (not-made old new (Chooses t) b only refl h) same (and_second _ _ r)
-  on-start (Passes t) b only g h same r = kept (not-made old new (Passes t) b only refl h) same (and_second _ _ r)
+  on-start (Chooses t) b only g h same r = kept (not-made before after (Chooses t) b only refl h) same (and_second _ _ r)
+  on-start (Passes t) b only g h same r = kept (not-made before after (Passes t) b only refl h) same (and_second _ _ r)
 
-  on-calm : (m : Manner) (makes : Truth) → Only m makes → GoesOn m was now → Made m makes old new → OneAtMost start old → Calm m
-      → MayMake code start (at + 1) new
+  on-calm : (m : Manner) (makes : Truth) → Only m makes → GoesOn m was now → Made m makes before after → OneAtMost start before → Calm m
+      → MayMake code start (at + 1) after
   on-calm Ends b only g h few r = absurd g
-  on-calm Clears b only g h few r = settled (not-made old new Clears b only refl h) few r
-  on-calm Settles b only g h few r = settled (not-made old new Settles b only refl h) few r
+  on-calm Clears b only g h few r = settled (not-made before after Clears b only refl h) few r
+  on-calm Settles b only g h few r = settled (not-made before after Settles b only refl h) few r
   on-calm Takes b only g h few r = absurd (true≢false (sym r))
   on-calm Computes b only g h few r = absurd (true≢false (sym r))
   on-calm Prepares b only g h few r = absurd g
   on-calm Calls b only g h few r = absurd g
   on-calm (Chooses t) b only g h few r =
-      settled (made-same old new (not-made old new (Chooses t) b only refl h)) few (and_second _ _ r)
+      settled (made-same before after (not-made before after (Chooses t) b only refl h)) few (and_second _ _ r)
   on-calm (Passes t) b only g h few r = absurd (true≢false (sym r))
 
   -- to go to an address is no other thing than to go on
@@ -194,11 +207,11 @@ module _ (code : List Op) (start : Parts) (at : ℕ) (old new : Parts) (was now 
   to-on (Chooses t) to g = g.1
   to-on (Passes t) to g = g.1
 
-  at-mark : (t : ℕ) → is_mark (slice_get code t) ≡ true → OneAtMost start new → MayMake code start t new
+  at-mark : (t : ℕ) → is_mark (slice_get code t) ≡ true → OneAtMost start after → MayMake code start t after
   at-mark t e few = inr (record { calmed = calm-mark code false (drop t code) (ap is_mark (first-there t code) ∙ e); made = few })
 
-  to-start : (m : Manner) (makes : Truth) (to : ℕ) → at < to → Only m makes → GoesTo m to was now → Made m makes old new → old ≡ start
-      → Ordered m → MayMake code start to new
+  to-start : (m : Manner) (makes : Truth) (to : ℕ) → at < to → Only m makes → GoesTo m to was now → Made m makes before after → before ≡ start
+      → Ordered m → MayMake code start to after
   to-start Ends b to lt only g h same r = absurd g
   to-start Clears b to lt only g h same r = absurd g
   to-start Settles b to lt only g h same r = absurd g
@@ -208,20 +221,20 @@ module _ (code : List Op) (start : Parts) (at : ℕ) (old new : Parts) (was now 
   to-start Calls b to lt only g h same r = absurd g
   to-start (Chooses t) b to lt only g h same r =
       at-mark to (ap (λ n. is_mark (slice_get code n)) g.0 ∙ and_first _ _ r)
-      (most-from start old new same (one-made old new (Chooses t) b h))
+      (most-from start before after same (one-made before after (Chooses t) b h))
   to-start (Passes t) b to lt only g h same r =
       let a : all_compute (to - (at + 1)) (drop (at + 1) code) ≡ true =
       ap (λ n. all_compute (n - (at + 1)) (drop (at + 1) code)) g.0 ∙ and_first _ _ r in
       let sum : at + 1 + (to - (at + 1)) ≡ to = omega (arith, lt) in
       let far : drop (to - (at + 1)) (drop (at + 1) code) ≡ drop to code = drop-drop (at + 1) (to - (at + 1)) code ∙ ap (λ n. drop n code) sum in
       inl (record {
-        same = not-made old new (Passes t) b only refl h ∙ same;
+        same = not-made before after (Passes t) b only refl h ∙ same;
         ordered = subst (λ n. orderly code n false (drop to code) ≡ true) sum (subst (λ l. orderly code (at + 1 + (to - (at + 1))) false l ≡ true) far
             (orderly-skip code (to - (at + 1)) (at + 1) (drop (at + 1) code) a (and_second _ _ r)));
       })
 
-  to-calm : (m : Manner) (makes : Truth) (to : ℕ) → Only m makes → GoesTo m to was now → Made m makes old new → OneAtMost start old → Calm m
-      → MayMake code start to new
+  to-calm : (m : Manner) (makes : Truth) (to : ℕ) → Only m makes → GoesTo m to was now → Made m makes before after → OneAtMost start before → Calm m
+      → MayMake code start to after
   to-calm Ends b to only g h few r = absurd g
   to-calm Clears b to only g h few r = absurd g
   to-calm Settles b to only g h few r = absurd g
@@ -231,16 +244,16 @@ module _ (code : List Op) (start : Parts) (at : ℕ) (old new : Parts) (was now 
   to-calm Calls b to only g h few r = absurd g
   to-calm (Chooses t) b to only g h few r =
       at-mark to (ap (λ n. is_mark (slice_get code n)) g.0 ∙ and_first _ _ r)
-      (most-none start old new few (made-same old new (not-made old new (Chooses t) b only refl h)))
+      (most-none start before after few (made-same before after (not-made before after (Chooses t) b only refl h)))
   to-calm (Passes t) b to only g h few r = absurd (true≢false (sym r))
 
-  asks-start : (m : Manner) (makes : Truth) → Only m makes → Asks m was now → Made m makes old new → old ≡ start → Ordered m
-      → MayMake code start (at + 1) new
+  asks-start : (m : Manner) (makes : Truth) → Only m makes → Asks m was now → Made m makes before after → before ≡ start → Ordered m
+      → MayMake code start (at + 1) after
   asks-start Ends b only g h same r = absurd g
   asks-start Clears b only g h same r = absurd g
   asks-start Settles b only g h same r = absurd g
   asks-start Takes b only g h same r = changed Takes b h same r
-  asks-start Computes b only g h same r = kept (not-made old new Computes b only refl h) same r
+  asks-start Computes b only g h same r = kept (not-made before after Computes b only refl h) same r
   asks-start Prepares b only g h same r = absurd g
   asks-start Calls b only g h same r = absurd g
   asks-start (Chooses t) b only g h same r = absurd g
@@ -258,15 +271,15 @@ module _ (code : List Op) (start : Parts) (at : ℕ) (old new : Parts) (was now 
   asks-calm (Passes t) g r = g
 
   -- there is room, and no call follows
-  room-start : (m : Manner) (makes : Truth) → Only m makes → WantsRoom m was now → calls_next (drop (at + 1) code) ≡ false → Made m makes old new
-      → old ≡ start → Ordered m → MayMake code start (at + 1) new
+  room-start : (m : Manner) (makes : Truth) → Only m makes → WantsRoom m was now → calls_next (drop (at + 1) code) ≡ false → Made m makes before after
+      → before ≡ start → Ordered m → MayMake code start (at + 1) after
   room-start Ends b only g none h same r = absurd g
   room-start Clears b only g none h same r = absurd g
   room-start Settles b only g none h same r = absurd g
   room-start Takes b only g none h same r = absurd g
   room-start Computes b only g none h same r = absurd g
   room-start Prepares b only g none h same r =
-      kept (not-made old new Prepares b only refl h) same (sym (orderly-free code (at + 1) (drop (at + 1) code) none) ∙ r)
+      kept (not-made before after Prepares b only refl h) same (sym (orderly-free code (at + 1) (drop (at + 1) code) none) ∙ r)
   room-start Calls b only g none h same r = absurd g
   room-start (Chooses t) b only g none h same r = absurd g
   room-start (Passes t) b only g none h same r = absurd g
@@ -283,57 +296,59 @@ module _ (code : List Op) (start : Parts) (at : ℕ) (old new : Parts) (was now 
   room-calm (Passes t) g r = g
 
   -- the walk ends with it
-  ends-calm : (m : Manner) (makes : Truth) → Only m makes → Made m makes old new → OneAtMost start old → Calm m → OneAtMost start new
+  ends-calm : (m : Manner) (makes : Truth) → Only m makes → Made m makes before after → OneAtMost start before → Calm m → OneAtMost start after
   ends-calm Takes b only h few r = absurd (true≢false (sym r))
-  ends-calm Ends b only h few r = most-none start old new few (not-made old new Ends b only refl h)
-  ends-calm Clears b only h few r = most-none start old new few (not-made old new Clears b only refl h)
-  ends-calm Settles b only h few r = most-none start old new few (not-made old new Settles b only refl h)
+  ends-calm Ends b only h few r = most-none start before after few (not-made before after Ends b only refl h)
+  ends-calm Clears b only h few r = most-none start before after few (not-made before after Clears b only refl h)
+  ends-calm Settles b only h few r = most-none start before after few (not-made before after Settles b only refl h)
   ends-calm Computes b only h few r = absurd (true≢false (sym r))
   ends-calm Prepares b only h few r = absurd (true≢false (sym r))
-  ends-calm Calls b only h few r = most-none start old new few (not-made old new Calls b only refl h)
-  ends-calm (Chooses t) b only h few r = most-none start old new few (made-same old new (not-made old new (Chooses t) b only refl h))
+  ends-calm Calls b only h few r = most-none start before after few (not-made before after Calls b only refl h)
+  ends-calm (Chooses t) b only h few r = most-none start before after few (made-same before after (not-made before after (Chooses t) b only refl h))
   ends-calm (Passes t) b only h few r = absurd (true≢false (sym r))
 
   -- none was made by what ends the walk
-  pub high-none : NoneMade old new → MayMake code start at old → OneAtMost start new
-  high-none h (inl u) = most-from start old new u.same (inl h)
-  high-none h (inr c) = most-none start old new c.made h
+  pub high-none : NoneMade before after → MayMake code start at before → OneAtMost start after
+  high-none h (inl u) = most-from start before after u.same (inl h)
+  high-none h (inr c) = most-none start before after c.made h
 
   module _ (op : Op) (there : slice_get code at ≡ Some op) where
-    ordered-here : Untouched code start at old → Ordered (manner op)
+    ordered-here : Untouched code start at before → Ordered (manner op)
     ordered-here u = subst (λ os. orderly code at false os ≡ true) (at-place code at op there) u.ordered
 
-    calm-here : Calmed code start at old → Calm (manner op)
+    calm-here : Calmed code start at before → Calm (manner op)
     calm-here c = subst (λ os. calm code false os ≡ true) (at-place code at op there) c.calmed
 
     -- it goes on at the next instruction
-    pub high-on : GoesOn (manner op) was now → Made (manner op) (making op) old new → MayMake code start at old → MayMake code start (at + 1) new
+    pub high-on : GoesOn (manner op) was now → Made (manner op) (making op) before after → MayMake code start at before
+        → MayMake code start (at + 1) after
     high-on g h (inl u) = on-start (manner op) (making op) (making-takes op) g h u.same (ordered-here u)
     high-on g h (inr c) = on-calm (manner op) (making op) (making-takes op) g h c.made (calm-here c)
 
     -- at an address further on
-    pub high-to : (to : ℕ) → at < to → GoesTo (manner op) to was now → Made (manner op) (making op) old new → MayMake code start at old
-        → MayMake code start to new
+    pub high-to : (to : ℕ) → at < to → GoesTo (manner op) to was now → Made (manner op) (making op) before after → MayMake code start at before
+        → MayMake code start to after
     high-to to lt g h (inl u) = to-start (manner op) (making op) to lt (making-takes op) g h u.same (ordered-here u)
     high-to to lt g h (inr c) = to-calm (manner op) (making op) to (making-takes op) g h c.made (calm-here c)
 
     -- at the next instruction, where the address isn't further on
-    pub high-back : (to : ℕ) → GoesTo (manner op) to was now → Made (manner op) (making op) old new → MayMake code start at old
-        → MayMake code start (at + 1) new
+    pub high-back : (to : ℕ) → GoesTo (manner op) to was now → Made (manner op) (making op) before after → MayMake code start at before
+        → MayMake code start (at + 1) after
     high-back to g h may = high-on (to-on (manner op) to g) h may
 
     -- the input is asked
-    pub high-asks : Asks (manner op) was now → Made (manner op) (making op) old new → MayMake code start at old → MayMake code start (at + 1) new
+    pub high-asks : Asks (manner op) was now → Made (manner op) (making op) before after → MayMake code start at before
+        → MayMake code start (at + 1) after
     high-asks g h (inl u) = asks-start (manner op) (making op) (making-takes op) g h u.same (ordered-here u)
     high-asks g h (inr c) = absurd (asks-calm (manner op) g (calm-here c))
 
     -- there is room, and no call follows
-    pub high-free : WantsRoom (manner op) was now → calls_next (drop (at + 1) code) ≡ false → Made (manner op) (making op) old new
-        → MayMake code start at old → MayMake code start (at + 1) new
+    pub high-free : WantsRoom (manner op) was now → calls_next (drop (at + 1) code) ≡ false → Made (manner op) (making op) before after
+        → MayMake code start at before → MayMake code start (at + 1) after
     high-free g none h (inl u) = room-start (manner op) (making op) (making-takes op) g none h u.same (ordered-here u)
     high-free g none h (inr c) = absurd (room-calm (manner op) g (calm-here c))
 
     -- the walk ends
-    pub high-ends : Made (manner op) (making op) old new → MayMake code start at old → OneAtMost start new
-    high-ends h (inl u) = most-from start old new u.same (one-made old new (manner op) (making op) h)
+    pub high-ends : Made (manner op) (making op) before after → MayMake code start at before → OneAtMost start after
+    high-ends h (inl u) = most-from start before after u.same (one-made before after (manner op) (making op) h)
     high-ends h (inr c) = ends-calm (manner op) (making op) (making-takes op) h c.made (calm-here c)

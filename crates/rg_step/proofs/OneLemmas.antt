@@ -94,7 +94,8 @@ module _ (code : Code) (old : Standing) (mid : Parts) (new : Standing) (runs : I
     (events : List Event) (told : events ≡ old.stepper.events)
     (serves : Serves (Some why) (record old.stepper { events = events }) mid new.stepper old.pacers new.pacers)
     (none : NoneMade mid.heap new.stepper.parts.heap) where
-  pub one-served : (result : Outcome) → Raises result old.stepper.parts mid → is_made result ≡ true → new.stepper.steps ≡ counted old.stepper.steps → (before after : List ℕ)
+  pub one-served : (result : Outcome) → Raises result old.stepper.parts mid → is_made result ≡ true
+      → new.stepper.steps ≡ counted old.stepper.steps → (before after : List ℕ)
       → StepsOn code (machine_in old.stepper.parts) (machine_in mid) result before after → OneStep code old new result before after
   one-served result high made more before after steps =
       let m = machine_in old.stepper.parts in

@@ -35,7 +35,7 @@ loop-at-preserved-in-On c =
       stands = λ start asks h. stands-on code.ops start asks c.loop-at.at old.machine new.machine op c.get.ensures c.in-On.ensures.keeps
           (i.stands start asks h);
       backs = on-backs (manner op) old.machine new.machine c.in-On.ensures.keeps ∙ i.backs;
-      high = λ start h. high-on c.args.code.now.ops start c.loop-at.at c.loop-at.p.heap c.act.new.p.heap (machine_in c.loop-at.p) (machine_in c.act.new.p) op c.get.ensures
+      high = λ start h. high-on c.args.code.now.ops start c.loop-at.at c.loop-at.p c.act.new.p op c.get.ensures
           c.in-On.ensures.keeps c.in-On.ensures.high (i.high start h);
     }
 
@@ -54,7 +54,7 @@ loop-at-preserved-then-to-at c =
           (omega (arith, c.if-to-at.true))
           c.in-To.ensures.keeps (i.stands start asks h);
       backs = to-backs (manner op) c.in-To.to old.machine new.machine c.in-To.ensures.keeps ∙ i.backs;
-      high = λ start h. high-to c.args.code.now.ops start c.loop-at.at c.loop-at.p.heap c.act.new.p.heap (machine_in c.loop-at.p) (machine_in c.act.new.p) op c.get.ensures
+      high = λ start h. high-to c.args.code.now.ops start c.loop-at.at c.loop-at.p c.act.new.p op c.get.ensures
           c.in-To.to (omega (arith, c.if-to-at.true)) c.in-To.ensures.keeps c.in-To.ensures.high (i.high start h);
     }
 
@@ -72,7 +72,7 @@ loop-at-preserved-else-to-at c =
       stands = λ start asks h. stands-back code.ops start asks c.loop-at.at old.machine new.machine op c.get.ensures c.in-To.to
           c.in-To.ensures.keeps (i.stands start asks h);
       backs = to-backs (manner op) c.in-To.to old.machine new.machine c.in-To.ensures.keeps ∙ i.backs;
-      high = λ start h. high-back c.args.code.now.ops start c.loop-at.at c.loop-at.p.heap c.act.new.p.heap (machine_in c.loop-at.p) (machine_in c.act.new.p) op c.get.ensures
+      high = λ start h. high-back c.args.code.now.ops start c.loop-at.at c.loop-at.p c.act.new.p op c.get.ensures
           c.in-To.to c.in-To.ensures.keeps c.in-To.ensures.high (i.high start h);
     }
 
@@ -94,7 +94,7 @@ loop-at-preserved c =
           (i.stands start asks h);
       backs = room-backs (manner op) old.machine new.machine wants ∙ i.backs;
       high = λ start h. subst (MayMake code.ops start (c.loop-at.at + 1)) (sym c.make_room.ensures.heap)
-          (high-free c.args.code.now.ops start c.loop-at.at c.loop-at.p.heap c.act.new.p.heap (machine_in c.loop-at.p) (machine_in c.act.new.p) op c.get.ensures
+          (high-free c.args.code.now.ops start c.loop-at.at c.loop-at.p c.act.new.p op c.get.ensures
           c.in-Room.ensures.keeps c.in-Free.ensures.room.2 c.in-Room.ensures.high (i.high start h));
     }
 
@@ -108,7 +108,7 @@ returns-in-Called c =
       leaves = λ start asks h. tt;
       backs = tt;
       high = λ start h. subst (OneAtMost start) (sym c.make_room.ensures.heap)
-          (high-ends c.args.code.now.ops start c.loop-at.at c.loop-at.p.heap c.act.new.p.heap (machine_in c.loop-at.p) (machine_in c.act.new.p) c.get.result c.get.ensures
+          (high-ends c.args.code.now.ops start c.loop-at.at c.loop-at.p c.act.new.p c.get.result c.get.ensures
           c.in-Room.ensures.high (i.high start h));
     }
 
@@ -137,7 +137,7 @@ returns-in-Full c =
           c.in-Room.ensures.keeps (i.stands start asks h);
       backs = tt;
       high = λ start h. subst (OneAtMost start) (sym c.make_room.ensures.heap)
-          (high-ends c.args.code.now.ops start c.loop-at.at c.loop-at.p.heap c.act.new.p.heap (machine_in c.loop-at.p) (machine_in c.act.new.p) c.get.result c.get.ensures
+          (high-ends c.args.code.now.ops start c.loop-at.at c.loop-at.p c.act.new.p c.get.result c.get.ensures
           c.in-Room.ensures.high (i.high start h));
     }
 
@@ -160,7 +160,7 @@ returns-in-Stop c = record {
       c.in-Stop.ensures.effect;
   leaves = λ start asks h. tt;
   backs = tt;
-  high = λ start h. high-ends c.args.code.now.ops start c.loop-at.at c.loop-at.p.heap c.act.new.p.heap (machine_in c.loop-at.p) (machine_in c.act.new.p) c.get.result
+  high = λ start h. high-ends c.args.code.now.ops start c.loop-at.at c.loop-at.p c.act.new.p c.get.result
       c.get.ensures c.in-Stop.ensures.high (c.loop-at.invariant.high start h);
 }
 
@@ -170,7 +170,7 @@ returns-in-Return c = record {
       c.in-Return.ensures.effect;
   leaves = λ start asks h. tt;
   backs = same-back (machine_in c.args.p.now).frames (machine_in c.loop-at.p).frames c.in-Return.back c.loop-at.invariant.backs c.in-Return.ensures.keeps;
-  high = λ start h. high-ends c.args.code.now.ops start c.loop-at.at c.loop-at.p.heap c.act.new.p.heap (machine_in c.loop-at.p) (machine_in c.act.new.p) c.get.result
+  high = λ start h. high-ends c.args.code.now.ops start c.loop-at.at c.loop-at.p c.act.new.p c.get.result
       c.get.ensures c.in-Return.ensures.high (c.loop-at.invariant.high start h);
 }
 
@@ -181,7 +181,7 @@ returns-in-Trap c = record {
   leaves = λ start asks h. stands-left c.args.code.now.ops start asks c.loop-at.at (machine_in c.loop-at.p) (machine_in c.act.new.p) c.get.result c.get.ensures
       c.in-Trap.ensures.keeps (c.loop-at.invariant.stands start asks h);
   backs = tt;
-  high = λ start h. high-none c.args.code.now.ops start c.loop-at.at c.loop-at.p.heap c.act.new.p.heap (machine_in c.loop-at.p) (machine_in c.act.new.p)
+  high = λ start h. high-none c.args.code.now.ops start c.loop-at.at c.loop-at.p c.act.new.p
       c.in-Trap.ensures.high (c.loop-at.invariant.high start h);
 }
 
@@ -217,7 +217,7 @@ returns-in-Read c =
             c.in-Read.ensures.keeps.2 c.in-Read.ensures.keeps.1 (i.stands start asks h),
       );
       backs = asks-backs (manner op) (machine_in c.loop-at.p) (machine_in c.act.new.p) c.in-Read.ensures.keeps.1 ∙ i.backs;
-      high = λ start h. high-asks c.args.code.now.ops start c.loop-at.at c.loop-at.p.heap c.act.new.p.heap (machine_in c.loop-at.p) (machine_in c.act.new.p) op c.get.ensures
+      high = λ start h. high-asks c.args.code.now.ops start c.loop-at.at c.loop-at.p c.act.new.p op c.get.ensures
           c.in-Read.ensures.keeps.1 c.in-Read.ensures.high (i.high start h);
     }
 
@@ -231,7 +231,7 @@ returns-in-More c =
       leaves = λ start asks h. stands-asking c.args.code.now.ops start asks c.loop-at.at (machine_in c.loop-at.p) (machine_in c.act.new.p) op c.get.ensures
           c.in-More.ensures.keeps.0 c.in-More.ensures.keeps.1 (i.stands start asks h);
       backs = asks-backs (manner op) (machine_in c.loop-at.p) (machine_in c.act.new.p) c.in-More.ensures.keeps.1 ∙ i.backs;
-      high = λ start h. high-asks c.args.code.now.ops start c.loop-at.at c.loop-at.p.heap c.act.new.p.heap (machine_in c.loop-at.p) (machine_in c.act.new.p) op c.get.ensures
+      high = λ start h. high-asks c.args.code.now.ops start c.loop-at.at c.loop-at.p c.act.new.p op c.get.ensures
           c.in-More.ensures.keeps.1 c.in-More.ensures.high (i.high start h);
     }
 
