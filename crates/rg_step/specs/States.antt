@@ -39,7 +39,7 @@ pub record OneStep (code : Code) (old new : Standing) (result : Outcome) (before
   pub high : Raises result old.stepper.parts new.stepper.parts
   pub counts : Counts old.stepper.steps new.stepper.steps result
 
--- nothing but the room for frames differs
+-- the same machine is shown over the same heap, and all but the parts is the same: room for frames may have been made
 pub record IsRoomed (old new : Standing) : Type 0 where
   pub shown : machine_in new.stepper.parts ≡ machine_in old.stepper.parts
   pub heap : new.stepper.parts.heap ≡ old.stepper.parts.heap

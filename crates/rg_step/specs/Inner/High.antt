@@ -26,6 +26,7 @@ pub record Calmed (code : List Op) (start : Parts) (at : ℕ) (heap : Parts) : T
   pub calmed : calm code false (drop at code) ≡ true
   pub made : OneAtMost start heap
 
+-- an object may be made, or none is from here on
 abbrev pub MayMake : (code : List Op) → (start : Parts) → (at : ℕ) → (heap : Parts) → Type 0
 MayMake code start at heap = Untouched code start at heap ⊎ Calmed code start at heap
 
