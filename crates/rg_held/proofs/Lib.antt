@@ -23,4 +23,6 @@ pub mod Gather
 mod Examples
 mod Stops
 mod Backs
+mod Fates
+mod Fading
 pub mod Callers

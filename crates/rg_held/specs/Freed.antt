@@ -1,0 +1,30 @@
+-- What a step frees (docs/architecture.md, "The machine that frees").
+use Rattle.std.specs.Prelude.{◌≡◌, ◌≢◌, ◌⊎◌, ℕ, true, false, Some, slice_get}
+use Rattle.rg_base.specs.declared.object.Label.{Label}
+use Rattle.rg_base.specs.declared.object.Label.TheVariants.{Region, Temp}
+use Rattle.rg_base.specs.declared.object.Seen.{Seen}
+use Rattle.rg_stack.specs.Machine.{Machine}
+use Rattle.rg_stack.specs.Runs.{Stepped, Goes, Ends, Trapped, Lost}
+use Rattle.rg_stack.specs.Needs.{has_window}
+use Rattle.rg_held.specs.Frees.{gone}
+
+-- a label of temporaries whose window has ended
+abbrev pub EndedTemp : (old new : Machine) → Label → Type 0
+EndedTemp old new l = (n : ℕ) × (l ≡ Temp n) × (has_window old.windows n ≡ true) × (has_window new.windows n ≡ false)
+
+-- a label of a region that has gone: each object that had it is gone
+abbrev pub GoneRegion : (old new : Machine) → Label → Type 0
+GoneRegion old new l = (r : ℕ) × (l ≡ Region r)
+    × ((b : ℕ) (u : Seen) → slice_get old.store b ≡ Some u → u.label ≡ Region r → slice_get new.store b ≡ Some gone)
+
+-- an object that was held and isn't any more was a temporary of a window that has ended, or lay in a region that has gone
+abbrev pub FreesOnly : (old new : Machine) → Type 0
+FreesOnly old new = (a : ℕ) (o : Seen) → slice_get old.store a ≡ Some o → o ≢ gone → slice_get new.store a ≡ Some gone
+    → EndedTemp old new o.label ⊎ GoneRegion old new o.label
+
+-- a step that goes on or ends frees nothing else
+abbrev pub StepFrees : Machine → Stepped → Type 0
+StepFrees m (Goes w) = FreesOnly m w.machine
+StepFrees m (Ends w) = FreesOnly m w.machine
+StepFrees m (Trapped t line) = Unit {0}
+StepFrees m Lost = Unit {0}
