@@ -2,7 +2,7 @@
 -- "The stack machine").
 use Rattle.std.specs.Prelude.{◌≡◌, ℕ, ◌+◌, ◌-◌, Bool as Truth, true, false, ◌||◌, not, List, [], drop, None}
 use Rattle.rg_base.specs.declared.value.Val.{Val}
-use Rattle.rg_tree.specs.Tree.{Tree, Class}
+use Rattle.rg_tree.specs.Tree.{Tree}
 use Rattle.rg_rules.specs.Acceptance.{Accepted}
 use Rattle.rg_rules.specs.State.{State}
 use Rattle.rg_sound.specs.Fit.{Fit}
@@ -18,7 +18,6 @@ use Rattle.rg_stack.specs.Given.{given_walk}
 use Rattle.rg_held.specs.Frees.{free_act, free_walk, free_step, free_given_step, free_coded}
 use Rattle.rg_held.specs.Ends.{Match, SameEnd, SameStep, SameRun}
 use Rattle.rg_held.specs.Freed.{StepFrees}
-use Rattle.rg_held.specs.Shown.{ShowsHeld}
 
 -- the values that count as owners: all on the stack, behind what takes an owner reference from its place, and else none
 abbrev pub owners_of : (taken : Truth) → List Val → List Val
@@ -127,7 +126,7 @@ abbrev pub RunsSame : Type 0
 RunsSame = (t : Tree) (code : Code) (input : List ℕ) (n : ℕ) → Accepted t → Lowers t code
     → SameRun (free_coded t code input n) (coded t code input n)
 
--- whatever the code is, a step frees temporaries of windows that end in it, and regions as a whole, and else nothing
+-- and what such a step frees are temporaries of windows that end in it, and regions that go in it
 abbrev pub StepsFree : Type 0
-StepsFree = (classes : List Class) (code : Code) (w : Work) (p : State) → ShowsHeld classes code w.machine p
-    → StepFrees w.machine (free_step code w)
+StepsFree = (t : Tree) (code : Code) (u w : Work) (p : State) → Accepted t → Lowers t code → Fit t p → Holds t.classes code w p
+    → w.printed ≡ None → SomeLeft p.items → Match [] u w [] → StepFrees u.machine (free_step code u)

@@ -1,0 +1,5 @@
+-- What a step frees: changes of the store, what becomes of the objects of a label, which regions end, and walks.
+pub mod Changes
+pub mod Fates
+pub mod Shut
+pub mod Walks
