@@ -1,5 +1,5 @@
 -- A walk of the machine that frees in which each instruction is given what it needs and passes a further test; it is stuck, or it is the walk.
-use Rattle.std.proofs.Common.{◌≡◌, ℕ, zero, suc, ◌+◌, true, false, Bool as Truth, if◌then◌else◌, inl, inr, List, [], ◌∷◌, refl, ◌∙◌}
+use Rattle.std.proofs.Common.{ℕ, zero, suc, ◌+◌, true, false, Bool as Truth, if◌then◌else◌, inl, inr, List, [], ◌∷◌, refl, ◌∙◌}
 use Rattle.rg_base.specs.declared.value.Val.{Val}
 use Rattle.rg_code.specs.declared.op.Op.{Op}
 use Rattle.rg_code.specs.Code.{Code}

@@ -168,10 +168,12 @@ module _ (code : Code) (test : Test) (passes : PassesTest test code) where
           → GoesTo k behind (tested_walk test code os (at + 1)) (given_walk code os (at + 1))
       to-by e k (inl z) st x y n = rest r behind k st x y (inl (z, t.on e)) n
       to-by e k (inr (inl q)) st x y n = rest r behind k st x y (inr (q.0, (q.1, orderly-if behind q.0 (t.on e)))) n
-      to-by e k (inr (inr q)) st x y n = elim (far k q.0 q.1 (mark-there (slice_get code.ops q.0) q.2).0 (mark-there (slice_get code.ops q.0) q.2).1) [
-        | inl z ↦ rest r behind k st x y (inl (z, t.on e)) n
-        | inr is ↦ mark-same (mark-there (slice_get code.ops q.0) q.2).0 os (at + 1) k behind st x y is n
-      ]
+      to-by e k (inr (inr q)) st x y n =
+          let mark = mark-there (slice_get code.ops q.0) q.2 in
+          elim (far k q.0 q.1 mark.0 mark.1) [
+            | inl z ↦ rest r behind k st x y (inl (z, t.on e)) n
+            | inr is ↦ mark-same mark.0 os (at + 1) k behind st x y is n
+          ]
 
       by : (b : Truth) → needs code o stack w.machine ≡ b → SameEnd (tested_walk test code (o ∷ os) at 0 stack u)
           (if b then act code at o (given_walk code os (at + 1)) stack w else Stuck)

@@ -1,5 +1,5 @@
 -- What a step frees (docs/architecture.md, "The machine that frees").
-use Rattle.std.specs.Prelude.{◌≡◌, ◌≢◌, ◌⊎◌, ℕ, true, false, Some, slice_get}
+use Rattle.std.specs.Prelude.{◌≡◌, ◌≢◌, ◌⊎◌, ℕ, true, false, Some, None, slice_get}
 use Rattle.rg_base.specs.declared.object.Label.{Label}
 use Rattle.rg_base.specs.declared.object.Label.TheVariants.{Region, Temp}
 use Rattle.rg_base.specs.declared.object.Seen.{Seen}
@@ -7,6 +7,7 @@ use Rattle.rg_stack.specs.Machine.{Machine}
 use Rattle.rg_stack.specs.Runs.{Stepped, Goes, Ends, Trapped, Lost}
 use Rattle.rg_stack.specs.Needs.{has_window, is_open}
 use Rattle.rg_held.specs.Frees.{gone}
+use Rattle.rg_held.specs.Shown.{Finds}
 
 -- a label of temporaries whose window has ended
 abbrev pub EndedTemp : (old new : Machine) → Label → Type 0
@@ -24,7 +25,7 @@ GoneRegion old new l = (r : ℕ) × (l ≡ Region r) × RegionEnded old new r
 
 -- an object that was held and isn't any more was a temporary of a window that has ended, or lay in a region that has gone
 abbrev pub FreesOnly : (old new : Machine) → Type 0
-FreesOnly old new = (a : ℕ) (o : Seen) → slice_get old.store a ≡ Some o → o ≢ gone → slice_get new.store a ≡ Some gone
+FreesOnly old new = (a : ℕ) (o : Seen) → slice_get old.store a ≡ Some o → o ≢ gone → Finds new.store a None
     → EndedTemp old new o.label ⊎ GoneRegion old new o.label
 
 -- a step that goes on or ends frees nothing else

@@ -1,55 +1,47 @@
 -- What a step of the machine that frees frees. For callers.
-use Rattle.std.proofs.Common.{◌≡◌, ◌≢◌, ℕ, ◌+◌, ◌<◌, ◌==◌, ◌⊎◌, inl, inr, true, false, Bool as Truth, List, [], ◌∷◌, drop, length, Option, Some, None}
+use Rattle.std.proofs.Common.{◌≡◌, ◌≢◌, ℕ, ◌+◌, ◌⊎◌, inl, inr, true, false, Bool as Truth, List, [], ◌∷◌, drop, length, Option, Some, None}
 use Rattle.std.proofs.Common.{refl, sym, ap, subst, ◌∙◌, option_map, slice_get}
-use Rattle.std.specs.Prelude.{◌||◌, ◌-◌, ◌^◌}
+use Rattle.std.specs.Prelude.{◌-◌, ◌^◌}
 use Rattle.rg_base.specs.declared.object.Label.{Label}
 use Rattle.rg_base.specs.declared.object.Label.TheVariants.{Region, Temp, Frozen}
 use Rattle.rg_base.specs.declared.object.Seen.{Seen}
 use Rattle.rg_base.specs.declared.value.Val.{Val}
+use Rattle.rg_tree.specs.Tree.{Tree}
+use Rattle.rg_rules.specs.Acceptance.{Accepted}
+use Rattle.rg_rules.specs.State.{State}
+use Rattle.rg_sound.specs.Fit.{Fit}
+use Rattle.rg_sound.proofs.HeldLemmas.{fit-holds}
+use Rattle.rg_code.specs.Lowering.{Lowers}
 use Rattle.rg_code.specs.declared.op.Op.{Op}
 use Rattle.rg_code.specs.declared.op.Op.TheVariants as i
 use Rattle.rg_code.specs.Code.{Code}
-use Rattle.rg_stack.specs.Machine.{Window, Machine}
+use Rattle.rg_stack.specs.Machine.{Machine}
 use Rattle.rg_stack.specs.Effects.{Work, Walked, Stops, Returns, Traps, Stuck}
 use Rattle.rg_stack.specs.Runs.{Stepped, Goes, Ends, Trapped, Lost, come_to, landed, stopped}
 use Rattle.rg_stack.specs.Needs.{has_window}
 use Rattle.rg_stack.specs.Given.{given_walk, given_finished, given_step_from, given_step}
 use Rattle.rg_stack.specs.Refusals.{Orderly}
-use Rattle.rg_stack.proofs.Callers.StepLemmas.{steps-given}
+use Rattle.rg_stack.specs.Shows.{Shows}
+use Rattle.rg_stack.specs.Simulates.{Holds, SomeLeft}
 use Rattle.rg_stack.proofs.Callers.RefusalLemmas.{steps-orderly}
 use Rattle.rg_held.specs.Ends.{Match, SameEnd}
 use Rattle.rg_held.specs.Frees.{gone, free_walk, free_finished, free_step_from, free_step}
-use Rattle.rg_held.specs.Freed.{EndedTemp, GoneRegion, FreesOnly, StepFrees}
+use Rattle.rg_held.specs.Freed.{EndedTemp, GoneRegion, StepFrees}
 use Rattle.rg_held.specs.Laws.{StepsFree, InOrder, owners_of}
-use Rattle.rg_held.specs.Part.{Differ, SomeWindow, Part}
+use Rattle.rg_held.specs.Part.{SomeWindow, Part}
+use Rattle.rg_held.specs.Shown.{Finds}
 use Rattle.rg_held.proofs.Backs.{Back, walk-back}
 use Rattle.rg_held.proofs.Callers.StepLemmas.{step-leads}
-use Rattle.rg_held.proofs.Freed.Changes.{Stands, NoneLeft, Numbered, IsGiven, region-not}
-use Rattle.rg_held.proofs.Freed.Fates.{Since, Stay, Move, Go}
+use Rattle.rg_held.proofs.Freed.Changes.{Stands, NoneLeft, region-not}
+use Rattle.rg_held.proofs.Freed.Windows.{Numbered, numbered}
+use Rattle.rg_held.proofs.Freed.Fates.{IsGiven, Since, Stay, Move, Go}
 use Rattle.rg_held.proofs.Freed.Shut.{shut, shut-passes}
 use Rattle.rg_held.proofs.Freed.Walks.{Now, Ending, on-walk}
 use Rattle.rg_held.proofs.Less.{Less}
-use Rattle.rg_held.proofs.Lists.{some-is, none-some, off}
-use Rattle.rg_held.proofs.Places.{either, number-same}
+use Rattle.rg_held.proofs.Lists.{some-is, none-some}
+use Rattle.rg_held.proofs.Places.{either}
 use Rattle.rg_held.proofs.Tested.{tested_walk, tested-less}
 use Rattle.rg_held.proofs.Walking.{drop-next, walks-same, tested-walks-same}
-
--- windows that differ, and whose numbers were given
-numbered : (ws : List Window) (made : ℕ) → Differ ws → ((n : ℕ) → has_window ws n ≡ true → n < made) → Numbered ws made
-numbered [] made differ less = tt
-numbered (w ∷ ws) made differ less = (
-  less w.number (first (w.number == w.number) (number-same w.number w.number refl)),
-  differ.1,
-  numbered ws made differ.2 (λ n h. less n (behind (w.number == n) (has_window ws n) h)),
-)
-  where
-    first : (a : Truth) → a ≡ true → (a || has_window ws w.number) ≡ true
-    first true e = refl
-    first false e = off e
-
-    behind : (a b : Truth) → b ≡ true → (a || b) ≡ true
-    behind true b h = refl
-    behind false b h = h
 
 module _ (m grown : Machine) (held : ℕ → Truth) (part : Part held [] m grown []) where
   lost : (o : Seen) (x : Option Seen) → Some o ≡ option_map (λ (u : Seen). gone) x → o ≡ gone
@@ -87,29 +79,30 @@ module _ (m grown : Machine) (held : ℕ → Truth) (part : Part held [] m grown
       given Frozen e = tt
 
   -- behind a step, what is gone was one or the other
-  frees : (new : Machine) (a : ℕ) (o : Seen) → slice_get m.store a ≡ Some o → o ≢ gone → slice_get new.store a ≡ Some gone
+  frees : (new : Machine) (a : ℕ) (o : Seen) → slice_get m.store a ≡ Some o → o ≢ gone → Finds new.store a None
       → Since m.store o.label new.store new.windows new.windows_made (length new.managers)
       → EndedTemp m new o.label ⊎ GoneRegion m new o.label
   frees new a o there live away since = by o.label refl since.fate
     where
       stands : (l : Label) → Stands new.store a l → ⊥
-      stands l s = s.3 (some-is s.0 gone (sym s.1 ∙ away))
+      stands l s = s.3 (away s.0 s.1)
 
       by : (l : Label) → o.label ≡ l
           → Stay m.store l new.store ⊎ (NoneLeft new.store new.windows new.windows_made l × (Move m.store l new.store ⊎ Go m.store l new.store))
           → EndedTemp m new l ⊎ GoneRegion m new l
-      by l e (inl h) = absurd (stands l (h a (there_as l e)))
-        where
-          there_as : (l : Label) → o.label ≡ l → Stands m.store a l
-          there_as l e = (o, there, e, live)
-      by (Region r) e (inr h) = inr (r, refl, record {
-        closed = h.0.0;
-        empty = h.0.1;
-        all_gone = elim h.1 [
-          | inl x ↦ absurd (stands x.0 (x.2 a (o, there, e, live)))
-          | inr x ↦ (λ b u at lies. x b (u, at, lies, λ d. region-not r (2 ^ 64 - 1) (sym lies ∙ ap (λ (y : Seen). y.label) d)))
-        ];
-      })
+      by l e (inl h) = absurd (stands l (h a (o, there, e, live)))
+      by (Region r) e (inr h) = inr (
+        r,
+        refl,
+        record {
+          closed = h.0.0;
+          empty = h.0.1;
+          all_gone = elim h.1 [
+            | inl x ↦ absurd (stands x.0 (x.2 a (o, there, e, live)))
+            | inr x ↦ (λ b u at lies. x b (u, at, lies, λ d. region-not r (2 ^ 64 - 1) (sym lies ∙ ap (λ (y : Seen). y.label) d)))
+          ];
+        },
+      )
       by (Temp n) e (inr h) = inl (n, refl, temp-open a o n there live e, h.0.0)
       by Frozen e (inr h) = absurd h.0
 
@@ -127,6 +120,7 @@ come-came old was (Some i.Halt) w now = now
 come-came old was (Some o) w now = tt
 
 module _ (old : List Seen) (was : Label) (code : Code) where
+  -- a walk that is stuck or the other one, beside one over the growing store that leads on, is the other one
   ending : (x y z : Walked) → Less x y → SameEnd x z → (z ≡ Stuck → ⊥) → Ending old was x → Ending old was y
   ending x y z (inr same) h leads end = subst (Ending old was) same end
   ending x y z (inl stuck) h leads end = absurd (by z (subst (λ q. SameEnd q z) stuck h) leads)
@@ -173,7 +167,7 @@ module _ (old : List Seen) (was : Label) (code : Code) where
       let next = w.machine.at + 1 in
       let behind = drop-next code.ops w.machine.at (i.Mark line) os here in
       let walks = subst (λ l. SameEnd (free_walk code l next 0 [] u) (given_walk code l next 0 [] w)) behind
-          (walks-same code next false false [] u w order.here m) in
+      (walks-same code next false false [] u w order.here m) in
       subst (λ n. Came old was (free_finished code line (free_walk code os (n + 1) 0 [] u))) (sym at)
       (finished-came line (free_walk code os next 0 [] u) (given_walk code os next 0 [] w) walks
       (walk-back code os next 0 [] w order.behind) h
@@ -187,8 +181,36 @@ module _ (old : List Seen) (was : Label) (code : Code) where
   leads-came u w m order h now = subst (λ n. Came old was (free_step_from code u (drop n code.ops))) (sym m.1.machine.at)
       (step-came u w (drop w.machine.at code.ops) refl m.1.machine.at m order h now)
 
-pub steps-free : StepsFree
-steps-free t code u w p accepted lowers fit holds quiet left m = by (free_step code u) (λ a o there live.
+-- the input of a state decides neither that it fits nor that it is shown
+fit-with : (t : Tree) (p : State) (input : List ℕ) → Fit t p → Fit t (record p { input = input })
+fit-with t p input fit = record {
+  frames = fit.frames;
+  values = fit.values;
+  objects = fit.objects;
+  opened = fit.opened;
+  forest = fit.forest;
+  numbers = fit.numbers;
+}
+
+shows-with : (t : Tree) (code : Code) (m : Machine) (p : State) (input : List ℕ) → Fit t p → Shows t.classes code m p
+    → Shows t.classes code m (record p { input = input })
+shows-with t code m p input fit shows =
+    let held = fit-holds t (record p { input = input }) (fit-with t p input fit) in
+    record {
+      slots = shows.slots;
+      windows = shows.windows;
+      places = shows.places;
+      windows_made = shows.windows_made;
+      managers = shows.managers;
+      store = shows.store;
+      none_stale = held.none_stale;
+      live_regions = held.live_regions;
+    }
+
+-- beside a machine over the growing store that shows the state
+matched-free : (t : Tree) (code : Code) (u w : Work) (p : State) → Accepted t → Lowers t code → Fit t p → Holds t.classes code w p
+    → w.printed ≡ None → SomeLeft p.items → Match [] u w [] → StepFrees u.machine (free_step code u)
+matched-free t code u w p accepted lowers fit holds quiet left m = by (free_step code u) (λ a o there live.
     leads-came u.machine.store o.label code u w m (steps-orderly t code w.machine p accepted lowers fit holds.shows left)
     (step-leads t code u w p accepted lowers fit holds quiet left m)
     (begins u.machine w.machine m.0 m.1.machine a o there live))
@@ -199,3 +221,11 @@ steps-free t code u w p accepted lowers fit holds quiet left m = by (free_step c
     by (Ends v) came = λ a o there live away. frees u.machine w.machine m.0 m.1.machine v.machine a o there live away (came a o there live)
     by (Trapped t line) came = tt
     by Lost came = tt
+
+pub steps-free : StepsFree
+steps-free t code u p accepted lowers fit shows quiet left =
+    let w = record u { machine = shows.grown } in
+    let q = record p { input = u.input } in
+    matched-free t code u w q accepted lowers (fit-with t p u.input fit)
+    (record { shows = shows-with t code shows.grown p u.input fit shows.shows; input = refl }) quiet left
+    (shows.held, record { machine = shows.beside; input = refl; printed = refl })

@@ -1,19 +1,18 @@
 -- Where objects stand behind each change of the store, and that none comes into a region that is closed and empty.
 use Rattle.std.proofs.Common.{◌≡◌, ◌≢◌, ℕ, zero, suc, ◌<◌, ◌⊎◌, inl, inr, true, false, true≢false, Bool as Truth, List, [], ◌∷◌, ◌++◌}
-use Rattle.std.proofs.Common.{length, map, Option, Some, None, option_map, refl, sym, ap, subst, ◌∙◌, arith, slice_get, slice_set}
+use Rattle.std.proofs.Common.{length, map, Option, Some, option_map, refl, sym, ap, subst, ◌∙◌, arith, slice_get, slice_set}
 use Rattle.std.specs.Prelude.{◌||◌, ◌-◌, ◌^◌, if◌then◌else◌}
 use Rattle.std.proofs.lemmas.Option.{slice_get-map}
 use Rattle.rg_base.specs.declared.object.Label.{Label}
 use Rattle.rg_base.specs.declared.object.Label.TheVariants.{Region, Temp, Frozen}
 use Rattle.rg_base.specs.declared.object.Seen.{Seen}
 use Rattle.rg_base.specs.declared.value.Val.{Val}
-use Rattle.rg_base.specs.declared.value.Val.TheVariants as val
 use Rattle.rg_rules.specs.Regions.{in_regions, relabelled_object, relabelled}
 use Rattle.rg_stack.specs.Machine.{Window}
-use Rattle.rg_stack.specs.Effects.{with_value_in, put_in}
+use Rattle.rg_stack.specs.Effects.{with_value_in}
 use Rattle.rg_stack.specs.Needs.{has_window, is_open}
 use Rattle.rg_held.specs.Frees.{gone, is_temp, buried, bury}
-use Rattle.rg_held.proofs.Lists.{some-is, none-some, off, set-old, set-same, set-back, push-old, push-back}
+use Rattle.rg_held.proofs.Lists.{some-is, none-some, set-old, set-same, set-back, push-back}
 use Rattle.rg_held.proofs.Places.{or-left}
 
 -- an object that isn't gone stands at an address, with a label
@@ -35,17 +34,6 @@ abbrev pub MayTake : Label → Type 0
 MayTake (Region r) = Unit {0}
 MayTake (Temp n) = ⊥
 MayTake Frozen = Unit {0}
-
--- windows differ in their numbers, which were given
-abbrev pub Numbered : List Window → (made : ℕ) → Type 0
-Numbered [] made = Unit {0}
-Numbered (w ∷ ws) made = (w.number < made) × (has_window ws w.number ≡ false) × Numbered ws made
-
--- the number of a region was given
-abbrev pub IsGiven : (regions : ℕ) → Label → Type 0
-IsGiven regions (Region r) = r < regions
-IsGiven regions (Temp n) = Unit {0}
-IsGiven regions Frozen = Unit {0}
 
 pub region-not : (r n : ℕ) → Region r ≢ Temp n
 region-not r n e = true≢false (ap (λ (l : Label). elim l [ Region q ↦ true | Temp k ↦ false | Frozen ↦ false ]) e)
@@ -84,9 +72,9 @@ module _ (store : List Seen) (b k : ℕ) (v : Val) (o : Seen) (here : slice_get 
   written-stands a l s = elim (set-old store b a (with_value_in o k v) s.0 s.1) [
     | inr there ↦ (s.0, there, s.2, s.3)
     | inl same ↦ (
-      let is = written-is a s.0 same s.1 in
-      (with_value_in o k v, written-at a same, ap (λ (u : Seen). u.label) is ∙ s.2, λ e. s.3 (sym is ∙ with-gone o k v e))
-    )
+        let is = written-is a s.0 same s.1 in
+        (with_value_in o k v, written-at a same, ap (λ (u : Seen). u.label) is ∙ s.2, λ e. s.3 (sym is ∙ with-gone o k v e))
+        )
   ]
 
   pub written-gone : (a : ℕ) → slice_get store a ≡ Some gone → slice_get written a ≡ Some gone
@@ -189,7 +177,8 @@ module _ (regions : List ℕ) (temps : Option ℕ) where
     where
       out : (y : Seen) → slice_get now a ≡ Some y → goes y.label ≡ false → y.label ≡ Region r
           → in_regions regions (Region r) ≡ true ⊎ NoneLies now r → ⊥
-      out y at e lies (inl t) = true≢false (sym t ∙ sym (ap (in_regions regions) lies) ∙ or-left (in_regions regions y.label) (is_temp temps y.label) e)
+      out y at e lies (inl t) =
+          true≢false (sym t ∙ sym (ap (in_regions regions) lies) ∙ or-left (in_regions regions y.label) (is_temp temps y.label) e)
       out y at e lies (inr none) = none a y at lies
 
       of : (y : Seen) → slice_get now a ≡ Some y → (b : Truth) → goes y.label ≡ b → (if b then gone else y).label ≡ Region r → ⊥

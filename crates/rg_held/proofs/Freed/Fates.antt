@@ -1,7 +1,7 @@
 -- What has become of the objects that had a label when a step began: they have it still, all have another one, or all are gone.
-use Rattle.std.proofs.Common.{◌≡◌, ◌≢◌, ℕ, ◌+◌, ◌<◌, ◌⊎◌, inl, inr, true, false, Bool as Truth, List, [], ◌∷◌, ◌++◌, length}
-use Rattle.std.proofs.Common.{Option, Some, None, refl, sym, ap, subst, ◌∙◌, slice_get, slice_set}
-use Rattle.std.specs.Prelude.{◌||◌, if◌then◌else◌}
+use Rattle.std.proofs.Common.{◌≡◌, ◌≢◌, ℕ, ◌<◌, ◌⊎◌, inl, inr, true, false, Bool as Truth, List, [], ◌∷◌, ◌++◌}
+use Rattle.std.proofs.Common.{Option, Some, None, refl, sym, subst, slice_get, slice_set}
+use Rattle.std.specs.Prelude.{◌||◌}
 use Rattle.rg_base.specs.declared.object.Label.{Label}
 use Rattle.rg_base.specs.declared.object.Label.TheVariants.{Region, Temp, Frozen}
 use Rattle.rg_base.specs.declared.object.Seen.{Seen}
@@ -17,14 +17,21 @@ use Rattle.rg_held.specs.Part.{SomeWindow}
 use Rattle.rg_held.proofs.Lists.{off, push-old}
 use Rattle.rg_held.proofs.Places.{or-split}
 use Rattle.rg_held.proofs.Burials.{temp-label}
-use Rattle.rg_held.proofs.Freed.Changes.{Stands, NoneLies, NoneLeft, MayTake, Numbered, IsGiven, region-not, frozen-not}
+use Rattle.rg_held.proofs.Freed.Changes.{Stands, NoneLies, NoneLeft, MayTake, region-not, frozen-not}
 use Rattle.rg_held.proofs.Freed.Changes.{written-stands, written-gone, written-none, made-none}
+use Rattle.rg_held.proofs.Freed.Windows.{Numbered, EndedOn}
 use Rattle.rg_held.proofs.Freed.Changes.{moved, moved-may, moved-stands, moved-gone, moved-none, goes, bury-there, bury-gone, bury-none}
 
--- a label that is left by all keeps nothing, where a closed region stays so and empty, and a window that has ended doesn't come again
+-- the number of a region was given
+abbrev pub IsGiven : (regions : ℕ) → Label → Type 0
+IsGiven regions (Region r) = r < regions
+IsGiven regions (Temp n) = Unit {0}
+IsGiven regions Frozen = Unit {0}
+
+-- nothing is left under a label, where a closed region stays so and empty, and a window that has ended doesn't come again
 left-on : (now next : List Seen) (ws later : List Window) (made number : ℕ) (was : Label)
     → ((r : ℕ) → was ≡ Region r → is_open ws r ≡ false → NoneLies now r → (is_open later r ≡ false) × NoneLies next r)
-    → ((n : ℕ) → has_window ws n ≡ false → n < made → (has_window later n ≡ false) × (n < number))
+    → EndedOn ws later made number
     → NoneLeft now ws made was → NoneLeft next later number was
 left-on now next ws later made number (Region r) region temp left = region r refl left.0 left.1
 left-on now next ws later made number (Temp n) region temp left = temp n left.0 left.1
@@ -94,10 +101,14 @@ module _ (old : List Seen) (was : Label) where
     fate = elim since.fate [
       | inl h ↦ first (in_regions rs was) refl h
       | inr h ↦ inr (
-        left-on now next ws ws made made was (λ r e c none. (c, moved-none rs label now r (apart r c) (inr none))) (λ n ended less. (ended, less)) h.0,
+        left-on now next ws ws made made was (λ r e c none. (c, moved-none rs label now r (apart r c) (inr none)))
+            (λ n ended less. (ended, less)) h.0,
         elim h.1 [
-          | inl m ↦ inl (moved rs label m.0, moved-may rs label may m.0 m.1,
-              λ a s. moved-stands rs label may now a m.0 (in_regions rs m.0) refl (m.2 a s))
+          | inl m ↦ inl (
+            moved rs label m.0,
+            moved-may rs label may m.0 m.1,
+            λ a s. moved-stands rs label may now a m.0 (in_regions rs m.0) refl (m.2 a s),
+          )
           | inr g ↦ inr (λ a s. moved-gone rs label now a (g a s))
         ],
       )
@@ -122,7 +133,7 @@ module _ (old : List Seen) (was : Label) where
   -- windows open and end; a region that is opened has an object
   pub since-windows : (now : List Seen) (ws later : List Window) (made number regions : ℕ)
       → ((r : ℕ) → is_open ws r ≡ false → NoneLies now r → is_open later r ≡ false)
-      → ((n : ℕ) → has_window ws n ≡ false → n < made → (has_window later n ≡ false) × (n < number))
+      → EndedOn ws later made number
       → SomeWindow later → Numbered later number → Since now ws made regions → Since now later number regions
   since-windows now ws later made number regions shut ended some numbers since = record {
     fate = elim since.fate [
@@ -137,7 +148,7 @@ module _ (old : List Seen) (was : Label) where
   -- closed regions are buried, and the temporaries of a window that ends with it
   pub since-buried : (rs : List ℕ) (temps : Option ℕ) (now : List Seen) (ws later : List Window) (made regions : ℕ)
       → ((r : ℕ) → is_open ws r ≡ false → is_open later r ≡ false)
-      → ((n : ℕ) → has_window ws n ≡ false → n < made → (has_window later n ≡ false) × (n < made))
+      → EndedOn ws later made made
       → SomeWindow later → Numbered later made → ((r : ℕ) → In r rs → is_open ws r ≡ false)
       → ((n : ℕ) → temps ≡ Some n → (has_window later n ≡ false) × (n < made)) → Since now ws made regions
       → Since (bury rs temps now) later made regions

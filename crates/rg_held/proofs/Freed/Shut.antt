@@ -1,10 +1,8 @@
 -- The regions that end with an instruction are closed: what a slot gives up, what a window's temporaries own, and all beneath these.
-use Rattle.std.proofs.Common.{◌≡◌, ℕ, true, false, not, Bool as Truth, inl, inr, List, [], ◌∷◌, ◌++◌, length, drop, filter, Option, Some, None, Result}
+use Rattle.std.proofs.Common.{◌≡◌, ℕ, true, false, not, Bool as Truth, inl, inr, List, [], ◌∷◌, length, drop, filter, Option, Some, None, Result}
 use Rattle.std.proofs.Common.{Ok, Err, refl, sym, ap, subst, ◌∙◌, slice_get}
 use Rattle.std.specs.Prelude.{flat_map, ok_or, ◌||◌, ◌&&◌}
 use Rattle.std.specs.List.{list_any}
-use Rattle.rg_base.specs.declared.object.Label.{Label}
-use Rattle.rg_base.specs.declared.object.Label.TheVariants.{Region, Temp, Frozen}
 use Rattle.rg_base.specs.declared.object.Seen.{Seen}
 use Rattle.rg_base.specs.declared.outcome.Trap.{Trap}
 use Rattle.rg_base.specs.declared.outcome.Trap.TheVariants as trap
@@ -17,7 +15,7 @@ use Rattle.rg_code.specs.declared.op.Op.{Op}
 use Rattle.rg_code.specs.declared.op.Op.TheVariants as i
 use Rattle.rg_code.specs.Code.{Code}
 use Rattle.rg_stack.specs.Machine.{Window, Machine, slot_at, top_slots}
-use Rattle.rg_stack.specs.Effects.{Work, beneath_by_labels}
+use Rattle.rg_stack.specs.Effects.{beneath_by_labels}
 use Rattle.rg_stack.specs.Needs.{is_open, is_closed, is_top_temp, closed_into, owned_once, owns_or_nil, needs}
 use Rattle.rg_held.specs.Frees.{Given, given_up, regions_freed, closed_among, closed_by_temps, left_with, window_that_ends, top_value}
 use Rattle.rg_held.specs.Part.{Part}
@@ -93,19 +91,26 @@ left-shut m s (Some n) r i = elim (in-split (closed_among m (drop s (top_slots m
   | inr there ↦ temps-shut m (filter (λ (o : Seen). is_top_temp m o.label) m.store) r there
 ]
 
-value-shut : (m : Machine) (v : Val) → owns_or_nil m v ≡ true → (x : Result Seen Trap) → object_at m.store v ≡ x → (r : ℕ)
-    → elim x [ Ok o ↦ region_of o.label | Err t ↦ None ] ≡ Some r → is_open m.windows r ≡ false
-value-shut m v h (Err t) e r is = none-some r is
-value-shut m val.Nil h (Ok o) e r is = cc
-value-shut m (val.Int z) h (Ok o) e r is = cc
-value-shut m (val.Bool b) h (Ok o) e r is = cc
-value-shut m (val.Obj a) h (Ok o) e r is =
-    let c = closed-region m a o (there (slice_get m.store a) e) h in
-    subst (λ n. is_open m.windows n ≡ false) (some-is c.0 r (sym (ap region_of c.1) ∙ is)) c.2
+-- an object to which a value leads stands in the store
+pub object-there : (store : List Seen) (v : Val) (o : Seen) → object_at store v ≡ Ok o
+    → (a : ℕ) × (v ≡ val.Obj a) × (slice_get store a ≡ Some o)
+object-there store val.Nil o e = cc
+object-there store (val.Int z) o e = cc
+object-there store (val.Bool b) o e = cc
+object-there store (val.Obj a) o e = (a, refl, there (slice_get store a) e)
   where
     there : (x : Option Seen) → ok_or x trap.Nil ≡ Ok o → x ≡ Some o
     there None e = cc
     there (Some u) e = ap (λ (y : Result Seen Trap). elim y [ Ok z ↦ Some z | Err t ↦ None ]) e
+
+-- an owner leads into a closed region
+value-shut : (m : Machine) (v : Val) → owns_or_nil m v ≡ true → (x : Result Seen Trap) → object_at m.store v ≡ x → (r : ℕ)
+    → elim x [ Ok o ↦ region_of o.label | Err t ↦ None ] ≡ Some r → is_open m.windows r ≡ false
+value-shut m v h (Err t) e r is = none-some r is
+value-shut m v h (Ok o) e r is =
+    let at = object-there m.store v o e in
+    let c = closed-region m at.0 o at.2 (subst (λ x. owns_or_nil m x ≡ true) at.1 h) in
+    subst (λ n. is_open m.windows n ≡ false) (some-is c.0 r (sym (ap region_of c.1) ∙ is)) c.2
 
 module _ (held : ℕ → Truth) (owners : List Val) (f m : Machine) (stack : List Val) (p : Part held owners f m stack) where
   beneath-shut : (rs : List ℕ) → AllShut f.windows rs → AllShut f.windows (beneath_by_labels f.store (length f.managers) rs)

@@ -1,7 +1,7 @@
 -- Instructions and walks of the machine that frees: what had a label when the step began has it still, has moved, or is gone.
-use Rattle.std.proofs.Common.{◌≡◌, ◌≢◌, ℕ, zero, suc, ◌+◌, ◌<◌, ◌==◌, ◌⊎◌, inl, inr, true, false, not, true≢false, Bool as Truth, if◌then◌else◌}
+use Rattle.std.proofs.Common.{◌≡◌, ◌≢◌, ℕ, zero, suc, ◌+◌, ◌<◌, true, false, not, true≢false, Bool as Truth, if◌then◌else◌}
 use Rattle.std.proofs.Common.{List, [], ◌∷◌, ◌++◌, length, Option, Some, None, Result, Ok, Err, refl, sym, ap, subst, ◌∙◌, arith, slice_get}
-use Rattle.std.specs.Prelude.{nat_lt, ok_or, slice_index_or, unwrap_or, ◌||◌}
+use Rattle.std.specs.Prelude.{nat_lt, slice_index_or, unwrap_or, ◌||◌}
 use Rattle.std.specs.List.{list_any}
 use Rattle.std.proofs.lemmas.List.FromFn.{length-map-range_with_len}
 use Rattle.rg_base.specs.Input.{NextNumber, found, malformed, at_end, next_number}
@@ -28,81 +28,18 @@ use Rattle.rg_code.specs.Code.{Code}
 use Rattle.rg_stack.specs.Machine.{Frame, Window, Machine, top_slots, slot_at, place_of, slots_below}
 use Rattle.rg_stack.specs.Effects.{Work, Walked, Stops, Returns, Traps, Stuck, Go, on_top, on_two, pushed, next_taken, opens_at, begins_by}
 use Rattle.rg_stack.specs.Effects.{called, returned, entered, relabel, without_top, top_region, with_store, put_in, stored}
-use Rattle.rg_stack.specs.Needs.{has_window, is_open, needs}
+use Rattle.rg_stack.specs.Needs.{is_open, needs}
 use Rattle.rg_held.specs.Frees.{Given, given_up, regions_freed, window_that_ends, left_with, bury, freed, forgotten, lives, free_act}
 use Rattle.rg_held.specs.Part.{SomeWindow}
-use Rattle.rg_held.proofs.Places.{or-right, other-number, number-same, either, clash}
-use Rattle.rg_held.proofs.Lists.{some-is, none-some, off, push-length}
+use Rattle.rg_held.proofs.Places.{other-number, number-same}
+use Rattle.rg_held.proofs.Lists.{some-is, none-some, push-length}
 use Rattle.rg_held.proofs.Tested.{tested_walk}
-use Rattle.rg_held.proofs.Freed.Changes.{NoneLies, Numbered, IsGiven, MayTake, region-not}
-use Rattle.rg_held.proofs.Freed.Fates.{Since, since-put, since-made, since-moved, since-windows, since-buried}
-use Rattle.rg_held.proofs.Freed.Shut.{AllShut, all-shut, region_in, ended_with, shut}
-
--- windows that are opened and that end
-
-number-old : (ws : List Window) (made number : ℕ) → Numbered ws made → has_window ws number ≡ true → number < made
-number-old [] made number h e = absurd (true≢false (sym e))
-number-old (w ∷ ws) made number h e = elim (either (w.number == number)) [
-  | inl same ↦ (let less = h.0 in grind arith)
-  | inr other ↦ number-old ws made number h.2 (ap (λ b. b || has_window ws number) (sym other) ∙ e)
-]
-
-numbered-more : (ws : List Window) (made : ℕ) → Numbered ws made → Numbered ws (made + 1)
-numbered-more [] made h = tt
-numbered-more (w ∷ ws) made h = (let less = h.0 in omega (arith, less), h.1, numbered-more ws made h.2)
-
--- no window has the number that comes next
-number-new : (ws : List Window) (made : ℕ) → Numbered ws made → has_window ws made ≡ false
-number-new ws made h = elim (either (has_window ws made)) [
-  | inl e ↦ absurd (let less = number-old ws made made h e in omega (arith, less))
-  | inr e ↦ e
-]
-
--- windows that have ended don't come again
-abbrev EndedOn : (ws later : List Window) → (made number : ℕ) → Type 0
-EndedOn ws later made number = (n : ℕ) → has_window ws n ≡ false → n < made → (has_window later n ≡ false) × (n < number)
-
-opened-on : (ws : List Window) (made : ℕ) (w : Window) → w.number ≡ made → EndedOn ws (w ∷ ws) made (made + 1)
-opened-on ws made w new n ended less =
-    let other = other-number w.number n (λ e. omega (arith, e, new, less)) in
-    (ap (λ b. b || has_window ws n) other ∙ ended, omega (arith, less))
-
-without-on : (ws : List Window) (made : ℕ) → EndedOn ws (without_top ws) made made
-without-on [] made n ended less = (ended, less)
-without-on (w ∷ []) made n ended less = (ended, less)
-without-on (w ∷ v ∷ ws) made n ended less = (or-right (w.number == n) (has_window (v ∷ ws) n) ended, less)
-
-without-shut : (ws : List Window) (r : ℕ) → is_open ws r ≡ false → is_open (without_top ws) r ≡ false
-without-shut [] r e = e
-without-shut (w ∷ []) r e = e
-without-shut (w ∷ v ∷ ws) r e = or-right (w.region == r) (is_open (v ∷ ws) r) e
-
-without-some : (ws : List Window) → SomeWindow ws → SomeWindow (without_top ws)
-without-some [] h = h
-without-some (w ∷ []) h = tt
-without-some (w ∷ v ∷ ws) h = tt
-
-without-numbered : (ws : List Window) (made : ℕ) → Numbered ws made → Numbered (without_top ws) made
-without-numbered [] made h = h
-without-numbered (w ∷ []) made h = h
-without-numbered (w ∷ v ∷ ws) made h = h.2
-
--- the window that ends has ended behind it
-that-ends : (ws : List Window) (made : ℕ) → Numbered ws made → (n : ℕ) → window_that_ends ws ≡ Some n
-    → (has_window (without_top ws) n ≡ false) × (n < made)
-that-ends [] made h n e = none-some n e
-that-ends (w ∷ []) made h n e = none-some n e
-that-ends (w ∷ v ∷ ws) made h n e =
-    let is = some-is w.number n e in (subst (λ k. has_window (v ∷ ws) k ≡ false) is h.1, subst (λ k. k < made) is h.0)
-
-left-temps : (m : Machine) (s : ℕ) (ended : Option ℕ) → (left_with m s ended).temps ≡ ended
-left-temps m s None = refl
-left-temps m s (Some n) = refl
-
--- regions
-
-same-region : (q r : ℕ) → Region q ≡ Region r → q ≡ r
-same-region q r e = ap (λ (l : Label). elim l [ Region q ↦ q | Temp k ↦ q | Frozen ↦ q ]) e
+use Rattle.rg_held.proofs.Burials.{same-region}
+use Rattle.rg_held.proofs.Freed.Changes.{MayTake, region-not}
+use Rattle.rg_held.proofs.Freed.Windows.{numbered-more, number-new, opened-on, without-on, without-shut, without-some, without-numbered}
+use Rattle.rg_held.proofs.Freed.Windows.{that-ends, left-temps}
+use Rattle.rg_held.proofs.Freed.Fates.{IsGiven, Since, since-put, since-made, since-moved, since-windows, since-buried}
+use Rattle.rg_held.proofs.Freed.Shut.{AllShut, all-shut, object-there, region_in, ended_with, shut}
 
 temp-apart : (n r : ℕ) → Temp n ≢ Region r
 temp-apart n r e = region-not r n (sym e)
@@ -121,17 +58,6 @@ region-label : (l : Label) (r : ℕ) → region_of l ≡ Some r → l ≡ Region
 region-label (Region q) r e = ap Region (some-is q r e)
 region-label (Temp n) r e = none-some r e
 region-label Frozen r e = none-some r e
-
--- an object to which a value leads stands in the store
-object-there : (store : List Seen) (v : Val) (o : Seen) → object_at store v ≡ Ok o → (a : ℕ) × (slice_get store a ≡ Some o)
-object-there store val.Nil o e = cc
-object-there store (val.Int z) o e = cc
-object-there store (val.Bool b) o e = cc
-object-there store (val.Obj a) o e = (a, there (slice_get store a) e)
-  where
-    there : (x : Option Seen) → ok_or x trap.Nil ≡ Ok o → x ≡ Some o
-    there None e = cc
-    there (Some u) e = ap (λ (y : Result Seen Trap). elim y [ Ok z ↦ Some z | Err t ↦ None ]) e
 
 module _ (old : List Seen) (was : Label) where
   -- how what a step works on stands to the store of its beginning
@@ -205,7 +131,8 @@ module _ (old : List Seen) (was : Label) where
           let less : made < made + 1 = omega arith in
           let at = object-there w.machine.store v o there in
           since-windows old was w.machine.store ws (opened ∷ ws) made (made + 1) (length w.machine.managers)
-          (λ r closed none. ap (λ b. b || is_open ws r) (other-number q r (λ same. none at.0 o at.1 (region-label o.label q e ∙ ap Region same))) ∙ closed)
+          (λ r closed none.
+          ap (λ b. b || is_open ws r) (other-number q r (λ same. none at.0 o at.2 (region-label o.label q e ∙ ap Region same))) ∙ closed)
           (opened-on ws made opened refl) tt (less, number-new ws made now.numbers, numbered-more ws made now.numbers) now
 
   now-made : (w : Work) (o : Seen) → ((r : ℕ) → is_open w.machine.windows r ≡ false → o.label ≢ Region r) → Now w
@@ -234,9 +161,11 @@ module _ (old : List Seen) (was : Label) where
       → ((q : ℕ) → is_open w.machine.windows q ≡ false → label ≢ Region q) → AllShut w.machine.windows (ended_with all w.machine r) → Now w
       → Now (with_store w (relabel all label w r))
   since-moves all label w None may apart closed now = now
-  since-moves true label w (Some r) may apart closed now = since-moved old was (ended_with true w.machine (Some r)) label w.machine.store w.machine.windows w.machine.windows_made
+  since-moves true label w (Some r) may apart closed now =
+      since-moved old was (ended_with true w.machine (Some r)) label w.machine.store w.machine.windows w.machine.windows_made
       (length w.machine.managers) may apart closed now
-  since-moves false label w (Some r) may apart closed now = since-moved old was (ended_with false w.machine (Some r)) label w.machine.store w.machine.windows w.machine.windows_made
+  since-moves false label w (Some r) may apart closed now =
+      since-moved old was (ended_with false w.machine (Some r)) label w.machine.store w.machine.windows w.machine.windows_made
       (length w.machine.managers) may apart closed now
 
   -- the region of what a slot leads to ends, and its objects get a label
@@ -336,8 +265,10 @@ module _ (old : List Seen) (was : Label) where
     on-act at i.More go stack w h t now = h 0 _ _ now
     on-act at i.Room go stack w h t now = on-test (nat_lt (length w.machine.frames) FRAMES) _ (Traps trap.Depth) (h 0 stack w now) tt
     on-act at (i.Call m) go stack w h t now = on-called at (slice_get code.entries m) stack w now
-    on-act at i.Ret go stack w h t now = on-top stack _ (λ v rest. on-returned (freed (given_up i.Ret stack w.machine) w) w.machine.frames (v ∷ []) (now-freed w _ refl t now))
-    on-act at i.RetVoid go stack w h t now = on-returned (freed (given_up i.RetVoid stack w.machine) w) w.machine.frames [] (now-freed w _ refl t now)
+    on-act at i.Ret go stack w h t now = on-top stack _ (λ v rest.
+        on-returned (freed (given_up i.Ret stack w.machine) w) w.machine.frames (v ∷ []) (now-freed w _ refl t now))
+    on-act at i.RetVoid go stack w h t now =
+        on-returned (freed (given_up i.RetVoid stack w.machine) w) w.machine.frames [] (now-freed w _ refl t now)
     on-act at (i.Enter s z) go stack w h t now = on-opened w.machine z _ (on-object (object_at w.machine.store (slot_at w.machine s)) _
         (λ o e. h 0 _ _ (now-entered w _ _ z (slot_at w.machine s) o e now)))
     on-act at (i.EnterField k z) go stack w h t now = on-opened w.machine z _ (on-top stack _ (λ r rest.
