@@ -1,7 +1,6 @@
 -- What has become of the objects that had a label when a step began: they have it still, all have another one, or all are gone.
 use Rattle.std.proofs.Common.{◌≡◌, ◌≢◌, ℕ, ◌<◌, ◌⊎◌, inl, inr, true, false, Bool as Truth, List, [], ◌∷◌, ◌++◌}
 use Rattle.std.proofs.Common.{Option, Some, None, refl, sym, subst, slice_get, slice_set}
-use Rattle.std.specs.Prelude.{◌||◌}
 use Rattle.rg_base.specs.declared.object.Label.{Label}
 use Rattle.rg_base.specs.declared.object.Label.TheVariants.{Region, Temp, Frozen}
 use Rattle.rg_base.specs.declared.object.Seen.{Seen}
@@ -31,19 +30,21 @@ IsGiven regions Frozen = Unit {0}
 -- nothing is left under a label, where a closed region stays so and empty, and a window that has ended doesn't come again
 left-on : (now next : List Seen) (ws later : List Window) (made number : ℕ) (was : Label)
     → ((r : ℕ) → was ≡ Region r → is_open ws r ≡ false → NoneLies now r → (is_open later r ≡ false) × NoneLies next r)
-    → EndedOn ws later made number
-    → NoneLeft now ws made was → NoneLeft next later number was
+    → EndedOn ws later made number → NoneLeft now ws made was → NoneLeft next later number was
 left-on now next ws later made number (Region r) region temp left = region r refl left.0 left.1
 left-on now next ws later made number (Temp n) region temp left = temp n left.0 left.1
 left-on now next ws later made number Frozen region temp left = absurd left
 
 module _ (old : List Seen) (was : Label) where
+  -- what had the label has it still
   abbrev pub Stay : List Seen → Type 0
   Stay now = (a : ℕ) → Stands old a was → Stands now a was
 
+  -- all of it has one other label, that of a region or a frozen object's
   abbrev pub Move : List Seen → Type 0
   Move now = (l : Label) × MayTake l × ((a : ℕ) → Stands old a was → Stands now a l)
 
+  -- all of it is gone
   abbrev pub Go : List Seen → Type 0
   Go now = (a : ℕ) → Stands old a was → slice_get now a ≡ Some gone
 
@@ -168,17 +169,16 @@ module _ (old : List Seen) (was : Label) where
       next : List Seen
       next = bury rs temps now
 
-      left : (l : Label) → goes rs temps l ≡ true → NoneLeft next later made l
-      left (Region r) e = by (among-in rs r (or-no-temp r e))
-        where
-          or-no-temp : (r : ℕ) → (in_regions rs (Region r) || is_temp temps (Region r)) ≡ true → in_regions rs (Region r) ≡ true
-          or-no-temp r e = elim (or-split (in_regions rs (Region r)) (is_temp temps (Region r)) e) [
-            | inl t ↦ t
-            | inr t ↦ (let h = temp-label temps (Region r) t in absurd (region-not r h.0 h.2))
-          ]
+      -- a region's label is no temporary's
+      lies-given : (r : ℕ) → goes rs temps (Region r) ≡ true → in_regions rs (Region r) ≡ true
+      lies-given r e = elim (or-split (in_regions rs (Region r)) (is_temp temps (Region r)) e) [
+        | inl t ↦ t
+        | inr t ↦ (let h = temp-label temps (Region r) t in absurd (region-not r h.0 h.2))
+      ]
 
-          by : In r rs → NoneLeft next later made (Region r)
-          by i = (stays r (shut r i), bury-none rs temps now r (inl (or-no-temp r e)))
+      left : (l : Label) → goes rs temps l ≡ true → NoneLeft next later made l
+      left (Region r) e =
+          let into = lies-given r e in (stays r (shut r (among-in rs r into)), bury-none rs temps now r (inl into))
       left (Temp n) e = let t = temp-label temps (Temp n) e in
           subst (λ l. NoneLeft next later made l) (sym t.2) (ends t.0 t.1)
       left Frozen e = let t = temp-label temps Frozen e in absurd (frozen-not t.0 t.2)

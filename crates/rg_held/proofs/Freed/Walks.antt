@@ -64,12 +64,14 @@ module _ (old : List Seen) (was : Label) where
   abbrev pub Now : Work → Type 0
   Now w = Since old was w.machine.store w.machine.windows w.machine.windows_made (length w.machine.managers)
 
+  -- the same of where a walk ends
   abbrev pub Ending : Walked → Type 0
   Ending (Stops at w) = Now w
   Ending (Returns back stack w) = Now w
   Ending (Traps t) = Unit {0}
   Ending Stuck = Unit {0}
 
+  -- and of how it goes on
   abbrev Onward : Go → Type 0
   Onward go = (skip : ℕ) (stack : List Val) (w : Work) → Now w → Ending (go skip stack w)
 
