@@ -21,5 +21,6 @@ mod ActiveLemmas
 mod YesLemmas
 mod PacedLemmas
 mod AskedLemmas
+mod SinceLemmas
 mod OneLemmas
 pub mod ChainLemmas
