@@ -11,7 +11,7 @@ use Rattle.rg_code.specs.Code.{Code}
 use Rattle.rg_stack.specs.Dues.{due_at}
 use Rattle.rg_stack.specs.Machine.{Machine}
 use Rattle.rg_machine.specs.Parts.{Parts, machine_in}
-use Rattle.rg_step.specs.Asking.{AsksOn}
+use Rattle.rg_step.specs.Asking.{AsksOn, SinceOn}
 use Rattle.rg_step.specs.Collections.{Asks, IsRefused, Paces, ReachesOn, Serves, ServesBy, Unasked}
 use Rattle.rg_step.specs.States.{Chain, IsRoomed, Links, OneStep, Standing}
 use Rattle.rg_step.specs.Steps.{Stepping, StepsOn, is_made}
@@ -63,7 +63,12 @@ one-parts code old new p result x y shown heap o =
       );
       reaches = subst (λ (m : Machine). ReachesOn code m old.stepper.events new.stepper.events x y) s o.reaches;
       asked = subst (λ (m : Machine). AsksOn code m result old.pacers new.pacers) s o.asked;
-      yeses = o.yeses;
+      yeses = (
+        o.yeses.0,
+        o.yeses.1,
+        o.yeses.2,
+        subst (λ (m : Machine). SinceOn code m result o.yeses.0 old.stepper.since new.stepper.since) s o.yeses.3,
+      );
       writes = subst (λ (m : Machine). WritesOnly m (machine_in new.stepper.parts)) s o.writes;
       high = raises-from result p old.stepper.parts new.stepper.parts (sym heap) o.high;
       counts = o.counts;

@@ -22,5 +22,6 @@ mod ActiveLemmas
 mod YesLemmas
 mod PacedLemmas
 mod AskedLemmas
+mod SinceLemmas
 mod OneLemmas
 pub mod ChainLemmas

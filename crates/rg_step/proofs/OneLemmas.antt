@@ -1,5 +1,5 @@
 -- What a step did, in one record, by how it ended.
-use Rattle.std.proofs.Common.{◌≡◌, ◌≤◌, ◌-◌, ◌^◌, ℕ, true, false, true≢false, List, Some, None, refl, sym, subst}
+use Rattle.std.proofs.Common.{◌≡◌, ◌≤◌, ◌-◌, ◌^◌, ℕ, true, false, true≢false, List, ◌++◌, Some, None, refl, sym, ap, ◌∙◌, subst}
 use Rattle.rg_base.specs.declared.event.Cause.{Cause}
 use Rattle.rg_base.specs.declared.event.Event.{Event}
 use Rattle.rg_base.specs.declared.outcome.Outcome.{Outcome}
@@ -18,6 +18,7 @@ use Rattle.rg_step.proofs.AskedLemmas.{asks-refused, asks-served, asks-undue}
 use Rattle.rg_step.proofs.HighLemmas.{raises-none}
 use Rattle.rg_step.proofs.ReachedLemmas.{none-reached, serves-reached}
 use Rattle.rg_step.proofs.ServeLemmas.{serves-none, serves-refused, serves-shows, serves-some, steps-nowhere}
+use Rattle.rg_step.proofs.SinceLemmas.{since-refused, since-served, since-undue}
 use Rattle.rg_step.proofs.WriteLemmas.{steps-write}
 use Rattle.rg_step.proofs.YesLemmas.{no-yes, yeses-served}
 
@@ -52,7 +53,9 @@ module _ (code : Code) (old new : Standing) (runs : IsRunning code (machine_in o
     serves = (new.stepper.parts, steps, serves-refused _ _ _ _ _ _ result none refused);
     reaches = λ t p q r e went. none-reached _ _ q refused.events_are;
     asked = asks-refused code (machine_in old.stepper.parts) result _ _ none refused.unasked.pacers;
-    yeses = no-yes _ _ _ _ refused.events_are refused.unasked.pacers;
+    yeses =
+        let y = no-yes _ _ _ _ refused.events_are refused.unasked.pacers in
+        (y.0, y.1, y.2, since-refused code (machine_in old.stepper.parts) result y.0 _ _ none refused.unasked.since);
     writes = steps-write code _ _ result before after runs steps;
     high = high;
     counts = counts-refused old.stepper.steps new.stepper.steps result none same;
@@ -71,7 +74,9 @@ module _ (code : Code) (old new : Standing) (runs : IsRunning code (machine_in o
     );
     reaches = λ t p q r e went. none-reached _ _ q left.events_are;
     asked = asks-undue code (machine_in old.stepper.parts) result _ _ made none left.unasked.pacers;
-    yeses = no-yes _ _ _ _ left.events_are left.unasked.pacers;
+    yeses =
+        let y = no-yes _ _ _ _ left.events_are left.unasked.pacers in
+        (y.0, y.1, y.2, since-undue code (machine_in old.stepper.parts) result y.0 _ _ made none left.unasked.since);
     writes = steps-write code _ _ result before after runs steps;
     high = high;
     counts = counts-made old.stepper.steps new.stepper.steps result made more;
@@ -107,7 +112,10 @@ module _ (code : Code) (old : Standing) (mid : Parts) (new : Standing) (runs : I
         reaches = serves-reached code why behind mid new.stepper _ _ result made serves stands serials windows grove grown m old.stepper.events
             (sym told) before after steps;
         asked = asks-served code m (Some why) behind mid new.stepper _ _ result before after made due serves stands steps;
-        yeses = yeses-served (Some why) behind mid new.stepper _ _ stands serves old.stepper.events told;
+        yeses =
+            let y = yeses-served (Some why) behind mid new.stepper _ _ stands serves old.stepper.events told in
+            let since = since-served code m why behind mid new.stepper _ _ result before after made due serves stands steps in
+            (y.0, y.1, y.2, since y.0 (y.1 ∙ ap (λ es. es ++ y.0) (sym told)));
         writes = steps-write code _ _ result before after runs shows;
         high = raises-none result old.stepper.parts mid new.stepper.parts high none;
         counts = counts-made old.stepper.steps new.stepper.steps result made more;

@@ -7,7 +7,7 @@ use Rattle.rg_code.specs.Code.{Code}
 use Rattle.rg_stack.specs.Dues.{due_at}
 use Rattle.rg_machine.specs.High.{NoneMade, OneMade}
 use Rattle.rg_machine.specs.Parts.{Parts, machine_in}
-use Rattle.rg_step.specs.Asking.{AsksOn, YesesTold}
+use Rattle.rg_step.specs.Asking.{AsksOn, SinceOn, YesesTold}
 use Rattle.rg_step.specs.Collections.{Asks, ReachesOn, ServesBy}
 use Rattle.rg_step.specs.Steps.{Counts, Stepping, StepsOn, is_made}
 use Rattle.rg_step.specs.Writes.{WritesOnly}
@@ -31,9 +31,10 @@ pub record OneStep (code : Code) (old new : Standing) (result : Outcome) (before
       × ServesBy (due_at code.ops old.stepper.parts.at) old.stepper mid new.stepper old.pacers new.pacers result
   -- what it keeps of a region of mark and sweep is what the roots of the window reach
   pub reaches : ReachesOn code (machine_in old.stepper.parts) old.stepper.events new.stepper.events before after
-  -- it asks a pacer exactly where the plain state says so, and each yes is a collection
+  -- it asks a pacer exactly where the plain state says so, and each yes is a collection, behind which the asks since the last yes begin anew
   pub asked : AsksOn code (machine_in old.stepper.parts) result old.pacers new.pacers
   pub yeses : (behind : List Event) × (new.stepper.events ≡ old.stepper.events ++ behind) × YesesTold behind old.pacers new.pacers
+      × SinceOn code (machine_in old.stepper.parts) result behind old.stepper.since new.stepper.since
   -- it writes into objects of the active region and temporaries of the topmost window alone
   pub writes : WritesOnly (machine_in old.stepper.parts) (machine_in new.stepper.parts)
   pub high : Raises result old.stepper.parts new.stepper.parts
