@@ -1,7 +1,9 @@
--- What callers cite: what an instruction needs, steps and runs, the opening, what is forgotten, and what frees nothing.
+-- What callers cite: what an instruction needs, steps and runs, the opening, what is forgotten, what frees nothing, and what a step
+-- frees.
 pub mod NeedLemmas
 pub mod ForgetLemmas
 pub mod PlainLemmas
 pub mod OpeningLemmas
 pub mod StepLemmas
 pub mod RunLemmas
+pub mod FreedLemmas

@@ -28,7 +28,7 @@ abbrev pub Less : Walked → Walked → Type 0
 Less x y = (x ≡ Stuck) ⊎ (x ≡ y)
 
 -- and so are walks from each stack and machine
-abbrev LessFrom : Go → Go → Type 0
+abbrev pub LessFrom : Go → Go → Type 0
 LessFrom go all = (skip : ℕ) (stack : List Val) (w : Work) → Less (go skip stack w) (all skip stack w)
 
 top-less : (stack : List Val) (go all : Val → List Val → Walked) → ((v : Val) (rest : List Val) → Less (go v rest) (all v rest))
@@ -71,7 +71,7 @@ abbrev pub LostOr : Stepped → Stepped → Type 0
 LostOr x y = (x ≡ Lost) ⊎ (x ≡ y)
 
 module _ (code : Code) where
-  act-less : (at : ℕ) (o : Op) (go all : Go) (stack : List Val) (w : Work) → LessFrom go all
+  pub act-less : (at : ℕ) (o : Op) (go all : Go) (stack : List Val) (w : Work) → LessFrom go all
       → Less (act code at o go stack w) (act code at o all stack w)
   act-less at (i.Mark line) go all stack w h = inr refl
   act-less at (i.Int z) go all stack w h = h 0 _ _
@@ -127,7 +127,7 @@ module _ (code : Code) where
   act-less at i.Drop go all stack w h = top-less stack _ _ (λ v rest. h 0 _ _)
   act-less at i.Halt go all stack w h = inr refl
 
-  behind-less : (o : Op) (go all : Go) → LessFrom go all → LessFrom (behind o go) (behind o all)
+  pub behind-less : (o : Op) (go all : Go) → LessFrom go all → LessFrom (behind o go) (behind o all)
   behind-less (i.Freeze s) go all h = λ skip stack w. h skip stack (forgotten w)
   behind-less (i.Merge s) go all h = λ skip stack w. h skip stack (forgotten w)
   behind-less o go all h = h

@@ -18,9 +18,11 @@ mod Consumes
 mod Enters
 pub mod Acts
 mod Less
+mod Tested
 pub mod Walking
 pub mod Gather
 mod Examples
 mod Stops
 mod Backs
+mod Freed
 pub mod Callers

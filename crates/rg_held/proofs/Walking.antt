@@ -21,6 +21,7 @@ use Rattle.rg_held.proofs.Easy.{stop-same}
 use Rattle.rg_held.proofs.Acts.{act-same}
 use Rattle.rg_held.proofs.Callers.NeedLemmas.{needs-same}
 use Rattle.rg_held.proofs.Less.{Less, walk-less}
+use Rattle.rg_held.proofs.Tested.{Test, tested_walk, tested-given}
 
 stuck-same : (x : Walked) → SameEnd x Stuck
 stuck-same (Stops at w) = tt
@@ -106,102 +107,109 @@ passed code at room Calls os c r e h = off e
 passed code at room (Chooses t) os c r e h = off e
 passed code at room (Passes t) os c r e h = and-right (all_compute (t - (at + 1)) os) r h
 
--- a walk to a mark
-mark-same : (code : Code) (line : ℕ) (os : List Op) (at skip : ℕ) (taken : Truth) (stack : List Val) (u w : Work)
-    → slice_get os skip ≡ Some (i.Mark line) → Match (owners_of taken stack) u w stack
-    → SameEnd (free_given_walk code os at skip stack u) (given_walk code os at skip stack w)
-mark-same code line [] at skip taken stack u w e m = none-some (i.Mark line) e
-mark-same code line (o ∷ os) at (suc k) taken stack u w e m = mark-same code line os (at + 1) k taken stack u w e m
-mark-same code line (o ∷ os) at zero taken stack u w e m =
-    subst (λ o. SameEnd (free_given_walk code (o ∷ os) at 0 stack u) (given_walk code (o ∷ os) at 0 stack w)) (sym (some-is o (i.Mark line) e))
-    (by (is_empty stack) refl)
-  where
-    by : (b : Truth) → is_empty stack ≡ b → SameEnd (if b then Stops at u else Stuck) (if b then Stops at w else Stuck)
-    by true h = (refl, stop-same at taken stack u w h m)
-    by false h = tt
+-- each instruction that is given what it needs over the growing store passes the test in the machine that frees
+abbrev pub PassesTest : Test → Code → Type 0
+PassesTest test code = (o : Op) (taken : Truth) (stack : List Val) (u w : Work) → needs code o stack w.machine ≡ true
+    → needs code o stack u.machine ≡ true → Match (owners_of taken stack) u w stack → test o stack u.machine ≡ true
 
 -- where a walk stands
 abbrev Ahead : (code : List Op) → (at : ℕ) → (room taken : Truth) → (skip : ℕ) → List Op → Type 0
 Ahead code at room taken skip os = ((skip ≡ 0) × InOrder code at room taken os)
     ⊎ ((taken ≡ false) × ((all_compute skip os ≡ true) × (orderly code at room os ≡ true)))
 
--- an instruction, from which the walk goes on as is known
-act-by : (code : Code) (o : Op) (os : List Op) (at : ℕ) (room taken : Truth) (stack : List Val) (u w : Work) → drop (at + 1) code.ops ≡ os
-    → InOrder code.ops at room taken (o ∷ os) → Match (owners_of taken stack) u w stack
-    → ((r t : Truth) (k : ℕ) (st : List Val) (x y : Work) → Ahead code.ops (at + 1) r t k os → Match (owners_of t st) x y st
-    → SameEnd (free_given_walk code os (at + 1) k st x) (given_walk code os (at + 1) k st y))
-    → SameEnd (free_given_walk code (o ∷ os) at 0 stack u) (given_walk code (o ∷ os) at 0 stack w)
-act-by code o os at room taken stack u w here h m rest = by (needs code o stack w.machine) refl
-  where
-    r : Truth
-    r = room_behind (manner o) room
+module _ (code : Code) (test : Test) (passes : PassesTest test code) where
+  -- a walk to a mark
+  mark-same : (line : ℕ) (os : List Op) (at skip : ℕ) (taken : Truth) (stack : List Val) (u w : Work)
+      → slice_get os skip ≡ Some (i.Mark line) → Match (owners_of taken stack) u w stack
+      → SameEnd (tested_walk test code os at skip stack u) (given_walk code os at skip stack w)
+  mark-same line [] at skip taken stack u w e m = none-some (i.Mark line) e
+  mark-same line (o ∷ os) at (suc k) taken stack u w e m = mark-same line os (at + 1) k taken stack u w e m
+  mark-same line (o ∷ os) at zero taken stack u w e m =
+      subst (λ o. SameEnd (tested_walk test code (o ∷ os) at 0 stack u) (given_walk code (o ∷ os) at 0 stack w)) (sym (some-is o (i.Mark line) e))
+      (by (is_empty stack) refl)
+    where
+      by : (b : Truth) → is_empty stack ≡ b
+          → SameEnd (if b then (if test (i.Mark line) stack u.machine then Stops at u else Stuck) else Stuck) (if b then Stops at w else Stuck)
+      by true h = subst (λ t. SameEnd (if t then Stops at u else Stuck) (Stops at w)) (sym (passes (i.Mark line) taken stack u w h h m))
+          (refl, stop-same at taken stack u w h m)
+      by false h = tt
 
-    behind : Truth
-    behind = taken_behind (manner o) taken
+  -- an instruction, from which the walk goes on as is known
+  act-by : (o : Op) (os : List Op) (at : ℕ) (room taken : Truth) (stack : List Val) (u w : Work) → drop (at + 1) code.ops ≡ os
+      → InOrder code.ops at room taken (o ∷ os) → Match (owners_of taken stack) u w stack
+      → ((r t : Truth) (k : ℕ) (st : List Val) (x y : Work) → Ahead code.ops (at + 1) r t k os → Match (owners_of t st) x y st
+      → SameEnd (tested_walk test code os (at + 1) k st x) (given_walk code os (at + 1) k st y))
+      → SameEnd (tested_walk test code (o ∷ os) at 0 stack u) (given_walk code (o ∷ os) at 0 stack w)
+  act-by o os at room taken stack u w here h m rest = by (needs code o stack w.machine) refl
+    where
+      r : Truth
+      r = room_behind (manner o) room
 
-    t : Turn code.ops at room taken (manner o) os
-    t = turn code.ops at room taken o os h
+      behind : Truth
+      behind = taken_behind (manner o) taken
 
-    on : goes_on (manner o) ≡ true → GoesTo 0 behind (free_given_walk code os (at + 1)) (given_walk code os (at + 1))
-    on e st x y = rest r behind 0 st x y (inl (refl, t.on e))
+      t : Turn code.ops at room taken (manner o) os
+      t = turn code.ops at room taken o os h
 
-    orderly-if : (b : Truth) → b ≡ false → InOrder code.ops (at + 1) r b os → orderly code.ops (at + 1) r os ≡ true
-    orderly-if false e i = i
-    orderly-if true e i = off (sym e)
+      on : goes_on (manner o) ≡ true → GoesTo 0 behind (tested_walk test code os (at + 1)) (given_walk code os (at + 1))
+      on e st x y = rest r behind 0 st x y (inl (refl, t.on e))
 
-    far : (k j : ℕ) → k ≡ j - (at + 1) → (line : ℕ) → slice_get code.ops j ≡ Some (i.Mark line) → (k ≡ 0) ⊎ (slice_get os k ≡ Some (i.Mark line))
-    far zero j e line is = inl refl
-    far (suc k) j e line is = inr (ap (λ l. slice_get l (suc k)) (sym here) ∙ drop-get code.ops (at + 1) (suc k)
-        ∙ ap (slice_get code.ops) (omega (arith, e)) ∙ is)
+      orderly-if : (b : Truth) → b ≡ false → InOrder code.ops (at + 1) r b os → orderly code.ops (at + 1) r os ≡ true
+      orderly-if false e i = i
+      orderly-if true e i = off (sym e)
 
-    to-by : goes_on (manner o) ≡ true → (k : ℕ) → (k ≡ 0) ⊎ (((behind ≡ false) × (all_compute k os ≡ true))
-        ⊎ ((j : ℕ) × (k ≡ j - (at + 1)) × (is_mark (slice_get code.ops j) ≡ true)))
-        → GoesTo k behind (free_given_walk code os (at + 1)) (given_walk code os (at + 1))
-    to-by e k (inl z) st x y n = rest r behind k st x y (inl (z, t.on e)) n
-    to-by e k (inr (inl q)) st x y n = rest r behind k st x y (inr (q.0, (q.1, orderly-if behind q.0 (t.on e)))) n
-    to-by e k (inr (inr q)) st x y n = elim (far k q.0 q.1 (mark-there (slice_get code.ops q.0) q.2).0 (mark-there (slice_get code.ops q.0) q.2).1) [
-      | inl z ↦ rest r behind k st x y (inl (z, t.on e)) n
-      | inr is ↦ mark-same code (mark-there (slice_get code.ops q.0) q.2).0 os (at + 1) k behind st x y is n
-    ]
+      far : (k j : ℕ) → k ≡ j - (at + 1) → (line : ℕ) → slice_get code.ops j ≡ Some (i.Mark line) → (k ≡ 0) ⊎ (slice_get os k ≡ Some (i.Mark line))
+      far zero j e line is = inl refl
+      far (suc k) j e line is = inr (ap (λ l. slice_get l (suc k)) (sym here) ∙ drop-get code.ops (at + 1) (suc k)
+          ∙ ap (slice_get code.ops) (omega (arith, e)) ∙ is)
 
-    by : (b : Truth) → needs code o stack w.machine ≡ b → SameEnd (free_given_walk code (o ∷ os) at 0 stack u)
-        (if b then act code at o (given_walk code os (at + 1)) stack w else Stuck)
-    by false n = stuck-same (free_given_walk code (o ∷ os) at 0 stack u)
-    by true n = subst (λ b. SameEnd (if b then free_act code at o (free_given_walk code os (at + 1)) stack u else Stuck)
-        (act code at o (given_walk code os (at + 1)) stack w)) (sym (needs-same code o (owners_of taken stack) stack u w m n))
-        (act-same o code at (free_given_walk code os (at + 1)) (given_walk code os (at + 1)) taken stack u w t.allowed n m on
-        (λ e. to-by e (skipped at (manner o)) (t.to e)))
+      to-by : goes_on (manner o) ≡ true → (k : ℕ) → (k ≡ 0) ⊎ (((behind ≡ false) × (all_compute k os ≡ true))
+          ⊎ ((j : ℕ) × (k ≡ j - (at + 1)) × (is_mark (slice_get code.ops j) ≡ true)))
+          → GoesTo k behind (tested_walk test code os (at + 1)) (given_walk code os (at + 1))
+      to-by e k (inl z) st x y n = rest r behind k st x y (inl (z, t.on e)) n
+      to-by e k (inr (inl q)) st x y n = rest r behind k st x y (inr (q.0, (q.1, orderly-if behind q.0 (t.on e)))) n
+      to-by e k (inr (inr q)) st x y n =
+          let mark = mark-there (slice_get code.ops q.0) q.2 in
+          elim (far k q.0 q.1 mark.0 mark.1) [
+            | inl z ↦ rest r behind k st x y (inl (z, t.on e)) n
+            | inr is ↦ mark-same mark.0 os (at + 1) k behind st x y is n
+          ]
 
-walk-same : (code : Code) (os : List Op) (at : ℕ) (room taken : Truth) (skip : ℕ) (stack : List Val) (u w : Work) → drop at code.ops ≡ os
-    → Ahead code.ops at room taken skip os → Match (owners_of taken stack) u w stack
-    → SameEnd (free_given_walk code os at skip stack u) (given_walk code os at skip stack w)
-walk-same code [] at room taken skip stack u w here ahead m = tt
-walk-same code (o ∷ os) at room taken (suc k) stack u w here (inl h) m = absurd (let e = h.0 in omega (arith, e))
-walk-same code (o ∷ os) at room taken (suc k) stack u w here (inr h) m =
-    let first = and-left (computes (manner o)) (all_compute k os) h.1.0 in
-    walk-same code os (at + 1) (room_behind (manner o) room) taken k stack u w (drop-next code.ops at o os here)
-    (inr (
-      h.0,
-      (
-        and-right (computes (manner o)) (all_compute k os) h.1.0,
-        passed code.ops at room (manner o) os
-            (calm code.ops (room_behind (manner o) room) os) (orderly code.ops (at + 1) (room_behind (manner o) room) os) first h.1.1,
-      ),
-    )) m
-walk-same code (o ∷ os) at room taken zero stack u w here ahead m =
-    act-by code o os at room taken stack u w (drop-next code.ops at o os here) (in-order ahead) m
-    (λ r t k st x y. walk-same code os (at + 1) r t k st x y (drop-next code.ops at o os here))
-  where
-    in-order : Ahead code.ops at room taken zero (o ∷ os) → InOrder code.ops at room taken (o ∷ os)
-    in-order (inl h) = h.1
-    in-order (inr h) = subst (λ t. InOrder code.ops at room t (o ∷ os)) (sym h.0) h.1.1
+      by : (b : Truth) → needs code o stack w.machine ≡ b → SameEnd (tested_walk test code (o ∷ os) at 0 stack u)
+          (if b then act code at o (given_walk code os (at + 1)) stack w else Stuck)
+      by false n = stuck-same (tested_walk test code (o ∷ os) at 0 stack u)
+      by true n =
+          let go = tested_walk test code os (at + 1) in
+          let given = needs-same code o (owners_of taken stack) stack u w m n in
+          let done = act code at o (given_walk code os (at + 1)) stack w in
+          subst (λ b. SameEnd (if b then (if test o stack u.machine then free_act code at o go stack u else Stuck) else Stuck) done) (sym given)
+          (subst (λ b. SameEnd (if b then free_act code at o go stack u else Stuck) done) (sym (passes o taken stack u w n given m))
+          (act-same o code at go (given_walk code os (at + 1)) taken stack u w t.allowed n m on
+          (λ e. to-by e (skipped at (manner o)) (t.to e))))
 
--- where each instruction over the growing store is given what it needs, it is so in the machine that frees
-pub given-walks-same : (code : Code) (at : ℕ) (room taken : Truth) (stack : List Val) (u w : Work) → InOrder code.ops at room taken (drop at code.ops)
-    → Match (owners_of taken stack) u w stack
-    → SameEnd (free_given_walk code (drop at code.ops) at 0 stack u) (given_walk code (drop at code.ops) at 0 stack w)
-given-walks-same code at room taken stack u w h m =
-    walk-same code (drop at code.ops) at room taken 0 stack u w refl (inl (refl, h)) m
+  walk-same : (os : List Op) (at : ℕ) (room taken : Truth) (skip : ℕ) (stack : List Val) (u w : Work) → drop at code.ops ≡ os
+      → Ahead code.ops at room taken skip os → Match (owners_of taken stack) u w stack
+      → SameEnd (tested_walk test code os at skip stack u) (given_walk code os at skip stack w)
+  walk-same [] at room taken skip stack u w here ahead m = tt
+  walk-same (o ∷ os) at room taken (suc k) stack u w here (inl h) m = absurd (let e = h.0 in omega (arith, e))
+  walk-same (o ∷ os) at room taken (suc k) stack u w here (inr h) m =
+      let first = and-left (computes (manner o)) (all_compute k os) h.1.0 in
+      walk-same os (at + 1) (room_behind (manner o) room) taken k stack u w (drop-next code.ops at o os here)
+      (inr (
+        h.0,
+        (
+          and-right (computes (manner o)) (all_compute k os) h.1.0,
+          passed code.ops at room (manner o) os
+              (calm code.ops (room_behind (manner o) room) os) (orderly code.ops (at + 1) (room_behind (manner o) room) os) first h.1.1,
+        ),
+      )) m
+  walk-same (o ∷ os) at room taken zero stack u w here ahead m =
+      act-by o os at room taken stack u w (drop-next code.ops at o os here) (in-order ahead) m
+      (λ r t k st x y. walk-same os (at + 1) r t k st x y (drop-next code.ops at o os here))
+    where
+      in-order : Ahead code.ops at room taken zero (o ∷ os) → InOrder code.ops at room taken (o ∷ os)
+      in-order (inl h) = h.1
+      in-order (inr h) = subst (λ t. InOrder code.ops at room t (o ∷ os)) (sym h.0) h.1.1
 
 less-end : (x y z : Walked) → Less x y → SameEnd x z → SameEnd y z
 less-end x y z (inr same) h = subst (λ q. SameEnd q z) same h
@@ -212,6 +220,23 @@ less-end x y z (inl stuck) h = by z (subst (λ q. SameEnd q z) stuck h)
     by (Returns back stack w) h = absurd h
     by (Traps t) h = absurd h
     by Stuck h = stuck-same y
+
+-- a walk in which each instruction is given what it needs, over the growing store, and passes a test in the machine that frees
+pub tested-walks-same : (code : Code) (test : Test) → PassesTest test code → (at : ℕ) (room taken : Truth) (stack : List Val) (u w : Work)
+    → InOrder code.ops at room taken (drop at code.ops) → Match (owners_of taken stack) u w stack
+    → SameEnd (tested_walk test code (drop at code.ops) at 0 stack u) (given_walk code (drop at code.ops) at 0 stack w)
+tested-walks-same code test passes at room taken stack u w h m =
+    walk-same code test passes (drop at code.ops) at room taken 0 stack u w refl (inl (refl, h)) m
+
+-- where each instruction over the growing store is given what it needs, it is so in the machine that frees
+pub given-walks-same : (code : Code) (at : ℕ) (room taken : Truth) (stack : List Val) (u w : Work) → InOrder code.ops at room taken (drop at code.ops)
+    → Match (owners_of taken stack) u w stack
+    → SameEnd (free_given_walk code (drop at code.ops) at 0 stack u) (given_walk code (drop at code.ops) at 0 stack w)
+given-walks-same code at room taken stack u w h m =
+    let always : Test = λ o st n. true in
+    less-end (tested_walk always code (drop at code.ops) at 0 stack u) (free_given_walk code (drop at code.ops) at 0 stack u)
+    (given_walk code (drop at code.ops) at 0 stack w) (tested-given always code (drop at code.ops) at 0 stack u)
+    (tested-walks-same code always (λ o taken st x y n given m. refl) at room taken stack u w h m)
 
 pub walks-same : WalksSame
 walks-same code at room taken stack u w h m =

@@ -17,6 +17,8 @@ use Rattle.rg_stack.specs.Refusals.{Manner, Ends, Clears, Settles, Takes, Comput
 use Rattle.rg_stack.specs.Given.{given_walk}
 use Rattle.rg_held.specs.Frees.{free_act, free_walk, free_step, free_given_step, free_coded}
 use Rattle.rg_held.specs.Ends.{Match, SameEnd, SameStep, SameRun}
+use Rattle.rg_held.specs.Freed.{StepFrees}
+use Rattle.rg_held.specs.Shown.{ShowsHeld}
 
 -- the values that count as owners: all on the stack, behind what takes an owner reference from its place, and else none
 abbrev pub owners_of : (taken : Truth) → List Val → List Val
@@ -124,3 +126,9 @@ FreeGivenSame = (t : Tree) (code : Code) (u w : Work) (p : State) → Accepted t
 abbrev pub RunsSame : Type 0
 RunsSame = (t : Tree) (code : Code) (input : List ℕ) (n : ℕ) → Accepted t → Lowers t code
     → SameRun (free_coded t code input n) (coded t code input n)
+
+-- what a step frees, where the machine shows what is held of a state that fits, are temporaries of windows that end in it, and regions that
+-- go in it, whatever it reads
+abbrev pub StepsFree : Type 0
+StepsFree = (t : Tree) (code : Code) (w : Work) (p : State) → Accepted t → Lowers t code → Fit t p → ShowsHeld t.classes code w.machine p
+    → w.printed ≡ None → SomeLeft p.items → StepFrees w.machine (free_step code w)

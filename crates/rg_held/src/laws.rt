@@ -2,7 +2,7 @@
 //! (docs/architecture.md, "The machine that frees").
 
 ghost use Rattle.rg_held.specs.Laws.{FreeGivenSame, InstructionsSame, NeedsSame, RunsSame};
-ghost use Rattle.rg_held.specs.Laws.{StepsSame, WalksSame};
+ghost use Rattle.rg_held.specs.Laws.{StepsFree, StepsSame, WalksSame};
 ghost use Rattle.rg_held.specs.Gather.{GathersFit};
 
 /// What an instruction needs over the growing store, it has in the machine that frees too: what
@@ -37,6 +37,12 @@ pub fn free_given_same()
 /// And so does each run of an accepted program: as many steps, the same output and the same ending.
 pub fn runs_same()
     ensures { RunsSame }
+{}
+
+/// No step frees by a manager's rule: what was held in front of it and isn't held behind it was a
+/// temporary of a window that it ended, or lay in a region of which it left nothing.
+pub fn steps_free()
+    ensures { StepsFree }
 {}
 
 /// Where a step begins or has ended, a collection of the active region leaves the machine beside

@@ -24,6 +24,7 @@ use Rattle.rg_view.proofs.Callers.HeldLemmas.{labelled-held}
 use Rattle.rg_view.proofs.Callers.LeaveLemmas.{top-temp}
 use Rattle.rg_view.proofs.Callers.ShownLemmas.{get-drop}
 use Rattle.rg_machine.specs.Collects.{Gathers}
+use Rattle.rg_machine.specs.High.{NoneMade}
 use Rattle.rg_machine.specs.Stands.{AllLead, Stands}
 use Rattle.rg_machine.proofs.CollectLemmas.{active, roots_in, stands-behind}
 use Rattle.rg_machine.proofs.GatherLemmas.{collection-gathered, collection-keeps}
@@ -78,6 +79,12 @@ module _ (old new : Parts) (v : Stack) (at : ℕ) (q : Serials old.cells.heap) (
       by-manager (Stands new v) old new a.window.region a.rec (roots_in old v a) told a.rec.manager a.known
       (by a.window a.is a.rec a.known)
       (λ Cell c root. stands-behind old new v at q g st once a Cell c root)
+
+  pub collected-high : NoneMade old new
+  collected-high =
+      let a = active old v st.opened in
+      by-manager (NoneMade old new) old new a.window.region a.rec (roots_in old v a) told a.rec.manager a.known (by a.window a.is a.rec a.known)
+      (λ Cell c root. record { made = c.serials; high = c.high })
 
   pub collected-gathers : Grove new.cells new.regions → (words : List Word) (printed : Option Val) → Gathers
       (record { heap = old; frames = v; words = words; at = at; printed = printed })

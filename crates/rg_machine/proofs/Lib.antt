@@ -12,6 +12,7 @@ mod TempLemmas
 mod MadeLemmas
 mod KeptLemmas
 mod KnownLemmas
+mod HighLemmas
 mod RefuseLemmas
 mod BeginLemmas
 mod SoleLemmas

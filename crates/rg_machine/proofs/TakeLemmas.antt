@@ -27,10 +27,12 @@ use Rattle.rg_machine.specs.Core.{ActIs, Core, with_machine}
 use Rattle.rg_machine.specs.Effects.{AllLoose, ending, without}
 use Rattle.rg_machine.specs.Keeps.{backs}
 use Rattle.rg_machine.specs.Parts.{Parts, core_of, machine_in, val_in}
+use Rattle.rg_machine.specs.High.{NoneMade}
 use Rattle.rg_machine.specs.Stands.{AllLead, Leads, Stands}
 use Rattle.rg_machine.proofs.DropLemmas.{Asked, core-same}
 use Rattle.rg_machine.proofs.EndingLemmas.{ended-more, ended-none, ending-none, ending-step, nil-again}
 use Rattle.rg_machine.proofs.FewerLemmas.{backs-slots, fewer-all, fewer-nil, fewer-once, fewer-without, once-nil}
+use Rattle.rg_machine.proofs.HighLemmas.{none-same, none-then}
 use Rattle.rg_machine.proofs.ReleaseLemmas.{order}
 use Rattle.rg_machine.proofs.SlotEndLemmas.{Bounded, asked-slot, backs-slot, behind-slot, bounded, slot-nil}
 
@@ -244,6 +246,7 @@ pub record Ending (old now : Parts) (s left : ℕ) : Type 0 where
   pub once : owned_once (machine_in now) ≡ true
   pub stack : AllLoose (core_of now)
   pub words : now.words ≡ old.words
+  pub made : NoneMade old.heap now.heap
   pub bound : Bounded (machine_in old)
 
 pub ending-init : (p : Parts) → Serials p.heap.cells.heap → Grove p.heap.cells p.heap.regions → Stands p.heap p.frames → (s live : ℕ)
@@ -256,6 +259,7 @@ ending-init p q g st s live e le up once all = record {
   once = once;
   stack = all;
   words = refl;
+  made = none-same p.heap p.heap refl;
   bound = bounded p q g st;
 }
 
@@ -267,8 +271,8 @@ ending-there old now s left k e lt =
     omega (arith, lt, size, within)
 
 pub ending-on : (old now new : Parts) (s left k : ℕ) → Ending old now s left → s ≤ k → left ≡ suc k → core_of new ≡ next-core (core_of now) k
-    → new.words ≡ now.words → Ending old new s k
-ending-on old now new s left k e up is f words =
+    → new.words ≡ now.words → NoneMade now.heap new.heap → Ending old new s k
+ending-on old now new s left k e up is f words made =
     let within = e.within in
     record {
       above = up;
@@ -277,6 +281,7 @@ ending-on old now new s left k e up is f words =
       once = once-next (core_of now) (core_of new) k f e.once;
       stack = loose-next (core_of now) (core_of new) k f e.stack;
       words = words ∙ e.words;
+      made = none-then old.heap now.heap new.heap e.made made;
       bound = e.bound;
     }
 

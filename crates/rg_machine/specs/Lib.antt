@@ -7,3 +7,4 @@ pub mod Frames
 pub mod Effects
 pub mod Collects
 pub mod Owned
+pub mod High

@@ -1,6 +1,6 @@
 //! One instruction (docs/architecture.md, "The machine").
 
-ghost use Rattle.std.specs.Prelude.{true, ◌<◌, ◌-◌, ◌^◌, ◌∷◌, ℕ};
+ghost use Rattle.std.specs.Prelude.{false, true, ◌<◌, ◌-◌, ◌^◌, ◌∷◌, ℕ};
 ghost use Rattle.rg_base.specs.Input.{next_number};
 ghost use Rattle.rg_base.specs.declared.value.Val.TheVariants.{Bool};
 ghost use Rattle.rg_rules.specs.RightSides.{is_left};
@@ -8,6 +8,7 @@ ghost use Rattle.rg_held.specs.Frees.{free_act};
 ghost use Rattle.rg_stack.specs.Effects.{next_taken};
 ghost use Rattle.rg_stack.specs.Refusals.{Computes, Takes, manner};
 ghost use Rattle.rg_machine.specs.Keeps.{Keeping, asking};
+ghost use Rattle.rg_machine.specs.High.{Making, making};
 ghost use Rattle.rg_machine.specs.Core.{ActIs, Given};
 ghost use Rattle.rg_machine.specs.Parts.{core_of, machine_in};
 
@@ -26,6 +27,7 @@ fn ask_number(p: &mut Machine) -> Next
     ensures effect { (at : ℕ) → ActIs (λ go stack x. next_taken (next_number x.input) go stack x)
         at (core_of p.old) (core_of p.new) result }
     ensures keeps { Keeping Takes true (machine_in p.old) (machine_in p.new) result }
+    ensures high { Making Takes false p.old.heap p.new.heap result }
 {
     match p.push(Word::Nil) {
         Ok(()) => Next::Read,
@@ -39,6 +41,7 @@ fn ask_more(p: &mut Machine) -> Next
         go 0 (Bool (is_left (next_number x.input)) ∷ stack) x)
         at (core_of p.old) (core_of p.new) result }
     ensures keeps { Keeping Computes true (machine_in p.old) (machine_in p.new) result }
+    ensures high { Making Computes false p.old.heap p.new.heap result }
 {
     match p.push(Word::Nil) {
         Ok(()) => Next::More,
@@ -53,6 +56,7 @@ pub fn act(p: &mut Machine, code: &CodeList, at: usize, op: Op) -> Next
     requires given { Given code.now op (core_of p.old) }
     ensures effect { ActIs (free_act code.now at op) at (core_of p.old) (core_of p.new) result }
     ensures keeps { Keeping (manner op) (asking op) (machine_in p.old) (machine_in p.new) result }
+    ensures high { Making (manner op) (making op) p.old.heap p.new.heap result }
 {
     match op {
         Op::Mark { line: _ } => Next::Stop(at),

@@ -6,6 +6,7 @@ ghost use Rattle.rg_code.specs.declared.op.Op.TheVariants as i;
 ghost use Rattle.rg_stack.specs.Effects.{on_top};
 ghost use Rattle.rg_stack.specs.Refusals.{Chooses, Passes};
 ghost use Rattle.rg_machine.specs.Keeps.{Keeping};
+ghost use Rattle.rg_machine.specs.High.{Making};
 ghost use Rattle.rg_machine.specs.Parts.{core_of, machine_in};
 ghost use Rattle.rg_machine.specs.Core.{ActIs, Has};
 
@@ -21,6 +22,7 @@ pub(crate) fn jump_false(p: &mut Machine, to: usize) -> Next
         if as_bool v then go 0 rest x else go (to - (at + 1)) rest x))
         at (core_of p.old) (core_of p.new) result }
     ensures keeps { Keeping (Chooses to) false (machine_in p.old) (machine_in p.new) result }
+    ensures high { Making (Chooses to) false p.old.heap p.new.heap result }
 {
     let Some(v) = p.pop() else {
         return Next::Lost;
@@ -38,6 +40,7 @@ pub(crate) fn and(p: &mut Machine, to: usize) -> Next
         if as_bool v then go 0 rest x else go (to - (at + 1)) (v ∷ rest) x))
         at (core_of p.old) (core_of p.new) result }
     ensures keeps { Keeping (Passes to) false (machine_in p.old) (machine_in p.new) result }
+    ensures high { Making (Passes to) false p.old.heap p.new.heap result }
 {
     let Some(v) = p.top() else {
         return Next::Lost;
@@ -56,6 +59,7 @@ pub(crate) fn or(p: &mut Machine, to: usize) -> Next
         if as_bool v then go (to - (at + 1)) (v ∷ rest) x else go 0 rest x))
         at (core_of p.old) (core_of p.new) result }
     ensures keeps { Keeping (Passes to) false (machine_in p.old) (machine_in p.new) result }
+    ensures high { Making (Passes to) false p.old.heap p.new.heap result }
 {
     let Some(w) = p.top() else {
         return Next::Lost;

@@ -7,6 +7,7 @@ ghost use Rattle.rg_stack.specs.Machine.{value_of_word};
 ghost use Rattle.rg_stack.specs.Effects.{on_two, on_top, pushed};
 ghost use Rattle.rg_stack.specs.Refusals.{Computes};
 ghost use Rattle.rg_machine.specs.Keeps.{Keeping};
+ghost use Rattle.rg_machine.specs.High.{Making};
 ghost use Rattle.rg_machine.specs.Core.{ActIs};
 ghost use Rattle.rg_machine.specs.Parts.{core_of, machine_in};
 
@@ -25,6 +26,7 @@ pub(crate) fn constant(p: &mut Machine, w: Word) -> Next
         ActIs (λ go stack x. go 0 (value_of_word w ∷ stack) x)
         at (core_of p.old) (core_of p.new) result }
     ensures keeps { Keeping Computes false (machine_in p.old) (machine_in p.new) result }
+    ensures high { Making Computes false p.old.heap p.new.heap result }
 {
     match p.push(w) {
         Ok(()) => Next::On,
@@ -37,6 +39,7 @@ pub(crate) fn constant(p: &mut Machine, w: Word) -> Next
 pub(crate) fn binary(p: &mut Machine, op: BinOp) -> Next
     ensures effect { (at : ℕ) → ActIs (on_two op) at (core_of p.old) (core_of p.new) result }
     ensures keeps { Keeping Computes false (machine_in p.old) (machine_in p.new) result }
+    ensures high { Making Computes false p.old.heap p.new.heap result }
 {
     let Some(y) = p.pop() else {
         return Next::Lost;
@@ -59,6 +62,7 @@ pub(crate) fn negate(p: &mut Machine) -> Next
         pushed (number_value (neg_ℤ (as_int v))) go rest x))
         at (core_of p.old) (core_of p.new) result }
     ensures keeps { Keeping Computes false (machine_in p.old) (machine_in p.new) result }
+    ensures high { Making Computes false p.old.heap p.new.heap result }
 {
     let Some(v) = p.pop() else {
         return Next::Lost;
@@ -77,6 +81,7 @@ pub(crate) fn invert(p: &mut Machine) -> Next
     ensures effect { (at : ℕ) → ActIs (λ go stack x. on_top stack (λ v rest.
         go 0 (Bool (not (as_bool v)) ∷ rest) x)) at (core_of p.old) (core_of p.new) result }
     ensures keeps { Keeping Computes false (machine_in p.old) (machine_in p.new) result }
+    ensures high { Making Computes false p.old.heap p.new.heap result }
 {
     let Some(v) = p.pop() else {
         return Next::Lost;
@@ -92,6 +97,7 @@ pub(crate) fn test_nil(p: &mut Machine) -> Next
     ensures effect { (at : ℕ) → ActIs (λ go stack x. on_top stack (λ v rest.
         go 0 (Bool (is_nil_value v) ∷ rest) x)) at (core_of p.old) (core_of p.new) result }
     ensures keeps { Keeping Computes false (machine_in p.old) (machine_in p.new) result }
+    ensures high { Making Computes false p.old.heap p.new.heap result }
 {
     let Some(v) = p.pop() else {
         return Next::Lost;

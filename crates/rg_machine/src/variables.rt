@@ -7,6 +7,7 @@ ghost use Rattle.rg_stack.specs.Machine.{put_slot, slot_at};
 ghost use Rattle.rg_stack.specs.Effects.{called, on_object, on_top, put_in, with_store};
 ghost use Rattle.rg_stack.specs.Refusals.{Calls, Clears, Computes, Settles};
 ghost use Rattle.rg_machine.specs.Keeps.{Keeping};
+ghost use Rattle.rg_machine.specs.High.{Making};
 ghost use Rattle.rg_machine.specs.Core.{ActIs, Given, Has};
 ghost use Rattle.rg_machine.specs.Parts.{core_of, machine_in};
 ghost use Rattle.rg_code.specs.declared.op.Op.TheVariants as i;
@@ -22,6 +23,7 @@ pub(crate) fn load(p: &mut Machine, s: u32) -> Next
     ensures effect { (at : ℕ) → ActIs (λ go stack x. go 0 (slot_at x.machine s ∷ stack) x)
         at (core_of p.old) (core_of p.new) result }
     ensures keeps { Keeping Computes false (machine_in p.old) (machine_in p.new) result }
+    ensures high { Making Computes false p.old.heap p.new.heap result }
 {
     let w = p.slot(s);
     match p.push(w) {
@@ -37,6 +39,7 @@ pub(crate) fn clear(p: &mut Machine, s: u32) -> Next
         go 0 stack (record x { machine = put_slot x.machine s Nil }))
         at (core_of p.old) (core_of p.new) result }
     ensures keeps { Keeping Clears false (machine_in p.old) (machine_in p.new) result }
+    ensures high { Making Clears false p.old.heap p.new.heap result }
 {
     p.set_slot(s, Word::Nil);
     Next::On
@@ -50,6 +53,7 @@ pub(crate) fn store(p: &mut Machine, s: u32) -> Next
         go 0 rest (record x { machine = put_slot x.machine s v })))
         at (core_of p.old) (core_of p.new) result }
     ensures keeps { Keeping Settles false (machine_in p.old) (machine_in p.new) result }
+    ensures high { Making Settles false p.old.heap p.new.heap result }
 {
     let Some(w) = p.pop() else {
         return Next::Lost;
@@ -67,6 +71,7 @@ pub(crate) fn field(p: &mut Machine, index: u32) -> Next
         go 0 (unwrap_or (slice_get o.fields index) Nil ∷ rest) x)))
         at (core_of p.old) (core_of p.new) result }
     ensures keeps { Keeping Computes false (machine_in p.old) (machine_in p.new) result }
+    ensures high { Making Computes false p.old.heap p.new.heap result }
 {
     let Some(r) = p.pop() else {
         return Next::Lost;
@@ -86,6 +91,7 @@ pub(crate) fn check(p: &mut Machine) -> Next
         on_object x.machine.store v (λ o. go 0 stack x)))
         at (core_of p.old) (core_of p.new) result }
     ensures keeps { Keeping Computes false (machine_in p.old) (machine_in p.new) result }
+    ensures high { Making Computes false p.old.heap p.new.heap result }
 {
     let Some(r) = p.top() else {
         return Next::Lost;
@@ -104,6 +110,7 @@ pub(crate) fn put(p: &mut Machine, index: u32) -> Next
         go 0 under (with_store x (put_in x.machine.store r index v)))))
         at (core_of p.old) (core_of p.new) result }
     ensures keeps { Keeping Settles false (machine_in p.old) (machine_in p.new) result }
+    ensures high { Making Settles false p.old.heap p.new.heap result }
 {
     let Some(w) = p.pop() else {
         return Next::Lost;
@@ -121,6 +128,7 @@ pub(crate) fn print(p: &mut Machine) -> Next
     ensures effect { (at : ℕ) → ActIs (λ go stack x. on_top stack (λ v rest.
         go 0 rest (record x { printed = Some v }))) at (core_of p.old) (core_of p.new) result }
     ensures keeps { Keeping Settles false (machine_in p.old) (machine_in p.new) result }
+    ensures high { Making Settles false p.old.heap p.new.heap result }
 {
     let Some(w) = p.pop() else {
         return Next::Lost;
@@ -136,6 +144,7 @@ pub(crate) fn call(p: &mut Machine, code: &CodeList, at: usize, method: u32) -> 
     ensures effect { ActIs (λ go stack x. called at (slice_get code.now.entries method) stack x)
         at (core_of p.old) (core_of p.new) result }
     ensures keeps { Keeping Calls false (machine_in p.old) (machine_in p.new) result }
+    ensures high { Making Calls false p.old.heap p.new.heap result }
 {
     if (method as usize) >= code.method_count() {
         return Next::Lost;

@@ -11,7 +11,9 @@ use Rattle.rg_rules.specs.Asks.{is_managed, managed_by, paced_as}
 use Rattle.rg_rules.specs.State.{State, active}
 use Rattle.rg_rules.specs.Steps.{next}
 use Rattle.rg_code.specs.Code.{Code}
-use Rattle.rg_input.specs.Numbers.{Follows, OnInput, Pending}
+use Rattle.rg_heap.specs.declared.answers.Active.{Active}
+use Rattle.rg_heap.specs.Answers.{Tells}
+use Rattle.rg_heap.specs.Parts.{OnTop}
 use Rattle.rg_stack.specs.Dues.{due_at}
 use Rattle.rg_stack.specs.Machine.{Machine}
 use Rattle.rg_stack.proofs.Callers.DueLemmas.{steps-due}
@@ -19,10 +21,8 @@ use Rattle.rg_machine.specs.Parts.{Parts, machine_in}
 use Rattle.rg_machine.specs.Stands.{Stands}
 use Rattle.rg_step.specs.Asking.{AsksFrom, AsksOn, first_makes, raised_if}
 use Rattle.rg_step.specs.Collections.{Asks, Paces, Serves}
-use Rattle.rg_step.specs.Inner.Serving.{is_made}
-use Rattle.rg_step.specs.Steps.{Runs, Stepping, StepsOn}
+use Rattle.rg_step.specs.Steps.{Runs, Stepping, StepsOn, is_made}
 use Rattle.rg_step.proofs.ActiveLemmas.{shown-manager}
-use Rattle.rg_step.proofs.AskLemmas.{OnInput-some}
 use Rattle.rg_step.proofs.PacedLemmas.{first-paced, is_pace, next-stays}
 use Rattle.rg_step.proofs.RunLemmas.{with-input}
 use Rattle.rg_step.proofs.ServeLemmas.{made-went}
@@ -57,7 +57,7 @@ makes-is t code was s r =
     ∙ ap is_pace (sym (steps-due t code r.shows.grown s r.accepted r.fits r.shows.shows r.left))
     ∙ ap (λ n. is_pace (due_at code.ops n)) (sym r.shows.beside.at)
 
-makes-due : (t : Tree) (code : Code) (was : Machine) (s : State) (due : Option Cause) → Runs t code was s → due_at code.ops was.at ≡ due
+pub makes-due : (t : Tree) (code : Code) (was : Machine) (s : State) (due : Option Cause) → Runs t code was s → due_at code.ops was.at ≡ due
     → first_makes t.classes s.items ≡ is_pace due
 makes-due t code was s due r is = makes-is t code was s r ∙ ap is_pace is
 
@@ -92,21 +92,28 @@ asks-is t s m k old new makes manager is =
 module _ (t : Tree) (code : Code) (was : Machine) (old : Stepping) (mid : Parts) (new : Stepping) (before after : Asks) (result : Outcome)
     (made : is_made result ≡ true) (stands : Stands mid.heap mid.frames) (bytes left : List ℕ)
     (steps : StepsOn code was (machine_in mid) result bytes left) (s : State) (r : Runs t code was s) where
+  -- an object is made in a region whose manager is told
+  pub paced-in : due_at code.ops was.at ≡ Some Paced → (a : Active) → OnTop mid.frames (λ top. Tells mid.heap.regions top.region a)
+      → (first_makes t.classes s.items ≡ true) × (slice_get s.managers (active s.windows) ≡ Some a.manager)
+  paced-in is a tells =
+      let makes : first_makes t.classes s.items ≡ true = makes-due t code was s (Some Paced) r is in
+      let p : State = record s { input = bytes } in
+      let step = steps t p (with-input t code was s bytes r) refl in
+      let stays = next-stays t.classes p step.0 makes (made-went (next t.classes p) p step.0 result made step.1) in (
+        makes,
+        ap (λ ms. slice_get ms (active s.windows)) (sym stays.managers) ∙ ap (λ ws. slice_get step.0.managers (active ws)) (sym stays.windows)
+            ∙ shown-manager t code mid step.0 a stands step.2 tells,
+      )
+
   serves-ask : (due : Option Cause) → due_at code.ops was.at ≡ due → Serves due old mid new before after → AsksFrom t.classes s before after
   serves-ask None is serves = unasked-from t s before after (makes-due t code was s None r is) serves.1.pacers
   serves-ask (Some Asked) is serves = unasked-from t s before after (makes-due t code was s (Some Asked) r is) serves.1.pacers
   serves-ask (Some Paced) is serves =
-      let makes : first_makes t.classes s.items ≡ true = makes-due t code was s (Some Paced) r is in
-      let p : State = record s { input = bytes } in
-      let step = steps t p (with-input t code was s bytes r) refl in
-      let stays = next-stays t.classes p step.0 makes (made-went (next t.classes p) p step.0 result made step.1) in
-      let manager : slice_get s.managers (active s.windows) ≡ Some serves.0.manager =
-      ap (λ ms. slice_get ms (active s.windows)) (sym stays.managers) ∙ ap (λ ws. slice_get step.0.managers (active ws)) (sym stays.windows)
-      ∙ shown-manager t code mid step.0 serves.0 stands step.2 serves.1 in
+      let here = paced-in is serves.0 serves.1 in
       record {
-        count = asks-is t s Count serves.0.manager _ _ makes manager
+        count = asks-is t s Count serves.0.manager _ _ here.0 here.1
             (paces-count serves.0.manager serves.0.held old mid new before after serves.2);
-        trace = asks-is t s Trace serves.0.manager _ _ makes manager
+        trace = asks-is t s Trace serves.0.manager _ _ here.0 here.1
             (paces-trace serves.0.manager serves.0.held old mid new before after serves.2);
       }
 
@@ -120,10 +127,8 @@ asks-undue code was result before after made none same =
 
 -- what was due was done
 pub asks-served : (code : Code) (was : Machine) (due : Option Cause) (old : Stepping) (mid : Parts) (new : Stepping) (before after : Asks)
-    (result : Outcome) (first last : Pending) (left still : Option (List ℕ)) → is_made result ≡ true → due_at code.ops was.at ≡ due
-    → Serves due old mid new before after → Stands mid.heap mid.frames → Follows last still
-    → OnInput first last left still (StepsOn code was (machine_in mid) result) → AsksOn code was result before after
-asks-served code was due old mid new before after result first last left still made is serves stands follows on =
-    let some = OnInput-some first last left still (StepsOn code was (machine_in mid) result) follows on in
+    (result : Outcome) (bytes left : List ℕ) → is_made result ≡ true → due_at code.ops was.at ≡ due → Serves due old mid new before after
+    → Stands mid.heap mid.frames → StepsOn code was (machine_in mid) result bytes left → AsksOn code was result before after
+asks-served code was due old mid new before after result bytes left made is serves stands steps =
     asks-made code was result before after made
-    (λ t s r. serves-ask t code was old mid new before after result made stands some.0 some.1 some.2 s r due is serves)
+    (λ t s r. serves-ask t code was old mid new before after result made stands bytes left steps s r due is serves)

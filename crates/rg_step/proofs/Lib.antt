@@ -1,6 +1,7 @@
 mod TurnLemmas
 mod ClearLemmas
 mod StandsLemmas
+mod HighLemmas
 mod LeavesLemmas
 mod RunLemmas
 mod AskLemmas
@@ -21,3 +22,6 @@ mod ActiveLemmas
 mod YesLemmas
 mod PacedLemmas
 mod AskedLemmas
+mod SinceLemmas
+mod OneLemmas
+pub mod ChainLemmas

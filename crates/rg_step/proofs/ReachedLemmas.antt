@@ -20,8 +20,7 @@ use Rattle.rg_machine.specs.Stands.{Stands}
 use Rattle.rg_machine.proofs.PartLemmas.{shown-part}
 use Rattle.rg_machine.proofs.ReachLemmas.{kept-traced}
 use Rattle.rg_step.specs.Collections.{Asks, CollectsAsked, CollectsOn, IsCollected, IsLeft, KeepsReached, Paces, ReachesOn, Serves, event_of}
-use Rattle.rg_step.specs.Inner.Serving.{is_made}
-use Rattle.rg_step.specs.Steps.{Stepping, StepsOn}
+use Rattle.rg_step.specs.Steps.{Stepping, StepsOn, is_made}
 use Rattle.rg_step.proofs.ServeLemmas.{fits-behind, made-went}
 
 -- Events

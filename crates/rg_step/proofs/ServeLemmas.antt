@@ -34,8 +34,7 @@ use Rattle.rg_machine.specs.Parts.{Parts, machine_in}
 use Rattle.rg_machine.specs.Stands.{Stands}
 use Rattle.rg_machine.proofs.PartLemmas.{gathers-part, gone-shown, held-shown, once-held}
 use Rattle.rg_step.specs.Collections.{Asks, CollectsAsked, CollectsOn, IsLeft, IsRefused, OnActive, Paces, Serves, ServesBy, Unasked}
-use Rattle.rg_step.specs.Inner.Serving.{is_made}
-use Rattle.rg_step.specs.Steps.{IsRunning, Runs, Settles, Stepping, StepsOn}
+use Rattle.rg_step.specs.Steps.{IsRunning, Runs, Settles, Stepping, StepsOn, is_made}
 use Rattle.rg_step.proofs.AskLemmas.{OnInput-some}
 use Rattle.rg_step.proofs.RunLemmas.{with-input}
 

@@ -10,7 +10,6 @@ use Rattle.rg_rules.specs.State.{State, Window as Opened, active, top_number}
 use Rattle.rg_rules.specs.Steps.{Went, next}
 use Rattle.rg_sound.specs.Writes.{Allowed, fields_at}
 use Rattle.rg_sound.proofs.LawLemmas.{step-keeps}
-use Rattle.rg_input.specs.Numbers.{Follows, OnInput, Pending}
 use Rattle.rg_code.specs.Code.{Code}
 use Rattle.rg_stack.specs.Machine.{Machine, Window}
 use Rattle.rg_stack.specs.Effects.{top_region, top_window}
@@ -19,7 +18,6 @@ use Rattle.rg_held.specs.Frees.{gone}
 use Rattle.rg_held.specs.Shown.{ShowsHeld}
 use Rattle.rg_step.specs.Steps.{IsRunning, Settles, StepsOn}
 use Rattle.rg_step.specs.Writes.{WritesOnly}
-use Rattle.rg_step.proofs.AskLemmas.{OnInput-some}
 use Rattle.rg_step.proofs.RunLemmas.{with-input}
 
 -- an object that a machine shows, and that isn't gone, is the state's
@@ -69,7 +67,7 @@ allowed-only t code old new p q h k allowed a o n there here was is differ =
 still-allowed : (p q : State) → q ≡ p → Allowed p q
 still-allowed p q e a w = absurd (w.differ (ap (λ (s : State). fields_at s.store a) e ∙ ap (option_map (λ (x : Seen). x.fields)) w.there))
 
-steps-write : (code : Code) (old new : Machine) (result : Outcome) (before after : List ℕ) → IsRunning code old
+pub steps-write : (code : Code) (old new : Machine) (result : Outcome) (before after : List ℕ) → IsRunning code old
     → StepsOn code old new result before after → WritesOnly old new
 steps-write code old new result before after (t, p, r) steps =
     let here = with-input t code old p before r in
@@ -87,9 +85,3 @@ steps-write code old new result before after (t, p, r) steps =
     by (outcome.Trap kind line) q s = still-allowed (record p { input = before }) q s.1
     by outcome.InputFault q s = still-allowed (record p { input = before }) q s
     by outcome.Memory q s = still-allowed (record p { input = before }) q s
-
-pub step-writes : (code : Code) (old new : Machine) (result : Outcome) (before after : Pending) (left still : Option (List ℕ))
-    → IsRunning code old → Follows after still → OnInput before after left still (StepsOn code old new result) → WritesOnly old new
-step-writes code old new result before after left still runs follows on =
-    let s = OnInput-some before after left still (StepsOn code old new result) follows on in
-    steps-write code old new result s.0 s.1 runs s.2

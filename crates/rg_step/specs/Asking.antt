@@ -1,5 +1,6 @@
 -- How often steps ask the pacers, and how often these say yes (docs/architecture.md, "The stepper").
 use Rattle.std.specs.Prelude.{◌≡◌, ℕ, zero, suc, Bool as Truth, true, false, ◌&&◌, List, [], ◌∷◌, count_by}
+use Rattle.std.specs.List.{list_any}
 use Rattle.rg_base.specs.declared.words.Manager.{Manager}
 use Rattle.rg_base.specs.declared.words.Manager.TheVariants.{Count, Trace}
 use Rattle.rg_base.specs.declared.event.Cause.{Cause}
@@ -15,7 +16,7 @@ use Rattle.rg_code.specs.Code.{Code}
 use Rattle.rg_stack.specs.Machine.{Machine}
 use Rattle.rg_pace.specs.Asked.{one_more}
 use Rattle.rg_step.specs.Collections.{Asks}
-use Rattle.rg_step.specs.Steps.{Runs}
+use Rattle.rg_step.specs.Steps.{Runs, Since}
 
 -- one more so often; the greatest u64 stays
 abbrev pub raised : (times : ℕ) → ℕ → ℕ
@@ -60,3 +61,21 @@ paced_by m e = is_paced e.cause && paced_as m e.manager
 pub record YesesTold (behind : List Event) (before after : Asks) : Type 0 where
   pub count : after.count.yeses ≡ raised (count_by (paced_by Count) behind) before.count.yeses
   pub trace : after.trace.yeses ≡ raised (count_by (paced_by Trace) behind) before.trace.yeses
+
+-- how often a pacer was asked since its last yes, behind a step that asked it or not, where it said yes or not
+abbrev pub since_behind : (asking said : Truth) → ℕ → ℕ
+since_behind false said n = n
+since_behind true true n = 0
+since_behind true false n = one_more n
+
+-- so it is behind a step that was made from a state, and told of these collections
+pub record SinceFrom (classes : List Class) (s : State) (behind : List Event) (before after : Since) : Type 0 where
+  pub count : after.count ≡ since_behind (asks_at classes Count s) (list_any (paced_by Count) behind) before.count
+  pub trace : after.trace ≡ since_behind (asks_at classes Trace s) (list_any (paced_by Trace) behind) before.trace
+
+-- for each state of an accepted program that the machine showed; a step that was refused leaves both numbers
+abbrev pub SinceOn : Code → (old : Machine) → Outcome → (behind : List Event) → (before after : Since) → Type 0
+SinceOn code old (outcome.Trap kind line) behind before after = after ≡ before
+SinceOn code old outcome.InputFault behind before after = after ≡ before
+SinceOn code old outcome.Memory behind before after = after ≡ before
+SinceOn code old result behind before after = (t : Tree) (s : State) → Runs t code old s → SinceFrom t.classes s behind before after

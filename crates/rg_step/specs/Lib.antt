@@ -4,3 +4,4 @@ pub mod Steps
 pub mod Collections
 pub mod Writes
 pub mod Asking
+pub mod States

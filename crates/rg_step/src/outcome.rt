@@ -1,14 +1,15 @@
 //! A step, without what may follow for its `collect` or its `pace` (docs/architecture.md, "The
 //! stepper").
 
-ghost use Rattle.std.specs.Prelude.{◌≡◌, ◌≤◌, [], false, true};
+ghost use Rattle.std.specs.Prelude.{◌≡◌, ◌≤◌, false, true};
 ghost use Rattle.rg_io.specs.Content.{Rose};
 ghost use Rattle.rg_input.specs.Numbers.{Follows, OnInput};
 ghost use Rattle.rg_tree.specs.Tree.{Tree};
 ghost use Rattle.rg_rules.specs.Inputs.{first_asks};
 ghost use Rattle.rg_rules.specs.State.{State};
 ghost use Rattle.rg_machine.specs.Parts.{machine_in};
-ghost use Rattle.rg_step.specs.Steps.{IsRunning, Runs, StepsOn};
+ghost use Rattle.rg_step.specs.Steps.{IsResting, IsRunning, Runs, StepsOn};
+ghost use Rattle.rg_step.specs.States.{Raises};
 ghost use Rattle.rg_step.specs.Inner.Serving.{answer};
 
 use crate::step::{Did, step};
@@ -30,7 +31,8 @@ pub(crate) fn outcome<S: Source>(
     requires follows { Follows input.old (S.left source.old) }
     ensures step { OnInput input.old input.new (S.left source.old) (S.left source.new)
         (StepsOn code.now (machine_in p.old) (machine_in p.new) result) }
-    ensures bare { p.new.words ≡ [] }
+    ensures high { Raises result p.old p.new }
+    ensures rests { IsResting p.new }
     ensures reads_nothing { (t : Tree) (s : State) → Runs t code.now (machine_in p.old) s →
         first_asks s.items ≡ false → (input.new ≡ input.old) × (source.new ≡ source.old) }
     ensures input_fault { result ≡ Outcome.InputFault → (t : Tree) (s : State) →

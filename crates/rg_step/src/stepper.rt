@@ -1,6 +1,6 @@
 //! The stepper (docs/architecture.md, "The stepper").
 
-ghost use Rattle.std.specs.Prelude.{◌≡◌, ◌≤◌, ◌++◌, List, None, IfOk, IfSome, OnErr, OnOk};
+ghost use Rattle.std.specs.Prelude.{◌≡◌, ◌≤◌, ℕ, List, None, IfOk, IfSome, OnErr, OnOk};
 ghost use Rattle.std.specs.Prelude.{false, true};
 ghost use Rattle.rg_io.specs.Content.{Rose};
 ghost use Rattle.rg_input.specs.Numbers.{Follows, OnInput};
@@ -9,15 +9,13 @@ ghost use Rattle.rg_rules.specs.Inputs.{first_asks};
 ghost use Rattle.rg_rules.specs.State.{State};
 ghost use Rattle.rg_sound.specs.Fit.{Fit};
 ghost use Rattle.rg_code.specs.Code.{Code};
-ghost use Rattle.rg_stack.specs.Dues.{due_at};
 ghost use Rattle.rg_held.specs.Shown.{Finds, ShowsHeld};
 ghost use Rattle.rg_machine.specs.Owned.{IsOwned};
 ghost use Rattle.rg_machine.specs.Parts.{Parts, machine_in};
-ghost use Rattle.rg_step.specs.Steps.{Counts, IsRunning, Leapt, Runs, StepsOn};
+ghost use Rattle.rg_step.specs.Collections.{Asks};
+ghost use Rattle.rg_step.specs.States.{Chain, OneStep};
+ghost use Rattle.rg_step.specs.Steps.{IsResting, IsRunning, Leapt, Runs};
 ghost use Rattle.rg_step.specs.Steps.{counted_by, fresh, nothing, numbers_of, opening_machine};
-ghost use Rattle.rg_step.specs.Writes.{WritesOnly};
-ghost use Rattle.rg_step.specs.Asking.{AsksOn, YesesTold};
-ghost use Rattle.rg_step.specs.Collections.{ReachesOn, ServesBy};
 ghost use Rattle.rg_step.specs.Inner.Held.{stepping};
 
 use crate::collecting::{due_at, is_made, make_place, one_more, serve};
@@ -35,7 +33,8 @@ use rg_pace::Pacer;
 use std::alloc::Global;
 use std::marker::Model;
 
-/// The machine that runs the code of a program, step by step; there is none before a program begins.
+/// The machine that runs the code of a program, step by step; there is none before a program
+/// begins. Between two steps nothing is on its stack, and nothing is printed.
 #[derive(Drop)]
 pub struct Stepper {
     machine: Option<Machine>,
@@ -44,11 +43,13 @@ pub struct Stepper {
 
 impl Model for Stepper {
     ghost use Rattle.rg_step.specs.Inner.Held.{parts_of, stepping};
-    ghost use Rattle.rg_step.specs.Steps.{Stepping};
+    ghost use Rattle.rg_step.specs.Steps.{IsResting, Stepping};
 
     ghost Value = { Stepping };
 
     ghost view = { λ s. stepping (parts_of s.machine) s.kept };
+
+    ghost invariant = { λ s. IsResting (parts_of s.machine) };
 }
 
 impl Stepper {
@@ -160,6 +161,9 @@ impl Stepper {
         requires { IsRunning code.now (machine_in self.old.parts) }
         ensures leaps { Leapt code.now result
             (machine_in self.old.parts) (machine_in self.new.parts) }
+        ensures chain { (pacers : Asks) (input : List ℕ) → Chain code.now result
+            (record { stepper = self.old; pacers = pacers })
+            (record { stepper = self.new; pacers = pacers }) input input }
         ensures most { result ≤ most }
         ensures counts { self.new.steps ≡ counted_by result self.old.steps }
         ensures since { self.new.since ≡ self.old.since }
@@ -188,102 +192,41 @@ impl Stepper {
         requires runs { IsRunning code.now (machine_in self.old.parts) }
         requires follows { Follows input.old (S.left source.old) }
         ensures step { OnInput input.old input.new (S.left source.old) (S.left source.new)
-            (StepsOn code.now (machine_in self.old.parts) (machine_in self.new.parts) result) }
-        ensures serves { (mid : Parts)
-            × OnInput input.old input.new (S.left source.old) (S.left source.new)
-            (StepsOn code.now (machine_in self.old.parts) (machine_in mid) result)
-            × ServesBy (due_at code.now.ops self.old.parts.at) self.old mid self.new
+            (OneStep code.now
             (record {
-              count = record {
-                asks = asks count.old;
-                yeses = yeses count.old;
-                told = told count.old;
-                tuned = tuned count.old;
-              };
-              trace = record {
-                asks = asks trace.old;
-                yeses = yeses trace.old;
-                told = told trace.old;
-                tuned = tuned trace.old;
+              stepper = self.old;
+              pacers = record {
+                count = record {
+                  asks = asks count.old;
+                  yeses = yeses count.old;
+                  told = told count.old;
+                  tuned = tuned count.old;
+                };
+                trace = record {
+                  asks = asks trace.old;
+                  yeses = yeses trace.old;
+                  told = told trace.old;
+                  tuned = tuned trace.old;
+                };
               };
             })
             (record {
-              count = record {
-                asks = asks count.new;
-                yeses = yeses count.new;
-                told = told count.new;
-                tuned = tuned count.new;
+              stepper = self.new;
+              pacers = record {
+                count = record {
+                  asks = asks count.new;
+                  yeses = yeses count.new;
+                  told = told count.new;
+                  tuned = tuned count.new;
+                };
+                trace = record {
+                  asks = asks trace.new;
+                  yeses = yeses trace.new;
+                  told = told trace.new;
+                  tuned = tuned trace.new;
+                };
               };
-              trace = record {
-                asks = asks trace.new;
-                yeses = yeses trace.new;
-                told = told trace.new;
-                tuned = tuned trace.new;
-              };
-            }) result }
-        ensures reaches { OnInput input.old input.new (S.left source.old) (S.left source.new)
-            (ReachesOn code.now (machine_in self.old.parts) self.old.events self.new.events) }
-        ensures asked { AsksOn code.now (machine_in self.old.parts) result
-            (record {
-              count = record {
-                asks = asks count.old;
-                yeses = yeses count.old;
-                told = told count.old;
-                tuned = tuned count.old;
-              };
-              trace = record {
-                asks = asks trace.old;
-                yeses = yeses trace.old;
-                told = told trace.old;
-                tuned = tuned trace.old;
-              };
-            })
-            (record {
-              count = record {
-                asks = asks count.new;
-                yeses = yeses count.new;
-                told = told count.new;
-                tuned = tuned count.new;
-              };
-              trace = record {
-                asks = asks trace.new;
-                yeses = yeses trace.new;
-                told = told trace.new;
-                tuned = tuned trace.new;
-              };
-            }) }
-        ensures yeses { (behind : List Event) × (self.new.events ≡ self.old.events ++ behind)
-            × YesesTold behind
-            (record {
-              count = record {
-                asks = asks count.old;
-                yeses = yeses count.old;
-                told = told count.old;
-                tuned = tuned count.old;
-              };
-              trace = record {
-                asks = asks trace.old;
-                yeses = yeses trace.old;
-                told = told trace.old;
-                tuned = tuned trace.old;
-              };
-            })
-            (record {
-              count = record {
-                asks = asks count.new;
-                yeses = yeses count.new;
-                told = told count.new;
-                tuned = tuned count.new;
-              };
-              trace = record {
-                asks = asks trace.new;
-                yeses = yeses trace.new;
-                told = told trace.new;
-                tuned = tuned trace.new;
-              };
-            }) }
-        ensures writes { WritesOnly (machine_in self.old.parts) (machine_in self.new.parts) }
-        ensures counts { Counts self.old.steps self.new.steps result }
+            }) result) }
         ensures reads_nothing { (t : Tree) (p : State) →
             Runs t code.now (machine_in self.old.parts) p →
             first_asks p.items ≡ false → (input.new ≡ input.old) × (source.new ≡ source.old) }
@@ -323,105 +266,45 @@ fn step_on<S: Source>(
     trace: &mut dyn Pacer,
 ) -> Outcome
     requires runs { IsRunning code.now (machine_in p.old) }
+    requires rests { IsResting p.old }
     requires follows { Follows input.old (S.left source.old) }
+    ensures rests { IsResting p.new }
     ensures step { OnInput input.old input.new (S.left source.old) (S.left source.new)
-        (StepsOn code.now (machine_in p.old) (machine_in p.new) result) }
-    ensures serves { (mid : Parts)
-        × OnInput input.old input.new (S.left source.old) (S.left source.new)
-        (StepsOn code.now (machine_in p.old) (machine_in mid) result)
-        × ServesBy (due_at code.now.ops p.old.at) (stepping p.old kept.old) mid
-        (stepping p.new kept.new)
+        (OneStep code.now
         (record {
-          count = record {
-            asks = asks count.old;
-            yeses = yeses count.old;
-            told = told count.old;
-            tuned = tuned count.old;
-          };
-          trace = record {
-            asks = asks trace.old;
-            yeses = yeses trace.old;
-            told = told trace.old;
-            tuned = tuned trace.old;
+          stepper = stepping p.old kept.old;
+          pacers = record {
+            count = record {
+              asks = asks count.old;
+              yeses = yeses count.old;
+              told = told count.old;
+              tuned = tuned count.old;
+            };
+            trace = record {
+              asks = asks trace.old;
+              yeses = yeses trace.old;
+              told = told trace.old;
+              tuned = tuned trace.old;
+            };
           };
         })
         (record {
-          count = record {
-            asks = asks count.new;
-            yeses = yeses count.new;
-            told = told count.new;
-            tuned = tuned count.new;
+          stepper = stepping p.new kept.new;
+          pacers = record {
+            count = record {
+              asks = asks count.new;
+              yeses = yeses count.new;
+              told = told count.new;
+              tuned = tuned count.new;
+            };
+            trace = record {
+              asks = asks trace.new;
+              yeses = yeses trace.new;
+              told = told trace.new;
+              tuned = tuned trace.new;
+            };
           };
-          trace = record {
-            asks = asks trace.new;
-            yeses = yeses trace.new;
-            told = told trace.new;
-            tuned = tuned trace.new;
-          };
-        }) result }
-    ensures reaches { OnInput input.old input.new (S.left source.old) (S.left source.new)
-        (ReachesOn code.now (machine_in p.old) kept.old.events.items kept.new.events.items) }
-    ensures asked { AsksOn code.now (machine_in p.old) result
-        (record {
-          count = record {
-            asks = asks count.old;
-            yeses = yeses count.old;
-            told = told count.old;
-            tuned = tuned count.old;
-          };
-          trace = record {
-            asks = asks trace.old;
-            yeses = yeses trace.old;
-            told = told trace.old;
-            tuned = tuned trace.old;
-          };
-        })
-        (record {
-          count = record {
-            asks = asks count.new;
-            yeses = yeses count.new;
-            told = told count.new;
-            tuned = tuned count.new;
-          };
-          trace = record {
-            asks = asks trace.new;
-            yeses = yeses trace.new;
-            told = told trace.new;
-            tuned = tuned trace.new;
-          };
-        }) }
-    ensures yeses { (behind : List Event)
-        × (kept.new.events.items ≡ kept.old.events.items ++ behind)
-        × YesesTold behind
-        (record {
-          count = record {
-            asks = asks count.old;
-            yeses = yeses count.old;
-            told = told count.old;
-            tuned = tuned count.old;
-          };
-          trace = record {
-            asks = asks trace.old;
-            yeses = yeses trace.old;
-            told = told trace.old;
-            tuned = tuned trace.old;
-          };
-        })
-        (record {
-          count = record {
-            asks = asks count.new;
-            yeses = yeses count.new;
-            told = told count.new;
-            tuned = tuned count.new;
-          };
-          trace = record {
-            asks = asks trace.new;
-            yeses = yeses trace.new;
-            told = told trace.new;
-            tuned = tuned trace.new;
-          };
-        }) }
-    ensures counts { Counts kept.old.steps kept.new.steps result }
+        }) result) }
     ensures reads_nothing { (t : Tree) (s : State) → Runs t code.now (machine_in p.old) s →
         first_asks s.items ≡ false → (input.new ≡ input.old) × (source.new ≡ source.old) }
     ensures input_fault { result ≡ Outcome.InputFault → (t : Tree) (s : State) →

@@ -1,6 +1,6 @@
 -- A step of the machine that frees beside that over the growing store: a walk, and behind a frame's end another one, behind which nothing is
 -- refused.
-use Rattle.std.proofs.Common.{◌≡◌, inl, inr, ℕ, ◌+◌, true, false, List, [], ◌∷◌, drop, None, refl, sym, subst, slice_get}
+use Rattle.std.proofs.Common.{◌≡◌, inl, inr, ℕ, ◌+◌, true, false, List, [], ◌∷◌, drop, None, refl, sym, subst, ◌∙◌, slice_get}
 use Rattle.rg_base.specs.declared.value.Val.{Val}
 use Rattle.rg_tree.specs.Tree.{Class, Tree}
 use Rattle.rg_rules.specs.Acceptance.{Accepted}
@@ -116,6 +116,12 @@ given-as-step t code u w p accepted lowers fit holds quiet left m =
           (subst (λ x. x ≡ Lost → ⊥) (sym given) leads)),
       leads,
     )
+
+-- over the growing store the step in which each instruction is given what it needs leads on
+pub step-leads : (t : Tree) (code : Code) (u w : Work) (p : State) → Accepted t → Lowers t code → Fit t p → Holds t.classes code w p
+    → w.printed ≡ None → SomeLeft p.items → Match [] u w [] → given_step code w ≡ Lost → ⊥
+step-leads t code u w p accepted lowers fit holds quiet left m e =
+    (given-as-step t code u w p accepted lowers fit holds quiet left m).1 (sym (steps-given t code w p accepted lowers fit holds quiet left) ∙ e)
 
 pub free-given-same : FreeGivenSame
 free-given-same t code u w p accepted lowers fit holds quiet left m =

@@ -8,6 +8,7 @@ ghost use Rattle.rg_heap.specs.Ends.{top_temps};
 ghost use Rattle.rg_heap.specs.Parts.{OnTop};
 ghost use Rattle.rg_stack.specs.Needs.{owned_once};
 ghost use Rattle.rg_machine.specs.Collects.{Gathers};
+ghost use Rattle.rg_machine.specs.High.{NoneMade};
 ghost use Rattle.rg_machine.specs.Parts.{machine_in};
 
 use super::Machine;
@@ -22,6 +23,7 @@ impl Machine {
         requires bare { self.old.words ≡ [] }
         requires once { owned_once (machine_in self.old) ≡ true }
         ensures gathers { Gathers self.old self.new }
+        ensures high { NoneMade self.old.heap self.new.heap }
         ensures told { OnTop self.old.frames (λ top.
             OfRegion self.old.heap.regions top.region (λ r.
             CollectsBy r.manager self.old.heap self.new.heap top.region r (roots_of r.bridge

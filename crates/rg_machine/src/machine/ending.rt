@@ -12,6 +12,7 @@ ghost use Rattle.rg_stack.specs.Refusals.{Settles};
 ghost use Rattle.rg_machine.specs.Core.{ActIs, Has, with_machine};
 ghost use Rattle.rg_machine.specs.Effects.{Apart, AllLoose, ending, without};
 ghost use Rattle.rg_machine.specs.Keeps.{Keeping, SameBacks};
+ghost use Rattle.rg_machine.specs.High.{Making, NoneMade};
 ghost use Rattle.rg_machine.specs.Parts.{core_of, machine_in, val_in};
 ghost use Rattle.rg_machine.specs.Stands.{Leads};
 
@@ -29,6 +30,7 @@ impl Machine {
         ensures gone { core_of self.new ≡ without (core_of self.old) (val_in self.old w ∷ []) }
         ensures words { self.new.words ≡ self.old.words }
         ensures frames { self.new.frames ≡ self.old.frames }
+        ensures high { NoneMade self.old.heap self.new.heap }
     {
         self.heap.is_forest();
         if self.heap.owns(&self.frames, w) {
@@ -46,6 +48,7 @@ impl Machine {
             (slot_at (machine_in self.old) s ∷ [])).machine s Nil) }
         ensures words { self.new.words ≡ self.old.words }
         ensures backs { SameBacks (machine_in self.old) (machine_in self.new) }
+        ensures high { NoneMade self.old.heap self.new.heap }
     {
         self.heap.is_forest();
         let w = self.slot(s);
@@ -63,6 +66,7 @@ impl Machine {
             (slot_at (machine_in self.old) k ∷ [])).machine k Nil) }
         ensures words { self.new.words ≡ self.old.words }
         ensures backs { SameBacks (machine_in self.old) (machine_in self.new) }
+        ensures high { NoneMade self.old.heap self.new.heap }
     {
         self.heap.is_forest();
         let w = self.frames.nth_word(k);
@@ -77,6 +81,7 @@ impl Machine {
         ensures ended { core_of self.new ≡ ending (core_of self.old) s }
         ensures words { self.new.words ≡ self.old.words }
         ensures backs { SameBacks (machine_in self.old) (machine_in self.new) }
+        ensures high { NoneMade self.old.heap self.new.heap }
     {
         self.heap.is_forest();
         let live = self.frames.live();
@@ -97,6 +102,7 @@ impl Machine {
         ensures effect { (at : ℕ) → ActIs (free_act empty at (i.Own s)) at
             (core_of self.old) (core_of self.new) result }
         ensures keeps { Keeping Settles false (machine_in self.old) (machine_in self.new) result }
+        ensures high { Making Settles false self.old.heap self.new.heap result }
     {
         let Some(_) = self.top() else {
             return Next::Lost;
@@ -117,6 +123,7 @@ impl Machine {
         ensures effect { (at : ℕ) → ActIs (free_act empty at (i.End s)) at
             (core_of self.old) (core_of self.new) result }
         ensures keeps { Keeping Settles false (machine_in self.old) (machine_in self.new) result }
+        ensures high { Making Settles false self.old.heap self.new.heap result }
     {
         self.end_from(s);
         Next::On
@@ -128,6 +135,7 @@ impl Machine {
         ensures effect { (at : ℕ) → ActIs (free_act empty at i.Pop) at
             (core_of self.old) (core_of self.new) result }
         ensures keeps { Keeping Settles false (machine_in self.old) (machine_in self.new) result }
+        ensures high { Making Settles false self.old.heap self.new.heap result }
     {
         match self.pop() {
             Some(w) => {
@@ -144,6 +152,7 @@ impl Machine {
         ensures effect { (at : ℕ) → ActIs (free_act empty at i.Drop) at
             (core_of self.old) (core_of self.new) result }
         ensures keeps { Keeping Settles false (machine_in self.old) (machine_in self.new) result }
+        ensures high { Making Settles false self.old.heap self.new.heap result }
     {
         match self.pop() {
             Some(w) => {

@@ -7,6 +7,7 @@ ghost use Rattle.rg_stack.specs.Effects.{top_region, top_window};
 ghost use Rattle.rg_stack.specs.Needs.{leads_nowhere};
 ghost use Rattle.rg_machine.specs.Core.{with_machine, with_made};
 ghost use Rattle.rg_machine.specs.Parts.{core_of, machine_in};
+ghost use Rattle.rg_machine.specs.High.{OneMade};
 
 use super::Machine;
 use rg_base::{Manager, Memory, Word};
@@ -20,6 +21,7 @@ impl Machine {
             (Region (top_region (machine_in self.old).windows))) }
         ensures err { OnErr result (machine_in self.new ≡ machine_in self.old) }
         ensures printed { self.new.printed ≡ self.old.printed }
+        ensures high { OnOk result (OneMade self.old.heap self.new.heap) }
     {
         self.heap.is_forest();
         let Ok(()) = self.stack.reserve(1) else {
@@ -38,6 +40,7 @@ impl Machine {
             (Temp (top_window (machine_in self.old).windows))) }
         ensures err { OnErr result (machine_in self.new ≡ machine_in self.old) }
         ensures printed { self.new.printed ≡ self.old.printed }
+        ensures high { OnOk result (OneMade self.old.heap self.new.heap) }
     {
         self.heap.is_forest();
         self.frames.lie();
@@ -64,6 +67,7 @@ impl Machine {
             (Region (length (machine_in self.old).managers))) }
         ensures err { OnErr result (machine_in self.new ≡ machine_in self.old) }
         ensures printed { self.new.printed ≡ self.old.printed }
+        ensures high { OnOk result (OneMade self.old.heap self.new.heap) }
     {
         self.heap.is_forest();
         let Ok(()) = self.stack.reserve(1) else {

@@ -7,6 +7,7 @@ ghost use Rattle.rg_held.specs.Frees.{free_act};
 ghost use Rattle.rg_stack.specs.Refusals.{Takes};
 ghost use Rattle.rg_machine.specs.Core.{ActIs, Has};
 ghost use Rattle.rg_machine.specs.Keeps.{Keeping};
+ghost use Rattle.rg_machine.specs.High.{Making};
 ghost use Rattle.rg_machine.specs.Parts.{core_of, machine_in};
 
 use super::Machine;
@@ -20,6 +21,7 @@ impl Machine {
         ensures effect { (at : ℕ) → ActIs (free_act empty at (i.Freeze s)) at
             (core_of self.old) (core_of self.new) result }
         ensures keeps { Keeping Takes false (machine_in self.old) (machine_in self.new) result }
+        ensures high { Making Takes false self.old.heap self.new.heap result }
     {
         let w = self.frames.word(s);
         match w {
@@ -44,6 +46,7 @@ impl Machine {
         ensures effect { (at : ℕ) → ActIs (free_act empty at (i.Merge s)) at
             (core_of self.old) (core_of self.new) result }
         ensures keeps { Keeping Takes false (machine_in self.old) (machine_in self.new) result }
+        ensures high { Making Takes false self.old.heap self.new.heap result }
     {
         let w = self.frames.word(s);
         match w {

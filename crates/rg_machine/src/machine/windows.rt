@@ -10,6 +10,7 @@ ghost use Rattle.rg_held.specs.Frees.{free_act};
 ghost use Rattle.rg_stack.specs.Refusals.{Settles, Takes};
 ghost use Rattle.rg_machine.specs.Core.{ActIs, Has};
 ghost use Rattle.rg_machine.specs.Keeps.{Keeping};
+ghost use Rattle.rg_machine.specs.High.{Making};
 ghost use Rattle.rg_machine.specs.Parts.{core_of, machine_in};
 
 use super::Machine;
@@ -41,6 +42,7 @@ impl Machine {
         ensures effect { (at : ℕ) → ActIs (free_act empty at (i.Enter s z)) at
             (core_of self.old) (core_of self.new) result }
         ensures keeps { Keeping Takes false (machine_in self.old) (machine_in self.new) result }
+        ensures high { Making Takes false self.old.heap self.new.heap result }
     {
         let Some(base) = self.base_at(z) else {
             return Next::Lost;
@@ -69,6 +71,7 @@ impl Machine {
         ensures effect { (at : ℕ) → ActIs (free_act empty at (i.EnterField index z)) at
             (core_of self.old) (core_of self.new) result }
         ensures keeps { Keeping Takes false (machine_in self.old) (machine_in self.new) result }
+        ensures high { Making Takes false self.old.heap self.new.heap result }
     {
         let Some(base) = self.base_at(z) else {
             return Next::Lost;
@@ -105,6 +108,7 @@ impl Machine {
         ensures effect { (at : ℕ) → ActIs (free_act empty at (i.Leave s)) at
             (core_of self.old) (core_of self.new) result }
         ensures keeps { Keeping Settles false (machine_in self.old) (machine_in self.new) result }
+        ensures high { Making Settles false self.old.heap self.new.heap result }
     {
         self.heap.is_forest();
         self.end_from(s);

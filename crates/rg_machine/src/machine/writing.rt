@@ -10,6 +10,7 @@ ghost use Rattle.rg_stack.specs.Needs.{may_keep};
 ghost use Rattle.rg_stack.specs.Refusals.{Takes};
 ghost use Rattle.rg_machine.specs.Core.{ActIs, Has, with_machine};
 ghost use Rattle.rg_machine.specs.Keeps.{Keeping, SameBacks};
+ghost use Rattle.rg_machine.specs.High.{Making, NoneMade};
 ghost use Rattle.rg_machine.specs.Parts.{core_of, machine_in, val_in};
 ghost use Rattle.rg_machine.specs.Stands.{Leads};
 
@@ -49,6 +50,7 @@ impl Machine {
               store = put_in (machine_in self.old).store (val_in self.old r) index
                   (val_in self.old w);
             }) }
+        ensures high { NoneMade self.old.heap self.new.heap }
     {
         self.heap.is_forest();
         match r {
@@ -63,6 +65,7 @@ impl Machine {
         ensures effect { (at : ℕ) → ActIs (free_act empty at (i.Swap s index)) at
             (core_of self.old) (core_of self.new) result }
         ensures keeps { Keeping Takes false (machine_in self.old) (machine_in self.new) result }
+        ensures high { Making Takes false self.old.heap self.new.heap result }
     {
         self.heap.is_forest();
         let Some(r) = self.stack.pop() else {

@@ -24,15 +24,6 @@ answer did.InputFault printed = outcome.InputFault
 answer did.Memory printed = outcome.Memory
 answer did.Lost printed = outcome.Memory
 
--- whether a step with this answer was made
-abbrev pub is_made : Outcome → Bool
-is_made outcome.Running = true
-is_made (outcome.Printed v) = true
-is_made outcome.Done = true
-is_made (outcome.Trap kind line) = false
-is_made outcome.InputFault = false
-is_made outcome.Memory = false
-
 -- whether a region of this manager, with so many cells, is to be collected, and what became of the pacers
 abbrev pub Wants : Cause → Manager → (held : ℕ) → (old new : Since) → (before after : Asks) → (wanted : Bool) → Type 0
 Wants Asked Arena held old new before after wanted = (wanted ≡ false) × (new ≡ old) × (after ≡ before)

@@ -1,133 +1,177 @@
 use Rattle.rg_machine.proofs.instructions.act.Goals as goal
 
 pub returns-in-Bool : goal.returns-in-Bool
-returns-in-Bool c = rw c.in-Bool.is (record { effect = c.constant.ensures.effect c.args.at; keeps = c.constant.ensures.keeps })
+returns-in-Bool c =
+    let p = c.constant.ensures in rw c.in-Bool.is (record { effect = p.effect c.args.at; keeps = p.keeps; high = p.high })
 
 pub returns-in-Nil : goal.returns-in-Nil
-returns-in-Nil c = rw c.in-Nil.is (record { effect = c.constant-in-Nil.ensures.effect c.args.at; keeps = c.constant-in-Nil.ensures.keeps })
+returns-in-Nil c =
+    let p = c.constant-in-Nil.ensures in rw c.in-Nil.is (record { effect = p.effect c.args.at; keeps = p.keeps; high = p.high })
 
 pub returns-in-Load : goal.returns-in-Load
-returns-in-Load c = rw c.in-Load.is (record { effect = c.load.ensures.effect c.args.at; keeps = c.load.ensures.keeps })
+returns-in-Load c =
+    let p = c.load.ensures in rw c.in-Load.is (record { effect = p.effect c.args.at; keeps = p.keeps; high = p.high })
 
 pub returns-in-Clear : goal.returns-in-Clear
-returns-in-Clear c = rw c.in-Clear.is (record { effect = c.clear.ensures.effect c.args.at; keeps = c.clear.ensures.keeps })
+returns-in-Clear c =
+    let p = c.clear.ensures in rw c.in-Clear.is (record { effect = p.effect c.args.at; keeps = p.keeps; high = p.high })
 
 pub returns-in-Store : goal.returns-in-Store
-returns-in-Store c = rw c.in-Store.is (record { effect = c.store.ensures.effect c.args.at; keeps = c.store.ensures.keeps })
+returns-in-Store c =
+    let p = c.store.ensures in rw c.in-Store.is (record { effect = p.effect c.args.at; keeps = p.keeps; high = p.high })
 
 pub returns-in-Own : goal.returns-in-Own
-returns-in-Own c = rw c.in-Own.is (record { effect = c.own.ensures.effect c.args.at; keeps = c.own.ensures.keeps })
+returns-in-Own c =
+    let p = c.own.ensures in rw c.in-Own.is (record { effect = p.effect c.args.at; keeps = p.keeps; high = p.high })
 
 pub returns-in-Field : goal.returns-in-Field
-returns-in-Field c = rw c.in-Field.is (record { effect = c.field.ensures.effect c.args.at; keeps = c.field.ensures.keeps })
+returns-in-Field c =
+    let p = c.field.ensures in rw c.in-Field.is (record { effect = p.effect c.args.at; keeps = p.keeps; high = p.high })
 
 pub returns-in-IsNil : goal.returns-in-IsNil
-returns-in-IsNil c = rw c.in-IsNil.is (record { effect = c.test_nil.ensures.effect c.args.at; keeps = c.test_nil.ensures.keeps })
+returns-in-IsNil c =
+    let p = c.test_nil.ensures in rw c.in-IsNil.is (record { effect = p.effect c.args.at; keeps = p.keeps; high = p.high })
 
 pub returns-in-Neg : goal.returns-in-Neg
-returns-in-Neg c = rw c.in-Neg.is (record { effect = c.negate.ensures.effect c.args.at; keeps = c.negate.ensures.keeps })
+returns-in-Neg c =
+    let p = c.negate.ensures in rw c.in-Neg.is (record { effect = p.effect c.args.at; keeps = p.keeps; high = p.high })
 
 pub returns-in-Add : goal.returns-in-Add
-returns-in-Add c = rw c.in-Add.is (record { effect = c.binary.ensures.effect c.args.at; keeps = c.binary.ensures.keeps })
+returns-in-Add c =
+    let p = c.binary.ensures in rw c.in-Add.is (record { effect = p.effect c.args.at; keeps = p.keeps; high = p.high })
 
 pub returns-in-Sub : goal.returns-in-Sub
-returns-in-Sub c = rw c.in-Sub.is (record { effect = c.binary-in-Sub.ensures.effect c.args.at; keeps = c.binary-in-Sub.ensures.keeps })
+returns-in-Sub c =
+    let p = c.binary-in-Sub.ensures in rw c.in-Sub.is (record { effect = p.effect c.args.at; keeps = p.keeps; high = p.high })
 
 pub returns-in-Mul : goal.returns-in-Mul
-returns-in-Mul c = rw c.in-Mul.is (record { effect = c.binary-in-Mul.ensures.effect c.args.at; keeps = c.binary-in-Mul.ensures.keeps })
+returns-in-Mul c =
+    let p = c.binary-in-Mul.ensures in rw c.in-Mul.is (record { effect = p.effect c.args.at; keeps = p.keeps; high = p.high })
 
 pub returns-in-Div : goal.returns-in-Div
-returns-in-Div c = rw c.in-Div.is (record { effect = c.binary-in-Div.ensures.effect c.args.at; keeps = c.binary-in-Div.ensures.keeps })
+returns-in-Div c =
+    let p = c.binary-in-Div.ensures in rw c.in-Div.is (record { effect = p.effect c.args.at; keeps = p.keeps; high = p.high })
 
 pub returns-in-Rem : goal.returns-in-Rem
-returns-in-Rem c = rw c.in-Rem.is (record { effect = c.binary-in-Rem.ensures.effect c.args.at; keeps = c.binary-in-Rem.ensures.keeps })
+returns-in-Rem c =
+    let p = c.binary-in-Rem.ensures in rw c.in-Rem.is (record { effect = p.effect c.args.at; keeps = p.keeps; high = p.high })
 
 pub returns-in-Eq : goal.returns-in-Eq
-returns-in-Eq c = rw c.in-Eq.is (record { effect = c.binary-in-Eq.ensures.effect c.args.at; keeps = c.binary-in-Eq.ensures.keeps })
+returns-in-Eq c =
+    let p = c.binary-in-Eq.ensures in rw c.in-Eq.is (record { effect = p.effect c.args.at; keeps = p.keeps; high = p.high })
 
 pub returns-in-Ne : goal.returns-in-Ne
-returns-in-Ne c = rw c.in-Ne.is (record { effect = c.binary-in-Ne.ensures.effect c.args.at; keeps = c.binary-in-Ne.ensures.keeps })
+returns-in-Ne c =
+    let p = c.binary-in-Ne.ensures in rw c.in-Ne.is (record { effect = p.effect c.args.at; keeps = p.keeps; high = p.high })
 
 pub returns-in-Lt : goal.returns-in-Lt
-returns-in-Lt c = rw c.in-Lt.is (record { effect = c.binary-in-Lt.ensures.effect c.args.at; keeps = c.binary-in-Lt.ensures.keeps })
+returns-in-Lt c =
+    let p = c.binary-in-Lt.ensures in rw c.in-Lt.is (record { effect = p.effect c.args.at; keeps = p.keeps; high = p.high })
 
 pub returns-in-Le : goal.returns-in-Le
-returns-in-Le c = rw c.in-Le.is (record { effect = c.binary-in-Le.ensures.effect c.args.at; keeps = c.binary-in-Le.ensures.keeps })
+returns-in-Le c =
+    let p = c.binary-in-Le.ensures in rw c.in-Le.is (record { effect = p.effect c.args.at; keeps = p.keeps; high = p.high })
 
 pub returns-in-Gt : goal.returns-in-Gt
-returns-in-Gt c = rw c.in-Gt.is (record { effect = c.binary-in-Gt.ensures.effect c.args.at; keeps = c.binary-in-Gt.ensures.keeps })
+returns-in-Gt c =
+    let p = c.binary-in-Gt.ensures in rw c.in-Gt.is (record { effect = p.effect c.args.at; keeps = p.keeps; high = p.high })
 
 pub returns-in-Ge : goal.returns-in-Ge
-returns-in-Ge c = rw c.in-Ge.is (record { effect = c.binary-in-Ge.ensures.effect c.args.at; keeps = c.binary-in-Ge.ensures.keeps })
+returns-in-Ge c =
+    let p = c.binary-in-Ge.ensures in rw c.in-Ge.is (record { effect = p.effect c.args.at; keeps = p.keeps; high = p.high })
 
 pub returns-in-Not : goal.returns-in-Not
-returns-in-Not c = rw c.in-Not.is (record { effect = c.invert.ensures.effect c.args.at; keeps = c.invert.ensures.keeps })
+returns-in-Not c =
+    let p = c.invert.ensures in rw c.in-Not.is (record { effect = p.effect c.args.at; keeps = p.keeps; high = p.high })
 
 pub returns-in-JumpFalse : goal.returns-in-JumpFalse
-returns-in-JumpFalse c = rw c.in-JumpFalse.is (record { effect = c.jump_false.ensures.effect c.args.at; keeps = c.jump_false.ensures.keeps })
+returns-in-JumpFalse c =
+    let p = c.jump_false.ensures in rw c.in-JumpFalse.is (record { effect = p.effect c.args.at; keeps = p.keeps; high = p.high })
 
 pub returns-in-And : goal.returns-in-And
-returns-in-And c = rw c.in-And.is (record { effect = c.and.ensures.effect c.args.at; keeps = c.and.ensures.keeps })
+returns-in-And c =
+    let p = c.and.ensures in rw c.in-And.is (record { effect = p.effect c.args.at; keeps = p.keeps; high = p.high })
 
 pub returns-in-Or : goal.returns-in-Or
-returns-in-Or c = rw c.in-Or.is (record { effect = c.or.ensures.effect c.args.at; keeps = c.or.ensures.keeps })
+returns-in-Or c =
+    let p = c.or.ensures in rw c.in-Or.is (record { effect = p.effect c.args.at; keeps = p.keeps; high = p.high })
 
 pub returns-in-Check : goal.returns-in-Check
-returns-in-Check c = rw c.in-Check.is (record { effect = c.check.ensures.effect c.args.at; keeps = c.check.ensures.keeps })
+returns-in-Check c =
+    let p = c.check.ensures in rw c.in-Check.is (record { effect = p.effect c.args.at; keeps = p.keeps; high = p.high })
 
 pub returns-in-New : goal.returns-in-New
-returns-in-New c = rw c.in-New.is (record { effect = c.new.ensures.effect c.args.at; keeps = c.new.ensures.keeps })
+returns-in-New c =
+    let p = c.new.ensures in rw c.in-New.is (record { effect = p.effect c.args.at; keeps = p.keeps; high = p.high })
 
 pub returns-in-NewTmp : goal.returns-in-NewTmp
-returns-in-NewTmp c = rw c.in-NewTmp.is (record { effect = c.new_temp.ensures.effect c.args.at; keeps = c.new_temp.ensures.keeps })
+returns-in-NewTmp c =
+    let p = c.new_temp.ensures in rw c.in-NewTmp.is (record { effect = p.effect c.args.at; keeps = p.keeps; high = p.high })
 
 pub returns-in-NewIso : goal.returns-in-NewIso
-returns-in-NewIso c = rw c.in-NewIso.is (record { effect = c.new_iso.ensures.effect c.args.at; keeps = c.new_iso.ensures.keeps })
+returns-in-NewIso c =
+    let p = c.new_iso.ensures in rw c.in-NewIso.is (record { effect = p.effect c.args.at; keeps = p.keeps; high = p.high })
 
 pub returns-in-Put : goal.returns-in-Put
-returns-in-Put c = rw c.in-Put.is (record { effect = c.put.ensures.effect c.args.at; keeps = c.put.ensures.keeps })
+returns-in-Put c =
+    let p = c.put.ensures in rw c.in-Put.is (record { effect = p.effect c.args.at; keeps = p.keeps; high = p.high })
 
 pub returns-in-Swap : goal.returns-in-Swap
-returns-in-Swap c = rw c.in-Swap.is (record { effect = c.swap.ensures.effect c.args.at; keeps = c.swap.ensures.keeps })
+returns-in-Swap c =
+    let p = c.swap.ensures in rw c.in-Swap.is (record { effect = p.effect c.args.at; keeps = p.keeps; high = p.high })
 
 pub returns-in-Freeze : goal.returns-in-Freeze
-returns-in-Freeze c = rw c.in-Freeze.is (record { effect = c.freeze.ensures.effect c.args.at; keeps = c.freeze.ensures.keeps })
+returns-in-Freeze c =
+    let p = c.freeze.ensures in rw c.in-Freeze.is (record { effect = p.effect c.args.at; keeps = p.keeps; high = p.high })
 
 pub returns-in-Merge : goal.returns-in-Merge
-returns-in-Merge c = rw c.in-Merge.is (record { effect = c.merge.ensures.effect c.args.at; keeps = c.merge.ensures.keeps })
+returns-in-Merge c =
+    let p = c.merge.ensures in rw c.in-Merge.is (record { effect = p.effect c.args.at; keeps = p.keeps; high = p.high })
 
 pub returns-in-Read : goal.returns-in-Read
-returns-in-Read c = rw c.in-Read.is (record { effect = c.ask_number.ensures.effect c.args.at; keeps = c.ask_number.ensures.keeps })
+returns-in-Read c =
+    let p = c.ask_number.ensures in rw c.in-Read.is (record { effect = p.effect c.args.at; keeps = p.keeps; high = p.high })
 
 pub returns-in-More : goal.returns-in-More
-returns-in-More c = rw c.in-More.is (record { effect = c.ask_more.ensures.effect c.args.at; keeps = c.ask_more.ensures.keeps })
+returns-in-More c =
+    let p = c.ask_more.ensures in rw c.in-More.is (record { effect = p.effect c.args.at; keeps = p.keeps; high = p.high })
 
 pub returns-in-Call : goal.returns-in-Call
-returns-in-Call c = rw c.in-Call.is (record { effect = c.call.ensures.effect; keeps = c.call.ensures.keeps })
+returns-in-Call c =
+    let p = c.call.ensures in rw c.in-Call.is (record { effect = p.effect; keeps = p.keeps; high = p.high })
 
 pub returns-in-Ret : goal.returns-in-Ret
-returns-in-Ret c = rw c.in-Ret.is (record { effect = c.ret.ensures.effect c.args.at; keeps = c.ret.ensures.keeps })
+returns-in-Ret c =
+    let p = c.ret.ensures in rw c.in-Ret.is (record { effect = p.effect c.args.at; keeps = p.keeps; high = p.high })
 
 pub returns-in-RetVoid : goal.returns-in-RetVoid
-returns-in-RetVoid c = rw c.in-RetVoid.is (record { effect = c.ret_void.ensures.effect c.args.at; keeps = c.ret_void.ensures.keeps })
+returns-in-RetVoid c =
+    let p = c.ret_void.ensures in rw c.in-RetVoid.is (record { effect = p.effect c.args.at; keeps = p.keeps; high = p.high })
 
 pub returns-in-Enter : goal.returns-in-Enter
-returns-in-Enter c = rw c.in-Enter.is (record { effect = c.enter.ensures.effect c.args.at; keeps = c.enter.ensures.keeps })
+returns-in-Enter c =
+    let p = c.enter.ensures in rw c.in-Enter.is (record { effect = p.effect c.args.at; keeps = p.keeps; high = p.high })
 
 pub returns-in-EnterField : goal.returns-in-EnterField
-returns-in-EnterField c = rw c.in-EnterField.is (record { effect = c.enter_field.ensures.effect c.args.at; keeps = c.enter_field.ensures.keeps })
+returns-in-EnterField c =
+    let p = c.enter_field.ensures in rw c.in-EnterField.is (record { effect = p.effect c.args.at; keeps = p.keeps; high = p.high })
 
 pub returns-in-Leave : goal.returns-in-Leave
-returns-in-Leave c = rw c.in-Leave.is (record { effect = c.leave.ensures.effect c.args.at; keeps = c.leave.ensures.keeps })
+returns-in-Leave c =
+    let p = c.leave.ensures in rw c.in-Leave.is (record { effect = p.effect c.args.at; keeps = p.keeps; high = p.high })
 
 pub returns-in-End : goal.returns-in-End
-returns-in-End c = rw c.in-End.is (record { effect = c.end.ensures.effect c.args.at; keeps = c.end.ensures.keeps })
+returns-in-End c =
+    let p = c.end.ensures in rw c.in-End.is (record { effect = p.effect c.args.at; keeps = p.keeps; high = p.high })
 
 pub returns-in-Print : goal.returns-in-Print
-returns-in-Print c = rw c.in-Print.is (record { effect = c.print.ensures.effect c.args.at; keeps = c.print.ensures.keeps })
+returns-in-Print c =
+    let p = c.print.ensures in rw c.in-Print.is (record { effect = p.effect c.args.at; keeps = p.keeps; high = p.high })
 
 pub returns-in-Pop : goal.returns-in-Pop
-returns-in-Pop c = rw c.in-Pop.is (record { effect = c.pop_top.ensures.effect c.args.at; keeps = c.pop_top.ensures.keeps })
+returns-in-Pop c =
+    let p = c.pop_top.ensures in rw c.in-Pop.is (record { effect = p.effect c.args.at; keeps = p.keeps; high = p.high })
 
 pub returns-in-Drop : goal.returns-in-Drop
-returns-in-Drop c = rw c.in-Drop.is (record { effect = c.drop_top.ensures.effect c.args.at; keeps = c.drop_top.ensures.keeps })
+returns-in-Drop c =
+    let p = c.drop_top.ensures in rw c.in-Drop.is (record { effect = p.effect c.args.at; keeps = p.keeps; high = p.high })

@@ -1,7 +1,7 @@
 use Rattle.std.proofs.Common.{◌≡◌, [], sym, subst, true}
 use Rattle.rg_stack.specs.Needs.{owned_once}
 use Rattle.rg_machine.specs.Parts.{Parts, machine_in}
-use Rattle.rg_machine.proofs.CollectingLemmas.{asks-leads, asks-temps, collected-gathers, collected-stands, none-lead}
+use Rattle.rg_machine.proofs.CollectingLemmas.{asks-leads, asks-temps, collected-gathers, collected-high, collected-stands, none-lead}
 use Rattle.rg_machine.proofs.machine.Machine.collect.Goals as goal
 
 pub collect-told-requires-clause-temps : goal.collect-told-requires-clause-temps
@@ -29,3 +29,11 @@ returns-clause-gathers g c =
     rw (← c.self.view_is)
     (collected-gathers x.heap c.collect-told.new.self x.frames x.at c.is_forest.ensures.serials c.is_forest.ensures.forest
     c.self.invariant.0 once _ c.collect-told.ensures.collects c.is_forest-2.ensures.forest x.stack.items x.printed)
+
+pub returns-clause-high : goal.returns-clause-high
+returns-clause-high g c =
+    let x = c.self.inside in
+    let once = subst (λ (p : Parts). owned_once (machine_in p) ≡ true) (sym c.self.view_is) c.requires.once in
+    rw (← c.self.view_is)
+    (collected-high x.heap c.collect-told.new.self x.frames x.at c.is_forest.ensures.serials c.is_forest.ensures.forest c.self.invariant.0
+    once _ c.collect-told.ensures.collects)

@@ -1,7 +1,7 @@
 use Rattle.std.proofs.Common.{◌≡◌, ◌-◌, ◌∙◌, suc, true, ap, subst, sym, arith}
 use Rattle.rg_stack.specs.Needs.{owned_once}
 use Rattle.rg_machine.specs.Effects.{AllLoose, ending}
-use Rattle.rg_machine.specs.Parts.{core_of, machine_in}
+use Rattle.rg_machine.specs.Parts.{Parts, core_of, machine_in}
 use Rattle.rg_machine.specs.contracts.machine.Machine.{the_view}
 use Rattle.rg_machine.proofs.TakeLemmas.{Ending, backs-ending, ending-final, ending-init, ending-live, ending-on, ending-there, stands-emptied}
 use Rattle.rg_machine.proofs.machine.Machine.end_from.Goals as goal
@@ -22,6 +22,7 @@ pub slots-preserved : goal.slots-preserved
 slots-preserved c =
     let is : c.slots.left ≡ suc (c.slots.left - 1) = omega (arith, c.slots-test.true) in
     ending-on _ _ c.drop_nth.new.self _ _ _ c.slots.invariant (omega (arith, c.slots-test.true)) is c.drop_nth.ensures.gone c.drop_nth.ensures.words
+    c.drop_nth.ensures.high
 
 pub invariant_of-self : goal.invariant_of-self
 invariant_of-self c =
@@ -47,3 +48,8 @@ returns-then-live-s-clause-ended c =
     subst (λ p. core_of p ≡ ending (core_of p) c.args.s) c.self.view_is
     (ending-live (the_view c.self.inside) c.is_forest.ensures.serials c.is_forest.ensures.forest c.self.invariant.0 c.live-live.result c.args.s
     c.live-live.ensures.nil c.if-live-s.true)
+
+pub returns-clause-high : goal.returns-clause-high
+returns-clause-high c =
+    let P : Parts → Type 0 = λ p. Ending c.args.self.now p c.args.s c.slots.left in
+    (subst P (sym c.self-2.view_is) c.slots.invariant).made

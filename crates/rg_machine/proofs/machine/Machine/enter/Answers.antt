@@ -25,6 +25,7 @@ use Rattle.rg_machine.specs.Parts.{Parts, core_of, machine_in}
 use Rattle.rg_machine.specs.Stands.{AllLead, Stands}
 use Rattle.rg_machine.proofs.EnterLemmas.{can-enter-slot, opens-within, stands-entered, all-still-lead, enter-effect, enter-nil, same-backs}
 use Rattle.rg_machine.proofs.EnterLemmas.{CanEnterSlot, entered_stack, slot-same}
+use Rattle.rg_machine.proofs.HighLemmas.{none-same}
 use Rattle.rg_machine.proofs.machine.Machine.enter.Goals as goal
 
 pub enter-requires-clause-region : goal.enter-requires-clause-region
@@ -169,4 +170,8 @@ returns-in-Nil c =
           c.self.view_is (enter-nil m.heap m.frames m.at c.self.invariant.0 c.args.s c.args.z m.stack.items m.printed at c.word-bridge.result
           (sym c.word-bridge.ensures) none opens go input);
       keeps = refl;
+      high = record { made = refl; high = refl };
     }
+
+pub returns-in-Ok-clause-high : goal.returns-in-Ok-clause-high
+returns-in-Ok-clause-high c = rw (← c.self.view_is) (none-same c.self.inside.heap c.enter.new.self c.enter.ensures.same)

@@ -26,6 +26,7 @@ use Rattle.rg_machine.specs.Parts.{Parts, core_of, machine_in}
 use Rattle.rg_machine.specs.Stands.{AllLead, Stands}
 use Rattle.rg_machine.proofs.EnterLemmas.{ParentBeneath, opens-within, stands-entered, all-still-lead, same-backs, Entered, entered_stack, slot-same}
 use Rattle.rg_machine.proofs.EnterFieldLemmas.{Holds, holds, field-entered, field-parent, front-lead, enter-field-effect, enter-field-nil}
+use Rattle.rg_machine.proofs.HighLemmas.{none-same}
 use Rattle.rg_machine.proofs.machine.Machine.enter_field.Goals as goal
 
 same-ok : (u w : Word) → ◌≡◌ {A = Result Word Trap} (Ok u) (Ok w) → u ≡ w
@@ -217,4 +218,8 @@ returns-in-Nil c =
           c.self.view_is (enter-field-nil m.heap m.frames m.at h c.is_forest.ensures.serials c.is_forest.ensures.forest c.in-Slot.holder
           c.args.index c.args.z u m.stack.items rest m.printed at x leads is none opens go input);
       keeps = ap machine_in c.self.view_is;
+      high = none-same c.args.self.now.heap m.heap (ap (λ (m : Parts). m.heap) c.self.view_is);
     }
+
+pub returns-in-Ok-enter-clause-high : goal.returns-in-Ok-enter-clause-high
+returns-in-Ok-enter-clause-high c = rw (← c.self.view_is) (none-same c.self.inside.heap c.enter.new.self c.enter.ensures.same)

@@ -5,12 +5,14 @@ use Rattle.rg_frames.specs.Layers.{layers}
 use Rattle.rg_held.specs.Frees.{free_act}
 use Rattle.rg_machine.specs.Core.{Has, work_of}
 use Rattle.rg_machine.specs.Effects.{ending}
+use Rattle.rg_machine.specs.High.{NoneMade}
 use Rattle.rg_machine.specs.Keeps.{backs}
 use Rattle.rg_machine.specs.Parts.{Parts, core_of, machine_in}
 use Rattle.rg_machine.specs.Stands.{Stands}
 use Rattle.rg_machine.proofs.LeaveBehindLemmas.{may-leave}
 use Rattle.rg_machine.proofs.LeaveWholeLemmas.{whole-stands, whole-effect}
 use Rattle.rg_machine.proofs.LeaveGivenLemmas.{once-behind, leave-words, none-lead, number-fits, backs-same, leave-alone}
+use Rattle.rg_machine.proofs.HighLemmas.{none-released, none-then}
 use Rattle.rg_machine.proofs.machine.Machine.leave.Goals as goal
 
 pub leave-requires-clause-temps : goal.leave-requires-clause-temps
@@ -93,3 +95,9 @@ returns-else-open_count-ge2-clause-effect c =
     ≡ go 0 (core_of x).stack (work_of (core_of x) input)) c.self-2.view_is
     (subst (λ (x : Parts). free_act empty at (i.Leave c.args.s) go (core_of x).stack (work_of (core_of x) input)
     ≡ go 0 (core_of mid).stack (work_of (core_of mid) input)) c.self.view_is (leave-alone p mid c.args.s e few at go input))
+
+pub returns-then-open_count-ge2-clause-high : goal.returns-then-open_count-ge2-clause-high
+returns-then-open_count-ge2-clause-high c =
+    let new = c.leave.new.self in
+    none-then c.args.self.now.heap c.end_from.new.self.heap new c.end_from.ensures.high
+    (subst (λ (x : Parts). NoneMade x.heap new) c.self-2.view_is (none-released c.self-2.inside.heap new _ _ c.leave.ensures.released))

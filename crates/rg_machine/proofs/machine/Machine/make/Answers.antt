@@ -11,6 +11,7 @@ use Rattle.rg_machine.specs.Stands.{AllLead, Stands}
 use Rattle.rg_machine.proofs.MadeLemmas.{nowhere}
 use Rattle.rg_machine.proofs.MakeLemmas.{Pushed, make-pushed}
 use Rattle.rg_machine.proofs.RefuseLemmas.{Refused, make-refused, on-err}
+use Rattle.rg_machine.proofs.HighLemmas.{one-active}
 use Rattle.rg_machine.proofs.machine.Machine.make.Goals as goal
 
 pub make-requires-clause-plain : goal.make-requires-clause-plain
@@ -62,3 +63,9 @@ returns-clause-ok c =
     core_of (made (c.self.inside.stack.items ++ Slot c.in_ok-slot.slot ∷ []))
     ≡ with_made (core_of m) c.args.class (map value_of_word c.args.words.now) (Region (top_region (windows_of m.heap.regions m.frames))) in
     ap (λ ws. core_of (made ws)) (items c) ∙ subst P c.self.view_is (pushed c).core
+
+pub returns-clause-high : goal.returns-clause-high
+returns-clause-high c =
+    rw (← c.self.view_is)
+    (one-active c.self.inside.heap c.make.new.self c.self.inside.frames c.self.invariant.0 c.in_ok-slot.slot c.args.class c.args.words.now
+    c.in_ok-slot.ensures.cell)

@@ -62,3 +62,6 @@ returns-clause-ok c =
     ≡ with_made (with_machine (core_of m) (record (machine_in m) { managers = (machine_in m).managers ++ c.args.manager ∷ [] })) c.args.class
     (map value_of_word c.args.words.now) (Region (length (machine_in m).managers)) in
     ap (λ ws. core_of (made ws)) (items c) ∙ subst P c.self.view_is (pushed c).core
+
+pub returns-clause-high : goal.returns-clause-high
+returns-clause-high c = let m = c.in_ok-slot.ensures.cell in rw (← c.self.view_is) (record { made = m.next; high = m.high })

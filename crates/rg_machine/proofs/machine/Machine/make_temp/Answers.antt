@@ -12,6 +12,7 @@ use Rattle.rg_machine.specs.Stands.{AllLead, Stands}
 use Rattle.rg_machine.proofs.MadeLemmas.{nowhere}
 use Rattle.rg_machine.proofs.MakeLemmas.{Pushed, temp-pushed}
 use Rattle.rg_machine.proofs.RefuseLemmas.{Refused, temp-refused, on-err}
+use Rattle.rg_machine.proofs.HighLemmas.{one-temp}
 use Rattle.rg_machine.proofs.machine.Machine.make_temp.Goals as goal
 
 pub make_tmp-requires-clause-plain : goal.make_tmp-requires-clause-plain
@@ -70,3 +71,9 @@ returns-clause-ok c =
     ≡ with_made (core_of m) c.args.class (map value_of_word c.args.words.now) (Temp (top_window (windows_of m.heap.regions m.frames))) in
     ap (λ (v : Stack). core_of (made v c.push_reserved.new.self.items)) c.in_ok-slot.ensures.temp
     ∙ (ap (λ ws. core_of (made v ws)) (items c) ∙ subst P c.self.view_is (pushed c).core)
+
+pub returns-clause-high : goal.returns-clause-high
+returns-clause-high c =
+    rw (← c.self.view_is)
+    (one-temp c.self.inside.heap c.make_tmp.new.self c.self.inside.frames c.self.invariant.0 c.in_ok-slot.slot c.args.class c.args.words.now
+    c.in_ok-slot.ensures.cell)

@@ -62,4 +62,8 @@ returns-in-Nil c =
     record {
       effect = λ at go input. no-object-acts _ _ c.self.view_is c.self.invariant.0 c.args.s _ c.word-w.ensures (no-slot _ c.in-Nil.is) _;
       keeps = refl;
+      high = record { made = refl; high = refl };
     }
+
+pub returns-in-Ok-merge-clause-high : goal.returns-in-Ok-merge-clause-high
+returns-in-Ok-merge-clause-high c = rw (← c.self.view_is) (record { made = (merges c).serials; high = (merges c).high })

@@ -4,6 +4,7 @@ use Rattle.rg_view.proofs.Callers.ReadLemmas.{field-within}
 use Rattle.rg_machine.specs.Parts.{Parts}
 use Rattle.rg_machine.specs.Stands.{Leads}
 use Rattle.rg_machine.proofs.FieldLemmas.{core-written, lead-written, put-region, puts, stands-written, topmost, written}
+use Rattle.rg_machine.proofs.HighLemmas.{none-written}
 use Rattle.rg_machine.proofs.machine.Machine.put.Goals as goal
 
 pub write-requires-clause-width : goal.write-requires-clause-width
@@ -51,4 +52,5 @@ returns c =
     rw (← c.self.view_is, c.in-Slot.is)
     (record {
       put = core-written y c.write.new.self s c.args.index c.args.w a.body a.there c.write.ensures.heap c.write.ensures.regions q;
+      high = none-written x.heap c.write.new.self s c.args.index c.args.w c.write.ensures.heap;
     })

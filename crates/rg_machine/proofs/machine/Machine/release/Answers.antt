@@ -5,6 +5,7 @@ use Rattle.rg_machine.specs.Effects.{without}
 use Rattle.rg_machine.specs.Parts.{Parts, core_of, machine_in, val_in}
 use Rattle.rg_machine.specs.contracts.machine.Machine.{the_view}
 use Rattle.rg_machine.proofs.DropLemmas.{Asked, may-release, stands-behind, lead-behind, core-behind, core-same, closed-none, filter-none}
+use Rattle.rg_machine.proofs.HighLemmas.{none-dropped}
 use Rattle.rg_machine.proofs.machine.Machine.release.Goals as goal
 
 pub drop_iso-requires : goal.drop_iso-requires
@@ -46,3 +47,9 @@ returns-else-owns-clause-gone c =
     let none = closed-none p c.args.w q g c.self.invariant.0 (λ l. false≢true (sym c.if-owns.false ∙ c.owns.ensures.only l)) in
     subst P c.self.view_is (core-same p q g c.self.invariant.0 (val_in p c.args.w ∷ [])
     (filter-none (closed_into (machine_in p)) (val_in p c.args.w) none))
+
+pub returns-then-owns-clause-high : goal.returns-then-owns-clause-high
+returns-then-owns-clause-high c =
+    rw (← c.self.view_is)
+    (none-dropped c.self.inside.heap c.drop_iso.new.self c.self.inside.frames c.args.w (c.owns.ensures.closed c.if-owns.true)
+    c.drop_iso.ensures.released)

@@ -1,5 +1,6 @@
 use Rattle.rg_frames.specs.Stack.{with_slot}
 use Rattle.rg_machine.proofs.SwapLemmas.{Swapped, lead-front, may-swap, swapped}
+use Rattle.rg_machine.proofs.HighLemmas.{none-written}
 use Rattle.rg_machine.proofs.machine.Machine.swap.Goals as goal
 
 pub swap-held-requires-clause-width : goal.swap-held-requires-clause-width
@@ -43,3 +44,8 @@ returns-in-Slot-clause-effect c = rw (c.set_word.ensures, ← c.self.view_is) (a
 
 pub returns-in-Slot-clause-keeps : goal.returns-in-Slot-clause-keeps
 returns-in-Slot-clause-keeps c = rw (c.set_word.ensures, ← c.self.view_is) (all c).backs
+
+pub returns-in-Slot-clause-high : goal.returns-in-Slot-clause-high
+returns-in-Slot-clause-high c =
+    rw (← c.self.view_is)
+    (none-written c.self.inside.heap c.swap-held.new.self c.in-Slot.slot c.args.index c.word-w.result c.swap-held.ensures.heap)

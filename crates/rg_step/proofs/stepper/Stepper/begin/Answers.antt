@@ -2,6 +2,7 @@ use Rattle.std.proofs.Common.{◌∙◌, ap}
 use Rattle.rg_machine.specs.Core.{Core}
 use Rattle.rg_machine.specs.Parts.{opening}
 use Rattle.rg_step.specs.Steps.{Stepping}
+use Rattle.rg_step.proofs.LeapLemmas.{bare-resting}
 use Rattle.rg_step.proofs.stepper.Stepper.begin.Goals as goal
 
 pub returns-clause-begun : goal.returns-clause-begun
@@ -11,3 +12,8 @@ returns-clause-begun c =
       ap (λ (k : Core). k.machine) c.in_ok-machine.ensures ∙ ap (λ n. opening n c.args.manager) c.main_slots.ensures,
       ap (λ (n : Stepping). record n { parts = p }) (c.self.view_is ∙ c.requires),
     )
+
+pub invariant_of-self : goal.invariant_of-self
+invariant_of-self c =
+    let p = c.in_ok-machine.machine in
+    bare-resting p p.at (ap (λ (k : Core). k.stack) c.in_ok-machine.ensures, ap (λ (k : Core). k.printed) c.in_ok-machine.ensures)

@@ -1,0 +1,297 @@
+-- Instructions and walks of the machine that frees: what had a label when the step began has it still, has moved, or is gone.
+use Rattle.std.proofs.Common.{◌≡◌, ◌≢◌, ℕ, zero, suc, ◌+◌, ◌<◌, true, false, not, true≢false, Bool as Truth, if◌then◌else◌}
+use Rattle.std.proofs.Common.{List, [], ◌∷◌, ◌++◌, length, Option, Some, None, Result, Ok, Err, refl, sym, ap, subst, ◌∙◌, arith, slice_get}
+use Rattle.std.specs.Prelude.{nat_lt, slice_index_or, unwrap_or, ◌||◌}
+use Rattle.std.specs.List.{list_any}
+use Rattle.std.proofs.lemmas.List.FromFn.{length-map-range_with_len}
+use Rattle.rg_base.specs.Input.{NextNumber, found, malformed, at_end, next_number}
+use Rattle.rg_base.specs.declared.limits.TheConstants.{FRAMES}
+use Rattle.rg_base.specs.declared.object.Label.{Label}
+use Rattle.rg_base.specs.declared.object.Label.TheVariants.{Region, Temp, Frozen}
+use Rattle.rg_base.specs.declared.object.Place.{Place}
+use Rattle.rg_base.specs.declared.object.Seen.{Seen}
+use Rattle.rg_base.specs.declared.outcome.Trap.{Trap}
+use Rattle.rg_base.specs.declared.outcome.Trap.TheVariants as trap
+use Rattle.rg_base.specs.declared.value.Val.{Val}
+use Rattle.rg_base.specs.declared.value.Val.TheVariants as val
+use Rattle.rg_base.specs.declared.words.Manager.{Manager}
+use Rattle.rg_base.specs.declared.words.Manager.TheVariants.{Arena}
+use Rattle.rg_tree.specs.declared.rows.BinOp.{BinOp}
+use Rattle.rg_tree.specs.declared.rows.BinOp.TheVariants as op
+use Rattle.rg_rules.specs.Evaluation.{object_at}
+use Rattle.rg_rules.specs.Regions.{region_of}
+use Rattle.rg_rules.specs.Values.{Computed, as_bool, operate}
+use Rattle.rg_code.specs.declared.code.Entry.{Entry}
+use Rattle.rg_code.specs.declared.op.Op.{Op}
+use Rattle.rg_code.specs.declared.op.Op.TheVariants as i
+use Rattle.rg_code.specs.Code.{Code}
+use Rattle.rg_stack.specs.Machine.{Frame, Window, Machine, top_slots, slot_at, place_of, slots_below}
+use Rattle.rg_stack.specs.Effects.{Work, Walked, Stops, Returns, Traps, Stuck, Go, on_top, on_two, pushed, next_taken, opens_at, begins_by}
+use Rattle.rg_stack.specs.Effects.{called, returned, entered, relabel, without_top, top_region, with_store, put_in, stored}
+use Rattle.rg_stack.specs.Needs.{is_open, needs}
+use Rattle.rg_held.specs.Frees.{Given, given_up, regions_freed, window_that_ends, left_with, bury, freed, forgotten, lives, free_act}
+use Rattle.rg_held.specs.Part.{SomeWindow}
+use Rattle.rg_held.proofs.Places.{other-number, number-same}
+use Rattle.rg_held.proofs.Lists.{some-is, none-some, push-length}
+use Rattle.rg_held.proofs.Tested.{tested_walk}
+use Rattle.rg_held.proofs.Burials.{same-region}
+use Rattle.rg_held.proofs.Freed.Changes.{MayTake, region-not}
+use Rattle.rg_held.proofs.Freed.Windows.{numbered-more, number-new, opened-on, without-on, without-shut, without-some, without-numbered}
+use Rattle.rg_held.proofs.Freed.Windows.{that-ends, left-temps}
+use Rattle.rg_held.proofs.Freed.Fates.{IsGiven, Since, since-put, since-made, since-moved, since-windows, since-buried}
+use Rattle.rg_held.proofs.Freed.Shut.{AllShut, all-shut, object-there, region_in, ended_with, shut}
+
+temp-apart : (n r : ℕ) → Temp n ≢ Region r
+temp-apart n r e = region-not r n (sym e)
+
+frozen-apart : (r : ℕ) → Frozen ≢ Region r
+frozen-apart r e = true≢false (ap (λ (l : Label). elim l [ Region q ↦ false | Temp k ↦ false | Frozen ↦ true ]) e)
+
+-- the active region is open
+top-apart : (ws : List Window) → SomeWindow ws → (r : ℕ) → is_open ws r ≡ false → Region (top_region ws) ≢ Region r
+top-apart [] some r closed e = some
+top-apart (w ∷ ws) some r closed e =
+    let same = number-same w.region r (same-region w.region r e) in
+    true≢false (sym (ap (λ b. b || is_open ws r) same) ∙ closed)
+
+region-label : (l : Label) (r : ℕ) → region_of l ≡ Some r → l ≡ Region r
+region-label (Region q) r e = ap Region (some-is q r e)
+region-label (Temp n) r e = none-some r e
+region-label Frozen r e = none-some r e
+
+module _ (old : List Seen) (was : Label) where
+  -- how what a step works on stands to the store of its beginning
+  abbrev pub Now : Work → Type 0
+  Now w = Since old was w.machine.store w.machine.windows w.machine.windows_made (length w.machine.managers)
+
+  -- the same of where a walk ends
+  abbrev pub Ending : Walked → Type 0
+  Ending (Stops at w) = Now w
+  Ending (Returns back stack w) = Now w
+  Ending (Traps t) = Unit {0}
+  Ending Stuck = Unit {0}
+
+  -- and of how it goes on
+  abbrev Onward : Go → Type 0
+  Onward go = (skip : ℕ) (stack : List Val) (w : Work) → Now w → Ending (go skip stack w)
+
+  on-top : (stack : List Val) (go : Val → List Val → Walked) → ((v : Val) (rest : List Val) → Ending (go v rest)) → Ending (on_top stack go)
+  on-top [] go h = tt
+  on-top (v ∷ rest) go h = h v rest
+
+  on-object : (r : Result Seen Trap) (go : Seen → Walked) → ((o : Seen) → r ≡ Ok o → Ending (go o))
+      → Ending (elim r [ Ok o ↦ go o | Err t ↦ Traps t ])
+  on-object (Ok o) go h = h o refl
+  on-object (Err t) go h = tt
+
+  on-test : (t : Truth) (a b : Walked) → Ending a → Ending b → Ending (if t then a else b)
+  on-test true a b h k = h
+  on-test false a b h k = k
+
+  on-pushed : (c : Computed) (go : Go) (stack : List Val) (w : Work) → Onward go → Now w → Ending (pushed c go stack w)
+  on-pushed (Ok v) go stack w h now = h 0 (v ∷ stack) w now
+  on-pushed (Err t) go stack w h now = tt
+
+  on-two : (o : BinOp) (go : Go) (stack : List Val) (w : Work) → Onward go → Now w → Ending (on_two o go stack w)
+  on-two o go [] w h now = tt
+  on-two o go (y ∷ []) w h now = tt
+  on-two o go (y ∷ x ∷ stack) w h now = on-pushed (operate o x y) go stack w h now
+
+  on-number : (n : NextNumber) (go : Go) (stack : List Val) (w : Work) → Onward go → Now w → Ending (next_taken n go stack w)
+  on-number (found z rest) go stack w h now = h 0 _ _ now
+  on-number malformed go stack w h now = tt
+  on-number at_end go stack w h now = tt
+
+  on-opened : (m : Machine) (z : ℕ) (a : Walked) → Ending a → Ending (opens_at m z a)
+  on-opened m z a h =
+      let inner = begins_by m.windows (place_of m.frames z) in
+      on-test (nat_lt z (length (top_slots m.frames))) (if inner then a else Stuck) Stuck (on-test inner a Stuck h tt) tt
+
+  on-called : (at : ℕ) (e : Option Entry) (stack : List Val) (w : Work) → Now w → Ending (called at e stack w)
+  on-called at None stack w now = tt
+  on-called at (Some e) stack w now = now
+
+  on-returned : (w : Work) (fs : List Frame) (stack : List Val) → Now w → Ending (returned w fs stack)
+  on-returned w [] stack now = tt
+  on-returned w (f ∷ []) stack now = tt
+  on-returned w (f ∷ g ∷ fs) stack now = on-test (begins_by w.machine.windows (slots_below (g ∷ fs))) _ Stuck now tt
+
+  now-entered : (w : Work) (owner : Place) (bridge : Val) (z : ℕ) (v : Val) (o : Seen) → object_at w.machine.store v ≡ Ok o → Now w
+      → Now (entered w owner bridge z (region_of o.label))
+  now-entered w owner bridge z v o there now = by (region_of o.label) refl
+    where
+      ws : List Window
+      ws = w.machine.windows
+
+      made : ℕ
+      made = w.machine.windows_made
+
+      by : (r : Option ℕ) → region_of o.label ≡ r → Now (entered w owner bridge z r)
+      by None e = now
+      by (Some q) e =
+          let opened : Window = record { number = made; region = q; owner = Some owner; base = place_of w.machine.frames z } in
+          let less : made < made + 1 = omega arith in
+          let at = object-there w.machine.store v o there in
+          since-windows old was w.machine.store ws (opened ∷ ws) made (made + 1) (length w.machine.managers)
+          (λ r closed none.
+          ap (λ b. b || is_open ws r) (other-number q r (λ same. none at.0 o at.2 (region-label o.label q e ∙ ap Region same))) ∙ closed)
+          (opened-on ws made opened refl) tt (less, number-new ws made now.numbers, numbered-more ws made now.numbers) now
+
+  now-made : (w : Work) (o : Seen) → ((r : ℕ) → is_open w.machine.windows r ≡ false → o.label ≢ Region r) → Now w
+      → Now (with_store w (w.machine.store ++ o ∷ []))
+  now-made w o apart now = since-made old was w.machine.store w.machine.windows w.machine.windows_made (length w.machine.managers)
+      (length w.machine.managers) o (λ r is closed. apart r closed) now.given now
+
+  -- a new region
+  now-region : (w : Work) (m : Manager) (o : Seen) → o.label ≡ Region (length w.machine.managers) → Now w
+      → Since old was (w.machine.store ++ o ∷ []) w.machine.windows w.machine.windows_made (length (w.machine.managers ++ m ∷ []))
+  now-region w m o new now = subst (Since old was (w.machine.store ++ o ∷ []) w.machine.windows w.machine.windows_made)
+      (sym (push-length w.machine.managers m))
+      (since-made old was w.machine.store w.machine.windows w.machine.windows_made (length w.machine.managers) (length w.machine.managers + 1) o
+      (λ r is closed e. other r (subst (IsGiven (length w.machine.managers)) is now.given) (same-region (length w.machine.managers) r (sym new ∙ e)))
+      (more was now.given) now)
+    where
+      other : (r : ℕ) → r < length w.machine.managers → length w.machine.managers ≡ r → ⊥
+      other r less same = omega (arith, less, same)
+
+      more : (l : Label) → IsGiven (length w.machine.managers) l → IsGiven (length w.machine.managers + 1) l
+      more (Region r) h = omega (arith, h)
+      more (Temp n) h = tt
+      more Frozen h = tt
+
+  since-moves : (all : Truth) (label : Label) (w : Work) (r : Option ℕ) → MayTake label
+      → ((q : ℕ) → is_open w.machine.windows q ≡ false → label ≢ Region q) → AllShut w.machine.windows (ended_with all w.machine r) → Now w
+      → Now (with_store w (relabel all label w r))
+  since-moves all label w None may apart closed now = now
+  since-moves true label w (Some r) may apart closed now =
+      since-moved old was (ended_with true w.machine (Some r)) label w.machine.store w.machine.windows w.machine.windows_made
+      (length w.machine.managers) may apart closed now
+  since-moves false label w (Some r) may apart closed now =
+      since-moved old was (ended_with false w.machine (Some r)) label w.machine.store w.machine.windows w.machine.windows_made
+      (length w.machine.managers) may apart closed now
+
+  -- the region of what a slot leads to ends, and its objects get a label
+  now-moves : (all : Truth) (label : Label) (s : ℕ) (w : Work) (o : Seen) → object_at w.machine.store (slot_at w.machine s) ≡ Ok o
+      → MayTake label → ((q : ℕ) → is_open w.machine.windows q ≡ false → label ≢ Region q)
+      → not (list_any (is_open w.machine.windows) (ended_with all w.machine (region_in w.machine s))) ≡ true → Now w
+      → Now (with_store w (relabel all label w (region_of o.label)))
+  now-moves all label s w o at may apart t now = since-moves all label w (region_of o.label) may apart
+      (subst (λ r. AllShut w.machine.windows (ended_with all w.machine r))
+      (ap (λ (x : Result Seen Trap). elim x [ Ok u ↦ region_of u.label | Err e ↦ None ]) at)
+      (all-shut w.machine.windows (ended_with all w.machine (region_in w.machine s)) t)) now
+
+  -- as many managers are there where those of regions that don't live any more are forgotten
+  forgotten-length : (w : Work) → length (forgotten w).machine.managers ≡ length w.machine.managers
+  forgotten-length w = length-map-range_with_len
+      (λ r. if lives w.machine r then slice_index_or w.machine.managers r Arena else Arena) 0 (length w.machine.managers)
+
+  now-forgotten : (w : Work) → Now w → Now (forgotten w)
+  now-forgotten w now = subst (Since old was w.machine.store w.machine.windows w.machine.windows_made) (sym (forgotten-length w)) now
+
+  -- what is given up, where no window ends with it
+  now-freed : (w : Work) (g : Given) → g.temps ≡ None → not (list_any (is_open w.machine.windows) (regions_freed w.machine g)) ≡ true → Now w
+      → Now (freed (Some g) w)
+  now-freed w g none t now =
+      let ws = w.machine.windows in
+      let rs = regions_freed w.machine g in
+      now-forgotten (with_store w (bury rs g.temps w.machine.store))
+      (since-buried old was rs g.temps w.machine.store ws ws w.machine.windows_made (length w.machine.managers) (λ r closed. closed)
+      (λ n ended less. (ended, less)) now.some_window now.numbers (all-shut ws rs t) (λ n e. none-some n (sym none ∙ e)) now)
+
+  -- what is given up with the topmost window
+  now-ended : (w : Work) (s : ℕ)
+      → not (list_any (is_open w.machine.windows) (regions_freed w.machine (left_with w.machine s (window_that_ends w.machine.windows)))) ≡ true
+      → Now w → let x = freed (Some (left_with w.machine s (window_that_ends w.machine.windows))) w in
+      Since old was x.machine.store (without_top w.machine.windows) w.machine.windows_made (length x.machine.managers)
+  now-ended w s t now =
+      let ws = w.machine.windows in
+      let made = w.machine.windows_made in
+      let g = left_with w.machine s (window_that_ends ws) in
+      let rs = regions_freed w.machine g in
+      let store = bury rs g.temps w.machine.store in
+      subst (Since old was store (without_top ws) made) (sym (forgotten-length (with_store w store)))
+      (since-buried old was rs g.temps w.machine.store ws (without_top ws) made (length w.machine.managers) (without-shut ws) (without-on ws made)
+      (without-some ws now.some_window) (without-numbered ws made now.numbers) (all-shut ws rs t)
+      (λ n e. that-ends ws made now.numbers n (sym (left-temps w.machine s (window_that_ends ws)) ∙ e)) now)
+
+  now-put : (w : Work) (r : Val) (k : ℕ) (v : Val) → Now w → Now (with_store w (put_in w.machine.store r k v))
+  now-put w r k v now =
+      since-put old was w.machine.store w.machine.windows w.machine.windows_made (length w.machine.managers) r k v now
+
+  module _ (code : Code) where
+    on-act : (at : ℕ) (o : Op) (go : Go) (stack : List Val) (w : Work) → Onward go → shut o stack w.machine ≡ true → Now w
+        → Ending (free_act code at o go stack w)
+    on-act at (i.Mark line) go stack w h t now = now
+    on-act at (i.Int z) go stack w h t now = h 0 _ _ now
+    on-act at (i.Bool b) go stack w h t now = h 0 _ _ now
+    on-act at i.Nil go stack w h t now = h 0 _ _ now
+    on-act at (i.Load s) go stack w h t now = h 0 _ _ now
+    on-act at (i.Clear s) go stack w h t now = h 0 _ _ now
+    on-act at (i.Store s) go stack w h t now = on-top stack _ (λ v rest. h 0 _ _ now)
+    on-act at (i.Own s) go stack w h t now = on-top stack _ (λ v rest. h 0 _ _ (now-freed w _ refl t now))
+    on-act at (i.Field k) go stack w h t now = on-top stack _ (λ v rest. on-object (object_at w.machine.store v) _ (λ o e. h 0 _ _ now))
+    on-act at i.IsNil go stack w h t now = on-top stack _ (λ v rest. h 0 _ _ now)
+    on-act at i.Neg go stack w h t now = on-top stack _ (λ v rest. on-pushed _ go rest w h now)
+    on-act at i.Add go stack w h t now = on-two op.Add go stack w h now
+    on-act at i.Sub go stack w h t now = on-two op.Sub go stack w h now
+    on-act at i.Mul go stack w h t now = on-two op.Mul go stack w h now
+    on-act at i.Div go stack w h t now = on-two op.Div go stack w h now
+    on-act at i.Rem go stack w h t now = on-two op.Rem go stack w h now
+    on-act at i.Eq go stack w h t now = on-two op.Eq go stack w h now
+    on-act at i.Ne go stack w h t now = on-two op.Ne go stack w h now
+    on-act at i.Lt go stack w h t now = on-two op.Lt go stack w h now
+    on-act at i.Le go stack w h t now = on-two op.Le go stack w h now
+    on-act at i.Gt go stack w h t now = on-two op.Gt go stack w h now
+    on-act at i.Ge go stack w h t now = on-two op.Ge go stack w h now
+    on-act at i.Not go stack w h t now = on-top stack _ (λ v rest. h 0 _ _ now)
+    on-act at (i.Jump to) go stack w h t now = now
+    on-act at (i.JumpFalse to) go stack w h t now = on-top stack _ (λ v rest. on-test (as_bool v) _ _ (h 0 _ _ now) (h _ _ _ now))
+    on-act at (i.And to) go stack w h t now = on-top stack _ (λ v rest. on-test (as_bool v) _ _ (h 0 _ _ now) (h _ _ _ now))
+    on-act at (i.Or to) go stack w h t now = on-top stack _ (λ v rest. on-test (as_bool v) _ _ (h _ _ _ now) (h 0 _ _ now))
+    on-act at i.Check go stack w h t now = on-top stack _ (λ v rest. on-object (object_at w.machine.store v) _ (λ o e. h 0 _ _ now))
+    on-act at (i.New c) go stack w h t now = h 0 _ _ (now-made w _ (top-apart w.machine.windows now.some_window) now)
+    on-act at (i.NewTmp c) go stack w h t now = h 0 _ _ (now-made w _ (λ r closed. temp-apart _ r) now)
+    on-act at (i.NewIso c m) go stack w h t now = h 0 _ _ (now-region w m _ refl now)
+    on-act at i.Pace go stack w h t now = h 0 _ _ now
+    on-act at (i.Put k) go stack w h t now = on-top stack _ (λ v rest. on-top rest _ (λ r under. h 0 _ _ (now-put w r k v now)))
+    on-act at (i.Swap s k) go stack w h t now = on-top stack _ (λ r rest. on-object (object_at w.machine.store r) _
+        (λ o e. h 0 _ _ (now-put w r k (slot_at w.machine s) now)))
+    on-act at (i.Freeze s) go stack w h t now = on-object (object_at w.machine.store (slot_at w.machine s)) _
+        (λ o e. h 0 _ _ (now-forgotten (stored (with_store w (relabel true Frozen w (region_of o.label))) s val.Nil)
+        (now-moves true Frozen s w o e tt (λ q closed. frozen-apart q) t now)))
+    on-act at (i.Merge s) go stack w h t now = on-object (object_at w.machine.store (slot_at w.machine s)) _
+        (λ o e. (let label = Region (top_region w.machine.windows) in
+        h 0 _ _ (now-forgotten (stored (with_store w (relabel false label w (region_of o.label))) s val.Nil)
+        (now-moves false label s w o e tt (top-apart w.machine.windows now.some_window) t now))))
+    on-act at i.Read go stack w h t now = on-number (next_number w.input) go stack w h now
+    on-act at i.More go stack w h t now = h 0 _ _ now
+    on-act at i.Room go stack w h t now = on-test (nat_lt (length w.machine.frames) FRAMES) _ (Traps trap.Depth) (h 0 stack w now) tt
+    on-act at (i.Call m) go stack w h t now = on-called at (slice_get code.entries m) stack w now
+    on-act at i.Ret go stack w h t now = on-top stack _ (λ v rest.
+        on-returned (freed (given_up i.Ret stack w.machine) w) w.machine.frames (v ∷ []) (now-freed w _ refl t now))
+    on-act at i.RetVoid go stack w h t now =
+        on-returned (freed (given_up i.RetVoid stack w.machine) w) w.machine.frames [] (now-freed w _ refl t now)
+    on-act at (i.Enter s z) go stack w h t now = on-opened w.machine z _ (on-object (object_at w.machine.store (slot_at w.machine s)) _
+        (λ o e. h 0 _ _ (now-entered w _ _ z (slot_at w.machine s) o e now)))
+    on-act at (i.EnterField k z) go stack w h t now = on-opened w.machine z _ (on-top stack _ (λ r rest.
+        on-object (object_at w.machine.store r) _ (λ o e.
+        on-object (object_at w.machine.store (unwrap_or (slice_get o.fields k) val.Nil)) _ (λ b is.
+        h 0 _ _ (now-entered w _ _ z (unwrap_or (slice_get o.fields k) val.Nil) b is now)))))
+    on-act at (i.Leave s) go stack w h t now = h 0 _ _ (now-ended w s t now)
+    on-act at (i.End s) go stack w h t now = h 0 _ _ (now-freed w _ refl t now)
+    on-act at i.Print go stack w h t now = on-top stack _ (λ v rest. h 0 _ _ now)
+    on-act at i.Collect go stack w h t now = h 0 _ _ now
+    on-act at i.Pop go stack w h t now = on-top stack _ (λ v rest. h 0 _ _ (now-freed w _ refl t now))
+    on-act at i.Drop go stack w h t now = on-top stack _ (λ v rest. h 0 _ _ (now-freed w _ refl t now))
+    on-act at i.Halt go stack w h t now = now
+
+    on-shut : (n : Truth) (t : Truth) (x : Walked) → (t ≡ true → Ending x) → Ending (if n then (if t then x else Stuck) else Stuck)
+    on-shut true true x h = h refl
+    on-shut true false x h = tt
+    on-shut false t x h = tt
+
+    pub on-walk : (os : List Op) (at : ℕ) → Onward (tested_walk shut code os at)
+    on-walk [] at skip stack w now = tt
+    on-walk (o ∷ os) at zero stack w now = on-shut (needs code o stack w.machine) (shut o stack w.machine) _
+        (λ t. on-act at o (tested_walk shut code os (at + 1)) stack w (on-walk os (at + 1)) t now)
+    on-walk (o ∷ os) at (suc k) stack w now = on-walk os (at + 1) k stack w now

@@ -1,0 +1,5 @@
+use Rattle.rg_held.proofs.Callers.FreedLemmas.{steps-free}
+use Rattle.rg_held.proofs.laws.steps_free.Goals as goal
+
+pub returns : goal.returns
+returns c = steps-free

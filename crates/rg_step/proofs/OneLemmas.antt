@@ -1,0 +1,122 @@
+-- What a step did, in one record, by how it ended.
+use Rattle.std.proofs.Common.{◌≡◌, ◌≤◌, ◌-◌, ◌^◌, ℕ, true, false, true≢false, List, ◌++◌, Some, None, refl, sym, ap, ◌∙◌, subst}
+use Rattle.rg_base.specs.declared.event.Cause.{Cause}
+use Rattle.rg_base.specs.declared.event.Event.{Event}
+use Rattle.rg_base.specs.declared.outcome.Outcome.{Outcome}
+use Rattle.rg_base.specs.declared.outcome.Outcome.TheVariants as outcome
+use Rattle.rg_cells.specs.Table.{Serials}
+use Rattle.rg_code.specs.Code.{Code}
+use Rattle.rg_regions.specs.Grove.{Grove}
+use Rattle.rg_stack.specs.Dues.{due_at}
+use Rattle.rg_machine.specs.High.{NoneMade}
+use Rattle.rg_machine.specs.Parts.{Parts, machine_in}
+use Rattle.rg_machine.specs.Stands.{Stands}
+use Rattle.rg_step.specs.Collections.{IsRefused, Serves}
+use Rattle.rg_step.specs.States.{OneStep, Raises, Standing}
+use Rattle.rg_step.specs.Steps.{Counts, IsRunning, StepsOn, counted, is_made}
+use Rattle.rg_step.proofs.AskedLemmas.{asks-refused, asks-served, asks-undue}
+use Rattle.rg_step.proofs.HighLemmas.{raises-none}
+use Rattle.rg_step.proofs.ReachedLemmas.{none-reached, serves-reached}
+use Rattle.rg_step.proofs.ServeLemmas.{serves-none, serves-refused, serves-shows, serves-some, steps-nowhere}
+use Rattle.rg_step.proofs.SinceLemmas.{since-refused, since-served, since-undue}
+use Rattle.rg_step.proofs.WriteLemmas.{steps-write}
+use Rattle.rg_step.proofs.YesLemmas.{no-yes, yeses-served}
+
+-- Counts
+
+pub counts-refused : (old new : ℕ) (result : Outcome) → is_made result ≡ false → new ≡ old → Counts old new result
+counts-refused old new outcome.Running refused same = absurd (true≢false refused)
+counts-refused old new (outcome.Printed v) refused same = absurd (true≢false refused)
+counts-refused old new outcome.Done refused same = absurd (true≢false refused)
+counts-refused old new (outcome.Trap kind line) refused same = same
+counts-refused old new outcome.InputFault refused same = same
+counts-refused old new outcome.Memory refused same = same
+
+pub counts-made : (old new : ℕ) (result : Outcome) → is_made result ≡ true → new ≡ counted old → Counts old new result
+counts-made old new outcome.Running made more = more
+counts-made old new (outcome.Printed v) made more = more
+counts-made old new outcome.Done made more = more
+counts-made old new (outcome.Trap kind line) made more = absurd (true≢false (sym made))
+counts-made old new outcome.InputFault made more = absurd (true≢false (sym made))
+counts-made old new outcome.Memory made more = absurd (true≢false (sym made))
+
+-- Steps
+
+module _ (code : Code) (old new : Standing) (runs : IsRunning code (machine_in old.stepper.parts)) (result : Outcome)
+    (high : Raises result old.stepper.parts new.stepper.parts) where
+  -- it was refused
+  pub one-refused : is_made result ≡ false → IsRefused old.stepper new.stepper old.pacers new.pacers
+      → new.stepper.steps ≡ old.stepper.steps → (before after : List ℕ)
+      → StepsOn code (machine_in old.stepper.parts) (machine_in new.stepper.parts) result before after → OneStep code old new result before after
+  one-refused none refused same before after steps = record {
+    shows = steps;
+    serves = (new.stepper.parts, steps, serves-refused _ _ _ _ _ _ result none refused);
+    reaches = λ t p q r e went. none-reached _ _ q refused.events_are;
+    asked = asks-refused code (machine_in old.stepper.parts) result _ _ none refused.unasked.pacers;
+    yeses =
+        let y = no-yes _ _ _ _ refused.events_are refused.unasked.pacers in
+        (y.0, y.1, y.2, since-refused code (machine_in old.stepper.parts) result y.0 _ _ none refused.unasked.since);
+    writes = steps-write code _ _ result before after runs steps;
+    high = high;
+    counts = counts-refused old.stepper.steps new.stepper.steps result none same;
+  }
+
+  -- it was made, and nothing was due
+  pub one-undue : is_made result ≡ true → due_at code.ops old.stepper.parts.at ≡ None
+      → IsRefused old.stepper new.stepper old.pacers new.pacers → new.stepper.steps ≡ counted old.stepper.steps → (before after : List ℕ)
+      → StepsOn code (machine_in old.stepper.parts) (machine_in new.stepper.parts) result before after → OneStep code old new result before after
+  one-undue made none left more before after steps = record {
+    shows = steps;
+    serves = (
+      new.stepper.parts,
+      steps,
+      serves-none _ _ _ _ _ _ result made none (record { parts = refl; events_are = left.events_are }) left.unasked,
+    );
+    reaches = λ t p q r e went. none-reached _ _ q left.events_are;
+    asked = asks-undue code (machine_in old.stepper.parts) result _ _ made none left.unasked.pacers;
+    yeses =
+        let y = no-yes _ _ _ _ left.events_are left.unasked.pacers in
+        (y.0, y.1, y.2, since-undue code (machine_in old.stepper.parts) result y.0 _ _ made none left.unasked.since);
+    writes = steps-write code _ _ result before after runs steps;
+    high = high;
+    counts = counts-made old.stepper.steps new.stepper.steps result made more;
+  }
+
+-- nothing was done
+pub one-nothing : (code : Code) (old new : Standing) → IsRunning code (machine_in old.stepper.parts) → new.stepper.parts ≡ old.stepper.parts
+    → IsRefused old.stepper new.stepper old.pacers new.pacers → new.stepper.steps ≡ old.stepper.steps → (bytes : List ℕ)
+    → OneStep code old new outcome.Memory bytes bytes
+one-nothing code old new runs there refused same bytes =
+    one-refused code old new runs outcome.Memory tt refl refused same bytes bytes
+    (subst (λ (p : Parts). StepsOn code (machine_in old.stepper.parts) (machine_in p) outcome.Memory bytes bytes) (sym there)
+    (steps-nowhere code (machine_in old.stepper.parts) bytes))
+
+-- It was made, and what was due was done: behind its instructions, which left `mid`, where these events had been told.
+module _ (code : Code) (old : Standing) (mid : Parts) (new : Standing) (runs : IsRunning code (machine_in old.stepper.parts))
+    (stands : Stands mid.heap mid.frames) (serials : Serials mid.heap.cells.heap) (windows : mid.frames.next ≤ 2 ^ 64 - 1)
+    (grove : Grove mid.heap.cells mid.heap.regions) (grown : Grove new.stepper.parts.heap.cells new.stepper.parts.heap.regions)
+    (why : Cause) (due : due_at code.ops old.stepper.parts.at ≡ Some why)
+    (events : List Event) (told : events ≡ old.stepper.events)
+    (serves : Serves (Some why) (record old.stepper { events = events }) mid new.stepper old.pacers new.pacers)
+    (none : NoneMade mid.heap new.stepper.parts.heap) where
+  pub one-served : (result : Outcome) → Raises result old.stepper.parts mid → is_made result ≡ true
+      → new.stepper.steps ≡ counted old.stepper.steps → (before after : List ℕ)
+      → StepsOn code (machine_in old.stepper.parts) (machine_in mid) result before after → OneStep code old new result before after
+  one-served result high made more before after steps =
+      let m = machine_in old.stepper.parts in
+      let behind = record old.stepper { events = events } in
+      let shows = serves-shows code m result made why behind mid new.stepper _ _ serves stands serials windows before after steps in
+      record {
+        shows = shows;
+        serves = (mid, steps, serves-some _ why old.stepper events mid new.stepper _ _ result made due told serves);
+        reaches = serves-reached code why behind mid new.stepper _ _ result made serves stands serials windows grove grown m old.stepper.events
+            (sym told) before after steps;
+        asked = asks-served code m (Some why) behind mid new.stepper _ _ result before after made due serves stands steps;
+        yeses =
+            let y = yeses-served (Some why) behind mid new.stepper _ _ stands serves old.stepper.events told in
+            let since = since-served code m why behind mid new.stepper _ _ result before after made due serves stands steps in
+            (y.0, y.1, y.2, since y.0 (y.1 ∙ ap (λ es. es ++ y.0) (sym told)));
+        writes = steps-write code _ _ result before after runs shows;
+        high = raises-none result old.stepper.parts mid new.stepper.parts high none;
+        counts = counts-made old.stepper.steps new.stepper.steps result made more;
+      }

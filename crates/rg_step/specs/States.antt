@@ -1,0 +1,59 @@
+-- A step as a whole, and the states of a run of steps (docs/architecture.md, "The stepper").
+use Rattle.std.specs.Prelude.{◌≡◌, ◌⊎◌, ℕ, zero, suc, true, List, ◌++◌}
+use Rattle.rg_base.specs.declared.event.Event.{Event}
+use Rattle.rg_base.specs.declared.outcome.Outcome.{Outcome}
+use Rattle.rg_base.specs.declared.outcome.Outcome.TheVariants as outcome
+use Rattle.rg_code.specs.Code.{Code}
+use Rattle.rg_stack.specs.Dues.{due_at}
+use Rattle.rg_machine.specs.High.{NoneMade, OneMade}
+use Rattle.rg_machine.specs.Parts.{Parts, machine_in}
+use Rattle.rg_step.specs.Asking.{AsksOn, SinceOn, YesesTold}
+use Rattle.rg_step.specs.Collections.{Asks, ReachesOn, ServesBy}
+use Rattle.rg_step.specs.Steps.{Counts, Stepping, StepsOn, is_made}
+use Rattle.rg_step.specs.Writes.{WritesOnly}
+
+-- what a stepper holds between two steps, and what the two pacers tell
+pub record Standing : Type 0 where
+  pub stepper : Stepping
+  pub pacers : Asks
+
+-- one slot more was ever held exactly where an object was made while all that ever were held an object; a want of memory says nothing
+abbrev pub Raises : Outcome → (old new : Parts) → Type 0
+Raises outcome.Memory old new = Unit {0}
+Raises result old new = NoneMade old.heap new.heap ⊎ OneMade old.heap new.heap
+
+-- what a step did, of the bytes of the input before and after it
+pub record OneStep (code : Code) (old new : Standing) (result : Outcome) (before after : List ℕ) : Type 0 where
+  -- whatever the pacers say, it shows what the plain step makes of each state that was shown
+  pub shows : StepsOn code (machine_in old.stepper.parts) (machine_in new.stepper.parts) result before after
+  -- behind its instructions, which left `mid`, it asks, collects and tells for its `collect` or its `pace`, and for nothing else
+  pub serves : (mid : Parts) × StepsOn code (machine_in old.stepper.parts) (machine_in mid) result before after
+      × ServesBy (due_at code.ops old.stepper.parts.at) old.stepper mid new.stepper old.pacers new.pacers result
+  -- what it keeps of a region of mark and sweep is what the roots of the window reach
+  pub reaches : ReachesOn code (machine_in old.stepper.parts) old.stepper.events new.stepper.events before after
+  -- it asks a pacer exactly where the plain state says so, and each yes is a collection, behind which the asks since the last yes begin anew
+  pub asked : AsksOn code (machine_in old.stepper.parts) result old.pacers new.pacers
+  pub yeses : (behind : List Event) × (new.stepper.events ≡ old.stepper.events ++ behind) × YesesTold behind old.pacers new.pacers
+      × SinceOn code (machine_in old.stepper.parts) result behind old.stepper.since new.stepper.since
+  -- it writes into objects of the active region and temporaries of the topmost window alone
+  pub writes : WritesOnly (machine_in old.stepper.parts) (machine_in new.stepper.parts)
+  pub high : Raises result old.stepper.parts new.stepper.parts
+  pub counts : Counts old.stepper.steps new.stepper.steps result
+
+-- the same machine is shown over the same heap, and all but the parts is the same: room for frames may have been made
+pub record IsRoomed (old new : Standing) : Type 0 where
+  pub shown : machine_in new.stepper.parts ≡ machine_in old.stepper.parts
+  pub heap : new.stepper.parts.heap ≡ old.stepper.parts.heap
+  pub rest : new ≡ record old { stepper = record old.stepper { parts = new.stepper.parts } }
+
+-- So many steps that were made, one after the other: a list of one state more, from the first to the last, each of which follows from the one
+-- before by a step.
+abbrev pub Links : Code → ℕ → (first last : Standing) → (before after : List ℕ) → Type 0
+Links code zero first last before after = (last ≡ first) × (after ≡ before)
+Links code (suc k) first last before after =
+    (m : Standing) × (left : List ℕ) × (result : Outcome) × Links code k first m before left × (is_made result ≡ true)
+    × OneStep code m last result left after
+
+-- and behind them room for one more frame may have been made
+abbrev pub Chain : Code → ℕ → (first last : Standing) → (before after : List ℕ) → Type 0
+Chain code k first last before after = (m : Standing) × Links code k first m before after × IsRoomed m last
