@@ -16,6 +16,7 @@ use Rattle.rg_step.specs.Collections.{Asks, IsRefused, Paces, ReachesOn, Serves,
 use Rattle.rg_step.specs.States.{Chain, IsRoomed, Links, OneStep, Standing}
 use Rattle.rg_step.specs.Steps.{Stepping, StepsOn, is_made}
 use Rattle.rg_step.specs.Writes.{WritesOnly}
+use Rattle.rg_step.proofs.FreesLemmas.{frees-from}
 use Rattle.rg_step.proofs.HighLemmas.{raises-from}
 
 -- A step looks at what the machine shows and at what was told, and at no room
@@ -58,8 +59,9 @@ one-parts code old new p result x y shown heap o =
       serves = (
         o.serves.0,
         subst (λ (m : Machine). StepsOn code m (machine_in o.serves.0) result x y) s o.serves.1,
+        frees-from p old.stepper.parts o.serves.0 shown heap o.serves.2,
         subst (λ (m : Machine). ServesBy (due_at code.ops m.at) (record old.stepper { parts = p }) o.serves.0 new.stepper old.pacers new.pacers
-            result) s (by-roomed old.stepper p o.serves.0 new.stepper old.pacers new.pacers (due_at code.ops old.stepper.parts.at) result o.serves.2),
+            result) s (by-roomed old.stepper p o.serves.0 new.stepper old.pacers new.pacers (due_at code.ops old.stepper.parts.at) result o.serves.3),
       );
       reaches = subst (λ (m : Machine). ReachesOn code m old.stepper.events new.stepper.events x y) s o.reaches;
       asked = subst (λ (m : Machine). AsksOn code m result old.pacers new.pacers) s o.asked;

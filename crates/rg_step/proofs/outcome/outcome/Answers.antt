@@ -3,6 +3,7 @@ use Rattle.rg_input.proofs.InputLemmas.{OnInput-map}
 use Rattle.rg_input.specs.Numbers.{OnInput}
 use Rattle.rg_machine.specs.Parts.{Parts, core_of, machine_in}
 use Rattle.rg_stack.specs.Machine.{Machine}
+use Rattle.rg_held.specs.Freed.{FreesOnly}
 use Rattle.rg_step.specs.Inner.High.{DidMade}
 use Rattle.rg_step.proofs.HighLemmas.{answer-raises}
 use Rattle.rg_step.specs.Inner.Refusals.{DidLeaves, asks_at}
@@ -10,6 +11,7 @@ use Rattle.rg_step.specs.Inner.Serving.{answer}
 use Rattle.rg_step.specs.Inner.Walks.{StepIs}
 use Rattle.rg_step.specs.Steps.{StepsOn}
 use Rattle.rg_step.proofs.AskLemmas.{OnInput-some}
+use Rattle.rg_step.proofs.FreesLemmas.{did-frees, table-frees}
 use Rattle.rg_step.proofs.OutcomeLemmas.{answer-fault, answer-settles}
 use Rattle.rg_step.proofs.RunLemmas.{runs-ask, runs-given, runs-on, runs-orderly, unasked-there}
 use Rattle.rg_step.proofs.outcome.outcome.Goals as goal
@@ -64,3 +66,18 @@ returns-clause-high g c =
     let made = c.step-did.ensures.high (runs-orderly runs.0 c.args.code.now (machine_in old) runs.1 runs.2) in
     let there : DidMade old.heap c.start.new.self.heap d = subst (λ (p : Parts). DidMade old.heap p.heap d) (sym c.start.ensures) made in
     rw c.answer.ensures (answer-raises old c.start.new.self d c.printed-printed.result there)
+
+pub returns-clause-frees : goal.returns-clause-frees
+returns-clause-frees g c =
+    let code = c.args.code.now in
+    let old = c.args.p.now in
+    let mid = c.step-did.new.p in
+    let new = c.start.new.self in
+    let runs = c.requires.runs in
+    let order = runs-orderly runs.0 code (machine_in old) runs.1 runs.2 in
+    let s = OnInput-some _ _ _ _ (StepIs code (core_of old) (core_of mid) c.step-did.result) c.step-did.ensures.follows c.step-did.ensures.step in
+    let frees = did-frees code (core_of old) (core_of mid) c.step-did.result s.0 s.1 runs c.step-did.ensures.leaves s.2 order in
+    table-frees old new
+    (record { stands = c.is_sound.ensures.stands; serials = c.is_sound.ensures.serials; forest = c.is_sound.ensures.forest })
+    (record { stands = c.is_sound-2.ensures.stands; serials = c.is_sound-2.ensures.serials; forest = c.is_sound-2.ensures.forest })
+    (subst (λ (p : Parts). FreesOnly (machine_in old) (machine_in p)) (sym c.start.ensures) frees)
