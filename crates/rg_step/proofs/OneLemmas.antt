@@ -11,7 +11,7 @@ use Rattle.rg_stack.specs.Dues.{due_at}
 use Rattle.rg_machine.specs.High.{NoneMade}
 use Rattle.rg_machine.specs.Parts.{Parts, machine_in}
 use Rattle.rg_machine.specs.Stands.{Stands}
-use Rattle.rg_step.specs.Collections.{IsRefused, Serves}
+use Rattle.rg_step.specs.Collections.{IsRefused, Serves, Unasked}
 use Rattle.rg_step.specs.Frees.{FreesOnly}
 use Rattle.rg_step.specs.States.{OneStep, Raises, Standing}
 use Rattle.rg_step.specs.Steps.{Counts, IsRunning, StepsOn, counted, is_made}
@@ -65,21 +65,22 @@ module _ (code : Code) (old new : Standing) (runs : IsRunning code (machine_in o
 
   -- it was made, and nothing was due
   pub one-undue : is_made result ≡ true → due_at code.ops old.stepper.parts.at ≡ None
-      → IsRefused old.stepper new.stepper old.pacers new.pacers → new.stepper.steps ≡ counted old.stepper.steps → (before after : List ℕ)
+      → new.stepper.events ≡ old.stepper.events → Unasked old.stepper new.stepper old.pacers new.pacers
+      → new.stepper.steps ≡ counted old.stepper.steps → (before after : List ℕ)
       → StepsOn code (machine_in old.stepper.parts) (machine_in new.stepper.parts) result before after → OneStep code old new result before after
-  one-undue made none left more before after steps = record {
+  one-undue made none told unasked more before after steps = record {
     shows = steps;
     serves = (
       new.stepper.parts,
       steps,
       frees,
-      serves-none _ _ _ _ _ _ result made none (record { parts = refl; events_are = left.events_are }) left.unasked,
+      serves-none _ _ _ _ _ _ result made none (record { parts = refl; events_are = told }) unasked,
     );
-    reaches = λ t p q r e went. none-reached _ _ q left.events_are;
-    asked = asks-undue code (machine_in old.stepper.parts) result _ _ made none left.unasked.pacers;
+    reaches = λ t p q r e went. none-reached _ _ q told;
+    asked = asks-undue code (machine_in old.stepper.parts) result _ _ made none unasked.pacers;
     yeses =
-        let y = no-yes _ _ _ _ left.events_are left.unasked.pacers in
-        (y.0, y.1, y.2, since-undue code (machine_in old.stepper.parts) result y.0 _ _ made none left.unasked.since);
+        let y = no-yes _ _ _ _ told unasked.pacers in
+        (y.0, y.1, y.2, since-undue code (machine_in old.stepper.parts) result y.0 _ _ made none unasked.since);
     writes = steps-write code _ _ result before after runs steps;
     high = high;
     counts = counts-made old.stepper.steps new.stepper.steps result made more;

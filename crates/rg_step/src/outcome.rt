@@ -8,7 +8,7 @@ ghost use Rattle.rg_tree.specs.Tree.{Tree};
 ghost use Rattle.rg_rules.specs.Inputs.{first_asks};
 ghost use Rattle.rg_rules.specs.State.{State};
 ghost use Rattle.rg_machine.specs.Parts.{machine_in};
-ghost use Rattle.rg_step.specs.Steps.{IsResting, IsRunning, Runs, StepsOn};
+ghost use Rattle.rg_step.specs.Steps.{IsResting, IsRunning, Runs, StepsOn, is_made};
 ghost use Rattle.rg_step.specs.Frees.{FreesOnly};
 ghost use Rattle.rg_step.specs.States.{Raises};
 ghost use Rattle.rg_step.specs.Inner.Serving.{answer};
@@ -32,6 +32,7 @@ pub(crate) fn outcome<S: Source>(
     requires follows { Follows input.old (S.left source.old) }
     ensures step { OnInput input.old input.new (S.left source.old) (S.left source.new)
         (StepsOn code.now (machine_in p.old) (machine_in p.new) result) }
+    ensures refused { is_made result ≡ false → machine_in p.new ≡ machine_in p.old }
     ensures high { Raises result p.old p.new }
     ensures frees { FreesOnly p.old p.new }
     ensures rests { IsResting p.new }

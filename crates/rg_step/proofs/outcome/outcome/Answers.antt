@@ -9,22 +9,20 @@ use Rattle.rg_step.proofs.HighLemmas.{answer-raises}
 use Rattle.rg_step.specs.Inner.Refusals.{DidLeaves, asks_at}
 use Rattle.rg_step.specs.Inner.Serving.{answer}
 use Rattle.rg_step.specs.Inner.Walks.{StepIs}
-use Rattle.rg_step.specs.Steps.{StepsOn}
+use Rattle.rg_step.specs.Steps.{StepsOn, is_made}
 use Rattle.rg_step.proofs.AskLemmas.{OnInput-some}
 use Rattle.rg_step.proofs.FreesLemmas.{did-frees, table-frees}
-use Rattle.rg_step.proofs.OutcomeLemmas.{answer-fault, answer-settles}
-use Rattle.rg_step.proofs.RunLemmas.{runs-ask, runs-given, runs-on, runs-orderly, unasked-there}
+use Rattle.rg_step.proofs.OutcomeLemmas.{answer-fault, answer-leaves, answer-settles, never-lost}
+use Rattle.rg_step.proofs.RunLemmas.{runs-ask, runs-given, runs-orderly, unasked-there}
 use Rattle.rg_step.proofs.outcome.outcome.Goals as goal
 
 pub step-did-requires-clause-given : goal.step-did-requires-clause-given
 step-did-requires-clause-given g c = runs-given c.args.code.now (core_of c.args.p.now) c.requires.runs
 
 pub answer-requires : goal.answer-requires
-answer-requires g c lost =
-    let is = StepIs c.args.code.now (core_of c.args.p.now) (core_of c.step-did.new.p) c.step-did.result in
-    let s = OnInput-some _ _ _ _ is c.step-did.ensures.follows c.step-did.ensures.step in
-    runs-on c.args.code.now (core_of c.args.p.now) (core_of c.step-did.new.p) s.0 s.1 c.requires.runs
-    (subst (λ d. StepIs c.args.code.now (core_of c.args.p.now) (core_of c.step-did.new.p) d s.0 s.1) lost s.2)
+answer-requires g c =
+    never-lost c.args.code.now (core_of c.args.p.now) (core_of c.step-did.new.p) c.step-did.result _ _ _ _ c.requires.runs
+    c.step-did.ensures.follows c.step-did.ensures.step
 
 pub returns-clause-step : goal.returns-clause-step
 returns-clause-step g c =
@@ -81,3 +79,14 @@ returns-clause-frees g c =
     (record { stands = c.is_sound.ensures.stands; serials = c.is_sound.ensures.serials; forest = c.is_sound.ensures.forest })
     (record { stands = c.is_sound-2.ensures.stands; serials = c.is_sound-2.ensures.serials; forest = c.is_sound-2.ensures.forest })
     (subst (λ (p : Parts). FreesOnly (machine_in old) (machine_in p)) (sym c.start.ensures) frees)
+
+pub returns-clause-refused : goal.returns-clause-refused
+returns-clause-refused g c none =
+    let m = machine_in c.args.p.now in
+    let runs = c.requires.runs in
+    let left = c.step-did.ensures.leaves (runs-orderly runs.0 c.args.code.now m runs.1 runs.2) in
+    let led = never-lost c.args.code.now (core_of c.args.p.now) (core_of c.step-did.new.p) c.step-did.result _ _ _ _ runs
+    c.step-did.ensures.follows c.step-did.ensures.step in
+    ap machine_in c.start.ensures
+    ∙ answer-leaves (asks_at c.args.code.now.ops m) m (machine_in c.step-did.new.p) c.step-did.result c.printed-printed.result led
+    (ap is_made (sym c.answer.ensures) ∙ none) left

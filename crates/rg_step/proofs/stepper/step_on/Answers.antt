@@ -14,7 +14,7 @@ pub returns-in_default-clause-step : goal.returns-in_default-clause-step
 returns-in_default-clause-step g c =
     OnInput-still _ _ _ _ (OneStep c.args.code.now _ _ outcome.Memory) refl refl
     (one-nothing c.args.code.now _ _ c.requires.runs refl
-    (record { events_are = c.make_place.ensures.items; unasked = record { since = refl; pacers = refl } }) refl)
+    (record { shown = refl; events_are = c.make_place.ensures.items; unasked = record { since = refl; pacers = refl } }) refl)
 
 pub returns-then-not-made-clause-step : goal.returns-then-not-made-clause-step
 returns-then-not-made-clause-step g c =
@@ -24,7 +24,7 @@ returns-then-not-made-clause-step g c =
     OnInput-map _ _ _ _ (StepsOn c.args.code.now m (machine_in c.outcome-outcome.new.p) result) (OneStep c.args.code.now _ _ result)
     c.outcome-outcome.ensures.step
     (one-refused c.args.code.now _ _ c.requires.runs result c.outcome-outcome.ensures.high c.outcome-outcome.ensures.frees no
-    (record { events_are = c.make_place.ensures.items; unasked = record { since = refl; pacers = refl } }) refl)
+    (record { shown = c.outcome-outcome.ensures.refused no; events_are = c.make_place.ensures.items; unasked = record { since = refl; pacers = refl } }) refl)
 
 pub returns-in_default-due-clause-step : goal.returns-in_default-due-clause-step
 returns-in_default-due-clause-step g c =
@@ -36,7 +36,7 @@ returns-in_default-due-clause-step g c =
     OnInput-map _ _ _ _ (StepsOn c.args.code.now m (machine_in c.outcome-outcome.new.p) result) (OneStep c.args.code.now _ _ result)
     c.outcome-outcome.ensures.step
     (one-undue c.args.code.now _ _ c.requires.runs result c.outcome-outcome.ensures.high c.outcome-outcome.ensures.frees made none
-    (record { events_are = c.make_place.ensures.items; unasked = record { since = refl; pacers = refl } }) c.one_more-kept.ensures)
+    c.make_place.ensures.items (record { since = refl; pacers = refl }) c.one_more-kept.ensures)
 
 pub serve-requires-clause-once : goal.serve-requires-clause-once
 serve-requires-clause-once g c =
