@@ -16,11 +16,12 @@ use Rattle.rg_step.specs.Collections.{Asks, IsRefused, Paces, ReachesOn, Serves,
 use Rattle.rg_step.specs.States.{Chain, IsRoomed, Links, OneStep, Standing}
 use Rattle.rg_step.specs.Steps.{Stepping, StepsOn, is_made}
 use Rattle.rg_step.specs.Writes.{WritesOnly}
+use Rattle.rg_step.proofs.FreesLemmas.{frees-from}
 use Rattle.rg_step.proofs.HighLemmas.{raises-from}
 
 -- A step looks at what the machine shows and at what was told, and at no room
 
-module _ (old : Stepping) (p mid : Parts) (new : Stepping) (before after : Asks) where
+module _ (old : Stepping) (p mid : Parts) (new : Stepping) (before after : Asks) (shown : machine_in p ≡ machine_in old.parts) where
   unasked-roomed : Unasked old new before after → Unasked (record old { parts = p }) new before after
   unasked-roomed u = record { since = u.since; pacers = u.pacers }
 
@@ -35,7 +36,7 @@ module _ (old : Stepping) (p mid : Parts) (new : Stepping) (before after : Asks)
   serves-roomed (Some Paced) s = (s.0, s.1, paces-roomed s.0.manager s.0.held s.2)
 
   refused-roomed : IsRefused old new before after → IsRefused (record old { parts = p }) new before after
-  refused-roomed r = record { events_are = r.events_are; unasked = unasked-roomed r.unasked }
+  refused-roomed r = record { shown = r.shown ∙ sym shown; events_are = r.events_are; unasked = unasked-roomed r.unasked }
 
   by-roomed : (due : Option Cause) (result : Outcome) → ServesBy due old mid new before after result
       → ServesBy due (record old { parts = p }) mid new before after result
@@ -58,8 +59,9 @@ one-parts code old new p result x y shown heap o =
       serves = (
         o.serves.0,
         subst (λ (m : Machine). StepsOn code m (machine_in o.serves.0) result x y) s o.serves.1,
+        frees-from p old.stepper.parts o.serves.0 shown heap o.serves.2,
         subst (λ (m : Machine). ServesBy (due_at code.ops m.at) (record old.stepper { parts = p }) o.serves.0 new.stepper old.pacers new.pacers
-            result) s (by-roomed old.stepper p o.serves.0 new.stepper old.pacers new.pacers (due_at code.ops old.stepper.parts.at) result o.serves.2),
+            result) s (by-roomed old.stepper p o.serves.0 new.stepper old.pacers new.pacers shown (due_at code.ops old.stepper.parts.at) result o.serves.3),
       );
       reaches = subst (λ (m : Machine). ReachesOn code m old.stepper.events new.stepper.events x y) s o.reaches;
       asked = subst (λ (m : Machine). AsksOn code m result old.pacers new.pacers) s o.asked;

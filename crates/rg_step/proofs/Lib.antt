@@ -9,6 +9,7 @@ mod StepLemmas
 mod ShapeLemmas
 mod UndueLemmas
 mod CallShapeLemmas
+mod FreesLemmas
 mod LeapLemmas
 mod ShapeNeedLemmas
 mod WordLemmas

@@ -11,10 +11,12 @@ use Rattle.rg_stack.specs.Dues.{due_at}
 use Rattle.rg_machine.specs.High.{NoneMade}
 use Rattle.rg_machine.specs.Parts.{Parts, machine_in}
 use Rattle.rg_machine.specs.Stands.{Stands}
-use Rattle.rg_step.specs.Collections.{IsRefused, Serves}
+use Rattle.rg_step.specs.Collections.{IsRefused, Serves, Unasked}
+use Rattle.rg_step.specs.Frees.{FreesOnly}
 use Rattle.rg_step.specs.States.{OneStep, Raises, Standing}
 use Rattle.rg_step.specs.Steps.{Counts, IsRunning, StepsOn, counted, is_made}
 use Rattle.rg_step.proofs.AskedLemmas.{asks-refused, asks-served, asks-undue}
+use Rattle.rg_step.proofs.FreesLemmas.{none-frees}
 use Rattle.rg_step.proofs.HighLemmas.{raises-none}
 use Rattle.rg_step.proofs.ReachedLemmas.{none-reached, serves-reached}
 use Rattle.rg_step.proofs.ServeLemmas.{serves-none, serves-refused, serves-shows, serves-some, steps-nowhere}
@@ -43,14 +45,14 @@ counts-made old new outcome.Memory made more = absurd (true≢false (sym made))
 -- Steps
 
 module _ (code : Code) (old new : Standing) (runs : IsRunning code (machine_in old.stepper.parts)) (result : Outcome)
-    (high : Raises result old.stepper.parts new.stepper.parts) where
+    (high : Raises result old.stepper.parts new.stepper.parts) (frees : FreesOnly old.stepper.parts new.stepper.parts) where
   -- it was refused
   pub one-refused : is_made result ≡ false → IsRefused old.stepper new.stepper old.pacers new.pacers
       → new.stepper.steps ≡ old.stepper.steps → (before after : List ℕ)
       → StepsOn code (machine_in old.stepper.parts) (machine_in new.stepper.parts) result before after → OneStep code old new result before after
   one-refused none refused same before after steps = record {
     shows = steps;
-    serves = (new.stepper.parts, steps, serves-refused _ _ _ _ _ _ result none refused);
+    serves = (new.stepper.parts, steps, frees, serves-refused _ _ _ _ _ _ result none refused);
     reaches = λ t p q r e went. none-reached _ _ q refused.events_are;
     asked = asks-refused code (machine_in old.stepper.parts) result _ _ none refused.unasked.pacers;
     yeses =
@@ -63,20 +65,22 @@ module _ (code : Code) (old new : Standing) (runs : IsRunning code (machine_in o
 
   -- it was made, and nothing was due
   pub one-undue : is_made result ≡ true → due_at code.ops old.stepper.parts.at ≡ None
-      → IsRefused old.stepper new.stepper old.pacers new.pacers → new.stepper.steps ≡ counted old.stepper.steps → (before after : List ℕ)
+      → new.stepper.events ≡ old.stepper.events → Unasked old.stepper new.stepper old.pacers new.pacers
+      → new.stepper.steps ≡ counted old.stepper.steps → (before after : List ℕ)
       → StepsOn code (machine_in old.stepper.parts) (machine_in new.stepper.parts) result before after → OneStep code old new result before after
-  one-undue made none left more before after steps = record {
+  one-undue made none told unasked more before after steps = record {
     shows = steps;
     serves = (
       new.stepper.parts,
       steps,
-      serves-none _ _ _ _ _ _ result made none (record { parts = refl; events_are = left.events_are }) left.unasked,
+      frees,
+      serves-none _ _ _ _ _ _ result made none (record { parts = refl; events_are = told }) unasked,
     );
-    reaches = λ t p q r e went. none-reached _ _ q left.events_are;
-    asked = asks-undue code (machine_in old.stepper.parts) result _ _ made none left.unasked.pacers;
+    reaches = λ t p q r e went. none-reached _ _ q told;
+    asked = asks-undue code (machine_in old.stepper.parts) result _ _ made none unasked.pacers;
     yeses =
-        let y = no-yes _ _ _ _ left.events_are left.unasked.pacers in
-        (y.0, y.1, y.2, since-undue code (machine_in old.stepper.parts) result y.0 _ _ made none left.unasked.since);
+        let y = no-yes _ _ _ _ told unasked.pacers in
+        (y.0, y.1, y.2, since-undue code (machine_in old.stepper.parts) result y.0 _ _ made none unasked.since);
     writes = steps-write code _ _ result before after runs steps;
     high = high;
     counts = counts-made old.stepper.steps new.stepper.steps result made more;
@@ -87,7 +91,8 @@ pub one-nothing : (code : Code) (old new : Standing) → IsRunning code (machine
     → IsRefused old.stepper new.stepper old.pacers new.pacers → new.stepper.steps ≡ old.stepper.steps → (bytes : List ℕ)
     → OneStep code old new outcome.Memory bytes bytes
 one-nothing code old new runs there refused same bytes =
-    one-refused code old new runs outcome.Memory tt refl refused same bytes bytes
+    one-refused code old new runs outcome.Memory tt (subst (λ (p : Parts). FreesOnly old.stepper.parts p) (sym there) (none-frees old.stepper.parts))
+    refl refused same bytes bytes
     (subst (λ (p : Parts). StepsOn code (machine_in old.stepper.parts) (machine_in p) outcome.Memory bytes bytes) (sym there)
     (steps-nowhere code (machine_in old.stepper.parts) bytes))
 
@@ -98,7 +103,7 @@ module _ (code : Code) (old : Standing) (mid : Parts) (new : Standing) (runs : I
     (why : Cause) (due : due_at code.ops old.stepper.parts.at ≡ Some why)
     (events : List Event) (told : events ≡ old.stepper.events)
     (serves : Serves (Some why) (record old.stepper { events = events }) mid new.stepper old.pacers new.pacers)
-    (none : NoneMade mid.heap new.stepper.parts.heap) where
+    (none : NoneMade mid.heap new.stepper.parts.heap) (frees : FreesOnly old.stepper.parts mid) where
   pub one-served : (result : Outcome) → Raises result old.stepper.parts mid → is_made result ≡ true
       → new.stepper.steps ≡ counted old.stepper.steps → (before after : List ℕ)
       → StepsOn code (machine_in old.stepper.parts) (machine_in mid) result before after → OneStep code old new result before after
@@ -108,7 +113,7 @@ module _ (code : Code) (old : Standing) (mid : Parts) (new : Standing) (runs : I
       let shows = serves-shows code m result made why behind mid new.stepper _ _ serves stands serials windows before after steps in
       record {
         shows = shows;
-        serves = (mid, steps, serves-some _ why old.stepper events mid new.stepper _ _ result made due told serves);
+        serves = (mid, steps, frees, serves-some _ why old.stepper events mid new.stepper _ _ result made due told serves);
         reaches = serves-reached code why behind mid new.stepper _ _ result made serves stands serials windows grove grown m old.stepper.events
             (sym told) before after steps;
         asked = asks-served code m (Some why) behind mid new.stepper _ _ result before after made due serves stands steps;

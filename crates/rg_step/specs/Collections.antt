@@ -22,7 +22,7 @@ use Rattle.rg_heap.specs.Ends.{top_temps}
 use Rattle.rg_heap.specs.Parts.{OnTop}
 use Rattle.rg_pace.specs.Asked.{Asked, one_more, with_ask}
 use Rattle.rg_machine.specs.Collects.{Gathers}
-use Rattle.rg_machine.specs.Parts.{Parts}
+use Rattle.rg_machine.specs.Parts.{Parts, machine_in}
 use Rattle.rg_step.specs.Steps.{Runs, Stepping}
 
 -- what the two pacers tell of themselves
@@ -97,8 +97,9 @@ Serves (Some cause.Asked) old mid new before after =
     OnActive mid (λ a. CollectsAsked a.manager mid old.events new) × Unasked old new before after
 Serves (Some cause.Paced) old mid new before after = OnActive mid (λ a. Paces a.manager a.held old mid new before after)
 
--- a step that was refused neither collects nor asks
+-- a step that was refused leaves the machine that is shown, and neither collects nor asks
 pub record IsRefused (old new : Stepping) (before after : Asks) : Type 0 where
+  pub shown : machine_in new.parts ≡ machine_in old.parts
   pub events_are : new.events ≡ old.events
   pub unasked : Unasked old new before after
 

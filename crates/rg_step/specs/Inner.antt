@@ -3,5 +3,6 @@ pub mod Walks
 pub mod Refusals
 pub mod Leaps
 pub mod Held
+pub mod Sound
 pub mod Serving
 pub mod High

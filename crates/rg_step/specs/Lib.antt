@@ -4,4 +4,5 @@ pub mod Steps
 pub mod Collections
 pub mod Writes
 pub mod Asking
+pub mod Frees
 pub mod States

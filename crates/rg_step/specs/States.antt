@@ -9,6 +9,7 @@ use Rattle.rg_machine.specs.High.{NoneMade, OneMade}
 use Rattle.rg_machine.specs.Parts.{Parts, machine_in}
 use Rattle.rg_step.specs.Asking.{AsksOn, SinceOn, YesesTold}
 use Rattle.rg_step.specs.Collections.{Asks, ReachesOn, ServesBy}
+use Rattle.rg_step.specs.Frees.{FreesOnly}
 use Rattle.rg_step.specs.Steps.{Counts, Stepping, StepsOn, is_made}
 use Rattle.rg_step.specs.Writes.{WritesOnly}
 
@@ -26,8 +27,10 @@ Raises result old new = NoneMade old.heap new.heap ⊎ OneMade old.heap new.heap
 pub record OneStep (code : Code) (old new : Standing) (result : Outcome) (before after : List ℕ) : Type 0 where
   -- whatever the pacers say, it shows what the plain step makes of each state that was shown
   pub shows : StepsOn code (machine_in old.stepper.parts) (machine_in new.stepper.parts) result before after
-  -- behind its instructions, which left `mid`, it asks, collects and tells for its `collect` or its `pace`, and for nothing else
+  -- its instructions, which left `mid`, free nothing but temporaries of a window that they end and regions that they give up; behind them it asks,
+  -- collects and tells for its `collect` or its `pace`, and for nothing else
   pub serves : (mid : Parts) × StepsOn code (machine_in old.stepper.parts) (machine_in mid) result before after
+      × FreesOnly old.stepper.parts mid
       × ServesBy (due_at code.ops old.stepper.parts.at) old.stepper mid new.stepper old.pacers new.pacers result
   -- what it keeps of a region of mark and sweep is what the roots of the window reach
   pub reaches : ReachesOn code (machine_in old.stepper.parts) old.stepper.events new.stepper.events before after

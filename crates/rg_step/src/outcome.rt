@@ -8,7 +8,8 @@ ghost use Rattle.rg_tree.specs.Tree.{Tree};
 ghost use Rattle.rg_rules.specs.Inputs.{first_asks};
 ghost use Rattle.rg_rules.specs.State.{State};
 ghost use Rattle.rg_machine.specs.Parts.{machine_in};
-ghost use Rattle.rg_step.specs.Steps.{IsResting, IsRunning, Runs, StepsOn};
+ghost use Rattle.rg_step.specs.Steps.{IsResting, IsRunning, Runs, StepsOn, is_made};
+ghost use Rattle.rg_step.specs.Frees.{FreesOnly};
 ghost use Rattle.rg_step.specs.States.{Raises};
 ghost use Rattle.rg_step.specs.Inner.Serving.{answer};
 
@@ -31,7 +32,9 @@ pub(crate) fn outcome<S: Source>(
     requires follows { Follows input.old (S.left source.old) }
     ensures step { OnInput input.old input.new (S.left source.old) (S.left source.new)
         (StepsOn code.now (machine_in p.old) (machine_in p.new) result) }
+    ensures refused { is_made result ≡ false → machine_in p.new ≡ machine_in p.old }
     ensures high { Raises result p.old p.new }
+    ensures frees { FreesOnly p.old p.new }
     ensures rests { IsResting p.new }
     ensures reads_nothing { (t : Tree) (s : State) → Runs t code.now (machine_in p.old) s →
         first_asks s.items ≡ false → (input.new ≡ input.old) × (source.new ≡ source.old) }
@@ -42,9 +45,11 @@ pub(crate) fn outcome<S: Source>(
         Rose (S.faults source.old) (S.faults source.new) }
     ensures never_falls { S.faults source.old ≤ S.faults source.new }
 {
+    p.is_sound();
     let did = step(p, code, input, source);
     let printed = p.printed();
     p.start();
+    p.is_sound();
     answer(did, printed)
 }
 

@@ -3,26 +3,26 @@ use Rattle.rg_input.proofs.InputLemmas.{OnInput-map}
 use Rattle.rg_input.specs.Numbers.{OnInput}
 use Rattle.rg_machine.specs.Parts.{Parts, core_of, machine_in}
 use Rattle.rg_stack.specs.Machine.{Machine}
+use Rattle.rg_held.specs.Freed.{FreesOnly}
 use Rattle.rg_step.specs.Inner.High.{DidMade}
 use Rattle.rg_step.proofs.HighLemmas.{answer-raises}
 use Rattle.rg_step.specs.Inner.Refusals.{DidLeaves, asks_at}
 use Rattle.rg_step.specs.Inner.Serving.{answer}
 use Rattle.rg_step.specs.Inner.Walks.{StepIs}
-use Rattle.rg_step.specs.Steps.{StepsOn}
+use Rattle.rg_step.specs.Steps.{StepsOn, is_made}
 use Rattle.rg_step.proofs.AskLemmas.{OnInput-some}
-use Rattle.rg_step.proofs.OutcomeLemmas.{answer-fault, answer-settles}
-use Rattle.rg_step.proofs.RunLemmas.{runs-ask, runs-given, runs-on, runs-orderly, unasked-there}
+use Rattle.rg_step.proofs.FreesLemmas.{did-frees, table-frees}
+use Rattle.rg_step.proofs.OutcomeLemmas.{answer-fault, answer-leaves, answer-settles, never-lost}
+use Rattle.rg_step.proofs.RunLemmas.{runs-ask, runs-given, runs-orderly, unasked-there}
 use Rattle.rg_step.proofs.outcome.outcome.Goals as goal
 
 pub step-did-requires-clause-given : goal.step-did-requires-clause-given
 step-did-requires-clause-given g c = runs-given c.args.code.now (core_of c.args.p.now) c.requires.runs
 
 pub answer-requires : goal.answer-requires
-answer-requires g c lost =
-    let is = StepIs c.args.code.now (core_of c.args.p.now) (core_of c.step-did.new.p) c.step-did.result in
-    let s = OnInput-some _ _ _ _ is c.step-did.ensures.follows c.step-did.ensures.step in
-    runs-on c.args.code.now (core_of c.args.p.now) (core_of c.step-did.new.p) s.0 s.1 c.requires.runs
-    (subst (λ d. StepIs c.args.code.now (core_of c.args.p.now) (core_of c.step-did.new.p) d s.0 s.1) lost s.2)
+answer-requires g c =
+    never-lost c.args.code.now (core_of c.args.p.now) (core_of c.step-did.new.p) c.step-did.result _ _ _ _ c.requires.runs
+    c.step-did.ensures.follows c.step-did.ensures.step
 
 pub returns-clause-step : goal.returns-clause-step
 returns-clause-step g c =
@@ -64,3 +64,29 @@ returns-clause-high g c =
     let made = c.step-did.ensures.high (runs-orderly runs.0 c.args.code.now (machine_in old) runs.1 runs.2) in
     let there : DidMade old.heap c.start.new.self.heap d = subst (λ (p : Parts). DidMade old.heap p.heap d) (sym c.start.ensures) made in
     rw c.answer.ensures (answer-raises old c.start.new.self d c.printed-printed.result there)
+
+pub returns-clause-frees : goal.returns-clause-frees
+returns-clause-frees g c =
+    let code = c.args.code.now in
+    let old = c.args.p.now in
+    let mid = c.step-did.new.p in
+    let new = c.start.new.self in
+    let runs = c.requires.runs in
+    let order = runs-orderly runs.0 code (machine_in old) runs.1 runs.2 in
+    let s = OnInput-some _ _ _ _ (StepIs code (core_of old) (core_of mid) c.step-did.result) c.step-did.ensures.follows c.step-did.ensures.step in
+    let frees = did-frees code (core_of old) (core_of mid) c.step-did.result s.0 s.1 runs c.step-did.ensures.leaves s.2 order in
+    table-frees old new
+    (record { stands = c.is_sound.ensures.stands; serials = c.is_sound.ensures.serials; forest = c.is_sound.ensures.forest })
+    (record { stands = c.is_sound-2.ensures.stands; serials = c.is_sound-2.ensures.serials; forest = c.is_sound-2.ensures.forest })
+    (subst (λ (p : Parts). FreesOnly (machine_in old) (machine_in p)) (sym c.start.ensures) frees)
+
+pub returns-clause-refused : goal.returns-clause-refused
+returns-clause-refused g c none =
+    let m = machine_in c.args.p.now in
+    let runs = c.requires.runs in
+    let left = c.step-did.ensures.leaves (runs-orderly runs.0 c.args.code.now m runs.1 runs.2) in
+    let led = never-lost c.args.code.now (core_of c.args.p.now) (core_of c.step-did.new.p) c.step-did.result _ _ _ _ runs
+    c.step-did.ensures.follows c.step-did.ensures.step in
+    ap machine_in c.start.ensures
+    ∙ answer-leaves (asks_at c.args.code.now.ops m) m (machine_in c.step-did.new.p) c.step-did.result c.printed-printed.result led
+    (ap is_made (sym c.answer.ensures) ∙ none) left
