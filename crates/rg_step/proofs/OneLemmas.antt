@@ -16,7 +16,7 @@ use Rattle.rg_step.specs.Steps.{Counts, IsRunning, StepsOn, counted, is_made}
 use Rattle.rg_step.proofs.AskedLemmas.{asks-refused, asks-served, asks-undue}
 use Rattle.rg_step.proofs.ReachedLemmas.{none-reached, serves-reached}
 use Rattle.rg_step.proofs.ServeLemmas.{serves-none, serves-refused, serves-shows, serves-some, steps-nowhere}
-use Rattle.rg_step.proofs.SinceLemmas.{since-refused, since-served, since-undue}
+use Rattle.rg_step.proofs.SinceLemmas.{none-said, since-refused, since-served, since-undue}
 use Rattle.rg_step.proofs.WriteLemmas.{steps-write}
 use Rattle.rg_step.proofs.YesLemmas.{no-yes, yeses-served}
 
@@ -72,7 +72,8 @@ module _ (code : Code) (old new : Standing) (runs : IsRunning code (machine_in o
     asked = asks-undue code (machine_in old.stepper.parts) result _ _ made none left.unasked.pacers;
     yeses =
         let y = no-yes _ _ _ _ left.events_are left.unasked.pacers in
-        (y.0, y.1, y.2, since-undue code (machine_in old.stepper.parts) result y.0 _ _ made none left.unasked.since);
+        let unsaid = none-said old.stepper.events y.0 new.stepper.events y.1 left.events_are in
+        (y.0, y.1, y.2, since-undue code (machine_in old.stepper.parts) result y.0 _ _ made none left.unasked.since unsaid);
     writes = steps-write code _ _ result before after runs steps;
     counts = counts-made old.stepper.steps new.stepper.steps result made more;
   }
