@@ -114,6 +114,15 @@ asked-then classes m k s u v first now after is some went so_far more =
     ∙ ap (λ q. raised q first) (sym (asks_from-suc classes m u v k k 1 0 s is some went))
     ∙ ap (λ q. raised (length (asks_from classes m q 1 s)) first) one
 
+-- how many whole steps a run has made behind an answer
+abbrev pub behind : ℕ → Outcome → ℕ
+behind k outcome.Running = k + 1
+behind k (outcome.Printed v) = k + 1
+behind k outcome.Done = k + 1
+behind k (outcome.Trap kind line) = k
+behind k outcome.InputFault = k
+behind k outcome.Memory = k
+
 module _ (t : Tables) (code : Code) (k : ℕ) (m : Machine) (old out : Option (List ℕ)) (Still : Type 0) (before between : List ℕ) (first now : Asks)
     (b : Between t code k m old out Still before between) (so_far : AskedOver (program_of t) before k first now) where
   -- behind a step that was made
@@ -128,20 +137,11 @@ module _ (t : Tables) (code : Code) (k : ℕ) (m : Machine) (old out : Option (L
         trace = asked-then p.classes Trace k s b.state q first.trace.asks now.trace.asks after.trace.asks r.ran_is r.some went so_far.trace asks.trace;
       }
 
-  -- how many whole steps a run has made behind an answer
-  abbrev pub behind : Outcome → ℕ
-  behind outcome.Running = k + 1
-  behind (outcome.Printed v) = k + 1
-  behind outcome.Done = k + 1
-  behind (outcome.Trap kind line) = k
-  behind outcome.InputFault = k
-  behind outcome.Memory = k
-
   asked-still : (after : Asks) → after ≡ now → AskedOver (program_of t) before k first after
   asked-still after same = subst (AskedOver (program_of t) before k first) (sym same) so_far
 
   pub asked-by : (new : Machine) (end : List ℕ) (after : Asks) (r : Outcome) → StepsOn code m new r between end → AsksOn code m r now after →
-      AskedOver (program_of t) before (behind r) first after
+      AskedOver (program_of t) before (behind k r) first after
   asked-by new end after outcome.Running step asks =
       let h = step (program_of t) b.state b.runs b.input in asked-more h.0 after h.1.0 (asks (program_of t) b.state b.runs)
   asked-by new end after (outcome.Printed v) step asks =

@@ -6,3 +6,6 @@ mod ReportLemmas
 pub mod RunLemmas
 mod TurnLemmas
 mod AskLemmas
+mod StateLemmas
+mod StepLemmas
+mod LoopLemmas

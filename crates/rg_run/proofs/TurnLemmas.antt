@@ -1,5 +1,5 @@
 -- A run of the stack machine, one step after another, beside that of the machine that never frees.
-use Rattle.std.proofs.Common.{◌≡◌, ◌≢◌, ℕ, zero, suc, ◌+◌, ◌≤◌, ◌<◌, Bool, true, false, inl, inr, List, [], ◌∷◌, ◌++◌, Option, Some, None}
+use Rattle.std.proofs.Common.{◌≡◌, ◌≢◌, ℕ, zero, suc, ◌+◌, ◌≤◌, ◌<◌, Bool, true, false, inl, inr, List, [], ◌∷◌, ◌++◌, Option}
 use Rattle.std.proofs.Common.{refl, sym, subst, arith}
 use Rattle.rg_base.specs.declared.outcome.Outcome.{Outcome}
 use Rattle.rg_base.specs.declared.outcome.Outcome.TheVariants as outcome
@@ -46,6 +46,7 @@ use Rattle.rg_run.specs.Inner.{IsUntold}
 use Rattle.rg_run.proofs.OutputLemmas.{ends-block}
 use Rattle.rg_run.proofs.RunLemmas.{wrote-whole}
 use Rattle.rg_run.proofs.SoundLemmas.{run-is-sound}
+use Rattle.rg_run.proofs.StepLemmas.{OnInput-some}
 
 pub some-is : (items : List Item) → SomeLeft items → items ≢ []
 some-is [] some e = some
@@ -100,11 +101,6 @@ pub record Between (t : Tables) (code : Code) (k : ℕ) (m : Machine) (old new :
 abbrev pub Turns : Tables → Code → (k : ℕ) → Machine → (old new : Option (List ℕ)) → (Still : Type 0) → (first now : Asks)
     → (before after : List ℕ) → Type 0
 Turns t code k m old new Still first now before after = Between t code k m old new Still before after × AskedOver (program_of t) before k first now
-
--- what a call is told of the input and of the asks where the run has begun
-abbrev pub RanOn : Tables → (n : ℕ) → (old new : Option (List ℕ)) → Kept → Ended → (still : Type 0) → (first last : Asks)
-    → (before after : List ℕ) → Type 0
-RanOn t n old new m result still first last before after = Ran t n old new m result still before after × AskedOver (program_of t) before m.steps first last
 
 -- a machine that has begun stands between two steps
 pub begins : (t : Tables) (code : Code) (m : Machine) (content : Option (List ℕ)) (Still : Type 0) (bytes : List ℕ) → Accepted (program_of t) →
@@ -344,12 +340,10 @@ untold t code n k st old out Still before after started is within e cut b =
     }
 
 -- some program runs on the machine
-pub is-running : (t : Tables) (code : Code) (k : ℕ) (m : Machine) (a b : Pending) (left behind old new : Option (List ℕ)) (Still : Type 0)
-    (first now : Asks) → Follows b behind → OnInput a b left behind (Turns t code k m old new Still first now) → IsRunning code m
-is-running t code k m a b left None old new Still first now follows h =
-    let q = (h.2 [] (record { told = tt; ended = λ e. refl })).1.0 in (program_of t, q.state, q.runs)
-is-running t code k m a b left (Some bytes) old new Still first now follows h =
-    let q = (h.2 bytes (record { told = refl; ended = follows })).1.0 in (program_of t, q.state, q.runs)
+pub is-running : {t : Tables} {code : Code} {k : ℕ} {m : Machine} {a b : Pending} {left behind old new : Option (List ℕ)} {Still : Type 0}
+    {first now : Asks} → Follows b behind → OnInput a b left behind (Turns t code k m old new Still first now) → IsRunning code m
+is-running {t} {code} {k} {m} {a} {b} {left} {behind} {old} {new} {Still} {first} {now} follows h =
+    let q = (OnInput-some a b left behind (Turns t code k m old new Still first now) follows h).2.0 in (program_of t, q.state, q.runs)
 
 -- the steps so far, one more, and what follows of both
 pub turn : (a b c : Pending) (la lb lc : Option (List ℕ)) (P Q R : List ℕ → List ℕ → Type 0) → OnInput a b la lb P → OnInput b c lb lc Q →
@@ -357,14 +351,6 @@ pub turn : (a b c : Pending) (la lb lc : Option (List ℕ)) (P Q R : List ℕ �
 turn a b c la lb lc P Q R first second follows =
     OnInput-map a c la lc (λ before after. (between : List ℕ) × P before between × Q between after) R
     (OnInput-then a b c la lb lc P Q first second) (λ before after both. follows before both.0 after both.1 both.2)
-
--- a run that has begun, as a call is told of it
-pub told : (a b : Pending) (left behind : Option (List ℕ)) (t : Tables) (n : ℕ) (old new : Option (List ℕ)) (m : Kept) (e : Ended) (still : Type 0)
-    (first last : Asks) → OnInput a b left behind (RanOn t n old new m e still first last) →
-    OnInput a b left behind (RunsAsking t n old new m e still first last)
-told a b left behind t n old new m e still first last h =
-    OnInput-map a b left behind (RanOn t n old new m e still first last) (RunsAsking t n old new m e still first last) h
-    (λ before after ran. (inr ran.0, ran.1))
 
 -- the run alone
 pub ran-only : {a b : Pending} {left behind : Option (List ℕ)} {t : Tables} {n : ℕ} {old new : Option (List ℕ)} {m : Kept} {e : Ended}

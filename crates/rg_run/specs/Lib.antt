@@ -4,3 +4,4 @@ pub mod Runs
 pub mod Reports
 pub mod Asked
 pub mod Inner
+pub mod States

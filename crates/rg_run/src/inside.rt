@@ -12,6 +12,7 @@ ghost use Rattle.rg_run.specs.Asked.{RunsAsking};
 ghost use Rattle.rg_run.specs.Machine.{IsFresh};
 ghost use Rattle.rg_run.specs.Reports.{Reports};
 ghost use Rattle.rg_run.specs.Runs.{RunsOn};
+ghost use Rattle.rg_run.specs.States.{RunsThrough};
 
 use crate::stepping::step;
 use crate::telling::tell;
@@ -122,6 +123,37 @@ impl Inside {
                 tuned = tuned trace.new;
               };
             }) }
+        ensures states { self.new.begun ≡ true →
+            OnInput input.old input.new (I.left source.old) (I.left source.new)
+            (RunsThrough code.now accepted.now.program.manager (kept_of self.new) result
+            (record {
+              count = record {
+                asks = asks count.old;
+                yeses = yeses count.old;
+                told = told count.old;
+                tuned = tuned count.old;
+              };
+              trace = record {
+                asks = asks trace.old;
+                yeses = yeses trace.old;
+                told = told trace.old;
+                tuned = tuned trace.old;
+              };
+            })
+            (record {
+              count = record {
+                asks = asks count.new;
+                yeses = yeses count.new;
+                told = told count.new;
+                tuned = tuned count.new;
+              };
+              trace = record {
+                asks = asks trace.new;
+                yeses = yeses trace.new;
+                told = told trace.new;
+                tuned = tuned trace.new;
+              };
+            })) }
         ensures follows { Follows input.new (I.left source.new) }
 
         ensures input_fault { result ≡ Ended.InputFault →

@@ -13,6 +13,7 @@ ghost use Rattle.rg_run.specs.Machine.{IsFresh, IsShown, numbers_of};
 ghost use Rattle.rg_run.specs.Reports.{Reports};
 ghost use Rattle.rg_run.specs.Runs.{RunsOn};
 ghost use Rattle.rg_run.specs.Sound.{Stands};
+ghost use Rattle.rg_run.specs.States.{RunsThrough};
 
 use crate::inside::Inside;
 use rg_base::{EndNumbers, Ended, Event, Memory, Seen};
@@ -105,7 +106,8 @@ impl Machine {
     /// `out` in its own step and, where `report` is true, the line of each collection to `notes` in
     /// its own. What the pacers answer decides nothing of what is written to `out`, nor of the
     /// state that the machine shows. A pacer is asked once for each step made that makes an object
-    /// by `new C` in a region of its manager, and each of its yeses is a collection.
+    /// by `new C` in a region of its manager, and each of its yeses is a collection. The states
+    /// between the steps are those that `Stepper::step` leaves, one after the other.
     pub fn run<I: Source, O: Sink, R: Sink>(
         &mut self,
         alloc: Global,
@@ -191,6 +193,37 @@ impl Machine {
                 tuned = tuned trace.new;
               };
             }) }
+        ensures states { self.new.begun ≡ true →
+            OnInput input.old input.new (I.left source.old) (I.left source.new)
+            (RunsThrough code.now accepted.now.program.manager self.new result
+            (record {
+              count = record {
+                asks = asks count.old;
+                yeses = yeses count.old;
+                told = told count.old;
+                tuned = tuned count.old;
+              };
+              trace = record {
+                asks = asks trace.old;
+                yeses = yeses trace.old;
+                told = told trace.old;
+                tuned = tuned trace.old;
+              };
+            })
+            (record {
+              count = record {
+                asks = asks count.new;
+                yeses = yeses count.new;
+                told = told count.new;
+                tuned = tuned count.new;
+              };
+              trace = record {
+                asks = asks trace.new;
+                yeses = yeses trace.new;
+                told = told trace.new;
+                tuned = tuned trace.new;
+              };
+            })) }
         ensures follows { Follows input.new (I.left source.new) }
 
         ensures input_fault { result ≡ Ended.InputFault →

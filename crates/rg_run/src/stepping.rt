@@ -6,8 +6,9 @@ ghost use Rattle.rg_input.specs.Numbers.{Follows, OnInput};
 ghost use Rattle.rg_machine.specs.Parts.{machine_in};
 ghost use Rattle.rg_rules.specs.Inputs.{first_asks};
 ghost use Rattle.rg_rules.specs.State.{State};
-ghost use Rattle.rg_step.specs.Asking.{AsksOn, YesesTold};
-ghost use Rattle.rg_step.specs.Steps.{IsRunning, Runs, StepsOn};
+ghost use Rattle.rg_step.specs.Asking.{YesesTold};
+ghost use Rattle.rg_step.specs.States.{OneStep};
+ghost use Rattle.rg_step.specs.Steps.{IsRunning, Runs};
 ghost use Rattle.rg_tree.specs.Tree.{Tree};
 ghost use Rattle.rg_run.specs.Inner.{Adds};
 
@@ -29,40 +30,45 @@ pub(crate) fn step<S: Source>(
 ) -> Outcome
     requires runs { IsRunning code.now (machine_in stepper.old.parts) }
     requires follows { Follows input.old (S.left source.old) }
-    ensures step { OnInput input.old input.new (S.left source.old) (S.left source.new)
-        (StepsOn code.now (machine_in stepper.old.parts) (machine_in stepper.new.parts) result) }
-    ensures events { Adds stepper.old.events stepper.new.events result }
-    ensures count { tuned count.new ≡ tuned count.old }
-    ensures trace { tuned trace.new ≡ tuned trace.old }
-    ensures asked { AsksOn code.now (machine_in stepper.old.parts) result
+    ensures one { OnInput input.old input.new (S.left source.old) (S.left source.new)
+        (OneStep code.now
         (record {
-          count = record {
-            asks = asks count.old;
-            yeses = yeses count.old;
-            told = told count.old;
-            tuned = tuned count.old;
-          };
-          trace = record {
-            asks = asks trace.old;
-            yeses = yeses trace.old;
-            told = told trace.old;
-            tuned = tuned trace.old;
+          stepper = stepper.old;
+          pacers = record {
+            count = record {
+              asks = asks count.old;
+              yeses = yeses count.old;
+              told = told count.old;
+              tuned = tuned count.old;
+            };
+            trace = record {
+              asks = asks trace.old;
+              yeses = yeses trace.old;
+              told = told trace.old;
+              tuned = tuned trace.old;
+            };
           };
         })
         (record {
-          count = record {
-            asks = asks count.new;
-            yeses = yeses count.new;
-            told = told count.new;
-            tuned = tuned count.new;
+          stepper = stepper.new;
+          pacers = record {
+            count = record {
+              asks = asks count.new;
+              yeses = yeses count.new;
+              told = told count.new;
+              tuned = tuned count.new;
+            };
+            trace = record {
+              asks = asks trace.new;
+              yeses = yeses trace.new;
+              told = told trace.new;
+              tuned = tuned trace.new;
+            };
           };
-          trace = record {
-            asks = asks trace.new;
-            yeses = yeses trace.new;
-            told = told trace.new;
-            tuned = tuned trace.new;
-          };
-        }) }
+        }) result) }
+    ensures events { Adds stepper.old.events stepper.new.events result }
+    ensures count { tuned count.new ≡ tuned count.old }
+    ensures trace { tuned trace.new ≡ tuned trace.old }
     ensures yeses { (behind : List Event) × (stepper.new.events ≡ stepper.old.events ++ behind)
         × YesesTold behind
         (record {

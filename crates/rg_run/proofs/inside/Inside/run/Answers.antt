@@ -1,22 +1,21 @@
 -- The turns and the ends of a run, by the lemma of each.
-use Rattle.std.proofs.Common.{◌≡◌, ◌<◌, ◌+◌, ℕ, [], false, Err, inl, inr, refl, sym, ap, subst, arith, ◌∙◌, true≢false}
+use Rattle.std.proofs.Common.{◌≡◌, ◌<◌, ℕ, [], Err, inl, inr, refl, sym, ap, subst, arith, ◌∙◌, true≢false}
 use Rattle.rg_base.specs.declared.outcome.Ended.TheVariants as ended
-use Rattle.rg_base.specs.declared.outcome.Outcome.TheVariants as outcome
 use Rattle.rg_io.proofs.ContentLemmas.{Appends-none, Rose-since}
 use Rattle.rg_tree.specs.Rows.Tables.{Tables}
 use Rattle.rg_tree.specs.Rows.RowTrees.{program_of}
 use Rattle.rg_rules.specs.Acceptance.{Accepted}
-use Rattle.rg_rules.specs.Inputs.{first_asks}
-use Rattle.rg_rules.specs.State.{State}
-use Rattle.rg_input.proofs.InputLemmas.{OnInput-still, OnInput-map}
+use Rattle.rg_input.proofs.InputLemmas.{OnInput-still}
 use Rattle.rg_machine.specs.Parts.{machine_in}
-use Rattle.rg_step.specs.Steps.{Stepping, opening_machine, Runs, StepsOn}
-use Rattle.rg_run.specs.Machine.{Kept}
-use Rattle.rg_run.proofs.AskLemmas.{asked-by, asked-leapt, yeses-none, yeses-of, yeses-more}
+use Rattle.rg_step.specs.Steps.{Stepping, opening_machine}
+use Rattle.rg_run.proofs.AskLemmas.{yeses-none, yeses-of, yeses-more}
+use Rattle.rg_run.proofs.LoopLemmas.{went-on, printed-on, turned-leapt, spent, untold, done, done-untold}
+use Rattle.rg_run.proofs.LoopLemmas.{trapped, cut-before, cut-at-input, cut-behind}
 use Rattle.rg_run.proofs.RunLemmas.{asked-none, not-begun}
-use Rattle.rg_run.proofs.TurnLemmas.{Between, Turns, RanOn, begins, quiet, printed, done, trapped, cut_before, cut_at_input, cut_behind, spent, is-running}
-use Rattle.rg_run.proofs.TurnLemmas.{turn, told, ran-only, leapt, untold, done_untold}
-use Rattle.rg_run.proofs.ReportLemmas.{reports-none, reports-whole, reports-same, reports-part, reports-front, reports-of, reports-unbegun, untold-input}
+use Rattle.rg_run.proofs.StateLemmas.{LeadsTo, opened, leapt-on, stepped-on, ended-at, refused-at, untold-leaves}
+use Rattle.rg_run.proofs.TurnLemmas.{Between, Turns, begins, is-running, ran-only}
+use Rattle.rg_run.proofs.ReportLemmas.{reports-none, reports-whole, reports-same, reports-part, reports-front, reports-of}
+use Rattle.rg_run.proofs.ReportLemmas.{reports-unbegun, untold-input}
 use Rattle.rg_run.proofs.inside.Inside.run.Goals as goal
 
 pub loop-self-init : goal.loop-self-init
@@ -29,8 +28,9 @@ loop-self-init g c =
     let P : Tables → Type 0 = λ q. Accepted (program_of q) in
     let accepted : P t = subst P c.program-program.ensures.program c.program-program.ensures.accepted in
     let h = c.in-Ok.ensures.begun in
-    let is : m ≡ opening_machine code t.manager =
-    ap (λ (s : Stepping). machine_in s.parts) h.2 ∙ h.1 ∙ ap (opening_machine code) (c.main_manager.ensures ∙ ap (λ (q : Tables). q.manager) c.program-program.ensures.program) in
+    let opens : machine_in h.0 ≡ opening_machine code t.manager =
+    h.1 ∙ ap (opening_machine code) (c.main_manager.ensures ∙ ap (λ (q : Tables). q.manager) c.program-program.ensures.program) in
+    let is : m ≡ opening_machine code t.manager = ap (λ (s : Stepping). machine_in s.parts) h.2 ∙ opens in
     record {
       begun = refl;
       follows = c.requires.follows;
@@ -49,54 +49,21 @@ loop-self-init g c =
                 (begins t code m content Still bytes accepted c.requires.lowers is (Appends-none content) (refl, refl)),
             asked-none (program_of t) bytes c.args.self.now.steps _ c.requires.fresh.steps,
           ));
+      states = OnInput-still _ _ _ _ (LeadsTo code t.manager c.args.self.now.steps _ _) refl refl
+          (opened h.0 c.begin.new.self opens h.2 c.requires.fresh.steps);
     }
 
 pub step-requires-clause-runs : goal.step-requires-clause-runs
-step-requires-clause-runs g c =
-    is-running c.args.accepted.now.program c.args.code.now c.loop-self.self.steps (machine_in c.loop-self.self.stepper.parts) _ _ _ _ _ _ _ _ _
-    c.loop-self.invariant.follows c.loop-self.invariant.turns
+step-requires-clause-runs g c = is-running c.loop-self.invariant.follows c.loop-self.invariant.turns
 
 pub leap-requires : goal.leap-requires
 leap-requires g c =
-    let t = c.args.accepted.now.program in
-    let code = c.args.code.now in
-    let k = c.loop-self.self.steps in
-    let m = machine_in c.loop-self.self.stepper.parts in
-    let new = c.step.new.stepper in
-    let old = g.O.Sink.taken c.args.out.now in
-    let middle = g.O.Sink.taken c.loop-self.out in
-    let Before : Type 0 = (c.loop-self.input ≡ c.args.input.now) × (c.loop-self.source ≡ c.args.source.now) in
-    let After : Type 0 = (c.step.new.input ≡ c.args.input.now) × (c.step.new.source ≡ c.args.source.now) in
-    let more : (p : State) → Runs (program_of t) code m p → first_asks p.items ≡ false → Before → After =
-    (λ p runs no b. let n = c.in-Running.ensures.reads_nothing (program_of t) p runs no in (n.0 ∙ b.0, n.1 ∙ b.1)) in
-    let stepped = turn _ _ _ _ _ _ (Turns t code k m old middle Before _ _) (StepsOn code m (machine_in new.parts) outcome.Running)
-    (Turns t code (k + 1) (machine_in new.parts) old middle After _ _) c.loop-self.invariant.turns c.in-Running.ensures.step
-    (λ x y z b step. (
-      quiet t code k m (machine_in new.parts) Before After x y z more old middle b.0 step,
-      asked-by t code k m old middle Before x y _ _ b.0 b.1 (machine_in new.parts) z _ outcome.Running step c.in-Running.ensures.asked,
-    )) in
-    is-running t code (k + 1) (machine_in new.parts) _ _ _ _ _ _ _ _ _ c.in-Running.ensures.follows stepped
+    is-running c.in-Running.ensures.follows (went-on c.loop-self.invariant.turns c.in-Running.ensures.reads_nothing c.in-Running.ensures.one)
 
 pub loop-self-preserved-in-Running : goal.loop-self-preserved-in-Running
 loop-self-preserved-in-Running g c =
-    let t = c.args.accepted.now.program in
-    let code = c.args.code.now in
-    let k = c.loop-self.self.steps in
-    let m = machine_in c.loop-self.self.stepper.parts in
     let new = c.step.new.stepper in
-    let old = g.O.Sink.taken c.args.out.now in
-    let middle = g.O.Sink.taken c.loop-self.out in
-    let Before : Type 0 = (c.loop-self.input ≡ c.args.input.now) × (c.loop-self.source ≡ c.args.source.now) in
-    let After : Type 0 = (c.step.new.input ≡ c.args.input.now) × (c.step.new.source ≡ c.args.source.now) in
-    let within : k < c.args.n = omega (arith, c.loop-self-test.true) in
-    let more : (p : State) → Runs (program_of t) code m p → first_asks p.items ≡ false → Before → After =
-    (λ p runs no b. let n = c.in-Running.ensures.reads_nothing (program_of t) p runs no in (n.0 ∙ b.0, n.1 ∙ b.1)) in
-    let stepped = turn _ _ _ _ _ _ (Turns t code k m old middle Before _ _) (StepsOn code m (machine_in new.parts) outcome.Running)
-    (Turns t code (k + 1) (machine_in new.parts) old middle After _ _) c.loop-self.invariant.turns c.in-Running.ensures.step
-    (λ x y z b step. (
-      quiet t code k m (machine_in new.parts) Before After x y z more old middle b.0 step,
-      asked-by t code k m old middle Before x y _ _ b.0 b.1 (machine_in new.parts) z _ outcome.Running step c.in-Running.ensures.asked,
-    )) in
+    let within : c.loop-self.self.steps < c.args.n = omega (arith, c.loop-self-test.true) in
     record {
       begun = c.loop-self.invariant.begun;
       follows = c.in-Running.ensures.follows;
@@ -109,33 +76,19 @@ loop-self-preserved-in-Running g c =
       reports = reports-same c.args.report ended.Spent new.events c.leap.new.self.events _ _ c.leap.ensures.events
           (reports-of c.args.report ended.Spent c.events.result.now c.step.new.stepper.events _ _ c.events.ensures
           (c.in-Ok-tell.ensures.reports (g.R.Sink.taken c.args.notes.now)
-          (reports-front c.args.report c.loop-self.self.stepper.events c.step.new.stepper.events c.events-told.result.now c.events.result.now _ _ c.events-told.ensures c.events.ensures
+          (reports-front c.args.report _ _ _ _ _ _ c.events-told.ensures c.events.ensures
           c.in-Running.ensures.events c.loop-self.invariant.reports)));
       yeses = yeses-of new.events c.leap.new.self.events _ _ c.leap.ensures.events
           (yeses-more c.loop-self.self.stepper.events new.events _ _ _ c.loop-self.invariant.yeses c.in-Running.ensures.yeses);
-      turns = OnInput-map _ _ _ _ (Turns t code (k + 1) (machine_in new.parts) old middle After _ _) (Turns t code (k + 1 + c.leap.result) (machine_in c.leap.new.self.parts) old middle After _ _)
-          stepped (λ x y b. (
-            leapt t code (k + 1) c.leap.result (machine_in new.parts) (machine_in c.leap.new.self.parts) After x y old middle b.0 c.leap.ensures.leaps,
-            asked-leapt t code (k + 1) c.leap.result (machine_in new.parts) (machine_in c.leap.new.self.parts) After x y old middle _ _ b.0 b.1 c.leap.ensures.leaps,
-          ));
+      turns = turned-leapt c.leap.result (went-on c.loop-self.invariant.turns c.in-Running.ensures.reads_nothing c.in-Running.ensures.one)
+          c.leap.ensures.leaps;
+      states = leapt-on (stepped-on c.loop-self.invariant.states c.in-Running.ensures.one refl) c.leap.result _ (c.leap.ensures.chain _);
     }
 
 pub loop-self-preserved : goal.loop-self-preserved
 loop-self-preserved g c =
-    let t = c.args.accepted.now.program in
-    let code = c.args.code.now in
-    let k = c.loop-self.self.steps in
-    let m = machine_in c.loop-self.self.stepper.parts in
     let new = c.step.new.stepper in
-    let old = g.O.Sink.taken c.args.out.now in
-    let middle = g.O.Sink.taken c.loop-self.out in
-    let Before : Type 0 = (c.loop-self.input ≡ c.args.input.now) × (c.loop-self.source ≡ c.args.source.now) in
-    let After : Type 0 = (c.step.new.input ≡ c.args.input.now) × (c.step.new.source ≡ c.args.source.now) in
-    let within : k < c.args.n = omega (arith, c.loop-self-test.true) in
-    let more : (p : State) → Runs (program_of t) code m p → first_asks p.items ≡ false → Before → After =
-    (λ p runs no b. let n = c.in-Printed.ensures.reads_nothing (program_of t) p runs no in (n.0 ∙ b.0, n.1 ∙ b.1)) in
-    let v = c.in-Printed.v in
-    let out = g.O.Sink.taken c.put_value.new.out in
+    let within : c.loop-self.self.steps < c.args.n = omega (arith, c.loop-self-test.true) in
     record {
       begun = c.loop-self.invariant.begun;
       follows = c.in-Printed.ensures.follows;
@@ -147,253 +100,89 @@ loop-self-preserved g c =
       trace_tuned = c.in-Printed.ensures.trace ∙ c.loop-self.invariant.trace_tuned;
       reports = reports-of c.args.report ended.Spent c.events-in-Printed.result.now c.step.new.stepper.events _ _ c.events-in-Printed.ensures
           (c.in-Ok-tell-2.ensures.reports (g.R.Sink.taken c.args.notes.now)
-          (reports-front c.args.report c.loop-self.self.stepper.events c.step.new.stepper.events c.events-told.result.now c.events-in-Printed.result.now _ _ c.events-told.ensures c.events-in-Printed.ensures
+          (reports-front c.args.report _ _ _ _ _ _ c.events-told.ensures c.events-in-Printed.ensures
           c.in-Printed.ensures.events c.loop-self.invariant.reports));
       yeses = yeses-more c.loop-self.self.stepper.events new.events _ _ _ c.loop-self.invariant.yeses c.in-Printed.ensures.yeses;
-      turns = turn _ _ _ _ _ _ (Turns t code k m old middle Before _ _) (StepsOn code m (machine_in new.parts) (outcome.Printed v))
-          (Turns t code (k + 1) (machine_in new.parts) old out After _ _) c.loop-self.invariant.turns c.in-Printed.ensures.step
-          (λ x y z b step. (
-            printed t code k m (machine_in new.parts) Before After x y z more v old middle out b.0 step c.in-Ok-put_value.ensures.ok,
-            asked-by t code k m old middle Before x y _ _ b.0 b.1 (machine_in new.parts) z _ (outcome.Printed v) step c.in-Printed.ensures.asked,
-          ));
+      turns = printed-on c.loop-self.invariant.turns c.in-Printed.ensures.reads_nothing c.in-Printed.v c.in-Printed.ensures.one
+          c.in-Ok-put_value.ensures.ok;
+      states = stepped-on c.loop-self.invariant.states c.in-Printed.ensures.one refl;
     }
 
 pub returns-in-Err-clause-asked : goal.returns-in-Err-clause-asked
 returns-in-Err-clause-asked g c =
-    let t = c.args.accepted.now.program in
-    let code = c.args.code.now in
-    let k = c.loop-self.self.steps in
-    let m = machine_in c.loop-self.self.stepper.parts in
-    let new = c.step.new.stepper in
-    let old = g.O.Sink.taken c.args.out.now in
-    let middle = g.O.Sink.taken c.loop-self.out in
-    let Before : Type 0 = (c.loop-self.input ≡ c.args.input.now) × (c.loop-self.source ≡ c.args.source.now) in
-    let After : Type 0 = (c.step.new.input ≡ c.args.input.now) × (c.step.new.source ≡ c.args.source.now) in
-    let within : k < c.args.n = omega (arith, c.loop-self-test.true) in
-    let more : (p : State) → Runs (program_of t) code m p → first_asks p.items ≡ false → Before → After =
-    (λ p runs no b. let n = c.in-Running.ensures.reads_nothing (program_of t) p runs no in (n.0 ∙ b.0, n.1 ∙ b.1)) in
-    let e = c.in-Err.ended in
-    let behind : Kept = record { begun = c.loop-self.self.begun; stepper = new; steps = k + 1 } in
-    told _ _ _ _ t c.args.n old middle behind e After _ _
-    (turn _ _ _ _ _ _ (Turns t code k m old middle Before _ _) (StepsOn code m (machine_in new.parts) outcome.Running) (RanOn t c.args.n old middle behind e After _ _)
-    c.loop-self.invariant.turns c.in-Running.ensures.step
-    (λ x y z b step. (
-      untold t code c.args.n (k + 1) new old middle After x z c.loop-self.self.begun c.loop-self.invariant.begun (omega (arith, within)) e
-          c.in-Err.ensures.untold (quiet t code k m (machine_in new.parts) Before After x y z more old middle b.0 step),
-      asked-by t code k m old middle Before x y _ _ b.0 b.1 (machine_in new.parts) z _ outcome.Running step c.in-Running.ensures.asked,
-    )))
+    let within : c.loop-self.self.steps < c.args.n = omega (arith, c.loop-self-test.true) in
+    untold (went-on c.loop-self.invariant.turns c.in-Running.ensures.reads_nothing c.in-Running.ensures.one) c.loop-self.invariant.begun
+    (omega (arith, within)) c.in-Err.ensures.untold
 
 pub returns-in-Err-clause-run : goal.returns-in-Err-clause-run
 returns-in-Err-clause-run g c = ran-only (returns-in-Err-clause-asked g c)
 
 pub returns-in-Err-put_value-clause-asked : goal.returns-in-Err-put_value-clause-asked
 returns-in-Err-put_value-clause-asked g c =
-    let t = c.args.accepted.now.program in
-    let code = c.args.code.now in
-    let k = c.loop-self.self.steps in
-    let m = machine_in c.loop-self.self.stepper.parts in
-    let new = c.step.new.stepper in
-    let old = g.O.Sink.taken c.args.out.now in
-    let middle = g.O.Sink.taken c.loop-self.out in
-    let Before : Type 0 = (c.loop-self.input ≡ c.args.input.now) × (c.loop-self.source ≡ c.args.source.now) in
-    let After : Type 0 = (c.step.new.input ≡ c.args.input.now) × (c.step.new.source ≡ c.args.source.now) in
-    let within : k < c.args.n = omega (arith, c.loop-self-test.true) in
-    let more : (p : State) → Runs (program_of t) code m p → first_asks p.items ≡ false → Before → After =
-    (λ p runs no b. let n = c.in-Printed.ensures.reads_nothing (program_of t) p runs no in (n.0 ∙ b.0, n.1 ∙ b.1)) in
-    let v = c.in-Printed.v in
-    let out = g.O.Sink.taken c.put_value.new.out in
-    let behind : Kept = record { begun = c.loop-self.self.begun; stepper = new; steps = k + 1 } in
-    told _ _ _ _ t c.args.n old out behind ended.OutputFault After _ _
-    (turn _ _ _ _ _ _ (Turns t code k m old middle Before _ _) (StepsOn code m (machine_in new.parts) (outcome.Printed v)) (RanOn t c.args.n old out behind ended.OutputFault After _ _)
-    c.loop-self.invariant.turns c.in-Printed.ensures.step
-    (λ x y z b step. (
-      cut_behind t code c.args.n k within m new Before After x y z more c.loop-self.self.begun c.loop-self.invariant.begun v old middle out b.0 step c.in-Err-put_value.ensures.part,
-      asked-by t code k m old middle Before x y _ _ b.0 b.1 (machine_in new.parts) z _ (outcome.Printed v) step c.in-Printed.ensures.asked,
-    )))
+    let within : c.loop-self.self.steps < c.args.n = omega (arith, c.loop-self-test.true) in
+    cut-behind c.loop-self.invariant.turns c.in-Printed.ensures.reads_nothing c.loop-self.invariant.begun within c.in-Printed.v
+    c.in-Printed.ensures.one c.in-Err-put_value.ensures.part
 
 pub returns-in-Err-put_value-clause-run : goal.returns-in-Err-put_value-clause-run
 returns-in-Err-put_value-clause-run g c = ran-only (returns-in-Err-put_value-clause-asked g c)
 
 pub returns-in-Err-tell-clause-asked : goal.returns-in-Err-tell-clause-asked
 returns-in-Err-tell-clause-asked g c =
-    let t = c.args.accepted.now.program in
-    let code = c.args.code.now in
-    let k = c.loop-self.self.steps in
-    let m = machine_in c.loop-self.self.stepper.parts in
-    let new = c.step.new.stepper in
-    let old = g.O.Sink.taken c.args.out.now in
-    let middle = g.O.Sink.taken c.loop-self.out in
-    let Before : Type 0 = (c.loop-self.input ≡ c.args.input.now) × (c.loop-self.source ≡ c.args.source.now) in
-    let After : Type 0 = (c.step.new.input ≡ c.args.input.now) × (c.step.new.source ≡ c.args.source.now) in
-    let within : k < c.args.n = omega (arith, c.loop-self-test.true) in
-    let more : (p : State) → Runs (program_of t) code m p → first_asks p.items ≡ false → Before → After =
-    (λ p runs no b. let n = c.in-Printed.ensures.reads_nothing (program_of t) p runs no in (n.0 ∙ b.0, n.1 ∙ b.1)) in
-    let v = c.in-Printed.v in
-    let out = g.O.Sink.taken c.put_value.new.out in
-    let e = c.in-Err-tell.ended in
-    let behind : Kept = record { begun = c.loop-self.self.begun; stepper = new; steps = k + 1 } in
-    told _ _ _ _ t c.args.n old out behind e After _ _
-    (turn _ _ _ _ _ _ (Turns t code k m old middle Before _ _) (StepsOn code m (machine_in new.parts) (outcome.Printed v)) (RanOn t c.args.n old out behind e After _ _)
-    c.loop-self.invariant.turns c.in-Printed.ensures.step
-    (λ x y z b step. (
-      untold t code c.args.n (k + 1) new old out After x z c.loop-self.self.begun c.loop-self.invariant.begun (omega (arith, within)) e
-          c.in-Err-tell.ensures.untold
-          (printed t code k m (machine_in new.parts) Before After x y z more v old middle out b.0 step c.in-Ok-put_value.ensures.ok),
-      asked-by t code k m old middle Before x y _ _ b.0 b.1 (machine_in new.parts) z _ (outcome.Printed v) step c.in-Printed.ensures.asked,
-    )))
+    let within : c.loop-self.self.steps < c.args.n = omega (arith, c.loop-self-test.true) in
+    let behind = printed-on c.loop-self.invariant.turns c.in-Printed.ensures.reads_nothing c.in-Printed.v c.in-Printed.ensures.one
+    c.in-Ok-put_value.ensures.ok in
+    untold behind c.loop-self.invariant.begun (omega (arith, within)) c.in-Err-tell.ensures.untold
 
 pub returns-in-Err-tell-clause-run : goal.returns-in-Err-tell-clause-run
 returns-in-Err-tell-clause-run g c = ran-only (returns-in-Err-tell-clause-asked g c)
 
 pub returns-in-Err-tell-2-clause-asked : goal.returns-in-Err-tell-2-clause-asked
 returns-in-Err-tell-2-clause-asked g c =
-    let t = c.args.accepted.now.program in
-    let code = c.args.code.now in
-    let k = c.loop-self.self.steps in
-    let m = machine_in c.loop-self.self.stepper.parts in
-    let new = c.step.new.stepper in
-    let old = g.O.Sink.taken c.args.out.now in
-    let middle = g.O.Sink.taken c.loop-self.out in
-    let Before : Type 0 = (c.loop-self.input ≡ c.args.input.now) × (c.loop-self.source ≡ c.args.source.now) in
-    let After : Type 0 = (c.step.new.input ≡ c.args.input.now) × (c.step.new.source ≡ c.args.source.now) in
-    let within : k < c.args.n = omega (arith, c.loop-self-test.true) in
-    let more : (p : State) → Runs (program_of t) code m p → first_asks p.items ≡ false → Before → After =
-    (λ p runs no b. let n = c.in-Done.ensures.reads_nothing (program_of t) p runs no in (n.0 ∙ b.0, n.1 ∙ b.1)) in
-    let e = c.in-Err-tell-2.ended in
-    let behind : Kept = record { begun = c.loop-self.self.begun; stepper = new; steps = k + 1 } in
-    told _ _ _ _ t c.args.n old middle behind e After _ _
-    (turn _ _ _ _ _ _ (Turns t code k m old middle Before _ _) (StepsOn code m (machine_in new.parts) outcome.Done) (RanOn t c.args.n old middle behind e After _ _)
-    c.loop-self.invariant.turns c.in-Done.ensures.step
-    (λ x y z b step. (
-      done_untold t code c.args.n k within m new Before After x y z more c.loop-self.self.begun c.loop-self.invariant.begun e
-          c.in-Err-tell-2.ensures.untold old middle b.0 step,
-      asked-by t code k m old middle Before x y _ _ b.0 b.1 (machine_in new.parts) z _ outcome.Done step c.in-Done.ensures.asked,
-    )))
+    let within : c.loop-self.self.steps < c.args.n = omega (arith, c.loop-self-test.true) in
+    done-untold c.loop-self.invariant.turns c.in-Done.ensures.reads_nothing c.loop-self.invariant.begun within c.in-Done.ensures.one
+    c.in-Err-tell-2.ensures.untold
 
 pub returns-in-Err-tell-2-clause-run : goal.returns-in-Err-tell-2-clause-run
 returns-in-Err-tell-2-clause-run g c = ran-only (returns-in-Err-tell-2-clause-asked g c)
 
 pub returns-in-Done-clause-asked : goal.returns-in-Done-clause-asked
 returns-in-Done-clause-asked g c =
-    let t = c.args.accepted.now.program in
-    let code = c.args.code.now in
-    let k = c.loop-self.self.steps in
-    let m = machine_in c.loop-self.self.stepper.parts in
-    let new = c.step.new.stepper in
-    let old = g.O.Sink.taken c.args.out.now in
-    let middle = g.O.Sink.taken c.loop-self.out in
-    let Before : Type 0 = (c.loop-self.input ≡ c.args.input.now) × (c.loop-self.source ≡ c.args.source.now) in
-    let After : Type 0 = (c.step.new.input ≡ c.args.input.now) × (c.step.new.source ≡ c.args.source.now) in
-    let within : k < c.args.n = omega (arith, c.loop-self-test.true) in
-    let more : (p : State) → Runs (program_of t) code m p → first_asks p.items ≡ false → Before → After =
-    (λ p runs no b. let n = c.in-Done.ensures.reads_nothing (program_of t) p runs no in (n.0 ∙ b.0, n.1 ∙ b.1)) in
-    let behind : Kept = record { begun = c.loop-self.self.begun; stepper = new; steps = k + 1 } in
-    told _ _ _ _ t c.args.n old middle behind ended.Done After _ _
-    (turn _ _ _ _ _ _ (Turns t code k m old middle Before _ _) (StepsOn code m (machine_in new.parts) outcome.Done) (RanOn t c.args.n old middle behind ended.Done After _ _)
-    c.loop-self.invariant.turns c.in-Done.ensures.step
-    (λ x y z b step. (
-      done t code c.args.n k within m new Before After x y z more c.loop-self.self.begun c.loop-self.invariant.begun old middle b.0 step,
-      asked-by t code k m old middle Before x y _ _ b.0 b.1 (machine_in new.parts) z _ outcome.Done step c.in-Done.ensures.asked,
-    )))
+    let within : c.loop-self.self.steps < c.args.n = omega (arith, c.loop-self-test.true) in
+    done c.loop-self.invariant.turns c.in-Done.ensures.reads_nothing c.loop-self.invariant.begun within c.in-Done.ensures.one
 
 pub returns-in-Done-clause-run : goal.returns-in-Done-clause-run
 returns-in-Done-clause-run g c = ran-only (returns-in-Done-clause-asked g c)
 
 pub returns-in-Trap-clause-asked : goal.returns-in-Trap-clause-asked
 returns-in-Trap-clause-asked g c =
-    let t = c.args.accepted.now.program in
-    let code = c.args.code.now in
-    let k = c.loop-self.self.steps in
-    let m = machine_in c.loop-self.self.stepper.parts in
-    let new = c.step.new.stepper in
-    let old = g.O.Sink.taken c.args.out.now in
-    let middle = g.O.Sink.taken c.loop-self.out in
-    let Before : Type 0 = (c.loop-self.input ≡ c.args.input.now) × (c.loop-self.source ≡ c.args.source.now) in
-    let After : Type 0 = (c.step.new.input ≡ c.args.input.now) × (c.step.new.source ≡ c.args.source.now) in
-    let within : k < c.args.n = omega (arith, c.loop-self-test.true) in
-    let more : (p : State) → Runs (program_of t) code m p → first_asks p.items ≡ false → Before → After =
-    (λ p runs no b. let n = c.in-Trap.ensures.reads_nothing (program_of t) p runs no in (n.0 ∙ b.0, n.1 ∙ b.1)) in
-    let kind = c.in-Trap.kind in
-    let line = c.in-Trap.line in
-    let behind : Kept = record { begun = c.loop-self.self.begun; stepper = new; steps = k } in
-    told _ _ _ _ t c.args.n old middle behind (ended.Trap kind line) After _ _
-    (turn _ _ _ _ _ _ (Turns t code k m old middle Before _ _) (StepsOn code m (machine_in new.parts) (outcome.Trap kind line)) (RanOn t c.args.n old middle behind (ended.Trap kind line) After _ _)
-    c.loop-self.invariant.turns c.in-Trap.ensures.step
-    (λ x y z b step. (
-      trapped t code c.args.n k within m new Before After x y z more c.loop-self.self.begun c.loop-self.invariant.begun kind line old middle b.0 step,
-      asked-by t code k m old middle Before x y _ _ b.0 b.1 (machine_in new.parts) z _ (outcome.Trap kind line) step c.in-Trap.ensures.asked,
-    )))
+    let within : c.loop-self.self.steps < c.args.n = omega (arith, c.loop-self-test.true) in
+    trapped c.loop-self.invariant.turns c.in-Trap.ensures.reads_nothing c.loop-self.invariant.begun within c.in-Trap.kind
+    c.in-Trap.line c.in-Trap.ensures.one
 
 pub returns-in-Trap-clause-run : goal.returns-in-Trap-clause-run
 returns-in-Trap-clause-run g c = ran-only (returns-in-Trap-clause-asked g c)
 
 pub returns-in-InputFault-clause-asked : goal.returns-in-InputFault-clause-asked
 returns-in-InputFault-clause-asked g c =
-    let t = c.args.accepted.now.program in
-    let code = c.args.code.now in
-    let k = c.loop-self.self.steps in
-    let m = machine_in c.loop-self.self.stepper.parts in
-    let new = c.step.new.stepper in
-    let old = g.O.Sink.taken c.args.out.now in
-    let middle = g.O.Sink.taken c.loop-self.out in
-    let Before : Type 0 = (c.loop-self.input ≡ c.args.input.now) × (c.loop-self.source ≡ c.args.source.now) in
-    let After : Type 0 = (c.step.new.input ≡ c.args.input.now) × (c.step.new.source ≡ c.args.source.now) in
-    let within : k < c.args.n = omega (arith, c.loop-self-test.true) in
-    let more : (p : State) → Runs (program_of t) code m p → first_asks p.items ≡ false → Before → After =
-    (λ p runs no b. let n = c.in-InputFault.ensures.reads_nothing (program_of t) p runs no in (n.0 ∙ b.0, n.1 ∙ b.1)) in
-    let behind : Kept = record { begun = c.loop-self.self.begun; stepper = new; steps = k } in
-    told _ _ _ _ t c.args.n old middle behind ended.InputFault After _ _
-    (turn _ _ _ _ _ _ (Turns t code k m old middle Before _ _) (StepsOn code m (machine_in new.parts) outcome.InputFault) (RanOn t c.args.n old middle behind ended.InputFault After _ _)
-    c.loop-self.invariant.turns c.in-InputFault.ensures.step
-    (λ x y z b step. (
-      cut_at_input t code c.args.n k within m new Before After x y z more c.loop-self.self.begun c.loop-self.invariant.begun old middle
-          (c.in-InputFault.ensures.input_fault refl (program_of t)) b.0 step,
-      asked-by t code k m old middle Before x y _ _ b.0 b.1 (machine_in new.parts) z _ outcome.InputFault step c.in-InputFault.ensures.asked,
-    )))
+    let within : c.loop-self.self.steps < c.args.n = omega (arith, c.loop-self-test.true) in
+    cut-at-input c.loop-self.invariant.turns c.in-InputFault.ensures.reads_nothing c.loop-self.invariant.begun within c.in-InputFault.ensures.one
+    (c.in-InputFault.ensures.input_fault refl (program_of c.args.accepted.now.program))
 
 pub returns-in-InputFault-clause-run : goal.returns-in-InputFault-clause-run
 returns-in-InputFault-clause-run g c = ran-only (returns-in-InputFault-clause-asked g c)
 
 pub returns-in-Memory-clause-asked : goal.returns-in-Memory-clause-asked
 returns-in-Memory-clause-asked g c =
-    let t = c.args.accepted.now.program in
-    let code = c.args.code.now in
-    let k = c.loop-self.self.steps in
-    let m = machine_in c.loop-self.self.stepper.parts in
-    let new = c.step.new.stepper in
-    let old = g.O.Sink.taken c.args.out.now in
-    let middle = g.O.Sink.taken c.loop-self.out in
-    let Before : Type 0 = (c.loop-self.input ≡ c.args.input.now) × (c.loop-self.source ≡ c.args.source.now) in
-    let After : Type 0 = (c.step.new.input ≡ c.args.input.now) × (c.step.new.source ≡ c.args.source.now) in
-    let within : k < c.args.n = omega (arith, c.loop-self-test.true) in
-    let more : (p : State) → Runs (program_of t) code m p → first_asks p.items ≡ false → Before → After =
-    (λ p runs no b. let n = c.in-Memory.ensures.reads_nothing (program_of t) p runs no in (n.0 ∙ b.0, n.1 ∙ b.1)) in
-    let behind : Kept = record { begun = c.loop-self.self.begun; stepper = new; steps = k } in
-    told _ _ _ _ t c.args.n old middle behind ended.Memory After _ _
-    (turn _ _ _ _ _ _ (Turns t code k m old middle Before _ _) (StepsOn code m (machine_in new.parts) outcome.Memory) (RanOn t c.args.n old middle behind ended.Memory After _ _)
-    c.loop-self.invariant.turns c.in-Memory.ensures.step
-    (λ x y z b step. (
-      cut_before t code c.args.n k within m new Before After x y z more c.loop-self.self.begun c.loop-self.invariant.begun old middle b.0 step,
-      asked-by t code k m old middle Before x y _ _ b.0 b.1 (machine_in new.parts) z _ outcome.Memory step c.in-Memory.ensures.asked,
-    )))
+    let within : c.loop-self.self.steps < c.args.n = omega (arith, c.loop-self-test.true) in
+    cut-before c.loop-self.invariant.turns c.in-Memory.ensures.reads_nothing c.loop-self.invariant.begun within c.in-Memory.ensures.one
 
 pub returns-in-Memory-clause-run : goal.returns-in-Memory-clause-run
 returns-in-Memory-clause-run g c = ran-only (returns-in-Memory-clause-asked g c)
 
 pub returns-clause-asked : goal.returns-clause-asked
 returns-clause-asked g c =
-    let t = c.args.accepted.now.program in
-    let code = c.args.code.now in
-    let k = c.loop-self.self.steps in
-    let st = c.loop-self.self.stepper in
-    let old = g.O.Sink.taken c.args.out.now in
-    let out = g.O.Sink.taken c.loop-self.out in
-    let Still : Type 0 = (c.loop-self.input ≡ c.args.input.now) × (c.loop-self.source ≡ c.args.source.now) in
-    let all : k ≡ c.args.n = omega (arith, c.loop-self-test.false, c.loop-self.invariant.within) in
-    let behind : Kept = record { begun = c.loop-self.self.begun; stepper = st; steps = k } in
-    told _ _ _ _ t c.args.n old out behind ended.Spent Still _ _
-    (OnInput-map _ _ _ _ (Turns t code k (machine_in st.parts) old out Still _ _) (RanOn t c.args.n old out behind ended.Spent Still _ _) c.loop-self.invariant.turns
-    (λ before after b. (spent t code c.args.n k st old out Still before after c.loop-self.self.begun c.loop-self.invariant.begun all b.0, b.1)))
+    let all : c.loop-self.self.steps ≡ c.args.n = omega (arith, c.loop-self-test.false, c.loop-self.invariant.within) in
+    spent c.loop-self.invariant.turns c.loop-self.invariant.begun all
 
 pub returns-clause-run : goal.returns-clause-run
 returns-clause-run g c = ran-only (returns-clause-asked g c)
@@ -409,25 +198,25 @@ pub returns-in-Err-clause-notes : goal.returns-in-Err-clause-notes
 returns-in-Err-clause-notes g c =
     reports-of c.args.report c.in-Err.ended c.events.result.now c.step.new.stepper.events _ _ c.events.ensures
     (c.in-Err.ensures.reports (g.R.Sink.taken c.args.notes.now)
-    (reports-front c.args.report c.loop-self.self.stepper.events c.step.new.stepper.events c.events-told.result.now c.events.result.now _ _ c.events-told.ensures c.events.ensures
+    (reports-front c.args.report _ _ _ _ _ _ c.events-told.ensures c.events.ensures
     c.in-Running.ensures.events c.loop-self.invariant.reports))
 
 pub returns-in-Err-put_value-clause-notes : goal.returns-in-Err-put_value-clause-notes
 returns-in-Err-put_value-clause-notes g c =
-    reports-part c.args.report c.loop-self.self.stepper.events c.step.new.stepper.events _ _ c.in-Printed.ensures.events c.loop-self.invariant.reports
+    reports-part c.args.report _ _ _ _ c.in-Printed.ensures.events c.loop-self.invariant.reports
 
 pub returns-in-Err-tell-clause-notes : goal.returns-in-Err-tell-clause-notes
 returns-in-Err-tell-clause-notes g c =
     reports-of c.args.report c.in-Err-tell.ended c.events-in-Printed.result.now c.step.new.stepper.events _ _ c.events-in-Printed.ensures
     (c.in-Err-tell.ensures.reports (g.R.Sink.taken c.args.notes.now)
-    (reports-front c.args.report c.loop-self.self.stepper.events c.step.new.stepper.events c.events-told.result.now c.events-in-Printed.result.now _ _ c.events-told.ensures c.events-in-Printed.ensures
+    (reports-front c.args.report _ _ _ _ _ _ c.events-told.ensures c.events-in-Printed.ensures
     c.in-Printed.ensures.events c.loop-self.invariant.reports))
 
 pub returns-in-Err-tell-2-clause-notes : goal.returns-in-Err-tell-2-clause-notes
 returns-in-Err-tell-2-clause-notes g c =
     reports-of c.args.report c.in-Err-tell-2.ended c.events-in-Done.result.now c.step.new.stepper.events _ _ c.events-in-Done.ensures
     (c.in-Err-tell-2.ensures.reports (g.R.Sink.taken c.args.notes.now)
-    (reports-front c.args.report c.loop-self.self.stepper.events c.step.new.stepper.events c.events-told.result.now c.events-in-Done.result.now _ _ c.events-told.ensures c.events-in-Done.ensures
+    (reports-front c.args.report _ _ _ _ _ _ c.events-told.ensures c.events-in-Done.ensures
     c.in-Done.ensures.events c.loop-self.invariant.reports))
 
 pub returns-in-Done-clause-notes : goal.returns-in-Done-clause-notes
@@ -435,24 +224,68 @@ returns-in-Done-clause-notes g c =
     reports-whole c.args.report ended.Done c.step.new.stepper.events _ _
     (reports-of c.args.report ended.Spent c.events-in-Done.result.now c.step.new.stepper.events _ _ c.events-in-Done.ensures
     (c.in-Ok-tell-3.ensures.reports (g.R.Sink.taken c.args.notes.now)
-    (reports-front c.args.report c.loop-self.self.stepper.events c.step.new.stepper.events c.events-told.result.now c.events-in-Done.result.now _ _ c.events-told.ensures c.events-in-Done.ensures
+    (reports-front c.args.report _ _ _ _ _ _ c.events-told.ensures c.events-in-Done.ensures
     c.in-Done.ensures.events c.loop-self.invariant.reports)))
 
 pub returns-in-Trap-clause-notes : goal.returns-in-Trap-clause-notes
 returns-in-Trap-clause-notes g c =
-    reports-same c.args.report (ended.Trap c.in-Trap.kind c.in-Trap.line) c.loop-self.self.stepper.events c.step.new.stepper.events _ _ c.in-Trap.ensures.events c.loop-self.invariant.reports
+    reports-same c.args.report (ended.Trap c.in-Trap.kind c.in-Trap.line) _ _ _ _ c.in-Trap.ensures.events c.loop-self.invariant.reports
 
 pub returns-in-InputFault-clause-notes : goal.returns-in-InputFault-clause-notes
 returns-in-InputFault-clause-notes g c =
-    reports-same c.args.report ended.InputFault c.loop-self.self.stepper.events c.step.new.stepper.events _ _ c.in-InputFault.ensures.events c.loop-self.invariant.reports
+    reports-same c.args.report ended.InputFault _ _ _ _ c.in-InputFault.ensures.events c.loop-self.invariant.reports
 
 pub returns-in-Memory-clause-notes : goal.returns-in-Memory-clause-notes
 returns-in-Memory-clause-notes g c =
-    reports-same c.args.report ended.Memory c.loop-self.self.stepper.events c.step.new.stepper.events _ _ c.in-Memory.ensures.events c.loop-self.invariant.reports
+    reports-same c.args.report ended.Memory _ _ _ _ c.in-Memory.ensures.events c.loop-self.invariant.reports
 
 pub returns-in_default-clause-notes : goal.returns-in_default-clause-notes
 returns-in_default-clause-notes g c =
     reports-unbegun c.args.report _ _ (ap (λ (s : Stepping). s.events) (c.in_default.ensures.kept ∙ c.requires.fresh.stepper))
+
+pub returns-in-Err-clause-states : goal.returns-in-Err-clause-states
+returns-in-Err-clause-states g c = λ begun.
+    ended-at (stepped-on c.loop-self.invariant.states c.in-Running.ensures.one refl) c.loop-self.self.begun c.in-Err.ended
+    (untold-leaves _ _ _ c.in-Err.ensures.untold)
+
+pub returns-in-Err-put_value-clause-states : goal.returns-in-Err-put_value-clause-states
+returns-in-Err-put_value-clause-states g c = λ begun.
+    ended-at (stepped-on c.loop-self.invariant.states c.in-Printed.ensures.one refl) c.loop-self.self.begun ended.OutputFault (λ bytes. (refl, refl))
+
+pub returns-in-Err-tell-clause-states : goal.returns-in-Err-tell-clause-states
+returns-in-Err-tell-clause-states g c = λ begun.
+    ended-at (stepped-on c.loop-self.invariant.states c.in-Printed.ensures.one refl) c.loop-self.self.begun c.in-Err-tell.ended
+    (untold-leaves _ _ _ c.in-Err-tell.ensures.untold)
+
+pub returns-in-Err-tell-2-clause-states : goal.returns-in-Err-tell-2-clause-states
+returns-in-Err-tell-2-clause-states g c = λ begun.
+    ended-at (stepped-on c.loop-self.invariant.states c.in-Done.ensures.one refl) c.loop-self.self.begun c.in-Err-tell-2.ended
+    (untold-leaves _ _ _ c.in-Err-tell-2.ensures.untold)
+
+pub returns-in-Done-clause-states : goal.returns-in-Done-clause-states
+returns-in-Done-clause-states g c = λ begun.
+    ended-at (stepped-on c.loop-self.invariant.states c.in-Done.ensures.one refl) c.loop-self.self.begun ended.Done (λ bytes. (refl, refl))
+
+pub returns-in-Trap-clause-states : goal.returns-in-Trap-clause-states
+returns-in-Trap-clause-states g c = λ begun.
+    refused-at c.loop-self.invariant.states c.in-Trap.ensures.one c.loop-self.self.begun
+    (ended.Trap c.in-Trap.kind c.in-Trap.line) (λ x y one. one)
+
+pub returns-in-InputFault-clause-states : goal.returns-in-InputFault-clause-states
+returns-in-InputFault-clause-states g c = λ begun.
+    refused-at c.loop-self.invariant.states c.in-InputFault.ensures.one c.loop-self.self.begun ended.InputFault (λ x y one. one)
+
+pub returns-in-Memory-clause-states : goal.returns-in-Memory-clause-states
+returns-in-Memory-clause-states g c = λ begun.
+    refused-at c.loop-self.invariant.states c.in-Memory.ensures.one c.loop-self.self.begun ended.Memory (λ x y one. inr one)
+
+pub returns-clause-states : goal.returns-clause-states
+returns-clause-states g c = λ begun.
+    ended-at c.loop-self.invariant.states c.loop-self.self.begun ended.Spent (λ bytes. (refl, refl))
+
+pub returns-in_default-clause-states : goal.returns-in_default-clause-states
+returns-in_default-clause-states g c = λ begun.
+    absurd (true≢false (sym begun ∙ c.requires.fresh.begun))
 
 pub returns-in-Err-clause-yeses : goal.returns-in-Err-clause-yeses
 returns-in-Err-clause-yeses g c =
@@ -574,7 +407,8 @@ pub returns-in-Err-put_value-clause-input_fault : goal.returns-in-Err-put_value-
 returns-in-Err-put_value-clause-input_fault g c = λ h. cc
 
 pub returns-in-Err-put_value-clause-output_fault : goal.returns-in-Err-put_value-clause-output_fault
-returns-in-Err-put_value-clause-output_fault g c = λ h. inl (Rose-since _ _ _ c.loop-self.invariant.sink_never_falls c.in-Err-put_value.ensures.failed)
+returns-in-Err-put_value-clause-output_fault g c = λ h.
+    inl (Rose-since _ _ _ c.loop-self.invariant.sink_never_falls c.in-Err-put_value.ensures.failed)
 
 pub returns-in-Err-tell-clause-begun : goal.returns-in-Err-tell-clause-begun
 returns-in-Err-tell-clause-begun g c = λ h. c.loop-self.invariant.begun
@@ -598,7 +432,8 @@ pub returns-in-Err-tell-clause-input_fault : goal.returns-in-Err-tell-clause-inp
 returns-in-Err-tell-clause-input_fault g c = λ h. absurd (untold-input _ c.in-Err-tell.ensures.untold h)
 
 pub returns-in-Err-tell-clause-output_fault : goal.returns-in-Err-tell-clause-output_fault
-returns-in-Err-tell-clause-output_fault g c = λ h. inr (Rose-since _ _ _ c.loop-self.invariant.notes_never_fall (c.in-Err-tell.ensures.failed (ap Err h)))
+returns-in-Err-tell-clause-output_fault g c = λ h.
+    inr (Rose-since _ _ _ c.loop-self.invariant.notes_never_fall (c.in-Err-tell.ensures.failed (ap Err h)))
 
 pub returns-in-Err-tell-2-clause-begun : goal.returns-in-Err-tell-2-clause-begun
 returns-in-Err-tell-2-clause-begun g c = λ h. c.loop-self.invariant.begun
@@ -622,7 +457,8 @@ pub returns-in-Err-tell-2-clause-input_fault : goal.returns-in-Err-tell-2-clause
 returns-in-Err-tell-2-clause-input_fault g c = λ h. absurd (untold-input _ c.in-Err-tell-2.ensures.untold h)
 
 pub returns-in-Err-tell-2-clause-output_fault : goal.returns-in-Err-tell-2-clause-output_fault
-returns-in-Err-tell-2-clause-output_fault g c = λ h. inr (Rose-since _ _ _ c.loop-self.invariant.notes_never_fall (c.in-Err-tell-2.ensures.failed (ap Err h)))
+returns-in-Err-tell-2-clause-output_fault g c = λ h.
+    inr (Rose-since _ _ _ c.loop-self.invariant.notes_never_fall (c.in-Err-tell-2.ensures.failed (ap Err h)))
 
 pub returns-in-Done-clause-begun : goal.returns-in-Done-clause-begun
 returns-in-Done-clause-begun g c = λ h. c.loop-self.invariant.begun

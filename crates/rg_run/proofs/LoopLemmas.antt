@@ -1,0 +1,177 @@
+-- A turn of the loop of a run: a step more, or the end of the run. Its facts on the input, the text and the pacers are one fact on bytes.
+use Rattle.std.proofs.Common.{◌≡◌, ◌∙◌, ℕ, ◌+◌, ◌≤◌, ◌<◌, Bool, true, false, inr, List, Option}
+use Rattle.rg_base.specs.declared.outcome.Ended.{Ended}
+use Rattle.rg_base.specs.declared.outcome.Ended.TheVariants as ended
+use Rattle.rg_base.specs.declared.outcome.Outcome.{Outcome}
+use Rattle.rg_base.specs.declared.outcome.Outcome.TheVariants as outcome
+use Rattle.rg_base.specs.declared.outcome.Trap.{Trap}
+use Rattle.rg_base.specs.declared.value.Val.{Val}
+use Rattle.rg_base.specs.Text.{line_text}
+use Rattle.rg_io.specs.Content.{Appends, AppendsPart}
+use Rattle.rg_tree.specs.Tree.{Tree}
+use Rattle.rg_tree.specs.Rows.Tables.{Tables}
+use Rattle.rg_tree.specs.Rows.RowTrees.{program_of}
+use Rattle.rg_rules.specs.Inputs.{first_asks}
+use Rattle.rg_rules.specs.State.{State}
+use Rattle.rg_input.specs.Numbers.{Pending, OnInput}
+use Rattle.rg_input.proofs.InputLemmas.{OnInput-map}
+use Rattle.rg_code.specs.Code.{Code}
+use Rattle.rg_stack.specs.Machine.{Machine}
+use Rattle.rg_machine.specs.Parts.{machine_in}
+use Rattle.rg_step.specs.Collections.{Asks}
+use Rattle.rg_step.specs.States.{OneStep, Standing}
+use Rattle.rg_step.specs.Steps.{Leapt, Runs, Stepping, StepsOn}
+use Rattle.rg_run.specs.Asked.{AskedOver, RunsAsking}
+use Rattle.rg_run.specs.Inner.{IsUntold}
+use Rattle.rg_run.specs.Machine.{Kept}
+use Rattle.rg_run.specs.Runs.{Ran}
+use Rattle.rg_run.proofs.AskLemmas.{asked-by, asked-leapt, behind}
+use Rattle.rg_run.proofs.TurnLemmas.{Between, Turns, turn, quiet, printed, leapt}
+use Rattle.rg_run.proofs.TurnLemmas as run
+
+abbrev kept : Bool → Stepping → ℕ → Kept
+kept started st steps = record { begun = started; stepper = st; steps = steps }
+
+abbrev standing : Stepping → Asks → Standing
+standing st pacers = record { stepper = st; pacers = pacers }
+
+-- between two turns
+
+module _ {t : Tables} {code : Code} {k : ℕ} {a b : Pending} {la lb : Option (List ℕ)} {taken middle : Option (List ℕ)} {Still : Type 0}
+    {first now : Asks} where
+  -- steps that left the input were made at once
+  pub turned-leapt : {m new : Machine} (j : ℕ) → OnInput a b la lb (Turns t code k m taken middle Still first now) → Leapt code j m new →
+      OnInput a b la lb (Turns t code (k + j) new taken middle Still first now)
+  turned-leapt {m} {new} j turns leaps =
+      OnInput-map a b la lb (Turns t code k m taken middle Still first now) (Turns t code (k + j) new taken middle Still first now) turns
+      (λ x y h. (
+        leapt t code k j m new Still x y taken middle h.0 leaps,
+        asked-leapt t code k j m new Still x y taken middle first now h.0 h.1 leaps,
+      ))
+
+  module _ {n : ℕ} {st : Stepping} {started : Bool}
+      (turns : OnInput a b la lb (Turns t code k (machine_in st.parts) taken middle Still first now)) where
+    stops : {e : Ended} →
+        ((x y : List ℕ) → Between t code k (machine_in st.parts) taken middle Still x y → Ran t n taken middle (kept started st k) e Still x y) →
+        OnInput a b la lb (RunsAsking t n taken middle (kept started st k) e Still first now)
+    stops {e} ran =
+        OnInput-map a b la lb (Turns t code k (machine_in st.parts) taken middle Still first now)
+        (RunsAsking t n taken middle (kept started st k) e Still first now) turns (λ x y h. (inr (ran x y h.0), h.1))
+
+    -- all steps were made
+    pub spent : started ≡ true → k ≡ n → OnInput a b la lb (RunsAsking t n taken middle (kept started st k) ended.Spent Still first now)
+    spent is all = stops (λ x y. run.spent t code n k st taken middle Still x y started is all)
+
+    -- a collection wasn't told
+    pub untold : {e : Ended} → started ≡ true → k ≤ n → IsUntold e →
+        OnInput a b la lb (RunsAsking t n taken middle (kept started st k) e Still first now)
+    untold {e} is within cut = stops (λ x y. run.untold t code n k st taken middle Still x y started is within e cut)
+
+-- behind a step
+
+-- where no step asks, the input is as it was
+more : {code : Code} {m : Machine} {b c : Pending} {S : Type 0} {sb sc : S} →
+    ((t : Tree) (p : State) → Runs t code m p → first_asks p.items ≡ false → (c ≡ b) × (sc ≡ sb)) → (t : Tables) (a : Pending) (sa : S) (p : State) →
+    Runs (program_of t) code m p → first_asks p.items ≡ false → (b ≡ a) × (sb ≡ sa) → (c ≡ a) × (sc ≡ sa)
+more reads_nothing t a sa p runs none still = let h = reads_nothing (program_of t) p runs none in (h.0 ∙ still.0, h.1 ∙ still.1)
+
+-- what the pacers were asked behind it
+asked : {t : Tables} {code : Code} {k : ℕ} {old new : Standing} {taken middle : Option (List ℕ)} {Still : Type 0} {first : Asks} {r : Outcome}
+    {x y z : List ℕ} → Turns t code k (machine_in old.stepper.parts) taken middle Still first old.pacers x y → OneStep code old new r y z →
+    AskedOver (program_of t) x (behind k r) first new.pacers
+asked {t} {code} {k} {old} {new} {taken} {middle} {Still} {first} {r} {x} {y} {z} h one =
+    asked-by t code k (machine_in old.stepper.parts) taken middle Still x y first old.pacers h.0 h.1 (machine_in new.stepper.parts) z new.pacers r
+    one.shows one.asked
+
+module _ {t : Tables} {code : Code} {k : ℕ} {old new : Stepping} {a b c : Pending} {la lb lc : Option (List ℕ)} {S : Type 0} {sa sb sc : S}
+    {taken middle : Option (List ℕ)} {first before after : Asks}
+    (turns : OnInput a b la lb (Turns t code k (machine_in old.parts) taken middle ((b ≡ a) × (sb ≡ sa)) first before))
+    (reads_nothing : (t : Tree) (p : State) → Runs t code (machine_in old.parts) p → first_asks p.items ≡ false → (c ≡ b) × (sc ≡ sb)) where
+  goes : {out : Option (List ℕ)} (r : Outcome) → OnInput b c lb lc (OneStep code (standing old before) (standing new after) r) →
+      ((x y z : List ℕ) → Between t code k (machine_in old.parts) taken middle ((b ≡ a) × (sb ≡ sa)) x y →
+      StepsOn code (machine_in old.parts) (machine_in new.parts) r y z →
+      Between t code (behind k r) (machine_in new.parts) taken out ((c ≡ a) × (sc ≡ sa)) x z) →
+      OnInput a c la lc (Turns t code (behind k r) (machine_in new.parts) taken out ((c ≡ a) × (sc ≡ sa)) first after)
+  goes {out} r did on =
+      turn a b c la lb lc (Turns t code k (machine_in old.parts) taken middle ((b ≡ a) × (sb ≡ sa)) first before)
+      (OneStep code (standing old before) (standing new after) r)
+      (Turns t code (behind k r) (machine_in new.parts) taken out ((c ≡ a) × (sc ≡ sa)) first after) turns did
+      (λ x y z h one. (on x y z h.0 one.shows, asked h one))
+
+  -- a step went on and printed nothing
+  pub went-on : OnInput b c lb lc (OneStep code (standing old before) (standing new after) outcome.Running) →
+      OnInput a c la lc (Turns t code (k + 1) (machine_in new.parts) taken middle ((c ≡ a) × (sc ≡ sa)) first after)
+  went-on did =
+      goes outcome.Running did
+      (λ x y z. quiet t code k (machine_in old.parts) (machine_in new.parts) ((b ≡ a) × (sb ≡ sa)) ((c ≡ a) × (sc ≡ sa)) x y z
+      (more reads_nothing t a sa) taken middle)
+
+  -- a step printed a value, whose line was then taken
+  pub printed-on : {out : Option (List ℕ)} (v : Val) →
+      OnInput b c lb lc (OneStep code (standing old before) (standing new after) (outcome.Printed v)) → Appends middle out (line_text v) →
+      OnInput a c la lc (Turns t code (k + 1) (machine_in new.parts) taken out ((c ≡ a) × (sc ≡ sa)) first after)
+  printed-on {out} v did line =
+      goes (outcome.Printed v) did
+      (λ x y z h step. printed t code k (machine_in old.parts) (machine_in new.parts) ((b ≡ a) × (sb ≡ sa)) ((c ≡ a) × (sc ≡ sa)) x y z
+      (more reads_nothing t a sa) v taken middle out h step line)
+
+  module _ {n : ℕ} {started : Bool} (is : started ≡ true) (within : k < n) where
+    ends : {out : Option (List ℕ)} (r : Outcome) (e : Ended) → OnInput b c lb lc (OneStep code (standing old before) (standing new after) r) →
+        ((x y z : List ℕ) → Between t code k (machine_in old.parts) taken middle ((b ≡ a) × (sb ≡ sa)) x y →
+        StepsOn code (machine_in old.parts) (machine_in new.parts) r y z →
+        Ran t n taken out (kept started new (behind k r)) e ((c ≡ a) × (sc ≡ sa)) x z) →
+        OnInput a c la lc (RunsAsking t n taken out (kept started new (behind k r)) e ((c ≡ a) × (sc ≡ sa)) first after)
+    ends {out} r e did ran =
+        turn a b c la lb lc (Turns t code k (machine_in old.parts) taken middle ((b ≡ a) × (sb ≡ sa)) first before)
+        (OneStep code (standing old before) (standing new after) r)
+        (RunsAsking t n taken out (kept started new (behind k r)) e ((c ≡ a) × (sc ≡ sa)) first after) turns did
+        (λ x y z h one. (inr (ran x y z h.0 one.shows), asked h one))
+
+    pub done : OnInput b c lb lc (OneStep code (standing old before) (standing new after) outcome.Done) →
+        OnInput a c la lc (RunsAsking t n taken middle (kept started new (k + 1)) ended.Done ((c ≡ a) × (sc ≡ sa)) first after)
+    done did =
+        ends outcome.Done ended.Done did
+        (λ x y z. run.done t code n k within (machine_in old.parts) new ((b ≡ a) × (sb ≡ sa)) ((c ≡ a) × (sc ≡ sa)) x y z
+        (more reads_nothing t a sa) started is taken middle)
+
+    -- the last step was made, and its collection wasn't told
+    pub done-untold : {e : Ended} → OnInput b c lb lc (OneStep code (standing old before) (standing new after) outcome.Done) → IsUntold e →
+        OnInput a c la lc (RunsAsking t n taken middle (kept started new (k + 1)) e ((c ≡ a) × (sc ≡ sa)) first after)
+    done-untold {e} did cut =
+        ends outcome.Done e did
+        (λ x y z. run.done_untold t code n k within (machine_in old.parts) new ((b ≡ a) × (sb ≡ sa)) ((c ≡ a) × (sc ≡ sa)) x y z
+        (more reads_nothing t a sa) started is e cut taken middle)
+
+    pub trapped : (kind : Trap) (line : ℕ) →
+        OnInput b c lb lc (OneStep code (standing old before) (standing new after) (outcome.Trap kind line)) →
+        OnInput a c la lc (RunsAsking t n taken middle (kept started new k) (ended.Trap kind line) ((c ≡ a) × (sc ≡ sa)) first after)
+    trapped kind line did =
+        ends (outcome.Trap kind line) (ended.Trap kind line) did
+        (λ x y z. run.trapped t code n k within (machine_in old.parts) new ((b ≡ a) × (sb ≡ sa)) ((c ≡ a) × (sc ≡ sa)) x y z
+        (more reads_nothing t a sa) started is kind line taken middle)
+
+    -- no memory was found for a step
+    pub cut-before : OnInput b c lb lc (OneStep code (standing old before) (standing new after) outcome.Memory) →
+        OnInput a c la lc (RunsAsking t n taken middle (kept started new k) ended.Memory ((c ≡ a) × (sc ≡ sa)) first after)
+    cut-before did =
+        ends outcome.Memory ended.Memory did
+        (λ x y z. run.cut_before t code n k within (machine_in old.parts) new ((b ≡ a) × (sb ≡ sa)) ((c ≡ a) × (sc ≡ sa)) x y z
+        (more reads_nothing t a sa) started is taken middle)
+
+    -- the input failed
+    pub cut-at-input : OnInput b c lb lc (OneStep code (standing old before) (standing new after) outcome.InputFault) →
+        ((p : State) → Runs (program_of t) code (machine_in old.parts) p → first_asks p.items ≡ true) →
+        OnInput a c la lc (RunsAsking t n taken middle (kept started new k) ended.InputFault ((c ≡ a) × (sc ≡ sa)) first after)
+    cut-at-input did asks =
+        ends outcome.InputFault ended.InputFault did
+        (λ x y z. run.cut_at_input t code n k within (machine_in old.parts) new ((b ≡ a) × (sb ≡ sa)) ((c ≡ a) × (sc ≡ sa)) x y z
+        (more reads_nothing t a sa) started is taken middle asks)
+
+    -- the output failed behind a step that printed a value
+    pub cut-behind : {out : Option (List ℕ)} (v : Val) →
+        OnInput b c lb lc (OneStep code (standing old before) (standing new after) (outcome.Printed v)) → AppendsPart middle out (line_text v) →
+        OnInput a c la lc (RunsAsking t n taken out (kept started new (k + 1)) ended.OutputFault ((c ≡ a) × (sc ≡ sa)) first after)
+    cut-behind {out} v did part =
+        ends (outcome.Printed v) ended.OutputFault did
+        (λ x y z h step. run.cut_behind t code n k within (machine_in old.parts) new ((b ≡ a) × (sb ≡ sa)) ((c ≡ a) × (sc ≡ sa)) x y z
+        (more reads_nothing t a sa) started is v taken middle out h step part)
