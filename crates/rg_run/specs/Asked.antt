@@ -18,20 +18,20 @@ pub record AskedOver (t : Tree) (input : List ℕ) (steps : ℕ) (before after :
   pub count : after.count.asks ≡ raised (length (asks t input steps Count)) before.count.asks
   pub trace : after.trace.asks ≡ raised (length (asks t input steps Trace)) before.trace.asks
 
--- the number of the step of the last of these collections that was a pacer's of a manager; this number, where none was
+-- the step of the last of these collections that the pacer of a manager said yes to, and this number where there is none
 abbrev pub last_behind : Manager → (found : ℕ) → List Event → ℕ
 last_behind m found [] = found
 last_behind m found (e ∷ later) = last_behind m (if paced_by m e then e.step else found) later
 
--- the step of the last yes of a manager's pacer, of the collections of a run; 0 where it said none
+-- the step of the last one of a run; steps count from 1, and it is 0 where there is none
 abbrev pub last_yes : Manager → List Event → ℕ
 last_yes m events = last_behind m 0 events
 
--- of the steps that asked a pacer, so many are later than one of that number
+-- how many of the steps that ask a pacer are later than one
 abbrev pub later_than : (step : ℕ) → (asked : List ℕ) → ℕ
 later_than step asked = count_by (λ n. nat_lt step n) asked
 
--- behind the first steps of a program on an input, so many, a machine has counted for each pacer the steps that asked it since its last yes
+-- behind its steps of a program on an input, a machine has counted for each pacer those that asked it since its last yes
 pub record SinceYes (t : Tree) (input : List ℕ) (m : Kept) : Type 0 where
   pub count : m.stepper.since.count ≡ raised (later_than (last_yes Count m.stepper.events) (asks t input m.steps Count)) 0
   pub trace : m.stepper.since.trace ≡ raised (later_than (last_yes Trace m.stepper.events) (asks t input m.steps Trace)) 0
