@@ -16,6 +16,7 @@ use Rattle.rg_step.specs.Collections.{Asks, IsRefused, Paces, ReachesOn, Serves,
 use Rattle.rg_step.specs.States.{Chain, IsRoomed, Links, OneStep, Standing}
 use Rattle.rg_step.specs.Steps.{Stepping, StepsOn, is_made}
 use Rattle.rg_step.specs.Writes.{WritesOnly}
+use Rattle.rg_step.proofs.HighLemmas.{raises-from}
 
 -- A step looks at what the machine shows and at what was told, and at no room
 
@@ -50,15 +51,15 @@ abbrev with_parts : Standing → Parts → Standing
 with_parts s p = record s { stepper = record s.stepper { parts = p } }
 
 one-parts : (code : Code) (old new : Standing) (p : Parts) (result : Outcome) (x y : List ℕ) → machine_in p ≡ machine_in old.stepper.parts
-    → OneStep code old new result x y → OneStep code (with_parts old p) new result x y
-one-parts code old new p result x y shown o =
+    → p.heap ≡ old.stepper.parts.heap → OneStep code old new result x y → OneStep code (with_parts old p) new result x y
+one-parts code old new p result x y shown heap o =
     let s = sym shown in record {
       shows = subst (λ (m : Machine). StepsOn code m (machine_in new.stepper.parts) result x y) s o.shows;
       serves = (
         o.serves.0,
         subst (λ (m : Machine). StepsOn code m (machine_in o.serves.0) result x y) s o.serves.1,
-        subst (λ (m : Machine). ServesBy (due_at code.ops m.at) (record old.stepper { parts = p }) o.serves.0 new.stepper old.pacers new.pacers result) s
-            (by-roomed old.stepper p o.serves.0 new.stepper old.pacers new.pacers (due_at code.ops old.stepper.parts.at) result o.serves.2),
+        subst (λ (m : Machine). ServesBy (due_at code.ops m.at) (record old.stepper { parts = p }) o.serves.0 new.stepper old.pacers new.pacers
+            result) s (by-roomed old.stepper p o.serves.0 new.stepper old.pacers new.pacers (due_at code.ops old.stepper.parts.at) result o.serves.2),
       );
       reaches = subst (λ (m : Machine). ReachesOn code m old.stepper.events new.stepper.events x y) s o.reaches;
       asked = subst (λ (m : Machine). AsksOn code m result old.pacers new.pacers) s o.asked;
@@ -69,6 +70,7 @@ one-parts code old new p result x y shown o =
         subst (λ (m : Machine). SinceOn code m result o.yeses.0 old.stepper.since new.stepper.since) s o.yeses.3,
       );
       writes = subst (λ (m : Machine). WritesOnly m (machine_in new.stepper.parts)) s o.writes;
+      high = raises-from result p old.stepper.parts new.stepper.parts (sym heap) o.high;
       counts = o.counts;
     }
 
@@ -77,12 +79,12 @@ one-roomed : (code : Code) (old mid new : Standing) (result : Outcome) (x y : Li
     → OneStep code old new result x y
 one-roomed code old mid new result x y r o =
     let back : with_parts mid old.stepper.parts ≡ old = ap (λ (s : Standing). with_parts s old.stepper.parts) r.rest in
-    subst (λ (s : Standing). OneStep code s new result x y) back (one-parts code mid new old.stepper.parts result x y (sym r.shown) o)
+    subst (λ (s : Standing). OneStep code s new result x y) back (one-parts code mid new old.stepper.parts result x y (sym r.shown) (sym r.heap) o)
 
 -- Chains
 
 still-roomed : (s : Standing) → IsRoomed s s
-still-roomed s = record { shown = refl; rest = refl }
+still-roomed s = record { shown = refl; heap = refl; rest = refl }
 
 links-roomed : (code : Code) (j : ℕ) (a b c : Standing) (x y : List ℕ) → IsRoomed a b → Links code j b c x y → Chain code j a c x y
 links-roomed code zero a b c x y r l = (a, (refl, l.1), subst (λ s. IsRoomed a s) (sym l.0) r)
@@ -102,6 +104,7 @@ links-then code k (suc j) a b c x y z l (m, left, result, r, made, one) =
 roomed-then : (a b c : Standing) → IsRoomed a b → IsRoomed b c → IsRoomed a c
 roomed-then a b c r s = record {
   shown = s.shown ∙ r.shown;
+  heap = s.heap ∙ r.heap;
   rest = s.rest ∙ ap (λ (x : Standing). with_parts x c.stepper.parts) r.rest;
 }
 

@@ -1,6 +1,7 @@
 mod TurnLemmas
 mod ClearLemmas
 mod StandsLemmas
+mod HighLemmas
 mod LeavesLemmas
 mod RunLemmas
 mod AskLemmas

@@ -8,12 +8,14 @@ use Rattle.rg_cells.specs.Table.{Serials}
 use Rattle.rg_code.specs.Code.{Code}
 use Rattle.rg_regions.specs.Grove.{Grove}
 use Rattle.rg_stack.specs.Dues.{due_at}
+use Rattle.rg_machine.specs.High.{NoneMade}
 use Rattle.rg_machine.specs.Parts.{Parts, machine_in}
 use Rattle.rg_machine.specs.Stands.{Stands}
 use Rattle.rg_step.specs.Collections.{IsRefused, Serves}
-use Rattle.rg_step.specs.States.{OneStep, Standing}
+use Rattle.rg_step.specs.States.{OneStep, Raises, Standing}
 use Rattle.rg_step.specs.Steps.{Counts, IsRunning, StepsOn, counted, is_made}
 use Rattle.rg_step.proofs.AskedLemmas.{asks-refused, asks-served, asks-undue}
+use Rattle.rg_step.proofs.HighLemmas.{raises-none}
 use Rattle.rg_step.proofs.ReachedLemmas.{none-reached, serves-reached}
 use Rattle.rg_step.proofs.ServeLemmas.{serves-none, serves-refused, serves-shows, serves-some, steps-nowhere}
 use Rattle.rg_step.proofs.SinceLemmas.{none-said, since-refused, since-served, since-undue}
@@ -40,12 +42,13 @@ counts-made old new outcome.Memory made more = absurd (true≢false (sym made))
 
 -- Steps
 
-module _ (code : Code) (old new : Standing) (runs : IsRunning code (machine_in old.stepper.parts)) where
+module _ (code : Code) (old new : Standing) (runs : IsRunning code (machine_in old.stepper.parts)) (result : Outcome)
+    (high : Raises result old.stepper.parts new.stepper.parts) where
   -- it was refused
-  pub one-refused : (result : Outcome) → is_made result ≡ false → IsRefused old.stepper new.stepper old.pacers new.pacers
+  pub one-refused : is_made result ≡ false → IsRefused old.stepper new.stepper old.pacers new.pacers
       → new.stepper.steps ≡ old.stepper.steps → (before after : List ℕ)
       → StepsOn code (machine_in old.stepper.parts) (machine_in new.stepper.parts) result before after → OneStep code old new result before after
-  one-refused result none refused same before after steps = record {
+  one-refused none refused same before after steps = record {
     shows = steps;
     serves = (new.stepper.parts, steps, serves-refused _ _ _ _ _ _ result none refused);
     reaches = λ t p q r e went. none-reached _ _ q refused.events_are;
@@ -54,14 +57,15 @@ module _ (code : Code) (old new : Standing) (runs : IsRunning code (machine_in o
         let y = no-yes _ _ _ _ refused.events_are refused.unasked.pacers in
         (y.0, y.1, y.2, since-refused code (machine_in old.stepper.parts) result y.0 _ _ none refused.unasked.since);
     writes = steps-write code _ _ result before after runs steps;
+    high = high;
     counts = counts-refused old.stepper.steps new.stepper.steps result none same;
   }
 
   -- it was made, and nothing was due
-  pub one-undue : (result : Outcome) → is_made result ≡ true → due_at code.ops old.stepper.parts.at ≡ None
+  pub one-undue : is_made result ≡ true → due_at code.ops old.stepper.parts.at ≡ None
       → IsRefused old.stepper new.stepper old.pacers new.pacers → new.stepper.steps ≡ counted old.stepper.steps → (before after : List ℕ)
       → StepsOn code (machine_in old.stepper.parts) (machine_in new.stepper.parts) result before after → OneStep code old new result before after
-  one-undue result made none left more before after steps = record {
+  one-undue made none left more before after steps = record {
     shows = steps;
     serves = (
       new.stepper.parts,
@@ -75,6 +79,7 @@ module _ (code : Code) (old new : Standing) (runs : IsRunning code (machine_in o
         let unsaid = none-said old.stepper.events y.0 new.stepper.events y.1 left.events_are in
         (y.0, y.1, y.2, since-undue code (machine_in old.stepper.parts) result y.0 _ _ made none left.unasked.since unsaid);
     writes = steps-write code _ _ result before after runs steps;
+    high = high;
     counts = counts-made old.stepper.steps new.stepper.steps result made more;
   }
 
@@ -83,7 +88,7 @@ pub one-nothing : (code : Code) (old new : Standing) → IsRunning code (machine
     → IsRefused old.stepper new.stepper old.pacers new.pacers → new.stepper.steps ≡ old.stepper.steps → (bytes : List ℕ)
     → OneStep code old new outcome.Memory bytes bytes
 one-nothing code old new runs there refused same bytes =
-    one-refused code old new runs outcome.Memory refl refused same bytes bytes
+    one-refused code old new runs outcome.Memory tt refl refused same bytes bytes
     (subst (λ (p : Parts). StepsOn code (machine_in old.stepper.parts) (machine_in p) outcome.Memory bytes bytes) (sym there)
     (steps-nowhere code (machine_in old.stepper.parts) bytes))
 
@@ -93,10 +98,12 @@ module _ (code : Code) (old : Standing) (mid : Parts) (new : Standing) (runs : I
     (grove : Grove mid.heap.cells mid.heap.regions) (grown : Grove new.stepper.parts.heap.cells new.stepper.parts.heap.regions)
     (why : Cause) (due : due_at code.ops old.stepper.parts.at ≡ Some why)
     (events : List Event) (told : events ≡ old.stepper.events)
-    (serves : Serves (Some why) (record old.stepper { events = events }) mid new.stepper old.pacers new.pacers) where
-  pub one-served : (result : Outcome) → is_made result ≡ true → new.stepper.steps ≡ counted old.stepper.steps → (before after : List ℕ)
+    (serves : Serves (Some why) (record old.stepper { events = events }) mid new.stepper old.pacers new.pacers)
+    (none : NoneMade mid.heap new.stepper.parts.heap) where
+  pub one-served : (result : Outcome) → Raises result old.stepper.parts mid → is_made result ≡ true
+      → new.stepper.steps ≡ counted old.stepper.steps → (before after : List ℕ)
       → StepsOn code (machine_in old.stepper.parts) (machine_in mid) result before after → OneStep code old new result before after
-  one-served result made more before after steps =
+  one-served result high made more before after steps =
       let m = machine_in old.stepper.parts in
       let behind = record old.stepper { events = events } in
       let shows = serves-shows code m result made why behind mid new.stepper _ _ serves stands serials windows before after steps in
@@ -111,5 +118,6 @@ module _ (code : Code) (old : Standing) (mid : Parts) (new : Standing) (runs : I
             let since = since-served code m why behind mid new.stepper _ _ result before after made due serves stands steps in
             (y.0, y.1, y.2, since y.0 (y.1 ∙ ap (λ es. es ++ y.0) (sym told)));
         writes = steps-write code _ _ result before after runs shows;
+        high = raises-none result old.stepper.parts mid new.stepper.parts high none;
         counts = counts-made old.stepper.steps new.stepper.steps result made more;
       }

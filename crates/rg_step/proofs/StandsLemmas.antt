@@ -54,13 +54,13 @@ calm-free code (i.Clear s ∷ os) e = calm-free code os e
 calm-free code (i.Call m ∷ os) e = absurd (true≢false e)
 calm-free code (o ∷ os) e = refl
 
-orderly-free : (code : List Op) (at : ℕ) (os : List Op) → calls_next os ≡ false → orderly code at true os ≡ orderly code at false os
+pub orderly-free : (code : List Op) (at : ℕ) (os : List Op) → calls_next os ≡ false → orderly code at true os ≡ orderly code at false os
 orderly-free code at [] e = refl
 orderly-free code at (i.Clear s ∷ os) e = calm-free code os e
 orderly-free code at (i.Call m ∷ os) e = absurd (true≢false e)
 orderly-free code at (o ∷ os) e = refl
 
-first-there : (n : ℕ) (os : List Op) → slice_get (drop n os) 0 ≡ slice_get os n
+pub first-there : (n : ℕ) (os : List Op) → slice_get (drop n os) 0 ≡ slice_get os n
 first-there zero os = refl
 first-there (suc n) [] = refl
 first-there (suc n) (o ∷ os) = first-there n os

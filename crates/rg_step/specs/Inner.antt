@@ -4,3 +4,4 @@ pub mod Refusals
 pub mod Leaps
 pub mod Held
 pub mod Serving
+pub mod High

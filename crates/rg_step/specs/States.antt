@@ -37,11 +37,13 @@ pub record OneStep (code : Code) (old new : Standing) (result : Outcome) (before
       × SinceOn code (machine_in old.stepper.parts) result behind old.stepper.since new.stepper.since
   -- it writes into objects of the active region and temporaries of the topmost window alone
   pub writes : WritesOnly (machine_in old.stepper.parts) (machine_in new.stepper.parts)
+  pub high : Raises result old.stepper.parts new.stepper.parts
   pub counts : Counts old.stepper.steps new.stepper.steps result
 
--- nothing but the room for frames differs
+-- the same machine is shown over the same heap, and all but the parts is the same: room for frames may have been made
 pub record IsRoomed (old new : Standing) : Type 0 where
   pub shown : machine_in new.stepper.parts ≡ machine_in old.stepper.parts
+  pub heap : new.stepper.parts.heap ≡ old.stepper.parts.heap
   pub rest : new ≡ record old { stepper = record old.stepper { parts = new.stepper.parts } }
 
 -- So many steps that were made, one after the other: a list of one state more, from the first to the last, each of which follows from the one

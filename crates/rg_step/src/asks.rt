@@ -5,6 +5,8 @@ ghost use Rattle.rg_io.specs.Content.{Rose};
 ghost use Rattle.rg_input.specs.Numbers.{Follows, OnInput};
 ghost use Rattle.rg_stack.specs.Machine.{Machine as StackMachine};
 ghost use Rattle.rg_machine.specs.Parts.{core_of, machine_in};
+ghost use Rattle.rg_heap.specs.Parts.{Parts as HeapParts};
+ghost use Rattle.rg_step.specs.Inner.High.{ComeMade, MayMake};
 ghost use Rattle.rg_step.specs.Inner.Refusals.{ComeBacks, ComeLeaves, Stands};
 ghost use Rattle.rg_step.specs.Inner.Walks.{ComesTo, UnstuckOn, walk_from};
 
@@ -48,6 +50,8 @@ pub(crate) fn walk_asking<S: Source>(
         Stands code.now.ops start asks from (machine_in p.old) →
         ComeLeaves start asks (machine_in p.new) result }
     ensures backs { ComeBacks (machine_in p.old) result }
+    ensures high { (start : HeapParts) → MayMake code.now.ops start from p.old.heap →
+        ComeMade start p.new.heap result }
     ensures unasked { (start : StackMachine) → Stands code.now.ops start false from (machine_in p.old) →
         (input.new ≡ input.old) × (source.new ≡ source.old) }
     ensures follows { Follows input.new (S.left source.new) }

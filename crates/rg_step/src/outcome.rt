@@ -9,6 +9,7 @@ ghost use Rattle.rg_rules.specs.Inputs.{first_asks};
 ghost use Rattle.rg_rules.specs.State.{State};
 ghost use Rattle.rg_machine.specs.Parts.{machine_in};
 ghost use Rattle.rg_step.specs.Steps.{IsResting, IsRunning, Runs, StepsOn};
+ghost use Rattle.rg_step.specs.States.{Raises};
 ghost use Rattle.rg_step.specs.Inner.Serving.{answer};
 
 use crate::step::{Did, step};
@@ -30,6 +31,7 @@ pub(crate) fn outcome<S: Source>(
     requires follows { Follows input.old (S.left source.old) }
     ensures step { OnInput input.old input.new (S.left source.old) (S.left source.new)
         (StepsOn code.now (machine_in p.old) (machine_in p.new) result) }
+    ensures high { Raises result p.old p.new }
     ensures rests { IsResting p.new }
     ensures reads_nothing { (t : Tree) (s : State) → Runs t code.now (machine_in p.old) s →
         first_asks s.items ≡ false → (input.new ≡ input.old) × (source.new ≡ source.old) }

@@ -33,7 +33,8 @@ use rg_pace::Pacer;
 use std::alloc::Global;
 use std::marker::Model;
 
-/// The machine that runs the code of a program, step by step; there is none before a program begins.
+/// The machine that runs the code of a program, step by step; there is none before a program
+/// begins. Between two steps nothing is on its stack, and nothing is printed.
 #[derive(Drop)]
 pub struct Stepper {
     machine: Option<Machine>,

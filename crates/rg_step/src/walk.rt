@@ -3,6 +3,8 @@
 ghost use Rattle.std.specs.Prelude.{Bool as Truth};
 ghost use Rattle.rg_stack.specs.Machine.{Machine as StackMachine};
 ghost use Rattle.rg_machine.specs.Parts.{core_of, machine_in};
+ghost use Rattle.rg_heap.specs.Parts.{Parts as HeapParts};
+ghost use Rattle.rg_step.specs.Inner.High.{EndMade, MayMake};
 ghost use Rattle.rg_step.specs.Inner.Refusals.{EndBacks, EndLeaves, Stands};
 ghost use Rattle.rg_step.specs.Inner.Walks.{Unstuck, WalkIs, walk_from};
 
@@ -39,6 +41,8 @@ pub(crate) fn walk(p: &mut Machine, code: &CodeList, from: usize) -> End
         Stands code.now.ops start asks from (machine_in p.old) →
         EndLeaves code.now.ops start asks (machine_in p.new) result }
     ensures backs { EndBacks (machine_in p.old) (machine_in p.new) result }
+    ensures high { (start : HeapParts) → MayMake code.now.ops start from p.old.heap →
+        EndMade code.now.ops start p.new.heap result }
 {
     let mut at = from;
     while at < code.len() {

@@ -13,6 +13,8 @@ use Rattle.rg_step.specs.declared.asks.Come.TheVariants as come
 use Rattle.rg_step.specs.Inner.Refusals.{Unread, StillLeft}
 use Rattle.rg_step.specs.Inner.Walks.{ComesTo, walk_from}
 use Rattle.rg_step.proofs.AskLemmas.{OnInput-both, read-on, more-on, unstuck-there}
+use Rattle.rg_step.specs.Inner.High.{MayMake}
+use Rattle.rg_step.proofs.HighLemmas.{may-most}
 use Rattle.rg_step.proofs.LeavesLemmas.{stands-put, put-backs, same-back, no-asking, no-machine, unread-left, unread-number}
 use Rattle.rg_machine.specs.Parts.{core_of, machine_in}
 use Rattle.rg_step.proofs.asks.walk_asking.Goals as goal
@@ -48,6 +50,8 @@ loop-at-preserved-in-Ok g c =
       stands = λ start asks h. stands-put c.args.code.now.ops start asks c.in-Read.place (core_of c.walk.new.p) (core_of c.set_top.new.self) _ c.set_top.ensures.core
           (c.in-Read.ensures.leaves start asks (c.loop-at.invariant.stands start asks h)).0;
       backs = put-backs (core_of c.walk.new.p) (core_of c.set_top.new.self) _ c.set_top.ensures.core ∙ c.in-Read.ensures.backs ∙ c.loop-at.invariant.backs;
+      high = λ start h. subst (MayMake code.ops start (c.in-Read.place + 1)) (sym c.set_top.ensures.same.heap)
+          (c.in-Read.ensures.high start (c.loop-at.invariant.high start h));
       unasked = λ start h. absurd (true≢false (sym (c.in-Read.ensures.leaves start false (c.loop-at.invariant.stands start false h)).0.asked));
       follows = c.in-Ok.ensures.follows;
       never_falls = omega (arith, c.loop-at.invariant.never_falls, c.in-Ok.ensures.never_falls);
@@ -75,6 +79,8 @@ loop-at-preserved g c =
           (c.in-More.ensures.leaves start asks (c.loop-at.invariant.stands start asks h));
       backs = put-backs (core_of c.walk.new.p) (core_of c.set_top-in-Ok-more.new.self) _ c.set_top-in-Ok-more.ensures.core ∙ c.in-More.ensures.backs
           ∙ c.loop-at.invariant.backs;
+      high = λ start h. subst (MayMake code.ops start (c.in-More.place + 1)) (sym c.set_top-in-Ok-more.ensures.same.heap)
+          (c.in-More.ensures.high start (c.loop-at.invariant.high start h));
       unasked = λ start h. absurd (true≢false (sym (c.in-More.ensures.leaves start false (c.loop-at.invariant.stands start false h)).asked));
       follows = c.in-Ok-more.ensures.follows;
       never_falls = omega (arith, c.loop-at.invariant.never_falls, c.in-Ok-more.ensures.never_falls);
@@ -237,3 +243,28 @@ returns-in-Memory-clause-comes g c =
     (ComesTo code c.args.from (core_of c.args.p.now) (core_of c.walk.new.p) come.Memory) c.loop-at.invariant.so_far
     (λ before after h. unread-left code.ops c.args.from c.loop-at.at (machine_in c.args.p.now) before after h.1
     (λ calm. no-machine (machine_in c.walk.new.p) (λ m. c.in-Memory.ensures.leaves m false (inr calm))))
+
+pub returns-in-Err-End-clause-high : goal.returns-in-Err-End-clause-high
+returns-in-Err-End-clause-high g c start h =
+    may-most c.args.code.now.ops start (c.in-Read.place + 1) c.walk.new.p.heap (c.in-Read.ensures.high start (c.loop-at.invariant.high start h))
+
+pub returns-in-Err-Input-clause-high : goal.returns-in-Err-Input-clause-high
+returns-in-Err-Input-clause-high g c start h =
+    may-most c.args.code.now.ops start (c.in-Read.place + 1) c.walk.new.p.heap (c.in-Read.ensures.high start (c.loop-at.invariant.high start h))
+
+pub returns-in-Err-InputFault-clause-high : goal.returns-in-Err-InputFault-clause-high
+returns-in-Err-InputFault-clause-high g c start h =
+    may-most c.args.code.now.ops start (c.in-Read.place + 1) c.walk.new.p.heap (c.in-Read.ensures.high start (c.loop-at.invariant.high start h))
+
+pub returns-in-Err-clause-high : goal.returns-in-Err-clause-high
+returns-in-Err-clause-high g c start h =
+    may-most c.args.code.now.ops start (c.in-More.place + 1) c.walk.new.p.heap (c.in-More.ensures.high start (c.loop-at.invariant.high start h))
+
+pub returns-in-Stop-clause-high : goal.returns-in-Stop-clause-high
+returns-in-Stop-clause-high g c start h = c.in-Stop.ensures.high start (c.loop-at.invariant.high start h)
+
+pub returns-in-Return-clause-high : goal.returns-in-Return-clause-high
+returns-in-Return-clause-high g c start h = c.in-Return.ensures.high start (c.loop-at.invariant.high start h)
+
+pub returns-in-Trap-clause-high : goal.returns-in-Trap-clause-high
+returns-in-Trap-clause-high g c start h = c.in-Trap.ensures.high start (c.loop-at.invariant.high start h)

@@ -1,8 +1,10 @@
 use Rattle.std.proofs.Common.{◌≡◌, sym, ap, subst, ◌∙◌}
 use Rattle.rg_input.proofs.InputLemmas.{OnInput-map}
 use Rattle.rg_input.specs.Numbers.{OnInput}
-use Rattle.rg_machine.specs.Parts.{core_of, machine_in}
+use Rattle.rg_machine.specs.Parts.{Parts, core_of, machine_in}
 use Rattle.rg_stack.specs.Machine.{Machine}
+use Rattle.rg_step.specs.Inner.High.{DidMade}
+use Rattle.rg_step.proofs.HighLemmas.{answer-raises}
 use Rattle.rg_step.specs.Inner.Refusals.{DidLeaves, asks_at}
 use Rattle.rg_step.specs.Inner.Serving.{answer}
 use Rattle.rg_step.specs.Inner.Walks.{StepIs}
@@ -53,3 +55,12 @@ returns-clause-input_fault g c e t s r =
 pub returns-clause-fault : goal.returns-clause-fault
 returns-clause-fault g c e =
     c.step-did.ensures.fault (answer-fault c.step-did.result c.printed-printed.result (sym c.answer.ensures ∙ e))
+
+pub returns-clause-high : goal.returns-clause-high
+returns-clause-high g c =
+    let runs = c.requires.runs in
+    let old = c.args.p.now in
+    let d = c.step-did.result in
+    let made = c.step-did.ensures.high (runs-orderly runs.0 c.args.code.now (machine_in old) runs.1 runs.2) in
+    let there : DidMade old.heap c.start.new.self.heap d = subst (λ (p : Parts). DidMade old.heap p.heap d) (sym c.start.ensures) made in
+    rw c.answer.ensures (answer-raises old c.start.new.self d c.printed-printed.result there)

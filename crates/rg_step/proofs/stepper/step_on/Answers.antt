@@ -23,7 +23,7 @@ returns-then-not-made-clause-step g c =
     let no : is_made result ≡ false = sym c.is_made-made.ensures ∙ c.if-not-made.true in
     OnInput-map _ _ _ _ (StepsOn c.args.code.now m (machine_in c.outcome-outcome.new.p) result) (OneStep c.args.code.now _ _ result)
     c.outcome-outcome.ensures.step
-    (one-refused c.args.code.now _ _ c.requires.runs result no
+    (one-refused c.args.code.now _ _ c.requires.runs result c.outcome-outcome.ensures.high no
     (record { events_are = c.make_place.ensures.items; unasked = record { since = refl; pacers = refl } }) refl)
 
 pub returns-in_default-due-clause-step : goal.returns-in_default-due-clause-step
@@ -35,7 +35,7 @@ returns-in_default-due-clause-step g c =
     sym (c.due_at-due.ensures ∙ ap (due_at c.args.code.now.ops) c.at.ensures) ∙ c.in_default-due.is in
     OnInput-map _ _ _ _ (StepsOn c.args.code.now m (machine_in c.outcome-outcome.new.p) result) (OneStep c.args.code.now _ _ result)
     c.outcome-outcome.ensures.step
-    (one-undue c.args.code.now _ _ c.requires.runs result made none
+    (one-undue c.args.code.now _ _ c.requires.runs result c.outcome-outcome.ensures.high made none
     (record { events_are = c.make_place.ensures.items; unasked = record { since = refl; pacers = refl } }) c.one_more-kept.ensures)
 
 pub serve-requires-clause-once : goal.serve-requires-clause-once
@@ -56,4 +56,5 @@ returns-clause-step g c =
     c.outcome-outcome.ensures.step
     (one-served c.args.code.now _ mid _ c.requires.runs c.is_sound.ensures.stands c.is_sound.ensures.serials c.is_sound.ensures.windows
     c.is_sound.ensures.forest c.is_sound-2.ensures.forest c.in-Some.why some c.make_place.new.events.items c.make_place.ensures.items
-    (c.serve.ensures.serves c.args.p.now c.args.kept.now.steps) result made (c.serve.ensures.steps ∙ c.one_more-kept.ensures))
+    (c.serve.ensures.serves c.args.p.now c.args.kept.now.steps) c.serve.ensures.high result c.outcome-outcome.ensures.high made
+    (c.serve.ensures.steps ∙ c.one_more-kept.ensures))

@@ -5,6 +5,8 @@ use Rattle.rg_machine.specs.Keeps.{WantsRoom}
 use Rattle.rg_step.specs.Inner.Walks.{walk_from}
 use Rattle.rg_step.proofs.TurnLemmas.{given-here, past-code, turn-on, turn-to, turn-back, turn-ends, turn-read, turn-more, turn-room, turn-full}
 use Rattle.rg_step.proofs.StandsLemmas.{stands-on, stands-to, stands-back, stands-left, stands-asking, stands-number, stands-free, stands-roomless}
+use Rattle.rg_step.specs.Inner.High.{MayMake, OneAtMost}
+use Rattle.rg_step.proofs.HighLemmas.{high-asks, high-back, high-ends, high-free, high-none, high-on, high-to}
 use Rattle.rg_step.proofs.LeavesLemmas.{on-backs, to-backs, asks-backs, room-backs, same-back}
 use Rattle.rg_machine.specs.Parts.{core_of, machine_in}
 use Rattle.rg_step.proofs.walk.walk.Goals as goal
@@ -33,6 +35,8 @@ loop-at-preserved-in-On c =
       stands = λ start asks h. stands-on code.ops start asks c.loop-at.at old.machine new.machine op c.get.ensures c.in-On.ensures.keeps
           (i.stands start asks h);
       backs = on-backs (manner op) old.machine new.machine c.in-On.ensures.keeps ∙ i.backs;
+      high = λ start h. high-on c.args.code.now.ops start c.loop-at.at c.loop-at.p c.act.new.p op c.get.ensures
+          c.in-On.ensures.keeps c.in-On.ensures.high (i.high start h);
     }
 
 pub loop-at-preserved-then-to-at : goal.loop-at-preserved-then-to-at
@@ -50,6 +54,8 @@ loop-at-preserved-then-to-at c =
           (omega (arith, c.if-to-at.true))
           c.in-To.ensures.keeps (i.stands start asks h);
       backs = to-backs (manner op) c.in-To.to old.machine new.machine c.in-To.ensures.keeps ∙ i.backs;
+      high = λ start h. high-to c.args.code.now.ops start c.loop-at.at c.loop-at.p c.act.new.p op c.get.ensures
+          c.in-To.to (omega (arith, c.if-to-at.true)) c.in-To.ensures.keeps c.in-To.ensures.high (i.high start h);
     }
 
 pub loop-at-preserved-else-to-at : goal.loop-at-preserved-else-to-at
@@ -66,6 +72,8 @@ loop-at-preserved-else-to-at c =
       stands = λ start asks h. stands-back code.ops start asks c.loop-at.at old.machine new.machine op c.get.ensures c.in-To.to
           c.in-To.ensures.keeps (i.stands start asks h);
       backs = to-backs (manner op) c.in-To.to old.machine new.machine c.in-To.ensures.keeps ∙ i.backs;
+      high = λ start h. high-back c.args.code.now.ops start c.loop-at.at c.loop-at.p c.act.new.p op c.get.ensures
+          c.in-To.to c.in-To.ensures.keeps c.in-To.ensures.high (i.high start h);
     }
 
 pub loop-at-preserved : goal.loop-at-preserved
@@ -76,15 +84,18 @@ loop-at-preserved c =
     let new = (core_of c.make_room.new.p) in
     let op = c.get.result in
     let W : Core → Type 0 = λ n. WantsRoom (manner op) old.machine n.machine in
-    let wants = subst W (sym c.in-Free.ensures.0) c.in-Room.ensures.keeps in
+    let wants = subst W (sym c.in-Free.ensures.room.0) c.in-Room.ensures.keeps in
     record {
       further = omega (arith, i.further);
       walks = λ input. turn-room code c.loop-at.at op old (core_of c.act.new.p) _ c.requires i.walks c.get.ensures c.in-Room.ensures.effect
-          c.in-Free.ensures.1 input
-          ∙ sym (ap (λ n. walk_from code (c.loop-at.at + 1) n input) c.in-Free.ensures.0);
-      stands = λ start asks h. stands-free code.ops start asks c.loop-at.at old.machine new.machine op c.get.ensures wants c.in-Free.ensures.2
+          c.in-Free.ensures.room.1 input
+          ∙ sym (ap (λ n. walk_from code (c.loop-at.at + 1) n input) c.in-Free.ensures.room.0);
+      stands = λ start asks h. stands-free code.ops start asks c.loop-at.at old.machine new.machine op c.get.ensures wants c.in-Free.ensures.room.2
           (i.stands start asks h);
       backs = room-backs (manner op) old.machine new.machine wants ∙ i.backs;
+      high = λ start h. subst (MayMake code.ops start (c.loop-at.at + 1)) (sym c.make_room.ensures.heap)
+          (high-free c.args.code.now.ops start c.loop-at.at c.loop-at.p c.act.new.p op c.get.ensures
+          c.in-Room.ensures.keeps c.in-Free.ensures.room.2 c.in-Room.ensures.high (i.high start h));
     }
 
 pub returns-in-Called : goal.returns-in-Called
@@ -92,10 +103,13 @@ returns-in-Called c =
     let i = c.loop-at.invariant in record {
       walk = λ input. turn-room c.args.code.now c.loop-at.at c.get.result (core_of c.loop-at.p) (core_of c.act.new.p) _ c.requires i.walks c.get.ensures
           c.in-Room.ensures.effect
-          c.in-Called.ensures.0 input
-          ∙ c.in-Called.ensures.1 input;
+          c.in-Called.ensures.room.0 input
+          ∙ c.in-Called.ensures.room.1 input;
       leaves = λ start asks h. tt;
       backs = tt;
+      high = λ start h. subst (OneAtMost start) (sym c.make_room.ensures.heap)
+          (high-ends c.args.code.now.ops start c.loop-at.at c.loop-at.p c.act.new.p c.get.result c.get.ensures
+          c.in-Room.ensures.high (i.high start h));
     }
 
 pub returns-in-Lost-make_room : goal.returns-in-Lost-make_room
@@ -103,24 +117,28 @@ returns-in-Lost-make_room c =
     let i = c.loop-at.invariant in record {
       walk = λ input. turn-room c.args.code.now c.loop-at.at c.get.result (core_of c.loop-at.p) (core_of c.act.new.p) _ c.requires i.walks c.get.ensures
           c.in-Room.ensures.effect
-          c.in-Lost-make_room.ensures.0 input
-          ∙ c.in-Lost-make_room.ensures.1 input;
+          c.in-Lost-make_room.ensures.room.0 input
+          ∙ c.in-Lost-make_room.ensures.room.1 input;
       leaves = λ start asks h. tt;
       backs = tt;
+      high = λ start h. tt;
     }
 
 pub returns-in-Full : goal.returns-in-Full
 returns-in-Full c =
     let i = c.loop-at.invariant in
     let op = c.get.result in
-    let same = c.in-Full.ensures.0 in
+    let same = c.in-Full.ensures.room.0 in
     record {
       walk = turn-full c.args.code.now c.loop-at.at op (core_of c.loop-at.p) (core_of c.act.new.p) _ c.requires i.walks c.get.ensures c.in-Room.ensures.effect
-          c.in-Full.ensures.1;
+          c.in-Full.ensures.room.1;
       leaves = λ start asks h. ap (λ (n : Core). n.machine) same
           ∙ stands-roomless c.args.code.now.ops start asks c.loop-at.at (machine_in c.loop-at.p) (machine_in c.act.new.p) op c.get.ensures
           c.in-Room.ensures.keeps (i.stands start asks h);
       backs = tt;
+      high = λ start h. subst (OneAtMost start) (sym c.make_room.ensures.heap)
+          (high-ends c.args.code.now.ops start c.loop-at.at c.loop-at.p c.act.new.p c.get.result c.get.ensures
+          c.in-Room.ensures.high (i.high start h));
     }
 
 pub returns-in-Memory-make_room : goal.returns-in-Memory-make_room
@@ -129,10 +147,11 @@ returns-in-Memory-make_room c =
     let op = c.get.result in
     record {
       walk = tt;
-      leaves = λ start asks h. ap (λ (n : Core). n.machine) c.in-Memory-make_room.ensures
+      leaves = λ start asks h. ap (λ (n : Core). n.machine) c.in-Memory-make_room.ensures.room
           ∙ stands-roomless c.args.code.now.ops start asks c.loop-at.at (machine_in c.loop-at.p) (machine_in c.act.new.p) op c.get.ensures
           c.in-Room.ensures.keeps (i.stands start asks h);
       backs = tt;
+      high = λ start h. tt;
     }
 
 pub returns-in-Stop : goal.returns-in-Stop
@@ -141,6 +160,8 @@ returns-in-Stop c = record {
       c.in-Stop.ensures.effect;
   leaves = λ start asks h. tt;
   backs = tt;
+  high = λ start h. high-ends c.args.code.now.ops start c.loop-at.at c.loop-at.p c.act.new.p c.get.result
+      c.get.ensures c.in-Stop.ensures.high (c.loop-at.invariant.high start h);
 }
 
 pub returns-in-Return : goal.returns-in-Return
@@ -149,6 +170,8 @@ returns-in-Return c = record {
       c.in-Return.ensures.effect;
   leaves = λ start asks h. tt;
   backs = same-back (machine_in c.args.p.now).frames (machine_in c.loop-at.p).frames c.in-Return.back c.loop-at.invariant.backs c.in-Return.ensures.keeps;
+  high = λ start h. high-ends c.args.code.now.ops start c.loop-at.at c.loop-at.p c.act.new.p c.get.result
+      c.get.ensures c.in-Return.ensures.high (c.loop-at.invariant.high start h);
 }
 
 pub returns-in-Trap : goal.returns-in-Trap
@@ -158,6 +181,8 @@ returns-in-Trap c = record {
   leaves = λ start asks h. stands-left c.args.code.now.ops start asks c.loop-at.at (machine_in c.loop-at.p) (machine_in c.act.new.p) c.get.result c.get.ensures
       c.in-Trap.ensures.keeps (c.loop-at.invariant.stands start asks h);
   backs = tt;
+  high = λ start h. high-none c.args.code.now.ops start c.loop-at.at c.loop-at.p c.act.new.p
+      c.in-Trap.ensures.high (c.loop-at.invariant.high start h);
 }
 
 pub returns-in-Memory : goal.returns-in-Memory
@@ -166,6 +191,7 @@ returns-in-Memory c = record {
   leaves = λ start asks h. stands-left c.args.code.now.ops start asks c.loop-at.at (machine_in c.loop-at.p) (machine_in c.act.new.p) c.get.result c.get.ensures
       c.in-Memory.ensures.keeps (c.loop-at.invariant.stands start asks h);
   backs = tt;
+  high = λ start h. tt;
 }
 
 pub returns-in-Lost : goal.returns-in-Lost
@@ -174,6 +200,7 @@ returns-in-Lost c = record {
       c.in-Lost.ensures.effect;
   leaves = λ start asks h. tt;
   backs = tt;
+  high = λ start h. tt;
 }
 
 pub returns-in-Read : goal.returns-in-Read
@@ -190,6 +217,8 @@ returns-in-Read c =
             c.in-Read.ensures.keeps.2 c.in-Read.ensures.keeps.1 (i.stands start asks h),
       );
       backs = asks-backs (manner op) (machine_in c.loop-at.p) (machine_in c.act.new.p) c.in-Read.ensures.keeps.1 ∙ i.backs;
+      high = λ start h. high-asks c.args.code.now.ops start c.loop-at.at c.loop-at.p c.act.new.p op c.get.ensures
+          c.in-Read.ensures.keeps.1 c.in-Read.ensures.high (i.high start h);
     }
 
 pub returns-in-More : goal.returns-in-More
@@ -202,6 +231,8 @@ returns-in-More c =
       leaves = λ start asks h. stands-asking c.args.code.now.ops start asks c.loop-at.at (machine_in c.loop-at.p) (machine_in c.act.new.p) op c.get.ensures
           c.in-More.ensures.keeps.0 c.in-More.ensures.keeps.1 (i.stands start asks h);
       backs = asks-backs (manner op) (machine_in c.loop-at.p) (machine_in c.act.new.p) c.in-More.ensures.keeps.1 ∙ i.backs;
+      high = λ start h. high-asks c.args.code.now.ops start c.loop-at.at c.loop-at.p c.act.new.p op c.get.ensures
+          c.in-More.ensures.keeps.1 c.in-More.ensures.high (i.high start h);
     }
 
 pub returns-clause-walk : goal.returns-clause-walk

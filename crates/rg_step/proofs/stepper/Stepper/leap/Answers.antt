@@ -25,9 +25,8 @@ returns-clause-chain c pacers input =
     let P : Stepping → Type 0 = λ n. IsRunning code (machine_in n.parts) in
     let Q : Stepping → Type 0 = λ n. Chain code k (record { stepper = n; pacers = pacers }) (record { stepper = new; pacers = pacers }) input input in
     let is = shows-some c.self.inside.machine c.in-Some.p c.self.inside.kept c.args.self.now c.in-Some.is c.self.view_is in
-    subst Q is (leaps-chain code was c.in-Some.p pacers input (subst P (sym is) c.requires) (omega (arith, c.self.ranges)) k c.leap-made.new.p c.more-self-inside.result
-    (omega (arith, c.leap-made.type_inv))
-    c.leap-made.ensures.leaps c.more-self-inside.ensures)
+    subst Q is (leaps-chain code was c.in-Some.p pacers input (subst P (sym is) c.requires) (omega (arith, c.self.ranges)) k
+    c.leap-made.new.p c.more-self-inside.result (omega (arith, c.leap-made.type_inv)) c.leap-made.ensures.leaps c.more-self-inside.ensures)
 
 pub leap-made-requires-clause-runs : goal.leap-made-requires-clause-runs
 leap-made-requires-clause-runs c =
