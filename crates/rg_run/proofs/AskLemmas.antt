@@ -1,6 +1,6 @@
 -- How often the steps of a run ask the pacers, one step after another.
 use Rattle.std.proofs.Common.{◌≡◌, ◌≢◌, ℕ, zero, suc, ◌+◌, ◌&&◌, Bool, true, false, List, [], ◌∷◌, ◌++◌, length, count_by, cond, Option, None}
-use Rattle.std.proofs.Common.{refl, sym, ap, subst, ◌∙◌, arith}
+use Rattle.std.proofs.Common.{refl, sym, ap, subst, ◌∙◌, arith, append-nil, length-append}
 use Rattle.std.proofs.lemmas.List.Sums.{sum_by-append}
 use Rattle.rg_base.specs.declared.event.Event.{Event}
 use Rattle.rg_base.specs.declared.outcome.Outcome.{Outcome}
@@ -29,24 +29,14 @@ use Rattle.rg_run.proofs.TurnLemmas.{Between, leapt}
 
 -- Steps of a run
 
--- one more, or not
-abbrev tally : Bool → ℕ → ℕ
-tally true n = suc n
-tally false n = n
-
 -- a run from a state that stands so
-abbrev at : State → ℕ → Ran
+abbrev pub at : State → ℕ → Ran
 at u n = record { state = u; steps = n; ending = Running }
 
-length-then : (asking : Bool) (step : ℕ) (later : List ℕ) → length (asks_then asking step later) ≡ tally asking (length later)
-length-then true step later = refl
-length-then false step later = refl
-
-tally-both : (a b : Bool) (n : ℕ) → tally a (tally b n) ≡ tally b (tally a n)
-tally-both true true n = refl
-tally-both true false n = refl
-tally-both false true n = refl
-tally-both false false n = refl
+-- more of them behind
+then-more : (asking : Bool) (step : ℕ) (xs ys : List ℕ) → asks_then asking step (xs ++ ys) ≡ asks_then asking step xs ++ ys
+then-more true step xs ys = refl
+then-more false step xs ys = refl
 
 not-done : Done ≡ Running → ⊥
 not-done is = cc
@@ -54,65 +44,77 @@ not-done is = cc
 not-stopped : (kind : Trap) (line : ℕ) → Stopped kind line ≡ Running → ⊥
 not-stopped kind line is = cc
 
-module _ (classes : List Class) (m : Manager) (u v : State) (n : ℕ) where
-  -- whether the last step asked
-  abbrev last : ℕ → ℕ
-  last = tally (asks_at classes m u)
+module _ (classes : List Class) (m : Manager) (u v : State) (n number : ℕ) where
+  -- and the last step, where it asked
+  abbrev last : List ℕ → List ℕ
+  last asked = asked ++ asks_then (asks_at classes m u) number []
 
   more-after : (k step made : ℕ) (s : State) (asking : Bool) (d : Stepped) → after_step made s d (plain_from classes k (made + 1)) ≡ at u n →
       ((t : State) → plain_from classes k (made + 1) t ≡ at u n →
-      length (asks_from classes m (suc k) (step + 1) t) ≡ last (length (asks_from classes m k (step + 1) t))) →
-      length (asks_after asking step d (asks_from classes m (suc k) (step + 1))) ≡ last (length (asks_after asking step d (asks_from classes m k (step + 1))))
+      asks_from classes m (suc k) (step + 1) t ≡ last (asks_from classes m k (step + 1) t)) →
+      asks_after asking step d (asks_from classes m (suc k) (step + 1)) ≡ last (asks_after asking step d (asks_from classes m k (step + 1)))
   more-after k step made s asking (Went t) is more =
-      length-then asking step (asks_from classes m (suc k) (step + 1) t) ∙ ap (tally asking) (more t is)
-      ∙ tally-both asking (asks_at classes m u) (length (asks_from classes m k (step + 1) t))
-      ∙ ap last (sym (length-then asking step (asks_from classes m k (step + 1) t)))
+      ap (asks_then asking step) (more t is) ∙ then-more asking step (asks_from classes m k (step + 1) t) (asks_then (asks_at classes m u) number [])
   more-after k step made s asking (Trapped kind line) is more = absurd (not-stopped kind line (ap (λ (r : Ran). r.ending) is))
 
   more-on : (k step made : ℕ) (s : State) (its : List Item) → run_on classes made s its (plain_from classes k (made + 1)) ≡ at u n →
       ((t : State) → plain_from classes k (made + 1) t ≡ at u n →
-      length (asks_from classes m (suc k) (step + 1) t) ≡ last (length (asks_from classes m k (step + 1) t))) →
-      length (asks_on classes m step s its (asks_from classes m (suc k) (step + 1))) ≡ last (length (asks_on classes m step s its (asks_from classes m k (step + 1))))
+      asks_from classes m (suc k) (step + 1) t ≡ last (asks_from classes m k (step + 1) t)) →
+      asks_on classes m step s its (asks_from classes m (suc k) (step + 1)) ≡ last (asks_on classes m step s its (asks_from classes m k (step + 1)))
   more-on k step made s [] is more = absurd (not-done (ap (λ (r : Ran). r.ending) is))
   more-on k step made s (i ∷ rest) is more =
       more-after k step made s (item_makes classes i && is_managed m s) (step_item classes (record s { items = rest }) i) is more
 
   first-after : (step : ℕ) (asking : Bool) (d : Stepped) → d ≡ Went v →
-      length (asks_after asking step d (asks_from classes m zero (step + 1))) ≡ tally asking 0
+      asks_after asking step d (asks_from classes m zero (step + 1)) ≡ asks_then asking step []
   unfolding asks_from
-  first-after step asking (Went t) went = length-then asking step []
+  first-after step asking (Went t) went = refl
   first-after step asking (Trapped kind line) went = cc
 
   first-on : (step : ℕ) (s : State) (its : List Item) → its ≢ [] → step_first classes s its ≡ Went v →
-      length (asks_on classes m step s its (asks_from classes m zero (step + 1))) ≡ tally (first_makes classes its && is_managed m s) 0
+      asks_on classes m step s its (asks_from classes m zero (step + 1)) ≡ asks_then (first_makes classes its && is_managed m s) step []
   first-on step s [] some went = absurd (some refl)
   first-on step s (i ∷ rest) some went =
       first-after step (item_makes classes i && is_managed m s) (step_item classes (record s { items = rest }) i) went
 
   -- of one step more those ask that asked, and the last one where it does
-  asks_from-suc : (k step made : ℕ) (s : State) → plain_from classes k made s ≡ at u n → u.items ≢ [] → next classes u ≡ Went v →
-      length (asks_from classes m (suc k) step s) ≡ last (length (asks_from classes m k step s))
+  asks_from-suc : (k step made : ℕ) (s : State) → step + k ≡ number → plain_from classes k made s ≡ at u n → u.items ≢ [] →
+      next classes u ≡ Went v → asks_from classes m (suc k) step s ≡ last (asks_from classes m k step s)
   unfolding asks_from plain_from
-  asks_from-suc zero step made s is some went =
+  asks_from-suc zero step made s there is some went =
       let same : u ≡ s = sym (ap (λ (r : Ran). r.state) is) in
-      let P : State → Type 0 = λ q. length (asks_on classes m step q q.items (asks_from classes m zero (step + 1))) ≡ last 0 in
-      subst P same (first-on step u u.items some went)
-  asks_from-suc (suc k) step made s is some went =
-      more-on k step made s s.items is (λ t e. asks_from-suc k (step + 1) (made + 1) t e some went)
+      let here : step ≡ number = omega (arith, there) in
+      let P : State → Type 0 = λ q. asks_on classes m step q q.items (asks_from classes m zero (step + 1)) ≡ last [] in
+      subst P same (first-on step u u.items some went ∙ ap (λ q. asks_then (asks_at classes m u) q []) here)
+  asks_from-suc (suc k) step made s there is some went =
+      let further : step + 1 + k ≡ number = omega (arith, there) in
+      more-on k step made s s.items is (λ t e. asks_from-suc k (step + 1) (made + 1) t further e some went)
 
-raised-tally : (b : Bool) (n x : ℕ) → raised (tally b n) x ≡ raised_if b (raised n x)
-raised-tally true n x = refl
-raised-tally false n x = refl
+-- so do those of k steps, and of the next one
+pub asks-next : (classes : List Class) (m : Manager) (k : ℕ) (s u v : State) → plain_from classes k 0 s ≡ at u k → u.items ≢ [] →
+    next classes u ≡ Went v → asks_from classes m (k + 1) 1 s ≡ asks_from classes m k 1 s ++ asks_then (asks_at classes m u) (k + 1) []
+asks-next classes m k s u v is some went =
+    let one : k + 1 ≡ suc k = omega arith in
+    let there : 1 + k ≡ k + 1 = omega arith in
+    ap (λ q. asks_from classes m q 1 s) one ∙ asks_from-suc classes m u v k (k + 1) k 1 0 s there is some went
+
+-- one ask more, or not
+raised-then : (asking : Bool) (step : ℕ) (xs : List ℕ) (n : ℕ) →
+    raised (length (xs ++ asks_then asking step [])) n ≡ raised_if asking (raised (length xs) n)
+raised-then true step xs n =
+    let more : length (xs ++ step ∷ []) ≡ length xs + 1 = length-append xs (step ∷ []) in
+    let one : length xs + 1 ≡ suc (length xs) = omega arith in
+    ap (λ k. raised k n) (more ∙ one)
+raised-then false step xs n = ap (λ ys. raised (length ys) n) (append-nil xs)
 
 -- a pacer that was asked over k steps, and then where the next one asks
 asked-then : (classes : List Class) (m : Manager) (k : ℕ) (s u v : State) (first now after : ℕ) → plain_from classes k 0 s ≡ at u k → u.items ≢ [] →
     next classes u ≡ Went v → now ≡ raised (length (asks_from classes m k 1 s)) first → after ≡ raised_if (asks_at classes m u) now →
     after ≡ raised (length (asks_from classes m (k + 1) 1 s)) first
 asked-then classes m k s u v first now after is some went so_far more =
-    let one : suc k ≡ k + 1 = omega arith in
-    more ∙ ap (raised_if (asks_at classes m u)) so_far ∙ sym (raised-tally (asks_at classes m u) (length (asks_from classes m k 1 s)) first)
-    ∙ ap (λ q. raised q first) (sym (asks_from-suc classes m u v k k 1 0 s is some went))
-    ∙ ap (λ q. raised (length (asks_from classes m q 1 s)) first) one
+    more ∙ ap (raised_if (asks_at classes m u)) so_far
+    ∙ sym (raised-then (asks_at classes m u) (k + 1) (asks_from classes m k 1 s) first)
+    ∙ ap (λ xs. raised (length xs) first) (sym (asks-next classes m k s u v is some went))
 
 -- how many whole steps a run has made behind an answer
 abbrev pub behind : ℕ → Outcome → ℕ
@@ -133,8 +135,10 @@ module _ (t : Tables) (code : Code) (k : ℕ) (m : Machine) (old out : Option (L
       let s = opening p before in
       let r = b.so_far in
       record {
-        count = asked-then p.classes Count k s b.state q first.count.asks now.count.asks after.count.asks r.ran_is r.some went so_far.count asks.count;
-        trace = asked-then p.classes Trace k s b.state q first.trace.asks now.trace.asks after.trace.asks r.ran_is r.some went so_far.trace asks.trace;
+        count = asked-then p.classes Count k s b.state q first.count.asks now.count.asks after.count.asks r.ran_is r.some went so_far.count
+            asks.count;
+        trace = asked-then p.classes Trace k s b.state q first.trace.asks now.trace.asks after.trace.asks r.ran_is r.some went so_far.trace
+            asks.trace;
       }
 
   asked-still : (after : Asks) → after ≡ now → AskedOver (program_of t) before k first after
@@ -178,32 +182,37 @@ undue-makes classes (EndAt k ∷ rest) undue = refl
 undue-makes classes (LeaveAt k ∷ rest) undue = refl
 undue-makes classes (Back ∷ rest) undue = refl
 
-unasked : (makes managed : Bool) (n : ℕ) → makes ≡ false → n ≡ raised_if (makes && managed) n
-unasked true managed n none = cc
-unasked false managed n none = refl
+-- steps that were made at once ask nobody
+pub asks-leapt : (t : Tables) (code : Code) (k j : ℕ) (manager : Manager) (m new : Machine) (Still : Type 0) (before between : List ℕ)
+    (old out : Option (List ℕ)) → Between t code k m old out Still before between → Leapt code j m new →
+    asks (program_of t) before (k + j) manager ≡ asks (program_of t) before k manager
+asks-leapt t code k zero manager m new Still before between old out b h =
+    let same : k + 0 ≡ k = omega arith in ap (λ q. asks (program_of t) before q manager) same
+asks-leapt t code k (suc j) manager m new Still before between old out b h =
+    let p = program_of t in
+    let c = leapt t code k j m h.0 Still before between old out b h.1 in
+    let shown = c.runs.shows in
+    let undue : first_due p.classes c.state.items ≡ None =
+    sym (steps-due p code shown.grown c.state c.runs.accepted c.runs.fits shown.shows c.runs.left)
+    ∙ ap (due_at code.ops) (sym shown.beside.at) ∙ h.2 in
+    let none : first_makes p.classes c.state.items ≡ false = undue-makes p.classes c.state.items undue in
+    let q = h.3 between p c.state c.runs c.input in
+    let same : k + suc j ≡ k + j + 1 = omega arith in
+    ap (λ n. asks p before n manager) same
+    ∙ asks-next p.classes manager (k + j) (opening p before) c.state q.0 c.so_far.ran_is c.so_far.some q.1.0
+    ∙ ap (λ b. asks p before (k + j) manager ++ asks_then (b && is_managed manager c.state) (k + j + 1) []) none
+    ∙ append-nil (asks p before (k + j) manager)
+    ∙ asks-leapt t code k j manager m h.0 Still before between old out b h.1
 
 pub asked-leapt : (t : Tables) (code : Code) (k j : ℕ) (m new : Machine) (Still : Type 0) (before between : List ℕ) (old out : Option (List ℕ))
     (first now : Asks) → Between t code k m old out Still before between → AskedOver (program_of t) before k first now → Leapt code j m new →
     AskedOver (program_of t) before (k + j) first now
-asked-leapt t code k zero m new Still before between old out first now b so_far h =
-    let same : k ≡ k + 0 = omega arith in
-    let P : ℕ → Type 0 = λ q. AskedOver (program_of t) before q first now in
-    subst P same so_far
-asked-leapt t code k (suc j) m new Still before between old out first now b so_far h =
-    let p = program_of t in
-    let c = leapt t code k j m h.0 Still before between old out b h.1 in
-    let there = asked-leapt t code k j m h.0 Still before between old out first now b so_far h.1 in
-    let shown = c.runs.shows in
-    let undue : first_due p.classes c.state.items ≡ None =
-    sym (steps-due p code shown.grown c.state c.runs.accepted c.runs.fits shown.shows c.runs.left) ∙ ap (due_at code.ops) (sym shown.beside.at) ∙ h.2 in
-    let none : first_makes p.classes c.state.items ≡ false = undue-makes p.classes c.state.items undue in
-    let q = h.3 between p c.state c.runs c.input in
-    let same : k + j + 1 ≡ k + suc j = omega arith in
-    let P : ℕ → Type 0 = λ n. AskedOver (program_of t) before n first now in
-    subst P same (asked-more t code (k + j) h.0 old out Still before between first now c there q.0 now q.1.0 (record {
-      count = unasked (first_makes p.classes c.state.items) (is_managed Count c.state) now.count.asks none;
-      trace = unasked (first_makes p.classes c.state.items) (is_managed Trace c.state) now.trace.asks none;
-    }))
+asked-leapt t code k j m new Still before between old out first now b so_far h = record {
+  count = so_far.count ∙ ap (λ xs. raised (length xs) first.count.asks)
+      (sym (asks-leapt t code k j Count m new Still before between old out b h));
+  trace = so_far.trace ∙ ap (λ xs. raised (length xs) first.trace.asks)
+      (sym (asks-leapt t code k j Trace m new Still before between old out b h));
+}
 
 -- How often they said yes
 

@@ -6,6 +6,8 @@ mod ReportLemmas
 pub mod RunLemmas
 mod TurnLemmas
 mod AskLemmas
+mod SinceLemmas
+mod SinceTurnLemmas
 mod StateLemmas
 mod StepLemmas
 mod LoopLemmas

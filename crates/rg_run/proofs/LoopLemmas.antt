@@ -1,5 +1,5 @@
 -- A turn of the loop of a run: a step more, or the end of the run. Its facts on the input, the text and the pacers are one fact on bytes.
-use Rattle.std.proofs.Common.{◌≡◌, ◌∙◌, ℕ, ◌+◌, ◌≤◌, ◌<◌, Bool, true, false, inr, List, Option}
+use Rattle.std.proofs.Common.{◌≡◌, ◌∙◌, ℕ, ◌+◌, ◌-◌, ◌^◌, ◌≤◌, ◌<◌, Bool, true, false, inr, List, Option}
 use Rattle.rg_base.specs.declared.outcome.Ended.{Ended}
 use Rattle.rg_base.specs.declared.outcome.Ended.TheVariants as ended
 use Rattle.rg_base.specs.declared.outcome.Outcome.{Outcome}
@@ -20,12 +20,15 @@ use Rattle.rg_stack.specs.Machine.{Machine}
 use Rattle.rg_machine.specs.Parts.{machine_in}
 use Rattle.rg_step.specs.Collections.{Asks}
 use Rattle.rg_step.specs.States.{OneStep, Standing}
-use Rattle.rg_step.specs.Steps.{Leapt, Runs, Stepping, StepsOn}
+use Rattle.rg_step.specs.Steps.{Leapt, Runs, Stepping, StepsOn, counted_by}
 use Rattle.rg_run.specs.Asked.{AskedOver, RunsAsking}
 use Rattle.rg_run.specs.Inner.{IsUntold}
 use Rattle.rg_run.specs.Machine.{Kept}
 use Rattle.rg_run.specs.Runs.{Ran}
 use Rattle.rg_run.proofs.AskLemmas.{asked-by, asked-leapt, behind}
+use Rattle.rg_run.proofs.RunLemmas.{since-yes}
+use Rattle.rg_run.proofs.SinceLemmas.{SinceOver}
+use Rattle.rg_run.proofs.SinceTurnLemmas.{since-by, since-leapt}
 use Rattle.rg_run.proofs.TurnLemmas.{Between, Turns, turn, quiet, printed, leapt}
 use Rattle.rg_run.proofs.TurnLemmas as run
 
@@ -40,23 +43,26 @@ standing st pacers = record { stepper = st; pacers = pacers }
 module _ {t : Tables} {code : Code} {k : ℕ} {a b : Pending} {la lb : Option (List ℕ)} {taken middle : Option (List ℕ)} {Still : Type 0}
     {first now : Asks} where
   -- steps that left the input were made at once
-  pub turned-leapt : {m new : Machine} (j : ℕ) → OnInput a b la lb (Turns t code k m taken middle Still first now) → Leapt code j m new →
-      OnInput a b la lb (Turns t code (k + j) new taken middle Still first now)
-  turned-leapt {m} {new} j turns leaps =
-      OnInput-map a b la lb (Turns t code k m taken middle Still first now) (Turns t code (k + j) new taken middle Still first now) turns
+  pub turned-leapt : {old new : Stepping} (j : ℕ) → OnInput a b la lb (Turns t code k old taken middle Still first now) →
+      Leapt code j (machine_in old.parts) (machine_in new.parts) → new.since ≡ old.since → new.events ≡ old.events →
+      new.steps ≡ counted_by j old.steps → k + j ≤ 2 ^ 64 - 1 → OnInput a b la lb (Turns t code (k + j) new taken middle Still first now)
+  turned-leapt {old} {new} j turns leaps since events counts within =
+      OnInput-map a b la lb (Turns t code k old taken middle Still first now) (Turns t code (k + j) new taken middle Still first now) turns
       (λ x y h. (
-        leapt t code k j m new Still x y taken middle h.0 leaps,
-        asked-leapt t code k j m new Still x y taken middle first now h.0 h.1 leaps,
+        leapt t code k j (machine_in old.parts) (machine_in new.parts) Still x y taken middle h.0 leaps,
+        asked-leapt t code k j (machine_in old.parts) (machine_in new.parts) Still x y taken middle first now h.0 h.1 leaps,
+        since-leapt t code k j old new Still x y taken middle h.0 h.2 leaps since events counts within,
       ))
 
   module _ {n : ℕ} {st : Stepping} {started : Bool}
-      (turns : OnInput a b la lb (Turns t code k (machine_in st.parts) taken middle Still first now)) where
+      (turns : OnInput a b la lb (Turns t code k st taken middle Still first now)) where
     stops : {e : Ended} →
         ((x y : List ℕ) → Between t code k (machine_in st.parts) taken middle Still x y → Ran t n taken middle (kept started st k) e Still x y) →
         OnInput a b la lb (RunsAsking t n taken middle (kept started st k) e Still first now)
     stops {e} ran =
-        OnInput-map a b la lb (Turns t code k (machine_in st.parts) taken middle Still first now)
-        (RunsAsking t n taken middle (kept started st k) e Still first now) turns (λ x y h. (inr (ran x y h.0), h.1))
+        OnInput-map a b la lb (Turns t code k st taken middle Still first now)
+        (RunsAsking t n taken middle (kept started st k) e Still first now) turns
+        (λ x y h. (inr (ran x y h.0), h.1, since-yes (program_of t) x (kept started st k) h.2))
 
     -- all steps were made
     pub spent : started ≡ true → k ≡ n → OnInput a b la lb (RunsAsking t n taken middle (kept started st k) ended.Spent Still first now)
@@ -77,30 +83,38 @@ more reads_nothing t a sa p runs none still = let h = reads_nothing (program_of 
 
 -- what the pacers were asked behind it
 asked : {t : Tables} {code : Code} {k : ℕ} {old new : Standing} {taken middle : Option (List ℕ)} {Still : Type 0} {first : Asks} {r : Outcome}
-    {x y z : List ℕ} → Turns t code k (machine_in old.stepper.parts) taken middle Still first old.pacers x y → OneStep code old new r y z →
+    {x y z : List ℕ} → Turns t code k old.stepper taken middle Still first old.pacers x y → OneStep code old new r y z →
     AskedOver (program_of t) x (behind k r) first new.pacers
 asked {t} {code} {k} {old} {new} {taken} {middle} {Still} {first} {r} {x} {y} {z} h one =
     asked-by t code k (machine_in old.stepper.parts) taken middle Still x y first old.pacers h.0 h.1 (machine_in new.stepper.parts) z new.pacers r
     one.shows one.asked
 
+-- and how often since their last yes
+since : {t : Tables} {code : Code} {k : ℕ} {old new : Standing} {taken middle : Option (List ℕ)} {Still : Type 0} {first : Asks} {r : Outcome}
+    {x y z : List ℕ} → k < 2 ^ 64 - 1 → Turns t code k old.stepper taken middle Still first old.pacers x y → OneStep code old new r y z →
+    SinceOver (program_of t) x (behind k r) new.stepper
+since {t} {code} {k} {old} {new} {taken} {middle} {Still} {first} {r} {x} {y} {z} room h one =
+    since-by t code k old new taken middle Still x y h.0 h.2 room z r one
+
 module _ {t : Tables} {code : Code} {k : ℕ} {old new : Stepping} {a b c : Pending} {la lb lc : Option (List ℕ)} {S : Type 0} {sa sb sc : S}
     {taken middle : Option (List ℕ)} {first before after : Asks}
-    (turns : OnInput a b la lb (Turns t code k (machine_in old.parts) taken middle ((b ≡ a) × (sb ≡ sa)) first before))
-    (reads_nothing : (t : Tree) (p : State) → Runs t code (machine_in old.parts) p → first_asks p.items ≡ false → (c ≡ b) × (sc ≡ sb)) where
+    (turns : OnInput a b la lb (Turns t code k old taken middle ((b ≡ a) × (sb ≡ sa)) first before))
+    (reads_nothing : (t : Tree) (p : State) → Runs t code (machine_in old.parts) p → first_asks p.items ≡ false → (c ≡ b) × (sc ≡ sb))
+    (room : k < 2 ^ 64 - 1) where
   goes : {out : Option (List ℕ)} (r : Outcome) → OnInput b c lb lc (OneStep code (standing old before) (standing new after) r) →
       ((x y z : List ℕ) → Between t code k (machine_in old.parts) taken middle ((b ≡ a) × (sb ≡ sa)) x y →
       StepsOn code (machine_in old.parts) (machine_in new.parts) r y z →
       Between t code (behind k r) (machine_in new.parts) taken out ((c ≡ a) × (sc ≡ sa)) x z) →
-      OnInput a c la lc (Turns t code (behind k r) (machine_in new.parts) taken out ((c ≡ a) × (sc ≡ sa)) first after)
+      OnInput a c la lc (Turns t code (behind k r) new taken out ((c ≡ a) × (sc ≡ sa)) first after)
   goes {out} r did on =
-      turn a b c la lb lc (Turns t code k (machine_in old.parts) taken middle ((b ≡ a) × (sb ≡ sa)) first before)
+      turn a b c la lb lc (Turns t code k old taken middle ((b ≡ a) × (sb ≡ sa)) first before)
       (OneStep code (standing old before) (standing new after) r)
-      (Turns t code (behind k r) (machine_in new.parts) taken out ((c ≡ a) × (sc ≡ sa)) first after) turns did
-      (λ x y z h one. (on x y z h.0 one.shows, asked h one))
+      (Turns t code (behind k r) new taken out ((c ≡ a) × (sc ≡ sa)) first after) turns did
+      (λ x y z h one. (on x y z h.0 one.shows, asked h one, since room h one))
 
   -- a step went on and printed nothing
   pub went-on : OnInput b c lb lc (OneStep code (standing old before) (standing new after) outcome.Running) →
-      OnInput a c la lc (Turns t code (k + 1) (machine_in new.parts) taken middle ((c ≡ a) × (sc ≡ sa)) first after)
+      OnInput a c la lc (Turns t code (k + 1) new taken middle ((c ≡ a) × (sc ≡ sa)) first after)
   went-on did =
       goes outcome.Running did
       (λ x y z. quiet t code k (machine_in old.parts) (machine_in new.parts) ((b ≡ a) × (sb ≡ sa)) ((c ≡ a) × (sc ≡ sa)) x y z
@@ -109,7 +123,7 @@ module _ {t : Tables} {code : Code} {k : ℕ} {old new : Stepping} {a b c : Pend
   -- a step printed a value, whose line was then taken
   pub printed-on : {out : Option (List ℕ)} (v : Val) →
       OnInput b c lb lc (OneStep code (standing old before) (standing new after) (outcome.Printed v)) → Appends middle out (line_text v) →
-      OnInput a c la lc (Turns t code (k + 1) (machine_in new.parts) taken out ((c ≡ a) × (sc ≡ sa)) first after)
+      OnInput a c la lc (Turns t code (k + 1) new taken out ((c ≡ a) × (sc ≡ sa)) first after)
   printed-on {out} v did line =
       goes (outcome.Printed v) did
       (λ x y z h step. printed t code k (machine_in old.parts) (machine_in new.parts) ((b ≡ a) × (sb ≡ sa)) ((c ≡ a) × (sc ≡ sa)) x y z
@@ -122,10 +136,10 @@ module _ {t : Tables} {code : Code} {k : ℕ} {old new : Stepping} {a b c : Pend
         Ran t n taken out (kept started new (behind k r)) e ((c ≡ a) × (sc ≡ sa)) x z) →
         OnInput a c la lc (RunsAsking t n taken out (kept started new (behind k r)) e ((c ≡ a) × (sc ≡ sa)) first after)
     ends {out} r e did ran =
-        turn a b c la lb lc (Turns t code k (machine_in old.parts) taken middle ((b ≡ a) × (sb ≡ sa)) first before)
+        turn a b c la lb lc (Turns t code k old taken middle ((b ≡ a) × (sb ≡ sa)) first before)
         (OneStep code (standing old before) (standing new after) r)
         (RunsAsking t n taken out (kept started new (behind k r)) e ((c ≡ a) × (sc ≡ sa)) first after) turns did
-        (λ x y z h one. (inr (ran x y z h.0 one.shows), asked h one))
+        (λ x y z h one. (inr (ran x y z h.0 one.shows), asked h one, since-yes (program_of t) x (kept started new (behind k r)) (since room h one)))
 
     pub done : OnInput b c lb lc (OneStep code (standing old before) (standing new after) outcome.Done) →
         OnInput a c la lc (RunsAsking t n taken middle (kept started new (k + 1)) ended.Done ((c ≡ a) × (sc ≡ sa)) first after)

@@ -29,17 +29,20 @@ use Rattle.rg_run.specs.Reports.{Reports, event_lines}
 abbrev pub SameTuned : (before after : Asks) → Type 0
 SameTuned before after = (after.count.tuned ≡ before.count.tuned) × (after.trace.tuned ≡ before.trace.tuned)
 
-left-more : (mid : Parts) (events : List Event) (new : Stepping) → IsLeft mid events new → OneMore events new.events
+left-more : (mid : Parts) (events : List Event) (new : Stepping) → IsLeft mid events new → OneMore new.steps events new.events
 left-more mid events new h = inl h.events_are
 
-collected-more : (why : Cause) (mid : Parts) (events : List Event) (new : Stepping) → IsCollected why mid events new → OneMore events new.events
-collected-more why mid events new h = inr (event_of new.steps why h.told, h.events_are)
+collected-more : (why : Cause) (mid : Parts) (events : List Event) (new : Stepping) → IsCollected why mid events new →
+    OneMore new.steps events new.events
+collected-more why mid events new h = inr (event_of new.steps why h.told, h.events_are, refl)
 
-on-more : (answer : Bool) (mid : Parts) (events : List Event) (new : Stepping) → CollectsOn answer mid events new → OneMore events new.events
+on-more : (answer : Bool) (mid : Parts) (events : List Event) (new : Stepping) → CollectsOn answer mid events new →
+    OneMore new.steps events new.events
 on-more true mid events new h = collected-more cause.Paced mid events new h
 on-more false mid events new h = left-more mid events new h
 
-asked-more : (m : Manager) (mid : Parts) (events : List Event) (new : Stepping) → CollectsAsked m mid events new → OneMore events new.events
+asked-more : (m : Manager) (mid : Parts) (events : List Event) (new : Stepping) → CollectsAsked m mid events new →
+    OneMore new.steps events new.events
 asked-more Arena mid events new h = left-more mid events new h
 asked-more Count mid events new h = collected-more cause.Asked mid events new h
 asked-more Trace mid events new h = collected-more cause.Asked mid events new h
@@ -48,7 +51,7 @@ same-tuned : (before after : Asks) → after ≡ before → SameTuned before aft
 same-tuned before after same = (ap (λ (a : Asks). a.count.tuned) same, ap (λ (a : Asks). a.trace.tuned) same)
 
 paced-more : (m : Manager) (held : ℕ) (old : Stepping) (mid : Parts) (new : Stepping) (before after : Asks) → Paces m held old mid new before after →
-    OneMore old.events new.events × SameTuned before after
+    OneMore new.steps old.events new.events × SameTuned before after
 paced-more Arena held old mid new before after h = (left-more mid old.events new h.0, same-tuned before after h.1.pacers)
 paced-more Count held old mid new before after h =
     (on-more h.0 mid old.events new h.1, (ap (λ (a : Asks). a.count.tuned) h.3, ap (λ (a : Asks). a.trace.tuned) h.3))
@@ -56,7 +59,7 @@ paced-more Trace held old mid new before after h =
     (on-more h.0 mid old.events new h.1, (ap (λ (a : Asks). a.count.tuned) h.3, ap (λ (a : Asks). a.trace.tuned) h.3))
 
 serves-more : (due : Option Cause) (old : Stepping) (mid : Parts) (new : Stepping) (before after : Asks) → Serves due old mid new before after →
-    OneMore old.events new.events × SameTuned before after
+    OneMore new.steps old.events new.events × SameTuned before after
 serves-more None old mid new before after h = (left-more mid old.events new h.0, same-tuned before after h.1.pacers)
 serves-more (Some cause.Asked) old mid new before after h =
     (asked-more h.0.0.manager mid old.events new h.0.2, same-tuned before after h.1.pacers)
@@ -64,7 +67,7 @@ serves-more (Some cause.Paced) old mid new before after h = paced-more h.0.manag
 
 -- a step has at most one collection, and tunes no pacer
 pub step-adds : (due : Option Cause) (old : Stepping) (mid : Parts) (new : Stepping) (before after : Asks) (r : Outcome) →
-    ServesBy due old mid new before after r → Adds old.events new.events r × SameTuned before after
+    ServesBy due old mid new before after r → Adds new.steps old.events new.events r × SameTuned before after
 step-adds due old mid new before after outcome.Running h = serves-more due old mid new before after h
 step-adds due old mid new before after (outcome.Printed v) h = serves-more due old mid new before after h
 step-adds due old mid new before after outcome.Done h = serves-more due old mid new before after h
@@ -72,11 +75,11 @@ step-adds due old mid new before after (outcome.Trap kind line) h = (h.events_ar
 step-adds due old mid new before after outcome.InputFault h = (h.events_are, same-tuned before after h.unasked.pacers)
 step-adds due old mid new before after outcome.Memory h = (h.events_are, same-tuned before after h.unasked.pacers)
 
-pub front : (old new : List Event) → OneMore old new → take (length old) new ≡ old
+pub front : {step : ℕ} (old new : List Event) → OneMore step old new → take (length old) new ≡ old
 front old new (inl same) = ap (take (length old)) same ∙ take_all (length old) old (omega arith)
 front old new (inr more) = ap (take (length old)) more.1 ∙ take-append_seam old (more.0 ∷ [])
 
-pub few : (old new : List Event) → OneMore old new → length new ≤ length old + 1
+pub few : {step : ℕ} (old new : List Event) → OneMore step old new → length new ≤ length old + 1
 few old new (inl same) = omega (arith, ap length same)
 few old new (inr more) =
     let e : length new ≡ length old + 1 = ap length more.1 ∙ length-append old (more.0 ∷ []) in omega (arith, e)
@@ -84,7 +87,8 @@ few old new (inr more) =
 -- What the notes have taken
 
 -- in front of what a step added
-pub reports-front : (report : Bool) (old new told events : List Event) (first now : Option (List ℕ)) → told ≡ old → events ≡ new → OneMore old new →
+pub reports-front : {step : ℕ} (report : Bool) (old new told events : List Event) (first now : Option (List ℕ)) → told ≡ old → events ≡ new →
+    OneMore step old new →
     Reports report ended.Spent old first now → Reports report ended.Spent (take (length told) events) first now
 reports-front report old new told events first now told_is events_is more h =
     let P : List Event → Type 0 = λ q. Reports report ended.Spent q first now in
@@ -135,7 +139,7 @@ lines-more : (xs : List Event) (e : Event) → event_lines (xs ++ e ∷ []) ≡ 
 lines-more xs e = flat_map-append event_line xs (e ∷ []) ∙ ap (λ q. event_lines xs ++ q) (append-nil (event_line e))
 
 -- the output failed in a step that may have collected
-pub reports-part : (report : Bool) (old new : List Event) (first now : Option (List ℕ)) → OneMore old new →
+pub reports-part : {step : ℕ} (report : Bool) (old new : List Event) (first now : Option (List ℕ)) → OneMore step old new →
     Reports report ended.Spent old first now → Reports report ended.OutputFault new first now
 reports-part report old new first now (inl same) h = reports-same report ended.OutputFault old new first now same h
 reports-part false old new first now (inr more) h = h

@@ -5,6 +5,7 @@ use Rattle.std.proofs.Common.{subst, arith, append-nil, append_assoc}
 use Rattle.std.proofs.Math.Seq.{drop-append_seam}
 use Rattle.rg_base.proofs.Callers.Texts.{text-append}
 use Rattle.rg_base.specs.declared.value.Val.{Val}
+use Rattle.rg_base.specs.declared.words.Manager.TheVariants.{Count, Trace}
 use Rattle.rg_base.specs.declared.outcome.Ended.TheVariants as ended
 use Rattle.rg_base.specs.Text.{text}
 use Rattle.rg_io.specs.Content.{Appends, AppendsPart}
@@ -23,9 +24,10 @@ use Rattle.rg_plain.specs.Kept.{shown, items_from}
 use Rattle.rg_plain.specs.Machine.{Machine, Begins}
 use Rattle.rg_plain.specs.Runs.{WroteUpTo}
 use Rattle.rg_step.specs.Collections.{Asks}
-use Rattle.rg_step.specs.Steps.{Stepping}
-use Rattle.rg_run.specs.Asked.{AskedOver, RunsAsking}
-use Rattle.rg_run.specs.Machine.{IsFresh}
+use Rattle.rg_step.specs.Steps.{Since, Stepping, fresh}
+use Rattle.rg_run.specs.Asked.{AskedOver, RunsAsking, SinceYes, last_yes}
+use Rattle.rg_run.specs.Machine.{IsFresh, Kept}
+use Rattle.rg_run.proofs.SinceLemmas.{SinceOver, CountsSince}
 use Rattle.rg_run.proofs.OutputLemmas.{GoesOn, run-later, ends-block}
 
 -- main's block is never without a thing to do
@@ -44,6 +46,27 @@ asked-first : (t : Tree) (input : List ℕ) (a : Asks) → AskedOver t input 0 a
 unfolding asks_from
 asked-first t input a = record { count = refl; trace = refl }
 
+-- and the stepper has counted nothing
+since-first : (t : Tree) (input : List ℕ) (st : Stepping) → st.steps ≡ 0 → st.since ≡ fresh.since → st.events ≡ [] → SinceOver t input 0 st
+unfolding asks_from
+since-first t input st first since events = record {
+  steps = first;
+  count = start st.since.count (last_yes Count st.events) (ap (λ (s : Since). s.count) since) (ap (last_yes Count) events);
+  trace = start st.since.trace (last_yes Trace st.events) (ap (λ (s : Since). s.trace) since) (ap (last_yes Trace) events);
+}
+  where
+    start : (n found : ℕ) → n ≡ 0 → found ≡ 0 → CountsSince 0 n found []
+    start n found is last = record { counts = is; sooner = omega (arith, last); last = λ step past. refl }
+
+pub since-none : (t : Tree) (input : List ℕ) (k : ℕ) (st : Stepping) → k ≡ 0 → st.steps ≡ 0 → st.since ≡ fresh.since → st.events ≡ [] →
+    SinceOver t input k st
+since-none t input k st zero_is first since events =
+    let P : ℕ → Type 0 = λ q. SinceOver t input q st in subst P (sym zero_is) (since-first t input st first since events)
+
+-- what a machine has counted is that
+pub since-yes : (t : Tree) (input : List ℕ) (m : Kept) → SinceOver t input m.steps m.stepper → SinceYes t input m
+since-yes t input m s = record { count = s.count.counts; trace = s.trace.counts }
+
 pub asked-none : (t : Tree) (input : List ℕ) (k : ℕ) (a : Asks) → k ≡ 0 → AskedOver t input k a a
 asked-none t input k a zero_is = let P : ℕ → Type 0 = λ q. AskedOver t input q a a in subst P (sym zero_is) (asked-first t input a)
 
@@ -51,11 +74,16 @@ asked-none t input k a zero_is = let P : ℕ → Type 0 = λ q. AskedOver t inpu
 pub not-begun : (t : Tables) (n : ℕ) (b : Bool) (p q : Stepping) (k : ℕ) (a : Pending) (left old : Option (List ℕ)) (still : Type 0) (first : Asks) →
     IsFresh (record { begun = b; stepper = p; steps = k }) → q ≡ p → still →
     OnInput a a left left (RunsAsking t n old old (record { begun = b; stepper = q; steps = k }) ended.Memory still first first)
-not-begun t n b p q k a left old still first fresh same quiet =
+not-begun t n b p q k a left old still first begins same quiet =
     let P : Stepping → Type 0 = λ r. IsFresh (record { begun = b; stepper = r; steps = k }) in
-    let there : P q = subst P (sym same) fresh in
+    let there : P q = subst P (sym same) begins in
     OnInput-still a a left left (RunsAsking t n old old (record { begun = b; stepper = q; steps = k }) ended.Memory still first first) refl refl
-    (λ bytes. (inl (record { answer_is = refl; fresh = there; untouched = refl; unread = quiet }), asked-none (program_of t) bytes k first fresh.steps))
+    (λ bytes. (
+      inl (record { answer_is = refl; fresh = there; untouched = refl; unread = quiet }),
+      asked-none (program_of t) bytes k first begins.steps,
+      since-yes (program_of t) bytes _ (since-none (program_of t) bytes k q begins.steps (ap (λ (s : Stepping). s.steps) there.stepper)
+          (ap (λ (s : Stepping). s.since) there.stepper) (ap (λ (s : Stepping). s.events) there.stepper)),
+    ))
 
 -- a run is the one of as many steps as it made, and where it is done, that one is
 pub record IsRunOf (classes : List Class) (d n made : ℕ) (s : State) : Type 0 where

@@ -21,9 +21,9 @@ module _ {code : Code} {old new : Standing} {result : Outcome} {a b : Pending} {
   some : (before : List ℕ) × (after : List ℕ) × OneStep code old new result before after
   some = OnInput-some a b la lb (OneStep code old new result) follows step
 
-  pub added : Adds old.stepper.events new.stepper.events result × SameTuned old.pacers new.pacers
+  pub added : Adds new.stepper.steps old.stepper.events new.stepper.events result × SameTuned old.pacers new.pacers
   added =
-      step-adds (due_at code.ops old.stepper.parts.at) old.stepper some.2.serves.0 new.stepper old.pacers new.pacers result some.2.serves.2
+      step-adds (due_at code.ops old.stepper.parts.at) old.stepper some.2.serves.0 new.stepper old.pacers new.pacers result some.2.serves.3
 
   pub yeses : (behind : List Event) × (new.stepper.events ≡ old.stepper.events ++ behind) × YesesTold behind old.pacers new.pacers
-  yeses = some.2.yeses
+  yeses = let y = some.2.yeses in (y.0, y.1, y.2)

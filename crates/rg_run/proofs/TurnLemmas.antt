@@ -45,6 +45,7 @@ use Rattle.rg_run.specs.Runs.{Ran, RunsOn}
 use Rattle.rg_run.specs.Inner.{IsUntold}
 use Rattle.rg_run.proofs.OutputLemmas.{ends-block}
 use Rattle.rg_run.proofs.RunLemmas.{wrote-whole}
+use Rattle.rg_run.proofs.SinceLemmas.{SinceOver}
 use Rattle.rg_run.proofs.SoundLemmas.{run-is-sound}
 use Rattle.rg_run.proofs.StepLemmas.{OnInput-some}
 
@@ -97,10 +98,12 @@ pub record Between (t : Tables) (code : Code) (k : ℕ) (m : Machine) (old new :
   pub ends : EndsMain state.items
   pub unread : NoneAsks t (opening (program_of t) before) k → Still
 
--- so a run stands, and the pacers were asked over the steps so far
-abbrev pub Turns : Tables → Code → (k : ℕ) → Machine → (old new : Option (List ℕ)) → (Still : Type 0) → (first now : Asks)
+-- so a run stands, and the pacers were asked over the steps so far, as the stepper counts them since their last yes
+abbrev pub Turns : Tables → Code → (k : ℕ) → Stepping → (old new : Option (List ℕ)) → (Still : Type 0) → (first now : Asks)
     → (before after : List ℕ) → Type 0
-Turns t code k m old new Still first now before after = Between t code k m old new Still before after × AskedOver (program_of t) before k first now
+Turns t code k st old new Still first now before after =
+    Between t code k (machine_in st.parts) old new Still before after × AskedOver (program_of t) before k first now
+    × SinceOver (program_of t) before k st
 
 -- a machine that has begun stands between two steps
 pub begins : (t : Tables) (code : Code) (m : Machine) (content : Option (List ℕ)) (Still : Type 0) (bytes : List ℕ) → Accepted (program_of t) →
@@ -340,10 +343,11 @@ untold t code n k st old out Still before after started is within e cut b =
     }
 
 -- some program runs on the machine
-pub is-running : {t : Tables} {code : Code} {k : ℕ} {m : Machine} {a b : Pending} {left behind old new : Option (List ℕ)} {Still : Type 0}
-    {first now : Asks} → Follows b behind → OnInput a b left behind (Turns t code k m old new Still first now) → IsRunning code m
-is-running {t} {code} {k} {m} {a} {b} {left} {behind} {old} {new} {Still} {first} {now} follows h =
-    let q = (OnInput-some a b left behind (Turns t code k m old new Still first now) follows h).2.0 in (program_of t, q.state, q.runs)
+pub is-running : {t : Tables} {code : Code} {k : ℕ} {st : Stepping} {a b : Pending} {left behind old new : Option (List ℕ)} {Still : Type 0}
+    {first now : Asks} → Follows b behind → OnInput a b left behind (Turns t code k st old new Still first now) →
+    IsRunning code (machine_in st.parts)
+is-running {t} {code} {k} {st} {a} {b} {left} {behind} {old} {new} {Still} {first} {now} follows h =
+    let q = (OnInput-some a b left behind (Turns t code k st old new Still first now) follows h).2.0 in (program_of t, q.state, q.runs)
 
 -- the steps so far, one more, and what follows of both
 pub turn : (a b c : Pending) (la lb lc : Option (List ℕ)) (P Q R : List ℕ → List ℕ → Type 0) → OnInput a b la lb P → OnInput b c lb lc Q →

@@ -1,12 +1,14 @@
--- How often a run has asked the pacers (docs/language.md, "Steps").
-use Rattle.std.specs.Prelude.{◌≡◌, ℕ, List, Option, length}
+-- How often a run has asked the pacers, and how often since they last said yes (docs/language.md, "Steps").
+use Rattle.std.specs.Prelude.{◌≡◌, ℕ, List, [], ◌∷◌, Option, length, count_by, nat_lt, if◌then◌else◌}
+use Rattle.rg_base.specs.declared.event.Event.{Event}
 use Rattle.rg_base.specs.declared.outcome.Ended.{Ended}
+use Rattle.rg_base.specs.declared.words.Manager.{Manager}
 use Rattle.rg_base.specs.declared.words.Manager.TheVariants.{Count, Trace}
 use Rattle.rg_tree.specs.Tree.{Tree}
 use Rattle.rg_tree.specs.Rows.Tables.{Tables}
 use Rattle.rg_tree.specs.Rows.RowTrees.{program_of}
 use Rattle.rg_rules.specs.Asks.{asks}
-use Rattle.rg_step.specs.Asking.{raised}
+use Rattle.rg_step.specs.Asking.{paced_by, raised}
 use Rattle.rg_step.specs.Collections.{Asks}
 use Rattle.rg_run.specs.Machine.{Kept}
 use Rattle.rg_run.specs.Runs.{RunsOn}
@@ -16,8 +18,26 @@ pub record AskedOver (t : Tree) (input : List ℕ) (steps : ℕ) (before after :
   pub count : after.count.asks ≡ raised (length (asks t input steps Count)) before.count.asks
   pub trace : after.trace.asks ≡ raised (length (asks t input steps Trace)) before.trace.asks
 
--- what a call is told of a run and, on the same bytes of the input, of the pacers that its whole steps asked
+-- the step of the last of these collections that the pacer of a manager said yes to, and this number where there is none
+abbrev pub last_behind : Manager → (found : ℕ) → List Event → ℕ
+last_behind m found [] = found
+last_behind m found (e ∷ later) = last_behind m (if paced_by m e then e.step else found) later
+
+-- the step of the last one of a run; steps count from 1, and it is 0 where there is none
+abbrev pub last_yes : Manager → List Event → ℕ
+last_yes m events = last_behind m 0 events
+
+-- how many of the steps that ask a pacer are later than one
+abbrev pub later_than : (step : ℕ) → (asked : List ℕ) → ℕ
+later_than step asked = count_by (λ n. nat_lt step n) asked
+
+-- behind its steps of a program on an input, a machine has counted for each pacer those that asked it since its last yes
+pub record SinceYes (t : Tree) (input : List ℕ) (m : Kept) : Type 0 where
+  pub count : m.stepper.since.count ≡ raised (later_than (last_yes Count m.stepper.events) (asks t input m.steps Count)) 0
+  pub trace : m.stepper.since.trace ≡ raised (later_than (last_yes Trace m.stepper.events) (asks t input m.steps Trace)) 0
+
+-- what a call is told of a run and, on the same bytes of the input, of the pacers that its whole steps asked, and of the asks since their last yes
 abbrev pub RunsAsking : Tables → (n : ℕ) → (old new : Option (List ℕ)) → Kept → Ended → (still : Type 0) → (first last : Asks)
     → (before after : List ℕ) → Type 0
 RunsAsking t n old new m result still first last before after =
-    RunsOn t n old new m result still before after × AskedOver (program_of t) before m.steps first last
+    RunsOn t n old new m result still before after × AskedOver (program_of t) before m.steps first last × SinceYes (program_of t) before m

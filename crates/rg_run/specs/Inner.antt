@@ -13,18 +13,18 @@ use Rattle.rg_run.specs.Machine.{Kept}
 abbrev pub kept_of : Inside → Kept
 kept_of i = record { begun = i.begun; stepper = i.stepper; steps = i.steps }
 
--- at most one collection more
-abbrev pub OneMore : (old new : List Event) → Type 0
-OneMore old new = (new ≡ old) ⊎ ((e : Event) × (new ≡ old ++ e ∷ []))
+-- at most one collection more, told with the number of a step
+abbrev pub OneMore : (step : ℕ) → (old new : List Event) → Type 0
+OneMore step old new = (new ≡ old) ⊎ ((e : Event) × (new ≡ old ++ e ∷ []) × (e.step ≡ step))
 
--- the collections of a step: at most one more, and none where it was refused
-abbrev pub Adds : (old new : List Event) → Outcome → Type 0
-Adds old new outcome.Running = OneMore old new
-Adds old new (outcome.Printed v) = OneMore old new
-Adds old new outcome.Done = OneMore old new
-Adds old new (outcome.Trap kind line) = new ≡ old
-Adds old new outcome.InputFault = new ≡ old
-Adds old new outcome.Memory = new ≡ old
+-- the collections of a step: at most one more, told with its number, and none where it was refused
+abbrev pub Adds : (step : ℕ) → (old new : List Event) → Outcome → Type 0
+Adds step old new outcome.Running = OneMore step old new
+Adds step old new (outcome.Printed v) = OneMore step old new
+Adds step old new outcome.Done = OneMore step old new
+Adds step old new (outcome.Trap kind line) = new ≡ old
+Adds step old new outcome.InputFault = new ≡ old
+Adds step old new outcome.Memory = new ≡ old
 
 -- how a run stands where telling a collection went well, or has ended it
 abbrev pub ended_by : {A : Type 0} → Result A Ended → Ended

@@ -106,8 +106,9 @@ impl Machine {
     /// `out` in its own step and, where `report` is true, the line of each collection to `notes` in
     /// its own. What the pacers answer decides nothing of what is written to `out`, nor of the
     /// state that the machine shows. A pacer is asked once for each step made that makes an object
-    /// by `new C` in a region of its manager, and each of its yeses is a collection. The states
-    /// between the steps are those that `Stepper::step` leaves, one after the other.
+    /// by `new C` in a region of its manager, and each of its yeses is a collection, behind which
+    /// the asks that it is told of are counted anew. The states between the steps are those that
+    /// `Stepper::step` leaves, one after the other.
     pub fn run<I: Source, O: Sink, R: Sink>(
         &mut self,
         alloc: Global,

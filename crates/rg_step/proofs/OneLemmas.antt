@@ -20,7 +20,7 @@ use Rattle.rg_step.proofs.FreesLemmas.{none-frees}
 use Rattle.rg_step.proofs.HighLemmas.{raises-none}
 use Rattle.rg_step.proofs.ReachedLemmas.{none-reached, serves-reached}
 use Rattle.rg_step.proofs.ServeLemmas.{serves-none, serves-refused, serves-shows, serves-some, steps-nowhere}
-use Rattle.rg_step.proofs.SinceLemmas.{since-refused, since-served, since-undue}
+use Rattle.rg_step.proofs.SinceLemmas.{none-said, since-refused, since-served, since-undue}
 use Rattle.rg_step.proofs.WriteLemmas.{steps-write}
 use Rattle.rg_step.proofs.YesLemmas.{no-yes, yeses-served}
 
@@ -80,7 +80,8 @@ module _ (code : Code) (old new : Standing) (runs : IsRunning code (machine_in o
     asked = asks-undue code (machine_in old.stepper.parts) result _ _ made none unasked.pacers;
     yeses =
         let y = no-yes _ _ _ _ told unasked.pacers in
-        (y.0, y.1, y.2, since-undue code (machine_in old.stepper.parts) result y.0 _ _ made none unasked.since);
+        let unsaid = none-said old.stepper.events y.0 new.stepper.events y.1 told in
+        (y.0, y.1, y.2, since-undue code (machine_in old.stepper.parts) result y.0 _ _ made none unasked.since unsaid);
     writes = steps-write code _ _ result before after runs steps;
     high = high;
     counts = counts-made old.stepper.steps new.stepper.steps result made more;

@@ -1,6 +1,6 @@
 -- How often a pacer was asked since its last yes: a step that asks it counts one more, or none behind a collection of its own.
-use Rattle.std.proofs.Common.{◌≡◌, ℕ, Bool as Truth, true, false, true≢false, ◌&&◌, List, ◌++◌, append-nil}
-use Rattle.std.proofs.Common.{Some, None, slice_get, refl, sym, ap, ◌∙◌}
+use Rattle.std.proofs.Common.{◌≡◌, ℕ, Bool as Truth, true, false, true≢false, ◌&&◌, ◌||◌, List, [], ◌++◌, append-nil, Some, None, slice_get}
+use Rattle.std.proofs.Common.{refl, sym, ap, ◌∙◌}
 use Rattle.std.proofs.lemmas.List.{append_cancel_left}
 use Rattle.std.specs.List.{list_any}
 use Rattle.rg_base.specs.declared.event.Cause.{Cause}
@@ -22,7 +22,7 @@ use Rattle.rg_stack.specs.Machine.{Machine}
 use Rattle.rg_machine.specs.Parts.{Parts, machine_in}
 use Rattle.rg_machine.specs.Stands.{Stands}
 use Rattle.rg_step.specs.Asking.{SinceFrom, SinceOn, asks_at, first_makes, paced_by, since_behind}
-use Rattle.rg_step.specs.Collections.{Asks, CollectsOn, Paces, Serves, since_then}
+use Rattle.rg_step.specs.Collections.{Asks, CollectsAsked, CollectsOn, Paces, Serves, since_then}
 use Rattle.rg_step.specs.Steps.{Runs, Since, Stepping, StepsOn, is_made}
 use Rattle.rg_step.proofs.ActiveLemmas.{collected-manager}
 use Rattle.rg_step.proofs.AskedLemmas.{makes-due, paced-in}
@@ -50,14 +50,15 @@ since-refused code was outcome.Memory behind before after made same = same
 
 -- From a state
 
--- no object is made
+-- no object is made, and no pacer said yes
 still-since : (t : Tree) (s : State) (behind : List Event) (before after : Since) → first_makes t.classes s.items ≡ false → after ≡ before
-    → SinceFrom t.classes s behind before after
-still-since t s behind before after none same = record {
+    → ((m : Manager) → list_any (paced_by m) behind ≡ false) → SinceFrom t.classes s behind before after
+still-since t s behind before after makes same none = record {
   count = ap (λ (x : Since). x.count) same
-      ∙ ap (λ b. since_behind (b && is_managed Count s) (list_any (paced_by Count) behind) before.count) (sym none);
+      ∙ ap (λ b. since_behind (b && is_managed Count s) (list_any (paced_by Count) behind) before.count) (sym makes);
   trace = ap (λ (x : Since). x.trace) same
-      ∙ ap (λ b. since_behind (b && is_managed Trace s) (list_any (paced_by Trace) behind) before.trace) (sym none);
+      ∙ ap (λ b. since_behind (b && is_managed Trace s) (list_any (paced_by Trace) behind) before.trace) (sym makes);
+  said = λ m is. absurd (true≢false (sym is ∙ none m));
 }
 
 -- one is made, in a region of a manager
@@ -67,17 +68,41 @@ since-in : (t : Tree) (s : State) (m k : Manager) (said : Truth) (old new : ℕ)
 since-in t s m k said old new makes manager is =
     is ∙ ap (λ o. since_behind (managed_by m o) said old) (sym manager) ∙ ap (λ b. since_behind (b && is_managed m s) said old) (sym makes)
 
--- What was due was done
+-- What the collections behind it tell
+
+-- there are none
+pub none-said : (events behind new : List Event) → new ≡ events ++ behind → new ≡ events → (m : Manager) → list_any (paced_by m) behind ≡ false
+none-said events behind new more same m =
+    ap (list_any (paced_by m)) (append_cancel_left events behind [] (sym more ∙ same ∙ sym (append-nil events)))
+
+-- a collection that was asked for is no pacer's
+asked-said : (k : Manager) (mid : Parts) (events behind : List Event) (new : Stepping) → new.events ≡ events ++ behind
+    → CollectsAsked k mid events new → (m : Manager) → list_any (paced_by m) behind ≡ false
+asked-said Arena mid events behind new more c m = none-said events behind new.events more c.events_are m
+asked-said Count mid events behind new more c m = ap (list_any (paced_by m)) (append_cancel_left events _ _ (sym more ∙ c.events_are))
+asked-said Trace mid events behind new more c m = ap (list_any (paced_by m)) (append_cancel_left events _ _ (sym more ∙ c.events_are))
 
 -- what a pacer answered is told by the collections behind it
-said-so : (k : Manager) (answer : Truth) (mid : Parts) (events behind : List Event) (new : Stepping) (a : Active) → paced_as k k ≡ true
+said-so : (k : Manager) (answer : Truth) (mid : Parts) (events behind : List Event) (new : Stepping) (a : Active)
     → Stands mid.heap mid.frames → OnTop mid.frames (λ top. Tells mid.heap.regions top.region a) → a.manager ≡ k → new.events ≡ events ++ behind
-    → CollectsOn answer mid events new → list_any (paced_by k) behind ≡ answer
-said-so k true mid events behind new a paced stands tells is more c =
+    → CollectsOn answer mid events new → (m : Manager) → list_any (paced_by m) behind ≡ answer && paced_as m k
+said-so k true mid events behind new a stands tells is more c m =
     let manager : c.told.manager ≡ k = collected-manager Paced mid events new a stands tells c ∙ is in
-    ap (list_any (paced_by k)) (append_cancel_left events _ _ (sym more ∙ c.events_are)) ∙ rw (manager, paced) refl
-said-so k false mid events behind new a paced stands tells is more c =
-    ap (list_any (paced_by k)) (append_cancel_left events _ _ (sym more ∙ c.events_are ∙ sym (append-nil events)))
+    ap (list_any (paced_by m)) (append_cancel_left events _ _ (sym more ∙ c.events_are)) ∙ ap (λ x. paced_as m x || false) manager
+    ∙ or-false (paced_as m k)
+  where
+    or-false : (b : Truth) → (b || false) ≡ b
+    or-false true = refl
+    or-false false = refl
+said-so k false mid events behind new a stands tells is more c m = none-said events behind new.events more c.events_are m
+
+and-true : (answer : Truth) → (answer && true) ≡ answer
+and-true true = refl
+and-true false = refl
+
+and-right : (answer b : Truth) → answer && b ≡ true → b ≡ true
+and-right true b is = is
+and-right false b is = absurd (true≢false (sym is))
 
 since-said : (answer said : Truth) (n : ℕ) → said ≡ answer → since_then answer n ≡ since_behind true said n
 since-said true true n is = refl
@@ -92,7 +117,7 @@ module _ (mid : Parts) (old new : Stepping) (before after : Asks) (behind : List
   since-count Arena is p = ap (λ (x : Since). x.count) p.1.since
   since-count Count is p =
       ap (λ (x : Since). x.count) p.2
-      ∙ since-said p.0 _ old.since.count (said-so Count p.0 mid old.events behind new a refl stands tells is more p.1)
+      ∙ since-said p.0 _ old.since.count (said-so Count p.0 mid old.events behind new a stands tells is more p.1 Count ∙ and-true p.0)
   since-count Trace is p = ap (λ (x : Since). x.count) p.2
 
   since-trace : (k : Manager) → a.manager ≡ k → Paces k a.held old mid new before after
@@ -101,16 +126,25 @@ module _ (mid : Parts) (old new : Stepping) (before after : Asks) (behind : List
   since-trace Count is p = ap (λ (x : Since). x.trace) p.2
   since-trace Trace is p =
       ap (λ (x : Since). x.trace) p.2
-      ∙ since-said p.0 _ old.since.trace (said-so Trace p.0 mid old.events behind new a refl stands tells is more p.1)
+      ∙ since-said p.0 _ old.since.trace (said-so Trace p.0 mid old.events behind new a stands tells is more p.1 Trace ∙ and-true p.0)
+
+  only-asked : (k : Manager) → a.manager ≡ k → Paces k a.held old mid new before after → (m : Manager)
+      → list_any (paced_by m) behind ≡ true → paced_as m k ≡ true
+  only-asked Arena is p m said = absurd (true≢false (sym said ∙ none-said old.events behind new.events more p.0.events_are m))
+  only-asked Count is p m said =
+      and-right p.0 (paced_as m Count) (sym (said-so Count p.0 mid old.events behind new a stands tells is more p.1 m) ∙ said)
+  only-asked Trace is p m said =
+      and-right p.0 (paced_as m Trace) (sym (said-so Trace p.0 mid old.events behind new a stands tells is more p.1 m) ∙ said)
 
 -- A step that was made
 
 -- nothing was due
 pub since-undue : (code : Code) (was : Machine) (result : Outcome) (behind : List Event) (before after : Since) → is_made result ≡ true
-    → due_at code.ops was.at ≡ None → after ≡ before → SinceOn code was result behind before after
-since-undue code was result behind before after made none same =
+    → due_at code.ops was.at ≡ None → after ≡ before → ((m : Manager) → list_any (paced_by m) behind ≡ false)
+    → SinceOn code was result behind before after
+since-undue code was result behind before after made none same unsaid =
     since-made code was result behind before after made
-    (λ t s r. still-since t s behind before after (makes-due t code was s None r none) same)
+    (λ t s r. still-since t s behind before after (makes-due t code was s None r none) same unsaid)
 
 -- what was due was done
 pub since-served : (code : Code) (was : Machine) (why : Cause) (old : Stepping) (mid : Parts) (new : Stepping) (before after : Asks)
@@ -118,15 +152,18 @@ pub since-served : (code : Code) (was : Machine) (why : Cause) (old : Stepping) 
     → Serves (Some why) old mid new before after → Stands mid.heap mid.frames → StepsOn code was (machine_in mid) result bytes left
     → (behind : List Event) → new.events ≡ old.events ++ behind → SinceOn code was result behind old.since new.since
 since-served code was Asked old mid new before after result bytes left made is serves stands steps behind more =
+    let none = asked-said serves.0.0.manager mid old.events behind new more serves.0.2 in
     since-made code was result behind old.since new.since made
-    (λ t s r. still-since t s behind old.since new.since (makes-due t code was s (Some Asked) r is) serves.1.since)
+    (λ t s r. still-since t s behind old.since new.since (makes-due t code was s (Some Asked) r is) serves.1.since none)
 since-served code was Paced old mid new before after result bytes left made is serves stands steps behind more =
-    since-made code was result behind old.since new.since made (λ t s r.
     let a = serves.0 in
+    since-made code was result behind old.since new.since made (λ t s r.
     let here = paced-in t code was old mid new before after result made stands bytes left steps s r is a serves.1 in
     record {
       count = since-in t s Count a.manager _ _ _ here.0 here.1
           (since-count mid old new before after behind more a stands serves.1 a.manager refl serves.2);
       trace = since-in t s Trace a.manager _ _ _ here.0 here.1
           (since-trace mid old new before after behind more a stands serves.1 a.manager refl serves.2);
+      said = λ m said. ap (λ b. b && is_managed m s) here.0 ∙ ap (managed_by m) here.1
+          ∙ only-asked mid old new before after behind more a stands serves.1 a.manager refl serves.2 m said;
     })

@@ -72,6 +72,8 @@ since_behind true false n = one_more n
 pub record SinceFrom (classes : List Class) (s : State) (behind : List Event) (before after : Since) : Type 0 where
   pub count : after.count ≡ since_behind (asks_at classes Count s) (list_any (paced_by Count) behind) before.count
   pub trace : after.trace ≡ since_behind (asks_at classes Trace s) (list_any (paced_by Trace) behind) before.trace
+  -- no pacer says yes that isn't asked
+  pub said : (m : Manager) → list_any (paced_by m) behind ≡ true → asks_at classes m s ≡ true
 
 -- for each state of an accepted program that the machine showed; a step that was refused leaves both numbers
 abbrev pub SinceOn : Code → (old : Machine) → Outcome → (behind : List Event) → (before after : Since) → Type 0

@@ -1,5 +1,5 @@
 -- The turns and the ends of a run, by the lemma of each.
-use Rattle.std.proofs.Common.{◌≡◌, ◌<◌, ℕ, [], Err, inl, inr, refl, sym, ap, subst, arith, ◌∙◌, true≢false}
+use Rattle.std.proofs.Common.{◌≡◌, ◌-◌, ◌^◌, ◌<◌, ℕ, [], Err, inl, inr, refl, sym, ap, subst, arith, ◌∙◌, true≢false}
 use Rattle.rg_base.specs.declared.outcome.Ended.TheVariants as ended
 use Rattle.rg_io.proofs.ContentLemmas.{Appends-none, Rose-since}
 use Rattle.rg_tree.specs.Rows.Tables.{Tables}
@@ -11,7 +11,7 @@ use Rattle.rg_step.specs.Steps.{Stepping, opening_machine}
 use Rattle.rg_run.proofs.AskLemmas.{yeses-none, yeses-of, yeses-more}
 use Rattle.rg_run.proofs.LoopLemmas.{went-on, printed-on, turned-leapt, spent, untold, done, done-untold}
 use Rattle.rg_run.proofs.LoopLemmas.{trapped, cut-before, cut-at-input, cut-behind}
-use Rattle.rg_run.proofs.RunLemmas.{asked-none, not-begun}
+use Rattle.rg_run.proofs.RunLemmas.{asked-none, not-begun, since-none}
 use Rattle.rg_run.proofs.StateLemmas.{LeadsTo, opened, leapt-on, stepped-on, ended-at, refused-at, untold-leaves}
 use Rattle.rg_run.proofs.TurnLemmas.{Between, Turns, begins, is-running, ran-only}
 use Rattle.rg_run.proofs.ReportLemmas.{reports-none, reports-whole, reports-same, reports-part, reports-front, reports-of}
@@ -43,11 +43,13 @@ loop-self-init g c =
       reports = reports-same c.args.report ended.Spent [] c.begin.new.self.events _ _ (ap (λ (s : Stepping). s.events) h.2)
           (reports-none c.args.report (g.R.Sink.taken c.args.notes.now));
       yeses = yeses-none c.begin.new.self.events _ (ap (λ (s : Stepping). s.events) h.2);
-      turns = OnInput-still _ _ _ _ (Turns t code c.args.self.now.steps m content content Still _ _) refl refl (λ bytes.
+      turns = OnInput-still _ _ _ _ (Turns t code c.args.self.now.steps c.begin.new.self content content Still _ _) refl refl (λ bytes.
           let Q : ℕ → Type 0 = λ k. Between t code k m content content Still bytes bytes in (
             subst Q (sym c.requires.fresh.steps)
                 (begins t code m content Still bytes accepted c.requires.lowers is (Appends-none content) (refl, refl)),
             asked-none (program_of t) bytes c.args.self.now.steps _ c.requires.fresh.steps,
+            since-none (program_of t) bytes c.args.self.now.steps c.begin.new.self c.requires.fresh.steps (ap (λ (s : Stepping). s.steps) h.2)
+                (ap (λ (s : Stepping). s.since) h.2) (ap (λ (s : Stepping). s.events) h.2),
           ));
       states = OnInput-still _ _ _ _ (LeadsTo code t.manager c.args.self.now.steps _ _) refl refl
           (opened h.0 c.begin.new.self opens h.2 c.requires.fresh.steps);
@@ -58,12 +60,14 @@ step-requires-clause-runs g c = is-running c.loop-self.invariant.follows c.loop-
 
 pub leap-requires : goal.leap-requires
 leap-requires g c =
-    is-running c.in-Running.ensures.follows (went-on c.loop-self.invariant.turns c.in-Running.ensures.reads_nothing c.in-Running.ensures.one)
+    let room : c.loop-self.self.steps < 2 ^ 64 - 1 = omega (arith, c.loop-self-test.true, c.ranges.n) in
+    is-running c.in-Running.ensures.follows (went-on c.loop-self.invariant.turns c.in-Running.ensures.reads_nothing room c.in-Running.ensures.one)
 
 pub loop-self-preserved-in-Running : goal.loop-self-preserved-in-Running
 loop-self-preserved-in-Running g c =
     let new = c.step.new.stepper in
     let within : c.loop-self.self.steps < c.args.n = omega (arith, c.loop-self-test.true) in
+    let room : c.loop-self.self.steps < 2 ^ 64 - 1 = omega (arith, c.loop-self-test.true, c.ranges.n) in
     record {
       begun = c.loop-self.invariant.begun;
       follows = c.in-Running.ensures.follows;
@@ -80,8 +84,9 @@ loop-self-preserved-in-Running g c =
           c.in-Running.ensures.events c.loop-self.invariant.reports)));
       yeses = yeses-of new.events c.leap.new.self.events _ _ c.leap.ensures.events
           (yeses-more c.loop-self.self.stepper.events new.events _ _ _ c.loop-self.invariant.yeses c.in-Running.ensures.yeses);
-      turns = turned-leapt c.leap.result (went-on c.loop-self.invariant.turns c.in-Running.ensures.reads_nothing c.in-Running.ensures.one)
-          c.leap.ensures.leaps;
+      turns = turned-leapt c.leap.result (went-on c.loop-self.invariant.turns c.in-Running.ensures.reads_nothing room c.in-Running.ensures.one)
+          c.leap.ensures.leaps c.leap.ensures.since c.leap.ensures.events c.leap.ensures.counts
+          (omega (arith, within, c.leap.ensures.most, c.ranges.n));
       states = leapt-on (stepped-on c.loop-self.invariant.states c.in-Running.ensures.one refl) c.leap.result _ (c.leap.ensures.chain _);
     }
 
@@ -89,6 +94,7 @@ pub loop-self-preserved : goal.loop-self-preserved
 loop-self-preserved g c =
     let new = c.step.new.stepper in
     let within : c.loop-self.self.steps < c.args.n = omega (arith, c.loop-self-test.true) in
+    let room : c.loop-self.self.steps < 2 ^ 64 - 1 = omega (arith, c.loop-self-test.true, c.ranges.n) in
     record {
       begun = c.loop-self.invariant.begun;
       follows = c.in-Printed.ensures.follows;
@@ -103,7 +109,7 @@ loop-self-preserved g c =
           (reports-front c.args.report _ _ _ _ _ _ c.events-told.ensures c.events-in-Printed.ensures
           c.in-Printed.ensures.events c.loop-self.invariant.reports));
       yeses = yeses-more c.loop-self.self.stepper.events new.events _ _ _ c.loop-self.invariant.yeses c.in-Printed.ensures.yeses;
-      turns = printed-on c.loop-self.invariant.turns c.in-Printed.ensures.reads_nothing c.in-Printed.v c.in-Printed.ensures.one
+      turns = printed-on c.loop-self.invariant.turns c.in-Printed.ensures.reads_nothing room c.in-Printed.v c.in-Printed.ensures.one
           c.in-Ok-put_value.ensures.ok;
       states = stepped-on c.loop-self.invariant.states c.in-Printed.ensures.one refl;
     }
@@ -111,7 +117,8 @@ loop-self-preserved g c =
 pub returns-in-Err-clause-asked : goal.returns-in-Err-clause-asked
 returns-in-Err-clause-asked g c =
     let within : c.loop-self.self.steps < c.args.n = omega (arith, c.loop-self-test.true) in
-    untold (went-on c.loop-self.invariant.turns c.in-Running.ensures.reads_nothing c.in-Running.ensures.one) c.loop-self.invariant.begun
+    let room : c.loop-self.self.steps < 2 ^ 64 - 1 = omega (arith, c.loop-self-test.true, c.ranges.n) in
+    untold (went-on c.loop-self.invariant.turns c.in-Running.ensures.reads_nothing room c.in-Running.ensures.one) c.loop-self.invariant.begun
     (omega (arith, within)) c.in-Err.ensures.untold
 
 pub returns-in-Err-clause-run : goal.returns-in-Err-clause-run
@@ -120,7 +127,8 @@ returns-in-Err-clause-run g c = ran-only (returns-in-Err-clause-asked g c)
 pub returns-in-Err-put_value-clause-asked : goal.returns-in-Err-put_value-clause-asked
 returns-in-Err-put_value-clause-asked g c =
     let within : c.loop-self.self.steps < c.args.n = omega (arith, c.loop-self-test.true) in
-    cut-behind c.loop-self.invariant.turns c.in-Printed.ensures.reads_nothing c.loop-self.invariant.begun within c.in-Printed.v
+    let room : c.loop-self.self.steps < 2 ^ 64 - 1 = omega (arith, c.loop-self-test.true, c.ranges.n) in
+    cut-behind c.loop-self.invariant.turns c.in-Printed.ensures.reads_nothing room c.loop-self.invariant.begun within c.in-Printed.v
     c.in-Printed.ensures.one c.in-Err-put_value.ensures.part
 
 pub returns-in-Err-put_value-clause-run : goal.returns-in-Err-put_value-clause-run
@@ -129,7 +137,8 @@ returns-in-Err-put_value-clause-run g c = ran-only (returns-in-Err-put_value-cla
 pub returns-in-Err-tell-clause-asked : goal.returns-in-Err-tell-clause-asked
 returns-in-Err-tell-clause-asked g c =
     let within : c.loop-self.self.steps < c.args.n = omega (arith, c.loop-self-test.true) in
-    let behind = printed-on c.loop-self.invariant.turns c.in-Printed.ensures.reads_nothing c.in-Printed.v c.in-Printed.ensures.one
+    let room : c.loop-self.self.steps < 2 ^ 64 - 1 = omega (arith, c.loop-self-test.true, c.ranges.n) in
+    let behind = printed-on c.loop-self.invariant.turns c.in-Printed.ensures.reads_nothing room c.in-Printed.v c.in-Printed.ensures.one
     c.in-Ok-put_value.ensures.ok in
     untold behind c.loop-self.invariant.begun (omega (arith, within)) c.in-Err-tell.ensures.untold
 
@@ -139,7 +148,8 @@ returns-in-Err-tell-clause-run g c = ran-only (returns-in-Err-tell-clause-asked 
 pub returns-in-Err-tell-2-clause-asked : goal.returns-in-Err-tell-2-clause-asked
 returns-in-Err-tell-2-clause-asked g c =
     let within : c.loop-self.self.steps < c.args.n = omega (arith, c.loop-self-test.true) in
-    done-untold c.loop-self.invariant.turns c.in-Done.ensures.reads_nothing c.loop-self.invariant.begun within c.in-Done.ensures.one
+    let room : c.loop-self.self.steps < 2 ^ 64 - 1 = omega (arith, c.loop-self-test.true, c.ranges.n) in
+    done-untold c.loop-self.invariant.turns c.in-Done.ensures.reads_nothing room c.loop-self.invariant.begun within c.in-Done.ensures.one
     c.in-Err-tell-2.ensures.untold
 
 pub returns-in-Err-tell-2-clause-run : goal.returns-in-Err-tell-2-clause-run
@@ -148,7 +158,8 @@ returns-in-Err-tell-2-clause-run g c = ran-only (returns-in-Err-tell-2-clause-as
 pub returns-in-Done-clause-asked : goal.returns-in-Done-clause-asked
 returns-in-Done-clause-asked g c =
     let within : c.loop-self.self.steps < c.args.n = omega (arith, c.loop-self-test.true) in
-    done c.loop-self.invariant.turns c.in-Done.ensures.reads_nothing c.loop-self.invariant.begun within c.in-Done.ensures.one
+    let room : c.loop-self.self.steps < 2 ^ 64 - 1 = omega (arith, c.loop-self-test.true, c.ranges.n) in
+    done c.loop-self.invariant.turns c.in-Done.ensures.reads_nothing room c.loop-self.invariant.begun within c.in-Done.ensures.one
 
 pub returns-in-Done-clause-run : goal.returns-in-Done-clause-run
 returns-in-Done-clause-run g c = ran-only (returns-in-Done-clause-asked g c)
@@ -156,7 +167,8 @@ returns-in-Done-clause-run g c = ran-only (returns-in-Done-clause-asked g c)
 pub returns-in-Trap-clause-asked : goal.returns-in-Trap-clause-asked
 returns-in-Trap-clause-asked g c =
     let within : c.loop-self.self.steps < c.args.n = omega (arith, c.loop-self-test.true) in
-    trapped c.loop-self.invariant.turns c.in-Trap.ensures.reads_nothing c.loop-self.invariant.begun within c.in-Trap.kind
+    let room : c.loop-self.self.steps < 2 ^ 64 - 1 = omega (arith, c.loop-self-test.true, c.ranges.n) in
+    trapped c.loop-self.invariant.turns c.in-Trap.ensures.reads_nothing room c.loop-self.invariant.begun within c.in-Trap.kind
     c.in-Trap.line c.in-Trap.ensures.one
 
 pub returns-in-Trap-clause-run : goal.returns-in-Trap-clause-run
@@ -165,7 +177,8 @@ returns-in-Trap-clause-run g c = ran-only (returns-in-Trap-clause-asked g c)
 pub returns-in-InputFault-clause-asked : goal.returns-in-InputFault-clause-asked
 returns-in-InputFault-clause-asked g c =
     let within : c.loop-self.self.steps < c.args.n = omega (arith, c.loop-self-test.true) in
-    cut-at-input c.loop-self.invariant.turns c.in-InputFault.ensures.reads_nothing c.loop-self.invariant.begun within c.in-InputFault.ensures.one
+    let room : c.loop-self.self.steps < 2 ^ 64 - 1 = omega (arith, c.loop-self-test.true, c.ranges.n) in
+    cut-at-input c.loop-self.invariant.turns c.in-InputFault.ensures.reads_nothing room c.loop-self.invariant.begun within c.in-InputFault.ensures.one
     (c.in-InputFault.ensures.input_fault refl (program_of c.args.accepted.now.program))
 
 pub returns-in-InputFault-clause-run : goal.returns-in-InputFault-clause-run
@@ -174,7 +187,8 @@ returns-in-InputFault-clause-run g c = ran-only (returns-in-InputFault-clause-as
 pub returns-in-Memory-clause-asked : goal.returns-in-Memory-clause-asked
 returns-in-Memory-clause-asked g c =
     let within : c.loop-self.self.steps < c.args.n = omega (arith, c.loop-self-test.true) in
-    cut-before c.loop-self.invariant.turns c.in-Memory.ensures.reads_nothing c.loop-self.invariant.begun within c.in-Memory.ensures.one
+    let room : c.loop-self.self.steps < 2 ^ 64 - 1 = omega (arith, c.loop-self-test.true, c.ranges.n) in
+    cut-before c.loop-self.invariant.turns c.in-Memory.ensures.reads_nothing room c.loop-self.invariant.begun within c.in-Memory.ensures.one
 
 pub returns-in-Memory-clause-run : goal.returns-in-Memory-clause-run
 returns-in-Memory-clause-run g c = ran-only (returns-in-Memory-clause-asked g c)

@@ -2,7 +2,6 @@
 use Rattle.std.proofs.Common.{◌≡◌, ◌-◌, ◌≤◌, true}
 use Rattle.rg_base.specs.declared.outcome.Ended.TheVariants as ended
 use Rattle.rg_input.specs.Numbers.{Follows, OnInput}
-use Rattle.rg_machine.specs.Parts.{machine_in}
 use Rattle.rg_step.specs.Asking.{YesesTold}
 use Rattle.rg_run.specs.Reports.{Reports}
 use Rattle.rg_run.proofs.StateLemmas.{LeadsTo}
@@ -49,7 +48,7 @@ invariant-loop-self g l = record {
         };
       });
   turns : OnInput l.fn.input l.input (g.I.Source.left l.fn.source) (g.I.Source.left l.source)
-      (Turns l.accepted.program l.code l.self.steps (machine_in l.self.stepper.parts) (g.O.Sink.taken l.fn.out) (g.O.Sink.taken l.out)
+      (Turns l.accepted.program l.code l.self.steps l.self.stepper (g.O.Sink.taken l.fn.out) (g.O.Sink.taken l.out)
       ((l.input ≡ l.fn.input) × (l.source ≡ l.fn.source)) (record {
         count = record {
           asks = (goal.Pacer-dyn g l.fn.count.now).asks l.fn.count.now.1;
