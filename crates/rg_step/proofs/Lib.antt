@@ -11,6 +11,7 @@ mod UndueLemmas
 mod CallShapeLemmas
 mod LeapLemmas
 mod ShapeNeedLemmas
+mod FieldLemmas
 mod WordLemmas
 mod HeldLemmas
 mod OutcomeLemmas

@@ -5,3 +5,4 @@ pub mod Leaps
 pub mod Held
 pub mod Serving
 pub mod High
+pub mod Fields

@@ -3,6 +3,7 @@
 
 mod asks;
 mod collecting;
+mod fields;
 mod kept;
 mod leap;
 mod outcome;
@@ -12,5 +13,6 @@ mod room;
 mod step;
 mod stepper;
 mod walk;
+mod words;
 
 pub use stepper::Stepper;
