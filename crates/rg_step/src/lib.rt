@@ -2,6 +2,7 @@
 #![tactic(auto)]
 
 mod asks;
+mod calls;
 mod collecting;
 mod fields;
 mod kept;
