@@ -4,6 +4,7 @@
 
 mod code;
 mod headings;
+mod instructions;
 mod op;
 mod shape;
 mod shapes;

@@ -12,6 +12,7 @@ mod CallShapeLemmas
 mod FreesLemmas
 mod LeapLemmas
 mod ShapeNeedLemmas
+mod FieldLemmas
 mod WordLemmas
 mod HeldLemmas
 mod OutcomeLemmas

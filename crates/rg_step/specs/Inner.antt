@@ -6,3 +6,4 @@ pub mod Held
 pub mod Sound
 pub mod Serving
 pub mod High
+pub mod Fields

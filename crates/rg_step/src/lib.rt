@@ -2,7 +2,9 @@
 #![tactic(auto)]
 
 mod asks;
+mod calls;
 mod collecting;
+mod fields;
 mod kept;
 mod leap;
 mod outcome;
@@ -12,5 +14,6 @@ mod room;
 mod step;
 mod stepper;
 mod walk;
+mod words;
 
 pub use stepper::Stepper;
