@@ -1,3 +1,4 @@
+mod NumberLemmas
 mod WordLemmas
 mod TopLemmas
 mod SlotLemmas
