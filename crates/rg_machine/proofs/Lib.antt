@@ -31,6 +31,7 @@ mod SlotEndLemmas
 mod OwnLemmas
 mod EndingLemmas
 mod TakeLemmas
+mod EmptiedLemmas
 mod LeaveLemmas
 mod LeaveListLemmas
 mod LeaveEffectLemmas
