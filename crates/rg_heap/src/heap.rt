@@ -385,6 +385,24 @@ impl Heap {
         }
     }
 
+    /// Whether a word leads into the active region, or into none. It owns no closed one then.
+    #[inline]
+    pub fn is_at_home(&self, frames: &Frames, at: Word) -> bool
+        requires { (s : ℕ) → at ≡ Word.Slot s → IsHeld self.now.cells.heap s }
+        ensures { result ≡ true → LeadsIntoClosed self.now frames.now at → ⊥ }
+    {
+        let Word::Slot(slot) = at else {
+            return true;
+        };
+        let Label::Region(number) = self.cells.label(slot) else {
+            return true;
+        };
+        match frames.top_window() {
+            Some(top) => self.regions.has_number(top.region, number),
+            None => false,
+        }
+    }
+
     /// The object with a serial, as it is shown; None exactly where no held cell has that serial.
     pub fn shown(&self, alloc: Global, serial: u64) -> Result<Option<Seen>, Memory>
         requires { (s n : ℕ) → label_at self.now.cells.heap s ≡ Some (Temp n)

@@ -220,13 +220,13 @@ ended-less (v ∷ vs) (suc k) lt =
     ∙ ap (λ us. v ∷ us) (ended-less vs k (omega (arith, lt)))
     ∙ sym (ap (λ n. v ∷ (take k vs ++ replicate n Nil)) f)
 
-frames-less : (fs : List Frame) (k : ℕ) → k < length (top_slots fs)
+pub frames-less : (fs : List Frame) (k : ℕ) → k < length (top_slots fs)
     → with_slots (slice_set (top_slots (with_slots (ended_slots (suc k) (top_slots fs)) fs)) k Nil)
     (with_slots (ended_slots (suc k) (top_slots fs)) fs) ≡ with_slots (ended_slots k (top_slots fs)) fs
 frames-less [] k lt = refl
 frames-less (f ∷ fs) k lt = ap (λ vs. record f { slots = vs } ∷ fs) (ended-less f.slots k lt)
 
-slot-less : (fs : List Frame) (k : ℕ)
+pub slot-less : (fs : List Frame) (k : ℕ)
     → slice_get (top_slots (with_slots (ended_slots (suc k) (top_slots fs)) fs)) k ≡ slice_get (top_slots fs) k
 slot-less [] k = refl
 slot-less (f ∷ fs) k = ended-at f.slots k

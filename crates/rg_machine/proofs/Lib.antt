@@ -1,3 +1,4 @@
+mod NumberLemmas
 mod WordLemmas
 mod TopLemmas
 mod SlotLemmas
@@ -30,6 +31,7 @@ mod SlotEndLemmas
 mod OwnLemmas
 mod EndingLemmas
 mod TakeLemmas
+mod EmptiedLemmas
 mod LeaveLemmas
 mod LeaveListLemmas
 mod LeaveEffectLemmas

@@ -27,14 +27,12 @@ use Rattle.rg_machine.specs.Core.{ActIs, Core, with_machine}
 use Rattle.rg_machine.specs.Effects.{AllLoose, ending, without}
 use Rattle.rg_machine.specs.Keeps.{backs}
 use Rattle.rg_machine.specs.Parts.{Parts, core_of, machine_in, val_in}
-use Rattle.rg_machine.specs.High.{NoneMade}
 use Rattle.rg_machine.specs.Stands.{AllLead, Leads, Stands}
 use Rattle.rg_machine.proofs.DropLemmas.{Asked, core-same}
-use Rattle.rg_machine.proofs.EndingLemmas.{ended-more, ended-none, ending-none, ending-step, nil-again}
+use Rattle.rg_machine.proofs.EndingLemmas.{ended-more, ended-none, ending-none, nil-again}
 use Rattle.rg_machine.proofs.FewerLemmas.{backs-slots, fewer-all, fewer-nil, fewer-once, fewer-without, once-nil}
-use Rattle.rg_machine.proofs.HighLemmas.{none-same, none-then}
 use Rattle.rg_machine.proofs.ReleaseLemmas.{order}
-use Rattle.rg_machine.proofs.SlotEndLemmas.{Bounded, asked-slot, backs-slot, behind-slot, bounded, slot-nil}
+use Rattle.rg_machine.proofs.SlotEndLemmas.{asked-slot, backs-slot, behind-slot, bounded, slot-nil}
 
 -- A word in a slot leads where one on the stack may
 pub slot-leads : (p : Parts) → Serials p.heap.cells.heap → Grove p.heap.cells p.heap.regions → Stands p.heap p.frames → (j : ℕ) (w : Word)
@@ -168,7 +166,7 @@ ending-ended c s = ap (λ fs. with_machine (ending c s) (record (ending c s).mac
 
 -- Slots end one after another
 
-list-ended : (vs : List Val) (s : ℕ) → length (ended_slots s vs) ≡ length vs
+pub list-ended : (vs : List Val) (s : ℕ) → length (ended_slots s vs) ≡ length vs
 list-ended vs zero = length-replicate (length vs - 0) val.Nil ∙ omega arith
 list-ended [] (suc s) = let e : 0 - suc s ≡ 0 = omega arith in ap (λ n. length (replicate n val.Nil)) e
 list-ended (v ∷ vs) (suc s) =
@@ -186,11 +184,6 @@ ending-size c s = by c.machine.frames
 -- behind one slot more
 abbrev pub next-core : Core → (k : ℕ) → Core
 next-core c k = with_machine c (put_slot (without c (slot_at c.machine k ∷ [])).machine k val.Nil)
-
-pub ending-next : (c now new : Core) (left k : ℕ) → left ≡ suc k → Bounded c.machine → k < length (top_slots c.machine.frames)
-    → now ≡ ending c left → new ≡ next-core now k → new ≡ ending c k
-ending-next c now new left k is b within e f =
-    f ∙ ap (λ x. next-core x k) (e ∙ ap (ending c) is) ∙ ending-step c k within b
 
 pub once-next : (now new : Core) (k : ℕ) → new ≡ next-core now k → owned_once now.machine ≡ true → owned_once new.machine ≡ true
 once-next now new k f once =
@@ -237,62 +230,6 @@ backs-ending old new s e =
 -- `end s`
 pub end-effect : (old new : Core) (s : ℕ) → new ≡ ending old s → (at : ℕ) → ActIs (free_act empty at (i.End s)) at old new next.On
 end-effect old new s e at = subst (λ n. ActIs (free_act empty at (i.End s)) at old n next.On) (sym e) (λ go input. refl)
-
--- Slots from one on end, and have ended from another one on.
-pub record Ending (old now : Parts) (s left : ℕ) : Type 0 where
-  pub above : s ≤ left
-  pub within : left ≤ length (top_slots (machine_in old).frames)
-  pub ended : core_of now ≡ ending (core_of old) left
-  pub once : owned_once (machine_in now) ≡ true
-  pub stack : AllLoose (core_of now)
-  pub words : now.words ≡ old.words
-  pub made : NoneMade old.heap now.heap
-  pub bound : Bounded (machine_in old)
-
-pub ending-init : (p : Parts) → Serials p.heap.cells.heap → Grove p.heap.cells p.heap.regions → Stands p.heap p.frames → (s live : ℕ)
-    → ended p.frames live ≡ p.frames → p.frames.first + live ≤ length p.frames.slots → s ≤ live → owned_once (machine_in p) ≡ true
-    → AllLoose (core_of p) → Ending p p s live
-ending-init p q g st s live e le up once all = record {
-  above = up;
-  within = live-within p st live le;
-  ended = ending-live p q g st live live e (omega arith);
-  once = once;
-  stack = all;
-  words = refl;
-  made = none-same p.heap p.heap refl;
-  bound = bounded p q g st;
-}
-
-pub ending-there : (old now : Parts) (s left k : ℕ) → Ending old now s left → k < left → k < length (top_slots (machine_in now).frames)
-ending-there old now s left k e lt =
-    let size : length (top_slots (machine_in now).frames) ≡ length (top_slots (machine_in old).frames) =
-    ap (λ (c : Core). length (top_slots c.machine.frames)) e.ended ∙ ending-size (core_of old) left in
-    let within = e.within in
-    omega (arith, lt, size, within)
-
-pub ending-on : (old now new : Parts) (s left k : ℕ) → Ending old now s left → s ≤ k → left ≡ suc k → core_of new ≡ next-core (core_of now) k
-    → new.words ≡ now.words → NoneMade now.heap new.heap → Ending old new s k
-ending-on old now new s left k e up is f words made =
-    let within = e.within in
-    record {
-      above = up;
-      within = omega (arith, within, is);
-      ended = ending-next (core_of old) (core_of now) (core_of new) left k is e.bound (omega (arith, within, is)) e.ended f;
-      once = once-next (core_of now) (core_of new) k f e.once;
-      stack = loose-next (core_of now) (core_of new) k f e.stack;
-      words = words ∙ e.words;
-      made = none-then old.heap now.heap new.heap e.made made;
-      bound = e.bound;
-    }
-
-pub ending-final : (old now : Parts) (s left : ℕ) → Ending old now s left → left ≤ s
-    → core_of (record now { frames = ended now.frames s }) ≡ ending (core_of old) s
-ending-final old now s left e le =
-    let up = e.above in
-    let same : left ≡ s = omega (arith, le, up) in
-    ended-core now s
-    ∙ ap (λ c. with_machine c (end_slots c.machine s)) (e.ended ∙ ap (ending (core_of old)) same)
-    ∙ ending-ended (core_of old) s
 
 -- A slot whose word is taken
 

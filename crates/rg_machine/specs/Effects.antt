@@ -10,6 +10,10 @@ use Rattle.rg_machine.specs.Core.{Core, with_machine, work_of}
 abbrev pub without : Core → List Val → Core
 without c vs = with_machine c (freed (Some (record { regions = closed_among c.machine vs; temps = None })) (work_of c [])).machine
 
+-- the slots of the topmost frame from one on are nil
+abbrev pub emptied : Core → (s : ℕ) → Core
+emptied c s = with_machine c (end_slots c.machine s)
+
 -- the slots of the topmost frame from one on end, and what they own is freed
 abbrev pub ending : Core → (s : ℕ) → Core
 ending c s =

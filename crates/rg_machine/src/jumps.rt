@@ -12,7 +12,7 @@ ghost use Rattle.rg_machine.specs.Core.{ActIs, Has};
 
 use crate::machine::Machine;
 use crate::next::Next;
-use rg_store::as_bool;
+use crate::scalars::truth;
 
 /// `jfalse t`
 #[inline]
@@ -24,14 +24,10 @@ pub(crate) fn jump_false(p: &mut Machine, to: usize) -> Next
     ensures keeps { Keeping (Chooses to) false (machine_in p.old) (machine_in p.new) result }
     ensures high { Making (Chooses to) false p.old.heap p.new.heap result }
 {
-    let Some(v) = p.pop() else {
+    let Some(w) = p.pop() else {
         return Next::Lost;
     };
-    if as_bool(p.value(v)) {
-        Next::On
-    } else {
-        Next::To(to)
-    }
+    if truth(p, w) { Next::On } else { Next::To(to) }
 }
 
 /// `and t`
@@ -42,10 +38,10 @@ pub(crate) fn and(p: &mut Machine, to: usize) -> Next
     ensures keeps { Keeping (Passes to) false (machine_in p.old) (machine_in p.new) result }
     ensures high { Making (Passes to) false p.old.heap p.new.heap result }
 {
-    let Some(v) = p.top() else {
+    let Some(w) = p.top() else {
         return Next::Lost;
     };
-    if as_bool(p.value(v)) {
+    if truth(p, w) {
         let _ = p.pop();
         Next::On
     } else {
@@ -64,7 +60,7 @@ pub(crate) fn or(p: &mut Machine, to: usize) -> Next
     let Some(w) = p.top() else {
         return Next::Lost;
     };
-    if as_bool(p.value(w)) {
+    if truth(p, w) {
         Next::To(to)
     } else {
         let _ = p.pop();

@@ -24,6 +24,7 @@ mod collecting;
 mod ending;
 mod making;
 mod moving;
+mod numbers;
 mod reading;
 mod windows;
 mod writing;
@@ -154,6 +155,7 @@ impl Machine {
     }
 
     /// Puts another word in the place of the topmost one.
+    #[inline]
     pub fn set_top(&mut self, w: Word)
         requires leads { Leads self.old.heap self.old.frames w }
         requires some { (v : Value)

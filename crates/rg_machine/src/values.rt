@@ -13,9 +13,9 @@ ghost use Rattle.rg_machine.specs.Parts.{core_of, machine_in};
 
 use crate::machine::Machine;
 use crate::next::Next;
-use crate::scalars::word_of;
+use crate::scalars::{computed, leads_nowhere, truth, word_of};
 use rg_base::Word;
-use rg_store::{as_bool, is_nil, negative, operate};
+use rg_store::{negative, operate};
 use rg_tree::BinOp;
 
 /// `bool b` and `nil`
@@ -34,9 +34,8 @@ pub(crate) fn constant(p: &mut Machine, w: Word) -> Next
     }
 }
 
-/// An operator on the two topmost values.
-#[inline]
-pub(crate) fn binary(p: &mut Machine, op: BinOp) -> Next
+/// An operator on the two topmost values, whatever they are.
+fn operate_values(p: &mut Machine, op: BinOp) -> Next
     ensures effect { (at : ℕ) → ActIs (on_two op) at (core_of p.old) (core_of p.new) result }
     ensures keeps { Keeping Computes false (machine_in p.old) (machine_in p.new) result }
     ensures high { Making Computes false p.old.heap p.new.heap result }
@@ -56,6 +55,25 @@ pub(crate) fn binary(p: &mut Machine, op: BinOp) -> Next
     }
 }
 
+/// An operator on the two topmost values.
+pub(crate) fn binary(p: &mut Machine, op: BinOp) -> Next
+    ensures effect { (at : ℕ) → ActIs (on_two op) at (core_of p.old) (core_of p.new) result }
+    ensures keeps { Keeping Computes false (machine_in p.old) (machine_in p.new) result }
+    ensures high { Making Computes false p.old.heap p.new.heap result }
+{
+    let Some((x, y)) = p.two_numbers() else {
+        return operate_values(p, op);
+    };
+    let Some(w) = computed(op, x, y) else {
+        return operate_values(p, op);
+    };
+    let Some(_) = p.pop() else {
+        return Next::Lost;
+    };
+    p.set_top(w);
+    Next::On
+}
+
 /// `neg`
 pub(crate) fn negate(p: &mut Machine) -> Next
     ensures effect { (at : ℕ) → ActIs (λ go stack x. on_top stack (λ v rest.
@@ -64,14 +82,14 @@ pub(crate) fn negate(p: &mut Machine) -> Next
     ensures keeps { Keeping Computes false (machine_in p.old) (machine_in p.new) result }
     ensures high { Making Computes false p.old.heap p.new.heap result }
 {
-    let Some(v) = p.pop() else {
+    let Some(w) = p.top() else {
         return Next::Lost;
     };
-    match negative(p.value(v)) {
-        Ok(v) => match p.push(word_of(v)) {
-            Ok(()) => Next::On,
-            Err(_) => Next::Memory,
-        },
+    match negative(p.value(w)) {
+        Ok(v) => {
+            p.set_top(word_of(v));
+            Next::On
+        }
         Err(kind) => Next::Trap(kind),
     }
 }
@@ -83,13 +101,11 @@ pub(crate) fn invert(p: &mut Machine) -> Next
     ensures keeps { Keeping Computes false (machine_in p.old) (machine_in p.new) result }
     ensures high { Making Computes false p.old.heap p.new.heap result }
 {
-    let Some(v) = p.pop() else {
+    let Some(w) = p.top() else {
         return Next::Lost;
     };
-    match p.push(Word::Bool(!as_bool(p.value(v)))) {
-        Ok(()) => Next::On,
-        Err(_) => Next::Memory,
-    }
+    p.set_top(Word::Bool(!truth(p, w)));
+    Next::On
 }
 
 /// `isnil`
@@ -99,11 +115,9 @@ pub(crate) fn test_nil(p: &mut Machine) -> Next
     ensures keeps { Keeping Computes false (machine_in p.old) (machine_in p.new) result }
     ensures high { Making Computes false p.old.heap p.new.heap result }
 {
-    let Some(v) = p.pop() else {
+    let Some(w) = p.top() else {
         return Next::Lost;
     };
-    match p.push(Word::Bool(is_nil(p.value(v)))) {
-        Ok(()) => Next::On,
-        Err(_) => Next::Memory,
-    }
+    p.set_top(Word::Bool(leads_nowhere(p, w)));
+    Next::On
 }

@@ -73,14 +73,14 @@ pub(crate) fn field(p: &mut Machine, index: u32) -> Next
     ensures keeps { Keeping Computes false (machine_in p.old) (machine_in p.new) result }
     ensures high { Making Computes false p.old.heap p.new.heap result }
 {
-    let Some(r) = p.pop() else {
+    let Some(r) = p.top() else {
         return Next::Lost;
     };
     match p.field(r, index) {
-        Ok(w) => match p.push(w) {
-            Ok(()) => Next::On,
-            Err(_) => Next::Memory,
-        },
+        Ok(w) => {
+            p.set_top(w);
+            Next::On
+        }
         Err(kind) => Next::Trap(kind),
     }
 }

@@ -10,7 +10,7 @@ ghost use Rattle.rg_stack.specs.Machine.{put_slot, slot_at, top_slots};
 ghost use Rattle.rg_stack.specs.Needs.{loose, owned_once};
 ghost use Rattle.rg_stack.specs.Refusals.{Settles};
 ghost use Rattle.rg_machine.specs.Core.{ActIs, Has, with_machine};
-ghost use Rattle.rg_machine.specs.Effects.{Apart, AllLoose, ending, without};
+ghost use Rattle.rg_machine.specs.Effects.{Apart, AllLoose, emptied, ending, without};
 ghost use Rattle.rg_machine.specs.Keeps.{Keeping, SameBacks};
 ghost use Rattle.rg_machine.specs.High.{Making, NoneMade};
 ghost use Rattle.rg_machine.specs.Parts.{core_of, machine_in, val_in};
@@ -74,11 +74,32 @@ impl Machine {
         self.release(w);
     }
 
-    /// What the slots of the topmost frame from one on own goes, and they are nil.
-    pub fn end_from(&mut self, s: u32)
+    /// What a slot of the topmost frame owns goes, and the slot is nil then.
+    #[inline]
+    fn release_nth(&mut self, k: usize)
+        requires there { k < length (top_slots (machine_in self.old).frames) }
         requires once { owned_once (machine_in self.old) ≡ true }
         requires stack { AllLoose (core_of self.old) }
-        ensures ended { core_of self.new ≡ ending (core_of self.old) s }
+        ensures gone { emptied (core_of self.new) k ≡ without (emptied (core_of self.old) k)
+            (slot_at (machine_in self.old) k ∷ []) }
+        ensures once { owned_once (machine_in self.new) ≡ true }
+        ensures stack { AllLoose (core_of self.new) }
+        ensures words { self.new.words ≡ self.old.words }
+        ensures high { NoneMade self.old.heap self.new.heap }
+    {
+        self.heap.is_forest();
+        let w = self.frames.nth_word(k);
+        if self.heap.is_at_home(&self.frames, w) {
+            return;
+        }
+        self.drop_nth(k);
+    }
+
+    /// What the slots of the topmost frame from one on own goes; they are to end or to go.
+    pub(super) fn release_from(&mut self, s: u32)
+        requires once { owned_once (machine_in self.old) ≡ true }
+        requires stack { AllLoose (core_of self.old) }
+        ensures ended { emptied (core_of self.new) s ≡ ending (core_of self.old) s }
         ensures words { self.new.words ≡ self.old.words }
         ensures backs { SameBacks (machine_in self.old) (machine_in self.new) }
         ensures high { NoneMade self.old.heap self.new.heap }
@@ -91,8 +112,20 @@ impl Machine {
         let mut left = live;
         'slots: while left > s as usize {
             left -= 1;
-            self.drop_nth(left);
+            self.release_nth(left);
         }
+    }
+
+    /// What the slots of the topmost frame from one on own goes, and they are nil.
+    pub fn end_from(&mut self, s: u32)
+        requires once { owned_once (machine_in self.old) ≡ true }
+        requires stack { AllLoose (core_of self.old) }
+        ensures ended { core_of self.new ≡ ending (core_of self.old) s }
+        ensures words { self.new.words ≡ self.old.words }
+        ensures backs { SameBacks (machine_in self.old) (machine_in self.new) }
+        ensures high { NoneMade self.old.heap self.new.heap }
+    {
+        self.release_from(s);
         self.frames.end_words(s);
     }
 

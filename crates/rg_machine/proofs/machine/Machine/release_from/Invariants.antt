@@ -1,5 +1,5 @@
-use Rattle.rg_machine.proofs.TakeLemmas.{Ending}
-use Rattle.rg_machine.proofs.machine.Machine.end_from.Given as goal
+use Rattle.rg_machine.proofs.EmptiedLemmas.{Ending}
+use Rattle.rg_machine.proofs.machine.Machine.release_from.Given as goal
 
 abbrev pub invariant-slots : goal.invariant-slots
 invariant-slots l = Ending l.fn.self l.self l.fn.s l.left
