@@ -1,4 +1,5 @@
 mod TurnLemmas
+mod WalkLemmas
 mod ClearLemmas
 mod StandsLemmas
 mod HighLemmas

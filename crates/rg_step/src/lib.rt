@@ -11,6 +11,7 @@ mod outcome;
 mod quick;
 mod reads;
 mod room;
+mod simple;
 mod step;
 mod stepper;
 mod walk;

@@ -9,6 +9,7 @@ ghost use Rattle.rg_step.specs.Inner.Refusals.{EndBacks, EndLeaves, Stands};
 ghost use Rattle.rg_step.specs.Inner.Walks.{Unstuck, WalkIs, walk_from};
 
 use crate::room::{Roomed, make_room};
+use crate::simple::simple;
 use rg_base::Trap;
 use rg_code::CodeList;
 use rg_machine::{Machine, Next, act};
@@ -46,7 +47,12 @@ pub(crate) fn walk(p: &mut Machine, code: &CodeList, from: usize) -> End
 {
     let mut at = from;
     while at < code.len() {
-        match act(p, code, at, code.get(at)) {
+        let op = code.get(at);
+        if simple(p, code, op) {
+            at += 1;
+            continue;
+        }
+        match act(p, code, at, op) {
             Next::On => at += 1,
             Next::To(to) => {
                 if to > at {
