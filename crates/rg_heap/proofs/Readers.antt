@@ -1,5 +1,5 @@
 -- What the readers of the heap answer (docs/architecture.md, "The heap").
-use Rattle.std.proofs.Common.{◌≡◌, ℕ, zero, suc, ◌+◌, ◌≤◌, List, [], ◌∷◌, ◌++◌, Option, Some, None, IsSome, refl, ap, sym, ◌∙◌, subst, arith}
+use Rattle.std.proofs.Common.{◌≡◌, ℕ, zero, suc, ◌+◌, ◌-◌, ◌≤◌, List, [], ◌∷◌, ◌++◌, Option, Some, None, IsSome, refl, ap, sym, ◌∙◌, subst, arith}
 use Rattle.std.proofs.Common.{length, option_map}
 use Rattle.std.proofs.Common.{option_and_then, slice_get, take, map, add-one}
 use Rattle.rg_base.specs.declared.words.Manager.{Manager}
@@ -8,14 +8,18 @@ use Rattle.rg_base.specs.declared.object.Label.TheVariants.{Region, Temp, Frozen
 use Rattle.rg_cells.specs.declared.cell.Body.{Body}
 use Rattle.rg_base.specs.declared.value.Val.{Val}
 use Rattle.rg_base.specs.declared.value.Word.{Word}
+use Rattle.rg_base.specs.declared.value.Word.TheVariants.{Slot}
 use Rattle.rg_regions.specs.Grove.{Grove}
-use Rattle.rg_regions.proofs.Callers.Told.{led_held, labelled_held}
+use Rattle.rg_regions.specs.Reach.{LiesIn}
+use Rattle.rg_regions.proofs.Callers.Told.{led_held, labelled_held, one_region}
 use Rattle.rg_cells.specs.Table.{Heap, Table, IsHeld, HasSerial, body_at, label_at, total, one, one_frozen, one_frozen_by, body_in, held_count}
 use Rattle.rg_cells.specs.Table.{frozen_count}
 use Rattle.rg_regions.specs.Table.{Record, RegionTable, record_at, HasNumber}
 use Rattle.rg_frames.specs.declared.rows.Window.{Window}
 use Rattle.rg_frames.specs.Stack.{Stack, IsTop}
-use Rattle.rg_heap.specs.Answers.{Tells, AllLead, fields_of}
+use Rattle.rg_heap.specs.Parts.{Parts}
+use Rattle.rg_heap.specs.Answers.{Tells, AllLead, IsClosed, LeadsIntoClosed, fields_of}
+use Rattle.rg_heap.proofs.Callers.Opens.{open_not_closed}
 
 -- one window is on top
 pub one_top : (v : Stack) (a b : Window) → IsTop v a → IsTop v b → a ≡ b
@@ -23,6 +27,18 @@ one_top v a b p q = window_is a b (sym p ∙ q)
   where
     window_is : (a b : Window) → Some a ≡ Some b → a ≡ b
     window_is a b q = cc
+
+-- a word into the top window's region leads into no closed one
+pub active_not_closed : (p : Parts) (v : Stack) (at : Word) (slot n : ℕ) (w : Window) → Grove p.cells p.regions → at ≡ Slot slot
+    → LiesIn p.cells.heap n slot → IsTop v w → HasNumber p.regions w.region n → LeadsIntoClosed p v at → ⊥
+active_not_closed p v at slot n w g is lies top has closed =
+    let same : closed.1 ≡ slot = slot_is closed.1 slot (sym closed.2 ∙ is) in
+    let here : LiesIn p.cells.heap n closed.1 = subst (λ s. LiesIn p.cells.heap n s) (sym same) lies in
+    let number : closed.0 ≡ n = one_region p.cells.heap closed.1 closed.0 n closed.3 here in
+    open_not_closed p v (length v.windows - 1) n w g top has (subst (λ q. IsClosed p.regions v q) number closed.4)
+  where
+    slot_is : (a b : ℕ) → Slot a ≡ Slot b → a ≡ b
+    slot_is a b e = cc
 
 -- what is read of a region's record
 pub tells : (t : RegionTable) (key n : ℕ) (m : Manager) (members : List ℕ) → HasNumber t key n
