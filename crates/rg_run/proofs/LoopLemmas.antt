@@ -1,5 +1,5 @@
--- A turn of the loop of a run: a step more, or the end of the run. Its facts on the input, the text and the pacers are one fact on bytes.
-use Rattle.std.proofs.Common.{◌≡◌, ◌∙◌, ℕ, ◌+◌, ◌-◌, ◌^◌, ◌≤◌, ◌<◌, Bool, true, false, inr, List, Option}
+-- A turn of the loop of a run: a step more, or the end of the run. All that is told of it is one fact on bytes of the input.
+use Rattle.std.proofs.Common.{◌≡◌, ◌∙◌, ℕ, ◌+◌, ◌-◌, ◌^◌, ◌≤◌, ◌<◌, Bool, true, false, inr, List, Option, refl}
 use Rattle.rg_base.specs.declared.outcome.Ended.{Ended}
 use Rattle.rg_base.specs.declared.outcome.Ended.TheVariants as ended
 use Rattle.rg_base.specs.declared.outcome.Outcome.{Outcome}
@@ -19,24 +19,20 @@ use Rattle.rg_code.specs.Code.{Code}
 use Rattle.rg_stack.specs.Machine.{Machine}
 use Rattle.rg_machine.specs.Parts.{machine_in}
 use Rattle.rg_step.specs.Collections.{Asks}
-use Rattle.rg_step.specs.States.{OneStep, Standing}
+use Rattle.rg_step.specs.States.{Chain, OneStep, Standing}
 use Rattle.rg_step.specs.Steps.{Leapt, Runs, Stepping, StepsOn, counted_by}
-use Rattle.rg_run.specs.Asked.{AskedOver, RunsAsking}
+use Rattle.rg_run.specs.Asked.{AskedOver}
 use Rattle.rg_run.specs.Inner.{IsUntold}
-use Rattle.rg_run.specs.Machine.{Kept}
 use Rattle.rg_run.specs.Runs.{Ran}
+use Rattle.rg_run.specs.States.{LeavesAt, RunsThrough}
+use Rattle.rg_run.specs.Whole.{WholeRun}
 use Rattle.rg_run.proofs.AskLemmas.{asked-by, asked-leapt, behind}
 use Rattle.rg_run.proofs.RunLemmas.{since-yes}
 use Rattle.rg_run.proofs.SinceLemmas.{SinceOver}
 use Rattle.rg_run.proofs.SinceTurnLemmas.{since-by, since-leapt}
+use Rattle.rg_run.proofs.StateLemmas.{LeadsTo, kept, standing, led-on, runs-through, stepped-on, ended-behind, refused-at, untold-leaves}
 use Rattle.rg_run.proofs.TurnLemmas.{Between, Turns, turn, quiet, printed, leapt}
 use Rattle.rg_run.proofs.TurnLemmas as run
-
-abbrev kept : Bool → Stepping → ℕ → Kept
-kept started st steps = record { begun = started; stepper = st; steps = steps }
-
-abbrev standing : Stepping → Asks → Standing
-standing st pacers = record { stepper = st; pacers = pacers }
 
 -- between two turns
 
@@ -45,33 +41,41 @@ module _ {t : Tables} {code : Code} {k : ℕ} {a b : Pending} {la lb : Option (L
   -- steps that left the input were made at once
   pub turned-leapt : {old new : Stepping} (j : ℕ) → OnInput a b la lb (Turns t code k old taken middle Still first now) →
       Leapt code j (machine_in old.parts) (machine_in new.parts) → new.since ≡ old.since → new.events ≡ old.events →
-      new.steps ≡ counted_by j old.steps → k + j ≤ 2 ^ 64 - 1 → OnInput a b la lb (Turns t code (k + j) new taken middle Still first now)
-  turned-leapt {old} {new} j turns leaps since events counts within =
+      new.steps ≡ counted_by j old.steps → k + j ≤ 2 ^ 64 - 1 → ((bytes : List ℕ) → Chain code j (standing old now) (standing new now) bytes bytes) →
+      OnInput a b la lb (Turns t code (k + j) new taken middle Still first now)
+  turned-leapt {old} {new} j turns leaps since events counts within chain =
       OnInput-map a b la lb (Turns t code k old taken middle Still first now) (Turns t code (k + j) new taken middle Still first now) turns
-      (λ x y h. (
-        leapt t code k j (machine_in old.parts) (machine_in new.parts) Still x y taken middle h.0 leaps,
-        asked-leapt t code k j (machine_in old.parts) (machine_in new.parts) Still x y taken middle first now h.0 h.1 leaps,
-        since-leapt t code k j old new Still x y taken middle h.0 h.2 leaps since events counts within,
-      ))
+      (λ x y h. record {
+        between = leapt t code k j (machine_in old.parts) (machine_in new.parts) Still x y taken middle h.between leaps;
+        asked = asked-leapt t code k j (machine_in old.parts) (machine_in new.parts) Still x y taken middle first now h.between h.asked leaps;
+        since = since-leapt t code k j old new Still x y taken middle h.between h.since leaps since events counts within;
+        states = led-on j (standing old now) (standing new now) x y y h.states (chain y);
+      })
 
   module _ {n : ℕ} {st : Stepping} {started : Bool}
       (turns : OnInput a b la lb (Turns t code k st taken middle Still first now)) where
-    stops : {e : Ended} →
+    stops : (e : Ended) → ((bytes : List ℕ) → LeavesAt code e (standing st now) (standing st now) bytes bytes) →
         ((x y : List ℕ) → Between t code k (machine_in st.parts) taken middle Still x y → Ran t n taken middle (kept started st k) e Still x y) →
-        OnInput a b la lb (RunsAsking t n taken middle (kept started st k) e Still first now)
-    stops {e} ran =
+        OnInput a b la lb (WholeRun t code n taken middle (kept started st k) e Still first now)
+    stops e leaves ran =
         OnInput-map a b la lb (Turns t code k st taken middle Still first now)
-        (RunsAsking t n taken middle (kept started st k) e Still first now) turns
-        (λ x y h. (inr (ran x y h.0), h.1, since-yes (program_of t) x (kept started st k) h.2))
+        (WholeRun t code n taken middle (kept started st k) e Still first now) turns
+        (λ x y h. record {
+          ran = inr (ran x y h.between);
+          asked = h.asked;
+          since = since-yes (program_of t) x (kept started st k) h.since;
+          states = λ begun. runs-through started (standing st now) (standing st now) e x y y h.states (leaves y);
+        })
 
     -- all steps were made
-    pub spent : started ≡ true → k ≡ n → OnInput a b la lb (RunsAsking t n taken middle (kept started st k) ended.Spent Still first now)
-    spent is all = stops (λ x y. run.spent t code n k st taken middle Still x y started is all)
+    pub spent : started ≡ true → k ≡ n → OnInput a b la lb (WholeRun t code n taken middle (kept started st k) ended.Spent Still first now)
+    spent is all = stops ended.Spent (λ bytes. (refl, refl)) (λ x y. run.spent t code n k st taken middle Still x y started is all)
 
     -- a collection wasn't told
     pub untold : {e : Ended} → started ≡ true → k ≤ n → IsUntold e →
-        OnInput a b la lb (RunsAsking t n taken middle (kept started st k) e Still first now)
-    untold {e} is within cut = stops (λ x y. run.untold t code n k st taken middle Still x y started is within e cut)
+        OnInput a b la lb (WholeRun t code n taken middle (kept started st k) e Still first now)
+    untold {e} is within cut =
+        stops e (untold-leaves code (standing st now) e cut) (λ x y. run.untold t code n k st taken middle Still x y started is within e cut)
 
 -- behind a step
 
@@ -86,15 +90,15 @@ asked : {t : Tables} {code : Code} {k : ℕ} {old new : Standing} {taken middle 
     {x y z : List ℕ} → Turns t code k old.stepper taken middle Still first old.pacers x y → OneStep code old new r y z →
     AskedOver (program_of t) x (behind k r) first new.pacers
 asked {t} {code} {k} {old} {new} {taken} {middle} {Still} {first} {r} {x} {y} {z} h one =
-    asked-by t code k (machine_in old.stepper.parts) taken middle Still x y first old.pacers h.0 h.1 (machine_in new.stepper.parts) z new.pacers r
-    one.shows one.asked
+    asked-by t code k (machine_in old.stepper.parts) taken middle Still x y first old.pacers h.between h.asked (machine_in new.stepper.parts) z
+    new.pacers r one.shows one.asked
 
 -- and how often since their last yes
 since : {t : Tables} {code : Code} {k : ℕ} {old new : Standing} {taken middle : Option (List ℕ)} {Still : Type 0} {first : Asks} {r : Outcome}
     {x y z : List ℕ} → k < 2 ^ 64 - 1 → Turns t code k old.stepper taken middle Still first old.pacers x y → OneStep code old new r y z →
     SinceOver (program_of t) x (behind k r) new.stepper
 since {t} {code} {k} {old} {new} {taken} {middle} {Still} {first} {r} {x} {y} {z} room h one =
-    since-by t code k old new taken middle Still x y h.0 h.2 room z r one
+    since-by t code k old new taken middle Still x y h.between h.since room z r one
 
 module _ {t : Tables} {code : Code} {k : ℕ} {old new : Stepping} {a b c : Pending} {la lb lc : Option (List ℕ)} {S : Type 0} {sa sb sc : S}
     {taken middle : Option (List ℕ)} {first before after : Asks}
@@ -105,12 +109,19 @@ module _ {t : Tables} {code : Code} {k : ℕ} {old new : Stepping} {a b c : Pend
       ((x y z : List ℕ) → Between t code k (machine_in old.parts) taken middle ((b ≡ a) × (sb ≡ sa)) x y →
       StepsOn code (machine_in old.parts) (machine_in new.parts) r y z →
       Between t code (behind k r) (machine_in new.parts) taken out ((c ≡ a) × (sc ≡ sa)) x z) →
+      ((x y z : List ℕ) → LeadsTo code t.manager k first (standing old before) x y → OneStep code (standing old before) (standing new after) r y z →
+      LeadsTo code t.manager (behind k r) first (standing new after) x z) →
       OnInput a c la lc (Turns t code (behind k r) new taken out ((c ≡ a) × (sc ≡ sa)) first after)
-  goes {out} r did on =
+  goes {out} r did on leads =
       turn a b c la lb lc (Turns t code k old taken middle ((b ≡ a) × (sb ≡ sa)) first before)
       (OneStep code (standing old before) (standing new after) r)
       (Turns t code (behind k r) new taken out ((c ≡ a) × (sc ≡ sa)) first after) turns did
-      (λ x y z h one. (on x y z h.0 one.shows, asked h one, since room h one))
+      (λ x y z h one. record {
+        between = on x y z h.between one.shows;
+        asked = asked h one;
+        since = since room h one;
+        states = leads x y z h.states one;
+      })
 
   -- a step went on and printed nothing
   pub went-on : OnInput b c lb lc (OneStep code (standing old before) (standing new after) outcome.Running) →
@@ -118,7 +129,7 @@ module _ {t : Tables} {code : Code} {k : ℕ} {old new : Stepping} {a b c : Pend
   went-on did =
       goes outcome.Running did
       (λ x y z. quiet t code k (machine_in old.parts) (machine_in new.parts) ((b ≡ a) × (sb ≡ sa)) ((c ≡ a) × (sc ≡ sa)) x y z
-      (more reads_nothing t a sa) taken middle)
+      (more reads_nothing t a sa) taken middle) (λ x y z h one. stepped-on h one refl)
 
   -- a step printed a value, whose line was then taken
   pub printed-on : {out : Option (List ℕ)} (v : Val) →
@@ -127,65 +138,73 @@ module _ {t : Tables} {code : Code} {k : ℕ} {old new : Stepping} {a b c : Pend
   printed-on {out} v did line =
       goes (outcome.Printed v) did
       (λ x y z h step. printed t code k (machine_in old.parts) (machine_in new.parts) ((b ≡ a) × (sb ≡ sa)) ((c ≡ a) × (sc ≡ sa)) x y z
-      (more reads_nothing t a sa) v taken middle out h step line)
+      (more reads_nothing t a sa) v taken middle out h step line) (λ x y z h one. stepped-on h one refl)
 
   module _ {n : ℕ} {started : Bool} (is : started ≡ true) (within : k < n) where
     ends : {out : Option (List ℕ)} (r : Outcome) (e : Ended) → OnInput b c lb lc (OneStep code (standing old before) (standing new after) r) →
         ((x y z : List ℕ) → Between t code k (machine_in old.parts) taken middle ((b ≡ a) × (sb ≡ sa)) x y →
         StepsOn code (machine_in old.parts) (machine_in new.parts) r y z →
         Ran t n taken out (kept started new (behind k r)) e ((c ≡ a) × (sc ≡ sa)) x z) →
-        OnInput a c la lc (RunsAsking t n taken out (kept started new (behind k r)) e ((c ≡ a) × (sc ≡ sa)) first after)
-    ends {out} r e did ran =
+        ((x y z : List ℕ) → LeadsTo code t.manager k first (standing old before) x y → OneStep code (standing old before) (standing new after) r y z →
+        RunsThrough code t.manager (kept started new (behind k r)) e first after x z) →
+        OnInput a c la lc (WholeRun t code n taken out (kept started new (behind k r)) e ((c ≡ a) × (sc ≡ sa)) first after)
+    ends {out} r e did ran through =
         turn a b c la lb lc (Turns t code k old taken middle ((b ≡ a) × (sb ≡ sa)) first before)
         (OneStep code (standing old before) (standing new after) r)
-        (RunsAsking t n taken out (kept started new (behind k r)) e ((c ≡ a) × (sc ≡ sa)) first after) turns did
-        (λ x y z h one. (inr (ran x y z h.0 one.shows), asked h one, since-yes (program_of t) x (kept started new (behind k r)) (since room h one)))
+        (WholeRun t code n taken out (kept started new (behind k r)) e ((c ≡ a) × (sc ≡ sa)) first after) turns did
+        (λ x y z h one. record {
+          ran = inr (ran x y z h.between one.shows);
+          asked = asked h one;
+          since = since-yes (program_of t) x (kept started new (behind k r)) (since room h one);
+          states = λ begun. through x y z h.states one;
+        })
 
     pub done : OnInput b c lb lc (OneStep code (standing old before) (standing new after) outcome.Done) →
-        OnInput a c la lc (RunsAsking t n taken middle (kept started new (k + 1)) ended.Done ((c ≡ a) × (sc ≡ sa)) first after)
+        OnInput a c la lc (WholeRun t code n taken middle (kept started new (k + 1)) ended.Done ((c ≡ a) × (sc ≡ sa)) first after)
     done did =
         ends outcome.Done ended.Done did
         (λ x y z. run.done t code n k within (machine_in old.parts) new ((b ≡ a) × (sb ≡ sa)) ((c ≡ a) × (sc ≡ sa)) x y z
-        (more reads_nothing t a sa) started is taken middle)
+        (more reads_nothing t a sa) started is taken middle) (λ x y z h one. ended-behind h one ended.Done refl (refl, refl))
 
     -- the last step was made, and its collection wasn't told
     pub done-untold : {e : Ended} → OnInput b c lb lc (OneStep code (standing old before) (standing new after) outcome.Done) → IsUntold e →
-        OnInput a c la lc (RunsAsking t n taken middle (kept started new (k + 1)) e ((c ≡ a) × (sc ≡ sa)) first after)
+        OnInput a c la lc (WholeRun t code n taken middle (kept started new (k + 1)) e ((c ≡ a) × (sc ≡ sa)) first after)
     done-untold {e} did cut =
         ends outcome.Done e did
         (λ x y z. run.done_untold t code n k within (machine_in old.parts) new ((b ≡ a) × (sb ≡ sa)) ((c ≡ a) × (sc ≡ sa)) x y z
         (more reads_nothing t a sa) started is e cut taken middle)
+        (λ x y z h one. ended-behind h one e refl (untold-leaves code (standing new after) e cut z))
 
     pub trapped : (kind : Trap) (line : ℕ) →
         OnInput b c lb lc (OneStep code (standing old before) (standing new after) (outcome.Trap kind line)) →
-        OnInput a c la lc (RunsAsking t n taken middle (kept started new k) (ended.Trap kind line) ((c ≡ a) × (sc ≡ sa)) first after)
+        OnInput a c la lc (WholeRun t code n taken middle (kept started new k) (ended.Trap kind line) ((c ≡ a) × (sc ≡ sa)) first after)
     trapped kind line did =
         ends (outcome.Trap kind line) (ended.Trap kind line) did
         (λ x y z. run.trapped t code n k within (machine_in old.parts) new ((b ≡ a) × (sb ≡ sa)) ((c ≡ a) × (sc ≡ sa)) x y z
-        (more reads_nothing t a sa) started is kind line taken middle)
+        (more reads_nothing t a sa) started is kind line taken middle) (λ x y z h one. refused-at h one (ended.Trap kind line) one)
 
     -- no memory was found for a step
     pub cut-before : OnInput b c lb lc (OneStep code (standing old before) (standing new after) outcome.Memory) →
-        OnInput a c la lc (RunsAsking t n taken middle (kept started new k) ended.Memory ((c ≡ a) × (sc ≡ sa)) first after)
+        OnInput a c la lc (WholeRun t code n taken middle (kept started new k) ended.Memory ((c ≡ a) × (sc ≡ sa)) first after)
     cut-before did =
         ends outcome.Memory ended.Memory did
         (λ x y z. run.cut_before t code n k within (machine_in old.parts) new ((b ≡ a) × (sb ≡ sa)) ((c ≡ a) × (sc ≡ sa)) x y z
-        (more reads_nothing t a sa) started is taken middle)
+        (more reads_nothing t a sa) started is taken middle) (λ x y z h one. refused-at h one ended.Memory (inr one))
 
     -- the input failed
     pub cut-at-input : OnInput b c lb lc (OneStep code (standing old before) (standing new after) outcome.InputFault) →
         ((p : State) → Runs (program_of t) code (machine_in old.parts) p → first_asks p.items ≡ true) →
-        OnInput a c la lc (RunsAsking t n taken middle (kept started new k) ended.InputFault ((c ≡ a) × (sc ≡ sa)) first after)
+        OnInput a c la lc (WholeRun t code n taken middle (kept started new k) ended.InputFault ((c ≡ a) × (sc ≡ sa)) first after)
     cut-at-input did asks =
         ends outcome.InputFault ended.InputFault did
         (λ x y z. run.cut_at_input t code n k within (machine_in old.parts) new ((b ≡ a) × (sb ≡ sa)) ((c ≡ a) × (sc ≡ sa)) x y z
-        (more reads_nothing t a sa) started is taken middle asks)
+        (more reads_nothing t a sa) started is taken middle asks) (λ x y z h one. refused-at h one ended.InputFault one)
 
     -- the output failed behind a step that printed a value
     pub cut-behind : {out : Option (List ℕ)} (v : Val) →
         OnInput b c lb lc (OneStep code (standing old before) (standing new after) (outcome.Printed v)) → AppendsPart middle out (line_text v) →
-        OnInput a c la lc (RunsAsking t n taken out (kept started new (k + 1)) ended.OutputFault ((c ≡ a) × (sc ≡ sa)) first after)
+        OnInput a c la lc (WholeRun t code n taken out (kept started new (k + 1)) ended.OutputFault ((c ≡ a) × (sc ≡ sa)) first after)
     cut-behind {out} v did part =
         ends (outcome.Printed v) ended.OutputFault did
         (λ x y z h step. run.cut_behind t code n k within (machine_in old.parts) new ((b ≡ a) × (sb ≡ sa)) ((c ≡ a) × (sc ≡ sa)) x y z
-        (more reads_nothing t a sa) started is v taken middle out h step part)
+        (more reads_nothing t a sa) started is v taken middle out h step part) (λ x y z h one. ended-behind h one ended.OutputFault refl (refl, refl))

@@ -1,5 +1,5 @@
 -- Runs of different numbers of steps, and the text that they print. For callers.
-use Rattle.std.proofs.Common.{◌≡◌, ◌≢◌, ℕ, zero, suc, ◌+◌, ◌-◌, ◌≤◌, inl, Bool, List, [], ◌∷◌, ◌++◌, length, drop, Option}
+use Rattle.std.proofs.Common.{◌≡◌, ◌≢◌, ℕ, zero, suc, ◌+◌, ◌-◌, ◌≤◌, inl, Bool, true≢false, List, [], ◌∷◌, ◌++◌, length, drop, Option}
 use Rattle.std.proofs.Common.{refl, sym, ap, ◌∙◌}
 use Rattle.std.proofs.Common.{subst, arith, append-nil, append_assoc}
 use Rattle.std.proofs.Math.Seq.{drop-append_seam}
@@ -20,13 +20,15 @@ use Rattle.rg_rules.specs.Runs.{Done, opening, plain, plain_from}
 use Rattle.rg_rules.specs.Texts.{text_of, added}
 use Rattle.rg_input.specs.Numbers.{Pending, OnInput}
 use Rattle.rg_input.proofs.InputLemmas.{OnInput-still}
+use Rattle.rg_code.specs.Code.{Code}
 use Rattle.rg_plain.specs.Kept.{shown, items_from}
 use Rattle.rg_plain.specs.Machine.{Machine, Begins}
 use Rattle.rg_plain.specs.Runs.{WroteUpTo}
 use Rattle.rg_step.specs.Collections.{Asks}
 use Rattle.rg_step.specs.Steps.{Since, Stepping, fresh}
-use Rattle.rg_run.specs.Asked.{AskedOver, RunsAsking, SinceYes, last_yes}
+use Rattle.rg_run.specs.Asked.{AskedOver, SinceYes, last_yes}
 use Rattle.rg_run.specs.Machine.{IsFresh, Kept}
+use Rattle.rg_run.specs.Whole.{WholeRun}
 use Rattle.rg_run.proofs.SinceLemmas.{SinceOver, CountsSince}
 use Rattle.rg_run.proofs.OutputLemmas.{GoesOn, run-later, ends-block}
 
@@ -71,19 +73,20 @@ pub asked-none : (t : Tree) (input : List ℕ) (k : ℕ) (a : Asks) → k ≡ 0 
 asked-none t input k a zero_is = let P : ℕ → Type 0 = λ q. AskedOver t input q a a in subst P (sym zero_is) (asked-first t input a)
 
 -- where none has begun, nothing was read
-pub not-begun : (t : Tables) (n : ℕ) (b : Bool) (p q : Stepping) (k : ℕ) (a : Pending) (left old : Option (List ℕ)) (still : Type 0) (first : Asks) →
-    IsFresh (record { begun = b; stepper = p; steps = k }) → q ≡ p → still →
-    OnInput a a left left (RunsAsking t n old old (record { begun = b; stepper = q; steps = k }) ended.Memory still first first)
-not-begun t n b p q k a left old still first begins same quiet =
+pub not-begun : (t : Tables) (code : Code) (n : ℕ) (b : Bool) (p q : Stepping) (k : ℕ) (a : Pending) (left old : Option (List ℕ))
+    (still : Type 0) (first : Asks) → IsFresh (record { begun = b; stepper = p; steps = k }) → q ≡ p → still →
+    OnInput a a left left (WholeRun t code n old old (record { begun = b; stepper = q; steps = k }) ended.Memory still first first)
+not-begun t code n b p q k a left old still first begins same quiet =
     let P : Stepping → Type 0 = λ r. IsFresh (record { begun = b; stepper = r; steps = k }) in
     let there : P q = subst P (sym same) begins in
-    OnInput-still a a left left (RunsAsking t n old old (record { begun = b; stepper = q; steps = k }) ended.Memory still first first) refl refl
-    (λ bytes. (
-      inl (record { answer_is = refl; fresh = there; untouched = refl; unread = quiet }),
-      asked-none (program_of t) bytes k first begins.steps,
-      since-yes (program_of t) bytes _ (since-none (program_of t) bytes k q begins.steps (ap (λ (s : Stepping). s.steps) there.stepper)
-          (ap (λ (s : Stepping). s.since) there.stepper) (ap (λ (s : Stepping). s.events) there.stepper)),
-    ))
+    OnInput-still a a left left (WholeRun t code n old old (record { begun = b; stepper = q; steps = k }) ended.Memory still first first) refl refl
+    (λ bytes. record {
+      ran = inl (record { answer_is = refl; fresh = there; untouched = refl; unread = quiet });
+      asked = asked-none (program_of t) bytes k first begins.steps;
+      since = since-yes (program_of t) bytes _ (since-none (program_of t) bytes k q begins.steps (ap (λ (s : Stepping). s.steps) there.stepper)
+          (ap (λ (s : Stepping). s.since) there.stepper) (ap (λ (s : Stepping). s.events) there.stepper));
+      states = λ is. absurd (true≢false (sym is ∙ begins.begun));
+    })
 
 -- a run is the one of as many steps as it made, and where it is done, that one is
 pub record IsRunOf (classes : List Class) (d n made : ℕ) (s : State) : Type 0 where

@@ -39,14 +39,15 @@ use Rattle.rg_step.specs.Steps.{Stepping, opening_machine}
 use Rattle.rg_step.specs.Steps.{Leapt, Runs, IsRunning, StepsOn}
 use Rattle.rg_step.specs.Steps as stepper
 use Rattle.rg_step.specs.Collections.{Asks}
-use Rattle.rg_run.specs.Asked.{AskedOver, RunsAsking}
+use Rattle.rg_run.specs.Asked.{AskedOver}
 use Rattle.rg_run.specs.Machine.{Kept, ShowsAt}
-use Rattle.rg_run.specs.Runs.{Ran, RunsOn}
+use Rattle.rg_run.specs.Runs.{Ran}
 use Rattle.rg_run.specs.Inner.{IsUntold}
 use Rattle.rg_run.proofs.OutputLemmas.{ends-block}
 use Rattle.rg_run.proofs.RunLemmas.{wrote-whole}
 use Rattle.rg_run.proofs.SinceLemmas.{SinceOver}
 use Rattle.rg_run.proofs.SoundLemmas.{run-is-sound}
+use Rattle.rg_run.proofs.StateLemmas.{LeadsTo, standing}
 use Rattle.rg_run.proofs.StepLemmas.{OnInput-some}
 
 pub some-is : (items : List Item) → SomeLeft items → items ≢ []
@@ -98,12 +99,13 @@ pub record Between (t : Tables) (code : Code) (k : ℕ) (m : Machine) (old new :
   pub ends : EndsMain state.items
   pub unread : NoneAsks t (opening (program_of t) before) k → Still
 
--- so a run stands, and the pacers were asked over the steps so far, as the stepper counts them since their last yes
-abbrev pub Turns : Tables → Code → (k : ℕ) → Stepping → (old new : Option (List ℕ)) → (Still : Type 0) → (first now : Asks)
-    → (before after : List ℕ) → Type 0
-Turns t code k st old new Still first now before after =
-    Between t code k (machine_in st.parts) old new Still before after × AskedOver (program_of t) before k first now
-    × SinceOver (program_of t) before k st
+-- So a run stands: how far it has come, the asks of its steps so far, those since each pacer's last yes, and the states between these steps.
+pub record Turns (t : Tables) (code : Code) (k : ℕ) (st : Stepping) (old new : Option (List ℕ)) (Still : Type 0) (first now : Asks)
+    (before after : List ℕ) : Type 0 where
+  pub between : Between t code k (machine_in st.parts) old new Still before after
+  pub asked : AskedOver (program_of t) before k first now
+  pub since : SinceOver (program_of t) before k st
+  pub states : LeadsTo code t.manager k first (standing st now) before after
 
 -- a machine that has begun stands between two steps
 pub begins : (t : Tables) (code : Code) (m : Machine) (content : Option (List ℕ)) (Still : Type 0) (bytes : List ℕ) → Accepted (program_of t) →
@@ -347,7 +349,7 @@ pub is-running : {t : Tables} {code : Code} {k : ℕ} {st : Stepping} {a b : Pen
     {first now : Asks} → Follows b behind → OnInput a b left behind (Turns t code k st old new Still first now) →
     IsRunning code (machine_in st.parts)
 is-running {t} {code} {k} {st} {a} {b} {left} {behind} {old} {new} {Still} {first} {now} follows h =
-    let q = (OnInput-some a b left behind (Turns t code k st old new Still first now) follows h).2.0 in (program_of t, q.state, q.runs)
+    let q = (OnInput-some a b left behind (Turns t code k st old new Still first now) follows h).2.between in (program_of t, q.state, q.runs)
 
 -- the steps so far, one more, and what follows of both
 pub turn : (a b c : Pending) (la lb lc : Option (List ℕ)) (P Q R : List ℕ → List ℕ → Type 0) → OnInput a b la lb P → OnInput b c lb lc Q →
@@ -355,9 +357,3 @@ pub turn : (a b c : Pending) (la lb lc : Option (List ℕ)) (P Q R : List ℕ �
 turn a b c la lb lc P Q R first second follows =
     OnInput-map a c la lc (λ before after. (between : List ℕ) × P before between × Q between after) R
     (OnInput-then a b c la lb lc P Q first second) (λ before after both. follows before both.0 after both.1 both.2)
-
--- the run alone
-pub ran-only : {a b : Pending} {left behind : Option (List ℕ)} {t : Tables} {n : ℕ} {old new : Option (List ℕ)} {m : Kept} {e : Ended}
-    {still : Type 0} {first last : Asks} → OnInput a b left behind (RunsAsking t n old new m e still first last) →
-    OnInput a b left behind (RunsOn t n old new m e still)
-ran-only h = (h.0, h.1, λ more can. let both = h.2 more can in (both.0, both.1.0))

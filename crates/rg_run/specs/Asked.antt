@@ -1,17 +1,13 @@
 -- How often a run has asked the pacers, and how often since they last said yes (docs/language.md, "Steps").
-use Rattle.std.specs.Prelude.{◌≡◌, ℕ, List, [], ◌∷◌, Option, length, count_by, nat_lt, if◌then◌else◌}
+use Rattle.std.specs.Prelude.{◌≡◌, ℕ, List, [], ◌∷◌, length, count_by, nat_lt, if◌then◌else◌}
 use Rattle.rg_base.specs.declared.event.Event.{Event}
-use Rattle.rg_base.specs.declared.outcome.Ended.{Ended}
 use Rattle.rg_base.specs.declared.words.Manager.{Manager}
 use Rattle.rg_base.specs.declared.words.Manager.TheVariants.{Count, Trace}
 use Rattle.rg_tree.specs.Tree.{Tree}
-use Rattle.rg_tree.specs.Rows.Tables.{Tables}
-use Rattle.rg_tree.specs.Rows.RowTrees.{program_of}
 use Rattle.rg_rules.specs.Asks.{asks}
 use Rattle.rg_step.specs.Asking.{paced_by, raised}
 use Rattle.rg_step.specs.Collections.{Asks}
 use Rattle.rg_run.specs.Machine.{Kept}
-use Rattle.rg_run.specs.Runs.{RunsOn}
 
 -- over the first steps of a program on an input, so many, each pacer was asked once for each of them that asks it
 pub record AskedOver (t : Tree) (input : List ℕ) (steps : ℕ) (before after : Asks) : Type 0 where
@@ -35,9 +31,3 @@ later_than step asked = count_by (λ n. nat_lt step n) asked
 pub record SinceYes (t : Tree) (input : List ℕ) (m : Kept) : Type 0 where
   pub count : m.stepper.since.count ≡ raised (later_than (last_yes Count m.stepper.events) (asks t input m.steps Count)) 0
   pub trace : m.stepper.since.trace ≡ raised (later_than (last_yes Trace m.stepper.events) (asks t input m.steps Trace)) 0
-
--- what a call is told of a run and, on the same bytes of the input, of the pacers that its whole steps asked, and of the asks since their last yes
-abbrev pub RunsAsking : Tables → (n : ℕ) → (old new : Option (List ℕ)) → Kept → Ended → (still : Type 0) → (first last : Asks)
-    → (before after : List ℕ) → Type 0
-RunsAsking t n old new m result still first last before after =
-    RunsOn t n old new m result still before after × AskedOver (program_of t) before m.steps first last × SinceYes (program_of t) before m

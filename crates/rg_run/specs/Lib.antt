@@ -5,3 +5,4 @@ pub mod Reports
 pub mod Asked
 pub mod Inner
 pub mod States
+pub mod Whole

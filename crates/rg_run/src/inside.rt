@@ -8,11 +8,9 @@ ghost use Rattle.rg_input.specs.Numbers.{Follows, OnInput};
 ghost use Rattle.rg_step.specs.Steps.{fresh};
 ghost use Rattle.rg_run.specs.Inner.{kept_of};
 ghost use Rattle.rg_step.specs.Asking.{YesesTold};
-ghost use Rattle.rg_run.specs.Asked.{RunsAsking};
 ghost use Rattle.rg_run.specs.Machine.{IsFresh};
 ghost use Rattle.rg_run.specs.Reports.{Reports};
-ghost use Rattle.rg_run.specs.Runs.{RunsOn};
-ghost use Rattle.rg_run.specs.States.{RunsThrough};
+ghost use Rattle.rg_run.specs.Whole.{WholeRun};
 
 use crate::stepping::step;
 use crate::telling::tell;
@@ -55,17 +53,8 @@ impl Inside {
         requires follows { Follows input.old (I.left source.old) }
 
         ensures run { OnInput input.old input.new (I.left source.old) (I.left source.new)
-            (RunsOn accepted.now.program n (O.taken out.old) (O.taken out.new) (kept_of self.new)
-            result ((input.new ≡ input.old) × (source.new ≡ source.old))) }
-        ensures begun { result ≢ Ended.Memory → self.new.begun ≡ true }
-        ensures kept { self.new.begun ≡ false →
-            (self.new.stepper ≡ fresh) × (self.new.steps ≡ 0) }
-        ensures notes { Reports report result self.new.stepper.events
-            (R.taken notes.old) (R.taken notes.new) }
-        ensures tuned { (tuned count.new ≡ tuned count.old) × (tuned trace.new ≡ tuned trace.old) }
-        ensures asked { OnInput input.old input.new (I.left source.old) (I.left source.new)
-            (RunsAsking accepted.now.program n (O.taken out.old) (O.taken out.new) (kept_of self.new)
-            result ((input.new ≡ input.old) × (source.new ≡ source.old))
+            (WholeRun accepted.now.program code.now n (O.taken out.old) (O.taken out.new)
+            (kept_of self.new) result ((input.new ≡ input.old) × (source.new ≡ source.old))
             (record {
               count = record {
                 asks = asks count.old;
@@ -94,6 +83,12 @@ impl Inside {
                 tuned = tuned trace.new;
               };
             })) }
+        ensures begun { result ≢ Ended.Memory → self.new.begun ≡ true }
+        ensures kept { self.new.begun ≡ false →
+            (self.new.stepper ≡ fresh) × (self.new.steps ≡ 0) }
+        ensures notes { Reports report result self.new.stepper.events
+            (R.taken notes.old) (R.taken notes.new) }
+        ensures tuned { (tuned count.new ≡ tuned count.old) × (tuned trace.new ≡ tuned trace.old) }
         ensures yeses { YesesTold self.new.stepper.events
             (record {
               count = record {
@@ -123,37 +118,6 @@ impl Inside {
                 tuned = tuned trace.new;
               };
             }) }
-        ensures states { self.new.begun ≡ true →
-            OnInput input.old input.new (I.left source.old) (I.left source.new)
-            (RunsThrough code.now accepted.now.program.manager (kept_of self.new) result
-            (record {
-              count = record {
-                asks = asks count.old;
-                yeses = yeses count.old;
-                told = told count.old;
-                tuned = tuned count.old;
-              };
-              trace = record {
-                asks = asks trace.old;
-                yeses = yeses trace.old;
-                told = told trace.old;
-                tuned = tuned trace.old;
-              };
-            })
-            (record {
-              count = record {
-                asks = asks count.new;
-                yeses = yeses count.new;
-                told = told count.new;
-                tuned = tuned count.new;
-              };
-              trace = record {
-                asks = asks trace.new;
-                yeses = yeses trace.new;
-                told = told trace.new;
-                tuned = tuned trace.new;
-              };
-            })) }
         ensures follows { Follows input.new (I.left source.new) }
 
         ensures input_fault { result ≡ Ended.InputFault →

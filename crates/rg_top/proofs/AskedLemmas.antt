@@ -12,12 +12,13 @@ use Rattle.rg_rules.specs.Acceptance.{Accepted}
 use Rattle.rg_rules.specs.Asks.{asks, asks_from}
 use Rattle.rg_rules.specs.Runs.{opening, plain}
 use Rattle.rg_rules.specs.State.{State}
+use Rattle.rg_code.specs.Code.{Code}
 use Rattle.rg_plain.specs.Runs.{RunShows}
 use Rattle.rg_step.specs.Asking.{YesesTold, paced_by, raised}
 use Rattle.rg_step.specs.Collections.{Asks}
-use Rattle.rg_run.specs.Asked.{RunsAsking}
 use Rattle.rg_run.specs.Machine.{Kept, IsFresh, Shows, ShowsAt}
 use Rattle.rg_run.specs.Sound.{Stands}
+use Rattle.rg_run.specs.Whole.{WholeRun}
 use Rattle.rg_run.proofs.RunLemmas.{run-of}
 use Rattle.rg_run.proofs.SoundLemmas.{stands-shown}
 use Rattle.rg_top.specs.Asked.{AsksOver, RunAsks, SayYes, Unasked, YesesOf, input_for}
@@ -56,18 +57,18 @@ asks-none t input k m old new first h =
     let P : ℕ → Type 0 = λ q. AsksOver (program_of t) input q m old new in asks-first t input m old new (subst P first h)
 
 -- a run on the machine
-pub asked-from : (origin : Origin) (n : ℕ) (source : List ℕ) (left : Option (List ℕ)) (t : Tables) (m : Kept) (e : Ended)
+pub asked-from : (origin : Origin) (n : ℕ) (source : List ℕ) (left : Option (List ℕ)) (t : Tables) (code : Code) (m : Kept) (e : Ended)
     (old new : Option (List ℕ)) (quiet : Type 0) (first last : Asks) (count trace : ℕ) → first.count.asks ≡ count → first.trace.asks ≡ trace →
     Runs origin source (program_of t) →
-    ForInput left (λ input. (rest : List ℕ) × RunsAsking t n old new m e quiet first last input rest) →
+    ForInput left (λ input. (rest : List ℕ) × WholeRun t code n old new m e quiet first last input rest) →
     RunAsked origin source left m count last.count.asks trace last.trace.asks
-asked-from origin n source left t m e old new quiet first last count trace count_is trace_is runs h =
-    let over = h.2.1.1 in
+asked-from origin n source left t code m e old new quiet first last count trace count_is trace_is runs h =
+    let over = h.2.1.asked in
     let C : ℕ → Type 0 = λ q. AsksOver (program_of t) h.0 m.steps Count q last.count.asks in
     let T : ℕ → Type 0 = λ q. AsksOver (program_of t) h.0 m.steps Trace q last.trace.asks in
     let counted = subst C count_is over.count in
     let traced = subst T trace_is over.trace in
-    elim h.2.1.0 [
+    elim h.2.1.ran [
       | inl none ↦ inl (record {
         fresh = none.fresh;
         count = asks-none t h.0 m.steps Count count last.count.asks none.fresh.steps counted;

@@ -11,11 +11,13 @@ use Rattle.rg_rules.specs.Runs.{Ending, Running, Done, Stopped, opening}
 use Rattle.rg_rules.specs.Runs as rules
 use Rattle.rg_rules.specs.Texts.{added}
 use Rattle.rg_input.specs.Numbers.{Pending, Follows, CanCome, OnInput}
+use Rattle.rg_code.specs.Code.{Code}
 use Rattle.rg_plain.specs.Machine.{Machine, Begins, state_of}
 use Rattle.rg_plain.specs.Runs.{answer, RunIs, RunShows, IsState, NoneAsks, begun, Whole, StandsAt, CutOff, CutAtInput}
+use Rattle.rg_step.specs.Collections.{Asks}
 use Rattle.rg_run.specs.Machine.{Kept, IsFresh, ShowsAt}
-use Rattle.rg_run.specs.Runs.{RunsOn}
 use Rattle.rg_run.specs.Sound.{Stands, NeverAsks}
+use Rattle.rg_run.specs.Whole.{WholeRun}
 use Rattle.rg_run.proofs.SoundLemmas.{run-is-sound, stands-shown}
 use Rattle.rg_run.proofs.RunLemmas.{wrote-part}
 use Rattle.rg_top.specs.declared.status.Status.{Status}
@@ -138,11 +140,11 @@ module _ (origin : Origin) (n : ℕ) (source : List ℕ) (left : Option (List �
   ran-from ended.Memory h = inr (input, is, (t, runs, stands_after h, unread))
 
 -- a run on the machine
-pub run-from : (origin : Origin) (n : ℕ) (source : List ℕ) (left : Option (List ℕ)) (t : Tables) (m : Kept) (e : Ended)
-    (old new : Option (List ℕ)) (quiet still : Type 0) → (quiet → still) → Runs origin source (program_of t) →
-    ForInput left (λ input. (rest : List ℕ) × RunsOn t n old new m e quiet input rest) →
+pub run-from : (origin : Origin) (n : ℕ) (source : List ℕ) (left : Option (List ℕ)) (t : Tables) (code : Code) (m : Kept) (e : Ended)
+    (old new : Option (List ℕ)) (quiet still : Type 0) (first last : Asks) → (quiet → still) → Runs origin source (program_of t) →
+    ForInput left (λ input. (rest : List ℕ) × WholeRun t code n old new m e quiet first last input rest) →
     RanFrom origin n source left (status_of_ended e) old new m still
-run-from origin n source left t m e old new quiet still more runs h = elim h.2.1 [
+run-from origin n source left t code m e old new quiet still first last more runs h = elim h.2.1.ran [
   | inl none ↦
       let P : Ended → Type 0 = λ q. RanFrom origin n source left (status_of_ended q) old new m still in
       subst P (sym none.answer_is) (inl (none.fresh, none.untouched, more none.unread))

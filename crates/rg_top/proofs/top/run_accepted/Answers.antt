@@ -7,7 +7,7 @@ use Rattle.rg_top.proofs.top.run_accepted.Goals as goal
 pub returns-clause-ran : goal.returns-clause-ran
 returns-clause-ran g c = λ origin source runs.
     rw c.status_of.ensures.is
-    (run-from origin c.args.steps source _ c.args.accepted.now.program _ _ _ _ _ _ (λ h. h.1) runs
+    (run-from origin c.args.steps source _ c.args.accepted.now.program _ _ _ _ _ _ _ _ _ (λ h. h.1) runs
     (on-input _ _ _ _ _ c.new-numbers.ensures c.run-ran.ensures.follows c.run-ran.ensures.run))
 
 pub returns-in_default-clause-ran : goal.returns-in_default-clause-ran
@@ -21,8 +21,8 @@ returns-in_default-clause-notes g c = quiet-memory c.args.report _ _
 
 pub returns-clause-asked : goal.returns-clause-asked
 returns-clause-asked g c = λ origin source runs.
-    asked-from origin c.args.steps source _ c.args.accepted.now.program _ _ _ _ _ _ _ _ _ c.tune.ensures.1.0 c.tune-2.ensures.1.0 runs
-    (on-input _ _ _ _ _ c.new-numbers.ensures c.run-ran.ensures.follows c.run-ran.ensures.asked)
+    asked-from origin c.args.steps source _ c.args.accepted.now.program _ _ _ _ _ _ _ _ _ _ c.tune.ensures.1.0 c.tune-2.ensures.1.0 runs
+    (on-input _ _ _ _ _ c.new-numbers.ensures c.run-ran.ensures.follows c.run-ran.ensures.run)
 
 pub returns-clause-yeses : goal.returns-clause-yeses
 returns-clause-yeses g c = yeses-of-run _ _ _ _ _ c.tune.ensures.1.1.0 c.tune-2.ensures.1.1.0 c.run-ran.ensures.yeses

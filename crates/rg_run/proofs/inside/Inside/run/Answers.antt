@@ -12,8 +12,8 @@ use Rattle.rg_run.proofs.AskLemmas.{yeses-none, yeses-of, yeses-more}
 use Rattle.rg_run.proofs.LoopLemmas.{went-on, printed-on, turned-leapt, spent, untold, done, done-untold}
 use Rattle.rg_run.proofs.LoopLemmas.{trapped, cut-before, cut-at-input, cut-behind}
 use Rattle.rg_run.proofs.RunLemmas.{asked-none, not-begun, since-none}
-use Rattle.rg_run.proofs.StateLemmas.{LeadsTo, opened, leapt-on, stepped-on, ended-at, refused-at, untold-leaves}
-use Rattle.rg_run.proofs.TurnLemmas.{Between, Turns, begins, is-running, ran-only}
+use Rattle.rg_run.proofs.StateLemmas.{opened}
+use Rattle.rg_run.proofs.TurnLemmas.{Between, Turns, begins, is-running}
 use Rattle.rg_run.proofs.ReportLemmas.{reports-none, reports-whole, reports-same, reports-part, reports-front, reports-of}
 use Rattle.rg_run.proofs.ReportLemmas.{reports-unbegun, untold-input}
 use Rattle.rg_run.proofs.inside.Inside.run.Goals as goal
@@ -44,15 +44,15 @@ loop-self-init g c =
           (reports-none c.args.report (g.R.Sink.taken c.args.notes.now));
       yeses = yeses-none c.begin.new.self.events _ (ap (λ (s : Stepping). s.events) h.2);
       turns = OnInput-still _ _ _ _ (Turns t code c.args.self.now.steps c.begin.new.self content content Still _ _) refl refl (λ bytes.
-          let Q : ℕ → Type 0 = λ k. Between t code k m content content Still bytes bytes in (
-            subst Q (sym c.requires.fresh.steps)
-                (begins t code m content Still bytes accepted c.requires.lowers is (Appends-none content) (refl, refl)),
-            asked-none (program_of t) bytes c.args.self.now.steps _ c.requires.fresh.steps,
-            since-none (program_of t) bytes c.args.self.now.steps c.begin.new.self c.requires.fresh.steps (ap (λ (s : Stepping). s.steps) h.2)
-                (ap (λ (s : Stepping). s.since) h.2) (ap (λ (s : Stepping). s.events) h.2),
-          ));
-      states = OnInput-still _ _ _ _ (LeadsTo code t.manager c.args.self.now.steps _ _) refl refl
-          (opened h.0 c.begin.new.self opens h.2 c.requires.fresh.steps);
+          let Q : ℕ → Type 0 = λ k. Between t code k m content content Still bytes bytes in
+          record {
+            between = subst Q (sym c.requires.fresh.steps)
+                (begins t code m content Still bytes accepted c.requires.lowers is (Appends-none content) (refl, refl));
+            asked = asked-none (program_of t) bytes c.args.self.now.steps _ c.requires.fresh.steps;
+            since = since-none (program_of t) bytes c.args.self.now.steps c.begin.new.self c.requires.fresh.steps
+                (ap (λ (s : Stepping). s.steps) h.2) (ap (λ (s : Stepping). s.since) h.2) (ap (λ (s : Stepping). s.events) h.2);
+            states = opened h.0 c.begin.new.self opens h.2 c.requires.fresh.steps bytes;
+          });
     }
 
 pub step-requires-clause-runs : goal.step-requires-clause-runs
@@ -86,8 +86,7 @@ loop-self-preserved-in-Running g c =
           (yeses-more c.loop-self.self.stepper.events new.events _ _ _ c.loop-self.invariant.yeses c.in-Running.ensures.yeses);
       turns = turned-leapt c.leap.result (went-on c.loop-self.invariant.turns c.in-Running.ensures.reads_nothing room c.in-Running.ensures.one)
           c.leap.ensures.leaps c.leap.ensures.since c.leap.ensures.events c.leap.ensures.counts
-          (omega (arith, within, c.leap.ensures.most, c.ranges.n));
-      states = leapt-on (stepped-on c.loop-self.invariant.states c.in-Running.ensures.one refl) c.leap.result _ (c.leap.ensures.chain _);
+          (omega (arith, within, c.leap.ensures.most, c.ranges.n)) (c.leap.ensures.chain _);
     }
 
 pub loop-self-preserved : goal.loop-self-preserved
@@ -111,102 +110,71 @@ loop-self-preserved g c =
       yeses = yeses-more c.loop-self.self.stepper.events new.events _ _ _ c.loop-self.invariant.yeses c.in-Printed.ensures.yeses;
       turns = printed-on c.loop-self.invariant.turns c.in-Printed.ensures.reads_nothing room c.in-Printed.v c.in-Printed.ensures.one
           c.in-Ok-put_value.ensures.ok;
-      states = stepped-on c.loop-self.invariant.states c.in-Printed.ensures.one refl;
     }
 
-pub returns-in-Err-clause-asked : goal.returns-in-Err-clause-asked
-returns-in-Err-clause-asked g c =
+pub returns-in-Err-clause-run : goal.returns-in-Err-clause-run
+returns-in-Err-clause-run g c =
     let within : c.loop-self.self.steps < c.args.n = omega (arith, c.loop-self-test.true) in
     let room : c.loop-self.self.steps < 2 ^ 64 - 1 = omega (arith, c.loop-self-test.true, c.ranges.n) in
     untold (went-on c.loop-self.invariant.turns c.in-Running.ensures.reads_nothing room c.in-Running.ensures.one) c.loop-self.invariant.begun
     (omega (arith, within)) c.in-Err.ensures.untold
 
-pub returns-in-Err-clause-run : goal.returns-in-Err-clause-run
-returns-in-Err-clause-run g c = ran-only (returns-in-Err-clause-asked g c)
-
-pub returns-in-Err-put_value-clause-asked : goal.returns-in-Err-put_value-clause-asked
-returns-in-Err-put_value-clause-asked g c =
+pub returns-in-Err-put_value-clause-run : goal.returns-in-Err-put_value-clause-run
+returns-in-Err-put_value-clause-run g c =
     let within : c.loop-self.self.steps < c.args.n = omega (arith, c.loop-self-test.true) in
     let room : c.loop-self.self.steps < 2 ^ 64 - 1 = omega (arith, c.loop-self-test.true, c.ranges.n) in
     cut-behind c.loop-self.invariant.turns c.in-Printed.ensures.reads_nothing room c.loop-self.invariant.begun within c.in-Printed.v
     c.in-Printed.ensures.one c.in-Err-put_value.ensures.part
 
-pub returns-in-Err-put_value-clause-run : goal.returns-in-Err-put_value-clause-run
-returns-in-Err-put_value-clause-run g c = ran-only (returns-in-Err-put_value-clause-asked g c)
-
-pub returns-in-Err-tell-clause-asked : goal.returns-in-Err-tell-clause-asked
-returns-in-Err-tell-clause-asked g c =
+pub returns-in-Err-tell-clause-run : goal.returns-in-Err-tell-clause-run
+returns-in-Err-tell-clause-run g c =
     let within : c.loop-self.self.steps < c.args.n = omega (arith, c.loop-self-test.true) in
     let room : c.loop-self.self.steps < 2 ^ 64 - 1 = omega (arith, c.loop-self-test.true, c.ranges.n) in
     let behind = printed-on c.loop-self.invariant.turns c.in-Printed.ensures.reads_nothing room c.in-Printed.v c.in-Printed.ensures.one
     c.in-Ok-put_value.ensures.ok in
     untold behind c.loop-self.invariant.begun (omega (arith, within)) c.in-Err-tell.ensures.untold
 
-pub returns-in-Err-tell-clause-run : goal.returns-in-Err-tell-clause-run
-returns-in-Err-tell-clause-run g c = ran-only (returns-in-Err-tell-clause-asked g c)
-
-pub returns-in-Err-tell-2-clause-asked : goal.returns-in-Err-tell-2-clause-asked
-returns-in-Err-tell-2-clause-asked g c =
+pub returns-in-Err-tell-2-clause-run : goal.returns-in-Err-tell-2-clause-run
+returns-in-Err-tell-2-clause-run g c =
     let within : c.loop-self.self.steps < c.args.n = omega (arith, c.loop-self-test.true) in
     let room : c.loop-self.self.steps < 2 ^ 64 - 1 = omega (arith, c.loop-self-test.true, c.ranges.n) in
     done-untold c.loop-self.invariant.turns c.in-Done.ensures.reads_nothing room c.loop-self.invariant.begun within c.in-Done.ensures.one
     c.in-Err-tell-2.ensures.untold
 
-pub returns-in-Err-tell-2-clause-run : goal.returns-in-Err-tell-2-clause-run
-returns-in-Err-tell-2-clause-run g c = ran-only (returns-in-Err-tell-2-clause-asked g c)
-
-pub returns-in-Done-clause-asked : goal.returns-in-Done-clause-asked
-returns-in-Done-clause-asked g c =
+pub returns-in-Done-clause-run : goal.returns-in-Done-clause-run
+returns-in-Done-clause-run g c =
     let within : c.loop-self.self.steps < c.args.n = omega (arith, c.loop-self-test.true) in
     let room : c.loop-self.self.steps < 2 ^ 64 - 1 = omega (arith, c.loop-self-test.true, c.ranges.n) in
     done c.loop-self.invariant.turns c.in-Done.ensures.reads_nothing room c.loop-self.invariant.begun within c.in-Done.ensures.one
 
-pub returns-in-Done-clause-run : goal.returns-in-Done-clause-run
-returns-in-Done-clause-run g c = ran-only (returns-in-Done-clause-asked g c)
-
-pub returns-in-Trap-clause-asked : goal.returns-in-Trap-clause-asked
-returns-in-Trap-clause-asked g c =
+pub returns-in-Trap-clause-run : goal.returns-in-Trap-clause-run
+returns-in-Trap-clause-run g c =
     let within : c.loop-self.self.steps < c.args.n = omega (arith, c.loop-self-test.true) in
     let room : c.loop-self.self.steps < 2 ^ 64 - 1 = omega (arith, c.loop-self-test.true, c.ranges.n) in
     trapped c.loop-self.invariant.turns c.in-Trap.ensures.reads_nothing room c.loop-self.invariant.begun within c.in-Trap.kind
     c.in-Trap.line c.in-Trap.ensures.one
 
-pub returns-in-Trap-clause-run : goal.returns-in-Trap-clause-run
-returns-in-Trap-clause-run g c = ran-only (returns-in-Trap-clause-asked g c)
-
-pub returns-in-InputFault-clause-asked : goal.returns-in-InputFault-clause-asked
-returns-in-InputFault-clause-asked g c =
+pub returns-in-InputFault-clause-run : goal.returns-in-InputFault-clause-run
+returns-in-InputFault-clause-run g c =
     let within : c.loop-self.self.steps < c.args.n = omega (arith, c.loop-self-test.true) in
     let room : c.loop-self.self.steps < 2 ^ 64 - 1 = omega (arith, c.loop-self-test.true, c.ranges.n) in
     cut-at-input c.loop-self.invariant.turns c.in-InputFault.ensures.reads_nothing room c.loop-self.invariant.begun within c.in-InputFault.ensures.one
     (c.in-InputFault.ensures.input_fault refl (program_of c.args.accepted.now.program))
 
-pub returns-in-InputFault-clause-run : goal.returns-in-InputFault-clause-run
-returns-in-InputFault-clause-run g c = ran-only (returns-in-InputFault-clause-asked g c)
-
-pub returns-in-Memory-clause-asked : goal.returns-in-Memory-clause-asked
-returns-in-Memory-clause-asked g c =
+pub returns-in-Memory-clause-run : goal.returns-in-Memory-clause-run
+returns-in-Memory-clause-run g c =
     let within : c.loop-self.self.steps < c.args.n = omega (arith, c.loop-self-test.true) in
     let room : c.loop-self.self.steps < 2 ^ 64 - 1 = omega (arith, c.loop-self-test.true, c.ranges.n) in
     cut-before c.loop-self.invariant.turns c.in-Memory.ensures.reads_nothing room c.loop-self.invariant.begun within c.in-Memory.ensures.one
 
-pub returns-in-Memory-clause-run : goal.returns-in-Memory-clause-run
-returns-in-Memory-clause-run g c = ran-only (returns-in-Memory-clause-asked g c)
-
-pub returns-clause-asked : goal.returns-clause-asked
-returns-clause-asked g c =
+pub returns-clause-run : goal.returns-clause-run
+returns-clause-run g c =
     let all : c.loop-self.self.steps ≡ c.args.n = omega (arith, c.loop-self-test.false, c.loop-self.invariant.within) in
     spent c.loop-self.invariant.turns c.loop-self.invariant.begun all
 
-pub returns-clause-run : goal.returns-clause-run
-returns-clause-run g c = ran-only (returns-clause-asked g c)
-
-pub returns-in_default-clause-asked : goal.returns-in_default-clause-asked
-returns-in_default-clause-asked g c =
-    not-begun _ c.args.n _ _ _ _ _ _ _ _ _ c.requires.fresh c.in_default.ensures.kept (refl, refl)
-
 pub returns-in_default-clause-run : goal.returns-in_default-clause-run
-returns-in_default-clause-run g c = ran-only (returns-in_default-clause-asked g c)
+returns-in_default-clause-run g c =
+    not-begun _ _ c.args.n _ _ _ _ _ _ _ _ _ c.requires.fresh c.in_default.ensures.kept (refl, refl)
 
 pub returns-in-Err-clause-notes : goal.returns-in-Err-clause-notes
 returns-in-Err-clause-notes g c =
@@ -256,50 +224,6 @@ returns-in-Memory-clause-notes g c =
 pub returns-in_default-clause-notes : goal.returns-in_default-clause-notes
 returns-in_default-clause-notes g c =
     reports-unbegun c.args.report _ _ (ap (λ (s : Stepping). s.events) (c.in_default.ensures.kept ∙ c.requires.fresh.stepper))
-
-pub returns-in-Err-clause-states : goal.returns-in-Err-clause-states
-returns-in-Err-clause-states g c = λ begun.
-    ended-at (stepped-on c.loop-self.invariant.states c.in-Running.ensures.one refl) c.loop-self.self.begun c.in-Err.ended
-    (untold-leaves _ _ _ c.in-Err.ensures.untold)
-
-pub returns-in-Err-put_value-clause-states : goal.returns-in-Err-put_value-clause-states
-returns-in-Err-put_value-clause-states g c = λ begun.
-    ended-at (stepped-on c.loop-self.invariant.states c.in-Printed.ensures.one refl) c.loop-self.self.begun ended.OutputFault (λ bytes. (refl, refl))
-
-pub returns-in-Err-tell-clause-states : goal.returns-in-Err-tell-clause-states
-returns-in-Err-tell-clause-states g c = λ begun.
-    ended-at (stepped-on c.loop-self.invariant.states c.in-Printed.ensures.one refl) c.loop-self.self.begun c.in-Err-tell.ended
-    (untold-leaves _ _ _ c.in-Err-tell.ensures.untold)
-
-pub returns-in-Err-tell-2-clause-states : goal.returns-in-Err-tell-2-clause-states
-returns-in-Err-tell-2-clause-states g c = λ begun.
-    ended-at (stepped-on c.loop-self.invariant.states c.in-Done.ensures.one refl) c.loop-self.self.begun c.in-Err-tell-2.ended
-    (untold-leaves _ _ _ c.in-Err-tell-2.ensures.untold)
-
-pub returns-in-Done-clause-states : goal.returns-in-Done-clause-states
-returns-in-Done-clause-states g c = λ begun.
-    ended-at (stepped-on c.loop-self.invariant.states c.in-Done.ensures.one refl) c.loop-self.self.begun ended.Done (λ bytes. (refl, refl))
-
-pub returns-in-Trap-clause-states : goal.returns-in-Trap-clause-states
-returns-in-Trap-clause-states g c = λ begun.
-    refused-at c.loop-self.invariant.states c.in-Trap.ensures.one c.loop-self.self.begun
-    (ended.Trap c.in-Trap.kind c.in-Trap.line) (λ x y one. one)
-
-pub returns-in-InputFault-clause-states : goal.returns-in-InputFault-clause-states
-returns-in-InputFault-clause-states g c = λ begun.
-    refused-at c.loop-self.invariant.states c.in-InputFault.ensures.one c.loop-self.self.begun ended.InputFault (λ x y one. one)
-
-pub returns-in-Memory-clause-states : goal.returns-in-Memory-clause-states
-returns-in-Memory-clause-states g c = λ begun.
-    refused-at c.loop-self.invariant.states c.in-Memory.ensures.one c.loop-self.self.begun ended.Memory (λ x y one. inr one)
-
-pub returns-clause-states : goal.returns-clause-states
-returns-clause-states g c = λ begun.
-    ended-at c.loop-self.invariant.states c.loop-self.self.begun ended.Spent (λ bytes. (refl, refl))
-
-pub returns-in_default-clause-states : goal.returns-in_default-clause-states
-returns-in_default-clause-states g c = λ begun.
-    absurd (true≢false (sym begun ∙ c.requires.fresh.begun))
 
 pub returns-in-Err-clause-yeses : goal.returns-in-Err-clause-yeses
 returns-in-Err-clause-yeses g c =

@@ -4,7 +4,6 @@ use Rattle.rg_base.specs.declared.outcome.Ended.TheVariants as ended
 use Rattle.rg_input.specs.Numbers.{Follows, OnInput}
 use Rattle.rg_step.specs.Asking.{YesesTold}
 use Rattle.rg_run.specs.Reports.{Reports}
-use Rattle.rg_run.proofs.StateLemmas.{LeadsTo}
 use Rattle.rg_run.proofs.TurnLemmas.{Turns}
 use Rattle.rg_run.proofs.inside.Inside.run.Given as goal
 
@@ -75,38 +74,6 @@ invariant-loop-self g l = record {
           yeses = (goal.Pacer-dyn g l.trace.now).yeses l.trace.now.1;
           told = (goal.Pacer-dyn g l.trace.now).told l.trace.now.1;
           tuned = (goal.Pacer-dyn g l.trace.now).tuned l.trace.now.1;
-        };
-      }));
-  states : OnInput l.fn.input l.input (g.I.Source.left l.fn.source) (g.I.Source.left l.source)
-      (LeadsTo l.code l.accepted.program.manager l.self.steps (record {
-        count = record {
-          asks = (goal.Pacer-dyn g l.fn.count.now).asks l.fn.count.now.1;
-          yeses = (goal.Pacer-dyn g l.fn.count.now).yeses l.fn.count.now.1;
-          told = (goal.Pacer-dyn g l.fn.count.now).told l.fn.count.now.1;
-          tuned = (goal.Pacer-dyn g l.fn.count.now).tuned l.fn.count.now.1;
-        };
-        trace = record {
-          asks = (goal.Pacer-dyn g l.fn.trace.now).asks l.fn.trace.now.1;
-          yeses = (goal.Pacer-dyn g l.fn.trace.now).yeses l.fn.trace.now.1;
-          told = (goal.Pacer-dyn g l.fn.trace.now).told l.fn.trace.now.1;
-          tuned = (goal.Pacer-dyn g l.fn.trace.now).tuned l.fn.trace.now.1;
-        };
-      })
-      (record {
-        stepper = l.self.stepper;
-        pacers = record {
-          count = record {
-            asks = (goal.Pacer-dyn g l.count.now).asks l.count.now.1;
-            yeses = (goal.Pacer-dyn g l.count.now).yeses l.count.now.1;
-            told = (goal.Pacer-dyn g l.count.now).told l.count.now.1;
-            tuned = (goal.Pacer-dyn g l.count.now).tuned l.count.now.1;
-          };
-          trace = record {
-            asks = (goal.Pacer-dyn g l.trace.now).asks l.trace.now.1;
-            yeses = (goal.Pacer-dyn g l.trace.now).yeses l.trace.now.1;
-            told = (goal.Pacer-dyn g l.trace.now).told l.trace.now.1;
-            tuned = (goal.Pacer-dyn g l.trace.now).tuned l.trace.now.1;
-          };
         };
       }));
 }
