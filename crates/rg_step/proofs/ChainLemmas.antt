@@ -61,7 +61,8 @@ one-parts code old new p result x y shown heap o =
         subst (λ (m : Machine). StepsOn code m (machine_in o.serves.0) result x y) s o.serves.1,
         frees-from p old.stepper.parts o.serves.0 shown heap o.serves.2,
         subst (λ (m : Machine). ServesBy (due_at code.ops m.at) (record old.stepper { parts = p }) o.serves.0 new.stepper old.pacers new.pacers
-            result) s (by-roomed old.stepper p o.serves.0 new.stepper old.pacers new.pacers shown (due_at code.ops old.stepper.parts.at) result o.serves.3),
+            result) s
+            (by-roomed old.stepper p o.serves.0 new.stepper old.pacers new.pacers shown (due_at code.ops old.stepper.parts.at) result o.serves.3),
       );
       reaches = subst (λ (m : Machine). ReachesOn code m old.stepper.events new.stepper.events x y) s o.reaches;
       asked = subst (λ (m : Machine). AsksOn code m result old.pacers new.pacers) s o.asked;

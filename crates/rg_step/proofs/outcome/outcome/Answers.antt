@@ -3,7 +3,7 @@ use Rattle.rg_input.proofs.InputLemmas.{OnInput-map}
 use Rattle.rg_input.specs.Numbers.{OnInput}
 use Rattle.rg_machine.specs.Parts.{Parts, core_of, machine_in}
 use Rattle.rg_stack.specs.Machine.{Machine}
-use Rattle.rg_held.specs.Freed.{FreesOnly}
+use Rattle.rg_held.specs.Freed.{FreesOnly as StoreFrees}
 use Rattle.rg_step.specs.Inner.High.{DidMade}
 use Rattle.rg_step.proofs.HighLemmas.{answer-raises}
 use Rattle.rg_step.specs.Inner.Refusals.{DidLeaves, asks_at}
@@ -78,7 +78,7 @@ returns-clause-frees g c =
     table-frees old new
     (record { stands = c.is_sound.ensures.stands; serials = c.is_sound.ensures.serials; forest = c.is_sound.ensures.forest })
     (record { stands = c.is_sound-2.ensures.stands; serials = c.is_sound-2.ensures.serials; forest = c.is_sound-2.ensures.forest })
-    (subst (λ (p : Parts). FreesOnly (machine_in old) (machine_in p)) (sym c.start.ensures) frees)
+    (subst (λ (p : Parts). StoreFrees (machine_in old) (machine_in p)) (sym c.start.ensures) frees)
 
 pub returns-clause-refused : goal.returns-clause-refused
 returns-clause-refused g c none =

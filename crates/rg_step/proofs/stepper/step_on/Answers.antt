@@ -24,7 +24,11 @@ returns-then-not-made-clause-step g c =
     OnInput-map _ _ _ _ (StepsOn c.args.code.now m (machine_in c.outcome-outcome.new.p) result) (OneStep c.args.code.now _ _ result)
     c.outcome-outcome.ensures.step
     (one-refused c.args.code.now _ _ c.requires.runs result c.outcome-outcome.ensures.high c.outcome-outcome.ensures.frees no
-    (record { shown = c.outcome-outcome.ensures.refused no; events_are = c.make_place.ensures.items; unasked = record { since = refl; pacers = refl } }) refl)
+    (record {
+      shown = c.outcome-outcome.ensures.refused no;
+      events_are = c.make_place.ensures.items;
+      unasked = record { since = refl; pacers = refl };
+    }) refl)
 
 pub returns-in_default-due-clause-step : goal.returns-in_default-due-clause-step
 returns-in_default-due-clause-step g c =
