@@ -6,7 +6,7 @@ ghost use Rattle.rg_regions.specs.Table.{IsKey};
 ghost use Rattle.rg_regions.specs.Reach.{LiesIn};
 ghost use Rattle.rg_regions.specs.Grove.{Grove};
 ghost use Rattle.rg_heap.specs.Writes.{counted};
-ghost use Rattle.rg_heap.specs.Inner.Marks.{MayWrite, Recounts};
+ghost use Rattle.rg_heap.specs.Inner.Marks.{Counts, MayWrite, Recounts};
 
 use rg_base::{Label, Manager, Word};
 use rg_cells::Cells;
@@ -59,17 +59,14 @@ fn lower(cells: &mut Cells, region: u64, w: Word)
     removed(cells, to);
 }
 
-// The marks follow where a field will lead, if the cell's region counts.
+// The marks follow where a field of a cell of a region that counts, or of a temporary, will lead.
 fn recount(cells: &mut Cells, regions: &Regions, key: usize, slot: usize, k: u32, w: Word)
     requires grove { Grove cells.old regions.now }
-    requires key { IsKey regions.now key }
+    requires counts { Counts regions.now key }
     requires width { k < width (body_at cells.old.heap slot) }
     requires place { MayWrite cells.old.heap regions.now key slot w }
     ensures { Recounts cells.old regions.now cells.new slot k w }
 {
-    let Manager::Count = regions.manager(key) else {
-        return;
-    };
     let Label::Region(region) = cells.label(slot) else {
         return;
     };
@@ -78,6 +75,20 @@ fn recount(cells: &mut Cells, regions: &Regions, key: usize, slot: usize, k: u32
     let old = cells.field(slot, k);
     raise(cells, region, w);
     lower(cells, region, old);
+}
+
+// Writes a field of a cell of a region that counts, or of a temporary.
+#[inline(never)]
+fn write_counted(cells: &mut Cells, regions: &Regions, key: usize, slot: usize, k: u32, w: Word)
+    requires grove { Grove cells.old regions.now }
+    requires counts { Counts regions.now key }
+    requires width { k < width (body_at cells.old.heap slot) }
+    requires place { MayWrite cells.old.heap regions.now key slot w }
+    ensures heap { cells.new.heap ≡ with_field cells.old.heap slot k w }
+    ensures grove { Grove cells.new regions.now }
+{
+    recount(cells, regions, key, slot, k, w);
+    cells.set_field(slot, k, w);
 }
 
 /// Writes a field of a cell of the region of a key, or of a temporary.
@@ -89,6 +100,9 @@ pub fn write_field(cells: &mut Cells, regions: &Regions, key: usize, slot: usize
     ensures heap { cells.new.heap ≡ with_field cells.old.heap slot k w }
     ensures grove { Grove cells.new regions.now }
 {
-    recount(cells, regions, key, slot, k, w);
-    cells.set_field(slot, k, w);
+    let Manager::Count = regions.manager(key) else {
+        cells.set_field(slot, k, w);
+        return;
+    };
+    write_counted(cells, regions, key, slot, k, w);
 }

@@ -35,6 +35,7 @@ pub(crate) fn constant(p: &mut Machine, w: Word) -> Next
 }
 
 /// An operator on the two topmost values, whatever they are.
+#[inline(never)]
 fn operate_values(p: &mut Machine, op: BinOp) -> Next
     ensures effect { (at : ℕ) → ActIs (on_two op) at (core_of p.old) (core_of p.new) result }
     ensures keeps { Keeping Computes false (machine_in p.old) (machine_in p.new) result }

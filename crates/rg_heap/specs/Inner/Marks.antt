@@ -1,8 +1,9 @@
 -- How marks follow a field that is about to be written (docs/architecture.md, "The heap").
-use Rattle.std.specs.Prelude.{◌≡◌, ℕ, ◌+◌, ◌⊎◌, cond, Some}
+use Rattle.std.specs.Prelude.{◌≡◌, ℕ, ◌+◌, ◌⊎◌, cond, Some, option_map}
 use Rattle.rg_base.specs.declared.value.Word.{Word}
 use Rattle.rg_cells.specs.Table.{Heap, Table, field_at, mark_at}
-use Rattle.rg_regions.specs.Table.{RegionTable, HasNumber}
+use Rattle.rg_base.specs.declared.words.Manager.TheVariants.{Count}
+use Rattle.rg_regions.specs.Table.{Record, RegionTable, HasNumber, record_at}
 use Rattle.rg_regions.specs.Reach.{LiesIn}
 use Rattle.rg_regions.specs.Grove.{leads_to}
 use Rattle.rg_heap.specs.Writes.{Stays, IsTemp, IsCounting}
@@ -10,6 +11,10 @@ use Rattle.rg_heap.specs.Writes.{Stays, IsTemp, IsCounting}
 -- the cell at a slot lies in the region of a key, where the word may stand in a field, or it is a temporary
 abbrev pub MayWrite : Heap → RegionTable → (key slot : ℕ) → Word → Type 0
 MayWrite h t key slot w = ((n : ℕ) × HasNumber t key n × LiesIn h n slot × Stays h n w) ⊎ IsTemp h slot
+
+-- the region of a key counts
+abbrev pub Counts : RegionTable → (key : ℕ) → Type 0
+Counts t key = option_map (λ (r : Record). r.manager) (record_at t key) ≡ Some Count
 
 -- one where a word leads to a slot
 abbrev pub leads_once : ℕ → Word → ℕ

@@ -57,6 +57,7 @@ impl Machine {
     }
 
     /// What a slot of the topmost frame owns goes, and the slot is nil, whatever its number.
+    #[inline(never)]
     fn drop_nth(&mut self, k: usize)
         requires there { k < length (top_slots (machine_in self.old).frames) }
         requires once { owned_once (machine_in self.old) ≡ true }
