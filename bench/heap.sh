@@ -3,6 +3,7 @@
 #   make      objects of two fields, each in the list of those before it, in a region that is released then
 #   write     a field of each object of such a list is written
 #   freeze    the region of such a list is frozen and kept, in place of released
+#   merge     it is merged into main's region, which has the same manager
 # in nanoseconds an object, 1,000,000 objects in all, as a program that does it takes more than the same one that doesn't;
 # the slowest size should be within 1.3 of the fastest. Then the peak of memory for a live object of two fields, beside
 # Lua's table of two fields; and a run that makes 10,000,000 objects as a window's temporaries, one at a time, whose peak
@@ -31,6 +32,8 @@ LAST    t = t + 1;
 """
 MADE = "let n: mut Node = new Node; n.left = a;"
 NOT_MADE = "let n: mut Node = nil; n = a;"
+FROZEN = "    let frozen: imm Room = freeze box;\n"
+MERGED = "    let merged: mut Room = merge box;\n"
 WALKED = "      let p: mut Node = a;\n      while not p is nil { STORE p = p.left; }\n"
 
 def turn(link, store="", last=""):
@@ -39,12 +42,13 @@ def turn(link, store="", last=""):
 
 def main(body, manager, size):
     text = body.replace("MANAGER", manager).replace("SIZE", str(size)).replace("TIMES", str(max(1, 1_000_000 // size)))
-    return NODE + "main arena {\n" + text + "}\n"
+    return NODE + f"main {manager} {{\n" + text + "}\n"
 
 KINDS = {
     "make": (turn(MADE), turn(NOT_MADE)),
     "write": (turn(MADE, "p.value = 7;"), turn(MADE, "let v: int = 7;")),
-    "freeze": (turn(MADE, last="    let frozen: imm Room = freeze box;\n"), turn(NOT_MADE, last="    let frozen: imm Room = freeze box;\n")),
+    "freeze": (turn(MADE, last=FROZEN), turn(NOT_MADE, last=FROZEN)),
+    "merge": (turn(MADE, last=MERGED), turn(NOT_MADE, last=MERGED)),
 }
 
 def run(path): return [program, "run", path, "--every", "0", "--steps", "1000000000"]
