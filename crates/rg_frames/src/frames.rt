@@ -2,7 +2,7 @@
 
 ghost use Rattle.std.specs.Prelude.{◌≡◌, ◌≤◌, ◌+◌, ◌-◌, ◌<◌, ◌^◌, ◌++◌, ◌↔◌, None, Some, Ok, Err};
 ghost use Rattle.std.specs.Prelude.{IfSome, IsNone, OnOk, OnErr, length, drop, take, replicate};
-ghost use Rattle.std.specs.Prelude.{slice_get, unwrap_or, vec_len, vec_capacity};
+ghost use Rattle.std.specs.Prelude.{slice_get, unwrap_or, vec_len, vec_capacity, true};
 ghost use Rattle.std.specs.List.{list_any};
 ghost use Rattle.rg_base.specs.declared.limits.TheConstants.{FRAMES as MOST};
 ghost use Rattle.rg_base.specs.declared.value.Word.TheVariants.{Nil};
@@ -145,6 +145,16 @@ impl Frames {
             return Err(Memory);
         };
         Ok(())
+    }
+
+    /// Whether there is room for one more frame of so many slots.
+    #[inline]
+    pub fn has_room(&self, slots: usize) -> bool
+        ensures { result ≡ true ↔ HasRoom self.now slots }
+    {
+        self.frames.len() < self.frames.capacity()
+            && self.kept.len() < self.kept.capacity()
+            && slots <= self.slots.capacity() - self.slots.len()
     }
 
     /// A frame of these words and so many slots more, all nil, for which there is room.

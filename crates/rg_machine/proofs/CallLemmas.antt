@@ -79,7 +79,7 @@ leads-nil p v = record { held = λ s e. absurd cc; bridge = λ s r e lies closed
 pub stands-roomed : (p : Parts) (v : Stack) (fr sr : ℕ) → Stands p v → Stands p (roomed v fr sr)
 stands-roomed p v fr sr st = stands-restacked p v v.slots v.first v.frames fr sr st st.lain st.some st.opened.slots st.slots
 
-pub all-roomed : (p : Parts) (v : Stack) (fr sr : ℕ) (words : List Word) → AllLead p v words → AllLead p (roomed v fr sr) words
+all-roomed : (p : Parts) (v : Stack) (fr sr : ℕ) (words : List Word) → AllLead p v words → AllLead p (roomed v fr sr) words
 all-roomed p v fr sr words l k w e = leads-restacked p v v.slots v.first v.frames fr sr w (l k w e)
 
 -- behind the base of each window no region of one is left that none begins behind
@@ -250,9 +250,6 @@ pub kept-roomed : (p : Parts) (v u : Stack) (words : List Word) → u ≡ roomed
 kept-roomed p v u words e k =
     subst (λ (x : Stack). Kept p x words) (sym e)
     (stands-roomed p v u.frame_room u.slot_room k.0, all-roomed p v u.frame_room u.slot_room words k.1)
-
-pub all-led : (p : Parts) (v u : Stack) (words : List Word) → u ≡ roomed v u.frame_room u.slot_room → AllLead p v words → AllLead p u words
-all-led p v u words e l = subst (λ (x : Stack). AllLead p x words) (sym e) (all-roomed p v u.frame_room u.slot_room words l)
 
 -- the frame of a call comes
 pub kept-called : (p : Parts) (u new : Stack) (words more : List Word) (given slots back : ℕ) → Grove p.cells p.regions

@@ -21,7 +21,7 @@ LeavesAt code ended.InputFault last now before after = OneStep code last now out
 LeavesAt code ended.Memory last now before after = ((now ≡ last) × (after ≡ before)) ⊎ OneStep code last now outcome.Memory before after
 
 -- The states of a run, one more than it has whole steps: the first is that in which a program opens whose main has this manager, each other one
--- follows by a step, and the machine is left at the last one, but for room for frames.
+-- follows by a step, and the machine is left at the last one.
 pub record RunsThrough (code : Code) (manager : Manager) (m : Kept) (result : Ended) (first last : Asks) (before after : List ℕ) : Type 0 where
   pub parts : Parts
   pub opens : machine_in parts ≡ opening_machine code manager

@@ -7,11 +7,10 @@ use Rattle.rg_base.specs.declared.object.Label.TheVariants.{Region}
 use Rattle.rg_base.specs.declared.object.Seen.{Seen}
 use Rattle.rg_cells.specs.declared.cell.Body.{Body}
 use Rattle.rg_code.specs.Code.{Code}
-use Rattle.rg_heap.specs.Parts.{Parts as HeapParts}
 use Rattle.rg_regions.specs.Reach.{LiesIn}
 use Rattle.rg_regions.specs.Table.{InTable, Record, record_at}
 use Rattle.rg_stack.specs.Machine.{Machine}
-use Rattle.rg_stack.specs.Needs.{has_window, is_open}
+use Rattle.rg_stack.specs.Needs.{is_open}
 use Rattle.rg_stack.specs.Refusals.{Orderly}
 use Rattle.rg_held.specs.Frees.{gone, free_step as step}
 use Rattle.rg_held.specs.Freed.{FreesOnly as StoreFrees, RegionEnded, StepFrees}
@@ -131,26 +130,6 @@ module _ (old new : Parts) (was : IsSound old.heap old.frames) (is : IsSound new
     )
   ]
 
--- Other rows and room
-
 -- parts that stay free nothing
 pub none-frees : (p : Parts) → FreesOnly p p
 none-frees p serial o held live away = absurd (live (away o held))
-
--- what was freed is told of the machine that was shown, and of its table
-pub frees-from : (p old new : Parts) → machine_in p ≡ machine_in old → p.heap ≡ old.heap → FreesOnly old new → FreesOnly p new
-frees-from p old new shown heap frees serial o held live away =
-    let at : (a : ℕ) → slice_get (machine_in p).store a ≡ slice_get (machine_in old).store a =
-    λ a. ap (λ (m : Machine). slice_get m.store a) shown in
-    elim (frees serial o (sym (at serial) ∙ held) live away) [
-      | inl (n, temp, here, ended) ↦ inl (n, temp, ap (λ (m : Machine). has_window m.windows n) shown ∙ here, ended)
-      | inr (r, lies, gone) ↦ inr (
-        r,
-        lies,
-        record {
-          was = subst (λ (h : HeapParts). InTable h.regions r) (sym heap) gone.was;
-          left = gone.left;
-          all_gone = λ a u there in_region. gone.all_gone a u (sym (at a) ∙ there) in_region;
-        },
-      )
-    ]

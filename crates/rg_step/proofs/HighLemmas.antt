@@ -86,14 +86,6 @@ raises-none (outcome.Trap kind line) old mid new r h = most-none old.heap mid.he
 raises-none outcome.InputFault old mid new r h = most-none old.heap mid.heap new.heap r h
 raises-none outcome.Memory old mid new r h = tt
 
-pub raises-from : (result : Outcome) (old mid new : MachineParts) → mid.heap ≡ old.heap → Raises result mid new → Raises result old new
-raises-from outcome.Running old mid new same r = most-from old.heap mid.heap new.heap same r
-raises-from (outcome.Printed v) old mid new same r = most-from old.heap mid.heap new.heap same r
-raises-from outcome.Done old mid new same r = most-from old.heap mid.heap new.heap same r
-raises-from (outcome.Trap kind line) old mid new same r = most-from old.heap mid.heap new.heap same r
-raises-from outcome.InputFault old mid new same r = most-from old.heap mid.heap new.heap same r
-raises-from outcome.Memory old mid new same r = tt
-
 -- Manners
 
 abbrev takes : Manner → Truth

@@ -43,20 +43,10 @@ pub record OneStep (code : Code) (old new : Standing) (result : Outcome) (before
   pub high : Raises result old.stepper.parts new.stepper.parts
   pub counts : Counts old.stepper.steps new.stepper.steps result
 
--- the same machine is shown over the same heap, and all but the parts is the same: room for frames may have been made
-pub record IsRoomed (old new : Standing) : Type 0 where
-  pub shown : machine_in new.stepper.parts ≡ machine_in old.stepper.parts
-  pub heap : new.stepper.parts.heap ≡ old.stepper.parts.heap
-  pub rest : new ≡ record old { stepper = record old.stepper { parts = new.stepper.parts } }
-
 -- So many steps that were made, one after the other: a list of one state more, from the first to the last, each of which follows from the one
 -- before by a step.
-abbrev pub Links : Code → ℕ → (first last : Standing) → (before after : List ℕ) → Type 0
-Links code zero first last before after = (last ≡ first) × (after ≡ before)
-Links code (suc k) first last before after =
-    (m : Standing) × (left : List ℕ) × (result : Outcome) × Links code k first m before left × (is_made result ≡ true)
-    × OneStep code m last result left after
-
--- and behind them room for one more frame may have been made
 abbrev pub Chain : Code → ℕ → (first last : Standing) → (before after : List ℕ) → Type 0
-Chain code k first last before after = (m : Standing) × Links code k first m before after × IsRoomed m last
+Chain code zero first last before after = (last ≡ first) × (after ≡ before)
+Chain code (suc k) first last before after =
+    (m : Standing) × (left : List ℕ) × (result : Outcome) × Chain code k first m before left × (is_made result ≡ true)
+    × OneStep code m last result left after

@@ -1,4 +1,4 @@
-use Rattle.std.proofs.Common.{◌≡◌, ◌≤◌, ◌+◌, ◌-◌, length, subst, sym, arith}
+use Rattle.std.proofs.Common.{◌≡◌, subst, sym, arith}
 use Rattle.rg_frames.specs.Stack.{Stack, ended}
 use Rattle.rg_frames.proofs.Unwriting.{ended-past}
 use Rattle.rg_frames.proofs.frames.Frames.live.Goals as goal

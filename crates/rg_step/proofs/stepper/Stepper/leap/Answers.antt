@@ -5,7 +5,7 @@ use Rattle.rg_step.specs.States.{Chain}
 use Rattle.rg_step.specs.Steps.{IsRunning, Leapt, Stepping}
 use Rattle.rg_step.proofs.HeldLemmas.{rests-some, shows-none, shows-some}
 use Rattle.rg_step.proofs.RunLemmas.{never-fresh}
-use Rattle.rg_step.proofs.LeapLemmas.{leaps-chain, leapt-to}
+use Rattle.rg_step.proofs.LeapLemmas.{leaps-counted, leapt}
 use Rattle.rg_step.proofs.stepper.Stepper.leap.Goals as goal
 
 pub returns-clause-leaps : goal.returns-clause-leaps
@@ -14,7 +14,7 @@ returns-clause-leaps c =
     let new = machine_in c.leap-made.new.p in
     let P : Stepping → Type 0 = λ n. Leapt code c.leap-made.result (machine_in n.parts) new in
     subst P (shows-some c.self.inside.machine c.in-Some.p c.self.inside.kept c.args.self.now c.in-Some.is c.self.view_is)
-    (leapt-to code c.leap-made.result c.in-Some.p c.leap-made.new.p c.leap-made.ensures.leaps)
+    (leapt code c.leap-made.result c.in-Some.p c.leap-made.new.p c.leap-made.ensures.leaps)
 
 pub returns-clause-chain : goal.returns-clause-chain
 returns-clause-chain c pacers input =
@@ -25,7 +25,7 @@ returns-clause-chain c pacers input =
     let P : Stepping → Type 0 = λ n. IsRunning code (machine_in n.parts) in
     let Q : Stepping → Type 0 = λ n. Chain code k (record { stepper = n; pacers = pacers }) (record { stepper = new; pacers = pacers }) input input in
     let is = shows-some c.self.inside.machine c.in-Some.p c.self.inside.kept c.args.self.now c.in-Some.is c.self.view_is in
-    subst Q is (leaps-chain code was c.in-Some.p pacers input (subst P (sym is) c.requires) (omega (arith, c.self.ranges)) k
+    subst Q is (leaps-counted code was c.in-Some.p pacers input (subst P (sym is) c.requires) (omega (arith, c.self.ranges)) k
     c.leap-made.new.p c.more-self-inside.result (omega (arith, c.leap-made.type_inv)) c.leap-made.ensures.leaps c.more-self-inside.ensures)
 
 pub leap-made-requires-clause-runs : goal.leap-made-requires-clause-runs
