@@ -1,0 +1,4 @@
+use Rattle.rg_regions.proofs.places.order_members.Goals as goal
+
+pub returns : goal.returns
+returns c = ?
