@@ -568,11 +568,13 @@ fn above(from: usize, place: usize, to: usize) -> usize
 }
 
 // A place is written: from what is kept for each frame on all are nil, whatever was written.
-fn raise(kept: &mut [usize], frames: &[Frame], first: usize, place: usize)
-    requires { length kept.old ≡ length frames.now }
-    ensures { (slots : List WordOf) (live : ℕ) (w : WordOf) → IsPast place live (length slots)
-        → Unwritten slots first frames.now live kept.old
-        → Unwritten (slice_set slots place w) first frames.now live kept.new }
+fn raise(kept: &mut Vec<usize>, frames: &[Frame], first: usize, place: usize)
+    requires { length kept.old.items ≡ length frames.now }
+    ensures nil { (slots : List WordOf) (live : ℕ) (w : WordOf) → IsPast place live (length slots)
+        → Unwritten slots first frames.now live kept.old.items
+        → Unwritten (slice_set slots place w) first frames.now live kept.new.items }
+    ensures len { length kept.new.items ≡ length kept.old.items }
+    ensures capacity { vec_capacity kept.new ≡ vec_capacity kept.old }
 {
     let mut end = first;
     let mut k = frames.len();

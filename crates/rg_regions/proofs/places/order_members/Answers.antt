@@ -1,4 +1,4 @@
-use Rattle.std.proofs.Common.{◌≡◌, Some, List, refl, ap, ◌∙◌, subst, IsPermutation}
+use Rattle.std.proofs.Common.{◌≡◌, Some, refl, ap, ◌∙◌, subst, IsPermutation}
 use Rattle.rg_regions.specs.declared.region.Region.{Region}
 use Rattle.rg_regions.specs.Ordered.{with_members}
 use Rattle.rg_regions.specs.Inner.Layout.{record_of}

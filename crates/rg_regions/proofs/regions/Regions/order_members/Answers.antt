@@ -1,8 +1,8 @@
-use Rattle.std.proofs.Common.{◌≡◌, Some, Option, ap, ◌∙◌, subst, sym, IsPermutation}
+use Rattle.std.proofs.Common.{◌≡◌, Some, ap, ◌∙◌, subst, sym, IsPermutation}
 use Rattle.slab.specs.Slab.{Slab}
 use Rattle.rg_regions.specs.declared.region.Region.{Region}
 use Rattle.rg_regions.specs.Table.{Record, RegionTable, record_at, changed}
-use Rattle.rg_regions.specs.Ordered.{with_members, Orders}
+use Rattle.rg_regions.specs.Ordered.{with_members}
 use Rattle.rg_regions.specs.Inner.Layout.{record_of, shown, table_of, IsIndexed}
 use Rattle.rg_regions.proofs.Written.{region_at, rewritten, indexed-written, shown-at}
 use Rattle.rg_regions.proofs.regions.Regions.order_members.Goals as goal
