@@ -1,4 +1,5 @@
-use Rattle.std.proofs.Common.{◌≡◌, ◌≢◌, ◌≤◌, ◌<◌, ◌+◌, ◌-◌, ℕ, List, Some, rules, length, slice_get, slice_set, get_or, ap, sym, ◌∙◌, subst, arith, refl}
+use Rattle.std.proofs.Common.{◌≡◌, ◌≢◌, ◌≤◌, ◌<◌, ◌+◌, ◌-◌, ℕ, List, Some, rules, length, slice_get, slice_set, get_or, ap, sym}
+use Rattle.std.proofs.Common.{◌∙◌, subst, arith, refl}
 use Rattle.std.proofs.lemmas.Option.{slice_get-get_or, slice_get_within}
 use Rattle.std.proofs.lemmas.List.{length-set, length-drop}
 use Rattle.rg_base.specs.declared.value.Word.{Word}
