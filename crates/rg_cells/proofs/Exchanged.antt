@@ -1,6 +1,7 @@
 -- What the table shows after two cells change places, for crates that move cells (docs/architecture.md, "Cells").
 use Rattle.std.proofs.Common.{◌≡◌, ◌≢◌, ℕ, ◌+◌, ◌<◌, ◌==◌, zero, suc, List, [], ◌∷◌, length, Option, Some, None, IsSome, get_or, set, refl}
-use Rattle.std.proofs.Common.{ap, sym, ◌∙◌, subst, arith, cond, if◌then◌else◌, inl, inr, is_some, true, count_by, option_map, option_and_then, slice_get}
+use Rattle.std.proofs.Common.{ap, sym, ◌∙◌, subst, arith, cond, if◌then◌else◌, inl, inr, is_some, true, count_by}
+use Rattle.std.proofs.Common.{option_map, option_and_then, slice_get}
 use Rattle.std.proofs.lemmas.List.{get_or-set_same, get_or-set_other, length-set}
 use Rattle.std.proofs.lemmas.List.Sums.{sum_by-cons}
 use Rattle.std.proofs.lemmas.Bool.{cases_eq}

@@ -554,7 +554,7 @@ fn clear(all: &mut Vec<Word>, from: usize, to: usize)
     }
 }
 
-// The least number, no lower than one, above which a place up to `to` doesn't lie.
+// Behind the place, where it is one of those from `from` up to `to`, and else `from`.
 fn above(from: usize, place: usize, to: usize) -> usize
     ensures least { from ≤ result }
     ensures within { from ≤ to → result ≤ to }
@@ -567,7 +567,7 @@ fn above(from: usize, place: usize, to: usize) -> usize
     }
 }
 
-// A place is written: from what is kept for each frame on all are nil, whatever was written.
+// What is kept for the frame of a place rises above it, so the place may be written.
 fn raise(kept: &mut Vec<usize>, frames: &[Frame], first: usize, place: usize)
     requires { length kept.old.items ≡ length frames.now }
     ensures nil { (slots : List WordOf) (live : ℕ) (w : WordOf) → IsPast place live (length slots)

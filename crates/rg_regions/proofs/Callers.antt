@@ -13,3 +13,4 @@ pub mod HandedOver
 pub mod Shares
 pub mod CellComes
 pub mod Ordered
+pub mod GroveOrdered

@@ -23,7 +23,7 @@ pub record NilFrom (slots : List Word) (from to : ℕ) : Type 0 where
   pub order : from ≤ to
   pub nil : (i : ℕ) (w : Word) → from ≤ i → i < to → slice_get slots i ≡ Some w → w ≡ Nil
 
--- a place doesn't lie from one place up to another
+-- a place isn't one of those from one place up to another
 abbrev pub IsPast : (place from to : ℕ) → Type 0
 IsPast place from to = (place < from) ⊎ (to ≤ place)
 

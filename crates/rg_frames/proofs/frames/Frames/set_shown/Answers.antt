@@ -1,4 +1,5 @@
-use Rattle.std.proofs.Common.{◌≡◌, ◌≢◌, ◌<◌, ◌+◌, ◌-◌, ℕ, List, Some, rules, length, slice_get, slice_set, get_or, ap, sym, ◌∙◌, subst, arith, refl}
+use Rattle.std.proofs.Common.{◌≡◌, ◌≢◌, ◌≤◌, ◌<◌, ◌+◌, ◌-◌, ℕ, List, Some, rules, length, slice_get, slice_set, get_or, ap, sym}
+use Rattle.std.proofs.Common.{◌∙◌, subst, arith, refl}
 use Rattle.std.proofs.lemmas.Option.{slice_get-get_or, slice_get_within}
 use Rattle.std.proofs.lemmas.List.{length-set, length-drop}
 use Rattle.rg_base.specs.declared.value.Word.{Word}
@@ -14,8 +15,9 @@ use Rattle.rg_frames.proofs.frames.Frames.set_shown.Goals as goal
 -- the window on top is the last one
 is_last : (ws : List Window) (n : ℕ) (t u : Window) → n ≡ length ws → slice_get ws (length ws - 1) ≡ Some t → u ≡ get_or ws (n - 1) u → t ≡ u
 is_last ws n t u m e f =
-    some_is t u
-    (sym e ∙ slice_get-get_or ws (length ws - 1) u (slice_get_within ws (length ws - 1) t e) ∙ ap (λ k. Some (get_or ws (k - 1) u)) (sym m) ∙ ap Some (sym f))
+    let last : slice_get ws (length ws - 1) ≡ Some (get_or ws (length ws - 1) u) =
+    slice_get-get_or ws (length ws - 1) u (slice_get_within ws (length ws - 1) t e) in
+    some_is t u (sym e ∙ last ∙ ap (λ k. Some (get_or ws (k - 1) u)) (sym m) ∙ ap Some (sym f))
   where
     some_is : (a b : Window) → Some a ≡ Some b → a ≡ b
     some_is a b q = cc
@@ -30,17 +32,19 @@ shown_within v k n u h m f =
 pub invariant_of-self : goal.invariant_of-self
 invariant_of-self c =
     let s = c.self.inside in
+    let slots : List Word = s.slots.items in
+    let live : ℕ = c.above-self-inside.result in
     let place : ℕ = c.index.result.now.base + c.args.k in
-    let n : c.len-then-eq.result ≡ length s.slots.items =
-    omega (arith, c.len-then-eq.ensures, s.slots.ok.0, length-set s.slots.items place c.args.w) in
-    let top = c.self.invariant.1.top.order in
-    let P : ℕ → Type 0 = λ z. IsPast place c.above-self-inside.result z in
-    let Q : List Frame → Type 0 = λ fs. Unwritten s.slots.items s.first fs c.above-self-inside.result s.kept.items in
-    let R : List Frame → Type 0 = λ fs. Unwritten (slice_set s.slots.items place c.args.w) s.first fs c.above-self-inside.result c.raise.new.kept.items in
-    let same : s.frames.items ≡ c.deref.result.now = sym c.deref.ensures.value in (
+    let n : c.len-then-eq.result ≡ length slots = omega (arith, c.len-then-eq.ensures, s.slots.ok.0, length-set slots place c.args.w) in
+    let within : live ≤ length slots = omega (arith, n, c.above-self-inside.ensures.within (omega (arith, n, c.self.invariant.1.top.order))) in
+    let P : ℕ → Type 0 = λ z. IsPast place live z in
+    let Q : List Frame → Type 0 = λ fs. Unwritten slots s.first fs live s.kept.items in
+    let R : List Frame → Type 0 = λ fs. Unwritten (slice_set slots place c.args.w) s.first fs live c.raise.new.kept.items in
+    let same : s.frames.items ≡ c.deref.result.now = sym c.deref.ensures.value in
+    let before : Unwritten slots s.first s.frames.items live s.kept.items =
+    unwritten-live _ _ _ _ _ _ c.above-self-inside.ensures.least within c.self.invariant.1 in (
       rw (c.raise.ensures.len, c.raise.ensures.capacity) (lies-set _ _ _ _ _ _ _ c.self.invariant.0),
-      subst R (sym same) (c.raise.ensures.nil s.slots.items c.above-self-inside.result c.args.w (subst P n c.above-self-inside.ensures.past)
-          (subst Q same (unwritten-live _ _ _ _ _ _ c.above-self-inside.ensures.least (omega (arith, n, c.above-self-inside.ensures.within (omega (arith, n, top)))) c.self.invariant.1))),
+      subst R (sym same) (c.raise.ensures.nil slots live c.args.w (subst P n c.above-self-inside.ensures.past) (subst Q same before)),
     )
 
 pub invariant_of-self-else-eq : goal.invariant_of-self-else-eq
