@@ -170,7 +170,7 @@ pub enum ExprRow {
 }
 
 /// The operators of two operands.
-#[derive(Clone, Copy, Debug, PartialEq, Eq)]
+#[derive(Clone, Copy)]
 pub enum BinOp {
     /// `or`
     Or,
