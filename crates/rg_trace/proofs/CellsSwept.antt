@@ -7,7 +7,7 @@ use Rattle.std.proofs.lemmas.Bool.{cases_eq, cases_lt}
 use Rattle.rg_cells.specs.declared.cell.Body.{Body}
 use Rattle.rg_cells.specs.Table.{Table, body_at, body_in, mark_at, freed, freed_from}
 use Rattle.rg_regions.specs.Reach.{LiesIn}
-use Rattle.rg_trace.specs.Inner.Sweeping.{Swept}
+use Rattle.rg_trace.specs.Sweeping.{Swept}
 use Rattle.rg_regions.proofs.Callers.Freed.{zero_here, count-freed, held_once, lies_within, freed_here, freed_other}
 use Rattle.rg_regions.proofs.Callers.Freed.{lies_freed, freed_lies, swapped, swapped-length, swapped-here}
 use Rattle.rg_regions.proofs.Callers.Freed.{swapped-other}

@@ -2,7 +2,7 @@ mod Marks
 mod OrphansFound
 mod CellsSwept
 mod RecordsSwept
-mod PartsJoined
+pub mod PartsJoined
 mod GroveKept
-mod StepsBound
+pub mod StepsBound
 pub mod LocalRoots

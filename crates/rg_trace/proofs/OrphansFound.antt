@@ -7,7 +7,7 @@ use Rattle.rg_regions.specs.Table.{RegionTable}
 use Rattle.rg_regions.specs.Chains.{OwnsOnce}
 use Rattle.rg_regions.specs.Owned.{FollowsFields}
 use Rattle.rg_regions.proofs.Callers.OwnedFound.{owned_begin, owned_next, owned_stays}
-use Rattle.rg_trace.specs.Inner.Orphans.{IsWhite, FollowsWhite, if_white}
+use Rattle.rg_trace.specs.Orphans.{IsWhite, FollowsWhite, if_white}
 
 -- a white member's fields were looked at
 pub searched-white : (h : Heap) (marks : List ℕ) (r : ℕ) (members : List ℕ) (i slot : ℕ) (old mid new : RegionTable)

@@ -11,10 +11,10 @@ use Rattle.rg_cells.specs.Table.{Heap, Table, field_at, body_at, body_in, mark_a
 use Rattle.rg_regions.specs.Table.{Record, RegionTable, record_at, HasNumber}
 use Rattle.rg_regions.specs.Reach.{LiesIn, Roots, Reach}
 use Rattle.rg_regions.specs.Grove.{Grove}
-use Rattle.rg_trace.specs.Inner.Marking.{Marked}
-use Rattle.rg_trace.specs.Inner.Sweeping.{Swept, Sweeps}
+use Rattle.rg_trace.specs.Marking.{Marked}
+use Rattle.rg_trace.specs.Sweeping.{Swept, Sweeps}
 use Rattle.rg_regions.specs.Collection.{ChainsOrphans}
-use Rattle.rg_trace.specs.Inner.Orphans.{FollowsWhite}
+use Rattle.rg_trace.specs.Orphans.{FollowsWhite}
 use Rattle.rg_trace.specs.Collected.{Collected, OutOfReach}
 use Rattle.rg_trace.proofs.Marks.Colours.{walk-lies}
 use Rattle.rg_regions.proofs.Callers.Told.{one_record, owns_once, lies_or_not}

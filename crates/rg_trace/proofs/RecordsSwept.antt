@@ -6,7 +6,7 @@ use Rattle.rg_regions.specs.Table.{Record, RegionTable, record_at, changed, with
 use Rattle.rg_regions.specs.Reach.{LiesIn}
 use Rattle.rg_regions.proofs.Callers.Told.{lies_held}
 use Rattle.rg_regions.proofs.Callers.Dropped.{left_begin, left_now, left_keep, left_drop}
-use Rattle.rg_trace.specs.Inner.Sweeping.{Swept, Sweeps}
+use Rattle.rg_trace.specs.Sweeping.{Swept, Sweeps}
 use Rattle.rg_trace.proofs.CellsSwept.{swept-free, swept-keep}
 
 module _ (c : Table) (t : RegionTable) (key : ℕ) (rec : Record) (e : record_at t key ≡ Some rec) where

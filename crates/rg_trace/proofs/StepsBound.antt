@@ -9,8 +9,8 @@ use Rattle.std.proofs.lemmas.List.Sums.{sum_by-cons}
 use Rattle.rg_cells.specs.declared.cell.Body.{Body}
 use Rattle.rg_cells.specs.Table.{Heap, total, body_in, body_at, width}
 use Rattle.rg_regions.specs.Reach.{LiesIn, belongs}
-use Rattle.rg_trace.specs.Inner.Marking.{weighed, if_black, black_fields}
-use Rattle.rg_trace.specs.Inner.Orphans.{if_white}
+use Rattle.rg_trace.specs.Marking.{weighed, if_black, black_fields}
+use Rattle.rg_trace.specs.Orphans.{if_white}
 use Rattle.rg_regions.specs.Collection.{region_fields}
 use Rattle.rg_regions.proofs.Callers.Fewer.{lies_belongs}
 

@@ -1,2 +1,5 @@
 pub mod Collected
+pub mod Marking
+pub mod Orphans
+pub mod Sweeping
 pub mod Inner

@@ -7,5 +7,8 @@ mod orphans;
 mod sweeping;
 mod whole;
 
+pub use mark::mark_region;
+pub use orphans::chain_orphans;
 pub use rg_regions::Kept;
+pub use sweeping::sweep;
 pub use whole::collect;

@@ -6,8 +6,10 @@ ghost use Rattle.rg_cells.specs.Table.{IsHeld, body_at, field_at, width};
 ghost use Rattle.rg_regions.specs.Chains.{LeadsToHeld};
 ghost use Rattle.rg_regions.specs.Collection.{roots_of, WordsLeadToHeld, AllHeld};
 ghost use Rattle.rg_regions.specs.Collection.{TempsLeadToHeld};
-ghost use Rattle.rg_trace.specs.Inner.Marking.{AllWhite, Greys, Scanned, ScannedTemps};
-ghost use Rattle.rg_trace.specs.Inner.Marking.{ScannedBridge, Marked, black_fields};
+ghost use Rattle.rg_trace.specs.Marking.{AllWhite};
+ghost use Rattle.rg_trace.specs.Inner.Marking.{Greys, Scanned, ScannedTemps};
+ghost use Rattle.rg_trace.specs.Marking.{Marked, black_fields};
+ghost use Rattle.rg_trace.specs.Inner.Marking.{ScannedBridge};
 
 use rg_base::{Label, Steps, Word};
 use rg_cells::Cells;

@@ -5,7 +5,7 @@ ghost use Rattle.rg_cells.specs.Table.{IsHeld, body_at, field_at, width};
 ghost use Rattle.rg_regions.specs.Table.{Record, record_at};
 ghost use Rattle.rg_regions.specs.Chains.{AllInTable, LeadsToHeld, OwnsOnce};
 ghost use Rattle.rg_regions.specs.Owned.{FollowsFields};
-ghost use Rattle.rg_trace.specs.Inner.Orphans.{IsWhite, FollowsWhite, if_white};
+ghost use Rattle.rg_trace.specs.Orphans.{IsWhite, FollowsWhite, if_white};
 
 use rg_base::{Steps, Word};
 use rg_cells::Cells;

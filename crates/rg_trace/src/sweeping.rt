@@ -1,7 +1,7 @@
 //! Sweeping: white members are freed, black ones become white
 //! (docs/architecture.md, "Mark and sweep").
 
-ghost use Rattle.rg_trace.specs.Inner.Sweeping.{IsMarked, Sweeps};
+ghost use Rattle.rg_trace.specs.Sweeping.{IsMarked, Sweeps};
 
 use rg_cells::Cells;
 use rg_regions::Regions;

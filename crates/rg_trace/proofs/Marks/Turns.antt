@@ -13,11 +13,12 @@ use Rattle.rg_base.specs.declared.object.Label.{Label}
 use Rattle.rg_base.specs.declared.object.Label.TheVariants.{Region, Temp, Frozen}
 use Rattle.rg_cells.specs.Table.{Heap, Table, field_at, body_at, body_in, width, mark_at, link_at}
 use Rattle.rg_regions.specs.Reach.{LiesIn, Roots, Walk, belongs, is_region, is_bridge, in_slots, in_temps}
-use Rattle.rg_trace.specs.Inner.Marking.{known_count, pending, black_fields, GreyChain, Marking}
+use Rattle.rg_trace.specs.Marking.{black_fields}
+use Rattle.rg_trace.specs.Inner.Marking.{known_count, pending, GreyChain, Marking}
 use Rattle.rg_trace.specs.Inner.Marking.{OnlyGreyed, Near, Greys, Scanned, ScannedTemps, ScannedBridge}
 use Rattle.rg_regions.specs.Same.{LinksStay}
 use Rattle.rg_trace.specs.Inner.Marking.{MarkingGoes}
-use Rattle.rg_trace.specs.Inner.Marking.{Marked, weighed, if_black}
+use Rattle.rg_trace.specs.Marking.{Marked, weighed, if_black}
 use Rattle.rg_trace.proofs.Marks.Weights.{known-black, fields-black, pending-black}
 use Rattle.rg_trace.proofs.Marks.Colours.{greyed, went-grey, went-none, went-then, popped, reached-marked}
 use Rattle.rg_trace.proofs.Marks.Colours.{marked-reached, none-grey, walk-lies}

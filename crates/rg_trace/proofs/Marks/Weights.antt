@@ -6,7 +6,8 @@ use Rattle.rg_cells.specs.declared.cell.Body.{Body}
 use Rattle.rg_cells.specs.Table.{Heap, total, body_in, body_at, width}
 use Rattle.rg_regions.specs.Reach.{LiesIn, belongs, region_size}
 use Rattle.rg_regions.proofs.Callers.Fewer.{lies_belongs}
-use Rattle.rg_trace.specs.Inner.Marking.{known, unfinished, if_black, weighed, known_count, pending, black_fields}
+use Rattle.rg_trace.specs.Marking.{if_black, weighed, black_fields}
+use Rattle.rg_trace.specs.Inner.Marking.{known, unfinished, known_count, pending}
 
 pub weighed-set : (f : Option Body → ℕ → ℕ) → ((m : ℕ) → f None m ≡ 0)
     → (xs : List (Option (Option Body))) (ms : List ℕ) (s v : ℕ) → s < length ms

@@ -1,21 +1,17 @@
 -- The three colours of marking: white 0, grey 1, black 2; the grey list runs through the links (docs/architecture.md,
 -- "Mark and sweep").
-use Rattle.std.specs.Prelude.{◌≡◌, ℕ, zero, suc, ◌+◌, ◌<◌, ◌≤◌, cond, List, [], ◌∷◌, length, Option, Some, None}
+use Rattle.std.specs.Prelude.{◌≡◌, ℕ, zero, suc, ◌<◌, ◌≤◌, cond, List, [], ◌∷◌, length, Option, Some, None}
 use Rattle.std.specs.Prelude.{slice_get, slice_set}
 use Rattle.std.specs.Prelude.{slice_index, slice_index_or, ◌⊎◌}
-use Rattle.rg_cells.specs.declared.cell.Body.{Body}
 use Rattle.rg_base.specs.declared.value.Word.{Word}
 use Rattle.rg_base.specs.declared.value.Word.TheVariants.{Slot}
-use Rattle.rg_cells.specs.Table.{Heap, Table, field_at, body_in, width, mark_at, link_at}
+use Rattle.rg_cells.specs.Table.{Heap, Table, field_at, mark_at, link_at}
 use Rattle.rg_regions.specs.Same.{LinksStay}
-use Rattle.rg_regions.specs.Reach.{LiesIn, Roots, Walk, Reach, belongs}
+use Rattle.rg_regions.specs.Reach.{LiesIn, Roots, Walk, belongs}
+use Rattle.rg_trace.specs.Marking.{weighed, black_fields}
 use Rattle.rg_regions.specs.Table.{Has}
 
--- no cell of a region has a mark
-abbrev pub AllWhite : Table → (region : ℕ) → Type 0
-AllWhite c r = (s : ℕ) → LiesIn c.heap r s → mark_at c s ≡ 0
-
--- one for a mark that is grey or black; one for a mark that isn't black; the weight, where the mark is black
+-- one for a mark that is grey or black; one for a mark that isn't black
 abbrev pub known : ℕ → ℕ
 known zero = 0
 known (suc n) = 1
@@ -25,26 +21,12 @@ unfinished zero = 1
 unfinished (suc zero) = 1
 unfinished (suc (suc n)) = 0
 
-abbrev pub if_black : ℕ → ℕ → ℕ
-if_black w zero = 0
-if_black w (suc zero) = 0
-if_black w (suc (suc n)) = w
-
--- the slots together, each weighed with its mark
-abbrev pub weighed : (Option Body → ℕ → ℕ) → List (Option (Option Body)) → List ℕ → ℕ
-weighed f [] ms = 0
-weighed f (x ∷ xs) [] = f (body_in x) 0 + weighed f xs []
-weighed f (x ∷ xs) (m ∷ ms) = f (body_in x) m + weighed f xs ms
-
--- how many cells of a region are grey or black, how many aren't black, and the fields of the black ones
+-- how many cells of a region are grey or black, and how many aren't black
 abbrev pub known_count : Heap → ℕ → List ℕ → ℕ
 known_count h r marks = weighed (λ b m. cond (belongs r b) (known m) 0) h.slots marks
 
 abbrev pub pending : Heap → ℕ → List ℕ → ℕ
 pending h r marks = weighed (λ b m. cond (belongs r b) (unfinished m) 0) h.slots marks
-
-abbrev pub black_fields : Heap → ℕ → List ℕ → ℕ
-black_fields h r marks = weighed (λ b m. cond (belongs r b) (if_black (width b) m) 0) h.slots marks
 
 -- the grey cells, each once, from the head through the links
 abbrev pub GreyChain : Heap → ℕ → List ℕ → List (Option ℕ) → Option ℕ → List ℕ → Type 0
@@ -146,12 +128,3 @@ pub record MarkingGoes (h : Heap) (r : ℕ) (roots : Roots) (first t : Table) (h
   pub done : BlackDone h r t.marks
   pub roots_known : (s : ℕ) → Walk h r roots zero s → 0 < mark_at t s
   pub outside : (s : ℕ) → (LiesIn h r s → ⊥) → (mark_at t s ≡ mark_at first s) × (link_at t s ≡ link_at first s)
-
--- a region is marked: the cells in reach are black, its other cells are white, and no other mark or link changed
-pub record Marked (h : Heap) (r : ℕ) (roots : Roots) (old new : Table) : Type 0 where
-  pub heap : new.heap ≡ h
-  pub reached : (s : ℕ) → Reach h r roots s → 1 < mark_at new s
-  pub only : (s : ℕ) → LiesIn h r s → 0 < mark_at new s → Reach h r roots s
-  pub closed : (s k to : ℕ) → LiesIn h r s → 1 < mark_at new s → field_at h s k ≡ Some (Slot to) → LiesIn h r to
-      → 1 < mark_at new to
-  pub outside : (s : ℕ) → (LiesIn h r s → ⊥) → (mark_at new s ≡ mark_at old s) × (link_at new s ≡ link_at old s)

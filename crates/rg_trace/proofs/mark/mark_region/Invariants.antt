@@ -1,6 +1,7 @@
 use Rattle.std.proofs.Common.{◌≡◌, ◌+◌, sum_by}
 use Rattle.rg_cells.specs.Table.{width, body_at}
-use Rattle.rg_trace.specs.Inner.Marking.{MarkingGoes, pending, black_fields}
+use Rattle.rg_trace.specs.Marking.{black_fields}
+use Rattle.rg_trace.specs.Inner.Marking.{MarkingGoes, pending}
 use Rattle.rg_trace.proofs.mark.mark_region.Given as goal
 
 abbrev pub invariant-grey : goal.invariant-grey

@@ -1,6 +1,6 @@
 use Rattle.std.proofs.Common.{arith}
 use Rattle.rg_regions.proofs.Callers.OwnedFound.{fields_more}
-use Rattle.rg_trace.specs.Inner.Orphans.{IsWhite}
+use Rattle.rg_trace.specs.Orphans.{IsWhite}
 use Rattle.rg_trace.proofs.orphans.chain_fields.Goals as goal
 
 pub loop-k-preserved : goal.loop-k-preserved

@@ -1,6 +1,6 @@
 use Rattle.std.proofs.Common.{◌≡◌, ◌+◌}
 use Rattle.rg_regions.specs.Owned.{FollowsFields}
-use Rattle.rg_trace.specs.Inner.Orphans.{IsWhite}
+use Rattle.rg_trace.specs.Orphans.{IsWhite}
 use Rattle.rg_trace.proofs.orphans.chain_fields.Given as goal
 
 abbrev pub invariant-loop-k : goal.invariant-loop-k

@@ -5,7 +5,7 @@ use Rattle.std.proofs.lemmas.List.{take_all}
 use Rattle.std.proofs.lemmas.List.Sums.{sum_by_more}
 use Rattle.rg_regions.specs.Table.{Record, record_at, InTable}
 use Rattle.rg_regions.specs.Reach.{LiesIn}
-use Rattle.rg_trace.specs.Inner.Orphans.{FollowsWhite, if_white}
+use Rattle.rg_trace.specs.Orphans.{FollowsWhite, if_white}
 use Rattle.rg_trace.proofs.OrphansFound.{searched-none, searched-white, searched-black, white-width, black-width}
 use Rattle.rg_trace.proofs.orphans.chain_orphans.Goals as goal
 use Rattle.rg_regions.proofs.Callers.Told.{one_record, same_members, lies_held}

@@ -1,6 +1,6 @@
 use Rattle.std.proofs.Common.{◌≡◌, ◌+◌, Some, sum_by, take}
 use Rattle.rg_regions.specs.Table.{Record, record_at}
-use Rattle.rg_trace.specs.Inner.Orphans.{FollowsWhite, if_white}
+use Rattle.rg_trace.specs.Orphans.{FollowsWhite, if_white}
 use Rattle.rg_trace.proofs.orphans.chain_orphans.Given as goal
 
 abbrev pub invariant-loop-place : goal.invariant-loop-place

@@ -1,6 +1,6 @@
 use Rattle.std.proofs.Common.{◌≡◌, ◌≢◌, ℕ, ◌-◌, length, get_or, ap, sym, ◌∙◌, subst, arith, List}
 use Rattle.rg_cells.specs.Table.{IsHeld, mark_at}
-use Rattle.rg_trace.specs.Inner.Sweeping.{Sweeps}
+use Rattle.rg_trace.specs.Sweeping.{Sweeps}
 use Rattle.rg_trace.proofs.RecordsSwept.{sweeps-begin, sweeps-free, sweeps-keep, at-turn}
 use Rattle.rg_trace.proofs.sweeping.sweep.Goals as goal
 use Rattle.rg_regions.proofs.Callers.Told.{same_members}

@@ -4,8 +4,8 @@ use Rattle.rg_cells.specs.Table.{Heap, field_at, body_at, width, IsHeld, mark_at
 use Rattle.rg_base.specs.declared.value.Word.TheVariants.{Slot}
 use Rattle.rg_regions.specs.Table.{Record, record_at, InTable}
 use Rattle.rg_regions.specs.Reach.{LiesIn, Roots}
-use Rattle.rg_trace.specs.Inner.Marking.{Marked, black_fields}
-use Rattle.rg_trace.specs.Inner.Orphans.{FollowsWhite, if_white}
+use Rattle.rg_trace.specs.Marking.{Marked, black_fields}
+use Rattle.rg_trace.specs.Orphans.{FollowsWhite, if_white}
 use Rattle.rg_regions.specs.Collection.{ChainsOrphans, region_fields}
 use Rattle.rg_trace.specs.Collected.{Collected, OutOfReach}
 use Rattle.rg_trace.proofs.PartsJoined.{all-white, swept-begin, not-grey, collected, orphaning}

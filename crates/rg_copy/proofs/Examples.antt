@@ -1,0 +1,2 @@
+-- The definition tried on small heaps.
+mod Slides
