@@ -3,6 +3,7 @@
 #![tactic(auto)]
 
 mod code;
+mod dues;
 mod headings;
 mod instructions;
 mod op;

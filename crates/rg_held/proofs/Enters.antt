@@ -174,7 +174,12 @@ entered-same u w m owner b o z r there lies here c free mine beneath = (
     machine = part-put m.0 [] (record u.machine { windows = fresh u.machine ∷ u.machine.windows; windows_made = u.machine.windows_made + 1 })
         (record w.machine { windows = fresh w.machine ∷ w.machine.windows; windows_made = w.machine.windows_made + 1 }) []
         (part-window m.0 u.machine w.machine p (fresh w.machine) (fresh u.machine ∷ u.machine.windows) (u.machine.windows_made + 1)
-        (ap (λ ws. fresh u.machine ∷ ws) p.windows ∙ ap (λ n. record { number = n; region = r; owner = Some owner; base = place_of u.machine.frames z }
+        (ap (λ ws. fresh u.machine ∷ ws) p.windows ∙ ap (λ n. record {
+          number = n;
+          region = r;
+          owner = Some owner;
+          base = place_of u.machine.frames z;
+        }
         ∷ w.machine.windows) p.windows_made
         ∙ ap (λ fs. record { number = w.machine.windows_made; region = r; owner = Some owner; base = place_of fs z } ∷ w.machine.windows) p.frames)
         (ap (λ n. n + 1) p.windows_made) refl c (p.tidy.labels b o r there lies) (p.held_managers b o r here there lies) mine beneath)
@@ -333,7 +338,8 @@ module _ (code : Code) (at : ℕ) (also go : Go) (u w : Work) (taken : Truth) wh
       outside r Frozen h c = refl
 
       by : (x : Option Seen) → slice_get w.machine.store a ≡ x → elim (ok_or {T = Seen} x trap.Nil) [
-        | Ok o ↦ owned_once w.machine && is_field w.machine k o && owns_or_nil w.machine (field_of o k) && not (is_closed w.machine (slot_at w.machine z))
+        | Ok o ↦ owned_once w.machine && is_field w.machine k o && owns_or_nil w.machine (field_of o k) && not
+            (is_closed w.machine (slot_at w.machine z))
         | Err t ↦ true
       ] ≡ true → SameEnd (left x) (right x)
       by None e n = refl

@@ -264,7 +264,8 @@ module _ (held : ℕ → Truth) (owners : List Val) (f m : Machine) (stack : Lis
     fields = λ a h k v at field. (let w = was a h at in ap (λ n. leads_to (λ b. nat_lt b n) v) (length-map m.store (relabelled_object rs new))
         ∙ p.tidy.fields a w.before k v w.found (ap (λ vs. slice_get vs k) (sym w.fields) ∙ field));
     inside = λ a h q k v l at lies field is. (let w = was a h at in
-        by q v l (label_of m.store v) refl (sym (label-map v) ∙ is) (λ j e. may a w.before k v j q w.found (ap (λ vs. slice_get vs k) (sym w.fields) ∙ field) e
+        by q v l (label_of m.store v) refl (sym (label-map v) ∙ is) (λ j e. may a w.before k v j q w.found
+        (ap (λ vs. slice_get vs k) (sym w.fields) ∙ field) e
         (sym w.label ∙ lies)));
   }
     where

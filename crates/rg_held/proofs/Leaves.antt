@@ -16,10 +16,12 @@ use Rattle.rg_code.specs.declared.op.Op.TheVariants as i
 use Rattle.rg_code.specs.Code.{Code}
 use Rattle.rg_stack.specs.Machine.{Frame, Window, Machine, top_slots, end_slots, place_of}
 use Rattle.rg_stack.specs.Effects.{Work, Go, act, without_top, top_window, beneath_by_labels}
-use Rattle.rg_stack.specs.Needs.{is_open, has_window, label_of, is_into, closed_into, is_outside, owned_once, is_top_temp, is_to_temp, outlives, field_of}
+use Rattle.rg_stack.specs.Needs.{is_open, has_window, label_of, is_into, closed_into, is_outside, owned_once, is_top_temp, is_to_temp, outlives}
+use Rattle.rg_stack.specs.Needs.{field_of}
 use Rattle.rg_stack.specs.Needs.{top_base, temps_may_go, owner_leads, owner_at, value_at, needs}
 use Rattle.rg_held.specs.Frees.{gone, is_temp, closed_among, closed_by_temps, left_with, window_that_ends, bury, free_act, freed}
-use Rattle.rg_held.specs.Part.{leads_to, SlotInto, FieldInto, Placed, Tidy, Part, is_of, OwnerHeld, OwnersHeld, SomeWindow, is_shut_or_above, may_lead, Differ}
+use Rattle.rg_held.specs.Part.{leads_to, SlotInto, FieldInto, Placed, Tidy, Part, is_of, OwnerHeld, OwnersHeld, SomeWindow, is_shut_or_above}
+use Rattle.rg_held.specs.Part.{may_lead, Differ}
 use Rattle.rg_held.specs.Ends.{Match, SameEnd}
 use Rattle.rg_held.specs.Laws.{owners_of, GoesOn}
 use Rattle.rg_held.proofs.Lists.{some-is, none-some, off, any-at, at-any, drop-back, reverse-back}
@@ -58,7 +60,8 @@ filtered-in t (y ∷ ys) (suc j) x e p = by (t y) (filtered-in t ys j x e p)
     by true r = (suc r.0, r.1)
     by false r = r
 
-mapped-back : {A : Type 0} (h : A → List ℕ) (xs : List A) (q : ℕ) → In q (flat_map h xs) → (i : ℕ) × ((x : A) × (slice_get xs i ≡ Some x) × In q (h x))
+mapped-back : {A : Type 0} (h : A → List ℕ) (xs : List A) (q : ℕ) → In q (flat_map h xs) → (i : ℕ)
+    × ((x : A) × (slice_get xs i ≡ Some x) × In q (h x))
 mapped-back h [] q j = absurd j
 mapped-back h (x ∷ xs) q j = elim (in-split (h x) (flat_map h xs) q j) [
   | inl here ↦ (0, (x, refl, here))
@@ -427,7 +430,8 @@ module _ (held : ℕ → Truth) (f m : Machine) (s : ℕ) (p : Part held [] f m 
         (ap (has_window (v ∷ rest)) (sym (some-is n k is)) ∙ (subst Differ e p.tidy.differ).1);
     owners_given = λ q c any. inl (let h = any-at (is_into m.store q) behind any in
         in-left (closed_among f (drop s (top_slots f.frames))) (closed_by_temps f) q
-        (among-in held [] f m [] p (drop s (top_slots f.frames)) h.0 h.1.0 q (ap (λ l. slice_get l h.0) same ∙ h.1.1) (lead h.0 h.1.0 h.1.1) h.1.2 c));
+        (among-in held [] f m [] p (drop s (top_slots f.frames)) h.0 h.1.0 q (ap (λ l. slice_get l h.0) same ∙ h.1.1)
+        (lead h.0 h.1.0 h.1.1) h.1.2 c));
   }
 
   buried : Half (left_held held m.store all (Some n)) [] (record (end_slots f s) { store = bury all (Some n) f.store }) (end_slots m s) []

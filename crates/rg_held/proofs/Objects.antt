@@ -1,6 +1,7 @@
 -- Instructions that make objects or write fields, beside those over the growing store.
 use Rattle.std.proofs.Common.{◌≡◌, ℕ, zero, suc, ◌==◌, ◌<◌, inl, inr, true, false, true≢false, not, Bool as Truth, List, [], ◌∷◌, ◌++◌}
-use Rattle.std.proofs.Common.{length, map, Option, Some, None, Ok, Err, option_and_then, is_some, unwrap_or, refl, sym, ap, subst, ◌∙◌, arith, slice_get}
+use Rattle.std.proofs.Common.{length, map, Option, Some, None, Ok, Err, option_and_then, is_some, unwrap_or, refl, sym, ap, subst, ◌∙◌, arith}
+use Rattle.std.proofs.Common.{slice_get}
 use Rattle.std.proofs.Common.{slice_set}
 use Rattle.std.specs.Prelude.{◌||◌, ◌&&◌, nat_lt, ok_or, if◌then◌else◌}
 use Rattle.rg_base.specs.declared.object.Label.{Label}
@@ -361,7 +362,8 @@ module _ (code : Code) (at : ℕ) (also go : Go) (u w : Work) (taken : Truth) wh
     | Ok o ↦ owned_once w.machine && is_field w.machine k o && owns_or_nil w.machine (field_of o k) && owns_or_nil w.machine (slot_at w.machine s)
     | Err t ↦ true
   ] ≡ true → Match (r ∷ []) u w (r ∷ []) → GoesOn true also go
-      → SameEnd (on_object u.machine.store r (λ o. also 0 [] (stored (with_store u (put_in u.machine.store r k (slot_at u.machine s))) s (field_of o k))))
+      → SameEnd (on_object u.machine.store r (λ o. also 0 [] (stored (with_store u (put_in u.machine.store r k (slot_at u.machine s))) s
+      (field_of o k))))
       (on_object w.machine.store r (λ o. go 0 [] (stored (with_store w (put_in w.machine.store r k (slot_at w.machine s))) s (field_of o k))))
   swap-value s k val.Nil less n m next = refl
   swap-value s k (val.Int z) less n m next = refl

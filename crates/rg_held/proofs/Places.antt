@@ -9,7 +9,8 @@ use Rattle.rg_base.specs.declared.value.Val.{Val}
 use Rattle.rg_base.specs.declared.value.Val.TheVariants as val
 use Rattle.rg_rules.specs.Regions.{region_of, region_at}
 use Rattle.rg_stack.specs.Machine.{Frame, Machine}
-use Rattle.rg_stack.specs.Needs.{is_open, label_of, lies_in, is_into, closed_of, closed_into, is_closed, is_outside, slots_into, fields_into, places_into}
+use Rattle.rg_stack.specs.Needs.{is_open, label_of, lies_in, is_into, closed_of, closed_into, is_closed, is_outside, slots_into, fields_into}
+use Rattle.rg_stack.specs.Needs.{places_into}
 use Rattle.rg_stack.specs.Needs.{all_below, owned_once}
 use Rattle.rg_held.specs.Part.{SlotInto, FieldInto}
 use Rattle.rg_held.proofs.Lists.{some-is, none-some, off, sum-one, sum-two, count-one, count-two}
@@ -211,7 +212,8 @@ field-field m r most p q = elim (sum-two (λ (o : Seen). cond (is_outside m.wind
           let there : slice_get p.holder.fields q.field ≡ Some q.value = ap (λ (o : Seen). slice_get o.fields q.field) h ∙ q.value_there in
           elim (count-two (is_into m.store r) p.holder.fields p.field q.field p.value q.value p.value_there there p.into q.into) [
             | inl at ↦ (same, at)
-            | inr two ↦ (let a = sum-one (λ (o : Seen). cond (is_outside m.windows r o.label) (count_by (is_into m.store r) o.fields) 0) m.store p.object
+            | inr two ↦ (let a = sum-one (λ (o : Seen). cond (is_outside m.windows r o.label)
+                (count_by (is_into m.store r) o.fields) 0) m.store p.object
                 p.holder p.holder_there in let c = outside-count m r p in absurd (omega (arith, a, c, two, most)))
           ])
       | inr two ↦

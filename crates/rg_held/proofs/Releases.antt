@@ -44,7 +44,8 @@ given-back {A = A} h (y ∷ ys) q j = by (h y) refl (given-back h ys q)
     P : List ℕ → Type 0
     P l = In q l
 
-    later : ((i : ℕ) × ((x : A) × (slice_get ys i ≡ Some x) × (h x ≡ Some q))) → (i : ℕ) × ((x : A) × (slice_get (y ∷ ys) i ≡ Some x) × (h x ≡ Some q))
+    later : ((i : ℕ) × ((x : A) × (slice_get ys i ≡ Some x) × (h x ≡ Some q))) → (i : ℕ)
+        × ((x : A) × (slice_get (y ∷ ys) i ≡ Some x) × (h x ≡ Some q))
     later r = (suc r.0, r.1)
 
     by : (o : Option ℕ) → h y ≡ o → (In q (filter_map h ys) → (i : ℕ) × ((x : A) × (slice_get ys i ≡ Some x) × (h x ≡ Some q)))

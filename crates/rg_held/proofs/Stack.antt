@@ -23,7 +23,8 @@ use Rattle.rg_held.proofs.Lists.{off}
 use Rattle.rg_held.proofs.Parts.{part-stack, part-owners, top-slot}
 
 -- another stack
-abbrev pub match-stack : (owners : List Val) (u w : Work) (stack left : List Val) (m : Match owners u w stack) → AllLead m.0 left → Match owners u w left
+abbrev pub match-stack : (owners : List Val) (u w : Work) (stack left : List Val) (m : Match owners u w stack) → AllLead m.0 left
+    → Match owners u w left
 match-stack owners u w stack left m h = (
   m.0,
   record {

@@ -1,5 +1,6 @@
 -- What is said of the bytes that are held, and what of it stays.
-use Rattle.std.proofs.Common.{◌≡◌, ℕ, inl, inr, true, false, List, [], ◌++◌, Bool, Option, Some, None, IfSome, ℤ, Result, Ok, Err, IfOk, OnOk, refl, sym, ◌∙◌, ap}
+use Rattle.std.proofs.Common.{◌≡◌, ℕ, inl, inr, true, false, List, [], ◌++◌, Bool, Option, Some, None, IfSome, ℤ, Result, Ok, Err, IfOk, OnOk, refl}
+use Rattle.std.proofs.Common.{sym, ◌∙◌, ap}
 use Rattle.std.proofs.Common.{subst, append_assoc}
 use Rattle.std.specs.Option.{option_to_list}
 use Rattle.std.proofs.lemmas.Bool.{false≢true}

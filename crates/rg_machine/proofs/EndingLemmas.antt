@@ -1,6 +1,7 @@
 -- Slots that end one after another, from the last one on: what goes with each, and the machine behind all.
 use Rattle.std.proofs.Common.{◌≡◌, ◌≤◌, ◌<◌, ◌||◌, ◌⊎◌, inl, inr, ℕ, zero, suc, ◌-◌, Bool as Truth, true, false, if◌then◌else◌, List, [], ◌∷◌}
-use Rattle.std.proofs.Common.{◌++◌, length, take, drop, replicate, slice_index_or, Option, Some, None, option_map, option_and_then, slice_get, slice_set}
+use Rattle.std.proofs.Common.{◌++◌, length, take, drop, replicate, slice_index_or, Option, Some, None, option_map, option_and_then, slice_get}
+use Rattle.std.proofs.Common.{slice_set}
 use Rattle.std.proofs.Common.{unwrap_or, refl, sym, ap, ◌∙◌, arith}
 use Rattle.std.specs.Prelude.{filter_map}
 use Rattle.std.proofs.lemmas.Bool.{false≢true}

@@ -37,7 +37,8 @@ use Rattle.rg_machine.specs.Core.{Has, work_of}
 use Rattle.rg_machine.specs.Frames.{can_open}
 use Rattle.rg_machine.specs.Parts.{core_of}
 use Rattle.rg_machine.specs.Stands.{AllLead, Stands}
-use Rattle.rg_machine.proofs.EnterLemmas.{ParentBeneath, Entered, and-both, entered-by, entered_stack, got-there, machine-entered, opens-both, opens-within}
+use Rattle.rg_machine.proofs.EnterLemmas.{ParentBeneath, Entered, and-both, entered-by, entered_stack, got-there, machine-entered, opens-both}
+use Rattle.rg_machine.proofs.EnterLemmas.{opens-within}
 
 eq-true : (a b : ℕ) → (a == b) ≡ true → a ≡ b
 eq-true a b h = grind (arith, h)

@@ -1,6 +1,7 @@
 -- A window that comes, over the slot into which its region's bridge goes.
 use Rattle.std.proofs.Common.{◌≡◌, ◌≤◌, ◌<◌, ◌⊎◌, inl, inr, ℕ, zero, suc, ◌+◌, ◌-◌, Bool as Truth, true, false, ◌||◌, List, [], ◌∷◌, ◌++◌}
-use Rattle.std.proofs.Common.{◌==◌, ◌&&◌, not, nat_lt, Ok, Err, if◌then◌else◌, unwrap_or, is_some, option_map, Option, Some, None, length, take, drop, reverse, slice_get, slice_set, slice_index_or, refl, sym, ap, ◌∙◌, subst, arith}
+use Rattle.std.proofs.Common.{◌==◌, ◌&&◌, not, nat_lt, Ok, Err, if◌then◌else◌, unwrap_or, is_some, option_map, Option, Some, None, length, take, drop}
+use Rattle.std.proofs.Common.{reverse, slice_get, slice_set, slice_index_or, refl, sym, ap, ◌∙◌, subst, arith}
 use Rattle.std.proofs.Common.{length-append}
 use Rattle.std.specs.List.{list_any}
 use Rattle.std.proofs.lemmas.Bool.{false≢true}

@@ -1,6 +1,7 @@
 -- Machines in which fewer places lead into regions: where slots are nil, and where objects are gone.
 use Rattle.std.proofs.Common.{◌≡◌, ◌≤◌, ◌<◌, ◌==◌, ◌||◌, ◌&&◌, ◌⊎◌, inl, inr, ℕ, zero, suc, ◌+◌, ◌-◌, Bool as Truth, true, false, cond, List, [], ◌∷◌}
-use Rattle.std.proofs.Common.{◌++◌, map, length, take, replicate, Option, Some, None, option_map, option_and_then, slice_get, slice_set, slice_index_or, unwrap_or}
+use Rattle.std.proofs.Common.{◌++◌, map, length, take, replicate, Option, Some, None, option_map, option_and_then, slice_get, slice_set}
+use Rattle.std.proofs.Common.{slice_index_or, unwrap_or}
 use Rattle.std.proofs.Common.{if◌then◌else◌, nat_le, refl, sym, ap, ◌∙◌, arith}
 use Rattle.std.specs.List.{sum_by, count_by}
 use Rattle.std.proofs.lemmas.Bool.{false≢true}

@@ -1,5 +1,6 @@
 -- The effect of a window's end, where what its slots own has gone in front of it.
-use Rattle.std.proofs.Common.{◌≡◌, ◌≢◌, ◌≤◌, ◌<◌, zero, suc, drop, replicate, slice_get, ◌-◌, ◌^◌, ◌&&◌, ℕ, true, List, [], ◌∷◌, length, reverse, nat_le, Some, refl, sym, ap}
+use Rattle.std.proofs.Common.{◌≡◌, ◌≢◌, ◌≤◌, ◌<◌, zero, suc, drop, replicate, slice_get, ◌-◌, ◌^◌, ◌&&◌, ℕ, true, List, [], ◌∷◌, length, reverse}
+use Rattle.std.proofs.Common.{nat_le, Some, refl, sym, ap}
 use Rattle.std.proofs.Common.{◌∙◌, subst, arith}
 use Rattle.std.proofs.lemmas.Bool.{false≢true}
 use Rattle.std.proofs.lemmas.List.{length-map, length-reverse}

@@ -1,6 +1,7 @@
 -- The bridge of the active region is what the topmost window's owner leads to in the state of the machine that never frees.
 use Rattle.std.proofs.Common.{◌≡◌, ◌≢◌, ◌<◌, ◌⊎◌, inl, inr, ℕ, ◌-◌, Bool as Truth, true, false, if◌then◌else◌, List, [], ◌∷◌}
-use Rattle.std.proofs.Common.{length, reverse, Option, Some, None, option_map, option_and_then, option_to_list, slice_get, refl, sym, ap, ◌∙◌, subst, arith}
+use Rattle.std.proofs.Common.{length, reverse, Option, Some, None, option_map, option_and_then, option_to_list, slice_get, refl, sym, ap, ◌∙◌, subst}
+use Rattle.std.proofs.Common.{arith}
 use Rattle.std.proofs.lemmas.Bool.{cases_eq}
 use Rattle.std.proofs.lemmas.Option.{none-some, same_Some, slice_get_within}
 use Rattle.rg_base.specs.declared.ty.Ty.{Ty}
@@ -229,7 +230,8 @@ module _ (p : Parts) (v : Stack) (at : ℕ) (t : Tree) (code : Code) (s : State)
       }
 
   field-bridged : (b k x : ℕ) → FieldOf s.store b k x → region_at s.store x ≡ Some r → holds h b ≡ true
-      → ((o : Seen) → slice_get s.store b ≡ Some o → ((n : ℕ) × (o.label ≡ Region n) × (n ≢ r)) ⊎ ((n : ℕ) × (o.label ≡ Temp n) × (n ≢ a.window.number)))
+      → ((o : Seen) → slice_get s.store b ≡ Some o → ((n : ℕ) × (o.label ≡ Region n) × (n ≢ r))
+      ⊎ ((n : ℕ) × (o.label ≡ Temp n) × (n ≢ a.window.number)))
       → Bridged (place.Field b k)
   field-bridged b k x f is held label =
       let c = cell p v at t code s m z b held in

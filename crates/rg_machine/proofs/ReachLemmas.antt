@@ -162,7 +162,8 @@ kept-reached t code s mid new m w rec told fit shows part serials g gn st top kn
 pub kept-traced : (t : Tree) (code : Code) (s : State) (mid new : Whole) (m : Machine) (told : Collected)
     → Fit t s → Shows t.classes code m s → Part (holds mid.heap.cells.heap) [] (machine_in mid) m []
     → Serials mid.heap.cells.heap → Grove mid.heap.cells mid.heap.regions → Grove new.heap.cells new.heap.regions
-    → Stands mid.heap mid.frames → OnTop mid.frames (λ w. OfRegion mid.heap.regions w.region (λ rec. CollectsBy rec.manager mid.heap new.heap w.region rec
+    → Stands mid.heap mid.frames → OnTop mid.frames (λ w. OfRegion mid.heap.regions w.region
+    (λ rec. CollectsBy rec.manager mid.heap new.heap w.region rec
     (roots_of rec.bridge (drop w.base mid.frames.slots) (top_temps mid.frames)) (Some told)))
     → told.manager ≡ Trace → told.kept ≡ length (plain_reach s)
 kept-traced t code s mid new m told fit shows part serials g gn st collects is =
@@ -175,7 +176,8 @@ kept-traced t code s mid new m told fit shows part serials g gn st collects is =
     counts e = cc
 
     by : (manager : Manager) → a.rec.manager ≡ manager
-        → CollectsBy manager mid.heap new.heap a.window.region a.rec (roots_of a.rec.bridge (drop a.window.base mid.frames.slots) (top_temps mid.frames))
+        → CollectsBy manager mid.heap new.heap a.window.region a.rec (roots_of a.rec.bridge (drop a.window.base mid.frames.slots)
+        (top_temps mid.frames))
         (Some told)
         → told.kept ≡ length (plain_reach s)
     by Arena e x = absurd (none-some told (sym x.0))

@@ -1,6 +1,7 @@
 -- The slots of the machine and the variables that they show: from the topmost window's base on they are the same.
 use Rattle.std.proofs.Common.{◌≡◌, ◌⊎◌, inl, inr, ℕ, zero, suc, ◌+◌, ◌-◌, ◌≤◌, ◌<◌, ◌==◌, nat_lt, Bool as Truth, true, false, if◌then◌else◌}
-use Rattle.std.proofs.Common.{List, [], ◌∷◌, ◌++◌, length, map, take, drop, replicate, reverse, Option, Some, None, option_map, slice_get, length-append}
+use Rattle.std.proofs.Common.{List, [], ◌∷◌, ◌++◌, length, map, take, drop, replicate, reverse, Option, Some, None, option_map, slice_get}
+use Rattle.std.proofs.Common.{length-append}
 use Rattle.std.proofs.Common.{refl, sym, ap, ◌∙◌, subst, arith}
 use Rattle.std.proofs.lemmas.List.{length-map, length-reverse, reverse-append, length-take-le}
 use Rattle.std.proofs.lemmas.Option.{none-some, same_Some, slice_get-map, slice_get_within}
@@ -221,7 +222,8 @@ local-in n k number i (c ∷ bs) (suc d) b l there at count from =
     let less : nat_lt n (length bs) ≡ true = below from in
     let x = local-in n k number i bs d b l there at (omega (arith, count)) from in (
       length c.locals + x.0,
-      ap (λ t. slice_get (if t then c.locals ++ locals_from n k bs else (if n == length bs then drop k c.locals else [])) (length c.locals + x.0)) less
+      ap (λ t. slice_get (if t then c.locals ++ locals_from n k bs else (if n == length bs then drop k c.locals else []))
+          (length c.locals + x.0)) less
           ∙ get-right c.locals (locals_from n k bs) x.0 l x.1,
     )
   where

@@ -220,7 +220,8 @@ module _ (old : Parts) (v : Stack) (at : ℕ) (q : Serials old.cells.heap) (g : 
     ]
 
     closed-in : (r : ℕ) → Goes r → InTable old.regions r → IsClosed old.regions v r
-    closed-in r b known = not-open-closed old.regions v (keyed old v at q g s.opened) r known (never (is_open (windows_of old.regions v) r) (goes-closed r b))
+    closed-in r b known = not-open-closed old.regions v (keyed old v at q g s.opened) r known
+        (never (is_open (windows_of old.regions v) r) (goes-closed r b))
 
     -- beneath the topmost one, a region is led into from another one
     owner : (r : ℕ) → Goes r → (r ≡ top) ⊎ ((p : ℕ) × Parent old.cells.heap p r)

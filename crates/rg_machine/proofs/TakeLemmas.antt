@@ -136,12 +136,13 @@ taken-all (y ∷ xs) (suc i) le =
 
 -- the machine in which slots are nil
 pub ended-core : (p : Parts) (s : ℕ) → core_of (record p { frames = ended p.frames s }) ≡ with_machine (core_of p) (end_slots (machine_in p) s)
-ended-core p s = ap (λ fs. with_machine (core_of p) (record (machine_in p) { frames = fs })) (elim (order (p.frames.first + s) (length p.frames.slots)) [
-  | inl lt ↦ ended-frames p.heap.cells.heap p.frames s (omega (arith, lt))
-  | inr le ↦
-      ap (λ slots. frames_of p.heap.cells.heap (record p.frames { slots = slots })) (taken-all p.frames.slots (p.frames.first + s) le)
-      ∙ end-past p.heap.cells.heap p.frames.slots p.frames.first s (reverse p.frames.frames) (omega (arith, le))
-])
+ended-core p s = ap (λ fs. with_machine (core_of p) (record (machine_in p) { frames = fs }))
+    (elim (order (p.frames.first + s) (length p.frames.slots)) [
+      | inl lt ↦ ended-frames p.heap.cells.heap p.frames s (omega (arith, lt))
+      | inr le ↦
+          ap (λ slots. frames_of p.heap.cells.heap (record p.frames { slots = slots })) (taken-all p.frames.slots (p.frames.first + s) le)
+          ∙ end-past p.heap.cells.heap p.frames.slots p.frames.first s (reverse p.frames.frames) (omega (arith, le))
+    ])
 
 ended-twice : (vs : List Val) (s : ℕ) → ended_slots s (ended_slots s vs) ≡ ended_slots s vs
 ended-twice vs zero = nil-again (length vs - 0) 0

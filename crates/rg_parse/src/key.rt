@@ -2,8 +2,8 @@
 
 use std::hash::{DefaultHasher, Hasher};
 
-/// A digest of all bytes of a source, SipHash-1-3: whoever chooses other names changes it. No answer
-/// depends on it, so no clause says which it is.
+/// A digest of all bytes of a source, SipHash-1-3: whoever chooses other names changes it. No
+/// answer depends on it, so no clause says which it is.
 pub(crate) fn key_of(source: &[u8]) -> u64 {
     let mut hasher = DefaultHasher::new();
     hasher.write(source);

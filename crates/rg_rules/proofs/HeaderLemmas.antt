@@ -50,7 +50,8 @@ assoc (Err e) b d = refl
 
 -- the header of one member, and then those of the others
 pub member_headers-cons : (classes : List Class) (c : Class) (earlier : List Name) (m : Member) (ms : List Member) →
-    member_headers classes c earlier (m ∷ ms) ≡ ◌>>◌ (member_headers classes c earlier (m ∷ [])) (member_headers classes c (member_name m ∷ earlier) ms)
+    member_headers classes c earlier (m ∷ ms) ≡ ◌>>◌ (member_headers classes c earlier (m ∷ []))
+    (member_headers classes c (member_name m ∷ earlier) ms)
 member_headers-cons classes c earlier (field f) ms = assoc (at_line f.line (test (not (among f.name earlier)) Duplicate)) _ _
 member_headers-cons classes c earlier (method m) ms = assoc (at_line m.line (test (not (among m.name earlier)) Duplicate)) _ _
 
@@ -115,7 +116,8 @@ method_header-parts classes c m h =
     record {
       receiver = r.0;
       params = λ i p g. param-good classes [] m.params i p s.1 g;
-      result = λ w e. let given : result_header classes (Some w) ≡ Ok tt = rw e at s.2 in let g = then-ok (good_type classes w) _ tt given in (g.0, g.1);
+      result = λ w e. let given : result_header classes (Some w) ≡ Ok tt = rw e at s.2 in let g = then-ok (good_type classes w) _ tt given
+          in (g.0, g.1);
     }
 
 -- and so is that of a result

@@ -105,11 +105,13 @@ unfolding plain_from
 used_up-ends = refl
 
 -- while the method runs, its parameter owns, and the caller's variable doesn't
-used_up-parameter_owns : leads_into (counted ∷ giving ∷ []) (plain used_up [] 3).state.store (plain used_up [] 3).state.frames (place.Var 1 1) ≡ Some 1
+used_up-parameter_owns : leads_into (counted ∷ giving ∷ []) (plain used_up [] 3).state.store (plain used_up [] 3).state.frames (place.Var 1 1)
+    ≡ Some 1
 unfolding plain_from
 used_up-parameter_owns = refl
 
-used_up-caller_owns_nothing : leads_into (counted ∷ giving ∷ []) (plain used_up [] 3).state.store (plain used_up [] 3).state.frames (place.Var 0 1) ≡ None
+used_up-caller_owns_nothing : leads_into (counted ∷ giving ∷ []) (plain used_up [] 3).state.store (plain used_up [] 3).state.frames (place.Var 0 1)
+    ≡ None
 unfolding plain_from
 used_up-caller_owns_nothing = refl
 

@@ -18,7 +18,8 @@ use Rattle.rg_rules.specs.Steps.{Stepped, Went, Trapped, step_item, step_first, 
 use Rattle.rg_rules.specs.Runs.{Ran, Running, Done, Stopped, after_step, run_on, opening, plain_from}
 use Rattle.rg_code.specs.Code.{Code}
 use Rattle.rg_pace.specs.Asked.{one_more}
-use Rattle.rg_stack.specs.Dues.{due_at, first_due, kind_due, paced}
+use Rattle.rg_code.specs.Dues.{due_at}
+use Rattle.rg_stack.specs.Dues.{first_due, kind_due, paced}
 use Rattle.rg_stack.specs.Machine.{Machine}
 use Rattle.rg_stack.proofs.Callers.DueLemmas.{steps-due}
 use Rattle.rg_step.specs.Asking.{AsksFrom, AsksOn, YesesTold, asks_at, first_makes, paced_by, raised, raised_if}

@@ -251,5 +251,6 @@ module _ (t : Tree) (code : Code) (f m : Machine) (s : State) (held : ℕ → Tr
       }
 
 -- a machine that shows a state that fits, as far as it holds it
-pub holds-of : (t : Tree) (code : Code) (k : Kept) (s : State) → Fit t s → ShowsHeld t.classes code (machine_in k.stepper.parts) s → HoldsOf t.classes k s
+pub holds-of : (t : Tree) (code : Code) (k : Kept) (s : State) → Fit t s → ShowsHeld t.classes code (machine_in k.stepper.parts) s
+    → HoldsOf t.classes k s
 holds-of t code k s fit h = holds-by t code (machine_in k.stepper.parts) h.grown s h.held fit h.shows h.beside k refl

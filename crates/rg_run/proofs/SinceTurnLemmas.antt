@@ -15,7 +15,7 @@ use Rattle.rg_rules.specs.State.{State}
 use Rattle.rg_rules.specs.Steps.{Went, next}
 use Rattle.rg_rules.specs.Runs.{opening, plain_from}
 use Rattle.rg_code.specs.Code.{Code}
-use Rattle.rg_stack.specs.Dues.{due_at}
+use Rattle.rg_code.specs.Dues.{due_at}
 use Rattle.rg_machine.specs.Parts.{machine_in}
 use Rattle.rg_step.specs.Asking.{SinceFrom, asks_at, paced_by, since_behind}
 use Rattle.rg_step.specs.States.{OneStep, Standing}

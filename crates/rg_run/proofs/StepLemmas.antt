@@ -4,7 +4,7 @@ use Rattle.rg_base.specs.declared.event.Event.{Event}
 use Rattle.rg_base.specs.declared.outcome.Outcome.{Outcome}
 use Rattle.rg_input.specs.Numbers.{Pending, Follows, OnInput}
 use Rattle.rg_code.specs.Code.{Code}
-use Rattle.rg_stack.specs.Dues.{due_at}
+use Rattle.rg_code.specs.Dues.{due_at}
 use Rattle.rg_step.specs.Asking.{YesesTold}
 use Rattle.rg_step.specs.States.{OneStep, Standing}
 use Rattle.rg_run.specs.Inner.{Adds}

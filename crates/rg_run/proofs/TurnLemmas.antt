@@ -91,7 +91,8 @@ module _ (classes : List Class) (s u : State) (first : Item) (rest : List Item) 
   behind-ends went = ends_by classes s u first rest items ends outcome.Running went
 
 -- Between two steps: the state, how it was reached, that the machine shows it, and what holds where no step so far asks.
-pub record Between (t : Tables) (code : Code) (k : ℕ) (m : Machine) (old new : Option (List ℕ)) (Still : Type 0) (before after : List ℕ) : Type 0 where
+pub record Between (t : Tables) (code : Code) (k : ℕ) (m : Machine) (old new : Option (List ℕ)) (Still : Type 0)
+    (before after : List ℕ) : Type 0 where
   pub state : State
   pub so_far : RanSoFar t (opening (program_of t) before) k state old new
   pub runs : Runs (program_of t) code m state
@@ -143,7 +144,8 @@ record Stepped (t : Tables) (code : Code) (new : Machine) (p : State) (r : Outco
   pub shows : ShowsHeld (classes_of t) code new state
   pub input : state.input ≡ after
 
-step-is : (t : Tables) (code : Code) (k : ℕ) (m new : Machine) (old out : Option (List ℕ)) (Still : Type 0) (before between after : List ℕ) (r : Outcome) →
+step-is : (t : Tables) (code : Code) (k : ℕ) (m new : Machine) (old out : Option (List ℕ)) (Still : Type 0) (before between after : List ℕ)
+    (r : Outcome) →
     (b : Between t code k m old out Still before between) → StepsOn code m new r between after → Stepped t code new b.state r after
 step-is t code k m new old out Still before between after r b step =
     let h = step (program_of t) b.state b.runs b.input in
@@ -254,10 +256,12 @@ module _ (t : Tables) (code : Code) (n k : ℕ) (within : k < n) (m : Machine) (
         begun = is;
         run = h;
         sound = run-is-sound (program_of t) b.runs.accepted before n;
-        unread = λ none. still-behind t code k m (machine_in new.parts) Before After before between after more old mid b (λ j l. none j (omega (arith, l, all, began)));
+        unread = λ none. still-behind t code k m (machine_in new.parts) Before After before between after more old mid b
+            (λ j l. none j (omega (arith, l, all, began)));
       }
 
-  pub done : (old out : Option (List ℕ)) → Between t code k m old out Before before between → StepsOn code m (machine_in new.parts) outcome.Done between after →
+  pub done : (old out : Option (List ℕ)) → Between t code k m old out Before before between
+      → StepsOn code m (machine_in new.parts) outcome.Done between after →
       Ran t n old out (behind (k + 1)) ended.Done After before after
   done old out b step =
       let q = step-is t code k m (machine_in new.parts) old out Before before between after outcome.Done b step in
@@ -277,7 +281,8 @@ module _ (t : Tables) (code : Code) (n k : ℕ) (within : k < n) (m : Machine) (
         begun = is;
         run = cut-whole t before n (k + 1) (ShowsAt t (behind (k + 1)) after) old out ended.Done e (omega (arith, within)) untold w;
         sound = run-is-sound (program_of t) b.runs.accepted before n;
-        unread = λ none. still-behind t code k m (machine_in new.parts) Before After before between after more old out b (λ j l. none j (omega (arith, l, within)));
+        unread = λ none. still-behind t code k m (machine_in new.parts) Before After before between after more old out b
+            (λ j l. none j (omega (arith, l, within)));
       }
 
   pub trapped : (kind : Trap) (line : ℕ) (old out : Option (List ℕ)) → Between t code k m old out Before before between →
@@ -316,7 +321,8 @@ module _ (t : Tables) (code : Code) (n k : ℕ) (within : k < n) (m : Machine) (
       q.settles (shows-at (k + 1) b.state q.state b.runs q.shows q.input) part)
 
 -- all steps were made
-pub spent : (t : Tables) (code : Code) (n k : ℕ) (st : Stepping) (old out : Option (List ℕ)) (Still : Type 0) (before after : List ℕ) (started : Bool) →
+pub spent : (t : Tables) (code : Code) (n k : ℕ) (st : Stepping) (old out : Option (List ℕ)) (Still : Type 0) (before after : List ℕ) (started : Bool)
+    →
     started ≡ true → k ≡ n → Between t code k (machine_in st.parts) old out Still before after →
     Ran t n old out (record { begun = started; stepper = st; steps = k }) ended.Spent Still before after
 spent t code n k st old out Still before after started is all b =
@@ -330,7 +336,8 @@ spent t code n k st old out Still before after started is all b =
     }
 
 -- a step went on, and its collection wasn't told
-pub untold : (t : Tables) (code : Code) (n k : ℕ) (st : Stepping) (old out : Option (List ℕ)) (Still : Type 0) (before after : List ℕ) (started : Bool) →
+pub untold : (t : Tables) (code : Code) (n k : ℕ) (st : Stepping) (old out : Option (List ℕ)) (Still : Type 0) (before after : List ℕ)
+    (started : Bool) →
     started ≡ true → k ≤ n → (e : Ended) → IsUntold e → Between t code k (machine_in st.parts) old out Still before after →
     Ran t n old out (record { begun = started; stepper = st; steps = k }) e Still before after
 untold t code n k st old out Still before after started is within e cut b =

@@ -24,7 +24,8 @@ entered_first n ls [] w own h = absurd h
 entered_first n ls (p ∷ ps) w own h = h.0
 
 -- a window that its frame has opened at a spot of its body
-own_based : (t : Tree) → Accepted t → (f : Frame) (fs : List Frame) (under : List Window) (rest : List Item) (b : Body) → Beneath t fs under rest b f.target →
+own_based : (t : Tree) → Accepted t → (f : Frame) (fs : List Frame) (under : List Window) (rest : List Item) (b : Body)
+    → Beneath t fs under rest b f.target →
     (p : Point) (s : Spot) → spot_at t.classes b p ≡ Some s → (w : Window) (own : List Window) → Stands f (length fs) (w ∷ own) s →
     Based (f ∷ fs) w
 own_based t a f fs under rest b h p s is w own stands =

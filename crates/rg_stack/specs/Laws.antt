@@ -16,7 +16,8 @@ use Rattle.rg_stack.specs.Runs.{step, opening, coded}
 use Rattle.rg_stack.specs.Given.{given_step}
 use Rattle.rg_stack.specs.Shows.{Shows}
 use Rattle.rg_stack.specs.Reads.{reads}
-use Rattle.rg_stack.specs.Dues.{due_at, first_due}
+use Rattle.rg_code.specs.Dues.{due_at}
+use Rattle.rg_stack.specs.Dues.{first_due}
 use Rattle.rg_stack.specs.Refusals.{Orderly}
 use Rattle.rg_stack.specs.Simulates.{Holds, SomeLeft, SameStep, SameRun}
 

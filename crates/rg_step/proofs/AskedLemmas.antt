@@ -14,7 +14,7 @@ use Rattle.rg_code.specs.Code.{Code}
 use Rattle.rg_heap.specs.declared.answers.Active.{Active}
 use Rattle.rg_heap.specs.Answers.{Tells}
 use Rattle.rg_heap.specs.Parts.{OnTop}
-use Rattle.rg_stack.specs.Dues.{due_at}
+use Rattle.rg_code.specs.Dues.{due_at}
 use Rattle.rg_stack.specs.Machine.{Machine}
 use Rattle.rg_stack.proofs.Callers.DueLemmas.{steps-due}
 use Rattle.rg_machine.specs.Parts.{Parts, machine_in}

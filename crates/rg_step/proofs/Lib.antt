@@ -18,7 +18,6 @@ mod WordLemmas
 mod HeldLemmas
 mod OutcomeLemmas
 mod ServeLemmas
-mod DueLemmas
 mod WriteLemmas
 mod ReachedLemmas
 mod ActiveLemmas

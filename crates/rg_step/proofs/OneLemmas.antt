@@ -7,7 +7,7 @@ use Rattle.rg_base.specs.declared.outcome.Outcome.TheVariants as outcome
 use Rattle.rg_cells.specs.Table.{Serials}
 use Rattle.rg_code.specs.Code.{Code}
 use Rattle.rg_regions.specs.Grove.{Grove}
-use Rattle.rg_stack.specs.Dues.{due_at}
+use Rattle.rg_code.specs.Dues.{due_at}
 use Rattle.rg_machine.specs.High.{NoneMade}
 use Rattle.rg_machine.specs.Parts.{Parts, machine_in}
 use Rattle.rg_machine.specs.Stands.{Stands}

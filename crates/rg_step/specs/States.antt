@@ -4,7 +4,7 @@ use Rattle.rg_base.specs.declared.event.Event.{Event}
 use Rattle.rg_base.specs.declared.outcome.Outcome.{Outcome}
 use Rattle.rg_base.specs.declared.outcome.Outcome.TheVariants as outcome
 use Rattle.rg_code.specs.Code.{Code}
-use Rattle.rg_stack.specs.Dues.{due_at}
+use Rattle.rg_code.specs.Dues.{due_at}
 use Rattle.rg_machine.specs.High.{NoneMade, OneMade}
 use Rattle.rg_machine.specs.Parts.{Parts, machine_in}
 use Rattle.rg_step.specs.Asking.{AsksOn, SinceOn, YesesTold}

@@ -18,7 +18,7 @@ ghost use Rattle.rg_step.specs.Steps.{IsResting, IsRunning, Leapt, Runs};
 ghost use Rattle.rg_step.specs.Steps.{counted_by, fresh, nothing, numbers_of, opening_machine};
 ghost use Rattle.rg_step.specs.Inner.Held.{stepping};
 
-use crate::collecting::{due_at, is_made, make_place, one_more, serve};
+use crate::collecting::{is_made, make_place, one_more, serve};
 use crate::kept::{Kept, Since};
 use crate::leap::leap;
 use crate::outcome::outcome;
@@ -314,7 +314,7 @@ fn step_on<S: Source>(
         Rose (S.faults source.old) (S.faults source.new) }
     ensures never_falls { S.faults source.old ≤ S.faults source.new }
 {
-    let due = due_at(code, p.at());
+    let due = code.due_at(p.at());
     let Ok(()) = make_place(due, &mut kept.events) else {
         return Outcome::Memory;
     };

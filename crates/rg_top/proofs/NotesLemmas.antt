@@ -56,7 +56,8 @@ front-report steps m status.Usage old mid n h = record { front = []; took = unto
 front-report steps m (status.Trap kind line) old mid n h = record {
   front = event_lines m.stepper.events;
   took = h;
-  is_notes = sym (append_assoc (event_lines m.stepper.events) (status_text steps (status.Trap kind line)) (line_after (status.Trap kind line) (numbers_of m)));
+  is_notes = sym (append_assoc (event_lines m.stepper.events) (status_text steps (status.Trap kind line))
+      (line_after (status.Trap kind line) (numbers_of m)));
 }
 front-report steps m status.Spent old mid n h = record {
   front = event_lines m.stepper.events;

@@ -152,7 +152,8 @@ run-from origin n source left t code m e old new quiet still first last more run
 ]
 
 -- is what `run` has answered, where the program comes from a file
-pub run-settles : (file : List ℕ) (n every : ℕ) (report : Bool) (source : List ℕ) (left : Option (List ℕ)) (s : Status) (old new : Option (List ℕ)) (m : Kept)
+pub run-settles : (file : List ℕ) (n every : ℕ) (report : Bool) (source : List ℕ) (left : Option (List ℕ)) (s : Status) (old new : Option (List ℕ))
+    (m : Kept)
     (still : Type 0) →
     RanFrom (in_file file) n source left s old new m still → Settles (run file n every report) source left s old new m still
 run-settles file n every report source left status.Done old new m still h = h

@@ -62,9 +62,11 @@ if-refused : (o : Option Fault) (f : Fault) (accepted refused : Type 0) → o �
 if-refused None f accepted refused e h = cc
 if-refused (Some g) f accepted refused e h = h
 
-answers-ran : (file : List ℕ) (n every : ℕ) (report : Bool) (source : List ℕ) (left : Option (List ℕ)) (s : Status) (old new : Option (List ℕ)) (m : Kept)
+answers-ran : (file : List ℕ) (n every : ℕ) (report : Bool) (source : List ℕ) (left : Option (List ℕ)) (s : Status) (old new : Option (List ℕ))
+    (m : Kept)
     (still : Type 0) →
-    RanWhole (in_file file) n source left s old new m still → ForInput left (λ input. Answers (run file n every report) source input s old new m still)
+    RanWhole (in_file file) n source left s old new m still → ForInput left
+    (λ input. Answers (run file n every report) source input s old new m still)
 answers-ran file n every report source left s old new m still r =
     let t = program_of r.tables in (
       r.input,
@@ -242,7 +244,8 @@ stands-whole t input n m old new accepted shown wrote =
       wrote = wrote-whole t input r.0 old new (subst Q (ap (λ s. text s.output) (sym r.1.state)) wrote);
     })
 
-cut-ran : (file : List ℕ) (n every : ℕ) (report : Bool) (source : List ℕ) (left : Option (List ℕ)) (s : Status) (old new : Option (List ℕ)) (m : Kept) (still : Type 0) →
+cut-ran : (file : List ℕ) (n every : ℕ) (report : Bool) (source : List ℕ) (left : Option (List ℕ)) (s : Status) (old new : Option (List ℕ)) (m : Kept)
+    (still : Type 0) →
     RanWhole (in_file file) n source left s old new m still → ForInput left (λ input. CutOffAt (run file n every report) source input m old new still)
 cut-ran file n every report source left s old new m still r =
     (r.input, r.input_is, (r.tables, r.runs, stands-whole r.tables r.input n m old new r.runs.accepted r.stands r.wrote, r.unread))

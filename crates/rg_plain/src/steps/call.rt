@@ -1,5 +1,5 @@
-//! The steps of a call, as a statement and for its result. The receiver, the arguments and the count
-//! of frames come first, which may trap, then the room, and then the new frame
+//! The steps of a call, as a statement and for its result. The receiver, the arguments and the
+//! count of frames come first, which may trap, then the room, and then the new frame
 //! (docs/language.md, "Steps").
 
 ghost use Rattle.std.specs.Prelude.{◌+◌, ◌<◌, ◌≡◌, ◌≤◌, flat_map, length, map, nat_lt, not};

@@ -134,8 +134,8 @@ pub(crate) fn move_step(
     name: u32,
     how: Move,
 ) -> Result<(), Refusal>
-    requires stands { Stands book.now.program m.old to.at (statement_of book.now.program to.left (right_of
-        book.now.program name how)) }
+    requires stands { Stands book.now.program m.old to.at
+        (statement_of book.now.program to.left (right_of book.now.program name how)) }
     requires left { LeftFits book.now.program to.left }
     requires name { IsNameIn book.now.program name }
     ensures step { Makes book.now.program (kept_of m.old) (kept_of m.new) to.at.line result }

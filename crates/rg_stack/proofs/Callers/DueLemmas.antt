@@ -14,7 +14,8 @@ use Rattle.rg_code.specs.Places.{is_mark, behind_end, scope_of, Level, Lies}
 use Rattle.rg_stack.specs.Machine.{Frame}
 use Rattle.rg_stack.specs.Shows.{ShowsFrames, levels_of}
 use Rattle.rg_stack.specs.Simulates.{SomeLeft}
-use Rattle.rg_stack.specs.Dues.{due, first_due, kind_due}
+use Rattle.rg_code.specs.Dues.{due}
+use Rattle.rg_stack.specs.Dues.{first_due, kind_due}
 use Rattle.rg_stack.specs.Laws.{StepsDue}
 use Rattle.rg_stack.proofs.Basics.{is_halt}
 use Rattle.rg_stack.proofs.Walks.MarkLemmas.{drop-stands, first-drop, lies_at_mark}

@@ -1,5 +1,6 @@
 -- A step's code asks for the input exactly where the first item does. For callers.
-use Rattle.std.proofs.Common.{◌≡◌, true, ℕ, zero, suc, ◌+◌, false, true≢false, inl, inr, List, [], ◌∷◌, length, drop, take, refl, sym, ap, subst, ◌∙◌, arith}
+use Rattle.std.proofs.Common.{◌≡◌, true, ℕ, zero, suc, ◌+◌, false, true≢false, inl, inr, List, [], ◌∷◌, length, drop, take, refl, sym, ap, subst, ◌∙◌}
+use Rattle.std.proofs.Common.{arith}
 use Rattle.std.proofs.Common.{slice_get}
 use Rattle.rg_tree.specs.Tree.{stmt, StmtKind, declare, assign, call, swap, branch, while, enter, print, collect, return, Class, Tree}
 use Rattle.rg_rules.specs.Bodies.{is_return}

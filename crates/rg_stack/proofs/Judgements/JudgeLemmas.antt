@@ -248,7 +248,8 @@ module _ (classes : List Class) (env : Env) (store : List Seen) (windows : List 
   same_env mid w e j is h = subst (λ m. judge_expr classes m w e ≡ Ok j) is h
 
   -- the premise of the law of expressions
-  pub expr-agrees : (w : Option Ty) (e : Expr) (j : Judged) → judge_expr classes env w e ≡ Ok j → Agrees classes store windows locals (scope_of locals) e
+  pub expr-agrees : (w : Option Ty) (e : Expr) (j : Judged) → judge_expr classes env w e ≡ Ok j
+      → Agrees classes store windows locals (scope_of locals) e
   expr-agrees w (number z) j h = tt
   expr-agrees w (boolean b) j h = tt
   expr-agrees w nil j h = tt

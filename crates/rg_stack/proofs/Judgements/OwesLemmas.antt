@@ -113,7 +113,13 @@ Found there e = (o : Entry) × (there ≡ Some o) × (o.ty ≡ e.ty) × (o.depth
 
 found-by : (c : Truth) (g f e : Entry) (late behind : Option Entry) → f.ty ≡ g.ty → f.depth ≡ g.depth → (late ≡ Some e → Found behind e)
     → (if c then Some g else late) ≡ Some e → Found (if c then Some f else behind) e
-found-by true g f e late behind t d rest h = let same = same_Some g e h in (f, refl, t ∙ ap (λ (e : Entry). e.ty) same, d ∙ ap (λ (e : Entry). e.depth) same)
+found-by true g f e late behind t d rest h = let same = same_Some g e h in (
+  f,
+  refl,
+  t ∙ ap (λ (e : Entry). e.ty) same,
+  d
+      ∙ ap (λ (e : Entry). e.depth) same,
+)
 found-by false g f e late behind t d rest h = rest h
 
 marked-found : (x y : Variable) (now : Readiness) (es : List Entry) (e : Entry)
@@ -139,7 +145,8 @@ marked-seen store opened locals x env h y e there =
     let P : Ty → ℕ → Type 0 = λ t d. Meets store opened (if d == env.depth then t else pause t) (value_in locals y) in
     subst (λ d. P e.ty d) o.3 (subst (λ t. P t o.0.depth) o.2 (h y o.0 o.1))
 
-expr-seen : (classes : List Class) (store : List Seen) (opened : List Opened) (locals : List Local) (env : Env) (w : Option Ty) (e : Expr) (j : Judged)
+expr-seen : (classes : List Class) (store : List Seen) (opened : List Opened) (locals : List Local) (env : Env) (w : Option Ty) (e : Expr)
+    (j : Judged)
     → judge_expr classes env w e ≡ Ok j → SeenMeets store opened locals env → SeenMeets store opened locals j.env
 expr-seen classes store opened locals env w e j h seen =
     expr-keeps (SeenMeets store opened locals) (marked-seen store opened locals) classes env w e j h seen
@@ -248,14 +255,16 @@ module _ (classes : List Class) (store : List Seen) (windows : List Window) (ope
     (meets : FrameMeets store opened n locals) (objects : ObjectsFit classes store opened)
     (shut : (t : Ty) (v : Val) → Meets store opened t v → is_iso t ≡ false → is_shut store windows v ≡ false) where
   -- arguments
-  pub args-agree : (ts : List Ty) (es : List Expr) (env out : Env) → Named env.entries locals → SeenMeets store opened locals env → judge_args classes env ts es ≡ Ok out → length es
+  pub args-agree : (ts : List Ty) (es : List Expr) (env out : Env) → Named env.entries locals → SeenMeets store opened locals env
+      → judge_args classes env ts es ≡ Ok out → length es
       ≡ length ts → AllAgree classes store windows locals (scope_of locals) es
   args-agree ts [] env out named seen h many = tt
   args-agree [] (e ∷ es) env out named seen h many = absurd (omega (arith, many))
   args-agree (t ∷ ts) (e ∷ es) env out named seen h many =
       let p = bind-ok (judge_expr classes env (Some t) e) _ out h in
       let less : length es ≡ length ts = omega (arith, many) in (
-        expr-agrees classes env store windows locals (facts_of classes env store windows opened n locals named meets objects shut seen) (Some t) e p.0 p.1,
+        expr-agrees classes env store windows locals (facts_of classes env store windows opened n locals named meets objects shut seen)
+            (Some t) e p.0 p.1,
         args-agree ts es p.0.env out (expr-named classes env locals (Some t) e p.0 p.1 named)
             (expr-seen classes store opened locals env (Some t) e p.0 p.1 seen) p.2 less,
       )
@@ -274,7 +283,8 @@ module _ (classes : List Class) (store : List Seen) (windows : List Window) (ope
     pub class : (v : Val) (o : Seen) → path_value classes store locals c.target ≡ Ok v → object_at store v ≡ Ok o → o.class
         ≡ target_class classes (scope_of locals) c
 
-  pub call-gives : (env : Env) (c : Call) (j : CallJudged) → Named env.entries locals → SeenMeets store opened locals env → judge_call classes env c ≡ Ok j → CallGives env c j
+  pub call-gives : (env : Env) (c : Call) (j : CallJudged) → Named env.entries locals → SeenMeets store opened locals env → judge_call classes env c
+      ≡ Ok j → CallGives env c j
   call-gives env c j named seen h =
       let facts = facts_of classes env store windows opened n locals named meets objects shut seen in
       let x = c.target.base in
@@ -319,7 +329,8 @@ module _ (classes : List Class) (store : List Seen) (windows : List Window) (ope
       variable-in_region env store opened n locals (Some y) p.0 named meets (ok_or-ok (entry_of env (Some y)) Unknown p.0 p.1) iso.0
 
   -- a right side that makes no call
-  pub right-owes : (env : Env) (wanted : Ty) (right : Right) (j : Judged) → Named env.entries locals → SeenMeets store opened locals env → judge_right classes env wanted right ≡ Ok j
+  pub right-owes : (env : Env) (wanted : Ty) (right : Right) (j : Judged) → Named env.entries locals → SeenMeets store opened locals env
+      → judge_right classes env wanted right ≡ Ok j
       → is_call right ≡ false → RightOwes classes store windows locals (scope_of locals) right
   right-owes env wanted (value e) j named seen h i = expr-agrees classes env store windows locals
       (facts_of classes env store windows opened n locals named meets objects shut seen) (Some wanted) e j h

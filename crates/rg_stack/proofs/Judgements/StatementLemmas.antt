@@ -233,7 +233,8 @@ module _ (t : Tree) (accepted : Accepted t) (r : Round) (store : List Seen) (slo
 
   owes-right : (ty : Ty) (right : Right) (out : _) → Fits → judge_right t.classes env ty right ≡ Ok out → is_call right ≡ false
       → RightOwes t.classes store r.windows locals (scope_of locals) right
-  owes-right ty right out f judged i = right-owes t.classes store r.windows r.opened (length r.bodies) locals f.meets f.objects (shut f) env ty right out f.named (seen f)
+  owes-right ty right out f judged i = right-owes t.classes store r.windows r.opened (length r.bodies) locals f.meets f.objects
+      (shut f) env ty right out f.named (seen f)
       judged i
 
   needs-right : (ty : Ty) (right : Right) (out : _) → Fits → judge_right t.classes env ty right ≡ Ok out
@@ -338,7 +339,8 @@ module _ (t : Tree) (accepted : Accepted t) (r : Round) (store : List Seen) (slo
       let k = bind-ok (walk_receiver t.classes env x g gs) _ w.0 w.1 in
       put-mirrors t.classes code r store slots locals managers input line j rest x g gs right h refl
       (owes-right w.0 right p.0 f p.1 (not_true (is_call right) b.0))
-      (holder-follows t.classes env store r.windows locals (facts f) x g gs k.0 k.1) (holder-owes t.classes env store r.windows locals (facts f) x g gs k.0 k.1)
+      (holder-follows t.classes env store r.windows locals (facts f) x g gs k.0 k.1)
+      (holder-owes t.classes env store r.windows locals (facts f) x g gs k.0 k.1)
       (λ u o led there.
       let h = receives t r store slots locals managers input env f.begun x g gs w.0 u o w.1 led there in (
         right-needs t r store slots locals managers input env f.begun code w.0 right p.0 (u ∷ [])
@@ -383,7 +385,8 @@ module _ (t : Tree) (accepted : Accepted t) (r : Round) (store : List Seen) (slo
       swap_fields y x (g ∷ gs) ty f h judged has iso slot =
           let k = bind-ok (walk_receiver t.classes env x g gs) _ ty judged in
           swap-mirrors t.classes code r store slots locals managers input line j rest y x g gs h has
-          (holder-follows t.classes env store r.windows locals (facts f) x g gs k.0 k.1) (holder-owes t.classes env store r.windows locals (facts f) x g gs k.0 k.1)
+          (holder-follows t.classes env store r.windows locals (facts f) x g gs k.0 k.1)
+          (holder-owes t.classes env store r.windows locals (facts f) x g gs k.0 k.1)
           (λ u led. swap-needs t.classes code (work r store slots managers input).machine (running r locals) r.bodies r.opened
           (fit_here t r store slots locals managers input env f.begun) (slot_of (scope_of locals) (Some y))
           (held_number t.classes (scope_of locals) x g gs) u (last_field g gs) ty iso
@@ -433,7 +436,8 @@ module _ (t : Tree) (accepted : Accepted t) (r : Round) (store : List Seen) (slo
       let same : k.0.ty ≡ w.0 = grind arith in
       let iso = iso_type w.0 c.0 (ok_or-ok (iso_class w.0) Mismatch c.0 c.1) in
       enter-field-mirrors t.classes code r store slots locals managers input line j rest x g gs z b h goes f.begins
-      (holder-follows t.classes env store r.windows locals (facts f) x g gs k.0 k.1) (holder-owes t.classes env store r.windows locals (facts f) x g gs k.0 k.1)
+      (holder-follows t.classes env store r.windows locals (facts f) x g gs k.0 k.1)
+      (holder-owes t.classes env store r.windows locals (facts f) x g gs k.0 k.1)
       (λ u o led there q is.
       let d = holder-type t.classes env store r.windows locals (facts f) x g gs k.0 u o k.1 led there in (
         field-in_region t.classes store r.opened f.objects u o (last_field g gs) k.0.ty there (f.live x g gs w.0 u o w.1 led there) d.0

@@ -16,7 +16,7 @@ use Rattle.rg_code.specs.Lowering.{exprs_code, used_by_all, clears, whole_code, 
 use Rattle.rg_code.specs.Lowering.{call_result, dropped_code, right_code, pace_code, assign_op, assign_code, swap_code, enter_code, scope_inside}
 use Rattle.rg_code.specs.Lowering.{else_code, block_code, kind_code}
 use Rattle.rg_code.specs.Places.{Stands, is_mark}
-use Rattle.rg_stack.specs.Dues.{due}
+use Rattle.rg_code.specs.Dues.{due}
 use Rattle.rg_stack.proofs.Walks.PlaceLemmas.{block_starts}
 use Rattle.rg_stack.proofs.Refusals.KindLemmas.{behind_first}
 use Rattle.rg_stack.proofs.Refusals.PlainLemmas.{plain-check, plain-clears, plain-exprs, plain-path, plain-whole}

@@ -9,7 +9,7 @@ use Rattle.rg_code.specs.declared.op.Op.TheVariants as i
 use Rattle.rg_code.specs.Lowering.{Scope, type_in, type_behind, fields_code, path_code, gap, operator_code, expr_code, exprs_code, used_slots, clears}
 use Rattle.rg_code.specs.Lowering.{whole_code}
 use Rattle.rg_stack.specs.Reads.{reads}
-use Rattle.rg_stack.specs.Dues.{due}
+use Rattle.rg_code.specs.Dues.{due}
 
 -- instructions that neither ask nor collect, and don't end the walk
 abbrev pub Plain : List Op → Type 0

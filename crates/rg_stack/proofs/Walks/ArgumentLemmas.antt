@@ -48,7 +48,8 @@ first_then (Err t) r f g h = refl
 
 module _ (classes : List Class) (code : Code) where
   pub walk-exprs : (es : List Expr) (locals : List Local) (scope : Scope) (at : ℕ) (rest : List Op) (stack : List Val) (w : Work)
-      → ((x : Variable) → slot_at w.machine (slot_of scope x) ≡ value_in locals x) → AllAgree classes w.machine.store w.machine.windows locals scope es
+      → ((x : Variable) → slot_at w.machine (slot_of scope x) ≡ value_in locals x)
+      → AllAgree classes w.machine.store w.machine.windows locals scope es
       → walk code (exprs_code classes scope at es ++ rest) at 0 stack w
       ≡ with_values (values_of classes w.machine.store locals es)
       (λ vs. walk code rest (at + length (exprs_code classes scope at es)) 0 (reverse vs ++ stack) w)

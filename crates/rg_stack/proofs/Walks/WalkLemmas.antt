@@ -143,7 +143,8 @@ module _ (classes : List Class) (code : Code) where
       ∙ at_address rest stack w (follow_fields classes w.machine.store (field_value classes o f) fs) _ _ e)
 
   pub walk-path : (p : Path) (locals : List Local) (scope : Scope) (at : ℕ) (rest : List Op) (stack : List Val) (w : Work)
-      → ((x : Variable) → slot_at w.machine (slot_of scope x) ≡ value_in locals x) → FollowsPath classes w.machine.store w.machine.windows locals scope p
+      → ((x : Variable) → slot_at w.machine (slot_of scope x) ≡ value_in locals x)
+      → FollowsPath classes w.machine.store w.machine.windows locals scope p
       → walk code (path_code classes scope p.base p.fields ++ rest) at 0 stack w
       ≡ with_value (path_value classes w.machine.store locals p)
       (λ u. walk code rest (at + length (path_code classes scope p.base p.fields)) 0 (u ∷ stack) w)

@@ -168,7 +168,8 @@ IsFaulted (bulk size) source f = ⊥
 
 -- a command that was cut off by the output or for want of memory; one that reads no input has none
 abbrev pub CutOff : Command → (source : List ℕ) → (left old new : Option (List ℕ)) → Kept → (still : Type 0) → Type 0
-CutOff (run file n every report) source left old new m still = ForInput left (λ input. CutOffAt (run file n every report) source input m old new still)
+CutOff (run file n every report) source left old new m still = ForInput left
+    (λ input. CutOffAt (run file n every report) source input m old new still)
 CutOff (plain file n) source left old new m still = ForInput left (λ input. CutOffAt (plain file n) source input m old new still)
 CutOff (fmt file) source left old new m still = CutOffAt (fmt file) source [] m old new still
 CutOff (check file) source left old new m still = CutOffAt (check file) source [] m old new still

@@ -2,7 +2,7 @@
 use Rattle.std.proofs.Common.{◌≡◌, ◌∙◌, true, false, Some, None, refl, sym, ap}
 use Rattle.rg_base.specs.declared.outcome.Outcome.TheVariants as outcome
 use Rattle.rg_input.proofs.InputLemmas.{OnInput-map, OnInput-still}
-use Rattle.rg_stack.specs.Dues.{due_at}
+use Rattle.rg_code.specs.Dues.{due_at}
 use Rattle.rg_machine.specs.Parts.{machine_in}
 use Rattle.rg_step.specs.States.{OneStep}
 use Rattle.rg_step.specs.Steps.{StepsOn, is_made}

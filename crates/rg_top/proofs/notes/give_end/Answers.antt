@@ -11,7 +11,8 @@ pub returns-in-Ok-put_all-clause-gave : goal.returns-in-Ok-put_all-clause-gave
 returns-in-Ok-put_all-clause-gave g c =
     inl (inl (
       refl,
-      both-whole _ _ _ _ _ _ (c.bytes.ensures ∙ c.in-Ok.ensures ∙ ap end_line c.numbers.ensures) c.in-Ok-put_text.ensures.ok c.in-Ok-put_all.ensures.ok,
+      both-whole _ _ _ _ _ _ (c.bytes.ensures ∙ c.in-Ok.ensures ∙ ap end_line c.numbers.ensures) c.in-Ok-put_text.ensures.ok
+          c.in-Ok-put_all.ensures.ok,
     ))
 
 pub returns-clause-gave : goal.returns-clause-gave

@@ -5,7 +5,8 @@ use Rattle.rg_top.specs.declared.status.Status.TheVariants as status
 use Rattle.rg_top.specs.Commands.{texts}
 use Rattle.rg_top.specs.Inner.Requests.{command_of}
 use Rattle.rg_top.proofs.AnswerLemmas.{Answered, answer-answered, answer-cut, answer-input, answer-exactly, answer-refused, answer-complete}
-use Rattle.rg_top.proofs.AnswerLemmas.{answer-unread, answer-unopened, answer-untouched, answer-output, answer-tuned, answer-usage, given-is, usage-exactly}
+use Rattle.rg_top.proofs.AnswerLemmas.{answer-unread, answer-unopened, answer-untouched, answer-output, answer-tuned, answer-usage, given-is}
+use Rattle.rg_top.proofs.AnswerLemmas.{usage-exactly}
 use Rattle.rg_top.proofs.NotesLemmas.{asked-notes, asked-fault, rose-later}
 use Rattle.rg_top.proofs.AskedLemmas.{asked-words, yeses-fresh}
 use Rattle.rg_top.proofs.top.reggio.Given.{Over}

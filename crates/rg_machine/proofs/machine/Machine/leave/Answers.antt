@@ -23,7 +23,8 @@ leave-requires-clause-temps c =
     let mid : Parts = record { heap = m.heap; frames = m.frames; words = m.stack.items; at = m.at; printed = m.printed } in
     let e : core_of mid ≡ ending (core_of p) c.args.s =
     ap core_of c.self-2.view_is ∙ c.end_from.ensures.ended ∙ ap (λ (x : Parts). ending (core_of x) c.args.s) (sym c.self.view_is) in
-    let given : Has (i.Leave c.args.s) (core_of p) = subst (λ (x : Parts). Has (i.Leave c.args.s) (core_of x)) (sym c.self.view_is) c.requires.given in
+    let given : Has (i.Leave c.args.s) (core_of p) = subst (λ (x : Parts). Has (i.Leave c.args.s) (core_of x))
+    (sym c.self.view_is) c.requires.given in
     let once = once-behind (core_of p) (core_of mid) c.args.s e given in
     let two : 2 ≤ length m.frames.windows = omega (arith, c.if-open_count-ge2.true, c.open_count.ensures) in
     may-leave m.heap m.frames m.at c.is_forest-then-open_count-ge2.ensures.serials c.is_forest-then-open_count-ge2.ensures.forest
@@ -38,17 +39,20 @@ invariant_of-self c =
     let new : Parts = record { heap = c.leave.new.self; frames = c.leave.new.frames; words = m.stack.items; at = m.at; printed = m.printed } in
     let e : core_of mid ≡ ending (core_of p) c.args.s =
     ap core_of c.self-2.view_is ∙ c.end_from.ensures.ended ∙ ap (λ (x : Parts). ending (core_of x) c.args.s) (sym c.self.view_is) in
-    let given : Has (i.Leave c.args.s) (core_of p) = subst (λ (x : Parts). Has (i.Leave c.args.s) (core_of x)) (sym c.self.view_is) c.requires.given in
+    let given : Has (i.Leave c.args.s) (core_of p) = subst (λ (x : Parts). Has (i.Leave c.args.s) (core_of x))
+    (sym c.self.view_is) c.requires.given in
     let once = once-behind (core_of p) (core_of mid) c.args.s e given in
     let two : 2 ≤ length m.frames.windows = omega (arith, c.if-open_count-ge2.true, c.open_count.ensures) in
     let marks = c.lie.ensures.marks in
     let q = c.is_forest-then-open_count-ge2.ensures.serials in
     let g = c.is_forest-then-open_count-ge2.ensures.forest in
-    let fits = number-fits m.heap m.frames m.at q g c.self-2.invariant.0 two once marks (omega (arith, c.next_number.type_inv, c.next_number.ensures)) in
+    let fits = number-fits m.heap m.frames m.at q g c.self-2.invariant.0 two once marks
+    (omega (arith, c.next_number.type_inv, c.next_number.ensures)) in
     let words : m.stack.items ≡ o.stack.items =
     ap (λ (x : Parts). x.words) c.self-2.view_is ∙ c.end_from.ensures.words ∙ ap (λ (x : Parts). x.words) (sym c.self.view_is) in (
       subst (Stands c.leave.new.self) (sym c.leave.ensures.window)
-          (whole-stands p mid c.args.s c.is_forest.ensures.serials c.is_forest.ensures.forest c.self.invariant.0 q g c.self-2.invariant.0 e given once two
+          (whole-stands p mid c.args.s c.is_forest.ensures.serials c.is_forest.ensures.forest c.self.invariant.0 q g c.self-2.invariant.0 e given once
+          two
           marks fits new c.is_forest-then-open_count-ge2-2.ensures.forest c.leave.ensures.released),
       none-lead c.leave.new.self c.leave.new.frames m.stack.items (words ∙ leave-words p c.args.s given),
     )
@@ -62,13 +66,15 @@ returns-then-open_count-ge2-clause-effect c =
     let new : Parts = record { heap = c.leave.new.self; frames = c.leave.new.frames; words = m.stack.items; at = m.at; printed = m.printed } in
     let e : core_of mid ≡ ending (core_of p) c.args.s =
     ap core_of c.self-2.view_is ∙ c.end_from.ensures.ended ∙ ap (λ (x : Parts). ending (core_of x) c.args.s) (sym c.self.view_is) in
-    let given : Has (i.Leave c.args.s) (core_of p) = subst (λ (x : Parts). Has (i.Leave c.args.s) (core_of x)) (sym c.self.view_is) c.requires.given in
+    let given : Has (i.Leave c.args.s) (core_of p) = subst (λ (x : Parts). Has (i.Leave c.args.s) (core_of x))
+    (sym c.self.view_is) c.requires.given in
     let two : 2 ≤ length m.frames.windows = omega (arith, c.if-open_count-ge2.true, c.open_count.ensures) in
     let once = once-behind (core_of p) (core_of mid) c.args.s e given in
     let marks = c.lie.ensures.marks in
     let q = c.is_forest-then-open_count-ge2.ensures.serials in
     let g = c.is_forest-then-open_count-ge2.ensures.forest in
-    let bound = number-fits m.heap m.frames m.at q g c.self-2.invariant.0 two once marks (omega (arith, c.next_number.type_inv, c.next_number.ensures)) in
+    let bound = number-fits m.heap m.frames m.at q g c.self-2.invariant.0 two once marks
+    (omega (arith, c.next_number.type_inv, c.next_number.ensures)) in
     λ at go input.
     subst (λ (x : Parts). free_act empty at (i.Leave c.args.s) go (core_of x).stack (work_of (core_of x) input)
     ≡ go 0 (core_of new).stack (work_of (core_of new) input)) c.self.view_is

@@ -10,7 +10,13 @@ pub returns-clause-value : goal.returns-clause-value
 returns-clause-value c =
     let m = c.self.inside in
     let P : Parts → Type 0 = λ n. val_in n c.word.result ≡ slot_at (machine_in n) c.args.s in
-    subst P c.self.view_is (ap (val_in (record { heap = m.heap; frames = m.frames; words = m.stack.items; at = m.at; printed = m.printed })) c.word.ensures
+    subst P c.self.view_is (ap (val_in (record {
+      heap = m.heap;
+      frames = m.frames;
+      words = m.stack.items;
+      at = m.at;
+      printed = m.printed;
+    })) c.word.ensures
     ∙ slot-any m.heap m.frames m.at c.args.s c.self.invariant.0.lain)
 
 pub returns-clause-leads : goal.returns-clause-leads

@@ -15,7 +15,8 @@ returns-in-Err-clause-step g c =
     let t = c.args.book.now.program in
     let k = kept_of c.args.m.now in
     reads_nothing t k k (outcome.Trap c.in-Err.kind c.args.to.at.line) _ _
-    (cut-step t k c.args.to.at.number c.args.to.at.line c.args.to.left c.in-Err.kind more c.requires.stands.at.rest c.in-Err.ensures c.requires.stands.at.items
+    (cut-step t k c.args.to.at.number c.args.to.at.line c.args.to.left c.in-Err.kind more c.requires.stands.at.rest c.in-Err.ensures
+    c.requires.stands.at.items
     c.requires.stands.tree)
 
 pub returns-in_default-clause-step : goal.returns-in_default-clause-step
@@ -33,7 +34,8 @@ returns-clause-step g c =
     let a = c.in-Ok.aim in
     OnInput-map _ _ _ _ (Looks (Ok c.in-Ok-more.b)) (StepOn t (kept_of c.args.m.now) (kept_of c.put.new.m) outcome.Running)
     c.in-Ok-more.ensures.looks
-    (more-step t (kept_of c.args.m.now) (kept_of c.put.new.m) c.args.to.at.number c.args.to.at.line c.args.to.left a items c.in-Ok-more.b c.in-Ok.ensures
+    (more-step t (kept_of c.args.m.now) (kept_of c.put.new.m) c.args.to.at.number c.args.to.at.line c.args.to.left a items c.in-Ok-more.b
+    c.in-Ok.ensures
     (sym (ap (λ (q : Kept). shown t q.items) kept) ∙ c.advance.ensures.rest) c.requires.stands.tree
     (λ input. c.put.ensures.put input
     ∙ ap (λ (q : Kept). use_of t a (plain_of t (record q { items = items }) input) (Bool c.in-Ok-more.b)) kept))
