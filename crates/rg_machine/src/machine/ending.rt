@@ -118,7 +118,26 @@ impl Machine {
     }
 
     /// What the slots of the topmost frame from one on own goes, and they are nil.
+    #[inline]
     pub fn end_from(&mut self, s: u32)
+        requires once { owned_once (machine_in self.old) ≡ true }
+        requires stack { AllLoose (core_of self.old) }
+        ensures ended { core_of self.new ≡ ending (core_of self.old) s }
+        ensures words { self.new.words ≡ self.old.words }
+        ensures backs { SameBacks (machine_in self.old) (machine_in self.new) }
+        ensures high { NoneMade self.old.heap self.new.heap }
+    {
+        self.heap.is_forest();
+        let live = self.frames.live();
+        if live <= s as usize {
+            return;
+        }
+        self.end_written(s);
+    }
+
+    /// The same, also where some of them were written.
+    #[inline(never)]
+    fn end_written(&mut self, s: u32)
         requires once { owned_once (machine_in self.old) ≡ true }
         requires stack { AllLoose (core_of self.old) }
         ensures ended { core_of self.new ≡ ending (core_of self.old) s }
