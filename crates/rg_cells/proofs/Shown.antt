@@ -1,7 +1,7 @@
 -- What the places show, place by place.
 use Rattle.std.proofs.Common.{◌≡◌, ◌≢◌, ℕ, ◌+◌, ◌<◌, ◌≤◌, zero, suc, List, [], ◌∷◌, length, map, Option, Some, None, IsSome, IfSome, IfNone}
 use Rattle.std.proofs.Common.{is_some, count_by, get_or, set, refl, ap, sym, ◌∙◌, subst, arith, cond, ◌==◌, if◌then◌else◌}
-use Rattle.std.proofs.lemmas.List.{map-set, length-map}
+use Rattle.std.proofs.lemmas.List.{map-set, length-map, set-set}
 use Rattle.std.proofs.lemmas.List.Sums.{sum_by-cons}
 use Rattle.slab.specs.Slab.{Slab, get, slab_len, Updates}
 use Rattle.rg_cells.specs.declared.cell.Body.{Body}
@@ -11,7 +11,7 @@ use Rattle.rg_cells.specs.declared.cell.Place.TheVariants.{Held, Free}
 use Rattle.rg_base.specs.declared.value.Word.{Word}
 use Rattle.rg_base.specs.declared.object.Label.{Label}
 use Rattle.rg_cells.specs.Table.{Heap, Table, body_in, body_at, IsHeld, width, Made, with_body, with_field, with_label, freed_from}
-use Rattle.rg_cells.specs.Table.{total, one, one_frozen, one_frozen_by, held_count, high_of}
+use Rattle.rg_cells.specs.Table.{total, one, one_frozen, one_frozen_by, held_count, high_of, traded, exchanged}
 use Rattle.rg_cells.specs.Inner.Places.{shown, mark_of, link_of, table_of}
 
 pub shown-at : (xs : List (Option Place)) (k : ℕ) → get_or (map shown xs) k None ≡ shown (get_or xs k None)
@@ -291,3 +291,31 @@ find-none xs next serial now None e h = λ slot b f q.
     let S : IsSome (body_at (table_of xs next).heap slot) = rw g refl in
     let c = held_cell xs next slot S in
     h slot c.0 c.1 (ap (λ (x : Body). x.serial) (same_body xs next slot c.0 b c.1 g) ∙ q)
+
+-- two places are emptied, and get each other's cell
+pub refilled : (xs : List (Option Place)) (a b : ℕ) (x y v w : Option Place) → a ≢ b
+    → set (set (set (set xs a x) b y) a v) b w ≡ set (set xs a v) b w
+refilled [] a b x y v w d = refl
+refilled (z ∷ xs) zero zero x y v w d = absurd (d refl)
+refilled (z ∷ xs) zero (suc b) x y v w d = ap (λ ys. v ∷ ys) (set-set xs b y w)
+refilled (z ∷ xs) (suc a) zero x y v w d = ap (λ ys. w ∷ ys) (set-set xs a x v)
+refilled (z ∷ xs) (suc a) (suc b) x y v w d = ap (λ ys. z ∷ ys) (refilled xs a b x y v w (λ e. d (ap suc e)))
+
+-- of what the places show, two entries change places
+map-traded : {X : Type 0} → (f : Option Place → X) (z : X) → ((us : List (Option Place)) (k : ℕ) → get_or (map f us) k z ≡ f (get_or us k None))
+    → (xs : List (Option Place)) (a b : ℕ) (c d : Option Place) → get_or xs a None ≡ c → get_or xs b None ≡ d
+    → map f (set (set xs a d) b c) ≡ traded z (map f xs) a b
+map-traded f z at xs a b c d e g =
+    map-set f (set xs a d) b c ∙ ap (λ us. set us b (f c)) (map-set f xs a d)
+    ∙ ap (λ o. set (set (map f xs) a o) b (f c)) (sym (at xs b ∙ ap f g))
+    ∙ ap (λ o. set (set (map f xs) a (get_or (map f xs) b z)) b o) (sym (at xs a ∙ ap f e))
+
+-- the cells at two places change places
+pub exchanged-is : (xs : List (Option Place)) (next a b : ℕ) (c d : Option Place) → get_or xs a None ≡ c → get_or xs b None ≡ d
+    → table_of (set (set xs a d) b c) next ≡ exchanged (table_of xs next) a b
+exchanged-is xs next a b c d e f =
+    let zs : List (Option Place) = set (set xs a d) b c in
+    let s : map shown zs ≡ traded None (map shown xs) a b = map-traded shown None shown-at xs a b c d e f in
+    let m : map mark_of zs ≡ traded 0 (map mark_of xs) a b = map-traded mark_of 0 mark-at xs a b c d e f in
+    let l : map link_of zs ≡ traded None (map link_of xs) a b = map-traded link_of None link-at xs a b c d e f in
+    rw (s, m, l) refl

@@ -105,6 +105,22 @@ freed h slot = record h { slots = slice_set h.slots slot (Some None) }
 abbrev pub freed_from : Table → ℕ → Table
 freed_from t slot = record { heap = freed t.heap slot; marks = slice_set t.marks slot 0; links = slice_set t.links slot None }
 
+-- a slot has its own entries for a mark and a link
+abbrev pub IsListed : Table → ℕ → Type 0
+IsListed t slot = (slot < length t.marks) × (slot < length t.links)
+
+-- what stands at two places of a list changes places; past the end it is read as `d`
+abbrev pub traded : {X : Type 0} → (d : X) → List X → (a b : ℕ) → List X
+traded d xs a b = slice_set (slice_set xs a (slice_index_or xs b d)) b (slice_index_or xs a d)
+
+-- the cells at two slots change places, with their marks and links
+abbrev pub exchanged : Table → (a b : ℕ) → Table
+exchanged t a b = record {
+  heap = record t.heap { slots = traded None t.heap.slots a b };
+  marks = traded 0 t.marks a b;
+  links = traded None t.links a b;
+}
+
 -- a new cell is held at a slot, and all others stay
 pub record Made (old new : Table) (slot : ℕ) (b : Body) : Type 0 where
   pub body : body_at new.heap slot ≡ Some b

@@ -7,6 +7,7 @@ ghost use Rattle.rg_cells.specs.declared.cell.Body.{Body as BodyOf};
 ghost use Rattle.rg_cells.specs.Table.{body_at, field_at, label_at, IsHeld, mark_at, link_at};
 ghost use Rattle.rg_cells.specs.Table.{width};
 ghost use Rattle.rg_cells.specs.Table.{with_field, with_label, freed_from, cancelled, HasSerial};
+ghost use Rattle.rg_cells.specs.Table.{exchanged, IsListed};
 ghost use Rattle.rg_cells.specs.Table.{LacksSerial, Serials};
 ghost use Rattle.rg_cells.specs.Table.{Made, Takes, IsNewest, held_count, frozen_count};
 ghost use Rattle.rg_cells.specs.Table.{one_frozen_by};
@@ -176,6 +177,16 @@ impl Cells {
         let was = one_if_frozen(self.cell(slot).body.label);
         places::put_label(&mut self.places, slot, label);
         self.frozen = self.frozen - was + one_if_frozen(label);
+    }
+
+    /// The cells at two held slots change places, whole.
+    pub fn exchange(&mut self, a: usize, b: usize)
+        requires first { IsHeld self.old.heap a }
+        requires second { IsHeld self.old.heap b }
+        ensures exchanged { self.new ≡ exchanged self.old a b }
+        ensures within { IsListed self.old a × IsListed self.old b }
+    {
+        places::exchange(&mut self.places, a, b);
     }
 
     /// Holds a new cell, in a slot that was held before where one is free.

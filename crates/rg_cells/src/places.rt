@@ -8,11 +8,13 @@ ghost use Rattle.rg_cells.specs.declared.cell.Cell.{Cell as CellOf};
 ghost use Rattle.rg_cells.specs.Table.{body_in};
 ghost use Rattle.rg_cells.specs.Inner.Places.{shown, Kept, Holds, HoldsAt, Changes, ChangesAt};
 ghost use Rattle.rg_cells.specs.Inner.Places.{held_places, places_after, ServesSerial, ServesNone};
+ghost use Rattle.rg_cells.specs.Inner.Places.{Exchanges};
 ghost use Rattle.slab.specs.Slab.{get, with_value, Updates, slab_len};
 
 use crate::cell::{Cell, Place};
 use rg_base::{Label, Memory, Word};
 use slab::Slab;
+use std::mem;
 
 // The mark of a place that holds a cell.
 fn mark_place(place: &mut Place, m: u64)
@@ -139,6 +141,36 @@ fn refill(places: &mut Slab<Place>, slot: usize, cell: Cell)
         Some(place) => *place = Place::Held(cell),
         None => unreachable!(),
     }
+}
+
+// Takes the cell out of a place, which is free then.
+fn take_cell(places: &mut Slab<Place>, slot: usize) -> Cell
+    requires { HoldsAt places.old slot }
+    ensures was { get places.old slot ≡ Some (Place.Held result) }
+    ensures free { places.new ≡ with_value places.old slot Place.Free }
+{
+    let Some(place) = places.get_mut(slot) else {
+        unreachable!();
+    };
+    match mem::replace(place, Place::Free) {
+        Place::Held(cell) => cell,
+        Place::Free => unreachable!(),
+    }
+}
+
+/// The cells at two slots change places.
+pub fn exchange(places: &mut Slab<Place>, a: usize, b: usize)
+    requires first { HoldsAt places.old a }
+    requires second { HoldsAt places.old b }
+    ensures { Exchanges places.old places.new a b }
+{
+    if a == b {
+        return;
+    }
+    let first = take_cell(places, a);
+    let second = take_cell(places, b);
+    refill(places, a, second);
+    refill(places, b, first);
 }
 
 /// Gives a cell up; its place goes to the list of free ones.

@@ -1,5 +1,5 @@
 -- What callers see of frames, windows and temporaries (docs/architecture.md, "Frames").
-use Rattle.std.specs.Prelude.{◌≡◌, ℕ, ◌+◌, ◌-◌, ◌<◌, ◌≤◌, Bool, ◌==◌, List, [], ◌∷◌, ◌++◌, Some, None, length, take, replicate}
+use Rattle.std.specs.Prelude.{◌≡◌, ℕ, ◌+◌, ◌-◌, ◌<◌, ◌≤◌, Bool, ◌==◌, List, [], ◌∷◌, ◌++◌, Some, None, length, drop, take, replicate}
 use Rattle.std.specs.Prelude.{slice_get, slice_set, slice_index_or}
 use Rattle.rg_base.specs.declared.object.Place.{Place}
 use Rattle.rg_base.specs.declared.value.Word.{Word}
@@ -40,6 +40,10 @@ IsTop v w = slice_get v.windows (length v.windows - 1) ≡ Some w
 -- the top window's base isn't behind a place
 abbrev pub BaseUpTo : Stack → ℕ → Type 0
 BaseUpTo v place = (w : Window) × IsTop v w × (w.base ≤ place)
+
+-- a place among the slots from the top window's base
+abbrev pub IsShown : Stack → ℕ → Type 0
+IsShown v k = (w : Window) × IsTop v w × (k < length (drop w.base v.slots))
 
 -- where the top window's temporaries begin
 abbrev pub mark : Stack → ℕ
@@ -91,6 +95,10 @@ begun r n = record {
 -- a slot of the top frame is written
 abbrev pub with_slot : Stack → ℕ → Word → Stack
 with_slot v s w = record v { slots = slice_set v.slots (v.first + s) w }
+
+-- a slot at a place from a window's base is written
+abbrev pub with_shown : Stack → Window → ℕ → Word → Stack
+with_shown v top k w = record v { slots = slice_set v.slots (top.base + k) w }
 
 -- the slots of the top frame from one on are nil
 abbrev pub ended : Stack → ℕ → Stack

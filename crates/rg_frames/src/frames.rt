@@ -2,17 +2,20 @@
 
 ghost use Rattle.std.specs.Prelude.{◌≡◌, ◌≤◌, ◌+◌, ◌-◌, ◌<◌, ◌^◌, ◌++◌, ◌↔◌, None, Some, Ok, Err};
 ghost use Rattle.std.specs.Prelude.{IfSome, IsNone, OnOk, OnErr, length, drop, take, replicate};
-ghost use Rattle.std.specs.Prelude.{slice_get, unwrap_or, vec_len, vec_capacity, true};
+ghost use Rattle.std.specs.Prelude.{slice_get, slice_set, unwrap_or, vec_len, vec_capacity};
+ghost use Rattle.std.specs.Prelude.{true, ℕ, List};
+ghost use Rattle.rg_base.specs.declared.value.Word.{Word as WordOf};
 ghost use Rattle.std.specs.List.{list_any};
 ghost use Rattle.rg_base.specs.declared.limits.TheConstants.{FRAMES as MOST};
 ghost use Rattle.rg_base.specs.declared.value.Word.TheVariants.{Nil};
 ghost use Rattle.rg_frames.specs.declared.rows.Window.{Window as WindowOf};
 ghost use Rattle.rg_frames.specs.declared.rows.Frame.{Frame as FrameOf};
 ghost use Rattle.rg_frames.specs.declared.rows.FrameRefusal.TheVariants.{Depth};
-ghost use Rattle.rg_frames.specs.Inner.Layout.{NilFrom};
+ghost use Rattle.rg_frames.specs.Inner.Layout.{NilFrom, IsPast, Unwritten};
 ghost use Rattle.rg_frames.specs.Stack.{Begun, InTop, IsTopFrame, IsTop, BaseUpTo, mark};
 ghost use Rattle.rg_frames.specs.Stack.{IsEmpty, HasRoom, roomed, begun, with_slot, with_temp};
 ghost use Rattle.rg_frames.specs.Stack.{without_temps, ended, BasesRise, MarksLie};
+ghost use Rattle.rg_frames.specs.Stack.{IsShown, with_shown};
 ghost use Rattle.rg_frames.specs.Stack.{pushed, pushed_of, popped, opened, closed, has_region};
 
 use crate::rows::{Frame, FrameRefusal, Window};
@@ -354,6 +357,20 @@ impl Frames {
         &self.slots[self.windows[self.windows.len() - 1].base..]
     }
 
+    /// Writes the k-th of the words that `slots` shows.
+    pub fn set_shown(&mut self, k: usize, w: Word)
+        requires { IsShown self.old k }
+        ensures { (t : WindowOf) → IsTop self.old t → self.new ≡ with_shown self.old t k w }
+    {
+        let place = self.windows[self.windows.len() - 1].base + k;
+        let was = self.slots[place];
+        self.slots[place] = w;
+        if was == Word::Nil {
+            self.live = above(self.live, place, self.slots.len());
+            raise(&mut self.kept, &self.frames, self.first, place);
+        }
+    }
+
     /// Opens a window, with the next number.
     pub fn push_window(&mut self, region: usize, owner: Place, base: usize) -> Result<u64, Memory>
         requires above { BaseUpTo self.old base }
@@ -534,5 +551,36 @@ fn clear(all: &mut Vec<Word>, from: usize, to: usize)
     'clear: while at > from {
         at -= 1;
         all[at] = Word::Nil;
+    }
+}
+
+// Behind the place, where it is one of those from `from` up to `to`, and else `from`.
+fn above(from: usize, place: usize, to: usize) -> usize
+    ensures least { from ≤ result }
+    ensures within { from ≤ to → result ≤ to }
+    ensures past { IsPast place result to }
+{
+    if from <= place && place < to {
+        place + 1
+    } else {
+        from
+    }
+}
+
+// What is kept for the frame of a place rises above it, so the place may be written.
+fn raise(kept: &mut Vec<usize>, frames: &[Frame], first: usize, place: usize)
+    requires { length kept.old.items ≡ length frames.now }
+    ensures nil { (slots : List WordOf) (live : ℕ) (w : WordOf) → IsPast place live (length slots)
+        → Unwritten slots first frames.now live kept.old.items
+        → Unwritten (slice_set slots place w) first frames.now live kept.new.items }
+    ensures len { length kept.new.items ≡ length kept.old.items }
+    ensures capacity { vec_capacity kept.new ≡ vec_capacity kept.old }
+{
+    let mut end = first;
+    let mut k = frames.len();
+    'raise: while k > 0 {
+        k -= 1;
+        kept[k] = above(kept[k], place, end);
+        end = frames[k].below;
     }
 }

@@ -32,3 +32,13 @@ fn a_freed_slot_is_taken_again(rt: HostRuntime) -> Result<(), Fail> {
     );
     Ok(())
 }
+
+#[test]
+fn two_cells_change_places(rt: HostRuntime) -> Result<(), Fail> {
+    let mut cells = Cells::new(rt.alloc());
+    let first = cells.make(7, Label::Region(0), &[])?;
+    let second = cells.make(8, Label::Frozen, &[Word::Nil])?;
+    cells.exchange(first, second);
+    assert_eq!(rt; (cells.find(0), cells.find(1)), (Some(second), Some(first)));
+    Ok(())
+}

@@ -31,5 +31,10 @@ fn numbers_are_given_once(rt: HostRuntime) -> Result<(), Fail> {
         (regions.link(again), regions.members(again).len()),
         (None, 0)
     );
+    regions.reserve(again, 2)?;
+    regions.push_member(again, 9);
+    regions.push_member(again, 4);
+    regions.order_members(again);
+    assert_eq!(rt; regions.members(again), [4, 9].as_slice());
     Ok(())
 }

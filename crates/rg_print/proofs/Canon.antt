@@ -9,6 +9,7 @@ pub mod ExprReads
 pub mod ExprLimits
 pub mod PartReads
 pub mod CanonFacts
+pub mod SameLines
 pub mod CanonReads
 pub mod CanonLines
 pub mod ParsesBack

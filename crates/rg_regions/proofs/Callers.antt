@@ -12,3 +12,5 @@ pub mod Removed
 pub mod HandedOver
 pub mod Shares
 pub mod CellComes
+pub mod Ordered
+pub mod GroveOrdered

@@ -8,3 +8,4 @@ pub mod Collection
 pub mod Dropped
 pub mod Same
 pub mod Inner
+pub mod Ordered

@@ -3,7 +3,9 @@
 ghost use Rattle.std.specs.Prelude.{◌≡◌, ◌<◌, ◌≤◌, Some, OnOk, OnErr, length, vec_capacity};
 ghost use Rattle.rg_regions.specs.Table.{with_member, without_member, with_room};
 ghost use Rattle.rg_regions.specs.Inner.Layout.{record_of, HasRegion, HasPlaceAt, HasRoomAt};
-ghost use Rattle.rg_regions.specs.Inner.Layout.{Writes, Rewrites, Widens};
+ghost use Rattle.rg_regions.specs.Inner.Layout.{Writes, Rewrites, Widens, Sorts};
+ghost use Rattle.rg_regions.specs.Ordered.{with_members};
+ghost use Rattle.std.specs.List.Sorted.{IsPermutation, IsNonDecreasing};
 
 use crate::region::Region;
 use rg_base::Memory;
@@ -37,6 +39,17 @@ fn lengthen(region: &mut Region, slot: usize)
     ensures shows { record_of region.new ≡ with_member slot (record_of region.old) }
 {
     region.members.push_reserved(slot);
+}
+
+// The members come into rising order.
+fn sort(region: &mut Region)
+    ensures link { region.new.link ≡ region.old.link }
+    ensures shows { record_of region.new
+        ≡ with_members region.new.members.items (record_of region.old) }
+    ensures rise { IsNonDecreasing region.new.members.items }
+    ensures same { IsPermutation region.old.members.items region.new.members.items }
+{
+    region.members.sort_unstable();
 }
 
 // The record stays, but for the room.
@@ -104,6 +117,17 @@ pub fn put_room(records: &mut Slab<Region>, key: usize, more: usize) -> Result<(
 {
     match records.get_mut(key) {
         Some(region) => widen(region, more),
+        None => unreachable!(),
+    }
+}
+
+/// Puts members in rising order.
+pub fn order_members(records: &mut Slab<Region>, key: usize)
+    requires { HasRegion records.old key }
+    ensures { Sorts records.old records.new key }
+{
+    match records.get_mut(key) {
+        Some(region) => sort(region),
         None => unreachable!(),
     }
 }

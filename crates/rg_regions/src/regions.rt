@@ -8,6 +8,7 @@ ghost use Rattle.rg_regions.specs.Table.{Record, record_at, link_at, IsKey, HasN
 ghost use Rattle.rg_regions.specs.Table.{HasPlace, HasRoom, IsNewest};
 ghost use Rattle.rg_regions.specs.Table.{changed, removed, cancelled, Added, Roomier};
 ghost use Rattle.rg_regions.specs.Table.{with_bridge, with_member, without_member, fresh};
+ghost use Rattle.rg_regions.specs.Ordered.{Orders};
 ghost use Rattle.rg_regions.specs.Inner.Layout.{record_of};
 
 use crate::places;
@@ -174,6 +175,14 @@ impl Regions {
         ensures { self.new ≡ changed self.old key (without_member place) }
     {
         places::take_member(&mut self.records, key, place);
+    }
+
+    /// The members of a region come into rising order.
+    pub fn order_members(&mut self, key: usize)
+        requires { IsKey self.old key }
+        ensures { Orders self.old self.new key }
+    {
+        places::order_members(&mut self.records, key);
     }
 
     /// Adds a region without members, with the next number.

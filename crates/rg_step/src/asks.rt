@@ -35,6 +35,7 @@ pub(crate) enum Come {
 }
 
 /// Walks along the code from an address on, up to the step's end.
+#[inline(always)]
 pub(crate) fn walk_asking<S: Source>(
     p: &mut Machine,
     code: &CodeList,

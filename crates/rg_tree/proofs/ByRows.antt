@@ -13,7 +13,7 @@ use Rattle.rg_tree.specs.Phrases.{Phrase, Symbol, that, sign, name, class_name, 
 use Rattle.rg_tree.specs.Phrases.{mark}
 use Rattle.rg_tree.specs.Phrases as p
 use Rattle.rg_tree.specs.declared.counts.Counts.{Counts}
-use Rattle.rg_tree.specs.Counts.{behind}
+use Rattle.rg_tree.specs.Counts.{behind, counted}
 use Rattle.rg_tree.specs.Table.{next, row}
 use Rattle.rg_tree.specs.Operators.{cap_of, plain_type_of, manager_of, base_of, input_of, comparison_of, sum_of, product_of, literal_of}
 use Rattle.rg_tree.specs.Forms as form
@@ -125,10 +125,11 @@ pub record Begins (x : Kind) : Type 0 where
   pub call_base : row p.CallBase (Some x) ≡ Some (base_symbol x ∷ [])
   pub stmt : row p.Stmt (Some x) ≡ Some (the p.Path ∷ mark s.Assign ∷ the p.Right ∷ mark s.Semicolon ∷ [])
   pub primary : row p.Primary (Some x) ≡ Some (the p.Path ∷ the p.Is ∷ [])
+  pub counted : (c : Counts) → counted (base_symbol x) c ≡ Ok c
 
 pub base_of-begins : (x : Kind) (n : Name) (b : Option Name) → base_of x n ≡ Some b → Begins x
-base_of-begins k.Name n b e = record { path = refl; call_base = refl; stmt = refl; primary = refl }
-base_of-begins (k.Word w.SelfWord) n b e = record { path = refl; call_base = refl; stmt = refl; primary = refl }
+base_of-begins k.Name n b e = record { path = refl; call_base = refl; stmt = refl; primary = refl; counted = λ c. refl }
+base_of-begins (k.Word w.SelfWord) n b e = record { path = refl; call_base = refl; stmt = refl; primary = refl; counted = λ c. refl }
 base_of-begins _ n b e = cc
 
 pub input_of-row : (x : Kind) (r : Right) → input_of x ≡ Some r → row p.Right (Some x) ≡ Some (that x ∷ [])

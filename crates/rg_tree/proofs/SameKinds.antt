@@ -22,7 +22,7 @@ words = w.Class ∷ w.Tmp ∷ w.Mut ∷ w.Paused ∷ w.Imm ∷ w.Iso ∷ w.Int �
     ∷ w.Else ∷ w.While ∷ w.Return ∷ w.Print ∷ w.Read ∷ w.More ∷ w.Call ∷ w.New ∷ w.Enter ∷ w.As ∷ w.In ∷ w.Is ∷ w.Freeze ∷ w.Merge
     ∷ w.Swap ∷ w.Collect ∷ w.Nil ∷ w.True ∷ w.False ∷ w.And ∷ w.Or ∷ w.Not ∷ w.SelfWord ∷ w.Giving ∷ w.Size ∷ w.Cown ∷ w.When ∷ []
 
-abbrev word_number : Keyword → ℕ
+abbrev pub word_number : Keyword → ℕ
 word_number w.Class = 0
 word_number w.Tmp = 1
 word_number w.Mut = 2
@@ -78,7 +78,7 @@ abbrev signs : List Sign
 signs = s.OpenBrace ∷ s.CloseBrace ∷ s.OpenParen ∷ s.CloseParen ∷ s.Colon ∷ s.Semicolon ∷ s.Comma ∷ s.Dot ∷ s.Assign ∷ s.Equal
     ∷ s.NotEqual ∷ s.Less ∷ s.AtMost ∷ s.Greater ∷ s.AtLeast ∷ s.Plus ∷ s.Minus ∷ s.Star ∷ s.Slash ∷ s.Percent ∷ []
 
-abbrev sign_number : Sign → ℕ
+abbrev pub sign_number : Sign → ℕ
 sign_number s.OpenBrace = 0
 sign_number s.CloseBrace = 1
 sign_number s.OpenParen = 2

@@ -1,11 +1,14 @@
 -- The tokens spell at most one tree.
-use Rattle.std.proofs.Common.{◌≡◌, ℕ, List, [], ◌∷◌, Option, Some, Result, Ok, refl, sym, ◌∙◌, ap, subst}
+use Rattle.std.proofs.Common.{◌≡◌, ℕ, ◌+◌, ◌*◌, ◌==◌, false, List, [], ◌∷◌, length, Option, Some, Result, Ok, refl, sym, ◌∙◌, ap, subst}
+use Rattle.std.proofs.lemmas.Bool.Decides.{Decides-eqb}
+use Rattle.rg_base.specs.declared.token.Kind.TheVariants as k
 use Rattle.rg_tree.specs.declared.rows.BinOp.{BinOp}
 use Rattle.rg_tree.specs.declared.rows.BinOp.TheVariants.{Or, And}
 use Rattle.rg_base.specs.declared.token.Token.{Token}
 use Rattle.rg_base.specs.declared.fault.Code.{Code}
 use Rattle.rg_tree.specs.Tree.{Tree, Name, Path, Expr, neg, not, binary, Call, value, result_of, stmt, call, print, return, otherwise}
-use Rattle.rg_tree.specs.Phrases.{Symbol}
+use Rattle.rg_tree.specs.Phrases.{Symbol, that, the}
+use Rattle.rg_tree.specs.Phrases as p
 use Rattle.rg_tree.specs.declared.counts.Counts.{Counts}
 use Rattle.rg_tree.specs.Counts.{opened, closed, one_local, one_method}
 use Rattle.rg_tree.specs.Forms as form
@@ -19,6 +22,7 @@ use Rattle.rg_tree.specs.Grammar.{call_further, call_args, no_args, first_arg, n
 use Rattle.rg_tree.specs.Grammar.{no_and, not_row, no_not, cmp_row, compared, not_compared, sum_row, sum_further, no_sum, mul_row, mul_further}
 use Rattle.rg_tree.specs.Grammar.{no_mul, minus, no_minus, literal, parens, path_value, is_row, no_is}
 use Rattle.rg_tree.proofs.ByRows.{row_of-holds}
+use Rattle.rg_tree.proofs.SameKinds.{word_number, sign_number}
 
 -- two readings that give and leave the same
 pub record Agree {A : Type 0} (a b : A) (c d : Counts) (ts us : List Token) : Type 0 where
@@ -139,9 +143,26 @@ method_at : {source : List ℕ} {f : Form} {x : Given f} {A : Type 0} {a b : A} 
 method_at r m n p q y = let s = ap one_method r.counts ∙ n
     in on (record { tree = r.tree; counts = refl; rest = tail_of (tail_of r.rest) }) (opened_at m s p q y)
 
+-- a number for a row, which no other row of its phrase has: by its length and what it begins with, and by its length alone where it
+-- is one token, which may be one of several
+abbrev begins_with : List Symbol → ℕ
+begins_with [] = 0
+begins_with (the p.Call ∷ []) = 1
+begins_with (the x ∷ []) = 2
+begins_with (x ∷ []) = 3
+begins_with (that (k.Word x) ∷ y ∷ r) = 4 + word_number x
+begins_with (that (k.Mark x) ∷ y ∷ r) = 50 + sign_number x
+begins_with (x ∷ y ∷ r) = 70
+
+abbrev number_of : List Symbol → ℕ
+number_of r = 100 * length r + begins_with r
+
+other_number : (m n : ℕ) → m ≡ n → m == n ≡ false → ⊥
+other_number m n e h = cc ((Decides-eqb m n).1 e)
+
 -- readings by different rows can't both be
-apart : {r q : List Symbol} {o : Option (List Symbol)} → o ≡ Some r → o ≡ Some q → r ≡ q
-apart h i = cc
+apart : {A : Type 0} {r q : List Symbol} {o : Option (List Symbol)} → o ≡ Some r → o ≡ Some q → number_of r == number_of q ≡ false → A
+apart {A} {r} {q} h i e = absurd (other_number (number_of r) (number_of q) (ap number_of (same_some h i)) e)
 
 -- the same is read from the same tokens, and leaves the same
 pub Reads-unique : {source : List ℕ} {f : Form} {c d e : Counts} {ts us vs : List Token} {a b : Given f} → Reads source f c ts a d us
@@ -302,7 +323,7 @@ Reads-unique (is_row e f) (is_row e2 f2) =
     same
 Reads-unique (no_is e) (no_is f) =
     same
-Reads-unique x y = let h = apart (row_of-holds x) (row_of-holds y) in cc
+Reads-unique x y = apart (row_of-holds x) (row_of-holds y) refl
 
 pub one-tree : (source : List ℕ) (a b : Tree) (ts : List Token) → Spells source a ts → Spells source b ts → a ≡ b
 one-tree source a b ts r q = (Reads-unique r.1 q.1).tree

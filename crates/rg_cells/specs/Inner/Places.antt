@@ -43,6 +43,11 @@ HoldsAt places slot = (c : Cell) × (get places slot ≡ Some (Held c))
 abbrev pub ChangesAt : (old new : Slab Place) → ℕ → (Cell → Cell) → Type 0
 ChangesAt old new slot f = (c : Cell) → get old slot ≡ Some (Held c) → new ≡ with_value old slot (Held (f c))
 
+-- the cells at two slots change places, and nothing else changes
+abbrev pub Exchanges : (old new : Slab Place) → (a b : ℕ) → Type 0
+Exchanges old new a b = (c d : Cell) → get old a ≡ Some (Held c) → get old b ≡ Some (Held d)
+    → new ≡ with_value (with_value old a (Held d)) b (Held c)
+
 -- the number of held cells of these places
 abbrev pub held_places : Slab Place → ℕ
 held_places places = total one (map shown places.slots)

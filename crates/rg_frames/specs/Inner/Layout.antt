@@ -1,5 +1,5 @@
 -- How the windows lie over slots and temporaries, and what the fields of `Frames` show.
-use Rattle.std.specs.Prelude.{◌≡◌, ℕ, suc, ◌≤◌, ◌<◌, ◌-◌, List, Some, length, min, slice_get, vec_capacity}
+use Rattle.std.specs.Prelude.{◌≡◌, ℕ, suc, ◌≤◌, ◌<◌, ◌-◌, ◌⊎◌, List, Some, None, length, min, slice_get, vec_capacity}
 use Rattle.std.specs.declared.vec.Vec.{Vec}
 use Rattle.rg_base.specs.declared.value.Word.{Word}
 use Rattle.rg_base.specs.declared.value.Word.TheVariants.{Nil}
@@ -22,6 +22,14 @@ pub record Lies (v : Stack) : Type 0 where
 pub record NilFrom (slots : List Word) (from to : ℕ) : Type 0 where
   pub order : from ≤ to
   pub nil : (i : ℕ) (w : Word) → from ≤ i → i < to → slice_get slots i ≡ Some w → w ≡ Nil
+
+-- a place isn't one of those from one place up to another
+abbrev pub IsPast : (place from to : ℕ) → Type 0
+IsPast place from to = (place < from) ⊎ (to ≤ place)
+
+-- where the slots of the frame beneath the k-th end
+abbrev pub end_of : List Frame → (first k : ℕ) → ℕ
+end_of frames first k = elim (slice_get frames k) [ None ↦ first | Some f ↦ f.below ]
 
 -- what was never written is nil: the top frame's slots from `live` on, and those of each frame beneath from the place that is
 -- kept for it on, up to the first slot of the frame over it

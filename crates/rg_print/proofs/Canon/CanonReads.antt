@@ -1,17 +1,16 @@
 -- What a source spells, its lexemes spell: each reading from a source tells it.
-use Rattle.std.proofs.Common.{◌≡◌, ℕ, suc, ◌+◌, ◌*◌, Bool, true, false, List, [], ◌∷◌, ◌++◌, length, map, replicate, Option, refl, sym, ◌∙◌, ap}
+use Rattle.std.proofs.Common.{◌≡◌, ℕ, suc, ◌+◌, ◌*◌, true, false, List, [], ◌∷◌, ◌++◌, length, replicate, refl, sym, ◌∙◌, ap}
 use Rattle.std.proofs.Common.{subst, arith}
 use Rattle.rg_base.specs.declared.words.Keyword.TheVariants as w
 use Rattle.rg_base.specs.declared.words.Sign.TheVariants as s
-use Rattle.rg_base.specs.declared.words.Cap.{Cap}
 use Rattle.rg_base.specs.declared.token.Kind.TheVariants as k
 use Rattle.rg_base.specs.declared.token.Token.{Token}
 use Rattle.rg_base.specs.Tokens.{line_behind}
 use Rattle.rg_tree.specs.declared.rows.BinOp.TheVariants.{Or, And}
 use Rattle.rg_tree.specs.declared.counts.Counts.{Counts}
-use Rattle.rg_tree.specs.Tree.{Name, Ty, declare, assign, call, swap, branch, while, enter, print, collect, return, no_else, otherwise, Block, empty}
-use Rattle.rg_tree.specs.Tree.{then, Param, Member, field, method, Class, Tree}
-use Rattle.rg_tree.specs.Lineless.{stmt_lineless, block_lineless, else_lineless, member_lineless, class_lineless, lineless}
+use Rattle.rg_tree.specs.Tree.{Name, declare, assign, call, swap, branch, while, enter, print, collect, return, no_else, otherwise, empty}
+use Rattle.rg_tree.specs.Tree.{then, field, method, Tree}
+use Rattle.rg_tree.specs.Lineless.{stmt_lineless, block_lineless, else_lineless, class_lineless, lineless}
 use Rattle.rg_tree.specs.Counts.{no_signs}
 use Rattle.rg_tree.specs.Forms as form
 use Rattle.rg_tree.specs.Forms.{Form, Given}
@@ -25,10 +24,11 @@ use Rattle.rg_tree.specs.Grammar.{no_and, not_row, no_not, cmp_row, compared, no
 use Rattle.rg_tree.specs.Grammar.{no_mul, minus, no_minus, literal, parens, path_value, is_row, no_is}
 use Rattle.rg_print.proofs.Canon.Lexemes.{word, mark, named, space, newline, indent, dotted, right_lexemes, braces, stmt_lexemes, else_lexemes}
 use Rattle.rg_print.proofs.Canon.Lexemes.{block_lexemes, more_param_lexemes, param_lexemes, result_lexemes, members_lexemes, program_lexemes}
-use Rattle.rg_print.proofs.Canon.LexemeCuts.{token_at, tokens_at, IsName}
-use Rattle.rg_print.proofs.Canon.FineTokens.{FineKind, AreFine}
-use Rattle.rg_print.proofs.Canon.LexemesApart.{NamesPlain, path-apart, ty-apart, expr-apart, call-apart, right-apart}
+use Rattle.rg_print.proofs.Canon.LexemeCuts.{token_at, tokens_at}
+use Rattle.rg_print.proofs.Canon.FineTokens.{AreFine}
+use Rattle.rg_print.proofs.Canon.LexemesApart.{path-apart, ty-apart, expr-apart, call-apart, right-apart}
 use Rattle.rg_print.proofs.Canon.Readings.{next-tokens_at}
+use Rattle.rg_print.proofs.Canon.SameLines.{name-of, names-push, class-same, field-same, method-same}
 use Rattle.rg_print.proofs.Canon.PartReads.{Fits, CallFits, call-plain, right-plain, leads, cap-read, manager-read, ty-read, expr-read, call-read}
 use Rattle.rg_print.proofs.Canon.PartReads.{right-read}
 use Rattle.rg_print.proofs.Canon.ExprLimits.{depth_at, looser, loosest, at_zero, binary-fits, parens-fits, literal-fits, path-fits, is_nil-fits}
@@ -37,51 +37,6 @@ use Rattle.rg_print.proofs.Canon.CanonFacts.{stmt-begins, block-begins, ends-bra
 use Rattle.rg_print.proofs.Canon.CanonFacts.{base-plain, input-fits, ProgramWritten, Told, stmt-apart, stmt-read, path-reads, assigned}
 
 module _ (S source : List ℕ) where
-  -- a name of a source is within its limit
-  name-of : (t : Token) → t.kind ≡ k.Name → FineKind t.kind (text source t) → IsName (text source t)
-  name-of t h f = subst (λ x. FineKind x (text source t)) h f
-
-  -- with one name more
-  names-push : (ns : List Name) (n : Name) → NamesPlain ns → IsName n → NamesPlain (ns ++ n ∷ [])
-  names-push [] n h i = (i, tt)
-  names-push (x ∷ ns) n h i = (h.0, names-push ns n h.1 i)
-
-  -- the same but for lines
-  class-same : (v : Bool) (n m : Name) (as' bs : List Member) (i j : ℕ) → n ≡ m → map member_lineless as' ≡ map member_lineless bs
-      → class_lineless (record { name = n; is_tmp = v; members = as'; line = i }) ≡ class_lineless (record {
-        name = m;
-        is_tmp = v;
-        members = bs;
-        line = j;
-      })
-  class-same v n m as' bs i j h e = class-apart (map member_lineless as') (map member_lineless bs) h e
-    where
-      class-apart : (x y : List Member) → n ≡ m → x ≡ y
-          → ◌≡◌ {A = Class} (record { name = n; is_tmp = v; members = x; line = 0 }) (record { name = m; is_tmp = v; members = y; line = 0 })
-      class-apart x y h e = cc
-
-  field-same : (n m : Name) (t : Ty) (as' bs : List Member) (i j : ℕ) → n ≡ m → map member_lineless as' ≡ map member_lineless bs
-      → map member_lineless (field (record { name = n; ty = t; line = i }) ∷ as') ≡ map member_lineless (field (record {
-        name = m;
-        ty = t;
-        line = j;
-      }) ∷ bs)
-  field-same n m t as' bs i j h e =
-      ap (λ z. field (record { name = z; ty = t; line = 0 }) ∷ map member_lineless as') h ∙ ap (λ z. field (record {
-        name = m;
-        ty = t;
-        line = 0;
-      }) ∷ z) e
-
-  method-same : (a : Cap) (n m : Name) (ps : List Param) (o : Option Ty) (b d : Block) (as' bs : List Member) (i j : ℕ) → n ≡ m
-      → block_lineless b ≡ block_lineless d → map member_lineless as' ≡ map member_lineless bs
-      → map member_lineless (method (record { receiver = a; name = n; params = ps; result = o; body = b; line = i }) ∷ as')
-      ≡ map member_lineless (method (record { receiver = a; name = m; params = ps; result = o; body = d; line = j }) ∷ bs)
-  method-same a n m ps o b d as' bs i j h f e =
-      ap (λ z. method (record { receiver = a; name = z; params = ps; result = o; body = block_lineless b; line = 0 }) ∷ map member_lineless as') h
-      ∙ ap (λ z. method (record { receiver = a; name = m; params = ps; result = o; body = z; line = 0 }) ∷ map member_lineless as') f
-      ∙ ap (λ z. method (record { receiver = a; name = m; params = ps; result = o; body = block_lineless d; line = 0 }) ∷ z) e
-
   -- each reading tells it
   told : {f : Form} {c d : Counts} {ts us : List Token} {a : Given f} → Reads source f c ts a d us → AreFine source ts
       → Told S f c a d × AreFine source us
@@ -130,7 +85,7 @@ module _ (S source : List ℕ) where
   told (class_row {u = u} {ms = ms} e f h i j x l) fine =
       let r = told x fine.1.1.1 in
       let n = text source u in
-      let name = name-of u f fine.1.0 in (
+      let name = name-of source u f fine.1.0 in (
         record {
           apart = λ rest y. (refl, (refl, (name, refl, (refl, (tt, (refl, r.0.apart (mark s.CloseBrace ∷ newline ∷ rest) (tt, (refl, y))))))));
           reads = λ from line rest y.
@@ -151,7 +106,7 @@ module _ (S source : List ℕ) where
   told (tmp_class_row {u = u} {ms = ms} e m f h i j x l) fine =
       let r = told x fine.1.1.1.1 in
       let n = text source u in
-      let name = name-of u f fine.1.1.0 in (
+      let name = name-of source u f fine.1.1.0 in (
         record {
           apart = λ rest y. (
             refl,
@@ -207,7 +162,7 @@ module _ (S source : List ℕ) where
       let r = told x fine.1.1 in
       let q = told z r.1.1 in
       let n = text source t in
-      let name = name-of t e fine.0 in (
+      let name = name-of source t e fine.0 in (
         record {
           apart = λ rest v. (
             refl,
@@ -248,7 +203,7 @@ module _ (S source : List ℕ) where
       let rn = told n rm.1 in
       let rz = told z rn.1 in
       let nm = text source u in
-      let name = name-of u f rx.1.0 in (
+      let name = name-of source u f rx.1.0 in (
         record {
           apart = λ rest v.
               let body = space ∷ braces 1 (block_lexemes 2 b) (newline ∷ members_lexemes ms rest) in (
@@ -317,12 +272,12 @@ module _ (S source : List ℕ) where
   )
   told (cap_row e) fine = (refl, fine.1)
   told (plain_type {t = t} {y = y} e) fine = ((plain_type-plain t.kind y e, refl), fine.1)
-  told (ref_type {t = t} x e) fine = let r = told x fine in ((name-of t e r.1.0, r.0), r.1.1)
+  told (ref_type {t = t} x e) fine = let r = told x fine in ((name-of source t e r.1.0, r.0), r.1.1)
   told (first_param {c = c} {f = g} {t = t} {y = y} {ps = ps} e h i x z) fine =
       let r = told x fine.1.1 in
       let q = told z r.1 in
       let n = text source t in
-      let name = name-of t e fine.0 in (
+      let name = name-of source t e fine.0 in (
         record {
           apart = λ rest o v. (
             name,
@@ -360,7 +315,7 @@ module _ (S source : List ℕ) where
       let r = told x fine.1.1.1 in
       let q = told z r.1 in
       let n = text source t in
-      let name = name-of t f fine.1.0 in (
+      let name = name-of source t f fine.1.0 in (
         record {
           apart = λ rest o v. (
             tt,
@@ -476,7 +431,7 @@ module _ (S source : List ℕ) where
       let r = told x fine.1.1.1 in
       let q = told z r.1.1 in
       let n = text source u in
-      let name = name-of u f fine.1.0 in (
+      let name = name-of source u f fine.1.0 in (
         record {
           apart = λ d rest v. (
             refl,
@@ -549,7 +504,7 @@ module _ (S source : List ℕ) where
   told (swap_row {u = u} {q = p0} e f h x i) fine =
       let r = told x fine.1.1.1 in
       let n = text source u in
-      let name = name-of u f fine.1.0 in (
+      let name = name-of source u f fine.1.0 in (
         record {
           apart = λ d rest v. (refl, (refl, (name, refl, (tt, (refl, path-apart p0 (mark s.Semicolon ∷ rest) r.0.0 refl (tt, v))))));
           reads = λ d from line rest m v.
@@ -622,7 +577,7 @@ module _ (S source : List ℕ) where
       let r = told x fine.1 in
       let q = told y r.1.1.1 in
       let n = text source t in
-      let name = name-of t h r.1.1.0 in (
+      let name = name-of source t h r.1.1.0 in (
         record {
           apart = λ d rest v. (
             refl,
@@ -721,25 +676,25 @@ module _ (S source : List ℕ) where
   told (path_row {t = t} {b = b} e x) fine =
       let r = told x fine.1 in
       ((record { base = base-plain t.kind (text source t) b e fine.0; fields = r.0.0 }, r.0.1), r.1)
-  told (next_field {u = u} e f x) fine = let r = told x fine.1.1 in (((name-of u f fine.1.0, r.0.0), r.0.1), r.1)
+  told (next_field {u = u} e f x) fine = let r = told x fine.1.1 in (((name-of source u f fine.1.0, r.0.0), r.0.1), r.1)
   told (no_fields e) fine = ((tt, refl), fine)
   told (new_row e x) fine = told x fine.1
-  told (freeze_row {u = u} e f) fine = ((name-of u f fine.1.0, refl), fine.1.1)
-  told (merge_row {u = u} e f) fine = ((name-of u f fine.1.0, refl), fine.1.1)
+  told (freeze_row {u = u} e f) fine = ((name-of source u f fine.1.0, refl), fine.1.1)
+  told (merge_row {u = u} e f) fine = ((name-of source u f fine.1.0, refl), fine.1.1)
   told (input_row {c = c} {t = t} {r = a} e) fine = (input-fits t.kind a c e, fine.1)
   told (result_row x) fine = told x fine
   told (value_row e x) fine = told x fine
-  told (new_plain {t = t} e) fine = ((name-of t e fine.0, refl), fine.1)
-  told (new_temporary {u = u} e f) fine = ((name-of u f fine.1.0, refl), fine.1.1)
-  told (new_region {u = u} e f h x) fine = let r = told x fine.1.1.1 in ((name-of u f fine.1.0, r.0), r.1)
+  told (new_plain {t = t} e) fine = ((name-of source t e fine.0, refl), fine.1)
+  told (new_temporary {u = u} e f) fine = ((name-of source u f fine.1.0, refl), fine.1.1)
+  told (new_region {u = u} e f h x) fine = let r = told x fine.1.1.1 in ((name-of source u f fine.1.0, r.0), r.1)
   told (call_start {e = g} {v = v} {a = a} e x f h y) fine =
       let r = told x fine.1 in
       let q = told y r.1.1.1 in
-      (subst (λ z. CallFits z a g) (sym r.0.1) (q.0 (record { base = r.0.0; fields = tt }) (name-of v h r.1.1.0)), q.1)
+      (subst (λ z. CallFits z a g) (sym r.0.1) (q.0 (record { base = r.0.0; fields = tt }) (name-of source v h r.1.1.0)), q.1)
   told (call_base {t = t} {b = b} e) fine = ((base-plain t.kind (text source t) b e fine.0, refl), fine.1)
   told (call_further {u = u} {q = q} {m = m} e f x) fine =
       let r = told x fine.1.1 in
-      (λ h i. r.0 (record { base = h.base; fields = names-push q.fields m h.fields i }) (name-of u f fine.1.0), r.1)
+      (λ h i. r.0 (record { base = h.base; fields = names-push q.fields m h.fields i }) (name-of source u f fine.1.0), r.1)
   told (call_args {d = d} {e = g} e h x f) fine =
       let r = told x fine.1 in
       (λ i j. record { target = i; method = j; within = d; opens = h; behind = g; args = r.0; closes = refl }, r.1.1)

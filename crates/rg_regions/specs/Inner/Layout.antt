@@ -5,7 +5,9 @@ use Rattle.std.specs.Map.{lookup}
 use Rattle.rg_base.specs.declared.fault.Memory.{Memory}
 use Rattle.slab.specs.Slab.{Slab, get, with_value}
 use Rattle.rg_regions.specs.declared.region.Region.{Region}
+use Rattle.std.specs.List.Sorted.{IsPermutation, IsNonDecreasing}
 use Rattle.rg_regions.specs.Table.{Record, RegionTable, HasNumber, with_room}
+use Rattle.rg_regions.specs.Ordered.{with_members}
 
 -- what a region shows
 abbrev pub record_of : Region → Record
@@ -53,6 +55,13 @@ abbrev pub Widens : (old new : Slab Region) → (key more : ℕ) → Result (Uni
 Widens old new key more result = (r : Region) → get old key ≡ Some r →
     (n : Region) × (new ≡ with_value old key n) × (n.link ≡ r.link) × (record_of n ≡ with_room (record_of n).room (record_of r))
     × OnOk result (more ≤ (record_of n).room) × OnErr result (record_of n ≡ record_of r)
+
+-- the members of the region of a key are put in an order in which none is above the next
+abbrev pub Sorts : (old new : Slab Region) → (key : ℕ) → Type 0
+Sorts old new key = (r : Region) → get old key ≡ Some r →
+    (n : Region) × (new ≡ with_value old key n) × (n.link ≡ r.link)
+    × (record_of n ≡ with_members n.members.items (record_of r))
+    × IsNonDecreasing n.members.items × IsPermutation r.members.items n.members.items
 
 -- the entries have the key of each number of the table, and no others
 pub record IsIndexed (entries : List (ℕ × ℕ)) (t : RegionTable) : Type 0 where
