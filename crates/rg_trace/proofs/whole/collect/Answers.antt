@@ -133,9 +133,9 @@ returns g c =
     let h : c.mark_region.new.cells.heap ≡ c.args.cells.now.heap = c.mark_region.ensures.marked.heap in
     let T : Heap → ℕ → Type 0 = λ z n. black_fields c.args.cells.now.heap n c.mark_region.new.cells.marks + sum_by
     (if_white z c.mark_region.new.cells.marks) rec.members ≤ region_fields c.args.cells.now.heap rec.number in
-    let T1 : ℕ → Type 0 = λ n. T c.args.cells.now.heap n in
-    let T2 : Heap → Type 0 = λ z. T z c.number-region.result in
-    let bound = subst T2 (sym h) (subst T1 num
+    let on_number : ℕ → Type 0 = λ n. T c.args.cells.now.heap n in
+    let on_heap : Heap → Type 0 = λ z. T z c.number-region.result in
+    let bound = subst on_heap (sym h) (subst on_number num
     (ticks c.args.cells.now.heap rec.number c.mark_region.new.cells.marks rec.members ow.lie
     (λ i j l n q. let z : i ≡ j = ow.once i j (omega arith) n q in omega (arith, z)))) in
     let Q : Record → Type 0 = λ r. c.chain_orphans-orphans.new.steps ≤ c.args.steps.now + sum_by
