@@ -27,11 +27,6 @@ pub FailsAs-first : {A B : Type 0} (a : Lined A) (go : A → Lined B) (s : Stop)
 FailsAs-first a go (Fault f) h = rw h refl
 FailsAs-first a go Memory h = tt
 
--- the first part gave a value, and the rest failed
-pub FailsAs-second : {A B : Type 0} (a : Lined A) (go : A → Lined B) (x : A) (s : Stop) → a ≡ Ok x → FailsAs (go x) s →
-    FailsAs (◌>>=◌ a go) s
-FailsAs-second a go x s e h = rw e h
-
 FailsAs-same : {A : Type 0} (a b : Lined A) (s : Stop) → b ≡ a → FailsAs a s → FailsAs b s
 FailsAs-same a b s e h = rw e h
 

@@ -1,11 +1,13 @@
 -- One more place of a flow is put into a state.
 use Rattle.std.proofs.Common.{◌≡◌, ◌≢◌, ℕ, ◌+◌, ◌<◌, ◌≤◌, Bool, true, false, not, ◌&&◌, ◌⊎◌, inl, inr, List, length, get_or, Option, None, nat_eq}
-use Rattle.std.proofs.Common.{nat_lt, if◌then◌else◌, refl, ap, ◌∙◌, arith}
+use Rattle.std.proofs.Common.{nat_lt, if◌then◌else◌, Ok, refl, ap, ◌∙◌, arith}
 use Rattle.std.proofs.lemmas.Bool.{cases_eq, cases_lt, eq-eqb, ne_eqb}
 use Rattle.std.proofs.lemmas.Bool.Decides.{nat_tests}
 use Rattle.std.proofs.lemmas.Option.{slice_get-get_or}
 use Rattle.rg_base.specs.declared.ty.Ty.TheVariants.{Int}
-use Rattle.rg_rules.specs.Environment.{Readiness, gone}
+use Rattle.rg_base.specs.declared.fault.Code.TheVariants.{Unavailable}
+use Rattle.rg_rules.specs.Answers.{Answer, Passed, test}
+use Rattle.rg_rules.specs.Environment.{Readiness, ready, gone, is_ready}
 use Rattle.rg_flow.specs.declared.flow.Flow.{Flow}
 use Rattle.rg_flow.specs.Flows.{state_of, Sets}
 use Rattle.rg_type.specs.Scope.{same_name}
@@ -16,6 +18,22 @@ use Rattle.rg_type.proofs.FlowLemmas.{names_at-is, names_at-past}
 -- no variable
 abbrev pub no_var : Var
 no_var = record { name = None; ty = Int; depth = 0; assignable = false }
+
+-- a place that was put into a state has it
+pub Sets-here : (a b : Flow) (v : ℕ) (s : Readiness) → Sets a b v s → state_of b v ≡ s
+Sets-here a b v s h = h v ∙ rw (eq-eqb v v refl) refl
+
+-- what was made ready isn't refused
+pub ready-passes : (a b : Flow) (v : ℕ) (r : Answer Passed) → Sets a b v ready → r ≡ test (is_ready (state_of b v)) Unavailable → r ≡ Ok tt
+ready-passes a b v r h e = e ∙ ap (λ s. test (is_ready s) Unavailable) (Sets-here a b v ready h)
+
+-- a place is put into one state and then into another
+pub Sets-again : (a b c : Flow) (v : ℕ) (s t : Readiness) → Sets a b v s → Sets b c v t → Sets a c v t
+Sets-again a b c v s t h k w = k w ∙ by (nat_eq w v) (h w)
+  where
+    by : (e : Bool) → state_of b w ≡ (if e then s else state_of a w) → (if e then t else state_of b w) ≡ (if e then t else state_of a w)
+    by true x = refl
+    by false x = x
 
 -- the variables of a name before a place are in a state, the others as they were
 abbrev pub IsNamedTo : (f old : Flow) → Option ℕ → List Var → Readiness → ℕ → Type 0

@@ -1,13 +1,11 @@
 -- Scopes against the environments that they stand for.
-use Rattle.std.proofs.Common.{◌≡◌, ◌≢◌, ℕ, zero, suc, ◌+◌, ◌<◌, Bool, true, false, inl, inr, List, [], ◌∷◌, length, take, map, find, Option, None}
+use Rattle.std.proofs.Common.{◌≡◌, ◌≢◌, ℕ, ◌<◌, Bool, true, false, inl, inr, List, [], ◌∷◌, length, map, find, Option, None}
 use Rattle.std.proofs.Common.{Some, option_map, nat_eq, bytes_eq, if◌then◌else◌, refl, sym, ap, subst, ◌∙◌}
 use Rattle.std.specs.Prelude.{ok_or, Result, Ok, Err, IfSome}
 use Rattle.std.specs.List.{AllByRecursion}
 use Rattle.std.proofs.lemmas.Bool.Decides.{eqb_tells}
-use Rattle.std.proofs.lemmas.List.{map-append, length-map}
 use Rattle.std.proofs.lemmas.List.Elements.{recursion_from_All, All-from_recursion}
 use Rattle.std.proofs.lemmas.Slice.Eq.{bytes_eq-Decides}
-use Rattle.rg_base.specs.declared.ty.Ty.{Ty}
 use Rattle.rg_base.specs.declared.fault.Code.{Code}
 use Rattle.rg_base.specs.declared.fault.Code.TheVariants.{Unknown}
 use Rattle.rg_tree.specs.Tree.{Name}
@@ -17,7 +15,7 @@ use Rattle.rg_tree.specs.Rows.RowsExist.{IsNameIn}
 use Rattle.rg_tree.proofs.Callers.{name_at-injective}
 use Rattle.rg_rules.specs.Environment as rules
 use Rattle.rg_names.specs.TreeAnswers.{IsKnown}
-use Rattle.rg_type.specs.Scope.{Slot, Scope, same_name, pushed, marked_slot, marked, entered, closed_at, variable_of, entry_of, env_of, IsSlotIn}
+use Rattle.rg_type.specs.Scope.{Slot, Scope, same_name, marked_slot, marked, variable_of, entry_of, env_of, IsSlotIn}
 use Rattle.rg_type.specs.Scope.{IsScopeIn}
 use Rattle.rg_type.specs.Inner.States.{readiness_of, slot_of, FoundAs, FoundInTree, IsReadable}
 use Rattle.rg_type.specs.declared.env.found.Found.{Found}
@@ -135,32 +133,6 @@ found-tree t d name l scope h answer = by (slot_of name scope.slots) refl answer
           (known-each t scope.slots each) e);
     }
     by (Some s) e (Err code) found = absurd found
-
--- one more variable
-pub pushed-tree : (t : Tables) (scope : Scope) (name : Option ℕ) (ty : Ty) (assignable : Bool) →
-    env_of t (pushed scope name ty assignable) ≡ rules.with_variable (env_of t scope) (variable_of t name) ty assignable
-pushed-tree t scope name ty assignable =
-    ap (λ (es : List rules.Entry). record { depth = scope.depth; entries = es })
-    (map-append (entry_of t) scope.slots (record { name = name; ty = ty; depth = scope.depth; readiness = rules.ready; assignable = assignable } ∷
-    []))
-
--- one more variable one depth deeper
-pub entered-tree : (t : Tables) (scope : Scope) (name : Option ℕ) (ty : Ty) →
-    env_of t (entered scope name ty) ≡ rules.with_variable (rules.deeper (env_of t scope)) (variable_of t name) ty true
-entered-tree t scope name ty = pushed-tree t (record scope { depth = scope.depth + 1 }) name ty true
-
-map-take : (t : Tables) (n : ℕ) (slots : List Slot) → map (entry_of t) (take n slots) ≡ take n (map (entry_of t) slots)
-map-take t zero [] = refl
-map-take t zero (s ∷ ss) = refl
-map-take t (suc n) [] = refl
-map-take t (suc n) (s ∷ ss) = ap (λ es. entry_of t s ∷ es) (map-take t n ss)
-
--- the variables behind a block
-pub closed-tree : (t : Tables) (front out : Scope) →
-    env_of t (closed_at front.depth (length front.slots) out) ≡ rules.closed (env_of t front) (env_of t out)
-closed-tree t front out =
-    ap (λ (es : List rules.Entry). record { depth = front.depth; entries = es })
-    (map-take t (length front.slots) out.slots ∙ ap (λ n. take n (map (entry_of t) out.slots)) (sym (length-map front.slots (entry_of t))))
 
 marked-each : (t : Tables) (name : Option ℕ) (now : rules.Readiness) (slots : List Slot) → AllByRecursion (IsSlotIn t) slots →
     AllByRecursion (IsSlotIn t) (map (marked_slot name now) slots)

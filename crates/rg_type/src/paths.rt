@@ -21,14 +21,14 @@ use rg_rules::adapt;
 use rg_tree::Path;
 
 /// A reference: what it permits, and the class that it leads to.
-#[derive(Clone, Copy, Debug, PartialEq, Eq)]
+#[derive(Clone, Copy)]
 pub struct Followed {
     pub cap: Cap,
     pub class: u32,
 }
 
 /// A field: what its receiver permits, and its declared type.
-#[derive(Clone, Copy, Debug, PartialEq, Eq)]
+#[derive(Clone, Copy)]
 pub struct Looked {
     pub receiver: Cap,
     pub ty: Ty,

@@ -9,7 +9,7 @@ use rg_base::Ty;
 use rg_flow::Flow;
 
 /// A visible variable.
-#[derive(Clone, Copy, Debug, PartialEq, Eq)]
+#[derive(Clone, Copy)]
 pub struct Found {
     pub ty: Ty,
     pub depth: u32,

@@ -10,7 +10,7 @@ use super::var::Var;
 use rg_flow::Flow;
 
 /// The state of an `iso` variable; a variable of another type is always ready.
-#[derive(Clone, Copy, Debug, PartialEq, Eq)]
+#[derive(Clone, Copy)]
 pub enum State {
     /// It may be used.
     Ready,
@@ -57,23 +57,12 @@ pub fn read_state(flow: &Flow, v: u32) -> State
     }
 }
 
-// Makes a variable ready, whatever it was.
-fn set_ready(flow: &mut Flow, v: u32)
-    requires { v < 256 }
-    ensures { Sets flow.old flow.new v env.ready }
-{
-    match flow.give(v) {
-        Ok(()) => {},
-        Err(_) => flow.unlend(v),
-    }
-}
-
 /// Puts a variable into a state, whatever it was.
 pub fn set(flow: &mut Flow, v: u32, now: State)
     requires { v < 256 }
     ensures { Sets flow.old flow.new v (readiness_of now) }
 {
-    set_ready(flow, v);
+    flow.unlend(v);
     match now {
         State::Ready => {},
         State::Gone => {

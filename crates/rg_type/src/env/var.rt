@@ -3,7 +3,7 @@
 use rg_base::Ty;
 
 /// A variable; its depth is that at which it was added, and `self` has no name.
-#[derive(Clone, Copy, Debug, PartialEq, Eq)]
+#[derive(Clone, Copy)]
 pub struct Var {
     pub name: Option<u32>,
     pub ty: Ty,
