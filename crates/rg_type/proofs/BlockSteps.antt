@@ -17,8 +17,8 @@ use Rattle.rg_rules.specs.Environment.{Env}
 use Rattle.rg_rules.specs.Rights.{judge_right}
 use Rattle.rg_rules.specs.Statements.{judge_block, judge_stmt, last_of}
 use Rattle.rg_names.specs.Judged.{FailsAs}
-use Rattle.rg_type.specs.Scope.{Scope, env_of, entry_of}
-use Rattle.rg_type.specs.Inner.States.{IsReadable}
+use Rattle.rg_flow.specs.Scope.{Scope, env_of, entry_of}
+use Rattle.rg_flow.specs.States.{IsReadable}
 use Rattle.rg_type.proofs.ExpressionEnvs.{judge_right-grows}
 use Rattle.rg_type.proofs.StatementEnvs.{judge_stmt-grows}
 

@@ -1,9 +1,3 @@
-mod NameTests
-mod PlaceLemmas
-mod FlowLemmas
-mod FlowSteps
-mod EnvLemmas
-mod ScopeLemmas
 mod Alike
 mod ExpressionEnvs
 mod StatementEnvs

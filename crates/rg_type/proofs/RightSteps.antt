@@ -22,8 +22,8 @@ use Rattle.rg_rules.specs.Expressions.{against}
 use Rattle.rg_rules.specs.Rights.{Called, judge_args, judge_call, judge_new, judge_consumed}
 use Rattle.rg_names.specs.declared.entry.Sig.{Sig}
 use Rattle.rg_names.specs.TreeAnswers.{IsKnown, MethodIs, HasGoodParams}
-use Rattle.rg_type.specs.Scope.{Scope, env_of}
-use Rattle.rg_type.specs.Inner.States.{IsReadable}
+use Rattle.rg_flow.specs.Scope.{Scope, env_of}
+use Rattle.rg_flow.specs.States.{IsReadable}
 use Rattle.rg_type.specs.Inner.Changing.{TypedAs}
 use Rattle.rg_type.specs.Inner.Calls.{LeadsAs, method_behind, SigAs}
 

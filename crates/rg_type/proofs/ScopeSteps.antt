@@ -8,8 +8,8 @@ use Rattle.rg_rules.specs.Environment.{Readiness, is_ready, Entry, closed, joine
 use Rattle.rg_rules.specs.Environment.{joined, covers_entries, covers}
 use Rattle.rg_flow.specs.declared.flow.Flow.{Flow}
 use Rattle.rg_flow.specs.Flows.{state_of}
-use Rattle.rg_type.specs.Scope.{Slot, Scope, closed_at, env_of, entry_of, IsSlotIn}
-use Rattle.rg_type.specs.Inner.States.{state_at, AreStatesOf, restated_from, restated, joined_from, joined_with, CoversStates, IsReadable}
+use Rattle.rg_flow.specs.Scope.{Slot, Scope, closed_at, env_of, entry_of, IsSlotIn}
+use Rattle.rg_flow.specs.States.{state_at, AreStatesOf, restated_from, restated, joined_from, joined_with, CoversStates, IsReadable}
 use Rattle.rg_type.proofs.Alike.{Begin}
 
 -- a block's own variables are gone

@@ -13,15 +13,15 @@ ghost use Rattle.rg_names.specs.TreeAnswers.{IsKnown};
 ghost use Rattle.rg_type.specs.Inner.Changing.{TypedAs};
 ghost use Rattle.rg_type.specs.Inner.Operations.{operation_of, own_type_of};
 ghost use Rattle.rg_type.specs.Judging.{ExprJudgedAs};
-ghost use Rattle.rg_type.specs.Scope.{env_of, IsScopeIn};
-ghost use Rattle.rg_type.specs.Inner.States.{IsReadable};
+ghost use Rattle.rg_flow.specs.Scope.{env_of, IsScopeIn};
+ghost use Rattle.rg_flow.specs.States.{IsReadable};
 
-use crate::env::Env;
 use crate::faults::fault;
 use crate::judged::Judged;
 use crate::operators::Operators;
 use path::{is_nil, path};
 use rg_base::{Code, Stop, Ty};
+use rg_flow::Env;
 use rg_names::{Book, Classes};
 use rg_rules::below;
 use rg_tree::{BinOp, ExprRow, Program};

@@ -2,7 +2,7 @@ use Rattle.std.proofs.Common.{◌≡◌, true, sym, ap, ◌∙◌}
 use Rattle.std.proofs.lemmas.Result.{err_from_is_err_and}
 use Rattle.rg_tree.specs.Rows.RowTrees.{classes_of, expr_at}
 use Rattle.rg_rules.specs.Expressions.{among, operand_type, agree, result_type}
-use Rattle.rg_type.specs.Scope.{env_of}
+use Rattle.rg_flow.specs.Scope.{env_of}
 use Rattle.rg_type.proofs.ExpressionSteps.{Operands, own-fails, own-passes, operation-passes}
 use Rattle.rg_type.proofs.expressions.+expression.Goals as goal
 

@@ -3,7 +3,7 @@ use Rattle.std.proofs.lemmas.List.Elements.{All-get_or}
 use Rattle.std.proofs.lemmas.Result.{err_from_is_err_and}
 use Rattle.rg_tree.specs.Rows.Tables.{numbers_in}
 use Rattle.rg_tree.proofs.Callers.{above, below-above}
-use Rattle.rg_type.specs.Inner.States.{IsReadable}
+use Rattle.rg_flow.specs.States.{IsReadable}
 use Rattle.rg_tree.proofs.Callers.{IsBlockIn-below, above-below, IsBlockIn-below_some, above_some-below}
 use Rattle.rg_type.proofs.ScopeSteps.{IsReadable-closed_at, IsReadable-restated, IsReadable-joined_with}
 use Rattle.rg_type.proofs.BlockSteps.{OnOk-inner, block-fails, block-room, block-step}
