@@ -3,6 +3,7 @@ mod ExpressionEnvs
 mod StatementEnvs
 mod ScopeSteps
 mod BlockSteps
+mod AddSteps
 mod PathSteps
 mod ExpressionSteps
 mod Branches
