@@ -1,4 +1,4 @@
-//! The visible variables, each with its state: ready, gone or lent (docs/language.md, "Judgements").
+//! The visible variables, each ready, gone or lent (docs/language.md, "Judgements").
 #![tactic(auto)]
 
 mod env;

@@ -1,5 +1,6 @@
 -- Right sides and calls, step by step.
-use Rattle.std.proofs.Common.{◌≡◌, refl, sym, ap, ap₂, subst, ◌∙◌, ℕ, suc, ◌+◌, ◌<◌, ◌≤◌, ◌==◌, Bool as Truth, true, false, List, map, length, drop, drop-cons, get_or, Option}
+use Rattle.std.proofs.Common.{◌≡◌, refl, sym, ap, ap₂, subst, ◌∙◌, ℕ, suc, ◌+◌, ◌<◌, ◌≤◌, ◌==◌, Bool as Truth, true, false, List, map, length, drop}
+use Rattle.std.proofs.Common.{drop-cons, get_or, Option}
 use Rattle.std.proofs.Common.{Some, ok_or, Result, Ok, Err, add-one, arith}
 use Rattle.std.proofs.lemmas.Bool.{eq-eqb}
 use Rattle.std.proofs.lemmas.List.{drop_all, length-map}
@@ -92,7 +93,8 @@ pub args-fail : (t : Tables) (front here : Scope) (params args : List ℕ) (i : 
     judge_args (classes_of t) (env_of t front) (types_at t params) (map (expr_at t) args) ≡ Err code
 args-fail t front here params args i code l m u h =
     let r = rw (drop-cons params i 0 l, drop-cons args i 0 m) at u.rest in
-    sym r ∙ ap (λ (j : Answer Judged). ◌>>=◌ j (λ k. judge_args (classes_of t) k.env (types_at t (drop (suc i) params)) (map (expr_at t) (drop (suc i) args)))) h
+    sym r ∙ ap (λ (j : Answer Judged). ◌>>=◌ j (λ k. judge_args (classes_of t) k.env (types_at t (drop (suc i) params))
+    (map (expr_at t) (drop (suc i) args)))) h
 
 -- the next argument has none
 pub args-step : (t : Tables) (front here out : Scope) (params args : List ℕ) (i : ℕ) (ty : Ty) → i < length params → i < length args →
@@ -102,7 +104,8 @@ pub args-step : (t : Tables) (front here out : Scope) (params args : List ℕ) (
     IsReadable t out → ArgsUpTo t front params args (i + 1) out
 args-step t front here out params args i ty l m u h w =
     let r = rw (drop-cons params i 0 l, drop-cons args i 0 m) at u.rest in
-    let go = ap (λ (j : Answer Judged). ◌>>=◌ j (λ k. judge_args (classes_of t) k.env (types_at t (drop (suc i) params)) (map (expr_at t) (drop (suc i) args)))) h in
+    let go = ap (λ (j : Answer Judged). ◌>>=◌ j (λ k. judge_args (classes_of t) k.env (types_at t (drop (suc i) params))
+    (map (expr_at t) (drop (suc i) args)))) h in
     rw add-one (record { scope = w; rest = sym go ∙ r })
 
 -- no argument is left
@@ -110,7 +113,8 @@ pub args-end : (t : Tables) (front here : Scope) (params args : List ℕ) (i : �
     ArgsUpTo t front params args i here →
     judge_args (classes_of t) (env_of t front) (types_at t params) (map (expr_at t) args) ≡ Ok (env_of t here)
 args-end t front here params args i l m u =
-    sym u.rest ∙ (ap₂ (λ ps qs. judge_args (classes_of t) (env_of t here) (types_at t ps) (map (expr_at t) qs)) (drop_all i params l) (drop_all i args m))
+    sym u.rest
+    ∙ ap₂ (λ ps qs. judge_args (classes_of t) (env_of t here) (types_at t ps) (map (expr_at t) qs)) (drop_all i params l) (drop_all i args m)
 
 -- The call.
 

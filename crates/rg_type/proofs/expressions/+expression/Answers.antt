@@ -15,7 +15,8 @@ expression-returns-in_err-ty-clause-judged t c =
 pub expression-returns-clause-judged : goal.expression-returns-clause-judged
 expression-returns-clause-judged t c =
     let p = c.args.book.now.program in
-    own-passes (classes_of p) (env_of p c.args.env.now) (env_of p c.own_type.new.env) c.args.wanted (expr_at p c.args.e) c.in_ok-ty.ty c.against.result
+    own-passes (classes_of p) (env_of p c.args.env.now) (env_of p c.own_type.new.env) c.args.wanted (expr_at p c.args.e) c.in_ok-ty.ty
+    c.against.result
     c.in_ok-ty.ensures.judged (c.against.ensures.judged (env_of p c.own_type.new.env))
 
 pub expression-returns-clause-known : goal.expression-returns-clause-known

@@ -16,6 +16,7 @@ returns-in-Ok-clause-judged c =
 pub returns-in-Ok-clause-scope : goal.returns-in-Ok-clause-scope
 returns-in-Ok-clause-scope c =
     let t = c.args.book.now.program in
-    let s : Slot = record { name = Some c.args.name; ty = Ref Mut c.in-Ok.class; depth = c.entered.new.env.depth + 1; readiness = ready; assignable = true } in
+    let s : Slot =
+    record { name = Some c.args.name; ty = Ref Mut c.in-Ok.class; depth = c.entered.new.env.depth + 1; readiness = ready; assignable = true } in
     on_ok_weaker c.add_within.result (λ e. rw e (IsReadable-added t c.entered.new.env (c.entered.new.env.depth + 1) s c.in-Ok.ensures.scope
     (record { name = c.requires.name; ty = c.in-Ok.ensures.known }))) c.add_within.ensures.scope
