@@ -13,7 +13,7 @@ use Rattle.rg_rules.specs.Names.{stmt_names, block_names}
 use Rattle.rg_rules.specs.Statements.{judge_stmt, judge_block, last_of}
 use Rattle.rg_rules.specs.Bodies.{is_return, last_is_return, ends_in_return}
 use Rattle.rg_names.specs.Judged.{FailsAs}
-use Rattle.rg_type.specs.Scope.{Scope, env_of, IsScopeIn}
+use Rattle.rg_flow.specs.Scope.{Scope, env_of, IsScopeIn}
 use Rattle.rg_names.proofs.Fails.{FailsAs-bind, FailsAs-same}
 
 -- the statements in front of these have no fault, and lead to these variables

@@ -12,7 +12,7 @@ use Rattle.rg_rules.specs.Statements.{judge_block}
 use Rattle.rg_rules.specs.Bodies.{main_body, judge_body, judge_methods}
 use Rattle.rg_rules.specs.Acceptance.{judge_program, Accepted}
 use Rattle.rg_names.specs.Judged.{FailsAs}
-use Rattle.rg_type.specs.Scope.{Scope, no_variables, env_of}
+use Rattle.rg_flow.specs.Scope.{Scope, no_variables, env_of}
 use Rattle.rg_names.proofs.Fails.{FailsAs-first, FailsAs-second}
 
 -- main's body is the block of its statements

@@ -13,14 +13,14 @@ ghost use Rattle.rg_rules.specs.Bodies as rules;
 ghost use Rattle.rg_names.specs.TableOf.{IsTableOf};
 ghost use Rattle.rg_names.specs.TreeAnswers.{IsKnown};
 ghost use Rattle.rg_names.specs.Judged.{JudgedAs};
-ghost use Rattle.rg_type.specs.Scope.{env_of, IsScopeIn};
+ghost use Rattle.rg_flow.specs.Scope.{env_of, IsScopeIn};
 ghost use Rattle.rg_check.specs.Inner.Methods.{IsGood, IsMethodIn, MayBeJudged, method_of};
 
 use crate::statements::{ends_in_return, judge_block};
 use rg_base::{Cap, Code, Fault, Memory, Stop, Ty};
+use rg_flow::Env;
 use rg_names::Classes;
 use rg_tree::{Program, Span, TypeRow};
-use rg_type::Env;
 use std::alloc::Global;
 
 /// A method of the class of a number, as its row has it.

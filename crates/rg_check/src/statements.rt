@@ -10,13 +10,14 @@ ghost use Rattle.rg_rules.specs.Statements as rules;
 ghost use Rattle.rg_rules.specs.Bodies as bodies;
 ghost use Rattle.rg_names.specs.TableOf.{IsTableOf};
 ghost use Rattle.rg_names.specs.TreeAnswers.{IsKnown};
-ghost use Rattle.rg_type.specs.Scope.{env_of, IsScopeIn};
+ghost use Rattle.rg_flow.specs.Scope.{env_of, IsScopeIn};
 ghost use Rattle.rg_type.specs.Judging.{StmtJudgedAs};
 
 use rg_base::{Stop, Ty};
+use rg_flow::Env;
 use rg_names::Classes;
 use rg_tree::{Program, StmtKind};
-use rg_type::{Env, judge_stmt};
+use rg_type::judge_stmt;
 
 /// The statements of a body in order, the last of which may give a result of that type: the
 /// variables at its end, or the first fault.

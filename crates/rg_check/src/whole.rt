@@ -11,9 +11,9 @@ use crate::accepted::Accepted;
 use crate::classes::judge_methods;
 use crate::statements::judge_block;
 use rg_base::Stop;
+use rg_flow::Env;
 use rg_names::Classes;
 use rg_tree::Program;
-use rg_type::Env;
 use std::alloc::Global;
 
 /// The program as an accepted one, or its first fault.

@@ -1,1 +1,7 @@
 mod SetLemmas
+mod NameTests
+mod PlaceLemmas
+mod FlowLemmas
+mod FlowSteps
+mod EnvLemmas
+mod ScopeLemmas

@@ -83,10 +83,9 @@ impl Flow {
         Ok(())
     }
 
-    /// Ends the loan of a variable.
+    /// Makes a variable ready, whatever it was. A loan of it ends.
     pub fn unlend(&mut self, v: u32)
-        requires number { v < 256 }
-        requires lent { state_of self.old v ≡ env.lent }
+        requires { v < 256 }
         ensures { Sets self.old self.new v env.ready }
     {
         cut(&mut self.lent, v);

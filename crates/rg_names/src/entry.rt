@@ -12,7 +12,7 @@ pub struct FieldAt {
 
 /// A method: its number among all methods of the program in source order, from 0, its receiver, its
 /// parameters' numbers, and the type of its result if it has one.
-#[derive(Clone, Copy, Debug, PartialEq, Eq)]
+#[derive(Clone, Copy)]
 pub struct Sig {
     pub number: u32,
     pub cap: Cap,
@@ -21,7 +21,7 @@ pub struct Sig {
 }
 
 /// A member of a class.
-#[derive(Clone, Copy, Debug, PartialEq, Eq)]
+#[derive(Clone, Copy)]
 pub enum Entry {
     /// `x: T;`
     Field(FieldAt),

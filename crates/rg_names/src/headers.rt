@@ -21,7 +21,7 @@ use rg_tree::{Program, Span, TypeRow};
 use std::alloc::Global;
 
 /// What a method says in front of its body.
-#[derive(Clone, Copy, Debug, PartialEq, Eq)]
+#[derive(Clone, Copy)]
 pub struct MethodRow {
     pub cap: Cap,
     pub params: Span,

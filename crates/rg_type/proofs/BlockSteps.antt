@@ -17,8 +17,8 @@ use Rattle.rg_rules.specs.Environment.{Env}
 use Rattle.rg_rules.specs.Rights.{judge_right}
 use Rattle.rg_rules.specs.Statements.{judge_block, judge_stmt, last_of}
 use Rattle.rg_names.specs.Judged.{FailsAs}
-use Rattle.rg_type.specs.Scope.{Scope, env_of, entry_of}
-use Rattle.rg_type.specs.Inner.States.{IsReadable}
+use Rattle.rg_flow.specs.Scope.{Scope, env_of, entry_of}
+use Rattle.rg_flow.specs.States.{IsReadable}
 use Rattle.rg_type.proofs.ExpressionEnvs.{judge_right-grows}
 use Rattle.rg_type.proofs.StatementEnvs.{judge_stmt-grows}
 
@@ -26,11 +26,6 @@ use Rattle.rg_type.proofs.StatementEnvs.{judge_stmt-grows}
 pub FailsAs-first : {A B : Type 0} (a : Lined A) (go : A → Lined B) (s : Stop) → FailsAs a s → FailsAs (◌>>=◌ a go) s
 FailsAs-first a go (Fault f) h = rw h refl
 FailsAs-first a go Memory h = tt
-
--- the first part gave a value, and the rest failed
-pub FailsAs-second : {A B : Type 0} (a : Lined A) (go : A → Lined B) (x : A) (s : Stop) → a ≡ Ok x → FailsAs (go x) s →
-    FailsAs (◌>>=◌ a go) s
-FailsAs-second a go x s e h = rw e h
 
 FailsAs-same : {A : Type 0} (a b : Lined A) (s : Stop) → b ≡ a → FailsAs a s → FailsAs b s
 FailsAs-same a b s e h = rw e h

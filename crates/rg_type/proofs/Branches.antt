@@ -14,9 +14,9 @@ use Rattle.rg_rules.specs.Statements.{judge_test, judge_enter, left, judge_kind,
 use Rattle.rg_rules.proofs.AnswersLemmas.{at_line-ok}
 use Rattle.rg_flow.specs.Flows.{state_of}
 use Rattle.rg_names.specs.Judged.{FailsAs}
-use Rattle.rg_type.specs.Scope.{Slot, Scope, closed_at, env_of}
-use Rattle.rg_type.specs.Inner.States.{state_at, IsSaved, restated, joined_with, CoversStates}
-use Rattle.rg_type.specs.declared.env.saved.Saved.{Saved}
+use Rattle.rg_flow.specs.Scope.{Slot, Scope, closed_at, env_of}
+use Rattle.rg_flow.specs.States.{state_at, IsSaved, restated, joined_with, CoversStates}
+use Rattle.rg_flow.specs.declared.env.saved.Saved.{Saved}
 use Rattle.rg_type.proofs.Alike.{Begin, Begin-trans, Begin-take, length-Begin}
 use Rattle.rg_type.proofs.StatementEnvs.{judge_test-grows, judge_enter-grows, judge_block-grows, judge_else-grows}
 use Rattle.rg_type.proofs.ScopeSteps.{BeginSlots, Begin-sym, env_of-closed, length-closed_at, env_of-restated, length-restated_from}

@@ -1,14 +1,9 @@
-mod NameTests
-mod PlaceLemmas
-mod FlowLemmas
-mod FlowSteps
-mod EnvLemmas
-mod ScopeLemmas
 mod Alike
 mod ExpressionEnvs
 mod StatementEnvs
 mod ScopeSteps
 mod BlockSteps
+mod AddSteps
 mod PathSteps
 mod ExpressionSteps
 mod Branches

@@ -1,5 +1,5 @@
 -- Walks of paths, one field after another.
-use Rattle.std.proofs.Common.{◌≡◌, refl, ap, ◌∙◌, ℕ, Bool as Truth, true, false, if◌then◌else◌, List, [], ◌∷◌, ◌++◌, map, Ok}
+use Rattle.std.proofs.Common.{◌≡◌, refl, ap, ℕ, Bool as Truth, true, false, if◌then◌else◌, List, [], ◌∷◌, ◌++◌, map, Ok}
 use Rattle.rg_base.specs.declared.ty.Ty.{Ty}
 use Rattle.rg_base.specs.declared.ty.Ty.TheVariants.{Int, Bool, Ref}
 use Rattle.rg_base.specs.declared.fault.Code.TheVariants.{Capability}
@@ -9,7 +9,7 @@ use Rattle.rg_tree.specs.Rows.RowTrees.{program_of}
 use Rattle.rg_rules.specs.Answers.{◌>>=◌, ◌>>◌, test, Answer}
 use Rattle.rg_rules.specs.Capabilities.{may_write, pause}
 use Rattle.rg_rules.specs.Environment.{Env}
-use Rattle.rg_rules.specs.Paths.{walk_field, walk_fields, walk, look_up, all_but_last, last_field}
+use Rattle.rg_rules.specs.Paths.{walk_fields, walk, look_up, all_but_last, last_field}
 use Rattle.rg_rules.specs.Statements.{swapped_field}
 use Rattle.rg_names.specs.TreeAnswers.{IsKnown}
 
@@ -17,13 +17,6 @@ use Rattle.rg_names.specs.TreeAnswers.{IsKnown}
 pub record WalkedTo (t : Tables) (from : Ty) (fields : List ℕ) (here : Ty) (rest : List ℕ) : Type 0 where
   pub known : IsKnown (program_of t).classes here
   pub same : walk_fields (program_of t).classes from (map (name_at t) fields) ≡ walk_fields (program_of t).classes here (map (name_at t) rest)
-
--- one more field
-pub WalkedTo-step : (t : Tables) (from : Ty) (fields : List ℕ) (here next : Ty) (f : ℕ) (rest : List ℕ) →
-    WalkedTo t from fields here (f ∷ rest) → walk_field (program_of t).classes here (name_at t f) ≡ Ok next → IsKnown (program_of t).classes next →
-    WalkedTo t from fields next rest
-WalkedTo-step t from fields here next f rest w e k =
-    record { known = k; same = w.same ∙ ap (λ (r : Answer Ty). ◌>>=◌ r (λ u. walk_fields (program_of t).classes u (map (name_at t) rest))) e }
 
 all_but_last-append : (f : Name) (fs : List Name) (l : Name) → all_but_last f (fs ++ l ∷ []) ≡ f ∷ fs
 all_but_last-append f [] l = refl

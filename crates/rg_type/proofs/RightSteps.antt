@@ -1,8 +1,9 @@
 -- Right sides and calls, step by step.
-use Rattle.std.proofs.Common.{◌≡◌, refl, sym, ap, ap₂, subst, ◌∙◌, ℕ, ◌<◌, ◌==◌, Bool as Truth, true, false, List, map, length, drop, Option, Some}
-use Rattle.std.proofs.Common.{ok_or, Result, Ok, Err, arith}
+use Rattle.std.proofs.Common.{◌≡◌, refl, sym, ap, ap₂, subst, ◌∙◌, ℕ, suc, ◌+◌, ◌<◌, ◌≤◌, ◌==◌, Bool as Truth, true, false, List, map, length, drop}
+use Rattle.std.proofs.Common.{drop-cons, get_or, Option}
+use Rattle.std.proofs.Common.{Some, ok_or, Result, Ok, Err, add-one, arith}
 use Rattle.std.proofs.lemmas.Bool.{eq-eqb}
-use Rattle.std.proofs.lemmas.List.{length-map}
+use Rattle.std.proofs.lemmas.List.{drop_all, length-map}
 use Rattle.rg_base.specs.declared.words.Cap.{Cap}
 use Rattle.rg_base.specs.declared.words.Cap.TheVariants.{Mut, Tmp, Paused, Imm, Iso}
 use Rattle.rg_base.specs.declared.ty.Ty.{Ty}
@@ -18,14 +19,14 @@ use Rattle.rg_rules.specs.Capabilities.{below, iso_class}
 use Rattle.rg_rules.specs.Types.{type_of, good_type, method_named, method_result, param_types}
 use Rattle.rg_rules.specs.Environment.{Entry, Env, entry_of, is_ready, marked, gone}
 use Rattle.rg_rules.specs.Paths.{Followed, follow, walk}
-use Rattle.rg_rules.specs.Expressions.{against}
+use Rattle.rg_rules.specs.Expressions.{Judged, against, judge_expr}
 use Rattle.rg_rules.specs.Rights.{Called, judge_args, judge_call, judge_new, judge_consumed}
 use Rattle.rg_names.specs.declared.entry.Sig.{Sig}
 use Rattle.rg_names.specs.TreeAnswers.{IsKnown, MethodIs, HasGoodParams}
-use Rattle.rg_type.specs.Scope.{Scope, env_of}
-use Rattle.rg_type.specs.Inner.States.{IsReadable}
+use Rattle.rg_flow.specs.Scope.{Scope, env_of}
+use Rattle.rg_flow.specs.States.{IsReadable}
 use Rattle.rg_type.specs.Inner.Changing.{TypedAs}
-use Rattle.rg_type.specs.Inner.Calls.{LeadsAs, method_behind, SigAs}
+use Rattle.rg_type.specs.Inner.Calls.{LeadsAs, method_behind, param_type, SigAs}
 
 -- `new C` and the like: the class is good
 pub TypedAs-new : (classes : List Class) (wanted ty : Ty) (cap : Cap) (x : Name) (r : Result Ty Code) → Ok ty ≡ good_type classes (ref cap x) →
@@ -84,6 +85,36 @@ pub record ArgsUpTo (t : Tables) (front : Scope) (params args : List ℕ) (i : �
   pub scope : IsReadable t here
   pub rest : judge_args (classes_of t) (env_of t here) (types_at t (drop i params)) (map (expr_at t) (drop i args))
       ≡ judge_args (classes_of t) (env_of t front) (types_at t params) (map (expr_at t) args)
+
+-- the next argument has a fault
+pub args-fail : (t : Tables) (front here : Scope) (params args : List ℕ) (i : ℕ) (code : Code) → i < length params → i < length args →
+    ArgsUpTo t front params args i here →
+    judge_expr (classes_of t) (env_of t here) (Some (param_type t (get_or params i 0))) (expr_at t (get_or args i 0)) ≡ Err code →
+    judge_args (classes_of t) (env_of t front) (types_at t params) (map (expr_at t) args) ≡ Err code
+args-fail t front here params args i code l m u h =
+    let r = rw (drop-cons params i 0 l, drop-cons args i 0 m) at u.rest in
+    sym r ∙ ap (λ (j : Answer Judged). ◌>>=◌ j (λ k. judge_args (classes_of t) k.env (types_at t (drop (suc i) params))
+    (map (expr_at t) (drop (suc i) args)))) h
+
+-- the next argument has none
+pub args-step : (t : Tables) (front here out : Scope) (params args : List ℕ) (i : ℕ) (ty : Ty) → i < length params → i < length args →
+    ArgsUpTo t front params args i here →
+    judge_expr (classes_of t) (env_of t here) (Some (param_type t (get_or params i 0))) (expr_at t (get_or args i 0))
+    ≡ Ok (record { ty = ty; env = env_of t out }) →
+    IsReadable t out → ArgsUpTo t front params args (i + 1) out
+args-step t front here out params args i ty l m u h w =
+    let r = rw (drop-cons params i 0 l, drop-cons args i 0 m) at u.rest in
+    let go = ap (λ (j : Answer Judged). ◌>>=◌ j (λ k. judge_args (classes_of t) k.env (types_at t (drop (suc i) params))
+    (map (expr_at t) (drop (suc i) args)))) h in
+    rw add-one (record { scope = w; rest = sym go ∙ r })
+
+-- no argument is left
+pub args-end : (t : Tables) (front here : Scope) (params args : List ℕ) (i : ℕ) → length params ≤ i → length args ≤ i →
+    ArgsUpTo t front params args i here →
+    judge_args (classes_of t) (env_of t front) (types_at t params) (map (expr_at t) args) ≡ Ok (env_of t here)
+args-end t front here params args i l m u =
+    sym u.rest
+    ∙ ap₂ (λ ps qs. judge_args (classes_of t) (env_of t here) (types_at t ps) (map (expr_at t) qs)) (drop_all i params l) (drop_all i args m)
 
 -- The call.
 

@@ -13,9 +13,9 @@ use Rattle.rg_rules.specs.Names.{block_names, else_names}
 use Rattle.rg_rules.specs.Environment.{Env}
 use Rattle.rg_rules.specs.Statements.{judge_test, judge_enter, left, judge_kind, judge_block, judge_else}
 use Rattle.rg_names.specs.Judged.{FailsAs}
-use Rattle.rg_type.specs.Scope.{Scope, closed_at, env_of}
-use Rattle.rg_type.specs.Inner.States.{IsSaved, restated, joined_with, CoversStates}
-use Rattle.rg_type.specs.declared.env.saved.Saved.{Saved}
+use Rattle.rg_flow.specs.Scope.{Scope, closed_at, env_of}
+use Rattle.rg_flow.specs.States.{IsSaved, restated, joined_with, CoversStates}
+use Rattle.rg_flow.specs.declared.env.saved.Saved.{Saved}
 use Rattle.rg_type.proofs.Branches.{behind-test, behind-block, behind-else, behind-enter, behind-both, Closed, close-block, Restored, restore-front}
 use Rattle.rg_type.proofs.Branches.{choice-env, branch-judged, branch-fails-test, branch-fails-first, branch-fails-other, repeat-uncovered}
 use Rattle.rg_type.proofs.Branches.{repeat-covered, while-judged, while-fails-test, while-fails-body, while-fails, enter-judged, enter-fails}

@@ -1,28 +1,16 @@
 -- The variables that are kept in place, as the rules see them: closed, restored, joined, marked.
 use Rattle.std.proofs.Common.{◌≡◌, refl, sym, ap, ◌∙◌, ℕ, zero, suc, ◌+◌, ◌≤◌, Bool, true, false, ◌&&◌, ◌||◌, not, IsTrue, List, [], ◌∷◌, length}
-use Rattle.std.proofs.Common.{take, map, All, Some, arith}
-use Rattle.std.proofs.lemmas.List.{length-map, length-take-le, take-map, map-append}
+use Rattle.std.proofs.Common.{take, map, All, arith}
+use Rattle.std.proofs.lemmas.List.{length-map, length-take-le, take-map}
 use Rattle.std.proofs.lemmas.List.Elements.{All-cons, All-head, All-tail, All-take}
-use Rattle.rg_base.specs.declared.ty.Ty.{Ty}
-use Rattle.rg_tree.specs.Rows.Tables.{Tables, name_at}
-use Rattle.rg_rules.specs.Environment.{Readiness, ready, is_ready, Entry, Env, with_variable, deeper, closed, joined_readiness, joined_entries}
+use Rattle.rg_tree.specs.Rows.Tables.{Tables}
+use Rattle.rg_rules.specs.Environment.{Readiness, is_ready, Entry, closed, joined_readiness, joined_entries}
 use Rattle.rg_rules.specs.Environment.{joined, covers_entries, covers}
 use Rattle.rg_flow.specs.declared.flow.Flow.{Flow}
 use Rattle.rg_flow.specs.Flows.{state_of}
-use Rattle.rg_type.specs.Scope.{Slot, Scope, pushed, entered, closed_at, env_of, entry_of, IsSlotIn}
-use Rattle.rg_type.specs.Inner.States.{state_at, AreStatesOf, restated_from, restated, joined_from, joined_with, CoversStates, IsReadable}
+use Rattle.rg_flow.specs.Scope.{Slot, Scope, closed_at, env_of, entry_of, IsSlotIn}
+use Rattle.rg_flow.specs.States.{state_at, AreStatesOf, restated_from, restated, joined_from, joined_with, CoversStates, IsReadable}
 use Rattle.rg_type.proofs.Alike.{Begin}
-
--- one more variable
-pub env_of-pushed : (t : Tables) (scope : Scope) (n : ℕ) (ty : Ty) (a : Bool) →
-    env_of t (pushed scope (Some n) ty a) ≡ with_variable (env_of t scope) (Some (name_at t n)) ty a
-env_of-pushed t scope n ty a =
-    let more : List Slot = record { name = Some n; ty = ty; depth = scope.depth; readiness = ready; assignable = a } ∷ [] in
-    ap (λ (es : List Entry). let e : Env = record { depth = scope.depth; entries = es } in e) (map-append (entry_of t) scope.slots more)
-
-pub env_of-entered : (t : Tables) (scope : Scope) (n : ℕ) (ty : Ty) →
-    env_of t (entered scope (Some n) ty) ≡ with_variable (deeper (env_of t scope)) (Some (name_at t n)) ty true
-env_of-entered t scope n ty = env_of-pushed t (record scope { depth = scope.depth + 1 }) n ty true
 
 -- a block's own variables are gone
 pub env_of-closed : (t : Tables) (d n : ℕ) (front out : Scope) → d ≡ front.depth → n ≡ length front.slots →

@@ -1,7 +1,5 @@
 -- What joins the private layers of this crate; no clause of a public call cites it.
 pub mod Calls
 pub mod Changing
-pub mod Layout
 pub mod Operations
-pub mod States
 pub mod Walks

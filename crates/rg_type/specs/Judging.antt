@@ -7,7 +7,7 @@ use Rattle.rg_rules.specs.Answers.{Answer, Lined}
 use Rattle.rg_rules.specs.Environment.{Env}
 use Rattle.rg_rules.specs.Expressions as rules
 use Rattle.rg_names.specs.Judged.{FailsAs}
-use Rattle.rg_type.specs.Scope.{Scope, env_of}
+use Rattle.rg_flow.specs.Scope.{Scope, env_of}
 use Rattle.rg_type.specs.declared.judged.Judged.{Judged}
 
 -- a code of the rules comes with the line that was handed in; an expression takes no memory, so there is no want of it

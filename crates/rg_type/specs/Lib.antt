@@ -1,3 +1,2 @@
-pub mod Scope
 pub mod Judging
 pub mod Inner

@@ -5,22 +5,23 @@ mod path;
 ghost use Rattle.std.specs.Prelude.{◌≡◌, IfOk, IfSome, List, OnOk};
 ghost use Rattle.rg_tree.specs.Rows.RowTrees.{expr_at, program_of};
 ghost use Rattle.rg_tree.specs.Rows.RowsExist.{IsExprNumber};
-ghost use Rattle.rg_tree.specs.Tree.{binary, Class};
+ghost use Rattle.rg_tree.specs.Tree.{Class};
 ghost use Rattle.rg_rules.specs.Environment.{Env as Variables};
 ghost use Rattle.rg_rules.specs.Expressions as rules;
 ghost use Rattle.rg_names.specs.TableOf.{IsTableOf};
 ghost use Rattle.rg_names.specs.TreeAnswers.{IsKnown};
 ghost use Rattle.rg_type.specs.Inner.Changing.{TypedAs};
+ghost use Rattle.rg_type.specs.Inner.Operations.{operation_of, own_type_of};
 ghost use Rattle.rg_type.specs.Judging.{ExprJudgedAs};
-ghost use Rattle.rg_type.specs.Scope.{env_of, IsScopeIn};
-ghost use Rattle.rg_type.specs.Inner.States.{IsReadable};
+ghost use Rattle.rg_flow.specs.Scope.{env_of, IsScopeIn};
+ghost use Rattle.rg_flow.specs.States.{IsReadable};
 
-use crate::env::Env;
 use crate::faults::fault;
 use crate::judged::Judged;
 use crate::operators::Operators;
 use path::{is_nil, path};
 use rg_base::{Code, Stop, Ty};
+use rg_flow::Env;
 use rg_names::{Book, Classes};
 use rg_rules::below;
 use rg_tree::{BinOp, ExprRow, Program};
@@ -65,49 +66,52 @@ pub fn expression(env: &mut Env, book: &Book, e: u32, wanted: Option<Ty>) -> Res
     ensures scope { OnOk result (IsReadable book.now.program env.new) }
     ensures known { IfOk result (IsKnown (program_of book.now.program).classes) }
 {
+    let ty = own_type(env, book, e, wanted)?;
+    against(wanted, ty)
+}
+
+// The type of an expression by itself, in front of the last test; `nil` has the expected one.
+#[cycle(expression)]
+fn own_type(env: &mut Env, book: &Book, e: u32, wanted: Option<Ty>) -> Result<Ty, Code>
+    requires expression { IsExprNumber book.now.program e }
+    requires scope { IsReadable book.now.program env.old }
+    requires wanted { IfSome wanted (IsKnown (program_of book.now.program).classes) }
+    ensures judged { let t = book.now.program in
+        TypedAs (own_type_of (program_of t).classes (env_of t env.old) wanted (expr_at t e))
+        (env_of t env.new) result }
+    ensures scope { OnOk result (IsReadable book.now.program env.new) }
+    ensures known { IfOk result (IsKnown (program_of book.now.program).classes) }
+{
     match book.expr(e) {
-        ExprRow::Int(_) => against(wanted, Ty::Int),
-        ExprRow::Bool(_) => against(wanted, Ty::Bool),
-        ExprRow::Nil => {
-            let ty = nil_type(wanted)?;
-            against(wanted, ty)
-        },
-        ExprRow::Path(read) => {
-            let ty = path(env, book, read)?;
-            against(wanted, ty)
-        },
+        ExprRow::Int(_) => Ok(Ty::Int),
+        ExprRow::Bool(_) => Ok(Ty::Bool),
+        ExprRow::Nil => nil_type(wanted),
+        ExprRow::Path(read) => path(env, book, read),
         ExprRow::IsNil(read) => {
             is_nil(env, book, read)?;
-            against(wanted, Ty::Bool)
+            Ok(Ty::Bool)
         },
         ExprRow::Neg(a) => {
             expression(env, book, a, Some(Ty::Int))?;
-            against(wanted, Ty::Int)
+            Ok(Ty::Int)
         },
         ExprRow::Not(a) => {
             expression(env, book, a, Some(Ty::Bool))?;
-            against(wanted, Ty::Bool)
+            Ok(Ty::Bool)
         },
-        ExprRow::Binary { op, left, right } => { operation(env, book, op, left, right, wanted) },
+        ExprRow::Binary { op, left, right } => operation(env, book, op, left, right),
     }
 }
 
 // An operator between two operands, of which the left one is judged first.
 #[cycle(expression)]
-fn operation(
-    env: &mut Env,
-    book: &Book,
-    op: BinOp,
-    left: u32,
-    right: u32,
-    wanted: Option<Ty>,
-) -> Result<Ty, Code>
+fn operation(env: &mut Env, book: &Book, op: BinOp, left: u32, right: u32) -> Result<Ty, Code>
     requires left { IsExprNumber book.now.program left }
     requires right { IsExprNumber book.now.program right }
     requires scope { IsReadable book.now.program env.old }
     ensures judged { let t = book.now.program in
-        TypedAs (rules.judge_expr (program_of t).classes (env_of t env.old) wanted
-        (binary op (expr_at t left) (expr_at t right))) (env_of t env.new) result }
+        TypedAs (operation_of (program_of t).classes (env_of t env.old) op (expr_at t left)
+        (expr_at t right)) (env_of t env.new) result }
     ensures scope { OnOk result (IsReadable book.now.program env.new) }
     ensures known { IfOk result (IsKnown (program_of book.now.program).classes) }
 {
@@ -118,7 +122,7 @@ fn operation(
     if !operators.agree(first, second) {
         return Err(Code::Mismatch);
     }
-    against(wanted, operators.result_type())
+    Ok(operators.result_type())
 }
 
 /// The last test: the type is below the expected one, if one is expected.

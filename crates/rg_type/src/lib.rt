@@ -4,7 +4,6 @@
 //! do of the same tree.
 #![tactic(auto)]
 
-mod env;
 mod expressions;
 mod faults;
 mod judged;
@@ -14,7 +13,7 @@ mod rights;
 mod statements;
 mod types;
 
-pub use env::Env;
 pub use expressions::judge_expr;
 pub use judged::Judged;
+pub use rg_flow::Env;
 pub use statements::judge_stmt;

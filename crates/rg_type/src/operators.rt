@@ -11,7 +11,7 @@ use rg_base::{Cap, Ty};
 use rg_tree::BinOp;
 
 /// The operators that have one rule.
-#[derive(Clone, Copy, Debug, PartialEq, Eq)]
+#[derive(Clone, Copy)]
 pub enum Operators {
     /// `+ - * / %`
     Arithmetic,

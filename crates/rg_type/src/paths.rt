@@ -10,25 +10,25 @@ ghost use Rattle.rg_rules.specs.Capabilities as tables;
 ghost use Rattle.rg_rules.specs.Paths as rules;
 ghost use Rattle.rg_rules.specs.Statements as statements;
 ghost use Rattle.rg_names.specs.TreeAnswers.{IsKnown};
-ghost use Rattle.rg_type.specs.Scope.{env_of, variable_of};
-ghost use Rattle.rg_type.specs.Inner.States.{IsReadable};
+ghost use Rattle.rg_flow.specs.Scope.{env_of, variable_of};
+ghost use Rattle.rg_flow.specs.States.{IsReadable};
 ghost use Rattle.rg_type.specs.Inner.Walks.{followed_of, looked_of};
 
-use crate::env::{Env, Found};
 use rg_base::{Cap, Code, Ty};
+use rg_flow::{Env, Found};
 use rg_names::Book;
 use rg_rules::adapt;
 use rg_tree::Path;
 
 /// A reference: what it permits, and the class that it leads to.
-#[derive(Clone, Copy, Debug, PartialEq, Eq)]
+#[derive(Clone, Copy)]
 pub struct Followed {
     pub cap: Cap,
     pub class: u32,
 }
 
 /// A field: what its receiver permits, and its declared type.
-#[derive(Clone, Copy, Debug, PartialEq, Eq)]
+#[derive(Clone, Copy)]
 pub struct Looked {
     pub receiver: Cap,
     pub ty: Ty,

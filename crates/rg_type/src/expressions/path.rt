@@ -9,14 +9,14 @@ ghost use Rattle.rg_rules.specs.Answers.{test};
 ghost use Rattle.rg_rules.specs.Environment as states;
 ghost use Rattle.rg_rules.specs.Expressions as rules;
 ghost use Rattle.rg_names.specs.TreeAnswers.{IsKnown};
-ghost use Rattle.rg_type.specs.Scope.{env_of, variable_of};
-ghost use Rattle.rg_type.specs.Inner.States.{readiness_of, IsReadable};
+ghost use Rattle.rg_flow.specs.Scope.{env_of, variable_of};
+ghost use Rattle.rg_flow.specs.States.{readiness_of, IsReadable};
 ghost use Rattle.rg_type.specs.Inner.Changing.{HasField, TypedAs};
 
-use crate::env::{Env, Found, State};
 use crate::paths::{seen, walk};
 use crate::types::is_iso;
 use rg_base::{Code, Ty};
+use rg_flow::{Env, Found, State};
 use rg_names::Book;
 use rg_tree::Path;
 

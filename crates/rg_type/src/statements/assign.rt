@@ -5,15 +5,15 @@ ghost use Rattle.rg_tree.specs.Rows.Tables.{Tables};
 ghost use Rattle.rg_tree.specs.Rows.RowTrees.{path_of, program_of, right_of};
 ghost use Rattle.rg_tree.specs.Rows.RowsExist.{IsNameIn, IsPathIn, IsRightIn};
 ghost use Rattle.rg_rules.specs.Statements as rules;
-ghost use Rattle.rg_type.specs.Scope.{env_of, variable_of};
-ghost use Rattle.rg_type.specs.Inner.States.{IsReadable};
+ghost use Rattle.rg_flow.specs.Scope.{env_of, variable_of};
+ghost use Rattle.rg_flow.specs.States.{IsReadable};
 ghost use Rattle.rg_type.specs.Inner.Changing.{DoneAs, HasField};
 
-use crate::env::{Env, State};
 use crate::paths::target;
 use crate::rights::right_side;
 use crate::types::{is_iso, stays_at_depth};
 use rg_base::Code;
+use rg_flow::{Env, State};
 use rg_names::Book;
 use rg_tree::{Path, Right};
 

@@ -9,14 +9,14 @@ ghost use Rattle.rg_rules.specs.Answers.{at_line};
 ghost use Rattle.rg_rules.specs.Environment.{with_variable};
 ghost use Rattle.rg_rules.specs.Statements as rules;
 ghost use Rattle.rg_names.specs.TreeAnswers.{IsKnown};
-ghost use Rattle.rg_type.specs.Scope.{env_of, pushed};
-ghost use Rattle.rg_type.specs.Inner.States.{IsReadable};
+ghost use Rattle.rg_flow.specs.Scope.{env_of, pushed};
+ghost use Rattle.rg_flow.specs.States.{IsReadable};
 ghost use Rattle.rg_type.specs.Inner.Changing.{DeclaredAs, LeavesAs};
 
-use crate::env::Env;
 use crate::faults::fault;
 use crate::rights::right_side;
 use rg_base::{Code, Memory, Stop, Ty};
+use rg_flow::Env;
 use rg_names::Book;
 use rg_tree::{Right, TypeRow};
 

@@ -8,15 +8,15 @@ ghost use Rattle.rg_tree.specs.Rows.RowsExist.{IsNameIn, IsPathIn};
 ghost use Rattle.rg_rules.specs.Answers.{at_line};
 ghost use Rattle.rg_rules.specs.Environment.{deeper, with_variable};
 ghost use Rattle.rg_rules.specs.Statements as rules;
-ghost use Rattle.rg_type.specs.Scope.{entered, env_of, variable_of};
-ghost use Rattle.rg_type.specs.Inner.States.{IsReadable};
+ghost use Rattle.rg_flow.specs.Scope.{entered, env_of, variable_of};
+ghost use Rattle.rg_flow.specs.States.{IsReadable};
 ghost use Rattle.rg_type.specs.Inner.Changing.{EnteredAs, HasField, LeavesAs};
 
-use crate::env::{Env, State};
 use crate::faults::fault;
 use crate::paths::target;
 use crate::types::iso_class;
 use rg_base::{Cap, Code, Memory, Stop, Ty};
+use rg_flow::{Env, State};
 use rg_names::Book;
 use rg_tree::Path;
 

@@ -7,16 +7,16 @@ ghost use Rattle.rg_tree.specs.Rows.RowsExist.{IsCallIn, IsExprNumber};
 ghost use Rattle.rg_rules.specs.Answers.{at_line};
 ghost use Rattle.rg_rules.specs.Statements as rules;
 ghost use Rattle.rg_names.specs.TreeAnswers.{IsKnown};
-ghost use Rattle.rg_type.specs.Scope.{env_of};
-ghost use Rattle.rg_type.specs.Inner.States.{IsReadable};
+ghost use Rattle.rg_flow.specs.Scope.{env_of};
+ghost use Rattle.rg_flow.specs.States.{IsReadable};
 ghost use Rattle.rg_type.specs.Inner.Changing.{DoneAs, LeavesAs};
 
-use crate::env::Env;
 use crate::expressions::expression;
 use crate::faults::fault;
 use crate::rights::call;
 use crate::types::is_printable;
 use rg_base::{Code, Stop, Ty};
+use rg_flow::Env;
 use rg_names::Book;
 use rg_tree::CallRow;
 

@@ -4,14 +4,14 @@ ghost use Rattle.rg_tree.specs.Rows.Tables.{name_at};
 ghost use Rattle.rg_tree.specs.Rows.RowTrees.{path_of, program_of};
 ghost use Rattle.rg_tree.specs.Rows.RowsExist.{IsNameIn, IsPathIn};
 ghost use Rattle.rg_rules.specs.Statements as rules;
-ghost use Rattle.rg_type.specs.Scope.{env_of};
-ghost use Rattle.rg_type.specs.Inner.States.{IsReadable};
+ghost use Rattle.rg_flow.specs.Scope.{env_of};
+ghost use Rattle.rg_flow.specs.States.{IsReadable};
 ghost use Rattle.rg_type.specs.Inner.Changing.{DoneAs};
 
-use crate::env::Env;
 use crate::paths::target;
 use crate::types::{is_iso, is_same_type};
 use rg_base::Code;
+use rg_flow::Env;
 use rg_names::Book;
 use rg_tree::Path;
 

@@ -2,7 +2,10 @@ use Rattle.std.proofs.Common.{◌+◌, ◌*◌, max}
 use Rattle.rg_type.proofs.expressions.+expression.Given as goal
 
 abbrev pub decreases-expression : goal.decreases-expression
-decreases-expression l = 2 * l.e
+decreases-expression l = 3 * l.e + 2
+
+abbrev pub decreases-own_type : goal.decreases-own_type
+decreases-own_type l = 3 * l.e + 1
 
 abbrev pub decreases-operation : goal.decreases-operation
-decreases-operation l = 2 * max l.left l.right + 1
+decreases-operation l = 3 * max l.left l.right + 3

@@ -1,7 +1,7 @@
 use Rattle.std.proofs.Common.{Ok, Err}
 use Rattle.std.proofs.lemmas.Result.{err_from_is_err_and}
 use Rattle.rg_tree.specs.Rows.RowTrees.{call_of, classes_of}
-use Rattle.rg_type.specs.Scope.{env_of}
+use Rattle.rg_flow.specs.Scope.{env_of}
 use Rattle.rg_type.proofs.RightSteps.{call-no_method, call-judged}
 use Rattle.rg_type.proofs.rights.call.Goals as goal
 

@@ -2,8 +2,8 @@ use Rattle.std.proofs.Common.{sym, Result, Ok, Err, OnOk}
 use Rattle.rg_base.specs.declared.fault.Code.{Code}
 use Rattle.rg_base.specs.declared.ty.Ty.{Ty}
 use Rattle.rg_tree.specs.Rows.Tables.{name_at}
-use Rattle.rg_type.specs.Scope.{env_of}
-use Rattle.rg_type.specs.Inner.States.{IsReadable}
+use Rattle.rg_flow.specs.Scope.{env_of}
+use Rattle.rg_flow.specs.States.{IsReadable}
 use Rattle.rg_type.proofs.RightSteps.{TypedAs-consumed}
 use Rattle.rg_type.proofs.rights.consumed.Goals as goal
 

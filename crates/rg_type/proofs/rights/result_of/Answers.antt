@@ -1,4 +1,4 @@
-use Rattle.rg_type.specs.Scope.{env_of}
+use Rattle.rg_flow.specs.Scope.{env_of}
 use Rattle.rg_type.proofs.RightSteps.{TypedAs-result}
 use Rattle.rg_type.proofs.rights.result_of.Goals as goal
 

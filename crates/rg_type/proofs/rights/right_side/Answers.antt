@@ -1,4 +1,4 @@
-use Rattle.rg_type.specs.Scope.{env_of}
+use Rattle.rg_flow.specs.Scope.{env_of}
 use Rattle.rg_type.proofs.rights.right_side.Goals as goal
 
 pub returns-in-New-clause-judged : goal.returns-in-New-clause-judged

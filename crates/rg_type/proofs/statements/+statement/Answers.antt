@@ -3,10 +3,10 @@ use Rattle.std.proofs.lemmas.List.Elements.{All-get_or}
 use Rattle.std.proofs.lemmas.Result.{err_from_is_err_and}
 use Rattle.rg_tree.specs.Rows.Tables.{numbers_in}
 use Rattle.rg_tree.proofs.Callers.{above, below-above}
-use Rattle.rg_type.specs.Inner.States.{IsReadable}
+use Rattle.rg_flow.specs.States.{IsReadable}
 use Rattle.rg_tree.proofs.Callers.{IsBlockIn-below, above-below, IsBlockIn-below_some, above_some-below}
 use Rattle.rg_type.proofs.ScopeSteps.{IsReadable-closed_at, IsReadable-restated, IsReadable-joined_with}
-use Rattle.rg_type.proofs.BlockSteps.{OnOk-inner, block-room, block-step}
+use Rattle.rg_type.proofs.BlockSteps.{OnOk-inner, block-fails, block-room, block-step}
 use Rattle.rg_type.proofs.Branches.{saved-past}
 use Rattle.rg_type.proofs.RowRules.{tested-room, entered-room, block-within, else-within, block-closed, block-again, if-fails-test, if-fails-first}
 use Rattle.rg_type.proofs.RowRules.{if-fails-other, if-leaves, while-fails-at-test, while-fails-within, loop-within, loop-closed, while-uncovered}
@@ -25,6 +25,12 @@ block-statement-requires t c =
     let f : get_or c.order-s-items.result.now c.loop-s.s-index 0 < above (numbers_in c.args.book.now.program c.args.span) =
     rw c.order-s-items.ensures b in
     (omega (arith, d, f), ((m, (c.loop-s.invariant.scope, (tt, r)))))
+
+pub block-returns-in_err-statement-clause-judged : goal.block-returns-in_err-statement-clause-judged
+block-returns-in_err-statement-clause-judged t c =
+    let r = err_from_is_err_and c.from_residual.result c.from_residual.ensures.1 in
+    rw (r.1, r.2) (block-fails c.args.book.now.program c.args.span c.args.env.now c.loop-s.env c.order-s-items.result.now c.loop-s.s-index
+    c.in_err-statement.field-0.0 c.loop-s-test.true c.loop-s.invariant c.in_err-statement.ensures.judged)
 
 pub block-loop-s-preserved : goal.block-loop-s-preserved
 block-loop-s-preserved t c =
