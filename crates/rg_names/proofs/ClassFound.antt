@@ -58,7 +58,8 @@ module _ (t : Tables) (rows : AreRows t) where
       let first = methods-counted (rows_in x) n ∙ ap (λ ms. n + length (filter_map method_member ms)) (sym (class-members x (e 0 x refl))) in
       members_of-at cs k (methods_with_all n (rows_in x)) c (λ i r h. e (suc i) r h) g
       ∙ ap (λ m. Some (entries_of t 0 (m + methods_before (map (class_of t) cs) k) (rows_in c))) first
-      ∙ ap (λ m. Some (entries_of t 0 m (rows_in c))) (add_assoc n (length (filter_map method_member (class_of t x).members)) (methods_before (map (class_of t) cs) k))
+      ∙ ap (λ m. Some (entries_of t 0 m (rows_in c))) (add_assoc n (length (filter_map method_member (class_of t x).members))
+      (methods_before (map (class_of t) cs) k))
 
 -- the class of a number in the table and in the tree
 pub record ClassAt (t : Tables) (table : Table) (class : ℕ) : Type 0 where

@@ -53,11 +53,13 @@ module _ (t : Tables) (class : ClassRow) (ks : List ℕ) (first i : ℕ) (entrie
 
   -- what is judged behind it
   abbrev behind : Lined Passed
-  behind = member_headers (classes_of t) (class_of t class) (member_name (member_of t m) ∷ names_behind t entries) (map (member_at t) (drop (suc i) ks))
+  behind = member_headers (classes_of t) (class_of t class) (member_name (member_of t m) ∷ names_behind t entries)
+      (map (member_at t) (drop (suc i) ks))
 
   entries-next : member_headers (classes_of t) (class_of t class) [] (map (member_at t) ks) ≡ ◌>>◌ header behind
   entries-next =
-      let rest = ap (map (member_at t)) (drop-cons ks i 0 l) ∙ ap (λ o. o ∷ map (member_at t) (drop (suc i) ks)) (member_at-row t (get_or ks i 0) m at) in
+      let rest = ap (map (member_at t)) (drop-cons ks i 0 l) ∙ ap (λ o. o ∷ map (member_at t) (drop (suc i) ks))
+      (member_at-row t (get_or ks i 0) m at) in
       sym h.judged ∙ ap (member_headers (classes_of t) (class_of t class) (names_behind t entries)) rest
       ∙ member_headers-cons (classes_of t) (class_of t class) (names_behind t entries) (member_of t m) (map (member_at t) (drop (suc i) ks))
 
@@ -67,7 +69,8 @@ module _ (t : Tables) (class : ClassRow) (ks : List ℕ) (first i : ℕ) (entrie
   rows-next : rows_of t (drop i ks) ≡ m ∷ rows_of t (drop (suc i) ks)
   rows-next = rw (drop-cons ks i 0 l, at) refl
 
-  pub entries-step : header ≡ Ok tt → EntriesUpTo t class ks first (i + 1) (entries ++ entry_of t fields methods m ∷ []) (fields_with fields m) (methods_with methods m)
+  pub entries-step : header ≡ Ok tt → EntriesUpTo t class ks first (i + 1) (entries ++ entry_of t fields methods m ∷ []) (fields_with fields m)
+      (methods_with methods m)
   entries-step p =
       let e = entry_of t fields methods m in
       let longer : length (entries ++ e ∷ []) ≡ length entries + 1 = length-append entries (e ∷ []) in

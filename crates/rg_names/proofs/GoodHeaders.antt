@@ -68,11 +68,17 @@ method-IsGood classes c m h =
     let r = test-then (suits_receiver m.receiver c.is_tmp) BadType _ tt h in
     let s = then-ok (param_headers classes [] m.params) _ tt r.1 in
     let p = params-are-good classes [] m.params s.1 in
-    record { receiver = r.0; names = AreNew-AreDistinct [] (map (λ p. p.name) m.params) p.0; params = p.1; result = result-IsGood classes m.result s.2 }
+    record {
+      receiver = r.0;
+      names = AreNew-AreDistinct [] (map (λ p. p.name) m.params) p.0;
+      params = p.1;
+      result = result-IsGood classes m.result s.2;
+    }
 
 method-passes : (classes : List Class) (c : Class) (m : Method) → IsGoodMethod classes c m → method_header classes c m ≡ Ok tt
 method-passes classes c m g =
-    rw (g.receiver, params-pass classes [] m.params (AreDistinct-AreNew (map (λ p. p.name) m.params) g.names) g.params) (result-passes classes m.result g.result)
+    rw (g.receiver, params-pass classes [] m.params (AreDistinct-AreNew (map (λ p. p.name) m.params) g.names) g.params)
+    (result-passes classes m.result g.result)
 
 member-IsGood : (classes : List Class) (c : Class) (earlier : List Name) (m : Member) → member_headers classes c earlier (m ∷ []) ≡ Ok tt →
     IsGoodMember classes c m

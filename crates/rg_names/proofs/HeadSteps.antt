@@ -39,7 +39,8 @@ module _ (t : Tables) (i : ℕ) (heads : List (ℕ × Bool)) (row : ClassRow) (h
   heads-next =
       let named : row.name < length t.names = (h.rows.classes i row at).name in
       sym h.judged ∙ ap (class_names (names_behind t heads)) (drop-get (classes_of t) i (class_of t row) (classes_of-row t i row at))
-      ∙ ap (λ b. ◌>>◌ (at_line row.line (test (not b) Duplicate)) (class_names (name_at t row.name ∷ names_behind t heads) (drop (suc i) (classes_of t))))
+      ∙ ap (λ b. ◌>>◌ (at_line row.line (test (not b) Duplicate)) (class_names (name_at t row.name ∷ names_behind t heads)
+      (drop (suc i) (classes_of t))))
       (among-behind t h.rows.names row.name named heads h.named)
 
   pub heads-fault : (s : Stop) → FailsAs (is_new row heads) s → FailsAs (class_names [] (classes_of t)) s
@@ -52,6 +53,8 @@ module _ (t : Tables) (i : ℕ) (heads : List (ℕ × Bool)) (row : ClassRow) (h
   heads-step p = rw add-one (record {
     rows = h.rows;
     named = AreNamed-push t heads row.name row.is_tmp h.named (h.rows.classes i row at).name;
-    heads_are = push-rest heads _ _ (row.name, row.is_tmp) (ap (λ cs. heads ++ map (λ (c : ClassRow). (c.name, c.is_tmp)) cs) (sym (drop-get t.classes i row at)) ∙ h.heads_are);
-    judged = rw (names_behind-push t heads row.name row.is_tmp) (sym (heads-next ∙ ap (λ r. ◌>>◌ r (class_names (name_at t row.name ∷ names_behind t heads) (drop (suc i) (classes_of t)))) p));
+    heads_are = push-rest heads _ _ (row.name, row.is_tmp) (ap (λ cs. heads ++ map (λ (c : ClassRow). (c.name, c.is_tmp)) cs)
+        (sym (drop-get t.classes i row at)) ∙ h.heads_are);
+    judged = rw (names_behind-push t heads row.name row.is_tmp) (sym (heads-next
+        ∙ ap (λ r. ◌>>◌ r (class_names (name_at t row.name ∷ names_behind t heads) (drop (suc i) (classes_of t)))) p));
   })

@@ -63,7 +63,8 @@ module _ (t : Tables) (d : AreDistinct t.names) (class : ClassRow) (entries : Li
       ap (λ b. ◌>>◌ (at_line line (test (not b) Duplicate)) (◌>>◌ {B = Passed} (at_line line (types_of t class.is_tmp (row.Field n y line))) (Ok tt)))
       (among-behind t d n l entries named)
   header-parts (row.Method cap n ps y body line) l =
-      ap (λ b. ◌>>◌ (at_line line (test (not b) Duplicate)) (◌>>◌ {B = Passed} (at_line line (types_of t class.is_tmp (row.Method cap n ps y body line))) (Ok tt)))
+      ap (λ b. ◌>>◌ (at_line line (test (not b) Duplicate)) (◌>>◌ {B = Passed}
+      (at_line line (types_of t class.is_tmp (row.Method cap n ps y body line))) (Ok tt)))
       (among-behind t d n l entries named)
 
   module _ (m : MemberRow) (l : name_of m < length t.names) where

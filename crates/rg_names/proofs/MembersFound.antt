@@ -97,7 +97,8 @@ result-same t None = refl
 result-same t (Some y) = refl
 
 result-known : (t : Tables) (y : Option TypeRow) →
-    ((w : Written) → option_map (written t) y ≡ Some w → (ty : Ty) × (good_type (classes_of t) w ≡ Ok ty)) → IfSome (option_map (ty_of t) y) (IsKnown (classes_of t))
+    ((w : Written) → option_map (written t) y ≡ Some w → (ty : Ty) × (good_type (classes_of t) w ≡ Ok ty))
+    → IfSome (option_map (ty_of t) y) (IsKnown (classes_of t))
 result-known t None h = tt
 result-known t (Some y) h = let g = h (written t y) refl in good-known t y g.0 g.1
 
@@ -127,7 +128,8 @@ module _ (t : Tables) (d : AreDistinct t.names) (n : ℕ) (l : n < length t.name
   field-or : (k : ℕ) (y : TypeRow) (line : ℕ) (ms : List Member) (fields : ℕ) (earlier : List Name) (rest : Option Entry) → k < length t.names →
       HeadersParts (classes_of t) c earlier (field (field_at t k y line)) ms → FieldIn ms (suc fields) (option_and_then as_field rest) →
       (b : Truth) → nat_eq n k ≡ b →
-      FieldIn (field (field_at t k y line) ∷ ms) fields (option_and_then as_field (cond b (Some (Field (record { index = fields; ty = ty_of t y }))) rest))
+      FieldIn (field (field_at t k y line) ∷ ms) fields (option_and_then as_field
+      (cond b (Some (Field (record { index = fields; ty = ty_of t y }))) rest))
   field-or k y line ms fields earlier rest lk p r true e =
       let g = field-good (classes_of t) c earlier (field_at t k y line) p.first in
       found-here (FieldMatches t) (λ a. a.index) (λ f. bytes_eq f.name (name_at t n)) (field_at t k y line) (filter_map field_member ms) fields
@@ -138,12 +140,14 @@ module _ (t : Tables) (d : AreDistinct t.names) (n : ℕ) (l : n < length t.name
 
   method-or : (cap : Cap) (k : ℕ) (ps : Span) (y : Option TypeRow) (body : Span) (line : ℕ) (ms : List Member) (methods : ℕ) (earlier : List Name)
       (rest : Option Entry) → k < length t.names → IsSpanBelow t (length t.params) ps →
-      HeadersParts (classes_of t) c earlier (method (method_at t cap k ps y body line)) ms → MethodIn ms (suc methods) (option_and_then as_method rest) →
+      HeadersParts (classes_of t) c earlier (method (method_at t cap k ps y body line)) ms
+      → MethodIn ms (suc methods) (option_and_then as_method rest) →
       (b : Truth) → nat_eq n k ≡ b →
       MethodIn (method (method_at t cap k ps y body line) ∷ ms) methods
       (option_and_then as_method (cond b (Some (Method (record { number = methods; cap = cap; params = ps; result = option_map (ty_of t) y }))) rest))
   method-or cap k ps y body line ms methods earlier rest lk lp p r true e =
-      found-here (MethodMatches t) (λ s. s.number) (λ m. bytes_eq m.name (name_at t n)) (method_at t cap k ps y body line) (filter_map method_member ms) methods
+      found-here (MethodMatches t) (λ s. s.number) (λ m. bytes_eq m.name (name_at t n)) (method_at t cap k ps y body line)
+      (filter_map method_member ms) methods
       (name-eq-back t d n k l lk ∙ e) (record { number = methods; cap = cap; params = ps; result = option_map (ty_of t) y }) refl
       (record {
         cap = refl;
@@ -153,7 +157,8 @@ module _ (t : Tables) (d : AreDistinct t.names) (n : ℕ) (l : n < length t.name
         known = result-known t y (result-good (classes_of t) c earlier (method_at t cap k ps y body line) p.first);
       })
   method-or cap k ps y body line ms methods earlier rest lk lp p r false e =
-      found-behind (MethodMatches t) (λ s. s.number) (λ m. bytes_eq m.name (name_at t n)) (method_at t cap k ps y body line) (filter_map method_member ms) methods
+      found-behind (MethodMatches t) (λ s. s.number) (λ m. bytes_eq m.name (name_at t n)) (method_at t cap k ps y body line)
+      (filter_map method_member ms) methods
       (name-eq-back t d n k l lk ∙ e) (option_and_then as_method rest) r
 
   -- a method has that name: no field has it
@@ -161,7 +166,8 @@ module _ (t : Tables) (d : AreDistinct t.names) (n : ℕ) (l : n < length t.name
       member_headers (classes_of t) c (name_at t k ∷ earlier) ms ≡ Ok tt → FieldIn ms fields (option_and_then as_field rest) →
       (b : Truth) → nat_eq n k ≡ b → FieldIn ms fields (option_and_then as_field (cond b (Some (Method s)) rest))
   no-field k s ms fields earlier rest lk h r true e =
-      fresh-fields (classes_of t) c (name_at t n) (name_at t k ∷ earlier) ms h (among-here (name_at t n) (name_at t k) earlier (name-eq t d n k l lk ∙ e))
+      fresh-fields (classes_of t) c (name_at t n) (name_at t k ∷ earlier) ms h
+      (among-here (name_at t n) (name_at t k) earlier (name-eq t d n k l lk ∙ e))
   no-field k s ms fields earlier rest lk h r false e = r
 
   -- a field has that name: no method has it
@@ -169,7 +175,8 @@ module _ (t : Tables) (d : AreDistinct t.names) (n : ℕ) (l : n < length t.name
       member_headers (classes_of t) c (name_at t k ∷ earlier) ms ≡ Ok tt → MethodIn ms methods (option_and_then as_method rest) →
       (b : Truth) → nat_eq n k ≡ b → MethodIn ms methods (option_and_then as_method (cond b (Some (Field a)) rest))
   no-method k a ms methods earlier rest lk h r true e =
-      fresh-methods (classes_of t) c (name_at t n) (name_at t k ∷ earlier) ms h (among-here (name_at t n) (name_at t k) earlier (name-eq t d n k l lk ∙ e))
+      fresh-methods (classes_of t) c (name_at t n) (name_at t k ∷ earlier) ms h
+      (among-here (name_at t n) (name_at t k) earlier (name-eq t d n k l lk ∙ e))
   no-method k a ms methods earlier rest lk h r false e = r
 
   -- the field of a name

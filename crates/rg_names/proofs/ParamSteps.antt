@@ -48,22 +48,26 @@ module _ (t : Tables) (heads : List (ℕ × Bool)) (is : IsHeadsOf t heads) (lin
       sym h.judged ∙ ap (λ ps. at_line line (param_headers (classes_of t) (names_behind t earlier) ps)) rest
       ∙ ap (λ b. at_line line (◌>>◌ (first b) (◌>>◌ (good_type (classes_of t) (written t row.ty)) behind)))
       (among-behind t is.rows.names row.name in'.name earlier h.named)
-      ∙ ap (λ g. at_line line (◌>>◌ (first (is_some (lookup (nat_eq row.name) earlier))) (◌>>◌ g behind))) (sym (judge_type-good_type t heads is row.ty in'.ty))
+      ∙ ap (λ g. at_line line (◌>>◌ (first (is_some (lookup (nat_eq row.name) earlier))) (◌>>◌ g behind)))
+      (sym (judge_type-good_type t heads is row.ty in'.ty))
       ∙ at_line-then line (first (is_some (lookup (nat_eq row.name) earlier))) (◌>>◌ (judge_type heads row.ty) behind)
       ∙ ap (◌>>◌ (is_new line row earlier)) (at_line-then line (judge_type heads row.ty) behind)
 
-  pub params-repeated : (s : Stop) → FailsAs (is_new line row earlier) s → FailsAs (at_line line (param_headers (classes_of t) [] (map (param_at t) ks))) s
+  pub params-repeated : (s : Stop) → FailsAs (is_new line row earlier) s → FailsAs
+      (at_line line (param_headers (classes_of t) [] (map (param_at t) ks))) s
   params-repeated s f = FailsAs-same _ _ s params-next (FailsAs-first (is_new line row earlier) _ s f)
 
   pub params-mistyped : (s : Stop) → is_new line row earlier ≡ Ok tt → FailsAs (at_line line (judge_type heads row.ty)) s →
       FailsAs (at_line line (param_headers (classes_of t) [] (map (param_at t) ks))) s
   params-mistyped s p f =
-      FailsAs-same _ _ s params-next (FailsAs-second (is_new line row earlier) _ tt s p (FailsAs-first (at_line line (judge_type heads row.ty)) _ s f))
+      FailsAs-same _ _ s params-next (FailsAs-second (is_new line row earlier) _ tt s p
+      (FailsAs-first (at_line line (judge_type heads row.ty)) _ s f))
 
   pub params-step : is_new line row earlier ≡ Ok tt → (ty : Ty) → at_line line (judge_type heads row.ty) ≡ Ok ty →
       ParamsUpTo t line ks (i + 1) (earlier ++ (row.name, ty) ∷ [])
   params-step p ty e = rw add-one (record {
     named = AreNamed-push t earlier row.name ty h.named in'.name;
-    judged = rw (names_behind-push t earlier row.name ty) (sym (params-next ∙ ap (λ r. ◌>>◌ r (◌>>◌ (at_line line (judge_type heads row.ty)) (at_line line behind))) p
+    judged = rw (names_behind-push t earlier row.name ty) (sym (params-next
+        ∙ ap (λ r. ◌>>◌ r (◌>>◌ (at_line line (judge_type heads row.ty)) (at_line line behind))) p
         ∙ ap (λ r. ◌>>◌ r (at_line line behind)) e));
   })

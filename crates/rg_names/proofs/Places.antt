@@ -66,5 +66,6 @@ pub class-is_tmp : (t : Tables) (heads : List (ℕ × Bool)) → IsHeadsOf t hea
 unfolding classes_of
 class-is_tmp t heads h k b e =
     ap (option_map (λ c. c.is_tmp)) (slice_get-map (class_of t) t.classes k) ∙ same_kind t (slice_get t.classes k)
-    ∙ sym (ap (option_map (λ (e : ℕ × Bool). e.1)) (slice_get-map head_of t.classes k)) ∙ sym (slice_get-map (λ (e : ℕ × Bool). e.1) (map head_of t.classes) k)
+    ∙ sym (ap (option_map (λ (e : ℕ × Bool). e.1)) (slice_get-map head_of t.classes k))
+    ∙ sym (slice_get-map (λ (e : ℕ × Bool). e.1) (map head_of t.classes) k)
     ∙ ap (λ hs. slice_get (values_of hs) k) (sym h.heads_are) ∙ e

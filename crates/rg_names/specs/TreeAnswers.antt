@@ -67,7 +67,8 @@ pub record MethodIs (program : Tables) (class name : ℕ) (s : Sig) : Type 0 whe
 -- the parameter of a number is there, and its type is good
 pub record IsGoodParam (program : Tables) (param : ℕ) : Type 0 where
   pub within : param < length program.params
-  pub good : good_type (program_of program).classes (param_at program param).ty ≡ Ok (type_of (program_of program).classes (param_at program param).ty)
+  pub good : good_type (program_of program).classes (param_at program param).ty
+      ≡ Ok (type_of (program_of program).classes (param_at program param).ty)
 
 -- each parameter of a method
 abbrev pub HasGoodParams : Tables → Sig → Type 0

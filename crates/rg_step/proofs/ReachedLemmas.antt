@@ -77,7 +77,8 @@ pub serves-reached : (code : Code) (why : Cause) (old : Stepping) (mid : Parts) 
     → mid.frames.next ≤ 2 ^ 64 - 1 → Grove mid.heap.cells mid.heap.regions → Grove new.parts.heap.cells new.parts.heap.regions
     → (was : Machine) (events : List Event) → events ≡ old.events → (before after : List ℕ) → StepsOn code was (machine_in mid) result before after
     → ReachesOn code was events new.events before after
-serves-reached code why old mid new asks told result made serves stands serials windows grove grown was events same before after steps t p q r e went d more trace =
+serves-reached code why old mid new asks told result made serves stands serials windows grove grown was events same before after steps t p q r e went
+    d more trace =
     let s = steps t p r e in
     let is : s.0 ≡ q = went-is (next t.classes p) s.0 q (made-went (next t.classes p) p s.0 result made s.1) went in
     let c = serves-told why old mid new asks told serves d (more ∙ ap (λ es. es ++ d ∷ []) same) in

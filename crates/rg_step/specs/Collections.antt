@@ -47,7 +47,8 @@ pub record IsCollected (why : Cause) (mid : Parts) (events : List Event) (new : 
   pub told : Collected
   pub gathers : Gathers mid new.parts
   pub collects : OnTop mid.frames (λ top. OfRegion mid.heap.regions top.region
-      (λ r. CollectsBy r.manager mid.heap new.parts.heap top.region r (roots_of r.bridge (drop top.base mid.frames.slots) (top_temps mid.frames)) (Some told)))
+      (λ r. CollectsBy r.manager mid.heap new.parts.heap top.region r (roots_of r.bridge (drop top.base mid.frames.slots) (top_temps mid.frames))
+      (Some told)))
   pub events_are : new.events ≡ events ++ event_of new.steps why told ∷ []
 
 -- nothing was collected

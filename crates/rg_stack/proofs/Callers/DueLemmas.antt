@@ -86,7 +86,8 @@ module _ (classes : List Class) (code : List Op) where
       ∙ lies-due (record l { scope = take k l.scope } ∷ ls) j rest (at + 2) h.2
   item-due l ls Back rest at left w h = ap due (drop-stands code (at + 1) (i.RetVoid ∷ []) h.1)
 
-all-due : (t : Tree) → Accepted t → (code : List Op) (at : ℕ) (mfs : List Frame) (fs : List Body) (ws : List Opened) (items : List Item) → SomeLeft items
+all-due : (t : Tree) → Accepted t → (code : List Op) (at : ℕ) (mfs : List Frame) (fs : List Body) (ws : List Opened) (items : List Item)
+    → SomeLeft items
     → FramesFit t fs ws items → ShowsFrames mfs fs → Lies t.classes code (levels_of mfs fs) items at
     → due (drop (at + 1) code) ≡ first_due t.classes items
 all-due t accepted code at mfs fs ws [] left frames shows lies = absurd left
@@ -98,4 +99,5 @@ all-due t accepted code at (mf ∷ mfs) (f ∷ fs) ws (j ∷ rest) left (inl h) 
 all-due t accepted code at (mf ∷ mfs) (f ∷ fs) ws (j ∷ rest) left (inr h) shows lies = absurd (subst SomeLeft h.no_item left)
 
 pub steps-due : StepsDue
-steps-due t code m p accepted fit shows left = all-due t accepted code.ops m.at m.frames p.frames p.windows p.items left fit.frames shows.slots shows.places
+steps-due t code m p accepted fit shows left = all-due t accepted code.ops m.at m.frames p.frames p.windows p.items left fit.frames shows.slots
+    shows.places

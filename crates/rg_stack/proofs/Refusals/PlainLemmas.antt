@@ -50,9 +50,11 @@ plain-expr classes scope at nil rest = (refl, refl)
 plain-expr classes scope at (path p) rest = plain-path classes scope p.base p.fields rest
 plain-expr classes scope at (is_nil p) rest = plain-append (path_code classes scope p.base p.fields) (i.IsNil ∷ [])
     (plain-path classes scope p.base p.fields) (λ rest. (refl, refl)) rest
-plain-expr classes scope at (neg a) rest = plain-append (expr_code classes scope at a) (i.Neg ∷ []) (plain-expr classes scope at a) (λ rest. (refl, refl))
+plain-expr classes scope at (neg a) rest = plain-append (expr_code classes scope at a) (i.Neg ∷ []) (plain-expr classes scope at a)
+    (λ rest. (refl, refl))
     rest
-plain-expr classes scope at (not a) rest = plain-append (expr_code classes scope at a) (i.Not ∷ []) (plain-expr classes scope at a) (λ rest. (refl, refl))
+plain-expr classes scope at (not a) rest = plain-append (expr_code classes scope at a) (i.Not ∷ []) (plain-expr classes scope at a)
+    (λ rest. (refl, refl))
     rest
 plain-expr classes scope at (binary o a b) rest =
     let left = expr_code classes scope at a in

@@ -8,7 +8,8 @@ returns-in_err-add-clause-judged c =
     let p = err_from_is_err_and c.from_residual.result c.from_residual.ensures.1 in
     rw (p.1, p.2) (entries-fault c.args.program.now c.args.class (numbers_in c.args.program.now c.args.class.members) c.args.methods c.loop-k.k-index
     c.loop-k.found.entries c.loop-k.found.fields c.loop-k.found.methods c.member.result c.loop-k.invariant
-    (rw c.order-k-items.ensures at c.loop-k-test.true) (rw c.order-k-items.ensures at c.member.ensures.row) c.member.ensures.below _ c.in_err-add.ensures.judged)
+    (rw c.order-k-items.ensures at c.loop-k-test.true) (rw c.order-k-items.ensures at c.member.ensures.row) c.member.ensures.below _
+    c.in_err-add.ensures.judged)
 
 pub loop-k-preserved : goal.loop-k-preserved
 loop-k-preserved c =

@@ -39,17 +39,21 @@ loop-at-preserved-in-Ok g c =
           (λ before after. (walk_from code c.args.from (core_of c.args.p.now) before ≡ walk_from code c.loop-at.at (core_of c.loop-at.p) after)
           × Unread code.ops c.args.from (machine_in c.args.p.now) c.loop-at.at before after)
           (Answers (Ok c.in-Ok.z))
-          (λ before after. (walk_from code c.args.from (core_of c.args.p.now) before ≡ walk_from code (c.in-Read.place + 1) (core_of c.set_top.new.self) after)
+          (λ before after. (walk_from code c.args.from (core_of c.args.p.now) before
+          ≡ walk_from code (c.in-Read.place + 1) (core_of c.set_top.new.self) after)
           × Unread code.ops c.args.from (machine_in c.args.p.now) (c.in-Read.place + 1) before after)
           c.loop-at.invariant.so_far c.in-Ok.ensures.answers
           (λ before between after p q. (
-            read-on code c.in-Read.place (core_of c.walk.new.p) (core_of c.set_top.new.self) c.in-Ok.z _ between after (p.0 ∙ c.in-Read.ensures.walk.3 between) q put,
+            read-on code c.in-Read.place (core_of c.walk.new.p) (core_of c.set_top.new.self) c.in-Ok.z _ between after
+                (p.0 ∙ c.in-Read.ensures.walk.3 between) q put,
             unread-number code.ops c.args.from (c.in-Read.place + 1) (machine_in c.args.p.now) before after
                 (λ start asks h. (c.in-Read.ensures.leaves start asks (c.loop-at.invariant.stands start asks h)).1),
           ));
-      stands = λ start asks h. stands-put c.args.code.now.ops start asks c.in-Read.place (core_of c.walk.new.p) (core_of c.set_top.new.self) _ c.set_top.ensures.core
+      stands = λ start asks h. stands-put c.args.code.now.ops start asks c.in-Read.place (core_of c.walk.new.p)
+          (core_of c.set_top.new.self) _ c.set_top.ensures.core
           (c.in-Read.ensures.leaves start asks (c.loop-at.invariant.stands start asks h)).0;
-      backs = put-backs (core_of c.walk.new.p) (core_of c.set_top.new.self) _ c.set_top.ensures.core ∙ c.in-Read.ensures.backs ∙ c.loop-at.invariant.backs;
+      backs = put-backs (core_of c.walk.new.p) (core_of c.set_top.new.self) _ c.set_top.ensures.core ∙ c.in-Read.ensures.backs
+          ∙ c.loop-at.invariant.backs;
       high = λ start h. subst (MayMake code.ops start (c.in-Read.place + 1)) (sym c.set_top.ensures.same.heap)
           (c.in-Read.ensures.high start (c.loop-at.invariant.high start h));
       unasked = λ start h. absurd (true≢false (sym (c.in-Read.ensures.leaves start false (c.loop-at.invariant.stands start false h)).0.asked));
@@ -65,7 +69,8 @@ loop-at-preserved g c =
           (λ before after. (walk_from code c.args.from (core_of c.args.p.now) before ≡ walk_from code c.loop-at.at (core_of c.loop-at.p) after)
           × Unread code.ops c.args.from (machine_in c.args.p.now) c.loop-at.at before after)
           (Looks (Ok c.in-Ok-more.b))
-          (λ before after. (walk_from code c.args.from (core_of c.args.p.now) before ≡ walk_from code (c.in-More.place + 1) (core_of c.set_top-in-Ok-more.new.self) after)
+          (λ before after. (walk_from code c.args.from (core_of c.args.p.now) before
+          ≡ walk_from code (c.in-More.place + 1) (core_of c.set_top-in-Ok-more.new.self) after)
           × Unread code.ops c.args.from (machine_in c.args.p.now) (c.in-More.place + 1) before after)
           c.loop-at.invariant.so_far c.in-Ok-more.ensures.looks
           (λ before between after p q. (
@@ -74,7 +79,8 @@ loop-at-preserved g c =
             λ start asks h. inr (q.1 ∙ unread-left code.ops c.args.from c.loop-at.at (machine_in c.args.p.now) before between p.1
                 (λ calm. no-asking code.ops c.in-More.place (machine_in c.walk.new.p) (λ m a. c.in-More.ensures.leaves m a (inr calm))) start asks h),
           ));
-      stands = λ start asks h. stands-put c.args.code.now.ops start asks c.in-More.place (core_of c.walk.new.p) (core_of c.set_top-in-Ok-more.new.self) _
+      stands = λ start asks h. stands-put c.args.code.now.ops start asks c.in-More.place (core_of c.walk.new.p)
+          (core_of c.set_top-in-Ok-more.new.self) _
           c.set_top-in-Ok-more.ensures.core
           (c.in-More.ensures.leaves start asks (c.loop-at.invariant.stands start asks h));
       backs = put-backs (core_of c.walk.new.p) (core_of c.set_top-in-Ok-more.new.self) _ c.set_top-in-Ok-more.ensures.core ∙ c.in-More.ensures.backs
@@ -99,7 +105,8 @@ returns-in-Err-End-clause-comes g c =
     c.loop-at.invariant.so_far (subst Q c.in-Err-End.field-0-is c.in-Err-End.ensures.answers)
     (λ before between after p q. (
       p.0 ∙ c.in-Read.ensures.walk.3 between
-          ∙ ap (λ n. next_taken n (given_walk code (drop (c.in-Read.place + 1) code.ops) (c.in-Read.place + 1)) (below_top (core_of c.walk.new.p)).stack
+          ∙ ap (λ n. next_taken n (given_walk code (drop (c.in-Read.place + 1) code.ops) (c.in-Read.place + 1))
+          (below_top (core_of c.walk.new.p)).stack
           (work_of (core_of c.walk.new.p) between)) q.0,
       λ start asks h. q.1 ∙ unread-left code.ops c.args.from c.loop-at.at (machine_in c.args.p.now) before between p.1
           (λ calm. no-asking code.ops c.in-Read.place (machine_in c.walk.new.p) (λ m a. (c.in-Read.ensures.leaves m a (inr calm)).0)) start asks h,
@@ -118,7 +125,8 @@ returns-in-Err-Input-clause-comes g c =
     c.loop-at.invariant.so_far (subst Q c.in-Err-Input.field-0-is c.in-Err-Input.ensures.answers)
     (λ before between after p q. (
       p.0 ∙ c.in-Read.ensures.walk.3 between
-          ∙ ap (λ n. next_taken n (given_walk code (drop (c.in-Read.place + 1) code.ops) (c.in-Read.place + 1)) (below_top (core_of c.walk.new.p)).stack
+          ∙ ap (λ n. next_taken n (given_walk code (drop (c.in-Read.place + 1) code.ops) (c.in-Read.place + 1))
+          (below_top (core_of c.walk.new.p)).stack
           (work_of (core_of c.walk.new.p) between)) q.0,
       λ start asks h. q.1 ∙ unread-left code.ops c.args.from c.loop-at.at (machine_in c.args.p.now) before between p.1
           (λ calm. no-asking code.ops c.in-Read.place (machine_in c.walk.new.p) (λ m a. (c.in-Read.ensures.leaves m a (inr calm)).0)) start asks h,

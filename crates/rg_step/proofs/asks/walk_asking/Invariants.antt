@@ -14,7 +14,8 @@ invariant-loop-at g l = record {
   so_far : OnInput l.fn.input l.input (g.S.Source.left l.fn.source) (g.S.Source.left l.source)
       (λ before after. (walk_from l.code l.from (core_of l.fn.p) before ≡ walk_from l.code l.at (core_of l.p) after)
       × Unread l.code.ops l.from (machine_in l.fn.p) l.at before after);
-  stands : (start : Machine) (asks : Truth) → Stands l.code.ops start asks l.from (machine_in l.fn.p) → Stands l.code.ops start asks l.at (machine_in l.p);
+  stands : (start : Machine) (asks : Truth) → Stands l.code.ops start asks l.from (machine_in l.fn.p)
+      → Stands l.code.ops start asks l.at (machine_in l.p);
   backs : SameBacks (machine_in l.fn.p) (machine_in l.p);
   high : (start : HeapParts) → MayMake l.code.ops start l.from l.fn.p.heap → MayMake l.code.ops start l.at l.p.heap;
   unasked : (start : Machine) → Stands l.code.ops start false l.from (machine_in l.fn.p) → (l.input ≡ l.fn.input) × (l.source ≡ l.fn.source);

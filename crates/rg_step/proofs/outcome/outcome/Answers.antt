@@ -34,7 +34,8 @@ returns-clause-step g c =
     let On : Machine → Type 0 = λ m. OnInput c.args.input.now c.step-did.new.input (g.S.Source.left c.args.source.now)
     (g.S.Source.left c.step-did.new.source)
     (StepsOn code old.machine m c.answer.result) in
-    subst On (sym same) (rw c.answer.ensures (OnInput-map _ _ _ _ (StepIs code old new c.step-did.result) (StepsOn code old.machine new.machine result)
+    subst On (sym same) (rw c.answer.ensures (OnInput-map _ _ _ _ (StepIs code old new c.step-did.result)
+    (StepsOn code old.machine new.machine result)
     c.step-did.ensures.step
     (λ before after is. answer-settles code old new c.step-did.result c.printed-printed.result before after c.requires.runs
     (sym c.printed-printed.ensures) c.step-did.ensures.leaves is)))

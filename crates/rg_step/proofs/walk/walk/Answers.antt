@@ -14,7 +14,8 @@ use Rattle.rg_machine.specs.Parts.{core_of, machine_in}
 use Rattle.rg_step.proofs.walk.walk.Goals as goal
 
 pub simple-requires : goal.simple-requires
-simple-requires c = given-here c.args.code.now c.loop-at.at c.get-op.result (core_of c.loop-at.p) _ c.requires c.loop-at.invariant.walks c.get-op.ensures
+simple-requires c = given-here c.args.code.now c.loop-at.at c.get-op.result
+    (core_of c.loop-at.p) _ c.requires c.loop-at.invariant.walks c.get-op.ensures
 
 pub loop-at-preserved-then-simple : goal.loop-at-preserved-then-simple
 loop-at-preserved-then-simple c =
@@ -28,7 +29,8 @@ loop-at-preserved-then-simple c =
     record {
       further = omega (arith, i.further);
       walks = turn-on code at op (core_of old) (core_of new) _ c.requires i.walks c.get-op.ensures (went.effect at);
-      stands = λ start asks h. stands-on code.ops start asks at (machine_in old) (machine_in new) op c.get-op.ensures went.keeps (i.stands start asks h);
+      stands = λ start asks h. stands-on code.ops start asks at (machine_in old) (machine_in new) op c.get-op.ensures went.keeps
+          (i.stands start asks h);
       backs = on-backs (manner op) (machine_in old) (machine_in new) went.keeps ∙ i.backs;
       high = λ start h. high-on code.ops start at old new op c.get-op.ensures went.keeps went.high (i.high start h);
     }
@@ -43,7 +45,8 @@ make_room-requires c lt =
     let i = walking-undone c.get-op.result c.simple.new.p c.simple.result c.simple.ensures c.if-simple.false c.loop-at.invariant in
     let some = c.requires in (
       some.0,
-      λ stuck. some.1 (turn-room c.args.code.now c.loop-at.at c.get-op.result (core_of c.simple.new.p) (core_of c.act.new.p) _ some i.walks c.get-op.ensures
+      λ stuck. some.1 (turn-room c.args.code.now c.loop-at.at c.get-op.result (core_of c.simple.new.p)
+          (core_of c.act.new.p) _ some i.walks c.get-op.ensures
           c.in-Room.ensures.effect lt some.0 ∙ stuck),
     )
 
@@ -126,7 +129,8 @@ loop-at-preserved c =
 pub returns-in-Called : goal.returns-in-Called
 returns-in-Called c =
     let i = walking-undone c.get-op.result c.simple.new.p c.simple.result c.simple.ensures c.if-simple.false c.loop-at.invariant in record {
-      walk = λ input. turn-room c.args.code.now c.loop-at.at c.get-op.result (core_of c.simple.new.p) (core_of c.act.new.p) _ c.requires i.walks c.get-op.ensures
+      walk = λ input. turn-room c.args.code.now c.loop-at.at c.get-op.result (core_of c.simple.new.p)
+          (core_of c.act.new.p) _ c.requires i.walks c.get-op.ensures
           c.in-Room.ensures.effect
           c.in-Called.ensures.room.0 input
           ∙ c.in-Called.ensures.room.1 input;
@@ -140,7 +144,8 @@ returns-in-Called c =
 pub returns-in-Lost-make_room : goal.returns-in-Lost-make_room
 returns-in-Lost-make_room c =
     let i = walking-undone c.get-op.result c.simple.new.p c.simple.result c.simple.ensures c.if-simple.false c.loop-at.invariant in record {
-      walk = λ input. turn-room c.args.code.now c.loop-at.at c.get-op.result (core_of c.simple.new.p) (core_of c.act.new.p) _ c.requires i.walks c.get-op.ensures
+      walk = λ input. turn-room c.args.code.now c.loop-at.at c.get-op.result (core_of c.simple.new.p)
+          (core_of c.act.new.p) _ c.requires i.walks c.get-op.ensures
           c.in-Room.ensures.effect
           c.in-Lost-make_room.ensures.room.0 input
           ∙ c.in-Lost-make_room.ensures.room.1 input;
@@ -155,7 +160,8 @@ returns-in-Full c =
     let op = c.get-op.result in
     let same = c.in-Full.ensures.room.0 in
     record {
-      walk = turn-full c.args.code.now c.loop-at.at op (core_of c.simple.new.p) (core_of c.act.new.p) _ c.requires i.walks c.get-op.ensures c.in-Room.ensures.effect
+      walk = turn-full c.args.code.now c.loop-at.at op (core_of c.simple.new.p)
+          (core_of c.act.new.p) _ c.requires i.walks c.get-op.ensures c.in-Room.ensures.effect
           c.in-Full.ensures.room.1;
       leaves = λ start asks h. ap (λ (n : Core). n.machine) same
           ∙ stands-roomless c.args.code.now.ops start asks c.loop-at.at (machine_in c.simple.new.p) (machine_in c.act.new.p) op c.get-op.ensures
@@ -209,7 +215,8 @@ returns-in-Trap c =
     record {
       walk = turn-ends c.args.code.now c.loop-at.at c.get-op.result (core_of c.simple.new.p) _ _ c.requires i.walks c.get-op.ensures
           c.in-Trap.ensures.effect;
-      leaves = λ start asks h. stands-left c.args.code.now.ops start asks c.loop-at.at (machine_in c.simple.new.p) (machine_in c.act.new.p) c.get-op.result c.get-op.ensures
+      leaves = λ start asks h. stands-left c.args.code.now.ops start asks c.loop-at.at (machine_in c.simple.new.p)
+          (machine_in c.act.new.p) c.get-op.result c.get-op.ensures
           c.in-Trap.ensures.keeps (i.stands start asks h);
       backs = tt;
       high = λ start h. high-none c.args.code.now.ops start c.loop-at.at c.simple.new.p c.act.new.p
@@ -221,7 +228,8 @@ returns-in-Memory c =
     let i = walking-undone c.get-op.result c.simple.new.p c.simple.result c.simple.ensures c.if-simple.false c.loop-at.invariant in
     record {
       walk = tt;
-      leaves = λ start asks h. stands-left c.args.code.now.ops start asks c.loop-at.at (machine_in c.simple.new.p) (machine_in c.act.new.p) c.get-op.result c.get-op.ensures
+      leaves = λ start asks h. stands-left c.args.code.now.ops start asks c.loop-at.at (machine_in c.simple.new.p)
+          (machine_in c.act.new.p) c.get-op.result c.get-op.ensures
           c.in-Memory.ensures.keeps (i.stands start asks h);
       backs = tt;
       high = λ start h. tt;
@@ -242,7 +250,8 @@ pub returns-in-Read : goal.returns-in-Read
 returns-in-Read c =
     let i = walking-undone c.get-op.result c.simple.new.p c.simple.result c.simple.ensures c.if-simple.false c.loop-at.invariant in
     let op = c.get-op.result in
-    let r = turn-read c.args.code.now c.loop-at.at op (core_of c.simple.new.p) (core_of c.act.new.p) _ c.requires i.walks c.get-op.ensures c.in-Read.ensures.effect in
+    let r = turn-read c.args.code.now c.loop-at.at op (core_of c.simple.new.p)
+    (core_of c.act.new.p) _ c.requires i.walks c.get-op.ensures c.in-Read.ensures.effect in
     record {
       walk = (i.further, omega (arith, c.loop-at-test.true, c.len.ensures), r.0, r.1);
       leaves = λ start asks h. (
@@ -260,10 +269,12 @@ pub returns-in-More : goal.returns-in-More
 returns-in-More c =
     let i = walking-undone c.get-op.result c.simple.new.p c.simple.result c.simple.ensures c.if-simple.false c.loop-at.invariant in
     let op = c.get-op.result in
-    let r = turn-more c.args.code.now c.loop-at.at op (core_of c.simple.new.p) (core_of c.act.new.p) _ c.requires i.walks c.get-op.ensures c.in-More.ensures.effect in
+    let r = turn-more c.args.code.now c.loop-at.at op (core_of c.simple.new.p)
+    (core_of c.act.new.p) _ c.requires i.walks c.get-op.ensures c.in-More.ensures.effect in
     record {
       walk = (i.further, omega (arith, c.loop-at-test.true, c.len.ensures), r.0, r.1);
-      leaves = λ start asks h. stands-asking c.args.code.now.ops start asks c.loop-at.at (machine_in c.simple.new.p) (machine_in c.act.new.p) op c.get-op.ensures
+      leaves = λ start asks h. stands-asking c.args.code.now.ops start asks c.loop-at.at (machine_in c.simple.new.p)
+          (machine_in c.act.new.p) op c.get-op.ensures
           c.in-More.ensures.keeps.0 c.in-More.ensures.keeps.1 (i.stands start asks h);
       backs = asks-backs (manner op) (machine_in c.simple.new.p) (machine_in c.act.new.p) c.in-More.ensures.keeps.1 ∙ i.backs;
       high = λ start h. high-asks c.args.code.now.ops start c.loop-at.at c.simple.new.p c.act.new.p op c.get-op.ensures

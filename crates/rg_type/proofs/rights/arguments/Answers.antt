@@ -40,7 +40,8 @@ loop-param-preserved c =
     (c.in-Some.param, c.in-Some.arg) c.in-Some.is c.next.ensures.steps in
     rw (length_push c.loop-param.yielded (c.in-Some.param, c.in-Some.arg))
     (args-step c.args.book.now.program c.args.env.now c.loop-param.env c.expression.new.env c.args.params.now c.args.args.now
-    (length c.loop-param.yielded) c.in_ok-expression.field-0 z.0 z.1 c.loop-param.invariant (rw (← (z.2 0), ← (z.3 0), ← c.type_of_param-ty.ensures.ty)
+    (length c.loop-param.yielded) c.in_ok-expression.field-0 z.0 z.1 c.loop-param.invariant
+    (rw (← (z.2 0), ← (z.3 0), ← c.type_of_param-ty.ensures.ty)
     c.in_ok-expression.ensures.judged)
     c.in_ok-expression.ensures.scope)
 

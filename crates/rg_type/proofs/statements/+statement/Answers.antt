@@ -136,7 +136,8 @@ while_-block-requires t c =
 pub while_-returns-in_err-block-clause-judged : goal.while_-returns-in_err-block-clause-judged
 while_-returns-in_err-block-clause-judged t c =
     let r = err_from_is_err_and c.from_residual-in_err-block.result c.from_residual-in_err-block.ensures.1 in
-    rw (r.1, r.2) (while-fails-within c.args.book.now.program c.args.line c.args.e c.args.body c.args.env.now c.tested.new.env c.in_err-block.field-0.0
+    rw (r.1, r.2) (while-fails-within c.args.book.now.program c.args.line c.args.e c.args.body c.args.env.now c.tested.new.env
+    c.in_err-block.field-0.0
     c.in_ok-tested.ensures.judged c.in_err-block.ensures.judged)
 
 pub while_-close-requires-clause-within : goal.while_-close-requires-clause-within
@@ -289,6 +290,7 @@ window-close-requires-clause-within t c =
 
 pub window-returns-clause-judged : goal.window-returns-clause-judged
 window-returns-clause-judged t c =
-    enter-leaves c.args.book.now.program c.args.line c.args.path c.args.name c.args.body c.args.env.now c.enter.new.env c.block.new.env c.close.new.self
+    enter-leaves c.args.book.now.program c.args.line c.args.path c.args.name c.args.body c.args.env.now c.enter.new.env c.block.new.env
+    c.close.new.self
     c.leave.new.env
     c.save-outside.result c.save-outside.ensures c.in_ok-enter.ensures.judged c.in_ok-block.ensures.judged c.close.ensures c.leave.ensures.left

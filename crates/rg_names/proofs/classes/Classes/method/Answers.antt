@@ -8,7 +8,8 @@ returns-in-Some-Field-clause-tree c program is l =
 
 pub returns-in-Some-Method-clause-tree : goal.returns-in-Some-Method-clause-tree
 returns-in-Some-Method-clause-tree c program is l =
-    rw (sym c.in-Some-Method.ensures, c.in-Some-Method.field-0-is) at (method_in-tree program c.args.self.now is c.args.class c.args.name c.requires l)
+    rw (sym c.in-Some-Method.ensures, c.in-Some-Method.field-0-is) at (method_in-tree program c.args.self.now is c.args.class c.args.name c.requires
+    l)
 
 pub returns-in-None-clause-tree : goal.returns-in-None-clause-tree
 returns-in-None-clause-tree c program is l =

@@ -12,7 +12,8 @@ returns-in_err-fresh-in-Field-clause-judged c =
     let m : MemberRow = row.Field c.in-Field.name c.in-Field.ty c.in-Field.line in
     let l : IsMemberIn c.args.program.now m = rw c.in-Field.is at c.requires.row in
     rw (p.1, p.2, c.in-Field.is)
-    (header-repeated c.args.program.now c.requires.heads.rows.names c.args.class c.args.self.now.entries c.requires.named m l.0 _ c.in_err-fresh-in-Field.ensures.judged)
+    (header-repeated c.args.program.now c.requires.heads.rows.names c.args.class c.args.self.now.entries c.requires.named m l.0 _
+    c.in_err-fresh-in-Field.ensures.judged)
 
 pub returns-in_err-ty-in-Field-clause-judged : goal.returns-in_err-ty-in-Field-clause-judged
 returns-in_err-ty-in-Field-clause-judged c =
@@ -22,7 +23,8 @@ returns-in_err-ty-in-Field-clause-judged c =
     rw (p.1, p.2, c.in-Field.is)
     (header-mistyped c.args.program.now c.requires.heads.rows.names c.args.class c.args.self.now.entries c.requires.named m l.0 _
     c.in_ok-fresh-in-Field.ensures.judged
-    (field_types-fail c.args.program.now c.args.heads.now c.requires.heads c.in-Field.line c.in-Field.ty l.1 c.args.class.is_tmp _ c.in_err-ty-in-Field.ensures.judged))
+    (field_types-fail c.args.program.now c.args.heads.now c.requires.heads c.in-Field.line c.in-Field.ty l.1 c.args.class.is_tmp _
+    c.in_err-ty-in-Field.ensures.judged))
 
 pub returns-in_err-fresh-in-Method-clause-judged : goal.returns-in_err-fresh-in-Method-clause-judged
 returns-in_err-fresh-in-Method-clause-judged c =
@@ -30,7 +32,8 @@ returns-in_err-fresh-in-Method-clause-judged c =
     let m : MemberRow = row.Method c.in-Method.cap c.in-Method.name c.in-Method.params c.in-Method.result c.in-Method.body c.in-Method.line in
     let l : IsMemberIn c.args.program.now m = rw c.in-Method.is at c.requires.row in
     rw (p.1, p.2, c.in-Method.is)
-    (header-repeated c.args.program.now c.requires.heads.rows.names c.args.class c.args.self.now.entries c.requires.named m l.0 _ c.in_err-fresh-in-Method.ensures.judged)
+    (header-repeated c.args.program.now c.requires.heads.rows.names c.args.class c.args.self.now.entries c.requires.named m l.0 _
+    c.in_err-fresh-in-Method.ensures.judged)
 
 pub returns-in_err-result-in-Method-clause-judged : goal.returns-in_err-result-in-Method-clause-judged
 returns-in_err-result-in-Method-clause-judged c =
@@ -46,7 +49,8 @@ returns-in_ok-push-in-Field-clause-judged c =
     let m : MemberRow = row.Field c.in-Field.name c.in-Field.ty c.in-Field.line in
     let l : IsMemberIn c.args.program.now m = rw c.in-Field.is at c.requires.row in
     rw (c.in-Field.is)
-    (header-passed c.args.program.now c.requires.heads.rows.names c.args.class c.args.self.now.entries c.requires.named m l.0 c.in_ok-fresh-in-Field.ensures.judged
+    (header-passed c.args.program.now c.requires.heads.rows.names c.args.class c.args.self.now.entries c.requires.named m l.0
+    c.in_ok-fresh-in-Field.ensures.judged
     (field_types-pass c.args.program.now c.args.heads.now c.requires.heads c.in-Field.line c.in-Field.ty l.1 c.args.class.is_tmp _
     c.in_ok-ty-in-Field.ensures.judged).passed)
 
