@@ -9,3 +9,4 @@ mod Slides
 mod GroveSlides
 mod Between
 mod Examples
+pub mod LocalRoots

@@ -17,6 +17,7 @@ use Rattle.rg_copy.specs.Slid.{top_slots, top_temps, top_roots, base_of, AllBeco
 use Rattle.rg_copy.specs.Inner.Moves.{target, moved_word, all_fields, IsTempAt, changed_from}
 use Rattle.rg_copy.proofs.Words.{from-drop, from-take, map-agree}
 use Rattle.rg_copy.proofs.Fields.{moved-agree}
+use Rattle.rg_copy.proofs.Stages.{reach-closed}
 use Rattle.rg_copy.proofs.Stages.{Stages, place, change, all-become, cell-becomes, body-temp, body-off, marks-off}
 use Rattle.rg_copy.proofs.Stages.{place-lies, body-reached, only-reached, bridge-place, lowest-taken, gone-slot}
 use Rattle.rg_copy.proofs.Stages.{unmarked-slot, swept-members, target-f, body-e, lies_of}
@@ -143,6 +144,7 @@ module _ {c m p e f s cells : Table} {t u regions : RegionTable} {key : ℕ} {re
               ∙ ap (option_map (all_fields Change)) is,
           cell-becomes g b,
         );
+        closed = reach-closed g;
         only = λ x l.
             let a = only-reached g x l in (a.0, a.1, a.2);
         bridge = bridge-place g;

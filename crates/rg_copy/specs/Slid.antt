@@ -3,7 +3,7 @@ use Rattle.std.specs.Prelude.{◌≡◌, ◌≢◌, ℕ, ◌-◌, ◌<◌, List,
 use Rattle.rg_base.specs.declared.value.Word.{Word}
 use Rattle.rg_base.specs.declared.value.Word.TheVariants.{Slot}
 use Rattle.rg_cells.specs.declared.cell.Body.{Body}
-use Rattle.rg_cells.specs.Table.{Heap, Table, body_at, mark_at, link_at, high_of}
+use Rattle.rg_cells.specs.Table.{Heap, Table, body_at, field_at, mark_at, link_at, high_of}
 use Rattle.rg_frames.specs.Stack.{Stack, mark}
 use Rattle.rg_regions.specs.Table.{Record, RegionTable, record_at, Has}
 use Rattle.rg_regions.specs.Reach.{LiesIn, Roots, Reach}
@@ -54,6 +54,9 @@ pub record Slid (c : Table) (t : RegionTable) (key : ℕ) (rec : Record) (v : St
     pub stands : (x : ℕ) (b : Body) → Reach c.heap rec.number (top_roots rec v) x → body_at c.heap x ≡ Some b
         → (d : Body) × (body_at cells.heap (place x) ≡ Some d)
         × CellBecomes c.heap rec.number (top_roots rec v) place b d
+    -- what is in reach leads within the region to what is in reach
+    pub closed : (x k to : ℕ) → Reach c.heap rec.number (top_roots rec v) x → field_at c.heap x k ≡ Some (Slot to)
+        → LiesIn c.heap rec.number to → Reach c.heap rec.number (top_roots rec v) to
     -- no other cell lies in the region
     pub only : (s : ℕ) → LiesIn cells.heap rec.number s
         → (x : ℕ) × Reach c.heap rec.number (top_roots rec v) x × (place x ≡ s)

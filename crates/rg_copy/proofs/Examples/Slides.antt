@@ -207,6 +207,8 @@ pub slides-down : Slid before (regions (0 ∷ 1 ∷ 2 ∷ 3 ∷ [])) 0 all (stac
 slides-down = record {
   place = place;
   stands = λ x b n is. cell_of x b n is;
+  closed = λ x k to n q l. let P : ℕ → Type 0 = λ y. IsReached y in
+      subst P (sym (by_field x k to (reached x n) q)) next;
   only = only_these;
   bridge = λ s q. cc;
   within = goes_within;
