@@ -8,5 +8,6 @@ mod OwnedChained
 mod Ended
 mod Left
 mod Orphaned
+mod Slides
 mod Moved
 pub mod Callers

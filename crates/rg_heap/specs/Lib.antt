@@ -5,5 +5,6 @@ pub mod Writes
 pub mod Ends
 pub mod Opened
 pub mod Collects
+pub mod Slides
 pub mod Moves
 pub mod Inner

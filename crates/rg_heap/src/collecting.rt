@@ -19,8 +19,8 @@ use rg_regions::Regions;
 use rg_trace::collect as collect_unreached;
 use std::sync::ledger::Ledger;
 
-// Of a counting region goes what is spent.
-fn collect_count<L: Ledger>(
+/// Of a counting region goes what is spent.
+pub fn collect_count<L: Ledger>(
     cells: &mut Cells,
     regions: &mut Regions,
     key: usize,

@@ -1,7 +1,7 @@
 //! The heap: cells and regions (docs/architecture.md, "The heap").
 
 ghost use Rattle.std.specs.Prelude.{◌≡◌, ◌<◌, ℕ, [], true, false, IfOk, OnErr, length, option_map};
-ghost use Rattle.std.specs.Prelude.{Some, Err, ◌⊎◌, ◌≤◌, ◌↔◌, ◌+◌, drop, sum_by};
+ghost use Rattle.std.specs.Prelude.{Some, Err, ◌⊎◌, ◌≤◌, ◌↔◌, ◌+◌, ◌*◌, drop, sum_by};
 ghost use Rattle.rg_base.specs.declared.object.Label.TheVariants.{Region, Temp};
 ghost use Rattle.rg_cells.specs.declared.cell.Body.{Body as BodyOf};
 ghost use Rattle.rg_cells.specs.Table.{IsHeld, body_at, field_at, label_at, width, with_field};
@@ -19,6 +19,7 @@ ghost use Rattle.rg_heap.specs.Ends.{OnRegion, OnSlot, Released, top_temps};
 ghost use Rattle.rg_regions.specs.Collection.{AllHeld, TempsLeadToHeld, WordsLeadToHeld};
 ghost use Rattle.rg_regions.specs.Collection.{OfRegion, region_fields, roots_of};
 ghost use Rattle.rg_heap.specs.Collects.{CollectsBy};
+ghost use Rattle.rg_heap.specs.Slides.{SlidesBy};
 ghost use Rattle.rg_heap.specs.Moves.{BridgeOrNil, CanMove, Freezes, Merges, NotBeneath};
 ghost use Rattle.rg_heap.specs.Answers.{CanRead, Reads, AllLead, Shows, end_numbers, Tells};
 ghost use Rattle.rg_heap.specs.Answers.{LeadsIntoClosed};
@@ -29,6 +30,7 @@ use crate::ending::{end_temps, release_one};
 use crate::making::{make_bridge, make_in};
 use crate::moving::{freeze_one, merge_into};
 use crate::reading::{region_of, vals};
+use crate::sliding::slide_by;
 use crate::writing::write_field;
 use rg_base::{EndNumbers, Label, Manager, Memory, Place, Seen, Steps, Trap, Word};
 use rg_cells::Cells;
@@ -337,6 +339,31 @@ impl Heap {
         let slots = frames.slots();
         let temps = frames.temps();
         collect_by(&mut self.cells, &mut self.regions, key, slots, temps, steps)
+    }
+
+    /// As `collect`, but what it keeps of a traced region moves to the lowest slots that the region
+    /// had, the bridge's left out, and what leads there is rewritten. The bound on steps is twice
+    /// that of `collect`.
+    pub fn collect_sliding<L: Ledger>(
+        &mut self,
+        frames: &mut Frames,
+        steps: &mut Steps<L>,
+    ) -> Option<Collected>
+        requires begun { Begun frames.old }
+        requires key { OnTop frames.old (λ top. IsKey self.old.regions top.region) }
+        requires slots { OnTop frames.old (λ top.
+            WordsLeadToHeld self.old.cells.heap (drop top.base frames.old.slots)) }
+        requires temps { AllHeld self.old.cells.heap (top_temps frames.old) }
+        requires temps_lead { TempsLeadToHeld self.old.cells.heap (top_temps frames.old) }
+        ensures slides { OnTop frames.old (λ top. OfRegion self.old.regions top.region (λ r.
+            SlidesBy r.manager self.old self.new top.region r frames.old frames.new result)) }
+        ensures cost { OnTop frames.old (λ top. OfRegion self.old.regions top.region (λ r.
+            steps.new ≤ steps.old
+            + 2 * (sum_by (λ t. width (body_at self.old.cells.heap t)) (top_temps frames.old)
+            + region_fields self.old.cells.heap r.number))) }
+    {
+        let key = frames.top().region;
+        slide_by(&mut self.cells, &mut self.regions, key, frames, steps)
     }
 
     /// The serial of a held cell.

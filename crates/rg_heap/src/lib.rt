@@ -10,6 +10,7 @@ mod heap;
 mod making;
 mod moving;
 mod reading;
+mod sliding;
 mod writing;
 
 pub use answers::{Active, Collected, Refusal};
