@@ -7,6 +7,7 @@ use Rattle.rg_base.specs.declared.object.Label.{Label}
 use Rattle.rg_base.specs.declared.object.Label.TheVariants.{Region, Temp, Frozen}
 use Rattle.rg_base.specs.declared.value.Word.{Word}
 use Rattle.rg_base.specs.declared.value.Word.TheVariants.{Nil, Int, Bool as Truth, Slot}
+use Rattle.rg_base.proofs.Callers.Options.{some-there}
 use Rattle.rg_cells.specs.declared.cell.Body.{Body}
 use Rattle.rg_cells.specs.Table.{Table, IsHeld, body_at, label_at, field_at}
 use Rattle.rg_frames.specs.Stack.{Stack}
@@ -14,18 +15,13 @@ use Rattle.rg_regions.specs.Table.{Record, RegionTable, record_at, Has, IsBridge
 use Rattle.rg_regions.specs.Reach.{LiesIn, Reach, is_bridge, in_slots, in_temps}
 use Rattle.rg_regions.specs.Grove.{Grove}
 use Rattle.rg_regions.specs.Collection.{AllHeld}
-use Rattle.rg_regions.proofs.Callers.Told.{one_record, one_region, lies_or_not, number_of}
+use Rattle.rg_regions.proofs.Callers.Told.{one_record, one_region, lies_or_not, number_of, reach_lies}
 use Rattle.rg_regions.proofs.Callers.Shares.{has-cases, has_place, place_has}
 use Rattle.rg_trace.proofs.LocalRoots.{Local}
 use Rattle.rg_copy.specs.Slid.{Slid, top_roots, top_slots, top_temps, base_of, Becomes, CellBecomes}
-use Rattle.rg_copy.proofs.Stages.{reach_lies}
 
 slot_is : (a b : ℕ) → Slot a ≡ Slot b → a ≡ b
 slot_is a b q = cc
-
-body_there : (o : Option Body) → IsSome o → (b : Body) × (o ≡ Some b)
-body_there None e = cc
-body_there (Some b) e = (b, refl)
 
 held_by : (o : Option Body) (b : Body) → o ≡ Some b → IsSome o
 held_by o b e = let P : Option Body → Type 0 = λ x. IsSome x in subst P (sym e) refl
@@ -51,7 +47,7 @@ module _ {c : Table} {t : RegionTable} {key : ℕ} {rec : Record} {v : Stack} {c
 
   pub held-off : (x : ℕ) → (LiesIn c.heap rec.number x → ⊥) → IsHeld c.heap x → IsHeld cells.heap x
   held-off x off h =
-      let b = body_there (body_at c.heap x) h in
+      let b = some-there (body_at c.heap x) h in
       elim (has-cases (top_temps v) x) [
         | inl n ↦ let d = w.temps x b.0 n off b.1 in held_by (body_at cells.heap x) d.0 d.1
         | inr n ↦ held_by (body_at cells.heap x) b.0 (w.others x n off ∙ b.1)
@@ -184,7 +180,7 @@ module _ {c : Table} {t : RegionTable} {key : ℕ} {rec : Record} {v : Stack} {c
     | inl off ↦ elim (has-cases (top_temps v) s) [
       | inl n ↦
           let p = has_place (top_temps v) s n in
-          let b = body_there (body_at c.heap s) (temps p.0 s p.1) in
+          let b = some-there (body_at c.heap s) (temps p.0 s p.1) in
           let d = w.temps s b.0 n off b.1 in
           let was : (z : ℕ) → slice_get b.0.fields k ≡ Some (Slot z) → field_at c.heap s k ≡ Some (Slot z) = λ z r.
           ap (option_and_then (λ (b : Body). slice_get b.fields k)) b.1 ∙ r in

@@ -1,6 +1,6 @@
 -- From the tables behind each pass to what the whole collection leaves (docs/architecture.md, "A manager that moves its
 -- cells").
-use Rattle.std.proofs.Common.{◌≡◌, ◌≢◌, ℕ, zero, suc, ◌<◌, cond, List, length, map, Option, Some, None, refl, ap, sym}
+use Rattle.std.proofs.Common.{◌≡◌, ◌≢◌, ℕ, ◌<◌, cond, List, length, map, Option, Some, None, refl, ap, sym}
 use Rattle.std.proofs.Common.{◌∙◌, subst, arith, inl, inr, get_or, slice_get, option_map, unwrap_or}
 use Rattle.std.proofs.lemmas.List.{length-map}
 use Rattle.std.proofs.lemmas.Bool.{cases_eq, cases_lt}
@@ -14,10 +14,10 @@ use Rattle.rg_cells.specs.Table.{Heap, Table, body_at, body_in, label_at, field_
 use Rattle.rg_frames.specs.Stack.{Stack}
 use Rattle.rg_regions.specs.Table.{Record, RegionTable, record_at, Has}
 use Rattle.rg_regions.specs.Ordered.{with_members}
-use Rattle.rg_regions.specs.Reach.{LiesIn, Roots, Walk, Reach, is_bridge}
+use Rattle.rg_regions.specs.Reach.{LiesIn, Reach, is_bridge}
 use Rattle.rg_regions.specs.Grove.{Grove, Members}
 use Rattle.rg_regions.specs.Collection.{roots_of}
-use Rattle.rg_regions.proofs.Callers.Told.{lies_or_not}
+use Rattle.rg_regions.proofs.Callers.Told.{lies_or_not, reach_lies}
 use Rattle.rg_regions.proofs.Callers.Fewer.{belongs_not, lies_belongs}
 use Rattle.rg_trace.specs.Marking.{Marked}
 use Rattle.rg_trace.specs.Sweeping.{Swept, Sweeps}
@@ -59,13 +59,6 @@ some_slot a b q = cc
 
 some_word : (a b : Word) → Some a ≡ Some b → a ≡ b
 some_word a b q = cc
-
-pub reach_lies : (h : Heap) (r : ℕ) (roots : Roots) (s : ℕ) → Reach h r roots s → LiesIn h r s
-reach_lies h r roots s n = by_links n.0 s n.2
-  where
-    by_links : (k s : ℕ) → Walk h r roots k s → LiesIn h r s
-    by_links zero s w = w.0
-    by_links (suc k) s w = w.0
 
 -- what sweeping leaves are the region's members
 pub swept-members : (d t : Table) (r : ℕ) (members : List ℕ) → Swept d r members 0 t → Members t.heap r members

@@ -1,5 +1,5 @@
 -- What holds where an object is made, or where there was no memory for it (docs/architecture.md, "The heap").
-use Rattle.std.proofs.Common.{◌≡◌, ◌≢◌, ℕ, zero, suc, ◌+◌, ◌-◌, List, [], ◌∷◌, ◌++◌, Option, Some, None, IsSome, refl, ap, sym, ◌∙◌}
+use Rattle.std.proofs.Common.{◌≡◌, ◌≢◌, ℕ, zero, suc, ◌+◌, ◌-◌, List, [], ◌∷◌, ◌++◌, Option, Some, None, refl, ap, sym, ◌∙◌}
 use Rattle.std.proofs.Common.{subst, ◌⊎◌, inl, inr, option_map, slice_get, length, arith, get_or, set}
 use Rattle.std.proofs.lemmas.Bool.{cases_eq}
 use Rattle.std.proofs.lemmas.List.{get_or-set_other}
@@ -13,20 +13,13 @@ use Rattle.rg_regions.specs.Table.{Record, RegionTable, record_at, HasNumber, Is
 use Rattle.rg_regions.specs.Table.{with_room, with_member, with_bridge}
 use Rattle.rg_regions.specs.Reach.{LiesIn}
 use Rattle.rg_regions.specs.Grove.{Grove, Members}
-use Rattle.rg_regions.proofs.Callers.Told.{one_record, number_of}
+use Rattle.rg_regions.proofs.Callers.Told.{one_record, number_of, record_of_key}
 use Rattle.rg_regions.proofs.Callers.Changed.{changed_at, changed_other, changed_links}
 use Rattle.rg_regions.proofs.Callers.RegionComes.{grove_comes}
 use Rattle.rg_regions.proofs.Callers.CellComes.{one_more, old_one, last_one}
 use Rattle.rg_heap.specs.Changes.{LeadsNowhere, Makes, SameCells, SameRecords, Opens, OpensOne, Rewritten, as_it_is, with_one}
 use Rattle.rg_heap.proofs.Alike.{Alike, IsAlike, grove_alike}
 use Rattle.rg_heap.proofs.Grows.{Grows, IsKin, grove_grows}
-
-pub record_of_key : (t : RegionTable) (key : ℕ) → IsKey t key → (r : Record) × (record_at t key ≡ Some r)
-record_of_key t key k = by_record (record_at t key) k
-  where
-    by_record : (o : Option Record) → IsSome o → (r : Record) × (o ≡ Some r)
-    by_record None k = cc
-    by_record (Some r) k = (r, refl)
 
 -- records that stay but for the room
 pub rewritten_same : (t regions : RegionTable) (key : ℕ) → regions ≡ t → Rewritten t regions key as_it_is

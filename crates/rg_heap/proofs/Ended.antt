@@ -1,45 +1,17 @@
 -- Cells that are freed, and regions that are released (docs/architecture.md, "The heap").
-use Rattle.std.proofs.Common.{◌≡◌, ◌≢◌, ℕ, zero, suc, ◌+◌, ◌<◌, cond, List, [], ◌∷◌, Option, Some, None, IsSome, get_or, set, length}
-use Rattle.std.proofs.Common.{refl, ap, sym, ◌∙◌, subst, ◌⊎◌, inl, inr, slice_get, arith, option_map, count_by, is_some}
+use Rattle.std.proofs.Common.{◌≡◌, ◌≢◌, ℕ, ◌+◌, ◌<◌, List, [], ◌∷◌, Option, Some, None, IsSome, get_or, set, length}
+use Rattle.std.proofs.Common.{refl, ap, sym, ◌∙◌, subst, ◌⊎◌, inl, inr, slice_get, arith, option_map}
 use Rattle.std.proofs.lemmas.Bool.{cases_eq, cases_lt}
 use Rattle.std.proofs.lemmas.List.{get_or-set_other, get_or-set_same}
-use Rattle.std.proofs.lemmas.List.Sums.{sum_by-cons}
 use Rattle.rg_cells.specs.declared.cell.Body.{Body}
 use Rattle.rg_cells.specs.Table.{Heap, Table, IsHeld, body_at, body_in, mark_at, freed_from}
 use Rattle.rg_regions.specs.Table.{Record, RegionTable, record_at, HasNumber, IsKey, Has, Chained}
 use Rattle.rg_regions.specs.Grove.{Below}
+use Rattle.rg_regions.proofs.Callers.Freed.{none_here, zero_here, count-freed, held_once}
 use Rattle.rg_release.specs.Released.{Unowned, BelowOne, CellsGo, CellsStay}
 use Rattle.rg_heap.specs.Changes.{SameRecords}
 use Rattle.rg_heap.proofs.OwnedChained.{number_on}
 use Rattle.rg_heap.specs.Inner.Chains.{FirstFreed, Gone}
-
--- nothing is there where a cell was freed
-none_here : (xs : List (Option (Option Body))) (s : ℕ) → body_in (get_or (set xs s (Some None)) s None) ≡ None
-none_here [] s = refl
-none_here (x ∷ xs) zero = refl
-none_here (x ∷ xs) (suc s) = none_here xs s
-
-zero_here : (ms : List ℕ) (s : ℕ) → get_or (set ms s 0) s 0 ≡ 0
-zero_here [] s = refl
-zero_here (m ∷ ms) zero = refl
-zero_here (m ∷ ms) (suc s) = zero_here ms s
-
--- a slot that was held stays one
-count-freed : (xs : List (Option (Option Body))) (s : ℕ) (o : Option Body) → get_or xs s None ≡ Some o
-    → count_by is_some (set xs s (Some None)) ≡ count_by is_some xs
-count-freed [] s o e = cc
-count-freed (x ∷ xs) zero o e = rw e
-count-freed (x ∷ xs) (suc s) o e =
-    let ih : count_by is_some (set xs s (Some None)) ≡ count_by is_some xs = count-freed xs s o e in
-    sum_by-cons (λ y. cond (is_some y) 1 0) x (set xs s (Some None)) ∙ ap (λ n. cond (is_some x) 1 0 + n) ih
-    ∙ sym (sum_by-cons (λ y. cond (is_some y) 1 0) x xs)
-
-held_once : (h : Heap) (s : ℕ) → IsHeld h s → (o : Option Body) × (get_or h.slots s None ≡ Some o)
-held_once h s l = by_slot (get_or h.slots s None) l
-  where
-    by_slot : (x : Option (Option Body)) → IsSome (body_in x) → (o : Option Body) × (x ≡ Some o)
-    by_slot None e = cc
-    by_slot (Some o) e = (o, refl)
 
 -- the next one is still held
 pub still_held : (old t : Table) (slots : List ℕ) (i s : ℕ) → ((i j s : ℕ) → slice_get slots i ≡ Some s → slice_get slots j ≡ Some s → i ≡ j)

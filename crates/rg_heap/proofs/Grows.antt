@@ -2,7 +2,6 @@
 use Rattle.std.proofs.Common.{◌≡◌, ◌≢◌, ℕ, suc, Bool, false, true, cond, List, [], ◌∷◌, Option, Some, None, refl, ap, sym, ◌∙◌}
 use Rattle.std.proofs.Common.{subst, inl, inr, option_map, option_and_then, slice_get, count_by}
 use Rattle.std.proofs.lemmas.Bool.{cases_eq}
-use Rattle.std.proofs.lemmas.Bool.Decides.{eqb_tells}
 use Rattle.rg_base.specs.declared.object.Label.{Label}
 use Rattle.rg_base.specs.declared.object.Label.TheVariants.{Region, Frozen}
 use Rattle.rg_base.specs.declared.value.Word.{Word}
@@ -14,6 +13,7 @@ use Rattle.rg_regions.specs.Reach.{LiesIn, belongs}
 use Rattle.rg_regions.specs.Grove.{Grove, Members, Parent, Above, direct, further, referrers, leads_to}
 use Rattle.rg_regions.proofs.Callers.Told.{number_of, record_there, lies_or_not}
 use Rattle.rg_regions.proofs.Callers.Fewer.{total_alike, belongs_not}
+use Rattle.rg_regions.proofs.Callers.RegionComes.{none_leads as none_lead_to}
 use Rattle.rg_count.proofs.Written.{referrers-made}
 use Rattle.rg_heap.specs.Changes.{LeadsNowhere}
 
@@ -40,17 +40,6 @@ none_leads s (Nil ∷ ws) h = none_leads s ws (λ k. h (suc k))
 none_leads s (Int i ∷ ws) h = none_leads s ws (λ k. h (suc k))
 none_leads s (Truth b ∷ ws) h = none_leads s ws (λ k. h (suc k))
 none_leads s (Slot x ∷ ws) h = absurd (h 0 x refl)
-
--- words of which none leads to a slot
-none_lead_to : (s : ℕ) (ws : List Word) → ((k : ℕ) → slice_get ws k ≡ Some (Slot s) → ⊥) → count_by (leads_to s) ws ≡ 0
-none_lead_to s [] h = refl
-none_lead_to s (Nil ∷ ws) h = none_lead_to s ws (λ k. h (suc k))
-none_lead_to s (Int i ∷ ws) h = none_lead_to s ws (λ k. h (suc k))
-none_lead_to s (Truth b ∷ ws) h = none_lead_to s ws (λ k. h (suc k))
-none_lead_to s (Slot x ∷ ws) h = elim (eqb_tells s x) [
-  | inl e ↦ absurd (h 0 (ap (λ y. Some (Slot y)) (sym e.1)))
-  | inr e ↦ rw e.0 (none_lead_to s ws (λ k. h (suc k)))
-]
 
 cond_none : (x : Bool) (n : ℕ) → n ≡ 0 → cond {A = ℕ} x n 0 ≡ 0
 cond_none false n e = refl

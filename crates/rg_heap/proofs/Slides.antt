@@ -1,5 +1,5 @@
 -- A region is collected and its cells move, and the regions that lost their owner are released (docs/architecture.md, "The heap").
-use Rattle.std.proofs.Common.{◌≡◌, ◌≢◌, ℕ, ◌+◌, zero, suc, true, List, [], ◌∷◌, Option, Some, None, refl, ap, sym, ◌∙◌, subst, ◌⊎◌}
+use Rattle.std.proofs.Common.{◌≡◌, ◌≢◌, ℕ, ◌+◌, true, List, [], ◌∷◌, Option, Some, None, refl, ap, sym, ◌∙◌, subst, ◌⊎◌}
 use Rattle.std.proofs.Common.{inl, inr, arith, option_map, option_and_then, slice_get, length, count_by, is_some}
 use Rattle.std.proofs.lemmas.Bool.{cases_eq}
 use Rattle.std.proofs.lemmas.Option.{slice_get_cases, slice_get_past}
@@ -11,10 +11,10 @@ use Rattle.rg_cells.specs.declared.cell.Body.{Body}
 use Rattle.rg_cells.specs.Table.{Heap, Table, body_at, field_at, label_at}
 use Rattle.rg_frames.specs.Stack.{Stack}
 use Rattle.rg_regions.specs.Table.{Record, RegionTable, record_at, HasNumber, Has, Chained}
-use Rattle.rg_regions.specs.Reach.{LiesIn, Roots, Reach, Walk, is_bridge}
+use Rattle.rg_regions.specs.Reach.{LiesIn, Roots, Reach, is_bridge}
 use Rattle.rg_regions.specs.Grove.{Grove}
 use Rattle.rg_regions.specs.Collection.{AllHeld, ChainsOrphans, HasManager}
-use Rattle.rg_regions.proofs.Callers.Told.{one_record, one_region, lies_or_not, lies_held, number_of}
+use Rattle.rg_regions.proofs.Callers.Told.{one_record, one_region, lies_or_not, lies_held, number_of, reach_lies}
 use Rattle.rg_regions.proofs.Callers.Shares.{has_place}
 use Rattle.rg_release.specs.Released.{Unowned}
 use Rattle.rg_trace.specs.Collected.{OutOfReach}
@@ -45,14 +45,6 @@ has_or_not (x ∷ xs) s = elim (cases_eq s x) [
 body_of : (o : Option Body) → is_some o ≡ true → (b : Body) × (o ≡ Some b)
 body_of None e = cc
 body_of (Some b) e = (b, refl)
-
--- what is in reach lies in the region
-reach_lies : (h : Heap) (r : ℕ) (roots : Roots) (s : ℕ) → Reach h r roots s → LiesIn h r s
-reach_lies h r roots s x = by_walk x.0 x.2
-  where
-    by_walk : (n : ℕ) → Walk h r roots n s → LiesIn h r s
-    by_walk zero w = w.0
-    by_walk (suc n) w = w.0
 
 -- a word of a list that became another one, and the one that it was
 was_word : (h : Heap) (r : ℕ) (roots : Roots) (place : ℕ → ℕ) (olds news : List Word) (k : ℕ) (now : Word)

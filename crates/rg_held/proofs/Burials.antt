@@ -1,9 +1,9 @@
 -- What is freed: the regions beneath those that nothing owns any more, and the temporaries of a window.
-use Rattle.std.proofs.Common.{◌≡◌, ℕ, suc, ◌==◌, ◌<◌, ◌⊎◌, inl, inr, true, false, true≢false, not, Bool as Truth, List, [], ◌∷◌}
+use Rattle.std.proofs.Common.{◌≡◌, ℕ, suc, ◌==◌, ◌<◌, ◌⊎◌, inl, inr, true, false, not, Bool as Truth, List, [], ◌∷◌}
 use Rattle.std.proofs.Common.{length, Option, Some, None, option_and_then, option_map, refl, sym, ap, subst, ◌∙◌, arith, slice_get}
 use Rattle.std.specs.Prelude.{◌||◌, ◌&&◌, if◌then◌else◌}
 use Rattle.std.specs.List.{list_any}
-use Rattle.std.proofs.lemmas.Option.{slice_get-map}
+use Rattle.std.proofs.lemmas.Option.{slice_get-map, same_Some}
 use Rattle.std.proofs.lemmas.List.{length-map}
 use Rattle.rg_base.specs.declared.object.Label.{Label}
 use Rattle.rg_base.specs.declared.object.Label.TheVariants.{Region, Temp, Frozen}
@@ -17,11 +17,13 @@ use Rattle.rg_sound.proofs.Stores.MemberLemmas.{In, among-in, in-among}
 use Rattle.rg_stack.specs.Machine.{Frame, Window, Machine}
 use Rattle.rg_stack.specs.Effects.{beneath_by_labels}
 use Rattle.rg_stack.specs.Needs.{is_open, has_window, label_of, lies_in, is_into, is_outside}
+use Rattle.rg_stack.proofs.Basics.{none-some, and-left, and-right, or-left}
+use Rattle.rg_stack.proofs.Needs.LeadLemmas.{region-label}
 use Rattle.rg_held.specs.Frees.{gone, is_temp, buried, bury}
 use Rattle.rg_held.specs.Part.{leads_to, AllLead, SlotInto, FieldInto, Placed, Part, is_of, OwnerHeld, OwnersHeld}
-use Rattle.rg_held.proofs.Lists.{some-is, none-some, off, below-get, at-any}
-use Rattle.rg_held.proofs.Places.{and-left, and-right, or-split, or-left, or-right, not-true, same-number, number-same, other-number, either, clash}
-use Rattle.rg_held.proofs.Places.{label-there, into-back, region-into, at-label}
+use Rattle.rg_held.proofs.Lists.{off, below-get, at-any}
+use Rattle.rg_held.proofs.Places.{or-split, or-right, not-true, same-number, number-same, other-number, either, clash}
+use Rattle.rg_held.proofs.Places.{label-there, into-back, region-into}
 use Rattle.rg_held.proofs.Links.{Link, AllLinks, beneath-links, beneath-first, beneath-all, beneath-from}
 use Rattle.rg_held.proofs.Parts.{shut-above, open-region}
 use Rattle.rg_held.proofs.Halves.{Half, whole}
@@ -51,9 +53,6 @@ gone-buried rs t = by (is_buried rs t gone)
     by : (b : Truth) → (if b then gone else gone) ≡ gone
     by true = refl
     by false = refl
-
-region-temp : {B : Type 0} (r n : ℕ) → Region r ≡ Temp n → B
-region-temp r n e = absurd (true≢false (ap (λ (l : Label). elim l [ Region q ↦ true | Temp k ↦ false | Frozen ↦ false ]) e))
 
 pub same-region : (q r : ℕ) → Region q ≡ Region r → q ≡ r
 same-region q r e = ap (λ (l : Label). elim l [ Region q ↦ q | Temp k ↦ q | Frozen ↦ q ]) e
@@ -101,7 +100,7 @@ module _ (held : ℕ → Truth) (owners : List Val) (f m : Machine) (stack : Lis
   -- a link from a closed region leads to a closed one
   pub closed-link : (q r : ℕ) → is_open m.windows q ≡ false → Link m.store q r → is_open m.windows r ≡ false
   closed-link q r c l = elim (or-split (r == q) _ (p.tidy.inside l.object l.holder q l.field (val.Obj l.address) (Region r) l.there l.lies l.value
-      (at-label m.store l.address r l.leads))) [
+      (region-label m.store l.address r l.leads))) [
         | inl same ↦ ap (is_open m.windows) (same-number r q same) ∙ c
         | inr shut ↦ shut-above m.windows r q shut c
       ]
@@ -114,7 +113,7 @@ module _ (held : ℕ → Truth) (owners : List Val) (f m : Machine) (stack : Lis
       of o (Region q) lies there e =
           let here = open-region held owners f m stack p b o q there lies in
           let less = p.tidy.labels b o q (sym (p.same b here) ∙ there) lies in
-          let is = some-is q r e in
+          let is = same_Some q r e in
           let made = p.managers_made in omega (arith, less, is, made)
       of o (Temp n) lies there e = none-some r e
       of o Frozen lies there e = none-some r e
@@ -133,7 +132,7 @@ module _ (held : ℕ → Truth) (owners : List Val) (f m : Machine) (stack : Lis
     holder_there = l.there;
     value_there = l.value;
     outside = ap (is_outside m.windows r) l.lies ∙ ap not (other-number q r other);
-    into = ap (λ (o : Option Label). elim o [ None ↦ false | Some l ↦ lies_in r l ]) (at-label m.store l.address r l.leads)
+    into = ap (λ (o : Option Label). elim o [ None ↦ false | Some l ↦ lies_in r l ]) (region-label m.store l.address r l.leads)
         ∙ number-same r r refl;
   }
 
@@ -296,7 +295,7 @@ module _ (held : ℕ → Truth) (owners : List Val) (f m : Machine) (stack : Lis
         | inl given ↦ b.no_field q given mine (or-right (in_regions all o.label) (is_temp temps o.label) stay)
         | inr h ↦
             (let same = (b.alone q (shut q i)).field_field mine h.2.0 in
-            let holder : o ≡ h.2.0.holder = some-is o h.2.0.holder (sym there ∙ ap (slice_get m.store) same ∙ h.2.0.holder_there) in
+            let holder : o ≡ h.2.0.holder = same_Some o h.2.0.holder (sym there ∙ ap (slice_get m.store) same ∙ h.2.0.holder_there) in
             clash (in_regions all o.label)
             (ap (in_regions all) (ap (λ (o : Seen). o.label) holder ∙ h.2.1) ∙ in-among all h.0 h.1)
             (or-left (in_regions all o.label) (is_temp temps o.label) stay))

@@ -1,6 +1,7 @@
 -- `freeze` and `merge` beside those over the growing store.
 use Rattle.std.proofs.Common.{◌≡◌, ℕ, ◌==◌, ◌<◌, ◌⊎◌, inl, inr, true, false, true≢false, not, Bool as Truth, List, [], ◌∷◌}
 use Rattle.std.proofs.Common.{length, Option, Some, None, Ok, Err, option_and_then, refl, sym, ap, subst, ◌∙◌, arith, slice_get}
+use Rattle.std.proofs.lemmas.Option.{same_Some}
 use Rattle.std.specs.Prelude.{◌||◌, ◌&&◌, ok_or, if◌then◌else◌, is_some}
 use Rattle.std.specs.List.{list_any}
 use Rattle.rg_base.specs.declared.object.Label.{Label}
@@ -16,12 +17,13 @@ use Rattle.rg_code.specs.Code.{Code}
 use Rattle.rg_stack.specs.Machine.{Machine, slot_at, put_slot}
 use Rattle.rg_stack.specs.Effects.{Work, Go, Traps, act, beneath_by_labels, relabel, top_region, with_store, stored, on_object}
 use Rattle.rg_stack.specs.Needs.{is_open, label_of, is_into, is_closed, closed_of, owns_or_nil, owned_once, is_outside, needs}
+use Rattle.rg_stack.proofs.Basics.{none-some, and-left, and-right}
 use Rattle.rg_held.specs.Frees.{forgotten, free_act}
 use Rattle.rg_held.specs.Part.{leads_to, Placed, Tidy, Part, may_lead, is_shut_or_above}
 use Rattle.rg_held.specs.Ends.{Match, SameEnd}
 use Rattle.rg_held.specs.Laws.{owners_of, GoesOn}
-use Rattle.rg_held.proofs.Lists.{some-is, none-some, off, any-at, at-any}
-use Rattle.rg_held.proofs.Places.{and-left, and-right, or-split, not-true, same-number, number-same, other-number, either, clash}
+use Rattle.rg_held.proofs.Lists.{off, any-at, at-any}
+use Rattle.rg_held.proofs.Places.{or-split, not-true, same-number, number-same, other-number, either, clash, top-open}
 use Rattle.rg_held.proofs.Places.{label-there, region-into, closed-there, label-into}
 use Rattle.rg_held.proofs.Links.{Link, beneath-links, beneath-first, beneath-all}
 use Rattle.rg_held.proofs.Parts.{shut-above, closed-above, part-owners}
@@ -30,7 +32,6 @@ use Rattle.rg_held.proofs.Callers.ForgetLemmas.{match-forgets}
 use Rattle.rg_held.proofs.Stack.{match-more, slot-leads, slot-same}
 use Rattle.rg_held.proofs.Slots.{part-put}
 use Rattle.rg_held.proofs.Releases.{slot-at-into, slot-and-field, two-fields}
-use Rattle.rg_held.proofs.Objects.{top-open}
 use Rattle.rg_held.proofs.Labels.{other_label, part-relabel, relabel-tidy}
 
 -- a reference that is closed leads into a closed region
@@ -69,7 +70,7 @@ module _ (held : ℕ → Truth) (f m : Machine) (stack : List Val) (p : Part hel
   given b q e = by (slice_get m.store b) refl e
     where
       of : (o : Seen) (l : Label) → o.label ≡ l → slice_get m.store b ≡ Some o → region_of l ≡ Some q → q < length m.managers
-      of o (Region z) lies at e = let h = p.tidy.labels b o z at lies in let is = some-is z q e in omega (arith, h, is)
+      of o (Region z) lies at e = let h = p.tidy.labels b o z at lies in let is = same_Some z q e in omega (arith, h, is)
       of o (Temp n) lies at e = none-some q e
       of o Frozen lies at e = none-some q e
 

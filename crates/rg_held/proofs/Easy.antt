@@ -19,21 +19,17 @@ use Rattle.rg_stack.specs.Machine.{slot_at}
 use Rattle.rg_stack.specs.Effects.{Work, Traps, Go, act, next_taken, on_top, stored, called}
 use Rattle.rg_code.specs.declared.code.Entry.{Entry}
 use Rattle.rg_stack.specs.Needs.{is_into, is_closed, is_empty, owned_once, size_of, may_keep, needs}
+use Rattle.rg_stack.proofs.Basics.{and-left, and-right}
 use Rattle.rg_held.specs.Frees.{free_act}
 use Rattle.rg_held.specs.Part.{leads_to}
 use Rattle.rg_held.specs.Ends.{Match, SameEnd}
 use Rattle.rg_held.specs.Laws.{owners_of, GoesOn, GoesTo}
 use Rattle.rg_held.proofs.Lists.{off}
-use Rattle.rg_held.proofs.Places.{and-left, and-right, or-split, not-true, closed-there, not-closed, same-number}
+use Rattle.rg_held.proofs.Places.{or-split, not-true, closed-there, not-closed, same-number}
 use Rattle.rg_held.proofs.Stack.{match-stack, match-owners, match-more, number-plain, slot-leads, slot-same, object-same, field-leads}
 use Rattle.rg_held.proofs.Stack.{pushed-same, push-same}
 use Rattle.rg_held.proofs.Parts.{part-stack, part-owners}
 use Rattle.rg_held.proofs.Slots.{part-put, put-there, part-call}
-
--- nothing is on the stack
-pub empty-is : (stack : List Val) → is_empty stack ≡ true → stack ≡ []
-empty-is [] e = refl
-empty-is (v ∷ vs) e = off e
 
 -- a walk ends at an address
 pub stop-same : (at : ℕ) (taken : Truth) (stack : List Val) (u w : Work) → is_empty stack ≡ true → Match (owners_of taken stack) u w stack

@@ -1,6 +1,7 @@
 -- A window that opens, beside that over the growing store.
 use Rattle.std.proofs.Common.{◌≡◌, ℕ, ◌+◌, ◌==◌, ◌<◌, ◌⊎◌, inl, inr, true, false, not, Bool as Truth, List, [], ◌∷◌}
 use Rattle.std.proofs.Common.{length, Option, Some, None, unwrap_or, Ok, Err, refl, sym, ap, subst, ◌∙◌, arith, slice_get}
+use Rattle.std.proofs.lemmas.Option.{same_Some}
 use Rattle.std.specs.Prelude.{◌||◌, ◌&&◌, nat_lt, ok_or, if◌then◌else◌}
 use Rattle.rg_base.specs.declared.object.Label.{Label}
 use Rattle.rg_base.specs.declared.object.Label.TheVariants.{Region, Temp, Frozen}
@@ -18,18 +19,19 @@ use Rattle.rg_stack.specs.Effects.{Work, Walked, Stuck, Traps, Go, act, entered,
 use Rattle.rg_stack.specs.Effects.{top_region, top_window}
 use Rattle.rg_stack.specs.Needs.{is_open, has_window, label_of, is_into, is_closed, is_outside, owns_or_nil, owned_once, is_writable, is_field}
 use Rattle.rg_stack.specs.Needs.{field_of, needs}
+use Rattle.rg_stack.proofs.Basics.{and-left, and-right}
 use Rattle.rg_held.specs.Frees.{free_act}
 use Rattle.rg_held.specs.Part.{leads_to, FieldInto, Placed, Part, OwnerHeld, is_of, may_lead, is_shut_or_above}
 use Rattle.rg_held.specs.Ends.{Match, SameEnd}
 use Rattle.rg_held.specs.Laws.{owners_of, GoesOn}
-use Rattle.rg_held.proofs.Lists.{some-is, off}
-use Rattle.rg_held.proofs.Places.{and-left, and-right, or-split, or-right, not-true, same-number, number-same, other-number, either, clash}
+use Rattle.rg_held.proofs.Lists.{off}
+use Rattle.rg_held.proofs.Places.{or-split, or-right, not-true, same-number, number-same, other-number, either, clash, top-open}
 use Rattle.rg_held.proofs.Places.{not-closed, region-into, label-into, label-there, into-label}
 use Rattle.rg_held.proofs.Stack.{match-more, slot-leads, slot-same, field-leads}
 use Rattle.rg_held.proofs.Slots.{part-put}
 use Rattle.rg_held.proofs.Releases.{slot-at-into, slot-and-field, two-fields}
 use Rattle.rg_held.proofs.Parts.{part-stack, part-owners}
-use Rattle.rg_held.proofs.Objects.{top-open, top-numbered, writable-open}
+use Rattle.rg_held.proofs.Objects.{top-numbered, writable-open}
 use Rattle.rg_held.proofs.Consumes.{closed-region}
 
 -- a window comes
@@ -374,7 +376,7 @@ module _ (code : Code) (at : ℕ) (also go : Go) (u w : Work) (taken : Truth) wh
                   (part-owners now.0 (val.Obj a ∷ []) u.machine w.machine (val.Obj a ∷ []) p []
                   (λ r c any. elim (or-split (is_into w.machine.store r (val.Obj a)) false any) [
                     | inl it ↦ writable-open w.machine o.label r p.tidy.some_window writes
-                        (some-is o.label (Region r) (sym (label-there w.machine.store a o e) ∙ into-label w.machine.store r (val.Obj a) it)) c
+                        (same_Some o.label (Region r) (sym (label-there w.machine.store a o e) ∙ into-label w.machine.store r (val.Obj a) it)) c
                     | inr none ↦ off none
                   ])) [] tt;
               input = now.1.input;
@@ -420,6 +422,6 @@ module _ (code : Code) (at : ℕ) (also go : Go) (u w : Work) (taken : Truth) wh
                   outside = ap (is_outside w.machine.windows r) lies ∙ ap not other;
                   into = label-into w.machine.store r x leads;
                 }) l.0 in
-                let holder : o ≡ h = some-is o h (sym e ∙ ap (slice_get w.machine.store) (sym (is ∙ l.1)) ∙ there) in
+                let holder : o ≡ h = same_Some o h (sym e ∙ ap (slice_get w.machine.store) (sym (is ∙ l.1)) ∙ there) in
                 inr (sym (ap (is_of w.machine.windows) (ap (λ (s : Seen). s.label) holder ∙ lies)) ∙ of o.label writes))
           ]

@@ -3,7 +3,7 @@ use Rattle.std.proofs.Common.{◌≡◌, ℕ, ◌==◌, ◌⊎◌, inl, inr, tru
 use Rattle.std.proofs.Common.{Option, Some, None, option_and_then, option_map, refl, sym, ap, ◌∙◌, arith, slice_get}
 use Rattle.std.specs.Prelude.{◌||◌, nat_lt, if◌then◌else◌}
 use Rattle.std.proofs.lemmas.List.{length-map}
-use Rattle.std.proofs.lemmas.Option.{slice_get-map}
+use Rattle.std.proofs.lemmas.Option.{slice_get-map, same_Some}
 use Rattle.rg_base.specs.declared.object.Label.{Label}
 use Rattle.rg_base.specs.declared.object.Label.TheVariants.{Region, Temp, Frozen}
 use Rattle.rg_base.specs.declared.object.Place.{Place}
@@ -15,9 +15,10 @@ use Rattle.rg_rules.specs.Regions.{in_regions, relabelled_object, relabelled}
 use Rattle.rg_sound.proofs.Stores.MemberLemmas.{In, among-in}
 use Rattle.rg_stack.specs.Machine.{Window, Machine}
 use Rattle.rg_stack.specs.Needs.{is_open, label_of, is_into, is_outside}
+use Rattle.rg_stack.proofs.Basics.{none-some}
 use Rattle.rg_held.specs.Frees.{gone}
 use Rattle.rg_held.specs.Part.{leads_to, Placed, Tidy, Part, is_of, OwnerHeld, OwnersHeld, may_lead}
-use Rattle.rg_held.proofs.Lists.{some-is, none-some, off, any-at, at-any}
+use Rattle.rg_held.proofs.Lists.{off, any-at, at-any}
 use Rattle.rg_held.proofs.Places.{other-number, either, clash, into-label, label-into}
 
 -- a label behind it
@@ -62,7 +63,7 @@ module _ (held : ℕ → Truth) (owners : List Val) (f m : Machine) (stack : Lis
     where
       by : (s : Option Seen) → slice_get m.store a ≡ s → option_map (relabelled_object rs new) s ≡ Some h → Was a h
       by None at e = none-some h e
-      by (Some o) at e = let same = some-is (relabelled_object rs new o) h e in record {
+      by (Some o) at e = let same = same_Some (relabelled_object rs new o) h e in record {
         before = o;
         found = at;
         label = ap (λ (q : Seen). q.label) (sym same) ∙ label-is (in_regions rs o.label) o;
@@ -272,4 +273,4 @@ module _ (held : ℕ → Truth) (owners : List Val) (f m : Machine) (stack : Lis
       by : (q : ℕ) (v : Val) (l : Label) (o : Option Label) → label_of m.store v ≡ o → option_map (other_label rs new) o ≡ Some l
           → ((j : Label) → label_of m.store v ≡ Some j → may_lead m.windows q (other_label rs new j) ≡ true) → may_lead m.windows q l ≡ true
       by q v l None e is h = none-some l is
-      by q v l (Some j) e is h = ap (may_lead m.windows q) (sym (some-is (other_label rs new j) l is)) ∙ h j e
+      by q v l (Some j) e is h = ap (may_lead m.windows q) (sym (same_Some (other_label rs new j) l is)) ∙ h j e

@@ -1,6 +1,8 @@
 -- The end of a window: slots, temporaries and the window go, and its region is closed.
 use Rattle.std.proofs.Common.{◌≡◌, ℕ, zero, suc, ◌==◌, ◌⊎◌, inl, inr, true, false, not, Bool as Truth, List, [], ◌∷◌, ◌++◌}
 use Rattle.std.proofs.Common.{length, Option, Some, None, unwrap_or, option_map, drop, reverse, refl, sym, ap, subst, ◌∙◌, arith, slice_get}
+use Rattle.std.proofs.lemmas.Option.{same_Some}
+use Rattle.std.proofs.lemmas.Bool.{or_right}
 use Rattle.std.specs.Prelude.{◌||◌, ◌&&◌, cond, if◌then◌else◌, filter, flat_map, nat_le}
 use Rattle.std.specs.List.{list_any}
 use Rattle.rg_base.specs.declared.object.Label.{Label}
@@ -19,13 +21,14 @@ use Rattle.rg_stack.specs.Effects.{Work, Go, act, without_top, top_window, benea
 use Rattle.rg_stack.specs.Needs.{is_open, has_window, label_of, is_into, closed_into, is_outside, owned_once, is_top_temp, is_to_temp, outlives}
 use Rattle.rg_stack.specs.Needs.{field_of}
 use Rattle.rg_stack.specs.Needs.{top_base, temps_may_go, owner_leads, owner_at, value_at, needs}
+use Rattle.rg_stack.proofs.Basics.{none-some, and-left, and-right}
 use Rattle.rg_held.specs.Frees.{gone, is_temp, closed_among, closed_by_temps, left_with, window_that_ends, bury, free_act, freed}
 use Rattle.rg_held.specs.Part.{leads_to, SlotInto, FieldInto, Placed, Tidy, Part, is_of, OwnerHeld, OwnersHeld, SomeWindow, is_shut_or_above}
 use Rattle.rg_held.specs.Part.{may_lead, Differ}
 use Rattle.rg_held.specs.Ends.{Match, SameEnd}
 use Rattle.rg_held.specs.Laws.{owners_of, GoesOn}
-use Rattle.rg_held.proofs.Lists.{some-is, none-some, off, any-at, at-any, drop-back, reverse-back}
-use Rattle.rg_held.proofs.Places.{and-left, and-right, or-right, or-split, not-true, same-number, number-same, either, clash}
+use Rattle.rg_held.proofs.Lists.{off, any-at, at-any, drop-back, reverse-back}
+use Rattle.rg_held.proofs.Places.{or-right, or-split, not-true, same-number, number-same, either, clash}
 use Rattle.rg_held.proofs.Places.{closed-back, closed-there}
 use Rattle.rg_held.proofs.Parts.{closed-above, field-frames, closed-same, top-slot}
 use Rattle.rg_held.proofs.Halves.{Half, Lost, whole}
@@ -46,14 +49,14 @@ filtered-back {A = A} t (y ∷ ys) i x e = by (t y) refl i e (filtered-back t ys
     by : (b : Truth) → t y ≡ b → (i : ℕ) → slice_get (cond b (y ∷ filter t ys) (filter t ys)) i ≡ Some x
         → ((i : ℕ) (x : A) → slice_get (filter t ys) i ≡ Some x → (j : ℕ) × ((slice_get ys j ≡ Some x) × (t x ≡ true)))
         → (j : ℕ) × ((slice_get (y ∷ ys) j ≡ Some x) × (t x ≡ true))
-    by true h zero e rest = (0, (e, ap t (sym (some-is y x e)) ∙ h))
+    by true h zero e rest = (0, (e, ap t (sym (same_Some y x e)) ∙ h))
     by true h (suc i) e rest = let r = rest i x e in (suc r.0, r.1)
     by false h i e rest = let r = rest i x e in (suc r.0, r.1)
 
 filtered-in : {A : Type 0} (t : A → Truth) (xs : List A) (j : ℕ) (x : A) → slice_get xs j ≡ Some x → t x ≡ true
     → (i : ℕ) × (slice_get (filter t xs) i ≡ Some x)
 filtered-in t [] j x e p = none-some x e
-filtered-in t (y ∷ ys) zero x e p = (0, ap (λ b. slice_get (cond b (y ∷ filter t ys) (filter t ys)) 0) (ap t (some-is y x e) ∙ p) ∙ e)
+filtered-in t (y ∷ ys) zero x e p = (0, ap (λ b. slice_get (cond b (y ∷ filter t ys) (filter t ys)) 0) (ap t (same_Some y x e) ∙ p) ∙ e)
 filtered-in t (y ∷ ys) (suc j) x e p = by (t y) (filtered-in t ys j x e p)
   where
     by : (b : Truth) → ((i : ℕ) × (slice_get (filter t ys) i ≡ Some x)) → (i : ℕ) × (slice_get (cond b (y ∷ filter t ys) (filter t ys)) i ≡ Some x)
@@ -71,7 +74,7 @@ mapped-back h (x ∷ xs) q j = elim (in-split (h x) (flat_map h xs) q j) [
 mapped-in : {A : Type 0} (h : A → List ℕ) (xs : List A) (i : ℕ) (x : A) (q : ℕ) → slice_get xs i ≡ Some x → In q (h x) → In q (flat_map h xs)
 mapped-in h [] i x q e j = none-some x e
 mapped-in h (y ∷ ys) zero x q e j =
-    in-left (h y) (flat_map h ys) q (subst (λ z. In q (h z)) (sym (some-is y x e)) j)
+    in-left (h y) (flat_map h ys) q (subst (λ z. In q (h z)) (sym (same_Some y x e)) j)
 mapped-in h (y ∷ ys) (suc i) x q e j = in-right (h y) (flat_map h ys) q (mapped-in h ys i x q e j)
 
 -- the topmost window goes, where none of its temporaries is held, and its region has an owner reference
@@ -308,7 +311,7 @@ module _ (held : ℕ → Truth) (f m : Machine) (s : ℕ) (p : Part held [] f m 
 
   gone-is : (h : Seen) (x : Option Seen) → option_map (λ (q : Seen). gone) x ≡ Some h → gone ≡ h
   gone-is h None at = none-some h at
-  gone-is h (Some q) at = some-is gone h at
+  gone-is h (Some q) at = same_Some gone h at
 
   of-object : (q a : ℕ) (h : Seen) → held a ≡ true → slice_get m.store a ≡ Some h → h.label ≡ Temp n → In q (closed_among f h.fields) → OfTemp q
   of-object q a h here there lies j =
@@ -370,7 +373,7 @@ module _ (held : ℕ → Truth) (f m : Machine) (s : ℕ) (p : Part held [] f m 
 
   to-temp : (k : ℕ) (x : Val) → Some n ≡ Some k → label_of m.store x ≡ Some (Temp k) → is_to_temp (end_slots m s) x ≡ true
   to-temp k x is l = ap (λ (o : Option Label). elim o [ None ↦ false | Some l ↦ is_top_temp (end_slots m s) l ]) l
-      ∙ number-same k (top_window m.windows) (sym (top-m ∙ some-is n k is))
+      ∙ number-same k (top_window m.windows) (sym (top-m ∙ same_Some n k is))
 
   no-slots : list_any (λ (h : Frame). list_any (is_to_temp (end_slots m s)) h.slots) (end_slots m s).frames ≡ false
   no-slots = not-true (list_any (λ (h : Frame). list_any (is_to_temp (end_slots m s)) h.slots) (end_slots m s).frames)
@@ -407,7 +410,7 @@ module _ (held : ℕ → Truth) (f m : Machine) (s : ℕ) (p : Part held [] f m 
       | inl h ↦ slot-and-field m p.tidy once q h.closed h.place b
       | inr t ↦
           (let at = two-fields m p.tidy once q t.closed t.place b in
-          let holder : t.place.holder ≡ l.holder = some-is t.place.holder l.holder
+          let holder : t.place.holder ≡ l.holder = same_Some t.place.holder l.holder
           (sym t.place.holder_there ∙ ap (slice_get m.store) at ∙ l.holder_there) in
           clash (is_temp (Some n) l.holder.label)
           (ap (is_temp (Some n)) (ap (λ (o : Seen). o.label) (sym holder) ∙ t.label) ∙ number-same n n refl) other)
@@ -415,7 +418,7 @@ module _ (held : ℕ → Truth) (f m : Machine) (s : ℕ) (p : Part held [] f m 
     stack_free = λ q c h. off h;
     temps_owned = λ q c l here t. (let k = temp-label (Some n) l.holder.label t in
         in-right (closed_among f (drop s (top_slots f.frames))) (closed_by_temps f) q
-        (to-temps q (field-frames (end_slots m s) m.frames q l) c here (k.2 ∙ ap Temp (sym (some-is n k.0 k.1)))));
+        (to-temps q (field-frames (end_slots m s) m.frames q l) c here (k.2 ∙ ap Temp (sym (same_Some n k.0 k.1)))));
     slots_stay = λ j h i x k there at is l. clash
         (list_any (λ (h : Frame). list_any (is_to_temp (end_slots m s)) h.slots) (end_slots m s).frames)
         (at-any (λ (h : Frame). list_any (is_to_temp (end_slots m s)) h.slots) (end_slots m s).frames j h there
@@ -427,7 +430,7 @@ module _ (held : ℕ → Truth) (f m : Machine) (s : ℕ) (p : Part held [] f m 
         ∙ at-any (is_to_temp (end_slots m s)) h.fields i x at (to-temp k x is l))) no-fields;
     stack_stays = λ j x k at is l. none-some x at;
     windows_stay = λ k is. subst (λ l. NotBelow l k) (sym e)
-        (ap (has_window (v ∷ rest)) (sym (some-is n k is)) ∙ (subst Differ e p.tidy.differ).1);
+        (ap (has_window (v ∷ rest)) (sym (same_Some n k is)) ∙ (subst Differ e p.tidy.differ).1);
     owners_given = λ q c any. inl (let h = any-at (is_into m.store q) behind any in
         in-left (closed_among f (drop s (top_slots f.frames))) (closed_by_temps f) q
         (among-in held [] f m [] p (drop s (top_slots f.frames)) h.0 h.1.0 q (ap (λ l. slice_get l h.0) same ∙ h.1.1)
@@ -466,10 +469,6 @@ module _ (held : ℕ → Truth) (f m : Machine) (s : ℕ) (p : Part held [] f m 
       buried w (v ∷ rest) e (v, (rest, refl)) no-temp
       (owner-placed (left_held held m.store all (Some n)) (record (end_slots f s) { store = bury all (Some n) f.store }) (end_slots m s) buried
       w v rest e o)) lost
-
-or-more : (a b : Truth) → b ≡ true → (a || b) ≡ true
-or-more true b e = refl
-or-more false b e = e
 
 module _ (code : Code) (at : ℕ) (also go : Go) (u w : Work) (taken : Truth) where
   -- behind the end of a window, of which these remain
@@ -536,7 +535,7 @@ module _ (code : Code) (at : ℕ) (also go : Go) (u w : Work) (taken : Truth) wh
         record {
           machine = part-remembers _ [] _ (record (end_slots w.machine s) { windows = v ∷ rest }) []
               (part-leave now.0 u.machine w.machine s now.1.machine x v rest e once may_go leads) u.machine.windows
-              (λ r o. ap (λ ws. is_open ws r) (now.1.machine.windows ∙ e) ∙ or-more (x.region == r) (is_open (v ∷ rest) r) o);
+              (λ r o. ap (λ ws. is_open ws r) (now.1.machine.windows ∙ e) ∙ or_right (x.region == r) (is_open (v ∷ rest) r) o);
           input = now.1.input;
           printed = now.1.printed;
         },

@@ -1,132 +1,18 @@
 -- A walk of the machine that frees, in which each instruction is given what it needs, is its walk, unless it is stuck; and what most
 -- instructions do is what they do over the growing store.
-use Rattle.std.proofs.Common.{◌≡◌, ℕ, zero, suc, ◌+◌, true, false, Bool as Truth, if◌then◌else◌, ◌⊎◌, inl, inr, List, [], ◌∷◌, drop, Result, Ok, Err}
-use Rattle.std.proofs.Common.{refl, ap, subst, length}
-use Rattle.std.specs.Prelude.{nat_lt}
-use Rattle.rg_base.specs.declared.limits.TheConstants.{FRAMES}
-use Rattle.rg_base.specs.Input.{NextNumber, found, malformed, at_end, next_number}
-use Rattle.rg_base.specs.declared.object.Seen.{Seen}
-use Rattle.rg_base.specs.declared.value.Val.{Val}
-use Rattle.rg_base.specs.declared.outcome.Trap.{Trap}
-use Rattle.rg_base.specs.declared.outcome.Trap.TheVariants as trap
-use Rattle.rg_tree.specs.declared.rows.BinOp.{BinOp}
-use Rattle.rg_tree.specs.declared.rows.BinOp.TheVariants as op
-use Rattle.rg_rules.specs.Evaluation.{object_at}
-use Rattle.rg_rules.specs.Values.{Computed, as_bool, operate}
+use Rattle.std.proofs.Common.{ℕ, zero, suc, ◌+◌, true, false, Bool as Truth, if◌then◌else◌, inl, inr, List, [], ◌∷◌, drop}
+use Rattle.std.proofs.Common.{refl, ap, subst}
 use Rattle.rg_code.specs.declared.op.Op.{Op}
 use Rattle.rg_code.specs.declared.op.Op.TheVariants as i
 use Rattle.rg_code.specs.Code.{Code}
-use Rattle.rg_stack.specs.Machine.{Machine, top_slots, place_of}
-use Rattle.rg_stack.specs.Effects.{Work, Walked, Stops, Returns, Traps, Stuck, Go, on_top, on_two, pushed, next_taken, opens_at, begins_by, act}
-use Rattle.rg_stack.specs.Runs.{Stepped, Lost, landed}
+use Rattle.rg_stack.specs.Effects.{Work, Walked, Stops, Returns, Traps, Stuck, Go}
+use Rattle.rg_stack.specs.Runs.{landed}
 use Rattle.rg_stack.specs.Needs.{needs}
+use Rattle.rg_stack.proofs.Walks.GivenLemmas.{Less, LessFrom, SameOrLost, act-less}
 use Rattle.rg_held.specs.Frees.{given_up, freed, forgotten, behind, free_walk, free_finished, free_step_from, free_step}
 use Rattle.rg_held.specs.Frees.{free_given_walk, free_given_finished, free_given_step_from, free_given_step}
 
--- the first is stuck, or both are the same
-abbrev pub Less : Walked → Walked → Type 0
-Less x y = (x ≡ Stuck) ⊎ (x ≡ y)
-
--- and so are walks from each stack and machine
-abbrev pub LessFrom : Go → Go → Type 0
-LessFrom go all = (skip : ℕ) (stack : List Val) (w : Work) → Less (go skip stack w) (all skip stack w)
-
-top-less : (stack : List Val) (go all : Val → List Val → Walked) → ((v : Val) (rest : List Val) → Less (go v rest) (all v rest))
-    → Less (on_top stack go) (on_top stack all)
-top-less [] go all h = inl refl
-top-less (v ∷ rest) go all h = h v rest
-
-object-less : (r : Result Seen Trap) (go all : Seen → Walked) → ((o : Seen) → Less (go o) (all o))
-    → Less (elim r [ Ok o ↦ go o | Err t ↦ Traps t ]) (elim r [ Ok o ↦ all o | Err t ↦ Traps t ])
-object-less (Ok o) go all h = h o
-object-less (Err t) go all h = inr refl
-
-if-less : (t : Truth) (a b c d : Walked) → Less a c → Less b d → Less (if t then a else b) (if t then c else d)
-if-less true a b c d h k = h
-if-less false a b c d h k = k
-
-pushed-less : (c : Computed) (go all : Go) (stack : List Val) (w : Work) → LessFrom go all → Less (pushed c go stack w) (pushed c all stack w)
-pushed-less (Ok v) go all stack w h = h 0 (v ∷ stack) w
-pushed-less (Err t) go all stack w h = inr refl
-
-two-less : (o : BinOp) (go all : Go) (stack : List Val) (w : Work) → LessFrom go all → Less (on_two o go stack w) (on_two o all stack w)
-two-less o go all [] w h = inl refl
-two-less o go all (y ∷ []) w h = inl refl
-two-less o go all (y ∷ x ∷ stack) w h = pushed-less (operate o x y) go all stack w h
-
-taken-less : (n : NextNumber) (go all : Go) (stack : List Val) (w : Work) → LessFrom go all
-    → Less (next_taken n go stack w) (next_taken n all stack w)
-taken-less (found z rest) go all stack w h = h 0 _ _
-taken-less malformed go all stack w h = inr refl
-taken-less at_end go all stack w h = inr refl
-
-opens-less : (m : Machine) (z : ℕ) (a b : Walked) → Less a b → Less (opens_at m z a) (opens_at m z b)
-opens-less m z a b h =
-    let inner = begins_by m.windows (place_of m.frames z) in
-    if-less (nat_lt z (length (top_slots m.frames))) (if inner then a else Stuck) Stuck (if inner then b else Stuck) Stuck
-    (if-less inner a Stuck b Stuck h (inr refl)) (inr refl)
-
--- a step is lost, or both are the same
-abbrev pub LostOr : Stepped → Stepped → Type 0
-LostOr x y = (x ≡ Lost) ⊎ (x ≡ y)
-
 module _ (code : Code) where
-  pub act-less : (at : ℕ) (o : Op) (go all : Go) (stack : List Val) (w : Work) → LessFrom go all
-      → Less (act code at o go stack w) (act code at o all stack w)
-  act-less at (i.Mark line) go all stack w h = inr refl
-  act-less at (i.Int z) go all stack w h = h 0 _ _
-  act-less at (i.Bool b) go all stack w h = h 0 _ _
-  act-less at i.Nil go all stack w h = h 0 _ _
-  act-less at (i.Load s) go all stack w h = h 0 _ _
-  act-less at (i.Clear s) go all stack w h = h 0 _ _
-  act-less at (i.Store s) go all stack w h = top-less stack _ _ (λ v rest. h 0 _ _)
-  act-less at (i.Own s) go all stack w h = top-less stack _ _ (λ v rest. h 0 _ _)
-  act-less at (i.Field k) go all stack w h = top-less stack _ _ (λ v rest. object-less (object_at w.machine.store v) _ _ (λ o. h 0 _ _))
-  act-less at i.IsNil go all stack w h = top-less stack _ _ (λ v rest. h 0 _ _)
-  act-less at i.Neg go all stack w h = top-less stack _ _ (λ v rest. pushed-less _ go all rest w h)
-  act-less at i.Add go all stack w h = two-less op.Add go all stack w h
-  act-less at i.Sub go all stack w h = two-less op.Sub go all stack w h
-  act-less at i.Mul go all stack w h = two-less op.Mul go all stack w h
-  act-less at i.Div go all stack w h = two-less op.Div go all stack w h
-  act-less at i.Rem go all stack w h = two-less op.Rem go all stack w h
-  act-less at i.Eq go all stack w h = two-less op.Eq go all stack w h
-  act-less at i.Ne go all stack w h = two-less op.Ne go all stack w h
-  act-less at i.Lt go all stack w h = two-less op.Lt go all stack w h
-  act-less at i.Le go all stack w h = two-less op.Le go all stack w h
-  act-less at i.Gt go all stack w h = two-less op.Gt go all stack w h
-  act-less at i.Ge go all stack w h = two-less op.Ge go all stack w h
-  act-less at i.Not go all stack w h = top-less stack _ _ (λ v rest. h 0 _ _)
-  act-less at (i.Jump t) go all stack w h = inr refl
-  act-less at (i.JumpFalse t) go all stack w h = top-less stack _ _ (λ v rest. if-less (as_bool v) _ _ _ _ (h 0 _ _) (h _ _ _))
-  act-less at (i.And t) go all stack w h = top-less stack _ _ (λ v rest. if-less (as_bool v) _ _ _ _ (h 0 _ _) (h _ _ _))
-  act-less at (i.Or t) go all stack w h = top-less stack _ _ (λ v rest. if-less (as_bool v) _ _ _ _ (h _ _ _) (h 0 _ _))
-  act-less at i.Check go all stack w h = top-less stack _ _ (λ v rest. object-less (object_at w.machine.store v) _ _ (λ o. h 0 _ _))
-  act-less at (i.New c) go all stack w h = h 0 _ _
-  act-less at (i.NewTmp c) go all stack w h = h 0 _ _
-  act-less at (i.NewIso c m) go all stack w h = h 0 _ _
-  act-less at i.Pace go all stack w h = h 0 _ _
-  act-less at (i.Put k) go all stack w h = top-less stack _ _ (λ v rest. top-less rest _ _ (λ r under. h 0 _ _))
-  act-less at (i.Swap s k) go all stack w h = top-less stack _ _ (λ v rest. object-less (object_at w.machine.store v) _ _ (λ o. h 0 _ _))
-  act-less at (i.Freeze s) go all stack w h = object-less _ _ _ (λ o. h 0 _ _)
-  act-less at (i.Merge s) go all stack w h = object-less _ _ _ (λ o. h 0 _ _)
-  act-less at i.Read go all stack w h = taken-less (next_number w.input) go all stack w h
-  act-less at i.More go all stack w h = h 0 _ _
-  act-less at i.Room go all stack w h =
-      if-less (nat_lt (length w.machine.frames) FRAMES) _ (Traps trap.Depth) _ (Traps trap.Depth) (h 0 stack w) (inr refl)
-  act-less at (i.Call m) go all stack w h = inr refl
-  act-less at i.Ret go all stack w h = inr refl
-  act-less at i.RetVoid go all stack w h = inr refl
-  act-less at (i.Enter s z) go all stack w h = opens-less w.machine z _ _ (object-less _ _ _ (λ o. h 0 _ _))
-  act-less at (i.EnterField k z) go all stack w h = opens-less w.machine z _ _ (top-less stack _ _ (λ r rest.
-      object-less (object_at w.machine.store r) _ _ (λ o. object-less _ _ _ (λ b. h 0 _ _))))
-  act-less at (i.Leave s) go all stack w h = h 0 _ _
-  act-less at (i.End s) go all stack w h = h 0 _ _
-  act-less at i.Print go all stack w h = top-less stack _ _ (λ v rest. h 0 _ _)
-  act-less at i.Collect go all stack w h = h 0 _ _
-  act-less at i.Pop go all stack w h = top-less stack _ _ (λ v rest. h 0 _ _)
-  act-less at i.Drop go all stack w h = top-less stack _ _ (λ v rest. h 0 _ _)
-  act-less at i.Halt go all stack w h = inr refl
-
   pub behind-less : (o : Op) (go all : Go) → LessFrom go all → LessFrom (behind o go) (behind o all)
   behind-less (i.Freeze s) go all h = λ skip stack w. h skip stack (forgotten w)
   behind-less (i.Merge s) go all h = λ skip stack w. h skip stack (forgotten w)
@@ -139,30 +25,30 @@ module _ (code : Code) where
   pub walk-less : (os : List Op) (at : ℕ) → LessFrom (free_given_walk code os at) (free_walk code os at)
   walk-less [] at skip stack w = inl refl
   walk-less (o ∷ os) at zero stack w = by-need (needs code o stack w.machine) _ _
-      (act-less at o (behind o (free_given_walk code os (at + 1))) (behind o (free_walk code os (at + 1))) stack
+      (act-less code at o (behind o (free_given_walk code os (at + 1))) (behind o (free_walk code os (at + 1))) stack
       (freed (given_up o stack w.machine) w)
       (behind-less o (free_given_walk code os (at + 1)) (free_walk code os (at + 1)) (walk-less os (at + 1))))
   walk-less (o ∷ os) at (suc k) stack w = walk-less os (at + 1) k stack w
 
-  landed-less : (x y : Walked) → Less x y → LostOr (landed code x) (landed code y)
+  landed-less : (x y : Walked) → Less x y → SameOrLost (landed code x) (landed code y)
   landed-less x y (inl stuck) = inl (ap (landed code) stuck)
   landed-less x y (inr same) = inr (ap (landed code) same)
 
-  finished-is : (line : ℕ) (x : Walked) → LostOr (free_given_finished code line x) (free_finished code line x)
+  finished-is : (line : ℕ) (x : Walked) → SameOrLost (free_given_finished code line x) (free_finished code line x)
   finished-is line (Stops at w) = inr refl
   finished-is line (Returns back stack w) = landed-less _ _ (walk-less (drop back code.ops) back 0 stack w)
   finished-is line (Traps t) = inr refl
   finished-is line Stuck = inl refl
 
-  finished-less : (line : ℕ) (x y : Walked) → Less x y → LostOr (free_given_finished code line x) (free_finished code line y)
+  finished-less : (line : ℕ) (x y : Walked) → Less x y → SameOrLost (free_given_finished code line x) (free_finished code line y)
   finished-less line x y (inl stuck) = inl (ap (free_given_finished code line) stuck)
-  finished-less line x y (inr same) = subst (λ z. LostOr (free_given_finished code line x) (free_finished code line z)) same (finished-is line x)
+  finished-less line x y (inr same) = subst (λ z. SameOrLost (free_given_finished code line x) (free_finished code line z)) same (finished-is line x)
 
-  from-less : (w : Work) (os : List Op) → LostOr (free_given_step_from code w os) (free_step_from code w os)
+  from-less : (w : Work) (os : List Op) → SameOrLost (free_given_step_from code w os) (free_step_from code w os)
   from-less w [] = inl refl
   from-less w (i.Mark line ∷ os) = finished-less line _ _ (walk-less os (w.machine.at + 1) 0 [] w)
   from-less w (o ∷ os) = inl refl
 
   -- a step in which each instruction is given what it needs is lost, or it is the step
-  pub step-less : (w : Work) → LostOr (free_given_step code w) (free_step code w)
+  pub step-less : (w : Work) → SameOrLost (free_given_step code w) (free_step code w)
   step-less w = from-less w (drop w.machine.at code.ops)

@@ -1,5 +1,5 @@
-mod Lists
-mod Places
+pub mod Lists
+pub mod Places
 mod Links
 mod Parts
 mod Halves

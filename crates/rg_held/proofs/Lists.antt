@@ -1,16 +1,12 @@
--- Elements of lists: of one that is written, that grows, that ends, and how many pass a test.
+-- Elements of lists: of one that is written, that grows, that ends, and how many pass a test. For crates above too.
 use Rattle.std.proofs.Common.{◌≡◌, ℕ, zero, suc, ◌+◌, ◌<◌, ◌≤◌, ◌⊎◌, inl, inr, true, false, true≢false, Bool as Truth, List, [], ◌∷◌, ◌++◌}
 use Rattle.std.proofs.Common.{length, replicate, take, drop, reverse, Some, None, refl, sym, ap, ◌∙◌, arith, slice_get, slice_set}
 use Rattle.std.specs.Prelude.{sum_by, count_by, cond, ◌||◌}
 use Rattle.std.specs.List.{list_any}
 use Rattle.std.proofs.lemmas.List.Sums.{sum_by-cons}
 use Rattle.std.proofs.lemmas.List.{reverse-append}
-
-pub some-is : {A : Type 0} (a b : A) → Some a ≡ Some b → a ≡ b
-some-is a b e = ap (λ o. elim o [ Some x ↦ x | None ↦ a ]) e
-
-pub none-some : {A : Type 0} {B : Type 0} (a : A) → None ≡ Some a → B
-none-some a e = grind arith
+use Rattle.std.proofs.lemmas.Option.{same_Some}
+use Rattle.rg_stack.proofs.Basics.{none-some}
 
 pub off : {B : Type 0} → false ≡ true → B
 off e = absurd (true≢false (sym e))
@@ -19,7 +15,7 @@ off e = absurd (true≢false (sym e))
 pub set-back : {A : Type 0} (xs : List A) (i j : ℕ) (v u : A) → slice_get (slice_set xs i v) j ≡ Some u
     → ((i ≡ j) × (u ≡ v)) ⊎ (slice_get xs j ≡ Some u)
 set-back [] i j v u e = inr e
-set-back (x ∷ xs) zero zero v u e = inl (refl, some-is u v (sym e))
+set-back (x ∷ xs) zero zero v u e = inl (refl, same_Some u v (sym e))
 set-back (x ∷ xs) zero (suc j) v u e = inr e
 set-back (x ∷ xs) (suc i) zero v u e = inr e
 set-back (x ∷ xs) (suc i) (suc j) v u e = elim (set-back xs i j v u e) [ inl h ↦ inl (ap suc h.0, h.1) | inr h ↦ inr h ]
@@ -53,7 +49,7 @@ set-apart (x ∷ xs) (suc i) (suc j) v h = set-apart xs i j v (λ e. h (ap suc e
 pub set-other : {A : Type 0} (xs : List A) (i j : ℕ) (v u : A) → slice_get (slice_set xs i v) j ≡ Some u
     → (u ≡ v) ⊎ ((slice_get xs j ≡ Some u) × (i ≡ j → ⊥))
 set-other [] i j v u e = none-some u e
-set-other (x ∷ xs) zero zero v u e = inl (some-is u v (sym e))
+set-other (x ∷ xs) zero zero v u e = inl (same_Some u v (sym e))
 set-other (x ∷ xs) zero (suc j) v u e = inr (e, λ h. omega (arith, h))
 set-other (x ∷ xs) (suc i) zero v u e = inr (e, λ h. omega (arith, h))
 set-other (x ∷ xs) (suc i) (suc j) v u e = elim (set-other xs i j v u e) [
@@ -64,7 +60,7 @@ set-other (x ∷ xs) (suc i) (suc j) v u e = elim (set-other xs i j v u e) [
 -- an element of a list with one more is the last, or was there
 pub push-back : {A : Type 0} (xs : List A) (y u : A) (j : ℕ) → slice_get (xs ++ y ∷ []) j ≡ Some u
     → ((j ≡ length xs) × (u ≡ y)) ⊎ (slice_get xs j ≡ Some u)
-push-back [] y u zero e = inl (refl, some-is u y (sym e))
+push-back [] y u zero e = inl (refl, same_Some u y (sym e))
 push-back [] y u (suc j) e = none-some u e
 push-back (x ∷ xs) y u zero e = inr e
 push-back (x ∷ xs) y u (suc j) e = elim (push-back xs y u j e) [
@@ -118,13 +114,13 @@ ended-back xs zero k j d u e = inl (same k j e)
   where
     same : (k j : ℕ) → slice_get (replicate k d) j ≡ Some u → u ≡ d
     same zero j e = none-some u e
-    same (suc k) zero e = some-is u d (sym e)
+    same (suc k) zero e = same_Some u d (sym e)
     same (suc k) (suc j) e = same k j e
 ended-back [] (suc n) k j d u e = inl (same k j e)
   where
     same : (k j : ℕ) → slice_get (replicate k d) j ≡ Some u → u ≡ d
     same zero j e = none-some u e
-    same (suc k) zero e = some-is u d (sym e)
+    same (suc k) zero e = same_Some u d (sym e)
     same (suc k) (suc j) e = same k j e
 ended-back (x ∷ xs) (suc n) k zero d u e = inr (e, omega arith)
 ended-back (x ∷ xs) (suc n) k (suc j) d u e = elim (ended-back xs n k j d u e) [
@@ -184,7 +180,7 @@ append-left (x ∷ xs) ys (suc i) u e = append-left xs ys i u e
 
 pub replicate-back : {A : Type 0} (k j : ℕ) (d u : A) → slice_get (replicate k d) j ≡ Some u → u ≡ d
 replicate-back zero j d u e = none-some u e
-replicate-back (suc k) zero d u e = some-is u d (sym e)
+replicate-back (suc k) zero d u e = same_Some u d (sym e)
 replicate-back (suc k) (suc j) d u e = replicate-back k j d u e
 
 pub take-whole : {A : Type 0} (xs : List A) (n : ℕ) → length xs ≡ n → take n xs ≡ xs
@@ -197,7 +193,7 @@ take-whole (x ∷ xs) (suc n) e = ap (λ l. x ∷ l) (take-whole xs n (omega (ar
 
 pub sum-one : {A : Type 0} (f : A → ℕ) (xs : List A) (i : ℕ) (x : A) → slice_get xs i ≡ Some x → f x ≤ sum_by f xs
 sum-one f [] i x e = none-some x e
-sum-one f (y ∷ ys) zero x e = let c = sum_by-cons f y ys in let s : f y ≡ f x = ap f (some-is y x e) in omega (arith, c, s)
+sum-one f (y ∷ ys) zero x e = let c = sum_by-cons f y ys in let s : f y ≡ f x = ap f (same_Some y x e) in omega (arith, c, s)
 sum-one f (y ∷ ys) (suc i) x e = let c = sum_by-cons f y ys in let h = sum-one f ys i x e in omega (arith, c, h)
 
 pub sum-two : {A : Type 0} (f : A → ℕ) (xs : List A) (i j : ℕ) (x y : A) → slice_get xs i ≡ Some x → slice_get xs j ≡ Some y
@@ -205,9 +201,9 @@ pub sum-two : {A : Type 0} (f : A → ℕ) (xs : List A) (i j : ℕ) (x y : A) �
 sum-two f [] i j x y e d = none-some x e
 sum-two f (z ∷ zs) zero zero x y e d = inl refl
 sum-two f (z ∷ zs) zero (suc j) x y e d =
-    let c = sum_by-cons f z zs in let s : f z ≡ f x = ap f (some-is z x e) in let h = sum-one f zs j y d in inr (omega (arith, c, s, h))
+    let c = sum_by-cons f z zs in let s : f z ≡ f x = ap f (same_Some z x e) in let h = sum-one f zs j y d in inr (omega (arith, c, s, h))
 sum-two f (z ∷ zs) (suc i) zero x y e d =
-    let c = sum_by-cons f z zs in let s : f z ≡ f y = ap f (some-is z y d) in let h = sum-one f zs i x e in inr (omega (arith, c, s, h))
+    let c = sum_by-cons f z zs in let s : f z ≡ f y = ap f (same_Some z y d) in let h = sum-one f zs i x e in inr (omega (arith, c, s, h))
 sum-two f (z ∷ zs) (suc i) (suc j) x y e d = elim (sum-two f zs i j x y e d) [
   | inl same ↦ inl (ap suc same)
   | inr h ↦ (let c = sum_by-cons f z zs in inr (omega (arith, c, h)))
@@ -240,7 +236,7 @@ any-at {A = A} p (x ∷ xs) e = by (p x) refl e (any-at p xs)
 
 pub at-any : {A : Type 0} (p : A → Truth) (xs : List A) (i : ℕ) (x : A) → slice_get xs i ≡ Some x → p x ≡ true → list_any p xs ≡ true
 at-any p [] i x e t = none-some x e
-at-any p (y ∷ ys) zero x e t = let s : p y ≡ true = ap p (some-is y x e) ∙ t in ap (λ b. b || list_any p ys) s
+at-any p (y ∷ ys) zero x e t = let s : p y ≡ true = ap p (same_Some y x e) ∙ t in ap (λ b. b || list_any p ys) s
 at-any p (y ∷ ys) (suc i) x e t = by (p y) (at-any p ys i x e t)
   where
     by : (b : Truth) → list_any p ys ≡ true → (b || list_any p ys) ≡ true

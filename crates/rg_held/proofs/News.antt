@@ -13,11 +13,12 @@ use Rattle.rg_base.specs.declared.value.Val.{Val}
 use Rattle.rg_base.specs.declared.value.Val.TheVariants as val
 use Rattle.rg_stack.specs.Machine.{Window, Machine}
 use Rattle.rg_stack.specs.Needs.{has_window, label_of, lies_in, is_into}
+use Rattle.rg_stack.proofs.Basics.{none-some, or-left}
 use Rattle.rg_held.specs.Frees.{gone}
 use Rattle.rg_held.specs.Part.{leads_to, Placed, Part, OwnerHeld, OwnersHeld}
-use Rattle.rg_held.proofs.Lists.{none-some, off, push-back, push-old, push-below, push-past, push-last, push-length, get-below}
+use Rattle.rg_held.proofs.Lists.{off, push-back, push-old, push-below, push-past, push-last, push-length, get-below}
 use Rattle.rg_held.proofs.Lists.{any-at, at-any}
-use Rattle.rg_held.proofs.Places.{or-split, or-left, or-right, same-number, number-same, either, clash, region-into}
+use Rattle.rg_held.proofs.Places.{or-split, or-right, same-number, number-same, either, clash, region-into}
 use Rattle.rg_held.proofs.Parts.{lead-any, lead-more, all-more}
 
 -- no reference

@@ -1,8 +1,9 @@
 -- Instructions that make objects or write fields, beside those over the growing store.
-use Rattle.std.proofs.Common.{◌≡◌, ℕ, zero, suc, ◌==◌, ◌<◌, inl, inr, true, false, true≢false, not, Bool as Truth, List, [], ◌∷◌, ◌++◌}
+use Rattle.std.proofs.Common.{◌≡◌, ℕ, zero, suc, ◌==◌, ◌<◌, inl, inr, true, false, not, Bool as Truth, List, [], ◌∷◌, ◌++◌}
 use Rattle.std.proofs.Common.{length, map, Option, Some, None, Ok, Err, option_and_then, is_some, unwrap_or, refl, sym, ap, subst, ◌∙◌, arith}
 use Rattle.std.proofs.Common.{slice_get}
 use Rattle.std.proofs.Common.{slice_set}
+use Rattle.std.proofs.lemmas.Option.{same_Some}
 use Rattle.std.specs.Prelude.{◌||◌, ◌&&◌, nat_lt, ok_or, if◌then◌else◌}
 use Rattle.rg_base.specs.declared.object.Label.{Label}
 use Rattle.rg_base.specs.declared.object.Label.TheVariants.{Region, Temp, Frozen}
@@ -13,6 +14,7 @@ use Rattle.rg_base.specs.declared.value.Val.{Val}
 use Rattle.rg_base.specs.declared.value.Val.TheVariants as val
 use Rattle.rg_base.specs.declared.value.Word.{Word}
 use Rattle.rg_base.specs.declared.value.Word.TheVariants as word
+use Rattle.rg_base.proofs.Callers.Labels.{region-temp}
 use Rattle.rg_rules.specs.Values.{is_nil_value}
 use Rattle.rg_rules.specs.Evaluation.{object_at}
 use Rattle.rg_code.specs.declared.op.Op.TheVariants as i
@@ -21,12 +23,13 @@ use Rattle.rg_stack.specs.Machine.{Window, Machine, value_of_word, slot_at, put_
 use Rattle.rg_stack.specs.Effects.{Work, Go, Traps, act, made, with_store, with_value_in, put_in, top_region, top_window, on_object, stored}
 use Rattle.rg_stack.specs.Needs.{is_open, has_window, label_of, is_into, is_closed, closed_of, leads_nowhere, is_field}
 use Rattle.rg_stack.specs.Needs.{is_writable, is_outside, may_stand, field_of, owns_or_nil, owned_once, size_of, needs}
+use Rattle.rg_stack.proofs.Basics.{none-some, and-left, and-right}
 use Rattle.rg_held.specs.Frees.{free_act}
 use Rattle.rg_held.specs.Part.{leads_to, Part, SomeWindow, may_lead, is_shut_or_above}
 use Rattle.rg_held.specs.Ends.{Match, SameEnd}
 use Rattle.rg_held.specs.Laws.{owners_of, GoesOn}
-use Rattle.rg_held.proofs.Lists.{some-is, none-some, off, push-last, push-length, set-new, set-same}
-use Rattle.rg_held.proofs.Places.{and-left, and-right, or-split, not-true, same-number, number-same, other-number, clash, not-closed}
+use Rattle.rg_held.proofs.Lists.{off, push-last, push-length, set-new, set-same}
+use Rattle.rg_held.proofs.Places.{or-split, not-true, same-number, number-same, other-number, clash, not-closed, top-open}
 use Rattle.rg_held.proofs.Places.{label-there, into-label}
 use Rattle.rg_held.proofs.Parts.{closed-above, part-owners}
 use Rattle.rg_held.proofs.Stack.{match-more, slot-leads, slot-same, field-leads}
@@ -37,19 +40,15 @@ use Rattle.rg_held.proofs.Writes.{part-write}
 -- a class opens its fields with no reference
 opened-plain : (ws : List Word) (k : ℕ) (v : Val) → leads_nowhere ws ≡ true → slice_get (map value_of_word ws) k ≡ Some v → Plain v
 opened-plain [] k v h e = none-some v e
-opened-plain (word.Nil ∷ ws) zero v h e = ap (leads_to (λ a. false)) (sym (some-is val.Nil v e))
+opened-plain (word.Nil ∷ ws) zero v h e = ap (leads_to (λ a. false)) (sym (same_Some val.Nil v e))
 opened-plain (word.Nil ∷ ws) (suc k) v h e = opened-plain ws k v h e
-opened-plain (word.Int z ∷ ws) zero v h e = ap (leads_to (λ a. false)) (sym (some-is (val.Int z) v e))
+opened-plain (word.Int z ∷ ws) zero v h e = ap (leads_to (λ a. false)) (sym (same_Some (val.Int z) v e))
 opened-plain (word.Int z ∷ ws) (suc k) v h e = opened-plain ws k v h e
-opened-plain (word.Bool b ∷ ws) zero v h e = ap (leads_to (λ a. false)) (sym (some-is (val.Bool b) v e))
+opened-plain (word.Bool b ∷ ws) zero v h e = ap (leads_to (λ a. false)) (sym (same_Some (val.Bool b) v e))
 opened-plain (word.Bool b ∷ ws) (suc k) v h e = opened-plain ws k v h e
 opened-plain (word.Slot a ∷ ws) k v h e = off h
 
 -- the topmost window is open
-
-pub top-open : (ws : List Window) → SomeWindow ws → is_open ws (top_region ws) ≡ true
-top-open [] h = absurd h
-top-open (w ∷ ws) h = ap (λ b. b || is_open ws w.region) (number-same w.region w.region refl)
 
 pub top-numbered : (ws : List Window) → SomeWindow ws → has_window ws (top_window ws) ≡ true
 top-numbered [] h = absurd h
@@ -60,9 +59,6 @@ region-is q r e = ap (λ (l : Label). elim l [ Region q ↦ q | Temp k ↦ q | F
 
 temp-is : (q r : ℕ) → Temp q ≡ Temp r → q ≡ r
 temp-is q r e = ap (λ (l : Label). elim l [ Region k ↦ q | Temp q ↦ q | Frozen ↦ q ]) e
-
-region-temp : {B : Type 0} (r n : ℕ) → Region r ≡ Temp n → B
-region-temp r n e = absurd (true≢false (ap (λ (l : Label). elim l [ Region q ↦ true | Temp k ↦ false | Frozen ↦ false ]) e))
 
 -- an object that may be written is in no closed region
 pub writable-open : {B : Type 0} (m : Machine) (l : Label) (r : ℕ) → SomeWindow m.windows → is_writable m l ≡ true → l ≡ Region r
@@ -213,7 +209,7 @@ module _ (code : Code) (at : ℕ) (also go : Go) (u w : Work) (taken : Truth) wh
                 | inl top ↦ stand-open o.label v r some writes stand top c
                 | inr below ↦ elim (or-split (is_into w.machine.store r (val.Obj a)) false below) [
                   | inl it ↦ writable-open w.machine o.label r some writes
-                      (some-is o.label (Region r) (sym (label-there w.machine.store a o there) ∙ into-label w.machine.store r (val.Obj a) it)) c
+                      (same_Some o.label (Region r) (sym (label-there w.machine.store a o there) ∙ into-label w.machine.store r (val.Obj a) it)) c
                   | inr none ↦ off none
                 ]
               ]);
@@ -345,7 +341,7 @@ module _ (code : Code) (at : ℕ) (also go : Go) (u w : Work) (taken : Truth) wh
           (field_of o k ∷ []) [] tt (λ r c into. inr (ap (λ b. b || false) into))
           (λ r c any. elim (or-split (is_into w.machine.store r (val.Obj a)) false any) [
             | inl it ↦ writable-open w.machine o.label r p.tidy.some_window writes
-                (some-is o.label (Region r) (sym (label-there w.machine.store a o there) ∙ into-label w.machine.store r (val.Obj a) it)) c
+                (same_Some o.label (Region r) (sym (label-there w.machine.store a o there) ∙ into-label w.machine.store r (val.Obj a) it)) c
             | inr none ↦ off none
           ])
 

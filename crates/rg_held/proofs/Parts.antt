@@ -1,6 +1,7 @@
 -- What the two machines share, and changes of both that leave objects as they are.
 use Rattle.std.proofs.Common.{◌≡◌, ℕ, zero, suc, ◌-◌, ◌^◌, ◌==◌, ◌⊎◌, inl, inr, true, false, true≢false, Bool as Truth, List, [], ◌∷◌}
 use Rattle.std.proofs.Common.{Option, Some, None, option_and_then, option_map, refl, sym, ap, ◌∙◌, slice_get}
+use Rattle.std.proofs.lemmas.Option.{same_Some}
 use Rattle.std.specs.Prelude.{◌||◌, if◌then◌else◌}
 use Rattle.std.specs.List.{list_any}
 use Rattle.rg_base.specs.declared.object.Label.{Label}
@@ -10,10 +11,10 @@ use Rattle.rg_base.specs.declared.value.Val.{Val}
 use Rattle.rg_base.specs.declared.value.Val.TheVariants as val
 use Rattle.rg_stack.specs.Machine.{Frame, Window, Machine, top_slots, with_slots}
 use Rattle.rg_stack.specs.Needs.{is_open, label_of, is_into, closed_of, closed_into}
+use Rattle.rg_stack.proofs.Basics.{none-some, or-left}
 use Rattle.rg_held.specs.Frees.{gone}
 use Rattle.rg_held.specs.Part.{leads_to, AllLead, SlotInto, FieldInto, Placed, Tidy, Part, is_shut_or_above}
-use Rattle.rg_held.proofs.Lists.{some-is, none-some}
-use Rattle.rg_held.proofs.Places.{either, clash, or-left, or-right}
+use Rattle.rg_held.proofs.Places.{either, clash, or-right}
 
 -- a closed region has none above it, and may be led to
 
@@ -36,7 +37,7 @@ closed-above (w ∷ ws) q p c =
 
 pub lead-any : (test : ℕ → Truth) (vs : List Val) (i : ℕ) (v : Val) → AllLead test vs → slice_get vs i ≡ Some v → leads_to test v ≡ true
 lead-any test [] i v a e = none-some v e
-lead-any test (u ∷ vs) zero v a e = ap (leads_to test) (sym (some-is u v e)) ∙ a.0
+lead-any test (u ∷ vs) zero v a e = ap (leads_to test) (sym (same_Some u v e)) ∙ a.0
 lead-any test (u ∷ vs) (suc i) v a e = lead-any test vs i v a.1 e
 
 pub lead-more : (test also : ℕ → Truth) (v : Val) → ((a : ℕ) → test a ≡ true → also a ≡ true) → leads_to test v ≡ true → leads_to also v ≡ true
@@ -102,7 +103,7 @@ slot-cases m slots r p = by m.frames refl p.frame p.holder_there
         → ((j : ℕ) × ((v : Val) × (slice_get (top_slots fs) j ≡ Some v) × (is_into m.store r v ≡ true)))
         ⊎ SlotInto (record m { frames = with_slots slots m.frames }) r
     by [] e n h = none-some p.holder h
-    by (f ∷ fs) e zero h = inl (p.slot, (p.value, ap (λ (f : Frame). slice_get f.slots p.slot) (some-is f p.holder h) ∙ p.value_there, p.into))
+    by (f ∷ fs) e zero h = inl (p.slot, (p.value, ap (λ (f : Frame). slice_get f.slots p.slot) (same_Some f p.holder h) ∙ p.value_there, p.into))
     by (f ∷ fs) e (suc n) h = inr (record {
       frame = suc n;
       slot = p.slot;
@@ -119,7 +120,7 @@ pub slots-back : (fs : List Frame) (slots : List Val) (n : ℕ) (h : Frame) (j :
     → ((n ≡ 0) × (slice_get slots j ≡ Some u)) ⊎ ((g : Frame) × (slice_get fs n ≡ Some g) × (slice_get g.slots j ≡ Some u))
 slots-back [] slots n h j u there e = none-some h there
 slots-back (f ∷ fs) slots zero h j u there e =
-    inl (refl, ap (λ (g : Frame). slice_get g.slots j) (some-is (record f { slots = slots }) h there) ∙ e)
+    inl (refl, ap (λ (g : Frame). slice_get g.slots j) (same_Some (record f { slots = slots }) h there) ∙ e)
 slots-back (f ∷ fs) slots (suc n) h j u there e = inr (h, there, e)
 
 -- the slots of the topmost frame are slots
@@ -152,7 +153,7 @@ module _ (held : ℕ → Truth) (owners : List Val) (f m : Machine) (stack : Lis
 
       gone_no : (s : Option Seen) → option_map (λ (q : Seen). gone) s ≡ Some o → ⊥
       gone_no None e = none-some o e
-      gone_no (Some q) e = no_region (ap (λ (q : Seen). q.label) (some-is gone o e) ∙ lies)
+      gone_no (Some q) e = no_region (ap (λ (q : Seen). q.label) (same_Some gone o e) ∙ lies)
 
   -- another stack
   pub part-stack : (left : List Val) → AllLead held left → Part held owners f m left

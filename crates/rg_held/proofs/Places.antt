@@ -1,37 +1,27 @@
--- Where a value leads, and that two places which lead into one closed region are the same.
-use Rattle.std.proofs.Common.{◌≡◌, ℕ, zero, suc, ◌==◌, ◌<◌, ◌≤◌, ◌⊎◌, inl, inr, true, false, true≢false, not, Bool as Truth, List}
+-- Where a value leads, and that two places which lead into one closed region are the same. For crates above too.
+use Rattle.std.proofs.Common.{[], ◌∷◌, ◌≡◌, ℕ, zero, suc, ◌==◌, ◌<◌, ◌≤◌, ◌⊎◌, inl, inr, true, false, true≢false, not, Bool as Truth, List}
 use Rattle.std.proofs.Common.{length, Option, Some, None, option_and_then, refl, sym, ap, ◌∙◌, arith, slice_get}
-use Rattle.std.specs.Prelude.{count_by, cond, nat_le, ◌||◌, ◌&&◌, if◌then◌else◌}
+use Rattle.std.proofs.lemmas.Option.{same_Some}
+use Rattle.std.specs.Prelude.{count_by, cond, nat_le, ◌||◌, if◌then◌else◌}
 use Rattle.rg_base.specs.declared.object.Label.{Label}
 use Rattle.rg_base.specs.declared.object.Label.TheVariants.{Region, Temp, Frozen}
 use Rattle.rg_base.specs.declared.object.Seen.{Seen}
 use Rattle.rg_base.specs.declared.value.Val.{Val}
 use Rattle.rg_base.specs.declared.value.Val.TheVariants as val
-use Rattle.rg_rules.specs.Regions.{region_of, region_at}
-use Rattle.rg_stack.specs.Machine.{Frame, Machine}
+use Rattle.rg_stack.specs.Machine.{Frame, Window, Machine}
+use Rattle.rg_stack.specs.Effects.{top_region}
 use Rattle.rg_stack.specs.Needs.{is_open, label_of, lies_in, is_into, closed_of, closed_into, is_closed, is_outside, slots_into, fields_into}
 use Rattle.rg_stack.specs.Needs.{places_into}
 use Rattle.rg_stack.specs.Needs.{all_below, owned_once}
-use Rattle.rg_held.specs.Part.{SlotInto, FieldInto}
-use Rattle.rg_held.proofs.Lists.{some-is, none-some, off, sum-one, sum-two, count-one, count-two}
+use Rattle.rg_stack.proofs.Basics.{none-some, and-left, and-right}
+use Rattle.rg_held.specs.Part.{SlotInto, FieldInto, SomeWindow}
+use Rattle.rg_held.proofs.Lists.{off, sum-one, sum-two, count-one, count-two}
 
 -- what holds of both parts
-
-pub and-left : (a b : Truth) → (a && b) ≡ true → a ≡ true
-and-left true b e = refl
-and-left false b e = e
-
-pub and-right : (a b : Truth) → (a && b) ≡ true → b ≡ true
-and-right true b e = e
-and-right false b e = off e
 
 pub or-split : (a b : Truth) → (a || b) ≡ true → (a ≡ true) ⊎ (b ≡ true)
 or-split true b e = inl refl
 or-split false b e = inr e
-
-pub or-left : (a b : Truth) → (a || b) ≡ false → a ≡ false
-or-left true b e = absurd (true≢false e)
-or-left false b e = refl
 
 pub or-right : (a b : Truth) → (a || b) ≡ false → b ≡ false
 or-right true b e = absurd (true≢false e)
@@ -46,6 +36,11 @@ same-number a b e = grind arith
 
 pub number-same : (a b : ℕ) → a ≡ b → (a == b) ≡ true
 number-same a b e = grind arith
+
+-- the region of the topmost window is open
+pub top-open : (ws : List Window) → SomeWindow ws → is_open ws (top_region ws) ≡ true
+top-open [] h = absurd h
+top-open (w ∷ ws) h = ap (λ b. b || is_open ws w.region) (number-same w.region w.region refl)
 
 pub other-number : (a b : ℕ) → (a ≡ b → ⊥) → (a == b) ≡ false
 other-number a b h = by (a == b) refl
@@ -78,7 +73,7 @@ label-back store (val.Obj a) l e = by (slice_get store a) refl e
   where
     by : (o : Option Seen) → slice_get store a ≡ o → option_and_then (λ (o : Seen). Some o.label) o ≡ Some l → RefTo store (val.Obj a) l
     by None h e = none-some l e
-    by (Some o) h e = record { address = a; object = o; is = refl; there = h; label = some-is o.label l e }
+    by (Some o) h e = record { address = a; object = o; is = refl; there = h; label = same_Some o.label l e }
 
 pub label-there : (store : List Seen) (a : ℕ) (o : Seen) → slice_get store a ≡ Some o → label_of store (val.Obj a) ≡ Some o.label
 label-there store a o e = ap (option_and_then (λ (o : Seen). Some o.label)) e
@@ -105,19 +100,6 @@ label-into store r v e =
 pub region-into : (store : List Seen) (r a : ℕ) (o : Seen) → slice_get store a ≡ Some o → o.label ≡ Region r → is_into store r (val.Obj a) ≡ true
 region-into store r a o e l = label-into store r (val.Obj a) (label-there store a o e ∙ ap Some l)
 
-pub at-label : (store : List Seen) (a r : ℕ) → region_at store a ≡ Some r → label_of store (val.Obj a) ≡ Some (Region r)
-at-label store a r e = by (slice_get store a) e
-  where
-    of : (l : Label) → region_of l ≡ Some r → l ≡ Region r
-    of (Region q) e = ap Region (some-is q r e)
-    of (Temp n) e = none-some r e
-    of Frozen e = none-some r e
-
-    by : (o : Option Seen) → option_and_then (λ (o : Seen). region_of o.label) o ≡ Some r → option_and_then (λ (o : Seen). Some o.label) o
-        ≡ Some (Region r)
-    by None e = none-some r e
-    by (Some o) e = ap Some (of o.label e)
-
 -- a value that leads into a closed region
 pub record ClosedRef (m : Machine) (v : Val) (r : ℕ) : Type 0 where
   pub into : is_into m.store r v ≡ true
@@ -128,7 +110,7 @@ closed-back m v r e = by (label_of m.store v) refl e
   where
     one : (q : ℕ) (b : Truth) → is_open m.windows q ≡ b → (if b then None else Some q) ≡ Some r → (q ≡ r) × (is_open m.windows q ≡ false)
     one q true h e = none-some r e
-    one q false h e = (some-is q r e, h)
+    one q false h e = (same_Some q r e, h)
 
     of : (l : Label) → label_of m.store v ≡ Some l → closed_of m.windows l ≡ Some r → ClosedRef m v r
     of (Region q) h e = let both = one q (is_open m.windows q) refl e in record {
@@ -190,7 +172,7 @@ field-counts m r p = let a = fields-one m r p in omega (arith, a)
 pub slot-slot : (m : Machine) (r : ℕ) → places_into m r ≤ 1 → (p q : SlotInto m r) → (p.frame ≡ q.frame) × (p.slot ≡ q.slot)
 slot-slot m r most p q = elim (sum-two (λ (f : Frame). count_by (is_into m.store r) f.slots) m.frames p.frame q.frame p.holder q.holder
     p.holder_there q.holder_there) [
-      | inl same ↦ (let h : p.holder ≡ q.holder = some-is p.holder q.holder (sym p.holder_there ∙ ap (slice_get m.frames) same ∙ q.holder_there) in
+      | inl same ↦ (let h : p.holder ≡ q.holder = same_Some p.holder q.holder (sym p.holder_there ∙ ap (slice_get m.frames) same ∙ q.holder_there) in
           let there : slice_get p.holder.slots q.slot ≡ Some q.value = ap (λ (f : Frame). slice_get f.slots q.slot) h ∙ q.value_there in
           elim (count-two (is_into m.store r) p.holder.slots p.slot q.slot p.value q.value p.value_there there p.into q.into) [
             | inl at ↦ (same, at)
@@ -208,7 +190,7 @@ slot-field m r most p q = let a = slots-one m r p in let b = fields-one m r q in
 pub field-field : (m : Machine) (r : ℕ) → places_into m r ≤ 1 → (p q : FieldInto m r) → (p.object ≡ q.object) × (p.field ≡ q.field)
 field-field m r most p q = elim (sum-two (λ (o : Seen). cond (is_outside m.windows r o.label) (count_by (is_into m.store r) o.fields) 0) m.store
     p.object q.object p.holder q.holder p.holder_there q.holder_there) [
-      | inl same ↦ (let h : p.holder ≡ q.holder = some-is p.holder q.holder (sym p.holder_there ∙ ap (slice_get m.store) same ∙ q.holder_there) in
+      | inl same ↦ (let h : p.holder ≡ q.holder = same_Some p.holder q.holder (sym p.holder_there ∙ ap (slice_get m.store) same ∙ q.holder_there) in
           let there : slice_get p.holder.fields q.field ≡ Some q.value = ap (λ (o : Seen). slice_get o.fields q.field) h ∙ q.value_there in
           elim (count-two (is_into m.store r) p.holder.fields p.field q.field p.value q.value p.value_there there p.into q.into) [
             | inl at ↦ (same, at)

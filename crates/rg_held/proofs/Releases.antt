@@ -1,6 +1,7 @@
 -- Instructions that free: what a slot, a frame or the stack gives up.
 use Rattle.std.proofs.Common.{◌≡◌, ℕ, zero, suc, ◌==◌, ◌≤◌, ◌⊎◌, inl, inr, true, false, Bool as Truth, List, [], ◌∷◌}
 use Rattle.std.proofs.Common.{length, filter_map, Option, Some, None, unwrap_or, drop, refl, sym, ap, subst, ◌∙◌, arith, slice_get}
+use Rattle.std.proofs.lemmas.Option.{same_Some}
 use Rattle.std.specs.Prelude.{◌||◌, nat_lt}
 use Rattle.std.specs.List.{list_any}
 use Rattle.rg_base.specs.declared.value.Val.{Val}
@@ -9,9 +10,10 @@ use Rattle.rg_sound.proofs.Stores.MemberLemmas.{In, filter-none, filter-some}
 use Rattle.rg_stack.specs.Machine.{Machine, top_slots, slot_at, put_slot, end_slots}
 use Rattle.rg_stack.specs.Effects.{beneath_by_labels}
 use Rattle.rg_stack.specs.Needs.{is_open, is_into, closed_into, loose, owned_once, places_into, size_of}
+use Rattle.rg_stack.proofs.Basics.{none-some}
 use Rattle.rg_held.specs.Frees.{closed_among, bury}
 use Rattle.rg_held.specs.Part.{leads_to, SlotInto, FieldInto, Placed, Tidy, Part}
-use Rattle.rg_held.proofs.Lists.{some-is, none-some, off, drop-back, any-at}
+use Rattle.rg_held.proofs.Lists.{off, drop-back, any-at}
 use Rattle.rg_held.proofs.Places.{or-split, same-number, ClosedRef, closed-back, closed-there, into-back, once}
 use Rattle.rg_held.proofs.Places.{slot-counts, field-counts, slot-slot, slot-field, field-field}
 use Rattle.rg_held.proofs.Parts.{field-frames, closed-same, top-slot}
@@ -26,7 +28,7 @@ pub given-in : {A : Type 0} (h : A → Option ℕ) (xs : List A) (i : ℕ) (x : 
 given-in h [] i x q e is = none-some x e
 given-in h (y ∷ ys) zero x q e is =
     let P : List ℕ → Type 0 = λ l. In q l in
-    subst P (sym (filter-some h y q ys (ap h (some-is y x e) ∙ is))) (inl refl)
+    subst P (sym (filter-some h y q ys (ap h (same_Some y x e) ∙ is))) (inl refl)
 given-in h (y ∷ ys) (suc i) x q e is = by (h y) refl (given-in h ys i x q e is)
   where
     P : List ℕ → Type 0
@@ -190,14 +192,14 @@ part-own held f m v s p less o l =
         same = slot-same held (v ∷ []) f m (v ∷ []) p s
 
         lead : (j : ℕ) (x : Val) → slice_get (slot_at f s ∷ []) j ≡ Some x → leads_to held x ≡ true
-        lead zero x e = ap (leads_to held) (sym (some-is (slot_at f s) x e) ∙ same) ∙ slot-leads held (v ∷ []) f m (v ∷ []) p s
+        lead zero x e = ap (leads_to held) (sym (same_Some (slot_at f s) x e) ∙ same) ∙ slot-leads held (v ∷ []) f m (v ∷ []) p s
         lead (suc j) x e = none-some x e
 
         one : ((j : ℕ) × ((x : Val) × (slice_get (slot_at f s ∷ []) j ≡ Some x) × ClosedRef m x q)) → ClosedRef m (slot_at m s) q
         one h = at h.0 h.1.0 h.1.1 h.1.2
           where
             at : (j : ℕ) (x : Val) → slice_get (slot_at f s ∷ []) j ≡ Some x → ClosedRef m x q → ClosedRef m (slot_at m s) q
-            at zero x e c = subst (λ x. ClosedRef m x q) (sym (some-is (slot_at f s) x e) ∙ same) c
+            at zero x e c = subst (λ x. ClosedRef m x q) (sym (same_Some (slot_at f s) x e) ∙ same) c
             at (suc j) x e c = none-some x e
 
 -- a slot of the topmost frame from one on, which leads into a closed region

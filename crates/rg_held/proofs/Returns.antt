@@ -1,6 +1,7 @@
 -- What a frame that ends and a dropped value give up, and the instructions that free beside those over the growing store.
 use Rattle.std.proofs.Common.{◌≡◌, ℕ, zero, suc, ◌⊎◌, inl, inr, true, false, Bool as Truth, List, [], ◌∷◌, ◌++◌}
 use Rattle.std.proofs.Common.{length, Some, None, drop, refl, sym, ap, subst, ◌∙◌, arith, slice_get}
+use Rattle.std.proofs.lemmas.Option.{same_Some}
 use Rattle.std.specs.Prelude.{◌||◌, ◌&&◌, nat_lt, if◌then◌else◌}
 use Rattle.std.specs.List.{list_any}
 use Rattle.rg_base.specs.declared.value.Val.{Val}
@@ -10,12 +11,13 @@ use Rattle.rg_code.specs.Code.{Code}
 use Rattle.rg_stack.specs.Machine.{Frame, Machine, top_slots, slot_at, put_slot, end_slots, slots_below}
 use Rattle.rg_stack.specs.Effects.{Work, Returns, Stuck, Go, act, stored, returned, begins_by, beneath_by_labels}
 use Rattle.rg_stack.specs.Needs.{is_open, is_into, loose, owned_once, owns_or_nil, places_into, size_of, may_keep, needs}
+use Rattle.rg_stack.proofs.Basics.{none-some, and-left, and-right}
 use Rattle.rg_held.specs.Frees.{closed_among, bury, free_act, freed, given_up}
 use Rattle.rg_held.specs.Part.{leads_to, SlotInto, Part}
 use Rattle.rg_held.specs.Ends.{Match, SameEnd}
 use Rattle.rg_held.specs.Laws.{owners_of, GoesOn}
-use Rattle.rg_held.proofs.Lists.{some-is, none-some, off, any-at, at-any, any-left, any-right, any-split}
-use Rattle.rg_held.proofs.Places.{and-left, and-right, or-split, ClosedRef}
+use Rattle.rg_held.proofs.Lists.{off, any-at, at-any, any-left, any-right, any-split}
+use Rattle.rg_held.proofs.Places.{or-split, ClosedRef}
 use Rattle.rg_held.proofs.Parts.{field-frames, part-stack, part-frames, lead-any}
 use Rattle.rg_held.proofs.Callers.ForgetLemmas.{part-remembers}
 use Rattle.rg_held.proofs.Burials.{left_held, part-bury}
@@ -73,7 +75,7 @@ module _ (held : ℕ → Truth) (f m : Machine) (stack : List Val) (x : Frame) (
       stay : (r : ℕ) (a : SlotInto m r) (n : ℕ) → slice_get (x ∷ rest) n ≡ Some a.holder
           → SlotInto (record m { frames = rest }) r ⊎ (list_any (is_into m.store r) (x.slots ++ stack) ≡ true)
       stay r a zero there = inr (any-left (is_into m.store r) x.slots stack (at-any (is_into m.store r) x.slots a.slot a.value
-          (ap (λ (h : Frame). slice_get h.slots a.slot) (some-is x a.holder there) ∙ a.value_there) a.into))
+          (ap (λ (h : Frame). slice_get h.slots a.slot) (same_Some x a.holder there) ∙ a.value_there) a.into))
       stay r a (suc n) there = inl (record {
         frame = n;
         slot = a.slot;
@@ -133,7 +135,7 @@ part-drop held f m v p l o =
     old q j = at (among-back held (v ∷ []) f m (v ∷ []) p (v ∷ []) q lead j)
       where
         one : (j : ℕ) (x : Val) → slice_get (v ∷ []) j ≡ Some x → ClosedRef m x q → ClosedRef m v q
-        one zero x e c = subst (λ x. ClosedRef m x q) (sym (some-is v x e)) c
+        one zero x e c = subst (λ x. ClosedRef m x q) (sym (same_Some v x e)) c
         one (suc j) x e c = none-some x e
 
         at : ((j : ℕ) × ((x : Val) × (slice_get (v ∷ []) j ≡ Some x) × ClosedRef m x q)) → ClosedRef m v q

@@ -1,14 +1,16 @@
 -- Slots that are written, end, or come and go with a frame.
 use Rattle.std.proofs.Common.{◌≡◌, ℕ, zero, suc, ◌-◌, ◌<◌, ◌≤◌, ◌⊎◌, inl, inr, true, false, Bool as Truth, List, [], ◌∷◌, ◌++◌, length}
 use Rattle.std.proofs.Common.{Option, Some, None, unwrap_or, take, drop, replicate, reverse, refl, sym, ap, ◌∙◌, arith, slice_get, slice_set}
+use Rattle.std.proofs.lemmas.Option.{same_Some}
 use Rattle.std.specs.Prelude.{nat_lt}
 use Rattle.std.specs.List.{list_any}
 use Rattle.rg_base.specs.declared.value.Val.{Val}
 use Rattle.rg_base.specs.declared.value.Val.TheVariants as val
 use Rattle.rg_stack.specs.Machine.{Frame, Machine, top_slots, with_slots, slot_at, put_slot, ended_slots, end_slots}
 use Rattle.rg_stack.specs.Needs.{is_open, is_into, size_of}
+use Rattle.rg_stack.proofs.Basics.{none-some}
 use Rattle.rg_held.specs.Part.{leads_to, AllLead, SlotInto, Placed, Part}
-use Rattle.rg_held.proofs.Lists.{some-is, none-some, off, set-back, set-other, set-new, set-old, ended-back, ended-front, drop-at, at-any, any-at}
+use Rattle.rg_held.proofs.Lists.{off, set-back, set-other, set-new, set-old, ended-back, ended-front, drop-at, at-any, any-at}
 use Rattle.rg_held.proofs.Lists.{reverse-back, reverse-in, append-back, append-left, replicate-back, take-whole}
 use Rattle.rg_held.proofs.Parts.{part-frames, slot-cases, slot-of-top, slots-back, top-slot, lead-any}
 
@@ -55,7 +57,7 @@ put-back m s v r p = by m.frames refl p.frame p.holder_there
         → (is_into m.store r v ≡ true) ⊎ ((p : SlotInto m r) × Other m r s p)
     by [] e n there = none-some p.holder there
     by (g ∷ gs) e zero there =
-        let same = some-is (record g { slots = slice_set g.slots s v }) p.holder there in
+        let same = same_Some (record g { slots = slice_set g.slots s v }) p.holder there in
         elim (set-other g.slots s p.slot v p.value (ap (λ (h : Frame). slice_get h.slots p.slot) same ∙ p.value_there)) [
           | inl new ↦ inl (ap (is_into m.store r) (sym new) ∙ p.into)
           | inr old ↦ inr (
@@ -92,7 +94,7 @@ end-back m s r p = by m.frames refl p.frame p.holder_there
         → (p : SlotInto m r) × ((j : ℕ) → s ≤ j → Other m r j p)
     by [] e n there = none-some p.holder there
     by (g ∷ gs) e zero there =
-        let same = some-is (record g { slots = ended_slots s g.slots }) p.holder there in
+        let same = same_Some (record g { slots = ended_slots s g.slots }) p.holder there in
         elim (ended-back g.slots s (length g.slots - s) p.slot val.Nil p.value
         (ap (λ (h : Frame). slice_get h.slots p.slot) same ∙ p.value_there)) [
           | inl nil ↦ nil-into m r p.value nil p.into
@@ -199,7 +201,7 @@ module _ (held : ℕ → Truth) (owners : List Val) (f m : Machine) (stack : Lis
 
       slots : (j : ℕ) (h : Frame) (s : ℕ) (v : Val) → slice_get (top ∷ m.frames) j ≡ Some h → slice_get h.slots s ≡ Some v → leads_to held v ≡ true
       slots zero h s v there at = elim (append-back (reverse (take n stack)) (replicate k val.Nil) s v
-          (ap (λ (h : Frame). slice_get h.slots s) (some-is top h there) ∙ at)) [
+          (ap (λ (h : Frame). slice_get h.slots s) (same_Some top h there) ∙ at)) [
             | inl front ↦
                 (let j = reverse-back (take n stack) front.0 v front.1 in
                 lead-any held stack j.0 v p.on_stack (ap (λ l. slice_get l j.0) (sym whole) ∙ j.1))

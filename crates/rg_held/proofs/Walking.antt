@@ -1,6 +1,7 @@
 -- A walk beside that over the growing store: no instruction is refused behind a change, so what is taken from its place stays on the stack.
 use Rattle.std.proofs.Common.{◌≡◌, ℕ, zero, suc, ◌+◌, ◌-◌, ◌⊎◌, inl, inr, true, false, not, Bool as Truth, List, [], ◌∷◌, Option, Some}
 use Rattle.std.proofs.Common.{None, refl, sym, ap, subst, ◌∙◌, arith, drop, slice_get}
+use Rattle.std.proofs.lemmas.Option.{same_Some}
 use Rattle.std.specs.Prelude.{◌||◌, if◌then◌else◌}
 use Rattle.rg_base.specs.declared.value.Val.{Val}
 use Rattle.rg_code.specs.declared.op.Op.{Op}
@@ -12,15 +13,16 @@ use Rattle.rg_stack.specs.Needs.{is_empty, needs}
 use Rattle.rg_stack.specs.Given.{given_walk}
 use Rattle.rg_stack.specs.Refusals.{Manner, Ends, Clears, Settles, Takes, Computes, Prepares, Calls, Chooses, Passes, manner, room_behind, calm_by}
 use Rattle.rg_stack.specs.Refusals.{calm, computes, all_compute, orderly_by, orderly}
+use Rattle.rg_stack.proofs.Basics.{none-some, and-left, and-right}
+use Rattle.rg_stack.proofs.Walks.GivenLemmas.{Less}
 use Rattle.rg_held.specs.Frees.{free_act, free_walk, free_given_walk}
 use Rattle.rg_held.specs.Ends.{Match, SameEnd}
 use Rattle.rg_held.specs.Laws.{owners_of, may_follow, taken_behind, goes_on, skipped, GoesTo, InOrder, WalksSame}
-use Rattle.rg_held.proofs.Lists.{some-is, none-some, off}
-use Rattle.rg_held.proofs.Places.{and-left, and-right}
+use Rattle.rg_held.proofs.Lists.{off}
 use Rattle.rg_held.proofs.Easy.{stop-same}
 use Rattle.rg_held.proofs.Acts.{act-same}
 use Rattle.rg_held.proofs.Callers.NeedLemmas.{needs-same}
-use Rattle.rg_held.proofs.Less.{Less, walk-less}
+use Rattle.rg_held.proofs.Less.{walk-less}
 use Rattle.rg_held.proofs.Tested.{Test, tested_walk, tested-given}
 
 stuck-same : (x : Walked) → SameEnd x Stuck
@@ -125,7 +127,7 @@ module _ (code : Code) (test : Test) (passes : PassesTest test code) where
   mark-same line [] at skip taken stack u w e m = none-some (i.Mark line) e
   mark-same line (o ∷ os) at (suc k) taken stack u w e m = mark-same line os (at + 1) k taken stack u w e m
   mark-same line (o ∷ os) at zero taken stack u w e m =
-      subst (λ o. SameEnd (tested_walk test code (o ∷ os) at 0 stack u) (given_walk code (o ∷ os) at 0 stack w)) (sym (some-is o (i.Mark line) e))
+      subst (λ o. SameEnd (tested_walk test code (o ∷ os) at 0 stack u) (given_walk code (o ∷ os) at 0 stack w)) (sym (same_Some o (i.Mark line) e))
       (by (is_empty stack) refl)
     where
       by : (b : Truth) → is_empty stack ≡ b

@@ -4,6 +4,7 @@ use Rattle.std.proofs.Common.{Option, Some, None, option_and_then, option_map, u
 use Rattle.std.specs.Prelude.{◌||◌, nat_lt}
 use Rattle.std.specs.List.{list_any}
 use Rattle.std.proofs.lemmas.List.{length-set}
+use Rattle.std.proofs.lemmas.Option.{same_Some}
 use Rattle.rg_base.specs.declared.object.Label.{Label}
 use Rattle.rg_base.specs.declared.object.Label.TheVariants.{Region}
 use Rattle.rg_base.specs.declared.object.Place.{Place}
@@ -16,7 +17,7 @@ use Rattle.rg_stack.specs.Effects.{with_value_in}
 use Rattle.rg_stack.specs.Needs.{is_open, label_of, lies_in, is_into, is_outside, field_of}
 use Rattle.rg_held.specs.Frees.{gone}
 use Rattle.rg_held.specs.Part.{leads_to, AllLead, Placed, Part, is_of, OwnerHeld, OwnersHeld, may_lead}
-use Rattle.rg_held.proofs.Lists.{some-is, set-back, set-old, set-same, set-apart}
+use Rattle.rg_held.proofs.Lists.{set-back, set-old, set-same, set-apart}
 use Rattle.rg_held.proofs.Places.{same-number, either, clash}
 use Rattle.rg_held.proofs.Parts.{lead-more}
 
@@ -90,7 +91,7 @@ module _ (held : ℕ → Truth) (owners : List Val) (f m : Machine) (stack : Lis
   }))
   write-stays r (inr l) = elim (set-old m.store a l.0.object n l.0.holder l.0.holder_there) [
     | inl same ↦
-        (let holder : o ≡ l.0.holder = some-is o l.0.holder (sym there ∙ ap (slice_get m.store) same ∙ l.0.holder_there) in
+        (let holder : o ≡ l.0.holder = same_Some o l.0.holder (sym there ∙ ap (slice_get m.store) same ∙ l.0.holder_there) in
         let at : slice_get o.fields l.0.field ≡ Some l.0.value = ap (λ (q : Seen). slice_get q.fields l.0.field) holder ∙ l.0.value_there in
         elim (set-old o.fields k l.0.field v l.0.value at) [
           | inl it ↦ inr (ap (λ (s : Option Val). is_into m.store r (unwrap_or s val.Nil)) (ap (slice_get o.fields) it ∙ at) ∙ l.0.into)
@@ -131,7 +132,7 @@ module _ (held : ℕ → Truth) (owners : List Val) (f m : Machine) (stack : Lis
           → (q : Seen) × (slice_get store b ≡ Some q) × (is_of ws q.label ≡ true)
       of b q at is = elim (set-old m.store a b n q at) [
         | inl same ↦
-            (let e : o ≡ q = some-is o q (sym there ∙ ap (slice_get m.store) same ∙ at) in
+            (let e : o ≡ q = same_Some o q (sym there ∙ ap (slice_get m.store) same ∙ at) in
             (n, ap (slice_get store) (sym same) ∙ set-same m.store a n o there, ap (λ (q : Seen). is_of ws q.label) e ∙ is))
         | inr stays ↦ (q, stays, is)
       ]

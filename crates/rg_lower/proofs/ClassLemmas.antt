@@ -1,14 +1,15 @@
 -- Classes and methods that are there, and those that aren't.
 use Rattle.std.proofs.Common.{◌≡◌, refl, ap, ◌∙◌, ℕ, zero, suc, ◌+◌, Bool, true, false, if◌then◌else◌, bytes_eq, List, [], ◌∷◌, length}
 use Rattle.std.proofs.Common.{filter_map, Option, None, Some, option_map, arith}
-use Rattle.rg_tree.specs.Tree.{Name, Method, Member, field, method, Class}
+use Rattle.rg_tree.specs.Tree.{Name, Method, method, Class}
 use Rattle.rg_rules.specs.Types.{class_number, class_named, method_member, methods_of, method_named, method_result}
 use Rattle.rg_names.specs.TreeAnswers.{class_place, first_place, methods_before, method_number as place_of_method}
 use Rattle.rg_tree.specs.Rows.Tables.{Tables, name_at}
 use Rattle.rg_tree.specs.Rows.RowTrees.{classes_of}
 use Rattle.rg_names.specs.declared.entry.Sig.{Sig}
 use Rattle.rg_names.specs.TreeAnswers.{MethodAnswer}
-use Rattle.rg_code.specs.Lowering.{method_place, methods_among, method_number, number_called}
+use Rattle.rg_code.specs.Lowering.{method_place, method_number, number_called}
+use Rattle.rg_code.proofs.MethodLemmas.{methods_among-is}
 use Rattle.rg_lower.specs.Inner.Emitted.{CalleeIs}
 
 none-of : {A B : Type 0} (o : Option A) (f : A → B) → option_map f o ≡ None → o ≡ None
@@ -31,11 +32,6 @@ class_number-none (c ∷ cs) x h = number_by (bytes_eq c.name x) c (class_named 
 -- a class that isn't there has the number of classes
 pub class_number-unnamed : (classes : List Class) (x : Name) → class_place classes x ≡ None → class_number classes x ≡ length classes
 class_number-unnamed classes x h = class_number-none classes x (none-of (class_named classes x) _ h)
-
-methods_among-is : (ms : List Member) → methods_among ms ≡ filter_map method_member ms
-methods_among-is [] = refl
-methods_among-is (field f ∷ ms) = methods_among-is ms
-methods_among-is (method m ∷ ms) = ap (λ (rest : List Method). m ∷ rest) (methods_among-is ms)
 
 place_by : (b : Bool) (rest : Option ℕ) (n k : ℕ) → (if b then Some 0 else option_map suc rest) ≡ Some k → ((j : ℕ) → rest ≡ Some j → n ≡ j)
     → (if b then 0 else suc n) ≡ k

@@ -2,7 +2,7 @@
 use Rattle.std.proofs.Common.{◌≡◌, refl, sym, ap, ◌∙◌, ◌+◌, List, [], ◌∷◌, ◌++◌, length, Some, append_assoc}
 use Rattle.rg_base.specs.declared.ty.Ty.{Ty}
 use Rattle.rg_tree.specs.Tree.{Name, Variable, Right, Class}
-use Rattle.rg_rules.specs.Paths.{all_but_last, last_field}
+use Rattle.rg_rules.proofs.PathLemmas.{all_but_last-append, last_field-append}
 use Rattle.rg_names.specs.declared.entry.FieldAt.{FieldAt}
 use Rattle.rg_code.specs.declared.op.Op.{Op}
 use Rattle.rg_code.specs.declared.op.Op.TheVariants as i
@@ -11,14 +11,6 @@ use Rattle.rg_code.specs.Lowering.{Scope, type_in, field_number, type_behind, ty
 use Rattle.rg_code.specs.Lowering.{pace_code, assign_code}
 use Rattle.rg_lower.specs.Inner.Emitted.{with_ops, HolderIs}
 use Rattle.rg_lower.proofs.Codes.{with_ops-then, emitted-then}
-
-all_but_last-append : (f : Name) (fs : List Name) (l : Name) → all_but_last f (fs ++ l ∷ []) ≡ f ∷ fs
-all_but_last-append f [] l = refl
-all_but_last-append f (g ∷ gs) l = ap (λ (rest : List Name). f ∷ rest) (all_but_last-append g gs l)
-
-last_field-append : (f : Name) (fs : List Name) (l : Name) → last_field f (fs ++ l ∷ []) ≡ l
-last_field-append f [] l = refl
-last_field-append f (g ∷ gs) l = last_field-append g gs l
 
 type_along-append : (classes : List Class) (t : Ty) (fs : List Name) (l : Name) →
     type_along classes t (fs ++ l ∷ []) ≡ type_behind classes (type_along classes t fs) l

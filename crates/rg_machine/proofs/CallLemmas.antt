@@ -5,7 +5,7 @@ use Rattle.std.proofs.Common.{length-append}
 use Rattle.std.specs.List.{list_any}
 use Rattle.std.proofs.Math.Seq.{take-append_seam}
 use Rattle.std.proofs.lemmas.List.{reverse-append, reverse-reverse, length-reverse, map-append, take-map, take-append-drop, length-drop, length-set}
-use Rattle.std.proofs.lemmas.List.{length-take-le}
+use Rattle.std.proofs.lemmas.List.{length-take-le, drop_all}
 use Rattle.std.proofs.lemmas.Option.{none-some, same_Some}
 use Rattle.rg_base.specs.declared.value.Val.{Val}
 use Rattle.rg_base.specs.declared.value.Word.{Word}
@@ -16,7 +16,7 @@ use Rattle.rg_regions.specs.Grove.{Grove}
 use Rattle.rg_regions.specs.Reach.{LiesIn}
 use Rattle.rg_frames.specs.declared.rows.Frame.{Frame as FrameRow}
 use Rattle.rg_frames.specs.declared.rows.Window.{Window as WindowRow}
-use Rattle.rg_base.proofs.Callers.Lists.{drop-get}
+use Rattle.rg_base.proofs.Callers.Lists.{drop-here}
 use Rattle.rg_code.specs.declared.op.Op.{Op}
 use Rattle.rg_code.specs.declared.op.Op.TheVariants as i
 use Rattle.rg_stack.specs.Machine.{Frame}
@@ -284,13 +284,10 @@ frames-cleared h [] v = refl
 frames-cleared h (i.Clear s ∷ os) v = frames-cleared h os (with_slot v s Nil) ∙ ap (cleared os) (slot-frames h v s Nil)
 frames-cleared h (o ∷ os) v = refl
 
-at-place : (ops : List Op) (at : ℕ) (op : Op) → slice_get ops at ≡ Some op → drop at ops ≡ op ∷ drop (at + 1) ops
-at-place ops at op e = let one : suc at ≡ at + 1 = omega arith in drop-get ops at op e ∙ ap (λ n. op ∷ drop n ops) one
-
 -- one clear, another instruction, and the end of the code
 pub cleared-one : (ops : List Op) (at : ℕ) (op : Op) (s : ℕ) (v : Stack) → slice_get ops at ≡ Some op → op ≡ i.Clear s
     → cleared_stack (drop at ops) v ≡ cleared_stack (drop (at + 1) ops) (with_slot v s Nil)
-cleared-one ops at op s v e is = ap (λ l. cleared_stack l v) (at-place ops at op e ∙ ap (λ o. o ∷ drop (at + 1) ops) is)
+cleared-one ops at op s v e is = ap (λ l. cleared_stack l v) (drop-here ops at op e ∙ ap (λ o. o ∷ drop (at + 1) ops) is)
 
 other-cleared : (op : Op) (os : List Op) (v : Stack) → ((s : ℕ) → op ≡ i.Clear s → ⊥) → cleared_stack (op ∷ os) v ≡ v
 other-cleared (i.Clear s) os v h = absurd (h s refl)
@@ -298,16 +295,10 @@ other-cleared op os v h = refl
 
 pub cleared-none : (ops : List Op) (at : ℕ) (op : Op) (v : Stack) → slice_get ops at ≡ Some op → ((s : ℕ) → op ≡ i.Clear s → ⊥)
     → cleared_stack (drop at ops) v ≡ v
-cleared-none ops at op v e h = ap (λ l. cleared_stack l v) (at-place ops at op e) ∙ other-cleared op (drop (at + 1) ops) v h
-
-none-left : (ops : List Op) (at : ℕ) → length ops ≤ at → drop at ops ≡ []
-none-left [] zero le = refl
-none-left [] (suc at) le = refl
-none-left (o ∷ os) zero le = absurd (omega (arith, le))
-none-left (o ∷ os) (suc at) le = none-left os at (omega (arith, le))
+cleared-none ops at op v e h = ap (λ l. cleared_stack l v) (drop-here ops at op e) ∙ other-cleared op (drop (at + 1) ops) v h
 
 pub cleared-past : (ops : List Op) (at : ℕ) (v : Stack) → length ops ≤ at → cleared_stack (drop at ops) v ≡ v
-cleared-past ops at v le = ap (λ l. cleared_stack l v) (none-left ops at le)
+cleared-past ops at v le = ap (λ l. cleared_stack l v) (drop_all at ops le)
 
 -- Machines
 

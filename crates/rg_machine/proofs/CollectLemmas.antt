@@ -7,13 +7,15 @@ use Rattle.rg_base.specs.declared.object.Label.{Label}
 use Rattle.rg_base.specs.declared.object.Label.TheVariants.{Region, Temp}
 use Rattle.rg_base.specs.declared.value.Word.{Word}
 use Rattle.rg_base.specs.declared.value.Word.TheVariants as word
+use Rattle.rg_base.proofs.Callers.Labels.{region-same, temp-region}
 use Rattle.rg_cells.specs.declared.cell.Body.{Body}
-use Rattle.rg_cells.specs.Table.{Heap, body_at, label_at, field_at, Serials, IsHeld}
+use Rattle.rg_cells.specs.Table.{body_at, label_at, field_at, Serials, IsHeld}
 use Rattle.rg_regions.specs.Collection.{Lost, roots_of}
 use Rattle.rg_regions.specs.Grove.{Grove, Parent, Above, direct, further}
 use Rattle.rg_regions.specs.Reach.{LiesIn, Roots, in_slots, in_temps, is_bridge}
 use Rattle.rg_regions.specs.Reach.{Stands as Root}
 use Rattle.rg_regions.specs.Table.{Record, record_at, HasNumber, InTable, IsBridge}
+use Rattle.rg_regions.proofs.Callers.Told.{labelled_held}
 use Rattle.rg_frames.specs.declared.rows.Window.{Window as WindowRow}
 use Rattle.rg_frames.specs.Stack.{Stack, IsTop}
 use Rattle.rg_stack.specs.Effects.{top_region}
@@ -24,9 +26,7 @@ use Rattle.rg_heap.specs.Ends.{top_temps}
 use Rattle.rg_heap.specs.Opened.{Opened, IsWindow, IsTempOf}
 use Rattle.rg_heap.specs.Parts.{Parts}
 use Rattle.rg_view.specs.View.{store_of, windows_of, machine_of}
-use Rattle.rg_view.proofs.Callers.AfterLemmas.{region-same, temp-region}
 use Rattle.rg_view.proofs.Callers.FrameLemmas.{there}
-use Rattle.rg_view.proofs.Callers.HeldLemmas.{labelled-held}
 use Rattle.rg_view.proofs.Callers.LeaveLemmas.{temp-top}
 use Rattle.rg_view.proofs.Callers.NeedLemmas.{keyed, field-counts, closed-not-above}
 use Rattle.rg_view.proofs.Callers.OnceLemmas.{outside-once}
@@ -36,6 +36,7 @@ use Rattle.rg_view.proofs.Callers.TableLemmas.{FewerNumbers, fewer-numbers}
 use Rattle.rg_view.proofs.Callers.WindowLemmas.{active-region}
 use Rattle.rg_machine.proofs.KeptLemmas.{bridged-as}
 use Rattle.rg_machine.proofs.ReleaseLemmas.{order, temp-window, most-one, slot-counts-one}
+use Rattle.rg_machine.proofs.GrowLemmas.{field-held}
 use Rattle.rg_machine.specs.Stands.{BeginsBehind, Stands}
 
 -- the topmost window with its region
@@ -66,14 +67,6 @@ active p v o =
       known = r.1;
       shown = active-region p.regions v w.0 w.1 ∙ number-is p.regions w.0.region n.0 n.1 ∙ sym r.2;
     }
-
--- a field is that of a held cell
-pub field-held : (h : Heap) (s k : ℕ) (w : Word) → field_at h s k ≡ Some w → IsHeld h s
-field-held h s k w e = by (body_at h s) refl
-  where
-    by : (o : Option Body) → body_at h s ≡ o → IsHeld h s
-    by None f = absurd (none-some w (sym (ap (option_and_then (λ (b : Body). slice_get b.fields k)) f) ∙ e))
-    by (Some b) f = body-held h s b f
 
 -- where the roots of the active region are looked for
 abbrev pub roots_in : (p : Parts) (v : Stack) → Active p v → Roots
@@ -188,7 +181,7 @@ module _ (old new : Parts) (v : Stack) (at : ℕ) (q : Serials old.cells.heap) (
   same-now s held = let b = held-body new.cells.heap s held in b.1 ∙ sym (was s b.0 b.1)
 
   pub label-was : (s : ℕ) (l : Label) → label_at new.cells.heap s ≡ Some l → label_at old.cells.heap s ≡ Some l
-  label-was s l e = sym (ap (option_map (λ (b : Body). b.label)) (same-now s (labelled-held new.cells.heap s l e))) ∙ e
+  label-was s l e = sym (ap (option_map (λ (b : Body). b.label)) (same-now s (labelled_held new.cells.heap s l e))) ∙ e
 
   pub field-was : (s k : ℕ) (w : Word) → field_at new.cells.heap s k ≡ Some w → field_at old.cells.heap s k ≡ Some w
   field-was s k w e =
@@ -205,7 +198,7 @@ module _ (old new : Parts) (v : Stack) (at : ℕ) (q : Serials old.cells.heap) (
   root-stays s lies out =
       stays-held s (c.cells s (λ l cell. out cell) (λ r goes l.
       not-active (subst Goes (region-same r a.rec.number (sym l ∙ lies)) goes)))
-      (labelled-held old.cells.heap s (Region a.rec.number) lies)
+      (labelled_held old.cells.heap s (Region a.rec.number) lies)
 
   pub temp-stays : (s n : ℕ) → label_at old.cells.heap s ≡ Some (Temp n) → body_at new.cells.heap s ≡ body_at old.cells.heap s
   temp-stays s n e =

@@ -13,6 +13,7 @@ use Rattle.rg_regions.specs.Grove.{Grove}
 use Rattle.rg_regions.specs.Reach.{LiesIn, Roots}
 use Rattle.rg_regions.specs.Reach.{Stands as Root}
 use Rattle.rg_regions.specs.Table.{Record, record_at}
+use Rattle.rg_regions.proofs.Callers.Told.{labelled_held}
 use Rattle.rg_frames.specs.Stack.{Stack, mark}
 use Rattle.rg_stack.specs.Needs.{owned_once}
 use Rattle.rg_heap.specs.declared.answers.Collected.{Collected}
@@ -20,7 +21,6 @@ use Rattle.rg_heap.specs.Collects.{Collects, CollectsBy}
 use Rattle.rg_heap.specs.Ends.{top_temps}
 use Rattle.rg_heap.specs.Parts.{OnTop, Parts}
 use Rattle.rg_view.specs.View.{machine_of}
-use Rattle.rg_view.proofs.Callers.HeldLemmas.{labelled-held}
 use Rattle.rg_view.proofs.Callers.LeaveLemmas.{top-temp}
 use Rattle.rg_view.proofs.Callers.ShownLemmas.{get-drop}
 use Rattle.rg_machine.specs.Collects.{Gathers}
@@ -35,7 +35,7 @@ module _ (p : Parts) (v : Stack) (g : Grove p.cells p.regions) (st : Stands p v)
   pub asks-temps : AllHeld p.cells.heap (top_temps v)
   asks-temps i s e =
       let a = active p v st.opened in
-      labelled-held p.cells.heap s (Temp a.window.number)
+      labelled_held p.cells.heap s (Temp a.window.number)
       (st.opened.temps (length v.windows - 1) s a.window a.is (top-temp p v g st.opened i s e))
 
 pub asks-leads : (p : Parts) (v : Stack) → Stands p v → TempsLeadToHeld p.cells.heap (top_temps v)

@@ -11,6 +11,7 @@ use Rattle.rg_base.specs.declared.object.Seen.{Seen}
 use Rattle.rg_base.specs.declared.value.Val.{Val}
 use Rattle.rg_base.specs.declared.value.Word.{Word}
 use Rattle.rg_base.specs.declared.value.Word.TheVariants as word
+use Rattle.rg_base.proofs.Callers.Labels.{slot-same}
 use Rattle.rg_rules.specs.Regions.{in_regions}
 use Rattle.rg_cells.specs.Table.{Serials}
 use Rattle.rg_regions.specs.Reach.{LiesIn}
@@ -46,9 +47,6 @@ pub record Asked (p : Parts) (w : Word) : Type 0 where
   pub once : owned_once (machine_in p) ≡ true
   pub free : loose (machine_in p) (val_in p w) ≡ true
   pub apart : Apart (core_of p) (val_in p w)
-
-slot-same : (a b : ℕ) → word.Slot a ≡ word.Slot b → a ≡ b
-slot-same a b e = cc
 
 filter-one : {A : Type 0} (f : A → Option ℕ) (x : A) (r : ℕ) → f x ≡ Some r → filter_map f (x ∷ []) ≡ r ∷ []
 filter-one f x r e = rw e refl

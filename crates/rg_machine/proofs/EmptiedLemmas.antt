@@ -18,11 +18,11 @@ use Rattle.rg_machine.specs.High.{NoneMade}
 use Rattle.rg_machine.specs.Stands.{Stands}
 use Rattle.rg_machine.proofs.DropLemmas.{closed-none, core-same, filter-none}
 use Rattle.rg_machine.proofs.EndingLemmas.{ending-step, frames-less, slot-less}
-use Rattle.rg_machine.proofs.FewerLemmas.{backs-slots}
 use Rattle.rg_machine.proofs.HighLemmas.{none-same, none-then}
 use Rattle.rg_machine.proofs.SlotEndLemmas.{Bounded, bounded, slot-nil}
 use Rattle.rg_machine.proofs.TakeLemmas.{backs-ending, ended-core, ending-ended, ending-live, ending-size, list-ended, live-within, next-core}
 use Rattle.rg_machine.proofs.TakeLemmas.{slot-shown}
+use Rattle.rg_machine.proofs.SlotLemmas.{backs-slots}
 
 -- One slot
 

@@ -10,13 +10,14 @@ use Rattle.std.proofs.lemmas.List.FromFn.{length-map-range_with_len}
 use Rattle.std.proofs.lemmas.List.Elements.{filter_map-append}
 use Rattle.std.proofs.lemmas.Option.{none-some, same_Some, slice_get-map}
 use Rattle.rg_base.specs.declared.object.Label.{Label}
-use Rattle.rg_base.specs.declared.object.Label.TheVariants.{Region, Temp, Frozen}
+use Rattle.rg_base.specs.declared.object.Label.TheVariants.{Region}
 use Rattle.rg_base.specs.declared.object.Seen.{Seen}
 use Rattle.rg_base.specs.declared.value.Val.{Val}
 use Rattle.rg_base.specs.declared.value.Val.TheVariants.{Nil}
 use Rattle.rg_rules.specs.Regions.{address, among, in_regions, region_of, region_at}
 use Rattle.rg_base.specs.declared.words.Manager.{Manager}
 use Rattle.rg_base.specs.declared.words.Manager.TheVariants.{Arena}
+use Rattle.rg_sound.proofs.LocalRootsLemmas.{label-region}
 use Rattle.rg_stack.specs.Machine.{Frame, Machine, Window, top_slots, with_slots, slot_at, ended_slots}
 use Rattle.rg_stack.specs.Effects.{beneath_by_labels}
 use Rattle.rg_stack.specs.Needs.{closed_into, closed_of, is_open, label_of}
@@ -32,6 +33,7 @@ use Rattle.rg_machine.specs.Core.{Core, with_machine}
 use Rattle.rg_machine.specs.Effects.{ending, without}
 use Rattle.rg_machine.proofs.FewerLemmas.{closed-back, closed-buried, store-without}
 use Rattle.rg_machine.proofs.SlotEndLemmas.{slot-nil}
+use Rattle.rg_machine.proofs.LeaveListLemmas.{spans-names}
 
 later : (t u : Truth) → u ≡ true → (t || u) ≡ true
 later true u e = refl
@@ -54,11 +56,6 @@ object-was regions p o e = by (in_regions regions o.label || is_temp None o.labe
     by : (t : Truth) → (if t then gone else o).label ≡ Region p → (if t then gone else o) ≡ o
     by true e = absurd (gone-region e)
     by false e = refl
-
-region-label : (l : Label) (r : ℕ) → region_of l ≡ Some r → l ≡ Region r
-region-label (Region q) r e = ap Region (same_Some q r e)
-region-label (Temp n) r e = absurd (none-some r e)
-region-label Frozen r e = absurd (none-some r e)
 
 module _ (store : List Seen) (regions : List ℕ) where
   -- an object behind the first step
@@ -85,7 +82,7 @@ module _ (store : List Seen) (regions : List ℕ) where
       by None f = absurd (none-some r (sym (ap (option_and_then (λ (o : Seen). region_of o.label)) f) ∙ e))
       by (Some o) f =
           let lies : region_of o.label ≡ Some r = sym (ap (option_and_then (λ (o : Seen). region_of o.label)) f) ∙ e in
-          ap (option_and_then (λ (o : Seen). region_of o.label)) (there-was a o r f (region-label o.label r lies)) ∙ lies
+          ap (option_and_then (λ (o : Seen). region_of o.label)) (there-was a o r f (label-region o.label r lies)) ∙ lies
 
   region-stays : (a r : ℕ) → region_at store a ≡ Some r → among regions r ≡ false → region_at (bury regions None store) a ≡ Some r
   region-stays a r e out = by (slice_get store a) refl
@@ -94,7 +91,7 @@ module _ (store : List Seen) (regions : List ℕ) where
       by None f = absurd (none-some r (sym (ap (option_and_then (λ (o : Seen). region_of o.label)) f) ∙ e))
       by (Some o) f =
           let lies : region_of o.label ≡ Some r = sym (ap (option_and_then (λ (o : Seen). region_of o.label)) f) ∙ e in
-          ap (option_and_then (λ (o : Seen). region_of o.label)) (there-stays a o r f (region-label o.label r lies) out) ∙ lies
+          ap (option_and_then (λ (o : Seen). region_of o.label)) (there-stays a o r f (label-region o.label r lies) out) ∙ lies
 
   link-was : (p r : ℕ) → Link (bury regions None store) p r → Link store p r
   link-was p r l = record {
@@ -119,14 +116,6 @@ module _ (store : List Seen) (regions : List ℕ) where
     value = l.value;
     leads = region-stays l.address r l.leads to;
   }
-
--- what spans names exactly what links reach
-spans-names : (store : List Seen) (tops regions : List ℕ) → Spans store tops regions → Names regions (Reached store tops)
-spans-names store tops regions s = record { all = λ r x. in-list x; only = s.only }
-  where
-    in-list : {r : ℕ} → Reached store tops r → among regions r ≡ true
-    in-list (first {r = r} i) = s.start r i
-    in-list (next {p = p} {r = r} x l) = s.along p r (in-list x) l
 
 module _ (store : List Seen) (n : ℕ) (bounded : (a r : ℕ) → region_at store a ≡ Some r → r < n) (early late asked : List ℕ) where
   -- what goes at first, and then

@@ -2,6 +2,7 @@
 use Rattle.std.proofs.Common.{◌≡◌, ◌<◌, ℕ, ◌-◌, ◌&&◌, not, nat_lt, Bool as Truth, true, List, [], ◌∷◌, ◌++◌, Option, Some, Ok, Err}
 use Rattle.std.proofs.Common.{length, slice_get, option_map, ◌==◌, refl, sym, ap, ◌∙◌, subst, arith}
 use Rattle.std.proofs.lemmas.Option.{same_Some}
+use Rattle.std.proofs.lemmas.Bool.{and_parts}
 use Rattle.rg_base.specs.declared.object.Label.{Label}
 use Rattle.rg_base.specs.declared.object.Label.TheVariants.{Region}
 use Rattle.rg_base.specs.declared.object.Place.TheVariants as place
@@ -37,7 +38,7 @@ use Rattle.rg_machine.specs.Core.{Has, work_of}
 use Rattle.rg_machine.specs.Frames.{can_open}
 use Rattle.rg_machine.specs.Parts.{core_of}
 use Rattle.rg_machine.specs.Stands.{AllLead, Stands}
-use Rattle.rg_machine.proofs.EnterLemmas.{ParentBeneath, Entered, and-both, entered-by, entered_stack, got-there, machine-entered, opens-both}
+use Rattle.rg_machine.proofs.EnterLemmas.{ParentBeneath, Entered, entered-by, entered_stack, got-there, machine-entered, opens-both}
 use Rattle.rg_machine.proofs.EnterLemmas.{opens-within}
 
 eq-true : (a b : ℕ) → (a == b) ≡ true → a ≡ b
@@ -75,11 +76,11 @@ module _ (p : Parts) (v : Stack) (at : ℕ) (h : Stands p v) (q : Serials p.cell
       let on : (is_empty (values_of p.cells.heap rest) && of_object m (val_of p.cells.heap (Slot holder)) test) ≡ true =
       sym (ap (λ vs. of_top vs (λ r rest. is_empty rest && of_object m r test)) shown) ∙ given in
       let all = sym (object-tested p v at holder b.0 test q b.1)
-      ∙ (and-both (is_empty (values_of p.cells.heap rest)) (of_object m (val_of p.cells.heap (Slot holder)) test) on).1 in
-      let front = (and-both (owned_once m && is_field m k o && owns_or_nil m (field_of o k)) (not (is_closed m (slot_at m z))) all).0 in
-      let own = and-both (owned_once m && is_field m k o) (owns_or_nil m (field_of o k)) front in
-      let field = and-both (owned_once m) (is_field m k o) own.0 in
-      let may = and-both (is_writable m o.label) (nat_lt k (length o.fields)) field.1 in
+      ∙ (and_parts (is_empty (values_of p.cells.heap rest)) (of_object m (val_of p.cells.heap (Slot holder)) test) on).1 in
+      let front = (and_parts (owned_once m && is_field m k o && owns_or_nil m (field_of o k)) (not (is_closed m (slot_at m z))) all).0 in
+      let own = and_parts (owned_once m && is_field m k o) (owns_or_nil m (field_of o k)) front in
+      let field = and_parts (owned_once m) (is_field m k o) own.0 in
+      let may = and_parts (is_writable m o.label) (nat_lt k (length o.fields)) field.1 in
       record {
         body = b.0;
         held = b.1;

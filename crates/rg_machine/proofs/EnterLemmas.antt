@@ -4,8 +4,8 @@ use Rattle.std.proofs.Common.{◌==◌, ◌&&◌, not, nat_lt, Ok, Err, if◌the
 use Rattle.std.proofs.Common.{reverse, slice_get, slice_set, slice_index_or, refl, sym, ap, ◌∙◌, subst, arith}
 use Rattle.std.proofs.Common.{length-append}
 use Rattle.std.specs.List.{list_any}
-use Rattle.std.proofs.lemmas.Bool.{false≢true}
-use Rattle.std.proofs.lemmas.List.{length-set, get_or_append_left, get_or_push}
+use Rattle.std.proofs.lemmas.Bool.{false≢true, and_parts}
+use Rattle.std.proofs.lemmas.List.{length-set, get_or_append_left, get_or_push, get_or_past}
 use Rattle.std.proofs.lemmas.Option.{none-some, same_Some, slice_get_within}
 use Rattle.rg_base.specs.declared.object.Place.{Place}
 use Rattle.rg_base.specs.declared.object.Label.TheVariants.{Region}
@@ -35,6 +35,8 @@ use Rattle.rg_base.specs.declared.object.Label.{Label}
 use Rattle.rg_base.specs.declared.object.Place.TheVariants as place
 use Rattle.rg_base.specs.declared.object.Seen.{Seen}
 use Rattle.rg_base.specs.declared.outcome.Trap.TheVariants as trap
+use Rattle.rg_base.proofs.Callers.Labels.{region-same}
+use Rattle.rg_tree.proofs.TreesFrom.{slice_get-push}
 use Rattle.rg_rules.specs.Evaluation.{object_at}
 use Rattle.rg_rules.specs.Regions.{region_of}
 use Rattle.rg_code.specs.Code.{empty}
@@ -45,6 +47,7 @@ use Rattle.rg_heap.proofs.Callers.Opens.{open_not_closed}
 use Rattle.rg_stack.specs.Needs.{is_empty, is_closed, owned_once, owns_or_nil}
 use Rattle.rg_stack.specs.Effects.{Go, Traps, begins_by, entered, frame_number, on_object}
 use Rattle.rg_held.specs.Frees.{free_act}
+use Rattle.rg_held.proofs.Lists.{set-back}
 use Rattle.rg_view.specs.View.{object_of, values_of}
 use Rattle.rg_view.proofs.Callers.ShownLemmas.{held-body}
 use Rattle.rg_view.proofs.Callers.ReadLemmas.{object-there}
@@ -73,23 +76,6 @@ got-there [] ys k x e = absurd (none-some x e)
 got-there (y ∷ xs) ys zero x e = e
 got-there (y ∷ xs) ys (suc k) x e = got-there xs ys k x e
 
-got-last : {A : Type 0} (xs : List A) (x : A) → slice_get (xs ++ x ∷ []) (length xs) ≡ Some x
-got-last [] x = refl
-got-last (y ∷ xs) x = got-last xs x
-
-set-back : {A : Type 0} (xs : List A) (i j : ℕ) (v u : A) → slice_get (slice_set xs i v) j ≡ Some u
-    → ((i ≡ j) × (u ≡ v)) ⊎ (slice_get xs j ≡ Some u)
-set-back [] i j v u e = inr e
-set-back (x ∷ xs) zero zero v u e = inl (refl, sym (same_Some v u e))
-set-back (x ∷ xs) zero (suc j) v u e = inr e
-set-back (x ∷ xs) (suc i) zero v u e = inr e
-set-back (x ∷ xs) (suc i) (suc j) v u e = elim (set-back xs i j v u e) [ inl h ↦ inl (ap suc h.0, h.1) | inr h ↦ inr h ]
-
-past-end : (xs : List ℕ) (i d : ℕ) → length xs ≤ i → slice_index_or xs i d ≡ d
-past-end [] i d le = refl
-past-end (x ∷ xs) zero d le = absurd (omega (arith, le))
-past-end (x ∷ xs) (suc i) d le = past-end xs i d (omega (arith, le))
-
 drop-past : (xs : List ℕ) (m : ℕ) → drop (length xs) (take m xs) ≡ []
 drop-past [] zero = refl
 drop-past [] (suc m) = refl
@@ -106,14 +92,11 @@ order (suc a) (suc c) = elim (order a c) [ inl lt ↦ inl (omega (arith, lt)) | 
 end-old : (marks : List ℕ) (n i : ℕ) → i < length marks → slice_index_or (marks ++ n ∷ []) (i + 1) n ≡ slice_index_or marks (i + 1) n
 end-old marks n i lt = elim (order (i + 1) (length marks)) [
   | inl less ↦ get_or_append_left marks (n ∷ []) n (i + 1) less
-  | inr le ↦ get_or_push marks n n (i + 1) (omega (arith, lt, le)) ∙ sym (past-end marks (i + 1) n le)
+  | inr le ↦ get_or_push marks n n (i + 1) (omega (arith, lt, le)) ∙ sym (get_or_past marks (i + 1) n le)
 ]
 
 pub slot-same : (a b : ℕ) → Slot a ≡ Slot b → a ≡ b
 slot-same a b e = cc
-
-region-same : (a b : ℕ) → Some (Region a) ≡ Some (Region b) → a ≡ b
-region-same a b e = cc
 
 lies-held : (heap : Heap) (r s : ℕ) → LiesIn heap r s → IsHeld heap s
 lies-held heap r s l = by (body_at heap s) refl
@@ -147,7 +130,7 @@ module _ (p : Parts) (v : Stack) (key : ℕ) (owner : Place) (z r b : ℕ) (h : 
   window-stays i w e = got-there v.windows (row ∷ []) i w e
 
   window-new : IsWindow next (length v.windows) row
-  window-new = got-last v.windows row
+  window-new = slice_get-push v.windows row
 
   -- no window had the region
   not-key : (i : ℕ) (w : WindowRow) → IsWindow v i w → w.region ≡ key → ⊥
@@ -353,10 +336,6 @@ module _ (p : Parts) (v : Stack) (key : ℕ) (owner : Place) (z r b : ℕ) (h : 
 
 -- What an instruction is given
 
-pub and-both : (a b : Truth) → (a && b) ≡ true → (a ≡ true) × (b ≡ true)
-and-both true b e = (refl, e)
-and-both false b e = absurd (false≢true e)
-
 pub opens-both : (a b : Truth) (go : Walked) → (if a then b else false) ≡ true → (if a then (if b then go else Stuck) else Stuck) ≡ go
 opens-both true true go e = refl
 opens-both true false go e = absurd (false≢true e)
@@ -458,10 +437,10 @@ module _ (p : Parts) (v : Stack) (at : ℕ) (h : Stands p v) where
       let m = machine_of p v at in
       let stands = slot-stands (v.first + s) b is in
       let shown = slot-word s ∙ ap (val_of p.cells.heap) is in
-      let all = and-both (is_empty (values_of p.cells.heap words) && owned_once m && owns_or_nil m (slot_at m s))
+      let all = and_parts (is_empty (values_of p.cells.heap words) && owned_once m && owns_or_nil m (slot_at m s))
       (not (is_closed m (slot_at m z))) given in
-      let front = and-both (is_empty (values_of p.cells.heap words) && owned_once m) (owns_or_nil m (slot_at m s)) all.0 in
-      let once = (and-both (is_empty (values_of p.cells.heap words)) (owned_once m) front.0).1 in
+      let front = and_parts (is_empty (values_of p.cells.heap words) && owned_once m) (owns_or_nil m (slot_at m s)) all.0 in
+      let once = (and_parts (is_empty (values_of p.cells.heap words)) (owned_once m) front.0).1 in
       let own : owns_or_nil m (val_of p.cells.heap (Slot b)) ≡ true = sym (ap (owns_or_nil m) shown) ∙ front.1 in
       let leads = slot-leads (v.first + s) (Slot b) g stands in
       let held = leads.held b refl in

@@ -4,7 +4,7 @@ use Rattle.std.proofs.Common.{◌++◌, map, length, take, replicate, Option, So
 use Rattle.std.proofs.Common.{slice_index_or, unwrap_or}
 use Rattle.std.proofs.Common.{if◌then◌else◌, nat_le, refl, sym, ap, ◌∙◌, arith}
 use Rattle.std.specs.List.{sum_by, count_by}
-use Rattle.std.proofs.lemmas.Bool.{false≢true}
+use Rattle.std.proofs.lemmas.Bool.{false≢true, and_parts}
 use Rattle.std.proofs.lemmas.List.FromFn.{length-map-range_with_len}
 use Rattle.std.proofs.lemmas.List.Sums.{sum_by-cons, sum_by-append, sum_by-take-le}
 use Rattle.std.proofs.lemmas.Option.{none-some, same_Some, slice_get-map}
@@ -19,11 +19,11 @@ use Rattle.rg_stack.specs.Machine.{Frame, Window, Machine, top_slots, with_slots
 use Rattle.rg_stack.specs.Effects.{beneath_by_labels}
 use Rattle.rg_stack.specs.Needs.{is_open, label_of, lies_in, is_into, closed_of, closed_into, is_outside, slots_into, fields_into, places_into}
 use Rattle.rg_stack.specs.Needs.{all_below, owned_once, loose}
+use Rattle.rg_stack.proofs.Walks.NeedLemmas.{closed-counts}
 use Rattle.rg_held.specs.Frees.{gone, is_temp, buried, bury, closed_among, lives}
-use Rattle.rg_view.proofs.Callers.NeedLemmas.{all_below-at}
+use Rattle.rg_held.proofs.Places.{once as once-most}
 use Rattle.rg_machine.specs.Core.{Core}
 use Rattle.rg_machine.specs.Effects.{AllLoose, without}
-use Rattle.rg_machine.specs.Keeps.{backs}
 use Rattle.rg_machine.proofs.ReleaseLemmas.{none-loose}
 
 -- Counts
@@ -100,14 +100,10 @@ pub record Fewer (m n : Machine) : Type 0 where
   pub places : (r : ℕ) → places_into n r ≤ places_into m r
   pub closed : (v : Val) (r : ℕ) → closed_into n v ≡ Some r → closed_into m v ≡ Some r
 
-both : (a b : Truth) → (a && b) ≡ true → (a ≡ true) × (b ≡ true)
-both true b e = (refl, e)
-both false b e = absurd (false≢true e)
-
 below-more : (n : ℕ) (p q : ℕ → Truth) → ((r : ℕ) → p r ≡ true → q r ≡ true) → all_below n p ≡ true → all_below n q ≡ true
 below-more zero p q h e = refl
 below-more (suc n) p q h e =
-    let x = both (p n) (all_below n p) e in
+    let x = and_parts (p n) (all_below n p) e in
     ap (λ b. b && all_below n q) (h n x.0) ∙ below-more n p q h x.1
 
 le-one : (a b : ℕ) → nat_le a 1 ≡ true → b ≤ a → nat_le b 1 ≡ true
@@ -146,16 +142,6 @@ fewer-loose m n v f free = loose-none n v (λ r e.
 pub fewer-all : (c d : Core) → Fewer c.machine d.machine → d.stack ≡ c.stack → AllLoose c → AllLoose d
 fewer-all c d f same all k v e =
     fewer-loose c.machine d.machine v f (all k v (ap (λ vs. slice_get vs k) (sym same) ∙ e))
-
--- where at most one place leads into each closed region
-pub once-most : (m : Machine) (r : ℕ) → owned_once m ≡ true → r < length m.managers → is_open m.windows r ≡ false → places_into m r ≤ 1
-once-most m r once lt closed =
-    let test = all_below-at (length m.managers) (λ r. is_open m.windows r || nat_le (places_into m r) 1) r once lt in
-    let most : nat_le (places_into m r) 1 ≡ true = sym (ap (λ b. b || nat_le (places_into m r) 1) closed) ∙ test in
-    most-le (places_into m r) most
-  where
-    most-le : (a : ℕ) → nat_le a 1 ≡ true → a ≤ 1
-    most-le a e = grind (arith, e)
 
 -- A slot is nil
 
@@ -203,14 +189,6 @@ closed-back ws store v r e = by (label_of store v) refl
     by None f = absurd (none-some r (sym (ap (option_and_then (closed_of ws)) f) ∙ e))
     by (Some l) f =
         let x = label l (sym (ap (option_and_then (closed_of ws)) f) ∙ e) in (f ∙ x.0, x.1)
-
-eq-self : (r : ℕ) → (r == r) ≡ true
-eq-self r = grind arith
-
--- it is counted
-pub closed-counts : (m : Machine) (v : Val) (r : ℕ) → closed_into m v ≡ Some r → is_into m.store r v ≡ true
-closed-counts m v r e =
-    ap (λ (o : Option Label). elim o [ None ↦ false | Some l ↦ lies_in r l ]) (closed-back m.windows m.store v r e).0 ∙ eq-self r
 
 -- no other place leads into the region of a slot that is owned once
 pub places-owned : (m : Machine) (s r : ℕ) → owned_once m ≡ true → r < length m.managers → closed_into m (slot_at m s) ≡ Some r
@@ -350,7 +328,3 @@ fewer-without c vs =
     }
 
 -- Frames go back where they did
-
-pub backs-slots : (vs : List Val) (fs : List Frame) → backs (with_slots vs fs) ≡ backs fs
-backs-slots vs [] = refl
-backs-slots vs (f ∷ fs) = refl

@@ -20,7 +20,7 @@ use Rattle.rg_code.specs.declared.op.Op.TheVariants as i
 use Rattle.rg_rules.specs.Evaluation.{object_at}
 use Rattle.rg_stack.specs.Effects.{put_in, top_window}
 use Rattle.rg_stack.specs.Needs.{field_of, is_closed, is_field, is_open, is_writable, may_stand}
-use Rattle.rg_stack.proofs.Callers.OrderLemmas.{and_first, and_second}
+use Rattle.rg_stack.proofs.Basics.{and-left, and-right}
 use Rattle.rg_heap.specs.Parts.{Parts}
 use Rattle.rg_heap.specs.Answers.{IsClosed}
 use Rattle.rg_heap.specs.Opened.{IsWindow, IsTempOf}
@@ -206,13 +206,13 @@ puts-by x slot k r w q is l given =
       | Ok o ↦ is_field m k o && not (is_closed m (field_of o k)) && may_stand m o.label (val_in x w)
       | Err t ↦ false
     ]) object) ∙ given in
-    let field = and_first _ _ (and_first _ _ all) in
+    let field = and-left _ _ (and-left _ _ all) in
     record {
       body = b.0;
       there = b.1;
-      writable = and_first _ _ field;
-      within = and_second _ _ field;
-      stand = and_second _ _ all;
+      writable = and-left _ _ field;
+      within = and-right _ _ field;
+      stand = and-right _ _ all;
     }
 
 pub puts : (x y : Whole) → x ≡ y → (slot k : ℕ) (r w : Word) → Serials x.heap.cells.heap → r ≡ word.Slot slot → Leads y.heap y.frames r

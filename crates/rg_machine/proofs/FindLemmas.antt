@@ -1,8 +1,8 @@
 -- What is found of an object by its serial.
-use Rattle.std.proofs.Common.{◌≡◌, ◌<◌, ℕ, zero, suc, List, [], ◌∷◌, length, map, Option, Some, None, IfOk, Result, Ok, Err, slice_get, sym, ap}
+use Rattle.std.proofs.Common.{◌≡◌, ◌<◌, ℕ, List, map, Option, Some, None, IfOk, Result, Ok, Err, slice_get, sym, ap}
 use Rattle.std.proofs.Common.{subst, ◌∙◌}
 use Rattle.std.proofs.Common.{arith}
-use Rattle.std.proofs.lemmas.Option.{none-some, same_Some}
+use Rattle.std.proofs.lemmas.Option.{same_Some, slice_get_within}
 use Rattle.rg_base.specs.declared.object.Label.{Label}
 use Rattle.rg_base.specs.declared.object.Seen.{Seen}
 use Rattle.rg_base.specs.declared.value.Val.{Val}
@@ -14,11 +14,6 @@ use Rattle.rg_held.specs.Shown.{Finds}
 use Rattle.rg_view.specs.View.{store_of}
 use Rattle.rg_view.proofs.Callers.LookLemmas.{store-gone, store-held, store-length}
 
-some-below : {A : Type 0} → (xs : List A) (k : ℕ) (x : A) → slice_get xs k ≡ Some x → k < length xs
-some-below [] k x e = absurd (none-some x e)
-some-below (y ∷ xs) zero x e = omega arith
-some-below (y ∷ xs) (suc k) x e = let less = some-below xs k x e in omega (arith, less)
-
 -- the parts of an object
 object-by : (o : Seen) (class : ℕ) (fields : List Val) (label : Label) → o.class ≡ class → o.fields ≡ fields → o.label ≡ label
     → o ≡ record { class = class; fields = fields; label = label }
@@ -28,7 +23,7 @@ object-by o class fields label a b c =
 
 finds-by : (h : Heap) (serial : ℕ) (o : Option Seen) → Serials h → Shows h serial o → Finds (store_of h) serial o
 finds-by h serial None q lacks = λ o e. (
-    let less = some-below (store_of h) serial o e in
+    let less = slice_get_within (store_of h) serial o e in
     let made = store-length h in
     let below : serial < h.next = omega (arith, less, made) in
     sym (same_Some gone o (sym (store-gone h serial below lacks) ∙ e)))

@@ -1,5 +1,5 @@
 -- What a freeze and a merge are given of the slot that owns the region, and what they move.
-use Rattle.std.proofs.Common.{◌≡◌, ◌≢◌, ◌⊎◌, inl, inr, ℕ, ◌+◌, ◌-◌, ◌&&◌, Bool as Truth, true, false, List, [], ◌∷◌, ◌++◌, reverse, length}
+use Rattle.std.proofs.Common.{◌≡◌, ◌≢◌, ◌⊎◌, inl, inr, ℕ, ◌+◌, ◌-◌, Bool as Truth, true, false, List, [], ◌∷◌, ◌++◌, reverse, length}
 use Rattle.std.proofs.Common.{Option, Some, None, Err, option_map, slice_get, unwrap_or, drop, refl, sym, ap, ◌∙◌, subst}
 use Rattle.std.specs.List.{list_any}
 use Rattle.std.proofs.lemmas.Bool.{cases_eq, false≢true}
@@ -41,11 +41,6 @@ use Rattle.rg_view.proofs.Callers.CallLemmas.{can-merge, can-move, slot-ownerles
 use Rattle.rg_machine.specs.Stands.{BeginsBehind, Leads, Stands}
 use Rattle.rg_machine.proofs.SoleLemmas.{eq-is, sole-slot, sole-temp}
 use Rattle.rg_machine.proofs.MoveLemmas.{Moves, field-same, label-back, number-record, record-number}
-
--- the parts of a conjunction
-pub both : (a b : Truth) → (a && b) ≡ true → (a ≡ true) × (b ≡ true)
-both true b e = (refl, e)
-both false b e = absurd (false≢true e)
 
 region-frozen : (r : ℕ) → Region r ≡ Frozen → ⊥
 region-frozen r e = cc

@@ -15,6 +15,7 @@ use Rattle.rg_base.specs.declared.value.Val.{Val}
 use Rattle.rg_base.specs.declared.value.Val.TheVariants as val
 use Rattle.rg_base.specs.declared.value.Word.{Word}
 use Rattle.rg_base.specs.declared.value.Word.TheVariants as word
+use Rattle.rg_base.proofs.Callers.Labels.{region-same, frozen-region}
 use Rattle.rg_cells.specs.declared.cell.Body.{Body}
 use Rattle.rg_cells.specs.Table.{Heap, body_in, body_at, label_at, field_at, Serials, IsHeld, LacksSerial}
 use Rattle.rg_regions.specs.Collection.{Lost}
@@ -22,6 +23,7 @@ use Rattle.rg_regions.specs.Grove.{Grove, Parent, Above, direct, further}
 use Rattle.rg_regions.specs.Reach.{LiesIn}
 use Rattle.rg_regions.specs.Reach.{Stands as Root}
 use Rattle.rg_regions.specs.Table.{Record, RegionTable, record_at, IsBridge}
+use Rattle.rg_regions.proofs.Callers.Told.{labelled_held}
 use Rattle.rg_frames.specs.declared.rows.Frame.{Frame as FrameRow}
 use Rattle.rg_frames.specs.Stack.{Stack}
 use Rattle.rg_stack.specs.Machine.{Frame, Machine}
@@ -32,10 +34,9 @@ use Rattle.rg_heap.specs.Collects.{Collects, LostBelow}
 use Rattle.rg_heap.specs.Parts.{Parts}
 use Rattle.rg_view.specs.View.{body_with, has_serial, machine_of, manager_with, managers_of, number_in, number_of, object_of}
 use Rattle.rg_view.specs.View.{store_of}
-use Rattle.rg_view.proofs.Callers.AfterLemmas.{region-same}
 use Rattle.rg_view.proofs.Callers.ForgetLemmas.{windows-before}
 use Rattle.rg_view.proofs.Callers.FrameLemmas.{frames_from}
-use Rattle.rg_view.proofs.Callers.HeldLemmas.{all-lead, labelled-held}
+use Rattle.rg_view.proofs.Callers.HeldLemmas.{all-lead}
 use Rattle.rg_view.proofs.Callers.LinkLemmas.{region-back, region-there, store-back, val-back, word-back}
 use Rattle.rg_view.proofs.Callers.LookLemmas.{store-at, store-gone, store-held, store-length, val-held}
 use Rattle.rg_view.proofs.Callers.ManagerLemmas.{look-number, manager-of, managers-length}
@@ -178,9 +179,6 @@ nil-keeps kept m a e lies = absurd cc
 unwrap-keeps : (kept : ℕ → Truth) (m : Machine) (o : Option Val) → ((x : Val) → o ≡ Some x → KeepsOf kept m x) → KeepsOf kept m (unwrap_or o val.Nil)
 unwrap-keeps kept m None h = nil-keeps kept m
 unwrap-keeps kept m (Some x) h = h x refl
-
-frozen-region : (r : ℕ) → Some Frozen ≡ Some (Region r) → ⊥
-frozen-region r e = cc
 
 -- Managers
 
@@ -402,8 +400,8 @@ module _ (old new : Parts) (v : Stack) (at : ℕ) (q : Serials old.cells.heap) (
 
   link-out : (p n : ℕ) (x : Parent h p n) → LinkAs p n x.from
   link-out p n x =
-      let b = held-body h x.from (labelled-held h x.from (Region p) x.lies) in
-      let d = held-body h x.to (labelled-held h x.to (Region n) x.child_has) in
+      let b = held-body h x.from (labelled_held h x.from (Region p) x.lies) in
+      let d = held-body h x.to (labelled_held h x.to (Region n) x.child_has) in
       record {
         link = record {
           object = b.0.serial;

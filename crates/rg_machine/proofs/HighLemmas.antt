@@ -1,4 +1,4 @@
--- What calls of the heap leave of the number of objects made, and of slots ever held.
+-- What calls of the heap leave of the number of objects made, and of slots ever held. For crates above too.
 use Rattle.std.proofs.Common.{◌≡◌, ℕ, ◌-◌, zero, suc, ◌+◌, List, [], ◌∷◌, length, Option, Some, None, get_or, set, count_by, is_some, cond}
 use Rattle.std.proofs.Common.{refl, sym, ap, ◌∙◌}
 use Rattle.std.proofs.lemmas.List.Sums.{sum_by-cons}

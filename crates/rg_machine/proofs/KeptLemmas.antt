@@ -4,10 +4,10 @@ use Rattle.std.proofs.lemmas.Bool.{cases_eq}
 use Rattle.std.proofs.lemmas.Option.{none-some, same_Some}
 use Rattle.rg_base.specs.declared.words.Manager.{Manager}
 use Rattle.rg_regions.specs.Table.{Record, RegionTable, record_at, HasNumber, IsBridge, IsKey, with_room}
+use Rattle.rg_regions.proofs.Callers.Told.{record_of_key}
 use Rattle.rg_heap.specs.Changes.{Opens, Rewritten, SameRecords}
 use Rattle.rg_view.specs.Numbers.{Bridged, HasBridges, Numbers}
 use Rattle.rg_view.proofs.Callers.ManagerLemmas.{SameNumbers, opens-numbers}
-use Rattle.rg_view.proofs.Callers.TableLemmas.{record-there}
 
 -- The regions
 
@@ -65,7 +65,7 @@ rewritten-kept old new key f w known number bridge q b = kin-kept old new kin q 
   where
     kin : Kin old new
     kin =
-        let r = record-there old key known in
+        let r = record_of_key old key known in
         let now = w.is r.0 r.1 in
         record {
           next = w.next;

@@ -3,7 +3,7 @@ use Rattle.std.proofs.Common.{◌≡◌, ◌≢◌, ◌<◌, ◌==◌, ◌&&◌,
 use Rattle.std.proofs.Common.{List, [], ◌∷◌, length, map, take, drop, reverse, Option, Some, None, option_map, option_and_then, slice_get}
 use Rattle.std.proofs.Common.{refl, sym, ap, ◌∙◌, subst, arith}
 use Rattle.std.specs.List.{list_any}
-use Rattle.std.proofs.lemmas.Bool.{false≢true}
+use Rattle.std.proofs.lemmas.Bool.{false≢true, and_parts}
 use Rattle.std.proofs.lemmas.List.{length-take-le}
 use Rattle.std.proofs.lemmas.Option.{none-some, same_Some, slice_get-map}
 use Rattle.rg_base.specs.declared.object.Label.{Label}
@@ -80,10 +80,6 @@ any-slot heap test slots first j (f ∷ fs) w n e is = elim (order j first) [
     sooner true u e = refl
     sooner false u e = absurd (false≢true e)
 
-and-both : (a b : Truth) → (a && b) ≡ true → (a ≡ true) × (b ≡ true)
-and-both true b e = (refl, e)
-and-both false b e = absurd (false≢true e)
-
 not-true : (b : Truth) → not b ≡ true → b ≡ true → ⊥
 not-true true n e = false≢true n
 not-true false n e = false≢true e
@@ -122,7 +118,7 @@ module _ (p : Parts) (v : Stack) (at : ℕ) (q : Serials p.cells.heap) (g : Grov
 
   parts : (not (list_any (λ (f : Frame). list_any (is_to_temp m) f.slots) m.frames) ≡ true)
       × (not (list_any (λ (o : Seen). outlives m o.label && list_any (is_to_temp m) o.fields) m.store) ≡ true)
-  parts = and-both _ _ may
+  parts = and_parts _ _ may
 
   pub slots-free : (j x : ℕ) → slice_get v.slots j ≡ Some (Slot x) → IsTopTemp v x → ⊥
   slots-free j x e t =

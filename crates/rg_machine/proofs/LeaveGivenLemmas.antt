@@ -1,6 +1,7 @@
 -- What leaving a window is given, and its effect where one window is alone.
 use Rattle.std.proofs.Common.{◌≡◌, ◌≢◌, ◌<◌, ◌≤◌, ◌-◌, ◌^◌, ◌&&◌, ℕ, true, List, [], ◌∷◌, drop, length, map, None, Some, refl, sym, ap, ◌∙◌, subst}
 use Rattle.std.proofs.Common.{arith, nat_le}
+use Rattle.std.proofs.lemmas.Bool.{and_parts}
 use Rattle.rg_base.specs.declared.value.Word.{Word}
 use Rattle.rg_code.specs.Code.{empty}
 use Rattle.rg_code.specs.declared.op.Op.TheVariants as i
@@ -12,6 +13,7 @@ use Rattle.rg_heap.specs.Parts.{Parts as HeapParts}
 use Rattle.rg_stack.specs.Machine.{Window, end_slots, place_of, top_slots}
 use Rattle.rg_stack.specs.Effects.{Go, without_top}
 use Rattle.rg_stack.specs.Needs.{is_empty, owned_once, owner_leads, temps_may_go, top_base}
+use Rattle.rg_stack.proofs.Needs.ListLemmas.{empty-is}
 use Rattle.rg_held.specs.Frees.{free_act, freed, left_with, window_that_ends}
 use Rattle.rg_view.specs.View.{frame_of, frames_of, machine_of}
 use Rattle.rg_view.proofs.Callers.TempLemmas.{top-row}
@@ -20,24 +22,23 @@ use Rattle.rg_machine.specs.Effects.{ending, without}
 use Rattle.rg_machine.specs.Keeps.{backs}
 use Rattle.rg_machine.specs.Parts.{Parts, core_of, machine_in}
 use Rattle.rg_machine.specs.Stands.{Stands, AllLead}
-use Rattle.rg_machine.proofs.EnterLemmas.{and-both}
 use Rattle.rg_machine.proofs.FewerLemmas.{fewer-ended, fewer-once, fewer-without}
 use Rattle.rg_machine.proofs.LeaveBehindLemmas.{number}
 use Rattle.rg_machine.proofs.LeaveEffectLemmas.{ends-none}
-use Rattle.rg_machine.proofs.LeaveWholeLemmas.{empty-words, no-value}
+use Rattle.rg_machine.proofs.LeaveWholeLemmas.{empty-words}
 
 -- nothing is on the stack, and each closed region is owned once
 leave-front : (c : Core) (s : ℕ) → Has (i.Leave s) c → (is_empty c.stack ≡ true) × (owned_once c.machine ≡ true)
 leave-front c s given =
     let m = c.machine in
-    let a = and-both (is_empty c.stack && owned_once m && temps_may_go (end_slots m s) && owner_leads (end_slots m s))
+    let a = and_parts (is_empty c.stack && owned_once m && temps_may_go (end_slots m s) && owner_leads (end_slots m s))
     (nat_le (place_of m.frames s) (top_base m.windows)) given in
-    let b = and-both (is_empty c.stack && owned_once m && temps_may_go (end_slots m s)) (owner_leads (end_slots m s)) a.0 in
-    let d = and-both (is_empty c.stack && owned_once m) (temps_may_go (end_slots m s)) b.0 in
-    and-both (is_empty c.stack) (owned_once m) d.0
+    let b = and_parts (is_empty c.stack && owned_once m && temps_may_go (end_slots m s)) (owner_leads (end_slots m s)) a.0 in
+    let d = and_parts (is_empty c.stack && owned_once m) (temps_may_go (end_slots m s)) b.0 in
+    and_parts (is_empty c.stack) (owned_once m) d.0
 
 pub leave-stack : (c : Core) (s : ℕ) → Has (i.Leave s) c → c.stack ≡ []
-leave-stack c s given = no-value c.stack (leave-front c s given).0
+leave-stack c s given = empty-is c.stack (leave-front c s given).0
 
 pub leave-once : (c : Core) (s : ℕ) → Has (i.Leave s) c → owned_once c.machine ≡ true
 leave-once c s given = (leave-front c s given).1

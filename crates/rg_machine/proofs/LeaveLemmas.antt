@@ -3,13 +3,15 @@ use Rattle.std.proofs.Common.{◌≡◌, ◌≤◌, ◌<◌, ◌⊎◌, inl, inr
 use Rattle.std.proofs.Common.{length, take, drop, Option, Some, None, option_map, slice_get, slice_index_or, refl, sym, ap}
 use Rattle.std.proofs.Common.{◌∙◌, subst, arith}
 use Rattle.std.proofs.lemmas.Bool.{false≢true}
-use Rattle.std.proofs.lemmas.List.{length-take-le}
-use Rattle.std.proofs.lemmas.Option.{none-some, same_Some, slice_get_within}
+use Rattle.std.proofs.lemmas.List.{length-take-le, get_or_past, get_or_default, take_all}
+use Rattle.std.proofs.lemmas.Option.{none-some, same_Some, slice_get_within, slice_get-get_or}
 use Rattle.rg_base.specs.declared.object.Label.{Label}
 use Rattle.rg_base.specs.declared.object.Label.TheVariants.{Region, Temp}
 use Rattle.rg_base.specs.declared.value.Word.{Word}
 use Rattle.rg_base.specs.declared.value.Word.TheVariants.{Slot}
+use Rattle.rg_base.proofs.Callers.Labels.{region-same, temp-region}
 use Rattle.rg_rules.specs.Regions.{among}
+use Rattle.rg_sound.proofs.Owners.OwnerLemmas.{get-take-within}
 use Rattle.rg_cells.specs.declared.cell.Body.{Body}
 use Rattle.rg_cells.specs.Table.{body_at, label_at, field_at, Serials, IsHeld}
 use Rattle.rg_regions.specs.Table.{Record, record_at, HasNumber, InTable, IsBridge}
@@ -26,7 +28,7 @@ use Rattle.rg_heap.specs.Opened.{Opened, IsWindow, IsTempOf}
 use Rattle.rg_view.specs.Links.{BelowSome, ByTemp}
 use Rattle.rg_view.specs.Names.{Names, AreTemps}
 use Rattle.rg_view.specs.View.{store_of, windows_of, managers_of, machine_of}
-use Rattle.rg_view.proofs.Callers.AfterLemmas.{label-was, field-was, key-was, parent-was, region-same, temp-region}
+use Rattle.rg_view.proofs.Callers.AfterLemmas.{label-was, field-was, key-was, parent-was}
 use Rattle.rg_view.proofs.Callers.BeneathLemmas.{beneath-names}
 use Rattle.rg_view.proofs.Callers.ForgetLemmas.{below-closed}
 use Rattle.rg_view.proofs.Callers.GoneLemmas.{released-numbers}
@@ -42,12 +44,6 @@ use Rattle.rg_machine.proofs.ReleaseLemmas.{most-one, order, slot-counts-one, te
 
 -- Fronts of lists
 
-front-get : {A : Type 0} (n k : ℕ) (xs : List A) → k < n → slice_get (take n xs) k ≡ slice_get xs k
-front-get zero k xs lt = absurd (omega (arith, lt))
-front-get (suc n) k [] lt = refl
-front-get (suc n) zero (x ∷ xs) lt = refl
-front-get (suc n) (suc k) (x ∷ xs) lt = front-get n k xs (omega (arith, lt))
-
 front-index : (n k d : ℕ) (xs : List ℕ) → k < n → slice_index_or (take n xs) k d ≡ slice_index_or xs k d
 front-index zero k d xs lt = absurd (omega (arith, lt))
 front-index (suc n) k d [] lt = refl
@@ -59,27 +55,6 @@ front-front zero m xs le = refl
 front-front (suc n) zero xs le = absurd (omega (arith, le))
 front-front (suc n) (suc m) [] le = refl
 front-front (suc n) (suc m) (x ∷ xs) le = ap (λ ys. x ∷ ys) (front-front n m xs (omega (arith, le)))
-
-index-there : (xs : List ℕ) (k d : ℕ) → k < length xs → slice_get xs k ≡ Some (slice_index_or xs k d)
-index-there [] k d lt = absurd (omega (arith, lt))
-index-there (x ∷ xs) zero d lt = refl
-index-there (x ∷ xs) (suc k) d lt = index-there xs k d (omega (arith, lt))
-
-index-past : (xs : List ℕ) (k d : ℕ) → length xs ≤ k → slice_index_or xs k d ≡ d
-index-past [] k d le = refl
-index-past (x ∷ xs) zero d le = absurd (omega (arith, le))
-index-past (x ∷ xs) (suc k) d le = index-past xs k d (omega (arith, le))
-
-index-any : (xs : List ℕ) (k d e : ℕ) → k < length xs → slice_index_or xs k d ≡ slice_index_or xs k e
-index-any [] k d e lt = absurd (omega (arith, lt))
-index-any (x ∷ xs) zero d e lt = refl
-index-any (x ∷ xs) (suc k) d e lt = index-any xs k d e (omega (arith, lt))
-
-whole : (n : ℕ) (xs : List ℕ) → length xs ≤ n → take n xs ≡ xs
-whole zero [] le = refl
-whole zero (x ∷ xs) le = absurd (omega (arith, le))
-whole (suc n) [] le = refl
-whole (suc n) (x ∷ xs) le = ap (λ ys. x ∷ ys) (whole n xs (omega (arith, le)))
 
 -- the stack behind a window's end
 abbrev pub left : Stack → Stack
@@ -97,7 +72,7 @@ module _ (v : Stack) (many : length v.marks ≡ length v.windows) (two : 2 ≤ l
       (get-take last i v.windows w e, omega (arith, lt, n))
 
   window-stays : (i : ℕ) (w : WindowRow) → IsWindow v i w → i < last → IsWindow (left v) i w
-  window-stays i w e lt = front-get last i v.windows lt ∙ e
+  window-stays i w e lt = get-take-within last v.windows i lt ∙ e
 
   -- where the temporaries of one that stays begin and end
   range-same : (i : ℕ) → i < last
@@ -109,24 +84,24 @@ module _ (v : Stack) (many : length v.marks ≡ length v.windows) (two : 2 ≤ l
       let inside : i + 1 < length v.marks = omega (arith, small) in
       let top : n < length v.marks = omega (arith, small) in
       let below : slice_index_or v.marks (i + 1) 0 ≤ mark v =
-      lie.rise (i + 1) n (slice_index_or v.marks (i + 1) 0) (mark v) (omega (arith, small)) (index-there v.marks (i + 1) 0 inside)
-      (index-there v.marks n 0 top) in
-      let most : mark v ≤ length v.temps = lie.within n (mark v) (index-there v.marks n 0 top) in
+      lie.rise (i + 1) n (slice_index_or v.marks (i + 1) 0) (mark v) (omega (arith, small)) (slice_get-get_or v.marks (i + 1) 0 inside)
+      (slice_get-get_or v.marks n 0 top) in
+      let most : mark v ≤ length v.temps = lie.within n (mark v) (slice_get-get_or v.marks n 0 top) in
       let size : length (left v).temps ≡ mark v = length-take-le (mark v) v.temps most in
       let any : slice_index_or v.marks (i + 1) (length v.temps) ≡ slice_index_or v.marks (i + 1) 0 =
-      index-any v.marks (i + 1) (length v.temps) 0 inside in
+      get_or_default v.marks (i + 1) (length v.temps) 0 inside in
       let front : take (slice_index_or (left v).marks (i + 1) (length (left v).temps)) (left v).temps
       ≡ take (slice_index_or v.marks (i + 1) 0) v.temps = elim (order (i + 1) n) [
         | inl less ↦
             (let here = front-index n (i + 1) (length (left v).temps) v.marks less
-            ∙ index-any v.marks (i + 1) (length (left v).temps) 0 inside in
+            ∙ get_or_default v.marks (i + 1) (length (left v).temps) 0 inside in
             ap (λ k. take k (left v).temps) here ∙ front-front (slice_index_or v.marks (i + 1) 0) (mark v) v.temps below)
         | inr le ↦
             (let short = length-take-le n v.marks (omega arith) in
-            let end = index-past (left v).marks (i + 1) (length (left v).temps) (omega (arith, short, le)) in
+            let end = get_or_past (left v).marks (i + 1) (length (left v).temps) (omega (arith, short, le)) in
             let at : n ≡ i + 1 = omega (arith, le, small) in
             let is : mark v ≡ slice_index_or v.marks (i + 1) 0 = ap (λ k. slice_index_or v.marks k 0) at in
-            ap (λ k. take k (left v).temps) end ∙ whole (length (left v).temps) (left v).temps (omega arith)
+            ap (λ k. take k (left v).temps) end ∙ take_all (length (left v).temps) (left v).temps (omega arith)
             ∙ ap (λ k. take k v.temps) is)
       ] in
       ap (λ k. drop k (take (slice_index_or (left v).marks (i + 1) (length (left v).temps)) (left v).temps)) (front-index n i 0 v.marks small)

@@ -11,6 +11,7 @@ use Rattle.rg_base.specs.declared.object.Label.TheVariants.{Region, Temp, Frozen
 use Rattle.rg_base.specs.declared.object.Seen.{Seen}
 use Rattle.rg_base.specs.declared.value.Val.{Val}
 use Rattle.rg_rules.specs.Regions.{address, among, in_regions, region_at, region_of}
+use Rattle.rg_sound.proofs.LocalRootsLemmas.{label-region}
 use Rattle.rg_stack.specs.Machine.{Machine, Window}
 use Rattle.rg_stack.specs.Effects.{top_window}
 use Rattle.rg_stack.specs.Needs.{closed_into, closed_of, is_open, is_top_temp, label_of}
@@ -55,18 +56,13 @@ seen-stays regions store a h e i =
 
 -- Links in it
 
-region-back : (l : Label) (r : ℕ) → region_of l ≡ Some r → l ≡ Region r
-region-back (Region q) r e = ap Region (same_Some q r e)
-region-back (Temp n) r e = absurd (none-some r e)
-region-back Frozen r e = absurd (none-some r e)
-
 -- the object at an address that lies in a region
 at-region : (store : List Seen) (a r : ℕ) → region_at store a ≡ Some r → (o : Seen) × (slice_get store a ≡ Some o) × (o.label ≡ Region r)
 at-region store a r e = by (slice_get store a) refl
   where
     by : (x : Option Seen) → slice_get store a ≡ x → (o : Seen) × (slice_get store a ≡ Some o) × (o.label ≡ Region r)
     by None f = absurd (none-some r (sym (ap (option_and_then (λ (o : Seen). region_of o.label)) f) ∙ e))
-    by (Some o) f = (o, f, region-back o.label r (sym (ap (option_and_then (λ (o : Seen). region_of o.label)) f) ∙ e))
+    by (Some o) f = (o, f, label-region o.label r (sym (ap (option_and_then (λ (o : Seen). region_of o.label)) f) ∙ e))
 
 region-at : (store : List Seen) (a r : ℕ) (o : Seen) → slice_get store a ≡ Some o → o.label ≡ Region r → region_at store a ≡ Some r
 region-at store a r o e l = ap (option_and_then (λ (o : Seen). region_of o.label)) e ∙ ap region_of l

@@ -2,11 +2,10 @@
 use Rattle.std.proofs.Common.{◌≡◌, ◌≢◌, ◌≤◌, ◌<◌, zero, suc, drop, replicate, slice_get, ◌-◌, ◌^◌, ◌&&◌, ℕ, true, List, [], ◌∷◌, length, reverse}
 use Rattle.std.proofs.Common.{nat_le, Some, refl, sym, ap}
 use Rattle.std.proofs.Common.{◌∙◌, subst, arith}
-use Rattle.std.proofs.lemmas.Bool.{false≢true}
 use Rattle.std.proofs.lemmas.List.{length-map, length-reverse}
+use Rattle.std.proofs.lemmas.Bool.{and_parts}
 use Rattle.rg_base.specs.declared.value.Word.{Word}
 use Rattle.rg_base.specs.declared.value.Word.TheVariants.{Slot}
-use Rattle.rg_base.specs.declared.value.Val.{Val}
 use Rattle.rg_base.specs.declared.value.Val.TheVariants.{Nil}
 use Rattle.rg_rules.specs.Regions.{region_at}
 use Rattle.rg_code.specs.Code.{empty}
@@ -20,6 +19,7 @@ use Rattle.rg_heap.specs.Answers.{val_of}
 use Rattle.rg_stack.specs.Machine.{Frame, Machine, end_slots, ended_slots, place_of, top_slots, with_slots}
 use Rattle.rg_stack.specs.Effects.{Go, beneath_by_labels}
 use Rattle.rg_stack.specs.Needs.{is_empty, owned_once, owner_leads, temps_may_go, top_base}
+use Rattle.rg_stack.proofs.Needs.ListLemmas.{empty-is}
 use Rattle.rg_held.specs.Frees.{closed_among, closed_by_temps, free_act, window_that_ends}
 use Rattle.rg_view.specs.Links.{Spans}
 use Rattle.rg_view.specs.View.{machine_of, values_of}
@@ -30,7 +30,6 @@ use Rattle.rg_machine.specs.Core.{Core, Has, work_of}
 use Rattle.rg_machine.specs.Effects.{ending}
 use Rattle.rg_machine.specs.Parts.{Parts, core_of, machine_in}
 use Rattle.rg_machine.specs.Stands.{Stands}
-use Rattle.rg_machine.proofs.EnterLemmas.{and-both}
 use Rattle.rg_machine.proofs.LeaveLemmas.{left}
 use Rattle.rg_machine.proofs.LeaveBehindLemmas.{behind-left, ends-behind, late, machine-left, number}
 use Rattle.rg_machine.proofs.LeaveEffectLemmas.{ends-window, left_by, left-machine}
@@ -44,10 +43,6 @@ empty-words h (w ∷ ws) e =
 
 le-back : (a b : ℕ) → nat_le a b ≡ true → a ≤ b
 le-back a b e = grind (arith, e)
-
-pub no-value : (vs : List Val) → is_empty vs ≡ true → vs ≡ []
-no-value [] e = refl
-no-value (v ∷ vs) e = absurd (false≢true e)
 
 -- where slots of the topmost frame have ended
 top-ended : (fs : List Frame) (s : ℕ) → top_slots (with_slots (ended_slots s (top_slots fs)) fs) ≡ ended_slots s (top_slots fs)
@@ -70,11 +65,11 @@ module _ (p mid : Parts) (s : ℕ) (q : Serials p.heap.cells.heap) (g : Grove p.
   needs-parts : (is_empty (core_of p).stack ≡ true) × (temps_may_go (end_slots m s) ≡ true)
       × (nat_le (place_of m.frames s) (top_base m.windows) ≡ true)
   needs-parts =
-      let a = and-both (is_empty (core_of p).stack && owned_once m && temps_may_go (end_slots m s) && owner_leads (end_slots m s))
+      let a = and_parts (is_empty (core_of p).stack && owned_once m && temps_may_go (end_slots m s) && owner_leads (end_slots m s))
       (nat_le (place_of m.frames s) (top_base m.windows)) given in
-      let b = and-both (is_empty (core_of p).stack && owned_once m && temps_may_go (end_slots m s)) (owner_leads (end_slots m s)) a.0 in
-      let c = and-both (is_empty (core_of p).stack && owned_once m) (temps_may_go (end_slots m s)) b.0 in
-      let d = and-both (is_empty (core_of p).stack) (owned_once m) c.0 in
+      let b = and_parts (is_empty (core_of p).stack && owned_once m && temps_may_go (end_slots m s)) (owner_leads (end_slots m s)) a.0 in
+      let c = and_parts (is_empty (core_of p).stack && owned_once m) (temps_may_go (end_slots m s)) b.0 in
+      let d = and_parts (is_empty (core_of p).stack) (owned_once m) c.0 in
       (d.0, c.1, a.1)
 
   same : machine_in mid ≡ (ending (core_of p) s).machine
@@ -130,10 +125,10 @@ module _ (p mid : Parts) (s : ℕ) (q : Serials p.heap.cells.heap) (g : Grove p.
         let three = machine-left mid.heap mid.frames mid.at q1 g1 h1 two once lie new.heap gn rel no-slot-leads no-field-leads in-front in
         let machine : machine_in new ≡ left_by (ending c s).machine gone (Some n) =
         ap (λ v. machine_of new.heap v new.at) frames ∙ ap (machine_of new.heap (left mid.frames)) at ∙ three ∙ two_is in
-        let empty_mid : (core_of mid).stack ≡ [] = ap (λ (c : Core). c.stack) e ∙ no-value c.stack needs-parts.0 in
+        let empty_mid : (core_of mid).stack ≡ [] = ap (λ (c : Core). c.stack) e ∙ empty-is c.stack needs-parts.0 in
         let no_words : new.words ≡ [] = words ∙ empty-words mid.heap.cells.heap mid.words (ap length empty_mid) in
         let stack : c.stack ≡ (core_of new).stack =
-        no-value c.stack needs-parts.0 ∙ sym (ap (values_of new.heap.cells.heap) no_words) in
+        empty-is c.stack needs-parts.0 ∙ sym (ap (values_of new.heap.cells.heap) no_words) in
         let shown : c.printed ≡ new.printed = sym (ap (λ (c : Core). c.printed) e) ∙ sym printed in
         ap (λ m. go 0 c.stack (record { machine = m; input = input; printed = c.printed })) (sym (machine ∙ one))
         ∙ ap (λ vs. go 0 vs (record { machine = machine_in new; input = input; printed = c.printed })) stack

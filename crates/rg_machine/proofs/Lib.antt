@@ -1,5 +1,5 @@
 mod NumberLemmas
-mod WordLemmas
+pub mod WordLemmas
 mod TopLemmas
 mod SlotLemmas
 mod FieldLemmas
@@ -13,14 +13,14 @@ mod TempLemmas
 mod MadeLemmas
 mod KeptLemmas
 mod KnownLemmas
-mod HighLemmas
+pub mod HighLemmas
 mod RefuseLemmas
 mod BeginLemmas
 mod SoleLemmas
 mod MoveLemmas
 mod FreezeLemmas
 mod MovedLemmas
-mod RetLemmas
+pub mod RetLemmas
 mod WindowLemmas
 mod EnterLemmas
 mod EnterFieldLemmas

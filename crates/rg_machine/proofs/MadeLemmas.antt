@@ -8,11 +8,11 @@ use Rattle.rg_base.specs.declared.value.Word.{Word}
 use Rattle.rg_base.specs.declared.value.Word.TheVariants.{Nil, Int, Bool, Slot}
 use Rattle.rg_cells.specs.declared.cell.Body.{Body}
 use Rattle.rg_cells.specs.Table.{Table, body_at, body_in, field_at, label_at, IsHeld}
+use Rattle.rg_regions.proofs.Callers.Told.{labelled_held}
 use Rattle.rg_stack.specs.Needs.{leads_nowhere}
 use Rattle.rg_heap.specs.Changes.{LeadsNowhere, Makes}
 use Rattle.rg_view.proofs.Callers.MakeLemmas.{made-body}
 use Rattle.rg_view.proofs.Callers.ShownLemmas.{held-body, body-held}
-use Rattle.rg_view.proofs.Callers.HeldLemmas.{labelled-held}
 
 -- words of which the test says that none leads anywhere
 pub nowhere : (ws : List Word) → leads_nowhere ws ≡ true → LeadsNowhere ws
@@ -42,7 +42,7 @@ module _ (old new : Table) (slot class : ℕ) (label : Label) (fields : List Wor
   label-held s h = ap (option_map (λ (b : Body). b.label)) (other-body s (held-other s h))
 
   pub made-label : (s : ℕ) (l : Label) → label_at old.heap s ≡ Some l → label_at new.heap s ≡ Some l
-  made-label s l e = label-held s (labelled-held old.heap s l e) ∙ e
+  made-label s l e = label-held s (labelled_held old.heap s l e) ∙ e
 
   pub made-back : (s : ℕ) (l : Label) → IsHeld old.heap s → label_at new.heap s ≡ Some l → label_at old.heap s ≡ Some l
   made-back s l h e = sym (label-held s h) ∙ e
@@ -66,4 +66,4 @@ module _ (old new : Table) (slot class : ℕ) (label : Label) (fields : List Wor
   ]
 
   pub held-new : IsHeld new.heap slot
-  held-new = labelled-held new.heap slot label label-new
+  held-new = labelled_held new.heap slot label label-new

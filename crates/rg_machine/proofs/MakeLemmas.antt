@@ -2,7 +2,7 @@
 use Rattle.std.proofs.Common.{◌≡◌, ◌⊎◌, inl, inr, ℕ, ◌-◌, List, [], ◌∷◌, ◌++◌, Option, Some, length, map, slice_get, refl, sym, ap, ◌∙◌}
 use Rattle.std.proofs.Common.{subst, arith}
 use Rattle.std.proofs.lemmas.List.{reverse-append}
-use Rattle.std.proofs.lemmas.Option.{same_Some}
+use Rattle.std.proofs.lemmas.Option.{same_Some, slice_get_within}
 use Rattle.rg_base.specs.declared.object.Label.{Label}
 use Rattle.rg_base.specs.declared.object.Label.TheVariants.{Region, Temp}
 use Rattle.rg_base.specs.declared.words.Manager.{Manager}
@@ -35,7 +35,7 @@ use Rattle.rg_machine.specs.Core.{Core, with_machine, with_made}
 use Rattle.rg_machine.specs.Parts.{core_of}
 use Rattle.rg_machine.specs.Stands.{AllLead, Leads, Stands}
 use Rattle.rg_machine.proofs.GrowLemmas.{Grown, grown-stands, grown-more-lead}
-use Rattle.rg_machine.proofs.TempLemmas.{got-within, in-front-or, temp-on, temp-back, temp-new, temp-held}
+use Rattle.rg_machine.proofs.TempLemmas.{in-front-or, temp-on, temp-back, temp-new, temp-held}
 use Rattle.rg_machine.proofs.MadeLemmas.{held-other, made-held, made-label, made-back, label-new, label-was, made-field, held-new}
 use Rattle.rg_machine.proofs.KeptLemmas.{Kept, rewritten-kept, equal-kept, opens-kept, opens-bridge, equal-numbers}
 use Rattle.rg_machine.proofs.KnownLemmas.{top-window, key-there, region-made, windows-known, open-not}
@@ -212,7 +212,7 @@ module _ (old new : Parts) (v : Stack) (words : List Word) (at : ℕ) (printed :
             | inl was ↦ made-label old.cells new.cells slot class label fields m plain s (Temp u.number) (st.opened.temps i s u e was)
             | inr here ↦
                 let le = here.1 in
-                let lt = got-within v.windows i u e in
+                let lt = slice_get_within v.windows i u e in
                 let last : length v.windows - 1 ≡ i = omega (arith, le, lt, many) in
                 fresh-temp s u here.0 (same_Some w u (sym top ∙ ap (slice_get v.windows) last ∙ e))
           ];

@@ -7,6 +7,7 @@ use Rattle.rg_base.specs.declared.object.Label.{Label}
 use Rattle.rg_base.specs.declared.object.Label.TheVariants.{Region, Temp, Frozen}
 use Rattle.rg_base.specs.declared.value.Word.{Word}
 use Rattle.rg_base.specs.declared.value.Word.TheVariants as word
+use Rattle.rg_base.proofs.Callers.Labels.{region-same, frozen-region, temp-region}
 use Rattle.rg_rules.specs.Regions.{among}
 use Rattle.rg_cells.specs.declared.cell.Body.{Body}
 use Rattle.rg_cells.specs.Table.{Heap, body_at, field_at, label_at, IsHeld}
@@ -65,15 +66,6 @@ set-length (x ∷ ws) zero w = refl
 set-length (x ∷ ws) (suc k) w = ap suc (set-length ws k w)
 
 -- Cells that get a label
-
-region-same : (a b : ℕ) → Some (Region a) ≡ Some (Region b) → a ≡ b
-region-same a b e = cc
-
-temp-region : (n r : ℕ) → Some (Temp n) ≡ Some (Region r) → ⊥
-temp-region n r e = cc
-
-frozen-region : (r : ℕ) → Some Frozen ≡ Some (Region r) → ⊥
-frozen-region r e = cc
 
 module _ (old new : Heap) (regions : List ℕ) (label : Label) (l : Labels old new regions label) where
   -- a cell of one of the regions

@@ -1,10 +1,11 @@
 -- The machine behind a freeze and a merge, and what these do.
 use Rattle.std.proofs.Common.{◌≡◌, ◌⊎◌, inl, inr, ℕ, zero, suc, ◌+◌, ◌&&◌, Bool as Truth, true, false, not, List, [], ◌∷◌, ◌++◌, map}
-use Rattle.std.proofs.Common.{Option, Result, Some, None, Ok, Err, ok_or, option_map, slice_get, slice_set, unwrap_or, refl, sym, ap, subst, ◌∙◌}
+use Rattle.std.proofs.Common.{Option, Result, Some, None, Ok, Err, ok_or, option_map, slice_get, slice_set, unwrap_or, sym, ap, subst, ◌∙◌}
 use Rattle.std.specs.Prelude.{ℤ}
 use Rattle.std.specs.List.{list_any}
 use Rattle.std.proofs.lemmas.List.{reverse-append}
 use Rattle.std.proofs.lemmas.Option.{same_Some}
+use Rattle.std.proofs.lemmas.Bool.{and_parts}
 use Rattle.rg_base.specs.declared.object.Label.{Label}
 use Rattle.rg_base.specs.declared.object.Label.TheVariants.{Region, Frozen}
 use Rattle.rg_base.specs.declared.object.Seen.{Seen}
@@ -23,7 +24,7 @@ use Rattle.rg_cells.specs.declared.cell.Body.{Body}
 use Rattle.rg_cells.specs.Table.{body_at, Serials}
 use Rattle.rg_regions.specs.Grove.{Grove}
 use Rattle.rg_frames.specs.Stack.{Stack, with_slot}
-use Rattle.rg_stack.specs.Machine.{Frame, Machine, put_slot, slot_at, with_slots, top_slots}
+use Rattle.rg_stack.specs.Machine.{Frame, Machine, put_slot, slot_at, top_slots}
 use Rattle.rg_stack.specs.Effects.{Go, Traps, Walked, Work, on_object, relabel, stored, top_region, with_store}
 use Rattle.rg_stack.specs.Needs.{is_closed, owned_once, owns_or_nil}
 use Rattle.rg_heap.specs.Parts.{Parts}
@@ -41,12 +42,9 @@ use Rattle.rg_machine.specs.Keeps.{backs}
 use Rattle.rg_machine.specs.Parts.{Parts as Whole, core_of, machine_in}
 use Rattle.rg_machine.specs.Stands.{AllLead, Leads, Stands}
 use Rattle.rg_machine.proofs.MoveLemmas.{Moves, leads-moved, opened-moved, stands-moved}
-use Rattle.rg_machine.proofs.FreezeLemmas.{NoSlot, Owned, Owns, active, both, freeze-moves, frozen, held, merge-moves, no-object, shown}
+use Rattle.rg_machine.proofs.FreezeLemmas.{NoSlot, Owned, Owns, active, freeze-moves, frozen, held, merge-moves, no-object, shown}
 use Rattle.rg_machine.proofs.FreezeLemmas.{slot-leads, slot-shown}
-
-backs-with : (vs : List Val) (fs : List Frame) → backs (with_slots vs fs) ≡ backs fs
-backs-with vs [] = refl
-backs-with vs (f ∷ fs) = refl
+use Rattle.rg_machine.proofs.SlotLemmas.{backs-slots}
 
 -- what a heap with frames and words shows
 abbrev pub core : Parts → Stack → (at : ℕ) → List Word → Option Val → Core
@@ -110,7 +108,7 @@ module _ (p : Parts) (v : Stack) (at : ℕ) (q : Serials p.cells.heap) (g : Grov
       → backs (machine_of new (with_slot v k word.Nil) at).frames ≡ backs (machine_of p v at).frames
   backs-moved new regions l m =
       ap backs (slot-frames new.cells.heap v k word.Nil)
-      ∙ backs-with (slice_set (top_slots (frames_of new.cells.heap v)) k val.Nil) (frames_of new.cells.heap v)
+      ∙ backs-slots (slice_set (top_slots (frames_of new.cells.heap v)) k val.Nil) (frames_of new.cells.heap v)
       ∙ ap backs (frames-same p.cells.heap new.cells.heap v (λ j s e. labels-same p.cells.heap new.cells.heap regions l m.labels s))
 
   pub freeze-acts : (new : Parts) → Grove new.cells new.regions → Freezes p new x.key → (words : List Word) (printed : Option Val)
@@ -172,8 +170,8 @@ owns-given : (p : Parts) (v : Stack) (at k slot : ℕ) (a : Truth)
     → unwrap_or (slice_get v.slots (v.first + k)) word.Nil ≡ word.Slot slot → Owns p v at k slot
 owns-given p v at k slot a e is =
     let m = machine_of p v at in
-    let x = both (a && owned_once m) (owns_or_nil m (slot_at m k)) e in
-    record { stands = there (slice_get v.slots (v.first + k)) is; once = (both a (owned_once m) x.0).1; owner = x.1 }
+    let x = and_parts (a && owned_once m) (owns_or_nil m (slot_at m k)) e in
+    record { stands = there (slice_get v.slots (v.first + k)) is; once = (and_parts a (owned_once m) x.0).1; owner = x.1 }
   where
     there : (o : Option Word) → unwrap_or o word.Nil ≡ word.Slot slot → o ≡ Some (word.Slot slot)
     there None e = absurd cc

@@ -1,7 +1,7 @@
 -- `pop`, `drop` and `own`: what they are given, and what they do.
 use Rattle.std.proofs.Common.{◌≡◌, ◌||◌, ◌&&◌, inl, inr, ℕ, zero, suc, Bool as Truth, true, false, not, List, [], ◌∷◌, Option, Some, None}
 use Rattle.std.proofs.Common.{nat_le, nat_lt, slice_get, slice_set, refl, sym, ap, ◌∙◌, subst}
-use Rattle.std.proofs.lemmas.Bool.{false≢true}
+use Rattle.std.proofs.lemmas.Bool.{false≢true, and_parts}
 use Rattle.std.proofs.lemmas.Option.{none-some, same_Some}
 use Rattle.rg_base.specs.declared.object.Label.{Label}
 use Rattle.rg_base.specs.declared.value.Val.{Val}
@@ -12,6 +12,7 @@ use Rattle.rg_code.specs.declared.op.Op.TheVariants as i
 use Rattle.rg_held.specs.Frees.{free_act}
 use Rattle.rg_stack.specs.Machine.{Frame, Machine, place_of, put_slot, slot_at, top_slots, with_slots}
 use Rattle.rg_stack.specs.Needs.{is_empty, is_open_label, label_of, leads_open, loose, may_keep, owned_once, owns_or_nil, size_of, top_base}
+use Rattle.rg_stack.proofs.Needs.ListLemmas.{empty-is}
 use Rattle.rg_machine.specs.declared.next.Next.TheVariants as next
 use Rattle.rg_machine.specs.Core.{ActIs, Core, Has, below_top, with_machine, with_top}
 use Rattle.rg_machine.specs.Effects.{AllLoose, without}
@@ -19,15 +20,8 @@ use Rattle.rg_machine.specs.Keeps.{SameBacks, backs}
 use Rattle.rg_machine.specs.Parts.{Parts, core_of, val_in}
 use Rattle.rg_machine.specs.Stands.{Leads}
 use Rattle.rg_machine.proofs.DropLemmas.{Asked}
-use Rattle.rg_machine.proofs.FewerLemmas.{backs-slots, label-buried, regions-with, store-without}
-
-both : (a b : Truth) → (a && b) ≡ true → (a ≡ true) × (b ≡ true)
-both true b e = (refl, e)
-both false b e = absurd (false≢true e)
-
-empty-is : (vs : List Val) → is_empty vs ≡ true → vs ≡ []
-empty-is [] e = refl
-empty-is (v ∷ vs) e = absurd (false≢true e)
+use Rattle.rg_machine.proofs.FewerLemmas.{label-buried, regions-with, store-without}
+use Rattle.rg_machine.proofs.SlotLemmas.{backs-slots}
 
 -- What `pop` and `drop` are given
 
@@ -38,8 +32,8 @@ pub record Last (c : Core) (v : Val) : Type 0 where
 
 last-by : (c : Core) (v : Val) → (is_empty c.stack && owned_once c.machine && loose c.machine v) ≡ true → Last c v
 last-by c v e =
-    let a = both (is_empty c.stack && owned_once c.machine) (loose c.machine v) e in
-    let b = both (is_empty c.stack) (owned_once c.machine) a.0 in
+    let a = and_parts (is_empty c.stack && owned_once c.machine) (loose c.machine v) e in
+    let b = and_parts (is_empty c.stack) (owned_once c.machine) a.0 in
     record { none = empty-is c.stack b.0; once = b.1; free = a.1 }
 
 pub pop-given : (old mid : Core) (v : Val) → old ≡ with_top mid v → Has i.Pop old → Last mid v
@@ -90,11 +84,11 @@ own-given old s v e given =
     let rest = (below_top old).stack in
     let all : (is_empty rest && nat_lt s (size_of m) && owned_once m && owns_or_nil m (slot_at m s) && loose m v && may_keep m s v) ≡ true =
     subst (Has (i.Own s)) e given in
-    let a = both (is_empty rest && nat_lt s (size_of m) && owned_once m && owns_or_nil m (slot_at m s) && loose m v) (may_keep m s v) all in
-    let b = both (is_empty rest && nat_lt s (size_of m) && owned_once m && owns_or_nil m (slot_at m s)) (loose m v) a.0 in
-    let d = both (is_empty rest && nat_lt s (size_of m) && owned_once m) (owns_or_nil m (slot_at m s)) b.0 in
-    let f = both (is_empty rest && nat_lt s (size_of m)) (owned_once m) d.0 in
-    let g = both (is_empty rest) (nat_lt s (size_of m)) f.0 in
+    let a = and_parts (is_empty rest && nat_lt s (size_of m) && owned_once m && owns_or_nil m (slot_at m s) && loose m v) (may_keep m s v) all in
+    let b = and_parts (is_empty rest && nat_lt s (size_of m) && owned_once m && owns_or_nil m (slot_at m s)) (loose m v) a.0 in
+    let d = and_parts (is_empty rest && nat_lt s (size_of m) && owned_once m) (owns_or_nil m (slot_at m s)) b.0 in
+    let f = and_parts (is_empty rest && nat_lt s (size_of m)) (owned_once m) d.0 in
+    let g = and_parts (is_empty rest) (nat_lt s (size_of m)) f.0 in
     record { none = empty-is rest g.0; once = f.1; free = b.1; keeps = a.1 }
 
 pub own-loose : (old : Core) (s : ℕ) (v : Val) → old ≡ with_top (below_top old) v → Owned (below_top old) s v → AllLoose old

@@ -1,6 +1,6 @@
 -- What callers cite of owners: each closed region of the machine's own heap has one owner reference, which leads to its bridge.
 use Rattle.std.proofs.Common.{◌≡◌, ◌≤◌, ◌<◌, ◌==◌, inl, inr, ℕ, zero, suc, ◌+◌, ◌-◌, ◌^◌, Bool as Truth, true, false, not, List, [], ◌∷◌}
-use Rattle.std.proofs.Common.{map, length, take, drop, reverse, Option, Some, None, IsSome, option_map, option_and_then, slice_get}
+use Rattle.std.proofs.Common.{map, length, take, drop, reverse, Option, Some, None, option_map, option_and_then, slice_get}
 use Rattle.std.proofs.Common.{refl, sym, ap, ◌∙◌, subst, arith}
 use Rattle.std.specs.List.{count_by}
 use Rattle.std.proofs.lemmas.Bool.{cases_eq, false≢true}
@@ -14,15 +14,19 @@ use Rattle.rg_base.specs.declared.value.Val.{Val}
 use Rattle.rg_base.specs.declared.value.Val.TheVariants as val
 use Rattle.rg_base.specs.declared.value.Word.{Word}
 use Rattle.rg_base.specs.declared.value.Word.TheVariants as word
+use Rattle.rg_base.proofs.Callers.Labels.{region-same, frozen-region}
+use Rattle.rg_base.proofs.Callers.Options.{some-there}
 use Rattle.rg_tree.specs.Tree.{Tree}
 use Rattle.rg_rules.specs.State.{State}
 use Rattle.rg_sound.specs.Fit.{Fit}
+use Rattle.rg_sound.proofs.Owners.OwnerLemmas.{get-take-within}
 use Rattle.rg_code.specs.Code.{Code}
 use Rattle.rg_cells.specs.declared.cell.Body.{Body}
 use Rattle.rg_cells.specs.Table.{Heap, label_at, field_at, Serials}
 use Rattle.rg_regions.specs.Table.{HasNumber, IsBridge}
 use Rattle.rg_regions.specs.Reach.{LiesIn}
 use Rattle.rg_regions.specs.Grove.{Grove}
+use Rattle.rg_regions.proofs.Callers.Told.{labelled_held}
 use Rattle.rg_frames.specs.declared.rows.Frame.{Frame as FrameRow}
 use Rattle.rg_frames.specs.declared.rows.Window.{Window as WindowRow}
 use Rattle.rg_stack.specs.Machine.{Frame, Machine}
@@ -32,9 +36,8 @@ use Rattle.rg_heap.specs.Answers.{val_of, IsClosed}
 use Rattle.rg_heap.specs.Opened.{IsWindow}
 use Rattle.rg_view.specs.Lain.{Nested}
 use Rattle.rg_view.specs.View.{object_of, store_of, frames_of, windows_of}
-use Rattle.rg_view.proofs.Callers.AfterLemmas.{region-same}
 use Rattle.rg_view.proofs.Callers.FrameLemmas.{frames_from, there}
-use Rattle.rg_view.proofs.Callers.HeldLemmas.{all-lead, labelled-held}
+use Rattle.rg_view.proofs.Callers.HeldLemmas.{all-lead}
 use Rattle.rg_view.proofs.Callers.LookLemmas.{store-held}
 use Rattle.rg_view.proofs.Callers.NeedLemmas.{keyed, count-hit, weight, closed-not-first}
 use Rattle.rg_view.proofs.Callers.OnceLemmas.{outside-once, outside-counts}
@@ -42,15 +45,17 @@ use Rattle.rg_view.proofs.Callers.OpenLemmas.{closed-not-open, into-there, label
 use Rattle.rg_view.proofs.Callers.ShownLemmas.{get-drop, held-body}
 use Rattle.rg_held.specs.Part.{Part, SlotInto, FieldInto, leads_to}
 use Rattle.rg_held.specs.Shown.{ShowsHeld}
+use Rattle.rg_held.proofs.Places.{lies-back}
 use Rattle.rg_machine.specs.Collects.{holds}
 use Rattle.rg_machine.specs.Owned.{Holder, Owner, Owns, IsOwned, in_slot, in_field}
 use Rattle.rg_machine.specs.Parts.{Parts as Whole, machine_in}
 use Rattle.rg_machine.specs.Stands.{Stands}
-use Rattle.rg_machine.proofs.CollectLemmas.{field-held, has-record}
+use Rattle.rg_machine.proofs.CollectLemmas.{has-record}
 use Rattle.rg_machine.proofs.GatherLemmas.{field-there, frame-slot, holds-there}
 use Rattle.rg_machine.proofs.KnownLemmas.{open-not}
 use Rattle.rg_machine.proofs.PartLemmas.{once-held, shown-part}
-use Rattle.rg_machine.proofs.ReleaseLemmas.{get-taken, most-one, order, slot-counts-one, slots-count}
+use Rattle.rg_machine.proofs.ReleaseLemmas.{most-one, order, slot-counts-one, slots-count}
+use Rattle.rg_machine.proofs.GrowLemmas.{field-held}
 
 -- Counts
 
@@ -92,11 +97,11 @@ slots-two h r i j w u slots first (x ∷ fs) n e f lt a b =
     elim (order j first) [
       | inl less ↦
           let two = slots-two h r i j w u (take first slots) x.below fs under
-          (get-taken first i slots (omega (arith, lt, less)) ∙ e) (get-taken first j slots less ∙ f) lt a b in
+          (get-take-within first slots i (omega (arith, lt, less)) ∙ e) (get-take-within first slots j less ∙ f) lt a b in
           omega (arith, all, two)
       | inr le ↦ elim (order i first) [
         | inl less ↦
-            let one = slots-count h r i w (take first slots) x.below fs under (get-taken first i slots less ∙ e) a in
+            let one = slots-count h r i w (take first slots) x.below fs under (get-take-within first slots i less ∙ e) a in
             let more = count-hit (is_into (store_of h) r) (map (val_of h) (drop first slots)) (j - first) (val_of h u)
             (top-shows h slots first j u le f) b in
             omega (arith, all, one, more)
@@ -112,32 +117,17 @@ slots-two h r i j w u slots first (x ∷ fs) n e f lt a b =
 eq-is : (a b : ℕ) → a ≡ b → (a == b) ≡ true
 eq-is a b h = grind (arith, h)
 
-eq-true : (a b : ℕ) → (a == b) ≡ true → a ≡ b
-eq-true a b h = grind (arith, h)
-
-lies-is : (r : ℕ) (l : Label) → lies_in r l ≡ true → l ≡ Region r
-lies-is r (Region q) e = ap Region (eq-true q r e)
-lies-is r (Temp n) e = absurd (false≢true e)
-lies-is r Frozen e = absurd (false≢true e)
-
 into-label : (store : List Seen) (r : ℕ) (x : Val) → is_into store r x ≡ true → label_of store x ≡ Some (Region r)
 into-label store r x e = by (label_of store x) e
   where
     by : (o : Option Label) → elim o [ None ↦ false | Some l ↦ lies_in r l ] ≡ true → o ≡ Some (Region r)
     by None e = absurd (false≢true e)
-    by (Some l) e = ap Some (lies-is r l e)
+    by (Some l) e = ap Some (lies-back r l e)
 
 not-outside : (w : Whole) (r : ℕ) (l : Label) → is_outside (windows_of w.heap.regions w.frames) r l ≡ true → l ≡ Region r → ⊥
 not-outside w r l e is =
     let ws = windows_of w.heap.regions w.frames in
     false≢true (sym (ap not (eq-is r r refl)) ∙ sym (ap (is_outside ws r) is) ∙ e)
-
-frozen-region : (r : ℕ) → Some Frozen ≡ Some (Region r) → ⊥
-frozen-region r e = cc
-
-some-there : (o : Option ℕ) → IsSome o → (s : ℕ) × (o ≡ Some s)
-some-there None e = absurd (false≢true e)
-some-there (Some s) e = (s, refl)
 
 module _ (w : Whole) (ser : Serials w.heap.cells.heap) (g : Grove w.heap.cells w.heap.regions) (st : Stands w.heap w.frames) where
   abbrev heap : Heap
@@ -263,7 +253,7 @@ module _ (w : Whole) (ser : Serials w.heap.cells.heap) (g : Grove w.heap.cells w
         let some = some-there r.0.bridge ((st.bridges c.0 r.0 r.1).0 (λ e.
         closed-not-first w.heap w.frames w.at ser g st.opened q c (sym r.2 ∙ e))) in
         let lies : LiesIn heap q some.0 = subst (λ n. LiesIn heap n some.0) r.2 (g.bridges c.0 some.0 r.0 r.1 some.1) in
-        let b = held-body heap some.0 (labelled-held heap some.0 (Region q) lies) in
+        let b = held-body heap some.0 (labelled_held heap some.0 (Region q) lies) in
         let here = holds-there heap some.0 b.0 b.1 in
         let shut : is_open m.windows q ≡ false =
         ap (λ ws. is_open ws q) (sym p.windows)

@@ -1,5 +1,5 @@
 -- What callers cite of collections: a machine that frees beside the one over a growing store may collect, and stays beside it.
-use Rattle.std.proofs.Common.{◌≡◌, ◌≤◌, ◌-◌, ◌^◌, inl, inr, ℕ, Bool as Truth, true, false, List, [], ◌∷◌, length, Some, None}
+use Rattle.std.proofs.Common.{◌≡◌, ◌≤◌, ◌-◌, ◌^◌, inl, inr, ℕ, Bool as Truth, true, false, List, [], ◌∷◌, Some, None}
 use Rattle.std.proofs.Common.{option_map, slice_get, refl, sym, ap, ◌∙◌, subst, arith}
 use Rattle.std.proofs.lemmas.Bool.{false≢true}
 use Rattle.std.proofs.lemmas.Option.{same_Some}
@@ -11,7 +11,6 @@ use Rattle.rg_tree.specs.Tree.{Tree}
 use Rattle.rg_rules.specs.Acceptance.{Accepted}
 use Rattle.rg_rules.specs.State.{State}
 use Rattle.rg_sound.specs.Fit.{Fit}
-use Rattle.rg_sound.proofs.Owners.DataLemmas.{Data, fit-data}
 use Rattle.rg_code.specs.Code.{Code, empty}
 use Rattle.rg_code.specs.declared.op.Op.TheVariants as i
 use Rattle.rg_cells.specs.declared.cell.Body.{Body}
@@ -19,8 +18,7 @@ use Rattle.rg_cells.specs.Table.{Serials}
 use Rattle.rg_frames.specs.Stack.{Stack}
 use Rattle.rg_stack.specs.Machine.{Machine, Window}
 use Rattle.rg_stack.specs.Needs.{is_open, owned_once}
-use Rattle.rg_stack.specs.Shows.{Shows, sizes_of}
-use Rattle.rg_stack.proofs.Needs.LeadLemmas.{ShowsFit}
+use Rattle.rg_stack.specs.Shows.{Shows}
 use Rattle.rg_stack.proofs.Needs.OnceLemmas.{owned_once-fits}
 use Rattle.rg_heap.specs.Parts.{Parts}
 use Rattle.rg_view.specs.View.{object_of, store_of}
@@ -30,7 +28,7 @@ use Rattle.rg_held.specs.Frees.{gone}
 use Rattle.rg_held.specs.Part.{Differ, OwnerHeld, OwnersHeld, Part, is_of}
 use Rattle.rg_held.proofs.Callers.NeedLemmas.{needs-same}
 use Rattle.rg_held.proofs.Gather.Told.{held-as, part-as}
-use Rattle.rg_held.proofs.Gather.Whole.{gathers-fit}
+use Rattle.rg_held.proofs.Gather.Whole.{gathers-fit, shows-fit}
 use Rattle.rg_machine.specs.Collects.{Gathers, OwnerOutside, holds}
 use Rattle.rg_machine.specs.Parts.{Parts as Whole, machine_in}
 use Rattle.rg_machine.specs.Stands.{Stands}
@@ -62,16 +60,6 @@ owner-outside held owners f m stack p =
         let x = owner-beneath held m.store w ws own.0 d.0 a k e in x.1 o (sym (p.same a x.0) ∙ there) label
 
 -- At most one place leads into each closed region
-
-shows-fit : (t : Tree) (code : Code) (m : Machine) (s : State) → Fit t s → Shows t.classes code m s → ShowsFit t.classes m s.frames s.windows
-shows-fit t code m s fit shows = record {
-  regions = length s.managers;
-  made = s.windows_made;
-  sizes = sizes_of m.frames;
-  fits = subst (λ q. Data t.classes q s.frames s.windows (length s.managers) s.windows_made) (sym shows.store) (fit-data t s fit);
-  slots = shows.slots;
-  windows = shows.windows;
-}
 
 pub once-held : (t : Tree) (code : Code) (s : State) (held : ℕ → Truth) (f m : Machine) → Fit t s → Shows t.classes code m s
     → Part held [] f m [] → owned_once f ≡ true

@@ -14,6 +14,7 @@ use Rattle.rg_base.specs.declared.value.Val.{Val}
 use Rattle.rg_base.specs.declared.value.Val.TheVariants as val
 use Rattle.rg_base.specs.declared.value.Word.{Word}
 use Rattle.rg_base.specs.declared.value.Word.TheVariants as word
+use Rattle.rg_base.proofs.Callers.Labels.{region-same}
 use Rattle.rg_tree.specs.Tree.{Class, Field, Tree}
 use Rattle.rg_rules.specs.Capabilities.{is_iso}
 use Rattle.rg_rules.specs.Owners.{owned_at, owned_by_field, owned_by_local, owned_by_slot, owned_in_field, owned_in_frame}
@@ -36,7 +37,6 @@ use Rattle.rg_stack.specs.Shows.{sizes_of}
 use Rattle.rg_heap.specs.Opened.{IsWindow}
 use Rattle.rg_heap.specs.Parts.{Parts}
 use Rattle.rg_view.specs.View.{frames_of, object_of}
-use Rattle.rg_view.proofs.Callers.AfterLemmas.{region-same}
 use Rattle.rg_view.proofs.Callers.LinkLemmas.{val-back, word-back}
 use Rattle.rg_view.proofs.Callers.ShownLemmas.{field-in}
 use Rattle.rg_machine.specs.Collects.{holds}

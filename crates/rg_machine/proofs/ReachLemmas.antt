@@ -20,6 +20,7 @@ use Rattle.rg_regions.specs.Collection.{OfRegion, roots_of}
 use Rattle.rg_regions.specs.Grove.{Grove, Members}
 use Rattle.rg_regions.specs.Reach.{LiesIn}
 use Rattle.rg_regions.specs.Table.{HasNumber, Record, record_at}
+use Rattle.rg_regions.proofs.Callers.Told.{labelled_held}
 use Rattle.rg_frames.specs.declared.rows.Window.{Window as WindowRow}
 use Rattle.rg_frames.specs.Stack.{IsTop, Stack}
 use Rattle.rg_stack.specs.Machine.{Machine}
@@ -31,7 +32,6 @@ use Rattle.rg_heap.specs.Ends.{top_temps}
 use Rattle.rg_heap.specs.Opened.{IsWindow}
 use Rattle.rg_heap.specs.Parts.{OnTop, Parts}
 use Rattle.rg_view.specs.View.{number_in}
-use Rattle.rg_view.proofs.Callers.HeldLemmas.{labelled-held}
 use Rattle.rg_view.proofs.Callers.ShownLemmas.{held-body}
 use Rattle.rg_view.proofs.Callers.WindowLemmas.{active-region}
 use Rattle.rg_held.specs.Part.{Part}
@@ -92,7 +92,7 @@ module _ (old new : Parts) (v : Stack) (at : ℕ) (t : Tree) (code : Code) (s : 
     member : (i x : ℕ) → slice_get members i ≡ Some x → Member i x
     member i x e =
         let lies = all.lie i x e in
-        let b = held-body h₂ x (labelled-held h₂ x (Region r) lies) in
+        let b = held-body h₂ x (labelled_held h₂ x (Region r) lies) in
         record { lies = lies; body = b.0; held = b.1; serial = ap serial_in b.1 }
 
     members-in : (n : ℕ) → In n (map serial_at members) → In n (plain_reach s)

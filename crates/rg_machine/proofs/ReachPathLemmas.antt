@@ -1,7 +1,7 @@
 -- What is reached, as paths: an object is among those that are reached by at most so many links exactly where it is at the end of a path of no
 -- more; each stands there once. And lists: behind each other, and without repeats, one of which has all that the other has.
 use Rattle.std.proofs.Common.{◌≡◌, ◌⊎◌, inl, inr, ℕ, zero, suc, ◌≤◌, ◌<◌, ◌+◌, ◌==◌, Bool as Truth, true, false, if◌then◌else◌, List, [], ◌∷◌, ◌++◌}
-use Rattle.std.proofs.Common.{length, cond, flat_map, map, take, option_map, Option, Some, None, slice_get, refl, sym, ap, ◌∙◌, subst, arith}
+use Rattle.std.proofs.Common.{length, cond, flat_map, map, option_map, Option, Some, None, slice_get, refl, sym, ap, ◌∙◌, subst, arith}
 use Rattle.std.proofs.lemmas.Bool.{false≢true}
 use Rattle.std.proofs.lemmas.Option.{none-some, same_Some, slice_get-map}
 use Rattle.rg_base.specs.declared.object.Seen.{Seen}
@@ -13,11 +13,6 @@ use Rattle.rg_rules.proofs.RegionLemmas.{reached-suc}
 use Rattle.rg_sound.proofs.Stores.MemberLemmas.{In, among-not, in-left, in-right, in-split, joined-back, joined-new, joined-old}
 
 -- Lists behind each other
-
-pub get-left : {A : Type 0} → (xs ys : List A) (i : ℕ) (x : A) → slice_get xs i ≡ Some x → slice_get (xs ++ ys) i ≡ Some x
-get-left [] ys i x e = absurd (none-some x e)
-get-left (z ∷ xs) ys zero x e = e
-get-left (z ∷ xs) ys (suc i) x e = get-left xs ys i x e
 
 pub get-right : {A : Type 0} → (xs ys : List A) (i : ℕ) (y : A) → slice_get ys i ≡ Some y → slice_get (xs ++ ys) (length xs + i) ≡ Some y
 get-right [] ys i y e = let same : i ≡ 0 + i = omega arith in ap (slice_get ys) (sym same) ∙ e
@@ -31,21 +26,10 @@ get-either [] ys i x e = inr (i, e)
 get-either (z ∷ xs) ys zero x e = inl (0, e)
 get-either (z ∷ xs) ys (suc i) x e = elim (get-either xs ys i x e) [ inl k ↦ inl (suc k.0, k.1) | inr k ↦ inr k ]
 
-pub get-last : {A : Type 0} → (xs : List A) (x : A) → slice_get (xs ++ x ∷ []) (length xs) ≡ Some x
-get-last [] x = refl
-get-last (y ∷ xs) x = get-last xs x
-
 pub get-before : {A : Type 0} → (xs : List A) (x : A) (n : ℕ) → n < length xs → slice_get (xs ++ x ∷ []) n ≡ slice_get xs n
 get-before [] x n lt = absurd (omega (arith, lt))
 get-before (y ∷ xs) x zero lt = refl
 get-before (y ∷ xs) x (suc n) lt = get-before xs x n (omega (arith, lt))
-
--- what is taken from the front stands where it stood
-pub take-get : {A : Type 0} → (n k : ℕ) (xs : List A) → k < n → slice_get (take n xs) k ≡ slice_get xs k
-take-get zero k xs lt = absurd (omega (arith, lt))
-take-get (suc n) k [] lt = refl
-take-get (suc n) zero (x ∷ xs) lt = refl
-take-get (suc n) (suc k) (x ∷ xs) lt = take-get n k xs (omega (arith, lt))
 
 -- Lists without repeats
 

@@ -15,6 +15,7 @@ use Rattle.rg_cells.specs.Table.{Heap, body_at, field_at, label_at}
 use Rattle.rg_regions.specs.Reach.{LiesIn, Reach, Walk, in_slots, in_temps, is_bridge, region_size}
 use Rattle.rg_regions.specs.Reach.{Stands as Root}
 use Rattle.rg_regions.specs.Table.{HasNumber}
+use Rattle.rg_regions.proofs.Callers.Told.{labelled_held}
 use Rattle.rg_frames.specs.declared.rows.Window.{Window as WindowRow}
 use Rattle.rg_frames.specs.Stack.{Stack}
 use Rattle.rg_stack.specs.Machine.{Machine}
@@ -24,7 +25,6 @@ use Rattle.rg_heap.specs.Ends.{top_temps}
 use Rattle.rg_heap.specs.Opened.{IsWindow}
 use Rattle.rg_heap.specs.Parts.{Parts}
 use Rattle.rg_view.specs.View.{frames_of, object_of}
-use Rattle.rg_view.proofs.Callers.HeldLemmas.{labelled-held}
 use Rattle.rg_view.proofs.Callers.LeaveLemmas.{top-temp}
 use Rattle.rg_view.proofs.Callers.LookLemmas.{val-held}
 use Rattle.rg_view.proofs.Callers.ShownLemmas.{field-in, get-drop, held-body}
@@ -70,7 +70,7 @@ module _ (p : Parts) (v : Stack) (at : ℕ) (t : Tree) (code : Code) (s : State)
   temp-leads i k temp x b e leads held =
       let label : label_at h temp ≡ Some (Temp a.window.number) =
       z.stands.opened.temps (length v.windows - 1) temp a.window a.is (top-temp p v z.grove z.stands.opened i temp e) in
-      let d = held-body h temp (labelled-held h temp (Temp a.window.number) label) in
+      let d = held-body h temp (labelled_held h temp (Temp a.window.number) label) in
       let number : d.0.label ≡ Temp ws.top.number = label-of h temp d.0 (Temp a.window.number) d.1 label ∙ ap Temp ws.number in
       let led = temps-in ws.top.number d.0.serial k b.serial s.store (object_of h (Some d.0)) (there p v at t code s m z temp d.0 d.1) number
       (field-shown temp k x d.0 b d.1 leads held) in
@@ -88,7 +88,7 @@ module _ (p : Parts) (v : Stack) (at : ℕ) (t : Tree) (code : Code) (s : State)
     subst (In b.serial) (sym (roots-are s ws.top ws.rest ws.is)) (root-leads x b w.1 e),
   )
   walk-trail (suc n) x b w e =
-      let d = held-body h w.1.0 (labelled-held h w.1.0 (Region r) (lies n w.1.0 w.1.2)) in (
+      let d = held-body h w.1.0 (labelled_held h w.1.0 (Region r) (lies n w.1.0 w.1.2)) in (
         region-there p v at t code s m z r x b e w.0,
         (
           d.0.serial,

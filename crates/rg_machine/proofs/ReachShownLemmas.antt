@@ -17,6 +17,7 @@ use Rattle.rg_rules.specs.Regions.{address, region_at, region_of}
 use Rattle.rg_rules.specs.State.{Local, State, Window as OpenedRow}
 use Rattle.rg_sound.specs.Fit.{Fit}
 use Rattle.rg_sound.proofs.Stores.MemberLemmas.{In, in-left, in-right, in-split}
+use Rattle.rg_sound.proofs.LocalRootsLemmas.{label-region}
 use Rattle.rg_code.specs.Code.{Code}
 use Rattle.rg_cells.specs.declared.cell.Body.{Body}
 use Rattle.rg_cells.specs.Table.{Heap, body_at, label_at, Serials}
@@ -60,11 +61,6 @@ label-there h x b l e is = ap (option_map (λ (b : Body). b.label)) e ∙ ap Som
 pub label-of : (h : Heap) (x : ℕ) (b : Body) (l : Label) → body_at h x ≡ Some b → label_at h x ≡ Some l → b.label ≡ l
 label-of h x b l e is = same_Some b.label l (sym (ap (option_map (λ (b : Body). b.label)) e) ∙ is)
 
-region-label : (l : Label) (r : ℕ) → region_of l ≡ Some r → l ≡ Region r
-region-label (Region n) r e = ap Region (same_Some n r e)
-region-label (Temp n) r e = absurd (none-some r e)
-region-label Frozen r e = absurd (none-some r e)
-
 -- the topmost window of the state
 pub record TopShown (sizes : List ℕ) (window : WindowRow) (region : ℕ) (ws : List OpenedRow) : Type 0 where
   pub top : OpenedRow
@@ -95,7 +91,7 @@ module _ (p : Parts) (v : Stack) (at : ℕ) (t : Tree) (code : Code) (s : State)
   pub lies-there : (r x : ℕ) (b : Body) → body_at h x ≡ Some b → region_at s.store b.serial ≡ Some r → LiesIn h r x
   lies-there r x b e is =
       label-there h x b (Region r) e
-      (region-label b.label r (sym (ap (option_and_then (λ (o : Seen). region_of o.label)) (there x b e)) ∙ is))
+      (label-region b.label r (sym (ap (option_and_then (λ (o : Seen). region_of o.label)) (there x b e)) ∙ is))
 
   -- slots show variables
   pub shown-slots : ShowsFrames (frames_of h v) s.frames

@@ -3,25 +3,30 @@ use Rattle.std.proofs.Common.{◌≡◌, ◌⊎◌, inl, inr, ℕ, zero, suc, �
 use Rattle.std.proofs.Common.{List, [], ◌∷◌, ◌++◌, length, map, take, drop, replicate, reverse, Option, Some, None, option_map, slice_get}
 use Rattle.std.proofs.Common.{length-append}
 use Rattle.std.proofs.Common.{refl, sym, ap, ◌∙◌, subst, arith}
-use Rattle.std.proofs.lemmas.List.{length-map, length-reverse, reverse-append, length-take-le}
+use Rattle.std.proofs.lemmas.List.{length-reverse, reverse-append, length-take-le}
 use Rattle.std.proofs.lemmas.Option.{none-some, same_Some, slice_get-map, slice_get_within}
 use Rattle.rg_base.specs.declared.value.Val.{Val}
 use Rattle.rg_base.specs.declared.value.Val.TheVariants as val
 use Rattle.rg_base.specs.declared.value.Word.{Word}
+use Rattle.rg_tree.proofs.TreesFrom.{slice_get-push}
 use Rattle.rg_rules.specs.Reach.{addresses, locals_from}
 use Rattle.rg_rules.specs.State.{Local, Frame as Body, frame_at}
 use Rattle.rg_sound.proofs.Stores.MemberLemmas.{In}
+use Rattle.rg_sound.proofs.Owners.OwnerLemmas.{get-take-within}
 use Rattle.rg_cells.specs.Table.{Heap}
 use Rattle.rg_frames.specs.declared.rows.Frame.{Frame as FrameRow}
+use Rattle.rg_frames.proofs.Unwriting.{got-longer}
 use Rattle.rg_stack.specs.Machine.{Frame, place_of, slots_below}
 use Rattle.rg_stack.specs.Shows.{ShowsFrames, place_among, sizes_of}
 use Rattle.rg_heap.specs.Answers.{val_of}
+use Rattle.rg_stack.proofs.Statements.BaseLemmas.{total_of, sizes-more, sizes-length, place_top, as_many}
+use Rattle.rg_stack.proofs.Walks.FrameLemmas.{place_below}
 use Rattle.rg_view.specs.Lain.{Nested}
 use Rattle.rg_machine.proofs.ReleaseLemmas.{order}
 use Rattle.rg_view.proofs.Callers.FrameLemmas.{all-slots, frames_from}
 use Rattle.rg_view.proofs.Callers.LinkLemmas.{word-back}
 use Rattle.rg_view.proofs.Callers.ShownLemmas.{get-drop, get-take}
-use Rattle.rg_machine.proofs.ReachPathLemmas.{get-before, get-either, get-last, get-left, get-right, take-get}
+use Rattle.rg_machine.proofs.ReachPathLemmas.{get-before, get-either, get-right}
 use Rattle.rg_machine.proofs.ReachPathLemmas.{addresses-back, mapped-leads}
 
 -- Places among all slots, by how many slots the frames have, the lowest first
@@ -65,35 +70,6 @@ in-front sizes n m i k size e within (inr here) =
 
 -- Frames, the topmost first
 
--- what so many are together
-abbrev total : List ℕ → ℕ
-total [] = 0
-total (x ∷ xs) = x + total xs
-
-total-append : (xs : List ℕ) (y : ℕ) → total (xs ++ y ∷ []) ≡ total xs + y
-total-append [] y = omega arith
-total-append (x ∷ xs) y = ap (λ n. x + n) (total-append xs y) ∙ omega arith
-
-sizes-more : (f : Frame) (fs : List Frame) → sizes_of (f ∷ fs) ≡ sizes_of fs ++ length f.slots ∷ []
-sizes-more f fs = reverse-append (length f.slots ∷ []) (map (λ (f : Frame). length f.slots) fs)
-
-total_of : (fs : List Frame) → total (sizes_of fs) ≡ slots_below fs
-total_of [] = refl
-total_of (f ∷ fs) =
-    ap total (sizes-more f fs) ∙ total-append (sizes_of fs) (length f.slots) ∙ ap (λ n. n + length f.slots) (total_of fs) ∙ omega arith
-
-sizes-length : (fs : List Frame) → length (sizes_of fs) ≡ length fs
-sizes-length fs = length-reverse (map (λ (f : Frame). length f.slots) fs) ∙ length-map fs (λ (f : Frame). length f.slots)
-
-among-last : (xs : List ℕ) (y k : ℕ) → place_among (xs ++ y ∷ []) (length xs) k ≡ total xs + k
-among-last [] y k = omega arith
-among-last (x ∷ xs) y k = ap (λ n. x + n) (among-last xs y k) ∙ omega arith
-
-among-below : (xs : List ℕ) (y n i : ℕ) → n < length xs → place_among (xs ++ y ∷ []) n i ≡ place_among xs n i
-among-below [] y n i h = absurd (omega (arith, h))
-among-below (x ∷ xs) y zero i h = refl
-among-below (x ∷ xs) y (suc n) i h = let less : n < length xs = omega (arith, h) in ap (λ k. x + k) (among-below xs y n i less)
-
 -- a frame by its number, and its slots
 pub record Numbered (fs : List Frame) (d i n : ℕ) (f : Frame) : Type 0 where
   pub size : slice_get (sizes_of fs) n ≡ Some (length f.slots)
@@ -108,20 +84,20 @@ numbered (g ∷ fs) zero i n f e count =
     record {
       size =
           ap (λ l. slice_get l n) (sizes-more g fs) ∙ ap (slice_get (sizes_of fs ++ length g.slots ∷ [])) last
-          ∙ get-last (sizes_of fs) (length g.slots) ∙ ap (λ (f : Frame). Some (length f.slots)) same;
+          ∙ slice_get-push (sizes_of fs) (length g.slots) ∙ ap (λ (f : Frame). Some (length f.slots)) same;
       place =
           ap (λ l. place_among l n i) (sizes-more g fs)
           ∙ ap (λ n. place_among (sizes_of fs ++ length g.slots ∷ []) n i) last
-          ∙ among-last (sizes_of fs) (length g.slots) i ∙ ap (λ n. n + i) (total_of fs);
+          ∙ place_top (sizes_of fs) (length g.slots) i ∙ ap (λ n. n + i) (total_of fs);
     }
 numbered (g ∷ fs) (suc d) i n f e count =
     let rest = numbered fs d i n f e (omega (arith, count)) in
     let c = sizes-length fs in
     record {
-      size = ap (λ l. slice_get l n) (sizes-more g fs) ∙ get-left (sizes_of fs) (length g.slots ∷ []) n (length f.slots) rest.size;
+      size = ap (λ l. slice_get l n) (sizes-more g fs) ∙ got-longer (sizes_of fs) (length g.slots ∷ []) n (length f.slots) rest.size;
       place =
           ap (λ l. place_among l n i) (sizes-more g fs)
-          ∙ among-below (sizes_of fs) (length g.slots) n i (omega (arith, c, count)) ∙ rest.place;
+          ∙ place_below (sizes_of fs) (length g.slots) n i (omega (arith, c, count)) ∙ rest.place;
     }
 
 -- a frame that is counted from the lowest one
@@ -139,7 +115,7 @@ counted-back (g ∷ fs) n f e =
       | inr le ↦
           let within = slice_get_within (reverse fs ++ g ∷ []) n f at in
           let last : n ≡ length (reverse fs) = omega (arith, le, c, within, length-append (reverse fs) (g ∷ [])) in
-          (0, sym (get-last (reverse fs) g) ∙ ap (slice_get (reverse fs ++ g ∷ [])) (sym last) ∙ at, omega (arith, last, c))
+          (0, sym (slice_get-push (reverse fs) g) ∙ ap (slice_get (reverse fs ++ g ∷ [])) (sym last) ∙ at, omega (arith, last, c))
     ]
 
 -- Slots and variables
@@ -180,16 +156,10 @@ variable-slot (g ∷ fs) (c ∷ bs) shows zero i b l e at =
       g,
       refl,
       ap (λ vs. slice_get vs i) shows.0
-          ∙ get-left (map (λ (l : Local). l.value) c.locals) (replicate (length g.slots - length c.locals) val.Nil) i l.value
+          ∙ got-longer (map (λ (l : Local). l.value) c.locals) (replicate (length g.slots - length c.locals) val.Nil) i l.value
           (slice_get-map (λ (l : Local). l.value) c.locals i ∙ ap (option_map (λ (l : Local). l.value)) there),
     )
 variable-slot (g ∷ fs) (c ∷ bs) shows (suc d) i b l e at = variable-slot fs bs shows.1 d i b l e at
-
-pub as-many : (fs : List Frame) (bs : List Body) → ShowsFrames fs bs → length fs ≡ length bs
-as-many [] [] h = refl
-as-many [] (b ∷ bs) h = absurd h
-as-many (f ∷ fs) [] h = absurd h
-as-many (f ∷ fs) (b ∷ bs) h = ap suc (as-many fs bs h.1)
 
 -- Variables from a base on
 
@@ -201,7 +171,7 @@ local-in n k number i (c ∷ bs) zero b l there at count from = elim from [
       (let less : nat_lt n (length bs) ≡ true = grind (arith, lt, count) in (
         i,
         ap (λ t. slice_get (if t then c.locals ++ locals_from n k bs else (if n == length bs then drop k c.locals else [])) i) less
-            ∙ get-left c.locals (locals_from n k bs) i l here,
+            ∙ got-longer c.locals (locals_from n k bs) i l here,
       ))
   | inr x ↦
       (let is = x.0 in
@@ -262,7 +232,7 @@ module _ (h : Heap) where
       let under : Nested r.below (length (take first slots)) rows = subst (λ n. Nested r.below n rows) (sym taken) lain.1 in
       elim (order j first) [
         | inl lt ↦
-            (let x = word-slot (take first slots) r.below rows under j w (take-get first j slots lt ∙ e) in
+            (let x = word-slot (take first slots) r.below rows under j w (get-take-within first slots j lt ∙ e) in
             (suc x.0, x.1, x.2, x.3, x.4, x.5))
         | inr le ↦
             let back : first + (j - first) ≡ j = omega (arith, le) in
@@ -314,7 +284,7 @@ module _ (h : Heap) where
         let place = at_number.place in
         let same = x.5 in
         let base = from-base (sizes_of fs) number n x.1 k (length x.2.slots) at_number.size inner (omega (arith, le, place, same)) in
-        let z = local-in n k number x.1 bs x.0 y.0 y.1 y.2 y.3 (count ∙ as-many fs bs shows) base in
+        let z = local-in n k number x.1 bs x.0 y.0 y.1 y.2 y.3 (count ∙ as_many fs bs shows) base in
         mapped-leads (λ (l : Local). l.value) (locals_from n k bs) z.0 a y.1 z.1 y.4
 
     -- a variable's value is that of a word
@@ -357,7 +327,7 @@ module _ (h : Heap) where
         let d = counted-back bs n b e in
         let f = variable-slot fs bs shows d.0 i b l d.1 here in
         let w = slot-word slots at rows lain d.0 i f.0 l.value f.1 f.2 in
-        let y = numbered fs d.0 i n f.0 f.1 (d.2 ∙ sym (as-many fs bs shows)) in
+        let y = numbered fs d.0 i n f.0 f.1 (d.2 ∙ sym (as_many fs bs shows)) in
         record {
           place = place_of (drop d.0 fs) i;
           word = w.0;

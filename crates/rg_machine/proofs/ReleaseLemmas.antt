@@ -4,7 +4,7 @@ use Rattle.std.proofs.Common.{map, length, take, drop, reverse, Option, Some, No
 use Rattle.std.proofs.Common.{refl, sym, ap, ◌∙◌, subst, arith}
 use Rattle.std.specs.List.{count_by}
 use Rattle.std.proofs.lemmas.Bool.{false≢true}
-use Rattle.std.proofs.lemmas.List.{length-take-le}
+use Rattle.std.proofs.lemmas.List.{length-take-le, get_or_past}
 use Rattle.std.proofs.lemmas.List.Sums.{sum_by-cons}
 use Rattle.std.proofs.lemmas.Option.{none-some, same_Some, slice_get-map, slice_get_within}
 use Rattle.rg_base.specs.declared.object.Label.{Label}
@@ -12,7 +12,9 @@ use Rattle.rg_base.specs.declared.object.Label.TheVariants.{Region, Temp}
 use Rattle.rg_base.specs.declared.value.Val.{Val}
 use Rattle.rg_base.specs.declared.value.Word.{Word}
 use Rattle.rg_base.specs.declared.value.Word.TheVariants as word
+use Rattle.rg_base.proofs.Callers.Labels.{region-same, temp-region}
 use Rattle.rg_rules.specs.Regions.{among}
+use Rattle.rg_sound.proofs.Owners.OwnerLemmas.{get-take-within}
 use Rattle.rg_cells.specs.declared.cell.Body.{Body}
 use Rattle.rg_cells.specs.Table.{Heap, body_at, label_at, field_at, Serials, IsHeld}
 use Rattle.rg_regions.specs.Table.{Record, record_at, HasNumber, InTable, IsBridge}
@@ -33,7 +35,6 @@ use Rattle.rg_view.specs.Links.{BelowSome}
 use Rattle.rg_view.specs.Names.{Names}
 use Rattle.rg_view.specs.View.{store_of, frames_of, windows_of, managers_of, machine_of}
 use Rattle.rg_view.proofs.Callers.AfterLemmas.{no-temps, label-was, field-was, key-was, parent-was}
-use Rattle.rg_view.proofs.Callers.AfterLemmas.{region-same, temp-region}
 use Rattle.rg_view.proofs.Callers.BeneathLemmas.{beneath-names}
 use Rattle.rg_view.proofs.Callers.FrameLemmas.{frames_from, there}
 use Rattle.rg_view.proofs.Callers.GoneLemmas.{released-numbers}
@@ -61,12 +62,6 @@ pub none-loose : (m : Machine) (v : Val) (r : ℕ) → closed_into m v ≡ Some 
 none-loose m v r c free =
     is-zero (places_into m r) (sym (ap (λ (x : Option ℕ). elim x [ None ↦ true | Some n ↦ places_into m n == 0 ]) c) ∙ free)
 
-pub get-taken : {A : Type 0} (n k : ℕ) (xs : List A) → k < n → slice_get (take n xs) k ≡ slice_get xs k
-get-taken zero k xs lt = absurd (omega (arith, lt))
-get-taken (suc n) k [] lt = refl
-get-taken (suc n) zero (x ∷ xs) lt = refl
-get-taken (suc n) (suc k) (x ∷ xs) lt = get-taken n k xs (omega (arith, lt))
-
 -- a slot of any frame that leads into a region is counted
 pub slots-count : (h : Heap) (r j : ℕ) (w : Word) (slots : List Word) (first : ℕ) (fs : List FrameRow) → Nested first (length slots) fs
     → slice_get slots j ≡ Some w → is_into (store_of h) r (val_of h w) ≡ true → 1 ≤ slots_into (store_of h) r (frames_from h slots first fs)
@@ -79,7 +74,7 @@ slots-count h r j w slots first (f ∷ fs) n e is =
       | inl lt ↦
           let P : ℕ → Type 0 = λ n. Nested f.below n fs in
           let under = slots-count h r j w (take first slots) f.below fs (subst P (sym (length-take-le first slots n.0)) n.1)
-          (get-taken first j slots lt ∙ e) is in
+          (get-take-within first slots j lt ∙ e) is in
           omega (arith, all, under)
       | inr le ↦
           let back : first + (j - first) ≡ j = omega (arith, le) in
@@ -95,11 +90,6 @@ index-at : (xs : List ℕ) (k n d : ℕ) → slice_get xs k ≡ Some n → slice
 index-at [] k n d e = absurd (none-some n e)
 index-at (x ∷ xs) zero n d e = same_Some x n e
 index-at (x ∷ xs) (suc k) n d e = index-at xs k n d e
-
-index-past : (xs : List ℕ) (k d : ℕ) → length xs ≤ k → slice_index_or xs k d ≡ d
-index-past [] k d le = refl
-index-past (x ∷ xs) zero d le = absurd (omega (arith, le))
-index-past (x ∷ xs) (suc k) d le = index-past xs k d (omega (arith, le))
 
 -- where the temporaries of a window begin, and where they end
 abbrev begins-at : List ℕ → ℕ → ℕ
@@ -133,7 +123,7 @@ temp-at : (temps : List ℕ) (begin stop j s : ℕ) → begin ≤ j → j < stop
     → slice_get (drop begin (take stop temps)) (j - begin) ≡ Some s
 temp-at temps begin stop j s le lt e =
     let back : begin + (j - begin) ≡ j = omega (arith, le) in
-    get-drop begin (j - begin) (take stop temps) ∙ ap (slice_get (take stop temps)) back ∙ get-taken stop j temps lt ∙ e
+    get-drop begin (j - begin) (take stop temps) ∙ ap (slice_get (take stop temps)) back ∙ get-take-within stop temps j lt ∙ e
 
 pub temp-window : (v : Stack) → length v.marks ≡ length v.windows → 0 < length v.windows
     → ((n : ℕ) → slice_get v.marks 0 ≡ Some n → n ≡ 0) → (j s : ℕ) → slice_get v.temps j ≡ Some s
@@ -142,7 +132,7 @@ temp-window v many some zeroth j s e =
     let within = slice_get_within v.temps j s e in
     let last : length v.marks - 1 + 1 ≡ length v.marks = omega (arith, many, some) in
     let end : ends-at v.marks (length v.temps) (length v.marks - 1) ≡ length v.temps =
-    index-past v.marks (length v.marks - 1 + 1) (length v.temps) (omega (arith, last)) in
+    get_or_past v.marks (length v.marks - 1 + 1) (length v.temps) (omega (arith, last)) in
     let a = find-mark v.marks (length v.temps) j zeroth (length v.marks - 1) (omega (arith, many, some)) (omega (arith, within, end)) in
     let le = a.2 in
     let lt = a.1 in

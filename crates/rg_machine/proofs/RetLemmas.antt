@@ -1,7 +1,7 @@
--- What a return does: all slots of the topmost frame end, and then it goes.
+-- What a return does: all slots of the topmost frame end, and then it goes. For crates above too.
 use Rattle.std.proofs.Common.{◌≡◌, ℕ, zero, suc, List, [], ◌∷◌, Some, drop, slice_get, Bool as Truth, true, false, ◌&&◌, if◌then◌else◌}
 use Rattle.std.proofs.Common.{refl, sym, ap, ◌∙◌, subst}
-use Rattle.std.proofs.lemmas.Bool.{false≢true}
+use Rattle.std.proofs.lemmas.Bool.{and_parts}
 use Rattle.std.proofs.lemmas.Option.{none-some, same_Some}
 use Rattle.rg_base.specs.declared.value.Val.{Val}
 use Rattle.rg_code.specs.Code.{empty}
@@ -9,6 +9,7 @@ use Rattle.rg_code.specs.declared.op.Op.TheVariants as i
 use Rattle.rg_stack.specs.Machine.{Frame, Machine, Window, slots_below, top_slots, with_slots, ended_slots}
 use Rattle.rg_stack.specs.Effects.{Work, Returns, Stuck, begins_by, on_top, returned}
 use Rattle.rg_stack.specs.Needs.{is_empty, loose, needs, owned_once}
+use Rattle.rg_stack.proofs.Needs.ListLemmas.{empty-is}
 use Rattle.rg_held.specs.Frees.{free_act, freed, given_up}
 use Rattle.rg_machine.specs.declared.next.Next.TheVariants as next
 use Rattle.rg_machine.specs.Core.{Core, ActIs, Has, with_machine, work_of}
@@ -17,14 +18,6 @@ use Rattle.rg_machine.specs.Frames.{Went, may_go, may_return}
 use Rattle.rg_machine.specs.Keeps.{GoesBack, SameBacks, backs}
 
 -- What is needed
-
-both : (a b : Truth) → (a && b) ≡ true → (a ≡ true) × (b ≡ true)
-both true b e = (refl, e)
-both false b e = absurd (false≢true e)
-
-is-none : (stack : List Val) → is_empty stack ≡ true → stack ≡ []
-is-none [] e = refl
-is-none (v ∷ vs) e = absurd (false≢true e)
 
 -- the value alone is on the stack, and owns nothing that has an owner
 record Alone (c : Core) (v : Val) : Type 0 where
@@ -35,9 +28,9 @@ record Alone (c : Core) (v : Val) : Type 0 where
 alone-by : (c : Core) (v : Val) (rest : List Val) → Has i.Ret c → c.stack ≡ v ∷ rest → Alone c v
 alone-by c v rest has e =
     let n = subst (λ (s : List Val). needs empty i.Ret s c.machine ≡ true) e has in
-    let two = both (is_empty rest && owned_once c.machine) (loose c.machine v) n in
-    let one = both (is_empty rest) (owned_once c.machine) two.0 in
-    record { alone = e ∙ ap (λ vs. v ∷ vs) (is-none rest one.0); once = one.1; free = two.1 }
+    let two = and_parts (is_empty rest && owned_once c.machine) (loose c.machine v) n in
+    let one = and_parts (is_empty rest) (owned_once c.machine) two.0 in
+    record { alone = e ∙ ap (λ vs. v ∷ vs) (empty-is rest one.0); once = one.1; free = two.1 }
 
 one-loose : (m : Machine) (v x : Val) (k : ℕ) → loose m v ≡ true → slice_get (v ∷ []) k ≡ Some x → loose m x ≡ true
 one-loose m v x zero free e = ap (loose m) (sym (same_Some v x e)) ∙ free
@@ -52,10 +45,10 @@ ret-loose c v rest has e k x there =
     one-loose c.machine v x k a.free (subst (λ (s : List Val). slice_get s k ≡ Some x) a.alone there)
 
 pub void-once : (c : Core) → Has i.RetVoid c → owned_once c.machine ≡ true
-void-once c has = (both (is_empty c.stack) (owned_once c.machine) has).1
+void-once c has = (and_parts (is_empty c.stack) (owned_once c.machine) has).1
 
 void-none : (c : Core) → Has i.RetVoid c → c.stack ≡ []
-void-none c has = is-none c.stack (both (is_empty c.stack) (owned_once c.machine) has).0
+void-none c has = empty-is c.stack (and_parts (is_empty c.stack) (owned_once c.machine) has).0
 
 pub void-loose : (c : Core) → Has i.RetVoid c → AllLoose c
 void-loose c has k x there = absurd (none-some x (subst (λ (s : List Val). slice_get s k ≡ Some x) (void-none c has) there))

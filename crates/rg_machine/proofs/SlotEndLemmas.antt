@@ -13,6 +13,7 @@ use Rattle.rg_cells.specs.Table.{Serials}
 use Rattle.rg_regions.specs.Grove.{Grove}
 use Rattle.rg_stack.specs.Machine.{Machine, slot_at, put_slot, top_slots, place_of}
 use Rattle.rg_stack.specs.Needs.{closed_into, is_into, loose, may_keep, owned_once, top_base}
+use Rattle.rg_stack.proofs.Walks.NeedLemmas.{closed-counts}
 use Rattle.rg_view.proofs.Callers.HeldLemmas.{region-below}
 use Rattle.rg_machine.specs.Core.{Core, with_machine}
 use Rattle.rg_machine.specs.Effects.{AllLoose, Apart, without}
@@ -20,9 +21,10 @@ use Rattle.rg_machine.specs.Keeps.{backs}
 use Rattle.rg_machine.specs.Parts.{Parts, core_of, machine_in, val_in}
 use Rattle.rg_machine.specs.Stands.{Leads, Stands}
 use Rattle.rg_machine.proofs.DropLemmas.{Asked}
-use Rattle.rg_machine.proofs.FewerLemmas.{backs-slots, closed-back, closed-counts, fewer-loose, fewer-nil, loose-none, once-nil, weight}
+use Rattle.rg_machine.proofs.FewerLemmas.{closed-back, fewer-loose, fewer-nil, loose-none, once-nil, weight}
 use Rattle.rg_machine.proofs.FewerLemmas.{places-nil, places-owned}
 use Rattle.rg_machine.proofs.ReleaseLemmas.{none-loose}
+use Rattle.rg_machine.proofs.SlotLemmas.{backs-slots}
 
 -- nil may stand in any slot
 pub nil-keeps : (m : Machine) (s : ℕ) → may_keep m s Nil ≡ true

@@ -153,15 +153,15 @@ pub machine-slot : (p : Parts) (v : Stack) (at s : ℕ) (w : Word)
 machine-slot p v at s w = ap (λ fs. record (machine_of p v at) { frames = fs }) (slot-frames p.cells.heap v s w)
 
 -- frames go back where they did
-slots-backs : (vs : List Val) (fs : List Frame) → backs (with_slots vs fs) ≡ backs fs
-slots-backs vs [] = refl
-slots-backs vs (f ∷ fs) = refl
+pub backs-slots : (vs : List Val) (fs : List Frame) → backs (with_slots vs fs) ≡ backs fs
+backs-slots vs [] = refl
+backs-slots vs (f ∷ fs) = refl
 
 pub put-backs : (m : Machine) (s : ℕ) (x : Val) → backs (put_slot m s x).frames ≡ backs m.frames
-put-backs m s x = slots-backs _ m.frames
+put-backs m s x = backs-slots _ m.frames
 
 pub slot-backs : (h : Heap) (v : Stack) (s : ℕ) (w : Word) → backs (frames_of h (with_slot v s w)) ≡ backs (frames_of h v)
-slot-backs h v s w = ap backs (slot-frames h v s w) ∙ slots-backs _ (frames_of h v)
+slot-backs h v s w = ap backs (slot-frames h v s w) ∙ backs-slots _ (frames_of h v)
 
 -- what the machine holds, with a slot that is written
 pub core-slot : (x : Whole) (s : ℕ) (w : Word)

@@ -1,5 +1,5 @@
 -- Where each closed region is owned once, a slot that leads into one is the only place that does.
-use Rattle.std.proofs.Common.{◌≡◌, ◌≢◌, ◌≤◌, ◌<◌, ◌==◌, ◌+◌, ◌||◌, inl, inr, ℕ, zero, suc, Bool as Truth, true, cond, List, [], ◌∷◌, map, take}
+use Rattle.std.proofs.Common.{◌≡◌, ◌≤◌, ◌<◌, ◌==◌, ◌+◌, ◌||◌, inl, inr, ℕ, true, cond, List, [], ◌∷◌, map, take}
 use Rattle.std.proofs.Common.{drop, reverse, length, Option, Some, None, option_map, slice_get, count_by, nat_le, refl, sym, ap, ◌∙◌, subst, arith}
 use Rattle.std.specs.List.{sum_by}
 use Rattle.std.proofs.lemmas.Bool.{cases_eq}
@@ -24,6 +24,7 @@ use Rattle.rg_stack.specs.Needs.{is_open, is_into, is_outside, has_window, slots
 use Rattle.rg_heap.specs.Parts.{Parts}
 use Rattle.rg_heap.specs.Answers.{val_of, IsClosed}
 use Rattle.rg_heap.specs.Opened.{Opened, IsWindow}
+use Rattle.rg_held.proofs.Lists.{sum-one}
 use Rattle.rg_view.specs.View.{object_of, store_of, window_of, windows_of, managers_of, machine_of}
 use Rattle.rg_view.specs.Numbers.{Numbers}
 use Rattle.rg_view.specs.Lain.{Nested, Lain}
@@ -32,38 +33,11 @@ use Rattle.rg_view.proofs.Callers.ShownLemmas.{field-in}
 use Rattle.rg_view.proofs.Callers.ManagerLemmas.{managers-length}
 use Rattle.rg_view.proofs.Callers.FrameLemmas.{frames_from}
 use Rattle.rg_view.proofs.Callers.OpenLemmas.{any-in, any-map, any-reverse, closed-not-open, into-there}
-use Rattle.rg_view.proofs.Callers.NeedLemmas.{keyed, sum-hit, weight, count-hit, all_below-at}
+use Rattle.rg_view.proofs.Callers.NeedLemmas.{keyed, weight, count-hit, all_below-at}
+use Rattle.rg_view.proofs.Callers.OnceLemmas.{count-two}
 
 pub eq-is : (a b : ℕ) → a ≡ b → (a == b) ≡ true
 eq-is a b h = grind (arith, h)
-
--- two elements together
-sum-two : {A : Type 0} (f : A → ℕ) (xs : List A) (i j : ℕ) (x y : A) → slice_get xs i ≡ Some x → slice_get xs j ≡ Some y → i ≢ j
-    → f x + f y ≤ sum_by f xs
-sum-two f [] i j x y e g d = absurd (none-some x e)
-sum-two f (z ∷ xs) zero zero x y e g d = absurd (d refl)
-sum-two f (z ∷ xs) zero (suc j) x y e g d =
-    let c = sum_by-cons f z xs in
-    let same : f z ≡ f x = ap f (same_Some z x e) in
-    let h = sum-hit f xs j y g in
-    omega (arith, c, same, h)
-sum-two f (z ∷ xs) (suc i) zero x y e g d =
-    let c = sum_by-cons f z xs in
-    let same : f z ≡ f y = ap f (same_Some z y g) in
-    let h = sum-hit f xs i x e in
-    omega (arith, c, same, h)
-sum-two f (z ∷ xs) (suc i) (suc j) x y e g d =
-    let c = sum_by-cons f z xs in
-    let h = sum-two f xs i j x y e g (λ is. d (ap suc is)) in
-    omega (arith, c, h)
-
-count-two : {A : Type 0} (test : A → Truth) (xs : List A) (i j : ℕ) (x y : A) → slice_get xs i ≡ Some x → slice_get xs j ≡ Some y
-    → test x ≡ true → test y ≡ true → i ≢ j → 2 ≤ count_by test xs
-count-two test xs i j x y e g a b d =
-    let h : weight (test x) + weight (test y) ≤ count_by test xs = sum-two (λ x. weight (test x)) xs i j x y e g d in
-    let one : weight (test x) ≡ weight true = ap weight a in
-    let two : weight (test y) ≡ weight true = ap weight b in
-    omega (arith, h, one, two)
 
 -- what the slots of all frames count is what all slots do
 slots-count : (h : Heap) (store : List Seen) (r : ℕ) (slots : List Word) (first : ℕ) (fs : List FrameRow) → Nested first (length slots) fs
@@ -150,7 +124,7 @@ module _ (p : Parts) (v : Stack) (at : ℕ) (q : Serials p.cells.heap) (g : Grov
           (count_by (is_into (store_of p.cells.heap) r) (map (val_of p.cells.heap) b.fields)) 0
           ≡ count_by (is_into (store_of p.cells.heap) r) (map (val_of p.cells.heap) b.fields) =
           ap (λ t. cond t (count_by (is_into (store_of p.cells.heap) r) (map (val_of p.cells.heap) b.fields)) 0) outside in
-          let hit = sum-hit (λ (x : Seen). cond (is_outside (windows_of p.regions v) r x.label)
+          let hit = sum-one (λ (x : Seen). cond (is_outside (windows_of p.regions v) r x.label)
           (count_by (is_into (store_of p.cells.heap) r) x.fields) 0) (store_of p.cells.heap) b.serial (object_of p.cells.heap (Some b))
           (store-held p.cells.heap s b q e) in
           omega (arith, one, counts, hit)

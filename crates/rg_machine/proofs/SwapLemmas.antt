@@ -1,7 +1,7 @@
 -- A field and a slot that own change places: what the call of the heap asks, what holds behind it, and the machine that is shown.
 use Rattle.std.proofs.Common.{◌≡◌, ◌⊎◌, inl, inr, ◌<◌, ◌+◌, ◌-◌, ℕ, zero, suc, Bool as Truth, true, ◌&&◌, nat_lt}
 use Rattle.std.proofs.Common.{List, [], ◌∷◌, ◌++◌, Some, length, reverse, slice_get, unwrap_or}
-use Rattle.std.proofs.Common.{Result, Ok, Err, refl, sym, ap, subst, ◌∙◌, arith}
+use Rattle.std.proofs.Common.{Result, Ok, Err, sym, ap, subst, ◌∙◌, arith}
 use Rattle.std.proofs.lemmas.Bool.{false≢true}
 use Rattle.std.proofs.lemmas.Option.{none-some}
 use Rattle.rg_base.specs.declared.object.Label.TheVariants.{Region, Temp, Frozen}
@@ -10,6 +10,8 @@ use Rattle.rg_base.specs.declared.outcome.Trap.{Trap}
 use Rattle.rg_base.specs.declared.value.Val.{Val}
 use Rattle.rg_base.specs.declared.value.Word.{Word}
 use Rattle.rg_base.specs.declared.value.Word.TheVariants as word
+use Rattle.rg_base.proofs.Callers.Labels.{slot-same, region-same}
+use Rattle.rg_tree.proofs.TreesFrom.{slice_get-push}
 use Rattle.rg_code.specs.Code.{empty}
 use Rattle.rg_code.specs.declared.op.Op.TheVariants as i
 use Rattle.rg_cells.specs.declared.cell.Body.{Body}
@@ -22,7 +24,7 @@ use Rattle.rg_frames.specs.Stack.{Stack, with_slot}
 use Rattle.rg_stack.specs.Machine.{Machine, put_slot, slot_at}
 use Rattle.rg_stack.specs.Effects.{Traps, Walked, on_object, on_top, put_in, stored, with_store}
 use Rattle.rg_stack.specs.Needs.{field_of, is_empty, is_field, is_writable, of_object, of_top, owned_once, owns_or_nil, size_of}
-use Rattle.rg_stack.proofs.Callers.OrderLemmas.{and_first, and_second}
+use Rattle.rg_stack.proofs.Basics.{and-left, and-right}
 use Rattle.rg_held.specs.Frees.{free_act}
 use Rattle.rg_heap.specs.Parts.{Parts}
 use Rattle.rg_heap.specs.Answers.{IsClosed, val_of}
@@ -51,19 +53,9 @@ get-front [] y k x e = absurd (none-some x e)
 get-front (z ∷ xs) y zero x e = e
 get-front (z ∷ xs) y (suc k) x e = get-front xs y k x e
 
-pub get-last : {A : Type 0} → (xs : List A) (y : A) → slice_get (xs ++ y ∷ []) (length xs) ≡ Some y
-get-last [] y = refl
-get-last (z ∷ xs) y = get-last xs y
-
 -- all but the last of words that lead
 pub lead-front : (p : Parts) (v : Stack) (words front : List Word) (r : Word) → words ≡ front ++ r ∷ [] → AllLead p v words → AllLead p v front
 lead-front p v words front r e l k w f = l k w (ap (λ ws. slice_get ws k) e ∙ get-front front r k w f)
-
-slot-same : (a b : ℕ) → word.Slot a ≡ word.Slot b → a ≡ b
-slot-same a b e = cc
-
-region-same : (a b : ℕ) → Some (Region a) ≡ Some (Region b) → a ≡ b
-region-same a b e = cc
 
 module _ (p : Parts) (v : Stack) (q : Serials p.cells.heap) (g : Grove p.cells p.regions) (h : Stands p v) where
   -- a closed region has no window
@@ -121,7 +113,7 @@ swaps-by : (x : Whole) (words : List Word) (r : Word) (slot s k : ℕ) → x.wor
     → AllLead x.heap x.frames x.words → Has (i.Swap s k) (core_of x) → Swaps x slot s k
 swaps-by x words r slot s k ends is q l given =
     let m = machine_in x in
-    let leads = l (length words) r (ap (λ ws. slice_get ws (length words)) ends ∙ get-last words r) in
+    let leads = l (length words) r (ap (λ ws. slice_get ws (length words)) ends ∙ slice_get-push words r) in
     let b = held-body x.heap.cells.heap slot (leads.held slot is) in
     let o = object_of x.heap.cells.heap (Some b.0) in
     let test : Seen → Truth = λ o. owned_once m && is_field m k o && owns_or_nil m (field_of o k) && owns_or_nil m (slot_at m s) in
@@ -130,19 +122,19 @@ swaps-by x words r slot s k ends is q l given =
     let one : (is_empty (values_of x.heap.cells.heap words) && nat_lt s (size_of m) && of_object m (val_in x r) test) ≡ true =
     sym (ap (λ vs. of_top vs (λ r rest. is_empty rest && nat_lt s (size_of m) && of_object m r test)) stack) ∙ given in
     let two : test o ≡ true =
-    sym (ap (λ r. of_object m (val_in x r) test) is ∙ object-tested x.heap x.frames x.at slot b.0 test q b.1) ∙ and_second _ _ one in
-    let three = and_first _ _ two in
-    let four = and_first _ _ three in
-    let field = and_second _ _ four in
+    sym (ap (λ r. of_object m (val_in x r) test) is ∙ object-tested x.heap x.frames x.at slot b.0 test q b.1) ∙ and-right _ _ one in
+    let three = and-left _ _ two in
+    let four = and-left _ _ three in
+    let field = and-right _ _ four in
     record {
       body = b.0;
       there = b.1;
-      inside = and_second _ _ (and_first _ _ one);
-      once = and_first _ _ four;
-      writable = and_first _ _ field;
-      within = and_second _ _ field;
-      field = and_second _ _ three;
-      owner = and_second _ _ two;
+      inside = and-right _ _ (and-left _ _ one);
+      once = and-left _ _ four;
+      writable = and-left _ _ field;
+      within = and-right _ _ field;
+      field = and-right _ _ three;
+      owner = and-right _ _ two;
     }
 
 swaps : (x y : Whole) → x ≡ y → (words : List Word) (r : Word) (slot s k : ℕ) → x.words ≡ words ++ r ∷ [] → r ≡ word.Slot slot

@@ -30,9 +30,10 @@ use Rattle.rg_machine.specs.Parts.{Parts, core_of, machine_in, val_in}
 use Rattle.rg_machine.specs.Stands.{AllLead, Leads, Stands}
 use Rattle.rg_machine.proofs.DropLemmas.{Asked, core-same}
 use Rattle.rg_machine.proofs.EndingLemmas.{ended-more, ended-none, ending-none, nil-again}
-use Rattle.rg_machine.proofs.FewerLemmas.{backs-slots, fewer-all, fewer-nil, fewer-once, fewer-without, once-nil}
+use Rattle.rg_machine.proofs.FewerLemmas.{fewer-all, fewer-nil, fewer-once, fewer-without, once-nil}
 use Rattle.rg_machine.proofs.ReleaseLemmas.{order}
 use Rattle.rg_machine.proofs.SlotEndLemmas.{asked-slot, backs-slot, behind-slot, bounded, slot-nil}
+use Rattle.rg_machine.proofs.SlotLemmas.{backs-slots}
 
 -- A word in a slot leads where one on the stack may
 pub slot-leads : (p : Parts) → Serials p.heap.cells.heap → Grove p.heap.cells p.heap.regions → Stands p.heap p.frames → (j : ℕ) (w : Word)

@@ -1,16 +1,20 @@
 -- A temporary comes: those of the other windows stay, and it is one of the topmost window.
 use Rattle.std.proofs.Common.{◌≡◌, ◌≤◌, ◌<◌, ◌⊎◌, inl, inr, ℕ, ◌+◌, ◌-◌, zero, suc, List, [], ◌∷◌, ◌++◌, Some, length, take, slice_get}
 use Rattle.std.proofs.Common.{slice_index_or, refl, sym, ap, ◌∙◌, arith}
-use Rattle.std.proofs.lemmas.Option.{none-some, same_Some}
+use Rattle.std.proofs.lemmas.Option.{none-some, same_Some, slice_get-get_or, slice_get_within}
+use Rattle.std.proofs.lemmas.List.{get_or_past, get_or_default}
 use Rattle.rg_base.specs.declared.object.Label.TheVariants.{Temp}
+use Rattle.rg_tree.proofs.TreesFrom.{slice_get-push}
+use Rattle.rg_sound.proofs.Owners.OwnerLemmas.{get-take-within}
 use Rattle.rg_cells.specs.Table.{IsHeld}
+use Rattle.rg_regions.proofs.Callers.Told.{labelled_held}
 use Rattle.rg_frames.specs.declared.rows.Window.{Window}
 use Rattle.rg_frames.specs.Stack.{Stack, MarksLie, with_temp}
+use Rattle.rg_frames.proofs.Unwriting.{got-longer}
 use Rattle.rg_heap.specs.Parts.{Parts}
 use Rattle.rg_heap.specs.Opened.{IsWindow, IsTempOf}
 use Rattle.rg_view.proofs.Callers.FrameLemmas.{there}
 use Rattle.rg_view.proofs.Callers.ShownLemmas.{get-drop, get-take}
-use Rattle.rg_view.proofs.Callers.HeldLemmas.{labelled-held}
 use Rattle.rg_machine.specs.Stands.{Stands}
 
 -- Lists by their places
@@ -20,26 +24,6 @@ taken-within zero k xs x e = absurd (none-some x e)
 taken-within (suc n) k [] x e = absurd (none-some x e)
 taken-within (suc n) zero (y ∷ xs) x e = omega arith
 taken-within (suc n) (suc k) (y ∷ xs) x e = let lt = taken-within n k xs x e in omega (arith, lt)
-
-taken-at : {A : Type 0} → (n k : ℕ) (xs : List A) → k < n → slice_get (take n xs) k ≡ slice_get xs k
-taken-at zero k xs lt = absurd (omega (arith, lt))
-taken-at (suc n) k [] lt = refl
-taken-at (suc n) zero (y ∷ xs) lt = refl
-taken-at (suc n) (suc k) (y ∷ xs) lt = taken-at n k xs (omega (arith, lt))
-
-pub got-within : {A : Type 0} → (xs : List A) (k : ℕ) (x : A) → slice_get xs k ≡ Some x → k < length xs
-got-within [] k x e = absurd (none-some x e)
-got-within (y ∷ xs) zero x e = omega arith
-got-within (y ∷ xs) (suc k) x e = let lt = got-within xs k x e in omega (arith, lt)
-
-in-front : {A : Type 0} → (xs ys : List A) (k : ℕ) (x : A) → slice_get xs k ≡ Some x → slice_get (xs ++ ys) k ≡ Some x
-in-front [] ys k x e = absurd (none-some x e)
-in-front (z ∷ xs) ys zero x e = e
-in-front (z ∷ xs) ys (suc k) x e = in-front xs ys k x e
-
-at-end : {A : Type 0} → (xs : List A) (y : A) → slice_get (xs ++ y ∷ []) (length xs) ≡ Some y
-at-end [] y = refl
-at-end (x ∷ xs) y = at-end xs y
 
 pub in-front-or : {A : Type 0} → (xs : List A) (y x : A) (k : ℕ) → slice_get (xs ++ y ∷ []) k ≡ Some x
     → (slice_get xs k ≡ Some x) ⊎ ((k ≡ length xs) × (y ≡ x))
@@ -56,21 +40,6 @@ one-longer [] y = refl
 one-longer (x ∷ xs) y = let e = one-longer xs y in omega (arith, e)
 
 -- Marks
-
-past-end : (xs : List ℕ) (k d : ℕ) → length xs ≤ k → slice_index_or xs k d ≡ d
-past-end [] k d le = refl
-past-end (x ∷ xs) zero d le = absurd (omega (arith, le))
-past-end (x ∷ xs) (suc k) d le = past-end xs k d (omega (arith, le))
-
-inside : (xs : List ℕ) (k d : ℕ) → k < length xs → slice_get xs k ≡ Some (slice_index_or xs k d)
-inside [] k d lt = absurd (omega (arith, lt))
-inside (x ∷ xs) zero d lt = refl
-inside (x ∷ xs) (suc k) d lt = inside xs k d (omega (arith, lt))
-
-any-default : (xs : List ℕ) (k d e : ℕ) → k < length xs → slice_index_or xs k d ≡ slice_index_or xs k e
-any-default [] k d e lt = absurd (omega (arith, lt))
-any-default (x ∷ xs) zero d e lt = refl
-any-default (x ∷ xs) (suc k) d e lt = any-default xs k d e (omega (arith, lt))
 
 order : (a b : ℕ) → (a < b) ⊎ (b ≤ a)
 order zero zero = inr (omega arith)
@@ -105,7 +74,7 @@ is-temp v i s b =
     let at : begin + (b.place - begin) ≡ b.place = omega (arith, from) in (
       b.place - begin,
       get-drop begin (b.place - begin) (take end v.temps) ∙ ap (slice_get (take end v.temps)) at
-          ∙ taken-at end b.place v.temps b.to ∙ b.stands,
+          ∙ get-take-within end v.temps b.place b.to ∙ b.stands,
     )
 
 module _ (v : Stack) (m : MarksLie v) (slot : ℕ) where
@@ -121,16 +90,16 @@ module _ (v : Stack) (m : MarksLie v) (slot : ℕ) where
         from = b.from;
         to = elim (order (i + 1) (length v.marks)) [
           | inl lt ↦
-              let same = any-default v.marks (i + 1) (length v.temps) (length (with_temp v slot).temps) lt in
+              let same = get_or_default v.marks (i + 1) (length v.temps) (length (with_temp v slot).temps) lt in
               let to = b.to in
               omega (arith, same, to)
           | inr le ↦
-              let end = past-end v.marks (i + 1) (length (with_temp v slot).temps) le in
-              let within = got-within v.temps b.place s b.stands in
+              let end = get_or_past v.marks (i + 1) (length (with_temp v slot).temps) le in
+              let within = slice_get_within v.temps b.place s b.stands in
               let more = longer in
               omega (arith, end, within, more)
         ];
-        stands = in-front v.temps (slot ∷ []) b.place s b.stands;
+        stands = got-longer v.temps (slot ∷ []) b.place s b.stands;
       })
 
   -- one that is there now was there, or is the new one, and the window is the topmost
@@ -144,12 +113,12 @@ module _ (v : Stack) (m : MarksLie v) (slot : ℕ) where
           from = b.from;
           to = elim (order (i + 1) (length v.marks)) [
             | inl lt ↦
-                let same = any-default v.marks (i + 1) (length v.temps) (length (with_temp v slot).temps) lt in
+                let same = get_or_default v.marks (i + 1) (length v.temps) (length (with_temp v slot).temps) lt in
                 let to = b.to in
                 omega (arith, same, to)
             | inr le ↦
-                let end = past-end v.marks (i + 1) (length v.temps) le in
-                let within = got-within v.temps b.place s was in
+                let end = get_or_past v.marks (i + 1) (length v.temps) le in
+                let within = slice_get_within v.temps b.place s was in
                 omega (arith, end, within)
           ];
           stands = was;
@@ -157,7 +126,7 @@ module _ (v : Stack) (m : MarksLie v) (slot : ℕ) where
         | inr last ↦ elim (order (i + 1) (length v.marks)) [
           | inl lt ↦
               let d = length (with_temp v slot).temps in
-              let within = m.within (i + 1) (slice_index_or v.marks (i + 1) d) (inside v.marks (i + 1) d lt) in
+              let within = m.within (i + 1) (slice_index_or v.marks (i + 1) d) (slice_get-get_or v.marks (i + 1) d lt) in
               let to = b.to in
               let at = last.0 in
               absurd (omega (arith, within, to, at))
@@ -170,20 +139,20 @@ module _ (v : Stack) (m : MarksLie v) (slot : ℕ) where
   temp-new i lt le =
       is-temp (with_temp v slot) i slot (record {
         place = length v.temps;
-        from = m.within i (slice_index_or v.marks i 0) (inside v.marks i 0 lt);
+        from = m.within i (slice_index_or v.marks i 0) (slice_get-get_or v.marks i 0 lt);
         to =
-            let end = past-end v.marks (i + 1) (length (with_temp v slot).temps) le in
+            let end = get_or_past v.marks (i + 1) (length (with_temp v slot).temps) le in
             let more = longer in
             omega (arith, end, more);
-        stands = at-end v.temps slot;
+        stands = slice_get-push v.temps slot;
       })
 
 -- where window 0's temporaries begin at the first one, each is one of a window
 module _ (p : Parts) (v : Stack) (st : Stands p v) where
   begins : slice_index_or v.marks 0 0 ≡ 0
   begins = elim (order 0 (length v.marks)) [
-    | inl lt ↦ st.first_mark (slice_index_or v.marks 0 0) (inside v.marks 0 0 lt)
-    | inr le ↦ past-end v.marks 0 0 le
+    | inl lt ↦ st.first_mark (slice_index_or v.marks 0 0) (slice_get-get_or v.marks 0 0 lt)
+    | inr le ↦ get_or_past v.marks 0 0 le
   ]
 
   among : (k j s : ℕ) → slice_get v.temps j ≡ Some s → k < length v.marks → j < slice_index_or v.marks (k + 1) (length v.temps)
@@ -194,7 +163,7 @@ module _ (p : Parts) (v : Stack) (st : Stands p v) where
   among (suc k) j s e lt to = elim (order j (slice_index_or v.marks (suc k) 0)) [
     | inl less ↦
         let at : suc k ≡ k + 1 = omega arith in
-        let same = any-default v.marks (suc k) 0 (length v.temps) lt ∙ ap (λ n. slice_index_or v.marks n (length v.temps)) at in
+        let same = get_or_default v.marks (suc k) 0 (length v.temps) lt ∙ ap (λ n. slice_index_or v.marks n (length v.temps)) at in
         among k j s e (omega (arith, lt)) (omega (arith, less, same))
     | inr from ↦ (suc k, lt, is-temp v (suc k) s (record { place = j; from = from; to = to; stands = e }))
   ]
@@ -204,8 +173,8 @@ module _ (p : Parts) (v : Stack) (st : Stands p v) where
       let some = st.opened.some in
       let many = st.opened.as_many in
       let last = length v.marks - 1 in
-      let within = got-within v.temps j s e in
-      let end = past-end v.marks (last + 1) (length v.temps) (omega arith) in
+      let within = slice_get_within v.temps j s e in
+      let end = get_or_past v.marks (last + 1) (length v.temps) (omega arith) in
       let t = among last j s e (omega (arith, some, many)) (omega (arith, within, end)) in
       let lt = t.1 in
       let w = there v.windows t.0 (omega (arith, lt, many)) in
@@ -213,4 +182,4 @@ module _ (p : Parts) (v : Stack) (st : Stands p v) where
 
   -- so it is held
   pub temp-held : (j s : ℕ) → slice_get v.temps j ≡ Some s → IsHeld p.cells.heap s
-  temp-held j s e = let t = temp-of j s e in labelled-held p.cells.heap s (Temp t.1.number) (st.opened.temps t.0 s t.1 t.2 t.3)
+  temp-held j s e = let t = temp-of j s e in labelled_held p.cells.heap s (Temp t.1.number) (st.opened.temps t.0 s t.1 t.2 t.3)

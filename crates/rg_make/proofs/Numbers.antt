@@ -1,6 +1,6 @@
 -- Rows that were added last stand for their trees by their numbers.
-use Rattle.std.proofs.Common.{◌≡◌, ℕ, ◌<◌, List, [], ◌∷◌, ◌++◌, length, ap, ◌∙◌, arith}
-use Rattle.std.proofs.lemmas.List.{length_push}
+use Rattle.std.proofs.Common.{◌≡◌, ℕ, ◌<◌, [], ◌∷◌, ◌++◌, length, ap, ◌∙◌, arith}
+use Rattle.rg_base.proofs.Callers.Lists.{below}
 use Rattle.rg_tree.specs.Tree.{Name, Expr, Stmt, Param, Member}
 use Rattle.rg_tree.specs.Rows.Tables.{Tables, name_at}
 use Rattle.rg_tree.specs.Rows.RowTrees.{expr_at, stmt_at, param_at, member_at, program_of}
@@ -14,10 +14,6 @@ use Rattle.rg_tree.proofs.Callers.{IsAbove-Keeps, expr_at-keeps, stmt_at-keeps, 
 use Rattle.rg_tree.proofs.Grows.{name_at-grows}
 use Rattle.rg_make.proofs.Adding.{extends-program}
 use Rattle.rg_make.specs.Inner.Adds.{Adds, Means, IsStmtNumber, IsParamNumber, IsMemberNumber}
-
--- the number of the row that was put last
-below : {R : Type 0} (old new : List R) (r : R) (n : ℕ) → new ≡ old ++ r ∷ [] → n ≡ length old → n < length new
-below old new r n e l = omega (arith, ap length e, length_push old r)
 
 module _ {t : Tables} (n : ℕ) where
   name-means : (x : Name) → name_at t n ≡ x → n < length t.names → Means name_at IsNameIn t n x

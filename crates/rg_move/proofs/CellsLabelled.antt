@@ -6,6 +6,7 @@ use Rattle.std.proofs.lemmas.List.{get_or-set_same, get_or-set_other}
 use Rattle.std.proofs.lemmas.List.Sums.{sum_by-cons}
 use Rattle.std.proofs.lemmas.Bool.{cases_eq, cases_lt}
 use Rattle.rg_base.specs.declared.object.Label.{Label}
+use Rattle.rg_base.proofs.Callers.Options.{some-there}
 use Rattle.rg_cells.specs.declared.cell.Body.{Body}
 use Rattle.rg_cells.specs.Table.{Heap, Table, IsHeld, body_at, body_in, mark_at, with_label, with_body, high_of}
 use Rattle.rg_regions.specs.Same.{IsSameCell, AllDiffer}
@@ -35,14 +36,10 @@ with_label_is h s l b e = ap (λ (o : Option Body). elim o [
   | Some b ↦ with_body h s (record b { label = l })
 ]) e
 
-body_there : (o : Option Body) → IsSome o → (b : Body) × (o ≡ Some b)
-body_there None e = cc
-body_there (Some b) e = (b, refl)
-
 -- one cell gets another label
 pub label_here : (h : Heap) (s : ℕ) (l : Label) → IsHeld h s → body_at (with_label h s l) s ≡ labelled l (body_at h s)
 label_here h s l held =
-    let b = body_there (body_at h s) held in
+    let b = some-there (body_at h s) held in
     let o = held_once h s held in
     ap (λ z. body_at z s) (with_label_is h s l b.0 b.1)
     ∙ ap body_in (set_there h.slots s o.0 (Some (Some (record b.0 { label = l }))) o.1)
@@ -51,14 +48,14 @@ label_here h s l held =
 pub label_apart : (h : Heap) (s : ℕ) (l : Label) (x : ℕ) → IsHeld h s → x ≢ s
     → body_at (with_label h s l) x ≡ body_at h x
 label_apart h s l x held d =
-    let b = body_there (body_at h s) held in
+    let b = some-there (body_at h s) held in
     ap (λ z. body_at z x) (with_label_is h s l b.0 b.1)
     ∙ ap body_in (get_or-set_other h.slots s x (Some (Some (record b.0 { label = l }))) None d)
 
 pub label_kept : (h : Heap) (s : ℕ) (l : Label) → IsHeld h s
     → ((with_label h s l).next ≡ h.next) × (high_of (with_label h s l) ≡ high_of h)
 label_kept h s l held =
-    let b = body_there (body_at h s) held in
+    let b = some-there (body_at h s) held in
     let o = held_once h s held in
     let e = with_label_is h s l b.0 b.1 in
     (ap (λ (z : Heap). z.next) e, ap high_of e ∙ count-kept h.slots s o.0 (Some (record b.0 { label = l })) o.1)

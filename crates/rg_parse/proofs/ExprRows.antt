@@ -274,13 +274,6 @@ paren-row o e = primary-rows o ∙ ap primary_row e
 pub path-row : (o : Option Kind) → primary_start o ≡ start.Path → row p.Primary o ≡ Some (the p.Path ∷ the p.Is ∷ [])
 path-row o e = primary-rows o ∙ ap primary_row e
 
-pub literal-row : (x : Kind) (a : Expr) → literal_of x ≡ Some a → row p.Primary (Some x) ≡ Some (that x ∷ [])
-literal-row (k.Number z) a e = refl
-literal-row (k.Word w.True) a e = refl
-literal-row (k.Word w.False) a e = refl
-literal-row (k.Word w.Nil) a e = refl
-literal-row _ a e = absurd (none-some e)
-
 pub literal-found : (x : Kind) (y : Expr) {a b c : State} {n : ℕ} → literal_of x ≡ Some y → Took x a b → Kept b c
     → Means expr_at IsExprNumber c.tables n y → FoundPrimary a n c
 literal-found x y e (took {source = source} {t = t} {ts = ts} {c = c} i h) (kept l) m =

@@ -1,6 +1,5 @@
 -- Rows stand for the same trees wherever the tables grow.
-use Rattle.std.proofs.Common.{◌≡◌, ℕ, ◌<◌, List, length, ◌∷◌, [], ◌++◌, Option, None, Some, IfSome, option_map, refl, ap, ◌∙◌, arith}
-use Rattle.std.proofs.lemmas.List.{length_push}
+use Rattle.std.proofs.Common.{◌≡◌, ℕ, ◌<◌, List, length, Option, None, Some, IfSome, option_map, refl, ap, ◌∙◌, arith}
 use Rattle.rg_tree.specs.declared.rows.Span.{Span}
 use Rattle.rg_tree.specs.Tree.{Expr, Stmt, Param, Member}
 use Rattle.rg_tree.specs.Rows.Tables.{Tables, name_at}
@@ -37,10 +36,6 @@ module _ {t : Tables} (n : ℕ) where
 
 pub order-means : {t : Tables} (s : Span) (ks : List ℕ) → Holds t s ks → Means numbers_of IsListed t s ks
 order-means s ks h = record { is = λ u k. (Holds-keeps k s ks h).these_are; there = λ u k. (Holds-keeps k s ks h).within }
-
--- the number of the row that was put last
-pub below : {R : Type 0} (old new : List R) (r : R) (n : ℕ) → new ≡ old ++ r ∷ [] → n ≡ length old → n < length new
-below old new r n e l = omega (arith, ap length e, length_push old r)
 
 -- tables that grow by no class
 

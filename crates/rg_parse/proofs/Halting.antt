@@ -11,7 +11,7 @@ use Rattle.rg_tree.specs.Counts.{entered, behind}
 use Rattle.rg_tree.specs.Forms.{Form, Given}
 use Rattle.rg_tree.specs.Grammar.{Reads}
 use Rattle.rg_tree.specs.Phrases.{Phrase, Symbol, that, sign, name, the}
-use Rattle.rg_tree.specs.Stuck.{expected, no_row, by_row, fits}
+use Rattle.rg_tree.specs.Stuck.{no_row, by_row, fits}
 use Rattle.rg_tree.specs.Table.{next, row}
 use Rattle.rg_tree.specs.Rows.Tables.{Tables}
 use Rattle.rg_tree.proofs.ByRows.{phrase_of}
@@ -20,10 +20,10 @@ use Rattle.rg_tree.proofs.Stopping.{kind_is}
 use Rattle.rg_parse.specs.declared.reader.halt.Halt.{Halt}
 use Rattle.rg_parse.specs.declared.reader.halt.Halt.TheVariants as halt
 use Rattle.rg_parse.specs.declared.reader.limits.Role.{Role}
-use Rattle.rg_parse.specs.declared.reader.limits.Role.TheVariants as role
 use Rattle.rg_parse.specs.Inner.Roles.{symbol_of}
 use Rattle.rg_parse.specs.Inner.Steps.{State, Halts, Took, took, took_brace, took_paren, Signed, signed, Used, used, Declared, declared, Found, found}
 use Rattle.rg_parse.specs.Inner.Steps.{Kept, kept, settled, IsFree}
+use Rattle.rg_parse.proofs.Tokens.{expected-symbol_of}
 
 -- want of memory says nothing
 pub halts-memory : (ys : List Symbol) (a b : State) (e : Halt) → e ≡ halt.Memory → Halts ys a e b
@@ -69,15 +69,11 @@ pub halts-used : {n : ℕ} {ys : List Symbol} {a m b : State} (e : Halt) → Use
 halts-used halt.Memory h w = record { stops = tt }
 halts-used (halt.At f) (used h n g) w = record { stops = λ ss. fits {y = name} (kind_is h) refl (w.stops ss) }
 
-symbol_of-name : (r : Role) → expected (symbol_of r) ≡ Some (Some k.Name)
-symbol_of-name role.Class = refl
-symbol_of-name _ = refl
-
 pub halts-declared : (r : Role) {n : ℕ} {ys : List Symbol} {a m b : State} (e : Halt) → Declared (symbol_of r) a n m → Halts ys m e b
     → Halts (symbol_of r ∷ ys) a e b
 halts-declared r halt.Memory h w = record { stops = tt }
 halts-declared r (halt.At f) (declared h l n g) w = record {
-  stops = λ ss. fits {y = symbol_of r} (symbol_of-name r ∙ kind_is h) l (w.stops ss);
+  stops = λ ss. fits {y = symbol_of r} (expected-symbol_of r ∙ kind_is h) l (w.stops ss);
 }
 
 -- behind what is read

@@ -14,7 +14,7 @@ use Rattle.rg_base.specs.declared.outcome.Trap.TheVariants.{Depth}
 use Rattle.rg_base.specs.Input.{NextNumber, found, malformed, at_end, next_number}
 use Rattle.rg_tree.specs.Tree.{no_else, otherwise, Else, Name, Variable, Expr, Call, Right, value, new, new_tmp, new_iso, freeze, merge, read, more}
 use Rattle.rg_tree.specs.Tree.{result_of, Stmt, stmt, StmtKind, declare, assign, call, swap, branch, while, enter, print, collect, return, Block}
-use Rattle.rg_tree.specs.Tree.{empty as none, then as followed_by, Method, Class}
+use Rattle.rg_tree.specs.Tree.{Method, Class}
 use Rattle.rg_rules.specs.Answers.{test}
 use Rattle.rg_rules.specs.Types.{class_named, method_named, type_of}
 use Rattle.rg_rules.specs.Paths.{all_but_last, last_field}
@@ -29,6 +29,7 @@ use Rattle.rg_rules.specs.Steps.{put_field, step_assign, step_swap, begin_block,
 use Rattle.rg_rules.specs.Steps.{step_leave, step_item, step_first, Went, next}
 use Rattle.rg_rules.proofs.AnswersLemmas.{bind-ok, then-ok}
 use Rattle.rg_rules.proofs.StepLemmas.{computed-ok, stepped-went}
+use Rattle.rg_sound.proofs.Owners.EntranceLemmas.{items_of-append}
 use Rattle.rg_plain.specs.Inner.Steps.{StepIs}
 use Rattle.rg_plain.specs.Outcomes.{Settles, PrintsOrStays, EndsMain, settled_outcome, prints, item_prints}
 
@@ -100,10 +101,6 @@ taken-goes : (s u : State) (put : Use) → IsQuiet put → (n : NextNumber) → 
 taken-goes s u put quiet (found z rest) h = goes-put s (record s { input = rest }) u put quiet (Int z) refl refl (ok-is _ _ h)
 taken-goes s u put quiet malformed h = absurd (cc)
 taken-goes s u put quiet at_end h = absurd (cc)
-
-items_of-append : (b : Block) (xs ys : List Item) → items_of b (xs ++ ys) ≡ items_of b xs ++ ys
-items_of-append none xs ys = refl
-items_of-append (followed_by s b) xs ys = ap (λ q. Do s ∷ q) (items_of-append b xs ys)
 
 called-goes : (classes : List Class) (s u : State) (to : Target) (c : Call) (self : Val) (class : ℕ) (m : Option Method) →
     called classes s to c self class m ≡ Ok u → Goes s u

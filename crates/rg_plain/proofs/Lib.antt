@@ -1,5 +1,5 @@
 -- Lemmas on the machine that never frees; that with pub is for crates above.
-mod Rows
+pub mod Rows
 mod Expressions
 mod Statements
 pub mod Runs

@@ -1,4 +1,4 @@
--- What is kept: variables, things to do, frames, labels and windows, and the machine as a whole.
+-- What is kept: variables, things to do, frames, labels and windows, and the machine as a whole. For callers: how main's items end.
 pub mod LocalLemmas
 pub mod ItemLemmas
 pub mod FrameLemmas

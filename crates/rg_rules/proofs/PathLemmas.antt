@@ -1,5 +1,5 @@
 -- What a walk that gave a type says of its parts. For callers.
-use Rattle.std.proofs.Common.{◌≡◌, refl, ℕ, false, List, Some, ok_or, Ok, arith}
+use Rattle.std.proofs.Common.{◌≡◌, refl, ap, ℕ, false, List, [], ◌∷◌, ◌++◌, Some, ok_or, Ok, arith}
 use Rattle.rg_base.specs.declared.words.Cap.TheVariants.{Mut, Tmp, Paused, Imm, Iso}
 use Rattle.rg_base.specs.declared.ty.Ty.{Ty}
 use Rattle.rg_base.specs.declared.ty.Ty.TheVariants.{Int, Bool, Ref}
@@ -7,7 +7,7 @@ use Rattle.rg_base.specs.declared.fault.Code.TheVariants.{Unknown}
 use Rattle.rg_tree.specs.Tree.{Name, Class}
 use Rattle.rg_rules.specs.Capabilities.{is_iso}
 use Rattle.rg_rules.specs.Types.{field_type}
-use Rattle.rg_rules.specs.Paths.{Followed, follow, Looked, look_up}
+use Rattle.rg_rules.specs.Paths.{Followed, follow, Looked, look_up, all_but_last, last_field}
 use Rattle.rg_rules.proofs.AnswersLemmas.{bind-ok, ok_or-ok}
 
 -- a type that can be followed
@@ -39,3 +39,13 @@ look_up-ok classes t f r h =
     let e : record { receiver = p.0.cap; ty = q.0 } ≡ r = grind arith in
     let d = ok_or-ok (field_type classes p.0.class f) Unknown q.0 q.1 in
     rw (← e) (record { class = p.0.class; reference = w.reference; not_iso = w.not_iso; declared = d })
+
+-- the last of some fields, and those in front of it
+
+pub all_but_last-append : (f : Name) (fs : List Name) (l : Name) → all_but_last f (fs ++ l ∷ []) ≡ f ∷ fs
+all_but_last-append f [] l = refl
+all_but_last-append f (g ∷ gs) l = ap (λ (rest : List Name). f ∷ rest) (all_but_last-append g gs l)
+
+pub last_field-append : (f : Name) (fs : List Name) (l : Name) → last_field f (fs ++ l ∷ []) ≡ l
+last_field-append f [] l = refl
+last_field-append f (g ∷ gs) l = last_field-append g gs l

@@ -39,7 +39,7 @@ pub and_then-some : {A B : Type 0} (o : Option A) (go : A → Option B) (b : B) 
 and_then-some None go b h = grind arith
 and_then-some (Some a) go b h = (a, refl, h)
 
-opened-some : (r : Answer Env) (b : Block) (i : Opened) → opened r b ≡ Some i → (r ≡ Ok i.env) × (i.block ≡ b)
+pub opened-some : (r : Answer Env) (b : Block) (i : Opened) → opened r b ≡ Some i → (r ≡ Ok i.env) × (i.block ≡ b)
 opened-some (Ok env) b i h = let e : record { env = env; block = b } ≡ i = grind arith in rw (← e) (refl, refl)
 opened-some (Err code) b i h = grind arith
 
@@ -81,7 +81,7 @@ inner_block-judged classes last line env (print c) side i mid h e = grind arith
 inner_block-judged classes last line env collect side i mid h e = grind arith
 inner_block-judged classes last line env (return c) side i mid h e = grind arith
 
-block_end-free : (classes : List Class) (env : Env) (n line : ℕ) (k : StmtKind) (side : Side) (i : Opened) (more : List Item) →
+pub block_end-free : (classes : List Class) (env : Env) (n line : ℕ) (k : StmtKind) (side : Side) (i : Opened) (more : List Item) →
     inner_block classes env k side ≡ Some i → BeginsFree (block_end n line k ++ more)
 block_end-free classes env n line (declare x t r) side i more e = grind arith
 block_end-free classes env n line (assign p r) side i more e = grind arith
@@ -102,12 +102,12 @@ pub record Advanced (classes : List Class) (result : Option Ty) (env : Env) (b :
   pub right : judge_stmt classes last s.env t ≡ Ok out
   pub spot_is : spot_in classes result env b after round (advance p) ≡ Some (record { env = out; items = mine; enters = s.enters })
 
-from_ok : (r : Lined Env) (mid : Env) (go : Env → Option Spot) (s : Spot) → r ≡ Ok mid →
+pub from_ok : (r : Lined Env) (mid : Env) (go : Env → Option Spot) (s : Spot) → r ≡ Ok mid →
     option_and_then go (result_ok r) ≡ Some s → go mid ≡ Some s
 from_ok (Ok x) mid go s e h = let same : x ≡ mid = grind arith in rw (← same) h
 from_ok (Err f) mid go s e h = grind arith
 
-to_ok : (r : Lined Env) (mid : Env) (go : Env → Option Spot) (s : Spot) → r ≡ Ok mid →
+pub to_ok : (r : Lined Env) (mid : Env) (go : Env → Option Spot) (s : Spot) → r ≡ Ok mid →
     go mid ≡ Some s → option_and_then go (result_ok r) ≡ Some s
 to_ok r mid go s e h = rw (e, result_ok) h
 

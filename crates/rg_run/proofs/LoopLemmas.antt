@@ -14,7 +14,7 @@ use Rattle.rg_tree.specs.Rows.RowTrees.{program_of}
 use Rattle.rg_rules.specs.Inputs.{first_asks}
 use Rattle.rg_rules.specs.State.{State}
 use Rattle.rg_input.specs.Numbers.{Pending, OnInput}
-use Rattle.rg_input.proofs.InputLemmas.{OnInput-map}
+use Rattle.rg_input.proofs.InputLemmas.{OnInput-map, OnInput-both as turn}
 use Rattle.rg_code.specs.Code.{Code}
 use Rattle.rg_stack.specs.Machine.{Machine}
 use Rattle.rg_machine.specs.Parts.{machine_in}
@@ -31,7 +31,7 @@ use Rattle.rg_run.proofs.RunLemmas.{since-yes}
 use Rattle.rg_run.proofs.SinceLemmas.{SinceOver}
 use Rattle.rg_run.proofs.SinceTurnLemmas.{since-by, since-leapt}
 use Rattle.rg_run.proofs.StateLemmas.{LeadsTo, kept, standing, led-on, runs-through, stepped-on, ended-behind, refused-at, untold-leaves}
-use Rattle.rg_run.proofs.TurnLemmas.{Between, Turns, turn, quiet, printed, leapt}
+use Rattle.rg_run.proofs.TurnLemmas.{Between, Turns, quiet, printed, leapt}
 use Rattle.rg_run.proofs.TurnLemmas as run
 
 -- between two turns

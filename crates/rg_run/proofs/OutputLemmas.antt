@@ -3,9 +3,9 @@ use Rattle.std.proofs.Common.{◌≡◌, inl, ℕ, zero, suc, ◌+◌, true, fal
 use Rattle.std.proofs.Common.{arith}
 use Rattle.rg_base.specs.declared.value.Val.{Val}
 use Rattle.rg_base.specs.declared.outcome.Outcome.TheVariants as outcome
-use Rattle.rg_tree.specs.Tree.{Expr, stmt, declare, assign, call, swap, branch, while, enter, print, collect, return, Block, empty as none}
-use Rattle.rg_tree.specs.Tree.{then as followed_by, Class}
-use Rattle.rg_rules.specs.Items.{Item, Do, EndAt, LeaveAt, Back, items_of}
+use Rattle.rg_tree.specs.Tree.{Expr, stmt, declare, assign, call, swap, branch, while, enter, print, collect, return}
+use Rattle.rg_tree.specs.Tree.{Class}
+use Rattle.rg_rules.specs.Items.{Item, Do, EndAt, LeaveAt, Back}
 use Rattle.rg_rules.specs.State.{State}
 use Rattle.rg_rules.specs.Evaluation.{computed}
 use Rattle.rg_rules.specs.Steps.{next, Stepped, Went, Trapped, step_first, step_kind}
@@ -113,9 +113,3 @@ run-later classes made d n s ends = more d
         let same : suc d + n ≡ suc (d + n) = omega arith in
         let is = ap (λ k. plain_from classes k made s) same ∙ plain_from-suc classes (d + n) made s in
         subst P (sym is) (record { output = GoesOn-again _ _ _ before.output step.output; ends = step.ends })
-
--- the last thing to do in main's block ends it
-pub ends-block : (b : Block) → EndsMain (items_of b (EndAt 0 ∷ []))
-ends-block none = refl
-ends-block (followed_by s none) = refl
-ends-block (followed_by s (followed_by u b)) = ends-block (followed_by u b)

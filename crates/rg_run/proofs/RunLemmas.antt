@@ -24,13 +24,14 @@ use Rattle.rg_code.specs.Code.{Code}
 use Rattle.rg_plain.specs.Kept.{shown, items_from}
 use Rattle.rg_plain.specs.Machine.{Machine, Begins}
 use Rattle.rg_plain.specs.Runs.{WroteUpTo}
+use Rattle.rg_plain.proofs.Rows.MachineLemmas.{ends-items_of}
 use Rattle.rg_step.specs.Collections.{Asks}
 use Rattle.rg_step.specs.Steps.{Since, Stepping, fresh}
 use Rattle.rg_run.specs.Asked.{AskedOver, SinceYes, last_yes}
 use Rattle.rg_run.specs.Machine.{IsFresh, Kept}
 use Rattle.rg_run.specs.Whole.{WholeRun}
 use Rattle.rg_run.proofs.SinceLemmas.{SinceOver, CountsSince}
-use Rattle.rg_run.proofs.OutputLemmas.{GoesOn, run-later, ends-block}
+use Rattle.rg_run.proofs.OutputLemmas.{GoesOn, run-later}
 
 -- main's block is never without a thing to do
 opening-some : (b : Block) → items_of b (EndAt 0 ∷ []) ≢ []
@@ -140,7 +141,7 @@ output-later : (t : Tree) (input : List ℕ) (j k : ℕ) → j ≤ k → GoesOn 
 output-later t input j k within =
     let P : ℕ → Type 0 = λ q. GoesOn (plain t input j).state.output (plain t input q).state.output in
     let same : (k - j) + j ≡ k = omega (arith, within) in
-    subst P same (run-later t.classes 0 (k - j) j (opening t input) (ends-block t.body)).output
+    subst P same (run-later t.classes 0 (k - j) j (opening t input) (ends-items_of t.body)).output
 
 -- the text of an output, and of what was added to it
 text-later : (xs ys : List Val) (g : GoesOn xs ys) → (text ys ≡ text xs ++ text g.0) × (text (drop (length xs) ys) ≡ text g.0)

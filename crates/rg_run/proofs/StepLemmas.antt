@@ -1,20 +1,15 @@
 -- What a step did, of some bytes of the input.
-use Rattle.std.proofs.Common.{◌≡◌, List, [], ◌++◌, Option, Some, None, ℕ, refl}
+use Rattle.std.proofs.Common.{◌≡◌, List, ◌++◌, Option, ℕ}
 use Rattle.rg_base.specs.declared.event.Event.{Event}
 use Rattle.rg_base.specs.declared.outcome.Outcome.{Outcome}
 use Rattle.rg_input.specs.Numbers.{Pending, Follows, OnInput}
+use Rattle.rg_input.proofs.InputLemmas.{OnInput-some}
 use Rattle.rg_code.specs.Code.{Code}
 use Rattle.rg_code.specs.Dues.{due_at}
 use Rattle.rg_step.specs.Asking.{YesesTold}
 use Rattle.rg_step.specs.States.{OneStep, Standing}
 use Rattle.rg_run.specs.Inner.{Adds}
 use Rattle.rg_run.proofs.ReportLemmas.{SameTuned, step-adds}
-
--- a fact on the input holds of some bytes
-pub OnInput-some : (old new : Pending) (old_left new_left : Option (List ℕ)) (P : List ℕ → List ℕ → Type 0) → Follows new new_left →
-    OnInput old new old_left new_left P → (before : List ℕ) × (after : List ℕ) × P before after
-OnInput-some old new old_left None P follows fact = (_, _, (fact.2 [] (record { told = tt; ended = λ e. refl })).1)
-OnInput-some old new old_left (Some bytes) P follows fact = (_, _, (fact.2 bytes (record { told = refl; ended = follows })).1)
 
 module _ {code : Code} {old new : Standing} {result : Outcome} {a b : Pending} {la lb : Option (List ℕ)} (follows : Follows b lb)
     (step : OnInput a b la lb (OneStep code old new result)) where

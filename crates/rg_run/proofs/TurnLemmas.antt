@@ -9,18 +9,18 @@ use Rattle.rg_base.specs.declared.outcome.Trap.{Trap}
 use Rattle.rg_base.specs.declared.value.Val.{Val}
 use Rattle.rg_base.specs.Text.{line_text}
 use Rattle.rg_io.specs.Content.{Appends, AppendsPart}
-use Rattle.rg_tree.specs.Tree.{Block, Class, empty as none, then as followed_by}
+use Rattle.rg_tree.specs.Tree.{Class, empty as none}
 use Rattle.rg_tree.specs.Rows.Tables.{Tables}
 use Rattle.rg_tree.specs.Rows.RowTrees.{classes_of, program_of}
 use Rattle.rg_rules.specs.Acceptance.{Accepted}
 use Rattle.rg_rules.specs.Inputs.{first_asks}
-use Rattle.rg_rules.specs.Items.{Item, EndAt, items_of}
+use Rattle.rg_rules.specs.Items.{Item}
 use Rattle.rg_rules.specs.State.{State}
 use Rattle.rg_rules.specs.Steps.{Went, next}
 use Rattle.rg_rules.specs.Runs.{opening}
 use Rattle.rg_sound.proofs.LawLemmas.{step-keeps}
 use Rattle.rg_input.specs.Numbers.{Pending, Follows, OnInput}
-use Rattle.rg_input.proofs.InputLemmas.{OnInput-map, OnInput-then}
+use Rattle.rg_input.proofs.InputLemmas.{OnInput-some}
 use Rattle.rg_code.specs.Code.{Code}
 use Rattle.rg_code.specs.Lowering.{Lowers}
 use Rattle.rg_plain.specs.Outcomes.{EndsMain, Settles}
@@ -28,10 +28,12 @@ use Rattle.rg_plain.specs.Runs.{RunShows, NoneAsks, Whole, CutOff, begun}
 use Rattle.rg_plain.proofs.BehindLemmas.{settles_by, ends_by}
 use Rattle.rg_plain.proofs.Runs.RunLemmas.{RanSoFar}
 use Rattle.rg_plain.proofs.Runs.RunLemmas as run
+use Rattle.rg_plain.proofs.Rows.MachineLemmas.{ends-items_of}
 use Rattle.rg_stack.specs.Machine.{Machine}
 use Rattle.rg_stack.specs.Runs.{opening as opened}
 use Rattle.rg_stack.specs.Simulates.{NoneLeft, SomeLeft}
 use Rattle.rg_stack.proofs.Callers.OpeningLemmas.{opening-shows, opening-fit}
+use Rattle.rg_stack.proofs.Callers.RunLemmas.{opening_left}
 use Rattle.rg_held.specs.Shown.{ShowsHeld}
 use Rattle.rg_held.proofs.Callers.OpeningLemmas.{opening-match}
 use Rattle.rg_machine.specs.Parts.{machine_in}
@@ -43,12 +45,10 @@ use Rattle.rg_run.specs.Asked.{AskedOver}
 use Rattle.rg_run.specs.Machine.{Kept, ShowsAt}
 use Rattle.rg_run.specs.Runs.{Ran}
 use Rattle.rg_run.specs.Inner.{IsUntold}
-use Rattle.rg_run.proofs.OutputLemmas.{ends-block}
 use Rattle.rg_run.proofs.RunLemmas.{wrote-whole}
 use Rattle.rg_run.proofs.SinceLemmas.{SinceOver}
 use Rattle.rg_run.proofs.SoundLemmas.{run-is-sound}
 use Rattle.rg_run.proofs.StateLemmas.{LeadsTo, standing}
-use Rattle.rg_run.proofs.StepLemmas.{OnInput-some}
 
 pub some-is : (items : List Item) → SomeLeft items → items ≢ []
 some-is [] some e = some
@@ -61,10 +61,6 @@ is-some (i ∷ rest) some = tt
 pub none-is : (items : List Item) → NoneLeft items → items ≡ []
 none-is [] gone = refl
 none-is (i ∷ rest) gone = absurd gone
-
-opening-left : (b : Block) → SomeLeft (items_of b (EndAt 0 ∷ []))
-opening-left none = tt
-opening-left (followed_by s b) = tt
 
 pub first-is : (items : List Item) → SomeLeft items → (first : Item) × (rest : List Item) × (items ≡ first ∷ rest)
 first-is [] some = absurd some
@@ -116,7 +112,7 @@ begins t code m content Still bytes accepted lowers is nothing still =
     let p = program_of t in
     let P : Machine → Type 0 = λ q. ShowsHeld p.classes code q (opening p bytes) in
     let w = opened p code bytes in
-    let left = opening-left p.body in
+    let left = opening_left p.body in
     record {
       state = opening p bytes;
       so_far = run.opening t (opening p bytes) content (some-is _ left) nothing;
@@ -133,7 +129,7 @@ begins t code m content Still bytes accepted lowers is nothing still =
         left = left;
       };
       input = refl;
-      ends = ends-block p.body;
+      ends = ends-items_of p.body;
       unread = λ none. still;
     }
 
@@ -357,10 +353,3 @@ pub is-running : {t : Tables} {code : Code} {k : ℕ} {st : Stepping} {a b : Pen
     IsRunning code (machine_in st.parts)
 is-running {t} {code} {k} {st} {a} {b} {left} {behind} {old} {new} {Still} {first} {now} follows h =
     let q = (OnInput-some a b left behind (Turns t code k st old new Still first now) follows h).2.between in (program_of t, q.state, q.runs)
-
--- the steps so far, one more, and what follows of both
-pub turn : (a b c : Pending) (la lb lc : Option (List ℕ)) (P Q R : List ℕ → List ℕ → Type 0) → OnInput a b la lb P → OnInput b c lb lc Q →
-    ((before between after : List ℕ) → P before between → Q between after → R before after) → OnInput a c la lc R
-turn a b c la lb lc P Q R first second follows =
-    OnInput-map a c la lc (λ before after. (between : List ℕ) × P before between × Q between after) R
-    (OnInput-then a b c la lb lc P Q first second) (λ before after both. follows before both.0 after both.1 both.2)

@@ -1,7 +1,7 @@
-mod Basics
+pub mod Basics
 mod Mirrors
-mod Walks
-mod Statements
+pub mod Walks
+pub mod Statements
 pub mod Judgements
 mod Refusals
 pub mod Needs

@@ -1,3 +1,4 @@
+-- What each kind of statement does, in the code and in the meaning. For crates above too.
 pub mod RightLemmas
 pub mod AssignLemmas
 pub mod BlockLemmas

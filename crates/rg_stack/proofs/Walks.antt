@@ -1,3 +1,4 @@
+-- Walks along code, given what instructions need or not. For crates above too.
 pub mod WalkLemmas
 pub mod MarkLemmas
 pub mod SlotLemmas

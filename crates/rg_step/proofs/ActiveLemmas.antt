@@ -1,5 +1,5 @@
 -- The active region: its record, and the manager that a collection tells.
-use Rattle.std.proofs.Common.{◌≡◌, ◌-◌, ◌==◌, ◌||◌, ℕ, true, List, [], ◌∷◌, Some, length, slice_get, refl, sym, ap, ◌∙◌, arith}
+use Rattle.std.proofs.Common.{◌≡◌, ◌-◌, ℕ, List, [], ◌∷◌, Some, length, slice_get, refl, sym, ap, ◌∙◌, arith}
 use Rattle.std.proofs.lemmas.Option.{none-some, same_Some}
 use Rattle.rg_base.specs.declared.event.Cause.{Cause}
 use Rattle.rg_base.specs.declared.event.Event.{Event}
@@ -19,14 +19,13 @@ use Rattle.rg_heap.specs.Collects.{CollectsBy}
 use Rattle.rg_heap.specs.Parts.{OnTop, Parts as HeapParts}
 use Rattle.rg_stack.specs.Effects.{top_region}
 use Rattle.rg_stack.specs.Machine.{Window}
-use Rattle.rg_stack.specs.Needs.{is_open}
 use Rattle.rg_stack.specs.Shows.{ShowsWindows}
 use Rattle.rg_view.specs.View.{number_in}
 use Rattle.rg_view.proofs.Callers.FrameLemmas.{there}
 use Rattle.rg_view.proofs.Callers.ManagerLemmas.{manager-at}
 use Rattle.rg_view.proofs.Callers.WindowLemmas.{active-region}
-use Rattle.rg_held.specs.Part.{SomeWindow}
 use Rattle.rg_held.specs.Shown.{ShowsHeld}
+use Rattle.rg_held.proofs.Places.{top-open}
 use Rattle.rg_machine.specs.Parts.{Parts, machine_in}
 use Rattle.rg_machine.specs.Stands.{Stands}
 use Rattle.rg_step.specs.Collections.{IsCollected}
@@ -65,18 +64,11 @@ collected-manager why mid events new a stands tells c =
 
 -- The manager in a state that is shown
 
-active-of : (sizes : List ℕ) (ws : List Window) (ps : List Opened) → ShowsWindows sizes ws ps → active ps ≡ top_region ws
+pub active-of : (sizes : List ℕ) (ws : List Window) (ps : List Opened) → ShowsWindows sizes ws ps → active ps ≡ top_region ws
 active-of sizes [] [] h = refl
 active-of sizes [] (p ∷ ps) h = absurd h
 active-of sizes (w ∷ ws) [] h = absurd h
 active-of sizes (w ∷ ws) (p ∷ ps) h = sym h.0.region
-
-top-open : (ws : List Window) → SomeWindow ws → is_open ws (top_region ws) ≡ true
-top-open [] some = absurd some
-top-open (w ∷ ws) some = ap (λ b. b || is_open ws w.region) itself
-  where
-    itself : (w.region == w.region) ≡ true
-    itself = grind arith
 
 pub shown-manager : (t : Tree) (code : Code) (mid : Parts) (q : State) (a : Active) → Stands mid.heap mid.frames
     → ShowsHeld t.classes code (machine_in mid) q → OnTop mid.frames (λ top. Tells mid.heap.regions top.region a)

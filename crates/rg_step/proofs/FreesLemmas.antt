@@ -9,6 +9,7 @@ use Rattle.rg_cells.specs.declared.cell.Body.{Body}
 use Rattle.rg_code.specs.Code.{Code}
 use Rattle.rg_regions.specs.Reach.{LiesIn}
 use Rattle.rg_regions.specs.Table.{InTable, Record, record_at}
+use Rattle.rg_regions.proofs.Callers.Told.{labelled_held}
 use Rattle.rg_stack.specs.Machine.{Machine}
 use Rattle.rg_stack.specs.Needs.{is_open}
 use Rattle.rg_stack.specs.Refusals.{Orderly}
@@ -16,7 +17,6 @@ use Rattle.rg_held.specs.Frees.{gone, free_step as step}
 use Rattle.rg_held.specs.Freed.{FreesOnly as StoreFrees, RegionEnded, StepFrees}
 use Rattle.rg_held.proofs.Callers.FreedLemmas.{steps-free}
 use Rattle.rg_view.proofs.Callers.FrameLemmas.{there}
-use Rattle.rg_view.proofs.Callers.HeldLemmas.{labelled-held}
 use Rattle.rg_view.proofs.Callers.LinkLemmas.{gone-region, store-back}
 use Rattle.rg_view.proofs.Callers.LookLemmas.{store-held}
 use Rattle.rg_view.proofs.Callers.OpenLemmas.{window-open}
@@ -81,7 +81,7 @@ module _ (old new : Parts) (was : IsSound old.heap old.frames) (is : IsSound new
       → (serial : ℕ) × (o : Seen) × (slice_get (machine_in new).store serial ≡ Some o) × (o.label ≡ Region r)
   lies-shown r slot lies =
       let h = new.heap.cells.heap in
-      let b = held-body h slot (labelled-held h slot (Region r) lies) in (
+      let b = held-body h slot (labelled_held h slot (Region r) lies) in (
         b.0.serial,
         _,
         store-held h slot b.0 is.serials b.1,

@@ -3,10 +3,11 @@
 use Rattle.std.proofs.Common.{◌≡◌, ◌<◌, ℕ, inl, inr, List, Bool as Truth, true, false, true≢false, drop, slice_get}
 use Rattle.std.proofs.Common.{Option, Some, None, refl, ap, subst, sym, ◌∙◌}
 use Rattle.std.proofs.Common.{◌+◌, ◌-◌, arith}
+use Rattle.std.proofs.lemmas.List.{drop-drop}
 use Rattle.rg_base.specs.declared.outcome.Outcome.{Outcome}
 use Rattle.rg_base.specs.declared.outcome.Outcome.TheVariants as outcome
 use Rattle.rg_base.specs.declared.value.Val.{Val}
-use Rattle.rg_cells.specs.Table.{high_of}
+use Rattle.rg_base.proofs.Callers.Lists.{drop-here}
 use Rattle.rg_code.specs.declared.op.Op.{Op}
 use Rattle.rg_code.specs.declared.op.Op.TheVariants as i
 use Rattle.rg_code.specs.Places.{is_mark}
@@ -14,31 +15,25 @@ use Rattle.rg_heap.specs.Parts.{Parts}
 use Rattle.rg_stack.specs.Machine.{Machine}
 use Rattle.rg_stack.specs.Refusals.{Manner, Ends, Clears, Settles, Takes, Computes, Prepares, Calls, Chooses, Passes, manner, room_behind, calm_by}
 use Rattle.rg_stack.specs.Refusals.{Orderly, all_compute, calm, orderly_by, orderly}
-use Rattle.rg_stack.proofs.Callers.OrderLemmas.{and_first, and_second, calm-mark, orderly-skip}
+use Rattle.rg_stack.proofs.Callers.OrderLemmas.{calm-mark, orderly-skip}
+use Rattle.rg_stack.proofs.Basics.{and-left, and-right}
 use Rattle.rg_machine.specs.Frames.{calls_next}
 use Rattle.rg_machine.specs.High.{Made, NoneMade, making}
 use Rattle.rg_machine.specs.Keeps.{Asks, GoesOn, GoesTo, WantsRoom}
 use Rattle.rg_machine.specs.Parts.{Parts as MachineParts, machine_in}
+use Rattle.rg_machine.proofs.HighLemmas.{none-same, none-then}
 use Rattle.rg_step.specs.declared.step.Did.{Did}
 use Rattle.rg_step.specs.declared.step.Did.TheVariants as did
 use Rattle.rg_step.specs.Inner.High.{Calmed, DidMade, MayMake, OneAtMost, Untouched}
 use Rattle.rg_step.specs.Inner.Serving.{answer}
 use Rattle.rg_step.specs.States.{Raises}
-use Rattle.rg_step.proofs.ClearLemmas.{at-place}
 use Rattle.rg_step.proofs.StandsLemmas.{first-there, orderly-free}
-use Rattle.rg_step.proofs.TurnLemmas.{drop-drop}
 
 -- How many
 
-pub made-same : (old new : Parts) → new ≡ old → NoneMade old new
-made-same old new same = record { made = ap (λ (p : Parts). p.cells.heap.next) same; high = ap (λ p. high_of p.cells.heap) same }
-
-pub none-none : (old mid new : Parts) → NoneMade old mid → NoneMade mid new → NoneMade old new
-none-none old mid new n k = record { made = k.made ∙ n.made; high = k.high ∙ n.high }
-
 -- none more
 pub most-none : (old mid new : Parts) → OneAtMost old mid → NoneMade mid new → OneAtMost old new
-most-none old mid new (inl n) k = inl (none-none old mid new n k)
+most-none old mid new (inl n) k = inl (none-then old mid new n k)
 most-none old mid new (inr o) k = inr (record { made = k.made ∙ o.made; high = k.high ∙ o.high })
 
 pub most-from : (start old new : Parts) → old ≡ start → OneAtMost old new → OneAtMost start new
@@ -54,15 +49,15 @@ high-begun code m start begun at is same o =
 
 -- a walk is over
 pub may-most : (code : List Op) (start : Parts) (at : ℕ) (heap : Parts) → MayMake code start at heap → OneAtMost start heap
-may-most code start at heap (inl u) = inl (made-same start heap u.same)
+may-most code start at heap (inl u) = inl (none-same start heap u.same)
 may-most code start at heap (inr c) = c.made
 
 -- the heap stays
 pub did-same : (old new : Parts) (d : Did) → new ≡ old → DidMade old new d
-did-same old new did.Goes same = inl (made-same old new same)
-did-same old new did.Ends same = inl (made-same old new same)
-did-same old new (did.Trapped kind line) same = inl (made-same old new same)
-did-same old new did.InputFault same = inl (made-same old new same)
+did-same old new did.Goes same = inl (none-same old new same)
+did-same old new did.Ends same = inl (none-same old new same)
+did-same old new (did.Trapped kind line) same = inl (none-same old new same)
+did-same old new did.InputFault same = inl (none-same old new same)
 did-same old new did.Memory same = tt
 did-same old new did.Lost same = tt
 
@@ -112,11 +107,11 @@ module _ (old new : Parts) where
   none-made Clears h = h
   none-made Settles h = h
   none-made Takes h = h
-  none-made Computes h = made-same old new h
-  none-made Prepares h = made-same old new h
+  none-made Computes h = none-same old new h
+  none-made Prepares h = none-same old new h
   none-made Calls h = h
-  none-made (Chooses t) h = made-same old new h
-  none-made (Passes t) h = made-same old new h
+  none-made (Chooses t) h = none-same old new h
+  none-made (Passes t) h = none-same old new h
 
   one-made : (m : Manner) (makes : Truth) → Made m makes old new → OneAtMost old new
   one-made m true h = inr h
@@ -171,8 +166,8 @@ module _ (code : List Op) (start : Parts) (at : ℕ) (old new : MachineParts) wh
   on-start Computes b only g h same r = kept (not-made before after Computes b only refl h) same r
   on-start Prepares b only g h same r = absurd g
   on-start Calls b only g h same r = absurd g
-  on-start (Chooses t) b only g h same r = kept (not-made before after (Chooses t) b only refl h) same (and_second _ _ r)
-  on-start (Passes t) b only g h same r = kept (not-made before after (Passes t) b only refl h) same (and_second _ _ r)
+  on-start (Chooses t) b only g h same r = kept (not-made before after (Chooses t) b only refl h) same (and-right _ _ r)
+  on-start (Passes t) b only g h same r = kept (not-made before after (Passes t) b only refl h) same (and-right _ _ r)
 
   on-calm : (m : Manner) (makes : Truth) → Only m makes → GoesOn m was now → Made m makes before after → OneAtMost start before → Calm m
       → MayMake code start (at + 1) after
@@ -184,7 +179,7 @@ module _ (code : List Op) (start : Parts) (at : ℕ) (old new : MachineParts) wh
   on-calm Prepares b only g h few r = absurd g
   on-calm Calls b only g h few r = absurd g
   on-calm (Chooses t) b only g h few r =
-      settled (made-same before after (not-made before after (Chooses t) b only refl h)) few (and_second _ _ r)
+      settled (none-same before after (not-made before after (Chooses t) b only refl h)) few (and-right _ _ r)
   on-calm (Passes t) b only g h few r = absurd (true≢false (sym r))
 
   -- to go to an address is no other thing than to go on
@@ -212,17 +207,17 @@ module _ (code : List Op) (start : Parts) (at : ℕ) (old new : MachineParts) wh
   to-start Prepares b to lt only g h same r = absurd g
   to-start Calls b to lt only g h same r = absurd g
   to-start (Chooses t) b to lt only g h same r =
-      at-mark to (ap (λ n. is_mark (slice_get code n)) g.0 ∙ and_first _ _ r)
+      at-mark to (ap (λ n. is_mark (slice_get code n)) g.0 ∙ and-left _ _ r)
       (most-from start before after same (one-made before after (Chooses t) b h))
   to-start (Passes t) b to lt only g h same r =
       let a : all_compute (to - (at + 1)) (drop (at + 1) code) ≡ true =
-      ap (λ n. all_compute (n - (at + 1)) (drop (at + 1) code)) g.0 ∙ and_first _ _ r in
+      ap (λ n. all_compute (n - (at + 1)) (drop (at + 1) code)) g.0 ∙ and-left _ _ r in
       let sum : at + 1 + (to - (at + 1)) ≡ to = omega (arith, lt) in
-      let far : drop (to - (at + 1)) (drop (at + 1) code) ≡ drop to code = drop-drop (at + 1) (to - (at + 1)) code ∙ ap (λ n. drop n code) sum in
+      let far : drop (to - (at + 1)) (drop (at + 1) code) ≡ drop to code = drop-drop (to - (at + 1)) (at + 1) code ∙ ap (λ n. drop n code) sum in
       inl (record {
         same = not-made before after (Passes t) b only refl h ∙ same;
         ordered = subst (λ n. orderly code n false (drop to code) ≡ true) sum (subst (λ l. orderly code (at + 1 + (to - (at + 1))) false l ≡ true) far
-            (orderly-skip code (to - (at + 1)) (at + 1) (drop (at + 1) code) a (and_second _ _ r)));
+            (orderly-skip code (to - (at + 1)) (at + 1) (drop (at + 1) code) a (and-right _ _ r)));
       })
 
   to-calm : (m : Manner) (makes : Truth) (to : ℕ) → Only m makes → GoesTo m to was now → Made m makes before after → OneAtMost start before → Calm m
@@ -235,8 +230,8 @@ module _ (code : List Op) (start : Parts) (at : ℕ) (old new : MachineParts) wh
   to-calm Prepares b to only g h few r = absurd g
   to-calm Calls b to only g h few r = absurd g
   to-calm (Chooses t) b to only g h few r =
-      at-mark to (ap (λ n. is_mark (slice_get code n)) g.0 ∙ and_first _ _ r)
-      (most-none start before after few (made-same before after (not-made before after (Chooses t) b only refl h)))
+      at-mark to (ap (λ n. is_mark (slice_get code n)) g.0 ∙ and-left _ _ r)
+      (most-none start before after few (none-same before after (not-made before after (Chooses t) b only refl h)))
   to-calm (Passes t) b to only g h few r = absurd (true≢false (sym r))
 
   asks-start : (m : Manner) (makes : Truth) → Only m makes → Asks m was now → Made m makes before after → before ≡ start → Ordered m
@@ -296,7 +291,7 @@ module _ (code : List Op) (start : Parts) (at : ℕ) (old new : MachineParts) wh
   ends-calm Computes b only h few r = absurd (true≢false (sym r))
   ends-calm Prepares b only h few r = absurd (true≢false (sym r))
   ends-calm Calls b only h few r = most-none start before after few (not-made before after Calls b only refl h)
-  ends-calm (Chooses t) b only h few r = most-none start before after few (made-same before after (not-made before after (Chooses t) b only refl h))
+  ends-calm (Chooses t) b only h few r = most-none start before after few (none-same before after (not-made before after (Chooses t) b only refl h))
   ends-calm (Passes t) b only h few r = absurd (true≢false (sym r))
 
   -- none was made by what ends the walk
@@ -306,10 +301,10 @@ module _ (code : List Op) (start : Parts) (at : ℕ) (old new : MachineParts) wh
 
   module _ (op : Op) (there : slice_get code at ≡ Some op) where
     ordered-here : Untouched code start at before → Ordered (manner op)
-    ordered-here u = subst (λ os. orderly code at false os ≡ true) (at-place code at op there) u.ordered
+    ordered-here u = subst (λ os. orderly code at false os ≡ true) (drop-here code at op there) u.ordered
 
     calm-here : Calmed code start at before → Calm (manner op)
-    calm-here c = subst (λ os. calm code false os ≡ true) (at-place code at op there) c.calmed
+    calm-here c = subst (λ os. calm code false os ≡ true) (drop-here code at op there) c.calmed
 
     -- it goes on at the next instruction
     pub high-on : GoesOn (manner op) was now → Made (manner op) (making op) before after → MayMake code start at before

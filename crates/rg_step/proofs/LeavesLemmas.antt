@@ -51,17 +51,6 @@ room-backs Calls old new g = absurd g
 room-backs (Chooses t) old new g = absurd g
 room-backs (Passes t) old new g = absurd g
 
--- frames that go back where others do
-pub same-back : (fs gs : List Frame) (t : ℕ) → backs gs ≡ backs fs → GoesBack gs t → GoesBack fs t
-same-back [] [] t e g = g
-same-back [] (g ∷ gs) t e h = absurd cc
-same-back (f ∷ []) [] t e h = absurd h
-same-back (f ∷ []) (g ∷ []) t e h = h
-same-back (f ∷ []) (g ∷ k ∷ gs) t e h = absurd cc
-same-back (f ∷ j ∷ fs) [] t e h = absurd h
-same-back (f ∷ j ∷ fs) (g ∷ []) t e h = absurd h
-same-back (f ∷ j ∷ fs) (g ∷ k ∷ gs) t e h = let same : f.back ≡ g.back = cc in same ∙ h
-
 -- what is behind the topmost frame's end is calm
 pub behind-calm : (code : List Op) (fs : List Frame) (t : ℕ) → CalmBehind code fs → GoesBack fs t → calm code false (drop t code) ≡ true
 behind-calm code [] t h g = absurd g

@@ -4,6 +4,7 @@ use Rattle.rg_base.specs.declared.outcome.Outcome.{Outcome}
 use Rattle.rg_base.specs.declared.outcome.Outcome.TheVariants as outcome
 use Rattle.rg_base.specs.declared.value.Val.{Val}
 use Rattle.rg_input.specs.Numbers.{Follows, OnInput, Pending}
+use Rattle.rg_input.proofs.InputLemmas.{OnInput-some}
 use Rattle.rg_code.specs.Code.{Code}
 use Rattle.rg_stack.specs.Machine.{Machine}
 use Rattle.rg_stack.specs.Refusals.{Orderly}
@@ -14,7 +15,6 @@ use Rattle.rg_step.specs.Inner.Refusals.{DidLeaves, asks_at}
 use Rattle.rg_step.specs.Inner.Serving.{answer}
 use Rattle.rg_step.specs.Inner.Walks.{StepIs}
 use Rattle.rg_step.specs.Steps.{IsRunning, StepsOn, is_made}
-use Rattle.rg_step.proofs.AskLemmas.{OnInput-some}
 use Rattle.rg_step.proofs.RunLemmas.{runs-on}
 use Rattle.rg_step.proofs.RunLemmas.{settles-running, settles-printed, settles-last, settles-done, settles-trap, settles-fault, settles-memory}
 

@@ -17,6 +17,7 @@ use Rattle.rg_rules.specs.Steps.{Stepped as Plain, Went, next}
 use Rattle.rg_sound.specs.Fit.{Fit}
 use Rattle.rg_sound.proofs.LawLemmas.{step-keeps}
 use Rattle.rg_input.specs.Numbers.{Follows, OnInput, Pending}
+use Rattle.rg_input.proofs.InputLemmas.{OnInput-some}
 use Rattle.rg_cells.specs.Table.{Serials}
 use Rattle.rg_code.specs.Code.{Code}
 use Rattle.rg_heap.specs.Collects.{CollectsBy}
@@ -36,7 +37,6 @@ use Rattle.rg_machine.specs.Stands.{Stands}
 use Rattle.rg_machine.proofs.PartLemmas.{gathers-part, gone-shown, held-shown, once-held}
 use Rattle.rg_step.specs.Collections.{Asks, CollectsAsked, CollectsOn, IsLeft, IsRefused, OnActive, Paces, Serves, ServesBy, Unasked}
 use Rattle.rg_step.specs.Steps.{IsRunning, Runs, Settles, Stepping, StepsOn, is_made}
-use Rattle.rg_step.proofs.AskLemmas.{OnInput-some}
 use Rattle.rg_step.proofs.RunLemmas.{with-input}
 
 -- Behind a step that was made

@@ -1,6 +1,8 @@
 -- What the instructions of a step leave that may be refused: a turn of the loop.
 use Rattle.std.proofs.Common.{◌≡◌, inl, inr, ℕ, zero, suc, ◌+◌, ◌-◌, ◌<◌, List, [], ◌∷◌, Some, Bool as Truth, true, false, true≢false, drop}
 use Rattle.std.proofs.Common.{slice_get, refl, sym, ap, subst, ◌∙◌, arith}
+use Rattle.std.proofs.lemmas.List.{drop-drop}
+use Rattle.rg_base.proofs.Callers.Lists.{drop-here}
 use Rattle.rg_code.specs.declared.op.Op.{Op}
 use Rattle.rg_code.specs.declared.op.Op.TheVariants as i
 use Rattle.rg_code.specs.Places.{is_mark}
@@ -9,14 +11,13 @@ use Rattle.rg_stack.specs.Refusals.{Manner, Ends, Clears, Settles, Takes, Comput
 use Rattle.rg_stack.specs.Refusals.{calm}
 use Rattle.rg_stack.specs.Refusals.{all_compute, orderly_by, orderly}
 use Rattle.rg_stack.specs.Reads.{reads}
-use Rattle.rg_stack.proofs.Callers.OrderLemmas.{and_first, and_second, calm-mark, orderly-skip}
+use Rattle.rg_stack.proofs.Callers.OrderLemmas.{calm-mark, orderly-skip}
 use Rattle.rg_stack.proofs.Callers.ReadLemmas.{reads-skip}
+use Rattle.rg_stack.proofs.Basics.{and-left, and-right}
 use Rattle.rg_machine.specs.Frames.{calls_next}
 use Rattle.rg_machine.specs.Keeps.{Asks, GoesOn, GoesTo, Leaves, WantsRoom, asking}
 use Rattle.rg_step.specs.Inner.Refusals.{AtStart, Stands}
 use Rattle.rg_step.specs.Inner.Refusals.{Asking}
-use Rattle.rg_step.proofs.TurnLemmas.{drop-drop}
-use Rattle.rg_step.proofs.ClearLemmas.{at-place}
 
 -- whether the code goes on behind an instruction of a manner
 abbrev leads_on : Manner → Truth
@@ -77,8 +78,8 @@ module _ (code : List Op) (start : Machine) (asks : Truth) (at : ℕ) (old new :
   on-start Computes g same h r = inl (record { same = g ∙ same; ordered = h; asked = r refl })
   on-start Prepares g same h r = absurd g
   on-start Calls g same h r = absurd g
-  on-start (Chooses t) g same h r = inl (record { same = g ∙ same; ordered = and_second _ _ h; asked = r refl })
-  on-start (Passes t) g same h r = inl (record { same = g ∙ same; ordered = and_second _ _ h; asked = r refl })
+  on-start (Chooses t) g same h r = inl (record { same = g ∙ same; ordered = and-right _ _ h; asked = r refl })
+  on-start (Passes t) g same h r = inl (record { same = g ∙ same; ordered = and-right _ _ h; asked = r refl })
 
   on-calm : (m : Manner) → GoesOn m old new → calm_by code false m (calm code (room_behind m false) (drop (at + 1) code)) ≡ true
       → Stands code start asks (at + 1) new
@@ -89,7 +90,7 @@ module _ (code : List Op) (start : Machine) (asks : Truth) (at : ℕ) (old new :
   on-calm Computes g h = absurd (true≢false (sym h))
   on-calm Prepares g h = absurd g
   on-calm Calls g h = absurd g
-  on-calm (Chooses t) g h = inr (and_second _ _ h)
+  on-calm (Chooses t) g h = inr (and-right _ _ h)
   on-calm (Passes t) g h = absurd (true≢false (sym h))
 
   -- to go to an address is no other thing than to go on
@@ -118,16 +119,16 @@ module _ (code : List Op) (start : Machine) (asks : Truth) (at : ℕ) (old new :
   to-start Computes to lt g same h r = absurd g
   to-start Prepares to lt g same h r = absurd g
   to-start Calls to lt g same h r = absurd g
-  to-start (Chooses t) to lt g same h r = at-mark to (ap (λ n. is_mark (slice_get code n)) g.0 ∙ and_first _ _ h)
+  to-start (Chooses t) to lt g same h r = at-mark to (ap (λ n. is_mark (slice_get code n)) g.0 ∙ and-left _ _ h)
   to-start (Passes t) to lt g same h r =
       let a : all_compute (to - (at + 1)) (drop (at + 1) code) ≡ true =
-      ap (λ n. all_compute (n - (at + 1)) (drop (at + 1) code)) g.0 ∙ and_first _ _ h in
+      ap (λ n. all_compute (n - (at + 1)) (drop (at + 1) code)) g.0 ∙ and-left _ _ h in
       let sum : at + 1 + (to - (at + 1)) ≡ to = omega (arith, lt) in
-      let far : drop (to - (at + 1)) (drop (at + 1) code) ≡ drop to code = drop-drop (at + 1) (to - (at + 1)) code ∙ ap (λ n. drop n code) sum in
+      let far : drop (to - (at + 1)) (drop (at + 1) code) ≡ drop to code = drop-drop (to - (at + 1)) (at + 1) code ∙ ap (λ n. drop n code) sum in
       inl (record {
         same = g.1 ∙ same;
         ordered = subst (λ n. orderly code n false (drop to code) ≡ true) sum (subst (λ l. orderly code (at + 1 + (to - (at + 1))) false l ≡ true) far
-            (orderly-skip code (to - (at + 1)) (at + 1) (drop (at + 1) code) a (and_second _ _ h)));
+            (orderly-skip code (to - (at + 1)) (at + 1) (drop (at + 1) code) a (and-right _ _ h)));
         asked = λ e. subst (λ l. reads l ≡ false) far (reads-skip (to - (at + 1)) (drop (at + 1) code) a (r refl e));
       })
 
@@ -140,7 +141,7 @@ module _ (code : List Op) (start : Machine) (asks : Truth) (at : ℕ) (old new :
   to-calm Computes to g h = absurd g
   to-calm Prepares to g h = absurd g
   to-calm Calls to g h = absurd g
-  to-calm (Chooses t) to g h = at-mark to (ap (λ n. is_mark (slice_get code n)) g.0 ∙ and_first _ _ h)
+  to-calm (Chooses t) to g h = at-mark to (ap (λ n. is_mark (slice_get code n)) g.0 ∙ and-left _ _ h)
   to-calm (Passes t) to g h = absurd (true≢false (sym h))
 
   leaves-same : (m : Manner) → Leaves m old new → old ≡ start → new ≡ start
@@ -221,13 +222,13 @@ module _ (code : List Op) (start : Machine) (asks : Truth) (at : ℕ) (old new :
 
   module _ (op : Op) (there : slice_get code at ≡ Some op) where
     ordered-here : AtStart code start asks at old → orderly code at false (op ∷ drop (at + 1) code) ≡ true
-    ordered-here a = subst (λ os. orderly code at false os ≡ true) (at-place code at op there) a.ordered
+    ordered-here a = subst (λ os. orderly code at false os ≡ true) (drop-here code at op there) a.ordered
 
     reads-here : AtStart code start asks at old → asks ≡ false → reads (op ∷ drop (at + 1) code) ≡ false
-    reads-here a e = subst (λ os. reads os ≡ false) (at-place code at op there) (a.asked e)
+    reads-here a e = subst (λ os. reads os ≡ false) (drop-here code at op there) (a.asked e)
 
     calm-here : calm code false (drop at code) ≡ true → calm code false (op ∷ drop (at + 1) code) ≡ true
-    calm-here h = subst (λ os. calm code false os ≡ true) (at-place code at op there) h
+    calm-here h = subst (λ os. calm code false os ≡ true) (drop-here code at op there) h
 
     -- it goes on at the next instruction
     pub stands-on : GoesOn (manner op) old new → Stands code start asks at old → Stands code start asks (at + 1) new

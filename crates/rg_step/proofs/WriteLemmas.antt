@@ -6,7 +6,7 @@ use Rattle.rg_base.specs.declared.outcome.Outcome.{Outcome}
 use Rattle.rg_base.specs.declared.outcome.Outcome.TheVariants as outcome
 use Rattle.rg_base.specs.declared.value.Val.{Val}
 use Rattle.rg_tree.specs.Tree.{Tree}
-use Rattle.rg_rules.specs.State.{State, Window as Opened, active, top_number}
+use Rattle.rg_rules.specs.State.{State, Window as Opened, top_number}
 use Rattle.rg_rules.specs.Steps.{Went, next}
 use Rattle.rg_sound.specs.Writes.{Allowed, fields_at}
 use Rattle.rg_sound.proofs.LawLemmas.{step-keeps}
@@ -19,6 +19,7 @@ use Rattle.rg_held.specs.Shown.{ShowsHeld}
 use Rattle.rg_step.specs.Steps.{IsRunning, Settles, StepsOn}
 use Rattle.rg_step.specs.Writes.{WritesOnly}
 use Rattle.rg_step.proofs.RunLemmas.{with-input}
+use Rattle.rg_step.proofs.ActiveLemmas.{active-of}
 
 -- an object that a machine shows, and that isn't gone, is the state's
 shown-there : (t : Tree) (code : Code) (m : Machine) (p : State) → ShowsHeld t.classes code m p → (a : ℕ) (o : Seen)
@@ -36,12 +37,6 @@ shown-there t code m p h a o there held = by (h.held a) refl
     by true e = sym grown ∙ sym (h.beside.same a e) ∙ there
     by false e = absurd (held (sym (buried (slice_get h.grown.store a) (sym (h.beside.others a e) ∙ there))))
 
-same-region : (sizes : List ℕ) (ws : List Window) (ps : List Opened) → ShowsWindows sizes ws ps → active ps ≡ top_region ws
-same-region sizes [] [] h = refl
-same-region sizes [] (p ∷ ps) h = absurd h
-same-region sizes (w ∷ ws) [] h = absurd h
-same-region sizes (w ∷ ws) (p ∷ ps) h = sym h.0.region
-
 same-window : (sizes : List ℕ) (ws : List Window) (ps : List Opened) → ShowsWindows sizes ws ps → top_number ps ≡ top_window ws
 same-window sizes [] [] h = refl
 same-window sizes [] (p ∷ ps) h = absurd h
@@ -57,7 +52,7 @@ allowed-only t code old new p q h k allowed a o n there here was is differ =
     let fields : fields_at q.store a ≡ Some n.fields = ap (option_map (λ (x : Seen). x.fields)) after in
     let may = allowed a (record { object = o; there = before; differ = λ e. differ (same n.fields o.fields (sym fields ∙ e)) }) in
     elim may [
-      | inl e ↦ inl (e ∙ ap Region (same-region _ h.grown.windows p.windows h.shows.windows ∙ ap top_region (sym h.beside.windows)))
+      | inl e ↦ inl (e ∙ ap Region (active-of _ h.grown.windows p.windows h.shows.windows ∙ ap top_region (sym h.beside.windows)))
       | inr e ↦ inr (e ∙ ap Temp (same-window _ h.grown.windows p.windows h.shows.windows ∙ ap top_window (sym h.beside.windows)))
     ]
   where

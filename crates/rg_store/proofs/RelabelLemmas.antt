@@ -5,6 +5,7 @@ use Rattle.std.proofs.lemmas.List.{length-map, take_all, drop_all}
 use Rattle.std.proofs.lemmas.List.Elements.{All-nil, All-cons, All-head, All-tail, All-map}
 use Rattle.rg_base.specs.declared.object.Seen.{Seen}
 use Rattle.rg_base.specs.declared.object.Label.{Label}
+use Rattle.rg_base.proofs.Callers.Lists.{All-unmap}
 use Rattle.rg_rules.specs.Regions.{in_regions, relabelled_object, relabelled}
 use Rattle.rg_store.specs.declared.objects.ObjectRow.{ObjectRow}
 use Rattle.rg_tree.specs.Rows.Tables.{Tables}
@@ -41,11 +42,6 @@ relabelled-more regions label old rows i o d within so_far is =
     is ∙ ap f (sym (store_of-get rows i d)) ∙ ap (λ q. f (get_or q i (seen_of d))) so_far in
     store_of-set rows i o ∙ ap (λ q. slice_set q i (seen_of o)) so_far
     ∙ rw add-one (changed-more f (store_of old) i (seen_of o) (seen_of d) short one)
-
-All-unmap : {X Y : Type 0} (P : X → Type 0) (f : Y → X) (ys : List Y) → All P (map f ys) → All (λ y. P (f y)) ys
-All-unmap P f [] all = All-nil (λ y. P (f y))
-All-unmap P f (y ∷ ys) all =
-    All-cons (λ y. P (f y)) y ys (All-head P (f y) (map f ys) all) (All-unmap P f ys (All-tail P (f y) (map f ys) all))
 
 relabelled-classes : (n : ℕ) (regions : List ℕ) (label : Label) (store : List Seen) → All (λ (o : Seen). o.class < n) store →
     All (λ (o : Seen). o.class < n) (relabelled regions label store)

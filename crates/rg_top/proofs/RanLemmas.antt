@@ -1,5 +1,5 @@
 -- From what the machines have answered to what was answered to the source.
-use Rattle.std.proofs.Common.{◌≡◌, ◌≤◌, ℕ, inl, inr, Bool, false, List, [], ◌++◌, Option, Some, None, Ok, refl, sym, ◌∙◌, ap, subst, arith}
+use Rattle.std.proofs.Common.{◌≡◌, ◌≤◌, ℕ, inl, inr, Bool, false, List, [], ◌++◌, Option, Ok, refl, sym, ◌∙◌, ap, subst, arith}
 use Rattle.std.specs.Result.{result_err}
 use Rattle.rg_base.specs.declared.outcome.Ended.{Ended}
 use Rattle.rg_base.specs.declared.outcome.Ended.TheVariants as ended
@@ -10,7 +10,8 @@ use Rattle.rg_rules.specs.State.{State}
 use Rattle.rg_rules.specs.Runs.{Ending, Running, Done, Stopped, opening}
 use Rattle.rg_rules.specs.Runs as rules
 use Rattle.rg_rules.specs.Texts.{added}
-use Rattle.rg_input.specs.Numbers.{Pending, Follows, CanCome, OnInput}
+use Rattle.rg_input.specs.Numbers.{Pending, Follows, OnInput}
+use Rattle.rg_input.proofs.InputLemmas.{some-comes}
 use Rattle.rg_code.specs.Code.{Code}
 use Rattle.rg_plain.specs.Machine.{Machine, Begins, state_of}
 use Rattle.rg_plain.specs.Runs.{answer, RunIs, RunShows, IsState, NoneAsks, begun, Whole, StandsAt, CutOff, CutAtInput}
@@ -27,18 +28,13 @@ use Rattle.rg_top.specs.Expected.{status_of, spelt, MeansFrom}
 use Rattle.rg_top.specs.Headline.{HasInput, ForInput, Runs, StandsAfter, CutOffAt, AsksAfter}
 use Rattle.rg_top.specs.Inner.Settled.{status_of_ended, RanWhole, RanBeside, RanFrom, Settles}
 
--- some bytes can come
-can_come : (n : Pending) (left : Option (List ℕ)) → Follows n left → (more : List ℕ) × CanCome n left more
-can_come n None follows = ([], record { told = tt; ended = λ e. refl })
-can_come n (Some bytes) follows = (bytes, record { told = refl; ended = follows })
-
 -- what a call on fresh numbers is told of the input holds of bytes that the source has
 pub on-input : (n new : Pending) (left behind : Option (List ℕ)) (P : List ℕ → List ℕ → Type 0) → n ≡ record { held = []; ended = false } →
     Follows new behind → OnInput n new left behind P → ForInput left (λ input. (rest : List ℕ) × P input rest)
 on-input n new left behind P is follows h =
     let Q : Pending → Type 0 = λ q. OnInput q new left behind P in
     let told : OnInput (record { held = []; ended = false }) new left behind P = subst Q is h in
-    let c = can_come new behind follows in
+    let c = some-comes new behind follows in
     let here = told.2 c.0 c.1 in
     (told.0 ++ c.0, here.0.told, (new.held ++ c.0, here.1))
 

@@ -6,7 +6,6 @@ use Rattle.rg_base.specs.declared.limits.TheConstants.{BODY_NAMES}
 use Rattle.rg_base.specs.declared.ty.Ty.{Ty}
 use Rattle.rg_base.specs.declared.fault.Code.{Code}
 use Rattle.rg_base.specs.declared.fault.Stop.{Stop}
-use Rattle.rg_base.specs.declared.fault.Stop.TheVariants.{Fault, Memory}
 use Rattle.rg_tree.specs.declared.rows.Span.{Span}
 use Rattle.rg_tree.specs.Rows.Tables.{Tables}
 use Rattle.rg_tree.specs.Tree.{Class, Right, Stmt, Block, empty as none, then as next}
@@ -17,15 +16,11 @@ use Rattle.rg_rules.specs.Environment.{Env}
 use Rattle.rg_rules.specs.Rights.{judge_right}
 use Rattle.rg_rules.specs.Statements.{judge_block, judge_stmt, last_of}
 use Rattle.rg_names.specs.Judged.{FailsAs}
+use Rattle.rg_names.proofs.Fails.{FailsAs-bind}
 use Rattle.rg_flow.specs.Scope.{Scope, env_of, entry_of}
 use Rattle.rg_flow.specs.States.{IsReadable}
 use Rattle.rg_type.proofs.ExpressionEnvs.{judge_right-grows}
 use Rattle.rg_type.proofs.StatementEnvs.{judge_stmt-grows}
-
--- the first part failed
-pub FailsAs-first : {A B : Type 0} (a : Lined A) (go : A → Lined B) (s : Stop) → FailsAs a s → FailsAs (◌>>=◌ a go) s
-FailsAs-first a go (Fault f) h = rw h refl
-FailsAs-first a go Memory h = tt
 
 FailsAs-same : {A : Type 0} (a b : Lined A) (s : Stop) → b ≡ a → FailsAs a s → FailsAs b s
 FailsAs-same a b s e h = rw e h
@@ -84,7 +79,7 @@ module _ (t : Tables) (span : Span) (front : Scope) where
       let k = stmt_at t (get_or ks i 0) in
       let r = rw (drop-cons ks i 0 l) at u.rest in
       let e = first_of_block (program_of t).classes (env_of t here) k b in
-      let f = FailsAs-first (judge_stmt (program_of t).classes None (env_of t here) k) (λ mid. judge_block (program_of t).classes None mid b) s h in
+      let f = FailsAs-bind (judge_stmt (program_of t).classes None (env_of t here) k) (λ mid. judge_block (program_of t).classes None mid b) s h in
       FailsAs-same _ _ s (sym r ∙ e) f
 
   -- the next statement has none

@@ -14,6 +14,7 @@ use Rattle.rg_rules.specs.Statements.{judge_test, judge_enter, left, judge_kind,
 use Rattle.rg_rules.proofs.AnswersLemmas.{at_line-ok}
 use Rattle.rg_flow.specs.Flows.{state_of}
 use Rattle.rg_names.specs.Judged.{FailsAs}
+use Rattle.rg_names.proofs.Fails.{FailsAs-bind}
 use Rattle.rg_flow.specs.Scope.{Slot, Scope, closed_at, env_of}
 use Rattle.rg_flow.specs.States.{state_at, IsSaved, restated, joined_with, CoversStates}
 use Rattle.rg_flow.specs.declared.env.saved.Saved.{Saved}
@@ -21,7 +22,7 @@ use Rattle.rg_type.proofs.Alike.{Begin, Begin-trans, Begin-take, length-Begin}
 use Rattle.rg_type.proofs.StatementEnvs.{judge_test-grows, judge_enter-grows, judge_block-grows, judge_else-grows}
 use Rattle.rg_type.proofs.ScopeSteps.{BeginSlots, Begin-sym, env_of-closed, length-closed_at, env_of-restated, length-restated_from}
 use Rattle.rg_type.proofs.ScopeSteps.{env_of-joined_with, covers-true, covers-states}
-use Rattle.rg_type.proofs.BlockSteps.{length-entries, FailsAs-first}
+use Rattle.rg_type.proofs.BlockSteps.{length-entries}
 
 -- the variables in front of a block come first at its end, and there are at most n more
 pub record Behind (t : Tables) (n : ℕ) (front out : Scope) : Type 0 where
@@ -141,17 +142,17 @@ branch-judged classes line env x y z n e b other h k l i = rw (h, k, l, i) refl
 -- its test, its first block or the other one has a fault
 pub branch-fails-test : (classes : List Class) (line : ℕ) (env : Env) (e : Expr) (b : Block) (other : Else) (s : Stop) →
     FailsAs (at_line line (judge_test classes env e)) s → FailsAs (judge_kind classes None line env (branch e b other)) s
-branch-fails-test classes line env e b other s h = FailsAs-first (at_line line (judge_test classes env e)) _ s h
+branch-fails-test classes line env e b other s h = FailsAs-bind (at_line line (judge_test classes env e)) _ s h
 
 pub branch-fails-first : (classes : List Class) (line : ℕ) (env x : Env) (e : Expr) (b : Block) (other : Else) (s : Stop) →
     at_line line (judge_test classes env e) ≡ Ok x → FailsAs (judge_block classes None x b) s →
     FailsAs (judge_kind classes None line env (branch e b other)) s
-branch-fails-first classes line env x e b other s h k = rw h (FailsAs-first (judge_block classes None x b) _ s k)
+branch-fails-first classes line env x e b other s h k = rw h (FailsAs-bind (judge_block classes None x b) _ s k)
 
 pub branch-fails-other : (classes : List Class) (line : ℕ) (env x y : Env) (e : Expr) (b : Block) (other : Else) (s : Stop) →
     at_line line (judge_test classes env e) ≡ Ok x → judge_block classes None x b ≡ Ok y → FailsAs (judge_else classes x other) s →
     FailsAs (judge_kind classes None line env (branch e b other)) s
-branch-fails-other classes line env x y e b other s h k l = rw (h, k) (FailsAs-first (judge_else classes x other) _ s l)
+branch-fails-other classes line env x y e b other s h k l = rw (h, k) (FailsAs-bind (judge_else classes x other) _ s l)
 
 -- the rule of `while` over what its parts gave
 pub while-judged : (classes : List Class) (line : ℕ) (env x y n : Env) (e : Expr) (b : Block) →
@@ -162,12 +163,12 @@ while-judged classes line env x y n e b h k c i = rw (h, k, c, i) refl
 -- its test or its body has a fault, or the body's end doesn't cover the head
 pub while-fails-test : (classes : List Class) (line : ℕ) (env : Env) (e : Expr) (b : Block) (s : Stop) →
     FailsAs (at_line line (judge_test classes env e)) s → FailsAs (judge_kind classes None line env (while e b)) s
-while-fails-test classes line env e b s h = FailsAs-first (at_line line (judge_test classes env e)) _ s h
+while-fails-test classes line env e b s h = FailsAs-bind (at_line line (judge_test classes env e)) _ s h
 
 pub while-fails-body : (classes : List Class) (line : ℕ) (env x : Env) (e : Expr) (b : Block) (s : Stop) →
     at_line line (judge_test classes env e) ≡ Ok x → FailsAs (judge_block classes None x b) s →
     FailsAs (judge_kind classes None line env (while e b)) s
-while-fails-body classes line env x e b s h k = rw h (FailsAs-first (judge_block classes None x b) _ s k)
+while-fails-body classes line env x e b s h k = rw h (FailsAs-bind (judge_block classes None x b) _ s k)
 
 pub while-fails : (classes : List Class) (line : ℕ) (env x y : Env) (e : Expr) (b : Block) (s : Stop) →
     at_line line (judge_test classes env e) ≡ Ok x → judge_block classes None x b ≡ Ok y → covers env y ≡ false →
@@ -203,9 +204,9 @@ enter-judged classes line env x y n p z b h k i = rw (h, k, i) refl
 -- what stands in front of its body or the body has a fault
 pub enter-fails : (classes : List Class) (line : ℕ) (env : Env) (p : Path) (z : Name) (b : Block) (s : Stop) →
     FailsAs (at_line line (judge_enter classes env p.base p.fields z)) s → FailsAs (judge_kind classes None line env (enter p z b)) s
-enter-fails classes line env p z b s h = FailsAs-first (at_line line (judge_enter classes env p.base p.fields z)) _ s h
+enter-fails classes line env p z b s h = FailsAs-bind (at_line line (judge_enter classes env p.base p.fields z)) _ s h
 
 pub enter-fails-body : (classes : List Class) (line : ℕ) (env x : Env) (p : Path) (z : Name) (b : Block) (s : Stop) →
     at_line line (judge_enter classes env p.base p.fields z) ≡ Ok x → FailsAs (judge_block classes None x b) s →
     FailsAs (judge_kind classes None line env (enter p z b)) s
-enter-fails-body classes line env x p z b s h k = rw h (FailsAs-first (judge_block classes None x b) _ s k)
+enter-fails-body classes line env x p z b s h k = rw h (FailsAs-bind (judge_block classes None x b) _ s k)

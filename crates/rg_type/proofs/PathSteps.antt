@@ -1,5 +1,5 @@
 -- Walks of paths, one field after another.
-use Rattle.std.proofs.Common.{◌≡◌, refl, ap, ℕ, Bool as Truth, true, false, if◌then◌else◌, List, [], ◌∷◌, ◌++◌, map, Ok}
+use Rattle.std.proofs.Common.{◌≡◌, refl, ℕ, Bool as Truth, true, false, if◌then◌else◌, List, [], ◌∷◌, ◌++◌, map, Ok}
 use Rattle.rg_base.specs.declared.ty.Ty.{Ty}
 use Rattle.rg_base.specs.declared.ty.Ty.TheVariants.{Int, Bool, Ref}
 use Rattle.rg_base.specs.declared.fault.Code.TheVariants.{Capability}
@@ -9,22 +9,15 @@ use Rattle.rg_tree.specs.Rows.RowTrees.{program_of}
 use Rattle.rg_rules.specs.Answers.{◌>>=◌, ◌>>◌, test, Answer}
 use Rattle.rg_rules.specs.Capabilities.{may_write, pause}
 use Rattle.rg_rules.specs.Environment.{Env}
-use Rattle.rg_rules.specs.Paths.{walk_fields, walk, look_up, all_but_last, last_field}
+use Rattle.rg_rules.specs.Paths.{walk_fields, walk, look_up}
 use Rattle.rg_rules.specs.Statements.{swapped_field}
+use Rattle.rg_rules.proofs.PathLemmas.{all_but_last-append, last_field-append}
 use Rattle.rg_names.specs.TreeAnswers.{IsKnown}
 
 -- from a type some fields have led to another, and others are left
 pub record WalkedTo (t : Tables) (from : Ty) (fields : List ℕ) (here : Ty) (rest : List ℕ) : Type 0 where
   pub known : IsKnown (program_of t).classes here
   pub same : walk_fields (program_of t).classes from (map (name_at t) fields) ≡ walk_fields (program_of t).classes here (map (name_at t) rest)
-
-all_but_last-append : (f : Name) (fs : List Name) (l : Name) → all_but_last f (fs ++ l ∷ []) ≡ f ∷ fs
-all_but_last-append f [] l = refl
-all_but_last-append f (g ∷ gs) l = ap (λ (rest : List Name). f ∷ rest) (all_but_last-append g gs l)
-
-last_field-append : (f : Name) (fs : List Name) (l : Name) → last_field f (fs ++ l ∷ []) ≡ l
-last_field-append f [] l = refl
-last_field-append f (g ∷ gs) l = last_field-append g gs l
 
 -- the field at the end of a path, by what stands in front of it
 abbrev pub field_behind : List Class → Env → Variable → List Name → Name → Answer Ty

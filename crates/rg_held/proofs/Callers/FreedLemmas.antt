@@ -1,6 +1,7 @@
 -- What a step of the machine that frees frees. For callers.
 use Rattle.std.proofs.Common.{◌≡◌, ◌≢◌, ℕ, ◌+◌, ◌⊎◌, inl, inr, true, false, Bool as Truth, List, [], ◌∷◌, drop, length, Option, Some, None}
 use Rattle.std.proofs.Common.{refl, sym, ap, subst, ◌∙◌, option_map, slice_get}
+use Rattle.std.proofs.lemmas.Option.{same_Some}
 use Rattle.std.specs.Prelude.{◌-◌, ◌^◌}
 use Rattle.rg_base.specs.declared.object.Label.{Label}
 use Rattle.rg_base.specs.declared.object.Label.TheVariants.{Region, Temp, Frozen}
@@ -24,6 +25,8 @@ use Rattle.rg_stack.specs.Refusals.{Orderly}
 use Rattle.rg_stack.specs.Shows.{Shows}
 use Rattle.rg_stack.specs.Simulates.{Holds, SomeLeft}
 use Rattle.rg_stack.proofs.Callers.RefusalLemmas.{steps-orderly}
+use Rattle.rg_stack.proofs.Basics.{none-some}
+use Rattle.rg_stack.proofs.Walks.GivenLemmas.{Less}
 use Rattle.rg_held.specs.Ends.{Match, SameEnd}
 use Rattle.rg_held.specs.Frees.{gone, free_walk, free_finished, free_step_from, free_step}
 use Rattle.rg_held.specs.Freed.{EndedTemp, GoneRegion, StepFrees}
@@ -37,8 +40,6 @@ use Rattle.rg_held.proofs.Freed.Windows.{Numbered, numbered}
 use Rattle.rg_held.proofs.Freed.Fates.{IsGiven, Since, Stay, Move, Go}
 use Rattle.rg_held.proofs.Freed.Shut.{shut, shut-passes}
 use Rattle.rg_held.proofs.Freed.Walks.{Now, Ending, on-walk}
-use Rattle.rg_held.proofs.Less.{Less}
-use Rattle.rg_held.proofs.Lists.{some-is, none-some}
 use Rattle.rg_held.proofs.Places.{either}
 use Rattle.rg_held.proofs.Tested.{tested_walk, tested-less}
 use Rattle.rg_held.proofs.Walking.{drop-next, walks-same, tested-walks-same}
@@ -46,7 +47,7 @@ use Rattle.rg_held.proofs.Walking.{drop-next, walks-same, tested-walks-same}
 module _ (m grown : Machine) (held : ℕ → Truth) (part : Part held [] m grown []) where
   lost : (o : Seen) (x : Option Seen) → Some o ≡ option_map (λ (u : Seen). gone) x → o ≡ gone
   lost o None e = none-some o (sym e)
-  lost o (Some u) e = some-is o gone e
+  lost o (Some u) e = same_Some o gone e
 
   -- an object that isn't gone is held
   live-held : (a : ℕ) (o : Seen) → slice_get m.store a ≡ Some o → o ≢ gone → held a ≡ true

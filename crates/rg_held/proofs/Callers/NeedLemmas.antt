@@ -6,6 +6,7 @@ use Rattle.std.proofs.Common.{slice_get}
 use Rattle.std.specs.Prelude.{sum_by, count_by, cond, nat_le, nat_lt, is_some, ok_or, ◌&&◌, ◌||◌}
 use Rattle.std.specs.List.{list_any}
 use Rattle.std.proofs.lemmas.List.Sums.{sum_by-cons}
+use Rattle.std.proofs.lemmas.Option.{same_Some}
 use Rattle.rg_base.specs.declared.object.Label.{Label}
 use Rattle.rg_base.specs.declared.object.Label.TheVariants.{Region, Temp, Frozen}
 use Rattle.rg_base.specs.declared.object.Place.{Place}
@@ -27,11 +28,12 @@ use Rattle.rg_stack.specs.Needs.{is_open, label_of, lies_in, is_into, closed_of,
 use Rattle.rg_stack.specs.Needs.{places_into, all_below, owned_once, loose, owns_or_nil, is_top_temp, is_to_temp, outlives, temps_may_go, is_writable}
 use Rattle.rg_stack.specs.Needs.{top_base, is_open_label, may_keep}
 use Rattle.rg_stack.specs.Needs.{may_stand, field_of, of_object, is_field, value_at, owner_leads, is_empty, of_top, needs}
+use Rattle.rg_stack.proofs.Basics.{none-some, and-left, and-right}
 use Rattle.rg_held.specs.Frees.{gone}
 use Rattle.rg_held.specs.Part.{leads_to, AllLead, Part, OwnerHeld, OwnersHeld}
 use Rattle.rg_held.specs.Laws.{NeedsSame}
-use Rattle.rg_held.proofs.Lists.{some-is, none-some, off, any-at, at-any, reverse-back, ended-back}
-use Rattle.rg_held.proofs.Places.{and-left, and-right, either, number-same, same-number}
+use Rattle.rg_held.proofs.Lists.{off, any-at, at-any, reverse-back, ended-back}
+use Rattle.rg_held.proofs.Places.{either, number-same, same-number}
 use Rattle.rg_held.proofs.Parts.{top-slot, slots-back}
 
 -- tests of which the one follows from the other
@@ -187,7 +189,7 @@ module _ (held : ℕ → Truth) (store : List Seen) (managers : List Manager) (m
   count-less : (r : ℕ) (vs : List Val) → ((j : ℕ) (v : Val) → slice_get vs j ≡ Some v → leads_to held v ≡ true)
       → count_by (is_into store r) vs ≤ count_by (is_into m.store r) vs
   count-less r vs lead = sum-less (λ v. cond (is_into store r v) 1 0) (λ v. cond (is_into m.store r v) 1 0) vs vs refl
-      (λ j x y at there. one x y (some-is x y (sym at ∙ there)) (lead j x at))
+      (λ j x y at there. one x y (same_Some x y (sym at ∙ there)) (lead j x at))
     where
       one : (x y : Val) → x ≡ y → leads_to held x ≡ true → ◌≤◌ (cond (is_into store r x) 1 0) (cond (is_into m.store r y) 1 0)
       one x y e h =
@@ -197,7 +199,7 @@ module _ (held : ℕ → Truth) (store : List Seen) (managers : List Manager) (m
   slots-less : (r : ℕ) → slots_into store r m.frames ≤ slots_into m.store r m.frames
   slots-less r = sum-less (λ (f : Frame). count_by (is_into store r) f.slots) (λ (f : Frame). count_by (is_into m.store r) f.slots)
       m.frames m.frames refl (λ n x y at there. subst (λ (y : Frame). count_by (is_into store r) x.slots ≤ count_by (is_into m.store r) y.slots)
-      (some-is x y (sym at ∙ there)) (count-less r x.slots (λ j v. b.slots n x j v at)))
+      (same_Some x y (sym at ∙ there)) (count-less r x.slots (λ j v. b.slots n x j v at)))
 
   fields-less : (r : ℕ) → fields_into store m.windows r store ≤ fields_into m.store m.windows r m.store
   fields-less r = sum-less (λ (o : Seen). cond (is_outside m.windows r o.label) (count_by (is_into store r) o.fields) 0)
@@ -217,12 +219,12 @@ module _ (held : ℕ → Truth) (store : List Seen) (managers : List Manager) (m
       one a x y at there = elim (either (held a)) [
         | inl h ↦ subst (λ (x : Seen). cond (is_outside m.windows r x.label) (count_by (is_into store r) x.fields) 0
             ≤ cond (is_outside m.windows r y.label) (count_by (is_into m.store r) y.fields) 0)
-            (some-is y x (sym there ∙ sym (b.same a h) ∙ at))
+            (same_Some y x (sym there ∙ sym (b.same a h) ∙ at))
             (some (is_outside m.windows r y.label) (count_by (is_into store r) y.fields) (count_by (is_into m.store r) y.fields)
             (count-less r y.fields (λ k v. b.fields a y k v h there)))
         | inr n ↦ subst (λ (x : Seen). cond (is_outside m.windows r x.label) (count_by (is_into store r) x.fields) 0
             ≤ cond (is_outside m.windows r y.label) (count_by (is_into m.store r) y.fields) 0)
-            (some-is gone x (sym (b.others a n ∙ ap (option_map (λ (o : Seen). gone)) there) ∙ at))
+            (same_Some gone x (sym (b.others a n ∙ ap (option_map (λ (o : Seen). gone)) there) ∙ at))
             (none (is_outside m.windows r gone.label) (cond (is_outside m.windows r y.label) (count_by (is_into m.store r) y.fields) 0))
       ]
 
@@ -267,7 +269,7 @@ module _ (held : ℕ → Truth) (store : List Seen) (managers : List Manager) (m
     where
       gone-is : (s : Option Seen) → option_map (λ (q : Seen). gone) s ≡ Some x → x ≡ gone
       gone-is None e = none-some x e
-      gone-is (Some q) e = sym (some-is gone x e)
+      gone-is (Some q) e = sym (same_Some gone x e)
 
   slots-temp : list_any (λ (f : Frame). list_any (is_to_temp g) f.slots) m.frames ≡ true
       → list_any (λ (f : Frame). list_any (is_to_temp m) f.slots) m.frames ≡ true

@@ -1,6 +1,7 @@
 -- At the opening nothing is held, and the machine that frees is the other one.
 use Rattle.std.proofs.Common.{◌≡◌, ℕ, zero, suc, ◌<◌, ◌==◌, inl, inr, false, true, Bool as Truth, List, [], ◌∷◌, Some, refl, sym, subst, replicate}
 use Rattle.std.proofs.Common.{arith, slice_get}
+use Rattle.std.proofs.lemmas.Option.{same_Some}
 use Rattle.std.specs.Prelude.{◌||◌}
 use Rattle.rg_base.specs.declared.value.Val.{Val}
 use Rattle.rg_base.specs.declared.value.Val.TheVariants as val
@@ -8,21 +9,22 @@ use Rattle.rg_tree.specs.Tree.{Tree}
 use Rattle.rg_code.specs.Code.{Code}
 use Rattle.rg_stack.specs.Machine.{Frame}
 use Rattle.rg_stack.specs.Runs.{opening}
+use Rattle.rg_stack.proofs.Basics.{none-some}
 use Rattle.rg_held.specs.Part.{leads_to, Tidy, Part}
 use Rattle.rg_held.specs.Ends.{Match}
-use Rattle.rg_held.proofs.Lists.{off, none-some, some-is}
+use Rattle.rg_held.proofs.Lists.{off}
 use Rattle.rg_held.proofs.Places.{or-split, same-number}
 
 nil-leads : (test : ℕ → Truth) (n s : ℕ) (v : Val) → slice_get (replicate n val.Nil) s ≡ Some v → leads_to test v ≡ true
 nil-leads test zero s v e = none-some v e
-nil-leads test (suc n) zero v e = subst (λ x. leads_to test x ≡ true) (some-is val.Nil v e) refl
+nil-leads test (suc n) zero v e = subst (λ x. leads_to test x ≡ true) (same_Some val.Nil v e) refl
 nil-leads test (suc n) (suc s) v e = nil-leads test n s v e
 
 main-leads : (test : ℕ → Truth) (size n : ℕ) (h : Frame) (s : ℕ) (v : Val)
     → slice_get (record { slots = replicate size val.Nil; back = 0 } ∷ []) n ≡ Some h → slice_get h.slots s ≡ Some v → leads_to test v ≡ true
 main-leads test size zero h s v e f =
     nil-leads test size s v (subst (λ (x : Frame). slice_get x.slots s ≡ Some v)
-    (sym (some-is (record { slots = replicate size val.Nil; back = 0 }) h e)) f)
+    (sym (same_Some (record { slots = replicate size val.Nil; back = 0 }) h e)) f)
 main-leads test size (suc n) h s v e f = none-some h e
 
 module _ (t : Tree) (code : Code) (input : List ℕ) where

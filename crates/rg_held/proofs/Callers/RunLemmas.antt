@@ -1,9 +1,8 @@
 -- A run of the machine that frees beside that over the growing store, step by step.
-use Rattle.std.proofs.Common.{◌≡◌, ℕ, zero, suc, ◌+◌, List, [], ◌∷◌, None, refl, ap, subst, ◌∙◌}
+use Rattle.std.proofs.Common.{◌≡◌, ℕ, zero, suc, ◌+◌, List, [], None, refl, ap, subst, ◌∙◌}
 use Rattle.rg_base.specs.declared.value.Val.{Val}
-use Rattle.rg_tree.specs.Tree.{Block, empty as none, then as more_of, Class, Tree}
+use Rattle.rg_tree.specs.Tree.{Class, Tree}
 use Rattle.rg_rules.specs.Acceptance.{Accepted}
-use Rattle.rg_rules.specs.Items.{EndAt, items_of}
 use Rattle.rg_rules.specs.Runs as plain
 use Rattle.rg_rules.specs.State.{State}
 use Rattle.rg_rules.specs.Steps.{Stepped as Plain, Went, Trapped as Fails, next}
@@ -17,6 +16,7 @@ use Rattle.rg_stack.specs.Simulates.{Holds, SomeLeft}
 use Rattle.rg_stack.specs.Simulates as shown
 use Rattle.rg_stack.proofs.Callers.StepLemmas.{step-shows}
 use Rattle.rg_stack.proofs.Callers.OpeningLemmas.{opening-shows, opening-fit}
+use Rattle.rg_stack.proofs.Callers.RunLemmas.{opening_left}
 use Rattle.rg_held.specs.Frees.{free_coded_from, free_step}
 use Rattle.rg_held.specs.Ends.{Match, SameStep, SameRun}
 use Rattle.rg_held.specs.Laws.{RunsSame}
@@ -88,12 +88,7 @@ runs-from t code accepted lowers (suc n) made u w more output p fit holds quiet 
     runs-from t code accepted lowers n (made + 1) (record a { printed = None }) (record b { printed = None }) so_far here h.state
     (step-keeps t p h.state accepted fit h.went).fit h.holds refl h.left same match)
 
--- main's block has an item at least
-opening-left : (b : Block) → SomeLeft (items_of b (EndAt 0 ∷ []))
-opening-left none = tt
-opening-left (more_of s b) = tt
-
 pub runs-same : RunsSame
 runs-same t code input n accepted lowers =
     runs-from t code accepted lowers n 0 (opening t code input) (opening t code input) [] [] (plain.opening t input) (opening-fit t input accepted)
-    (opening-shows t code input accepted lowers) refl (opening-left t.body) refl (opening-match t code input)
+    (opening-shows t code input accepted lowers) refl (opening_left t.body) refl (opening-match t code input)

@@ -2,7 +2,7 @@
 use Rattle.std.proofs.Common.{◌≡◌, ◌≢◌, ℕ, zero, suc, ◌<◌, ◌⊎◌, inl, inr, true, false, true≢false, Bool as Truth, List, [], ◌∷◌, ◌++◌}
 use Rattle.std.proofs.Common.{length, map, Option, Some, option_map, refl, sym, ap, subst, ◌∙◌, arith, slice_get, slice_set}
 use Rattle.std.specs.Prelude.{◌||◌, ◌-◌, ◌^◌, if◌then◌else◌}
-use Rattle.std.proofs.lemmas.Option.{slice_get-map}
+use Rattle.std.proofs.lemmas.Option.{slice_get-map, same_Some}
 use Rattle.rg_base.specs.declared.object.Label.{Label}
 use Rattle.rg_base.specs.declared.object.Label.TheVariants.{Region, Temp, Frozen}
 use Rattle.rg_base.specs.declared.object.Seen.{Seen}
@@ -11,9 +11,9 @@ use Rattle.rg_rules.specs.Regions.{in_regions, relabelled_object, relabelled}
 use Rattle.rg_stack.specs.Machine.{Window}
 use Rattle.rg_stack.specs.Effects.{with_value_in}
 use Rattle.rg_stack.specs.Needs.{has_window, is_open}
+use Rattle.rg_stack.proofs.Basics.{none-some, or-left}
 use Rattle.rg_held.specs.Frees.{gone, is_temp, buried, bury}
-use Rattle.rg_held.proofs.Lists.{some-is, none-some, set-old, set-same, set-back, push-back}
-use Rattle.rg_held.proofs.Places.{or-left}
+use Rattle.rg_held.proofs.Lists.{set-old, set-same, set-back, push-back}
 
 -- an object that isn't gone stands at an address, with a label
 abbrev pub Stands : List Seen → (address : ℕ) → Label → Type 0
@@ -44,7 +44,7 @@ frozen-not n e = true≢false (ap (λ (l : Label). elim l [ Region q ↦ false |
 map-back : {A B : Type 0} (f : A → B) (xs : List A) (j : ℕ) (u : B) → slice_get (map f xs) j ≡ Some u
     → (x : A) × (slice_get xs j ≡ Some x) × (u ≡ f x)
 map-back f [] j u e = none-some u e
-map-back f (x ∷ xs) zero u e = (x, refl, some-is u (f x) (sym e))
+map-back f (x ∷ xs) zero u e = (x, refl, same_Some u (f x) (sym e))
 map-back f (x ∷ xs) (suc j) u e = map-back f xs j u e
 
 -- a field of an object is written
@@ -66,7 +66,7 @@ module _ (store : List Seen) (b k : ℕ) (v : Val) (o : Seen) (here : slice_get 
       subst (λ j. slice_get written j ≡ Some (with_value_in o k v)) same (set-same store b (with_value_in o k v) o here)
 
   written-is : (a : ℕ) (u : Seen) → b ≡ a → slice_get store a ≡ Some u → o ≡ u
-  written-is a u same there = some-is o u (sym here ∙ ap (slice_get store) same ∙ there)
+  written-is a u same there = same_Some o u (sym here ∙ ap (slice_get store) same ∙ there)
 
   pub written-stands : (a : ℕ) (l : Label) → Stands store a l → Stands written a l
   written-stands a l s = elim (set-old store b a (with_value_in o k v) s.0 s.1) [

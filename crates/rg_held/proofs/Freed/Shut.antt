@@ -1,6 +1,7 @@
 -- The regions that end with an instruction are closed: what a slot gives up, what a window's temporaries own, and all beneath these.
 use Rattle.std.proofs.Common.{◌≡◌, ℕ, true, false, not, Bool as Truth, inl, inr, List, [], ◌∷◌, length, drop, filter, Option, Some, None, Result}
 use Rattle.std.proofs.Common.{Ok, Err, refl, sym, ap, subst, ◌∙◌, slice_get}
+use Rattle.std.proofs.lemmas.Option.{same_Some}
 use Rattle.std.specs.Prelude.{flat_map, ok_or, ◌||◌, ◌&&◌}
 use Rattle.std.specs.List.{list_any}
 use Rattle.rg_base.specs.declared.object.Seen.{Seen}
@@ -17,10 +18,11 @@ use Rattle.rg_code.specs.Code.{Code}
 use Rattle.rg_stack.specs.Machine.{Window, Machine, slot_at, top_slots}
 use Rattle.rg_stack.specs.Effects.{beneath_by_labels}
 use Rattle.rg_stack.specs.Needs.{is_open, is_closed, is_top_temp, closed_into, owned_once, owns_or_nil, needs}
+use Rattle.rg_stack.proofs.Basics.{none-some, and-right}
 use Rattle.rg_held.specs.Frees.{Given, given_up, regions_freed, closed_among, closed_by_temps, left_with, window_that_ends, top_value}
 use Rattle.rg_held.specs.Part.{Part}
-use Rattle.rg_held.proofs.Lists.{some-is, none-some, off}
-use Rattle.rg_held.proofs.Places.{and-right, closed-back}
+use Rattle.rg_held.proofs.Lists.{off}
+use Rattle.rg_held.proofs.Places.{closed-back}
 use Rattle.rg_held.proofs.Burials.{freed-closed}
 use Rattle.rg_held.proofs.Releases.{given-back}
 use Rattle.rg_held.proofs.Consumes.{closed-region}
@@ -110,7 +112,7 @@ value-shut m v h (Err t) e r is = none-some r is
 value-shut m v h (Ok o) e r is =
     let at = object-there m.store v o e in
     let c = closed-region m at.0 o at.2 (subst (λ x. owns_or_nil m x ≡ true) at.1 h) in
-    subst (λ n. is_open m.windows n ≡ false) (some-is c.0 r (sym (ap region_of c.1) ∙ is)) c.2
+    subst (λ n. is_open m.windows n ≡ false) (same_Some c.0 r (sym (ap region_of c.1) ∙ is)) c.2
 
 module _ (held : ℕ → Truth) (owners : List Val) (f m : Machine) (stack : List Val) (p : Part held owners f m stack) where
   beneath-shut : (rs : List ℕ) → AllShut f.windows rs → AllShut f.windows (beneath_by_labels f.store (length f.managers) rs)

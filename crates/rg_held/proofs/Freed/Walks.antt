@@ -21,6 +21,7 @@ use Rattle.rg_tree.specs.declared.rows.BinOp.TheVariants as op
 use Rattle.rg_rules.specs.Evaluation.{object_at}
 use Rattle.rg_rules.specs.Regions.{region_of}
 use Rattle.rg_rules.specs.Values.{Computed, as_bool, operate}
+use Rattle.rg_sound.proofs.LocalRootsLemmas.{label-region}
 use Rattle.rg_code.specs.declared.code.Entry.{Entry}
 use Rattle.rg_code.specs.declared.op.Op.{Op}
 use Rattle.rg_code.specs.declared.op.Op.TheVariants as i
@@ -29,10 +30,11 @@ use Rattle.rg_stack.specs.Machine.{Frame, Window, Machine, top_slots, slot_at, p
 use Rattle.rg_stack.specs.Effects.{Work, Walked, Stops, Returns, Traps, Stuck, Go, on_top, on_two, pushed, next_taken, opens_at, begins_by}
 use Rattle.rg_stack.specs.Effects.{called, returned, entered, relabel, without_top, top_region, with_store, put_in, stored}
 use Rattle.rg_stack.specs.Needs.{is_open, needs}
+use Rattle.rg_stack.proofs.Basics.{none-some}
 use Rattle.rg_held.specs.Frees.{Given, given_up, regions_freed, window_that_ends, left_with, bury, freed, forgotten, lives, free_act}
 use Rattle.rg_held.specs.Part.{SomeWindow}
 use Rattle.rg_held.proofs.Places.{other-number, number-same}
-use Rattle.rg_held.proofs.Lists.{some-is, none-some, push-length}
+use Rattle.rg_held.proofs.Lists.{push-length}
 use Rattle.rg_held.proofs.Tested.{tested_walk}
 use Rattle.rg_held.proofs.Burials.{same-region}
 use Rattle.rg_held.proofs.Freed.Changes.{MayTake, region-not}
@@ -53,11 +55,6 @@ top-apart [] some r closed e = some
 top-apart (w ∷ ws) some r closed e =
     let same = number-same w.region r (same-region w.region r e) in
     true≢false (sym (ap (λ b. b || is_open ws r) same) ∙ closed)
-
-region-label : (l : Label) (r : ℕ) → region_of l ≡ Some r → l ≡ Region r
-region-label (Region q) r e = ap Region (some-is q r e)
-region-label (Temp n) r e = none-some r e
-region-label Frozen r e = none-some r e
 
 module _ (old : List Seen) (was : Label) where
   -- how what a step works on stands to the store of its beginning
@@ -134,7 +131,7 @@ module _ (old : List Seen) (was : Label) where
           let at = object-there w.machine.store v o there in
           since-windows old was w.machine.store ws (opened ∷ ws) made (made + 1) (length w.machine.managers)
           (λ r closed none.
-          ap (λ b. b || is_open ws r) (other-number q r (λ same. none at.0 o at.2 (region-label o.label q e ∙ ap Region same))) ∙ closed)
+          ap (λ b. b || is_open ws r) (other-number q r (λ same. none at.0 o at.2 (label-region o.label q e ∙ ap Region same))) ∙ closed)
           (opened-on ws made opened refl) tt (less, number-new ws made now.numbers, numbered-more ws made now.numbers) now
 
   now-made : (w : Work) (o : Seen) → ((r : ℕ) → is_open w.machine.windows r ≡ false → o.label ≢ Region r) → Now w

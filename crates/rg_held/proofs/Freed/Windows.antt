@@ -1,14 +1,16 @@
 -- Windows that open and end: their numbers differ and were given, and none that has ended comes again.
 use Rattle.std.proofs.Common.{◌≡◌, ℕ, ◌+◌, ◌<◌, ◌==◌, inl, inr, true, false, true≢false, Bool as Truth, List, [], ◌∷◌, Option, Some, None}
 use Rattle.std.proofs.Common.{refl, sym, ap, subst, ◌∙◌, arith}
+use Rattle.std.proofs.lemmas.Option.{same_Some}
 use Rattle.std.specs.Prelude.{◌||◌}
 use Rattle.rg_stack.specs.Machine.{Window, Machine}
 use Rattle.rg_stack.specs.Effects.{without_top}
 use Rattle.rg_stack.specs.Needs.{has_window, is_open}
+use Rattle.rg_stack.proofs.Basics.{none-some}
 use Rattle.rg_held.specs.Frees.{window_that_ends, left_with}
 use Rattle.rg_held.specs.Part.{SomeWindow, Differ}
 use Rattle.rg_held.proofs.Places.{or-right, other-number, number-same, either}
-use Rattle.rg_held.proofs.Lists.{some-is, none-some, off}
+use Rattle.rg_held.proofs.Lists.{off}
 
 -- windows differ in their numbers, which were given
 abbrev pub Numbered : List Window → (made : ℕ) → Type 0
@@ -84,7 +86,7 @@ pub that-ends : (ws : List Window) (made : ℕ) → Numbered ws made → (n : �
 that-ends [] made h n e = none-some n e
 that-ends (w ∷ []) made h n e = none-some n e
 that-ends (w ∷ v ∷ ws) made h n e =
-    let is = some-is w.number n e in (subst (λ k. has_window (v ∷ ws) k ≡ false) is h.1, subst (λ k. k < made) is h.0)
+    let is = same_Some w.number n e in (subst (λ k. has_window (v ∷ ws) k ≡ false) is h.1, subst (λ k. k < made) is h.0)
 
 pub left-temps : (m : Machine) (s : ℕ) (ended : Option ℕ) → (left_with m s ended).temps ≡ ended
 left-temps m s None = refl

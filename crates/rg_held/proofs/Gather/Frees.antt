@@ -13,11 +13,13 @@ use Rattle.rg_rules.specs.Regions.{region_of, region_at}
 use Rattle.rg_stack.specs.Machine.{Frame, Window, Machine}
 use Rattle.rg_stack.specs.Effects.{top_region}
 use Rattle.rg_stack.specs.Needs.{is_open, has_window, lies_in, is_into, is_outside, owned_once, places_into}
+use Rattle.rg_stack.proofs.Basics.{none-some}
+use Rattle.rg_stack.proofs.Needs.LeadLemmas.{region-label}
 use Rattle.rg_held.specs.Frees.{gone}
 use Rattle.rg_held.specs.Part.{leads_to, SlotInto, FieldInto, Placed, Part, is_of, OwnerHeld, OwnersHeld, is_shut_or_above, may_lead, Differ}
 use Rattle.rg_held.specs.Gather.{KeepsOf, Keeps, LinkOut, Loses, first, further, Gathered}
-use Rattle.rg_held.proofs.Lists.{none-some, off, below-get}
-use Rattle.rg_held.proofs.Places.{or-split, or-right, same-number, number-same, other-number, not-true, either, clash, into-back, at-label, once}
+use Rattle.rg_held.proofs.Lists.{off, below-get}
+use Rattle.rg_held.proofs.Places.{or-split, or-right, same-number, number-same, other-number, not-true, either, clash, into-back, once}
 use Rattle.rg_held.proofs.Places.{slot-field, field-field}
 use Rattle.rg_held.proofs.Parts.{shut-above}
 use Rattle.rg_held.proofs.Burials.{same-region}
@@ -58,13 +60,13 @@ module _ (held kept : ℕ → Truth) (f after m : Machine) (p : Part held [] f m
     holder_there = l.there;
     value_there = l.value;
     outside = ap (is_outside m.windows q) l.lies ∙ ap not (other-number a q l.differ);
-    into = ap (λ (o : Option Label). elim o [ None ↦ false | Some l ↦ lies_in q l ]) (at-label m.store l.address q l.leads)
+    into = ap (λ (o : Option Label). elim o [ None ↦ false | Some l ↦ lies_in q l ]) (region-label m.store l.address q l.leads)
         ∙ number-same q q refl;
   }
 
   link-leads : (a q : ℕ) (l : LinkOut held m a q) → may_lead m.windows a (Region q) ≡ true
   link-leads a q l = p.tidy.inside l.object l.holder a l.field (val.Obj l.address) (Region q) l.there l.lies l.value
-      (at-label m.store l.address q l.leads)
+      (region-label m.store l.address q l.leads)
 
   -- a region that is lost is closed, and its owner reference stands in an object that goes
   record LostPlace (q : ℕ) : Type 0 where
@@ -119,7 +121,7 @@ module _ (held kept : ℕ → Truth) (f after m : Machine) (p : Part held [] f m
 
         into : (o : Seen) (q : ℕ) → slice_get m.store a ≡ Some o → o.label ≡ Region q → is_into m.store q (val.Obj a) ≡ true
         into o q there l = ap (λ (o : Option Label). elim o [ None ↦ false | Some l ↦ lies_in q l ])
-            (at-label m.store a q (lies o q there l)) ∙ number-same q q refl
+            (region-label m.store a q (lies o q there l)) ∙ number-same q q refl
 
         by : (o : Seen) → slice_get m.store a ≡ Some o → (l : Label) → o.label ≡ l → kept a ≡ true
         by o there (Region q) l = elim (either (q == top)) [

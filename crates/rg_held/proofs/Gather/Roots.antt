@@ -1,9 +1,10 @@
 -- Into the active region of a machine that shows a state that fits leads from outside the topmost window its bridge alone.
 use Rattle.std.proofs.Common.{◌≡◌, ℕ, zero, suc, ◌+◌, ◌-◌, ◌<◌, ◌≤◌, ◌==◌, ◌⊎◌, inl, inr, true, false, Bool as Truth, List, [], ◌∷◌, ◌++◌}
 use Rattle.std.proofs.Common.{length, map, replicate, reverse, drop, Option, Some, None, option_and_then, unwrap_or, refl, sym, ap, subst, ◌∙◌, arith}
-use Rattle.std.proofs.Common.{slice_get, length-append}
+use Rattle.std.proofs.Common.{slice_get}
 use Rattle.std.specs.Prelude.{nat_lt, nat_le, ◌&&◌, if◌then◌else◌}
-use Rattle.std.proofs.lemmas.List.{length-map, length-reverse, reverse-append}
+use Rattle.std.proofs.lemmas.List.{length-reverse, reverse-append}
+use Rattle.std.proofs.lemmas.Option.{same_Some}
 use Rattle.rg_base.specs.declared.ty.Ty.{Ty}
 use Rattle.rg_base.specs.declared.object.Label.{Label}
 use Rattle.rg_base.specs.declared.object.Label.TheVariants.{Region, Temp, Frozen}
@@ -26,15 +27,19 @@ use Rattle.rg_sound.specs.OpenRegions.{AllOwned}
 use Rattle.rg_sound.specs.Windows.{covers, lowest}
 use Rattle.rg_sound.proofs.BaseLemmas.{Based, running-based}
 use Rattle.rg_sound.proofs.LocalRootsLemmas.{fit-local_roots}
-use Rattle.rg_sound.proofs.Stores.MemberLemmas.{In, in-among}
+use Rattle.rg_sound.proofs.Stores.MemberLemmas.{in-among}
 use Rattle.rg_code.specs.Code.{Code}
 use Rattle.rg_stack.specs.Machine.{Frame, Window, Machine, slots_below, place_of}
 use Rattle.rg_stack.specs.Effects.{top_region, top_window}
 use Rattle.rg_stack.specs.Needs.{has_window, field_of, value_at, top_base}
 use Rattle.rg_stack.specs.Shows.{Shows, ShowsFrame, ShowsFrames, ShowsWindows, place_among, sizes_of}
+use Rattle.rg_stack.proofs.Basics.{none-some, and-left, and-right}
+use Rattle.rg_stack.proofs.Statements.BaseLemmas.{total_of, sizes-more, sizes-length, place_top, shown-room, as_many}
+use Rattle.rg_stack.proofs.Walks.FrameLemmas.{place_below}
+use Rattle.rg_stack.proofs.Needs.LeadLemmas.{shown-number}
 use Rattle.rg_held.specs.Gather.{bridge_value, Keeps}
-use Rattle.rg_held.proofs.Lists.{some-is, none-some, off, push-last, push-below, get-below, replicate-back}
-use Rattle.rg_held.proofs.Places.{and-left, and-right, or-split, same-number, either}
+use Rattle.rg_held.proofs.Lists.{off, push-last, push-below, get-below, replicate-back}
+use Rattle.rg_held.proofs.Places.{or-split, same-number, either}
 use Rattle.rg_held.proofs.Gather.Frees.{Outside}
 
 -- Frames by their numbers, the lowest being 0
@@ -52,12 +57,6 @@ reverse-lower x xs n h =
 reverse-below : {A : Type 0} (xs : List A) (n : ℕ) (x : A) → slice_get (reverse xs) n ≡ Some x → n < length xs
 reverse-below xs n x e = let l = get-below (reverse xs) n x e in let count = length-reverse xs in omega (arith, l, count)
 
-shown-length : (fs : List Frame) (bs : List Body) → ShowsFrames fs bs → length fs ≡ length bs
-shown-length [] [] h = refl
-shown-length [] (b ∷ bs) h = absurd h
-shown-length (f ∷ fs) [] h = absurd h
-shown-length (f ∷ fs) (b ∷ bs) h = ap suc (shown-length fs bs h.1)
-
 -- a slot that holds a reference shows a variable
 record AtSlot (bs : List Body) (n s a : ℕ) : Type 0 where
   pub number : ℕ
@@ -72,7 +71,7 @@ slot-local : (locals : List Local) (k i a : ℕ) →
     slice_get (map (λ (l : Local). l.value) locals ++ replicate k val.Nil) i ≡ Some (val.Obj a) →
     (l : Local) × (slice_get locals i ≡ Some l) × (l.value ≡ val.Obj a)
 slot-local [] k i a e = let no : val.Obj a ≡ val.Nil = replicate-back k i val.Nil (val.Obj a) e in grind arith
-slot-local (l ∷ ls) k zero a e = (l, refl, some-is l.value (val.Obj a) e)
+slot-local (l ∷ ls) k zero a e = (l, refl, same_Some l.value (val.Obj a) e)
 slot-local (l ∷ ls) k (suc i) a e = slot-local ls k i a e
 
 slot-shown : (fs : List Frame) (bs : List Body) → ShowsFrames fs bs → (n s a : ℕ) (h : Frame) → slice_get fs n ≡ Some h →
@@ -81,7 +80,7 @@ slot-shown [] bs shows n s a h there at = none-some h there
 slot-shown (f ∷ fs) [] shows n s a h there at = absurd shows
 slot-shown (f ∷ fs) (b ∷ bs) shows zero s a h there at =
     let x = slot-local b.locals (length f.slots - length b.locals) s a
-    (ap (λ l. slice_get l s) (sym shows.0) ∙ ap (λ (f : Frame). slice_get f.slots s) (some-is f h there) ∙ at) in
+    (ap (λ l. slice_get l s) (sym shows.0) ∙ ap (λ (f : Frame). slice_get f.slots s) (same_Some f h there) ∙ at) in
     record {
       number = length bs;
       body = b;
@@ -113,66 +112,30 @@ shown-frame (f ∷ fs) [] h n b e = absurd h
 shown-frame (f ∷ fs) (c ∷ bs) h n b e = elim (either (n == length bs)) [
   | inl at ↦
       let here : n ≡ length bs = same-number n (length bs) at in
-      let one : c ≡ b = some-is c b (sym (reverse-top c bs) ∙ ap (frame_at (c ∷ bs)) (sym here) ∙ e) in
+      let one : c ≡ b = same_Some c b (sym (reverse-top c bs) ∙ ap (frame_at (c ∷ bs)) (sym here) ∙ e) in
       let P : Body → Type 0 = λ q. ShowsFrame f q in
-      (f, ap (slice_get (reverse (f ∷ fs))) (here ∙ sym (shown-length fs bs h.1)) ∙ reverse-top f fs, subst P one h.0)
+      (f, ap (slice_get (reverse (f ∷ fs))) (here ∙ sym (as_many fs bs h.1)) ∙ reverse-top f fs, subst P one h.0)
   | inr other ↦
       let l = reverse-below (c ∷ bs) n b e in
       let less : n < length bs = grind (arith, l, other) in
       let s = shown-frame fs bs h.1 n b (sym (reverse-lower c bs n less) ∙ e) in
-      let c = shown-length fs bs h.1 in
+      let c = as_many fs bs h.1 in
       (s.0, reverse-lower f fs n (omega (arith, c, less)) ∙ s.1, s.2)
 ]
 
 -- The place at which the topmost window begins, among all slots
 
--- what so many are together
-abbrev total : List ℕ → ℕ
-total [] = 0
-total (x ∷ xs) = x + total xs
-
-total-append : (xs : List ℕ) (y : ℕ) → total (xs ++ y ∷ []) ≡ total xs + y
-total-append [] y = omega arith
-total-append (x ∷ xs) y = ap (λ n. x + n) (total-append xs y) ∙ omega arith
-
-sizes-more : (f : Frame) (fs : List Frame) → sizes_of (f ∷ fs) ≡ sizes_of fs ++ length f.slots ∷ []
-sizes-more f fs = reverse-append (length f.slots ∷ []) (map (λ (f : Frame). length f.slots) fs)
-
-total_of : (fs : List Frame) → total (sizes_of fs) ≡ slots_below fs
-total_of [] = refl
-total_of (f ∷ fs) =
-    ap total (sizes-more f fs) ∙ total-append (sizes_of fs) (length f.slots) ∙ ap (λ n. n + length f.slots) (total_of fs) ∙ omega arith
-
-sizes-length : (fs : List Frame) → length (sizes_of fs) ≡ length fs
-sizes-length fs = length-reverse (map (λ (f : Frame). length f.slots) fs) ∙ length-map fs (λ (f : Frame). length f.slots)
-
-among-last : (xs : List ℕ) (y k : ℕ) → place_among (xs ++ y ∷ []) (length xs) k ≡ total xs + k
-among-last [] y k = omega arith
-among-last (x ∷ xs) y k = ap (λ n. x + n) (among-last xs y k) ∙ omega arith
-
-among-below : (xs : List ℕ) (y n i : ℕ) → n < length xs → place_among (xs ++ y ∷ []) n i ≡ place_among xs n i
-among-below [] y n i h = absurd (omega (arith, h))
-among-below (x ∷ xs) y zero i h = refl
-among-below (x ∷ xs) y (suc n) i h = let less : n < length xs = omega (arith, h) in ap (λ k. x + k) (among-below xs y n i less)
-
 place-last : (f : Frame) (fs : List Frame) (n i : ℕ) → n ≡ length fs → place_among (sizes_of (f ∷ fs)) n i ≡ slots_below fs + i
 place-last f fs n i e =
     ap (λ l. place_among l n i) (sizes-more f fs)
     ∙ ap (λ n. place_among (sizes_of fs ++ length f.slots ∷ []) n i) (e ∙ sym (sizes-length fs))
-    ∙ among-last (sizes_of fs) (length f.slots) i ∙ ap (λ n. n + i) (total_of fs)
+    ∙ place_top (sizes_of fs) (length f.slots) i ∙ ap (λ n. n + i) (total_of fs)
 
 place-lower : (f : Frame) (fs : List Frame) (n i : ℕ) → n < length fs → place_among (sizes_of (f ∷ fs)) n i ≡ place_among (sizes_of fs) n i
 place-lower f fs n i h =
     let c = sizes-length fs in
     let less : n < length (sizes_of fs) = omega (arith, h, c) in
-    ap (λ l. place_among l n i) (sizes-more f fs) ∙ among-below (sizes_of fs) (length f.slots) n i less
-
-shown-room : (f : Frame) (b : Body) → ShowsFrame f b → length b.locals ≤ length f.slots
-shown-room f b h =
-    let vals = map (λ (l : Local). l.value) b.locals in
-    let x = ap length h in
-    let y = length-append vals (replicate (length f.slots - length b.locals) val.Nil) in
-    let z = length-map b.locals (λ (l : Local). l.value) in omega (arith, x, y, z)
+    ap (λ l. place_among l n i) (sizes-more f fs) ∙ place_below (sizes_of fs) (length f.slots) n i less
 
 based-there : (bs : List Body) (p : Opened) → Based bs p → p.base_frame < length bs
 based-there [] p h = absurd h
@@ -185,12 +148,12 @@ base-within [] [] p h based = absurd based
 base-within [] (b ∷ bs) p h based = absurd h
 base-within (f ∷ fs) [] p h based = absurd h
 base-within (f ∷ fs) (b ∷ bs) p h (inl based) =
-    let at = place-last f fs p.base_frame p.base_place (based.0 ∙ sym (shown-length fs bs h.1)) in
+    let at = place-last f fs p.base_frame p.base_place (based.0 ∙ sym (as_many fs bs h.1)) in
     let room = shown-room f b h.0 in
     let most = based.1 in omega (arith, at, room, most)
 base-within (f ∷ fs) (b ∷ bs) p h (inr based) =
     let there = based-there bs p based in
-    let count = shown-length fs bs h.1 in
+    let count = as_many fs bs h.1 in
     let at = place-lower f fs p.base_frame p.base_place (omega (arith, there, count)) in
     let rest = base-within fs bs p h.1 based in omega (arith, at, rest)
 
@@ -210,7 +173,7 @@ covered : (fs : List Frame) (bs : List Body) (p : Opened) → ShowsFrames fs bs 
 covered [] bs p shows based n s number h there count seen = none-some h there
 covered (f ∷ fs) [] p shows based n s number h there count seen = absurd shows
 covered (f ∷ fs) (b ∷ bs) p shows (inl based) zero s number h there count seen =
-    let at = place-last f fs p.base_frame p.base_place (based.0 ∙ sym (shown-length fs bs shows.1)) in
+    let at = place-last f fs p.base_frame p.base_place (based.0 ∙ sym (as_many fs bs shows.1)) in
     let here = based.0 in
     elim (covers-cases number s p seen) [
       | inl l ↦ absurd (omega (arith, l, here, count))
@@ -224,12 +187,12 @@ covered (f ∷ fs) (b ∷ bs) p shows (inl based) (suc n) s number h there count
     ]
 covered (f ∷ fs) (b ∷ bs) p shows (inr based) zero s number h there count seen =
     let under = based-there bs p based in
-    let many = shown-length fs bs shows.1 in
+    let many = as_many fs bs shows.1 in
     let at = place-lower f fs p.base_frame p.base_place (omega (arith, under, many)) in
     let rest = base-within fs bs p shows.1 based in omega (arith, at, rest)
 covered (f ∷ fs) (b ∷ bs) p shows (inr based) (suc n) s number h there count seen =
     let under = based-there bs p based in
-    let many = shown-length fs bs shows.1 in
+    let many = as_many fs bs shows.1 in
     let at = place-lower f fs p.base_frame p.base_place (omega (arith, under, many)) in
     let rest = covered fs bs p shows.1 based n s number h there (omega (arith, count)) seen in omega (arith, at, rest)
 
@@ -243,7 +206,7 @@ owned-value t v a e = by (is_iso t) v e
     by true val.Nil e = none-some a e
     by true (val.Int z) e = none-some a e
     by true (val.Bool b) e = none-some a e
-    by true (val.Obj b) e = ap val.Obj (some-is b a e)
+    by true (val.Obj b) e = ap val.Obj (same_Some b a e)
 
 var-value : (m : Machine) (bs : List Body) → ShowsFrames m.frames bs → (n i a : ℕ) → owned_in_frame bs n i ≡ Some a →
     value_at m (place.Var n i) ≡ val.Obj a
@@ -262,7 +225,7 @@ var-value m bs h n i a e = by (frame_at bs n) refl e
         shown-at : (locals : List Local) (k i : ℕ) (l : Local) → slice_get locals i ≡ Some l →
             slice_get (map (λ (l : Local). l.value) locals ++ replicate k val.Nil) i ≡ Some l.value
         shown-at [] k i l e = none-some l e
-        shown-at (x ∷ ls) k zero l e = ap (λ q. Some q.value) (some-is x l e)
+        shown-at (x ∷ ls) k zero l e = ap (λ q. Some q.value) (same_Some x l e)
         shown-at (x ∷ ls) k (suc i) l e = shown-at ls k i l e
 
     by : (q : Option Body) → frame_at bs n ≡ q →
@@ -301,16 +264,6 @@ place-value classes m bs h (place.Var n i) a e = var-value m bs h n i a e
 place-value classes m bs h (place.Field b k) a e = field-value classes m b k a e
 
 -- What leads into the active region
-
-shown-in : (sizes : List ℕ) (ws : List Window) (ps : List Opened) (n : ℕ) → ShowsWindows sizes ws ps → has_window ws n ≡ true →
-    In n (map (λ (p : Opened). p.number) ps)
-shown-in sizes [] [] n h o = off o
-shown-in sizes [] (p ∷ ps) n h o = absurd h
-shown-in sizes (w ∷ ws) [] n h o = absurd h
-shown-in sizes (w ∷ ws) (p ∷ ps) n h o = elim (or-split (w.number == n) (has_window ws n) o) [
-  | inl same ↦ inl (sym h.0.number ∙ same-number w.number n same)
-  | inr more ↦ inr (shown-in sizes ws ps n h.1 more)
-]
 
 module _ (t : Tree) (code : Code) (m : Machine) (s : State) (accepted : Accepted t) (fit : Fit t s) (shows : Shows t.classes code m s)
     (held kept : ℕ → Truth) (keeps : Keeps held kept m) where
@@ -408,7 +361,7 @@ module _ (t : Tree) (code : Code) (m : Machine) (s : State) (accepted : Accepted
                 (l ∙ ap Temp (sym (same-number w.number n same) ∙ ap top_window (sym d))) at a is lies
             | inr more ↦ bridge-kept a (roots.temporaries b k o a (ap (λ x. slice_get x b) (sym shows.store) ∙ there)
                 (ap (is_temp_of (lower s.windows)) l ∙ ap (λ q. is_temp_of (lower q) (Temp n)) e
-                ∙ in-among (map (λ (p : Opened). p.number) ps) n (shown-in (sizes_of m.frames) ws ps n h.1 more))
+                ∙ in-among (map (λ (p : Opened). p.number) ps) n (shown-number (sizes_of m.frames) ws ps n h.1 more))
                 (at ∙ ap Some is) (is-active a lies)) lies
           ]
       field b k o v here there other temps at a is lies Frozen l =

@@ -1,14 +1,16 @@
 -- What is held is told by the machine that frees: an object that is held isn't gone, since no window has the number of those that are.
 use Rattle.std.proofs.Common.{◌≡◌, ◌≤◌, ◌<◌, ◌-◌, ◌^◌, inl, inr, ℕ, true, false, Bool as Truth, List, [], ◌∷◌, Option, Some, None, option_map}
 use Rattle.std.proofs.Common.{refl, sym, ap, ◌∙◌, arith, slice_get}
+use Rattle.std.proofs.lemmas.Option.{same_Some}
 use Rattle.rg_base.specs.declared.object.Place.{Place}
 use Rattle.rg_base.specs.declared.object.Place.TheVariants as place
 use Rattle.rg_base.specs.declared.object.Seen.{Seen}
 use Rattle.rg_base.specs.declared.value.Val.{Val}
 use Rattle.rg_stack.specs.Machine.{Window, Machine}
+use Rattle.rg_stack.proofs.Basics.{none-some}
 use Rattle.rg_held.specs.Frees.{gone}
 use Rattle.rg_held.specs.Part.{leads_to, Placed, Part, OwnerHeld, OwnersHeld}
-use Rattle.rg_held.proofs.Lists.{some-is, none-some, below-get}
+use Rattle.rg_held.proofs.Lists.{below-get}
 use Rattle.rg_held.proofs.Places.{either}
 use Rattle.rg_held.proofs.Parts.{lead-more, all-more}
 
@@ -81,4 +83,4 @@ module _ (held also : ℕ → Truth) (owners : List Val) (f m : Machine) (stack 
     where
       is : (q : Option Seen) (o : Seen) → option_map (λ (o : Seen). gone) q ≡ Some o → o ≡ gone
       is None o e = none-some o e
-      is (Some x) o e = sym (some-is gone o e)
+      is (Some x) o e = sym (same_Some gone o e)

@@ -14,7 +14,7 @@ use Rattle.rg_held.proofs.Gather.Frees.{part-gather}
 use Rattle.rg_held.proofs.Gather.Roots.{roots-outside}
 use Rattle.rg_held.proofs.Gather.Held.{keeps-other, gathered-other}
 
-shows-fit : (t : Tree) (code : Code) (m : Machine) (s : State) → Fit t s → Shows t.classes code m s → ShowsFit t.classes m s.frames s.windows
+pub shows-fit : (t : Tree) (code : Code) (m : Machine) (s : State) → Fit t s → Shows t.classes code m s → ShowsFit t.classes m s.frames s.windows
 shows-fit t code m s fit shows = record {
   regions = length s.managers;
   made = s.windows_made;

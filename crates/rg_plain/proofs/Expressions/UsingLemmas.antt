@@ -12,6 +12,7 @@ use Rattle.rg_tree.specs.Tree.{Name, Variable, Expr, number, boolean, nil, path,
 use Rattle.rg_rules.specs.Environment.{same_variable}
 use Rattle.rg_rules.specs.State.{Local, set_in}
 use Rattle.rg_rules.specs.Evaluation.{is_iso_local, uses_path, uses, cleared}
+use Rattle.rg_sound.proofs.Values.ArgumentLemmas.{cleared-append}
 
 -- a write leaves the types
 is_iso_local-set_in : (ls : List Local) (x y : Variable) (v : Val) → is_iso_local (set_in y v ls) x ≡ is_iso_local ls x
@@ -42,10 +43,6 @@ uses-cleared xs ls (is_nil p) = refl
 uses-cleared xs ls (neg a) = uses-cleared xs ls a
 uses-cleared xs ls (not a) = uses-cleared xs ls a
 uses-cleared xs ls (binary op a b) = rw (uses-cleared xs ls a, uses-cleared xs ls b) refl
-
-cleared-append : (xs ys : List Variable) (ls : List Local) → cleared (xs ++ ys) ls ≡ cleared ys (cleared xs ls)
-cleared-append [] ys ls = refl
-cleared-append (x ∷ xs) ys ls = cleared-append xs ys (set_in x Nil ls)
 
 -- the left operand, and then the right one
 pub cleared-binary : (op : BinOp) (a b : Expr) (ls left right : List Local) → left ≡ cleared (uses ls a) ls → right ≡ cleared (uses left b) left →

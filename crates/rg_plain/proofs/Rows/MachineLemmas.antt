@@ -1,6 +1,6 @@
 -- A machine whose numbers name rows of a program, as its value says and as its parts say.
-use Rattle.std.proofs.Common.{◌≡◌, ℕ, ◌<◌, List, [], ◌∷◌, map, length, All, Option, Some, refl, sym, ap, ◌∙◌, subst, arith}
-use Rattle.std.proofs.lemmas.List.Elements.{All-nil, All-cons, All-head, All-tail, All-map}
+use Rattle.std.proofs.Common.{◌≡◌, ℕ, ◌<◌, List, [], ◌∷◌, length, Option, Some, refl, sym, ap, ◌∙◌, subst, arith}
+use Rattle.std.proofs.lemmas.List.Elements.{All-nil, All-map}
 use Rattle.rg_base.specs.declared.object.Seen.{Seen}
 use Rattle.rg_tree.specs.Rows.Tables.{Tables}
 use Rattle.rg_tree.specs.Rows.RowTrees.{classes_of, block_of, program_of}
@@ -8,6 +8,7 @@ use Rattle.rg_tree.specs.Tree.{Block, empty as no_more, then as followed_by}
 use Rattle.rg_rules.specs.Items.{Item, EndAt, items_of}
 use Rattle.rg_rules.specs.Runs.{opening}
 use Rattle.rg_base.specs.declared.outcome.Outcome.{Outcome}
+use Rattle.rg_base.proofs.Callers.Lists.{All-unmap}
 use Rattle.rg_names.specs.Table.{Table}
 use Rattle.rg_names.specs.TableOf.{IsTableOf}
 use Rattle.rg_store.specs.Shown.{seen_of}
@@ -20,11 +21,6 @@ use Rattle.rg_plain.specs.Kept.{Kept, FrameKept, kept_of, kept_frame, shown, pla
 use Rattle.rg_plain.specs.Inner.Inputs.{SettlesOn}
 use Rattle.rg_plain.specs.Outcomes.{EndsMain}
 use Rattle.rg_plain.specs.Machine.{Machine, fresh, KeptFits, Fits, BegunWith, Begins}
-
-All-unmap : {X Y : Type 0} (P : X → Type 0) (f : Y → X) (ys : List Y) → All P (map f ys) → All (λ y. P (f y)) ys
-All-unmap P f [] all = All-nil (λ y. P (f y))
-All-unmap P f (y ∷ ys) all =
-    All-cons (λ y. P (f y)) y ys (All-head P (f y) (map f ys) all) (All-unmap P f ys (All-tail P (f y) (map f ys) all))
 
 pub parts_fit : (t : Tables) (p : Parts) → KeptFits t (kept_of p) → PartsFit t p
 parts_fit t p fits = record {
@@ -48,7 +44,7 @@ kept_fits t p fits = record {
   regions = fits.regions;
 }
 
-ends-items_of : (b : Block) → EndsMain (items_of b (EndAt 0 ∷ []))
+pub ends-items_of : (b : Block) → EndsMain (items_of b (EndAt 0 ∷ []))
 ends-items_of no_more = refl
 ends-items_of (followed_by s no_more) = refl
 ends-items_of (followed_by s (followed_by u b)) = ends-items_of (followed_by u b)

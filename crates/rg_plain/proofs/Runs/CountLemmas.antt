@@ -7,6 +7,7 @@ use Rattle.rg_base.specs.declared.outcome.Outcome.TheVariants as outcome
 use Rattle.rg_tree.specs.Rows.Tables.{Tables}
 use Rattle.rg_tree.specs.Rows.RowTrees.{classes_of}
 use Rattle.rg_input.specs.Numbers.{Pending, OnInput}
+use Rattle.rg_input.proofs.InputLemmas.{OnInput-both}
 use Rattle.rg_rules.specs.Inputs.{first_asks}
 use Rattle.rg_rules.specs.State.{State}
 use Rattle.rg_rules.specs.Steps.{next}
@@ -15,7 +16,6 @@ use Rattle.rg_plain.specs.Kept.{shown}
 use Rattle.rg_plain.specs.Machine.{Machine, StepsOn, state_of}
 use Rattle.rg_plain.specs.Outcomes.{Settles, LeavesRows}
 use Rattle.rg_plain.specs.Runs.{RunShows, IsState, NoneAsks, CutOff, begun}
-use Rattle.rg_plain.proofs.Statements.InputLemmas.{OnInput-both}
 use Rattle.rg_plain.proofs.Runs.MachineLemmas.{UnreadOn}
 use Rattle.rg_plain.proofs.Runs.RunLemmas.{RanSoFar, none_more, quiet, printed, done, trapped, cut_before, cut_at_input, cut_behind}
 

@@ -2,13 +2,13 @@
 use Rattle.std.proofs.Common.{◌≡◌, ◌≢◌, ℕ, ◌+◌, ◌-◌, ◌<◌, true, false, List, [], ◌∷◌, ◌++◌, length, drop, Option, refl, sym, ap, ◌∙◌, subst}
 use Rattle.std.proofs.Common.{arith, append-nil, append_assoc, add-one}
 use Rattle.std.proofs.Math.Seq.{drop-append_seam}
-use Rattle.std.proofs.lemmas.Grind.{flat_map-append}
 use Rattle.rg_base.specs.declared.value.Val.{Val}
 use Rattle.rg_base.specs.declared.outcome.Outcome.TheVariants as outcome
 use Rattle.rg_base.specs.declared.outcome.Ended.{Ended}
 use Rattle.rg_base.specs.declared.outcome.Ended.TheVariants as ended_as
 use Rattle.rg_base.specs.declared.outcome.Trap.{Trap}
 use Rattle.rg_base.specs.Text.{line_text, text}
+use Rattle.rg_base.proofs.Callers.Texts.{text-append}
 use Rattle.rg_io.specs.Content.{Appends, AppendsPart}
 use Rattle.rg_io.proofs.ContentLemmas.{Appends-more}
 use Rattle.rg_tree.specs.Rows.Tables.{Tables}
@@ -59,10 +59,6 @@ ran-done : (t : Tables) (s u v : State) (k n : ℕ) → k < n → ran t s k ≡ 
 ran-done t s u v k n within is some went none =
     ran-stays t s k n (at_state v (k + 1) Done) within (ran-went t s u v k is some went ∙ ap (λ items. at_state v (k + 1) (ending_of items)) none)
     (one_more-done (classes_of t) (k + 1) v none)
-
--- the text of values behind others
-text-append : (xs ys : List Val) → text (xs ++ ys) ≡ text xs ++ text ys
-text-append xs ys = flat_map-append line_text xs ys
 
 -- A run so far: the state u where it stands, what was printed before its last step and in it, and that the text was taken.
 pub record RanSoFar (t : Tables) (s : State) (k : ℕ) (u : State) (old new : Option (List ℕ)) : Type 0 where

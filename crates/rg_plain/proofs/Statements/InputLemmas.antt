@@ -1,5 +1,5 @@
 -- Steps on the bytes left of the input.
-use Rattle.std.proofs.Common.{◌≡◌, ℕ, ℤ, Bool as Truth, List, [], ◌∷◌, Option, Some, None, Result, Ok, Err, refl, sym, subst, ◌∙◌, ap}
+use Rattle.std.proofs.Common.{◌≡◌, ℕ, ℤ, Bool as Truth, List, ◌∷◌, Option, Result, Ok, Err, refl, sym, subst, ◌∙◌, ap}
 use Rattle.rg_base.specs.declared.outcome.Outcome.{Outcome}
 use Rattle.rg_base.specs.declared.outcome.Outcome.TheVariants as outcome
 use Rattle.rg_base.specs.declared.outcome.Trap.{Trap}
@@ -13,8 +13,8 @@ use Rattle.rg_rules.specs.Items.{Item, Do}
 use Rattle.rg_rules.specs.RightSides.{taken, is_left}
 use Rattle.rg_rules.specs.State.{State}
 use Rattle.rg_rules.specs.Steps.{Stepped, Went, stepped, next}
-use Rattle.rg_input.specs.Numbers.{Pending, Follows, OnInput, Answers, Looks, is_more}
-use Rattle.rg_input.proofs.InputLemmas.{OnInput-still, OnInput-map, OnInput-then}
+use Rattle.rg_input.specs.Numbers.{Pending, OnInput, Answers, Looks, is_more}
+use Rattle.rg_input.proofs.InputLemmas.{OnInput-still}
 use Rattle.rg_plain.specs.declared.state.rows.ItemRow.{ItemRow}
 use Rattle.rg_plain.specs.declared.steps.targets.Left.{Left}
 use Rattle.rg_plain.specs.declared.steps.targets.Aim.{Aim}
@@ -30,20 +30,6 @@ use Rattle.rg_plain.proofs.Statements.StepLemmas.{next-at}
 pub reads_nothing : (t : Tables) (old new : Kept) (r : Outcome) (n : Pending) (left : Option (List ℕ)) →
     ((input : List ℕ) → StepOn t old new r input input) → OnInput n n left left (StepOn t old new r)
 reads_nothing t old new r n left holds = OnInput-still n n left left (StepOn t old new r) refl refl holds
-
--- one call, and then another, and what follows of both
-pub OnInput-both : (a b c : Pending) (la lb lc : Option (List ℕ)) (P Q R : List ℕ → List ℕ → Type 0) →
-    OnInput a b la lb P → OnInput b c lb lc Q → ((before between after : List ℕ) → P before between → Q between after → R before after) →
-    OnInput a c la lc R
-OnInput-both a b c la lb lc P Q R first second follows =
-    OnInput-map a c la lc (λ before after. (between : List ℕ) × P before between × Q between after) R
-    (OnInput-then a b c la lb lc P Q first second) (λ before after both. follows before both.0 after both.1 both.2)
-
--- some bytes can still come, and the fact holds of them
-pub OnInput-some : (old new : Pending) (old_left new_left : Option (List ℕ)) (P : List ℕ → List ℕ → Type 0) → Follows new new_left →
-    OnInput old new old_left new_left P → (before : List ℕ) × (after : List ℕ) × P before after
-OnInput-some old new old_left None P follows fact = (_, _, (fact.2 [] (record { told = tt; ended = λ e. refl })).1)
-OnInput-some old new old_left (Some bytes) P follows fact = (_, _, (fact.2 bytes (record { told = refl; ended = follows })).1)
 
 -- a step that changes nothing
 pub same-plain : (t : Tables) (k new : Kept) (before after : List ℕ) → new ≡ k → after ≡ before → plain_of t new after ≡ plain_of t k before

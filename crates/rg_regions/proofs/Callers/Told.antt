@@ -1,5 +1,5 @@
 -- What labels, fields, numbers and records tell (docs/architecture.md, "Regions").
-use Rattle.std.proofs.Common.{◌≡◌, ℕ, ◌<◌, List, Option, Some, None, IsSome, refl, ap, sym, ◌∙◌, ◌⊎◌, inl, inr}
+use Rattle.std.proofs.Common.{◌≡◌, ℕ, zero, suc, ◌<◌, List, Option, Some, None, IsSome, refl, ap, sym, ◌∙◌, ◌⊎◌, inl, inr}
 use Rattle.std.proofs.Common.{option_map, option_and_then, slice_get, get_or}
 use Rattle.std.proofs.lemmas.Bool.{cases_eq}
 use Rattle.std.proofs.lemmas.Option.{slice_get_within, slice_get-get_or}
@@ -7,10 +7,11 @@ use Rattle.rg_base.specs.declared.object.Label.{Label}
 use Rattle.rg_base.specs.declared.object.Label.TheVariants.{Region, Temp, Frozen}
 use Rattle.rg_base.specs.declared.value.Word.{Word}
 use Rattle.rg_base.specs.declared.value.Word.TheVariants.{Slot}
+use Rattle.rg_base.proofs.Callers.Options.{some-there}
 use Rattle.rg_cells.specs.declared.cell.Body.{Body}
 use Rattle.rg_cells.specs.Table.{Heap, Table, body_at, field_at, label_at, width, IsHeld}
-use Rattle.rg_regions.specs.Table.{Record, RegionTable, record_at, HasNumber}
-use Rattle.rg_regions.specs.Reach.{LiesIn}
+use Rattle.rg_regions.specs.Table.{Record, RegionTable, record_at, IsKey, HasNumber}
+use Rattle.rg_regions.specs.Reach.{LiesIn, Roots, Walk, Reach}
 use Rattle.rg_regions.specs.Grove.{Grove}
 use Rattle.rg_regions.specs.Chains.{OwnsOnce}
 
@@ -33,6 +34,14 @@ labelled_held h s l e = by_body (body_at h s) e
 
 pub lies_held : (h : Heap) (r s : ℕ) → LiesIn h r s → IsHeld h s
 lies_held h r s l = labelled_held h s (Region r) l
+
+-- what is in reach lies in the region
+pub reach_lies : (h : Heap) (r : ℕ) (roots : Roots) (s : ℕ) → Reach h r roots s → LiesIn h r s
+reach_lies h r roots s x = by_walk x.0 x.2
+  where
+    by_walk : (n : ℕ) → Walk h r roots n s → LiesIn h r s
+    by_walk zero w = w.0
+    by_walk (suc n) w = w.0
 
 -- a cell lies in one region
 pub one_region : (h : Heap) (s a b : ℕ) → LiesIn h a s → LiesIn h b s → a ≡ b
@@ -106,6 +115,10 @@ record_there (Some r) n e = (r, refl, some_is r.number n e)
   where
     some_is : (a b : ℕ) → Some a ≡ Some b → a ≡ b
     some_is a b q = cc
+
+-- a key of the table has a record
+pub record_of_key : (t : RegionTable) (key : ℕ) → IsKey t key → (r : Record) × (record_at t key ≡ Some r)
+record_of_key t key k = some-there (record_at t key) k
 
 -- what a region's cells lead to is held
 pub led_held : (c : Table) (t : RegionTable) → Grove c t → (r p k s : ℕ) → LiesIn c.heap r p

@@ -1,7 +1,7 @@
 -- The environment in front of a method's body: its names differ, nothing is lent, and a called frame has its variables.
-use Rattle.std.proofs.Common.{◌≡◌, refl, sym, ◌∙◌, ap, subst, inl, inr, ℕ, zero, suc, Bool, true, false, not, if◌then◌else◌, bytes_eq, List, [], ◌∷◌}
+use Rattle.std.proofs.Common.{◌≡◌, refl, sym, ◌∙◌, subst, inl, inr, ℕ, zero, suc, Bool, true, false, not, if◌then◌else◌, bytes_eq, List, [], ◌∷◌}
 use Rattle.std.proofs.Common.{◌++◌, find, Option, Some, None, is_some, slice_get, Ok, arith}
-use Rattle.std.proofs.lemmas.List.{append-nil}
+use Rattle.std.proofs.lemmas.List.{append-nil, append_assoc}
 use Rattle.std.proofs.lemmas.Slice.Eq.{bytes_eq-Decides}
 use Rattle.rg_base.specs.declared.ty.Ty.{Ty}
 use Rattle.rg_base.specs.declared.ty.Ty.TheVariants.{Ref}
@@ -108,10 +108,6 @@ with_params-plain classes (p ∷ ps) env d h =
 pub method_env-plain : (classes : List Class) (c : ℕ) (m : Method) → (Plain (method_env classes c m).entries) × ((method_env classes c m).depth ≡ 0)
 method_env-plain classes c m = with_params-plain classes m.params (with_variable empty None (Ref m.receiver c) false) refl (refl, refl, tt)
 
-append-assoc : {A : Type 0} (a b c : List A) → (a ++ b) ++ c ≡ a ++ (b ++ c)
-append-assoc [] b c = refl
-append-assoc (x ∷ a) b c = ap (λ q. x ∷ q) (append-assoc a b c)
-
 -- the variables of a called frame are those of the environment in front of the method
 with_params-named : (classes : List Class) (ps : List Param) (vs : List Val) (env : Env) (ls : List Local) → Named env.entries ls →
     Named (with_params classes ps env).entries (ls ++ bound classes ps vs)
@@ -121,14 +117,14 @@ with_params-named classes (p ∷ ps) [] env ls h =
     let l : Local = record { name = Some p.name; ty = type_of classes p.ty; value = Nil } in
     let next = with_variable env (Some p.name) (type_of classes p.ty) true in
     let P : List Local → Type 0 = λ q. Named (with_params classes ps next).entries q in
-    subst P (append-assoc ls (l ∷ []) (bound classes ps [])) (with_params-named classes ps [] next (ls ++ l ∷ [])
+    subst P (append_assoc ls (l ∷ []) (bound classes ps [])) (with_params-named classes ps [] next (ls ++ l ∷ [])
     (Named-snoc env.entries ls new l h refl refl))
 with_params-named classes (p ∷ ps) (v ∷ vs) env ls h =
     let new : Entry = record { name = Some p.name; ty = type_of classes p.ty; depth = env.depth; readiness = ready; assignable = true } in
     let l : Local = record { name = Some p.name; ty = type_of classes p.ty; value = v } in
     let next = with_variable env (Some p.name) (type_of classes p.ty) true in
     let P : List Local → Type 0 = λ q. Named (with_params classes ps next).entries q in
-    subst P (append-assoc ls (l ∷ []) (bound classes ps vs)) (with_params-named classes ps vs next (ls ++ l ∷ [])
+    subst P (append_assoc ls (l ∷ []) (bound classes ps vs)) (with_params-named classes ps vs next (ls ++ l ∷ [])
     (Named-snoc env.entries ls new l h refl refl))
 
 pub method_env-named : (classes : List Class) (c : ℕ) (m : Method) (self : Val) (vs : List Val) →

@@ -1,18 +1,17 @@
 -- The spot behind the end of a block.
 use Rattle.std.proofs.Common.{◌≡◌, refl, sym, ◌∙◌, ap, subst, ◌⊎◌, inl, inr, ℕ, ◌+◌, true, false, List, [], ◌∷◌, ◌++◌, length, Option, Some, None}
-use Rattle.std.proofs.Common.{option_and_then, Ok, arith}
+use Rattle.std.proofs.Common.{Ok, arith}
 use Rattle.std.proofs.lemmas.List.{append-nil}
-use Rattle.std.specs.Result.{result_ok}
 use Rattle.rg_base.specs.declared.ty.Ty.{Ty}
 use Rattle.rg_tree.specs.Tree.{Name, Variable, Path, Expr, Stmt, stmt, StmtKind, declare, assign, call, swap, branch, while, enter, print, collect}
 use Rattle.rg_tree.specs.Tree.{return, Else, no_else, otherwise, Block, empty as none, then as next, Class}
-use Rattle.rg_rules.specs.Answers.{Lined, at_line}
+use Rattle.rg_rules.specs.Answers.{at_line}
 use Rattle.rg_rules.specs.Environment.{Env, Entry, Readiness, ready, gone, is_ready, is_lent, entry_of, lent, closed, joined}
 use Rattle.rg_rules.specs.Statements.{judge_stmt, judge_kind, judge_else, judge_block, judge_test, judge_enter, left, last_of}
 use Rattle.rg_rules.specs.Items.{Item, Do, EndAt, LeaveAt, Back, items_of}
 use Rattle.rg_rules.specs.Points.{Side, first, second, Point, here, behind, inside, Spot, spot_in, Opened, inner_block, block_end, entered_path}
 use Rattle.rg_rules.proofs.AnswersLemmas.{bind-ok, at_line-ok}
-use Rattle.rg_rules.proofs.PointLemmas.{and_then-some, inner_block-judged}
+use Rattle.rg_rules.proofs.PointLemmas.{and_then-some, inner_block-judged, opened-some, from_ok, to_ok}
 use Rattle.rg_sound.proofs.Frames.EntryLemmas.{settled_readiness, Keeps-find, Distinct, Keeps, Keeps-same, Keeps-trans, Keeps-flip, Keeps-both_marked}
 use Rattle.rg_sound.proofs.Frames.EntryLemmas.{Stays}
 use Rattle.rg_sound.proofs.Frames.EntryLemmas.{Goes, Stays-same, Stays-trans, Stays-distinct, Stays-closed, Stays-joined}
@@ -20,7 +19,7 @@ use Rattle.rg_sound.proofs.Frames.JudgeLemmas.{judge_test-stays, lent_entries, I
 use Rattle.rg_sound.proofs.Frames.JudgeLemmas.{judge_stmt-goes}
 use Rattle.rg_sound.proofs.Frames.JudgeLemmas.{judge_else-goes, judge_block-goes}
 use Rattle.rg_sound.proofs.Frames.BodyLemmas.{Begins, EndsWell, block_end-begins, first-left, rest-ends, no_point}
-use Rattle.rg_sound.proofs.Frames.SpotLemmas.{opened-some, inner-spot, from_ok}
+use Rattle.rg_sound.proofs.Frames.SpotLemmas.{inner-spot}
 
 -- Out of a block
 
@@ -173,9 +172,6 @@ record Behind (classes : List Class) (result : Option Ty) (env mid : Env) (line 
   pub closes : Closes i to round s
   pub left : Begins mine
 
-to_mid : (r : Lined Env) (mid : Env) (go : Env → Option Spot) (s : Spot) → r ≡ Ok mid → go mid ≡ Some s → option_and_then go (result_ok r) ≡ Some s
-to_mid r mid go s e h = rw (e, result_ok) h
-
 behind-branch : (classes : List Class) (result : Option Ty) (env mid front out : Env) (line : ℕ) (e : Expr) (c : Block) (other : Else) (b : Block)
     (after : List Item) (round : List Path) (s : Spot) (i : Item) (mine : List Item) → Distinct env.entries →
     EndsWell (next (stmt line (branch e c other)) b) after →
@@ -190,7 +186,7 @@ behind-branch classes result env mid front out line e c other b after round s i 
     rw (← is.0) (record {
       point = behind here;
       to = mid;
-      spot_is = to_mid (judge_kind classes (last_of result b) line env (branch e c other)) mid (λ m. spot_in classes result m b after round here)
+      spot_is = to_ok (judge_kind classes (last_of result b) line env (branch e c other)) mid (λ m. spot_in classes result m b after round here)
           _ h there;
       closes = branch-closes classes env front out mid round s (length env.entries) refl f g t o.env_is o.enters_are;
       left = let P : List Item → Type 0 = λ q. Begins q in subst P is.1 (first-left (branch e c other) b after refl w);
@@ -231,7 +227,7 @@ behind-enter classes result env mid front out line p z c b after round s i mine 
     rw (← is.0) (record {
       point = behind here;
       to = mid;
-      spot_is = to_mid (judge_kind classes (last_of result b) line env (enter p z c)) mid (λ q. spot_in classes result q b after round here)
+      spot_is = to_ok (judge_kind classes (last_of result b) line env (enter p z c)) mid (λ q. spot_in classes result q b after round here)
           _ h there;
       closes = leave-closes classes env front out p mid round s (length env.entries) refl
           (judge_enter-inner classes env front p.base p.fields z d n) g t o.env_is o.enters_are (free-before p.base p.fields n);
@@ -320,7 +316,7 @@ spot-end classes result env out (next u b) after round (behind p) s i mine d w n
         point = behind r.point;
         to = r.to;
         enters = r.enters;
-        spot_is = to_mid (judge_stmt classes (last_of result b) env u) m.0 (λ mid. spot_in classes result mid b after round r.point) _ m.1 r.spot_is;
+        spot_is = to_ok (judge_stmt classes (last_of result b) env u) m.0 (λ mid. spot_in classes result mid b after round r.point) _ m.1 r.spot_is;
         closes = r.closes;
         left = r.left;
       })

@@ -1,23 +1,21 @@
 -- Spots of a body without a fault: what holds at each of them, and the spot in front of an inner block.
-use Rattle.std.proofs.Common.{◌≡◌, refl, sym, ◌∙◌, ap, subst, ℕ, ◌+◌, ◌≤◌, List, [], ◌∷◌, ◌++◌, length, Option, Some, None, option_and_then, Ok, Err}
+use Rattle.std.proofs.Common.{◌≡◌, refl, sym, ◌∙◌, ap, subst, ℕ, ◌+◌, ◌≤◌, List, [], ◌∷◌, ◌++◌, length, Option, Some, None, Ok}
 use Rattle.std.proofs.Common.{arith}
-use Rattle.std.proofs.lemmas.List.{append-nil, length-append}
+use Rattle.std.proofs.lemmas.List.{append-nil, length-append, append_assoc}
 use Rattle.std.specs.Result.{result_ok}
 use Rattle.rg_base.specs.declared.ty.Ty.{Ty}
 use Rattle.rg_tree.specs.Tree.{Name, Path, Expr, stmt, StmtKind, declare, assign, call, swap, branch, while, enter, print, collect, return, no_else}
 use Rattle.rg_tree.specs.Tree.{otherwise, Block, empty as none, then as next, Class}
-use Rattle.rg_rules.specs.Answers.{Answer, Lined}
 use Rattle.rg_rules.specs.Environment.{Env}
 use Rattle.rg_rules.specs.Statements.{judge_stmt, judge_kind, judge_block, judge_test, judge_enter, last_of}
 use Rattle.rg_rules.specs.Items.{Item, Do, items_of}
 use Rattle.rg_rules.specs.Points.{Side, first, second, Point, here, behind, inside, Spot, spot_in, Opened, opened, inner_block, block_end}
 use Rattle.rg_rules.specs.Points.{entered_path}
 use Rattle.rg_rules.proofs.AnswersLemmas.{bind-ok}
-use Rattle.rg_rules.proofs.PointLemmas.{BeginsFree, and_then-some, inner_block-judged}
+use Rattle.rg_rules.proofs.PointLemmas.{BeginsFree, and_then-some, inner_block-judged, opened-some, block_end-free, from_ok}
 use Rattle.rg_sound.specs.Frames.{leaves}
 use Rattle.rg_sound.proofs.Frames.EntryLemmas.{Distinct, length-Keeps, Stays-distinct}
 use Rattle.rg_sound.proofs.Frames.JudgeLemmas.{judge_test-stays, lent_entries, length-lent, judge_enter-inner, judge_stmt-goes}
-use Rattle.rg_sound.proofs.Frames.BodyLemmas.{block_end-free}
 
 -- numbers are at most that many
 abbrev pub AllWithin : ℕ → List ℕ → Type 0
@@ -39,10 +37,6 @@ pub record InnerSpot (env inner : Env) (k : StmtKind) : Type 0 where
   pub depth : inner.depth ≡ env.depth + length (entered_path k)
   pub count : length env.entries ≤ length inner.entries
   pub distinct : Distinct inner.entries
-
-pub opened-some : (r : Answer Env) (b : Block) (i : Opened) → opened r b ≡ Some i → (r ≡ Ok i.env) × (i.block ≡ b)
-opened-some (Ok env) b i h = let e : record { env = env; block = b } ≡ i = grind arith in rw (← e) (refl, refl)
-opened-some (Err code) b i h = grind arith
 
 tested-inner : (classes : List Class) (env : Env) (e : Expr) (b : Block) (i : Opened) (k : StmtKind) → Distinct env.entries → entered_path k ≡ [] →
     opened (judge_test classes env e) b ≡ Some i → InnerSpot env i.env k
@@ -92,11 +86,6 @@ block_end-leaves n m line (print e) more l h = h
 block_end-leaves n m line collect more l h = h
 block_end-leaves n m line (return e) more l h = h
 
-pub from_ok : (r : Lined Env) (mid : Env) (go : Env → Option Spot) (s : Spot) → r ≡ Ok mid →
-    option_and_then go (result_ok r) ≡ Some s → go mid ≡ Some s
-from_ok (Ok x) mid go s e h = let same : x ≡ mid = grind arith in rw (← same) h
-from_ok (Err f) mid go s e h = grind arith
-
 -- At each spot
 
 -- the depth is the number of `enter`s round the spot, names differ, and the ends of `enter`s keep no variables that aren't there
@@ -106,10 +95,6 @@ pub record SpotRight (depth : ℕ) (round : List Path) (s : Spot) : Type 0 where
   pub depth_is : s.env.depth ≡ depth + length inner
   pub distinct : Distinct s.env.entries
   pub within : AllWithin (length s.env.entries) (leaves s.items)
-
-append-assoc : {A : Type 0} (a b c : List A) → (a ++ b) ++ c ≡ a ++ (b ++ c)
-append-assoc [] b c = refl
-append-assoc (x ∷ a) b c = ap (λ q. x ∷ q) (append-assoc a b c)
 
 pub spot-right : (classes : List Class) (result : Option Ty) (env out : Env) (b : Block) (after : List Item) (round : List Path) (p : Point)
     (s : Spot) →
@@ -153,7 +138,7 @@ spot-right classes result env out (next (stmt line k) b) after round (inside sid
     let r = spot-right classes None a.0.env j.0 a.0.block behind_it (round ++ entered_path k) p s n.distinct ends j.1 a.2 in
     record {
       inner = entered_path k ++ r.inner;
-      enters = r.enters ∙ append-assoc round (entered_path k) r.inner;
+      enters = r.enters ∙ append_assoc round (entered_path k) r.inner;
       depth_is = omega (arith, r.depth_is, n.depth, length-append (entered_path k) r.inner);
       distinct = r.distinct;
       within = r.within;

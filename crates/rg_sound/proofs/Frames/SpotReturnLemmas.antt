@@ -7,10 +7,8 @@ use Rattle.rg_rules.specs.Statements.{judge_stmt, judge_kind, judge_block, judge
 use Rattle.rg_rules.specs.Items.{Item, Do, items_of}
 use Rattle.rg_rules.specs.Points.{Point, here, behind, inside, Spot, spot_in, inner_block, block_end, entered_path}
 use Rattle.rg_rules.proofs.AnswersLemmas.{bind-ok, at_line-ok}
-use Rattle.rg_rules.proofs.PointLemmas.{BeginsFree, and_then-some, inner_block-judged}
+use Rattle.rg_rules.proofs.PointLemmas.{BeginsFree, and_then-some, inner_block-judged, block_end-free, from_ok}
 use Rattle.rg_sound.proofs.Basics.{none-some}
-use Rattle.rg_sound.proofs.Frames.BodyLemmas.{block_end-free}
-use Rattle.rg_sound.proofs.Frames.SpotLemmas.{from_ok}
 
 -- In front of a `return`
 

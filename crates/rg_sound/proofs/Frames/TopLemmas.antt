@@ -95,7 +95,7 @@ lends-none : (ws : List Window) (n k : ℕ) → (Lends ws n k → ⊥) → NotOw
 lends-none [] n k h = tt
 lends-none (w ∷ ws) n k h = (λ p e d. h (inl (e ∙ ap Some d)), lends-none ws n k (λ l. h (inr l)))
 
-elsewhere-not : (n k : ℕ) (p : Place) → IsElsewhere n p → p ≢ Var n k
+pub elsewhere-not : (n k : ℕ) (p : Place) → IsElsewhere n p → p ≢ Var n k
 elsewhere-not n k (Var m i) h e = h (grind arith)
 elsewhere-not n k (Field a j) h e = grind arith
 

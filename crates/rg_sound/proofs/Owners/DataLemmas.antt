@@ -12,6 +12,7 @@ use Rattle.rg_base.specs.declared.object.Seen.{Seen}
 use Rattle.rg_base.specs.declared.value.Val.{Val}
 use Rattle.rg_base.specs.declared.value.Val.TheVariants.{Nil, Int as IntVal, Bool as BoolVal, Obj}
 use Rattle.rg_tree.specs.Tree.{Class, Tree}
+use Rattle.rg_tree.proofs.TreesFrom.{slice_get-push}
 use Rattle.rg_rules.specs.State.{Local, Target, Frame, Window, State}
 use Rattle.rg_rules.specs.Regions.{region_at}
 use Rattle.rg_rules.specs.Owners.{owned_by_local, leads_into, Forest}
@@ -23,7 +24,7 @@ use Rattle.rg_sound.specs.Numbers.{NumbersFit}
 use Rattle.rg_sound.specs.Frames.{FramesFit}
 use Rattle.rg_sound.specs.Fit.{Fit}
 use Rattle.rg_sound.proofs.Basics.{none-some, same_number, some-same}
-use Rattle.rg_sound.proofs.Owners.OwnerLemmas.{get-snoc, get-snoc-other, get-set, get-set-other, led_by, leads-top, leads-lower, leads-past}
+use Rattle.rg_sound.proofs.Owners.OwnerLemmas.{get-snoc-other, get-set, get-set-other, led_by, leads-top, leads-lower, leads-past}
 use Rattle.rg_sound.proofs.Owners.OwnerLemmas.{OwnersCome, forest-come, AllOwners, AllOwners-map, open-come}
 
 -- five of the six parts: all but that on frames and items
@@ -84,7 +85,7 @@ pub record Puts (old new : List Local) (k : ℕ) (l : Local) : Type 0 where
   pub others : (i : ℕ) → i ≢ k → slice_get new i ≡ slice_get old i
 
 pub puts-snoc : (ls : List Local) (l : Local) → Puts ls (ls ++ l ∷ []) (length ls) l
-puts-snoc ls l = record { at = get-snoc ls l; others = λ i n. get-snoc-other ls l i n }
+puts-snoc ls l = record { at = slice_get-push ls l; others = λ i n. get-snoc-other ls l i n }
 
 pub puts-set : (ls : List Local) (k : ℕ) (l m : Local) → slice_get ls k ≡ Some m → Puts ls (slice_set ls k l) k l
 puts-set ls k l m h = record { at = get-set ls k l m h; others = λ i n. get-set-other ls k i l n }

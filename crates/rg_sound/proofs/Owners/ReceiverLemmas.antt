@@ -1,5 +1,5 @@
 -- The object whose field a statement writes, swaps or enters: it is one of the topmost window, and its field has the declared type.
-use Rattle.std.proofs.Common.{◌≡◌, ◌≢◌, refl, sym, ◌∙◌, ap, subst, ◌⊎◌, inl, inr, ℕ, zero, suc, ◌<◌, Bool as Truth, true, false, bytes_eq}
+use Rattle.std.proofs.Common.{◌≡◌, ◌≢◌, refl, sym, ◌∙◌, ap, subst, ◌⊎◌, inl, inr, ℕ, suc, Bool as Truth, true, false, bytes_eq}
 use Rattle.std.proofs.Common.{if◌then◌else◌, List, [], ◌∷◌, find, Option, Some, None, option_map, option_and_then, unwrap_or, slice_get, Ok, arith}
 use Rattle.rg_base.specs.declared.words.Cap.{Cap}
 use Rattle.rg_base.specs.declared.words.Cap.TheVariants.{Mut, Tmp, Paused, Imm, Iso}
@@ -12,6 +12,7 @@ use Rattle.rg_base.specs.declared.object.Place.TheVariants.{Field}
 use Rattle.rg_base.specs.declared.object.Seen.{Seen}
 use Rattle.rg_base.specs.declared.value.Val.{Val}
 use Rattle.rg_base.specs.declared.value.Val.TheVariants.{Nil, Obj}
+use Rattle.rg_base.proofs.Callers.Labels.{region-temp}
 use Rattle.rg_tree.specs.Tree.{Name, Variable, Field as FieldOfClass, Class}
 use Rattle.rg_rules.specs.Capabilities.{may_write}
 use Rattle.rg_rules.specs.Types.{type_of, fields_of, field_place, field_type}
@@ -31,6 +32,7 @@ use Rattle.rg_sound.specs.Numbers.{Rising}
 use Rattle.rg_sound.proofs.Basics.{none-some, some-same}
 use Rattle.rg_sound.proofs.Owners.OwnerLemmas.{AllOwners}
 use Rattle.rg_sound.proofs.Values.ValueLemmas.{Sees, walk-meets, slot_value, field_value-slot}
+use Rattle.rg_sound.proofs.Owners.WindowLemmas.{rising-below}
 
 -- a label is the region or the number of the topmost window
 abbrev pub IsTop : List Window → Label → Type 0
@@ -178,14 +180,11 @@ region-same w u e = grind arith
 number-same : (w : Window) (u : Window) → Temp w.number ≡ Temp u.number → w.number ≡ u.number
 number-same w u e = grind arith
 
-region-not-temp : {B : Type 0} (r n : ℕ) → Region r ≡ Temp n → B
-region-not-temp r n e = grind arith
-
 beneath_not : (w v : Window) (o : Seen) → w.region ≢ v.region → w.number ≢ v.number → IsTop (w ∷ []) o.label →
     (o.label ≡ Region v.region) ⊎ (o.label ≡ Temp v.number) → ⊥
 beneath_not w v o r n (inl a) (inl b) = r (region-same w v (sym a ∙ b))
-beneath_not w v o r n (inl a) (inr b) = region-not-temp w.region v.number (sym a ∙ b)
-beneath_not w v o r n (inr a) (inl b) = region-not-temp v.region w.number (sym b ∙ a)
+beneath_not w v o r n (inl a) (inr b) = region-temp w.region v.number (sym a ∙ b)
+beneath_not w v o r n (inr a) (inl b) = region-temp v.region w.number (sym b ∙ a)
 beneath_not w v o r n (inr a) (inr b) = n (number-same w v (sym a ∙ b))
 
 rest-not_owner : (classes : List Class) (store : List Seen) (frames : List Frame) (w : Window) (ws : List Window) → AllOwned classes store frames ws →
@@ -205,11 +204,6 @@ rest-not_owner classes store frames w (u ∷ v ∷ ws) h d a j o there top = (
   rest-not_owner classes store frames w (v ∷ ws) h.1 (λ i u g. d (suc i) u g) a j o there top,
 )
 
-rising-number : (w : Window) (ws : List Window) → Rising (w ∷ ws) → (i : ℕ) (u : Window) → slice_get ws i ≡ Some u → u.number < w.number
-rising-number w [] h i u g = none-some g
-rising-number w (v ∷ ws) h zero u g = let same : v ≡ u = some-same v u g in rw (← same) h.0
-rising-number w (v ∷ ws) h (suc i) u g = let l = rising-number v ws h.1 i u g in omega (arith, l, h.0)
-
 pub top-not_owner_field : (classes : List Class) (store : List Seen) (frames : List Frame) (ws : List Window) → AllOwned classes store frames ws →
     OneWindowEach ws → Rising ws →
     (a j : ℕ) (o : Seen) → slice_get store a ≡ Some o → IsTop ws o.label → AllOwners ws (λ p. p ≢ Field a j)
@@ -218,7 +212,7 @@ top-not_owner_field classes store frames (w ∷ []) h e r a j o there top = (λ 
 top-not_owner_field classes store frames (w ∷ v ∷ ws) h e r a j o there top =
     let apart : (i : ℕ) (u : Window) → slice_get (v ∷ ws) i ≡ Some u → (w.region ≢ u.region) × (w.number ≢ u.number) = λ i u g. (
       λ s. let no : 0 ≡ suc i = e 0 (suc i) w u refl g s in absurd (omega (arith, no)),
-      λ s. let l = rising-number w (v ∷ ws) r i u g in
+      λ s. let l = rising-below w (v ∷ ws) r i u g in
           absurd (omega (arith, s, l)),
     ) in (
       λ p q same.

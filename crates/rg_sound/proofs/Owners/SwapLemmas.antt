@@ -1,6 +1,7 @@
 -- `swap y, q.f` keeps the invariant.
-use Rattle.std.proofs.Common.{◌≡◌, ◌≢◌, refl, sym, ◌∙◌, ap, subst, ◌⊎◌, inl, inr, ℕ, ◌==◌, Bool as Truth, true, false, ◌&&◌, if◌then◌else◌, List, []}
+use Rattle.std.proofs.Common.{◌≡◌, ◌≢◌, refl, sym, ◌∙◌, ap, subst, ◌⊎◌, inl, inr, ℕ, ◌==◌, Bool as Truth, true, false, if◌then◌else◌, List, []}
 use Rattle.std.proofs.Common.{◌∷◌, length, Option, Some, None, option_and_then, slice_get, slice_set, Ok, arith}
+use Rattle.std.proofs.lemmas.Bool.{and_parts}
 use Rattle.rg_base.specs.declared.words.Cap.TheVariants.{Mut, Tmp, Paused, Imm, Iso}
 use Rattle.rg_base.specs.declared.ty.Ty.{Ty}
 use Rattle.rg_base.specs.declared.ty.Ty.TheVariants.{Int, Bool, Ref}
@@ -61,10 +62,6 @@ set-twice x v w (m ∷ ls) = by (same_variable m.name x) refl (set-twice x v w l
     by true at rest = rw at refl
     by false at rest = rw at (ap (λ q. m ∷ q) rest)
 
-and_both : (a b : Truth) → a && b ≡ true → (a ≡ true) × (b ≡ true)
-and_both true b h = (refl, h)
-and_both false b h = absurd (grind arith)
-
 iso-ref : (t : Ty) → is_iso t ≡ true → (c : ℕ) × (t ≡ Ref Iso c)
 iso-ref Int h = grind arith
 iso-ref Bool h = grind arith
@@ -77,11 +74,11 @@ iso-ref (Ref Iso c) h = (c, refl)
 below-iso_same : (c : ℕ) (t : Ty) → below t (Ref Iso c) ≡ true → t ≡ Ref Iso c
 below-iso_same c Int h = grind arith
 below-iso_same c Bool h = grind arith
-below-iso_same c (Ref Mut d) h = let p = and_both (d == c) false h in grind arith
-below-iso_same c (Ref Tmp d) h = let p = and_both (d == c) false h in grind arith
-below-iso_same c (Ref Paused d) h = let p = and_both (d == c) false h in grind arith
-below-iso_same c (Ref Imm d) h = let p = and_both (d == c) false h in grind arith
-below-iso_same c (Ref Iso d) h = let p = and_both (d == c) true h in let same : d ≡ c = let q = p.0 in grind arith in ap (Ref Iso) same
+below-iso_same c (Ref Mut d) h = let p = and_parts (d == c) false h in grind arith
+below-iso_same c (Ref Tmp d) h = let p = and_parts (d == c) false h in grind arith
+below-iso_same c (Ref Paused d) h = let p = and_parts (d == c) false h in grind arith
+below-iso_same c (Ref Imm d) h = let p = and_parts (d == c) false h in grind arith
+below-iso_same c (Ref Iso d) h = let p = and_parts (d == c) true h in let same : d ≡ c = let q = p.0 in grind arith in ap (Ref Iso) same
 
 field-iso : (ws : List Window) (own : Label) → IsTop ws own → (l : Label) → FieldFits ws own Iso l → IsRegion l
 field-iso ws (Region r) top l h = h
@@ -189,7 +186,7 @@ swap-kept t a s line y x f fs rest d out p at host follows there =
     let w = field_value t.classes host name in
     let w_is : w ≡ q.field.value = receiver-value t.classes s.store s.windows at host name p.ty q in
     let c = iso-ref p.entry.ty p.iso in
-    let both = and_both (below p.ty p.entry.ty) (below p.entry.ty p.ty) p.same in
+    let both = and_parts (below p.ty p.entry.ty) (below p.entry.ty p.ty) p.same in
     let P : Ty → Type 0 = λ z. below p.ty z ≡ true in
     let field_ty : p.ty ≡ Ref Iso c.0 = below-iso_same c.0 p.ty (subst P c.1 both.0) in
     let declared : type_of t.classes q.field.field.ty ≡ Ref Iso c.0 = q.field.type_is ∙ field_ty in

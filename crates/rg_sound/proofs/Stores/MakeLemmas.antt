@@ -16,6 +16,7 @@ use Rattle.rg_base.specs.declared.object.Place.TheVariants.{Var, Field}
 use Rattle.rg_base.specs.declared.object.Seen.{Seen}
 use Rattle.rg_base.specs.declared.value.Val.TheVariants as val
 use Rattle.rg_tree.specs.Tree.{Name, ref, new, new_tmp, new_iso, Class, Tree}
+use Rattle.rg_tree.proofs.TreesFrom.{slice_get-push}
 use Rattle.rg_rules.specs.Types.{class_named, class_number, suits_class, good_type, fields_of}
 use Rattle.rg_rules.specs.Environment.{Env}
 use Rattle.rg_rules.specs.Items.{Item}
@@ -33,7 +34,7 @@ use Rattle.rg_sound.specs.Numbers.{LabelGiven}
 use Rattle.rg_sound.specs.Frames.{Running}
 use Rattle.rg_sound.specs.Writes.{Allowed}
 use Rattle.rg_sound.proofs.Basics.{none-some, some-same}
-use Rattle.rg_sound.proofs.Owners.OwnerLemmas.{get-snoc, get-snoc-other}
+use Rattle.rg_sound.proofs.Owners.OwnerLemmas.{get-snoc-other}
 use Rattle.rg_sound.proofs.Owners.DataLemmas.{Data}
 use Rattle.rg_sound.proofs.Values.RightLemmas.{OwnsFreshAs, Gives, not_iso-fresh}
 use Rattle.rg_sound.proofs.Values.AssignLemmas.{RightGives}
@@ -103,7 +104,7 @@ make-gives t s f fs later run at d cap x label c named is_temp managers bound gi
       made = refl;
       items = refl;
       fits = more;
-      meets = record { object = o; there = get-snoc s.store o; class_is = refl; label_fits = fits };
+      meets = record { object = o; there = slice_get-push s.store o; class_is = refl; label_fits = fits };
       fresh = fresh;
       allowed = allowed-more s (record s { store = s.store ++ o ∷ []; managers = managers }) o refl;
       keeps = λ b p e top. get-snoc-other s.store o b (λ at_end. let l = slice_get_within s.store b p e in absurd (omega (arith, l, at_end))) ∙ e;
@@ -181,7 +182,7 @@ new_iso-righted x m t s f fs later run top at d target put wanted j typed u h =
     let is : made t.classes s (with_region m put) x label ≡ u = grind arith in
     let long : length (s.managers ++ m ∷ []) ≡ suc (length s.managers) = let e = length-append s.managers (m ∷ []) in omega (arith, e) in
     let region : region_at (s.store ++ o ∷ []) (length s.store) ≡ Some (length s.managers) =
-    ap (option_and_then (λ (y : Seen). region_of y.label)) (get-snoc s.store o) in
+    ap (option_and_then (λ (y : Seen). region_of y.label)) (slice_get-push s.store o) in
     let g = make-gives t s f fs later run at d Iso x label q.class q.named (λ z. absurd z, λ z. ordinary q.class.is_tmp plain_class z)
     (s.managers ++ m ∷ []) (omega (arith, long)) (omega (arith, long))
     (length s.managers, refl)

@@ -12,6 +12,7 @@ use Rattle.rg_base.specs.declared.object.Seen.{Seen}
 use Rattle.rg_base.specs.declared.value.Val.{Val}
 use Rattle.rg_base.specs.declared.value.Val.TheVariants as val
 use Rattle.rg_tree.specs.Tree.{Ty as WrittenTy, Name, int, bool, ref, Field as FieldOfClass, Class}
+use Rattle.rg_tree.proofs.TreesFrom.{slice_get-push}
 use Rattle.rg_rules.specs.Capabilities.{is_iso}
 use Rattle.rg_rules.specs.Types.{class_number, type_of, fields_of}
 use Rattle.rg_rules.specs.State.{Local, Frame, Window, frame_at}
@@ -24,7 +25,7 @@ use Rattle.rg_sound.specs.Objects.{IsTemp, FieldFits, FieldsMeet, ObjectFits, Ob
 use Rattle.rg_sound.specs.OpenRegions.{IsNear}
 use Rattle.rg_sound.specs.Numbers.{LabelGiven}
 use Rattle.rg_sound.proofs.Basics.{none-some, same_number, some-same}
-use Rattle.rg_sound.proofs.Owners.OwnerLemmas.{get-snoc, get-snoc-other, frame_at-top, frame_at-lower, OwnersCome, AllOwners, forest-come}
+use Rattle.rg_sound.proofs.Owners.OwnerLemmas.{get-snoc-other, frame_at-top, frame_at-lower, OwnersCome, AllOwners, forest-come}
 use Rattle.rg_sound.proofs.Owners.OwnerLemmas.{open-come}
 use Rattle.rg_sound.proofs.Owners.DataLemmas.{Data, Nothing, Within, meets-within}
 use Rattle.rg_sound.proofs.Stores.ReplaceLemmas.{KeepsObjects, values-kept, FieldsMeet-kept}
@@ -136,7 +137,7 @@ leads-more classes store frames ws regions made o d owns p = same p
     field-old : (a j : ℕ) → owned_in_field classes (store ++ o ∷ []) a j ≡ owned_in_field classes store a j
     field-old a j = elim (same_number a (length store)) [
       | inl at ↦ ap (λ q. owned_in_field classes (store ++ o ∷ []) q j) at
-          ∙ ap (option_and_then (λ (q : Seen). owned_by_field classes q j)) (get-snoc store o) ∙ owns j
+          ∙ ap (option_and_then (λ (q : Seen). owned_by_field classes q j)) (slice_get-push store o) ∙ owns j
           ∙ ap (option_and_then (λ (q : Seen). owned_by_field classes q j)) (sym (slice_get_past store a (omega (arith, at))))
       | inr away ↦ ap (option_and_then (λ (q : Seen). owned_by_field classes q j)) (get-snoc-other store o a away)
     ]
@@ -195,7 +196,7 @@ store-more classes store frames ws regions more made o d bound given owns c clas
 
     by_address : (a : ℕ) (p : Seen) → slice_get (store ++ o ∷ []) a ≡ Some p → (P : Seen → Type 0) → (slice_get store a ≡ Some p → P p) → P o → P p
     by_address a p e P was now = elim (same_number a (length store)) [
-      | inl at ↦ let one : o ≡ p = some-same o p (sym (get-snoc store o) ∙ ap (slice_get (store ++ o ∷ [])) (sym at) ∙ e) in subst P one now
+      | inl at ↦ let one : o ≡ p = some-same o p (sym (slice_get-push store o) ∙ ap (slice_get (store ++ o ∷ [])) (sym at) ∙ e) in subst P one now
       | inr away ↦ was (sym (get-snoc-other store o a away) ∙ e)
     ]
 

@@ -242,7 +242,7 @@ sources-back : (env out : Env) → Stays env out → (xs : List Variable) → Al
 sources-back env out s [] h = tt
 sources-back env out s (x ∷ xs) h = (source-back env out s x h.0, sources-back env out s xs h.1)
 
-cleared-append : (xs ys : List Variable) (ls : List Local) → cleared (xs ++ ys) ls ≡ cleared ys (cleared xs ls)
+pub cleared-append : (xs ys : List Variable) (ls : List Local) → cleared (xs ++ ys) ls ≡ cleared ys (cleared xs ls)
 cleared-append [] ys ls = refl
 cleared-append (x ∷ xs) ys ls = cleared-append xs ys (set_in x Nil ls)
 

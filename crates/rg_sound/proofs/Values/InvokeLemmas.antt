@@ -1,7 +1,7 @@
 -- The new frame of a call, and the laws of calls.
 use Rattle.std.proofs.Common.{◌≡◌, ◌≢◌, refl, sym, ◌∙◌, ap, subst, inl, inr, ℕ, ◌==◌, nat_lt, Bool as Truth, true, false, if◌then◌else◌, List, []}
 use Rattle.std.proofs.Common.{◌∷◌, ◌++◌, length, map, flat_map, Option, Some, None, ok_or, option_and_then, Ok, arith}
-use Rattle.std.proofs.lemmas.List.{append-nil, length-map}
+use Rattle.std.proofs.lemmas.List.{append-nil, length-map, append_assoc}
 use Rattle.rg_base.specs.declared.limits.TheConstants.{FRAMES}
 use Rattle.rg_base.specs.declared.words.Cap.{Cap}
 use Rattle.rg_base.specs.declared.ty.Ty.{Ty}
@@ -49,7 +49,7 @@ use Rattle.rg_sound.proofs.Frames.SpotLemmas.{leaves-items_of}
 use Rattle.rg_sound.proofs.Owners.OwnerLemmas.{leads-top, leads-lower, AllOwners, AllOwners-map}
 use Rattle.rg_sound.proofs.Owners.DataLemmas.{Data, data-fit, puts-snoc, put-local, leads-put, push-frame}
 use Rattle.rg_sound.proofs.Frames.StandsLemmas.{IsElsewhere, beneath-elsewhere, beneath-all, stands-stays, owned-grounded}
-use Rattle.rg_sound.proofs.Frames.TopLemmas.{top-sees, top-not_owner}
+use Rattle.rg_sound.proofs.Frames.TopLemmas.{top-sees, top-not_owner, elsewhere-not}
 use Rattle.rg_sound.proofs.Values.RightLemmas.{not_iso-fresh, below-iso, ready-not_lent}
 use Rattle.rg_sound.proofs.Values.AssignLemmas.{Doing, doing, doing-judges}
 use Rattle.rg_sound.proofs.Owners.EntranceLemmas.{items_of-append}
@@ -85,14 +85,6 @@ loose-put classes store g fs l (t ∷ ts) (v ∷ vs) a h =
     ]
     by (Field b j) r k y f = f (Field b j) y
 
-elsewhere-not : (n k : ℕ) (p : Place) → IsElsewhere n p → p ≢ Var n k
-elsewhere-not n k (Var m i) h e = h (grind arith)
-elsewhere-not n k (Field a j) h e = grind arith
-
-append-assoc : {A : Type 0} (a b c : List A) → (a ++ b) ++ c ≡ a ++ (b ++ c)
-append-assoc [] b c = refl
-append-assoc (x ∷ a) b c = ap (λ q. x ∷ q) (append-assoc a b c)
-
 -- the parameters get their values
 params-put : (classes : List Class) (store : List Seen) (g : Frame) (fs : List Frame) (ws : List Window) (regions made : ℕ) (ps : List Param)
     (vs : List Val) → Data classes store (g ∷ fs) ws regions made →
@@ -112,7 +104,7 @@ params-put classes store g fs ws regions made (p ∷ ps) (v ∷ vs) d all e m h 
     let rest = params-put classes store (record g { locals = g.locals ++ l ∷ [] }) fs ws regions made ps vs put all e m.1
     (loose-put classes store g fs l (map (λ (q : Param). type_of classes q.ty) ps) vs h.1 h.2) in
     let Q : List Local → Type 0 = λ q. Data classes store (record g { locals = q } ∷ fs) ws regions made in
-    subst Q (append-assoc g.locals (l ∷ []) (bound classes ps vs)) rest
+    subst Q (append_assoc g.locals (l ∷ []) (bound classes ps vs)) rest
 
 -- The new frame
 

@@ -62,7 +62,7 @@ right-call (result_of c) x y made h =
     (ap (λ (q : Call × Target). result_of q.0) pair, ap (λ (q : Call × Target). q.1) pair)
 
 -- a call as a right side: the type that it gives is below the expected one
-result-below : (classes : List Class) (env : Env) (wanted : Ty) (c : Call) (j : Judged) (ty : Ty) →
+pub result-below : (classes : List Class) (env : Env) (wanted : Ty) (c : Call) (j : Judged) (ty : Ty) →
     judge_right classes env wanted (result_of c) ≡ Ok j →
     ((k : Called) → judge_call classes env c ≡ Ok k → k.result ≡ Some ty) → below ty wanted ≡ true
 result-below classes env wanted c j ty h result =

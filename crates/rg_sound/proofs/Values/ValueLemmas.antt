@@ -1,7 +1,8 @@
 -- What an expression computes to meets its type.
 use Rattle.std.proofs.Common.{◌≡◌, refl, sym, ◌∙◌, ap, subst, ℕ, suc, ◌==◌, ℤ, ◌+ℤ◌, ◌-ℤ◌, ◌*ℤ◌, neg_ℤ, int_div, int_rem, Bool as Truth, true, false}
-use Rattle.std.proofs.Common.{◌&&◌, not as negated, if◌then◌else◌, bytes_eq, List, [], ◌∷◌, find, Option, Some, None, ok_or, option_map, unwrap_or}
+use Rattle.std.proofs.Common.{not as negated, if◌then◌else◌, bytes_eq, List, [], ◌∷◌, find, Option, Some, None, ok_or, option_map, unwrap_or}
 use Rattle.std.proofs.Common.{slice_get, Ok, Err, IfSome, arith}
+use Rattle.std.proofs.lemmas.Bool.{and_parts}
 use Rattle.rg_base.specs.declared.words.Cap.{Cap}
 use Rattle.rg_base.specs.declared.ty.Ty.{Ty}
 use Rattle.rg_base.specs.declared.ty.Ty.TheVariants.{Int, Bool, Ref}
@@ -63,10 +64,6 @@ pause-meets store under ws up Int v m = m
 pause-meets store under ws up Bool v m = m
 pause-meets store under ws up (Ref cap c) v m = MeetsRef-map store c (LabelFits under cap) (LabelFits ws (pause_cap cap)) v
     (paused-fits under ws up cap) m
-
-and_parts : (a b : Truth) → a && b ≡ true → (a ≡ true) × (b ≡ true)
-and_parts true b h = (refl, h)
-and_parts false b h = absurd (grind arith)
 
 pub below-meets : (store : List Seen) (ws : List Window) (u t : Ty) (v : Val) → below u t ≡ true → Meets store ws u v → Meets store ws t v
 below-meets store ws Int Int v e m = m

@@ -1,6 +1,7 @@
 -- What is calm, and what is orderly, behind some instructions. For callers.
-use Rattle.std.proofs.Common.{◌≡◌, ℕ, zero, suc, ◌+◌, ◌&&◌, true, false, true≢false, Bool as Truth, List, [], ◌∷◌, drop, refl, sym, subst, arith}
+use Rattle.std.proofs.Common.{◌≡◌, ℕ, zero, suc, ◌+◌, true, false, true≢false, Bool as Truth, List, [], ◌∷◌, drop, refl, sym, subst, arith}
 use Rattle.std.proofs.Common.{slice_get}
+use Rattle.std.proofs.lemmas.Bool.{and_from}
 use Rattle.rg_code.specs.declared.op.Op.{Op}
 use Rattle.rg_code.specs.declared.op.Op.TheVariants as i
 use Rattle.rg_code.specs.Places.{is_mark}
@@ -8,18 +9,7 @@ use Rattle.rg_stack.specs.Refusals.{Manner, Ends, Clears, Settles, Takes, Comput
 use Rattle.rg_stack.specs.Refusals.{calm}
 use Rattle.rg_stack.specs.Refusals.{computes, all_compute}
 use Rattle.rg_stack.specs.Refusals.{orderly_by, orderly}
-
-pub and_both : (a b : Truth) → a ≡ true → b ≡ true → (a && b) ≡ true
-and_both true b e h = h
-and_both false b e h = absurd (true≢false (sym e))
-
-pub and_first : (a b : Truth) → (a && b) ≡ true → a ≡ true
-and_first true b e = refl
-and_first false b e = absurd (true≢false (sym e))
-
-pub and_second : (a b : Truth) → (a && b) ≡ true → b ≡ true
-and_second true b e = e
-and_second false b e = absurd (true≢false (sym e))
+use Rattle.rg_stack.proofs.Basics.{and-left, and-right}
 
 -- what begins with a mark is calm
 pub calm-mark : (code : List Op) (room : Truth) (os : List Op) → is_mark (slice_get os 0) ≡ true → calm code room os ≡ true
@@ -42,7 +32,7 @@ calm-orderly code at room (o ∷ os) e = by (manner o) e (calm-orderly code (at 
     by Computes e go = absurd (true≢false (sym e))
     by Prepares e go = absurd (true≢false (sym e))
     by Calls e go = e
-    by (Chooses t) e go = and_both _ _ (and_first _ _ e) (go (and_second _ _ e))
+    by (Chooses t) e go = and_from _ _ (and-left _ _ e) (go (and-right _ _ e))
     by (Passes t) e go = absurd (true≢false (sym e))
 
 -- instructions that work on the stack alone are passed over
@@ -53,7 +43,7 @@ orderly-skip code (suc n) at [] a e = refl
 orderly-skip code (suc n) at (o ∷ os) a e =
     let same : at + 1 + n ≡ at + suc n = omega arith in
     subst (λ k. orderly code k false (drop n os) ≡ true) same
-    (orderly-skip code n (at + 1) os (and_second _ _ a) (by (manner o) (and_first _ _ a) e))
+    (orderly-skip code n (at + 1) os (and-right _ _ a) (by (manner o) (and-left _ _ a) e))
   where
     by : (m : Manner) → computes m ≡ true
         → orderly_by code at false m os (calm code (room_behind m false) os) (orderly code (at + 1) (room_behind m false) os) ≡ true
@@ -66,4 +56,4 @@ orderly-skip code (suc n) at (o ∷ os) a e =
     by Prepares c h = absurd (true≢false (sym c))
     by Calls c h = absurd (true≢false (sym c))
     by (Chooses t) c h = absurd (true≢false (sym c))
-    by (Passes t) c h = and_second _ _ h
+    by (Passes t) c h = and-right _ _ h

@@ -18,8 +18,7 @@ use Rattle.rg_stack.specs.Simulates.{SomeLeft}
 use Rattle.rg_stack.specs.Reads.{reads}
 use Rattle.rg_stack.specs.Refusals.{manner, computes, all_compute}
 use Rattle.rg_stack.specs.Laws.{StepsAsk}
-use Rattle.rg_stack.proofs.Callers.OrderLemmas.{and_first, and_second}
-use Rattle.rg_stack.proofs.Basics.{is_halt}
+use Rattle.rg_stack.proofs.Basics.{is_halt, and-left, and-right}
 use Rattle.rg_stack.proofs.Walks.MarkLemmas.{drop-stands, first-drop, lies_at_mark}
 use Rattle.rg_stack.proofs.Judgements.LeftLemmas.{do-other, leave-other, running-left}
 use Rattle.rg_stack.proofs.Refusals.ReadLemmas.{reads-mark, kind-reads}
@@ -86,7 +85,7 @@ steps-ask t code m p fit shows left = all-ask t code.ops m.at m.frames p.frames 
 pub reads-skip : (n : ℕ) (os : List Op) → all_compute n os ≡ true → reads os ≡ false → reads (drop n os) ≡ false
 reads-skip zero os a h = h
 reads-skip (suc n) [] a h = refl
-reads-skip (suc n) (o ∷ os) a h = reads-skip n os (and_second _ _ a) (by o (and_first _ _ a) h)
+reads-skip (suc n) (o ∷ os) a h = reads-skip n os (and-right _ _ a) (by o (and-left _ _ a) h)
   where
     by : (o : Op) → computes (manner o) ≡ true → reads (o ∷ os) ≡ false → reads os ≡ false
     by (i.Mark line) c h = absurd (true≢false (sym c))

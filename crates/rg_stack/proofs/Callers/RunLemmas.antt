@@ -80,7 +80,7 @@ runs_from t code accepted lowers (suc n) made w output p fit h quiet left out =
     silent some same))
 
 -- main's block has an item at least
-opening_left : (b : Block) → SomeLeft (items_of b (EndAt 0 ∷ []))
+pub opening_left : (b : Block) → SomeLeft (items_of b (EndAt 0 ∷ []))
 opening_left none = tt
 opening_left (more_of s b) = tt
 

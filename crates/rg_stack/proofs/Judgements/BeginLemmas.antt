@@ -6,20 +6,20 @@ use Rattle.rg_base.specs.declared.ty.Ty.{Ty}
 use Rattle.rg_base.specs.declared.value.Val.{Val}
 use Rattle.rg_base.specs.declared.object.Seen.{Seen}
 use Rattle.rg_base.specs.declared.words.Manager.{Manager}
-use Rattle.rg_tree.specs.Tree.{Name, Ty as Written, Variable, Expr, Call, Right, value, new, new_tmp, new_iso, freeze, merge, read, more}
+use Rattle.rg_tree.specs.Tree.{Name, Variable, Expr, Call, Right, value, new, new_tmp, new_iso, freeze, merge, read, more}
 use Rattle.rg_tree.specs.Tree.{result_of, stmt, StmtKind, declare, assign, call, swap, branch, while, enter, print, collect, return, Method, Class}
 use Rattle.rg_tree.specs.Tree.{Tree}
-use Rattle.rg_base.specs.declared.fault.Code.TheVariants.{Unknown, Mismatch}
-use Rattle.std.proofs.lemmas.Option.{none-some}
+use Rattle.rg_base.specs.declared.fault.Code.TheVariants.{Unknown}
+use Rattle.std.proofs.lemmas.Option.{none-some, same_Some}
+use Rattle.std.proofs.lemmas.Bool.{and_from}
 use Rattle.std.specs.Prelude.{not, ◌||◌, ◌+◌, nat_le}
 use Rattle.rg_rules.specs.Acceptance.{Accepted}
 use Rattle.rg_rules.specs.Types.{type_of, method_named}
 use Rattle.rg_rules.specs.Environment.{Env, Entry, entry_of, at_depth, is_lent}
 use Rattle.rg_rules.specs.Capabilities.{below, stays_at_depth}
 use Rattle.rg_rules.specs.Items.{Item, Do}
-use Rattle.rg_rules.specs.Bodies.{Body, method_body, method_end}
+use Rattle.rg_rules.specs.Bodies.{Body, method_body}
 use Rattle.rg_rules.specs.Answers.{at_line}
-use Rattle.rg_rules.specs.Expressions.{Judged}
 use Rattle.rg_rules.specs.Rights.{Called, judge_call, judge_right}
 use Rattle.rg_rules.specs.Statements.{judge_block, judge_kind, judge_assign}
 use Rattle.rg_rules.specs.State.{Local, Target, Declares, Assigns, Drops, Frame, Window, State}
@@ -28,7 +28,6 @@ use Rattle.rg_rules.specs.Evaluation.{uses, cleared}
 use Rattle.rg_rules.specs.Steps.{next}
 use Rattle.rg_rules.proofs.AnswersLemmas.{bind-ok, test-then, ok_or-ok, at_line-ok}
 use Rattle.rg_rules.proofs.AcceptanceLemmas.{Accepted-parts, Accepted-method}
-use Rattle.rg_rules.proofs.ExpressionLemmas.{against-ok, against-below}
 use Rattle.rg_rules.proofs.PointLemmas.{BeginsFree, spot-advance}
 use Rattle.rg_sound.specs.Values.{Meets}
 use Rattle.rg_sound.specs.OpenRegions.{AllOwned}
@@ -39,6 +38,8 @@ use Rattle.rg_sound.proofs.Owners.OwnerLemmas.{AllOwners, AllOwners-map}
 use Rattle.rg_sound.proofs.Owners.DataLemmas.{Data, pop-frame}
 use Rattle.rg_sound.proofs.Values.RightLemmas.{OwnsFreshAs}
 use Rattle.rg_sound.proofs.Values.DeliverLemmas.{waits-doing, pop-leads, elsewhere-leads, call-result}
+use Rattle.rg_sound.proofs.Frames.BodyLemmas.{method_end-free}
+use Rattle.rg_sound.proofs.Values.ReturnLemmas.{result-below}
 use Rattle.rg_sound.specs.Frames.{Entered, Waits, WaitsEmpty, Beneath, Running, right_call, with_target, assigned_call, call_of}
 use Rattle.rg_code.specs.Lowering.{assign_op, lowered}
 use Rattle.rg_code.specs.Places.{scope_of}
@@ -52,20 +53,15 @@ use Rattle.rg_stack.proofs.Walks.PlaceLemmas.{GoesOn}
 use Rattle.rg_stack.proofs.Walks.FrameLemmas.{OpenedBelow, windows_below}
 use Rattle.rg_stack.proofs.Walks.EndLemmas.{Round, work, state}
 use Rattle.rg_stack.proofs.Statements.BaseLemmas.{as_many, sizes-more}
-use Rattle.rg_stack.proofs.Basics.{some-is}
 use Rattle.rg_stack.proofs.Needs.LeadLemmas.{ShowsFit}
 use Rattle.rg_stack.proofs.Needs.OnceLemmas.{owned_once-fits, loose-fits}
-use Rattle.rg_stack.proofs.Walks.NeedLemmas.{and-both, not_true}
+use Rattle.rg_stack.proofs.Walks.NeedLemmas.{not_true}
 use Rattle.rg_stack.proofs.Statements.ReturnLemmas.{TargetHas, TargetNeeds, above}
 use Rattle.rg_stack.proofs.Judgements.BaseLemmas.{beneath-begins}
 use Rattle.rg_stack.proofs.Judgements.FitLemmas.{found-named, running-beneath}
 use Rattle.rg_stack.proofs.Judgements.MiddleLemmas.{Begun, begun_of, variable-needs}
 use Rattle.rg_stack.proofs.Judgements.SpotLemmas.{leaves_frame, outer-enters}
 use Rattle.rg_stack.proofs.Judgements.StatementLemmas.{Live, fits_of, statement-judged, return-judged, target-has}
-
-end_free : (result : Option Written) → BeginsFree (method_end result)
-end_free None = tt
-end_free (Some t) = tt
 
 -- a body that runs or waits in an accepted program is judged
 pub record JudgedBody (t : Tree) (b : Body) : Type 0 where
@@ -76,7 +72,7 @@ pub record JudgedBody (t : Tree) (b : Body) : Type 0 where
 method_judged : (t : Tree) → Accepted t → (c : ℕ) (x : Name) (m : Method) → method_named t.classes c x ≡ Some m
     → JudgedBody t (method_body t.classes c m)
 method_judged t accepted c x m named = let p = Accepted-method t accepted c x m named in record
-    { out = p.out; right = p.body; free = end_free m.result }
+    { out = p.out; right = p.body; free = method_end-free m.result }
 
 pub body-judged : (t : Tree) → Accepted t → (fs : List Frame) (ws : List Window) (items : List Item) (b : Body) (target : Target)
     → Beneath t fs ws items b target → JudgedBody t b
@@ -167,7 +163,7 @@ with_free : (classes : List Class) (env : Env) (o : Option Call) (first target :
     → ((d : Call) → o ≡ Some d → TargetFree classes env first d) → TargetFree classes env target c
 with_free classes env None first target c h free = absurd (none-some (c, target) h)
 with_free classes env (Some d) first target c h free = subst (λ (p : Call × Target). TargetFree classes env p.1 p.0)
-    (some-is (d, first) (c, target) h) (free d refl)
+    (same_Some (d, first) (c, target) h) (free d refl)
 
 -- the call of a right side
 called_right : (right : Right) (d : Call) → right_call right ≡ Some d → right ≡ result_of d
@@ -179,17 +175,7 @@ called_right (freeze y) d h = absurd (none-some d h)
 called_right (merge y) d h = absurd (none-some d h)
 called_right read d h = absurd (none-some d h)
 called_right more d h = absurd (none-some d h)
-called_right (result_of c) d h = ap result_of (some-is c d h)
-
--- what a call gives is below what is expected of it
-result_below : (classes : List Class) (env : Env) (wanted : Ty) (c : Call) (j : Judged) (ty : Ty)
-    → judge_right classes env wanted (result_of c) ≡ Ok j
-    → ((k : Called) → judge_call classes env c ≡ Ok k → k.result ≡ Some ty) → below ty wanted ≡ true
-result_below classes env wanted c j ty judged gives =
-    let p = bind-ok (judge_call classes env c) _ j judged in
-    let u = bind-ok (ok_or p.0.result Mismatch) _ j p.2 in
-    let is : u.0 ≡ ty = some-is u.0 ty (sym (ok_or-ok p.0.result Mismatch u.0 u.1) ∙ gives p.0 p.1) in
-    subst (λ q. below q wanted ≡ true) ((against-ok (Some wanted) u.0 p.0.env j u.2).ty ∙ is) (against-below wanted u.0 p.0.env j u.2)
+called_right (result_of c) d h = ap result_of (same_Some c d h)
 
 assigned_free : (classes : List Class) (env out : Env) (x : Variable) (fs : List Name) (right : Right) (c : Call) (target : Target)
     → judge_assign classes env x fs right ≡ Ok out → assigned_call x fs right ≡ Some (c, target) → TargetFree classes env target c
@@ -204,7 +190,7 @@ assigned_free classes env out x [] right c target judged h =
       there = ok_or-ok (entry_of env x) Unknown e.0 e.1;
       not_lent = not_true (is_lent e.0.readiness) l.0;
       may = b.0;
-      takes = λ ty. result_below classes env e.0.ty d j.0 ty
+      takes = λ ty. result-below classes env e.0.ty d j.0 ty
           (subst (λ q. judge_right classes env e.0.ty q ≡ Ok j.0) (called_right right d is) j.1);
     })
 assigned_free classes env out x (g ∷ gs) right c target judged h = absurd (none-some (c, target) h)
@@ -288,7 +274,7 @@ module _ (t : Tree) (accepted : Accepted t) (r : Round) (slots under : List Val)
   taken_by fits meets fresh Drops is =
       let d = shown fits in
       let m = (work r store under managers input).machine in
-      and-both (owned_once m) (loose m v) (owned_once-fits t.classes m (caller ∷ r.bodies) r.opened d)
+      and_from (owned_once m) (loose m v) (owned_once-fits t.classes m (caller ∷ r.bodies) r.opened d)
       (loose-fits t.classes m (caller ∷ r.bodies) r.opened r.opened d (λ l o. o) ty v meets fresh)
     where
       shown : Data t.classes store (caller ∷ r.bodies) r.opened (length managers) r.made

@@ -2,7 +2,7 @@
 use Rattle.std.proofs.Common.{◌≡◌, ℕ, suc, ◌≤◌, ◌<◌, true, false, true≢false, ◌⊎◌, inl, inr, Bool as Truth, if◌then◌else◌, List, [], ◌∷◌, ◌++◌}
 use Rattle.std.proofs.Common.{length, find, Option, Some, None, option_map, Ok, refl, sym, ap, subst, ◌∙◌, arith, slice_get, unwrap_or}
 use Rattle.std.specs.Prelude.{bytes_eq, reverse}
-use Rattle.std.proofs.lemmas.Option.{none-some}
+use Rattle.std.proofs.lemmas.Option.{none-some, same_Some}
 use Rattle.std.proofs.lemmas.Bool.{lt-ltb}
 use Rattle.rg_base.specs.declared.words.Cap.{Cap}
 use Rattle.rg_base.specs.declared.words.Cap.TheVariants.{Mut, Tmp, Paused, Imm, Iso}
@@ -34,7 +34,7 @@ use Rattle.rg_code.specs.Places.{scope_of}
 use Rattle.rg_stack.proofs.Walks.FrameLemmas.{OpenedBelow}
 use Rattle.rg_stack.proofs.Walks.SlotLemmas.{Has}
 use Rattle.rg_stack.proofs.Statements.RightLemmas.{InRegion}
-use Rattle.rg_stack.proofs.Basics.{some-is, err-ok}
+use Rattle.rg_stack.proofs.Basics.{err-ok}
 use Rattle.rg_stack.proofs.Judgements.FollowLemmas.{HaveFields}
 use Rattle.rg_stack.proofs.Judgements.JudgeLemmas.{OfType, Facts}
 use Rattle.rg_stack.specs.Machine.{Window as Now}
@@ -54,7 +54,7 @@ meets-of_type store F (Ref cap c) val.Nil h = (λ o e. absurd (err-ok trap.Nil o
 meets-of_type store F (Ref cap c) (val.Int z) h = absurd h
 meets-of_type store F (Ref cap c) (val.Bool b) h = absurd h
 meets-of_type store F (Ref cap c) (val.Obj a) h = (
-  λ o e. ap Some (sym h.class_is ∙ ap (λ (o : Seen). o.class) (some-is h.object o (sym h.there ∙ ok_or-ok (slice_get store a) trap.Nil o e))),
+  λ o e. ap Some (sym h.class_is ∙ ap (λ (o : Seen). o.class) (same_Some h.object o (sym h.there ∙ ok_or-ok (slice_get store a) trap.Nil o e))),
   λ e. absurd (true≢false (sym e)),
 )
 
@@ -71,7 +71,7 @@ meets-iso store F regions (Ref Iso c) val.Nil i h o e = absurd (err-ok trap.Nil 
 meets-iso store F regions (Ref Iso c) (val.Int z) i h o e = absurd h
 meets-iso store F regions (Ref Iso c) (val.Bool b) i h o e = absurd h
 meets-iso store F regions (Ref Iso c) (val.Obj a) i h o e =
-    let same = some-is h.object o (sym h.there ∙ ok_or-ok (slice_get store a) trap.Nil o e) in
+    let same = same_Some h.object o (sym h.there ∙ ok_or-ok (slice_get store a) trap.Nil o e) in
     let g = regions h.object.label h.label_fits in
     (g.0, ap (λ (o : Seen). region_of o.label) (sym same) ∙ g.1)
 
@@ -106,7 +106,7 @@ found_by : (t u : Truth) (first : Entry) (rest : Option Entry) (l : Local) (ls :
     → same_variable l.name x ≡ u
     → (rest ≡ Some e → Found ls x e) → (if t then Some first else rest) ≡ Some e → Found (l ∷ ls) x e
 found_by true u first rest l ls x e is ty name more h =
-    let same = some-is first e h in
+    let same = same_Some first e h in
     let yes_name = name ∙ is in
     record {
       place = 0;
@@ -154,7 +154,7 @@ field_by : (P : Ty → Val → Type 0) (b : Truth) (classes : List Class) (f : F
     → P t (elim place [ None ↦ val.Nil | Some k ↦ unwrap_or (slice_get vs k) val.Nil ]))
     → option_map (λ (f : Field). type_of classes f.ty) (if b then Some f else rest) ≡ Some t
     → P t (elim (if b then Some 0 else option_map suc place) [ None ↦ val.Nil | Some k ↦ unwrap_or (slice_get (v ∷ vs) k) val.Nil ])
-field_by P true classes f rest place t v vs first more h = subst (λ t. P t v) (some-is (type_of classes f.ty) t h) first
+field_by P true classes f rest place t v vs first more h = subst (λ t. P t v) (same_Some (type_of classes f.ty) t h) first
 field_by P false classes f rest place t v vs first more h = subst (P t) (sym (place_more place v vs)) (more h)
 
 -- what holds of each value that meets its field's type holds of the field of a name
@@ -182,9 +182,9 @@ field-in_region classes store ws h v o f t there live declared iso =
 
 place_within : (b : Truth) (place : Option ℕ) (n k : ℕ) → ((j : ℕ) → place ≡ Some j → j < n)
     → (if b then Some 0 else option_map suc place) ≡ Some k → k < suc n
-place_within true place n k more e = let is = some-is 0 k e in omega (arith, is)
+place_within true place n k more e = let is = same_Some 0 k e in omega (arith, is)
 place_within false None n k more e = absurd (none-some k e)
-place_within false (Some j) n k more e = let is = some-is (suc j) k e in let less = more j refl in omega (arith, is, less)
+place_within false (Some j) n k more e = let is = same_Some (suc j) k e in let less = more j refl in omega (arith, is, less)
 
 -- an object has the fields of its class
 fields-there : (classes : List Class) (store : List Seen) (F : Cap → Label → Type 0) (fs : List Field) (vs : List Val) (x : Name) (k : ℕ)

@@ -2,7 +2,8 @@
 use Rattle.std.proofs.Common.{◌≡◌, ℕ, suc, true, false, Bool as Truth, if◌then◌else◌, List, [], ◌∷◌, find, Option, Some, None, option_map, ok_or}
 use Rattle.std.proofs.Common.{Ok, Err, refl, sym, ap, subst, ◌∙◌, arith, slice_get, unwrap_or}
 use Rattle.std.specs.Prelude.{bytes_eq, nat_lt, length, not}
-use Rattle.std.proofs.lemmas.Option.{none-some}
+use Rattle.std.proofs.lemmas.Option.{none-some, same_Some}
+use Rattle.std.proofs.lemmas.Bool.{and_from}
 use Rattle.rg_base.specs.declared.ty.Ty.{Ty}
 use Rattle.rg_base.specs.declared.ty.Ty.TheVariants.{Int, Bool, Ref}
 use Rattle.rg_base.specs.declared.value.Val.{Val}
@@ -19,12 +20,11 @@ use Rattle.rg_rules.specs.Evaluation.{object_at, field_value}
 use Rattle.rg_rules.proofs.AnswersLemmas.{bind-ok}
 use Rattle.rg_rules.proofs.PathLemmas.{look_up-ok}
 use Rattle.rg_code.specs.Lowering.{field_number, type_behind}
-use Rattle.rg_stack.proofs.Basics.{some-is}
 use Rattle.rg_sound.specs.Values.{Meets}
 use Rattle.rg_sound.specs.Objects.{ObjectsFit}
 use Rattle.rg_sound.proofs.Values.ValueLemmas.{walk_field-meets}
 use Rattle.rg_stack.specs.Machine.{Window}
-use Rattle.rg_stack.proofs.Walks.NeedLemmas.{and-both, not-false}
+use Rattle.rg_stack.proofs.Walks.NeedLemmas.{not-false}
 use Rattle.rg_stack.proofs.Walks.WalkLemmas.{Follows, is_shut}
 
 -- the class of a type of references
@@ -80,7 +80,7 @@ pub field_of_type : (classes : List Class) (t : Ty) (f : Name) (c : ℕ) → cla
 field_of_type classes Int f c e = absurd (none-some c e)
 field_of_type classes Bool f c e = absurd (none-some c e)
 field_of_type classes (Ref k b) f c e =
-    let is = some-is b c e in
+    let is = same_Some b c e in
     (ap (λ c. unwrap_or (field_place (fields_of classes c) f) 0) is, ap (λ c. unwrap_or (field_type classes c f) Int) is)
 
 -- what is known of values that meet types: those that aren't `iso` lead into no closed region
@@ -99,7 +99,7 @@ follows_of classes store windows opened safe (f ∷ fs) u t r v meets same walke
     let q = bind-ok (look_up classes u f) _ p.0 p.1 in
     let w = look_up-ok classes u f q.0 q.1 in
     let class_of_t : class_is t ≡ Some w.class = sym same ∙ ap class_is w.reference in
-    let class_of_o : o.class ≡ w.class = some-is o.class w.class (sym (has o there) ∙ class_of_t) in
+    let class_of_o : o.class ≡ w.class = same_Some o.class w.class (sym (has o there) ∙ class_of_t) in
     let at = field_of_type classes t f w.class class_of_t in
     let place = place_if_type classes (fields_of classes w.class) f q.0.ty w.declared in
     let behind : type_behind classes t f ≡ q.0.ty = at.1 ∙ ap (λ d. unwrap_or d Int) w.declared in
@@ -107,7 +107,7 @@ follows_of classes store windows opened safe (f ∷ fs) u t r v meets same walke
       ap (λ k. elim k [ None ↦ val.Nil | Some n ↦ unwrap_or (slice_get o.fields n) val.Nil ])
           (ap (λ c. field_place (fields_of classes c) f) class_of_o ∙ place.1)
           ∙ ap (λ n. unwrap_or (slice_get o.fields n) val.Nil) (sym number),
-      and-both (nat_lt (field_number classes t f) (length o.fields)) (not (is_shut store windows v))
+      and_from (nat_lt (field_number classes t f) (length o.fields)) (not (is_shut store windows v))
           (ap (λ n. nat_lt n (length o.fields)) number
           ∙ sizes v o f place.0 there (ap (λ c. field_place (fields_of classes c) f) class_of_o ∙ place.1))
           (not-false (is_shut store windows v) (safe.shut u v meets w.not_iso)),

@@ -2,6 +2,7 @@
 use Rattle.std.proofs.Common.{◌≡◌, ℕ, suc, inl, inr, List, [], ◌∷◌, length, map, refl, sym, ap, subst, ◌∙◌, true}
 use Rattle.std.specs.Prelude.{◌&&◌, ◌+◌, nat_le}
 use Rattle.std.proofs.lemmas.List.{length-map, length-reverse}
+use Rattle.std.proofs.lemmas.Bool.{and_from}
 use Rattle.rg_base.specs.declared.value.Val.{Val}
 use Rattle.rg_base.specs.declared.object.Seen.{Seen}
 use Rattle.rg_base.specs.declared.words.Manager.{Manager}
@@ -27,7 +28,6 @@ use Rattle.rg_stack.proofs.Walks.EndLemmas.{Round}
 use Rattle.rg_stack.proofs.Needs.LeadLemmas.{ShowsFit}
 use Rattle.rg_stack.proofs.Needs.OnceLemmas.{owned_once-fits}
 use Rattle.rg_stack.proofs.Needs.LeaveLemmas.{leave-fits}
-use Rattle.rg_stack.proofs.Walks.NeedLemmas.{and-both}
 use Rattle.rg_stack.proofs.Statements.BlockLemmas.{end-mirrors}
 use Rattle.rg_stack.proofs.Statements.BaseLemmas.{as_many, base_is, starts-behind}
 use Rattle.rg_stack.proofs.Statements.WindowLemmas.{leave-mirrors}
@@ -173,9 +173,9 @@ module _ (t : Tree) (accepted : Accepted t) (store : List Seen) (managers : List
       (slots_below mfs + k) (subst (ShowsWindows (sizes_of (mf ∷ mfs)) mws) two.are s.windows)
       (base_is mfs (length mf.slots) two.top.base_frame k two.top.base_place (two.base_frame ∙ sym (as_many mfs fs s.slots.1))
       (sym two.base_place)) in
-      let need = and-both (owned_once m && temps_may_go (end_slots m k) && owner_leads (end_slots m k)) (nat_le (slots_below mfs + k) (top_base mws))
-      (and-both (owned_once m && temps_may_go (end_slots m k)) (owner_leads (end_slots m k))
-      (and-both (owned_once m) (temps_may_go (end_slots m k)) (once (mf ∷ mfs) mws (f ∷ fs) ws (LeaveAt k ∷ j ∷ rest) a s) last.0) last.1) base in
+      let need = and_from (owned_once m && temps_may_go (end_slots m k) && owner_leads (end_slots m k)) (nat_le (slots_below mfs + k) (top_base mws))
+      (and_from (owned_once m && temps_may_go (end_slots m k)) (owner_leads (end_slots m k))
+      (and_from (owned_once m) (temps_may_go (end_slots m k)) (once (mf ∷ mfs) mws (f ∷ fs) ws (LeaveAt k ∷ j ∷ rest) a s) last.0) last.1) base in
       let W = λ (vs : List Opened). Showing (mf ∷ mfs) mws (f ∷ fs) vs (LeaveAt k ∷ j ∷ rest) in
       let M = λ (vs : List Opened). Moves (mf ∷ mfs) mws (f ∷ fs) vs (LeaveAt k ∷ j ∷ rest) in
       subst M (sym two.are) (leave-moves mf mfs mws f fs two.top two.next two.under k j rest need (subst W two.are s))

@@ -1,6 +1,7 @@
 -- What the judgements and the invariant give of expressions, holders of fields, right sides and bodies.
 use Rattle.std.proofs.Common.{◌≡◌, ℕ, true, false, true≢false, inl, inr, Bool as Truth, not as negated, if◌then◌else◌, List, [], ◌∷◌, Option, Some}
 use Rattle.std.proofs.Common.{None, ok_or, Ok, refl, sym, ap, subst, ◌∙◌, unwrap_or}
+use Rattle.std.proofs.lemmas.Option.{same_Some}
 use Rattle.rg_base.specs.declared.words.Cap.{Cap}
 use Rattle.rg_base.specs.declared.ty.Ty.{Ty}
 use Rattle.rg_base.specs.declared.ty.Ty.TheVariants.{Int, Bool, Ref}
@@ -34,7 +35,6 @@ use Rattle.rg_stack.proofs.Walks.WalkLemmas.{FollowsPath, IsTruth, Logic, Agrees
 use Rattle.rg_stack.proofs.Walks.PlaceLemmas.{GoesOn, AllGoOn}
 use Rattle.rg_stack.proofs.Statements.AssignLemmas.{HolderOwes}
 use Rattle.rg_stack.proofs.Statements.CallLemmas.{Gives}
-use Rattle.rg_stack.proofs.Basics.{some-is}
 use Rattle.rg_stack.proofs.Judgements.FollowLemmas.{Safe, class_is, HasClass, place_if_type, read-class, field_of_type, follows_of, HaveFields}
 use Rattle.rg_stack.specs.Machine.{Window}
 
@@ -115,7 +115,7 @@ reaches classes store (f ∷ fs) u t r v w same also walked has fields got =
     let k = look_up-ok classes u f q.0 q.1 in
     let at = bind-ok (object_at store v) _ w got in
     let class_of_t : class_is t ≡ Some k.class = sym same ∙ ap class_is k.reference in
-    let class_of_o : at.0.class ≡ k.class = some-is at.0.class k.class (sym (has.0 at.0 at.1) ∙ class_of_t) in
+    let class_of_o : at.0.class ≡ k.class = same_Some at.0.class k.class (sym (has.0 at.0 at.1) ∙ class_of_t) in
     let behind : type_behind classes t f ≡ q.0.ty = (field_of_type classes t f k.class class_of_t).1 ∙ ap (λ d. unwrap_or d Int) k.declared in
     reaches classes store fs p.0 (type_behind classes t f) r (field_value classes at.0 f) w
     (sym (read-class q.0.receiver q.0.ty p.0 q.2) ∙ ap class_is (sym behind))
@@ -284,7 +284,7 @@ module _ (classes : List Class) (env : Env) (store : List Seen) (windows : List 
       let d = type_along classes (type_in (scope_of locals) x) (all_but_last f fs) in
       let at = walk-reaches x (all_but_last f fs) p.0 u p.1 got in
       let class_of_d : class_is d ≡ Some k.class = sym at.class ∙ ap class_is k.reference in
-      let class_of_o : o.class ≡ k.class = some-is o.class k.class (sym (at.value.0 o there) ∙ class_of_d) in
+      let class_of_o : o.class ≡ k.class = same_Some o.class k.class (sym (at.value.0 o there) ∙ class_of_d) in
       let place = place_if_type classes (fields_of classes k.class) g r.ty k.declared in
       let number : field_number classes d g ≡ place.0 = (field_of_type classes d g k.class class_of_d).0 ∙ ap (λ k. unwrap_or k 0) place.1 in
       ap (λ c. field_place (fields_of classes c) g) class_of_o ∙ place.1 ∙ ap Some (sym number)
@@ -300,7 +300,7 @@ module _ (classes : List Class) (env : Env) (store : List Seen) (windows : List 
       let d = type_along classes (type_in (scope_of locals) x) (all_but_last f fs) in
       let at = walk-reaches x (all_but_last f fs) p.0 u p.1 got in
       let class_of_d : class_is d ≡ Some k.class = sym at.class ∙ ap class_is k.reference in
-      let class_of_o : o.class ≡ k.class = some-is o.class k.class (sym (at.value.0 o there) ∙ class_of_d) in (
+      let class_of_o : o.class ≡ k.class = same_Some o.class k.class (sym (at.value.0 o there) ∙ class_of_d) in (
         ap (λ c. field_type classes c g) class_of_o ∙ k.declared,
         along-last classes (type_in (scope_of locals) x) f fs ∙ (field_of_type classes d g k.class class_of_d).1
             ∙ ap (λ d. unwrap_or d Int) k.declared,

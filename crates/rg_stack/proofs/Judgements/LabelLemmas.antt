@@ -1,6 +1,7 @@
 -- The regions beneath one, found by labels and by owner references, are the same where objects fit.
 use Rattle.std.proofs.Common.{◌≡◌, ℕ, zero, suc, true, false, true≢false, ◌⊎◌, inl, inr, Bool as Truth, if◌then◌else◌, List, [], ◌∷◌, ◌++◌, Option}
-use Rattle.std.proofs.Common.{Some, None, option_and_then, refl, sym, ap, subst, ◌∙◌, arith, slice_get}
+use Rattle.std.proofs.Common.{Some, None, option_and_then, refl, sym, ap, subst, ◌∙◌, slice_get}
+use Rattle.std.proofs.lemmas.Option.{same_Some}
 use Rattle.std.specs.Prelude.{filter_map, flat_map}
 use Rattle.rg_base.specs.declared.words.Cap.TheVariants.{Mut, Tmp, Paused, Imm, Iso}
 use Rattle.rg_base.specs.declared.ty.Ty.{Ty}
@@ -23,11 +24,8 @@ use Rattle.rg_sound.proofs.HeldLemmas.{slot-meets}
 use Rattle.rg_sound.proofs.Stores.MemberLemmas.{In, among-in, in-among, not-among, among-not, in-left, in-right, in-split, filter-in, filter-back}
 use Rattle.rg_sound.proofs.Stores.MemberLemmas.{joined-old, joined-new, joined-back}
 use Rattle.rg_sound.proofs.Stores.BeneathLemmas.{Led, led-in, led-back}
-use Rattle.rg_stack.proofs.Basics.{some-is}
 use Rattle.rg_stack.specs.Effects.{led_by_labels, beneath_by_labels}
-
-none_some : {A : Type 0} {B : Type 0} (a : A) → None ≡ Some a → B
-none_some a e = grind arith
+use Rattle.rg_stack.proofs.Basics.{none-some}
 
 -- two lists have the same numbers
 pub record Same (ns ms : List ℕ) : Type 0 where
@@ -89,8 +87,8 @@ address_back (val.Obj b ∷ vs) a (inl same) = (0, ap (λ n. Some (val.Obj n)) s
 address_back (val.Obj b ∷ vs) a (inr i) = let h = address_back vs a i in (suc h.0, h.1)
 
 address_in : (vs : List Val) (k a : ℕ) → slice_get vs k ≡ Some (val.Obj a) → In a (filter_map address vs)
-address_in [] k a is = none_some (val.Obj a) is
-address_in (v ∷ vs) zero a is = subst (λ v. In a (filter_map address (v ∷ vs))) (sym (some-is v (val.Obj a) is)) (inl refl)
+address_in [] k a is = none-some (val.Obj a) is
+address_in (v ∷ vs) zero a is = subst (λ v. In a (filter_map address (v ∷ vs))) (sym (same_Some v (val.Obj a) is)) (inl refl)
 address_in (val.Nil ∷ vs) (suc k) a is = address_in vs k a is
 address_in (val.Int z ∷ vs) (suc k) a is = address_in vs k a is
 address_in (val.Bool b ∷ vs) (suc k) a is = address_in vs k a is
@@ -146,9 +144,9 @@ labels_back store (o ∷ os) r n i = by (in_regions (r ∷ []) o.label) refl i (
 
 pub labels_in : (store os : List Seen) (r n k : ℕ) (o : Seen) → slice_get os k ≡ Some o → o.label ≡ Region r
     → In n (filter_map (region_at store) (filter_map address o.fields)) → In n (led_by_labels store os r)
-labels_in store [] r n k o there lies i = none_some o there
+labels_in store [] r n k o there lies i = none-some o there
 labels_in store (p ∷ os) r n zero o there lies i =
-    let same : p ≡ o = some-is p o there in
+    let same : p ≡ o = same_Some p o there in
     subst (λ b. In n (if b then filter_map (region_at store) (filter_map address p.fields) ++ led_by_labels store os r
     else led_by_labels store os r)) (sym (one_of r p.label (ap (λ (q : Seen). q.label) same ∙ lies)))
     (in-left (filter_map (region_at store) (filter_map address p.fields)) (led_by_labels store os r) n
@@ -181,11 +179,11 @@ module _ (classes : List Class) (store : List Seen) (windows : List Window) (obj
       ⊎ (is_iso t ≡ true)
   by_type r n a Int m leads = absurd m
   by_type r n a Bool m leads = absurd m
-  by_type r n a (Ref Mut c) m leads = inl (some-is r n
+  by_type r n a (Ref Mut c) m leads = inl (same_Some r n
       (sym (ap (option_and_then (λ (o : Seen). region_of o.label)) m.there ∙ ap region_of m.label_fits) ∙ leads))
   by_type r n a (Ref Tmp c) m leads = absurd m.label_fits
   by_type r n a (Ref Paused c) m leads = absurd m.label_fits
-  by_type r n a (Ref Imm c) m leads = none_some n (sym (ap (option_and_then (λ (o : Seen). region_of o.label)) m.there ∙ ap region_of m.label_fits)
+  by_type r n a (Ref Imm c) m leads = none-some n (sym (ap (option_and_then (λ (o : Seen). region_of o.label)) m.there ∙ ap region_of m.label_fits)
       ∙ leads)
   by_type r n a (Ref Iso c) m leads = inr refl
 
@@ -221,34 +219,34 @@ module _ (classes : List Class) (store : List Seen) (windows : List Window) (obj
     pub value : slice_get o.fields k ≡ Some (val.Obj a)
 
   owned_obj : (b : Truth) (v : Val) (a : ℕ) → (if b then address v else None) ≡ Some a → v ≡ val.Obj a
-  owned_obj false v a e = none_some a e
-  owned_obj true val.Nil a e = none_some a e
-  owned_obj true (val.Int z) a e = none_some a e
-  owned_obj true (val.Bool b) a e = none_some a e
-  owned_obj true (val.Obj b) a e = ap val.Obj (some-is b a e)
+  owned_obj false v a e = none-some a e
+  owned_obj true val.Nil a e = none-some a e
+  owned_obj true (val.Int z) a e = none-some a e
+  owned_obj true (val.Bool b) a e = none-some a e
+  owned_obj true (val.Obj b) a e = ap val.Obj (same_Some b a e)
 
   owner_value : (f : Field) (v : Option Val) (a : ℕ) → option_and_then (owned_as classes f) v ≡ Some a → v ≡ Some (val.Obj a)
-  owner_value f None a e = none_some a e
+  owner_value f None a e = none-some a e
   owner_value f (Some v) a e = ap Some (owned_obj (is_iso (type_of classes f.ty)) v a e)
 
   slot_value : (o : Seen) (k a : ℕ) (f : Option Field)
       → option_and_then (λ (f : Field). option_and_then (owned_as classes f) (slice_get o.fields k)) f ≡ Some a → slice_get o.fields k
       ≡ Some (val.Obj a)
-  slot_value o k a None e = none_some a e
+  slot_value o k a None e = none-some a e
   slot_value o k a (Some f) e = owner_value f (slice_get o.fields k) a e
 
   field_value_is : (o : Seen) (k a : ℕ) (l : Label) → elim l
       [ Region r ↦ owned_by_slot classes o k | Temp n ↦ owned_by_slot classes o k | Frozen ↦ None ] ≡ Some a → slice_get o.fields k ≡ Some (val.Obj a)
   field_value_is o k a (Region r) e = slot_value o k a (slice_get (fields_of classes o.class) k) e
   field_value_is o k a (Temp n) e = slot_value o k a (slice_get (fields_of classes o.class) k) e
-  field_value_is o k a Frozen e = none_some a e
+  field_value_is o k a Frozen e = none-some a e
 
   from_owner : (rs qs : List ℕ) (n : ℕ) → Same rs qs → Led classes store (in_regions qs) store n → In n (flat_map (led_by_labels store store) rs)
   from_owner rs qs n same h = by_label h.holder.label refl h.passes
     where
       by_address : (r : ℕ) → h.holder.label ≡ Region r → (a : Option ℕ) → owned_by_field classes h.holder h.field ≡ a
           → option_and_then (region_at store) a ≡ Some n → In n (led_by_labels store store r)
-      by_address r lies None owns e = none_some n e
+      by_address r lies None owns e = none-some n e
       by_address r lies (Some a) owns e =
           labels_in store store r n h.object h.holder h.there lies
           (fields_in store h.holder.fields n h.field a (field_value_is h.holder h.field a h.holder.label owns) e)

@@ -4,9 +4,9 @@ use Rattle.std.proofs.Common.{Result, Err}
 use Rattle.std.proofs.Common.{true≢false, refl, sym, ap, subst, ◌∙◌, arith, slice_get, unwrap_or}
 use Rattle.std.specs.Prelude.{not, nat_lt, nat_le, ◌+◌, is_some, option_and_then, ◌||◌, ◌==◌}
 use Rattle.std.specs.List.{list_any}
-use Rattle.std.proofs.lemmas.Bool.{lt-ltb}
+use Rattle.std.proofs.lemmas.Bool.{lt-ltb, and_from}
 use Rattle.std.proofs.lemmas.List.{length-map}
-use Rattle.std.proofs.lemmas.Option.{slice_get_within}
+use Rattle.std.proofs.lemmas.Option.{slice_get_within, same_Some}
 use Rattle.std.proofs.Common.{◌<◌, ◌-◌, map, replicate, length-append, inl, inr}
 use Rattle.rg_base.specs.declared.object.Label.{Label}
 use Rattle.rg_base.specs.declared.words.Cap.{Cap}
@@ -64,8 +64,7 @@ use Rattle.rg_stack.proofs.Needs.OnceLemmas.{owned_once-fits, loose-fits}
 use Rattle.rg_stack.proofs.Needs.ClosedLemmas.{slot-closed, behind-closed, slot-owns, field-owns}
 use Rattle.rg_stack.proofs.Needs.KeepLemmas.{base-by, keep-here, keep-away, fresh-open, plain-open}
 use Rattle.rg_stack.proofs.Needs.HolderLemmas.{top-field, field-closed, may_stand-fits}
-use Rattle.rg_stack.proofs.Basics.{some-is}
-use Rattle.rg_stack.proofs.Walks.NeedLemmas.{and-both, not-false, not_true, same}
+use Rattle.rg_stack.proofs.Walks.NeedLemmas.{not-false, not_true, same}
 use Rattle.rg_stack.proofs.Walks.SlotLemmas.{ShowsSlots, slot_place}
 use Rattle.rg_stack.proofs.Walks.EndLemmas.{Round, work, state}
 use Rattle.rg_stack.proofs.Statements.RightLemmas.{Gave, RightNeeds, kept}
@@ -272,8 +271,8 @@ module _ (t : Tree) (r : Round) (store : List Seen) (slots : List Val) (locals :
       let e = bind-ok (ok_or (entry_of env (Some y)) Unknown) _ j judged in
       let c = bind-ok (ok_or (iso_class e.0.ty) Mismatch) _ j e.2 in
       let a = test-then (is_ready e.0.readiness) _ _ j c.2 in
-      and-both (not (list_any (is_closed m) stack) && owned_once m) (owns_or_nil m (slot_at m (slot_of (scope_of locals) (Some y))))
-      (and-both (not (list_any (is_closed m) stack)) (owned_once m) (not-false _ shut) once_here)
+      and_from (not (list_any (is_closed m) stack) && owned_once m) (owns_or_nil m (slot_at m (slot_of (scope_of locals) (Some y))))
+      (and_from (not (list_any (is_closed m) stack)) (owned_once m) (not-false _ shut) once_here)
       (owner-needs (Some y) e.0 (ok_or-ok (entry_of env (Some y)) Unknown e.0 e.1)
       (iso_type e.0.ty c.0 (ok_or-ok (iso_class e.0.ty) Mismatch c.0 c.1)).0 (ready-not_lent e.0.readiness a.0))
 
@@ -333,15 +332,15 @@ pub assign-needs : (classes : List Class) (code : Code) (m : Machine) (f : Body)
     → (b : Truth) → is_iso l.ty ≡ b
     → needs code (if b then i.Own k else i.Store k) (v ∷ []) m ≡ true
 assign-needs classes code m f fs opened d k l there room apart_from ty v meets fresh keeps true iso =
-    and-both (nat_lt k (size_of m) && owned_once m && owns_or_nil m (slot_at m k) && loose m v) (may_keep m k v)
-    (and-both (nat_lt k (size_of m) && owned_once m && owns_or_nil m (slot_at m k)) (loose m v)
-    (and-both (nat_lt k (size_of m) && owned_once m) (owns_or_nil m (slot_at m k))
-    (and-both (nat_lt k (size_of m)) (owned_once m) room (owned_once-fits classes m (f ∷ fs) opened d))
+    and_from (nat_lt k (size_of m) && owned_once m && owns_or_nil m (slot_at m k) && loose m v) (may_keep m k v)
+    (and_from (nat_lt k (size_of m) && owned_once m && owns_or_nil m (slot_at m k)) (loose m v)
+    (and_from (nat_lt k (size_of m) && owned_once m) (owns_or_nil m (slot_at m k))
+    (and_from (nat_lt k (size_of m)) (owned_once m) room (owned_once-fits classes m (f ∷ fs) opened d))
     (slot-owns classes m f fs opened d k l there iso apart_from))
     (loose-fits classes m (f ∷ fs) opened opened d (λ l o. o) ty v meets fresh)) keeps
 assign-needs classes code m f fs opened d k l there room apart_from ty v meets fresh keeps false iso =
-    and-both (nat_lt k (size_of m) && not (is_closed m (slot_at m k))) (may_keep m k v)
-    (and-both (nat_lt k (size_of m)) (not (is_closed m (slot_at m k))) room
+    and_from (nat_lt k (size_of m) && not (is_closed m (slot_at m k))) (may_keep m k v)
+    (and_from (nat_lt k (size_of m)) (not (is_closed m (slot_at m k))) room
     (not-false (is_closed m (slot_at m k)) (slot-closed classes m f fs opened d k l there iso))) keeps
 
 -- The holder of a field
@@ -380,8 +379,8 @@ module _ (classes : List Class) (code : Code) (m : Machine) (f : Body) (fs : Lis
         | Ok o ↦ is_field m k o && not (is_closed m (field_of o k)) && may_stand m o.label v
         | Err t ↦ false
       ]) same
-      ∙ and-both (is_field m k o && not (is_closed m (field_of o k))) (may_stand m o.label v)
-      (and-both (is_field m k o) (not (is_closed m (field_of o k))) (top-field classes m (f ∷ fs) opened d k o h.field.value h.top at)
+      ∙ and_from (is_field m k o && not (is_closed m (field_of o k))) (may_stand m o.label v)
+      (and_from (is_field m k o) (not (is_closed m (field_of o k))) (top-field classes m (f ∷ fs) opened d k o h.field.value h.top at)
       (not-false _ (field-closed classes m (f ∷ fs) opened d h.address k o h.field.field h.field.value there h.top field at
       (ap is_iso h.field.type_is ∙ iso))))
       (may_stand-fits classes m (f ∷ fs) opened d o.label ty v h.top meets fits iso)
@@ -404,12 +403,12 @@ module _ (classes : List Class) (code : Code) (m : Machine) (f : Body) (fs : Lis
       → needs code (i.Swap s k) (u ∷ []) m ≡ true
   swap-needs s k u x ty iso room holds slot =
       let test : Seen → Truth = λ o. owned_once m && is_field m k o && owns_or_nil m (field_of o k) && owns_or_nil m (slot_at m s) in
-      and-both (nat_lt s (size_of m)) (elim (object_at m.store u) [ Ok o ↦ test o | Err t ↦ true ]) room
+      and_from (nat_lt s (size_of m)) (elim (object_at m.store u) [ Ok o ↦ test o | Err t ↦ true ]) room
       (of_object-given (object_at m.store u) test
       (λ o is. let h = holds o is in
-      and-both (owned_once m && is_field m k o && owns_or_nil m (field_of o k)) (owns_or_nil m (slot_at m s))
-      (and-both (owned_once m && is_field m k o) (owns_or_nil m (field_of o k))
-      (and-both (owned_once m) (is_field m k o) (owned_once-fits classes m (f ∷ fs) opened d) (holder-field k u o x ty h.0 h.1))
+      and_from (owned_once m && is_field m k o && owns_or_nil m (field_of o k)) (owns_or_nil m (slot_at m s))
+      (and_from (owned_once m && is_field m k o) (owns_or_nil m (field_of o k))
+      (and_from (owned_once m) (is_field m k o) (owned_once-fits classes m (f ∷ fs) opened d) (holder-field k u o x ty h.0 h.1))
       (holder-owns k u o x ty h.0 h.1 iso)) slot))
 
   pub enter_field-needs : (k z : ℕ) (u : Val) (x : Name) (ty : Ty) → is_iso ty ≡ true → length f.locals ≤ z
@@ -418,9 +417,9 @@ module _ (classes : List Class) (code : Code) (m : Machine) (f : Body) (fs : Lis
   enter_field-needs k z u x ty iso behind holds = of_object-given (object_at m.store u)
       (λ o. owned_once m && is_field m k o && owns_or_nil m (field_of o k) && not (is_closed m (slot_at m z)))
       (λ o is. let h = holds o is in
-      and-both (owned_once m && is_field m k o && owns_or_nil m (field_of o k)) (not (is_closed m (slot_at m z)))
-      (and-both (owned_once m && is_field m k o) (owns_or_nil m (field_of o k))
-      (and-both (owned_once m) (is_field m k o) (owned_once-fits classes m (f ∷ fs) opened d) (holder-field k u o x ty h.0 h.1))
+      and_from (owned_once m && is_field m k o && owns_or_nil m (field_of o k)) (not (is_closed m (slot_at m z)))
+      (and_from (owned_once m && is_field m k o) (owns_or_nil m (field_of o k))
+      (and_from (owned_once m) (is_field m k o) (owned_once-fits classes m (f ∷ fs) opened d) (holder-field k u o x ty h.0 h.1))
       (holder-owns k u o x ty h.0 h.1 iso))
       (not-false _ (behind-closed classes m f fs opened d z behind)))
 
@@ -480,5 +479,5 @@ module _ (t : Tree) (r : Round) (store : List Seen) (slots : List Val) (locals :
       put-needs t.classes code m (running r after) r.bodies r.opened
       (shows_fit t r store slots locals managers input env begun now after_slots after made left c.fits shows) k u v o (last_field g gs)
       store wanted h
-      (some-is h.field.place k (sym h.field.place_is ∙ place)) there iso meets
+      (same_Some h.field.place k (sym h.field.place_is ∙ place)) there iso meets
       (field-holds t accepted store now r.opened o (last_field g gs) wanted v (c.fits.objects h.address o there) h.top h.field meets)

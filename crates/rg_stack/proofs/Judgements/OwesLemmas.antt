@@ -12,7 +12,7 @@ use Rattle.rg_base.specs.declared.value.Val.{Val}
 use Rattle.rg_base.specs.declared.object.Seen.{Seen}
 use Rattle.rg_base.specs.declared.fault.Code.TheVariants.{Unknown, Mismatch}
 use Rattle.rg_tree.specs.Tree.{Name, Variable, ref, Expr, number, boolean, nil, path, is_nil, neg, not as not_of, binary, Call, Right, value, new}
-use Rattle.rg_tree.specs.Tree.{new_tmp, new_iso, freeze, merge, read, more, result_of, Member, field, method, Method, Class, Tree}
+use Rattle.rg_tree.specs.Tree.{new_tmp, new_iso, freeze, merge, read, more, result_of, method, Method, Class, Tree}
 use Rattle.rg_rules.specs.Capabilities.{pause, is_iso, iso_class, below}
 use Rattle.rg_rules.specs.Types.{class_named, good_type, method_member, members_of, method_named, param_types, method_result}
 use Rattle.rg_rules.specs.Environment.{Env, Entry, Readiness, entry_of, seen_type, available, used, marked, marked_entry, gone, same_variable}
@@ -35,12 +35,12 @@ use Rattle.rg_code.specs.declared.code.Entry.{Entry as CodeEntry}
 use Rattle.rg_code.specs.Lowering.{type_in, type_behind, type_along, class_of, above, slots_of, methods_among, method_place, method_number}
 use Rattle.rg_code.specs.Lowering.{number_called, method_code, main_code, lowered, target_class}
 use Rattle.rg_code.specs.Places.{Stands, roomy, scope_of}
+use Rattle.rg_code.proofs.MethodLemmas.{methods_among-is}
 use Rattle.rg_stack.proofs.Walks.WalkLemmas.{FollowsPath, is_shut}
 use Rattle.rg_stack.proofs.Walks.ArgumentLemmas.{AllAgree}
 use Rattle.rg_stack.proofs.Statements.RightLemmas.{InRegion, RightOwes}
 use Rattle.rg_stack.proofs.Statements.CallLemmas.{BodyFits, Called}
 use Rattle.rg_stack.proofs.Walks.EntryLemmas.{entry_of as code_entry}
-use Rattle.rg_stack.proofs.Basics.{some-is}
 use Rattle.rg_stack.proofs.Judgements.FollowLemmas.{class_is, read-class, field_of_type}
 use Rattle.rg_stack.proofs.Judgements.JudgeLemmas.{seen-class, expr-agrees, walk-follows, walk-reaches}
 use Rattle.rg_stack.proofs.Judgements.LabelLemmas.{by-labels}
@@ -168,11 +168,6 @@ roomy_of given n (o ∷ os) h =
 
 -- the method of a name by its number
 
-methods_are : (ms : List Member) → methods_among ms ≡ filter_map method_member ms
-methods_are [] = refl
-methods_are (field f ∷ ms) = methods_are ms
-methods_are (method m ∷ ms) = ap (λ l. m ∷ l) (methods_are ms)
-
 place_by : (t : Truth) (a m : Method) (rest : Option Method) (ms : List Method) (n : ℕ) → (rest ≡ Some m → slice_get ms n ≡ Some m)
     → (if t then Some a else rest) ≡ Some m → slice_get (a ∷ ms) (if t then 0 else suc n) ≡ Some m
 place_by true a m rest ms n deeper h = h
@@ -192,7 +187,7 @@ class_of_method (Some k) x m h = (
   k,
   refl,
   place_of_method (methods_among k.members) x m
-      (ap (find (λ (m : Method). bytes_eq m.name x)) (methods_are k.members) ∙ h),
+      (ap (find (λ (m : Method). bytes_eq m.name x)) (methods_among-is k.members) ∙ h),
 )
 
 -- the entry of a method in the code of a program
@@ -220,7 +215,7 @@ callee_of t j rest d x m named fits =
 pub class_in : (classes : List Class) (d : Ty) (c : ℕ) → class_is d ≡ Some c → class_of classes d ≡ c
 class_in classes Int c h = absurd (none-some c h)
 class_in classes Bool c h = absurd (none-some c h)
-class_in classes (Ref k b) c h = some-is b c h
+class_in classes (Ref k b) c h = same_Some b c h
 
 -- the class behind fields, by the types so far and by the declared ones
 pub along : (classes : List Class) (fs : List Name) (u t r : Ty) → class_is u ≡ class_is t → walk_fields classes u fs ≡ Ok r → class_is r
@@ -316,7 +311,7 @@ module _ (classes : List Class) (store : List Seen) (windows : List Window) (ope
         result = result;
         follows = walk-follows classes env store windows locals facts x fs p.0 p.1;
         agrees = args-agree (param_types classes m.0) c.args env out.0 named seen out.1 (many ∙ sym (length-map m.0.params _));
-        class = λ v o led is. some-is o.class (target_class classes (scope_of locals) c)
+        class = λ v o led is. same_Some o.class (target_class classes (scope_of locals) c)
             (sym ((walk-reaches classes env store windows locals facts x fs p.0 v p.1 led).value.0 o is) ∙ class_of_d ∙ ap Some (sym target));
       }
 

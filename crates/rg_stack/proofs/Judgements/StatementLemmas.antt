@@ -3,8 +3,9 @@ use Rattle.std.proofs.Common.{◌≡◌, ◌+◌, ℕ, suc, true, false, List, [
 use Rattle.std.proofs.Common.{ok_or, Ok, refl, sym, ap, ◌∙◌, arith, subst}
 use Rattle.std.specs.Prelude.{not, nat_lt, ◌||◌, ◌&&◌}
 use Rattle.std.proofs.Common.{◌≤◌}
-use Rattle.std.proofs.lemmas.Option.{none-some}
+use Rattle.std.proofs.lemmas.Option.{none-some, same_Some}
 use Rattle.std.proofs.lemmas.List.{length-map, length-reverse}
+use Rattle.std.proofs.lemmas.Bool.{and_from}
 use Rattle.rg_base.specs.declared.ty.Ty.{Ty}
 use Rattle.rg_base.specs.declared.ty.Ty.TheVariants.{Bool}
 use Rattle.rg_base.specs.declared.value.Val.{Val}
@@ -49,11 +50,11 @@ use Rattle.rg_stack.proofs.Mirrors.{Mirrors}
 use Rattle.rg_stack.specs.Shows.{ShowsFrames, ShowsWindows, sizes_of}
 use Rattle.rg_stack.proofs.Mirrors.{SameMove}
 use Rattle.rg_stack.proofs.Walks.WalkLemmas.{Agrees, IsTruth, is_shut}
-use Rattle.rg_stack.proofs.Walks.PlaceLemmas.{GoesOn, AllGoOn, and-left}
+use Rattle.rg_stack.proofs.Walks.PlaceLemmas.{GoesOn, AllGoOn}
 use Rattle.rg_stack.proofs.Walks.FrameLemmas.{OpenedBelow}
 use Rattle.rg_stack.proofs.Walks.SlotLemmas.{Has, cleared_slots, slot_place}
 use Rattle.rg_stack.proofs.Walks.EndLemmas.{Round, work, state, UsesUp, middle_whole, keeps_same}
-use Rattle.rg_stack.proofs.Walks.NeedLemmas.{and-both, not-false, not_true}
+use Rattle.rg_stack.proofs.Walks.NeedLemmas.{not-false, not_true}
 use Rattle.rg_stack.proofs.Needs.ClosedLemmas.{not_iso-closed, behind-closed}
 use Rattle.rg_stack.proofs.Needs.KeepLemmas.{base-by}
 use Rattle.rg_stack.proofs.Needs.OnceLemmas.{owned_once-fits, loose-fits}
@@ -63,7 +64,6 @@ use Rattle.rg_stack.proofs.Statements.BlockLemmas.{branch-mirrors, branch-else-m
 use Rattle.rg_stack.proofs.Statements.WindowLemmas.{swap-mirrors, enter-mirrors, enter-field-mirrors}
 use Rattle.rg_stack.proofs.Statements.ReturnLemmas.{TargetHas, TargetNeeds, above, return-mirrors}
 use Rattle.rg_stack.proofs.Statements.CallLemmas.{BodyFits, CallOwes, call-mirrors, declare-call-mirrors, assign-call-mirrors}
-use Rattle.rg_stack.proofs.Basics.{some-is}
 use Rattle.rg_stack.proofs.Judgements.FollowLemmas.{class_is}
 use Rattle.rg_stack.proofs.Judgements.JudgeLemmas.{Facts, expr-agrees, expr-truth, holder-follows, holder-owes, holder-type, block-goes_on}
 use Rattle.rg_stack.proofs.Judgements.JudgeLemmas.{block-gives}
@@ -77,6 +77,7 @@ use Rattle.rg_stack.proofs.Judgements.MiddleLemmas.{sees_here, Begun, begun_of, 
 use Rattle.rg_stack.proofs.Judgements.MiddleLemmas.{owner-needs, right-needs}
 use Rattle.rg_stack.proofs.Judgements.MiddleLemmas.{receives, receiver-open, shown-room, printed-open, swap-needs, enter_field-needs}
 use Rattle.rg_stack.proofs.Judgements.MiddleLemmas.{variable-needs, field-needs}
+use Rattle.rg_stack.proofs.Basics.{and-left}
 
 -- a method's body fits its result
 fits_by : (t : Tree) (result : Option Written) (m : Method) (env out : Env)
@@ -394,7 +395,7 @@ module _ (t : Tree) (accepted : Accepted t) (r : Round) (store : List Seen) (slo
           (shown-room slots locals (place_in locals (Some y)) f.begun.shows has))
           (λ o there. let h = receives t r store slots locals managers input env f.begun x g gs ty u o judged led there in (
             h,
-            some-is h.field.place (held_number t.classes (scope_of locals) x g gs)
+            same_Some h.field.place (held_number t.classes (scope_of locals) x g gs)
                 (sym h.field.place_is ∙ holder-owes t.classes env store r.windows locals (facts f) x g gs k.0 k.1 u o led there),
           )) slot)
 
@@ -423,8 +424,8 @@ module _ (t : Tree) (accepted : Accepted t) (r : Round) (store : List Seen) (slo
       (let m = (work r store slots managers input).machine in
       let s = slot_of (scope_of locals) x in
       let ready = test-then (is_ready e.0.readiness) _ _ front c.2 in
-      and-both (owned_once m && owns_or_nil m (slot_at m s)) (not (is_closed m (slot_at m (length (scope_of locals)))))
-      (and-both (owned_once m) (owns_or_nil m (slot_at m s)) (once f)
+      and_from (owned_once m && owns_or_nil m (slot_at m s)) (not (is_closed m (slot_at m (length (scope_of locals)))))
+      (and_from (owned_once m) (owns_or_nil m (slot_at m s)) (once f)
       (owner-needs t r store slots locals managers input env f.begun x e.0 there iso.0 (ready-not_lent e.0.readiness ready.0)))
       (not-false _ (behind-closed t.classes m (running r locals) r.bodies r.opened (fit_here t r store slots locals managers input env f.begun)
       (length (scope_of locals)) behind)))
@@ -450,7 +451,7 @@ module _ (t : Tree) (accepted : Accepted t) (r : Round) (store : List Seen) (slo
       (last_field g gs) w.0 iso.0 behind
       (λ o there. let h = receives t r store slots locals managers input env f.begun x g gs w.0 u o w.1 led there in (
         h,
-        some-is h.field.place (held_number t.classes (scope_of locals) x g gs)
+        same_Some h.field.place (held_number t.classes (scope_of locals) x g gs)
             (sym h.field.place_is ∙ holder-owes t.classes env store r.windows locals (facts f) x g gs k.0 k.1 u o led there),
       )))
 
@@ -500,7 +501,7 @@ module _ (t : Tree) (accepted : Accepted t) (r : Round) (store : List Seen) (slo
 with_has : (locals : List Local) (o : Option Call) (first target : Target) (c : Call) → with_target first o ≡ Some (c, target)
     → TargetHas first locals → TargetHas target locals
 with_has locals None first target c h has = absurd (none-some (c, target) h)
-with_has locals (Some d) first target c h has = subst (λ k. TargetHas k locals) (ap (λ p. p.1) (some-is (d, first) (c, target) h)) has
+with_has locals (Some d) first target c h has = subst (λ k. TargetHas k locals) (ap (λ p. p.1) (same_Some (d, first) (c, target) h)) has
 
 assigned_has : (t : Tree) (env out : Env) (locals : List Local) (x : Variable) (fs : List Name) (right : Right) (c : Call) (target : Target)
     → Named env.entries locals → judge_assign t.classes env x fs right ≡ Ok out → assigned_call x fs right ≡ Some (c, target)
@@ -566,7 +567,7 @@ return-judged t r slots under locals callers back target store managers input li
     let m = (work a store (cleared_slots (used_slots (scope_of locals) e) slots) managers input).machine in
     let d = shows_fit t a store slots locals managers input env begun store (cleared_slots (used_slots (scope_of locals) e) slots)
     (cleared (uses locals e) locals) managers input c.fits whole.shows in (
-      and-both (owned_once m) (loose m v)
+      and_from (owned_once m) (loose m v)
           (owned_once-fits t.classes m (running a (cleared (uses locals e) locals) ∷ a.bodies) r.opened d)
           (loose-fits t.classes m (running a (cleared (uses locals e) locals) ∷ a.bodies) r.opened r.opened d (λ l o. o) p.0.ty v c.meets c.fresh),
       takes v w.0 (ok_or-ok last Return w.0 w.1) c.fits (below-meets store r.opened p.0.ty w.0 v less c.meets)

@@ -2,6 +2,7 @@
 use Rattle.std.proofs.Common.{◌≡◌, ◌≢◌, ◌⊎◌, inl, inr, ℕ, zero, suc, ◌-◌, ◌≤◌, Bool as Truth, true, false, true≢false, ◌||◌, if◌then◌else◌, List}
 use Rattle.std.proofs.Common.{[], ◌∷◌, ◌++◌, Option, Some, None, is_some, map, option_and_then, unwrap_or, length, replicate, slice_get, refl, sym}
 use Rattle.std.proofs.Common.{ap, subst, ◌∙◌, arith}
+use Rattle.std.proofs.lemmas.Bool.{or_right}
 use Rattle.rg_base.specs.declared.words.Cap.{Cap}
 use Rattle.rg_base.specs.declared.words.Cap.TheVariants.{Mut, Tmp, Paused, Imm, Iso}
 use Rattle.rg_base.specs.declared.ty.Ty.{Ty}
@@ -34,7 +35,7 @@ use Rattle.rg_sound.proofs.Values.LabelLemmas.{windows_of-open}
 use Rattle.rg_stack.specs.Machine.{Frame, Machine, top_slots, slot_at}
 use Rattle.rg_stack.specs.Shows.{ShowsFrames}
 use Rattle.rg_stack.specs.Needs.{is_open, is_closed, owns_or_nil, field_of}
-use Rattle.rg_stack.proofs.Needs.ListLemmas.{refused, or-true, get-nils}
+use Rattle.rg_stack.proofs.Needs.ListLemmas.{refused, get-nils}
 use Rattle.rg_stack.proofs.Needs.LeadLemmas.{ShowsFit, LeadsInto, IntoClosed, not-closed, into-closed, shown-closed, open-shown, value-owns}
 
 -- what a type that isn't `iso` owns
@@ -145,7 +146,7 @@ owner-closed classes store bodies (w ∷ v ∷ ws) h first p r apart leads (inr 
 
 nil_or : (m : Machine) (v : Val) → (v ≡ val.Nil) ⊎ ((r : ℕ) × IntoClosed m v r) → owns_or_nil m v ≡ true
 nil_or m v (inl e) = ap (λ v. is_nil_value v || is_closed m v) e
-nil_or m v (inr c) = or-true (is_nil_value v) (is_closed m v) (ap is_some (into-closed m v c.0 c.1))
+nil_or m v (inr c) = or_right (is_nil_value v) (is_closed m v) (ap is_some (into-closed m v c.0 c.1))
 
 -- what stands at such a place is nil or leads into a closed region
 place-owns : (classes : List Class) (m : Machine) (bodies : List Body) (opened : List Opened) → ShowsFit classes m bodies opened →

@@ -28,13 +28,10 @@ use Rattle.rg_stack.specs.Shows.{ShowsWindows}
 use Rattle.rg_stack.specs.Needs.{is_open, has_window, is_outside, is_closed, is_writable, is_field, may_stand, field_of}
 use Rattle.rg_stack.proofs.Needs.LeadLemmas.{ShowsFit, not-closed, field-leads}
 use Rattle.rg_stack.proofs.Needs.ClosedLemmas.{none-owned, not_iso-closed}
+use Rattle.rg_stack.proofs.Basics.{or-left}
 
 number-same : (n m : ℕ) → n ≡ m → (n == m) ≡ true
 number-same n m e = grind arith
-
-or-left : (a b : Truth) → (a || b) ≡ false → a ≡ false
-or-left true b e = absurd (true≢false e)
-or-left false b e = refl
 
 top-shown : (sizes : List ℕ) (ws : List Window) (ps : List Opened) (l : Label) → ShowsWindows sizes ws ps → IsTop ps l →
     (l ≡ Region (top_region ws)) ⊎ (l ≡ Temp (top_window ws))

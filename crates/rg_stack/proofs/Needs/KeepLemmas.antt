@@ -1,6 +1,7 @@
 -- A value may stand in a slot: the slot is one of the topmost window's, or the value leads into no open region.
 use Rattle.std.proofs.Common.{◌≡◌, inl, inr, ℕ, true, false, true≢false, not, ◌||◌, List, [], ◌∷◌, Option, Some, None}
 use Rattle.std.proofs.Common.{option_and_then, slice_get, refl, sym, ap, ◌∙◌}
+use Rattle.std.proofs.lemmas.Bool.{or_right}
 use Rattle.std.specs.Prelude.{nat_le}
 use Rattle.rg_base.specs.declared.words.Cap.TheVariants.{Mut, Tmp, Paused, Imm, Iso}
 use Rattle.rg_base.specs.declared.ty.Ty.{Ty}
@@ -20,7 +21,7 @@ use Rattle.rg_sound.proofs.Values.RightLemmas.{OwnsFreshAs}
 use Rattle.rg_stack.specs.Machine.{Window, Machine, place_of}
 use Rattle.rg_stack.specs.Effects.{begins_by}
 use Rattle.rg_stack.specs.Needs.{is_open, top_base, is_open_label, leads_open, may_keep}
-use Rattle.rg_stack.proofs.Needs.ListLemmas.{refused, or-true}
+use Rattle.rg_stack.proofs.Needs.ListLemmas.{refused}
 use Rattle.rg_stack.proofs.Needs.LeadLemmas.{ShowsFit, LeadsInto, open-shown}
 use Rattle.rg_stack.proofs.Needs.ClosedLemmas.{iso-owns}
 
@@ -83,4 +84,4 @@ pub keep-here : (m : Machine) (s : ℕ) (v : Val) → nat_le (top_base m.windows
 keep-here m s v e = ap (λ b. b || not (leads_open m v)) e
 
 pub keep-away : (m : Machine) (s : ℕ) (v : Val) → leads_open m v ≡ false → may_keep m s v ≡ true
-keep-away m s v e = or-true (nat_le (top_base m.windows) (place_of m.frames s)) (not (leads_open m v)) (ap not e)
+keep-away m s v e = or_right (nat_le (top_base m.windows) (place_of m.frames s)) (not (leads_open m v)) (ap not e)

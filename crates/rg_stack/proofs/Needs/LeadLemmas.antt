@@ -2,6 +2,7 @@
 -- region is the place of its owner reference.
 use Rattle.std.proofs.Common.{◌≡◌, ◌≢◌, inl, inr, ℕ, ◌==◌, Bool as Truth, true, false, true≢false, ◌||◌, not, if◌then◌else◌, List, [], ◌∷◌, map}
 use Rattle.std.proofs.Common.{Option, Some, None, is_some, option_and_then, length, slice_get, refl, sym, ap, subst, ◌∙◌, arith}
+use Rattle.std.proofs.lemmas.Bool.{or_right}
 use Rattle.rg_base.specs.declared.ty.Ty.{Ty}
 use Rattle.rg_base.specs.declared.object.Label.{Label}
 use Rattle.rg_base.specs.declared.object.Label.TheVariants.{Region, Temp, Frozen}
@@ -17,16 +18,17 @@ use Rattle.rg_sound.specs.Windows.{windows_of, IsOpen}
 use Rattle.rg_sound.specs.Values.{LabelFits, Meets, FrameMeets}
 use Rattle.rg_sound.proofs.Basics.{none-some, some-same, same_number}
 use Rattle.rg_sound.proofs.HeldLemmas.{from-open}
-use Rattle.rg_sound.proofs.LocalRootsLemmas.{closed-iso, other-iso, iso-owned, region-open, frozen-away, field-owned, temporary-owned}
+use Rattle.rg_sound.proofs.LocalRootsLemmas.{closed-iso, other-iso, iso-owned, frozen-away, field-owned, temporary-owned}
 use Rattle.rg_sound.proofs.Owners.DataLemmas.{Data}
 use Rattle.rg_sound.proofs.Owners.OpenLemmas.{IsOpenIn}
 use Rattle.rg_sound.proofs.Owners.OwnerLemmas.{leads-top, leads-lower, leads-past}
 use Rattle.rg_sound.proofs.Stores.MemberLemmas.{In}
 use Rattle.rg_sound.proofs.Values.LabelLemmas.{windows_of-open, windows_from-open}
+use Rattle.rg_sound.proofs.Stores.MergeLabelLemmas.{open-in}
 use Rattle.rg_stack.specs.Machine.{Frame, Window, Machine}
 use Rattle.rg_stack.specs.Shows.{ShowsFrame, ShowsFrames, ShowsWindows}
 use Rattle.rg_stack.specs.Needs.{is_open, has_window, label_of, lies_in, is_into, closed_of, closed_into, is_closed, is_outside}
-use Rattle.rg_stack.proofs.Needs.ListLemmas.{or-true, slot-local}
+use Rattle.rg_stack.proofs.Needs.ListLemmas.{slot-local}
 
 -- a machine shows frames and windows whose data fit
 pub record ShowsFit (classes : List Class) (m : Machine) (bodies : List Body) (opened : List Opened) : Type 0 where
@@ -66,7 +68,7 @@ into-leads store r (val.Obj a) e = by (slice_get store a) refl e
         record { address = a; value = refl; lies = ap (option_and_then (λ (o : Seen). region_of o.label)) at ∙ lies-region o.label r e }
 
 -- the label of a region's object
-region-label : (store : List Seen) (a r : ℕ) → region_at store a ≡ Some r → label_of store (val.Obj a) ≡ Some (Region r)
+pub region-label : (store : List Seen) (a r : ℕ) → region_at store a ≡ Some r → label_of store (val.Obj a) ≡ Some (Region r)
 region-label store a r h = by (slice_get store a) h
   where
     of_label : (l : Label) → region_of l ≡ Some r → ◌≡◌ {A = Option Label} (Some l) (Some (Region r))
@@ -137,7 +139,7 @@ shown-open sizes (w ∷ ws) [] r h o = absurd h
 shown-open sizes (w ∷ ws) (p ∷ ps) r h (inl e) =
     let at : w.region ≡ r = h.0.region ∙ e in
     let same : (w.region == r) ≡ true = grind arith in ap (λ b. b || is_open ws r) same
-shown-open sizes (w ∷ ws) (p ∷ ps) r h (inr o) = or-true (w.region == r) (is_open ws r) (shown-open sizes ws ps r h.1 o)
+shown-open sizes (w ∷ ws) (p ∷ ps) r h (inr o) = or_right (w.region == r) (is_open ws r) (shown-open sizes ws ps r h.1 o)
 
 pub open-shown : (sizes : List ℕ) (ws : List Window) (ps : List Opened) (r : ℕ) → ShowsWindows sizes ws ps → is_open ws r ≡ true → IsOpenIn ps r
 open-shown sizes [] [] r h o = absurd (true≢false (sym o))
@@ -152,7 +154,7 @@ open-shown sizes (w ∷ ws) (p ∷ ps) r h o = by (w.region == r) refl (open-sho
 -- a region that no window has open
 pub shown-closed : (sizes : List ℕ) (ws : List Window) (ps : List Opened) (r : ℕ) → ShowsWindows sizes ws ps → is_open ws r ≡ false →
     IsOpen ps (Region r) → ⊥
-shown-closed sizes ws ps r h e o = true≢false (sym (shown-open sizes ws ps r h (region-open ps r o)) ∙ e)
+shown-closed sizes ws ps r h e o = true≢false (sym (shown-open sizes ws ps r h (open-in ps r o)) ∙ e)
 
 -- a window of a number
 pub shown-number : (sizes : List ℕ) (ws : List Window) (ps : List Opened) (n : ℕ) → ShowsWindows sizes ws ps → has_window ws n ≡ true →

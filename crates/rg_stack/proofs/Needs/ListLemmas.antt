@@ -1,16 +1,12 @@
 -- Tests over lists, and over the numbers below one.
-use Rattle.std.proofs.Common.{◌≡◌, ◌⊎◌, inl, inr, ℕ, zero, suc, ◌<◌, Bool as Truth, true, false, ◌&&◌, ◌||◌, List, [], ◌∷◌, ◌++◌}
+use Rattle.std.proofs.Common.{◌≡◌, ◌⊎◌, inl, inr, ℕ, zero, suc, ◌<◌, Bool as Truth, true, false, true≢false, ◌&&◌, ◌||◌, List, [], ◌∷◌, ◌++◌}
 use Rattle.std.proofs.Common.{Some, slice_get, replicate, refl, sym, ap, ◌∙◌, arith, map}
 use Rattle.std.specs.List.{list_any}
 use Rattle.rg_base.specs.declared.value.Val.{Val}
 use Rattle.rg_base.specs.declared.value.Val.TheVariants as val
 use Rattle.rg_rules.specs.State.{Local}
 use Rattle.rg_sound.proofs.Basics.{none-some, some-same}
-use Rattle.rg_stack.specs.Needs.{all_below}
-
-pub or-true : (a b : Truth) → b ≡ true → (a || b) ≡ true
-or-true true b e = refl
-or-true false b e = e
+use Rattle.rg_stack.specs.Needs.{all_below, is_empty}
 
 -- no element passes
 pub none-passes : {A : Type 0} (test : A → Truth) (xs : List A) → ((i : ℕ) (x : A) → slice_get xs i ≡ Some x → test x ≡ false) →
@@ -53,3 +49,8 @@ slot-local (l ∷ ls) k (suc i) v e = elim (slot-local ls k i v e) [
   | inl n ↦ inl n
   | inr h ↦ inr (record { local = h.local; there = h.there; value = h.value })
 ]
+
+-- nothing is on the stack
+pub empty-is : (stack : List Val) → is_empty stack ≡ true → stack ≡ []
+empty-is [] e = refl
+empty-is (v ∷ vs) e = absurd (true≢false (sym e))

@@ -1,6 +1,6 @@
 -- The topmost window's region is led into from the place that the window names as its owner.
 use Rattle.std.proofs.Common.{◌≡◌, ◌≢◌, inl, inr, ℕ, ◌-◌, Bool as Truth, true, false, if◌then◌else◌, List, [], ◌∷◌, ◌++◌, length, Option, Some, None}
-use Rattle.std.proofs.Common.{option_and_then, unwrap_or, slice_get, refl, sym, ap, subst, ◌∙◌, arith}
+use Rattle.std.proofs.Common.{option_and_then, unwrap_or, slice_get, refl, sym, ap, subst, ◌∙◌}
 use Rattle.std.specs.Prelude.{reverse}
 use Rattle.std.proofs.lemmas.List.{length-reverse, reverse-append}
 use Rattle.rg_base.specs.declared.ty.Ty.{Ty}
@@ -12,6 +12,7 @@ use Rattle.rg_base.specs.declared.object.Seen.{Seen}
 use Rattle.rg_base.specs.declared.value.Val.{Val}
 use Rattle.rg_base.specs.declared.value.Val.TheVariants as val
 use Rattle.rg_tree.specs.Tree.{Field, Class}
+use Rattle.rg_tree.proofs.TreesFrom.{slice_get-push as get-snoc}
 use Rattle.rg_rules.specs.Capabilities.{is_iso}
 use Rattle.rg_rules.specs.Types.{type_of, fields_of}
 use Rattle.rg_rules.specs.State.{Local, Frame as Body, Window as Opened, frame_at}
@@ -19,12 +20,13 @@ use Rattle.rg_rules.specs.Regions.{region_at, address, owned, owned_as}
 use Rattle.rg_rules.specs.Owners.{owned_by_local, owned_by_slot, owned_by_field, leads_into}
 use Rattle.rg_sound.specs.OpenRegions.{AllOwned}
 use Rattle.rg_sound.proofs.Basics.{none-some, some-same, same_number}
-use Rattle.rg_sound.proofs.Owners.OwnerLemmas.{get-snoc, get-snoc-other, frame_at-top, frame_at-lower}
+use Rattle.rg_sound.proofs.Owners.OwnerLemmas.{get-snoc-other, frame_at-top, frame_at-lower}
 use Rattle.rg_stack.specs.Machine.{Frame, Window, Machine}
 use Rattle.rg_stack.specs.Shows.{ShowsFrame, ShowsFrames, ShowsWindows}
 use Rattle.rg_stack.specs.Needs.{is_into, field_of, value_at, owner_leads}
 use Rattle.rg_stack.proofs.Needs.LeadLemmas.{ShowsFit, LeadsInto, leads-is_into}
 use Rattle.rg_stack.proofs.Needs.ClosedLemmas.{shown-at}
+use Rattle.rg_stack.proofs.Statements.BaseLemmas.{as_many}
 
 -- what is owned leads there
 owned-leads : (store : List Seen) (t : Ty) (v : Val) (r : ℕ) → option_and_then (region_at store) (owned t v) ≡ Some r → LeadsInto store r v
@@ -47,12 +49,6 @@ reverse-lower : (f : Frame) (fs : List Frame) (n : ℕ) → n ≢ length fs → 
 reverse-lower f fs n h = ap (λ q. slice_get q n) (reverse-append (f ∷ []) fs)
     ∙ get-snoc-other (reverse fs) f n (λ e. h (e ∙ length-reverse fs))
 
-shown-length : (fs : List Frame) (bs : List Body) → ShowsFrames fs bs → length fs ≡ length bs
-shown-length [] [] h = refl
-shown-length [] (b ∷ bs) h = absurd h
-shown-length (f ∷ fs) [] h = absurd h
-shown-length (f ∷ fs) (b ∷ bs) h = let e = shown-length fs bs h.1 in omega (arith, e)
-
 record ShownAt (fs : List Frame) (n : ℕ) (b : Body) : Type 0 where
   pub frame : Frame
   pub there : slice_get (reverse fs) n ≡ Some frame
@@ -68,14 +64,14 @@ shown-frame (f ∷ fs) (c ∷ bs) h n b e = elim (same_number n (length bs)) [
       let P : Body → Type 0 = λ q. ShowsFrame f q in
       record {
         frame = f;
-        there = ap (slice_get (reverse (f ∷ fs))) (at ∙ sym (shown-length fs bs h.1)) ∙ reverse-top f fs;
+        there = ap (slice_get (reverse (f ∷ fs))) (at ∙ sym (as_many fs bs h.1)) ∙ reverse-top f fs;
         shows = subst P one h.0;
       }
   | inr other ↦
       let s = shown-frame fs bs h.1 n b (sym (frame_at-lower c bs n other) ∙ e) in
       record {
         frame = s.frame;
-        there = reverse-lower f fs n (λ x. other (x ∙ shown-length fs bs h.1)) ∙ s.there;
+        there = reverse-lower f fs n (λ x. other (x ∙ as_many fs bs h.1)) ∙ s.there;
         shows = s.shows;
       }
 ]

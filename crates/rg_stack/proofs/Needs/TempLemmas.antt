@@ -1,6 +1,7 @@
 -- Where the topmost window closes, its temporaries may go: nothing that stays leads to one.
 use Rattle.std.proofs.Common.{◌≡◌, ◌≢◌, inl, inr, ℕ, suc, ◌<◌, ◌==◌, Bool as Truth, true, false, true≢false, ◌&&◌, ◌||◌, not, List, [], ◌∷◌}
 use Rattle.std.proofs.Common.{if◌then◌else◌, Option, Some, None, option_and_then, length, map, slice_get, refl, sym, ap, subst, ◌∙◌, arith}
+use Rattle.std.proofs.lemmas.Bool.{and_from}
 use Rattle.std.specs.List.{list_any}
 use Rattle.rg_base.specs.declared.words.Cap.{Cap}
 use Rattle.rg_base.specs.declared.words.Cap.TheVariants.{Mut, Tmp, Paused, Imm, Iso}
@@ -148,12 +149,9 @@ field-none w ws rising (Temp n) stays cap l e h =
     let fits : LabelFits us cap l = temp-label us some cap l (subst P apart h) in
     beneath-number w ws rising l e (windows_from-open n ws l (temp-open us cap l w.number e fits))
 
-both : (a b : Truth) → a ≡ true → b ≡ true → (a && b) ≡ true
-both a b x y = ap (λ a. a && b) x ∙ y
-
 pub temps_may_go-fits : (classes : List Class) (m : Machine) (bodies : List Body) (w : Opened) (ws : List Opened) →
     ShowsFit classes m bodies (w ∷ ws) → FramesInFront w bodies → temps_may_go m ≡ true
-temps_may_go-fits classes m bodies w ws d front = both _ _ (ap not slots) (ap not fields)
+temps_may_go-fits classes m bodies w ws d front = and_from _ _ (ap not slots) (ap not fields)
   where
     number-is : (vs : List Window) → ShowsWindows d.sizes vs (w ∷ ws) → top_window vs ≡ w.number
     number-is [] h = absurd h

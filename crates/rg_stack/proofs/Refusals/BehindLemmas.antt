@@ -2,6 +2,7 @@
 use Rattle.std.proofs.Common.{◌≡◌, false, ℕ, ◌+◌, true, true≢false, ◌⊎◌, inl, inr, List, [], ◌∷◌, ◌++◌, length, drop, take, Option, Some, None}
 use Rattle.std.proofs.Common.{refl, sym}
 use Rattle.std.proofs.Common.{ap, subst, ◌∙◌, arith, slice_get}
+use Rattle.std.proofs.lemmas.List.{drop-drop}
 use Rattle.std.specs.Result.{result_ok}
 use Rattle.rg_base.specs.declared.ty.Ty.{Ty}
 use Rattle.rg_tree.specs.Tree.{Path, Ty as Written, stmt, Stmt, StmtKind, declare, assign, call, swap, branch, while, enter, print, collect, return}
@@ -23,7 +24,7 @@ use Rattle.rg_code.specs.Lowering.{with_slot, scope_behind, assign_op}
 use Rattle.rg_code.specs.Places.{is_drop, Level, TakesResult, Lies}
 use Rattle.rg_stack.specs.Simulates.{SomeLeft}
 use Rattle.rg_stack.specs.Refusals.{calm}
-use Rattle.rg_stack.proofs.Walks.MarkLemmas.{drop-drop, drop-stands, first-drop}
+use Rattle.rg_stack.proofs.Walks.MarkLemmas.{drop-stands, first-drop}
 use Rattle.rg_stack.proofs.Judgements.LeftLemmas.{spot-ends, left-back, beneath-left}
 use Rattle.rg_stack.proofs.Refusals.OrderLemmas.{calm-assign}
 use Rattle.rg_stack.proofs.Refusals.KindLemmas.{calm-lies}
@@ -196,7 +197,7 @@ taken_calm classes code (Assigns x) back (l ∷ ls) j rest h =
     ap (calm code false) (drop-stands code back (assign_op l.scope x ∷ []) h.0.0)
     ∙ calm-assign code l.scope x (drop (back + 1) code) (calm-lies classes code (l ∷ ls) j rest (back + 1) h.1)
 taken_calm classes code Drops back (l ∷ ls) j rest h =
-    drop_calm code (drop back code) (drop (back + 1) code) (ap is_drop (first-drop code back) ∙ h.0) (drop-drop back 1 code)
+    drop_calm code (drop back code) (drop (back + 1) code) (ap is_drop (first-drop code back) ∙ h.0) (drop-drop 1 back code)
     (calm-lies classes code (l ∷ ls) j rest (back + 1) h.1)
 
 pub calm-back : (classes : List Class) (code : List Op) (items : List Item) (l : Level) (ls : List Level) (at : ℕ) → LeavesOn items

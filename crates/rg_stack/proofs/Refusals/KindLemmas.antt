@@ -1,6 +1,8 @@
 -- Where items lie the code is orderly.
 use Rattle.std.proofs.Common.{◌≡◌, ℕ, ◌+◌, true, false, true≢false, Bool as Truth, if◌then◌else◌, List, [], ◌∷◌, ◌++◌, length, drop, take, Option}
 use Rattle.std.proofs.Common.{Some, None, refl, sym, ap, subst, ◌∙◌, arith, append_assoc, length-append, slice_get}
+use Rattle.std.proofs.lemmas.Bool.{and_from}
+use Rattle.std.proofs.lemmas.List.{drop-drop}
 use Rattle.rg_base.specs.declared.ty.Ty.{Ty}
 use Rattle.rg_tree.specs.Tree.{Name, Variable, Path, Expr, Right, stmt, StmtKind, declare, assign, call, swap, branch, while, enter, print, collect}
 use Rattle.rg_tree.specs.Tree.{return, Else, no_else, otherwise, Block, Class}
@@ -14,9 +16,9 @@ use Rattle.rg_code.specs.Lowering.{call_result, assign_code, assign_op, swap_cod
 use Rattle.rg_code.specs.Places.{Stands, StandsIn, is_mark, behind_end, Level, Lies}
 use Rattle.rg_stack.proofs.Basics.{is_halt}
 use Rattle.rg_stack.specs.Refusals.{calm, orderly}
-use Rattle.rg_stack.proofs.Walks.MarkLemmas.{drop-drop, drop-stands, first-drop, lies_at_mark}
+use Rattle.rg_stack.proofs.Walks.MarkLemmas.{drop-stands, first-drop, lies_at_mark}
 use Rattle.rg_stack.proofs.Walks.PlaceLemmas.{back_in, block_starts, GoesOn}
-use Rattle.rg_stack.proofs.Callers.OrderLemmas.{and_both, calm-mark, calm-orderly}
+use Rattle.rg_stack.proofs.Callers.OrderLemmas.{calm-mark, calm-orderly}
 use Rattle.rg_stack.proofs.Refusals.OrderLemmas.{Before, before-path, Quiet, quiet-append, quiet-whole, quiet-call, quiet-right, calm-pace}
 use Rattle.rg_stack.proofs.Refusals.OrderLemmas.{calm-assign}
 
@@ -29,7 +31,7 @@ calm-lies classes code ls j rest at h = calm-mark code false (drop at code)
 -- behind the first instruction of what stands
 pub behind_first : (code : List Op) (at : ℕ) (o : Op) (ops : List Op) → Stands code at (o ∷ ops) → drop (at + 1) code ≡ ops
     ++ drop (at + length (o ∷ ops)) code
-behind_first code at o ops h = sym (drop-drop at 1 code) ∙ ap (drop 1) (drop-stands code at (o ∷ ops) h)
+behind_first code at o ops h = sym (drop-drop 1 at code) ∙ ap (drop 1) (drop-stands code at (o ∷ ops) h)
 
 module _ (classes : List Class) (code : List Op) where
   -- statements without blocks
@@ -88,7 +90,7 @@ module _ (classes : List Class) (code : List Op) where
   -- a test, and a choice that leads to a mark
   quiet-test : (scope : Scope) (at to : ℕ) (e : Expr) (more : List Op) → is_mark (slice_get code to) ≡ true → calm code false more ≡ true
       → orderly code at false (whole_code classes scope at e ++ (i.JumpFalse to ∷ more)) ≡ true
-  quiet-test scope at to e more marked h = quiet-whole code classes scope at e (i.JumpFalse to ∷ more) (and_both _ _ marked h)
+  quiet-test scope at to e more marked h = quiet-whole code classes scope at e (i.JumpFalse to ∷ more) (and_from _ _ marked h)
 
   marked_at : (at : ℕ) (ops : List Op) → Stands code at ops → is_mark (slice_get (ops ++ drop (at + length ops) code) 0) ≡ true
       → is_mark (slice_get code at) ≡ true

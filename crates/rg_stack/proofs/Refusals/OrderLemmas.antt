@@ -1,6 +1,7 @@
 -- The code of expressions, calls and right sides is orderly in front of what is calm.
 use Rattle.std.proofs.Common.{◌≡◌, ℕ, ◌+◌, ◌-◌, true, false, Bool as Truth, if◌then◌else◌, List, [], ◌∷◌, ◌++◌, length, refl, ap, subst, ◌∙◌, arith}
 use Rattle.std.proofs.Common.{append_assoc, length-append}
+use Rattle.std.proofs.lemmas.Bool.{and_from}
 use Rattle.rg_base.specs.declared.ty.Ty.{Ty}
 use Rattle.rg_tree.specs.declared.rows.BinOp.{BinOp}
 use Rattle.rg_tree.specs.declared.rows.BinOp.TheVariants as op
@@ -12,7 +13,8 @@ use Rattle.rg_code.specs.declared.op.Op.TheVariants as i
 use Rattle.rg_code.specs.Lowering.{Scope, slot_of, type_in, field_number, type_behind, fields_code, path_code, gap, operator_code, expr_code}
 use Rattle.rg_code.specs.Lowering.{exprs_code, used_slots, used_by_all, clears, whole_code, number_called, target_class, call_code, right_code}
 use Rattle.rg_code.specs.Lowering.{pace_code, assign_op}
-use Rattle.rg_stack.proofs.Callers.OrderLemmas.{and_both, and_first, and_second, calm-orderly}
+use Rattle.rg_stack.proofs.Callers.OrderLemmas.{calm-orderly}
+use Rattle.rg_stack.proofs.Basics.{and-left, and-right}
 use Rattle.rg_stack.specs.Refusals.{Computes, Passes, manner, room_behind, calm, all_compute, orderly_by, orderly}
 
 -- what an expression's code consists of
@@ -22,11 +24,11 @@ AllCompute os = all_compute (length os) os ≡ true
 
 compute-append : (xs ys : List Op) → AllCompute xs → AllCompute ys → AllCompute (xs ++ ys)
 compute-append [] ys a b = b
-compute-append (x ∷ xs) ys a b = and_both _ _ (and_first _ _ a) (compute-append xs ys (and_second _ _ a) b)
+compute-append (x ∷ xs) ys a b = and_from _ _ (and-left _ _ a) (compute-append xs ys (and-right _ _ a) b)
 
 compute-front : (xs ys : List Op) → AllCompute xs → all_compute (length xs) (xs ++ ys) ≡ true
 compute-front [] ys a = refl
-compute-front (x ∷ xs) ys a = and_both _ _ (and_first _ _ a) (compute-front xs ys (and_second _ _ a))
+compute-front (x ∷ xs) ys a = and_from _ _ (and-left _ _ a) (compute-front xs ys (and-right _ _ a))
 
 compute-fields : (classes : List Class) (t : Ty) (fs : List Name) → AllCompute (fields_code classes t fs)
 compute-fields classes t [] = refl
@@ -92,7 +94,7 @@ module _ (code : List Op) where
       let same : at + length (o ∷ ops) ≡ at + 1 + length ops = omega arith in
       ap (λ m. orderly_by code at false m (ops ++ rest) (calm code (room_behind m false) (ops ++ rest))
       (orderly code (at + 1) (room_behind m false) (ops ++ rest))) is
-      ∙ and_both _ _ (ap (λ k. all_compute k (ops ++ rest)) n ∙ compute-front ops rest all)
+      ∙ and_from _ _ (ap (λ k. all_compute k (ops ++ rest)) n ∙ compute-front ops rest all)
       (go rest (subst (λ k. orderly code k false rest ≡ true) same h))
 
   before-more : (o : Op) → manner o ≡ Computes → (ops : List Op) (at : ℕ) → Before at ops → Before at (ops ++ o ∷ [])

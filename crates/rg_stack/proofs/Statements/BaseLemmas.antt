@@ -22,20 +22,26 @@ use Rattle.rg_stack.proofs.Walks.FrameLemmas.{place_below}
 use Rattle.rg_stack.proofs.Walks.EndLemmas.{EndsAs}
 
 -- the number of all slots of frames that have so many
-abbrev total : List ℕ → ℕ
+abbrev pub total : List ℕ → ℕ
 total [] = 0
 total (x ∷ xs) = x + total xs
 
-total-append : (xs : List ℕ) (y : ℕ) → total (xs ++ y ∷ []) ≡ total xs + y
+pub total-append : (xs : List ℕ) (y : ℕ) → total (xs ++ y ∷ []) ≡ total xs + y
 total-append [] y = omega arith
 total-append (x ∷ xs) y = ap (λ n. x + n) (total-append xs y) ∙ omega arith
 
-total_of : (fs : List Frame) → total (sizes_of fs) ≡ slots_below fs
+pub sizes-length : (fs : List Frame) → length (sizes_of fs) ≡ length fs
+sizes-length fs = length-reverse (map (λ (f : Frame). length f.slots) fs) ∙ length-map fs (λ (f : Frame). length f.slots)
+
+pub sizes-more : (f : Frame) (fs : List Frame) → sizes_of (f ∷ fs) ≡ sizes_of fs ++ length f.slots ∷ []
+sizes-more f fs = reverse-append (length f.slots ∷ []) (map (λ (f : Frame). length f.slots) fs)
+
+pub total_of : (fs : List Frame) → total (sizes_of fs) ≡ slots_below fs
 total_of [] = refl
-total_of (f ∷ fs) = ap total (reverse-append (length f.slots ∷ []) (map (λ (f : Frame). length f.slots) fs))
+total_of (f ∷ fs) = ap total (sizes-more f fs)
     ∙ total-append (sizes_of fs) (length f.slots) ∙ ap (λ n. n + length f.slots) (total_of fs) ∙ omega arith
 
-place_top : (xs : List ℕ) (y k : ℕ) → place_among (xs ++ y ∷ []) (length xs) k ≡ total xs + k
+pub place_top : (xs : List ℕ) (y k : ℕ) → place_among (xs ++ y ∷ []) (length xs) k ≡ total xs + k
 place_top [] y k = omega arith
 place_top (x ∷ xs) y k = ap (λ n. x + n) (place_top xs y k) ∙ omega arith
 
@@ -57,7 +63,7 @@ base_is fs n many k m is same =
     ∙ ap (λ t. slots_below fs + t) (sym same))
 
 -- a frame has slots for its variables
-shown-room : (f : Frame) (b : Body) → ShowsFrame f b → length b.locals ≤ length f.slots
+pub shown-room : (f : Frame) (b : Body) → ShowsFrame f b → length b.locals ≤ length f.slots
 shown-room f b h =
     let vals = map (λ (l : Local). l.value) b.locals in
     omega (
@@ -73,17 +79,14 @@ based-there [] p h = absurd h
 based-there (f ∷ fs) p (inl h) = let e = h.0 in omega (arith, e)
 based-there (f ∷ fs) p (inr h) = let l = based-there fs p h in omega (arith, l)
 
-sizes-length : (mfs : List Frame) (fs : List Body) → ShowsFrames mfs fs → length (sizes_of mfs) ≡ length fs
-sizes-length mfs fs h = length-reverse (map (λ (f : Frame). length f.slots) mfs) ∙ length-map mfs (λ (f : Frame). length f.slots) ∙ as_many mfs fs h
-
-pub sizes-more : (mf : Frame) (mfs : List Frame) → sizes_of (mf ∷ mfs) ≡ sizes_of mfs ++ length mf.slots ∷ []
-sizes-more mf mfs = reverse-append (length mf.slots ∷ []) (map (λ (f : Frame). length f.slots) mfs)
+shown-sizes : (mfs : List Frame) (fs : List Body) → ShowsFrames mfs fs → length (sizes_of mfs) ≡ length fs
+shown-sizes mfs fs h = sizes-length mfs ∙ as_many mfs fs h
 
 -- a window begins at the first slot behind the topmost frame's variables, or in front of it
 pub based-bound : (mf : Frame) (mfs : List Frame) (f : Body) (fs : List Body) (p : Opened) → ShowsFrames (mf ∷ mfs) (f ∷ fs) → Based (f ∷ fs) p
     → place_among (sizes_of (mf ∷ mfs)) p.base_frame p.base_place ≤ slots_below mfs + length f.locals
 based-bound mf mfs f fs p h (inl based) =
-    let count = sizes-length mfs fs h.1 in
+    let count = shown-sizes mfs fs h.1 in
     let at : place_among (sizes_of (mf ∷ mfs)) p.base_frame p.base_place ≡ slots_below mfs + p.base_place =
     ap (λ l. place_among l p.base_frame p.base_place) (sizes-more mf mfs)
     ∙ ap (λ n. place_among (sizes_of mfs ++ length mf.slots ∷ []) n p.base_place) (based.0 ∙ sym count)
@@ -94,7 +97,7 @@ based-bound mf [] f [] p h (inr based) = absurd based
 based-bound mf [] f (g ∷ gs) p h (inr based) = absurd h.1
 based-bound mf (mg ∷ mgs) f [] p h (inr based) = absurd based
 based-bound mf (mg ∷ mgs) f (g ∷ gs) p h (inr based) =
-    let count = sizes-length (mg ∷ mgs) (g ∷ gs) h.1 in
+    let count = shown-sizes (mg ∷ mgs) (g ∷ gs) h.1 in
     let there = based-there (g ∷ gs) p based in
     let less : p.base_frame < length (sizes_of (mg ∷ mgs)) = omega (arith, count, there) in
     let at : place_among (sizes_of (mf ∷ mg ∷ mgs)) p.base_frame p.base_place ≡ place_among (sizes_of (mg ∷ mgs)) p.base_frame p.base_place =
@@ -118,7 +121,7 @@ based-within mf mfs f fs p h based =
 pub lower-within : (mf mg : Frame) (mfs : List Frame) (g : Body) (fs : List Body) (p : Opened) → ShowsFrames (mg ∷ mfs) (g ∷ fs) → Based (g ∷ fs) p
     → place_among (sizes_of (mf ∷ mg ∷ mfs)) p.base_frame p.base_place ≤ slots_below (mg ∷ mfs)
 lower-within mf mg mfs g fs p h based =
-    let count = sizes-length (mg ∷ mfs) (g ∷ fs) h in
+    let count = shown-sizes (mg ∷ mfs) (g ∷ fs) h in
     let there = based-there (g ∷ fs) p based in
     let less : p.base_frame < length (sizes_of (mg ∷ mfs)) = omega (arith, count, there) in
     let at : place_among (sizes_of (mf ∷ mg ∷ mfs)) p.base_frame p.base_place ≡ place_among (sizes_of (mg ∷ mfs)) p.base_frame p.base_place =

@@ -2,9 +2,9 @@
 use Rattle.std.proofs.Common.{◌≡◌, if◌then◌else◌, ℕ, ◌+◌, ◌<◌, true, true≢false, List, [], ◌∷◌, ◌++◌, length, map, drop, Some, Ok, refl, sym, ap}
 use Rattle.std.proofs.Common.{subst, ◌∙◌, append_assoc, slice_get, slice_set, unwrap_or}
 use Rattle.std.specs.Prelude.{not, nat_lt, nat_le, ◌&&◌}
-use Rattle.std.proofs.lemmas.Bool.{lt-ltb}
+use Rattle.std.proofs.lemmas.Bool.{lt-ltb, and_from}
 use Rattle.std.proofs.Common.{arith}
-use Rattle.std.proofs.lemmas.List.{length-map, map-append, length-set, reverse-append}
+use Rattle.std.proofs.lemmas.List.{length-map, map-append, length-set, reverse-append, drop-drop}
 use Rattle.rg_base.specs.declared.value.Val.{Val}
 use Rattle.rg_base.specs.declared.value.Val.TheVariants as val
 use Rattle.rg_base.specs.declared.object.Seen.{Seen}
@@ -29,16 +29,16 @@ use Rattle.rg_stack.proofs.Mirrors.{Mirrors}
 use Rattle.rg_stack.specs.Shows.{ShowsWindows, sizes_of, levels_of}
 use Rattle.rg_stack.proofs.Mirrors.{SameMove}
 use Rattle.rg_stack.proofs.Walks.WalkLemmas.{Agrees}
-use Rattle.rg_stack.proofs.Walks.MarkLemmas.{mark-there, drop-stands, drop-drop, first-drop, walk_to_items}
-use Rattle.rg_stack.proofs.Walks.PlaceLemmas.{and-left}
+use Rattle.rg_stack.proofs.Walks.MarkLemmas.{mark-there, drop-stands, first-drop, walk_to_items}
 use Rattle.rg_stack.proofs.Walks.FrameLemmas.{work_of, state_of, room_of, shows_next, OpenedBelow, windows_below}
 use Rattle.rg_stack.proofs.Walks.SlotLemmas.{ShowsSlots, Has, cleared_slots, shows_put, slot_place, scope_set}
-use Rattle.rg_stack.proofs.Walks.NeedLemmas.{given, and-both, not-false, nil-open, free_slot}
+use Rattle.rg_stack.proofs.Walks.NeedLemmas.{given, not-false, nil-open, free_slot}
 use Rattle.rg_stack.proofs.Walks.EndLemmas.{comes, Landed, EndsAs, computed_ends, Round, work, state, level, RoundShows, finish, statement_step}
 use Rattle.rg_stack.proofs.Walks.EndLemmas.{walk-whole, UsesUp}
 use Rattle.rg_stack.proofs.Needs.KeepLemmas.{keep-here}
 use Rattle.rg_stack.proofs.Statements.BaseLemmas.{if_ends}
 use Rattle.rg_stack.proofs.Statements.AssignLemmas.{walk-assign}
+use Rattle.rg_stack.proofs.Basics.{and-left}
 
 -- the walk behind a frame's end comes to where items begin
 pub land_at : (classes : List Class) (code : Code) (r : Round) (store : List Seen) (slots : List Val) (locals : List Local)
@@ -92,8 +92,8 @@ taken_lands classes code r store slots locals managers input j rest (Declares x 
     let room : length locals < size = room_of size k (length locals) is (and-left _ _ takes.0.1) in
     let m = (work r store slots managers input).machine in
     let free : needs code (i.Store k) (v ∷ []) m ≡ true =
-    and-both (nat_lt k (length slots) && not (is_closed m (unwrap_or (slice_get slots k) val.Nil))) (may_keep m k v)
-    (and-both (nat_lt k (length slots)) (not (is_closed m (unwrap_or (slice_get slots k) val.Nil)))
+    and_from (nat_lt k (length slots) && not (is_closed m (unwrap_or (slice_get slots k) val.Nil))) (may_keep m k v)
+    (and_from (nat_lt k (length slots)) (not (is_closed m (unwrap_or (slice_get slots k) val.Nil)))
     (lt-ltb k (length slots) (omega (arith, is, room))) (not-false _
     (nil-open m (unwrap_or (slice_get slots k) val.Nil) (ap (λ n. unwrap_or (slice_get slots n) val.Nil) is ∙ free_slot slots locals shows))))
     (keep-here m k v (subst (λ n. nat_le (top_base r.windows) (slots_below r.frames + n) ≡ true) (sym is) need)) in
@@ -123,7 +123,7 @@ taken_lands classes code r store slots locals managers input j rest (Assigns x) 
 taken_lands classes code r store slots locals managers input j rest Drops back v shows round has need takes =
     subst (λ y. Landed classes code r.output (state r store locals managers input (j ∷ rest)) y)
     (sym (dropped (drop back code.ops) classes code back v (work r store slots managers input) (ap is_drop (first-drop code.ops back) ∙ takes.0) need
-    ∙ ap (λ ops. walk code ops (back + 1) 0 [] (work r store slots managers input)) (drop-drop back 1 code.ops)))
+    ∙ ap (λ ops. walk code ops (back + 1) 0 [] (work r store slots managers input)) (drop-drop 1 back code.ops)))
     (land_at classes code r store slots locals managers input j rest (length slots) (back + 1) shows refl round takes.1)
 
 -- the frames of a state in which a body was called

@@ -38,7 +38,7 @@ use Rattle.rg_stack.specs.Shows.{levels_of}
 use Rattle.rg_stack.proofs.Mirrors.{SameMove}
 use Rattle.rg_stack.proofs.Walks.WalkLemmas.{FollowsPath, walk-path}
 use Rattle.rg_stack.proofs.Walks.MarkLemmas.{drop-stands, mark-there, walk_at_mark}
-use Rattle.rg_stack.proofs.Walks.PlaceLemmas.{and-left, roomy-back, front_in, back_in, get-stands, stands-back, block_starts, block_scope, extends}
+use Rattle.rg_stack.proofs.Walks.PlaceLemmas.{roomy-back, front_in, back_in, get-stands, stands-back, block_starts, block_scope, extends}
 use Rattle.rg_stack.proofs.Walks.PlaceLemmas.{AllGoOn, lies_block}
 use Rattle.rg_stack.proofs.Walks.FrameLemmas.{room_of, shows_next}
 use Rattle.rg_stack.proofs.Walks.SlotLemmas.{ShowsSlots, Has, shows_put, slot_place, scope_set}
@@ -48,6 +48,7 @@ use Rattle.rg_stack.proofs.Walks.NeedLemmas.{given}
 use Rattle.rg_stack.proofs.Statements.BaseLemmas.{as_many, base_is, opens_ends, if_ends}
 use Rattle.rg_stack.proofs.Statements.AssignLemmas.{round_of, put_is, HolderOwes}
 use Rattle.rg_stack.proofs.Statements.BlockLemmas.{shows_ended, ended-length}
+use Rattle.rg_stack.proofs.Basics.{and-left}
 
 -- an object that was there is there, where the instruction behind its test is given what it needs
 abbrev on_result : Result Seen Trap → (Seen → Walked) → Walked

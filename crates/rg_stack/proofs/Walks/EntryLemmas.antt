@@ -1,14 +1,13 @@
 -- The code of each method stands at its entry.
 use Rattle.std.proofs.Common.{◌≡◌, ℕ, zero, suc, ◌+◌, List, [], ◌∷◌, ◌++◌, length, drop, Some, refl, sym, ap, subst, ◌∙◌, arith, append_assoc}
 use Rattle.std.proofs.Common.{length-append, slice_get}
-use Rattle.std.proofs.lemmas.Option.{none-some}
+use Rattle.std.proofs.lemmas.Option.{none-some, same_Some}
 use Rattle.std.proofs.Math.Seq.{drop-append_seam}
 use Rattle.rg_tree.specs.Tree.{Name, Member, field, method, Method, Class}
 use Rattle.rg_code.specs.declared.op.Op.{Op}
 use Rattle.rg_code.specs.declared.code.Entry.{Entry}
 use Rattle.rg_code.specs.Lowering.{Methods, methods_among, method_place, method_number, method_code, members_code, methods_code, slots_of}
 use Rattle.rg_code.specs.Places.{Stands}
-use Rattle.rg_stack.proofs.Basics.{some-is}
 use Rattle.rg_stack.proofs.Walks.PlaceLemmas.{stands-of}
 
 -- a method of the class of a number has an entry of a number among these, at which its code stands behind a front
@@ -26,7 +25,7 @@ pub entry_among : (classes : List Class) (ms : List Member) (at c k : ℕ) (go :
 entry_among classes [] at c k go front m n is = absurd (none-some m is)
 entry_among classes (field f ∷ ms) at c k go front m n is = entry_among classes ms at c k go front m n is
 entry_among classes (method o ∷ ms) at c zero go front m n is =
-    let same = some-is o m is in
+    let same = same_Some o m is in
     let body = method_code classes at c o in
     let others = members_code classes (at + length body) c ms go in
     let here : drop at (front ++ (body ++ others.ops)) ≡ body ++ others.ops = ap (λ k. drop k (front ++ (body ++ others.ops))) (sym n)
@@ -78,7 +77,7 @@ pub entry_of : (classes ks : List Class) (at c d : ℕ) (front : List Op) (k : C
     → HasEntry classes (c + d) m front (methods_code classes at c ks) (method_number ks d x)
 entry_of classes [] at c d front k x m n there is = absurd (none-some k there)
 entry_of classes (k' ∷ ks) at c zero front k x m n there is =
-    let same = some-is k' k there in
+    let same = same_Some k' k there in
     let e : c ≡ c + 0 = omega arith in
     subst (λ b. HasEntry classes b m front (methods_code classes at c (k' ∷ ks)) (method_number (k' ∷ ks) 0 x)) e
     (entry_among classes k'.members at c (method_place (methods_among k'.members) x) (λ here. methods_code classes here (suc c) ks) front m n

@@ -23,11 +23,11 @@ use Rattle.rg_stack.specs.Needs.{needs}
 use Rattle.rg_stack.specs.Given.{given_walk, given_finished, given_step_from, given_step}
 
 -- the first is stuck, or both are the same
-abbrev Less : Walked → Walked → Type 0
+abbrev pub Less : Walked → Walked → Type 0
 Less x y = (x ≡ Stuck) ⊎ (x ≡ y)
 
 -- and so are walks from each stack and machine
-abbrev LessFrom : Go → Go → Type 0
+abbrev pub LessFrom : Go → Go → Type 0
 LessFrom go all = (skip : ℕ) (stack : List Val) (w : Work) → Less (go skip stack w) (all skip stack w)
 
 top-less : (stack : List Val) (go all : Val → List Val → Walked) → ((v : Val) (rest : List Val) → Less (go v rest) (all v rest))
@@ -70,7 +70,7 @@ abbrev pub SameOrLost : Stepped → Stepped → Type 0
 SameOrLost x y = (x ≡ Lost) ⊎ (x ≡ y)
 
 module _ (code : Code) where
-  act-less : (at : ℕ) (o : Op) (go all : Go) (stack : List Val) (w : Work) → LessFrom go all
+  pub act-less : (at : ℕ) (o : Op) (go all : Go) (stack : List Val) (w : Work) → LessFrom go all
       → Less (act code at o go stack w) (act code at o all stack w)
   act-less at (i.Mark line) go all stack w h = inr refl
   act-less at (i.Int z) go all stack w h = h 0 _ _

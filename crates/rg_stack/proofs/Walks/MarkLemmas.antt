@@ -1,7 +1,7 @@
 -- A step of the stack machine is one of the machine that never frees: what all kinds of statement share.
 use Rattle.std.proofs.Common.{◌≡◌, ℕ, zero, suc, ◌+◌, true, false, Bool as Truth, true≢false, if◌then◌else◌, List, [], ◌∷◌, ◌++◌, length, map, drop}
-use Rattle.std.proofs.Common.{replicate, refl, sym, ap, ◌∙◌, arith, slice_get, unwrap_or}
-use Rattle.std.proofs.lemmas.List.{take-append-drop}
+use Rattle.std.proofs.Common.{replicate, refl, sym, ap, ◌∙◌, slice_get, unwrap_or}
+use Rattle.std.proofs.lemmas.List.{take-append-drop, drop-drop}
 use Rattle.rg_base.specs.declared.value.Val.{Val}
 use Rattle.rg_base.specs.declared.value.Val.TheVariants as val
 use Rattle.rg_tree.specs.Tree.{Variable, stmt, StmtKind, declare, assign, call, swap, branch, while, enter, print, collect, return, Class}
@@ -16,21 +16,12 @@ use Rattle.rg_code.specs.Places.{Stands, is_mark, scope_of, Level, Lies}
 use Rattle.rg_stack.specs.Effects.{Work, Stops}
 use Rattle.rg_stack.specs.Given.{given_walk as walk}
 
-drop-none : (n : ℕ) → drop {A = Op} n [] ≡ []
-drop-none zero = refl
-drop-none (suc n) = refl
-
-pub drop-drop : (n m : ℕ) (xs : List Op) → drop m (drop n xs) ≡ drop (n + m) xs
-drop-drop zero m xs = let e : m ≡ 0 + m = omega arith in ap (λ k. drop k xs) e
-drop-drop (suc n) m [] = drop-none m ∙ sym (drop-none (suc n + m))
-drop-drop (suc n) m (x ∷ xs) = let e : suc (n + m) ≡ suc n + m = omega arith in drop-drop n m xs ∙ ap (λ k. drop k (x ∷ xs)) e
-
 -- what stands at an address is the front of the code there
 pub drop-stands : (code : List Op) (at : ℕ) (ops : List Op) → Stands code at ops → drop at code ≡ ops ++ drop (at + length ops) code
 drop-stands code at ops h =
     sym (take-append-drop (length ops) (drop at code))
     ∙ ap (λ l. l ++ drop (length ops) (drop at code)) h
-    ∙ ap (λ l. ops ++ l) (drop-drop at (length ops) code)
+    ∙ ap (λ l. ops ++ l) (drop-drop (length ops) at code)
 
 -- the slot of a variable holds its value
 shown_by : (t : Truth) (v : Val) (slots : List Val) (n : ℕ) (rest : Val) → unwrap_or (slice_get slots n) val.Nil ≡ rest
@@ -99,4 +90,4 @@ mark-first (o ∷ ops) e = absurd (true≢false (sym e))
 
 pub mark-there : (code : List Op) (at : ℕ) → is_mark (slice_get code at) ≡ true → (line : ℕ) × (drop at code ≡ i.Mark line ∷ drop (at + 1) code)
 mark-there code at e = let h = mark-first (drop at code) (ap is_mark (first-drop code at) ∙ e) in
-    (h.0, h.1 ∙ ap (λ l. i.Mark h.0 ∷ l) (drop-drop at 1 code))
+    (h.0, h.1 ∙ ap (λ l. i.Mark h.0 ∷ l) (drop-drop 1 at code))

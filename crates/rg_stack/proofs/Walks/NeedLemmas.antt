@@ -1,5 +1,5 @@
 -- What instructions need, where it is there whatever the program: a slot that is nil, a value that is on the stack, and openings.
-use Rattle.std.proofs.Common.{◌≡◌, ℕ, zero, suc, ◌+◌, ◌-◌, true, false, true≢false, Bool as Truth, ◌&&◌, ◌||◌, ◌==◌, not, if◌then◌else◌, ◌⊎◌, inl}
+use Rattle.std.proofs.Common.{◌≡◌, ℕ, zero, suc, ◌+◌, ◌-◌, true, false, true≢false, Bool as Truth, ◌||◌, ◌==◌, not, if◌then◌else◌, ◌⊎◌, inl}
 use Rattle.std.proofs.Common.{inr}
 use Rattle.std.proofs.Common.{List, [], ◌∷◌, ◌++◌, length, map, replicate, Option, Some, None, refl, sym, ap, subst, ◌∙◌, arith, slice_get}
 use Rattle.std.proofs.Common.{slice_set, unwrap_or, option_and_then}
@@ -7,7 +7,7 @@ use Rattle.std.proofs.lemmas.List.{length-map}
 use Rattle.std.specs.Prelude.{nat_le, cond, count_by}
 use Rattle.std.proofs.Common.{◌≤◌}
 use Rattle.std.proofs.lemmas.List.Sums.{sum_by-cons}
-use Rattle.std.proofs.lemmas.Bool.{le-leb, leb-true}
+use Rattle.std.proofs.lemmas.Bool.{le-leb, leb-true, and_from, or_right}
 use Rattle.std.specs.List.{list_any}
 use Rattle.rg_base.specs.declared.object.Seen.{Seen}
 use Rattle.rg_base.specs.declared.object.Label.{Label}
@@ -22,16 +22,12 @@ use Rattle.rg_stack.specs.Machine.{Frame, Window, Machine, slot_at}
 use Rattle.rg_stack.specs.Effects.{Walked, Stuck}
 use Rattle.rg_stack.specs.Needs.{needs, is_open, label_of, lies_in, is_into, closed_of, closed_into, is_closed, slots_into, places_into}
 use Rattle.rg_stack.specs.Needs.{all_below, owned_once}
-use Rattle.rg_stack.proofs.Walks.PlaceLemmas.{and-left, and-right}
 use Rattle.rg_stack.proofs.Walks.SlotLemmas.{ShowsSlots}
+use Rattle.rg_stack.proofs.Basics.{and-left, and-right}
 
 -- an instruction that is given what it needs
 pub given : (t : Truth) (x : Walked) → t ≡ true → (if t then x else Stuck) ≡ x
 given t x e = ap (λ b. if b then x else Stuck) e
-
-pub and-both : (a b : Truth) → a ≡ true → b ≡ true → (a && b) ≡ true
-and-both true b e h = h
-and-both false b e h = absurd (true≢false (sym e))
 
 pub not-false : (t : Truth) → t ≡ false → not t ≡ true
 not-false true e = absurd (true≢false e)
@@ -68,10 +64,6 @@ or_left : (a b : Truth) → a ≡ true → (a || b) ≡ true
 or_left true b e = refl
 or_left false b e = absurd (true≢false (sym e))
 
-or_right : (a b : Truth) → b ≡ true → (a || b) ≡ true
-or_right true b e = refl
-or_right false b e = e
-
 pub same : (n : ℕ) → (n == n) ≡ true
 same n = grind arith
 
@@ -91,8 +83,9 @@ into_by ws (Region q) r e = by (is_open ws q) e
 into_by ws (Temp n) r e = absurd (true≢false (sym (ap (λ (o : Option ℕ). elim o [ None ↦ false | Some n ↦ true ]) e)))
 into_by ws Frozen r e = absurd (true≢false (sym (ap (λ (o : Option ℕ). elim o [ None ↦ false | Some n ↦ true ]) e)))
 
-into : (m : Machine) (v : Val) (r : ℕ) → closed_into m v ≡ Some r → is_into m.store r v ≡ true
-into m v r = by (label_of m.store v)
+-- it is counted
+pub closed-counts : (m : Machine) (v : Val) (r : ℕ) → closed_into m v ≡ Some r → is_into m.store r v ≡ true
+closed-counts m v r = by (label_of m.store v)
   where
     by : (l : Option Label) → option_and_then (closed_of m.windows) l ≡ Some r → elim l [ None ↦ false | Some l ↦ lies_in r l ] ≡ true
     by None e = absurd (true≢false (sym (ap (λ (o : Option ℕ). elim o [ None ↦ false | Some n ↦ true ]) e)))
@@ -107,12 +100,12 @@ any_among test v (u ∷ us) (inr h) e = or_right (test u) (list_any test us) (an
 clear_by : (m : Machine) (stack : List Val) (v : Val) (r : Option ℕ) → closed_into m v ≡ r → AmongValues v stack
     → elim r [ None ↦ true | Some r ↦ list_any (is_into m.store r) stack ] ≡ true
 clear_by m stack v None e h = refl
-clear_by m stack v (Some r) e h = any_among (is_into m.store r) v stack h (into m v r e)
+clear_by m stack v (Some r) e h = any_among (is_into m.store r) v stack h (closed-counts m v r e)
 
 pub clear-given : (code : Code) (m : Machine) (s : ℕ) (stack : List Val) → owned_once m ≡ true
     → (slot_at m s ≡ val.Nil) ⊎ AmongValues (slot_at m s) stack → needs code (i.Clear s) stack m ≡ true
 clear-given code m s stack once h =
-    and-both (owned_once m) (elim (closed_into m (slot_at m s)) [ None ↦ true | Some r ↦ list_any (is_into m.store r) stack ]) once (by h)
+    and_from (owned_once m) (elim (closed_into m (slot_at m s)) [ None ↦ true | Some r ↦ list_any (is_into m.store r) stack ]) once (by h)
   where
     by : (slot_at m s ≡ val.Nil) ⊎ AmongValues (slot_at m s) stack
         → elim (closed_into m (slot_at m s)) [ None ↦ true | Some r ↦ list_any (is_into m.store r) stack ] ≡ true
@@ -155,7 +148,7 @@ fewer_by false n k less h = le-leb n 1 (let most = leb-true k 1 h in omega (arit
 
 below_by : (n : ℕ) (a b : ℕ → Truth) → ((k : ℕ) → a k ≡ true → b k ≡ true) → all_below n a ≡ true → all_below n b ≡ true
 below_by zero a b h e = refl
-below_by (suc n) a b h e = and-both (b n) (all_below n b) (h n (and-left (a n) (all_below n a) e))
+below_by (suc n) a b h e = and_from (b n) (all_below n b) (h n (and-left (a n) (all_below n a) e))
     (below_by n a b h (and-right (a n) (all_below n a) e))
 
 pub once-cleared : (m : Machine) (f : Frame) (fs : List Frame) (s : ℕ) → owned_once (record m { frames = f ∷ fs }) ≡ true

@@ -1,7 +1,8 @@
 -- The items of a block begin where its code stands.
-use Rattle.std.proofs.Common.{◌≡◌, ℕ, ◌+◌, true, false, Bool as Truth, ◌&&◌, true≢false, List, [], ◌∷◌, ◌++◌, length, take, drop, Some, refl, sym}
+use Rattle.std.proofs.Common.{◌≡◌, ℕ, ◌+◌, true, ◌&&◌, List, [], ◌∷◌, ◌++◌, length, take, drop, Some, refl, sym}
 use Rattle.std.proofs.Common.{ap, subst, ◌∙◌, arith, append_assoc, append-nil, length-append, slice_get}
 use Rattle.std.proofs.Math.Seq.{drop-append_seam, take-append_seam}
+use Rattle.std.proofs.lemmas.List.{drop-drop}
 use Rattle.rg_tree.specs.Tree.{stmt, StmtKind, declare, assign, call, swap, branch, while, enter, print, collect, return, Block, empty as none}
 use Rattle.rg_tree.specs.Tree.{then as next, Class}
 use Rattle.rg_rules.specs.Items.{Item, items_of}
@@ -9,15 +10,8 @@ use Rattle.rg_code.specs.declared.op.Op.{Op}
 use Rattle.rg_code.specs.declared.op.Op.TheVariants as i
 use Rattle.rg_code.specs.Lowering.{Scope, scope_behind, kind_code, block_code}
 use Rattle.rg_code.specs.Places.{Stands, StandsIn, roomy, is_mark, Level, Lies, LiesBehind, Lying}
-use Rattle.rg_stack.proofs.Walks.MarkLemmas.{drop-drop, drop-stands, first-drop, starts}
-
-pub and-left : (a b : Truth) → (a && b) ≡ true → a ≡ true
-and-left true b e = refl
-and-left false b e = e
-
-pub and-right : (a b : Truth) → (a && b) ≡ true → b ≡ true
-and-right true b e = e
-and-right false b e = absurd (true≢false (sym e))
+use Rattle.rg_stack.proofs.Walks.MarkLemmas.{drop-stands, first-drop, starts}
+use Rattle.rg_stack.proofs.Basics.{and-left, and-right}
 
 pub stands-of : (code : List Op) (at : ℕ) (ops more : List Op) → drop at code ≡ ops ++ more → Stands code at ops
 stands-of code at ops more e = ap (take (length ops)) e ∙ take-append_seam ops more
@@ -29,7 +23,7 @@ stands-front code at xs ys h = stands-of code at xs (ys ++ drop (at + length (xs
 pub stands-back : (code : List Op) (at : ℕ) (xs ys : List Op) → Stands code at (xs ++ ys) → Stands code (at + length xs) ys
 stands-back code at xs ys h =
     stands-of code (at + length xs) ys (drop (at + length (xs ++ ys)) code)
-    (sym (drop-drop at (length xs) code)
+    (sym (drop-drop (length xs) at code)
     ∙ ap (drop (length xs)) (drop-stands code at (xs ++ ys) h ∙ append_assoc xs ys (drop (at + length (xs ++ ys)) code))
     ∙ drop-append_seam xs (ys ++ drop (at + length (xs ++ ys)) code))
 

@@ -6,11 +6,12 @@ use Rattle.std.proofs.lemmas.Bool.{false≢true}
 use Rattle.std.proofs.lemmas.Option.{none-some, same_Some}
 use Rattle.std.proofs.lemmas.List.FromFn.{length-map-range_with_len}
 use Rattle.rg_base.specs.declared.object.Label.{Label}
-use Rattle.rg_base.specs.declared.object.Label.TheVariants.{Region, Temp}
+use Rattle.rg_base.specs.declared.object.Label.TheVariants.{Region}
 use Rattle.rg_base.specs.declared.object.Seen.{Seen}
 use Rattle.rg_base.specs.declared.value.Word.{Word}
 use Rattle.rg_base.specs.declared.words.Manager.{Manager}
 use Rattle.rg_base.specs.declared.words.Manager.TheVariants.{Arena}
+use Rattle.rg_base.proofs.Callers.Labels.{region-same, temp-region}
 use Rattle.rg_rules.specs.Regions.{among, in_regions}
 use Rattle.rg_cells.specs.declared.cell.Body.{Body}
 use Rattle.rg_cells.specs.Table.{Heap, body_at, label_at, field_at}
@@ -34,12 +35,6 @@ use Rattle.rg_held.specs.Frees.{gone, is_temp, buried, bury, forgotten}
 -- no temporaries
 pub no-temps : (h : Heap) → AreTemps h None NoCell
 no-temps h = record { all = λ s n e is. absurd (none-some n is); only = λ s c. absurd c }
-
-pub region-same : (a b : ℕ) → Some (Region a) ≡ Some (Region b) → a ≡ b
-region-same a b e = cc
-
-pub temp-region : (n r : ℕ) → Some (Temp n) ≡ Some (Region r) → ⊥
-temp-region n r e = cc
 
 -- The regions that go
 

@@ -2,6 +2,7 @@
 use Rattle.std.proofs.Common.{◌≡◌, ◌⊎◌, ℕ, true, Some, refl, sym, ap, ◌∙◌, subst}
 use Rattle.rg_base.specs.declared.value.Word.{Word}
 use Rattle.rg_base.specs.declared.value.Word.TheVariants as word
+use Rattle.rg_base.proofs.Callers.Labels.{slot-same}
 use Rattle.rg_cells.specs.declared.cell.Body.{Body}
 use Rattle.rg_cells.specs.Table.{body_at, field_at, Serials, IsHeld}
 use Rattle.rg_regions.specs.Table.{IsBridge}
@@ -20,9 +21,6 @@ use Rattle.rg_view.specs.View.{machine_of}
 use Rattle.rg_view.specs.Numbers.{Numbers}
 use Rattle.rg_view.proofs.Callers.OpenLemmas.{owner-leads}
 use Rattle.rg_view.proofs.Callers.NeedLemmas.{keyed, top, write-place, stays, ownerless-slot, not-beneath, comes, leads-out}
-
-slot-same : (a b : ℕ) → word.Slot a ≡ word.Slot b → a ≡ b
-slot-same a b e = cc
 
 -- a reference into a closed region leads to its bridge
 abbrev pub LeadsToBridge : Parts → Stack → Word → Type 0

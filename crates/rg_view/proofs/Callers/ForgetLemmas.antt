@@ -1,16 +1,17 @@
 -- A region is in the table exactly if it is open or some cell lies in it: behind a release, a freeze or a merge the managers that are shown are
 -- those that the machine which frees doesn't forget.
 use Rattle.std.proofs.Common.{◌≡◌, ◌<◌, ◌||◌, inl, inr, ℕ, zero, suc, Bool as Truth, true, false, if◌then◌else◌, List, [], ◌∷◌, map, length}
-use Rattle.std.proofs.Common.{Option, Some, None, IsSome, option_map, slice_get, slice_index_or, refl, sym, ap, ◌∙◌, subst}
+use Rattle.std.proofs.Common.{Option, Some, None, option_map, slice_get, slice_index_or, refl, sym, ap, ◌∙◌, subst}
 use Rattle.std.specs.List.{list_any, range_with_len}
 use Rattle.std.proofs.lemmas.Bool.{cases_eq, false≢true}
 use Rattle.std.proofs.lemmas.Option.{none-some, same_Some}
 use Rattle.rg_base.specs.declared.object.Label.{Label}
-use Rattle.rg_base.specs.declared.object.Label.TheVariants.{Region, Temp, Frozen}
+use Rattle.rg_base.specs.declared.object.Label.TheVariants.{Region}
 use Rattle.rg_base.specs.declared.object.Seen.{Seen}
 use Rattle.rg_base.specs.declared.value.Val.{Val}
 use Rattle.rg_base.specs.declared.words.Manager.{Manager}
 use Rattle.rg_base.specs.declared.words.Manager.TheVariants.{Arena}
+use Rattle.rg_base.proofs.Callers.Options.{some-there}
 use Rattle.rg_rules.specs.Regions.{among, relabelled}
 use Rattle.rg_cells.specs.declared.cell.Body.{Body}
 use Rattle.rg_cells.specs.Table.{Heap, body_at, Serials}
@@ -29,7 +30,7 @@ use Rattle.rg_view.specs.View.{object_of, store_of, number_in, number_of, window
 use Rattle.rg_view.specs.Names.{Names, AreTemps}
 use Rattle.rg_view.specs.Numbers.{Numbers, HasBridges}
 use Rattle.rg_view.specs.Links.{BelowSome}
-use Rattle.rg_view.proofs.ListLemmas.{map-numbers, eq-true, eq-is}
+use Rattle.rg_view.proofs.ListLemmas.{map-numbers, eq-is}
 use Rattle.rg_view.proofs.Callers.LookLemmas.{store-held}
 use Rattle.rg_view.proofs.Callers.LinkLemmas.{store-back, gone-region}
 use Rattle.rg_view.proofs.Callers.FrameLemmas.{there}
@@ -42,6 +43,7 @@ use Rattle.rg_view.proofs.Callers.LabelLemmas.{Labels, labels-store, labels-seri
 use Rattle.rg_view.proofs.Callers.GoneLemmas.{released-numbers}
 use Rattle.rg_view.proofs.Callers.MachineLemmas.{WindowsKept, released-machine, labelled-machine}
 use Rattle.rg_held.specs.Frees.{bury, forgotten}
+use Rattle.rg_held.proofs.Places.{lies-back}
 
 -- whether a region is open in these windows, or an object of this store lies in it
 abbrev pub lives_in : List Window → List Seen → ℕ → Truth
@@ -55,15 +57,6 @@ pub index-of : (ms : List Manager) (k : ℕ) (m : Manager) → slice_get ms k �
 index-of [] k m e = absurd (none-some m e)
 index-of (x ∷ ms) zero m e = same_Some x m e
 index-of (x ∷ ms) (suc k) m e = index-of ms k m e
-
-lies-is : (r : ℕ) (l : Label) → lies_in r l ≡ true → l ≡ Region r
-lies-is r (Region q) e = ap Region (eq-true q r e)
-lies-is r (Temp n) e = absurd (false≢true e)
-lies-is r Frozen e = absurd (false≢true e)
-
-slot-there : (o : Option ℕ) → IsSome o → (s : ℕ) × (o ≡ Some s)
-slot-there None q = absurd cc
-slot-there (Some s) q = (s, refl)
 
 -- a number that no record has isn't in the table
 unknown-not-in : (t : RegionTable) (r : ℕ) → Unknown t r → InTable t r → ⊥
@@ -109,7 +102,7 @@ object-lies h r s q lies = by (body_at h s) refl
 pub lies-object : (h : Heap) (r : ℕ) → list_any (λ (o : Seen). lies_in r o.label) (store_of h) ≡ true → (s : ℕ) × LiesIn h r s
 lies-object h r e =
     let a = any-back (λ (o : Seen). lies_in r o.label) (store_of h) e in
-    let is : a.1.label ≡ Region r = lies-is r a.1.label a.3 in
+    let is : a.1.label ≡ Region r = lies-back r a.1.label a.3 in
     elim (store-back h a.0 a.1 a.2) [
       | inl x ↦
           let label : x.body.label ≡ Region r = sym (ap (λ (o : Seen). o.label) x.shown) ∙ is in
@@ -124,7 +117,7 @@ module _ (old new : Parts) (f : FewerNumbers old.regions new.regions) (n : Numbe
   known-lives ws r w k = elim (cases_eq r 0) [
     | inl is ↦ ap (λ t. t || list_any (λ (o : Seen). lies_in r o.label) (store_of new.cells.heap)) (ap (is_open ws) is ∙ w.first)
     | inr d ↦
-        let s = slot-there k.rec.bridge ((b k.key k.rec k.there).0 (λ zero. d (sym k.number ∙ zero))) in
+        let s = some-there k.rec.bridge ((b k.key k.rec k.there).0 (λ zero. d (sym k.number ∙ zero))) in
         let lies : LiesIn new.cells.heap r s.0 = subst (λ x. LiesIn new.cells.heap x s.0) k.number (g.bridges k.key s.0 k.rec k.there s.1) in
         later (is_open ws r) (object-lies new.cells.heap r s.0 q lies)
   ]

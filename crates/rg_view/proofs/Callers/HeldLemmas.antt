@@ -11,6 +11,7 @@ use Rattle.rg_cells.specs.Table.{Heap, body_at, label_at, Serials, IsHeld}
 use Rattle.rg_regions.specs.Table.{Record, RegionTable, record_at, InTable}
 use Rattle.rg_regions.specs.Reach.{LiesIn}
 use Rattle.rg_regions.specs.Grove.{Grove}
+use Rattle.rg_regions.proofs.Callers.Told.{labelled_held}
 use Rattle.rg_frames.specs.declared.rows.Window.{Window as WindowRow}
 use Rattle.rg_frames.specs.Stack.{Stack}
 use Rattle.rg_heap.specs.Parts.{Parts}
@@ -18,17 +19,9 @@ use Rattle.rg_heap.specs.Answers.{AllLead}
 use Rattle.rg_heap.specs.Opened.{Opened, IsWindow}
 use Rattle.rg_view.specs.View.{store_of, managers_of}
 use Rattle.rg_view.specs.Numbers.{Numbers}
-use Rattle.rg_view.proofs.Callers.ShownLemmas.{get-drop, get-take, body-held}
+use Rattle.rg_view.proofs.Callers.ShownLemmas.{get-drop, get-take}
 use Rattle.rg_view.proofs.Callers.ManagerLemmas.{managers-length}
 use Rattle.rg_view.proofs.Callers.LinkLemmas.{region-back}
-
--- a cell with a label is held
-pub labelled-held : (h : Heap) (s : ℕ) (l : Label) → label_at h s ≡ Some l → IsHeld h s
-labelled-held h s l e = by (body_at h s) refl
-  where
-    by : (o : Option Body) → body_at h s ≡ o → IsHeld h s
-    by None f = absurd (none-some l (sym (ap (option_map (λ (b : Body). b.label)) f) ∙ e))
-    by (Some b) f = body-held h s b f
 
 -- each temporary is one of an open window
 abbrev pub TempsOfWindows : Heap → Stack → Type 0
@@ -40,10 +33,10 @@ all-lead p v g o temps s k to e = by (body_at p.cells.heap s) refl
   where
     label : (l : Label) → label_at p.cells.heap s ≡ Some l → IsHeld p.cells.heap to
     label (Region r) is = elim (g.fields r s k to is e) [
-      | inl frozen ↦ labelled-held p.cells.heap to Frozen frozen
+      | inl frozen ↦ labelled_held p.cells.heap to Frozen frozen
       | inr rest ↦ elim rest [
-        | inl own ↦ labelled-held p.cells.heap to (Region r) own
-        | inr x ↦ labelled-held p.cells.heap to (Region x.0) x.2
+        | inl own ↦ labelled_held p.cells.heap to (Region r) own
+        | inr x ↦ labelled_held p.cells.heap to (Region x.0) x.2
       ]
     ]
     label (Temp n) is =
@@ -52,7 +45,7 @@ all-lead p v g o temps s k to e = by (body_at p.cells.heap s) refl
         let begin = slice_index_or v.marks w.0 0 in
         let end = slice_index_or v.marks (w.0 + 1) (length v.temps) in
         o.lead (begin + t.0) s (get-take end (begin + t.0) v.temps s (sym (get-drop begin t.0 (take end v.temps)) ∙ t.1)) k to e
-    label Frozen is = labelled-held p.cells.heap to Frozen (g.frozen s k to is e)
+    label Frozen is = labelled_held p.cells.heap to Frozen (g.frozen s k to is e)
 
     by : (c : Option Body) → body_at p.cells.heap s ≡ c → IsHeld p.cells.heap to
     by None f = absurd (none-some (word.Slot to) (sym (ap (option_and_then (λ (b : Body). slice_get b.fields k)) f) ∙ e))

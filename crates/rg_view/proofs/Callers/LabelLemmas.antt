@@ -5,6 +5,7 @@ use Rattle.std.proofs.lemmas.Bool.{false≢true}
 use Rattle.std.proofs.lemmas.Option.{none-some, same_Some}
 use Rattle.rg_base.specs.declared.object.Label.{Label}
 use Rattle.rg_base.specs.declared.object.Label.TheVariants.{Region, Temp, Frozen}
+use Rattle.rg_base.proofs.Callers.Labels.{region-same, frozen-region, temp-region}
 use Rattle.rg_rules.specs.Regions.{among, in_regions, relabelled_object, relabelled}
 use Rattle.rg_cells.specs.declared.cell.Body.{Body}
 use Rattle.rg_cells.specs.Table.{Heap, body_at, label_at, Serials}
@@ -26,15 +27,6 @@ pub record Labels (old new : Heap) (regions : List ℕ) (label : Label) : Type 0
   pub next : new.next ≡ old.next
   pub moved : (q s : ℕ) → among regions q ≡ true → LiesIn old q s → body_at new s ≡ labelled label (body_at old s)
   pub stay : (s : ℕ) → ((q : ℕ) → among regions q ≡ true → LiesIn old q s → ⊥) → body_at new s ≡ body_at old s
-
-is-region : (r q : ℕ) → Some (Region r) ≡ Some (Region q) → r ≡ q
-is-region r q e = cc
-
-temp-region : (n r : ℕ) → Some (Temp n) ≡ Some (Region r) → ⊥
-temp-region n r e = cc
-
-frozen-region : (r : ℕ) → Some Frozen ≡ Some (Region r) → ⊥
-frozen-region r e = cc
 
 module _ (old new : Heap) (regions : List ℕ) (label : Label) (l : Labels old new regions label) where
   -- a cell that gets the label
@@ -67,7 +59,7 @@ module _ (old new : Heap) (regions : List ℕ) (label : Label) (l : Labels old n
           test false a = inr (record {
             test = ap (in_regions regions) is ∙ a;
             is =
-                l.stay s (λ p t m. let one = is-region p q (sym m ∙ lies) in false≢true (sym a ∙ ap (among regions) (sym one) ∙ t)) ∙ e;
+                l.stay s (λ p t m. let one = region-same p q (sym m ∙ lies) in false≢true (sym a ∙ ap (among regions) (sym one) ∙ t)) ∙ e;
           })
       by (Temp n) is = inr (record {
         test = ap (in_regions regions) is;

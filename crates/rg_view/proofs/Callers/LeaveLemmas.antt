@@ -1,6 +1,7 @@
 -- What leaving a window asks of the heap, from what holds between calls.
-use Rattle.std.proofs.Common.{◌≡◌, ◌≤◌, ℕ, zero, suc, ◌+◌, ◌-◌, List, [], ◌∷◌, length, drop, take, Some, slice_get}
-use Rattle.std.proofs.Common.{slice_index_or, refl, sym, ap, ◌∙◌, arith}
+use Rattle.std.proofs.Common.{◌≡◌, ℕ, ◌+◌, ◌-◌, length, drop, take, Some, slice_get}
+use Rattle.std.proofs.Common.{slice_index_or, sym, ap, ◌∙◌, arith}
+use Rattle.std.proofs.lemmas.List.{get_or_past, take_all}
 use Rattle.rg_regions.specs.Grove.{Grove}
 use Rattle.rg_frames.specs.Stack.{Stack, has_region, mark}
 use Rattle.rg_heap.specs.Parts.{Parts}
@@ -11,18 +12,6 @@ use Rattle.rg_view.proofs.Callers.FrameLemmas.{there}
 use Rattle.rg_view.proofs.Callers.ShownLemmas.{get-drop}
 use Rattle.rg_view.proofs.Callers.OpenLemmas.{any-in}
 
--- past the end there is the default
-past-end : (xs : List ℕ) (i d : ℕ) → length xs ≤ i → slice_index_or xs i d ≡ d
-past-end [] i d le = refl
-past-end (x ∷ xs) zero d le = absurd (omega (arith, le))
-past-end (x ∷ xs) (suc i) d le = past-end xs i d (omega (arith, le))
-
-take-whole : (n : ℕ) (xs : List ℕ) → length xs ≤ n → take n xs ≡ xs
-take-whole zero [] le = refl
-take-whole zero (x ∷ xs) le = absurd (omega (arith, le))
-take-whole (suc n) [] le = refl
-take-whole (suc n) (x ∷ xs) le = ap (λ ys. x ∷ ys) (take-whole n xs (omega (arith, le)))
-
 module _ (p : Parts) (v : Stack) (g : Grove p.cells p.regions) (o : Opened p v) where
   -- the topmost window's temporaries are those of the window at the last place
   same-temps : drop (slice_index_or v.marks (length v.windows - 1) 0)
@@ -32,9 +21,9 @@ module _ (p : Parts) (v : Stack) (g : Grove p.cells p.regions) (o : Opened p v) 
       let many = o.as_many in
       let last : length v.windows - 1 ≡ length v.marks - 1 = omega (arith, many) in
       let end : slice_index_or v.marks (length v.windows - 1 + 1) (length v.temps) ≡ length v.temps =
-      past-end v.marks (length v.windows - 1 + 1) (length v.temps) (omega (arith, many, some)) in
+      get_or_past v.marks (length v.windows - 1 + 1) (length v.temps) (omega (arith, many, some)) in
       let all : take (slice_index_or v.marks (length v.windows - 1 + 1) (length v.temps)) v.temps ≡ v.temps =
-      ap (λ n. take n v.temps) end ∙ take-whole (length v.temps) v.temps (omega arith) in
+      ap (λ n. take n v.temps) end ∙ take_all (length v.temps) v.temps (omega arith) in
       ap (drop (slice_index_or v.marks (length v.windows - 1) 0)) all ∙ ap (λ n. drop (slice_index_or v.marks n 0) v.temps) last
 
   pub top-temp : (i s : ℕ) → slice_get (top_temps v) i ≡ Some s → IsTempOf v (length v.windows - 1) s

@@ -4,13 +4,14 @@ use Rattle.std.proofs.Common.{slice_get, refl, sym, ap, ◌∙◌, subst, arith}
 use Rattle.std.proofs.lemmas.Bool.{cases_eq}
 use Rattle.std.proofs.lemmas.Option.{none-some, same_Some, slice_get-map, slice_get_within}
 use Rattle.rg_base.specs.declared.object.Label.{Label}
-use Rattle.rg_base.specs.declared.object.Label.TheVariants.{Region, Temp, Frozen}
+use Rattle.rg_base.specs.declared.object.Label.TheVariants.{Region}
 use Rattle.rg_base.specs.declared.object.Seen.{Seen}
 use Rattle.rg_base.specs.declared.value.Val.{Val}
 use Rattle.rg_base.specs.declared.value.Val.TheVariants as val
 use Rattle.rg_base.specs.declared.value.Word.{Word}
 use Rattle.rg_base.specs.declared.value.Word.TheVariants as word
 use Rattle.rg_rules.specs.Regions.{among, region_of, region_at}
+use Rattle.rg_sound.proofs.LocalRootsLemmas.{label-region}
 use Rattle.rg_cells.specs.declared.cell.Body.{Body}
 use Rattle.rg_cells.specs.Table.{Heap, body_at, label_at, Serials}
 use Rattle.rg_regions.specs.Table.{RegionTable, InTable}
@@ -79,11 +80,6 @@ word-back h ws k x e = by (slice_get ws k) refl
     by (Some w) f =
         (w, f, same_Some (val_of h w) x (sym (slice_get-map (val_of h) ws k ∙ ap (option_map (val_of h)) f) ∙ e))
 
-region-is : (l : Label) (r : ℕ) → region_of l ≡ Some r → l ≡ Region r
-region-is (Region q) r e = ap Region (same_Some q r e)
-region-is (Temp n) r e = absurd (none-some r e)
-region-is Frozen r e = absurd (none-some r e)
-
 pub gone-region : (r : ℕ) → gone.label ≡ Region r → ⊥
 gone-region r e = let c : None ≡ Some r = ap region_of e in none-some r c
 
@@ -98,7 +94,7 @@ region-back h a r q e = by (slice_get (store_of h) a) refl
     by : (o : Option Seen) → slice_get (store_of h) a ≡ o → (s : ℕ) × (b : Body) × (body_at h s ≡ Some b) × (b.serial ≡ a) × LiesIn h r s
     by None f = absurd (none-some r (sym (ap (option_and_then (λ (o : Seen). region_of o.label)) f) ∙ e))
     by (Some o) f =
-        let lies : o.label ≡ Region r = region-is o.label r (sym (ap (option_and_then (λ (o : Seen). region_of o.label)) f) ∙ e) in
+        let lies : o.label ≡ Region r = label-region o.label r (sym (ap (option_and_then (λ (o : Seen). region_of o.label)) f) ∙ e) in
         elim (store-back h a o f) [
           | inl x ↦
               (x.slot, x.body, x.held, x.serial, label-in h x.slot x.body (Region r) x.held (sym (ap (λ (o : Seen). o.label) x.shown) ∙ lies))

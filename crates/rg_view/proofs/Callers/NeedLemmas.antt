@@ -2,10 +2,8 @@
 use Rattle.std.proofs.Common.{◌≡◌, ◌≢◌, ◌≤◌, ◌<◌, ◌==◌, ◌||◌, ◌&&◌, ◌⊎◌, inl, inr, ℕ, zero, suc, ◌-◌, Bool as Truth, true, false, cond, not}
 use Rattle.std.proofs.Common.{List, [], ◌∷◌, map, length, Option, Some, None, option_map, slice_get, unwrap_or, count_by, nat_le}
 use Rattle.std.proofs.Common.{refl, sym, ap, ◌∙◌, subst, arith}
-use Rattle.std.specs.List.{sum_by}
 use Rattle.std.proofs.lemmas.Bool.{false≢true, cases_eq}
 use Rattle.std.proofs.lemmas.Option.{none-some, same_Some, slice_get-map}
-use Rattle.std.proofs.lemmas.List.Sums.{sum_by-cons}
 use Rattle.rg_base.specs.declared.object.Label.{Label}
 use Rattle.rg_base.specs.declared.object.Label.TheVariants.{Region, Temp, Frozen}
 use Rattle.rg_base.specs.declared.object.Seen.{Seen}
@@ -29,6 +27,7 @@ use Rattle.rg_heap.specs.Answers.{val_of, IsClosed, LeadsIntoClosed}
 use Rattle.rg_heap.specs.Opened.{Opened}
 use Rattle.rg_heap.specs.Writes.{Stays, Ownerless, Comes, IsTemp, InActive, LeadsOut}
 use Rattle.rg_heap.specs.Moves.{NotBeneath}
+use Rattle.rg_held.proofs.Lists.{sum-one}
 use Rattle.rg_view.specs.View.{object_of, store_of, windows_of, frames_of, managers_of, machine_of}
 use Rattle.rg_view.specs.Numbers.{Numbers}
 use Rattle.rg_view.proofs.ListLemmas.{eq-true, eq-not}
@@ -42,19 +41,13 @@ use Rattle.rg_view.proofs.Callers.OpenLemmas.{into-there, closed-there}
 
 -- Counts
 
-pub sum-hit : {A : Type 0} (f : A → ℕ) (xs : List A) (i : ℕ) (x : A) → slice_get xs i ≡ Some x → f x ≤ sum_by f xs
-sum-hit f [] i x e = absurd (none-some x e)
-sum-hit f (y ∷ xs) zero x e =
-    let c = sum_by-cons f y xs in let same : f y ≡ f x = ap f (same_Some y x e) in omega (arith, c, same)
-sum-hit f (y ∷ xs) (suc i) x e = let c = sum_by-cons f y xs in let h = sum-hit f xs i x e in omega (arith, c, h)
-
 -- one where a test passes
 abbrev pub weight : Truth → ℕ
 weight b = cond b 1 0
 
 pub count-hit : {A : Type 0} (test : A → Truth) (xs : List A) (i : ℕ) (x : A) → slice_get xs i ≡ Some x → test x ≡ true → 1 ≤ count_by test xs
 count-hit test xs i x e is =
-    let h : weight (test x) ≤ count_by test xs = sum-hit (λ x. weight (test x)) xs i x e in
+    let h : weight (test x) ≤ count_by test xs = sum-one (λ x. weight (test x)) xs i x e in
     let one : weight (test x) ≡ weight true = ap weight is in
     omega (arith, h, one)
 
@@ -175,7 +168,7 @@ module _ (p : Parts) (v : Stack) (at : ℕ) (q : Serials p.cells.heap) (g : Grov
           (count_by (is_into (store_of p.cells.heap) r) (map (val_of p.cells.heap) b.fields)) 0
           ≡ count_by (is_into (store_of p.cells.heap) r) (map (val_of p.cells.heap) b.fields) =
           ap (λ t. cond t (count_by (is_into (store_of p.cells.heap) r) (map (val_of p.cells.heap) b.fields)) 0) outside in
-          let hit = sum-hit (λ (o : Seen). cond (is_outside (windows_of p.regions v) r o.label)
+          let hit = sum-one (λ (o : Seen). cond (is_outside (windows_of p.regions v) r o.label)
           (count_by (is_into (store_of p.cells.heap) r) o.fields) 0) (store_of p.cells.heap) b.serial (object_of p.cells.heap (Some b))
           (store-held p.cells.heap s b q e) in
           omega (arith, one, counts, hit)
@@ -215,7 +208,7 @@ module _ (p : Parts) (v : Stack) (at : ℕ) (q : Serials p.cells.heap) (g : Grov
       by [] e = absurd (false≢true e)
       by (f ∷ fs) e =
           let one = found f.slots (slice_get f.slots i) refl e in
-          let hit = sum-hit (λ (f : Frame). count_by (is_into (store_of p.cells.heap) r) f.slots) (f ∷ fs) 0 f refl in
+          let hit = sum-one (λ (f : Frame). count_by (is_into (store_of p.cells.heap) r) f.slots) (f ∷ fs) 0 f refl in
           omega (arith, one, hit)
 
   -- and where each closed region is owned once, that of a slot of the topmost frame by the slot

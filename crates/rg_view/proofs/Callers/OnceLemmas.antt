@@ -24,6 +24,7 @@ use Rattle.rg_heap.specs.Parts.{Parts}
 use Rattle.rg_heap.specs.Answers.{val_of, IsClosed}
 use Rattle.rg_heap.specs.Ends.{OneOutside}
 use Rattle.rg_heap.specs.Opened.{Opened}
+use Rattle.rg_held.proofs.Lists.{sum-one}
 use Rattle.rg_view.specs.View.{object_of, store_of, window_of, windows_of, managers_of, machine_of}
 use Rattle.rg_view.specs.Numbers.{Numbers}
 use Rattle.rg_view.proofs.ListLemmas.{eq-is, eq-not}
@@ -31,30 +32,30 @@ use Rattle.rg_view.proofs.Callers.LookLemmas.{store-held}
 use Rattle.rg_view.proofs.Callers.ShownLemmas.{field-in}
 use Rattle.rg_view.proofs.Callers.ManagerLemmas.{managers-length}
 use Rattle.rg_view.proofs.Callers.OpenLemmas.{any-in, any-map, any-reverse, closed-not-open, into-there}
-use Rattle.rg_view.proofs.Callers.NeedLemmas.{keyed, sum-hit, weight, all_below-at}
+use Rattle.rg_view.proofs.Callers.NeedLemmas.{keyed, weight, all_below-at}
 use Rattle.rg_view.proofs.Callers.HeldLemmas.{TempsOfWindows}
 
 -- two elements together
-sum-two : {A : Type 0} (f : A → ℕ) (xs : List A) (i j : ℕ) (x y : A) → slice_get xs i ≡ Some x → slice_get xs j ≡ Some y → i ≢ j
+pub sum-two : {A : Type 0} (f : A → ℕ) (xs : List A) (i j : ℕ) (x y : A) → slice_get xs i ≡ Some x → slice_get xs j ≡ Some y → i ≢ j
     → f x + f y ≤ sum_by f xs
 sum-two f [] i j x y e g d = absurd (none-some x e)
 sum-two f (z ∷ xs) zero zero x y e g d = absurd (d refl)
 sum-two f (z ∷ xs) zero (suc j) x y e g d =
     let c = sum_by-cons f z xs in
     let same : f z ≡ f x = ap f (same_Some z x e) in
-    let h = sum-hit f xs j y g in
+    let h = sum-one f xs j y g in
     omega (arith, c, same, h)
 sum-two f (z ∷ xs) (suc i) zero x y e g d =
     let c = sum_by-cons f z xs in
     let same : f z ≡ f y = ap f (same_Some z y g) in
-    let h = sum-hit f xs i x e in
+    let h = sum-one f xs i x e in
     omega (arith, c, same, h)
 sum-two f (z ∷ xs) (suc i) (suc j) x y e g d =
     let c = sum_by-cons f z xs in
     let h = sum-two f xs i j x y e g (λ is. d (ap suc is)) in
     omega (arith, c, h)
 
-count-two : {A : Type 0} (test : A → Truth) (xs : List A) (i j : ℕ) (x y : A) → slice_get xs i ≡ Some x → slice_get xs j ≡ Some y
+pub count-two : {A : Type 0} (test : A → Truth) (xs : List A) (i j : ℕ) (x y : A) → slice_get xs i ≡ Some x → slice_get xs j ≡ Some y
     → test x ≡ true → test y ≡ true → i ≢ j → 2 ≤ count_by test xs
 count-two test xs i j x y e g a b d =
     let h : weight (test x) + weight (test y) ≤ count_by test xs = sum-two (λ x. weight (test x)) xs i j x y e g d in
@@ -122,7 +123,7 @@ module _ (p : Parts) (v : Stack) (at : ℕ) (q : Serials p.cells.heap) (g : Grov
       let is = weighs-is r s k x in
       let hit : weight (is_into (store_of p.cells.heap) r x.value)
       ≤ count_by (is_into (store_of p.cells.heap) r) (map (val_of p.cells.heap) x.body.fields) =
-      sum-hit (λ x. weight (is_into (store_of p.cells.heap) r x)) (map (val_of p.cells.heap) x.body.fields) k x.value x.stands in
+      sum-one (λ x. weight (is_into (store_of p.cells.heap) r x)) (map (val_of p.cells.heap) x.body.fields) k x.value x.stands in
       let one : weight (is_into (store_of p.cells.heap) r x.value) ≡ weight true = ap weight x.into in
       omega (arith, is, hit, one)
 
@@ -157,7 +158,7 @@ module _ (p : Parts) (v : Stack) (at : ℕ) (q : Serials p.cells.heap) (g : Grov
         let is = weighs-is r s k x in
         let hit : weighs r (object_of p.cells.heap (Some x.body))
         ≤ fields_into (store_of p.cells.heap) (windows_of p.regions v) r (store_of p.cells.heap) =
-        sum-hit (weighs r) (store_of p.cells.heap) x.body.serial (object_of p.cells.heap (Some x.body))
+        sum-one (weighs r) (store_of p.cells.heap) x.body.serial (object_of p.cells.heap (Some x.body))
         (store-held p.cells.heap s x.body q x.held) in
         absurd (omega (arith, two, is, hit, most))
   ]
@@ -196,6 +197,6 @@ module _ (p : Parts) (v : Stack) (at : ℕ) (q : Serials p.cells.heap) (g : Grov
       let one = weighs-one r s k x in
       let hit : weighs r (object_of p.cells.heap (Some x.body))
       ≤ fields_into (store_of p.cells.heap) (windows_of p.regions v) r (store_of p.cells.heap) =
-      sum-hit (weighs r) (store_of p.cells.heap) x.body.serial (object_of p.cells.heap (Some x.body))
+      sum-one (weighs r) (store_of p.cells.heap) x.body.serial (object_of p.cells.heap (Some x.body))
       (store-held p.cells.heap s x.body q x.held) in
       omega (arith, one, hit)

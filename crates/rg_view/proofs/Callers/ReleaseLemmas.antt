@@ -5,6 +5,7 @@ use Rattle.std.proofs.lemmas.Bool.{false≢true}
 use Rattle.std.proofs.lemmas.Option.{none-some, same_Some}
 use Rattle.rg_base.specs.declared.object.Label.{Label}
 use Rattle.rg_base.specs.declared.object.Label.TheVariants.{Region, Temp, Frozen}
+use Rattle.rg_base.proofs.Callers.Labels.{region-same, frozen-region, temp-region}
 use Rattle.rg_rules.specs.Regions.{among, in_regions}
 use Rattle.rg_cells.specs.declared.cell.Body.{Body}
 use Rattle.rg_cells.specs.Table.{body_at, label_at, Serials, IsHeld}
@@ -30,17 +31,8 @@ frozen-stays : (regions : List ℕ) (temps : Option ℕ) → goes regions temps 
 frozen-stays regions None = refl
 frozen-stays regions (Some n) = refl
 
-temp-region : (n r : ℕ) → Some (Temp n) ≡ Some (Region r) → ⊥
-temp-region n r e = cc
-
-same-region : (r q : ℕ) → Some (Region r) ≡ Some (Region q) → r ≡ q
-same-region r q e = cc
-
 same-temp : (n m : ℕ) → Some (Temp n) ≡ Some (Temp m) → n ≡ m
 same-temp n m e = cc
-
-frozen-region : (r : ℕ) → Some Frozen ≡ Some (Region r) → ⊥
-frozen-region r e = cc
 
 frozen-temp : (n : ℕ) → Some Frozen ≡ Some (Temp n) → ⊥
 frozen-temp n e = cc
@@ -78,7 +70,7 @@ module _ (old new : Parts) (Gone Cell : ℕ → Type 0) (regions : List ℕ) (te
             test = ap (goes regions temps) is ∙ ap (λ t. t || is_temp temps (Region q)) a ∙ no-temp temps q;
             same =
                 r.cells s (λ p g l.
-                let one = same-region p q (sym l ∙ lies) in
+                let one = region-same p q (sym l ∙ lies) in
                 false≢true (sym a ∙ ap (among regions) (sym one) ∙ names.all p g))
                 (λ c. let t = cells.only s c in temp-region t.0 q (sym t.1 ∙ lies)) ∙ e;
           })

@@ -1,11 +1,12 @@
 -- What managers and windows show where the records of a table change.
-use Rattle.std.proofs.Common.{◌≡◌, ◌⊎◌, inl, inr, ℕ, List, Option, Some, None, IsSome, slice_get, refl, sym, ap, ◌∙◌, arith}
+use Rattle.std.proofs.Common.{◌≡◌, ◌⊎◌, inl, inr, ℕ, List, Some, None, slice_get, refl, sym, ap, ◌∙◌, arith}
 use Rattle.std.proofs.Common.{reverse, [], ◌∷◌, ◌++◌, zero, suc}
 use Rattle.std.proofs.lemmas.Bool.{cases_eq}
 use Rattle.std.proofs.lemmas.List.{reverse-append}
 use Rattle.std.proofs.lemmas.Option.{none-some, same_Some}
 use Rattle.rg_base.specs.declared.words.Manager.{Manager}
 use Rattle.rg_regions.specs.Table.{Record, RegionTable, record_at, IsKey, with_room}
+use Rattle.rg_regions.proofs.Callers.Told.{record_of_key}
 use Rattle.rg_frames.specs.declared.rows.Window.{Window as WindowRow}
 use Rattle.rg_frames.specs.Stack.{Stack}
 use Rattle.rg_heap.specs.Changes.{Rewritten, SameRecords, Opens}
@@ -36,19 +37,11 @@ reverse-back (y ∷ xs) i x e =
     last zero f = (0, f)
     last (suc j) f = absurd (none-some x f)
 
--- a key of the table has a record
-pub record-there : (t : RegionTable) (key : ℕ) → IsKey t key → (r : Record) × (record_at t key ≡ Some r)
-record-there t key h = there (record_at t key) h
-  where
-    there : (o : Option Record) → IsSome o → (r : Record) × (o ≡ Some r)
-    there None q = absurd cc
-    there (Some r) q = (r, refl)
-
 -- a record that changes but for its number and manager
 pub rewritten-numbers : (old new : RegionTable) (key : ℕ) (f : Record → Record) → Rewritten old new key f → IsKey old key
     → ((r : Record) → (f r).number ≡ r.number) → ((r : Record) → (f r).manager ≡ r.manager) → SameNumbers old new
 rewritten-numbers old new key f w known number manager =
-    let r = record-there old key known in
+    let r = record_of_key old key known in
     let now = w.is r.0 r.1 in
     record {
       next = w.next;
@@ -85,7 +78,7 @@ number-at t key r e = ap number_in e
 -- a key whose record keeps its number
 pub same-number : (old new : RegionTable) (key : ℕ) → SameNumbers old new → IsKey old key → number_of new key ≡ number_of old key
 same-number old new key s known =
-    let u = record-there old key known in
+    let u = record_of_key old key known in
     let r = s.back key u.0 u.1 in
     number-at new key r.0 r.1 ∙ sym r.2 ∙ sym (number-at old key u.0 u.1)
 
@@ -103,7 +96,7 @@ same-windows old new v s known = kept-windows old new v (λ i w e. same-number o
 pub opens-windows : (old new : RegionTable) (v : Stack) (key slot : ℕ) (manager : Manager) → Opens old new key slot manager
     → ((i : ℕ) (w : WindowRow) → slice_get v.windows i ≡ Some w → IsKey old w.region) → windows_of new v ≡ windows_of old v
 opens-windows old new v key slot manager o known = kept-windows old new v (λ i w e.
-    let r = record-there old w.region (known i w e) in
+    let r = record_of_key old w.region (known i w e) in
     ap number_in (o.others w.region (λ is. none-some r.0 (sym o.vacant ∙ ap (record_at old) (sym is) ∙ r.1))))
 
 -- Some regions go, and the others keep their records' numbers and managers.

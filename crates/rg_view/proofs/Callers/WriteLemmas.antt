@@ -6,6 +6,7 @@ use Rattle.std.proofs.lemmas.Option.{none-some, same_Some, slice_get_past}
 use Rattle.std.proofs.lemmas.List.{map-set}
 use Rattle.rg_base.specs.declared.value.Word.{Word}
 use Rattle.rg_base.specs.declared.value.Word.TheVariants as word
+use Rattle.rg_sound.proofs.Owners.OwnerLemmas.{get-set, get-set-other}
 use Rattle.rg_cells.specs.declared.cell.Body.{Body}
 use Rattle.rg_cells.specs.Table.{Heap, body_in, body_at, with_body, with_field, Serials}
 use Rattle.rg_cells.proofs.SerialsKept.{serials_of}
@@ -30,18 +31,6 @@ set-beside (y ∷ xs) zero zero x d = absurd (d refl)
 set-beside (y ∷ xs) zero (suc i) x d = refl
 set-beside (y ∷ xs) (suc s) zero x d = refl
 set-beside (y ∷ xs) (suc s) (suc i) x d = set-beside xs s i x (λ e. d (ap suc e))
-
-get-there : {A : Type 0} (xs : List A) (k : ℕ) (x y : A) → slice_get xs k ≡ Some y → slice_get (slice_set xs k x) k ≡ Some x
-get-there [] k x y h = absurd (none-some y h)
-get-there (z ∷ xs) zero x y h = refl
-get-there (z ∷ xs) (suc k) x y h = get-there xs k x y h
-
-get-beside : {A : Type 0} (xs : List A) (k i : ℕ) (x : A) → i ≢ k → slice_get (slice_set xs k x) i ≡ slice_get xs i
-get-beside [] k i x n = refl
-get-beside (z ∷ xs) zero zero x n = absurd (n refl)
-get-beside (z ∷ xs) zero (suc i) x n = refl
-get-beside (z ∷ xs) (suc k) zero x n = refl
-get-beside (z ∷ xs) (suc k) (suc i) x n = get-beside xs k i x (λ e. n (ap suc e))
 
 module _ (h : Heap) (slot k : ℕ) (w : Word) (b : Body) (e : body_at h slot ≡ Some b) where
   -- the body behind the write, and the heap
@@ -117,9 +106,9 @@ module _ (h : Heap) (slot k : ℕ) (w : Word) (b : Body) (e : body_at h slot ≡
         ap (slice_get (store_of after)) is
         ∙ store-at after b.serial (let n = written-next in omega (arith, n, lt))
         ∙ ap Some (shown-there q)
-        ∙ sym (get-there (store_of h) b.serial new (object_of h (Some b)) (store-held h slot b q e))
+        ∙ sym (get-set (store_of h) b.serial new (object_of h (Some b)) (store-held h slot b q e))
         ∙ ap (slice_get (slice_set (store_of h) b.serial new)) (sym is)
-    | inr d ↦ beside d ∙ sym (get-beside (store_of h) b.serial i (with_value_in (object_of h (Some b)) k (val_of h w)) d)
+    | inr d ↦ beside d ∙ sym (get-set-other (store_of h) b.serial i (with_value_in (object_of h (Some b)) k (val_of h w)) d)
   ]
     where
       beside : i ≢ b.serial → slice_get (store_of after) i ≡ slice_get (store_of h) i

@@ -1,5 +1,5 @@
 use Rattle.std.proofs.Common.{◌≡◌, sym, ap, subst, ◌∙◌}
-use Rattle.rg_input.proofs.InputLemmas.{OnInput-map}
+use Rattle.rg_input.proofs.InputLemmas.{OnInput-map, OnInput-some}
 use Rattle.rg_input.specs.Numbers.{OnInput}
 use Rattle.rg_machine.specs.Parts.{Parts, core_of, machine_in}
 use Rattle.rg_stack.specs.Machine.{Machine}
@@ -10,7 +10,6 @@ use Rattle.rg_step.specs.Inner.Refusals.{DidLeaves, asks_at}
 use Rattle.rg_step.specs.Inner.Serving.{answer}
 use Rattle.rg_step.specs.Inner.Walks.{StepIs}
 use Rattle.rg_step.specs.Steps.{StepsOn, is_made}
-use Rattle.rg_step.proofs.AskLemmas.{OnInput-some}
 use Rattle.rg_step.proofs.FreesLemmas.{did-frees, table-frees}
 use Rattle.rg_step.proofs.OutcomeLemmas.{answer-fault, answer-leaves, answer-settles, never-lost}
 use Rattle.rg_step.proofs.RunLemmas.{runs-ask, runs-given, runs-orderly, unasked-there}

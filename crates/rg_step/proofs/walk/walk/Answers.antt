@@ -9,8 +9,9 @@ use Rattle.rg_step.proofs.TurnLemmas.{given-here, past-code, turn-on, turn-to, t
 use Rattle.rg_step.proofs.StandsLemmas.{stands-on, stands-to, stands-back, stands-left, stands-asking, stands-number, stands-free, stands-roomless}
 use Rattle.rg_step.specs.Inner.High.{MayMake, OneAtMost}
 use Rattle.rg_step.proofs.HighLemmas.{high-asks, high-back, high-ends, high-free, high-none, high-on, high-to}
-use Rattle.rg_step.proofs.LeavesLemmas.{on-backs, to-backs, asks-backs, room-backs, same-back}
+use Rattle.rg_step.proofs.LeavesLemmas.{on-backs, to-backs, asks-backs, room-backs}
 use Rattle.rg_machine.specs.Parts.{core_of, machine_in}
+use Rattle.rg_machine.proofs.RetLemmas.{same-back}
 use Rattle.rg_step.proofs.walk.walk.Goals as goal
 
 pub simple-requires : goal.simple-requires

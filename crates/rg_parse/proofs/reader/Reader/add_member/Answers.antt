@@ -1,7 +1,8 @@
 use Rattle.std.proofs.Common.{ap, arith}
+use Rattle.rg_base.proofs.Callers.Lists.{below}
 use Rattle.rg_parse.specs.Inner.Steps.{kept}
 use Rattle.rg_parse.proofs.Exits.{no-ok, no-value, no-memory}
-use Rattle.rg_parse.proofs.Growing.{member-means, below}
+use Rattle.rg_parse.proofs.Growing.{member-means}
 use Rattle.rg_parse.proofs.reader.Reader.add_member.Goals as goal
 
 pub add_member-requires : goal.add_member-requires

@@ -1,7 +1,8 @@
 use Rattle.std.proofs.Common.{ap, arith}
+use Rattle.rg_base.proofs.Callers.Lists.{below}
 use Rattle.rg_parse.specs.Inner.Steps.{kept}
 use Rattle.rg_parse.proofs.Exits.{no-ok, no-value, no-memory}
-use Rattle.rg_parse.proofs.Growing.{param-means, below}
+use Rattle.rg_parse.proofs.Growing.{param-means}
 use Rattle.rg_parse.proofs.reader.Reader.add_param.Goals as goal
 
 pub add_param-requires : goal.add_param-requires

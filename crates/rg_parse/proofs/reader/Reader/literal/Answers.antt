@@ -3,8 +3,9 @@ use Rattle.rg_tree.specs.Phrases as p
 use Rattle.rg_tree.specs.Table.{row}
 use Rattle.rg_parse.proofs.Tokens.{exit}
 use Rattle.rg_parse.proofs.Halting.{halts-here, halts-row}
-use Rattle.rg_parse.proofs.ExprRows.{literal-row, literal-found}
+use Rattle.rg_parse.proofs.ExprRows.{literal-found}
 use Rattle.rg_tree.specs.Rows.Tables.{at_first}
+use Rattle.rg_tree.proofs.ByRows.{literal_of-row as literal-row}
 use Rattle.rg_parse.proofs.reader.Reader.literal.Goals as goal
 
 pub returns-in_err-take-clause-fault : goal.returns-in_err-take-clause-fault
