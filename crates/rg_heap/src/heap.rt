@@ -192,7 +192,6 @@ impl Heap {
         ensures heap { self.new.cells.heap ≡ with_field self.old.cells.heap slot k w }
         ensures regions { self.new.regions ≡ self.old.regions }
     {
-        let _ = frames;
         let old = self.cells.field(slot, k);
         self.cells.set_field(slot, k, w);
         old

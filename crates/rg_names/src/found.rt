@@ -90,9 +90,8 @@ impl Found {
                 if self.methods == u32::MAX {
                     return Err(Stop::Memory);
                 }
-                let number = self.methods;
                 let sig = Sig {
-                    number,
+                    number: self.methods,
                     cap,
                     params,
                     result,
