@@ -5,8 +5,9 @@ use Rattle.std.proofs.Common.{length-append}
 use Rattle.std.specs.List.{list_any}
 use Rattle.std.proofs.Math.Seq.{take-append_seam}
 use Rattle.std.proofs.lemmas.List.{reverse-append, reverse-reverse, length-reverse, map-append, take-map, take-append-drop, length-drop, length-set}
-use Rattle.std.proofs.lemmas.List.{length-take-le, drop_all}
+use Rattle.std.proofs.lemmas.List.{length-take-le, drop_all, take_all as take-all}
 use Rattle.std.proofs.lemmas.Option.{none-some, same_Some}
+use Rattle.std.proofs.lemmas.Bool.{false_from_ne_true as never}
 use Rattle.rg_base.specs.declared.value.Val.{Val}
 use Rattle.rg_base.specs.declared.value.Word.{Word}
 use Rattle.rg_base.specs.declared.value.Word.TheVariants.{Nil, Slot}
@@ -26,7 +27,7 @@ use Rattle.rg_heap.specs.Answers.{IsClosed, val_of}
 use Rattle.rg_view.specs.Lain.{Nested}
 use Rattle.rg_view.specs.View.{values_of, frames_of, window_of, store_of, managers_of}
 use Rattle.rg_view.proofs.Callers.FrameLemmas.{map-nil, pushed-lain, popped-lain, pushed-frames, slot-frames}
-use Rattle.rg_view.proofs.Callers.OpenLemmas.{any-back, never}
+use Rattle.rg_view.proofs.Callers.OpenLemmas.{any-back}
 use Rattle.rg_view.proofs.Callers.ShownLemmas.{get-take, get-drop}
 use Rattle.rg_machine.specs.Core.{Core, called_frame, with_machine}
 use Rattle.rg_machine.specs.Frames.{called_words, cleared, cleared_stack}
@@ -159,7 +160,7 @@ all-popped p v f words l k w e =
     (v.slot_room + (length v.slots - v.first)) w (l k w e)
 
 -- what stands in a list behind a write of nil
-got-nil : (xs : List Word) (k j s : ℕ) → slice_get (slice_set xs k Nil) j ≡ Some (Slot s) → slice_get xs j ≡ Some (Slot s)
+pub got-nil : (xs : List Word) (k j s : ℕ) → slice_get (slice_set xs k Nil) j ≡ Some (Slot s) → slice_get xs j ≡ Some (Slot s)
 got-nil [] k j s e = absurd cc
 got-nil (x ∷ xs) zero zero s e = absurd cc
 got-nil (x ∷ xs) zero (suc j) s e = e
@@ -196,12 +197,6 @@ all-called p v given slots stack l k w e =
     by (inr f) = subst (Leads p v) (is-nil (slots - given) f.1 f.2) (leads-nil p v)
 
 -- Values
-
-take-all : {A : Type 0} → (n : ℕ) (xs : List A) → length xs ≤ n → take n xs ≡ xs
-take-all zero [] le = refl
-take-all (suc n) [] le = refl
-take-all zero (x ∷ xs) le = absurd (omega (arith, le))
-take-all (suc n) (x ∷ xs) le = ap (λ ys. x ∷ ys) (take-all n xs (omega (arith, le)))
 
 -- the first so many of the reversed list, reversed, are its last ones
 last-few : (ws : List Word) (n : ℕ) → reverse (take n (reverse ws)) ≡ drop (length ws - n) ws

@@ -1,13 +1,14 @@
 -- What stands behind a collection of the active region: what its roots lead to is kept, and nothing that stays leads into a region that went.
 use Rattle.std.proofs.Common.{◌≡◌, ◌≤◌, ◌<◌, inl, inr, ℕ, ◌+◌, ◌-◌, true, drop, length}
 use Rattle.std.proofs.Common.{Option, Some, None, option_map, option_and_then, slice_get, refl, sym, ap, ◌∙◌, subst, arith}
-use Rattle.std.proofs.lemmas.Bool.{cases_eq}
+use Rattle.std.proofs.lemmas.Bool.{cases_eq, false_from_ne_true as never, cases_lt as order}
 use Rattle.std.proofs.lemmas.Option.{none-some, same_Some, slice_get_within}
 use Rattle.rg_base.specs.declared.object.Label.{Label}
 use Rattle.rg_base.specs.declared.object.Label.TheVariants.{Region, Temp}
 use Rattle.rg_base.specs.declared.value.Word.{Word}
 use Rattle.rg_base.specs.declared.value.Word.TheVariants as word
 use Rattle.rg_base.proofs.Callers.Labels.{region-same, temp-region}
+use Rattle.rg_base.proofs.Callers.Lists.{there}
 use Rattle.rg_cells.specs.declared.cell.Body.{Body}
 use Rattle.rg_cells.specs.Table.{body_at, label_at, field_at, Serials, IsHeld}
 use Rattle.rg_regions.specs.Collection.{Lost, roots_of}
@@ -26,17 +27,16 @@ use Rattle.rg_heap.specs.Ends.{top_temps}
 use Rattle.rg_heap.specs.Opened.{Opened, IsWindow, IsTempOf}
 use Rattle.rg_heap.specs.Parts.{Parts}
 use Rattle.rg_view.specs.View.{store_of, windows_of, machine_of}
-use Rattle.rg_view.proofs.Callers.FrameLemmas.{there}
 use Rattle.rg_view.proofs.Callers.HeldLemmas.{all-lead}
 use Rattle.rg_view.proofs.Callers.LeaveLemmas.{temp-top}
 use Rattle.rg_view.proofs.Callers.NeedLemmas.{keyed, field-counts, closed-not-above}
 use Rattle.rg_view.proofs.Callers.OnceLemmas.{outside-once}
-use Rattle.rg_view.proofs.Callers.OpenLemmas.{not-open-closed, never, number-is, open-back, window-open}
+use Rattle.rg_view.proofs.Callers.OpenLemmas.{not-open-closed, number-is, open-back, window-open}
 use Rattle.rg_view.proofs.Callers.ShownLemmas.{get-drop, held-body, body-held}
 use Rattle.rg_view.proofs.Callers.TableLemmas.{FewerNumbers, fewer-numbers}
 use Rattle.rg_view.proofs.Callers.WindowLemmas.{active-region}
 use Rattle.rg_machine.proofs.KeptLemmas.{bridged-as}
-use Rattle.rg_machine.proofs.ReleaseLemmas.{order, temp-window, most-one, slot-counts-one}
+use Rattle.rg_machine.proofs.ReleaseLemmas.{temp-window, most-one, slot-counts-one}
 use Rattle.rg_machine.proofs.GrowLemmas.{field-held}
 use Rattle.rg_machine.specs.Stands.{BeginsBehind, Stands}
 

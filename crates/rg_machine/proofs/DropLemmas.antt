@@ -23,6 +23,7 @@ use Rattle.rg_heap.specs.Answers.{val_of, LeadsIntoClosed}
 use Rattle.rg_heap.specs.Ends.{Released, NoCell, OnSlot, OnRegion}
 use Rattle.rg_heap.specs.Writes.{Ownerless}
 use Rattle.rg_held.specs.Frees.{gone, is_temp, bury, closed_among, forgotten}
+use Rattle.rg_held.proofs.Lists.{reverse-back}
 use Rattle.rg_view.specs.Links.{BelowSome}
 use Rattle.rg_view.specs.Names.{Names}
 use Rattle.rg_view.specs.View.{values_of}
@@ -34,7 +35,7 @@ use Rattle.rg_view.proofs.Callers.NeedLemmas.{keyed, ownerless-loose}
 use Rattle.rg_view.proofs.Callers.OpenLemmas.{closed-there, into-closed}
 use Rattle.rg_view.proofs.Callers.ReleaseLemmas.{kept-same}
 use Rattle.rg_view.proofs.Callers.ShownLemmas.{values-same}
-use Rattle.rg_view.proofs.Callers.TableLemmas.{FewerNumbers, reverse-back}
+use Rattle.rg_view.proofs.Callers.TableLemmas.{FewerNumbers}
 use Rattle.rg_machine.specs.Core.{with_machine}
 use Rattle.rg_machine.specs.Effects.{Apart, without}
 use Rattle.rg_machine.specs.Parts.{Parts, core_of, machine_in, val_in}

@@ -4,7 +4,7 @@ use Rattle.std.proofs.Common.{◌++◌, length, take, drop, replicate, slice_ind
 use Rattle.std.proofs.Common.{slice_set}
 use Rattle.std.proofs.Common.{unwrap_or, refl, sym, ap, ◌∙◌, arith}
 use Rattle.std.specs.Prelude.{filter_map}
-use Rattle.std.proofs.lemmas.Bool.{false≢true}
+use Rattle.std.proofs.lemmas.Bool.{false≢true, or_right as later}
 use Rattle.std.proofs.lemmas.List.{length-replicate}
 use Rattle.std.proofs.lemmas.List.FromFn.{length-map-range_with_len}
 use Rattle.std.proofs.lemmas.List.Elements.{filter_map-append}
@@ -34,10 +34,6 @@ use Rattle.rg_machine.specs.Effects.{ending, without}
 use Rattle.rg_machine.proofs.FewerLemmas.{closed-back, closed-buried, store-without}
 use Rattle.rg_machine.proofs.SlotEndLemmas.{slot-nil}
 use Rattle.rg_machine.proofs.LeaveListLemmas.{spans-names}
-
-later : (t u : Truth) → u ≡ true → (t || u) ≡ true
-later true u e = refl
-later false u e = e
 
 -- Regions that go in two steps
 

@@ -1,8 +1,8 @@
 -- A window on the region that a field owns.
 use Rattle.std.proofs.Common.{◌≡◌, ◌<◌, ℕ, ◌-◌, ◌&&◌, not, nat_lt, Bool as Truth, true, List, [], ◌∷◌, ◌++◌, Option, Some, Ok, Err}
-use Rattle.std.proofs.Common.{length, slice_get, option_map, ◌==◌, refl, sym, ap, ◌∙◌, subst, arith}
+use Rattle.std.proofs.Common.{length, slice_get, option_map, refl, sym, ap, ◌∙◌, subst, arith}
 use Rattle.std.proofs.lemmas.Option.{same_Some}
-use Rattle.std.proofs.lemmas.Bool.{and_parts}
+use Rattle.std.proofs.lemmas.Bool.{and_parts, eqb-true as eq-true}
 use Rattle.rg_base.specs.declared.object.Label.{Label}
 use Rattle.rg_base.specs.declared.object.Label.TheVariants.{Region}
 use Rattle.rg_base.specs.declared.object.Place.TheVariants as place
@@ -27,6 +27,7 @@ use Rattle.rg_stack.specs.Machine.{slot_at, place_of, top_slots}
 use Rattle.rg_stack.specs.Needs.{is_closed, is_empty, is_field, is_writable, field_of, of_object, of_top, owned_once, owns_or_nil}
 use Rattle.rg_stack.specs.Effects.{Go, Traps, address, begins_by, entered, on_object, on_top, top_region}
 use Rattle.rg_held.specs.Frees.{free_act}
+use Rattle.rg_held.proofs.Lists.{append-left as got-there}
 use Rattle.rg_view.specs.View.{machine_of, object_of, store_of, values_of, windows_of}
 use Rattle.rg_view.proofs.Callers.LookLemmas.{val-held}
 use Rattle.rg_view.proofs.Callers.ShownLemmas.{held-body}
@@ -38,11 +39,8 @@ use Rattle.rg_machine.specs.Core.{Has, work_of}
 use Rattle.rg_machine.specs.Frames.{can_open}
 use Rattle.rg_machine.specs.Parts.{core_of}
 use Rattle.rg_machine.specs.Stands.{AllLead, Stands}
-use Rattle.rg_machine.proofs.EnterLemmas.{ParentBeneath, Entered, entered-by, entered_stack, got-there, machine-entered, opens-both}
+use Rattle.rg_machine.proofs.EnterLemmas.{ParentBeneath, Entered, entered-by, entered_stack, machine-entered, opens-both}
 use Rattle.rg_machine.proofs.EnterLemmas.{opens-within}
-
-eq-true : (a b : ℕ) → (a == b) ≡ true → a ≡ b
-eq-true a b h = grind (arith, h)
 
 -- the last word of a stack
 last-word : (rest : List Word) (w : Word) → slice_get (rest ++ w ∷ []) (length rest) ≡ Some w

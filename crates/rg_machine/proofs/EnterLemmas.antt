@@ -1,17 +1,19 @@
 -- A window that comes, over the slot into which its region's bridge goes.
 use Rattle.std.proofs.Common.{◌≡◌, ◌≤◌, ◌<◌, ◌⊎◌, inl, inr, ℕ, zero, suc, ◌+◌, ◌-◌, Bool as Truth, true, false, ◌||◌, List, [], ◌∷◌, ◌++◌}
-use Rattle.std.proofs.Common.{◌==◌, ◌&&◌, not, nat_lt, Ok, Err, if◌then◌else◌, unwrap_or, is_some, option_map, Option, Some, None, length, take, drop}
+use Rattle.std.proofs.Common.{◌&&◌, not, nat_lt, Ok, Err, if◌then◌else◌, unwrap_or, option_map, Option, Some, None, length, take, drop}
 use Rattle.std.proofs.Common.{reverse, slice_get, slice_set, slice_index_or, refl, sym, ap, ◌∙◌, subst, arith}
 use Rattle.std.proofs.Common.{length-append}
 use Rattle.std.specs.List.{list_any}
-use Rattle.std.proofs.lemmas.Bool.{false≢true, and_parts}
+use Rattle.std.proofs.lemmas.Bool.{false≢true, and_parts, eq-eqb as eq-is, cases_lt as order}
 use Rattle.std.proofs.lemmas.List.{length-set, get_or_append_left, get_or_push, get_or_past}
 use Rattle.std.proofs.lemmas.Option.{none-some, same_Some, slice_get_within}
+use Rattle.std.proofs.lemmas.List.Folds.{list_any-append as any-append}
+use Rattle.std.proofs.lemmas.Map.Keys.{any_passes_from_place as any-in}
 use Rattle.rg_base.specs.declared.object.Place.{Place}
 use Rattle.rg_base.specs.declared.object.Label.TheVariants.{Region}
 use Rattle.rg_base.specs.declared.value.Word.{Word}
 use Rattle.rg_base.specs.declared.value.Word.TheVariants.{Nil, Slot}
-use Rattle.rg_cells.specs.Table.{Heap, body_at, label_at, IsHeld}
+use Rattle.rg_cells.specs.Table.{label_at, IsHeld}
 use Rattle.rg_cells.specs.declared.cell.Body.{Body}
 use Rattle.rg_regions.specs.Table.{HasNumber}
 use Rattle.rg_regions.specs.Reach.{LiesIn}
@@ -22,20 +24,20 @@ use Rattle.rg_heap.specs.Parts.{Parts}
 use Rattle.rg_heap.specs.Answers.{IsClosed}
 use Rattle.rg_heap.specs.Opened.{Opened, IsWindow, IsTempOf}
 use Rattle.rg_view.specs.Lain.{Nested}
-use Rattle.rg_view.proofs.Callers.OpenLemmas.{any-append, any-in}
 use Rattle.rg_base.specs.declared.value.Val.{Val}
 use Rattle.rg_stack.specs.Machine.{Frame, Window, Machine, put_slot, place_of, top_slots, with_slots, slot_at}
 use Rattle.rg_stack.specs.Effects.{Walked, Stuck}
 use Rattle.rg_heap.specs.Answers.{val_of}
 use Rattle.rg_view.specs.View.{frames_of, windows_of, number_of, store_of, managers_of, machine_of}
 use Rattle.rg_view.proofs.Callers.OpenLemmas.{number-is}
-use Rattle.rg_view.proofs.Callers.FrameLemmas.{there, top-size, place-there, slot-frames, slot-there, slot-past}
+use Rattle.rg_view.proofs.Callers.FrameLemmas.{top-size, place-there, slot-frames, slot-there, slot-past}
 use Rattle.rg_view.proofs.Callers.WindowLemmas.{opened-windows}
 use Rattle.rg_base.specs.declared.object.Label.{Label}
 use Rattle.rg_base.specs.declared.object.Place.TheVariants as place
 use Rattle.rg_base.specs.declared.object.Seen.{Seen}
 use Rattle.rg_base.specs.declared.outcome.Trap.TheVariants as trap
-use Rattle.rg_base.proofs.Callers.Labels.{region-same}
+use Rattle.rg_base.proofs.Callers.Labels.{region-same, slot-same}
+use Rattle.rg_base.proofs.Callers.Lists.{there}
 use Rattle.rg_tree.proofs.TreesFrom.{slice_get-push}
 use Rattle.rg_rules.specs.Evaluation.{object_at}
 use Rattle.rg_rules.specs.Regions.{region_of}
@@ -43,11 +45,12 @@ use Rattle.rg_code.specs.Code.{empty}
 use Rattle.rg_code.specs.declared.op.Op.TheVariants as i
 use Rattle.rg_cells.specs.Table.{Serials}
 use Rattle.rg_regions.specs.Grove.{Grove}
+use Rattle.rg_regions.proofs.Callers.Told.{lies_held as lies-held}
 use Rattle.rg_heap.proofs.Callers.Opens.{open_not_closed}
 use Rattle.rg_stack.specs.Needs.{is_empty, is_closed, owned_once, owns_or_nil}
 use Rattle.rg_stack.specs.Effects.{Go, Traps, begins_by, entered, frame_number, on_object}
 use Rattle.rg_held.specs.Frees.{free_act}
-use Rattle.rg_held.proofs.Lists.{set-back}
+use Rattle.rg_held.proofs.Lists.{set-back, append-left as got-there}
 use Rattle.rg_view.specs.View.{object_of, values_of}
 use Rattle.rg_view.proofs.Callers.ShownLemmas.{held-body}
 use Rattle.rg_view.proofs.Callers.ReadLemmas.{object-there}
@@ -59,9 +62,6 @@ use Rattle.rg_machine.specs.Parts.{core_of}
 use Rattle.rg_machine.specs.Keeps.{SameBacks, backs}
 use Rattle.rg_machine.specs.Stands.{Leads, AllLead, Stands}
 
-eq-is : (a b : ℕ) → a ≡ b → (a == b) ≡ true
-eq-is a b h = grind (arith, h)
-
 -- Lists that get one element more, or another one
 
 got-append : {A : Type 0} (xs : List A) (new : A) (k : ℕ) (x : A) → slice_get (xs ++ new ∷ []) k ≡ Some x
@@ -71,22 +71,11 @@ got-append [] new (suc k) x e = absurd (none-some x e)
 got-append (y ∷ ys) new zero x e = inl e
 got-append (y ∷ ys) new (suc k) x e = elim (got-append ys new k x e) [ inl a ↦ inl a | inr a ↦ inr (ap suc a.0, a.1) ]
 
-pub got-there : {A : Type 0} (xs ys : List A) (k : ℕ) (x : A) → slice_get xs k ≡ Some x → slice_get (xs ++ ys) k ≡ Some x
-got-there [] ys k x e = absurd (none-some x e)
-got-there (y ∷ xs) ys zero x e = e
-got-there (y ∷ xs) ys (suc k) x e = got-there xs ys k x e
-
 drop-past : (xs : List ℕ) (m : ℕ) → drop (length xs) (take m xs) ≡ []
 drop-past [] zero = refl
 drop-past [] (suc m) = refl
 drop-past (x ∷ xs) zero = refl
 drop-past (x ∷ xs) (suc m) = drop-past xs m
-
-order : (a c : ℕ) → (a < c) ⊎ (c ≤ a)
-order zero zero = inr (omega arith)
-order zero (suc c) = inl (omega arith)
-order (suc a) zero = inr (omega arith)
-order (suc a) (suc c) = elim (order a c) [ inl lt ↦ inl (omega (arith, lt)) | inr le ↦ inr (omega (arith, le)) ]
 
 -- where the temporaries of a window end: where those of the next one begin
 end-old : (marks : List ℕ) (n i : ℕ) → i < length marks → slice_index_or (marks ++ n ∷ []) (i + 1) n ≡ slice_index_or marks (i + 1) n
@@ -94,16 +83,6 @@ end-old marks n i lt = elim (order (i + 1) (length marks)) [
   | inl less ↦ get_or_append_left marks (n ∷ []) n (i + 1) less
   | inr le ↦ get_or_push marks n n (i + 1) (omega (arith, lt, le)) ∙ sym (get_or_past marks (i + 1) n le)
 ]
-
-pub slot-same : (a b : ℕ) → Slot a ≡ Slot b → a ≡ b
-slot-same a b e = cc
-
-lies-held : (heap : Heap) (r s : ℕ) → LiesIn heap r s → IsHeld heap s
-lies-held heap r s l = by (body_at heap s) refl
-  where
-    by : (o : Option Body) → body_at heap s ≡ o → IsHeld heap s
-    by None e = absurd (none-some (Region r) (sym (ap (option_map (λ (b : Body). b.label)) e) ∙ l))
-    by (Some b) e = subst (λ (o : Option Body). is_some o ≡ true) (sym e) refl
 
 -- the window beneath a new one has the region of a parent
 abbrev pub ParentBeneath : Parts → Stack → (region : ℕ) → Type 0

@@ -1,10 +1,10 @@
 -- Machines in which fewer places lead into regions: where slots are nil, and where objects are gone.
-use Rattle.std.proofs.Common.{◌≡◌, ◌≤◌, ◌<◌, ◌==◌, ◌||◌, ◌&&◌, ◌⊎◌, inl, inr, ℕ, zero, suc, ◌+◌, ◌-◌, Bool as Truth, true, false, cond, List, [], ◌∷◌}
+use Rattle.std.proofs.Common.{◌≡◌, ◌≤◌, ◌<◌, ◌==◌, ◌||◌, ◌⊎◌, inl, inr, ℕ, zero, suc, ◌+◌, ◌-◌, Bool as Truth, true, false, cond, List, [], ◌∷◌}
 use Rattle.std.proofs.Common.{◌++◌, map, length, take, replicate, Option, Some, None, option_map, option_and_then, slice_get, slice_set}
 use Rattle.std.proofs.Common.{slice_index_or, unwrap_or}
 use Rattle.std.proofs.Common.{if◌then◌else◌, nat_le, refl, sym, ap, ◌∙◌, arith}
 use Rattle.std.specs.List.{sum_by, count_by}
-use Rattle.std.proofs.lemmas.Bool.{false≢true, and_parts}
+use Rattle.std.proofs.lemmas.Bool.{false≢true}
 use Rattle.std.proofs.lemmas.List.FromFn.{length-map-range_with_len}
 use Rattle.std.proofs.lemmas.List.Sums.{sum_by-cons, sum_by-append, sum_by-take-le}
 use Rattle.std.proofs.lemmas.Option.{none-some, same_Some, slice_get-map}
@@ -19,7 +19,7 @@ use Rattle.rg_stack.specs.Machine.{Frame, Window, Machine, top_slots, with_slots
 use Rattle.rg_stack.specs.Effects.{beneath_by_labels}
 use Rattle.rg_stack.specs.Needs.{is_open, label_of, lies_in, is_into, closed_of, closed_into, is_outside, slots_into, fields_into, places_into}
 use Rattle.rg_stack.specs.Needs.{all_below, owned_once, loose}
-use Rattle.rg_stack.proofs.Walks.NeedLemmas.{closed-counts}
+use Rattle.rg_stack.proofs.Walks.NeedLemmas.{closed-counts, below_by as below-more}
 use Rattle.rg_held.specs.Frees.{gone, is_temp, buried, bury, closed_among, lives}
 use Rattle.rg_held.proofs.Places.{once as once-most}
 use Rattle.rg_machine.specs.Core.{Core}
@@ -99,12 +99,6 @@ pub record Fewer (m n : Machine) : Type 0 where
   pub managers : length n.managers ≡ length m.managers
   pub places : (r : ℕ) → places_into n r ≤ places_into m r
   pub closed : (v : Val) (r : ℕ) → closed_into n v ≡ Some r → closed_into m v ≡ Some r
-
-below-more : (n : ℕ) (p q : ℕ → Truth) → ((r : ℕ) → p r ≡ true → q r ≡ true) → all_below n p ≡ true → all_below n q ≡ true
-below-more zero p q h e = refl
-below-more (suc n) p q h e =
-    let x = and_parts (p n) (all_below n p) e in
-    ap (λ b. b && all_below n q) (h n x.0) ∙ below-more n p q h x.1
 
 le-one : (a b : ℕ) → nat_le a 1 ≡ true → b ≤ a → nat_le b 1 ≡ true
 le-one a b e le = grind (arith, e, le)

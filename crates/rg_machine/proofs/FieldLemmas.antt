@@ -9,6 +9,7 @@ use Rattle.rg_base.specs.declared.object.Seen.{Seen}
 use Rattle.rg_base.specs.declared.outcome.Trap.{Trap}
 use Rattle.rg_base.specs.declared.value.Word.{Word}
 use Rattle.rg_base.specs.declared.value.Word.TheVariants as word
+use Rattle.rg_base.proofs.Callers.Lists.{there}
 use Rattle.rg_cells.specs.declared.cell.Body.{Body}
 use Rattle.rg_cells.specs.Table.{Heap, body_at, field_at, label_at, with_field, Serials, IsHeld}
 use Rattle.rg_regions.specs.Table.{HasNumber, IsBridge}
@@ -26,7 +27,6 @@ use Rattle.rg_heap.specs.Answers.{IsClosed}
 use Rattle.rg_heap.specs.Opened.{IsWindow, IsTempOf}
 use Rattle.rg_view.specs.Numbers.{HasBridges, Numbers}
 use Rattle.rg_view.specs.View.{windows_of, machine_of, object_of, values_of}
-use Rattle.rg_view.proofs.Callers.FrameLemmas.{there}
 use Rattle.rg_view.proofs.Callers.WindowLemmas.{active-number}
 use Rattle.rg_view.proofs.Callers.OpenLemmas.{closed-not-open, open-back, window-open, not-open-closed}
 use Rattle.rg_view.proofs.Callers.NeedLemmas.{keyed, stays}

@@ -2,8 +2,9 @@
 use Rattle.std.proofs.Common.{◌≡◌, ◌≢◌, ◌⊎◌, inl, inr, ℕ, ◌+◌, ◌-◌, Bool as Truth, true, false, List, [], ◌∷◌, ◌++◌, reverse, length}
 use Rattle.std.proofs.Common.{Option, Some, None, Err, option_map, slice_get, unwrap_or, drop, refl, sym, ap, ◌∙◌, subst}
 use Rattle.std.specs.List.{list_any}
-use Rattle.std.proofs.lemmas.Bool.{cases_eq, false≢true}
+use Rattle.std.proofs.lemmas.Bool.{cases_eq, false≢true, eq-eqb as eq-is}
 use Rattle.std.proofs.lemmas.Option.{none-some, same_Some, slice_get-map}
+use Rattle.std.proofs.lemmas.Map.Keys.{any_passes_from_place as any-in}
 use Rattle.rg_base.specs.declared.object.Label.TheVariants.{Region, Temp, Frozen}
 use Rattle.rg_base.specs.declared.object.Seen.{Seen}
 use Rattle.rg_base.specs.declared.outcome.Trap.TheVariants as trap
@@ -35,12 +36,13 @@ use Rattle.rg_view.proofs.Callers.LabelLemmas.{Labels, freeze-labels, merge-labe
 use Rattle.rg_view.proofs.Callers.GoneLemmas.{freeze-numbers, merge-numbers}
 use Rattle.rg_view.proofs.Callers.BeneathLemmas.{beneath-names}
 use Rattle.rg_view.proofs.Callers.ForgetLemmas.{below-closed}
-use Rattle.rg_view.proofs.Callers.OpenLemmas.{any-in, closed-not-open, window-open}
+use Rattle.rg_view.proofs.Callers.OpenLemmas.{closed-not-open, window-open}
 use Rattle.rg_view.proofs.Callers.NeedLemmas.{Top, keyed, top}
 use Rattle.rg_view.proofs.Callers.CallLemmas.{can-merge, can-move, slot-ownerless}
 use Rattle.rg_machine.specs.Stands.{BeginsBehind, Leads, Stands}
-use Rattle.rg_machine.proofs.SoleLemmas.{eq-is, sole-slot, sole-temp}
-use Rattle.rg_machine.proofs.MoveLemmas.{Moves, field-same, label-back, number-record, record-number}
+use Rattle.rg_machine.proofs.SoleLemmas.{sole-slot, sole-temp}
+use Rattle.rg_machine.proofs.MoveLemmas.{Moves, field-same, label-back, record-number}
+use Rattle.rg_machine.proofs.KeptLemmas.{numbered as number-record}
 
 region-frozen : (r : ℕ) → Region r ≡ Frozen → ⊥
 region-frozen r e = cc

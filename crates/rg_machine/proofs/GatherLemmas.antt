@@ -3,8 +3,7 @@ use Rattle.std.proofs.Common.{◌≡◌, ◌≢◌, ◌==◌, ◌⊎◌, inl, in
 use Rattle.std.proofs.Common.{map, take, drop, reverse, Option, Some, None, option_map, slice_get, slice_index_or, unwrap_or, is_some}
 use Rattle.std.proofs.Common.{refl, sym, ap, ◌∙◌, subst, arith}
 use Rattle.std.specs.List.{range_with_len}
-use Rattle.std.proofs.lemmas.Bool.{cases_eq, false≢true}
-use Rattle.std.proofs.lemmas.List.{reverse-append}
+use Rattle.std.proofs.lemmas.Bool.{cases_eq, false≢true, false_from_ne_true as never, eq-eqb as eq-is, eqb-true as eq-true, cases_lt as order}
 use Rattle.std.proofs.lemmas.Option.{none-some, same_Some, slice_get-map, slice_get_past}
 use Rattle.rg_base.specs.declared.object.Label.{Label}
 use Rattle.rg_base.specs.declared.object.Label.TheVariants.{Region, Temp, Frozen}
@@ -40,16 +39,15 @@ use Rattle.rg_view.proofs.Callers.FrameLemmas.{frames_from}
 use Rattle.rg_view.proofs.Callers.LinkLemmas.{region-back, region-there, store-back, val-back, word-back}
 use Rattle.rg_view.proofs.Callers.LookLemmas.{store-at, store-gone, store-held, store-length, val-held}
 use Rattle.rg_view.proofs.Callers.ManagerLemmas.{look-number, manager-of, managers-length}
-use Rattle.rg_view.proofs.Callers.OpenLemmas.{never}
 use Rattle.rg_view.proofs.Callers.ShownLemmas.{field-in, frames-same, get-drop, get-take, held-body, object-same}
 use Rattle.rg_view.proofs.Callers.TableLemmas.{FewerNumbers, fewer-numbers, kept-windows}
 use Rattle.rg_view.proofs.Callers.WindowLemmas.{top-window}
 use Rattle.rg_held.specs.Frees.{gone}
 use Rattle.rg_held.specs.Gather.{Gathered, Keeps, KeepsOf, LinkOut, Loses, bridge_value, first}
 use Rattle.rg_held.specs.Gather.{further as later}
+use Rattle.rg_held.proofs.Lists.{reverse-back as reverse-get}
 use Rattle.rg_machine.specs.Collects.{OwnerOutside, holds}
 use Rattle.rg_machine.specs.Stands.{Stands}
-use Rattle.rg_machine.proofs.ReleaseLemmas.{order}
 use Rattle.rg_machine.proofs.CollectLemmas.{Active, roots_in}
 use Rattle.rg_machine.proofs.CollectLemmas.{bridge-root, fewer, opened-behind}
 use Rattle.rg_machine.proofs.CollectLemmas.{root-stays, same-now, serials-behind, slot-root, slot-stays, temp-root, was}
@@ -61,21 +59,6 @@ push-back [] y x zero e = inr (same_Some y x e)
 push-back [] y x (suc n) e = absurd (none-some x e)
 push-back (z ∷ xs) y x zero e = inl (0, e)
 push-back (z ∷ xs) y x (suc n) e = elim (push-back xs y x n e) [ inl k ↦ inl (suc k.0, k.1) | inr is ↦ inr is ]
-
--- what stands in a reversed list stands in the list
-reverse-get : {A : Type 0} (xs : List A) (n : ℕ) (x : A) → slice_get (reverse xs) n ≡ Some x → (k : ℕ) × (slice_get xs k ≡ Some x)
-reverse-get [] n x e = absurd (none-some x e)
-reverse-get (y ∷ xs) n x e =
-    elim (push-back (reverse xs) y x n (sym (ap (λ ys. slice_get ys n) (reverse-append (y ∷ []) xs)) ∙ e)) [
-      | inl k ↦ (let r = reverse-get xs k.0 x k.1 in (suc r.0, r.1))
-      | inr is ↦ (0, ap Some is)
-    ]
-
-eq-is : (a b : ℕ) → a ≡ b → (a == b) ≡ true
-eq-is a b h = grind (arith, h)
-
-eq-true : (a b : ℕ) → (a == b) ≡ true → a ≡ b
-eq-true a b h = grind (arith, h)
 
 -- Serials that are held
 

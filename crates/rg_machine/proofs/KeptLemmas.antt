@@ -4,7 +4,7 @@ use Rattle.std.proofs.lemmas.Bool.{cases_eq}
 use Rattle.std.proofs.lemmas.Option.{none-some, same_Some}
 use Rattle.rg_base.specs.declared.words.Manager.{Manager}
 use Rattle.rg_regions.specs.Table.{Record, RegionTable, record_at, HasNumber, IsBridge, IsKey, with_room}
-use Rattle.rg_regions.proofs.Callers.Told.{record_of_key}
+use Rattle.rg_regions.proofs.Callers.Told.{record_of_key, number_of as has-number}
 use Rattle.rg_heap.specs.Changes.{Opens, Rewritten, SameRecords}
 use Rattle.rg_view.specs.Numbers.{Bridged, HasBridges, Numbers}
 use Rattle.rg_view.proofs.Callers.ManagerLemmas.{SameNumbers, opens-numbers}
@@ -31,9 +31,6 @@ numbered t k n h = by (record_at t k) refl
     by : (o : Option Record) → record_at t k ≡ o → (r : Record) × (record_at t k ≡ Some r) × (r.number ≡ n)
     by None e = absurd (none-some n (sym (ap (option_map (λ (x : Record). x.number)) e) ∙ h))
     by (Some r) e = (r, e, same_Some r.number n (sym (ap (option_map (λ (x : Record). x.number)) e) ∙ h))
-
-has-number : (t : RegionTable) (k n : ℕ) (r : Record) → record_at t k ≡ Some r → r.number ≡ n → HasNumber t k n
-has-number t k n r e is = ap (option_map (λ (x : Record). x.number)) e ∙ ap Some is
 
 -- another record with its number and its bridge
 pub bridged-as : (u r : Record) → u.number ≡ r.number → u.bridge ≡ r.bridge → Bridged u.number u.bridge → Bridged r.number r.bridge

@@ -1,6 +1,8 @@
 -- What always holds says of the windows that their regions are in the table, and that the topmost one is there.
 use Rattle.std.proofs.Common.{◌≡◌, ◌<◌, ◌==◌, ℕ, ◌-◌, Option, Some, length, slice_get, IsSome, refl, sym, ◌∙◌, subst, arith, true}
 use Rattle.std.proofs.lemmas.Bool.{false≢true}
+use Rattle.std.proofs.lemmas.Map.Keys.{any_passes_from_place as any-in}
+use Rattle.rg_base.proofs.Callers.Lists.{there}
 use Rattle.rg_regions.specs.Table.{Record, RegionTable, HasNumber, IsKey}
 use Rattle.rg_frames.specs.declared.rows.Window.{Window}
 use Rattle.rg_frames.specs.Stack.{Stack, IsTop, has_region}
@@ -8,8 +10,6 @@ use Rattle.rg_heap.specs.Parts.{Parts}
 use Rattle.rg_heap.specs.Answers.{IsClosed}
 use Rattle.rg_heap.specs.Opened.{IsWindow}
 use Rattle.rg_view.specs.Numbers.{Numbers}
-use Rattle.rg_view.proofs.Callers.FrameLemmas.{there}
-use Rattle.rg_view.proofs.Callers.OpenLemmas.{any-in}
 use Rattle.rg_machine.specs.Stands.{Stands}
 use Rattle.rg_machine.proofs.GrowLemmas.{one-key}
 use Rattle.rg_machine.proofs.KeptLemmas.{numbered}

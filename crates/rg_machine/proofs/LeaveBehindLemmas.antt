@@ -2,7 +2,8 @@
 use Rattle.std.proofs.Common.{◌≡◌, ◌≤◌, ◌<◌, inl, inr, ℕ, zero, suc, ◌+◌, ◌-◌, true, List, [], ◌∷◌, ◌++◌, length, take, drop}
 use Rattle.std.proofs.Common.{replicate, reverse, Some, option_map, slice_get, sym, ap, ◌∙◌, arith}
 use Rattle.std.proofs.lemmas.List.{length-reverse}
-use Rattle.std.proofs.lemmas.Option.{none-some, same_Some, slice_get-map}
+use Rattle.std.proofs.lemmas.Option.{slice_get-map}
+use Rattle.std.proofs.lemmas.Bool.{cases_lt as order}
 use Rattle.rg_base.specs.declared.value.Val.{Val}
 use Rattle.rg_base.specs.declared.value.Val.TheVariants as val
 use Rattle.rg_base.specs.declared.value.Word.{Word}
@@ -18,6 +19,7 @@ use Rattle.rg_heap.specs.Ends.{CanLeave, GoesAlong, IsTopTemp, Released}
 use Rattle.rg_stack.specs.Machine.{ended_slots, place_of, top_slots}
 use Rattle.rg_stack.specs.Effects.{beneath_by_labels}
 use Rattle.rg_stack.specs.Needs.{owned_once, top_base}
+use Rattle.rg_stack.proofs.Needs.ListLemmas.{get-nils as nil-there}
 use Rattle.rg_held.specs.Frees.{bury, closed_by_temps}
 use Rattle.rg_view.specs.Lain.{Nested}
 use Rattle.rg_view.specs.Links.{ByTemp}
@@ -38,14 +40,8 @@ use Rattle.rg_machine.specs.Stands.{Stands}
 use Rattle.rg_machine.proofs.LeaveEffectLemmas.{left_by}
 use Rattle.rg_machine.proofs.LeaveLemmas.{cells, goes-closed, left, names, released, stands-left}
 use Rattle.rg_machine.proofs.LeaveListLemmas.{by-temps}
-use Rattle.rg_machine.proofs.ReleaseLemmas.{order}
 
 -- Slots that have ended
-
-nil-there : (n k : ℕ) (u : Val) → slice_get (replicate n val.Nil) k ≡ Some u → u ≡ val.Nil
-nil-there zero k u e = absurd (none-some u e)
-nil-there (suc n) zero u e = sym (same_Some val.Nil u e)
-nil-there (suc n) (suc k) u e = nil-there n k u e
 
 ended-nil : (vs : List Val) (n k : ℕ) (u : Val) → n ≤ k → slice_get (ended_slots n vs) k ≡ Some u → u ≡ val.Nil
 ended-nil vs zero k u le e = nil-there (length vs - 0) k u e

@@ -3,9 +3,10 @@ use Rattle.std.proofs.Common.{◌≡◌, ◌≢◌, ◌<◌, ◌==◌, ◌&&◌,
 use Rattle.std.proofs.Common.{List, [], ◌∷◌, length, map, take, drop, reverse, Option, Some, None, option_map, option_and_then, slice_get}
 use Rattle.std.proofs.Common.{refl, sym, ap, ◌∙◌, subst, arith}
 use Rattle.std.specs.List.{list_any}
-use Rattle.std.proofs.lemmas.Bool.{false≢true, and_parts}
+use Rattle.std.proofs.lemmas.Bool.{false≢true, and_parts, eq-eqb as eq-is, cases_lt as order}
 use Rattle.std.proofs.lemmas.List.{length-take-le}
 use Rattle.std.proofs.lemmas.Option.{none-some, same_Some, slice_get-map}
+use Rattle.std.proofs.lemmas.Map.Keys.{any_passes_from_place as any-in}
 use Rattle.rg_base.specs.declared.object.Label.{Label}
 use Rattle.rg_base.specs.declared.object.Label.TheVariants.{Region, Temp, Frozen}
 use Rattle.rg_base.specs.declared.object.Seen.{Seen}
@@ -29,19 +30,11 @@ use Rattle.rg_view.specs.View.{machine_of, object_of, store_of, windows_of}
 use Rattle.rg_view.proofs.Callers.FrameLemmas.{frames_from}
 use Rattle.rg_view.proofs.Callers.LeaveLemmas.{temp-top, top-temp}
 use Rattle.rg_view.proofs.Callers.LookLemmas.{store-held, val-held}
-use Rattle.rg_view.proofs.Callers.OpenLemmas.{any-in}
 use Rattle.rg_view.proofs.Callers.ShownLemmas.{field-in, get-drop}
 use Rattle.rg_view.proofs.Callers.TempLemmas.{top-row, number-shown}
 use Rattle.rg_view.proofs.Callers.OnceLemmas.{temp-outside}
 use Rattle.rg_machine.specs.Stands.{Stands}
 use Rattle.rg_machine.proofs.LeaveListLemmas.{seen-was}
-use Rattle.rg_machine.proofs.ReleaseLemmas.{order}
-
-eq-is : (a b : ℕ) → a ≡ b → (a == b) ≡ true
-eq-is a b h = grind (arith, h)
-
-eq-not : (a b : ℕ) → a ≢ b → (a == b) ≡ false
-eq-not a b h = grind (arith, h)
 
 -- what stands in a slot stands in a slot of a frame
 any-slot : (heap : Heap) (test : Val → Truth) (slots : List Word) (first j : ℕ) (fs : List FrameRow) (w : Word) → Nested first (length slots) fs

@@ -2,7 +2,6 @@
 use Rattle.std.proofs.Common.{◌≡◌, ◌≢◌, ◌<◌, ◌≤◌, ◌-◌, ◌^◌, ◌&&◌, ℕ, true, List, [], ◌∷◌, drop, length, map, None, Some, refl, sym, ap, ◌∙◌, subst}
 use Rattle.std.proofs.Common.{arith, nat_le}
 use Rattle.std.proofs.lemmas.Bool.{and_parts}
-use Rattle.rg_base.specs.declared.value.Word.{Word}
 use Rattle.rg_code.specs.Code.{empty}
 use Rattle.rg_code.specs.declared.op.Op.TheVariants as i
 use Rattle.rg_cells.specs.Table.{Heap, Serials}
@@ -21,7 +20,7 @@ use Rattle.rg_machine.specs.Core.{Core, Has, work_of}
 use Rattle.rg_machine.specs.Effects.{ending, without}
 use Rattle.rg_machine.specs.Keeps.{backs}
 use Rattle.rg_machine.specs.Parts.{Parts, core_of, machine_in}
-use Rattle.rg_machine.specs.Stands.{Stands, AllLead}
+use Rattle.rg_machine.specs.Stands.{Stands}
 use Rattle.rg_machine.proofs.FewerLemmas.{fewer-ended, fewer-once, fewer-without}
 use Rattle.rg_machine.proofs.LeaveBehindLemmas.{number}
 use Rattle.rg_machine.proofs.LeaveEffectLemmas.{ends-none}
@@ -54,10 +53,6 @@ once-behind c d s e given =
 -- no word is on the stack
 pub leave-words : (p : Parts) (s : ℕ) → Has (i.Leave s) (core_of p) → p.words ≡ []
 leave-words p s given = empty-words p.heap.cells.heap p.words (ap length (leave-stack (core_of p) s given))
-
-pub none-lead : (p : HeapParts) (v : Stack) (words : List Word) → words ≡ [] → AllLead p v words
-none-lead p v [] e = λ k w h. absurd cc
-none-lead p v (w ∷ ws) e = absurd cc
 
 -- the topmost window's number isn't that of what is gone
 pub number-fits : (p : HeapParts) (v : Stack) (at : ℕ) (q : Serials p.cells.heap) (g : Grove p.cells p.regions) (s : Stands p v)

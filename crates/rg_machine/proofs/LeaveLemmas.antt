@@ -2,7 +2,7 @@
 use Rattle.std.proofs.Common.{◌≡◌, ◌≤◌, ◌<◌, ◌⊎◌, inl, inr, ℕ, zero, suc, ◌+◌, ◌-◌, Bool as Truth, true, false, List, [], ◌∷◌}
 use Rattle.std.proofs.Common.{length, take, drop, Option, Some, None, option_map, slice_get, slice_index_or, refl, sym, ap}
 use Rattle.std.proofs.Common.{◌∙◌, subst, arith}
-use Rattle.std.proofs.lemmas.Bool.{false≢true}
+use Rattle.std.proofs.lemmas.Bool.{false≢true, cases_lt as order}
 use Rattle.std.proofs.lemmas.List.{length-take-le, get_or_past, get_or_default, take_all}
 use Rattle.std.proofs.lemmas.Option.{none-some, same_Some, slice_get_within, slice_get-get_or}
 use Rattle.rg_base.specs.declared.object.Label.{Label}
@@ -40,7 +40,7 @@ use Rattle.rg_view.proofs.Callers.ShownLemmas.{get-drop, get-take, held-body, bo
 use Rattle.rg_view.proofs.Callers.TableLemmas.{fewer-numbers}
 use Rattle.rg_view.proofs.Callers.TempLemmas.{top-row, top-temps, owned-temp, temp-owned}
 use Rattle.rg_machine.specs.Stands.{BeginsBehind, OpensLater, Stands}
-use Rattle.rg_machine.proofs.ReleaseLemmas.{most-one, order, slot-counts-one, temp-window}
+use Rattle.rg_machine.proofs.ReleaseLemmas.{most-one, slot-counts-one, temp-window}
 
 -- Fronts of lists
 

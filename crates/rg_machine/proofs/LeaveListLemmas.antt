@@ -1,10 +1,10 @@
 -- What goes with a window, where what its slots own went before: the regions that its temporaries own then are those that they own now, without
 -- those that went.
 use Rattle.std.proofs.Common.{◌≡◌, ◌==◌, ◌-◌, ◌^◌, ◌||◌, ◌⊎◌, inl, inr, ℕ, zero, suc, Bool as Truth, true, false, if◌then◌else◌, List, [], ◌∷◌, ◌++◌}
-use Rattle.std.proofs.Common.{arith, filter, filter_map, flat_map, find, is_some, cond, Option, Some, None, option_map, option_and_then, slice_get}
+use Rattle.std.proofs.Common.{filter, filter_map, flat_map, find, is_some, cond, Option, Some, None, option_map, option_and_then, slice_get}
 use Rattle.std.proofs.Common.{refl, sym, ap, ◌∙◌}
 use Rattle.std.specs.List.{cons_option}
-use Rattle.std.proofs.lemmas.Bool.{false≢true}
+use Rattle.std.proofs.lemmas.Bool.{false≢true, eq-eqb as eq-is, eqb-true as eq-true}
 use Rattle.std.proofs.lemmas.Option.{none-some, same_Some, slice_get-map}
 use Rattle.rg_base.specs.declared.object.Label.{Label}
 use Rattle.rg_base.specs.declared.object.Label.TheVariants.{Region, Temp, Frozen}
@@ -19,12 +19,6 @@ use Rattle.rg_held.specs.Frees.{gone, buried, bury, closed_among, closed_by_temp
 use Rattle.rg_view.specs.Links.{ByTemp, Link, Reached, first, next, Spans}
 use Rattle.rg_view.specs.Names.{Names}
 use Rattle.rg_view.proofs.Callers.KeyLemmas.{among-append}
-
-eq-is : (a b : ℕ) → a ≡ b → (a == b) ≡ true
-eq-is a b h = grind (arith, h)
-
-eq-true : (a b : ℕ) → (a == b) ≡ true → a ≡ b
-eq-true a b h = grind (arith, h)
 
 -- An object of a store in which some are buried
 

@@ -3,7 +3,7 @@ use Rattle.std.proofs.Common.{◌≡◌, ◌≢◌, ◌≤◌, ◌<◌, zero, su
 use Rattle.std.proofs.Common.{nat_le, Some, refl, sym, ap}
 use Rattle.std.proofs.Common.{◌∙◌, subst, arith}
 use Rattle.std.proofs.lemmas.List.{length-map, length-reverse}
-use Rattle.std.proofs.lemmas.Bool.{and_parts}
+use Rattle.std.proofs.lemmas.Bool.{and_parts, leb-true as le-back}
 use Rattle.rg_base.specs.declared.value.Word.{Word}
 use Rattle.rg_base.specs.declared.value.Word.TheVariants.{Slot}
 use Rattle.rg_base.specs.declared.value.Val.TheVariants.{Nil}
@@ -40,9 +40,6 @@ pub empty-words : (h : Heap) (words : List Word) → length (values_of h words) 
 empty-words h [] e = refl
 empty-words h (w ∷ ws) e =
     absurd (omega (arith, e, length-map (reverse (w ∷ ws)) (val_of h), length-reverse (w ∷ ws)))
-
-le-back : (a b : ℕ) → nat_le a b ≡ true → a ≤ b
-le-back a b e = grind (arith, e)
 
 -- where slots of the topmost frame have ended
 top-ended : (fs : List Frame) (s : ℕ) → top_slots (with_slots (ended_slots s (top_slots fs)) fs) ≡ ended_slots s (top_slots fs)

@@ -10,6 +10,7 @@ use Rattle.rg_base.specs.declared.value.Val.{Val}
 use Rattle.rg_base.specs.declared.value.Val.TheVariants.{Obj}
 use Rattle.rg_base.specs.declared.value.Word.{Word}
 use Rattle.rg_base.specs.declared.value.Word.TheVariants.{Slot}
+use Rattle.rg_sound.proofs.Frames.StandsLemmas.{snoc-cases as in-front-or}
 use Rattle.rg_cells.specs.Table.{Serials, label_at, IsHeld}
 use Rattle.rg_regions.specs.Table.{IsBridge}
 use Rattle.rg_regions.specs.Grove.{Grove}
@@ -21,6 +22,7 @@ use Rattle.rg_heap.specs.Parts.{Parts, OnTop}
 use Rattle.rg_heap.specs.Answers.{AllLead as FieldsLead, val_of, obj_of, IsClosed}
 use Rattle.rg_heap.specs.Changes.{LeadsNowhere, Makes, OnActive, OpensOne, Rewritten, with_one}
 use Rattle.rg_heap.specs.Opened.{IsTempOf}
+use Rattle.rg_held.proofs.Lists.{reverse-back}
 use Rattle.rg_view.specs.View.{machine_of, managers_of, store_of, values_of, windows_of}
 use Rattle.rg_view.proofs.Callers.LookLemmas.{store-length}
 use Rattle.rg_view.proofs.Callers.MakeLemmas.{made-same}
@@ -29,13 +31,13 @@ use Rattle.rg_view.proofs.Callers.OpenLemmas.{number-is}
 use Rattle.rg_view.proofs.Callers.ShownLemmas.{values-same}
 use Rattle.rg_view.proofs.Callers.HeldLemmas.{all-lead}
 use Rattle.rg_view.proofs.Callers.MachineLemmas.{made-machine, opened-machine}
-use Rattle.rg_view.proofs.Callers.TableLemmas.{reverse-back, rewritten-numbers}
+use Rattle.rg_view.proofs.Callers.TableLemmas.{rewritten-numbers}
 use Rattle.rg_view.proofs.Callers.WindowLemmas.{active-region, active-number}
 use Rattle.rg_machine.specs.Core.{Core, with_machine, with_made}
 use Rattle.rg_machine.specs.Parts.{core_of}
 use Rattle.rg_machine.specs.Stands.{AllLead, Leads, Stands}
 use Rattle.rg_machine.proofs.GrowLemmas.{Grown, grown-stands, grown-more-lead}
-use Rattle.rg_machine.proofs.TempLemmas.{in-front-or, temp-on, temp-back, temp-new, temp-held}
+use Rattle.rg_machine.proofs.TempLemmas.{temp-on, temp-back, temp-new, temp-held}
 use Rattle.rg_machine.proofs.MadeLemmas.{held-other, made-held, made-label, made-back, label-new, label-was, made-field, held-new}
 use Rattle.rg_machine.proofs.KeptLemmas.{Kept, rewritten-kept, equal-kept, opens-kept, opens-bridge, equal-numbers}
 use Rattle.rg_machine.proofs.KnownLemmas.{top-window, key-there, region-made, windows-known, open-not}

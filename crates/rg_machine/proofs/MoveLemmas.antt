@@ -28,19 +28,12 @@ use Rattle.rg_view.proofs.Callers.LabelLemmas.{Labels}
 use Rattle.rg_view.proofs.Callers.TableLemmas.{FewerNumbers, fewer-numbers}
 use Rattle.rg_view.proofs.Callers.OpenLemmas.{Keyed, window-open}
 use Rattle.rg_machine.specs.Stands.{Leads, Stands}
-use Rattle.rg_machine.proofs.KeptLemmas.{bridged-as}
+use Rattle.rg_machine.proofs.KeptLemmas.{bridged-as, numbered as number-record}
 
 -- Numbers of records
 
 pub record-number : (t : RegionTable) (key : ℕ) (r : Record) → record_at t key ≡ Some r → HasNumber t key r.number
 record-number t key r e = ap (option_map (λ (r : Record). r.number)) e
-
-pub number-record : (t : RegionTable) (key n : ℕ) → HasNumber t key n → (r : Record) × (record_at t key ≡ Some r) × (r.number ≡ n)
-number-record t key n h = by (record_at t key) refl
-  where
-    by : (o : Option Record) → record_at t key ≡ o → (r : Record) × (record_at t key ≡ Some r) × (r.number ≡ n)
-    by None e = absurd (none-some n (sym (ap (option_map (λ (r : Record). r.number)) e) ∙ h))
-    by (Some r) e = (r, e, same_Some r.number n (sym (record-number t key r e) ∙ h))
 
 -- Slots
 

@@ -1,9 +1,9 @@
 -- What callers cite of owners: each closed region of the machine's own heap has one owner reference, which leads to its bridge.
-use Rattle.std.proofs.Common.{◌≡◌, ◌≤◌, ◌<◌, ◌==◌, inl, inr, ℕ, zero, suc, ◌+◌, ◌-◌, ◌^◌, Bool as Truth, true, false, not, List, [], ◌∷◌}
-use Rattle.std.proofs.Common.{map, length, take, drop, reverse, Option, Some, None, option_map, option_and_then, slice_get}
+use Rattle.std.proofs.Common.{◌≡◌, ◌≤◌, ◌<◌, inl, inr, ℕ, zero, suc, ◌+◌, ◌-◌, ◌^◌, Bool as Truth, true, false, not, List, [], ◌∷◌}
+use Rattle.std.proofs.Common.{map, length, take, drop, reverse, Some, option_map, option_and_then, slice_get}
 use Rattle.std.proofs.Common.{refl, sym, ap, ◌∙◌, subst, arith}
 use Rattle.std.specs.List.{count_by}
-use Rattle.std.proofs.lemmas.Bool.{cases_eq, false≢true}
+use Rattle.std.proofs.lemmas.Bool.{cases_eq, false≢true, eq-eqb as eq-is, cases_lt as order}
 use Rattle.std.proofs.lemmas.List.{length-take-le}
 use Rattle.std.proofs.lemmas.List.Sums.{sum_by-cons}
 use Rattle.std.proofs.lemmas.Option.{none-some, same_Some, slice_get-map, slice_get_within}
@@ -16,6 +16,7 @@ use Rattle.rg_base.specs.declared.value.Word.{Word}
 use Rattle.rg_base.specs.declared.value.Word.TheVariants as word
 use Rattle.rg_base.proofs.Callers.Labels.{region-same, frozen-region}
 use Rattle.rg_base.proofs.Callers.Options.{some-there}
+use Rattle.rg_base.proofs.Callers.Lists.{there}
 use Rattle.rg_tree.specs.Tree.{Tree}
 use Rattle.rg_rules.specs.State.{State}
 use Rattle.rg_sound.specs.Fit.{Fit}
@@ -30,22 +31,23 @@ use Rattle.rg_regions.proofs.Callers.Told.{labelled_held}
 use Rattle.rg_frames.specs.declared.rows.Frame.{Frame as FrameRow}
 use Rattle.rg_frames.specs.declared.rows.Window.{Window as WindowRow}
 use Rattle.rg_stack.specs.Machine.{Frame, Machine}
-use Rattle.rg_stack.specs.Needs.{is_open, is_into, is_outside, label_of, lies_in, slots_into, owned_once}
+use Rattle.rg_stack.specs.Needs.{is_open, is_into, is_outside, label_of, slots_into, owned_once}
 use Rattle.rg_stack.specs.Shows.{Shows}
 use Rattle.rg_heap.specs.Answers.{val_of, IsClosed}
 use Rattle.rg_heap.specs.Opened.{IsWindow}
 use Rattle.rg_view.specs.Lain.{Nested}
 use Rattle.rg_view.specs.View.{object_of, store_of, frames_of, windows_of}
-use Rattle.rg_view.proofs.Callers.FrameLemmas.{frames_from, there}
+use Rattle.rg_view.proofs.Callers.FrameLemmas.{frames_from}
 use Rattle.rg_view.proofs.Callers.HeldLemmas.{all-lead}
 use Rattle.rg_view.proofs.Callers.LookLemmas.{store-held}
-use Rattle.rg_view.proofs.Callers.NeedLemmas.{keyed, count-hit, weight, closed-not-first}
+use Rattle.rg_view.proofs.Callers.NeedLemmas.{keyed, weight, closed-not-first}
 use Rattle.rg_view.proofs.Callers.OnceLemmas.{outside-once, outside-counts}
 use Rattle.rg_view.proofs.Callers.OpenLemmas.{closed-not-open, into-there, label-back}
 use Rattle.rg_view.proofs.Callers.ShownLemmas.{get-drop, held-body}
 use Rattle.rg_held.specs.Part.{Part, SlotInto, FieldInto, leads_to}
 use Rattle.rg_held.specs.Shown.{ShowsHeld}
-use Rattle.rg_held.proofs.Places.{lies-back}
+use Rattle.rg_held.proofs.Places.{into-label}
+use Rattle.rg_held.proofs.Lists.{count-one as count-hit}
 use Rattle.rg_machine.specs.Collects.{holds}
 use Rattle.rg_machine.specs.Owned.{Holder, Owner, Owns, IsOwned, in_slot, in_field}
 use Rattle.rg_machine.specs.Parts.{Parts as Whole, machine_in}
@@ -54,7 +56,7 @@ use Rattle.rg_machine.proofs.CollectLemmas.{has-record}
 use Rattle.rg_machine.proofs.GatherLemmas.{field-there, frame-slot, holds-there}
 use Rattle.rg_machine.proofs.KnownLemmas.{open-not}
 use Rattle.rg_machine.proofs.PartLemmas.{once-held, shown-part}
-use Rattle.rg_machine.proofs.ReleaseLemmas.{most-one, order, slot-counts-one, slots-count}
+use Rattle.rg_machine.proofs.ReleaseLemmas.{most-one, slot-counts-one, slots-count}
 use Rattle.rg_machine.proofs.GrowLemmas.{field-held}
 
 -- Counts
@@ -113,16 +115,6 @@ slots-two h r i j w u slots first (x ∷ fs) n e f lt a b =
     ]
 
 -- Labels
-
-eq-is : (a b : ℕ) → a ≡ b → (a == b) ≡ true
-eq-is a b h = grind (arith, h)
-
-into-label : (store : List Seen) (r : ℕ) (x : Val) → is_into store r x ≡ true → label_of store x ≡ Some (Region r)
-into-label store r x e = by (label_of store x) e
-  where
-    by : (o : Option Label) → elim o [ None ↦ false | Some l ↦ lies_in r l ] ≡ true → o ≡ Some (Region r)
-    by None e = absurd (false≢true e)
-    by (Some l) e = ap Some (lies-back r l e)
 
 not-outside : (w : Whole) (r : ℕ) (l : Label) → is_outside (windows_of w.heap.regions w.frames) r l ≡ true → l ≡ Region r → ⊥
 not-outside w r l e is =

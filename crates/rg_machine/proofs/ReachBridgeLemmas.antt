@@ -37,12 +37,12 @@ use Rattle.rg_stack.specs.Shows.{sizes_of}
 use Rattle.rg_heap.specs.Opened.{IsWindow}
 use Rattle.rg_heap.specs.Parts.{Parts}
 use Rattle.rg_view.specs.View.{frames_of, object_of}
-use Rattle.rg_view.proofs.Callers.LinkLemmas.{val-back, word-back}
+use Rattle.rg_view.proofs.Callers.LinkLemmas.{val-back, word-back, label-in as label-there}
 use Rattle.rg_view.proofs.Callers.ShownLemmas.{field-in}
 use Rattle.rg_machine.specs.Collects.{holds}
 use Rattle.rg_machine.specs.Stands.{BeginsBehind, OpensLater}
 use Rattle.rg_machine.proofs.CollectLemmas.{Active}
-use Rattle.rg_machine.proofs.ReachShownLemmas.{Beside, TopShown, label-there}
+use Rattle.rg_machine.proofs.ReachShownLemmas.{Beside, TopShown}
 use Rattle.rg_machine.proofs.ReachShownLemmas.{cell, held-owner, lies-there, shown-slots, there, top-shown}
 use Rattle.rg_machine.proofs.ReachShownLemmas.{by-owner, owner_leads, roots_lead}
 use Rattle.rg_machine.proofs.ReachSlotLemmas.{in-front, variable-at}

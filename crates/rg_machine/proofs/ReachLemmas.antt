@@ -36,6 +36,7 @@ use Rattle.rg_view.specs.View.{number_in}
 use Rattle.rg_view.proofs.Callers.ShownLemmas.{held-body}
 use Rattle.rg_view.proofs.Callers.WindowLemmas.{active-region}
 use Rattle.rg_held.specs.Part.{Part}
+use Rattle.rg_view.proofs.Callers.LinkLemmas.{label-in as label-there}
 use Rattle.rg_machine.specs.Collects.{holds}
 use Rattle.rg_machine.specs.Parts.{Parts as Whole, machine_in}
 use Rattle.rg_machine.specs.Stands.{Stands}
@@ -46,7 +47,7 @@ use Rattle.rg_machine.proofs.ReachCountLemmas.{distinct-map, mapped-back, mapped
 use Rattle.rg_machine.proofs.ReachHeldLemmas.{body-was, reach-kept}
 use Rattle.rg_machine.proofs.ReachPathLemmas.{distinct-reach, no-longer}
 use Rattle.rg_machine.proofs.ReachRootLemmas.{reach-in}
-use Rattle.rg_machine.proofs.ReachShownLemmas.{Beside, label-of, label-there, lies-there}
+use Rattle.rg_machine.proofs.ReachShownLemmas.{Beside, label-of, lies-there}
 
 module _ (old new : Parts) (v : Stack) (at : ℕ) (t : Tree) (code : Code) (s : State) (m : Machine) (z : Beside old v at t code s m)
     (lead : (s : ℕ) → AllLead new.cells.heap s) (a : Active old v)

@@ -1,6 +1,6 @@
 -- What is reached, as paths: an object is among those that are reached by at most so many links exactly where it is at the end of a path of no
 -- more; each stands there once. And lists: behind each other, and without repeats, one of which has all that the other has.
-use Rattle.std.proofs.Common.{◌≡◌, ◌⊎◌, inl, inr, ℕ, zero, suc, ◌≤◌, ◌<◌, ◌+◌, ◌==◌, Bool as Truth, true, false, if◌then◌else◌, List, [], ◌∷◌, ◌++◌}
+use Rattle.std.proofs.Common.{◌≡◌, ◌⊎◌, inl, inr, ℕ, zero, suc, ◌≤◌, ◌+◌, ◌==◌, Bool as Truth, true, false, if◌then◌else◌, List, [], ◌∷◌, ◌++◌}
 use Rattle.std.proofs.Common.{length, cond, flat_map, map, option_map, Option, Some, None, slice_get, refl, sym, ap, ◌∙◌, subst, arith}
 use Rattle.std.proofs.lemmas.Bool.{false≢true}
 use Rattle.std.proofs.lemmas.Option.{none-some, same_Some, slice_get-map}
@@ -10,7 +10,8 @@ use Rattle.rg_base.specs.declared.value.Val.TheVariants as val
 use Rattle.rg_rules.specs.Reach.{addresses, inside, is_region, led_from_object, reach_of, reached, size_of}
 use Rattle.rg_rules.specs.Regions.{among, joined_with, region_at}
 use Rattle.rg_rules.proofs.RegionLemmas.{reached-suc}
-use Rattle.rg_sound.proofs.Stores.MemberLemmas.{In, among-not, in-left, in-right, in-split, joined-back, joined-new, joined-old}
+use Rattle.rg_sound.proofs.Stores.MemberLemmas.{In, among-not, in-split, joined-back, joined-new, joined-old}
+use Rattle.rg_stack.proofs.Judgements.LabelLemmas.{flat_in as flat-in, flat_back as flat-back}
 
 -- Lists behind each other
 
@@ -19,17 +20,6 @@ get-right [] ys i y e = let same : i ≡ 0 + i = omega arith in ap (slice_get ys
 get-right (x ∷ xs) ys i y e =
     let same : suc (length xs + i) ≡ suc (length xs) + i = omega arith in
     ap (slice_get (x ∷ xs ++ ys)) (sym same) ∙ get-right xs ys i y e
-
-pub get-either : {A : Type 0} → (xs ys : List A) (i : ℕ) (x : A) → slice_get (xs ++ ys) i ≡ Some x
-    → ((k : ℕ) × (slice_get xs k ≡ Some x)) ⊎ ((k : ℕ) × (slice_get ys k ≡ Some x))
-get-either [] ys i x e = inr (i, e)
-get-either (z ∷ xs) ys zero x e = inl (0, e)
-get-either (z ∷ xs) ys (suc i) x e = elim (get-either xs ys i x e) [ inl k ↦ inl (suc k.0, k.1) | inr k ↦ inr k ]
-
-pub get-before : {A : Type 0} → (xs : List A) (x : A) (n : ℕ) → n < length xs → slice_get (xs ++ x ∷ []) n ≡ slice_get xs n
-get-before [] x n lt = absurd (omega (arith, lt))
-get-before (y ∷ xs) x zero lt = refl
-get-before (y ∷ xs) x (suc n) lt = get-before xs x n (omega (arith, lt))
 
 -- Lists without repeats
 
@@ -134,18 +124,6 @@ inside-back r store (b ∷ bs) a i = by (is_region r (region_at store b)) refl i
     by true is (inl same) rest = (inl same, ap (region_at store) (sym same) ∙ is-region r (region_at store b) is)
     by true is (inr on) rest = let x = rest on in (inr x.0, x.1)
     by false is on rest = let x = rest on in (inr x.0, x.1)
-
-flat-in : (f : ℕ → List ℕ) (ns : List ℕ) (n a : ℕ) → In n ns → In a (f n) → In a (flat_map f ns)
-flat-in f [] n a i j = absurd i
-flat-in f (m ∷ ms) n a (inl e) j = in-left (f m) (flat_map f ms) a (subst (λ k. In a (f k)) (sym e) j)
-flat-in f (m ∷ ms) n a (inr i) j = in-right (f m) (flat_map f ms) a (flat-in f ms n a i j)
-
-flat-back : (f : ℕ → List ℕ) (ns : List ℕ) (a : ℕ) → In a (flat_map f ns) → (n : ℕ) × In n ns × In a (f n)
-flat-back f [] a i = absurd i
-flat-back f (m ∷ ms) a i = elim (in-split (f m) (flat_map f ms) a i) [
-  | inl here ↦ (m, inl refl, here)
-  | inr on ↦ (let x = flat-back f ms a on in (x.0, inr x.1, x.2))
-]
 
 -- the addresses to which values lead
 pub addresses-in : (vs : List Val) (k a : ℕ) → slice_get vs k ≡ Some (val.Obj a) → In a (addresses vs)

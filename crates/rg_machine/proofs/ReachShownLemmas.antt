@@ -33,6 +33,7 @@ use Rattle.rg_view.specs.View.{frames_of, machine_of, number_in, object_of, wind
 use Rattle.rg_view.proofs.Callers.LookLemmas.{store-held}
 use Rattle.rg_view.proofs.Callers.WindowLemmas.{top-window}
 use Rattle.rg_held.specs.Part.{OwnerHeld, OwnersHeld, Part}
+use Rattle.rg_view.proofs.Callers.LinkLemmas.{label-in as label-there}
 use Rattle.rg_machine.specs.Collects.{holds}
 use Rattle.rg_machine.specs.Stands.{Stands}
 use Rattle.rg_machine.proofs.CollectLemmas.{Active}
@@ -54,9 +55,6 @@ pub record CellOf (h : Heap) (n : ℕ) : Type 0 where
   pub body : Body
   pub held : body_at h slot ≡ Some body
   pub serial : body.serial ≡ n
-
-pub label-there : (h : Heap) (x : ℕ) (b : Body) (l : Label) → body_at h x ≡ Some b → b.label ≡ l → label_at h x ≡ Some l
-label-there h x b l e is = ap (option_map (λ (b : Body). b.label)) e ∙ ap Some is
 
 pub label-of : (h : Heap) (x : ℕ) (b : Body) (l : Label) → body_at h x ≡ Some b → label_at h x ≡ Some l → b.label ≡ l
 label-of h x b l e is = same_Some b.label l (sym (ap (option_map (λ (b : Body). b.label)) e) ∙ is)

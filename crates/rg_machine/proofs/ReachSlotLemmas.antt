@@ -5,6 +5,7 @@ use Rattle.std.proofs.Common.{length-append}
 use Rattle.std.proofs.Common.{refl, sym, ap, ◌∙◌, subst, arith}
 use Rattle.std.proofs.lemmas.List.{length-reverse, reverse-append, length-take-le}
 use Rattle.std.proofs.lemmas.Option.{none-some, same_Some, slice_get-map, slice_get_within}
+use Rattle.std.proofs.lemmas.Bool.{cases_lt as order}
 use Rattle.rg_base.specs.declared.value.Val.{Val}
 use Rattle.rg_base.specs.declared.value.Val.TheVariants as val
 use Rattle.rg_base.specs.declared.value.Word.{Word}
@@ -21,12 +22,12 @@ use Rattle.rg_stack.specs.Shows.{ShowsFrames, place_among, sizes_of}
 use Rattle.rg_heap.specs.Answers.{val_of}
 use Rattle.rg_stack.proofs.Statements.BaseLemmas.{total_of, sizes-more, sizes-length, place_top, as_many}
 use Rattle.rg_stack.proofs.Walks.FrameLemmas.{place_below}
+use Rattle.rg_held.proofs.Lists.{append-back as get-either, push-below as get-before}
 use Rattle.rg_view.specs.Lain.{Nested}
-use Rattle.rg_machine.proofs.ReleaseLemmas.{order}
 use Rattle.rg_view.proofs.Callers.FrameLemmas.{all-slots, frames_from}
 use Rattle.rg_view.proofs.Callers.LinkLemmas.{word-back}
 use Rattle.rg_view.proofs.Callers.ShownLemmas.{get-drop, get-take}
-use Rattle.rg_machine.proofs.ReachPathLemmas.{get-before, get-either, get-right}
+use Rattle.rg_machine.proofs.ReachPathLemmas.{get-right}
 use Rattle.rg_machine.proofs.ReachPathLemmas.{addresses-back, mapped-leads}
 
 -- Places among all slots, by how many slots the frames have, the lowest first

@@ -3,7 +3,7 @@ use Rattle.std.proofs.Common.{◌≡◌, ◌≢◌, ◌≤◌, ◌<◌, ◌==◌
 use Rattle.std.proofs.Common.{map, length, take, drop, reverse, Option, Some, None, option_map, slice_get, slice_index_or, nat_le}
 use Rattle.std.proofs.Common.{refl, sym, ap, ◌∙◌, subst, arith}
 use Rattle.std.specs.List.{count_by}
-use Rattle.std.proofs.lemmas.Bool.{false≢true}
+use Rattle.std.proofs.lemmas.Bool.{false≢true, false_from_ne_true as never, cases_lt as order}
 use Rattle.std.proofs.lemmas.List.{length-take-le, get_or_past}
 use Rattle.std.proofs.lemmas.List.Sums.{sum_by-cons}
 use Rattle.std.proofs.lemmas.Option.{none-some, same_Some, slice_get-map, slice_get_within}
@@ -13,6 +13,7 @@ use Rattle.rg_base.specs.declared.value.Val.{Val}
 use Rattle.rg_base.specs.declared.value.Word.{Word}
 use Rattle.rg_base.specs.declared.value.Word.TheVariants as word
 use Rattle.rg_base.proofs.Callers.Labels.{region-same, temp-region}
+use Rattle.rg_base.proofs.Callers.Lists.{there}
 use Rattle.rg_rules.specs.Regions.{among}
 use Rattle.rg_sound.proofs.Owners.OwnerLemmas.{get-take-within}
 use Rattle.rg_cells.specs.declared.cell.Body.{Body}
@@ -30,29 +31,24 @@ use Rattle.rg_heap.specs.Parts.{Parts}
 use Rattle.rg_heap.specs.Answers.{val_of, IsClosed}
 use Rattle.rg_heap.specs.Ends.{Released, NoCell}
 use Rattle.rg_heap.specs.Opened.{Opened, IsWindow, IsTempOf}
+use Rattle.rg_held.proofs.Lists.{count-one as count-hit}
+use Rattle.rg_held.proofs.Places.{all-below as all_below-at}
 use Rattle.rg_view.specs.Lain.{Nested}
 use Rattle.rg_view.specs.Links.{BelowSome}
 use Rattle.rg_view.specs.Names.{Names}
 use Rattle.rg_view.specs.View.{store_of, frames_of, windows_of, managers_of, machine_of}
 use Rattle.rg_view.proofs.Callers.AfterLemmas.{no-temps, label-was, field-was, key-was, parent-was}
 use Rattle.rg_view.proofs.Callers.BeneathLemmas.{beneath-names}
-use Rattle.rg_view.proofs.Callers.FrameLemmas.{frames_from, there}
+use Rattle.rg_view.proofs.Callers.FrameLemmas.{frames_from}
 use Rattle.rg_view.proofs.Callers.GoneLemmas.{released-numbers}
 use Rattle.rg_view.proofs.Callers.LabelLemmas.{one-is, one-there}
 use Rattle.rg_view.proofs.Callers.ManagerLemmas.{managers-length}
-use Rattle.rg_view.proofs.Callers.NeedLemmas.{keyed, count-hit, all_below-at, field-counts, closed-not-above}
+use Rattle.rg_view.proofs.Callers.NeedLemmas.{keyed, field-counts, closed-not-above}
 use Rattle.rg_view.proofs.Callers.OnceLemmas.{outside-once, outside-counts}
-use Rattle.rg_view.proofs.Callers.OpenLemmas.{closed-not-open, closed-there, not-open-closed, never, into-there, window-open}
+use Rattle.rg_view.proofs.Callers.OpenLemmas.{closed-not-open, closed-there, not-open-closed, into-there, window-open}
 use Rattle.rg_view.proofs.Callers.ShownLemmas.{get-drop, held-body, body-held}
 use Rattle.rg_view.proofs.Callers.TableLemmas.{fewer-numbers}
 use Rattle.rg_machine.specs.Stands.{BeginsBehind, Leads, OpensLater, Stands}
-
--- one number is below another, or not
-pub order : (a c : ℕ) → (a < c) ⊎ (c ≤ a)
-order zero zero = inr (omega arith)
-order zero (suc c) = inl (omega arith)
-order (suc a) zero = inr (omega arith)
-order (suc a) (suc c) = elim (order a c) [ inl lt ↦ inl (omega (arith, lt)) | inr le ↦ inr (omega (arith, le)) ]
 
 is-zero : (n : ℕ) → (n == 0) ≡ true → n ≡ 0
 is-zero n e = grind (arith, e)

@@ -3,10 +3,12 @@ use Rattle.std.proofs.Common.{◌≡◌, ◌⊎◌, inl, inr, ◌≤◌, ◌<◌
 use Rattle.std.proofs.Common.{List, [], ◌∷◌, Option, Some, None, length, reverse, slice_get, slice_set, refl, sym, ap, subst, ◌∙◌, arith}
 use Rattle.std.proofs.lemmas.Bool.{false≢true}
 use Rattle.std.proofs.lemmas.Option.{same_Some, slice_get_within}
+use Rattle.std.proofs.lemmas.List.{length-set as set-length}
 use Rattle.rg_base.specs.declared.object.Label.{Label}
 use Rattle.rg_base.specs.declared.value.Val.{Val}
 use Rattle.rg_base.specs.declared.value.Word.{Word}
 use Rattle.rg_base.specs.declared.value.Word.TheVariants as word
+use Rattle.rg_base.proofs.Callers.Lists.{there}
 use Rattle.rg_cells.specs.Table.{Heap, Serials, IsHeld}
 use Rattle.rg_regions.specs.Table.{IsBridge}
 use Rattle.rg_regions.specs.Reach.{LiesIn}
@@ -18,7 +20,7 @@ use Rattle.rg_heap.specs.Parts.{Parts}
 use Rattle.rg_heap.specs.Answers.{val_of}
 use Rattle.rg_view.specs.Lain.{Nested}
 use Rattle.rg_view.specs.View.{windows_of, frames_of, machine_of}
-use Rattle.rg_view.proofs.Callers.FrameLemmas.{place-there, slot-frames, there}
+use Rattle.rg_view.proofs.Callers.FrameLemmas.{place-there, slot-frames}
 use Rattle.rg_view.proofs.Callers.OpenLemmas.{label-lies, not-open-closed, open-back}
 use Rattle.rg_view.proofs.Callers.NeedLemmas.{keyed}
 use Rattle.rg_view.proofs.Callers.WindowLemmas.{top-window}
@@ -38,11 +40,6 @@ set-get (z ∷ xs) (suc k) (suc j) x y e = elim (set-get xs k j x y e) [
   | inl at ↦ inl (ap suc at.0, at.1, omega (arith, at.2))
   | inr o ↦ inr o
 ]
-
-set-length : {A : Type 0} → (xs : List A) (k : ℕ) (x : A) → length (slice_set xs k x) ≡ length xs
-set-length [] k x = refl
-set-length (z ∷ xs) zero x = refl
-set-length (z ∷ xs) (suc k) x = ap suc (set-length xs k x)
 
 -- a slot is written with a word that stands there as words in slots do
 pub stands-word : (p : Parts) (v : Stack) (s : ℕ) (w : Word) → Stands p v → ((to : ℕ) → w ≡ word.Slot to → IsHeld p.cells.heap to)

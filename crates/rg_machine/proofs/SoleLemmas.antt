@@ -2,10 +2,11 @@
 use Rattle.std.proofs.Common.{◌≡◌, ◌≤◌, ◌<◌, ◌==◌, ◌+◌, ◌||◌, inl, inr, ℕ, true, cond, List, [], ◌∷◌, map, take}
 use Rattle.std.proofs.Common.{drop, reverse, length, Option, Some, None, option_map, slice_get, count_by, nat_le, refl, sym, ap, ◌∙◌, subst, arith}
 use Rattle.std.specs.List.{sum_by}
-use Rattle.std.proofs.lemmas.Bool.{cases_eq}
+use Rattle.std.proofs.lemmas.Bool.{cases_eq, eq-eqb as eq-is}
 use Rattle.std.proofs.lemmas.List.{take-map, drop-map, length-take-le}
 use Rattle.std.proofs.lemmas.List.Sums.{sum_by-cons, sum_by-take-drop}
 use Rattle.std.proofs.lemmas.Option.{none-some, same_Some, slice_get-map}
+use Rattle.std.proofs.lemmas.Map.Keys.{any_passes_from_place as any-in}
 use Rattle.rg_base.specs.declared.object.Label.TheVariants.{Temp}
 use Rattle.rg_base.specs.declared.object.Seen.{Seen}
 use Rattle.rg_base.specs.declared.value.Val.{Val}
@@ -24,7 +25,8 @@ use Rattle.rg_stack.specs.Needs.{is_open, is_into, is_outside, has_window, slots
 use Rattle.rg_heap.specs.Parts.{Parts}
 use Rattle.rg_heap.specs.Answers.{val_of, IsClosed}
 use Rattle.rg_heap.specs.Opened.{Opened, IsWindow}
-use Rattle.rg_held.proofs.Lists.{sum-one}
+use Rattle.rg_held.proofs.Lists.{sum-one, count-one as count-hit}
+use Rattle.rg_held.proofs.Places.{all-below as all_below-at}
 use Rattle.rg_view.specs.View.{object_of, store_of, window_of, windows_of, managers_of, machine_of}
 use Rattle.rg_view.specs.Numbers.{Numbers}
 use Rattle.rg_view.specs.Lain.{Nested, Lain}
@@ -32,12 +34,9 @@ use Rattle.rg_view.proofs.Callers.LookLemmas.{store-held}
 use Rattle.rg_view.proofs.Callers.ShownLemmas.{field-in}
 use Rattle.rg_view.proofs.Callers.ManagerLemmas.{managers-length}
 use Rattle.rg_view.proofs.Callers.FrameLemmas.{frames_from}
-use Rattle.rg_view.proofs.Callers.OpenLemmas.{any-in, any-map, any-reverse, closed-not-open, into-there}
-use Rattle.rg_view.proofs.Callers.NeedLemmas.{keyed, weight, count-hit, all_below-at}
+use Rattle.rg_view.proofs.Callers.OpenLemmas.{any-map, any-reverse, closed-not-open, into-there}
+use Rattle.rg_view.proofs.Callers.NeedLemmas.{keyed, weight}
 use Rattle.rg_view.proofs.Callers.OnceLemmas.{count-two}
-
-pub eq-is : (a b : ℕ) → a ≡ b → (a == b) ≡ true
-eq-is a b h = grind (arith, h)
 
 -- what the slots of all frames count is what all slots do
 slots-count : (h : Heap) (store : List Seen) (r : ℕ) (slots : List Word) (first : ℕ) (fs : List FrameRow) → Nested first (length slots) fs

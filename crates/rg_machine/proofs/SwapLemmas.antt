@@ -11,6 +11,7 @@ use Rattle.rg_base.specs.declared.value.Val.{Val}
 use Rattle.rg_base.specs.declared.value.Word.{Word}
 use Rattle.rg_base.specs.declared.value.Word.TheVariants as word
 use Rattle.rg_base.proofs.Callers.Labels.{slot-same, region-same}
+use Rattle.rg_base.proofs.Callers.Lists.{there}
 use Rattle.rg_tree.proofs.TreesFrom.{slice_get-push}
 use Rattle.rg_code.specs.Code.{empty}
 use Rattle.rg_code.specs.declared.op.Op.TheVariants as i
@@ -32,7 +33,7 @@ use Rattle.rg_heap.specs.Opened.{IsWindow}
 use Rattle.rg_heap.specs.Writes.{Comes, InActive, IsTemp, LeadsOut}
 use Rattle.rg_view.specs.View.{frames_of, machine_of, object_of, values_of}
 use Rattle.rg_view.proofs.Callers.CallLemmas.{can-swap, owns}
-use Rattle.rg_view.proofs.Callers.FrameLemmas.{slot-there, there, top-size}
+use Rattle.rg_view.proofs.Callers.FrameLemmas.{slot-there, top-size}
 use Rattle.rg_view.proofs.Callers.HeldLemmas.{all-lead}
 use Rattle.rg_view.proofs.Callers.NeedLemmas.{closed-other, keyed, write-place}
 use Rattle.rg_view.proofs.Callers.OpenLemmas.{closed-not-open, window-open}
@@ -46,16 +47,13 @@ use Rattle.rg_machine.specs.Stands.{AllLead, Leads, Stands}
 use Rattle.rg_machine.specs.declared.next.Next.TheVariants as next
 use Rattle.rg_machine.proofs.SlotLemmas.{core-slot, lead-slot, put-backs, stands-word}
 use Rattle.rg_machine.proofs.FieldLemmas.{Written, core-written, lead-written, leads-written, stands-written, topmost, written}
+use Rattle.rg_machine.proofs.EnterFieldLemmas.{front-lead as lead-front}
 
 -- words behind which one more stands
 pub get-front : {A : Type 0} → (xs : List A) (y : A) (k : ℕ) (x : A) → slice_get xs k ≡ Some x → slice_get (xs ++ y ∷ []) k ≡ Some x
 get-front [] y k x e = absurd (none-some x e)
 get-front (z ∷ xs) y zero x e = e
 get-front (z ∷ xs) y (suc k) x e = get-front xs y k x e
-
--- all but the last of words that lead
-pub lead-front : (p : Parts) (v : Stack) (words front : List Word) (r : Word) → words ≡ front ++ r ∷ [] → AllLead p v words → AllLead p v front
-lead-front p v words front r e l k w f = l k w (ap (λ ws. slice_get ws k) e ∙ get-front front r k w f)
 
 module _ (p : Parts) (v : Stack) (q : Serials p.cells.heap) (g : Grove p.cells p.regions) (h : Stands p v) where
   -- a closed region has no window

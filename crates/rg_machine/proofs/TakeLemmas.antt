@@ -1,8 +1,8 @@
 -- Slots of the topmost frame that are nil, and words that stood there.
 use Rattle.std.proofs.Common.{◌≡◌, ◌<◌, ◌≤◌, inl, inr, ℕ, zero, suc, ◌+◌, ◌-◌, true, List, [], ◌∷◌, ◌++◌, Some}
 use Rattle.std.proofs.Common.{length, take, drop, replicate, reverse, slice_get, slice_set, refl, sym, ap, ◌∙◌, subst, arith}
-use Rattle.std.proofs.lemmas.Bool.{false≢true}
-use Rattle.std.proofs.lemmas.List.{length-set, length-replicate}
+use Rattle.std.proofs.lemmas.Bool.{false≢true, cases_lt as order}
+use Rattle.std.proofs.lemmas.List.{length-replicate}
 use Rattle.std.proofs.lemmas.Option.{none-some}
 use Rattle.rg_base.specs.declared.value.Val.{Val}
 use Rattle.rg_base.specs.declared.value.Val.TheVariants as val
@@ -31,9 +31,9 @@ use Rattle.rg_machine.specs.Stands.{AllLead, Leads, Stands}
 use Rattle.rg_machine.proofs.DropLemmas.{Asked, core-same}
 use Rattle.rg_machine.proofs.EndingLemmas.{ended-more, ended-none, ending-none, nil-again}
 use Rattle.rg_machine.proofs.FewerLemmas.{fewer-all, fewer-nil, fewer-once, fewer-without, once-nil}
-use Rattle.rg_machine.proofs.ReleaseLemmas.{order}
 use Rattle.rg_machine.proofs.SlotEndLemmas.{asked-slot, backs-slot, behind-slot, bounded, slot-nil}
 use Rattle.rg_machine.proofs.SlotLemmas.{backs-slots}
+use Rattle.rg_machine.proofs.CallLemmas.{stands-nil}
 
 -- A word in a slot leads where one on the stack may
 pub slot-leads : (p : Parts) → Serials p.heap.cells.heap → Grove p.heap.cells p.heap.regions → Stands p.heap p.frames → (j : ℕ) (w : Word)
@@ -56,13 +56,6 @@ in-top p s k lt =
     let size = top-size p.heap.cells.heap p.frames.slots p.frames.first (reverse p.frames.frames) s.lain in omega (arith, lt, size)
 
 -- Where slots are nil, all stands
-
-set-back : (xs : List Word) (i j x : ℕ) → slice_get (slice_set xs i Nil) j ≡ Some (Slot x) → slice_get xs j ≡ Some (Slot x)
-set-back [] i j x e = e
-set-back (y ∷ xs) zero zero x e = absurd cc
-set-back (y ∷ xs) zero (suc j) x e = e
-set-back (y ∷ xs) (suc i) zero x e = e
-set-back (y ∷ xs) (suc i) (suc j) x e = set-back xs i j x e
 
 none-nil : (n j x : ℕ) → slice_get (replicate n Nil) j ≡ Some (Slot x) → ⊥
 none-nil zero j x e = none-some (Slot x) e
@@ -112,11 +105,6 @@ stands-slots p v slots many back s =
       fields = s.fields;
       first_mark = s.first_mark;
     }
-
-pub stands-nil : (p : HeapParts) (v : Stack) (k : ℕ) → Stands p v → Stands p (with_slot v k Nil)
-stands-nil p v k s =
-    stands-slots p v (slice_set v.slots (v.first + k) Nil) (length-set v.slots (v.first + k) Nil)
-    (λ j x e. set-back v.slots (v.first + k) j x e) s
 
 pub stands-ended : (p : HeapParts) (v : Stack) (k : ℕ) → Stands p v → Stands p (ended v k)
 stands-ended p v k s =

@@ -1,11 +1,14 @@
 -- A temporary comes: those of the other windows stay, and it is one of the topmost window.
-use Rattle.std.proofs.Common.{◌≡◌, ◌≤◌, ◌<◌, ◌⊎◌, inl, inr, ℕ, ◌+◌, ◌-◌, zero, suc, List, [], ◌∷◌, ◌++◌, Some, length, take, slice_get}
-use Rattle.std.proofs.Common.{slice_index_or, refl, sym, ap, ◌∙◌, arith}
-use Rattle.std.proofs.lemmas.Option.{none-some, same_Some, slice_get-get_or, slice_get_within}
-use Rattle.std.proofs.lemmas.List.{get_or_past, get_or_default}
+use Rattle.std.proofs.Common.{◌≡◌, ◌≤◌, ◌<◌, ◌⊎◌, inl, inr, ℕ, ◌+◌, ◌-◌, zero, suc, List, [], ◌∷◌, Some, length, take, slice_get}
+use Rattle.std.proofs.Common.{slice_index_or, sym, ap, ◌∙◌, arith}
+use Rattle.std.proofs.lemmas.Option.{none-some, slice_get-get_or, slice_get_within}
+use Rattle.std.proofs.lemmas.List.{get_or_past, get_or_default, length_push as one-longer}
+use Rattle.std.proofs.lemmas.Bool.{cases_lt as order}
 use Rattle.rg_base.specs.declared.object.Label.TheVariants.{Temp}
+use Rattle.rg_base.proofs.Callers.Lists.{there}
 use Rattle.rg_tree.proofs.TreesFrom.{slice_get-push}
 use Rattle.rg_sound.proofs.Owners.OwnerLemmas.{get-take-within}
+use Rattle.rg_sound.proofs.Frames.StandsLemmas.{snoc-cases as in-front-or}
 use Rattle.rg_cells.specs.Table.{IsHeld}
 use Rattle.rg_regions.proofs.Callers.Told.{labelled_held}
 use Rattle.rg_frames.specs.declared.rows.Window.{Window}
@@ -13,7 +16,6 @@ use Rattle.rg_frames.specs.Stack.{Stack, MarksLie, with_temp}
 use Rattle.rg_frames.proofs.Unwriting.{got-longer}
 use Rattle.rg_heap.specs.Parts.{Parts}
 use Rattle.rg_heap.specs.Opened.{IsWindow, IsTempOf}
-use Rattle.rg_view.proofs.Callers.FrameLemmas.{there}
 use Rattle.rg_view.proofs.Callers.ShownLemmas.{get-drop, get-take}
 use Rattle.rg_machine.specs.Stands.{Stands}
 
@@ -25,27 +27,7 @@ taken-within (suc n) k [] x e = absurd (none-some x e)
 taken-within (suc n) zero (y ∷ xs) x e = omega arith
 taken-within (suc n) (suc k) (y ∷ xs) x e = let lt = taken-within n k xs x e in omega (arith, lt)
 
-pub in-front-or : {A : Type 0} → (xs : List A) (y x : A) (k : ℕ) → slice_get (xs ++ y ∷ []) k ≡ Some x
-    → (slice_get xs k ≡ Some x) ⊎ ((k ≡ length xs) × (y ≡ x))
-in-front-or [] y x zero e = inr (refl, same_Some y x e)
-in-front-or [] y x (suc k) e = absurd (none-some x e)
-in-front-or (z ∷ xs) y x zero e = inl e
-in-front-or (z ∷ xs) y x (suc k) e = elim (in-front-or xs y x k e) [
-  | inl h ↦ inl h
-  | inr h ↦ let n = h.0 in inr (omega (arith, n), h.1)
-]
-
-one-longer : {A : Type 0} → (xs : List A) (y : A) → length (xs ++ y ∷ []) ≡ length xs + 1
-one-longer [] y = refl
-one-longer (x ∷ xs) y = let e = one-longer xs y in omega (arith, e)
-
 -- Marks
-
-order : (a b : ℕ) → (a < b) ⊎ (b ≤ a)
-order zero zero = inr (omega arith)
-order zero (suc b) = inl (omega arith)
-order (suc a) zero = inr (omega arith)
-order (suc a) (suc b) = elim (order a b) [ inl lt ↦ inl (omega (arith, lt)) | inr le ↦ inr (omega (arith, le)) ]
 
 -- a temporary of the window at a place stands between its mark and the next one
 record Between (v : Stack) (i s : ℕ) : Type 0 where

@@ -1,5 +1,6 @@
 -- Where a window can be opened, as the machine sees it.
-use Rattle.std.proofs.Common.{◌≡◌, ◌≤◌, ◌<◌, ℕ, ◌+◌, ◌-◌, length, reverse, nat_le, nat_lt, if◌then◌else◌, true, false, sym, ap, ◌∙◌, arith}
+use Rattle.std.proofs.Common.{◌≡◌, ◌≤◌, ◌<◌, ℕ, ◌+◌, ◌-◌, length, reverse, nat_le, if◌then◌else◌, false, sym, ap, ◌∙◌, arith}
+use Rattle.std.proofs.lemmas.Bool.{lt-ltb as lt-true, le-ltb as lt-false}
 use Rattle.rg_frames.specs.declared.rows.Window.{Window as WindowRow}
 use Rattle.rg_frames.specs.Stack.{Stack, IsTop}
 use Rattle.rg_heap.specs.Parts.{Parts}
@@ -10,18 +11,6 @@ use Rattle.rg_view.specs.View.{frames_of, windows_of, machine_of}
 use Rattle.rg_view.proofs.Callers.FrameLemmas.{top-size, place-there}
 use Rattle.rg_view.proofs.Callers.WindowLemmas.{begins-top}
 use Rattle.rg_machine.specs.Frames.{can_open}
-
-pub le-true : (a b : ℕ) → a ≤ b → nat_le a b ≡ true
-le-true a b h = grind (arith, h)
-
-pub le-false : (a b : ℕ) → b < a → nat_le a b ≡ false
-le-false a b h = grind (arith, h)
-
-lt-true : (a b : ℕ) → a < b → nat_lt a b ≡ true
-lt-true a b h = grind (arith, h)
-
-lt-false : (a b : ℕ) → b ≤ a → nat_lt a b ≡ false
-lt-false a b h = grind (arith, h)
 
 module _ (p : Parts) (v : Stack) (at : ℕ) where
   pub past-top : (z : ℕ) → Lain v → length v.slots - v.first ≤ z → can_open (machine_of p v at) z ≡ false

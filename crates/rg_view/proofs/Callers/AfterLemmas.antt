@@ -25,12 +25,13 @@ use Rattle.rg_heap.specs.Parts.{Parts}
 use Rattle.rg_heap.specs.Ends.{Released, NoCell}
 use Rattle.rg_view.specs.Names.{Names, AreTemps}
 use Rattle.rg_view.specs.Links.{BelowSome}
-use Rattle.rg_view.proofs.ListLemmas.{map-numbers, map-at}
+use Rattle.rg_view.proofs.ListLemmas.{map-numbers}
 use Rattle.rg_view.proofs.Callers.ReleaseLemmas.{kept-body}
 use Rattle.rg_view.proofs.Callers.GoneLemmas.{released-numbers}
 use Rattle.rg_view.proofs.Callers.KeyLemmas.{among-append, bury-more}
 use Rattle.rg_view.proofs.Callers.ForgetLemmas.{lives_in, remembered, index-of}
 use Rattle.rg_held.specs.Frees.{gone, is_temp, buried, bury, forgotten}
+use Rattle.rg_held.proofs.Callers.ForgetLemmas.{made-at}
 
 -- no temporaries
 pub no-temps : (h : Heap) → AreTemps h None NoCell
@@ -222,7 +223,7 @@ remembered-twice ws us store left ms h =
     at : (r : ℕ) → r < length ms → lives_in ws store r ≡ true → slice_index_or (remembered ws store ms) r Arena ≡ slice_index_or ms r Arena
     at r lt e =
         index-of (remembered ws store ms) r (if lives_in ws store r then slice_index_or ms r Arena else Arena)
-        (map-at (λ r. if lives_in ws store r then slice_index_or ms r Arena else Arena) (length ms) r lt)
+        (made-at (λ r. if lives_in ws store r then slice_index_or ms r Arena else Arena) (length ms) r lt)
         ∙ ap (λ t. if t then slice_index_or ms r Arena else Arena) e
 
 -- an object that is left in a region lay there before

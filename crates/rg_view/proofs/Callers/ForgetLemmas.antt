@@ -3,8 +3,9 @@
 use Rattle.std.proofs.Common.{◌≡◌, ◌<◌, ◌||◌, inl, inr, ℕ, zero, suc, Bool as Truth, true, false, if◌then◌else◌, List, [], ◌∷◌, map, length}
 use Rattle.std.proofs.Common.{Option, Some, None, option_map, slice_get, slice_index_or, refl, sym, ap, ◌∙◌, subst}
 use Rattle.std.specs.List.{list_any, range_with_len}
-use Rattle.std.proofs.lemmas.Bool.{cases_eq, false≢true}
+use Rattle.std.proofs.lemmas.Bool.{cases_eq, false≢true, eq-eqb, false_from_ne_true}
 use Rattle.std.proofs.lemmas.Option.{none-some, same_Some}
+use Rattle.std.proofs.lemmas.Map.Keys.{any_passes_from_place}
 use Rattle.rg_base.specs.declared.object.Label.{Label}
 use Rattle.rg_base.specs.declared.object.Label.TheVariants.{Region}
 use Rattle.rg_base.specs.declared.object.Seen.{Seen}
@@ -12,6 +13,7 @@ use Rattle.rg_base.specs.declared.value.Val.{Val}
 use Rattle.rg_base.specs.declared.words.Manager.{Manager}
 use Rattle.rg_base.specs.declared.words.Manager.TheVariants.{Arena}
 use Rattle.rg_base.proofs.Callers.Options.{some-there}
+use Rattle.rg_base.proofs.Callers.Lists.{there}
 use Rattle.rg_rules.specs.Regions.{among, relabelled}
 use Rattle.rg_cells.specs.declared.cell.Body.{Body}
 use Rattle.rg_cells.specs.Table.{Heap, body_at, Serials}
@@ -30,13 +32,12 @@ use Rattle.rg_view.specs.View.{object_of, store_of, number_in, number_of, window
 use Rattle.rg_view.specs.Names.{Names, AreTemps}
 use Rattle.rg_view.specs.Numbers.{Numbers, HasBridges}
 use Rattle.rg_view.specs.Links.{BelowSome}
-use Rattle.rg_view.proofs.ListLemmas.{map-numbers, eq-is}
+use Rattle.rg_view.proofs.ListLemmas.{map-numbers}
 use Rattle.rg_view.proofs.Callers.LookLemmas.{store-held}
 use Rattle.rg_view.proofs.Callers.LinkLemmas.{store-back, gone-region}
-use Rattle.rg_view.proofs.Callers.FrameLemmas.{there}
 use Rattle.rg_view.proofs.Callers.ManagerLemmas.{Known, Unknown, look-number, managers-length, manager-at}
 use Rattle.rg_view.proofs.Callers.TableLemmas.{FewerNumbers, kept-windows}
-use Rattle.rg_view.proofs.Callers.OpenLemmas.{any-in, any-back, never, Keyed, open-back, window-open, closed-not-open}
+use Rattle.rg_view.proofs.Callers.OpenLemmas.{any-back, Keyed, open-back, window-open, closed-not-open}
 use Rattle.rg_view.proofs.Callers.NeedLemmas.{keyed, closed-not-above}
 use Rattle.rg_view.proofs.Callers.ReleaseLemmas.{released-store, released-serials}
 use Rattle.rg_view.proofs.Callers.LabelLemmas.{Labels, labels-store, labels-serials}
@@ -95,8 +96,8 @@ object-lies h r s q lies = by (body_at h s) refl
     by None e = absurd (none-some (Region r) (sym (ap (option_map (λ (b : Body). b.label)) e) ∙ lies))
     by (Some c) e =
         let label : c.label ≡ Region r = same_Some c.label (Region r) (sym (ap (option_map (λ (b : Body). b.label)) e) ∙ lies) in
-        any-in (λ (o : Seen). lies_in r o.label) (store_of h) c.serial (object_of h (Some c)) (store-held h s c q e)
-        (ap (lies_in r) label ∙ eq-is r r refl)
+        any_passes_from_place (λ (o : Seen). lies_in r o.label) (store_of h) c.serial (object_of h (Some c)) (store-held h s c q e)
+        (ap (lies_in r) label ∙ eq-eqb r r refl)
 
 -- and the other way round
 pub lies-object : (h : Heap) (r : ℕ) → list_any (λ (o : Seen). lies_in r o.label) (store_of h) ≡ true → (s : ℕ) × LiesIn h r s
@@ -131,8 +132,8 @@ module _ (old new : Parts) (f : FewerNumbers old.regions new.regions) (n : Numbe
   unknown-dead : (ws : List Window) (r : ℕ) → OpenLeft new.regions ws → Unknown new.regions r → lives_in ws (store_of new.cells.heap) r ≡ false
   unknown-dead ws r w u =
       ap (λ t. t || list_any (λ (o : Seen). lies_in r o.label) (store_of new.cells.heap))
-      (never (is_open ws r) (λ e. unknown-not-in new.regions r u (w.known r e)))
-      ∙ never (list_any (λ (o : Seen). lies_in r o.label) (store_of new.cells.heap)) (λ e.
+      (false_from_ne_true (is_open ws r) (λ e. unknown-not-in new.regions r u (w.known r e)))
+      ∙ false_from_ne_true (list_any (λ (o : Seen). lies_in r o.label) (store_of new.cells.heap)) (λ e.
       let s = lies-object new.cells.heap r e in unknown-not-in new.regions r u (g.labels r s.0 s.1))
 
   keeps-at : (ws : List Window) (r : ℕ) → OpenLeft new.regions ws → manager_with r new.regions.records
@@ -213,7 +214,7 @@ below-closed p v at s g o tops closed q b =
     let c = closed b.0 b.1 in
     elim b.2 [
       | inl is ↦ ap (is_open (windows_of p.regions v)) is ∙ closed-not-open p.regions v (keyed p v at s g o) b.0 c
-      | inr x ↦ never (is_open (windows_of p.regions v) q) (λ e. closed-not-above p v at s g o b.0 q c e x.1)
+      | inr x ↦ false_from_ne_true (is_open (windows_of p.regions v) q) (λ e. closed-not-above p v at s g o b.0 q c e x.1)
     ]
 
 -- the machine behind a release, with what is forgotten under the windows of some moment, as in front of a window's end

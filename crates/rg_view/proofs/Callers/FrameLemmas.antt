@@ -32,12 +32,6 @@ front-last xs x e =
 pub last-reverse : {A : Type 0} → (xs : List A) (x : A) → slice_get xs (length xs - 1) ≡ Some x → reverse xs ≡ x ∷ reverse (take (length xs - 1) xs)
 last-reverse xs x e = ap reverse (front-last xs x e) ∙ reverse-append (take (length xs - 1) xs) (x ∷ [])
 
--- within a list there is an element
-pub there : {A : Type 0} → (xs : List A) (k : ℕ) → k < length xs → (x : A) × (slice_get xs k ≡ Some x)
-there [] k within = absurd (omega (arith, within))
-there (x ∷ xs) zero within = (x, refl)
-there (x ∷ xs) (suc k) within = there xs k (omega (arith, within))
-
 module _ (heap : Heap) where
   -- the frames that lie over slots
   abbrev pub frames_from : List Word → (first : ℕ) → List FrameRow → List Frame

@@ -1,16 +1,17 @@
 -- What is shown where cells get another label: the store with that label of all objects in some regions.
 use Rattle.std.proofs.Common.{◌≡◌, ◌⊎◌, inl, inr, ℕ, ◌==◌, Bool as Truth, true, false, if◌then◌else◌, cond, List, [], ◌∷◌, Option, Some, None}
 use Rattle.std.proofs.Common.{option_map, is_some, refl, sym, ap, ◌∙◌, subst}
-use Rattle.std.proofs.lemmas.Bool.{false≢true}
-use Rattle.std.proofs.lemmas.Option.{none-some, same_Some}
+use Rattle.std.proofs.lemmas.Bool.{false≢true, eq-eqb, eqb-true}
+use Rattle.std.proofs.lemmas.Option.{none-some}
 use Rattle.rg_base.specs.declared.object.Label.{Label}
 use Rattle.rg_base.specs.declared.object.Label.TheVariants.{Region, Temp, Frozen}
 use Rattle.rg_base.proofs.Callers.Labels.{region-same, frozen-region, temp-region}
 use Rattle.rg_rules.specs.Regions.{among, in_regions, relabelled_object, relabelled}
 use Rattle.rg_cells.specs.declared.cell.Body.{Body}
 use Rattle.rg_cells.specs.Table.{Heap, body_at, label_at, Serials}
-use Rattle.rg_regions.specs.Table.{RegionTable, HasNumber}
+use Rattle.rg_regions.specs.Table.{HasNumber}
 use Rattle.rg_regions.specs.Reach.{LiesIn}
+use Rattle.rg_regions.proofs.Callers.Told.{one_number}
 use Rattle.rg_move.specs.Closed.{BelowKey}
 use Rattle.rg_move.specs.Frozen.{labelled}
 use Rattle.rg_heap.specs.Parts.{Parts}
@@ -18,7 +19,6 @@ use Rattle.rg_heap.specs.Answers.{obj_of}
 use Rattle.rg_heap.specs.Moves.{Freezes, Merges}
 use Rattle.rg_view.specs.View.{object_of, store_of}
 use Rattle.rg_view.specs.Names.{Names}
-use Rattle.rg_view.proofs.ListLemmas.{eq-true, eq-is}
 use Rattle.rg_view.proofs.Callers.ShownLemmas.{IsSameObject, object-same}
 use Rattle.rg_view.proofs.Callers.BecomeLemmas.{Becomes, becomes-store, becomes-serials}
 
@@ -130,14 +130,11 @@ pub one-is : (q p : ℕ) → among (q ∷ []) p ≡ true → q ≡ p
 one-is q p e = by (q == p) refl
   where
     by : (t : Truth) → (q == p) ≡ t → q ≡ p
-    by true is = eq-true q p is
+    by true is = eqb-true q p is
     by false is = absurd (false≢true (sym (ap (λ b. is_some (cond b (Some q) None)) is) ∙ e))
 
 pub one-there : (q p : ℕ) → q ≡ p → among (q ∷ []) p ≡ true
-one-there q p e = ap (λ b. is_some (cond b (Some q) None)) (eq-is q p e)
-
-has-one : (t : RegionTable) (key n m : ℕ) → HasNumber t key n → HasNumber t key m → n ≡ m
-has-one t key n m a b = same_Some n m (sym a ∙ b)
+one-there q p e = ap (λ b. is_some (cond b (Some q) None)) (eq-eqb q p e)
 
 -- a merge labels those of the one region
 pub merge-labels : (old new : Parts) (source into from to : ℕ) → Merges old new source into
@@ -146,5 +143,5 @@ pub merge-labels : (old new : Parts) (source into from to : ℕ) → Merges old 
 merge-labels old new source into from to m f t = record {
   next = m.serials;
   moved = λ q s a lies. (m.moved from to s f t (subst (λ r. LiesIn old.cells.heap r s) (sym (one-is from q a)) lies)).0;
-  stay = λ s out. (m.cells s (λ q has lies. out q (one-there from q (has-one old.regions source from q f has)) lies)).0;
+  stay = λ s out. (m.cells s (λ q has lies. out q (one-there from q (one_number old.regions source from q f has)) lies)).0;
 }

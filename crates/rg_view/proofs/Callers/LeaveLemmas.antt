@@ -2,15 +2,15 @@
 use Rattle.std.proofs.Common.{◌≡◌, ℕ, ◌+◌, ◌-◌, length, drop, take, Some, slice_get}
 use Rattle.std.proofs.Common.{slice_index_or, sym, ap, ◌∙◌, arith}
 use Rattle.std.proofs.lemmas.List.{get_or_past, take_all}
+use Rattle.std.proofs.lemmas.Bool.{eq-eqb}
+use Rattle.std.proofs.lemmas.Map.Keys.{any_passes_from_place}
+use Rattle.rg_base.proofs.Callers.Lists.{there}
 use Rattle.rg_regions.specs.Grove.{Grove}
 use Rattle.rg_frames.specs.Stack.{Stack, has_region, mark}
 use Rattle.rg_heap.specs.Parts.{Parts}
 use Rattle.rg_heap.specs.Ends.{CanLeave, OneOutside, top_temps}
 use Rattle.rg_heap.specs.Opened.{Opened, IsTempOf}
-use Rattle.rg_view.proofs.ListLemmas.{eq-is}
-use Rattle.rg_view.proofs.Callers.FrameLemmas.{there}
 use Rattle.rg_view.proofs.Callers.ShownLemmas.{get-drop}
-use Rattle.rg_view.proofs.Callers.OpenLemmas.{any-in}
 
 module _ (p : Parts) (v : Stack) (g : Grove p.cells p.regions) (o : Opened p v) where
   -- the topmost window's temporaries are those of the window at the last place
@@ -40,7 +40,7 @@ module _ (p : Parts) (v : Stack) (g : Grove p.cells p.regions) (o : Opened p v) 
     first = λ key n.
         let w = there v.windows 0 o.some in
         let same : w.0.region ≡ key = g.numbers w.0.region key 0 (o.first w.0 w.1) n in
-        any-in (has_region key) v.windows 0 w.0 w.1 (eq-is w.0.region key same);
+        any_passes_from_place (has_region key) v.windows 0 w.0 w.1 (eq-eqb w.0.region key same);
     temps = λ i s e.
         let some = o.some in
         let w = there v.windows (length v.windows - 1) (omega (arith, some)) in

@@ -83,7 +83,7 @@ word-back h ws k x e = by (slice_get ws k) refl
 pub gone-region : (r : ℕ) → gone.label ≡ Region r → ⊥
 gone-region r e = let c : None ≡ Some r = ap region_of e in none-some r c
 
-label-in : (h : Heap) (s : ℕ) (b : Body) (l : Label) → body_at h s ≡ Some b → b.label ≡ l → label_at h s ≡ Some l
+pub label-in : (h : Heap) (s : ℕ) (b : Body) (l : Label) → body_at h s ≡ Some b → b.label ≡ l → label_at h s ≡ Some l
 label-in h s b l e is = ap (option_map (λ (b : Body). b.label)) e ∙ ap Some is
 
 -- the region at an address is that of a held cell

@@ -3,14 +3,15 @@ use Rattle.std.proofs.Common.{◌≡◌, ◌≢◌, ◌<◌, ◌==◌, ◌⊎◌
 use Rattle.std.proofs.Common.{length, Option, Some, None, slice_get, slice_index_or, refl, sym, ap, ◌∙◌}
 use Rattle.std.proofs.lemmas.Option.{same_Some}
 use Rattle.std.proofs.lemmas.List.FromFn.{length-map-range_with_len}
+use Rattle.std.proofs.lemmas.Bool.{eqb-true, eqb-false}
 use Rattle.rg_base.specs.declared.value.Val.TheVariants.{Obj}
 use Rattle.rg_base.specs.declared.value.Word.TheVariants as word
 use Rattle.rg_cells.specs.declared.cell.Body.{Body}
 use Rattle.rg_cells.specs.Table.{Heap, body_in, body_at, Serials, LacksSerial}
 use Rattle.rg_heap.specs.Answers.{val_of, obj_of}
 use Rattle.rg_view.specs.View.{has_serial, body_with, object_of, seen_of, store_of}
-use Rattle.rg_view.proofs.ListLemmas.{map-at, eq-true, eq-false}
 use Rattle.rg_held.specs.Frees.{gone}
+use Rattle.rg_held.proofs.Callers.ForgetLemmas.{made-at}
 
 -- what is found is at the head, or behind it
 found-by : (a : ℕ) (o under : Option Body) (b : Body) → (if has_serial a o then o else under) ≡ Some b
@@ -19,7 +20,7 @@ found-by a None under b e = inr e
 found-by a (Some c) under b e = test (c.serial == a) refl e
   where
     test : (t : Truth) → (c.serial == a) ≡ t → (if t then Some c else under) ≡ Some b → ((Some c ≡ Some b) × (b.serial ≡ a)) ⊎ (under ≡ Some b)
-    test true is e = let same : c ≡ b = same_Some c b e in inl (e, ap (λ (x : Body). x.serial) (sym same) ∙ eq-true c.serial a is)
+    test true is e = let same : c ≡ b = same_Some c b e in inl (e, ap (λ (x : Body). x.serial) (sym same) ∙ eqb-true c.serial a is)
     test false is e = inr e
 
 found-in : (a : ℕ) (xs : List (Option (Option Body))) (b : Body) → body_with a xs ≡ Some b
@@ -39,7 +40,7 @@ none-by a (Some c) under e = test (c.serial == a) refl e
     test : (t : Truth) → (c.serial == a) ≡ t → (if t then Some c else under) ≡ None → ((b : Body) → Some c ≡ Some b → b.serial ≢ a) × (under ≡ None)
     test true is e = absurd cc
     test false is e =
-        (λ b same. let q : c ≡ b = same_Some c b same in λ f. eq-false c.serial a is (ap (λ (x : Body). x.serial) q ∙ f), e)
+        (λ b same. let q : c ≡ b = same_Some c b same in λ f. eqb-false c.serial a is (ap (λ (x : Body). x.serial) q ∙ f), e)
 
 none-in : (a : ℕ) (xs : List (Option (Option Body))) → body_with a xs ≡ None → (s : ℕ) (b : Body)
     → body_in (slice_index_or xs s None) ≡ Some b → b.serial ≢ a
@@ -95,7 +96,7 @@ store-length h = length-map-range_with_len (seen_of h) 0 h.next
 
 -- what stands at a serial that was given out
 pub store-at : (h : Heap) (a : ℕ) → a < h.next → slice_get (store_of h) a ≡ Some (seen_of h a)
-store-at h a lt = map-at (seen_of h) h.next a lt
+store-at h a lt = made-at (seen_of h) h.next a lt
 
 -- a held cell stands at its serial
 pub store-held : (h : Heap) (s : ℕ) (b : Body) → Serials h → body_at h s ≡ Some b → slice_get (store_of h) b.serial ≡ Some (object_of h (Some b))

@@ -2,16 +2,17 @@
 use Rattle.std.proofs.Common.{◌≡◌, ◌≢◌, ◌<◌, ◌==◌, ◌⊎◌, inl, inr, ℕ, zero, suc, Bool as Truth, true, false, if◌then◌else◌, List, [], ◌∷◌, ◌++◌, map}
 use Rattle.std.proofs.Common.{length, Option, Some, None, slice_get, slice_index_or, refl, sym, ap, ◌∙◌, arith}
 use Rattle.std.specs.List.{range_with_len}
-use Rattle.std.proofs.lemmas.Bool.{cases_eq}
+use Rattle.std.proofs.lemmas.Bool.{cases_eq, eqb-true, eqb-false}
 use Rattle.std.proofs.lemmas.Option.{none-some, same_Some}
 use Rattle.std.proofs.lemmas.List.FromFn.{length-map-range_with_len}
 use Rattle.rg_base.specs.declared.words.Manager.{Manager}
 use Rattle.rg_base.specs.declared.words.Manager.TheVariants.{Arena}
 use Rattle.rg_regions.specs.Table.{Record, RegionTable, record_at}
 use Rattle.rg_heap.specs.Changes.{Opens}
+use Rattle.rg_held.proofs.Callers.ForgetLemmas.{made-at}
 use Rattle.rg_view.specs.View.{manager_with, managers_of}
 use Rattle.rg_view.specs.Numbers.{Numbers}
-use Rattle.rg_view.proofs.ListLemmas.{map-numbers, map-more, map-at, eq-true, eq-false}
+use Rattle.rg_view.proofs.ListLemmas.{map-numbers, map-more}
 
 -- a region of the table has the number, and this is its manager
 pub record Known (t : RegionTable) (n : ℕ) : Type 0 where
@@ -58,7 +59,7 @@ look-in n (Some r ∷ rs) = test (r.number == n) refl (look-in n rs)
       key = 0;
       rec = r;
       there = refl;
-      number = eq-true r.number n e;
+      number = eqb-true r.number n e;
       shown = ap (λ b. if b then r.manager else manager_with n rs) e;
     })
     test false e rest = elim rest [
@@ -70,7 +71,7 @@ look-in n (Some r ∷ rs) = test (r.number == n) refl (look-in n rs)
         shown = ap (λ b. if b then r.manager else manager_with n rs) e ∙ f.shown;
       })
       | inr w ↦ inr (record {
-        none = none w (eq-false r.number n e);
+        none = none w (eqb-false r.number n e);
         shown = ap (λ b. if b then r.manager else manager_with n rs) e ∙ w.shown;
       })
     ]
@@ -99,7 +100,7 @@ managers-length t = length-map-range_with_len (λ n. manager_with n t.records) 0
 pub manager-at : (t : RegionTable) (key : ℕ) (r : Record) → Numbers t → record_at t key ≡ Some r
     → slice_get (managers_of t) r.number ≡ Some r.manager
 manager-at t key r q e =
-    map-at (λ n. manager_with n t.records) t.next r.number (q.below key r e) ∙ ap Some (manager-of t key r q e)
+    made-at (λ n. manager_with n t.records) t.next r.number (q.below key r e) ∙ ap Some (manager-of t key r q e)
 
 module _ (old new : RegionTable) (key slot : ℕ) (manager : Manager) (o : Opens old new key slot manager) (q : Numbers old) where
   -- the record that comes

@@ -1,8 +1,8 @@
 -- The conditions of the heap's calls, from what instructions need of the machine that the heap shows.
-use Rattle.std.proofs.Common.{◌≡◌, ◌≢◌, ◌≤◌, ◌<◌, ◌==◌, ◌||◌, ◌&&◌, ◌⊎◌, inl, inr, ℕ, zero, suc, ◌-◌, Bool as Truth, true, false, cond, not}
+use Rattle.std.proofs.Common.{◌≡◌, ◌≢◌, ◌≤◌, ◌<◌, ◌==◌, ◌||◌, ◌⊎◌, inl, inr, ℕ, ◌-◌, Bool as Truth, true, false, cond, not}
 use Rattle.std.proofs.Common.{List, [], ◌∷◌, map, length, Option, Some, None, option_map, slice_get, unwrap_or, count_by, nat_le}
 use Rattle.std.proofs.Common.{refl, sym, ap, ◌∙◌, subst, arith}
-use Rattle.std.proofs.lemmas.Bool.{false≢true, cases_eq}
+use Rattle.std.proofs.lemmas.Bool.{false≢true, eqb-true, ne_eqb}
 use Rattle.std.proofs.lemmas.Option.{none-some, same_Some, slice_get-map}
 use Rattle.rg_base.specs.declared.object.Label.{Label}
 use Rattle.rg_base.specs.declared.object.Label.TheVariants.{Region, Temp, Frozen}
@@ -11,6 +11,7 @@ use Rattle.rg_base.specs.declared.value.Val.{Val}
 use Rattle.rg_base.specs.declared.value.Val.TheVariants as val
 use Rattle.rg_base.specs.declared.value.Word.{Word}
 use Rattle.rg_base.specs.declared.value.Word.TheVariants as word
+use Rattle.rg_base.proofs.Callers.Lists.{there}
 use Rattle.rg_cells.specs.declared.cell.Body.{Body}
 use Rattle.rg_cells.specs.Table.{body_at, label_at, field_at, Serials, IsHeld}
 use Rattle.rg_regions.specs.Table.{Record, record_at, HasNumber, IsBridge}
@@ -20,22 +21,21 @@ use Rattle.rg_frames.specs.declared.rows.Window.{Window as WindowRow}
 use Rattle.rg_frames.specs.Stack.{Stack, IsTop}
 use Rattle.rg_stack.specs.Machine.{Frame, top_slots, slot_at}
 use Rattle.rg_stack.specs.Effects.{top_region}
-use Rattle.rg_stack.specs.Needs.{is_open, is_into, label_of, is_outside, slots_into, fields_into, places_into, all_below, owned_once, loose}
+use Rattle.rg_stack.specs.Needs.{is_open, is_into, label_of, is_outside, slots_into, fields_into, places_into, owned_once, loose}
 use Rattle.rg_stack.specs.Needs.{is_writable, may_stand}
 use Rattle.rg_heap.specs.Parts.{Parts}
 use Rattle.rg_heap.specs.Answers.{val_of, IsClosed, LeadsIntoClosed}
 use Rattle.rg_heap.specs.Opened.{Opened}
 use Rattle.rg_heap.specs.Writes.{Stays, Ownerless, Comes, IsTemp, InActive, LeadsOut}
 use Rattle.rg_heap.specs.Moves.{NotBeneath}
-use Rattle.rg_held.proofs.Lists.{sum-one}
+use Rattle.rg_held.proofs.Lists.{sum-one, count-one}
+use Rattle.rg_held.proofs.Places.{all-below}
 use Rattle.rg_view.specs.View.{object_of, store_of, windows_of, frames_of, managers_of, machine_of}
 use Rattle.rg_view.specs.Numbers.{Numbers}
-use Rattle.rg_view.proofs.ListLemmas.{eq-true, eq-not}
 use Rattle.rg_view.proofs.Callers.LookLemmas.{store-held, val-held}
 use Rattle.rg_view.proofs.Callers.ShownLemmas.{held-body, field-in}
 use Rattle.rg_view.proofs.Callers.ManagerLemmas.{managers-length}
 use Rattle.rg_view.proofs.Callers.WindowLemmas.{active-region}
-use Rattle.rg_view.proofs.Callers.FrameLemmas.{there}
 use Rattle.rg_view.proofs.Callers.OpenLemmas.{Keyed, number-is, open-back, window-open, closed-not-open, label-shown}
 use Rattle.rg_view.proofs.Callers.OpenLemmas.{into-there, closed-there}
 
@@ -44,24 +44,6 @@ use Rattle.rg_view.proofs.Callers.OpenLemmas.{into-there, closed-there}
 -- one where a test passes
 abbrev pub weight : Truth → ℕ
 weight b = cond b 1 0
-
-pub count-hit : {A : Type 0} (test : A → Truth) (xs : List A) (i : ℕ) (x : A) → slice_get xs i ≡ Some x → test x ≡ true → 1 ≤ count_by test xs
-count-hit test xs i x e is =
-    let h : weight (test x) ≤ count_by test xs = sum-one (λ x. weight (test x)) xs i x e in
-    let one : weight (test x) ≡ weight true = ap weight is in
-    omega (arith, h, one)
-
--- a test of all numbers below one
-pub all_below-at : (n : ℕ) (test : ℕ → Truth) (k : ℕ) → all_below n test ≡ true → k < n → test k ≡ true
-all_below-at zero test k e lt = absurd (omega (arith, lt))
-all_below-at (suc n) test k e lt = elim (cases_eq k n) [
-  | inl is ↦ ap test is ∙ (both (test n) (all_below n test) e).0
-  | inr d ↦ all_below-at n test k (both (test n) (all_below n test) e).1 (omega (arith, lt, d))
-]
-  where
-    both : (a b : Truth) → (a && b) ≡ true → (a ≡ true) × (b ≡ true)
-    both true b e = (refl, e)
-    both false b e = absurd (false≢true e)
 
 module _ (p : Parts) (v : Stack) (at : ℕ) (q : Serials p.cells.heap) (g : Grove p.cells p.regions) (o : Opened p v) where
   -- the windows' regions, and the numbers of regions
@@ -115,7 +97,7 @@ module _ (p : Parts) (v : Stack) (at : ℕ) (q : Serials p.cells.heap) (g : Grov
       by : (l : Label) → b.label ≡ l → InActive p.cells.heap p.regions v s P ⊎ IsTemp p.cells.heap s
       by (Region r) is =
           let same : r ≡ top.number =
-          eq-true r (top_region (windows_of p.regions v)) (sym (ap (is_writable (machine_of p v at)) is) ∙ may) ∙ top.shown in
+          eqb-true r (top_region (windows_of p.regions v)) (sym (ap (is_writable (machine_of p v at)) is) ∙ may) ∙ top.shown in
           inl (top.window, r, top.is, subst (HasNumber p.regions top.window.region) (sym same) top.has, label-is (Region r) is, h r same is)
       by (Temp n) is = inr (n, label-is (Temp n) is)
       by Frozen is = absurd (false≢true (sym (ap (is_writable (machine_of p v at)) is) ∙ may))
@@ -142,7 +124,7 @@ module _ (p : Parts) (v : Stack) (at : ℕ) (q : Serials p.cells.heap) (g : Grov
         where
           label : (l : Label) → b.label ≡ l → answer (Some l) ≡ true → (label_at p.cells.heap to ≡ Some Frozen) ⊎ LiesIn p.cells.heap n to
           label (Region r) is e =
-              inr (ap (option_map (λ (b : Body). b.label)) f ∙ ap Some is ∙ ap (λ r. Some (Region r)) (eq-true r n e))
+              inr (ap (option_map (λ (b : Body). b.label)) f ∙ ap Some is ∙ ap (λ r. Some (Region r)) (eqb-true r n e))
           label (Temp m) is e = absurd (false≢true e)
           label Frozen is e = inl (ap (option_map (λ (b : Body). b.label)) f ∙ ap Some is)
 
@@ -157,13 +139,13 @@ module _ (p : Parts) (v : Stack) (at : ℕ) (q : Serials p.cells.heap) (g : Grov
           → 1 ≤ fields_into (store_of p.cells.heap) (windows_of p.regions v) r (store_of p.cells.heap)
       by None e = absurd (none-some (Region p₂) (sym (ap (option_map (λ (b : Body). b.label)) e) ∙ lies))
       by (Some b) e =
-          let one = count-hit (is_into (store_of p.cells.heap) r) (map (val_of p.cells.heap) b.fields) k (val_of p.cells.heap (word.Slot x))
+          let one = count-one (is_into (store_of p.cells.heap) r) (map (val_of p.cells.heap) b.fields) k (val_of p.cells.heap (word.Slot x))
           (slice_get-map (val_of p.cells.heap) b.fields k
           ∙ ap (option_map (val_of p.cells.heap)) (sym (field-in p.cells.heap s k b e) ∙ leads))
           (into-there p.cells.heap r x q into) in
           let label : b.label ≡ Region p₂ = same_Some b.label (Region p₂) (sym (ap (option_map (λ (b : Body). b.label)) e) ∙ lies) in
           let outside : is_outside (windows_of p.regions v) r b.label ≡ true =
-          ap (is_outside (windows_of p.regions v) r) label ∙ ap not (eq-not p₂ r d) in
+          ap (is_outside (windows_of p.regions v) r) label ∙ ap not (ne_eqb p₂ r d) in
           let counts : cond (is_outside (windows_of p.regions v) r b.label)
           (count_by (is_into (store_of p.cells.heap) r) (map (val_of p.cells.heap) b.fields)) 0
           ≡ count_by (is_into (store_of p.cells.heap) r) (map (val_of p.cells.heap) b.fields) =
@@ -189,7 +171,7 @@ module _ (p : Parts) (v : Stack) (at : ℕ) (q : Serials p.cells.heap) (g : Grov
       → loose (machine_of p v at) (val_of p.cells.heap (word.Slot s)) ≡ true → Ownerless p.cells.heap p.regions r s
   ownerless-loose r s lies c bridge e =
       let m = machine_of p v at in
-      let none : places_into m r ≡ 0 = eq-true (places_into m r) 0
+      let none : places_into m r ≡ 0 = eqb-true (places_into m r) 0
       (sym (ap (λ (x : Option ℕ). elim x [ None ↦ true | Some n ↦ places_into m n == 0 ]) (closed-there p v at q keyed g.labels s r lies c)) ∙ e) in
       ownerless r s lies c bridge (omega (arith, none))
 
@@ -201,7 +183,7 @@ module _ (p : Parts) (v : Stack) (at : ℕ) (q : Serials p.cells.heap) (g : Grov
       found : (vs : List Val) (x : Option Val) → slice_get vs i ≡ x → is_into (store_of p.cells.heap) r (unwrap_or x val.Nil) ≡ true
           → 1 ≤ count_by (is_into (store_of p.cells.heap) r) vs
       found vs None f e = absurd (false≢true e)
-      found vs (Some u) f e = count-hit (is_into (store_of p.cells.heap) r) vs i u f e
+      found vs (Some u) f e = count-one (is_into (store_of p.cells.heap) r) vs i u f e
 
       by : (fs : List Frame) → is_into (store_of p.cells.heap) r (unwrap_or (slice_get (top_slots fs) i) val.Nil) ≡ true
           → 1 ≤ slots_into (store_of p.cells.heap) r fs
@@ -218,7 +200,7 @@ module _ (p : Parts) (v : Stack) (at : ℕ) (q : Serials p.cells.heap) (g : Grov
   ownerless-slot r s i n lies c bridge is once =
       let m = machine_of p v at in
       let below : r < length (managers_of p.regions) = known (record_at p.regions c.0) refl in
-      let test = all_below-at (length m.managers) (λ r. is_open m.windows r || nat_le (places_into m r) 1) r once below in
+      let test = all-below (length m.managers) (λ r. is_open m.windows r || nat_le (places_into m r) 1) r once below in
       let most : nat_le (places_into m r) 1 ≡ true =
       sym (ap (λ b. b || nat_le (places_into m r) 1) (closed-not-open p.regions v keyed r c)) ∙ test in
       let one = slot-counts r i (ap (is_into (store_of p.cells.heap) r) is ∙ into-there p.cells.heap r s q lies) in

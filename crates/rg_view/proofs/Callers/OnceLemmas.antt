@@ -3,9 +3,10 @@ use Rattle.std.proofs.Common.{◌≡◌, ◌≢◌, ◌≤◌, ◌<◌, ◌==◌
 use Rattle.std.proofs.Common.{map, reverse, length, Option, Some, None, option_map, option_and_then, slice_get, count_by, nat_le}
 use Rattle.std.proofs.Common.{refl, sym, ap, ◌∙◌, subst, arith}
 use Rattle.std.specs.List.{sum_by}
-use Rattle.std.proofs.lemmas.Bool.{cases_eq}
+use Rattle.std.proofs.lemmas.Bool.{cases_eq, eq-eqb, ne_eqb}
 use Rattle.std.proofs.lemmas.Option.{none-some, same_Some, slice_get-map}
 use Rattle.std.proofs.lemmas.List.Sums.{sum_by-cons}
+use Rattle.std.proofs.lemmas.Map.Keys.{any_passes_from_place}
 use Rattle.rg_base.specs.declared.object.Label.{Label}
 use Rattle.rg_base.specs.declared.object.Label.TheVariants.{Region, Temp, Frozen}
 use Rattle.rg_base.specs.declared.object.Seen.{Seen}
@@ -25,14 +26,14 @@ use Rattle.rg_heap.specs.Answers.{val_of, IsClosed}
 use Rattle.rg_heap.specs.Ends.{OneOutside}
 use Rattle.rg_heap.specs.Opened.{Opened}
 use Rattle.rg_held.proofs.Lists.{sum-one}
+use Rattle.rg_held.proofs.Places.{all-below}
 use Rattle.rg_view.specs.View.{object_of, store_of, window_of, windows_of, managers_of, machine_of}
 use Rattle.rg_view.specs.Numbers.{Numbers}
-use Rattle.rg_view.proofs.ListLemmas.{eq-is, eq-not}
 use Rattle.rg_view.proofs.Callers.LookLemmas.{store-held}
 use Rattle.rg_view.proofs.Callers.ShownLemmas.{field-in}
 use Rattle.rg_view.proofs.Callers.ManagerLemmas.{managers-length}
-use Rattle.rg_view.proofs.Callers.OpenLemmas.{any-in, any-map, any-reverse, closed-not-open, into-there}
-use Rattle.rg_view.proofs.Callers.NeedLemmas.{keyed, weight, all_below-at}
+use Rattle.rg_view.proofs.Callers.OpenLemmas.{any-map, any-reverse, closed-not-open, into-there}
+use Rattle.rg_view.proofs.Callers.NeedLemmas.{keyed, weight}
 use Rattle.rg_view.proofs.Callers.HeldLemmas.{TempsOfWindows}
 
 -- two elements together
@@ -71,7 +72,7 @@ module _ (p : Parts) (v : Stack) (at : ℕ) (q : Serials p.cells.heap) (g : Grov
       let t = temps s n e in
       any-map (window_of p.regions) (λ (w : Window). w.number == n) (reverse v.windows)
       ∙ any-reverse (λ (w : WindowRow). w.number == n) v.windows
-      ∙ any-in (λ (w : WindowRow). w.number == n) v.windows t.0 t.1 t.2 (eq-is t.1.number n t.3)
+      ∙ any_passes_from_place (λ (w : WindowRow). w.number == n) v.windows t.0 t.1 t.2 (eq-eqb t.1.number n t.3)
 
   -- a field of a cell that doesn't lie in a region is seen from outside
   record Outside (r s k : ℕ) : Type 0 where
@@ -105,7 +106,7 @@ module _ (p : Parts) (v : Stack) (at : ℕ) (q : Serials p.cells.heap) (g : Grov
           label : (l : Label) → b.label ≡ l → is_outside (windows_of p.regions v) r b.label ≡ true
           label (Region x) is =
               ap (is_outside (windows_of p.regions v) r) is
-              ∙ ap not (eq-not x r (λ same. away (label-is ∙ ap Some is ∙ ap (λ n. Some (Region n)) same)))
+              ∙ ap not (ne_eqb x r (λ same. away (label-is ∙ ap Some is ∙ ap (λ n. Some (Region n)) same)))
           label (Temp n) is = ap (is_outside (windows_of p.regions v) r) is ∙ temp-outside s n (label-is ∙ ap Some is)
           label Frozen is = ap (is_outside (windows_of p.regions v) r) is
 
@@ -133,7 +134,7 @@ module _ (p : Parts) (v : Stack) (at : ℕ) (q : Serials p.cells.heap) (g : Grov
   fields-most r n c once =
       let m = machine_of p v at in
       let below : r < length (managers_of p.regions) = known (record_at p.regions c.0) refl in
-      let test = all_below-at (length m.managers) (λ r. is_open m.windows r || nat_le (places_into m r) 1) r once below in
+      let test = all-below (length m.managers) (λ r. is_open m.windows r || nat_le (places_into m r) 1) r once below in
       let most : nat_le (places_into m r) 1 ≡ true =
       sym (ap (λ b. b || nat_le (places_into m r) 1) (closed-not-open p.regions v (keyed p v at q g o) r c)) ∙ test in
       let le : places_into m r ≤ 1 = grind (arith, most) in

@@ -1,10 +1,12 @@
 -- Which regions the machine sees as open or closed, and where values lead.
-use Rattle.std.proofs.Common.{◌≡◌, ◌==◌, ◌||◌, ℕ, zero, suc, Bool as Truth, true, false, if◌then◌else◌, List, [], ◌∷◌, ◌++◌, map, reverse}
+use Rattle.std.proofs.Common.{◌≡◌, ◌==◌, ◌||◌, ℕ, suc, Bool as Truth, true, false, if◌then◌else◌, List, [], ◌∷◌, map, reverse}
 use Rattle.std.proofs.Common.{Option, Some, None, option_map, option_and_then, is_some, slice_get, refl, sym, ap, ◌∙◌, subst}
 use Rattle.std.specs.List.{list_any}
-use Rattle.std.proofs.lemmas.Bool.{false≢true}
+use Rattle.std.proofs.lemmas.Bool.{false≢true, eq-eqb, eqb-true, false_from_ne_true}
 use Rattle.std.proofs.lemmas.List.{reverse-append}
 use Rattle.std.proofs.lemmas.Option.{none-some, same_Some}
+use Rattle.std.proofs.lemmas.List.Folds.{list_any-append}
+use Rattle.std.proofs.lemmas.Map.Keys.{any_passes_from_place}
 use Rattle.rg_base.specs.declared.object.Label.{Label}
 use Rattle.rg_base.specs.declared.object.Label.TheVariants.{Region, Temp, Frozen}
 use Rattle.rg_base.specs.declared.object.Seen.{Seen}
@@ -21,24 +23,15 @@ use Rattle.rg_stack.specs.Needs.{is_open, label_of, lies_in, is_into, closed_of,
 use Rattle.rg_heap.specs.Parts.{Parts}
 use Rattle.rg_heap.specs.Answers.{val_of, obj_of, IsClosed, LeadsIntoClosed}
 use Rattle.rg_view.specs.View.{store_of, number_of, number_in, window_of, windows_of, machine_of}
-use Rattle.rg_view.proofs.ListLemmas.{eq-true, eq-is}
 use Rattle.rg_view.proofs.Callers.LookLemmas.{store-held, val-held}
 
 -- Tests over lists
-
-pub any-append : {A : Type 0} → (test : A → Truth) (xs ys : List A) → list_any test (xs ++ ys) ≡ (list_any test xs || list_any test ys)
-any-append test [] ys = refl
-any-append test (x ∷ xs) ys = ap (λ b. test x || b) (any-append test xs ys) ∙ or-or (test x) (list_any test xs) (list_any test ys)
-  where
-    or-or : (a b c : Truth) → (a || (b || c)) ≡ ((a || b) || c)
-    or-or true b c = refl
-    or-or false b c = refl
 
 pub any-reverse : {A : Type 0} → (test : A → Truth) (xs : List A) → list_any test (reverse xs) ≡ list_any test xs
 any-reverse test [] = refl
 any-reverse test (x ∷ xs) =
     ap (list_any test) (reverse-append (x ∷ []) xs)
-    ∙ any-append test (reverse xs) (x ∷ [])
+    ∙ list_any-append test (reverse xs) (x ∷ [])
     ∙ ap (λ b. b || (test x || false)) (any-reverse test xs)
     ∙ turn (list_any test xs) (test x)
   where
@@ -64,20 +57,6 @@ pub any-back : {A : Type 0} (test : A → Truth) (xs : List A) → list_any test
 any-back test [] e = absurd (false≢true e)
 any-back test (x ∷ xs) e = any-back-by test x xs (test x) refl e (λ f. any-back test xs f)
 
-pub any-in : {A : Type 0} → (test : A → Truth) (xs : List A) (i : ℕ) (x : A) → slice_get xs i ≡ Some x → test x ≡ true → list_any test xs ≡ true
-any-in test [] i x e is = absurd (none-some x e)
-any-in test (y ∷ xs) zero x e is = ap (λ b. b || list_any test xs) (ap test (same_Some y x e) ∙ is)
-any-in test (y ∷ xs) (suc i) x e is = later (test y) (any-in test xs i x e is)
-  where
-    later : (b : Truth) → list_any test xs ≡ true → (b || list_any test xs) ≡ true
-    later true f = refl
-    later false f = f
-
--- a test that can't give true gives false
-pub never : (b : Truth) → (b ≡ true → ⊥) → b ≡ false
-never true h = absurd (h refl)
-never false h = refl
-
 pub number-is : (t : RegionTable) (key n : ℕ) → HasNumber t key n → number_of t key ≡ n
 number-is t key n h = by (record_at t key) refl
   where
@@ -101,29 +80,30 @@ module _ (t : RegionTable) (v : Stack) (k : Keyed t v) where
   open-back r e =
       let a = any-back (λ (w : WindowRow). number_of t w.region == r) v.windows (sym (open-is r) ∙ e) in
       let n = k.known a.0 a.1 a.2 in
-      let same : n.0 ≡ r = sym (number-is t a.1.region n.0 n.1) ∙ eq-true (number_of t a.1.region) r a.3 in
+      let same : n.0 ≡ r = sym (number-is t a.1.region n.0 n.1) ∙ eqb-true (number_of t a.1.region) r a.3 in
       (a.0, a.1, a.2, subst (HasNumber t a.1.region) same n.1)
 
   pub window-open : (r i : ℕ) (w : WindowRow) → slice_get v.windows i ≡ Some w → HasNumber t w.region r → is_open (windows_of t v) r ≡ true
   window-open r i w e n =
       open-is r
-      ∙ any-in (λ (w : WindowRow). number_of t w.region == r) v.windows i w e (eq-is (number_of t w.region) r (number-is t w.region r n))
+      ∙ any_passes_from_place (λ (w : WindowRow). number_of t w.region == r) v.windows i w e
+      (eq-eqb (number_of t w.region) r (number-is t w.region r n))
 
   -- a closed region isn't open
   pub closed-not-open : (r : ℕ) → IsClosed t v r → is_open (windows_of t v) r ≡ false
-  closed-not-open r c = never (is_open (windows_of t v) r) (λ e.
+  closed-not-open r c = false_from_ne_true (is_open (windows_of t v) r) (λ e.
       let a = open-back r e in
       let same : a.1.region ≡ c.0 = k.numbers a.1.region c.0 r a.3 c.1 in
-      false≢true (sym c.2 ∙ any-in (has_region c.0) v.windows a.0 a.1 a.2 (eq-is a.1.region c.0 same)))
+      false≢true (sym c.2 ∙ any_passes_from_place (has_region c.0) v.windows a.0 a.1 a.2 (eq-eqb a.1.region c.0 same)))
 
   -- a region of the table that isn't open is closed
   pub not-open-closed : (r : ℕ) → InTable t r → is_open (windows_of t v) r ≡ false → IsClosed t v r
   not-open-closed r known e = (
     known.0,
     known.1,
-    never (list_any (has_region known.0) v.windows) (λ f.
+    false_from_ne_true (list_any (has_region known.0) v.windows) (λ f.
         let a = any-back (has_region known.0) v.windows f in
-        let same : known.0 ≡ a.1.region = sym (eq-true a.1.region known.0 a.3) in
+        let same : known.0 ≡ a.1.region = sym (eqb-true a.1.region known.0 a.3) in
         false≢true (sym e ∙ window-open r a.0 a.1 a.2 (subst (λ key. HasNumber t key r) same known.1))),
   )
 
@@ -159,7 +139,7 @@ label-back h (word.Slot s) l q e = by (body_at h s) refl
 -- a value leads into a region
 pub into-there : (h : Heap) (r s : ℕ) → Serials h → LiesIn h r s → is_into (store_of h) r (val_of h (word.Slot s)) ≡ true
 into-there h r s q e =
-    ap (λ (o : Option Label). elim o [ None ↦ false | Some l ↦ lies_in r l ]) (label-lies h s (Region r) q e) ∙ eq-is r r refl
+    ap (λ (o : Option Label). elim o [ None ↦ false | Some l ↦ lies_in r l ]) (label-lies h s (Region r) q e) ∙ eq-eqb r r refl
 
 module _ (p : Parts) (v : Stack) (at : ℕ) (q : Serials p.cells.heap) (k : Keyed p.regions v)
     (labels : (r s : ℕ) → LiesIn p.cells.heap r s → InTable p.regions r) where

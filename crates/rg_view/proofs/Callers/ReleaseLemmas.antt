@@ -1,7 +1,7 @@
 -- What is shown where regions are released and temporaries end: their objects are gone, and all others are as they were.
 use Rattle.std.proofs.Common.{◌≡◌, ◌⊎◌, inl, inr, ℕ, ◌==◌, ◌||◌, Bool as Truth, true, false, if◌then◌else◌, List, Option, Some, None}
 use Rattle.std.proofs.Common.{option_map, refl, sym, ap, ◌∙◌}
-use Rattle.std.proofs.lemmas.Bool.{false≢true}
+use Rattle.std.proofs.lemmas.Bool.{false≢true, eqb-true, eqb-false}
 use Rattle.std.proofs.lemmas.Option.{none-some, same_Some}
 use Rattle.rg_base.specs.declared.object.Label.{Label}
 use Rattle.rg_base.specs.declared.object.Label.TheVariants.{Region, Temp, Frozen}
@@ -14,7 +14,6 @@ use Rattle.rg_heap.specs.Answers.{AllLead, obj_of}
 use Rattle.rg_heap.specs.Ends.{Released}
 use Rattle.rg_view.specs.View.{object_of, store_of}
 use Rattle.rg_view.specs.Names.{Names, AreTemps}
-use Rattle.rg_view.proofs.ListLemmas.{eq-true, eq-false}
 use Rattle.rg_view.proofs.Callers.ShownLemmas.{IsSameObject, object-same, held-body, field-in}
 use Rattle.rg_view.proofs.Callers.BecomeLemmas.{Becomes, becomes-store, becomes-serials}
 use Rattle.rg_held.specs.Frees.{gone, is_temp, buried, bury}
@@ -85,12 +84,12 @@ module _ (old new : Parts) (Gone Cell : ℕ → Type 0) (regions : List ℕ) (te
           told : (k : ℕ) → temps ≡ Some k → (t : Truth) → (n == k) ≡ t → Goes s b ⊎ Stays s b
           told k f true a = inl (record {
             test = ap (goes regions temps) is ∙ ap (λ o. is_temp o (Temp n)) f ∙ a;
-            freed = r.ended s (cells.all s n lies (f ∙ ap Some (sym (eq-true n k a))));
+            freed = r.ended s (cells.all s n lies (f ∙ ap Some (sym (eqb-true n k a))));
           })
           told k f false a = inr (record {
             test = ap (goes regions temps) is ∙ ap (λ o. is_temp o (Temp n)) f ∙ a;
             same = stays (λ c. let t = cells.only s c in
-                eq-false n k a (same-temp n t.0 (sym lies ∙ t.1) ∙ same_Some t.0 k (sym t.2 ∙ f)));
+                eqb-false n k a (same-temp n t.0 (sym lies ∙ t.1) ∙ same_Some t.0 k (sym t.2 ∙ f)));
           })
 
           test : (o : Option ℕ) → temps ≡ o → Goes s b ⊎ Stays s b

@@ -1,8 +1,7 @@
 -- What managers and windows show where the records of a table change.
-use Rattle.std.proofs.Common.{◌≡◌, ◌⊎◌, inl, inr, ℕ, List, Some, None, slice_get, refl, sym, ap, ◌∙◌, arith}
-use Rattle.std.proofs.Common.{reverse, [], ◌∷◌, ◌++◌, zero, suc}
+use Rattle.std.proofs.Common.{◌≡◌, ◌⊎◌, inl, inr, ℕ, Some, None, slice_get, refl, sym, ap, ◌∙◌, arith}
+use Rattle.std.proofs.Common.{reverse}
 use Rattle.std.proofs.lemmas.Bool.{cases_eq}
-use Rattle.std.proofs.lemmas.List.{reverse-append}
 use Rattle.std.proofs.lemmas.Option.{none-some, same_Some}
 use Rattle.rg_base.specs.declared.words.Manager.{Manager}
 use Rattle.rg_regions.specs.Table.{Record, RegionTable, record_at, IsKey, with_room}
@@ -10,32 +9,11 @@ use Rattle.rg_regions.proofs.Callers.Told.{record_of_key}
 use Rattle.rg_frames.specs.declared.rows.Window.{Window as WindowRow}
 use Rattle.rg_frames.specs.Stack.{Stack}
 use Rattle.rg_heap.specs.Changes.{Rewritten, SameRecords, Opens}
+use Rattle.rg_held.proofs.Lists.{reverse-back}
 use Rattle.rg_view.specs.View.{number_in, number_of, managers_of, windows_of}
 use Rattle.rg_view.specs.Numbers.{Numbers}
 use Rattle.rg_view.proofs.Callers.ManagerLemmas.{SameNumbers, manager-at}
 use Rattle.rg_view.proofs.Callers.WindowLemmas.{windows-same}
-
--- an element of a list that was turned round
-append-back : {A : Type 0} (xs ys : List A) (i : ℕ) (x : A) → slice_get (xs ++ ys) i ≡ Some x
-    → ((j : ℕ) × (slice_get xs j ≡ Some x)) ⊎ ((j : ℕ) × (slice_get ys j ≡ Some x))
-append-back [] ys i x e = inr (i, e)
-append-back (y ∷ xs) ys zero x e = inl (0, e)
-append-back (y ∷ xs) ys (suc i) x e = elim (append-back xs ys i x e) [
-  | inl h ↦ inl (suc h.0, h.1)
-  | inr h ↦ inr h
-]
-
-pub reverse-back : {A : Type 0} (xs : List A) (i : ℕ) (x : A) → slice_get (reverse xs) i ≡ Some x → (j : ℕ) × (slice_get xs j ≡ Some x)
-reverse-back [] i x e = absurd (none-some x e)
-reverse-back (y ∷ xs) i x e =
-    elim (append-back (reverse xs) (y ∷ []) i x (sym (ap (λ l. slice_get l i) (reverse-append (y ∷ []) xs)) ∙ e)) [
-      | inl h ↦ let j = reverse-back xs h.0 x h.1 in (suc j.0, j.1)
-      | inr h ↦ last h.0 h.1
-    ]
-  where
-    last : (j : ℕ) → slice_get (y ∷ []) j ≡ Some x → (j : ℕ) × (slice_get (y ∷ xs) j ≡ Some x)
-    last zero f = (0, f)
-    last (suc j) f = absurd (none-some x f)
 
 -- a record that changes but for its number and manager
 pub rewritten-numbers : (old new : RegionTable) (key : ℕ) (f : Record → Record) → Rewritten old new key f → IsKey old key

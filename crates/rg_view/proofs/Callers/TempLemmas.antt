@@ -1,12 +1,13 @@
 -- The regions that go with a window's temporaries, in the heap and in the store that it shows.
 use Rattle.std.proofs.Common.{◌≡◌, inl, inr, ℕ, ◌-◌, true, List, map, length, Option, Some, None, option_map, slice_get}
 use Rattle.std.proofs.Common.{refl, sym, ap, ◌∙◌, arith}
-use Rattle.std.proofs.lemmas.Bool.{false≢true}
+use Rattle.std.proofs.lemmas.Bool.{false≢true, eq-eqb, eqb-true}
 use Rattle.std.proofs.lemmas.Option.{none-some, slice_get-map}
 use Rattle.rg_base.specs.declared.object.Label.{Label}
 use Rattle.rg_base.specs.declared.object.Label.TheVariants.{Region, Temp, Frozen}
 use Rattle.rg_base.specs.declared.object.Seen.{Seen}
 use Rattle.rg_base.specs.declared.value.Word.TheVariants as word
+use Rattle.rg_base.proofs.Callers.Lists.{there}
 use Rattle.rg_cells.specs.declared.cell.Body.{Body}
 use Rattle.rg_cells.specs.Table.{body_at, label_at, Serials}
 use Rattle.rg_regions.specs.Grove.{Grove}
@@ -21,10 +22,8 @@ use Rattle.rg_heap.specs.Opened.{Opened}
 use Rattle.rg_view.specs.View.{object_of, windows_of, machine_of}
 use Rattle.rg_view.specs.Names.{Names, AreTemps}
 use Rattle.rg_view.specs.Links.{BelowSome, ByTemp}
-use Rattle.rg_view.proofs.ListLemmas.{eq-true, eq-is}
 use Rattle.rg_view.proofs.Callers.LookLemmas.{store-held}
 use Rattle.rg_view.proofs.Callers.ShownLemmas.{field-in}
-use Rattle.rg_view.proofs.Callers.FrameLemmas.{there}
 use Rattle.rg_view.proofs.Callers.WindowLemmas.{active-number}
 use Rattle.rg_view.proofs.Callers.LinkLemmas.{store-back, word-back}
 use Rattle.rg_view.proofs.Callers.OpenLemmas.{into-closed, closed-there}
@@ -79,7 +78,7 @@ module _ (p : Parts) (v : Stack) (at : ℕ) (q : Serials p.cells.heap) (g : Grov
           temp-label : (b : Body) → Some b.label ≡ Some (Temp top-row.0.number) → is_top_temp (machine_of p v at) b.label ≡ true
           temp-label b e =
               ap (is_top_temp (machine_of p v at)) (some-label b.label (Temp top-row.0.number) e)
-              ∙ eq-is top-row.0.number (top_window (windows_of p.regions v)) (sym number-shown)
+              ∙ eq-eqb top-row.0.number (top_window (windows_of p.regions v)) (sym number-shown)
 
   pub temp-owned : (r : ℕ) → ByTemp (machine_of p v at) r → OwnedByOne p.cells.heap p.regions v (top_temps v) r
   temp-owned r a = elim (store-back p.cells.heap a.object a.holder a.there) [
@@ -105,7 +104,7 @@ module _ (p : Parts) (v : Stack) (at : ℕ) (q : Serials p.cells.heap) (g : Grov
     where
       temp-is : (l : Label) → is_top_temp (machine_of p v at) l ≡ true → l ≡ Temp top-row.0.number
       temp-is (Region r) e = absurd (false≢true e)
-      temp-is (Temp n) e = ap Temp (eq-true n (top_window (windows_of p.regions v)) e ∙ number-shown)
+      temp-is (Temp n) e = ap Temp (eqb-true n (top_window (windows_of p.regions v)) e ∙ number-shown)
       temp-is Frozen e = absurd (false≢true e)
 
   -- a list that names all beneath these names the regions that go with them

@@ -1,7 +1,7 @@
 -- What is shown where a field is written: that field of that object.
 use Rattle.std.proofs.Common.{◌≡◌, ◌≢◌, inl, inr, ℕ, zero, suc, List, [], ◌∷◌, Option, Some, None, slice_get, slice_set}
 use Rattle.std.proofs.Common.{slice_index_or, refl, sym, ap, ◌∙◌, arith}
-use Rattle.std.proofs.lemmas.Bool.{cases_eq}
+use Rattle.std.proofs.lemmas.Bool.{cases_eq, cases_lt}
 use Rattle.std.proofs.lemmas.Option.{none-some, same_Some, slice_get_past}
 use Rattle.std.proofs.lemmas.List.{map-set}
 use Rattle.rg_base.specs.declared.value.Word.{Word}
@@ -13,7 +13,7 @@ use Rattle.rg_cells.proofs.SerialsKept.{serials_of}
 use Rattle.rg_stack.specs.Effects.{put_in, with_value_in}
 use Rattle.rg_heap.specs.Answers.{val_of, obj_of}
 use Rattle.rg_view.specs.View.{object_of, seen_of, store_of}
-use Rattle.rg_view.proofs.ListLemmas.{same_lists, order}
+use Rattle.rg_view.proofs.ListLemmas.{same_lists}
 use Rattle.rg_view.proofs.Callers.LookLemmas.{look, seen-held, seen-gone, store-length, store-at, store-held, val-held}
 use Rattle.rg_view.proofs.Callers.ShownLemmas.{IsSameObject, object-same, val-same}
 
@@ -112,7 +112,7 @@ module _ (h : Heap) (slot k : ℕ) (w : Word) (b : Body) (e : body_at h slot ≡
   ]
     where
       beside : i ≢ b.serial → slice_get (store_of after) i ≡ slice_get (store_of h) i
-      beside d = elim (order i h.next) [
+      beside d = elim (cases_lt i h.next) [
         | inl lt ↦
             store-at after i (let n = written-next in omega (arith, n, lt))
             ∙ ap Some (shown-beside q i d) ∙ sym (store-at h i lt)

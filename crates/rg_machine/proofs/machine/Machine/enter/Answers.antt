@@ -14,6 +14,7 @@ use Rattle.rg_base.specs.declared.object.Seen.{Seen}
 use Rattle.rg_base.specs.declared.outcome.Trap.{Trap}
 use Rattle.rg_base.specs.declared.outcome.Trap.TheVariants as trap
 use Rattle.rg_base.specs.declared.value.Word.{Word}
+use Rattle.rg_base.proofs.Callers.Labels.{slot-same}
 use Rattle.rg_rules.specs.Evaluation.{object_at}
 use Rattle.rg_heap.specs.Answers.{val_of}
 use Rattle.rg_stack.specs.Effects.{Traps}
@@ -24,7 +25,7 @@ use Rattle.rg_machine.specs.Keeps.{SameBacks}
 use Rattle.rg_machine.specs.Parts.{Parts, core_of, machine_in}
 use Rattle.rg_machine.specs.Stands.{AllLead, Stands}
 use Rattle.rg_machine.proofs.EnterLemmas.{can-enter-slot, opens-within, stands-entered, all-still-lead, enter-effect, enter-nil, same-backs}
-use Rattle.rg_machine.proofs.EnterLemmas.{CanEnterSlot, entered_stack, slot-same}
+use Rattle.rg_machine.proofs.EnterLemmas.{CanEnterSlot, entered_stack}
 use Rattle.rg_machine.proofs.HighLemmas.{none-same}
 use Rattle.rg_machine.proofs.machine.Machine.enter.Goals as goal
 

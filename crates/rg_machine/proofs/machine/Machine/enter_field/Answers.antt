@@ -6,6 +6,7 @@ use Rattle.rg_base.specs.declared.outcome.Trap.{Trap}
 use Rattle.rg_base.specs.declared.outcome.Trap.TheVariants as trap
 use Rattle.rg_base.specs.declared.value.Word.{Word}
 use Rattle.rg_base.specs.declared.value.Word.TheVariants.{Slot}
+use Rattle.rg_base.proofs.Callers.Labels.{slot-same}
 use Rattle.rg_rules.specs.Evaluation.{object_at}
 use Rattle.rg_code.specs.Code.{empty}
 use Rattle.rg_code.specs.declared.op.Op.TheVariants as i
@@ -24,7 +25,7 @@ use Rattle.rg_machine.specs.Frames.{can_open}
 use Rattle.rg_machine.specs.Keeps.{SameBacks}
 use Rattle.rg_machine.specs.Parts.{Parts, core_of, machine_in}
 use Rattle.rg_machine.specs.Stands.{AllLead, Stands}
-use Rattle.rg_machine.proofs.EnterLemmas.{ParentBeneath, opens-within, stands-entered, all-still-lead, same-backs, Entered, entered_stack, slot-same}
+use Rattle.rg_machine.proofs.EnterLemmas.{ParentBeneath, opens-within, stands-entered, all-still-lead, same-backs, Entered, entered_stack}
 use Rattle.rg_machine.proofs.EnterFieldLemmas.{Holds, holds, field-entered, field-parent, front-lead, enter-field-effect, enter-field-nil}
 use Rattle.rg_machine.proofs.HighLemmas.{none-same}
 use Rattle.rg_machine.proofs.machine.Machine.enter_field.Goals as goal

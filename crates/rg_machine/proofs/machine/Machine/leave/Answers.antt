@@ -11,9 +11,10 @@ use Rattle.rg_machine.specs.Parts.{Parts, core_of, machine_in}
 use Rattle.rg_machine.specs.Stands.{Stands}
 use Rattle.rg_machine.proofs.LeaveBehindLemmas.{may-leave}
 use Rattle.rg_machine.proofs.LeaveWholeLemmas.{whole-stands, whole-effect}
-use Rattle.rg_machine.proofs.LeaveGivenLemmas.{once-behind, leave-words, none-lead, number-fits, backs-same, leave-alone}
+use Rattle.rg_machine.proofs.LeaveGivenLemmas.{once-behind, leave-words, number-fits, backs-same, leave-alone}
 use Rattle.rg_machine.proofs.HighLemmas.{none-released, none-then}
 use Rattle.rg_machine.proofs.machine.Machine.leave.Goals as goal
+use Rattle.rg_machine.proofs.CollectingLemmas.{none-lead}
 
 pub leave-requires-clause-temps : goal.leave-requires-clause-temps
 leave-requires-clause-temps c =
