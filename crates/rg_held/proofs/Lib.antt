@@ -16,10 +16,10 @@ mod Objects
 mod Labels
 mod Consumes
 mod Enters
-pub mod Acts
+mod Acts
 mod Less
 mod Tested
-pub mod Walking
+mod Walking
 pub mod Gather
 mod Examples
 mod Stops

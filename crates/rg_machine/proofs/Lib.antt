@@ -47,7 +47,7 @@ mod SlidLemmas
 mod UnmovedLemmas
 mod SlidingLemmas
 pub mod PartLemmas
-pub mod OwnedLemmas
+mod OwnedLemmas
 mod ReachPathLemmas
 mod ReachSlotLemmas
 mod ReachCountLemmas

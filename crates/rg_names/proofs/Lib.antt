@@ -14,5 +14,5 @@ mod FoundIn
 mod MembersFound
 mod ClassFound
 mod NewNames
-pub mod GoodHeaders
+mod GoodHeaders
 pub mod Callers

@@ -1,4 +1,4 @@
-pub mod Written
-pub mod Entries
+mod Written
+mod Entries
 pub mod Callers
 mod Examples

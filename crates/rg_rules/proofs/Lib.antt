@@ -7,7 +7,7 @@ pub mod AcceptanceLemmas
 pub mod UsesLemmas
 pub mod LocalLemmas
 pub mod RunLemmas
-pub mod ValueLemmas
+mod ValueLemmas
 pub mod RegionLemmas
 pub mod StepLemmas
 mod Sources

@@ -1,5 +1,5 @@
 mod HoldsLemmas
-pub mod ShownLemmas
+mod ShownLemmas
 pub mod SoundLemmas
 mod OutputLemmas
 mod ReportLemmas

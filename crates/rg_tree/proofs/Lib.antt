@@ -5,10 +5,10 @@ pub mod Passing
 pub mod Unique
 mod SameKinds
 mod Halting
-pub mod Reader
-pub mod Texts
+mod Reader
+mod Texts
 mod StuckPlaces
-pub mod RoundTrips
+mod RoundTrips
 mod WholePrograms
 mod NameLemmas
 pub mod TreesFrom
