@@ -2,6 +2,7 @@
 use Rattle.std.proofs.Common.{◌≡◌, ◌≢◌, ℕ, ◌+◌, ◌-◌, ◌≤◌, Option, Some, None, get_or, refl, ap, sym, ◌∙◌, arith}
 use Rattle.std.proofs.Common.{List, [], ◌∷◌, zero, suc, set, ◌⊎◌, inl, inr}
 use Rattle.std.proofs.lemmas.Bool.{cases_eq}
+use Rattle.std.proofs.lemmas.Option.{same_Some}
 use Rattle.slab.specs.Slab.{Slab, get, with_value, Updates}
 use Rattle.rg_cells.specs.declared.cell.Body.{Body}
 use Rattle.rg_cells.specs.declared.cell.Cell.{Cell}
@@ -27,9 +28,6 @@ serials_of h g le was q = record {
 body-shown : (xs : List (Option Place)) (next s : ℕ)
     → body_at (table_of xs next).heap s ≡ body_in (shown (get_or xs s None))
 body-shown xs next s = ap body_in (shown-at xs s)
-
-is_body : (a b : Body) → Some a ≡ Some b → a ≡ b
-is_body a b q = cc
 
 -- what is held after an update: at the key what was put, and elsewhere what was held
 after_update : (places new : Slab Place) (next later slot : ℕ) (o : Option Place) → Updates places new slot o
@@ -64,7 +62,7 @@ pub serials-put : (places : Slab Place) (next slot : ℕ) (c d : Cell) → get p
     → Serials (table_of (with_value places slot (Held d)).slots next).heap
 serials-put places next slot c d e same q =
     written_by places (with_value places slot (Held d)) next slot (Some (Held d)) (written places slot c (Held d) e)
-    (λ b f. (c.body, ap (λ o. body_in (shown o)) e, sym same ∙ ap (λ (x : Body). x.serial) (is_body d.body b f))) q
+    (λ b f. (c.body, ap (λ o. body_in (shown o)) e, sym same ∙ ap (λ (x : Body). x.serial) (same_Some d.body b f))) q
 
 -- a held place becomes free
 pub serials-freed : (places : Slab Place) (next slot : ℕ) (c : Cell) → get places slot ≡ Some (Held c)
@@ -100,7 +98,7 @@ serials-made places new next slot c is u q = record {
     after s b e = after_update places new next (next + 1) slot (Some (Held c)) u s b e
 
     serial_is : (b : Body) → Some c.body ≡ Some b → b.serial ≡ next
-    serial_is b e = sym (ap (λ (x : Body). x.serial) (is_body c.body b e)) ∙ is
+    serial_is b e = sym (ap (λ (x : Body). x.serial) (same_Some c.body b e)) ∙ is
 
 none_at : (xs : List (Option (Option Body))) (k : ℕ) → body_in (get_or (set xs k (Some None)) k None) ≡ None
 none_at [] k = refl

@@ -1,6 +1,7 @@
 -- What headers without a fault, and few names, say of the methods of a class.
 use Rattle.std.proofs.Common.{◌≡◌, ℕ, List, [], ◌∷◌, slice_get, Some, Ok, All, not, ap, ◌∙◌}
 use Rattle.std.proofs.lemmas.List.Elements.{All-nil, All-cons, All-head, All-tail}
+use Rattle.std.proofs.lemmas.Option.{slice_get-get_or}
 use Rattle.rg_base.specs.declared.ty.Ty.{Ty}
 use Rattle.rg_base.specs.declared.fault.Code.TheVariants.{Duplicate}
 use Rattle.rg_tree.specs.Tree.{Name, Ty as Written, Method, Member, field, method, Class}
@@ -11,7 +12,7 @@ use Rattle.rg_rules.specs.Names.{HasFewNames}
 use Rattle.rg_rules.proofs.AnswersLemmas.{then-ok, at_line-ok}
 use Rattle.rg_rules.proofs.HeaderLemmas.{good_type-type_of, method_header-parts, member_headers-parts, judge_headers-members}
 use Rattle.rg_check.specs.Inner.Methods.{IsGood, MayBeJudged, MemberMayBeJudged}
-use Rattle.rg_check.proofs.Outcomes.{slice_get-there, IfSome-by}
+use Rattle.rg_check.proofs.Outcomes.{IfSome-by}
 
 -- a type that passed
 good : (classes : List Class) (w : Written) → (ty : Ty) × (good_type classes w ≡ Ok ty) → IsGood classes w
@@ -21,7 +22,7 @@ good classes w (ty, e) = e ∙ ap Ok (good_type-type_of classes w ty e)
 method-may : (classes : List Class) (c : Class) (m : Method) → method_header classes c m ≡ Ok tt → HasFewNames (method m) → MayBeJudged classes m
 method-may classes c m h few =
     let p = method_header-parts classes c m h in record {
-      params = λ k d l. good classes _ (p.params k _ (slice_get-there m.params k d l));
+      params = λ k d l. good classes _ (p.params k _ (slice_get-get_or m.params k d l));
       result = IfSome-by (IsGood classes) m.result (λ w e. good classes w (p.result w e));
       names = few;
     }

@@ -1,13 +1,7 @@
 -- Outcomes of parts in order.
-use Rattle.std.proofs.Common.{◌≡◌, ℕ, zero, suc, ◌<◌, List, [], ◌∷◌, get_or, length, slice_get, Some, None, Option, IfSome, All, refl}
+use Rattle.std.proofs.Common.{◌≡◌, ℕ, zero, suc, List, [], ◌∷◌, slice_get, Some, None, Option, IfSome, All, refl}
 use Rattle.std.proofs.Common.{arith}
 use Rattle.std.proofs.lemmas.List.Elements.{All-head, All-tail}
-
--- an element that is there
-pub slice_get-there : {X : Type 0} (xs : List X) (k : ℕ) (d : X) → k < length xs → slice_get xs k ≡ Some (get_or xs k d)
-slice_get-there [] k d l = absurd (omega arith)
-slice_get-there (x ∷ xs) zero d l = refl
-slice_get-there (x ∷ xs) (suc k) d l = slice_get-there xs k d (omega arith)
 
 -- what holds of all holds of it
 pub All-slice_get : {X : Type 0} (P : X → Type 0) (xs : List X) (k : ℕ) (x : X) → All P xs → slice_get xs k ≡ Some x → P x

@@ -8,6 +8,7 @@ use Rattle.rg_base.specs.declared.object.Label.TheVariants.{Region, Temp, Frozen
 use Rattle.rg_base.specs.declared.value.Word.{Word}
 use Rattle.rg_base.specs.declared.value.Word.TheVariants.{Nil, Int, Bool as Truth, Slot}
 use Rattle.rg_base.proofs.Callers.Options.{some-there}
+use Rattle.rg_base.proofs.Callers.Labels.{slot-same}
 use Rattle.rg_cells.specs.declared.cell.Body.{Body}
 use Rattle.rg_cells.specs.Table.{Table, IsHeld, body_at, label_at, field_at}
 use Rattle.rg_frames.specs.Stack.{Stack}
@@ -19,9 +20,6 @@ use Rattle.rg_regions.proofs.Callers.Told.{one_record, one_region, lies_or_not, 
 use Rattle.rg_regions.proofs.Callers.Shares.{has-cases, has_place, place_has}
 use Rattle.rg_trace.proofs.LocalRoots.{Local}
 use Rattle.rg_copy.specs.Slid.{Slid, top_roots, top_slots, top_temps, base_of, Becomes, CellBecomes}
-
-slot_is : (a b : ℕ) → Slot a ≡ Slot b → a ≡ b
-slot_is a b q = cc
 
 held_by : (o : Option Body) (b : Body) → o ≡ Some b → IsSome o
 held_by o b e = let P : Option Body → Type 0 = λ x. IsSome x in subst P (sym e) refl
@@ -66,14 +64,14 @@ module _ {c : Table} {t : RegionTable} {key : ℕ} {rec : Record} {v : Stack} {c
   becomes-held (Truth i) x b held near = let q : Slot x ≡ Truth i = b.stays (λ y r n. cc) in cc
   becomes-held (Slot z) x b held near = elim (lies_or_not c.heap rec.number z) [
     | inl off ↦
-        let q : x ≡ z = slot_is x z (b.stays (λ y r n.
+        let q : x ≡ z = slot-same x z (b.stays (λ y r n.
         let L : ℕ → Type 0 = λ i. LiesIn c.heap rec.number i in
-        off (subst L (sym (slot_is z y r)) (reach_lies c.heap rec.number (top_roots rec v) y n)))) in
+        off (subst L (sym (slot-same z y r)) (reach_lies c.heap rec.number (top_roots rec v) y n)))) in
         let H : ℕ → Type 0 = λ i. IsHeld cells.heap i in
         subst H (sym q) (held-off z off (held z refl))
     | inr l ↦
         let n = near z refl l in
-        let q : x ≡ w.place z = slot_is x (w.place z) (b.moved z refl n) in
+        let q : x ≡ w.place z = slot-same x (w.place z) (b.moved z refl n) in
         let H : ℕ → Type 0 = λ i. IsHeld cells.heap i in
         subst H (sym q) (held-reached z n)
   ]

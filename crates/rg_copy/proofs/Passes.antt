@@ -4,7 +4,7 @@ use Rattle.std.proofs.Common.{◌≡◌, ◌≢◌, ℕ, ◌+◌, ◌<◌, List,
 use Rattle.std.proofs.Common.{arith, inl, inr, get_or, set, slice_get, option_map}
 use Rattle.std.proofs.lemmas.List.{get_or-set_same, get_or-set_other}
 use Rattle.std.proofs.lemmas.Bool.{cases_eq}
-use Rattle.std.proofs.lemmas.Option.{slice_get_within}
+use Rattle.std.proofs.lemmas.Option.{slice_get_within, same_Some}
 use Rattle.rg_cells.specs.declared.cell.Body.{Body}
 use Rattle.rg_cells.specs.Table.{Heap, Table, body_at, label_at, mark_at, high_of}
 use Rattle.rg_regions.specs.Table.{Has}
@@ -14,9 +14,6 @@ use Rattle.rg_regions.proofs.Callers.Shares.{has_place, place_has}
 use Rattle.rg_copy.specs.Inner.Moves.{target, moved_word, all_fields, Forwards, Alike, IsKept, IsForwarded, MembersForwarded}
 use Rattle.rg_copy.specs.Inner.Moves.{IsTempAt, TempsClean, IsMarkedTemp, TempsMarked, Cleared, TempsForwarded}
 use Rattle.rg_copy.proofs.Fields.{fields-agree, label-all, target-agree}
-
-some_slot : (a b : ℕ) → Some a ≡ Some b → a ≡ b
-some_slot a b q = cc
 
 -- one cell more is rewritten: what was alike stays so, and where the cell was as at first it is rewritten as at first
 pub alike-next : (p t new : Table) (r slot : ℕ) → Alike p t → Forwards r slot t new → Alike p new
@@ -60,7 +57,7 @@ members-skip p t r members i slot e m w = record {
   marks = w.marks;
   black = λ j s l f d. elim (cases_eq j i) [
     | inl q ↦
-        let z : s ≡ slot = some_slot s slot (sym f ∙ ap (slice_get members) q ∙ e) in
+        let z : s ≡ slot = same_Some s slot (sym f ∙ ap (slice_get members) q ∙ e) in
         let y : mark_at p s ≡ 0 = ap (mark_at p) z ∙ ap (λ (ms : List ℕ). get_or ms slot 0) (sym w.marks) ∙ m in
         absurd (d y)
     | inr n ↦ w.black j s (omega (arith, l, n)) f d
@@ -83,7 +80,7 @@ members-forward p t new r members i slot ms e m f w =
       marks = f.marks ∙ w.marks;
       black = λ j s l h d. elim (cases_eq j i) [
         | inl q ↦
-            let z : s ≡ slot = some_slot s slot (sym h ∙ ap (slice_get members) q ∙ e) in
+            let z : s ≡ slot = same_Some s slot (sym h ∙ ap (slice_get members) q ∙ e) in
             let P : ℕ → Type 0 = λ y. IsForwarded r p new y in
             subst P (sym z) (forwarded-next p t new r slot w.alike f (w.left i slot (omega arith) e))
         | inr n ↦ f.others s (off j s h n) ∙ w.black j s (omega (arith, l, n)) h d
@@ -117,7 +114,7 @@ temps-skip p t r temps i slot e n w = record {
   alike = w.alike;
   done = λ j s l f k. elim (cases_eq j i) [
     | inl q ↦
-        let z : s ≡ slot = some_slot s slot (sym f ∙ ap (slice_get temps) q ∙ e) in
+        let z : s ≡ slot = same_Some s slot (sym f ∙ ap (slice_get temps) q ∙ e) in
         let P : ℕ → Type 0 = λ y. IsTempAt t.heap y in
         absurd (n (subst P z (temp-on p t s w.alike k)))
     | inr d ↦ w.done j s (omega (arith, l, d)) f k
@@ -136,7 +133,7 @@ temps-again p t r temps i slot clean e is m w =
       alike = w.alike;
       done = λ j s l f k. elim (cases_eq j i) [
         | inl q ↦
-            let z : s ≡ slot = some_slot s slot (sym f ∙ ap (slice_get temps) q ∙ e) in
+            let z : s ≡ slot = same_Some s slot (sym f ∙ ap (slice_get temps) q ∙ e) in
             ap (mark_at t) z ∙ one
         | inr d ↦ w.done j s (omega (arith, l, d)) f k
       ];
@@ -173,7 +170,7 @@ temps-forward p t mid new r temps i slot e is m f n l w =
       done = λ j s b g k. elim (cases_eq s slot) [
         | inl q ↦ ap (mark_at new) q ∙ here
         | inr d ↦
-            let o : j ≢ i = λ q. d (some_slot s slot (sym g ∙ ap (slice_get temps) q ∙ e)) in
+            let o : j ≢ i = λ q. d (same_Some s slot (sym g ∙ ap (slice_get temps) q ∙ e)) in
             there s d ∙ w.done j s (omega (arith, b, o)) g k
       ];
       either = λ s. elim (cases_eq s slot) [

@@ -3,6 +3,7 @@
 use Rattle.std.proofs.Common.{◌≡◌, ◌≢◌, ℕ, ◌+◌, ◌<◌, List, length, Option, Some, None, IsSome, refl, ap, sym, ◌∙◌}
 use Rattle.std.proofs.Common.{subst, arith, inl, inr, slice_get}
 use Rattle.std.proofs.lemmas.Bool.{cases_eq}
+use Rattle.std.proofs.lemmas.Option.{same_Some}
 use Rattle.rg_cells.specs.declared.cell.Body.{Body}
 use Rattle.rg_cells.specs.Table.{Table, body_at, mark_at, link_at, high_of, IsHeld, exchanged}
 use Rattle.rg_cells.proofs.Exchanged.{partner_first, partner_second, partner_other, partner_once}
@@ -12,7 +13,6 @@ use Rattle.rg_regions.specs.Grove.{Members}
 use Rattle.rg_regions.proofs.Callers.Told.{lies_held}
 use Rattle.rg_copy.specs.Inner.Plans.{Rises}
 use Rattle.rg_copy.specs.Inner.Shifts.{Downward, Shifted, Shifts}
-use Rattle.rg_copy.proofs.Turns.{some_slot}
 
 -- a cell of the region stands at each of its slots
 pub shift-held : (p t : Table) (r i : ℕ) (members : List ℕ) (from : ℕ → ℕ) (s : ℕ) → Shifted p r members i t from
@@ -59,7 +59,7 @@ module _ (p t : Table) (r : ℕ) (members : List ℕ) (i slot : ℕ) (ms : Membe
       outside = w.outside;
       done = λ j s d l e k. elim (cases_eq j i) [
         | inl q ↦
-            let z : s ≡ slot = some_slot s slot (sym e ∙ ap (slice_get members) q ∙ at) in
+            let z : s ≡ slot = same_Some s slot (sym e ∙ ap (slice_get members) q ∙ at) in
             let y : None ≡ Some d = sym n ∙ own_link ∙ ap (link_at p) (sym z) ∙ k in
             cc
         | inr q ↦ w.done j s d (omega (arith, l, q)) e k
@@ -101,8 +101,8 @@ module _ (p t : Table) (r : ℕ) (members : List ℕ) (i slot : ℕ) (ms : Membe
               ap from (partner_other slot to s a b) ∙ w.outside s o;
           done = λ j s x l e y. elim (cases_eq j i) [
             | inl q ↦
-                let z : s ≡ slot = some_slot s slot (sym e ∙ ap (slice_get members) q ∙ at) in
-                let v : x ≡ to = some_slot x to (sym y ∙ ap (link_at p) z ∙ link) in
+                let z : s ≡ slot = same_Some s slot (sym e ∙ ap (slice_get members) q ∙ at) in
+                let v : x ≡ to = same_Some x to (sym y ∙ ap (link_at p) z ∙ link) in
                 ap (λ g. from (f g)) v ∙ ap from (partner_second slot to) ∙ w.left i slot (omega arith) at ∙ sym z
             | inr q ↦
                 let o : s ≢ slot = off j s e q in

@@ -4,7 +4,7 @@ use Rattle.std.proofs.Common.{◌≡◌, ◌≢◌, ℕ, ◌<◌, cond, List, le
 use Rattle.std.proofs.Common.{◌∙◌, subst, arith, inl, inr, get_or, slice_get, option_map, unwrap_or}
 use Rattle.std.proofs.lemmas.List.{length-map}
 use Rattle.std.proofs.lemmas.Bool.{cases_eq, cases_lt}
-use Rattle.std.proofs.lemmas.Option.{slice_get_within, slice_get-get_or, slice_get-map}
+use Rattle.std.proofs.lemmas.Option.{slice_get_within, slice_get-get_or, slice_get-map, same_Some, none-some}
 use Rattle.rg_base.specs.declared.object.Label.TheVariants.{Region, Temp}
 use Rattle.rg_base.specs.declared.value.Word.{Word}
 use Rattle.rg_base.specs.declared.value.Word.TheVariants.{Nil, Int, Bool as Truth, Slot}
@@ -51,28 +51,19 @@ abbrev pub Stages : (c m p e f s cells : Table) → (t u regions : RegionTable) 
 Stages c m p e f s cells t u regions key rec v frames members =
     StagesAt c m p e f s cells t u regions key rec v frames members rec.number rec.bridge (top_slots v) (top_temps v)
 
-no_slot : (s : ℕ) → None ≡ Some s → ⊥
-no_slot s e = cc
-
-some_slot : (a b : ℕ) → Some a ≡ Some b → a ≡ b
-some_slot a b q = cc
-
-some_word : (a b : Word) → Some a ≡ Some b → a ≡ b
-some_word a b q = cc
-
 -- what sweeping leaves are the region's members
 pub swept-members : (d t : Table) (r : ℕ) (members : List ℕ) → Swept d r members 0 t → Members t.heap r members
 swept-members d t r members w = record {
   lie = λ j x q.
       let l = slice_get_within members j x q in
-      let e : get_or members j 0 ≡ x = some_slot (get_or members j 0) x (sym (slice_get-get_or members j 0 l) ∙ q) in
+      let e : get_or members j 0 ≡ x = same_Some (get_or members j 0) x (sym (slice_get-get_or members j 0 l) ∙ q) in
       let L : ℕ → Type 0 = λ y. LiesIn t.heap r y in
       subst L e (w.lie j l);
   all = λ x l. let p = w.all x l in (p.0, slice_get-get_or members p.0 0 p.1 ∙ ap Some p.2);
   once = λ i j x p q.
       let a = slice_get_within members i x p in
       let b = slice_get_within members j x q in
-      let z : get_or members i 0 ≡ get_or members j 0 = some_slot (get_or members i 0) (get_or members j 0)
+      let z : get_or members i 0 ≡ get_or members j 0 = same_Some (get_or members i 0) (get_or members j 0)
       (sym (slice_get-get_or members i 0 a) ∙ p ∙ sym q ∙ slice_get-get_or members j 0 b) in
       elim (cases_lt i j) [
         | inl y ↦ absurd (w.once i j y b z)
@@ -143,7 +134,7 @@ module _ {c m p e f s cells : Table} {t u regions : RegionTable} {key : ℕ} {re
   marked-reach x l n = let z = mark-p x in g.marked.only x l (omega (arith, z, n))
 
   link-reach : (x d : ℕ) → LiesIn c.heap rec.number x → link_at p x ≡ Some d → IsReached x
-  link-reach x d l k = marked-reach x l (λ z. no_slot d (sym (planned.white x l z) ∙ k))
+  link-reach x d l k = marked-reach x l (λ z. none-some d (sym (planned.white x l z) ∙ k))
 
   place-is : (x d : ℕ) → link_at p x ≡ Some d → place x ≡ d
   place-is x d k = ap (λ (o : Option ℕ). unwrap_or o x) k
@@ -194,7 +185,7 @@ module _ {c m p e f s cells : Table} {t u regions : RegionTable} {key : ℕ} {re
   all-become ws = record {
     as_many = length-map ws change;
     each = λ k old new a b.
-        let q : change old ≡ new = some_word (change old) new
+        let q : change old ≡ new = same_Some (change old) new
         (sym (ap (option_map change) a) ∙ sym (slice_get-map change ws k) ∙ b) in
         let P : Word → Type 0 = λ y. Becomes c.heap rec.number (top_roots rec v) place old y in
         subst P q (becomes old);

@@ -3,25 +3,19 @@ use Rattle.std.proofs.Common.{◌≡◌, ◌≢◌, ℕ, ◌+◌, ◌<◌, ◌�
 use Rattle.std.proofs.Common.{arith, ◌⊎◌, inl, inr, get_or, set, slice_get}
 use Rattle.std.proofs.lemmas.List.{get_or-set_same, get_or-set_other}
 use Rattle.std.proofs.lemmas.Bool.{cases_eq, cases_lt}
-use Rattle.std.proofs.lemmas.Option.{slice_get_within, slice_get-get_or}
+use Rattle.std.proofs.lemmas.Option.{slice_get_within, slice_get-get_or, same_Some, none-some}
 use Rattle.rg_cells.specs.Table.{Heap, Table, mark_at, link_at}
 use Rattle.rg_regions.specs.Reach.{LiesIn}
 use Rattle.rg_regions.specs.Grove.{Members}
 use Rattle.rg_copy.specs.Inner.Plans.{Rises, FreePlace, Planned, Plan, Plans}
 use Rattle.rg_copy.specs.Inner.Shifts.{Downward}
 
-pub some_slot : (a b : ℕ) → Some a ≡ Some b → a ≡ b
-some_slot a b q = cc
-
 pub bridge-cases : (b : Option ℕ) (s : ℕ) → (b ≡ Some s) ⊎ (b ≢ Some s)
 bridge-cases None s = inr (λ e. cc)
 bridge-cases (Some a) s = elim (cases_eq a s) [
   | inl e ↦ inl (ap Some e)
-  | inr d ↦ inr (λ e. d (some_slot a s e))
+  | inr d ↦ inr (λ e. d (same_Some a s e))
 ]
-
-no_link : (s : ℕ) → None ≡ Some s → ⊥
-no_link s e = cc
 
 pub plan-begin : (c : Table) (members : List ℕ) (bridge : Option ℕ) → Planned c members bridge 0 0 c
 plan-begin c members bridge = record {
@@ -42,21 +36,21 @@ module _ (c t new : Table) (r : ℕ) (members : List ℕ) (bridge : Option ℕ) 
   off j s e d q = d (ms.once j i slot (e ∙ ap Some q) at)
 
   is_slot : (j s : ℕ) → slice_get members j ≡ Some s → j ≡ i → s ≡ slot
-  is_slot j s e q = some_slot s slot (sym e ∙ ap (slice_get members) q ∙ at)
+  is_slot j s e q = same_Some s slot (sym e ∙ ap (slice_get members) q ∙ at)
 
   -- to which slots links of earlier members lead
   known : (k x d : ℕ) → k < i → slice_get members k ≡ Some x → link_at t x ≡ Some d
       → ((x ≡ d) × (bridge ≡ Some d))
       ⊎ ((m : ℕ) × (m < free) × (slice_get members m ≡ Some d) × (bridge ≢ Some d))
   known k x d l e h = elim (cases_eq (mark_at c x) 0) [
-    | inl z ↦ absurd (no_link d (sym (w.white k x l e z) ∙ h))
+    | inl z ↦ absurd (none-some d (sym (w.white k x l e z) ∙ h))
     | inr z ↦ elim (bridge-cases bridge x) [
       | inl b ↦
-          let q : x ≡ d = some_slot x d (sym (w.bridge_stays k x l e z b) ∙ h) in
+          let q : x ≡ d = same_Some x d (sym (w.bridge_stays k x l e z b) ∙ h) in
           inl (q, b ∙ ap Some q)
       | inr b ↦
           let g = w.goes k x l e z b in
-          let q : g.1 ≡ d = some_slot g.1 d (sym g.6 ∙ h) in
+          let q : g.1 ≡ d = same_Some g.1 d (sym g.6 ∙ h) in
           inr (g.0, g.2, g.4 ∙ ap Some q, λ y. g.5 (y ∙ ap Some (sym q)))
     ]
   ]
@@ -102,9 +96,9 @@ module _ (c t new : Table) (r : ℕ) (members : List ℕ) (bridge : Option ℕ) 
           let q : a.0 ≢ i = λ z. omega (arith, z, a.2) in
           (a.0, a.1, omega (arith, a.2), a.3, a.4, a.5, there a.1 (off a.0 a.1 a.3 q) ∙ a.6);
       apart = λ j k s x d l u g h a b. elim (cases_eq j i) [
-        | inl q ↦ absurd (no_link d (sym (ap (link_at new) (is_slot j s g q) ∙ here ∙ e) ∙ a))
+        | inl q ↦ absurd (none-some d (sym (ap (link_at new) (is_slot j s g q) ∙ here ∙ e) ∙ a))
         | inr q ↦ elim (cases_eq k i) [
-          | inl z ↦ absurd (no_link d (sym (ap (link_at new) (is_slot k x h z) ∙ here ∙ e) ∙ b))
+          | inl z ↦ absurd (none-some d (sym (ap (link_at new) (is_slot k x h z) ∙ here ∙ e) ∙ b))
           | inr z ↦ w.apart j k s x d (omega (arith, l, q)) (omega (arith, u, z)) g h
               (sym (there s (off j s g q)) ∙ a) (sym (there x (off k x h z)) ∙ b)
         ]
@@ -146,12 +140,12 @@ module _ (c t new : Table) (r : ℕ) (members : List ℕ) (bridge : Option ℕ) 
             | inl q ↦ elim (cases_eq k i) [
               | inl z ↦ q ∙ sym z
               | inr z ↦
-                  let y : slot ≡ d = some_slot slot d (sym e ∙ sym here ∙ ap (link_at new) (sym (is_slot j s g q)) ∙ a) in
+                  let y : slot ≡ d = same_Some slot d (sym e ∙ sym here ∙ ap (link_at new) (sym (is_slot j s g q)) ∙ a) in
                   absurd (none k x d (omega (arith, u, z)) h (sym (there x (off k x h z)) ∙ b) (sym y))
             ]
             | inr q ↦ elim (cases_eq k i) [
               | inl z ↦
-                  let y : slot ≡ d = some_slot slot d (sym e ∙ sym here ∙ ap (link_at new) (sym (is_slot k x h z)) ∙ b) in
+                  let y : slot ≡ d = same_Some slot d (sym e ∙ sym here ∙ ap (link_at new) (sym (is_slot k x h z)) ∙ b) in
                   absurd (none j s d (omega (arith, l, q)) g (sym (there s (off j s g q)) ∙ a) (sym y))
               | inr z ↦ w.apart j k s x d (omega (arith, l, q)) (omega (arith, u, z)) g h
                   (sym (there s (off j s g q)) ∙ a) (sym (there x (off k x h z)) ∙ b)
@@ -208,12 +202,12 @@ module _ (c t new : Table) (r : ℕ) (members : List ℕ) (bridge : Option ℕ) 
             | inl q ↦ elim (cases_eq k i) [
               | inl z ↦ q ∙ sym z
               | inr z ↦
-                  let y : d0 ≡ d = some_slot d0 d (sym e ∙ sym here ∙ ap (link_at new) (sym (is_slot j s g q)) ∙ a) in
+                  let y : d0 ≡ d = same_Some d0 d (sym e ∙ sym here ∙ ap (link_at new) (sym (is_slot j s g q)) ∙ a) in
                   absurd (none k x d (omega (arith, u, z)) h (sym (there x (off k x h z)) ∙ b) (sym y))
             ]
             | inr q ↦ elim (cases_eq k i) [
               | inl z ↦
-                  let y : d0 ≡ d = some_slot d0 d (sym e ∙ sym here ∙ ap (link_at new) (sym (is_slot k x h z)) ∙ b) in
+                  let y : d0 ≡ d = same_Some d0 d (sym e ∙ sym here ∙ ap (link_at new) (sym (is_slot k x h z)) ∙ b) in
                   absurd (none j s d (omega (arith, l, q)) g (sym (there s (off j s g q)) ∙ a) (sym y))
               | inr z ↦ w.apart j k s x d (omega (arith, l, q)) (omega (arith, u, z)) g h
                   (sym (there s (off j s g q)) ∙ a) (sym (there x (off k x h z)) ∙ b)
@@ -240,7 +234,7 @@ free-next members bridge free to d0 p f m d l e b = elim (cases_lt m free) [
         | inl y ↦ let x = f.near d (ap (slice_get members) (sym y) ∙ e) b in y ∙ sym x
         | inr y ↦ omega (arith, q, y, l, f.next)
       ] in
-      inr (some_slot d d0 (sym e ∙ ap (slice_get members) z ∙ p))
+      inr (same_Some d d0 (sym e ∙ ap (slice_get members) z ∙ p))
 ]
 
 pub free-off : (c : Table) (r : ℕ) (members : List ℕ) (bridge : Option ℕ) (free to d0 : ℕ) → Members c.heap r members
@@ -252,7 +246,7 @@ free-off c r members bridge free to d0 ms p f b = elim (cases_eq to free) [
       let e = slice_get-get_or members free 0 (omega (arith, l, f.from)) in
       elim (bridge-cases bridge (get_or members free 0)) [
         | inl y ↦
-            let z : get_or members free 0 ≡ d0 = some_slot (get_or members free 0) d0 (sym y ∙ b) in
+            let z : get_or members free 0 ≡ d0 = same_Some (get_or members free 0) d0 (sym y ∙ b) in
             absurd (q (sym (ms.once free to d0 (e ∙ ap Some z) p)))
         | inr y ↦ absurd (q (f.near (get_or members free 0) e y))
       ]
@@ -266,7 +260,7 @@ plan-whole c t r members bridge free ms rise w =
     let a = ms.all s l in (a.0, slice_get_within members a.0 s a.1, a.1) in
     let mark : (s : ℕ) → mark_at t s ≡ mark_at c s = λ s. ap (λ (ks : List ℕ). get_or ks s 0) w.marks in
     let black : (s d : ℕ) → LiesIn c.heap r s → link_at t s ≡ Some d → mark_at c s ≢ 0 = λ s d l e z.
-    let a = place s l in no_link d (sym (w.white a.0 s a.1 a.2 z) ∙ e) in
+    let a = place s l in none-some d (sym (w.white a.0 s a.1 a.2 z) ∙ e) in
     record {
       heap = w.heap;
       marks = w.marks;
@@ -287,12 +281,12 @@ plan-whole c t r members bridge free ms rise w =
             let a = place s l in
             let b = place x k in
             let q : a.0 ≡ b.0 = w.apart a.0 b.0 s x d a.1 b.1 a.2 b.2 e f in
-            some_slot s x (sym a.2 ∙ ap (slice_get members) q ∙ b.2);
+            same_Some s x (sym a.2 ∙ ap (slice_get members) q ∙ b.2);
         lowest = λ s x d l n k m e low.
             let a = place s l in
             let b = place x k in
             let g = w.goes b.0 x b.1 b.2 (black x d k e) m in
-            let q : g.1 ≡ d = some_slot g.1 d (sym g.6 ∙ e) in
+            let q : g.1 ≡ d = same_Some g.1 d (sym g.6 ∙ e) in
             let before : a.0 < g.0 = elim (cases_lt a.0 g.0) [
               | inl y ↦ y
               | inr y ↦ let z = rise g.0 a.0 g.1 s y g.4 a.2 in absurd (omega (arith, z, q, low))
@@ -307,10 +301,10 @@ plan-whole c t r members bridge free ms rise w =
 pub plan-down : (h : Heap) (r : ℕ) (bridge : Option ℕ) (t : Table) → Plan h r bridge t → Downward h r t
 plan-down h r bridge t w = record {
   down = λ s d l e. elim (cases_eq (mark_at t s) 0) [
-    | inl z ↦ absurd (no_link d (sym (w.white s l z) ∙ e))
+    | inl z ↦ absurd (none-some d (sym (w.white s l z) ∙ e))
     | inr z ↦
         let g = w.goes s l z in
-        let q : g.0 ≡ d = some_slot g.0 d (sym g.1 ∙ e) in
+        let q : g.0 ≡ d = same_Some g.0 d (sym g.1 ∙ e) in
         let L : ℕ → Type 0 = λ y. LiesIn h r y in
         (subst L q g.2, omega (arith, q, g.3))
   ];

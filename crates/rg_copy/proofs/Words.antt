@@ -1,11 +1,9 @@
 -- Lists of words that are changed one by one (docs/architecture.md, "A manager that moves its cells").
 use Rattle.std.proofs.Common.{◌≡◌, ℕ, ◌+◌, zero, suc, List, [], ◌∷◌, length, map, Some, refl, ap, sym, ◌∙◌}
 use Rattle.std.proofs.Common.{slice_get, set, take, drop, arith}
+use Rattle.std.proofs.lemmas.Option.{same_Some}
 use Rattle.rg_base.specs.declared.value.Word.{Word}
 use Rattle.rg_copy.specs.Inner.Moves.{first_changed, changed_from}
-
-some_word : (a b : Word) → Some a ≡ Some b → a ≡ b
-some_word a b q = cc
 
 -- the next word is as it was
 pub first-get : (f : Word → Word) (k : ℕ) (xs : List Word) → slice_get (first_changed f k xs) k ≡ slice_get xs k
@@ -17,7 +15,7 @@ first-get f (suc k) (x ∷ xs) = first-get f k xs
 pub first-set : (f : Word → Word) (k : ℕ) (xs : List Word) (w : Word) → slice_get xs k ≡ Some w
     → set (first_changed f k xs) k (f w) ≡ first_changed f (suc k) xs
 first-set f zero [] w e = cc
-first-set f zero (x ∷ xs) w e = ap (λ y. f y ∷ xs) (sym (some_word x w e))
+first-set f zero (x ∷ xs) w e = ap (λ y. f y ∷ xs) (sym (same_Some x w e))
 first-set f (suc k) [] w e = cc
 first-set f (suc k) (x ∷ xs) w e = ap (λ ys. f x ∷ ys) (first-set f k xs w e)
 
@@ -26,7 +24,7 @@ pub first-skip : (f : Word → Word) (k : ℕ) (xs : List Word) (w : Word) → s
     → first_changed f (suc k) xs ≡ first_changed f k xs
 first-skip f zero [] w e q = cc
 first-skip f zero (x ∷ xs) w e q =
-    let z : x ≡ w = some_word x w e in ap (λ y. y ∷ xs) (ap f z ∙ q ∙ sym z)
+    let z : x ≡ w = same_Some x w e in ap (λ y. y ∷ xs) (ap f z ∙ q ∙ sym z)
 first-skip f (suc k) [] w e q = cc
 first-skip f (suc k) (x ∷ xs) w e q = ap (λ ys. f x ∷ ys) (first-skip f k xs w e q)
 

@@ -2,7 +2,7 @@
 use Rattle.std.proofs.Common.{◌≡◌, ℕ, ◌<◌, List, [], length, Option, Some, None, get_or, refl, ap, sym, ◌∙◌, subst}
 use Rattle.std.proofs.Common.{arith, ◌⊎◌, inl, inr, option_map}
 use Rattle.std.proofs.lemmas.Bool.{cases_eq, cases_lt}
-use Rattle.std.proofs.lemmas.Option.{slice_get_within, slice_get-get_or}
+use Rattle.std.proofs.lemmas.Option.{slice_get_within, slice_get-get_or, same_Some}
 use Rattle.rg_cells.specs.declared.cell.Body.{Body}
 use Rattle.rg_base.specs.declared.object.Label.TheVariants.{Region}
 use Rattle.rg_cells.specs.Table.{Heap, Table, field_at, body_at, body_in, mark_at, link_at, high_of}
@@ -23,9 +23,6 @@ use Rattle.rg_regions.proofs.Callers.Shares.{has-cases, without, without-off, wi
 use Rattle.rg_count.proofs.CountsLowered.{referrers-total, spends-distinct, spends-lie}
 use Rattle.rg_count.proofs.SpentInTurn.{done-spent, spent-done, has-turn, turn-has, no-root}
 
-some_number : (a b : ℕ) → Some a ≡ Some b → a ≡ b
-some_number a b q = cc
-
 -- before the first turn of sweeping
 pub swept-begin : (c d : Table) (t : RegionTable) (key : ℕ) (rec : Record) → Grove c t → record_at t key ≡ Some rec
     → d.heap ≡ c.heap → Swept d rec.number rec.members (length rec.members) d
@@ -42,7 +39,7 @@ swept-begin c d t key rec g e h =
           let a = m.all s (subst L h l) in (
             a.0,
             slice_get_within rec.members a.0 s a.1,
-            some_number (get_or rec.members a.0 0) s
+            same_Some (get_or rec.members a.0 0) s
                 (sym (slice_get-get_or rec.members a.0 0 (slice_get_within rec.members a.0 s a.1)) ∙ a.1),
           );
       after = λ j l n q. absurd (omega (arith, l, n));
@@ -141,7 +138,7 @@ counted c d t u key rec roots first done cells regions fm e k a b w =
           s.3,
           s.4,
           record {
-            lie = λ j x q. let e = some_number (get_or s.0.members j 0) x
+            lie = λ j x q. let e = same_Some (get_or s.0.members j 0) x
                 (sym (slice_get-get_or s.0.members j 0 (slice_get_within s.0.members j x q)) ∙ q) in
                 let L : ℕ → Type 0 = λ y. LiesIn cells.heap rec.number y in
                 subst L e (s.5.lie j (slice_get_within s.0.members j x q));
@@ -149,7 +146,7 @@ counted c d t u key rec roots first done cells regions fm e k a b w =
             once = λ i j x p q.
                 let a = slice_get_within s.0.members i x p in
                 let b = slice_get_within s.0.members j x q in
-                let z : get_or s.0.members i 0 ≡ get_or s.0.members j 0 = some_number (get_or s.0.members i 0)
+                let z : get_or s.0.members i 0 ≡ get_or s.0.members j 0 = same_Some (get_or s.0.members i 0)
                 (get_or s.0.members j 0) (sym (slice_get-get_or s.0.members i 0 a) ∙ p ∙ sym q
                 ∙ slice_get-get_or s.0.members j 0 b) in
                 elim (cases_lt i j) [

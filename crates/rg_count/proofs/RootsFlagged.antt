@@ -3,21 +3,14 @@ use Rattle.std.proofs.Common.{◌≡◌, ◌≢◌, ℕ, ◌+◌, ◌<◌, List,
 use Rattle.std.proofs.Common.{subst, arith, ◌⊎◌, inl, inr, slice_get}
 use Rattle.std.proofs.lemmas.List.{get_or-set_same, get_or-set_other}
 use Rattle.std.proofs.lemmas.Bool.{cases_eq, cases_lt}
+use Rattle.std.proofs.lemmas.Option.{same_Some}
 use Rattle.rg_base.specs.declared.value.Word.{Word}
 use Rattle.rg_base.specs.declared.value.Word.TheVariants.{Slot}
+use Rattle.rg_base.proofs.Callers.Labels.{slot-same}
 use Rattle.rg_cells.specs.Table.{Heap, Table, field_at, body_at, link_at, width}
 use Rattle.rg_regions.specs.Reach.{LiesIn}
 use Rattle.rg_regions.proofs.Callers.Told.{field_within}
 use Rattle.rg_count.specs.Inner.Flags.{Cleared, Flags, Flagged, Among, InTemps}
-
-slot_is : (a b : ℕ) → Slot a ≡ Slot b → a ≡ b
-slot_is a b q = cc
-
-word_is : (a b : Word) → Some a ≡ Some b → a ≡ b
-word_is a b q = cc
-
-num_is : (a b : ℕ) → Some a ≡ Some b → a ≡ b
-num_is a b q = cc
 
 pub cleared-more : (members : List ℕ) (n s : ℕ) (old mid new : Table) → slice_get members n ≡ Some s
     → s < length mid.links → new ≡ record mid { links = set mid.links s None } → Cleared members n old mid
@@ -29,7 +22,7 @@ cleared-more members n s old mid new at room e c = record {
     | inl z ↦ ap (λ y. get_or (set mid.links s None) y None) z ∙ get_or-set_same mid.links s None None room
     | inr d ↦ get_or-set_other mid.links s x None None d ∙ elim (cases_lt i n) [
       | inl m ↦ c.none i x m q
-      | inr m ↦ let z : i ≡ n = omega (arith, l) in absurd (d (num_is x s (sym q ∙ ap (slice_get members) z ∙ at)))
+      | inr m ↦ let z : i ≡ n = omega (arith, l) in absurd (d (same_Some x s (sym q ∙ ap (slice_get members) z ∙ at)))
     ]
   ];
   others = λ x m.
@@ -83,7 +76,7 @@ flagged-more h r P Q w old mid new f g up here back = elim g [
           | inr d ↦ elim (back s q) [
             | inl p ↦ other s d
                 ∙ f.found s p l
-            | inr e ↦ absurd (d (slot_is s i.slot (sym e ∙ i.leads)))
+            | inr e ↦ absurd (d (slot-same s i.slot (sym e ∙ i.leads)))
           ]
         ];
         only = λ s. elim (cases_eq s i.slot) [
@@ -101,7 +94,7 @@ among-more h r word n w old mid new at f g = flagged-more h r (Among word n) (Am
     (λ s e. (n, omega arith, at ∙ ap Some e))
     (λ s q. elim (cases_lt q.0 n) [
       | inl l ↦ inl (q.0, l, q.2)
-      | inr l ↦ let e : q.0 ≡ n = omega (arith, q.1) in inr (word_is w (Slot s) (sym at ∙ ap word (sym e) ∙ q.2))
+      | inr l ↦ let e : q.0 ≡ n = omega (arith, q.1) in inr (same_Some w (Slot s) (sym at ∙ ap word (sym e) ∙ q.2))
     ])
 
 pub among-none : (h : Heap) (r : ℕ) (word : ℕ → Option Word) (t : Table) → t.heap ≡ h → Flagged h r (Among word 0) t t
@@ -140,7 +133,7 @@ temps-more h r temps n temp old mid new at f g = flagged-then h r (InTemps h tem
       | inl l ↦ inl (q.0, q.1, q.2, l, q.4, q.5)
       | inr l ↦
           let e : q.0 ≡ n = omega (arith, q.3) in
-          let z : temp ≡ q.2 = num_is temp q.2 (sym at ∙ ap (slice_get temps) (sym e) ∙ q.4) in
+          let z : temp ≡ q.2 = same_Some temp q.2 (sym at ∙ ap (slice_get temps) (sym e) ∙ q.4) in
           let f : field_at h temp q.1 ≡ Some (Slot s) = ap (λ y. field_at h y q.1) z ∙ q.5 in
           inr (q.1, field_within h temp q.1 (Slot s) f, f)
     ])

@@ -3,14 +3,12 @@ use Rattle.std.proofs.Common.{◌≡◌, ◌≢◌, ℕ, ◌+◌, ◌<◌, List,
 use Rattle.std.proofs.Common.{sym, ◌∙◌, subst, arith, ◌⊎◌, inl, inr, slice_get}
 use Rattle.std.proofs.lemmas.List.{get_or-set_same, get_or-set_other}
 use Rattle.std.proofs.lemmas.Bool.{cases_eq, cases_lt}
+use Rattle.std.proofs.lemmas.Option.{same_Some}
 use Rattle.rg_cells.specs.Table.{Table, mark_at, link_at}
 use Rattle.rg_regions.specs.Table.{Has, Chained}
 use Rattle.rg_count.specs.Inner.Counting.{Listed}
 use Rattle.rg_regions.proofs.Callers.Chain.{chained_agree}
 use Rattle.rg_count.proofs.CountsLowered.{chained-head}
-
-num_is : (a b : ℕ) → Some a ≡ Some b → a ≡ b
-num_is a b q = cc
 
 pub listed-none : (members : List ℕ) (t : Table) → Listed members 0 t t None
 listed-none members t = record {
@@ -39,7 +37,7 @@ listed-skip members n s old mid head once at why w = record {
     | inl a ↦ w.all i x a q z d
     | inr a ↦
         let e : i ≡ n = omega (arith, l) in
-        let same : s ≡ x = num_is s x (sym at ∙ ap (slice_get members) (sym e) ∙ q) in
+        let same : s ≡ x = same_Some s x (sym at ∙ ap (slice_get members) (sym e) ∙ q) in
         let fresh : Has w.zeros s → ⊥ = λ m. let y = w.each s m in let v : y.0 ≡ n = once y.0 n s y.2 at in
         omega (arith, v, y.1) in
         elim why [
@@ -87,7 +85,7 @@ listed-more members n s old mid new head once at zero off room e w =
       ];
       all = λ i x l q z d. elim (cases_lt i n) [
         | inl a ↦ inr (w.all i x a q z d)
-        | inr a ↦ let v : i ≡ n = omega (arith, l) in inl (num_is x s (sym q ∙ ap (slice_get members) v ∙ at))
+        | inr a ↦ let v : i ≡ n = omega (arith, l) in inl (same_Some x s (sym q ∙ ap (slice_get members) v ∙ at))
       ];
       same = λ x k. other x (λ q. k (inl q)) ∙ w.same x (λ m. k (inr m));
       off = λ x m l. elim (cases_eq x s) [

@@ -1,5 +1,5 @@
 -- The test whether two numbers of names are one.
-use Rattle.std.proofs.Common.{◌≡◌, ℕ, Bool, true, false, ◌⊎◌, inl, inr, Option, None, Some, refl, ap}
+use Rattle.std.proofs.Common.{◌≡◌, ℕ, true, Option, None, Some, refl, ap}
 use Rattle.std.proofs.lemmas.Bool.{eq-eqb, eqb-true}
 use Rattle.rg_flow.specs.Scope.{same_name}
 
@@ -14,8 +14,3 @@ same-eq None None h = refl
 same-eq None (Some m) h = cc
 same-eq (Some n) None h = cc
 same-eq (Some n) (Some m) h = ap Some (eqb-true n m h)
-
--- a test is true or false
-pub bool_cases : (b : Bool) → (b ≡ true) ⊎ (b ≡ false)
-bool_cases true = inl refl
-bool_cases false = inr refl

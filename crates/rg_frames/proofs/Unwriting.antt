@@ -1,7 +1,7 @@
 -- What was never written stays nil through each change of the frames.
 use Rattle.std.proofs.Common.{◌≡◌, ◌≤◌, ◌<◌, ◌+◌, ◌-◌, ◌++◌, ◌∷◌, ℕ, zero, suc, [], Some, List, length, take, drop, replicate, slice_get}
 use Rattle.std.proofs.Common.{slice_set, refl, sym, ap, ◌∙◌, arith, length-append, min, ◌↔◌, Option, None, IsSome, IsNone, get_or, option_to_list}
-use Rattle.std.proofs.lemmas.Option.{slice_get_within, slice_get-get_or}
+use Rattle.std.proofs.lemmas.Option.{slice_get_within, slice_get-get_or, same_Some}
 use Rattle.std.proofs.Math.Seq.{take-append_seam}
 use Rattle.std.proofs.lemmas.List.{length-take-le, length-replicate, take-append-drop, length-set}
 use Rattle.rg_base.specs.declared.value.Word.{Word}
@@ -412,9 +412,6 @@ no-kept (k ∷ ks) frames e h =
     let n : length frames ≡ 0 = ap length e in
     absurd (omega (arith, n, h))
 
-some-same : (x y : ℕ) → Some x ≡ Some y → x ≡ y
-some-same x y h = cc
-
 -- where the last mark isn't the number of temporaries, it is below it
 pub mark-below : (v : Stack) (t n x : ℕ) → t ≡ length v.temps → n ≡ length v.marks → x ≡ get_or v.marks (n - 1) x → (t ≡ x → ⊥)
     → 0 < length v.marks → Lies v → mark v < length v.temps
@@ -423,7 +420,7 @@ mark-below v t n x e f g other some h =
     let got = slice_get-get_or v.marks (length v.marks - 1) 0 at in
     let too = slice_get-get_or v.marks (length v.marks - 1) x at in
     let same : x ≡ get_or v.marks (length v.marks - 1) x = rw (← f) g in
-    let is : x ≡ mark v = same ∙ some-same _ _ (sym too ∙ got) in
+    let is : x ≡ mark v = same ∙ same_Some _ _ (sym too ∙ got) in
     let r : mark v ≤ length v.temps = h.marks.within (length v.marks - 1) (mark v) got in
     let apart : length v.temps ≡ mark v → ⊥ = λ q. other (e ∙ q ∙ sym is) in
     omega (arith, r, apart)

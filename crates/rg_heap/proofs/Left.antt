@@ -25,7 +25,7 @@ use Rattle.rg_heap.proofs.OwnedChained.{number_on}
 use Rattle.rg_heap.proofs.Comes.{grove_same, same_cells}
 use Rattle.rg_heap.proofs.Ended.{gone_on, same_records}
 
-temp_apart : (h : Heap) (s q : ℕ) → IsTemp h s → LiesIn h q s → ⊥
+pub temp_apart : (h : Heap) (s q : ℕ) → IsTemp h s → LiesIn h q s → ⊥
 temp_apart h s q a l = let z : Some (Temp a.0) ≡ Some (Region q) = sym a.1 ∙ l in cc
 
 pub temp_held : (h : Heap) (s : ℕ) → IsTemp h s → IsHeld h s

@@ -22,6 +22,7 @@ use Rattle.rg_heap.specs.Writes.{Stays, Comes, LeadsOut, InActive, IsTemp, IsCou
 use Rattle.rg_heap.proofs.Readers.{one_top}
 use Rattle.rg_heap.specs.Inner.Marks.{MayWrite, Recounts, leads_once}
 use Rattle.rg_heap.proofs.Written.{grove_written}
+use Rattle.rg_heap.proofs.Left.{temp_apart}
 
 -- where a field leads to a slot, it is counted
 pub referrers_some : (h : Heap) (q p k s : ℕ) → LiesIn h q p → field_at h p k ≡ Some (Slot s) → 0 < referrers h q s
@@ -44,9 +45,6 @@ counting_of t key n m a e b = by_record (record_at t key) refl a b
         → option_map (λ (r : Record). r.number) o ≡ Some n → IsCounting t n
     by_record None q a b = cc
     by_record (Some r) q a b = (key, r, q, number_is r.number n b, manager_is r.manager m a ∙ e)
-
-temp_apart : (h : Heap) (slot r : ℕ) → IsTemp h slot → LiesIn h r slot → ⊥
-temp_apart h slot r a l = let z : Some (Temp a.0) ≡ Some (Region r) = sym a.1 ∙ l in cc
 
 -- the region of a cell into which may be written
 pub region_here : (h : Heap) (t : RegionTable) (key slot region : ℕ) (w : Word) → MayWrite h t key slot w → LiesIn h region slot

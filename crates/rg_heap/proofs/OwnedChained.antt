@@ -6,6 +6,7 @@ use Rattle.std.proofs.lemmas.Bool.{cases_lt}
 use Rattle.std.proofs.lemmas.List.{get_or-set_other, get_or-set_same}
 use Rattle.rg_base.specs.declared.value.Word.{Word}
 use Rattle.rg_base.specs.declared.value.Word.TheVariants.{Slot}
+use Rattle.rg_base.proofs.Callers.Labels.{slot-same}
 use Rattle.rg_cells.specs.Table.{Heap, body_at, field_at, width}
 use Rattle.rg_regions.specs.Table.{Record, RegionTable, HasNumber, Has, Chained}
 use Rattle.rg_regions.specs.Reach.{LiesIn}
@@ -95,9 +96,6 @@ split h t v slots i k q slot w stands leads o = elim o.before [
       lies = o.lies;
     }
 
-pub slot_to : (a b : ℕ) → Slot a ≡ Slot b → a ≡ b
-slot_to a b q = cc
-
 pub chains_none : (h : Heap) (t : RegionTable) (v : Stack) (slots : List ℕ) (i k slot : ℕ) (now new : RegionTable) (head result : Option ℕ)
     (keys : List ℕ) (w : Word) → slice_get slots i ≡ Some slot → field_at h slot k ≡ Some w → Chains h t v slots i k now head keys
     → PutNone h v w head result now new → Chains h t v slots i (k + 1) new result keys
@@ -129,7 +127,7 @@ chains_put h t v slots i k slot now new head result keys w once stands leads c p
   all = λ key q n o. elim (split h t v slots i k q slot w stands leads o) [
     | inl x ↦ inr (c.all key q n x)
     | inr x ↦
-        let e : x.0 ≡ p.to = slot_to x.0 p.to (sym x.1 ∙ p.leads) in
+        let e : x.0 ≡ p.to = slot-same x.0 p.to (sym x.1 ∙ p.leads) in
         let L : ℕ → Type 0 = λ z. LiesIn h q z in
         let r : q ≡ p.region = one_region h p.to q p.region (subst L e x.2) p.lies in
         let N : ℕ → Type 0 = λ z. HasNumber t key z in

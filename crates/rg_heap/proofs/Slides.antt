@@ -7,6 +7,7 @@ use Rattle.rg_base.specs.declared.object.Label.TheVariants.{Region, Frozen}
 use Rattle.rg_base.specs.declared.words.Manager.{Manager}
 use Rattle.rg_base.specs.declared.value.Word.{Word}
 use Rattle.rg_base.specs.declared.value.Word.TheVariants.{Nil, Int, Bool as Truth, Slot}
+use Rattle.rg_base.proofs.Callers.Labels.{slot-same}
 use Rattle.rg_cells.specs.declared.cell.Body.{Body}
 use Rattle.rg_cells.specs.Table.{Heap, Table, body_at, field_at, label_at}
 use Rattle.rg_frames.specs.Stack.{Stack}
@@ -23,12 +24,6 @@ use Rattle.rg_heap.specs.Collects.{Told}
 use Rattle.rg_heap.specs.Slides.{Slides}
 use Rattle.rg_heap.specs.Inner.Chains.{Gone}
 use Rattle.rg_heap.proofs.Orphaned.{Leaves, unowned, below_one, lost_below, lost_apart, own_stays, tells}
-
-slot_is : (a b : ℕ) → Slot a ≡ Slot b → a ≡ b
-slot_is a b q = cc
-
-some_word : (a b : Word) → Some a ≡ Some b → a ≡ b
-some_word a b q = cc
 
 same_some : (o : Option Word) (a b : Word) → o ≡ Some a → b ≡ a → o ≡ Some b
 same_some o a b p q = p ∙ ap Some (sym q)
@@ -131,7 +126,7 @@ module _ (c : Table) (t : RegionTable) (key : ℕ) (rec : Record) (v : Stack) (m
   same_word q s k (Int i) now d l f b = b.stays (λ x e. cc)
   same_word q s k (Truth i) now d l f b = b.stays (λ x e. cc)
   same_word q s k (Slot y) now d l f b = elim (lies_or_not c.heap rec.number y) [
-    | inl n ↦ b.stays (λ x e r. let L : ℕ → Type 0 = λ z. LiesIn c.heap rec.number z in n (subst L (sym (slot_is y x e)) (lies x r)))
+    | inl n ↦ b.stays (λ x e r. let L : ℕ → Type 0 = λ z. LiesIn c.heap rec.number z in n (subst L (sym (slot-same y x e)) (lies x r)))
     | inr i ↦
         let e = to_bridge q s k y d l f i in
         b.moved y refl (bridge_reach y e) ∙ ap Slot (w.bridge y e)
@@ -159,7 +154,7 @@ module _ (c : Table) (t : RegionTable) (key : ℕ) (rec : Record) (v : Stack) (m
       let now : slice_get e.0.fields k ≡ Some (Slot to) = sym (ap F e.1) ∙ ap (λ n. field_at mid.heap n k) a.2 ∙ f in
       let z = was_word c.heap rec.number (top_roots rec v) w.place b.0.fields e.0.fields k (Slot to) e.2.fields now in
       let far : (y : ℕ) → z.0 ≡ Slot y → InReach y → ⊥ = λ y p r.
-      let there = slot_is to (w.place y) (z.2.moved y p r) in
+      let there = slot-same to (w.place y) (z.2.moved y p r) in
       let n = body_of (body_at c.heap y) (lies_held c.heap rec.number y (lies y r)) in
       let m = w.stands y n.0 r n.1 in
       let h : LiesIn mid.heap rec.number (w.place y) = ap (option_map (λ (b : Body). b.label)) m.1 ∙ ap Some m.2.label

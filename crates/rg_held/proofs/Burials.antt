@@ -5,6 +5,8 @@ use Rattle.std.specs.Prelude.{◌||◌, ◌&&◌, if◌then◌else◌}
 use Rattle.std.specs.List.{list_any}
 use Rattle.std.proofs.lemmas.Option.{slice_get-map, same_Some}
 use Rattle.std.proofs.lemmas.List.{length-map}
+use Rattle.std.proofs.lemmas.Bool.{not-true, eq-eqb, eqb-true, or_cases, cases_Bool, ne_eqb}
+use Rattle.std.proofs.lemmas.Map.Keys.{any_passes_from_place}
 use Rattle.rg_base.specs.declared.object.Label.{Label}
 use Rattle.rg_base.specs.declared.object.Label.TheVariants.{Region, Temp, Frozen}
 use Rattle.rg_base.specs.declared.object.Place.{Place}
@@ -12,6 +14,7 @@ use Rattle.rg_base.specs.declared.object.Place.TheVariants as place
 use Rattle.rg_base.specs.declared.object.Seen.{Seen}
 use Rattle.rg_base.specs.declared.value.Val.{Val}
 use Rattle.rg_base.specs.declared.value.Val.TheVariants as val
+use Rattle.rg_base.proofs.Callers.Lists.{there as below-get}
 use Rattle.rg_rules.specs.Regions.{region_of, region_at, in_regions}
 use Rattle.rg_sound.proofs.Stores.MemberLemmas.{In, among-in, in-among}
 use Rattle.rg_stack.specs.Machine.{Frame, Window, Machine}
@@ -21,8 +24,8 @@ use Rattle.rg_stack.proofs.Basics.{none-some, and-left, and-right, or-left}
 use Rattle.rg_stack.proofs.Needs.LeadLemmas.{region-label}
 use Rattle.rg_held.specs.Frees.{gone, is_temp, buried, bury}
 use Rattle.rg_held.specs.Part.{leads_to, AllLead, SlotInto, FieldInto, Placed, Part, is_of, OwnerHeld, OwnersHeld}
-use Rattle.rg_held.proofs.Lists.{off, below-get, at-any}
-use Rattle.rg_held.proofs.Places.{or-split, or-right, not-true, same-number, number-same, other-number, either, clash}
+use Rattle.rg_held.proofs.Lists.{off}
+use Rattle.rg_held.proofs.Places.{or-right, clash}
 use Rattle.rg_held.proofs.Places.{label-there, into-back, region-into}
 use Rattle.rg_held.proofs.Links.{Link, AllLinks, beneath-links, beneath-first, beneath-all, beneath-from}
 use Rattle.rg_held.proofs.Parts.{shut-above, open-region}
@@ -44,7 +47,7 @@ in-label rs Frozen e = off e
 pub temp-label : (t : Option ℕ) (l : Label) → is_temp t l ≡ true → (n : ℕ) × (t ≡ Some n) × (l ≡ Temp n)
 temp-label None l e = off e
 temp-label (Some n) (Region r) e = off e
-temp-label (Some n) (Temp k) e = (n, refl, ap Temp (same-number k n e))
+temp-label (Some n) (Temp k) e = (n, refl, ap Temp (eqb-true k n e))
 temp-label (Some n) Frozen e = off e
 
 gone-buried : (rs : List ℕ) (t : Option ℕ) → buried rs t gone ≡ gone
@@ -99,9 +102,9 @@ module _ (held : ℕ → Truth) (owners : List Val) (f m : Machine) (stack : Lis
 
   -- a link from a closed region leads to a closed one
   pub closed-link : (q r : ℕ) → is_open m.windows q ≡ false → Link m.store q r → is_open m.windows r ≡ false
-  closed-link q r c l = elim (or-split (r == q) _ (p.tidy.inside l.object l.holder q l.field (val.Obj l.address) (Region r) l.there l.lies l.value
+  closed-link q r c l = elim (or_cases (r == q) _ (p.tidy.inside l.object l.holder q l.field (val.Obj l.address) (Region r) l.there l.lies l.value
       (region-label m.store l.address r l.leads))) [
-        | inl same ↦ ap (is_open m.windows) (same-number r q same) ∙ c
+        | inl same ↦ ap (is_open m.windows) (eqb-true r q same) ∙ c
         | inr shut ↦ shut-above m.windows r q shut c
       ]
 
@@ -131,9 +134,9 @@ module _ (held : ℕ → Truth) (owners : List Val) (f m : Machine) (stack : Lis
     value = val.Obj l.address;
     holder_there = l.there;
     value_there = l.value;
-    outside = ap (is_outside m.windows r) l.lies ∙ ap not (other-number q r other);
+    outside = ap (is_outside m.windows r) l.lies ∙ ap not (ne_eqb q r other);
     into = ap (λ (o : Option Label). elim o [ None ↦ false | Some l ↦ lies_in r l ]) (region-label m.store l.address r l.leads)
-        ∙ number-same r r refl;
+        ∙ eq-eqb r r refl;
   }
 
   module _ (regions : List ℕ) (temps : Option ℕ) where
@@ -220,7 +223,7 @@ module _ (held : ℕ → Truth) (owners : List Val) (f m : Machine) (stack : Lis
     where
       by : (t : Truth) (o : Seen) → slice_get m.store a ≡ Some o → is_buried all temps o ≡ t → t ≡ false
       by false o there e = refl
-      by true o there e = elim (or-split (in_regions all o.label) (is_temp temps o.label) e) [
+      by true o there e = elim (or_cases (in_regions all o.label) (is_temp temps o.label) e) [
         | inl r ↦ (let h = in-label all o.label r in absurd (no_region h.0 h.2 (region-into m.store h.0 a o there h.1)))
         | inr t ↦ (let h = temp-label temps o.label t in absurd (no_temp h.0 h.1 (label-there m.store a o there ∙ ap Some h.2)))
       ]
@@ -241,7 +244,7 @@ module _ (held : ℕ → Truth) (owners : List Val) (f m : Machine) (stack : Lis
 
       now : (s : Option Seen) → slice_get m.store a ≡ s → held a ≡ true → option_map (buried all temps) s ≡ option_map (λ (o : Seen). gone) s
       now None there h = refl
-      now (Some o) there h = elim (either (is_buried all temps o)) [
+      now (Some o) there h = elim (cases_Bool (is_buried all temps o)) [
         | inl t ↦ ap (λ t. Some (if t then gone else o)) t
         | inr n ↦ clash (left a) (still a o h there n) e
       ]
@@ -259,7 +262,7 @@ module _ (held : ℕ → Truth) (owners : List Val) (f m : Machine) (stack : Lis
 
   stack-free : (q i : ℕ) (v : Val) → In q all → slice_get stack i ≡ Some v → is_into m.store q v ≡ true → ⊥
   stack-free q i v j there into =
-      let no = b.stack_free q (shut q j) (at-any (is_into m.store q) stack i v there into) in elim (from q j) [
+      let no = b.stack_free q (shut q j) (any_passes_from_place (is_into m.store q) stack i v there into) in elim (from q j) [
         | inl given ↦ no.0 given
         | inr h ↦ no.1 h.2.0
       ]
@@ -269,9 +272,9 @@ module _ (held : ℕ → Truth) (owners : List Val) (f m : Machine) (stack : Lis
   outside a o q e there i = by o.label refl
     where
       by : (l : Label) → o.label ≡ l → is_outside m.windows q l ≡ true
-      by (Region r) lies = elim (either (r == q)) [
+      by (Region r) lies = elim (cases_Bool (r == q)) [
         | inl same ↦ clash (in_regions all o.label)
-            (ap (in_regions all) lies ∙ in-among all r (subst (λ n. In n all) (sym (same-number r q same)) i))
+            (ap (in_regions all) lies ∙ in-among all r (subst (λ n. In n all) (sym (eqb-true r q same)) i))
             (or-left (in_regions all o.label) (is_temp temps o.label) (stays a o e there))
         | inr other ↦ ap not other
       ]
@@ -313,7 +316,7 @@ module _ (held : ℕ → Truth) (owners : List Val) (f m : Machine) (stack : Lis
 
       by : (t : Truth) → is_buried all temps l.0.holder ≡ t → t ≡ false
       by false e = refl
-      by true e = elim (or-split (in_regions all l.0.holder.label) (is_temp temps l.0.holder.label) e) [
+      by true e = elim (or_cases (in_regions all l.0.holder.label) (is_temp temps l.0.holder.label) e) [
         | inl i ↦
             (let h = in-label all l.0.holder.label i in
             let to = into-back m.store r l.0.value l.0.into in
@@ -355,7 +358,7 @@ module _ (held : ℕ → Truth) (owners : List Val) (f m : Machine) (stack : Lis
 
       buried-not : (o : Seen) → is_of ws o.label ≡ true → (t : Truth) → is_buried all temps o ≡ t → t ≡ false
       buried-not o e false h = refl
-      buried-not o e true h = elim (or-split (in_regions all o.label) (is_temp temps o.label) h) [
+      buried-not o e true h = elim (or_cases (in_regions all o.label) (is_temp temps o.label) h) [
         | inl i ↦ absurd (no-region o.label e i)
         | inr t ↦ absurd (no-temp o.label e t)
       ]
@@ -369,7 +372,7 @@ module _ (held : ℕ → Truth) (owners : List Val) (f m : Machine) (stack : Lis
   -- a temporary of no window that ends is held as before
   pub unburied : (a : ℕ) (o : Seen) (n : ℕ) → left a ≡ false → slice_get m.store a ≡ Some o → o.label ≡ Temp n → is_temp temps (Temp n) ≡ false
       → held a ≡ false
-  unburied a o n e there lies other = elim (either (held a)) [
+  unburied a o n e there lies other = elim (cases_Bool (held a)) [
     | inl here ↦ clash (left a) (still a o here there (ap (λ l. in_regions all l || is_temp temps l) lies ∙ other)) e
     | inr away ↦ away
   ]

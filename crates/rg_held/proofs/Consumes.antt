@@ -2,6 +2,8 @@
 use Rattle.std.proofs.Common.{◌≡◌, ℕ, ◌==◌, ◌<◌, ◌⊎◌, inl, inr, true, false, true≢false, not, Bool as Truth, List, [], ◌∷◌}
 use Rattle.std.proofs.Common.{length, Option, Some, None, Ok, Err, option_and_then, refl, sym, ap, subst, ◌∙◌, arith, slice_get}
 use Rattle.std.proofs.lemmas.Option.{same_Some}
+use Rattle.std.proofs.lemmas.Bool.{not-true, eq-eqb, eqb-true, or_cases, cases_Bool, ne_eqb}
+use Rattle.std.proofs.lemmas.Map.Keys.{any_passes_from_place}
 use Rattle.std.specs.Prelude.{◌||◌, ◌&&◌, ok_or, if◌then◌else◌, is_some}
 use Rattle.std.specs.List.{list_any}
 use Rattle.rg_base.specs.declared.object.Label.{Label}
@@ -22,8 +24,8 @@ use Rattle.rg_held.specs.Frees.{forgotten, free_act}
 use Rattle.rg_held.specs.Part.{leads_to, Placed, Tidy, Part, may_lead, is_shut_or_above}
 use Rattle.rg_held.specs.Ends.{Match, SameEnd}
 use Rattle.rg_held.specs.Laws.{owners_of, GoesOn}
-use Rattle.rg_held.proofs.Lists.{off, any-at, at-any}
-use Rattle.rg_held.proofs.Places.{or-split, not-true, same-number, number-same, other-number, either, clash, top-open}
+use Rattle.rg_held.proofs.Lists.{off, any-at}
+use Rattle.rg_held.proofs.Places.{clash, top-open}
 use Rattle.rg_held.proofs.Places.{label-there, region-into, closed-there, label-into}
 use Rattle.rg_held.proofs.Links.{Link, beneath-links, beneath-first, beneath-all}
 use Rattle.rg_held.proofs.Parts.{shut-above, closed-above, part-owners}
@@ -54,7 +56,7 @@ closed-region m a o e h = by o.label refl
 pub none-own : (held : ℕ → Truth) (f m : Machine) (stack : List Val) → list_any (is_closed m) stack ≡ false → Part held stack f m stack
     → Part held [] f m stack
 none-own held f m stack none p = part-owners held stack f m stack p [] (λ r c any. (let h = any-at (is_into m.store r) stack any in
-    clash (list_any (is_closed m) stack) (at-any (is_closed m) stack h.0 h.1.0 h.1.1
+    clash (list_any (is_closed m) stack) (any_passes_from_place (is_closed m) stack h.0 h.1.0 h.1.1
     (ap (λ (o : Option ℕ). is_some o) (closed-there m h.1.0 r h.1.2 c))) none))
 
 module _ (held : ℕ → Truth) (f m : Machine) (stack : List Val) (p : Part held [] f m stack) (once : owned_once m ≡ true) (s r : ℕ)
@@ -91,10 +93,10 @@ module _ (held : ℕ → Truth) (f m : Machine) (stack : List Val) (p : Part hel
   further : (a b : ℕ) → Beneath a → Link m.store a b → Beneath b
   further a b k l = record {
     closed = shut;
-    found = λ x h here there lies. elim (either (a == b)) [
+    found = λ x h here there lies. elim (cases_Bool (a == b)) [
       | inl same ↦
-          (let e = same-number a b same in subst (λ z. In z rf) e (k.found x h here there (lies ∙ ap Region (sym e))))
-      | inr other ↦ by (λ e. clash (a == b) (number-same a b e) other) (p.owned x h b here there lies shut)
+          (let e = eqb-true a b same in subst (λ z. In z rf) e (k.found x h here there (lies ∙ ap Region (sym e))))
+      | inr other ↦ by (λ e. clash (a == b) (eq-eqb a b e) other) (p.owned x h b here there lies shut)
     ];
   }
     where
@@ -126,7 +128,7 @@ module _ (held : ℕ → Truth) (f m : Machine) (stack : List Val) (p : Part hel
       by : (l : Label) → o.label ≡ l → in_regions rf l ≡ in_regions rs l
       by (Temp n) lies = refl
       by Frozen lies = refl
-      by (Region q) lies = elim (either (among rs q)) [
+      by (Region q) lies = elim (cases_Bool (among rs q)) [
         | inl yes_in ↦ in-among rf q ((beneath q (among-in rs q yes_in)).found a o here there lies) ∙ sym yes_in
         | inr not_in ↦ not-among rf q (λ j. among-not rs q not_in (to-all q j)) ∙ sym not_in
       ]
@@ -171,7 +173,7 @@ module _ (held : ℕ → Truth) (f m : Machine) (stack : List Val) (p : Part hel
   merge-tidy = relabel-tidy held [] f m stack p (r ∷ []) (r ∷ []) (Region t) top one (λ a o h e. refl) may
     where
       same-top : (x : ℕ) → t ≡ x → may_lead m.windows x (Region t) ≡ true
-      same-top x e = ap (λ b. b || is_shut_or_above m.windows t x) (number-same t x e)
+      same-top x e = ap (λ b. b || is_shut_or_above m.windows t x) (eq-eqb t x e)
 
       closed-may : (z x : ℕ) → is_open m.windows z ≡ false → may_lead m.windows x (Region z) ≡ true
       closed-may z x h = by (z == x)
@@ -184,8 +186,8 @@ module _ (held : ℕ → Truth) (f m : Machine) (stack : List Val) (p : Part hel
       own : (x : ℕ) (l : Label) → may_lead m.windows r l ≡ true → in_regions (r ∷ []) l ≡ false → may_lead m.windows x l ≡ true
       own x (Temp n) h other = off h
       own x Frozen h other = refl
-      own x (Region z) h other = elim (or-split (z == r) (is_shut_or_above m.windows z r) h) [
-        | inl same ↦ clash (in_regions (r ∷ []) (Region z)) (in-among (r ∷ []) z (inl (sym (same-number z r same)))) other
+      own x (Region z) h other = elim (or_cases (z == r) (is_shut_or_above m.windows z r) h) [
+        | inl same ↦ clash (in_regions (r ∷ []) (Region z)) (in-among (r ∷ []) z (inl (sym (eqb-true z r same)))) other
         | inr shut ↦ closed-may z x (shut-above m.windows z r shut c)
       ]
 
@@ -206,7 +208,7 @@ module _ (held : ℕ → Truth) (f m : Machine) (stack : List Val) (p : Part hel
             value = v;
             holder_there = there;
             value_there = at;
-            outside = ap (is_outside m.windows r) e ∙ ap not (other-number q r
+            outside = ap (is_outside m.windows r) e ∙ ap not (ne_eqb q r
                 (λ same. clash (in_regions (r ∷ []) o.label) (ap (in_regions (r ∷ [])) e ∙ in-among (r ∷ []) q (inl (sym same))) from));
             into = label-into m.store r v (is ∙ ap Some (in-one l to));
           })

@@ -1,6 +1,7 @@
 -- Instructions that free nothing and leave objects as they are, each beside the same over the growing store.
 use Rattle.std.proofs.Common.{◌≡◌, ℕ, ◌+◌, ◌-◌, ◌==◌, inl, inr, true, false, not, Bool as Truth, List, [], ◌∷◌, length, Option, Some}
 use Rattle.std.proofs.Common.{None, Result, Ok, Err, unwrap_or, refl, sym, ap, subst, ◌∙◌, slice_get}
+use Rattle.std.proofs.lemmas.Bool.{not-true, eqb-true, or_cases}
 use Rattle.std.specs.Prelude.{◌&&◌, nat_lt, neg_ℤ, if◌then◌else◌}
 use Rattle.std.specs.List.{list_any}
 use Rattle.rg_base.specs.declared.limits.TheConstants.{FRAMES}
@@ -25,7 +26,7 @@ use Rattle.rg_held.specs.Part.{leads_to}
 use Rattle.rg_held.specs.Ends.{Match, SameEnd}
 use Rattle.rg_held.specs.Laws.{owners_of, GoesOn, GoesTo}
 use Rattle.rg_held.proofs.Lists.{off}
-use Rattle.rg_held.proofs.Places.{or-split, not-true, closed-there, not-closed, same-number}
+use Rattle.rg_held.proofs.Places.{closed-there, not-closed}
 use Rattle.rg_held.proofs.Stack.{match-stack, match-owners, match-more, number-plain, slot-leads, slot-same, object-same, field-leads}
 use Rattle.rg_held.proofs.Stack.{pushed-same, push-same}
 use Rattle.rg_held.proofs.Parts.{part-stack, part-owners}
@@ -37,10 +38,6 @@ pub stop-same : (at : ℕ) (taken : Truth) (stack : List Val) (u w : Work) → i
 stop-same at true [] u w e m = m
 stop-same at false [] u w e m = m
 stop-same at taken (v ∷ vs) u w e m = off e
-
--- what computes stands where nothing was taken
-pub none-taken : (taken : Truth) → not taken ≡ true → taken ≡ false
-none-taken taken e = not-true taken e
 
 module _ (code : Code) (at : ℕ) (also go : Go) (u w : Work) where
   pub load-same : (s : ℕ) (stack : List Val) → Match [] u w stack → GoesOn false also go
@@ -157,7 +154,7 @@ module _ (code : Code) (at : ℕ) (also go : Go) (u w : Work) where
   pop-match false v rest n m = match-stack [] u w (v ∷ rest) rest m m.1.machine.on_stack.1
   pop-match true v rest n m =
       match-stack rest u w (v ∷ rest) rest (match-owners (v ∷ rest) rest u w (v ∷ rest) m
-      (λ r c e. elim (or-split (is_into w.machine.store r v) (list_any (is_into w.machine.store r) rest) e) [
+      (λ r c e. elim (or_cases (is_into w.machine.store r v) (list_any (is_into w.machine.store r) rest) e) [
         | inl top ↦ not-closed w.machine v r n top c
         | inr below ↦ inr below
       ])) m.1.machine.on_stack.1
@@ -216,7 +213,7 @@ module _ (code : Code) (at : ℕ) (also go : Go) (u w : Work) where
         record {
           machine = part-put now.0 (v ∷ []) u.machine w.machine (v ∷ []) now.1.machine s v [] [] now.1.machine.on_stack.0 tt
               (λ r c into. not-closed w.machine (slot_at w.machine s) r free into c)
-              (λ r c e. elim (or-split (is_into w.machine.store r v) false e) [
+              (λ r c e. elim (or_cases (is_into w.machine.store r v) false e) [
                 | inl top ↦ inl (inl (put-there w.machine s v r less top))
                 | inr none ↦ off none
               ]);
@@ -236,7 +233,7 @@ module _ (code : Code) (at : ℕ) (also go : Go) (u w : Work) where
           now.0,
           record {
             machine = part-call now.0 stack u.machine w.machine stack now.1.machine e.given (e.slots - e.given) (at + 1)
-                (same-number (length stack) e.given n) (λ r c e. e);
+                (eqb-true (length stack) e.given n) (λ r c e. e);
             input = now.1.input;
             printed = now.1.printed;
           },

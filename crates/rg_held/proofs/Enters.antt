@@ -2,6 +2,7 @@
 use Rattle.std.proofs.Common.{◌≡◌, ℕ, ◌+◌, ◌==◌, ◌<◌, ◌⊎◌, inl, inr, true, false, not, Bool as Truth, List, [], ◌∷◌}
 use Rattle.std.proofs.Common.{length, Option, Some, None, unwrap_or, Ok, Err, refl, sym, ap, subst, ◌∙◌, arith, slice_get}
 use Rattle.std.proofs.lemmas.Option.{same_Some}
+use Rattle.std.proofs.lemmas.Bool.{not-true, eq-eqb, eqb-true, or_cases, cases_Bool, ne_eqb}
 use Rattle.std.specs.Prelude.{◌||◌, ◌&&◌, nat_lt, ok_or, if◌then◌else◌}
 use Rattle.rg_base.specs.declared.object.Label.{Label}
 use Rattle.rg_base.specs.declared.object.Label.TheVariants.{Region, Temp, Frozen}
@@ -25,7 +26,7 @@ use Rattle.rg_held.specs.Part.{leads_to, FieldInto, Placed, Part, OwnerHeld, is_
 use Rattle.rg_held.specs.Ends.{Match, SameEnd}
 use Rattle.rg_held.specs.Laws.{owners_of, GoesOn}
 use Rattle.rg_held.proofs.Lists.{off}
-use Rattle.rg_held.proofs.Places.{or-split, or-right, not-true, same-number, number-same, other-number, either, clash, top-open}
+use Rattle.rg_held.proofs.Places.{or-right, clash, top-open}
 use Rattle.rg_held.proofs.Places.{not-closed, region-into, label-into, label-there, into-label}
 use Rattle.rg_held.proofs.Stack.{match-more, slot-leads, slot-same, field-leads}
 use Rattle.rg_held.proofs.Slots.{part-put}
@@ -55,7 +56,7 @@ module _ (held : ℕ → Truth) (f m : Machine) (p : Part held [] f m []) (w : W
   shut r h = or-right (w.region == r) (is_open m.windows r) h
 
   fresh : has_window m.windows w.number ≡ false
-  fresh = elim (either (has_window m.windows w.number)) [
+  fresh = elim (cases_Bool (has_window m.windows w.number)) [
     | inl h ↦ (let l = p.tidy.numbers w.number h in absurd (omega (arith, l, numbered)))
     | inr h ↦ h
   ]
@@ -99,8 +100,8 @@ module _ (held : ℕ → Truth) (f m : Machine) (p : Part held [] f m []) (w : W
           → (b || (if d then is_open m.windows q else is_shut_or_above m.windows r q)) ≡ true
       by true x d y h = refl
       by false x false y h = h
-      by false x true y h = (let e = same-number w.region r y in elim (new (ap Region (sym e))) [
-        | inl same ↦ clash (r == q) (number-same r q (sym e ∙ sym same)) x
+      by false x true y h = (let e = eqb-true w.region r y in elim (new (ap Region (sym e))) [
+        | inl same ↦ clash (r == q) (eq-eqb r q (sym e ∙ sym same)) x
         | inr opened ↦ opened
       ])
 
@@ -111,8 +112,8 @@ module _ (held : ℕ → Truth) (f m : Machine) (p : Part held [] f m []) (w : W
     windows_made = same_made;
     at = p.at;
     managers_made = p.managers_made;
-    open_managers = λ r h. elim (or-split (w.region == r) (is_open m.windows r) h) [
-      | inl same ↦ (let e = same-number w.region r same in ap (slice_get f.managers) (sym e) ∙ manager ∙ ap (slice_get m.managers) e)
+    open_managers = λ r h. elim (or_cases (w.region == r) (is_open m.windows r) h) [
+      | inl same ↦ (let e = eqb-true w.region r same in ap (slice_get f.managers) (sym e) ∙ manager ∙ ap (slice_get m.managers) e)
       | inr old ↦ p.open_managers r old
     ];
     held_managers = p.held_managers;
@@ -123,7 +124,7 @@ module _ (held : ℕ → Truth) (f m : Machine) (p : Part held [] f m []) (w : W
     temps = λ a o n e at lies. more n (p.temps a o n e at lies);
     lost_temps = λ a o n e at lies. (let l = p.lost_temps a o n e at lies in let less = l.0 in (
       omega (arith, less),
-      ap (λ b. b || has_window m.windows n) (other-number w.number n (λ same. omega (arith, less, same, numbered))) ∙ l.1,
+      ap (λ b. b || has_window m.windows n) (ne_eqb w.number n (λ same. omega (arith, less, same, numbered))) ∙ l.1,
     ));
     slots = p.slots;
     on_stack = p.on_stack;
@@ -133,12 +134,12 @@ module _ (held : ℕ → Truth) (f m : Machine) (p : Part held [] f m []) (w : W
     tidy = record {
       some_window = tt;
       differ = (c, fresh, p.tidy.differ);
-      numbers = λ n h. elim (or-split (w.number == n) (has_window m.windows n) h) [
-        | inl same ↦ (let e = same-number w.number n same in omega (arith, e, numbered))
+      numbers = λ n h. elim (or_cases (w.number == n) (has_window m.windows n) h) [
+        | inl same ↦ (let e = eqb-true w.number n same in omega (arith, e, numbered))
         | inr old ↦ (let l = p.tidy.numbers n old in omega (arith, l))
       ];
-      regions = λ r h. elim (or-split (w.region == r) (is_open m.windows r) h) [
-        | inl same ↦ (let e = same-number w.region r same in omega (arith, e, less))
+      regions = λ r h. elim (or_cases (w.region == r) (is_open m.windows r) h) [
+        | inl same ↦ (let e = eqb-true w.region r same in omega (arith, e, less))
         | inr old ↦ p.tidy.regions r old
       ];
       labels = p.tidy.labels;
@@ -277,8 +278,8 @@ module _ (code : Code) (at : ℕ) (also go : Go) (u w : Work) (taken : Truth) wh
       beneath : (r : ℕ) → is_open w.machine.windows r ≡ false → is_into w.machine.store r (slot_at w.machine s) ≡ true
           → (a : ℕ) (o : Seen) (q k : ℕ) (x : Val) → slice_get w.machine.store a ≡ Some o → o.label ≡ Region q → slice_get o.fields k ≡ Some x
           → label_of w.machine.store x ≡ Some (Region r) → (q ≡ r) ⊎ (is_open w.machine.windows q ≡ true)
-      beneath r c into a o q k x there lies at leads = elim (either (q == r)) [
-        | inl same ↦ inl (same-number q r same)
+      beneath r c into a o q k x there lies at leads = elim (cases_Bool (q == r)) [
+        | inl same ↦ inl (eqb-true q r same)
         | inr other ↦ slot-and-field w.machine p.tidy once r c (slot-at-into w.machine s r into).0 (record {
           object = a;
           field = k;
@@ -327,15 +328,15 @@ module _ (code : Code) (at : ℕ) (also go : Go) (u w : Work) (taken : Truth) wh
       ]
 
       of : (l : Label) → is_writable w.machine l ≡ true → is_of w.machine.windows l ≡ true
-      of (Region q) h = ap (is_open w.machine.windows) (same-number q (top_region w.machine.windows) h)
+      of (Region q) h = ap (is_open w.machine.windows) (eqb-true q (top_region w.machine.windows) h)
           ∙ top-open w.machine.windows p.tidy.some_window
-      of (Temp q) h = ap (has_window w.machine.windows) (same-number q (top_window w.machine.windows) h)
+      of (Temp q) h = ap (has_window w.machine.windows) (eqb-true q (top_window w.machine.windows) h)
           ∙ top-numbered w.machine.windows p.tidy.some_window
       of Frozen h = off h
 
       outside : (r : ℕ) (l : Label) → is_of w.machine.windows l ≡ true → is_open w.machine.windows r ≡ false
           → is_outside w.machine.windows r l ≡ true
-      outside r (Region q) h c = ap not (other-number q r (λ e. clash (is_open w.machine.windows r) (ap (is_open w.machine.windows) (sym e) ∙ h) c))
+      outside r (Region q) h c = ap not (ne_eqb q r (λ e. clash (is_open w.machine.windows r) (ap (is_open w.machine.windows) (sym e) ∙ h) c))
       outside r (Temp q) h c = h
       outside r Frozen h c = refl
 
@@ -374,7 +375,7 @@ module _ (code : Code) (at : ℕ) (also go : Go) (u w : Work) (taken : Truth) wh
             record {
               machine = part-stack now.0 [] u.machine w.machine (val.Obj a ∷ [])
                   (part-owners now.0 (val.Obj a ∷ []) u.machine w.machine (val.Obj a ∷ []) p []
-                  (λ r c any. elim (or-split (is_into w.machine.store r (val.Obj a)) false any) [
+                  (λ r c any. elim (or_cases (is_into w.machine.store r (val.Obj a)) false any) [
                     | inl it ↦ writable-open w.machine o.label r p.tidy.some_window writes
                         (same_Some o.label (Region r) (sym (label-there w.machine.store a o e) ∙ into-label w.machine.store r (val.Obj a) it)) c
                     | inr none ↦ off none
@@ -408,8 +409,8 @@ module _ (code : Code) (at : ℕ) (also go : Go) (u w : Work) (taken : Truth) wh
           beneath : (r : ℕ) → is_open w.machine.windows r ≡ false → is_into w.machine.store r (field_of o k) ≡ true
               → (b : ℕ) (h : Seen) (q j : ℕ) (x : Val) → slice_get w.machine.store b ≡ Some h → h.label ≡ Region q → slice_get h.fields j ≡ Some x
               → label_of w.machine.store x ≡ Some (Region r) → (q ≡ r) ⊎ (is_open w.machine.windows q ≡ true)
-          beneath r c into b h q j x there lies at leads = elim (either (q == r)) [
-            | inl same ↦ inl (same-number q r same)
+          beneath r c into b h q j x there lies at leads = elim (cases_Bool (q == r)) [
+            | inl same ↦ inl (eqb-true q r same)
             | inr other ↦
                 (let l = mine r c into in
                 let is = two-fields w.machine p.tidy once r c (record {

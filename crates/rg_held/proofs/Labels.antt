@@ -4,6 +4,8 @@ use Rattle.std.proofs.Common.{Option, Some, None, option_and_then, option_map, r
 use Rattle.std.specs.Prelude.{◌||◌, nat_lt, if◌then◌else◌}
 use Rattle.std.proofs.lemmas.List.{length-map}
 use Rattle.std.proofs.lemmas.Option.{slice_get-map, same_Some}
+use Rattle.std.proofs.lemmas.Bool.{cases_Bool, ne_eqb}
+use Rattle.std.proofs.lemmas.Map.Keys.{any_passes_from_place}
 use Rattle.rg_base.specs.declared.object.Label.{Label}
 use Rattle.rg_base.specs.declared.object.Label.TheVariants.{Region, Temp, Frozen}
 use Rattle.rg_base.specs.declared.object.Place.{Place}
@@ -18,8 +20,8 @@ use Rattle.rg_stack.specs.Needs.{is_open, label_of, is_into, is_outside}
 use Rattle.rg_stack.proofs.Basics.{none-some}
 use Rattle.rg_held.specs.Frees.{gone}
 use Rattle.rg_held.specs.Part.{leads_to, Placed, Tidy, Part, is_of, OwnerHeld, OwnersHeld, may_lead}
-use Rattle.rg_held.proofs.Lists.{off, any-at, at-any}
-use Rattle.rg_held.proofs.Places.{other-number, either, clash, into-label, label-into}
+use Rattle.rg_held.proofs.Lists.{off, any-at}
+use Rattle.rg_held.proofs.Places.{clash, into-label, label-into}
 
 -- a label behind it
 abbrev pub other_label : List ℕ → Label → Label → Label
@@ -105,7 +107,7 @@ module _ (held : ℕ → Truth) (owners : List Val) (f m : Machine) (stack : Lis
   outside-stays r l c o = by (in_regions rs l)
     where
       of : (k : Label) → Leaves m k → is_outside m.windows r k ≡ true
-      of (Region t) h = ap not (other-number t r (λ e. clash (is_open m.windows r) (ap (is_open m.windows) (sym e) ∙ h) c))
+      of (Region t) h = ap not (ne_eqb t r (λ e. clash (is_open m.windows r) (ap (is_open m.windows) (sym e) ∙ h) c))
       of (Temp n) h = absurd h
       of Frozen h = refl
 
@@ -154,7 +156,7 @@ module _ (held : ℕ → Truth) (owners : List Val) (f m : Machine) (stack : Lis
           at false = e
 
       stays : (l : Label) → is_of ws l ≡ true → in_regions rs l ≡ false
-      stays (Region r) h = elim (either (in_regions rs (Region r))) [
+      stays (Region r) h = elim (cases_Bool (in_regions rs (Region r))) [
         | inl i ↦ clash (is_open m.windows r) (opened r (more r h)) (shut r (among-in rs r i))
         | inr n ↦ n
       ]
@@ -244,7 +246,7 @@ module _ (held : ℕ → Truth) (owners : List Val) (f m : Machine) (stack : Lis
           | inl placed ↦ inl (relabel-stays r c other placed)
           | inr any ↦
               (let k = any-at (is_into m.store r) owners any in
-              inr (at-any (is_into store r) owners k.0 k.1.0 k.1.1 (into-stays r k.1.0 other k.1.2)))
+              inr (any_passes_from_place (is_into store r) owners k.0 k.1.0 k.1.1 (into-stays r k.1.0 other k.1.2)))
         ]);
     window_owners = window-owners m.windows (λ r e. e) p.window_owners;
     tidy = tidy;

@@ -2,7 +2,8 @@
 use Rattle.std.proofs.Common.{◌≡◌, ℕ, zero, suc, ◌==◌, ◌⊎◌, inl, inr, true, false, not, Bool as Truth, List, [], ◌∷◌, ◌++◌}
 use Rattle.std.proofs.Common.{length, Option, Some, None, unwrap_or, option_map, drop, reverse, refl, sym, ap, subst, ◌∙◌, arith, slice_get}
 use Rattle.std.proofs.lemmas.Option.{same_Some}
-use Rattle.std.proofs.lemmas.Bool.{or_right}
+use Rattle.std.proofs.lemmas.Bool.{or_right, not-true, eq-eqb, eqb-true, or_cases, cases_Bool}
+use Rattle.std.proofs.lemmas.Map.Keys.{any_passes_from_place}
 use Rattle.std.specs.Prelude.{◌||◌, ◌&&◌, cond, if◌then◌else◌, filter, flat_map, nat_le}
 use Rattle.std.specs.List.{list_any}
 use Rattle.rg_base.specs.declared.object.Label.{Label}
@@ -27,8 +28,8 @@ use Rattle.rg_held.specs.Part.{leads_to, SlotInto, FieldInto, Placed, Tidy, Part
 use Rattle.rg_held.specs.Part.{may_lead, Differ}
 use Rattle.rg_held.specs.Ends.{Match, SameEnd}
 use Rattle.rg_held.specs.Laws.{owners_of, GoesOn}
-use Rattle.rg_held.proofs.Lists.{off, any-at, at-any, drop-back, reverse-back}
-use Rattle.rg_held.proofs.Places.{or-right, or-split, not-true, same-number, number-same, either, clash}
+use Rattle.rg_held.proofs.Lists.{off, any-at, drop-back, reverse-back}
+use Rattle.rg_held.proofs.Places.{or-right, clash}
 use Rattle.rg_held.proofs.Places.{closed-back, closed-there}
 use Rattle.rg_held.proofs.Parts.{closed-above, field-frames, closed-same, top-slot}
 use Rattle.rg_held.proofs.Halves.{Half, Lost, whole}
@@ -101,9 +102,9 @@ module _ (held : ℕ → Truth) (f m : Machine) (p : Half held [] f m []) (w : W
 
   -- a temporary that is held is one of a window that stays
   stays : (a : ℕ) (o : Seen) (n : ℕ) → held a ≡ true → slice_get m.store a ≡ Some o → o.label ≡ Temp n → has_window ws n ≡ true
-  stays a o n h there lies = elim (or-split (w.number == n) (has_window ws n)
+  stays a o n h there lies = elim (or_cases (w.number == n) (has_window ws n)
       (sym (ap (λ l. has_window l n) e) ∙ p.temps a o n h there lies)) [
-        | inl same ↦ absurd (no_temp a o h there (lies ∙ ap Temp (sym (same-number w.number n same))))
+        | inl same ↦ absurd (no_temp a o h there (lies ∙ ap Temp (sym (eqb-true w.number n same))))
         | inr below ↦ below
       ]
 
@@ -146,7 +147,7 @@ module _ (held : ℕ → Truth) (f m : Machine) (p : Half held [] f m []) (w : W
       by true c same h = refl
       by false false same h = h
       by false true same h =
-          closed-above ws r k (ap (is_open ws) (sym (same-number w.region r same)) ∙ differ.0)
+          closed-above ws r k (ap (is_open ws) (sym (eqb-true w.region r same)) ∙ differ.0)
 
   tidy : Tidy (record m { windows = ws })
   tidy = record {
@@ -184,7 +185,7 @@ module _ (held : ℕ → Truth) (f m : Machine) (p : Half held [] f m []) (w : W
       by : (b : Truth) → (a : ℕ) (o : Seen) (r : ℕ) → (w.region == r) ≡ b → held a ≡ true → slice_get m.store a ≡ Some o → o.label ≡ Region r
           → is_open ws r ≡ false → Placed held (record m { windows = ws }) r ⊎ (false ≡ true)
       by true a o r same h there lies c =
-          inl (subst (λ r. Placed held (record m { windows = ws }) r) (same-number w.region r same) owner)
+          inl (subst (λ r. Placed held (record m { windows = ws }) r) (eqb-true w.region r same) owner)
       by false a o r other h there lies c = elim (p.owned a o r h there lies
           (ap (λ l. is_open l r) e ∙ ap (λ b. b || is_open ws r) other ∙ c)) [
             | inl placed ↦ inl (place-stays r placed)
@@ -228,8 +229,8 @@ module _ (held : ℕ → Truth) (f m : Machine) (p : Half held [] f m []) (w v :
   in-object a h k there of into = by (slice_get h.fields k) refl into
     where
       outside : (l : Label) → is_of ws l ≡ true → is_outside ws w.region l ≡ true
-      outside (Region q) i = elim (either (q == w.region)) [
-        | inl same ↦ clash (is_open ws w.region) (ap (is_open ws) (sym (same-number q w.region same)) ∙ i) shut
+      outside (Region q) i = elim (cases_Bool (q == w.region)) [
+        | inl same ↦ clash (is_open ws w.region) (ap (is_open ws) (sym (eqb-true q w.region same)) ∙ i) shut
         | inr other ↦ ap not other
       ]
       outside (Temp n) i = i
@@ -306,7 +307,7 @@ module _ (held : ℕ → Truth) (f m : Machine) (s : ℕ) (p : Part held [] f m 
 
   temp-is : (l : Label) → is_top_temp f l ≡ true → l ≡ Temp n
   temp-is (Region r) h = off h
-  temp-is (Temp k) h = ap Temp (same-number k (top_window f.windows) h ∙ top-f)
+  temp-is (Temp k) h = ap Temp (eqb-true k (top_window f.windows) h ∙ top-f)
   temp-is Frozen h = off h
 
   gone-is : (h : Seen) (x : Option Seen) → option_map (λ (q : Seen). gone) x ≡ Some h → gone ≡ h
@@ -338,7 +339,7 @@ module _ (held : ℕ → Truth) (f m : Machine) (s : ℕ) (p : Part held [] f m 
       let b = filtered-back (λ (h : Seen). is_top_temp f h.label) f.store r.0 r.1.0 r.1.1 in by b.0 r.1.0 b.1.0 b.1.1 r.1.2
     where
       by : (a : ℕ) (h : Seen) → slice_get f.store a ≡ Some h → is_top_temp f h.label ≡ true → In q (closed_among f h.fields) → OfTemp q
-      by a h there top k = elim (either (held a)) [
+      by a h there top k = elim (cases_Bool (held a)) [
         | inl here ↦ of-object q a h here (sym (p.same a here) ∙ there) (temp-is h.label top) k
         | inr lost ↦ absurd (subst (λ (h : Seen). In q (closed_among f h.fields))
             (sym (gone-is h (slice_get m.store a) (sym (p.others a lost) ∙ there))) k)
@@ -347,7 +348,7 @@ module _ (held : ℕ → Truth) (f m : Machine) (s : ℕ) (p : Part held [] f m 
   to-temps : (q : ℕ) (l : FieldInto m q) → is_open m.windows q ≡ false → held l.object ≡ true → l.holder.label ≡ Temp n → In q (closed_by_temps f)
   to-temps q l c here lies =
       let leads = p.fields l.object l.holder l.field l.value here l.holder_there l.value_there in
-      let top : is_top_temp f l.holder.label ≡ true = ap (is_top_temp f) lies ∙ number-same n (top_window f.windows) (sym top-f) in
+      let top : is_top_temp f l.holder.label ≡ true = ap (is_top_temp f) lies ∙ eq-eqb n (top_window f.windows) (sym top-f) in
       let r = filtered-in (λ (h : Seen). is_top_temp f h.label) f.store l.object l.holder (p.same l.object here ∙ l.holder_there) top in
       mapped-in (λ (h : Seen). closed_among f h.fields) (filter (λ (h : Seen). is_top_temp f h.label) f.store) r.0 l.holder q r.1
       (given-in (closed_into f) l.holder.fields l.field l.value q l.value_there
@@ -373,7 +374,7 @@ module _ (held : ℕ → Truth) (f m : Machine) (s : ℕ) (p : Part held [] f m 
 
   to-temp : (k : ℕ) (x : Val) → Some n ≡ Some k → label_of m.store x ≡ Some (Temp k) → is_to_temp (end_slots m s) x ≡ true
   to-temp k x is l = ap (λ (o : Option Label). elim o [ None ↦ false | Some l ↦ is_top_temp (end_slots m s) l ]) l
-      ∙ number-same k (top_window m.windows) (sym (top-m ∙ same_Some n k is))
+      ∙ eq-eqb k (top_window m.windows) (sym (top-m ∙ same_Some n k is))
 
   no-slots : list_any (λ (h : Frame). list_any (is_to_temp (end_slots m s)) h.slots) (end_slots m s).frames ≡ false
   no-slots = not-true (list_any (λ (h : Frame). list_any (is_to_temp (end_slots m s)) h.slots) (end_slots m s).frames)
@@ -413,7 +414,7 @@ module _ (held : ℕ → Truth) (f m : Machine) (s : ℕ) (p : Part held [] f m 
           let holder : t.place.holder ≡ l.holder = same_Some t.place.holder l.holder
           (sym t.place.holder_there ∙ ap (slice_get m.store) at ∙ l.holder_there) in
           clash (is_temp (Some n) l.holder.label)
-          (ap (is_temp (Some n)) (ap (λ (o : Seen). o.label) (sym holder) ∙ t.label) ∙ number-same n n refl) other)
+          (ap (is_temp (Some n)) (ap (λ (o : Seen). o.label) (sym holder) ∙ t.label) ∙ eq-eqb n n refl) other)
     ]);
     stack_free = λ q c h. off h;
     temps_owned = λ q c l here t. (let k = temp-label (Some n) l.holder.label t in
@@ -421,13 +422,13 @@ module _ (held : ℕ → Truth) (f m : Machine) (s : ℕ) (p : Part held [] f m 
         (to-temps q (field-frames (end_slots m s) m.frames q l) c here (k.2 ∙ ap Temp (sym (same_Some n k.0 k.1)))));
     slots_stay = λ j h i x k there at is l. clash
         (list_any (λ (h : Frame). list_any (is_to_temp (end_slots m s)) h.slots) (end_slots m s).frames)
-        (at-any (λ (h : Frame). list_any (is_to_temp (end_slots m s)) h.slots) (end_slots m s).frames j h there
-        (at-any (is_to_temp (end_slots m s)) h.slots i x at (to-temp k x is l))) no-slots;
+        (any_passes_from_place (λ (h : Frame). list_any (is_to_temp (end_slots m s)) h.slots) (end_slots m s).frames j h there
+        (any_passes_from_place (is_to_temp (end_slots m s)) h.slots i x at (to-temp k x is l))) no-slots;
     fields_stay = λ a h i x k here there other at is l. clash
         (list_any (λ (o : Seen). outlives (end_slots m s) o.label && list_any (is_to_temp (end_slots m s)) o.fields) m.store)
-        (at-any (λ (o : Seen). outlives (end_slots m s) o.label && list_any (is_to_temp (end_slots m s)) o.fields) m.store a h there
+        (any_passes_from_place (λ (o : Seen). outlives (end_slots m s) o.label && list_any (is_to_temp (end_slots m s)) o.fields) m.store a h there
         (ap (λ b. b && list_any (is_to_temp (end_slots m s)) h.fields) (stays-out a h here there other)
-        ∙ at-any (is_to_temp (end_slots m s)) h.fields i x at (to-temp k x is l))) no-fields;
+        ∙ any_passes_from_place (is_to_temp (end_slots m s)) h.fields i x at (to-temp k x is l))) no-fields;
     stack_stays = λ j x k at is l. none-some x at;
     windows_stay = λ k is. subst (λ l. NotBelow l k) (sym e)
         (ap (has_window (v ∷ rest)) (sym (same_Some n k is)) ∙ (subst Differ e p.tidy.differ).1);
@@ -442,10 +443,10 @@ module _ (held : ℕ → Truth) (f m : Machine) (s : ℕ) (p : Part held [] f m 
 
   -- a temporary that isn't held is one of the window that ends, or wasn't held before
   lost : Lost (left_held held m.store all (Some n)) (record (end_slots m s) { windows = v ∷ rest })
-  lost a h k away there lies = elim (either (k == n)) [
+  lost a h k away there lies = elim (cases_Bool (k == n)) [
     | inl same ↦
-        (let is = same-number k n same in (
-          p.tidy.numbers k (ap (λ l. has_window l k) e ∙ ap (λ b. b || has_window (v ∷ rest) k) (number-same n k (sym is))),
+        (let is = eqb-true k n same in (
+          p.tidy.numbers k (ap (λ l. has_window l k) e ∙ ap (λ b. b || has_window (v ∷ rest) k) (eq-eqb n k (sym is))),
           ap (has_window (v ∷ rest)) is ∙ (subst Differ e p.tidy.differ).1,
         ))
     | inr other ↦
@@ -455,7 +456,7 @@ module _ (held : ℕ → Truth) (f m : Machine) (s : ℕ) (p : Part held [] f m 
   ]
 
   no-temp : (a : ℕ) (h : Seen) → left_held held m.store all (Some n) a ≡ true → slice_get m.store a ≡ Some h → h.label ≡ Temp n → ⊥
-  no-temp a h l there lies = clash (is_buried all (Some n) h) (ap (λ l. in_regions all l || is_temp (Some n) l) lies ∙ number-same n n refl)
+  no-temp a h l there lies = clash (is_buried all (Some n) h) (ap (λ l. in_regions all l || is_temp (Some n) l) lies ∙ eq-eqb n n refl)
       (not-true (is_buried all (Some n) h)
       (sym (ap (λ (s : Option Seen). elim s [ None ↦ false | Some o ↦ not (is_buried all (Some n) o) ]) there) ∙ and-right (held a) _ l))
 

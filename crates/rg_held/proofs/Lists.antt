@@ -6,6 +6,8 @@ use Rattle.std.specs.List.{list_any}
 use Rattle.std.proofs.lemmas.List.Sums.{sum_by-cons}
 use Rattle.std.proofs.lemmas.List.{reverse-append}
 use Rattle.std.proofs.lemmas.Option.{same_Some}
+use Rattle.std.proofs.lemmas.Map.Keys.{any_passes_from_place}
+use Rattle.rg_tree.proofs.TreesFrom.{slice_get-push}
 use Rattle.rg_stack.proofs.Basics.{none-some}
 
 pub off : {B : Type 0} → false ≡ true → B
@@ -32,11 +34,6 @@ set-old (x ∷ xs) zero zero v u e = inl refl
 set-old (x ∷ xs) zero (suc j) v u e = inr e
 set-old (x ∷ xs) (suc i) zero v u e = inr e
 set-old (x ∷ xs) (suc i) (suc j) v u e = elim (set-old xs i j v u e) [ inl h ↦ inl (ap suc h) | inr h ↦ inr h ]
-
-pub set-same : {A : Type 0} (xs : List A) (i : ℕ) (v u : A) → slice_get xs i ≡ Some u → slice_get (slice_set xs i v) i ≡ Some v
-set-same [] i v u e = none-some u e
-set-same (x ∷ xs) zero v u e = refl
-set-same (x ∷ xs) (suc i) v u e = set-same xs i v u e
 
 pub set-apart : {A : Type 0} (xs : List A) (i j : ℕ) (v : A) → (i ≡ j → ⊥) → slice_get (slice_set xs i v) j ≡ slice_get xs j
 set-apart [] i j v h = refl
@@ -83,29 +80,6 @@ push-past [] y zero h = absurd (omega (arith, h))
 push-past [] y (suc j) h = refl
 push-past (x ∷ xs) y zero h = absurd (omega (arith, h))
 push-past (x ∷ xs) y (suc j) h = let less : length xs < j = omega (arith, h) in push-past xs y j less
-
-pub get-past : {A : Type 0} (xs : List A) (j : ℕ) → length xs ≤ j → slice_get xs j ≡ None
-get-past [] j h = refl
-get-past (x ∷ xs) zero h = absurd (omega (arith, h))
-get-past (x ∷ xs) (suc j) h = let less : length xs ≤ j = omega (arith, h) in get-past xs j less
-
-pub push-last : {A : Type 0} (xs : List A) (y : A) → slice_get (xs ++ y ∷ []) (length xs) ≡ Some y
-push-last [] y = refl
-push-last (x ∷ xs) y = push-last xs y
-
-pub push-length : {A : Type 0} (xs : List A) (y : A) → length (xs ++ y ∷ []) ≡ length xs + 1
-push-length [] y = refl
-push-length (x ∷ xs) y = let h = push-length xs y in omega (arith, h)
-
-pub get-below : {A : Type 0} (xs : List A) (j : ℕ) (u : A) → slice_get xs j ≡ Some u → j < length xs
-get-below [] j u e = none-some u e
-get-below (x ∷ xs) zero u e = omega arith
-get-below (x ∷ xs) (suc j) u e = let h = get-below xs j u e in omega (arith, h)
-
-pub below-get : {A : Type 0} (xs : List A) (j : ℕ) → j < length xs → (u : A) × (slice_get xs j ≡ Some u)
-below-get [] j h = absurd (omega (arith, h))
-below-get (x ∷ xs) zero h = (x, refl)
-below-get (x ∷ xs) (suc j) h = let less : j < length xs = omega (arith, h) in below-get xs j less
 
 -- an element of a list that ends at a place and goes on with the same is that, or stands in front
 pub ended-back : {A : Type 0} (xs : List A) (n k j : ℕ) (d u : A) → slice_get (take n xs ++ replicate k d) j ≡ Some u
@@ -163,7 +137,7 @@ reverse-back (x ∷ xs) i u e = elim (push-back (reverse xs) x u i (ap (λ l. sl
 pub reverse-in : {A : Type 0} (xs : List A) (j : ℕ) (u : A) → slice_get xs j ≡ Some u → (i : ℕ) × (slice_get (reverse xs) i ≡ Some u)
 reverse-in [] j u e = none-some u e
 reverse-in (x ∷ xs) zero u e =
-    (length (reverse xs), ap (λ l. slice_get l (length (reverse xs))) (reverse-cons x xs) ∙ push-last (reverse xs) x ∙ e)
+    (length (reverse xs), ap (λ l. slice_get l (length (reverse xs))) (reverse-cons x xs) ∙ slice_get-push (reverse xs) x ∙ e)
 reverse-in (x ∷ xs) (suc j) u e =
     let h = reverse-in xs j u e in (h.0, ap (λ l. slice_get l h.0) (reverse-cons x xs) ∙ push-old (reverse xs) x u h.0 h.1)
 
@@ -234,17 +208,8 @@ any-at {A = A} p (x ∷ xs) e = by (p x) refl e (any-at p xs)
     by true t e rest = (0, (x, refl, t))
     by false t e rest = let h = rest e in (suc h.0, h.1)
 
-pub at-any : {A : Type 0} (p : A → Truth) (xs : List A) (i : ℕ) (x : A) → slice_get xs i ≡ Some x → p x ≡ true → list_any p xs ≡ true
-at-any p [] i x e t = none-some x e
-at-any p (y ∷ ys) zero x e t = let s : p y ≡ true = ap p (same_Some y x e) ∙ t in ap (λ b. b || list_any p ys) s
-at-any p (y ∷ ys) (suc i) x e t = by (p y) (at-any p ys i x e t)
-  where
-    by : (b : Truth) → list_any p ys ≡ true → (b || list_any p ys) ≡ true
-    by true h = refl
-    by false h = h
-
 pub any-left : {A : Type 0} (p : A → Truth) (xs ys : List A) → list_any p xs ≡ true → list_any p (xs ++ ys) ≡ true
-any-left p xs ys e = let h = any-at p xs e in at-any p (xs ++ ys) h.0 h.1.0 (append-left xs ys h.0 h.1.0 h.1.1) h.1.2
+any-left p xs ys e = let h = any-at p xs e in any_passes_from_place p (xs ++ ys) h.0 h.1.0 (append-left xs ys h.0 h.1.0 h.1.1) h.1.2
 
 pub any-right : {A : Type 0} (p : A → Truth) (xs ys : List A) → list_any p ys ≡ true → list_any p (xs ++ ys) ≡ true
 any-right p [] ys e = e
@@ -256,6 +221,6 @@ any-right p (x ∷ xs) ys e = by (p x) (any-right p xs ys e)
 
 pub any-split : {A : Type 0} (p : A → Truth) (xs ys : List A) → list_any p (xs ++ ys) ≡ true → (list_any p xs ≡ true) ⊎ (list_any p ys ≡ true)
 any-split p xs ys e = let h = any-at p (xs ++ ys) e in elim (append-back xs ys h.0 h.1.0 h.1.1) [
-  | inl l ↦ inl (at-any p xs l.0 h.1.0 l.1 h.1.2)
-  | inr r ↦ inr (at-any p ys r.0 h.1.0 r.1 h.1.2)
+  | inl l ↦ inl (any_passes_from_place p xs l.0 h.1.0 l.1 h.1.2)
+  | inr r ↦ inr (any_passes_from_place p ys r.0 h.1.0 r.1 h.1.2)
 ]

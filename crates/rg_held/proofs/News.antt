@@ -1,6 +1,10 @@
 -- Objects and regions that are made.
 use Rattle.std.proofs.Common.{◌≡◌, ℕ, suc, ◌==◌, ◌<◌, ◌⊎◌, inl, inr, true, false, Bool as Truth, List, [], ◌∷◌, ◌++◌, length}
 use Rattle.std.proofs.Common.{Option, Some, None, option_and_then, option_map, refl, sym, ap, ◌∙◌, arith, slice_get}
+use Rattle.std.proofs.lemmas.Bool.{eq-eqb, eqb-true, or_cases, cases_Bool, lt-ltb, ltb-true}
+use Rattle.std.proofs.lemmas.List.{length_push}
+use Rattle.std.proofs.lemmas.Option.{slice_get_within}
+use Rattle.std.proofs.lemmas.Map.Keys.{any_passes_from_place}
 use Rattle.std.specs.Prelude.{◌||◌, nat_lt}
 use Rattle.std.specs.List.{list_any}
 use Rattle.rg_base.specs.declared.object.Label.{Label}
@@ -11,14 +15,15 @@ use Rattle.rg_base.specs.declared.object.Seen.{Seen}
 use Rattle.rg_base.specs.declared.words.Manager.{Manager}
 use Rattle.rg_base.specs.declared.value.Val.{Val}
 use Rattle.rg_base.specs.declared.value.Val.TheVariants as val
+use Rattle.rg_tree.proofs.TreesFrom.{slice_get-push}
 use Rattle.rg_stack.specs.Machine.{Window, Machine}
 use Rattle.rg_stack.specs.Needs.{has_window, label_of, lies_in, is_into}
 use Rattle.rg_stack.proofs.Basics.{none-some, or-left}
 use Rattle.rg_held.specs.Frees.{gone}
 use Rattle.rg_held.specs.Part.{leads_to, Placed, Part, OwnerHeld, OwnersHeld}
-use Rattle.rg_held.proofs.Lists.{off, push-back, push-old, push-below, push-past, push-last, push-length, get-below}
-use Rattle.rg_held.proofs.Lists.{any-at, at-any}
-use Rattle.rg_held.proofs.Places.{or-split, or-right, same-number, number-same, either, clash, region-into}
+use Rattle.rg_held.proofs.Lists.{off, push-back, push-old, push-below, push-past}
+use Rattle.rg_held.proofs.Lists.{any-at}
+use Rattle.rg_held.proofs.Places.{or-right, clash, region-into}
 use Rattle.rg_held.proofs.Parts.{lead-any, lead-more, all-more}
 
 -- no reference
@@ -37,12 +42,6 @@ plain-label store (val.Int z) l h e = none-some l e
 plain-label store (val.Bool b) l h e = none-some l e
 plain-label store (val.Obj a) l h e = off h
 
-below-less : (a n : ℕ) → a < n → nat_lt a n ≡ true
-below-less a n h = grind (arith, h)
-
-less-below : (a n : ℕ) → nat_lt a n ≡ true → a < n
-less-below a n h = grind (arith, h)
-
 -- a region that is made
 pub part-region : (held : ℕ → Truth) (owners : List Val) (f m : Machine) (stack : List Val) (g : Manager) → Part held owners f m stack
     → Part held owners (record f { managers = f.managers ++ g ∷ [] }) (record m { managers = m.managers ++ g ∷ [] }) stack
@@ -51,7 +50,7 @@ part-region held owners f m stack g p = record {
   windows = p.windows;
   windows_made = p.windows_made;
   at = p.at;
-  managers_made = (let a = push-length f.managers g in let b = push-length m.managers g in let c = p.managers_made in omega (arith, a, b, c));
+  managers_made = (let a = length_push f.managers g in let b = length_push m.managers g in let c = p.managers_made in omega (arith, a, b, c));
   open_managers = λ r o. below r (p.tidy.regions r o) (p.open_managers r o);
   held_managers = λ a o r h there lies. below r (p.tidy.labels a o r there lies) (p.held_managers a o r h there lies);
   objects_made = p.objects_made;
@@ -69,8 +68,8 @@ part-region held owners f m stack g p = record {
     some_window = p.tidy.some_window;
     differ = p.tidy.differ;
     numbers = p.tidy.numbers;
-    regions = λ r o. (let a = p.tidy.regions r o in let b = push-length m.managers g in omega (arith, a, b));
-    labels = λ a o r there lies. (let x = p.tidy.labels a o r there lies in let b = push-length m.managers g in omega (arith, x, b));
+    regions = λ r o. (let a = p.tidy.regions r o in let b = length_push m.managers g in omega (arith, a, b));
+    labels = λ a o r there lies. (let x = p.tidy.labels a o r there lies in let b = length_push m.managers g in omega (arith, x, b));
     fields = p.tidy.fields;
     inside = p.tidy.inside;
   };
@@ -132,19 +131,19 @@ module _ (held : ℕ → Truth) (f m : Machine) (stack : List Val) (o : Seen) (p
     where
       by : (b : Truth) → (b || (n == n)) ≡ true
       by true = refl
-      by false = number-same n n refl
+      by false = eq-eqb n n refl
 
   old : (a : ℕ) → also a ≡ true → (held a ≡ true) ⊎ (a ≡ n)
-  old a h = elim (or-split (held a) (a == n) h) [ inl was ↦ inl was | inr new ↦ inr (same-number a n new) ]
+  old a h = elim (or_cases (held a) (a == n) h) [ inl was ↦ inl was | inr new ↦ inr (eqb-true a n new) ]
 
   label-new : (v : Val) → leads_to (λ a. nat_lt a n) v ≡ true → label_of (m.store ++ o ∷ []) v ≡ label_of m.store v
   label-new val.Nil h = refl
   label-new (val.Int z) h = refl
   label-new (val.Bool b) h = refl
-  label-new (val.Obj a) h = ap (option_and_then (λ (o : Seen). Some o.label)) (push-below m.store o a (less-below a n h))
+  label-new (val.Obj a) h = ap (option_and_then (λ (o : Seen). Some o.label)) (push-below m.store o a (ltb-true a n h))
 
   below : (v : Val) → leads_to held v ≡ true → leads_to (λ a. nat_lt a n) v ≡ true
-  below v h = lead-more held (λ a. nat_lt a n) v (λ a e. below-less a n (p.there a e)) h
+  below v h = lead-more held (λ a. nat_lt a n) v (λ a e. lt-ltb a n (p.there a e)) h
 
   into-new : (r : ℕ) (v : Val) → leads_to (λ a. nat_lt a n) v ≡ true → is_into m.store r v ≡ true → is_into (m.store ++ o ∷ []) r v ≡ true
   into-new r v h into = ap (λ (l : Option Label). elim l [ None ↦ false | Some l ↦ lies_in r l ]) (label-new v h) ∙ into
@@ -160,7 +159,7 @@ module _ (held : ℕ → Truth) (f m : Machine) (stack : List Val) (o : Seen) (p
       was,
       elim (old a e) [
         | inl here ↦ here
-        | inr at ↦ (let less = get-below m.store a h was in absurd (omega (arith, less, at)))
+        | inr at ↦ (let less = slice_get_within m.store a h was in absurd (omega (arith, less, at)))
       ],
     )
   ]
@@ -192,11 +191,11 @@ module _ (held : ℕ → Truth) (f m : Machine) (stack : List Val) (o : Seen) (p
   on-stack : (r : ℕ) → list_any (is_into m.store r) stack ≡ true → list_any (is_into (m.store ++ o ∷ []) r) (val.Obj n ∷ stack) ≡ true
   on-stack r any =
       let h = any-at (is_into m.store r) stack any in
-      at-any (is_into (m.store ++ o ∷ []) r) (val.Obj n ∷ stack) (suc h.0) h.1.0 h.1.1
+      any_passes_from_place (is_into (m.store ++ o ∷ []) r) (val.Obj n ∷ stack) (suc h.0) h.1.0 h.1.1
       (into-new r h.1.0 (below h.1.0 (lead-any held stack h.0 h.1.0 p.on_stack h.1.1)) h.1.2)
 
   made-there : slice_get (f.store ++ o ∷ []) n ≡ Some o
-  made-there = ap (slice_get (f.store ++ o ∷ [])) (sym p.objects_made) ∙ push-last f.store o
+  made-there = ap (slice_get (f.store ++ o ∷ [])) (sym p.objects_made) ∙ slice_get-push f.store o
 
   window-owners : (ws : List Window) → OwnersHeld held m.store ws → OwnersHeld also (m.store ++ o ∷ []) ws
   window-owners [] h = tt
@@ -208,9 +207,9 @@ module _ (held : ℕ → Truth) (f m : Machine) (stack : List Val) (o : Seen) (p
       by (Some (place.Field a k)) h = (more a h.0, (h.1.0, push-old m.store o h.1.0 a h.1.1, h.1.2))
 
   others : (a : ℕ) → also a ≡ false → slice_get (f.store ++ o ∷ []) a ≡ option_map (λ (q : Seen). gone) (slice_get (m.store ++ o ∷ []) a)
-  others a h = elim (either (nat_lt a n)) [
+  others a h = elim (cases_Bool (nat_lt a n)) [
     | inl less ↦
-        (let l = less-below a n less in let made = p.objects_made in let k : a < length f.store = omega (arith, l, made) in
+        (let l = ltb-true a n less in let made = p.objects_made in let k : a < length f.store = omega (arith, l, made) in
         push-below f.store o a k ∙ p.others a (or-left (held a) (a == n) h) ∙ ap (option_map (λ (q : Seen). gone)) (sym (push-below m.store o a l)))
     | inr past ↦
         (let other = or-right (held a) (a == n) h in
@@ -231,8 +230,8 @@ module _ (held : ℕ → Truth) (f m : Machine) (stack : List Val) (o : Seen) (p
       | inl new ↦ fits.managers r (ap (λ (q : Seen). q.label) (sym new) ∙ lies)
       | inr was ↦ p.held_managers a h r was.1 was.0 lies
     ];
-    objects_made = (let a = push-length f.store o in let b = push-length m.store o in let c = p.objects_made in omega (arith, a, b, c));
-    there = λ a e. (let b = push-length m.store o in elim (old a e) [
+    objects_made = (let a = length_push f.store o in let b = length_push m.store o in let c = p.objects_made in omega (arith, a, b, c));
+    there = λ a e. (let b = length_push m.store o in elim (old a e) [
       | inl was ↦ (let l = p.there a was in omega (arith, b, l))
       | inr new ↦ omega (arith, b, new)
     ]);
@@ -240,7 +239,7 @@ module _ (held : ℕ → Truth) (f m : Machine) (stack : List Val) (o : Seen) (p
       | inl was ↦
           (let l = p.there a was in let made = p.objects_made in let k : a < length f.store = omega (arith, l, made) in
           push-below f.store o a k ∙ p.same a was ∙ sym (push-below m.store o a l))
-      | inr new ↦ ap (slice_get (f.store ++ o ∷ [])) new ∙ made-there ∙ sym (ap (slice_get (m.store ++ o ∷ [])) new ∙ push-last m.store o)
+      | inr new ↦ ap (slice_get (f.store ++ o ∷ [])) new ∙ made-there ∙ sym (ap (slice_get (m.store ++ o ∷ [])) new ∙ slice_get-push m.store o)
     ];
     others = others;
     temps = λ a h k e there lies. elim (found a h e there) [
@@ -248,7 +247,7 @@ module _ (held : ℕ → Truth) (f m : Machine) (stack : List Val) (o : Seen) (p
       | inr was ↦ p.temps a h k was.1 was.0 lies
     ];
     lost_temps = λ a h k e there lies. elim (push-back m.store o h a there) [
-      | inl new ↦ clash (a == n) (number-same a n new.0) (or-right (held a) (a == n) e)
+      | inl new ↦ clash (a == n) (eq-eqb a n new.0) (or-right (held a) (a == n) e)
       | inr was ↦ p.lost_temps a h k (or-left (held a) (a == n) e) was lies
     ];
     slots = λ i h s v there at. lead-more held also v more (p.slots i h s v there at);
@@ -259,7 +258,7 @@ module _ (held : ℕ → Truth) (f m : Machine) (stack : List Val) (o : Seen) (p
     ];
     owned = λ a h r e there lies c. elim (found a h e there) [
       | inl new ↦ inr (ap (λ b. b || list_any (is_into (m.store ++ o ∷ []) r) stack)
-          (region-into (m.store ++ o ∷ []) r n o (push-last m.store o) (ap (λ (q : Seen). q.label) (sym new) ∙ lies)))
+          (region-into (m.store ++ o ∷ []) r n o (slice_get-push m.store o) (ap (λ (q : Seen). q.label) (sym new) ∙ lies)))
       | inr was ↦ elim (p.owned a h r was.1 was.0 lies c) [ inl placed ↦ inl (stays r placed) | inr any ↦ inr (on-stack r any) ]
     ];
     window_owners = window-owners m.windows p.window_owners;
@@ -276,7 +275,7 @@ module _ (held : ℕ → Truth) (f m : Machine) (stack : List Val) (o : Seen) (p
         | inl new ↦ plain-leads (λ b. nat_lt b (length (m.store ++ o ∷ []))) v
             (fits.plain k v (ap (λ (q : Seen). slice_get q.fields k) (sym new.1) ∙ at))
         | inr was ↦ lead-more (λ b. nat_lt b n) (λ b. nat_lt b (length (m.store ++ o ∷ []))) v (λ b e.
-            (let l = less-below b n e in let g = push-length m.store o in below-less b (length (m.store ++ o ∷ [])) (omega (arith, l, g))))
+            (let l = ltb-true b n e in let g = length_push m.store o in lt-ltb b (length (m.store ++ o ∷ [])) (omega (arith, l, g))))
             (p.tidy.fields a h k v was at)
       ];
       inside = λ a h q k v l there lies at is. elim (push-back m.store o h a there) [

@@ -4,6 +4,8 @@ use Rattle.std.proofs.Common.{length, map, Option, Some, None, Ok, Err, option_a
 use Rattle.std.proofs.Common.{slice_get}
 use Rattle.std.proofs.Common.{slice_set}
 use Rattle.std.proofs.lemmas.Option.{same_Some}
+use Rattle.std.proofs.lemmas.Bool.{not-true, eq-eqb, eqb-true, or_cases, ne_eqb}
+use Rattle.std.proofs.lemmas.List.{length_push}
 use Rattle.std.specs.Prelude.{◌||◌, ◌&&◌, nat_lt, ok_or, if◌then◌else◌}
 use Rattle.rg_base.specs.declared.object.Label.{Label}
 use Rattle.rg_base.specs.declared.object.Label.TheVariants.{Region, Temp, Frozen}
@@ -15,8 +17,10 @@ use Rattle.rg_base.specs.declared.value.Val.TheVariants as val
 use Rattle.rg_base.specs.declared.value.Word.{Word}
 use Rattle.rg_base.specs.declared.value.Word.TheVariants as word
 use Rattle.rg_base.proofs.Callers.Labels.{region-temp}
+use Rattle.rg_tree.proofs.TreesFrom.{slice_get-push}
 use Rattle.rg_rules.specs.Values.{is_nil_value}
 use Rattle.rg_rules.specs.Evaluation.{object_at}
+use Rattle.rg_sound.proofs.Owners.OwnerLemmas.{get-set}
 use Rattle.rg_code.specs.declared.op.Op.TheVariants as i
 use Rattle.rg_code.specs.Code.{Code}
 use Rattle.rg_stack.specs.Machine.{Window, Machine, value_of_word, slot_at, put_slot}
@@ -28,8 +32,8 @@ use Rattle.rg_held.specs.Frees.{free_act}
 use Rattle.rg_held.specs.Part.{leads_to, Part, SomeWindow, may_lead, is_shut_or_above}
 use Rattle.rg_held.specs.Ends.{Match, SameEnd}
 use Rattle.rg_held.specs.Laws.{owners_of, GoesOn}
-use Rattle.rg_held.proofs.Lists.{off, push-last, push-length, set-new, set-same}
-use Rattle.rg_held.proofs.Places.{or-split, not-true, same-number, number-same, other-number, clash, not-closed, top-open}
+use Rattle.rg_held.proofs.Lists.{off, set-new}
+use Rattle.rg_held.proofs.Places.{clash, not-closed, top-open}
 use Rattle.rg_held.proofs.Places.{label-there, into-label}
 use Rattle.rg_held.proofs.Parts.{closed-above, part-owners}
 use Rattle.rg_held.proofs.Stack.{match-more, slot-leads, slot-same, field-leads}
@@ -52,7 +56,7 @@ opened-plain (word.Slot a ∷ ws) k v h e = off h
 
 pub top-numbered : (ws : List Window) → SomeWindow ws → has_window ws (top_window ws) ≡ true
 top-numbered [] h = absurd h
-top-numbered (w ∷ ws) h = ap (λ b. b || has_window ws w.number) (number-same w.number w.number refl)
+top-numbered (w ∷ ws) h = ap (λ b. b || has_window ws w.number) (eq-eqb w.number w.number refl)
 
 region-is : (q r : ℕ) → Region q ≡ Region r → q ≡ r
 region-is q r e = ap (λ (l : Label). elim l [ Region q ↦ q | Temp k ↦ q | Frozen ↦ q ]) e
@@ -64,7 +68,7 @@ temp-is q r e = ap (λ (l : Label). elim l [ Region k ↦ q | Temp q ↦ q | Fro
 pub writable-open : {B : Type 0} (m : Machine) (l : Label) (r : ℕ) → SomeWindow m.windows → is_writable m l ≡ true → l ≡ Region r
     → is_open m.windows r ≡ false → B
 writable-open m l r some h lies c =
-    let same = same-number r (top_region m.windows) (sym (ap (is_writable m) lies) ∙ h) in
+    let same = eqb-true r (top_region m.windows) (sym (ap (is_writable m) lies) ∙ h) in
     clash (is_open m.windows r) (ap (is_open m.windows) same ∙ top-open m.windows some) c
 
 module _ (code : Code) (also go : Go) (c : ℕ) (stack : List Val) where
@@ -132,11 +136,11 @@ module _ (code : Code) (at : ℕ) (also go : Go) (u w : Work) (taken : Truth) wh
         },
       ) (record {
         plain = λ k v e. opened-plain (unwrap_or (slice_get code.openings c) []) k v n e;
-        regions = λ r e. (let same = region-is (length w.machine.managers) r e in let b = push-length w.machine.managers g in
+        regions = λ r e. (let same = region-is (length w.machine.managers) r e in let b = length_push w.machine.managers g in
             omega (arith, same, b));
         managers = λ r e. (let same = region-is (length w.machine.managers) r e in
-            ap (slice_get (u.machine.managers ++ g ∷ [])) (sym same ∙ sym now.1.machine.managers_made) ∙ push-last u.machine.managers g
-            ∙ sym (ap (slice_get (w.machine.managers ++ g ∷ [])) (sym same) ∙ push-last w.machine.managers g));
+            ap (slice_get (u.machine.managers ++ g ∷ [])) (sym same ∙ sym now.1.machine.managers_made) ∙ slice_get-push u.machine.managers g
+            ∙ sym (ap (slice_get (w.machine.managers ++ g ∷ [])) (sym same) ∙ slice_get-push w.machine.managers g));
         temps = λ k e. region-temp (length w.machine.managers) k e;
       }) next
 
@@ -165,13 +169,13 @@ module _ (code : Code) (at : ℕ) (also go : Go) (u w : Work) (taken : Truth) wh
       (ap (is_open w.machine.windows) (exact v stand into) ∙ top) c
     where
       top : is_open w.machine.windows q ≡ true
-      top = ap (is_open w.machine.windows) (same-number q (top_region w.machine.windows) h) ∙ top-open w.machine.windows some
+      top = ap (is_open w.machine.windows) (eqb-true q (top_region w.machine.windows) h) ∙ top-open w.machine.windows some
 
       exact : (v : Val) → may_stand w.machine (Region q) v ≡ true → is_into w.machine.store r v ≡ true → r ≡ q
       exact val.Nil s i = off i
       exact (val.Int z) s i = off i
       exact (val.Bool b) s i = off i
-      exact (val.Obj a) s i = same-number r q (sym (ap (λ (k : Option Label). elim k [
+      exact (val.Obj a) s i = eqb-true r q (sym (ap (λ (k : Option Label). elim k [
         | None ↦ false
         | Some (Region r) ↦ r == q
         | Some (Temp n) ↦ false
@@ -205,9 +209,9 @@ module _ (code : Code) (at : ℕ) (also go : Go) (u w : Work) (taken : Truth) wh
           machine = part-write m.0 (v ∷ val.Obj a ∷ []) u.machine w.machine (v ∷ val.Obj a ∷ []) a o k v p here there p.on_stack.0
               (λ q l lies is. stand-leads q v l (ap (λ l. may_stand w.machine l v) (sym lies) ∙ stand) is) [] [] tt
               (λ r c into. not-closed w.machine (field_of o k) r old into c)
-              (λ r c any. elim (or-split (is_into w.machine.store r v) (is_into w.machine.store r (val.Obj a) || false) any) [
+              (λ r c any. elim (or_cases (is_into w.machine.store r v) (is_into w.machine.store r (val.Obj a) || false) any) [
                 | inl top ↦ stand-open o.label v r some writes stand top c
-                | inr below ↦ elim (or-split (is_into w.machine.store r (val.Obj a)) false below) [
+                | inr below ↦ elim (or_cases (is_into w.machine.store r (val.Obj a)) false below) [
                   | inl it ↦ writable-open w.machine o.label r some writes
                       (same_Some o.label (Region r) (sym (label-there w.machine.store a o there) ∙ into-label w.machine.store r (val.Obj a) it)) c
                   | inr none ↦ off none
@@ -246,7 +250,7 @@ module _ (code : Code) (at : ℕ) (also go : Go) (u w : Work) (taken : Truth) wh
   -- a reference into a closed region, or nil, may stand in a region's field
   owns-leads : (v : Val) (q : ℕ) (l : Label) → owns_or_nil w.machine v ≡ true → label_of w.machine.store v ≡ Some l
       → may_lead w.machine.windows q l ≡ true
-  owns-leads v q l h is = elim (or-split (is_nil_value v) (is_closed w.machine v) h) [ inl nil ↦ none v nil is | inr c ↦ closed l is c ]
+  owns-leads v q l h is = elim (or_cases (is_nil_value v) (is_closed w.machine v) h) [ inl nil ↦ none v nil is | inr c ↦ closed l is c ]
     where
       none : (v : Val) → is_nil_value v ≡ true → label_of w.machine.store v ≡ Some l → may_lead w.machine.windows q l ≡ true
       none val.Nil h is = none-some l is
@@ -274,9 +278,9 @@ module _ (code : Code) (at : ℕ) (also go : Go) (u w : Work) (taken : Truth) wh
   -- an object that may be written is outside of each closed region
   writable-outside : (l : Label) (r : ℕ) → SomeWindow w.machine.windows → is_writable w.machine l ≡ true → is_open w.machine.windows r ≡ false
       → is_outside w.machine.windows r l ≡ true
-  writable-outside (Region q) r some h c = ap not (other-number q r (λ e. writable-open w.machine (Region q) r some h (ap Region e) c))
+  writable-outside (Region q) r some h c = ap not (ne_eqb q r (λ e. writable-open w.machine (Region q) r some h (ap Region e) c))
   writable-outside (Temp k) r some h c =
-      ap (has_window w.machine.windows) (same-number k (top_window w.machine.windows) h) ∙ top-numbered w.machine.windows some
+      ap (has_window w.machine.windows) (eqb-true k (top_window w.machine.windows) h) ∙ top-numbered w.machine.windows some
   writable-outside Frozen r some h c = refl
 
   swap-object : (s k a : ℕ) (o : Seen) → slice_get w.machine.store a ≡ Some o → nat_lt s (size_of w.machine) ≡ true
@@ -290,10 +294,10 @@ module _ (code : Code) (at : ℕ) (also go : Go) (u w : Work) (taken : Truth) wh
       field = k;
       holder = with_value_in o k old;
       value = old;
-      holder_there = set-same w.machine.store a (with_value_in o k old) o there;
+      holder_there = get-set w.machine.store a (with_value_in o k old) o there;
       value_there = set-new o.fields k old field_less;
       outside = writable-outside o.label r p.tidy.some_window writes c;
-      into = elim (or-split (is_into m1.store r old) false any) [ inl it ↦ it | inr none ↦ off none ];
+      into = elim (or_cases (is_into m1.store r old) false any) [ inl it ↦ it | inr none ↦ off none ];
     },
     here,
   )))
@@ -339,7 +343,7 @@ module _ (code : Code) (at : ℕ) (also go : Go) (u w : Work) (taken : Truth) wh
           (slot-leads m.0 (val.Obj a ∷ []) u.machine w.machine (val.Obj a ∷ []) p s)
           (λ q l lies is. owns-leads old q l (and-right (front && owns_or_nil w.machine (field_of o k)) (owns_or_nil w.machine old) n) is)
           (field_of o k ∷ []) [] tt (λ r c into. inr (ap (λ b. b || false) into))
-          (λ r c any. elim (or-split (is_into w.machine.store r (val.Obj a)) false any) [
+          (λ r c any. elim (or_cases (is_into w.machine.store r (val.Obj a)) false any) [
             | inl it ↦ writable-open w.machine o.label r p.tidy.some_window writes
                 (same_Some o.label (Region r) (sym (label-there w.machine.store a o there) ∙ into-label w.machine.store r (val.Obj a) it)) c
             | inr none ↦ off none
@@ -349,7 +353,7 @@ module _ (code : Code) (at : ℕ) (also go : Go) (u w : Work) (taken : Truth) wh
       twice = part-put m.0 (field_of o k ∷ []) f1 m1 [] once s (field_of o k) (old ∷ []) []
           (field-leads m.0 (val.Obj a ∷ []) u.machine w.machine (val.Obj a ∷ []) p (val.Obj a) here o (ap (λ s. ok_or s trap.Nil) there) k) tt
           (λ r c into. inr (ap (λ b. b || false) into))
-          (λ r c any. elim (or-split (is_into m1.store r (field_of o k)) false any) [
+          (λ r c any. elim (or_cases (is_into m1.store r (field_of o k)) false any) [
             | inl it ↦ inl (inl (put-there m1 s (field_of o k) r less it))
             | inr none ↦ off none
           ])

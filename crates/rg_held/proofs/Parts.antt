@@ -2,6 +2,7 @@
 use Rattle.std.proofs.Common.{◌≡◌, ℕ, zero, suc, ◌-◌, ◌^◌, ◌==◌, ◌⊎◌, inl, inr, true, false, true≢false, Bool as Truth, List, [], ◌∷◌}
 use Rattle.std.proofs.Common.{Option, Some, None, option_and_then, option_map, refl, sym, ap, ◌∙◌, slice_get}
 use Rattle.std.proofs.lemmas.Option.{same_Some}
+use Rattle.std.proofs.lemmas.Bool.{cases_Bool}
 use Rattle.std.specs.Prelude.{◌||◌, if◌then◌else◌}
 use Rattle.std.specs.List.{list_any}
 use Rattle.rg_base.specs.declared.object.Label.{Label}
@@ -14,7 +15,7 @@ use Rattle.rg_stack.specs.Needs.{is_open, label_of, is_into, closed_of, closed_i
 use Rattle.rg_stack.proofs.Basics.{none-some, or-left}
 use Rattle.rg_held.specs.Frees.{gone}
 use Rattle.rg_held.specs.Part.{leads_to, AllLead, SlotInto, FieldInto, Placed, Tidy, Part, is_shut_or_above}
-use Rattle.rg_held.proofs.Places.{either, clash, or-right}
+use Rattle.rg_held.proofs.Places.{clash, or-right}
 
 -- a closed region has none above it, and may be led to
 
@@ -143,7 +144,7 @@ module _ (held : ℕ → Truth) (owners : List Val) (f m : Machine) (stack : Lis
 
   -- an object that is there in the machine that frees, and isn't gone, is held
   pub open-region : (a : ℕ) (o : Seen) (r : ℕ) → slice_get f.store a ≡ Some o → o.label ≡ Region r → held a ≡ true
-  open-region a o r there lies = elim (either (held a)) [
+  open-region a o r there lies = elim (cases_Bool (held a)) [
     | inl h ↦ h
     | inr n ↦ absurd (gone_no (slice_get m.store a) (sym (p.others a n) ∙ there))
   ]

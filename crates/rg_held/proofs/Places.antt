@@ -1,7 +1,8 @@
 -- Where a value leads, and that two places which lead into one closed region are the same. For crates above too.
-use Rattle.std.proofs.Common.{[], ◌∷◌, ◌≡◌, ℕ, zero, suc, ◌==◌, ◌<◌, ◌≤◌, ◌⊎◌, inl, inr, true, false, true≢false, not, Bool as Truth, List}
+use Rattle.std.proofs.Common.{[], ◌∷◌, ◌≡◌, ℕ, zero, suc, ◌==◌, ◌<◌, ◌≤◌, inl, inr, true, false, true≢false, Bool as Truth, List}
 use Rattle.std.proofs.Common.{length, Option, Some, None, option_and_then, refl, sym, ap, ◌∙◌, arith, slice_get}
 use Rattle.std.proofs.lemmas.Option.{same_Some}
+use Rattle.std.proofs.lemmas.Bool.{eq-eqb, eqb-true, or_cases, cases_Bool}
 use Rattle.std.specs.Prelude.{count_by, cond, nat_le, ◌||◌, if◌then◌else◌}
 use Rattle.rg_base.specs.declared.object.Label.{Label}
 use Rattle.rg_base.specs.declared.object.Label.TheVariants.{Region, Temp, Frozen}
@@ -19,40 +20,14 @@ use Rattle.rg_held.proofs.Lists.{off, sum-one, sum-two, count-one, count-two}
 
 -- what holds of both parts
 
-pub or-split : (a b : Truth) → (a || b) ≡ true → (a ≡ true) ⊎ (b ≡ true)
-or-split true b e = inl refl
-or-split false b e = inr e
-
 pub or-right : (a b : Truth) → (a || b) ≡ false → b ≡ false
 or-right true b e = absurd (true≢false e)
 or-right false b e = e
 
-pub not-true : (a : Truth) → not a ≡ true → a ≡ false
-not-true true e = off e
-not-true false e = refl
-
-pub same-number : (a b : ℕ) → (a == b) ≡ true → a ≡ b
-same-number a b e = grind arith
-
-pub number-same : (a b : ℕ) → a ≡ b → (a == b) ≡ true
-number-same a b e = grind arith
-
 -- the region of the topmost window is open
 pub top-open : (ws : List Window) → SomeWindow ws → is_open ws (top_region ws) ≡ true
 top-open [] h = absurd h
-top-open (w ∷ ws) h = ap (λ b. b || is_open ws w.region) (number-same w.region w.region refl)
-
-pub other-number : (a b : ℕ) → (a ≡ b → ⊥) → (a == b) ≡ false
-other-number a b h = by (a == b) refl
-  where
-    by : (t : Truth) → (a == b) ≡ t → t ≡ false
-    by true e = absurd (h (same-number a b e))
-    by false e = refl
-
--- a truth value is one of two
-pub either : (b : Truth) → (b ≡ true) ⊎ (b ≡ false)
-either true = inl refl
-either false = inr refl
+top-open (w ∷ ws) h = ap (λ b. b || is_open ws w.region) (eq-eqb w.region w.region refl)
 
 pub clash : {B : Type 0} (b : Truth) → b ≡ true → b ≡ false → B
 clash b t f = absurd (true≢false (sym t ∙ f))
@@ -79,7 +54,7 @@ pub label-there : (store : List Seen) (a : ℕ) (o : Seen) → slice_get store a
 label-there store a o e = ap (option_and_then (λ (o : Seen). Some o.label)) e
 
 pub lies-back : (r : ℕ) (l : Label) → lies_in r l ≡ true → l ≡ Region r
-lies-back r (Region q) e = ap Region (same-number q r e)
+lies-back r (Region q) e = ap Region (eqb-true q r e)
 lies-back r (Temp n) e = off e
 lies-back r Frozen e = off e
 
@@ -95,7 +70,7 @@ into-back store r v e = label-back store v (Region r) (into-label store r v e)
 
 pub label-into : (store : List Seen) (r : ℕ) (v : Val) → label_of store v ≡ Some (Region r) → is_into store r v ≡ true
 label-into store r v e =
-    ap (λ (o : Option Label). elim o [ None ↦ false | Some l ↦ lies_in r l ]) e ∙ number-same r r refl
+    ap (λ (o : Option Label). elim o [ None ↦ false | Some l ↦ lies_in r l ]) e ∙ eq-eqb r r refl
 
 pub region-into : (store : List Seen) (r a : ℕ) (o : Seen) → slice_get store a ≡ Some o → o.label ≡ Region r → is_into store r (val.Obj a) ≡ true
 region-into store r a o e l = label-into store r (val.Obj a) (label-there store a o e ∙ ap Some l)
@@ -133,15 +108,15 @@ not-closed m v r n e c = clash (is_closed m v) (ap (λ (o : Option ℕ). elim o 
 
 -- at most one place leads into a closed region
 
-all-below : (n : ℕ) (test : ℕ → Truth) (r : ℕ) → all_below n test ≡ true → r < n → test r ≡ true
+pub all-below : (n : ℕ) (test : ℕ → Truth) (r : ℕ) → all_below n test ≡ true → r < n → test r ≡ true
 all-below zero test r e h = absurd (omega (arith, h))
-all-below (suc n) test r e h = elim (either (r == n)) [
-  | inl same ↦ ap test (same-number r n same) ∙ and-left (test n) (all_below n test) e
+all-below (suc n) test r e h = elim (cases_Bool (r == n)) [
+  | inl same ↦ ap test (eqb-true r n same) ∙ and-left (test n) (all_below n test) e
   | inr other ↦ all-below n test r (and-right (test n) (all_below n test) e) (grind (arith, h, other))
 ]
 
 pub once : (m : Machine) (r : ℕ) → owned_once m ≡ true → r < length m.managers → is_open m.windows r ≡ false → places_into m r ≤ 1
-once m r e less c = elim (or-split (is_open m.windows r) (nat_le (places_into m r) 1)
+once m r e less c = elim (or_cases (is_open m.windows r) (nat_le (places_into m r) 1)
     (all-below (length m.managers) (λ r. is_open m.windows r || nat_le (places_into m r) 1) r e less)) [
       | inl o ↦ clash (is_open m.windows r) o c
       | inr h ↦ grind (arith, h)

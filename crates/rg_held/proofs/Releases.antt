@@ -2,6 +2,7 @@
 use Rattle.std.proofs.Common.{◌≡◌, ℕ, zero, suc, ◌==◌, ◌≤◌, ◌⊎◌, inl, inr, true, false, Bool as Truth, List, [], ◌∷◌}
 use Rattle.std.proofs.Common.{length, filter_map, Option, Some, None, unwrap_or, drop, refl, sym, ap, subst, ◌∙◌, arith, slice_get}
 use Rattle.std.proofs.lemmas.Option.{same_Some}
+use Rattle.std.proofs.lemmas.Bool.{eqb-true, or_cases}
 use Rattle.std.specs.Prelude.{◌||◌, nat_lt}
 use Rattle.std.specs.List.{list_any}
 use Rattle.rg_base.specs.declared.value.Val.{Val}
@@ -14,7 +15,7 @@ use Rattle.rg_stack.proofs.Basics.{none-some}
 use Rattle.rg_held.specs.Frees.{closed_among, bury}
 use Rattle.rg_held.specs.Part.{leads_to, SlotInto, FieldInto, Placed, Tidy, Part}
 use Rattle.rg_held.proofs.Lists.{off, drop-back, any-at}
-use Rattle.rg_held.proofs.Places.{or-split, same-number, ClosedRef, closed-back, closed-there, into-back, once}
+use Rattle.rg_held.proofs.Places.{ClosedRef, closed-back, closed-there, into-back, once}
 use Rattle.rg_held.proofs.Places.{slot-counts, field-counts, slot-slot, slot-field, field-field}
 use Rattle.rg_held.proofs.Parts.{field-frames, closed-same, top-slot}
 use Rattle.rg_held.proofs.Burials.{Alone, Burial, left_held, part-bury}
@@ -64,8 +65,8 @@ abbrev pub Loose : Machine → List Val → Type 0
 Loose m vs = (q : ℕ) → is_open m.windows q ≡ false → list_any (is_into m.store q) vs ≡ true → places_into m q ≡ 0
 
 pub loose-one : (m : Machine) (v : Val) → loose m v ≡ true → Loose m (v ∷ [])
-loose-one m v e q c any = elim (or-split (is_into m.store q v) false any) [
-  | inl into ↦ same-number (places_into m q) 0
+loose-one m v e q c any = elim (or_cases (is_into m.store q v) false any) [
+  | inl into ↦ eqb-true (places_into m q) 0
       (ap (λ (o : Option ℕ). elim o [ None ↦ true | Some r ↦ places_into m r == 0 ]) (sym (closed-there m v q into c)) ∙ e)
   | inr none ↦ off none
 ]
@@ -169,7 +170,7 @@ part-own held f m v s p less o l =
     (λ q j b. (let h = old q j in
     slot-and-field m p.tidy o q h.closed (slot-at-into m s q h.into).0 (field-frames (put_slot m s v) m.frames q b)))
     (λ q c e. off e)
-    (λ q c any. elim (or-split (is_into m.store q (slot_at m s)) false any) [
+    (λ q c any. elim (or_cases (is_into m.store q (slot_at m s)) false any) [
       | inl into ↦ inl (among-in held (v ∷ []) f m (v ∷ []) p (slot_at f s ∷ []) 0 (slot_at m s) q
           (ap Some (slot-same held (v ∷ []) f m (v ∷ []) p s)) (slot-leads held (v ∷ []) f m (v ∷ []) p s) into c)
       | inr none ↦ off none
@@ -180,7 +181,7 @@ part-own held f m v s p less o l =
 
     written : Part held (slot_at m s ∷ []) (put_slot f s v) (put_slot m s v) []
     written = part-put held (v ∷ []) f m (v ∷ []) p s v (slot_at m s ∷ []) [] p.on_stack.0 tt (λ r c into. inr (ap (λ b. b || false) into))
-        (λ r c any. elim (or-split (is_into m.store r v) false any) [
+        (λ r c any. elim (or_cases (is_into m.store r v) false any) [
           | inl top ↦ inl (inl (put-there m s v r less top))
           | inr none ↦ off none
         ])

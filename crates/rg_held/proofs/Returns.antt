@@ -2,6 +2,8 @@
 use Rattle.std.proofs.Common.{◌≡◌, ℕ, zero, suc, ◌⊎◌, inl, inr, true, false, Bool as Truth, List, [], ◌∷◌, ◌++◌}
 use Rattle.std.proofs.Common.{length, Some, None, drop, refl, sym, ap, subst, ◌∙◌, arith, slice_get}
 use Rattle.std.proofs.lemmas.Option.{same_Some}
+use Rattle.std.proofs.lemmas.Bool.{or_cases}
+use Rattle.std.proofs.lemmas.Map.Keys.{any_passes_from_place}
 use Rattle.std.specs.Prelude.{◌||◌, ◌&&◌, nat_lt, if◌then◌else◌}
 use Rattle.std.specs.List.{list_any}
 use Rattle.rg_base.specs.declared.value.Val.{Val}
@@ -16,8 +18,8 @@ use Rattle.rg_held.specs.Frees.{closed_among, bury, free_act, freed, given_up}
 use Rattle.rg_held.specs.Part.{leads_to, SlotInto, Part}
 use Rattle.rg_held.specs.Ends.{Match, SameEnd}
 use Rattle.rg_held.specs.Laws.{owners_of, GoesOn}
-use Rattle.rg_held.proofs.Lists.{off, any-at, at-any, any-left, any-right, any-split}
-use Rattle.rg_held.proofs.Places.{or-split, ClosedRef}
+use Rattle.rg_held.proofs.Lists.{off, any-at, any-left, any-right, any-split}
+use Rattle.rg_held.proofs.Places.{ClosedRef}
 use Rattle.rg_held.proofs.Parts.{field-frames, part-stack, part-frames, lead-any}
 use Rattle.rg_held.proofs.Callers.ForgetLemmas.{part-remembers}
 use Rattle.rg_held.proofs.Burials.{left_held, part-bury}
@@ -74,7 +76,7 @@ module _ (held : ℕ → Truth) (f m : Machine) (stack : List Val) (x : Frame) (
     where
       stay : (r : ℕ) (a : SlotInto m r) (n : ℕ) → slice_get (x ∷ rest) n ≡ Some a.holder
           → SlotInto (record m { frames = rest }) r ⊎ (list_any (is_into m.store r) (x.slots ++ stack) ≡ true)
-      stay r a zero there = inr (any-left (is_into m.store r) x.slots stack (at-any (is_into m.store r) x.slots a.slot a.value
+      stay r a zero there = inr (any-left (is_into m.store r) x.slots stack (any_passes_from_place (is_into m.store r) x.slots a.slot a.value
           (ap (λ (h : Frame). slice_get h.slots a.slot) (same_Some x a.holder there) ∙ a.value_there) a.into))
       stay r a (suc n) there = inl (record {
         frame = n;
@@ -123,7 +125,7 @@ part-drop held f m v p l o =
       field_field = λ a b. two-fields m p.tidy o q c a b;
     })
     (λ q j a. no-place-slot m q (free q (old q j)) a) (λ q j b. no-place-field m q (free q (old q j)) b) (λ q c e. off e)
-    (λ q c any. elim (or-split (is_into m.store q v) false any) [
+    (λ q c any. elim (or_cases (is_into m.store q v) false any) [
       | inl into ↦ inl (among-in held (v ∷ []) f m (v ∷ []) p (v ∷ []) 0 v q refl p.on_stack.0 into c)
       | inr none ↦ off none
     ]))

@@ -2,6 +2,7 @@
 use Rattle.std.proofs.Common.{◌≡◌, ℕ, zero, suc, ◌-◌, ◌<◌, ◌≤◌, ◌⊎◌, inl, inr, true, false, Bool as Truth, List, [], ◌∷◌, ◌++◌, length}
 use Rattle.std.proofs.Common.{Option, Some, None, unwrap_or, take, drop, replicate, reverse, refl, sym, ap, ◌∙◌, arith, slice_get, slice_set}
 use Rattle.std.proofs.lemmas.Option.{same_Some}
+use Rattle.std.proofs.lemmas.Map.Keys.{any_passes_from_place}
 use Rattle.std.specs.Prelude.{nat_lt}
 use Rattle.std.specs.List.{list_any}
 use Rattle.rg_base.specs.declared.value.Val.{Val}
@@ -10,7 +11,7 @@ use Rattle.rg_stack.specs.Machine.{Frame, Machine, top_slots, with_slots, slot_a
 use Rattle.rg_stack.specs.Needs.{is_open, is_into, size_of}
 use Rattle.rg_stack.proofs.Basics.{none-some}
 use Rattle.rg_held.specs.Part.{leads_to, AllLead, SlotInto, Placed, Part}
-use Rattle.rg_held.proofs.Lists.{off, set-back, set-other, set-new, set-old, ended-back, ended-front, drop-at, at-any, any-at}
+use Rattle.rg_held.proofs.Lists.{off, set-back, set-other, set-new, set-old, ended-back, ended-front, drop-at, any-at}
 use Rattle.rg_held.proofs.Lists.{reverse-back, reverse-in, append-back, append-left, replicate-back, take-whole}
 use Rattle.rg_held.proofs.Parts.{part-frames, slot-cases, slot-of-top, slots-back, top-slot, lead-any}
 
@@ -161,7 +162,7 @@ module _ (held : ℕ → Truth) (owners : List Val) (f m : Machine) (stack : Lis
         | inl h ↦ elim (drop-at (top_slots m.frames) s h.0 h.1.0 h.1.1) [
           | inl front ↦ inl (slot-of-top m (ended_slots s (top_slots m.frames)) r h.0 h.1.0 h.1.0 h.1.1
               (ended-front (top_slots m.frames) s (length (top_slots m.frames) - s) h.0 val.Nil h.1.0 h.1.1 front) h.1.2)
-          | inr behind ↦ inr (at-any (is_into m.store r) (drop s (top_slots m.frames)) behind.0 h.1.0 behind.1 h.1.2)
+          | inr behind ↦ inr (any_passes_from_place (is_into m.store r) (drop s (top_slots m.frames)) behind.0 h.1.0 behind.1 h.1.2)
         ]
         | inr stays ↦ inl stays
       ]) move

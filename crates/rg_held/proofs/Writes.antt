@@ -5,6 +5,7 @@ use Rattle.std.specs.Prelude.{◌||◌, nat_lt}
 use Rattle.std.specs.List.{list_any}
 use Rattle.std.proofs.lemmas.List.{length-set}
 use Rattle.std.proofs.lemmas.Option.{same_Some}
+use Rattle.std.proofs.lemmas.Bool.{eqb-true, cases_Bool}
 use Rattle.rg_base.specs.declared.object.Label.{Label}
 use Rattle.rg_base.specs.declared.object.Label.TheVariants.{Region}
 use Rattle.rg_base.specs.declared.object.Place.{Place}
@@ -12,13 +13,14 @@ use Rattle.rg_base.specs.declared.object.Place.TheVariants as place
 use Rattle.rg_base.specs.declared.object.Seen.{Seen}
 use Rattle.rg_base.specs.declared.value.Val.{Val}
 use Rattle.rg_base.specs.declared.value.Val.TheVariants as val
+use Rattle.rg_sound.proofs.Owners.OwnerLemmas.{get-set}
 use Rattle.rg_stack.specs.Machine.{Window, Machine}
 use Rattle.rg_stack.specs.Effects.{with_value_in}
 use Rattle.rg_stack.specs.Needs.{is_open, label_of, lies_in, is_into, is_outside, field_of}
 use Rattle.rg_held.specs.Frees.{gone}
 use Rattle.rg_held.specs.Part.{leads_to, AllLead, Placed, Part, is_of, OwnerHeld, OwnersHeld, may_lead}
-use Rattle.rg_held.proofs.Lists.{set-back, set-old, set-same, set-apart}
-use Rattle.rg_held.proofs.Places.{same-number, either, clash}
+use Rattle.rg_held.proofs.Lists.{set-back, set-old, set-apart}
+use Rattle.rg_held.proofs.Places.{clash}
 use Rattle.rg_held.proofs.Parts.{lead-more}
 
 module _ (held : ℕ → Truth) (owners : List Val) (f m : Machine) (stack : List Val) (a : ℕ) (o : Seen) (k : ℕ) (v : Val)
@@ -40,11 +42,11 @@ module _ (held : ℕ → Truth) (owners : List Val) (f m : Machine) (stack : Lis
   label-set val.Nil = refl
   label-set (val.Int z) = refl
   label-set (val.Bool t) = refl
-  label-set (val.Obj b) = elim (either (a == b)) [
+  label-set (val.Obj b) = elim (cases_Bool (a == b)) [
     | inl same ↦
-        (let e = same-number a b same in
+        (let e = eqb-true a b same in
         ap (λ i. option_and_then (λ (o : Seen). Some o.label) (slice_get store i)) (sym e)
-        ∙ ap (option_and_then (λ (o : Seen). Some o.label)) (set-same m.store a n o there)
+        ∙ ap (option_and_then (λ (o : Seen). Some o.label)) (get-set m.store a n o there)
         ∙ sym (ap (option_and_then (λ (o : Seen). Some o.label)) there)
         ∙ ap (λ i. option_and_then (λ (o : Seen). Some o.label) (slice_get m.store i)) e)
     | inr other ↦ ap (option_and_then (λ (o : Seen). Some o.label)) (set-apart m.store a b n (differs b other))
@@ -101,7 +103,7 @@ module _ (held : ℕ → Truth) (owners : List Val) (f m : Machine) (stack : Lis
               field = l.0.field;
               holder = n;
               value = l.0.value;
-              holder_there = set-same m.store a n o there;
+              holder_there = get-set m.store a n o there;
               value_there = stays;
               outside = ap (λ (q : Seen). is_outside m.windows r q.label) holder ∙ l.0.outside;
               into = into-set r l.0.value ∙ l.0.into;
@@ -133,7 +135,7 @@ module _ (held : ℕ → Truth) (owners : List Val) (f m : Machine) (stack : Lis
       of b q at is = elim (set-old m.store a b n q at) [
         | inl same ↦
             (let e : o ≡ q = same_Some o q (sym there ∙ ap (slice_get m.store) same ∙ at) in
-            (n, ap (slice_get store) (sym same) ∙ set-same m.store a n o there, ap (λ (q : Seen). is_of ws q.label) e ∙ is))
+            (n, ap (slice_get store) (sym same) ∙ get-set m.store a n o there, ap (λ (q : Seen). is_of ws q.label) e ∙ is))
         | inr stays ↦ (q, stays, is)
       ]
 
@@ -164,15 +166,15 @@ module _ (held : ℕ → Truth) (owners : List Val) (f m : Machine) (stack : Lis
     held_managers = λ b h r e at lies. (let w = was b h at in p.held_managers b w.before r e w.found (w.label ∙ lies));
     objects_made = length-set f.store a n ∙ p.objects_made ∙ sym size;
     there = λ b e. (let l = p.there b e in let s = size in omega (arith, l, s));
-    same = λ b e. elim (either (a == b)) [
+    same = λ b e. elim (cases_Bool (a == b)) [
       | inl eq ↦
-          (let i = same-number a b eq in
-          ap (slice_get (slice_set f.store a n)) (sym i) ∙ set-same f.store a n o (p.same a here ∙ there)
-          ∙ sym (ap (slice_get store) (sym i) ∙ set-same m.store a n o there))
+          (let i = eqb-true a b eq in
+          ap (slice_get (slice_set f.store a n)) (sym i) ∙ get-set f.store a n o (p.same a here ∙ there)
+          ∙ sym (ap (slice_get store) (sym i) ∙ get-set m.store a n o there))
       | inr other ↦ set-apart f.store a b n (differs b other) ∙ p.same b e ∙ sym (set-apart m.store a b n (differs b other))
     ];
-    others = λ b e. elim (either (a == b)) [
-      | inl eq ↦ clash (held b) (ap held (sym (same-number a b eq)) ∙ here) e
+    others = λ b e. elim (cases_Bool (a == b)) [
+      | inl eq ↦ clash (held b) (ap held (sym (eqb-true a b eq)) ∙ here) e
       | inr other ↦ set-apart f.store a b n (differs b other) ∙ p.others b e
           ∙ ap (option_map (λ (q : Seen). gone)) (sym (set-apart m.store a b n (differs b other)))
     ];

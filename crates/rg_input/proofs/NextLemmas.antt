@@ -1,10 +1,11 @@
 -- What the next number is, of blanks, a token and the bytes behind it.
-use Rattle.std.proofs.Common.{◌≡◌, ℕ, zero, suc, ℤ, ◌+◌, ◌<◌, ◌≤◌, nat_lt, ◌&&◌, Bool, true, false, not, if◌then◌else◌, List, [], ◌∷◌, ◌++◌, length}
+use Rattle.std.proofs.Common.{◌≡◌, ℕ, zero, suc, ℤ, ◌+◌, ◌<◌, ◌≤◌, nat_lt, ◌&&◌, Bool, true, false, if◌then◌else◌, List, [], ◌∷◌, ◌++◌, length}
 use Rattle.std.proofs.Common.{take, drop, Option, None, refl, ◌∙◌, ap, arith}
 use Rattle.std.specs.List.{list_all, prefix_len, take_while}
 use Rattle.std.proofs.Math.Seq.{take-append_seam, drop-append_seam}
 use Rattle.std.proofs.lemmas.Bool.Decides.{nat_tests}
 use Rattle.std.proofs.lemmas.List.Folds.{length-prefix_len}
+use Rattle.std.proofs.lemmas.Bool.{not-true}
 use Rattle.rg_base.specs.declared.limits.TheConstants.{INPUT_TOKEN}
 use Rattle.rg_base.specs.Input.{NextNumber, malformed, skip_blanks, behind_blanks, of_token, found_or_malformed, token_number}
 use Rattle.rg_base.specs.Pieces.{is_blank}
@@ -18,10 +19,6 @@ both-first false b h = h
 pub both-second : (a b : Bool) → (a && b) ≡ true → b ≡ true
 both-second true b h = h
 both-second false b h = cc
-
-pub not-true : (b : Bool) → not b ≡ true → b ≡ false
-not-true true h = cc
-not-true false h = refl
 
 -- more blanks than may be skipped
 pub next-past : (n : ℕ) (blanks more : List ℕ) → list_all is_blank blanks ≡ true → n < length blanks →

@@ -8,9 +8,9 @@ use Rattle.rg_base.specs.declared.limits.TheConstants.{INPUT_BLANKS, INPUT_TOKEN
 use Rattle.rg_base.specs.Input.{malformed, at_end, skip_blanks, behind_blanks, found_or_malformed, token_number, next_number}
 use Rattle.rg_base.specs.Pieces.{is_blank}
 use Rattle.rg_input.specs.Read.{is_in_token, is_whole_behind, is_whole, IsRead, read_bytes, is_enough}
-use Rattle.rg_input.proofs.NextLemmas.{both-first, both-second, not-true, next-past, starts_no_blank, skip_blanks-all, next-token, next-long}
+use Rattle.rg_input.proofs.NextLemmas.{both-first, both-second, next-past, starts_no_blank, skip_blanks-all, next-token, next-long}
 use Rattle.rg_input.proofs.NextLemmas.{token_number-long}
-use Rattle.std.proofs.lemmas.Bool.{false≢true, cases_lt}
+use Rattle.std.proofs.lemmas.Bool.{false≢true, cases_lt, not-true, or_cases}
 use Rattle.std.proofs.lemmas.List.Folds.{list_any-append}
 
 -- the parts of what was read, from the left
@@ -136,11 +136,6 @@ enough-empty blanks [] (Some b) read few none = absurd (omega (arith, (read.behi
 enough-empty blanks [] None read few none =
     let test : nat_lt INPUT_BLANKS (length blanks) ≡ false = grind (arith, nat_tests) in rw test refl
 
--- one of two tests
-either_true : (a b : Bool) → (a || b) ≡ true → (a ≡ true) ⊎ (b ≡ true)
-either_true true b h = inl refl
-either_true false b h = inr h
-
 or-true : (a : Bool) → (a || true) ≡ true
 or-true true = refl
 or-true false = refl
@@ -152,7 +147,7 @@ longer bytes more long = grind (arith, nat_tests, length-append bytes more)
 -- one of two tests, with more behind what is tested
 whole_behind-more : (bytes more : List ℕ) → is_whole_behind bytes ≡ true → is_whole_behind (bytes ++ more) ≡ true
 whole_behind-more [] more whole = absurd (false≢true whole)
-whole_behind-more (b ∷ bs) more whole = elim (either_true (list_any is_blank (b ∷ bs)) (nat_lt INPUT_TOKEN (length (b ∷ bs))) whole) [
+whole_behind-more (b ∷ bs) more whole = elim (or_cases (list_any is_blank (b ∷ bs)) (nat_lt INPUT_TOKEN (length (b ∷ bs))) whole) [
   | inl blank ↦
       let any : list_any is_blank (b ∷ bs ++ more) ≡ true = list_any-append is_blank (b ∷ bs) more ∙ ap (λ t. t || list_any is_blank more) blank in
       ap (λ t. t || nat_lt INPUT_TOKEN (length (b ∷ bs ++ more))) any

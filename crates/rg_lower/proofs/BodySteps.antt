@@ -5,6 +5,7 @@ use Rattle.std.proofs.Common.{◌<◌, All, get_or, subst}
 use Rattle.std.proofs.lemmas.List.Elements.{All-get_or, All-head, All-tail}
 use Rattle.std.proofs.lemmas.Option.{get_or_from_slice_get, slice_get_within}
 use Rattle.std.proofs.Math.Seq.{drop-append_seam}
+use Rattle.rg_base.proofs.Callers.Lists.{drop-get}
 use Rattle.rg_tree.specs.Tree.{Method}
 use Rattle.rg_tree.specs.Rows.Tables.{Tables}
 use Rattle.rg_tree.specs.Rows.RowTrees.{classes_of, param_at}
@@ -34,18 +35,13 @@ All-mapped P f [] i d l a = absurd (omega arith)
 All-mapped P f (x ∷ xs) zero d l a = All-head P (f x) (map f xs) a
 All-mapped P f (x ∷ xs) (suc i) d l a = All-mapped P f xs i d (omega arith) (All-tail P (f x) (map f xs) a)
 
-pub drop-row : {A : Type 0} (xs : List A) (i : ℕ) (x : A) → slice_get xs i ≡ Some x → drop i xs ≡ x ∷ drop (suc i) xs
-drop-row [] i x h = cc
-drop-row (y ∷ xs) zero x h = let e : y ≡ x = cc in rw e refl
-drop-row (y ∷ xs) (suc i) x h = drop-row xs i x h
-
 -- one more instruction is counted
 pub slots-step : (given : ℕ) (ops : List Op) (at : ℕ) (o : Op) (most next all : ℕ) → slice_get ops at ≡ Some o →
     max most (slots_of given (drop at ops)) ≡ all
     → next ≡ max most (above o) → max next (slots_of given (drop (at + 1) ops)) ≡ all
 slots-step given ops at o most next all g h n =
     let s : at + 1 ≡ suc at = omega arith in
-    let r : max most (max (above o) (slots_of given (drop (suc at) ops))) ≡ all = rw (drop-row ops at o g) at h in
+    let r : max most (max (above o) (slots_of given (drop (suc at) ops))) ≡ all = rw (drop-get ops at o g) at h in
     rw (s, n) (omega (arith, r))
 
 -- a method with its entry

@@ -3,10 +3,10 @@ use Rattle.std.proofs.Common.{◌≡◌, refl, ap, ℕ, suc, ◌+◌, List, [], 
 use Rattle.rg_tree.specs.Tree.{Member, field, method, Class}
 use Rattle.rg_code.specs.declared.op.Op.{Op}
 use Rattle.rg_base.specs.declared.value.Word.{Word}
+use Rattle.rg_base.proofs.Callers.Lists.{drop-get}
 use Rattle.rg_code.specs.Code.{Code, with_opening}
 use Rattle.rg_code.specs.Lowering.{Methods, with_method, method_code, members_code, methods_code, opening_words}
 use Rattle.rg_lower.specs.Inner.Methods.{with_body, with_member, with_methods, with_openings}
-use Rattle.rg_lower.proofs.BodySteps.{drop-row}
 
 with_methods-then : (c : Code) (given : ℕ) (body : List Op) (others : Methods) →
     with_methods (with_body c given body) others ≡ with_methods c (with_method (length c.ops) given body others)
@@ -28,7 +28,7 @@ pub class-step : (classes : List Class) (i : ℕ) (k : Class) (c next : Code) �
     ≡ with_methods c (methods_code classes (length c.ops) i (drop i classes))
 class-step classes i k c next g n =
     let s : i + 1 ≡ suc i = omega arith in
-    rw (s, drop-row classes i k g) (n (λ behind. methods_code classes behind (suc i) (drop (suc i) classes)))
+    rw (s, drop-get classes i k g) (n (λ behind. methods_code classes behind (suc i) (drop (suc i) classes)))
 
 -- one more opening
 pub opening-step : (classes : List Class) (i : ℕ) (k : Class) (c next : Code) → slice_get classes i ≡ Some k →
@@ -36,5 +36,5 @@ pub opening-step : (classes : List Class) (i : ℕ) (k : Class) (c next : Code) 
     with_openings next (drop (i + 1) classes) ≡ with_openings c (drop i classes)
 opening-step classes i k c next g n =
     let s : i + 1 ≡ suc i = omega arith in
-    rw (n, s, drop-row classes i k g) (ap (λ (o : List (List Word)). record c { openings = o })
+    rw (n, s, drop-get classes i k g) (ap (λ (o : List (List Word)). record c { openings = o })
     (append_assoc c.openings (opening_words k.members ∷ []) _))

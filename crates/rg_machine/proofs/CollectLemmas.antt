@@ -20,13 +20,14 @@ use Rattle.rg_frames.specs.declared.rows.Window.{Window as WindowRow}
 use Rattle.rg_frames.specs.Stack.{Stack, IsTop}
 use Rattle.rg_stack.specs.Effects.{top_region}
 use Rattle.rg_stack.specs.Needs.{is_open, fields_into, owned_once}
-use Rattle.rg_heap.specs.Answers.{IsClosed}
+use Rattle.rg_heap.specs.Answers.{AllLead, IsClosed}
 use Rattle.rg_heap.specs.Collects.{Collects, LostBelow}
 use Rattle.rg_heap.specs.Ends.{top_temps}
 use Rattle.rg_heap.specs.Opened.{Opened, IsWindow, IsTempOf}
 use Rattle.rg_heap.specs.Parts.{Parts}
 use Rattle.rg_view.specs.View.{store_of, windows_of, machine_of}
 use Rattle.rg_view.proofs.Callers.FrameLemmas.{there}
+use Rattle.rg_view.proofs.Callers.HeldLemmas.{all-lead}
 use Rattle.rg_view.proofs.Callers.LeaveLemmas.{temp-top}
 use Rattle.rg_view.proofs.Callers.NeedLemmas.{keyed, field-counts, closed-not-above}
 use Rattle.rg_view.proofs.Callers.OnceLemmas.{outside-once}
@@ -373,3 +374,7 @@ module _ (old new : Parts) (v : Stack) (at : ℕ) (q : Serials old.cells.heap) (
     below = λ s b e. let lt = q.below s b (was s b e) in let n = c.serials in omega (arith, lt, n);
     differ = λ s t b d e f same. q.differ s t b d (was s b e) (was t d f) same;
   }
+
+  -- what is kept leads to what is kept
+  pub lead-behind : Grove new.cells new.regions → (s : ℕ) → AllLead new.cells.heap s
+  lead-behind gn = all-lead new v gn opened-behind stands-behind.temps

@@ -26,7 +26,7 @@ use Rattle.rg_view.proofs.Callers.ShownLemmas.{get-drop}
 use Rattle.rg_machine.specs.Collects.{Gathers}
 use Rattle.rg_machine.specs.High.{NoneMade}
 use Rattle.rg_machine.specs.Stands.{AllLead, Stands}
-use Rattle.rg_machine.proofs.CollectLemmas.{active, roots_in, stands-behind}
+use Rattle.rg_machine.proofs.CollectLemmas.{active, lead-behind, roots_in, stands-behind}
 use Rattle.rg_machine.proofs.GatherLemmas.{collection-gathered, collection-keeps}
 
 -- What the heap asks for
@@ -44,7 +44,7 @@ asks-leads p v st i s k to e f = st.opened.lead (mark v + i) s (sym (get-drop (m
 -- By the manager
 
 -- where nothing goes
-nothing : (p : Parts) (key : ℕ) (rec : Record) → record_at p.regions key ≡ Some rec → Collects p p key rec (λ s. ⊥)
+pub nothing : (p : Parts) (key : ℕ) (rec : Record) → record_at p.regions key ≡ Some rec → Collects p p key rec (λ s. ⊥)
 nothing p key rec e = record {
   freed = λ s l cell. absurd cell;
   lost = λ n s goes l. absurd goes.1.gone;
@@ -58,7 +58,7 @@ nothing p key rec e = record {
 }
 
 -- whatever the manager, no root goes
-by-manager : (P : Type 0) (old new : Parts) (key : ℕ) (rec : Record) (roots : Roots) (told : Option Collected) (manager : Manager)
+pub by-manager : (P : Type 0) (old new : Parts) (key : ℕ) (rec : Record) (roots : Roots) (told : Option Collected) (manager : Manager)
     → record_at old.regions key ≡ Some rec → CollectsBy manager old new key rec roots told
     → ((Cell : ℕ → Type 0) → Collects old new key rec Cell
     → ((s : ℕ) → LiesIn old.cells.heap rec.number s → Root old.cells.heap roots s → Cell s → ⊥) → P) → P
@@ -95,8 +95,8 @@ module _ (old new : Parts) (v : Stack) (at : ℕ) (q : Serials old.cells.heap) (
       (record { heap = new; frames = v; words = words; at = at; printed = printed }))
       old new a.window.region a.rec (roots_in old v a) told a.rec.manager a.known (by a.window a.is a.rec a.known)
       (λ Cell c root. record {
-        keeps = collection-keeps old new v at q g gn st once a Cell c root;
-        gathered = collection-gathered old new v at q g gn st once a Cell c root;
+        keeps = collection-keeps old new v at q g (lead-behind old new v at q g st once a Cell c root gn) st once a Cell c root;
+        gathered = collection-gathered old new v at q g (lead-behind old new v at q g st once a Cell c root gn) st once a Cell c root;
         frames = refl;
         words = refl;
         at = refl;

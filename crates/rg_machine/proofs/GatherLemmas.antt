@@ -31,18 +31,18 @@ use Rattle.rg_stack.specs.Effects.{top_region, top_window}
 use Rattle.rg_stack.specs.Needs.{field_of, owned_once, value_at}
 use Rattle.rg_heap.specs.Answers.{val_of, AllLead, obj_of}
 use Rattle.rg_heap.specs.Collects.{Collects, LostBelow}
+use Rattle.rg_heap.specs.Opened.{Opened}
 use Rattle.rg_heap.specs.Parts.{Parts}
 use Rattle.rg_view.specs.View.{body_with, has_serial, machine_of, manager_with, managers_of, number_in, number_of, object_of}
 use Rattle.rg_view.specs.View.{store_of}
-use Rattle.rg_view.proofs.Callers.ForgetLemmas.{windows-before}
+use Rattle.rg_view.proofs.Callers.ForgetLemmas.{fewer-windows}
 use Rattle.rg_view.proofs.Callers.FrameLemmas.{frames_from}
-use Rattle.rg_view.proofs.Callers.HeldLemmas.{all-lead}
 use Rattle.rg_view.proofs.Callers.LinkLemmas.{region-back, region-there, store-back, val-back, word-back}
 use Rattle.rg_view.proofs.Callers.LookLemmas.{store-at, store-gone, store-held, store-length, val-held}
 use Rattle.rg_view.proofs.Callers.ManagerLemmas.{look-number, manager-of, managers-length}
 use Rattle.rg_view.proofs.Callers.OpenLemmas.{never}
 use Rattle.rg_view.proofs.Callers.ShownLemmas.{field-in, frames-same, get-drop, get-take, held-body, object-same}
-use Rattle.rg_view.proofs.Callers.TableLemmas.{FewerNumbers, fewer-numbers}
+use Rattle.rg_view.proofs.Callers.TableLemmas.{FewerNumbers, fewer-numbers, kept-windows}
 use Rattle.rg_view.proofs.Callers.WindowLemmas.{top-window}
 use Rattle.rg_held.specs.Frees.{gone}
 use Rattle.rg_held.specs.Gather.{Gathered, Keeps, KeepsOf, LinkOut, Loses, bridge_value, first}
@@ -52,7 +52,7 @@ use Rattle.rg_machine.specs.Stands.{Stands}
 use Rattle.rg_machine.proofs.ReleaseLemmas.{order}
 use Rattle.rg_machine.proofs.CollectLemmas.{Active, roots_in}
 use Rattle.rg_machine.proofs.CollectLemmas.{bridge-root, fewer, opened-behind}
-use Rattle.rg_machine.proofs.CollectLemmas.{root-stays, same-now, serials-behind, slot-root, slot-stays, stands-behind, temp-root, was}
+use Rattle.rg_machine.proofs.CollectLemmas.{root-stays, same-now, serials-behind, slot-root, slot-stays, temp-root, was}
 
 -- Lists
 
@@ -207,7 +207,7 @@ managers-same t u n next same =
         ∙ sym (ap (option_map (λ k. manager_with k t.records)) e)
 
 module _ (old new : Parts) (v : Stack) (at : ℕ) (q : Serials old.cells.heap) (g : Grove old.cells old.regions)
-    (gn : Grove new.cells new.regions) (st : Stands old v) (once : owned_once (machine_of old v at) ≡ true) (a : Active old v)
+    (lead : (s : ℕ) → AllLead new.cells.heap s) (st : Stands old v) (once : owned_once (machine_of old v at) ≡ true) (a : Active old v)
     (Cell : ℕ → Type 0) (c : Collects old new a.window.region a.rec Cell)
     (root : (s : ℕ) → LiesIn old.cells.heap a.rec.number s → Root old.cells.heap (roots_in old v a) s → Cell s → ⊥) where
   abbrev h : Heap
@@ -242,12 +242,8 @@ module _ (old new : Parts) (v : Stack) (at : ℕ) (q : Serials old.cells.heap) (
       let same : y.0 ≡ b = same_Some y.0 b (sym (same-body s y.0 y.1) ∙ e) in
       subst (λ (b : Body). holds h₂ b.serial ≡ true) same (holds-there h₂ s y.0 y.1)
 
-  abbrev standing : Stands new v
-  standing = stands-behind old new v at q g st once a Cell c root
-
-  -- what is kept leads to what is kept
-  lead : (s : ℕ) → AllLead h₂ s
-  lead = all-lead new v gn (opened-behind old new v at q g st once a Cell c root) standing.temps
+  abbrev opened : Opened new v
+  opened = opened-behind old new v at q g st once a Cell c root
 
   stays : (s : ℕ) → LiesIn h r s → (Cell s → ⊥) → IsHeld h₂ s
   stays s lies out = root-stays old new v at q g st once a Cell c root s lies out
@@ -565,8 +561,7 @@ module _ (old new : Parts) (v : Stack) (at : ℕ) (q : Serials old.cells.heap) (
   collection-gathered = record {
     frames = frames-same h h₂ v (λ k s e. ap obj_of (slot-stays old new v at q g st once a Cell c root k s e));
     windows =
-        windows-before old new fewer-now st.numbers (serials-behind old new v at q g st once a Cell c root) gn standing.bridges v
-        (opened-behind old new v at q g st once a Cell c root);
+        kept-windows old.regions new.regions v (fewer-windows old.regions new.regions v fewer-now opened.known);
     windows_made = refl;
     at = refl;
     managers_made = managers-length new.regions ∙ c.numbers ∙ sym (managers-length old.regions);

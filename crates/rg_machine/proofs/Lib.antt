@@ -42,6 +42,10 @@ mod LeaveGivenLemmas
 mod CollectLemmas
 mod GatherLemmas
 mod CollectingLemmas
+mod ShiftLemmas
+mod SlidLemmas
+mod UnmovedLemmas
+mod SlidingLemmas
 pub mod PartLemmas
 pub mod OwnedLemmas
 mod ReachPathLemmas
@@ -52,3 +56,4 @@ mod ReachBridgeLemmas
 mod ReachRootLemmas
 mod ReachHeldLemmas
 pub mod ReachLemmas
+pub mod SlidReachLemmas

@@ -29,7 +29,7 @@ use Rattle.rg_held.specs.Part.{Differ, OwnerHeld, OwnersHeld, Part, is_of}
 use Rattle.rg_held.proofs.Callers.NeedLemmas.{needs-same}
 use Rattle.rg_held.proofs.Gather.Told.{held-as, part-as}
 use Rattle.rg_held.proofs.Gather.Whole.{gathers-fit, shows-fit}
-use Rattle.rg_machine.specs.Collects.{Gathers, OwnerOutside, holds}
+use Rattle.rg_machine.specs.Collects.{Gathers, GathersSliding, OwnerOutside, holds}
 use Rattle.rg_machine.specs.Parts.{Parts as Whole, machine_in}
 use Rattle.rg_machine.specs.Stands.{Stands}
 use Rattle.rg_machine.proofs.GatherLemmas.{holds-back, lacks-not}
@@ -75,6 +75,14 @@ pub gathers-part : (t : Tree) (code : Code) (s : State) (old new : Whole) (m : M
     → Shows t.classes code m s → Part (holds old.heap.cells.heap) [] (machine_in old) m [] → Gathers old new
     → Part (holds new.heap.cells.heap) [] (machine_in new) m []
 gathers-part t code s old new m accepted fit shows p g =
+    gathers-fit t code s (holds old.heap.cells.heap) (holds new.heap.cells.heap) (machine_in old) (machine_in new) m accepted fit shows p
+    (g.keeps (owner-outside (holds old.heap.cells.heap) [] (machine_in old) m [] p)) g.gathered
+
+-- and behind one that moves what it keeps
+pub slides-part : (t : Tree) (code : Code) (s : State) (old new : Whole) (m : Machine) → Accepted t → Fit t s
+    → Shows t.classes code m s → Part (holds old.heap.cells.heap) [] (machine_in old) m [] → GathersSliding old new
+    → Part (holds new.heap.cells.heap) [] (machine_in new) m []
+slides-part t code s old new m accepted fit shows p g =
     gathers-fit t code s (holds old.heap.cells.heap) (holds new.heap.cells.heap) (machine_in old) (machine_in new) m accepted fit shows p
     (g.keeps (owner-outside (holds old.heap.cells.heap) [] (machine_in old) m [] p)) g.gathered
 

@@ -18,7 +18,6 @@ use Rattle.rg_sound.proofs.Stores.MemberLemmas.{In}
 use Rattle.rg_code.specs.Code.{Code}
 use Rattle.rg_cells.specs.declared.cell.Body.{Body}
 use Rattle.rg_cells.specs.Table.{Heap, body_at}
-use Rattle.rg_regions.specs.Grove.{Grove}
 use Rattle.rg_regions.specs.Reach.{LiesIn}
 use Rattle.rg_regions.specs.Reach.{Stands as Root}
 use Rattle.rg_frames.specs.Stack.{Stack}
@@ -28,7 +27,7 @@ use Rattle.rg_stack.specs.Needs.{field_of, owned_once}
 use Rattle.rg_stack.specs.Needs.{value_at as shown_at}
 use Rattle.rg_stack.specs.Shows.{sizes_of}
 use Rattle.rg_trace.specs.Collected.{OutOfReach}
-use Rattle.rg_heap.specs.Answers.{val_of}
+use Rattle.rg_heap.specs.Answers.{AllLead, val_of}
 use Rattle.rg_heap.specs.Collects.{Collects}
 use Rattle.rg_heap.specs.Parts.{Parts}
 use Rattle.rg_view.specs.View.{frames_of, machine_of, store_of, window_of, windows_of}
@@ -91,7 +90,7 @@ field-back store frames b k x e = by (slice_get store b) refl e
     by (Some o) f e = (o, f, e)
 
 module _ (old new : Parts) (v : Stack) (at : ℕ) (t : Tree) (code : Code) (s : State) (m : Machine) (z : Beside old v at t code s m)
-    (gn : Grove new.cells new.regions) (a : Active old v)
+    (lead : (s : ℕ) → AllLead new.cells.heap s) (a : Active old v)
     (c : Collects old new a.window.region a.rec (OutOfReach old.cells.heap a.rec.number (roots_in old v a))) where
   abbrev h : Heap
   h = old.cells.heap
@@ -118,7 +117,7 @@ module _ (old new : Parts) (v : Stack) (at : ℕ) (t : Tree) (code : Code) (s : 
   no-root x lies stands cell = cell (0, omega arith, (lies, stands))
 
   keeps : Keeps (holds h) (holds h₂) f
-  keeps = collection-keeps old new v at z.serials z.grove gn z.stands once a Cell c no-root (owner-outside (holds h) [] f m [] z.part)
+  keeps = collection-keeps old new v at z.serials z.grove lead z.stands once a Cell c no-root (owner-outside (holds h) [] f m [] z.part)
 
   pub body-was : (x : ℕ) (b : Body) → body_at h₂ x ≡ Some b → body_at h x ≡ Some b
   body-was x b e = was old new v at z.serials z.grove z.stands once a Cell c no-root x b e

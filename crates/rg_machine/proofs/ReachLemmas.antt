@@ -27,6 +27,7 @@ use Rattle.rg_stack.specs.Machine.{Machine}
 use Rattle.rg_stack.specs.Shows.{Shows}
 use Rattle.rg_trace.specs.Collected.{OutOfReach}
 use Rattle.rg_heap.specs.declared.answers.Collected.{Collected}
+use Rattle.rg_heap.specs.Answers.{AllLead}
 use Rattle.rg_heap.specs.Collects.{Collects, CollectsBy}
 use Rattle.rg_heap.specs.Ends.{top_temps}
 use Rattle.rg_heap.specs.Opened.{IsWindow}
@@ -38,8 +39,9 @@ use Rattle.rg_held.specs.Part.{Part}
 use Rattle.rg_machine.specs.Collects.{holds}
 use Rattle.rg_machine.specs.Parts.{Parts as Whole, machine_in}
 use Rattle.rg_machine.specs.Stands.{Stands}
-use Rattle.rg_machine.proofs.CollectLemmas.{Active, active, roots_in}
+use Rattle.rg_machine.proofs.CollectLemmas.{Active, active, lead-behind, roots_in}
 use Rattle.rg_machine.proofs.GatherLemmas.{holds-back}
+use Rattle.rg_machine.proofs.PartLemmas.{once-held}
 use Rattle.rg_machine.proofs.ReachCountLemmas.{distinct-map, mapped-back, mapped-in, serial_in}
 use Rattle.rg_machine.proofs.ReachHeldLemmas.{body-was, reach-kept}
 use Rattle.rg_machine.proofs.ReachPathLemmas.{distinct-reach, no-longer}
@@ -47,7 +49,7 @@ use Rattle.rg_machine.proofs.ReachRootLemmas.{reach-in}
 use Rattle.rg_machine.proofs.ReachShownLemmas.{Beside, label-of, label-there, lies-there}
 
 module _ (old new : Parts) (v : Stack) (at : ℕ) (t : Tree) (code : Code) (s : State) (m : Machine) (z : Beside old v at t code s m)
-    (gn : Grove new.cells new.regions) (a : Active old v)
+    (lead : (s : ℕ) → AllLead new.cells.heap s) (a : Active old v)
     (c : Collects old new a.window.region a.rec (OutOfReach old.cells.heap a.rec.number (roots_in old v a))) where
   abbrev h : Heap
   h = old.cells.heap
@@ -64,7 +66,7 @@ module _ (old new : Parts) (v : Stack) (at : ℕ) (t : Tree) (code : Code) (s : 
       (z.grove.numbers w.region a.window.region r has (ap (option_map (λ (r : Record). r.number)) a.known))
 
   was : (x : ℕ) (b : Body) → body_at h₂ x ≡ Some b → body_at h x ≡ Some b
-  was x b e = body-was old new v at t code s m z gn a c x b e
+  was x b e = body-was old new v at t code s m z lead a c x b e
 
   -- a cell that is still held in the region has its serial among what is reached
   kept-in : (x : ℕ) (b : Body) → body_at h₂ x ≡ Some b → LiesIn h₂ r x → In b.serial (plain_reach s)
@@ -103,7 +105,7 @@ module _ (old new : Parts) (v : Stack) (at : ℕ) (t : Tree) (code : Code) (s : 
 
     in-members : (n : ℕ) → In n (plain_reach s) → In n (map serial_at members)
     in-members n i =
-        let k = reach-kept old new v at t code s m z gn a c n i in
+        let k = reach-kept old new v at t code s m z lead a c n i in
         let x = holds-back h₂ n k.0 in
         let before = was x.0 x.1 x.2 in
         let lies : LiesIn h r x.0 = lies-there old v at t code s m z r x.0 x.1 before (ap (region_at s.store) x.3 ∙ k.1) in
@@ -111,7 +113,7 @@ module _ (old new : Parts) (v : Stack) (at : ℕ) (t : Tree) (code : Code) (s : 
         let place = all.all x.0 now in
         subst (λ k. In k (map serial_at members)) (ap serial_in x.2 ∙ x.3) (mapped-in serial_at members place.0 x.0 place.1)
 
-    as-many : length members ≡ length (plain_reach s)
+    pub as-many : length members ≡ length (plain_reach s)
     as-many =
         let one = no-longer (map serial_at members) (plain_reach s)
         (distinct-map serial_at members (λ i j x y e f same.
@@ -124,8 +126,9 @@ module _ (old new : Parts) (v : Stack) (at : ℕ) (t : Tree) (code : Code) (s : 
         let count = length-map members serial_at in
         omega (arith, one, two, count)
 
-  pub members-reached : (now : Record) → record_at new.regions a.window.region ≡ Some now → length now.members ≡ length (plain_reach s)
-  members-reached now e =
+  pub members-reached : Grove new.cells new.regions → (now : Record) → record_at new.regions a.window.region ≡ Some now
+      → length now.members ≡ length (plain_reach s)
+  members-reached gn now e =
       let same : c.own.0 ≡ now = same_Some c.own.0 now (sym c.own.1 ∙ e) in
       let number : now.number ≡ r = ap (λ (x : Record). x.number) (sym same) ∙ c.own.2 in
       as-many now.members (subst (λ n. Members h₂ n now.members) number (gn.members a.window.region now e))
@@ -155,8 +158,12 @@ kept-reached t code s mid new m w rec told fit shows part serials g gn st top kn
     } in
     let same : told ≡ by.0 = same_Some told by.0 by.1 in
     let now = by.3.own in
+    let once = once-held t code s (holds mid.heap.cells.heap) (machine_in mid) m fit shows part in
+    let Cell : ℕ → Type 0 = OutOfReach mid.heap.cells.heap rec.number (roots_in mid.heap mid.frames a) in
+    let lead = lead-behind mid.heap new.heap mid.frames mid.at serials g st once a Cell by.3
+    (λ x lies stands cell. cell (0, omega arith, (lies, stands))) gn in
     ap (λ (x : Collected). x.kept) same ∙ by.2.kept now.0 now.1
-    ∙ members-reached mid.heap new.heap mid.frames mid.at t code s m z gn a by.3 now.0 now.1
+    ∙ members-reached mid.heap new.heap mid.frames mid.at t code s m z lead a by.3 gn now.0 now.1
 
 -- the same of what is told of a collection by the region's own manager, where that is told to be mark and sweep
 pub kept-traced : (t : Tree) (code : Code) (s : State) (mid new : Whole) (m : Machine) (told : Collected)

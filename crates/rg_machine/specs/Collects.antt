@@ -28,3 +28,13 @@ pub record Gathers (old new : Parts) : Type 0 where
   pub words : new.words ≡ old.words
   pub at : new.at ≡ old.at
   pub printed : new.printed ≡ old.printed
+
+-- The same of a collection that moves what it keeps: the slots of the topmost window may lead elsewhere, and show what they showed.
+pub record GathersSliding (old new : Parts) : Type 0 where
+  pub keeps : OwnerOutside (machine_in old) (machine_in old).windows
+      → Keeps (holds old.heap.cells.heap) (holds new.heap.cells.heap) (machine_in old)
+  pub gathered : Gathered (holds old.heap.cells.heap) (holds new.heap.cells.heap) (machine_in old) (machine_in new) (machine_in old)
+  pub frames : new.frames ≡ record old.frames { slots = new.frames.slots }
+  pub words : new.words ≡ old.words
+  pub at : new.at ≡ old.at
+  pub printed : new.printed ≡ old.printed

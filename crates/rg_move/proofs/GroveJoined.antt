@@ -27,9 +27,6 @@ use Rattle.rg_move.proofs.FieldsCounted.{belongs_there}
 region_is : (a b : ℕ) → Region a ≡ Region b → a ≡ b
 region_is a b q = cc
 
-some_is : (a b : ℕ) → Some a ≡ Some b → a ≡ b
-some_is a b q = cc
-
 pub counts_or_not : (m : Manager) → (m ≡ Count) ⊎ (m ≡ Count → ⊥)
 counts_or_not Arena = inr (λ e. cc)
 counts_or_not Count = inl refl

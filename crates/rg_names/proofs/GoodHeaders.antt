@@ -1,6 +1,7 @@
 -- Headers have no fault exactly where they are good. For callers.
 use Rattle.std.proofs.Common.{◌≡◌, not, List, [], ◌∷◌, All, map, IfSome, Option, None, Some, ok_or, Ok, refl}
 use Rattle.std.proofs.lemmas.List.Elements.{All-nil, All-cons, All-head, All-tail}
+use Rattle.std.proofs.lemmas.Bool.{not-true}
 use Rattle.rg_base.specs.declared.ty.Ty.{Ty}
 use Rattle.rg_base.specs.declared.fault.Code.TheVariants.{Unknown, Duplicate, BadType}
 use Rattle.rg_tree.specs.Tree.{Name, Ty as Written, int, bool, ref, Param, Field, Method, Member, field, method, Class}
@@ -9,7 +10,7 @@ use Rattle.rg_rules.specs.Types.{class_named, suits_class, good_type, type_of}
 use Rattle.rg_rules.specs.Headers.{among, suits_field_type, suits_receiver, field_header, param_headers, result_header, method_header, member_headers}
 use Rattle.rg_rules.specs.Headers.{class_names, class_members, judge_headers}
 use Rattle.rg_rules.proofs.AnswersLemmas.{bind-ok, then-ok, test-ok, test-then, ok_or-ok, at_line-ok}
-use Rattle.rg_rules.proofs.HeaderLemmas.{not-true, member_headers-parts}
+use Rattle.rg_rules.proofs.HeaderLemmas.{member_headers-parts}
 use Rattle.rg_names.specs.Laws.{IsGoodType, IsGoodField, IsGoodMethod, IsGoodMember, IsGoodClass, GoodHeaders, member_name}
 use Rattle.rg_names.proofs.NewNames.{AreNew, AreNew-AreDistinct, AreDistinct-AreNew}
 

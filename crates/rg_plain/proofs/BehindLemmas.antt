@@ -30,6 +30,7 @@ use Rattle.rg_rules.specs.Steps.{step_leave, step_item, step_first, Went, next}
 use Rattle.rg_rules.proofs.AnswersLemmas.{bind-ok, then-ok}
 use Rattle.rg_rules.proofs.StepLemmas.{computed-ok, stepped-went}
 use Rattle.rg_sound.proofs.Owners.EntranceLemmas.{items_of-append}
+use Rattle.rg_sound.proofs.Frames.QuietLemmas.{went_is}
 use Rattle.rg_plain.specs.Inner.Steps.{StepIs}
 use Rattle.rg_plain.specs.Outcomes.{Settles, PrintsOrStays, EndsMain, settled_outcome, prints, item_prints}
 
@@ -266,9 +267,6 @@ step_kind-behind classes s u line (print e) h = ([], step_kind-print classes s u
 step_kind-behind classes s u line collect h = behind s u (step_kind-goes classes s u line collect refl h)
 step_kind-behind classes s u line (return e) h = behind s u (step_kind-goes classes s u line (return e) refl h)
 
-went-is : (a b : State) → Went a ≡ Went b → a ≡ b
-went-is a b h = cc
-
 leave-keeps : (k : ℕ) (s : State) (ws : List Window) → ((step_leave k s ws).items ≡ s.items) × ((step_leave k s ws).output ≡ s.output)
 leave-keeps k s [] = (refl, refl)
 leave-keeps k s (w ∷ []) = (refl, refl)
@@ -278,9 +276,9 @@ leave-keeps k s (w ∷ v ∷ ws) = (refl, refl)
 step_item-output : (classes : List Class) (s u : State) (i : Item) → item_prints i ≡ false → step_item classes s i ≡ Went u → u.output ≡ s.output
 step_item-output classes s u (Do (stmt line k)) q h = (step_kind-goes classes s u line k q (stepped-went line (step_kind classes s line k) u
     h)).output
-step_item-output classes s u (EndAt k) q h = ap (λ a. a.output) (sym (went-is _ _ h))
-step_item-output classes s u (LeaveAt k) q h = ap (λ a. a.output) (sym (went-is _ _ h)) ∙ (leave-keeps k s s.windows).1
-step_item-output classes s u Back q h = ap (λ a. a.output) (sym (went-is _ _ h))
+step_item-output classes s u (EndAt k) q h = ap (λ a. a.output) (sym (went_is _ _ h))
+step_item-output classes s u (LeaveAt k) q h = ap (λ a. a.output) (sym (went_is _ _ h)) ∙ (leave-keeps k s s.windows).1
+step_item-output classes s u Back q h = ap (λ a. a.output) (sym (went_is _ _ h))
 
 append-some : (front rest : List Item) (j : Item) → front ++ j ∷ rest ≢ []
 append-some [] rest j e = cc
@@ -313,10 +311,10 @@ step_item-ends : (classes : List Class) (s u : State) (i : Item) (rest : List It
 step_item-ends classes s u (Do (stmt line k)) rest e ends h =
     let b = step_kind-behind classes s u line k (stepped-went line (step_kind classes s line k) u h) in
     (left-behind u rest (stmt line k) ends (b.0, b.1 ∙ ap (λ q. b.0 ++ q) e)).1
-step_item-ends classes s u (EndAt k) rest e ends h = ends-same u (EndAt k) rest ends (ap (λ a. a.items) (sym (went-is _ _ h)) ∙ e)
+step_item-ends classes s u (EndAt k) rest e ends h = ends-same u (EndAt k) rest ends (ap (λ a. a.items) (sym (went_is _ _ h)) ∙ e)
 step_item-ends classes s u (LeaveAt k) rest e ends h =
-    ends-same u (LeaveAt k) rest ends (ap (λ a. a.items) (sym (went-is _ _ h)) ∙ (leave-keeps k s s.windows).0 ∙ e)
-step_item-ends classes s u Back rest e ends h = ends-same u Back rest ends (ap (λ a. a.items) (sym (went-is _ _ h)) ∙ e)
+    ends-same u (LeaveAt k) rest ends (ap (λ a. a.items) (sym (went_is _ _ h)) ∙ (leave-keeps k s s.windows).0 ∙ e)
+step_item-ends classes s u Back rest e ends h = ends-same u Back rest ends (ap (λ a. a.items) (sym (went_is _ _ h)) ∙ e)
 
 no-longer : (xs : List Val) (v : Val) → xs ≡ xs ++ v ∷ [] → ⊥
 no-longer xs v e = omega (arith, ap length e, length-append xs (v ∷ []))

@@ -1,6 +1,7 @@
 -- Where one region is emptied, the forest is kept (docs/architecture.md, "Release").
 use Rattle.std.proofs.Common.{◌≡◌, ◌≢◌, ℕ, Some, None, ap, sym, ◌∙◌, subst, ◌⊎◌, inl, inr, option_map, refl}
 use Rattle.std.proofs.lemmas.Bool.{cases_eq}
+use Rattle.std.proofs.lemmas.Option.{same_Some}
 use Rattle.rg_base.specs.declared.object.Label.TheVariants.{Region, Frozen}
 use Rattle.rg_base.specs.declared.value.Word.{Word}
 use Rattle.rg_base.specs.declared.value.Word.TheVariants.{Slot}
@@ -12,9 +13,6 @@ use Rattle.rg_regions.specs.Grove.{Grove}
 use Rattle.rg_regions.proofs.Callers.Told.{one_record, one_region, lies_or_not, number_of}
 use Rattle.rg_regions.proofs.Callers.Fewer.{label_before, field_before, above_before, referrers_kept}
 use Rattle.rg_release.specs.Inner.Turns.{Emptied}
-
-number_is : (a b : ℕ) → Some a ≡ Some b → a ≡ b
-number_is a b q = cc
 
 module _ (c : Table) (t : RegionTable) (key : ℕ) (rec : Record) (cells : Table) (regions : RegionTable) (w : Emptied c t key rec cells regions)
   where
@@ -82,7 +80,7 @@ module _ (c : Table) (t : RegionTable) (key : ℕ) (rec : Record) (cells : Table
           bridges = λ k s z a b. let o = had_record k z a in lies_on z.number s (apart k z o.0 o.1) (g.bridges k s z o.1 b);
           labels = λ q s l.
               let a = g.labels q s (lie q s l) in
-              let d : a.0 ≢ key = λ p. let P : ℕ → Type 0 = λ y. HasNumber t y q in not q s l (number_is q r (sym (subst P p a.1) ∙ number_r)) in
+              let d : a.0 ≢ key = λ p. let P : ℕ → Type 0 = λ y. HasNumber t y q in not q s l (same_Some q r (sym (subst P p a.1) ∙ number_r)) in
               (a.0, keeps_number a.0 q d a.1);
           frozen = λ s k to l f. ice to (g.frozen s k to (label_before c.heap cells.heap s Frozen (fewer s) l) (fld s k (Slot to) f));
           fields = λ p s k to l f.
@@ -96,7 +94,7 @@ module _ (c : Table) (t : RegionTable) (key : ℕ) (rec : Record) (cells : Table
                       let d : x.0 ≢ r = λ q. let X : ℕ → Type 0 = λ n. LiesIn c.heap n to in alone p s k to (not p s l) a b (subst X q x.2) in
                       let v = x.3 in
                       let P : ℕ → Type 0 = λ y. HasNumber t y x.0 in
-                      let n : v.0 ≢ key = λ q. d (number_is x.0 r (sym (subst P q (number_of t v.0 x.0 v.1 v.2 v.3)) ∙ number_r)) in
+                      let n : v.0 ≢ key = λ q. d (same_Some x.0 r (sym (subst P q (number_of t v.0 x.0 v.1 v.2 v.3)) ∙ number_r)) in
                       inr (inr (x.0, x.1, lies_on x.0 to d x.2, (v.0, v.1, w.stay v.0 n ∙ v.2, v.3, v.4)))
                 ]
               ];

@@ -1,6 +1,7 @@
 -- What headers without a fault say of classes, fields and methods. For callers.
 use Rattle.std.proofs.Common.{◌≡◌, refl, ℕ, zero, suc, ◌<◌, length, Bool, true, false, if◌then◌else◌, bytes_eq, ◌∙◌, sym, List, [], ◌∷◌, Option, Some}
 use Rattle.std.proofs.Common.{None, slice_get, ok_or, not, find, filter_map, ◌⊎◌, inl, inr, Result, Ok, Err, arith}
+use Rattle.std.proofs.lemmas.Bool.{not-true}
 use Rattle.rg_base.specs.declared.words.Cap.{Cap}
 use Rattle.rg_base.specs.declared.ty.Ty.{Ty}
 use Rattle.rg_base.specs.declared.fault.Code.TheVariants.{Unknown, Duplicate, BadType}
@@ -60,10 +61,6 @@ pub record HeadersParts (classes : List Class) (c : Class) (earlier : List Name)
   pub is_new : among (member_name m) earlier ≡ false
   pub first : member_headers classes c earlier (m ∷ []) ≡ Ok tt
   pub others : member_headers classes c (member_name m ∷ earlier) ms ≡ Ok tt
-
-pub not-true : (b : Bool) → not b ≡ true → b ≡ false
-not-true true h = grind arith
-not-true false h = refl
 
 first-new : (classes : List Class) (c : Class) (earlier : List Name) (m : Member) →
     member_headers classes c earlier (m ∷ []) ≡ Ok tt → among (member_name m) earlier ≡ false

@@ -19,7 +19,7 @@ abbrev pub Based : List Frame → Window → Type 0
 Based [] w = ⊥
 Based (f ∷ fs) w = ((w.base_frame ≡ length fs) × (w.base_place ≤ length f.locals)) ⊎ Based fs w
 
-entered_first : (n : ℕ) (ls : List Local) (ps : List Path) (w : Window) (own : List Window) → Entered n ls ps (w ∷ own) → w.base_frame ≡ n
+pub entered_first : (n : ℕ) (ls : List Local) (ps : List Path) (w : Window) (own : List Window) → Entered n ls ps (w ∷ own) → w.base_frame ≡ n
 entered_first n ls [] w own h = absurd h
 entered_first n ls (p ∷ ps) w own h = h.0
 

@@ -23,7 +23,7 @@ is_frozen (Region r) = false
 is_frozen (Temp n) = false
 is_frozen Frozen = true
 
-top-live : (ws : List Window) (l : Label) → IsTop ws l → l ≡ Frozen → ⊥
+pub top-live : (ws : List Window) (l : Label) → IsTop ws l → l ≡ Frozen → ⊥
 top-live [] l h e = absurd h
 top-live (w ∷ ws) l (inl h) e = absurd (true≢false (sym (ap is_frozen e) ∙ ap is_frozen h))
 top-live (w ∷ ws) l (inr h) e = absurd (true≢false (sym (ap is_frozen e) ∙ ap is_frozen h))

@@ -3,7 +3,7 @@
 use Rattle.std.proofs.Common.{◌≡◌, ◌≢◌, ℕ, ◌<◌, List, length, Option, Some, None, get_or, refl, ap, sym, ◌∙◌, subst}
 use Rattle.std.proofs.Common.{arith, ◌⊎◌, inl, inr, option_map}
 use Rattle.std.proofs.lemmas.Bool.{cases_eq, cases_lt}
-use Rattle.std.proofs.lemmas.Option.{slice_get_within, slice_get-get_or}
+use Rattle.std.proofs.lemmas.Option.{slice_get_within, slice_get-get_or, same_Some}
 use Rattle.rg_base.specs.declared.object.Label.TheVariants.{Region}
 use Rattle.rg_base.specs.declared.words.Manager.TheVariants.{Count, Trace}
 use Rattle.rg_cells.specs.declared.cell.Body.{Body}
@@ -79,9 +79,6 @@ pub not-grey : (h : Heap) (r : ℕ) (roots : Roots) (old new : Table) → Marked
     → mark_at new s ≢ 1
 not-grey h r roots old new m s l e = let q = m.reached s (m.only s l (omega (arith, e))) in omega (arith, q, e)
 
-some_number : (a b : ℕ) → Some a ≡ Some b → a ≡ b
-some_number a b q = cc
-
 -- the parts together
 pub collected : (c d : Table) (t u : RegionTable) (key : ℕ) (rec : Record) (roots : Roots) (cells : Table)
     (regions : RegionTable) → record_at t key
@@ -117,7 +114,7 @@ collected c d t u key rec roots cells regions e m a b w =
           s.3,
           s.4,
           record {
-            lie = λ j x q. let e = some_number (get_or s.0.members j 0) x
+            lie = λ j x q. let e = same_Some (get_or s.0.members j 0) x
                 (sym (slice_get-get_or s.0.members j 0 (slice_get_within s.0.members j x q)) ∙ q) in let L : ℕ
                 → Type 0 = λ y. LiesIn cells.heap rec.number y in
                 subst L e (s.5.lie j (slice_get_within s.0.members j x q));
@@ -125,7 +122,7 @@ collected c d t u key rec roots cells regions e m a b w =
             once = λ i j x p q.
                 let a = slice_get_within s.0.members i x p in
                 let b = slice_get_within s.0.members j x q in
-                let z : get_or s.0.members i 0 ≡ get_or s.0.members j 0 = some_number (get_or s.0.members i 0)
+                let z : get_or s.0.members i 0 ≡ get_or s.0.members j 0 = same_Some (get_or s.0.members i 0)
                 (get_or s.0.members j 0)
                 (sym (slice_get-get_or s.0.members i 0 a) ∙ p ∙ sym q ∙ slice_get-get_or s.0.members j 0 b) in
                 elim (cases_lt i j) [

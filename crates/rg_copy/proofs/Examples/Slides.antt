@@ -1,6 +1,7 @@
 -- A collection that moves cells, on a small heap, and one that the definition refuses.
 use Rattle.std.proofs.Common.{◌≡◌, ◌≢◌, ℕ, ◌<◌, zero, suc, List, [], ◌∷◌, Option, Some, None, refl, ap, sym, ◌∙◌, subst}
 use Rattle.std.proofs.Common.{arith, ◌⊎◌, inl, inr, slice_get}
+use Rattle.std.proofs.lemmas.Option.{same_Some}
 use Rattle.rg_base.specs.declared.object.Label.TheVariants.{Region}
 use Rattle.rg_base.specs.declared.words.Manager.TheVariants.{Trace}
 use Rattle.rg_base.specs.declared.value.Word.{Word}
@@ -104,12 +105,6 @@ abbrev IsCell : ℕ → Body → Type 0
 IsCell x b = (d : Body) × (body_at behind.heap (place x) ≡ Some d)
     × CellBecomes before.heap 0 (top_roots all (stack (Slot 3 ∷ []))) place b d
 
-same_body : (a b : Body) → Some a ≡ Some b → a ≡ b
-same_body a b q = cc
-
-same_word : (a b : Word) → Some a ≡ Some b → a ≡ b
-same_word a b q = cc
-
 -- a word that leads to a cell that is kept
 leads : (x : ℕ) → IsReached x → Becomes before.heap 0 (top_roots all (stack (Slot 3 ∷ []))) place (Slot x) (Slot (place x))
 leads x n = record {
@@ -128,7 +123,7 @@ one_word x n = record { as_many = refl; each = by_place }
         let P : Word → Type 0 =
         λ w. Becomes before.heap 0 (top_roots all (stack (Slot 3 ∷ []))) place w (Slot (place x)) in
         let Q : Word → Type 0 = λ w. Becomes before.heap 0 (top_roots all (stack (Slot 3 ∷ []))) place old w in
-        subst Q (same_word (Slot (place x)) new b) (subst P (same_word (Slot x) old a) (leads x n))
+        subst Q (same_Some (Slot (place x)) new b) (subst P (same_Some (Slot x) old a) (leads x n))
     by_place (suc k) old new a b = cc
 
 no_word : AllBecome before.heap 0 (top_roots all (stack (Slot 3 ∷ []))) place [] []
@@ -139,7 +134,7 @@ cell_of x b n is = elim (reached x n) [
   | inl e ↦
       let P : ℕ → Type 0 = λ y. IsCell y b in
       let B : Body → Type 0 = λ y. IsCell 1 y in
-      let q : body 1 [] ≡ b = same_body (body 1 []) b (ap (body_at before.heap) (sym e) ∙ is) in
+      let q : body 1 [] ≡ b = same_Some (body 1 []) b (ap (body_at before.heap) (sym e) ∙ is) in
       subst P (sym e) (subst B q (
         body 1 [],
         refl,
@@ -149,7 +144,7 @@ cell_of x b n is = elim (reached x n) [
       let P : ℕ → Type 0 = λ y. IsCell y b in
       let B : Body → Type 0 = λ y. IsCell 3 y in
       let q : body 3 (Slot 1 ∷ []) ≡ b =
-      same_body (body 3 (Slot 1 ∷ [])) b (ap (body_at before.heap) (sym e) ∙ is) in
+      same_Some (body 3 (Slot 1 ∷ [])) b (ap (body_at before.heap) (sym e) ∙ is) in
       subst P (sym e) (subst B q (
         body 3 (Slot 0 ∷ []),
         refl,

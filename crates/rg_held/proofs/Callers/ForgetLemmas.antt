@@ -1,11 +1,13 @@
 -- The managers of regions that don't live any more are forgotten, and the two machines still match: they agree on those of regions that are
 -- open, or of which an object is held, and these live.
-use Rattle.std.proofs.Common.{◌≡◌, ◌<◌, ℕ, zero, suc, ◌+◌, true, false, if◌then◌else◌, Bool as Truth, List, [], ◌∷◌, length, map, Some, option_map}
+use Rattle.std.proofs.Common.{◌≡◌, ◌<◌, ℕ, zero, suc, ◌+◌, true, false, if◌then◌else◌, Bool as Truth, List, length, map, Some, option_map}
 use Rattle.std.proofs.Common.{refl, sym, ap, ◌∙◌, arith, slice_get, slice_index_or}
 use Rattle.std.specs.Prelude.{◌||◌}
 use Rattle.std.specs.List.{list_any, range_with_len}
 use Rattle.std.proofs.lemmas.List.FromFn.{length-map-range_with_len}
-use Rattle.std.proofs.lemmas.Option.{slice_get-map}
+use Rattle.std.proofs.lemmas.Option.{slice_get-map, slice_get-get_or}
+use Rattle.std.proofs.lemmas.Bool.{eq-eqb}
+use Rattle.std.proofs.lemmas.Map.Keys.{any_passes_from_place}
 use Rattle.rg_base.specs.declared.object.Label.TheVariants.{Region}
 use Rattle.rg_base.specs.declared.object.Seen.{Seen}
 use Rattle.rg_base.specs.declared.value.Val.{Val}
@@ -17,22 +19,15 @@ use Rattle.rg_stack.specs.Needs.{is_open, lies_in}
 use Rattle.rg_held.specs.Frees.{lives, forgotten}
 use Rattle.rg_held.specs.Part.{Part}
 use Rattle.rg_held.specs.Ends.{Match}
-use Rattle.rg_held.proofs.Lists.{at-any}
-use Rattle.rg_held.proofs.Places.{number-same}
 
 -- elements of lists that are made of their places
 
-index-is : {A : Type 0} (xs : List A) (k : ℕ) (d : A) → k < length xs → slice_get xs k ≡ Some (slice_index_or xs k d)
-index-is [] k d h = absurd (omega (arith, h))
-index-is (x ∷ xs) zero d h = refl
-index-is (x ∷ xs) (suc k) d h = let less : k < length xs = omega (arith, h) in index-is xs k d less
-
-numbers-at : (a n k j : ℕ) → k < n → a + k ≡ j → slice_get (range_with_len a n) k ≡ Some j
+pub numbers-at : (a n k j : ℕ) → k < n → a + k ≡ j → slice_get (range_with_len a n) k ≡ Some j
 numbers-at a zero k j less e = absurd (omega (arith, less))
 numbers-at a (suc n) zero j less e = let same : a ≡ j = omega (arith, e) in ap Some same
 numbers-at a (suc n) (suc k) j less e = numbers-at (a + 1) n k j (omega (arith, less)) (omega (arith, e))
 
-made-at : {A : Type 0} (f : ℕ → A) (n k : ℕ) → k < n → slice_get (map f (range_with_len 0 n)) k ≡ Some (f k)
+pub made-at : {A : Type 0} (f : ℕ → A) (n k : ℕ) → k < n → slice_get (map f (range_with_len 0 n)) k ≡ Some (f k)
 made-at f n k less = slice_get-map f (range_with_len 0 n) k ∙ ap (option_map f) (numbers-at 0 n k k less (omega arith))
 
 module _ (x : Machine) where
@@ -46,7 +41,7 @@ module _ (x : Machine) where
   -- what lives has the same one
   pub same-manager : (r : ℕ) → r < length x.managers → lives x r ≡ true → slice_get remembered r ≡ slice_get x.managers r
   same-manager r less e = made-at (λ r. if lives x r then slice_index_or x.managers r Arena else Arena) (length x.managers) r less
-      ∙ ap (λ b. Some (if b then slice_index_or x.managers r Arena else Arena)) e ∙ sym (index-is x.managers r Arena less)
+      ∙ ap (λ b. Some (if b then slice_index_or x.managers r Arena else Arena)) e ∙ sym (slice_get-get_or x.managers r Arena less)
 
   -- an open region lives, and one in which an object lies
   pub open-lives : (r : ℕ) → is_open x.windows r ≡ true → lives x r ≡ true
@@ -54,7 +49,7 @@ module _ (x : Machine) where
 
   pub object-lives : (a : ℕ) (o : Seen) (r : ℕ) → slice_get x.store a ≡ Some o → o.label ≡ Region r → lives x r ≡ true
   object-lives a o r there lies = by (is_open x.windows r)
-      (at-any (λ (o : Seen). lies_in r o.label) x.store a o there (ap (lies_in r) lies ∙ number-same r r refl))
+      (any_passes_from_place (λ (o : Seen). lies_in r o.label) x.store a o there (ap (lies_in r) lies ∙ eq-eqb r r refl))
     where
       by : (b : Truth) → list_any (λ (o : Seen). lies_in r o.label) x.store ≡ true
           → (b || list_any (λ (o : Seen). lies_in r o.label) x.store) ≡ true

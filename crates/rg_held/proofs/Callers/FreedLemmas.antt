@@ -2,6 +2,7 @@
 use Rattle.std.proofs.Common.{◌≡◌, ◌≢◌, ℕ, ◌+◌, ◌⊎◌, inl, inr, true, false, Bool as Truth, List, [], ◌∷◌, drop, length, Option, Some, None}
 use Rattle.std.proofs.Common.{refl, sym, ap, subst, ◌∙◌, option_map, slice_get}
 use Rattle.std.proofs.lemmas.Option.{same_Some}
+use Rattle.std.proofs.lemmas.Bool.{cases_Bool}
 use Rattle.std.specs.Prelude.{◌-◌, ◌^◌}
 use Rattle.rg_base.specs.declared.object.Label.{Label}
 use Rattle.rg_base.specs.declared.object.Label.TheVariants.{Region, Temp, Frozen}
@@ -40,7 +41,6 @@ use Rattle.rg_held.proofs.Freed.Windows.{Numbered, numbered}
 use Rattle.rg_held.proofs.Freed.Fates.{IsGiven, Since, Stay, Move, Go}
 use Rattle.rg_held.proofs.Freed.Shut.{shut, shut-passes}
 use Rattle.rg_held.proofs.Freed.Walks.{Now, Ending, on-walk}
-use Rattle.rg_held.proofs.Places.{either}
 use Rattle.rg_held.proofs.Tested.{tested_walk, tested-less}
 use Rattle.rg_held.proofs.Walking.{drop-next, walks-same, tested-walks-same}
 
@@ -51,7 +51,7 @@ module _ (m grown : Machine) (held : ℕ → Truth) (part : Part held [] m grown
 
   -- an object that isn't gone is held
   live-held : (a : ℕ) (o : Seen) → slice_get m.store a ≡ Some o → o ≢ gone → held a ≡ true
-  live-held a o there live = elim (either (held a)) [
+  live-held a o there live = elim (cases_Bool (held a)) [
     | inl h ↦ h
     | inr h ↦ absurd (live (lost o (slice_get grown.store a) (sym there ∙ part.others a h)))
   ]

@@ -1,12 +1,14 @@
 -- What an instruction needs over the growing store it has over the store in which some objects are gone: what it looks at is held, and of what
 -- is gone no field leads anywhere.
-use Rattle.std.proofs.Common.{◌≡◌, ℕ, zero, suc, ◌==◌, ◌≤◌, inl, inr, true, false, not, Bool as Truth, List, [], ◌∷◌, length, reverse}
+use Rattle.std.proofs.Common.{◌≡◌, ℕ, suc, ◌==◌, ◌≤◌, inl, inr, true, false, not, Bool as Truth, List, [], ◌∷◌, length, reverse}
 use Rattle.std.proofs.Common.{Option, Some, None, Result, Ok, Err, option_and_then, option_map, unwrap_or, refl, sym, ap, subst, ◌∙◌, arith}
 use Rattle.std.proofs.Common.{slice_get}
 use Rattle.std.specs.Prelude.{sum_by, count_by, cond, nat_le, nat_lt, is_some, ok_or, ◌&&◌, ◌||◌}
 use Rattle.std.specs.List.{list_any}
 use Rattle.std.proofs.lemmas.List.Sums.{sum_by-cons}
 use Rattle.std.proofs.lemmas.Option.{same_Some}
+use Rattle.std.proofs.lemmas.Bool.{eq-eqb, eqb-true, cases_Bool}
+use Rattle.std.proofs.lemmas.Map.Keys.{any_passes_from_place}
 use Rattle.rg_base.specs.declared.object.Label.{Label}
 use Rattle.rg_base.specs.declared.object.Label.TheVariants.{Region, Temp, Frozen}
 use Rattle.rg_base.specs.declared.object.Place.{Place}
@@ -29,11 +31,11 @@ use Rattle.rg_stack.specs.Needs.{places_into, all_below, owned_once, loose, owns
 use Rattle.rg_stack.specs.Needs.{top_base, is_open_label, may_keep}
 use Rattle.rg_stack.specs.Needs.{may_stand, field_of, of_object, is_field, value_at, owner_leads, is_empty, of_top, needs}
 use Rattle.rg_stack.proofs.Basics.{none-some, and-left, and-right}
+use Rattle.rg_stack.proofs.Walks.NeedLemmas.{below_by}
 use Rattle.rg_held.specs.Frees.{gone}
 use Rattle.rg_held.specs.Part.{leads_to, AllLead, Part, OwnerHeld, OwnersHeld}
 use Rattle.rg_held.specs.Laws.{NeedsSame}
-use Rattle.rg_held.proofs.Lists.{off, any-at, at-any, reverse-back, ended-back}
-use Rattle.rg_held.proofs.Places.{either, number-same, same-number}
+use Rattle.rg_held.proofs.Lists.{off, any-at, reverse-back, ended-back}
 use Rattle.rg_held.proofs.Parts.{top-slot, slots-back}
 
 -- tests of which the one follows from the other
@@ -49,10 +51,6 @@ not-more : (a b : Truth) → (b ≡ true → a ≡ true) → not a ≡ true → 
 not-more true b f e = off e
 not-more false true f e = off (f refl)
 not-more false false f e = refl
-
-all-more : (n : ℕ) (t s : ℕ → Truth) → ((r : ℕ) → t r ≡ true → s r ≡ true) → all_below n t ≡ true → all_below n s ≡ true
-all-more zero t s f e = refl
-all-more (suc n) t s f e = and-more (t n) (all_below n t) (s n) (all_below n s) e (f n) (all-more n t s f)
 
 -- sums of which each part is at most that of the other
 sum-less : {A : Type 0} (f g : A → ℕ) (xs ys : List A) → length xs ≡ length ys
@@ -216,7 +214,7 @@ module _ (held : ℕ → Truth) (store : List Seen) (managers : List Manager) (m
       one : (a : ℕ) (x y : Seen) → slice_get store a ≡ Some x → slice_get m.store a ≡ Some y
           → cond (is_outside m.windows r x.label) (count_by (is_into store r) x.fields) 0
           ≤ cond (is_outside m.windows r y.label) (count_by (is_into m.store r) y.fields) 0
-      one a x y at there = elim (either (held a)) [
+      one a x y at there = elim (cases_Bool (held a)) [
         | inl h ↦ subst (λ (x : Seen). cond (is_outside m.windows r x.label) (count_by (is_into store r) x.fields) 0
             ≤ cond (is_outside m.windows r y.label) (count_by (is_into m.store r) y.fields) 0)
             (same_Some y x (sym there ∙ sym (b.same a h) ∙ at))
@@ -233,7 +231,7 @@ module _ (held : ℕ → Truth) (store : List Seen) (managers : List Manager) (m
 
   once-over : owned_once m ≡ true → owned_once g ≡ true
   once-over e = subst (λ n. all_below n (λ r. is_open m.windows r || nat_le (places_into g r) 1) ≡ true) (sym b.made)
-      (all-more (length m.managers) (λ r. is_open m.windows r || nat_le (places_into m r) 1)
+      (below_by (length m.managers) (λ r. is_open m.windows r || nat_le (places_into m r) 1)
       (λ r. is_open m.windows r || nat_le (places_into g r) 1)
       (λ r. or-more (is_open m.windows r) (nat_le (places_into m r) 1) (nat_le (places_into g r) 1) (less (places_into g r) (places_into m r)
       (places-less r))) e)
@@ -245,7 +243,7 @@ module _ (held : ℕ → Truth) (store : List Seen) (managers : List Manager) (m
   loose-over v h e = ap (λ (o : Option ℕ). elim o [ None ↦ true | Some r ↦ places_into g r == 0 ]) (closed-over v h) ∙ by (closed_into m v) e
     where
       none : (k n : ℕ) → k ≤ n → (n == 0) ≡ true → (k == 0) ≡ true
-      none k n h e = let z = same-number n 0 e in number-same k 0 (omega (arith, h, z))
+      none k n h e = let z = eqb-true n 0 e in eq-eqb k 0 (omega (arith, h, z))
 
       by : (o : Option ℕ) → elim o [ None ↦ true | Some r ↦ places_into m r == 0 ] ≡ true
           → elim o [ None ↦ true | Some r ↦ places_into g r == 0 ] ≡ true
@@ -256,13 +254,13 @@ module _ (held : ℕ → Truth) (store : List Seen) (managers : List Manager) (m
 
   fields-temp : (a : ℕ) (x : Seen) → slice_get store a ≡ Some x → (outlives g x.label && list_any (is_to_temp g) x.fields) ≡ true
       → list_any (λ (o : Seen). outlives m o.label && list_any (is_to_temp m) o.fields) m.store ≡ true
-  fields-temp a x at e = elim (either (held a)) [
+  fields-temp a x at e = elim (cases_Bool (held a)) [
     | inl h ↦ (let there : slice_get m.store a ≡ Some x = sym (b.same a h) ∙ at in
-        at-any (λ (o : Seen). outlives m o.label && list_any (is_to_temp m) o.fields) m.store a x there
+        any_passes_from_place (λ (o : Seen). outlives m o.label && list_any (is_to_temp m) o.fields) m.store a x there
         (and-more (outlives g x.label) (list_any (is_to_temp g) x.fields) (outlives m x.label) (list_any (is_to_temp m) x.fields) e
         (λ t. sym (outlives-over x.label) ∙ t)
         (λ t. (let n = any-at (is_to_temp g) x.fields t in
-        at-any (is_to_temp m) x.fields n.0 n.1.0 n.1.1 (sym (temp-over n.1.0 (b.fields a x n.0 n.1.0 h there n.1.1)) ∙ n.1.2)))))
+        any_passes_from_place (is_to_temp m) x.fields n.0 n.1.0 n.1.1 (sym (temp-over n.1.0 (b.fields a x n.0 n.1.0 h there n.1.1)) ∙ n.1.2)))))
     | inr n ↦ (let is = gone-is (slice_get m.store a) (sym (b.others a n) ∙ at) in
         off (sym (ap (λ (o : Seen). list_any (is_to_temp g) o.fields) is) ∙ and-right (outlives g x.label) (list_any (is_to_temp g) x.fields) e))
   ]
@@ -276,8 +274,8 @@ module _ (held : ℕ → Truth) (store : List Seen) (managers : List Manager) (m
   slots-temp e =
       let n = any-at (λ (f : Frame). list_any (is_to_temp g) f.slots) m.frames e in
       let k = any-at (is_to_temp g) n.1.0.slots n.1.2 in
-      at-any (λ (f : Frame). list_any (is_to_temp m) f.slots) m.frames n.0 n.1.0 n.1.1
-      (at-any (is_to_temp m) n.1.0.slots k.0 k.1.0 k.1.1 (sym (temp-over k.1.0 (b.slots n.0 n.1.0 k.0 k.1.0 n.1.1 k.1.1)) ∙ k.1.2))
+      any_passes_from_place (λ (f : Frame). list_any (is_to_temp m) f.slots) m.frames n.0 n.1.0 n.1.1
+      (any_passes_from_place (is_to_temp m) n.1.0.slots k.0 k.1.0 k.1.1 (sym (temp-over k.1.0 (b.slots n.0 n.1.0 k.0 k.1.0 n.1.1 k.1.1)) ∙ k.1.2))
 
   temps-over : temps_may_go m ≡ true → temps_may_go g ≡ true
   temps-over e = and-more (not (list_any (λ (f : Frame). list_any (is_to_temp m) f.slots) m.frames))

@@ -2,6 +2,7 @@
 use Rattle.std.proofs.Common.{◌≡◌, ℕ, zero, suc, ◌<◌, ◌==◌, inl, inr, false, true, Bool as Truth, List, [], ◌∷◌, Some, refl, sym, subst, replicate}
 use Rattle.std.proofs.Common.{arith, slice_get}
 use Rattle.std.proofs.lemmas.Option.{same_Some}
+use Rattle.std.proofs.lemmas.Bool.{eqb-true, or_cases}
 use Rattle.std.specs.Prelude.{◌||◌}
 use Rattle.rg_base.specs.declared.value.Val.{Val}
 use Rattle.rg_base.specs.declared.value.Val.TheVariants as val
@@ -13,7 +14,6 @@ use Rattle.rg_stack.proofs.Basics.{none-some}
 use Rattle.rg_held.specs.Part.{leads_to, Tidy, Part}
 use Rattle.rg_held.specs.Ends.{Match}
 use Rattle.rg_held.proofs.Lists.{off}
-use Rattle.rg_held.proofs.Places.{or-split, same-number}
 
 nil-leads : (test : ℕ → Truth) (n s : ℕ) (v : Val) → slice_get (replicate n val.Nil) s ≡ Some v → leads_to test v ≡ true
 nil-leads test zero s v e = none-some v e
@@ -29,7 +29,7 @@ main-leads test size (suc n) h s v e f = none-some h e
 
 module _ (t : Tree) (code : Code) (input : List ℕ) where
   below-one : (n : ℕ) → ((0 == n) || false) ≡ true → n < 1
-  below-one n e = elim (or-split (0 == n) false e) [ inl h ↦ (let same = same-number 0 n h in omega (arith, same)) | inr h ↦ off h ]
+  below-one n e = elim (or_cases (0 == n) false e) [ inl h ↦ (let same = eqb-true 0 n h in omega (arith, same)) | inr h ↦ off h ]
 
   opening-tidy : Tidy (opening t code input).machine
   opening-tidy = record {

@@ -8,12 +8,13 @@ use Rattle.rg_base.specs.declared.object.Label.TheVariants.{Region, Temp, Frozen
 use Rattle.rg_base.specs.declared.object.Seen.{Seen}
 use Rattle.rg_base.specs.declared.value.Val.{Val}
 use Rattle.rg_rules.specs.Regions.{in_regions, relabelled_object, relabelled}
+use Rattle.rg_sound.proofs.Owners.OwnerLemmas.{get-set}
 use Rattle.rg_stack.specs.Machine.{Window}
 use Rattle.rg_stack.specs.Effects.{with_value_in}
 use Rattle.rg_stack.specs.Needs.{has_window, is_open}
 use Rattle.rg_stack.proofs.Basics.{none-some, or-left}
 use Rattle.rg_held.specs.Frees.{gone, is_temp, buried, bury}
-use Rattle.rg_held.proofs.Lists.{set-old, set-same, set-back, push-back}
+use Rattle.rg_held.proofs.Lists.{set-old, set-back, push-back}
 
 -- an object that isn't gone stands at an address, with a label
 abbrev pub Stands : List Seen → (address : ℕ) → Label → Type 0
@@ -63,7 +64,7 @@ module _ (store : List Seen) (b k : ℕ) (v : Val) (o : Seen) (here : slice_get 
 
   written-at : (a : ℕ) → b ≡ a → slice_get written a ≡ Some (with_value_in o k v)
   written-at a same =
-      subst (λ j. slice_get written j ≡ Some (with_value_in o k v)) same (set-same store b (with_value_in o k v) o here)
+      subst (λ j. slice_get written j ≡ Some (with_value_in o k v)) same (get-set store b (with_value_in o k v) o here)
 
   written-is : (a : ℕ) (u : Seen) → b ≡ a → slice_get store a ≡ Some u → o ≡ u
   written-is a u same there = same_Some o u (sym here ∙ ap (slice_get store) same ∙ there)

@@ -1,6 +1,7 @@
 -- What has become of the objects that had a label when a step began: they have it still, all have another one, or all are gone.
 use Rattle.std.proofs.Common.{◌≡◌, ◌≢◌, ℕ, ◌<◌, ◌⊎◌, inl, inr, true, false, Bool as Truth, List, [], ◌∷◌, ◌++◌}
 use Rattle.std.proofs.Common.{Option, Some, None, refl, sym, subst, slice_get, slice_set}
+use Rattle.std.proofs.lemmas.Bool.{or_cases}
 use Rattle.rg_base.specs.declared.object.Label.{Label}
 use Rattle.rg_base.specs.declared.object.Label.TheVariants.{Region, Temp, Frozen}
 use Rattle.rg_base.specs.declared.object.Seen.{Seen}
@@ -14,7 +15,6 @@ use Rattle.rg_stack.specs.Needs.{has_window, is_open}
 use Rattle.rg_held.specs.Frees.{gone, is_temp, bury}
 use Rattle.rg_held.specs.Part.{SomeWindow}
 use Rattle.rg_held.proofs.Lists.{off, push-old}
-use Rattle.rg_held.proofs.Places.{or-split}
 use Rattle.rg_held.proofs.Burials.{temp-label}
 use Rattle.rg_held.proofs.Freed.Changes.{Stands, NoneLies, NoneLeft, MayTake, region-not, frozen-not}
 use Rattle.rg_held.proofs.Freed.Changes.{written-stands, written-gone, written-none, made-none}
@@ -171,7 +171,7 @@ module _ (old : List Seen) (was : Label) where
 
       -- a region's label is no temporary's
       lies-given : (r : ℕ) → goes rs temps (Region r) ≡ true → in_regions rs (Region r) ≡ true
-      lies-given r e = elim (or-split (in_regions rs (Region r)) (is_temp temps (Region r)) e) [
+      lies-given r e = elim (or_cases (in_regions rs (Region r)) (is_temp temps (Region r)) e) [
         | inl t ↦ t
         | inr t ↦ (let h = temp-label temps (Region r) t in absurd (region-not r h.0 h.2))
       ]

@@ -4,6 +4,8 @@ use Rattle.std.proofs.Common.{List, [], ◌∷◌, ◌++◌, length, Option, Som
 use Rattle.std.specs.Prelude.{nat_lt, slice_index_or, unwrap_or, ◌||◌}
 use Rattle.std.specs.List.{list_any}
 use Rattle.std.proofs.lemmas.List.FromFn.{length-map-range_with_len}
+use Rattle.std.proofs.lemmas.Bool.{eq-eqb, ne_eqb}
+use Rattle.std.proofs.lemmas.List.{length_push}
 use Rattle.rg_base.specs.Input.{NextNumber, found, malformed, at_end, next_number}
 use Rattle.rg_base.specs.declared.limits.TheConstants.{FRAMES}
 use Rattle.rg_base.specs.declared.object.Label.{Label}
@@ -33,8 +35,6 @@ use Rattle.rg_stack.specs.Needs.{is_open, needs}
 use Rattle.rg_stack.proofs.Basics.{none-some}
 use Rattle.rg_held.specs.Frees.{Given, given_up, regions_freed, window_that_ends, left_with, bury, freed, forgotten, lives, free_act}
 use Rattle.rg_held.specs.Part.{SomeWindow}
-use Rattle.rg_held.proofs.Places.{other-number, number-same}
-use Rattle.rg_held.proofs.Lists.{push-length}
 use Rattle.rg_held.proofs.Tested.{tested_walk}
 use Rattle.rg_held.proofs.Burials.{same-region}
 use Rattle.rg_held.proofs.Freed.Changes.{MayTake, region-not}
@@ -53,7 +53,7 @@ frozen-apart r e = true≢false (ap (λ (l : Label). elim l [ Region q ↦ false
 top-apart : (ws : List Window) → SomeWindow ws → (r : ℕ) → is_open ws r ≡ false → Region (top_region ws) ≢ Region r
 top-apart [] some r closed e = some
 top-apart (w ∷ ws) some r closed e =
-    let same = number-same w.region r (same-region w.region r e) in
+    let same = eq-eqb w.region r (same-region w.region r e) in
     true≢false (sym (ap (λ b. b || is_open ws r) same) ∙ closed)
 
 module _ (old : List Seen) (was : Label) where
@@ -131,7 +131,7 @@ module _ (old : List Seen) (was : Label) where
           let at = object-there w.machine.store v o there in
           since-windows old was w.machine.store ws (opened ∷ ws) made (made + 1) (length w.machine.managers)
           (λ r closed none.
-          ap (λ b. b || is_open ws r) (other-number q r (λ same. none at.0 o at.2 (label-region o.label q e ∙ ap Region same))) ∙ closed)
+          ap (λ b. b || is_open ws r) (ne_eqb q r (λ same. none at.0 o at.2 (label-region o.label q e ∙ ap Region same))) ∙ closed)
           (opened-on ws made opened refl) tt (less, number-new ws made now.numbers, numbered-more ws made now.numbers) now
 
   now-made : (w : Work) (o : Seen) → ((r : ℕ) → is_open w.machine.windows r ≡ false → o.label ≢ Region r) → Now w
@@ -143,7 +143,7 @@ module _ (old : List Seen) (was : Label) where
   now-region : (w : Work) (m : Manager) (o : Seen) → o.label ≡ Region (length w.machine.managers) → Now w
       → Since old was (w.machine.store ++ o ∷ []) w.machine.windows w.machine.windows_made (length (w.machine.managers ++ m ∷ []))
   now-region w m o new now = subst (Since old was (w.machine.store ++ o ∷ []) w.machine.windows w.machine.windows_made)
-      (sym (push-length w.machine.managers m))
+      (sym (length_push w.machine.managers m))
       (since-made old was w.machine.store w.machine.windows w.machine.windows_made (length w.machine.managers) (length w.machine.managers + 1) o
       (λ r is closed e. other r (subst (IsGiven (length w.machine.managers)) is now.given) (same-region (length w.machine.managers) r (sym new ∙ e)))
       (more was now.given) now)

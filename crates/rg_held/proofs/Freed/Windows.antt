@@ -2,6 +2,7 @@
 use Rattle.std.proofs.Common.{◌≡◌, ℕ, ◌+◌, ◌<◌, ◌==◌, inl, inr, true, false, true≢false, Bool as Truth, List, [], ◌∷◌, Option, Some, None}
 use Rattle.std.proofs.Common.{refl, sym, ap, subst, ◌∙◌, arith}
 use Rattle.std.proofs.lemmas.Option.{same_Some}
+use Rattle.std.proofs.lemmas.Bool.{eq-eqb, cases_Bool, ne_eqb}
 use Rattle.std.specs.Prelude.{◌||◌}
 use Rattle.rg_stack.specs.Machine.{Window, Machine}
 use Rattle.rg_stack.specs.Effects.{without_top}
@@ -9,7 +10,7 @@ use Rattle.rg_stack.specs.Needs.{has_window, is_open}
 use Rattle.rg_stack.proofs.Basics.{none-some}
 use Rattle.rg_held.specs.Frees.{window_that_ends, left_with}
 use Rattle.rg_held.specs.Part.{SomeWindow, Differ}
-use Rattle.rg_held.proofs.Places.{or-right, other-number, number-same, either}
+use Rattle.rg_held.proofs.Places.{or-right}
 use Rattle.rg_held.proofs.Lists.{off}
 
 -- windows differ in their numbers, which were given
@@ -20,7 +21,7 @@ Numbered (w ∷ ws) made = (w.number < made) × (has_window ws w.number ≡ fals
 pub numbered : (ws : List Window) (made : ℕ) → Differ ws → ((n : ℕ) → has_window ws n ≡ true → n < made) → Numbered ws made
 numbered [] made differ less = tt
 numbered (w ∷ ws) made differ less = (
-  less w.number (first (w.number == w.number) (number-same w.number w.number refl)),
+  less w.number (first (w.number == w.number) (eq-eqb w.number w.number refl)),
   differ.1,
   numbered ws made differ.2 (λ n h. less n (behind (w.number == n) (has_window ws n) h)),
 )
@@ -35,7 +36,7 @@ numbered (w ∷ ws) made differ less = (
 
 number-old : (ws : List Window) (made number : ℕ) → Numbered ws made → has_window ws number ≡ true → number < made
 number-old [] made number h e = absurd (true≢false (sym e))
-number-old (w ∷ ws) made number h e = elim (either (w.number == number)) [
+number-old (w ∷ ws) made number h e = elim (cases_Bool (w.number == number)) [
   | inl same ↦ (let less = h.0 in grind arith)
   | inr other ↦ number-old ws made number h.2 (ap (λ b. b || has_window ws number) (sym other) ∙ e)
 ]
@@ -46,7 +47,7 @@ numbered-more (w ∷ ws) made h = (let less = h.0 in omega (arith, less), h.1, n
 
 -- no window has the number that comes next
 pub number-new : (ws : List Window) (made : ℕ) → Numbered ws made → has_window ws made ≡ false
-number-new ws made h = elim (either (has_window ws made)) [
+number-new ws made h = elim (cases_Bool (has_window ws made)) [
   | inl e ↦ absurd (let less = number-old ws made made h e in omega (arith, less))
   | inr e ↦ e
 ]
@@ -57,7 +58,7 @@ EndedOn ws later made number = (n : ℕ) → has_window ws n ≡ false → n < m
 
 pub opened-on : (ws : List Window) (made : ℕ) (w : Window) → w.number ≡ made → EndedOn ws (w ∷ ws) made (made + 1)
 opened-on ws made w new n ended less =
-    let other = other-number w.number n (λ e. omega (arith, e, new, less)) in
+    let other = ne_eqb w.number n (λ e. omega (arith, e, new, less)) in
     (ap (λ b. b || has_window ws n) other ∙ ended, omega (arith, less))
 
 pub without-on : (ws : List Window) (made : ℕ) → EndedOn ws (without_top ws) made made

@@ -1,6 +1,7 @@
 -- What a collection frees is led into from nothing that stays, where what leads into the active region from outside leads to what is kept.
 use Rattle.std.proofs.Common.{◌≡◌, ℕ, ◌==◌, ◌≤◌, ◌⊎◌, inl, inr, true, false, not, Bool as Truth, List, [], ◌∷◌}
 use Rattle.std.proofs.Common.{Option, Some, None, option_and_then, option_map, refl, sym, ap, ◌∙◌, slice_get}
+use Rattle.std.proofs.lemmas.Bool.{not-true, eq-eqb, eqb-true, or_cases, cases_Bool, ne_eqb}
 use Rattle.std.specs.Prelude.{◌||◌, if◌then◌else◌}
 use Rattle.rg_base.specs.declared.object.Label.{Label}
 use Rattle.rg_base.specs.declared.object.Label.TheVariants.{Region, Temp, Frozen}
@@ -9,6 +10,7 @@ use Rattle.rg_base.specs.declared.object.Place.TheVariants as place
 use Rattle.rg_base.specs.declared.object.Seen.{Seen}
 use Rattle.rg_base.specs.declared.value.Val.{Val}
 use Rattle.rg_base.specs.declared.value.Val.TheVariants as val
+use Rattle.rg_base.proofs.Callers.Lists.{there as below-get}
 use Rattle.rg_rules.specs.Regions.{region_of, region_at}
 use Rattle.rg_stack.specs.Machine.{Frame, Window, Machine}
 use Rattle.rg_stack.specs.Effects.{top_region}
@@ -18,8 +20,8 @@ use Rattle.rg_stack.proofs.Needs.LeadLemmas.{region-label}
 use Rattle.rg_held.specs.Frees.{gone}
 use Rattle.rg_held.specs.Part.{leads_to, SlotInto, FieldInto, Placed, Part, is_of, OwnerHeld, OwnersHeld, is_shut_or_above, may_lead, Differ}
 use Rattle.rg_held.specs.Gather.{KeepsOf, Keeps, LinkOut, Loses, first, further, Gathered}
-use Rattle.rg_held.proofs.Lists.{off, below-get}
-use Rattle.rg_held.proofs.Places.{or-split, or-right, same-number, number-same, other-number, not-true, either, clash, into-back, once}
+use Rattle.rg_held.proofs.Lists.{off}
+use Rattle.rg_held.proofs.Places.{or-right, clash, into-back, once}
 use Rattle.rg_held.proofs.Places.{slot-field, field-field}
 use Rattle.rg_held.proofs.Parts.{shut-above}
 use Rattle.rg_held.proofs.Burials.{same-region}
@@ -37,10 +39,10 @@ temp-region n r e = cc
 top-closed : (ws : List Window) (q : ℕ) → Differ ws → (top_region ws ≡ q → ⊥) → may_lead ws (top_region ws) (Region q) ≡ true
     → is_open ws q ≡ false
 top-closed [] q d other e = refl
-top-closed (w ∷ ws) q d other e = elim (or-split (q == w.region) (is_shut_or_above (w ∷ ws) q w.region) e) [
-  | inl same ↦ absurd (other (sym (same-number q w.region same)))
+top-closed (w ∷ ws) q d other e = elim (or_cases (q == w.region) (is_shut_or_above (w ∷ ws) q w.region) e) [
+  | inl same ↦ absurd (other (sym (eqb-true q w.region same)))
   | inr shut ↦
-      (let no : (w.region == q) ≡ false = other-number w.region q other in
+      (let no : (w.region == q) ≡ false = ne_eqb w.region q other in
       let rest : is_shut_or_above ws q w.region ≡ true =
       ap (λ b. if b then is_open ws w.region else is_shut_or_above ws q w.region) (sym no) ∙ shut in
       ap (λ b. b || is_open ws q) no ∙ shut-above ws q w.region rest d.0)
@@ -59,9 +61,9 @@ module _ (held kept : ℕ → Truth) (f after m : Machine) (p : Part held [] f m
     value = val.Obj l.address;
     holder_there = l.there;
     value_there = l.value;
-    outside = ap (is_outside m.windows q) l.lies ∙ ap not (other-number a q l.differ);
+    outside = ap (is_outside m.windows q) l.lies ∙ ap not (ne_eqb a q l.differ);
     into = ap (λ (o : Option Label). elim o [ None ↦ false | Some l ↦ lies_in q l ]) (region-label m.store l.address q l.leads)
-        ∙ number-same q q refl;
+        ∙ eq-eqb q q refl;
   }
 
   link-leads : (a q : ℕ) (l : LinkOut held m a q) → may_lead m.windows a (Region q) ≡ true
@@ -86,8 +88,8 @@ module _ (held kept : ℕ → Truth) (f after m : Machine) (p : Part held [] f m
     place = link-field a q l;
     here = l.here;
     goes = g.lost l.object a l.holder l.here l.there l.lies up;
-    closed = elim (or-split (q == a) (is_shut_or_above m.windows q a) (link-leads a q l)) [
-      | inl same ↦ absurd (l.differ (sym (same-number q a same)))
+    closed = elim (or_cases (q == a) (is_shut_or_above m.windows q a) (link-leads a q l)) [
+      | inl same ↦ absurd (l.differ (sym (eqb-true q a same)))
       | inr shut ↦ shut-above m.windows q a shut (lost-place a up).closed
     ];
   }
@@ -121,13 +123,13 @@ module _ (held kept : ℕ → Truth) (f after m : Machine) (p : Part held [] f m
 
         into : (o : Seen) (q : ℕ) → slice_get m.store a ≡ Some o → o.label ≡ Region q → is_into m.store q (val.Obj a) ≡ true
         into o q there l = ap (λ (o : Option Label). elim o [ None ↦ false | Some l ↦ lies_in q l ])
-            (region-label m.store a q (lies o q there l)) ∙ number-same q q refl
+            (region-label m.store a q (lies o q there l)) ∙ eq-eqb q q refl
 
         by : (o : Seen) → slice_get m.store a ≡ Some o → (l : Label) → o.label ≡ l → kept a ≡ true
-        by o there (Region q) l = elim (either (q == top)) [
-          | inl same ↦ k a refl (lies o q there l ∙ ap Some (same-number q top same))
+        by o there (Region q) l = elim (cases_Bool (q == top)) [
+          | inl same ↦ k a refl (lies o q there l ∙ ap Some (eqb-true q top same))
           | inr other ↦ g.stays a o e there
-              (λ t. clash (q == top) (number-same q top (same-region q top (sym l ∙ t))) other)
+              (λ t. clash (q == top) (eq-eqb q top (same-region q top (sym l ∙ t))) other)
               (λ r t lost. none r lost (into o r there t))
         ]
         by o there (Temp n) l = g.stays a o e there (λ t. none-region (sym l ∙ t)) (λ r t lost. none-region (sym l ∙ t))
@@ -172,17 +174,17 @@ module _ (held kept : ℕ → Truth) (f after m : Machine) (p : Part held [] f m
           open-temp n l = p.temps a o n here there l
 
           active : (l : Label) → o.label ≡ l → KeepsOf kept m v
-          active (Region q) l = elim (either (q == top)) [
-            | inl same ↦ keeps.fields a k o v here stays there (l ∙ ap Region (same-number q top same)) at
+          active (Region q) l = elim (cases_Bool (q == top)) [
+            | inl same ↦ keeps.fields a k o v here stays there (l ∙ ap Region (eqb-true q top same)) at
             | inr other ↦ out.fields a k o v here there
-                (λ t. clash (q == top) (number-same q top (same-region q top (sym l ∙ t))) other) open-temp at
+                (λ t. clash (q == top) (eq-eqb q top (same-region q top (sym l ∙ t))) other) open-temp at
           ]
           active (Temp n) l = out.fields a k o v here there (λ t. none-some _ (ap region_of (sym l ∙ t))) open-temp at
           active Frozen l = out.fields a k o v here there (λ t. none-some _ (ap region_of (sym l ∙ t))) open-temp at
 
           outside : (q : ℕ) → Loses held kept m q → (l : Label) → o.label ≡ l → is_outside m.windows q o.label ≡ true
-          outside q lost (Region r) l = elim (either (r == q)) [
-            | inl same ↦ clash (kept a) stays (g.lost a q o here there (l ∙ ap Region (same-number r q same)) lost)
+          outside q lost (Region r) l = elim (cases_Bool (r == q)) [
+            | inl same ↦ clash (kept a) stays (g.lost a q o here there (l ∙ ap Region (eqb-true r q same)) lost)
             | inr other ↦ ap (is_outside m.windows q) l ∙ ap not other
           ]
           outside q lost (Temp n) l = ap (is_outside m.windows q) l ∙ open-temp n l
@@ -200,7 +202,7 @@ module _ (held kept : ℕ → Truth) (f after m : Machine) (p : Part held [] f m
             holder = x.holder;
             field = x.field;
             address = to.address;
-            differ = λ same. clash (q == r) (number-same q r same)
+            differ = λ same. clash (q == r) (eq-eqb q r same)
                 (not-true (q == r) (sym (ap (is_outside m.windows r) l) ∙ x.outside));
             here = here;
             there = x.holder_there;
@@ -259,7 +261,7 @@ module _ (held kept : ℕ → Truth) (f after m : Machine) (p : Part held [] f m
       twice (Some o) = refl
 
       gone-there : (a : ℕ) → kept a ≡ false → slice_get after.store a ≡ option_map (λ (o : Seen). gone) (slice_get m.store a)
-      gone-there a e = g.others a e ∙ elim (either (held a)) [
+      gone-there a e = g.others a e ∙ elim (cases_Bool (held a)) [
         | inl here ↦ ap (option_map (λ (o : Seen). gone)) (p.same a here)
         | inr away ↦ ap (option_map (λ (o : Seen). gone)) (p.others a away) ∙ twice (slice_get m.store a)
       ]
@@ -280,7 +282,7 @@ module _ (held kept : ℕ → Truth) (f after m : Machine) (p : Part held [] f m
         same = λ a stays. g.same a stays ∙ p.same a (g.fewer a stays);
         others = gone-there;
         temps = λ a o n stays there l. p.temps a o n (g.fewer a stays) there l;
-        lost_temps = λ a o n away there l. p.lost_temps a o n (elim (either (held a)) [
+        lost_temps = λ a o n away there l. p.lost_temps a o n (elim (cases_Bool (held a)) [
           | inl here ↦ clash (kept a) (g.stays a o here there (λ x. temp-region n (top_region m.windows) (sym l ∙ x))
               (λ q x lost. temp-region n q (sym l ∙ x))) away
           | inr no_more ↦ no_more

@@ -4,7 +4,8 @@ use Rattle.std.proofs.Common.{length, map, replicate, reverse, drop, Option, Som
 use Rattle.std.proofs.Common.{slice_get}
 use Rattle.std.specs.Prelude.{nat_lt, nat_le, ◌&&◌, if◌then◌else◌}
 use Rattle.std.proofs.lemmas.List.{length-reverse, reverse-append}
-use Rattle.std.proofs.lemmas.Option.{same_Some}
+use Rattle.std.proofs.lemmas.Option.{same_Some, slice_get_within}
+use Rattle.std.proofs.lemmas.Bool.{eqb-true, or_cases, cases_Bool}
 use Rattle.rg_base.specs.declared.ty.Ty.{Ty}
 use Rattle.rg_base.specs.declared.object.Label.{Label}
 use Rattle.rg_base.specs.declared.object.Label.TheVariants.{Region, Temp, Frozen}
@@ -14,6 +15,7 @@ use Rattle.rg_base.specs.declared.object.Seen.{Seen}
 use Rattle.rg_base.specs.declared.value.Val.{Val}
 use Rattle.rg_base.specs.declared.value.Val.TheVariants as val
 use Rattle.rg_tree.specs.Tree.{Field, Class, Tree}
+use Rattle.rg_tree.proofs.TreesFrom.{slice_get-push}
 use Rattle.rg_rules.specs.Acceptance.{Accepted}
 use Rattle.rg_rules.specs.Capabilities.{is_iso}
 use Rattle.rg_rules.specs.Types.{type_of, fields_of}
@@ -34,19 +36,18 @@ use Rattle.rg_stack.specs.Effects.{top_region, top_window}
 use Rattle.rg_stack.specs.Needs.{has_window, field_of, value_at, top_base}
 use Rattle.rg_stack.specs.Shows.{Shows, ShowsFrame, ShowsFrames, ShowsWindows, place_among, sizes_of}
 use Rattle.rg_stack.proofs.Basics.{none-some, and-left, and-right}
-use Rattle.rg_stack.proofs.Statements.BaseLemmas.{total_of, sizes-more, sizes-length, place_top, shown-room, as_many}
+use Rattle.rg_stack.proofs.Statements.BaseLemmas.{total_of, sizes-more, sizes-length, place_top, shown-room, as_many, based-there}
 use Rattle.rg_stack.proofs.Walks.FrameLemmas.{place_below}
 use Rattle.rg_stack.proofs.Needs.LeadLemmas.{shown-number}
 use Rattle.rg_held.specs.Gather.{bridge_value, Keeps}
-use Rattle.rg_held.proofs.Lists.{off, push-last, push-below, get-below, replicate-back}
-use Rattle.rg_held.proofs.Places.{or-split, same-number, either}
+use Rattle.rg_held.proofs.Lists.{off, push-below, replicate-back}
 use Rattle.rg_held.proofs.Gather.Frees.{Outside}
 
 -- Frames by their numbers, the lowest being 0
 
 reverse-top : {A : Type 0} (x : A) (xs : List A) → slice_get (reverse (x ∷ xs)) (length xs) ≡ Some x
 reverse-top x xs = ap (λ l. slice_get l (length xs)) (reverse-append (x ∷ []) xs)
-    ∙ ap (λ n. slice_get (reverse xs ++ x ∷ []) n) (sym (length-reverse xs)) ∙ push-last (reverse xs) x
+    ∙ ap (λ n. slice_get (reverse xs ++ x ∷ []) n) (sym (length-reverse xs)) ∙ slice_get-push (reverse xs) x
 
 reverse-lower : {A : Type 0} (x : A) (xs : List A) (n : ℕ) → n < length xs → slice_get (reverse (x ∷ xs)) n ≡ slice_get (reverse xs) n
 reverse-lower x xs n h =
@@ -55,7 +56,7 @@ reverse-lower x xs n h =
     ap (λ l. slice_get l n) (reverse-append (x ∷ []) xs) ∙ push-below (reverse xs) x n less
 
 reverse-below : {A : Type 0} (xs : List A) (n : ℕ) (x : A) → slice_get (reverse xs) n ≡ Some x → n < length xs
-reverse-below xs n x e = let l = get-below (reverse xs) n x e in let count = length-reverse xs in omega (arith, l, count)
+reverse-below xs n x e = let l = slice_get_within (reverse xs) n x e in let count = length-reverse xs in omega (arith, l, count)
 
 -- a slot that holds a reference shows a variable
 record AtSlot (bs : List Body) (n s a : ℕ) : Type 0 where
@@ -109,9 +110,9 @@ shown-frame : (fs : List Frame) (bs : List Body) → ShowsFrames fs bs → (n : 
 shown-frame [] [] h n b e = none-some b e
 shown-frame [] (c ∷ bs) h n b e = absurd h
 shown-frame (f ∷ fs) [] h n b e = absurd h
-shown-frame (f ∷ fs) (c ∷ bs) h n b e = elim (either (n == length bs)) [
+shown-frame (f ∷ fs) (c ∷ bs) h n b e = elim (cases_Bool (n == length bs)) [
   | inl at ↦
-      let here : n ≡ length bs = same-number n (length bs) at in
+      let here : n ≡ length bs = eqb-true n (length bs) at in
       let one : c ≡ b = same_Some c b (sym (reverse-top c bs) ∙ ap (frame_at (c ∷ bs)) (sym here) ∙ e) in
       let P : Body → Type 0 = λ q. ShowsFrame f q in
       (f, ap (slice_get (reverse (f ∷ fs))) (here ∙ sym (as_many fs bs h.1)) ∙ reverse-top f fs, subst P one h.0)
@@ -137,11 +138,6 @@ place-lower f fs n i h =
     let less : n < length (sizes_of fs) = omega (arith, h, c) in
     ap (λ l. place_among l n i) (sizes-more f fs) ∙ place_below (sizes_of fs) (length f.slots) n i less
 
-based-there : (bs : List Body) (p : Opened) → Based bs p → p.base_frame < length bs
-based-there [] p h = absurd h
-based-there (b ∷ bs) p (inl h) = let e = h.0 in omega (arith, e)
-based-there (b ∷ bs) p (inr h) = let l = based-there bs p h in omega (arith, l)
-
 base-within : (fs : List Frame) (bs : List Body) (p : Opened) → ShowsFrames fs bs → Based bs p →
     place_among (sizes_of fs) p.base_frame p.base_place ≤ slots_below fs
 base-within [] [] p h based = absurd based
@@ -158,12 +154,12 @@ base-within (f ∷ fs) (b ∷ bs) p h (inr based) =
     let rest = base-within fs bs p h.1 based in omega (arith, at, rest)
 
 covers-cases : (n i : ℕ) (p : Opened) → covers n i p ≡ true → (p.base_frame < n) ⊎ ((p.base_frame ≡ n) × (p.base_place ≤ i))
-covers-cases n i p e = elim (or-split (nat_lt p.base_frame n) (p.base_frame == n && nat_le p.base_place i) e) [
+covers-cases n i p e = elim (or_cases (nat_lt p.base_frame n) (p.base_frame == n && nat_le p.base_place i) e) [
   | inl l ↦ inl (grind (arith, l))
   | inr b ↦
       let x = and-left (p.base_frame == n) (nat_le p.base_place i) b in
       let y = and-right (p.base_frame == n) (nat_le p.base_place i) b in
-      inr (same-number p.base_frame n x, grind (arith, y))
+      inr (eqb-true p.base_frame n x, grind (arith, y))
 ]
 
 -- a window that covers a variable doesn't begin behind its slot
@@ -323,7 +319,7 @@ module _ (t : Tree) (code : Code) (m : Machine) (s : State) (accepted : Accepted
       by [] [] e h = let P : List Opened → Type 0 = λ q. AllOwned t.classes s.store s.frames q in absurd (subst P e fit.opened.owned)
       by [] (p ∷ ps) e h = absurd h
       by (w ∷ ws) [] e h = absurd h
-      by (w ∷ ws) (p ∷ ps) e shown = elim (either (covers number i p)) [
+      by (w ∷ ws) (p ∷ ps) e shown = elim (cases_Bool (covers number i p)) [
         | inl seen ↦
             let base = shown.0.base in
             let le = covered m.frames s.frames p shows.slots (top-based p ps e) n i number h there count seen in inr (omega (arith, base, le))
@@ -356,9 +352,9 @@ module _ (t : Tree) (code : Code) (m : Machine) (s : State) (accepted : Accepted
           by [] [] d e h o = off o
           by [] (p ∷ ps) d e h o = absurd h
           by (w ∷ ws) [] d e h o = absurd h
-          by (w ∷ ws) (p ∷ ps) d e h seen = elim (or-split (w.number == n) (has_window ws n) seen) [
+          by (w ∷ ws) (p ∷ ps) d e h seen = elim (or_cases (w.number == n) (has_window ws n) seen) [
             | inl same ↦ keeps.temps b k o v here there
-                (l ∙ ap Temp (sym (same-number w.number n same) ∙ ap top_window (sym d))) at a is lies
+                (l ∙ ap Temp (sym (eqb-true w.number n same) ∙ ap top_window (sym d))) at a is lies
             | inr more ↦ bridge-kept a (roots.temporaries b k o a (ap (λ x. slice_get x b) (sym shows.store) ∙ there)
                 (ap (is_temp_of (lower s.windows)) l ∙ ap (λ q. is_temp_of (lower q) (Temp n)) e
                 ∙ in-among (map (λ (p : Opened). p.number) ps) n (shown-number (sizes_of m.frames) ws ps n h.1 more))

@@ -2,16 +2,16 @@
 use Rattle.std.proofs.Common.{◌≡◌, ◌≤◌, ◌<◌, ◌-◌, ◌^◌, inl, inr, ℕ, true, false, Bool as Truth, List, [], ◌∷◌, Option, Some, None, option_map}
 use Rattle.std.proofs.Common.{refl, sym, ap, ◌∙◌, arith, slice_get}
 use Rattle.std.proofs.lemmas.Option.{same_Some}
+use Rattle.std.proofs.lemmas.Bool.{cases_Bool}
 use Rattle.rg_base.specs.declared.object.Place.{Place}
 use Rattle.rg_base.specs.declared.object.Place.TheVariants as place
 use Rattle.rg_base.specs.declared.object.Seen.{Seen}
 use Rattle.rg_base.specs.declared.value.Val.{Val}
+use Rattle.rg_base.proofs.Callers.Lists.{there as below-get}
 use Rattle.rg_stack.specs.Machine.{Window, Machine}
 use Rattle.rg_stack.proofs.Basics.{none-some}
 use Rattle.rg_held.specs.Frees.{gone}
 use Rattle.rg_held.specs.Part.{leads_to, Placed, Part, OwnerHeld, OwnersHeld}
-use Rattle.rg_held.proofs.Lists.{below-get}
-use Rattle.rg_held.proofs.Places.{either}
 use Rattle.rg_held.proofs.Parts.{lead-more, all-more}
 
 module _ (held also : ℕ → Truth) (owners : List Val) (f m : Machine) (stack : List Val) (p : Part held owners f m stack) where
@@ -68,14 +68,14 @@ module _ (held also : ℕ → Truth) (owners : List Val) (f m : Machine) (stack 
       → ((a : ℕ) → also a ≡ true → (o : Seen) × (slice_get f.store a ≡ Some o) × (o ≡ gone → ⊥))
       → ((a : ℕ) (o : Seen) → also a ≡ false → slice_get f.store a ≡ Some o → o ≡ gone)
       → (a : ℕ) → held a ≡ also a
-  held-as few there away a = elim (either (held a)) [
-    | inl here ↦ elim (either (also a)) [
+  held-as few there away a = elim (cases_Bool (held a)) [
+    | inl here ↦ elim (cases_Bool (also a)) [
       | inl e ↦ here ∙ sym e
       | inr e ↦
           (let o = below-get m.store a (p.there a here) in
           let is : o.0 ≡ gone = away a o.0 e (p.same a here ∙ o.1) in absurd (not-gone few a here (o.1 ∙ ap Some is)))
     ]
-    | inr out ↦ elim (either (also a)) [
+    | inr out ↦ elim (cases_Bool (also a)) [
       | inl e ↦ (let o = there a e in absurd (o.2 (is (slice_get m.store a) o.0 (sym (p.others a out) ∙ o.1))))
       | inr e ↦ out ∙ sym e
     ]

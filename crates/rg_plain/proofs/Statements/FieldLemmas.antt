@@ -1,5 +1,5 @@
 -- The steps that lead through fields, once their paths are followed.
-use Rattle.std.proofs.Common.{◌≡◌, ℕ, zero, suc, ◌<◌, List, [], ◌∷◌, length, slice_get, Some, Ok, refl, sym, ◌∙◌, ap, subst, arith}
+use Rattle.std.proofs.Common.{◌≡◌, ℕ, List, ◌∷◌, slice_get, Some, Ok, refl, sym, ◌∙◌, ap, subst}
 use Rattle.rg_base.specs.declared.object.Seen.{Seen}
 use Rattle.rg_base.specs.declared.value.Val.TheVariants.{Obj}
 use Rattle.rg_tree.specs.declared.rows.Path as row_path
@@ -21,12 +21,6 @@ use Rattle.rg_plain.specs.Kept.{Kept, plain_of, shown as items_shown}
 use Rattle.rg_plain.specs.Shown as shown
 use Rattle.rg_plain.specs.Inner.Spots.{SpotIs, IsField, exchanged}
 use Rattle.rg_plain.proofs.Statements.StepLemmas.{next-at}
-
--- what stands at a place
-pub some-at : {A : Type 0} (xs : List A) (k : ℕ) → k < length xs → (x : A) × (slice_get xs k ≡ Some x)
-some-at [] k within = absurd (omega arith)
-some-at (x ∷ xs) zero within = (x, refl)
-some-at (x ∷ xs) (suc k) within = some-at xs k (omega arith)
 
 -- a path that names a field
 pub field-spot : (t : Tables) (store rows : List ObjectRow) (held locals : List LocalRow) (p : Path) (at : Spot) (a name : ℕ) →

@@ -5,6 +5,7 @@ use Rattle.std.proofs.Common.{None}
 use Rattle.std.proofs.Common.{refl, ap, sym, ◌∙◌, subst, ◌⊎◌, inl, inr, option_map, option_and_then, slice_get}
 use Rattle.std.proofs.Common.{count_by}
 use Rattle.std.proofs.lemmas.Bool.{cases_eq}
+use Rattle.std.proofs.lemmas.Option.{same_Some}
 use Rattle.rg_base.specs.declared.object.Label.{Label}
 use Rattle.rg_base.specs.declared.object.Label.TheVariants.{Region, Frozen}
 use Rattle.rg_base.specs.declared.words.Manager.TheVariants.{Count}
@@ -36,13 +37,10 @@ pub record CellComes (c : Table) (t : RegionTable) (cells : Table) (regions : Re
   pub label : b.label ≡ Region rec.number
   pub leads : (k to : ℕ) → slice_get b.fields k ≡ Some (Slot to) → LiesIn c.heap rec.number to
 
-some_slot : (a b : ℕ) → Some a ≡ Some b → a ≡ b
-some_slot a b q = cc
-
 -- an element of a list with one more at its end
 pub one_more : (xs : List ℕ) (x i s : ℕ) → slice_get (xs ++ x ∷ []) i ≡ Some s
     → (slice_get xs i ≡ Some s) ⊎ ((i ≡ length xs) × (s ≡ x))
-one_more [] x zero s e = inr (refl, some_slot s x (sym e))
+one_more [] x zero s e = inr (refl, same_Some s x (sym e))
 one_more [] x (suc i) s e = cc
 one_more (y ∷ xs) x zero s e = inl e
 one_more (y ∷ xs) x (suc i) s e = elim (one_more xs x i s e) [ inl a ↦ inl a | inr a ↦ inr (ap suc a.0, a.1) ]
@@ -121,7 +119,7 @@ module _ (c : Table) (t : RegionTable) (cells : Table) (regions : RegionTable) (
         let P : ℕ → Type 0 = λ y. HasNumber t y n in
         let N : ℕ → Type 0 = λ y. HasNumber regions y n in
         let M : ℕ → Type 0 = λ y. HasNumber regions key y in
-        let q : rec.number ≡ n = some_slot rec.number n
+        let q : rec.number ≡ n = same_Some rec.number n
         (sym (number_of t key rec.number rec w.there refl) ∙ subst P e a) in
         subst N (sym e) (subst M q number_now)
     | inr d ↦ ap (option_map (λ (r : Record). r.number)) (w.others k d) ∙ a
@@ -133,7 +131,7 @@ module _ (c : Table) (t : RegionTable) (cells : Table) (regions : RegionTable) (
         let P : ℕ → Type 0 = λ y. HasNumber regions y n in
         let N : ℕ → Type 0 = λ y. HasNumber t y n in
         let M : ℕ → Type 0 = λ y. HasNumber t key y in
-        let q : rec.number ≡ n = some_slot rec.number n (sym number_now ∙ subst P e a) in
+        let q : rec.number ≡ n = same_Some rec.number n (sym number_now ∙ subst P e a) in
         subst N (sym e) (subst M q (number_of t key rec.number rec w.there refl))
     | inr d ↦ sym (ap (option_map (λ (r : Record). r.number)) (w.others k d)) ∙ a
   ]

@@ -1,6 +1,7 @@
 -- The forest stays one where a region's members are put in order (docs/architecture.md, "Regions").
 use Rattle.std.proofs.Common.{◌≡◌, ℕ, Option, Some, None, refl, ap, sym, ◌∙◌, subst, inl, inr, option_map}
 use Rattle.std.proofs.lemmas.Bool.{cases_eq}
+use Rattle.std.proofs.lemmas.Option.{same_Some}
 use Rattle.rg_cells.specs.Table.{Heap, Table, mark_at}
 use Rattle.rg_regions.specs.Table.{Record, RegionTable, record_at, HasNumber, IsBridge, changed}
 use Rattle.rg_regions.specs.Ordered.{with_members, Orders}
@@ -17,9 +18,6 @@ pub record Alike (r s : Record) : Type 0 where
 
 alike : (r : Record) → Alike r r
 alike r = record { number = refl; manager = refl; bridge = refl; members = λ h n w. w }
-
-some_is : (a b : Record) → Some a ≡ Some b → a ≡ b
-some_is a b q = cc
 
 module _ (old new : RegionTable) (key : ℕ) (o : Orders old new key) where
   -- each region is there behind the call
@@ -41,7 +39,7 @@ module _ (old new : RegionTable) (key : ℕ) (o : Orders old new key) where
       by_record : (x : Option Record) → record_at old k ≡ x → (r : Record) × (record_at old k ≡ Some r) × Alike r s
       by_record (Some r) f =
           let b = stays k r f in
-          let P : Record → Type 0 = λ z. Alike r z in (r, f, subst P (some_is b.0 s (sym b.1 ∙ e)) b.2)
+          let P : Record → Type 0 = λ z. Alike r z in (r, f, subst P (same_Some b.0 s (sym b.1 ∙ e)) b.2)
       by_record None f = elim (cases_eq k key) [
         | inl q ↦
             let g : record_at old key ≡ None = ap (record_at old) (sym q) ∙ f in

@@ -1,7 +1,7 @@
 -- A region's record goes, and those that it owned are in the chain (docs/architecture.md, "Regions").
 use Rattle.std.proofs.Common.{◌≡◌, ◌≢◌, ℕ, ◌<◌, List, length, Option, Some, None, get_or, ap, sym, ◌∙◌, subst, inl, inr}
 use Rattle.std.proofs.lemmas.List.{get_or-set_other}
-use Rattle.std.proofs.lemmas.Option.{slice_get_within, slice_get-get_or}
+use Rattle.std.proofs.lemmas.Option.{slice_get_within, slice_get-get_or, same_Some}
 use Rattle.rg_base.specs.declared.value.Word.TheVariants.{Slot}
 use Rattle.rg_cells.specs.Table.{Heap, field_at}
 use Rattle.rg_regions.specs.Table.{RegionTable, record_at, link_at, HasNumber, Has, removed}
@@ -13,16 +13,13 @@ use Rattle.rg_regions.proofs.Callers.Told.{one_number}
 use Rattle.rg_regions.proofs.Callers.Chain.{chained_agree}
 use Rattle.rg_regions.proofs.Callers.Removed.{none_there}
 
-slot_of : (a b : ℕ) → Some a ≡ Some b → a ≡ b
-slot_of a b q = cc
-
 -- the place of a cell among the members
 pub member_place : (h : Heap) (r : ℕ) (members : List ℕ) → Members h r members → (s : ℕ) → LiesIn h r s
     → (j : ℕ) × (j < length members) × (get_or members j 0 ≡ s)
 member_place h r members m s l =
     let a = m.all s l in
     let w = slice_get_within members a.0 s a.1 in
-    (a.0, w, slot_of (get_or members a.0 0) s (sym (slice_get-get_or members a.0 0 w) ∙ a.1))
+    (a.0, w, same_Some (get_or members a.0 0) s (sym (slice_get-get_or members a.0 0 w) ∙ a.1))
 
 module _ (h : Heap) (t : RegionTable) (key r : ℕ) (members rest : List ℕ) (mid : RegionTable) (head : Option ℕ)
     (new : RegionTable) (keys : List ℕ) (m : Members h r members) (own : OwnsOnce h r members)

@@ -2,7 +2,7 @@
 use Rattle.std.proofs.Common.{◌≡◌, ◌≢◌, ℕ, ◌<◌, ◌≤◌, List, length, Some, slice_get, get_or, ap, sym, ◌∙◌}
 use Rattle.std.proofs.Common.{arith, inl, inr}
 use Rattle.std.specs.List.{swap}
-use Rattle.std.proofs.lemmas.Option.{slice_get_within, slice_get-get_or}
+use Rattle.std.proofs.lemmas.Option.{slice_get_within, slice_get-get_or, same_Some}
 use Rattle.std.proofs.lemmas.Bool.{cases_lt, cases_eq}
 use Rattle.std.proofs.lemmas.List.Edits.{swap_is}
 use Rattle.std.proofs.lemmas.List.Sorted.{IsPermutation-keeps, length_permutation}
@@ -12,9 +12,6 @@ use Rattle.rg_regions.specs.Table.{Record, RegionTable, record_at}
 use Rattle.rg_regions.specs.Ordered.{with_members, Orders}
 use Rattle.rg_regions.specs.Grove.{Members}
 use Rattle.rg_regions.proofs.Callers.Changed.{changed_at, changed_other, changed_links}
-
-some_is : (a b : ℕ) → Some a ≡ Some b → a ≡ b
-some_is a b q = cc
 
 -- Two elements of a list change places.
 module _ (xs : List ℕ) (a b : ℕ) (l : a < length xs) (m : b < length xs) where
@@ -28,7 +25,7 @@ module _ (xs : List ℕ) (a b : ℕ) (l : a < length xs) (m : b < length xs) whe
   pub got_swapped : (k s : ℕ) → slice_get (swap xs a b) k ≡ Some s → slice_get xs (partner a b k) ≡ Some s
   got_swapped k s e =
       let n : k < length (swap xs a b) = slice_get_within (swap xs a b) k s e in
-      let here : get_or (swap xs a b) k s ≡ s = some_is _ _ (sym (slice_get-get_or (swap xs a b) k s n) ∙ e) in
+      let here : get_or (swap xs a b) k s ≡ s = same_Some _ _ (sym (slice_get-get_or (swap xs a b) k s n) ∙ e) in
       let there : get_or xs (partner a b k) s ≡ s =
       sym (traded_at s xs a b l m k) ∙ ap (λ (ys : List ℕ). get_or ys k s) (swap_is xs a b s l m) ∙ here in
       slice_get-get_or xs (partner a b k) s (within k (omega (arith, n, swapped_length))) ∙ ap Some there
@@ -36,7 +33,7 @@ module _ (xs : List ℕ) (a b : ℕ) (l : a < length xs) (m : b < length xs) whe
   pub got_partner : (k s : ℕ) → slice_get xs k ≡ Some s → slice_get (swap xs a b) (partner a b k) ≡ Some s
   got_partner k s e =
       let n : k < length xs = slice_get_within xs k s e in
-      let here : get_or xs k s ≡ s = some_is _ _ (sym (slice_get-get_or xs k s n) ∙ e) in
+      let here : get_or xs k s ≡ s = same_Some _ _ (sym (slice_get-get_or xs k s n) ∙ e) in
       let there : get_or (swap xs a b) (partner a b k) s ≡ s =
       ap (λ (ys : List ℕ). get_or ys (partner a b k) s) (sym (swap_is xs a b s l m)) ∙ traded_at s xs a b l m (partner a b k)
       ∙ ap (λ z. get_or xs z s) (partner_back a b k) ∙ here in
@@ -65,8 +62,8 @@ module _ (old new : RegionTable) (key : ℕ) (o : Orders old new key) where
   ordered_rise i j a b p e f =
       let m : i < length o.members = slice_get_within o.members i a e in
       let n : j < length o.members = slice_get_within o.members j b f in
-      let x : get_or o.members i 0 ≡ a = some_is _ _ (sym (slice_get-get_or o.members i 0 m) ∙ e) in
-      let y : get_or o.members j 0 ≡ b = some_is _ _ (sym (slice_get-get_or o.members j 0 n) ∙ f) in
+      let x : get_or o.members i 0 ≡ a = same_Some _ _ (sym (slice_get-get_or o.members i 0 m) ∙ e) in
+      let y : get_or o.members j 0 ≡ b = same_Some _ _ (sym (slice_get-get_or o.members j 0 n) ∙ f) in
       omega (arith, x, y, o.rise i j 0 p n)
 
   module _ (r : Record) (e : record_at old key ≡ Some r) where

@@ -3,6 +3,7 @@ use Rattle.std.proofs.Common.{◌≡◌, ◌≢◌, ℕ, zero, suc, Bool, false,
 use Rattle.std.proofs.Common.{subst, ◌⊎◌, inl, inr, option_map, option_and_then, slice_get, count_by}
 use Rattle.std.proofs.lemmas.Bool.{cases_eq}
 use Rattle.std.proofs.lemmas.Bool.Decides.{eqb_tells}
+use Rattle.std.proofs.lemmas.Option.{same_Some}
 use Rattle.rg_base.specs.declared.object.Label.{Label}
 use Rattle.rg_base.specs.declared.object.Label.TheVariants.{Region, Frozen}
 use Rattle.rg_base.specs.declared.value.Word.{Word}
@@ -39,11 +40,8 @@ pub record RegionComes (c : Table) (t : RegionTable) (cells : Table) (regions : 
   pub once : (j k q x y : ℕ) → slice_get b.fields j ≡ Some (Slot x) → slice_get b.fields k ≡ Some (Slot y) →
       LiesIn c.heap q x → LiesIn c.heap q y → j ≡ k
 
-slot_is : (a b : ℕ) → Some a ≡ Some b → a ≡ b
-slot_is a b q = cc
-
 single : (slot i s : ℕ) → slice_get (slot ∷ []) i ≡ Some s → (i ≡ 0) × (s ≡ slot)
-single slot zero s e = (refl, slot_is s slot (sym e))
+single slot zero s e = (refl, same_Some s slot (sym e))
 single slot (suc i) s e = cc
 
 -- words none of which leads to a slot
@@ -149,7 +147,7 @@ module _ (c : Table) (t : RegionTable) (cells : Table) (regions : RegionTable) (
 
   has_back : (k n : ℕ) → HasNumber regions k n → ((k ≡ key) × (n ≡ rec.number)) ⊎ HasNumber t k n
   has_back k n a = elim (cases_eq k key) [
-    | inl e ↦ let P : ℕ → Type 0 = λ y. HasNumber regions y n in inl (e, slot_is n rec.number (sym (subst P e a) ∙ number_new))
+    | inl e ↦ let P : ℕ → Type 0 = λ y. HasNumber regions y n in inl (e, same_Some n rec.number (sym (subst P e a) ∙ number_new))
     | inr d ↦ inr (sym (ap (option_map (λ (r : Record). r.number)) (w.others k d)) ∙ a)
   ]
 
@@ -254,7 +252,7 @@ module _ (c : Table) (t : RegionTable) (cells : Table) (regions : RegionTable) (
     bridges = λ k s z a x. elim (record_back k z a) [
       | inl e ↦
           let P : Record → Type 0 = λ y. y.bridge ≡ Some s in
-          let q : s ≡ slot = slot_is s slot (sym (subst P e x) ∙ w.bridge) in
+          let q : s ≡ slot = same_Some s slot (sym (subst P e x) ∙ w.bridge) in
           let L : Record → Type 0 = λ y. LiesIn cells.heap y.number s in
           let S : ℕ → Type 0 = λ y. LiesIn cells.heap rec.number y in
           subst L (sym e) (subst S (sym q) lies_new)

@@ -1,7 +1,8 @@
 -- Behind a statement there are the variables that were in front of it: at the same depths, and lent where they were.
-use Rattle.std.proofs.Common.{◌≡◌, refl, sym, ◌∙◌, ap, ℕ, ◌+◌, Bool as Truth, true, false, ◌||◌, not as negated, List, [], ◌∷◌, length, take, map}
+use Rattle.std.proofs.Common.{◌≡◌, refl, sym, ◌∙◌, ap, ℕ, ◌+◌, true, false, ◌||◌, not as negated, List, [], ◌∷◌, length, take, map}
 use Rattle.std.proofs.Common.{Option, Some, None, ok_or, Ok, arith}
 use Rattle.std.proofs.lemmas.List.{length-map}
+use Rattle.std.proofs.lemmas.Bool.{not-true}
 use Rattle.rg_base.specs.declared.ty.Ty.{Ty}
 use Rattle.rg_base.specs.declared.ty.Ty.TheVariants.{Bool, Ref}
 use Rattle.rg_base.specs.declared.words.Cap.TheVariants.{Mut}
@@ -68,10 +69,6 @@ pub record Assigned (classes : List Class) (env out : Env) (x : Variable) (r : R
   pub typed : judge_right classes env entry.ty r ≡ Ok judged
   pub out_is : out ≡ marked x ready judged.env
 
-negated_true : (b : Truth) → negated b ≡ true → b ≡ false
-negated_true true h = grind arith
-negated_true false h = refl
-
 pub judge_assign-parts : (classes : List Class) (env out : Env) (x : Variable) (r : Right) → judge_assign classes env x [] r ≡ Ok out →
     Assigned classes env out x r
 judge_assign-parts classes env out x r h =
@@ -85,7 +82,7 @@ judge_assign-parts classes env out x r h =
       entry = e.0;
       there = ok_or-ok (entry_of env x) Unknown e.0 e.1;
       at = d.0;
-      not_lent = negated_true (is_lent e.0.readiness) l.0;
+      not_lent = not-true (is_lent e.0.readiness) l.0;
       judged = j.0;
       typed = j.1;
       out_is = sym i;
@@ -117,8 +114,8 @@ judge_assign-field classes env out x f fs r h =
     record {
       ty = t.0;
       writable = t.1;
-      not_iso = negated_true (is_iso t.0) i.0;
-      not_call = negated_true (is_call r) c.0;
+      not_iso = not-true (is_iso t.0) i.0;
+      not_call = not-true (is_call r) c.0;
       judged = j.0;
       typed = j.1;
       out_is = sym e;

@@ -3,6 +3,7 @@ use Rattle.std.proofs.Common.{◌≡◌, refl, sym, ◌∙◌, subst, inl, inr, 
 use Rattle.std.proofs.Common.{◌++◌, find, Option, Some, None, is_some, slice_get, Ok, arith}
 use Rattle.std.proofs.lemmas.List.{append-nil, append_assoc}
 use Rattle.std.proofs.lemmas.Slice.Eq.{bytes_eq-Decides}
+use Rattle.std.proofs.lemmas.Bool.{not-true}
 use Rattle.rg_base.specs.declared.ty.Ty.{Ty}
 use Rattle.rg_base.specs.declared.ty.Ty.TheVariants.{Ref}
 use Rattle.rg_base.specs.declared.fault.Code.TheVariants.{Duplicate, BadType}
@@ -67,10 +68,6 @@ earlier-absent : (x : Name) (earlier : List Name) (es : List Entry) → Earlier 
 earlier-absent x earlier [] h k = tt
 earlier-absent x earlier (e ∷ es) h k = (other-name x earlier e.name h.0 k, earlier-absent x earlier es h.1 k)
 
-not_true : (b : Bool) → not b ≡ true → b ≡ false
-not_true true h = grind arith
-not_true false h = refl
-
 -- parameters without a fault have names that differ
 with_params-distinct : (classes : List Class) (earlier : List Name) (ps : List Param) (env : Env) → Distinct env.entries →
     Earlier earlier env.entries →
@@ -80,7 +77,7 @@ with_params-distinct classes earlier (p ∷ ps) env d e h =
     let q = test-then (not (among p.name earlier)) Duplicate _ tt h in
     let r = then-ok (good_type classes p.ty) _ tt q.1 in
     let new : Entry = record { name = Some p.name; ty = type_of classes p.ty; depth = env.depth; readiness = ready; assignable = true } in
-    let gone = earlier-absent p.name earlier env.entries e (not_true (among p.name earlier) q.0) in
+    let gone = earlier-absent p.name earlier env.entries e (not-true (among p.name earlier) q.0) in
     with_params-distinct classes (p.name ∷ earlier) ps (with_variable env (Some p.name) (type_of classes p.ty) true)
     (Distinct-snoc env.entries new d gone) (Earlier-snoc p.name earlier env.entries new refl e) r.2
 

@@ -43,7 +43,7 @@ use Rattle.rg_sound.proofs.Stores.NewLemmas.{opening-meets, new-owns, leads-more
 
 -- The right sides
 
-class-at : (classes : List Class) (x : Name) (c : Class) → class_named classes x ≡ Some c → slice_get classes (class_number classes x) ≡ Some c
+pub class-at : (classes : List Class) (x : Name) (c : Class) → class_named classes x ≡ Some c → slice_get classes (class_number classes x) ≡ Some c
 class-at [] x c h = none-some h
 class-at (d ∷ ds) x c h = by (bytes_eq d.name x) h (class-at ds x c)
   where

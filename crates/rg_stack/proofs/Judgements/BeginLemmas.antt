@@ -11,7 +11,7 @@ use Rattle.rg_tree.specs.Tree.{result_of, stmt, StmtKind, declare, assign, call,
 use Rattle.rg_tree.specs.Tree.{Tree}
 use Rattle.rg_base.specs.declared.fault.Code.TheVariants.{Unknown}
 use Rattle.std.proofs.lemmas.Option.{none-some, same_Some}
-use Rattle.std.proofs.lemmas.Bool.{and_from}
+use Rattle.std.proofs.lemmas.Bool.{and_from, not-true}
 use Rattle.std.specs.Prelude.{not, ◌||◌, ◌+◌, nat_le}
 use Rattle.rg_rules.specs.Acceptance.{Accepted}
 use Rattle.rg_rules.specs.Types.{type_of, method_named}
@@ -55,7 +55,6 @@ use Rattle.rg_stack.proofs.Walks.EndLemmas.{Round, work, state}
 use Rattle.rg_stack.proofs.Statements.BaseLemmas.{as_many, sizes-more}
 use Rattle.rg_stack.proofs.Needs.LeadLemmas.{ShowsFit}
 use Rattle.rg_stack.proofs.Needs.OnceLemmas.{owned_once-fits, loose-fits}
-use Rattle.rg_stack.proofs.Walks.NeedLemmas.{not_true}
 use Rattle.rg_stack.proofs.Statements.ReturnLemmas.{TargetHas, TargetNeeds, above}
 use Rattle.rg_stack.proofs.Judgements.BaseLemmas.{beneath-begins}
 use Rattle.rg_stack.proofs.Judgements.FitLemmas.{found-named, running-beneath}
@@ -188,7 +187,7 @@ assigned_free classes env out x [] right c target judged h =
     with_free classes env (right_call right) (Assigns x) target c h (λ d is. record {
       entry = e.0;
       there = ok_or-ok (entry_of env x) Unknown e.0 e.1;
-      not_lent = not_true (is_lent e.0.readiness) l.0;
+      not_lent = not-true (is_lent e.0.readiness) l.0;
       may = b.0;
       takes = λ ty. result-below classes env e.0.ty d j.0 ty
           (subst (λ q. judge_right classes env e.0.ty q ≡ Ok j.0) (called_right right d is) j.1);

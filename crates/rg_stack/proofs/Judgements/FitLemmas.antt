@@ -27,7 +27,7 @@ use Rattle.rg_rules.proofs.AnswersLemmas.{ok_or-ok}
 use Rattle.rg_rules.proofs.StepLemmas.{object_at-ok}
 use Rattle.rg_sound.specs.Windows.{windows_of, windows_from}
 use Rattle.rg_sound.specs.Values.{IsRegion, LabelFits, MeetsBy, Meets, FrameMeets}
-use Rattle.rg_sound.specs.Objects.{TempFieldFits, FieldFits, FieldsMeet, ObjectsFit}
+use Rattle.rg_sound.specs.Objects.{FieldFits, FieldsMeet, ObjectsFit}
 use Rattle.rg_sound.specs.Frames.{Named, Entered, Waits, WaitsEmpty, Beneath, Running}
 use Rattle.rg_code.specs.Lowering.{type_in}
 use Rattle.rg_code.specs.Places.{scope_of}
@@ -39,6 +39,7 @@ use Rattle.rg_stack.proofs.Judgements.FollowLemmas.{HaveFields}
 use Rattle.rg_stack.proofs.Judgements.JudgeLemmas.{OfType, Facts}
 use Rattle.rg_stack.specs.Machine.{Window as Now}
 use Rattle.rg_stack.proofs.Walks.WalkLemmas.{is_shut}
+use Rattle.rg_stack.proofs.Needs.ClosedLemmas.{temp-region}
 
 -- a value that meets a type is of that type
 pub meets-of_type : (store : List Seen) (F : Cap → Label → Type 0) (t : Ty) (v : Val) → MeetsBy store F t v → OfType store t v
@@ -82,14 +83,10 @@ is_region l h = (h.0, ap region_of h.1)
 pub meets-in_region : (store : List Seen) (ws : List Window) (t : Ty) (v : Val) → is_iso t ≡ true → Meets store ws t v → InRegion store v
 meets-in_region store ws t v i h = meets-iso store (LabelFits ws) (λ l f. is_region l f) t v i h
 
-temp_iso : (ws : List Window) (l : Label) → TempFieldFits ws Iso l → IsRegion l
-temp_iso [] l h = h
-temp_iso (w ∷ ws) l h = h
-
 -- and one of a field of an object that isn't frozen
 field_iso : (ws : List Window) (own : Label) → (own ≡ Frozen → ⊥) → (l : Label) → FieldFits ws own Iso l → (g : ℕ) × (region_of l ≡ Some g)
 field_iso ws (Region r) live l h = is_region l h
-field_iso ws (Temp n) live l h = is_region l (temp_iso (windows_from n ws) l h)
+field_iso ws (Temp n) live l h = is_region l (temp-region (windows_from n ws) l h)
 field_iso ws Frozen live l h = absurd (live refl)
 
 -- the variable of an entry: its place, its type and its value

@@ -3,7 +3,7 @@ use Rattle.std.proofs.Common.{◌≡◌, ℕ, suc, true, false, Bool as Truth, i
 use Rattle.std.proofs.Common.{Ok, Err, refl, sym, ap, subst, ◌∙◌, arith, slice_get, unwrap_or}
 use Rattle.std.specs.Prelude.{bytes_eq, nat_lt, length, not}
 use Rattle.std.proofs.lemmas.Option.{none-some, same_Some}
-use Rattle.std.proofs.lemmas.Bool.{and_from}
+use Rattle.std.proofs.lemmas.Bool.{and_from, not_from_false}
 use Rattle.rg_base.specs.declared.ty.Ty.{Ty}
 use Rattle.rg_base.specs.declared.ty.Ty.TheVariants.{Int, Bool, Ref}
 use Rattle.rg_base.specs.declared.value.Val.{Val}
@@ -24,7 +24,6 @@ use Rattle.rg_sound.specs.Values.{Meets}
 use Rattle.rg_sound.specs.Objects.{ObjectsFit}
 use Rattle.rg_sound.proofs.Values.ValueLemmas.{walk_field-meets}
 use Rattle.rg_stack.specs.Machine.{Window}
-use Rattle.rg_stack.proofs.Walks.NeedLemmas.{not-false}
 use Rattle.rg_stack.proofs.Walks.WalkLemmas.{Follows, is_shut}
 
 -- the class of a type of references
@@ -110,7 +109,7 @@ follows_of classes store windows opened safe (f ∷ fs) u t r v meets same walke
       and_from (nat_lt (field_number classes t f) (length o.fields)) (not (is_shut store windows v))
           (ap (λ n. nat_lt n (length o.fields)) number
           ∙ sizes v o f place.0 there (ap (λ c. field_place (fields_of classes c) f) class_of_o ∙ place.1))
-          (not-false (is_shut store windows v) (safe.shut u v meets w.not_iso)),
+          (not_from_false (is_shut store windows v) (safe.shut u v meets w.not_iso)),
       follows_of classes store windows opened safe fs p.0 (type_behind classes t f) r (field_value classes o f)
           (walk_field-meets classes store opened safe.objects u p.0 f v o meets p.1 there)
           (sym (read-class q.0.receiver q.0.ty p.0 q.2) ∙ ap class_is (sym behind)) p.2

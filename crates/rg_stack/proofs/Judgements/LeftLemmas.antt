@@ -14,6 +14,7 @@ use Rattle.rg_rules.specs.Points.{Point, here, behind, inside, Spot, spot_in, sp
 use Rattle.rg_rules.specs.State.{Local, Target, Frame, Window}
 use Rattle.rg_rules.proofs.PointLemmas.{and_then-some}
 use Rattle.rg_sound.specs.Frames.{leaves, Entered, Waits, WaitsEmpty, Beneath, Running}
+use Rattle.rg_sound.proofs.BaseLemmas.{entered_first}
 use Rattle.rg_stack.specs.Simulates.{SomeLeft}
 use Rattle.rg_stack.proofs.Judgements.SpotLemmas.{leaves_frame, inner_stays}
 use Rattle.rg_stack.proofs.Judgements.BaseLemmas.{WindowThere, beneath-window}
@@ -135,10 +136,6 @@ pub record TwoWindows (ws : List Window) (n k : ℕ) : Type 0 where
   pub are : ws ≡ top ∷ next ∷ under
   pub base_frame : top.base_frame ≡ n
   pub base_place : top.base_place ≡ k
-
-entered_first : (n : ℕ) (locals : List Local) (ps : List Path) (w : Window) (ws : List Window) → Entered n locals ps (w ∷ ws) → w.base_frame ≡ n
-entered_first n locals [] w ws h = absurd h
-entered_first n locals (p ∷ ps) w ws h = h.0
 
 two_of : (n : ℕ) (locals : List Local) (ps : List Path) (own under : List Window) (k : ℕ) (ks : List ℕ) → Entered n locals ps own
     → map (λ (w : Window). w.base_place) own ≡ k ∷ ks → WindowThere under → TwoWindows (own ++ under) n k

@@ -4,7 +4,7 @@ use Rattle.std.proofs.Common.{Result, Err}
 use Rattle.std.proofs.Common.{true≢false, refl, sym, ap, subst, ◌∙◌, arith, slice_get, unwrap_or}
 use Rattle.std.specs.Prelude.{not, nat_lt, nat_le, ◌+◌, is_some, option_and_then, ◌||◌, ◌==◌}
 use Rattle.std.specs.List.{list_any}
-use Rattle.std.proofs.lemmas.Bool.{lt-ltb, and_from}
+use Rattle.std.proofs.lemmas.Bool.{lt-ltb, and_from, not-true, not_from_false}
 use Rattle.std.proofs.lemmas.List.{length-map}
 use Rattle.std.proofs.lemmas.Option.{slice_get_within, same_Some}
 use Rattle.std.proofs.Common.{◌<◌, ◌-◌, map, replicate, length-append, inl, inr}
@@ -64,7 +64,7 @@ use Rattle.rg_stack.proofs.Needs.OnceLemmas.{owned_once-fits, loose-fits}
 use Rattle.rg_stack.proofs.Needs.ClosedLemmas.{slot-closed, behind-closed, slot-owns, field-owns}
 use Rattle.rg_stack.proofs.Needs.KeepLemmas.{base-by, keep-here, keep-away, fresh-open, plain-open}
 use Rattle.rg_stack.proofs.Needs.HolderLemmas.{top-field, field-closed, may_stand-fits}
-use Rattle.rg_stack.proofs.Walks.NeedLemmas.{not-false, not_true, same}
+use Rattle.rg_stack.proofs.Walks.NeedLemmas.{same}
 use Rattle.rg_stack.proofs.Walks.SlotLemmas.{ShowsSlots, slot_place}
 use Rattle.rg_stack.proofs.Walks.EndLemmas.{Round, work, state}
 use Rattle.rg_stack.proofs.Statements.RightLemmas.{Gave, RightNeeds, kept}
@@ -272,7 +272,7 @@ module _ (t : Tree) (r : Round) (store : List Seen) (slots : List Val) (locals :
       let c = bind-ok (ok_or (iso_class e.0.ty) Mismatch) _ j e.2 in
       let a = test-then (is_ready e.0.readiness) _ _ j c.2 in
       and_from (not (list_any (is_closed m) stack) && owned_once m) (owns_or_nil m (slot_at m (slot_of (scope_of locals) (Some y))))
-      (and_from (not (list_any (is_closed m) stack)) (owned_once m) (not-false _ shut) once_here)
+      (and_from (not (list_any (is_closed m) stack)) (owned_once m) (not_from_false _ shut) once_here)
       (owner-needs (Some y) e.0 (ok_or-ok (entry_of env (Some y)) Unknown e.0 e.1)
       (iso_type e.0.ty c.0 (ok_or-ok (iso_class e.0.ty) Mismatch c.0 c.1)).0 (ready-not_lent e.0.readiness a.0))
 
@@ -341,7 +341,7 @@ assign-needs classes code m f fs opened d k l there room apart_from ty v meets f
 assign-needs classes code m f fs opened d k l there room apart_from ty v meets fresh keeps false iso =
     and_from (nat_lt k (size_of m) && not (is_closed m (slot_at m k))) (may_keep m k v)
     (and_from (nat_lt k (size_of m)) (not (is_closed m (slot_at m k))) room
-    (not-false (is_closed m (slot_at m k)) (slot-closed classes m f fs opened d k l there iso))) keeps
+    (not_from_false (is_closed m (slot_at m k)) (slot-closed classes m f fs opened d k l there iso))) keeps
 
 -- The holder of a field
 
@@ -381,7 +381,7 @@ module _ (classes : List Class) (code : Code) (m : Machine) (f : Body) (fs : Lis
       ]) same
       ∙ and_from (is_field m k o && not (is_closed m (field_of o k))) (may_stand m o.label v)
       (and_from (is_field m k o) (not (is_closed m (field_of o k))) (top-field classes m (f ∷ fs) opened d k o h.field.value h.top at)
-      (not-false _ (field-closed classes m (f ∷ fs) opened d h.address k o h.field.field h.field.value there h.top field at
+      (not_from_false _ (field-closed classes m (f ∷ fs) opened d h.address k o h.field.field h.field.value there h.top field at
       (ap is_iso h.field.type_is ∙ iso))))
       (may_stand-fits classes m (f ∷ fs) opened d o.label ty v h.top meets fits iso)
 
@@ -421,7 +421,7 @@ module _ (classes : List Class) (code : Code) (m : Machine) (f : Body) (fs : Lis
       (and_from (owned_once m && is_field m k o) (owns_or_nil m (field_of o k))
       (and_from (owned_once m) (is_field m k o) (owned_once-fits classes m (f ∷ fs) opened d) (holder-field k u o x ty h.0 h.1))
       (holder-owns k u o x ty h.0 h.1 iso))
-      (not-false _ (behind-closed classes m f fs opened d z behind)))
+      (not_from_false _ (behind-closed classes m f fs opened d z behind)))
 
 module _ (t : Tree) (r : Round) (store : List Seen) (slots : List Val) (locals : List Local) (managers : List Manager) (input : List ℕ) (env : Env)
     (begun : Begun t r store slots locals managers env) where
@@ -442,7 +442,7 @@ module _ (t : Tree) (r : Round) (store : List Seen) (slots : List Val) (locals :
           (shows_fit t r store slots locals managers input env begun now after_slots after made left c.fits shows) ty v
           (below-iso ty e.ty less ∙ iso) c.fresh)
       by false away false iso h = keep-away (work r now after_slots made left).machine k v (plain-open (work r now after_slots made left).machine
-          r.opened e.ty v (below-meets now r.opened ty e.ty v less c.meets) iso (not_true (stays_at_depth e.ty) h))
+          r.opened e.ty v (below-meets now r.opened ty e.ty v less c.meets) iso (not-true (stays_at_depth e.ty) h))
 
   -- a variable takes what a right side gave
   pub variable-needs : (code : Code) (x : Variable) (e : Entry) → entry_of env x ≡ Some e → is_lent e.readiness ≡ false

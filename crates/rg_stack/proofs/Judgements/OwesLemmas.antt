@@ -4,6 +4,7 @@ use Rattle.std.proofs.Common.{find, Option, Some, None, ok_or, Ok, refl, sym, ap
 use Rattle.std.specs.Prelude.{bytes_eq, not, nat_lt, max, filter_map}
 use Rattle.std.proofs.lemmas.Option.{same_Some, none-some}
 use Rattle.std.proofs.lemmas.List.{length-map}
+use Rattle.std.proofs.lemmas.Bool.{eqb-true}
 use Rattle.rg_base.specs.declared.words.Cap.{Cap}
 use Rattle.rg_base.specs.declared.words.Cap.TheVariants.{Mut, Tmp, Paused, Imm, Iso}
 use Rattle.rg_base.specs.declared.ty.Ty.{Ty}
@@ -229,9 +230,6 @@ along classes (f ∷ fs) u t r same h =
     let behind : type_behind classes t f ≡ q.0.ty = (field_of_type classes t f k.class class_of_t).1 ∙ ap (λ d. unwrap_or d Int) k.declared in
     along classes fs p.0 (type_behind classes t f) r (sym (read-class q.0.receiver q.0.ty p.0 q.2) ∙ ap class_is (sym behind)) p.2
 
-same_number : (a b : ℕ) → (a == b) ≡ true → a ≡ b
-same_number a b h = grind arith
-
 pub iso_type : (t : Ty) (c : ℕ) → iso_class t ≡ Some c → (is_iso t ≡ true) × (class_is t ≡ Some c)
 iso_type Int c h = absurd (none-some c h)
 iso_type Bool c h = absurd (none-some c h)
@@ -300,7 +298,7 @@ module _ (classes : List Class) (store : List Seen) (windows : List Window) (ope
       let target : target_class classes (scope_of locals) c ≡ q.0.class = class_in classes d q.0.class class_of_d in
       let whole : record { result = method_result classes m.0; env = out.0 } ≡ j = grind arith in
       let result : j.result ≡ method_result classes m.0 = ap (λ (j : CallJudged). j.result) (sym whole) in
-      let many : length c.args ≡ length m.0.params = same_number (length c.args) (length m.0.params) a.0 in
+      let many : length c.args ≡ length m.0.params = eqb-true (length c.args) (length m.0.params) a.0 in
       record {
         out = out.0;
         judged = out.1;

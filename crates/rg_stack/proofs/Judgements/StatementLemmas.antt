@@ -5,7 +5,7 @@ use Rattle.std.specs.Prelude.{not, nat_lt, ◌||◌, ◌&&◌}
 use Rattle.std.proofs.Common.{◌≤◌}
 use Rattle.std.proofs.lemmas.Option.{none-some, same_Some}
 use Rattle.std.proofs.lemmas.List.{length-map, length-reverse}
-use Rattle.std.proofs.lemmas.Bool.{and_from}
+use Rattle.std.proofs.lemmas.Bool.{and_from, not-true, not_from_false}
 use Rattle.rg_base.specs.declared.ty.Ty.{Ty}
 use Rattle.rg_base.specs.declared.ty.Ty.TheVariants.{Bool}
 use Rattle.rg_base.specs.declared.value.Val.{Val}
@@ -54,7 +54,6 @@ use Rattle.rg_stack.proofs.Walks.PlaceLemmas.{GoesOn, AllGoOn}
 use Rattle.rg_stack.proofs.Walks.FrameLemmas.{OpenedBelow}
 use Rattle.rg_stack.proofs.Walks.SlotLemmas.{Has, cleared_slots, slot_place}
 use Rattle.rg_stack.proofs.Walks.EndLemmas.{Round, work, state, UsesUp, middle_whole, keeps_same}
-use Rattle.rg_stack.proofs.Walks.NeedLemmas.{not-false, not_true}
 use Rattle.rg_stack.proofs.Needs.ClosedLemmas.{not_iso-closed, behind-closed}
 use Rattle.rg_stack.proofs.Needs.KeepLemmas.{base-by}
 use Rattle.rg_stack.proofs.Needs.OnceLemmas.{owned_once-fits, loose-fits}
@@ -298,7 +297,7 @@ module _ (t : Tree) (accepted : Accepted t) (r : Round) (store : List Seen) (slo
       let there = ok_or-ok (entry_of env x) Unknown e.0 e.1 in
       let k = right-comes t r store slots locals managers input env f.begun (Assigns x) right e.0.ty p.0 (j ∷ rest) p.1 i now after made
       left v gave in
-      variable-needs t r store slots locals managers input env f.begun code x e.0 there (not_true (is_lent e.0.readiness) c.0)
+      variable-needs t r store slots locals managers input env f.begun code x e.0 there (not-true (is_lent e.0.readiness) c.0)
       ((facts f).declared x e.0 there) b.0 p.0.ty (right-below right i t.classes env e.0.ty p.0 p.1) now after_slots after made left v m.shows
       m.scope_is k)
 
@@ -339,7 +338,7 @@ module _ (t : Tree) (accepted : Accepted t) (r : Round) (store : List Seen) (slo
       let p = bind-ok (judge_right t.classes env w.0 right) _ out b.1 in
       let k = bind-ok (walk_receiver t.classes env x g gs) _ w.0 w.1 in
       put-mirrors t.classes code r store slots locals managers input line j rest x g gs right h refl
-      (owes-right w.0 right p.0 f p.1 (not_true (is_call right) b.0))
+      (owes-right w.0 right p.0 f p.1 (not-true (is_call right) b.0))
       (holder-follows t.classes env store r.windows locals (facts f) x g gs k.0 k.1)
       (holder-owes t.classes env store r.windows locals (facts f) x g gs k.0 k.1)
       (λ u o led there.
@@ -347,10 +346,10 @@ module _ (t : Tree) (accepted : Accepted t) (r : Round) (store : List Seen) (slo
         right-needs t r store slots locals managers input env f.begun code w.0 right p.0 (u ∷ [])
             (receiver-open t r store slots locals managers input env f.begun (last_field g gs) w.0 u o h) p.1,
         λ now after_slots after made left v m gave.
-            let c = right-comes t r store slots locals managers input env f.begun Drops right w.0 p.0 (j ∷ rest) p.1 (not_true (is_call right) b.0)
+            let c = right-comes t r store slots locals managers input env f.begun Drops right w.0 p.0 (j ∷ rest) p.1 (not-true (is_call right) b.0)
             now after made left v gave in
-            field-needs t r store slots locals managers input env f.begun accepted code x g gs w.0 p.0.ty (not_true (is_iso w.0) a.0)
-            (right-below right (not_true (is_call right) b.0) t.classes env w.0 p.0 p.1)
+            field-needs t r store slots locals managers input env f.begun accepted code x g gs w.0 p.0.ty (not-true (is_iso w.0) a.0)
+            (right-below right (not-true (is_call right) b.0) t.classes env w.0 p.0 p.1)
             (held_number t.classes (scope_of locals) x g gs) u o h
             (holder-owes t.classes env store r.windows locals (facts f) x g gs k.0 k.1 u o led there) now after_slots after made left v m.shows c,
       ))
@@ -427,7 +426,7 @@ module _ (t : Tree) (accepted : Accepted t) (r : Round) (store : List Seen) (slo
       and_from (owned_once m && owns_or_nil m (slot_at m s)) (not (is_closed m (slot_at m (length (scope_of locals)))))
       (and_from (owned_once m) (owns_or_nil m (slot_at m s)) (once f)
       (owner-needs t r store slots locals managers input env f.begun x e.0 there iso.0 (ready-not_lent e.0.readiness ready.0)))
-      (not-false _ (behind-closed t.classes m (running r locals) r.bodies r.opened (fit_here t r store slots locals managers input env f.begun)
+      (not_from_false _ (behind-closed t.classes m (running r locals) r.bodies r.opened (fit_here t r store slots locals managers input env f.begun)
       (length (scope_of locals)) behind)))
   enter_by x (g ∷ gs) z b front f h judged goes =
       let w = bind-ok (writable_field t.classes env x g gs) _ front judged in

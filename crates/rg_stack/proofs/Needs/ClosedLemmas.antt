@@ -32,6 +32,7 @@ use Rattle.rg_sound.proofs.Owners.OpenLemmas.{IsOpenIn}
 use Rattle.rg_sound.proofs.Owners.OwnerLemmas.{AllOwners, leads-top}
 use Rattle.rg_sound.proofs.Owners.ReceiverLemmas.{IsTop, top-not_owner_field, field-leads as leads-field}
 use Rattle.rg_sound.proofs.Values.LabelLemmas.{windows_of-open}
+use Rattle.rg_sound.proofs.WritableLemmas.{top-live}
 use Rattle.rg_stack.specs.Machine.{Frame, Machine, top_slots, slot_at}
 use Rattle.rg_stack.specs.Shows.{ShowsFrames}
 use Rattle.rg_stack.specs.Needs.{is_open, is_closed, owns_or_nil, field_of}
@@ -175,7 +176,7 @@ slot-owns classes m b bs opened d i l at iso apart =
 
 -- Fields of objects of the topmost window
 
-temp-region : (ws : List Opened) (l : Label) → TempFieldFits ws Iso l → IsRegion l
+pub temp-region : (ws : List Opened) (l : Label) → TempFieldFits ws Iso l → IsRegion l
 temp-region [] l h = h
 temp-region (w ∷ ws) l h = h
 
@@ -183,11 +184,6 @@ field-region : (ws : List Opened) (own : Label) → (own ≡ Frozen → ⊥) →
 field-region ws (Region r) live l h = h
 field-region ws (Temp n) live l h = temp-region (windows_from n ws) l h
 field-region ws Frozen live l h = absurd (live refl)
-
-top-live : (ws : List Opened) (l : Label) → IsTop ws l → l ≡ Frozen → ⊥
-top-live [] l h e = absurd h
-top-live (w ∷ ws) l (inl h) e = none-some (ap region_of (sym e ∙ h))
-top-live (w ∷ ws) l (inr h) e = grind arith
 
 -- an `iso` field
 pub field-owns : (classes : List Class) (m : Machine) (bodies : List Body) (opened : List Opened) → ShowsFit classes m bodies opened → (a k : ℕ)

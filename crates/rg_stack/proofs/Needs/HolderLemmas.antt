@@ -2,7 +2,7 @@
 -- value may stand there.
 use Rattle.std.proofs.Common.{◌≡◌, ◌⊎◌, inl, inr, ℕ, ◌==◌, nat_lt, Bool as Truth, true, false, true≢false, ◌&&◌, ◌||◌, not, List, [], ◌∷◌}
 use Rattle.std.proofs.Common.{Option, Some, None, option_and_then, unwrap_or, length, slice_get, refl, sym, ap, subst, ◌∙◌, arith}
-use Rattle.std.proofs.lemmas.Bool.{lt-ltb}
+use Rattle.std.proofs.lemmas.Bool.{lt-ltb, eq-eqb}
 use Rattle.std.proofs.lemmas.Option.{slice_get_within}
 use Rattle.rg_base.specs.declared.words.Cap.{Cap}
 use Rattle.rg_base.specs.declared.words.Cap.TheVariants.{Mut, Tmp, Paused, Imm, Iso}
@@ -30,9 +30,6 @@ use Rattle.rg_stack.proofs.Needs.LeadLemmas.{ShowsFit, not-closed, field-leads}
 use Rattle.rg_stack.proofs.Needs.ClosedLemmas.{none-owned, not_iso-closed}
 use Rattle.rg_stack.proofs.Basics.{or-left}
 
-number-same : (n m : ℕ) → n ≡ m → (n == m) ≡ true
-number-same n m e = grind arith
-
 top-shown : (sizes : List ℕ) (ws : List Window) (ps : List Opened) (l : Label) → ShowsWindows sizes ws ps → IsTop ps l →
     (l ≡ Region (top_region ws)) ⊎ (l ≡ Temp (top_window ws))
 top-shown sizes [] [] l h top = absurd top
@@ -47,8 +44,8 @@ pub top-writable : (classes : List Class) (m : Machine) (bodies : List Body) (op
 top-writable classes m bodies opened d l top =
     let P : Label → Type 0 = λ q. is_writable m q ≡ true in
     elim (top-shown d.sizes m.windows opened l d.windows top) [
-      | inl e ↦ subst P (sym e) (number-same (top_region m.windows) (top_region m.windows) refl)
-      | inr e ↦ subst P (sym e) (number-same (top_window m.windows) (top_window m.windows) refl)
+      | inl e ↦ subst P (sym e) (eq-eqb (top_region m.windows) (top_region m.windows) refl)
+      | inr e ↦ subst P (sym e) (eq-eqb (top_window m.windows) (top_window m.windows) refl)
     ]
 
 -- in a field that it has
@@ -68,7 +65,7 @@ outside-by sizes (w ∷ ws) (p ∷ ps) l r h (inl at) e =
     subst P (sym at) (ap not (ap (λ n. n == r) (sym h.0.region) ∙ or-left (w.region == r) (is_open ws r) e))
 outside-by sizes (w ∷ ws) (p ∷ ps) l r h (inr at) e =
     let P : Label → Type 0 = λ q. is_outside (w ∷ ws) r q ≡ true in
-    subst P (sym at) (ap (λ b. b || has_window ws p.number) (number-same w.number p.number h.0.number))
+    subst P (sym at) (ap (λ b. b || has_window ws p.number) (eq-eqb w.number p.number h.0.number))
 
 -- and it is outside of each closed region
 pub top-outside : (classes : List Class) (m : Machine) (bodies : List Body) (opened : List Opened) → ShowsFit classes m bodies opened →
@@ -109,7 +106,7 @@ in-region m r (ty.Ref cap c) (val.Obj a) meets iso = ap test (ap (option_and_the
     test (Some Frozen) = true
 
     by : (cap : Cap) (l : Label) → RegionFieldFits r cap l → is_iso (ty.Ref cap c) ≡ false → test (Some l) ≡ true
-    by Mut l h e = ap (λ q. test (Some q)) h ∙ number-same r r refl
+    by Mut l h e = ap (λ q. test (Some q)) h ∙ eq-eqb r r refl
     by Tmp l h e = absurd h
     by Paused l h e = absurd h
     by Imm l h e = ap (λ q. test (Some q)) h

@@ -1,7 +1,7 @@
 -- Where the topmost window closes, its temporaries may go: nothing that stays leads to one.
 use Rattle.std.proofs.Common.{◌≡◌, ◌≢◌, inl, inr, ℕ, suc, ◌<◌, ◌==◌, Bool as Truth, true, false, true≢false, ◌&&◌, ◌||◌, not, List, [], ◌∷◌}
 use Rattle.std.proofs.Common.{if◌then◌else◌, Option, Some, None, option_and_then, length, map, slice_get, refl, sym, ap, subst, ◌∙◌, arith}
-use Rattle.std.proofs.lemmas.Bool.{and_from}
+use Rattle.std.proofs.lemmas.Bool.{and_from, eqb-true}
 use Rattle.std.specs.List.{list_any}
 use Rattle.rg_base.specs.declared.words.Cap.{Cap}
 use Rattle.rg_base.specs.declared.words.Cap.TheVariants.{Mut, Tmp, Paused, Imm, Iso}
@@ -124,9 +124,6 @@ slots-none store w ws test rising to (f ∷ fs) (b ∷ bs) h v front =
 
 -- no field of what stays does
 
-equal : (n m : ℕ) → (n == m) ≡ true → n ≡ m
-equal n m e = grind arith
-
 region-none : (r : ℕ) (cap : Cap) (l : Label) (n : ℕ) → l ≡ Temp n → RegionFieldFits r cap l → ⊥
 region-none r Mut l n e h = let no_temp : Temp n ≡ Region r = sym e ∙ h in grind arith
 region-none r Tmp l n e h = h
@@ -141,7 +138,7 @@ field-none w ws rising (Region r) stays cap l e h = region-none r cap l w.number
 field-none w ws rising Frozen stays cap l e h = let no_temp : Temp w.number ≡ Frozen = sym e ∙ h in grind arith
 field-none w ws rising (Temp n) stays cap l e h =
     let other = stays n refl in
-    let apart : (w.number == n) ≡ false = refused (λ k. k == n) w.number (λ x. other.0 (sym (equal w.number n x))) in
+    let apart : (w.number == n) ≡ false = refused (λ k. k == n) w.number (λ x. other.0 (sym (eqb-true w.number n x))) in
     let P : Truth → Type 0 = λ b. TempFieldFits (if b then w ∷ ws else windows_from n ws) cap l in
     let Q : Truth → Type 0 = λ b. (if b then w ∷ ws else windows_from n ws) ≡ [] → ⊥ in
     let us = windows_from n ws in

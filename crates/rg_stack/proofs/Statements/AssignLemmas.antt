@@ -3,7 +3,7 @@ use Rattle.std.proofs.Common.{◌≡◌, ℕ, ◌+◌, ◌<◌, true, false, Boo
 use Rattle.std.proofs.Common.{Result, Ok, Err, refl, sym, ap, subst, ◌∙◌, arith, append_assoc, length-append, slice_get, slice_set}
 use Rattle.std.proofs.Common.{unwrap_or}
 use Rattle.std.specs.Prelude.{not, nat_lt, nat_le}
-use Rattle.std.proofs.lemmas.Bool.{lt-ltb, and_from}
+use Rattle.std.proofs.lemmas.Bool.{lt-ltb, and_from, not_from_false}
 use Rattle.std.proofs.lemmas.List.{length-map, map-append, length-set}
 use Rattle.rg_base.specs.declared.value.Val.{Val}
 use Rattle.rg_base.specs.declared.value.Val.TheVariants as val
@@ -39,7 +39,7 @@ use Rattle.rg_stack.proofs.Walks.FrameLemmas.{room_of, shows_next}
 use Rattle.rg_stack.proofs.Walks.SlotLemmas.{ShowsSlots, Has, shows_put, slot_place, scope-length, scope_set}
 use Rattle.rg_stack.proofs.Walks.EndLemmas.{EndsAs, value_ends, Round, work, state, level, RoundShows, Middle, Keeps, keeps_same, slots_hold}
 use Rattle.rg_stack.proofs.Walks.EndLemmas.{finish_at, statement_step}
-use Rattle.rg_stack.proofs.Walks.NeedLemmas.{given, not-false, nil-open, free_slot}
+use Rattle.rg_stack.proofs.Walks.NeedLemmas.{given, nil-open, free_slot}
 use Rattle.rg_stack.proofs.Needs.KeepLemmas.{keep-here}
 use Rattle.rg_stack.proofs.Statements.BaseLemmas.{if_ends}
 use Rattle.rg_stack.proofs.Statements.RightLemmas.{Opens, RightOwes, RightNeeds, Gave, right_ends, walk-pace}
@@ -184,7 +184,7 @@ module _ (classes : List Class) (code : Code) (r : Round) (store : List Seen) (s
       (walk code (pace ++ tail) (r.at + 1 + length ops + 1) 0 [] (work r store (slice_set slots k v) managers input)) Stuck
       (and_from _ (may_keep (work r store slots managers input).machine k v)
       (and_from (nat_lt k (length slots)) (not (is_closed (work r store slots managers input).machine (unwrap_or (slice_get slots k) val.Nil)))
-      (lt-ltb k (length slots) room) (not-false _ free)) keeps)
+      (lt-ltb k (length slots) room) (not_from_false _ free)) keeps)
       (subst (λ y. EndsAs classes code r.output (Ok (state r store (locals ++ l ∷ []) managers input (j ∷ rest))) y)
       (sym (walk-pace classes code right tail (r.at + 1 + length ops + 1) (work r store (slice_set slots k v) managers input)))
       (finish_at classes code r store (slice_set slots k v) (locals ++ l ∷ []) managers input j rest size end

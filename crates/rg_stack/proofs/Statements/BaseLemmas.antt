@@ -74,7 +74,7 @@ shown-room f b h =
           (λ (l : Local). l.value),
     )
 
-based-there : (fs : List Body) (p : Opened) → Based fs p → p.base_frame < length fs
+pub based-there : (fs : List Body) (p : Opened) → Based fs p → p.base_frame < length fs
 based-there [] p h = absurd h
 based-there (f ∷ fs) p (inl h) = let e = h.0 in omega (arith, e)
 based-there (f ∷ fs) p (inr h) = let l = based-there fs p h in omega (arith, l)

@@ -2,6 +2,7 @@
 use Rattle.std.proofs.Common.{◌≡◌, ℕ, zero, suc, ◌+◌, ◌-◌, true, false, true≢false, Bool as Truth, if◌then◌else◌, List, [], ◌∷◌, ◌++◌, length, take}
 use Rattle.std.proofs.Common.{drop, replicate, Option, Some, None, Ok, refl, sym, ap, subst, ◌∙◌, arith, append_assoc, length-append, slice_get}
 use Rattle.std.proofs.lemmas.List.{length-map, length-replicate, take-map}
+use Rattle.std.proofs.lemmas.Bool.{not_from_false}
 use Rattle.std.specs.Prelude.{not}
 use Rattle.rg_base.specs.declared.value.Val.{Val}
 use Rattle.rg_base.specs.declared.value.Val.TheVariants as val
@@ -34,7 +35,6 @@ use Rattle.rg_stack.proofs.Walks.PlaceLemmas.{take-block_scope, block_scope}
 use Rattle.rg_stack.proofs.Walks.SlotLemmas.{ShowsSlots, values_in, shows_at, cleared_slots}
 use Rattle.rg_stack.proofs.Walks.EndLemmas.{EndsAs, ended, computed_ends, Round, work, state, level, finish, finish_at, statement_step, walk-whole}
 use Rattle.rg_stack.proofs.Walks.EndLemmas.{middle_whole, UsesUp}
-use Rattle.rg_stack.proofs.Walks.NeedLemmas.{not-false}
 use Rattle.rg_stack.proofs.Statements.BaseLemmas.{if_ends}
 use Rattle.rg_stack.proofs.Statements.AssignLemmas.{round_of, middle_of}
 
@@ -210,7 +210,7 @@ module _ (classes : List Class) (code : Code) (r : Round) (store : List Seen) (s
       walk code inner (r.at + 1 + length (whole_code classes (scope_of locals) (r.at + 1) e) + 1) 0 [] (work r store (slots_after e) managers input)
       else walk code inner (r.at + 1 + length (whole_code classes (scope_of locals) (r.at + 1) e) + 1)
       (jump - (r.at + 1 + length (whole_code classes (scope_of locals) (r.at + 1) e) + 1)) [] (work r store (slots_after e) managers input)) Stuck
-      (not-false _ (ap (is_closed (work r store (slots_after e) managers input).machine) (truth v is)))
+      (not_from_false _ (ap (is_closed (work r store (slots_after e) managers input).machine) (truth v is)))
       (ways_end classes code r.output (as_bool v) (into s) (over s) _ _ one two)))
 
   -- a step into a block: it begins where its items lie
@@ -446,7 +446,7 @@ module _ (classes : List Class) (code : Code) (r : Round) (store : List Seen) (s
       let w = record (work r store (slots_after e) managers input) { printed = Some v } in
       let lies = subst (λ s. Lies classes code.ops (level r s (length slots) ∷ levels) (j ∷ rest) end) (sym m.scope_is) h.places.1 in
       if_ends classes code r.output (Ok after) (not (is_closed (work r store (slots_after e) managers input).machine v))
-      (walk code tail (r.at + 1 + length whole + 1) 0 [] w) Stuck (not-false _ (plain v is))
+      (walk code tail (r.at + 1 + length whole + 1) 0 [] w) Stuck (not_from_false _ (plain v is))
       (subst (λ x. EndsAs classes code r.output (Ok after) x)
       (sym (ap (λ k. walk code tail k 0 [] w) there ∙ walk_to_items classes code (level r (scope_of (locals_after e)) (length slots) ∷ levels) j
       rest end w lies))

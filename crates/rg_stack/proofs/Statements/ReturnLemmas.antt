@@ -2,7 +2,7 @@
 use Rattle.std.proofs.Common.{◌≡◌, if◌then◌else◌, ℕ, ◌+◌, ◌<◌, true, true≢false, List, [], ◌∷◌, ◌++◌, length, map, drop, Some, Ok, refl, sym, ap}
 use Rattle.std.proofs.Common.{subst, ◌∙◌, append_assoc, slice_get, slice_set, unwrap_or}
 use Rattle.std.specs.Prelude.{not, nat_lt, nat_le, ◌&&◌}
-use Rattle.std.proofs.lemmas.Bool.{lt-ltb, and_from}
+use Rattle.std.proofs.lemmas.Bool.{lt-ltb, and_from, not_from_false}
 use Rattle.std.proofs.Common.{arith}
 use Rattle.std.proofs.lemmas.List.{length-map, map-append, length-set, reverse-append, drop-drop}
 use Rattle.rg_base.specs.declared.value.Val.{Val}
@@ -32,7 +32,7 @@ use Rattle.rg_stack.proofs.Walks.WalkLemmas.{Agrees}
 use Rattle.rg_stack.proofs.Walks.MarkLemmas.{mark-there, drop-stands, first-drop, walk_to_items}
 use Rattle.rg_stack.proofs.Walks.FrameLemmas.{work_of, state_of, room_of, shows_next, OpenedBelow, windows_below}
 use Rattle.rg_stack.proofs.Walks.SlotLemmas.{ShowsSlots, Has, cleared_slots, shows_put, slot_place, scope_set}
-use Rattle.rg_stack.proofs.Walks.NeedLemmas.{given, not-false, nil-open, free_slot}
+use Rattle.rg_stack.proofs.Walks.NeedLemmas.{given, nil-open, free_slot}
 use Rattle.rg_stack.proofs.Walks.EndLemmas.{comes, Landed, EndsAs, computed_ends, Round, work, state, level, RoundShows, finish, statement_step}
 use Rattle.rg_stack.proofs.Walks.EndLemmas.{walk-whole, UsesUp}
 use Rattle.rg_stack.proofs.Needs.KeepLemmas.{keep-here}
@@ -94,7 +94,7 @@ taken_lands classes code r store slots locals managers input j rest (Declares x 
     let free : needs code (i.Store k) (v ∷ []) m ≡ true =
     and_from (nat_lt k (length slots) && not (is_closed m (unwrap_or (slice_get slots k) val.Nil))) (may_keep m k v)
     (and_from (nat_lt k (length slots)) (not (is_closed m (unwrap_or (slice_get slots k) val.Nil)))
-    (lt-ltb k (length slots) (omega (arith, is, room))) (not-false _
+    (lt-ltb k (length slots) (omega (arith, is, room))) (not_from_false _
     (nil-open m (unwrap_or (slice_get slots k) val.Nil) (ap (λ n. unwrap_or (slice_get slots n) val.Nil) is ∙ free_slot slots locals shows))))
     (keep-here m k v (subst (λ n. nat_le (top_base r.windows) (slots_below r.frames + n) ≡ true) (sym is) need)) in
     let names : with_slot scope (Some x) t ≡ scope_of (locals ++ l ∷ []) = sym

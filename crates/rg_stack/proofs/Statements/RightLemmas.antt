@@ -2,7 +2,8 @@
 use Rattle.std.proofs.Common.{◌≡◌, ℕ, zero, suc, ◌+◌, true, false, true≢false, Bool as Truth, if◌then◌else◌, List, [], ◌∷◌, ◌++◌, length, map}
 use Rattle.std.proofs.Common.{Option, Some, None, option_map, Ok, Err, refl, sym, ap, subst, ◌∙◌, arith, slice_get, slice_set, unwrap_or}
 use Rattle.std.proofs.lemmas.List.{length-set}
-use Rattle.std.specs.Prelude.{bytes_eq, filter_map}
+use Rattle.std.proofs.lemmas.Option.{none-some}
+use Rattle.std.specs.Prelude.{filter_map}
 use Rattle.rg_base.specs.declared.value.Val.{Val}
 use Rattle.rg_base.specs.declared.value.Val.TheVariants as val
 use Rattle.rg_base.specs.declared.value.Word.{Word}
@@ -20,6 +21,7 @@ use Rattle.rg_rules.specs.State.{Local, Target, value_in, set_in, State, Window 
 use Rattle.rg_rules.specs.Evaluation.{object_at, value_of, uses, cleared}
 use Rattle.rg_rules.specs.Regions.{region_of, in_regions, beneath, relabelled, relabelled_object}
 use Rattle.rg_rules.specs.RightSides.{Use, opening_value, new_object, frozen, merged, consumed, taken, is_left, with_right}
+use Rattle.rg_sound.proofs.Stores.MakeLemmas.{class-at}
 use Rattle.rg_code.specs.declared.op.Op.{Op}
 use Rattle.rg_code.specs.declared.op.Op.TheVariants as i
 use Rattle.rg_code.specs.Code.{Code}
@@ -54,16 +56,6 @@ words_at [] n k h = absurd (true≢false (sym (ap (λ (o : Option Class). elim o
 words_at (c ∷ cs) zero k h = ap (option_map (λ (c : Class). opening_words c.members)) h
 words_at (c ∷ cs) (suc n) k h = words_at cs n k h
 
-class_by : (t : Truth) (c k : Class) (cs : List Class) (rest : Option Class) (n : ℕ) → (rest ≡ Some k → slice_get cs n ≡ Some k)
-    → (if t then Some c else rest) ≡ Some k → slice_get (c ∷ cs) (if t then 0 else suc n) ≡ Some k
-class_by true c k cs rest n ih h = h
-class_by false c k cs rest n ih h = ih h
-
--- the class of a name stands at its number
-pub class_at : (classes : List Class) (x : Name) (k : Class) → class_named classes x ≡ Some k → slice_get classes (class_number classes x) ≡ Some k
-class_at [] x k h = h
-class_at (c ∷ cs) x k h = class_by (bytes_eq c.name x) c k cs (class_named cs x) (class_number cs x) (class_at cs x k) h
-
 -- the openings of a code are those of the classes
 abbrev pub Opens : List Class → Code → Type 0
 Opens classes code = code.openings ≡ map (λ (c : Class). opening_words c.members) classes
@@ -86,7 +78,7 @@ seen_is : (classes : List Class) (code : Code) (x : Name) (k : Class) (label her
     }) (new_object classes x label)
 seen_is classes code x k label here opens named same =
     ap (λ fs. record { class = class_number classes x; fields = fs; label = here })
-    (opens_as classes code (class_number classes x) k opens (class_at classes x k named))
+    (opens_as classes code (class_number classes x) k opens (class-at classes x k named))
     ∙ ap (λ l. record {
       class = class_number classes x;
       fields = map (λ (f : Field). opening_value f.ty)
@@ -109,16 +101,13 @@ same_window sizes (w ∷ ws) (p ∷ ps) h = h.0.number
 
 -- objects keep their classes
 
-none_some : {A : Type 0} (a : A) → None ≡ Some a → ⊥
-none_some a e = true≢false (sym (ap (λ o. elim o [ Some x ↦ true | None ↦ false ]) e))
-
 get_append : (xs ys : List Seen) (a : ℕ) (o : Seen) → slice_get xs a ≡ Some o → slice_get (xs ++ ys) a ≡ Some o
-get_append [] ys a o h = absurd (none_some o h)
+get_append [] ys a o h = absurd (none-some o h)
 get_append (x ∷ xs) ys zero o h = h
 get_append (x ∷ xs) ys (suc a) o h = get_append xs ys a o h
 
 get_map : (f : Seen → Seen) (xs : List Seen) (a : ℕ) (o : Seen) → slice_get xs a ≡ Some o → slice_get (map f xs) a ≡ Some (f o)
-get_map f [] a o h = absurd (none_some o h)
+get_map f [] a o h = absurd (none-some o h)
 get_map f (x ∷ xs) zero o h = ap (option_map f) h
 get_map f (x ∷ xs) (suc a) o h = get_map f xs a o h
 
@@ -218,7 +207,7 @@ plain-opens : (classes : List Class) (code : Code) (x : Name) (k : Class) → Op
     → opens_plain code (class_number classes x) ≡ true
 plain-opens classes code x k opens named =
     ap (λ l. leads_nowhere (unwrap_or (slice_get l (class_number classes x)) [])) opens
-    ∙ ap (λ o. leads_nowhere (unwrap_or o [])) (words_at classes (class_number classes x) k (class_at classes x k named))
+    ∙ ap (λ o. leads_nowhere (unwrap_or o [])) (words_at classes (class_number classes x) k (class-at classes x k named))
     ∙ plain_words k.members
 
 module _ (classes : List Class) (code : Code) (r : Round) (scope : Scope) (n : ℕ) (old : List Seen) (items : List Item) where

@@ -1,5 +1,5 @@
 -- What instructions need, where it is there whatever the program: a slot that is nil, a value that is on the stack, and openings.
-use Rattle.std.proofs.Common.{◌≡◌, ℕ, zero, suc, ◌+◌, ◌-◌, true, false, true≢false, Bool as Truth, ◌||◌, ◌==◌, not, if◌then◌else◌, ◌⊎◌, inl}
+use Rattle.std.proofs.Common.{◌≡◌, ℕ, zero, suc, ◌+◌, ◌-◌, true, false, true≢false, Bool as Truth, ◌||◌, ◌==◌, if◌then◌else◌, ◌⊎◌, inl}
 use Rattle.std.proofs.Common.{inr}
 use Rattle.std.proofs.Common.{List, [], ◌∷◌, ◌++◌, length, map, replicate, Option, Some, None, refl, sym, ap, subst, ◌∙◌, arith, slice_get}
 use Rattle.std.proofs.Common.{slice_set, unwrap_or, option_and_then}
@@ -7,7 +7,7 @@ use Rattle.std.proofs.lemmas.List.{length-map}
 use Rattle.std.specs.Prelude.{nat_le, cond, count_by}
 use Rattle.std.proofs.Common.{◌≤◌}
 use Rattle.std.proofs.lemmas.List.Sums.{sum_by-cons}
-use Rattle.std.proofs.lemmas.Bool.{le-leb, leb-true, and_from, or_right}
+use Rattle.std.proofs.lemmas.Bool.{le-leb, leb-true, and_from, or_right, or_left}
 use Rattle.std.specs.List.{list_any}
 use Rattle.rg_base.specs.declared.object.Seen.{Seen}
 use Rattle.rg_base.specs.declared.object.Label.{Label}
@@ -28,14 +28,6 @@ use Rattle.rg_stack.proofs.Basics.{and-left, and-right}
 -- an instruction that is given what it needs
 pub given : (t : Truth) (x : Walked) → t ≡ true → (if t then x else Stuck) ≡ x
 given t x e = ap (λ b. if b then x else Stuck) e
-
-pub not-false : (t : Truth) → t ≡ false → not t ≡ true
-not-false true e = absurd (true≢false e)
-not-false false e = refl
-
-pub not_true : (t : Truth) → not t ≡ true → t ≡ false
-not_true true h = absurd (true≢false (sym h))
-not_true false h = refl
 
 -- the slot behind the variables is nil
 first_behind : (vals : List Val) (k : ℕ) → unwrap_or (slice_get (vals ++ replicate k val.Nil) (length vals)) val.Nil ≡ val.Nil
@@ -59,10 +51,6 @@ nil-open m v e = ap (is_closed m) e
 abbrev pub AmongValues : Val → List Val → Type 0
 AmongValues v [] = ⊥
 AmongValues v (u ∷ us) = (u ≡ v) ⊎ AmongValues v us
-
-or_left : (a b : Truth) → a ≡ true → (a || b) ≡ true
-or_left true b e = refl
-or_left false b e = absurd (true≢false (sym e))
 
 pub same : (n : ℕ) → (n == n) ≡ true
 same n = grind arith
@@ -146,7 +134,7 @@ fewer_by : (shut : Truth) (n k : ℕ) → n ≤ k → (shut || nat_le k 1) ≡ t
 fewer_by true n k less h = refl
 fewer_by false n k less h = le-leb n 1 (let most = leb-true k 1 h in omega (arith, less, most))
 
-below_by : (n : ℕ) (a b : ℕ → Truth) → ((k : ℕ) → a k ≡ true → b k ≡ true) → all_below n a ≡ true → all_below n b ≡ true
+pub below_by : (n : ℕ) (a b : ℕ → Truth) → ((k : ℕ) → a k ≡ true → b k ≡ true) → all_below n a ≡ true → all_below n b ≡ true
 below_by zero a b h e = refl
 below_by (suc n) a b h e = and_from (b n) (all_below n b) (h n (and-left (a n) (all_below n a) e))
     (below_by n a b h (and-right (a n) (all_below n a) e))

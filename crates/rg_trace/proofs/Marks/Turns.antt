@@ -4,13 +4,14 @@ use Rattle.std.proofs.Common.{None, get_or}
 use Rattle.std.proofs.Common.{set, refl, ap, sym, ◌∙◌, subst, arith, ◌⊎◌, inl, inr, slice_get, option_map}
 use Rattle.rg_cells.specs.declared.cell.Body.{Body}
 use Rattle.std.proofs.lemmas.List.{get_or-set_same, get_or-set_other}
-use Rattle.std.proofs.lemmas.Option.{slice_get_within}
+use Rattle.std.proofs.lemmas.Option.{slice_get_within, same_Some}
 use Rattle.std.proofs.lemmas.Bool.Decides.{eqb_tells}
 use Rattle.std.proofs.lemmas.Bool.{cases_eq, cases_lt}
 use Rattle.rg_base.specs.declared.value.Word.{Word}
 use Rattle.rg_base.specs.declared.value.Word.TheVariants.{Slot}
 use Rattle.rg_base.specs.declared.object.Label.{Label}
 use Rattle.rg_base.specs.declared.object.Label.TheVariants.{Region, Temp, Frozen}
+use Rattle.rg_base.proofs.Callers.Labels.{slot-same}
 use Rattle.rg_cells.specs.Table.{Heap, Table, field_at, body_at, body_in, width, mark_at, link_at}
 use Rattle.rg_regions.specs.Reach.{LiesIn, Roots, Walk, belongs, is_region, is_bridge, in_slots, in_temps}
 use Rattle.rg_trace.specs.Marking.{black_fields}
@@ -23,12 +24,6 @@ use Rattle.rg_trace.proofs.Marks.Weights.{known-black, fields-black, pending-bla
 use Rattle.rg_trace.proofs.Marks.Colours.{greyed, went-grey, went-none, went-then, popped, reached-marked}
 use Rattle.rg_trace.proofs.Marks.Colours.{marked-reached, none-grey, walk-lies}
 use Rattle.rg_regions.proofs.Callers.Told.{field_within}
-
-slot_is : (a b : ℕ) → Slot a ≡ Slot b → a ≡ b
-slot_is a b q = cc
-
-word_is : (a b : Word) → Some a ≡ Some b → a ≡ b
-word_is a b q = cc
 
 pub near-later : (h : Heap) (r : ℕ) (roots : Roots) (old new : List ℕ) (s : ℕ) → OnlyGreyed h r old new
     → Near h r roots old s → Near h r roots new s
@@ -64,7 +59,7 @@ turn-taken r slot t head lies white l n = record {
   went = went-grey t.heap r t.marks slot lies white l;
   links = λ s n. get_or-set_other t.links slot s head None (λ q. let L : ℕ → Type 0 = λ y. LiesIn t.heap r y in
       n (subst L (sym q) lies));
-  found = λ s e i. let q : slot ≡ s = slot_is slot s e in let o : get_or (set t.marks slot 1) s 0
+  found = λ s e i. let q : slot ≡ s = slot-same slot s e in let o : get_or (set t.marks slot 1) s 0
       ≡ 1 = ap (λ k. get_or (set t.marks slot 1) k 0) (sym q) ∙ get_or-set_same t.marks slot 1 0 l in omega (arith, o);
   marking = λ roots near m. (
     slot ∷ m.0,
@@ -108,7 +103,7 @@ scanned-more h r word n old mid new head middle result w at a b = record {
   links = λ s n. b.links s n ∙ a.links s n;
   found = λ k s l e i. elim (cases_lt k n) [
     | inl m ↦ b.went.grows s (a.found k s m e i)
-    | inr m ↦ let q : k ≡ n = omega arith in b.found s (word_is w (Slot s) (sym at ∙ ap word (sym q) ∙ e)) i
+    | inr m ↦ let q : k ≡ n = omega arith in b.found s (same_Some w (Slot s) (sym at ∙ ap word (sym q) ∙ e)) i
   ];
   marking = λ roots near m. b.marking roots
       (λ s e i. near-later h r roots old.marks mid.marks s a.went (near n s (at ∙ ap Some e) i))
@@ -312,7 +307,7 @@ bridged-some r s old new result g =
       went = b.went;
       links = b.links;
       found = λ x e l. b.found x (ap Slot (number_is s x e)) l;
-      marking = λ roots e m. b.marking roots (λ x q l. (0, omega arith, (l, is_bridge (e ∙ ap Some (slot_is s x q)))))
+      marking = λ roots e m. b.marking roots (λ x q l. (0, omega arith, (l, is_bridge (e ∙ ap Some (slot-same s x q)))))
           m;
     }
   where

@@ -1,11 +1,11 @@
 use Rattle.std.proofs.Common.{◌≡◌, ℕ, sym, subst, ◌∙◌}
 use Rattle.rg_base.specs.declared.value.Word.TheVariants.{Slot}
+use Rattle.rg_base.proofs.Callers.Labels.{slot-same}
 use Rattle.rg_regions.specs.Table.{HasNumber}
 use Rattle.rg_regions.specs.Reach.{LiesIn}
 use Rattle.rg_heap.specs.Parts.{Parts}
 use Rattle.rg_heap.specs.Moves.{Freezes}
 use Rattle.rg_heap.proofs.Moved.{one_key}
-use Rattle.rg_heap.proofs.OwnedChained.{slot_to}
 use Rattle.rg_heap.proofs.heap.Heap.freeze.Goals as goal
 
 pub returns-clause-freezes : goal.returns-clause-freezes
@@ -19,6 +19,6 @@ returns-clause-freezes c =
     → Freezes p new key in
     subst P c.self.view_is (λ slot e key n l has.
     let L : ℕ → Type 0 = λ z. LiesIn s.cells.heap n z in
-    let i = subst L (sym (slot_to c.in-Slot.slot slot (sym c.in-Slot.is ∙ e))) l in
+    let i = subst L (sym (slot-same c.in-Slot.slot slot (sym c.in-Slot.is ∙ e))) l in
     subst F (one_key s.cells.heap s.regions c.in-Slot.slot a.0 n c.in-Some.key key c.self.invariant.numbers a.1 a.2 i has)
     c.freeze_one.ensures.freezes)
