@@ -2,12 +2,15 @@
 # Tries that nobody has to read specs/Inner to know what is promised: from the clauses of each function that a crate
 # hands out, the headline's among them, it follows the imports of specification modules, prints each way that ends at
 # a module of specs/Inner, and fails then. A function is handed out where its crate's lib.rt names it, or its type, in
-# a `pub use`. Proofs, private functions, views and invariants may cite Inner. Not a part of the gate.
+# a `pub use`. Proofs, private functions, views and invariants may cite Inner.
+# Then it compares the modules to which the clauses of `reggio` lead with the first table under "Where the definitions
+# stand" in docs/architecture.md, and fails where one of the two has more. Not a part of the gate.
 # Usage: bench/inner.sh
 cd "$(dirname "$0")/.." && exec python3 - <<'PY'
 import glob, os, re, sys
 
 USE = r"(?m)^ *(?:ghost |pub )*use Rattle\.(\w+)\.specs\.([\w.]+)\.(?:\{([^}]*)\}|(\w+)(?: as (\w+))?)"
+WHOLE = r"(?m)^ *(?:ghost |pub )*use Rattle\.(\w+)\.specs\.([\w.]+) as (\w+)"
 CLAUSES = r"(?ms)^ *pub fn [^\n]*\{$|^ *pub fn .*?^ *\{$|^ *ghost Value.*?;$"
 
 def read(path):
@@ -18,8 +21,24 @@ def imports(text):
     for crate, module, names, one, other in re.findall(USE, text):
         for name in (names or other or one).split(","):
             yield (crate, module), name.split(" as ")[-1].strip()
+    for crate, module, name in re.findall(WHOLE, text):
+        yield (crate, module), name
 
-ways = {}
+def file_of(crate, module): return f"crates/{crate}/specs/{module.replace('.', '/')}.antt"
+
+def followed(ways):
+    """All modules to which imports lead from these, each with its way."""
+    todo = [*ways]
+    while todo:
+        at = todo.pop(0)
+        if at[1].startswith("Inner.") or not os.path.isfile(file_of(*at)): continue
+        for more, _ in imports(read(file_of(*at))):
+            if more not in ways:
+                ways[more] = [*ways[at], ".".join(at)]
+                todo.append(more)
+    return ways
+
+ways, headline = {}, {}
 for lib in sorted(glob.glob("crates/*/src/lib.rt")):
     crate = lib.split("/")[1]
     given = {*re.findall(r"\w+", " ".join(re.findall(r"pub use ([^;]*);", read(lib))))}
@@ -32,20 +51,23 @@ for lib in sorted(glob.glob("crates/*/src/lib.rt")):
             is_trait = item.startswith("pub trait") or re.match(r"impl\S* (?!Model )[\w<>, ']+ for", item)
             clauses = {*re.findall(r"[^\s(){}\[\],;:.&*<>=]+", item if is_trait else "".join(re.findall(CLAUSES, item)))}
             for module, name in imports(text):
-                if name in clauses: ways.setdefault(module, [f"{crate}::{of[1]}"])
+                if name not in clauses: continue
+                ways.setdefault(module, [f"{crate}::{of[1]}"])
+                if (crate, of[1]) == ("rg_top", "reggio"): headline[module] = ["rg_top::reggio"]
 
-todo, inner = [*ways], 0
-while todo:
-    crate, module = at = todo.pop(0)
-    if module.startswith("Inner."):
-        inner += 1
-        print(" -> ".join([*ways[at], f"{crate}.{module}"]))
-        continue
-    path = f"crates/{crate}/specs/{module.replace('.', '/')}.antt"
-    for more, _ in imports(read(path)) if os.path.isfile(path) else ():
-        if more not in ways:
-            ways[more] = [*ways[at], f"{crate}.{module}"]
-            todo.append(more)
-print(f"{len(ways)} modules are reached, {inner} of them are of specs/Inner")
-sys.exit(bool(inner))
+inner = [(at, way) for at, way in followed(ways).items() if at[1].startswith("Inner.")]
+for at, way in inner: print(" -> ".join([*way, ".".join(at)]))
+print(f"{len(ways)} modules are reached, {len(inner)} of them are of specs/Inner")
+
+believed = {at for at in followed(headline) if os.path.isfile(file_of(*at))}
+table = read("docs/architecture.md").split("\n## Where the definitions stand\n")[1].split("\nClauses of other calls")[0]
+named = set()
+for row in re.findall(r"(?m)^\| [^|]* \| (.*) \|$", table):
+    for crate, module in re.findall(r"`(?:(\w+)/specs/)?([\w/]+)`", row):
+        last = crate or last
+        named.add((last, module.replace("/", ".")))
+for at in sorted(believed ^ named):
+    print(".".join(at), "isn't in the table" if at in believed else "is in the table, and no clause of reggio leads to it")
+print(f"{len(believed)} modules are reached from reggio, {len(named)} stand in the table")
+sys.exit(bool(inner) or believed != named)
 PY
