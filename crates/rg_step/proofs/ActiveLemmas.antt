@@ -1,5 +1,5 @@
 -- The active region: its record, and the manager that a collection tells.
-use Rattle.std.proofs.Common.{◌≡◌, ◌-◌, ℕ, List, [], ◌∷◌, Some, length, slice_get, refl, sym, ap, ◌∙◌, arith}
+use Rattle.std.proofs.Common.{◌≡◌, ◌-◌, ℕ, Bool, true, false, List, [], ◌∷◌, Some, length, slice_get, refl, sym, ap, ◌∙◌, arith}
 use Rattle.std.proofs.lemmas.Option.{none-some, same_Some}
 use Rattle.rg_base.specs.declared.event.Cause.{Cause}
 use Rattle.rg_base.specs.declared.event.Event.{Event}
@@ -12,12 +12,13 @@ use Rattle.rg_code.specs.Code.{Code}
 use Rattle.rg_regions.specs.Reach.{Roots}
 use Rattle.rg_regions.specs.Table.{Record, record_at}
 use Rattle.rg_frames.specs.declared.rows.Window.{Window as WindowRow}
-use Rattle.rg_frames.specs.Stack.{IsTop}
+use Rattle.rg_frames.specs.Stack.{IsTop, Stack}
 use Rattle.rg_heap.specs.declared.answers.Active.{Active}
 use Rattle.rg_heap.specs.declared.answers.Collected.{Collected}
 use Rattle.rg_heap.specs.Answers.{Tells}
 use Rattle.rg_heap.specs.Collects.{CollectsBy}
 use Rattle.rg_heap.specs.Parts.{OnTop, Parts as HeapParts}
+use Rattle.rg_heap.specs.Slides.{SlidesBy}
 use Rattle.rg_stack.specs.Effects.{top_region}
 use Rattle.rg_stack.specs.Machine.{Window}
 use Rattle.rg_stack.specs.Shows.{ShowsWindows}
@@ -28,7 +29,7 @@ use Rattle.rg_held.specs.Shown.{ShowsHeld}
 use Rattle.rg_held.proofs.Places.{top-open}
 use Rattle.rg_machine.specs.Parts.{Parts, machine_in}
 use Rattle.rg_machine.specs.Stands.{Stands}
-use Rattle.rg_step.specs.Collections.{IsCollected}
+use Rattle.rg_step.specs.Collections.{CollectsTop, IsCollected}
 use Rattle.rg_step.specs.Steps.{Stepping}
 use Rattle.rg_step.proofs.ServeLemmas.{has-record}
 
@@ -55,11 +56,25 @@ told-manager Arena old new key rec roots told c = absurd (none-some told (sym c.
 told-manager Count old new key rec roots told c = ap (λ (x : Collected). x.manager) (same_Some told c.0 c.1) ∙ c.2.manager
 told-manager Trace old new key rec roots told c = ap (λ (x : Collected). x.manager) (same_Some told c.0 c.1) ∙ c.2.manager
 
+slid-manager : (m : Manager) (old new : HeapParts) (key : ℕ) (rec : Record) (before after : Stack) (told : Collected)
+    → SlidesBy m old new key rec before after (Some told) → told.manager ≡ rec.manager
+slid-manager Arena old new key rec before after told c = absurd (none-some told (sym c.0))
+slid-manager Count old new key rec before after told c = told-manager Count old new key rec _ told c.0
+slid-manager Trace old new key rec before after told c = ap (λ (x : Collected). x.manager) (same_Some told c.0 c.1) ∙ c.2.manager
+
+top-manager : (slides : Bool) (mid new : Parts) (top : Top mid) (told : Collected) → CollectsTop slides mid new (Some told)
+    → told.manager ≡ top.rec.manager
+top-manager false mid new top told c =
+    told-manager top.rec.manager mid.heap new.heap top.window.region top.rec _ told (c top.window top.is top.rec top.known)
+top-manager true mid new top told c =
+    slid-manager top.rec.manager mid.heap new.heap top.window.region top.rec mid.frames new.frames told
+    (c top.window top.is top.rec top.known)
+
 pub collected-manager : (why : Cause) (mid : Parts) (events : List Event) (new : Stepping) (a : Active) → Stands mid.heap mid.frames
     → OnTop mid.frames (λ top. Tells mid.heap.regions top.region a) → (c : IsCollected why mid events new) → c.told.manager ≡ a.manager
 collected-manager why mid events new a stands tells c =
     let top = top-of mid stands in
-    told-manager top.rec.manager mid.heap new.parts.heap top.window.region top.rec _ c.told (c.collects top.window top.is top.rec top.known)
+    top-manager new.slides mid new.parts top c.told c.collects
     ∙ sym (tells top.window top.is top.rec top.known).1
 
 -- The manager in a state that is shown

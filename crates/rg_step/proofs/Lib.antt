@@ -12,6 +12,7 @@ mod UndueLemmas
 mod CallShapeLemmas
 mod FreesLemmas
 mod LeapLemmas
+mod PassLemmas
 mod ShapeNeedLemmas
 mod FieldLemmas
 mod WordLemmas
@@ -20,6 +21,7 @@ mod OutcomeLemmas
 mod ServeLemmas
 mod WriteLemmas
 mod ReachedLemmas
+mod SlidesLemmas
 mod ActiveLemmas
 mod YesLemmas
 mod PacedLemmas

@@ -1,6 +1,7 @@
 -- What a step did, in one record, by how it ended.
 use Rattle.std.proofs.Common.{◌≡◌, ◌≤◌, ◌-◌, ◌^◌, ℕ, true, false, true≢false, List, ◌++◌, Some, None, refl, sym, ap, ◌∙◌, subst}
 use Rattle.rg_base.specs.declared.event.Cause.{Cause}
+use Rattle.rg_base.specs.declared.event.Cause.TheVariants.{Asked}
 use Rattle.rg_base.specs.declared.event.Event.{Event}
 use Rattle.rg_base.specs.declared.outcome.Outcome.{Outcome}
 use Rattle.rg_base.specs.declared.outcome.Outcome.TheVariants as outcome
@@ -20,6 +21,7 @@ use Rattle.rg_step.proofs.FreesLemmas.{none-frees}
 use Rattle.rg_step.proofs.HighLemmas.{raises-none}
 use Rattle.rg_step.proofs.ReachedLemmas.{none-reached, serves-reached}
 use Rattle.rg_step.proofs.ServeLemmas.{serves-none, serves-refused, serves-shows, serves-some, steps-nowhere}
+use Rattle.rg_step.proofs.SlidesLemmas.{none-slid, serves-slid}
 use Rattle.rg_step.proofs.SinceLemmas.{none-said, since-refused, since-served, since-undue}
 use Rattle.rg_step.proofs.WriteLemmas.{steps-write}
 use Rattle.rg_step.proofs.YesLemmas.{no-yes, yeses-served}
@@ -45,7 +47,8 @@ counts-made old new outcome.Memory made more = absurd (true≢false (sym made))
 -- Steps
 
 module _ (code : Code) (old new : Standing) (runs : IsRunning code (machine_in old.stepper.parts)) (result : Outcome)
-    (high : Raises result old.stepper.parts new.stepper.parts) (frees : FreesOnly old.stepper.parts new.stepper.parts) where
+    (high : Raises result old.stepper.parts new.stepper.parts) (frees : FreesOnly old.stepper.parts new.stepper.parts)
+    (slides : new.stepper.slides ≡ old.stepper.slides) where
   -- it was refused
   pub one-refused : is_made result ≡ false → IsRefused old.stepper new.stepper old.pacers new.pacers
       → new.stepper.steps ≡ old.stepper.steps → (before after : List ℕ)
@@ -54,6 +57,8 @@ module _ (code : Code) (old new : Standing) (runs : IsRunning code (machine_in o
     shows = steps;
     serves = (new.stepper.parts, steps, frees, serves-refused _ _ _ _ _ _ result none refused);
     reaches = λ t p q r e went. none-reached _ _ q refused.events_are;
+    slid = none-slid old.stepper new.stepper refused.events_are;
+    slides = slides;
     asked = asks-refused code (machine_in old.stepper.parts) result _ _ none refused.unasked.pacers;
     yeses =
         let y = no-yes _ _ _ _ refused.events_are refused.unasked.pacers in
@@ -77,6 +82,8 @@ module _ (code : Code) (old new : Standing) (runs : IsRunning code (machine_in o
       serves-none _ _ _ _ _ _ result made none (record { parts = refl; events_are = told }) unasked,
     );
     reaches = λ t p q r e went. none-reached _ _ q told;
+    slid = none-slid old.stepper new.stepper told;
+    slides = slides;
     asked = asks-undue code (machine_in old.stepper.parts) result _ _ made none unasked.pacers;
     yeses =
         let y = no-yes _ _ _ _ told unasked.pacers in
@@ -89,11 +96,11 @@ module _ (code : Code) (old new : Standing) (runs : IsRunning code (machine_in o
 
 -- nothing was done
 pub one-nothing : (code : Code) (old new : Standing) → IsRunning code (machine_in old.stepper.parts) → new.stepper.parts ≡ old.stepper.parts
-    → IsRefused old.stepper new.stepper old.pacers new.pacers → new.stepper.steps ≡ old.stepper.steps → (bytes : List ℕ)
-    → OneStep code old new outcome.Memory bytes bytes
-one-nothing code old new runs there refused same bytes =
+    → IsRefused old.stepper new.stepper old.pacers new.pacers → new.stepper.steps ≡ old.stepper.steps → new.stepper.slides ≡ old.stepper.slides
+    → (bytes : List ℕ) → OneStep code old new outcome.Memory bytes bytes
+one-nothing code old new runs there refused same slides bytes =
     one-refused code old new runs outcome.Memory tt (subst (λ (p : Parts). FreesOnly old.stepper.parts p) (sym there) (none-frees old.stepper.parts))
-    refl refused same bytes bytes
+    slides refl refused same bytes bytes
     (subst (λ (p : Parts). StepsOn code (machine_in old.stepper.parts) (machine_in p) outcome.Memory bytes bytes) (sym there)
     (steps-nowhere code (machine_in old.stepper.parts) bytes))
 
@@ -104,7 +111,9 @@ module _ (code : Code) (old : Standing) (mid : Parts) (new : Standing) (runs : I
     (why : Cause) (due : due_at code.ops old.stepper.parts.at ≡ Some why)
     (events : List Event) (told : events ≡ old.stepper.events)
     (serves : Serves (Some why) (record old.stepper { events = events }) mid new.stepper old.pacers new.pacers)
-    (none : NoneMade mid.heap new.stepper.parts.heap) (frees : FreesOnly old.stepper.parts mid) where
+    (none : NoneMade mid.heap new.stepper.parts.heap) (frees : FreesOnly old.stepper.parts mid)
+    (still : why ≡ Asked → (mid.heap ≡ old.stepper.parts.heap) × (mid.frames ≡ old.stepper.parts.frames))
+    (slides : new.stepper.slides ≡ old.stepper.slides) where
   pub one-served : (result : Outcome) → Raises result old.stepper.parts mid → is_made result ≡ true
       → new.stepper.steps ≡ counted old.stepper.steps → (before after : List ℕ)
       → StepsOn code (machine_in old.stepper.parts) (machine_in mid) result before after → OneStep code old new result before after
@@ -117,6 +126,8 @@ module _ (code : Code) (old : Standing) (mid : Parts) (new : Standing) (runs : I
         serves = (mid, steps, frees, serves-some _ why old.stepper events mid new.stepper _ _ result made due told serves);
         reaches = serves-reached code why behind mid new.stepper _ _ result made serves stands serials windows grove grown m old.stepper.events
             (sym told) before after steps;
+        slid = serves-slid why old.stepper behind mid new.stepper _ _ serves told slides still;
+        slides = slides;
         asked = asks-served code m (Some why) behind mid new.stepper _ _ result before after made due serves stands steps;
         yeses =
             let y = yeses-served (Some why) behind mid new.stepper _ _ stands serves old.stepper.events told in

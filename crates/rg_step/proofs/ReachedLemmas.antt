@@ -8,29 +8,37 @@ use Rattle.rg_base.specs.declared.event.Event.{Event}
 use Rattle.rg_base.specs.declared.outcome.Outcome.{Outcome}
 use Rattle.rg_base.specs.declared.words.Manager.{Manager}
 use Rattle.rg_base.specs.declared.words.Manager.TheVariants.{Arena, Count, Trace}
+use Rattle.rg_tree.specs.Tree.{Tree}
 use Rattle.rg_rules.specs.Reach.{plain_reach}
 use Rattle.rg_rules.specs.State.{State}
 use Rattle.rg_rules.specs.Steps.{Stepped as Plain, Went, next}
+use Rattle.rg_sound.specs.Fit.{Fit}
 use Rattle.rg_cells.specs.Table.{Serials}
 use Rattle.rg_code.specs.Code.{Code}
 use Rattle.rg_regions.specs.Grove.{Grove}
 use Rattle.rg_stack.specs.Machine.{Machine}
+use Rattle.rg_stack.specs.Shows.{Shows}
+use Rattle.rg_heap.specs.declared.answers.Collected.{Collected}
+use Rattle.rg_held.specs.Part.{Part}
+use Rattle.rg_machine.specs.Collects.{holds}
 use Rattle.rg_machine.specs.Parts.{Parts, machine_in}
 use Rattle.rg_machine.specs.Stands.{Stands}
 use Rattle.rg_machine.proofs.PartLemmas.{shown-part}
 use Rattle.rg_machine.proofs.ReachLemmas.{kept-traced}
-use Rattle.rg_step.specs.Collections.{Asks, CollectsAsked, CollectsOn, IsCollected, IsLeft, KeepsReached, Paces, ReachesOn, Serves, event_of}
+use Rattle.rg_machine.proofs.SlidReachLemmas.{slid-traced}
+use Rattle.rg_step.specs.Collections.{Asks, CollectsAsked, CollectsOn, CollectsTop, IsCollected, IsLeft, KeepsReached, Paces, ReachesOn, Serves}
+use Rattle.rg_step.specs.Collections.{event_of}
 use Rattle.rg_step.specs.Steps.{Stepping, StepsOn, is_made}
 use Rattle.rg_step.proofs.ServeLemmas.{fits-behind, made-went}
 
 -- Events
 
-longer : (xs : List Event) (e : Event) → xs ≡ xs ++ e ∷ [] → ⊥
+pub longer : (xs : List Event) (e : Event) → xs ≡ xs ++ e ∷ [] → ⊥
 longer xs e is =
     let n : length xs ≡ length xs + 1 = ap length is ∙ length-append xs (e ∷ []) in
     omega (arith, n)
 
-last-is : (xs : List Event) (e d : Event) → xs ++ e ∷ [] ≡ xs ++ d ∷ [] → e ≡ d
+pub last-is : (xs : List Event) (e d : Event) → xs ++ e ∷ [] ≡ xs ++ d ∷ [] → e ≡ d
 last-is [] e d is = cc
 last-is (x ∷ xs) e d is = last-is xs e d (ap tail is)
   where
@@ -46,21 +54,21 @@ left-not : (old : Stepping) (mid : Parts) (new : Stepping) (e : Event) → IsLef
 left-not old mid new e left more = longer old.events e (sym left.events_are ∙ more)
 
 -- what is told is what was collected
-serves-told : (why : Cause) (old : Stepping) (mid : Parts) (new : Stepping) (before after : Asks) → Serves (Some why) old mid new before after
-    → (e : Event) → new.events ≡ old.events ++ e ∷ [] → (c : Cause) × (IsCollected c mid old.events new)
+pub serves-told : (why : Cause) (old : Stepping) (mid : Parts) (new : Stepping) (before after : Asks) → Serves (Some why) old mid new before after
+    → (e : Event) → new.events ≡ old.events ++ e ∷ [] → IsCollected why mid old.events new
 serves-told Asked old mid new before after s e more = by s.0.0.manager s.0.2
   where
-    by : (m : Manager) → CollectsAsked m mid old.events new → (c : Cause) × (IsCollected c mid old.events new)
+    by : (m : Manager) → CollectsAsked m mid old.events new → IsCollected Asked mid old.events new
     by Arena c = absurd (left-not old mid new e c more)
-    by Count c = (Asked, c)
-    by Trace c = (Asked, c)
+    by Count c = c
+    by Trace c = c
 serves-told Paced old mid new before after s e more = by s.0.manager s.2
   where
-    on : (answer : Bool) → CollectsOn answer mid old.events new → (c : Cause) × (IsCollected c mid old.events new)
-    on true c = (Paced, c)
+    on : (answer : Bool) → CollectsOn answer mid old.events new → IsCollected Paced mid old.events new
+    on true c = c
     on false c = absurd (left-not old mid new e c more)
 
-    by : (m : Manager) → Paces m s.0.held old mid new before after → (c : Cause) × (IsCollected c mid old.events new)
+    by : (m : Manager) → Paces m s.0.held old mid new before after → IsCollected Paced mid old.events new
     by Arena c = absurd (left-not old mid new e c.0 more)
     by Count c = on c.0 c.1
     by Trace c = on c.0 c.1
@@ -70,6 +78,16 @@ went-is d q r e f = same (sym e ∙ f)
   where
     same : Went q ≡ Went r → q ≡ r
     same is = cc
+
+-- what is told of a collection of a traced region, whether what is kept moves or not
+kept-behind : (slides : Bool) (t : Tree) (code : Code) (s : State) (mid new : Parts) (m : Machine) (told : Collected)
+    → Fit t s → Shows t.classes code m s → Part (holds mid.heap.cells.heap) [] (machine_in mid) m []
+    → Serials mid.heap.cells.heap → Grove mid.heap.cells mid.heap.regions → Grove new.heap.cells new.heap.regions
+    → Stands mid.heap mid.frames → CollectsTop slides mid new (Some told) → told.manager ≡ Trace → told.kept ≡ length (plain_reach s)
+kept-behind false t code s mid new m told fit shows part serials grove grown stands collects is =
+    kept-traced t code s mid new m told fit shows part serials grove grown stands collects is
+kept-behind true t code s mid new m told fit shows part serials grove grown stands collects is =
+    slid-traced t code s mid new m told fit shows part serials grove grown stands collects is
 
 -- what is told of a collection behind a step
 pub serves-reached : (code : Code) (why : Cause) (old : Stepping) (mid : Parts) (new : Stepping) (asks told : Asks) (result : Outcome)
@@ -82,10 +100,10 @@ serves-reached code why old mid new asks told result made serves stands serials 
     let s = steps t p r e in
     let is : s.0 ≡ q = went-is (next t.classes p) s.0 q (made-went (next t.classes p) p s.0 result made s.1) went in
     let c = serves-told why old mid new asks told serves d (more ∙ ap (λ es. es ++ d ∷ []) same) in
-    let event : d ≡ event_of new.steps c.0 c.1.told =
-    last-is old.events d (event_of new.steps c.0 c.1.told) (ap (λ es. es ++ d ∷ []) (sym same) ∙ sym more ∙ c.1.events_are) in
+    let event : d ≡ event_of new.steps why c.told =
+    last-is old.events d (event_of new.steps why c.told) (ap (λ es. es ++ d ∷ []) (sym same) ∙ sym more ∙ c.events_are) in
     let fit = fits-behind t code was p s.0 result r made s.1 in
-    let kept = kept-traced t code s.0 mid new.parts s.2.grown c.1.told fit s.2.shows
-    (shown-part mid s.2.grown s.2.held serials stands windows s.2.beside) serials grove grown stands c.1.collects
+    let kept = kept-behind new.slides t code s.0 mid new.parts s.2.grown c.told fit s.2.shows
+    (shown-part mid s.2.grown s.2.held serials stands windows s.2.beside) serials grove grown stands c.collects
     (ap (λ (x : Event). x.manager) (sym event) ∙ trace) in
     ap (λ (x : Event). x.kept) event ∙ kept ∙ ap (λ n. length (plain_reach n)) is

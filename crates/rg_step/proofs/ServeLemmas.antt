@@ -1,7 +1,7 @@
 -- Behind the instructions of a step that was made: at most one place leads into each closed region, and a collection keeps what is shown.
 use Rattle.std.proofs.Common.{◌≡◌, ◌≤◌, ◌-◌, ◌^◌, ◌⊎◌, inl, inr, ℕ, true, false, List, [], Option, Some, None, length, refl, sym, ap, ◌∙◌, subst}
 use Rattle.std.proofs.Common.{arith}
-use Rattle.std.proofs.Common.{Bool, true≢false, option_map, drop}
+use Rattle.std.proofs.Common.{Bool, true≢false, option_map}
 use Rattle.std.proofs.lemmas.Option.{none-some}
 use Rattle.rg_base.specs.declared.event.Cause.{Cause}
 use Rattle.rg_base.specs.declared.event.Cause.TheVariants.{Asked, Paced}
@@ -21,21 +21,24 @@ use Rattle.rg_input.specs.Numbers.{Follows, OnInput, Pending}
 use Rattle.rg_input.proofs.InputLemmas.{OnInput-some}
 use Rattle.rg_cells.specs.Table.{Serials}
 use Rattle.rg_code.specs.Code.{Code}
+use Rattle.rg_frames.specs.declared.rows.Window.{Window as WindowRow}
+use Rattle.rg_frames.specs.Stack.{IsTop, Stack}
 use Rattle.rg_heap.specs.Collects.{CollectsBy}
-use Rattle.rg_heap.specs.Ends.{top_temps}
-use Rattle.rg_heap.specs.Parts.{OnTop, Parts as HeapParts}
-use Rattle.rg_regions.specs.Collection.{OfRegion, roots_of}
+use Rattle.rg_heap.specs.Slides.{SlidesBy}
 use Rattle.rg_regions.specs.Reach.{Roots}
 use Rattle.rg_regions.specs.Table.{HasNumber, Record, RegionTable, record_at}
 use Rattle.rg_stack.specs.Machine.{Machine}
 use Rattle.rg_stack.specs.Needs.{owned_once}
+use Rattle.rg_stack.specs.Shows.{Shows}
+use Rattle.rg_held.specs.Part.{Part}
 use Rattle.rg_held.specs.Shown.{ShowsHeld}
 use Rattle.rg_held.proofs.Gather.Told.{held-as, part-as}
-use Rattle.rg_machine.specs.Collects.{Gathers, holds}
+use Rattle.rg_machine.specs.Collects.{holds}
 use Rattle.rg_machine.specs.Parts.{Parts, machine_in}
 use Rattle.rg_machine.specs.Stands.{Stands}
-use Rattle.rg_machine.proofs.PartLemmas.{gathers-part, gone-shown, held-shown, once-held}
-use Rattle.rg_step.specs.Collections.{Asks, CollectsAsked, CollectsOn, IsLeft, IsRefused, OnActive, Paces, Serves, ServesBy, Unasked}
+use Rattle.rg_machine.proofs.PartLemmas.{gathers-part, gone-shown, held-shown, once-held, slides-part}
+use Rattle.rg_step.specs.Collections.{Asks, CollectsAsked, CollectsOn, CollectsTop, GathersBy, IsLeft, IsRefused, OnActive, Paces, Serves, ServesBy}
+use Rattle.rg_step.specs.Collections.{Unasked}
 use Rattle.rg_step.specs.Steps.{IsRunning, Runs, Settles, Stepping, StepsOn, is_made}
 use Rattle.rg_step.proofs.RunLemmas.{with-input}
 
@@ -71,8 +74,15 @@ once-behind code old mid result before after left still runs made follows on =
 
 -- Behind a collection
 
-module _ (mid new : Parts) (stands : Stands mid.heap mid.frames) (serials : Serials mid.heap.cells.heap)
-    (windows : mid.frames.next ≤ 2 ^ 64 - 1) (gathers : Gathers mid new) where
+-- the machine is still beside the one over a growing store, whether what is kept moves or not
+part-behind : (slides : Bool) (t : Tree) (code : Code) (q : State) (mid new : Parts) (m : Machine) → Accepted t → Fit t q
+    → Shows t.classes code m q → Part (holds mid.heap.cells.heap) [] (machine_in mid) m [] → GathersBy slides mid new
+    → Part (holds new.heap.cells.heap) [] (machine_in new) m []
+part-behind false t code q mid new m accepted fit shows p g = gathers-part t code q mid new m accepted fit shows p g
+part-behind true t code q mid new m accepted fit shows p g = slides-part t code q mid new m accepted fit shows p g
+
+module _ (slides : Bool) (mid new : Parts) (stands : Stands mid.heap mid.frames) (serials : Serials mid.heap.cells.heap)
+    (windows : mid.frames.next ≤ 2 ^ 64 - 1) (gathers : GathersBy slides mid new) where
   shown-gathered : (t : Tree) (code : Code) (q : State) → Accepted t → Fit t q → ShowsHeld t.classes code (machine_in mid) q
       → ShowsHeld t.classes code (machine_in new) q
   shown-gathered t code q accepted fit h =
@@ -84,7 +94,7 @@ module _ (mid new : Parts) (stands : Stands mid.heap mid.frames) (serials : Seri
         grown = h.grown;
         held = holds new.heap.cells.heap;
         shows = h.shows;
-        beside = gathers-part t code q mid new h.grown accepted fit h.shows
+        beside = part-behind slides t code q mid new h.grown accepted fit h.shows
             (part-as h.held also [] (machine_in mid) h.grown [] h.beside same) gathers;
       }
 
@@ -102,20 +112,20 @@ module _ (mid new : Parts) (stands : Stands mid.heap mid.frames) (serials : Seri
 
 -- what is done leaves the machine, or collects
 pub serves-keeps : (why : Cause) (old : Stepping) (mid : Parts) (new : Stepping) (before after : Asks) → Serves (Some why) old mid new before after
-    → (new.parts ≡ mid) ⊎ Gathers mid new.parts
+    → (new.parts ≡ mid) ⊎ GathersBy new.slides mid new.parts
 serves-keeps Asked old mid new before after s = by s.0.0.manager s.0.2
   where
-    by : (m : Manager) → CollectsAsked m mid old.events new → (new.parts ≡ mid) ⊎ Gathers mid new.parts
+    by : (m : Manager) → CollectsAsked m mid old.events new → (new.parts ≡ mid) ⊎ GathersBy new.slides mid new.parts
     by Arena c = inl c.parts
     by Count c = inr c.gathers
     by Trace c = inr c.gathers
 serves-keeps Paced old mid new before after s = by s.0.manager s.2
   where
-    on : (answer : Bool) → CollectsOn answer mid old.events new → (new.parts ≡ mid) ⊎ Gathers mid new.parts
+    on : (answer : Bool) → CollectsOn answer mid old.events new → (new.parts ≡ mid) ⊎ GathersBy new.slides mid new.parts
     on true c = inr c.gathers
     on false c = inl c.parts
 
-    by : (m : Manager) → Paces m s.0.held old mid new before after → (new.parts ≡ mid) ⊎ Gathers mid new.parts
+    by : (m : Manager) → Paces m s.0.held old mid new before after → (new.parts ≡ mid) ⊎ GathersBy new.slides mid new.parts
     by Arena c = inl c.0.parts
     by Count c = on c.0 c.1
     by Trace c = on c.0 c.1
@@ -126,7 +136,7 @@ module _ (code : Code) (start : Machine) (result : Outcome) (made : is_made resu
       → StepsOn code start (machine_in mid) result before after → StepsOn code start (machine_in new.parts) result before after
   serves-shows why old mid new first last serves stands serials windows before after steps = elim (serves-keeps why old mid new first last serves) [
     | inl same ↦ subst (λ p. StepsOn code start (machine_in p) result before after) (sym same) steps
-    | inr gathers ↦ steps-gathered mid new.parts stands serials windows gathers code start result before after made steps
+    | inr gathers ↦ steps-gathered new.slides mid new.parts stands serials windows gathers code start result before after made steps
   ]
 
 -- By what was answered
@@ -179,18 +189,28 @@ has-record t key n h = by (record_at t key) refl
     by (Some r) e = (r, e)
 
 -- a region that isn't an arena tells of its collection
-pub told-some : (mid : Parts) (new : HeapParts) → Stands mid.heap mid.frames → OnActive mid (λ a. a.manager ≡ Arena → ⊥)
-    → OnTop mid.frames (λ top. OfRegion mid.heap.regions top.region (λ r.
-    CollectsBy r.manager mid.heap new top.region r (roots_of r.bridge (drop top.base mid.frames.slots) (top_temps mid.frames)) None)) → ⊥
-told-some mid new stands a by =
+pub told-some : (slides : Bool) (mid new : Parts) → Stands mid.heap mid.frames → OnActive mid (λ a. a.manager ≡ Arena → ⊥)
+    → CollectsTop slides mid new None → ⊥
+told-some slides mid new stands a by =
     let some = stands.opened.some in
     let top = there mid.frames.windows (length mid.frames.windows - 1) (omega (arith, some)) in
     let n = stands.opened.known (length mid.frames.windows - 1) top.0 top.1 in
     let r = has-record mid.heap.regions top.0.region n.0 n.1 in
     let same : a.0.manager ≡ r.0.manager = (a.1 top.0 top.1 r.0 r.1).1 in
-    none r.0.manager _ _ _ (λ e. a.2 (same ∙ e)) (by top.0 top.1 r.0 r.1)
+    none slides by top.0 top.1 r.0 r.1 (λ e. a.2 (same ∙ e))
   where
-    none : (m : Manager) (key : ℕ) (r : Record) (roots : Roots) → (m ≡ Arena → ⊥) → CollectsBy m mid.heap new key r roots None → ⊥
-    none Arena key r roots never c = never refl
-    none Count key r roots never c = none-some c.0 c.1
-    none Trace key r roots never c = none-some c.0 c.1
+    stayed : (m : Manager) (key : ℕ) (r : Record) (roots : Roots) → (m ≡ Arena → ⊥) → CollectsBy m mid.heap new.heap key r roots None → ⊥
+    stayed Arena key r roots never c = never refl
+    stayed Count key r roots never c = none-some c.0 c.1
+    stayed Trace key r roots never c = none-some c.0 c.1
+
+    moved : (m : Manager) (key : ℕ) (r : Record) (before after : Stack) → (m ≡ Arena → ⊥)
+        → SlidesBy m mid.heap new.heap key r before after None → ⊥
+    moved Arena key r before after never c = never refl
+    moved Count key r before after never c = none-some c.0.0 c.0.1
+    moved Trace key r before after never c = none-some c.0 c.1
+
+    none : (slides : Bool) → CollectsTop slides mid new None → (top : WindowRow) → IsTop mid.frames top → (r : Record)
+        → record_at mid.heap.regions top.region ≡ Some r → (r.manager ≡ Arena → ⊥) → ⊥
+    none false by top is r known never = stayed r.manager _ _ _ never (by top is r known)
+    none true by top is r known never = moved r.manager _ _ _ _ never (by top is r known)

@@ -20,8 +20,9 @@ use Rattle.rg_heap.specs.Answers.{Tells}
 use Rattle.rg_heap.specs.Collects.{CollectsBy}
 use Rattle.rg_heap.specs.Ends.{top_temps}
 use Rattle.rg_heap.specs.Parts.{OnTop}
+use Rattle.rg_heap.specs.Slides.{Slides, SlidesBy}
 use Rattle.rg_pace.specs.Asked.{Asked, one_more, with_ask}
-use Rattle.rg_machine.specs.Collects.{Gathers}
+use Rattle.rg_machine.specs.Collects.{Gathers, GathersSliding}
 use Rattle.rg_machine.specs.Parts.{Parts, machine_in}
 use Rattle.rg_step.specs.Steps.{Runs, Stepping}
 
@@ -42,13 +43,25 @@ event_of step why told = record {
   released = told.released;
 }
 
+-- what a collection leaves of the machine, which moves what it keeps or doesn't
+abbrev pub GathersBy : (slides : Bool) → (old new : Parts) → Type 0
+GathersBy false old new = Gathers old new
+GathersBy true old new = GathersSliding old new
+
+-- the collection of the active region by its manager; of a traced one what is kept moves or stays
+abbrev pub CollectsTop : (slides : Bool) → (old new : Parts) → Option Collected → Type 0
+CollectsTop false old new told =
+    OnTop old.frames (λ top. OfRegion old.heap.regions top.region
+    (λ r. CollectsBy r.manager old.heap new.heap top.region r (roots_of r.bridge (drop top.base old.frames.slots) (top_temps old.frames)) told))
+CollectsTop true old new told =
+    OnTop old.frames (λ top. OfRegion old.heap.regions top.region
+    (λ r. SlidesBy r.manager old.heap new.heap top.region r old.frames new.frames told))
+
 -- the active region was collected by its manager, which is told; all else is as it was behind the step's instructions
 pub record IsCollected (why : Cause) (mid : Parts) (events : List Event) (new : Stepping) : Type 0 where
   pub told : Collected
-  pub gathers : Gathers mid new.parts
-  pub collects : OnTop mid.frames (λ top. OfRegion mid.heap.regions top.region
-      (λ r. CollectsBy r.manager mid.heap new.parts.heap top.region r (roots_of r.bridge (drop top.base mid.frames.slots) (top_temps mid.frames))
-      (Some told)))
+  pub gathers : GathersBy new.slides mid new.parts
+  pub collects : CollectsTop new.slides mid new.parts (Some told)
   pub events_are : new.events ≡ events ++ event_of new.steps why told ∷ []
 
 -- nothing was collected
@@ -121,3 +134,12 @@ KeepsReached old new q = (e : Event) → new ≡ old ++ e ∷ [] → e.manager �
 abbrev pub ReachesOn : Code → (old : Machine) → (events behind : List Event) → (before after : List ℕ) → Type 0
 ReachesOn code old events behind before after =
     (t : Tree) (p q : State) → Runs t code old p → p.input ≡ before → next t.classes p ≡ Went q → KeepsReached events behind q
+
+-- Where what is kept moves, and a step told of a traced region that was asked to be collected: from the heap and the frames before the step to
+-- those behind it the cells of that region that are in reach have moved to its lowest slots, all words that led to them lead there, the others of it
+-- are gone, and the regions that lost their owner with these have been released. Nothing else differs.
+abbrev pub SlidesAsked : (old new : Stepping) → Type 0
+SlidesAsked old new =
+    old.slides ≡ true → (e : Event) → new.events ≡ old.events ++ e ∷ [] → e.cause ≡ cause.Asked → e.manager ≡ Trace →
+    OnTop old.parts.frames (λ top. OfRegion old.parts.heap.regions top.region (λ r. (e.region ≡ r.number)
+    × Slides old.parts.heap new.parts.heap top.region r old.parts.frames new.parts.frames))

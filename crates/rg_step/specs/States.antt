@@ -8,7 +8,7 @@ use Rattle.rg_code.specs.Dues.{due_at}
 use Rattle.rg_machine.specs.High.{NoneMade, OneMade}
 use Rattle.rg_machine.specs.Parts.{Parts, machine_in}
 use Rattle.rg_step.specs.Asking.{AsksOn, SinceOn, YesesTold}
-use Rattle.rg_step.specs.Collections.{Asks, ReachesOn, ServesBy}
+use Rattle.rg_step.specs.Collections.{Asks, ReachesOn, ServesBy, SlidesAsked}
 use Rattle.rg_step.specs.Frees.{FreesOnly}
 use Rattle.rg_step.specs.Steps.{Counts, Stepping, StepsOn, is_made}
 use Rattle.rg_step.specs.Writes.{WritesOnly}
@@ -34,6 +34,9 @@ pub record OneStep (code : Code) (old new : Standing) (result : Outcome) (before
       × ServesBy (due_at code.ops old.stepper.parts.at) old.stepper mid new.stepper old.pacers new.pacers result
   -- what it keeps of a region of mark and sweep is what the roots of the window reach
   pub reaches : ReachesOn code (machine_in old.stepper.parts) old.stepper.events new.stepper.events before after
+  -- where what is kept moves, it has moved behind a `collect`, and nothing else has changed; whether it moves was chosen before
+  pub slid : SlidesAsked old.stepper new.stepper
+  pub slides : new.stepper.slides ≡ old.stepper.slides
   -- it asks a pacer exactly where the plain state says so, and each yes is a collection, behind which the asks since the last yes begin anew
   pub asked : AsksOn code (machine_in old.stepper.parts) result old.pacers new.pacers
   pub yeses : (behind : List Event) × (new.stepper.events ≡ old.stepper.events ++ behind) × YesesTold behind old.pacers new.pacers

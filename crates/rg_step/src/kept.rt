@@ -10,10 +10,11 @@ pub(crate) struct Since {
 }
 
 /// How many steps were made, as far as 64 bits count, how often pacers were asked since their last
-/// yes, and the collections in order.
+/// yes, whether a collection of a traced region moves what it keeps, and the collections in order.
 #[derive(Drop)]
 pub(crate) struct Kept {
     pub(crate) steps: u64,
     pub(crate) since: Since,
+    pub(crate) slides: bool,
     pub(crate) events: Vec<Event>,
 }

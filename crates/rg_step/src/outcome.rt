@@ -1,40 +1,47 @@
 //! A step, without what may follow for its `collect` or its `pace` (docs/architecture.md, "The
 //! stepper").
 
-ghost use Rattle.std.specs.Prelude.{◌≡◌, ◌≤◌, false, true};
+ghost use Rattle.std.specs.Prelude.{◌≡◌, ◌≤◌, ◌+◌, ◌<◌, false, true};
 ghost use Rattle.rg_io.specs.Content.{Rose};
 ghost use Rattle.rg_input.specs.Numbers.{Follows, OnInput};
 ghost use Rattle.rg_tree.specs.Tree.{Tree};
 ghost use Rattle.rg_rules.specs.Inputs.{first_asks};
 ghost use Rattle.rg_rules.specs.State.{State};
+ghost use Rattle.rg_code.specs.Dues.{due_at};
 ghost use Rattle.rg_machine.specs.Parts.{machine_in};
 ghost use Rattle.rg_step.specs.Steps.{IsResting, IsRunning, Runs, StepsOn, is_made};
 ghost use Rattle.rg_step.specs.Frees.{FreesOnly};
 ghost use Rattle.rg_step.specs.States.{Raises};
-ghost use Rattle.rg_step.specs.Inner.Serving.{answer};
+ghost use Rattle.rg_step.specs.Inner.Serving.{answer, is_asked};
 
 use crate::step::{Did, step};
-use rg_base::{Outcome, Val};
+use rg_base::{Cause, Outcome, Val};
 use rg_code::CodeList;
 use rg_input::Numbers;
 use rg_io::Source;
 use rg_machine::Machine;
 
-/// Makes one step. One that was refused leaves what is shown and the input; the input is asked at
-/// most where the first thing to do asks.
+/// Makes one step, in front of which is told why it may collect. One that was refused leaves what
+/// is shown and the input; the input is asked at most where the first thing to do asks. The step of
+/// a `collect` leaves the heap and the frames.
 pub(crate) fn outcome<S: Source>(
     p: &mut Machine,
     code: &CodeList,
+    due: Option<Cause>,
     input: &mut Numbers,
     source: &mut S,
 ) -> Outcome
     requires runs { IsRunning code.now (machine_in p.old) }
+    requires rests { IsResting p.old }
+    requires due { due ≡ due_at code.now.ops p.old.at }
     requires follows { Follows input.old (S.left source.old) }
     ensures step { OnInput input.old input.new (S.left source.old) (S.left source.new)
         (StepsOn code.now (machine_in p.old) (machine_in p.new) result) }
     ensures refused { is_made result ≡ false → machine_in p.new ≡ machine_in p.old }
     ensures high { Raises result p.old p.new }
     ensures frees { FreesOnly p.old p.new }
+    ensures still { is_asked due ≡ true →
+        (p.new.heap ≡ p.old.heap) × (p.new.frames ≡ p.old.frames) }
     ensures rests { IsResting p.new }
     ensures reads_nothing { (t : Tree) (s : State) → Runs t code.now (machine_in p.old) s →
         first_asks s.items ≡ false → (input.new ≡ input.old) × (source.new ≡ source.old) }
@@ -45,12 +52,35 @@ pub(crate) fn outcome<S: Source>(
         Rose (S.faults source.old) (S.faults source.new) }
     ensures never_falls { S.faults source.old ≤ S.faults source.new }
 {
+    if is_asked(due) {
+        p.go_to(behind_collect(p.at(), code.len()));
+        return Outcome::Running;
+    }
     p.is_sound();
     let did = step(p, code, input, source);
     let printed = p.printed();
     p.start();
     p.is_sound();
     answer(did, printed)
+}
+
+/// Whether a step may collect since that is what it is for.
+fn is_asked(due: Option<Cause>) -> bool
+    ensures { result ≡ is_asked due }
+{
+    match due {
+        Some(Cause::Asked) => true,
+        Some(Cause::Paced) => false,
+        None => false,
+    }
+}
+
+/// The address behind the step of a `collect`, in code of this length.
+fn behind_collect(at: usize, len: usize) -> usize
+    requires { at + 2 < len }
+    ensures { result ≡ at + 2 }
+{
+    at + 2
 }
 
 /// What is answered of what a step did, and printed.

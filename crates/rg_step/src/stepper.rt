@@ -14,7 +14,7 @@ ghost use Rattle.rg_machine.specs.Owned.{IsOwned};
 ghost use Rattle.rg_machine.specs.Parts.{Parts, machine_in};
 ghost use Rattle.rg_step.specs.Collections.{Asks};
 ghost use Rattle.rg_step.specs.States.{Chain, OneStep};
-ghost use Rattle.rg_step.specs.Steps.{IsResting, IsRunning, Leapt, Runs};
+ghost use Rattle.rg_step.specs.Steps.{IsFresh, IsResting, IsRunning, Leapt, Runs};
 ghost use Rattle.rg_step.specs.Steps.{counted_by, fresh, nothing, numbers_of, opening_machine};
 ghost use Rattle.rg_step.specs.Inner.Held.{stepping};
 
@@ -62,17 +62,33 @@ impl Stepper {
             kept: Kept {
                 steps: 0,
                 since: Since { count: 0, trace: 0 },
+                slides: false,
                 events: Vec::new(alloc),
             },
         }
     }
 
+    /// Chooses, before a program begins, that a collection of a traced region moves what it keeps.
+    pub fn slide(&mut self)
+        requires { IsFresh self.old }
+        ensures { self.new ≡ record fresh { slides = true } }
+    {
+        self.kept.slides = true;
+    }
+
+    /// Whether a collection of a traced region moves what it keeps.
+    pub fn slides(&self) -> bool
+        ensures { result ≡ self.now.slides }
+    {
+        self.kept.slides
+    }
+
     /// Begins a program whose main has this manager, without a step.
     pub fn begin(&mut self, alloc: Global, code: &CodeList, manager: Manager) -> Result<(), Memory>
-        requires { self.old ≡ fresh }
+        requires { IsFresh self.old }
         ensures begun { OnOk result ((p : Parts)
             × (machine_in p ≡ opening_machine code.now manager)
-            × (self.new ≡ record fresh { parts = p })) }
+            × (self.new ≡ record self.old { parts = p })) }
         ensures kept { OnErr result (self.new ≡ self.old) }
     {
         let machine = Machine::begin(alloc, code.main_slots(), manager)?;
@@ -167,6 +183,7 @@ impl Stepper {
         ensures most { result ≤ most }
         ensures counts { self.new.steps ≡ counted_by result self.old.steps }
         ensures since { self.new.since ≡ self.old.since }
+        ensures slides { self.new.slides ≡ self.old.slides }
         ensures events { self.new.events ≡ self.old.events }
     {
         let Some(p) = &mut self.machine else {
@@ -318,7 +335,7 @@ fn step_on<S: Source>(
     let Ok(()) = make_place(due, &mut kept.events) else {
         return Outcome::Memory;
     };
-    let outcome = outcome(p, code, input, source);
+    let outcome = outcome(p, code, due, input, source);
     let made = is_made(outcome);
     if !made {
         return outcome;

@@ -16,4 +16,4 @@ since_of s = record { count = s.count; trace = s.trace }
 
 -- what is seen of a stepper that keeps this of its steps
 abbrev pub stepping : Parts → Kept → Stepping
-stepping p k = record { parts = p; steps = k.steps; since = since_of k.since; events = k.events.items }
+stepping p k = record { parts = p; steps = k.steps; since = since_of k.since; slides = k.slides; events = k.events.items }

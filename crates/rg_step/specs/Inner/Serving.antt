@@ -24,6 +24,12 @@ answer did.InputFault printed = outcome.InputFault
 answer did.Memory printed = outcome.Memory
 answer did.Lost printed = outcome.Memory
 
+-- whether a step may collect since that is what it is for
+abbrev pub is_asked : Option Cause → Bool
+is_asked None = false
+is_asked (Some Asked) = true
+is_asked (Some Paced) = false
+
 -- whether a region of this manager, with so many cells, is to be collected, and what became of the pacers
 abbrev pub Wants : Cause → Manager → (held : ℕ) → (old new : Since) → (before after : Asks) → (wanted : Bool) → Type 0
 Wants Asked Arena held old new before after wanted = (wanted ≡ false) × (new ≡ old) × (after ≡ before)

@@ -1,6 +1,10 @@
-use Rattle.std.proofs.Common.{◌≡◌, sym, ap, subst, ◌∙◌}
-use Rattle.rg_input.proofs.InputLemmas.{OnInput-map, OnInput-some}
+use Rattle.std.proofs.Common.{◌≡◌, ◌+◌, Some, true≢false, refl, sym, ap, subst, ◌∙◌, arith}
+use Rattle.std.proofs.lemmas.Option.{slice_get_within}
+use Rattle.rg_base.specs.declared.event.Cause.TheVariants.{Asked}
+use Rattle.rg_base.specs.declared.outcome.Outcome.TheVariants as outcome
+use Rattle.rg_input.proofs.InputLemmas.{OnInput-map, OnInput-some, OnInput-still}
 use Rattle.rg_input.specs.Numbers.{OnInput}
+use Rattle.rg_code.specs.Dues.{due_at}
 use Rattle.rg_machine.specs.Parts.{Parts, core_of, machine_in}
 use Rattle.rg_stack.specs.Machine.{Machine}
 use Rattle.rg_held.specs.Freed.{FreesOnly as StoreFrees}
@@ -12,8 +16,58 @@ use Rattle.rg_step.specs.Inner.Walks.{StepIs}
 use Rattle.rg_step.specs.Steps.{StepsOn, is_made}
 use Rattle.rg_step.proofs.FreesLemmas.{did-frees, table-frees}
 use Rattle.rg_step.proofs.OutcomeLemmas.{answer-fault, answer-leaves, answer-settles, never-lost}
+use Rattle.rg_step.proofs.PassLemmas.{asked-step, is-asked, pass-frees, pass-high, pass-rests, pass-steps}
 use Rattle.rg_step.proofs.RunLemmas.{runs-ask, runs-given, runs-orderly, unasked-there}
 use Rattle.rg_step.proofs.outcome.outcome.Goals as goal
+
+-- the step of a `collect`
+
+pub behind_collect-requires : goal.behind_collect-requires
+behind_collect-requires g c =
+    let code = c.args.code.now in
+    let due : due_at code.ops c.args.p.now.at ≡ Some Asked =
+    sym c.requires.due ∙ is-asked c.args.due (sym c.is_asked.ensures ∙ c.if-is_asked.true) in
+    let runs = c.requires.runs in
+    let step = asked-step runs.0 code (machine_in c.args.p.now) runs.1 runs.2 due in
+    let within = slice_get_within code.ops (c.args.p.now.at + 2) _ step.2.1 in
+    omega (arith, within, c.at.ensures, c.len.ensures)
+
+pub returns-then-is_asked-clause-step : goal.returns-then-is_asked-clause-step
+returns-then-is_asked-clause-step g c =
+    let code = c.args.code.now in
+    let old = c.args.p.now in
+    let new = c.go_to.new.self in
+    let due : due_at code.ops old.at ≡ Some Asked =
+    sym c.requires.due ∙ is-asked c.args.due (sym c.is_asked.ensures ∙ c.if-is_asked.true) in
+    let is : new ≡ record old { at = old.at + 2 } =
+    c.go_to.ensures ∙ ap (λ n. record old { at = n }) (c.behind_collect.ensures ∙ ap (λ n. n + 2) c.at.ensures) in
+    OnInput-still _ _ _ _ (StepsOn code (machine_in old) (machine_in new) outcome.Running) refl refl (pass-steps code old new is c.requires.runs due)
+
+pub returns-then-is_asked-clause-refused : goal.returns-then-is_asked-clause-refused
+returns-then-is_asked-clause-refused g c none = absurd (true≢false none)
+
+pub returns-then-is_asked-clause-high : goal.returns-then-is_asked-clause-high
+returns-then-is_asked-clause-high g c =
+    let old = c.args.p.now in
+    pass-high c.args.code.now old c.go_to.new.self
+    (c.go_to.ensures ∙ ap (λ n. record old { at = n }) (c.behind_collect.ensures ∙ ap (λ n. n + 2) c.at.ensures))
+
+pub returns-then-is_asked-clause-frees : goal.returns-then-is_asked-clause-frees
+returns-then-is_asked-clause-frees g c =
+    let old = c.args.p.now in
+    pass-frees c.args.code.now old c.go_to.new.self
+    (c.go_to.ensures ∙ ap (λ n. record old { at = n }) (c.behind_collect.ensures ∙ ap (λ n. n + 2) c.at.ensures))
+
+pub returns-then-is_asked-clause-rests : goal.returns-then-is_asked-clause-rests
+returns-then-is_asked-clause-rests g c =
+    let old = c.args.p.now in
+    pass-rests c.args.code.now old c.go_to.new.self
+    (c.go_to.ensures ∙ ap (λ n. record old { at = n }) (c.behind_collect.ensures ∙ ap (λ n. n + 2) c.at.ensures)) c.requires.rests
+
+-- any other
+
+pub returns-clause-still : goal.returns-clause-still
+returns-clause-still g c asked = absurd (true≢false (sym asked ∙ sym c.is_asked.ensures ∙ c.if-is_asked.false))
 
 pub step-did-requires-clause-given : goal.step-did-requires-clause-given
 step-did-requires-clause-given g c = runs-given c.args.code.now (core_of c.args.p.now) c.requires.runs

@@ -7,7 +7,7 @@ use Rattle.rg_tree.specs.Rows.RowTrees.{program_of}
 use Rattle.rg_rules.specs.Acceptance.{Accepted}
 use Rattle.rg_input.proofs.InputLemmas.{OnInput-still}
 use Rattle.rg_machine.specs.Parts.{machine_in}
-use Rattle.rg_step.specs.Steps.{Stepping, opening_machine}
+use Rattle.rg_step.specs.Steps.{IsFresh, Stepping, fresh, opening_machine}
 use Rattle.rg_run.proofs.AskLemmas.{yeses-none, yeses-of, yeses-more}
 use Rattle.rg_run.proofs.LoopLemmas.{went-on, printed-on, turned-leapt, spent, untold, done, done-untold}
 use Rattle.rg_run.proofs.LoopLemmas.{trapped, cut-before, cut-at-input, cut-behind}
@@ -17,6 +17,9 @@ use Rattle.rg_run.proofs.TurnLemmas.{Between, Turns, begins, is-running}
 use Rattle.rg_run.proofs.ReportLemmas.{reports-none, reports-whole, reports-same, reports-part, reports-front, reports-of}
 use Rattle.rg_run.proofs.ReportLemmas.{reports-unbegun, untold-input}
 use Rattle.rg_run.proofs.inside.Inside.run.Goals as goal
+
+pub begin-requires : goal.begin-requires
+begin-requires g c = subst IsFresh (sym c.requires.fresh.stepper) refl
 
 pub loop-self-init : goal.loop-self-init
 loop-self-init g c =
@@ -30,7 +33,9 @@ loop-self-init g c =
     let h = c.in-Ok.ensures.begun in
     let opens : machine_in h.0 ≡ opening_machine code t.manager =
     h.1 ∙ ap (opening_machine code) (c.main_manager.ensures ∙ ap (λ (q : Tables). q.manager) c.program.ensures.program) in
-    let is : m ≡ opening_machine code t.manager = ap (λ (s : Stepping). machine_in s.parts) h.2 ∙ opens in
+    let begun : c.begin.new.self ≡ record fresh { parts = h.0 } =
+    h.2 ∙ ap (λ (s : Stepping). record s { parts = h.0 }) c.requires.fresh.stepper in
+    let is : m ≡ opening_machine code t.manager = ap (λ (s : Stepping). machine_in s.parts) begun ∙ opens in
     record {
       begun = refl;
       follows = c.requires.follows;
@@ -40,9 +45,9 @@ loop-self-init g c =
       notes_never_fall = omega arith;
       count_tuned = refl;
       trace_tuned = refl;
-      reports = reports-same c.args.report ended.Spent [] c.begin.new.self.events _ _ (ap (λ (s : Stepping). s.events) h.2)
+      reports = reports-same c.args.report ended.Spent [] c.begin.new.self.events _ _ (ap (λ (s : Stepping). s.events) begun)
           (reports-none c.args.report (g.R.Sink.taken c.args.notes.now));
-      yeses = yeses-none c.begin.new.self.events _ (ap (λ (s : Stepping). s.events) h.2);
+      yeses = yeses-none c.begin.new.self.events _ (ap (λ (s : Stepping). s.events) begun);
       turns = OnInput-still _ _ _ _ (Turns t code c.args.self.now.steps c.begin.new.self content content Still _ _) refl refl (λ bytes.
           let Q : ℕ → Type 0 = λ k. Between t code k m content content Still bytes bytes in
           record {
@@ -50,8 +55,8 @@ loop-self-init g c =
                 (begins t code m content Still bytes accepted c.requires.lowers is (Appends-none content) (refl, refl));
             asked = asked-none (program_of t) bytes c.args.self.now.steps _ c.requires.fresh.steps;
             since = since-none (program_of t) bytes c.args.self.now.steps c.begin.new.self c.requires.fresh.steps
-                (ap (λ (s : Stepping). s.steps) h.2) (ap (λ (s : Stepping). s.since) h.2) (ap (λ (s : Stepping). s.events) h.2);
-            states = opened h.0 c.begin.new.self opens h.2 c.requires.fresh.steps bytes;
+                (ap (λ (s : Stepping). s.steps) begun) (ap (λ (s : Stepping). s.since) begun) (ap (λ (s : Stepping). s.events) begun);
+            states = opened h.0 c.begin.new.self opens begun c.requires.fresh.steps bytes;
           });
     }
 

@@ -10,7 +10,7 @@ returns-clause-begun c =
     let p = c.in_ok-machine.machine in (
       p,
       ap (λ (k : Core). k.machine) c.in_ok-machine.ensures ∙ ap (λ n. opening n c.args.manager) c.main_slots.ensures,
-      ap (λ (n : Stepping). record n { parts = p }) (c.self.view_is ∙ c.requires),
+      ap (λ (n : Stepping). record n { parts = p }) c.self.view_is,
     )
 
 pub invariant_of-self : goal.invariant_of-self
