@@ -129,7 +129,8 @@ impl Inside {
         ensures sink_never_falls { O.faults out.old ≤ O.faults out.new }
         ensures notes_never_fall { R.faults notes.old ≤ R.faults notes.new }
     {
-        let Ok(()) = self.stepper.begin(alloc, code, accepted.program().main_manager()) else {
+        let program = accepted.program();
+        let Ok(()) = self.stepper.begin(alloc, code, program.main_manager()) else {
             return Ended::Memory;
         };
         self.begun = true;

@@ -29,10 +29,10 @@ loop-self-init g c =
     let content = g.O.Sink.taken c.args.out.now in
     let Still : Type 0 = (c.args.input.now ≡ c.args.input.now) × (c.args.source.now ≡ c.args.source.now) in
     let P : Tables → Type 0 = λ q. Accepted (program_of q) in
-    let accepted : P t = subst P c.program.ensures.program c.program.ensures.accepted in
+    let accepted : P t = subst P c.program-program.ensures.program c.program-program.ensures.accepted in
     let h = c.in-Ok.ensures.begun in
     let opens : machine_in h.0 ≡ opening_machine code t.manager =
-    h.1 ∙ ap (opening_machine code) (c.main_manager.ensures ∙ ap (λ (q : Tables). q.manager) c.program.ensures.program) in
+    h.1 ∙ ap (opening_machine code) (c.main_manager.ensures ∙ ap (λ (q : Tables). q.manager) c.program-program.ensures.program) in
     let begun : c.begin.new.self ≡ record fresh { parts = h.0 } =
     h.2 ∙ ap (λ (s : Stepping). record s { parts = h.0 }) c.requires.fresh.stepper in
     let is : m ≡ opening_machine code t.manager = ap (λ (s : Stepping). machine_in s.parts) begun ∙ opens in
