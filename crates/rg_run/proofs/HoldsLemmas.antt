@@ -10,6 +10,7 @@ use Rattle.rg_base.specs.declared.object.Place.TheVariants.{Var, Field}
 use Rattle.rg_base.specs.declared.object.Seen.{Seen}
 use Rattle.rg_base.specs.declared.value.Val.{Val}
 use Rattle.rg_base.specs.declared.value.Val.TheVariants.{Obj}
+use Rattle.rg_base.proofs.Callers.Lists.{there as get-below}
 use Rattle.rg_tree.specs.Tree.{Class, Tree}
 use Rattle.rg_rules.specs.State.{Local, State, Frame as Body, Window as Opened, frame_at}
 use Rattle.rg_rules.specs.Regions.{region_of}
@@ -38,11 +39,6 @@ use Rattle.rg_held.specs.Shown.{ShowsHeld}
 use Rattle.rg_machine.specs.Parts.{machine_in}
 use Rattle.rg_run.specs.Machine.{Kept}
 use Rattle.rg_run.specs.Sound.{HoldsOf}
-
-get-below : {A : Type 0} (xs : List A) (i : ℕ) → i < length xs → (x : A) × (slice_get xs i ≡ Some x)
-get-below [] i h = absurd (omega (arith, h))
-get-below (x ∷ xs) zero h = (x, refl)
-get-below (x ∷ xs) (suc i) h = let less : i < length xs = omega (arith, h) in get-below xs i less
 
 -- Variables
 

@@ -5,6 +5,7 @@ use Rattle.rg_base.specs.declared.event.Cause.{Cause}
 use Rattle.rg_base.specs.declared.event.Event.{Event}
 use Rattle.rg_base.specs.declared.words.Manager.{Manager}
 use Rattle.rg_base.specs.declared.words.Manager.TheVariants.{Arena, Count, Trace}
+use Rattle.rg_base.proofs.Callers.Lists.{there}
 use Rattle.rg_tree.specs.Tree.{Tree}
 use Rattle.rg_rules.specs.State.{State, Window as Opened, active}
 use Rattle.rg_code.specs.Code.{Code}
@@ -21,7 +22,6 @@ use Rattle.rg_stack.specs.Effects.{top_region}
 use Rattle.rg_stack.specs.Machine.{Window}
 use Rattle.rg_stack.specs.Shows.{ShowsWindows}
 use Rattle.rg_view.specs.View.{number_in}
-use Rattle.rg_view.proofs.Callers.FrameLemmas.{there}
 use Rattle.rg_view.proofs.Callers.ManagerLemmas.{manager-at}
 use Rattle.rg_view.proofs.Callers.WindowLemmas.{active-region}
 use Rattle.rg_held.specs.Shown.{ShowsHeld}

@@ -5,6 +5,7 @@ use Rattle.std.proofs.lemmas.Bool.{false≢true}
 use Rattle.std.proofs.lemmas.Option.{same_Some}
 use Rattle.rg_base.specs.declared.object.Label.TheVariants.{Region}
 use Rattle.rg_base.specs.declared.object.Seen.{Seen}
+use Rattle.rg_base.proofs.Callers.Lists.{there}
 use Rattle.rg_cells.specs.declared.cell.Body.{Body}
 use Rattle.rg_code.specs.Code.{Code}
 use Rattle.rg_regions.specs.Reach.{LiesIn}
@@ -16,7 +17,6 @@ use Rattle.rg_stack.specs.Refusals.{Orderly}
 use Rattle.rg_held.specs.Frees.{gone, free_step as step}
 use Rattle.rg_held.specs.Freed.{FreesOnly as StoreFrees, RegionEnded, StepFrees}
 use Rattle.rg_held.proofs.Callers.FreedLemmas.{steps-free}
-use Rattle.rg_view.proofs.Callers.FrameLemmas.{there}
 use Rattle.rg_view.proofs.Callers.LinkLemmas.{gone-region, store-back}
 use Rattle.rg_view.proofs.Callers.LookLemmas.{store-held}
 use Rattle.rg_view.proofs.Callers.OpenLemmas.{window-open}

@@ -1,5 +1,5 @@
 -- A plain step that makes an object by `new C` keeps the windows and the managers.
-use Rattle.std.proofs.Common.{◌≡◌, ℕ, Bool as Truth, true, false, true≢false, List, [], ◌∷◌, ◌++◌, length, Option, Some, None, Result, Ok, Err}
+use Rattle.std.proofs.Common.{◌≡◌, ℕ, Bool as Truth, true, false, true≢false, List, [], ◌∷◌, ◌++◌, length, Option, Some, None, Result, Ok}
 use Rattle.std.proofs.Common.{refl, sym, subst, slice_get, slice_set}
 use Rattle.rg_base.specs.declared.event.Cause.{Cause}
 use Rattle.rg_base.specs.declared.event.Cause.TheVariants.{Asked, Paced}
@@ -16,9 +16,10 @@ use Rattle.rg_rules.specs.Items.{Item, Do, EndAt, LeaveAt, Back}
 use Rattle.rg_rules.specs.Paths.{all_but_last, last_field}
 use Rattle.rg_rules.specs.RightSides.{Use, made, new_object, with_right}
 use Rattle.rg_rules.specs.State.{Assigns, Declares, Drops, State, Target, add_local, locals_of, put_local, value_in}
-use Rattle.rg_rules.specs.Steps.{Went, next, put_field, step_assign, step_first, step_kind, stepped}
+use Rattle.rg_rules.specs.Steps.{Went, next, put_field, step_assign, step_first, step_kind}
 use Rattle.rg_rules.specs.Types.{class_named, type_of}
 use Rattle.rg_rules.proofs.AnswersLemmas.{bind-ok, then-ok}
+use Rattle.rg_rules.proofs.StepLemmas.{stepped-went as stepped-ok}
 use Rattle.rg_stack.specs.Dues.{first_due, kind_due, paced}
 use Rattle.rg_step.specs.Asking.{first_makes}
 
@@ -118,10 +119,6 @@ kind-stays classes s line (enter p z body) makes q is = absurd (true≢false (sy
 kind-stays classes s line (print e) makes q is = absurd (true≢false (sym makes))
 kind-stays classes s line collect makes q is = absurd (true≢false (sym makes))
 kind-stays classes s line (return e) makes q is = absurd (true≢false (sym makes))
-
-stepped-ok : (line : ℕ) (r : Result State Trap) (q : State) → stepped line r ≡ Went q → r ≡ Ok q
-stepped-ok line (Ok s) q is = cc
-stepped-ok line (Err kind) q is = absurd (cc)
 
 first-stays : (classes : List Class) (s : State) (items : List Item) → first_makes classes items ≡ true → (q : State)
     → step_first classes s items ≡ Went q → Stays s q

@@ -10,6 +10,7 @@ use Rattle.rg_base.specs.declared.outcome.Outcome.{Outcome}
 use Rattle.rg_base.specs.declared.outcome.Outcome.TheVariants as outcome
 use Rattle.rg_base.specs.declared.words.Manager.{Manager}
 use Rattle.rg_base.specs.declared.words.Manager.TheVariants.{Arena, Count, Trace}
+use Rattle.rg_base.proofs.Callers.Lists.{there}
 use Rattle.rg_tree.specs.Tree.{Tree}
 use Rattle.rg_rules.specs.Acceptance.{Accepted}
 use Rattle.rg_rules.specs.State.{State}
@@ -28,7 +29,6 @@ use Rattle.rg_regions.specs.Reach.{Roots}
 use Rattle.rg_regions.specs.Table.{HasNumber, Record, RegionTable, record_at}
 use Rattle.rg_stack.specs.Machine.{Machine}
 use Rattle.rg_stack.specs.Needs.{owned_once}
-use Rattle.rg_view.proofs.Callers.FrameLemmas.{there}
 use Rattle.rg_held.specs.Shown.{ShowsHeld}
 use Rattle.rg_held.proofs.Gather.Told.{held-as, part-as}
 use Rattle.rg_machine.specs.Collects.{Gathers, holds}

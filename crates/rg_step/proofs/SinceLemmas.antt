@@ -19,6 +19,7 @@ use Rattle.rg_heap.specs.Answers.{Tells}
 use Rattle.rg_heap.specs.Parts.{OnTop}
 use Rattle.rg_code.specs.Dues.{due_at}
 use Rattle.rg_stack.specs.Machine.{Machine}
+use Rattle.rg_stack.proofs.Basics.{and-right}
 use Rattle.rg_machine.specs.Parts.{Parts, machine_in}
 use Rattle.rg_machine.specs.Stands.{Stands}
 use Rattle.rg_step.specs.Asking.{SinceFrom, SinceOn, asks_at, first_makes, paced_by, since_behind}
@@ -99,10 +100,6 @@ said-so k false mid events behind new a stands tells is more c m = none-said eve
 and-true : (answer : Truth) → (answer && true) ≡ answer
 and-true true = refl
 and-true false = refl
-
-and-right : (answer b : Truth) → answer && b ≡ true → b ≡ true
-and-right true b is = is
-and-right false b is = absurd (true≢false (sym is))
 
 since-said : (answer said : Truth) (n : ℕ) → said ≡ answer → since_then answer n ≡ since_behind true said n
 since-said true true n is = refl
