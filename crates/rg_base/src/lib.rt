@@ -1,5 +1,8 @@
 //! The plain types that all layers share, and the definitions of tokens and texts
-//! (docs/language.md).
+//! (docs/language.md). `Vals` and `ByteList` are lists, each call of which is exact; `Steps` is a
+//! counter to which `tick` adds one. `Stop` is a `Fault`, which is a `Code` with its line, or want
+//! of memory. `specs/Tokens` cuts a source (`cut`), `specs/Input` reads the numbers of an input,
+//! and `specs/{Text,Diagnostics,Report}` say the texts that other crates write.
 #![tactic(auto)]
 
 mod byte_list;

@@ -100,7 +100,7 @@ serials-made places new next slot c is u q = record {
     serial_is : (b : Body) → Some c.body ≡ Some b → b.serial ≡ next
     serial_is b e = sym (ap (λ (x : Body). x.serial) (same_Some c.body b e)) ∙ is
 
-none_at : (xs : List (Option (Option Body))) (k : ℕ) → body_in (get_or (set xs k (Some None)) k None) ≡ None
+pub none_at : (xs : List (Option (Option Body))) (k : ℕ) → body_in (get_or (set xs k (Some None)) k None) ≡ None
 none_at [] k = refl
 none_at (x ∷ xs) zero = refl
 none_at (x ∷ xs) (suc k) = none_at xs k

@@ -169,11 +169,12 @@ wide_cell xs next slot k h =
     wide_place (Some Free) h = absurd (omega arith)
     wide_place (Some (Held c)) h = (c, refl, h)
 
-field-of : (h : Heap) (slot k : ℕ) (w : Word) (b : Body) → body_at h slot ≡ Some b
+pub field-of : (h : Heap) (slot k : ℕ) (w : Word) (b : Body) → body_at h slot ≡ Some b
     → with_field h slot k w ≡ with_body h slot (record b { fields = set b.fields k w })
 field-of h slot k w b e = ap (λ (o : Option Body). elim o [ None ↦ h | Some b ↦ with_body h slot (record b { fields = set b.fields k w }) ]) e
 
-label-of : (h : Heap) (slot : ℕ) (l : Label) (b : Body) → body_at h slot ≡ Some b → with_label h slot l ≡ with_body h slot (record b { label = l })
+pub label-of : (h : Heap) (slot : ℕ) (l : Label) (b : Body) → body_at h slot ≡ Some b
+    → with_label h slot l ≡ with_body h slot (record b { label = l })
 label-of h slot l b e = ap (λ (o : Option Body). elim o [ None ↦ h | Some b ↦ with_body h slot (record b { label = l }) ]) e
 
 pub field-put : (xs : List (Option Place)) (next slot k : ℕ) (w : Word) (c : Cell) → get_or xs slot None ≡ Some (Held c)

@@ -1,2 +1,3 @@
+-- The definitions that the clauses of rg_cells name, and Inner, which may not be cited above (docs/architecture.md, "Cells").
 pub mod Table
 pub mod Inner

@@ -1,4 +1,4 @@
-//! The table of cells.
+//! The table of cells (docs/architecture.md, "Cells").
 
 ghost use Rattle.std.specs.Prelude.{◌≡◌, ◌+◌, ◌-◌, ◌^◌, ◌<◌, [], Some};
 ghost use Rattle.std.specs.Prelude.{IfSome, IfNone, IfOk, OnOk, OnErr, length, option_map};

@@ -1,4 +1,4 @@
-//! What is written into the places of the cells.
+//! What is written into the places of the cells (docs/architecture.md, "Cells").
 
 ghost use Rattle.std.specs.Prelude.{◌≡◌, ◌<◌, None, Some, IfSome, IfNone, IfOk, OnOk, OnErr};
 ghost use Rattle.std.specs.Prelude.{IsSome, length, slice_set, vec_capacity};

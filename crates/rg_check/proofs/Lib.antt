@@ -1,3 +1,4 @@
+-- The lemmas that the answers of rg_check use; none is for crates above.
 mod Outcomes
 mod BlockSteps
 mod ParamSteps

@@ -1,4 +1,4 @@
--- The law by which what was parsed may be checked.
+-- The law by which what was parsed may be checked (docs/language.md, "Limits").
 use Rattle.std.specs.Prelude.{ℕ, List}
 use Rattle.rg_base.specs.declared.token.Token.{Token}
 use Rattle.rg_tree.specs.Tree.{Tree}

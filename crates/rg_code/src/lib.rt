@@ -1,5 +1,8 @@
-//! The code of a program: its instructions, with what a stepper must know of classes and methods,
-//! and its listing (docs/language.md, "Instructions and lowering").
+//! The code of a program, with what a stepper must know of classes and methods (docs/language.md,
+//! "Instructions and lowering"). `CodeList` is a list of `Op` with openings, entries and main's
+//! number of slots: what a call changes is exact, and a refused one leaves it as it was.
+//! `find_shapes` changes nothing of that; `shape` says what stands at an address, where it is known
+//! (`IsShape`). `listing` gives the text of `specs/Listing`; `specs/Lowering` has a tree's code.
 #![tactic(auto)]
 
 mod code;

@@ -10,6 +10,7 @@ use Rattle.rg_base.specs.declared.value.Word.TheVariants.{Nil, Int, Bool as Trut
 use Rattle.rg_cells.specs.declared.cell.Body.{Body}
 use Rattle.rg_cells.specs.Table.{Heap, Table, body_at, body_in, field_at, label_at, link_at, width, IsHeld, with_field}
 use Rattle.rg_cells.specs.Table.{with_body, high_of}
+use Rattle.rg_cells.proofs.Shown.{field-of}
 use Rattle.rg_regions.specs.Reach.{belongs}
 use Rattle.rg_copy.specs.Inner.Moves.{target, moved_word, first_changed, first_fields, all_fields, ForwardsFirst, Forwards}
 use Rattle.rg_copy.proofs.Words.{first-get, first-set, first-all, first-length, map-agree}
@@ -46,13 +47,6 @@ body-here h s b d e = ap body_in (get_or-set_same h.slots s (Some (Some d)) None
 
 pub body-other : (h : Heap) (s x : ℕ) (d : Body) → x ≢ s → body_at (with_body h s d) x ≡ body_at h x
 body-other h s x d n = ap body_in (get_or-set_other h.slots s x (Some (Some d)) None n)
-
-pub field-written : (h : Heap) (s k : ℕ) (w : Word) (b : Body) → body_at h s ≡ Some b
-    → with_field h s k w ≡ with_body h s (record b { fields = set b.fields k w })
-field-written h s k w b e =
-    let F : Option Body → Heap =
-    λ o. elim o [ None ↦ h | Some b ↦ with_body h s (record b { fields = set b.fields k w }) ] in
-    ap F e
 
 -- a word goes the same way by tables that agree
 pub moved-agree : (f g : ℕ → Option ℕ) → ((x : ℕ) → f x ≡ g x) → (w : Word) → moved_word f w ≡ moved_word g w
@@ -164,7 +158,7 @@ module _ (r slot k : ℕ) (old t : Table) (w : ForwardsFirst r slot k old t) whe
           ap (λ y. set (first_changed f k b.fields) k y) word ∙ first-set f k b.fields v there in
           let N : Body = record b { fields = set (first_changed f k b.fields) k a } in
           let h : new.heap ≡ with_body t.heap slot N = ap (λ (z : Table). z.heap) n
-          ∙ field-written t.heap slot k a (first_fields f k b) now in
+          ∙ field-of t.heap slot k a (first_fields f k b) now in
           let one : suc k ≡ k + 1 = omega arith in
           record {
             marks = ap (λ (z : Table). z.marks) n ∙ w.marks;

@@ -2,7 +2,7 @@
 use Rattle.std.proofs.Common.{◌≡◌, ◌≢◌, ℕ, List, Option, Some, None, false, refl, ap, sym, ◌∙◌, subst, inl, inr, cond}
 use Rattle.std.proofs.Common.{slice_get, option_map, option_and_then, count_by}
 use Rattle.std.proofs.lemmas.Bool.{cases_eq}
-use Rattle.std.proofs.lemmas.Option.{slice_get-map}
+use Rattle.std.proofs.lemmas.Option.{slice_get-map, same_Some}
 use Rattle.rg_base.specs.declared.object.Label.{Label}
 use Rattle.rg_base.specs.declared.object.Label.TheVariants.{Region, Temp, Frozen}
 use Rattle.rg_base.specs.declared.words.Manager.TheVariants.{Count, Trace}
@@ -14,7 +14,7 @@ use Rattle.rg_frames.specs.Stack.{Stack}
 use Rattle.rg_regions.specs.Table.{Record, RegionTable, record_at, HasNumber, IsBridge}
 use Rattle.rg_regions.specs.Reach.{LiesIn, belongs}
 use Rattle.rg_regions.specs.Grove.{Grove, Members, Parent, Above, direct, further, referrers, leads_to}
-use Rattle.rg_regions.proofs.Callers.Told.{one_record, one_region, lies_or_not}
+use Rattle.rg_regions.proofs.Callers.Told.{one_region, lies_or_not}
 use Rattle.rg_regions.proofs.Callers.Fewer.{total_alike, belongs_not}
 use Rattle.rg_copy.specs.Inner.Moves.{all_fields, IsTempAt}
 use Rattle.rg_copy.proofs.Stages.{Stages, place, change, body-off, marks-off, IsReached, from, from-place, from-inside}
@@ -225,7 +225,7 @@ module _ {c m p e f s cells : Table} {t u regions : RegionTable} {key : ℕ} {re
       let w = slides g in
       elim (cases_eq b.0 key) [
         | inl a ↦
-            let same : b.1 ≡ rec = one_record b.1 rec (sym b.2 ∙ ap (record_at t) a ∙ g.there) in (
+            let same : b.1 ≡ rec = same_Some b.1 rec (sym b.2 ∙ ap (record_at t) a ∙ g.there) in (
               key,
               w.own.0,
               w.own.1,
@@ -306,7 +306,7 @@ module _ {c m p e f s cells : Table} {t u regions : RegionTable} {key : ℕ} {re
   bridge-stands : (q y : ℕ) → IsBridge t q (At y) → LiesIn cells.heap q y → At y ≡ y
   bridge-stands q y b l = elim (cases_eq b.0 key) [
     | inl a ↦
-        let same : b.1 ≡ rec = one_record b.1 rec (sym b.2 ∙ ap (record_at t) a ∙ g.there) in
+        let same : b.1 ≡ rec = same_Some b.1 rec (sym b.2 ∙ ap (record_at t) a ∙ g.there) in
         let is : rec.bridge ≡ Some (At y) = sym (ap (λ (z : Record). z.bridge) same) ∙ b.4 in
         g.shifted.1.one (At y) y (bridge-at (At y) is)
     | inr d ↦
@@ -321,7 +321,7 @@ module _ {c m p e f s cells : Table} {t u regions : RegionTable} {key : ℕ} {re
         numbers = λ k o n a b. g.grove.numbers k o n (has k n a) (has o n b);
         members = λ k z a. elim (cases_eq k key) [
           | inl q ↦
-              let same : w.own.0 ≡ z = one_record w.own.0 z (sym w.own.1 ∙ sym (ap (record_at regions) q) ∙ a) in
+              let same : w.own.0 ≡ z = same_Some w.own.0 z (sym w.own.1 ∙ sym (ap (record_at regions) q) ∙ a) in
               let M : Record → Type 0 = λ y. Members cells.heap y.number y.members in
               let N : ℕ → Type 0 = λ n. Members cells.heap n w.own.0.members in
               subst M same (subst N (sym w.own.2) w.own.5)
@@ -337,7 +337,7 @@ module _ {c m p e f s cells : Table} {t u regions : RegionTable} {key : ℕ} {re
         ];
         bridges = λ k x z a b. elim (cases_eq k key) [
           | inl q ↦
-              let same : w.own.0 ≡ z = one_record w.own.0 z (sym w.own.1 ∙ sym (ap (record_at regions) q) ∙ a) in
+              let same : w.own.0 ≡ z = same_Some w.own.0 z (sym w.own.1 ∙ sym (ap (record_at regions) q) ∙ a) in
               let i : rec.bridge ≡ Some x = sym w.own.4 ∙ ap (λ (y : Record). y.bridge) same ∙ b in
               let L : ℕ → Type 0 = λ n. LiesIn cells.heap n x in
               subst L (sym w.own.2 ∙ ap (λ (y : Record). y.number) same) (bridge-lies x i)
@@ -373,7 +373,7 @@ module _ {c m p e f s cells : Table} {t u regions : RegionTable} {key : ℕ} {re
         no_cycle = λ r a. g.grove.no_cycle r (above-back r r a);
         counts = λ k x z a n l. elim (cases_eq k key) [
           | inl q ↦
-              let same : w.own.0 ≡ z = one_record w.own.0 z (sym w.own.1 ∙ sym (ap (record_at regions) q) ∙ a) in
+              let same : w.own.0 ≡ z = same_Some w.own.0 z (sym w.own.1 ∙ sym (ap (record_at regions) q) ∙ a) in
               let y : Trace ≡ Count = sym g.traced ∙ sym w.own.3 ∙ ap (λ (y : Record). y.manager) same ∙ n in
               cc
           | inr d ↦
@@ -389,7 +389,7 @@ module _ {c m p e f s cells : Table} {t u regions : RegionTable} {key : ℕ} {re
               (marks-off g x off).0
               ∙ g.grove.unmarked x (λ k z a i l. elim (cases_eq k key) [
                 | inl q ↦
-                    let same : rec ≡ z = one_record rec z (sym g.there ∙ sym (ap (record_at t) q) ∙ a) in
+                    let same : rec ≡ z = same_Some rec z (sym g.there ∙ sym (ap (record_at t) q) ∙ a) in
                     let L : ℕ → Type 0 = λ y. LiesIn c.heap y x in
                     off (subst L (sym (ap (λ (y : Record). y.number) same)) l)
                 | inr d ↦ n k z (w.records k d ∙ a) i (stays-in z.number x (apart k z d a) l)

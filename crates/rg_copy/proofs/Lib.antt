@@ -1,3 +1,4 @@
+-- The lemmas that the answers of rg_copy use; those with pub are open to crates above.
 mod Words
 mod Fields
 mod Passes

@@ -2,7 +2,7 @@
 -- cell (docs/architecture.md, "A manager that moves its cells").
 use Rattle.std.proofs.Common.{◌≡◌, ℕ, ◌<◌, List, length, Option, Some, None, IsSome, refl, ap, sym, ◌∙◌, subst, arith}
 use Rattle.std.proofs.Common.{inl, inr, option_map, option_and_then, slice_get, drop, get_or}
-use Rattle.std.proofs.lemmas.Option.{slice_get_within, slice_get-get_or}
+use Rattle.std.proofs.lemmas.Option.{slice_get_within, slice_get-get_or, same_Some}
 use Rattle.rg_base.specs.declared.object.Label.{Label}
 use Rattle.rg_base.specs.declared.object.Label.TheVariants.{Region, Temp, Frozen}
 use Rattle.rg_base.specs.declared.value.Word.{Word}
@@ -16,7 +16,7 @@ use Rattle.rg_regions.specs.Table.{Record, RegionTable, record_at, Has, IsBridge
 use Rattle.rg_regions.specs.Reach.{LiesIn, Reach, is_bridge, in_slots, in_temps}
 use Rattle.rg_regions.specs.Grove.{Grove}
 use Rattle.rg_regions.specs.Collection.{AllHeld}
-use Rattle.rg_regions.proofs.Callers.Told.{one_record, one_region, lies_or_not, number_of, reach_lies}
+use Rattle.rg_regions.proofs.Callers.Told.{one_region, lies_or_not, number_of, reach_lies}
 use Rattle.rg_regions.proofs.Callers.Shares.{has-cases, has_place, place_has}
 use Rattle.rg_trace.proofs.LocalRoots.{Local}
 use Rattle.rg_copy.specs.Slid.{Slid, top_roots, top_slots, top_temps, base_of, Becomes, CellBecomes}
@@ -125,7 +125,7 @@ module _ {c : Table} {t : RegionTable} {key : ℕ} {rec : Record} {v : Stack} {c
       by_bridge b =
           let y : b.0 ≡ key = g.numbers b.0 key rec.number (number_of t b.0 rec.number b.1 b.2 b.3)
           (number_of t key rec.number rec e refl) in
-          let z : b.1 ≡ rec = one_record b.1 rec (sym b.2 ∙ ap (record_at t) y ∙ e) in
+          let z : b.1 ≡ rec = same_Some b.1 rec (sym b.2 ∙ ap (record_at t) y ∙ e) in
           sym (ap (λ (r : Record). r.bridge) z) ∙ b.4
 
       no_field : (b : Option Body) → option_map (λ (b : Body). b.label) b ≡ None

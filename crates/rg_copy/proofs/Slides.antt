@@ -2,6 +2,7 @@
 -- cells").
 use Rattle.std.proofs.Common.{◌≡◌, ℕ, List, length, map, Option, Some, None, refl, ap, sym, ◌∙◌, subst, ◌⊎◌, inl, inr}
 use Rattle.std.proofs.Common.{slice_get, option_map, option_and_then, drop, take}
+use Rattle.std.proofs.lemmas.Option.{same_Some}
 use Rattle.rg_base.specs.declared.object.Label.{Label}
 use Rattle.rg_base.specs.declared.object.Label.TheVariants.{Region, Temp, Frozen}
 use Rattle.rg_base.specs.declared.value.Word.{Word}
@@ -12,7 +13,7 @@ use Rattle.rg_frames.specs.Stack.{Stack}
 use Rattle.rg_regions.specs.Table.{Record, RegionTable, record_at, Has, IsBridge}
 use Rattle.rg_regions.specs.Ordered.{with_members}
 use Rattle.rg_regions.specs.Reach.{LiesIn}
-use Rattle.rg_regions.proofs.Callers.Told.{one_record, one_region, number_of}
+use Rattle.rg_regions.proofs.Callers.Told.{one_region, number_of}
 use Rattle.rg_copy.specs.Slid.{top_slots, top_temps, top_roots, base_of, AllBecome, CellBecomes, Slid}
 use Rattle.rg_copy.specs.Inner.Moves.{target, moved_word, all_fields, IsTempAt, changed_from}
 use Rattle.rg_copy.proofs.Words.{from-drop, from-take, map-agree}
@@ -49,7 +50,7 @@ module _ {c m p e f s cells : Table} {t u regions : RegionTable} {key : ℕ} {re
       by_bridge b =
           let q : b.0 ≡ key = g.grove.numbers b.0 key rec.number (number_of t b.0 rec.number b.1 b.2 b.3)
           (number_of t key rec.number rec g.there refl) in
-          let z : b.1 ≡ rec = one_record b.1 rec (sym b.2 ∙ ap (record_at t) q ∙ g.there) in
+          let z : b.1 ≡ rec = same_Some b.1 rec (sym b.2 ∙ ap (record_at t) q ∙ g.there) in
           sym (ap (λ (r : Record). r.bridge) z) ∙ b.4
 
       by_label : (l : Option Label) → label_at c.heap x ≡ l → rec.bridge ≡ Some y

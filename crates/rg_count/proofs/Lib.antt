@@ -1,3 +1,4 @@
+-- The lemmas that the answers of rg_count use; those with pub are open to crates above.
 mod RootsFlagged
 mod CountsLowered
 mod ZerosListed

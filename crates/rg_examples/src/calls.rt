@@ -1,4 +1,4 @@
-//! Calls of the top call with sinks in memory.
+//! Calls of the top call with sinks in memory (docs/architecture.md, "Tests").
 
 use rg_io::{Files, MemSink, MemSource};
 use rg_pace::EveryN;

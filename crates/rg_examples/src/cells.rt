@@ -1,4 +1,5 @@
-//! The cells of the table of rows, as the bytes that they stand for.
+//! The cells of the table of rows, as the bytes that they stand for (docs/architecture.md,
+//! "Tests").
 
 use std::alloc::Global;
 

@@ -1,5 +1,5 @@
 //! The table of changes: a program of examples/ with one text in place of another, and what `check`
-//! says of it.
+//! says of it (docs/architecture.md, "Tests").
 
 use crate::calls::call;
 use crate::cells::expanded;

@@ -1,6 +1,6 @@
 //! Checks, runs and formats each program of examples/ by the top call, calls it for each row of
 //! examples/rows.txt and each change of examples/changes.txt, and says whether they write what is
-//! expected.
+//! expected (docs/architecture.md, "Tests").
 #![tactic(auto)]
 
 mod calls;

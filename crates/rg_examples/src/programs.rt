@@ -1,4 +1,4 @@
-//! The programs of examples/, each with a file of what it writes.
+//! The programs of examples/, each with a file of what it writes (docs/architecture.md, "Tests").
 
 use crate::calls::call;
 use rg_io::{MemFiles, StdFiles, take_all};

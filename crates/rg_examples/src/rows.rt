@@ -1,4 +1,5 @@
-//! The table of rows: calls on one file, `a`, with what each writes. `""` is an empty word.
+//! The table of rows: calls on one file, `a`, with what each writes. `""` is an empty word
+//! (docs/architecture.md, "Tests").
 
 use crate::calls::call;
 use crate::cells::expanded;

@@ -1,3 +1,4 @@
+-- The lemmas that the answers of rg_flow use; none is for crates above.
 mod SetLemmas
 mod NameTests
 mod PlaceLemmas

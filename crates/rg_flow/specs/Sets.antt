@@ -1,4 +1,4 @@
--- Sets of numbers as words of 64 bits.
+-- Sets of numbers as words of 64 bits (docs/language.md, "Judgements").
 use Rattle.std.specs.Prelude.{◌≡◌, ℕ, ◌/◌, ◌%◌, Bool, nat_eq, if◌then◌else◌, IsTrue, List, get_or}
 use Rattle.std.specs.Int.{bit_at}
 

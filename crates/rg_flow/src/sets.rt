@@ -1,4 +1,4 @@
-//! Sets of up to 256 numbers, a bit each.
+//! Sets of up to 256 numbers, a bit each (docs/language.md, "Judgements").
 
 ghost use Rattle.std.specs.Prelude.{◌≡◌, ℕ, ◌<◌, ◌↔◌, true, false, ◌&&◌, not, IsTrue};
 ghost use Rattle.rg_flow.specs.Sets.{has, SetsBit, IsWithin};

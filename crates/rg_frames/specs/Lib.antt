@@ -1,3 +1,4 @@
+-- The definitions that the clauses of rg_frames name, and Inner, which may not be cited above (docs/architecture.md, "Frames").
 pub mod Stack
 pub mod Layers
 pub mod Inner

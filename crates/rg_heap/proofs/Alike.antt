@@ -4,6 +4,7 @@ use Rattle.std.proofs.Common.{◌≡◌, ◌≢◌, ℕ, cond, Option, Some, Non
 use Rattle.std.proofs.Common.{option_map, option_and_then, slice_get, count_by, Result, Ok, Err, IfOk, OnErr}
 use Rattle.rg_base.specs.declared.fault.Memory.{Memory}
 use Rattle.std.proofs.lemmas.Bool.{cases_eq}
+use Rattle.std.proofs.lemmas.Option.{same_Some}
 use Rattle.rg_base.specs.declared.words.Manager.{Manager}
 use Rattle.rg_base.specs.declared.object.Label.{Label}
 use Rattle.rg_base.specs.declared.object.Label.TheVariants.{Region, Frozen}
@@ -14,7 +15,7 @@ use Rattle.rg_cells.specs.Table.{Table, body_at, field_at, label_at, mark_at}
 use Rattle.rg_regions.specs.Table.{Record, RegionTable, record_at, HasNumber, Added, fresh}
 use Rattle.rg_regions.specs.Reach.{LiesIn, belongs}
 use Rattle.rg_regions.specs.Grove.{Grove, Members, Parent, Above, direct, further, referrers, leads_to}
-use Rattle.rg_regions.proofs.Callers.Told.{one_record, number_of, record_there}
+use Rattle.rg_regions.proofs.Callers.Told.{number_of, record_there}
 use Rattle.rg_regions.proofs.Callers.Fewer.{total_alike}
 
 -- two records are one but for the room
@@ -139,7 +140,7 @@ module _ (c : Table) (t : RegionTable) (regions : RegionTable) (key : ℕ) (m : 
   record_back k z a = elim (cases_eq k key) [
     | inl e ↦
         let P : ℕ → Type 0 = λ x. record_at regions x ≡ Some z in
-        inl (e, one_record z (fresh t m) (sym (subst P e a) ∙ w.is))
+        inl (e, same_Some z (fresh t m) (sym (subst P e a) ∙ w.is))
     | inr d ↦ inr (sym (w.others k d) ∙ a)
   ]
 

@@ -3,6 +3,7 @@ use Rattle.std.proofs.Common.{◌≡◌, ◌≢◌, ℕ, zero, suc, ◌+◌, ◌
 use Rattle.std.proofs.Common.{subst, ◌⊎◌, inl, inr, option_map, slice_get, length, arith, get_or, set}
 use Rattle.std.proofs.lemmas.Bool.{cases_eq}
 use Rattle.std.proofs.lemmas.List.{get_or-set_other}
+use Rattle.std.proofs.lemmas.Option.{same_Some}
 use Rattle.rg_base.specs.declared.words.Manager.{Manager}
 use Rattle.rg_base.specs.declared.object.Label.{Label}
 use Rattle.rg_base.specs.declared.object.Label.TheVariants.{Region, Temp}
@@ -13,7 +14,7 @@ use Rattle.rg_regions.specs.Table.{Record, RegionTable, record_at, HasNumber, Is
 use Rattle.rg_regions.specs.Table.{with_room, with_member, with_bridge}
 use Rattle.rg_regions.specs.Reach.{LiesIn}
 use Rattle.rg_regions.specs.Grove.{Grove, Members}
-use Rattle.rg_regions.proofs.Callers.Told.{one_record, number_of, record_of_key}
+use Rattle.rg_regions.proofs.Callers.Told.{number_of, record_of_key}
 use Rattle.rg_regions.proofs.Callers.Changed.{changed_at, changed_other, changed_links}
 use Rattle.rg_regions.proofs.Callers.RegionComes.{grove_comes}
 use Rattle.rg_regions.proofs.Callers.CellComes.{one_more, old_one, last_one}
@@ -71,7 +72,7 @@ grove_roomed c t cells regions key g k e w =
                 let A : Record → Type 0 = λ y. IsAlike r.0 y in
                 let P : ℕ → Type 0 = λ y. record_at regions y ≡ Some z in
                 let T : ℕ → Type 0 = λ y. record_at t y ≡ Some r.0 in
-                (r.0, subst T (sym q) r.1, subst A (one_record (with_room x.0 r.0) z (sym x.1 ∙ subst P q a)) (alike_self r.0 x.0))
+                (r.0, subst T (sym q) r.1, subst A (same_Some (with_room x.0 r.0) z (sym x.1 ∙ subst P q a)) (alike_self r.0 x.0))
             | inr d ↦ (z, sym (w.others o d) ∙ a, alike_self z z.room)
           ];
           on = λ o y a. elim (cases_eq o key) [
@@ -79,7 +80,7 @@ grove_roomed c t cells regions key g k e w =
                 let A : Record → Type 0 = λ z. IsAlike z (with_room x.0 r.0) in
                 let P : ℕ → Type 0 = λ z. record_at t z ≡ Some y in
                 let T : ℕ → Type 0 = λ z. record_at regions z ≡ Some (with_room x.0 r.0) in
-                (with_room x.0 r.0, subst T (sym q) x.1, subst A (one_record r.0 y (sym r.1 ∙ subst P q a)) (alike_self r.0 x.0))
+                (with_room x.0 r.0, subst T (sym q) x.1, subst A (same_Some r.0 y (sym r.1 ∙ subst P q a)) (alike_self r.0 x.0))
             | inr d ↦ (y, w.others o d ∙ a, alike_self y y.room)
           ];
         }
@@ -203,7 +204,7 @@ grove_member c t cells regions key n slot class fields g has plain m w k = grove
             let A : Record → Type 0 = λ y. IsKin r.0 y in
             let P : ℕ → Type 0 = λ y. record_at regions y ≡ Some z in
             let T : ℕ → Type 0 = λ y. record_at t y ≡ Some r.0 in
-            (r.0, subst T (sym q) r.1, subst A (one_record new z (sym new_is ∙ subst P q a)) (kin_self r.0 new.members new.room))
+            (r.0, subst T (sym q) r.1, subst A (same_Some new z (sym new_is ∙ subst P q a)) (kin_self r.0 new.members new.room))
         | inr d ↦ (z, sym (w.others o d) ∙ a, kin_self z z.members z.room)
       ];
       on = λ o y a. elim (cases_eq o key) [
@@ -211,14 +212,14 @@ grove_member c t cells regions key n slot class fields g has plain m w k = grove
             let A : Record → Type 0 = λ z. IsKin z new in
             let P : ℕ → Type 0 = λ z. record_at t z ≡ Some y in
             let T : ℕ → Type 0 = λ z. record_at regions z ≡ Some new in
-            (new, subst T (sym q) new_is, subst A (one_record r.0 y (sym r.1 ∙ subst P q a)) (kin_self r.0 new.members new.room))
+            (new, subst T (sym q) new_is, subst A (same_Some r.0 y (sym r.1 ∙ subst P q a)) (kin_self r.0 new.members new.room))
         | inr d ↦ (y, w.others o d ∙ a, kin_self y y.members y.room)
       ];
       members = λ o z a. elim (cases_eq o key) [
         | inl q ↦
             let P : ℕ → Type 0 = λ y. record_at regions y ≡ Some z in
             let M : Record → Type 0 = λ y. Members cells.heap y.number y.members in
-            subst M (one_record new z (sym new_is ∙ subst P q a))
+            subst M (same_Some new z (sym new_is ∙ subst P q a))
             (members_more c cells slot b m.takes.vacant m.made r.0.number r.0.members (ap Region number) (g.members key r.0 r.1))
         | inr d ↦
             let x = sym (w.others o d) ∙ a in

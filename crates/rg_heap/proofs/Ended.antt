@@ -5,9 +5,10 @@ use Rattle.std.proofs.lemmas.Bool.{cases_eq, cases_lt}
 use Rattle.std.proofs.lemmas.List.{get_or-set_other, get_or-set_same}
 use Rattle.rg_cells.specs.declared.cell.Body.{Body}
 use Rattle.rg_cells.specs.Table.{Heap, Table, IsHeld, body_at, body_in, mark_at, freed_from}
+use Rattle.rg_cells.proofs.SerialsKept.{none_at}
 use Rattle.rg_regions.specs.Table.{Record, RegionTable, record_at, HasNumber, IsKey, Has, Chained}
 use Rattle.rg_regions.specs.Grove.{Below}
-use Rattle.rg_regions.proofs.Callers.Freed.{none_here, zero_here, count-freed, held_once}
+use Rattle.rg_regions.proofs.Callers.Freed.{zero_here, count-freed, held_once}
 use Rattle.rg_release.specs.Released.{Unowned, BelowOne, CellsGo, CellsStay}
 use Rattle.rg_heap.specs.Changes.{SameRecords}
 use Rattle.rg_heap.proofs.OwnedChained.{number_on}
@@ -23,7 +24,7 @@ still_held old t slots i s once stands held f =
 pub freed_more : (old t : Table) (slots : List ℕ) (i s : ℕ) → ((i j s : ℕ) → slice_get slots i ≡ Some s → slice_get slots j ≡ Some s → i ≡ j)
     → slice_get slots i ≡ Some s → IsHeld old.heap s → FirstFreed old slots i t → FirstFreed old slots (i + 1) (freed_from t s)
 freed_more old t slots i s once stands held f =
-    let here : body_at (freed_from t s).heap s ≡ None = none_here t.heap.slots s in
+    let here : body_at (freed_from t s).heap s ≡ None = none_at t.heap.slots s in
     let here0 : mark_at (freed_from t s) s ≡ 0 = zero_here t.marks s in
     let there : (x : ℕ) → x ≢ s → body_at (freed_from t s).heap x ≡ body_at t.heap x =
     λ x d. ap body_in (get_or-set_other t.heap.slots s x (Some None) None d) in

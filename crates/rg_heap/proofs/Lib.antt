@@ -1,3 +1,4 @@
+-- The lemmas that the answers of rg_heap use; those with pub are open to crates above.
 mod Readers
 mod Alike
 mod Grows

@@ -4,6 +4,7 @@ use Rattle.std.proofs.Common.{refl, ap, sym, ◌∙◌, subst, ◌⊎◌, inl, i
 use Rattle.std.proofs.Common.{get_or}
 use Rattle.std.proofs.lemmas.Bool.{cases_eq}
 use Rattle.std.proofs.lemmas.List.Sums.{sum_by-cons}
+use Rattle.std.proofs.lemmas.Option.{same_Some}
 use Rattle.rg_base.specs.declared.object.Label.TheVariants.{Region}
 use Rattle.rg_base.specs.declared.value.Word.{Word}
 use Rattle.rg_base.specs.declared.value.Word.TheVariants.{Slot}
@@ -13,7 +14,7 @@ use Rattle.rg_regions.specs.Table.{Record, RegionTable, record_at, HasNumber, Ha
 use Rattle.rg_regions.specs.Reach.{LiesIn, Roots}
 use Rattle.rg_regions.specs.Grove.{Grove, Parent, Above, direct, further}
 use Rattle.rg_regions.specs.Collection.{OneShrinks, Lost, Orphaning, ChainsOrphans, HasManager}
-use Rattle.rg_regions.proofs.Callers.Told.{one_number, one_record, one_region, lies_or_not, number_of, same_members}
+use Rattle.rg_regions.proofs.Callers.Told.{one_number, one_region, lies_or_not, number_of, same_members}
 use Rattle.rg_regions.proofs.Callers.Fewer.{label_before, field_before, above_both}
 use Rattle.rg_release.specs.Released.{Unowned, BelowOne}
 use Rattle.rg_heap.specs.Parts.{Parts}
@@ -239,7 +240,7 @@ module _ (c : Table) (t : RegionTable) (key : ℕ) (rec : Record) (mid : Table) 
           (record { region = number; manager = m; held = held; kept = kept; released = released })
       tells number held kept released m members a b d e f h = record {
         region = one_number t key number rec.number a own_number;
-        manager = sym b.2 ∙ ap (λ (z : Record). z.manager) (one_record b.0 rec (sym b.1 ∙ at));
+        manager = sym b.2 ∙ ap (λ (z : Record). z.manager) (same_Some b.0 rec (sym b.1 ∙ at));
         held = e ∙ ap length (sym (same_members (record_at t key) rec members at d));
         kept = λ now y. f now (sym own_stays ∙ y);
         released = h ∙ count_mid;

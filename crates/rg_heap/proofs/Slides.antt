@@ -2,7 +2,7 @@
 use Rattle.std.proofs.Common.{◌≡◌, ◌≢◌, ℕ, ◌+◌, true, List, [], ◌∷◌, Option, Some, None, refl, ap, sym, ◌∙◌, subst, ◌⊎◌}
 use Rattle.std.proofs.Common.{inl, inr, arith, option_map, option_and_then, slice_get, length, count_by, is_some}
 use Rattle.std.proofs.lemmas.Bool.{cases_eq}
-use Rattle.std.proofs.lemmas.Option.{slice_get_cases, slice_get_past}
+use Rattle.std.proofs.lemmas.Option.{slice_get_cases, slice_get_past, same_Some}
 use Rattle.rg_base.specs.declared.object.Label.TheVariants.{Region, Frozen}
 use Rattle.rg_base.specs.declared.words.Manager.{Manager}
 use Rattle.rg_base.specs.declared.value.Word.{Word}
@@ -15,7 +15,7 @@ use Rattle.rg_regions.specs.Table.{Record, RegionTable, record_at, HasNumber, Ha
 use Rattle.rg_regions.specs.Reach.{LiesIn, Roots, Reach, is_bridge}
 use Rattle.rg_regions.specs.Grove.{Grove}
 use Rattle.rg_regions.specs.Collection.{AllHeld, ChainsOrphans, HasManager}
-use Rattle.rg_regions.proofs.Callers.Told.{one_record, one_region, lies_or_not, lies_held, number_of, reach_lies}
+use Rattle.rg_regions.proofs.Callers.Told.{one_region, lies_or_not, lies_held, number_of, reach_lies}
 use Rattle.rg_regions.proofs.Callers.Shares.{has_place}
 use Rattle.rg_release.specs.Released.{Unowned}
 use Rattle.rg_trace.specs.Collected.{OutOfReach}
@@ -111,7 +111,7 @@ module _ (c : Table) (t : RegionTable) (key : ℕ) (rec : Record) (v : Stack) (m
           let n = one_region c.heap x b.0 rec.number b.2 i in
           let z = b.3 in
           let k = g.numbers z.0 key rec.number (number_of t z.0 rec.number z.1 z.2 (z.3 ∙ n)) (number_of t key rec.number rec at refl) in
-          let same = one_record z.1 rec (sym z.2 ∙ ap (record_at t) k ∙ at) in
+          let same = same_Some z.1 rec (sym z.2 ∙ ap (record_at t) k ∙ at) in
           sym (ap (λ (y : Record). y.bridge) same) ∙ z.4
     ]
   ]

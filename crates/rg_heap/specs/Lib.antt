@@ -1,3 +1,4 @@
+-- The definitions that the clauses of rg_heap name, and Inner, which may not be cited above (docs/architecture.md, "The heap").
 pub mod Parts
 pub mod Answers
 pub mod Changes

@@ -3,6 +3,7 @@ use Rattle.std.proofs.Common.{◌≡◌, ◌≢◌, ℕ, ◌<◌, ◌≤◌, zer
 use Rattle.std.proofs.Common.{◌∙◌}
 use Rattle.std.proofs.Common.{subst, arith, inl, inr, option_map, slice_get}
 use Rattle.std.proofs.lemmas.Bool.{cases_eq}
+use Rattle.std.proofs.lemmas.Option.{same_Some}
 use Rattle.rg_base.specs.declared.object.Label.TheVariants.{Region}
 use Rattle.rg_base.specs.declared.words.Manager.TheVariants.{Count, Trace}
 use Rattle.rg_base.specs.declared.value.Word.{Word}
@@ -12,7 +13,7 @@ use Rattle.rg_cells.specs.Table.{Table, Made, body_at}
 use Rattle.rg_regions.specs.Table.{Record, RegionTable, record_at, HasNumber, changed, with_room, with_member}
 use Rattle.rg_regions.specs.Reach.{LiesIn}
 use Rattle.rg_regions.specs.Grove.{Grove}
-use Rattle.rg_regions.proofs.Callers.Told.{one_number, one_record, number_of}
+use Rattle.rg_regions.proofs.Callers.Told.{one_number, number_of}
 use Rattle.rg_regions.proofs.Callers.Changed.{changed_at, changed_other}
 use Rattle.rg_regions.proofs.Callers.CellComes.{CellComes, grove_cell, comes_in, label_on, one_more}
 use Rattle.rg_heap_tests.specs.Traced.{InTraced, AllTraced}
@@ -56,7 +57,7 @@ module _ (c c2 : Table) (t t1 t2 : RegionTable) (key slot number room : ℕ) (w 
       leads = λ k to f.
           let l = leads to (only_word w (Slot to) k (sym (ap (λ ws. slice_get ws k) fields) ∙ f)) in
           let R : Record → Type 0 = λ z. LiesIn c.heap z.number to in
-          subst R (one_record l.0 rec (sym l.1 ∙ at)) l.3;
+          subst R (same_Some l.0 rec (sym l.1 ∙ at)) l.3;
     }
 
     pub cell_grove : Grove c2 t2
@@ -73,7 +74,7 @@ module _ (c c2 : Table) (t t1 t2 : RegionTable) (key slot number room : ℕ) (w 
     pub cells_stay : (s : ℕ) → InTraced c t key s → InTraced c2 t2 key s
     cells_stay s l =
         let R : Record → Type 0 = λ z. LiesIn c.heap z.number s in
-        let i : LiesIn c.heap rec.number s = subst R (one_record l.0 rec (sym l.1 ∙ at)) l.3 in (
+        let i : LiesIn c.heap rec.number s = subst R (same_Some l.0 rec (sym l.1 ∙ at)) l.3 in (
           with_member slot (with_room room rec),
           comes.is,
           traced,

@@ -1,4 +1,4 @@
-//! That ample memory is enough, and what a use of slots looks like.
+//! That ample memory is enough, and what a use of slots looks like (docs/architecture.md, "Tests").
 
 use rg_base::{Label, Word};
 use rg_cells::Cells;

@@ -1,4 +1,4 @@
-//! That ample memory is enough, and what main's frame looks like.
+//! That ample memory is enough, and what main's frame looks like (docs/architecture.md, "Tests").
 
 use rg_base::Word;
 use rg_frames::Frames;

@@ -1,4 +1,5 @@
-//! That ample memory is enough, and what a use of the table looks like.
+//! That ample memory is enough, and what a use of the table looks like (docs/architecture.md,
+//! "Tests").
 
 use rg_base::Manager;
 use rg_regions::Regions;

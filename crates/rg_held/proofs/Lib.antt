@@ -1,3 +1,4 @@
+-- The lemmas by which the laws of rg_held are proved; those with pub are for crates above.
 pub mod Lists
 pub mod Places
 mod Links

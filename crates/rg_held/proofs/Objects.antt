@@ -40,6 +40,7 @@ use Rattle.rg_held.proofs.Stack.{match-more, slot-leads, slot-same, field-leads}
 use Rattle.rg_held.proofs.Slots.{part-put, put-there}
 use Rattle.rg_held.proofs.News.{Plain, NewFits, with_new, part-region, part-new}
 use Rattle.rg_held.proofs.Writes.{part-write}
+use Rattle.rg_held.proofs.Burials.{same-region}
 
 -- a class opens its fields with no reference
 opened-plain : (ws : List Word) (k : ℕ) (v : Val) → leads_nowhere ws ≡ true → slice_get (map value_of_word ws) k ≡ Some v → Plain v
@@ -57,9 +58,6 @@ opened-plain (word.Slot a ∷ ws) k v h e = off h
 pub top-numbered : (ws : List Window) → SomeWindow ws → has_window ws (top_window ws) ≡ true
 top-numbered [] h = absurd h
 top-numbered (w ∷ ws) h = ap (λ b. b || has_window ws w.number) (eq-eqb w.number w.number refl)
-
-region-is : (q r : ℕ) → Region q ≡ Region r → q ≡ r
-region-is q r e = ap (λ (l : Label). elim l [ Region q ↦ q | Temp k ↦ q | Frozen ↦ q ]) e
 
 temp-is : (q r : ℕ) → Temp q ≡ Temp r → q ≡ r
 temp-is q r e = ap (λ (l : Label). elim l [ Region k ↦ q | Temp q ↦ q | Frozen ↦ q ]) e
@@ -100,9 +98,9 @@ module _ (code : Code) (at : ℕ) (also go : Go) (u w : Work) (taken : Truth) wh
       made-same code also go c stack u w (Region (top_region u.machine.windows)) (Region (top_region w.machine.windows))
       (ap (λ ws. Region (top_region ws)) now.1.machine.windows) now (record {
         plain = λ k v e. opened-plain (unwrap_or (slice_get code.openings c) []) k v n e;
-        regions = λ r e. (let same = region-is (top_region w.machine.windows) r e in
+        regions = λ r e. (let same = same-region (top_region w.machine.windows) r e in
             now.1.machine.tidy.regions r (ap (is_open w.machine.windows) (sym same) ∙ top));
-        managers = λ r e. (let same = region-is (top_region w.machine.windows) r e in
+        managers = λ r e. (let same = same-region (top_region w.machine.windows) r e in
             now.1.machine.open_managers r (ap (is_open w.machine.windows) (sym same) ∙ top));
         temps = λ k e. region-temp (top_region w.machine.windows) k e;
       }) next
@@ -136,9 +134,9 @@ module _ (code : Code) (at : ℕ) (also go : Go) (u w : Work) (taken : Truth) wh
         },
       ) (record {
         plain = λ k v e. opened-plain (unwrap_or (slice_get code.openings c) []) k v n e;
-        regions = λ r e. (let same = region-is (length w.machine.managers) r e in let b = length_push w.machine.managers g in
+        regions = λ r e. (let same = same-region (length w.machine.managers) r e in let b = length_push w.machine.managers g in
             omega (arith, same, b));
-        managers = λ r e. (let same = region-is (length w.machine.managers) r e in
+        managers = λ r e. (let same = same-region (length w.machine.managers) r e in
             ap (slice_get (u.machine.managers ++ g ∷ [])) (sym same ∙ sym now.1.machine.managers_made) ∙ slice_get-push u.machine.managers g
             ∙ sym (ap (slice_get (w.machine.managers ++ g ∷ [])) (sym same) ∙ slice_get-push w.machine.managers g));
         temps = λ k e. region-temp (length w.machine.managers) k e;

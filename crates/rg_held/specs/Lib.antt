@@ -1,3 +1,4 @@
+-- The stack machine that frees, how it stands beside the other one, and laws on both (docs/architecture.md, "The machine that frees").
 pub mod Frees
 pub mod Part
 pub mod Ends

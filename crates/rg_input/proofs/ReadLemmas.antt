@@ -12,6 +12,7 @@ use Rattle.rg_input.proofs.NextLemmas.{both-first, both-second, next-past, start
 use Rattle.rg_input.proofs.NextLemmas.{token_number-long}
 use Rattle.std.proofs.lemmas.Bool.{false≢true, cases_lt, not-true, or_cases}
 use Rattle.std.proofs.lemmas.List.Folds.{list_any-append}
+use Rattle.std.proofs.Math.Bool.{or-true}
 
 -- the parts of what was read, from the left
 grouped : (blanks token behind more : List ℕ) → (blanks ++ token ++ behind) ++ more ≡ blanks ++ (token ++ (behind ++ more))
@@ -135,10 +136,6 @@ enough-empty blanks (t ∷ ts) behind read few none = absurd (omega arith)
 enough-empty blanks [] (Some b) read few none = absurd (omega (arith, (read.behind_a_token b refl).1))
 enough-empty blanks [] None read few none =
     let test : nat_lt INPUT_BLANKS (length blanks) ≡ false = grind (arith, nat_tests) in rw test refl
-
-or-true : (a : Bool) → (a || true) ≡ true
-or-true true = refl
-or-true false = refl
 
 -- more than so many bytes are still more where others stand behind them
 longer : (bytes more : List ℕ) → nat_lt INPUT_TOKEN (length bytes) ≡ true → nat_lt INPUT_TOKEN (length (bytes ++ more)) ≡ true

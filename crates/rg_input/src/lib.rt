@@ -1,4 +1,8 @@
-//! The numbers of an input (docs/language.md, "Input numbers").
+//! The numbers of an input, whatever the pieces of its source (docs/language.md, "Input numbers").
+//! `Numbers::next` gives the next number exactly where the definition has one on the bytes left,
+//! and `End` or `Input` exactly as it (clause `answers`), then for good (`stays`); `InputFault`
+//! comes only where the source's count of faults rose (`fault`). `more` is false exactly where the
+//! definition is at the end, and takes nothing (`looks`).
 #![tactic(auto)]
 
 mod ahead;

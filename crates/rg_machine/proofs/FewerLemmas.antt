@@ -4,7 +4,7 @@ use Rattle.std.proofs.Common.{◌++◌, map, length, take, replicate, Option, So
 use Rattle.std.proofs.Common.{slice_index_or, unwrap_or}
 use Rattle.std.proofs.Common.{if◌then◌else◌, nat_le, refl, sym, ap, ◌∙◌, arith}
 use Rattle.std.specs.List.{sum_by, count_by}
-use Rattle.std.proofs.lemmas.Bool.{false≢true}
+use Rattle.std.proofs.lemmas.Bool.{false≢true, eq-eqb}
 use Rattle.std.proofs.lemmas.List.FromFn.{length-map-range_with_len}
 use Rattle.std.proofs.lemmas.List.Sums.{sum_by-cons, sum_by-append, sum_by-take-le}
 use Rattle.std.proofs.lemmas.Option.{none-some, same_Some, slice_get-map}
@@ -117,9 +117,6 @@ fewer-once m n f once =
     each r e =
         ap (λ ws. is_open ws r || nat_le (places_into n r) 1) f.windows ∙ test r (is_open m.windows r) e
 
-zero-is : (n : ℕ) → n ≡ 0 → (n == 0) ≡ true
-zero-is n e = grind (arith, e)
-
 -- no place leads into the closed region of a value
 pub loose-none : (m : Machine) (v : Val) → ((r : ℕ) → closed_into m v ≡ Some r → places_into m r ≡ 0) → loose m v ≡ true
 loose-none m v h = by (closed_into m v) refl
@@ -127,7 +124,7 @@ loose-none m v h = by (closed_into m v) refl
     by : (o : Option ℕ) → closed_into m v ≡ o → loose m v ≡ true
     by None e = ap (λ (x : Option ℕ). elim x [ None ↦ true | Some n ↦ places_into m n == 0 ]) e
     by (Some r) e =
-        ap (λ (x : Option ℕ). elim x [ None ↦ true | Some n ↦ places_into m n == 0 ]) e ∙ zero-is (places_into m r) (h r e)
+        ap (λ (x : Option ℕ). elim x [ None ↦ true | Some n ↦ places_into m n == 0 ]) e ∙ eq-eqb (places_into m r) 0 (h r e)
 
 pub fewer-loose : (m n : Machine) (v : Val) → Fewer m n → loose m v ≡ true → loose n v ≡ true
 fewer-loose m n v f free = loose-none n v (λ r e.

@@ -1,3 +1,4 @@
+-- The lemmas that the answers of rg_machine use; those with pub are open to crates above.
 mod NumberLemmas
 pub mod WordLemmas
 mod TopLemmas

@@ -1,5 +1,9 @@
-//! The machine that runs instructions over a heap (docs/architecture.md, "The machine"): what it
-//! holds, and what each instruction does.
+//! The machine that runs instructions over a heap (docs/architecture.md, "The machine"). `Machine`
+//! has cells and regions, frames, the words on the stack and an address. `act` makes an instruction
+//! that is given what it needs (`Given`): it does what the machine that frees does (`free_act`, in
+//! the clause `effect`), or finds no memory. `begin` gives the opening machine, `collect` collects
+//! the active region (`Gathers`), and `is_owned` says that each closed region has one owner, where
+//! a state that fits a program is shown (`IsOwned`).
 #![tactic(auto)]
 
 mod creating;

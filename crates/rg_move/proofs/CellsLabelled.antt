@@ -8,7 +8,8 @@ use Rattle.std.proofs.lemmas.Bool.{cases_eq, cases_lt}
 use Rattle.rg_base.specs.declared.object.Label.{Label}
 use Rattle.rg_base.proofs.Callers.Options.{some-there}
 use Rattle.rg_cells.specs.declared.cell.Body.{Body}
-use Rattle.rg_cells.specs.Table.{Heap, Table, IsHeld, body_at, body_in, mark_at, with_label, with_body, high_of}
+use Rattle.rg_cells.specs.Table.{Heap, Table, IsHeld, body_at, body_in, mark_at, with_label, high_of}
+use Rattle.rg_cells.proofs.Shown.{label-of}
 use Rattle.rg_regions.specs.Same.{IsSameCell, AllDiffer}
 use Rattle.rg_regions.proofs.Callers.Freed.{held_once}
 use Rattle.rg_move.specs.Frozen.{labelled, IsLabelled}
@@ -29,19 +30,12 @@ count-kept (x ∷ xs) (suc s) o y e =
     ∙ ap (λ n. cond (is_some x) 1 0 + n) (count-kept xs s o y e)
     ∙ sym (sum_by-cons (λ z. cond (is_some z) 1 0) x xs)
 
-with_label_is : (h : Heap) (s : ℕ) (l : Label) (b : Body) → body_at h s ≡ Some b
-    → with_label h s l ≡ with_body h s (record b { label = l })
-with_label_is h s l b e = ap (λ (o : Option Body). elim o [
-  | None ↦ h
-  | Some b ↦ with_body h s (record b { label = l })
-]) e
-
 -- one cell gets another label
 pub label_here : (h : Heap) (s : ℕ) (l : Label) → IsHeld h s → body_at (with_label h s l) s ≡ labelled l (body_at h s)
 label_here h s l held =
     let b = some-there (body_at h s) held in
     let o = held_once h s held in
-    ap (λ z. body_at z s) (with_label_is h s l b.0 b.1)
+    ap (λ z. body_at z s) (label-of h s l b.0 b.1)
     ∙ ap body_in (set_there h.slots s o.0 (Some (Some (record b.0 { label = l }))) o.1)
     ∙ ap (labelled l) (sym b.1)
 
@@ -49,7 +43,7 @@ pub label_apart : (h : Heap) (s : ℕ) (l : Label) (x : ℕ) → IsHeld h s → 
     → body_at (with_label h s l) x ≡ body_at h x
 label_apart h s l x held d =
     let b = some-there (body_at h s) held in
-    ap (λ z. body_at z x) (with_label_is h s l b.0 b.1)
+    ap (λ z. body_at z x) (label-of h s l b.0 b.1)
     ∙ ap body_in (get_or-set_other h.slots s x (Some (Some (record b.0 { label = l }))) None d)
 
 pub label_kept : (h : Heap) (s : ℕ) (l : Label) → IsHeld h s
@@ -57,7 +51,7 @@ pub label_kept : (h : Heap) (s : ℕ) (l : Label) → IsHeld h s
 label_kept h s l held =
     let b = some-there (body_at h s) held in
     let o = held_once h s held in
-    let e = with_label_is h s l b.0 b.1 in
+    let e = label-of h s l b.0 b.1 in
     (ap (λ (z : Heap). z.next) e, ap high_of e ∙ count-kept h.slots s o.0 (Some (record b.0 { label = l })) o.1)
 
 pub labelled_none : (l : Label) (t : Table) (members : List ℕ) → LabelledFirst l t members 0 t

@@ -3,6 +3,7 @@ use Rattle.std.proofs.Common.{◌≡◌, ◌≢◌, ℕ, ◌+◌, ◌<◌, zero,
 use Rattle.std.proofs.Common.{Option, Some, None}
 use Rattle.std.proofs.Common.{refl, ap, sym, ◌∙◌, subst, arith, ◌⊎◌, inl, inr, option_map, option_and_then, slice_get}
 use Rattle.std.proofs.lemmas.Bool.{cases_eq}
+use Rattle.std.proofs.lemmas.Option.{same_Some}
 use Rattle.rg_base.specs.declared.object.Label.TheVariants.{Region, Frozen}
 use Rattle.rg_base.specs.declared.words.Manager.{Manager}
 use Rattle.rg_base.specs.declared.words.Manager.TheVariants.{Arena, Count, Trace}
@@ -12,7 +13,7 @@ use Rattle.rg_cells.specs.Table.{Heap, Table, body_at, field_at, label_at, mark_
 use Rattle.rg_regions.specs.Table.{Record, RegionTable, record_at, HasNumber, IsBridge}
 use Rattle.rg_regions.specs.Reach.{LiesIn, belongs}
 use Rattle.rg_regions.specs.Grove.{Grove, Members, Parent, Above, direct, further, referrers}
-use Rattle.rg_regions.proofs.Callers.Told.{one_region, one_number, one_record, lies_or_not, number_of, record_there}
+use Rattle.rg_regions.proofs.Callers.Told.{one_region, one_number, lies_or_not, number_of, record_there}
 use Rattle.rg_regions.proofs.Callers.Told.{labelled_held}
 use Rattle.rg_regions.proofs.Callers.Fewer.{total_alike, belongs_not, above_both}
 use Rattle.rg_regions.proofs.Callers.RegionComes.{none_leads}
@@ -267,7 +268,7 @@ module _ (c : Table) (t : RegionTable) (from into : ℕ) (a b : Record) (g : Gro
       record_was k z e = elim (cases_eq k from) [
         | inl q ↦ let v : None ≡ Some z = sym (ap (record_at regions) q ∙ r.gone) ∙ e in cc
         | inr d ↦ elim (cases_eq k into) [
-          | inl q ↦ inl (q, one_record z grown (sym e ∙ ap (record_at regions) q ∙ grown_at))
+          | inl q ↦ inl (q, same_Some z grown (sym e ∙ ap (record_at regions) q ∙ grown_at))
           | inr f ↦
               let y = sym (r.others k d f).0 ∙ e in
               let h = number_of t k z.number z y refl in
@@ -307,7 +308,7 @@ module _ (c : Table) (t : RegionTable) (from into : ℕ) (a b : Record) (g : Gro
           let off : v.0 ≢ from = not_from v.0 q d (number_of t v.0 q v.1 v.2 v.3) in
           elim (cases_eq v.0 into) [
             | inl e ↦
-                let same : b ≡ v.1 = one_record b v.1 (sym to ∙ sym (ap (record_at t) e) ∙ v.2) in (
+                let same : b ≡ v.1 = same_Some b v.1 (sym to ∙ sym (ap (record_at t) e) ∙ v.2) in (
                   into,
                   grown,
                   grown_at,
@@ -438,7 +439,7 @@ module _ (c : Table) (t : RegionTable) (from into : ℕ) (a b : Record) (g : Gro
               let h = number_of t k z.number z e refl in
               elim (cases_eq k into) [
                 | inl q ↦
-                    let same : z ≡ b = one_record z b (sym e ∙ ap (record_at t) q ∙ to) in
+                    let same : z ≡ b = same_Some z b (sym e ∙ ap (record_at t) q ∙ to) in
                     n into grown grown_at (sym (ap (λ (y : Record). y.manager) same) ∙ m)
                     (on_other b.number s (λ x. apart (sym x)) (subst P (ap (λ (y : Record). y.number) same) l))
                 | inr q ↦ n k z ((r.others k (not_from k z.number d h) q).0 ∙ e) m (on_other z.number s d l)

@@ -1,3 +1,4 @@
+-- The lemmas that the answers of rg_move use; none is for crates above.
 mod CellsLabelled
 mod MembersLabelled
 mod PartFrozen

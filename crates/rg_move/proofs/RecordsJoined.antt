@@ -2,8 +2,8 @@
 use Rattle.std.proofs.Common.{◌≡◌, ◌≢◌, ℕ, ◌-◌, ◌≤◌, List, ◌++◌, length, Option, Some, None, get_or, ap, sym, ◌∙◌}
 use Rattle.std.proofs.Common.{subst, arith}
 use Rattle.std.proofs.lemmas.List.{get_or-set_other, take_all}
+use Rattle.std.proofs.lemmas.Option.{same_Some}
 use Rattle.rg_regions.specs.Table.{Record, RegionTable, record_at, link_at, with_room, Roomier, removed}
-use Rattle.rg_regions.proofs.Callers.Told.{one_record}
 use Rattle.rg_regions.proofs.Callers.Changed.{changed_at, changed_other, changed_links}
 use Rattle.rg_regions.proofs.Callers.Removed.{none_there}
 use Rattle.rg_move.specs.Merged.{RecordsMerge}
@@ -47,8 +47,8 @@ module _ (t roomy : RegionTable) (from into more : ℕ) (a b : Record) (d : from
     records_merge = record {
       gone = ap (λ z. record_at z from) is ∙ none_there full.records from;
       members = λ x y e f.
-          let one : a ≡ x = one_record a x (sym at ∙ e) in
-          let two : b ≡ y = one_record b y (sym to ∙ f) in
+          let one : a ≡ x = same_Some a x (sym at ∙ e) in
+          let two : b ≡ y = same_Some b y (sym to ∙ f) in
           let P : Record → Record → Type 0 = λ u v.
           (room : ℕ) × (record_at new into ≡ Some (record v { members = v.members ++ u.members; room = room })) in
           let Q : Record → Type 0 = λ u. P u y in

@@ -1,3 +1,4 @@
+-- The lemmas that the answers of rg_names use; those with pub are open to crates above.
 mod Naming
 pub mod Fails
 mod Outcomes

@@ -1,4 +1,4 @@
--- A program beside its class table.
+-- A program beside its class table (docs/language.md, "Headers").
 use Rattle.rg_tree.specs.Rows.Tables.{Tables}
 use Rattle.rg_names.specs.Table.{Table}
 

@@ -1,4 +1,4 @@
--- An outcome against what the rules answer. An outcome for want of memory says nothing of them.
+-- An outcome against what the rules answer (docs/language.md, "Headers"). An outcome for want of memory says nothing of them.
 use Rattle.std.specs.Prelude.{◌≡◌, ⊤, Result, Ok, Err}
 use Rattle.rg_base.specs.declared.fault.Stop.{Stop}
 use Rattle.rg_base.specs.declared.fault.Stop.TheVariants.{Fault, Memory}

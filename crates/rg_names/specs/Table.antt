@@ -1,4 +1,4 @@
--- What contracts see of a class table: lists in source order, with names by their numbers.
+-- What contracts see of a class table: lists in source order, with names by their numbers (docs/language.md, "Headers").
 use Rattle.std.specs.Prelude.{ℕ, ◌<◌, Bool as Truth, List, length, map, position, nat_eq, slice_get, Option, None, Some, option_and_then, ok_or, Ok}
 use Rattle.std.specs.List.{position_or_len}
 use Rattle.std.specs.Map.{lookup, keys_of}

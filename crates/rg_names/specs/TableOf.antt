@@ -1,4 +1,4 @@
--- The table of a program.
+-- The table of a program (docs/language.md, "Headers").
 use Rattle.std.specs.Prelude.{◌≡◌, ℕ, suc, Bool, List, [], ◌∷◌, map, filter_map, option_map, slice_get, Ok}
 use Rattle.rg_base.specs.declared.ty.Ty.{Ty}
 use Rattle.rg_tree.specs.declared.rows.ClassRow.{ClassRow}

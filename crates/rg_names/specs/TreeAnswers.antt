@@ -1,4 +1,4 @@
--- What the answers of a class table say of the tree of its program. A name's number stands for its bytes.
+-- What the answers of a class table say of the tree of its program (docs/language.md, "Headers"). A name's number stands for its bytes.
 use Rattle.std.specs.Prelude.{◌≡◌, ℕ, zero, suc, ◌+◌, ◌<◌, ⊤, Bool as Truth, if◌then◌else◌, bytes_eq, List, [], ◌∷◌, length, map, filter_map}
 use Rattle.std.specs.Prelude.{option_map, All, IfSome, Option, Some, None, Ok}
 use Rattle.rg_base.specs.declared.ty.Ty.{Ty}

@@ -1,4 +1,5 @@
-//! All headers in source order: first the names of the classes, then their members.
+//! All headers in source order: first the names of the classes, then their members
+//! (docs/language.md, "Headers").
 
 ghost use Rattle.std.specs.Prelude.{◌≡◌, [], IfOk};
 ghost use Rattle.rg_tree.specs.Rows.RowTrees.{program_of};

@@ -1,4 +1,5 @@
-//! Values by the number of a name, in the order in which they were put.
+//! Values by the number of a name, in the order in which they were put (docs/language.md,
+//! "Headers").
 
 ghost use Rattle.std.specs.Prelude.{◌≡◌, ◌-◌, ◌^◌, ◌<◌, [], ◌∷◌, ◌++◌, not, length, position};
 ghost use Rattle.std.specs.Prelude.{nat_eq, option_map, slice_get, is_some, Some, None, IfSome};

@@ -1,4 +1,4 @@
-//! The classes of a program, whose headers have no fault.
+//! The classes of a program, whose headers have no fault (docs/language.md, "Headers").
 
 ghost use Rattle.std.specs.Prelude.{◌≡◌, ◌<◌, length, option_map, slice_get, Some, IfOk, IfSome};
 ghost use Rattle.rg_tree.specs.Rows.Tables.{Tables, name_at};

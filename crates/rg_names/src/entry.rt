@@ -1,4 +1,4 @@
-//! What a class table says of a member.
+//! What a class table says of a member (docs/language.md, "Headers").
 
 use rg_base::{Cap, Ty};
 use rg_tree::Span;

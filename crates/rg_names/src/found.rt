@@ -1,4 +1,4 @@
-//! The members of one class, in the order in which they were judged.
+//! The members of one class, in the order in which they were judged (docs/language.md, "Headers").
 
 ghost use Rattle.std.specs.Prelude.{◌≡◌, ◌≤◌, [], ◌∷◌, ◌++◌, length, OnOk, IfOk};
 ghost use Rattle.rg_tree.specs.Rows.RowTrees.{member_of, class_of, program_of};

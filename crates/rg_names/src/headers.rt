@@ -1,4 +1,5 @@
-//! The types that stand with members, judged: each fault gets the line of its member.
+//! The types that stand with members, judged: each fault gets the line of its member
+//! (docs/language.md, "Headers").
 
 ghost use Rattle.std.specs.Prelude.{◌≡◌, ◌<◌, [], All, map, length, option_map, IfErr, IfOk};
 ghost use Rattle.std.specs.Prelude.{IfSome};

@@ -1,4 +1,5 @@
-//! Which capabilities go with a class, which is a tmp class or an ordinary one.
+//! Which capabilities go with a class, which is a tmp class or an ordinary one (docs/language.md,
+//! "Headers").
 
 ghost use Rattle.std.specs.Prelude.{◌≡◌};
 ghost use Rattle.rg_rules.specs.Types.{suits_class};

@@ -1,3 +1,4 @@
+-- The lemmas that the answers of rg_parse use; none is for crates above.
 mod ClassRows
 mod Exits
 mod ExprRows

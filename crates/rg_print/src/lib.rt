@@ -1,4 +1,8 @@
-//! The canonical text of a program (docs/language.md, "Canonical text").
+//! The canonical text of a program (docs/language.md, "Canonical text"). `text` gives exactly the
+//! bytes that `canon` of `rg_tree/specs/Canonical` says of the program's tree, or no memory was
+//! found. The law `canon_parses_back`: the canonical text of a tree that some source spells is cut
+//! and parsed into that tree, up to lines, and is its own canonical text. All else in the crate is
+//! private.
 #![tactic(auto)]
 
 mod calls;

@@ -1,3 +1,4 @@
+-- The table of regions, and what collectors keep, as definitions; Inner may not be cited from above (docs/architecture.md, "Regions").
 pub mod Table
 pub mod Reach
 pub mod Spent

@@ -5,7 +5,8 @@ use Rattle.std.proofs.lemmas.List.{get_or-set_other}
 use Rattle.std.proofs.lemmas.Bool.{cases_eq, cases_lt}
 use Rattle.rg_cells.specs.declared.cell.Body.{Body}
 use Rattle.rg_cells.specs.Table.{Table, IsHeld, body_at, body_in, mark_at, freed_from}
-use Rattle.rg_regions.proofs.Callers.Freed.{none_here, zero_here, count-freed, held_once}
+use Rattle.rg_cells.proofs.SerialsKept.{none_at}
+use Rattle.rg_regions.proofs.Callers.Freed.{zero_here, count-freed, held_once}
 use Rattle.rg_regions.specs.Same.{IsSameCell, AllDiffer}
 use Rattle.rg_release.specs.Inner.Turns.{FreedFirst}
 
@@ -29,7 +30,7 @@ pub freed_more : (old t : Table) (members : List ℕ) (i : ℕ) → IsHeld t.hea
 freed_more old t members i held f =
     let s = get_or members i 0 in
     let h = t.heap in
-    let here : body_at (freed_from t s).heap s ≡ None = none_here h.slots s in
+    let here : body_at (freed_from t s).heap s ≡ None = none_at h.slots s in
     let white : mark_at (freed_from t s) s ≡ 0 = zero_here t.marks s in
     let apart : (x : ℕ) → x ≢ s → IsSameCell t (freed_from t s) x =
     λ x d. (

@@ -10,7 +10,7 @@ use Rattle.rg_cells.specs.Table.{Table, field_at, body_at, label_at}
 use Rattle.rg_regions.specs.Table.{Record, RegionTable, record_at, HasNumber}
 use Rattle.rg_regions.specs.Reach.{LiesIn}
 use Rattle.rg_regions.specs.Grove.{Grove}
-use Rattle.rg_regions.proofs.Callers.Told.{one_record, one_region, lies_or_not, number_of}
+use Rattle.rg_regions.proofs.Callers.Told.{one_region, lies_or_not, number_of}
 use Rattle.rg_regions.proofs.Callers.Fewer.{label_before, field_before, above_before, referrers_kept}
 use Rattle.rg_release.specs.Inner.Turns.{Emptied}
 
@@ -113,7 +113,7 @@ module _ (c : Table) (t : RegionTable) (key : ℕ) (rec : Record) (cells : Table
           unmarked = λ s n. elim (lies_or_not c.heap r s) [
             | inl out ↦ (w.others s out).1 ∙ g.unmarked s (λ k z a m l. elim (cases_eq k key) [
               | inl p ↦
-                  let same : rec ≡ z = one_record rec z (sym e ∙ sym (ap (record_at t) p) ∙ a) in
+                  let same : rec ≡ z = same_Some rec z (sym e ∙ sym (ap (record_at t) p) ∙ a) in
                   let L : Record → Type 0 = λ y. LiesIn c.heap y.number s in
                   out (subst L (sym same) l)
               | inr d ↦ n k z (w.stay k d ∙ a) m (lies_on z.number s (apart k z d a) l)

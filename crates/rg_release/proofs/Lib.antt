@@ -1,3 +1,4 @@
+-- The lemmas that the answers of rg_release use; none is for crates above.
 mod CellsFreed
 mod GroveKept
 mod BelowLeft

@@ -1,3 +1,4 @@
+-- Lemmas on the rules and on the machine that never frees; those with pub are for crates above.
 pub mod AnswersLemmas
 pub mod PathLemmas
 pub mod ExpressionLemmas

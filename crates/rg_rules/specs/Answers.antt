@@ -1,4 +1,4 @@
--- Tests in order: the first that fails is the answer of the whole. `do` blocks are read by these words.
+-- Tests in order: the first that fails is the answer of the whole (docs/language.md, "Judgements"). `do` blocks are read by these words.
 use Rattle.std.specs.Prelude.{ℕ, Bool, true, false, Result, Ok, Err}
 use Rattle.rg_base.specs.declared.fault.Code.{Code}
 use Rattle.rg_base.specs.declared.fault.Fault.{Fault}

@@ -1,3 +1,4 @@
+-- What is accepted, and the machine that never frees, as definitions (docs/language.md).
 pub mod Answers
 pub mod Capabilities
 pub mod Types

@@ -1,6 +1,8 @@
 -- What a machine holds of a state that fits is held there, and no reference that it holds is stale.
 use Rattle.std.proofs.Common.{◌≡◌, ℕ, zero, suc, ◌+◌, ◌<◌, ◌≤◌, ◌⊎◌, inl, inr, Bool as Truth, true, false, List, [], ◌∷◌, ◌++◌, map, length}
 use Rattle.std.proofs.Common.{Option, Some, None, option_map, option_and_then, slice_get, refl, sym, ap, subst, ◌∙◌, arith, true≢false}
+use Rattle.std.proofs.lemmas.Option.{same_Some}
+use Rattle.std.proofs.lemmas.Bool.{cases_eq}
 use Rattle.rg_base.specs.declared.object.Label.{Label}
 use Rattle.rg_base.specs.declared.object.Label.TheVariants.{Region, Temp, Frozen}
 use Rattle.rg_base.specs.declared.object.Place.{Place}
@@ -8,6 +10,7 @@ use Rattle.rg_base.specs.declared.object.Place.TheVariants.{Var, Field}
 use Rattle.rg_base.specs.declared.object.Seen.{Seen}
 use Rattle.rg_base.specs.declared.value.Val.{Val}
 use Rattle.rg_base.specs.declared.value.Val.TheVariants.{Obj}
+use Rattle.rg_base.proofs.Callers.Lists.{there as get-below}
 use Rattle.rg_tree.specs.Tree.{Class, Tree}
 use Rattle.rg_rules.specs.State.{Local, State, Frame as Body, Window as Opened, frame_at}
 use Rattle.rg_rules.specs.Regions.{region_of}
@@ -18,7 +21,7 @@ use Rattle.rg_sound.specs.OpenRegions.{IsNear, AllOwned}
 use Rattle.rg_sound.specs.Numbers.{LabelGiven}
 use Rattle.rg_sound.specs.Fit.{Fit}
 use Rattle.rg_sound.specs.Held.{IsLive, HoldsLabel, IsHeld, LiveFit}
-use Rattle.rg_sound.proofs.Basics.{none-some, some-same, same_number}
+use Rattle.rg_sound.proofs.Basics.{none-some}
 use Rattle.rg_sound.proofs.HeldLemmas.{fit-holds}
 use Rattle.rg_sound.proofs.Owners.DataLemmas.{Data, fit-data}
 use Rattle.rg_sound.proofs.Owners.OpenLemmas.{IsOpenIn, above-trans}
@@ -37,11 +40,6 @@ use Rattle.rg_machine.specs.Parts.{machine_in}
 use Rattle.rg_run.specs.Machine.{Kept}
 use Rattle.rg_run.specs.Sound.{HoldsOf}
 
-get-below : {A : Type 0} (xs : List A) (i : ℕ) → i < length xs → (x : A) × (slice_get xs i ≡ Some x)
-get-below [] i h = absurd (omega (arith, h))
-get-below (x ∷ xs) zero h = (x, refl)
-get-below (x ∷ xs) (suc i) h = let less : i < length xs = omega (arith, h) in get-below xs i less
-
 -- Variables
 
 front-shows : (locals : List Local) (rest : List Val) (i : ℕ) (l : Local) → slice_get locals i ≡ Some l →
@@ -57,9 +55,9 @@ locals-lead : (test : ℕ → Truth) (fs : List Frame) (bs : List Body) → Show
 locals-lead test [] [] h lead n i b l at there = none-some at
 locals-lead test [] (c ∷ bs) h lead n i b l at there = absurd h
 locals-lead test (f ∷ fs) [] h lead n i b l at there = absurd h
-locals-lead test (f ∷ fs) (c ∷ bs) h lead n i b l at there = elim (same_number n (length bs)) [
+locals-lead test (f ∷ fs) (c ∷ bs) h lead n i b l at there = elim (cases_eq n (length bs)) [
   | inl here ↦
-      let same : c ≡ b = some-same c b (sym (frame_at-top c bs) ∙ ap (frame_at (c ∷ bs)) (sym here) ∙ at) in
+      let same : c ≡ b = same_Some c b (sym (frame_at-top c bs) ∙ ap (frame_at (c ∷ bs)) (sym here) ∙ at) in
       let shows : ShowsFrame f b = (let P : Body → Type 0 = λ q. ShowsFrame f q in subst P same h.0) in
       lead 0 f i l.value refl (ap (λ q. slice_get q i) shows ∙ front-shows b.locals _ i l there)
   | inr other ↦ locals-lead test fs bs h.1 (λ k. lead (suc k)) n i b l (sym (frame_at-lower c bs n other) ∙ at) there
@@ -74,7 +72,7 @@ slot-owns classes store ps r away (f ∷ fs) [] shows values n s h v there at d 
 slot-owns classes store ps r away (f ∷ fs) (b ∷ bs) shows values zero s h v there at d = (
   length bs,
   s,
-  frame-leads classes store ps f b bs s v r shows.0 values.0 away (ap (λ (q : Frame). slice_get q.slots s) (some-same f h there) ∙ at) d,
+  frame-leads classes store ps f b bs s v r shows.0 values.0 away (ap (λ (q : Frame). slice_get q.slots s) (same_Some f h there) ∙ at) d,
 )
 slot-owns classes store ps r away (f ∷ fs) (b ∷ bs) shows values (suc n) s h v there at d =
     let y = slot-owns classes store ps r away fs bs shows.1 values.1 n s h v there at d in
@@ -234,7 +232,7 @@ module _ (t : Tree) (code : Code) (f m : Machine) (s : State) (held : ℕ → Tr
 
   gone-there : (q : Option Seen) (o : Seen) → option_map (λ (o : Seen). gone) q ≡ Some o → o ≡ gone
   gone-there None o e = none-some e
-  gone-there (Some x) o e = sym (some-same gone o e)
+  gone-there (Some x) o e = sym (same_Some gone o e)
 
   pub holds-by : (k : Kept) → (machine_in k.stepper.parts) ≡ f → HoldsOf t.classes k s
   holds-by k is =

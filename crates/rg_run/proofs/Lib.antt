@@ -1,3 +1,4 @@
+-- The lemmas that the answers of rg_run use; those with pub are open to crates above.
 mod HoldsLemmas
 mod ShownLemmas
 pub mod SoundLemmas

@@ -4,6 +4,7 @@ use Rattle.std.proofs.Common.{Option, Some, None, slice_get, refl, sym, ap, subs
 use Rattle.std.proofs.Math.Seq.{take-append_seam}
 use Rattle.std.proofs.lemmas.List.{take_all}
 use Rattle.std.proofs.lemmas.Grind.{flat_map-append}
+use Rattle.std.proofs.lemmas.Option.{same_Some}
 use Rattle.rg_base.specs.declared.event.Cause.{Cause}
 use Rattle.rg_base.specs.declared.event.Cause.TheVariants as cause
 use Rattle.rg_base.specs.declared.event.Event.{Event}
@@ -16,7 +17,7 @@ use Rattle.rg_base.specs.declared.words.Manager.TheVariants.{Arena, Count, Trace
 use Rattle.rg_base.specs.Report.{event_line}
 use Rattle.rg_io.specs.Content.{Appends}
 use Rattle.rg_io.proofs.ContentLemmas.{Appends-none, Appends-more}
-use Rattle.rg_sound.proofs.Basics.{none-some, some-same}
+use Rattle.rg_sound.proofs.Basics.{none-some}
 use Rattle.rg_machine.specs.Parts.{Parts}
 use Rattle.rg_step.specs.Steps.{Stepping}
 use Rattle.rg_step.specs.Collections.{Asks, IsCollected, IsLeft, CollectsOn, CollectsAsked, Paces, Serves, ServesBy, event_of}
@@ -155,7 +156,7 @@ only x (y ∷ ys) e same small = absurd (omega (arith, small))
 split : (events : List Event) (told : ℕ) (e : Event) → slice_get events told ≡ Some e → length events ≤ told + 1 →
     events ≡ take told events ++ e ∷ []
 split [] told e there small = none-some there
-split (x ∷ xs) zero e there small = only x xs e (some-same x e there) (omega (arith, small))
+split (x ∷ xs) zero e there small = only x xs e (same_Some x e there) (omega (arith, small))
 split (x ∷ xs) (suc i) e there small = ap (λ q. x ∷ q) (split xs i e there (omega (arith, small)))
 
 -- without a report

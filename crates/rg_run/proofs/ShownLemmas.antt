@@ -1,6 +1,7 @@
 -- What a machine answers for a serial, beside the state that it shows. For callers.
-use Rattle.std.proofs.Common.{◌≡◌, ℕ, suc, ◌-◌, ◌^◌, ◌≤◌, ◌⊎◌, inl, inr, Bool as Truth, true, false, List, [], ◌∷◌, map, Some, None, slice_get}
+use Rattle.std.proofs.Common.{◌≡◌, ℕ, ◌-◌, ◌^◌, ◌≤◌, ◌⊎◌, inl, inr, Bool as Truth, true, false, List, map, Some, None}
 use Rattle.std.proofs.Common.{refl, sym, ap, subst, ◌∙◌, arith}
+use Rattle.std.proofs.lemmas.Option.{same_Some}
 use Rattle.rg_base.specs.declared.object.Label.{Label}
 use Rattle.rg_base.specs.declared.object.Seen.{Seen}
 use Rattle.rg_tree.specs.Tree.{Class, Tree}
@@ -8,8 +9,8 @@ use Rattle.rg_rules.specs.Owners.{is_temp_of}
 use Rattle.rg_rules.specs.State.{State, Window as Opened}
 use Rattle.rg_sound.specs.Fit.{Fit}
 use Rattle.rg_sound.specs.Held.{HoldsLabel, IsHeld}
-use Rattle.rg_sound.proofs.Basics.{some-same}
-use Rattle.rg_sound.proofs.Stores.MemberLemmas.{In, among-in}
+use Rattle.rg_sound.proofs.Stores.MemberLemmas.{among-in}
+use Rattle.rg_sound.proofs.LocalRootsLemmas.{in-number}
 use Rattle.rg_held.specs.Frees.{gone}
 use Rattle.rg_run.specs.Machine.{Kept, IsShown}
 use Rattle.rg_run.specs.Sound.{HoldsOf}
@@ -20,21 +21,15 @@ pub shown-held : (classes : List Class) (m : Kept) (s : State) → HoldsOf class
 shown-held classes m s k serial o there = by (k.holds serial) refl
   where
     by : (b : Truth) → k.holds serial ≡ b → (o ≡ gone) ⊎ ((h : IsHeld classes s serial) × (h.object ≡ o))
-    by true e = let h = k.held serial e in inr (h, some-same h.object o (sym (k.same serial h.object e h.there) ∙ there))
+    by true e = let h = k.held serial e in inr (h, same_Some h.object o (sym (k.same serial h.object e h.there) ∙ there))
     by false e = inl (k.others serial o e there)
-
--- the window of a number
-numbered : (ws : List Opened) (n : ℕ) → In n (map (λ (w : Opened). w.number) ws) → (i : ℕ) × (w : Opened) × (slice_get ws i ≡ Some w) × (w.number ≡ n)
-numbered [] n h = absurd h
-numbered (w ∷ ws) n (inl e) = (0, w, refl, e)
-numbered (w ∷ ws) n (inr h) = let x = numbered ws n h in (suc x.0, x.1, x.2, x.3)
 
 -- no window has the number of what is gone
 held-there : (t : Tree) (s : State) → Fit t s → s.windows_made ≤ 2 ^ 64 - 1 → (serial : ℕ) → (h : IsHeld t.classes s serial) → h.object ≡ gone → ⊥
 held-there t s fit few serial h is =
     let P : Label → Type 0 = λ q. HoldsLabel t.classes s q in
     let open_now : is_temp_of s.windows gone.label ≡ true = subst P (ap (λ (o : Seen). o.label) is) h.held in
-    let x = numbered s.windows (2 ^ 64 - 1) (among-in (map (λ (w : Opened). w.number) s.windows) (2 ^ 64 - 1) open_now) in
+    let x = in-number s.windows (2 ^ 64 - 1) (among-in (map (λ (w : Opened). w.number) s.windows) (2 ^ 64 - 1) open_now) in
     let less = (fit.numbers.given x.0 x.1 x.2).number in
     let at = x.3 in
     omega (arith, less, at, few)

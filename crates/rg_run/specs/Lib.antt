@@ -1,3 +1,4 @@
+-- The definitions that the clauses of rg_run name, and Inner, which may not be cited above (docs/language.md, "Steps").
 pub mod Machine
 pub mod Sound
 pub mod Runs

@@ -1,3 +1,4 @@
+-- Lemmas that give what an instruction needs from the judgements and the invariant (docs/architecture.md, "The stack machine").
 pub mod FollowLemmas
 pub mod JudgeLemmas
 pub mod FitLemmas

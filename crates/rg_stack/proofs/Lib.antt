@@ -1,3 +1,4 @@
+-- The lemmas by which the laws of rg_stack are proved; those with pub are for crates above.
 pub mod Basics
 mod Mirrors
 pub mod Walks

@@ -1,3 +1,4 @@
+-- The lemmas that the answers of rg_step use; those with pub are open to crates above.
 mod TurnLemmas
 mod WalkLemmas
 mod ClearLemmas

@@ -3,6 +3,7 @@ use Rattle.std.proofs.Common.{◌≡◌, ℕ, zero, suc, ◌<◌, ◌==◌, Bool
 use Rattle.std.proofs.Common.{Some, None, is_some, find, flat_map, filter_map, All, refl, sym, ◌∙◌, ap, arith, append_assoc}
 use Rattle.std.proofs.lemmas.Bool.{eqb-true, eq-eqb, true≢false}
 use Rattle.std.proofs.lemmas.List.Elements.{All-nil, All-cons, All-head, All-tail, All-append}
+use Rattle.std.proofs.Math.Bool.{or-true}
 use Rattle.rg_base.specs.declared.object.Seen.{Seen}
 use Rattle.rg_base.specs.declared.object.Label.{Label}
 use Rattle.rg_base.specs.declared.object.Label.TheVariants.{Region, Temp, Frozen}
@@ -15,10 +16,6 @@ use Rattle.rg_store.specs.Regions.{is_marked, AreMarked, LabelFits, LabelsFit}
 pub or-false : (a : Bool) → a || false ≡ a
 or-false true = refl
 or-false false = refl
-
-pub or-true : (a : Bool) → a || true ≡ true
-or-true true = refl
-or-true false = refl
 
 pub or-assoc : (a b c : Bool) → (a || b) || c ≡ a || (b || c)
 or-assoc true b c = refl

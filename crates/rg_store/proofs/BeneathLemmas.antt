@@ -6,13 +6,14 @@ use Rattle.rg_base.specs.declared.fault.Memory.{Memory}
 use Rattle.std.proofs.lemmas.Bool.{eqb-true, eq-eqb, or_cases, true≢false}
 use Rattle.std.proofs.lemmas.List.{take_more, length-set, get_or-set_same, get_or-set_other}
 use Rattle.std.proofs.lemmas.Grind.{flat_map-append}
+use Rattle.std.proofs.Math.Bool.{or-true}
 use Rattle.rg_tree.proofs.TreesFrom.{Begins-same, Begins-trans, get_or-Begins}
 use Rattle.rg_rules.specs.Regions.{among}
 use Rattle.rg_store.specs.declared.marks.Found.{Found}
 use Rattle.rg_store.specs.Regions.{is_marked, AreMarked}
 use Rattle.rg_store.specs.Links.{listed, linked}
 use Rattle.rg_store.specs.Inner.Found.{FindsToo}
-use Rattle.rg_store.proofs.AmongLemmas.{or-false, or-true, or-assoc, among-one, among-append, AreMarked-below}
+use Rattle.rg_store.proofs.AmongLemmas.{or-false, or-assoc, among-one, among-append, AreMarked-below}
 use Rattle.rg_store.proofs.LinkedLemmas.{among-linked, linked-suc}
 
 -- nothing more was found

@@ -1,11 +1,12 @@
 -- The regions to which links lead, link by link: what counts of regions is which are among them.
 use Rattle.std.proofs.Common.{◌≡◌, ℕ, zero, suc, ◌==◌, Bool, true, false, ◌||◌, ◌⊎◌, inl, inr, List, [], ◌∷◌, ◌++◌, flat_map, refl, sym, ◌∙◌, ap}
 use Rattle.std.proofs.lemmas.Bool.{eqb-true, eq-eqb, or_cases}
+use Rattle.std.proofs.Math.Bool.{or-true}
 use Rattle.rg_base.specs.declared.object.Seen.{Seen}
 use Rattle.rg_tree.specs.Tree.{Class}
 use Rattle.rg_rules.specs.Regions.{among, in_regions, led_from, joined_with, beneath}
 use Rattle.rg_store.specs.Links.{linked}
-use Rattle.rg_store.proofs.AmongLemmas.{or-true, among-cons, among-append, among-joined, led-lists}
+use Rattle.rg_store.proofs.AmongLemmas.{among-cons, among-append, among-joined, led-lists}
 
 -- one link more, at the end
 pub linked-suc : (lists : ℕ → List ℕ) (links : ℕ) (rs : List ℕ) →

@@ -1,4 +1,4 @@
-//! A short walk through the states of two variables.
+//! A short walk through the states of two variables (docs/language.md, "Judgements").
 
 use rg_base::Code;
 use rg_flow::Flow;

@@ -1,4 +1,5 @@
-//! A generated program, with ample memory: what is read back of it.
+//! A generated program, with ample memory: what is read back of it (docs/language.md, "The
+//! generated program").
 
 use rg_make::program_of;
 use std::test::*;

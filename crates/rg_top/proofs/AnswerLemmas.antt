@@ -6,6 +6,7 @@ use Rattle.std.proofs.lemmas.List.{length-replicate}
 use Rattle.rg_base.specs.declared.limits.TheConstants.{SOURCE_BYTES}
 use Rattle.rg_io.specs.Content.{Rose}
 use Rattle.rg_io.specs.Files.{Told, HasLongFile}
+use Rattle.rg_io.proofs.ContentLemmas.{Rose-since}
 use Rattle.rg_run.specs.Machine.{Kept, IsFresh}
 use Rattle.rg_top.specs.declared.status.Status.{Status}
 use Rattle.rg_top.specs.declared.status.Status.TheVariants as status
@@ -17,7 +18,7 @@ use Rattle.rg_top.specs.Inner.Settled.{Settles, Unread, source_fault, memory, Se
 use Rattle.rg_top.proofs.MeaningLemmas.{expects-one, refusal-any}
 use Rattle.rg_top.proofs.SettledLemmas.{answers-of, cut-of, status-of}
 use Rattle.rg_top.proofs.BulkLemmas.{no-fault}
-use Rattle.rg_top.proofs.NotesLemmas.{rose-then, rose-later}
+use Rattle.rg_top.proofs.NotesLemmas.{rose-then}
 
 -- there are lists of any length
 long-list : (n : ℕ) → (source : List ℕ) × (n < length source)
@@ -195,7 +196,7 @@ given-is given answer (inr (inr t)) n m = absurd (m t)
 pub answer-output : (given : Status) (o p a b c : ℕ) → (given ≡ status.OutputFault → Rose o p ⊎ Rose a b) → a ≤ b → b ≤ c →
     (given ≡ status.OutputFault) ⊎ Rose b c → Rose o p ⊎ Rose a c
 answer-output given o p a b c h l k (inl e) = elim (h e) [ inl r ↦ inl r | inr r ↦ inr (rose-then a b c r k) ]
-answer-output given o p a b c h l k (inr r) = inr (rose-later a b c l r)
+answer-output given o p a b c h l k (inr r) = inr (Rose-since a b c l r)
 
 -- the pacers are tuned to the number of the command that the words give
 pub answer-tuned : (words : List (List ℕ)) (c : Command) (m : Kept) (count trace : ℕ) → command words ≡ Some c → Tunes c m count trace →

@@ -1,5 +1,5 @@
 -- A generated program, its run, and the line behind it, as what was answered to `bulk`.
-use Rattle.std.proofs.Common.{◌≡◌, ◌≢◌, ℕ, All, inl, inr, List, [], ◌∷◌, ◌++◌, ◌⊎◌, Option, Some, None, refl, sym, ◌∙◌, ap, subst, arith}
+use Rattle.std.proofs.Common.{◌≡◌, ◌≢◌, ℕ, All, inl, inr, List, [], ◌∷◌, ◌++◌, ◌⊎◌, Option, Some, refl, sym, ◌∙◌, ap, subst, arith}
 use Rattle.std.proofs.Common.{append-nil, append_assoc}
 use Rattle.std.proofs.lemmas.List.Elements.{All-from_recursion}
 use Rattle.rg_base.specs.declared.limits.TheConstants.{MOST_STEPS}
@@ -7,6 +7,7 @@ use Rattle.rg_base.specs.declared.outcome.EndNumbers.{EndNumbers}
 use Rattle.rg_base.specs.Report.{bulk_line}
 use Rattle.rg_io.specs.Content.{Rose, Appends, AppendsPart, IsPrefix}
 use Rattle.rg_io.specs.Files.{Told}
+use Rattle.rg_io.proofs.ContentLemmas.{Appends-more}
 use Rattle.rg_tree.specs.Tree.{Tree, Class}
 use Rattle.rg_tree.specs.Rows.RowTrees.{program_of}
 use Rattle.rg_rules.specs.Acceptance.{Accepted}
@@ -43,12 +44,6 @@ generated-found told size t is accepted = record {
   few_names = subst FewNames (sym is) (few-generated 1 size);
   accepted = accepted;
 }
-
--- texts are written one after another
-pub appends-both : (old mid new : Option (List ℕ)) (xs ys : List ℕ) → Appends old mid xs → Appends mid new ys → Appends old new (xs ++ ys)
-appends-both None mid new xs ys h g = let P : Option (List ℕ) → Type 0 = λ q. Appends q new ys in subst P h g
-appends-both (Some zs) mid new xs ys h g =
-    let P : Option (List ℕ) → Type 0 = λ q. Appends q new ys in subst P h g ∙ ap Some (append_assoc zs xs ys)
 
 -- a status of a run tells its ending
 done-ending : (e : Ending) → status.Done ≡ status_of e → e ≡ Done
@@ -155,7 +150,7 @@ module _ (size : ℕ) (source : List ℕ) (old mid new : Option (List ℕ)) (m :
         tables = r.tables;
         runs = r.runs;
         status_is = ran-status size source status.Done old mid m still r;
-        wrote = subst P (sym is-done) (appends-both old mid new _ _ (ran-text size source status.Done old mid m still r) wrote);
+        wrote = subst P (sym is-done) (Appends-more old mid new _ _ (ran-text size source status.Done old mid m still r) wrote);
         stands = ran-stands size source status.Done old mid m still r;
       }
 
@@ -166,7 +161,7 @@ module _ (size : ℕ) (source : List ℕ) (old mid new : Option (List ℕ)) (m :
         r.runs,
         bulk-stands size r.tables MOST_STEPS m wrote.0 old new r.runs.accepted (ran-stands size source status.Done old mid m still r)
             (subst P (sym is-done) wrote.1)
-            (appends-both old mid new _ wrote.0 (ran-text size source status.Done old mid m still r) wrote.2),
+            (Appends-more old mid new _ wrote.0 (ran-text size source status.Done old mid m still r) wrote.2),
       )
 
   pub generated-ends : (left : Option (List ℕ)) (s : Status) → PutLine s (bulk_line size (numbers_of m)) mid new →

@@ -1,3 +1,4 @@
+-- The lemmas that the answers of rg_top use; none is for crates above.
 mod NumberLemmas
 mod OptionLemmas
 mod CommandExamples

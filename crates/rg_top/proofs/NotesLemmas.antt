@@ -9,6 +9,7 @@ use Rattle.rg_base.specs.declared.outcome.Ended.TheVariants as ended
 use Rattle.rg_base.specs.Report.{end_line}
 use Rattle.rg_io.specs.Content.{Rose, Appends, AppendsPart}
 use Rattle.rg_io.specs.Files.{Told}
+use Rattle.rg_io.proofs.ContentLemmas.{Appends-more}
 use Rattle.rg_run.specs.Machine.{Kept, numbers_of}
 use Rattle.rg_run.specs.Reports.{Reports, event_lines}
 use Rattle.rg_top.specs.declared.status.Status.{Status}
@@ -18,7 +19,7 @@ use Rattle.rg_top.specs.Statuses.{status_text, ends_run}
 use Rattle.rg_top.specs.Headline.{line_after, notes_text, IsNotes, TookNotes, ToldFault, steps_asked}
 use Rattle.rg_top.specs.Inner.Settled.{status_of_ended, Refuses, Reported, CutText, Gave, Becomes}
 use Rattle.rg_top.proofs.SettledLemmas.{untouched-text, prefix-behind}
-use Rattle.rg_top.proofs.BulkLemmas.{appends-both, prefix-more}
+use Rattle.rg_top.proofs.BulkLemmas.{prefix-more}
 
 -- what is told behind the lines of collections
 abbrev pub told_behind : (report : Bool) → (steps : ℕ) → Kept → Status → List ℕ
@@ -105,7 +106,7 @@ took-told report steps m given answer old mid new n h (inl (e, wrote)) =
     let f = front-of report steps m given old mid n h in
     let P : Status → Type 0 = λ s. TookNotes report steps m s old new in
     subst P (sym e)
-    (took-whole report steps m given old new _ n f.is_notes (appends-both old mid new f.front (told_behind report steps m given) f.took wrote))
+    (took-whole report steps m given old new _ n f.is_notes (Appends-more old mid new f.front (told_behind report steps m given) f.took wrote))
 took-told report steps m given answer old mid new n h (inr (e, cut)) =
     let f = front-of report steps m given old mid n h in
     let rest = told_behind report steps m given in
@@ -121,7 +122,7 @@ took-told report steps m given answer old mid new n h (inr (e, cut)) =
       first_of = prefix-behind f.front cut.first rest cut.first_of;
       second_of = cut.second_of;
       took = subst Q (sym (append_assoc f.front cut.first cut.second))
-          (appends-both old mid new f.front (cut.first ++ cut.second) f.took cut.took);
+          (Appends-more old mid new f.front (cut.first ++ cut.second) f.took cut.took);
     })
 
 -- an output fault was told behind what the notes had taken
@@ -150,7 +151,7 @@ took-fault true steps m old mid new h part = record {
   second = part.0;
   first_of = prefix-more h.0 _ [] (prefix-more h.0 (event_lines m.stepper.events) (status_text steps status.InputFault) h.1);
   second_of = part.1;
-  took = appends-both old mid new h.0 part.0 h.2 part.2;
+  took = Appends-more old mid new h.0 part.0 h.2 part.2;
 }
 
 -- and the whole of its text
@@ -158,7 +159,7 @@ pub fault-told : (report : Bool) (events : List Event) (old mid new : Option (Li
     Appends mid new (status_text 0 status.OutputFault) → ToldFault report events old new
 fault-told false events old mid new h whole =
     let P : Option (List ℕ) → Type 0 = λ q. Appends q new (status_text 0 status.OutputFault) in subst P h whole
-fault-told true events old mid new h whole = (h.0, h.1, appends-both old mid new h.0 (status_text 0 status.OutputFault) h.2 whole)
+fault-told true events old mid new h whole = (h.0, h.1, Appends-more old mid new h.0 (status_text 0 status.OutputFault) h.2 whole)
 
 -- all lines are the first ones, too
 all-lines : (events : List Event) (old mid : Option (List ℕ)) → Appends old mid (event_lines events) → Reported true status.Memory events old mid
@@ -238,10 +239,6 @@ pub rose-then : (a b c : ℕ) → Rose a b → b ≤ c → Rose a c
 rose-then a b c (inl h) l = inl (omega (arith, h, l))
 rose-then a b c (inr h) l = inr (omega (arith, h, l))
 
-pub rose-later : (a b c : ℕ) → a ≤ b → Rose b c → Rose a c
-rose-later a b c l (inl h) = inl (omega (arith, h, l))
-rose-later a b c l (inr h) = inr h
-
 -- what a run on the machine has given to the notes
 pub ran-reported : (report : Bool) (e : Ended) (events : List Event) (old new : Option (List ℕ)) → Reports report e events old new →
     Reported report (status_of_ended e) events old new
@@ -304,7 +301,7 @@ cut-front text more old mid new p q = record {
   second = q.0;
   first_of = prefix-more p.0 text more p.1;
   second_of = q.1;
-  took = appends-both old mid new p.0 q.0 p.2 q.2;
+  took = Appends-more old mid new p.0 q.0 p.2 q.2;
 }
 
 pub cut-behind : (text line more : List ℕ) (old mid then new : Option (List ℕ)) → line ≡ more → Appends old mid text → AppendsPart mid then line →
@@ -316,13 +313,13 @@ cut-behind text line more old mid then new same w p q =
       second = q.0;
       first_of = prefix-behind text p.0 line p.1;
       second_of = q.1;
-      took = appends-both old then new (text ++ p.0) q.0 (appends-both old mid then text p.0 w p.2) q.2;
+      took = Appends-more old then new (text ++ p.0) q.0 (Appends-more old mid then text p.0 w p.2) q.2;
     })
 
 pub both-whole : (text line more : List ℕ) (old mid new : Option (List ℕ)) → line ≡ more → Appends old mid text → Appends mid new line →
     Appends old new (text ++ more)
 both-whole text line more old mid new same w v =
-    let P : List ℕ → Type 0 = λ l. Appends old new (text ++ l) in subst P same (appends-both old mid new text line w v)
+    let P : List ℕ → Type 0 = λ l. Appends old new (text ++ l) in subst P same (Appends-more old mid new text line w v)
 
 -- what is answered of a status that was told
 pub becomes-told : (whole : List ℕ) (given answer : Status) (old new : Option (List ℕ)) → Gave whole given answer old new → Becomes given answer

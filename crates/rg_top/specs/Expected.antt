@@ -1,4 +1,4 @@
--- What a program's source means, and what a command answers to it.
+-- What a program's source means, and what a command answers to it (docs/promises.md, "The headline").
 use Rattle.std.specs.Prelude.{◌≡◌, ℕ, ◌<◌, ◌≤◌, ◌⊎◌, List, [], ◌∷◌, ◌++◌, codes, length, Option, Some, None, Ok, Err}
 use Rattle.rg_base.specs.declared.limits.TheConstants.{SOURCE_BYTES, MOST_STEPS}
 use Rattle.rg_base.specs.declared.fault.Fault.{Fault}

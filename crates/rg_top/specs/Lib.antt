@@ -1,3 +1,4 @@
+-- The definitions that the clauses of rg_top name, and Inner, which may not be cited above (docs/promises.md, "The headline").
 pub mod Commands
 pub mod Statuses
 pub mod Expected

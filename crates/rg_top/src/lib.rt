@@ -1,5 +1,8 @@
-//! The top call: from words, files and input to the output, the notes and the status
-//! (docs/promises.md).
+//! The top call (docs/promises.md, "The headline"). `reggio` goes from words, files and input to
+//! output, notes and a `Status`, on a fresh `Machine`, with any pacers: what it writes and leaves
+//! are the clauses `answered`, `untouched`, `cut_off`, `cut_at_input` and `notes`, and from which
+//! cause each status comes are `done` to `long`. `shape` says whether words are a command, `tell`
+//! gives a status's text to the notes. `run_process` is a whole process, `main`'s one call.
 #![tactic(auto)]
 
 mod no_input;

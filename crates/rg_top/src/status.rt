@@ -1,4 +1,4 @@
-//! How a call ends.
+//! How a call ends (docs/language.md, "Statuses").
 
 ghost use Rattle.std.specs.Prelude.{◌≡◌};
 ghost use Rattle.rg_top.specs.Statuses.{number_of};

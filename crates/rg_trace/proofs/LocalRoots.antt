@@ -4,6 +4,7 @@ use Rattle.std.proofs.Common.{◌≡◌, ◌≢◌, ℕ, ◌≤◌, List, Option
 use Rattle.std.proofs.Common.{inl, inr, option_map}
 use Rattle.std.proofs.Common.{slice_get}
 use Rattle.std.proofs.lemmas.Bool.{cases_eq}
+use Rattle.std.proofs.lemmas.Option.{same_Some}
 use Rattle.rg_base.specs.declared.object.Label.{Label}
 use Rattle.rg_base.specs.declared.object.Label.TheVariants.{Region, Temp, Frozen}
 use Rattle.rg_cells.specs.declared.cell.Body.{Body}
@@ -14,7 +15,7 @@ use Rattle.rg_regions.specs.Table.{Record, RegionTable, record_at, HasNumber}
 use Rattle.rg_regions.specs.Reach.{LiesIn, Roots, Reach, is_bridge, in_slots, in_temps}
 use Rattle.rg_regions.specs.Grove.{Grove}
 use Rattle.rg_trace.specs.Collected.{Collected}
-use Rattle.rg_regions.proofs.Callers.Told.{one_record, lies_or_not}
+use Rattle.rg_regions.proofs.Callers.Told.{lies_or_not}
 use Rattle.rg_regions.proofs.Callers.Fewer.{field_before}
 
 -- What type preservation gives of the frames: outside the top window, what leads into its region leads to the bridge.
@@ -72,7 +73,7 @@ local-roots c t key rec slots lower temps cells regions g e local held w =
                       let a2 : HasNumber t v.0 r = ap (option_map (λ (y : Record). y.number)) v.2 ∙ ap Some (v.3 ∙ p) in
                       let a3 : HasNumber t key r = ap (option_map (λ (y : Record). y.number)) e in
                       let k2 : v.0 ≡ key = g.numbers v.0 key r a2 a3 in
-                      let same : v.1 ≡ rec = one_record v.1 rec (sym v.2 ∙ ap (record_at t) k2 ∙ e) in
+                      let same : v.1 ≡ rec = same_Some v.1 rec (sym v.2 ∙ ap (record_at t) k2 ∙ e) in
                       by_bridge x i (sym (ap (λ (y : Record). y.bridge) same) ∙ v.4)
                 ]
               ]

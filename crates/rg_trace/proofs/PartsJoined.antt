@@ -17,7 +17,7 @@ use Rattle.rg_regions.specs.Collection.{ChainsOrphans}
 use Rattle.rg_trace.specs.Orphans.{FollowsWhite}
 use Rattle.rg_trace.specs.Collected.{Collected, OutOfReach}
 use Rattle.rg_trace.proofs.Marks.Colours.{walk-lies}
-use Rattle.rg_regions.proofs.Callers.Told.{one_record, owns_once, lies_or_not}
+use Rattle.rg_regions.proofs.Callers.Told.{owns_once, lies_or_not}
 
 -- a cell of a trace region is white
 pub all-white : (c : Table) (t : RegionTable) (key : ℕ) (rec : Record) → Grove c t → record_at t key ≡ Some rec
@@ -28,7 +28,7 @@ all-white c t key rec g e m s l = g.unmarked s (λ k r f n i.
     let a : HasNumber t k rec.number = ap (option_map (λ (z : Record). z.number)) f ∙ ap Some same in
     let b : HasNumber t key rec.number = ap (option_map (λ (z : Record). z.number)) e in
     let q : k ≡ key = g.numbers k key rec.number a b in
-    let z : r ≡ rec = one_record r rec (sym f ∙ ap (record_at t) q ∙ e) in
+    let z : r ≡ rec = same_Some r rec (sym f ∙ ap (record_at t) q ∙ e) in
     let w : Count ≡ Trace = sym n ∙ ap (λ (y : Record). y.manager) z ∙ m in
     cc)
   where

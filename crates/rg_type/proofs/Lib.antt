@@ -1,3 +1,4 @@
+-- The lemmas that the answers of rg_type use; none is for crates above.
 mod Alike
 mod ExpressionEnvs
 mod StatementEnvs

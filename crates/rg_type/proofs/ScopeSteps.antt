@@ -3,6 +3,7 @@ use Rattle.std.proofs.Common.{◌≡◌, refl, sym, ap, ◌∙◌, ℕ, zero, su
 use Rattle.std.proofs.Common.{take, map, All, arith}
 use Rattle.std.proofs.lemmas.List.{length-map, length-take-le, take-map}
 use Rattle.std.proofs.lemmas.List.Elements.{All-cons, All-head, All-tail, All-take}
+use Rattle.std.proofs.lemmas.Bool.{and_from}
 use Rattle.rg_tree.specs.Rows.Tables.{Tables}
 use Rattle.rg_rules.specs.Environment.{Readiness, is_ready, Entry, closed, joined_readiness, joined_entries}
 use Rattle.rg_rules.specs.Environment.{joined, covers_entries, covers}
@@ -132,10 +133,6 @@ implied : (a b : Bool) → (IsTrue a → IsTrue b) → not a || b ≡ true
 implied true b h = h refl
 implied false b h = refl
 
-both : (a b : Bool) → a ≡ true → b ≡ true → a && b ≡ true
-both true b h k = k
-both false b h k = cc
-
 both-first : (a b : Bool) → a && b ≡ true → a ≡ true
 both-first true b h = refl
 both-first false b h = cc
@@ -155,10 +152,10 @@ not-then false h k = cc
 covers_entries-true : (t : Tables) (head out : List Slot) → CoversAt head out → covers_entries (map (entry_of t) head) (map (entry_of t) out) ≡ true
 covers_entries-true t [] out h = refl
 covers_entries-true t (s ∷ ss) [] h =
-    both (not (is_ready s.readiness)) _ (unready (is_ready s.readiness) (λ r. let f : IsTrue false = h 0 r in cc))
+    and_from (not (is_ready s.readiness)) _ (unready (is_ready s.readiness) (λ r. let f : IsTrue false = h 0 r in cc))
     (covers_entries-true t ss [] (λ k r. h (suc k) r))
 covers_entries-true t (s ∷ ss) (o ∷ os) h =
-    both (not (is_ready s.readiness) || is_ready o.readiness) _ (implied (is_ready s.readiness) (is_ready o.readiness) (h 0))
+    and_from (not (is_ready s.readiness) || is_ready o.readiness) _ (implied (is_ready s.readiness) (is_ready o.readiness) (h 0))
     (covers_entries-true t ss os (λ k r. h (suc k) r))
 
 covers_entries-covers : (t : Tables) (head out : List Slot) → covers_entries (map (entry_of t) head) (map (entry_of t) out) ≡ true → CoversAt head out

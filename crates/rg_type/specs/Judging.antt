@@ -1,4 +1,4 @@
--- Answers against the rules. A statement that found no memory says nothing of them.
+-- Answers against the rules (docs/language.md, "Judgements"). A statement that found no memory says nothing of them.
 use Rattle.std.specs.Prelude.{◌≡◌, ℕ, Result, Ok, Err}
 use Rattle.rg_base.specs.declared.fault.Stop.{Stop}
 use Rattle.rg_base.specs.declared.fault.Stop.TheVariants.{Fault, Memory}

@@ -1,2 +1,3 @@
+-- The definitions that the clauses of rg_type name, and Inner, which may not be cited above (docs/language.md, "Judgements").
 pub mod Judging
 pub mod Inner

@@ -1,4 +1,4 @@
--- The layout of the cells: places that hold a cell or are free, and the list of the free ones.
+-- The layout of the cells: places that hold a cell or are free, and the list of the free ones (docs/architecture.md, "Cells").
 use Rattle.std.specs.Prelude.{◌≡◌, ◌≢◌, ℕ, ◌+◌, ◌-◌, ◌^◌, ◌<◌, ◌≤◌, ◌==◌, if◌then◌else◌, List, length, map, Option, Some, None, slice_index_or}
 use Rattle.slab.specs.Slab.{Slab, get, with_value, slab_len}
 use Rattle.rg_cells.specs.declared.cell.Body.{Body}

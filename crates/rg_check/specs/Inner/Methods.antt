@@ -1,4 +1,5 @@
--- What is known of a method whose header has no fault, in front of its body; and methods as the private layers of this crate hand them on.
+-- What is known of a method whose header has no fault, in front of its body; and methods as the private layers of this crate hand them on
+-- (docs/language.md, "Acceptance").
 use Rattle.std.specs.Prelude.{◌≡◌, ℕ, ◌≤◌, ⊤, List, All, length, map, option_map, Ok, IfSome}
 use Rattle.rg_base.specs.declared.limits.TheConstants.{BODY_NAMES}
 use Rattle.rg_tree.specs.Tree.{Ty as Written, Method, Member, field, method, Class}

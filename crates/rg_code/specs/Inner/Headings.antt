@@ -1,4 +1,5 @@
--- Headings as the code keeps them, and headings that come behind others. No public clause cites this module.
+-- Headings as the code keeps them, and headings that come behind others (docs/language.md, "Instructions and lowering"). No public clause
+-- cites this module.
 use Rattle.std.specs.Prelude.{List, ◌++◌, codes, drop, length}
 use Rattle.rg_tree.specs.Tree.{Name}
 use Rattle.rg_code.specs.declared.code.Entry.{Entry}

@@ -1,4 +1,4 @@
--- How the visible variables are kept. No public clause cites this module.
+-- How the visible variables are kept (docs/language.md, "Judgements"). No public clause cites this module.
 use Rattle.std.specs.Prelude.{◌≡◌, ℕ, zero, suc, ◌≤◌, Bool, false, if◌then◌else◌, List, [], ◌∷◌, ◌++◌, length, slice_get, option_map, Option, Some}
 use Rattle.std.specs.Prelude.{None}
 use Rattle.std.specs.Map.{lookup}

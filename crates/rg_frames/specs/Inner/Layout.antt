@@ -1,4 +1,4 @@
--- How the windows lie over slots and temporaries, and what the fields of `Frames` show.
+-- How the windows lie over slots and temporaries, and what the fields of `Frames` show (docs/architecture.md, "Frames").
 use Rattle.std.specs.Prelude.{◌≡◌, ℕ, suc, ◌≤◌, ◌<◌, ◌-◌, ◌⊎◌, List, Some, None, length, min, slice_get, vec_capacity}
 use Rattle.std.specs.declared.vec.Vec.{Vec}
 use Rattle.rg_base.specs.declared.value.Word.{Word}

@@ -1,4 +1,4 @@
--- What is added to tables: a row that stands for a tree, now and wherever the tables grow.
+-- What is added to tables: a row that stands for a tree, now and wherever the tables grow (docs/language.md, "The generated program").
 use Rattle.std.specs.Prelude.{ℕ, ◌≡◌, ◌<◌, List, [], ◌∷◌, ◌++◌, length, All, map, Option, option_map, IfSome}
 use Rattle.rg_tree.specs.declared.rows.Span.{Span}
 use Rattle.rg_tree.specs.declared.rows.ExprRow.{ExprRow}

@@ -1,4 +1,4 @@
--- The trees of the generated program's parts.
+-- The trees of the generated program's parts (docs/language.md, "The generated program").
 use Rattle.std.specs.Prelude.{pos, List, [], ◌∷◌, Option, Some, None, option_map, codes}
 use Rattle.rg_make.specs.declared.parts.Name as name_part
 use Rattle.rg_make.specs.declared.parts.Name.TheVariants as name_is

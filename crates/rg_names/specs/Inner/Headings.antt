@@ -1,4 +1,4 @@
--- What the parts of a class table owe while its headers are judged in source order.
+-- What the parts of a class table owe while its headers are judged in source order (docs/language.md, "Headers").
 use Rattle.std.specs.Prelude.{◌≡◌, ℕ, ◌<◌, ⊤, Bool as Truth, true, List, [], ◌∷◌, length, map, reverse, Option, None, Some, Ok}
 use Rattle.rg_base.specs.declared.words.Cap.{Cap}
 use Rattle.rg_base.specs.declared.ty.Ty.{Ty}

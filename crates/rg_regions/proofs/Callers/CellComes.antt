@@ -16,7 +16,7 @@ use Rattle.rg_cells.specs.Table.{Table, Made, body_at, body_in, field_at, label_
 use Rattle.rg_regions.specs.Table.{Record, RegionTable, record_at, HasNumber, IsBridge}
 use Rattle.rg_regions.specs.Reach.{LiesIn, belongs}
 use Rattle.rg_regions.specs.Grove.{Grove, Members, Parent, Above, direct, further, referrers, leads_to}
-use Rattle.rg_regions.proofs.Callers.Told.{one_region, one_record, number_of}
+use Rattle.rg_regions.proofs.Callers.Told.{one_region, number_of}
 use Rattle.rg_regions.proofs.Callers.Fewer.{total_alike, belongs_not}
 
 -- What comes: a cell at a slot that wasn't held, as the last member of a region, whose fields lead to cells of the
@@ -140,7 +140,7 @@ module _ (c : Table) (t : RegionTable) (cells : Table) (regions : RegionTable) (
       → (z ≡ now) ⊎ ((z.number ≢ rec.number) × (record_at t k ≡ Some z))
   record_back k z a = elim (cases_eq k key) [
     | inl e ↦ let P : ℕ → Type 0 = λ y. record_at regions y ≡ Some z in
-        inl (one_record z now (sym (subst P e a) ∙ w.is))
+        inl (same_Some z now (sym (subst P e a) ∙ w.is))
     | inr d ↦
         let o = sym (w.others k d) ∙ a in
         inr (
@@ -153,7 +153,7 @@ module _ (c : Table) (t : RegionTable) (cells : Table) (regions : RegionTable) (
   bridge_on : (q to : ℕ) → IsBridge t q to → IsBridge regions q to
   bridge_on q to v = elim (cases_eq v.0 key) [
     | inl e ↦
-        let r : v.1 ≡ rec = one_record v.1 rec (sym v.2 ∙ ap (record_at t) e ∙ w.there) in (
+        let r : v.1 ≡ rec = same_Some v.1 rec (sym v.2 ∙ ap (record_at t) e ∙ w.there) in (
           key,
           now,
           w.is,
@@ -287,7 +287,7 @@ module _ (c : Table) (t : RegionTable) (cells : Table) (regions : RegionTable) (
       | inl e ↦ ap (mark_at cells) e ∙ w.made.mark
       | inr d ↦ w.made.marks s d ∙ g.unmarked s (λ k z a m l. elim (cases_eq k key) [
         | inl e ↦
-            let r : z ≡ rec = one_record z rec (sym a ∙ ap (record_at t) e ∙ w.there) in
+            let r : z ≡ rec = same_Some z rec (sym a ∙ ap (record_at t) e ∙ w.there) in
             w.uncounted (sym (ap (λ (y : Record). y.manager) r) ∙ m)
         | inr o ↦ n k z (w.others k o ∙ a) m (label_on s (Region z.number) l)
       ])

@@ -1,8 +1,8 @@
 -- Each turn of a loop that drops members of one region (docs/architecture.md, "Regions").
 use Rattle.std.proofs.Common.{◌≡◌, ℕ, List, Some, swap_remove, refl, ap, sym, ◌∙◌, subst}
+use Rattle.std.proofs.lemmas.Option.{same_Some}
 use Rattle.rg_regions.specs.Table.{Record, RegionTable, record_at, changed, without_member}
 use Rattle.rg_regions.specs.Dropped.{MembersLeft}
-use Rattle.rg_regions.proofs.Callers.Told.{one_record}
 use Rattle.rg_regions.proofs.Callers.Changed.{changed_at, changed_other, changed_links}
 
 module _ (t : RegionTable) (key : ℕ) (rec : Record) (e : record_at t key ≡ Some rec) where
@@ -14,7 +14,7 @@ module _ (t : RegionTable) (key : ℕ) (rec : Record) (e : record_at t key ≡ S
     others = λ k d. refl;
     left = λ r q.
         let S : Record → Type 0 = λ z. P z.number z.members in
-        (r, q, refl, refl, refl, subst S (one_record rec r (sym e ∙ q)) p);
+        (r, q, refl, refl, refl, subst S (same_Some rec r (sym e ∙ q)) p);
   }
 
   module _ (P Q : ℕ → List ℕ → Type 0) (regions : RegionTable) (w : MembersLeft t key P regions) where
@@ -24,7 +24,7 @@ module _ (t : RegionTable) (key : ℕ) (rec : Record) (e : record_at t key ≡ S
 
     module _ (now : Record) (f : record_at regions key ≡ Some now) where
       is_now : (z : Record) → record_at regions key ≡ Some z → z ≡ now
-      is_now z g = one_record z now (sym g ∙ f)
+      is_now z g = same_Some z now (sym g ∙ f)
 
       of_now : (r : Record) (z : Record) → record_at t key ≡ Some r → record_at regions key ≡ Some z
           → P r.number z.members
@@ -32,7 +32,7 @@ module _ (t : RegionTable) (key : ℕ) (rec : Record) (e : record_at t key ≡ S
       of_now r z q g p =
           let R : Record → Type 0 = λ y. P y.number now.members in
           let S : Record → Type 0 = λ y. P r.number y.members in
-          subst R (sym (one_record rec r (sym e ∙ q))) (subst S (is_now z g) p)
+          subst R (sym (same_Some rec r (sym e ∙ q))) (subst S (is_now z g) p)
 
       -- a member is kept
       pub left_keep : (P rec.number now.members → Q rec.number now.members) → MembersLeft t key Q regions
@@ -49,7 +49,7 @@ module _ (t : RegionTable) (key : ℕ) (rec : Record) (e : record_at t key ≡ S
               sym (ap (λ (z : Record). z.number) same) ∙ s.2,
               sym (ap (λ (z : Record). z.manager) same) ∙ s.3,
               sym (ap (λ (z : Record). z.bridge) same) ∙ s.4,
-              subst S (one_record rec r (sym e ∙ q)) (turn (of_now r s.0 q s.1 s.5)),
+              subst S (same_Some rec r (sym e ∙ q)) (turn (of_now r s.0 q s.1 s.5)),
             );
       }
 
@@ -72,6 +72,6 @@ module _ (t : RegionTable) (key : ℕ) (rec : Record) (e : record_at t key ≡ S
                   sym (ap (λ (z : Record). z.number) same) ∙ s.2,
                   sym (ap (λ (z : Record). z.manager) same) ∙ s.3,
                   sym (ap (λ (z : Record). z.bridge) same) ∙ s.4,
-                  subst S (one_record rec r (sym e ∙ q)) (turn (of_now r s.0 q s.1 s.5)),
+                  subst S (same_Some rec r (sym e ∙ q)) (turn (of_now r s.0 q s.1 s.5)),
                 );
           }

@@ -13,12 +13,6 @@ use Rattle.rg_cells.specs.Table.{Heap, IsHeld, body_at, body_in, freed}
 use Rattle.rg_base.specs.declared.object.Label.TheVariants.{Region}
 use Rattle.rg_regions.specs.Reach.{LiesIn}
 
--- nothing is there where a cell was freed
-pub none_here : (xs : List (Option (Option Body))) (s : ℕ) → body_in (get_or (set xs s (Some None)) s None) ≡ None
-none_here [] s = refl
-none_here (x ∷ xs) zero = refl
-none_here (x ∷ xs) (suc s) = none_here xs s
-
 pub zero_here : (ms : List ℕ) (s : ℕ) → get_or (set ms s 0) s 0 ≡ 0
 zero_here [] s = refl
 zero_here (m ∷ ms) zero = refl

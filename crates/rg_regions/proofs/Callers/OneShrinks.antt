@@ -1,6 +1,7 @@
 -- Where cells of one region go and none comes, the forest is kept (docs/architecture.md, "Regions").
 use Rattle.std.proofs.Common.{◌≡◌, ◌≢◌, ℕ, Some, refl, ap, sym, ◌∙◌, subst, inl, inr, option_map}
 use Rattle.std.proofs.lemmas.Bool.{cases_eq}
+use Rattle.std.proofs.lemmas.Option.{same_Some}
 use Rattle.rg_base.specs.declared.object.Label.TheVariants.{Region, Frozen}
 use Rattle.rg_base.specs.declared.words.Manager.TheVariants.{Count}
 use Rattle.rg_base.specs.declared.value.Word.{Word}
@@ -11,7 +12,7 @@ use Rattle.rg_regions.specs.Table.{Record, RegionTable, record_at, HasNumber, Is
 use Rattle.rg_regions.specs.Reach.{LiesIn}
 use Rattle.rg_regions.specs.Grove.{Grove, Members, referrers}
 use Rattle.rg_regions.specs.Collection.{OneShrinks}
-use Rattle.rg_regions.proofs.Callers.Told.{one_region, one_record, lies_or_not}
+use Rattle.rg_regions.proofs.Callers.Told.{one_region, lies_or_not}
 use Rattle.rg_regions.proofs.Callers.Fewer.{label_before, field_before, above_before, referrers_kept}
 
 -- The forest is kept where one region shrinks: its bridge stays, cells that are left lead within it to cells that are
@@ -65,7 +66,7 @@ grove_shrinks c t key rec cells regions g e w bridge closed counts unmarked =
     → z.number ≢ r = λ k z d a n. d (g.numbers k key r (number_of k r z a n) (number_of key r rec e refl)) in
     let bridge_to : (q to : ℕ) → IsBridge t q to → IsBridge regions q to = λ q to b. elim (cases_eq b.0 key) [
       | inl p ↦
-          let same : b.1 ≡ rec = one_record b.1 rec (sym b.2 ∙ ap (record_at t) p ∙ e) in (
+          let same : b.1 ≡ rec = same_Some b.1 rec (sym b.2 ∙ ap (record_at t) p ∙ e) in (
             key,
             w.own.0,
             w.own.1,
@@ -78,7 +79,7 @@ grove_shrinks c t key rec cells regions g e w bridge closed counts unmarked =
       numbers = λ k o n a b. g.numbers k o n (has k n a) (has o n b);
       members = λ k z a. elim (cases_eq k key) [
         | inl p ↦
-            let same : w.own.0 ≡ z = one_record w.own.0 z (sym w.own.1 ∙ sym (ap (record_at regions) p) ∙ a) in
+            let same : w.own.0 ≡ z = same_Some w.own.0 z (sym w.own.1 ∙ sym (ap (record_at regions) p) ∙ a) in
             let M : Record → Type 0 = λ y. Members cells.heap y.number y.members in
             let N : ℕ → Type 0 = λ n. Members cells.heap n w.own.0.members in
             subst M same (subst N (sym w.own.2) w.own.5)
@@ -94,7 +95,7 @@ grove_shrinks c t key rec cells regions g e w bridge closed counts unmarked =
       ];
       bridges = λ k s z a b. elim (cases_eq k key) [
         | inl p ↦
-            let same : w.own.0 ≡ z = one_record w.own.0 z (sym w.own.1 ∙ sym (ap (record_at regions) p) ∙ a) in
+            let same : w.own.0 ≡ z = same_Some w.own.0 z (sym w.own.1 ∙ sym (ap (record_at regions) p) ∙ a) in
             let f : rec.bridge ≡ Some s = sym w.own.4 ∙ ap (λ (y : Record). y.bridge) same ∙ b in
             let l : LiesIn c.heap r s = g.bridges key s rec e f in
             let L : ℕ → Type 0 = λ n. LiesIn cells.heap n s in
@@ -132,7 +133,7 @@ grove_shrinks c t key rec cells regions g e w bridge closed counts unmarked =
                       let v = x.3 in
                       let k2 : v.0 ≡ key = g.numbers v.0 key r (number_of v.0 r v.1 v.2 (v.3 ∙ q))
                       (number_of key r rec e refl) in
-                      let same : v.1 ≡ rec = one_record v.1 rec (sym v.2 ∙ ap (record_at t) k2 ∙ e) in
+                      let same : v.1 ≡ rec = same_Some v.1 rec (sym v.2 ∙ ap (record_at t) k2 ∙ e) in
                       subst Y (sym q) (bridge to (sym (ap (λ (y : Record). y.bridge) same) ∙ v.4) z)
                   | inr d ↦ stay x.0 to d x.2
                 ],
@@ -147,7 +148,7 @@ grove_shrinks c t key rec cells regions g e w bridge closed counts unmarked =
       no_cycle = λ q a. g.no_cycle q (above_before c.heap cells.heap w.fewer q q a);
       counts = λ k s z a m l. elim (cases_eq k key) [
         | inl p ↦
-            let same : w.own.0 ≡ z = one_record w.own.0 z (sym w.own.1 ∙ sym (ap (record_at regions) p) ∙ a) in
+            let same : w.own.0 ≡ z = same_Some w.own.0 z (sym w.own.1 ∙ sym (ap (record_at regions) p) ∙ a) in
             let n : r ≡ z.number = sym w.own.2 ∙ ap (λ (y : Record). y.number) same in
             let v : rec.manager ≡ Count = sym w.own.3 ∙ ap (λ (y : Record). y.manager) same ∙ m in
             let L : ℕ → Type 0 = λ y. LiesIn cells.heap y s in
@@ -164,7 +165,7 @@ grove_shrinks c t key rec cells regions g e w bridge closed counts unmarked =
         | inl off ↦
             (w.others s off).1 ∙ g.unmarked s (λ k z a m l. elim (cases_eq k key) [
               | inl p ↦
-                  let same : rec ≡ z = one_record rec z (sym e ∙ sym (ap (record_at t) p) ∙ a) in
+                  let same : rec ≡ z = same_Some rec z (sym e ∙ sym (ap (record_at t) p) ∙ a) in
                   let L : ℕ → Type 0 = λ y. LiesIn c.heap y s in
                   off (subst L (sym (ap (λ (y : Record). y.number) same)) l)
               | inr d ↦ n k z (w.records k d ∙ a) m (stay z.number s (apart k z d a) l)

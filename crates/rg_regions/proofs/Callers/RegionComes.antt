@@ -13,7 +13,7 @@ use Rattle.rg_cells.specs.Table.{Table, Made, body_at, body_in, field_at, label_
 use Rattle.rg_regions.specs.Table.{Record, RegionTable, record_at, HasNumber, IsBridge}
 use Rattle.rg_regions.specs.Reach.{LiesIn, belongs}
 use Rattle.rg_regions.specs.Grove.{Grove, Members, Parent, Above, direct, further, referrers, leads_to}
-use Rattle.rg_regions.proofs.Callers.Told.{one_region, one_record, lies_or_not, number_of}
+use Rattle.rg_regions.proofs.Callers.Told.{one_region, lies_or_not, number_of}
 use Rattle.rg_regions.proofs.Callers.Fewer.{total_alike, belongs_not}
 
 -- a region with a bridge at that slot, not region 0, into which no field of another region's cell leads
@@ -153,7 +153,7 @@ module _ (c : Table) (t : RegionTable) (cells : Table) (regions : RegionTable) (
 
   record_back : (k : ℕ) (z : Record) → record_at regions k ≡ Some z → (z ≡ rec) ⊎ ((z.number ≢ rec.number) × (record_at t k ≡ Some z))
   record_back k z a = elim (cases_eq k key) [
-    | inl e ↦ let P : ℕ → Type 0 = λ y. record_at regions y ≡ Some z in inl (one_record z rec (sym (subst P e a) ∙ w.is))
+    | inl e ↦ let P : ℕ → Type 0 = λ y. record_at regions y ≡ Some z in inl (same_Some z rec (sym (subst P e a) ∙ w.is))
     | inr d ↦ let o = sym (w.others k d) ∙ a in inr ((λ n. w.fresh k (number_of t k rec.number z o n)), o)
   ]
 

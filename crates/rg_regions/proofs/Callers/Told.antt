@@ -76,10 +76,6 @@ one_number t key a b p q = some_is a b (sym p ∙ q)
     some_is : (a b : ℕ) → Some a ≡ Some b → a ≡ b
     some_is a b q = cc
 
--- a key has one record
-pub one_record : (a b : Record) → Some a ≡ Some b → a ≡ b
-one_record a b q = cc
-
 pub number_of : (t : RegionTable) (key n : ℕ) (r : Record) → record_at t key ≡ Some r → r.number ≡ n → HasNumber t key n
 number_of t key n r a b = ap (option_map (λ (y : Record). y.number)) a ∙ ap Some b
 

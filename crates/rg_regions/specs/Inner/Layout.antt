@@ -1,4 +1,4 @@
--- The layout of the region table: what a slab of regions shows, and the map from numbers to keys.
+-- The layout of the region table: what a slab of regions shows, and the map from numbers to keys (docs/architecture.md, "Regions").
 use Rattle.std.specs.Prelude.{◌≡◌, ℕ, ◌-◌, ◌<◌, ◌≤◌, List, Option, Some, None, map, vec_capacity, length, nat_eq}
 use Rattle.std.specs.Prelude.{Result, OnOk, OnErr}
 use Rattle.std.specs.Map.{lookup}

@@ -1,6 +1,7 @@
 -- Each part of the invariant refuses a state by its own words: six false states. Of those of a run `Runs` says that the other parts hold.
 use Rattle.std.proofs.Common.{◌≡◌, refl, sym, ◌∙◌, ap, subst, inl, inr, ℕ, ◌<◌, List, [], ◌∷◌, ◌++◌, length, Option, Some, None, option_map}
 use Rattle.std.proofs.Common.{option_and_then, slice_get, arith}
+use Rattle.std.proofs.lemmas.Option.{same_Some}
 use Rattle.rg_base.specs.declared.words.Manager.TheVariants as manager
 use Rattle.rg_base.specs.declared.ty.Ty.{Ty}
 use Rattle.rg_base.specs.declared.ty.Ty.TheVariants as ty
@@ -24,7 +25,7 @@ use Rattle.rg_sound.specs.Values.{Leads, MeetsBy, ValuesFit}
 use Rattle.rg_sound.specs.Objects.{FieldFits, FieldsMeet, ObjectsFit}
 use Rattle.rg_sound.specs.OpenRegions.{IsOwned, OpenFit}
 use Rattle.rg_sound.specs.Numbers.{NumbersFit}
-use Rattle.rg_sound.proofs.Basics.{none-some, some-same}
+use Rattle.rg_sound.proofs.Basics.{none-some}
 use Rattle.rg_sound.proofs.OpeningLemmas.{opening-fits}
 use Rattle.rg_sound.proofs.Owners.DataLemmas.{Data, fit-data}
 use Rattle.rg_sound.proofs.HeldLemmas.{slot-meets}
@@ -36,7 +37,7 @@ use Rattle.rg_sound.proofs.Examples.Runs.{accepted, at, with_value, label_at}
 
 leads-label : (store : List Seen) (a class : ℕ) (F : Label → Type 0) (o : Seen) → slice_get store a ≡ Some o → Leads store a class F → F o.label
 leads-label store a class F o there h =
-    let P : Seen → Type 0 = λ q. F q.label in subst P (sym (some-same o h.object (sym there ∙ h.there))) h.label_fits
+    let P : Seen → Type 0 = λ q. F q.label in subst P (sym (same_Some o h.object (sym there ∙ h.there))) h.label_fits
 
 not_first : label.Region 1 ≡ label.Region 0 → ⊥
 not_first e = let n : ◌≡◌ {A = ℕ} 1 0 = grind arith in absurd (omega (arith, n))
@@ -62,7 +63,7 @@ leads-frozen classes store ws fits a k b r frozen leads lies = by (slice_get sto
     by (Some o) there f e =
         let P : Label → Type 0 = λ q. FieldsMeet classes store (FieldFits ws q) (fields_of classes o.class) o.fields in
         let m = slot-meets classes store (λ cap l. l ≡ label.Frozen) (fields_of classes o.class) o.fields k (val.Obj b)
-        (subst P (some-same o.label label.Frozen f) (fits a o there).fields) e in
+        (subst P (same_Some o.label label.Frozen f) (fits a o there).fields) e in
         of_type (type_of classes m.field.ty) m.meets
 
 no_field : place.Var 0 2 ≡ place.Field 0 2 → ⊥
@@ -74,7 +75,7 @@ not_below l = absurd (omega (arith, l))
 unowned : (classes : List Class) (store : List Seen) (frames : List Frame) (w beneath : Window) (p : Place) → w.owner ≡ Some p →
     leads_into classes store frames p ≡ None → ¬ IsOwned classes store frames w beneath
 unowned classes store frames w beneath p owner nothing h =
-    let at : h.place ≡ p = some-same h.place p (sym h.named ∙ owner) in
+    let at : h.place ≡ p = same_Some h.place p (sym h.named ∙ owner) in
     let P : Place → Type 0 = λ q. leads_into classes store frames q ≡ Some w.region in
     none-some (sym nothing ∙ subst P at ((h.exact h.place).1 refl))
 
@@ -99,7 +100,7 @@ not_end first more rest a b =
 no_spot : (p : Point) (spot : Spot) (first : Item) (more rest : List Item) → spot_at [] (main_body quiet) p ≡ Some spot →
     spot.items ≡ first ∷ more → EndAt 1 ∷ [] ≡ first ∷ more ++ rest → ⊥
 no_spot here spot first more rest is begins items =
-    not_end first more rest (ap (λ (q : Spot). q.items) (some-same _ spot is) ∙ begins) items
+    not_end first more rest (ap (λ (q : Spot). q.items) (same_Some _ spot is) ∙ begins) items
 no_spot (behind p) spot first more rest is begins items = none-some is
 no_spot (inside side p) spot first more rest is begins items = none-some is
 

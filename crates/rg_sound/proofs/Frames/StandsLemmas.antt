@@ -2,7 +2,7 @@
 use Rattle.std.proofs.Common.{◌≡◌, ◌≢◌, refl, sym, ◌∙◌, ap, subst, ◌⊎◌, inl, inr, ◌↔◌, ℕ, zero, suc, ◌==◌, nat_lt, nat_le, ◌<◌, ◌≤◌, Bool as Truth}
 use Rattle.std.proofs.Common.{true, false, ◌||◌, ◌&&◌, if◌then◌else◌, List, [], ◌∷◌, ◌++◌, length, take, map, reverse, Option, Some, None, slice_get}
 use Rattle.std.proofs.Common.{arith}
-use Rattle.std.proofs.lemmas.Option.{slice_get_within}
+use Rattle.std.proofs.lemmas.Option.{slice_get_within, same_Some}
 use Rattle.rg_base.specs.declared.ty.Ty.{Ty}
 use Rattle.rg_base.specs.declared.object.Place.{Place}
 use Rattle.rg_base.specs.declared.object.Place.TheVariants.{Var, Field}
@@ -16,7 +16,7 @@ use Rattle.rg_rules.specs.State.{Local, Frame, Window, Target}
 use Rattle.rg_sound.specs.Windows.{covers, covering, windows_of, lowest}
 use Rattle.rg_sound.specs.OpenRegions.{IsNear, AllOwned}
 use Rattle.rg_sound.specs.Frames.{Named, IsNamed, Enters, Entered, leaves, Lends, Stands, Beneath}
-use Rattle.rg_sound.proofs.Basics.{none-some, some-same}
+use Rattle.rg_sound.proofs.Basics.{none-some}
 use Rattle.rg_sound.proofs.Frames.EntryLemmas.{settled_readiness, Keeps, Keeps-at, Keeps-flip, Stays}
 use Rattle.rg_sound.proofs.Frames.NamedLemmas.{Named-length, Named-snoc, Named-at, Named-entry}
 use Rattle.rg_sound.proofs.Frames.SpotLemmas.{AllWithin}
@@ -43,7 +43,7 @@ owned-front classes store frames [] h = tt
 owned-front classes store frames (w ∷ []) h = (λ p e. none-some (sym h.1 ∙ e), tt)
 owned-front classes store frames (w ∷ v ∷ ws) h =
     let o = h.0 in (
-      λ p e. let same : o.place ≡ p = some-same o.place p (sym o.named ∙ e) in let P : Place → Type 0 = λ q. InFront w q in
+      λ p e. let same : o.place ≡ p = same_Some o.place p (sym o.named ∙ e) in let P : Place → Type 0 = λ q. InFront w q in
           subst P same (near-front store w v o.place o.near),
       owned-front classes store frames (v ∷ ws) h.1,
     )
@@ -337,7 +337,7 @@ lends-not n k ls (p ∷ ps) (w ∷ own) h l (inr d) = lends-not n k ls ps own h.
 -- the last of a list, or one before
 pub snoc-cases : {A : Type 0} (xs : List A) (x y : A) (i : ℕ) → slice_get (xs ++ x ∷ []) i ≡ Some y →
     (slice_get xs i ≡ Some y) ⊎ ((i ≡ length xs) × (x ≡ y))
-snoc-cases [] x y zero e = inr (refl, some-same x y e)
+snoc-cases [] x y zero e = inr (refl, same_Some x y e)
 snoc-cases [] x y (suc i) e = none-some e
 snoc-cases (z ∷ xs) x y zero e = inl e
 snoc-cases (z ∷ xs) x y (suc i) e = elim (snoc-cases xs x y i e) [ inl h ↦ inl h | inr h ↦ inr (ap suc h.0, h.1) ]

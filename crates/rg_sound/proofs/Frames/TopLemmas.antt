@@ -2,6 +2,7 @@
 use Rattle.std.proofs.Common.{◌≡◌, ◌≢◌, refl, sym, ◌∙◌, ap, subst, inl, inr, ℕ, ◌==◌, Bool as Truth, true, false, List, [], ◌∷◌, ◌++◌, length, take}
 use Rattle.std.proofs.Common.{map, reverse, Option, Some, option_and_then, slice_get, arith}
 use Rattle.std.proofs.lemmas.List.{length-reverse}
+use Rattle.std.proofs.lemmas.Bool.{eqb-false}
 use Rattle.rg_base.specs.declared.object.Place.{Place}
 use Rattle.rg_base.specs.declared.object.Place.TheVariants.{Var, Field}
 use Rattle.rg_base.specs.declared.object.Seen.{Seen}
@@ -16,7 +17,6 @@ use Rattle.rg_sound.specs.Windows.{covering, windows_of}
 use Rattle.rg_sound.specs.Values.{ValuesFit}
 use Rattle.rg_sound.specs.OpenRegions.{AllOwned}
 use Rattle.rg_sound.specs.Frames.{leaves, Lends, Running}
-use Rattle.rg_sound.proofs.Basics.{differ}
 use Rattle.rg_sound.proofs.Frames.BodyLemmas.{Right, body-right}
 use Rattle.rg_sound.proofs.Frames.MethodLemmas.{Front, body-front}
 use Rattle.rg_sound.proofs.Frames.NamedLemmas.{Named-length}
@@ -139,6 +139,6 @@ leads-taken classes store f fs k (Var n i) (inr l) = by_frame (n == length fs) r
         ∙ ap (λ (q : Option Local). option_and_then (region_at store) (option_and_then owned_by_local q)) (get-take-within k f.locals i l)
         ∙ sym (leads-top classes store f fs i) ∙ ap (λ m. leads_into classes store (f ∷ fs) (Var m i)) (sym here)
     by_frame false e =
-        let other : n ≢ length fs = differ n (length fs) e in
+        let other : n ≢ length fs = eqb-false n (length fs) e in
         leads-lower classes store (record f { locals = take k f.locals }) fs n i other ∙ sym (leads-lower classes store f fs n i other)
 leads-taken classes store f fs k (Field a j) b = refl

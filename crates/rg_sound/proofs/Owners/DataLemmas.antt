@@ -1,7 +1,8 @@
 -- What is said of store, frames and windows, whatever is to do; and how it stays where variables change.
 use Rattle.std.proofs.Common.{◌≡◌, ◌≢◌, refl, sym, ◌∙◌, ap, subst, ◌⊎◌, inl, inr, ℕ, ◌<◌, List, [], ◌∷◌, ◌++◌}
 use Rattle.std.proofs.Common.{length, Option, Some, None, option_and_then, slice_get, slice_set, arith}
-use Rattle.std.proofs.lemmas.Option.{slice_get_within}
+use Rattle.std.proofs.lemmas.Option.{slice_get_within, same_Some}
+use Rattle.std.proofs.lemmas.Bool.{cases_eq}
 use Rattle.rg_base.specs.declared.ty.Ty.{Ty}
 use Rattle.rg_base.specs.declared.ty.Ty.TheVariants.{Int, Bool, Ref}
 use Rattle.rg_base.specs.declared.words.Cap.{Cap}
@@ -23,7 +24,7 @@ use Rattle.rg_sound.specs.OpenRegions.{OpenFit}
 use Rattle.rg_sound.specs.Numbers.{NumbersFit}
 use Rattle.rg_sound.specs.Frames.{FramesFit}
 use Rattle.rg_sound.specs.Fit.{Fit}
-use Rattle.rg_sound.proofs.Basics.{none-some, same_number, some-same}
+use Rattle.rg_sound.proofs.Basics.{none-some}
 use Rattle.rg_sound.proofs.Owners.OwnerLemmas.{get-snoc-other, get-set, get-set-other, led_by, leads-top, leads-lower, leads-past}
 use Rattle.rg_sound.proofs.Owners.OwnerLemmas.{OwnersCome, forest-come, AllOwners, AllOwners-map, open-come}
 
@@ -99,9 +100,9 @@ pub leads-put : (classes : List Class) (store : List Seen) (f : Frame) (fs : Lis
     Puts f.locals new k l → (n i : ℕ) →
     ((n ≡ length fs) × (i ≡ k) × (leads_into classes store (record f { locals = new } ∷ fs) (Var n i) ≡ led_by store l))
     ⊎ (leads_into classes store (record f { locals = new } ∷ fs) (Var n i) ≡ leads_into classes store (f ∷ fs) (Var n i))
-leads-put classes store f fs new k l p n i = elim (same_number n (length fs)) [
+leads-put classes store f fs new k l p n i = elim (cases_eq n (length fs)) [
   | inr other ↦ inr (leads-lower classes store (record f { locals = new }) fs n i other ∙ sym (leads-lower classes store f fs n i other))
-  | inl here ↦ elim (same_number i k) [
+  | inl here ↦ elim (cases_eq i k) [
     | inl at ↦ inl (
       here,
       at,
@@ -155,9 +156,9 @@ put-local classes store f fs ws regions made new k l d p m fresh not_owner =
     }
 
     values : FrameMeets store ws (length fs) new
-    values i g e = elim (same_number i k) [
+    values i g e = elim (cases_eq i k) [
       | inl at ↦
-          let same : l ≡ g = some-same l g (sym p.at ∙ ap (slice_get new) (sym at) ∙ e) in
+          let same : l ≡ g = same_Some l g (sym p.at ∙ ap (slice_get new) (sym at) ∙ e) in
           let P : Local → Type 0 = λ q. Meets store (windows_of (length fs) k ws) q.ty q.value in
           let Q : ℕ → Type 0 = λ j. Meets store (windows_of (length fs) j ws) g.ty g.value in subst Q (sym at) (subst P same m)
       | inr away ↦ d.values.0 i g (sym (p.others i away) ∙ e)
@@ -176,7 +177,7 @@ led_some store (Some l) r h = (l, refl)
 
 shrink-from : (classes : List Class) (store : List Seen) (f : Frame) (fs : List Frame) (new : List Local) → Shrinks f.locals new → (n i r : ℕ) →
     leads_into classes store (record f { locals = new } ∷ fs) (Var n i) ≡ Some r → leads_into classes store (f ∷ fs) (Var n i) ≡ Some r
-shrink-from classes store f fs new s n i r h = elim (same_number n (length fs)) [
+shrink-from classes store f fs new s n i r h = elim (cases_eq n (length fs)) [
   | inr other ↦ leads-lower classes store f fs n i other ∙ sym (leads-lower classes store (record f { locals = new }) fs n i other) ∙ h
   | inl here ↦
       let now = sym (leads-top classes store (record f { locals = new }) fs i)
@@ -217,7 +218,7 @@ push-frame classes store fs target ws regions made d =
     (all ws)
   where
     same : (q : Place) → leads_into classes store (record { locals = []; target = target } ∷ fs) q ≡ leads_into classes store fs q
-    same (Var n i) = elim (same_number n (length fs)) [
+    same (Var n i) = elim (cases_eq n (length fs)) [
       | inr other ↦ leads-lower classes store (record { locals = []; target = target }) fs n i other
       | inl here ↦ ap (λ m. leads_into classes store (record { locals = []; target = target } ∷ fs) (Var m i)) here
           ∙ leads-top classes store (record { locals = []; target = target }) fs i ∙ sym (leads-past classes store fs n i (omega (arith, here)))
@@ -240,7 +241,7 @@ pop-frame classes store f fs ws regions made d k =
     frames-change classes store (f ∷ fs) fs ws regions made Nothing d come (d.values.1) k
   where
     from : (q : Place) (r : ℕ) → leads_into classes store fs q ≡ Some r → leads_into classes store (f ∷ fs) q ≡ Some r
-    from (Var n i) r h = elim (same_number n (length fs)) [
+    from (Var n i) r h = elim (cases_eq n (length fs)) [
       | inr other ↦ leads-lower classes store f fs n i other ∙ h
       | inl here ↦ none-some (sym (leads-past classes store fs n i (omega (arith, here))) ∙ h)
     ]

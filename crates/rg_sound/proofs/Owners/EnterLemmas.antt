@@ -1,7 +1,7 @@
 -- `enter` keeps the invariant.
 use Rattle.std.proofs.Common.{◌≡◌, refl, sym, ◌∙◌, ap, subst, inl, inr, ℕ, Bool as Truth, true, false, if◌then◌else◌, List, [], ◌∷◌, length, Option}
 use Rattle.std.proofs.Common.{Some, None, option_and_then, slice_get, Ok, arith}
-use Rattle.std.proofs.lemmas.Option.{slice_get_within}
+use Rattle.std.proofs.lemmas.Option.{slice_get_within, same_Some}
 use Rattle.rg_base.specs.declared.words.Cap.TheVariants.{Mut, Tmp, Paused, Imm, Iso}
 use Rattle.rg_base.specs.declared.ty.Ty.{Ty}
 use Rattle.rg_base.specs.declared.ty.Ty.TheVariants.{Int, Bool, Ref}
@@ -31,7 +31,6 @@ use Rattle.rg_sound.specs.Windows.{windows_from}
 use Rattle.rg_sound.specs.Values.{IsRegion, LabelFits, Leads, MeetsRef, MeetsBy, Meets}
 use Rattle.rg_sound.specs.Objects.{TempFieldFits, FieldFits}
 use Rattle.rg_sound.specs.Laws.{StaysFit, EnterKeeps}
-use Rattle.rg_sound.proofs.Basics.{some-same}
 use Rattle.rg_sound.proofs.Frames.JudgeLemmas.{judge_enter-variable, judge_enter-field}
 use Rattle.rg_sound.proofs.Frames.NamedLemmas.{first-at}
 use Rattle.rg_sound.proofs.Values.ValueLemmas.{seen-meets}
@@ -73,7 +72,7 @@ owned-object store F c v o to m h =
     let a = object_at-ok store v o h in
     let P : Val → Type 0 = λ q. MeetsRef store c F q in
     let n : Leads store a.address c F = subst P a.value m in
-    let one : n.object ≡ o = some-same n.object o (sym n.there ∙ a.there) in
+    let one : n.object ≡ o = same_Some n.object o (sym n.there ∙ a.there) in
     let r = to n.object.label n.label_fits in
     record {
       address = a.address;

@@ -3,7 +3,7 @@ use Rattle.std.proofs.Common.{◌≡◌, ◌≢◌, refl, sym, ◌∙◌, ap, su
 use Rattle.std.proofs.Common.{true, false, ◌||◌, ◌&&◌, if◌then◌else◌, List, [], ◌∷◌, ◌++◌, length, map, reverse, find, Option, Some, slice_get, Ok}
 use Rattle.std.proofs.Common.{arith}
 use Rattle.std.proofs.lemmas.List.{reverse-append}
-use Rattle.std.proofs.lemmas.Option.{slice_get_within}
+use Rattle.std.proofs.lemmas.Option.{slice_get_within, same_Some}
 use Rattle.rg_base.specs.declared.words.Cap.TheVariants.{Mut}
 use Rattle.rg_base.specs.declared.ty.Ty.TheVariants.{Ref}
 use Rattle.rg_base.specs.declared.object.Label.{Label}
@@ -30,7 +30,7 @@ use Rattle.rg_sound.specs.OpenRegions.{AllOwned, IsNear}
 use Rattle.rg_sound.specs.Numbers.{LabelGiven}
 use Rattle.rg_sound.specs.Frames.{leaves, Running, Stands, Named, Enters, Entered}
 use Rattle.rg_sound.specs.Laws.{StaysFit}
-use Rattle.rg_sound.proofs.Basics.{none-some, some-same}
+use Rattle.rg_sound.proofs.Basics.{none-some}
 use Rattle.rg_sound.proofs.Frames.AdvanceLemmas.{running-first}
 use Rattle.rg_sound.proofs.Frames.QuietLemmas.{allowed-same}
 use Rattle.rg_sound.proofs.Frames.BodyLemmas.{items_of-begins}
@@ -52,11 +52,11 @@ pub open-owner : (classes : List Class) (store : List Seen) (frames : List Frame
     (i : ℕ) (u : Window) (p : Place) →
     slice_get ws i ≡ Some u → leads_into classes store frames p ≡ Some u.region → (u.region ≡ 0) ⊎ (u.owner ≡ Some p)
 open-owner classes store frames [] h i u p g l = absurd h
-open-owner classes store frames (w ∷ []) h zero u p g l = let same : w ≡ u = some-same w u g in
+open-owner classes store frames (w ∷ []) h zero u p g l = let same : w ≡ u = same_Some w u g in
     inl (ap (λ (q : Window). q.region) (sym same) ∙ h.0)
 open-owner classes store frames (w ∷ []) h (suc i) u p g l = none-some g
 open-owner classes store frames (w ∷ v ∷ ws) h zero u p g l =
-    let same : w ≡ u = some-same w u g in
+    let same : w ≡ u = same_Some w u g in
     let at : p ≡ h.0.place = (h.0.exact p).0 (l ∙ ap (λ (q : Window). Some q.region) (sym same)) in
     inr (ap (λ (q : Window). q.owner) (sym same) ∙ h.0.named ∙ ap Some (sym at))
 open-owner classes store frames (w ∷ v ∷ ws) h (suc i) u p g l = open-owner classes store frames (v ∷ ws) h.1 i u p g l
@@ -64,7 +64,7 @@ open-owner classes store frames (w ∷ v ∷ ws) h (suc i) u p g l = open-owner 
 pub owners-at : (ws : List Window) (P : Place → Type 0) → AllOwners ws P → (i : ℕ) (u : Window) (p : Place) → slice_get ws i ≡ Some u →
     u.owner ≡ Some p → P p
 owners-at [] P h i u p g e = none-some g
-owners-at (w ∷ ws) P h zero u p g e = h.0 p (ap (λ (q : Window). q.owner) (some-same w u g) ∙ e)
+owners-at (w ∷ ws) P h zero u p g e = h.0 p (ap (λ (q : Window). q.owner) (same_Some w u g) ∙ e)
 owners-at (w ∷ ws) P h (suc i) u p g e = owners-at ws P h.1 i u p g e
 
 -- what is entered: an object of a region, which is owned at a place that no window names
@@ -128,7 +128,7 @@ enter-data t store f fs v us regions made place bridge class region z d e w is n
     put-local t.classes store f fs (w ∷ v ∷ us) regions (made + 1) (f.locals ++ l ∷ []) (length f.locals) l pushed (puts-snoc f.locals l)
     (subst P (sym seen) meets)
     (not_iso-fresh t.classes store (f ∷ fs) (Ref Mut class) bridge refl)
-    (λ p o here. e.not_new (some-same place p (sym w_owner ∙ o) ∙ here), new_owner)
+    (λ p o here. e.not_new (same_Some place p (sym w_owner ∙ o) ∙ here), new_owner)
   where
     covers-base : (n k : ℕ) (w : Window) → w.base_frame ≡ n → w.base_place ≡ k → covers n k w ≡ true
     covers-base n k w a b =
@@ -170,7 +170,7 @@ record Marked (x : Variable) (fs : List Name) (e o : Entry) : Type 0 where
 marked-back : (x : Variable) (es : List Entry) (i : ℕ) (o : Entry) → slice_get (map (marked_entry x lent) es) i ≡ Some o →
     (e : Entry) × (slice_get es i ≡ Some e) × (o ≡ marked_entry x lent e)
 marked-back x [] i o g = none-some g
-marked-back x (f ∷ es) zero o g = (f, refl, sym (some-same (marked_entry x lent f) o g))
+marked-back x (f ∷ es) zero o g = (f, refl, sym (same_Some (marked_entry x lent f) o g))
 marked-back x (f ∷ es) (suc i) o g = marked-back x es i o g
 
 lent-at : (x : Variable) (fs : List Name) (es : List Entry) (i : ℕ) (o : Entry) → slice_get (lent_entries x fs es) i ≡ Some o →
@@ -241,7 +241,7 @@ enter-stands f n w own old env x fs place items h entries distinct owner base_fr
               | inr named ↦ inl (owner ∙ ap Some (here x fs place at i e.0 e.1 named.0 named.1))
             ],
             λ d. elim d [
-              | inl o ↦ e.2.lent_is.1 (inr (there x fs place at i e.0 e.1 (some-same place (Var n i) (sym owner ∙ o))))
+              | inl o ↦ e.2.lent_is.1 (inr (there x fs place at i e.0 e.1 (same_Some place (Var n i) (sym owner ∙ o))))
               | inr other ↦ e.2.lent_is.1 (inl (l.1 other))
             ],
           );
@@ -272,7 +272,7 @@ enter-stands f n w own old env x fs place items h entries distinct owner base_fr
         let a = first-at old.env.entries f.locals x q.1.0 h.named q.1.1 in
         let both : Var n (place_in f.locals x) ≡ Var n i = sym q.0 ∙ same in
         let one : place_in f.locals x ≡ i = grind arith in
-        let is : q.1.0 ≡ e = some-same q.1.0 e (sym a.entry_at ∙ ap (slice_get old.env.entries) one ∙ g) in
+        let is : q.1.0 ≡ e = same_Some q.1.0 e (sym a.entry_at ∙ ap (slice_get old.env.entries) one ∙ g) in
         (refl, ap (λ (z : Entry). z.name) (sym is) ∙ same_variable-true q.1.0.name x a.is_name)
     there x (g ∷ fs) place q i e k same = let no : Field q.0 q.1 ≡ Var n i = sym q.2 ∙ same in grind arith
 
@@ -356,7 +356,7 @@ enter-kept t s line p z body rest d front judged b place bridge o region e there
     let a = object_at-ok s.store bridge o there in
     let address_is : Obj e.at ≡ Obj a.address = sym e.bridge_is ∙ a.value in
     let same_address : e.at ≡ a.address = grind arith in
-    let one : e.object ≡ o = some-same e.object o (sym e.there ∙ ap (slice_get s.store) same_address ∙ a.there) in
+    let one : e.object ≡ o = same_Some e.object o (sym e.there ∙ ap (slice_get s.store) same_address ∙ a.there) in
     let label_is : o.label ≡ Region region = ap (λ (q : Seen). q.label) (sym one) ∙ e.label_is in
     let class_is : o.class ≡ b.class = ap (λ (q : Seen). q.class) (sym one) ∙ e.class_is in
     let s0 : State = record s { items = rest } in

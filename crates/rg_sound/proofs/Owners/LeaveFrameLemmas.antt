@@ -1,7 +1,7 @@
 -- The frame behind the block of an `enter`.
 use Rattle.std.proofs.Common.{◌≡◌, refl, sym, ◌∙◌, ap, subst, ◌⊎◌, inl, inr, ◌↔◌, ℕ, zero, suc, Bool as Truth, true, false, if◌then◌else◌, List, []}
 use Rattle.std.proofs.Common.{◌∷◌, ◌++◌, length, take, map, reverse, find, Option, Some, None, slice_get, arith}
-use Rattle.std.proofs.lemmas.Option.{slice_get_within}
+use Rattle.std.proofs.lemmas.Option.{slice_get_within, same_Some}
 use Rattle.rg_base.specs.declared.object.Place.{Place}
 use Rattle.rg_base.specs.declared.object.Place.TheVariants.{Var, Field}
 use Rattle.rg_base.specs.declared.object.Seen.{Seen}
@@ -15,7 +15,7 @@ use Rattle.rg_rules.specs.Owners.{leads_into}
 use Rattle.rg_sound.specs.Windows.{covers, covering, lowest}
 use Rattle.rg_sound.specs.OpenRegions.{AllOwned, OneWindowEach}
 use Rattle.rg_sound.specs.Frames.{leaves, Stands, Beneath, Named, IsNamed, Enters, Entered, Lends}
-use Rattle.rg_sound.proofs.Basics.{none-some, some-same}
+use Rattle.rg_sound.proofs.Basics.{none-some}
 use Rattle.rg_sound.proofs.Frames.EntryLemmas.{Absent, Distinct, Keeps, Keeps-at, settled_readiness, same_variable-same, same_variable-true}
 use Rattle.rg_sound.proofs.Frames.JudgeLemmas.{lent_entries, length-lent}
 use Rattle.rg_sound.proofs.Frames.NamedLemmas.{Named-at, Named-entry}
@@ -65,12 +65,12 @@ distinct-find_by true x f e es at (suc i) g n a rest =
     absent-at : (es : List Entry) (i : ℕ) → slice_get es i ≡ Some e → Absent x es → ⊥
     absent-at [] i g a = none-some g
     absent-at (o ∷ es) zero g a =
-        let one : o ≡ e = some-same o e g in
+        let one : o ≡ e = same_Some o e g in
         let yes : same_variable o.name x ≡ true = rw (ap (λ (q : Entry). q.name) one, n) (same_variable-same x) in
         let c : false ≡ true = sym a.0 ∙ yes in grind arith
     absent-at (o ∷ es) (suc i) g a = absent-at es i g a.1
 distinct-find_by false x f e es at zero g n a rest =
-    let one : f ≡ e = some-same f e g in
+    let one : f ≡ e = same_Some f e g in
     let yes : same_variable f.name x ≡ true = rw (ap (λ (q : Entry). q.name) one, n) (same_variable-same x) in
     let c : false ≡ true = sym at ∙ yes in grind arith
 distinct-find_by false x f e es at (suc i) g n a rest = rest i g
@@ -87,20 +87,20 @@ pub distinct-place : (es : List Entry) (i j : ℕ) (e o : Entry) → Distinct es
     i ≡ j
 distinct-place [] i j e o d g h n = none-some g
 distinct-place (f ∷ es) zero zero e o d g h n = refl
-distinct-place (f ∷ es) zero (suc j) e o d g h n = absurd (later es j o d.0 h (ap (λ (q : Entry). q.name) (some-same f e g) ∙ n))
+distinct-place (f ∷ es) zero (suc j) e o d g h n = absurd (later es j o d.0 h (ap (λ (q : Entry). q.name) (same_Some f e g) ∙ n))
   where
     later : (es : List Entry) (j : ℕ) (o : Entry) → Absent f.name es → slice_get es j ≡ Some o → f.name ≡ o.name → ⊥
     later [] j o a h m = none-some h
     later (p ∷ es) zero o a h m =
-        let yes : same_variable p.name f.name ≡ true = rw (ap (λ (q : Entry). q.name) (some-same p o h), m) (same_variable-same o.name) in
+        let yes : same_variable p.name f.name ≡ true = rw (ap (λ (q : Entry). q.name) (same_Some p o h), m) (same_variable-same o.name) in
         let c : false ≡ true = sym a.0 ∙ yes in grind arith
     later (p ∷ es) (suc j) o a h m = later es j o a.1 h m
-distinct-place (f ∷ es) (suc i) zero e o d g h n = absurd (later es i e d.0 g (ap (λ (q : Entry). q.name) (some-same f o h) ∙ sym n))
+distinct-place (f ∷ es) (suc i) zero e o d g h n = absurd (later es i e d.0 g (ap (λ (q : Entry). q.name) (same_Some f o h) ∙ sym n))
   where
     later : (es : List Entry) (j : ℕ) (o : Entry) → Absent f.name es → slice_get es j ≡ Some o → f.name ≡ o.name → ⊥
     later [] j o a h m = none-some h
     later (p ∷ es) zero o a h m =
-        let yes : same_variable p.name f.name ≡ true = rw (ap (λ (q : Entry). q.name) (some-same p o h), m) (same_variable-same o.name) in
+        let yes : same_variable p.name f.name ≡ true = rw (ap (λ (q : Entry). q.name) (same_Some p o h), m) (same_variable-same o.name) in
         let c : false ≡ true = sym a.0 ∙ yes in grind arith
     later (p ∷ es) (suc j) o a h m = later es j o a.1 h m
 distinct-place (f ∷ es) (suc i) (suc j) e o d g h n = ap suc (distinct-place es i j e o d.1 g h n)
@@ -112,12 +112,12 @@ owner-leads : (classes : List Class) (store : List Seen) (frames : List Frame) (
     (i : ℕ) (u : Window) (p : Place) →
     slice_get ws i ≡ Some u → u.owner ≡ Some p → leads_into classes store frames p ≡ Some u.region
 owner-leads classes store frames [] h i u p g e = absurd h
-owner-leads classes store frames (w ∷ []) h zero u p g e = let same : w ≡ u = some-same w u g in
+owner-leads classes store frames (w ∷ []) h zero u p g e = let same : w ≡ u = same_Some w u g in
     none-some (sym h.1 ∙ ap (λ (q : Window). q.owner) same ∙ e)
 owner-leads classes store frames (w ∷ []) h (suc i) u p g e = none-some g
 owner-leads classes store frames (w ∷ v ∷ ws) h zero u p g e =
-    let same : w ≡ u = some-same w u g in
-    let one : h.0.place ≡ p = some-same h.0.place p (sym h.0.named ∙ ap (λ (q : Window). q.owner) same ∙ e) in
+    let same : w ≡ u = same_Some w u g in
+    let one : h.0.place ≡ p = same_Some h.0.place p (sym h.0.named ∙ ap (λ (q : Window). q.owner) same ∙ e) in
     let P : Place → Type 0 = λ q. leads_into classes store frames q ≡ Some w.region in
     subst P one ((h.0.exact h.0.place).1 refl) ∙ ap (λ (q : Window). Some q.region) same
 owner-leads classes store frames (w ∷ v ∷ ws) h (suc i) u p g e = owner-leads classes store frames (v ∷ ws) h.1 i u p g e
@@ -141,7 +141,7 @@ owner-once classes store frames w own under h o n i e l =
     let at = get-front own under r.0 r.1 r.2 in
     let a = owner-leads classes store frames (w ∷ own ++ under) h 0 w (Var n i) refl e in
     let b = owner-leads classes store frames (w ∷ own ++ under) h (suc r.0) r.1 (Var n i) at r.3 in
-    let same : w.region ≡ r.1.region = some-same w.region r.1.region (sym a ∙ b) in
+    let same : w.region ≡ r.1.region = same_Some w.region r.1.region (sym a ∙ b) in
     let no : 0 ≡ suc r.0 = o 0 (suc r.0) w r.1 refl at same in absurd (omega (arith, no))
 
 -- The frame behind an `enter`
@@ -177,7 +177,7 @@ pub record Behind (x : Variable) (fs : List Name) (e o : Entry) : Type 0 where
 pub marked-at : (x : Variable) (es : List Entry) (i : ℕ) (e : Entry) → slice_get es i ≡ Some e →
     slice_get (map (marked_entry x lent) es) i ≡ Some (marked_entry x lent e)
 marked-at x [] i e g = none-some g
-marked-at x (f ∷ es) zero e g = ap (λ q. Some (marked_entry x lent q)) (some-same f e g)
+marked-at x (f ∷ es) zero e g = ap (λ q. Some (marked_entry x lent q)) (same_Some f e g)
 marked-at x (f ∷ es) (suc i) e g = marked-at x es i e g
 
 behind-at : (x : Variable) (fs : List Name) (es os : List Entry) (i : ℕ) (e : Entry) → Keeps (lent_entries x fs es) os → slice_get es i ≡ Some e →

@@ -1,6 +1,8 @@
 -- Regions above open ones are open; a region that hangs beneath an open one may get another owner there.
 use Rattle.std.proofs.Common.{◌≡◌, ◌≢◌, refl, sym, ◌∙◌, ap, subst, ◌⊎◌, inl, inr, ℕ, List, [], ◌∷◌, Option}
 use Rattle.std.proofs.Common.{Some, None, option_and_then, slice_get, slice_set, arith}
+use Rattle.std.proofs.lemmas.Option.{same_Some}
+use Rattle.std.proofs.lemmas.Bool.{cases_eq}
 use Rattle.rg_base.specs.declared.object.Label.{Label}
 use Rattle.rg_base.specs.declared.object.Label.TheVariants.{Region, Temp, Frozen}
 use Rattle.rg_base.specs.declared.object.Place.{Place}
@@ -13,7 +15,7 @@ use Rattle.rg_rules.specs.Regions.{region_of, region_at}
 use Rattle.rg_rules.specs.Owners.{owned_by_slot, owned_by_field, owned_in_field, owned_in_frame, leads_into, Parent, Above, direct, further}
 use Rattle.rg_sound.specs.Objects.{FieldFits, FieldsMeet}
 use Rattle.rg_sound.specs.OpenRegions.{IsNear, AllOwned}
-use Rattle.rg_sound.proofs.Basics.{none-some, same_number, some-same}
+use Rattle.rg_sound.proofs.Basics.{none-some}
 use Rattle.rg_sound.proofs.Owners.OwnerLemmas.{get-set, get-set-other, OwnersCome, AllOwners, AllOwners-map, forest-come, open-come}
 use Rattle.rg_sound.proofs.Owners.DataLemmas.{Data}
 use Rattle.rg_sound.proofs.Owners.ReceiverLemmas.{IsTop}
@@ -117,7 +119,7 @@ split classes old new a leads each p r (further {q = q} b h) = elim (split class
           inr (abover-parent classes old t.target q r t.rest was);
     })
     | inr edge ↦
-        let same : t.source ≡ q = some-same t.source q (sym t.edge.from ∙ edge.from) in
+        let same : t.source ≡ q = same_Some t.source q (sym t.edge.from ∙ edge.from) in
         let P : ℕ → Type 0 = λ z. AboveOr classes old p z in
         inr (record { source = q; target = r; edge = edge; front = subst P same t.front; rest = inl refl })
   ]
@@ -156,7 +158,7 @@ store-put classes store frames ws regions made a o n j owner d there class label
         ∙ owned-label n.label o.label (owned_by_slot classes n i) was label e
 
     fields-both : (b i : ℕ) → ((b ≡ a) → (i ≡ j) → ⊥) → owned_in_field classes (slice_set store a n) b i ≡ owned_in_field classes store b i
-    fields-both b i other = elim (same_number b a) [
+    fields-both b i other = elim (cases_eq b a) [
       | inl at ↦ ap (λ q. owned_in_field classes (slice_set store a n) q i) at ∙ fields-here i (owned_by_slot classes o i) (owns i (λ e. other at e))
           ∙ ap (option_and_then (λ (q : Seen). owned_by_field classes q i)) (sym there) ∙ ap (λ q. owned_in_field classes store q i) (sym at)
       | inr away ↦ ap (option_and_then (λ (q : Seen). owned_by_field classes q i)) (get-set-other store a b n away)
@@ -181,8 +183,8 @@ store-put classes store frames ws regions made a o n j owner d there class label
 
     either : (p : Place) → (p ≡ Field a j) ⊎ (p ≢ Field a j)
     either (Var m i) = inr (λ e. grind arith)
-    either (Field b i) = elim (same_number b a) [
-      | inl at ↦ elim (same_number i j) [
+    either (Field b i) = elim (cases_eq b a) [
+      | inl at ↦ elim (cases_eq i j) [
         | inl same ↦ inl (ap (λ z. Field z i) at ∙ ap (Field a) same)
         | inr other ↦
             inr (λ e. let q : i ≡ j = grind arith in other q)

@@ -1,6 +1,7 @@
 -- The object whose field a statement writes, swaps or enters: it is one of the topmost window, and its field has the declared type.
 use Rattle.std.proofs.Common.{◌≡◌, ◌≢◌, refl, sym, ◌∙◌, ap, subst, ◌⊎◌, inl, inr, ℕ, suc, Bool as Truth, true, false, bytes_eq}
 use Rattle.std.proofs.Common.{if◌then◌else◌, List, [], ◌∷◌, find, Option, Some, None, option_map, option_and_then, unwrap_or, slice_get, Ok, arith}
+use Rattle.std.proofs.lemmas.Option.{same_Some}
 use Rattle.rg_base.specs.declared.words.Cap.{Cap}
 use Rattle.rg_base.specs.declared.words.Cap.TheVariants.{Mut, Tmp, Paused, Imm, Iso}
 use Rattle.rg_base.specs.declared.ty.Ty.{Ty}
@@ -29,7 +30,7 @@ use Rattle.rg_sound.specs.Values.{LabelFits, Leads, MeetsRef, MeetsBy, Meets}
 use Rattle.rg_sound.specs.Objects.{FieldFits, FieldsMeet, ObjectsFit}
 use Rattle.rg_sound.specs.OpenRegions.{AllOwned, OneWindowEach, IsNear}
 use Rattle.rg_sound.specs.Numbers.{Rising}
-use Rattle.rg_sound.proofs.Basics.{none-some, some-same}
+use Rattle.rg_sound.proofs.Basics.{none-some}
 use Rattle.rg_sound.proofs.Owners.OwnerLemmas.{AllOwners}
 use Rattle.rg_sound.proofs.Values.ValueLemmas.{Sees, walk-meets, slot_value, field_value-slot}
 use Rattle.rg_sound.proofs.Owners.WindowLemmas.{rising-below}
@@ -132,7 +133,7 @@ receiver-at classes store ws n env locals fit s x f fs t at o e h k =
     let P : Ty → Type 0 = λ q. Meets store ws q at in
     let Q : Val → Type 0 = λ q. MeetsRef store l.class (LabelFits ws a.0.receiver) q in
     let n : Leads store d.address l.class (LabelFits ws a.0.receiver) = subst Q d.value (subst P l.reference m) in
-    let one : n.object ≡ o = some-same n.object o (sym n.there ∙ d.there) in
+    let one : n.object ≡ o = same_Some n.object o (sym n.there ∙ d.there) in
     let R : Seen → Type 0 = λ q. LabelFits ws a.0.receiver q.label in
     let class_is : o.class ≡ l.class = ap (λ (q : Seen). q.class) (sym one) ∙ n.class_is in
     let ty : field_type classes o.class (last_field f fs) ≡ Some t = ap (λ c. field_type classes c (last_field f fs)) class_is ∙ l.declared
@@ -195,10 +196,10 @@ rest-not_owner classes store frames w [] h d a j o there top = tt
 rest-not_owner classes store frames w (u ∷ []) h d a j o there top = (λ p e. none-some (sym h.1 ∙ e), tt)
 rest-not_owner classes store frames w (u ∷ v ∷ ws) h d a j o there top = (
   λ p e same.
-      let one : h.0.place ≡ Field a j = some-same h.0.place p (sym h.0.named ∙ e) ∙ same in
+      let one : h.0.place ≡ Field a j = same_Some h.0.place p (sym h.0.named ∙ e) ∙ same in
       let P : Place → Type 0 = λ q. IsNear store u v q in
       let near : IsNear store u v (Field a j) = subst P one h.0.near in
-      let here : near.0 ≡ o = some-same near.0 o (sym near.1 ∙ there) in
+      let here : near.0 ≡ o = same_Some near.0 o (sym near.1 ∙ there) in
       let Q : Seen → Type 0 = λ q. (q.label ≡ Region v.region) ⊎ (q.label ≡ Temp v.number) in
       let apart = d 1 v refl in beneath_not w v o apart.0 apart.1 top (subst Q here near.2),
   rest-not_owner classes store frames w (v ∷ ws) h.1 (λ i u g. d (suc i) u g) a j o there top,
@@ -216,10 +217,10 @@ top-not_owner_field classes store frames (w ∷ v ∷ ws) h e r a j o there top 
           absurd (omega (arith, s, l)),
     ) in (
       λ p q same.
-          let one : h.0.place ≡ Field a j = some-same h.0.place p (sym h.0.named ∙ q) ∙ same in
+          let one : h.0.place ≡ Field a j = same_Some h.0.place p (sym h.0.named ∙ q) ∙ same in
           let P : Place → Type 0 = λ z. IsNear store w v z in
           let near : IsNear store w v (Field a j) = subst P one h.0.near in
-          let here : near.0 ≡ o = some-same near.0 o (sym near.1 ∙ there) in
+          let here : near.0 ≡ o = same_Some near.0 o (sym near.1 ∙ there) in
           let Q : Seen → Type 0 = λ z. (z.label ≡ Region v.region) ⊎ (z.label ≡ Temp v.number) in
           let d = apart 0 v refl in beneath_not w v o d.0 d.1 top (subst Q here near.2),
       rest-not_owner classes store frames w (v ∷ ws) h.1 apart a j o there top,

@@ -1,7 +1,7 @@
 -- `swap y, q.f` keeps the invariant.
 use Rattle.std.proofs.Common.{◌≡◌, ◌≢◌, refl, sym, ◌∙◌, ap, subst, ◌⊎◌, inl, inr, ℕ, ◌==◌, Bool as Truth, true, false, if◌then◌else◌, List, []}
 use Rattle.std.proofs.Common.{◌∷◌, length, Option, Some, None, option_and_then, slice_get, slice_set, Ok, arith}
-use Rattle.std.proofs.lemmas.Bool.{and_parts}
+use Rattle.std.proofs.lemmas.Bool.{and_parts, eqb-false}
 use Rattle.rg_base.specs.declared.words.Cap.TheVariants.{Mut, Tmp, Paused, Imm, Iso}
 use Rattle.rg_base.specs.declared.ty.Ty.{Ty}
 use Rattle.rg_base.specs.declared.ty.Ty.TheVariants.{Int, Bool, Ref}
@@ -33,7 +33,7 @@ use Rattle.rg_sound.specs.Values.{IsRegion, MeetsBy, Meets}
 use Rattle.rg_sound.specs.Objects.{TempFieldFits, FieldFits}
 use Rattle.rg_sound.specs.Frames.{Named, Running}
 use Rattle.rg_sound.specs.Laws.{StaysFit, SwapKeeps}
-use Rattle.rg_sound.proofs.Basics.{differ, none-some}
+use Rattle.rg_sound.proofs.Basics.{none-some}
 use Rattle.rg_sound.proofs.Frames.AdvanceLemmas.{running-advance}
 use Rattle.rg_sound.proofs.Frames.NamedLemmas.{Named-set_in, first-at}
 use Rattle.rg_sound.proofs.Frames.EntryLemmas.{Stays, Stays-same}
@@ -150,7 +150,7 @@ store-from t s f fs y e env named there a j o n v at class label owns owner (Fie
         (ap (option_and_then (region_at (slice_set s.store a n))) (sym slot) ∙ h)))
     by true false p q =
         let one : b ≡ a = grind arith in
-        let other : i ≢ j = differ i j q in
+        let other : i ≢ j = eqb-false i j q in
         let slot : owned_in_field t.classes (slice_set s.store a n) b i ≡ owned_in_field t.classes s.store b i =
         ap (λ z. owned_in_field t.classes (slice_set s.store a n) z i) one
         ∙ ap (option_and_then (λ (z : Seen). owned_by_field t.classes z i)) (get-set s.store a n o at)
@@ -161,7 +161,7 @@ store-from t s f fs y e env named there a j o n v at class label owns owner (Fie
           λ z. let k : i ≡ j = grind arith in other k,
         )
     by false k p q =
-        let away : b ≢ a = differ b a p in
+        let away : b ≢ a = eqb-false b a p in
         let slot : owned_in_field t.classes (slice_set s.store a n) b i ≡ owned_in_field t.classes s.store b i =
         ap (option_and_then (λ (z : Seen). owned_by_field t.classes z i)) (get-set-other s.store a b n away) in
         inl (

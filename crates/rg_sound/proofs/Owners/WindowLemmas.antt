@@ -1,6 +1,7 @@
 -- Windows come and go over the same store and frames.
 use Rattle.std.proofs.Common.{◌≡◌, ◌≢◌, refl, sym, ◌∙◌, ap, subst, ◌⊎◌, inl, inr, ℕ, zero, suc, ◌==◌, nat_lt, nat_le, ◌+◌, ◌<◌, ◌≤◌, Bool as Truth}
 use Rattle.std.proofs.Common.{true, false, ◌||◌, ◌&&◌, if◌then◌else◌, List, [], ◌∷◌, length, Some, slice_get, arith}
+use Rattle.std.proofs.lemmas.Option.{same_Some}
 use Rattle.rg_base.specs.declared.words.Cap.{Cap}
 use Rattle.rg_base.specs.declared.words.Cap.TheVariants.{Mut, Tmp, Paused, Imm, Iso}
 use Rattle.rg_base.specs.declared.object.Label.{Label}
@@ -17,7 +18,7 @@ use Rattle.rg_sound.specs.Values.{LabelFits, Meets, ValuesFit}
 use Rattle.rg_sound.specs.Objects.{EndedFieldFits, TempFieldFits, FieldFits, FieldsMeet}
 use Rattle.rg_sound.specs.OpenRegions.{IsNear, OneWindowEach}
 use Rattle.rg_sound.specs.Numbers.{LabelGiven, WindowGiven, Rising}
-use Rattle.rg_sound.proofs.Basics.{none-some, some-same}
+use Rattle.rg_sound.proofs.Basics.{none-some}
 use Rattle.rg_sound.proofs.Values.ValueLemmas.{MeetsBy-map}
 use Rattle.rg_sound.proofs.Owners.DataLemmas.{Data}
 
@@ -97,7 +98,7 @@ rising-from n (u ∷ ws) h =
 
 pub rising-below : (w : Window) (ws : List Window) → Rising (w ∷ ws) → (i : ℕ) (u : Window) → slice_get ws i ≡ Some u → u.number < w.number
 rising-below w [] h i u g = none-some g
-rising-below w (v ∷ ws) h zero u g = let same : v ≡ u = some-same v u g in rw (← same) h.0
+rising-below w (v ∷ ws) h zero u g = let same : v ≡ u = same_Some v u g in rw (← same) h.0
 rising-below w (v ∷ ws) h (suc i) u g = let l = rising-below v ws h.1 i u g in omega (arith, l, h.0)
 
 rising-tail : (w : Window) (ws : List Window) → Rising (w ∷ ws) → Rising ws
@@ -203,11 +204,11 @@ push-window classes store frames w v ws regions made d front below is = record {
     more-given Frozen h = tt
 
     given : (i : ℕ) (u : Window) → slice_get (w ∷ v ∷ ws) i ≡ Some u → WindowGiven regions (made + 1) u
-    given zero u e = let same : w ≡ u = some-same w u e in rw (← same) (record { region = below; number = let n = is.number in omega (arith, n) })
+    given zero u e = let same : w ≡ u = same_Some w u e in rw (← same) (record { region = below; number = let n = is.number in omega (arith, n) })
     given (suc i) u e = let g = d.numbers.given i u e in record { region = g.region; number = let n = g.number in omega (arith, n) }
 
     each : OneWindowEach (w ∷ v ∷ ws)
     each zero zero u x a b c = refl
-    each zero (suc j) u x a b c = let same : w ≡ u = some-same w u a in absurd (is.not_open j x b (sym c ∙ ap (λ (q : Window). q.region) (sym same)))
-    each (suc i) zero u x a b c = let same : w ≡ x = some-same w x b in absurd (is.not_open i u a (c ∙ ap (λ (q : Window). q.region) (sym same)))
+    each zero (suc j) u x a b c = let same : w ≡ u = same_Some w u a in absurd (is.not_open j x b (sym c ∙ ap (λ (q : Window). q.region) (sym same)))
+    each (suc i) zero u x a b c = let same : w ≡ x = same_Some w x b in absurd (is.not_open i u a (c ∙ ap (λ (q : Window). q.region) (sym same)))
     each (suc i) (suc j) u x a b c = ap suc (d.opened.one_each i j u x a b c)

@@ -1,6 +1,7 @@
 -- The regions beneath others: owner references from them lead to no other, after as many links as regions were made.
 use Rattle.std.proofs.Common.{◌≡◌, refl, sym, ◌∙◌, ap, subst, ◌⊎◌, inl, inr, ℕ, zero, suc, ◌<◌, ◌≤◌, Bool as Truth, true, false, if◌then◌else◌, List}
 use Rattle.std.proofs.Common.{[], ◌∷◌, ◌++◌, filter_map, Option, Some, None, option_and_then, option_to_list, slice_get, arith}
+use Rattle.std.proofs.lemmas.Option.{same_Some}
 use Rattle.rg_base.specs.declared.object.Label.{Label}
 use Rattle.rg_base.specs.declared.object.Label.TheVariants.{Region, Temp, Frozen}
 use Rattle.rg_base.specs.declared.object.Seen.{Seen}
@@ -12,7 +13,7 @@ use Rattle.rg_rules.specs.Regions.{region_of, region_at, owned_as, owned_in, own
 use Rattle.rg_rules.specs.Owners.{owned_by_slot, owned_by_field, Parent, Above, direct, further}
 use Rattle.rg_rules.proofs.RegionLemmas.{beneath-suc}
 use Rattle.rg_sound.specs.Numbers.{LabelGiven}
-use Rattle.rg_sound.proofs.Basics.{none-some, some-same}
+use Rattle.rg_sound.proofs.Basics.{none-some}
 use Rattle.rg_sound.proofs.Owners.DataLemmas.{Data}
 use Rattle.rg_sound.proofs.Stores.MemberLemmas.{In, among-in, in-among, in-left, in-right, in-split, joined-old, joined-new, joined-back, missing}
 use Rattle.rg_sound.proofs.Stores.MemberLemmas.{filter-in}
@@ -36,7 +37,7 @@ owned-in classes (f ∷ fs) (v ∷ vs) zero a h = in-left (option_to_list (owned
   where
     by : (o : Option ℕ) → o ≡ Some a → In a (option_to_list o)
     by None e = none-some e
-    by (Some b) e = inl (some-same b a e)
+    by (Some b) e = inl (same_Some b a e)
 owned-in classes (f ∷ fs) (v ∷ vs) (suc k) a h = in-right (option_to_list (owned_as classes f v)) (owned_in classes fs vs) a
     (owned-in classes fs vs k a h)
 
@@ -107,9 +108,9 @@ led-in classes store test (o ∷ os) r h = by h.object h.there (test o.label) re
     by : (n : ℕ) → slice_get (o ∷ os) n ≡ Some h.holder → (b : Truth) → test o.label ≡ b →
         (Led classes store test os r → In r (led_from classes store test os)) →
         In r (if b then filter_map (region_at store) (owned_by classes o) ++ led_from classes store test os else led_from classes store test os)
-    by zero at true e rest = let same : o ≡ h.holder = some-same o h.holder at in
+    by zero at true e rest = let same : o ≡ h.holder = same_Some o h.holder at in
         in-left _ _ r (here (ap (λ (q : Seen). owned_by_field classes q h.field) same))
-    by zero at false e rest = let same : o ≡ h.holder = some-same o h.holder at in
+    by zero at false e rest = let same : o ≡ h.holder = same_Some o h.holder at in
         let c : true ≡ false = sym h.passes ∙ ap (λ (q : Seen). test q.label) (sym same) ∙ e in grind arith
     by (suc n) at true e rest = in-right _ _ r
         (rest (record { object = n; field = h.field; holder = h.holder; there = at; passes = h.passes; leads = h.leads }))
@@ -143,7 +144,7 @@ parent-led : (classes : List Class) (store : List Seen) (rs : List ℕ) (p r : �
 parent-led classes store rs p r i h = by (slice_get store h.object) refl
   where
     label : (l : Label) → region_of l ≡ Some p → in_regions rs l ≡ true
-    label (Region q) e = let P : ℕ → Type 0 = λ z. In z rs in in-among rs q (subst P (sym (some-same q p e)) i)
+    label (Region q) e = let P : ℕ → Type 0 = λ z. In z rs in in-among rs q (subst P (sym (same_Some q p e)) i)
     label (Temp n) e = none-some e
     label Frozen e = none-some e
 
@@ -189,7 +190,7 @@ pub region-given : (classes : List Class) (store : List Seen) (frames : List Fra
 region-given classes store frames ws regions made d b r e = by (slice_get store b) refl e
   where
     label-given : (l : Label) → LabelGiven regions made l → region_of l ≡ Some r → r < regions
-    label-given (Region n) g k = let one : n ≡ r = some-same n r k in omega (arith, g, one)
+    label-given (Region n) g k = let one : n ≡ r = same_Some n r k in omega (arith, g, one)
     label-given (Temp n) g k = none-some k
     label-given Frozen g k = none-some k
 

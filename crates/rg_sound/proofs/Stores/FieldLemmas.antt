@@ -1,6 +1,8 @@
 -- `q.f = r` keeps the invariant.
 use Rattle.std.proofs.Common.{◌≡◌, ◌≢◌, refl, sym, ◌∙◌, ap, subst, ◌⊎◌, inl, ◌↔◌, ℕ, ◌==◌, Bool as Truth, true, false, if◌then◌else◌, List, [], ◌∷◌}
 use Rattle.std.proofs.Common.{length, Option, Some, None, option_and_then, slice_get, slice_set, Ok, arith, IsTrue, option_map}
+use Rattle.std.proofs.lemmas.Option.{same_Some}
+use Rattle.std.proofs.lemmas.Bool.{eqb-false}
 use Rattle.rg_base.specs.declared.words.Cap.{Cap}
 use Rattle.rg_base.specs.declared.words.Cap.TheVariants.{Mut, Tmp, Paused, Imm, Iso}
 use Rattle.rg_base.specs.declared.ty.Ty.{Ty}
@@ -35,7 +37,6 @@ use Rattle.rg_sound.specs.Objects.{IsTemp, FieldFits, ObjectFits}
 use Rattle.rg_sound.specs.Frames.{FramesFit, Running}
 use Rattle.rg_sound.specs.Writes.{Allowed, Writable}
 use Rattle.rg_sound.specs.Laws.{StaysFit, KindKeeps}
-use Rattle.rg_sound.proofs.Basics.{differ, some-same}
 use Rattle.rg_sound.proofs.Frames.AdvanceLemmas.{running-advance}
 use Rattle.rg_sound.proofs.Frames.QuietLemmas.{allowed-same}
 use Rattle.rg_sound.proofs.Frames.JudgeLemmas.{FieldAssigned, judge_assign-field, judge_assign-stays}
@@ -57,7 +58,7 @@ field-suits t a old store ws o x cap c fit f r label =
     let j = judge_headers-field t.classes o.class x f.field (Accepted-parts t a).headers f.found in
     let h = then-ok (good_type t.classes f.field.ty) _ tt j.passed in
     let suits = test-ok (suits_field_type f.field.ty j.class.is_tmp) BadType tt h.2 in
-    let one : fit.class ≡ j.class = some-same fit.class j.class (sym fit.class_is ∙ j.at) in
+    let one : fit.class ≡ j.class = same_Some fit.class j.class (sym fit.class_is ∙ j.at) in
     let P : Label → Type 0 = λ q. IsTemp q ↔ IsTrue fit.class.is_tmp in
     let l = subst P label fit.label_is in
     let ordinary : j.class.is_tmp ≡ false = ap (λ (q : Class). q.is_tmp) (sym one) ∙ not_true fit.class.is_tmp (λ e. l.1 e) in
@@ -110,7 +111,7 @@ owns-same classes o k j f old v at iso there = by (j == k) refl
         ∙ sym (nothing (is_iso (type_of classes f.ty)) old iso)
         ∙ sym old_is ∙ ap (owned_by_slot classes o) (sym same)
     by false e =
-        let other : j ≢ k = differ j k e in
+        let other : j ≢ k = eqb-false j k e in
         ap (λ (q : Option Val). option_and_then (λ (g : FieldOfClass). option_and_then (owned_as classes g) q)
         (slice_get (fields_of classes o.class) j)) (get-set-other o.fields k j v other)
 
@@ -135,10 +136,10 @@ allowed-then s v u rest a o n there is top before b w = by (b == a) refl
     by : (c : Truth) → (b == a) ≡ c → Writable s w.object.label
     by true e =
         let same : b ≡ a = grind arith in
-        let one : o ≡ w.object = some-same o w.object (sym there ∙ ap (slice_get s.store) (sym same) ∙ w.there) in
+        let one : o ≡ w.object = same_Some o w.object (sym there ∙ ap (slice_get s.store) (sym same) ∙ w.there) in
         let P : Seen → Type 0 = λ q. Writable s q.label in subst P one (top-writable s.windows o.label top)
     by false e =
-        let other : b ≢ a = differ b a e in
+        let other : b ≢ a = eqb-false b a e in
         let after : slice_get u.store b ≡ slice_get v.store b = ap (λ q. slice_get q b) is ∙ get-set-other v.store a b n other in
         before b (record { object = w.object; there = w.there; differ = λ h. w.differ (ap (option_map (λ (q : Seen). q.fields)) after ∙ h) })
 

@@ -2,6 +2,7 @@
 -- from each other.
 use Rattle.std.proofs.Common.{◌≡◌, refl, sym, ◌∙◌, ap, subst, ◌⊎◌, inl, inr, ◌↔◌, ℕ, suc, Bool as Truth, true, false, if◌then◌else◌, List, [], ◌∷◌}
 use Rattle.std.proofs.Common.{length, Option, Some, None, option_map, option_and_then, slice_get, arith, IsTrue}
+use Rattle.std.proofs.lemmas.Option.{same_Some}
 use Rattle.rg_base.specs.declared.words.Cap.{Cap}
 use Rattle.rg_base.specs.declared.words.Cap.TheVariants.{Iso}
 use Rattle.rg_base.specs.declared.ty.Ty.{Ty}
@@ -25,7 +26,7 @@ use Rattle.rg_sound.specs.Values.{IsRegion, LabelFits, MeetsBy, ValuesFit}
 use Rattle.rg_sound.specs.Objects.{IsTemp, FieldFits, FieldsMeet, ObjectFits, ObjectsFit}
 use Rattle.rg_sound.specs.OpenRegions.{IsNear, AllOwned}
 use Rattle.rg_sound.specs.Numbers.{LabelGiven}
-use Rattle.rg_sound.proofs.Basics.{none-some, some-same}
+use Rattle.rg_sound.proofs.Basics.{none-some}
 use Rattle.rg_sound.proofs.Owners.OwnerLemmas.{leads-top}
 use Rattle.rg_sound.proofs.Owners.DataLemmas.{Data}
 use Rattle.rg_sound.proofs.Values.LabelLemmas.{windows_of-open, windows_from-open}
@@ -54,7 +55,7 @@ module _ (rs : List ℕ) where
         by : (o : Option Seen) → slice_get store b ≡ o → option_map (relabelled_object rs Frozen) o ≡ Some n →
             (o : Seen) × (slice_get store b ≡ Some o) × (n ≡ relabelled_object rs Frozen o)
         by None x h = none-some h
-        by (Some o) x h = (o, x, sym (some-same (relabelled_object rs Frozen o) n h))
+        by (Some o) x h = (o, x, sym (same_Some (relabelled_object rs Frozen o) n h))
 
     -- a value keeps meeting its type, where what is known of its owner reference is enough for its label
     meets-frozen : (F G : Cap → Label → Type 0) (Ok : ℕ → Type 0) (t : Ty) (v : Val) →
@@ -124,7 +125,7 @@ module _ (rs : List ℕ) where
       where
         label : (l : Label) → region_of l ≡ Some r → region_of (frozen_label rs l) ≡ Some r
         label (Region q) e =
-            let same : q ≡ r = some-same q r e in let P : ℕ → Type 0 = λ z. In z rs → ⊥ in
+            let same : q ≡ r = same_Some q r e in let P : ℕ → Type 0 = λ z. In z rs → ⊥ in
             ap region_of (frozen-out rs q (subst P (sym same) out)) ∙ e
         label (Temp n) e = none-some e
         label Frozen e = none-some e
@@ -298,7 +299,7 @@ module _ (rs : List ℕ) where
                 subst P (sym (frozen-out rs r out)) (fields-frozen (FieldFits ws (Region r)) (FieldFits ws (Region r)) (λ q. In q rs → ⊥)
                 (fields_of classes o.class) o.fields
                 (λ k q z. outside (Region r) g (inr (r, refl)) (λ y x i. let Q : ℕ → Type 0 = λ z. In z rs in
-                out (subst Q (sym (some-same r y x)) i)) k q z)
+                out (subst Q (sym (same_Some r y x)) i)) k q z)
                 (λ k q away h. region-fits rs ws shut r out k q away h) m))
           ]
           by_label (Temp n) g m = fields-frozen (FieldFits ws (Temp n)) (FieldFits ws (Temp n)) (λ q. In q rs → ⊥) (fields_of classes o.class)

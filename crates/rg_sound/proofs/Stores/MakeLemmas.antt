@@ -2,7 +2,7 @@
 use Rattle.std.proofs.Common.{◌≡◌, refl, sym, ◌∙◌, ap, subst, ◌↔◌, ℕ, suc, ◌<◌, ◌≤◌, Bool as Truth, true, false, bytes_eq, if◌then◌else◌, List, []}
 use Rattle.std.proofs.Common.{◌∷◌, ◌++◌, length, Option, Some, None, ok_or, option_and_then, slice_get, Ok, arith, IsTrue, option_map}
 use Rattle.std.proofs.lemmas.List.{length-append}
-use Rattle.std.proofs.lemmas.Option.{slice_get_within}
+use Rattle.std.proofs.lemmas.Option.{slice_get_within, same_Some}
 use Rattle.rg_base.specs.declared.words.Cap.{Cap}
 use Rattle.rg_base.specs.declared.words.Cap.TheVariants.{Mut, Tmp, Iso}
 use Rattle.rg_base.specs.declared.words.Manager.{Manager}
@@ -33,7 +33,7 @@ use Rattle.rg_sound.specs.Objects.{IsTemp, FieldFits}
 use Rattle.rg_sound.specs.Numbers.{LabelGiven}
 use Rattle.rg_sound.specs.Frames.{Running}
 use Rattle.rg_sound.specs.Writes.{Allowed}
-use Rattle.rg_sound.proofs.Basics.{none-some, some-same}
+use Rattle.rg_sound.proofs.Basics.{none-some}
 use Rattle.rg_sound.proofs.Owners.OwnerLemmas.{get-snoc-other}
 use Rattle.rg_sound.proofs.Owners.DataLemmas.{Data}
 use Rattle.rg_sound.proofs.Values.RightLemmas.{OwnsFreshAs, Gives, not_iso-fresh}
@@ -187,7 +187,7 @@ new_iso-righted x m t s f fs later run top at d target put wanted j typed u h =
     (s.managers ++ m ∷ []) (omega (arith, long)) (omega (arith, long))
     (length s.managers, refl)
     (λ r e.
-    let same : length s.managers ≡ r = some-same (length s.managers) r (sym region ∙ e) in (
+    let same : length s.managers ≡ r = same_Some (length s.managers) r (sym region ∙ e) in (
       λ zeroth. let l = w.2 in absurd (omega (arith, l, same, zeroth)),
       λ p g. not-led p r same (sym (leads-more t.classes s.store (f ∷ fs) s.windows (length s.managers) s.windows_made o d
           (new-owns t.classes x label) p) ∙ g),

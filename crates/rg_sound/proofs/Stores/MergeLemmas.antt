@@ -1,6 +1,7 @@
 -- `merge y`: the objects of a region that nothing owns any more go to the active one.
 use Rattle.std.proofs.Common.{◌≡◌, ◌≢◌, refl, sym, ◌∙◌, ap, subst, ◌⊎◌, inl, inr, ◌↔◌, ℕ, ◌==◌, ◌<◌, Bool as Truth, true, false, if◌then◌else◌, List}
 use Rattle.std.proofs.Common.{[], ◌∷◌, length, Option, Some, None, is_some, option_map, option_and_then, slice_get, arith, IsTrue}
+use Rattle.std.proofs.lemmas.Option.{same_Some}
 use Rattle.rg_base.specs.declared.words.Cap.{Cap}
 use Rattle.rg_base.specs.declared.ty.Ty.{Ty}
 use Rattle.rg_base.specs.declared.ty.Ty.TheVariants as ty
@@ -22,7 +23,7 @@ use Rattle.rg_sound.specs.Values.{LabelFits, MeetsBy, ValuesFit}
 use Rattle.rg_sound.specs.Objects.{IsTemp, FieldFits, FieldsMeet, ObjectsFit}
 use Rattle.rg_sound.specs.OpenRegions.{IsNear, AllOwned}
 use Rattle.rg_sound.specs.Numbers.{LabelGiven}
-use Rattle.rg_sound.proofs.Basics.{none-some, some-same}
+use Rattle.rg_sound.proofs.Basics.{none-some}
 use Rattle.rg_sound.proofs.Owners.DataLemmas.{Data}
 use Rattle.rg_sound.proofs.Values.LabelLemmas.{windows_of-open}
 use Rattle.rg_sound.proofs.Owners.OpenLemmas.{IsOpenIn, above-open, open-owned, above-trans}
@@ -102,7 +103,7 @@ module _ (classes : List Class) (store : List Seen) (frames : List Frame) (ws : 
       by : (o : Option Seen) → slice_get store b ≡ o → option_map (relabelled_object (g ∷ []) (Region a)) o ≡ Some n →
           (o : Seen) × (slice_get store b ≡ Some o) × (n ≡ relabelled_object (g ∷ []) (Region a) o)
       by None x h = none-some h
-      by (Some o) x h = (o, x, sym (some-same (relabelled_object (g ∷ []) (Region a) o) n h))
+      by (Some o) x h = (o, x, sym (same_Some (relabelled_object (g ∷ []) (Region a) o) n h))
 
   region-label : (l : Label) → (region_of l ≡ Some g → ⊥) → region_of (merged_label g a l) ≡ region_of l
   region-label (Region r) h = by (g == r) refl
@@ -185,10 +186,10 @@ module _ (classes : List Class) (store : List Seen) (frames : List Frame) (ws : 
           label o.label was now
         where
           label : (l : Label) → region_of l ≡ Some g → region_of (merged_label g a l) ≡ Some p → p ≡ a
-          label (Region q) w z = test (g == q) refl (some-same q g w) z
+          label (Region q) w z = test (g == q) refl (same_Some q g w) z
             where
               test : (b : Truth) → (g == q) ≡ b → q ≡ g → region_of (if b then Region a else Region q) ≡ Some p → p ≡ a
-              test true e s z = sym (some-same a p z)
+              test true e s z = sym (same_Some a p z)
               test false e s z = let yes_it : (g == q) ≡ true = grind arith in let c : true ≡ false = sym yes_it ∙ e in grind arith
           label (Temp q) w z = none-some w
           label Frozen w z = none-some w
@@ -203,7 +204,7 @@ module _ (classes : List Class) (store : List Seen) (frames : List Frame) (ws : 
               let here : region_at store h.object ≡ Some g = e ∙ ap Some same in
               inr (gone (slice_get store h.object) refl here, record { object = h.object; field = h.field; lies = here; leads = leads })
           test false x =
-              let other : region_at store h.object ≡ Some g → ⊥ = λ k. let s : q ≡ g = some-same q g (sym e ∙ k) in
+              let other : region_at store h.object ≡ Some g → ⊥ = λ k. let s : q ≡ g = same_Some q g (sym e ∙ k) in
               let yes_it : (g == q) ≡ true = grind arith in let c : true ≡ false = sym yes_it ∙ x in grind arith in
               inl (record { object = h.object; field = h.field; lies = sym (region-same h.object other) ∙ h.lies; leads = leads })
 

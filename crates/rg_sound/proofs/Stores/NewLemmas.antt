@@ -2,7 +2,8 @@
 use Rattle.std.proofs.Common.{◌≡◌, refl, sym, ◌∙◌, ap, subst, inl, inr, ◌↔◌, ℕ, zero, suc, ◌<◌, ◌≤◌, Bool as Truth, true, false}
 use Rattle.std.proofs.Common.{if◌then◌else◌, List, [], ◌∷◌, ◌++◌, length, map, Option, Some, None, option_and_then, slice_get, arith, IsTrue}
 use Rattle.std.proofs.lemmas.List.{length-append}
-use Rattle.std.proofs.lemmas.Option.{slice_get_within, slice_get_past}
+use Rattle.std.proofs.lemmas.Option.{slice_get_within, slice_get_past, same_Some}
+use Rattle.std.proofs.lemmas.Bool.{cases_eq}
 use Rattle.rg_base.specs.declared.words.Cap.{Cap}
 use Rattle.rg_base.specs.declared.object.Label.{Label}
 use Rattle.rg_base.specs.declared.object.Label.TheVariants.{Region, Temp, Frozen}
@@ -24,7 +25,7 @@ use Rattle.rg_sound.specs.Values.{MeetsBy, ValuesFit}
 use Rattle.rg_sound.specs.Objects.{IsTemp, FieldFits, FieldsMeet, ObjectFits, ObjectsFit}
 use Rattle.rg_sound.specs.OpenRegions.{IsNear}
 use Rattle.rg_sound.specs.Numbers.{LabelGiven}
-use Rattle.rg_sound.proofs.Basics.{none-some, same_number, some-same}
+use Rattle.rg_sound.proofs.Basics.{none-some}
 use Rattle.rg_sound.proofs.Owners.OwnerLemmas.{get-snoc-other, frame_at-top, frame_at-lower, OwnersCome, AllOwners, forest-come}
 use Rattle.rg_sound.proofs.Owners.OwnerLemmas.{open-come}
 use Rattle.rg_sound.proofs.Owners.DataLemmas.{Data, Nothing, Within, meets-within}
@@ -34,9 +35,9 @@ use Rattle.rg_sound.proofs.Stores.ReplaceLemmas.{KeepsObjects, values-kept, Fiel
 local-within : (store : List Seen) (ws : List Window) (fs : List Frame) → ValuesFit store ws fs → (n i : ℕ) (f : Frame) (l : Local) →
     frame_at fs n ≡ Some f → slice_get f.locals i ≡ Some l → Within (length store) l.value
 local-within store ws [] h n i f l a b = none-some a
-local-within store ws (g ∷ fs) h n i f l a b = elim (same_number n (length fs)) [
+local-within store ws (g ∷ fs) h n i f l a b = elim (cases_eq n (length fs)) [
   | inl at ↦
-      let one : g ≡ f = some-same g f (sym (frame_at-top g fs) ∙ ap (frame_at (g ∷ fs)) (sym at) ∙ a) in
+      let one : g ≡ f = same_Some g f (sym (frame_at-top g fs) ∙ ap (frame_at (g ∷ fs)) (sym at) ∙ a) in
       meets-within store _ l.ty l.value (h.0 i l (ap (λ (q : Frame). slice_get q.locals i) one ∙ b))
   | inr away ↦ local-within store ws fs h.1 n i f l (sym (frame_at-lower g fs n away) ∙ a) b
 ]
@@ -48,7 +49,7 @@ field-within classes store F [] [] h k v e = none-some e
 field-within classes store F [] (w ∷ vs) h k v e = absurd h
 field-within classes store F (f ∷ fs) [] h k v e = absurd h
 field-within classes store F (f ∷ fs) (w ∷ vs) h zero v e =
-    let P : Val → Type 0 = λ q. Within (length store) q in subst P (some-same w v e) (meets-within store F (type_of classes f.ty) w h.0)
+    let P : Val → Type 0 = λ q. Within (length store) q in subst P (same_Some w v e) (meets-within store F (type_of classes f.ty) w h.0)
 field-within classes store F (f ∷ fs) (w ∷ vs) h (suc k) v e = field-within classes store F fs vs h.1 k v e
 
 -- fields at their start meet their types
@@ -65,7 +66,7 @@ opening-meets classes store F (f ∷ fs) = (one f.ty, opening-meets classes stor
 pub opening-address : (fs : List FieldOfClass) (j : ℕ) (v : Val) → slice_get (map (λ (f : FieldOfClass). opening_value f.ty) fs) j ≡ Some v →
     address v ≡ None
 opening-address [] j v h = none-some h
-opening-address (f ∷ fs) zero v h = ap address (sym (some-same (opening_value f.ty) v h)) ∙ one f.ty
+opening-address (f ∷ fs) zero v h = ap address (sym (same_Some (opening_value f.ty) v h)) ∙ one f.ty
   where
     one : (w : WrittenTy) → address (opening_value w) ≡ None
     one int = refl
@@ -119,7 +120,7 @@ leads-more classes store frames ws regions made o d owns p = same p
     owned-in true val.Nil a i e = none-some e
     owned-in true (val.Int z) a i e = none-some e
     owned-in true (val.Bool z) a i e = none-some e
-    owned-in true (val.Obj b) a i e = let same : b ≡ a = some-same b a e in omega (arith, i, same)
+    owned-in true (val.Obj b) a i e = let same : b ≡ a = same_Some b a e in omega (arith, i, same)
     owned-in false v a i e = none-some e
 
     frame-in : (n i a : ℕ) → owned_in_frame frames n i ≡ Some a → a < length store
@@ -135,7 +136,7 @@ leads-more classes store frames ws regions made o d owns p = same p
             local (Some l) g k = owned-in (is_iso l.ty) l.value a (local-within store ws frames d.values n i f l e g) k
 
     field-old : (a j : ℕ) → owned_in_field classes (store ++ o ∷ []) a j ≡ owned_in_field classes store a j
-    field-old a j = elim (same_number a (length store)) [
+    field-old a j = elim (cases_eq a (length store)) [
       | inl at ↦ ap (λ q. owned_in_field classes (store ++ o ∷ []) q j) at
           ∙ ap (option_and_then (λ (q : Seen). owned_by_field classes q j)) (slice_get-push store o) ∙ owns j
           ∙ ap (option_and_then (λ (q : Seen). owned_by_field classes q j)) (sym (slice_get_past store a (omega (arith, at))))
@@ -195,8 +196,8 @@ store-more classes store frames ws regions more made o d bound given owns c clas
     more_given Frozen h = tt
 
     by_address : (a : ℕ) (p : Seen) → slice_get (store ++ o ∷ []) a ≡ Some p → (P : Seen → Type 0) → (slice_get store a ≡ Some p → P p) → P o → P p
-    by_address a p e P was now = elim (same_number a (length store)) [
-      | inl at ↦ let one : o ≡ p = some-same o p (sym (slice_get-push store o) ∙ ap (slice_get (store ++ o ∷ [])) (sym at) ∙ e) in subst P one now
+    by_address a p e P was now = elim (cases_eq a (length store)) [
+      | inl at ↦ let one : o ≡ p = same_Some o p (sym (slice_get-push store o) ∙ ap (slice_get (store ++ o ∷ [])) (sym at) ∙ e) in subst P one now
       | inr away ↦ was (sym (get-snoc-other store o a away) ∙ e)
     ]
 
@@ -224,7 +225,7 @@ store-more classes store frames ws regions more made o d bound given owns c clas
           object = h.object;
           field = h.field;
           leads = leads;
-          lies = elim (same_number h.object (length store)) [
+          lies = elim (cases_eq h.object (length store)) [
             | inl at ↦ none-some (sym (ap (λ (q : Option Seen). option_and_then (region_at store)
                 (option_and_then (λ (z : Seen). owned_by_field classes z h.field) q)) (slice_get_past store h.object (omega (arith, at)))) ∙ leads)
             | inr away ↦ sym (ap (option_and_then (λ (q : Seen). region_of q.label)) (get-snoc-other store o h.object away)) ∙ h.lies

@@ -1,6 +1,8 @@
 -- An object of the store is replaced by another of its class and label: what stays of values, regions and the other objects.
 use Rattle.std.proofs.Common.{◌≡◌, refl, sym, ◌∙◌, ap, subst, ◌⊎◌, inl, inr, ◌↔◌, ℕ}
 use Rattle.std.proofs.Common.{List, [], ◌∷◌, length, Option, Some, None, option_and_then, slice_get, slice_set, IsTrue}
+use Rattle.std.proofs.lemmas.Option.{same_Some}
+use Rattle.std.proofs.lemmas.Bool.{cases_eq}
 use Rattle.rg_base.specs.declared.words.Cap.{Cap}
 use Rattle.rg_base.specs.declared.ty.Ty.{Ty}
 use Rattle.rg_base.specs.declared.ty.Ty.TheVariants.{Int, Bool, Ref}
@@ -20,7 +22,6 @@ use Rattle.rg_sound.specs.Values.{LabelFits, MeetsRef, MeetsBy, ValuesFit}
 use Rattle.rg_sound.specs.Objects.{IsTemp, FieldFits, FieldsMeet, ObjectFits, ObjectsFit}
 use Rattle.rg_sound.specs.OpenRegions.{IsNear}
 use Rattle.rg_sound.specs.Numbers.{LabelGiven}
-use Rattle.rg_sound.proofs.Basics.{same_number, some-same}
 use Rattle.rg_sound.proofs.Owners.OwnerLemmas.{get-set, get-set-other}
 
 -- each object is still there, with its class and its label
@@ -72,16 +73,16 @@ module _ (store : List Seen) (a : ℕ) (o n : Seen) (there : slice_get store a �
   -- what holds of the new object, and of each other one, holds of all
   replaced-each : (b : ℕ) (p : Seen) → slice_get (slice_set store a n) b ≡ Some p → (P : Seen → Type 0) → (slice_get store b ≡ Some p → P p) →
       P n → P p
-  replaced-each b p e P old new = elim (same_number b a) [
-    | inl at ↦ let one : n ≡ p = some-same n p (sym (get-set store a n o there) ∙ ap (slice_get (slice_set store a n)) (sym at) ∙ e) in
+  replaced-each b p e P old new = elim (cases_eq b a) [
+    | inl at ↦ let one : n ≡ p = same_Some n p (sym (get-set store a n o there) ∙ ap (slice_get (slice_set store a n)) (sym at) ∙ e) in
         subst P one new
     | inr away ↦ old (sym (get-set-other store a b n away) ∙ e)
   ]
 
   pub replaced-keeps : KeepsObjects store (slice_set store a n)
-  replaced-keeps b p e = elim (same_number b a) [
+  replaced-keeps b p e = elim (cases_eq b a) [
     | inl at ↦
-        let one : o ≡ p = some-same o p (sym there ∙ ap (slice_get store) (sym at) ∙ e) in (
+        let one : o ≡ p = same_Some o p (sym there ∙ ap (slice_get store) (sym at) ∙ e) in (
           n,
           ap (slice_get (slice_set store a n)) at ∙ get-set store a n o there,
           class ∙ ap (λ (q : Seen). q.class) one,
@@ -92,7 +93,7 @@ module _ (store : List Seen) (a : ℕ) (o n : Seen) (there : slice_get store a �
   ]
 
   pub replaced-region : (b : ℕ) → region_at (slice_set store a n) b ≡ region_at store b
-  replaced-region b = elim (same_number b a) [
+  replaced-region b = elim (cases_eq b a) [
     | inl at ↦ ap (region_at (slice_set store a n)) at ∙ ap (option_and_then (λ (q : Seen). region_of q.label)) (get-set store a n o there)
         ∙ ap (λ q. region_of q) label
         ∙ ap (option_and_then (λ (q : Seen). region_of q.label)) (sym there) ∙ ap (region_at store) (sym at)

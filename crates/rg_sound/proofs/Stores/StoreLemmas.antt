@@ -1,6 +1,8 @@
 -- A field is written: what is said of store, frames and windows stays.
 use Rattle.std.proofs.Common.{◌≡◌, ◌≢◌, refl, sym, ◌∙◌, ap, subst, inl, inr, ℕ, zero, suc, ◌==◌, Bool as Truth, true, if◌then◌else◌}
 use Rattle.std.proofs.Common.{List, [], ◌∷◌, Option, Some, None, option_and_then, slice_get, slice_set, arith}
+use Rattle.std.proofs.lemmas.Option.{same_Some}
+use Rattle.std.proofs.lemmas.Bool.{cases_eq}
 use Rattle.rg_base.specs.declared.words.Cap.{Cap}
 use Rattle.rg_base.specs.declared.words.Cap.TheVariants.{Mut, Tmp, Paused, Imm, Iso}
 use Rattle.rg_base.specs.declared.object.Label.{Label}
@@ -17,7 +19,7 @@ use Rattle.rg_rules.specs.Owners.{owned_by_slot, owned_by_field, owned_in_field,
 use Rattle.rg_sound.specs.Windows.{windows_from}
 use Rattle.rg_sound.specs.Values.{LabelFits, MeetsBy}
 use Rattle.rg_sound.specs.Objects.{RegionFieldFits, TempFieldFits, FieldFits, FieldsMeet}
-use Rattle.rg_sound.proofs.Basics.{none-some, same_number, some-same}
+use Rattle.rg_sound.proofs.Basics.{none-some}
 use Rattle.rg_sound.proofs.Owners.OwnerLemmas.{get-set, get-set-other, OwnersCome, AllOwners, forest-come, open-come}
 use Rattle.rg_sound.proofs.Owners.DataLemmas.{Data, Nothing}
 use Rattle.rg_sound.proofs.Owners.ReceiverLemmas.{IsTop}
@@ -32,7 +34,7 @@ FieldsMeet-set classes store F [] [] k f v m g b = none-some g
 FieldsMeet-set classes store F [] (w ∷ vs) k f v m g b = absurd m
 FieldsMeet-set classes store F (e ∷ fs) [] k f v m g b = absurd m
 FieldsMeet-set classes store F (e ∷ fs) (w ∷ vs) zero f v m g b =
-    let same : f ≡ e = sym (some-same e f g) in
+    let same : f ≡ e = sym (same_Some e f g) in
     let P : FieldOfClass → Type 0 = λ q. MeetsBy store F (type_of classes q.ty) v in (subst P same b, m.1)
 FieldsMeet-set classes store F (e ∷ fs) (w ∷ vs) (suc k) f v m g b = (m.0, FieldsMeet-set classes store F fs vs k f v m.1 g b)
 
@@ -116,7 +118,7 @@ store-set classes store frames ws regions made a o n d there class label owns me
 }
   where
     fields-both : (b j : ℕ) → owned_in_field classes (slice_set store a n) b j ≡ owned_in_field classes store b j
-    fields-both b j = elim (same_number b a) [
+    fields-both b j = elim (cases_eq b a) [
       | inl at ↦ ap (λ q. owned_in_field classes (slice_set store a n) q j) at
           ∙ ap (option_and_then (λ (q : Seen). owned_by_field classes q j)) (get-set store a n o there)
           ∙ owned-label n.label o.label (owned_by_slot classes n j) (owned_by_slot classes o j) label (owns j)

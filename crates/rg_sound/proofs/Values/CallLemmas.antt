@@ -2,6 +2,7 @@
 use Rattle.std.proofs.Common.{◌≡◌, ◌≢◌, refl, sym, ◌∙◌, ap, subst, ◌⊎◌, inl, inr, ℕ, Bool as Truth, true, false, if◌then◌else◌, List, [], ◌∷◌, ◌++◌}
 use Rattle.std.proofs.Common.{length, map, find, flat_map, Option, Some, None, ok_or, option_and_then, Result, Ok, arith}
 use Rattle.std.proofs.lemmas.List.Concat.{flat_map-cons}
+use Rattle.std.proofs.lemmas.Option.{same_Some}
 use Rattle.rg_base.specs.declared.ty.Ty.{Ty}
 use Rattle.rg_base.specs.declared.fault.Code.TheVariants.{Unknown}
 use Rattle.rg_base.specs.declared.object.Place.TheVariants.{Var}
@@ -23,7 +24,7 @@ use Rattle.rg_rules.proofs.ExpressionLemmas.{against-ok, judge_expr-below, judge
 use Rattle.rg_rules.proofs.UsesLemmas.{judge_expr-uses}
 use Rattle.rg_sound.specs.Values.{Meets}
 use Rattle.rg_sound.specs.Objects.{ObjectsFit}
-use Rattle.rg_sound.proofs.Basics.{none-some, some-same}
+use Rattle.rg_sound.proofs.Basics.{none-some}
 use Rattle.rg_sound.proofs.Frames.NamedLemmas.{Named-iso, first-at}
 use Rattle.rg_sound.proofs.Frames.EntryLemmas.{Stays-distinct, Distinct}
 use Rattle.rg_sound.proofs.Frames.JudgeRightLemmas.{judge_expr-stays}
@@ -62,7 +63,7 @@ marked-find_by : (b c : Truth) (x y : Variable) (f o : Entry) (es : List Entry) 
     (e : Entry) × ((if b then Some f else find (λ (q : Entry). same_variable q.name y) es) ≡ Some e) × (o ≡ marked_entry x gone e)
 marked-find_by true c x y f o es at rest h =
     let P : Truth → Type 0 = λ q. (if q then record f { readiness = gone } else f) ≡ o in
-    (f, refl, sym (subst P (sym at) (some-same (if c then record f { readiness = gone } else f) o h)))
+    (f, refl, sym (subst P (sym at) (same_Some (if c then record f { readiness = gone } else f) o h)))
 marked-find_by false c x y f o es at rest h = rest h
 
 marked-name : (c : Truth) (f : Entry) → (if c then record f { readiness = gone } else f).name ≡ f.name
@@ -105,7 +106,7 @@ ready-marked x y env h =
       where
         by : (b : Truth) → same_variable f.name y ≡ b → (find (λ (q : Entry). same_variable q.name y) es ≡ Some e → same_variable e.name y ≡ true) →
             (if b then Some f else find (λ (q : Entry). same_variable q.name y) es) ≡ Some e → same_variable e.name y ≡ true
-        by true at rest h = let one : f ≡ e = some-same f e h in let P : Entry → Type 0 = λ q. same_variable q.name y ≡ true in subst P one at
+        by true at rest h = let one : f ≡ e = same_Some f e h in let P : Entry → Type 0 = λ q. same_variable q.name y ≡ true in subst P one at
         by false at rest h = rest h
 
 -- variables that are ready

@@ -2,6 +2,8 @@
 use Rattle.std.proofs.Common.{◌≡◌, ◌≢◌, refl, sym, ◌∙◌, ap, subst, inl, inr, ℕ, ◌==◌, nat_lt, Bool as Truth, true, false, if◌then◌else◌, List, []}
 use Rattle.std.proofs.Common.{◌∷◌, ◌++◌, length, map, flat_map, Option, Some, None, ok_or, option_and_then, Ok, arith}
 use Rattle.std.proofs.lemmas.List.{append-nil, length-map, append_assoc}
+use Rattle.std.proofs.lemmas.Option.{same_Some}
+use Rattle.std.proofs.lemmas.Bool.{eqb-false}
 use Rattle.rg_base.specs.declared.limits.TheConstants.{FRAMES}
 use Rattle.rg_base.specs.declared.words.Cap.{Cap}
 use Rattle.rg_base.specs.declared.ty.Ty.{Ty}
@@ -37,7 +39,7 @@ use Rattle.rg_sound.specs.Windows.{windows_of}
 use Rattle.rg_sound.specs.Values.{LabelFits, Leads, MeetsRef, Meets}
 use Rattle.rg_sound.specs.Frames.{Named, Running, Beneath, Waits, call_of}
 use Rattle.rg_sound.specs.Laws.{StaysFit, KindKeeps, CallKeeps}
-use Rattle.rg_sound.proofs.Basics.{differ, none-some, some-same}
+use Rattle.rg_sound.proofs.Basics.{none-some}
 use Rattle.rg_sound.proofs.Frames.BodyLemmas.{Begins, EndsWell, method-right, items_of-begins}
 use Rattle.rg_sound.proofs.Frames.AdvanceLemmas.{running-first}
 use Rattle.rg_sound.proofs.Frames.QuietLemmas.{allowed-same}
@@ -133,7 +135,7 @@ push-less classes store fs target (Var n i) r h = by (n == length fs) refl
         none-some (sym (leads-top classes store (record { locals = []; target = target }) fs i)
         ∙ ap (λ m. leads_into classes store (record { locals = []; target = target } ∷ fs) (Var m i)) (sym here) ∙ h)
     by false e =
-        let other : n ≢ length fs = differ n (length fs) e in
+        let other : n ≢ length fs = eqb-false n (length fs) e in
         sym (leads-lower classes store (record { locals = []; target = target }) fs n i other) ∙ h
 push-less classes store fs target (Field a j) r h = h
 
@@ -228,7 +230,7 @@ call-kept t a s line k rest d target c j calls typed u h =
     let Q : Ty → Type 0 = λ q. Meets s.store s.windows q self.0 in
     let R : Val → Type 0 = λ q. MeetsRef s.store fo.0.class (LabelFits s.windows fo.0.cap) q in
     let l : Leads s.store at.address fo.0.class (LabelFits s.windows fo.0.cap) = subst R at.value (subst Q followed.reference meets) in
-    let class : o.0.class ≡ fo.0.class = ap (λ (q : Seen). q.class) (some-same o.0 l.object (sym at.there ∙ l.there)) ∙ l.class_is in
+    let class : o.0.class ≡ fo.0.class = ap (λ (q : Seen). q.class) (same_Some o.0 l.object (sym at.there ∙ l.there)) ∙ l.class_is in
     let S : Option Method → Type 0 = λ q. called t.classes s0 target c self.0 o.0.class q ≡ Ok u in
     let T : ℕ → Type 0 = λ q. called t.classes s0 target c self.0 q (Some m.0) ≡ Ok u in
     let runs : called t.classes s0 target c self.0 fo.0.class (Some m.0) ≡ Ok u =

@@ -2,6 +2,7 @@
 use Rattle.std.proofs.Common.{◌≡◌, ◌≢◌, refl, sym, ◌∙◌, ap, subst, ◌⊎◌, inl, inr, ℕ, zero, suc, Bool as Truth, true, false, if◌then◌else◌, List, []}
 use Rattle.std.proofs.Common.{◌∷◌, ◌++◌, length, flat_map, Option, Some, None, option_and_then, slice_get, arith}
 use Rattle.std.proofs.lemmas.List.Concat.{flat_map-cons}
+use Rattle.std.proofs.lemmas.Option.{same_Some}
 use Rattle.rg_base.specs.declared.ty.Ty.{Ty}
 use Rattle.rg_base.specs.declared.object.Place.{Place}
 use Rattle.rg_base.specs.declared.object.Place.TheVariants.{Var}
@@ -17,7 +18,7 @@ use Rattle.rg_rules.specs.Regions.{region_at, address, owned}
 use Rattle.rg_rules.specs.Owners.{owned_by_local, leads_into}
 use Rattle.rg_rules.proofs.LocalLemmas.{place_in-set_in}
 use Rattle.rg_sound.specs.Frames.{Named}
-use Rattle.rg_sound.proofs.Basics.{none-some, some-same}
+use Rattle.rg_sound.proofs.Basics.{none-some}
 use Rattle.rg_sound.proofs.Frames.NamedLemmas.{first-at}
 use Rattle.rg_sound.proofs.Frames.EntryLemmas.{same_variable-true}
 use Rattle.rg_sound.proofs.Owners.OwnerLemmas.{leads-top}
@@ -37,7 +38,7 @@ NilAt-set y (m ∷ ls) k h = by (same_variable m.name y) k h (λ j g. NilAt-set 
   where
     by : (b : Truth) (k : ℕ) → NilAt (m ∷ ls) k → ((j : ℕ) → NilAt ls j → NilAt (set_in y Nil ls) j) →
         NilAt (if b then record m { value = Nil } ∷ ls else m ∷ set_in y Nil ls) k
-    by true zero h rest l e = ap (λ (q : Local). q.value) (sym (some-same (record m { value = Nil }) l e))
+    by true zero h rest l e = ap (λ (q : Local). q.value) (sym (same_Some (record m { value = Nil }) l e))
     by true (suc k) h rest l e = h l e
     by false zero h rest l e = h l e
     by false (suc k) h rest l e = rest k (λ n g. h n g) l e
@@ -49,7 +50,7 @@ NilAt-here x (m ∷ ls) l e = by (same_variable m.name x) l e (NilAt-here x ls)
     by : (b : Truth) (l : Local) → slice_get (if b then record m { value = Nil } ∷ ls else m ∷ set_in x Nil ls)
         (if b then 0 else suc (place_in ls x)) ≡ Some l → NilAt (set_in x Nil ls) (place_in ls x) →
         l.value ≡ Nil
-    by true l e rest = ap (λ (q : Local). q.value) (sym (some-same (record m { value = Nil }) l e))
+    by true l e rest = ap (λ (q : Local). q.value) (sym (same_Some (record m { value = Nil }) l e))
     by false l e rest = rest l e
 
 NilAt-cleared : (xs : List Variable) (ls : List Local) (k : ℕ) → NilAt ls k → NilAt (cleared xs ls) k
@@ -108,7 +109,7 @@ same-place : (env : Env) (ls : List Local) (x y : Variable) → Named env.entrie
 same-place env ls x y n a b e =
     let p = first-at env.entries ls x a.entry n a.there in
     let q = first-at env.entries ls y b.entry n b.there in
-    let one : a.entry ≡ b.entry = some-same a.entry b.entry (sym p.entry_at ∙ ap (slice_get env.entries) e ∙ q.entry_at) in
+    let one : a.entry ≡ b.entry = same_Some a.entry b.entry (sym p.entry_at ∙ ap (slice_get env.entries) e ∙ q.entry_at) in
     sym (same_variable-true a.entry.name x p.is_name) ∙ ap (λ (z : Entry). z.name) one ∙ same_variable-true b.entry.name y q.is_name
 
 ready-in : (env : Env) (xs : List Variable) (x : Variable) → AllReady env xs → In x xs → IsReady env x

@@ -3,6 +3,7 @@ use Rattle.std.proofs.Common.{◌≡◌, ◌≢◌, ◌⊎◌, inl, inr, ℕ, ze
 use Rattle.std.proofs.Common.{[], ◌∷◌, ◌++◌, Option, Some, None, is_some, map, option_and_then, unwrap_or, length, replicate, slice_get, refl, sym}
 use Rattle.std.proofs.Common.{ap, subst, ◌∙◌, arith}
 use Rattle.std.proofs.lemmas.Bool.{or_right}
+use Rattle.std.proofs.lemmas.Option.{same_Some}
 use Rattle.rg_base.specs.declared.words.Cap.{Cap}
 use Rattle.rg_base.specs.declared.words.Cap.TheVariants.{Mut, Tmp, Paused, Imm, Iso}
 use Rattle.rg_base.specs.declared.ty.Ty.{Ty}
@@ -25,7 +26,7 @@ use Rattle.rg_sound.specs.Windows.{windows_of, windows_from, IsOpen}
 use Rattle.rg_sound.specs.Values.{IsRegion, LabelFits, MeetsBy, Meets}
 use Rattle.rg_sound.specs.Objects.{TempFieldFits, FieldFits}
 use Rattle.rg_sound.specs.OpenRegions.{AllOwned}
-use Rattle.rg_sound.proofs.Basics.{none-some, some-same}
+use Rattle.rg_sound.proofs.Basics.{none-some}
 use Rattle.rg_sound.proofs.HeldLemmas.{slot-meets}
 use Rattle.rg_sound.proofs.Owners.DataLemmas.{NotOwner}
 use Rattle.rg_sound.proofs.Owners.OpenLemmas.{IsOpenIn}
@@ -56,7 +57,7 @@ not_iso-closed classes m bodies opened us d up t v meets iso = not-closed m v (�
 pub shown-at : (locals : List Local) (k i : ℕ) (l : Local) → slice_get locals i ≡ Some l →
     slice_get (map (λ (l : Local). l.value) locals ++ replicate k val.Nil) i ≡ Some l.value
 shown-at [] k i l e = none-some e
-shown-at (x ∷ ls) k zero l e = ap (λ q. Some q.value) (some-same x l e)
+shown-at (x ∷ ls) k zero l e = ap (λ q. Some q.value) (same_Some x l e)
 shown-at (x ∷ ls) k (suc i) l e = shown-at ls k i l e
 
 behind-at : (locals : List Local) (k i : ℕ) → length locals ≤ i →
@@ -191,7 +192,7 @@ pub field-owns : (classes : List Class) (m : Machine) (bodies : List Body) (open
     slice_get o.fields k ≡ Some v → is_iso (type_of classes f.ty) ≡ true → owns_or_nil m (field_of o k) ≡ true
 field-owns classes m bodies opened d a k o f v there top field at iso =
     let s = slot-meets classes m.store (FieldFits opened o.label) (fields_of classes o.class) o.fields k v (d.fits.objects a o there).fields at in
-    let same : s.field ≡ f = some-same s.field f (sym s.field_is ∙ field) in
+    let same : s.field ≡ f = same_Some s.field f (sym s.field_is ∙ field) in
     let P : Field → Type 0 = λ q. MeetsBy m.store (FieldFits opened o.label) (type_of classes q.ty) v in
     ap (λ q. owns_or_nil m (unwrap_or q val.Nil)) at
     ∙ place-owns classes m bodies opened d (FieldFits opened o.label) (field-region opened o.label (top-live opened o.label top))

@@ -2,7 +2,8 @@
 -- region is the place of its owner reference.
 use Rattle.std.proofs.Common.{◌≡◌, ◌≢◌, inl, inr, ℕ, ◌==◌, Bool as Truth, true, false, true≢false, ◌||◌, not, if◌then◌else◌, List, [], ◌∷◌, map}
 use Rattle.std.proofs.Common.{Option, Some, None, is_some, option_and_then, length, slice_get, refl, sym, ap, subst, ◌∙◌, arith}
-use Rattle.std.proofs.lemmas.Bool.{or_right}
+use Rattle.std.proofs.lemmas.Bool.{or_right, cases_eq}
+use Rattle.std.proofs.lemmas.Option.{same_Some}
 use Rattle.rg_base.specs.declared.ty.Ty.{Ty}
 use Rattle.rg_base.specs.declared.object.Label.{Label}
 use Rattle.rg_base.specs.declared.object.Label.TheVariants.{Region, Temp, Frozen}
@@ -16,7 +17,7 @@ use Rattle.rg_rules.specs.Regions.{region_of, region_at, address, owned}
 use Rattle.rg_rules.specs.Owners.{owned_by_local, owned_at, leads_into}
 use Rattle.rg_sound.specs.Windows.{windows_of, IsOpen}
 use Rattle.rg_sound.specs.Values.{LabelFits, Meets, FrameMeets}
-use Rattle.rg_sound.proofs.Basics.{none-some, some-same, same_number}
+use Rattle.rg_sound.proofs.Basics.{none-some}
 use Rattle.rg_sound.proofs.HeldLemmas.{from-open}
 use Rattle.rg_sound.proofs.LocalRootsLemmas.{closed-iso, other-iso, iso-owned, frozen-away, field-owned, temporary-owned}
 use Rattle.rg_sound.proofs.Owners.DataLemmas.{Data}
@@ -72,7 +73,7 @@ pub region-label : (store : List Seen) (a r : ℕ) → region_at store a ≡ Som
 region-label store a r h = by (slice_get store a) h
   where
     of_label : (l : Label) → region_of l ≡ Some r → ◌≡◌ {A = Option Label} (Some l) (Some (Region r))
-    of_label (Region q) e = ap (λ q. Some (Region q)) (some-same q r e)
+    of_label (Region q) e = ap (λ q. Some (Region q)) (same_Some q r e)
     of_label (Temp n) e = none-some e
     of_label Frozen e = none-some e
 
@@ -99,7 +100,7 @@ closed-label ws (Region q) r e = by (is_open ws q) refl e
   where
     by : (b : Truth) → is_open ws q ≡ b → (if b then None else Some q) ≡ Some r → (◌≡◌ {A = Option ℕ} (Some q) (Some r)) × (is_open ws r ≡ false)
     by true at e = none-some e
-    by false at e = (e, ap (is_open ws) (sym (some-same q r e)) ∙ at)
+    by false at e = (e, ap (is_open ws) (sym (same_Some q r e)) ∙ at)
 closed-label ws (Temp n) r e = none-some e
 closed-label ws Frozen r e = none-some e
 
@@ -198,7 +199,7 @@ frame-leads classes store ps f b bs i v r shows meets away at d =
 -- what a variable of the frames beneath owns
 pub leads-more : (classes : List Class) (store : List Seen) (b : Body) (bs : List Body) (n i r : ℕ) →
     leads_into classes store bs (place.Var n i) ≡ Some r → (n ≢ length bs) × (leads_into classes store (b ∷ bs) (place.Var n i) ≡ Some r)
-leads-more classes store b bs n i r e = elim (same_number n (length bs)) [
+leads-more classes store b bs n i r e = elim (cases_eq n (length bs)) [
   | inr other ↦ (other, leads-lower classes store b bs n i other ∙ e)
   | inl here ↦ none-some (sym (leads-past classes store bs n i (omega (arith, here))) ∙ e)
 ]

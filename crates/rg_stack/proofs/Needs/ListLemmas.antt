@@ -1,11 +1,12 @@
 -- Tests over lists, and over the numbers below one.
 use Rattle.std.proofs.Common.{◌≡◌, ◌⊎◌, inl, inr, ℕ, zero, suc, ◌<◌, Bool as Truth, true, false, true≢false, ◌&&◌, ◌||◌, List, [], ◌∷◌, ◌++◌}
 use Rattle.std.proofs.Common.{Some, slice_get, replicate, refl, sym, ap, ◌∙◌, arith, map}
+use Rattle.std.proofs.lemmas.Option.{same_Some}
 use Rattle.std.specs.List.{list_any}
 use Rattle.rg_base.specs.declared.value.Val.{Val}
 use Rattle.rg_base.specs.declared.value.Val.TheVariants as val
 use Rattle.rg_rules.specs.State.{Local}
-use Rattle.rg_sound.proofs.Basics.{none-some, some-same}
+use Rattle.rg_sound.proofs.Basics.{none-some}
 use Rattle.rg_stack.specs.Needs.{all_below, is_empty}
 
 -- no element passes
@@ -32,7 +33,7 @@ all_below-each (suc n) test h =
 
 pub get-nils : (k i : ℕ) (v : Val) → slice_get (replicate k val.Nil) i ≡ Some v → v ≡ val.Nil
 get-nils zero i v e = none-some e
-get-nils (suc k) zero v e = sym (some-same val.Nil v e)
+get-nils (suc k) zero v e = sym (same_Some val.Nil v e)
 get-nils (suc k) (suc i) v e = get-nils k i v e
 
 -- a slot that isn't nil shows a variable
@@ -44,7 +45,7 @@ pub record AtLocal (locals : List Local) (i : ℕ) (v : Val) : Type 0 where
 pub slot-local : (locals : List Local) (k i : ℕ) (v : Val) →
     slice_get (map (λ (l : Local). l.value) locals ++ replicate k val.Nil) i ≡ Some v → (v ≡ val.Nil) ⊎ AtLocal locals i v
 slot-local [] k i v e = inl (get-nils k i v e)
-slot-local (l ∷ ls) k zero v e = inr (record { local = l; there = refl; value = some-same l.value v e })
+slot-local (l ∷ ls) k zero v e = inr (record { local = l; there = refl; value = same_Some l.value v e })
 slot-local (l ∷ ls) k (suc i) v e = elim (slot-local ls k i v e) [
   | inl n ↦ inl n
   | inr h ↦ inr (record { local = h.local; there = h.there; value = h.value })

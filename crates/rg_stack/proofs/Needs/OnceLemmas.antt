@@ -2,7 +2,7 @@
 use Rattle.std.proofs.Common.{◌≡◌, ◌⊎◌, inl, inr, ℕ, ◌+◌, ◌==◌, nat_le, ◌≤◌, Bool as Truth, true, false, ◌||◌, cond, List}
 use Rattle.std.proofs.Common.{[], ◌∷◌, Option, Some, None, length, slice_get, refl, ◌∙◌, arith}
 use Rattle.std.specs.Prelude.{count_by}
-use Rattle.std.proofs.lemmas.Bool.{le-leb}
+use Rattle.std.proofs.lemmas.Bool.{le-leb, eq-eqb}
 use Rattle.std.proofs.lemmas.List.Sums.{sum_by-cons}
 use Rattle.rg_base.specs.declared.ty.Ty.{Ty}
 use Rattle.rg_base.specs.declared.object.Label.{Label}
@@ -167,9 +167,6 @@ fresh-none classes m bodies opened us d up t v meets fresh r l closed p e =
     let owns = value-owns m.store us t v r meets (λ o. shown-closed d.sizes m.windows opened r d.windows closed (up (Region r) o)) l in
     (fresh r owns).1 p e
 
-nothing-left : (n : ℕ) → n ≡ 0 → (n == 0) ≡ true
-nothing-left n e = grind arith
-
 -- nothing leads into the region into which it does
 pub loose-fits : (classes : List Class) (m : Machine) (bodies : List Body) (opened us : List Opened) → ShowsFit classes m bodies opened →
     ((l : Label) → IsOpen us l → IsOpen opened l) → (t : Ty) (v : Val) → Meets m.store us t v → OwnsFreshAs classes m.store bodies t v →
@@ -180,5 +177,5 @@ loose-fits classes m bodies opened us d up t v meets fresh = by (closed_into m v
     by None e = refl
     by (Some r) e =
         let c = closed-into m v r e in
-        nothing-left (places_into m r)
+        eq-eqb (places_into m r) 0
         (places-none classes m bodies opened d r c.closed (fresh-none classes m bodies opened us d up t v meets fresh r c.leads c.closed))

@@ -3,6 +3,8 @@ use Rattle.std.proofs.Common.{◌≡◌, ◌≢◌, inl, inr, ℕ, ◌-◌, Bool
 use Rattle.std.proofs.Common.{option_and_then, unwrap_or, slice_get, refl, sym, ap, subst, ◌∙◌}
 use Rattle.std.specs.Prelude.{reverse}
 use Rattle.std.proofs.lemmas.List.{length-reverse, reverse-append}
+use Rattle.std.proofs.lemmas.Option.{same_Some}
+use Rattle.std.proofs.lemmas.Bool.{cases_eq}
 use Rattle.rg_base.specs.declared.ty.Ty.{Ty}
 use Rattle.rg_base.specs.declared.object.Label.{Label}
 use Rattle.rg_base.specs.declared.object.Label.TheVariants.{Region, Temp, Frozen}
@@ -19,7 +21,7 @@ use Rattle.rg_rules.specs.State.{Local, Frame as Body, Window as Opened, frame_a
 use Rattle.rg_rules.specs.Regions.{region_at, address, owned, owned_as}
 use Rattle.rg_rules.specs.Owners.{owned_by_local, owned_by_slot, owned_by_field, leads_into}
 use Rattle.rg_sound.specs.OpenRegions.{AllOwned}
-use Rattle.rg_sound.proofs.Basics.{none-some, some-same, same_number}
+use Rattle.rg_sound.proofs.Basics.{none-some}
 use Rattle.rg_sound.proofs.Owners.OwnerLemmas.{get-snoc-other, frame_at-top, frame_at-lower}
 use Rattle.rg_stack.specs.Machine.{Frame, Window, Machine}
 use Rattle.rg_stack.specs.Shows.{ShowsFrame, ShowsFrames, ShowsWindows}
@@ -58,9 +60,9 @@ shown-frame : (fs : List Frame) (bs : List Body) → ShowsFrames fs bs → (n : 
 shown-frame [] [] h n b e = none-some e
 shown-frame [] (c ∷ bs) h n b e = absurd h
 shown-frame (f ∷ fs) [] h n b e = absurd h
-shown-frame (f ∷ fs) (c ∷ bs) h n b e = elim (same_number n (length bs)) [
+shown-frame (f ∷ fs) (c ∷ bs) h n b e = elim (cases_eq n (length bs)) [
   | inl at ↦
-      let one : c ≡ b = some-same c b (sym (frame_at-top c bs) ∙ ap (frame_at (c ∷ bs)) (sym at) ∙ e) in
+      let one : c ≡ b = same_Some c b (sym (frame_at-top c bs) ∙ ap (frame_at (c ∷ bs)) (sym at) ∙ e) in
       let P : Body → Type 0 = λ q. ShowsFrame f q in
       record {
         frame = f;

@@ -1,7 +1,8 @@
 -- Where the topmost window closes, its temporaries may go: nothing that stays leads to one.
 use Rattle.std.proofs.Common.{◌≡◌, ◌≢◌, inl, inr, ℕ, suc, ◌<◌, ◌==◌, Bool as Truth, true, false, true≢false, ◌&&◌, ◌||◌, not, List, [], ◌∷◌}
 use Rattle.std.proofs.Common.{if◌then◌else◌, Option, Some, None, option_and_then, length, map, slice_get, refl, sym, ap, subst, ◌∙◌, arith}
-use Rattle.std.proofs.lemmas.Bool.{and_from, eqb-true}
+use Rattle.std.proofs.lemmas.Bool.{and_from, eqb-true, eqb-false}
+use Rattle.std.proofs.lemmas.Option.{same_Some}
 use Rattle.std.specs.List.{list_any}
 use Rattle.rg_base.specs.declared.words.Cap.{Cap}
 use Rattle.rg_base.specs.declared.words.Cap.TheVariants.{Mut, Tmp, Paused, Imm, Iso}
@@ -20,7 +21,7 @@ use Rattle.rg_sound.specs.Windows.{windows_of, windows_from, IsOpen}
 use Rattle.rg_sound.specs.Values.{LabelFits, MeetsBy, Meets, ValuesFit}
 use Rattle.rg_sound.specs.Objects.{RegionFieldFits, TempFieldFits, FieldFits}
 use Rattle.rg_sound.specs.Numbers.{Rising}
-use Rattle.rg_sound.proofs.Basics.{none-some, some-same, differ}
+use Rattle.rg_sound.proofs.Basics.{none-some}
 use Rattle.rg_sound.proofs.HeldLemmas.{from-open}
 use Rattle.rg_sound.proofs.LocalRootsLemmas.{field-meets, temp-label}
 use Rattle.rg_sound.proofs.Owners.WindowLemmas.{covers-not, FramesInFront, rising-below}
@@ -80,7 +81,7 @@ meets-label store F t v n meets to = by t (let P : Val → Type 0 = λ q. MeetsB
     by ty.Int m = absurd m
     by ty.Bool m = absurd m
     by (ty.Ref cap c) m =
-        let one : m.object ≡ to.object = some-same m.object to.object (sym m.there ∙ to.there) in
+        let one : m.object ≡ to.object = same_Some m.object to.object (sym m.there ∙ to.there) in
         (cap, m.object.label, ap (λ (o : Seen). o.label) one ∙ to.label, m.label_fits)
 
 -- the windows beneath have lower numbers
@@ -176,7 +177,7 @@ temps_may_go-fits classes m bodies w ws d front = and_from _ _ (ap not slots) (a
             let same : k ≡ n = grind arith in
             let P : ℕ → Type 0 = λ q. (q ≢ w.number) × In q (map (λ (u : Opened). u.number) (w ∷ ws)) in
             subst P same (
-              λ z. differ k (top_window m.windows) y (z ∙ sym top),
+              λ z. eqb-false k (top_window m.windows) y (z ∙ sym top),
               shown-number d.sizes m.windows (w ∷ ws) k d.windows x,
             )
 

@@ -1,4 +1,4 @@
--- Answers of calls that change the variables in place.
+-- Answers of calls that change the variables in place (docs/language.md, "Judgements").
 use Rattle.std.specs.Prelude.{◌≡◌, ◌<◌, Result, Ok, Err, ℕ, true, Option, Some, length}
 use Rattle.rg_base.specs.declared.fault.Code.{Code}
 use Rattle.rg_base.specs.declared.fault.Stop.{Stop}

@@ -1,5 +1,6 @@
 use Rattle.std.proofs.Common.{◌≡◌, ℕ, ◌+◌, ◌*◌, ◌≤◌, sum_by, List, length, drop, Option, get_or, slice_get}
 use Rattle.std.proofs.Common.{ap, sym, ◌∙◌, subst, arith}
+use Rattle.std.proofs.lemmas.Option.{same_Some}
 use Rattle.rg_base.specs.declared.value.Word.{Word}
 use Rattle.rg_cells.specs.Table.{Heap, body_at, label_at, width, mark_at}
 use Rattle.rg_regions.specs.Table.{Record}
@@ -7,7 +8,7 @@ use Rattle.rg_regions.specs.Ordered.{with_members}
 use Rattle.rg_regions.specs.Reach.{LiesIn}
 use Rattle.rg_regions.specs.Chains.{OwnsOnce, LeadsToHeld}
 use Rattle.rg_regions.specs.Collection.{ChainsOrphans, region_fields, roots_of}
-use Rattle.rg_regions.proofs.Callers.Told.{one_record, same_members, same_number, same_bridge, led_held, owns_once}
+use Rattle.rg_regions.proofs.Callers.Told.{same_members, same_number, same_bridge, led_held, owns_once}
 use Rattle.rg_regions.proofs.Callers.Told.{lies_held}
 use Rattle.rg_regions.proofs.Callers.Ordered.{ordered_links}
 use Rattle.rg_trace.specs.Collected.{OutOfReach}
@@ -271,11 +272,11 @@ returns g c =
     let links = c.sweep.ensures.links
     ∙ (ordered_links c.chain_orphans-orphans.new.regions c.order_members.new.self c.args.key c.order_members.ensures).0 in
     record {
-      slid = λ r f. subst S (one_record rec r (sym e ∙ f)) (slides all);
-      orphans = λ r f. subst O (one_record rec r (sym e ∙ f))
+      slid = λ r f. subst S (same_Some rec r (sym e ∙ f)) (slides all);
+      orphans = λ r f. subst O (same_Some rec r (sym e ∙ f))
           (orphans-told all c.chain_orphans-orphans.new.regions c.number-region.result c.chain_orphans-orphans.result num
           searched links);
       kept = λ r f. sym (ap (length {A = ℕ}) (same_members _ r c.members-4.result.now f c.members-4.ensures));
-      cost = λ r f. subst C (one_record rec r (sym e ∙ f)) most;
+      cost = λ r f. subst C (same_Some rec r (sym e ∙ f)) most;
       grove = grove-slides all;
     }

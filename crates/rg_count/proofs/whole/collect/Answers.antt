@@ -1,5 +1,6 @@
 use Rattle.std.proofs.Common.{◌≡◌, ℕ, ◌+◌, ◌≤◌, sum_by, List, length, Option, Some, None, get_or, ap, sym, ◌∙◌, subst}
 use Rattle.std.proofs.Common.{arith, refl}
+use Rattle.std.proofs.lemmas.Option.{same_Some}
 use Rattle.rg_cells.specs.Table.{body_at, width, mark_at}
 use Rattle.rg_regions.specs.Table.{Record, record_at}
 use Rattle.rg_regions.specs.Reach.{LiesIn, Roots}
@@ -8,7 +9,7 @@ use Rattle.rg_regions.specs.Chains.{LeadsOnce}
 use Rattle.rg_regions.specs.Spent.{Spent}
 use Rattle.rg_regions.specs.Collection.{ChainsOrphans, region_fields}
 use Rattle.rg_regions.proofs.Callers.Told.{lies_held}
-use Rattle.rg_regions.proofs.Callers.Told.{same_members, one_record, same_number, same_bridge}
+use Rattle.rg_regions.proofs.Callers.Told.{same_members, same_number, same_bridge}
 use Rattle.rg_regions.proofs.Callers.Told.{owns_once, led_held}
 use Rattle.rg_count.specs.Inner.Counting.{CountedDown}
 use Rattle.rg_count.specs.Counted.{Counted}
@@ -108,8 +109,8 @@ returns g c =
     record {
       grove = grove-kept old c.args.regions.now c.args.key rec c.args.slots.now c.args.temps.now c.sweep.new.cells
           c.sweep.new.regions c.requires.grove e c.requires.count.2 whole;
-      counted = λ r f. subst C (one_record rec r (sym e ∙ f)) whole;
-      orphans = λ r f. subst O (one_record rec r (sym e ∙ f)) (subst K (sym c.sweep.ensures.links) o);
-      cost = λ r f. subst Q (one_record rec r (sym e ∙ f)) most;
+      counted = λ r f. subst C (same_Some rec r (sym e ∙ f)) whole;
+      orphans = λ r f. subst O (same_Some rec r (sym e ∙ f)) (subst K (sym c.sweep.ensures.links) o);
+      cost = λ r f. subst Q (same_Some rec r (sym e ∙ f)) most;
       kept = λ r f. sym (ap (length {A = ℕ}) (same_members _ r c.members.result.now f c.members.ensures));
     }

@@ -1,6 +1,7 @@
 use Rattle.std.proofs.Common.{◌≡◌, ℕ, ◌+◌, ◌<◌, List, length, get_or, ap, sym, ◌∙◌, refl, subst, arith}
+use Rattle.std.proofs.lemmas.Option.{same_Some}
 use Rattle.rg_regions.specs.Table.{Record, record_at}
-use Rattle.rg_regions.proofs.Callers.Told.{one_record, same_members}
+use Rattle.rg_regions.proofs.Callers.Told.{same_members}
 use Rattle.rg_move.specs.Inner.Moves.{PushedFirst}
 use Rattle.rg_move.proofs.MembersMoved.{pushed_more}
 use Rattle.rg_move.proofs.merging.move_members.Goals as goal
@@ -61,7 +62,7 @@ loop-place-preserved c = λ a b e f.
     c.push_member.new.self in
     let H : Record → Type 0 = λ z. PushedFirst c.args.regions.now c.args.from c.args.into w.one z
     (c.loop-place.place + 1) c.push_member.new.self in
-    subst G (one_record w.one a (sym w.at ∙ e)) (subst H (one_record w.other b (sym w.to ∙ f))
+    subst G (same_Some w.one a (sym w.at ∙ e)) (subst H (same_Some w.other b (sym w.to ∙ f))
     (pushed_more c.args.regions.now c.loop-place.regions c.push_member.new.self c.args.from c.args.into w.one w.other
     c.loop-place.place
     (get_or c.members.result.now c.loop-place.place 0) there (ap (λ (z : List ℕ). get_or z c.loop-place.place 0) now)

@@ -1,8 +1,9 @@
 use Rattle.std.proofs.Common.{◌≡◌, ℕ, ◌+◌, ◌<◌, List, length, Option, get_or, ap, sym, ◌∙◌, subst, arith, refl}
+use Rattle.std.proofs.lemmas.Option.{same_Some}
 use Rattle.rg_base.specs.declared.object.Label.TheVariants.{Region}
 use Rattle.rg_regions.specs.Table.{Record, InTable}
 use Rattle.rg_regions.specs.Reach.{LiesIn}
-use Rattle.rg_regions.proofs.Callers.Told.{one_record, labelled_held, members_read, same_record}
+use Rattle.rg_regions.proofs.Callers.Told.{labelled_held, members_read, same_record}
 use Rattle.rg_regions.specs.Owned.{FollowsMembers}
 use Rattle.rg_regions.proofs.Callers.OwnedFound.{members_none, members_more}
 use Rattle.rg_regions.proofs.owned.chain_owned.Goals as goal
@@ -59,7 +60,7 @@ loop-place-preserved c = λ r e.
     let is : get_or rec.members c.loop-place.place 0 ≡ slot = ap (λ (z : List ℕ). get_or z c.loop-place.place 0) now in
     let G : Record → Type 0 =
     λ z. FollowsMembers h c.args.region z.members (c.loop-place.place + 1) old new c.args.head c.chain_fields-head.result in
-    subst G (one_record rec r (sym c.requires.there.1 ∙ e)) (members_more h c.args.region rec.members c.loop-place.place slot old
+    subst G (same_Some rec r (sym c.requires.there.1 ∙ e)) (members_more h c.args.region rec.members c.loop-place.place slot old
     c.loop-place.regions new c.args.head c.loop-place.head c.chain_fields-head.result c.requires.there.2 room is c.chain_fields-head.ensures inv)
 
 pub returns : goal.returns
@@ -74,4 +75,4 @@ returns c =
     let S : ℕ → Type 0 = λ n. FollowsMembers h c.args.region rec.members n old c.loop-place.regions c.args.head c.loop-place.head in
     let G : Record → Type 0 =
     λ z. FollowsMembers h c.args.region z.members (length z.members) old c.loop-place.regions c.args.head c.loop-place.head in
-    λ r e. subst G (one_record rec r (sym c.requires.there.1 ∙ e)) (subst S all inv)
+    λ r e. subst G (same_Some rec r (sym c.requires.there.1 ∙ e)) (subst S all inv)

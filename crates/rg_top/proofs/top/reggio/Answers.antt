@@ -1,13 +1,14 @@
 -- What the top call promises, from what the layers under it have answered.
 use Rattle.std.proofs.Common.{◌≡◌, ◌⊎◌, inl, refl, ◌∙◌}
 use Rattle.rg_io.specs.Content.{Rose}
+use Rattle.rg_io.proofs.ContentLemmas.{Rose-since}
 use Rattle.rg_top.specs.declared.status.Status.TheVariants as status
 use Rattle.rg_top.specs.Commands.{texts}
 use Rattle.rg_top.specs.Inner.Requests.{command_of}
 use Rattle.rg_top.proofs.AnswerLemmas.{Answered, answer-answered, answer-cut, answer-input, answer-exactly, answer-refused, answer-complete}
 use Rattle.rg_top.proofs.AnswerLemmas.{answer-unread, answer-unopened, answer-untouched, answer-output, answer-tuned, answer-usage, given-is}
 use Rattle.rg_top.proofs.AnswerLemmas.{answer-chooses, usage-exactly}
-use Rattle.rg_top.proofs.NotesLemmas.{asked-notes, asked-fault, rose-later}
+use Rattle.rg_top.proofs.NotesLemmas.{asked-notes, asked-fault}
 use Rattle.rg_top.proofs.AskedLemmas.{asked-words, yeses-fresh}
 use Rattle.rg_top.proofs.top.reggio.Given.{Over}
 use Rattle.rg_top.proofs.top.reggio.Goals as goal
@@ -44,7 +45,7 @@ pub returns-in-Some-clause-output_fault_told : goal.returns-in-Some-clause-outpu
 returns-in-Some-clause-output_fault_told g c = λ e n.
     asked-fault (texts c.args.words.now) (command_of c.in-Some.request) _ c.answer-status.new.machine _ status.OutputFault _ _ _ c.in-Some.ensures.is
     c.reports.ensures c.answer-status.ensures.notes
-    (λ old h. c.tell_behind.ensures.output_fault_told old h e (λ r. n (rose-later _ _ _ c.answer-status.ensures.caused.notes_never_fall r)))
+    (λ old h. c.tell_behind.ensures.output_fault_told old h e (λ r. n (Rose-since _ _ _ c.answer-status.ensures.caused.notes_never_fall r)))
 
 pub returns-in-Some-clause-tuned : goal.returns-in-Some-clause-tuned
 returns-in-Some-clause-tuned g c =

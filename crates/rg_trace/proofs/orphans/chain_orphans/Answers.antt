@@ -3,12 +3,13 @@ use Rattle.std.proofs.Common.{◌∙◌, subst}
 use Rattle.std.proofs.Common.{arith, refl}
 use Rattle.std.proofs.lemmas.List.{take_all}
 use Rattle.std.proofs.lemmas.List.Sums.{sum_by_more}
+use Rattle.std.proofs.lemmas.Option.{same_Some}
 use Rattle.rg_regions.specs.Table.{Record, record_at, InTable}
 use Rattle.rg_regions.specs.Reach.{LiesIn}
 use Rattle.rg_trace.specs.Orphans.{FollowsWhite, if_white}
 use Rattle.rg_trace.proofs.OrphansFound.{searched-none, searched-white, searched-black, white-width, black-width}
 use Rattle.rg_trace.proofs.orphans.chain_orphans.Goals as goal
-use Rattle.rg_regions.proofs.Callers.Told.{one_record, same_members, lies_held}
+use Rattle.rg_regions.proofs.Callers.Told.{same_members, lies_held}
 
 pub loop-place-init : goal.loop-place-init
 loop-place-init g c = λ r e. (
@@ -114,7 +115,7 @@ loop-place-preserved-then-mark-ne0 g c = λ r e.
     c.args.regions.now c.loop-place.regions c.loop-place.head
     × (c.loop-place.steps ≡ c.args.steps.now + sum_by (if_white c.args.cells.now.heap c.args.cells.now.marks)
     (take (c.loop-place.place + 1) z.members)) in
-    subst G (one_record rec r (sym c.requires.there.1 ∙ e)) (
+    subst G (same_Some rec r (sym c.requires.there.1 ∙ e)) (
       searched-black c.args.cells.now.heap c.args.cells.now.marks c.args.region rec.members c.loop-place.place slot
           c.args.regions.now
           c.loop-place.regions c.loop-place.head is black inv.0,
@@ -148,7 +149,7 @@ loop-place-preserved g c = λ r e.
     c.args.regions.now c.chain_fields-head.new.regions c.chain_fields-head.result
     × (c.chain_fields-head.new.steps ≡ c.args.steps.now + sum_by (if_white c.args.cells.now.heap c.args.cells.now.marks)
     (take (c.loop-place.place + 1) z.members)) in
-    subst G (one_record rec r (sym c.requires.there.1 ∙ e)) (
+    subst G (same_Some rec r (sym c.requires.there.1 ∙ e)) (
       searched-white c.args.cells.now.heap c.args.cells.now.marks c.args.region rec.members c.loop-place.place slot
           c.args.regions.now
           c.loop-place.regions c.chain_fields-head.new.regions c.loop-place.head c.chain_fields-head.result
@@ -178,8 +179,8 @@ returns g c =
     let whole : take c.loop-place.place rec.members ≡ rec.members =
     take_all c.loop-place.place rec.members (omega (arith, all)) in
     record {
-      searched = λ r e. subst G (one_record rec r (sym c.requires.there.1 ∙ e)) (subst S all inv.0);
-      cost = λ r e. subst C (one_record rec r (sym c.requires.there.1 ∙ e))
+      searched = λ r e. subst G (same_Some rec r (sym c.requires.there.1 ∙ e)) (subst S all inv.0);
+      cost = λ r e. subst C (same_Some rec r (sym c.requires.there.1 ∙ e))
           (inv.1 ∙ ap (λ (z : List ℕ). c.args.steps.now + sum_by
           (if_white c.args.cells.now.heap c.args.cells.now.marks) z) whole);
     }

@@ -1,5 +1,6 @@
 use Rattle.std.proofs.Common.{◌≡◌, ◌≢◌, ℕ, ◌+◌, ◌≤◌, sum_by, List, length, Option, Some, None, get_or, ap, sym, ◌∙◌}
 use Rattle.std.proofs.Common.{subst, arith, refl}
+use Rattle.std.proofs.lemmas.Option.{same_Some}
 use Rattle.rg_cells.specs.Table.{Heap, field_at, body_at, width, IsHeld, mark_at}
 use Rattle.rg_base.specs.declared.value.Word.TheVariants.{Slot}
 use Rattle.rg_regions.specs.Table.{Record, record_at, InTable}
@@ -12,7 +13,7 @@ use Rattle.rg_trace.proofs.PartsJoined.{all-white, swept-begin, not-grey, collec
 use Rattle.rg_trace.proofs.GroveKept.{grove-kept}
 use Rattle.rg_trace.proofs.StepsBound.{ticks}
 use Rattle.rg_trace.proofs.whole.collect.Goals as goal
-use Rattle.rg_regions.proofs.Callers.Told.{one_record, same_members, same_number, same_bridge, led_held, owns_once}
+use Rattle.rg_regions.proofs.Callers.Told.{same_members, same_number, same_bridge, led_held, owns_once}
 use Rattle.rg_regions.proofs.Callers.Told.{lies_held}
 use Rattle.rg_regions.specs.Chains.{OwnsOnce}
 
@@ -143,14 +144,14 @@ returns g c =
     c.args.temps.now + region_fields c.args.cells.now.heap r.number in
     let most : Q rec = omega (arith, bound, c.mark_region.ensures.cost, c.chain_orphans-orphans.ensures.cost rec e) in
     record {
-      cost = λ r f. subst Q (one_record rec r (sym e ∙ f)) most;
+      cost = λ r f. subst Q (same_Some rec r (sym e ∙ f)) most;
       grove = grove-kept c.args.cells.now c.args.regions.now c.args.key rec c.args.slots.now c.args.temps.now
           c.sweep.new.cells c.sweep.new.regions
           c.requires.grove e c.requires.trace.2 whole;
-      collected = λ r f. subst C (one_record rec r (sym e ∙ f))
+      collected = λ r f. subst C (same_Some rec r (sym e ∙ f))
           (collected c.args.cells.now c.mark_region.new.cells c.args.regions.now c.chain_orphans-orphans.new.regions
           c.args.key rec roots
           c.sweep.new.cells c.sweep.new.regions e m s.records t.orphans.1.next c.sweep.ensures);
-      orphans = λ r f. subst O (one_record rec r (sym e ∙ f)) (subst K (sym c.sweep.ensures.links) o);
+      orphans = λ r f. subst O (same_Some rec r (sym e ∙ f)) (subst K (sym c.sweep.ensures.links) o);
       kept = λ r f. sym (ap (length {A = ℕ}) (same_members _ r c.members.result.now f c.members.ensures));
     }

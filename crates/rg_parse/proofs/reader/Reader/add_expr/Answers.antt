@@ -1,7 +1,8 @@
 use Rattle.std.proofs.Common.{ap, arith}
+use Rattle.std.proofs.lemmas.Result.{IfOk-from_err}
 use Rattle.rg_base.proofs.Callers.Lists.{below}
 use Rattle.rg_parse.specs.Inner.Steps.{kept}
-use Rattle.rg_parse.proofs.Exits.{no-ok, no-value, no-memory}
+use Rattle.rg_parse.proofs.Exits.{no-ok, no-memory}
 use Rattle.rg_parse.proofs.Growing.{expr-means}
 use Rattle.rg_parse.proofs.reader.Reader.add_expr.Goals as goal
 
@@ -15,7 +16,7 @@ pub returns-in_err-number-clause-kept : goal.returns-in_err-number-clause-kept
 returns-in_err-number-clause-kept c = no-ok _ _ c.from_residual.ensures.0
 
 pub returns-in_err-number-clause-means : goal.returns-in_err-number-clause-means
-returns-in_err-number-clause-means c = no-value _ _ c.from_residual.ensures.0
+returns-in_err-number-clause-means c = IfOk-from_err _ _ c.from_residual.ensures.0
 
 pub returns-in_err-number-clause-shorter : goal.returns-in_err-number-clause-shorter
 returns-in_err-number-clause-shorter c = no-ok _ _ c.from_residual.ensures.0

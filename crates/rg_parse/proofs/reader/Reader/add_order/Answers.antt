@@ -1,6 +1,7 @@
 use Rattle.std.proofs.Common.{ap, arith}
+use Rattle.std.proofs.lemmas.Result.{IfOk-from_err}
 use Rattle.rg_parse.specs.Inner.Steps.{kept}
-use Rattle.rg_parse.proofs.Exits.{no-ok, no-value, no-memory}
+use Rattle.rg_parse.proofs.Exits.{no-ok, no-memory}
 use Rattle.rg_parse.proofs.Growing.{order-means}
 use Rattle.rg_parse.proofs.reader.Reader.add_order.Goals as goal
 
@@ -19,7 +20,7 @@ pub returns-in_err-span-clause-kept : goal.returns-in_err-span-clause-kept
 returns-in_err-span-clause-kept c = no-ok _ _ c.from_residual.ensures.0
 
 pub returns-in_err-span-clause-means : goal.returns-in_err-span-clause-means
-returns-in_err-span-clause-means c = no-value _ _ c.from_residual.ensures.0
+returns-in_err-span-clause-means c = IfOk-from_err _ _ c.from_residual.ensures.0
 
 pub returns-in_err-span-clause-shorter : goal.returns-in_err-span-clause-shorter
 returns-in_err-span-clause-shorter c = no-ok _ _ c.from_residual.ensures.0

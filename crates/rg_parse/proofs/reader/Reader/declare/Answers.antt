@@ -1,5 +1,6 @@
 use Rattle.std.proofs.Common.{ap, sym, ◌∙◌}
-use Rattle.rg_parse.proofs.Exits.{no-ok, no-value}
+use Rattle.std.proofs.lemmas.Result.{IfOk-from_err}
+use Rattle.rg_parse.proofs.Exits.{no-ok}
 use Rattle.rg_parse.proofs.Tokens.{halts-another, halts-past, declared-first, exit, expected-symbol_of}
 use Rattle.rg_parse.proofs.Growing.{name-means}
 use Rattle.rg_parse.proofs.reader.Reader.declare.Goals as goal
@@ -24,7 +25,7 @@ pub invariant_of-self : goal.invariant_of-self
 invariant_of-self c = c.self.invariant
 
 pub returns-in_err-counts-clause-ok : goal.returns-in_err-counts-clause-ok
-returns-in_err-counts-clause-ok c = no-value _ _ c.from_residual.ensures.0
+returns-in_err-counts-clause-ok c = IfOk-from_err _ _ c.from_residual.ensures.0
 
 pub returns-in_err-counts-clause-shorter : goal.returns-in_err-counts-clause-shorter
 returns-in_err-counts-clause-shorter c = no-ok _ _ c.from_residual.ensures.0

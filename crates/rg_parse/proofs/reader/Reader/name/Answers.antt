@@ -1,5 +1,6 @@
 use Rattle.std.proofs.Common.{ap, refl}
-use Rattle.rg_parse.proofs.Exits.{no-ok, no-value}
+use Rattle.std.proofs.lemmas.Result.{IfOk-from_err}
+use Rattle.rg_parse.proofs.Exits.{no-ok}
 use Rattle.rg_parse.proofs.Tokens.{halts-another, used-first}
 use Rattle.rg_parse.proofs.Growing.{name-means}
 use Rattle.rg_parse.proofs.reader.Reader.name.Goals as goal
@@ -21,7 +22,7 @@ pub invariant_of-self-2 : goal.invariant_of-self-2
 invariant_of-self-2 c = ((rw (← c.self.view_is) at c.in-Some.ensures).others, c.self.invariant.1)
 
 pub returns-in_err-number-clause-ok : goal.returns-in_err-number-clause-ok
-returns-in_err-number-clause-ok c = no-value _ _ c.from_residual.ensures.0
+returns-in_err-number-clause-ok c = IfOk-from_err _ _ c.from_residual.ensures.0
 
 pub returns-in_err-number-clause-shorter : goal.returns-in_err-number-clause-shorter
 returns-in_err-number-clause-shorter c = no-ok _ _ c.from_residual.ensures.0

@@ -1,4 +1,5 @@
-use Rattle.rg_parse.proofs.Exits.{no-ok, no-value}
+use Rattle.std.proofs.lemmas.Result.{IfOk-from_err}
+use Rattle.rg_parse.proofs.Exits.{no-ok}
 use Rattle.rg_parse.proofs.PathRows.{no_args-found}
 use Rattle.rg_parse.proofs.reader.Reader.no_args.Goals as goal
 
@@ -6,7 +7,7 @@ pub returns-clause-ok : goal.returns-clause-ok
 returns-clause-ok c = no_args-found c.requires c.in_ok-span.ensures.kept c.in_ok-span.ensures.means
 
 pub returns-in_err-span-clause-ok : goal.returns-in_err-span-clause-ok
-returns-in_err-span-clause-ok c = no-value _ _ c.from_residual.ensures.0
+returns-in_err-span-clause-ok c = IfOk-from_err _ _ c.from_residual.ensures.0
 
 pub returns-in_err-span-clause-shorter : goal.returns-in_err-span-clause-shorter
 returns-in_err-span-clause-shorter c = no-ok _ _ c.from_residual.ensures.0
