@@ -3,7 +3,7 @@ _reggio() {
   local word=${COMP_WORDS[COMP_CWORD]} before=${COMP_WORDS[COMP_CWORD - 1]}
   COMPREPLY=()
   case $COMP_CWORD in
-    1) mapfile -t COMPREPLY < <(compgen -W 'run plain check fmt code bulk' -- "$word") ;;
+    1) mapfile -t COMPREPLY < <(compgen -W 'run slide plain check fmt code bulk' -- "$word") ;;
     2)
       case $before in
         bulk) mapfile -t COMPREPLY < <(compgen -W '1000 10000 100000' -- "$word") ;;
@@ -16,10 +16,10 @@ _reggio() {
     *)
       case ${COMP_WORDS[1]},$before in
         *,--steps) mapfile -t COMPREPLY < <(compgen -W '1000 1000000 1000000000' -- "$word") ;;
-        run,--every) mapfile -t COMPREPLY < <(compgen -W '0 1 100 1000' -- "$word") ;;
-        run,* | plain,*)
+        run,--every | slide,--every) mapfile -t COMPREPLY < <(compgen -W '0 1 100 1000' -- "$word") ;;
+        run,* | slide,* | plain,*)
           local option left='--steps'
-          [ "${COMP_WORDS[1]}" = run ] && left='--steps --every --report'
+          [ "${COMP_WORDS[1]}" != plain ] && left='--steps --every --report'
           for option in $left; do
             case " ${COMP_WORDS[*]:0:COMP_CWORD} " in *" $option "*) left=${left/$option/} ;; esac
           done

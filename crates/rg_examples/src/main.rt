@@ -40,6 +40,8 @@ fn example(
     println!(rt; "check {program}: {accepted}")?;
     let run = told(writes(rt, "run", program, input, output));
     println!(rt; "run {program}: {run}")?;
+    let slide = told(writes(rt, "slide", program, input, output));
+    println!(rt; "slide {program}: {slide}")?;
     let plain = told(writes(rt, "plain", program, input, output));
     println!(rt; "plain {program}: {plain}")?;
     let settled = told(settles(rt, program));

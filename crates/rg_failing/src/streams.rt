@@ -1,6 +1,7 @@
 //! What only streams in memory show: which one failed, and what the machine has made. All else that
 //! a call writes is in the rows of examples/rows.txt (docs/promises.md).
 
+ghost use Rattle.std.specs.Prelude.{◌≡◌, false};
 ghost use Rattle.rg_run.specs.Machine.{IsFresh};
 
 use rg_base::{Memory, Val};
@@ -55,7 +56,8 @@ fn ample_streams(alloc: Global, source: &[u8], input: &[u8]) -> Result<Streams, 
 
 /// Calls the program with pacers of its own.
 fn call(alloc: Global, words: &[&str], streams: &mut Streams, machine: &mut Machine) -> Status
-    requires { IsFresh machine.old }
+    requires fresh { IsFresh machine.old }
+    requires stays { machine.old.stepper.slides ≡ false }
 {
     reggio(
         alloc,
@@ -98,6 +100,7 @@ fn streams_that_fail_are_named(rt: HostRuntime) -> Result<(), Fail> {
             Status::InputFault,
         ),
         ("run", "a", 0, 0, 3, 0, "1\n2\n", "output fault\n", fault),
+        ("slide", "a", 0, 0, 3, 0, "1\n2\n", "output fault\n", fault),
         ("run", "a", 0, 1, 0, 1, "1\n", "output fault\n", fault),
         ("bulk", "2", 0, 0, 3, 0, "3\n2\n", "output fault\n", fault),
         (

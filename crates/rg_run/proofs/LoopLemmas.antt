@@ -41,15 +41,16 @@ module _ {t : Tables} {code : Code} {k : ℕ} {a b : Pending} {la lb : Option (L
   -- steps that left the input were made at once
   pub turned-leapt : {old new : Stepping} (j : ℕ) → OnInput a b la lb (Turns t code k old taken middle Still first now) →
       Leapt code j (machine_in old.parts) (machine_in new.parts) → new.since ≡ old.since → new.events ≡ old.events →
-      new.steps ≡ counted_by j old.steps → k + j ≤ 2 ^ 64 - 1 → ((bytes : List ℕ) → Chain code j (standing old now) (standing new now) bytes bytes) →
+      new.slides ≡ old.slides → new.steps ≡ counted_by j old.steps → k + j ≤ 2 ^ 64 - 1 →
+      ((bytes : List ℕ) → Chain code j (standing old now) (standing new now) bytes bytes) →
       OnInput a b la lb (Turns t code (k + j) new taken middle Still first now)
-  turned-leapt {old} {new} j turns leaps since events counts within chain =
+  turned-leapt {old} {new} j turns leaps since events slides counts within chain =
       OnInput-map a b la lb (Turns t code k old taken middle Still first now) (Turns t code (k + j) new taken middle Still first now) turns
       (λ x y h. record {
         between = leapt t code k j (machine_in old.parts) (machine_in new.parts) Still x y taken middle h.between leaps;
         asked = asked-leapt t code k j (machine_in old.parts) (machine_in new.parts) Still x y taken middle first now h.between h.asked leaps;
         since = since-leapt t code k j old new Still x y taken middle h.between h.since leaps since events counts within;
-        states = led-on j (standing old now) (standing new now) x y y h.states (chain y);
+        states = led-on j (standing old now) (standing new now) x y y h.states slides (chain y);
       })
 
   module _ {n : ℕ} {st : Stepping} {started : Bool}
@@ -64,7 +65,7 @@ module _ {t : Tables} {code : Code} {k : ℕ} {a b : Pending} {la lb : Option (L
           ran = inr (ran x y h.between);
           asked = h.asked;
           since = since-yes (program_of t) x (kept started st k) h.since;
-          states = λ begun. runs-through started (standing st now) (standing st now) e x y y h.states (leaves y);
+          states = λ begun. runs-through started (standing st now) (standing st now) e x y y h.states refl (leaves y);
         })
 
     -- all steps were made

@@ -20,5 +20,8 @@ module _ {code : Code} {old new : Standing} {result : Outcome} {a b : Pending} {
   added =
       step-adds (due_at code.ops old.stepper.parts.at) old.stepper some.2.serves.0 new.stepper old.pacers new.pacers result some.2.serves.3
 
+  pub slides : new.stepper.slides ≡ old.stepper.slides
+  slides = some.2.slides
+
   pub yeses : (behind : List Event) × (new.stepper.events ≡ old.stepper.events ++ behind) × YesesTold behind old.pacers new.pacers
   yeses = let y = some.2.yeses in (y.0, y.1, y.2)

@@ -10,7 +10,7 @@ use Rattle.rg_code.specs.Lowering.{Lowers}
 use Rattle.rg_held.specs.Frees.{gone}
 use Rattle.rg_held.specs.Shown.{ShowsHeld}
 use Rattle.rg_machine.specs.Parts.{machine_in}
-use Rattle.rg_step.specs.Steps.{Stepping, fresh}
+use Rattle.rg_step.specs.Steps.{Stepping}
 use Rattle.rg_step.specs.Steps as stepper
 
 -- whether a run has begun, the stack machine, and the whole steps that it made
@@ -19,10 +19,10 @@ pub record Kept : Type 0 where
   pub stepper : Stepping
   pub steps : ℕ
 
--- no run has begun
+-- no run has begun, whether or not it was chosen that what collections keep moves
 pub record IsFresh (m : Kept) : Type 0 where
   pub begun : m.begun ≡ false
-  pub stepper : m.stepper ≡ fresh
+  pub stepper : stepper.IsFresh m.stepper
   pub steps : m.steps ≡ 0
 
 -- the stack machine shows all that it holds of a state of a program, for the program's code, whatever is left of the input there

@@ -20,12 +20,12 @@ LeavesAt code (ended.Trap kind line) last now before after = OneStep code last n
 LeavesAt code ended.InputFault last now before after = OneStep code last now outcome.InputFault before after
 LeavesAt code ended.Memory last now before after = ((now ≡ last) × (after ≡ before)) ⊎ OneStep code last now outcome.Memory before after
 
--- The states of a run, one more than it has whole steps: the first is that in which a program opens whose main has this manager, each other one
--- follows by a step, and the machine is left at the last one.
+-- The states of a run, one more than it has whole steps: the first is that in which a program opens whose main has this manager, with the choice of
+-- whether what is kept moves, each other one follows by a step, and the machine is left at the last one.
 pub record RunsThrough (code : Code) (manager : Manager) (m : Kept) (result : Ended) (first last : Asks) (before after : List ℕ) : Type 0 where
   pub parts : Parts
   pub opens : machine_in parts ≡ opening_machine code manager
   pub end : Standing
   pub left : List ℕ
-  pub chain : Chain code m.steps (record { stepper = record fresh { parts = parts }; pacers = first }) end before left
+  pub chain : Chain code m.steps (record { stepper = record fresh { parts = parts; slides = m.stepper.slides }; pacers = first }) end before left
   pub leaves : LeavesAt code result end (record { stepper = m.stepper; pacers = last }) left after

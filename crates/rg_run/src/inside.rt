@@ -5,7 +5,7 @@ ghost use Rattle.rg_tree.specs.Rows.RowTrees.{program_of};
 ghost use Rattle.rg_code.specs.Lowering.{Lowers};
 ghost use Rattle.rg_io.specs.Content.{Rose};
 ghost use Rattle.rg_input.specs.Numbers.{Follows, OnInput};
-ghost use Rattle.rg_step.specs.Steps.{fresh};
+ghost use Rattle.rg_step.specs.Steps.{IsFresh as IsAtStart};
 ghost use Rattle.rg_run.specs.Inner.{kept_of};
 ghost use Rattle.rg_step.specs.Asking.{YesesTold};
 ghost use Rattle.rg_run.specs.Machine.{IsFresh};
@@ -85,7 +85,8 @@ impl Inside {
             })) }
         ensures begun { result ≢ Ended.Memory → self.new.begun ≡ true }
         ensures kept { self.new.begun ≡ false →
-            (self.new.stepper ≡ fresh) × (self.new.steps ≡ 0) }
+            IsAtStart self.new.stepper × (self.new.steps ≡ 0) }
+        ensures slides { self.new.stepper.slides ≡ self.old.stepper.slides }
         ensures notes { Reports report result self.new.stepper.events
             (R.taken notes.old) (R.taken notes.new) }
         ensures tuned { (tuned count.new ≡ tuned count.old) × (tuned trace.new ≡ tuned trace.old) }

@@ -1,6 +1,6 @@
 //! The machine that makes the steps of a run (docs/language.md, "Steps").
 
-ghost use Rattle.std.specs.Prelude.{ℕ, List, ◌≡◌, ◌≢◌, ◌≤◌, ◌↔◌, ◌⊎◌, IsTrue, IfOk, true};
+ghost use Rattle.std.specs.Prelude.{ℕ, List, ◌≡◌, ◌≢◌, ◌≤◌, ◌↔◌, ◌⊎◌, IsTrue, IfOk, true, false};
 ghost use Rattle.rg_tree.specs.Rows.Tables.{Tables};
 ghost use Rattle.rg_tree.specs.Rows.RowTrees.{program_of};
 ghost use Rattle.rg_code.specs.Lowering.{Lowers};
@@ -32,7 +32,7 @@ pub struct Machine {
 
 impl Model for Machine {
     ghost use Rattle.std.specs.Prelude.{◌≡◌, false};
-    ghost use Rattle.rg_step.specs.Steps.{fresh};
+    ghost use Rattle.rg_step.specs.Steps.{IsFresh as IsAtStart};
     ghost use Rattle.rg_run.specs.Machine.{Kept};
 
     ghost Value = { Kept };
@@ -44,13 +44,14 @@ impl Model for Machine {
     } };
 
     ghost invariant = { λ m. m.inside.begun ≡ false →
-        (m.inside.stepper ≡ fresh) × (m.inside.steps ≡ 0) };
+        IsAtStart m.inside.stepper × (m.inside.steps ≡ 0) };
 }
 
 impl Machine {
     /// A machine on which no run has begun.
     pub fn new(alloc: Global) -> Machine
-        ensures { IsFresh result }
+        ensures fresh { IsFresh result }
+        ensures slides { result.stepper.slides ≡ false }
     {
         Machine {
             inside: Inside {
@@ -59,6 +60,22 @@ impl Machine {
                 steps: 0,
             },
         }
+    }
+
+    /// Chooses, before a run begins, that a collection of a traced region moves what it keeps.
+    pub fn slide(&mut self)
+        requires { IsFresh self.old }
+        ensures fresh { IsFresh self.new }
+        ensures slides { self.new.stepper.slides ≡ true }
+    {
+        self.inside.stepper.slide();
+    }
+
+    /// Whether a collection of a traced region moves what it keeps.
+    pub fn slides(&self) -> bool
+        ensures { result ≡ self.now.stepper.slides }
+    {
+        self.inside.stepper.slides()
     }
 
     /// Whether no run has begun. Such a machine has made no step and holds nothing.
@@ -157,6 +174,7 @@ impl Machine {
               };
             })) }
         ensures begun { result ≢ Ended.Memory → self.new.begun ≡ true }
+        ensures slides { self.new.stepper.slides ≡ self.old.stepper.slides }
         ensures notes { Reports report result self.new.stepper.events
             (R.taken notes.old) (R.taken notes.new) }
         ensures tuned { (tuned count.new ≡ tuned count.old) × (tuned trace.new ≡ tuned trace.old) }

@@ -67,6 +67,7 @@ pub(crate) fn step<S: Source>(
           };
         }) result) }
     ensures events { Adds stepper.new.steps stepper.old.events stepper.new.events result }
+    ensures slides { stepper.new.slides ≡ stepper.old.slides }
     ensures count { tuned count.new ≡ tuned count.old }
     ensures trace { tuned trace.new ≡ tuned trace.old }
     ensures yeses { (behind : List Event) × (stepper.new.events ≡ stepper.old.events ++ behind)

@@ -14,7 +14,7 @@ use Rattle.rg_top.specs.Commands.{Command, command, Origin, in_file, origin_of, 
 use Rattle.rg_top.specs.Statuses.{is_answer, is_refusal, is_cut_off, is_from_outside}
 use Rattle.rg_top.specs.Expected.{HasSource, ExpectsStatus}
 use Rattle.rg_top.specs.Headline.{ForInput, ForSource, Exactly, ExactlyWhere, Answers, Untouched, CutOffAt, CutAtInput}
-use Rattle.rg_top.specs.Inner.Settled.{Settles, Unread, source_fault, memory, SettlesCommand, Refuses, Caused, Tunes, Becomes}
+use Rattle.rg_top.specs.Inner.Settled.{Settles, Unread, source_fault, memory, SettlesCommand, Refuses, Caused, Tunes, Chooses, Becomes}
 use Rattle.rg_top.proofs.MeaningLemmas.{expects-one, refusal-any}
 use Rattle.rg_top.proofs.SettledLemmas.{answers-of, cut-of, status-of}
 use Rattle.rg_top.proofs.BulkLemmas.{no-fault}
@@ -204,6 +204,14 @@ pub answer-tuned : (words : List (List ℕ)) (c : Command) (m : Kept) (count tra
 answer-tuned words c m count trace e h d again =
     let same : d ≡ c = cc in
     let P : Command → Type 0 = λ x. Tunes x m count trace in
+    subst P (sym same) h
+
+-- and whether what is kept moves is chosen by that command
+pub answer-chooses : (words : List (List ℕ)) (c : Command) (m : Kept) → command words ≡ Some c → Chooses c m →
+    (d : Command) → command words ≡ Some d → Chooses d m
+answer-chooses words c m e h d again =
+    let same : d ≡ c = cc in
+    let P : Command → Type 0 = λ x. Chooses x m in
     subst P (sym same) h
 
 -- What the top call answers behind the layers under it: the words' command, what was answered to its file, and that this was told, or an output

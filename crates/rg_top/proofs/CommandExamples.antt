@@ -6,20 +6,20 @@ use Rattle.rg_top.specs.Commands.{run, plain, command}
 abbrev run_a : List (List ℕ) → List (List ℕ)
 run_a options = codes "run" ∷ codes "a" ∷ options
 
-without_options : command (run_a []) ≡ Some (run (codes "a") 10000000 1000 false)
+without_options : command (run_a []) ≡ Some (run false (codes "a") 10000000 1000 false)
 without_options = refl
 
 every_option : command (run_a (codes "--every" ∷ codes "0" ∷ codes "--report" ∷ codes "--steps" ∷ codes "0000000007" ∷ []))
-    ≡ Some (run (codes "a") 7 0 true)
+    ≡ Some (run false (codes "a") 7 0 true)
 every_option = refl
 
-a_report_in_front : command (run_a (codes "--report" ∷ codes "--steps" ∷ codes "5" ∷ [])) ≡ Some (run (codes "a") 5 1000 true)
+a_report_in_front : command (run_a (codes "--report" ∷ codes "--steps" ∷ codes "5" ∷ [])) ≡ Some (run false (codes "a") 5 1000 true)
 a_report_in_front = refl
 
-a_report_at_the_end : command (run_a (codes "--every" ∷ codes "100" ∷ codes "--report" ∷ [])) ≡ Some (run (codes "a") 10000000 100 true)
+a_report_at_the_end : command (run_a (codes "--every" ∷ codes "100" ∷ codes "--report" ∷ [])) ≡ Some (run false (codes "a") 10000000 100 true)
 a_report_at_the_end = refl
 
-the_greatest_number : command (run_a (codes "--every" ∷ codes "1000000000" ∷ [])) ≡ Some (run (codes "a") 10000000 1000000000 false)
+the_greatest_number : command (run_a (codes "--every" ∷ codes "1000000000" ∷ [])) ≡ Some (run false (codes "a") 10000000 1000000000 false)
 the_greatest_number = refl
 
 a_greater_one : command (run_a (codes "--every" ∷ codes "1000000001" ∷ [])) ≡ None
@@ -45,6 +45,26 @@ a_number_in_the_word_itself = refl
 
 a_word_behind_a_report : command (run_a (codes "--report" ∷ codes "5" ∷ [])) ≡ None
 a_word_behind_a_report = refl
+
+-- `slide` has the same options
+abbrev slide_a : List (List ℕ) → List (List ℕ)
+slide_a options = codes "slide" ∷ codes "a" ∷ options
+
+slide_without_options : command (slide_a []) ≡ Some (run true (codes "a") 10000000 1000 false)
+slide_without_options = refl
+
+every_option_of_slide : command (slide_a (codes "--every" ∷ codes "0" ∷ codes "--report" ∷ codes "--steps" ∷ codes "7" ∷ []))
+    ≡ Some (run true (codes "a") 7 0 true)
+every_option_of_slide = refl
+
+a_report_of_slide_given_twice : command (slide_a (codes "--report" ∷ codes "--report" ∷ [])) ≡ None
+a_report_of_slide_given_twice = refl
+
+slide_without_a_file : command (codes "slide" ∷ []) ≡ None
+slide_without_a_file = refl
+
+slide_of_a_word_with_a_dash : command (codes "slide" ∷ codes "-a" ∷ []) ≡ None
+slide_of_a_word_with_a_dash = refl
 
 options_of_plain : command (codes "plain" ∷ codes "a" ∷ codes "--steps" ∷ codes "5" ∷ []) ≡ Some (plain (codes "a") 5)
 options_of_plain = refl

@@ -76,7 +76,7 @@ from-one (generated size) source m k h g = h ∙ sym g
 status-any : (c : Command) (p q : EndNumbers) (input : List ℕ) (m : Meaning) → (expected c p input m).status ≡ (expected c q input m).status
 status-any c p q input too_long = refl
 status-any c p q input (faulty f) = refl
-status-any (run file n every report) p q input (spelt t) = refl
+status-any (run slides file n every report) p q input (spelt t) = refl
 status-any (plain file n) p q input (spelt t) = refl
 status-any (fmt file) p q input (spelt t) = refl
 status-any (check file) p q input (spelt t) = refl
@@ -109,7 +109,7 @@ refusal-expected : (c : Command) (p : EndNumbers) (i j : List ℕ) (m : Meaning)
     expected c p i m ≡ record { status = s; text = text } → expected c p j m ≡ record { status = s; text = text }
 refusal-expected c p i j too_long s text r e = e
 refusal-expected c p i j (faulty f) s text r e = e
-refusal-expected (run file n every report) p i j (spelt t) s text r e = refusal-ran t i j n (first_fault t) s text r e
+refusal-expected (run slides file n every report) p i j (spelt t) s text r e = refusal-ran t i j n (first_fault t) s text r e
 refusal-expected (plain file n) p i j (spelt t) s text r e = refusal-ran t i j n (first_fault t) s text r e
 refusal-expected (fmt file) p i j (spelt t) s text r e = e
 refusal-expected (check file) p i j (spelt t) s text r e = e

@@ -147,21 +147,20 @@ run-from origin n source left t code m e old new quiet still first last more run
   | inr ran ↦ ran-from origin n source left t runs h.0 h.1 m h.2.0 old new still (λ none. more (ran.unread none)) e ran.run
 ]
 
--- is what `run` has answered, where the program comes from a file
-pub run-settles : (file : List ℕ) (n every : ℕ) (report : Bool) (source : List ℕ) (left : Option (List ℕ)) (s : Status) (old new : Option (List ℕ))
-    (m : Kept)
-    (still : Type 0) →
-    RanFrom (in_file file) n source left s old new m still → Settles (run file n every report) source left s old new m still
-run-settles file n every report source left status.Done old new m still h = h
-run-settles file n every report source left (status.Refused f) old new m still h = absurd h
-run-settles file n every report source left status.Usage old new m still h = h
-run-settles file n every report source left (status.Trap kind line) old new m still h = h
-run-settles file n every report source left status.Spent old new m still h = h
-run-settles file n every report source left status.SourceFault old new m still h = h
-run-settles file n every report source left status.InputFault old new m still h = h
-run-settles file n every report source left status.OutputFault old new m still h = h
-run-settles file n every report source left status.Memory old new m still h = h
-run-settles file n every report source left status.Long old new m still h = absurd h
+-- is what `run` or `slide` has answered, where the program comes from a file
+pub run-settles : (slides : Bool) (file : List ℕ) (n every : ℕ) (report : Bool) (source : List ℕ) (left : Option (List ℕ)) (s : Status)
+    (old new : Option (List ℕ)) (m : Kept) (still : Type 0) →
+    RanFrom (in_file file) n source left s old new m still → Settles (run slides file n every report) source left s old new m still
+run-settles slides file n every report source left status.Done old new m still h = h
+run-settles slides file n every report source left (status.Refused f) old new m still h = absurd h
+run-settles slides file n every report source left status.Usage old new m still h = h
+run-settles slides file n every report source left (status.Trap kind line) old new m still h = h
+run-settles slides file n every report source left status.Spent old new m still h = h
+run-settles slides file n every report source left status.SourceFault old new m still h = h
+run-settles slides file n every report source left status.InputFault old new m still h = h
+run-settles slides file n every report source left status.OutputFault old new m still h = h
+run-settles slides file n every report source left status.Memory old new m still h = h
+run-settles slides file n every report source left status.Long old new m still h = absurd h
 
 -- a program that the checker has passed
 pub runs-checked : (origin : Origin) (source : List ℕ) (t u : Tables) → u ≡ t → MeansFrom origin source (spelt (program_of t)) →

@@ -62,12 +62,11 @@ if-refused : (o : Option Fault) (f : Fault) (accepted refused : Type 0) → o �
 if-refused None f accepted refused e h = cc
 if-refused (Some g) f accepted refused e h = h
 
-answers-ran : (file : List ℕ) (n every : ℕ) (report : Bool) (source : List ℕ) (left : Option (List ℕ)) (s : Status) (old new : Option (List ℕ))
-    (m : Kept)
-    (still : Type 0) →
+answers-ran : (slides : Bool) (file : List ℕ) (n every : ℕ) (report : Bool) (source : List ℕ) (left : Option (List ℕ)) (s : Status)
+    (old new : Option (List ℕ)) (m : Kept) (still : Type 0) →
     RanWhole (in_file file) n source left s old new m still → ForInput left
-    (λ input. Answers (run file n every report) source input s old new m still)
-answers-ran file n every report source left s old new m still r =
+    (λ input. Answers (run slides file n every report) source input s old new m still)
+answers-ran slides file n every report source left s old new m still r =
     let t = program_of r.tables in (
       r.input,
       r.input_is,
@@ -117,7 +116,8 @@ answers-generated size source left s old new m still r =
 
 answers-well : (c : Command) (source : List ℕ) (left old new : Option (List ℕ)) (m : Kept) (still : Type 0) → EndsWell c source left old new m still →
     ForInput left (λ input. Answers c source input status.Done old new m still)
-answers-well (run file n every report) source left old new m still r = answers-ran file n every report source left status.Done old new m still r
+answers-well (run slides file n every report) source left old new m still r =
+    answers-ran slides file n every report source left status.Done old new m still r
 answers-well (plain file n) source left old new m still r = answers-beside file n source left status.Done old new m still r
 answers-well (fmt file) source left old new m still r =
     for-input left _ (λ input. record {
@@ -150,7 +150,8 @@ answers-well (bulk size) source left old new m still r = answers-generated size 
 
 answers-stops : (c : Command) (source : List ℕ) (left : Option (List ℕ)) (s : Status) (old new : Option (List ℕ)) (m : Kept) (still : Type 0) →
     StopsRun c source left s old new m still → ForInput left (λ input. Answers c source input s old new m still)
-answers-stops (run file n every report) source left s old new m still r = answers-ran file n every report source left s old new m still r
+answers-stops (run slides file n every report) source left s old new m still r =
+    answers-ran slides file n every report source left s old new m still r
 answers-stops (plain file n) source left s old new m still r = answers-beside file n source left s old new m still r
 answers-stops (fmt file) source left s old new m still r = absurd r
 answers-stops (check file) source left s old new m still r = absurd r
@@ -169,7 +170,7 @@ answers-refused c source input f old new m still u (inl h) = record {
   wrote = untouched-text old new u.1;
   leaves = (u.0, u.2);
 }
-answers-refused (run file n every report) source input f old new m still u (inr h) = record {
+answers-refused (run slides file n every report) source input f old new m still u (inr h) = record {
   meaning = spelt h.0;
   means = h.1;
   text = [];
@@ -244,10 +245,11 @@ stands-whole t input n m old new accepted shown wrote =
       wrote = wrote-whole t input r.0 old new (subst Q (ap (λ s. text s.output) (sym r.1.state)) wrote);
     })
 
-cut-ran : (file : List ℕ) (n every : ℕ) (report : Bool) (source : List ℕ) (left : Option (List ℕ)) (s : Status) (old new : Option (List ℕ)) (m : Kept)
-    (still : Type 0) →
-    RanWhole (in_file file) n source left s old new m still → ForInput left (λ input. CutOffAt (run file n every report) source input m old new still)
-cut-ran file n every report source left s old new m still r =
+cut-ran : (slides : Bool) (file : List ℕ) (n every : ℕ) (report : Bool) (source : List ℕ) (left : Option (List ℕ)) (s : Status)
+    (old new : Option (List ℕ)) (m : Kept) (still : Type 0) →
+    RanWhole (in_file file) n source left s old new m still → ForInput left
+    (λ input. CutOffAt (run slides file n every report) source input m old new still)
+cut-ran slides file n every report source left s old new m still r =
     (r.input, r.input_is, (r.tables, r.runs, stands-whole r.tables r.input n m old new r.runs.accepted r.stands r.wrote, r.unread))
 
 cut-beside : (file : List ℕ) (n : ℕ) (source : List ℕ) (left : Option (List ℕ)) (s : Status) (old new : Option (List ℕ)) (m : Kept) (still : Type 0) →
@@ -308,7 +310,8 @@ cut-generated size source s old new m input still r =
 
 cut-well : (c : Command) (source : List ℕ) (left old new : Option (List ℕ)) (m : Kept) (still : Type 0) → EndsWell c source left old new m still →
     CutOff c source left old new m still
-cut-well (run file n every report) source left old new m still r = cut-ran file n every report source left status.Done old new m still r
+cut-well (run slides file n every report) source left old new m still r =
+    cut-ran slides file n every report source left status.Done old new m still r
 cut-well (plain file n) source left old new m still r = cut-beside file n source left status.Done old new m still r
 cut-well (fmt file) source left old new m still r = (r.tree, r.means, r.fresh, whole-part old new _ r.wrote)
 cut-well (check file) source left old new m still r = (r.tree, r.runs, r.fresh, whole-part old new _ r.wrote)
@@ -317,7 +320,8 @@ cut-well (bulk size) source left old new m still r = cut-generated size source s
 
 cut-stops : (c : Command) (source : List ℕ) (left : Option (List ℕ)) (s : Status) (old new : Option (List ℕ)) (m : Kept) (still : Type 0) →
     StopsRun c source left s old new m still → CutOff c source left old new m still
-cut-stops (run file n every report) source left s old new m still r = cut-ran file n every report source left s old new m still r
+cut-stops (run slides file n every report) source left s old new m still r =
+    cut-ran slides file n every report source left s old new m still r
 cut-stops (plain file n) source left s old new m still r = cut-beside file n source left s old new m still r
 cut-stops (fmt file) source left s old new m still r = absurd r
 cut-stops (check file) source left s old new m still r = absurd r
@@ -332,7 +336,7 @@ asked t input n k old new still asks none = absurd (no_lie (sym asks.asks ∙ no
 -- a run that was cut off by the input stands at a whole step
 cut-input : (c : Command) (source : List ℕ) (left old new : Option (List ℕ)) (m : Kept) (still : Type 0) →
     ForInput left (λ input. CutAtInput c source input m old new) → CutOff c source left old new m still
-cut-input (run file n every report) source left old new m still h =
+cut-input (run slides file n every report) source left old new m still h =
     let t = h.2.0 in
     let asks = h.2.3 in (
       h.0,
@@ -370,7 +374,7 @@ cut-input (bulk size) source left old new m still h = absurd h.2
 
 cut-at : (c : Command) (source : List ℕ) (left old new : Option (List ℕ)) (m : Kept) (still : Type 0) → CutOff c source left old new m still →
     ForInput left (λ input. CutOffAt c source input m old new still)
-cut-at (run file n every report) source left old new m still h = h
+cut-at (run slides file n every report) source left old new m still h = h
 cut-at (plain file n) source left old new m still h = h
 cut-at (fmt file) source left old new m still h = for-input left _ (λ input. h)
 cut-at (check file) source left old new m still h = for-input left _ (λ input. h)
@@ -427,7 +431,7 @@ module _ (source : List ℕ) (left old new : Option (List ℕ)) (m : Kept) (stil
   untouched-still : (c : Command) → Untouched m old new (Unit {0}) ⊎ CutOff c source left old new m (Unit {0}) → reads_input c ≡ false →
       Untouched m old new still ⊎ CutOff c source left old new m still
   untouched-still c (inl u) e = inl (u.0, u.1, quiet)
-  untouched-still (run file n every report) (inr h) e = absurd (no_lie e)
+  untouched-still (run slides file n every report) (inr h) e = absurd (no_lie e)
   untouched-still (plain file n) (inr h) e = absurd (no_lie e)
   untouched-still (fmt file) (inr h) e = inr h
   untouched-still (check file) (inr h) e = inr h
@@ -435,7 +439,7 @@ module _ (source : List ℕ) (left old new : Option (List ℕ)) (m : Kept) (stil
   untouched-still (bulk size) (inr h) e = inr h
 
   well-still : (c : Command) → EndsWell c source left old new m (Unit {0}) → reads_input c ≡ false → EndsWell c source left old new m still
-  well-still (run file n every report) h e = absurd (no_lie e)
+  well-still (run slides file n every report) h e = absurd (no_lie e)
   well-still (plain file n) h e = absurd (no_lie e)
   well-still (fmt file) h e = h
   well-still (check file) h e = h
@@ -444,7 +448,7 @@ module _ (source : List ℕ) (left old new : Option (List ℕ)) (m : Kept) (stil
 
   stops-still : (c : Command) (s : Status) → StopsRun c source left s old new m (Unit {0}) → reads_input c ≡ false →
       StopsRun c source left s old new m still
-  stops-still (run file n every report) s h e = absurd (no_lie e)
+  stops-still (run slides file n every report) s h e = absurd (no_lie e)
   stops-still (plain file n) s h e = absurd (no_lie e)
   stops-still (fmt file) s h e = absurd h
   stops-still (check file) s h e = absurd h

@@ -16,8 +16,8 @@ texts words = map (λ w. w.now) words
 
 -- a command with its numbers
 pub data Command : Type 0 where
-  -- run FILE --steps N --every N --report
-  run : (file : List ℕ) → (steps every : ℕ) → (report : Bool) → Command
+  -- run FILE --steps N --every N --report, or slide with the same words: what a collection of a traced region keeps slides, where the name is that
+  run : (slides : Bool) → (file : List ℕ) → (steps every : ℕ) → (report : Bool) → Command
   -- plain FILE --steps N
   plain : (file : List ℕ) → (steps : ℕ) → Command
   -- fmt FILE
@@ -38,7 +38,7 @@ pub data Origin : Type 0 where
 
 -- where the program of a command comes from
 abbrev pub origin_of : Command → Origin
-origin_of (run file steps every report) = in_file file
+origin_of (run slides file steps every report) = in_file file
 origin_of (plain file steps) = in_file file
 origin_of (fmt file) = in_file file
 origin_of (check file) = in_file file
@@ -47,7 +47,7 @@ origin_of (bulk size) = generated size
 
 -- the most steps that a command asks for; `bulk` asks for as many as there can be, and one that runs nothing for none
 abbrev pub steps_of : Command → ℕ
-steps_of (run file steps every report) = steps
+steps_of (run slides file steps every report) = steps
 steps_of (plain file steps) = steps
 steps_of (fmt file) = 0
 steps_of (check file) = 0
@@ -56,7 +56,7 @@ steps_of (bulk size) = MOST_STEPS
 
 -- the number to which a command tunes the pacers: how often they are asked before they say yes, 0 for never; `bulk` has them say yes never
 abbrev pub every_of : Command → ℕ
-every_of (run file steps every report) = every
+every_of (run slides file steps every report) = every
 every_of (plain file steps) = 0
 every_of (fmt file) = 0
 every_of (check file) = 0
@@ -65,16 +65,25 @@ every_of (bulk size) = 0
 
 -- whether a command runs a program on the machine that is handed in
 abbrev pub runs_on : Command → Bool
-runs_on (run file steps every report) = true
+runs_on (run slides file steps every report) = true
 runs_on (plain file steps) = false
 runs_on (fmt file) = false
 runs_on (check file) = false
 runs_on (code file) = false
 runs_on (bulk size) = true
 
+-- whether it is `slide`
+abbrev pub is_slide : Command → Bool
+is_slide (run slides file steps every report) = slides
+is_slide (plain file steps) = false
+is_slide (fmt file) = false
+is_slide (check file) = false
+is_slide (code file) = false
+is_slide (bulk size) = false
+
 -- whether a command reports
 abbrev pub reports : Command → Bool
-reports (run file steps every report) = report
+reports (run slides file steps every report) = report
 reports (plain file steps) = false
 reports (fmt file) = false
 reports (check file) = false
@@ -88,7 +97,7 @@ may_report (Some c) = reports c
 
 -- whether a command may read input
 abbrev pub reads_input : Command → Bool
-reads_input (run file steps every report) = true
+reads_input (run slides file steps every report) = true
 reads_input (plain file steps) = true
 reads_input (fmt file) = false
 reads_input (check file) = false
@@ -102,7 +111,7 @@ may_read (Some c) = reads_input c
 
 -- whether a command opens a file
 abbrev pub opens_file : Command → Bool
-opens_file (run file steps every report) = true
+opens_file (run slides file steps every report) = true
 opens_file (plain file steps) = true
 opens_file (fmt file) = true
 opens_file (check file) = true
@@ -155,7 +164,8 @@ with_number o option word =
     if bytes_eq option (codes "--steps") then with_steps o word else
     if bytes_eq option (codes "--every") then with_every o word else None
 
--- What words behind the file of `run` give on top of what is given: options in any order, each at most once, each number in a word of its own.
+-- What words behind the file of `run` or `slide` give on top of what is given: options in any order, each at most once, each number in a word of
+-- its own.
 abbrev pub options_in : List (List ℕ) → Options → Option Options
 options_in [] o = Some o
 options_in (option ∷ []) o = if bytes_eq option (codes "--report") then with_report o else None
@@ -163,9 +173,9 @@ options_in (option ∷ word ∷ words) o =
     if bytes_eq option (codes "--report") then option_and_then (options_in (word ∷ words)) (with_report o)
     else option_and_then (options_in words) (with_number o option word)
 
--- `run` with its options
-abbrev pub running : List ℕ → Options → Command
-running file o = run file (unwrap_or o.steps USUAL_STEPS) (unwrap_or o.every USUAL_EVERY) o.report
+-- `run` or `slide` with its options
+abbrev pub running : (slides : Bool) → List ℕ → Options → Command
+running slides file o = run slides file (unwrap_or o.steps USUAL_STEPS) (unwrap_or o.every USUAL_EVERY) o.report
 
 -- the number of steps that the words behind the file of `plain` ask for
 abbrev pub steps_in : List (List ℕ) → Option ℕ
@@ -182,7 +192,8 @@ alone c (word ∷ words) = None
 -- what a name says of a file, with the words behind it
 abbrev pub named : List ℕ → List ℕ → List (List ℕ) → Option Command
 named name file options =
-    if bytes_eq name (codes "run") then option_map (running file) (options_in options no_options) else
+    if bytes_eq name (codes "run") then option_map (running false file) (options_in options no_options) else
+    if bytes_eq name (codes "slide") then option_map (running true file) (options_in options no_options) else
     if bytes_eq name (codes "plain") then option_map (plain file) (steps_in options) else
     if bytes_eq name (codes "fmt") then alone (fmt file) options else
     if bytes_eq name (codes "check") then alone (check file) options else

@@ -110,7 +110,7 @@ bulk_answer size numbers t input n = record {
 abbrev pub expected : Command → EndNumbers → (input : List ℕ) → Meaning → Answer
 expected c numbers input too_long = record { status = status.Long; text = [] }
 expected c numbers input (faulty f) = refused f
-expected (run file n every report) numbers input (spelt t) = unless_fault (first_fault t) (run_answer t input n)
+expected (run slides file n every report) numbers input (spelt t) = unless_fault (first_fault t) (run_answer t input n)
 expected (plain file n) numbers input (spelt t) = unless_fault (first_fault t) (run_answer t input n)
 expected (fmt file) numbers input (spelt t) = record { status = status.Done; text = canon t }
 expected (check file) numbers input (spelt t) = unless_fault (first_fault t) (record { status = status.Done; text = accepted_text })

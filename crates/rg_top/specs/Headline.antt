@@ -56,7 +56,7 @@ RunStands t input n m = (tables : Tables) × (program_of tables ≡ t) × Stands
 abbrev pub Leaves : Command → (input : List ℕ) → Meaning → Kept → (still : Type 0) → Type 0
 Leaves c input too_long m still = IsFresh m × still
 Leaves c input (faulty f) m still = IsFresh m × still
-Leaves (run file n every report) input (spelt t) m still =
+Leaves (run slides file n every report) input (spelt t) m still =
     IfAccepted (first_fault t) (RunStands t input n m × (NeverAsks t input n → still)) (IsFresh m × still)
 Leaves (plain file n) input (spelt t) m still =
     IsFresh m × IfAccepted (first_fault t) (IsSound t input n × (NeverAsks t input n → still)) still
@@ -100,7 +100,7 @@ bulk_added size t k m = added t (opening (program_of t) []) k ++ line_behind siz
 -- What a call leaves that was cut off by the output or the notes, or for want of memory. A run stands at a whole step. Else no
 -- run has begun, and the output has taken a prefix of the command's text. Where no step asks for the input, it is still as it was.
 abbrev pub CutOffAt : Command → (source input : List ℕ) → Kept → (old new : Option (List ℕ)) → (still : Type 0) → Type 0
-CutOffAt (run file n every report) source input m old new still =
+CutOffAt (run slides file n every report) source input m old new still =
     (t : Tables) × Runs (in_file file) source (program_of t)
     × StandsAfter t input n m.steps m (added t (opening (program_of t) input) m.steps) old new
     × (NeverAsks (program_of t) input n → still)
@@ -124,7 +124,7 @@ pub record AsksAfter (t : Tree) (input : List ℕ) (n k : ℕ) (old new : Option
 
 -- what a call leaves that was cut off by the input; commands other than `run` and `plain` never are
 abbrev pub CutAtInput : Command → (source input : List ℕ) → Kept → (old new : Option (List ℕ)) → Type 0
-CutAtInput (run file n every report) source input m old new =
+CutAtInput (run slides file n every report) source input m old new =
     (t : Tables) × Runs (in_file file) source (program_of t) × Stands t input m.steps m × AsksAfter (program_of t) input n m.steps old new
 CutAtInput (plain file n) source input m old new =
     (t : Tree) × Runs (in_file file) source t × IsFresh m × (k : ℕ) × AsksAfter t input n k old new

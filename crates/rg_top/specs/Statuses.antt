@@ -32,6 +32,7 @@ trap_text trap.Depth = codes "trap depth"
 abbrev pub usage_text : List ℕ
 usage_text =
     codes "usage: reggio run FILE [--steps N] [--every N] [--report]; check FILE; fmt FILE; code FILE; plain FILE [--steps N]; bulk N"
+    ++ codes "; slide FILE [--steps N] [--every N] [--report]"
 
 -- the text of a status, where so many steps were asked for
 abbrev pub status_text : ℕ → Status → List ℕ

@@ -23,7 +23,7 @@ ghost use Rattle.rg_top.specs.Commands.{Command, command, texts, run, plain, fmt
 ghost use Rattle.rg_top.specs.Commands.{bulk};
 ghost use Rattle.rg_top.specs.Commands.{Origin, in_file, generated, origin_of};
 ghost use Rattle.rg_top.specs.Commands.{steps_of, opens_file, may_open, reads_input, may_read};
-ghost use Rattle.rg_top.specs.Commands.{every_of, runs_on, reports, may_report};
+ghost use Rattle.rg_top.specs.Commands.{every_of, runs_on, is_slide, reports, may_report};
 ghost use Rattle.rg_top.specs.Inner.Requests.{command_of, AsksWithin};
 ghost use Rattle.rg_top.specs.Statuses.{status_text, is_answer, is_refusal, is_cut_off};
 ghost use Rattle.rg_top.specs.Expected.{spelt, Means, MeansFrom, IsStuck, SpellsTree};
@@ -35,7 +35,7 @@ ghost use Rattle.rg_top.specs.Headline.{TookNotes, ToldFault, steps_asked};
 ghost use Rattle.rg_top.specs.Inner.Settled.{status_of_ended, RanFrom, PutLine, Settles};
 ghost use Rattle.rg_top.specs.Inner.Settled.{SettlesCommand, IfGenerated, Brings};
 ghost use Rattle.rg_top.specs.Inner.Settled.{Caused, CausedBeside, CausedByOutput};
-ghost use Rattle.rg_top.specs.Inner.Settled.{Reported, Tunes};
+ghost use Rattle.rg_top.specs.Inner.Settled.{Reported, Tunes, Chooses};
 ghost use Rattle.rg_top.specs.Inner.Settled.{AskedCommand, AskedFrom, RunAsked};
 
 use crate::no_input::NoInput;
@@ -112,6 +112,7 @@ fn run_accepted<I: Source, O: Sink, R: Sink>(
     ensures notes { Reported report result machine.new.stepper.events
         (R.taken notes.old) (R.taken notes.new) }
     ensures tuned { (tuned count.new ≡ every) × (tuned trace.new ≡ every) }
+    ensures slides { machine.new.stepper.slides ≡ machine.old.stepper.slides }
     ensures asked { (origin : Origin) (source : List ℕ) →
         Runs origin source (program_of accepted.now.program) →
         RunAsked origin source (I.left input.old) machine.new
@@ -159,13 +160,15 @@ fn run_program<I: Source, O: Sink, R: Sink>(
 ) -> Status
     requires fresh { IsFresh machine.old }
     requires names { FewNames (program_of program) }
-    ensures settles { (file source : List ℕ) → Means source (spelt (program_of program)) →
-        Settles (run file steps every report) source (I.left input.old) result
+    ensures settles { (slides : Bool) (file source : List ℕ) →
+        Means source (spelt (program_of program)) →
+        Settles (run slides file steps every report) source (I.left input.old) result
         (O.taken out.old) (O.taken out.new) machine.new (input.new ≡ input.old) }
     ensures notes { Reported report result machine.new.stepper.events
         (R.taken notes.old) (R.taken notes.new) }
     ensures tuned { ¬ IsFresh machine.new →
         (tuned count.new ≡ every) × (tuned trace.new ≡ every) }
+    ensures slides { machine.new.stepper.slides ≡ machine.old.stepper.slides }
     ensures asked { (file source : List ℕ) → Means source (spelt (program_of program)) →
         RunAsked (in_file file) source (I.left input.old) machine.new
         (asks count.old) (asks count.new) (asks trace.old) (asks trace.new) }
@@ -340,6 +343,7 @@ fn bulk_accepted<O: Sink, R: Sink>(
         (O.taken out.old) (O.taken out.new) machine.new (Unit {0}) }
     ensures notes { R.taken notes.new ≡ R.taken notes.old }
     ensures tuned { (tuned count.new ≡ 0) × (tuned trace.new ≡ 0) }
+    ensures slides { machine.new.stepper.slides ≡ machine.old.stepper.slides }
     ensures asked { (source : List ℕ) →
         Runs (generated size) source (program_of accepted.now.program) →
         RunAsked (generated size) source (Some []) machine.new
@@ -379,6 +383,7 @@ fn bulk_program<O: Sink, R: Sink>(
         (O.taken out.old) (O.taken out.new) machine.new (Unit {0}) }
     ensures notes { R.taken notes.new ≡ R.taken notes.old }
     ensures tuned { ¬ IsFresh machine.new → (tuned count.new ≡ 0) × (tuned trace.new ≡ 0) }
+    ensures slides { machine.new.stepper.slides ≡ machine.old.stepper.slides }
     ensures asked { (source : List ℕ) →
         MeansFrom (generated size) source (spelt (program_of program)) →
         RunAsked (generated size) source (Some []) machine.new
@@ -395,6 +400,18 @@ fn bulk_program<O: Sink, R: Sink>(
     }
 }
 
+/// Chooses whether what a collection of a traced region keeps moves.
+fn choose(slides: bool, machine: &mut Machine)
+    requires fresh { IsFresh machine.old }
+    requires stays { machine.old.stepper.slides ≡ false }
+    ensures fresh { IsFresh machine.new }
+    ensures slides { machine.new.stepper.slides ≡ slides }
+{
+    if slides {
+        machine.slide();
+    }
+}
+
 /// Does what is asked for with its program.
 fn answer_program<I: Source, O: Sink, R: Sink>(
     alloc: Global,
@@ -408,6 +425,7 @@ fn answer_program<I: Source, O: Sink, R: Sink>(
     machine: &mut Machine,
 ) -> Status
     requires fresh { IsFresh machine.old }
+    requires stays { machine.old.stepper.slides ≡ false }
     requires names { FewNames (program_of program) }
     requires accepted { IfGenerated (origin_of (command_of request))
         (IsAccepted (program_of program)) }
@@ -421,6 +439,7 @@ fn answer_program<I: Source, O: Sink, R: Sink>(
         machine.new.stepper.events (R.taken notes.old) (R.taken notes.new) }
     ensures tuned { Tunes (command_of request.entry) machine.new
         (tuned count.new) (tuned trace.new) }
+    ensures slides { machine.new.stepper.slides ≡ is_slide (command_of request.entry) }
     ensures asked { (source : List ℕ) →
         MeansFrom (origin_of (command_of request.entry)) source (spelt (program_of program)) →
         AskedFrom (origin_of (command_of request.entry)) source (I.left input.old) machine.new
@@ -432,13 +451,17 @@ fn answer_program<I: Source, O: Sink, R: Sink>(
 {
     match request {
         Request::Run {
+            slides,
             steps,
             every,
             report,
             ..
-        } => run_program(
-            alloc, program, steps, every, report, input, out, notes, count, trace, machine,
-        ),
+        } => {
+            choose(slides, machine);
+            run_program(
+                alloc, program, steps, every, report, input, out, notes, count, trace, machine,
+            )
+        }
         Request::Plain { steps, .. } => plain_program(alloc, program, steps, input, out),
         Request::Format { .. } => format_program(alloc, &program, out),
         Request::Check { .. } => check_program(alloc, program, out),
@@ -516,6 +539,7 @@ fn answer<F: Files, I: Source, O: Sink, R: Sink>(
     machine: &mut Machine,
 ) -> Status
     requires fresh { IsFresh machine.old }
+    requires stays { machine.old.stepper.slides ≡ false }
     requires within { AsksWithin request }
     ensures settles { SettlesCommand (F.told files.old) (command_of request.entry)
         (I.left input.old) result (O.taken out.old) (O.taken out.new) machine.new
@@ -528,6 +552,7 @@ fn answer<F: Files, I: Source, O: Sink, R: Sink>(
         machine.new.stepper.events (R.taken notes.old) (R.taken notes.new) }
     ensures tuned { Tunes (command_of request.entry) machine.new
         (tuned count.new) (tuned trace.new) }
+    ensures slides { Chooses (command_of request.entry) machine.new }
     ensures asked { AskedCommand (F.told files.old) (origin_of (command_of request.entry))
         (I.left input.old) machine.new
         (asks count.old) (asks count.new) (asks trace.old) (asks trace.new) }
@@ -572,7 +597,8 @@ fn reports(request: Request<'_>) -> bool
 /// Does what the words say: reads the file that they name, or generates the program of the size
 /// that they say, runs it for as many steps as they say, a file's on the input, gives the output
 /// to `out` and the text of the status to `notes`, with a report where the words ask for it, and
-/// answers the status. The pacers say when an active region is collected, and decide nothing else.
+/// answers the status. The pacers say when an active region is collected, and decide nothing else;
+/// with `slide`, what a collection of a traced region keeps moves, which decides nothing else.
 pub fn reggio<F: Files, I: Source, O: Sink, R: Sink>(
     alloc: Global,
     words: &[&str],
@@ -584,7 +610,8 @@ pub fn reggio<F: Files, I: Source, O: Sink, R: Sink>(
     trace: &mut dyn Pacer,
     machine: &mut Machine,
 ) -> Status
-    requires { IsFresh machine.old }
+    requires fresh { IsFresh machine.old }
+    requires stays { machine.old.stepper.slides ≡ false }
 
     // What the call writes and leaves.
     ensures answered { OnTrue (is_answer result)
@@ -609,6 +636,8 @@ pub fn reggio<F: Files, I: Source, O: Sink, R: Sink>(
     ensures tuned { (c : Command) → command (texts words.now) ≡ Some c → runs_on c ≡ true →
         ¬ IsFresh machine.new →
         (tuned count.new ≡ every_of c) × (tuned trace.new ≡ every_of c) }
+    ensures slides { (c : Command) → command (texts words.now) ≡ Some c →
+        ¬ IsFresh machine.new → machine.new.stepper.slides ≡ is_slide c }
     ensures asked { Unasked machine.new
         (asks count.old) (asks count.new) (asks trace.old) (asks trace.new)
         ⊎ ForSource (F.told files.old) (I.left input.old) (texts words.now)

@@ -23,8 +23,9 @@ pub(crate) const MOST_EVERY: u64 = 1_000_000_000;
 /// What the words ask for, with the file that they name or the size of a generated program.
 #[derive(Clone, Copy)]
 pub(crate) enum Request<'a> {
-    /// `run FILE --steps N --every N --report`
+    /// `run FILE --steps N --every N --report`, or `slide` with the same words
     Run {
+        slides: bool,
         file: &'a str,
         steps: u64,
         every: u64,
@@ -53,7 +54,7 @@ pub(crate) enum Request<'a> {
     },
 }
 
-/// What the words behind the file of `run` have given so far.
+/// What the words behind the file of `run` or `slide` have given so far.
 #[derive(Clone, Copy)]
 struct Options {
     steps: Option<u64>,
@@ -203,14 +204,15 @@ fn options_in(words: &[&str]) -> Option<Options>
     Some(so_far)
 }
 
-/// `run` on a file with the options that words give.
-fn run<'a>(file: &'a str, words: &[&str]) -> Option<Request<'a>>
+/// `run` or `slide` on a file with the options that words give.
+fn run<'a>(slides: bool, file: &'a str, words: &[&str]) -> Option<Request<'a>>
     ensures is { option_map command_of result
-        ≡ option_map (running file.now) (options_in (texts words.now) no_options) }
+        ≡ option_map (running slides file.now) (options_in (texts words.now) no_options) }
     ensures within { IfSome result AsksWithin }
 {
     let given = options_in(words)?;
     Some(Request::Run {
+        slides,
         file,
         steps: given.steps.unwrap_or(USUAL_STEPS),
         every: given.every.unwrap_or(USUAL_EVERY),
@@ -260,7 +262,10 @@ fn named<'a>(name: &str, file: &'a str, options: &[&str]) -> Option<Request<'a>>
     ensures within { IfSome result AsksWithin }
 {
     if name == "run" {
-        return run(file, options);
+        return run(false, file, options);
+    }
+    if name == "slide" {
+        return run(true, file, options);
     }
     if name == "plain" {
         return match steps(options) {

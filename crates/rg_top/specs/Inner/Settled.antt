@@ -23,7 +23,7 @@ use Rattle.rg_run.specs.Sound.{Stands, NeverAsks}
 use Rattle.rg_top.specs.Asked.{Unasked, RunAsks, input_for}
 use Rattle.rg_top.specs.declared.status.Status.{Status}
 use Rattle.rg_top.specs.declared.status.Status.TheVariants as status
-use Rattle.rg_top.specs.Commands.{Command, run, plain, fmt, check, code, bulk, Origin, in_file, generated, origin_of, every_of, runs_on}
+use Rattle.rg_top.specs.Commands.{Command, run, plain, fmt, check, code, bulk, Origin, in_file, generated, origin_of, every_of, runs_on, is_slide}
 use Rattle.rg_top.specs.Statuses.{status_text}
 use Rattle.rg_top.specs.Expected.{too_long, faulty, spelt, HasSource, MeansFrom, Means, status_of}
 use Rattle.rg_top.specs.Expected.{accepted_text, listed_text, text_after, line_behind}
@@ -137,7 +137,7 @@ pub record Listed (file source : List ℕ) (old new : Option (List ℕ)) (m : Ke
 
 -- a command that came to its end
 abbrev pub EndsWell : Command → (source : List ℕ) → (left old new : Option (List ℕ)) → Kept → (still : Type 0) → Type 0
-EndsWell (run file n every report) source left old new m still = RanWhole (in_file file) n source left status.Done old new m still
+EndsWell (run slides file n every report) source left old new m still = RanWhole (in_file file) n source left status.Done old new m still
 EndsWell (plain file n) source left old new m still = RanBeside file n source left status.Done old new m still
 EndsWell (fmt file) source left old new m still = Formatted source old new m
 EndsWell (check file) source left old new m still = Passed file source old new m
@@ -146,7 +146,7 @@ EndsWell (bulk size) source left old new m still = RanGenerated size source stat
 
 -- a run that didn't
 abbrev pub StopsRun : Command → (source : List ℕ) → (left : Option (List ℕ)) → Status → (old new : Option (List ℕ)) → Kept → (still : Type 0) → Type 0
-StopsRun (run file n every report) source left s old new m still = RanWhole (in_file file) n source left s old new m still
+StopsRun (run slides file n every report) source left s old new m still = RanWhole (in_file file) n source left s old new m still
 StopsRun (plain file n) source left s old new m still = RanBeside file n source left s old new m still
 StopsRun (fmt file) source left s old new m still = ⊥
 StopsRun (check file) source left s old new m still = ⊥
@@ -159,7 +159,7 @@ HasFault source f = (t : Tree) × Means source (spelt t) × (first_fault t ≡ S
 
 -- the checker's fault, where a command checks
 abbrev pub IsFaulted : Command → List ℕ → Fault → Type 0
-IsFaulted (run file n every report) source f = HasFault source f
+IsFaulted (run slides file n every report) source f = HasFault source f
 IsFaulted (plain file n) source f = HasFault source f
 IsFaulted (fmt file) source f = ⊥
 IsFaulted (check file) source f = HasFault source f
@@ -168,8 +168,8 @@ IsFaulted (bulk size) source f = ⊥
 
 -- a command that was cut off by the output or for want of memory; one that reads no input has none
 abbrev pub CutOff : Command → (source : List ℕ) → (left old new : Option (List ℕ)) → Kept → (still : Type 0) → Type 0
-CutOff (run file n every report) source left old new m still = ForInput left
-    (λ input. CutOffAt (run file n every report) source input m old new still)
+CutOff (run slides file n every report) source left old new m still = ForInput left
+    (λ input. CutOffAt (run slides file n every report) source input m old new still)
 CutOff (plain file n) source left old new m still = ForInput left (λ input. CutOffAt (plain file n) source input m old new still)
 CutOff (fmt file) source left old new m still = CutOffAt (fmt file) source [] m old new still
 CutOff (check file) source left old new m still = CutOffAt (check file) source [] m old new still
@@ -284,6 +284,10 @@ Gave whole given answer old new = ((answer ≡ given) × Appends old new whole) 
 -- both pacers were tuned to the command's number, where it has begun a run
 abbrev pub Tunes : Command → Kept → (count trace : ℕ) → Type 0
 Tunes c m count trace = runs_on c ≡ true → ¬ IsFresh m → (count ≡ every_of c) × (trace ≡ every_of c)
+
+-- what is kept moves for `slide` alone, where a run has begun
+abbrev pub Chooses : Command → Kept → Type 0
+Chooses c m = ¬ IsFresh m → m.stepper.slides ≡ is_slide c
 
 -- what is told is the status that was given, or that the rest couldn't be told
 abbrev pub Becomes : (given answer : Status) → Type 0

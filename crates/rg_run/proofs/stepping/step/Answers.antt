@@ -1,5 +1,5 @@
 -- What a step adds, of what it did.
-use Rattle.rg_run.proofs.StepLemmas.{added, yeses}
+use Rattle.rg_run.proofs.StepLemmas.{added, slides, yeses}
 use Rattle.rg_run.proofs.stepping.step.Goals as goal
 
 pub returns-clause-events : goal.returns-clause-events
@@ -10,6 +10,9 @@ returns-clause-count g c = (added c.step.ensures.follows c.step.ensures.step).1.
 
 pub returns-clause-trace : goal.returns-clause-trace
 returns-clause-trace g c = (added c.step.ensures.follows c.step.ensures.step).1.1
+
+pub returns-clause-slides : goal.returns-clause-slides
+returns-clause-slides g c = slides c.step.ensures.follows c.step.ensures.step
 
 pub returns-clause-yeses : goal.returns-clause-yeses
 returns-clause-yeses g c = yeses c.step.ensures.follows c.step.ensures.step

@@ -7,7 +7,7 @@ use Rattle.rg_top.proofs.top.answer_program.Goals as goal
 
 pub returns-in-Run-clause-settles : goal.returns-in-Run-clause-settles
 returns-in-Run-clause-settles g c = λ source means.
-    rw c.in-Run.is (c.run_program.ensures.settles c.in-Run.file.now source (rw c.in-Run.is at means))
+    rw c.in-Run.is (c.run_program.ensures.settles c.in-Run.slides c.in-Run.file.now source (rw c.in-Run.is at means))
 
 pub returns-in-Plain-clause-settles : goal.returns-in-Plain-clause-settles
 returns-in-Plain-clause-settles g c = λ source means.

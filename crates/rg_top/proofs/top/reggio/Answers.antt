@@ -7,7 +7,7 @@ use Rattle.rg_top.specs.Commands.{texts}
 use Rattle.rg_top.specs.Inner.Requests.{command_of}
 use Rattle.rg_top.proofs.AnswerLemmas.{Answered, answer-answered, answer-cut, answer-input, answer-exactly, answer-refused, answer-complete}
 use Rattle.rg_top.proofs.AnswerLemmas.{answer-unread, answer-unopened, answer-untouched, answer-output, answer-tuned, answer-usage, given-is}
-use Rattle.rg_top.proofs.AnswerLemmas.{usage-exactly}
+use Rattle.rg_top.proofs.AnswerLemmas.{answer-chooses, usage-exactly}
 use Rattle.rg_top.proofs.NotesLemmas.{asked-notes, asked-fault}
 use Rattle.rg_top.proofs.AskedLemmas.{asked-words, yeses-fresh}
 use Rattle.rg_top.proofs.top.reggio.Given.{Over}
@@ -50,6 +50,10 @@ returns-in-Some-clause-output_fault_told g c = λ e n.
 pub returns-in-Some-clause-tuned : goal.returns-in-Some-clause-tuned
 returns-in-Some-clause-tuned g c =
     answer-tuned (texts c.args.words.now) (command_of c.in-Some.request) _ _ _ c.in-Some.ensures.is c.answer-status.ensures.tuned
+
+pub returns-in-Some-clause-slides : goal.returns-in-Some-clause-slides
+returns-in-Some-clause-slides g c =
+    answer-chooses (texts c.args.words.now) (command_of c.in-Some.request) _ c.in-Some.ensures.is c.answer-status.ensures.slides
 
 pub returns-in-Some-clause-answered : goal.returns-in-Some-clause-answered
 returns-in-Some-clause-answered g c = answer-answered (answered g c)
@@ -123,7 +127,7 @@ pub returns-in-Some-clause-yeses : goal.returns-in-Some-clause-yeses
 returns-in-Some-clause-yeses g c = c.answer-status.ensures.yeses
 
 pub returns-in-None-clause-asked : goal.returns-in-None-clause-asked
-returns-in-None-clause-asked g c = inl (record { fresh = c.requires; count = refl; trace = refl })
+returns-in-None-clause-asked g c = inl (record { fresh = c.requires.fresh; count = refl; trace = refl })
 
 pub returns-in-None-clause-yeses : goal.returns-in-None-clause-yeses
-returns-in-None-clause-yeses g c = yeses-fresh _ _ _ _ _ c.requires refl refl
+returns-in-None-clause-yeses g c = yeses-fresh _ _ _ _ _ c.requires.fresh refl refl

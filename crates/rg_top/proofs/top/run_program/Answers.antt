@@ -6,8 +6,8 @@ use Rattle.rg_top.proofs.AskedLemmas.{yeses-fresh}
 use Rattle.rg_top.proofs.top.run_program.Goals as goal
 
 pub returns-in-Ok-clause-settles : goal.returns-in-Ok-clause-settles
-returns-in-Ok-clause-settles g c = λ file source means.
-    run-settles file c.args.steps c.args.every c.args.report source _ _ _ _ _ _
+returns-in-Ok-clause-settles g c = λ slides file source means.
+    run-settles slides file c.args.steps c.args.every c.args.report source _ _ _ _ _ _
     (c.run_accepted.ensures.ran (in_file file) source
     (runs-checked (in_file file) source c.args.program _ c.in-Ok.ensures.program means c.in-Ok.ensures.judged))
 

@@ -7,7 +7,7 @@ use Rattle.rg_tree.specs.Rows.RowTrees.{program_of}
 use Rattle.rg_rules.specs.Acceptance.{Accepted}
 use Rattle.rg_input.proofs.InputLemmas.{OnInput-still}
 use Rattle.rg_machine.specs.Parts.{machine_in}
-use Rattle.rg_step.specs.Steps.{IsFresh, Stepping, fresh, opening_machine}
+use Rattle.rg_step.specs.Steps.{Stepping, fresh, opening_machine}
 use Rattle.rg_run.proofs.AskLemmas.{yeses-none, yeses-of, yeses-more}
 use Rattle.rg_run.proofs.LoopLemmas.{went-on, printed-on, turned-leapt, spent, untold, done, done-untold}
 use Rattle.rg_run.proofs.LoopLemmas.{trapped, cut-before, cut-at-input, cut-behind}
@@ -19,7 +19,7 @@ use Rattle.rg_run.proofs.ReportLemmas.{reports-unbegun, untold-input}
 use Rattle.rg_run.proofs.inside.Inside.run.Goals as goal
 
 pub begin-requires : goal.begin-requires
-begin-requires g c = subst IsFresh (sym c.requires.fresh.stepper) refl
+begin-requires g c = c.requires.fresh.stepper
 
 pub loop-self-init : goal.loop-self-init
 loop-self-init g c =
@@ -33,11 +33,12 @@ loop-self-init g c =
     let h = c.in-Ok.ensures.begun in
     let opens : machine_in h.0 ≡ opening_machine code t.manager =
     h.1 ∙ ap (opening_machine code) (c.main_manager.ensures ∙ ap (λ (q : Tables). q.manager) c.program-program.ensures.program) in
-    let begun : c.begin.new.self ≡ record fresh { parts = h.0 } =
+    let begun : c.begin.new.self ≡ record fresh { parts = h.0; slides = c.args.self.now.stepper.slides } =
     h.2 ∙ ap (λ (s : Stepping). record s { parts = h.0 }) c.requires.fresh.stepper in
     let is : m ≡ opening_machine code t.manager = ap (λ (s : Stepping). machine_in s.parts) begun ∙ opens in
     record {
       begun = refl;
+      slides = ap (λ (s : Stepping). s.slides) begun;
       follows = c.requires.follows;
       within = omega (arith, c.requires.fresh.steps);
       source_never_falls = omega arith;
@@ -56,7 +57,7 @@ loop-self-init g c =
             asked = asked-none (program_of t) bytes c.args.self.now.steps _ c.requires.fresh.steps;
             since = since-none (program_of t) bytes c.args.self.now.steps c.begin.new.self c.requires.fresh.steps
                 (ap (λ (s : Stepping). s.steps) begun) (ap (λ (s : Stepping). s.since) begun) (ap (λ (s : Stepping). s.events) begun);
-            states = opened h.0 c.begin.new.self opens begun c.requires.fresh.steps bytes;
+            states = opened h.0 c.args.self.now.stepper.slides c.begin.new.self opens begun c.requires.fresh.steps bytes;
           });
     }
 
@@ -75,6 +76,7 @@ loop-self-preserved-in-Running g c =
     let room : c.loop-self.self.steps < 2 ^ 64 - 1 = omega (arith, c.loop-self-test.true, c.ranges.n) in
     record {
       begun = c.loop-self.invariant.begun;
+      slides = c.leap.ensures.slides ∙ c.in-Running.ensures.slides ∙ c.loop-self.invariant.slides;
       follows = c.in-Running.ensures.follows;
       within = omega (arith, within, c.leap.ensures.most);
       source_never_falls = omega (arith, c.loop-self.invariant.source_never_falls, c.in-Running.ensures.never_falls);
@@ -90,7 +92,7 @@ loop-self-preserved-in-Running g c =
       yeses = yeses-of new.events c.leap.new.self.events _ _ c.leap.ensures.events
           (yeses-more c.loop-self.self.stepper.events new.events _ _ _ c.loop-self.invariant.yeses c.in-Running.ensures.yeses);
       turns = turned-leapt c.leap.result (went-on c.loop-self.invariant.turns c.in-Running.ensures.reads_nothing room c.in-Running.ensures.one)
-          c.leap.ensures.leaps c.leap.ensures.since c.leap.ensures.events c.leap.ensures.counts
+          c.leap.ensures.leaps c.leap.ensures.since c.leap.ensures.events c.leap.ensures.slides c.leap.ensures.counts
           (omega (arith, within, c.leap.ensures.most, c.ranges.n)) (c.leap.ensures.chain _);
     }
 
@@ -101,6 +103,7 @@ loop-self-preserved g c =
     let room : c.loop-self.self.steps < 2 ^ 64 - 1 = omega (arith, c.loop-self-test.true, c.ranges.n) in
     record {
       begun = c.loop-self.invariant.begun;
+      slides = c.in-Printed.ensures.slides ∙ c.loop-self.invariant.slides;
       follows = c.in-Printed.ensures.follows;
       within = omega arith;
       source_never_falls = omega (arith, c.loop-self.invariant.source_never_falls, c.in-Printed.ensures.never_falls);
@@ -267,6 +270,36 @@ returns-clause-yeses g c = c.loop-self.invariant.yeses
 
 pub returns-in_default-clause-yeses : goal.returns-in_default-clause-yeses
 returns-in_default-clause-yeses g c = yeses-none _ _ (ap (λ (s : Stepping). s.events) (c.in_default.ensures.kept ∙ c.requires.fresh.stepper))
+
+pub returns-in-Err-clause-slides : goal.returns-in-Err-clause-slides
+returns-in-Err-clause-slides g c = c.in-Running.ensures.slides ∙ c.loop-self.invariant.slides
+
+pub returns-in-Err-put_value-clause-slides : goal.returns-in-Err-put_value-clause-slides
+returns-in-Err-put_value-clause-slides g c = c.in-Printed.ensures.slides ∙ c.loop-self.invariant.slides
+
+pub returns-in-Err-tell-clause-slides : goal.returns-in-Err-tell-clause-slides
+returns-in-Err-tell-clause-slides g c = c.in-Printed.ensures.slides ∙ c.loop-self.invariant.slides
+
+pub returns-in-Err-tell-2-clause-slides : goal.returns-in-Err-tell-2-clause-slides
+returns-in-Err-tell-2-clause-slides g c = c.in-Done.ensures.slides ∙ c.loop-self.invariant.slides
+
+pub returns-in-Done-clause-slides : goal.returns-in-Done-clause-slides
+returns-in-Done-clause-slides g c = c.in-Done.ensures.slides ∙ c.loop-self.invariant.slides
+
+pub returns-in-Trap-clause-slides : goal.returns-in-Trap-clause-slides
+returns-in-Trap-clause-slides g c = c.in-Trap.ensures.slides ∙ c.loop-self.invariant.slides
+
+pub returns-in-InputFault-clause-slides : goal.returns-in-InputFault-clause-slides
+returns-in-InputFault-clause-slides g c = c.in-InputFault.ensures.slides ∙ c.loop-self.invariant.slides
+
+pub returns-in-Memory-clause-slides : goal.returns-in-Memory-clause-slides
+returns-in-Memory-clause-slides g c = c.in-Memory.ensures.slides ∙ c.loop-self.invariant.slides
+
+pub returns-clause-slides : goal.returns-clause-slides
+returns-clause-slides g c = c.loop-self.invariant.slides
+
+pub returns-in_default-clause-slides : goal.returns-in_default-clause-slides
+returns-in_default-clause-slides g c = ap (λ (s : Stepping). s.slides) c.in_default.ensures.kept
 
 pub returns-in-Err-clause-tuned : goal.returns-in-Err-clause-tuned
 returns-in-Err-clause-tuned g c =

@@ -10,6 +10,7 @@ use Rattle.rg_run.proofs.inside.Inside.run.Given as goal
 abbrev pub invariant-loop-self : goal.invariant-loop-self
 invariant-loop-self g l = record {
   begun : l.self.begun ≡ true;
+  slides : l.self.stepper.slides ≡ l.fn.self.stepper.slides;
   follows : Follows l.input (g.I.Source.left l.source);
   within : l.self.steps ≤ l.n;
   source_never_falls : g.I.Source.faults l.fn.source ≤ g.I.Source.faults l.source;
