@@ -1,4 +1,7 @@
-//! Calls of the top call with sinks in memory (docs/architecture.md, "Tests").
+//! Calls of the top call with streams in memory (docs/architecture.md, "Tests").
+
+ghost use Rattle.std.specs.Prelude.{◌≡◌, false};
+ghost use Rattle.rg_run.specs.Machine.{IsFresh};
 
 use rg_io::{Files, MemSink, MemSource};
 use rg_pace::EveryN;
@@ -9,42 +12,73 @@ use std::alloc::Global;
 /// The most bytes that a call writes.
 const MOST: usize = 1_048_576;
 
+/// What a call is handed beside its files.
+#[derive(Drop)]
+pub struct Streams {
+    pub input: MemSource,
+    pub out: MemSink,
+    pub notes: MemSink,
+}
+
 /// What a call has written, and the number of its status.
 #[derive(Drop)]
 pub struct Called {
-    pub out: MemSink,
-    pub notes: MemSink,
+    pub streams: Streams,
     pub status: u8,
 }
 
-/// Calls the program with these words, this input and pacers of its own; None where no memory was
-/// found.
+/// A sink with room for all that a call writes; None where no memory was found.
+fn ample_sink(alloc: Global) -> Option<MemSink> {
+    let mut sink = MemSink::new(alloc);
+    match sink.room(MOST) {
+        Ok(()) => Some(sink),
+        Err(_) => None,
+    }
+}
+
+/// An input, and sinks with room; None where no memory was found.
+pub fn streams_of(alloc: Global, bytes: &[u8]) -> Option<Streams> {
+    let mut input = MemSource::new(alloc);
+    input.add(bytes).ok()?;
+    let out = ample_sink(alloc)?;
+    let notes = ample_sink(alloc)?;
+    Some(Streams { input, out, notes })
+}
+
+/// Calls the program with these words and pacers of its own, and answers the number of its status.
+pub fn call_on<F: Files>(
+    alloc: Global,
+    words: &[&str],
+    files: &mut F,
+    streams: &mut Streams,
+    machine: &mut Machine,
+) -> u8
+    requires fresh { IsFresh machine.old }
+    requires stays { machine.old.stepper.slides ≡ false }
+{
+    let status = reggio(
+        alloc,
+        words,
+        files,
+        &mut streams.input,
+        &mut streams.out,
+        &mut streams.notes,
+        &mut EveryN::new(),
+        &mut EveryN::new(),
+        machine,
+    );
+    status.number()
+}
+
+/// Calls the program with these words, this input and a machine of its own; None where no memory
+/// was found.
 pub fn call<F: Files>(
     alloc: Global,
     words: &[&str],
     files: &mut F,
     input: &[u8],
 ) -> Option<Called> {
-    let mut source = MemSource::new(alloc);
-    source.add(input).ok()?;
-    let mut out = MemSink::new(alloc);
-    let mut notes = MemSink::new(alloc);
-    out.room(MOST).ok()?;
-    notes.room(MOST).ok()?;
-    let status = reggio(
-        alloc,
-        words,
-        files,
-        &mut source,
-        &mut out,
-        &mut notes,
-        &mut EveryN::new(),
-        &mut EveryN::new(),
-        &mut Machine::new(alloc),
-    );
-    Some(Called {
-        out,
-        notes,
-        status: status.number(),
-    })
+    let mut streams = streams_of(alloc, input)?;
+    let status = call_on(alloc, words, files, &mut streams, &mut Machine::new(alloc));
+    Some(Called { streams, status })
 }

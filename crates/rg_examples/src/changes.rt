@@ -54,7 +54,7 @@ fn is_refused(rt: &(impl Files + AllocGlobal), change: &Change<'_>) -> Option<bo
     files.add("a", &changed(rt, change)?).ok()?;
     let called = call(rt.alloc(), &["check", "a"], &mut files, &[])?;
     let notes = expanded(rt.alloc(), change.notes)?;
-    Some(called.status == 1 && called.notes.taken() == notes.as_slice())
+    Some(called.status == 1 && called.streams.notes.taken() == notes.as_slice())
 }
 
 /// What is to be said of a line of the table.

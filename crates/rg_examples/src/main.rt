@@ -1,6 +1,6 @@
 //! Checks, runs and formats each program of examples/ by the top call, calls it for each row of
 //! examples/rows.txt and each change of examples/changes.txt, and says whether they write what is
-//! expected (docs/architecture.md, "Tests").
+//! expected, and whether the machine shows what a run made (docs/architecture.md, "Tests").
 #![tactic(auto)]
 
 mod calls;
@@ -8,10 +8,12 @@ mod cells;
 mod changes;
 mod programs;
 mod rows;
+mod shown;
 
 use crate::changes::judge_change;
 use crate::programs::{PROGRAMS, settles, writes};
 use crate::rows::{Verdict, judge};
+use crate::shown::shows;
 use rg_io::{StdFiles, take_all};
 use std::io;
 use std::rt::Files;
@@ -94,6 +96,8 @@ fn told_of(rt: &(impl Files + Print + AllocGlobal), table: Table, name: &str) ->
 
 fn main(rt: HostRuntime) -> io::Result<()> {
     examples(&rt)?;
+    let shown = told(shows(rt.alloc()));
+    println!(rt; "what the machine shows of a run: {shown}")?;
     told_of(&rt, Table::Changes, "changes.txt")?;
     told_of(&rt, Table::Rows, "rows.txt")
 }

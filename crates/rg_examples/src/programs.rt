@@ -49,7 +49,10 @@ pub fn writes(
     let called = call(rt.alloc(), &[command, program], &mut files, &input)?;
     match take_all(rt.alloc(), &mut files, output, MOST) {
         Ok(expected) => {
-            Some(called.out.taken() == expected.bytes() && called.notes.taken().is_empty())
+            Some(
+                called.streams.out.taken() == expected.bytes()
+                    && called.streams.notes.taken().is_empty(),
+            )
         }
         Err(_) => Some(false),
     }
@@ -60,7 +63,7 @@ pub fn writes(
 pub fn settles(rt: &(impl Files + AllocGlobal), program: &str) -> Option<bool> {
     let once = call(rt.alloc(), &["fmt", program], &mut StdFiles::new(rt), &[])?;
     let mut files = MemFiles::new(rt.alloc());
-    files.add("a", once.out.taken()).ok()?;
+    files.add("a", once.streams.out.taken()).ok()?;
     let twice = call(rt.alloc(), &["fmt", "a"], &mut files, &[])?;
-    Some(twice.status == 0 && twice.out.taken() == once.out.taken())
+    Some(twice.status == 0 && twice.streams.out.taken() == once.streams.out.taken())
 }

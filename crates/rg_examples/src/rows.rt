@@ -1,12 +1,15 @@
 //! The table of rows: calls on one file, `a`, with what each writes. `""` is an empty word
 //! (docs/architecture.md, "Tests").
 
-use crate::calls::call;
+use crate::calls::{Streams, call_on, streams_of};
 use crate::cells::expanded;
 use rg_io::MemFiles;
+use rg_run::Machine;
 use std::alloc::Global;
 
-/// A row: `words | input | source | output | notes | status`.
+/// A row: `words | input | source | output | notes | status | failing`. The last cell may be left
+/// out. It has the calls of the files, the input, the output and the notes that fail, and the steps
+/// that the machine has made then; such an input comes byte by byte.
 #[derive(Drop)]
 struct Row<'a> {
     words: &'a str,
@@ -15,6 +18,7 @@ struct Row<'a> {
     output: &'a str,
     notes: &'a str,
     status: &'a str,
+    failing: &'a str,
 }
 
 /// Whether a row gives what it says.
@@ -34,7 +38,8 @@ fn cells(line: &str) -> Option<Row<'_>> {
     let (input, rest) = rest.split_once('|')?;
     let (source, rest) = rest.split_once('|')?;
     let (output, rest) = rest.split_once('|')?;
-    let (notes, status) = rest.split_once('|')?;
+    let (notes, rest) = rest.split_once('|')?;
+    let (status, failing) = rest.split_once('|').unwrap_or((rest, ""));
     Some(Row {
         words,
         input: input.trim(),
@@ -42,6 +47,7 @@ fn cells(line: &str) -> Option<Row<'_>> {
         output: output.trim(),
         notes: notes.trim(),
         status: status.trim(),
+        failing: failing.trim(),
     })
 }
 
@@ -56,21 +62,74 @@ fn are_as(alloc: Global, cell: &str, notes: &[u8]) -> Option<bool> {
     Some(notes.starts_with(first.as_slice()) && notes.ends_with(last.as_slice()))
 }
 
-/// Whether the call of a row gives what it says; None where no memory was found.
-fn gives(alloc: Global, row: &Row<'_>) -> Option<bool> {
+/// The words of a row; None where no memory was found.
+fn words_of<'a>(alloc: Global, text: &'a str) -> Option<Vec<&'a str>> {
     let mut words = Vec::new(alloc);
-    for word in row.words.split_whitespace() {
+    for word in text.split_whitespace() {
         words.push(if word == "\"\"" { "" } else { word }).ok()?;
     }
+    Some(words)
+}
+
+/// A number of a cell; 0 where none stands at that place.
+fn number_at(cell: &str, place: usize) -> u64 {
+    match cell.split_whitespace().nth(place) {
+        Some(word) => word.parse().unwrap_or(0),
+        None => 0,
+    }
+}
+
+/// What a row's call is handed.
+#[derive(Drop)]
+struct Handed {
+    files: MemFiles,
+    streams: Streams,
+}
+
+/// The file and the streams of a row; None where no memory was found.
+fn ample(alloc: Global, row: &Row<'_>) -> Option<Handed> {
     let mut files = MemFiles::new(alloc);
     files.add("a", &expanded(alloc, row.source)?).ok()?;
-    let input = expanded(alloc, row.input)?;
-    let called = call(alloc, &words, &mut files, &input)?;
+    let streams = streams_of(alloc, &expanded(alloc, row.input)?)?;
+    Some(Handed { files, streams })
+}
+
+/// Names the calls that fail; None where no memory was found.
+fn let_fail(handed: &mut Handed, failing: &str) -> Option<()> {
+    handed.streams.input.piece(1);
+    handed.files.fail_at(number_at(failing, 0)).ok()?;
+    handed.streams.input.fail_at(number_at(failing, 1)).ok()?;
+    handed.streams.out.fail_at(number_at(failing, 2)).ok()?;
+    handed.streams.notes.fail_at(number_at(failing, 3)).ok()
+}
+
+/// Whether a call has written what a row says; None where no memory was found.
+fn is_told(alloc: Global, row: &Row<'_>, streams: &Streams) -> Option<bool> {
+    let notes = are_as(alloc, row.notes, streams.notes.taken())?;
     let output = expanded(alloc, row.output)?;
-    let notes = are_as(alloc, row.notes, called.notes.taken())?;
-    Some(
-        row.status.parse() == Ok(called.status) && called.out.taken() == output.as_slice() && notes,
-    )
+    Some(notes && streams.out.taken() == output.as_slice())
+}
+
+/// Whether the call of a row gives what it says; None where no memory was found.
+fn gives(alloc: Global, row: &Row<'_>) -> Option<bool> {
+    let words = words_of(alloc, row.words)?;
+    let mut handed = ample(alloc, row)?;
+    if !row.failing.is_empty() {
+        let_fail(&mut handed, row.failing)?;
+    }
+    let mut machine = Machine::new(alloc);
+    let status = call_on(
+        alloc,
+        &words,
+        &mut handed.files,
+        &mut handed.streams,
+        &mut machine,
+    );
+    let steps = number_at(row.failing, 4);
+    if row.status.parse() != Ok(status) || steps != 0 && machine.numbers().steps != steps {
+        return Some(false);
+    }
+    is_told(alloc, row, &handed.streams)
 }
 
 /// What is to be said of a line of the table.

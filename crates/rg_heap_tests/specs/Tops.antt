@@ -14,6 +14,10 @@ pub record IsTop (c : Table) (t : RegionTable) (number key slot : ℕ) : Type 0 
   pub unlinked : link_at t key ≡ None
   pub alone : (p s k to : ℕ) → p ≢ number → LiesIn c.heap p s → field_at c.heap s k ≡ Some (Slot to) → LiesIn c.heap number to → ⊥
 
+-- the region of a key has a number above 0, that bridge and no owner
+abbrev pub IsAbove : Table → RegionTable → (key slot : ℕ) → Type 0
+IsAbove c t key slot = (n : ℕ) × (n ≢ 0) × IsTop c t n key slot
+
 -- a word leads to the bridge of such a region, but for region 0, or to no cell
 abbrev pub LeadsToTop : Table → RegionTable → Word → Type 0
 LeadsToTop c t w = (slot : ℕ) → w ≡ Slot slot → (number : ℕ) × (key : ℕ) × (number ≢ 0) × IsTop c t number key slot

@@ -1,22 +1,25 @@
 //! That ample memory is enough, and what main's frame looks like (docs/architecture.md, "Tests").
 
-use rg_base::Word;
+ghost use Rattle.rg_frames.specs.Stack.{IsEmpty};
+
+use rg_base::{Memory, Word};
 use rg_frames::Frames;
-use std::test::*;
 
 // Slots begin as nil, and window 0 lies over all of them.
-#[test]
-fn main_alone(rt: HostRuntime) -> Result<(), Fail> {
-    let mut frames = Frames::new(rt.alloc());
+fn is_laid_out(frames: &mut Frames) -> Result<bool, Memory>
+    requires { IsEmpty frames.old }
+{
     frames.begin(5, 2)?;
     frames.set_slot(1, Word::Int(7));
-    assert_eq!(rt; (frames.slot(0), frames.slot(1)), (Word::Nil, Word::Int(7)));
-    assert_eq!(rt; (frames.place(1), frames.count()), (1, 1));
+    let are_slots = frames.slot(0) == Word::Nil && frames.slot(1) == Word::Int(7);
+    let is_first = frames.place(1) == 1 && frames.count() == 1;
     frames.set_shown(0, Word::Slot(3));
-    assert_eq!(rt;
-        (frames.word(0), frames.word(1)),
-        (Word::Slot(3), Word::Int(7))
-    );
-    assert_eq!(rt; (frames.is_open(5), frames.is_open(6)), (true, false));
-    Ok(())
+    let are_shown = frames.word(0) == Word::Slot(3) && frames.word(1) == Word::Int(7);
+    Ok(are_slots && is_first && are_shown && frames.is_open(5) && !frames.is_open(6))
+}
+
+#[test]
+fn main_alone(rt: HostRuntime) {
+    let mut frames = Frames::new(rt.alloc());
+    assert!(rt; matches!(is_laid_out(&mut frames), Ok(true)));
 }

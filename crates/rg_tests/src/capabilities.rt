@@ -1,5 +1,7 @@
 //! The tables of the capabilities, as docs/language.md has them ("Capabilities").
 
+ghost use Rattle.std.specs.Prelude.{◌<◌};
+
 use rg_base::Cap::{Imm, Iso, Mut, Paused, Tmp};
 use rg_base::{Cap, Ty};
 use rg_rules::{adapt, below, pause};
@@ -27,44 +29,57 @@ const BELOW: [[bool; 5]; 5] = [
 
 const PAUSED: [Cap; 5] = [Paused, Paused, Paused, Imm, Iso];
 
+/// Whether a cell of the first two tables is as written.
+fn is_as_written(low: usize, high: usize) -> bool
+    requires low { low < 5 }
+    requires high { high < 5 }
+{
+    let lower = Ty::Ref {
+        cap: CAPS[low],
+        class: 3,
+    };
+    let upper = Ty::Ref {
+        cap: CAPS[high],
+        class: 3,
+    };
+    let other = Ty::Ref {
+        cap: CAPS[high],
+        class: 4,
+    };
+    adapt(CAPS[low], CAPS[high]) == ADAPTED[low][high]
+        && below(lower, upper) == BELOW[low][high]
+        && !below(lower, other)
+}
+
+/// Whether a capability is paused as written, and apart from a type without capabilities.
+fn is_apart(low: usize, plain: Ty) -> bool
+    requires { low < 5 }
+{
+    let lower = Ty::Ref {
+        cap: CAPS[low],
+        class: 3,
+    };
+    let paused = Ty::Ref {
+        cap: PAUSED[low],
+        class: 3,
+    };
+    pause(lower) == paused && !below(lower, plain) && !below(plain, lower)
+}
+
+/// Whether a type without capabilities stays when it is paused, and is below itself alone.
+fn stays(plain: Ty) -> bool {
+    pause(plain) == plain
+        && below(plain, Ty::Int) == (plain == Ty::Int)
+        && below(plain, Ty::Bool) == (plain == Ty::Bool)
+}
+
 #[test]
 fn each_cell_is_that_of_the_tables(rt: HostRuntime) {
-    for ((low, adapted), (row, paused)) in CAPS
-        .iter()
-        .zip(&ADAPTED)
-        .zip(BELOW.iter().zip(&PAUSED))
-    {
-        let lower = Ty::Ref {
-            cap: *low,
-            class: 3,
-        };
-        for ((high, want), wanted) in CAPS.iter().zip(adapted).zip(row) {
-            let upper = Ty::Ref {
-                cap: *high,
-                class: 3,
-            };
-            let other = Ty::Ref {
-                cap: *high,
-                class: 4,
-            };
-            assert_eq!(rt; adapt(*low, *high), *want, "{low:?} {high:?}");
-            assert_eq!(rt; below(lower, upper), *wanted, "{low:?} {high:?}");
-            assert_eq!(rt; below(lower, other), false, "{low:?} {high:?}");
+    for low in 0..5 {
+        for high in 0..5 {
+            assert!(rt; is_as_written(low, high), "{low} {high}");
         }
-        assert_eq!(rt;
-            pause(lower),
-            Ty::Ref {
-                cap: *paused,
-                class: 3
-            },
-            "{low:?}"
-        );
-        for plain in [Ty::Int, Ty::Bool] {
-            assert_eq!(rt; below(lower, plain), false, "{low:?} {plain:?}");
-            assert_eq!(rt; below(plain, lower), false, "{low:?} {plain:?}");
-            assert_eq!(rt; pause(plain), plain, "{plain:?}");
-            assert_eq!(rt; below(plain, Ty::Int), plain == Ty::Int, "{plain:?}");
-            assert_eq!(rt; below(plain, Ty::Bool), plain == Ty::Bool, "{plain:?}");
-        }
+        assert!(rt; is_apart(low, Ty::Int) && is_apart(low, Ty::Bool), "{low}");
     }
+    assert!(rt; stays(Ty::Int) && stays(Ty::Bool));
 }

@@ -1,20 +1,26 @@
 //! Tests of what no clause says: that lists grow with ample memory (docs/architecture.md, "Tests").
 
-use rg_base::{ByteList, Val, Vals};
-use std::test::Fail;
+use rg_base::{ByteList, Memory, Val, Vals};
 
-#[test]
-fn lists_grow(rt: HostRuntime) -> Result<(), Fail> {
-    let mut vals = Vals::new(rt.alloc());
+// Nine values come.
+fn grow(vals: &mut Vals) -> Result<(), Memory> {
     for n in 0..9 {
         vals.push(Val::Int(n))?;
     }
-    assert_eq!(rt; vals.len(), 9);
-    assert_eq!(rt; vals.get(8), Some(Val::Int(8)));
-    assert_eq!(rt; vals.get(9), None);
-    let mut bytes = ByteList::new(rt.alloc());
-    bytes.push(b'a')?;
-    bytes.extend(b"bc")?;
-    assert_eq!(rt; bytes.bytes(), b"abc".as_slice());
     Ok(())
+}
+
+// Three bytes come.
+fn spell(bytes: &mut ByteList) -> Result<(), Memory> {
+    bytes.push(b'a')?;
+    bytes.extend(b"bc")
+}
+
+#[test]
+fn lists_grow(rt: HostRuntime) {
+    let mut vals = Vals::new(rt.alloc());
+    assert!(rt; grow(&mut vals).is_ok() && vals.len() == 9 && vals.get(9).is_none());
+    assert!(rt; matches!(vals.get(8), Some(Val::Int(8))));
+    let mut bytes = ByteList::new(rt.alloc());
+    assert!(rt; spell(&mut bytes).is_ok() && bytes.bytes() == b"abc".as_slice());
 }

@@ -7,13 +7,14 @@ ghost use Rattle.rg_input.specs.Numbers.{Follows};
 use rg_base::Memory;
 use rg_input::{InputFault, NumberRefusal, Numbers};
 use rg_io::MemSource;
-use std::alloc::Global;
-use std::test::Fail;
+use std::alloc::{AllocError, Global};
 
 const BLANKS: [u8; 4097] = [b'\n'; 4097];
 
 // How many ends of lines come first, the text behind them, and what three reads of it say.
-const INPUTS: [(usize, &str, &str); 29] = [
+type Input = (usize, &'static str, &'static str);
+
+static INPUTS: [Input; 29] = [
     (0, "12 -5 x", "12 -5 input "),
     (0, "12 -5", "12 -5 end "),
     (0, "\t1\r\n2 \n", "1 2 end "),
@@ -45,22 +46,20 @@ const INPUTS: [(usize, &str, &str); 29] = [
     (4097, "", "input input input "),
 ];
 
-// A source of so many ends of lines and a text, in pieces, while a call fails.
-fn source_of(
-    alloc: Global,
+// So many ends of lines and a text come, in pieces, while a call is to fail.
+fn fill_source(
+    source: &mut MemSource,
     blanks: usize,
     text: &str,
     piece: usize,
     failing: u64,
-) -> Result<MemSource, Memory>
+) -> Result<(), Memory>
     requires { 0 < piece }
 {
-    let mut source = MemSource::new(alloc);
     source.add(&BLANKS[..blanks.min(4097)])?;
     source.add(text.as_bytes())?;
     source.piece(piece);
-    source.fail_at(failing)?;
-    Ok(source)
+    source.fail_at(failing)
 }
 
 // What the next number is. A call after a fault goes on.
@@ -85,36 +84,73 @@ fn more_of(numbers: &mut Numbers, source: &mut MemSource) -> Result<bool, InputF
     }
 }
 
+// What a refused read is called.
+fn named(refusal: NumberRefusal, more: bool) -> &'static str {
+    match refusal {
+        NumberRefusal::Input => "input ",
+        NumberRefusal::End if more => "more without more ",
+        NumberRefusal::End => "end ",
+        NumberRefusal::InputFault => "fault ",
+    }
+}
+
+// Appends what a read says.
+fn tell(
+    said: &mut String,
+    answer: Result<i64, NumberRefusal>,
+    more: bool,
+) -> Result<(), AllocError> {
+    match answer {
+        Ok(z) => write!(said, "{z} "),
+        Err(refusal) => said.push_str(named(refusal, more)),
+    }
+}
+
 // What three reads say, each with or without a question before it.
-fn three_reads(alloc: Global, source: &mut MemSource, asks: bool) -> Result<String, Fail> {
+fn three_reads(source: &mut MemSource, asks: bool, said: &mut String) -> Result<(), AllocError> {
     let mut numbers = Numbers::new();
-    let mut said = String::new(alloc);
     'reads: for _ in 0..3 {
-        let more = asks && more_of(&mut numbers, source) != Ok(false);
-        match next_of(&mut numbers, source) {
-            Ok(z) => write!(said, "{z} ")?,
-            Err(NumberRefusal::Input) => write!(said, "input ")?,
-            Err(NumberRefusal::End) if more => write!(said, "more without more ")?,
-            Err(NumberRefusal::End) => write!(said, "end ")?,
-            Err(NumberRefusal::InputFault) => write!(said, "fault ")?,
+        let more = asks && !matches!(more_of(&mut numbers, source), Ok(false));
+        let answer = next_of(&mut numbers, source);
+        tell(said, answer, more)?;
+    }
+    Ok(())
+}
+
+// Whether three reads say what they should, in these pieces, while a call fails.
+fn is_said(alloc: Global, row: &Input, piece: usize, failing: u64) -> bool
+    requires { 0 < piece }
+{
+    let (blanks, text, want) = *row;
+    let mut source = MemSource::new(alloc);
+    let mut said = String::new(alloc);
+    let is_filled = fill_source(&mut source, blanks, text, piece, failing).is_ok();
+    let are_read = three_reads(&mut source, failing % 2 == 0, &mut said).is_ok();
+    is_filled && are_read && said.as_str() == want
+}
+
+// The first call of 24 in a row whose failing makes three reads say anything else.
+fn astray(alloc: Global, row: &Input, piece: usize) -> Option<u64>
+    requires { 0 < piece }
+{
+    // the call that comes to the text, and those behind it
+    let first = (row.0.min(4097) / piece) as u64;
+    for more in 0..24 {
+        let failing = first + more;
+        if !is_said(alloc, row, piece, failing) {
+            return Some(failing);
         }
     }
-    Ok(said)
+    None
 }
 
 #[test]
-fn inputs_give_their_numbers_in_any_pieces_after_any_fault(rt: HostRuntime) -> Result<(), Fail> {
-    for (blanks, text, want) in INPUTS {
+fn inputs_give_their_numbers_in_any_pieces_after_any_fault(rt: HostRuntime) {
+    for row in &INPUTS {
         for piece in [1, 2, 20, 4096] {
-            // the call that comes to the text, and those behind it
-            let first = (blanks.min(4097) / piece) as u64;
-            for more in 0..24 {
-                let failing = first + more;
-                let mut source = source_of(rt.alloc(), blanks, text, piece, failing)?;
-                let said = three_reads(rt.alloc(), &mut source, failing % 2 == 0)?;
-                assert_eq!(rt; said.as_str(), want, "{text} in {piece}, failing {failing}");
+            if let Some(failing) = astray(rt.alloc(), row, piece) {
+                panic!(rt; "{} in {piece}, failing {failing}", row.1);
             }
         }
     }
-    Ok(())
 }

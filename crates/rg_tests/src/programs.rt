@@ -29,66 +29,110 @@ fn parsed(alloc: Global, source: &[u8]) -> Result<Program, Stop>
 
 const ONE_CLASS: &[u8] = b"class A {\n  x: iso A;\n}\nmain trace {\n  print -1;\n}\n";
 
-#[test]
-fn a_program_is_read_back_by_its_rows(rt: HostRuntime) -> Result<(), Fail> {
-    let program = parsed(rt.alloc(), ONE_CLASS)?;
-    assert!(rt; program.class_count() == 1);
+// Whether its one class has the one field.
+fn has_class(program: &Program) -> bool {
+    if program.class_count() != 1 {
+        return false;
+    }
     let class = program.class(0);
-    assert!(rt; program.name(class.name) == b"A".as_slice() && !class.is_tmp && class.line == 1);
     for m in program.order(class.members) {
-        match program.member(*m) {
-            MemberRow::Field { name, ty, line } => {
-                assert!(rt; program.name(name) == b"x".as_slice() && line == 2);
-                assert!(rt; matches!(ty, TypeRow::Ref { cap: Cap::Iso, .. }));
-            }
-            MemberRow::Method { .. } => assert!(rt; false),
+        let MemberRow::Field { name, ty, line } = program.member(*m) else {
+            return false;
+        };
+        if line != 2 || program.name(name) != b"x".as_slice() {
+            return false;
+        }
+        if !matches!(ty, TypeRow::Ref { cap: Cap::Iso, .. }) {
+            return false;
         }
     }
-    assert!(rt; matches!(program.main_manager(), Manager::Trace) && program.main_line() == 4);
+    program.name(class.name) == b"A".as_slice() && !class.is_tmp && class.line == 1
+}
+
+// Whether main has the one statement.
+fn has_main(program: &Program) -> bool {
     for s in program.order(program.main_body()) {
         let row = program.stmt(*s);
-        if let StmtKind::Print(e) = row.kind {
-            assert!(rt; row.line == 5 && matches!(program.expr(e), ExprRow::Neg(_)));
-        } else {
-            assert!(rt; false);
+        let StmtKind::Print(e) = row.kind else {
+            return false;
+        };
+        if row.line != 5 || !matches!(program.expr(e), ExprRow::Neg(_)) {
+            return false;
         }
     }
-    Ok(())
+    matches!(program.main_manager(), Manager::Trace) && program.main_line() == 4
 }
 
 #[test]
-fn a_program_has_its_text_and_its_classes(rt: HostRuntime) -> Result<(), Fail> {
+fn a_program_is_read_back_by_its_rows(rt: HostRuntime) -> Result<(), Fail> {
     let program = parsed(rt.alloc(), ONE_CLASS)?;
-    let printed = text(rt.alloc(), &program)?;
-    assert_eq!(rt; printed.bytes(), ONE_CLASS);
-    let classes = Classes::of(rt.alloc(), &program)?;
-    assert!(rt; program.class_count() == 1);
+    assert!(rt; has_class(&program) && has_main(&program));
+    Ok(())
+}
+
+// Whether its text is that of the source.
+fn has_text(alloc: Global, program: &Program) -> bool {
+    match text(alloc, program) {
+        Ok(printed) => printed.bytes() == ONE_CLASS,
+        Err(_) => false,
+    }
+}
+
+// Whether its class and the class's field are found by their names.
+fn has_names(alloc: Global, program: &Program) -> bool {
+    if program.class_count() != 1 {
+        return false;
+    }
+    let Ok(classes) = Classes::of(alloc, program) else {
+        return false;
+    };
     let row = program.class(0);
-    assert_eq!(rt; classes.class(row.name), Some(0));
+    let mut all = classes.class(row.name) == Some(0);
     let ty = Ty::Ref {
         cap: Cap::Iso,
         class: 0,
     };
     for m in program.order(row.members) {
         if let MemberRow::Field { name, .. } = program.member(*m) {
-            assert_eq!(rt; classes.field(0, name), Some(FieldAt { index: 0, ty }));
+            all = all && classes.field(0, name) == Some(FieldAt { index: 0, ty });
         }
     }
+    all
+}
+
+#[test]
+fn a_program_has_its_text_and_its_classes(rt: HostRuntime) -> Result<(), Fail> {
+    let program = parsed(rt.alloc(), ONE_CLASS)?;
+    assert!(rt; has_text(rt.alloc(), &program) && has_names(rt.alloc(), &program));
     Ok(())
+}
+
+// Whether the first source is accepted.
+fn is_accepted(alloc: Global) -> Result<bool, Stop> {
+    let accepted = check(alloc, parsed(alloc, ONE_CLASS)?)?;
+    Ok(accepted.program().class_count() == 1)
+}
+
+const NO_RETURN: &[u8] = b"class A {\ndef mut A(): int { } } main arena { }";
+
+const FAULT: Fault = Fault {
+    code: Code::Return,
+    line: 2,
+};
+
+// Whether the second source has the fault.
+fn is_refused(alloc: Global) -> Result<bool, Stop> {
+    match check(alloc, parsed(alloc, NO_RETURN)?) {
+        Ok(_) => Ok(false),
+        Err(stop) => Ok(stop == Stop::Fault(FAULT)),
+    }
 }
 
 #[test]
 fn a_program_is_accepted_or_has_a_first_fault(rt: HostRuntime) -> Result<(), Fail> {
-    let accepted = check(rt.alloc(), parsed(rt.alloc(), ONE_CLASS)?)?;
-    assert_eq!(rt; accepted.program().class_count(), 1);
-    let source = b"class A {\ndef mut A(): int { } } main arena { }".as_slice();
-    let fault = Fault {
-        code: Code::Return,
-        line: 2,
-    };
-    let answer = check(rt.alloc(), parsed(rt.alloc(), source)?);
-    assert_eq!(rt; answer.err(), Some(Stop::Fault(fault)));
-    let text = diagnostic_text(rt.alloc(), fault)?;
-    assert_eq!(rt; text.bytes(), b"E37 return at line 2\n".as_slice());
+    assert!(rt; matches!(is_accepted(rt.alloc()), Ok(true)));
+    assert!(rt; matches!(is_refused(rt.alloc()), Ok(true)));
+    let text = diagnostic_text(rt.alloc(), FAULT)?;
+    assert!(rt; text.bytes() == b"E37 return at line 2\n".as_slice());
     Ok(())
 }

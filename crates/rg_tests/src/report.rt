@@ -27,7 +27,7 @@ fn a_collection_has_a_line(rt: HostRuntime) -> Result<(), Fail> {
     };
     let text = line(rt.alloc(), &event)?;
     let wanted = b"paced step 8997 region 1 trace held 1001 kept 18446744073709551615 released 0\n";
-    assert_eq!(rt; text.bytes(), wanted.as_slice());
+    assert!(rt; text.bytes() == wanted.as_slice());
     Ok(())
 }
 
@@ -35,7 +35,7 @@ fn a_collection_has_a_line(rt: HostRuntime) -> Result<(), Fail> {
 fn the_end_of_a_run_has_a_line(rt: HostRuntime) -> Result<(), Fail> {
     let text = end_line(rt.alloc(), &NUMBERS)?;
     let wanted = b"end steps 33532 made 2001 held 1 frozen 2 regions 3 collections 1\n";
-    assert_eq!(rt; text.bytes(), wanted.as_slice());
+    assert!(rt; text.bytes() == wanted.as_slice());
     Ok(())
 }
 
@@ -43,6 +43,6 @@ fn the_end_of_a_run_has_a_line(rt: HostRuntime) -> Result<(), Fail> {
 fn the_end_of_bulk_has_a_line(rt: HostRuntime) -> Result<(), Fail> {
     let text = bulk_line(rt.alloc(), 1000, &NUMBERS)?;
     let wanted = b"bulk 1000 steps 33532 made 2001 high 1501 collections 1\n";
-    assert_eq!(rt; text.bytes(), wanted.as_slice());
+    assert!(rt; text.bytes() == wanted.as_slice());
     Ok(())
 }

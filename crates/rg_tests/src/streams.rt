@@ -10,19 +10,39 @@ use rg_io::{
 };
 use std::alloc::{AllocError, Global};
 use std::io;
-use std::test::Fail;
 
 // The bytes of a file.
 const BYTES: [u8; 5001] = [b'x'; 5001];
 
-// Files in memory of which one was replaced by these bytes, while a call fails.
-fn files_of(alloc: Global, bytes: &[u8], failing: u64) -> Result<MemFiles, Memory> {
-    let mut files = MemFiles::new(alloc);
+// A size, a name, the call that fails, and what comes of taking that file.
+static FILES: [(usize, &str, u64, &str); 11] = [
+    (0, "a file", 3, "whole"),
+    (1, "a file", 4, "whole"),
+    (4096, "a file", 4, "whole"),
+    (4097, "a file", 5, "whole"),
+    (5000, "a file", 9, "whole"),
+    (5001, "a file", 9, "long"),
+    (4097, "a file", 1, "fault"),
+    (4097, "a file", 2, "fault"),
+    (4097, "a file", 3, "fault"),
+    (4097, "a file", 4, "fault"),
+    (4097, "no file", 9, "fault"),
+];
+
+// A file of the system, and what comes of taking it.
+static SYSTEM_FILES: [(&str, &str); 4] = [
+    ("/dev/null", "whole"),
+    ("/dev/zero", "long"),
+    ("/dev/null/no file", "fault"),
+    ("/dev", "fault"),
+];
+
+// Three files come, of which one replaces another and has these bytes, and a call is to fail.
+fn fill_files(files: &mut MemFiles, bytes: &[u8], failing: u64) -> Result<(), Memory> {
     files.add("a file", b"its older bytes")?;
     files.add("a file", bytes)?;
     files.add("another", b"its bytes")?;
-    files.fail_at(failing)?;
-    Ok(files)
+    files.fail_at(failing)
 }
 
 // What comes of taking a file of at most 5,000 bytes, which should be these.
@@ -41,59 +61,63 @@ fn taken_from<F: Files>(alloc: Global, files: &mut F, name: &str, bytes: &[u8]) 
     }
 }
 
-#[test]
-fn a_file_is_taken_whole_or_refused(rt: HostRuntime) -> Result<(), Fail> {
-    for (size, name, failing, want) in [
-        (0usize, "a file", 3, "whole"),
-        (1, "a file", 4, "whole"),
-        (4096, "a file", 4, "whole"),
-        (4097, "a file", 5, "whole"),
-        (5000, "a file", 9, "whole"),
-        (5001, "a file", 9, "long"),
-        (4097, "a file", 1, "fault"),
-        (4097, "a file", 2, "fault"),
-        (4097, "a file", 3, "fault"),
-        (4097, "a file", 4, "fault"),
-        (4097, "no file", 9, "fault"),
-    ] {
-        let bytes = &BYTES[..size.min(5001)];
-        let mut files = files_of(rt.alloc(), bytes, failing)?;
-        let is = taken_from(rt.alloc(), &mut files, name, bytes);
-        assert_eq!(rt; is, want, "{size} bytes, failing {failing}");
-    }
-    for (name, want) in [
-        ("/dev/null", "whole"),
-        ("/dev/zero", "long"),
-        ("/dev/null/no file", "fault"),
-        ("/dev", "fault"),
-    ] {
-        let mut files = StdFiles::new(&rt);
-        assert_eq!(rt; taken_from(rt.alloc(), &mut files, name, b""), want);
-    }
-    Ok(())
+// Whether a file is taken as its row says.
+fn is_taken(alloc: Global, row: &(usize, &str, u64, &str)) -> bool {
+    let (size, name, failing, want) = *row;
+    let bytes = &BYTES[..size.min(5001)];
+    let mut files = MemFiles::new(alloc);
+    let is_filled = fill_files(&mut files, bytes, failing).is_ok();
+    is_filled && taken_from(alloc, &mut files, name, bytes) == want
 }
 
-// A sink that takes one byte at once, while a call fails.
-fn small_sink(alloc: Global, room: usize, failing: u64) -> Result<MemSink, Memory> {
-    let mut sink = MemSink::new(alloc);
+#[test]
+fn a_file_is_taken_whole_or_refused(rt: HostRuntime) {
+    for row in &FILES {
+        assert!(rt;
+            is_taken(rt.alloc(), row),
+            "{} bytes, failing {}",
+            row.0,
+            row.2
+        );
+    }
+    for (name, want) in &SYSTEM_FILES {
+        let mut files = StdFiles::new(&rt);
+        assert!(rt;
+            taken_from(rt.alloc(), &mut files, name, b"") == *want,
+            "{name}"
+        );
+    }
+}
+
+// Room behind the first byte, the call that fails, whether all is taken, and what is.
+static PARTS: [(usize, u64, bool, &str); 4] = [
+    (2, 4, true, "abc"),
+    (1, 4, false, "ab"),
+    (2, 2, false, "a"),
+    (2, 1, false, ""),
+];
+
+// A sink that takes one byte at once, while a call is to fail.
+fn ready_sink(sink: &mut MemSink, room: usize, failing: u64) -> Result<(), Memory> {
     sink.room(1)?;
     sink.room(room)?;
     sink.piece(1);
-    sink.fail_at(failing)?;
-    Ok(sink)
+    sink.fail_at(failing)
+}
+
+// Whether a sink takes what its row says.
+fn takes(alloc: Global, row: &(usize, u64, bool, &str)) -> bool {
+    let (room, failing, all, part) = *row;
+    let mut sink = MemSink::new(alloc);
+    let is_ready = ready_sink(&mut sink, room, failing).is_ok();
+    let is_whole = put_all(&mut sink, b"abc").is_ok();
+    is_ready && is_whole == all && sink.taken() == part.as_bytes()
 }
 
 #[test]
-fn a_sink_takes_all_or_a_part(rt: HostRuntime) -> Result<(), Fail> {
-    for (room, failing, is_taken, part) in [
-        (2, 4, true, "abc"),
-        (1, 4, false, "ab"),
-        (2, 2, false, "a"),
-        (2, 1, false, ""),
-    ] {
-        let mut sink = small_sink(rt.alloc(), room, failing)?;
-        let is_whole = put_all(&mut sink, b"abc").is_ok();
-        assert!(rt; is_whole == is_taken && sink.taken() == part.as_bytes());
+fn a_sink_takes_all_or_a_part(rt: HostRuntime) {
+    for row in &PARTS {
+        assert!(rt; takes(rt.alloc(), row), "{} and failing {}", row.0, row.1);
     }
     let mut sink = StdSink::new(Broken { calls: 0 });
     for is_taken in [true, false, false, true] {
@@ -101,12 +125,10 @@ fn a_sink_takes_all_or_a_part(rt: HostRuntime) -> Result<(), Fail> {
     }
     let mut output = StdSink::new(rt.stdout());
     assert!(rt; put_all(&mut output, b"").is_ok() && put_all(&mut output, b"\n").is_ok());
-    Ok(())
 }
 
 // What four calls of a source give, with `!` for a fault and a blank behind each.
-fn given_by<S: Source>(alloc: Global, source: &mut S) -> Result<Vec<u8>, AllocError> {
-    let mut said = Vec::new(alloc);
+fn give<S: Source>(source: &mut S, said: &mut Vec<u8>) -> Result<(), AllocError> {
     let mut buf = [0u8; 2];
     for _ in 0..4 {
         match source.read(&mut buf) {
@@ -115,32 +137,41 @@ fn given_by<S: Source>(alloc: Global, source: &mut S) -> Result<Vec<u8>, AllocEr
         }
         said.push(b' ')?;
     }
-    Ok(said)
+    Ok(())
 }
 
-// A source of `abc`, while a call fails.
-fn source_of_three(alloc: Global, piece: usize, failing: u64) -> Result<MemSource, Memory>
+// Whether four calls of a source give that.
+fn gives<S: Source>(alloc: Global, source: &mut S, want: &[u8]) -> bool {
+    let mut said = Vec::new(alloc);
+    let is_said = give(source, &mut said).is_ok();
+    is_said && said.as_slice() == want
+}
+
+// The bytes `abc` come, in pieces, while a call is to fail.
+fn fill_source(source: &mut MemSource, piece: usize, failing: u64) -> Result<(), Memory>
     requires { 0 < piece }
 {
-    let mut source = MemSource::new(alloc);
     source.add(b"a")?;
     source.add(b"bc")?;
     source.piece(piece);
-    source.fail_at(failing)?;
-    Ok(source)
+    source.fail_at(failing)
+}
+
+// Whether a source of `abc` gives that.
+fn three_give(alloc: Global, piece: usize, failing: u64, want: &[u8]) -> bool
+    requires { 0 < piece }
+{
+    let mut source = MemSource::new(alloc);
+    let is_filled = fill_source(&mut source, piece, failing).is_ok();
+    is_filled && gives(alloc, &mut source, want)
 }
 
 #[test]
-fn a_source_gives_its_bytes_in_pieces(rt: HostRuntime) -> Result<(), Fail> {
-    for (piece, failing, want) in [(5, 2, "ab ! c  "), (1, 9, "a b c  ")] {
-        let mut source = source_of_three(rt.alloc(), piece, failing)?;
-        let said = given_by(rt.alloc(), &mut source)?;
-        assert!(rt; said.as_slice() == want.as_bytes());
-    }
+fn a_source_gives_its_bytes_in_pieces(rt: HostRuntime) {
+    assert!(rt; three_give(rt.alloc(), 5, 2, b"ab ! c  "));
+    assert!(rt; three_give(rt.alloc(), 1, 9, b"a b c  "));
     let mut source = StdSource::new(Broken { calls: 0 });
-    let said = given_by(rt.alloc(), &mut source)?;
-    assert!(rt; said.as_slice() == b"\0 ! \0 \0 ".as_slice());
-    Ok(())
+    assert!(rt; gives(rt.alloc(), &mut source, b"\0 ! \0 \0 "));
 }
 
 // A reader and writer that fails at its second call, and takes nothing at its third.

@@ -1,9 +1,8 @@
 //! Sources with their tokens, or their faults (docs/language.md, "Tokens").
 
 use rg_base::{SOURCE_BYTES, Stop};
-use rg_lex::tokens;
-use std::alloc::Global;
-use std::test::Fail;
+use rg_lex::{Tokens, tokens};
+use std::alloc::{AllocError, Global};
 
 // A source; each token's line, place and kind, and the line of the end; or the fault.
 static SOURCES: [(&[u8], &str); 40] = [
@@ -124,34 +123,43 @@ static SOURCES: [(&[u8], &str); 40] = [
     ),
 ];
 
-fn shown(alloc: Global, source: &[u8]) -> Result<String, Fail> {
-    let mut text = String::new(alloc);
+// Appends the tokens of a source and the line of its end.
+fn show(text: &mut String, found: &Tokens) -> Result<(), AllocError> {
+    for i in 0..found.len() {
+        let token = found.get(i);
+        write!(
+            text,
+            "{}:{}-{} {:?}; ",
+            token.line, token.from, token.to, token.kind
+        )?;
+    }
+    write!(text, "end {}", found.end_line())
+}
+
+// Appends the fault of a source.
+fn show_fault(text: &mut String, stop: Stop) -> Result<(), AllocError> {
+    match stop {
+        Stop::Fault(fault) => write!(text, "{:?} at {}", fault.code, fault.line),
+        Stop::Memory => Ok(()),
+    }
+}
+
+// Whether a source has these tokens, or that fault.
+fn is_shown(alloc: Global, source: &[u8], want: &str) -> bool {
     if source.len() > SOURCE_BYTES {
-        return Ok(text);
+        return false;
     }
-    match tokens(alloc, source) {
-        Ok(found) => {
-            for i in 0..found.len() {
-                let token = found.get(i);
-                write!(
-                    text,
-                    "{}:{}-{} {:?}; ",
-                    token.line, token.from, token.to, token.kind
-                )?;
-            }
-            write!(text, "end {}", found.end_line())?;
-        }
-        Err(Stop::Fault(fault)) => write!(text, "{:?} at {}", fault.code, fault.line)?,
-        Err(Stop::Memory) => {}
-    }
-    Ok(text)
+    let mut text = String::new(alloc);
+    let is_whole = match tokens(alloc, source) {
+        Ok(found) => show(&mut text, &found).is_ok(),
+        Err(stop) => show_fault(&mut text, stop).is_ok(),
+    };
+    is_whole && text.as_str() == want
 }
 
 #[test]
-fn sources_give_their_tokens_or_their_fault(rt: HostRuntime) -> Result<(), Fail> {
+fn sources_give_their_tokens_or_their_fault(rt: HostRuntime) {
     for (source, want) in &SOURCES {
-        let text = shown(rt.alloc(), source)?;
-        assert_eq!(rt; text.as_str(), *want);
+        assert!(rt; is_shown(rt.alloc(), source, want), "{want}");
     }
-    Ok(())
 }

@@ -2,7 +2,7 @@ use Rattle.std.proofs.Common.{◌≡◌, ℕ, Option, Some, IsSome, ap, sym, ◌
 use Rattle.rg_regions.specs.Table.{Record, RegionTable, record_at, HasRoom, IsKey, Roomier, changed, with_room, with_member}
 use Rattle.rg_regions.specs.Ordered.{with_members, Orders}
 use Rattle.rg_regions.proofs.Callers.Changed.{changed_at}
-use Rattle.rg_heap_tests.proofs.regions.numbers_are_given_once.Goals as goal
+use Rattle.rg_heap_tests.proofs.regions.is_ordered.Goals as goal
 
 -- the record of a key behind a change
 after : (t u : RegionTable) (key : ℕ) (f : Record → Record) (r : Record) → record_at t key ≡ Some r → u ≡ changed t key f
@@ -40,20 +40,20 @@ module _ (t u : RegionTable) (key : ℕ) (r : Record) (e : record_at t key ≡ S
           is_key y key (with_members o.members s) (after x y key (with_members o.members) s two_more o.changed)
 
 pub push_member-requires : goal.push_member-requires
-push_member-requires g c =
-    first_fits c.add-4.new.self c.reserve.new.self c.in_ok-again.again _ c.in_ok-again.ensures.added.is c.in_ok-reserve.ensures.ok
+push_member-requires c =
+    first_fits c.add.new.self c.reserve.new.self c.in_ok-again.again _ c.in_ok-again.ensures.added.is c.in_ok-reserve.ensures.ok
 
 pub push_member-requires-2 : goal.push_member-requires-2
-push_member-requires-2 g c =
-    second_fits c.add-4.new.self c.reserve.new.self c.in_ok-again.again _ c.in_ok-again.ensures.added.is c.in_ok-reserve.ensures.ok
+push_member-requires-2 c =
+    second_fits c.add.new.self c.reserve.new.self c.in_ok-again.again _ c.in_ok-again.ensures.added.is c.in_ok-reserve.ensures.ok
     c.push_member.new.self 9 c.push_member.ensures
 
 pub order_members-requires : goal.order_members-requires
-order_members-requires g c =
-    is_there c.add-4.new.self c.reserve.new.self c.in_ok-again.again _ c.in_ok-again.ensures.added.is c.in_ok-reserve.ensures.ok
+order_members-requires c =
+    is_there c.add.new.self c.reserve.new.self c.in_ok-again.again _ c.in_ok-again.ensures.added.is c.in_ok-reserve.ensures.ok
     c.push_member.new.self 9 c.push_member.ensures c.push_member-2.new.self 4 c.push_member-2.ensures
 
 pub members-requires-2 : goal.members-requires-2
-members-requires-2 g c =
-    is_ordered c.add-4.new.self c.reserve.new.self c.in_ok-again.again _ c.in_ok-again.ensures.added.is c.in_ok-reserve.ensures.ok
+members-requires-2 c =
+    is_ordered c.add.new.self c.reserve.new.self c.in_ok-again.again _ c.in_ok-again.ensures.added.is c.in_ok-reserve.ensures.ok
     c.push_member.new.self 9 c.push_member.ensures c.push_member-2.new.self 4 c.push_member-2.ensures c.order_members.new.self c.order_members.ensures
