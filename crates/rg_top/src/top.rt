@@ -2,7 +2,7 @@
 //! (docs/promises.md).
 
 ghost use Rattle.std.specs.Prelude.{◌≡◌, ◌≢◌, ◌≤◌, ◌⊎◌, ℕ, List, true, false, length, Option};
-ghost use Rattle.std.specs.Prelude.{Some, None, Err, IfOk, []};
+ghost use Rattle.std.specs.Prelude.{Bool, Some, None, Err, IfOk, []};
 ghost use Rattle.std.specs.Bool.{OnTrue, OnFalse};
 ghost use Rattle.rg_base.specs.declared.fault.Fault.{Fault};
 ghost use Rattle.rg_base.specs.declared.limits.TheConstants.{SOURCE_BYTES};
