@@ -53,7 +53,7 @@ order_members-requires c =
     is_there c.add.new.self c.reserve.new.self c.in_ok-again.again _ c.in_ok-again.ensures.added.is c.in_ok-reserve.ensures.ok
     c.push_member.new.self 9 c.push_member.ensures c.push_member-2.new.self 4 c.push_member-2.ensures
 
-pub members-requires : goal.members-requires
-members-requires c =
+pub members-requires-2 : goal.members-requires-2
+members-requires-2 c =
     is_ordered c.add.new.self c.reserve.new.self c.in_ok-again.again _ c.in_ok-again.ensures.added.is c.in_ok-reserve.ensures.ok
     c.push_member.new.self 9 c.push_member.ensures c.push_member-2.new.self 4 c.push_member-2.ensures c.order_members.new.self c.order_members.ensures
