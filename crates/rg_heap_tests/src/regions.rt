@@ -27,7 +27,8 @@ fn is_ordered(regions: &mut Regions) -> Result<bool, Memory> {
     regions.push_member(again, 9);
     regions.push_member(again, 4);
     regions.order_members(again);
-    Ok(is_again && is_new && is_empty && regions.members(again) == [4, 9].as_slice())
+    let is_put = regions.members(again) == [4, 9].as_slice();
+    Ok(is_again && is_new && is_empty && is_put)
 }
 
 // Three regions: one goes, and one is taken back and comes again, without a bridge or members.
