@@ -1,0 +1,150 @@
+//! A whole module as bytes (docs/architecture.md, "Modules").
+
+ghost use Rattle.std.specs.Prelude.{◌≡◌, Some, IfOk};
+ghost use Rattle.rg_module.specs.Parts.{Parts};
+ghost use Rattle.rg_module.specs.Spelling.{spelling, IsSpelt, Spells};
+ghost use Rattle.rg_module.specs.Laws.{Decodes, IsModule};
+ghost use Rattle.rg_module.specs.Inner.Reading.{Gives, magic_at, module_of, rows_behind, heads_behind};
+ghost use Rattle.rg_module.specs.Inner.Reading.{shapes_behind, manager_behind, module_at};
+ghost use Rattle.rg_module.specs.Inner.Rows.{rows_of, IsBare};
+
+use crate::follows::complete;
+use crate::ops::{Read, take_rows};
+use crate::parts::Module;
+use crate::reading::{take_heads, take_manager, take_shapes};
+use crate::refusal::Refusal;
+use crate::rows::{Head, Shape};
+use crate::writing::{write_heads, write_manager, write_rows, write_shapes};
+use rg_base::{ByteList, Manager, Memory};
+use std::alloc::Global;
+
+/// The bytes of a module that some bytes spell.
+pub fn encode(alloc: Global, module: &Module) -> Result<ByteList, Memory>
+    requires { IsSpelt «module».now }
+    ensures { IfOk result (λ bytes. bytes ≡ spelling «module».now) }
+{
+    let mut out = ByteList::new(alloc);
+    out.extend(b"RGM1")?;
+    write_manager(module.manager(), &mut out)?;
+    write_shapes(module.classes(), &mut out)?;
+    write_heads(module.methods(), &mut out)?;
+    write_rows(module, &mut out)?;
+    Ok(out)
+}
+
+// The bytes behind `RGM1`.
+fn take_magic(bytes: &[u8]) -> Result<&[u8], Refusal>
+    ensures { Gives (λ rest. rest.now) result (magic_at bytes.now) }
+{
+    let [a, b, c, d, rest @ ..] = bytes else {
+        return Err(Refusal::NotModule);
+    };
+    if *a != b'R' {
+        return Err(Refusal::NotModule);
+    }
+    if *b != b'G' {
+        return Err(Refusal::NotModule);
+    }
+    if *c != b'M' {
+        return Err(Refusal::NotModule);
+    }
+    if *d != b'1' {
+        return Err(Refusal::NotModule);
+    }
+    Ok(rest)
+}
+
+// The rest of a module, from the count of its instructions on.
+#[tactic(auto, unfolding(crate::specs::Inner::Reading::rows_behind))]
+fn read_rows(
+    alloc: Global,
+    manager: Manager,
+    classes: Vec<Shape>,
+    methods: Vec<Head>,
+    bytes: &[u8],
+) -> Result<Module, Refusal>
+    ensures { Gives (λ m. m) result (rows_behind manager classes.items methods.items bytes.now) }
+{
+    let (found, rest) = match take_rows(alloc, bytes) {
+        Ok(pair) => pair,
+        Err(e) => return Err(e),
+    };
+    if !rest.is_empty() {
+        return Err(Refusal::NotModule);
+    }
+    whole(alloc, manager, classes, methods, found)
+}
+
+// The module of what was read.
+fn whole(
+    alloc: Global,
+    manager: Manager,
+    classes: Vec<Shape>,
+    methods: Vec<Head>,
+    found: Read,
+) -> Result<Module, Refusal>
+    requires { IsBare found.code found.maps.items }
+    ensures { Gives (λ m. m) result
+        (Some (module_of manager classes.items methods.items (rows_of found.code found.maps.items))) }
+{
+    let mut code = found.code;
+    let Ok(()) = complete(alloc, &mut code, classes.as_slice(), methods.as_slice()) else {
+        return Err(Refusal::Memory);
+    };
+    Ok(Module::of(alloc, manager, classes, methods, code, found.maps))
+}
+
+// The rest of a module, from the count of its methods on.
+#[tactic(auto, unfolding(crate::specs::Inner::Reading::heads_behind))]
+fn read_heads(
+    alloc: Global,
+    manager: Manager,
+    classes: Vec<Shape>,
+    bytes: &[u8],
+) -> Result<Module, Refusal>
+    ensures { Gives (λ m. m) result (heads_behind manager classes.items bytes.now) }
+{
+    let (methods, rest) = match take_heads(alloc, bytes) {
+        Ok(pair) => pair,
+        Err(e) => return Err(e),
+    };
+    read_rows(alloc, manager, classes, methods, rest)
+}
+
+// The rest of a module, from the count of its classes on.
+#[tactic(auto, unfolding(crate::specs::Inner::Reading::shapes_behind))]
+fn read_shapes(alloc: Global, manager: Manager, bytes: &[u8]) -> Result<Module, Refusal>
+    ensures { Gives (λ m. m) result (shapes_behind manager bytes.now) }
+{
+    let (classes, rest) = match take_shapes(alloc, bytes) {
+        Ok(pair) => pair,
+        Err(e) => return Err(e),
+    };
+    read_heads(alloc, manager, classes, rest)
+}
+
+// The rest of a module, from its manager on.
+#[tactic(auto, unfolding(crate::specs::Inner::Reading::manager_behind))]
+fn read_manager(alloc: Global, bytes: &[u8]) -> Result<Module, Refusal>
+    ensures { Gives (λ m. m) result (manager_behind bytes.now) }
+{
+    let (manager, rest) = take_manager(bytes)?;
+    read_shapes(alloc, manager, rest)
+}
+
+// The module that all of the bytes are.
+#[tactic(auto, unfolding(crate::specs::Inner::Reading::module_at))]
+fn read(alloc: Global, bytes: &[u8]) -> Result<Module, Refusal>
+    ensures { Gives (λ m. m) result (module_at bytes.now) }
+{
+    let rest = take_magic(bytes)?;
+    read_manager(alloc, rest)
+}
+
+/// The module that the bytes spell. A count that is read reserves nothing.
+pub fn decode(alloc: Global, bytes: &[u8]) -> Result<Module, Refusal>
+    ensures spelt { Decodes bytes.now result }
+    ensures again { (m : Parts) → Spells bytes.now m → IsModule result m }
+{
+    read(alloc, bytes)
+}
