@@ -75,7 +75,8 @@ impl Env {
         requires { length self.slots < BODY_NAMES }
         ensures scope { IfOk result (λ out. out ≡ pushed self name ty assignable) }
         ensures tree { (t : Tables) → IfOk result (λ out.
-            env_of t out ≡ with_variable (env_of t self) (option_map (name_at t) name) ty assignable) }
+            env_of t out
+            ≡ with_variable (env_of t self) (option_map (name_at t) name) ty assignable) }
     {
         let mut env = self;
         env.add(name, ty, assignable)?;
@@ -166,7 +167,8 @@ impl Env {
         ensures marked { self.new ≡ marked name (readiness_of now) self.old }
         ensures within { (t : Tables) → IsReadable t self.old → IsReadable t self.new }
         ensures tree { (t : Tables) → IsReadable t self.old → IfSome name (IsNameIn t)
-            → env_of t self.new ≡ env.marked (variable_of t name) (readiness_of now) (env_of t self.old) }
+            → env_of t self.new
+            ≡ env.marked (variable_of t name) (readiness_of now) (env_of t self.old) }
     {
         set_named(&mut self.flow, &self.vars, name, now);
     }

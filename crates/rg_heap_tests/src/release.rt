@@ -37,8 +37,8 @@ pub fn add_top(
     Ok((key, bridge))
 }
 
-/// Region 0 comes, and above it a chain of regions, each the owner of the one before. It answers the
-/// key and the bridge of the last one.
+/// Region 0 comes, and above it a chain of regions, each the owner of the one before. It answers
+/// the key and the bridge of the last one.
 pub fn add_chain(cells: &mut Cells, regions: &mut Regions) -> Result<(usize, usize), Memory>
     requires { Grove cells.old regions.old }
     ensures grove { OnOk result (Grove cells.new regions.new) }

@@ -21,8 +21,8 @@ use rg_tree::{Program, TypeRow};
 use std::alloc::Global;
 use std::marker::Model;
 
-/// The class table of a program. Contracts see lists of numbers and types, which `IsTableOf` ties to
-/// a program; then each answer is that of the program's tree.
+/// The class table of a program. Contracts see lists of numbers and types, which `IsTableOf` ties
+/// to a program; then each answer is that of the program's tree.
 #[derive(Drop)]
 pub struct Classes {
     heads: ByName<bool>,
@@ -66,7 +66,8 @@ impl Classes {
         requires { IsClass self.now class }
         ensures table { slice_get (values_of self.now.heads) class ≡ Some result }
         ensures tree { (program : Tables) → IsTableOf program self.now
-            → option_map (λ c. c.is_tmp) (slice_get (program_of program).classes class) ≡ Some result }
+            → option_map (λ c. c.is_tmp) (slice_get (program_of program).classes class)
+            ≡ Some result }
     {
         self.heads.at(class)
     }

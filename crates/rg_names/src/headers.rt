@@ -155,8 +155,9 @@ pub fn signature(
     requires heads { IsHeadsOf program.now heads.now }
     requires params { IsSpanBelow program.now (length program.now.params) method.params }
     requires result { IfSome method.result (IsTypeIn program.now) }
-    ensures judged { JudgedAs (at_line method.line (signature_header (program_of program.now).classes
-        is_tmp method.cap (map (param_at program.now) (numbers_in program.now method.params))
+    ensures judged { JudgedAs (at_line method.line
+        (signature_header (program_of program.now).classes is_tmp method.cap
+        (map (param_at program.now) (numbers_in program.now method.params))
         (option_map (type_of program.now) method.result))) result }
     ensures ty { IfOk result (λ y. y ≡ option_map (ty_of program.now) method.result) }
 {

@@ -90,7 +90,8 @@ impl Regions {
         self.region(key).number
     }
 
-    /// Whether the region of a key, if there is one, has a number; nothing is looked up by the number.
+    /// Whether the region of a key, if there is one, has a number; nothing is looked up by the
+    /// number.
     #[inline]
     pub fn has_number(&self, key: usize, number: u64) -> bool
         ensures yes { result ≡ true → HasNumber self.now key number }

@@ -44,7 +44,8 @@ pub(crate) fn walk_asking<S: Source>(
     source: &mut S,
 ) -> Come
     requires follows { Follows input.old (S.left source.old) }
-    requires given { UnstuckOn input.old (S.left source.old) (walk_from code.now from (core_of p.old)) }
+    requires given { UnstuckOn input.old (S.left source.old)
+        (walk_from code.now from (core_of p.old)) }
     ensures comes { OnInput input.old input.new (S.left source.old) (S.left source.new)
         (ComesTo code.now from (core_of p.old) (core_of p.new) result) }
     ensures leaves { (start : StackMachine) (asks : Truth) →
@@ -53,7 +54,8 @@ pub(crate) fn walk_asking<S: Source>(
     ensures backs { ComeBacks (machine_in p.old) result }
     ensures high { (start : HeapParts) → MayMake code.now.ops start from p.old.heap →
         ComeMade start p.new.heap result }
-    ensures unasked { (start : StackMachine) → Stands code.now.ops start false from (machine_in p.old) →
+    ensures unasked { (start : StackMachine) →
+        Stands code.now.ops start false from (machine_in p.old) →
         (input.new ≡ input.old) × (source.new ≡ source.old) }
     ensures follows { Follows input.new (S.left source.new) }
     ensures fault { result ≡ Come.InputFault → Rose (S.faults source.old) (S.faults source.new) }

@@ -48,7 +48,8 @@ pub fn judge_stmt(
     requires last { IfSome last (IsKnown (program_of program.now).classes) }
     requires room { length env.slots + stmt_names (stmt_at program.now s) ≤ BODY_NAMES }
     ensures judged { let t = program.now in
-        StmtJudgedAs t (rules.judge_stmt (program_of t).classes last (env_of t env) (stmt_at t s)) result }
+        StmtJudgedAs t
+        (rules.judge_stmt (program_of t).classes last (env_of t env) (stmt_at t s)) result }
     ensures scope { IfOk result (IsScopeIn program.now) }
     ensures room { IfOk result (λ out.
         length out.slots ≤ length env.slots + stmt_names (stmt_at program.now s)) }
@@ -105,7 +106,8 @@ fn branch(
         + (block_names (block_of t yes) + else_names (else_over t (stmt_at t) no)) ≤ BODY_NAMES }
     ensures judged { let t = book.now.program in
         LeavesAs (rules.judge_kind (program_of t).classes None line (env_of t env.old)
-        (forms.branch (expr_at t e) (block_of t yes) (else_over t (stmt_at t) no))) (env_of t env.new) result }
+        (forms.branch (expr_at t e) (block_of t yes) (else_over t (stmt_at t) no)))
+        (env_of t env.new) result }
     ensures scope { OnOk result (IsReadable book.now.program env.new) }
 {
     tested(env, book, e, line)?;
@@ -128,7 +130,8 @@ fn else_block(env: &mut Env, book: &Book, no: Option<Span>) -> Result<(), Stop>
     requires room { let t = book.now.program in
         length env.old.slots + else_names (else_over t (stmt_at t) no) ≤ BODY_NAMES }
     ensures judged { let t = book.now.program in
-        LeavesAs (rules.judge_else (program_of t).classes (env_of t env.old) (else_over t (stmt_at t) no))
+        LeavesAs
+        (rules.judge_else (program_of t).classes (env_of t env.old) (else_over t (stmt_at t) no))
         (env_of t env.new) result }
     ensures scope { OnOk result (IsReadable book.now.program env.new) }
 {
@@ -180,7 +183,8 @@ fn window(
         length env.old.slots + suc (block_names (block_of t body)) ≤ BODY_NAMES }
     ensures judged { let t = book.now.program in
         LeavesAs (rules.judge_kind (program_of t).classes None line (env_of t env.old)
-        (forms.enter (path_of t path) (name_at t name) (block_of t body))) (env_of t env.new) result }
+        (forms.enter (path_of t path) (name_at t name) (block_of t body)))
+        (env_of t env.new) result }
     ensures scope { OnOk result (IsReadable book.now.program env.new) }
 {
     let outside = env.save();
@@ -199,7 +203,8 @@ fn block(env: &mut Env, book: &Book, span: Span) -> Result<(), Stop>
     requires room { let t = book.now.program in
         length env.old.slots + block_names (block_of t span) ≤ BODY_NAMES }
     ensures judged { let t = book.now.program in
-        LeavesAs (rules.judge_block (program_of t).classes None (env_of t env.old) (block_of t span))
+        LeavesAs
+        (rules.judge_block (program_of t).classes None (env_of t env.old) (block_of t span))
         (env_of t env.new) result }
     ensures scope { OnOk result (IsReadable book.now.program env.new) }
 {
