@@ -22,7 +22,9 @@ use std::alloc::Global;
 
 /// How the program is called.
 pub(crate) const USAGE: &[u8] =
-    b"usage: reggio run FILE [--steps N] [--every N] [--report]; check FILE; fmt FILE; code FILE; plain FILE [--steps N]; bulk N; slide FILE [--steps N] [--every N] [--report]\n";
+    b"usage: reggio run FILE [--steps N] [--every N] [--report]; check FILE; fmt FILE; \
+    code FILE; plain FILE [--steps N]; bulk N; \
+    slide FILE [--steps N] [--every N] [--report]\n";
 
 /// The words of a trap.
 fn trap_words(kind: Trap) -> &'static [u8]
