@@ -7,7 +7,7 @@ use crate::rows::Verdict;
 use rg_io::{MemFiles, StdFiles, take_all};
 use std::rt::Files;
 
-/// A change: `program | text | text in its place | notes`.
+/// A change: `program | text | text in its place | notes`. Without notes the program is accepted.
 #[derive(Drop)]
 struct Change<'a> {
     program: &'a str,
@@ -48,13 +48,15 @@ fn changed(rt: &(impl Files + AllocGlobal), change: &Change<'_>) -> Option<Vec<u
     Some(bytes)
 }
 
-/// Whether `check` refuses a changed program with these notes; None where it wasn't tried.
-fn is_refused(rt: &(impl Files + AllocGlobal), change: &Change<'_>) -> Option<bool> {
+/// Whether `check` refuses a changed program with these notes, or accepts it where there are none;
+/// None where it wasn't tried.
+fn is_judged_so(rt: &(impl Files + AllocGlobal), change: &Change<'_>) -> Option<bool> {
     let mut files = MemFiles::new(rt.alloc());
     files.add("a", &changed(rt, change)?).ok()?;
     let called = call(rt.alloc(), &["check", "a"], &mut files, &[])?;
     let notes = expanded(rt.alloc(), change.notes)?;
-    Some(called.status == 1 && called.streams.notes.taken() == notes.as_slice())
+    let status = if notes.is_empty() { 0 } else { 1 };
+    Some(called.status == status && called.streams.notes.taken() == notes.as_slice())
 }
 
 /// What is to be said of a line of the table.
@@ -65,7 +67,7 @@ pub fn judge_change(rt: &(impl Files + AllocGlobal), line: &str) -> Verdict {
     let Some(change) = cells(line) else {
         return Verdict::Other;
     };
-    match is_refused(rt, &change) {
+    match is_judged_so(rt, &change) {
         Some(true) => Verdict::AsExpected,
         Some(false) => Verdict::Other,
         None => Verdict::NotTried,
