@@ -50,7 +50,8 @@ set_up n maps at ts lt =
     ap (λ (y : List (List Ty)). slice_set maps at ts ++ y) same ∙ sym (set-append_left maps (replicate (n - length maps) none) at ts lt)
 
 -- the same, in a module
-pub mapped : (m : Manager) (classes : List Shape) (methods : List Head) (code : Code) (maps news : List (List Ty)) (at : ℕ) (ts : List Ty) (old : Parts)
+pub mapped : (m : Manager) (classes : List Shape) (methods : List Head) (code : Code)
+    (maps news : List (List Ty)) (at : ℕ) (ts : List Ty) (old : Parts)
     → parts_of m classes methods code maps ≡ old → IsPadded (length code.ops) maps news → at < length news
     → parts_of m classes methods code (slice_set news at ts) ≡ record old { maps = slice_set old.maps at ts }
 mapped m classes methods code maps news at ts old view now lt =

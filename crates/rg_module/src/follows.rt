@@ -176,8 +176,8 @@ fn add_entry(code: &mut CodeList, at: usize, head: &Head) -> Result<usize, Memor
 // Appends the entries of methods, whose bodies begin at an address.
 fn add_entries(code: &mut CodeList, from: usize, heads: &[Head]) -> Result<(), Memory>
     requires { from ≤ length code.old.ops }
-    ensures { OnOk result (code.new
-        ≡ record code.old { entries = code.old.entries ++ entries from heads.now (drop from code.old.ops) }) }
+    ensures { OnOk result (let added = entries from heads.now (drop from code.old.ops) in
+        code.new ≡ record code.old { entries = code.old.entries ++ added }) }
 {
     let mut at = from;
     for head in heads {

@@ -1,5 +1,10 @@
-//! A module: the code of a program with what a reader must know of classes and methods, and its
-//! bytes (docs/architecture.md, "Modules").
+//! A module: the code of a program with what a reader must know of its classes and methods, and
+//! its bytes (docs/architecture.md, "Modules"). `Module` shows the manager, the classes (`Shape`),
+//! the heads of the methods (`Head`), the code and a map for each instruction (`specs/Parts`).
+//! `encode` gives exactly the bytes of `spelling` in `specs/Spelling`, or no memory was found; it
+//! wants a module that some bytes spell (`IsSpelt`). `decode` gives the module that the bytes spell
+//! (clause `spelt`), and where they spell one, no refusal but `Memory` (clause `again`). The law
+//! `at_most_one_module`: bytes spell at most one module. All else in the crate is private.
 #![tactic(auto)]
 
 mod follows;

@@ -4,8 +4,9 @@
 ghost use Rattle.std.specs.Prelude.{◌≡◌, Some, IfOk};
 ghost use Rattle.rg_code.specs.Places as places;
 ghost use Rattle.rg_module.specs.Inner.Reading as reading;
-ghost use Rattle.rg_module.specs.Inner.Reading.{Gives, region_at, swap_at, enter_at, enter_field_at};
-ghost use Rattle.rg_module.specs.Inner.Reading.{filled, op_at, map_at, row_at, many_at, counted_at};
+ghost use Rattle.rg_module.specs.Inner.Reading.{Gives, region_at, swap_at, enter_at};
+ghost use Rattle.rg_module.specs.Inner.Reading.{enter_field_at, filled, op_at, map_at, row_at};
+ghost use Rattle.rg_module.specs.Inner.Reading.{many_at, counted_at};
 ghost use Rattle.rg_module.specs.Inner.Rows.{rows_of, IsBare};
 
 use crate::numbers::{Kind, blank, kind_of};
@@ -192,7 +193,8 @@ pub(crate) struct Read {
 
 // So many instructions.
 fn take_many_rows(alloc: Global, count: u32, bytes: &[u8]) -> Result<(Read, &[u8]), Refusal>
-    ensures read { Gives (λ x. (rows_of x.0.code x.0.maps.items, x.1.now)) result (many_at row_at count bytes.now) }
+    ensures read { Gives (λ x. (rows_of x.0.code x.0.maps.items, x.1.now)) result
+        (many_at row_at count bytes.now) }
     ensures bare { IfOk result (λ x. IsBare x.0.code x.0.maps.items) }
 {
     let mut code = CodeList::new(alloc);
@@ -217,7 +219,8 @@ fn take_many_rows(alloc: Global, count: u32, bytes: &[u8]) -> Result<(Read, &[u8
 /// A count of instructions, and the instructions.
 #[tactic(auto, unfolding(crate::specs::Inner::Reading::counted_at))]
 pub(crate) fn take_rows(alloc: Global, bytes: &[u8]) -> Result<(Read, &[u8]), Refusal>
-    ensures read { Gives (λ x. (rows_of x.0.code x.0.maps.items, x.1.now)) result (counted_at row_at bytes.now) }
+    ensures read { Gives (λ x. (rows_of x.0.code x.0.maps.items, x.1.now)) result
+        (counted_at row_at bytes.now) }
     ensures bare { IfOk result (λ x. IsBare x.0.code x.0.maps.items) }
 {
     let (count, rest) = take_u32(bytes)?;

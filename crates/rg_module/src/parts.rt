@@ -40,7 +40,8 @@ impl Model for Module {
 // Appends empty maps, up to one at a place.
 fn pad(alloc: Global, maps: &mut Vec<Tys>, at: usize) -> Result<(), Memory>
     ensures there { OnOk result (at < length maps.new.items) }
-    ensures same { (n : ℕ) → at < n → length maps.old.items ≤ n → IsPadded n maps.old.items maps.new.items }
+    ensures same { (n : ℕ) → at < n → length maps.old.items ≤ n →
+        IsPadded n maps.old.items maps.new.items }
 {
     while maps.len() <= at {
         let Ok(()) = maps.push(Tys::new(alloc)) else {
@@ -112,7 +113,8 @@ impl Module {
     /// Keeps the map of a mark, which was empty until then.
     pub fn set_map(&mut self, at: usize, map: Tys) -> Result<(), Memory>
         requires { IsMark self.old.code.ops at }
-        ensures ok { OnOk result (self.new ≡ record self.old { maps = slice_set self.old.maps at map }) }
+        ensures ok { OnOk result (self.new
+            ≡ record self.old { maps = slice_set self.old.maps at map }) }
         ensures err { OnErr result (self.new ≡ self.old) }
     {
         pad(self.alloc, &mut self.maps, at)?;

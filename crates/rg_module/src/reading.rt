@@ -4,10 +4,10 @@
 ghost use Rattle.std.specs.Prelude.{◌≡◌, false, true};
 ghost use Rattle.std.specs.Int.{w32, w64};
 ghost use Rattle.rg_module.specs.Inner.Reading as reading;
-ghost use Rattle.rg_module.specs.Inner.Reading.{Gives, byte_at, number_at, signed_at, slot_at, bool_at};
-ghost use Rattle.rg_module.specs.Inner.Reading.{manager_at, cap_at, ref_at, ty_behind, ty_at, counted_at};
-ghost use Rattle.rg_module.specs.Inner.Reading.{many_at, members_at, shape_at, result_behind, result_at};
-ghost use Rattle.rg_module.specs.Inner.Reading.{head_at};
+ghost use Rattle.rg_module.specs.Inner.Reading.{Gives, byte_at, number_at, signed_at, slot_at};
+ghost use Rattle.rg_module.specs.Inner.Reading.{bool_at, manager_at, cap_at, ref_at, ty_behind};
+ghost use Rattle.rg_module.specs.Inner.Reading.{ty_at, counted_at, many_at, members_at, shape_at};
+ghost use Rattle.rg_module.specs.Inner.Reading.{result_behind, result_at, head_at};
 
 use crate::numbers::{bool_of, cap_of, manager_of};
 use crate::refusal::Refusal;

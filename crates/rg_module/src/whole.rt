@@ -4,8 +4,9 @@ ghost use Rattle.std.specs.Prelude.{◌≡◌, Some, IfOk};
 ghost use Rattle.rg_module.specs.Parts.{Parts};
 ghost use Rattle.rg_module.specs.Spelling.{spelling, IsSpelt, Spells};
 ghost use Rattle.rg_module.specs.Laws.{Decodes, IsModule};
-ghost use Rattle.rg_module.specs.Inner.Reading.{Gives, magic_at, module_of, rows_behind, heads_behind};
-ghost use Rattle.rg_module.specs.Inner.Reading.{shapes_behind, manager_behind, module_at};
+ghost use Rattle.rg_module.specs.Inner.Reading.{Gives, magic_at, module_of, rows_behind};
+ghost use Rattle.rg_module.specs.Inner.Reading.{heads_behind, shapes_behind};
+ghost use Rattle.rg_module.specs.Inner.Reading.{manager_behind, module_at};
 ghost use Rattle.rg_module.specs.Inner.Rows.{rows_of, IsBare};
 
 use crate::follows::complete;
@@ -84,8 +85,8 @@ fn whole(
     found: Read,
 ) -> Result<Module, Refusal>
     requires { IsBare found.code found.maps.items }
-    ensures { Gives (λ m. m) result
-        (Some (module_of manager classes.items methods.items (rows_of found.code found.maps.items))) }
+    ensures { Gives (λ m. m) result (Some (module_of manager classes.items methods.items
+        (rows_of found.code found.maps.items))) }
 {
     let mut code = found.code;
     let Ok(()) = complete(alloc, &mut code, classes.as_slice(), methods.as_slice()) else {

@@ -6,8 +6,9 @@ ghost use Rattle.std.specs.Int.{w32, w64, to_be_bytes};
 ghost use Rattle.rg_code.specs.Places as places;
 ghost use Rattle.rg_module.specs.Spelling.{four, eight, signed, bool_number, manager_number};
 ghost use Rattle.rg_module.specs.Spelling.{counted, Counted, ty_bytes, FitsTy, members_bytes};
-ghost use Rattle.rg_module.specs.Spelling.{shape_bytes, FitsShape, result_bytes, head_bytes, FitsHead};
-ghost use Rattle.rg_module.specs.Spelling.{operands, operand_bytes, op_bytes, FitsOp, map_bytes, FitsMap};
+ghost use Rattle.rg_module.specs.Spelling.{shape_bytes, FitsShape, result_bytes, head_bytes};
+ghost use Rattle.rg_module.specs.Spelling.{FitsHead, operands, operand_bytes, op_bytes, FitsOp};
+ghost use Rattle.rg_module.specs.Spelling.{map_bytes, FitsMap};
 ghost use Rattle.rg_module.specs.Spelling.{row_bytes, FitsRow, rows_of, IsSpelt};
 
 use crate::numbers::{bool_number, cap_number, manager_number, op_number};

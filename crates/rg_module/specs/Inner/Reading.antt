@@ -280,7 +280,8 @@ row_at bytes = do
 
 -- the bytes behind `RGM1`
 abbrev pub magic_at : List ℕ → Option (List ℕ)
-magic_at (a ∷ b ∷ c ∷ d ∷ bytes) = if a == 82 then (if b == 71 then (if c == 77 then (if d == 49 then Some bytes else None) else None) else None) else None
+magic_at (a ∷ b ∷ c ∷ d ∷ bytes) =
+    if a == 82 then (if b == 71 then (if c == 77 then (if d == 49 then Some bytes else None) else None) else None) else None
 magic_at bytes = None
 
 -- the module of what was read

@@ -20,4 +20,5 @@ returns c =
     let before = c.set_main_slots.ensures ∙ ap (λ (d : Code). record d { main_slots = slots }) c.in_ok-add_openings.ensures in
     c.in_ok-add_entries.ensures
     ∙ ap (λ (d : Code). record d { entries = d.entries ++ entries end heads (drop end d.ops) }) before
-    ∙ completed c.args.code.now c.args.shapes.now heads end slots c.requires c.body_at-end.ensures.end (c.in_ok-slots.ensures ∙ c.body_at-end.ensures.slots)
+    ∙ completed c.args.code.now c.args.shapes.now heads end slots c.requires c.body_at-end.ensures.end
+    (c.in_ok-slots.ensures ∙ c.body_at-end.ensures.slots)
