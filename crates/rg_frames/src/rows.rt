@@ -19,7 +19,7 @@ pub struct Frame {
 }
 
 /// Why there is no room for a frame.
-#[derive(Clone, Copy, PartialEq, Eq)]
+#[derive(Clone, Copy)]
 pub enum FrameRefusal {
     Depth,
     Memory,

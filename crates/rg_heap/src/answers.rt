@@ -3,7 +3,7 @@
 use rg_base::Manager;
 
 /// Why a call was refused: nil was followed, or no memory was found.
-#[derive(Clone, Copy, PartialEq, Eq)]
+#[derive(Clone, Copy)]
 pub enum Refusal {
     Nil,
     Memory,
