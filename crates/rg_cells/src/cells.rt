@@ -23,7 +23,6 @@ use std::marker::Model;
 use std::sync::ledger::Ledger;
 
 /// Cells under slots. A freed cell's place stays, and is taken again before a new one is made.
-#[derive(Drop)]
 pub struct Cells {
     alloc: Global,
     places: Slab<Place>,
@@ -44,6 +43,20 @@ impl Model for Cells {
 
     ghost invariant = { λ s. Kept s.places s.free.items (vec_capacity s.free)
         × Counts s.places s.frozen s.words × Serials (table_of s.places.slots s.next).heap };
+}
+
+/// Written out, so that a crate above that drops cells needn't prove how each of them goes.
+impl Drop for Cells {
+    fn drop(self) {
+        let Cells {
+            alloc: _,
+            places: _,
+            free: _,
+            next: _,
+            frozen: _,
+            words: _,
+        } = self;
+    }
 }
 
 impl Cells {

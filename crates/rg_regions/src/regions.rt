@@ -20,7 +20,6 @@ use std::alloc::Global;
 use std::marker::Model;
 
 /// Regions by their keys.
-#[derive(Drop)]
 pub struct Regions {
     alloc: Global,
     records: Slab<Region>,
@@ -38,6 +37,18 @@ impl Model for Regions {
     ghost view = { λ s. table_of s.records.slots s.next };
 
     ghost invariant = { λ s. IsIndexed s.keys.entries (table_of s.records.slots s.next) };
+}
+
+/// Written out, so that a crate above that drops regions needn't prove how each of them goes.
+impl Drop for Regions {
+    fn drop(self) {
+        let Regions {
+            alloc: _,
+            records: _,
+            keys: _,
+            next: _,
+        } = self;
+    }
 }
 
 impl Regions {
