@@ -13,6 +13,7 @@ mod UndueLemmas
 mod CallShapeLemmas
 mod FreesLemmas
 mod LeapLemmas
+mod LeapingLemmas
 mod PassLemmas
 mod ShapeNeedLemmas
 mod FieldLemmas
