@@ -26,6 +26,7 @@ use Rattle.rg_step.specs.Asking.{AsksFrom, AsksOn, YesesTold, asks_at, first_mak
 use Rattle.rg_step.specs.Collections.{Asks}
 use Rattle.rg_step.specs.Steps.{Leapt, StepsOn}
 use Rattle.rg_run.specs.Asked.{AskedOver}
+use Rattle.rg_run.specs.Inner.{behind}
 use Rattle.rg_run.proofs.TurnLemmas.{Between, leapt}
 
 -- Steps of a run
@@ -116,15 +117,6 @@ asked-then classes m k s u v first now after is some went so_far more =
     more ∙ ap (raised_if (asks_at classes m u)) so_far
     ∙ sym (raised-then (asks_at classes m u) (k + 1) (asks_from classes m k 1 s) first)
     ∙ ap (λ xs. raised (length xs) first) (sym (asks-next classes m k s u v is some went))
-
--- how many whole steps a run has made behind an answer
-abbrev pub behind : ℕ → Outcome → ℕ
-behind k outcome.Running = k + 1
-behind k (outcome.Printed v) = k + 1
-behind k outcome.Done = k + 1
-behind k (outcome.Trap kind line) = k
-behind k outcome.InputFault = k
-behind k outcome.Memory = k
 
 module _ (t : Tables) (code : Code) (k : ℕ) (m : Machine) (old out : Option (List ℕ)) (Still : Type 0) (before between : List ℕ) (first now : Asks)
     (b : Between t code k m old out Still before between) (so_far : AskedOver (program_of t) before k first now) where

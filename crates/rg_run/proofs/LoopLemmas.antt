@@ -1,5 +1,5 @@
 -- A turn of the loop of a run: a step more, or the end of the run. All that is told of it is one fact on bytes of the input.
-use Rattle.std.proofs.Common.{◌≡◌, ◌∙◌, ℕ, ◌+◌, ◌-◌, ◌^◌, ◌≤◌, ◌<◌, Bool, true, false, inr, List, Option, refl}
+use Rattle.std.proofs.Common.{◌≡◌, ◌∙◌, ℕ, ◌+◌, ◌-◌, ◌^◌, ◌≤◌, ◌<◌, ◌⊎◌, Bool, true, false, inl, inr, List, Option, Ok, Err, refl, sym, subst, arith}
 use Rattle.rg_base.specs.declared.outcome.Ended.{Ended}
 use Rattle.rg_base.specs.declared.outcome.Ended.TheVariants as ended
 use Rattle.rg_base.specs.declared.outcome.Outcome.{Outcome}
@@ -22,17 +22,34 @@ use Rattle.rg_step.specs.Collections.{Asks}
 use Rattle.rg_step.specs.States.{Chain, OneStep, Standing}
 use Rattle.rg_step.specs.Steps.{Leapt, Runs, Stepping, StepsOn, counted_by}
 use Rattle.rg_run.specs.Asked.{AskedOver}
-use Rattle.rg_run.specs.Inner.{IsUntold}
+use Rattle.rg_run.specs.Inner.{Gives, IsUntold, behind}
 use Rattle.rg_run.specs.Runs.{Ran}
 use Rattle.rg_run.specs.States.{LeavesAt, RunsThrough}
 use Rattle.rg_run.specs.Whole.{WholeRun}
-use Rattle.rg_run.proofs.AskLemmas.{asked-by, asked-leapt, behind}
+use Rattle.rg_run.proofs.AskLemmas.{asked-by, asked-leapt}
 use Rattle.rg_run.proofs.RunLemmas.{since-yes}
 use Rattle.rg_run.proofs.SinceLemmas.{SinceOver}
 use Rattle.rg_run.proofs.SinceTurnLemmas.{since-by, since-leapt}
 use Rattle.rg_run.proofs.StateLemmas.{LeadsTo, kept, standing, led-on, runs-through, stepped-on, ended-behind, refused-at, untold-leaves}
 use Rattle.rg_run.proofs.TurnLemmas.{Between, Turns, quiet, printed, leapt}
 use Rattle.rg_run.proofs.TurnLemmas as run
+
+-- with equal numbers of steps, contents of the output and ends
+
+turns-as : {t : Tables} {code : Code} {k steps : ℕ} {st : Stepping} {a b : Pending} {la lb : Option (List ℕ)} {taken middle out : Option (List ℕ)}
+    {Still : Type 0} {first now : Asks} → steps ≡ k → out ≡ middle → OnInput a b la lb (Turns t code k st taken middle Still first now) →
+    OnInput a b la lb (Turns t code steps st taken out Still first now)
+turns-as {t} {code} {k} {steps} {st} {a} {b} {la} {lb} {taken} {middle} {out} {Still} {first} {now} count same turns =
+    let P : ℕ → Option (List ℕ) → Type 0 = λ j o. OnInput a b la lb (Turns t code j st taken o Still first now) in
+    subst (λ j. P j out) (sym count) (subst (P k) (sym same) turns)
+
+run-as : {t : Tables} {code : Code} {n k steps : ℕ} {started : Bool} {st : Stepping} {a b : Pending} {la lb : Option (List ℕ)}
+    {taken middle out : Option (List ℕ)} {e f : Ended} {Still : Type 0} {first now : Asks} → steps ≡ k → out ≡ middle → f ≡ e →
+    OnInput a b la lb (WholeRun t code n taken middle (kept started st k) e Still first now) →
+    OnInput a b la lb (WholeRun t code n taken out (kept started st steps) f Still first now)
+run-as {t} {code} {n} {k} {steps} {started} {st} {a} {b} {la} {lb} {taken} {middle} {out} {e} {f} {Still} {first} {now} count same is ran =
+    let P : ℕ → Option (List ℕ) → Ended → Type 0 = λ j o q. OnInput a b la lb (WholeRun t code n taken o (kept started st j) q Still first now) in
+    subst (λ j. P j out f) (sym count) (subst (λ o. P k o f) (sym same) (subst (P k middle) (sym is) ran))
 
 -- between two turns
 
@@ -73,7 +90,7 @@ module _ {t : Tables} {code : Code} {k : ℕ} {a b : Pending} {la lb : Option (L
     spent is all = stops ended.Spent (λ bytes. (refl, refl)) (λ x y. run.spent t code n k st taken middle Still x y started is all)
 
     -- a collection wasn't told
-    pub untold : {e : Ended} → started ≡ true → k ≤ n → IsUntold e →
+    untold : {e : Ended} → started ≡ true → k ≤ n → IsUntold e →
         OnInput a b la lb (WholeRun t code n taken middle (kept started st k) e Still first now)
     untold {e} is within cut =
         stops e (untold-leaves code (standing st now) e cut) (λ x y. run.untold t code n k st taken middle Still x y started is within e cut)
@@ -125,7 +142,7 @@ module _ {t : Tables} {code : Code} {k : ℕ} {old new : Stepping} {a b c : Pend
       })
 
   -- a step went on and printed nothing
-  pub went-on : OnInput b c lb lc (OneStep code (standing old before) (standing new after) outcome.Running) →
+  went-on : OnInput b c lb lc (OneStep code (standing old before) (standing new after) outcome.Running) →
       OnInput a c la lc (Turns t code (k + 1) new taken middle ((c ≡ a) × (sc ≡ sa)) first after)
   went-on did =
       goes outcome.Running did
@@ -133,13 +150,25 @@ module _ {t : Tables} {code : Code} {k : ℕ} {old new : Stepping} {a b c : Pend
       (more reads_nothing t a sa) taken middle) (λ x y z h one. stepped-on h one refl)
 
   -- a step printed a value, whose line was then taken
-  pub printed-on : {out : Option (List ℕ)} (v : Val) →
+  printed-on : {out : Option (List ℕ)} (v : Val) →
       OnInput b c lb lc (OneStep code (standing old before) (standing new after) (outcome.Printed v)) → Appends middle out (line_text v) →
       OnInput a c la lc (Turns t code (k + 1) new taken out ((c ≡ a) × (sc ≡ sa)) first after)
   printed-on {out} v did line =
       goes (outcome.Printed v) did
       (λ x y z h step. printed t code k (machine_in old.parts) (machine_in new.parts) ((b ≡ a) × (sb ≡ sa)) ((c ≡ a) × (sc ≡ sa)) x y z
       (more reads_nothing t a sa) v taken middle out h step line) (λ x y z h one. stepped-on h one refl)
+
+  -- a step was made, its lines were taken, and the run goes on
+  pub goes-on : {A : Type 0} (x : A) {steps : ℕ} {out : Option (List ℕ)} (r : Outcome) →
+      OnInput b c lb lc (OneStep code (standing old before) (standing new after) r) → steps ≡ behind k r → Gives r (Ok x) middle out →
+      OnInput a c la lc (Turns t code steps new taken out ((c ≡ a) × (sc ≡ sa)) first after)
+  goes-on x outcome.Running did count gives = turns-as count gives.0 (went-on did)
+  goes-on x (outcome.Printed v) did count (inl gives) = turns-as count refl (printed-on v did gives.0)
+  goes-on x (outcome.Printed v) did count (inr cut) = absurd cut.1
+  goes-on x outcome.Done did count gives = absurd gives.1
+  goes-on x (outcome.Trap kind line) did count gives = absurd gives.1
+  goes-on x outcome.InputFault did count gives = absurd gives.1
+  goes-on x outcome.Memory did count gives = absurd gives.1
 
   module _ {n : ℕ} {started : Bool} (is : started ≡ true) (within : k < n) where
     ends : {out : Option (List ℕ)} (r : Outcome) (e : Ended) → OnInput b c lb lc (OneStep code (standing old before) (standing new after) r) →
@@ -160,7 +189,7 @@ module _ {t : Tables} {code : Code} {k : ℕ} {old new : Stepping} {a b c : Pend
           states = λ begun. through x y z h.states one;
         })
 
-    pub done : OnInput b c lb lc (OneStep code (standing old before) (standing new after) outcome.Done) →
+    done : OnInput b c lb lc (OneStep code (standing old before) (standing new after) outcome.Done) →
         OnInput a c la lc (WholeRun t code n taken middle (kept started new (k + 1)) ended.Done ((c ≡ a) × (sc ≡ sa)) first after)
     done did =
         ends outcome.Done ended.Done did
@@ -168,7 +197,7 @@ module _ {t : Tables} {code : Code} {k : ℕ} {old new : Stepping} {a b c : Pend
         (more reads_nothing t a sa) started is taken middle) (λ x y z h one. ended-behind h one ended.Done refl (refl, refl))
 
     -- the last step was made, and its collection wasn't told
-    pub done-untold : {e : Ended} → OnInput b c lb lc (OneStep code (standing old before) (standing new after) outcome.Done) → IsUntold e →
+    done-untold : {e : Ended} → OnInput b c lb lc (OneStep code (standing old before) (standing new after) outcome.Done) → IsUntold e →
         OnInput a c la lc (WholeRun t code n taken middle (kept started new (k + 1)) e ((c ≡ a) × (sc ≡ sa)) first after)
     done-untold {e} did cut =
         ends outcome.Done e did
@@ -176,7 +205,14 @@ module _ {t : Tables} {code : Code} {k : ℕ} {old new : Stepping} {a b c : Pend
         (more reads_nothing t a sa) started is e cut taken middle)
         (λ x y z h one. ended-behind h one e refl (untold-leaves code (standing new after) e cut z))
 
-    pub trapped : (kind : Trap) (line : ℕ) →
+    done-so : {steps : ℕ} {e : Ended} {out : Option (List ℕ)} →
+        OnInput b c lb lc (OneStep code (standing old before) (standing new after) outcome.Done) → steps ≡ k + 1 → out ≡ middle →
+        (e ≡ ended.Done) ⊎ IsUntold e →
+        OnInput a c la lc (WholeRun t code n taken out (kept started new steps) e ((c ≡ a) × (sc ≡ sa)) first after)
+    done-so did count same (inl end) = run-as count same end (done did)
+    done-so did count same (inr cut) = run-as count same refl (done-untold did cut)
+
+    trapped : (kind : Trap) (line : ℕ) →
         OnInput b c lb lc (OneStep code (standing old before) (standing new after) (outcome.Trap kind line)) →
         OnInput a c la lc (WholeRun t code n taken middle (kept started new k) (ended.Trap kind line) ((c ≡ a) × (sc ≡ sa)) first after)
     trapped kind line did =
@@ -185,7 +221,7 @@ module _ {t : Tables} {code : Code} {k : ℕ} {old new : Stepping} {a b c : Pend
         (more reads_nothing t a sa) started is kind line taken middle) (λ x y z h one. refused-at h one (ended.Trap kind line) one)
 
     -- no memory was found for a step
-    pub cut-before : OnInput b c lb lc (OneStep code (standing old before) (standing new after) outcome.Memory) →
+    cut-before : OnInput b c lb lc (OneStep code (standing old before) (standing new after) outcome.Memory) →
         OnInput a c la lc (WholeRun t code n taken middle (kept started new k) ended.Memory ((c ≡ a) × (sc ≡ sa)) first after)
     cut-before did =
         ends outcome.Memory ended.Memory did
@@ -193,7 +229,7 @@ module _ {t : Tables} {code : Code} {k : ℕ} {old new : Stepping} {a b c : Pend
         (more reads_nothing t a sa) started is taken middle) (λ x y z h one. refused-at h one ended.Memory (inr one))
 
     -- the input failed
-    pub cut-at-input : OnInput b c lb lc (OneStep code (standing old before) (standing new after) outcome.InputFault) →
+    cut-at-input : OnInput b c lb lc (OneStep code (standing old before) (standing new after) outcome.InputFault) →
         ((p : State) → Runs (program_of t) code (machine_in old.parts) p → first_asks p.items ≡ true) →
         OnInput a c la lc (WholeRun t code n taken middle (kept started new k) ended.InputFault ((c ≡ a) × (sc ≡ sa)) first after)
     cut-at-input did asks =
@@ -202,10 +238,25 @@ module _ {t : Tables} {code : Code} {k : ℕ} {old new : Stepping} {a b c : Pend
         (more reads_nothing t a sa) started is taken middle asks) (λ x y z h one. refused-at h one ended.InputFault one)
 
     -- the output failed behind a step that printed a value
-    pub cut-behind : {out : Option (List ℕ)} (v : Val) →
+    cut-behind : {out : Option (List ℕ)} (v : Val) →
         OnInput b c lb lc (OneStep code (standing old before) (standing new after) (outcome.Printed v)) → AppendsPart middle out (line_text v) →
         OnInput a c la lc (WholeRun t code n taken out (kept started new (k + 1)) ended.OutputFault ((c ≡ a) × (sc ≡ sa)) first after)
     cut-behind {out} v did part =
         ends (outcome.Printed v) ended.OutputFault did
         (λ x y z h step. run.cut_behind t code n k within (machine_in old.parts) new ((b ≡ a) × (sb ≡ sa)) ((c ≡ a) × (sc ≡ sa)) x y z
         (more reads_nothing t a sa) started is v taken middle out h step part) (λ x y z h one. ended-behind h one ended.OutputFault refl (refl, refl))
+
+    -- a step was made or refused, and the run ended so
+    pub ends-so : (A : Type 0) {steps : ℕ} {e : Ended} {out : Option (List ℕ)} (r : Outcome) →
+        OnInput b c lb lc (OneStep code (standing old before) (standing new after) r) →
+        (r ≡ outcome.InputFault → (t : Tree) (p : State) → Runs t code (machine_in old.parts) p → first_asks p.items ≡ true) →
+        steps ≡ behind k r → Gives {A = A} r (Err e) middle out →
+        OnInput a c la lc (WholeRun t code n taken out (kept started new steps) e ((c ≡ a) × (sc ≡ sa)) first after)
+    ends-so A outcome.Running did asks count gives = run-as count gives.0 refl (untold (went-on did) is (omega (arith, within)) gives.1)
+    ends-so A (outcome.Printed v) did asks count (inl gives) =
+        run-as count refl refl (untold (printed-on v did gives.0) is (omega (arith, within)) gives.1)
+    ends-so A (outcome.Printed v) did asks count (inr cut) = run-as count refl cut.1 (cut-behind v did cut.0)
+    ends-so A outcome.Done did asks count gives = done-so did count gives.0 gives.1
+    ends-so A (outcome.Trap kind line) did asks count gives = run-as count gives.0 gives.1 (trapped kind line did)
+    ends-so A outcome.InputFault did asks count gives = run-as count gives.0 gives.1 (cut-at-input did (asks refl (program_of t)))
+    ends-so A outcome.Memory did asks count gives = run-as count gives.0 gives.1 (cut-before did)

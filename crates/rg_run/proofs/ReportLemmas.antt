@@ -1,8 +1,9 @@
 -- What the notes have taken of a run, one collection after another.
-use Rattle.std.proofs.Common.{◌≡◌, ℕ, zero, suc, ◌+◌, ◌≤◌, inl, inr, Bool, true, false, List, [], ◌∷◌, ◌++◌, length, take}
-use Rattle.std.proofs.Common.{Option, Some, None, slice_get, refl, sym, ap, subst, ◌∙◌, arith, append-nil, append_assoc, length-append, true≢false}
+use Rattle.std.proofs.Common.{◌≡◌, ℕ, zero, suc, ◌+◌, ◌≤◌, ◌⊎◌, inl, inr, Bool, true, false, List, [], ◌∷◌, ◌++◌, length, take, drop}
+use Rattle.std.proofs.Common.{Err, Option, Some, None, slice_get, refl, sym, ap, subst, ◌∙◌, arith}
+use Rattle.std.proofs.Common.{append-nil, append_assoc, length-append, true≢false}
 use Rattle.std.proofs.Math.Seq.{take-append_seam}
-use Rattle.std.proofs.lemmas.List.{take_all}
+use Rattle.std.proofs.lemmas.List.{take_all, take-append-drop}
 use Rattle.std.proofs.lemmas.Grind.{flat_map-append}
 use Rattle.std.proofs.lemmas.Option.{same_Some}
 use Rattle.rg_base.specs.declared.event.Cause.{Cause}
@@ -15,13 +16,13 @@ use Rattle.rg_base.specs.declared.outcome.Outcome.TheVariants as outcome
 use Rattle.rg_base.specs.declared.words.Manager.{Manager}
 use Rattle.rg_base.specs.declared.words.Manager.TheVariants.{Arena, Count, Trace}
 use Rattle.rg_base.specs.Report.{event_line}
-use Rattle.rg_io.specs.Content.{Appends}
-use Rattle.rg_io.proofs.ContentLemmas.{Appends-none, Appends-more}
+use Rattle.rg_io.specs.Content.{Appends, Rose}
+use Rattle.rg_io.proofs.ContentLemmas.{Appends-none, Appends-more, Rose-since}
 use Rattle.rg_sound.proofs.Basics.{none-some}
 use Rattle.rg_machine.specs.Parts.{Parts}
 use Rattle.rg_step.specs.Steps.{Stepping}
 use Rattle.rg_step.specs.Collections.{Asks, IsCollected, IsLeft, CollectsOn, CollectsAsked, Paces, Serves, ServesBy, event_of}
-use Rattle.rg_run.specs.Inner.{CutsLine, IsUntold, OneMore, Adds}
+use Rattle.rg_run.specs.Inner.{CutsLine, Gives, IsUntold, OneMore, Adds, behind}
 use Rattle.rg_run.specs.Reports.{Reports, event_lines}
 
 -- What a step adds
@@ -76,26 +77,49 @@ step-adds due old mid new before after (outcome.Trap kind line) h = (h.events_ar
 step-adds due old mid new before after outcome.InputFault h = (h.events_are, same-tuned before after h.unasked.pacers)
 step-adds due old mid new before after outcome.Memory h = (h.events_are, same-tuned before after h.unasked.pacers)
 
-pub front : {step : ℕ} (old new : List Event) → OneMore step old new → take (length old) new ≡ old
+front : {step : ℕ} (old new : List Event) → OneMore step old new → take (length old) new ≡ old
 front old new (inl same) = ap (take (length old)) same ∙ take_all (length old) old (omega arith)
 front old new (inr more) = ap (take (length old)) more.1 ∙ take-append_seam old (more.0 ∷ [])
 
-pub few : {step : ℕ} (old new : List Event) → OneMore step old new → length new ≤ length old + 1
+few : {step : ℕ} (old new : List Event) → OneMore step old new → length new ≤ length old + 1
 few old new (inl same) = omega (arith, ap length same)
 few old new (inr more) =
     let e : length new ≡ length old + 1 = ap length more.1 ∙ length-append old (more.0 ∷ []) in omega (arith, e)
 
+few-by : (step : ℕ) (r : Outcome) (old new : List Event) → Adds step old new r → length new ≤ behind (length old) r
+few-by step outcome.Running old new adds = few old new adds
+few-by step (outcome.Printed v) old new adds = few old new adds
+few-by step outcome.Done old new adds = few old new adds
+few-by step (outcome.Trap kind line) old new same = omega (arith, ap length same)
+few-by step outcome.InputFault old new same = omega (arith, ap length same)
+few-by step outcome.Memory old new same = omega (arith, ap length same)
+
+-- no more are left to tell
+pub few-behind : (step : ℕ) (r : Outcome) (old new told events : List Event) → told ≡ old → events ≡ new → Adds step old new r →
+    length events ≤ behind (length told) r
+few-behind step r old new told events told_is events_is adds =
+    let P : List Event → List Event → Type 0 = λ xs ys. length ys ≤ behind (length xs) r in
+    subst (λ xs. P xs events) (sym told_is) (subst (P old) (sym events_is) (few-by step r old new adds))
+
+one-more : (step : ℕ) (r : Outcome) (old new : List Event) → Adds step old new r → OneMore step old new
+one-more step outcome.Running old new adds = adds
+one-more step (outcome.Printed v) old new adds = adds
+one-more step outcome.Done old new adds = adds
+one-more step (outcome.Trap kind line) old new same = inl same
+one-more step outcome.InputFault old new same = inl same
+one-more step outcome.Memory old new same = inl same
+
 -- What the notes have taken
 
 -- in front of what a step added
-pub reports-front : {step : ℕ} (report : Bool) (old new told events : List Event) (first now : Option (List ℕ)) → told ≡ old → events ≡ new →
-    OneMore step old new →
+pub reports-front : (step : ℕ) (r : Outcome) (report : Bool) (old new told events : List Event) (first now : Option (List ℕ)) →
+    told ≡ old → events ≡ new → Adds step old new r →
     Reports report ended.Spent old first now → Reports report ended.Spent (take (length told) events) first now
-reports-front report old new told events first now told_is events_is more h =
+reports-front step r report old new told events first now told_is events_is adds h =
     let P : List Event → Type 0 = λ q. Reports report ended.Spent q first now in
     let is : take (length told) events ≡ take (length old) new =
     ap (λ q. take (length q) events) told_is ∙ ap (take (length old)) events_is in
-    subst P (sym (is ∙ front old new more)) h
+    subst P (sym (is ∙ front old new (one-more step r old new adds))) h
 
 -- of the same collections
 pub reports-of : (report : Bool) (e : Ended) (xs ys : List Event) (first now : Option (List ℕ)) → xs ≡ ys → Reports report e xs first now →
@@ -139,13 +163,13 @@ reports-same report e old new first now same h =
 lines-more : (xs : List Event) (e : Event) → event_lines (xs ++ e ∷ []) ≡ event_lines xs ++ event_line e
 lines-more xs e = flat_map-append event_line xs (e ∷ []) ∙ ap (λ q. event_lines xs ++ q) (append-nil (event_line e))
 
--- the output failed in a step that may have collected
-pub reports-part : {step : ℕ} (report : Bool) (old new : List Event) (first now : Option (List ℕ)) → OneMore step old new →
-    Reports report ended.Spent old first now → Reports report ended.OutputFault new first now
-reports-part report old new first now (inl same) h = reports-same report ended.OutputFault old new first now same h
-reports-part false old new first now (inr more) h = h
-reports-part true old new first now (inr more) h =
-    (event_lines old, record { rest = event_line more.0; whole_is = ap event_lines more.1 ∙ lines-more old more.0 }, h)
+-- the output failed before the last ones were told
+pub reports-part : (report : Bool) (events : List Event) (told : ℕ) (first now : Option (List ℕ)) →
+    Reports report ended.Spent (take told events) first now → Reports report ended.OutputFault events first now
+reports-part false events told first now h = h
+reports-part true events told first now h =
+    let whole = ap event_lines (sym (take-append-drop told events)) ∙ flat_map-append event_line (take told events) (drop told events) in
+    (event_lines (take told events), record { rest = event_lines (drop told events); whole_is = whole }, h)
 
 -- Telling one
 
@@ -210,7 +234,35 @@ is-untold ended.InputFault old new bytes cut = absurd cut
 is-untold ended.OutputFault old new bytes cut = inr refl
 is-untold ended.Memory old new bytes cut = inl refl
 
--- it isn't a fault of the input
-pub untold-input : (e : Ended) → IsUntold e → e ≡ ended.InputFault → ⊥
-untold-input e (inl is) h = cc
-untold-input e (inr is) h = cc
+-- Where the input or the output failed
+
+abbrev at_input : Ended → Bool
+at_input ended.InputFault = true
+at_input e = false
+
+other-end : {e end : Ended} → e ≡ end → e ≡ ended.InputFault → at_input end ≡ false → ⊥
+other-end is h not = true≢false (ap at_input (sym h ∙ is) ∙ not)
+
+untold-input : {e : Ended} → IsUntold e → e ≡ ended.InputFault → ⊥
+untold-input (inl is) h = other-end is h refl
+untold-input (inr is) h = other-end is h refl
+
+done-input : {e : Ended} → (e ≡ ended.Done) ⊎ IsUntold e → e ≡ ended.InputFault → ⊥
+done-input (inl is) h = other-end is h refl
+done-input (inr cut) h = untold-input cut h
+
+-- a run ends at a fault of the input only by a step that met it
+pub input-failed : (A : Type 0) (old new : Option (List ℕ)) {e : Ended} (r : Outcome) → Gives {A = A} r (Err e) old new →
+    e ≡ ended.InputFault → r ≡ outcome.InputFault
+input-failed A old new outcome.Running gives h = absurd (untold-input gives.1 h)
+input-failed A old new (outcome.Printed v) (inl gives) h = absurd (untold-input gives.1 h)
+input-failed A old new (outcome.Printed v) (inr cut) h = absurd (other-end cut.1 h refl)
+input-failed A old new outcome.Done gives h = absurd (done-input gives.1 h)
+input-failed A old new (outcome.Trap kind line) gives h = absurd (other-end gives.1 h refl)
+input-failed A old new outcome.InputFault gives h = refl
+input-failed A old new outcome.Memory gives h = absurd (other-end gives.1 h refl)
+
+-- the faults of the output or those of the notes, since earlier counts of both
+pub rose-since : {a b x c d y : ℕ} → a ≤ b → c ≤ d → Rose b x ⊎ Rose d y → Rose a x ⊎ Rose c y
+rose-since {a} {b} {x} {c} {d} {y} out notes (inl rose) = inl (Rose-since a b x out rose)
+rose-since {a} {b} {x} {c} {d} {y} out notes (inr rose) = inr (Rose-since c d y notes rose)

@@ -21,8 +21,8 @@ use Rattle.rg_step.specs.Asking.{SinceFrom, asks_at, paced_by, since_behind}
 use Rattle.rg_step.specs.States.{OneStep, Standing}
 use Rattle.rg_step.specs.Steps.{Leapt, Since, Stepping, counted, counted_by}
 use Rattle.rg_run.specs.Asked.{last_yes}
-use Rattle.rg_run.specs.Inner.{Adds, OneMore}
-use Rattle.rg_run.proofs.AskLemmas.{asks-leapt, asks-next, at, behind}
+use Rattle.rg_run.specs.Inner.{Adds, OneMore, behind}
+use Rattle.rg_run.proofs.AskLemmas.{asks-leapt, asks-next, at}
 use Rattle.rg_run.proofs.ReportLemmas.{step-adds}
 use Rattle.rg_run.proofs.SinceLemmas.{SinceOver, CountsSince, last-append, last-more, since-next, since-still}
 use Rattle.rg_run.proofs.TurnLemmas.{Between}

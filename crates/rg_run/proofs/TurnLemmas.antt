@@ -9,7 +9,7 @@ use Rattle.rg_base.specs.declared.outcome.Trap.{Trap}
 use Rattle.rg_base.specs.declared.value.Val.{Val}
 use Rattle.rg_base.specs.Text.{line_text}
 use Rattle.rg_io.specs.Content.{Appends, AppendsPart}
-use Rattle.rg_tree.specs.Tree.{Class, empty as none}
+use Rattle.rg_tree.specs.Tree.{Class}
 use Rattle.rg_tree.specs.Rows.Tables.{Tables}
 use Rattle.rg_tree.specs.Rows.RowTrees.{classes_of, program_of}
 use Rattle.rg_rules.specs.Acceptance.{Accepted}

@@ -12,15 +12,14 @@ ghost use Rattle.rg_run.specs.Machine.{IsFresh};
 ghost use Rattle.rg_run.specs.Reports.{Reports};
 ghost use Rattle.rg_run.specs.Whole.{WholeRun};
 
+use crate::giving::{counted, give};
 use crate::stepping::step;
-use crate::telling::tell;
-use rg_base::{Ended, Outcome};
+use rg_base::Ended;
 use rg_check::Accepted;
 use rg_code::CodeList;
 use rg_input::Numbers;
-use rg_io::{Failed, Sink, Source};
+use rg_io::{Sink, Source};
 use rg_pace::Pacer;
-use rg_plain::put_value;
 use rg_step::Stepper;
 use std::alloc::Global;
 
@@ -137,38 +136,14 @@ impl Inside {
         self.begun = true;
         while self.steps < n {
             let told = self.stepper.events().len();
-            match step(&mut self.stepper, code, input, source, count, trace) {
-                Outcome::Running => {
-                    self.steps += 1;
-                    match tell(alloc, report, self.stepper.events(), told, notes) {
-                        Ok(()) => (),
-                        Err(ended) => return ended,
-                    }
-                    self.steps += self.stepper.leap(code, n - self.steps);
-                }
-                Outcome::Printed(v) => {
-                    self.steps += 1;
-                    match put_value(out, v) {
-                        Ok(()) => (),
-                        Err(Failed) => return Ended::OutputFault,
-                    }
-                    match tell(alloc, report, self.stepper.events(), told, notes) {
-                        Ok(()) => (),
-                        Err(ended) => return ended,
-                    }
-                }
-                Outcome::Done => {
-                    self.steps += 1;
-                    match tell(alloc, report, self.stepper.events(), told, notes) {
-                        Ok(()) => (),
-                        Err(ended) => return ended,
-                    }
-                    return Ended::Done;
-                }
-                Outcome::Trap { kind, line } => return Ended::Trap { kind, line },
-                Outcome::InputFault => return Ended::InputFault,
-                Outcome::Memory => return Ended::Memory,
+            let outcome = step(&mut self.stepper, code, input, source, count, trace);
+            self.steps = counted(self.steps, outcome);
+            let events = self.stepper.events();
+            match give(alloc, report, events, told, outcome, out, notes) {
+                Ok(()) => (),
+                Err(ended) => return ended,
             }
+            self.steps += self.stepper.leap(code, n - self.steps);
         }
         Ended::Spent
     }

@@ -5,6 +5,7 @@
 //! `numbers`, `events`, `shown` and `is_owned` tell what stands on the machine.
 #![tactic(auto)]
 
+mod giving;
 mod inside;
 mod machine;
 mod stepping;
