@@ -12,6 +12,8 @@ mod generated;
 #[cfg(test)]
 mod lists;
 #[cfg(test)]
+mod modules;
+#[cfg(test)]
 mod numbers;
 #[cfg(test)]
 mod pacers;
