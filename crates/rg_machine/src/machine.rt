@@ -85,13 +85,6 @@ impl Machine {
         })
     }
 
-    /// How many objects were made.
-    pub fn made(&self) -> u64
-        ensures { result ≡ length (machine_in self.now).store }
-    {
-        self.heap.numbers().made
-    }
-
     /// The object with a serial, as it is shown; None where none that is held has it.
     pub fn object(&self, alloc: Global, serial: u64) -> Result<Option<Seen>, Memory>
         ensures shows { IfOk result (Shows self.now.heap.cells.heap serial) }
