@@ -1,4 +1,4 @@
-use Rattle.std.proofs.Common.{◌≡◌, ◌∙◌, ◌+◌, inr, refl, Ok, Err, false, true≢false, sym, drop, subst, ap, to_z, of_z, w64, arith}
+use Rattle.std.proofs.Common.{◌≡◌, ◌∙◌, ◌+◌, inr, Ok, Err, false, true≢false, sym, drop, subst, ap, to_z, of_z, w64, arith}
 use Rattle.std.proofs.lemmas.Int.{to_z-of_z}
 use Rattle.rg_base.specs.declared.outcome.Trap.TheVariants as trap
 use Rattle.rg_base.specs.declared.value.Val.TheVariants.{Int}
@@ -12,7 +12,7 @@ use Rattle.rg_machine.specs.Core.{below_top, with_top, work_of}
 use Rattle.rg_step.specs.declared.asks.Come.TheVariants as come
 use Rattle.rg_step.specs.Inner.Refusals.{Unread, StillLeft}
 use Rattle.rg_step.specs.Inner.Walks.{ComesTo, walk_from}
-use Rattle.rg_step.proofs.AskLemmas.{more-on, no-fault, read-on, unstuck-there}
+use Rattle.rg_step.proofs.AskLemmas.{read-on, more-on, unstuck-there}
 use Rattle.rg_step.specs.Inner.High.{MayMake}
 use Rattle.rg_step.proofs.HighLemmas.{may-most}
 use Rattle.rg_step.proofs.LeavesLemmas.{stands-put, put-backs, no-asking, no-machine, unread-left, unread-number}
@@ -277,89 +277,3 @@ returns-in-Return-clause-high g c start h = c.in-Return.ensures.high start (c.lo
 
 pub returns-in-Trap-clause-high : goal.returns-in-Trap-clause-high
 returns-in-Trap-clause-high g c start h = c.in-Trap.ensures.high start (c.loop-at.invariant.high start h)
-
--- what is left of the source
-
-pub returns-in-Err-End-clause-fault : goal.returns-in-Err-End-clause-fault
-returns-in-Err-End-clause-fault g c e = absurd (no-fault _ refl e)
-
-pub returns-in-Err-End-clause-follows : goal.returns-in-Err-End-clause-follows
-returns-in-Err-End-clause-follows g c = c.in-Err-End.ensures.follows
-
-pub returns-in-Err-End-clause-never_falls : goal.returns-in-Err-End-clause-never_falls
-returns-in-Err-End-clause-never_falls g c = omega (arith, c.loop-at.invariant.never_falls, c.in-Err-End.ensures.never_falls)
-
-pub returns-in-Err-Input-clause-fault : goal.returns-in-Err-Input-clause-fault
-returns-in-Err-Input-clause-fault g c e = absurd (no-fault _ refl e)
-
-pub returns-in-Err-Input-clause-follows : goal.returns-in-Err-Input-clause-follows
-returns-in-Err-Input-clause-follows g c = c.in-Err-Input.ensures.follows
-
-pub returns-in-Err-Input-clause-never_falls : goal.returns-in-Err-Input-clause-never_falls
-returns-in-Err-Input-clause-never_falls g c = omega (arith, c.loop-at.invariant.never_falls, c.in-Err-Input.ensures.never_falls)
-
-pub returns-in-Err-InputFault-clause-follows : goal.returns-in-Err-InputFault-clause-follows
-returns-in-Err-InputFault-clause-follows g c = c.in-Err-InputFault.ensures.follows
-
-pub returns-in-Err-InputFault-clause-never_falls : goal.returns-in-Err-InputFault-clause-never_falls
-returns-in-Err-InputFault-clause-never_falls g c = omega (arith, c.loop-at.invariant.never_falls, c.in-Err-InputFault.ensures.never_falls)
-
-pub returns-in-Err-clause-follows : goal.returns-in-Err-clause-follows
-returns-in-Err-clause-follows g c = c.in-Err.ensures.follows
-
-pub returns-in-Err-clause-never_falls : goal.returns-in-Err-clause-never_falls
-returns-in-Err-clause-never_falls g c = omega (arith, c.loop-at.invariant.never_falls, c.in-Err.ensures.never_falls)
-
-pub returns-in-Stop-clause-fault : goal.returns-in-Stop-clause-fault
-returns-in-Stop-clause-fault g c e = absurd (no-fault _ refl e)
-
-pub returns-in-Stop-clause-unasked : goal.returns-in-Stop-clause-unasked
-returns-in-Stop-clause-unasked g c start h = c.loop-at.invariant.unasked start h
-
-pub returns-in-Stop-clause-follows : goal.returns-in-Stop-clause-follows
-returns-in-Stop-clause-follows g c = c.loop-at.invariant.follows
-
-pub returns-in-Stop-clause-never_falls : goal.returns-in-Stop-clause-never_falls
-returns-in-Stop-clause-never_falls g c = c.loop-at.invariant.never_falls
-
-pub returns-in-Return-clause-fault : goal.returns-in-Return-clause-fault
-returns-in-Return-clause-fault g c e = absurd (no-fault _ refl e)
-
-pub returns-in-Return-clause-unasked : goal.returns-in-Return-clause-unasked
-returns-in-Return-clause-unasked g c start h = c.loop-at.invariant.unasked start h
-
-pub returns-in-Return-clause-follows : goal.returns-in-Return-clause-follows
-returns-in-Return-clause-follows g c = c.loop-at.invariant.follows
-
-pub returns-in-Return-clause-never_falls : goal.returns-in-Return-clause-never_falls
-returns-in-Return-clause-never_falls g c = c.loop-at.invariant.never_falls
-
-pub returns-in-Trap-clause-fault : goal.returns-in-Trap-clause-fault
-returns-in-Trap-clause-fault g c e = absurd (no-fault _ refl e)
-
-pub returns-in-Trap-clause-follows : goal.returns-in-Trap-clause-follows
-returns-in-Trap-clause-follows g c = c.loop-at.invariant.follows
-
-pub returns-in-Trap-clause-never_falls : goal.returns-in-Trap-clause-never_falls
-returns-in-Trap-clause-never_falls g c = c.loop-at.invariant.never_falls
-
-pub returns-in-Memory-clause-fault : goal.returns-in-Memory-clause-fault
-returns-in-Memory-clause-fault g c e = absurd (no-fault _ refl e)
-
-pub returns-in-Memory-clause-follows : goal.returns-in-Memory-clause-follows
-returns-in-Memory-clause-follows g c = c.loop-at.invariant.follows
-
-pub returns-in-Memory-clause-never_falls : goal.returns-in-Memory-clause-never_falls
-returns-in-Memory-clause-never_falls g c = c.loop-at.invariant.never_falls
-
-pub returns-in-Lost-clause-fault : goal.returns-in-Lost-clause-fault
-returns-in-Lost-clause-fault g c e = absurd (no-fault _ refl e)
-
-pub returns-in-Lost-clause-unasked : goal.returns-in-Lost-clause-unasked
-returns-in-Lost-clause-unasked g c start h = c.loop-at.invariant.unasked start h
-
-pub returns-in-Lost-clause-follows : goal.returns-in-Lost-clause-follows
-returns-in-Lost-clause-follows g c = c.loop-at.invariant.follows
-
-pub returns-in-Lost-clause-never_falls : goal.returns-in-Lost-clause-never_falls
-returns-in-Lost-clause-never_falls g c = c.loop-at.invariant.never_falls
