@@ -2,8 +2,10 @@
 # What a collection of the active region costs, by the number of its cells, 1,000 to 1,000,000:
 #   list      one list, of which all is kept
 #   tree      one tree of two children a node, of which all is kept
+#   half      one list, of which every second cell is kept
 #   none      one list that nothing leads to any more, so nothing is kept
-# under `trace` and under `count`, and `list` under `trace` once more beside 1,000 other regions of 1,000 cells each.
+# under `trace`, under `count`, and under `trace` with the command `slide`, by which what is kept moves to the lowest
+# cells; and `list` under `trace` once more beside 1,000 other regions of 1,000 cells each.
 # A collection's time is that of a program that collects, less that of the same one that doesn't, for each cell of the
 # region; the slowest size should be within 1.3 of the fastest. Beside it stands a full collection of the same heap in
 # Lua, where lua5.4 is installed: that looks at the other regions too.
@@ -41,6 +43,10 @@ LIST = """  let a: mut Node = nil;
 TREE = """  let maker: mut Maker = new Maker;
   let a: mut Node = call maker.tree(SIZE);
 """
+HALF = LIST + """  let p: mut Node = a;
+  let go: bool = not p is nil;
+  while go { if p.left is nil { go = false; } else { p.left = p.left.left; p = p.left; go = not p is nil; } }
+"""
 ROOMS = """  let rooms: iso Room = nil;
   let r: int = 0;
   while r < 1000 {
@@ -57,6 +63,7 @@ ROOMS = """  let rooms: iso Room = nil;
   }
 """
 LUA_LIST = "local a = nil for i = 1, SIZE do a = { left = a, right = false } end\n"
+LUA_HALF = LUA_LIST + "local p = a while p and p.left do p.left = p.left.left p = p.left end\n"
 LUA_TREE = """local function tree(size)
   if size == 0 then return false end
   local half = (size - 1) // 2
@@ -73,14 +80,14 @@ end
 """
 
 def source(kind, manager, size, collects):
-    body = (ROOMS if kind == "rooms" else "") + (TREE if kind == "tree" else LIST)
+    body = (ROOMS if kind == "rooms" else "") + {"tree": TREE, "half": HALF}.get(kind, LIST)
     if kind == "none":
         body += "  a = nil;\n"
     body += "  collect;\n" * collects
     return NODE + MAKER + f"main {manager} {{\n" + body.replace("SIZE", str(size)) + "}\n"
 
 def lua_source(kind, size, collects):
-    body = (LUA_ROOMS if kind == "rooms" else "") + (LUA_TREE if kind == "tree" else LUA_LIST)
+    body = (LUA_ROOMS if kind == "rooms" else "") + {"tree": LUA_TREE, "half": LUA_HALF}.get(kind, LUA_LIST)
     if kind == "none":
         body += "a = nil\n"
     return 'collectgarbage("stop")\n' + body.replace("SIZE", str(size)) + 'collectgarbage("collect")\n' * collects
@@ -89,19 +96,22 @@ def cost(words_of, size, collects, often):
     without = seconds(words_of(0), often)
     return max(seconds(words_of(collects), often) - without, 1e-9) * 1e9 / (size * collects)
 
-print(f"{'manager':<8} {'kind':<6} {'cells':>9} {'ns/cell':>9} {'lua':>9}")
-for manager, kind in [("trace", "list"), ("trace", "tree"), ("trace", "none"), ("trace", "rooms"), ("count", "list"), ("count", "tree"), ("count", "none")]:
+ROWS = [("run", "trace", kind) for kind in ("list", "tree", "half", "none", "rooms")]
+ROWS += [("run", "count", kind) for kind in ("list", "tree", "half", "none")]
+ROWS += [("slide", "trace", kind) for kind in ("list", "tree", "half", "none")]
+print(f"{'command':<8} {'manager':<8} {'kind':<6} {'cells':>9} {'ns/cell':>9} {'lua':>9}")
+for command, manager, kind in ROWS:
     rates = []
     for size in [1000, 10_000, 100_000, 1_000_000]:
-        collects = 1 if kind == "none" else max(1, min(200, 1_000_000 // size))
+        collects = 1 if kind in ("half", "none") else max(1, min(200, 1_000_000 // size))
         often = turns * (1 if kind == "rooms" else min(20, max(1, 1_000_000 // size)))
-        def run(n): return [program, "run", written(f"{work}/a.rg", source(kind, manager, size, n)), "--every", "0", "--steps", "1000000000"]
+        def run(n): return [program, command, written(f"{work}/a.rg", source(kind, manager, size, n)), "--every", "0", "--steps", "1000000000"]
         rate = cost(run, size, collects, often)
         rates.append(rate)
         of_lua = ""
-        if lua and manager == "trace":
+        if lua and (command, manager) == ("run", "trace"):
             def run_lua(n): return [lua, written(f"{work}/a.lua", lua_source(kind, size, n))]
             of_lua = f"{cost(run_lua, size, collects, often):9.1f}"
-        print(f"{manager:<8} {kind:<6} {size:>9} {rate:>9.1f} {of_lua}", flush=True)
-    print(f"{'':<8} {kind:<6} slowest {max(rates) / min(rates):.2f} times the fastest", flush=True)
+        print(f"{command:<8} {manager:<8} {kind:<6} {size:>9} {rate:>9.1f} {of_lua}", flush=True)
+    print(f"{'':<17} {kind:<6} slowest {max(rates) / min(rates):.2f} times the fastest", flush=True)
 PY
