@@ -1,0 +1,125 @@
+-- Rows that stand for trees, put together.
+use Rattle.std.proofs.Common.{◌≡◌, ℕ, ◌<◌, ◌==◌, ◌&&◌, Bool as Truth, zero, suc, true, false, List, [], ◌∷◌, ◌++◌, All, map, length, Option}
+use Rattle.std.proofs.Common.{Some, None}
+use Rattle.std.proofs.Common.{refl, sym, ◌∙◌, ap, subst, arith, true≢false}
+use Rattle.std.proofs.lemmas.Bool.Decides.{nat_tests}
+use Rattle.std.proofs.lemmas.List.{map-append}
+use Rattle.std.proofs.lemmas.List.Elements.{All-nil, All-push}
+use Rattle.rg_base.proofs.Callers.Lists.{below}
+use Rattle.rg_tree.specs.declared.rows.Span.{Span}
+use Rattle.rg_tree.specs.declared.rows.ExprRow.{ExprRow}
+use Rattle.rg_tree.specs.Tree.{Name, Variable, Expr}
+use Rattle.rg_tree.specs.Rows.Tables.{Tables, name_at, numbers_in}
+use Rattle.rg_tree.specs.Rows.RowTrees.{expr_at, path_of, program_of}
+use Rattle.rg_tree.specs.Rows.RowsExist.{Holds, IsNameIn, IsPathIn}
+use Rattle.rg_tree.specs.Keeps.{Keeps}
+use Rattle.rg_tree.proofs.Callers.{Keeps-same, Keeps-trans, Holds-keeps, IsAbove-Keeps, expr_at-keeps}
+use Rattle.rg_tree.proofs.Grows.{name_at-grows}
+use Rattle.rg_verify.specs.Naming.{variable_name, variable_in}
+use Rattle.rg_verify.specs.Rows.{Extends, Means}
+use Rattle.rg_verify.specs.Inner.Adds.{Adds, base_of, IsBaseIn, AreNames, AddsTree}
+
+pub extends-same : (t : Tables) → Extends t t
+extends-same t = record { keeps = Keeps-same t; program = refl }
+
+pub extends-trans : {t u v : Tables} → Extends t u → Extends u v → Extends t v
+extends-trans a b = record { keeps = Keeps-trans a.keeps b.keeps; program = b.program ∙ a.program }
+
+pub extends-by : {t u : Tables} → Keeps t u → program_of u ≡ program_of t → Extends t u
+extends-by k p = record { keeps = k; program = p }
+
+module _ {V A : Type 0} {at : Tables → V → A} {exists : Tables → V → Type 0} where
+  pub means-later : {t u : Tables} {v : V} {a : A} → Means at exists t v a → Extends t u → Means at exists u v a
+  means-later m g = record { is = λ w k. m.is w (Keeps-trans g.keeps k); there = λ w k. m.there w (Keeps-trans g.keeps k) }
+
+  -- what is there was added to what it is in
+  pub adds-same : {t : Tables} {v : V} {a : A} → Means at exists t v a → Adds at exists t t v a
+  adds-same {t} m = record { extends = extends-same t; means = m }
+
+  pub adds-behind : {t u w : Tables} {v : V} {a : A} → Extends t u → Adds at exists u w v a → Adds at exists t w v a
+  adds-behind g a = record { extends = extends-trans g a.extends; means = a.means }
+
+-- a name that was put last
+pub name-put : {u v : Tables} (n : ℕ) → Keeps u v → program_of v ≡ program_of u → (x : Name) → name_at v n ≡ x → n < length v.names
+    → Adds name_at IsNameIn u v n x
+name-put n k p x e l = record {
+  extends = extends-by k p;
+  means = record {
+    is = λ w j. name_at-grows (IsAbove-Keeps j) n l ∙ e;
+    there = λ w j. omega (arith, l, (IsAbove-Keeps j).names);
+  };
+}
+
+-- an expression that was put last
+pub expr-put : {u v : Tables} (n : ℕ) → Keeps u v → program_of v ≡ program_of u → (r : ExprRow) {a : Expr} → n ≡ length u.exprs
+    → expr_at v n ≡ a → v ≡ record u { exprs = u.exprs ++ r ∷ [] } → AddsTree u v n a
+expr-put {u} {v} n k p r l e w =
+    let lt = below u.exprs v.exprs r n (ap (λ (x : Tables). x.exprs) w) l in
+    record {
+      extends = extends-by k p;
+      means = record {
+        is = λ x j. expr_at-keeps j n lt ∙ e;
+        there = λ x j. omega (arith, lt, (IsAbove-Keeps j).exprs);
+      };
+    }
+
+-- no names, and one more
+pub names-none : (t : Tables) → AreNames t [] []
+names-none t = record { is = λ u k. refl; there = λ u k. All-nil (IsNameIn u) }
+
+pub names-push : {t u : Tables} {ns : List ℕ} {n : ℕ} {xs : List Name} {x : Name} → AreNames t ns xs → Adds name_at IsNameIn t u n x
+    → AreNames u (ns ++ n ∷ []) (xs ++ x ∷ [])
+names-push {ns = ns} {n = n} m b =
+    let later = means-later m b.extends in
+    record {
+      is = λ w k. let e = later.is w k in let f = b.means.is w k in map-append (name_at w) ns (n ∷ []) ∙ cc;
+      there = λ w k. All-push (IsNameIn w) ns n (later.there w k) (b.means.there w k);
+    }
+
+-- a path over its variable and the names of its fields
+pub path-put : {t u v : Tables} {o : Option ℕ} {x : Variable} {s : Span} {ns : List ℕ} {xs : List Name} → Adds base_of IsBaseIn t u o x
+    → AreNames t ns xs → Keeps u v → program_of v ≡ program_of u → Holds v s ns
+    → Adds path_of IsPathIn t v (record { base = o; fields = s }) (record { base = x; fields = xs })
+path-put {o = o} {x = x} {s = s} {ns = ns} {xs = xs} a m k p h =
+    let base = means-later a.means (extends-by k p) in
+    let names = means-later m (extends-trans a.extends (extends-by k p)) in
+    record {
+      extends = extends-trans a.extends (extends-by k p);
+      means = record {
+        is = λ w j.
+            ap (λ (b : Variable). record { base = b; fields = map (name_at w) (numbers_in w s) }) (base.is w j)
+            ∙ ap (λ (fs : List Name). record { base = x; fields = fs }) (ap (map (name_at w)) (Holds-keeps j s ns h).these_are ∙ names.is w j);
+        there = λ w j. let i = Holds-keeps j s ns h in
+            record {
+              base = base.there w j;
+              fields = record { within = i.within; each = subst (All (IsNameIn w)) (sym i.these_are) (names.there w j) };
+            };
+      };
+    }
+
+-- a variable that has a name, and `self`
+
+has-name : (m : Truth) (s : ℕ) → (m && (s == 0)) ≡ false → variable_in m s ≡ Some (variable_name s)
+has-name false s h = refl
+has-name true zero h = absurd cc
+has-name true (suc s) h = refl
+
+is-self : (m : Truth) (s : ℕ) → (m && (s == 0)) ≡ true → variable_in m s ≡ None
+is-self false s h = absurd cc
+is-self true zero h = refl
+is-self true (suc s) h =
+    let no : (suc s == 0) ≡ false = grind (arith, nat_tests) in
+    absurd (true≢false (sym h ∙ no))
+
+pub base-put : {t u : Tables} {n : ℕ} (m : Truth) (s : ℕ) → (m && (s == 0)) ≡ false → Adds name_at IsNameIn t u n (variable_name s)
+    → Adds base_of IsBaseIn t u (Some n) (variable_in m s)
+base-put m s h a = record {
+  extends = a.extends;
+  means = record { is = λ w k. ap Some (a.means.is w k) ∙ sym (has-name m s h); there = a.means.there };
+}
+
+pub base-self : (t : Tables) (m : Truth) (s : ℕ) → (m && (s == 0)) ≡ true → Adds base_of IsBaseIn t t None (variable_in m s)
+base-self t m s h = record {
+  extends = extends-same t;
+  means = record { is = λ w k. sym (is-self m s h); there = λ w k. tt };
+}

@@ -1,0 +1,26 @@
+use Rattle.rg_verify.proofs.PathLemmas.{taken-pile, field-tree, field-put}
+use Rattle.rg_verify.proofs.stack.put_field.Goals as goal
+
+pub settle-requires-clause-pile : goal.settle-requires-clause-pile
+settle-requires-clause-pile c =
+    let t = c.args.program.now in
+    let m = c.args.body.in_method in
+    let (items, p) = c.requires in
+    taken-pile t c.add_name.new.program m c.take_path.new.stack.items items c.in_ok-slot.slot c.in_ok-slot.fields
+    (c.in_ok-slot.ensures t m items p) c.in-Ok.ensures.extends
+
+pub settle-requires-clause-tree : goal.settle-requires-clause-tree
+settle-requires-clause-tree c =
+    let t = c.args.program.now in
+    let m = c.args.body.in_method in
+    let (items, p) = c.requires in
+    field-tree t c.add_name.new.program m c.take_path.new.stack.items items c.in_ok-slot.slot c.in_ok-slot.fields
+    (c.in_ok-slot.ensures t m items p) c.args.index c.push.new.self c.in-Ok.ensures c.in-Ok-push.ensures.items
+
+pub returns : goal.returns
+returns c items p =
+    let t = c.args.program.now in
+    let m = c.args.body.in_method in
+    field-put t c.add_name.new.program m c.take_path.new.stack.items items c.in_ok-slot.slot c.in_ok-slot.fields
+    (c.in_ok-slot.ensures t m items p) c.args.index c.push.new.self c.in-Ok.ensures c.in-Ok-push.ensures.items
+    c.settle.new.program c.settle.new.stack.items c.args.end c.settle.result c.settle.ensures

@@ -1,0 +1,15 @@
+use Rattle.std.proofs.Common.{[]}
+use Rattle.rg_verify.specs.Raised.{path}
+use Rattle.rg_verify.proofs.PathLemmas.{for-variable}
+use Rattle.rg_verify.proofs.stack.put_path.Goals as goal
+
+pub settle-requires-clause-tree : goal.settle-requires-clause-tree
+settle-requires-clause-tree c =
+    let fields = c.new-fields in
+    (path c.args.slot [], for-variable c.args.program.now c.args.body.in_method c.args.slot fields.result fields.ensures.items)
+
+pub returns : goal.returns
+returns c items p =
+    let fields = c.new-fields in
+    c.settle.ensures items (path c.args.slot []) p
+    (for-variable c.args.program.now c.args.body.in_method c.args.slot fields.result fields.ensures.items)

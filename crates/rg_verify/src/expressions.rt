@@ -1,0 +1,155 @@
+//! Expressions that are raised from their code (docs/architecture.md, "Modules").
+
+ghost use Rattle.std.specs.Prelude.{◌≤◌, List, [], length, drop};
+ghost use Rattle.rg_verify.specs.Raised.{neg, not};
+ghost use Rattle.rg_verify.specs.Inner.Raising as raising;
+ghost use Rattle.rg_verify.specs.Inner.Raising.{Item};
+ghost use Rattle.rg_verify.specs.Inner.Stacks.{Piled, IsPiled, Makes, Walks, MakesRows};
+ghost use Rattle.rg_verify.specs.Raises.{RaisesAll};
+
+use crate::body::Body;
+use crate::held::Held;
+use crate::part::{Part, part_of};
+use crate::refusal::Refusal;
+use crate::stack::{put_field, put_path, put_test, put_tree, put_wait, row_of, take_row};
+use rg_code::CodeList;
+use rg_tree::{BinOp, ExprRow, Program};
+use std::alloc::Global;
+
+// The topmost tree, negated.
+fn put_neg(
+    body: Body,
+    program: &mut Program,
+    stack: &mut Vec<Held>,
+    end: usize,
+) -> Result<(), Refusal>
+    requires { IsPiled program.old body.in_method stack.old.items }
+    ensures { (items : List Item) → Piled program.old body.in_method stack.old.items items →
+        Makes program.old program.new body.in_method stack.new.items result
+        (raising.from_tree neg end items) }
+{
+    let a = take_row(body, program, stack)?;
+    put_tree(body, program, stack, end, ExprRow::Neg(a))
+}
+
+// The topmost tree, inverted.
+fn put_not(
+    body: Body,
+    program: &mut Program,
+    stack: &mut Vec<Held>,
+    end: usize,
+) -> Result<(), Refusal>
+    requires { IsPiled program.old body.in_method stack.old.items }
+    ensures { (items : List Item) → Piled program.old body.in_method stack.old.items items →
+        Makes program.old program.new body.in_method stack.new.items result
+        (raising.from_tree not end items) }
+{
+    let a = take_row(body, program, stack)?;
+    put_tree(body, program, stack, end, ExprRow::Not(a))
+}
+
+// An operator between the two topmost trees.
+fn put_operator(
+    body: Body,
+    program: &mut Program,
+    stack: &mut Vec<Held>,
+    end: usize,
+    op: BinOp,
+) -> Result<(), Refusal>
+    requires { IsPiled program.old body.in_method stack.old.items }
+    ensures { (items : List Item) → Piled program.old body.in_method stack.old.items items →
+        Makes program.old program.new body.in_method stack.new.items result
+        (raising.from_two op end items) }
+{
+    let right = take_row(body, program, stack)?;
+    let left = take_row(body, program, stack)?;
+    let row = ExprRow::Binary { op, left, right };
+    put_tree(body, program, stack, end, row)
+}
+
+// What an instruction that ends here makes of the stack.
+fn act(
+    body: Body,
+    program: &mut Program,
+    stack: &mut Vec<Held>,
+    end: usize,
+    part: Part,
+) -> Result<(), Refusal>
+    requires { IsPiled program.old body.in_method stack.old.items }
+    ensures { (items : List Item) → Piled program.old body.in_method stack.old.items items →
+        Makes program.old program.new body.in_method stack.new.items result
+        (raising.act part end items) }
+{
+    match part {
+        Part::Int { value } => put_tree(body, program, stack, end, ExprRow::Int(value)),
+        Part::Bool { value } => put_tree(body, program, stack, end, ExprRow::Bool(value)),
+        Part::Nil => put_tree(body, program, stack, end, ExprRow::Nil),
+        Part::Load { slot } => put_path(body, program, stack, end, slot),
+        Part::Field { index } => put_field(body, program, stack, end, index),
+        Part::IsNil => put_test(body, program, stack, end),
+        Part::Neg => put_neg(body, program, stack, end),
+        Part::Not => put_not(body, program, stack, end),
+        Part::Operator { op } => put_operator(body, program, stack, end, op),
+        Part::Between { junction, to } => put_wait(body, program, stack, junction, to),
+    }
+}
+
+// Along the code, up to the first instruction that no expression has: the stack there, and its
+// address.
+fn walk(
+    body: Body,
+    program: &mut Program,
+    code: &CodeList,
+    from: usize,
+) -> Result<(Vec<Held>, usize), Refusal>
+    requires { from ≤ length code.now.ops }
+    ensures { Walks program.old program.new body.in_method
+        (raising.walk (drop from code.now.ops) from []) result }
+{
+    let mut stack = Vec::new(body.alloc);
+    let mut at = from;
+    while at < code.len() {
+        let Some(part) = part_of(code.get(at)) else {
+            return Ok((stack, at));
+        };
+        at += 1;
+        act(body, program, &mut stack, at, part)?;
+    }
+    Ok((stack, at))
+}
+
+// The trees of the stack, as rows in order.
+fn take_rows(body: Body, program: &mut Program, stack: &mut Vec<Held>) -> Result<Vec<u32>, Refusal>
+    requires { IsPiled program.old body.in_method stack.old.items }
+    ensures { (items : List Item) → Piled program.old body.in_method stack.old.items items →
+        MakesRows program.old program.new body.in_method (raising.trees items []) result }
+{
+    let mut rows = Vec::new(body.alloc);
+    while let Some(held) = stack.pop() {
+        let row = row_of(body, program, held)?;
+        let Ok(()) = rows.push(row) else {
+            return Err(Refusal::Memory);
+        };
+    }
+    rows.reverse();
+    Ok(rows)
+}
+
+/// The expressions whose code stands at an address, as rows in order, and the address behind them,
+/// where an instruction stands that no expression has. The stack of trees is the only memory that
+/// it takes beside the program's, and nothing recurses.
+pub fn raise_expressions(
+    alloc: Global,
+    program: &mut Program,
+    in_method: bool,
+    code: &CodeList,
+    at: usize,
+) -> Result<(Vec<u32>, usize), Refusal>
+    requires { at ≤ length code.now.ops }
+    ensures { RaisesAll program.old program.new in_method (drop at code.now.ops) at result }
+{
+    let body = Body { alloc, in_method };
+    let (mut stack, end) = walk(body, program, code, at)?;
+    let rows = take_rows(body, program, &mut stack)?;
+    Ok((rows, end))
+}

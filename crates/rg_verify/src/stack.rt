@@ -1,0 +1,248 @@
+//! A stack of trees, and what comes on it and is taken (docs/architecture.md, "Modules").
+
+ghost use Rattle.std.specs.Prelude.{◌≡◌, ◌<◌, ℕ, Bool as Truth, List, [], ◌∷◌, ◌++◌, length};
+ghost use Rattle.std.specs.Prelude.{false, Some, IfSome};
+ghost use Rattle.rg_tree.specs.Rows.Tables.{Tables};
+ghost use Rattle.rg_tree.specs.Rows.RowTrees.{expr_of};
+ghost use Rattle.rg_verify.specs.Raised.{Raised, named, path, is_nil};
+ghost use Rattle.rg_verify.specs.Inner.Raising as raising;
+ghost use Rattle.rg_verify.specs.Inner.Raising.{Item, tree, from_path, from_left};
+ghost use Rattle.rg_verify.specs.Inner.Adds.{IsExprRow};
+ghost use Rattle.rg_verify.specs.Inner.Stacks.{IsFor, IsItem, Piled, IsPiled, Makes, MakesRow};
+ghost use Rattle.rg_verify.specs.Inner.Stacks.{TakesRow, waiting, TakesWait, Pushes};
+ghost use Rattle.rg_verify.specs.Inner.Stacks.{TakesPath, is_path};
+
+use crate::body::Body;
+use crate::held::{Held, Wait};
+use crate::part::{Junction, operator_of};
+use crate::refusal::Refusal;
+use crate::rows::{add_name, path_row, put_expr};
+use rg_tree::{ExprRow, Program};
+
+/// Makes a row of what was held.
+pub(crate) fn row_of(body: Body, program: &mut Program, held: Held) -> Result<u32, Refusal>
+    requires { IsItem program.old body.in_method held }
+    ensures { (x : Item) → IsFor program.old body.in_method held x →
+        MakesRow program.old program.new body.in_method x result }
+{
+    match held {
+        Held::Path { slot, fields } => {
+            let Ok(path) = path_row(body, program, slot, fields.as_slice()) else {
+                return Err(Refusal::Memory);
+            };
+            let Ok(row) = put_expr(program, ExprRow::Path(path)) else {
+                return Err(Refusal::Memory);
+            };
+            Ok(row)
+        }
+        Held::Tree { row } => Ok(row),
+        Held::Waits { .. } => Err(Refusal::NotExpression),
+    }
+}
+
+/// Takes the topmost tree, as a row.
+pub(crate) fn take_row(
+    body: Body,
+    program: &mut Program,
+    stack: &mut Vec<Held>,
+) -> Result<u32, Refusal>
+    requires { IsPiled program.old body.in_method stack.old.items }
+    ensures { (items : List Item) → Piled program.old body.in_method stack.old.items items →
+        TakesRow program.old program.new body.in_method stack.new.items items result }
+{
+    let Some(held) = stack.pop() else {
+        return Err(Refusal::NotExpression);
+    };
+    let row = row_of(body, program, held)?;
+    Ok(row)
+}
+
+// Takes the topmost path: its slot, and the names of its fields.
+fn take_path(stack: &mut Vec<Held>) -> Result<(u32, Vec<u32>), Refusal>
+    ensures { (t : Tables) (m : Truth) (items : List Item) → Piled t m stack.old.items items →
+        TakesPath t m stack.new.items items result }
+{
+    let Some(held) = stack.pop() else {
+        return Err(Refusal::NotExpression);
+    };
+    match held {
+        Held::Path { slot, fields } => Ok((slot, fields)),
+        Held::Tree { .. } | Held::Waits { .. } => Err(Refusal::NotExpression),
+    }
+}
+
+// The left operand of a junction that is held.
+fn wait_of(held: &Held) -> Option<Wait>
+    ensures { result ≡ waiting held.now }
+{
+    match held {
+        Held::Path { .. } | Held::Tree { .. } => None,
+        Held::Waits { wait } => Some(*wait),
+    }
+}
+
+// Takes the left operand that waits on top for the right one, where that ends here.
+fn take_wait(stack: &mut Vec<Held>, end: usize) -> Option<Wait>
+    ensures takes { (t : Tables) (m : Truth) (items : List Item) →
+        Piled t m stack.old.items items →
+        TakesWait t m end stack.old.items stack.new.items items result }
+    ensures shorter { IfSome result (λ w. length stack.new.items < length stack.old.items) }
+{
+    let Some(top) = stack.last() else {
+        return None;
+    };
+    let Some(wait) = wait_of(top) else {
+        return None;
+    };
+    if wait.to != end {
+        return None;
+    }
+    stack.truncate(stack.len() - 1);
+    Some(wait)
+}
+
+// Pushes what is held.
+fn push(stack: &mut Vec<Held>, held: Held) -> Result<(), Refusal>
+    ensures { Pushes stack.old.items stack.new.items held result }
+{
+    let Ok(()) = stack.push(held) else {
+        return Err(Refusal::Memory);
+    };
+    Ok(())
+}
+
+// A tree whose code ends here comes on top: what waits for that end takes it.
+fn settle(
+    body: Body,
+    program: &mut Program,
+    stack: &mut Vec<Held>,
+    end: usize,
+    held: Held,
+) -> Result<(), Refusal>
+    requires pile { IsPiled program.old body.in_method stack.old.items }
+    requires tree { (r : Raised) × IsFor program.old body.in_method held (tree r) }
+    ensures { (items : List Item) (r : Raised) →
+        Piled program.old body.in_method stack.old.items items →
+        IsFor program.old body.in_method held (tree r) →
+        Makes program.old program.new body.in_method stack.new.items result
+        (Some (raising.settle end r items)) }
+{
+    let mut top = held;
+    while let Some(wait) = take_wait(stack, end) {
+        let right = row_of(body, program, top)?;
+        let row = ExprRow::Binary {
+            op: operator_of(wait.junction),
+            left: wait.left,
+            right,
+        };
+        let Ok(row) = put_expr(program, row) else {
+            return Err(Refusal::Memory);
+        };
+        top = Held::Tree { row };
+    }
+    push(stack, top)
+}
+
+/// A tree comes, as this row.
+pub(crate) fn put_tree(
+    body: Body,
+    program: &mut Program,
+    stack: &mut Vec<Held>,
+    end: usize,
+    row: ExprRow,
+) -> Result<(), Refusal>
+    requires pile { IsPiled program.old body.in_method stack.old.items }
+    requires row { IsExprRow program.old row }
+    requires tree { (r : Raised) × (expr_of program.old row ≡ named body.in_method r) ×
+        (is_path r ≡ false) }
+    ensures { (items : List Item) (r : Raised) →
+        Piled program.old body.in_method stack.old.items items →
+        expr_of program.old row ≡ named body.in_method r → is_path r ≡ false →
+        Makes program.old program.new body.in_method stack.new.items result
+        (Some (raising.settle end r items)) }
+{
+    let Ok(row) = put_expr(program, row) else {
+        return Err(Refusal::Memory);
+    };
+    settle(body, program, stack, end, Held::Tree { row })
+}
+
+/// A variable comes.
+pub(crate) fn put_path(
+    body: Body,
+    program: &mut Program,
+    stack: &mut Vec<Held>,
+    end: usize,
+    slot: u32,
+) -> Result<(), Refusal>
+    requires { IsPiled program.old body.in_method stack.old.items }
+    ensures { (items : List Item) → Piled program.old body.in_method stack.old.items items →
+        Makes program.old program.new body.in_method stack.new.items result
+        (Some (raising.settle end (path slot []) items)) }
+{
+    let fields = Vec::new(body.alloc);
+    settle(body, program, stack, end, Held::Path { slot, fields })
+}
+
+/// A path goes on by a field.
+pub(crate) fn put_field(
+    body: Body,
+    program: &mut Program,
+    stack: &mut Vec<Held>,
+    end: usize,
+    index: u32,
+) -> Result<(), Refusal>
+    requires { IsPiled program.old body.in_method stack.old.items }
+    ensures { (items : List Item) → Piled program.old body.in_method stack.old.items items →
+        Makes program.old program.new body.in_method stack.new.items result
+        (from_path (λ s ks. path s (ks ++ index ∷ [])) end items) }
+{
+    let (slot, mut fields) = take_path(stack)?;
+    let Ok(name) = add_name(body.alloc, program, b'f', index) else {
+        return Err(Refusal::Memory);
+    };
+    let Ok(()) = fields.push(name) else {
+        return Err(Refusal::Memory);
+    };
+    settle(body, program, stack, end, Held::Path { slot, fields })
+}
+
+/// A path is tested for nil.
+pub(crate) fn put_test(
+    body: Body,
+    program: &mut Program,
+    stack: &mut Vec<Held>,
+    end: usize,
+) -> Result<(), Refusal>
+    requires { IsPiled program.old body.in_method stack.old.items }
+    ensures { (items : List Item) → Piled program.old body.in_method stack.old.items items →
+        Makes program.old program.new body.in_method stack.new.items result
+        (from_path is_nil end items) }
+{
+    let (slot, fields) = take_path(stack)?;
+    let Ok(path) = path_row(body, program, slot, fields.as_slice()) else {
+        return Err(Refusal::Memory);
+    };
+    let Ok(row) = put_expr(program, ExprRow::IsNil(path)) else {
+        return Err(Refusal::Memory);
+    };
+    settle(body, program, stack, end, Held::Tree { row })
+}
+
+/// The topmost tree waits for the right operand, which ends at an address.
+pub(crate) fn put_wait(
+    body: Body,
+    program: &mut Program,
+    stack: &mut Vec<Held>,
+    junction: Junction,
+    to: usize,
+) -> Result<(), Refusal>
+    requires { IsPiled program.old body.in_method stack.old.items }
+    ensures { (items : List Item) → Piled program.old body.in_method stack.old.items items →
+        Makes program.old program.new body.in_method stack.new.items result
+        (from_left junction to items) }
+{
+    let left = take_row(body, program, stack)?;
+    let wait = Wait { junction, left, to };
+    push(stack, Held::Waits { wait })
+}
