@@ -20,6 +20,8 @@ mod pacers;
 #[cfg(test)]
 mod programs;
 #[cfg(test)]
+mod raised;
+#[cfg(test)]
 mod report;
 #[cfg(test)]
 mod streams;
