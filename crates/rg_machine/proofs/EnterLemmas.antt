@@ -12,8 +12,9 @@ use Rattle.std.proofs.lemmas.Map.Keys.{any_passes_from_place as any-in}
 use Rattle.rg_base.specs.declared.object.Place.{Place}
 use Rattle.rg_base.specs.declared.object.Label.TheVariants.{Region}
 use Rattle.rg_base.specs.declared.value.Word.{Word}
+use Rattle.rg_base.specs.declared.value.Word.TheVariants as word
 use Rattle.rg_base.specs.declared.value.Word.TheVariants.{Nil, Slot}
-use Rattle.rg_cells.specs.Table.{label_at, IsHeld}
+use Rattle.rg_cells.specs.Table.{Heap, label_at, IsHeld}
 use Rattle.rg_cells.specs.declared.cell.Body.{Body}
 use Rattle.rg_regions.specs.Table.{HasNumber}
 use Rattle.rg_regions.specs.Reach.{LiesIn}
@@ -92,6 +93,13 @@ ParentBeneath p v r = (q : ℕ) → Parent p.cells.heap q r
 -- a window on the region of a key over a slot of the topmost frame, into which a bridge goes
 abbrev pub entered_stack : Stack → (key : ℕ) → Place → (z bridge : ℕ) → Stack
 entered_stack v key owner z b = with_slot (opened v key owner (v.first + z)) z (Slot b)
+
+-- a word that is no slot leads to no object
+pub no-object : (h : Heap) (u : Word) → ((s : ℕ) → u ≡ Slot s → ⊥) → object_at (store_of h) (val_of h u) ≡ Err trap.Nil
+no-object h Nil no_slot = refl
+no-object h (word.Int z) no_slot = refl
+no-object h (word.Bool b) no_slot = refl
+no-object h (Slot s) no_slot = absurd (no_slot s refl)
 
 module _ (p : Parts) (v : Stack) (key : ℕ) (owner : Place) (z r b : ℕ) (h : Stands p v) (has : HasNumber p.regions key r)
     (closed : list_any (has_region key) v.windows ≡ false) (lies : LiesIn p.cells.heap r b) where

@@ -49,20 +49,18 @@ impl Machine {
         };
         self.heap.is_forest();
         let bridge = self.frames.word(s);
-        match bridge {
-            Word::Slot(_) => {
-                let owner = Place::Var {
-                    frame: self.depth(),
-                    slot: s,
-                };
-                let Ok(_) = self.heap.enter(&mut self.frames, bridge, owner, base) else {
-                    return Next::Memory;
-                };
-                self.frames.set_word(z, bridge);
-                Next::On
-            }
-            Word::Nil | Word::Int(_) | Word::Bool(_) => Next::Trap(Trap::Nil),
-        }
+        let Word::Slot(_) = bridge else {
+            return Next::Trap(Trap::Nil);
+        };
+        let owner = Place::Var {
+            frame: self.depth(),
+            slot: s,
+        };
+        let Ok(_) = self.heap.enter(&mut self.frames, bridge, owner, base) else {
+            return Next::Memory;
+        };
+        self.frames.set_word(z, bridge);
+        Next::On
     }
 
     /// `enterf k z`
@@ -86,20 +84,18 @@ impl Machine {
         let Ok(bridge) = self.heap.read(r, index) else {
             return Next::Trap(Trap::Nil);
         };
-        match bridge {
-            Word::Slot(_) => {
-                let owner = Place::Field {
-                    serial: self.heap.serial(holder),
-                    index,
-                };
-                let Ok(_) = self.heap.enter(&mut self.frames, bridge, owner, base) else {
-                    return Next::Memory;
-                };
-                self.frames.set_word(z, bridge);
-                Next::On
-            }
-            Word::Nil | Word::Int(_) | Word::Bool(_) => Next::Trap(Trap::Nil),
-        }
+        let Word::Slot(_) = bridge else {
+            return Next::Trap(Trap::Nil);
+        };
+        let owner = Place::Field {
+            serial: self.heap.serial(holder),
+            index,
+        };
+        let Ok(_) = self.heap.enter(&mut self.frames, bridge, owner, base) else {
+            return Next::Memory;
+        };
+        self.frames.set_word(z, bridge);
+        Next::On
     }
 
     /// `leave s`

@@ -1,4 +1,4 @@
-use Rattle.std.proofs.Common.{◌≡◌, ◌+◌, inl, inr, Result, Err, refl, true, ◌∙◌, sym, ap, subst}
+use Rattle.std.proofs.Common.{◌≡◌, ◌+◌, refl, true, ◌∙◌, sym, ap, subst}
 use Rattle.rg_base.specs.declared.object.Place.{Place}
 use Rattle.rg_base.specs.declared.object.Place.TheVariants as place
 use Rattle.rg_code.specs.Code.{empty}
@@ -10,24 +10,19 @@ use Rattle.rg_heap.specs.Ends.{CanEnter}
 use Rattle.rg_held.specs.Frees.{free_act}
 use Rattle.rg_stack.specs.Effects.{frame_number}
 use Rattle.rg_stack.specs.Machine.{place_of}
-use Rattle.rg_base.specs.declared.object.Seen.{Seen}
-use Rattle.rg_base.specs.declared.outcome.Trap.{Trap}
 use Rattle.rg_base.specs.declared.outcome.Trap.TheVariants as trap
-use Rattle.rg_base.specs.declared.value.Word.{Word}
 use Rattle.rg_base.proofs.Callers.Labels.{slot-same}
-use Rattle.rg_rules.specs.Evaluation.{object_at}
-use Rattle.rg_heap.specs.Answers.{val_of}
 use Rattle.rg_stack.specs.Effects.{Traps}
-use Rattle.rg_view.specs.View.{store_of}
 use Rattle.rg_machine.specs.Core.{Has, work_of}
 use Rattle.rg_machine.specs.Frames.{can_open}
 use Rattle.rg_machine.specs.Keeps.{SameBacks}
 use Rattle.rg_machine.specs.Parts.{Parts, core_of, machine_in}
 use Rattle.rg_machine.specs.Stands.{AllLead, Stands}
 use Rattle.rg_machine.proofs.EnterLemmas.{can-enter-slot, opens-within, stands-entered, all-still-lead, enter-effect, enter-nil, same-backs}
-use Rattle.rg_machine.proofs.EnterLemmas.{CanEnterSlot, entered_stack}
+use Rattle.rg_machine.proofs.EnterLemmas.{CanEnterSlot, entered_stack, no-object}
 use Rattle.rg_machine.proofs.HighLemmas.{none-same}
 use Rattle.rg_machine.proofs.machine.Machine.enter.Goals as goal
+use Rattle.rg_machine.proofs.machine.Machine.enter.Goals.{After-set_word}
 
 pub enter-requires-clause-region : goal.enter-requires-clause-region
 enter-requires-clause-region c =
@@ -41,7 +36,7 @@ enter-requires-clause-region c =
     subst (CanEnter m.heap.cells.heap) (sym c.in-Slot.is) (x.entered.region, x.entered.lies)
 
 -- what stands behind the call
-record Behind (c : goal.After-set_word) : Type 0 where
+record Behind (c : After-set_word) : Type 0 where
   x : CanEnterSlot c.self.inside.heap c.self.inside.frames c.self.inside.at c.self.invariant.0 c.args.s c.in-Slot.field-0
   opens : can_open (machine_in (record {
     heap = c.self.inside.heap;
@@ -53,7 +48,7 @@ record Behind (c : goal.After-set_word) : Type 0 where
   is : c.set_word.new.self
       ≡ entered_stack c.self.inside.frames x.entered.closed.0 (place.Var c.depth.result c.args.s) c.args.z c.in-Slot.field-0
 
-behind : (c : goal.After-set_word) → Behind c
+behind : (c : After-set_word) → Behind c
 behind c =
     let m = c.self.inside in
     let h = c.self.invariant.0 in
@@ -79,8 +74,8 @@ behind c =
           ∙ ap (λ w. with_slot (opened m.frames key owner (m.frames.first + c.args.z)) c.args.z w) c.in-Slot.is;
     }
 
-pub invariant_of-self-in-Slot : goal.invariant_of-self-in-Slot
-invariant_of-self-in-Slot c =
+pub invariant_of-self-2 : goal.invariant_of-self-2
+invariant_of-self-2 c =
     let m = c.self.inside in
     let h = c.self.invariant.0 in
     let b = behind c in
@@ -94,7 +89,7 @@ invariant_of-self-in-Slot c =
           (subst (λ v. AllLead m.heap v m.stack.items) (sym b.is) lead),
     )
 
-new-is : (c : goal.After-set_word) → (b : Behind c) → ◌≡◌ {A = Parts} (record {
+new-is : (c : After-set_word) → (b : Behind c) → ◌≡◌ {A = Parts} (record {
   heap = c.self.inside.heap;
   frames = entered_stack c.self.inside.frames b.x.entered.closed.0 (place.Var c.depth.result c.args.s) c.args.z c.in-Slot.field-0;
   words = c.self.inside.stack.items;
@@ -113,8 +108,8 @@ new-is c b =
     ∙ ap (λ (p : HeapParts). record { heap = p; frames = c.set_word.new.self; words = m.stack.items; at = m.at; printed = m.printed })
     (sym c.enter.ensures.same)
 
-pub returns-in-Ok-clause-effect : goal.returns-in-Ok-clause-effect
-returns-in-Ok-clause-effect c =
+pub returns-clause-effect : goal.returns-clause-effect
+returns-clause-effect c =
     let m = c.self.inside in
     let b = behind c in
     let owner : Place = place.Var c.depth.result c.args.s in
@@ -133,8 +128,8 @@ returns-in-Ok-clause-effect c =
     (ap (λ n. place.Var n c.args.s) depth) b.opens go input
     ∙ ap (λ (x : Parts). go 0 (core_of x).stack (work_of (core_of x) input)) (new-is c b))
 
-pub returns-in-Ok-clause-keeps : goal.returns-in-Ok-clause-keeps
-returns-in-Ok-clause-keeps c =
+pub returns-clause-keeps : goal.returns-clause-keeps
+returns-clause-keeps c =
     let m = c.self.inside in
     let b = behind c in
     let e = b.x.entered in
@@ -156,14 +151,10 @@ returns-in-Ok-clause-keeps c =
     })) (machine_in n)) (new-is c b)
     (same-backs m.heap m.frames e.closed.0 owner c.args.z e.region c.in-Slot.field-0 c.self.invariant.0 e.closed.1 e.closed.2 e.lies m.at))
 
-pub returns-in-Nil : goal.returns-in-Nil
-returns-in-Nil c =
+pub returns-in_default-bridge : goal.returns-in_default-bridge
+returns-in_default-bridge c =
     let m = c.self.inside in
-    let look : Word → Result Seen Trap = λ w. object_at (store_of m.heap.cells.heap) (val_of m.heap.cells.heap w) in
-    let none : look c.word-bridge.result ≡ Err trap.Nil = elim c.in-Nil.is [
-      | inl e ↦ ap look e
-      | inr x ↦ elim x [ inl e ↦ ap look e.1 | inr e ↦ ap look e.1 ]
-    ] in
+    let none = no-object m.heap.cells.heap c.word-bridge.result c.in_default-bridge.not-Slot in
     let opens = subst (λ (m : Parts). can_open (machine_in m) c.args.z ≡ true) (sym c.self.view_is) c.in-Some.ensures.some.0 in
     record {
       effect = λ at go input.
@@ -174,5 +165,5 @@ returns-in-Nil c =
       high = record { made = refl; high = refl };
     }
 
-pub returns-in-Ok-clause-high : goal.returns-in-Ok-clause-high
-returns-in-Ok-clause-high c = rw (← c.self.view_is) (none-same c.self.inside.heap c.enter.new.self c.enter.ensures.same)
+pub returns-clause-high : goal.returns-clause-high
+returns-clause-high c = rw (← c.self.view_is) (none-same c.self.inside.heap c.enter.new.self c.enter.ensures.same)

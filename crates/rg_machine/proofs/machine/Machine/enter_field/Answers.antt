@@ -1,34 +1,31 @@
-use Rattle.std.proofs.Common.{◌≡◌, ◌+◌, ◌∷◌, ◌++◌, [], inl, inr, Some, Result, Ok, Err, refl, true, ◌∙◌, sym, ap, subst}
+use Rattle.std.proofs.Common.{◌≡◌, ◌+◌, ◌∷◌, ◌++◌, [], Some, Result, Ok, refl, true, ◌∙◌, sym, ap, subst}
 use Rattle.rg_base.specs.declared.object.Place.{Place}
 use Rattle.rg_base.specs.declared.object.Place.TheVariants as place
-use Rattle.rg_base.specs.declared.object.Seen.{Seen}
 use Rattle.rg_base.specs.declared.outcome.Trap.{Trap}
 use Rattle.rg_base.specs.declared.outcome.Trap.TheVariants as trap
 use Rattle.rg_base.specs.declared.value.Word.{Word}
 use Rattle.rg_base.specs.declared.value.Word.TheVariants.{Slot}
 use Rattle.rg_base.proofs.Callers.Labels.{slot-same}
-use Rattle.rg_rules.specs.Evaluation.{object_at}
 use Rattle.rg_code.specs.Code.{empty}
 use Rattle.rg_code.specs.declared.op.Op.TheVariants as i
 use Rattle.rg_cells.specs.Table.{field_at}
 use Rattle.rg_regions.specs.Reach.{LiesIn}
 use Rattle.rg_frames.specs.Stack.{Stack, opened, with_slot}
 use Rattle.rg_heap.specs.Parts.{Parts as HeapParts}
-use Rattle.rg_heap.specs.Answers.{val_of}
 use Rattle.rg_heap.specs.Ends.{CanEnter}
 use Rattle.rg_held.specs.Frees.{free_act}
 use Rattle.rg_stack.specs.Effects.{Traps}
 use Rattle.rg_stack.specs.Machine.{place_of}
-use Rattle.rg_view.specs.View.{store_of}
 use Rattle.rg_machine.specs.Core.{Has, work_of}
 use Rattle.rg_machine.specs.Frames.{can_open}
 use Rattle.rg_machine.specs.Keeps.{SameBacks}
 use Rattle.rg_machine.specs.Parts.{Parts, core_of, machine_in}
 use Rattle.rg_machine.specs.Stands.{AllLead, Stands}
-use Rattle.rg_machine.proofs.EnterLemmas.{ParentBeneath, opens-within, stands-entered, all-still-lead, same-backs, Entered, entered_stack}
+use Rattle.rg_machine.proofs.EnterLemmas.{ParentBeneath, opens-within, stands-entered, all-still-lead, same-backs, Entered, entered_stack, no-object}
 use Rattle.rg_machine.proofs.EnterFieldLemmas.{Holds, holds, field-entered, field-parent, front-lead, enter-field-effect, enter-field-nil}
 use Rattle.rg_machine.proofs.HighLemmas.{none-same}
 use Rattle.rg_machine.proofs.machine.Machine.enter_field.Goals as goal
+use Rattle.rg_machine.proofs.machine.Machine.enter_field.Goals.{After-set_word}
 
 same-ok : (u w : Word) → ◌≡◌ {A = Result Word Trap} (Ok u) (Ok w) → u ≡ w
 same-ok u w e = cc
@@ -73,7 +70,7 @@ invariant_of-self-in_default-enter c =
     )
 
 -- what stands behind the call
-record Behind (c : goal.After-set_word) : Type 0 where
+record Behind (c : After-set_word) : Type 0 where
   x : Holds c.self.inside.heap c.self.inside.frames c.self.inside.at c.self.invariant.0 c.is_forest.ensures.serials c.is_forest.ensures.forest
       c.in-Slot.holder c.args.index c.args.z
   words : c.self.inside.stack.items ≡ c.pop.new.self.items ++ Slot c.in-Slot.holder ∷ []
@@ -102,7 +99,7 @@ record Behind (c : goal.After-set_word) : Type 0 where
     printed = c.self.inside.printed;
   })
 
-behind : (c : goal.After-set_word) → Behind c
+behind : (c : After-set_word) → Behind c
 behind c =
     let m = c.self.inside in
     let h = c.self.invariant.0 in
@@ -142,8 +139,8 @@ behind c =
           (sym c.enter.ensures.same);
     }
 
-pub invariant_of-self-in-Slot-bridge : goal.invariant_of-self-in-Slot-bridge
-invariant_of-self-in-Slot-bridge c =
+pub invariant_of-self-2 : goal.invariant_of-self-2
+invariant_of-self-2 c =
     let m = c.self.inside in
     let h = c.self.invariant.0 in
     let rest = c.pop.new.self.items in
@@ -160,8 +157,8 @@ invariant_of-self-in-Slot-bridge c =
     in
     (subst (λ (n : Parts). Stands n.heap n.frames) b.is stands, subst (λ (n : Parts). AllLead n.heap n.frames n.words) b.is lead)
 
-pub returns-in-Ok-enter-clause-effect : goal.returns-in-Ok-enter-clause-effect
-returns-in-Ok-enter-clause-effect c =
+pub returns-clause-effect : goal.returns-clause-effect
+returns-clause-effect c =
     let m = c.self.inside in
     let h = c.self.invariant.0 in
     let b = behind c in
@@ -181,8 +178,8 @@ returns-in-Ok-enter-clause-effect c =
     c.in-Slot-bridge.field-0 c.serial.result m.stack.items rest m.printed at b.x b.leads b.words c.serial.ensures b.opens go input
     ∙ ap (λ (x : Parts). go 0 (core_of x).stack (work_of (core_of x) input)) (ap start (sym b.e_is) ∙ b.is))
 
-pub returns-in-Ok-enter-clause-keeps : goal.returns-in-Ok-enter-clause-keeps
-returns-in-Ok-enter-clause-keeps c =
+pub returns-clause-keeps : goal.returns-clause-keeps
+returns-clause-keeps c =
     let m = c.self.inside in
     let b = behind c in
     let e = b.e in
@@ -194,8 +191,8 @@ returns-in-Ok-enter-clause-keeps c =
     (subst (λ (n : Parts). SameBacks (machine_in old) (machine_in n)) b.is
     (same-backs m.heap m.frames e.closed.0 owner c.args.z e.region c.in-Slot-bridge.field-0 c.self.invariant.0 e.closed.1 e.closed.2 e.lies m.at))
 
-pub returns-in-Nil : goal.returns-in-Nil
-returns-in-Nil c =
+pub returns-in_default-bridge : goal.returns-in_default-bridge
+returns-in_default-bridge c =
     let m = c.self.inside in
     let h = c.self.invariant.0 in
     let rest = c.pop.new.self.items in
@@ -206,11 +203,7 @@ returns-in-Nil c =
     let r = c.in-Ok.ensures in
     let u = c.in-Ok.bridge in
     let leads : field_at m.heap.cells.heap c.in-Slot.holder c.args.index ≡ Some u = r.2 ∙ ap Some (same-ok r.0 u (sym r.1)) in
-    let look : Word → Result Seen Trap = λ w. object_at (store_of m.heap.cells.heap) (val_of m.heap.cells.heap w) in
-    let none : look u ≡ Err trap.Nil = elim c.in-Nil.is [
-      | inl e ↦ ap look e
-      | inr x ↦ elim x [ inl e ↦ ap look e.1 | inr e ↦ ap look e.1 ]
-    ] in
+    let none = no-object m.heap.cells.heap u c.in_default-bridge.not-Slot in
     let opens = subst (λ (m : Parts). can_open (machine_in m) c.args.z ≡ true) (sym c.self.view_is) c.in-Some.ensures.some.0 in
     record {
       effect = λ at go input.
@@ -222,5 +215,5 @@ returns-in-Nil c =
       high = none-same c.args.self.now.heap m.heap (ap (λ (m : Parts). m.heap) c.self.view_is);
     }
 
-pub returns-in-Ok-enter-clause-high : goal.returns-in-Ok-enter-clause-high
-returns-in-Ok-enter-clause-high c = rw (← c.self.view_is) (none-same c.self.inside.heap c.enter.new.self c.enter.ensures.same)
+pub returns-clause-high : goal.returns-clause-high
+returns-clause-high c = rw (← c.self.view_is) (none-same c.self.inside.heap c.enter.new.self c.enter.ensures.same)
