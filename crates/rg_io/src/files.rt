@@ -4,6 +4,7 @@ ghost use Rattle.std.specs.Prelude.{◌≡◌, ℕ, ◌<◌, ◌≤◌, length, 
 ghost use Rattle.rg_io.specs.Content.{Rose};
 ghost use Rattle.rg_io.specs.Files.{Told, Begins, Reads, NothingLeft};
 ghost use Rattle.rg_io.specs.Files.{SameFiles, HasFile, HasLongFile};
+ghost use Rattle.rg_io.specs.Inner.Pieces.{AddsPiece};
 
 use crate::failed::Failed;
 use rg_base::ByteList;
@@ -36,7 +37,7 @@ pub trait Files {
 }
 
 /// Why a file wasn't taken.
-#[derive(Clone, Copy, Debug, PartialEq, Eq)]
+#[derive(Clone, Copy)]
 pub enum Taken {
     /// `begin` or `read` failed
     SourceFault,
@@ -48,6 +49,19 @@ pub enum Taken {
 
 /// The largest piece that `take_all` reads at once.
 const PIECE: usize = 4096;
+
+/// Appends a piece of a file of which so many bytes may still come, and answers how many may then.
+fn add_piece(bytes: &mut ByteList, piece: &[u8], left: usize) -> Result<usize, Taken>
+    ensures { AddsPiece result bytes.old bytes.new piece.now left }
+{
+    let Some(now) = left.checked_sub(piece.len()) else {
+        return Err(Taken::Long);
+    };
+    match bytes.extend(piece) {
+        Ok(()) => Ok(now),
+        Err(_) => Err(Taken::Memory),
+    }
+}
 
 /// Takes a whole file of at most so many bytes. After an `Err` the file may have been read in part.
 pub fn take_all<F: Files>(
@@ -72,18 +86,16 @@ pub fn take_all<F: Files>(
     let mut left = most;
     let mut piece = [0u8; PIECE];
     loop {
-        match files.read(&mut piece) {
+        let n = match files.read(&mut piece) {
+            Ok(n) => n,
             Err(_) => return Err(Taken::SourceFault),
-            Ok(0) => return Ok(bytes),
-            Ok(n) => {
-                if n > left {
-                    return Err(Taken::Long);
-                }
-                match bytes.extend(&piece[..n]) {
-                    Ok(()) => left -= n,
-                    Err(_) => return Err(Taken::Memory),
-                }
-            }
+        };
+        if n == 0 {
+            return Ok(bytes);
+        }
+        match add_piece(&mut bytes, &piece[..n], left) {
+            Ok(now) => left = now,
+            Err(taken) => return Err(taken),
         }
     }
 }

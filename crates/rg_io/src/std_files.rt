@@ -44,6 +44,23 @@ impl<R: SystemFiles> StdFiles<R> {
     }
 }
 
+// Reads on in the file that was begun, and closes it at its end.
+fn read_on<F: Read + Drop>(file: &mut Option<F>, buf: &mut [u8]) -> Result<usize, Failed>
+    requires { 0 < length buf.old }
+    ensures { IfOk result (λ n. n ≤ length buf.new) }
+{
+    let Some(open) = file else {
+        return Ok(0);
+    };
+    let Ok(n) = open.read(buf) else {
+        return Err(Failed);
+    };
+    if n == 0 {
+        *file = None;
+    }
+    Ok(n)
+}
+
 impl<R: SystemFiles> Files for StdFiles<R> {
     ghost faults = { λ s. s };
 
@@ -84,17 +101,9 @@ impl<R: SystemFiles> Files for StdFiles<R> {
         ensures same { OnOk result (self.new ≡ self.old) }
         ensures counted { OnErr result (self.new ≡ one_more self.old) }
     {
-        let Some(file) = &mut self.file else {
-            return Ok(0);
-        };
-        match file.read(buf) {
-            Ok(n) => {
-                if n == 0 {
-                    self.file = None;
-                }
-                Ok(n)
-            }
-            Err(_) => {
+        match read_on(&mut self.file, buf) {
+            Ok(n) => Ok(n),
+            Err(Failed) => {
                 self.faults = one_more(self.faults);
                 Err(Failed)
             }
