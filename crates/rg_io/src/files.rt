@@ -37,7 +37,7 @@ pub trait Files {
 }
 
 /// Why a file wasn't taken.
-#[derive(Clone, Copy)]
+#[derive(Clone, Copy, Debug)]
 pub enum Taken {
     /// `begin` or `read` failed
     SourceFault,
