@@ -1,18 +1,20 @@
 -- Owner references in an object, field by field, and lists of the regions to which they lead.
 use Rattle.std.proofs.Common.{◌≡◌, ℕ, zero, suc, ◌+◌, ◌<◌, ◌≤◌, ◌==◌, Bool, true, false, if◌then◌else◌, List, [], ◌∷◌, ◌++◌, length, get_or, drop}
 use Rattle.std.proofs.Common.{take, filter_map, option_to_list, Some, set, refl, sym, ◌∙◌, ap, arith, append_assoc, append-nil, add-one, Vec, Global}
+use Rattle.std.proofs.Common.{map, subst}
 use Rattle.std.proofs.lemmas.Bool.{eqb-true, eq-eqb, true≢false}
-use Rattle.std.proofs.lemmas.List.{drop_all, length-map, get_or-map, take_more}
+use Rattle.std.proofs.lemmas.List.{drop_all, drop_more, length-map, get_or-map, take_all, take_more}
 use Rattle.std.proofs.lemmas.List.Elements.{filter_map-append}
 use Rattle.rg_base.specs.declared.object.Seen.{Seen}
 use Rattle.rg_base.specs.declared.value.Val.{Val}
+use Rattle.rg_base.specs.declared.value.Val.TheVariants as val
 use Rattle.rg_base.specs.declared.object.Label.{Label}
 use Rattle.rg_base.specs.declared.object.Label.TheVariants.{Region, Temp, Frozen}
 use Rattle.rg_tree.specs.Tree.{Class, Field, Member}
 use Rattle.rg_tree.specs.Rows.Tables.{Tables}
-use Rattle.rg_tree.specs.Rows.RowTrees.{classes_of}
+use Rattle.rg_tree.specs.Rows.RowTrees.{classes_of, member_at}
 use Rattle.rg_rules.specs.Types.{fields_of, field_member}
-use Rattle.rg_rules.specs.Regions.{region_of, region_at, owned_as, owned_in, in_regions, led_from}
+use Rattle.rg_rules.specs.Regions.{address, region_of, region_at, owned_as, owned_in, in_regions, led_from}
 use Rattle.rg_store.specs.declared.objects.ObjectRow.{ObjectRow}
 use Rattle.rg_store.specs.Links.{listed}
 use Rattle.rg_store.specs.Inner.Found.{links_in}
@@ -53,6 +55,39 @@ links-end t st m rest vs links n past =
     ∙ ap (λ q. links ++ filter_map h q) (owned-none (classes_of t) (filter_map field_member rest)
     ∙ sym (owned-none (classes_of t) (filter_map field_member (m ∷ rest))))
     ∙ ap (λ q. links ++ links_in t st (m ∷ rest) q) (sym end)
+
+-- one more member was added
+pub links-turn : (t : Tables) (st : List Seen) (numbers : List ℕ) (i before n : ℕ) (values fields : List Val) (old new whole : List ℕ) →
+    i < length numbers → values ≡ fields →
+    ((rest : List Member) →
+    new ++ links_in t st rest (drop n values) ≡ old ++ links_in t st (member_at t (get_or numbers i 0) ∷ rest) (drop before values)) →
+    old ++ links_in t st (map (member_at t) (drop i numbers)) (drop before fields) ≡ whole →
+    new ++ links_in t st (map (member_at t) (drop (i + 1) numbers)) (drop n fields) ≡ whole
+links-turn t st numbers i before n values fields old new whole within same added known =
+    let rest = map (member_at t) (drop (i + 1) numbers) in
+    let m = member_at t (get_or numbers i 0) in
+    subst (λ vs. new ++ links_in t st rest (drop n vs) ≡ old ++ links_in t st (m ∷ rest) (drop before vs)) same (added rest)
+    ∙ ap (λ ns. old ++ links_in t st (map (member_at t) ns) (drop before fields)) (sym (drop_more numbers i 0 within)) ∙ known
+
+led-cons : (v : Val) (vs : List Val) → filter_map address (v ∷ vs) ≡ option_to_list (address v) ++ filter_map address vs
+led-cons val.Nil vs = refl
+led-cons (val.Int z) vs = refl
+led-cons (val.Bool b) vs = refl
+led-cons (val.Obj n) vs = refl
+
+-- the reference in one more value was followed
+pub led-turn : (st : List Seen) (values : List Val) (i : ℕ) (d : Val) (old new whole : List ℕ) → i < length values →
+    new ≡ old ++ filter_map (region_at st) (option_to_list (address (get_or values i d))) →
+    old ++ filter_map (region_at st) (filter_map address (drop i values)) ≡ whole →
+    new ++ filter_map (region_at st) (filter_map address (drop (i + 1) values)) ≡ whole
+led-turn st values i d old new whole within new_is known =
+    let h = region_at st in
+    let here = option_to_list (address (get_or values i d)) in
+    let rest = filter_map address (drop (i + 1) values) in
+    ap (λ q. q ++ filter_map h rest) new_is ∙ append_assoc old (filter_map h here) (filter_map h rest)
+    ∙ ap (λ q. old ++ q) (sym (filter_map-append h here rest))
+    ∙ ap (λ q. old ++ filter_map h q) (sym (led-cons (get_or values i d) (drop (i + 1) values)))
+    ∙ ap (λ q. old ++ filter_map h (filter_map address q)) (sym (drop_more values i d within)) ∙ known
 
 region-label : (l : Label) (r : ℕ) → Some r ≡ region_of l → l ≡ Region r
 region-label (Region q) r is = let same : q ≡ r = cc in ap Region same
@@ -103,3 +138,7 @@ store_of-more store i o within is =
     let short : i < length (store_of store) = omega (arith, length-map store seen_of) in
     ap (λ q. take i (store_of store) ++ q ∷ []) (ap seen_of is ∙ sym (get_or-map seen_of store i o (seen_of o) within))
     ∙ sym (take_more (store_of store) i (seen_of o) short)
+
+-- all objects
+pub store_of-whole : (store : List ObjectRow) (i : ℕ) → length store ≤ i → take i (store_of store) ≡ store_of store
+store_of-whole store i whole = take_all i (store_of store) (omega (arith, length-map store seen_of))

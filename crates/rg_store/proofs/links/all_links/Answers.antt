@@ -5,7 +5,7 @@ use Rattle.rg_store.specs.Regions.{LabelFits}
 use Rattle.rg_store.specs.Shown.{seen_of, store_of}
 use Rattle.rg_store.proofs.AmongLemmas.{led-append}
 use Rattle.rg_store.proofs.Callers.LabelLemmas.{LabelsFit-at}
-use Rattle.rg_store.proofs.LinkLemmas.{store_of-more}
+use Rattle.rg_store.proofs.LinkLemmas.{store_of-more, store_of-whole}
 use Rattle.rg_store.proofs.links.all_links.Goals as goal
 
 pub add_object-requires-clause-label : goal.add_object-requires-clause-label
@@ -29,4 +29,15 @@ loop-object-preserved c =
           ∙ ap (λ q. q ++ led_from cs st test (seen_of o ∷ [])) (c.loop-object.invariant.led r)
           ∙ sym (led-append cs st test (take i st) (seen_of o ∷ []))
           ∙ ap (led_from cs st test) (store_of-more c.args.store.now i o (omega (arith, c.loop-object-test.true)) c.object-item.is);
+    }
+
+pub returns : goal.returns
+returns c =
+    let st = store_of c.args.store.now in
+    record {
+      count_is = c.loop-object.invariant.count;
+      led = λ r.
+          c.loop-object.invariant.led r
+          ∙ ap (led_from (classes_of c.args.book.now.program) st (in_regions (r ∷ [])))
+          (store_of-whole c.args.store.now c.loop-object.object-index c.loop-object-test.false);
     }

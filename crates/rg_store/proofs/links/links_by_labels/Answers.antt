@@ -4,7 +4,7 @@ use Rattle.rg_store.specs.Regions.{LabelFits}
 use Rattle.rg_store.specs.Shown.{seen_of, store_of}
 use Rattle.rg_store.proofs.AmongLemmas.{labels-append}
 use Rattle.rg_store.proofs.Callers.LabelLemmas.{LabelsFit-at}
-use Rattle.rg_store.proofs.LinkLemmas.{store_of-more}
+use Rattle.rg_store.proofs.LinkLemmas.{store_of-more, store_of-whole}
 use Rattle.rg_store.proofs.links.links_by_labels.Goals as goal
 
 pub add_by_label-requires : goal.add_by_label-requires
@@ -28,3 +28,9 @@ loop-object-preserved c =
           ∙ sym (labels-append st (take i st) (seen_of o ∷ []) r)
           ∙ ap (λ q. led_by_labels st q r) (store_of-more c.args.store.now i o (omega (arith, c.loop-object-test.true)) c.object-item.is);
     }
+
+pub returns-clause-led : goal.returns-clause-led
+returns-clause-led c r =
+    c.loop-object.invariant.led r
+    ∙ ap (λ q. led_by_labels (store_of c.args.store.now) q r)
+    (store_of-whole c.args.store.now c.loop-object.object-index c.loop-object-test.false)
