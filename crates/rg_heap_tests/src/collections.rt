@@ -28,8 +28,8 @@ static ROWS: [Row; 6] = [
     ([9, 1, 1, 2], 4, 4),
 ];
 
-// A cell comes into a region, with one field.
-fn add_cell(
+/// A cell comes into a region, with one field.
+pub fn add_cell(
     cells: &mut Cells,
     regions: &mut Regions,
     key: usize,

@@ -16,3 +16,5 @@ mod moves;
 mod regions;
 #[cfg(test)]
 mod release;
+#[cfg(test)]
+mod sliding;

@@ -1,4 +1,4 @@
-use Rattle.std.proofs.Common.{◌≢◌, ℕ, arith}
+use Rattle.std.proofs.Common.{◌≢◌, arith}
 use Rattle.rg_heap_tests.proofs.TopsMade.{first_takes}
 use Rattle.rg_heap_tests.proofs.moves.goes_into_first.Goals as goal
 

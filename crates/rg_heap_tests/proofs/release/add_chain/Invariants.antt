@@ -1,4 +1,4 @@
-use Rattle.std.proofs.Common.{ℕ, ◌<◌}
+use Rattle.std.proofs.Common.{◌<◌}
 use Rattle.rg_regions.specs.Grove.{Grove}
 use Rattle.rg_heap_tests.specs.Tops.{IsAbove}
 use Rattle.rg_heap_tests.proofs.release.add_chain.Given as goal
