@@ -4,19 +4,20 @@ ghost use Rattle.std.specs.Prelude.{◌≡◌, Some, IfOk};
 ghost use Rattle.rg_module.specs.Parts.{Parts};
 ghost use Rattle.rg_module.specs.Spelling.{spelling, IsSpelt, Spells};
 ghost use Rattle.rg_module.specs.Laws.{Decodes, IsModule};
-ghost use Rattle.rg_module.specs.Inner.Reading.{Gives, magic_at, module_of, rows_behind};
+ghost use Rattle.rg_spell.specs.Reading.{Gives};
+ghost use Rattle.rg_module.specs.Inner.Reading.{magic_at, module_of, rows_behind};
 ghost use Rattle.rg_module.specs.Inner.Reading.{heads_behind, shapes_behind};
 ghost use Rattle.rg_module.specs.Inner.Reading.{manager_behind, module_at};
 ghost use Rattle.rg_module.specs.Inner.Rows.{rows_of, IsBare};
 
 use crate::follows::complete;
-use crate::ops::{Read, take_rows};
 use crate::parts::Module;
-use crate::reading::{take_heads, take_manager, take_shapes};
-use crate::refusal::Refusal;
-use crate::rows::{Head, Shape};
-use crate::writing::{write_heads, write_manager, write_rows, write_shapes};
+use crate::rows::{Read, take_rows, write_rows};
 use rg_base::{ByteList, Manager, Memory};
+use rg_spell::{
+    Head, Refusal, Shape, take_heads, take_manager, take_shapes, write_heads, write_manager,
+    write_shapes,
+};
 use std::alloc::Global;
 
 /// The bytes of a module that some bytes spell.

@@ -1,0 +1,183 @@
+//! Instructions that are read from the front of bytes, each with its map
+//! (docs/architecture.md, "Modules").
+
+ghost use Rattle.std.specs.Prelude.{◌≡◌, Some};
+ghost use Rattle.rg_code.specs.Places as places;
+ghost use Rattle.rg_spell.specs.Reading as reading;
+ghost use Rattle.rg_spell.specs.Reading.{Gives, region_at, swap_at, enter_at};
+ghost use Rattle.rg_spell.specs.Reading.{enter_field_at, filled, op_at, map_at, row_at};
+
+use crate::numbers::{Kind, blank, kind_of};
+use crate::reading::{
+    take_bool, take_byte, take_i64, take_manager, take_slot, take_types, take_u32, take_u64,
+};
+use crate::refusal::Refusal;
+use crate::tys::Tys;
+use rg_code::Op;
+use std::alloc::Global;
+
+// An instruction with another slot.
+fn with_slot(op: Op, slot: u32) -> Op
+    ensures { result ≡ reading.with_slot op slot }
+{
+    match op {
+        Op::Load { .. } => Op::Load { slot },
+        Op::Clear { .. } => Op::Clear { slot },
+        Op::Store { .. } => Op::Store { slot },
+        Op::Own { .. } => Op::Own { slot },
+        Op::Freeze { .. } => Op::Freeze { slot },
+        Op::Merge { .. } => Op::Merge { slot },
+        Op::Leave { .. } => Op::Leave { slot },
+        Op::End { .. } => Op::End { slot },
+        other => other,
+    }
+}
+
+// An instruction with another number of a field, a class or a method.
+fn with_number(op: Op, number: u32) -> Op
+    ensures { result ≡ reading.with_number op number }
+{
+    match op {
+        Op::Field { .. } => Op::Field { index: number },
+        Op::New { .. } => Op::New { class: number },
+        Op::NewTmp { .. } => Op::NewTmp { class: number },
+        Op::Put { .. } => Op::Put { index: number },
+        Op::Call { .. } => Op::Call { method: number },
+        other => other,
+    }
+}
+
+// An instruction with another address.
+fn with_address(op: Op, to: usize) -> Op
+    ensures { result ≡ reading.with_address op to }
+{
+    match op {
+        Op::Jump { .. } => Op::Jump { to },
+        Op::JumpFalse { .. } => Op::JumpFalse { to },
+        Op::And { .. } => Op::And { to },
+        Op::Or { .. } => Op::Or { to },
+        other => other,
+    }
+}
+
+// What stands behind the number of `newiso`.
+#[tactic(auto, unfolding(crate::specs::Reading::region_at))]
+fn take_region(bytes: &[u8]) -> Result<(Op, &[u8]), Refusal>
+    ensures { Gives (λ x. (x.0, x.1.now)) result (region_at bytes.now) }
+{
+    let (class, rest) = take_u32(bytes)?;
+    let (manager, rest) = take_manager(rest)?;
+    Ok((Op::NewIso { class, manager }, rest))
+}
+
+// What stands behind the number of `swap`.
+#[tactic(auto, unfolding(crate::specs::Reading::swap_at))]
+fn take_swap(bytes: &[u8]) -> Result<(Op, &[u8]), Refusal>
+    ensures { Gives (λ x. (x.0, x.1.now)) result (swap_at bytes.now) }
+{
+    let (slot, rest) = take_slot(bytes)?;
+    let (index, rest) = take_u32(rest)?;
+    Ok((Op::Swap { slot, index }, rest))
+}
+
+// What stands behind the number of `enter`.
+#[tactic(auto, unfolding(crate::specs::Reading::enter_at))]
+fn take_enter(bytes: &[u8]) -> Result<(Op, &[u8]), Refusal>
+    ensures { Gives (λ x. (x.0, x.1.now)) result (enter_at bytes.now) }
+{
+    let (slot, rest) = take_slot(bytes)?;
+    let (bridge, rest) = take_slot(rest)?;
+    Ok((Op::Enter { slot, bridge }, rest))
+}
+
+// What stands behind the number of `enterf`.
+#[tactic(auto, unfolding(crate::specs::Reading::enter_field_at))]
+fn take_enter_field(bytes: &[u8]) -> Result<(Op, &[u8]), Refusal>
+    ensures { Gives (λ x. (x.0, x.1.now)) result (enter_field_at bytes.now) }
+{
+    let (index, rest) = take_u32(bytes)?;
+    let (bridge, rest) = take_slot(rest)?;
+    Ok((Op::EnterField { index, bridge }, rest))
+}
+
+// An instruction, behind its number.
+#[tactic(auto, unfolding(crate::specs::Reading::filled))]
+fn fill(kind: Kind, op: Op, bytes: &[u8]) -> Result<(Op, &[u8]), Refusal>
+    ensures { Gives (λ x. (x.0, x.1.now)) result (filled kind op bytes.now) }
+{
+    match kind {
+        Kind::Nothing => Ok((op, bytes)),
+        Kind::Line => {
+            let (line, rest) = take_u64(bytes)?;
+            Ok((Op::Mark { line }, rest))
+        }
+        Kind::Int => {
+            let (value, rest) = take_i64(bytes)?;
+            Ok((Op::Int { value }, rest))
+        }
+        Kind::Bool => {
+            let (value, rest) = take_bool(bytes)?;
+            Ok((Op::Bool { value }, rest))
+        }
+        Kind::Slot => {
+            let (slot, rest) = take_slot(bytes)?;
+            Ok((with_slot(op, slot), rest))
+        }
+        Kind::Number => {
+            let (number, rest) = take_u32(bytes)?;
+            Ok((with_number(op, number), rest))
+        }
+        Kind::Address => {
+            let (to, rest) = take_u32(bytes)?;
+            Ok((with_address(op, to as usize), rest))
+        }
+        Kind::Region => take_region(bytes),
+        Kind::SlotField => take_swap(bytes),
+        Kind::TwoSlots => take_enter(bytes),
+        Kind::FieldSlot => take_enter_field(bytes),
+    }
+}
+
+// An instruction.
+#[tactic(auto, unfolding(crate::specs::Reading::op_at))]
+fn take_op(bytes: &[u8]) -> Result<(Op, &[u8]), Refusal>
+    ensures { Gives (λ x. (x.0, x.1.now)) result (op_at bytes.now) }
+{
+    let (number, rest) = take_byte(bytes)?;
+    let op = blank(number)?;
+    fill(kind_of(op), op, rest)
+}
+
+/// Whether an instruction is a mark.
+pub(crate) fn is_mark(op: Op) -> bool
+    ensures { result ≡ places.is_mark (Some op) }
+{
+    if let Op::Mark { .. } = op {
+        return true;
+    }
+    false
+}
+
+// The map behind an instruction.
+#[tactic(auto, unfolding(crate::specs::Reading::map_at))]
+fn take_map(alloc: Global, mark: bool, bytes: &[u8]) -> Result<(Tys, &[u8]), Refusal>
+    ensures { Gives (λ x. (x.0, x.1.now)) result (map_at mark bytes.now) }
+{
+    if !mark {
+        return Ok((Tys::new(alloc), bytes));
+    }
+    take_types(alloc, bytes)
+}
+
+/// An instruction and its map.
+#[tactic(auto, unfolding(crate::specs::Reading::row_at))]
+pub fn take_row(alloc: Global, bytes: &[u8]) -> Result<(Op, Tys, &[u8]), Refusal>
+    ensures { Gives (λ x. ((x.0, x.1), x.2.now)) result (row_at bytes.now) }
+{
+    let (op, rest) = take_op(bytes)?;
+    let (map, rest) = match take_map(alloc, is_mark(op), rest) {
+        Ok(pair) => pair,
+        Err(e) => return Err(e),
+    };
+    Ok((op, map, rest))
+}
