@@ -53,7 +53,9 @@ pub(crate) fn take_rows(alloc: Global, bytes: &[u8]) -> Result<(Read, &[u8]), Re
         (counted_at row_at bytes.now) }
     ensures bare { IfOk result (λ x. IsBare x.0.code x.0.maps.items) }
 {
-    let (count, rest) = take_u32(bytes)?;
+    let Some((count, rest)) = take_u32(bytes) else {
+        return Err(Refusal::NotModule);
+    };
     take_many_rows(alloc, count, rest)
 }
 

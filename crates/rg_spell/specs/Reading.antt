@@ -25,7 +25,12 @@ abbrev pub ◌>>=◌ : {A B : Type 0} → Option A → (A → Option B) → Opti
 (Some x) >>= f = f x
 None >>= f = None
 
--- what a function answered, seen by view, is what reading gives, unless there was no memory
+-- what a function found, seen by view, is what reading gives
+abbrev pub Finds : {X Y : Type 0} → (X → Y) → Option X → Option Y → Type 0
+Finds view (Some x) read = read ≡ Some (view x)
+Finds view None read = read ≡ None
+
+-- the same, unless there was no memory
 abbrev pub Fails : {Y : Type 0} → Refusal → Option Y → Type 0
 Fails refusal.NotModule read = read ≡ None
 Fails refusal.Memory read = Unit {0}

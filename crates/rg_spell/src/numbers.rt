@@ -3,9 +3,7 @@
 ghost use Rattle.std.specs.Prelude.{◌≡◌, slice_get};
 ghost use Rattle.rg_spell.specs.Spelling.{op_number, cap_number, manager_number, bool_number};
 ghost use Rattle.rg_spell.specs.Reading as reading;
-ghost use Rattle.rg_spell.specs.Reading.{Gives};
 
-use crate::refusal::Refusal;
 use rg_base::{Cap, Manager};
 use rg_code::Op;
 
@@ -106,13 +104,10 @@ fn op_at(ops: &[Op], place: usize) -> Option<Op>
 }
 
 /// The instruction of a number, with other operands.
-pub(crate) fn blank(n: u8) -> Result<Op, Refusal>
-    ensures { Gives (λ o. o) result (slice_get BLANKS n) }
+pub(crate) fn blank(n: u8) -> Option<Op>
+    ensures { result ≡ slice_get BLANKS n }
 {
-    let Some(op) = op_at(&BLANKS, n as usize) else {
-        return Err(Refusal::NotModule);
-    };
-    Ok(op)
+    op_at(&BLANKS, n as usize)
 }
 
 /// What stands behind the number of an instruction.
@@ -213,16 +208,16 @@ pub(crate) fn cap_number(cap: Cap) -> u8
 }
 
 /// The capability of a number.
-pub(crate) fn cap_of(n: u8) -> Result<Cap, Refusal>
-    ensures { Gives (λ k. k) result (reading.cap_of n) }
+pub(crate) fn cap_of(n: u8) -> Option<Cap>
+    ensures { result ≡ reading.cap_of n }
 {
     match n {
-        2 => Ok(Cap::Mut),
-        3 => Ok(Cap::Tmp),
-        4 => Ok(Cap::Paused),
-        5 => Ok(Cap::Imm),
-        6 => Ok(Cap::Iso),
-        _ => Err(Refusal::NotModule),
+        2 => Some(Cap::Mut),
+        3 => Some(Cap::Tmp),
+        4 => Some(Cap::Paused),
+        5 => Some(Cap::Imm),
+        6 => Some(Cap::Iso),
+        _ => None,
     }
 }
 
@@ -238,14 +233,14 @@ pub(crate) fn manager_number(manager: Manager) -> u8
 }
 
 /// The manager of a number.
-pub(crate) fn manager_of(n: u8) -> Result<Manager, Refusal>
-    ensures { Gives (λ m. m) result (reading.manager_of n) }
+pub(crate) fn manager_of(n: u8) -> Option<Manager>
+    ensures { result ≡ reading.manager_of n }
 {
     match n {
-        0 => Ok(Manager::Arena),
-        1 => Ok(Manager::Count),
-        2 => Ok(Manager::Trace),
-        _ => Err(Refusal::NotModule),
+        0 => Some(Manager::Arena),
+        1 => Some(Manager::Count),
+        2 => Some(Manager::Trace),
+        _ => None,
     }
 }
 
@@ -257,12 +252,12 @@ pub(crate) fn bool_number(b: bool) -> u8
 }
 
 /// The truth value of a number.
-pub(crate) fn bool_of(n: u8) -> Result<bool, Refusal>
-    ensures { Gives (λ b. b) result (reading.bool_of n) }
+pub(crate) fn bool_of(n: u8) -> Option<bool>
+    ensures { result ≡ reading.bool_of n }
 {
     match n {
-        0 => Ok(false),
-        1 => Ok(true),
-        _ => Err(Refusal::NotModule),
+        0 => Some(false),
+        1 => Some(true),
+        _ => None,
     }
 }

@@ -4,7 +4,7 @@
 ghost use Rattle.std.specs.Prelude.{◌≡◌, Some};
 ghost use Rattle.rg_code.specs.Places as places;
 ghost use Rattle.rg_spell.specs.Reading as reading;
-ghost use Rattle.rg_spell.specs.Reading.{Gives, region_at, swap_at, enter_at};
+ghost use Rattle.rg_spell.specs.Reading.{Finds, Gives, region_at, swap_at, enter_at};
 ghost use Rattle.rg_spell.specs.Reading.{enter_field_at, filled, op_at, map_at, row_at};
 
 use crate::numbers::{Kind, blank, kind_of};
@@ -62,74 +62,102 @@ fn with_address(op: Op, to: usize) -> Op
 
 // What stands behind the number of `newiso`.
 #[tactic(auto, unfolding(crate::specs::Reading::region_at))]
-fn take_region(bytes: &[u8]) -> Result<(Op, &[u8]), Refusal>
-    ensures { Gives (λ x. (x.0, x.1.now)) result (region_at bytes.now) }
+fn take_region(bytes: &[u8]) -> Option<(Op, &[u8])>
+    ensures { Finds (λ x. (x.0, x.1.now)) result (region_at bytes.now) }
 {
-    let (class, rest) = take_u32(bytes)?;
-    let (manager, rest) = take_manager(rest)?;
-    Ok((Op::NewIso { class, manager }, rest))
+    let Some((class, rest)) = take_u32(bytes) else {
+        return None;
+    };
+    let Some((manager, rest)) = take_manager(rest) else {
+        return None;
+    };
+    Some((Op::NewIso { class, manager }, rest))
 }
 
 // What stands behind the number of `swap`.
 #[tactic(auto, unfolding(crate::specs::Reading::swap_at))]
-fn take_swap(bytes: &[u8]) -> Result<(Op, &[u8]), Refusal>
-    ensures { Gives (λ x. (x.0, x.1.now)) result (swap_at bytes.now) }
+fn take_swap(bytes: &[u8]) -> Option<(Op, &[u8])>
+    ensures { Finds (λ x. (x.0, x.1.now)) result (swap_at bytes.now) }
 {
-    let (slot, rest) = take_slot(bytes)?;
-    let (index, rest) = take_u32(rest)?;
-    Ok((Op::Swap { slot, index }, rest))
+    let Some((slot, rest)) = take_slot(bytes) else {
+        return None;
+    };
+    let Some((index, rest)) = take_u32(rest) else {
+        return None;
+    };
+    Some((Op::Swap { slot, index }, rest))
 }
 
 // What stands behind the number of `enter`.
 #[tactic(auto, unfolding(crate::specs::Reading::enter_at))]
-fn take_enter(bytes: &[u8]) -> Result<(Op, &[u8]), Refusal>
-    ensures { Gives (λ x. (x.0, x.1.now)) result (enter_at bytes.now) }
+fn take_enter(bytes: &[u8]) -> Option<(Op, &[u8])>
+    ensures { Finds (λ x. (x.0, x.1.now)) result (enter_at bytes.now) }
 {
-    let (slot, rest) = take_slot(bytes)?;
-    let (bridge, rest) = take_slot(rest)?;
-    Ok((Op::Enter { slot, bridge }, rest))
+    let Some((slot, rest)) = take_slot(bytes) else {
+        return None;
+    };
+    let Some((bridge, rest)) = take_slot(rest) else {
+        return None;
+    };
+    Some((Op::Enter { slot, bridge }, rest))
 }
 
 // What stands behind the number of `enterf`.
 #[tactic(auto, unfolding(crate::specs::Reading::enter_field_at))]
-fn take_enter_field(bytes: &[u8]) -> Result<(Op, &[u8]), Refusal>
-    ensures { Gives (λ x. (x.0, x.1.now)) result (enter_field_at bytes.now) }
+fn take_enter_field(bytes: &[u8]) -> Option<(Op, &[u8])>
+    ensures { Finds (λ x. (x.0, x.1.now)) result (enter_field_at bytes.now) }
 {
-    let (index, rest) = take_u32(bytes)?;
-    let (bridge, rest) = take_slot(rest)?;
-    Ok((Op::EnterField { index, bridge }, rest))
+    let Some((index, rest)) = take_u32(bytes) else {
+        return None;
+    };
+    let Some((bridge, rest)) = take_slot(rest) else {
+        return None;
+    };
+    Some((Op::EnterField { index, bridge }, rest))
 }
 
 // An instruction, behind its number.
 #[tactic(auto, unfolding(crate::specs::Reading::filled))]
-fn fill(kind: Kind, op: Op, bytes: &[u8]) -> Result<(Op, &[u8]), Refusal>
-    ensures { Gives (λ x. (x.0, x.1.now)) result (filled kind op bytes.now) }
+fn fill(kind: Kind, op: Op, bytes: &[u8]) -> Option<(Op, &[u8])>
+    ensures { Finds (λ x. (x.0, x.1.now)) result (filled kind op bytes.now) }
 {
     match kind {
-        Kind::Nothing => Ok((op, bytes)),
+        Kind::Nothing => Some((op, bytes)),
         Kind::Line => {
-            let (line, rest) = take_u64(bytes)?;
-            Ok((Op::Mark { line }, rest))
+            let Some((line, rest)) = take_u64(bytes) else {
+                return None;
+            };
+            Some((Op::Mark { line }, rest))
         }
         Kind::Int => {
-            let (value, rest) = take_i64(bytes)?;
-            Ok((Op::Int { value }, rest))
+            let Some((value, rest)) = take_i64(bytes) else {
+                return None;
+            };
+            Some((Op::Int { value }, rest))
         }
         Kind::Bool => {
-            let (value, rest) = take_bool(bytes)?;
-            Ok((Op::Bool { value }, rest))
+            let Some((value, rest)) = take_bool(bytes) else {
+                return None;
+            };
+            Some((Op::Bool { value }, rest))
         }
         Kind::Slot => {
-            let (slot, rest) = take_slot(bytes)?;
-            Ok((with_slot(op, slot), rest))
+            let Some((slot, rest)) = take_slot(bytes) else {
+                return None;
+            };
+            Some((with_slot(op, slot), rest))
         }
         Kind::Number => {
-            let (number, rest) = take_u32(bytes)?;
-            Ok((with_number(op, number), rest))
+            let Some((number, rest)) = take_u32(bytes) else {
+                return None;
+            };
+            Some((with_number(op, number), rest))
         }
         Kind::Address => {
-            let (to, rest) = take_u32(bytes)?;
-            Ok((with_address(op, to as usize), rest))
+            let Some((to, rest)) = take_u32(bytes) else {
+                return None;
+            };
+            Some((with_address(op, to as usize), rest))
         }
         Kind::Region => take_region(bytes),
         Kind::SlotField => take_swap(bytes),
@@ -140,11 +168,15 @@ fn fill(kind: Kind, op: Op, bytes: &[u8]) -> Result<(Op, &[u8]), Refusal>
 
 // An instruction.
 #[tactic(auto, unfolding(crate::specs::Reading::op_at))]
-fn take_op(bytes: &[u8]) -> Result<(Op, &[u8]), Refusal>
-    ensures { Gives (λ x. (x.0, x.1.now)) result (op_at bytes.now) }
+fn take_op(bytes: &[u8]) -> Option<(Op, &[u8])>
+    ensures { Finds (λ x. (x.0, x.1.now)) result (op_at bytes.now) }
 {
-    let (number, rest) = take_byte(bytes)?;
-    let op = blank(number)?;
+    let Some((number, rest)) = take_byte(bytes) else {
+        return None;
+    };
+    let Some(op) = blank(number) else {
+        return None;
+    };
     fill(kind_of(op), op, rest)
 }
 
@@ -174,7 +206,9 @@ fn take_map(alloc: Global, mark: bool, bytes: &[u8]) -> Result<(Tys, &[u8]), Ref
 pub fn take_row(alloc: Global, bytes: &[u8]) -> Result<(Op, Tys, &[u8]), Refusal>
     ensures { Gives (λ x. ((x.0, x.1), x.2.now)) result (row_at bytes.now) }
 {
-    let (op, rest) = take_op(bytes)?;
+    let Some((op, rest)) = take_op(bytes) else {
+        return Err(Refusal::NotModule);
+    };
     let (map, rest) = match take_map(alloc, is_mark(op), rest) {
         Ok(pair) => pair,
         Err(e) => return Err(e),

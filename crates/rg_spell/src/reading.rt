@@ -4,7 +4,8 @@
 ghost use Rattle.std.specs.Prelude.{◌≡◌, false, true};
 ghost use Rattle.std.specs.Int.{w32, w64};
 ghost use Rattle.rg_spell.specs.Reading as reading;
-ghost use Rattle.rg_spell.specs.Reading.{Gives, byte_at, number_at, signed_at, slot_at};
+ghost use Rattle.rg_spell.specs.Reading.{Finds, Gives, byte_at, number_at, signed_at};
+ghost use Rattle.rg_spell.specs.Reading.{slot_at};
 ghost use Rattle.rg_spell.specs.Reading.{bool_at, manager_at, cap_at, ref_at, ty_behind};
 ghost use Rattle.rg_spell.specs.Reading.{ty_at, counted_at, many_at, members_at, shape_at};
 ghost use Rattle.rg_spell.specs.Reading.{result_behind, result_at, head_at};
@@ -20,122 +21,144 @@ use std::alloc::Global;
 const MOST_SLOT: u32 = 256;
 
 /// A byte.
-pub(crate) fn take_byte(bytes: &[u8]) -> Result<(u8, &[u8]), Refusal>
-    ensures { Gives (λ x. (x.0, x.1.now)) result (byte_at bytes.now) }
+pub(crate) fn take_byte(bytes: &[u8]) -> Option<(u8, &[u8])>
+    ensures { Finds (λ x. (x.0, x.1.now)) result (byte_at bytes.now) }
 {
     match bytes {
-        [] => Err(Refusal::NotModule),
-        [first, rest @ ..] => Ok((*first, rest)),
+        [] => None,
+        [first, rest @ ..] => Some((*first, rest)),
     }
 }
 
 /// A number of four bytes.
-pub fn take_u32(bytes: &[u8]) -> Result<(u32, &[u8]), Refusal>
-    ensures { Gives (λ x. (x.0, x.1.now)) result (number_at w32 bytes.now) }
+pub fn take_u32(bytes: &[u8]) -> Option<(u32, &[u8])>
+    ensures { Finds (λ x. (x.0, x.1.now)) result (number_at w32 bytes.now) }
 {
     if bytes.len() < 4 {
-        return Err(Refusal::NotModule);
+        return None;
     }
     let (front, rest) = bytes.split_at(4);
     let number = u32::from_be_bytes([front[0], front[1], front[2], front[3]]);
-    Ok((number, rest))
+    Some((number, rest))
 }
 
 /// A number of eight bytes.
-pub(crate) fn take_u64(bytes: &[u8]) -> Result<(u64, &[u8]), Refusal>
-    ensures { Gives (λ x. (x.0, x.1.now)) result (number_at w64 bytes.now) }
+pub(crate) fn take_u64(bytes: &[u8]) -> Option<(u64, &[u8])>
+    ensures { Finds (λ x. (x.0, x.1.now)) result (number_at w64 bytes.now) }
 {
     if bytes.len() < 8 {
-        return Err(Refusal::NotModule);
+        return None;
     }
     let (front, rest) = bytes.split_at(8);
     let number = u64::from_be_bytes([
         front[0], front[1], front[2], front[3], front[4], front[5], front[6], front[7],
     ]);
-    Ok((number, rest))
+    Some((number, rest))
 }
 
 /// A number with a sign.
 #[tactic(auto, unfolding(crate::specs::Reading::signed_at))]
-pub(crate) fn take_i64(bytes: &[u8]) -> Result<(i64, &[u8]), Refusal>
-    ensures { Gives (λ x. (x.0, x.1.now)) result (signed_at bytes.now) }
+pub(crate) fn take_i64(bytes: &[u8]) -> Option<(i64, &[u8])>
+    ensures { Finds (λ x. (x.0, x.1.now)) result (signed_at bytes.now) }
 {
-    let (number, rest) = take_u64(bytes)?;
-    Ok((number.cast_signed(), rest))
+    let Some((number, rest)) = take_u64(bytes) else {
+        return None;
+    };
+    Some((number.cast_signed(), rest))
 }
 
 /// A slot.
 #[tactic(auto, unfolding(crate::specs::Reading::slot_at))]
-pub(crate) fn take_slot(bytes: &[u8]) -> Result<(u32, &[u8]), Refusal>
-    ensures { Gives (λ x. (x.0, x.1.now)) result (slot_at bytes.now) }
+pub(crate) fn take_slot(bytes: &[u8]) -> Option<(u32, &[u8])>
+    ensures { Finds (λ x. (x.0, x.1.now)) result (slot_at bytes.now) }
 {
-    let (slot, rest) = take_u32(bytes)?;
+    let Some((slot, rest)) = take_u32(bytes) else {
+        return None;
+    };
     if slot > MOST_SLOT {
-        return Err(Refusal::NotModule);
+        return None;
     }
-    Ok((slot, rest))
+    Some((slot, rest))
 }
 
 /// A truth value.
 #[tactic(auto, unfolding(crate::specs::Reading::bool_at))]
-pub(crate) fn take_bool(bytes: &[u8]) -> Result<(bool, &[u8]), Refusal>
-    ensures { Gives (λ x. (x.0, x.1.now)) result (bool_at bytes.now) }
+pub(crate) fn take_bool(bytes: &[u8]) -> Option<(bool, &[u8])>
+    ensures { Finds (λ x. (x.0, x.1.now)) result (bool_at bytes.now) }
 {
-    let (number, rest) = take_byte(bytes)?;
-    let value = bool_of(number)?;
-    Ok((value, rest))
+    let Some((number, rest)) = take_byte(bytes) else {
+        return None;
+    };
+    let Some(value) = bool_of(number) else {
+        return None;
+    };
+    Some((value, rest))
 }
 
 /// A manager.
 #[tactic(auto, unfolding(crate::specs::Reading::manager_at))]
-pub fn take_manager(bytes: &[u8]) -> Result<(Manager, &[u8]), Refusal>
-    ensures { Gives (λ x. (x.0, x.1.now)) result (manager_at bytes.now) }
+pub fn take_manager(bytes: &[u8]) -> Option<(Manager, &[u8])>
+    ensures { Finds (λ x. (x.0, x.1.now)) result (manager_at bytes.now) }
 {
-    let (number, rest) = take_byte(bytes)?;
-    let manager = manager_of(number)?;
-    Ok((manager, rest))
+    let Some((number, rest)) = take_byte(bytes) else {
+        return None;
+    };
+    let Some(manager) = manager_of(number) else {
+        return None;
+    };
+    Some((manager, rest))
 }
 
 /// A capability.
 #[tactic(auto, unfolding(crate::specs::Reading::cap_at))]
-fn take_cap(bytes: &[u8]) -> Result<(Cap, &[u8]), Refusal>
-    ensures { Gives (λ x. (x.0, x.1.now)) result (cap_at bytes.now) }
+fn take_cap(bytes: &[u8]) -> Option<(Cap, &[u8])>
+    ensures { Finds (λ x. (x.0, x.1.now)) result (cap_at bytes.now) }
 {
-    let (number, rest) = take_byte(bytes)?;
-    let cap = cap_of(number)?;
-    Ok((cap, rest))
+    let Some((number, rest)) = take_byte(bytes) else {
+        return None;
+    };
+    let Some(cap) = cap_of(number) else {
+        return None;
+    };
+    Some((cap, rest))
 }
 
 // The type of a reference, behind its first byte.
 #[tactic(auto, unfolding(crate::specs::Reading::ref_at))]
-fn take_ref(number: u8, bytes: &[u8]) -> Result<(Ty, &[u8]), Refusal>
-    ensures { Gives (λ x. (x.0, x.1.now)) result (ref_at number bytes.now) }
+fn take_ref(number: u8, bytes: &[u8]) -> Option<(Ty, &[u8])>
+    ensures { Finds (λ x. (x.0, x.1.now)) result (ref_at number bytes.now) }
 {
-    let cap = cap_of(number)?;
-    let (class, rest) = take_u32(bytes)?;
-    Ok((Ty::Ref { cap, class }, rest))
+    let Some(cap) = cap_of(number) else {
+        return None;
+    };
+    let Some((class, rest)) = take_u32(bytes) else {
+        return None;
+    };
+    Some((Ty::Ref { cap, class }, rest))
 }
 
 // A type, behind its first byte.
 #[tactic(auto, unfolding(crate::specs::Reading::ty_behind))]
-fn take_behind(number: u8, bytes: &[u8]) -> Result<(Ty, &[u8]), Refusal>
-    ensures { Gives (λ x. (x.0, x.1.now)) result (ty_behind number bytes.now) }
+fn take_behind(number: u8, bytes: &[u8]) -> Option<(Ty, &[u8])>
+    ensures { Finds (λ x. (x.0, x.1.now)) result (ty_behind number bytes.now) }
 {
     if number == 0 {
-        return Ok((Ty::Int, bytes));
+        return Some((Ty::Int, bytes));
     }
     if number == 1 {
-        return Ok((Ty::Bool, bytes));
+        return Some((Ty::Bool, bytes));
     }
     take_ref(number, bytes)
 }
 
 /// A type.
 #[tactic(auto, unfolding(crate::specs::Reading::ty_at))]
-pub(crate) fn take_type(bytes: &[u8]) -> Result<(Ty, &[u8]), Refusal>
-    ensures { Gives (λ x. (x.0, x.1.now)) result (ty_at bytes.now) }
+pub(crate) fn take_type(bytes: &[u8]) -> Option<(Ty, &[u8])>
+    ensures { Finds (λ x. (x.0, x.1.now)) result (ty_at bytes.now) }
 {
-    let (number, rest) = take_byte(bytes)?;
+    let Some((number, rest)) = take_byte(bytes) else {
+        return None;
+    };
     take_behind(number, rest)
 }
 
@@ -146,7 +169,9 @@ fn take_many(alloc: Global, count: u32, bytes: &[u8]) -> Result<(Tys, &[u8]), Re
     let mut types = Tys::new(alloc);
     let mut rest = bytes;
     for _ in 0..count {
-        let (ty, after) = take_type(rest)?;
+        let Some((ty, after)) = take_type(rest) else {
+            return Err(Refusal::NotModule);
+        };
         let Ok(()) = types.push(ty) else {
             return Err(Refusal::Memory);
         };
@@ -160,7 +185,9 @@ fn take_many(alloc: Global, count: u32, bytes: &[u8]) -> Result<(Tys, &[u8]), Re
 pub(crate) fn take_types(alloc: Global, bytes: &[u8]) -> Result<(Tys, &[u8]), Refusal>
     ensures { Gives (λ x. (x.0, x.1.now)) result (counted_at ty_at bytes.now) }
 {
-    let (count, rest) = take_u32(bytes)?;
+    let Some((count, rest)) = take_u32(bytes) else {
+        return Err(Refusal::NotModule);
+    };
     take_many(alloc, count, rest)
 }
 
@@ -169,7 +196,9 @@ pub(crate) fn take_types(alloc: Global, bytes: &[u8]) -> Result<(Tys, &[u8]), Re
 fn take_array(alloc: Global, is_tmp: bool, bytes: &[u8]) -> Result<(Shape, &[u8]), Refusal>
     ensures { Gives (λ x. (x.0, x.1.now)) result (members_at is_tmp true bytes.now) }
 {
-    let (element, rest) = take_type(bytes)?;
+    let Some((element, rest)) = take_type(bytes) else {
+        return Err(Refusal::NotModule);
+    };
     let shape = Shape {
         is_tmp,
         fields: Tys::new(alloc),
@@ -200,8 +229,12 @@ fn take_fields(alloc: Global, is_tmp: bool, bytes: &[u8]) -> Result<(Shape, &[u8
 fn take_shape(alloc: Global, bytes: &[u8]) -> Result<(Shape, &[u8]), Refusal>
     ensures { Gives (λ x. (x.0, x.1.now)) result (shape_at bytes.now) }
 {
-    let (is_tmp, rest) = take_bool(bytes)?;
-    let (is_array, rest) = take_bool(rest)?;
+    let Some((is_tmp, rest)) = take_bool(bytes) else {
+        return Err(Refusal::NotModule);
+    };
+    let Some((is_array, rest)) = take_bool(rest) else {
+        return Err(Refusal::NotModule);
+    };
     if is_array {
         return take_array(alloc, is_tmp, rest);
     }
@@ -232,28 +265,34 @@ fn take_many_shapes(alloc: Global, count: u32, bytes: &[u8]) -> Result<(Vec<Shap
 pub fn take_shapes(alloc: Global, bytes: &[u8]) -> Result<(Vec<Shape>, &[u8]), Refusal>
     ensures { Gives (λ x. (x.0.items, x.1.now)) result (counted_at shape_at bytes.now) }
 {
-    let (count, rest) = take_u32(bytes)?;
+    let Some((count, rest)) = take_u32(bytes) else {
+        return Err(Refusal::NotModule);
+    };
     take_many_shapes(alloc, count, rest)
 }
 
 // The result of a method, behind the byte that says whether there is one.
 #[tactic(auto, unfolding(crate::specs::Reading::result_behind))]
-fn take_result_behind(has: bool, bytes: &[u8]) -> Result<(Option<Ty>, &[u8]), Refusal>
-    ensures { Gives (λ x. (x.0, x.1.now)) result (result_behind has bytes.now) }
+fn take_result_behind(has: bool, bytes: &[u8]) -> Option<(Option<Ty>, &[u8])>
+    ensures { Finds (λ x. (x.0, x.1.now)) result (result_behind has bytes.now) }
 {
     if !has {
-        return Ok((None, bytes));
+        return Some((None, bytes));
     }
-    let (ty, rest) = take_type(bytes)?;
-    Ok((Some(ty), rest))
+    let Some((ty, rest)) = take_type(bytes) else {
+        return None;
+    };
+    Some((Some(ty), rest))
 }
 
 // The result of a method.
 #[tactic(auto, unfolding(crate::specs::Reading::result_at))]
-fn take_result(bytes: &[u8]) -> Result<(Option<Ty>, &[u8]), Refusal>
-    ensures { Gives (λ x. (x.0, x.1.now)) result (result_at bytes.now) }
+fn take_result(bytes: &[u8]) -> Option<(Option<Ty>, &[u8])>
+    ensures { Finds (λ x. (x.0, x.1.now)) result (result_at bytes.now) }
 {
-    let (has, rest) = take_bool(bytes)?;
+    let Some((has, rest)) = take_bool(bytes) else {
+        return None;
+    };
     take_result_behind(has, rest)
 }
 
@@ -262,13 +301,19 @@ fn take_result(bytes: &[u8]) -> Result<(Option<Ty>, &[u8]), Refusal>
 fn take_head(alloc: Global, bytes: &[u8]) -> Result<(Head, &[u8]), Refusal>
     ensures { Gives (λ x. (x.0, x.1.now)) result (head_at bytes.now) }
 {
-    let (class, rest) = take_u32(bytes)?;
-    let (cap, rest) = take_cap(rest)?;
+    let Some((class, rest)) = take_u32(bytes) else {
+        return Err(Refusal::NotModule);
+    };
+    let Some((cap, rest)) = take_cap(rest) else {
+        return Err(Refusal::NotModule);
+    };
     let (params, rest) = match take_types(alloc, rest) {
         Ok(pair) => pair,
         Err(e) => return Err(e),
     };
-    let (result, rest) = take_result(rest)?;
+    let Some((result, rest)) = take_result(rest) else {
+        return Err(Refusal::NotModule);
+    };
     let head = Head {
         class,
         cap,
@@ -302,6 +347,8 @@ fn take_many_heads(alloc: Global, count: u32, bytes: &[u8]) -> Result<(Vec<Head>
 pub fn take_heads(alloc: Global, bytes: &[u8]) -> Result<(Vec<Head>, &[u8]), Refusal>
     ensures { Gives (λ x. (x.0.items, x.1.now)) result (counted_at head_at bytes.now) }
 {
-    let (count, rest) = take_u32(bytes)?;
+    let Some((count, rest)) = take_u32(bytes) else {
+        return Err(Refusal::NotModule);
+    };
     take_many_heads(alloc, count, rest)
 }
