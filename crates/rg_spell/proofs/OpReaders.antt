@@ -1,5 +1,5 @@
 -- The two laws of instructions and of their maps.
-use Rattle.std.proofs.Common.{◌≡◌, ℕ, ℤ, zero, suc, ◌+◌, ◌^◌, ◌<◌, ◌≤◌, Bool, true, false, List, [], ◌∷◌, ◌++◌, Option, Some, slice_get, refl}
+use Rattle.std.proofs.Common.{◌≡◌, ℕ, ℤ, zero, suc, ◌+◌, ◌^◌, ◌<◌, ◌≤◌, Bool, true, false, List, [], ◌∷◌, ◌++◌, map, Option, Some, slice_get, refl}
 use Rattle.std.proofs.Common.{sym, ap, subst, ◌∙◌, append_assoc, arith}
 use Rattle.std.specs.Int.{w32, w64}
 use Rattle.std.specs.List.{flat_map, AllByRecursion}
@@ -23,172 +23,23 @@ use Rattle.rg_spell.proofs.TypeReaders.{reads_bool, reads_manager, reads_tys}
 
 -- The numbers of the table
 
-abbrev NumberedFrom : ℕ → List Op → Type 0
-NumberedFrom k [] = Unit {0}
-NumberedFrom k (o ∷ os) = (op_number o ≡ k) × NumberedFrom (suc k) os
+abbrev numbers : (from : ℕ) → List Op → List ℕ
+numbers k [] = []
+numbers k (o ∷ os) = k ∷ numbers (suc k) os
 
-blanks_numbered : NumberedFrom 0 BLANKS
-blanks_numbered = (
-  refl,
-  (
-    refl,
-    (
-      refl,
-      (
-        refl,
-        (
-          refl,
-          (
-            refl,
-            (
-              refl,
-              (
-                refl,
-                (
-                  refl,
-                  (
-                    refl,
-                    (
-                      refl,
-                      (
-                        refl,
-                        (
-                          refl,
-                          (
-                            refl,
-                            (
-                              refl,
-                              (
-                                refl,
-                                (
-                                  refl,
-                                  (
-                                    refl,
-                                    (
-                                      refl,
-                                      (
-                                        refl,
-                                        (
-                                          refl,
-                                          (
-                                            refl,
-                                            (
-                                              refl,
-                                              (
-                                                refl,
-                                                (
-                                                  refl,
-                                                  (
-                                                    refl,
-                                                    (
-                                                      refl,
-                                                      (
-                                                        refl,
-                                                        (
-                                                          refl,
-                                                          (
-                                                            refl,
-                                                            (
-                                                              refl,
-                                                              (
-                                                                refl,
-                                                                (
-                                                                  refl,
-                                                                  (
-                                                                    refl,
-                                                                    (
-                                                                      refl,
-                                                                      (
-                                                                        refl,
-                                                                        (
-                                                                          refl,
-                                                                          (
-                                                                            refl,
-                                                                            (
-                                                                              refl,
-                                                                              (
-                                                                                refl,
-                                                                                (
-                                                                                  refl,
-                                                                                  (
-                                                                                    refl,
-                                                                                    (
-                                                                                      refl,
-                                                                                      (
-                                                                                        refl,
-                                                                                        (
-                                                                                          refl,
-                                                                                          (
-                                                                                            refl,
-                                                                                            (
-                                                                                              refl,
-                                                                                              (
-                                                                                                refl,
-                                                                                                (
-                                                                                                  refl,
-                                                                                                  (
-                                                                                                    refl,
-                                                                                                    (refl, tt),
-                                                                                                  ),
-                                                                                                ),
-                                                                                              ),
-                                                                                            ),
-                                                                                          ),
-                                                                                        ),
-                                                                                      ),
-                                                                                    ),
-                                                                                  ),
-                                                                                ),
-                                                                              ),
-                                                                            ),
-                                                                          ),
-                                                                        ),
-                                                                      ),
-                                                                    ),
-                                                                  ),
-                                                                ),
-                                                              ),
-                                                            ),
-                                                          ),
-                                                        ),
-                                                      ),
-                                                    ),
-                                                  ),
-                                                ),
-                                              ),
-                                            ),
-                                          ),
-                                        ),
-                                      ),
-                                    ),
-                                  ),
-                                ),
-                              ),
-                            ),
-                          ),
-                        ),
-                      ),
-                    ),
-                  ),
-                ),
-              ),
-            ),
-          ),
-        ),
-      ),
-    ),
-  ),
-)
+blanks_numbered : map op_number BLANKS ≡ numbers 0 BLANKS
+blanks_numbered = refl
 
-numbered : (k : ℕ) (os : List Op) → NumberedFrom k os → (n : ℕ) (o : Op) → slice_get os n ≡ Some o → op_number o ≡ k + n
+numbered : (k : ℕ) (os : List Op) → map op_number os ≡ numbers k os → (n : ℕ) (o : Op) → slice_get os n ≡ Some o → op_number o ≡ k + n
 numbered k [] all n o e = absurd cc
 numbered k (p ∷ os) all zero o e =
-    let same : p ≡ o = some_is p o e in
+    let first : op_number p ≡ k = cc in
     let zeroth : k ≡ k + 0 = omega arith in
-    ap op_number (sym same) ∙ all.0 ∙ zeroth
+    ap op_number (sym (some_is p o e)) ∙ first ∙ zeroth
 numbered k (p ∷ os) all (suc n) o e =
+    let others : map op_number os ≡ numbers (suc k) os = cc in
     let next : suc k + n ≡ k + suc n = omega arith in
-    numbered (suc k) os all.1 n o e ∙ next
+    numbered (suc k) os others n o e ∙ next
 
 blank_number : (n : ℕ) (o : Op) → slice_get BLANKS n ≡ Some o → op_number o ≡ n
 blank_number n o e = let zeroth : 0 + n ≡ n = omega arith in numbered 0 BLANKS blanks_numbered n o e ∙ zeroth

@@ -166,10 +166,10 @@ kind_of (i.Clear s) = kinds.Slot
 kind_of (i.Store s) = kinds.Slot
 kind_of (i.Own s) = kinds.Slot
 kind_of (i.Field k) = kinds.Number
-kind_of (i.Jump t) = kinds.Address
-kind_of (i.JumpFalse t) = kinds.Address
-kind_of (i.And t) = kinds.Address
-kind_of (i.Or t) = kinds.Address
+kind_of (i.Jump t) = kinds.Number
+kind_of (i.JumpFalse t) = kinds.Number
+kind_of (i.And t) = kinds.Number
+kind_of (i.Or t) = kinds.Number
 kind_of (i.New c) = kinds.Number
 kind_of (i.NewTmp c) = kinds.Number
 kind_of (i.NewIso c m) = kinds.Region
@@ -196,22 +196,18 @@ with_slot (i.Leave s) n = i.Leave n
 with_slot (i.End s) n = i.End n
 with_slot o n = o
 
--- an instruction with another number of a field, a class or a method
+-- an instruction with another number of a field, a class or a method, or with another address
 abbrev pub with_number : Op → ℕ → Op
 with_number (i.Field k) n = i.Field n
+with_number (i.Jump t) n = i.Jump n
+with_number (i.JumpFalse t) n = i.JumpFalse n
+with_number (i.And t) n = i.And n
+with_number (i.Or t) n = i.Or n
 with_number (i.New c) n = i.New n
 with_number (i.NewTmp c) n = i.NewTmp n
 with_number (i.Put k) n = i.Put n
 with_number (i.Call m) n = i.Call n
 with_number o n = o
-
--- an instruction with another address
-abbrev pub with_address : Op → ℕ → Op
-with_address (i.Jump t) n = i.Jump n
-with_address (i.JumpFalse t) n = i.JumpFalse n
-with_address (i.And t) n = i.And n
-with_address (i.Or t) n = i.Or n
-with_address o n = o
 
 unfoldable pub region_at : List ℕ → Option (Op × List ℕ)
 region_at bytes = do
@@ -255,9 +251,6 @@ filled kinds.Slot o bytes = do
 filled kinds.Number o bytes = do
   n ← number_at w32 bytes
   Some (with_number o n.0, n.1)
-filled kinds.Address o bytes = do
-  t ← number_at w32 bytes
-  Some (with_address o t.0, t.1)
 filled kinds.Region o bytes = region_at bytes
 filled kinds.SlotField o bytes = swap_at bytes
 filled kinds.TwoSlots o bytes = enter_at bytes

@@ -82,10 +82,8 @@ pub(crate) enum Kind {
     Bool,
     /// a slot
     Slot,
-    /// a field, a class or a method
+    /// a field, a class, a method or an address
     Number,
-    /// an address
-    Address,
     /// a class and a manager
     Region,
     /// a slot and a field
@@ -122,7 +120,7 @@ pub(crate) fn kind_of(op: Op) -> Kind
         Op::Freeze { .. } | Op::Merge { .. } | Op::Leave { .. } | Op::End { .. } => Kind::Slot,
         Op::Field { .. } | Op::New { .. } | Op::NewTmp { .. } => Kind::Number,
         Op::Put { .. } | Op::Call { .. } => Kind::Number,
-        Op::Jump { .. } | Op::JumpFalse { .. } | Op::And { .. } | Op::Or { .. } => Kind::Address,
+        Op::Jump { .. } | Op::JumpFalse { .. } | Op::And { .. } | Op::Or { .. } => Kind::Number,
         Op::NewIso { .. } => Kind::Region,
         Op::Swap { .. } => Kind::SlotField,
         Op::Enter { .. } => Kind::TwoSlots,

@@ -33,29 +33,21 @@ fn with_slot(op: Op, slot: u32) -> Op
     }
 }
 
-// An instruction with another number of a field, a class or a method.
+// An instruction with another number of a field, a class or a method, or with another address.
 fn with_number(op: Op, number: u32) -> Op
     ensures { result ≡ reading.with_number op number }
 {
+    let to = number as usize;
     match op {
         Op::Field { .. } => Op::Field { index: number },
-        Op::New { .. } => Op::New { class: number },
-        Op::NewTmp { .. } => Op::NewTmp { class: number },
-        Op::Put { .. } => Op::Put { index: number },
-        Op::Call { .. } => Op::Call { method: number },
-        other => other,
-    }
-}
-
-// An instruction with another address.
-fn with_address(op: Op, to: usize) -> Op
-    ensures { result ≡ reading.with_address op to }
-{
-    match op {
         Op::Jump { .. } => Op::Jump { to },
         Op::JumpFalse { .. } => Op::JumpFalse { to },
         Op::And { .. } => Op::And { to },
         Op::Or { .. } => Op::Or { to },
+        Op::New { .. } => Op::New { class: number },
+        Op::NewTmp { .. } => Op::NewTmp { class: number },
+        Op::Put { .. } => Op::Put { index: number },
+        Op::Call { .. } => Op::Call { method: number },
         other => other,
     }
 }
@@ -152,12 +144,6 @@ fn fill(kind: Kind, op: Op, bytes: &[u8]) -> Option<(Op, &[u8])>
                 return None;
             };
             Some((with_number(op, number), rest))
-        }
-        Kind::Address => {
-            let Some((to, rest)) = take_u32(bytes) else {
-                return None;
-            };
-            Some((with_address(op, to as usize), rest))
         }
         Kind::Region => take_region(bytes),
         Kind::SlotField => take_swap(bytes),

@@ -152,30 +152,32 @@ fn write_operands(op: Op, out: &mut ByteList) -> Result<(), Memory>
         Op::Mark { line } => write_u64(line, out),
         Op::Int { value } => write_i64(value, out),
         Op::Bool { value } => out.push(bool_number(value)),
-        Op::Load { slot } => write_u32(slot, out),
-        Op::Clear { slot } => write_u32(slot, out),
-        Op::Store { slot } => write_u32(slot, out),
-        Op::Own { slot } => write_u32(slot, out),
-        Op::Field { index } => write_u32(index, out),
-        Op::Jump { to } => write_u32(to as u32, out),
-        Op::JumpFalse { to } => write_u32(to as u32, out),
-        Op::And { to } => write_u32(to as u32, out),
-        Op::Or { to } => write_u32(to as u32, out),
-        Op::New { class } => write_u32(class, out),
-        Op::NewTmp { class } => write_u32(class, out),
+        Op::Load { slot: n }
+        | Op::Clear { slot: n }
+        | Op::Store { slot: n }
+        | Op::Own { slot: n }
+        | Op::Freeze { slot: n }
+        | Op::Merge { slot: n }
+        | Op::Leave { slot: n }
+        | Op::End { slot: n }
+        | Op::Field { index: n }
+        | Op::Put { index: n }
+        | Op::New { class: n }
+        | Op::NewTmp { class: n }
+        | Op::Call { method: n } => write_u32(n, out),
+        Op::Jump { to } | Op::JumpFalse { to } | Op::And { to } | Op::Or { to } => {
+            write_u32(to as u32, out)
+        }
         Op::NewIso { class, manager } => {
             write_u32(class, out)?;
             write_manager(manager, out)
         }
-        Op::Put { index } => write_u32(index, out),
-        Op::Swap { slot, index } => write_two(slot, index, out),
-        Op::Freeze { slot } => write_u32(slot, out),
-        Op::Merge { slot } => write_u32(slot, out),
-        Op::Call { method } => write_u32(method, out),
-        Op::Enter { slot, bridge } => write_two(slot, bridge, out),
-        Op::EnterField { index, bridge } => write_two(index, bridge, out),
-        Op::Leave { slot } => write_u32(slot, out),
-        Op::End { slot } => write_u32(slot, out),
+        Op::Swap { slot: n, index: k }
+        | Op::Enter { slot: n, bridge: k }
+        | Op::EnterField {
+            index: n,
+            bridge: k,
+        } => write_two(n, k, out),
         Op::Nil | Op::IsNil | Op::Neg | Op::Not | Op::Check | Op::Pace => Ok(()),
         Op::Add | Op::Sub | Op::Mul | Op::Div | Op::Rem => Ok(()),
         Op::Eq | Op::Ne | Op::Lt | Op::Le | Op::Gt | Op::Ge => Ok(()),
