@@ -1,7 +1,7 @@
 //! Why bytes aren't read (docs/architecture.md, "Modules").
 
 /// Why there is no module.
-#[derive(Clone, Copy, Debug, PartialEq, Eq)]
+#[derive(Clone, Copy, Debug)]
 pub enum Refusal {
     /// the bytes spell no module
     NotModule,
