@@ -1,6 +1,6 @@
 -- Bodies along the instructions, and the entries of methods.
-use Rattle.std.proofs.Common.{◌≡◌, ℕ, zero, suc, ◌+◌, ◌≤◌, ◌<◌, max, Bool, true, false, cond, List, [], ◌∷◌, ◌++◌, length, map, drop, slice_get, Some}
-use Rattle.std.proofs.Common.{None, refl, sym, ap, subst, ◌∙◌, append_assoc, arith}
+use Rattle.std.proofs.Common.{◌≡◌, ℕ, suc, ◌+◌, ◌≤◌, ◌<◌, max, Bool, true, false, cond, List, [], ◌∷◌, ◌++◌, length, map, drop, slice_get, Some}
+use Rattle.std.proofs.Common.{refl, sym, ap, subst, ◌∙◌, append_assoc, arith}
 use Rattle.std.proofs.lemmas.List.{append-nil, drop-drop, drop_all, length-drop}
 use Rattle.rg_base.proofs.Callers.Lists.{drop-here}
 use Rattle.rg_code.specs.declared.op.Op.{Op}
@@ -8,8 +8,8 @@ use Rattle.rg_code.specs.declared.code.Entry.{Entry}
 use Rattle.rg_base.specs.declared.value.Word.{Word}
 use Rattle.rg_code.specs.Code.{Code, empty, with_entry}
 use Rattle.rg_code.specs.Lowering.{above, slots_of}
-use Rattle.rg_module.specs.declared.rows.Shape.{Shape}
-use Rattle.rg_module.specs.declared.rows.Head.{Head}
+use Rattle.rg_spell.specs.declared.rows.Shape.{Shape}
+use Rattle.rg_spell.specs.declared.rows.Head.{Head}
 use Rattle.rg_module.specs.Follows.{ends_body, body, opening, entry, entries, code_for}
 
 -- a body is no longer than what it stands in front of

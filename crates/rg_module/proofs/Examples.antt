@@ -1,13 +1,13 @@
 -- Modules and their bytes, computed.
-use Rattle.std.proofs.Common.{◌≡◌, ℕ, pos, negsuc, true, false, List, [], ◌∷◌, length, Option, Some, None, slice_get, refl}
+use Rattle.std.proofs.Common.{◌≡◌, ℕ, pos, negsuc, true, false, List, [], ◌∷◌, length, Some, None, slice_get, refl}
 use Rattle.rg_base.specs.declared.words.Cap.TheVariants as cap
 use Rattle.rg_base.specs.declared.words.Manager.TheVariants as managers
 use Rattle.rg_base.specs.declared.ty.Ty.TheVariants as ty
 use Rattle.rg_base.specs.declared.value.Word.TheVariants as word
 use Rattle.rg_code.specs.declared.op.Op.{Op}
 use Rattle.rg_code.specs.declared.op.Op.TheVariants as i
-use Rattle.rg_module.specs.declared.rows.Shape.{Shape}
-use Rattle.rg_module.specs.declared.rows.Head.{Head}
+use Rattle.rg_spell.specs.declared.rows.Shape.{Shape}
+use Rattle.rg_spell.specs.declared.rows.Head.{Head}
 use Rattle.rg_module.specs.Parts.{Parts}
 use Rattle.rg_module.specs.Follows.{code_for}
 use Rattle.rg_module.specs.Spelling.{spelling}

@@ -7,8 +7,8 @@ use Rattle.rg_base.specs.declared.ty.Ty.{Ty}
 use Rattle.rg_base.specs.declared.words.Manager.{Manager}
 use Rattle.rg_code.specs.declared.op.Op.{Op}
 use Rattle.rg_code.specs.Code.{Code}
-use Rattle.rg_module.specs.declared.rows.Shape.{Shape}
-use Rattle.rg_module.specs.declared.rows.Head.{Head}
+use Rattle.rg_spell.specs.declared.rows.Shape.{Shape}
+use Rattle.rg_spell.specs.declared.rows.Head.{Head}
 use Rattle.rg_module.specs.Parts.{Parts, filled_up, parts_of}
 use Rattle.rg_module.specs.Follows.{code_for}
 use Rattle.rg_module.specs.Inner.Reading.{module_of}

@@ -1,9 +1,5 @@
--- Lemmas of reading and writing, and modules with their bytes, computed.
-mod Readers
-mod TypeReaders
-mod OpReaders
+-- Lemmas of modules and their bytes, and modules with their bytes, computed.
 mod Spelt
-mod Loops
 mod Filling
 mod Bodies
 mod SideBySide

@@ -1,6 +1,6 @@
 -- Instructions beside their maps.
-use Rattle.std.proofs.Common.{◌≡◌, ℕ, zero, suc, ◌+◌, ◌<◌, ◌≤◌, List, [], ◌∷◌, ◌++◌, length, map, zip, take, get_or, slice_get}
-use Rattle.std.proofs.Common.{Option, Some, None, refl, sym, ap, subst, ◌∙◌, min, append_assoc, arith}
+use Rattle.std.proofs.Common.{◌≡◌, ℕ, zero, suc, ◌+◌, ◌≤◌, List, [], ◌∷◌, ◌++◌, length, zip, take, slice_get}
+use Rattle.std.proofs.Common.{Some, refl, sym, ap, subst, ◌∙◌, min, append_assoc, arith}
 use Rattle.std.specs.List.{flat_map, AllByRecursion}
 use Rattle.std.proofs.lemmas.List.{take_more, take_all, append-nil, length-append}
 use Rattle.std.proofs.lemmas.Slice.Zip.{length-zip}
@@ -11,7 +11,8 @@ use Rattle.rg_code.specs.declared.op.Op.{Op}
 use Rattle.rg_code.specs.Code.{Code, empty, with_op}
 use Rattle.rg_module.specs.Parts.{Parts}
 use Rattle.rg_module.specs.Inner.Rows.{IsBare}
-use Rattle.rg_module.specs.Spelling.{four, counted, row_bytes, FitsRow, rows_of, IsSpelt}
+use Rattle.rg_spell.specs.Spelling.{four, counted, row_bytes, FitsRow}
+use Rattle.rg_module.specs.Spelling.{rows_of, IsSpelt}
 
 -- an element of each list, side by side
 pub zip-get : {A B : Type 0} (xs : List A) (ys : List B) (n : ℕ) (x : A) (y : B) → slice_get xs n ≡ Some x → slice_get ys n ≡ Some y

@@ -1,27 +1,30 @@
 -- The two laws of a module's bytes, and what reading a module answers.
-use Rattle.std.proofs.Common.{◌≡◌, ℕ, suc, ◌+◌, Bool, true, false, cond, eqb, List, [], ◌∷◌, ◌++◌, length, map, zip, codes, Option, Some, None}
-use Rattle.std.proofs.Common.{Result, Ok, Err, refl, sym, ap, subst, ◌∙◌, append_assoc}
+use Rattle.std.proofs.Common.{◌≡◌, ℕ, suc, Bool, true, false, cond, eqb, List, [], ◌∷◌, ◌++◌, length, map, zip, codes, Option, Some, None}
+use Rattle.std.proofs.Common.{Result, Ok, Err, refl, sym, ap, subst, ◌∙◌}
 use Rattle.std.proofs.lemmas.Bool.{eqb-true}
-use Rattle.std.proofs.lemmas.List.{append-nil, nil_from_length, length-map}
+use Rattle.std.proofs.lemmas.List.{append-nil, nil_from_length}
 use Rattle.std.proofs.lemmas.Slice.Zip.{firsts-zip, seconds-zip}
 use Rattle.rg_base.specs.declared.words.Manager.{Manager}
 use Rattle.rg_base.specs.declared.ty.Ty.{Ty}
 use Rattle.rg_code.specs.declared.op.Op.{Op}
 use Rattle.rg_code.specs.Code.{Code}
-use Rattle.rg_module.specs.declared.refusal.Refusal.{Refusal}
-use Rattle.rg_module.specs.declared.refusal.Refusal.TheVariants as refusal
-use Rattle.rg_module.specs.declared.rows.Shape.{Shape}
-use Rattle.rg_module.specs.declared.rows.Head.{Head}
+use Rattle.rg_spell.specs.declared.refusal.Refusal.{Refusal}
+use Rattle.rg_spell.specs.declared.refusal.Refusal.TheVariants as refusal
+use Rattle.rg_spell.specs.declared.rows.Shape.{Shape}
+use Rattle.rg_spell.specs.declared.rows.Head.{Head}
 use Rattle.rg_module.specs.Parts.{Parts}
 use Rattle.rg_module.specs.Follows.{code_for}
-use Rattle.rg_module.specs.Spelling.{manager_number, counted, Counted, shape_bytes, FitsShape, head_bytes, FitsHead, row_bytes, FitsRow, rows_of}
+use Rattle.rg_spell.specs.Spelling.{manager_number, counted, Counted, shape_bytes, FitsShape, head_bytes, FitsHead, row_bytes, FitsRow}
+use Rattle.rg_module.specs.Spelling.{rows_of}
 use Rattle.rg_module.specs.Spelling.{spelling, IsSpelt, Spells}
-use Rattle.rg_module.specs.Laws.{Refuses, Decodes, IsModule, SpellsOneModule}
-use Rattle.rg_module.specs.Inner.Reading.{◌>>=◌, Gives, counted_at, manager_at, shape_at, head_at, row_at, magic_at, module_of, rows_behind}
+use Rattle.rg_module.specs.Laws.{Decodes, IsModule, SpellsOneModule}
+use Rattle.rg_spell.specs.Reading.{◌>>=◌, Gives, counted_at, manager_at, shape_at, head_at, row_at}
+use Rattle.rg_module.specs.Inner.Reading.{magic_at, module_of, rows_behind}
 use Rattle.rg_module.specs.Inner.Reading.{heads_behind, shapes_behind, manager_behind, module_at}
-use Rattle.rg_module.proofs.Readers.{IsBytes, IsBytes-rest, bind_some, some_is, Takes, Takes-then, Reads, reads_counted}
-use Rattle.rg_module.proofs.TypeReaders.{reads_manager, reads_shape, reads_head}
-use Rattle.rg_module.proofs.OpReaders.{reads_row}
+use Rattle.rg_spell.specs.Laws.{IsBytes, Takes, Reads}
+use Rattle.rg_spell.proofs.Readers.{bind_some, some_is, reads_counted}
+use Rattle.rg_spell.proofs.TypeReaders.{reads_manager, reads_shape, reads_head}
+use Rattle.rg_spell.proofs.OpReaders.{reads_row}
 
 reads_shapes : Reads (counted_at shape_at) (counted shape_bytes) (Counted FitsShape)
 reads_shapes = reads_counted reads_shape

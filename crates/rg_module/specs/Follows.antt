@@ -10,8 +10,8 @@ use Rattle.rg_code.specs.declared.op.Op.TheVariants as i
 use Rattle.rg_code.specs.declared.code.Entry.{Entry}
 use Rattle.rg_code.specs.Code.{Code}
 use Rattle.rg_code.specs.Lowering.{slots_of}
-use Rattle.rg_module.specs.declared.rows.Shape.{Shape}
-use Rattle.rg_module.specs.declared.rows.Head.{Head}
+use Rattle.rg_spell.specs.declared.rows.Shape.{Shape}
+use Rattle.rg_spell.specs.declared.rows.Head.{Head}
 
 -- the word with which a field of a type starts
 abbrev pub start : Ty → Word

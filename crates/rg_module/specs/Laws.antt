@@ -1,7 +1,7 @@
 -- What reading a module answers, and the law of the spelling (docs/architecture.md, "Modules").
 use Rattle.std.specs.Prelude.{◌≡◌, List, ℕ, Result, Ok, Err}
-use Rattle.rg_module.specs.declared.refusal.Refusal.{Refusal}
-use Rattle.rg_module.specs.declared.refusal.Refusal.TheVariants as refusal
+use Rattle.rg_spell.specs.declared.refusal.Refusal.{Refusal}
+use Rattle.rg_spell.specs.declared.refusal.Refusal.TheVariants as refusal
 use Rattle.rg_module.specs.Parts.{Parts}
 use Rattle.rg_module.specs.Spelling.{Spells}
 

@@ -3,8 +3,8 @@ use Rattle.std.specs.Prelude.{ℕ, ◌-◌, List, [], ◌∷◌, ◌++◌, lengt
 use Rattle.rg_base.specs.declared.ty.Ty.{Ty}
 use Rattle.rg_base.specs.declared.words.Manager.{Manager}
 use Rattle.rg_code.specs.Code.{Code}
-use Rattle.rg_module.specs.declared.rows.Shape.{Shape}
-use Rattle.rg_module.specs.declared.rows.Head.{Head}
+use Rattle.rg_spell.specs.declared.rows.Shape.{Shape}
+use Rattle.rg_spell.specs.declared.rows.Head.{Head}
 
 -- Main's manager, the classes, the heads of the methods, the code, and for each instruction its map: at a `mark` the types of the
 -- variables there, elsewhere nothing.

@@ -7,9 +7,9 @@ ghost use Rattle.rg_code.specs.Lowering as lowering;
 ghost use Rattle.rg_module.specs.Follows as follows;
 ghost use Rattle.rg_module.specs.Follows.{opening, body, entries};
 
-use crate::rows::{Head, Shape};
 use rg_base::{Memory, Ty, Word};
 use rg_code::{CodeList, Entry, Op};
+use rg_spell::{Head, Shape};
 use std::alloc::Global;
 
 // The word with which a field of a type starts.

@@ -4,24 +4,17 @@
 //! `encode` gives exactly the bytes of `spelling` in `specs/Spelling`, or no memory was found; it
 //! wants a module that some bytes spell (`IsSpelt`). `decode` gives the module that the bytes spell
 //! (clause `spelt`), and where they spell one, no refusal but `Memory` (clause `again`). The law
-//! `at_most_one_module`: bytes spell at most one module. All else in the crate is private.
+//! `at_most_one_module`: bytes spell at most one module. The bytes of classes, heads and
+//! instructions are those of `rg_spell`. All else in the crate is private.
 #![tactic(auto)]
 
 mod follows;
 mod laws;
-mod numbers;
-mod ops;
 mod parts;
-mod reading;
-mod refusal;
 mod rows;
-mod tys;
 mod whole;
-mod writing;
 
 pub use laws::at_most_one_module;
 pub use parts::Module;
-pub use refusal::Refusal;
-pub use rows::{Head, Shape};
-pub use tys::Tys;
+pub use rg_spell::{Head, Refusal, Shape, Tys};
 pub use whole::{decode, encode};

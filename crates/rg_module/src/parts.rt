@@ -6,10 +6,9 @@ ghost use Rattle.rg_code.specs.Shapes.{IsMark};
 ghost use Rattle.rg_module.specs.Parts.{parts_of, with_code, with_class, with_head};
 ghost use Rattle.rg_module.specs.Inner.Rows.{IsPadded};
 
-use crate::rows::{Head, Shape};
-use crate::tys::Tys;
 use rg_base::{Manager, Memory, Ty};
 use rg_code::{CodeList, Op};
+use rg_spell::{Head, Shape, Tys};
 use std::alloc::Global;
 use std::marker::Model;
 

@@ -4,19 +4,20 @@ ghost use Rattle.std.specs.Prelude.{◌≡◌, Some, IfOk};
 ghost use Rattle.rg_module.specs.Parts.{Parts};
 ghost use Rattle.rg_module.specs.Spelling.{spelling, IsSpelt, Spells};
 ghost use Rattle.rg_module.specs.Laws.{Decodes, IsModule};
-ghost use Rattle.rg_module.specs.Inner.Reading.{Gives, magic_at, module_of, rows_behind};
+ghost use Rattle.rg_spell.specs.Reading.{Finds, Gives};
+ghost use Rattle.rg_module.specs.Inner.Reading.{magic_at, module_of, rows_behind};
 ghost use Rattle.rg_module.specs.Inner.Reading.{heads_behind, shapes_behind};
 ghost use Rattle.rg_module.specs.Inner.Reading.{manager_behind, module_at};
 ghost use Rattle.rg_module.specs.Inner.Rows.{rows_of, IsBare};
 
 use crate::follows::complete;
-use crate::ops::{Read, take_rows};
 use crate::parts::Module;
-use crate::reading::{take_heads, take_manager, take_shapes};
-use crate::refusal::Refusal;
-use crate::rows::{Head, Shape};
-use crate::writing::{write_heads, write_manager, write_rows, write_shapes};
+use crate::rows::{Read, take_rows, write_rows};
 use rg_base::{ByteList, Manager, Memory};
+use rg_spell::{
+    Head, Refusal, Shape, take_heads, take_manager, take_shapes, write_heads, write_manager,
+    write_shapes,
+};
 use std::alloc::Global;
 
 /// The bytes of a module that some bytes spell.
@@ -34,25 +35,25 @@ pub fn encode(alloc: Global, module: &Module) -> Result<ByteList, Memory>
 }
 
 // The bytes behind `RGM1`.
-fn take_magic(bytes: &[u8]) -> Result<&[u8], Refusal>
-    ensures { Gives (λ rest. rest.now) result (magic_at bytes.now) }
+fn take_magic(bytes: &[u8]) -> Option<&[u8]>
+    ensures { Finds (λ rest. rest.now) result (magic_at bytes.now) }
 {
     let [a, b, c, d, rest @ ..] = bytes else {
-        return Err(Refusal::NotModule);
+        return None;
     };
     if *a != b'R' {
-        return Err(Refusal::NotModule);
+        return None;
     }
     if *b != b'G' {
-        return Err(Refusal::NotModule);
+        return None;
     }
     if *c != b'M' {
-        return Err(Refusal::NotModule);
+        return None;
     }
     if *d != b'1' {
-        return Err(Refusal::NotModule);
+        return None;
     }
-    Ok(rest)
+    Some(rest)
 }
 
 // The rest of a module, from the count of its instructions on.
@@ -129,7 +130,9 @@ fn read_shapes(alloc: Global, manager: Manager, bytes: &[u8]) -> Result<Module, 
 fn read_manager(alloc: Global, bytes: &[u8]) -> Result<Module, Refusal>
     ensures { Gives (λ m. m) result (manager_behind bytes.now) }
 {
-    let (manager, rest) = take_manager(bytes)?;
+    let Some((manager, rest)) = take_manager(bytes) else {
+        return Err(Refusal::NotModule);
+    };
     read_shapes(alloc, manager, rest)
 }
 
@@ -138,7 +141,9 @@ fn read_manager(alloc: Global, bytes: &[u8]) -> Result<Module, Refusal>
 fn read(alloc: Global, bytes: &[u8]) -> Result<Module, Refusal>
     ensures { Gives (λ m. m) result (module_at bytes.now) }
 {
-    let rest = take_magic(bytes)?;
+    let Some(rest) = take_magic(bytes) else {
+        return Err(Refusal::NotModule);
+    };
     read_manager(alloc, rest)
 }
 

@@ -1,5 +1,5 @@
 -- Instructions that were read, before what follows from them is added to their code.
-use Rattle.std.specs.Prelude.{◌≡◌, ◌≤◌, ℕ, List, [], length, zip}
+use Rattle.std.specs.Prelude.{◌≡◌, ◌≤◌, ℕ, List, length, zip}
 use Rattle.rg_base.specs.declared.ty.Ty.{Ty}
 use Rattle.rg_code.specs.declared.op.Op.{Op}
 use Rattle.rg_code.specs.Code.{Code, empty}

@@ -1,6 +1,5 @@
-use Rattle.std.proofs.Common.{◌≡◌, ◌∙◌, ◌+◌, true, false, max, sym, ap, arith}
+use Rattle.std.proofs.Common.{◌∙◌, max, sym, ap, arith}
 use Rattle.std.proofs.lemmas.Option.{slice_get_within}
-use Rattle.rg_module.specs.Follows.{ends_body}
 use Rattle.rg_module.proofs.Bodies.{along-goes, along-ends, along-slots, along-past, along-past-slots}
 use Rattle.rg_module.proofs.follows.body_at.Goals as goal
 

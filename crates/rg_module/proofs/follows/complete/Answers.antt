@@ -1,4 +1,4 @@
-use Rattle.std.proofs.Common.{◌≡◌, ◌≤◌, ◌∙◌, ◌++◌, ℕ, length, drop, sym, ap, subst, arith}
+use Rattle.std.proofs.Common.{◌≤◌, ◌∙◌, ◌++◌, ℕ, length, drop, sym, ap, subst, arith}
 use Rattle.rg_code.specs.Code.{Code}
 use Rattle.rg_module.specs.Follows.{entries}
 use Rattle.rg_module.proofs.Bodies.{completed, end-within}

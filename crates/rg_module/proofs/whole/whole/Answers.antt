@@ -1,6 +1,6 @@
-use Rattle.std.proofs.Common.{◌∙◌, Some, List, sym, ap, arith}
-use Rattle.rg_module.specs.declared.rows.Shape.{Shape}
-use Rattle.rg_module.specs.declared.rows.Head.{Head}
+use Rattle.std.proofs.Common.{◌∙◌, Some, List, sym, ap}
+use Rattle.rg_spell.specs.declared.rows.Shape.{Shape}
+use Rattle.rg_spell.specs.declared.rows.Head.{Head}
 use Rattle.rg_module.specs.Follows.{code_for}
 use Rattle.rg_module.proofs.Filling.{whole_is}
 use Rattle.rg_module.proofs.whole.whole.Goals as goal

@@ -1,7 +1,0 @@
-use Rattle.std.proofs.Common.{◌≡◌, ◌-◌}
-use Rattle.rg_module.specs.Inner.Reading.{shape_at, many_at}
-use Rattle.rg_module.proofs.Loops.{with_front}
-use Rattle.rg_module.proofs.reading.take_many_shapes.Given as goal
-
-abbrev pub invariant-loop : goal.invariant-loop
-invariant-loop l = with_front l.shapes.items (many_at shape_at (l.count - l.counter) l.rest) ≡ many_at shape_at l.count l.bytes

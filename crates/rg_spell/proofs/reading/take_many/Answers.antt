@@ -1,0 +1,21 @@
+use Rattle.rg_spell.specs.declared.refusal.Refusal.TheVariants as refusal
+use Rattle.rg_spell.specs.Reading.{ty_at, many_at}
+use Rattle.rg_spell.proofs.Loops.{goes_on, ends, is_done}
+use Rattle.rg_spell.proofs.reading.take_many.Goals as goal
+
+pub returns-in_default : goal.returns-in_default
+returns-in_default c =
+    let total = many_at ty_at c.args.count c.args.bytes.now in
+    ends ty_at refusal.NotModule c.loop.types c.args.count c.loop.counter c.loop.rest.now total c.loop-test.true c.in_default.ensures c.loop.invariant
+
+pub loop-preserved : goal.loop-preserved
+loop-preserved c =
+    let total = many_at ty_at c.args.count c.args.bytes.now in
+    let t = c.in-Some.ty in
+    rw c.in-Ok.ensures.ok (goes_on ty_at c.loop.types c.args.count c.loop.counter c.loop.rest.now t c.in-Some.after.now total c.loop-test.true
+    c.in-Some.ensures c.loop.invariant)
+
+pub returns : goal.returns
+returns c =
+    let total = many_at ty_at c.args.count c.args.bytes.now in
+    is_done ty_at c.loop.types c.args.count c.loop.counter c.loop.rest.now total c.loop-test.false c.loop.invariant

@@ -1,0 +1,7 @@
+use Rattle.std.proofs.Common.{◌≡◌, ◌-◌}
+use Rattle.rg_spell.specs.Reading.{shape_at, many_at}
+use Rattle.rg_spell.proofs.Loops.{with_front}
+use Rattle.rg_spell.proofs.reading.take_many_shapes.Given as goal
+
+abbrev pub invariant-loop : goal.invariant-loop
+invariant-loop l = with_front l.shapes.items (many_at shape_at (l.count - l.counter) l.rest) ≡ many_at shape_at l.count l.bytes

@@ -1,0 +1,26 @@
+//! The parts of a module as bytes (docs/architecture.md, "Modules"): managers, classes (`Shape`),
+//! heads of methods (`Head`), and instructions with their maps. `write_manager`, `write_shapes`,
+//! `write_heads` and `write_row` append exactly the bytes of `specs/Spelling`, or no memory was
+//! found; they want parts that have a spelling (`FitsShape`, `FitsHead`, `FitsRow`).
+//! `take_manager`, `take_shapes`, `take_heads` and `take_row` read a part from the front of bytes,
+//! by the definitions of `specs/Reading`, and answer it with the bytes behind it. Where no such
+//! part stands there, and only there, they answer `None` or `NotModule`. The law
+//! `parts_are_read_back` joins the two: what is read was spelled, and what is spelled is read.
+#![tactic(auto)]
+
+mod laws;
+mod numbers;
+mod ops;
+mod reading;
+mod refusal;
+mod rows;
+mod tys;
+mod writing;
+
+pub use laws::parts_are_read_back;
+pub use ops::take_row;
+pub use reading::{take_heads, take_manager, take_shapes, take_u32};
+pub use refusal::Refusal;
+pub use rows::{Head, Shape};
+pub use tys::Tys;
+pub use writing::{write_heads, write_manager, write_row, write_shapes, write_u32};

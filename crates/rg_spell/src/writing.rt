@@ -1,0 +1,210 @@
+//! Parts of a module, each appended as its bytes (docs/architecture.md, "Modules").
+
+ghost use Rattle.std.specs.Prelude.{◌≡◌, ◌<◌, ◌^◌, ◌∷◌, [], ◌++◌, length, OnOk};
+ghost use Rattle.std.specs.List.{flat_map};
+ghost use Rattle.std.specs.Int.{w32, w64, to_be_bytes};
+ghost use Rattle.rg_code.specs.Places as places;
+ghost use Rattle.rg_spell.specs.Spelling.{four, eight, signed, bool_number, manager_number};
+ghost use Rattle.rg_spell.specs.Spelling.{counted, Counted, ty_bytes, FitsTy, members_bytes};
+ghost use Rattle.rg_spell.specs.Spelling.{shape_bytes, FitsShape, result_bytes, head_bytes};
+ghost use Rattle.rg_spell.specs.Spelling.{FitsHead, operands, operand_bytes, op_bytes, FitsOp};
+ghost use Rattle.rg_spell.specs.Spelling.{map_bytes, FitsMap};
+ghost use Rattle.rg_spell.specs.Spelling.{row_bytes, FitsRow};
+
+use crate::numbers::{bool_number, cap_number, manager_number, op_number};
+use crate::ops::is_mark;
+use crate::rows::{Head, Shape};
+use rg_base::{ByteList, Manager, Memory, Ty};
+use rg_code::Op;
+
+/// Appends a number of four bytes.
+pub fn write_u32(n: u32, out: &mut ByteList) -> Result<(), Memory>
+    ensures { OnOk result (out.new ≡ out.old ++ four n) }
+{
+    out.extend(&n.to_be_bytes())
+}
+
+// Appends a number of eight bytes.
+fn write_u64(n: u64, out: &mut ByteList) -> Result<(), Memory>
+    ensures { OnOk result (out.new ≡ out.old ++ eight n) }
+{
+    out.extend(&n.to_be_bytes())
+}
+
+// Appends a number with a sign.
+fn write_i64(z: i64, out: &mut ByteList) -> Result<(), Memory>
+    ensures { OnOk result (out.new ≡ out.old ++ signed z) }
+{
+    out.extend(&z.to_be_bytes())
+}
+
+// Appends a type.
+fn write_type(ty: Ty, out: &mut ByteList) -> Result<(), Memory>
+    ensures { OnOk result (out.new ≡ out.old ++ ty_bytes ty) }
+{
+    match ty {
+        Ty::Int => out.push(0),
+        Ty::Bool => out.push(1),
+        Ty::Ref { cap, class } => {
+            out.push(cap_number(cap))?;
+            write_u32(class, out)
+        }
+    }
+}
+
+// Appends a count of types, and the types.
+fn write_types(types: &[Ty], out: &mut ByteList) -> Result<(), Memory>
+    requires { length types.now < 2 ^ 32 }
+    ensures { OnOk result (out.new ≡ out.old ++ counted ty_bytes types.now) }
+{
+    write_u32(types.len() as u32, out)?;
+    for ty in types {
+        write_type(*ty, out)?;
+    }
+    Ok(())
+}
+
+// Appends a class.
+fn write_shape(shape: &Shape, out: &mut ByteList) -> Result<(), Memory>
+    requires { FitsShape shape.now }
+    ensures { OnOk result (out.new ≡ out.old ++ shape_bytes shape.now) }
+{
+    out.push(bool_number(shape.is_tmp))?;
+    if let Some(element) = shape.element {
+        out.push(1)?;
+        write_type(element, out)?;
+        return Ok(());
+    }
+    out.push(0)?;
+    write_types(shape.fields.items(), out)?;
+    Ok(())
+}
+
+/// Appends a count of classes, and the classes.
+pub fn write_shapes(shapes: &[Shape], out: &mut ByteList) -> Result<(), Memory>
+    requires { Counted FitsShape shapes.now }
+    ensures { OnOk result (out.new ≡ out.old ++ counted shape_bytes shapes.now) }
+{
+    write_u32(shapes.len() as u32, out)?;
+    for shape in shapes {
+        write_shape(shape, out)?;
+    }
+    Ok(())
+}
+
+// Appends the result of a method.
+fn write_result(answer: Option<Ty>, out: &mut ByteList) -> Result<(), Memory>
+    ensures { OnOk result (out.new ≡ out.old ++ result_bytes answer) }
+{
+    let Some(ty) = answer else {
+        return out.push(0);
+    };
+    out.push(1)?;
+    write_type(ty, out)
+}
+
+// Appends the head of a method.
+fn write_head(head: &Head, out: &mut ByteList) -> Result<(), Memory>
+    requires { FitsHead head.now }
+    ensures { OnOk result (out.new ≡ out.old ++ head_bytes head.now) }
+{
+    write_u32(head.class, out)?;
+    out.push(cap_number(head.cap))?;
+    write_types(head.params.items(), out)?;
+    write_result(head.result, out)?;
+    Ok(())
+}
+
+/// Appends a count of heads, and the heads.
+pub fn write_heads(heads: &[Head], out: &mut ByteList) -> Result<(), Memory>
+    requires { Counted FitsHead heads.now }
+    ensures { OnOk result (out.new ≡ out.old ++ counted head_bytes heads.now) }
+{
+    write_u32(heads.len() as u32, out)?;
+    for head in heads {
+        write_head(head, out)?;
+    }
+    Ok(())
+}
+
+/// Appends a manager.
+pub fn write_manager(manager: Manager, out: &mut ByteList) -> Result<(), Memory>
+    ensures { OnOk result (out.new ≡ out.old ++ manager_number manager ∷ []) }
+{
+    out.push(manager_number(manager))
+}
+
+// Appends two numbers.
+fn write_two(n: u32, k: u32, out: &mut ByteList) -> Result<(), Memory>
+    ensures { OnOk result (out.new ≡ out.old ++ four n ++ four k) }
+{
+    write_u32(n, out)?;
+    write_u32(k, out)?;
+    Ok(())
+}
+
+// Appends what stands behind the number of an instruction.
+fn write_operands(op: Op, out: &mut ByteList) -> Result<(), Memory>
+    requires { FitsOp op }
+    ensures { OnOk result (out.new ≡ out.old ++ flat_map operand_bytes (operands op)) }
+{
+    match op {
+        Op::Mark { line } => write_u64(line, out),
+        Op::Int { value } => write_i64(value, out),
+        Op::Bool { value } => out.push(bool_number(value)),
+        Op::Load { slot: n }
+        | Op::Clear { slot: n }
+        | Op::Store { slot: n }
+        | Op::Own { slot: n }
+        | Op::Freeze { slot: n }
+        | Op::Merge { slot: n }
+        | Op::Leave { slot: n }
+        | Op::End { slot: n }
+        | Op::Field { index: n }
+        | Op::Put { index: n }
+        | Op::New { class: n }
+        | Op::NewTmp { class: n }
+        | Op::Call { method: n } => write_u32(n, out),
+        Op::Jump { to } | Op::JumpFalse { to } | Op::And { to } | Op::Or { to } => {
+            write_u32(to as u32, out)
+        }
+        Op::NewIso { class, manager } => {
+            write_u32(class, out)?;
+            write_manager(manager, out)
+        }
+        Op::Swap { slot: n, index: k }
+        | Op::Enter { slot: n, bridge: k }
+        | Op::EnterField {
+            index: n,
+            bridge: k,
+        } => write_two(n, k, out),
+        Op::Nil | Op::IsNil | Op::Neg | Op::Not | Op::Check | Op::Pace => Ok(()),
+        Op::Add | Op::Sub | Op::Mul | Op::Div | Op::Rem => Ok(()),
+        Op::Eq | Op::Ne | Op::Lt | Op::Le | Op::Gt | Op::Ge => Ok(()),
+        Op::Read | Op::More | Op::Room | Op::Ret | Op::RetVoid => Ok(()),
+        Op::Print | Op::Collect | Op::Pop | Op::Drop | Op::Halt => Ok(()),
+    }
+}
+
+// Appends the map behind an instruction.
+fn write_map(mark: bool, map: &[Ty], out: &mut ByteList) -> Result<(), Memory>
+    requires { FitsMap mark map.now }
+    ensures { OnOk result (out.new ≡ out.old ++ map_bytes mark map.now) }
+{
+    if !mark {
+        return Ok(());
+    }
+    write_types(map, out)?;
+    Ok(())
+}
+
+/// Appends an instruction and its map.
+pub fn write_row(op: Op, map: &[Ty], out: &mut ByteList) -> Result<(), Memory>
+    requires { FitsRow (op, map.now) }
+    ensures { OnOk result (out.new ≡ out.old ++ row_bytes (op, map.now)) }
+{
+    out.push(op_number(op))?;
+    write_operands(op, out)?;
+    write_map(is_mark(op), map, out)?;
+    Ok(())
+}
