@@ -4,4 +4,6 @@ pub mod Raised
 pub mod Parts
 pub mod Rows
 pub mod Raises
+pub mod Statements
+pub mod Found
 pub mod Inner

@@ -1,6 +1,7 @@
-//! The laws of raised expressions, as contracts of functions that do nothing
+//! The laws of raised expressions and blocks, as contracts of functions that do nothing
 //! (docs/architecture.md, "Modules").
 
+ghost use Rattle.rg_verify.specs.Found.{BlocksHaveTheirCode};
 ghost use Rattle.rg_verify.specs.Raises.{StandOnce, HaveTheirCode};
 
 /// In front of instructions stands the code of at most one list of expressions.
@@ -11,4 +12,9 @@ pub fn expressions_stand_once()
 /// With names that are found, raised expressions have the code that they were raised from.
 pub fn raised_have_their_code()
     ensures { HaveTheirCode }
+{}
+
+/// With names that are found, blocks of statements have the code that they have with numbers.
+pub fn blocks_have_their_code()
+    ensures { BlocksHaveTheirCode }
 {}
