@@ -1,5 +1,5 @@
--- Blocks with their code and their names, computed.
-use Rattle.std.proofs.Common.{◌≡◌, pos, false, true, List, [], ◌∷◌, Some, None, codes, refl}
+-- Blocks with their code and their names, and told from their code, computed.
+use Rattle.std.proofs.Common.{◌≡◌, ℕ, pos, false, true, List, [], ◌∷◌, ◌++◌, Some, None, codes, refl}
 use Prim.Native.String.{String}
 use Rattle.std.specs.Fmt.{digits}
 use Rattle.rg_base.specs.declared.words.Cap.TheVariants as cap
@@ -9,13 +9,17 @@ use Rattle.rg_base.specs.declared.ty.Ty.TheVariants as ty
 use Rattle.rg_tree.specs.declared.rows.BinOp.TheVariants as op
 use Rattle.rg_tree.specs.Tree as tree
 use Rattle.rg_tree.specs.Tree.{Class, field, method}
+use Rattle.rg_code.specs.declared.op.Op.{Op}
 use Rattle.rg_code.specs.declared.op.Op.TheVariants as i
 use Rattle.rg_code.specs.Lowering.{method_scope}
 use Rattle.rg_verify.specs.Raised.{number, path, nil, is_nil, binary}
-use Rattle.rg_verify.specs.Statements.{Callee, value, new, new_iso, freeze, result_of, Kind, declare, assign, write, call}
+use Rattle.rg_verify.specs.declared.callee.Callee.{Callee}
+use Rattle.rg_verify.specs.Statements.{value, new, new_iso, freeze, result_of, Kind, declare, assign, write, call}
 use Rattle.rg_verify.specs.Statements.{swap, branch, while, enter, enter_field, print, collect, return, no_else, otherwise, Block, empty}
 use Rattle.rg_verify.specs.Statements.{next, block_ops}
 use Rattle.rg_verify.specs.Found.{block_named, IsBlockFound}
+use Rattle.rg_verify.specs.Raising.{walk, raised}
+use Rattle.rg_verify.specs.Blocks.{Given, block_told}
 
 -- statements that all stand on line 1
 abbrev in_line : List Kind → Block
@@ -67,15 +71,37 @@ loop = in_line (
     )) ∷ []
     )
 
-loop-code : block_ops [] 0 loop
-    ≡ i.Mark 1 ∷ i.Int (pos 0) ∷ i.Store 0
+abbrev loop_ops : (fails back : ℕ) → List Op
+loop_ops fails back =
+    i.Mark 1 ∷ i.Int (pos 0) ∷ i.Store 0
     ∷ i.Mark 1 ∷ i.Nil ∷ i.Store 1
-    ∷ i.Mark 1 ∷ i.Load 0 ∷ i.Int (pos 3) ∷ i.Lt ∷ i.JumpFalse 27
+    ∷ i.Mark 1 ∷ i.Load 0 ∷ i.Int (pos 3) ∷ i.Lt ∷ i.JumpFalse fails
     ∷ i.Mark 1 ∷ i.Load 1 ∷ i.Clear 1 ∷ i.Store 2
     ∷ i.Mark 1 ∷ i.Load 2 ∷ i.Clear 2 ∷ i.Own 1
     ∷ i.Mark 1 ∷ i.Load 0 ∷ i.Int (pos 1) ∷ i.Add ∷ i.Store 0
-    ∷ i.Mark 1 ∷ i.End 2 ∷ i.Jump 6 ∷ []
+    ∷ i.Mark 1 ∷ i.End 2 ∷ i.Jump back ∷ []
+
+loop-code : block_ops [] 0 loop ≡ loop_ops 27 6
 loop-code = refl
+
+-- it is told from its code, in front of the end of main, with the maps of its marks
+abbrev loop_given : (fails back : ℕ) → Given
+loop_given fails back = record {
+  ops = loop_ops fails back ++ i.Mark 1 ∷ i.End 0 ∷ i.Halt ∷ [];
+  maps = [] ∷ [] ∷ [] ∷ (ty.Int ∷ []) ∷ [] ∷ [] ∷ (ty.Int ∷ iso ∷ []) ∷ [] ∷ [] ∷ [] ∷ [] ∷ (ty.Int ∷ iso ∷ []) ∷ [] ∷ [] ∷ []
+      ∷ (ty.Int ∷ iso ∷ iso ∷ []) ∷ [];
+  methods = [];
+}
+
+loop-told : block_told (loop_given 27 6) 64 [] 0 ≡ Some (loop, 27)
+unfolding block_told raised walk
+loop-told = refl
+
+-- nothing is told where the test leads elsewhere, where the jump does, and where no block may stand in another
+loop-apart : (block_told (loop_given 25 6) 64 [] 0 ≡ None) × (block_told (loop_given 28 6) 64 [] 0 ≡ None)
+    × (block_told (loop_given 27 3) 64 [] 0 ≡ None) × (block_told (loop_given 27 6) 1 [] 0 ≡ None)
+unfolding block_told raised walk
+loop-apart = (refl, refl, refl, refl)
 
 loop-found : IsBlockFound classes [] false loop
 unfolding digits
@@ -195,21 +221,49 @@ descent-named : block_named true 2 descent
 unfolding digits
 descent-named = refl
 
+-- methods with an owner as their result, a truth value, and none
+
+abbrev drops : Callee
+drops = record { number = 0; place = 2; result = Some iso }
+
+abbrev pops : Callee
+pops = record { number = 1; place = 3; result = Some ty.Bool }
+
+abbrev leaves : Callee
+leaves = record { number = 2; place = 4; result = None }
+
 -- both blocks of an `if`, and results that nobody takes: `if v0 is nil { call v1.m2(v0); } else { call v1.m3(); call v1.m4(); }`
 abbrev choice : Block
 choice = next 4 (branch (is_nil 0 [])
-    (next 5 (call (record { slot = 1; fields = []; callee = record { number = 7; place = 2; result = Some iso }; args = path 0 [] ∷ [] })) empty)
+    (next 5 (call (record { slot = 1; fields = []; callee = drops; args = path 0 [] ∷ [] })) empty)
     (otherwise (
-    next 7 (call (record { slot = 1; fields = []; callee = record { number = 8; place = 3; result = Some ty.Bool }; args = [] }))
-    (next 8 (call (record { slot = 1; fields = []; callee = record { number = 9; place = 4; result = None }; args = [] })) empty)
-    ))
-    ) empty
+    next 7 (call (record { slot = 1; fields = []; callee = pops; args = [] }))
+    (next 8 (call (record { slot = 1; fields = []; callee = leaves; args = [] })) empty)))) empty
 
-choice-code : block_ops (iso ∷ mut ∷ []) 10 choice
-    ≡ i.Mark 4 ∷ i.Load 0 ∷ i.IsNil ∷ i.JumpFalse 25
-    ∷ i.Mark 5 ∷ i.Load 1 ∷ i.Check ∷ i.Load 0 ∷ i.Room ∷ i.Clear 0 ∷ i.Call 7 ∷ i.Drop
-    ∷ i.Mark 4 ∷ i.End 2 ∷ i.Jump 38
-    ∷ i.Mark 7 ∷ i.Load 1 ∷ i.Check ∷ i.Room ∷ i.Call 8 ∷ i.Pop
-    ∷ i.Mark 8 ∷ i.Load 1 ∷ i.Check ∷ i.Room ∷ i.Call 9
+abbrev choice_ops : Op → List Op
+choice_ops left =
+    i.Mark 4 ∷ i.Load 0 ∷ i.IsNil ∷ i.JumpFalse 15
+    ∷ i.Mark 5 ∷ i.Load 1 ∷ i.Check ∷ i.Load 0 ∷ i.Room ∷ i.Clear 0 ∷ i.Call 0 ∷ left
+    ∷ i.Mark 4 ∷ i.End 2 ∷ i.Jump 28
+    ∷ i.Mark 7 ∷ i.Load 1 ∷ i.Check ∷ i.Room ∷ i.Call 1 ∷ i.Pop
+    ∷ i.Mark 8 ∷ i.Load 1 ∷ i.Check ∷ i.Room ∷ i.Call 2
     ∷ i.Mark 4 ∷ i.End 2 ∷ []
+
+choice-code : block_ops (iso ∷ mut ∷ []) 0 choice ≡ choice_ops i.Drop
 choice-code = refl
+
+abbrev choice_given : Op → Given
+choice_given left = record {
+  ops = choice_ops left ++ i.Mark 9 ∷ i.RetVoid ∷ [];
+  maps = [];
+  methods = drops ∷ pops ∷ leaves ∷ [];
+}
+
+choice-told : block_told (choice_given i.Drop) 64 (iso ∷ mut ∷ []) 0 ≡ Some (choice, 28)
+unfolding block_told raised walk
+choice-told = refl
+
+-- an owner that nobody takes is released
+choice-apart : block_told (choice_given i.Pop) 64 (iso ∷ mut ∷ []) 0 ≡ None
+unfolding block_told raised walk
+choice-apart = refl

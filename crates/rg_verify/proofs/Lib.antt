@@ -14,3 +14,5 @@ mod PathLemmas
 mod WalkLemmas
 mod Examples
 mod BlockExamples
+mod Pieces
+mod BlockRaises

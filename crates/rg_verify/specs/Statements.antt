@@ -1,5 +1,5 @@
 -- Statements with numbers in place of names, and their code (docs/architecture.md, "Modules").
-use Rattle.std.specs.Prelude.{ℕ, ◌+◌, if◌then◌else◌, List, [], ◌∷◌, ◌++◌, length, slice_get, Option, unwrap_or}
+use Rattle.std.specs.Prelude.{ℕ, ◌+◌, if◌then◌else◌, List, [], ◌∷◌, ◌++◌, length, slice_get, unwrap_or}
 use Rattle.rg_base.specs.declared.words.Manager.{Manager}
 use Rattle.rg_base.specs.declared.ty.Ty.{Ty}
 use Rattle.rg_base.specs.declared.words.Cap.TheVariants as cap
@@ -8,13 +8,8 @@ use Rattle.rg_rules.specs.Capabilities.{is_iso}
 use Rattle.rg_code.specs.declared.op.Op.{Op}
 use Rattle.rg_code.specs.declared.op.Op.TheVariants as i
 use Rattle.rg_code.specs.Lowering.{clears, dropped_code}
+use Rattle.rg_verify.specs.declared.callee.Callee.{Callee}
 use Rattle.rg_verify.specs.Raised.{Raised, number, boolean, nil, path, is_nil, neg, not, binary, path_ops, ops_of, all_ops}
-
--- a method that is called: its number through the whole program, that in its class, and the type of its result, if it has one
-pub record Callee : Type 0 where
-  pub number : ℕ
-  pub place : ℕ
-  pub result : Option Ty
 
 -- `call v0.f1.m2(a, b)`
 pub record Call : Type 0 where

@@ -1,6 +1,7 @@
 //! The laws of raised expressions and blocks, as contracts of functions that do nothing
 //! (docs/architecture.md, "Modules").
 
+ghost use Rattle.rg_verify.specs.Blocks.{RaisedBlocksStand};
 ghost use Rattle.rg_verify.specs.Found.{BlocksHaveTheirCode};
 ghost use Rattle.rg_verify.specs.Raises.{StandOnce, HaveTheirCode};
 
@@ -17,4 +18,9 @@ pub fn raised_have_their_code()
 /// With names that are found, blocks of statements have the code that they have with numbers.
 pub fn blocks_have_their_code()
     ensures { BlocksHaveTheirCode }
+{}
+
+/// The block that is raised at an address has the code that stands there.
+pub fn raised_blocks_stand()
+    ensures { RaisedBlocksStand }
 {}

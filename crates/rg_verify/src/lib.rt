@@ -5,19 +5,27 @@
 //! one list of expressions (`expressions_stand_once`), and with names that are found raised
 //! expressions have the code that `rg_code/specs/Lowering` gives them (`raised_have_their_code`);
 //! so have blocks of statements (`blocks_have_their_code` in `specs/Found`, with the code of
-//! `specs/Statements`), which nothing raises yet, nor maps and heads. All else is private.
+//! `specs/Statements`). How blocks are raised is a definition (`block_told` in `specs/Blocks`);
+//! what it tells has the code that stands there (`raised_blocks_stand`). No call raises blocks yet,
+//! nor are maps and heads tested. All else is private.
 #![tactic(auto)]
 
 mod body;
+mod callee;
 mod expressions;
 mod held;
 mod laws;
 mod part;
 mod refusal;
 mod rows;
+mod signs;
 mod stack;
 
+pub use callee::Callee;
 pub use expressions::raise_expressions;
-pub use laws::{blocks_have_their_code, expressions_stand_once, raised_have_their_code};
+pub use laws::{
+    blocks_have_their_code, expressions_stand_once, raised_blocks_stand, raised_have_their_code,
+};
 pub use part::{Junction, Part};
 pub use refusal::Refusal;
+pub use signs::{Behind, Close, Making, Open, Target, Walk};
