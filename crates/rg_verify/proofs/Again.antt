@@ -14,7 +14,7 @@ use Rattle.rg_verify.specs.declared.part.Junction.TheVariants as junctions
 use Rattle.rg_verify.specs.Raised.{Raised, number, boolean, nil, path, is_nil, neg, not, binary, ops_of, all_ops}
 use Rattle.rg_verify.specs.Parts.{part_of, Ends}
 use Rattle.rg_verify.specs.Raises.{Stand, StandOnce}
-use Rattle.rg_verify.specs.Inner.Raising.{Item, tree, waits, settle, act, walk, trees, raised, operator_of}
+use Rattle.rg_verify.specs.Raising.{Item, tree, waits, settle, act, walk, trees, raised, operator_of}
 use Rattle.rg_verify.proofs.Settling.{jump_of, junction-code, junction-gap, Waits, Rests, settle-before, settle-rests, settle-taken}
 
 -- one instruction of a walk

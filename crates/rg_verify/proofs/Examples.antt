@@ -4,7 +4,7 @@ use Rattle.rg_tree.specs.declared.rows.BinOp.TheVariants as op
 use Rattle.rg_code.specs.declared.op.Op.{Op}
 use Rattle.rg_code.specs.declared.op.Op.TheVariants as i
 use Rattle.rg_verify.specs.Raised.{Raised, number, boolean, path, is_nil, neg, not, binary, ops_of}
-use Rattle.rg_verify.specs.Inner.Raising.{walk, raised}
+use Rattle.rg_verify.specs.Raising.{walk, raised}
 
 -- `7`, in front of `print`
 seven : raised (i.Int (pos 7) ∷ i.Print ∷ []) 1 ≡ Some (number (pos 7) ∷ [], 2)

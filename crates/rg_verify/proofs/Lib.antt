@@ -4,6 +4,8 @@ mod Parts
 mod Raises
 mod Again
 mod Named
+mod NamedParts
+mod NamedBlocks
 mod RowLemmas
 mod StackLemmas
 mod SettleLemmas
@@ -11,3 +13,6 @@ mod PutLemmas
 mod PathLemmas
 mod WalkLemmas
 mod Examples
+mod BlockExamples
+mod Pieces
+mod BlockRaises

@@ -11,12 +11,12 @@ use Rattle.rg_verify.specs.Raised.{Raised, number, boolean, nil, path, is_nil, n
 use Rattle.rg_verify.specs.Raised.{IsFound, all_ops}
 use Rattle.rg_verify.specs.Raises.{HaveTheirCode}
 
-fields-named : (classes : List Class) (t : Ty) (ks : List ℕ) → AreFound classes t ks → fields_code classes t (map field_name ks) ≡ map i.Field ks
+pub fields-named : (classes : List Class) (t : Ty) (ks : List ℕ) → AreFound classes t ks → fields_code classes t (map field_name ks) ≡ map i.Field ks
 fields-named classes t [] h = refl
 fields-named classes t (k ∷ ks) (e, h) = rw (e, fields-named classes (type_behind classes t (field_name k)) ks h) refl
 
 module _ (classes : List Class) (scope : Scope) (m : Truth) where
-  path-named : (s : ℕ) (ks : List ℕ) → IsPathFound classes scope m s ks
+  pub path-named : (s : ℕ) (ks : List ℕ) → IsPathFound classes scope m s ks
       → path_code classes scope (variable_in m s) (map field_name ks) ≡ path_ops s ks
   path-named s ks (e, h) = rw (e, fields-named classes (type_in scope (variable_in m s)) ks h) refl
 
@@ -35,7 +35,7 @@ module _ (classes : List Class) (scope : Scope) (m : Truth) where
       (code-named a at f)
       ∙ ap (λ (os : List Op). ops_of at a ++ operator_code o (middle + length os) os) (code-named b middle g)
 
-  all-named : (rs : List Raised) (at : ℕ) → AllByRecursion (IsFound classes scope m) rs
+  pub all-named : (rs : List Raised) (at : ℕ) → AllByRecursion (IsFound classes scope m) rs
       → exprs_code classes scope at (map (named m) rs) ≡ all_ops at rs
   all-named [] at h = refl
   all-named (r ∷ rs) at (f, g) =

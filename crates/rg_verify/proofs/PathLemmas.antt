@@ -18,7 +18,7 @@ use Rattle.rg_verify.specs.declared.held.Wait.{Wait}
 use Rattle.rg_verify.specs.declared.refusal.Refusal.{Refusal}
 use Rattle.rg_verify.specs.declared.refusal.Refusal.TheVariants as refusal
 use Rattle.rg_verify.specs.Raised.{Raised, named, path, is_nil, path_named}
-use Rattle.rg_verify.specs.Inner.Raising.{Item, tree, waits, settle, from_path}
+use Rattle.rg_verify.specs.Raising.{Item, tree, waits, settle, from_path}
 use Rattle.rg_verify.specs.Rows.{Extends}
 use Rattle.rg_verify.specs.Inner.Adds.{Adds, AreNames, AddsTree}
 use Rattle.rg_verify.specs.Inner.Stacks.{is_path, IsFor, Piled, Makes, MakesRow, TakesPath}

@@ -15,7 +15,7 @@ use Rattle.rg_verify.specs.declared.part.Junction.{Junction}
 use Rattle.rg_verify.specs.declared.refusal.Refusal.{Refusal}
 use Rattle.rg_verify.specs.declared.refusal.Refusal.TheVariants as refusal
 use Rattle.rg_verify.specs.Raised.{Raised, named, binary}
-use Rattle.rg_verify.specs.Inner.Raising.{Item, tree, waits, settle, from_tree, from_two, from_left}
+use Rattle.rg_verify.specs.Raising.{Item, tree, waits, settle, from_tree, from_two, from_left}
 use Rattle.rg_verify.specs.Rows.{Extends}
 use Rattle.rg_verify.specs.Inner.Adds.{AddsTree, IsExprRow}
 use Rattle.rg_verify.specs.Inner.Stacks.{is_path, IsFor, Piled, IsPiled, Makes, TakesRow, Pushes}

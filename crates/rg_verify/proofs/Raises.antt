@@ -11,11 +11,11 @@ use Rattle.rg_verify.specs.declared.part.Part.TheVariants as part
 use Rattle.rg_verify.specs.Raised.{Raised, number, boolean, nil, path, is_nil, neg, not, binary, ops_of, all_ops}
 use Rattle.rg_verify.specs.Parts.{part_of, Ends}
 use Rattle.rg_verify.specs.Raises.{Stand}
-use Rattle.rg_verify.specs.Inner.Raising.{Item, tree, settle, from_path, act, walk, trees, raised}
+use Rattle.rg_verify.specs.Raising.{Item, tree, settle, from_path, act, walk, trees, raised}
 use Rattle.rg_verify.proofs.Settling.{jump_of, items_ops, settle-ops, trees-ops}
 use Rattle.rg_verify.proofs.Parts.{IsOf, Stands, is-of}
 
-some_is : {A : Type 0} (x y : A) → Some x ≡ Some y → x ≡ y
+pub some_is : {A : Type 0} (x y : A) → Some x ≡ Some y → x ≡ y
 some_is x y e = cc
 
 path-taken : (f : ℕ → List ℕ → Raised) (end : ℕ) (items new : List Item) → from_path f end items ≡ Some new

@@ -13,7 +13,7 @@ use Rattle.rg_verify.specs.declared.part.Junction.{Junction}
 use Rattle.rg_verify.specs.declared.refusal.Refusal.{Refusal}
 use Rattle.rg_verify.specs.declared.refusal.Refusal.TheVariants as refusal
 use Rattle.rg_verify.specs.Raised.{Raised, named, binary}
-use Rattle.rg_verify.specs.Inner.Raising.{operator_of, Item, tree, waits, settle}
+use Rattle.rg_verify.specs.Raising.{operator_of, Item, tree, waits, settle}
 use Rattle.rg_verify.specs.Rows.{Extends}
 use Rattle.rg_verify.specs.Inner.Adds.{IsTree, AddsTree, IsExprRow}
 use Rattle.rg_verify.specs.Inner.Stacks.{IsFor, Piled, Makes, MakesRow, TakesWait, Pushes}

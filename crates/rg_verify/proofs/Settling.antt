@@ -9,7 +9,7 @@ use Rattle.rg_code.specs.Lowering.{gap, operator_code}
 use Rattle.rg_verify.specs.declared.part.Junction.{Junction}
 use Rattle.rg_verify.specs.declared.part.Junction.TheVariants as junctions
 use Rattle.rg_verify.specs.Raised.{Raised, binary, ops_of, all_ops}
-use Rattle.rg_verify.specs.Inner.Raising.{operator_of, Item, tree, waits, settle, trees}
+use Rattle.rg_verify.specs.Raising.{operator_of, Item, tree, waits, settle, trees}
 
 -- the instruction of a junction
 abbrev pub jump_of : Junction → (to : ℕ) → Op

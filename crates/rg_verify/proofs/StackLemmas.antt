@@ -12,7 +12,7 @@ use Rattle.rg_verify.specs.declared.held.Wait.{Wait}
 use Rattle.rg_verify.specs.declared.refusal.Refusal.{Refusal}
 use Rattle.rg_verify.specs.declared.refusal.Refusal.TheVariants as refusal
 use Rattle.rg_verify.specs.Raised.{Raised, named}
-use Rattle.rg_verify.specs.Inner.Raising.{Item, tree, waits, settle}
+use Rattle.rg_verify.specs.Raising.{Item, tree, waits, settle}
 use Rattle.rg_verify.specs.Rows.{Extends}
 use Rattle.rg_verify.specs.Inner.Adds.{IsTree}
 use Rattle.rg_verify.specs.Inner.Stacks.{IsFor, Piled, MakesRow, TakesRow, waiting, TakesWait}

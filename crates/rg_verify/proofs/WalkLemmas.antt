@@ -15,7 +15,7 @@ use Rattle.rg_verify.specs.Raised.{Raised, named}
 use Rattle.rg_verify.specs.Parts.{part_of}
 use Rattle.rg_verify.specs.Raises.{RaisesAll}
 use Rattle.rg_verify.specs.Rows.{Extends, AreTrees}
-use Rattle.rg_verify.specs.Inner.Raising.{Item, tree, waits, act, walk, trees, raised}
+use Rattle.rg_verify.specs.Raising.{Item, tree, waits, act, walk, trees, raised}
 use Rattle.rg_verify.specs.Inner.Stacks.{Piled, IsPiled, Holds, Makes, Walks, TakesRow, MakesRows}
 use Rattle.rg_verify.proofs.RowLemmas.{extends-same, extends-trans, means-later}
 use Rattle.rg_verify.proofs.Raises.{raised-stand}

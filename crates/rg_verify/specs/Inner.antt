@@ -1,4 +1,3 @@
 -- What joins the private layers of this crate; no clause of a public call cites it.
 pub mod Adds
-pub mod Raising
 pub mod Stacks

@@ -3,5 +3,10 @@ pub mod Naming
 pub mod Raised
 pub mod Parts
 pub mod Rows
+pub mod Raising
 pub mod Raises
+pub mod Statements
+pub mod Found
+pub mod Signs
+pub mod Blocks
 pub mod Inner

@@ -2,8 +2,8 @@
 
 ghost use Rattle.std.specs.Prelude.{◌≤◌, List, [], length, drop};
 ghost use Rattle.rg_verify.specs.Raised.{neg, not};
-ghost use Rattle.rg_verify.specs.Inner.Raising as raising;
-ghost use Rattle.rg_verify.specs.Inner.Raising.{Item};
+ghost use Rattle.rg_verify.specs.Raising as raising;
+ghost use Rattle.rg_verify.specs.Raising.{Item};
 ghost use Rattle.rg_verify.specs.Inner.Stacks.{Piled, IsPiled, Makes, Walks, MakesRows};
 ghost use Rattle.rg_verify.specs.Raises.{RaisesAll};
 

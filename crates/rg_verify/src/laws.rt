@@ -1,6 +1,8 @@
-//! The laws of raised expressions, as contracts of functions that do nothing
+//! The laws of raised expressions and blocks, as contracts of functions that do nothing
 //! (docs/architecture.md, "Modules").
 
+ghost use Rattle.rg_verify.specs.Blocks.{RaisedBlocksStand};
+ghost use Rattle.rg_verify.specs.Found.{BlocksHaveTheirCode};
 ghost use Rattle.rg_verify.specs.Raises.{StandOnce, HaveTheirCode};
 
 /// In front of instructions stands the code of at most one list of expressions.
@@ -11,4 +13,14 @@ pub fn expressions_stand_once()
 /// With names that are found, raised expressions have the code that they were raised from.
 pub fn raised_have_their_code()
     ensures { HaveTheirCode }
+{}
+
+/// With names that are found, blocks of statements have the code that they have with numbers.
+pub fn blocks_have_their_code()
+    ensures { BlocksHaveTheirCode }
+{}
+
+/// The block that is raised at an address has the code that stands there.
+pub fn raised_blocks_stand()
+    ensures { RaisedBlocksStand }
 {}

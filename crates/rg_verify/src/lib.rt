@@ -3,20 +3,29 @@
 //! address, up to the first instruction that no expression has, or says that none have that code
 //! (`RaisesAll` in `specs/Raises`). The laws: in front of instructions stands the code of at most
 //! one list of expressions (`expressions_stand_once`), and with names that are found raised
-//! expressions have the code that `rg_code/specs/Lowering` gives them (`raised_have_their_code`).
-//! Statements, maps and heads aren't raised yet. All else in the crate is private.
+//! expressions have the code that `rg_code/specs/Lowering` gives them (`raised_have_their_code`);
+//! so have blocks of statements (`blocks_have_their_code` in `specs/Found`, with the code of
+//! `specs/Statements`). How blocks are raised is a definition (`block_told` in `specs/Blocks`);
+//! what it tells has the code that stands there (`raised_blocks_stand`). No call raises blocks yet,
+//! nor are maps and heads tested. All else is private.
 #![tactic(auto)]
 
 mod body;
+mod callee;
 mod expressions;
 mod held;
 mod laws;
 mod part;
 mod refusal;
 mod rows;
+mod signs;
 mod stack;
 
+pub use callee::Callee;
 pub use expressions::raise_expressions;
-pub use laws::{expressions_stand_once, raised_have_their_code};
+pub use laws::{
+    blocks_have_their_code, expressions_stand_once, raised_blocks_stand, raised_have_their_code,
+};
 pub use part::{Junction, Part};
 pub use refusal::Refusal;
+pub use signs::{Behind, Close, Making, Open, Target, Walk};

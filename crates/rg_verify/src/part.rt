@@ -2,7 +2,7 @@
 
 ghost use Rattle.std.specs.Prelude.{◌≡◌};
 ghost use Rattle.rg_verify.specs.Parts as parts;
-ghost use Rattle.rg_verify.specs.Inner.Raising as raising;
+ghost use Rattle.rg_verify.specs.Raising as raising;
 
 use rg_code::Op;
 use rg_tree::BinOp;

@@ -9,7 +9,7 @@ use Rattle.rg_verify.specs.declared.refusal.Refusal.{Refusal}
 use Rattle.rg_verify.specs.declared.refusal.Refusal.TheVariants as refusal
 use Rattle.rg_verify.specs.Naming.{field_name}
 use Rattle.rg_verify.specs.Raised.{Raised, path, named}
-use Rattle.rg_verify.specs.Inner.Raising.{Item, tree, waits, settle, from_path}
+use Rattle.rg_verify.specs.Raising.{Item, tree, waits, settle, from_path}
 use Rattle.rg_verify.specs.Rows.{Extends, AreTrees}
 use Rattle.rg_verify.specs.Inner.Adds.{AreNames, IsTree, AddsTree}
 

@@ -1,5 +1,5 @@
 use Rattle.std.proofs.Common.{List, [], length}
-use Rattle.rg_verify.specs.Inner.Raising.{Item, trees}
+use Rattle.rg_verify.specs.Raising.{Item, trees}
 use Rattle.rg_verify.specs.Inner.Stacks.{Piled}
 use Rattle.rg_verify.proofs.WalkLemmas.{Taking}
 use Rattle.rg_verify.proofs.expressions.take_rows.Given as goal

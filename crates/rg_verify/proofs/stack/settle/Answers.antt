@@ -3,7 +3,7 @@ use Rattle.rg_tree.specs.declared.rows.BinOp.{BinOp}
 use Rattle.rg_tree.specs.declared.rows.ExprRow.TheVariants as row
 use Rattle.rg_tree.specs.Rows.RowTrees.{expr_of}
 use Rattle.rg_verify.specs.Inner.Adds.{AddsTree}
-use Rattle.rg_verify.specs.Inner.Raising.{tree}
+use Rattle.rg_verify.specs.Raising.{tree}
 use Rattle.rg_verify.proofs.SettleLemmas.{left-taken, left-next, junction-there}
 use Rattle.rg_verify.proofs.stack.settle.Goals as goal
 

@@ -1,0 +1,269 @@
+-- Blocks with their code and their names, and told from their code, computed.
+use Rattle.std.proofs.Common.{◌≡◌, ℕ, pos, false, true, List, [], ◌∷◌, ◌++◌, Some, None, codes, refl}
+use Prim.Native.String.{String}
+use Rattle.std.specs.Fmt.{digits}
+use Rattle.rg_base.specs.declared.words.Cap.TheVariants as cap
+use Rattle.rg_base.specs.declared.words.Manager.TheVariants as manager
+use Rattle.rg_base.specs.declared.ty.Ty.{Ty}
+use Rattle.rg_base.specs.declared.ty.Ty.TheVariants as ty
+use Rattle.rg_tree.specs.declared.rows.BinOp.TheVariants as op
+use Rattle.rg_tree.specs.Tree as tree
+use Rattle.rg_tree.specs.Tree.{Class, field, method}
+use Rattle.rg_code.specs.declared.op.Op.{Op}
+use Rattle.rg_code.specs.declared.op.Op.TheVariants as i
+use Rattle.rg_code.specs.Lowering.{method_scope}
+use Rattle.rg_verify.specs.Raised.{number, path, nil, is_nil, binary}
+use Rattle.rg_verify.specs.declared.callee.Callee.{Callee}
+use Rattle.rg_verify.specs.Statements.{value, new, new_iso, freeze, result_of, Kind, declare, assign, write, call}
+use Rattle.rg_verify.specs.Statements.{swap, branch, while, enter, enter_field, print, collect, return, no_else, otherwise, Block, empty}
+use Rattle.rg_verify.specs.Statements.{next, block_ops}
+use Rattle.rg_verify.specs.Found.{block_named, IsBlockFound}
+use Rattle.rg_verify.specs.Raising.{walk, raised}
+use Rattle.rg_verify.specs.Blocks.{Given, block_told}
+
+-- statements that all stand on line 1
+abbrev in_line : List Kind → Block
+in_line [] = empty
+in_line (k ∷ ks) = next 1 k (in_line ks)
+
+-- `iso c0`, `mut c0`
+abbrev iso : Ty
+iso = ty.Ref cap.Iso 0
+
+abbrev mut : Ty
+mut = ty.Ref cap.Mut 0
+
+-- `v7`, from its bytes
+abbrev at_v : String → tree.Path
+at_v x = record { base = Some (codes x); fields = [] }
+
+-- `print 7;`
+abbrev seven : Block
+seven = in_line (print (number (pos 7)) ∷ [])
+
+seven-code : block_ops [] 0 seven ≡ i.Mark 1 ∷ i.Int (pos 7) ∷ i.Print ∷ []
+seven-code = refl
+
+seven-named : block_named false 0 seven ≡ tree.then (tree.stmt 1 (tree.print (tree.number (pos 7)))) tree.empty
+seven-named = refl
+
+-- `class c0 { f0: int; f1: iso c0; }`
+abbrev classes : List Class
+classes =
+    record {
+      name = codes "c0";
+      is_tmp = false;
+      members =
+          field (record { name = codes "f0"; ty = tree.int; line = 1 })
+          ∷ field (record { name = codes "f1"; ty = tree.ref cap.Iso (codes "c0"); line = 1 }) ∷ [];
+      line = 1;
+    } ∷ []
+
+-- `let v0: int = 0; let v1: iso c0 = nil; while v0 < 3 { let v2: iso c0 = v1; v1 = v2; v0 = v0 + 1; }`
+abbrev loop : Block
+loop = in_line (
+    declare ty.Int (value (number (pos 0)))
+    ∷ declare iso (value nil)
+    ∷ while (binary op.Lt (path 0 []) (number (pos 3))) (in_line (
+    declare iso (value (path 1 []))
+    ∷ assign 1 (value (path 2 []))
+    ∷ assign 0 (value (binary op.Add (path 0 []) (number (pos 1)))) ∷ []
+    )) ∷ []
+    )
+
+abbrev loop_ops : (fails back : ℕ) → List Op
+loop_ops fails back =
+    i.Mark 1 ∷ i.Int (pos 0) ∷ i.Store 0
+    ∷ i.Mark 1 ∷ i.Nil ∷ i.Store 1
+    ∷ i.Mark 1 ∷ i.Load 0 ∷ i.Int (pos 3) ∷ i.Lt ∷ i.JumpFalse fails
+    ∷ i.Mark 1 ∷ i.Load 1 ∷ i.Clear 1 ∷ i.Store 2
+    ∷ i.Mark 1 ∷ i.Load 2 ∷ i.Clear 2 ∷ i.Own 1
+    ∷ i.Mark 1 ∷ i.Load 0 ∷ i.Int (pos 1) ∷ i.Add ∷ i.Store 0
+    ∷ i.Mark 1 ∷ i.End 2 ∷ i.Jump back ∷ []
+
+loop-code : block_ops [] 0 loop ≡ loop_ops 27 6
+loop-code = refl
+
+-- it is told from its code, in front of the end of main, with the maps of its marks
+abbrev loop_given : (fails back : ℕ) → Given
+loop_given fails back = record {
+  ops = loop_ops fails back ++ i.Mark 1 ∷ i.End 0 ∷ i.Halt ∷ [];
+  maps = [] ∷ [] ∷ [] ∷ (ty.Int ∷ []) ∷ [] ∷ [] ∷ (ty.Int ∷ iso ∷ []) ∷ [] ∷ [] ∷ [] ∷ [] ∷ (ty.Int ∷ iso ∷ []) ∷ [] ∷ [] ∷ []
+      ∷ (ty.Int ∷ iso ∷ iso ∷ []) ∷ [];
+  methods = [];
+}
+
+loop-told : block_told (loop_given 27 6) 64 [] 0 ≡ Some (loop, 27)
+unfolding block_told raised walk
+loop-told = refl
+
+-- nothing is told where the test leads elsewhere, where the jump does, and where no block may stand in another
+loop-apart : (block_told (loop_given 25 6) 64 [] 0 ≡ None) × (block_told (loop_given 28 6) 64 [] 0 ≡ None)
+    × (block_told (loop_given 27 3) 64 [] 0 ≡ None) × (block_told (loop_given 27 6) 1 [] 0 ≡ None)
+unfolding block_told raised walk
+loop-apart = (refl, refl, refl, refl)
+
+loop-found : IsBlockFound classes [] false loop
+unfolding digits
+loop-found = (
+  (refl, tt),
+  ((refl, tt), ((((refl, tt), tt), ((refl, (refl, tt)), (((refl, tt), (refl, tt)), (((refl, tt), ((refl, tt), tt)), tt)))), tt)),
+)
+
+-- owners that are entered, exchanged and frozen: `let v0: iso c0 = new iso c0 in arena; let v1: iso c0 = new iso c0 in count;
+-- enter v1 as v2 { v2.f0 = 9; } enter v0 as v2 { swap v1, v2.f1; } let v2: imm c0 = freeze v0; print v2.f1.f0;`
+abbrev owners : Block
+owners = in_line (
+    declare iso (new_iso 0 manager.Arena)
+    ∷ declare iso (new_iso 0 manager.Count)
+    ∷ enter 1 0 (in_line (write 2 [] 0 (value (number (pos 9))) ∷ []))
+    ∷ enter 0 0 (in_line (swap 1 2 [] 1 ∷ []))
+    ∷ declare (ty.Ref cap.Imm 0) (freeze 0)
+    ∷ print (path 2 (1 ∷ 0 ∷ [])) ∷ []
+    )
+
+owners-code : block_ops [] 0 owners
+    ≡ i.Mark 1 ∷ i.NewIso 0 manager.Arena ∷ i.Store 0
+    ∷ i.Mark 1 ∷ i.NewIso 0 manager.Count ∷ i.Store 1
+    ∷ i.Mark 1 ∷ i.Enter 1 2
+    ∷ i.Mark 1 ∷ i.Load 2 ∷ i.Check ∷ i.Int (pos 9) ∷ i.Put 0
+    ∷ i.Mark 1 ∷ i.Leave 2
+    ∷ i.Mark 1 ∷ i.Enter 0 2
+    ∷ i.Mark 1 ∷ i.Load 2 ∷ i.Check ∷ i.Swap 1 1
+    ∷ i.Mark 1 ∷ i.Leave 2
+    ∷ i.Mark 1 ∷ i.Freeze 0 ∷ i.Store 2
+    ∷ i.Mark 1 ∷ i.Load 2 ∷ i.Field 1 ∷ i.Field 0 ∷ i.Print ∷ []
+owners-code = refl
+
+owners-found : IsBlockFound classes [] false owners
+unfolding digits
+owners-found = (
+  (refl, refl),
+  (
+    (refl, refl),
+    (
+      (record { path = (refl, tt); class = refl }, (((refl, (refl, tt)), tt), tt)),
+      ((record { path = (refl, tt); class = refl }, ((refl, (refl, (refl, tt))), tt)), ((refl, refl), ((refl, (refl, (refl, tt))), tt))),
+    ),
+  ),
+)
+
+-- an object of the active region, whose field is entered: `let v0: mut c0 = new c0; v0.f1 = new iso c0 in trace; enter v0.f1 as v1 { collect; }`
+abbrev field_entered : Block
+field_entered = in_line (
+    declare mut (new 0)
+    ∷ write 0 [] 1 (new_iso 0 manager.Trace)
+    ∷ enter_field 0 [] 1 0 (in_line (collect ∷ [])) ∷ []
+    )
+
+field_entered-code : block_ops [] 0 field_entered
+    ≡ i.Mark 1 ∷ i.New 0 ∷ i.Store 0 ∷ i.Pace
+    ∷ i.Mark 1 ∷ i.Load 0 ∷ i.Check ∷ i.NewIso 0 manager.Trace ∷ i.Put 1
+    ∷ i.Mark 1 ∷ i.Load 0 ∷ i.EnterField 1 1
+    ∷ i.Mark 1 ∷ i.Collect
+    ∷ i.Mark 1 ∷ i.Leave 1 ∷ []
+field_entered-code = refl
+
+-- `def mut m0(v1: int): int { let v2: int = v1; if v1 > 0 { v2 = call self.m0(v1 - 1); } return v2; }`
+abbrev go : Callee
+go = record { number = 0; place = 0; result = Some ty.Int }
+
+abbrev descent : Block
+descent = in_line (
+    declare ty.Int (value (path 1 []))
+    ∷ branch (binary op.Gt (path 1 []) (number (pos 0))) (in_line (
+    assign 2 (result_of (record { slot = 0; fields = []; callee = go; args = binary op.Sub (path 1 []) (number (pos 1)) ∷ [] })) ∷ []
+    )) no_else
+    ∷ return (path 2 []) ∷ []
+    )
+
+descent-code : block_ops (mut ∷ ty.Int ∷ []) 100 descent
+    ≡ i.Mark 1 ∷ i.Load 1 ∷ i.Store 2
+    ∷ i.Mark 1 ∷ i.Load 1 ∷ i.Int (pos 0) ∷ i.Gt ∷ i.JumpFalse 119
+    ∷ i.Mark 1 ∷ i.Load 0 ∷ i.Check ∷ i.Load 1 ∷ i.Int (pos 1) ∷ i.Sub ∷ i.Room ∷ i.Call 0 ∷ i.Store 2
+    ∷ i.Mark 1 ∷ i.End 3
+    ∷ i.Mark 1 ∷ i.Load 2 ∷ i.Ret ∷ []
+descent-code = refl
+
+abbrev descent_method : tree.Method
+descent_method = record {
+  receiver = cap.Mut;
+  name = codes "m0";
+  params = record { name = codes "v1"; ty = tree.int } ∷ [];
+  result = Some tree.int;
+  body = block_named true 2 descent;
+  line = 1;
+}
+
+abbrev descents : List Class
+descents = record { name = codes "c0"; is_tmp = false; members = method descent_method ∷ []; line = 1 } ∷ []
+
+descent-found : IsBlockFound descents (method_scope descents 0 descent_method) true descent
+unfolding digits
+descent-found = (
+  (refl, (refl, tt)),
+  (
+    (((refl, tt), tt), (((refl, tt), record { target = (refl, tt); args = (((refl, tt), tt), tt); number = refl; result = refl }), tt), tt),
+    ((refl, tt), tt),
+  ),
+)
+
+descent-named : block_named true 2 descent
+    ≡ tree.then (tree.stmt 1 (tree.declare (codes "v2") tree.int (tree.value (tree.path (at_v "v1")))))
+    (tree.then (tree.stmt 1 (tree.branch (tree.binary op.Gt (tree.path (at_v "v1")) (tree.number (pos 0)))
+    (tree.then (tree.stmt 1 (tree.assign (at_v "v2") (tree.result_of (record {
+      target = record { base = None; fields = [] };
+      method = codes "m0";
+      args = tree.binary op.Sub (tree.path (at_v "v1")) (tree.number (pos 1)) ∷ [];
+    })))) tree.empty)
+    tree.no_else))
+    (tree.then (tree.stmt 1 (tree.return (tree.path (at_v "v2")))) tree.empty))
+unfolding digits
+descent-named = refl
+
+-- methods with an owner as their result, a truth value, and none
+
+abbrev drops : Callee
+drops = record { number = 0; place = 2; result = Some iso }
+
+abbrev pops : Callee
+pops = record { number = 1; place = 3; result = Some ty.Bool }
+
+abbrev leaves : Callee
+leaves = record { number = 2; place = 4; result = None }
+
+-- both blocks of an `if`, and results that nobody takes: `if v0 is nil { call v1.m2(v0); } else { call v1.m3(); call v1.m4(); }`
+abbrev choice : Block
+choice = next 4 (branch (is_nil 0 [])
+    (next 5 (call (record { slot = 1; fields = []; callee = drops; args = path 0 [] ∷ [] })) empty)
+    (otherwise (
+    next 7 (call (record { slot = 1; fields = []; callee = pops; args = [] }))
+    (next 8 (call (record { slot = 1; fields = []; callee = leaves; args = [] })) empty)))) empty
+
+abbrev choice_ops : Op → List Op
+choice_ops left =
+    i.Mark 4 ∷ i.Load 0 ∷ i.IsNil ∷ i.JumpFalse 15
+    ∷ i.Mark 5 ∷ i.Load 1 ∷ i.Check ∷ i.Load 0 ∷ i.Room ∷ i.Clear 0 ∷ i.Call 0 ∷ left
+    ∷ i.Mark 4 ∷ i.End 2 ∷ i.Jump 28
+    ∷ i.Mark 7 ∷ i.Load 1 ∷ i.Check ∷ i.Room ∷ i.Call 1 ∷ i.Pop
+    ∷ i.Mark 8 ∷ i.Load 1 ∷ i.Check ∷ i.Room ∷ i.Call 2
+    ∷ i.Mark 4 ∷ i.End 2 ∷ []
+
+choice-code : block_ops (iso ∷ mut ∷ []) 0 choice ≡ choice_ops i.Drop
+choice-code = refl
+
+abbrev choice_given : Op → Given
+choice_given left = record {
+  ops = choice_ops left ++ i.Mark 9 ∷ i.RetVoid ∷ [];
+  maps = [];
+  methods = drops ∷ pops ∷ leaves ∷ [];
+}
+
+choice-told : block_told (choice_given i.Drop) 64 (iso ∷ mut ∷ []) 0 ≡ Some (choice, 28)
+unfolding block_told raised walk
+choice-told = refl
+
+-- an owner that nobody takes is released
+choice-apart : block_told (choice_given i.Pop) 64 (iso ∷ mut ∷ []) 0 ≡ None
+unfolding block_told raised walk
+choice-apart = refl
