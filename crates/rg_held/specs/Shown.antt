@@ -1,5 +1,5 @@
 -- What the machine that frees shows of a state: all that it holds (docs/architecture.md, "The machine that frees").
-use Rattle.std.specs.Prelude.{◌≡◌, ℕ, Bool as Truth, List, [], Option, Some, None, slice_get}
+use Rattle.std.specs.Prelude.{◌≡◌, ◌≢◌, ℕ, Bool as Truth, List, [], Option, Some, None, slice_get}
 use Rattle.rg_base.specs.declared.object.Seen.{Seen}
 use Rattle.rg_tree.specs.Tree.{Class}
 use Rattle.rg_rules.specs.State.{State}
@@ -18,5 +18,5 @@ pub record ShowsHeld (classes : List Class) (code : Code) (m : Machine) (p : Sta
 
 -- the object with a serial, if one that is held has it; else what stands there, if anything does, is gone
 abbrev pub Finds : List Seen → (serial : ℕ) → Option Seen → Type 0
-Finds store serial (Some o) = slice_get store serial ≡ Some o
+Finds store serial (Some o) = (slice_get store serial ≡ Some o) × (o ≢ gone)
 Finds store serial None = (o : Seen) → slice_get store serial ≡ Some o → o ≡ gone

@@ -49,6 +49,7 @@ mod UnmovedLemmas
 mod SlidingLemmas
 pub mod PartLemmas
 mod OwnedLemmas
+pub mod ActiveLemmas
 mod ReachPathLemmas
 mod ReachSlotLemmas
 mod ReachCountLemmas

@@ -264,6 +264,12 @@ module _ (w : Whole) (ser : Serials w.heap.cells.heap) (g : Grove w.heap.cells w
       grove = g;
       first = let u = there w.frames.windows 0 st.opened.some in (u.0.region, st.opened.first u.0 u.1);
       opened = st.opened.known;
+      bridges = st.bridges;
+      serials = ser;
+      temps = st.opened.temps;
+      all_temps = st.opened.all_temps;
+      once = st.opened.once;
+      windowed = st.temps;
       owner = has-owner;
       one_owner = only-one once;
       bridge = leads-bridge;

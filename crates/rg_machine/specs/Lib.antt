@@ -7,4 +7,5 @@ pub mod Frames
 pub mod Effects
 pub mod Collects
 pub mod Owned
+pub mod Active
 pub mod High

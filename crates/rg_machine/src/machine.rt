@@ -7,6 +7,7 @@ ghost use Rattle.rg_base.specs.declared.limits.TheConstants.{FRAMES as FRAMES_MO
 ghost use Rattle.rg_base.specs.declared.object.Seen.{Seen as Object};
 ghost use Rattle.rg_base.specs.declared.value.Val.{Val as Value};
 ghost use Rattle.rg_base.specs.declared.value.Val.TheVariants.{Nil};
+ghost use Rattle.rg_cells.specs.Table.{high_of};
 ghost use Rattle.rg_heap.specs.Answers.{Shows};
 ghost use Rattle.rg_held.specs.Shown.{Finds};
 ghost use Rattle.rg_rules.specs.Evaluation.{object_at};
@@ -66,11 +67,12 @@ impl Model for Machine {
 impl Machine {
     /// Main's frame of so many slots, window 0 over it, and region 0 with a manager.
     pub fn begin(alloc: Global, slots: u32, manager: Manager) -> Result<Machine, Memory>
-        ensures { IfOk result (λ m. core_of m ≡ record {
+        ensures core { IfOk result (λ m. core_of m ≡ record {
           machine = opening slots manager;
           stack = [];
           printed = None;
         }) }
+        ensures high { IfOk result (λ m. high_of m.heap.cells.heap ≡ 0) }
     {
         let mut heap = Heap::new(alloc);
         let key = heap.begin(manager)?;
@@ -90,7 +92,7 @@ impl Machine {
         ensures shows { IfOk result (Shows self.now.heap.cells.heap serial) }
         ensures finds { IfOk result (Finds (machine_in self.now).store serial) }
     {
-        self.heap.is_forest();
+        self.is_sound();
         self.heap.shown(alloc, serial)
     }
 

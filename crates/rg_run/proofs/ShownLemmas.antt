@@ -15,14 +15,14 @@ use Rattle.rg_held.specs.Frees.{gone}
 use Rattle.rg_run.specs.Machine.{Kept, IsShown}
 use Rattle.rg_run.specs.Sound.{HoldsOf}
 
--- what is answered for a serial is the state's object, which is held there, or it is gone
+-- what is answered for a serial is the state's object, which is held there
 pub shown-held : (classes : List Class) (m : Kept) (s : State) → HoldsOf classes m s → (serial : ℕ) (o : Seen) → IsShown m serial (Some o) →
-    (o ≡ gone) ⊎ ((h : IsHeld classes s serial) × (h.object ≡ o))
+    (h : IsHeld classes s serial) × (h.object ≡ o)
 shown-held classes m s k serial o there = by (k.holds serial) refl
   where
-    by : (b : Truth) → k.holds serial ≡ b → (o ≡ gone) ⊎ ((h : IsHeld classes s serial) × (h.object ≡ o))
-    by true e = let h = k.held serial e in inr (h, same_Some h.object o (sym (k.same serial h.object e h.there) ∙ there))
-    by false e = inl (k.others serial o e there)
+    by : (b : Truth) → k.holds serial ≡ b → (h : IsHeld classes s serial) × (h.object ≡ o)
+    by true e = let h = k.held serial e in (h, same_Some h.object o (sym (k.same serial h.object e h.there) ∙ there.0))
+    by false e = absurd (there.1 (k.others serial o e there.0))
 
 -- no window has the number of what is gone
 held-there : (t : Tree) (s : State) → Fit t s → s.windows_made ≤ 2 ^ 64 - 1 → (serial : ℕ) → (h : IsHeld t.classes s serial) → h.object ≡ gone → ⊥

@@ -4,10 +4,10 @@ use Rattle.rg_base.specs.declared.outcome.Ended.{Ended}
 use Rattle.rg_base.specs.declared.outcome.Outcome.{Outcome}
 use Rattle.rg_base.specs.declared.words.Manager.{Manager}
 use Rattle.rg_code.specs.Code.{Code}
-use Rattle.rg_machine.specs.Parts.{Parts, machine_in}
+use Rattle.rg_machine.specs.Parts.{Parts}
 use Rattle.rg_step.specs.Collections.{Asks}
-use Rattle.rg_step.specs.States.{Chain, OneStep, Standing}
-use Rattle.rg_step.specs.Steps.{Stepping, fresh, is_made, opening_machine}
+use Rattle.rg_step.specs.States.{Chain, OneStep, Opens, Standing}
+use Rattle.rg_step.specs.Steps.{Stepping, fresh, is_made}
 use Rattle.rg_step.proofs.ChainLemmas.{chain-none, chain-one, chain-then}
 use Rattle.rg_run.specs.Inner.{IsUntold}
 use Rattle.rg_run.specs.Machine.{Kept}
@@ -28,12 +28,12 @@ kept started st steps = record { begun = started; stepper = st; steps = steps }
 -- so many steps lead from an opening state to this one
 pub record LeadsTo (code : Code) (manager : Manager) (k : ℕ) (first : Asks) (now : Standing) (before after : List ℕ) : Type 0 where
   pub parts : Parts
-  pub opens : machine_in parts ≡ opening_machine code manager
+  pub opens : Opens code manager parts
   pub chain : Chain code k (at_first parts now.stepper.slides first) now before after
 
 module _ {code : Code} {manager : Manager} {first : Asks} {k : ℕ} where
   -- no step was made yet
-  pub opened : (parts : Parts) (slides : Bool) (st : Stepping) → machine_in parts ≡ opening_machine code manager →
+  pub opened : (parts : Parts) (slides : Bool) (st : Stepping) → Opens code manager parts →
       st ≡ record fresh { parts = parts; slides = slides } → k ≡ 0 → (bytes : List ℕ) → LeadsTo code manager k first (standing st first) bytes bytes
   opened parts slides st opens is none bytes =
       let at = at_first parts slides first in

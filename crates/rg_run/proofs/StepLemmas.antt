@@ -18,7 +18,7 @@ module _ {code : Code} {old new : Standing} {result : Outcome} {a b : Pending} {
 
   pub added : Adds new.stepper.steps old.stepper.events new.stepper.events result × SameTuned old.pacers new.pacers
   added =
-      step-adds (due_at code.ops old.stepper.parts.at) old.stepper some.2.serves.0 new.stepper old.pacers new.pacers result some.2.serves.3
+      step-adds (due_at code.ops old.stepper.parts.at) old.stepper some.2.serves.mid new.stepper old.pacers new.pacers result some.2.serves.does
 
   pub slides : new.stepper.slides ≡ old.stepper.slides
   slides = some.2.slides

@@ -1,5 +1,5 @@
 -- What a machine keeps, and when it shows a state of the machine that never frees (docs/language.md, "Steps").
-use Rattle.std.specs.Prelude.{◌≡◌, ℕ, Bool, true, false, List, Option, Some, None, slice_get}
+use Rattle.std.specs.Prelude.{◌≡◌, ◌≢◌, ℕ, Bool, true, false, List, Option, Some, None, slice_get}
 use Rattle.rg_base.specs.declared.object.Seen.{Seen}
 use Rattle.rg_base.specs.declared.outcome.EndNumbers.{EndNumbers}
 use Rattle.rg_tree.specs.Rows.Tables.{Tables}
@@ -42,7 +42,7 @@ object_at m serial = slice_get (machine_in m.stepper.parts).store serial
 
 -- what is answered for a serial: the object that the machine holds there, and none where it holds none
 abbrev pub IsShown : Kept → (serial : ℕ) → Option Seen → Type 0
-IsShown m serial (Some o) = object_at m serial ≡ Some o
+IsShown m serial (Some o) = (object_at m serial ≡ Some o) × (o ≢ gone)
 IsShown m serial None = (o : Seen) → object_at m serial ≡ Some o → o ≡ gone
 
 -- the numbers of a run: its whole steps, those of the heap, and the collections

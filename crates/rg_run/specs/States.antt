@@ -5,10 +5,10 @@ use Rattle.rg_base.specs.declared.outcome.Ended.TheVariants as ended
 use Rattle.rg_base.specs.declared.outcome.Outcome.TheVariants as outcome
 use Rattle.rg_base.specs.declared.words.Manager.{Manager}
 use Rattle.rg_code.specs.Code.{Code}
-use Rattle.rg_machine.specs.Parts.{Parts, machine_in}
+use Rattle.rg_machine.specs.Parts.{Parts}
 use Rattle.rg_step.specs.Collections.{Asks}
-use Rattle.rg_step.specs.States.{Chain, OneStep, Standing}
-use Rattle.rg_step.specs.Steps.{fresh, opening_machine}
+use Rattle.rg_step.specs.States.{Chain, OneStep, Opens, Standing}
+use Rattle.rg_step.specs.Steps.{fresh}
 use Rattle.rg_run.specs.Machine.{Kept}
 
 -- How a run leaves the stepper: at the last state of its whole steps, or at what a step left behind that one which was refused.
@@ -24,7 +24,7 @@ LeavesAt code ended.Memory last now before after = ((now ≡ last) × (after ≡
 -- whether what is kept moves, each other one follows by a step, and the machine is left at the last one.
 pub record RunsThrough (code : Code) (manager : Manager) (m : Kept) (result : Ended) (first last : Asks) (before after : List ℕ) : Type 0 where
   pub parts : Parts
-  pub opens : machine_in parts ≡ opening_machine code manager
+  pub opens : Opens code manager parts
   pub end : Standing
   pub left : List ℕ
   pub chain : Chain code m.steps (record { stepper = record fresh { parts = parts; slides = m.stepper.slides }; pacers = first }) end before left

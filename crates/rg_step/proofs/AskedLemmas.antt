@@ -12,11 +12,10 @@ use Rattle.rg_rules.specs.State.{State, active}
 use Rattle.rg_rules.specs.Steps.{next}
 use Rattle.rg_code.specs.Code.{Code}
 use Rattle.rg_heap.specs.declared.answers.Active.{Active}
-use Rattle.rg_heap.specs.Answers.{Tells}
-use Rattle.rg_heap.specs.Parts.{OnTop}
 use Rattle.rg_code.specs.Dues.{due_at}
 use Rattle.rg_stack.specs.Machine.{Machine}
 use Rattle.rg_stack.proofs.Callers.DueLemmas.{steps-due}
+use Rattle.rg_machine.specs.Active.{IsActive}
 use Rattle.rg_machine.specs.Parts.{Parts, machine_in}
 use Rattle.rg_machine.specs.Stands.{Stands}
 use Rattle.rg_step.specs.Asking.{AsksFrom, AsksOn, first_makes, raised_if}
@@ -93,7 +92,7 @@ module _ (t : Tree) (code : Code) (was : Machine) (old : Stepping) (mid : Parts)
     (made : is_made result ≡ true) (stands : Stands mid.heap mid.frames) (bytes left : List ℕ)
     (steps : StepsOn code was (machine_in mid) result bytes left) (s : State) (r : Runs t code was s) where
   -- an object is made in a region whose manager is told
-  pub paced-in : due_at code.ops was.at ≡ Some Paced → (a : Active) → OnTop mid.frames (λ top. Tells mid.heap.regions top.region a)
+  pub paced-in : due_at code.ops was.at ≡ Some Paced → (a : Active) → IsActive mid a
       → (first_makes t.classes s.items ≡ true) × (slice_get s.managers (active s.windows) ≡ Some a.manager)
   paced-in is a tells =
       let makes : first_makes t.classes s.items ≡ true = makes-due t code was s (Some Paced) r is in

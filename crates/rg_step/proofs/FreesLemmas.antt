@@ -1,5 +1,5 @@
 -- What a step frees: by the law on the store that is shown, and by the table of regions beside it.
-use Rattle.std.proofs.Common.{◌≡◌, ◌≢◌, inl, inr, ℕ, zero, suc, true, List, Option, Some, None, option_map, slice_get}
+use Rattle.std.proofs.Common.{◌≡◌, ◌≢◌, inl, inr, ℕ, zero, suc, true, List, [], Option, Some, None, option_map, slice_get}
 use Rattle.std.proofs.Common.{IsSome, refl, sym, ap, ◌∙◌, subst, arith}
 use Rattle.std.proofs.lemmas.Bool.{false≢true}
 use Rattle.std.proofs.lemmas.Option.{same_Some}
@@ -17,6 +17,7 @@ use Rattle.rg_stack.specs.Refusals.{Orderly}
 use Rattle.rg_held.specs.Frees.{gone, free_step as step}
 use Rattle.rg_held.specs.Freed.{FreesOnly as StoreFrees, RegionEnded, StepFrees}
 use Rattle.rg_held.proofs.Callers.FreedLemmas.{steps-free}
+use Rattle.rg_held.proofs.Callers.GoneLemmas.{StaysGone as StoreStays, StepStays, step-stays}
 use Rattle.rg_view.proofs.Callers.LinkLemmas.{gone-region, store-back}
 use Rattle.rg_view.proofs.Callers.LookLemmas.{store-held}
 use Rattle.rg_view.proofs.Callers.OpenLemmas.{window-open}
@@ -25,10 +26,10 @@ use Rattle.rg_machine.specs.Core.{Core, started, work_of}
 use Rattle.rg_machine.specs.Parts.{Parts, machine_in}
 use Rattle.rg_step.specs.declared.step.Did.{Did}
 use Rattle.rg_step.specs.declared.step.Did.TheVariants as did
-use Rattle.rg_step.specs.Frees.{FreesOnly}
+use Rattle.rg_step.specs.Frees.{FreesOnly, StaysGone}
 use Rattle.rg_step.specs.Inner.Leaps.{GoesOn, with_left}
 use Rattle.rg_step.specs.Inner.Refusals.{DidLeaves, asks_at}
-use Rattle.rg_step.specs.Inner.Sound.{IsSound}
+use Rattle.rg_step.specs.Sound.{IsSound}
 use Rattle.rg_step.specs.Inner.Walks.{StepIs}
 use Rattle.rg_step.specs.Steps.{IsRunning}
 use Rattle.rg_step.proofs.RunLemmas.{runs-on}
@@ -63,6 +64,34 @@ did-frees code c new d before after (t, p, r) leaves is o = by d (leaves o) is
 pub goes-frees : (code : Code) (old new : Machine) → IsRunning code old → GoesOn code old new → StoreFrees old new
 goes-frees code old new (t, p, r) goes =
     subst (StepFrees old) (goes p.input) (steps-free t code (with_left old p.input) p r.accepted r.lowers r.fits r.shows refl r.left)
+
+-- What is gone stays so
+
+-- nothing changes
+same-gone : (old new : Machine) → new ≡ old → StoreStays old.store new.store
+same-gone old new same a e = ap (λ (m : Machine). slice_get m.store a) same ∙ e
+
+-- behind a step
+pub did-stays : (code : Code) (c new : Core) (d : Did) (before after : List ℕ) → IsRunning code c.machine
+    → (Orderly code.ops c.machine → DidLeaves (asks_at code.ops c.machine) c.machine new.machine d) → StepIs code c new d before after
+    → Orderly code.ops c.machine → StoreStays c.machine.store new.machine.store
+did-stays code c new d before after runs leaves is o = by d (leaves o) is
+  where
+    law : StepStays c.machine (step code (work_of (started c) before))
+    law = step-stays code (work_of (started c) before)
+
+    by : (d : Did) → DidLeaves (asks_at code.ops c.machine) c.machine new.machine d → StepIs code c new d before after
+        → StoreStays c.machine.store new.machine.store
+    by did.Goes left is = subst (StepStays c.machine) is.0 law
+    by did.Ends left is = subst (StepStays c.machine) is.0 law
+    by (did.Trapped kind line) left is = same-gone c.machine new.machine left
+    by did.InputFault left is = same-gone c.machine new.machine left.1
+    by did.Memory left is = same-gone c.machine new.machine left
+    by did.Lost left is = absurd (runs-on code c new before after runs is)
+
+-- and a known one
+pub goes-stays : (code : Code) (old new : Machine) → GoesOn code old new → StoreStays old.store new.store
+goes-stays code old new goes = subst (StepStays old) (goes []) (step-stays code (with_left old []))
 
 -- By the table of regions
 
@@ -131,5 +160,8 @@ module _ (old new : Parts) (was : IsSound old.heap old.frames) (is : IsSound new
   ]
 
 -- parts that stay free nothing
+pub none-stays : (p : Parts) → StaysGone p p
+none-stays p serial e = e
+
 pub none-frees : (p : Parts) → FreesOnly p p
 none-frees p serial o held live away = absurd (live (away o held))

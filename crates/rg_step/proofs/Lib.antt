@@ -31,3 +31,4 @@ mod AskedLemmas
 mod SinceLemmas
 mod OneLemmas
 pub mod ChainLemmas
+pub mod ToldLemmas

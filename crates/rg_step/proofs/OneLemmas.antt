@@ -1,5 +1,6 @@
 -- What a step did, in one record, by how it ended.
 use Rattle.std.proofs.Common.{◌≡◌, ◌≤◌, ◌-◌, ◌^◌, ℕ, true, false, true≢false, List, ◌++◌, Some, None, refl, sym, ap, ◌∙◌, subst}
+use Rattle.std.proofs.lemmas.Option.{none-some, same_Some}
 use Rattle.rg_base.specs.declared.event.Cause.{Cause}
 use Rattle.rg_base.specs.declared.event.Cause.TheVariants.{Asked}
 use Rattle.rg_base.specs.declared.event.Event.{Event}
@@ -13,11 +14,12 @@ use Rattle.rg_machine.specs.High.{NoneMade}
 use Rattle.rg_machine.specs.Parts.{Parts, machine_in}
 use Rattle.rg_machine.specs.Stands.{Stands}
 use Rattle.rg_step.specs.Collections.{IsRefused, Serves, Unasked}
-use Rattle.rg_step.specs.Frees.{FreesOnly}
+use Rattle.rg_step.specs.Frees.{FreesOnly, StaysGone}
+use Rattle.rg_step.specs.Sound.{IsSound}
 use Rattle.rg_step.specs.States.{OneStep, Raises, Standing}
 use Rattle.rg_step.specs.Steps.{Counts, IsRunning, StepsOn, counted, is_made}
 use Rattle.rg_step.proofs.AskedLemmas.{asks-refused, asks-served, asks-undue}
-use Rattle.rg_step.proofs.FreesLemmas.{none-frees}
+use Rattle.rg_step.proofs.FreesLemmas.{none-frees, none-stays}
 use Rattle.rg_step.proofs.HighLemmas.{raises-none}
 use Rattle.rg_step.proofs.ReachedLemmas.{none-reached, serves-reached}
 use Rattle.rg_step.proofs.ServeLemmas.{serves-none, serves-refused, serves-shows, serves-some, steps-nowhere}
@@ -48,14 +50,26 @@ counts-made old new outcome.Memory made more = absurd (true≢false (sym made))
 
 module _ (code : Code) (old new : Standing) (runs : IsRunning code (machine_in old.stepper.parts)) (result : Outcome)
     (high : Raises result old.stepper.parts new.stepper.parts) (frees : FreesOnly old.stepper.parts new.stepper.parts)
+    (stays : StaysGone old.stepper.parts new.stepper.parts) (sound : IsSound new.stepper.parts.heap new.stepper.parts.frames)
     (slides : new.stepper.slides ≡ old.stepper.slides) where
   -- it was refused
-  pub one-refused : is_made result ≡ false → IsRefused old.stepper new.stepper old.pacers new.pacers
+  pub one-refused : (due_at code.ops old.stepper.parts.at ≡ Some Asked
+      → (new.stepper.parts.heap ≡ old.stepper.parts.heap) × (new.stepper.parts.frames ≡ old.stepper.parts.frames))
+      → is_made result ≡ false → IsRefused old.stepper new.stepper old.pacers new.pacers
       → new.stepper.steps ≡ old.stepper.steps → (before after : List ℕ)
       → StepsOn code (machine_in old.stepper.parts) (machine_in new.stepper.parts) result before after → OneStep code old new result before after
-  one-refused none refused same before after steps = record {
+  one-refused still none refused same before after steps = record {
     shows = steps;
-    serves = (new.stepper.parts, steps, frees, serves-refused _ _ _ _ _ _ result none refused);
+    sound = sound;
+    serves = record {
+      mid = new.stepper.parts;
+      sound = sound;
+      still = still;
+      shows = steps;
+      frees = frees;
+      stays_gone = stays;
+      does = serves-refused _ _ _ _ _ _ result none refused;
+    };
     reaches = λ t p q r e went. none-reached _ _ q refused.events_are;
     slid = none-slid old.stepper new.stepper refused.events_are;
     slides = slides;
@@ -75,12 +89,16 @@ module _ (code : Code) (old new : Standing) (runs : IsRunning code (machine_in o
       → StepsOn code (machine_in old.stepper.parts) (machine_in new.stepper.parts) result before after → OneStep code old new result before after
   one-undue made none told unasked more before after steps = record {
     shows = steps;
-    serves = (
-      new.stepper.parts,
-      steps,
-      frees,
-      serves-none _ _ _ _ _ _ result made none (record { parts = refl; events_are = told }) unasked,
-    );
+    sound = sound;
+    serves = record {
+      mid = new.stepper.parts;
+      sound = sound;
+      still = λ asked. absurd (none-some Asked (sym none ∙ asked));
+      shows = steps;
+      frees = frees;
+      stays_gone = stays;
+      does = serves-none _ _ _ _ _ _ result made none (record { parts = refl; events_are = told }) unasked;
+    };
     reaches = λ t p q r e went. none-reached _ _ q told;
     slid = none-slid old.stepper new.stepper told;
     slides = slides;
@@ -97,21 +115,23 @@ module _ (code : Code) (old new : Standing) (runs : IsRunning code (machine_in o
 -- nothing was done
 pub one-nothing : (code : Code) (old new : Standing) → IsRunning code (machine_in old.stepper.parts) → new.stepper.parts ≡ old.stepper.parts
     → IsRefused old.stepper new.stepper old.pacers new.pacers → new.stepper.steps ≡ old.stepper.steps → new.stepper.slides ≡ old.stepper.slides
-    → (bytes : List ℕ) → OneStep code old new outcome.Memory bytes bytes
-one-nothing code old new runs there refused same slides bytes =
+    → IsSound new.stepper.parts.heap new.stepper.parts.frames → (bytes : List ℕ) → OneStep code old new outcome.Memory bytes bytes
+one-nothing code old new runs there refused same slides sound bytes =
     one-refused code old new runs outcome.Memory tt (subst (λ (p : Parts). FreesOnly old.stepper.parts p) (sym there) (none-frees old.stepper.parts))
-    slides refl refused same bytes bytes
+    (subst (λ (p : Parts). StaysGone old.stepper.parts p) (sym there) (none-stays old.stepper.parts)) sound slides
+    (λ asked. (ap (λ (p : Parts). p.heap) there, ap (λ (p : Parts). p.frames) there)) refl refused same bytes bytes
     (subst (λ (p : Parts). StepsOn code (machine_in old.stepper.parts) (machine_in p) outcome.Memory bytes bytes) (sym there)
     (steps-nowhere code (machine_in old.stepper.parts) bytes))
 
 -- It was made, and what was due was done: behind its instructions, which left `mid`, where these events had been told.
 module _ (code : Code) (old : Standing) (mid : Parts) (new : Standing) (runs : IsRunning code (machine_in old.stepper.parts))
     (stands : Stands mid.heap mid.frames) (serials : Serials mid.heap.cells.heap) (windows : mid.frames.next ≤ 2 ^ 64 - 1)
-    (grove : Grove mid.heap.cells mid.heap.regions) (grown : Grove new.stepper.parts.heap.cells new.stepper.parts.heap.regions)
+    (grove : Grove mid.heap.cells mid.heap.regions)
     (why : Cause) (due : due_at code.ops old.stepper.parts.at ≡ Some why)
     (events : List Event) (told : events ≡ old.stepper.events)
     (serves : Serves (Some why) (record old.stepper { events = events }) mid new.stepper old.pacers new.pacers)
-    (none : NoneMade mid.heap new.stepper.parts.heap) (frees : FreesOnly old.stepper.parts mid)
+    (grown : IsSound new.stepper.parts.heap new.stepper.parts.frames)
+    (none : NoneMade mid.heap new.stepper.parts.heap) (frees : FreesOnly old.stepper.parts mid) (stays : StaysGone old.stepper.parts mid)
     (still : why ≡ Asked → (mid.heap ≡ old.stepper.parts.heap) × (mid.frames ≡ old.stepper.parts.frames))
     (slides : new.stepper.slides ≡ old.stepper.slides) where
   pub one-served : (result : Outcome) → Raises result old.stepper.parts mid → is_made result ≡ true
@@ -123,8 +143,17 @@ module _ (code : Code) (old : Standing) (mid : Parts) (new : Standing) (runs : I
       let shows = serves-shows code m result made why behind mid new.stepper _ _ serves stands serials windows before after steps in
       record {
         shows = shows;
-        serves = (mid, steps, frees, serves-some _ why old.stepper events mid new.stepper _ _ result made due told serves);
-        reaches = serves-reached code why behind mid new.stepper _ _ result made serves stands serials windows grove grown m old.stepper.events
+        sound = grown;
+        serves = record {
+          mid = mid;
+          sound = record { stands = stands; serials = serials; forest = grove };
+          still = λ asked. still (same_Some why Asked (sym due ∙ asked));
+          shows = steps;
+          frees = frees;
+          stays_gone = stays;
+          does = serves-some _ why old.stepper events mid new.stepper _ _ result made due told serves;
+        };
+        reaches = serves-reached code why behind mid new.stepper _ _ result made serves stands serials windows grove grown.forest m old.stepper.events
             (sym told) before after steps;
         slid = serves-slid why old.stepper behind mid new.stepper _ _ serves told slides still;
         slides = slides;

@@ -27,7 +27,7 @@ use Rattle.rg_stack.proofs.Walks.MarkLemmas.{drop-stands, first-drop, lies_at_ma
 use Rattle.rg_held.specs.Frees.{free_step_from as step_from}
 use Rattle.rg_machine.specs.Parts.{Parts, machine_in}
 use Rattle.rg_machine.proofs.HighLemmas.{none-same}
-use Rattle.rg_step.specs.Frees.{FreesOnly}
+use Rattle.rg_step.specs.Frees.{FreesOnly, StaysGone}
 use Rattle.rg_step.specs.Inner.Leaps.{GoesTo, with_left}
 use Rattle.rg_step.specs.Inner.Serving.{is_asked}
 use Rattle.rg_step.specs.States.{Raises}
@@ -124,6 +124,9 @@ module _ (code : Code) (old new : Parts) (is : new ≡ record old { at = old.at 
 
   pub pass-frees : FreesOnly old new
   pass-frees = subst (FreesOnly old) (sym is) (λ serial o held live away. absurd (live (away o held)))
+
+  pub pass-stays : StaysGone old new
+  pass-stays = subst (StaysGone old) (sym is) (λ serial e. e)
 
   pub pass-rests : IsResting old → IsResting new
   pass-rests r = subst IsResting (sym is) (record { words = r.words; printed = r.printed })

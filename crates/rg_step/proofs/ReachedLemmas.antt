@@ -23,6 +23,7 @@ use Rattle.rg_held.specs.Part.{Part}
 use Rattle.rg_machine.specs.Collects.{holds}
 use Rattle.rg_machine.specs.Parts.{Parts, machine_in}
 use Rattle.rg_machine.specs.Stands.{Stands}
+use Rattle.rg_machine.proofs.ActiveLemmas.{on-each}
 use Rattle.rg_machine.proofs.PartLemmas.{shown-part}
 use Rattle.rg_machine.proofs.ReachLemmas.{kept-traced}
 use Rattle.rg_machine.proofs.SlidReachLemmas.{slid-traced}
@@ -73,7 +74,7 @@ serves-told Paced old mid new before after s e more = by s.0.manager s.2
     by Count c = on c.0 c.1
     by Trace c = on c.0 c.1
 
-went-is : (d : Plain) (q r : State) → d ≡ Went q → d ≡ Went r → q ≡ r
+pub went-is : (d : Plain) (q r : State) → d ≡ Went q → d ≡ Went r → q ≡ r
 went-is d q r e f = same (sym e ∙ f)
   where
     same : Went q ≡ Went r → q ≡ r
@@ -85,9 +86,9 @@ kept-behind : (slides : Bool) (t : Tree) (code : Code) (s : State) (mid new : Pa
     → Serials mid.heap.cells.heap → Grove mid.heap.cells mid.heap.regions → Grove new.heap.cells new.heap.regions
     → Stands mid.heap mid.frames → CollectsTop slides mid new (Some told) → told.manager ≡ Trace → told.kept ≡ length (plain_reach s)
 kept-behind false t code s mid new m told fit shows part serials grove grown stands collects is =
-    kept-traced t code s mid new m told fit shows part serials grove grown stands collects is
+    kept-traced t code s mid new m told fit shows part serials grove grown stands (on-each mid _ collects) is
 kept-behind true t code s mid new m told fit shows part serials grove grown stands collects is =
-    slid-traced t code s mid new m told fit shows part serials grove grown stands collects is
+    slid-traced t code s mid new m told fit shows part serials grove grown stands (on-each mid _ collects) is
 
 -- what is told of a collection behind a step
 pub serves-reached : (code : Code) (why : Cause) (old : Stepping) (mid : Parts) (new : Stepping) (asks told : Asks) (result : Outcome)

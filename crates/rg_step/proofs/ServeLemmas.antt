@@ -1,6 +1,5 @@
 -- Behind the instructions of a step that was made: at most one place leads into each closed region, and a collection keeps what is shown.
-use Rattle.std.proofs.Common.{◌≡◌, ◌≤◌, ◌-◌, ◌^◌, ◌⊎◌, inl, inr, ℕ, true, false, List, [], Option, Some, None, length, refl, sym, ap, ◌∙◌, subst}
-use Rattle.std.proofs.Common.{arith}
+use Rattle.std.proofs.Common.{◌≡◌, ◌≤◌, ◌-◌, ◌^◌, ◌⊎◌, inl, inr, ℕ, true, false, List, [], Option, Some, None, refl, sym, ap, ◌∙◌, subst}
 use Rattle.std.proofs.Common.{Bool, true≢false, option_map}
 use Rattle.std.proofs.lemmas.Option.{none-some}
 use Rattle.rg_base.specs.declared.event.Cause.{Cause}
@@ -10,7 +9,6 @@ use Rattle.rg_base.specs.declared.outcome.Outcome.{Outcome}
 use Rattle.rg_base.specs.declared.outcome.Outcome.TheVariants as outcome
 use Rattle.rg_base.specs.declared.words.Manager.{Manager}
 use Rattle.rg_base.specs.declared.words.Manager.TheVariants.{Arena, Count, Trace}
-use Rattle.rg_base.proofs.Callers.Lists.{there}
 use Rattle.rg_tree.specs.Tree.{Tree}
 use Rattle.rg_rules.specs.Acceptance.{Accepted}
 use Rattle.rg_rules.specs.State.{State}
@@ -36,8 +34,9 @@ use Rattle.rg_held.proofs.Gather.Told.{held-as, part-as}
 use Rattle.rg_machine.specs.Collects.{holds}
 use Rattle.rg_machine.specs.Parts.{Parts, machine_in}
 use Rattle.rg_machine.specs.Stands.{Stands}
+use Rattle.rg_machine.proofs.ActiveLemmas.{on-each}
 use Rattle.rg_machine.proofs.PartLemmas.{gathers-part, gone-shown, held-shown, once-held, slides-part}
-use Rattle.rg_step.specs.Collections.{Asks, CollectsAsked, CollectsOn, CollectsTop, GathersBy, IsLeft, IsRefused, OnActive, Paces, Serves, ServesBy}
+use Rattle.rg_step.specs.Collections.{Asks, CollectsAsked, CollectsOn, CollectsTop, ForActive, GathersBy, IsLeft, IsRefused, Paces, Serves, ServesBy}
 use Rattle.rg_step.specs.Collections.{Unasked}
 use Rattle.rg_step.specs.Steps.{IsRunning, Runs, Settles, Stepping, StepsOn, is_made}
 use Rattle.rg_step.proofs.RunLemmas.{with-input}
@@ -189,15 +188,8 @@ has-record t key n h = by (record_at t key) refl
     by (Some r) e = (r, e)
 
 -- a region that isn't an arena tells of its collection
-pub told-some : (slides : Bool) (mid new : Parts) → Stands mid.heap mid.frames → OnActive mid (λ a. a.manager ≡ Arena → ⊥)
-    → CollectsTop slides mid new None → ⊥
-told-some slides mid new stands a by =
-    let some = stands.opened.some in
-    let top = there mid.frames.windows (length mid.frames.windows - 1) (omega (arith, some)) in
-    let n = stands.opened.known (length mid.frames.windows - 1) top.0 top.1 in
-    let r = has-record mid.heap.regions top.0.region n.0 n.1 in
-    let same : a.0.manager ≡ r.0.manager = (a.1 top.0 top.1 r.0 r.1).1 in
-    none slides by top.0 top.1 r.0 r.1 (λ e. a.2 (same ∙ e))
+pub told-some : (slides : Bool) (mid new : Parts) → ForActive mid (λ a. a.manager ≡ Arena → ⊥) → CollectsTop slides mid new None → ⊥
+told-some slides mid new a by = none slides by
   where
     stayed : (m : Manager) (key : ℕ) (r : Record) (roots : Roots) → (m ≡ Arena → ⊥) → CollectsBy m mid.heap new.heap key r roots None → ⊥
     stayed Arena key r roots never c = never refl
@@ -210,7 +202,10 @@ told-some slides mid new stands a by =
     moved Count key r before after never c = none-some c.0.0 c.0.1
     moved Trace key r before after never c = none-some c.0 c.1
 
-    none : (slides : Bool) → CollectsTop slides mid new None → (top : WindowRow) → IsTop mid.frames top → (r : Record)
-        → record_at mid.heap.regions top.region ≡ Some r → (r.manager ≡ Arena → ⊥) → ⊥
-    none false by top is r known never = stayed r.manager _ _ _ never (by top is r known)
-    none true by top is r known never = moved r.manager _ _ _ _ never (by top is r known)
+    -- its record has the manager that is told
+    manager : (top : WindowRow) (r : Record) → IsTop mid.frames top → record_at mid.heap.regions top.region ≡ Some r → r.manager ≡ Arena → ⊥
+    manager top r is known e = a.2 ((on-each mid _ a.1 top is r known).1 ∙ e)
+
+    none : (slides : Bool) → CollectsTop slides mid new None → ⊥
+    none false (top, r, is, known, c) = stayed r.manager _ _ _ (manager top r is known) c
+    none true (top, r, is, known, c) = moved r.manager _ _ _ _ (manager top r is known) c

@@ -15,11 +15,10 @@ use Rattle.rg_rules.specs.Asks.{is_managed, managed_by, paced_as}
 use Rattle.rg_rules.specs.State.{State, active}
 use Rattle.rg_code.specs.Code.{Code}
 use Rattle.rg_heap.specs.declared.answers.Active.{Active}
-use Rattle.rg_heap.specs.Answers.{Tells}
-use Rattle.rg_heap.specs.Parts.{OnTop}
 use Rattle.rg_code.specs.Dues.{due_at}
 use Rattle.rg_stack.specs.Machine.{Machine}
 use Rattle.rg_stack.proofs.Basics.{and-right}
+use Rattle.rg_machine.specs.Active.{IsActive}
 use Rattle.rg_machine.specs.Parts.{Parts, machine_in}
 use Rattle.rg_machine.specs.Stands.{Stands}
 use Rattle.rg_step.specs.Asking.{SinceFrom, SinceOn, asks_at, first_makes, paced_by, since_behind}
@@ -85,10 +84,10 @@ asked-said Trace mid events behind new more c m = ap (list_any (paced_by m)) (ap
 
 -- what a pacer answered is told by the collections behind it
 said-so : (k : Manager) (answer : Truth) (mid : Parts) (events behind : List Event) (new : Stepping) (a : Active)
-    → Stands mid.heap mid.frames → OnTop mid.frames (λ top. Tells mid.heap.regions top.region a) → a.manager ≡ k → new.events ≡ events ++ behind
+    → Stands mid.heap mid.frames → IsActive mid a → a.manager ≡ k → new.events ≡ events ++ behind
     → CollectsOn answer mid events new → (m : Manager) → list_any (paced_by m) behind ≡ answer && paced_as m k
 said-so k true mid events behind new a stands tells is more c m =
-    let manager : c.told.manager ≡ k = collected-manager Paced mid events new a stands tells c ∙ is in
+    let manager : c.told.manager ≡ k = collected-manager Paced mid events new a tells c ∙ is in
     ap (list_any (paced_by m)) (append_cancel_left events _ _ (sym more ∙ c.events_are)) ∙ ap (λ x. paced_as m x || false) manager
     ∙ or-false (paced_as m k)
   where
@@ -108,7 +107,7 @@ since-said false true n is = cc
 since-said false false n is = refl
 
 module _ (mid : Parts) (old new : Stepping) (before after : Asks) (behind : List Event) (more : new.events ≡ old.events ++ behind) (a : Active)
-    (stands : Stands mid.heap mid.frames) (tells : OnTop mid.frames (λ top. Tells mid.heap.regions top.region a)) where
+    (stands : Stands mid.heap mid.frames) (tells : IsActive mid a) where
   since-count : (k : Manager) → a.manager ≡ k → Paces k a.held old mid new before after
       → new.since.count ≡ since_behind (paced_as Count k) (list_any (paced_by Count) behind) old.since.count
   since-count Arena is p = ap (λ (x : Since). x.count) p.1.since

@@ -6,10 +6,9 @@ use Rattle.rg_base.specs.declared.event.Cause.TheVariants.{Asked}
 use Rattle.rg_base.specs.declared.event.Event.{Event}
 use Rattle.rg_base.specs.declared.words.Manager.{Manager}
 use Rattle.rg_base.specs.declared.words.Manager.TheVariants.{Arena, Count, Trace}
-use Rattle.rg_regions.specs.Collection.{OfRegion}
 use Rattle.rg_heap.specs.declared.answers.Collected.{Collected}
-use Rattle.rg_heap.specs.Parts.{OnTop}
 use Rattle.rg_heap.specs.Slides.{Slides, SlidesBy}
+use Rattle.rg_machine.specs.Active.{OnActive}
 use Rattle.rg_machine.specs.Parts.{Parts}
 use Rattle.rg_step.specs.Collections.{Asks, CollectsTop, Serves, SlidesAsked, event_of}
 use Rattle.rg_step.specs.Steps.{Stepping}
@@ -21,13 +20,12 @@ none-slid old new same slides e more asked trace = absurd (longer old.events e (
 
 -- the region that is told of
 abbrev Moves : (old new : Parts) → (told : Collected) → Type 0
-Moves old new told = OnTop old.frames (λ top. OfRegion old.heap.regions top.region (λ r. (told.region ≡ r.number)
-    × Slides old.heap new.heap top.region r old.frames new.frames))
+Moves old new told = OnActive old (λ top r. (told.region ≡ r.number) × Slides old.heap new.heap top.region r old.frames new.frames)
 
 moves-traced : (slides : Bool) (mid new : Parts) (told : Collected) → slides ≡ true → CollectsTop slides mid new (Some told)
     → told.manager ≡ Trace → Moves mid new told
-moves-traced false mid new told is by trace top at r known = absurd cc
-moves-traced true mid new told is by trace top at r known = one r.manager refl (by top at r known)
+moves-traced false mid new told is by trace = absurd cc
+moves-traced true mid new told is (top, r, at, known, by) trace = (top, r, at, known, one r.manager refl by)
   where
     counts : Trace ≡ Count → ⊥
     counts e = cc
@@ -54,4 +52,4 @@ serves-slid why start old mid new before after serves told slides still moving e
     let here : Moves (record mid { heap = start.parts.heap; frames = start.parts.frames }) new.parts c.told =
     subst (λ h. Moves (record mid { heap = h; frames = start.parts.frames }) new.parts c.told) same.0
     (subst (λ f. Moves (record mid { frames = f }) new.parts c.told) same.1 moved) in
-    λ top at r known. (ap (λ (x : Event). x.region) event ∙ (here top at r known).0, (here top at r known).1)
+    (here.0, here.1, here.2, here.3, (ap (λ (x : Event). x.region) event ∙ here.4.0, here.4.1))

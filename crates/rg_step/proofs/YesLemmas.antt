@@ -55,10 +55,10 @@ serves-yes (Some Asked) old mid new before after stands s = by s.0.0.manager s.0
     by : (m : Manager) → CollectsAsked m mid old.events new → s.0.0.manager ≡ m → Yeses old.events new before after
     by Arena c e = no-yes old.events new.events before after c.events_are s.1.pacers
     by Count c e =
-        collected-yes Asked Count mid old.events new before after c (collected-manager Asked mid old.events new s.0.0 stands s.0.1 c ∙ e)
+        collected-yes Asked Count mid old.events new before after c (collected-manager Asked mid old.events new s.0.0 s.0.1 c ∙ e)
         (ap (λ (x : Asks). x.count.yeses) s.1.pacers) (ap (λ (x : Asks). x.trace.yeses) s.1.pacers)
     by Trace c e =
-        collected-yes Asked Trace mid old.events new before after c (collected-manager Asked mid old.events new s.0.0 stands s.0.1 c ∙ e)
+        collected-yes Asked Trace mid old.events new before after c (collected-manager Asked mid old.events new s.0.0 s.0.1 c ∙ e)
         (ap (λ (x : Asks). x.count.yeses) s.1.pacers) (ap (λ (x : Asks). x.trace.yeses) s.1.pacers)
 serves-yes (Some Paced) old mid new before after stands s = by s.0.manager s.2 refl
   where
@@ -70,14 +70,14 @@ serves-yes (Some Paced) old mid new before after stands s = by s.0.manager s.2 r
             → after.count.yeses ≡ (if answer then one_more before.count.yeses else before.count.yeses)
             → after.trace.yeses ≡ before.trace.yeses → Yeses old.events new before after
         on true c count trace =
-            collected-yes Paced Count mid old.events new before after c (collected-manager Paced mid old.events new s.0 stands s.1 c ∙ e) count trace
+            collected-yes Paced Count mid old.events new before after c (collected-manager Paced mid old.events new s.0 s.1 c ∙ e) count trace
         on false c count trace = ([], c.events_are ∙ sym (append-nil old.events), record { count = count; trace = trace })
     by Trace c e = on c.0 c.1 (ap (λ (x : Asks). x.count.yeses) c.3) (ap (λ (x : Asks). x.trace.yeses) c.3)
       where
         on : (answer : Truth) → CollectsOn answer mid old.events new → after.count.yeses ≡ before.count.yeses
             → after.trace.yeses ≡ (if answer then one_more before.trace.yeses else before.trace.yeses) → Yeses old.events new before after
         on true c count trace =
-            collected-yes Paced Trace mid old.events new before after c (collected-manager Paced mid old.events new s.0 stands s.1 c ∙ e) count trace
+            collected-yes Paced Trace mid old.events new before after c (collected-manager Paced mid old.events new s.0 s.1 c ∙ e) count trace
         on false c count trace = ([], c.events_are ∙ sym (append-nil old.events), record { count = count; trace = trace })
 
 -- behind the events that were told before

@@ -13,15 +13,14 @@ use Rattle.rg_rules.specs.State.{State}
 use Rattle.rg_rules.specs.Steps.{Went, next}
 use Rattle.rg_code.specs.Code.{Code}
 use Rattle.rg_stack.specs.Machine.{Machine}
-use Rattle.rg_regions.specs.Collection.{OfRegion, roots_of}
+use Rattle.rg_regions.specs.Collection.{roots_of}
 use Rattle.rg_heap.specs.declared.answers.Active.{Active}
 use Rattle.rg_heap.specs.declared.answers.Collected.{Collected}
-use Rattle.rg_heap.specs.Answers.{Tells}
 use Rattle.rg_heap.specs.Collects.{CollectsBy}
 use Rattle.rg_heap.specs.Ends.{top_temps}
-use Rattle.rg_heap.specs.Parts.{OnTop}
 use Rattle.rg_heap.specs.Slides.{Slides, SlidesBy}
 use Rattle.rg_pace.specs.Asked.{Asked, one_more, with_ask}
+use Rattle.rg_machine.specs.Active.{IsActive, OnActive}
 use Rattle.rg_machine.specs.Collects.{Gathers, GathersSliding}
 use Rattle.rg_machine.specs.Parts.{Parts, machine_in}
 use Rattle.rg_step.specs.Steps.{Runs, Stepping}
@@ -50,12 +49,10 @@ GathersBy true old new = GathersSliding old new
 
 -- the collection of the active region by its manager; of a traced one what is kept moves or stays
 abbrev pub CollectsTop : (slides : Bool) → (old new : Parts) → Option Collected → Type 0
-CollectsTop false old new told =
-    OnTop old.frames (λ top. OfRegion old.heap.regions top.region
-    (λ r. CollectsBy r.manager old.heap new.heap top.region r (roots_of r.bridge (drop top.base old.frames.slots) (top_temps old.frames)) told))
+CollectsTop false old new told = OnActive old (λ top r.
+    CollectsBy r.manager old.heap new.heap top.region r (roots_of r.bridge (drop top.base old.frames.slots) (top_temps old.frames)) told)
 CollectsTop true old new told =
-    OnTop old.frames (λ top. OfRegion old.heap.regions top.region
-    (λ r. SlidesBy r.manager old.heap new.heap top.region r old.frames new.frames told))
+    OnActive old (λ top r. SlidesBy r.manager old.heap new.heap top.region r old.frames new.frames told)
 
 -- the active region was collected by its manager, which is told; all else is as it was behind the step's instructions
 pub record IsCollected (why : Cause) (mid : Parts) (events : List Event) (new : Stepping) : Type 0 where
@@ -100,16 +97,16 @@ CollectsAsked Arena mid events new = IsLeft mid events new
 CollectsAsked Count mid events new = IsCollected cause.Asked mid events new
 CollectsAsked Trace mid events new = IsCollected cause.Asked mid events new
 
--- what holds of the active region: its manager, and how many cells it has
-abbrev pub OnActive : Parts → (Active → Type 0) → Type 0
-OnActive mid P = (a : Active) × OnTop mid.frames (λ top. Tells mid.heap.regions top.region a) × P a
+-- what holds of the active region: of its number, its manager and how many cells it has
+abbrev pub ForActive : Parts → (Active → Type 0) → Type 0
+ForActive mid P = (a : Active) × IsActive mid a × P a
 
 -- what is done for the cause for which a step may collect
 abbrev pub Serves : Option Cause → (old : Stepping) → (mid : Parts) → (new : Stepping) → (before after : Asks) → Type 0
 Serves None old mid new before after = IsLeft mid old.events new × Unasked old new before after
 Serves (Some cause.Asked) old mid new before after =
-    OnActive mid (λ a. CollectsAsked a.manager mid old.events new) × Unasked old new before after
-Serves (Some cause.Paced) old mid new before after = OnActive mid (λ a. Paces a.manager a.held old mid new before after)
+    ForActive mid (λ a. CollectsAsked a.manager mid old.events new) × Unasked old new before after
+Serves (Some cause.Paced) old mid new before after = ForActive mid (λ a. Paces a.manager a.held old mid new before after)
 
 -- a step that was refused leaves the machine that is shown, and neither collects nor asks
 pub record IsRefused (old new : Stepping) (before after : Asks) : Type 0 where
@@ -141,5 +138,5 @@ ReachesOn code old events behind before after =
 abbrev pub SlidesAsked : (old new : Stepping) → Type 0
 SlidesAsked old new =
     old.slides ≡ true → (e : Event) → new.events ≡ old.events ++ e ∷ [] → e.cause ≡ cause.Asked → e.manager ≡ Trace →
-    OnTop old.parts.frames (λ top. OfRegion old.parts.heap.regions top.region (λ r. (e.region ≡ r.number)
-    × Slides old.parts.heap new.parts.heap top.region r old.parts.frames new.parts.frames))
+    OnActive old.parts (λ top r. (e.region ≡ r.number)
+    × Slides old.parts.heap new.parts.heap top.region r old.parts.frames new.parts.frames)

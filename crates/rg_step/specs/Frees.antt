@@ -15,6 +15,10 @@ pub record LeftTable (old new : Parts) (region : ℕ) : Type 0 where
   pub all_gone : (serial : ℕ) (o : Seen) → slice_get (machine_in old).store serial ≡ Some o → o.label ≡ Region region
       → Finds (machine_in new).store serial None
 
+-- what was gone is gone
+abbrev pub StaysGone : (old new : Parts) → Type 0
+StaysGone old new = (serial : ℕ) → slice_get (machine_in old).store serial ≡ Some gone → slice_get (machine_in new).store serial ≡ Some gone
+
 -- an object that was held and isn't any more was a temporary of a window that has ended, or lay in a region that has left the table
 abbrev pub FreesOnly : (old new : Parts) → Type 0
 FreesOnly old new = (serial : ℕ) (o : Seen) → slice_get (machine_in old).store serial ≡ Some o → o ≢ gone

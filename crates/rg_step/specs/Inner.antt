@@ -4,7 +4,6 @@ pub mod Simple
 pub mod Refusals
 pub mod Leaps
 pub mod Held
-pub mod Sound
 pub mod Serving
 pub mod High
 pub mod Fields

@@ -5,4 +5,5 @@ pub mod Collections
 pub mod Writes
 pub mod Asking
 pub mod Frees
+pub mod Sound
 pub mod States

@@ -10,7 +10,7 @@ ghost use Rattle.rg_rules.specs.State.{State};
 ghost use Rattle.rg_code.specs.Dues.{due_at};
 ghost use Rattle.rg_machine.specs.Parts.{machine_in};
 ghost use Rattle.rg_step.specs.Steps.{IsResting, IsRunning, Runs, StepsOn, is_made};
-ghost use Rattle.rg_step.specs.Frees.{FreesOnly};
+ghost use Rattle.rg_step.specs.Frees.{FreesOnly, StaysGone};
 ghost use Rattle.rg_step.specs.States.{Raises};
 ghost use Rattle.rg_step.specs.Inner.Serving.{answer, is_asked};
 
@@ -40,6 +40,7 @@ pub(crate) fn outcome<S: Source>(
     ensures refused { is_made result ≡ false → machine_in p.new ≡ machine_in p.old }
     ensures high { Raises result p.old p.new }
     ensures frees { FreesOnly p.old p.new }
+    ensures stays_gone { StaysGone p.old p.new }
     ensures still { is_asked due ≡ true →
         (p.new.heap ≡ p.old.heap) × (p.new.frames ≡ p.old.frames) }
     ensures rests { IsResting p.new }

@@ -13,9 +13,9 @@ ghost use Rattle.rg_held.specs.Shown.{Finds, ShowsHeld};
 ghost use Rattle.rg_machine.specs.Owned.{IsOwned};
 ghost use Rattle.rg_machine.specs.Parts.{Parts, machine_in};
 ghost use Rattle.rg_step.specs.Collections.{Asks};
-ghost use Rattle.rg_step.specs.States.{Chain, OneStep};
+ghost use Rattle.rg_step.specs.States.{Chain, OneStep, Opens};
 ghost use Rattle.rg_step.specs.Steps.{IsFresh, IsResting, IsRunning, Leapt, Runs};
-ghost use Rattle.rg_step.specs.Steps.{counted_by, fresh, nothing, numbers_of, opening_machine};
+ghost use Rattle.rg_step.specs.Steps.{counted_by, fresh, nothing, numbers_of};
 ghost use Rattle.rg_step.specs.Inner.Held.{stepping};
 
 use crate::collecting::{is_made, make_place, one_more, serve};
@@ -86,12 +86,12 @@ impl Stepper {
     /// Begins a program whose main has this manager, without a step.
     pub fn begin(&mut self, alloc: Global, code: &CodeList, manager: Manager) -> Result<(), Memory>
         requires { IsFresh self.old }
-        ensures begun { OnOk result ((p : Parts)
-            × (machine_in p ≡ opening_machine code.now manager)
+        ensures begun { OnOk result ((p : Parts) × Opens code.now manager p
             × (self.new ≡ record self.old { parts = p })) }
         ensures kept { OnErr result (self.new ≡ self.old) }
     {
         let machine = Machine::begin(alloc, code.main_slots(), manager)?;
+        machine.is_sound();
         self.machine = Some(machine);
         Ok(())
     }
@@ -332,10 +332,12 @@ fn step_on<S: Source>(
     ensures never_falls { S.faults source.old ≤ S.faults source.new }
 {
     let due = code.due_at(p.at());
+    p.is_sound();
     let Ok(()) = make_place(due, &mut kept.events) else {
         return Outcome::Memory;
     };
     let outcome = outcome(p, code, due, input, source);
+    p.is_sound();
     let made = is_made(outcome);
     if !made {
         return outcome;
@@ -344,7 +346,6 @@ fn step_on<S: Source>(
     let Some(why) = due else {
         return outcome;
     };
-    p.is_sound();
     serve(p, why, kept, count, trace);
     p.is_sound();
     outcome

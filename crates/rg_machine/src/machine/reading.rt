@@ -7,9 +7,9 @@ ghost use Rattle.rg_sound.specs.Fit.{Fit};
 ghost use Rattle.rg_code.specs.Code.{Code};
 ghost use Rattle.rg_cells.specs.Table.{Serials};
 ghost use Rattle.rg_regions.specs.Grove.{Grove};
-ghost use Rattle.rg_heap.specs.Answers.{Tells, end_numbers};
-ghost use Rattle.rg_heap.specs.Parts.{OnTop};
+ghost use Rattle.rg_heap.specs.Answers.{end_numbers};
 ghost use Rattle.rg_held.specs.Shown.{ShowsHeld};
+ghost use Rattle.rg_machine.specs.Active.{IsActive};
 ghost use Rattle.rg_machine.specs.Owned.{IsOwned};
 ghost use Rattle.rg_machine.specs.Parts.{machine_in};
 ghost use Rattle.rg_machine.specs.Stands.{Stands};
@@ -43,7 +43,7 @@ impl Machine {
 
     /// The active region, with its manager and how many cells it has.
     pub fn active(&self) -> Active
-        ensures { OnTop self.now.frames (λ top. Tells self.now.heap.regions top.region result) }
+        ensures { IsActive self.now result }
     {
         self.heap.active(&self.frames)
     }

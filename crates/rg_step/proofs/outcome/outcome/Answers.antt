@@ -14,9 +14,10 @@ use Rattle.rg_step.specs.Inner.Refusals.{DidLeaves, asks_at}
 use Rattle.rg_step.specs.Inner.Serving.{answer}
 use Rattle.rg_step.specs.Inner.Walks.{StepIs}
 use Rattle.rg_step.specs.Steps.{StepsOn, is_made}
-use Rattle.rg_step.proofs.FreesLemmas.{did-frees, table-frees}
+use Rattle.rg_step.specs.Frees.{StaysGone}
+use Rattle.rg_step.proofs.FreesLemmas.{did-frees, did-stays, table-frees}
 use Rattle.rg_step.proofs.OutcomeLemmas.{answer-fault, answer-leaves, answer-settles, never-lost}
-use Rattle.rg_step.proofs.PassLemmas.{asked-step, is-asked, pass-frees, pass-high, pass-rests, pass-steps}
+use Rattle.rg_step.proofs.PassLemmas.{asked-step, is-asked, pass-frees, pass-high, pass-rests, pass-stays, pass-steps}
 use Rattle.rg_step.proofs.RunLemmas.{runs-ask, runs-given, runs-orderly, unasked-there}
 use Rattle.rg_step.proofs.outcome.outcome.Goals as goal
 
@@ -56,6 +57,12 @@ pub returns-then-is_asked-clause-frees : goal.returns-then-is_asked-clause-frees
 returns-then-is_asked-clause-frees g c =
     let old = c.args.p.now in
     pass-frees c.args.code.now old c.go_to.new.self
+    (c.go_to.ensures ∙ ap (λ n. record old { at = n }) (c.behind_collect.ensures ∙ ap (λ n. n + 2) c.at.ensures))
+
+pub returns-then-is_asked-clause-stays_gone : goal.returns-then-is_asked-clause-stays_gone
+returns-then-is_asked-clause-stays_gone g c =
+    let old = c.args.p.now in
+    pass-stays c.args.code.now old c.go_to.new.self
     (c.go_to.ensures ∙ ap (λ n. record old { at = n }) (c.behind_collect.ensures ∙ ap (λ n. n + 2) c.at.ensures))
 
 pub returns-then-is_asked-clause-rests : goal.returns-then-is_asked-clause-rests
@@ -133,6 +140,17 @@ returns-clause-frees g c =
     (record { stands = c.is_sound.ensures.stands; serials = c.is_sound.ensures.serials; forest = c.is_sound.ensures.forest })
     (record { stands = c.is_sound-2.ensures.stands; serials = c.is_sound-2.ensures.serials; forest = c.is_sound-2.ensures.forest })
     (subst (λ (p : Parts). StoreFrees (machine_in old) (machine_in p)) (sym c.start.ensures) frees)
+
+pub returns-clause-stays_gone : goal.returns-clause-stays_gone
+returns-clause-stays_gone g c =
+    let code = c.args.code.now in
+    let old = c.args.p.now in
+    let mid = c.step-did.new.p in
+    let runs = c.requires.runs in
+    let order = runs-orderly runs.0 code (machine_in old) runs.1 runs.2 in
+    let s = OnInput-some _ _ _ _ (StepIs code (core_of old) (core_of mid) c.step-did.result) c.step-did.ensures.follows c.step-did.ensures.step in
+    subst (λ (p : Parts). StaysGone old p) (sym c.start.ensures)
+    (did-stays code (core_of old) (core_of mid) c.step-did.result s.0 s.1 runs c.step-did.ensures.leaves s.2 order)
 
 pub returns-clause-refused : goal.returns-clause-refused
 returns-clause-refused g c none =

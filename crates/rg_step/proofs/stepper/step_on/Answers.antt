@@ -18,7 +18,8 @@ pub returns-in_default-clause-step : goal.returns-in_default-clause-step
 returns-in_default-clause-step g c =
     OnInput-still _ _ _ _ (OneStep c.args.code.now _ _ outcome.Memory) refl refl
     (one-nothing c.args.code.now _ _ c.requires.runs refl
-    (record { shown = refl; events_are = c.make_place.ensures.items; unasked = record { since = refl; pacers = refl } }) refl refl)
+    (record { shown = refl; events_are = c.make_place.ensures.items; unasked = record { since = refl; pacers = refl } }) refl refl
+    (record { stands = c.is_sound.ensures.stands; serials = c.is_sound.ensures.serials; forest = c.is_sound.ensures.forest }))
 
 pub returns-then-not-made-clause-step : goal.returns-then-not-made-clause-step
 returns-then-not-made-clause-step g c =
@@ -27,7 +28,11 @@ returns-then-not-made-clause-step g c =
     let no : is_made result ≡ false = sym c.is_made-made.ensures ∙ c.if-not-made.true in
     OnInput-map _ _ _ _ (StepsOn c.args.code.now m (machine_in c.outcome-outcome.new.p) result) (OneStep c.args.code.now _ _ result)
     c.outcome-outcome.ensures.step
-    (one-refused c.args.code.now _ _ c.requires.runs result c.outcome-outcome.ensures.high c.outcome-outcome.ensures.frees refl no
+    (one-refused c.args.code.now _ _ c.requires.runs result c.outcome-outcome.ensures.high c.outcome-outcome.ensures.frees
+    c.outcome-outcome.ensures.stays_gone
+    (record { stands = c.is_sound-2.ensures.stands; serials = c.is_sound-2.ensures.serials; forest = c.is_sound-2.ensures.forest }) refl
+    (λ asked. c.outcome-outcome.ensures.still
+    (ap is_asked (c.due_at-due.ensures ∙ ap (due_at c.args.code.now.ops) c.at.ensures ∙ asked))) no
     (record {
       shown = c.outcome-outcome.ensures.refused no;
       events_are = c.make_place.ensures.items;
@@ -43,7 +48,9 @@ returns-in_default-due-clause-step g c =
     sym (c.due_at-due.ensures ∙ ap (due_at c.args.code.now.ops) c.at.ensures) ∙ c.in_default-due.is in
     OnInput-map _ _ _ _ (StepsOn c.args.code.now m (machine_in c.outcome-outcome.new.p) result) (OneStep c.args.code.now _ _ result)
     c.outcome-outcome.ensures.step
-    (one-undue c.args.code.now _ _ c.requires.runs result c.outcome-outcome.ensures.high c.outcome-outcome.ensures.frees refl made none
+    (one-undue c.args.code.now _ _ c.requires.runs result c.outcome-outcome.ensures.high c.outcome-outcome.ensures.frees
+    c.outcome-outcome.ensures.stays_gone
+    (record { stands = c.is_sound-2.ensures.stands; serials = c.is_sound-2.ensures.serials; forest = c.is_sound-2.ensures.forest }) refl made none
     c.make_place.ensures.items (record { since = refl; pacers = refl }) c.one_more-kept.ensures)
 
 pub serve-requires-clause-once : goal.serve-requires-clause-once
@@ -62,9 +69,11 @@ returns-clause-step g c =
     sym (c.due_at-due.ensures ∙ ap (due_at c.args.code.now.ops) c.at.ensures) ∙ c.in-Some.is in
     OnInput-map _ _ _ _ (StepsOn c.args.code.now m (machine_in mid) result) (OneStep c.args.code.now _ _ result)
     c.outcome-outcome.ensures.step
-    (one-served c.args.code.now _ mid _ c.requires.runs c.is_sound.ensures.stands c.is_sound.ensures.serials c.is_sound.ensures.windows
-    c.is_sound.ensures.forest c.is_sound-2.ensures.forest c.in-Some.why some c.make_place.new.events.items c.make_place.ensures.items
-    (c.serve.ensures.serves c.args.p.now c.args.kept.now.steps) c.serve.ensures.high c.outcome-outcome.ensures.frees
+    (one-served c.args.code.now _ mid _ c.requires.runs c.is_sound-2.ensures.stands c.is_sound-2.ensures.serials c.is_sound-2.ensures.windows
+    c.is_sound-2.ensures.forest c.in-Some.why some c.make_place.new.events.items c.make_place.ensures.items
+    (c.serve.ensures.serves c.args.p.now c.args.kept.now.steps)
+    (record { stands = c.is_sound-3.ensures.stands; serials = c.is_sound-3.ensures.serials; forest = c.is_sound-3.ensures.forest })
+    c.serve.ensures.high c.outcome-outcome.ensures.frees c.outcome-outcome.ensures.stays_gone
     (λ asked. c.outcome-outcome.ensures.still (ap is_asked (c.in-Some.is ∙ ap Some asked))) c.serve.ensures.slides result
     c.outcome-outcome.ensures.high made
     (c.serve.ensures.steps ∙ c.one_more-kept.ensures))

@@ -1,4 +1,4 @@
-use Rattle.std.proofs.Common.{◌≡◌, [], List, None, ap, subst, sym, ◌∙◌}
+use Rattle.std.proofs.Common.{◌≡◌, [], List, None, ap, subst, sym, ◌∙◌, is_some, count_by}
 use Rattle.std.proofs.lemmas.Option.{none-some}
 use Rattle.rg_base.specs.declared.value.Word.{Word}
 use Rattle.rg_frames.specs.Stack.{Stack}
@@ -25,8 +25,11 @@ pub invariant_of-result : goal.invariant_of-result
 invariant_of-result c =
     (stands c, subst (AllLead c.begin.new.self c.begin-2.new.self) (sym c.new.ensures.items) (λ k w e. absurd (none-some w e)))
 
-pub returns : goal.returns
-returns c =
+pub returns-clause-high : goal.returns-clause-high
+returns-clause-high c = ap (count_by is_some) (no-slots c)
+
+pub returns-clause-core : goal.returns-clause-core
+returns-clause-core c =
     let shown : Machine → List Word → Core = λ m ws. record { machine = m; stack = values_of c.begin.new.self.cells.heap ws; printed = None } in
     let v = first-stack c.in_ok-key.key c.args.slots c.begin-2.new.self.frame_room c.begin-2.new.self.slot_room in
     ap (λ (v : Stack). shown (machine_of c.begin.new.self v 0) c.new.result.items) c.in_ok-begin.ensures.ok

@@ -1,10 +1,13 @@
-use Rattle.std.proofs.Common.{IfOk, subst}
-use Rattle.rg_held.specs.Shown.{Finds}
-use Rattle.rg_machine.specs.Parts.{Parts, machine_in}
+use Rattle.std.proofs.Common.{IfOk, ap, subst, sym}
+use Rattle.rg_cells.specs.Table.{Heap}
+use Rattle.rg_heap.specs.Answers.{Shows}
+use Rattle.rg_machine.specs.Parts.{Parts}
 use Rattle.rg_machine.proofs.FindLemmas.{finds}
 use Rattle.rg_machine.proofs.machine.Machine.object.Goals as goal
 
 pub returns-clause-finds : goal.returns-clause-finds
 returns-clause-finds c =
-    let P : Parts → Type 0 = λ n. IfOk c.shown.result (Finds (machine_in n).store c.args.serial) in
-    subst P c.self.view_is (finds c.self.inside.heap.cells.heap c.args.serial c.shown.result c.is_forest.ensures.serials c.shown.ensures)
+    let p = c.args.self.now in
+    let P : Parts → Type 0 = λ n. IfOk c.shown.result (Shows n.heap.cells.heap c.args.serial) in
+    finds p.heap p.frames c.is_sound.ensures.serials c.is_sound.ensures.stands c.is_sound.ensures.windows c.args.serial c.shown.result
+    (subst P c.self.view_is c.shown.ensures)

@@ -7,6 +7,7 @@ use Rattle.rg_tree.specs.Rows.RowTrees.{program_of}
 use Rattle.rg_rules.specs.Acceptance.{Accepted}
 use Rattle.rg_input.proofs.InputLemmas.{OnInput-still}
 use Rattle.rg_machine.specs.Parts.{machine_in}
+use Rattle.rg_step.specs.States.{Opens}
 use Rattle.rg_step.specs.Steps.{Stepping, fresh, opening_machine}
 use Rattle.rg_run.proofs.AskLemmas.{yeses-none, yeses-of, yeses-more}
 use Rattle.rg_run.proofs.LoopLemmas.{ends-so, goes-on, spent, turned-leapt}
@@ -30,11 +31,11 @@ loop-self-init g c =
     let P : Tables → Type 0 = λ q. Accepted (program_of q) in
     let accepted : P t = subst P c.program-program.ensures.program c.program-program.ensures.accepted in
     let h = c.in-Ok.ensures.begun in
-    let opens : machine_in h.0 ≡ opening_machine code t.manager =
-    h.1 ∙ ap (opening_machine code) (c.main_manager.ensures ∙ ap (λ (q : Tables). q.manager) c.program-program.ensures.program) in
+    let opens : Opens code t.manager h.0 =
+    subst (λ m. Opens code m h.0) (c.main_manager.ensures ∙ ap (λ (q : Tables). q.manager) c.program-program.ensures.program) h.1 in
     let begun : c.begin.new.self ≡ record fresh { parts = h.0; slides = c.args.self.now.stepper.slides } =
     h.2 ∙ ap (λ (s : Stepping). record s { parts = h.0 }) c.requires.fresh.stepper in
-    let is : m ≡ opening_machine code t.manager = ap (λ (s : Stepping). machine_in s.parts) begun ∙ opens in
+    let is : m ≡ opening_machine code t.manager = ap (λ (s : Stepping). machine_in s.parts) begun ∙ opens.shows in
     record {
       begun = refl;
       slides = ap (λ (s : Stepping). s.slides) begun;

@@ -1,0 +1,233 @@
+-- What is gone stays so, whatever the machine that frees does. For callers.
+use Rattle.std.proofs.Common.{◌≡◌, ℕ, zero, suc, ◌+◌, true, false, Bool as Truth, if◌then◌else◌}
+use Rattle.std.proofs.Common.{List, [], ◌∷◌, ◌++◌, drop, length, Option, Some, None, Result, Ok, Err, refl, slice_get, slice_set}
+use Rattle.std.specs.Prelude.{nat_lt, unwrap_or}
+use Rattle.rg_base.specs.Input.{NextNumber, found, malformed, at_end, next_number}
+use Rattle.rg_base.specs.declared.limits.TheConstants.{FRAMES}
+use Rattle.rg_base.specs.declared.object.Label.{Label}
+use Rattle.rg_base.specs.declared.object.Label.TheVariants.{Region, Frozen}
+use Rattle.rg_base.specs.declared.object.Seen.{Seen}
+use Rattle.rg_base.specs.declared.outcome.Trap.{Trap}
+use Rattle.rg_base.specs.declared.outcome.Trap.TheVariants as trap
+use Rattle.rg_base.specs.declared.value.Val.{Val}
+use Rattle.rg_base.specs.declared.value.Val.TheVariants as val
+use Rattle.rg_tree.specs.declared.rows.BinOp.{BinOp}
+use Rattle.rg_tree.specs.declared.rows.BinOp.TheVariants as op
+use Rattle.rg_rules.specs.Evaluation.{object_at}
+use Rattle.rg_rules.specs.Regions.{region_of}
+use Rattle.rg_rules.specs.Values.{Computed, as_bool, operate}
+use Rattle.rg_code.specs.declared.code.Entry.{Entry}
+use Rattle.rg_code.specs.declared.op.Op.{Op}
+use Rattle.rg_code.specs.declared.op.Op.TheVariants as i
+use Rattle.rg_code.specs.Code.{Code}
+use Rattle.rg_stack.specs.Machine.{Frame, Machine, top_slots, slot_at, place_of, slots_below}
+use Rattle.rg_stack.specs.Effects.{Work, Walked, Stops, Returns, Traps, Stuck, Go, on_top, on_two, pushed, next_taken, opens_at, begins_by}
+use Rattle.rg_stack.specs.Effects.{called, returned, entered, relabel, beneath_by_labels, top_region, with_store, put_in, with_value_in}
+use Rattle.rg_stack.specs.Runs.{Stepped, Goes, Ends, Trapped, Lost, come_to, landed, stopped}
+use Rattle.rg_base.specs.declared.object.Place.{Place}
+use Rattle.rg_held.specs.Frees.{Given, gone, given_up, regions_freed, freed, free_act, free_walk, free_finished, free_step_from, free_step}
+use Rattle.rg_held.proofs.Lists.{push-old}
+use Rattle.rg_held.proofs.Freed.Changes.{written-gone, moved-gone, bury-gone}
+
+-- what is gone of one store is gone of the other
+abbrev pub StaysGone : (old new : List Seen) → Type 0
+StaysGone old new = (a : ℕ) → slice_get old a ≡ Some gone → slice_get new a ≡ Some gone
+
+module _ (a : ℕ) where
+  abbrev Now : Work → Type 0
+  Now w = slice_get w.machine.store a ≡ Some gone
+
+  abbrev Ending : Walked → Type 0
+  Ending (Stops at w) = Now w
+  Ending (Returns back stack w) = Now w
+  Ending (Traps t) = Unit {0}
+  Ending Stuck = Unit {0}
+
+  abbrev Came : Stepped → Type 0
+  Came (Goes w) = Now w
+  Came (Ends w) = Now w
+  Came (Trapped t line) = Unit {0}
+  Came Lost = Unit {0}
+
+  abbrev Onward : Go → Type 0
+  Onward go = (skip : ℕ) (stack : List Val) (w : Work) → Now w → Ending (go skip stack w)
+
+  on-top : (stack : List Val) (go : Val → List Val → Walked) → ((v : Val) (rest : List Val) → Ending (go v rest)) → Ending (on_top stack go)
+  on-top [] go h = tt
+  on-top (v ∷ rest) go h = h v rest
+
+  on-object : (r : Result Seen Trap) (go : Seen → Walked) → ((o : Seen) → Ending (go o)) → Ending (elim r [ Ok o ↦ go o | Err t ↦ Traps t ])
+  on-object (Ok o) go h = h o
+  on-object (Err t) go h = tt
+
+  on-test : (t : Truth) (x y : Walked) → Ending x → Ending y → Ending (if t then x else y)
+  on-test true x y h k = h
+  on-test false x y h k = k
+
+  on-pushed : (c : Computed) (go : Go) (stack : List Val) (w : Work) → Onward go → Now w → Ending (pushed c go stack w)
+  on-pushed (Ok v) go stack w h now = h 0 (v ∷ stack) w now
+  on-pushed (Err t) go stack w h now = tt
+
+  on-two : (o : BinOp) (go : Go) (stack : List Val) (w : Work) → Onward go → Now w → Ending (on_two o go stack w)
+  on-two o go [] w h now = tt
+  on-two o go (y ∷ []) w h now = tt
+  on-two o go (y ∷ x ∷ stack) w h now = on-pushed (operate o x y) go stack w h now
+
+  on-number : (n : NextNumber) (go : Go) (stack : List Val) (w : Work) → Onward go → Now w → Ending (next_taken n go stack w)
+  on-number (found z rest) go stack w h now = h 0 _ _ now
+  on-number malformed go stack w h now = tt
+  on-number at_end go stack w h now = tt
+
+  on-opened : (m : Machine) (z : ℕ) (x : Walked) → Ending x → Ending (opens_at m z x)
+  on-opened m z x h =
+      let inner = begins_by m.windows (place_of m.frames z) in
+      on-test (nat_lt z (length (top_slots m.frames))) (if inner then x else Stuck) Stuck (on-test inner x Stuck h tt) tt
+
+  on-called : (at : ℕ) (e : Option Entry) (stack : List Val) (w : Work) → Now w → Ending (called at e stack w)
+  on-called at None stack w now = tt
+  on-called at (Some e) stack w now = now
+
+  on-returned : (w : Work) (fs : List Frame) (stack : List Val) → Now w → Ending (returned w fs stack)
+  on-returned w [] stack now = tt
+  on-returned w (f ∷ []) stack now = tt
+  on-returned w (f ∷ g ∷ fs) stack now = on-test (begins_by w.machine.windows (slots_below (g ∷ fs))) _ Stuck now tt
+
+  now-entered : (w : Work) (owner : Place) (bridge : Val) (z : ℕ) (r : Option ℕ) → Now w → Now (entered w owner bridge z r)
+  now-entered w owner bridge z None now = now
+  now-entered w owner bridge z (Some q) now = now
+
+  now-moved : (all : Truth) (label : Label) (w : Work) (r : Option ℕ) → Now w → slice_get (relabel all label w r) a ≡ Some gone
+  now-moved all label w None now = now
+  now-moved true label w (Some r) now =
+      moved-gone (beneath_by_labels w.machine.store (length w.machine.managers) (r ∷ [])) label w.machine.store a now
+  now-moved false label w (Some r) now = moved-gone (r ∷ []) label w.machine.store a now
+
+  now-freed : (w : Work) (g : Option Given) → Now w → Now (freed g w)
+  now-freed w None now = now
+  now-freed w (Some g) now = bury-gone (regions_freed w.machine g) g.temps w.machine.store a now
+
+  now-put : (store : List Seen) (r : Val) (k : ℕ) (v : Val) → slice_get store a ≡ Some gone → slice_get (put_in store r k v) a ≡ Some gone
+  now-put store val.Nil k v now = now
+  now-put store (val.Int z) k v now = now
+  now-put store (val.Bool b) k v now = now
+  now-put store (val.Obj b) k v now = by (slice_get store b) refl
+    where
+      by : (o : Option Seen) → slice_get store b ≡ o
+          → slice_get (elim o [ None ↦ store | Some o ↦ slice_set store b (with_value_in o k v) ]) a ≡ Some gone
+      by None here = now
+      by (Some o) here = written-gone store b k v o here a now
+
+  module _ (code : Code) where
+    on-act : (at : ℕ) (o : Op) (go : Go) (stack : List Val) (w : Work) → Onward go → Now w → Ending (free_act code at o go stack w)
+    on-act at (i.Mark line) go stack w h now = now
+    on-act at (i.Int z) go stack w h now = h 0 _ _ now
+    on-act at (i.Bool b) go stack w h now = h 0 _ _ now
+    on-act at i.Nil go stack w h now = h 0 _ _ now
+    on-act at (i.Load s) go stack w h now = h 0 _ _ now
+    on-act at (i.Clear s) go stack w h now = h 0 _ _ now
+    on-act at (i.Store s) go stack w h now = on-top stack _ (λ v rest. h 0 _ _ now)
+    on-act at (i.Own s) go stack w h now = on-top stack _ (λ v rest. h 0 _ _ (now-freed w (given_up (i.Own s) stack w.machine) now))
+    on-act at (i.Field k) go stack w h now = on-top stack _ (λ v rest. on-object (object_at w.machine.store v) _ (λ o. h 0 _ _ now))
+    on-act at i.IsNil go stack w h now = on-top stack _ (λ v rest. h 0 _ _ now)
+    on-act at i.Neg go stack w h now = on-top stack _ (λ v rest. on-pushed _ go rest w h now)
+    on-act at i.Add go stack w h now = on-two op.Add go stack w h now
+    on-act at i.Sub go stack w h now = on-two op.Sub go stack w h now
+    on-act at i.Mul go stack w h now = on-two op.Mul go stack w h now
+    on-act at i.Div go stack w h now = on-two op.Div go stack w h now
+    on-act at i.Rem go stack w h now = on-two op.Rem go stack w h now
+    on-act at i.Eq go stack w h now = on-two op.Eq go stack w h now
+    on-act at i.Ne go stack w h now = on-two op.Ne go stack w h now
+    on-act at i.Lt go stack w h now = on-two op.Lt go stack w h now
+    on-act at i.Le go stack w h now = on-two op.Le go stack w h now
+    on-act at i.Gt go stack w h now = on-two op.Gt go stack w h now
+    on-act at i.Ge go stack w h now = on-two op.Ge go stack w h now
+    on-act at i.Not go stack w h now = on-top stack _ (λ v rest. h 0 _ _ now)
+    on-act at (i.Jump to) go stack w h now = now
+    on-act at (i.JumpFalse to) go stack w h now = on-top stack _ (λ v rest. on-test (as_bool v) _ _ (h 0 _ _ now) (h _ _ _ now))
+    on-act at (i.And to) go stack w h now = on-top stack _ (λ v rest. on-test (as_bool v) _ _ (h 0 _ _ now) (h _ _ _ now))
+    on-act at (i.Or to) go stack w h now = on-top stack _ (λ v rest. on-test (as_bool v) _ _ (h _ _ _ now) (h 0 _ _ now))
+    on-act at i.Check go stack w h now = on-top stack _ (λ v rest. on-object (object_at w.machine.store v) _ (λ o. h 0 _ _ now))
+    on-act at (i.New c) go stack w h now = h 0 _ _ (push-old w.machine.store _ gone a now)
+    on-act at (i.NewTmp c) go stack w h now = h 0 _ _ (push-old w.machine.store _ gone a now)
+    on-act at (i.NewIso c m) go stack w h now = h 0 _ _ (push-old w.machine.store _ gone a now)
+    on-act at i.Pace go stack w h now = h 0 _ _ now
+    on-act at (i.Put k) go stack w h now = on-top stack _ (λ v rest. on-top rest _ (λ r under. h 0 _ _ (now-put w.machine.store r k v now)))
+    on-act at (i.Swap s k) go stack w h now = on-top stack _ (λ r rest. on-object (object_at w.machine.store r) _
+        (λ o. h 0 _ _ (now-put w.machine.store r k (slot_at w.machine s) now)))
+    on-act at (i.Freeze s) go stack w h now = on-object (object_at w.machine.store (slot_at w.machine s)) _
+        (λ o. h 0 _ _ (now-moved true Frozen w (region_of o.label) now))
+    on-act at (i.Merge s) go stack w h now = on-object (object_at w.machine.store (slot_at w.machine s)) _
+        (λ o. h 0 _ _ (now-moved false (Region (top_region w.machine.windows)) w (region_of o.label) now))
+    on-act at i.Read go stack w h now = on-number (next_number w.input) go stack w h now
+    on-act at i.More go stack w h now = h 0 _ _ now
+    on-act at i.Room go stack w h now = on-test (nat_lt (length w.machine.frames) FRAMES) _ (Traps trap.Depth) (h 0 stack w now) tt
+    on-act at (i.Call m) go stack w h now = on-called at (slice_get code.entries m) stack w now
+    on-act at i.Ret go stack w h now = on-top stack _ (λ v rest.
+        on-returned (freed (given_up i.Ret stack w.machine) w) w.machine.frames (v ∷ []) (now-freed w (given_up i.Ret stack w.machine) now))
+    on-act at i.RetVoid go stack w h now =
+        on-returned (freed (given_up i.RetVoid stack w.machine) w) w.machine.frames [] (now-freed w (given_up i.RetVoid stack w.machine) now)
+    on-act at (i.Enter s z) go stack w h now = on-opened w.machine z _ (on-object (object_at w.machine.store (slot_at w.machine s)) _
+        (λ o. h 0 _ _ (now-entered w _ _ z (region_of o.label) now)))
+    on-act at (i.EnterField k z) go stack w h now = on-opened w.machine z _ (on-top stack _ (λ r rest.
+        on-object (object_at w.machine.store r) _ (λ o.
+        on-object (object_at w.machine.store (unwrap_or (slice_get o.fields k) val.Nil)) _ (λ b.
+        h 0 _ _ (now-entered w _ _ z (region_of b.label) now)))))
+    on-act at (i.Leave s) go stack w h now = h 0 _ _ (now-freed w (given_up (i.Leave s) stack w.machine) now)
+    on-act at (i.End s) go stack w h now = h 0 _ _ (now-freed w (given_up (i.End s) stack w.machine) now)
+    on-act at i.Print go stack w h now = on-top stack _ (λ v rest. h 0 _ _ now)
+    on-act at i.Collect go stack w h now = h 0 _ _ now
+    on-act at i.Pop go stack w h now = on-top stack _ (λ v rest. h 0 _ _ (now-freed w (given_up i.Pop stack w.machine) now))
+    on-act at i.Drop go stack w h now = on-top stack _ (λ v rest. h 0 _ _ (now-freed w (given_up i.Drop stack w.machine) now))
+    on-act at i.Halt go stack w h now = now
+
+    on-walk : (os : List Op) (at : ℕ) → Onward (free_walk code os at)
+    on-walk [] at skip stack w now = tt
+    on-walk (o ∷ os) at zero stack w now = on-act at o (free_walk code os (at + 1)) stack w (on-walk os (at + 1)) now
+    on-walk (o ∷ os) at (suc k) stack w now = on-walk os (at + 1) k stack w now
+
+    came-to : (o : Option Op) (w : Work) → Now w → Came (come_to o w)
+    came-to None w now = tt
+    came-to (Some (i.Mark line)) w now = now
+    came-to (Some i.Halt) w now = now
+    came-to (Some o) w now = tt
+
+    came-landed : (x : Walked) → Ending x → Came (landed code x)
+    came-landed (Stops at w) now = came-to (slice_get code.ops at) (stopped at w) now
+    came-landed (Returns back stack w) now = tt
+    came-landed (Traps t) now = tt
+    came-landed Stuck now = tt
+
+    came-finished : (line : ℕ) (x : Walked) → Ending x → Came (free_finished code line x)
+    came-finished line (Stops at w) now = came-to (slice_get code.ops at) (stopped at w) now
+    came-finished line (Returns back stack w) now =
+        came-landed (free_walk code (drop back code.ops) back 0 stack w) (on-walk (drop back code.ops) back 0 stack w now)
+    came-finished line (Traps t) now = tt
+    came-finished line Stuck now = tt
+
+    came-from : (w : Work) (os : List Op) → Now w → Came (free_step_from code w os)
+    came-from w [] now = tt
+    came-from w (i.Mark line ∷ os) now =
+        came-finished line (free_walk code os (w.machine.at + 1) 0 [] w) (on-walk os (w.machine.at + 1) 0 [] w now)
+    came-from w (o ∷ os) now = tt
+
+    came : (w : Work) → Now w → Came (free_step code w)
+    came w now = came-from w (drop w.machine.at code.ops) now
+
+-- so a step that goes on or ends leaves gone what was gone
+abbrev pub StepStays : Machine → Stepped → Type 0
+StepStays m (Goes w) = StaysGone m.store w.machine.store
+StepStays m (Ends w) = StaysGone m.store w.machine.store
+StepStays m (Trapped t line) = Unit {0}
+StepStays m Lost = Unit {0}
+
+pub step-stays : (code : Code) (w : Work) → StepStays w.machine (free_step code w)
+step-stays code w = by (free_step code w) (came-all)
+  where
+    came-all : (a : ℕ) → slice_get w.machine.store a ≡ Some gone → Came a (free_step code w)
+    came-all a now = came a code w now
+
+    by : (x : Stepped) → ((a : ℕ) → slice_get w.machine.store a ≡ Some gone → Came a x) → StepStays w.machine x
+    by (Goes v) h = h
+    by (Ends v) h = h
+    by (Trapped t line) h = tt
+    by Lost h = tt
