@@ -11,4 +11,6 @@ mod SinceLemmas
 mod SinceTurnLemmas
 mod StateLemmas
 mod StepLemmas
+mod NoneLemmas
+mod CollectedLemmas
 mod LoopLemmas

@@ -21,12 +21,15 @@ use Rattle.rg_machine.specs.Parts.{machine_in}
 use Rattle.rg_step.specs.Collections.{Asks}
 use Rattle.rg_step.specs.States.{Chain, OneStep, Standing}
 use Rattle.rg_step.specs.Steps.{Leapt, Runs, Stepping, StepsOn, counted_by}
+use Rattle.rg_base.specs.declared.event.Event.{Event}
 use Rattle.rg_run.specs.Asked.{AskedOver}
+use Rattle.rg_run.specs.Collected.{Tells}
 use Rattle.rg_run.specs.Inner.{Gives, IsUntold, behind}
 use Rattle.rg_run.specs.Runs.{Ran}
 use Rattle.rg_run.specs.States.{LeavesAt, RunsThrough}
 use Rattle.rg_run.specs.Whole.{WholeRun}
 use Rattle.rg_run.proofs.AskLemmas.{asked-by, asked-leapt}
+use Rattle.rg_run.proofs.CollectedLemmas.{tells-by, tells-leapt}
 use Rattle.rg_run.proofs.RunLemmas.{since-yes}
 use Rattle.rg_run.proofs.SinceLemmas.{SinceOver}
 use Rattle.rg_run.proofs.SinceTurnLemmas.{since-by, since-leapt}
@@ -67,6 +70,10 @@ module _ {t : Tables} {code : Code} {k : ℕ} {a b : Pending} {la lb : Option (L
         between = leapt t code k j (machine_in old.parts) (machine_in new.parts) Still x y taken middle h.between leaps;
         asked = asked-leapt t code k j (machine_in old.parts) (machine_in new.parts) Still x y taken middle first now h.between h.asked leaps;
         since = since-leapt t code k j old new Still x y taken middle h.between h.since leaps since events counts within;
+        told =
+            let P : List Event → Type 0 = λ es. Tells (program_of t) x (k + j) es in
+            subst P (sym events)
+            (tells-leapt t code k j (machine_in old.parts) (machine_in new.parts) Still x y taken middle old.events h.between leaps h.told);
         states = led-on j (standing old now) (standing new now) x y y h.states slides (chain y);
       })
 
@@ -82,6 +89,7 @@ module _ {t : Tables} {code : Code} {k : ℕ} {a b : Pending} {la lb : Option (L
           ran = inr (ran x y h.between);
           asked = h.asked;
           since = since-yes (program_of t) x (kept started st k) h.since;
+          told = h.told;
           states = λ begun. runs-through started (standing st now) (standing st now) e x y y h.states refl (leaves y);
         })
 
@@ -118,6 +126,13 @@ since : {t : Tables} {code : Code} {k : ℕ} {old new : Standing} {taken middle 
 since {t} {code} {k} {old} {new} {taken} {middle} {Still} {first} {r} {x} {y} {z} room h one =
     since-by t code k old new taken middle Still x y h.between h.since room z r one
 
+-- and the collections that it told
+told : {t : Tables} {code : Code} {k : ℕ} {old new : Standing} {taken middle : Option (List ℕ)} {Still : Type 0} {first : Asks} {r : Outcome}
+    {x y z : List ℕ} → k < 2 ^ 64 - 1 → Turns t code k old.stepper taken middle Still first old.pacers x y → OneStep code old new r y z →
+    Tells (program_of t) x (behind k r) new.stepper.events
+told {t} {code} {k} {old} {new} {taken} {middle} {Still} {first} {r} {x} {y} {z} room h one =
+    tells-by t code k old new taken middle Still x y h.between h.told h.since.steps room z r one
+
 module _ {t : Tables} {code : Code} {k : ℕ} {old new : Stepping} {a b c : Pending} {la lb lc : Option (List ℕ)} {S : Type 0} {sa sb sc : S}
     {taken middle : Option (List ℕ)} {first before after : Asks}
     (turns : OnInput a b la lb (Turns t code k old taken middle ((b ≡ a) × (sb ≡ sa)) first before))
@@ -138,6 +153,7 @@ module _ {t : Tables} {code : Code} {k : ℕ} {old new : Stepping} {a b c : Pend
         between = on x y z h.between one.shows;
         asked = asked h one;
         since = since room h one;
+        told = told room h one;
         states = leads x y z h.states one;
       })
 
@@ -186,6 +202,7 @@ module _ {t : Tables} {code : Code} {k : ℕ} {old new : Stepping} {a b c : Pend
           ran = inr (ran x y z h.between one.shows);
           asked = asked h one;
           since = since-yes (program_of t) x (kept started new (behind k r)) (since room h one);
+          told = told room h one;
           states = λ begun. through x y z h.states one;
         })
 

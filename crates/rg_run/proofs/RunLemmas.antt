@@ -30,6 +30,7 @@ use Rattle.rg_step.specs.Steps.{Since, Stepping, fresh}
 use Rattle.rg_run.specs.Asked.{AskedOver, SinceYes, last_yes}
 use Rattle.rg_run.specs.Machine.{IsFresh, Kept}
 use Rattle.rg_run.specs.Whole.{WholeRun}
+use Rattle.rg_run.proofs.NoneLemmas.{tells-none}
 use Rattle.rg_run.proofs.SinceLemmas.{SinceOver, CountsSince}
 use Rattle.rg_run.proofs.OutputLemmas.{GoesOn, run-later}
 
@@ -86,6 +87,7 @@ not-begun t code n b p q k a left old still first begins same quiet =
       asked = asked-none (program_of t) bytes k first begins.steps;
       since = since-yes (program_of t) bytes _ (since-none (program_of t) bytes k q begins.steps (ap (λ (s : Stepping). s.steps) there.stepper)
           (ap (λ (s : Stepping). s.since) there.stepper) (ap (λ (s : Stepping). s.events) there.stepper));
+      told = tells-none (program_of t) bytes k q.events begins.steps (ap (λ (s : Stepping). s.events) there.stepper);
       states = λ is. absurd (true≢false (sym is ∙ begins.begun));
     })
 

@@ -6,6 +6,7 @@ use Rattle.rg_tree.specs.Rows.RowTrees.{program_of}
 use Rattle.rg_rules.specs.Acceptance.{Accepted}
 use Rattle.rg_rules.specs.Runs.{plain}
 use Rattle.rg_sound.proofs.LawLemmas.{run-fits, run-allowed, run-holds}
+use Rattle.rg_run.specs.Collected.{Tells}
 use Rattle.rg_run.specs.Machine.{Kept, Shows}
 use Rattle.rg_run.specs.Sound.{IsSound, Stands}
 use Rattle.rg_run.proofs.HoldsLemmas.{holds-of}
@@ -21,10 +22,12 @@ run-is-sound t a input n = record {
 
 -- a run whose state the machine shows stands there
 pub stands-shown : (t : Tables) (input : List ℕ) (n : ℕ) (m : Kept) → Accepted (program_of t) →
-    Shows t m (plain (program_of t) input n).state → m.steps ≡ (plain (program_of t) input n).steps → Stands t input n m
-stands-shown t input n m a shows steps = record {
+    Shows t m (plain (program_of t) input n).state → m.steps ≡ (plain (program_of t) input n).steps →
+    Tells (program_of t) input m.steps m.stepper.events → Stands t input n m
+stands-shown t input n m a shows steps told = record {
   shows = shows;
   held = holds-of (program_of t) shows.code m _ (run-fits (program_of t) a input n) shows.state;
   steps = steps;
+  told = told;
   sound = run-is-sound (program_of t) a input n;
 }

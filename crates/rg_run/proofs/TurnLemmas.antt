@@ -42,6 +42,7 @@ use Rattle.rg_step.specs.Steps.{Leapt, Runs, IsRunning, StepsOn}
 use Rattle.rg_step.specs.Steps as stepper
 use Rattle.rg_step.specs.Collections.{Asks}
 use Rattle.rg_run.specs.Asked.{AskedOver}
+use Rattle.rg_run.specs.Collected.{Tells}
 use Rattle.rg_run.specs.Machine.{Kept, ShowsAt}
 use Rattle.rg_run.specs.Runs.{Ran}
 use Rattle.rg_run.specs.Inner.{IsUntold}
@@ -102,6 +103,7 @@ pub record Turns (t : Tables) (code : Code) (k : ℕ) (st : Stepping) (old new :
   pub between : Between t code k (machine_in st.parts) old new Still before after
   pub asked : AskedOver (program_of t) before k first now
   pub since : SinceOver (program_of t) before k st
+  pub told : Tells (program_of t) before k st.events
   pub states : LeadsTo code t.manager k first (standing st now) before after
 
 -- a machine that has begun stands between two steps

@@ -7,3 +7,4 @@ pub mod Asked
 pub mod Inner
 pub mod States
 pub mod Whole
+pub mod Collected

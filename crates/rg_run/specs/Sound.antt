@@ -13,6 +13,7 @@ use Rattle.rg_sound.specs.Held.{IsHeld, NoneStale, LiveFit}
 use Rattle.rg_sound.specs.Writes.{Allowed}
 use Rattle.rg_held.specs.Frees.{gone}
 use Rattle.rg_machine.specs.Parts.{machine_in}
+use Rattle.rg_run.specs.Collected.{Tells}
 use Rattle.rg_run.specs.Machine.{Kept, Shows, object_at}
 
 -- What holds of each state of the first n steps of a program on an input, the opening one and the last one too, and of each
@@ -50,6 +51,8 @@ pub record Stands (t : Tables) (input : List ℕ) (n : ℕ) (m : Kept) : Type 0 
   pub shows : Shows t m (plain (program_of t) input n).state
   pub held : HoldsOf (classes_of t) m (plain (program_of t) input n).state
   pub steps : m.steps ≡ (plain (program_of t) input n).steps
+  -- the collections that it tells are those of its steps
+  pub told : Tells (program_of t) input m.steps m.stepper.events
   pub sound : IsSound (program_of t) input n
 
 -- none of the first n steps of a program on an input asks for the input

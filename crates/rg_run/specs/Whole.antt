@@ -6,6 +6,7 @@ use Rattle.rg_tree.specs.Rows.RowTrees.{program_of}
 use Rattle.rg_code.specs.Code.{Code}
 use Rattle.rg_step.specs.Collections.{Asks}
 use Rattle.rg_run.specs.Asked.{AskedOver, SinceYes}
+use Rattle.rg_run.specs.Collected.{Tells}
 use Rattle.rg_run.specs.Machine.{Kept}
 use Rattle.rg_run.specs.Runs.{RunsOn}
 use Rattle.rg_run.specs.States.{RunsThrough}
@@ -19,5 +20,7 @@ pub record WholeRun (t : Tables) (code : Code) (n : ℕ) (old new : Option (List
   pub asked : AskedOver (program_of t) before m.steps first last
   -- how often each was asked since its last yes
   pub since : SinceYes (program_of t) before m
+  -- the collections that it told
+  pub told : Tells (program_of t) before m.steps m.stepper.events
   -- where it has begun, the states between its steps
   pub states : m.begun ≡ true → RunsThrough code t.manager m result first last before after

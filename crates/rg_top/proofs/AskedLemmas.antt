@@ -16,6 +16,7 @@ use Rattle.rg_code.specs.Code.{Code}
 use Rattle.rg_plain.specs.Runs.{RunShows}
 use Rattle.rg_step.specs.Asking.{YesesTold, paced_by, raised}
 use Rattle.rg_step.specs.Collections.{Asks}
+use Rattle.rg_run.specs.Collected.{Tells}
 use Rattle.rg_run.specs.Machine.{Kept, IsFresh, Shows, ShowsAt}
 use Rattle.rg_run.specs.Sound.{Stands}
 use Rattle.rg_run.specs.Whole.{WholeRun}
@@ -29,23 +30,24 @@ use Rattle.rg_top.specs.Inner.Settled.{AskedCommand, AskedFrom, RunAsked}
 
 -- a run stands on the machine behind its whole steps, as it does behind all that were allowed
 stands-whole : (t : Tables) (input : List ℕ) (n : ℕ) (m : Kept) → Accepted (program_of t) → Shows t m (plain (program_of t) input n).state →
-    m.steps ≡ (plain (program_of t) input n).steps → Stands t input m.steps m
-stands-whole t input n m accepted shows steps =
+    m.steps ≡ (plain (program_of t) input n).steps → Tells (program_of t) input m.steps m.stepper.events → Stands t input m.steps m
+stands-whole t input n m accepted shows steps told =
     let w = run-of (program_of t).classes n 0 (opening (program_of t) input) in
     let made : m.steps ≡ w.0 = omega (arith, steps, w.1.steps) in
     let same : m.steps ≡ (plain (program_of t) input w.0).steps = omega (arith, made, w.1.made_steps) in
     let P : ℕ → Type 0 = λ q. Stands t input q m in
     let Q : State → Type 0 = λ s. Shows t m s in
-    subst P (sym made) (stands-shown t input w.0 m accepted (subst Q (sym w.1.state) shows) same)
+    subst P (sym made) (stands-shown t input w.0 m accepted (subst Q (sym w.1.state) shows) same told)
 
 stands-at : (t : Tables) (input : List ℕ) (n : ℕ) (m : Kept) (rest : List ℕ) (old new : Option (List ℕ)) (e : Ended) → Accepted (program_of t) →
-    RunShows t (opening (program_of t) input) n m.steps (ShowsAt t m rest) old new e → Stands t input m.steps m
-stands-at t input n m rest old new ended.Done a h = stands-whole t input n m a h.shows.0 h.steps_are
-stands-at t input n m rest old new ended.Spent a h = stands-whole t input n m a h.shows.0 h.steps_are
-stands-at t input n m rest old new (ended.Trap kind line) a h = stands-whole t input n m a h.shows.0 h.steps_are
-stands-at t input n m rest old new ended.InputFault a h = stands-shown t input m.steps m a h.stands.shows.0 (sym h.stands.made)
-stands-at t input n m rest old new ended.OutputFault a h = stands-shown t input m.steps m a h.stands.shows.0 (sym h.stands.made)
-stands-at t input n m rest old new ended.Memory a h = stands-shown t input m.steps m a h.stands.shows.0 (sym h.stands.made)
+    RunShows t (opening (program_of t) input) n m.steps (ShowsAt t m rest) old new e → Tells (program_of t) input m.steps m.stepper.events →
+    Stands t input m.steps m
+stands-at t input n m rest old new ended.Done a h told = stands-whole t input n m a h.shows.0 h.steps_are told
+stands-at t input n m rest old new ended.Spent a h told = stands-whole t input n m a h.shows.0 h.steps_are told
+stands-at t input n m rest old new (ended.Trap kind line) a h told = stands-whole t input n m a h.shows.0 h.steps_are told
+stands-at t input n m rest old new ended.InputFault a h told = stands-shown t input m.steps m a h.stands.shows.0 (sym h.stands.made) told
+stands-at t input n m rest old new ended.OutputFault a h told = stands-shown t input m.steps m a h.stands.shows.0 (sym h.stands.made) told
+stands-at t input n m rest old new ended.Memory a h told = stands-shown t input m.steps m a h.stands.shows.0 (sym h.stands.made) told
 
 -- no step has asked
 asks-first : (t : Tables) (input : List ℕ) (m : Manager) (old new : ℕ) → AsksOver (program_of t) input 0 m old new → new ≡ old
@@ -80,7 +82,7 @@ asked-from origin n source left t code m e old new quiet first last count trace 
         record {
           tables = t;
           runs = runs;
-          stands = stands-at t h.0 n m h.2.0 old new e runs.accepted ran.run;
+          stands = stands-at t h.0 n m h.2.0 old new e runs.accepted ran.run h.2.1.told;
           count = counted;
           trace = traced;
         },

@@ -16,6 +16,7 @@ use Rattle.rg_code.specs.Code.{Code}
 use Rattle.rg_plain.specs.Machine.{Machine, Begins, state_of}
 use Rattle.rg_plain.specs.Runs.{answer, RunIs, RunShows, IsState, NoneAsks, begun, Whole, StandsAt, CutOff, CutAtInput}
 use Rattle.rg_step.specs.Collections.{Asks}
+use Rattle.rg_run.specs.Collected.{Tells}
 use Rattle.rg_run.specs.Machine.{Kept, IsFresh, ShowsAt}
 use Rattle.rg_run.specs.Sound.{Stands, NeverAsks}
 use Rattle.rg_run.specs.Whole.{WholeRun}
@@ -104,7 +105,7 @@ module _ (file : List ℕ) (n : ℕ) (source : List ℕ) (left : Option (List �
 
 module _ (origin : Origin) (n : ℕ) (source : List ℕ) (left : Option (List ℕ)) (t : Tables) (runs : Runs origin source (program_of t)) (input : List ℕ)
     (is : HasInput left input) (m : Kept) (rest : List ℕ) (old new : Option (List ℕ)) (still : Type 0)
-    (unread : NeverAsks (program_of t) input n → still) where
+    (unread : NeverAsks (program_of t) input n → still) (told : Tells (program_of t) input m.steps m.stepper.events) where
   whole : (e : Ended) (s : Status) → status_of_ended e ≡ s → Whole t (opening (program_of t) input) n m.steps (ShowsAt t m rest) old new e →
       RanWhole origin n source left s old new m still
   whole e s same w = record {
@@ -114,12 +115,12 @@ module _ (origin : Origin) (n : ℕ) (source : List ℕ) (left : Option (List �
     input_is = is;
     status_is = answered origin n source left t runs input is m.steps (ShowsAt t m rest) old new e s same w;
     wrote = w.text_is;
-    stands = stands-shown t input n m runs.accepted w.shows.0 w.steps_are;
+    stands = stands-shown t input n m runs.accepted w.shows.0 w.steps_are told;
     unread = unread;
   }
 
   stands : StandsAt t (opening (program_of t) input) n m.steps (ShowsAt t m rest) → Stands t input m.steps m
-  stands c = stands-shown t input m.steps m runs.accepted c.shows.0 (sym c.made)
+  stands c = stands-shown t input m.steps m runs.accepted c.shows.0 (sym c.made) told
 
   stands_after : CutOff t (opening (program_of t) input) n m.steps (ShowsAt t m rest) old new →
       StandsAfter t input n m.steps m (added t (opening (program_of t) input) m.steps) old new
@@ -144,7 +145,7 @@ run-from origin n source left t code m e old new quiet still first last more run
   | inl none ↦
       let P : Ended → Type 0 = λ q. RanFrom origin n source left (status_of_ended q) old new m still in
       subst P (sym none.answer_is) (inl (none.fresh, none.untouched, more none.unread))
-  | inr ran ↦ ran-from origin n source left t runs h.0 h.1 m h.2.0 old new still (λ none. more (ran.unread none)) e ran.run
+  | inr ran ↦ ran-from origin n source left t runs h.0 h.1 m h.2.0 old new still (λ none. more (ran.unread none)) h.2.1.told e ran.run
 ]
 
 -- is what `run` or `slide` has answered, where the program comes from a file

@@ -241,7 +241,7 @@ stands-whole t input n m old new accepted shown wrote =
     subst R (sym k) (record {
       within = r.1.within;
       made = r.1.made_steps ∙ from;
-      stands = stands-shown t input r.0 m accepted (subst P (sym r.1.state) shown.shows) (k ∙ sym (r.1.made_steps ∙ from));
+      stands = stands-shown t input r.0 m accepted (subst P (sym r.1.state) shown.shows) (k ∙ sym (r.1.made_steps ∙ from)) shown.told;
       wrote = wrote-whole t input r.0 old new (subst Q (ap (λ s. text s.output) (sym r.1.state)) wrote);
     })
 
@@ -291,7 +291,7 @@ bulk-stands size t n m part old new accepted shown prefix wrote =
     subst R (sym k) (record {
       within = r.1.within;
       made = r.1.made_steps ∙ from;
-      stands = stands-shown t [] r.0 m accepted (subst P (sym r.1.state) shown.shows) (k ∙ sym (r.1.made_steps ∙ from));
+      stands = stands-shown t [] r.0 m accepted (subst P (sym r.1.state) shown.shows) (k ∙ sym (r.1.made_steps ∙ from)) shown.told;
       wrote = (
         added t s r.0 ++ part,
         prefix-behind (added t s r.0) part _ (line-made size (numbers_of m) _ _ part r.1.done prefix),

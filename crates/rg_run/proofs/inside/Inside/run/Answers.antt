@@ -12,6 +12,7 @@ use Rattle.rg_step.specs.Steps.{Stepping, fresh, opening_machine}
 use Rattle.rg_run.proofs.AskLemmas.{yeses-none, yeses-of, yeses-more}
 use Rattle.rg_run.proofs.LoopLemmas.{ends-so, goes-on, spent, turned-leapt}
 use Rattle.rg_run.proofs.RunLemmas.{asked-none, not-begun, since-none}
+use Rattle.rg_run.proofs.NoneLemmas.{tells-none}
 use Rattle.rg_run.proofs.StateLemmas.{opened}
 use Rattle.rg_run.proofs.TurnLemmas.{Between, Turns, begins, is-running}
 use Rattle.rg_run.proofs.ReportLemmas.{few-behind, input-failed, rose-since}
@@ -57,6 +58,8 @@ loop-self-init g c =
             asked = asked-none (program_of t) bytes c.args.self.now.steps _ c.requires.fresh.steps;
             since = since-none (program_of t) bytes c.args.self.now.steps c.begin.new.self c.requires.fresh.steps
                 (ap (λ (s : Stepping). s.steps) begun) (ap (λ (s : Stepping). s.since) begun) (ap (λ (s : Stepping). s.events) begun);
+            told = tells-none (program_of t) bytes c.args.self.now.steps c.begin.new.self.events c.requires.fresh.steps
+                (ap (λ (s : Stepping). s.events) begun);
             states = opened h.0 c.args.self.now.stepper.slides c.begin.new.self opens begun c.requires.fresh.steps bytes;
           });
     }
