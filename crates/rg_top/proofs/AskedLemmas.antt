@@ -13,6 +13,7 @@ use Rattle.rg_rules.specs.Asks.{asks, asks_from}
 use Rattle.rg_rules.specs.Runs.{opening, plain}
 use Rattle.rg_rules.specs.State.{State}
 use Rattle.rg_code.specs.Code.{Code}
+use Rattle.rg_code.specs.Lowering.{Lowers}
 use Rattle.rg_plain.specs.Runs.{RunShows}
 use Rattle.rg_step.specs.Asking.{YesesTold, paced_by, raised}
 use Rattle.rg_step.specs.Collections.{Asks}
@@ -61,10 +62,10 @@ asks-none t input k m old new first h =
 -- a run on the machine
 pub asked-from : (origin : Origin) (n : ℕ) (source : List ℕ) (left : Option (List ℕ)) (t : Tables) (code : Code) (m : Kept) (e : Ended)
     (old new : Option (List ℕ)) (quiet : Type 0) (first last : Asks) (count trace : ℕ) → first.count.asks ≡ count → first.trace.asks ≡ trace →
-    Runs origin source (program_of t) →
+    Lowers (program_of t) code → Runs origin source (program_of t) →
     ForInput left (λ input. (rest : List ℕ) × WholeRun t code n old new m e quiet first last input rest) →
     RunAsked origin source left m count last.count.asks trace last.trace.asks
-asked-from origin n source left t code m e old new quiet first last count trace count_is trace_is runs h =
+asked-from origin n source left t code m e old new quiet first last count trace count_is trace_is lowers runs h =
     let over = h.2.1.asked in
     let C : ℕ → Type 0 = λ q. AsksOver (program_of t) h.0 m.steps Count q last.count.asks in
     let T : ℕ → Type 0 = λ q. AsksOver (program_of t) h.0 m.steps Trace q last.trace.asks in
@@ -85,6 +86,15 @@ asked-from origin n source left t code m e old new quiet first last count trace 
           stands = stands-at t h.0 n m h.2.0 old new e runs.accepted ran.run h.2.1.told;
           count = counted;
           trace = traced;
+          code = code;
+          lowers = lowers;
+          first = first;
+          last = last;
+          first_is = (count_is, trace_is);
+          last_is = (refl, refl);
+          ended = e;
+          rest = h.2.0;
+          states = h.2.1.states ran.begun;
         },
       )
     ]

@@ -3,13 +3,18 @@ use Rattle.std.specs.Prelude.{◌≡◌, ℕ, List, [], length, count_by}
 use Rattle.rg_base.specs.declared.event.Event.{Event}
 use Rattle.rg_base.specs.declared.words.Manager.{Manager}
 use Rattle.rg_base.specs.declared.words.Manager.TheVariants.{Count, Trace}
+use Rattle.rg_base.specs.declared.outcome.Ended.{Ended}
 use Rattle.rg_tree.specs.Tree.{Tree}
 use Rattle.rg_tree.specs.Rows.Tables.{Tables}
 use Rattle.rg_tree.specs.Rows.RowTrees.{program_of}
 use Rattle.rg_rules.specs.Asks.{asks}
+use Rattle.rg_code.specs.Code.{Code}
+use Rattle.rg_code.specs.Lowering.{Lowers}
 use Rattle.rg_step.specs.Asking.{paced_by, raised}
+use Rattle.rg_step.specs.Collections.{Asks}
 use Rattle.rg_run.specs.Machine.{Kept, IsFresh}
 use Rattle.rg_run.specs.Sound.{Stands}
+use Rattle.rg_run.specs.States.{RunsThrough}
 use Rattle.rg_top.specs.Commands.{Origin, in_file, generated}
 use Rattle.rg_top.specs.Headline.{Runs}
 
@@ -44,3 +49,13 @@ pub record RunAsks (origin : Origin) (source input : List ℕ) (m : Kept) (count
   pub stands : Stands tables input m.steps m
   pub count : AsksOver (program_of tables) input m.steps Count count_old count_new
   pub trace : AsksOver (program_of tables) input m.steps Trace trace_old trace_new
+  -- its steps by the program's code, and what each of them did: the states of the machine between them, from the opening one on
+  pub code : Code
+  pub lowers : Lowers (program_of tables) code
+  pub first : Asks
+  pub last : Asks
+  pub first_is : (first.count.asks ≡ count_old) × (first.trace.asks ≡ trace_old)
+  pub last_is : (last.count.asks ≡ count_new) × (last.trace.asks ≡ trace_new)
+  pub ended : Ended
+  pub rest : List ℕ
+  pub states : RunsThrough code tables.manager m ended first last input rest

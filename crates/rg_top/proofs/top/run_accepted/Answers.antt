@@ -21,7 +21,7 @@ returns-in_default-clause-notes g c = quiet-memory c.args.report _ _
 
 pub returns-clause-asked : goal.returns-clause-asked
 returns-clause-asked g c = λ origin source runs.
-    asked-from origin c.args.steps source _ c.args.accepted.now.program _ _ _ _ _ _ _ _ _ _ c.tune.ensures.1.0 c.tune-2.ensures.1.0 runs
+    asked-from origin c.args.steps source _ c.args.accepted.now.program _ _ _ _ _ _ _ _ _ _ c.tune.ensures.1.0 c.tune-2.ensures.1.0 c.in-Ok.ensures runs
     (on-input _ _ _ _ _ c.new-numbers.ensures c.run-ran.ensures.follows c.run-ran.ensures.run)
 
 pub returns-clause-yeses : goal.returns-clause-yeses
