@@ -94,10 +94,6 @@ module _ (code : List Op) where
 act-back : (code : Code) (at : ℕ) (o : Op) (go : Go) (stack : List Val) (w : Work) → GoesBack code.ops go → CalmBehind code.ops w.machine.frames
     → Back code.ops (act code at o go stack w)
 act-back code at (i.Mark line) go stack w next h = tt
-act-back code at (i.Int z) go stack w next h = next 0 _ w h
-act-back code at (i.Bool b) go stack w next h = next 0 _ w h
-act-back code at i.Nil go stack w next h = next 0 _ w h
-act-back code at (i.Load s) go stack w next h = next 0 _ w h
 act-back code at (i.Clear s) go stack w next h = next 0 stack (stored w s val.Nil) (slots-behind code.ops _ w.machine.frames h)
 act-back code at (i.Store s) go stack w next h =
     top-back code.ops stack _ (λ v rest. next 0 rest (stored w s v) (slots-behind code.ops _ w.machine.frames h))
@@ -146,7 +142,6 @@ act-back code at (i.Merge s) go stack w next h = object-back code.ops (object_at
     (stored (with_store w (relabel false (Region (top_region w.machine.windows)) w (region_of o.label))) s val.Nil)
     (slots-behind code.ops _ w.machine.frames h))
 act-back code at i.Read go stack w next h = read-back code.ops (next_number w.input) go stack w next h
-act-back code at i.More go stack w next h = next 0 _ w h
 act-back code at i.Room go stack w next h = if-back code.ops (nat_lt (length w.machine.frames) FRAMES) _ _ (next 0 stack w h) tt
 act-back code at (i.Call m) go stack w next h = called-back code.ops at (slice_get code.entries m) stack w
 act-back code at i.Ret go stack w next h = top-back code.ops stack _ (λ v rest. returned-back code.ops w w.machine.frames (v ∷ []) h)
@@ -167,6 +162,7 @@ act-back code at i.Collect go stack w next h = next 0 stack w h
 act-back code at i.Pop go stack w next h = top-back code.ops stack _ (λ v rest. next 0 rest w h)
 act-back code at i.Drop go stack w next h = top-back code.ops stack _ (λ v rest. next 0 rest w h)
 act-back code at i.Halt go stack w next h = tt
+act-back code at _ go stack w next h = next 0 _ w h
 
 pub walk-back : (code : Code) (os : List Op) (at skip : ℕ) (stack : List Val) (w : Work) → CalmBehind code.ops w.machine.frames
     → Back code.ops (given_walk code os at skip stack w)

@@ -60,10 +60,6 @@ behind_test classes line r b go i mid h e =
 pub inner_block-judged : (classes : List Class) (last : Option Ty) (line : ℕ) (env : Env) (k : StmtKind) (side : Side) (i : Opened) (mid : Env) →
     judge_kind classes last line env k ≡ Ok mid → inner_block classes env k side ≡ Some i →
     (out : Env) × (judge_block classes None i.env i.block ≡ Ok out)
-inner_block-judged classes last line env (declare x t r) side i mid h e = grind arith
-inner_block-judged classes last line env (assign p r) side i mid h e = grind arith
-inner_block-judged classes last line env (call c) side i mid h e = grind arith
-inner_block-judged classes last line env (swap y p) side i mid h e = grind arith
 inner_block-judged classes last line env (branch c b other) first i mid h e = behind_test classes line (judge_test classes env c) b _ i mid h e
 inner_block-judged classes last line env (branch c b no_else) second i mid h e = grind arith
 inner_block-judged classes last line env (branch c b (otherwise other)) second i mid h e =
@@ -77,22 +73,14 @@ inner_block-judged classes last line env (while c b) second i mid h e = grind ar
 inner_block-judged classes last line env (enter p z b) first i mid h e =
     behind_test classes line (judge_enter classes env p.base p.fields z) b _ i mid h e
 inner_block-judged classes last line env (enter p z b) second i mid h e = grind arith
-inner_block-judged classes last line env (print c) side i mid h e = grind arith
-inner_block-judged classes last line env collect side i mid h e = grind arith
-inner_block-judged classes last line env (return c) side i mid h e = grind arith
+inner_block-judged classes last line env _ side i mid h e = grind arith
 
 pub block_end-free : (classes : List Class) (env : Env) (n line : ℕ) (k : StmtKind) (side : Side) (i : Opened) (more : List Item) →
     inner_block classes env k side ≡ Some i → BeginsFree (block_end n line k ++ more)
-block_end-free classes env n line (declare x t r) side i more e = grind arith
-block_end-free classes env n line (assign p r) side i more e = grind arith
-block_end-free classes env n line (call c) side i more e = grind arith
-block_end-free classes env n line (swap y p) side i more e = grind arith
 block_end-free classes env n line (branch c b other) side i more e = tt
 block_end-free classes env n line (while c b) side i more e = tt
 block_end-free classes env n line (enter p z b) side i more e = tt
-block_end-free classes env n line (print c) side i more e = grind arith
-block_end-free classes env n line collect side i more e = grind arith
-block_end-free classes env n line (return c) side i more e = grind arith
+block_end-free classes env n line _ side i more e = grind arith
 
 -- the statement at a point has no fault, and behind it stands the next point
 pub record Advanced (classes : List Class) (result : Option Ty) (env : Env) (b : Block) (after : List Item) (round : List Path)

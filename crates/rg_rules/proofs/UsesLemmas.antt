@@ -34,13 +34,9 @@ judge_expr-same classes env mid w e j same h = rw (← same) h
 -- an expression whose type isn't `iso` uses no variable up
 pub judge_expr-uses : (classes : List Class) (env : Env) (locals : List Local) → AgreeOnIso env locals → (w : Option Ty) (e : Expr) (j : Judged) →
     judge_expr classes env w e ≡ Ok j → is_iso j.ty ≡ false → uses locals e ≡ []
-judge_expr-uses classes env locals g w (number z) j h n = refl
-judge_expr-uses classes env locals g w (boolean b) j h n = refl
-judge_expr-uses classes env locals g w nil j h n = refl
 judge_expr-uses classes env locals g w (path q) j h n =
     let p = bind-ok (judge_path classes env q.base q.fields) _ j h in
     let a = against-ok w p.0.ty p.0.env j p.2 in uses_path-none classes env locals g q.base q.fields p.0 p.1 (rw a.ty at n)
-judge_expr-uses classes env locals g w (is_nil q) j h n = refl
 judge_expr-uses classes env locals g w (neg a) j h n =
     let p = bind-ok (judge_expr classes env (Some Int) a) _ j h in
     judge_expr-uses classes env locals g (Some Int) a p.0 p.1 (below-not_iso p.0.ty Int refl (judge_expr-below classes env Int a p.0 p.1))
@@ -54,3 +50,4 @@ judge_expr-uses classes env locals g w (binary op a b) j h n =
     let first = judge_expr-uses classes env locals g (operand_type (among op)) a p.l p.operands.left i.0 in
     let right = judge_expr-same classes env p.l.env (operand_type (among op)) b p.r same p.operands.right in
     let second = judge_expr-uses classes env locals g (operand_type (among op)) b p.r right i.1 in rw (first, second) refl
+judge_expr-uses classes env locals g w _ j h n = refl

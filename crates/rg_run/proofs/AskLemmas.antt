@@ -159,14 +159,7 @@ paced-none false undue = refl
 undue-kind : (classes : List Class) (k : StmtKind) → kind_due classes k ≡ None → kind_makes classes k ≡ false
 undue-kind classes (declare x t r) undue = paced-none (kind_makes classes (declare x t r)) undue
 undue-kind classes (assign p r) undue = paced-none (kind_makes classes (assign p r)) undue
-undue-kind classes (call c) undue = refl
-undue-kind classes (swap y p) undue = refl
-undue-kind classes (branch e first other) undue = refl
-undue-kind classes (while e body) undue = refl
-undue-kind classes (enter p z body) undue = refl
-undue-kind classes (print e) undue = refl
-undue-kind classes collect undue = refl
-undue-kind classes (return e) undue = refl
+undue-kind classes _ undue = refl
 
 undue-makes : (classes : List Class) (items : List Item) → first_due classes items ≡ None → first_makes classes items ≡ false
 undue-makes classes [] undue = refl

@@ -37,14 +37,7 @@ paced-back false = refl
 kind-paced : (classes : List Class) (k : StmtKind) → kind_makes classes k ≡ is_pace (kind_due classes k)
 kind-paced classes (declare x t r) = paced-back (right_makes classes r)
 kind-paced classes (assign p r) = paced-back (right_makes classes r)
-kind-paced classes (call c) = refl
-kind-paced classes (swap y p) = refl
-kind-paced classes (branch e first other) = refl
-kind-paced classes (while e body) = refl
-kind-paced classes (enter p z body) = refl
-kind-paced classes (print e) = refl
-kind-paced classes collect = refl
-kind-paced classes (return e) = refl
+kind-paced classes _ = refl
 
 pub first-paced : (classes : List Class) (items : List Item) → first_makes classes items ≡ is_pace (first_due classes items)
 first-paced classes [] = refl
@@ -86,15 +79,8 @@ made-stays classes s put x label keeps = by (class_named classes x)
 
 right-stays : (classes : List Class) (s : State) (to : Target) (put : Use) → ((u : State) (v : Val) → Stays u (put u v)) → (r : Right)
     → right_makes classes r ≡ true → (q : State) → with_right classes s to put r ≡ Ok q → Stays s q
-right-stays classes s to put keeps (value e) makes q is = absurd (true≢false (sym makes))
 right-stays classes s to put keeps (new x) makes q is = subst (Stays s) (ok-is _ q is) (made-stays classes s put x _ keeps)
-right-stays classes s to put keeps (new_tmp x) makes q is = absurd (true≢false (sym makes))
-right-stays classes s to put keeps (new_iso x m) makes q is = absurd (true≢false (sym makes))
-right-stays classes s to put keeps (freeze y) makes q is = absurd (true≢false (sym makes))
-right-stays classes s to put keeps (merge y) makes q is = absurd (true≢false (sym makes))
-right-stays classes s to put keeps read makes q is = absurd (true≢false (sym makes))
-right-stays classes s to put keeps more makes q is = absurd (true≢false (sym makes))
-right-stays classes s to put keeps (result_of c) makes q is = absurd (true≢false (sym makes))
+right-stays classes s to put keeps _ makes q is = absurd (true≢false (sym makes))
 
 assign-stays : (classes : List Class) (s : State) (x : Variable) (fields : List Name) (r : Right) → right_makes classes r ≡ true → (q : State)
     → step_assign classes s x fields r ≡ Ok q → Stays s q
@@ -111,14 +97,7 @@ kind-stays classes s line (declare x t r) makes q is =
     right-stays classes s (Declares x (type_of classes t)) (add_local (Some x) (type_of classes t))
     (λ u v. record { windows = refl; managers = refl }) r makes q is
 kind-stays classes s line (assign p r) makes q is = assign-stays classes s p.base p.fields r makes q is
-kind-stays classes s line (call c) makes q is = absurd (true≢false (sym makes))
-kind-stays classes s line (swap y p) makes q is = absurd (true≢false (sym makes))
-kind-stays classes s line (branch e first other) makes q is = absurd (true≢false (sym makes))
-kind-stays classes s line (while e body) makes q is = absurd (true≢false (sym makes))
-kind-stays classes s line (enter p z body) makes q is = absurd (true≢false (sym makes))
-kind-stays classes s line (print e) makes q is = absurd (true≢false (sym makes))
-kind-stays classes s line collect makes q is = absurd (true≢false (sym makes))
-kind-stays classes s line (return e) makes q is = absurd (true≢false (sym makes))
+kind-stays classes s line _ makes q is = absurd (true≢false (sym makes))
 
 first-stays : (classes : List Class) (s : State) (items : List Item) → first_makes classes items ≡ true → (q : State)
     → step_first classes s items ≡ Went q → Stays s q

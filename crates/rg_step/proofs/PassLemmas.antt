@@ -59,13 +59,6 @@ module _ (classes : List Class) (code : List Op) where
       → kind_due classes k ≡ Some Asked → Lies classes code (l ∷ ls) (Do (stmt line k) ∷ rest) at → IsStep code at (i.Collect ∷ [])
   kind-step l ls line (declare x t r) rest at left due h = absurd (no-paced (kind_makes classes (declare x t r)) due)
   kind-step l ls line (assign p r) rest at left due h = absurd (no-paced (kind_makes classes (assign p r)) due)
-  kind-step l ls line (call c) rest at left due h = absurd (none-some Asked due)
-  kind-step l ls line (swap y p) rest at left due h = absurd (none-some Asked due)
-  kind-step l ls line (branch c b other) rest at left due h = absurd (none-some Asked due)
-  kind-step l ls line (while c b) rest at left due h = absurd (none-some Asked due)
-  kind-step l ls line (enter p z b) rest at left due h = absurd (none-some Asked due)
-  kind-step l ls line (print c) rest at left due h = absurd (none-some Asked due)
-  kind-step l ls line (return c) rest at left due h = absurd (none-some Asked due)
   kind-step l ls line collect [] at left due h = absurd left
   kind-step l ls line collect (j ∷ rest) at left due h =
       let e = drop-stands code at (i.Mark line ∷ i.Collect ∷ []) h.0.0 in
@@ -74,6 +67,7 @@ module _ (classes : List Class) (code : List Op) where
         (there (at + 1) _ _ (behind at _ _ e), tt),
         (m.0, there (at + 2) _ _ m.1),
       )
+  kind-step l ls line _ rest at left due h = absurd (none-some Asked due)
 
   item-step : (l : Level) (ls : List Level) (j : Item) (rest : List Item) (at : ℕ) → ((j ≡ EndAt 0 → ⊥) → SomeLeft rest)
       → first_due classes (j ∷ rest) ≡ Some Asked → Lies classes code (l ∷ ls) (j ∷ rest) at → IsStep code at (i.Collect ∷ [])

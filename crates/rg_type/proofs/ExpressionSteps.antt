@@ -40,10 +40,7 @@ left_tested (Err code) r holds f go = refl
 
 pub judge_expr-own : (classes : List Class) (env : Env) (wanted : Option Ty) (e : Expr) →
     judge_expr classes env wanted e ≡ ◌>>=◌ (own_type_of classes env wanted e) (λ j. against wanted j.ty j.env)
-judge_expr-own classes env wanted (number z) = refl
-judge_expr-own classes env wanted (boolean b) = refl
 judge_expr-own classes env wanted nil = then_tested (nil_type wanted) (λ t. record { ty = t; env = env }) (λ j. against wanted j.ty j.env)
-judge_expr-own classes env wanted (path p) = refl
 judge_expr-own classes env wanted (is_nil p) =
     passed_tested (judge_is_nil classes env p.base p.fields) (record { ty = Bool; env = env }) (λ j. against wanted j.ty j.env)
 judge_expr-own classes env wanted (neg a) =
@@ -54,6 +51,7 @@ judge_expr-own classes env wanted (binary op a b) =
     left_tested (judge_expr classes env (operand_type (among op)) a) (λ l. judge_expr classes l.env (operand_type (among op)) b)
     (λ l r. agree (among op) l.ty r.ty)
     (λ r. record { ty = result_type (among op); env = r.env }) (λ j. against wanted j.ty j.env)
+judge_expr-own classes env wanted _ = refl
 
 -- it has no type of its own
 pub own-fails : (classes : List Class) (env : Env) (wanted : Option Ty) (e : Expr) (code : Code) →

@@ -116,17 +116,10 @@ module _ (g : Given) where
   stays at end e = subst (λ (n : ℕ). Piece g.ops at [] n) (some_is _ _ e) (piece-nil g.ops at)
 
   paced-piece : (r : Right) (at end : ℕ) → paced g.ops (paces r) at ≡ Some end → Piece g.ops at (pace_ops r) end
-  paced-piece (value e) at end h = stays at end h
   paced-piece (new c) at end h =
       let (u, there, f) = then-some (sign pace_of g.ops at) (Some (suc at)) end h in
       subst (λ (n : ℕ). Piece g.ops at (i.Pace ∷ []) n) (some_is _ _ f) (sign-piece g pace-is at u there)
-  paced-piece (new_tmp c) at end h = stays at end h
-  paced-piece (new_iso c m) at end h = stays at end h
-  paced-piece (freeze s) at end h = stays at end h
-  paced-piece (merge s) at end h = stays at end h
-  paced-piece read at end h = stays at end h
-  paced-piece more at end h = stays at end h
-  paced-piece (result_of c) at end h = stays at end h
+  paced-piece _ at end h = stays at end h
 
   dropped-piece : (t : Option Ty) (at end : ℕ) → dropped g.ops t at ≡ Some end → Piece g.ops at (dropped_code t) end
   dropped-piece None at end h = stays at end h

@@ -21,9 +21,6 @@ module _ (classes : List Class) (scope : Scope) (m : Truth) where
   path-named s ks (e, h) = rw (e, fields-named classes (type_in scope (variable_in m s)) ks h) refl
 
   pub code-named : (r : Raised) (at : ℕ) → IsFound classes scope m r → expr_code classes scope at (named m r) ≡ ops_of at r
-  code-named (number z) at h = refl
-  code-named (boolean b) at h = refl
-  code-named nil at h = refl
   code-named (path s ks) at h = path-named s ks h
   code-named (is_nil s ks) at h = ap (λ (os : List Op). os ++ i.IsNil ∷ []) (path-named s ks h)
   code-named (neg a) at h = ap (λ (os : List Op). os ++ i.Neg ∷ []) (code-named a at h)
@@ -34,6 +31,7 @@ module _ (classes : List Class) (scope : Scope) (m : Truth) where
       ap (λ (os : List Op). os ++ operator_code o (at + length os + gap o + length (right (at + length os + gap o))) (right (at + length os + gap o)))
       (code-named a at f)
       ∙ ap (λ (os : List Op). ops_of at a ++ operator_code o (middle + length os) os) (code-named b middle g)
+  code-named _ at h = refl
 
   pub all-named : (rs : List Raised) (at : ℕ) → AllByRecursion (IsFound classes scope m) rs
       → exprs_code classes scope at (map (named m) rs) ≡ all_ops at rs

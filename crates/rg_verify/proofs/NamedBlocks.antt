@@ -36,32 +36,16 @@ module _ (classes : List Class) (m : Truth) where
       → types_of (scope_behind classes scope (kind_named m (length scope) k)) ≡ types_behind (types_of scope) k
   behind-types (declare t r) scope (e, h) =
       more-types scope (Some (variable_name (length scope))) (type_of classes (written t)) ∙ ap (λ (u : Ty). types_of scope ++ u ∷ []) e
-  behind-types (assign s r) scope h = refl
   behind-types (write s ks k r) scope h = refl
-  behind-types (call c) scope h = refl
-  behind-types (swap y s ks k) scope h = refl
-  behind-types (branch e b other) scope h = refl
-  behind-types (while e b) scope h = refl
-  behind-types (enter s c b) scope h = refl
   behind-types (enter_field s ks k c b) scope h = refl
-  behind-types (print e) scope h = refl
-  behind-types collect scope h = refl
-  behind-types (return e) scope h = refl
+  behind-types _ scope h = refl
 
   behind-slots : (k : Kind) (scope : Scope)
       → length (scope_behind classes scope (kind_named m (length scope) k)) ≡ slots_behind (length scope) k
   behind-slots (declare t r) scope = more-slots scope (Some (variable_name (length scope))) (type_of classes (written t))
-  behind-slots (assign s r) scope = refl
   behind-slots (write s ks k r) scope = refl
-  behind-slots (call c) scope = refl
-  behind-slots (swap y s ks k) scope = refl
-  behind-slots (branch e b other) scope = refl
-  behind-slots (while e b) scope = refl
-  behind-slots (enter s c b) scope = refl
   behind-slots (enter_field s ks k c b) scope = refl
-  behind-slots (print e) scope = refl
-  behind-slots collect scope = refl
-  behind-slots (return e) scope = refl
+  behind-slots _ scope = refl
 
   -- those in front of the block of an `enter`
   inside-types : (scope : Scope) (s : ℕ) (ks : List ℕ) (c : ℕ) → IsEntryFound classes scope m s ks c

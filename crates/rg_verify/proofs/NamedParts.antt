@@ -80,19 +80,16 @@ module _ (classes : List Class) (scope : Scope) (m : Truth) where
   -- What is used up
 
   pub used-named : (r : Raised) → IsFound classes scope m r → used_slots scope (named m r) ≡ used (types_of scope) r
-  used-named (number z) h = refl
-  used-named (boolean b) h = refl
-  used-named nil h = refl
   used-named (path s []) (e, h) =
       let x = variable_in m s in
       let is : type_in scope x ≡ type_at (types_of scope) s = sym (slot-type scope x) ∙ ap (λ (n : ℕ). type_at (types_of scope) n) e in
       ap (λ (n : ℕ). if is_iso (type_in scope x) then n ∷ [] else []) e ∙ ap (λ (t : Ty). if is_iso t then s ∷ [] else []) is
   used-named (path s (k ∷ ks)) h = refl
-  used-named (is_nil s ks) h = refl
   used-named (neg a) h = used-named a h
   used-named (not a) h = used-named a h
   used-named (binary o a b) (f, g) =
       ap (λ (ss : List ℕ). ss ++ used_slots scope (named m b)) (used-named a f) ∙ ap (λ (ss : List ℕ). used (types_of scope) a ++ ss) (used-named b g)
+  used-named _ h = refl
 
   pub all_used-named : (rs : List Raised) → AllByRecursion (IsFound classes scope m) rs
       → used_by_all scope (map (named m) rs) ≡ all_used (types_of scope) rs
@@ -145,11 +142,4 @@ module _ (classes : List Class) (scope : Scope) (m : Truth) where
 
   pub pace-named : (r : Right) → pace_code (right_named m r) ≡ pace_ops r
   pace-named (value e) = refl
-  pace-named (new c) = refl
-  pace-named (new_tmp c) = refl
-  pace-named (new_iso c manager) = refl
-  pace-named (freeze s) = refl
-  pace-named (merge s) = refl
-  pace-named read = refl
-  pace-named more = refl
-  pace-named (result_of c) = refl
+  pace-named _ = refl

@@ -120,11 +120,6 @@ module _ (a : ℕ) where
   module _ (code : Code) where
     on-act : (at : ℕ) (o : Op) (go : Go) (stack : List Val) (w : Work) → Onward go → Now w → Ending (free_act code at o go stack w)
     on-act at (i.Mark line) go stack w h now = now
-    on-act at (i.Int z) go stack w h now = h 0 _ _ now
-    on-act at (i.Bool b) go stack w h now = h 0 _ _ now
-    on-act at i.Nil go stack w h now = h 0 _ _ now
-    on-act at (i.Load s) go stack w h now = h 0 _ _ now
-    on-act at (i.Clear s) go stack w h now = h 0 _ _ now
     on-act at (i.Store s) go stack w h now = on-top stack _ (λ v rest. h 0 _ _ now)
     on-act at (i.Own s) go stack w h now = on-top stack _ (λ v rest. h 0 _ _ (now-freed w (given_up (i.Own s) stack w.machine) now))
     on-act at (i.Field k) go stack w h now = on-top stack _ (λ v rest. on-object (object_at w.machine.store v) _ (λ o. h 0 _ _ now))
@@ -150,7 +145,6 @@ module _ (a : ℕ) where
     on-act at (i.New c) go stack w h now = h 0 _ _ (push-old w.machine.store _ gone a now)
     on-act at (i.NewTmp c) go stack w h now = h 0 _ _ (push-old w.machine.store _ gone a now)
     on-act at (i.NewIso c m) go stack w h now = h 0 _ _ (push-old w.machine.store _ gone a now)
-    on-act at i.Pace go stack w h now = h 0 _ _ now
     on-act at (i.Put k) go stack w h now = on-top stack _ (λ v rest. on-top rest _ (λ r under. h 0 _ _ (now-put w.machine.store r k v now)))
     on-act at (i.Swap s k) go stack w h now = on-top stack _ (λ r rest. on-object (object_at w.machine.store r) _
         (λ o. h 0 _ _ (now-put w.machine.store r k (slot_at w.machine s) now)))
@@ -159,7 +153,6 @@ module _ (a : ℕ) where
     on-act at (i.Merge s) go stack w h now = on-object (object_at w.machine.store (slot_at w.machine s)) _
         (λ o. h 0 _ _ (now-moved false (Region (top_region w.machine.windows)) w (region_of o.label) now))
     on-act at i.Read go stack w h now = on-number (next_number w.input) go stack w h now
-    on-act at i.More go stack w h now = h 0 _ _ now
     on-act at i.Room go stack w h now = on-test (nat_lt (length w.machine.frames) FRAMES) _ (Traps trap.Depth) (h 0 stack w now) tt
     on-act at (i.Call m) go stack w h now = on-called at (slice_get code.entries m) stack w now
     on-act at i.Ret go stack w h now = on-top stack _ (λ v rest.
@@ -175,10 +168,10 @@ module _ (a : ℕ) where
     on-act at (i.Leave s) go stack w h now = h 0 _ _ (now-freed w (given_up (i.Leave s) stack w.machine) now)
     on-act at (i.End s) go stack w h now = h 0 _ _ (now-freed w (given_up (i.End s) stack w.machine) now)
     on-act at i.Print go stack w h now = on-top stack _ (λ v rest. h 0 _ _ now)
-    on-act at i.Collect go stack w h now = h 0 _ _ now
     on-act at i.Pop go stack w h now = on-top stack _ (λ v rest. h 0 _ _ (now-freed w (given_up i.Pop stack w.machine) now))
     on-act at i.Drop go stack w h now = on-top stack _ (λ v rest. h 0 _ _ (now-freed w (given_up i.Drop stack w.machine) now))
     on-act at i.Halt go stack w h now = now
+    on-act at _ go stack w h now = h 0 _ _ now
 
     on-walk : (os : List Op) (at : ℕ) → Onward (free_walk code os at)
     on-walk [] at skip stack w now = tt

@@ -465,11 +465,6 @@ module _ (held : ℕ → Truth) (store : List Seen) (managers : List Manager) (m
       (leads-over held store managers (end_slots m s) (beside-end held store managers m s b))) (λ e. e)
 
   needs-over : (code : Code) (o : Op) (stack : List Val) → AllLead held stack → needs code o stack m ≡ true → needs code o stack f ≡ true
-  needs-over code (i.Mark line) stack a e = e
-  needs-over code (i.Int z) stack a e = e
-  needs-over code (i.Bool t) stack a e = e
-  needs-over code i.Nil stack a e = e
-  needs-over code (i.Load s) stack a e = e
   needs-over code (i.Clear s) stack a e = and-more _ _ _ _ e once (clear-more s stack a)
   needs-over code (i.Store s) stack a e = top-more stack _ _ a e (λ v rest l a e. and-more _ _ _ _ e
       (λ e. and-more _ _ _ _ e (λ e. e) (slot-shut s)) (may-keep s v l))
@@ -477,29 +472,7 @@ module _ (held : ℕ → Truth) (store : List Seen) (managers : List Manager) (m
       (λ e. and-more _ _ _ _ e (λ e. and-more _ _ _ _ e (λ e. e) once) (slot-owns s)) (let-go v l)) (may-keep s v l))
   needs-over code (i.Field k) stack a e =
       top-more stack _ _ a e (λ v rest l a e. object-more v _ _ l e (λ o h e. and-more _ _ _ _ e (λ e. e) (shut v l)))
-  needs-over code i.IsNil stack a e = e
-  needs-over code i.Neg stack a e = e
-  needs-over code i.Add stack a e = e
-  needs-over code i.Sub stack a e = e
-  needs-over code i.Mul stack a e = e
-  needs-over code i.Div stack a e = e
-  needs-over code i.Rem stack a e = e
-  needs-over code i.Eq stack a e = e
-  needs-over code i.Ne stack a e = e
-  needs-over code i.Lt stack a e = e
-  needs-over code i.Le stack a e = e
-  needs-over code i.Gt stack a e = e
-  needs-over code i.Ge stack a e = e
-  needs-over code i.Not stack a e = e
-  needs-over code (i.Jump t) stack a e = e
   needs-over code (i.JumpFalse t) stack a e = top-more stack _ _ a e (λ v rest l a e. shut v l e)
-  needs-over code (i.And t) stack a e = e
-  needs-over code (i.Or t) stack a e = e
-  needs-over code i.Check stack a e = e
-  needs-over code (i.New c) stack a e = e
-  needs-over code (i.NewTmp c) stack a e = e
-  needs-over code (i.NewIso c r) stack a e = e
-  needs-over code i.Pace stack a e = e
   needs-over code (i.Put k) stack a e = top-more stack _ _ a e (λ v rest l a e. top-more rest _ _ a e
       (λ r under h a e. and-more _ _ _ _ e (λ e. e) (put-more k v r l h)))
   needs-over code (i.Swap s k) stack a e = top-more stack _ _ a e (λ r rest l a e. and-more _ _ _ _ e (λ e. e)
@@ -507,10 +480,6 @@ module _ (held : ℕ → Truth) (store : List Seen) (managers : List Manager) (m
       (λ e. and-more _ _ _ _ e once (field-may k o)) (owns (field_of o k) (h k))) (slot-owns s))))
   needs-over code (i.Freeze s) stack a e = whole-more s stack a e
   needs-over code (i.Merge s) stack a e = whole-more s stack a e
-  needs-over code i.Read stack a e = e
-  needs-over code i.More stack a e = e
-  needs-over code i.Room stack a e = e
-  needs-over code (i.Call n) stack a e = e
   needs-over code i.Ret stack a e = gone-more stack a e
   needs-over code i.RetVoid stack a e = and-more _ _ _ _ e (λ e. e) once
   needs-over code (i.Enter s z) stack a e = and-more _ _ _ _ e (λ e. and-more _ _ _ _ e
@@ -521,10 +490,9 @@ module _ (held : ℕ → Truth) (store : List Seen) (managers : List Manager) (m
   needs-over code (i.Leave s) stack a e = leave-more s stack e
   needs-over code (i.End s) stack a e = and-more _ _ _ _ e (λ e. e) once
   needs-over code i.Print stack a e = top-more stack _ _ a e (λ v rest l a e. and-more _ _ _ _ e (λ e. e) (shut v l))
-  needs-over code i.Collect stack a e = e
   needs-over code i.Pop stack a e = gone-more stack a e
   needs-over code i.Drop stack a e = gone-more stack a e
-  needs-over code i.Halt stack a e = e
+  needs-over code _ stack a e = e
 
 -- what the two share
 beside : (held : ℕ → Truth) (owners : List Val) (f m : Machine) (stack : List Val) → Part held owners f m stack

@@ -219,11 +219,6 @@ module _ (old : List Seen) (was : Label) where
     on-act : (at : ℕ) (o : Op) (go : Go) (stack : List Val) (w : Work) → Onward go → shut o stack w.machine ≡ true → Now w
         → Ending (free_act code at o go stack w)
     on-act at (i.Mark line) go stack w h t now = now
-    on-act at (i.Int z) go stack w h t now = h 0 _ _ now
-    on-act at (i.Bool b) go stack w h t now = h 0 _ _ now
-    on-act at i.Nil go stack w h t now = h 0 _ _ now
-    on-act at (i.Load s) go stack w h t now = h 0 _ _ now
-    on-act at (i.Clear s) go stack w h t now = h 0 _ _ now
     on-act at (i.Store s) go stack w h t now = on-top stack _ (λ v rest. h 0 _ _ now)
     on-act at (i.Own s) go stack w h t now = on-top stack _ (λ v rest. h 0 _ _ (now-freed w _ refl t now))
     on-act at (i.Field k) go stack w h t now = on-top stack _ (λ v rest. on-object (object_at w.machine.store v) _ (λ o e. h 0 _ _ now))
@@ -249,7 +244,6 @@ module _ (old : List Seen) (was : Label) where
     on-act at (i.New c) go stack w h t now = h 0 _ _ (now-made w _ (top-apart w.machine.windows now.some_window) now)
     on-act at (i.NewTmp c) go stack w h t now = h 0 _ _ (now-made w _ (λ r closed. temp-apart _ r) now)
     on-act at (i.NewIso c m) go stack w h t now = h 0 _ _ (now-region w m _ refl now)
-    on-act at i.Pace go stack w h t now = h 0 _ _ now
     on-act at (i.Put k) go stack w h t now = on-top stack _ (λ v rest. on-top rest _ (λ r under. h 0 _ _ (now-put w r k v now)))
     on-act at (i.Swap s k) go stack w h t now = on-top stack _ (λ r rest. on-object (object_at w.machine.store r) _
         (λ o e. h 0 _ _ (now-put w r k (slot_at w.machine s) now)))
@@ -261,7 +255,6 @@ module _ (old : List Seen) (was : Label) where
         h 0 _ _ (now-forgotten (stored (with_store w (relabel false label w (region_of o.label))) s val.Nil)
         (now-moves false label s w o e tt (top-apart w.machine.windows now.some_window) t now))))
     on-act at i.Read go stack w h t now = on-number (next_number w.input) go stack w h now
-    on-act at i.More go stack w h t now = h 0 _ _ now
     on-act at i.Room go stack w h t now = on-test (nat_lt (length w.machine.frames) FRAMES) _ (Traps trap.Depth) (h 0 stack w now) tt
     on-act at (i.Call m) go stack w h t now = on-called at (slice_get code.entries m) stack w now
     on-act at i.Ret go stack w h t now = on-top stack _ (λ v rest.
@@ -277,10 +270,10 @@ module _ (old : List Seen) (was : Label) where
     on-act at (i.Leave s) go stack w h t now = h 0 _ _ (now-ended w s t now)
     on-act at (i.End s) go stack w h t now = h 0 _ _ (now-freed w _ refl t now)
     on-act at i.Print go stack w h t now = on-top stack _ (λ v rest. h 0 _ _ now)
-    on-act at i.Collect go stack w h t now = h 0 _ _ now
     on-act at i.Pop go stack w h t now = on-top stack _ (λ v rest. h 0 _ _ (now-freed w _ refl t now))
     on-act at i.Drop go stack w h t now = on-top stack _ (λ v rest. h 0 _ _ (now-freed w _ refl t now))
     on-act at i.Halt go stack w h t now = now
+    on-act at _ go stack w h t now = h 0 _ _ now
 
     on-shut : (n : Truth) (t : Truth) (x : Walked) → (t ≡ true → Ending x) → Ending (if n then (if t then x else Stuck) else Stuck)
     on-shut true true x h = h refl

@@ -35,14 +35,11 @@ uses_path-cleared xs ls x [] = rw (is_iso_local-cleared xs ls x) refl
 uses_path-cleared xs ls x (f ∷ fs) = refl
 
 uses-cleared : (xs : List Variable) (ls : List Local) (e : Expr) → uses (cleared xs ls) e ≡ uses ls e
-uses-cleared xs ls (number z) = refl
-uses-cleared xs ls (boolean b) = refl
-uses-cleared xs ls nil = refl
 uses-cleared xs ls (path p) = uses_path-cleared xs ls p.base p.fields
-uses-cleared xs ls (is_nil p) = refl
 uses-cleared xs ls (neg a) = uses-cleared xs ls a
 uses-cleared xs ls (not a) = uses-cleared xs ls a
 uses-cleared xs ls (binary op a b) = rw (uses-cleared xs ls a, uses-cleared xs ls b) refl
+uses-cleared xs ls _ = refl
 
 -- the left operand, and then the right one
 pub cleared-binary : (op : BinOp) (a b : Expr) (ls left right : List Local) → left ≡ cleared (uses ls a) ls → right ≡ cleared (uses left b) left →

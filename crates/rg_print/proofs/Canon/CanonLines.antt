@@ -12,16 +12,10 @@ mutual
   stmt-lineless d (stmt l k) = kind-lineless d k
 
   kind-lineless : (d : ℕ) (k : StmtKind) → kind_text d (kind_lineless k) ≡ kind_text d k
-  kind-lineless d (declare n t r) = refl
-  kind-lineless d (assign q r) = refl
-  kind-lineless d (call c) = refl
-  kind-lineless d (swap n q) = refl
   kind-lineless d (branch e b o) = let x = block-lineless (suc d) b in let y = else-lineless d o in rw (x, y) refl
   kind-lineless d (while e b) = let x = block-lineless (suc d) b in rw x refl
   kind-lineless d (enter q n b) = let x = block-lineless (suc d) b in rw x refl
-  kind-lineless d (print e) = refl
-  kind-lineless d collect = refl
-  kind-lineless d (return e) = refl
+  kind-lineless d _ = refl
 
   else-lineless : (d : ℕ) (o : Else) → else_text d (else_lineless o) ≡ else_text d o
   else-lineless d no_else = refl

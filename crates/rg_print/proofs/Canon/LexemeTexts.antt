@@ -119,14 +119,11 @@ call-text a rest =
 
 right-text : (r : Right) (rest : List Lexeme) → text_of (right_lexemes r rest) ≡ right_text r ++ text_of rest
 right-text (value e) rest = expr-text e rest
-right-text (new n) rest = simp append_assoc
-right-text (new_tmp n) rest = simp append_assoc
 right-text (new_iso n m) rest = rw (manager-text m) (simp append_assoc)
-right-text (freeze n) rest = simp append_assoc
-right-text (merge n) rest = simp append_assoc
 right-text read rest = refl
 right-text more rest = refl
 right-text (result_of a) rest = call-text a rest
+right-text _ rest = simp append_assoc
 
 -- the lines of a block in its braces
 braces-text : (d : ℕ) (body : List Lexeme → List Lexeme) (text : List ℕ) → ((rest : List Lexeme) → text_of (body rest) ≡ text ++ text_of rest)

@@ -144,11 +144,9 @@ call-apart a rest n r = (
 pub right-apart : (a : Right) (rest : List Lexeme) → RightPlain a → goes_on (text_of rest) ≡ false → StandApart rest
     → StandApart (right_lexemes a rest)
 right-apart (value e) rest n g r = expr-apart e n rest g r
-right-apart (new x) rest n g r = (refl, (refl, (n, g, r)))
 right-apart (new_tmp x) rest n g r = (refl, (refl, (refl, (refl, (n, g, r)))))
 right-apart (new_iso x m) rest n g r = (refl, (refl, (refl, (refl, (n, refl, (refl, (refl, (refl, (g, r)))))))))
-right-apart (freeze x) rest n g r = (refl, (refl, (n, g, r)))
-right-apart (merge x) rest n g r = (refl, (refl, (n, g, r)))
 right-apart read rest n g r = (g, r)
 right-apart more rest n g r = (g, r)
 right-apart (result_of a) rest n g r = call-apart a rest n r
+right-apart _ rest n g r = (refl, (refl, (n, g, r)))

@@ -68,14 +68,10 @@ call-plain a c d h = record { target = h.target; method = h.method; args = args-
 
 pub right-plain : (r : Right) (c d : Counts) → RightFits c r d → RightPlain r
 right-plain (value e) c d h = h.plain
-right-plain (new n) c d h = h.0
-right-plain (new_tmp n) c d h = h.0
-right-plain (new_iso n m) c d h = h.0
-right-plain (freeze n) c d h = h.0
-right-plain (merge n) c d h = h.0
 right-plain read c d h = tt
 right-plain more c d h = tt
 right-plain (result_of a) c d h = call-plain a c d h
+right-plain _ c d h = h.0
 
 -- the words of capabilities and managers
 cap-is : (a : Cap) → cap_of (k.Word (cap_word a)) ≡ Some a

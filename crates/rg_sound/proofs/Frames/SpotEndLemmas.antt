@@ -253,10 +253,6 @@ outer-behind : (classes : List Class) (result : Option Ty) (env mid : Env) (line
     judge_kind classes (last_of result b) line env k ≡ Ok mid → inner_block classes env k side ≡ Some q →
     judge_block classes None q.env q.block ≡ Ok out →
     OuterHere out (length env.entries) line k (items_of b after) s round i mine → Behind classes result env mid line k b after round s i mine
-outer-behind classes result env mid line (declare x t r) b after round s i mine side q out d w h e j o = grind arith
-outer-behind classes result env mid line (assign p r) b after round s i mine side q out d w h e j o = grind arith
-outer-behind classes result env mid line (call c) b after round s i mine side q out d w h e j o = grind arith
-outer-behind classes result env mid line (swap y p) b after round s i mine side q out d w h e j o = grind arith
 outer-behind classes result env mid line (branch t c other) b after round s i mine first q out d w h e j o =
     let p = opened-some (judge_test classes env t) c q e in
     let f = judge_test-stays classes env q.env t d p.0 in
@@ -281,9 +277,7 @@ outer-behind classes result env mid line (enter p z c) b after round s i mine fi
     behind-enter classes result env mid q.env out line p z c b after round s i mine d w h n.0
     (judge_block-goes classes None q.env out q.block f.distinct j) block o
 outer-behind classes result env mid line (enter p z c) b after round s i mine second q out d w h e j o = grind arith
-outer-behind classes result env mid line (print t) b after round s i mine side q out d w h e j o = grind arith
-outer-behind classes result env mid line collect b after round s i mine side q out d w h e j o = grind arith
-outer-behind classes result env mid line (return t) b after round s i mine side q out d w h e j o = grind arith
+outer-behind classes result env mid line _ b after round s i mine side q out d w h e j o = grind arith
 
 do-not_end : {B : Type 0} (t : Stmt) (rest : List Item) (i : Item) (mine : List Item) → Do t ∷ rest ≡ i ∷ mine → IsEnd i → B
 do-not_end t rest i mine e h = let one : Do t ≡ i = grind arith in let P : Item → Type 0 = λ q. IsEnd q in absurd (subst P (sym one) h)

@@ -58,10 +58,6 @@ entered-inner classes env p z b i d h =
 pub inner-spot : (classes : List Class) (env : Env) (k : StmtKind) (side : Side) (i : Opened) → Distinct env.entries →
     inner_block classes env k side ≡ Some i →
     InnerSpot env i.env k
-inner-spot classes env (declare x t r) side i d h = grind arith
-inner-spot classes env (assign p r) side i d h = grind arith
-inner-spot classes env (call c) side i d h = grind arith
-inner-spot classes env (swap y p) side i d h = grind arith
 inner-spot classes env (branch e b other) first i d h = tested-inner classes env e b i (branch e b other) d refl h
 inner-spot classes env (branch e b no_else) second i d h = grind arith
 inner-spot classes env (branch e b (otherwise c)) second i d h = tested-inner classes env e c i (branch e b (otherwise c)) d refl h
@@ -69,22 +65,12 @@ inner-spot classes env (while e b) first i d h = tested-inner classes env e b i 
 inner-spot classes env (while e b) second i d h = grind arith
 inner-spot classes env (enter p z b) first i d h = entered-inner classes env p z b i d h
 inner-spot classes env (enter p z b) second i d h = grind arith
-inner-spot classes env (print e) side i d h = grind arith
-inner-spot classes env collect side i d h = grind arith
-inner-spot classes env (return e) side i d h = grind arith
+inner-spot classes env _ side i d h = grind arith
 
 block_end-leaves : (n m line : ℕ) (k : StmtKind) (more : List Item) → n ≤ m → AllWithin m (leaves more) →
     AllWithin m (leaves (block_end n line k ++ more))
-block_end-leaves n m line (declare x t r) more l h = h
-block_end-leaves n m line (assign p r) more l h = h
-block_end-leaves n m line (call c) more l h = h
-block_end-leaves n m line (swap y p) more l h = h
-block_end-leaves n m line (branch e b other) more l h = h
-block_end-leaves n m line (while e b) more l h = h
 block_end-leaves n m line (enter p z b) more l h = (l, h)
-block_end-leaves n m line (print e) more l h = h
-block_end-leaves n m line collect more l h = h
-block_end-leaves n m line (return e) more l h = h
+block_end-leaves n m line _ more l h = h
 
 -- At each spot
 

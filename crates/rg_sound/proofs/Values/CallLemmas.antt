@@ -192,12 +192,6 @@ arg-then t store f fs ws env ty ts a as_ v vs j view fit typed value rest =
 
     by_expr : (x : Expr) → IsoExpr t.classes env x j → x ≡ a → is_iso j.ty ≡ true → Meets store ws ty v →
         ArgsFacts t store f fs ws env (ty ∷ ts) (a ∷ as_) (v ∷ vs)
-    by_expr (number z) h same iso m = elim h [ ]
-    by_expr (boolean b) h same iso m = elim h [ ]
-    by_expr (is_nil q) h same iso m = elim h [ ]
-    by_expr (neg b) h same iso m = elim h [ ]
-    by_expr (not b) h same iso m = elim h [ ]
-    by_expr (binary op b c) h same iso m = elim h [ ]
     by_expr nil is_none same iso m =
         let both : ◌≡◌ {A = Result Val Trap} (Ok Nil) (Ok v) = ap (value_of t.classes store f.locals) same ∙ value in
         let is : Nil ≡ v = grind arith in
@@ -235,6 +229,7 @@ arg-then t store f fs ws env ty ts a as_ v vs j view fit typed value rest =
             rest.own,
           );
         }
+    by_expr _ h same iso m = elim h [ ]
 
     by_type : (b : Truth) → is_iso j.ty ≡ b → Meets store ws ty v → ArgsFacts t store f fs ws env (ty ∷ ts) (a ∷ as_) (v ∷ vs)
     by_type false n m =

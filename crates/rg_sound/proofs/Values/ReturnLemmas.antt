@@ -49,17 +49,10 @@ use Rattle.rg_sound.proofs.Values.DeliverLemmas.{call-result}
 
 -- the call of a right side
 right-call : (r : Right) (x y : Target) (made : Call) → with_target x (right_call r) ≡ Some (made, y) → (r ≡ result_of made) × (x ≡ y)
-right-call (value e) x y made h = none-some h
-right-call (new c) x y made h = none-some h
-right-call (new_tmp c) x y made h = none-some h
-right-call (new_iso c m) x y made h = none-some h
-right-call (freeze z) x y made h = none-some h
-right-call (merge z) x y made h = none-some h
-right-call read x y made h = none-some h
-right-call more x y made h = none-some h
 right-call (result_of c) x y made h =
     let pair : (c, x) ≡ (made, y) = grind arith in
     (ap (λ (q : Call × Target). result_of q.0) pair, ap (λ (q : Call × Target). q.1) pair)
+right-call _ x y made h = none-some h
 
 -- a call as a right side: the type that it gives is below the expected one
 pub result-below : (classes : List Class) (env : Env) (wanted : Ty) (c : Call) (j : Judged) (ty : Ty) →

@@ -303,12 +303,6 @@ expression-gives t s f fs later r top at d w e j typed p h =
     by_expr : (x : Expr) → IsoExpr t.classes r.spot.env x j → x ≡ e → is_iso j.ty ≡ true →
         p.0 ≡ record s { frames = record f { locals = cleared (uses f.locals e) f.locals } ∷ fs } → value_of t.classes s.store f.locals e ≡ Ok p.1 →
         Meets s.store s.windows j.ty p.1 → Gives t s f fs r.spot.env p.0 j.ty p.1
-    by_expr (number z) h same iso state value m = elim h [ ]
-    by_expr (boolean b) h same iso state value m = elim h [ ]
-    by_expr (is_nil q) h same iso state value m = elim h [ ]
-    by_expr (neg a) h same iso state value m = elim h [ ]
-    by_expr (not a) h same iso state value m = elim h [ ]
-    by_expr (binary op a b) h same iso state value m = elim h [ ]
     by_expr nil is_none same iso state value m =
         let none : uses f.locals e ≡ [] = ap (uses f.locals) (sym same) in
         let v : ◌≡◌ {A = Result Val Trap} (Ok Nil) (Ok p.1) = ap (value_of t.classes s.store f.locals) same ∙ value in
@@ -333,6 +327,7 @@ expression-gives t s f fs later r top at d w e j typed p h =
         k.unowned n (ap (λ (b : Truth). option_and_then (region_at s.store) (if b then address (value_in f.locals x) else None)) (sym iso) ∙ h) in
         quiet state m (subst P (sym one) (Named-cleared (x ∷ []) r.spot.env.entries f.locals r.stands.named)) (subst Q (sym one) k.fits)
         (subst R (sym one) (subst S is fresh))
+    by_expr _ h same iso state value m = elim h [ ]
 
     by_type : (b : Truth) → is_iso j.ty ≡ b → p.0 ≡ record s { frames = record f { locals = cleared (uses f.locals e) f.locals } ∷ fs } →
         value_of t.classes s.store f.locals e ≡ Ok p.1 → Meets s.store s.windows j.ty p.1 → Gives t s f fs r.spot.env p.0 j.ty p.1

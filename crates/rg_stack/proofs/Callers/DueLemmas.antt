@@ -59,15 +59,8 @@ module _ (classes : List Class) (code : List Op) where
       → Lies classes code (l ∷ ls) (Do (stmt line k) ∷ j ∷ rest) at → is_return k ≡ false
       → due (drop (at + length (kind_code classes l.scope at line k)) code) ≡ None
   do-due l ls line (declare x t r) j rest at h e = lies-due (record l { scope = scope_behind classes l.scope (declare x t r) } ∷ ls) j rest _ h.1
-  do-due l ls line (assign p r) j rest at h e = lies-due (l ∷ ls) j rest _ h.1
-  do-due l ls line (call c) j rest at h e = lies-due (l ∷ ls) j rest _ h.1
-  do-due l ls line (swap y p) j rest at h e = lies-due (l ∷ ls) j rest _ h.1
-  do-due l ls line (branch c b other) j rest at h e = lies-due (l ∷ ls) j rest _ h.1
-  do-due l ls line (while c b) j rest at h e = lies-due (l ∷ ls) j rest _ h.1
-  do-due l ls line (enter p z b) j rest at h e = lies-due (l ∷ ls) j rest _ h.1
-  do-due l ls line (print c) j rest at h e = lies-due (l ∷ ls) j rest _ h.1
-  do-due l ls line collect j rest at h e = lies-due (l ∷ ls) j rest _ h.1
   do-due l ls line (return c) j rest at h e = absurd (true≢false e)
+  do-due l ls line _ j rest at h e = lies-due (l ∷ ls) j rest _ h.1
 
   item-due : (l : Level) (ls : List Level) (j : Item) (rest : List Item) (at : ℕ) → ((j ≡ EndAt 0 → ⊥) → SomeLeft rest)
       → Written classes (j ∷ rest) → Lies classes code (l ∷ ls) (j ∷ rest) at → due (drop (at + 1) code) ≡ first_due classes (j ∷ rest)

@@ -166,15 +166,8 @@ with_free classes env (Some d) first target c h free = subst (λ (p : Call × Ta
 
 -- the call of a right side
 called_right : (right : Right) (d : Call) → right_call right ≡ Some d → right ≡ result_of d
-called_right (value e) d h = absurd (none-some d h)
-called_right (new x) d h = absurd (none-some d h)
-called_right (new_tmp x) d h = absurd (none-some d h)
-called_right (new_iso x m) d h = absurd (none-some d h)
-called_right (freeze y) d h = absurd (none-some d h)
-called_right (merge y) d h = absurd (none-some d h)
-called_right read d h = absurd (none-some d h)
-called_right more d h = absurd (none-some d h)
 called_right (result_of c) d h = ap result_of (same_Some c d h)
+called_right _ d h = absurd (none-some d h)
 
 assigned_free : (classes : List Class) (env out : Env) (x : Variable) (fs : List Name) (right : Right) (c : Call) (target : Target)
     → judge_assign classes env x fs right ≡ Ok out → assigned_call x fs right ≡ Some (c, target) → TargetFree classes env target c
@@ -202,13 +195,7 @@ target_free classes last line env out (declare x ty right) c target judged h =
 target_free classes last line env out (assign p right) c target judged h = assigned_free classes env out p.base p.fields right c target
     (at_line-ok line _ out judged) h
 target_free classes last line env out (call d) c target judged h = with_free classes env (Some d) Drops target c h (λ u is. tt)
-target_free classes last line env out (swap y p) c target judged h = absurd (none-some (c, target) h)
-target_free classes last line env out (branch e b other) c target judged h = absurd (none-some (c, target) h)
-target_free classes last line env out (while e b) c target judged h = absurd (none-some (c, target) h)
-target_free classes last line env out (enter p z b) c target judged h = absurd (none-some (c, target) h)
-target_free classes last line env out (print e) c target judged h = absurd (none-some (c, target) h)
-target_free classes last line env out collect c target judged h = absurd (none-some (c, target) h)
-target_free classes last line env out (return e) c target judged h = absurd (none-some (c, target) h)
+target_free classes last line env out _ c target judged h = absurd (none-some (c, target) h)
 
 -- whether a target takes a result
 abbrev takes_any : Target → Truth

@@ -250,9 +250,6 @@ module _ (classes : List Class) (env : Env) (store : List Seen) (windows : List 
   -- the premise of the law of expressions
   pub expr-agrees : (w : Option Ty) (e : Expr) (j : Judged) → judge_expr classes env w e ≡ Ok j
       → Agrees classes store windows locals (scope_of locals) e
-  expr-agrees w (number z) j h = tt
-  expr-agrees w (boolean b) j h = tt
-  expr-agrees w nil j h = tt
   expr-agrees w (path q) j h = let p = bind-ok (judge_path classes env q.base q.fields) _ j h in path-follows q.base q.fields p.0 p.1
   expr-agrees w (is_nil q) j h = let p = then-ok (judge_is_nil classes env q.base q.fields) _ j h in nil-follows q.base q.fields p.0 p.1
   expr-agrees w (neg a) j h = let p = bind-ok (judge_expr classes env (Some Int) a) _ j h in expr-agrees (Some Int) a p.0 p.1
@@ -269,6 +266,7 @@ module _ (classes : List Class) (env : Env) (store : List Seen) (windows : List 
           expr-truth b p.r (subst (λ k. judge_expr classes env (operand_type k) b ≡ Ok p.r) is right),
         )),
       )
+  expr-agrees w _ j h = tt
 
   -- the premises on the object that has a field
   pub holder-follows : (x : Variable) (f : Name) (fs : List Name) (r : Looked) → walk_receiver classes env x f fs ≡ Ok r
@@ -310,16 +308,8 @@ module _ (classes : List Class) (env : Env) (store : List Seen) (windows : List 
 
 -- a statement that may give no result isn't a `return`
 not_last : (classes : List Class) (line : ℕ) (env out : Env) (k : StmtKind) → judge_kind classes None line env k ≡ Ok out → GoesOn k
-not_last classes line env out (declare x t r) h = tt
-not_last classes line env out (assign p r) h = tt
-not_last classes line env out (call c) h = tt
-not_last classes line env out (swap y p) h = tt
-not_last classes line env out (branch e b other) h = tt
-not_last classes line env out (while e b) h = tt
-not_last classes line env out (enter p z b) h = tt
-not_last classes line env out (print e) h = tt
-not_last classes line env out collect h = tt
 not_last classes line env out (return e) h = absurd (err-ok _ out h)
+not_last classes line env out _ h = tt
 
 last_none : (b : Block) → last_of None b ≡ None
 last_none none = refl
@@ -333,16 +323,8 @@ block-goes_on classes (more_of (stmt line k) b) env out h =
     (not_last classes line env p.0 k (subst (λ l. judge_kind classes l line env k ≡ Ok p.0) (last_none b) p.1), block-goes_on classes b p.0 out p.2)
 
 return_of : (k : StmtKind) → is_return k ≡ true → (e : Expr) × (k ≡ return e)
-return_of (declare x t r) h = absurd (true≢false (sym h))
-return_of (assign p r) h = absurd (true≢false (sym h))
-return_of (call c) h = absurd (true≢false (sym h))
-return_of (swap y p) h = absurd (true≢false (sym h))
-return_of (branch e b other) h = absurd (true≢false (sym h))
-return_of (while e b) h = absurd (true≢false (sym h))
-return_of (enter p z b) h = absurd (true≢false (sym h))
-return_of (print e) h = absurd (true≢false (sym h))
-return_of collect h = absurd (true≢false (sym h))
 return_of (return e) h = (e, refl)
+return_of _ h = absurd (true≢false (sym h))
 
 -- a body with a result gives it by its last statement
 pub block-gives : (classes : List Class) (result : Option Ty) (b : Block) (env out : Env) → judge_block classes result env b ≡ Ok out

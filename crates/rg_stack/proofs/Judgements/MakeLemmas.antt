@@ -20,18 +20,11 @@ use Rattle.rg_stack.proofs.Refusals.DueLemmas.{right_due, written_due}
 
 right-written : (classes : List Class) (env : Env) (wanted : Ty) (r : Right) (j : Judged) → judge_right classes env wanted r ≡ Ok j
     → paced (right_makes classes r) ≡ right_due r
-right-written classes env wanted (value e) j h = refl
 right-written classes env wanted (new x) j h =
     let t = bind-ok (good_type classes (ref Mut x)) _ j h in
     let k = named_class classes Mut x t.0 t.1 in
     ap (λ o. paced (is_some o)) k.1
-right-written classes env wanted (new_tmp x) j h = refl
-right-written classes env wanted (new_iso x m) j h = refl
-right-written classes env wanted (freeze y) j h = refl
-right-written classes env wanted (merge y) j h = refl
-right-written classes env wanted read j h = refl
-right-written classes env wanted more j h = refl
-right-written classes env wanted (result_of c) j h = refl
+right-written classes env wanted _ j h = refl
 
 assign-written : (classes : List Class) (env out : Env) (x : Variable) (fs : List Name) (r : Right) → judge_assign classes env x fs r ≡ Ok out
     → paced (right_makes classes r) ≡ right_due r
@@ -57,11 +50,4 @@ kind-written classes last line env out (declare x t r) h =
     let j = bind-ok (judge_right classes env d.0 r) _ out d.2 in
     right-written classes env d.0 r j.0 j.1
 kind-written classes last line env out (assign p r) h = assign-written classes env out p.base p.fields r (at_line-ok line _ out h)
-kind-written classes last line env out (call c) h = refl
-kind-written classes last line env out (swap y p) h = refl
-kind-written classes last line env out (branch e b other) h = refl
-kind-written classes last line env out (while e b) h = refl
-kind-written classes last line env out (enter p z b) h = refl
-kind-written classes last line env out (print e) h = refl
-kind-written classes last line env out collect h = refl
-kind-written classes last line env out (return e) h = refl
+kind-written classes last line env out _ h = refl

@@ -282,14 +282,9 @@ module _ (t : Tree) (r : Round) (store : List Seen) (slots : List Val) (locals :
       → RightNeeds t.classes code r (scope_of locals) store slots locals managers input stack right
   right-needs code wanted (value e) j stack shut judged =
       (once_here, uses-up t.classes store slots locals begun.shows env (Some wanted) e j stack here-named judged)
-  right-needs code wanted (new x) j stack shut judged = tt
-  right-needs code wanted (new_tmp x) j stack shut judged = tt
-  right-needs code wanted (new_iso x m) j stack shut judged = tt
   right-needs code wanted (freeze y) j stack shut judged = consumed-needs wanted Imm y j stack shut judged
   right-needs code wanted (merge y) j stack shut judged = consumed-needs wanted Mut y j stack shut judged
-  right-needs code wanted read j stack shut judged = tt
-  right-needs code wanted more j stack shut judged = tt
-  right-needs code wanted (result_of c) j stack shut judged = tt
+  right-needs code wanted _ j stack shut judged = tt
 
   pub sees_here : Sees store r.opened (length r.bodies) env locals
   sees_here = subst (λ (e : Env). Sees store r.opened (length r.bodies) e locals) begun.is

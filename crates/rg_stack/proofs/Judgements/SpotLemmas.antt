@@ -38,16 +38,10 @@ goes_on_items (more_of (stmt line (return e)) b) after g h = absurd g.0
 
 ends_block : (classes : List Class) (env : Env) (n line : ℕ) (k : StmtKind) (side : Side) (i : Opened) (more : List Item)
     → inner_block classes env k side ≡ Some i → leaves_frame (block_end n line k ++ more) ≡ false
-ends_block classes env n line (declare x t r) side i more e = grind arith
-ends_block classes env n line (assign p r) side i more e = grind arith
-ends_block classes env n line (call c) side i more e = grind arith
-ends_block classes env n line (swap y p) side i more e = grind arith
 ends_block classes env n line (branch c b other) side i more e = refl
 ends_block classes env n line (while c b) side i more e = refl
 ends_block classes env n line (enter p z b) side i more e = refl
-ends_block classes env n line (print c) side i more e = grind arith
-ends_block classes env n line collect side i more e = grind arith
-ends_block classes env n line (return c) side i more e = grind arith
+ends_block classes env n line _ side i more e = grind arith
 
 from_ok : (classes : List Class) (last : Option Ty) (env : Env) (u : Stmt) (mid : Env) (go : Env → Option Spot) (s : Spot)
     → judge_stmt classes last env u ≡ Ok mid → option_and_then go (result_ok (judge_stmt classes last env u)) ≡ Some s → go mid ≡ Some s

@@ -517,13 +517,7 @@ target-has t last line env out locals (declare x ty right) c target named judged
 target-has t last line env out locals (assign p right) c target named judged h = assigned_has t env out locals p.base p.fields right c target named
     (at_line-ok line _ out judged) h
 target-has t last line env out locals (call d) c target named judged h = with_has locals (Some d) Drops target c h tt
-target-has t last line env out locals (swap y p) c target named judged h = absurd (none-some (c, target) h)
-target-has t last line env out locals (branch e b other) c target named judged h = absurd (none-some (c, target) h)
-target-has t last line env out locals (while e b) c target named judged h = absurd (none-some (c, target) h)
-target-has t last line env out locals (enter p z b) c target named judged h = absurd (none-some (c, target) h)
-target-has t last line env out locals (print e) c target named judged h = absurd (none-some (c, target) h)
-target-has t last line env out locals collect c target named judged h = absurd (none-some (c, target) h)
-target-has t last line env out locals (return e) c target named judged h = absurd (none-some (c, target) h)
+target-has t last line env out locals _ c target named judged h = absurd (none-some (c, target) h)
 
 -- `return e;` of an accepted program; r is what stands round the frame that called
 pub return-judged : (t : Tree) (r : Round) (slots under : List Val) (locals callers : List Local) (back : ℕ) (target : Target) (store : List Seen)

@@ -38,15 +38,10 @@ module _ (classes : List Class) (store : List Seen) (slots : List Val) (locals :
 
   iso_up : (env : Env) (j : Judged) (e : Expr) (stack : List Val) → IsoExpr classes env e j
       → UsesUp classes store slots locals (scope_of locals) e stack
-  iso_up env j (number z) stack h = elim h [ ]
-  iso_up env j (boolean b) stack h = elim h [ ]
-  iso_up env j (is_nil q) stack h = elim h [ ]
-  iso_up env j (neg a) stack h = elim h [ ]
-  iso_up env j (not a) stack h = elim h [ ]
-  iso_up env j (binary op a b) stack h = elim h [ ]
   iso_up env j nil stack is_none = λ v got. tt
   iso_up env j (path q) stack (is_variable {x = x} entry there iso ready ty) = λ v got.
       variable_up x v stack (is_iso (type_in (scope_of locals) x)) (ok-is (value_in locals x) v got)
+  iso_up env j _ stack h = elim h [ ]
 
   -- an expression
   pub uses-up : (env : Env) (w : Option Ty) (e : Expr) (j : Judged) (stack : List Val) → Named env.entries locals

@@ -31,16 +31,8 @@ use Rattle.rg_stack.proofs.Refusals.KindLemmas.{calm-lies}
 
 -- a statement in front of others, where one of them leaves the frame
 abbrev ByKind : StmtKind → (last rest : Type 0) → Type 0
-ByKind (declare x t r) last rest = rest
-ByKind (assign p r) last rest = rest
-ByKind (call c) last rest = rest
-ByKind (swap y p) last rest = rest
-ByKind (branch e b other) last rest = rest
-ByKind (while e b) last rest = rest
-ByKind (enter p z b) last rest = rest
-ByKind (print e) last rest = rest
-ByKind collect last rest = rest
 ByKind (return e) last rest = last
+ByKind _ last rest = rest
 
 -- one of these items leaves the frame
 abbrev pub Leaves : List Item → Type 0
@@ -59,16 +51,8 @@ LeavesOn (LeaveAt k ∷ rest) = LeavesOn rest
 LeavesOn (Back ∷ rest) = SomeLeft rest
 
 by_kind : (k : StmtKind) (A B C D : Type 0) → (A → C) → (B → D) → ByKind k A B → ByKind k C D
-by_kind (declare x t r) A B C D f g h = g h
-by_kind (assign p r) A B C D f g h = g h
-by_kind (call c) A B C D f g h = g h
-by_kind (swap y p) A B C D f g h = g h
-by_kind (branch e b other) A B C D f g h = g h
-by_kind (while e b) A B C D f g h = g h
-by_kind (enter p z b) A B C D f g h = g h
-by_kind (print e) A B C D f g h = g h
-by_kind collect A B C D f g h = g h
 by_kind (return e) A B C D f g h = f h
+by_kind _ A B C D f g h = g h
 
 leaves-on : (xs rest : List Item) → Leaves xs → SomeLeft rest → LeavesOn (xs ++ rest)
 leaves-on [] rest h s = absurd h
@@ -103,16 +87,8 @@ leaves-back (Back ∷ xs) ys h = tt
 -- a body that ends in `return`
 
 return_leaves : (k : StmtKind) (A : Type 0) → is_return k ≡ true → ByKind k (Unit {0}) A
-return_leaves (declare x t r) A e = absurd (true≢false (sym e))
-return_leaves (assign p r) A e = absurd (true≢false (sym e))
-return_leaves (call c) A e = absurd (true≢false (sym e))
-return_leaves (swap y p) A e = absurd (true≢false (sym e))
-return_leaves (branch c b other) A e = absurd (true≢false (sym e))
-return_leaves (while c b) A e = absurd (true≢false (sym e))
-return_leaves (enter p z b) A e = absurd (true≢false (sym e))
-return_leaves (print c) A e = absurd (true≢false (sym e))
-return_leaves collect A e = absurd (true≢false (sym e))
 return_leaves (return c) A e = tt
+return_leaves _ A e = absurd (true≢false (sym e))
 
 items_leave : (line : ℕ) (k : StmtKind) (b : Block) → last_is_return k b ≡ true → Leaves (Do (stmt line k) ∷ items_of b [])
 items_leave line k none e = return_leaves k (Leaves []) e
@@ -127,16 +103,8 @@ block_leaves (more_of (stmt line k) b) e = items_leave line k b e
 behind_inner : (classes : List Class) (env : Env) (k : StmtKind) (side : Side) (o : Opened) (b : Block) → inner_block classes env k side ≡ Some o
     → last_is_return k b ≡ true → ends_in_return b ≡ true
 behind_inner classes env k side o (more_of (stmt line other) b) is e = e
-behind_inner classes env (declare x t r) side o none is e = absurd (true≢false (sym e))
-behind_inner classes env (assign p r) side o none is e = absurd (true≢false (sym e))
-behind_inner classes env (call c) side o none is e = absurd (true≢false (sym e))
-behind_inner classes env (swap y p) side o none is e = absurd (true≢false (sym e))
-behind_inner classes env (branch c b other) side o none is e = absurd (true≢false (sym e))
-behind_inner classes env (while c b) side o none is e = absurd (true≢false (sym e))
-behind_inner classes env (enter p z b) side o none is e = absurd (true≢false (sym e))
-behind_inner classes env (print c) side o none is e = absurd (true≢false (sym e))
-behind_inner classes env collect side o none is e = absurd (true≢false (sym e))
 behind_inner classes env (return c) side o none is e = grind arith
+behind_inner classes env _ side o none is e = absurd (true≢false (sym e))
 
 spot-leaves : (classes : List Class) (result : Option Ty) (env : Env) (b : Block) (round : List Path) (p : Point) (s : Spot) → ends_in_return b
     ≡ true → spot_in classes result env b [] round p ≡ Some s → SomeLeft s.items → Leaves s.items

@@ -23,28 +23,15 @@ use Rattle.rg_stack.proofs.Refusals.PlainLemmas.{plain-check, plain-clears, plai
 
 -- why a right side may, as it is written: by the form alone, whether its class is there or not
 abbrev pub right_due : Right → Option Cause
-right_due (value e) = None
 right_due (new x) = Some Paced
-right_due (new_tmp x) = None
-right_due (new_iso x m) = None
-right_due (freeze y) = None
-right_due (merge y) = None
-right_due read = None
-right_due more = None
-right_due (result_of c) = None
+right_due _ = None
 
 -- why a statement may, as it is written
 abbrev pub written_due : StmtKind → Option Cause
 written_due (declare x t r) = right_due r
 written_due (assign p r) = right_due r
-written_due (call c) = None
-written_due (swap y p) = None
-written_due (branch e first other) = None
-written_due (while e body) = None
-written_due (enter p z body) = None
-written_due (print e) = None
 written_due collect = Some Asked
-written_due (return e) = None
+written_due _ = None
 
 pub due-mark : (os : List Op) → is_mark (slice_get os 0) ≡ true → due os ≡ None
 due-mark [] e = refl
@@ -67,25 +54,12 @@ call-due classes scope at c rest =
 right-due : (classes : List Class) (scope : Scope) (at : ℕ) (r : Right) (rest : List Op) → due rest ≡ right_due r
     → due (right_code classes scope at r ++ rest) ≡ right_due r
 right-due classes scope at (value e) rest h = (plain-whole classes scope at e rest).1 ∙ h
-right-due classes scope at (new x) rest h = h
-right-due classes scope at (new_tmp x) rest h = h
-right-due classes scope at (new_iso x m) rest h = h
-right-due classes scope at (freeze y) rest h = h
-right-due classes scope at (merge y) rest h = h
-right-due classes scope at read rest h = h
-right-due classes scope at more rest h = h
 right-due classes scope at (result_of c) rest h = call-due classes scope at c rest
+right-due classes scope at _ rest h = h
 
 pace-due : (r : Right) (rest : List Op) → due rest ≡ None → due (pace_code r ++ rest) ≡ right_due r
-pace-due (value e) rest h = h
 pace-due (new x) rest h = refl
-pace-due (new_tmp x) rest h = h
-pace-due (new_iso x m) rest h = h
-pace-due (freeze y) rest h = h
-pace-due (merge y) rest h = h
-pace-due read rest h = h
-pace-due more rest h = h
-pace-due (result_of c) rest h = h
+pace-due _ rest h = h
 
 assign-op-due : (scope : Scope) (x : Variable) (rest : List Op) → due (assign_op scope x ∷ rest) ≡ due rest
 assign-op-due scope x rest = by (is_iso (type_in scope x))

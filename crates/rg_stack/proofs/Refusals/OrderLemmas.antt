@@ -53,9 +53,6 @@ compute-operator op.Div end right h = compute-append right (i.Div ∷ []) h refl
 compute-operator op.Rem end right h = compute-append right (i.Rem ∷ []) h refl
 
 compute-expr : (classes : List Class) (scope : Scope) (at : ℕ) (e : Expr) → AllCompute (expr_code classes scope at e)
-compute-expr classes scope at (number z) = refl
-compute-expr classes scope at (boolean b) = refl
-compute-expr classes scope at nil = refl
 compute-expr classes scope at (path p) = compute-path classes scope p.base p.fields
 compute-expr classes scope at (is_nil p) = compute-append (path_code classes scope p.base p.fields) (i.IsNil ∷ [])
     (compute-path classes scope p.base p.fields) refl
@@ -67,6 +64,7 @@ compute-expr classes scope at (binary o a b) =
     let right = expr_code classes scope middle b in
     compute-append left (operator_code o (middle + length right) right) (compute-expr classes scope at a)
     (compute-operator o (middle + length right) right (compute-expr classes scope middle b))
+compute-expr classes scope at _ = refl
 
 module _ (code : List Op) where
   -- in front of what is orderly
@@ -188,26 +186,14 @@ module _ (code : List Op) where
 
   pub quiet-right : (classes : List Class) (scope : Scope) (at : ℕ) (r : Right) → Quiet at (right_code classes scope at r)
   quiet-right classes scope at (value e) = quiet-whole classes scope at e
-  quiet-right classes scope at (new x) = λ rest h. h
-  quiet-right classes scope at (new_tmp x) = λ rest h. h
-  quiet-right classes scope at (new_iso x m) = λ rest h. h
-  quiet-right classes scope at (freeze y) = λ rest h. h
-  quiet-right classes scope at (merge y) = λ rest h. h
-  quiet-right classes scope at read = λ rest h. h
   quiet-right classes scope at more = λ rest h. calm-orderly code (at + 1) false rest h
   quiet-right classes scope at (result_of c) = quiet-call classes scope at c
+  quiet-right classes scope at _ = λ rest h. h
 
   -- what comes last
   pub calm-pace : (r : Right) (rest : List Op) → calm code false rest ≡ true → calm code false (pace_code r ++ rest) ≡ true
   calm-pace (value e) rest h = h
-  calm-pace (new x) rest h = h
-  calm-pace (new_tmp x) rest h = h
-  calm-pace (new_iso x m) rest h = h
-  calm-pace (freeze y) rest h = h
-  calm-pace (merge y) rest h = h
-  calm-pace read rest h = h
-  calm-pace more rest h = h
-  calm-pace (result_of c) rest h = h
+  calm-pace _ rest h = h
 
   pub calm-assign : (scope : Scope) (x : Variable) (rest : List Op) → calm code false rest ≡ true → calm code false (assign_op scope x ∷ rest) ≡ true
   calm-assign scope x rest h = by (is_iso (type_in scope x))

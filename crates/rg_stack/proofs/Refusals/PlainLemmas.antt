@@ -44,9 +44,6 @@ plain-operator op.Div end right h = plain-append right (i.Div ∷ []) h (λ rest
 plain-operator op.Rem end right h = plain-append right (i.Rem ∷ []) h (λ rest. (refl, refl))
 
 pub plain-expr : (classes : List Class) (scope : Scope) (at : ℕ) (e : Expr) → Plain (expr_code classes scope at e)
-plain-expr classes scope at (number z) rest = (refl, refl)
-plain-expr classes scope at (boolean b) rest = (refl, refl)
-plain-expr classes scope at nil rest = (refl, refl)
 plain-expr classes scope at (path p) rest = plain-path classes scope p.base p.fields rest
 plain-expr classes scope at (is_nil p) rest = plain-append (path_code classes scope p.base p.fields) (i.IsNil ∷ [])
     (plain-path classes scope p.base p.fields) (λ rest. (refl, refl)) rest
@@ -62,6 +59,7 @@ plain-expr classes scope at (binary o a b) rest =
     let right = expr_code classes scope middle b in
     plain-append left (operator_code o (middle + length right) right) (plain-expr classes scope at a)
     (plain-operator o (middle + length right) right (plain-expr classes scope middle b)) rest
+plain-expr classes scope at _ rest = (refl, refl)
 
 pub plain-exprs : (classes : List Class) (scope : Scope) (at : ℕ) (es : List Expr) → Plain (exprs_code classes scope at es)
 plain-exprs classes scope at [] rest = (refl, refl)

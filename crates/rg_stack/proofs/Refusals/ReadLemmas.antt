@@ -42,25 +42,14 @@ call-reads classes scope at c rest =
 right-reads : (classes : List Class) (scope : Scope) (at : ℕ) (r : Right) (rest : List Op) → reads rest ≡ false
     → reads (right_code classes scope at r ++ rest) ≡ asks r
 right-reads classes scope at (value e) rest h = (plain-whole classes scope at e rest).0 ∙ h
-right-reads classes scope at (new x) rest h = h
-right-reads classes scope at (new_tmp x) rest h = h
-right-reads classes scope at (new_iso x m) rest h = h
-right-reads classes scope at (freeze y) rest h = h
-right-reads classes scope at (merge y) rest h = h
 right-reads classes scope at read rest h = refl
 right-reads classes scope at more rest h = refl
 right-reads classes scope at (result_of c) rest h = call-reads classes scope at c rest
+right-reads classes scope at _ rest h = h
 
 pace-reads : (r : Right) (rest : List Op) → reads rest ≡ false → reads (pace_code r ++ rest) ≡ false
 pace-reads (value e) rest h = h
-pace-reads (new x) rest h = h
-pace-reads (new_tmp x) rest h = h
-pace-reads (new_iso x m) rest h = h
-pace-reads (freeze y) rest h = h
-pace-reads (merge y) rest h = h
-pace-reads read rest h = h
-pace-reads more rest h = h
-pace-reads (result_of c) rest h = h
+pace-reads _ rest h = h
 
 assign-op-reads : (scope : Scope) (x : Variable) (rest : List Op) → reads rest ≡ false → reads (assign_op scope x ∷ rest) ≡ false
 assign-op-reads scope x rest h = by (is_iso (type_in scope x))

@@ -180,16 +180,11 @@ abbrev pub RightNeeds : List Class → Code → Round → Scope → List Seen �
     → (stack : List Val) → Right → Type 0
 RightNeeds classes code r scope store slots locals managers input stack (value e) =
     (owned_once (work r store slots managers input).machine ≡ true) × UsesUp classes store slots locals scope e stack
-RightNeeds classes code r scope store slots locals managers input stack (new x) = Unit {0}
-RightNeeds classes code r scope store slots locals managers input stack (new_tmp x) = Unit {0}
-RightNeeds classes code r scope store slots locals managers input stack (new_iso x m) = Unit {0}
 RightNeeds classes code r scope store slots locals managers input stack (freeze y) =
     needs code (i.Freeze (slot_of scope (Some y))) stack (work r store slots managers input).machine ≡ true
 RightNeeds classes code r scope store slots locals managers input stack (merge y) =
     needs code (i.Merge (slot_of scope (Some y))) stack (work r store slots managers input).machine ≡ true
-RightNeeds classes code r scope store slots locals managers input stack read = Unit {0}
-RightNeeds classes code r scope store slots locals managers input stack more = Unit {0}
-RightNeeds classes code r scope store slots locals managers input stack (result_of c) = Unit {0}
+RightNeeds classes code r scope store slots locals managers input stack _ = Unit {0}
 
 -- the openings of the classes are plain
 
@@ -425,10 +420,4 @@ pub walk-pace : (classes : List Class) (code : Code) (right : Right) (rest : Lis
     → walk code (pace_code right ++ rest) here 0 [] w ≡ walk code rest (here + length (pace_code right)) 0 [] w
 walk-pace classes code (value e) rest here w = let e : here ≡ here + 0 = omega arith in ap (λ n. walk code rest n 0 [] w) e
 walk-pace classes code (new x) rest here w = refl
-walk-pace classes code (new_tmp x) rest here w = let e : here ≡ here + 0 = omega arith in ap (λ n. walk code rest n 0 [] w) e
-walk-pace classes code (new_iso x m) rest here w = let e : here ≡ here + 0 = omega arith in ap (λ n. walk code rest n 0 [] w) e
-walk-pace classes code (freeze y) rest here w = let e : here ≡ here + 0 = omega arith in ap (λ n. walk code rest n 0 [] w) e
-walk-pace classes code (merge y) rest here w = let e : here ≡ here + 0 = omega arith in ap (λ n. walk code rest n 0 [] w) e
-walk-pace classes code read rest here w = let e : here ≡ here + 0 = omega arith in ap (λ n. walk code rest n 0 [] w) e
-walk-pace classes code more rest here w = let e : here ≡ here + 0 = omega arith in ap (λ n. walk code rest n 0 [] w) e
-walk-pace classes code (result_of c) rest here w = let e : here ≡ here + 0 = omega arith in ap (λ n. walk code rest n 0 [] w) e
+walk-pace classes code _ rest here w = let e : here ≡ here + 0 = omega arith in ap (λ n. walk code rest n 0 [] w) e

@@ -73,11 +73,6 @@ module _ (code : Code) where
   pub act-less : (at : ℕ) (o : Op) (go all : Go) (stack : List Val) (w : Work) → LessFrom go all
       → Less (act code at o go stack w) (act code at o all stack w)
   act-less at (i.Mark line) go all stack w h = inr refl
-  act-less at (i.Int z) go all stack w h = h 0 _ _
-  act-less at (i.Bool b) go all stack w h = h 0 _ _
-  act-less at i.Nil go all stack w h = h 0 _ _
-  act-less at (i.Load s) go all stack w h = h 0 _ _
-  act-less at (i.Clear s) go all stack w h = h 0 _ _
   act-less at (i.Store s) go all stack w h = top-less stack _ _ (λ v rest. h 0 _ _)
   act-less at (i.Own s) go all stack w h = top-less stack _ _ (λ v rest. h 0 _ _)
   act-less at (i.Field k) go all stack w h = top-less stack _ _ (λ v rest. object-less (object_at w.machine.store v) _ _ (λ o. h 0 _ _))
@@ -100,16 +95,11 @@ module _ (code : Code) where
   act-less at (i.And t) go all stack w h = top-less stack _ _ (λ v rest. if-less (as_bool v) _ _ _ _ (h 0 _ _) (h _ _ _))
   act-less at (i.Or t) go all stack w h = top-less stack _ _ (λ v rest. if-less (as_bool v) _ _ _ _ (h _ _ _) (h 0 _ _))
   act-less at i.Check go all stack w h = top-less stack _ _ (λ v rest. object-less (object_at w.machine.store v) _ _ (λ o. h 0 _ _))
-  act-less at (i.New c) go all stack w h = h 0 _ _
-  act-less at (i.NewTmp c) go all stack w h = h 0 _ _
-  act-less at (i.NewIso c m) go all stack w h = h 0 _ _
-  act-less at i.Pace go all stack w h = h 0 _ _
   act-less at (i.Put k) go all stack w h = top-less stack _ _ (λ v rest. top-less rest _ _ (λ r under. h 0 _ _))
   act-less at (i.Swap s k) go all stack w h = top-less stack _ _ (λ v rest. object-less (object_at w.machine.store v) _ _ (λ o. h 0 _ _))
   act-less at (i.Freeze s) go all stack w h = object-less _ _ _ (λ o. h 0 _ _)
   act-less at (i.Merge s) go all stack w h = object-less _ _ _ (λ o. h 0 _ _)
   act-less at i.Read go all stack w h = taken-less (next_number w.input) go all stack w h
-  act-less at i.More go all stack w h = h 0 _ _
   act-less at i.Room go all stack w h =
       if-less (nat_lt (length w.machine.frames) FRAMES) _ (Traps trap.Depth) _ (Traps trap.Depth) (h 0 stack w) (inr refl)
   act-less at (i.Call m) go all stack w h = inr refl
@@ -118,13 +108,11 @@ module _ (code : Code) where
   act-less at (i.Enter s z) go all stack w h = opens-less w.machine z _ _ (object-less _ _ _ (λ o. h 0 _ _))
   act-less at (i.EnterField k z) go all stack w h = opens-less w.machine z _ _ (top-less stack _ _ (λ r rest.
       object-less (object_at w.machine.store r) _ _ (λ o. object-less _ _ _ (λ b. h 0 _ _))))
-  act-less at (i.Leave s) go all stack w h = h 0 _ _
-  act-less at (i.End s) go all stack w h = h 0 _ _
   act-less at i.Print go all stack w h = top-less stack _ _ (λ v rest. h 0 _ _)
-  act-less at i.Collect go all stack w h = h 0 _ _
   act-less at i.Pop go all stack w h = top-less stack _ _ (λ v rest. h 0 _ _)
   act-less at i.Drop go all stack w h = top-less stack _ _ (λ v rest. h 0 _ _)
   act-less at i.Halt go all stack w h = inr refl
+  act-less at _ go all stack w h = h 0 _ _
 
   by_need : (t : Truth) (x y : Walked) → Less x y → Less (if t then x else Stuck) y
   by_need true x y h = h

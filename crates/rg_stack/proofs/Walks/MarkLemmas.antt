@@ -42,15 +42,7 @@ shown_slot (l ∷ ls) k x = shown_by (same_variable l.name x) l.value _ _ _ (sho
 pub starts : (classes : List Class) (scope : Scope) (at line : ℕ) (k : StmtKind) (more : List Op)
     → is_mark (slice_get (kind_code classes scope at line k ++ more) 0) ≡ true
 starts classes scope at line (declare x t r) more = refl
-starts classes scope at line (assign p r) more = refl
-starts classes scope at line (call c) more = refl
-starts classes scope at line (swap y p) more = refl
-starts classes scope at line (branch e b other) more = refl
-starts classes scope at line (while e b) more = refl
-starts classes scope at line (enter p z b) more = refl
-starts classes scope at line (print e) more = refl
-starts classes scope at line collect more = refl
-starts classes scope at line (return e) more = refl
+starts classes scope at line _ more = refl
 
 -- a walk with nothing on the stack ends at a mark
 pub walk_at_mark : (classes : List Class) (code : Code) (ops : List Op) (at : ℕ) (w : Work) → is_mark (slice_get ops 0) ≡ true

@@ -48,16 +48,8 @@ block_scope classes scope (next (stmt line k) b) = block_scope classes (scope_be
 
 -- a statement that isn't a `return`
 abbrev pub GoesOn : StmtKind → Type 0
-GoesOn (declare x t r) = Unit {0}
-GoesOn (assign p r) = Unit {0}
-GoesOn (call c) = Unit {0}
-GoesOn (swap y p) = Unit {0}
-GoesOn (branch e b other) = Unit {0}
-GoesOn (while e b) = Unit {0}
-GoesOn (enter p z b) = Unit {0}
-GoesOn (print e) = Unit {0}
-GoesOn collect = Unit {0}
 GoesOn (return e) = ⊥
+GoesOn _ = Unit {0}
 
 -- none of a block's statements is a `return`
 abbrev pub AllGoOn : Block → Type 0
@@ -67,16 +59,8 @@ AllGoOn (next (stmt line k) b) = GoesOn k × AllGoOn b
 -- what lies behind such a statement
 pub lies_behind : (classes : List Class) (code : List Op) (l : Level) (ls : List Level) (end : ℕ) (k : StmtKind) (lies : Lying) → GoesOn k
     → lies (record l { scope = scope_behind classes l.scope k } ∷ ls) end → LiesBehind classes code l ls end k lies
-lies_behind classes code l ls end (declare x t r) lies g h = h
-lies_behind classes code l ls end (assign p r) lies g h = h
-lies_behind classes code l ls end (call c) lies g h = h
-lies_behind classes code l ls end (swap y p) lies g h = h
-lies_behind classes code l ls end (branch e b other) lies g h = h
-lies_behind classes code l ls end (while e b) lies g h = h
-lies_behind classes code l ls end (enter p z b) lies g h = h
-lies_behind classes code l ls end (print e) lies g h = h
-lies_behind classes code l ls end collect lies g h = h
 lies_behind classes code l ls end (return e) lies g h = absurd g
+lies_behind classes code l ls end _ lies g h = h
 
 -- the items of a block begin where its code stands, if what is done behind it begins at its end
 pub lies_block : (classes : List Class) (code : List Op) (b : Block) (l : Level) (ls : List Level) (at : ℕ) (after : List Item)
@@ -99,15 +83,7 @@ lies_block classes code (next (stmt line k) b) l ls at after h g behind =
 -- a statement only adds variables
 extends_kind : (classes : List Class) (k : StmtKind) (scope : Scope) → (more : Scope) × (scope_behind classes scope k ≡ scope ++ more)
 extends_kind classes (declare x t r) scope = (_, refl)
-extends_kind classes (assign p r) scope = ([], sym (append-nil scope))
-extends_kind classes (call c) scope = ([], sym (append-nil scope))
-extends_kind classes (swap y p) scope = ([], sym (append-nil scope))
-extends_kind classes (branch e b other) scope = ([], sym (append-nil scope))
-extends_kind classes (while e b) scope = ([], sym (append-nil scope))
-extends_kind classes (enter p z b) scope = ([], sym (append-nil scope))
-extends_kind classes (print e) scope = ([], sym (append-nil scope))
-extends_kind classes collect scope = ([], sym (append-nil scope))
-extends_kind classes (return e) scope = ([], sym (append-nil scope))
+extends_kind classes _ scope = ([], sym (append-nil scope))
 
 pub extends : (classes : List Class) (b : Block) (scope : Scope) → (more : Scope) × (block_scope classes scope b ≡ scope ++ more)
 extends classes none scope = ([], sym (append-nil scope))

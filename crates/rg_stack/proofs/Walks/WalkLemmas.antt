@@ -61,9 +61,6 @@ Logic op.Rem P = Unit {0}
 
 -- what the rules give of an expression: its paths lead along the declared types, and operands of `and` and `or` are truth values
 abbrev pub Agrees : List Class → List Seen → List Window → List Local → Scope → Expr → Type 0
-Agrees classes store windows locals scope (number z) = Unit {0}
-Agrees classes store windows locals scope (boolean b) = Unit {0}
-Agrees classes store windows locals scope nil = Unit {0}
 Agrees classes store windows locals scope (path p) = FollowsPath classes store windows locals scope p
 Agrees classes store windows locals scope (is_nil p) = FollowsPath classes store windows locals scope p
 Agrees classes store windows locals scope (neg a) = Agrees classes store windows locals scope a
@@ -71,6 +68,7 @@ Agrees classes store windows locals scope (not a) = Agrees classes store windows
 Agrees classes store windows locals scope (binary o a b) =
     Agrees classes store windows locals scope a × Agrees classes store windows locals scope b
     × Logic o (IsTruth (value_of classes store locals a) × IsTruth (value_of classes store locals b))
+Agrees classes store windows locals scope _ = Unit {0}
 
 -- one thing after another
 pub value_then : (c : Computed) (k : Val → Computed) (go behind : Val → Walked) → ((v : Val) → c ≡ Ok v → go v ≡ with_value (k v) behind)
@@ -262,9 +260,6 @@ module _ (classes : List Class) (code : Code) where
       → ((x : Variable) → slot_at w.machine (slot_of scope x) ≡ value_in locals x) → Agrees classes w.machine.store w.machine.windows locals scope e
       → walk code (expr_code classes scope at e ++ rest) at 0 stack w
       ≡ with_value (value_of classes w.machine.store locals e) (λ u. walk code rest (at + length (expr_code classes scope at e)) 0 (u ∷ stack) w)
-  walk-expr (number z) locals scope at rest stack w slots h = refl
-  walk-expr (boolean b) locals scope at rest stack w slots h = refl
-  walk-expr nil locals scope at rest stack w slots h = refl
   walk-expr (path p) locals scope at rest stack w slots h = walk-path p locals scope at rest stack w slots h
   walk-expr (is_nil p) locals scope at rest stack w slots h =
       one_run i.IsNil (λ v. Ok (val.Bool (is_nil_value v))) (path_code classes scope p.base p.fields) (path_value classes w.machine.store locals p)
@@ -362,3 +357,4 @@ module _ (classes : List Class) (code : Code) where
       (value_of classes w.machine.store locals b) at rest stack w
       (λ here x y. refl) (λ v. refl) (λ more. walk-expr a locals scope at more stack w slots h.0)
       (λ more v. walk-expr b locals scope (at + length left + 0) more (v ∷ stack) w slots h.1)
+  walk-expr _ locals scope at rest stack w slots h = refl
