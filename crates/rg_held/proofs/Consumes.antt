@@ -18,7 +18,8 @@ use Rattle.rg_code.specs.declared.op.Op.TheVariants as i
 use Rattle.rg_code.specs.Code.{Code}
 use Rattle.rg_stack.specs.Machine.{Machine, slot_at, put_slot}
 use Rattle.rg_stack.specs.Effects.{Work, Go, Traps, act, beneath_by_labels, relabel, top_region, with_store, stored, on_object}
-use Rattle.rg_stack.specs.Needs.{is_open, label_of, is_into, is_closed, closed_of, owns_or_nil, owned_once, is_outside, needs}
+use Rattle.rg_stack.specs.Needs.{is_closed, closed_of, owns_or_nil, owned_once, needs}
+use Rattle.rg_stack.specs.Labels.{is_open, label_of, is_into, is_outside}
 use Rattle.rg_stack.proofs.Basics.{none-some, and-left, and-right}
 use Rattle.rg_held.specs.Frees.{forgotten, free_act}
 use Rattle.rg_held.specs.Part.{leads_to, Placed, Tidy, Part, may_lead, is_shut_or_above}

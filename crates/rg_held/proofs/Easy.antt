@@ -19,7 +19,8 @@ use Rattle.rg_code.specs.Code.{Code}
 use Rattle.rg_stack.specs.Machine.{slot_at}
 use Rattle.rg_stack.specs.Effects.{Work, Traps, Go, act, next_taken, on_top, stored, called}
 use Rattle.rg_code.specs.declared.code.Entry.{Entry}
-use Rattle.rg_stack.specs.Needs.{is_into, is_closed, is_empty, owned_once, size_of, may_keep, needs}
+use Rattle.rg_stack.specs.Needs.{is_closed, is_empty, owned_once, size_of, may_keep, needs}
+use Rattle.rg_stack.specs.Labels.{is_into}
 use Rattle.rg_stack.proofs.Basics.{and-left, and-right}
 use Rattle.rg_held.specs.Frees.{free_act}
 use Rattle.rg_held.specs.Part.{leads_to}

@@ -5,8 +5,8 @@ use Rattle.rg_base.specs.declared.object.Label.TheVariants.{Region, Temp}
 use Rattle.rg_base.specs.declared.object.Seen.{Seen}
 use Rattle.rg_base.specs.declared.value.Val.{Val}
 use Rattle.rg_stack.specs.Machine.{Frame, Machine}
-use Rattle.rg_stack.specs.Needs.{has_window, is_into, is_open}
-use Rattle.rg_held.specs.Frees.{gone}
+use Rattle.rg_stack.specs.Labels.{has_window, is_into, is_open}
+use Rattle.rg_held.specs.Gone.{gone}
 use Rattle.rg_held.specs.Part.{AllLead, OwnersHeld, Part, Placed, Tidy, leads_to}
 
 -- a temporary that isn't held is one of a window that was opened and has ended

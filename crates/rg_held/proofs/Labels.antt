@@ -16,9 +16,9 @@ use Rattle.rg_base.specs.declared.value.Val.TheVariants as val
 use Rattle.rg_rules.specs.Regions.{in_regions, relabelled_object, relabelled}
 use Rattle.rg_sound.proofs.Stores.MemberLemmas.{In, among-in}
 use Rattle.rg_stack.specs.Machine.{Window, Machine}
-use Rattle.rg_stack.specs.Needs.{is_open, label_of, is_into, is_outside}
+use Rattle.rg_stack.specs.Labels.{is_open, label_of, is_into, is_outside}
 use Rattle.rg_stack.proofs.Basics.{none-some}
-use Rattle.rg_held.specs.Frees.{gone}
+use Rattle.rg_held.specs.Gone.{gone}
 use Rattle.rg_held.specs.Part.{leads_to, Placed, Tidy, Part, is_of, OwnerHeld, OwnersHeld, may_lead}
 use Rattle.rg_held.proofs.Lists.{off, any-at}
 use Rattle.rg_held.proofs.Places.{clash, into-label, label-into}

@@ -19,11 +19,13 @@ use Rattle.rg_code.specs.declared.op.Op.TheVariants as i
 use Rattle.rg_code.specs.Code.{Code}
 use Rattle.rg_stack.specs.Machine.{Frame, Window, Machine, top_slots, end_slots, place_of}
 use Rattle.rg_stack.specs.Effects.{Work, Go, act, without_top, top_window, beneath_by_labels}
-use Rattle.rg_stack.specs.Needs.{is_open, has_window, label_of, is_into, closed_into, is_outside, owned_once, is_top_temp, is_to_temp, outlives}
+use Rattle.rg_stack.specs.Needs.{closed_into, owned_once, is_top_temp, is_to_temp, outlives}
+use Rattle.rg_stack.specs.Labels.{is_open, has_window, label_of, is_into, is_outside}
 use Rattle.rg_stack.specs.Needs.{field_of}
 use Rattle.rg_stack.specs.Needs.{top_base, temps_may_go, owner_leads, owner_at, value_at, needs}
 use Rattle.rg_stack.proofs.Basics.{none-some, and-left, and-right}
-use Rattle.rg_held.specs.Frees.{gone, is_temp, closed_among, closed_by_temps, left_with, window_that_ends, bury, free_act, freed}
+use Rattle.rg_held.specs.Frees.{is_temp, closed_among, closed_by_temps, left_with, window_that_ends, bury, free_act, freed}
+use Rattle.rg_held.specs.Gone.{gone}
 use Rattle.rg_held.specs.Part.{leads_to, SlotInto, FieldInto, Placed, Tidy, Part, is_of, OwnerHeld, OwnersHeld, SomeWindow, is_shut_or_above}
 use Rattle.rg_held.specs.Part.{may_lead, Differ}
 use Rattle.rg_held.specs.Ends.{Match, SameEnd}

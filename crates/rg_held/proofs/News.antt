@@ -17,9 +17,9 @@ use Rattle.rg_base.specs.declared.value.Val.{Val}
 use Rattle.rg_base.specs.declared.value.Val.TheVariants as val
 use Rattle.rg_tree.proofs.TreesFrom.{slice_get-push}
 use Rattle.rg_stack.specs.Machine.{Window, Machine}
-use Rattle.rg_stack.specs.Needs.{has_window, label_of, lies_in, is_into}
+use Rattle.rg_stack.specs.Labels.{has_window, label_of, lies_in, is_into}
 use Rattle.rg_stack.proofs.Basics.{none-some, or-left}
-use Rattle.rg_held.specs.Frees.{gone}
+use Rattle.rg_held.specs.Gone.{gone}
 use Rattle.rg_held.specs.Part.{leads_to, Placed, Part, OwnerHeld, OwnersHeld}
 use Rattle.rg_held.proofs.Lists.{off, push-back, push-old, push-below, push-past}
 use Rattle.rg_held.proofs.Lists.{any-at}

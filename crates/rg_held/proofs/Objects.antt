@@ -25,8 +25,10 @@ use Rattle.rg_code.specs.declared.op.Op.TheVariants as i
 use Rattle.rg_code.specs.Code.{Code}
 use Rattle.rg_stack.specs.Machine.{Window, Machine, value_of_word, slot_at, put_slot}
 use Rattle.rg_stack.specs.Effects.{Work, Go, Traps, act, made, with_store, with_value_in, put_in, top_region, top_window, on_object, stored}
-use Rattle.rg_stack.specs.Needs.{is_open, has_window, label_of, is_into, is_closed, closed_of, leads_nowhere, is_field}
-use Rattle.rg_stack.specs.Needs.{is_writable, is_outside, may_stand, field_of, owns_or_nil, owned_once, size_of, needs}
+use Rattle.rg_stack.specs.Needs.{is_closed, closed_of, leads_nowhere, is_field}
+use Rattle.rg_stack.specs.Labels.{is_open, has_window, label_of, is_into}
+use Rattle.rg_stack.specs.Needs.{is_writable, may_stand, field_of, owns_or_nil, owned_once, size_of, needs}
+use Rattle.rg_stack.specs.Labels.{is_outside}
 use Rattle.rg_stack.proofs.Basics.{none-some, and-left, and-right}
 use Rattle.rg_held.specs.Frees.{free_act}
 use Rattle.rg_held.specs.Part.{leads_to, Part, SomeWindow, may_lead, is_shut_or_above}

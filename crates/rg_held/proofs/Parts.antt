@@ -11,9 +11,10 @@ use Rattle.rg_base.specs.declared.object.Seen.{Seen}
 use Rattle.rg_base.specs.declared.value.Val.{Val}
 use Rattle.rg_base.specs.declared.value.Val.TheVariants as val
 use Rattle.rg_stack.specs.Machine.{Frame, Window, Machine, top_slots, with_slots}
-use Rattle.rg_stack.specs.Needs.{is_open, label_of, is_into, closed_of, closed_into}
+use Rattle.rg_stack.specs.Needs.{closed_of, closed_into}
+use Rattle.rg_stack.specs.Labels.{is_open, label_of, is_into}
 use Rattle.rg_stack.proofs.Basics.{none-some, or-left}
-use Rattle.rg_held.specs.Frees.{gone}
+use Rattle.rg_held.specs.Gone.{gone}
 use Rattle.rg_held.specs.Part.{leads_to, AllLead, SlotInto, FieldInto, Placed, Tidy, Part, is_shut_or_above}
 use Rattle.rg_held.proofs.Places.{clash, or-right}
 

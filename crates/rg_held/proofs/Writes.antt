@@ -16,8 +16,9 @@ use Rattle.rg_base.specs.declared.value.Val.TheVariants as val
 use Rattle.rg_sound.proofs.Owners.OwnerLemmas.{get-set}
 use Rattle.rg_stack.specs.Machine.{Window, Machine}
 use Rattle.rg_stack.specs.Effects.{with_value_in}
-use Rattle.rg_stack.specs.Needs.{is_open, label_of, lies_in, is_into, is_outside, field_of}
-use Rattle.rg_held.specs.Frees.{gone}
+use Rattle.rg_stack.specs.Needs.{field_of}
+use Rattle.rg_stack.specs.Labels.{is_open, label_of, lies_in, is_into, is_outside}
+use Rattle.rg_held.specs.Gone.{gone}
 use Rattle.rg_held.specs.Part.{leads_to, AllLead, Placed, Part, is_of, OwnerHeld, OwnersHeld, may_lead}
 use Rattle.rg_held.proofs.Lists.{set-back, set-old, set-apart}
 use Rattle.rg_held.proofs.Places.{clash}

@@ -3,7 +3,7 @@ use Rattle.std.specs.Prelude.{◌≡◌, ℕ, Bool as Truth, List, []}
 use Rattle.rg_base.specs.declared.value.Val.{Val}
 use Rattle.rg_stack.specs.Effects.{Work, Walked, Stops, Returns, Traps, Stuck}
 use Rattle.rg_stack.specs.Runs.{Stepped, Goes, Ends, Trapped, Lost, Ran}
-use Rattle.rg_held.specs.Part.{Alike}
+use Rattle.rg_held.specs.Alike.{Alike}
 
 -- with some objects held, the two work on the same
 abbrev pub Match : (owners : List Val) → Work → Work → (stack : List Val) → Type 0

@@ -5,8 +5,8 @@ use Rattle.rg_base.specs.declared.object.Label.TheVariants.{Region, Temp}
 use Rattle.rg_base.specs.declared.object.Seen.{Seen}
 use Rattle.rg_stack.specs.Machine.{Machine}
 use Rattle.rg_stack.specs.Runs.{Stepped, Goes, Ends, Trapped, Lost}
-use Rattle.rg_stack.specs.Needs.{has_window, is_open}
-use Rattle.rg_held.specs.Frees.{gone}
+use Rattle.rg_stack.specs.Labels.{has_window, is_open}
+use Rattle.rg_held.specs.Gone.{gone}
 use Rattle.rg_held.specs.Shown.{Finds}
 
 -- a label of temporaries whose window has ended

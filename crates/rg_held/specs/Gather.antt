@@ -15,7 +15,7 @@ use Rattle.rg_stack.specs.Machine.{Frame, Window, Machine, place_of}
 use Rattle.rg_stack.specs.Effects.{top_region, top_window}
 use Rattle.rg_stack.specs.Needs.{top_base, value_at}
 use Rattle.rg_stack.specs.Shows.{Shows}
-use Rattle.rg_held.specs.Frees.{gone}
+use Rattle.rg_held.specs.Gone.{gone}
 use Rattle.rg_held.specs.Part.{Part}
 
 -- the value of the topmost window's owner reference; the lowest window has none

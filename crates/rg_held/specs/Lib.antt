@@ -6,3 +6,5 @@ pub mod Freed
 pub mod Laws
 pub mod Gather
 pub mod Shown
+pub mod Gone
+pub mod Alike

@@ -12,9 +12,8 @@ use Rattle.rg_base.specs.declared.object.Seen.{Seen}
 use Rattle.rg_base.specs.declared.value.Val.{Val}
 use Rattle.rg_base.specs.declared.value.Val.TheVariants.{Nil, Int, Bool, Obj}
 use Rattle.rg_stack.specs.Machine.{Frame, Window, Machine}
-use Rattle.rg_stack.specs.Effects.{Work}
-use Rattle.rg_stack.specs.Needs.{is_open, has_window, label_of, is_into, is_outside}
-use Rattle.rg_held.specs.Frees.{gone}
+use Rattle.rg_stack.specs.Labels.{is_open, has_window, label_of, is_into, is_outside}
+use Rattle.rg_held.specs.Gone.{gone}
 
 -- whether a value leads to an object whose address passes a test, if it leads to one
 abbrev pub leads_to : (ℕ → Truth) → Val → Truth
@@ -139,9 +138,3 @@ pub record Part (held : ℕ → Truth) (owners : List Val) (f m : Machine) (stac
       → Placed held m r ⊎ (list_any (is_into m.store r) owners ≡ true)
   pub window_owners : OwnersHeld held m.store m.windows
   pub tidy : Tidy m
-
--- what the two work on
-pub record Alike (held : ℕ → Truth) (owners : List Val) (u w : Work) (stack : List Val) : Type 0 where
-  pub machine : Part held owners u.machine w.machine stack
-  pub input : u.input ≡ w.input
-  pub printed : u.printed ≡ w.printed

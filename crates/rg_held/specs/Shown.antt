@@ -6,7 +6,7 @@ use Rattle.rg_rules.specs.State.{State}
 use Rattle.rg_code.specs.Code.{Code}
 use Rattle.rg_stack.specs.Machine.{Machine}
 use Rattle.rg_stack.specs.Shows.{Shows}
-use Rattle.rg_held.specs.Frees.{gone}
+use Rattle.rg_held.specs.Gone.{gone}
 use Rattle.rg_held.specs.Part.{Part}
 
 -- beside it a machine over the growing store shows the state, and what is held is the same in both

@@ -31,7 +31,8 @@ use Rattle.rg_view.proofs.Callers.OpenLemmas.{any-back}
 use Rattle.rg_view.proofs.Callers.ShownLemmas.{get-take, get-drop}
 use Rattle.rg_machine.specs.Core.{Core, called_frame, with_machine}
 use Rattle.rg_machine.specs.Frames.{called_words, cleared, cleared_stack}
-use Rattle.rg_machine.specs.Parts.{Parts as Machined, core_of, machine_in}
+use Rattle.rg_machine.specs.Parts.{Parts as Machined, machine_in}
+use Rattle.rg_machine.specs.Cores.{core_of}
 use Rattle.rg_machine.specs.Stands.{Stands, Leads, AllLead, BeginsBehind}
 
 -- the same windows over other slots and frames

@@ -20,7 +20,8 @@ use Rattle.rg_regions.proofs.Callers.Told.{labelled_held}
 use Rattle.rg_frames.specs.declared.rows.Window.{Window as WindowRow}
 use Rattle.rg_frames.specs.Stack.{Stack, IsTop}
 use Rattle.rg_stack.specs.Effects.{top_region}
-use Rattle.rg_stack.specs.Needs.{is_open, fields_into, owned_once}
+use Rattle.rg_stack.specs.Needs.{fields_into, owned_once}
+use Rattle.rg_stack.specs.Labels.{is_open}
 use Rattle.rg_heap.specs.Answers.{AllLead, IsClosed}
 use Rattle.rg_heap.specs.Collects.{Collects, LostBelow}
 use Rattle.rg_heap.specs.Ends.{top_temps}

@@ -22,7 +22,8 @@ use Rattle.rg_heap.specs.Parts.{Parts as HeapParts}
 use Rattle.rg_heap.specs.Answers.{val_of, LeadsIntoClosed}
 use Rattle.rg_heap.specs.Ends.{Released, NoCell, OnSlot, OnRegion}
 use Rattle.rg_heap.specs.Writes.{Ownerless}
-use Rattle.rg_held.specs.Frees.{gone, is_temp, bury, closed_among, forgotten}
+use Rattle.rg_held.specs.Frees.{is_temp, bury, closed_among, forgotten}
+use Rattle.rg_held.specs.Gone.{gone}
 use Rattle.rg_held.proofs.Lists.{reverse-back}
 use Rattle.rg_view.specs.Links.{BelowSome}
 use Rattle.rg_view.specs.Names.{Names}
@@ -38,7 +39,8 @@ use Rattle.rg_view.proofs.Callers.ShownLemmas.{values-same}
 use Rattle.rg_view.proofs.Callers.TableLemmas.{FewerNumbers}
 use Rattle.rg_machine.specs.Core.{with_machine}
 use Rattle.rg_machine.specs.Effects.{Apart, without}
-use Rattle.rg_machine.specs.Parts.{Parts, core_of, machine_in, val_in}
+use Rattle.rg_machine.specs.Parts.{Parts, machine_in, val_in}
+use Rattle.rg_machine.specs.Cores.{core_of}
 use Rattle.rg_machine.specs.Stands.{AllLead, Leads, Stands}
 use Rattle.rg_machine.proofs.ReleaseLemmas.{regions, names, released, Goes, stands-released, leads-released, no-word, none-loose}
 

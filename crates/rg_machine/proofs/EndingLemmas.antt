@@ -20,8 +20,10 @@ use Rattle.rg_base.specs.declared.words.Manager.TheVariants.{Arena}
 use Rattle.rg_sound.proofs.LocalRootsLemmas.{label-region}
 use Rattle.rg_stack.specs.Machine.{Frame, Machine, Window, top_slots, with_slots, slot_at, ended_slots}
 use Rattle.rg_stack.specs.Effects.{beneath_by_labels}
-use Rattle.rg_stack.specs.Needs.{closed_into, closed_of, is_open, label_of}
-use Rattle.rg_held.specs.Frees.{gone, is_temp, buried, bury, closed_among}
+use Rattle.rg_stack.specs.Needs.{closed_into, closed_of}
+use Rattle.rg_stack.specs.Labels.{is_open, label_of}
+use Rattle.rg_held.specs.Frees.{is_temp, buried, bury, closed_among}
+use Rattle.rg_held.specs.Gone.{gone}
 use Rattle.rg_view.specs.Links.{Link, Reached, first, next, Spans}
 use Rattle.rg_view.specs.Names.{Names}
 use Rattle.rg_view.proofs.Callers.AfterLemmas.{bury-lives, remembered-twice}

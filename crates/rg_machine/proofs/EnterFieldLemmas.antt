@@ -37,7 +37,7 @@ use Rattle.rg_view.proofs.Callers.OnceLemmas.{outside-once}
 use Rattle.rg_view.proofs.Callers.ReadLemmas.{field-there, field-within, object-tested, object-there, pushed-value}
 use Rattle.rg_machine.specs.Core.{Has, work_of}
 use Rattle.rg_machine.specs.Frames.{can_open}
-use Rattle.rg_machine.specs.Parts.{core_of}
+use Rattle.rg_machine.specs.Cores.{core_of}
 use Rattle.rg_machine.specs.Stands.{AllLead, Stands}
 use Rattle.rg_machine.proofs.EnterLemmas.{ParentBeneath, Entered, entered-by, entered_stack, machine-entered, opens-both}
 use Rattle.rg_machine.proofs.EnterLemmas.{opens-within}

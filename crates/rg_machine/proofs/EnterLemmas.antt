@@ -59,7 +59,7 @@ use Rattle.rg_view.proofs.Callers.NeedLemmas.{ownerless-slot}
 use Rattle.rg_view.proofs.Callers.CallLemmas.{owns}
 use Rattle.rg_machine.specs.Core.{Has, work_of}
 use Rattle.rg_machine.specs.Frames.{can_open}
-use Rattle.rg_machine.specs.Parts.{core_of}
+use Rattle.rg_machine.specs.Cores.{core_of}
 use Rattle.rg_machine.specs.Keeps.{SameBacks, backs}
 use Rattle.rg_machine.specs.Stands.{Leads, AllLead, Stands}
 

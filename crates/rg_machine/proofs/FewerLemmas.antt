@@ -17,10 +17,12 @@ use Rattle.rg_base.specs.declared.words.Manager.TheVariants.{Arena}
 use Rattle.rg_rules.specs.Regions.{address, in_regions}
 use Rattle.rg_stack.specs.Machine.{Frame, Window, Machine, top_slots, with_slots, slot_at, put_slot, ended_slots, end_slots}
 use Rattle.rg_stack.specs.Effects.{beneath_by_labels}
-use Rattle.rg_stack.specs.Needs.{is_open, label_of, lies_in, is_into, closed_of, closed_into, is_outside, slots_into, fields_into, places_into}
+use Rattle.rg_stack.specs.Needs.{closed_of, closed_into, slots_into, fields_into, places_into}
+use Rattle.rg_stack.specs.Labels.{is_open, label_of, lies_in, is_into, is_outside}
 use Rattle.rg_stack.specs.Needs.{all_below, owned_once, loose}
 use Rattle.rg_stack.proofs.Walks.NeedLemmas.{closed-counts, below_by as below-more}
-use Rattle.rg_held.specs.Frees.{gone, is_temp, buried, bury, closed_among, lives}
+use Rattle.rg_held.specs.Frees.{is_temp, buried, bury, closed_among, lives}
+use Rattle.rg_held.specs.Gone.{gone}
 use Rattle.rg_held.proofs.Places.{once as once-most}
 use Rattle.rg_machine.specs.Core.{Core}
 use Rattle.rg_machine.specs.Effects.{AllLoose, without}

@@ -20,7 +20,8 @@ use Rattle.rg_frames.specs.Stack.{Stack}
 use Rattle.rg_code.specs.declared.op.Op.TheVariants as i
 use Rattle.rg_rules.specs.Evaluation.{object_at}
 use Rattle.rg_stack.specs.Effects.{put_in, top_window}
-use Rattle.rg_stack.specs.Needs.{field_of, is_closed, is_field, is_open, is_writable, may_stand}
+use Rattle.rg_stack.specs.Needs.{field_of, is_closed, is_field, is_writable, may_stand}
+use Rattle.rg_stack.specs.Labels.{is_open}
 use Rattle.rg_stack.proofs.Basics.{and-left, and-right}
 use Rattle.rg_heap.specs.Parts.{Parts}
 use Rattle.rg_heap.specs.Answers.{IsClosed}
@@ -35,7 +36,8 @@ use Rattle.rg_view.proofs.Callers.ReadLemmas.{object-there}
 use Rattle.rg_view.proofs.Callers.ShownLemmas.{body-held, held-body, field-in, values-same}
 use Rattle.rg_view.proofs.Callers.WriteLemmas.{written-there, written-beside, written-same}
 use Rattle.rg_machine.specs.Core.{Has, with_machine}
-use Rattle.rg_machine.specs.Parts.{Parts as Whole, core_of, machine_in, val_in}
+use Rattle.rg_machine.specs.Parts.{Parts as Whole, machine_in, val_in}
+use Rattle.rg_machine.specs.Cores.{core_of}
 use Rattle.rg_machine.specs.Stands.{AllLead, BeginsBehind, Leads, OpensLater, Stands}
 use Rattle.rg_machine.proofs.SlotLemmas.{set-get}
 

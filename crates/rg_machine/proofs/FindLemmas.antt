@@ -11,7 +11,7 @@ use Rattle.rg_cells.specs.Table.{Serials, body_at}
 use Rattle.rg_frames.specs.Stack.{Stack}
 use Rattle.rg_heap.specs.Answers.{Shows, fields_of, val_of}
 use Rattle.rg_heap.specs.Parts.{Parts as HeapParts}
-use Rattle.rg_held.specs.Frees.{gone}
+use Rattle.rg_held.specs.Gone.{gone}
 use Rattle.rg_held.specs.Shown.{Finds}
 use Rattle.rg_view.specs.View.{store_of}
 use Rattle.rg_machine.specs.Stands.{Stands}

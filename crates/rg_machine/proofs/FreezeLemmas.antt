@@ -22,7 +22,8 @@ use Rattle.rg_frames.specs.declared.rows.Window.{Window as WindowRow}
 use Rattle.rg_frames.specs.Stack.{Stack, IsTop, has_region}
 use Rattle.rg_stack.specs.Machine.{slot_at}
 use Rattle.rg_stack.specs.Effects.{beneath_by_labels}
-use Rattle.rg_stack.specs.Needs.{is_open, owned_once, owns_or_nil}
+use Rattle.rg_stack.specs.Needs.{owned_once, owns_or_nil}
+use Rattle.rg_stack.specs.Labels.{is_open}
 use Rattle.rg_heap.specs.Parts.{Parts}
 use Rattle.rg_heap.specs.Answers.{val_of, IsClosed}
 use Rattle.rg_heap.specs.Moves.{CanMove, Freezes, Merges, NotBeneath}

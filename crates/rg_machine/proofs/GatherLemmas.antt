@@ -42,7 +42,7 @@ use Rattle.rg_view.proofs.Callers.ManagerLemmas.{look-number, manager-of, manage
 use Rattle.rg_view.proofs.Callers.ShownLemmas.{field-in, frames-same, get-drop, get-take, held-body, object-same}
 use Rattle.rg_view.proofs.Callers.TableLemmas.{FewerNumbers, fewer-numbers, kept-windows}
 use Rattle.rg_view.proofs.Callers.WindowLemmas.{top-window}
-use Rattle.rg_held.specs.Frees.{gone}
+use Rattle.rg_held.specs.Gone.{gone}
 use Rattle.rg_held.specs.Gather.{Gathered, Keeps, KeepsOf, LinkOut, Loses, bridge_value, first}
 use Rattle.rg_held.specs.Gather.{further as later}
 use Rattle.rg_held.proofs.Lists.{reverse-back as reverse-get}

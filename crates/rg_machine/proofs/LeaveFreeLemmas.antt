@@ -23,7 +23,8 @@ use Rattle.rg_heap.specs.Answers.{val_of}
 use Rattle.rg_heap.specs.Ends.{IsTopTemp}
 use Rattle.rg_stack.specs.Machine.{Frame, Machine}
 use Rattle.rg_stack.specs.Effects.{top_window}
-use Rattle.rg_stack.specs.Needs.{has_window, is_to_temp, is_top_temp, outlives, temps_may_go}
+use Rattle.rg_stack.specs.Needs.{is_to_temp, is_top_temp, outlives, temps_may_go}
+use Rattle.rg_stack.specs.Labels.{has_window}
 use Rattle.rg_held.specs.Frees.{bury}
 use Rattle.rg_view.specs.Lain.{Nested}
 use Rattle.rg_view.specs.View.{machine_of, object_of, store_of, windows_of}

@@ -19,7 +19,8 @@ use Rattle.rg_view.proofs.Callers.TempLemmas.{top-row}
 use Rattle.rg_machine.specs.Core.{Core, Has, work_of}
 use Rattle.rg_machine.specs.Effects.{ending, without}
 use Rattle.rg_machine.specs.Keeps.{backs}
-use Rattle.rg_machine.specs.Parts.{Parts, core_of, machine_in}
+use Rattle.rg_machine.specs.Parts.{Parts, machine_in}
+use Rattle.rg_machine.specs.Cores.{core_of}
 use Rattle.rg_machine.specs.Stands.{Stands}
 use Rattle.rg_machine.proofs.FewerLemmas.{fewer-ended, fewer-once, fewer-without}
 use Rattle.rg_machine.proofs.LeaveBehindLemmas.{number}

@@ -20,7 +20,8 @@ use Rattle.rg_regions.specs.Grove.{Grove, Parent, Above, direct, further}
 use Rattle.rg_frames.specs.declared.rows.Window.{Window as WindowRow}
 use Rattle.rg_frames.specs.Stack.{Stack, IsTop, MarksLie, closed, mark, without_temps}
 use Rattle.rg_stack.specs.Effects.{beneath_by_labels}
-use Rattle.rg_stack.specs.Needs.{is_open, owned_once}
+use Rattle.rg_stack.specs.Needs.{owned_once}
+use Rattle.rg_stack.specs.Labels.{is_open}
 use Rattle.rg_heap.specs.Parts.{Parts}
 use Rattle.rg_heap.specs.Answers.{IsClosed}
 use Rattle.rg_heap.specs.Ends.{Released, GoesAlong, IsTopTemp}

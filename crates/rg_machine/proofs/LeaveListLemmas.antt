@@ -14,8 +14,10 @@ use Rattle.rg_rules.specs.Regions.{address, among, in_regions, region_at, region
 use Rattle.rg_sound.proofs.LocalRootsLemmas.{label-region}
 use Rattle.rg_stack.specs.Machine.{Machine, Window}
 use Rattle.rg_stack.specs.Effects.{top_window}
-use Rattle.rg_stack.specs.Needs.{closed_into, closed_of, is_open, is_top_temp, label_of}
-use Rattle.rg_held.specs.Frees.{gone, buried, bury, closed_among, closed_by_temps}
+use Rattle.rg_stack.specs.Needs.{closed_into, closed_of, is_top_temp}
+use Rattle.rg_stack.specs.Labels.{is_open, label_of}
+use Rattle.rg_held.specs.Frees.{buried, bury, closed_among, closed_by_temps}
+use Rattle.rg_held.specs.Gone.{gone}
 use Rattle.rg_view.specs.Links.{ByTemp, Link, Reached, first, next, Spans}
 use Rattle.rg_view.specs.Names.{Names}
 use Rattle.rg_view.proofs.Callers.KeyLemmas.{among-append}

@@ -28,7 +28,8 @@ use Rattle.rg_view.proofs.Callers.HeldLemmas.{region-below}
 use Rattle.rg_view.proofs.Callers.TempLemmas.{top-row}
 use Rattle.rg_machine.specs.Core.{Core, Has, work_of}
 use Rattle.rg_machine.specs.Effects.{ending}
-use Rattle.rg_machine.specs.Parts.{Parts, core_of, machine_in}
+use Rattle.rg_machine.specs.Parts.{Parts, machine_in}
+use Rattle.rg_machine.specs.Cores.{core_of}
 use Rattle.rg_machine.specs.Stands.{Stands}
 use Rattle.rg_machine.proofs.LeaveLemmas.{left}
 use Rattle.rg_machine.proofs.LeaveBehindLemmas.{behind-left, ends-behind, late, machine-left, number}

@@ -34,7 +34,7 @@ use Rattle.rg_view.proofs.Callers.MachineLemmas.{made-machine, opened-machine}
 use Rattle.rg_view.proofs.Callers.TableLemmas.{rewritten-numbers}
 use Rattle.rg_view.proofs.Callers.WindowLemmas.{active-region, active-number}
 use Rattle.rg_machine.specs.Core.{Core, with_machine, with_made}
-use Rattle.rg_machine.specs.Parts.{core_of}
+use Rattle.rg_machine.specs.Cores.{core_of}
 use Rattle.rg_machine.specs.Stands.{AllLead, Leads, Stands}
 use Rattle.rg_machine.proofs.GrowLemmas.{Grown, grown-stands, grown-more-lead}
 use Rattle.rg_machine.proofs.TempLemmas.{temp-on, temp-back, temp-new, temp-held}

@@ -17,7 +17,7 @@ use Rattle.rg_regions.specs.Grove.{Parent, Grove}
 use Rattle.rg_move.specs.Frozen.{labelled}
 use Rattle.rg_frames.specs.declared.rows.Window.{Window as WindowRow}
 use Rattle.rg_frames.specs.Stack.{Stack, with_slot}
-use Rattle.rg_stack.specs.Needs.{is_open}
+use Rattle.rg_stack.specs.Labels.{is_open}
 use Rattle.rg_heap.specs.Parts.{Parts}
 use Rattle.rg_heap.specs.Answers.{IsClosed}
 use Rattle.rg_heap.specs.Opened.{Opened, IsWindow, IsTempOf}

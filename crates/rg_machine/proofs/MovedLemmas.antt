@@ -39,7 +39,8 @@ use Rattle.rg_view.proofs.Callers.ForgetLemmas.{labelled-forgotten}
 use Rattle.rg_held.specs.Frees.{forgotten, free_act}
 use Rattle.rg_machine.specs.Core.{Core, Has, work_of}
 use Rattle.rg_machine.specs.Keeps.{backs}
-use Rattle.rg_machine.specs.Parts.{Parts as Whole, core_of, machine_in}
+use Rattle.rg_machine.specs.Parts.{Parts as Whole, machine_in}
+use Rattle.rg_machine.specs.Cores.{core_of}
 use Rattle.rg_machine.specs.Stands.{AllLead, Leads, Stands}
 use Rattle.rg_machine.proofs.MoveLemmas.{Moves, leads-moved, opened-moved, stands-moved}
 use Rattle.rg_machine.proofs.FreezeLemmas.{NoSlot, Owned, Owns, active, freeze-moves, frozen, held, merge-moves, no-object, shown}

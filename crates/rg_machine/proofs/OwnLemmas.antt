@@ -11,13 +11,15 @@ use Rattle.rg_code.specs.Code.{empty}
 use Rattle.rg_code.specs.declared.op.Op.TheVariants as i
 use Rattle.rg_held.specs.Frees.{free_act}
 use Rattle.rg_stack.specs.Machine.{Frame, Machine, place_of, put_slot, slot_at, top_slots, with_slots}
-use Rattle.rg_stack.specs.Needs.{is_empty, is_open_label, label_of, leads_open, loose, may_keep, owned_once, owns_or_nil, size_of, top_base}
+use Rattle.rg_stack.specs.Needs.{is_empty, is_open_label, leads_open, loose, may_keep, owned_once, owns_or_nil, size_of, top_base}
+use Rattle.rg_stack.specs.Labels.{label_of}
 use Rattle.rg_stack.proofs.Needs.ListLemmas.{empty-is}
 use Rattle.rg_machine.specs.declared.next.Next.TheVariants as next
 use Rattle.rg_machine.specs.Core.{ActIs, Core, Has, below_top, with_machine, with_top}
 use Rattle.rg_machine.specs.Effects.{AllLoose, without}
 use Rattle.rg_machine.specs.Keeps.{SameBacks, backs}
-use Rattle.rg_machine.specs.Parts.{Parts, core_of, val_in}
+use Rattle.rg_machine.specs.Parts.{Parts, val_in}
+use Rattle.rg_machine.specs.Cores.{core_of}
 use Rattle.rg_machine.specs.Stands.{Leads}
 use Rattle.rg_machine.proofs.DropLemmas.{Asked}
 use Rattle.rg_machine.proofs.FewerLemmas.{label-buried, regions-with, store-without}

@@ -31,7 +31,8 @@ use Rattle.rg_regions.proofs.Callers.Told.{labelled_held}
 use Rattle.rg_frames.specs.declared.rows.Frame.{Frame as FrameRow}
 use Rattle.rg_frames.specs.declared.rows.Window.{Window as WindowRow}
 use Rattle.rg_stack.specs.Machine.{Frame, Machine}
-use Rattle.rg_stack.specs.Needs.{is_open, is_into, is_outside, label_of, slots_into, owned_once}
+use Rattle.rg_stack.specs.Needs.{slots_into, owned_once}
+use Rattle.rg_stack.specs.Labels.{is_open, is_into, is_outside, label_of}
 use Rattle.rg_stack.specs.Shows.{Shows}
 use Rattle.rg_heap.specs.Answers.{val_of, IsClosed}
 use Rattle.rg_heap.specs.Opened.{IsWindow}

@@ -17,14 +17,15 @@ use Rattle.rg_cells.specs.declared.cell.Body.{Body}
 use Rattle.rg_cells.specs.Table.{Serials}
 use Rattle.rg_frames.specs.Stack.{Stack}
 use Rattle.rg_stack.specs.Machine.{Machine, Window}
-use Rattle.rg_stack.specs.Needs.{is_open, owned_once}
+use Rattle.rg_stack.specs.Needs.{owned_once}
+use Rattle.rg_stack.specs.Labels.{is_open}
 use Rattle.rg_stack.specs.Shows.{Shows}
 use Rattle.rg_stack.proofs.Needs.OnceLemmas.{owned_once-fits}
 use Rattle.rg_heap.specs.Parts.{Parts}
 use Rattle.rg_view.specs.View.{object_of, store_of}
 use Rattle.rg_view.proofs.Callers.LinkLemmas.{store-back}
 use Rattle.rg_view.proofs.Callers.LookLemmas.{store-held}
-use Rattle.rg_held.specs.Frees.{gone}
+use Rattle.rg_held.specs.Gone.{gone}
 use Rattle.rg_held.specs.Part.{Differ, OwnerHeld, OwnersHeld, Part, is_of}
 use Rattle.rg_held.proofs.Callers.NeedLemmas.{needs-same}
 use Rattle.rg_held.proofs.Gather.Told.{held-as, part-as}

@@ -26,7 +26,7 @@ use Rattle.rg_regions.specs.Reach.{LiesIn}
 use Rattle.rg_frames.specs.declared.rows.Window.{Window as WindowRow}
 use Rattle.rg_frames.specs.Stack.{Stack}
 use Rattle.rg_stack.specs.Machine.{Frame, Machine, Window}
-use Rattle.rg_stack.specs.Needs.{has_window}
+use Rattle.rg_stack.specs.Labels.{has_window}
 use Rattle.rg_stack.specs.Shows.{Shows, ShowsFrames, ShowsWindows, place_among, sizes_of}
 use Rattle.rg_heap.specs.Parts.{Parts}
 use Rattle.rg_view.specs.View.{frames_of, machine_of, number_in, object_of, window_of, windows_of}

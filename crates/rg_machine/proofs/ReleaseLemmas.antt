@@ -26,7 +26,8 @@ use Rattle.rg_frames.specs.declared.rows.Window.{Window as WindowRow}
 use Rattle.rg_frames.specs.Stack.{Stack}
 use Rattle.rg_stack.specs.Machine.{Frame, Machine}
 use Rattle.rg_stack.specs.Effects.{beneath_by_labels}
-use Rattle.rg_stack.specs.Needs.{is_open, is_into, slots_into, fields_into, places_into, owned_once, loose, closed_into}
+use Rattle.rg_stack.specs.Needs.{slots_into, fields_into, places_into, owned_once, loose, closed_into}
+use Rattle.rg_stack.specs.Labels.{is_open, is_into}
 use Rattle.rg_heap.specs.Parts.{Parts}
 use Rattle.rg_heap.specs.Answers.{val_of, IsClosed}
 use Rattle.rg_heap.specs.Ends.{Released, NoCell}

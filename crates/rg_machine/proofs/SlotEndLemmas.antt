@@ -12,13 +12,15 @@ use Rattle.rg_rules.specs.Regions.{address, region_of, region_at}
 use Rattle.rg_cells.specs.Table.{Serials}
 use Rattle.rg_regions.specs.Grove.{Grove}
 use Rattle.rg_stack.specs.Machine.{Machine, slot_at, put_slot, top_slots, place_of}
-use Rattle.rg_stack.specs.Needs.{closed_into, is_into, loose, may_keep, owned_once, top_base}
+use Rattle.rg_stack.specs.Needs.{closed_into, loose, may_keep, owned_once, top_base}
+use Rattle.rg_stack.specs.Labels.{is_into}
 use Rattle.rg_stack.proofs.Walks.NeedLemmas.{closed-counts}
 use Rattle.rg_view.proofs.Callers.HeldLemmas.{region-below}
 use Rattle.rg_machine.specs.Core.{Core, with_machine}
 use Rattle.rg_machine.specs.Effects.{AllLoose, Apart, without}
 use Rattle.rg_machine.specs.Keeps.{backs}
-use Rattle.rg_machine.specs.Parts.{Parts, core_of, machine_in, val_in}
+use Rattle.rg_machine.specs.Parts.{Parts, machine_in, val_in}
+use Rattle.rg_machine.specs.Cores.{core_of}
 use Rattle.rg_machine.specs.Stands.{Leads, Stands}
 use Rattle.rg_machine.proofs.DropLemmas.{Asked}
 use Rattle.rg_machine.proofs.FewerLemmas.{closed-back, fewer-loose, fewer-nil, loose-none, once-nil, weight}

@@ -15,7 +15,8 @@ use Rattle.rg_regions.specs.Reach.{LiesIn}
 use Rattle.rg_regions.specs.Grove.{Grove}
 use Rattle.rg_frames.specs.Stack.{Stack, BasesRise, with_slot}
 use Rattle.rg_stack.specs.Machine.{Frame, Machine, place_of, put_slot, with_slots}
-use Rattle.rg_stack.specs.Needs.{is_open, is_open_label, leads_open, may_keep, top_base}
+use Rattle.rg_stack.specs.Needs.{is_open_label, leads_open, may_keep, top_base}
+use Rattle.rg_stack.specs.Labels.{is_open}
 use Rattle.rg_heap.specs.Parts.{Parts}
 use Rattle.rg_heap.specs.Answers.{val_of}
 use Rattle.rg_view.specs.Lain.{Nested}
@@ -26,7 +27,8 @@ use Rattle.rg_view.proofs.Callers.NeedLemmas.{keyed}
 use Rattle.rg_view.proofs.Callers.WindowLemmas.{top-window}
 use Rattle.rg_machine.specs.Core.{with_machine}
 use Rattle.rg_machine.specs.Keeps.{backs}
-use Rattle.rg_machine.specs.Parts.{Parts as Whole, core_of, machine_in, val_in}
+use Rattle.rg_machine.specs.Parts.{Parts as Whole, machine_in, val_in}
+use Rattle.rg_machine.specs.Cores.{core_of}
 use Rattle.rg_machine.specs.Stands.{AllLead, BeginsBehind, Leads, Stands}
 
 -- what stands at a place of a list that is written: it was written there, or stood there before

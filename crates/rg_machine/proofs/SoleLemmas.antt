@@ -21,7 +21,8 @@ use Rattle.rg_frames.specs.declared.rows.Frame.{Frame as FrameRow}
 use Rattle.rg_frames.specs.declared.rows.Window.{Window as WindowRow}
 use Rattle.rg_frames.specs.Stack.{Stack}
 use Rattle.rg_stack.specs.Machine.{Frame, Window}
-use Rattle.rg_stack.specs.Needs.{is_open, is_into, is_outside, has_window, slots_into, fields_into, places_into, owned_once}
+use Rattle.rg_stack.specs.Needs.{slots_into, fields_into, places_into, owned_once}
+use Rattle.rg_stack.specs.Labels.{is_open, is_into, is_outside, has_window}
 use Rattle.rg_heap.specs.Parts.{Parts}
 use Rattle.rg_heap.specs.Answers.{val_of, IsClosed}
 use Rattle.rg_heap.specs.Opened.{Opened, IsWindow}

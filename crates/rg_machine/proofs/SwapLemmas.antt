@@ -42,7 +42,8 @@ use Rattle.rg_view.proofs.Callers.ShownLemmas.{held-body}
 use Rattle.rg_view.proofs.Callers.WriteLemmas.{written-val}
 use Rattle.rg_machine.specs.Core.{ActIs, Core, Has, with_machine, work_of}
 use Rattle.rg_machine.specs.Keeps.{backs}
-use Rattle.rg_machine.specs.Parts.{Parts as Whole, core_of, machine_in, val_in}
+use Rattle.rg_machine.specs.Parts.{Parts as Whole, machine_in, val_in}
+use Rattle.rg_machine.specs.Cores.{core_of}
 use Rattle.rg_machine.specs.Stands.{AllLead, Leads, Stands}
 use Rattle.rg_machine.specs.declared.next.Next.TheVariants as next
 use Rattle.rg_machine.proofs.SlotLemmas.{core-slot, lead-slot, put-backs, stands-word}

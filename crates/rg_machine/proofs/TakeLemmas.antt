@@ -26,7 +26,8 @@ use Rattle.rg_machine.specs.declared.next.Next.TheVariants as next
 use Rattle.rg_machine.specs.Core.{ActIs, Core, with_machine}
 use Rattle.rg_machine.specs.Effects.{AllLoose, ending, without}
 use Rattle.rg_machine.specs.Keeps.{backs}
-use Rattle.rg_machine.specs.Parts.{Parts, core_of, machine_in, val_in}
+use Rattle.rg_machine.specs.Parts.{Parts, machine_in, val_in}
+use Rattle.rg_machine.specs.Cores.{core_of}
 use Rattle.rg_machine.specs.Stands.{AllLead, Leads, Stands}
 use Rattle.rg_machine.proofs.DropLemmas.{Asked, core-same}
 use Rattle.rg_machine.proofs.EndingLemmas.{ended-more, ended-none, ending-none, nil-again}

@@ -9,3 +9,4 @@ pub mod Collects
 pub mod Owned
 pub mod Active
 pub mod High
+pub mod Cores

@@ -8,8 +8,7 @@ use Rattle.rg_frames.specs.Stack.{Stack}
 use Rattle.rg_heap.specs.Parts.{Parts as HeapParts}
 use Rattle.rg_heap.specs.Answers.{val_of}
 use Rattle.rg_stack.specs.Machine.{Machine}
-use Rattle.rg_view.specs.View.{machine_of, values_of}
-use Rattle.rg_machine.specs.Core.{Core}
+use Rattle.rg_view.specs.View.{machine_of}
 
 -- cells and regions; frames, windows and temporaries; the words on the stack, the topmost last; the address of the next step's mark; and what
 -- the step has printed
@@ -27,9 +26,6 @@ machine_in p = machine_of p.heap p.frames p.at
 -- the value that a word shows
 abbrev pub val_in : Parts → Word → Val
 val_in p w = val_of p.heap.cells.heap w
-
-abbrev pub core_of : Parts → Core
-core_of p = record { machine = machine_in p; stack = values_of p.heap.cells.heap p.words; printed = p.printed }
 
 -- a word more on the stack
 abbrev pub with_word : Parts → Word → Parts

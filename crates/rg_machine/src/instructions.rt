@@ -10,7 +10,8 @@ ghost use Rattle.rg_stack.specs.Refusals.{Computes, Takes, manner};
 ghost use Rattle.rg_machine.specs.Keeps.{Keeping, asking};
 ghost use Rattle.rg_machine.specs.High.{Making, making};
 ghost use Rattle.rg_machine.specs.Core.{ActIs, Given};
-ghost use Rattle.rg_machine.specs.Parts.{core_of, machine_in};
+ghost use Rattle.rg_machine.specs.Parts.{machine_in};
+ghost use Rattle.rg_machine.specs.Cores.{core_of};
 
 use crate::creating::{new, new_iso, new_temp};
 use crate::jumps::{and, jump_false, or};

@@ -7,7 +7,8 @@ ghost use Rattle.rg_stack.specs.Effects.{on_top};
 ghost use Rattle.rg_stack.specs.Refusals.{Chooses, Passes};
 ghost use Rattle.rg_machine.specs.Keeps.{Keeping};
 ghost use Rattle.rg_machine.specs.High.{Making};
-ghost use Rattle.rg_machine.specs.Parts.{core_of, machine_in};
+ghost use Rattle.rg_machine.specs.Parts.{machine_in};
+ghost use Rattle.rg_machine.specs.Cores.{core_of};
 ghost use Rattle.rg_machine.specs.Core.{ActIs, Has};
 
 use crate::machine::Machine;

@@ -16,7 +16,8 @@ ghost use Rattle.rg_stack.specs.Machine.{put_slot, slot_at};
 ghost use Rattle.rg_stack.specs.Effects.{frame_number};
 ghost use Rattle.rg_machine.specs.Core.{Has, below_top, started, with_machine, with_top};
 ghost use Rattle.rg_machine.specs.Keeps.{GoesBack, SameBacks};
-ghost use Rattle.rg_machine.specs.Parts.{SameStore, core_of, machine_in, opening, val_in};
+ghost use Rattle.rg_machine.specs.Parts.{SameStore, machine_in, opening, val_in};
+ghost use Rattle.rg_machine.specs.Cores.{core_of};
 ghost use Rattle.rg_machine.specs.Parts.{with_word};
 ghost use Rattle.rg_machine.specs.Stands.{Leads};
 

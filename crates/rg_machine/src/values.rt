@@ -9,7 +9,8 @@ ghost use Rattle.rg_stack.specs.Refusals.{Computes};
 ghost use Rattle.rg_machine.specs.Keeps.{Keeping};
 ghost use Rattle.rg_machine.specs.High.{Making};
 ghost use Rattle.rg_machine.specs.Core.{ActIs};
-ghost use Rattle.rg_machine.specs.Parts.{core_of, machine_in};
+ghost use Rattle.rg_machine.specs.Parts.{machine_in};
+ghost use Rattle.rg_machine.specs.Cores.{core_of};
 
 use crate::machine::Machine;
 use crate::next::Next;

@@ -9,7 +9,8 @@ ghost use Rattle.rg_stack.specs.Refusals.{Calls, Clears, Computes, Settles};
 ghost use Rattle.rg_machine.specs.Keeps.{Keeping};
 ghost use Rattle.rg_machine.specs.High.{Making};
 ghost use Rattle.rg_machine.specs.Core.{ActIs, Given, Has};
-ghost use Rattle.rg_machine.specs.Parts.{core_of, machine_in};
+ghost use Rattle.rg_machine.specs.Parts.{machine_in};
+ghost use Rattle.rg_machine.specs.Cores.{core_of};
 ghost use Rattle.rg_code.specs.declared.op.Op.TheVariants as i;
 
 use crate::machine::Machine;

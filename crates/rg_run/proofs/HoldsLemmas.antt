@@ -29,11 +29,11 @@ use Rattle.rg_sound.proofs.Owners.OwnerLemmas.{frame_at-top, frame_at-lower}
 use Rattle.rg_sound.proofs.Stores.MemberLemmas.{In, in-among, not-among, counted, counted-most, counted-rises}
 use Rattle.rg_code.specs.Code.{Code}
 use Rattle.rg_stack.specs.Machine.{Frame, Machine}
-use Rattle.rg_stack.specs.Needs.{is_open}
+use Rattle.rg_stack.specs.Labels.{is_open}
 use Rattle.rg_stack.specs.Shows.{Shows, ShowsFrame, ShowsFrames, sizes_of}
 use Rattle.rg_stack.proofs.Needs.LeadLemmas.{ShowsFit, LeadsInto, into-leads, shown-closed, open-shown, shown-number}
 use Rattle.rg_stack.proofs.Needs.LeadLemmas.{frame-leads, leads-more, field-leads}
-use Rattle.rg_held.specs.Frees.{gone}
+use Rattle.rg_held.specs.Gone.{gone}
 use Rattle.rg_held.specs.Part.{leads_to, SlotInto, FieldInto, Placed, Part}
 use Rattle.rg_held.specs.Shown.{ShowsHeld}
 use Rattle.rg_machine.specs.Parts.{machine_in}

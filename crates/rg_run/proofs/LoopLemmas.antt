@@ -20,7 +20,8 @@ use Rattle.rg_stack.specs.Machine.{Machine}
 use Rattle.rg_machine.specs.Parts.{machine_in}
 use Rattle.rg_step.specs.Collections.{Asks}
 use Rattle.rg_step.specs.States.{Chain, OneStep, Standing}
-use Rattle.rg_step.specs.Steps.{Leapt, Runs, Stepping, StepsOn, counted_by}
+use Rattle.rg_step.specs.Steps.{Leapt, Runs, StepsOn, counted_by}
+use Rattle.rg_step.specs.Stepping.{Stepping}
 use Rattle.rg_base.specs.declared.event.Event.{Event}
 use Rattle.rg_run.specs.Asked.{AskedOver}
 use Rattle.rg_run.specs.Collected.{Tells}

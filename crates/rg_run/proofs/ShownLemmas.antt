@@ -11,7 +11,7 @@ use Rattle.rg_sound.specs.Fit.{Fit}
 use Rattle.rg_sound.specs.Held.{HoldsLabel, IsHeld}
 use Rattle.rg_sound.proofs.Stores.MemberLemmas.{among-in}
 use Rattle.rg_sound.proofs.LocalRootsLemmas.{in-number}
-use Rattle.rg_held.specs.Frees.{gone}
+use Rattle.rg_held.specs.Gone.{gone}
 use Rattle.rg_run.specs.Machine.{Kept, IsShown}
 use Rattle.rg_run.specs.Sound.{HoldsOf}
 

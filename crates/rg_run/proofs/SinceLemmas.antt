@@ -10,8 +10,9 @@ use Rattle.rg_base.specs.declared.words.Manager.TheVariants.{Count, Trace}
 use Rattle.rg_pace.specs.Asked.{one_more}
 use Rattle.rg_rules.specs.Asks.{asks, asks_then}
 use Rattle.rg_tree.specs.Tree.{Tree}
-use Rattle.rg_step.specs.Asking.{paced_by, raised, since_behind}
-use Rattle.rg_step.specs.Steps.{Stepping}
+use Rattle.rg_step.specs.Asking.{since_behind}
+use Rattle.rg_step.specs.Yeses.{paced_by, raised}
+use Rattle.rg_step.specs.Stepping.{Stepping}
 use Rattle.rg_run.specs.Asked.{last_behind, last_yes, later_than}
 use Rattle.rg_run.specs.Inner.{OneMore}
 

@@ -17,9 +17,11 @@ use Rattle.rg_rules.specs.Runs.{opening, plain_from}
 use Rattle.rg_code.specs.Code.{Code}
 use Rattle.rg_code.specs.Dues.{due_at}
 use Rattle.rg_machine.specs.Parts.{machine_in}
-use Rattle.rg_step.specs.Asking.{SinceFrom, asks_at, paced_by, since_behind}
+use Rattle.rg_step.specs.Asking.{SinceFrom, asks_at, since_behind}
+use Rattle.rg_step.specs.Yeses.{paced_by}
 use Rattle.rg_step.specs.States.{OneStep, Standing}
-use Rattle.rg_step.specs.Steps.{Leapt, Since, Stepping, counted, counted_by}
+use Rattle.rg_step.specs.Steps.{Leapt, counted, counted_by}
+use Rattle.rg_step.specs.Stepping.{Since, Stepping}
 use Rattle.rg_run.specs.Asked.{last_yes}
 use Rattle.rg_run.specs.Inner.{Adds, OneMore, behind}
 use Rattle.rg_run.proofs.AskLemmas.{asks-leapt, asks-next, at}

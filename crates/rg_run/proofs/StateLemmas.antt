@@ -7,7 +7,8 @@ use Rattle.rg_code.specs.Code.{Code}
 use Rattle.rg_machine.specs.Parts.{Parts}
 use Rattle.rg_step.specs.Collections.{Asks}
 use Rattle.rg_step.specs.States.{Chain, OneStep, Opens, Standing}
-use Rattle.rg_step.specs.Steps.{Stepping, fresh, is_made}
+use Rattle.rg_step.specs.Steps.{is_made}
+use Rattle.rg_step.specs.Stepping.{Stepping, fresh}
 use Rattle.rg_step.proofs.ChainLemmas.{chain-none, chain-one, chain-then}
 use Rattle.rg_run.specs.Inner.{IsUntold}
 use Rattle.rg_run.specs.Machine.{Kept}

@@ -37,7 +37,8 @@ use Rattle.rg_stack.proofs.Callers.RunLemmas.{opening_left}
 use Rattle.rg_held.specs.Shown.{ShowsHeld}
 use Rattle.rg_held.proofs.Callers.OpeningLemmas.{opening-match}
 use Rattle.rg_machine.specs.Parts.{machine_in}
-use Rattle.rg_step.specs.Steps.{Stepping, opening_machine}
+use Rattle.rg_step.specs.Steps.{opening_machine}
+use Rattle.rg_step.specs.Stepping.{Stepping}
 use Rattle.rg_step.specs.Steps.{Leapt, Runs, IsRunning, StepsOn}
 use Rattle.rg_step.specs.Steps as stepper
 use Rattle.rg_step.specs.Collections.{Asks}

@@ -7,11 +7,11 @@ use Rattle.rg_tree.specs.Rows.RowTrees.{classes_of, program_of}
 use Rattle.rg_rules.specs.State.{State}
 use Rattle.rg_code.specs.Code.{Code}
 use Rattle.rg_code.specs.Lowering.{Lowers}
-use Rattle.rg_held.specs.Frees.{gone}
+use Rattle.rg_held.specs.Gone.{gone}
 use Rattle.rg_held.specs.Shown.{ShowsHeld}
 use Rattle.rg_machine.specs.Parts.{machine_in}
-use Rattle.rg_step.specs.Steps.{Stepping}
-use Rattle.rg_step.specs.Steps as stepper
+use Rattle.rg_step.specs.Stepping.{Stepping}
+use Rattle.rg_step.specs.Stepping as stepper
 
 -- whether a run has begun, the stack machine, and the whole steps that it made
 pub record Kept : Type 0 where

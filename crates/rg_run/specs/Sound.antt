@@ -11,7 +11,7 @@ use Rattle.rg_rules.specs.Runs.{plain}
 use Rattle.rg_sound.specs.Fit.{Fit}
 use Rattle.rg_sound.specs.Held.{IsHeld, NoneStale, LiveFit}
 use Rattle.rg_sound.specs.Writes.{Allowed}
-use Rattle.rg_held.specs.Frees.{gone}
+use Rattle.rg_held.specs.Gone.{gone}
 use Rattle.rg_machine.specs.Parts.{machine_in}
 use Rattle.rg_run.specs.Collected.{Tells}
 use Rattle.rg_run.specs.Machine.{Kept, Shows, object_at}

@@ -8,7 +8,7 @@ use Rattle.rg_code.specs.Code.{Code}
 use Rattle.rg_machine.specs.Parts.{Parts}
 use Rattle.rg_step.specs.Collections.{Asks}
 use Rattle.rg_step.specs.States.{Chain, OneStep, Opens, Standing}
-use Rattle.rg_step.specs.Steps.{fresh}
+use Rattle.rg_step.specs.Stepping.{fresh}
 use Rattle.rg_run.specs.Machine.{Kept}
 
 -- How a run leaves the stepper: at the last state of its whole steps, or at what a step left behind that one which was refused.

@@ -5,7 +5,7 @@ ghost use Rattle.rg_tree.specs.Rows.RowTrees.{program_of};
 ghost use Rattle.rg_code.specs.Lowering.{Lowers};
 ghost use Rattle.rg_io.specs.Content.{Rose};
 ghost use Rattle.rg_input.specs.Numbers.{Follows, OnInput};
-ghost use Rattle.rg_step.specs.Steps.{IsFresh as IsAtStart};
+ghost use Rattle.rg_step.specs.Stepping.{IsFresh as IsAtStart};
 ghost use Rattle.rg_run.specs.Inner.{kept_of};
 ghost use Rattle.rg_step.specs.Asking.{YesesTold};
 ghost use Rattle.rg_run.specs.Machine.{IsFresh};

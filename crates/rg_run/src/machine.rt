@@ -32,7 +32,7 @@ pub struct Machine {
 
 impl Model for Machine {
     ghost use Rattle.std.specs.Prelude.{◌≡◌, false};
-    ghost use Rattle.rg_step.specs.Steps.{IsFresh as IsAtStart};
+    ghost use Rattle.rg_step.specs.Stepping.{IsFresh as IsAtStart};
     ghost use Rattle.rg_run.specs.Machine.{Kept};
 
     ghost Value = { Kept };

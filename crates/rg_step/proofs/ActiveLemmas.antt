@@ -29,7 +29,7 @@ use Rattle.rg_machine.proofs.ActiveLemmas.{on-each}
 use Rattle.rg_machine.specs.Parts.{Parts, machine_in}
 use Rattle.rg_machine.specs.Stands.{Stands}
 use Rattle.rg_step.specs.Collections.{CollectsTop, IsCollected}
-use Rattle.rg_step.specs.Steps.{Stepping}
+use Rattle.rg_step.specs.Stepping.{Stepping}
 
 -- What is told of a collection
 

@@ -12,9 +12,10 @@ use Rattle.rg_regions.specs.Reach.{LiesIn}
 use Rattle.rg_regions.specs.Table.{InTable, Record, record_at}
 use Rattle.rg_regions.proofs.Callers.Told.{labelled_held}
 use Rattle.rg_stack.specs.Machine.{Machine}
-use Rattle.rg_stack.specs.Needs.{is_open}
+use Rattle.rg_stack.specs.Labels.{is_open}
 use Rattle.rg_stack.specs.Refusals.{Orderly}
-use Rattle.rg_held.specs.Frees.{gone, free_step as step}
+use Rattle.rg_held.specs.Frees.{free_step as step}
+use Rattle.rg_held.specs.Gone.{gone}
 use Rattle.rg_held.specs.Freed.{FreesOnly as StoreFrees, RegionEnded, StepFrees}
 use Rattle.rg_held.proofs.Callers.FreedLemmas.{steps-free}
 use Rattle.rg_held.proofs.Callers.GoneLemmas.{StaysGone as StoreStays, StepStays, step-stays}

@@ -3,7 +3,8 @@ use Rattle.std.proofs.Common.{◌≡◌, Option, Some, None, sym, ap, ◌∙◌,
 use Rattle.rg_machine.specs.Parts.{Parts}
 use Rattle.rg_step.specs.declared.kept.Kept.{Kept}
 use Rattle.rg_step.specs.Inner.Held.{parts_of, stepping}
-use Rattle.rg_step.specs.Steps.{IsResting, Stepping, nothing}
+use Rattle.rg_step.specs.Steps.{IsResting}
+use Rattle.rg_step.specs.Stepping.{Stepping, nothing}
 
 pub shows-some : (o : Option Parts) (p : Parts) (k : Kept) (s : Stepping) → o ≡ Some p → stepping (parts_of o) k ≡ s → stepping p k ≡ s
 shows-some o p k s e is = ap (λ q. stepping (parts_of q) k) (sym e) ∙ is

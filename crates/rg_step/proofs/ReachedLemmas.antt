@@ -29,7 +29,8 @@ use Rattle.rg_machine.proofs.ReachLemmas.{kept-traced}
 use Rattle.rg_machine.proofs.SlidReachLemmas.{slid-traced}
 use Rattle.rg_step.specs.Collections.{Asks, CollectsAsked, CollectsOn, CollectsTop, IsCollected, IsLeft, KeepsReached, Paces, ReachesOn, Serves}
 use Rattle.rg_step.specs.Collections.{event_of}
-use Rattle.rg_step.specs.Steps.{Stepping, StepsOn, is_made}
+use Rattle.rg_step.specs.Steps.{StepsOn, is_made}
+use Rattle.rg_step.specs.Stepping.{Stepping}
 use Rattle.rg_step.proofs.ServeLemmas.{fits-behind, made-went}
 
 -- Events

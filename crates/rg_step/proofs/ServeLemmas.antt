@@ -38,7 +38,8 @@ use Rattle.rg_machine.proofs.ActiveLemmas.{on-each}
 use Rattle.rg_machine.proofs.PartLemmas.{gathers-part, gone-shown, held-shown, once-held, slides-part}
 use Rattle.rg_step.specs.Collections.{Asks, CollectsAsked, CollectsOn, CollectsTop, ForActive, GathersBy, IsLeft, IsRefused, Paces, Serves, ServesBy}
 use Rattle.rg_step.specs.Collections.{Unasked}
-use Rattle.rg_step.specs.Steps.{IsRunning, Runs, Settles, Stepping, StepsOn, is_made}
+use Rattle.rg_step.specs.Steps.{IsRunning, Runs, Settles, StepsOn, is_made}
+use Rattle.rg_step.specs.Stepping.{Stepping}
 use Rattle.rg_step.proofs.RunLemmas.{with-input}
 
 -- Behind a step that was made

@@ -21,9 +21,11 @@ use Rattle.rg_stack.proofs.Basics.{and-right}
 use Rattle.rg_machine.specs.Active.{IsActive}
 use Rattle.rg_machine.specs.Parts.{Parts, machine_in}
 use Rattle.rg_machine.specs.Stands.{Stands}
-use Rattle.rg_step.specs.Asking.{SinceFrom, SinceOn, asks_at, first_makes, paced_by, since_behind}
+use Rattle.rg_step.specs.Asking.{SinceFrom, SinceOn, asks_at, first_makes, since_behind}
+use Rattle.rg_step.specs.Yeses.{paced_by}
 use Rattle.rg_step.specs.Collections.{Asks, CollectsAsked, CollectsOn, Paces, Serves, since_then}
-use Rattle.rg_step.specs.Steps.{Runs, Since, Stepping, StepsOn, is_made}
+use Rattle.rg_step.specs.Steps.{Runs, StepsOn, is_made}
+use Rattle.rg_step.specs.Stepping.{Since, Stepping}
 use Rattle.rg_step.proofs.ActiveLemmas.{collected-manager}
 use Rattle.rg_step.proofs.AskedLemmas.{makes-due, paced-in}
 

@@ -11,7 +11,7 @@ use Rattle.rg_heap.specs.Slides.{Slides, SlidesBy}
 use Rattle.rg_machine.specs.Active.{OnActive}
 use Rattle.rg_machine.specs.Parts.{Parts}
 use Rattle.rg_step.specs.Collections.{Asks, CollectsTop, Serves, SlidesAsked, event_of}
-use Rattle.rg_step.specs.Steps.{Stepping}
+use Rattle.rg_step.specs.Stepping.{Stepping}
 use Rattle.rg_step.proofs.ReachedLemmas.{last-is, longer, serves-told}
 
 -- where nothing was told, nothing is said

@@ -22,7 +22,8 @@ use Rattle.rg_machine.specs.Active.{IsActive}
 use Rattle.rg_machine.specs.Parts.{Parts, machine_in}
 use Rattle.rg_step.specs.Collections.{Asks, CollectsAsked, IsCollected, Serves, ServesBy, event_of}
 use Rattle.rg_step.specs.States.{OneStep, Standing}
-use Rattle.rg_step.specs.Steps.{Runs, Stepping, is_made}
+use Rattle.rg_step.specs.Steps.{Runs, is_made}
+use Rattle.rg_step.specs.Stepping.{Stepping}
 use Rattle.rg_step.proofs.ActiveLemmas.{collected-manager, collected-region, shown-manager, shown-region}
 use Rattle.rg_step.proofs.ReachedLemmas.{last-is, longer, serves-told, went-is}
 use Rattle.rg_step.proofs.ServeLemmas.{made-went}

@@ -5,7 +5,8 @@ use Rattle.rg_code.specs.declared.op.Op.{Op}
 use Rattle.rg_stack.specs.Machine.{Machine}
 use Rattle.rg_heap.specs.Parts.{Parts as HeapParts}
 use Rattle.rg_machine.specs.Keeps.{SameBacks}
-use Rattle.rg_machine.specs.Parts.{Parts, core_of, machine_in}
+use Rattle.rg_machine.specs.Parts.{Parts, machine_in}
+use Rattle.rg_machine.specs.Cores.{core_of}
 use Rattle.rg_step.specs.Inner.High.{MayMake}
 use Rattle.rg_step.specs.Inner.Refusals.{Stands}
 use Rattle.rg_step.specs.Inner.Simple.{Done}

@@ -14,7 +14,7 @@ use Rattle.rg_code.specs.Code.{Code}
 use Rattle.rg_stack.specs.Machine.{Machine, Window}
 use Rattle.rg_stack.specs.Effects.{top_region, top_window}
 use Rattle.rg_stack.specs.Shows.{ShowsWindows}
-use Rattle.rg_held.specs.Frees.{gone}
+use Rattle.rg_held.specs.Gone.{gone}
 use Rattle.rg_held.specs.Shown.{ShowsHeld}
 use Rattle.rg_step.specs.Steps.{IsRunning, Settles, StepsOn}
 use Rattle.rg_step.specs.Writes.{WritesOnly}

@@ -10,9 +10,10 @@ use Rattle.rg_rules.specs.Asks.{paced_as}
 use Rattle.rg_pace.specs.Asked.{one_more}
 use Rattle.rg_machine.specs.Parts.{Parts}
 use Rattle.rg_machine.specs.Stands.{Stands}
-use Rattle.rg_step.specs.Asking.{YesesTold, is_paced, raised, raised_if}
+use Rattle.rg_step.specs.Asking.{YesesTold, raised_if}
+use Rattle.rg_step.specs.Yeses.{is_paced, raised}
 use Rattle.rg_step.specs.Collections.{Asks, CollectsAsked, CollectsOn, IsCollected, Paces, Serves, event_of}
-use Rattle.rg_step.specs.Steps.{Stepping}
+use Rattle.rg_step.specs.Stepping.{Stepping}
 use Rattle.rg_step.proofs.ActiveLemmas.{collected-manager}
 
 -- so many events stand behind the first ones, and the pacers said yes as often

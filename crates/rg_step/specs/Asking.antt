@@ -1,27 +1,22 @@
 -- How often steps ask the pacers, and how often these say yes (docs/architecture.md, "The stepper").
-use Rattle.std.specs.Prelude.{◌≡◌, ℕ, zero, suc, Bool as Truth, true, false, ◌&&◌, List, [], ◌∷◌, count_by}
+use Rattle.std.specs.Prelude.{◌≡◌, ℕ, Bool as Truth, true, false, ◌&&◌, List, [], ◌∷◌, count_by}
 use Rattle.std.specs.List.{list_any}
 use Rattle.rg_base.specs.declared.words.Manager.{Manager}
 use Rattle.rg_base.specs.declared.words.Manager.TheVariants.{Count, Trace}
-use Rattle.rg_base.specs.declared.event.Cause.{Cause}
-use Rattle.rg_base.specs.declared.event.Cause.TheVariants.{Asked, Paced}
 use Rattle.rg_base.specs.declared.event.Event.{Event}
 use Rattle.rg_base.specs.declared.outcome.Outcome.{Outcome}
 use Rattle.rg_base.specs.declared.outcome.Outcome.TheVariants as outcome
 use Rattle.rg_tree.specs.Tree.{Class, Tree}
-use Rattle.rg_rules.specs.Asks.{item_makes, is_managed, paced_as}
+use Rattle.rg_rules.specs.Asks.{item_makes, is_managed}
 use Rattle.rg_rules.specs.Items.{Item}
 use Rattle.rg_rules.specs.State.{State}
 use Rattle.rg_code.specs.Code.{Code}
 use Rattle.rg_stack.specs.Machine.{Machine}
 use Rattle.rg_pace.specs.Asked.{one_more}
 use Rattle.rg_step.specs.Collections.{Asks}
-use Rattle.rg_step.specs.Steps.{Runs, Since}
-
--- one more so often; the greatest u64 stays
-abbrev pub raised : (times : ℕ) → ℕ → ℕ
-raised zero n = n
-raised (suc k) n = one_more (raised k n)
+use Rattle.rg_step.specs.Steps.{Runs}
+use Rattle.rg_step.specs.Stepping.{Since}
+use Rattle.rg_step.specs.Yeses.{raised, paced_by}
 
 -- once, or not
 abbrev pub raised_if : Truth → ℕ → ℕ
@@ -48,14 +43,6 @@ AsksOn code old (outcome.Trap kind line) before after = after ≡ before
 AsksOn code old outcome.InputFault before after = after ≡ before
 AsksOn code old outcome.Memory before after = after ≡ before
 AsksOn code old result before after = (t : Tree) (s : State) → Runs t code old s → AsksFrom t.classes s before after
-
--- whether a collection was a pacer's of a manager
-abbrev pub is_paced : Cause → Truth
-is_paced Asked = false
-is_paced Paced = true
-
-abbrev pub paced_by : Manager → Event → Truth
-paced_by m e = is_paced e.cause && paced_as m e.manager
 
 -- the pacers said yes as often as there are collections of theirs behind the first ones
 pub record YesesTold (behind : List Event) (before after : Asks) : Type 0 where

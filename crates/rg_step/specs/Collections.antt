@@ -23,7 +23,8 @@ use Rattle.rg_pace.specs.Asked.{Asked, one_more, with_ask}
 use Rattle.rg_machine.specs.Active.{IsActive, OnActive}
 use Rattle.rg_machine.specs.Collects.{Gathers, GathersSliding}
 use Rattle.rg_machine.specs.Parts.{Parts, machine_in}
-use Rattle.rg_step.specs.Steps.{Runs, Stepping}
+use Rattle.rg_step.specs.Steps.{Runs}
+use Rattle.rg_step.specs.Stepping.{Stepping}
 
 -- what the two pacers tell of themselves
 pub record Asks : Type 0 where

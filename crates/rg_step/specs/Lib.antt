@@ -7,3 +7,5 @@ pub mod Asking
 pub mod Frees
 pub mod Sound
 pub mod States
+pub mod Yeses
+pub mod Stepping

@@ -14,7 +14,8 @@ use Rattle.rg_step.specs.Asking.{AsksOn, SinceOn, YesesTold}
 use Rattle.rg_step.specs.Collections.{Asks, ReachesOn, ServesBy, SlidesAsked}
 use Rattle.rg_step.specs.Frees.{FreesOnly, StaysGone}
 use Rattle.rg_step.specs.Sound.{IsSound}
-use Rattle.rg_step.specs.Steps.{Counts, Stepping, StepsOn, is_made, opening_machine}
+use Rattle.rg_step.specs.Steps.{Counts, StepsOn, is_made, opening_machine}
+use Rattle.rg_step.specs.Stepping.{Stepping}
 use Rattle.rg_step.specs.Writes.{WritesOnly}
 
 -- what a stepper holds between two steps, and what the two pacers tell

@@ -14,8 +14,10 @@ ghost use Rattle.rg_machine.specs.Owned.{IsOwned};
 ghost use Rattle.rg_machine.specs.Parts.{Parts, machine_in};
 ghost use Rattle.rg_step.specs.Collections.{Asks};
 ghost use Rattle.rg_step.specs.States.{Chain, OneStep, Opens};
-ghost use Rattle.rg_step.specs.Steps.{IsFresh, IsResting, IsRunning, Leapt, Runs};
-ghost use Rattle.rg_step.specs.Steps.{counted_by, fresh, nothing, numbers_of};
+ghost use Rattle.rg_step.specs.Steps.{IsResting, IsRunning, Leapt, Runs};
+ghost use Rattle.rg_step.specs.Stepping.{IsFresh};
+ghost use Rattle.rg_step.specs.Steps.{counted_by};
+ghost use Rattle.rg_step.specs.Stepping.{fresh, nothing, numbers_of};
 ghost use Rattle.rg_step.specs.Inner.Held.{stepping};
 
 use crate::collecting::{is_made, make_place, one_more, serve};
@@ -43,7 +45,8 @@ pub struct Stepper {
 
 impl Model for Stepper {
     ghost use Rattle.rg_step.specs.Inner.Held.{parts_of, stepping};
-    ghost use Rattle.rg_step.specs.Steps.{IsResting, Stepping};
+    ghost use Rattle.rg_step.specs.Steps.{IsResting};
+    ghost use Rattle.rg_step.specs.Stepping.{Stepping};
 
     ghost Value = { Stepping };
 

@@ -2,7 +2,8 @@
 
 ghost use Rattle.std.specs.Prelude.{Bool as Truth};
 ghost use Rattle.rg_stack.specs.Machine.{Machine as StackMachine};
-ghost use Rattle.rg_machine.specs.Parts.{core_of, machine_in};
+ghost use Rattle.rg_machine.specs.Parts.{machine_in};
+ghost use Rattle.rg_machine.specs.Cores.{core_of};
 ghost use Rattle.rg_heap.specs.Parts.{Parts as HeapParts};
 ghost use Rattle.rg_step.specs.Inner.High.{EndMade, MayMake};
 ghost use Rattle.rg_step.specs.Inner.Refusals.{EndBacks, EndLeaves, Stands};

@@ -15,7 +15,8 @@ use Rattle.rg_rules.specs.State.{State}
 use Rattle.rg_code.specs.Code.{Code}
 use Rattle.rg_code.specs.Lowering.{Lowers}
 use Rattle.rg_plain.specs.Runs.{RunShows}
-use Rattle.rg_step.specs.Asking.{YesesTold, paced_by, raised}
+use Rattle.rg_step.specs.Asking.{YesesTold}
+use Rattle.rg_step.specs.Yeses.{paced_by, raised}
 use Rattle.rg_step.specs.Collections.{Asks}
 use Rattle.rg_run.specs.Collected.{Tells}
 use Rattle.rg_run.specs.Machine.{Kept, IsFresh, Shows, ShowsAt}

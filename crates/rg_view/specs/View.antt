@@ -16,7 +16,7 @@ use Rattle.rg_frames.specs.Layers.{Layer, layers}
 use Rattle.rg_stack.specs.Machine.{Frame, Window, Machine}
 use Rattle.rg_heap.specs.Parts.{Parts}
 use Rattle.rg_heap.specs.Answers.{val_of}
-use Rattle.rg_held.specs.Frees.{gone}
+use Rattle.rg_held.specs.Gone.{gone}
 
 -- whether a body has a serial
 abbrev pub has_serial : (serial : ℕ) → Option Body → Truth

@@ -20,7 +20,7 @@ use Rattle.rg_code.specs.Code.{Code}
 use Rattle.rg_stack.specs.Machine.{Machine}
 use Rattle.rg_stack.specs.Effects.{Work, Walked, Stops, Returns, Traps, Stuck}
 use Rattle.rg_stack.specs.Runs.{Stepped, Goes, Ends, Trapped, Lost, come_to, landed, stopped}
-use Rattle.rg_stack.specs.Needs.{has_window}
+use Rattle.rg_stack.specs.Labels.{has_window}
 use Rattle.rg_stack.specs.Given.{given_walk, given_finished, given_step_from, given_step}
 use Rattle.rg_stack.specs.Refusals.{Orderly}
 use Rattle.rg_stack.specs.Shows.{Shows}
@@ -29,7 +29,8 @@ use Rattle.rg_stack.proofs.Callers.RefusalLemmas.{steps-orderly}
 use Rattle.rg_stack.proofs.Basics.{none-some}
 use Rattle.rg_stack.proofs.Walks.GivenLemmas.{Less}
 use Rattle.rg_held.specs.Ends.{Match, SameEnd}
-use Rattle.rg_held.specs.Frees.{gone, free_walk, free_finished, free_step_from, free_step}
+use Rattle.rg_held.specs.Frees.{free_walk, free_finished, free_step_from, free_step}
+use Rattle.rg_held.specs.Gone.{gone}
 use Rattle.rg_held.specs.Freed.{EndedTemp, GoneRegion, StepFrees}
 use Rattle.rg_held.specs.Laws.{StepsFree, InOrder, owners_of}
 use Rattle.rg_held.specs.Part.{SomeWindow, Part}

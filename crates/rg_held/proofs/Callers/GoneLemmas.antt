@@ -25,7 +25,8 @@ use Rattle.rg_stack.specs.Effects.{Work, Walked, Stops, Returns, Traps, Stuck, G
 use Rattle.rg_stack.specs.Effects.{called, returned, entered, relabel, beneath_by_labels, top_region, with_store, put_in, with_value_in}
 use Rattle.rg_stack.specs.Runs.{Stepped, Goes, Ends, Trapped, Lost, come_to, landed, stopped}
 use Rattle.rg_base.specs.declared.object.Place.{Place}
-use Rattle.rg_held.specs.Frees.{Given, gone, given_up, regions_freed, freed, free_act, free_walk, free_finished, free_step_from, free_step}
+use Rattle.rg_held.specs.Frees.{Given, given_up, regions_freed, freed, free_act, free_walk, free_finished, free_step_from, free_step}
+use Rattle.rg_held.specs.Gone.{gone}
 use Rattle.rg_held.proofs.Lists.{push-old}
 use Rattle.rg_held.proofs.Freed.Changes.{written-gone, moved-gone, bury-gone}
 

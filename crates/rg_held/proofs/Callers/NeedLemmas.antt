@@ -26,13 +26,14 @@ use Rattle.rg_code.specs.declared.op.Op.{Op}
 use Rattle.rg_code.specs.declared.op.Op.TheVariants as i
 use Rattle.rg_code.specs.Code.{Code}
 use Rattle.rg_stack.specs.Machine.{Frame, Window, Machine, top_slots, slot_at, end_slots, place_of}
-use Rattle.rg_stack.specs.Needs.{is_open, label_of, lies_in, is_into, closed_of, closed_into, is_closed, is_outside, slots_into, fields_into}
+use Rattle.rg_stack.specs.Needs.{closed_of, closed_into, is_closed, slots_into, fields_into}
+use Rattle.rg_stack.specs.Labels.{is_open, label_of, lies_in, is_into, is_outside}
 use Rattle.rg_stack.specs.Needs.{places_into, all_below, owned_once, loose, owns_or_nil, is_top_temp, is_to_temp, outlives, temps_may_go, is_writable}
 use Rattle.rg_stack.specs.Needs.{top_base, is_open_label, may_keep}
 use Rattle.rg_stack.specs.Needs.{may_stand, field_of, of_object, is_field, value_at, owner_leads, is_empty, of_top, needs}
 use Rattle.rg_stack.proofs.Basics.{none-some, and-left, and-right}
 use Rattle.rg_stack.proofs.Walks.NeedLemmas.{below_by}
-use Rattle.rg_held.specs.Frees.{gone}
+use Rattle.rg_held.specs.Gone.{gone}
 use Rattle.rg_held.specs.Part.{leads_to, AllLead, Part, OwnerHeld, OwnersHeld}
 use Rattle.rg_held.specs.Laws.{NeedsSame}
 use Rattle.rg_held.proofs.Lists.{off, any-at, reverse-back, ended-back}

@@ -11,9 +11,10 @@ use Rattle.rg_rules.specs.Regions.{in_regions, relabelled_object, relabelled}
 use Rattle.rg_sound.proofs.Owners.OwnerLemmas.{get-set}
 use Rattle.rg_stack.specs.Machine.{Window}
 use Rattle.rg_stack.specs.Effects.{with_value_in}
-use Rattle.rg_stack.specs.Needs.{has_window, is_open}
+use Rattle.rg_stack.specs.Labels.{has_window, is_open}
 use Rattle.rg_stack.proofs.Basics.{none-some, or-left}
-use Rattle.rg_held.specs.Frees.{gone, is_temp, buried, bury}
+use Rattle.rg_held.specs.Frees.{is_temp, buried, bury}
+use Rattle.rg_held.specs.Gone.{gone}
 use Rattle.rg_held.proofs.Lists.{set-old, set-back, push-back}
 
 -- an object that isn't gone stands at an address, with a label

@@ -11,8 +11,9 @@ use Rattle.rg_rules.specs.Regions.{in_regions, relabelled}
 use Rattle.rg_sound.proofs.Stores.MemberLemmas.{In, among-in}
 use Rattle.rg_stack.specs.Machine.{Window}
 use Rattle.rg_stack.specs.Effects.{put_in, with_value_in}
-use Rattle.rg_stack.specs.Needs.{has_window, is_open}
-use Rattle.rg_held.specs.Frees.{gone, is_temp, bury}
+use Rattle.rg_stack.specs.Labels.{has_window, is_open}
+use Rattle.rg_held.specs.Frees.{is_temp, bury}
+use Rattle.rg_held.specs.Gone.{gone}
 use Rattle.rg_held.specs.Part.{SomeWindow}
 use Rattle.rg_held.proofs.Lists.{off, push-old}
 use Rattle.rg_held.proofs.Burials.{temp-label}

@@ -17,7 +17,8 @@ use Rattle.rg_code.specs.declared.op.Op.TheVariants as i
 use Rattle.rg_code.specs.Code.{Code}
 use Rattle.rg_stack.specs.Machine.{Window, Machine, slot_at, top_slots}
 use Rattle.rg_stack.specs.Effects.{beneath_by_labels}
-use Rattle.rg_stack.specs.Needs.{is_open, is_closed, is_top_temp, closed_into, owned_once, owns_or_nil, needs}
+use Rattle.rg_stack.specs.Needs.{is_closed, is_top_temp, closed_into, owned_once, owns_or_nil, needs}
+use Rattle.rg_stack.specs.Labels.{is_open}
 use Rattle.rg_stack.proofs.Basics.{none-some, and-right}
 use Rattle.rg_held.specs.Frees.{Given, given_up, regions_freed, closed_among, closed_by_temps, left_with, window_that_ends, top_value}
 use Rattle.rg_held.specs.Part.{Part}

@@ -14,10 +14,11 @@ use Rattle.rg_base.proofs.Callers.Lists.{there as below-get}
 use Rattle.rg_rules.specs.Regions.{region_of, region_at}
 use Rattle.rg_stack.specs.Machine.{Frame, Window, Machine}
 use Rattle.rg_stack.specs.Effects.{top_region}
-use Rattle.rg_stack.specs.Needs.{is_open, has_window, lies_in, is_into, is_outside, owned_once, places_into}
+use Rattle.rg_stack.specs.Needs.{owned_once, places_into}
+use Rattle.rg_stack.specs.Labels.{is_open, has_window, lies_in, is_into, is_outside}
 use Rattle.rg_stack.proofs.Basics.{none-some}
 use Rattle.rg_stack.proofs.Needs.LeadLemmas.{region-label}
-use Rattle.rg_held.specs.Frees.{gone}
+use Rattle.rg_held.specs.Gone.{gone}
 use Rattle.rg_held.specs.Part.{leads_to, SlotInto, FieldInto, Placed, Part, is_of, OwnerHeld, OwnersHeld, is_shut_or_above, may_lead, Differ}
 use Rattle.rg_held.specs.Gather.{KeepsOf, Keeps, LinkOut, Loses, first, further, Gathered}
 use Rattle.rg_held.proofs.Lists.{off}

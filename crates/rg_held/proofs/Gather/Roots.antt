@@ -33,7 +33,8 @@ use Rattle.rg_sound.proofs.Stores.MemberLemmas.{in-among}
 use Rattle.rg_code.specs.Code.{Code}
 use Rattle.rg_stack.specs.Machine.{Frame, Window, Machine, slots_below, place_of}
 use Rattle.rg_stack.specs.Effects.{top_region, top_window}
-use Rattle.rg_stack.specs.Needs.{has_window, field_of, value_at, top_base}
+use Rattle.rg_stack.specs.Needs.{field_of, value_at, top_base}
+use Rattle.rg_stack.specs.Labels.{has_window}
 use Rattle.rg_stack.specs.Shows.{Shows, ShowsFrame, ShowsFrames, ShowsWindows, place_among, sizes_of}
 use Rattle.rg_stack.proofs.Basics.{none-some, and-left, and-right}
 use Rattle.rg_stack.proofs.Statements.BaseLemmas.{total_of, sizes-more, sizes-length, place_top, shown-room, as_many, based-there}

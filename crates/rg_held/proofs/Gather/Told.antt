@@ -10,7 +10,7 @@ use Rattle.rg_base.specs.declared.value.Val.{Val}
 use Rattle.rg_base.proofs.Callers.Lists.{there as below-get}
 use Rattle.rg_stack.specs.Machine.{Window, Machine}
 use Rattle.rg_stack.proofs.Basics.{none-some}
-use Rattle.rg_held.specs.Frees.{gone}
+use Rattle.rg_held.specs.Gone.{gone}
 use Rattle.rg_held.specs.Part.{leads_to, Placed, Part, OwnerHeld, OwnersHeld}
 use Rattle.rg_held.proofs.Parts.{lead-more, all-more}
 

@@ -6,7 +6,8 @@ ghost use Rattle.rg_stack.specs.Machine.{value_of_word};
 ghost use Rattle.rg_stack.specs.Effects.{top_region, top_window};
 ghost use Rattle.rg_stack.specs.Needs.{leads_nowhere};
 ghost use Rattle.rg_machine.specs.Core.{with_machine, with_made};
-ghost use Rattle.rg_machine.specs.Parts.{core_of, machine_in};
+ghost use Rattle.rg_machine.specs.Parts.{machine_in};
+ghost use Rattle.rg_machine.specs.Cores.{core_of};
 ghost use Rattle.rg_machine.specs.High.{OneMade};
 
 use super::Machine;

@@ -3,7 +3,7 @@
 ghost use Rattle.std.specs.Prelude.{◌≡◌, ◌∷◌, IfSome};
 ghost use Rattle.rg_base.specs.declared.value.Val.TheVariants.{Int};
 ghost use Rattle.rg_machine.specs.Core.{below_top, with_top};
-ghost use Rattle.rg_machine.specs.Parts.{core_of};
+ghost use Rattle.rg_machine.specs.Cores.{core_of};
 
 use super::Machine;
 use rg_base::Word;

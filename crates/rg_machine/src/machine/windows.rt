@@ -11,7 +11,8 @@ ghost use Rattle.rg_stack.specs.Refusals.{Settles, Takes};
 ghost use Rattle.rg_machine.specs.Core.{ActIs, Has};
 ghost use Rattle.rg_machine.specs.Keeps.{Keeping};
 ghost use Rattle.rg_machine.specs.High.{Making};
-ghost use Rattle.rg_machine.specs.Parts.{core_of, machine_in};
+ghost use Rattle.rg_machine.specs.Parts.{machine_in};
+ghost use Rattle.rg_machine.specs.Cores.{core_of};
 
 use super::Machine;
 use crate::next::Next;

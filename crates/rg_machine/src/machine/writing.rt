@@ -11,7 +11,8 @@ ghost use Rattle.rg_stack.specs.Refusals.{Takes};
 ghost use Rattle.rg_machine.specs.Core.{ActIs, Has, with_machine};
 ghost use Rattle.rg_machine.specs.Keeps.{Keeping, SameBacks};
 ghost use Rattle.rg_machine.specs.High.{Making, NoneMade};
-ghost use Rattle.rg_machine.specs.Parts.{core_of, machine_in, val_in};
+ghost use Rattle.rg_machine.specs.Parts.{machine_in, val_in};
+ghost use Rattle.rg_machine.specs.Cores.{core_of};
 ghost use Rattle.rg_machine.specs.Stands.{Leads};
 
 use super::Machine;

@@ -36,7 +36,8 @@ use Rattle.rg_sound.proofs.Values.LabelLemmas.{windows_of-open}
 use Rattle.rg_sound.proofs.WritableLemmas.{top-live}
 use Rattle.rg_stack.specs.Machine.{Frame, Machine, top_slots, slot_at}
 use Rattle.rg_stack.specs.Shows.{ShowsFrames}
-use Rattle.rg_stack.specs.Needs.{is_open, is_closed, owns_or_nil, field_of}
+use Rattle.rg_stack.specs.Needs.{is_closed, owns_or_nil, field_of}
+use Rattle.rg_stack.specs.Labels.{is_open}
 use Rattle.rg_stack.proofs.Needs.ListLemmas.{refused, get-nils}
 use Rattle.rg_stack.proofs.Needs.LeadLemmas.{ShowsFit, LeadsInto, IntoClosed, not-closed, into-closed, shown-closed, open-shown, value-owns}
 

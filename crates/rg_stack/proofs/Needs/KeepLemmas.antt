@@ -20,7 +20,8 @@ use Rattle.rg_sound.proofs.Owners.OpenLemmas.{open-owned}
 use Rattle.rg_sound.proofs.Values.RightLemmas.{OwnsFreshAs}
 use Rattle.rg_stack.specs.Machine.{Window, Machine, place_of}
 use Rattle.rg_stack.specs.Effects.{begins_by}
-use Rattle.rg_stack.specs.Needs.{is_open, top_base, is_open_label, leads_open, may_keep}
+use Rattle.rg_stack.specs.Needs.{top_base, is_open_label, leads_open, may_keep}
+use Rattle.rg_stack.specs.Labels.{is_open}
 use Rattle.rg_stack.proofs.Needs.ListLemmas.{refused}
 use Rattle.rg_stack.proofs.Needs.LeadLemmas.{ShowsFit, LeadsInto, open-shown}
 use Rattle.rg_stack.proofs.Needs.ClosedLemmas.{iso-owns}

@@ -28,7 +28,8 @@ use Rattle.rg_sound.proofs.Values.LabelLemmas.{windows_of-open, windows_from-ope
 use Rattle.rg_sound.proofs.Stores.MergeLabelLemmas.{open-in}
 use Rattle.rg_stack.specs.Machine.{Frame, Window, Machine}
 use Rattle.rg_stack.specs.Shows.{ShowsFrame, ShowsFrames, ShowsWindows}
-use Rattle.rg_stack.specs.Needs.{is_open, has_window, label_of, lies_in, is_into, closed_of, closed_into, is_closed, is_outside}
+use Rattle.rg_stack.specs.Needs.{closed_of, closed_into, is_closed}
+use Rattle.rg_stack.specs.Labels.{is_open, has_window, label_of, lies_in, is_into, is_outside}
 use Rattle.rg_stack.proofs.Needs.ListLemmas.{slot-local}
 
 -- a machine shows frames and windows whose data fit

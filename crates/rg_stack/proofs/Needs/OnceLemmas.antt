@@ -19,7 +19,8 @@ use Rattle.rg_sound.specs.Values.{Meets, ValuesFit}
 use Rattle.rg_sound.proofs.Values.RightLemmas.{OwnsFreshAs}
 use Rattle.rg_stack.specs.Machine.{Frame, Window, Machine}
 use Rattle.rg_stack.specs.Shows.{ShowsFrames}
-use Rattle.rg_stack.specs.Needs.{is_open, is_into, closed_into, is_outside, slots_into, fields_into, places_into, owned_once, loose}
+use Rattle.rg_stack.specs.Needs.{closed_into, slots_into, fields_into, places_into, owned_once, loose}
+use Rattle.rg_stack.specs.Labels.{is_open, is_into, is_outside}
 use Rattle.rg_stack.proofs.Needs.ListLemmas.{all_below-each}
 use Rattle.rg_stack.proofs.Needs.CountLemmas.{AtMostOne, sum-none, sum-one, count-none, count-one}
 use Rattle.rg_stack.proofs.Needs.LeadLemmas.{ShowsFit, LeadsInto, into-leads, closed-into, shown-closed, value-owns}

@@ -25,7 +25,8 @@ use Rattle.rg_sound.proofs.Basics.{none-some}
 use Rattle.rg_sound.proofs.Owners.OwnerLemmas.{get-snoc-other, frame_at-top, frame_at-lower}
 use Rattle.rg_stack.specs.Machine.{Frame, Window, Machine}
 use Rattle.rg_stack.specs.Shows.{ShowsFrame, ShowsFrames, ShowsWindows}
-use Rattle.rg_stack.specs.Needs.{is_into, field_of, value_at, owner_leads}
+use Rattle.rg_stack.specs.Needs.{field_of, value_at, owner_leads}
+use Rattle.rg_stack.specs.Labels.{is_into}
 use Rattle.rg_stack.proofs.Needs.LeadLemmas.{ShowsFit, LeadsInto, leads-is_into}
 use Rattle.rg_stack.proofs.Needs.ClosedLemmas.{shown-at}
 use Rattle.rg_stack.proofs.Statements.BaseLemmas.{as_many}

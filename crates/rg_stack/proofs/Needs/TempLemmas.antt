@@ -30,7 +30,8 @@ use Rattle.rg_sound.proofs.Values.LabelLemmas.{windows_of-open, windows_from-ope
 use Rattle.rg_stack.specs.Machine.{Frame, Window, Machine}
 use Rattle.rg_stack.specs.Effects.{top_window}
 use Rattle.rg_stack.specs.Shows.{ShowsFrames, ShowsWindows}
-use Rattle.rg_stack.specs.Needs.{has_window, is_top_temp, is_to_temp, outlives, temps_may_go}
+use Rattle.rg_stack.specs.Needs.{is_top_temp, is_to_temp, outlives, temps_may_go}
+use Rattle.rg_stack.specs.Labels.{has_window}
 use Rattle.rg_stack.proofs.Needs.ListLemmas.{none-passes, refused, slot-local}
 use Rattle.rg_stack.proofs.Needs.LeadLemmas.{ShowsFit, shown-number}
 

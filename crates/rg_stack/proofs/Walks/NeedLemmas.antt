@@ -20,7 +20,8 @@ use Rattle.rg_code.specs.declared.code.Entry.{Entry}
 use Rattle.rg_code.specs.Code.{Code}
 use Rattle.rg_stack.specs.Machine.{Frame, Window, Machine, slot_at}
 use Rattle.rg_stack.specs.Effects.{Walked, Stuck}
-use Rattle.rg_stack.specs.Needs.{needs, is_open, label_of, lies_in, is_into, closed_of, closed_into, is_closed, slots_into, places_into}
+use Rattle.rg_stack.specs.Needs.{needs, closed_of, closed_into, is_closed, slots_into, places_into}
+use Rattle.rg_stack.specs.Labels.{is_open, label_of, lies_in, is_into}
 use Rattle.rg_stack.specs.Needs.{all_below, owned_once}
 use Rattle.rg_stack.proofs.Walks.SlotLemmas.{ShowsSlots}
 use Rattle.rg_stack.proofs.Basics.{and-left, and-right}

@@ -19,7 +19,8 @@ use Rattle.rg_code.specs.declared.op.Op.TheVariants as i
 use Rattle.rg_code.specs.Code.{Code}
 use Rattle.rg_code.specs.Lowering.{Scope, slot_of, type_in, field_number, type_behind, fields_code, path_code, expr_code}
 use Rattle.rg_stack.specs.Machine.{Window, slot_at}
-use Rattle.rg_stack.specs.Needs.{closed_of, is_closed, label_of}
+use Rattle.rg_stack.specs.Needs.{closed_of, is_closed}
+use Rattle.rg_stack.specs.Labels.{label_of}
 use Rattle.rg_stack.specs.Effects.{Work, Walked, Traps, Stuck, Go, with_value}
 use Rattle.rg_stack.specs.Given.{given_act as act, given_walk as walk}
 

@@ -3,7 +3,7 @@ use Rattle.std.specs.Prelude.{Option, Some, None}
 use Rattle.rg_machine.specs.Parts.{Parts}
 use Rattle.rg_step.specs.declared.kept.Kept.{Kept}
 use Rattle.rg_step.specs.declared.kept.Since.{Since as SinceYes}
-use Rattle.rg_step.specs.Steps.{Since, Stepping, nothing}
+use Rattle.rg_step.specs.Stepping.{Since, Stepping, nothing}
 
 -- nothing before a program begins
 abbrev pub parts_of : Option Parts → Parts

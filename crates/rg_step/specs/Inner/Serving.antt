@@ -10,7 +10,7 @@ use Rattle.rg_base.specs.declared.outcome.Outcome.TheVariants as outcome
 use Rattle.rg_pace.specs.Asked.{one_more, with_ask}
 use Rattle.rg_step.specs.declared.step.Did.{Did}
 use Rattle.rg_step.specs.declared.step.Did.TheVariants as did
-use Rattle.rg_step.specs.Steps.{Since}
+use Rattle.rg_step.specs.Stepping.{Since}
 use Rattle.rg_step.specs.Collections.{Asks, since_then}
 
 -- what is answered of what a step did and printed

@@ -20,7 +20,7 @@ use Rattle.rg_regions.specs.Reach.{LiesIn}
 use Rattle.rg_regions.specs.Grove.{Parent, Above, direct, further, Grove}
 use Rattle.rg_stack.specs.Machine.{Window}
 use Rattle.rg_stack.specs.Effects.{Work, with_store}
-use Rattle.rg_stack.specs.Needs.{is_open, lies_in}
+use Rattle.rg_stack.specs.Labels.{is_open, lies_in}
 use Rattle.rg_heap.specs.Parts.{Parts}
 use Rattle.rg_heap.specs.Ends.{Released, NoCell}
 use Rattle.rg_view.specs.Names.{Names, AreTemps}
@@ -30,7 +30,8 @@ use Rattle.rg_view.proofs.Callers.ReleaseLemmas.{kept-body}
 use Rattle.rg_view.proofs.Callers.GoneLemmas.{released-numbers}
 use Rattle.rg_view.proofs.Callers.KeyLemmas.{among-append, bury-more}
 use Rattle.rg_view.proofs.Callers.ForgetLemmas.{lives_in, remembered, index-of}
-use Rattle.rg_held.specs.Frees.{gone, is_temp, buried, bury, forgotten}
+use Rattle.rg_held.specs.Frees.{is_temp, buried, bury, forgotten}
+use Rattle.rg_held.specs.Gone.{gone}
 use Rattle.rg_held.proofs.Callers.ForgetLemmas.{made-at}
 
 -- no temporaries

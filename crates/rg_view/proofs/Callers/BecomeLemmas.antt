@@ -9,7 +9,7 @@ use Rattle.rg_cells.proofs.SerialsKept.{serials_of}
 use Rattle.rg_view.specs.View.{object_of, seen_of, store_of}
 use Rattle.rg_view.proofs.ListLemmas.{map-numbers, map-map}
 use Rattle.rg_view.proofs.Callers.LookLemmas.{look, seen-held, seen-gone}
-use Rattle.rg_held.specs.Frees.{gone}
+use Rattle.rg_held.specs.Gone.{gone}
 
 -- a held cell shows what the rule makes of it
 pub record Turned (old new : Heap) (F : Seen → Seen) (slot : ℕ) (b : Body) : Type 0 where

@@ -21,7 +21,8 @@ use Rattle.rg_view.specs.Numbers.{Numbers}
 use Rattle.rg_view.specs.Links.{Link, Reached, first, next, Spans, BelowSome}
 use Rattle.rg_view.proofs.Callers.HeldLemmas.{region-below}
 use Rattle.rg_view.proofs.Callers.LinkLemmas.{spans-below}
-use Rattle.rg_held.specs.Frees.{gone, is_temp, buried, bury}
+use Rattle.rg_held.specs.Frees.{is_temp, buried, bury}
+use Rattle.rg_held.specs.Gone.{gone}
 
 link-of : (store : List Seen) (p r : ℕ) → LeadsTo store store p r → Link store p r
 link-of store p r l = record {

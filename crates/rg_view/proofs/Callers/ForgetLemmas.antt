@@ -23,7 +23,7 @@ use Rattle.rg_regions.specs.Grove.{Grove}
 use Rattle.rg_frames.specs.declared.rows.Window.{Window as WindowRow}
 use Rattle.rg_frames.specs.Stack.{Stack}
 use Rattle.rg_stack.specs.Machine.{Window}
-use Rattle.rg_stack.specs.Needs.{is_open, lies_in}
+use Rattle.rg_stack.specs.Labels.{is_open, lies_in}
 use Rattle.rg_heap.specs.Parts.{Parts}
 use Rattle.rg_heap.specs.Answers.{AllLead, IsClosed}
 use Rattle.rg_heap.specs.Ends.{Released}

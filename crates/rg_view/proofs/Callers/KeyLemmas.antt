@@ -14,7 +14,8 @@ use Rattle.rg_move.specs.Closed.{BelowKey}
 use Rattle.rg_view.specs.Names.{Names}
 use Rattle.rg_view.specs.Links.{BelowSome}
 use Rattle.rg_view.proofs.Callers.LabelLemmas.{one-is, one-there}
-use Rattle.rg_held.specs.Frees.{gone, is_temp, buried, bury}
+use Rattle.rg_held.specs.Frees.{is_temp, buried, bury}
+use Rattle.rg_held.specs.Gone.{gone}
 
 -- a region and all beneath it
 pub one-names : (h : Heap) (t : RegionTable) (top : ℕ) (regions : List ℕ) → Names regions (BelowSome h t (top ∷ [])) → Names regions (Below h t top)

@@ -23,7 +23,7 @@ use Rattle.rg_view.specs.Names.{Names}
 use Rattle.rg_view.specs.Links.{Link, Reached, first, next, Spans, BelowSome}
 use Rattle.rg_view.proofs.Callers.LookLemmas.{look, store-at, store-held, store-length, val-held}
 use Rattle.rg_view.proofs.Callers.ShownLemmas.{field-in}
-use Rattle.rg_held.specs.Frees.{gone}
+use Rattle.rg_held.specs.Gone.{gone}
 
 -- a held cell whose object is shown
 pub record HeldAs (h : Heap) (a : ℕ) (o : Seen) : Type 0 where

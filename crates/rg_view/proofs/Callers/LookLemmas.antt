@@ -10,7 +10,7 @@ use Rattle.rg_cells.specs.declared.cell.Body.{Body}
 use Rattle.rg_cells.specs.Table.{Heap, body_in, body_at, Serials, LacksSerial}
 use Rattle.rg_heap.specs.Answers.{val_of, obj_of}
 use Rattle.rg_view.specs.View.{has_serial, body_with, object_of, seen_of, store_of}
-use Rattle.rg_held.specs.Frees.{gone}
+use Rattle.rg_held.specs.Gone.{gone}
 use Rattle.rg_held.proofs.Callers.ForgetLemmas.{made-at}
 
 -- what is found is at the head, or behind it

@@ -21,7 +21,8 @@ use Rattle.rg_frames.specs.declared.rows.Window.{Window as WindowRow}
 use Rattle.rg_frames.specs.Stack.{Stack, IsTop}
 use Rattle.rg_stack.specs.Machine.{Frame, top_slots, slot_at}
 use Rattle.rg_stack.specs.Effects.{top_region}
-use Rattle.rg_stack.specs.Needs.{is_open, is_into, label_of, is_outside, slots_into, fields_into, places_into, owned_once, loose}
+use Rattle.rg_stack.specs.Needs.{slots_into, fields_into, places_into, owned_once, loose}
+use Rattle.rg_stack.specs.Labels.{is_open, is_into, label_of, is_outside}
 use Rattle.rg_stack.specs.Needs.{is_writable, may_stand}
 use Rattle.rg_heap.specs.Parts.{Parts}
 use Rattle.rg_heap.specs.Answers.{val_of, IsClosed, LeadsIntoClosed}

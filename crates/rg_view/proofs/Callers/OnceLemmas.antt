@@ -20,7 +20,8 @@ use Rattle.rg_regions.specs.Grove.{Grove}
 use Rattle.rg_frames.specs.declared.rows.Window.{Window as WindowRow}
 use Rattle.rg_frames.specs.Stack.{Stack}
 use Rattle.rg_stack.specs.Machine.{Window}
-use Rattle.rg_stack.specs.Needs.{is_open, is_into, is_outside, has_window, fields_into, places_into, owned_once}
+use Rattle.rg_stack.specs.Needs.{fields_into, places_into, owned_once}
+use Rattle.rg_stack.specs.Labels.{is_open, is_into, is_outside, has_window}
 use Rattle.rg_heap.specs.Parts.{Parts}
 use Rattle.rg_heap.specs.Answers.{val_of, IsClosed}
 use Rattle.rg_heap.specs.Ends.{OneOutside}

@@ -19,7 +19,8 @@ use Rattle.rg_regions.specs.Reach.{LiesIn}
 use Rattle.rg_frames.specs.declared.rows.Window.{Window as WindowRow}
 use Rattle.rg_frames.specs.Stack.{Stack, has_region}
 use Rattle.rg_stack.specs.Machine.{Window}
-use Rattle.rg_stack.specs.Needs.{is_open, label_of, lies_in, is_into, closed_of, closed_into, is_closed, owns_or_nil}
+use Rattle.rg_stack.specs.Needs.{closed_of, closed_into, is_closed, owns_or_nil}
+use Rattle.rg_stack.specs.Labels.{is_open, label_of, lies_in, is_into}
 use Rattle.rg_heap.specs.Parts.{Parts}
 use Rattle.rg_heap.specs.Answers.{val_of, obj_of, IsClosed, LeadsIntoClosed}
 use Rattle.rg_view.specs.View.{store_of, number_of, number_in, window_of, windows_of, machine_of}

@@ -16,7 +16,8 @@ use Rattle.rg_view.specs.View.{object_of, store_of}
 use Rattle.rg_view.specs.Names.{Names, AreTemps}
 use Rattle.rg_view.proofs.Callers.ShownLemmas.{IsSameObject, object-same, held-body, field-in}
 use Rattle.rg_view.proofs.Callers.BecomeLemmas.{Becomes, becomes-store, becomes-serials}
-use Rattle.rg_held.specs.Frees.{gone, is_temp, buried, bury}
+use Rattle.rg_held.specs.Frees.{is_temp, buried, bury}
+use Rattle.rg_held.specs.Gone.{gone}
 
 -- whether an object with a label goes
 abbrev goes : List ℕ → Option ℕ → Label → Truth

@@ -10,7 +10,7 @@ use Rattle.rg_frames.specs.Stack.{Stack, begun, pushed_of, opened}
 use Rattle.rg_heap.specs.Parts.{Parts}
 use Rattle.rg_base.specs.declared.object.Place.TheVariants as place
 use Rattle.rg_view.specs.View.{store_of, machine_of}
-use Rattle.rg_held.specs.Frees.{gone}
+use Rattle.rg_held.specs.Gone.{gone}
 
 -- serials 0 and 1 were made, then 1 was freed and its slot taken again by 2
 abbrev small : Heap

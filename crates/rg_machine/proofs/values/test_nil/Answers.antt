@@ -1,4 +1,5 @@
-use Rattle.rg_machine.specs.Parts.{core_of, val_in}
+use Rattle.rg_machine.specs.Parts.{val_in}
+use Rattle.rg_machine.specs.Cores.{core_of}
 use Rattle.rg_machine.proofs.NumberLemmas.{stack-top}
 use Rattle.rg_machine.proofs.values.test_nil.Goals as goal
 

@@ -16,7 +16,8 @@ use Rattle.rg_step.proofs.AskLemmas.{read-on, more-on, unstuck-there}
 use Rattle.rg_step.specs.Inner.High.{MayMake}
 use Rattle.rg_step.proofs.HighLemmas.{may-most}
 use Rattle.rg_step.proofs.LeavesLemmas.{stands-put, put-backs, no-asking, no-machine, unread-left, unread-number}
-use Rattle.rg_machine.specs.Parts.{core_of, machine_in}
+use Rattle.rg_machine.specs.Parts.{machine_in}
+use Rattle.rg_machine.specs.Cores.{core_of}
 use Rattle.rg_machine.proofs.RetLemmas.{same-back}
 use Rattle.rg_step.proofs.asks.walk_asking.Goals as goal
 

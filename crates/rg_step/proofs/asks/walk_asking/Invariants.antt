@@ -6,7 +6,8 @@ use Rattle.rg_step.specs.Inner.High.{MayMake}
 use Rattle.rg_step.specs.Inner.Refusals.{Stands, Unread}
 use Rattle.rg_machine.specs.Keeps.{SameBacks}
 use Rattle.rg_step.specs.Inner.Walks.{walk_from}
-use Rattle.rg_machine.specs.Parts.{core_of, machine_in}
+use Rattle.rg_machine.specs.Parts.{machine_in}
+use Rattle.rg_machine.specs.Cores.{core_of}
 use Rattle.rg_step.proofs.asks.walk_asking.Given as goal
 
 abbrev pub invariant-loop-at : goal.invariant-loop-at

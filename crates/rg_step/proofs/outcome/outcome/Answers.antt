@@ -5,7 +5,8 @@ use Rattle.rg_base.specs.declared.outcome.Outcome.TheVariants as outcome
 use Rattle.rg_input.proofs.InputLemmas.{OnInput-map, OnInput-some, OnInput-still}
 use Rattle.rg_input.specs.Numbers.{OnInput}
 use Rattle.rg_code.specs.Dues.{due_at}
-use Rattle.rg_machine.specs.Parts.{Parts, core_of, machine_in}
+use Rattle.rg_machine.specs.Parts.{Parts, machine_in}
+use Rattle.rg_machine.specs.Cores.{core_of}
 use Rattle.rg_stack.specs.Machine.{Machine}
 use Rattle.rg_held.specs.Freed.{FreesOnly as StoreFrees}
 use Rattle.rg_step.specs.Inner.High.{DidMade}

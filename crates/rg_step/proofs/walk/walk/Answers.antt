@@ -10,7 +10,8 @@ use Rattle.rg_step.proofs.StandsLemmas.{stands-on, stands-to, stands-back, stand
 use Rattle.rg_step.specs.Inner.High.{MayMake, OneAtMost}
 use Rattle.rg_step.proofs.HighLemmas.{high-asks, high-back, high-ends, high-free, high-none, high-on, high-to}
 use Rattle.rg_step.proofs.LeavesLemmas.{on-backs, to-backs, asks-backs, room-backs}
-use Rattle.rg_machine.specs.Parts.{core_of, machine_in}
+use Rattle.rg_machine.specs.Parts.{machine_in}
+use Rattle.rg_machine.specs.Cores.{core_of}
 use Rattle.rg_machine.proofs.RetLemmas.{same-back}
 use Rattle.rg_step.proofs.walk.walk.Goals as goal
 

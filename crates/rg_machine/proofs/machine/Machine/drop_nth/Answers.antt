@@ -3,7 +3,8 @@ use Rattle.rg_stack.specs.Machine.{top_slots}
 use Rattle.rg_stack.specs.Needs.{owned_once}
 use Rattle.rg_machine.specs.Effects.{AllLoose}
 use Rattle.rg_machine.specs.Keeps.{backs}
-use Rattle.rg_machine.specs.Parts.{core_of, machine_in}
+use Rattle.rg_machine.specs.Parts.{machine_in}
+use Rattle.rg_machine.specs.Cores.{core_of}
 use Rattle.rg_machine.specs.contracts.machine.Machine.{the_view}
 use Rattle.rg_machine.proofs.TakeLemmas.{asked-taken, backs-taken, gone-taken, in-top, next-core, stands-taken}
 use Rattle.rg_machine.proofs.machine.Machine.drop_nth.Goals as goal

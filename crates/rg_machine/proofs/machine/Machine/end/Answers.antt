@@ -1,4 +1,4 @@
-use Rattle.rg_machine.specs.Parts.{core_of}
+use Rattle.rg_machine.specs.Cores.{core_of}
 use Rattle.rg_machine.proofs.TakeLemmas.{end-effect}
 use Rattle.rg_machine.proofs.machine.Machine.end.Goals as goal
 

@@ -1,6 +1,6 @@
 use Rattle.std.proofs.Common.{◌≡◌, ◌∙◌, ap, subst, sym}
 use Rattle.rg_machine.specs.Effects.{emptied, ending}
-use Rattle.rg_machine.specs.Parts.{core_of}
+use Rattle.rg_machine.specs.Cores.{core_of}
 use Rattle.rg_machine.specs.contracts.machine.Machine.{the_view}
 use Rattle.rg_machine.proofs.TakeLemmas.{backs-ending, ended-core, stands-emptied}
 use Rattle.rg_machine.proofs.machine.Machine.end_written.Goals as goal

@@ -16,7 +16,8 @@ use Rattle.rg_stack.specs.Effects.{Traps}
 use Rattle.rg_machine.specs.Core.{Has, work_of}
 use Rattle.rg_machine.specs.Frames.{can_open}
 use Rattle.rg_machine.specs.Keeps.{SameBacks}
-use Rattle.rg_machine.specs.Parts.{Parts, core_of, machine_in}
+use Rattle.rg_machine.specs.Parts.{Parts, machine_in}
+use Rattle.rg_machine.specs.Cores.{core_of}
 use Rattle.rg_machine.specs.Stands.{AllLead, Stands}
 use Rattle.rg_machine.proofs.EnterLemmas.{can-enter-slot, opens-within, stands-entered, all-still-lead, enter-effect, enter-nil, same-backs}
 use Rattle.rg_machine.proofs.EnterLemmas.{CanEnterSlot, entered_stack, no-object}

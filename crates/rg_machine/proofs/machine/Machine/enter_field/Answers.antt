@@ -19,7 +19,8 @@ use Rattle.rg_stack.specs.Machine.{place_of}
 use Rattle.rg_machine.specs.Core.{Has, work_of}
 use Rattle.rg_machine.specs.Frames.{can_open}
 use Rattle.rg_machine.specs.Keeps.{SameBacks}
-use Rattle.rg_machine.specs.Parts.{Parts, core_of, machine_in}
+use Rattle.rg_machine.specs.Parts.{Parts, machine_in}
+use Rattle.rg_machine.specs.Cores.{core_of}
 use Rattle.rg_machine.specs.Stands.{AllLead, Stands}
 use Rattle.rg_machine.proofs.EnterLemmas.{ParentBeneath, opens-within, stands-entered, all-still-lead, same-backs, Entered, entered_stack, no-object}
 use Rattle.rg_machine.proofs.EnterFieldLemmas.{Holds, holds, field-entered, field-parent, front-lead, enter-field-effect, enter-field-nil}

@@ -7,7 +7,8 @@ use Rattle.rg_machine.specs.Core.{Has, work_of}
 use Rattle.rg_machine.specs.Effects.{ending}
 use Rattle.rg_machine.specs.High.{NoneMade}
 use Rattle.rg_machine.specs.Keeps.{backs}
-use Rattle.rg_machine.specs.Parts.{Parts, core_of, machine_in}
+use Rattle.rg_machine.specs.Parts.{Parts, machine_in}
+use Rattle.rg_machine.specs.Cores.{core_of}
 use Rattle.rg_machine.specs.Stands.{Stands}
 use Rattle.rg_machine.proofs.LeaveBehindLemmas.{may-leave}
 use Rattle.rg_machine.proofs.LeaveWholeLemmas.{whole-stands, whole-effect}

@@ -5,7 +5,8 @@ use Rattle.rg_base.specs.declared.value.Word.TheVariants.{Slot}
 use Rattle.rg_stack.specs.Machine.{value_of_word}
 use Rattle.rg_view.specs.View.{machine_of, managers_of}
 use Rattle.rg_machine.specs.Core.{with_machine, with_made}
-use Rattle.rg_machine.specs.Parts.{Parts, core_of, machine_in}
+use Rattle.rg_machine.specs.Parts.{Parts, machine_in}
+use Rattle.rg_machine.specs.Cores.{core_of}
 use Rattle.rg_machine.specs.Stands.{AllLead, Stands}
 use Rattle.rg_machine.proofs.MadeLemmas.{nowhere}
 use Rattle.rg_machine.proofs.MakeLemmas.{Pushed, region-pushed}

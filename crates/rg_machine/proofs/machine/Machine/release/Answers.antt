@@ -2,7 +2,8 @@ use Rattle.std.proofs.Common.{◌≡◌, [], ◌∷◌, subst, sym, ap, ◌∙�
 use Rattle.std.proofs.lemmas.Bool.{false≢true}
 use Rattle.rg_stack.specs.Needs.{closed_into}
 use Rattle.rg_machine.specs.Effects.{without}
-use Rattle.rg_machine.specs.Parts.{Parts, core_of, machine_in, val_in}
+use Rattle.rg_machine.specs.Parts.{Parts, machine_in, val_in}
+use Rattle.rg_machine.specs.Cores.{core_of}
 use Rattle.rg_machine.specs.contracts.machine.Machine.{the_view}
 use Rattle.rg_machine.proofs.DropLemmas.{Asked, may-release, stands-behind, lead-behind, core-behind, core-same, closed-none, filter-none}
 use Rattle.rg_machine.proofs.HighLemmas.{none-dropped}

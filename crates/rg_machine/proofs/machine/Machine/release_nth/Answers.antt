@@ -1,7 +1,8 @@
 use Rattle.std.proofs.Common.{◌≡◌, ◌<◌, ◌+◌, [], ◌∷◌, length, subst, sym}
 use Rattle.rg_stack.specs.Machine.{slot_at, top_slots}
 use Rattle.rg_machine.specs.Effects.{emptied, without}
-use Rattle.rg_machine.specs.Parts.{Parts, core_of, machine_in}
+use Rattle.rg_machine.specs.Parts.{Parts, machine_in}
+use Rattle.rg_machine.specs.Cores.{core_of}
 use Rattle.rg_machine.specs.contracts.machine.Machine.{the_view}
 use Rattle.rg_machine.proofs.EmptiedLemmas.{slot-dropped, slot-stays}
 use Rattle.rg_machine.proofs.TakeLemmas.{in-top, loose-next, once-next, slot-leads}

@@ -8,7 +8,8 @@ use Rattle.rg_rules.specs.Acceptance.{Accepted}
 use Rattle.rg_input.proofs.InputLemmas.{OnInput-still}
 use Rattle.rg_machine.specs.Parts.{machine_in}
 use Rattle.rg_step.specs.States.{Opens}
-use Rattle.rg_step.specs.Steps.{Stepping, fresh, opening_machine}
+use Rattle.rg_step.specs.Steps.{opening_machine}
+use Rattle.rg_step.specs.Stepping.{Stepping, fresh}
 use Rattle.rg_run.proofs.AskLemmas.{yeses-none, yeses-of, yeses-more}
 use Rattle.rg_run.proofs.LoopLemmas.{ends-so, goes-on, spent, turned-leapt}
 use Rattle.rg_run.proofs.RunLemmas.{asked-none, not-begun, since-none}

@@ -1,7 +1,7 @@
 use Rattle.std.proofs.Common.{◌∙◌, ap}
 use Rattle.rg_machine.specs.Core.{Core}
 use Rattle.rg_machine.specs.Parts.{opening}
-use Rattle.rg_step.specs.Steps.{Stepping}
+use Rattle.rg_step.specs.Stepping.{Stepping}
 use Rattle.rg_step.proofs.LeapLemmas.{bare-resting}
 use Rattle.rg_step.proofs.stepper.Stepper.begin.Goals as goal
 

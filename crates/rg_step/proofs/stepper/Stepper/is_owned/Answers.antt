@@ -6,7 +6,7 @@ use Rattle.rg_code.specs.Code.{Code}
 use Rattle.rg_held.specs.Shown.{ShowsHeld}
 use Rattle.rg_machine.specs.Owned.{IsOwned}
 use Rattle.rg_machine.specs.Parts.{machine_in}
-use Rattle.rg_step.specs.Steps.{Stepping}
+use Rattle.rg_step.specs.Stepping.{Stepping}
 use Rattle.rg_step.proofs.HeldLemmas.{shows-some}
 use Rattle.rg_step.proofs.stepper.Stepper.is_owned.Goals as goal
 

@@ -2,7 +2,8 @@ use Rattle.std.proofs.Common.{subst, sym, arith}
 use Rattle.rg_machine.specs.Parts.{machine_in}
 use Rattle.rg_step.specs.Inner.Held.{stepping}
 use Rattle.rg_step.specs.States.{Chain}
-use Rattle.rg_step.specs.Steps.{IsRunning, Leapt, Stepping}
+use Rattle.rg_step.specs.Steps.{IsRunning, Leapt}
+use Rattle.rg_step.specs.Stepping.{Stepping}
 use Rattle.rg_step.proofs.HeldLemmas.{rests-some, shows-none, shows-some}
 use Rattle.rg_step.proofs.RunLemmas.{never-fresh}
 use Rattle.rg_step.proofs.LeapLemmas.{leaps-counted, leapt}

@@ -1,5 +1,5 @@
 use Rattle.std.proofs.Common.{true, ap, ◌∙◌}
-use Rattle.rg_step.specs.Steps.{Stepping}
+use Rattle.rg_step.specs.Stepping.{Stepping}
 use Rattle.rg_step.proofs.stepper.Stepper.slide.Goals as goal
 
 pub returns : goal.returns

@@ -1,6 +1,7 @@
 use Rattle.std.proofs.Common.{subst, sym}
 use Rattle.rg_machine.specs.Parts.{machine_in}
-use Rattle.rg_step.specs.Steps.{IsRunning, Stepping}
+use Rattle.rg_step.specs.Steps.{IsRunning}
+use Rattle.rg_step.specs.Stepping.{Stepping}
 use Rattle.rg_step.proofs.HeldLemmas.{rests-some, shows-none, shows-some}
 use Rattle.rg_step.proofs.RunLemmas.{never-fresh}
 use Rattle.rg_step.proofs.stepper.Stepper.step.Goals as goal
