@@ -18,7 +18,7 @@ use Rattle.rg_move.specs.Closed.{Closed}
 use Rattle.rg_move.specs.Frozen.{labelled, IsLabelled}
 use Rattle.rg_move.specs.Merged.{CanTake}
 use Rattle.rg_move.specs.Inner.Labels.{LabelledFirst}
-use Rattle.rg_move.specs.Inner.Moves.{led, led_by, HasRoomFor, Counts}
+use Rattle.rg_move.specs.Counted.{led, led_by, HasRoomFor, Counts}
 use Rattle.rg_move.specs.Inner.Joins.{Relabels, Marks}
 use Rattle.rg_move.proofs.PartFrozen.{same_held}
 use Rattle.rg_move.proofs.MembersLabelled.{members_labelled, others_kept}

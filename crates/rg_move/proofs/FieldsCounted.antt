@@ -14,7 +14,8 @@ use Rattle.rg_cells.specs.declared.cell.Body.{Body}
 use Rattle.rg_cells.specs.Table.{Heap, Table, body_at, field_at, mark_at, width}
 use Rattle.rg_regions.specs.Reach.{LiesIn, belongs, is_region}
 use Rattle.rg_regions.specs.Grove.{leads_to}
-use Rattle.rg_move.specs.Inner.Moves.{led, led_by, led_first, Grown, HasRoomFor}
+use Rattle.rg_move.specs.Counted.{led, led_by, Grown, HasRoomFor}
+use Rattle.rg_move.specs.Inner.Moves.{led_first}
 
 -- a cell of a region belongs to it
 pub belongs_there : (h : Heap) (r s : ℕ) → LiesIn h r s → belongs r (body_at h s) ≡ true

@@ -20,7 +20,7 @@ use Rattle.rg_regions.proofs.Callers.RegionComes.{none_leads}
 use Rattle.rg_regions.proofs.Callers.Shares.{share, sum-agree, parted-all, has_place, place_has, distinct_by}
 use Rattle.rg_move.specs.Closed.{Closed}
 use Rattle.rg_move.specs.Merged.{CanTake, RecordsMerge}
-use Rattle.rg_move.specs.Inner.Moves.{led, led_by}
+use Rattle.rg_move.specs.Counted.{led, led_by}
 use Rattle.rg_move.specs.Inner.Joins.{Relabels, Marks}
 use Rattle.rg_move.proofs.PartFrozen.{same_fields, label_there, label_only}
 use Rattle.rg_move.proofs.FieldsCounted.{belongs_there}

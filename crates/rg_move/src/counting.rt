@@ -5,8 +5,8 @@ ghost use Rattle.rg_cells.specs.Table.{IsHeld, body_at, field_at};
 ghost use Rattle.rg_regions.specs.Reach.{LiesIn};
 ghost use Rattle.rg_regions.specs.Grove.{leads_to};
 ghost use Rattle.rg_regions.specs.Chains.{LeadsToHeld};
-ghost use Rattle.rg_move.specs.Inner.Moves.{led, led_by, Grown, HasRoomFor};
-ghost use Rattle.rg_move.specs.Inner.Moves.{Counts};
+ghost use Rattle.rg_move.specs.Counted.{led, led_by, Grown, HasRoomFor};
+ghost use Rattle.rg_move.specs.Counted.{Counts};
 
 use rg_base::{Label, Manager, Word};
 use rg_cells::Cells;

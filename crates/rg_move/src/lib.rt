@@ -8,5 +8,6 @@ mod freezing;
 mod labels;
 mod merging;
 
+pub use counting::count_members;
 pub use freezing::freeze;
 pub use merging::merge;

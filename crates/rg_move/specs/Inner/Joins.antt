@@ -7,7 +7,7 @@ use Rattle.rg_regions.specs.Table.{Record, RegionTable, record_at}
 use Rattle.rg_regions.specs.Reach.{LiesIn}
 use Rattle.rg_move.specs.Frozen.{labelled}
 use Rattle.rg_move.specs.Merged.{RecordsMerge}
-use Rattle.rg_move.specs.Inner.Moves.{led_by}
+use Rattle.rg_move.specs.Counted.{led_by}
 
 -- the cells of the one region have the number of the other, and all bodies else stay
 pub record Relabels (c : Table) (r n : ℕ) (cells : Table) : Type 0 where

@@ -1,5 +1,6 @@
 use Rattle.rg_cells.specs.Table.{body_at}
-use Rattle.rg_move.specs.Inner.Moves.{led_first, Grown}
+use Rattle.rg_move.specs.Counted.{Grown}
+use Rattle.rg_move.specs.Inner.Moves.{led_first}
 use Rattle.rg_move.proofs.counting.count_fields.Given as goal
 
 abbrev pub invariant-loop-k : goal.invariant-loop-k

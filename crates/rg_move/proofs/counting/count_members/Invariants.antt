@@ -1,5 +1,5 @@
 use Rattle.std.proofs.Common.{take}
-use Rattle.rg_move.specs.Inner.Moves.{led_by, Grown}
+use Rattle.rg_move.specs.Counted.{led_by, Grown}
 use Rattle.rg_move.proofs.counting.count_members.Given as goal
 
 abbrev pub invariant-loop-slot : goal.invariant-loop-slot

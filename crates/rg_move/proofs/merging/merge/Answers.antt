@@ -9,7 +9,7 @@ use Rattle.rg_regions.specs.Chains.{LeadsToHeld}
 use Rattle.rg_regions.specs.Same.{AllHeld, AllDiffer}
 use Rattle.rg_regions.proofs.Callers.Told.{record_there, same_members, owns_once}
 use Rattle.rg_move.specs.Inner.Labels.{LabelledFirst}
-use Rattle.rg_move.specs.Inner.Moves.{HasRoomFor, led_by, Counts}
+use Rattle.rg_move.specs.Counted.{HasRoomFor, led_by, Counts}
 use Rattle.rg_move.specs.Inner.Joins.{Merges}
 use Rattle.rg_move.proofs.MembersLabelled.{members_held, members_differ}
 use Rattle.rg_move.proofs.CellsJoined.{lie_now, leads_now, room_now, relabels, marks, links_kept}
