@@ -189,7 +189,7 @@ object_stays at a s here w =
             let same : x.0 ≡ b = same_Some x.0 b (sym (longer.there k x.0 x.1) ∙ e) in
             let P : ℕ → Type 0 = λ z. slice_get s.order k ≡ Some z in
             w.cells k b d order regions (subst P same x.1) old (longer_on s.order next order longer l)
-              (longer_on s.regions (region_met s.regions o.label) regions (region_longer o.label s.regions) m)
+            (longer_on s.regions (region_met s.regions o.label) regions (region_longer o.label s.regions) m)
         | inr new ↦
             let P : ℕ → Type 0 = λ z. slice_get next z ≡ Some b in
             let same : a ≡ b = same_Some a b (sym (longer.there (length s.cells) a here) ∙ subst P new.0 e) in
@@ -209,22 +209,25 @@ all_stay at (suc most) s w =
   where
     by : (o : Option ℕ) → slice_get s.order (length s.cells) ≡ o
         → ((a : ℕ) → Stays at (with_object (at a) s)
-          → Stays at (read_on at most (with_object (at a) s)) × Longer (with_object (at a) s).order (read_on at most (with_object (at a) s)).order)
+        → Stays at (read_on at most (with_object (at a) s)) × Longer (with_object (at a) s).order (read_on at most (with_object (at a) s)).order)
         → Stays at (elim (slice_get s.order (length s.cells)) as (λ y. Reading) [ None ↦ s | Some a ↦ read_on at most (with_object (at a) s) ])
         × Longer s.order
-          (elim (slice_get s.order (length s.cells)) as (λ y. Reading) [ None ↦ s | Some a ↦ read_on at most (with_object (at a) s) ]).order
+        (elim (slice_get s.order (length s.cells)) as (λ y. Reading) [ None ↦ s | Some a ↦ read_on at most (with_object (at a) s) ]).order
     by None e go =
         let Q : Option ℕ → Type 0 = λ z.
-          Stays at (elim z as (λ y. Reading) [ None ↦ s | Some a ↦ read_on at most (with_object (at a) s) ])
-          × Longer s.order (elim z as (λ y. Reading) [ None ↦ s | Some a ↦ read_on at most (with_object (at a) s) ]).order in
+        Stays at (elim z as (λ y. Reading) [ None ↦ s | Some a ↦ read_on at most (with_object (at a) s) ])
+        × Longer s.order (elim z as (λ y. Reading) [ None ↦ s | Some a ↦ read_on at most (with_object (at a) s) ]).order in
         subst Q (sym e) (w, longer_same s.order)
     by (Some a) e go =
         let Q : Option ℕ → Type 0 = λ z.
-          Stays at (elim z as (λ y. Reading) [ None ↦ s | Some a ↦ read_on at most (with_object (at a) s) ])
-          × Longer s.order (elim z as (λ y. Reading) [ None ↦ s | Some a ↦ read_on at most (with_object (at a) s) ]).order in
+        Stays at (elim z as (λ y. Reading) [ None ↦ s | Some a ↦ read_on at most (with_object (at a) s) ])
+        × Longer s.order (elim z as (λ y. Reading) [ None ↦ s | Some a ↦ read_on at most (with_object (at a) s) ]).order in
         let r = go a (object_stays at a s e w) in
-        subst Q (sym e) (r.0, longer_on s.order (all_met s.order (at a).fields) (read_on at most (with_object (at a) s)).order
-          (all_longer (at a).fields s.order) r.1)
+        subst Q (sym e) (
+          r.0,
+          longer_on s.order (all_met s.order (at a).fields) (read_on at most (with_object (at a) s)).order
+              (all_longer (at a).fields s.order) r.1,
+        )
 
 -- the key of a number
 pub numbered_back : (xs : List ℕ) (a : ℕ) → position_or_len (nat_eq a) xs < length xs → slice_get xs (position_or_len (nat_eq a) xs) ≡ Some a

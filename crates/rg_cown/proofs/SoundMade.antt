@@ -44,7 +44,7 @@ all_from : {X : Type 0} → (p : X → Truth) (xs : List X) → ((k : ℕ) (x : 
 all_from p [] h = refl
 all_from p (x ∷ xs) h = and_true (p x) (list_all p xs) (h 0 x refl) (all_from p xs (λ k. h (suc k)))
 
-is_in_true : (q : ℕ) (o : Option Label) → is_in q o ≡ true → o ≡ Some (Region q)
+pub is_in_true : (q : ℕ) (o : Option Label) → is_in q o ≡ true → o ≡ Some (Region q)
 is_in_true q None e = cc
 is_in_true q (Some (Region r)) e = elim (eqb_tells r q) [ inl t ↦ ap (λ z. Some (Region z)) t.1 | inr t ↦ absurd (false_true (sym t.0 ∙ e)) ]
   where
@@ -192,7 +192,7 @@ module _ (c : CargoList) (h : Holds c) where
         | inr t ↦
             ap (λ z. entries_of c.cells q z x.fields) l ∙ ap (λ b. if b then 0 else m) t.0
             ∙ sum_none (λ y. cond {A = ℕ} (leads_into c.cells q y) 1 0) x.fields (λ j v g.
-              ap (λ b. cond {A = ℕ} b 1 0) (leads_not p q k j x v e l t.1 g (λ a. none p j a)))
+            ap (λ b. cond {A = ℕ} b 1 0) (leads_not p q k j x v e l t.1 g (λ a. none p j a)))
       ]
       by (Temp t) l = absurd (no_temps k t (label_is c.cells k x e ∙ ap Some l))
       by Frozen l = ap (λ z. entries_of c.cells q z x.fields) l
@@ -208,9 +208,9 @@ module _ (c : CargoList) (h : Holds c) where
       let x = f.0 in
       let within = label_within c.cells x (Region q) f.1.lies in
       let apart : x ≢ 0 = (λ z.
-        let P : ℕ → Type 0 = λ i. label_of c.cells i ≡ Some (Region q) in
-        let s = region_is q 0 (sym (subst P z f.1.lies) ∙ zero_is) in
-        omega (arith, s, above)) in
+      let P : ℕ → Type 0 = λ i. label_of c.cells i ≡ Some (Region q) in
+      let s = region_is q 0 (sym (subst P z f.1.lies) ∙ zero_is) in
+      omega (arith, s, above)) in
       let n = new_from c.cells 0 1 (length c.cells) x h.numbered.objects (omega (arith, apart)) within in
       let P : ℕ → Type 0 = λ z. slice_get n.3.cell.fields n.1 ≡ Some (Obj z) in
       from_before x f.1 n.0 n.1 n.2 (record { cell = n.3.cell; there = n.3.there; value = subst P (omega arith) n.3.value })
@@ -229,12 +229,18 @@ module _ (c : CargoList) (h : Holds c) where
           apart z = cc
 
           by : (l : Label) → w.cell.label ≡ l → (p : ℕ) × (k : ℕ) × (j : ℕ) × (a : ℕ) × Enters c.cells p q k j a
-          by (Region r) e = (r, i, g, x, record {
-            field = w;
-            from = mine ∙ ap Some e;
-            to = f.lies;
-            other = λ z. f.least i less (mine ∙ ap Some e ∙ ap (λ y. Some (Region y)) z);
-          })
+          by (Region r) e = (
+            r,
+            i,
+            g,
+            x,
+            record {
+              field = w;
+              from = mine ∙ ap Some e;
+              to = f.lies;
+              other = λ z. f.least i less (mine ∙ ap Some e ∙ ap (λ y. Some (Region y)) z);
+            },
+          )
           by (Temp t) e = absurd (no_temps i t (mine ∙ ap Some e))
           by Frozen e = absurd (apart (sym (h.frozen i g x (mine ∙ ap Some e) w) ∙ f.lies))
 
@@ -248,10 +254,10 @@ module _ (c : CargoList) (h : Holds c) where
       let x = w.field.cell in
       let lab : x.label ≡ Region p = label_some x.label (Region p) (sym (label_is c.cells k x w.field.there) ∙ w.from) in
       let cells = sum_single (λ (x : CargoCell). entries_of c.cells q x.label x.fields) c.cells k x w.field.there (λ i y d e.
-        weighs_none q i y e (λ p₂ j₂ a₂ v. d ((h.once p₂ q i j₂ a₂ p k j n.3 v w).0))) in
+      weighs_none q i y e (λ p₂ j₂ a₂ v. d ((h.once p₂ q i j₂ a₂ p k j n.3 v w).0))) in
       let fields = sum_single (λ y. cond {A = ℕ} (leads_into c.cells q y) 1 0) x.fields j (Obj n.3) w.field.value (λ i v d e.
-        ap (λ b. cond {A = ℕ} b 1 0) (leads_not p q k i x v w.field.there lab w.other e
-          (λ a₂ z. d ((h.once p q k i a₂ p k j n.3 z w).1)))) in
+      ap (λ b. cond {A = ℕ} b 1 0) (leads_not p q k i x v w.field.there lab w.other e
+      (λ a₂ z. d ((h.once p q k i a₂ p k j n.3 z w).1)))) in
       cells ∙ weighs c.cells p q k j n.3 w ∙ fields ∙ ap (λ b. cond {A = ℕ} b 1 0) (hits c.cells p q k j n.3 w)
     where
       label_some : (a b : Label) → Some a ≡ Some b → a ≡ b
@@ -278,10 +284,10 @@ module _ (c : CargoList) (h : Holds c) where
       let b = and_true head second a (comes (length c.cells) (named_from 0 1 c.cells) h.numbered.objects) in
       let d = and_true (head && second) third b (comes (length c.managers) (regions_named 0 c.cells) h.numbered.regions) in
       let e = and_true (head && second && third) fourth d
-        (all_from (λ (x : CargoCell). frozen_fits c.cells x.label x.fields) c.cells fits) in
+      (all_from (λ (x : CargoCell). frozen_fits c.cells x.label x.fields) c.cells fits) in
       and_true (head && second && third && fourth) fifth e
-        (all_from (is_entered c.cells) (range_with_len 0 (length c.managers)) (λ k q g.
-          let b = range_below 0 (length c.managers) k q g in entered q (omega (arith, b))))
+      (all_from (is_entered c.cells) (range_with_len 0 (length c.managers)) (λ k q g.
+      let b = range_below 0 (length c.managers) k q g in entered q (omega (arith, b))))
     where
       range_below : (a n k q : ℕ) → slice_get (range_with_len a n) k ≡ Some q → q < a + n
       range_below a zero k q e = cc

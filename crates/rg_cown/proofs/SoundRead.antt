@@ -124,9 +124,12 @@ module _ (at : ℕ → Seen) (P : ℕ → Type 0) (manager : ℕ → Manager) (m
       → (a : ℕ) × (slice_get final.order k ≡ Some a) × P a × (x ≡ numbered final.order final.regions (at a))
   object_at k x e =
       let l = cell_within final.cells k x e in
-      let a = number_there final.order k (omega (arith, l, many)) in
-      (a.0, a.1, met a.0 (stands_any final.order k a.0 a.1),
-        stays.0.cells k a.0 x final.order final.regions a.1 e (longer_same final.order) (longer_same final.regions))
+      let a = number_there final.order k (omega (arith, l, many)) in (
+        a.0,
+        a.1,
+        met a.0 (stands_any final.order k a.0 a.1),
+        stays.0.cells k a.0 x final.order final.regions a.1 e (longer_same final.order) (longer_same final.regions),
+      )
 
   -- the same where the object is known
   object_is : (k a : ℕ) (x : CargoCell) → slice_get final.order k ≡ Some a → slice_get final.cells k ≡ Some x → x ≡ numbered final.order final.regions (at a)
@@ -186,13 +189,17 @@ module _ (at : ℕ → Seen) (P : ℕ → Type 0) (manager : ℕ → Manager) (m
       → slice_get final.order y ≡ Some b → (pr : ℕ) × (qr : ℕ) × Leads at pr qr a j b × (slice_get final.regions q ≡ Some qr)
   leads_read p q k j y a b n e f g =
       let lp = label_read k p a e n.from in
-      let lq = label_read y q b g n.to in
-      (lp.0, lq.0, record {
-        from = lp.1;
-        field = f;
-        to = lq.1;
-        other = λ z. n.other (sym lp.2 ∙ ap (λ r. position_or_len (nat_eq r) final.regions) z ∙ lq.2);
-      }, lq.3)
+      let lq = label_read y q b g n.to in (
+        lp.0,
+        lq.0,
+        record {
+          from = lp.1;
+          field = f;
+          to = lq.1;
+          other = λ z. n.other (sym lp.2 ∙ ap (λ r. position_or_len (nat_eq r) final.regions) z ∙ lq.2);
+        },
+        lq.3,
+      )
 
   pub read_holds : Holds c
   read_holds = record {
@@ -308,7 +315,7 @@ module _ (t : Table) (regions : RegionTable) (r : ℕ) (g : Grove t regions) whe
             let f = field_back (body_at h a) j x v.field in
             let f₂ = field_back (body_at h a₂) j₂ x₂ w.field in
             g.one_in q p a j x p₂ a₂ j₂ x₂ v.other (lies a (Region p) l v.from) f (lies x (Region q) (on a j x l f) v.to)
-              w.other (lies a₂ (Region p₂) m w.from) f₂ (lies x₂ (Region q) (on a₂ j₂ x₂ m f₂) w.to);
+            w.other (lies a₂ (Region p₂) m w.from) f₂ (lies x₂ (Region q) (on a₂ j₂ x₂ m f₂) w.to);
         none_back = λ p a j x l w. back p a j x l w;
       }
 
