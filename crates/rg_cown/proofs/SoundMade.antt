@@ -198,7 +198,8 @@ module _ (c : CargoList) (h : Holds c) where
       by Frozen l = ap (λ z. entries_of c.cells q z x.fields) l
 
   entered_none : entries c.cells 0 ≡ 0
-  entered_none = sum_none (λ (x : CargoCell). entries_of c.cells 0 x.label x.fields) c.cells (λ k x e. weighs_none 0 k x e (λ p j a. h.none_in p k j a))
+  entered_none = sum_none (λ (x : CargoCell). entries_of c.cells 0 x.label x.fields) c.cells
+      (λ k x e. weighs_none 0 k x e (λ p j a. h.none_in p k j a))
 
   -- the field that names the first object of a region
   entry : (q : ℕ) → 0 < q → q < length c.managers → (p : ℕ) × (k : ℕ) × (j : ℕ) × (a : ℕ) × Enters c.cells p q k j a

@@ -1,5 +1,6 @@
 -- What is read of a closed region is a sound list (docs/architecture.md, "Cargo").
-use Rattle.std.proofs.Common.{◌≡◌, ◌≢◌, ℕ, zero, suc, ◌≤◌, ◌⊎◌, inl, inr, true, List, [], ◌∷◌, map, length, Option, Some, None, IsSome, slice_get, option_map}
+use Rattle.std.proofs.Common.{◌≡◌, ◌≢◌, ℕ, zero, suc, ◌≤◌, ◌⊎◌, inl, inr, true, List, [], ◌∷◌, map, length, Option, Some, None, IsSome, slice_get}
+use Rattle.std.proofs.Common.{option_map}
 use Rattle.std.proofs.Common.{refl, sym, ap, ◌∙◌, subst, arith}
 use Rattle.std.specs.Prelude.{nat_eq, eqb}
 use Rattle.std.specs.List.{list_any, position_or_len, IsDistinct}
@@ -132,7 +133,8 @@ module _ (at : ℕ → Seen) (P : ℕ → Type 0) (manager : ℕ → Manager) (m
       )
 
   -- the same where the object is known
-  object_is : (k a : ℕ) (x : CargoCell) → slice_get final.order k ≡ Some a → slice_get final.cells k ≡ Some x → x ≡ numbered final.order final.regions (at a)
+  object_is : (k a : ℕ) (x : CargoCell) → slice_get final.order k ≡ Some a → slice_get final.cells k ≡ Some x
+      → x ≡ numbered final.order final.regions (at a)
   object_is k a x e f = stays.0.cells k a x final.order final.regions e f (longer_same final.order) (longer_same final.regions)
 
   field_read : (k j y : ℕ) → HasField final.cells k j (Obj y)
