@@ -13,7 +13,8 @@ use Rattle.rg_cells.specs.Table.{Table, body_at, field_at}
 use Rattle.rg_regions.specs.Table.{Record, RegionTable, record_at, HasNumber, Has, Chained}
 use Rattle.rg_regions.specs.Reach.{LiesIn, Roots}
 use Rattle.rg_regions.specs.Grove.{Grove, Parent, Above, direct, further}
-use Rattle.rg_regions.specs.Collection.{OneShrinks, Lost, Orphaning, ChainsOrphans, HasManager}
+use Rattle.rg_regions.specs.Collection.{Lost, Orphaning, ChainsOrphans, HasManager}
+use Rattle.rg_regions.specs.Shrinks.{OneShrinks}
 use Rattle.rg_regions.proofs.Callers.Told.{one_number, one_region, lies_or_not, number_of, same_members}
 use Rattle.rg_regions.proofs.Callers.Fewer.{label_before, field_before, above_both}
 use Rattle.rg_release.specs.Released.{Unowned, BelowOne}

@@ -4,7 +4,7 @@ use Rattle.rg_base.specs.declared.value.Word.TheVariants.{Slot}
 use Rattle.rg_cells.specs.Table.{Heap, Table, body_at, field_at, mark_at}
 use Rattle.rg_regions.specs.Table.{Record, RegionTable}
 use Rattle.rg_regions.specs.Reach.{LiesIn, Roots, Reach}
-use Rattle.rg_regions.specs.Collection.{OneShrinks}
+use Rattle.rg_regions.specs.Shrinks.{OneShrinks}
 
 -- a cell isn't in reach
 abbrev pub OutOfReach : Heap → (region : ℕ) → Roots → (slot : ℕ) → Type 0
