@@ -22,7 +22,8 @@ use Rattle.rg_heap.specs.Parts.{Parts}
 use Rattle.rg_base.specs.declared.words.Manager.{Manager}
 use Rattle.rg_regions.specs.Spent.{Spent}
 use Rattle.rg_count.specs.Counted.{Counted}
-use Rattle.rg_trace.specs.Collected.{Collected, OutOfReach}
+use Rattle.rg_trace.specs.Collected.{Collected}
+use Rattle.rg_regions.specs.Reach.{OutOfReach}
 use Rattle.rg_heap.specs.Collects.{Collects, LostBelow, Told}
 use Rattle.rg_heap.specs.Inner.Chains.{Gone}
 use Rattle.rg_heap.proofs.Ended.{gone_sub}

@@ -26,7 +26,7 @@ use Rattle.rg_stack.specs.Machine.{Machine, Window}
 use Rattle.rg_stack.specs.Needs.{field_of, owned_once}
 use Rattle.rg_stack.specs.Needs.{value_at as shown_at}
 use Rattle.rg_stack.specs.Shows.{sizes_of}
-use Rattle.rg_trace.specs.Collected.{OutOfReach}
+use Rattle.rg_regions.specs.Reach.{OutOfReach}
 use Rattle.rg_heap.specs.Answers.{AllLead, val_of}
 use Rattle.rg_heap.specs.Collects.{Collects}
 use Rattle.rg_heap.specs.Parts.{Parts}

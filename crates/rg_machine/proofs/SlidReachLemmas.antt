@@ -19,7 +19,7 @@ use Rattle.rg_frames.specs.Stack.{Stack}
 use Rattle.rg_stack.specs.Machine.{Machine}
 use Rattle.rg_stack.specs.Needs.{owned_once}
 use Rattle.rg_stack.specs.Shows.{Shows}
-use Rattle.rg_trace.specs.Collected.{OutOfReach}
+use Rattle.rg_regions.specs.Reach.{OutOfReach}
 use Rattle.rg_heap.specs.declared.answers.Collected.{Collected}
 use Rattle.rg_heap.specs.Collects.{Collects}
 use Rattle.rg_heap.specs.Ends.{top_temps}
