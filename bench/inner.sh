@@ -3,8 +3,10 @@
 # hands out, the headline's among them, it follows the imports of specification modules, prints each way that ends at
 # a module of specs/Inner, and fails then. A function is handed out where its crate's lib.rt names it, or its type, in
 # a `pub use`. Proofs, private functions, views and invariants may cite Inner.
-# Then it compares the modules to which the clauses of `reggio` lead with the first table under "Where the definitions
-# stand" in docs/architecture.md, and fails where one of the two has more. Not a part of the gate.
+# Then it compares the modules to which the clauses of `reggio` lead with the tables under "Where the definitions
+# stand" in docs/architecture.md, in two groups: what is believed of the text, and what of collections too, to which only
+# the states of a run lead. It fails where a table or a group has more than the other, or where a module holds nothing to
+# which names lead from these clauses, and prints the modules and lines of each group. Not a part of the gate.
 # Usage: bench/inner.sh
 cd "$(dirname "$0")/.." && exec python3 - <<'PY'
 import glob, os, re, sys

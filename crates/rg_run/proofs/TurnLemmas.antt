@@ -41,7 +41,7 @@ use Rattle.rg_step.specs.Steps.{opening_machine}
 use Rattle.rg_step.specs.Stepping.{Stepping}
 use Rattle.rg_step.specs.Steps.{Leapt, Runs, IsRunning, StepsOn}
 use Rattle.rg_step.specs.Steps as stepper
-use Rattle.rg_step.specs.Collections.{Asks}
+use Rattle.rg_step.specs.Pacers.{Asks}
 use Rattle.rg_run.specs.Asked.{AskedOver}
 use Rattle.rg_run.specs.Collected.{Tells}
 use Rattle.rg_run.specs.Machine.{Kept, ShowsAt}

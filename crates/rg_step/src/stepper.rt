@@ -12,7 +12,7 @@ ghost use Rattle.rg_code.specs.Code.{Code};
 ghost use Rattle.rg_held.specs.Shown.{Finds, ShowsHeld};
 ghost use Rattle.rg_machine.specs.Owned.{IsOwned};
 ghost use Rattle.rg_machine.specs.Parts.{Parts, machine_in};
-ghost use Rattle.rg_step.specs.Collections.{Asks};
+ghost use Rattle.rg_step.specs.Pacers.{Asks};
 ghost use Rattle.rg_step.specs.States.{Chain, OneStep, Opens};
 ghost use Rattle.rg_step.specs.Steps.{IsResting, IsRunning, Leapt, Runs};
 ghost use Rattle.rg_step.specs.Stepping.{IsFresh};
