@@ -121,6 +121,16 @@ impl Stepper {
         }
     }
 
+    /// The address of the mark at which the next step begins; 0 before a program begins.
+    pub fn at(&self) -> usize
+        ensures { result ≡ self.now.parts.at }
+    {
+        match &self.machine {
+            Some(p) => p.at(),
+            None => 0,
+        }
+    }
+
     /// The collections so far, in order.
     pub fn events(&self) -> &[Event]
         ensures { result.now ≡ self.now.events }
