@@ -24,7 +24,8 @@ use Rattle.rg_machine.specs.Parts.{Parts, machine_in}
 use Rattle.rg_machine.proofs.CollectLemmas.{Active, active}
 use Rattle.rg_machine.proofs.PartLemmas.{shown-part}
 use Rattle.rg_machine.proofs.ReachShownLemmas.{Beside}
-use Rattle.rg_step.specs.Collections.{Asks, CollectsAsked, CollectsOn, GathersBy, IsCollected, IsLeft, Paces, Serves, ServesBy, event_of}
+use Rattle.rg_step.specs.Pacers.{Asks}
+use Rattle.rg_step.specs.Collections.{CollectsAsked, CollectsOn, GathersBy, IsCollected, IsLeft, Paces, Serves, ServesBy, event_of}
 use Rattle.rg_step.specs.States.{OneStep, Standing}
 use Rattle.rg_step.specs.Steps.{Runs, is_made}
 use Rattle.rg_step.specs.Stepping.{Stepping}
