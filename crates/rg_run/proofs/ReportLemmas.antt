@@ -21,7 +21,8 @@ use Rattle.rg_io.proofs.ContentLemmas.{Appends-none, Appends-more, Rose-since}
 use Rattle.rg_sound.proofs.Basics.{none-some}
 use Rattle.rg_machine.specs.Parts.{Parts}
 use Rattle.rg_step.specs.Stepping.{Stepping}
-use Rattle.rg_step.specs.Collections.{Asks, IsCollected, IsLeft, CollectsOn, CollectsAsked, Paces, Serves, ServesBy, event_of}
+use Rattle.rg_step.specs.Collections.{IsCollected, IsLeft, CollectsOn, CollectsAsked, Paces, Serves, ServesBy, event_of}
+use Rattle.rg_step.specs.Pacers.{Asks}
 use Rattle.rg_run.specs.Inner.{CutsLine, Gives, IsUntold, OneMore, Adds, behind}
 use Rattle.rg_run.specs.Reports.{Reports, event_lines}
 
