@@ -57,8 +57,8 @@ fn texts(alloc: Global, words: &[String]) -> Result<Vec<&str>, AllocError> {
 /// Says why there are no words.
 fn tell_no_words<R: Sink>(notes: &mut R, why: NoWords) -> Status
     ensures told { (result ≡ status_without why) ⊎ (result ≡ Status.OutputFault) }
-    ensures took { (m : Kept) →
-        TookNotes false 0 m result (R.taken notes.old) (R.taken notes.new) }
+    ensures took { (m : Kept) → TookNotes (λ s. s ≡ status_without why) false 0 m result
+        (R.taken notes.old) (R.taken notes.new) }
 {
     match why {
         NoWords::NotText => tell(notes, Status::Usage, 0),
