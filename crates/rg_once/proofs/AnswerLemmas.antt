@@ -1,5 +1,5 @@
 -- One answer to a step: what its instructions left shows the state behind the step, and how a collection that it told came about.
-use Rattle.std.proofs.Common.{◌≡◌, ◌≤◌, ◌-◌, ◌^◌, ℕ, Bool as Truth, true, false, true≢false, List, [], ◌∷◌, ◌++◌, Option, Some, None, refl, sym, ap, ◌∙◌}
+use Rattle.std.proofs.Common.{◌≡◌, ◌≤◌, ◌-◌, ◌^◌, ℕ, Bool as Truth, true, false, true≢false, List, [], ◌∷◌, ◌++◌, Option, Some, None, sym, ap, ◌∙◌}
 use Rattle.std.proofs.Common.{subst}
 use Rattle.rg_base.specs.declared.event.Cause.{Cause}
 use Rattle.rg_base.specs.declared.event.Cause.TheVariants.{Asked, Paced}
@@ -11,12 +11,10 @@ use Rattle.rg_base.specs.declared.words.Manager.TheVariants.{Arena, Count, Trace
 use Rattle.rg_tree.specs.Tree.{Tree}
 use Rattle.rg_rules.specs.State.{State, active as active_region}
 use Rattle.rg_rules.specs.Steps.{Went, next}
-use Rattle.rg_sound.specs.Fit.{Fit}
 use Rattle.rg_sound.proofs.LawLemmas.{step-keeps}
 use Rattle.rg_code.specs.Code.{Code}
 use Rattle.rg_code.specs.Dues.{due_at}
 use Rattle.rg_stack.specs.Effects.{top_region}
-use Rattle.rg_heap.specs.declared.answers.Active.{Active as Told}
 use Rattle.rg_held.specs.Gather.{Gathered}
 use Rattle.rg_held.specs.Shown.{ShowsHeld}
 use Rattle.rg_machine.specs.Collects.{holds}
@@ -25,7 +23,7 @@ use Rattle.rg_machine.proofs.CollectLemmas.{Active, active}
 use Rattle.rg_machine.proofs.PartLemmas.{shown-part}
 use Rattle.rg_machine.proofs.ReachShownLemmas.{Beside}
 use Rattle.rg_step.specs.Pacers.{Asks}
-use Rattle.rg_step.specs.Collections.{CollectsAsked, CollectsOn, GathersBy, IsCollected, IsLeft, Paces, Serves, ServesBy, event_of}
+use Rattle.rg_step.specs.Collections.{CollectsAsked, CollectsOn, GathersBy, IsCollected, Paces, Serves, ServesBy, event_of}
 use Rattle.rg_step.specs.States.{OneStep, Standing}
 use Rattle.rg_step.specs.Steps.{Runs, is_made}
 use Rattle.rg_step.specs.Stepping.{Stepping}

@@ -11,7 +11,6 @@ use Rattle.rg_regions.specs.Grove.{Members}
 use Rattle.rg_regions.specs.Reach.{LiesIn}
 use Rattle.rg_regions.proofs.Callers.Told.{labelled_held}
 use Rattle.rg_frames.specs.Stack.{Stack}
-use Rattle.rg_heap.specs.Answers.{val_of}
 use Rattle.rg_heap.specs.Parts.{Parts}
 use Rattle.rg_view.specs.View.{object_of, store_of}
 use Rattle.rg_view.proofs.Callers.LinkLemmas.{label-in}

@@ -1,11 +1,10 @@
 -- Two collections that keep the same of the active region keep the same.
-use Rattle.std.proofs.Common.{◌≡◌, ◌⊎◌, inl, inr, ℕ, Bool as Truth, true, false, true≢false, List, Option, Some, option_map, slice_get, refl, sym, ap, ◌∙◌}
-use Rattle.std.proofs.Common.{subst}
+use Rattle.std.proofs.Common.{◌≡◌, inl, inr, ℕ, Bool as Truth, true, false, true≢false, List, Some, option_map, slice_get, refl, sym, ap, ◌∙◌}
 use Rattle.std.proofs.lemmas.Bool.{cases_eq}
 use Rattle.rg_base.specs.declared.object.Label.{Label}
 use Rattle.rg_base.specs.declared.object.Label.TheVariants.{Region, Temp, Frozen}
 use Rattle.rg_base.specs.declared.object.Seen.{Seen}
-use Rattle.rg_rules.specs.Regions.{region_at, region_of}
+use Rattle.rg_rules.specs.Regions.{region_at}
 use Rattle.rg_stack.specs.Effects.{top_region}
 use Rattle.rg_stack.specs.Machine.{Machine}
 use Rattle.rg_held.specs.Gather.{Gathered, LinkOut, Loses, first, further}

@@ -1,5 +1,6 @@
 -- What a collection of the active region keeps of it: what the state reaches, or what isn't spent.
-use Rattle.std.proofs.Common.{◌≡◌, ◌⊎◌, inl, inr, ℕ, ◌-◌, Bool as Truth, true, false, drop, length, Option, Some, None, option_map, refl, sym, ap, ◌∙◌, subst, arith}
+use Rattle.std.proofs.Common.{◌≡◌, ◌⊎◌, inl, inr, ℕ, ◌-◌, Bool as Truth, true, false, drop, length, Option, Some, None, option_map, refl, sym, ap}
+use Rattle.std.proofs.Common.{◌∙◌, subst, arith}
 use Rattle.std.proofs.lemmas.Option.{none-some, same_Some}
 use Rattle.rg_base.specs.declared.object.Label.TheVariants.{Region}
 use Rattle.rg_base.specs.declared.words.Manager.{Manager}
@@ -11,7 +12,7 @@ use Rattle.rg_rules.specs.State.{State}
 use Rattle.rg_sound.proofs.Stores.MemberLemmas.{In}
 use Rattle.rg_code.specs.Code.{Code}
 use Rattle.rg_cells.specs.declared.cell.Body.{Body}
-use Rattle.rg_cells.specs.Table.{Heap, Serials, body_at}
+use Rattle.rg_cells.specs.Table.{Heap, body_at}
 use Rattle.rg_regions.specs.Collection.{roots_of}
 use Rattle.rg_regions.specs.Grove.{Grove}
 use Rattle.rg_regions.specs.Reach.{LiesIn}
@@ -34,7 +35,7 @@ use Rattle.rg_view.specs.View.{machine_of}
 use Rattle.rg_view.proofs.Callers.LinkLemmas.{label-in}
 use Rattle.rg_view.proofs.Callers.ShownLemmas.{held-body}
 use Rattle.rg_machine.specs.Collects.{holds}
-use Rattle.rg_machine.specs.Parts.{Parts as Whole, machine_in}
+use Rattle.rg_machine.specs.Parts.{Parts as Whole}
 use Rattle.rg_machine.proofs.ActiveLemmas.{on-each}
 use Rattle.rg_machine.proofs.CollectLemmas.{Active, lead-behind, root-stays, roots_in, was}
 use Rattle.rg_machine.proofs.GatherLemmas.{holds-back, holds-there}
@@ -207,7 +208,8 @@ module _ (old new : Parts) (v : Stack) (at : ℕ) (t : Tree) (code : Code) (s : 
       (subst (λ k. region_at s.store k ≡ Some a.rec.number) serial (region-there old v at t code s m z a.rec.number x b e lies)))
 
 -- the roots of the active region lead to addresses at which the state starts
-module _ (old : Parts) (v : Stack) (at : ℕ) (t : Tree) (code : Code) (s : State) (m : Machine) (z : Beside old v at t code s m) (a : Active old v) where
+module _ (old : Parts) (v : Stack) (at : ℕ) (t : Tree) (code : Code) (s : State) (m : Machine) (z : Beside old v at t code s m)
+    (a : Active old v) where
   abbrev ws : TopShown (sizes_of (frames_of old.cells.heap v)) a.window a.rec.number s.windows
   ws = top-shown old v at t code s m z a
 

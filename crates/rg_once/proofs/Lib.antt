@@ -1,4 +1,5 @@
 -- The lemmas by which a step is shown to be determined.
+mod Moves
 mod CellLemmas
 mod TableLemmas
 mod SpentLemmas
@@ -6,4 +7,13 @@ mod KeptLemmas
 mod GoneLemmas
 mod AnswerLemmas
 mod OnceLemmas
+mod ClimbLemmas
+mod HeldLemmas
+mod SeenLemmas
+mod HangLemmas
+mod MadeLemmas
+mod ComesLemmas
+mod QuietLemmas
+mod MoveLemmas
+mod ShiftedLemmas
 mod LawLemmas

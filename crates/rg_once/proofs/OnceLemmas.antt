@@ -1,41 +1,41 @@
 -- Two answers to a step: where the instructions left the same held, a collection tells the same, and leaves the same held.
-use Rattle.std.proofs.Common.{◌≡◌, ◌≤◌, ◌-◌, ◌^◌, ℕ, ◌+◌, Bool as Truth, true, false, List, [], ◌∷◌, ◌++◌, Some, None, is_some, length, count_by, slice_get}
-use Rattle.std.proofs.Common.{option_map, refl, sym, ap, ◌∙◌, subst, arith}
+use Rattle.std.proofs.Common.{◌≡◌, ◌≤◌, ℕ, true, List, Some, is_some, length, count_by, slice_get}
+use Rattle.std.proofs.Common.{sym, ap, ◌∙◌, subst, arith}
 use Rattle.std.proofs.lemmas.Option.{same_Some}
 use Rattle.rg_base.specs.declared.event.Cause.{Cause}
-use Rattle.rg_base.specs.declared.event.Cause.TheVariants.{Asked}
 use Rattle.rg_base.specs.declared.event.Event.{Event}
 use Rattle.rg_base.specs.declared.object.Label.TheVariants.{Region}
 use Rattle.rg_base.specs.declared.object.Seen.{Seen}
 use Rattle.rg_base.specs.declared.words.Manager.{Manager}
-use Rattle.rg_base.specs.declared.words.Manager.TheVariants.{Arena, Count, Trace}
 use Rattle.rg_tree.specs.Tree.{Tree}
-use Rattle.rg_rules.specs.State.{State, active as active_region}
+use Rattle.rg_rules.specs.State.{State}
 use Rattle.rg_code.specs.Code.{Code}
-use Rattle.rg_code.specs.Dues.{due_at}
 use Rattle.rg_cells.specs.declared.cell.Body.{Body}
 use Rattle.rg_cells.specs.Table.{body_at}
 use Rattle.rg_regions.specs.Grove.{Members}
 use Rattle.rg_regions.specs.Reach.{LiesIn}
-use Rattle.rg_regions.specs.Table.{Record}
 use Rattle.rg_stack.specs.Effects.{top_region}
-use Rattle.rg_heap.specs.declared.answers.Collected.{Collected}
 use Rattle.rg_view.specs.View.{object_of, store_of}
 use Rattle.rg_view.proofs.Callers.LinkLemmas.{label-in}
 use Rattle.rg_view.proofs.Callers.LookLemmas.{store-held}
 use Rattle.rg_machine.specs.Collects.{holds}
 use Rattle.rg_machine.specs.Parts.{Parts, machine_in}
 use Rattle.rg_machine.proofs.GatherLemmas.{holds-back}
-use Rattle.rg_step.specs.Collections.{event_of}
 use Rattle.rg_step.specs.States.{Standing}
-use Rattle.rg_step.specs.Stepping.{Stepping}
 use Rattle.rg_step.proofs.ToldLemmas.{event-told}
-use Rattle.rg_once.specs.Once.{HoldTheSame, OfTheSame, Tells}
+use Rattle.rg_once.specs.Once.{HoldTheSame, Tells}
 use Rattle.rg_once.proofs.AnswerLemmas.{Answer, Made, beside, collects-so, few-behind, gathered, last, made-of, mid, region-is, top, top-is}
 use Rattle.rg_once.proofs.CellLemmas.{Within, held-same, members-fewer, within}
 use Rattle.rg_once.proofs.GoneLemmas.{behind-same, both-ways, keeps-also}
 use Rattle.rg_once.proofs.KeptLemmas.{kept-also}
 use Rattle.rg_once.proofs.TableLemmas.{regions-fewer}
+
+-- two collections in the same step, of the same region, by its manager and for the same cause
+record OfTheSame (e d : Event) : Type 0 where
+  pub step : e.step ≡ d.step
+  pub region : e.region ≡ d.region
+  pub manager : e.manager ≡ d.manager
+  pub cause : e.cause ≡ d.cause
 
 -- events with the same parts
 event-same : (e d : Event) → OfTheSame e d → e.held ≡ d.held → e.kept ≡ d.kept → e.released ≡ d.released → e ≡ d
@@ -192,7 +192,7 @@ module _ {t : Tree} {code : Code} {old : Standing} {p q : State} {new other : St
 module _ {t : Tree} {code : Code} {old : Standing} {p q : State} {new other : Standing} (w : Answer t code old p q new)
     (u : Answer t code old p q other) where
   -- where both tell of a collection, it is of the same
-  pub of-the-same : new.stepper.steps ≡ other.stepper.steps → (e d : Event) → Tells old new e → Tells old other d → OfTheSame e d
+  of-the-same : new.stepper.steps ≡ other.stepper.steps → (e d : Event) → Tells old new e → Tells old other d → OfTheSame e d
   of-the-same steps e d more also =
       let x = event-told t code old new w.result w.before w.after w.made w.step p q w.runs w.input w.went e more in
       let y = event-told t code old other u.result u.before u.after u.made u.step p q u.runs u.input u.went d also in
@@ -202,7 +202,6 @@ module _ {t : Tree} {code : Code} {old : Standing} {p q : State} {new other : St
         region = x.region ∙ sym y.region;
         manager = manager;
         cause = same_Some e.cause d.cause (sym x.due ∙ y.due);
-        kept = λ trace. x.kept trace ∙ sym (y.kept (sym manager ∙ trace));
       }
 
   -- where the instructions left the same held, all that is told is the same, and the same is held behind it

@@ -3,7 +3,6 @@ use Rattle.std.specs.Prelude.{◌≡◌, ◌≤◌, ◌-◌, ◌^◌, ℕ, true,
 use Rattle.rg_base.specs.declared.event.Cause.TheVariants.{Asked}
 use Rattle.rg_base.specs.declared.event.Event.{Event}
 use Rattle.rg_base.specs.declared.outcome.Outcome.{Outcome}
-use Rattle.rg_base.specs.declared.words.Manager.TheVariants.{Trace}
 use Rattle.rg_tree.specs.Tree.{Tree}
 use Rattle.rg_rules.specs.State.{State}
 use Rattle.rg_code.specs.Code.{Code}
@@ -24,14 +23,6 @@ Tells old new e = new.stepper.events ≡ old.stepper.events ++ e ∷ []
 abbrev pub TellsNone : (old new : Standing) → Type 0
 TellsNone old new = new.stepper.events ≡ old.stepper.events
 
--- two collections in the same step, of the same region, by its manager and for the same cause; mark and sweep kept as much in both
-pub record OfTheSame (e d : Event) : Type 0 where
-  pub step : e.step ≡ d.step
-  pub region : e.region ≡ d.region
-  pub manager : e.manager ≡ d.manager
-  pub cause : e.cause ≡ d.cause
-  pub kept : e.manager ≡ Trace → e.kept ≡ d.kept
-
 -- Two answers to a step from the same state of an accepted program, with the same bytes of an input, each of which made the step.
 pub record MadeTwice (t : Tree) (code : Code) (old these those : Standing) (before : List ℕ) : Type 0 where
   pub state : State
@@ -50,23 +41,20 @@ pub record MadeTwice (t : Tree) (code : Code) (old these those : Standing) (befo
 
 -- What the two have in common, whatever the pacers said.
 pub record IsOnce (t : Tree) (code : Code) (old these those : Standing) (before : List ℕ) (w : MadeTwice t code old these those before) : Type 0 where
-  -- the same is left of the input
+  -- the answer, and what is left of the input
+  pub answer : w.result ≡ w.other
   pub input : w.after ≡ w.rest
-  -- where both tell of a collection, it is of the same
-  pub told : (e d : Event) → Tells old these e → Tells old those d → OfTheSame e d
+  -- the instructions leave the same held
+  pub held : HoldTheSame w.step.serves.mid w.also.serves.mid
+  -- where neither tells of a collection, the same is held behind the step
+  pub left : TellsNone old these → TellsNone old those → HoldTheSame these.stepper.parts those.stepper.parts
   -- of one that was asked for both tell, or neither
   pub both : due_at code.ops old.stepper.parts.at ≡ Some Asked → (e : Event) → Tells old these e → (d : Event) × Tells old those d
-  -- the instructions of a `collect` leave the same held
-  pub asked : due_at code.ops old.stepper.parts.at ≡ Some Asked → HoldTheSame w.step.serves.mid w.also.serves.mid
-  -- where the instructions leave the same held and both tell of a collection, they tell the same: how many objects the region had, how many of
-  -- them were kept, and how many regions went; and the same is held behind it
-  pub collected : HoldTheSame w.step.serves.mid w.also.serves.mid → (e d : Event) → Tells old these e → Tells old those d
-      → (e ≡ d) × HoldTheSame these.stepper.parts those.stepper.parts
-  -- and where neither tells of one, the same is held, too
-  pub left : HoldTheSame w.step.serves.mid w.also.serves.mid → TellsNone old these → TellsNone old those
-      → HoldTheSame these.stepper.parts those.stepper.parts
+  -- where both tell of one, they tell the same: step, region, manager and cause, how many objects the region had, how many of them were kept,
+  -- and how many regions went; and the same is held behind the step
+  pub collected : (e d : Event) → Tells old these e → Tells old those d → (e ≡ d) × HoldTheSame these.stepper.parts those.stepper.parts
 
--- a step is determined
+-- a step is determined, but for what a pacer says
 abbrev pub StepsOnce : Type 0
 StepsOnce = (t : Tree) (code : Code) (old these those : Standing) (before : List ℕ) (w : MadeTwice t code old these those before)
     → IsOnce t code old these those before w

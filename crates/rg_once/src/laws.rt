@@ -3,9 +3,9 @@
 
 ghost use Rattle.rg_once.specs.Once.{StepsOnce};
 
-/// Two answers to a step from one state agree in what is left of the input and in the collection
-/// that they tell; where the instructions left the same held, as in front of a `collect`, they
-/// agree in all that is told of it, and the same is held behind it.
+/// Two answers to a step from one state agree: in what they say, in what is left of the input and
+/// in what the instructions leave held; where both tell of a collection, in all that is told of it
+/// and in what is held behind it.
 pub fn steps_once()
     ensures { StepsOnce }
 {}
