@@ -3,8 +3,10 @@
 # hands out, the headline's among them, it follows the imports of specification modules, prints each way that ends at
 # a module of specs/Inner, and fails then. A function is handed out where its crate's lib.rt names it, or its type, in
 # a `pub use`. Proofs, private functions, views and invariants may cite Inner.
-# Then it compares the modules to which the clauses of `reggio` lead with the first table under "Where the definitions
-# stand" in docs/architecture.md, and fails where one of the two has more. Not a part of the gate.
+# Then it compares the modules to which the clauses of `reggio` lead with the tables under "Where the definitions
+# stand" in docs/architecture.md, in two groups: what is believed of the text, and what of collections too, to which only
+# the states of a run lead. It fails where a table or a group has more than the other, or where a module holds nothing to
+# which names lead from these clauses, and prints the modules and lines of each group. Not a part of the gate.
 # Usage: bench/inner.sh
 cd "$(dirname "$0")/.." && exec python3 - <<'PY'
 import glob, os, re, sys
@@ -26,19 +28,19 @@ def imports(text):
 
 def file_of(crate, module): return f"crates/{crate}/specs/{module.replace('.', '/')}.antt"
 
-def followed(ways):
-    """All modules to which imports lead from these, each with its way."""
+def followed(ways, but=None):
+    """All modules to which imports lead from these, but not from one, each with its way."""
     todo = [*ways]
     while todo:
         at = todo.pop(0)
-        if at[1].startswith("Inner.") or not os.path.isfile(file_of(*at)): continue
+        if at == but or at[1].startswith("Inner.") or not os.path.isfile(file_of(*at)): continue
         for more, _ in imports(read(file_of(*at))):
             if more not in ways:
                 ways[more] = [*ways[at], ".".join(at)]
                 todo.append(more)
     return ways
 
-ways, headline = {}, {}
+ways, headline, first = {}, {}, {}
 for lib in sorted(glob.glob("crates/*/src/lib.rt")):
     crate = lib.split("/")[1]
     given = {*re.findall(r"\w+", " ".join(re.findall(r"pub use ([^;]*);", read(lib))))}
@@ -53,21 +55,66 @@ for lib in sorted(glob.glob("crates/*/src/lib.rt")):
             for module, name in imports(text):
                 if name not in clauses: continue
                 ways.setdefault(module, [f"{crate}::{of[1]}"])
-                if (crate, of[1]) == ("rg_top", "reggio"): headline[module] = ["rg_top::reggio"]
+                if (crate, of[1]) == ("rg_top", "reggio"):
+                    headline[module] = ["rg_top::reggio"]
+                    first.setdefault(module, set()).add(name)
 
 inner = [(at, way) for at, way in followed(ways).items() if at[1].startswith("Inner.")]
 for at, way in inner: print(" -> ".join([*way, ".".join(at)]))
 print(f"{len(ways)} modules are reached, {len(inner)} of them are of specs/Inner")
 
-believed = {at for at in followed(headline) if os.path.isfile(file_of(*at))}
-table = read("docs/architecture.md").split("\n## Where the definitions stand\n")[1].split("\nClauses of other calls")[0]
-named = set()
-for row in re.findall(r"(?m)^\| [^|]* \| (.*) \|$", table):
-    for crate, module in re.findall(r"`(?:(\w+)/specs/)?([\w/]+)`", row):
-        last = crate or last
-        named.add((last, module.replace("/", ".")))
-for at in sorted(believed ^ named):
-    print(".".join(at), "isn't in the table" if at in believed else "is in the table, and no clause of reggio leads to it")
-print(f"{len(believed)} modules are reached from reggio, {len(named)} stand in the table")
-sys.exit(bool(inner) or believed != named)
+# What is believed of the text, and what of collections too: the second group is what the states of a run alone lead to.
+STATES = ("rg_run", "States")
+TABLES = ["to believe the text", "to believe what is told of collections"]
+
+def stands(ways): return {at for at in ways if os.path.isfile(file_of(*at))}
+
+believed = stands(followed(dict(headline)))
+text = stands(followed({**headline, STATES: []}, but=STATES)) - {STATES}
+groups = [text, believed - text]
+
+# The definitions of a module: each item at the margin, by the names that it gives (a record's and its fields', a type's and its cases').
+def items(at):
+    for item in re.split(r"\n\n+", re.sub(r"(?m)^ *--.*\n?", "", read(file_of(*at)))):
+        lines = [line for line in item.split("\n") if line and not re.match(r" *(pub )?use ", line)]
+        body = "\n".join(lines)
+        names = re.findall(r"(?m)^ *(?:unfoldable |abbrev |pub |record |data )*([^\s(){}:]+)(?= [({]| :)", body)
+        if names: yield {*names}, {*re.findall(r"[^\s(){}\[\],;:.&*<>=↦|→×]+", body)}
+
+def used():
+    """All definitions to which names lead from the clauses, as (module, item)."""
+    defined, names, wholes = {}, {}, {}
+    for at in believed:
+        defined[at] = list(items(at))
+        names[at], wholes[at] = {}, [(crate, module) for crate, module, _ in re.findall(WHOLE, read(file_of(*at)))]
+        for module, name in imports(read(file_of(*at))): names[at].setdefault(name, set()).add(module)
+    seen = set()
+    todo = [(at, name) for at, given in first.items() for name in given if at in defined]
+    while todo:
+        at, name = todo.pop()
+        for k, (gives, tokens) in enumerate(defined[at]):
+            if name not in gives or (at, k) in seen: continue
+            seen.add((at, k))
+            for token in tokens:
+                todo.append((at, token))
+                todo += [(module, token) for module in [*names[at].get(token, ()), *wholes[at]] if module in defined]
+    return {at for at, _ in seen}
+
+unused = believed - used()
+for at in sorted(unused): print(".".join(at), "holds nothing that is used")
+
+wrong = False
+for heading, group in zip(TABLES, groups):
+    table = read("docs/architecture.md").split(f"\n### {heading[0].upper()}{heading[1:]}\n")[1].split("\n#")[0].split("\nClauses of other")[0]
+    named = set()
+    for row in re.findall(r"(?m)^\| [^|]* \| (.*) \|$", table):
+        for crate, module in re.findall(r"`(?:(\w+)/specs/)?([\w/]+)`", row):
+            last = crate or last
+            named.add((last, module.replace("/", ".")))
+    for at in sorted(group ^ named):
+        print(".".join(at), f"isn't in the table {heading!r}" if at in group else f"is in the table {heading!r}, and no clause of reggio leads to it")
+    lines = sum(len(read(file_of(*at)).splitlines()) for at in group)
+    print(f"{heading}: {len(group)} modules, {lines} lines; {len(named)} stand in the table")
+    wrong |= group != named
+sys.exit(bool(inner or unused) or wrong)
 PY

@@ -18,7 +18,7 @@ use Rattle.rg_regions.proofs.Callers.Fewer.{lies_belongs}
 use Rattle.rg_regions.proofs.Callers.Shares.{share, sum-agree, parted-le, distinct_by, has_place}
 use Rattle.rg_regions.proofs.Callers.Told.{lies_or_not, same_members, owns_once}
 use Rattle.rg_regions.proofs.Callers.Ordered.{ordered_at, ordered_other, ordered_links, ordered_rise, ordered_members}
-use Rattle.rg_trace.specs.Collected.{OutOfReach}
+use Rattle.rg_regions.specs.Reach.{OutOfReach}
 use Rattle.rg_trace.specs.Marking.{black_fields}
 use Rattle.rg_trace.specs.Orphans.{FollowsWhite, if_white}
 use Rattle.rg_trace.specs.Sweeping.{Swept}

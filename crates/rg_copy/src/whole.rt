@@ -8,7 +8,7 @@ ghost use Rattle.rg_regions.specs.Grove.{Grove};
 ghost use Rattle.rg_regions.specs.Collection.{HasManager, WordsLeadToHeld, AllHeld};
 ghost use Rattle.rg_regions.specs.Collection.{TempsLeadToHeld, OfRegion, ChainsOrphans};
 ghost use Rattle.rg_regions.specs.Collection.{region_fields};
-ghost use Rattle.rg_trace.specs.Collected.{OutOfReach};
+ghost use Rattle.rg_regions.specs.Reach.{OutOfReach};
 ghost use Rattle.rg_copy.specs.Slid.{Slid, top_roots, top_slots, top_temps};
 
 use crate::forward::{forward_members, forward_slots, forward_temps};

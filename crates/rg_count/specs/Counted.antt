@@ -5,7 +5,7 @@ use Rattle.rg_regions.specs.Table.{Record, RegionTable}
 use Rattle.rg_regions.specs.Reach.{LiesIn, Roots}
 use Rattle.rg_regions.specs.Spent.{Spent}
 use Rattle.rg_regions.specs.Grove.{referrers}
-use Rattle.rg_regions.specs.Collection.{OneShrinks}
+use Rattle.rg_regions.specs.Shrinks.{OneShrinks}
 
 -- Of the region exactly what is spent is freed, and all else of it is kept as it was. All other cells and records stay,
 -- and of the region's own record the members alone change.

@@ -13,7 +13,8 @@ use Rattle.rg_cells.specs.Table.{Table, body_at, field_at}
 use Rattle.rg_regions.specs.Table.{Record, RegionTable, record_at, HasNumber, Has, Chained}
 use Rattle.rg_regions.specs.Reach.{LiesIn, Roots}
 use Rattle.rg_regions.specs.Grove.{Grove, Parent, Above, direct, further}
-use Rattle.rg_regions.specs.Collection.{OneShrinks, Lost, Orphaning, ChainsOrphans, HasManager}
+use Rattle.rg_regions.specs.Collection.{Lost, Orphaning, ChainsOrphans, HasManager}
+use Rattle.rg_regions.specs.Shrinks.{OneShrinks}
 use Rattle.rg_regions.proofs.Callers.Told.{one_number, one_region, lies_or_not, number_of, same_members}
 use Rattle.rg_regions.proofs.Callers.Fewer.{label_before, field_before, above_both}
 use Rattle.rg_release.specs.Released.{Unowned, BelowOne}
@@ -21,7 +22,8 @@ use Rattle.rg_heap.specs.Parts.{Parts}
 use Rattle.rg_base.specs.declared.words.Manager.{Manager}
 use Rattle.rg_regions.specs.Spent.{Spent}
 use Rattle.rg_count.specs.Counted.{Counted}
-use Rattle.rg_trace.specs.Collected.{Collected, OutOfReach}
+use Rattle.rg_trace.specs.Collected.{Collected}
+use Rattle.rg_regions.specs.Reach.{OutOfReach}
 use Rattle.rg_heap.specs.Collects.{Collects, LostBelow, Told}
 use Rattle.rg_heap.specs.Inner.Chains.{Gone}
 use Rattle.rg_heap.proofs.Ended.{gone_sub}

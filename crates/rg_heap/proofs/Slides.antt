@@ -18,7 +18,7 @@ use Rattle.rg_regions.specs.Collection.{AllHeld, ChainsOrphans, HasManager}
 use Rattle.rg_regions.proofs.Callers.Told.{one_region, lies_or_not, lies_held, number_of, reach_lies}
 use Rattle.rg_regions.proofs.Callers.Shares.{has_place}
 use Rattle.rg_release.specs.Released.{Unowned}
-use Rattle.rg_trace.specs.Collected.{OutOfReach}
+use Rattle.rg_regions.specs.Reach.{OutOfReach}
 use Rattle.rg_copy.specs.Slid.{Slid, Becomes, AllBecome, top_roots, top_temps}
 use Rattle.rg_heap.specs.Collects.{Told}
 use Rattle.rg_heap.specs.Slides.{Slides}

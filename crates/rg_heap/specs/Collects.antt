@@ -8,7 +8,7 @@ use Rattle.rg_regions.specs.Reach.{LiesIn, Roots}
 use Rattle.rg_regions.specs.Spent.{Spent}
 use Rattle.rg_regions.specs.Grove.{Below}
 use Rattle.rg_regions.specs.Collection.{Lost}
-use Rattle.rg_trace.specs.Collected.{OutOfReach}
+use Rattle.rg_regions.specs.Reach.{OutOfReach}
 use Rattle.rg_heap.specs.declared.answers.Collected.{Collected}
 use Rattle.rg_heap.specs.Parts.{Parts}
 

@@ -3,7 +3,7 @@ use Rattle.std.specs.Prelude.{◌≡◌, ℕ, Option, Some, None}
 use Rattle.rg_base.specs.declared.words.Manager.{Manager}
 use Rattle.rg_base.specs.declared.words.Manager.TheVariants.{Arena, Count, Trace}
 use Rattle.rg_regions.specs.Table.{Record, record_at}
-use Rattle.rg_trace.specs.Collected.{OutOfReach}
+use Rattle.rg_regions.specs.Reach.{OutOfReach}
 use Rattle.rg_frames.specs.Stack.{Stack}
 use Rattle.rg_copy.specs.Slid.{Slid, top_roots}
 use Rattle.rg_heap.specs.declared.answers.Collected.{Collected}

@@ -1,17 +1,14 @@
 -- What a step frees (docs/architecture.md, "The machine that frees").
-use Rattle.std.specs.Prelude.{◌≡◌, ◌≢◌, ◌⊎◌, ℕ, true, false, Some, None, slice_get}
+use Rattle.std.specs.Prelude.{◌≡◌, ◌≢◌, ◌⊎◌, ℕ, false, Some, None, slice_get}
 use Rattle.rg_base.specs.declared.object.Label.{Label}
-use Rattle.rg_base.specs.declared.object.Label.TheVariants.{Region, Temp}
+use Rattle.rg_base.specs.declared.object.Label.TheVariants.{Region}
 use Rattle.rg_base.specs.declared.object.Seen.{Seen}
 use Rattle.rg_stack.specs.Machine.{Machine}
 use Rattle.rg_stack.specs.Runs.{Stepped, Goes, Ends, Trapped, Lost}
-use Rattle.rg_stack.specs.Labels.{has_window, is_open}
+use Rattle.rg_stack.specs.Labels.{is_open}
 use Rattle.rg_held.specs.Gone.{gone}
 use Rattle.rg_held.specs.Shown.{Finds}
-
--- a label of temporaries whose window has ended
-abbrev pub EndedTemp : (old new : Machine) → Label → Type 0
-EndedTemp old new l = (n : ℕ) × (l ≡ Temp n) × (has_window old.windows n ≡ true) × (has_window new.windows n ≡ false)
+use Rattle.rg_held.specs.Temps.{EndedTemp}
 
 -- a region that has gone: it is closed, nothing lies in it, and all that lay in it is gone and hasn't moved to another one
 pub record RegionEnded (old new : Machine) (r : ℕ) : Type 0 where

@@ -11,7 +11,8 @@ use Rattle.rg_code.specs.Code.{Code}
 use Rattle.rg_code.specs.Lowering.{Lowers}
 use Rattle.rg_stack.specs.Effects.{Work, Go, act}
 use Rattle.rg_stack.specs.Runs.{Lost, step, coded}
-use Rattle.rg_stack.specs.Simulates.{Holds, SomeLeft}
+use Rattle.rg_stack.specs.Simulates.{Holds}
+use Rattle.rg_stack.specs.Left.{SomeLeft}
 use Rattle.rg_stack.specs.Needs.{needs}
 use Rattle.rg_stack.specs.Refusals.{Manner, Ends, Clears, Settles, Takes, Computes, Prepares, Calls, Chooses, Passes, manner, calm, orderly}
 use Rattle.rg_stack.specs.Given.{given_walk}

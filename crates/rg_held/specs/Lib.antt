@@ -8,3 +8,4 @@ pub mod Gather
 pub mod Shown
 pub mod Gone
 pub mod Alike
+pub mod Temps

@@ -40,22 +40,22 @@ mod LeaveFreeLemmas
 mod LeaveBehindLemmas
 mod LeaveWholeLemmas
 mod LeaveGivenLemmas
-mod CollectLemmas
-mod GatherLemmas
+pub mod CollectLemmas
+pub mod GatherLemmas
 mod CollectingLemmas
-mod ShiftLemmas
-mod SlidLemmas
+pub mod ShiftLemmas
+pub mod SlidLemmas
 mod UnmovedLemmas
 mod SlidingLemmas
 pub mod PartLemmas
 mod OwnedLemmas
 pub mod ActiveLemmas
-mod ReachPathLemmas
+pub mod ReachPathLemmas
 mod ReachSlotLemmas
-mod ReachCountLemmas
-mod ReachShownLemmas
+pub mod ReachCountLemmas
+pub mod ReachShownLemmas
 mod ReachBridgeLemmas
-mod ReachRootLemmas
-mod ReachHeldLemmas
+pub mod ReachRootLemmas
+pub mod ReachHeldLemmas
 pub mod ReachLemmas
 pub mod SlidReachLemmas

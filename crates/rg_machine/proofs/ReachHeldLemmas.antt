@@ -1,4 +1,4 @@
--- What is reached in the state of the machine that never frees is kept by a collection of the machine's own heap.
+-- What is reached in the state of the machine that never frees is kept by a collection of the machine's own heap that lets no root go.
 use Rattle.std.proofs.Common.{◌≡◌, inl, inr, ℕ, zero, suc, List, [], Option, Some, None, option_map, option_and_then, option_to_list, slice_get}
 use Rattle.std.proofs.Common.{map, take, reverse, length, ◌-◌, unwrap_or, true, refl, sym, ap, ◌∙◌, subst, arith}
 use Rattle.std.proofs.lemmas.Option.{none-some, same_Some}
@@ -26,7 +26,6 @@ use Rattle.rg_stack.specs.Machine.{Machine, Window}
 use Rattle.rg_stack.specs.Needs.{field_of, owned_once}
 use Rattle.rg_stack.specs.Needs.{value_at as shown_at}
 use Rattle.rg_stack.specs.Shows.{sizes_of}
-use Rattle.rg_trace.specs.Collected.{OutOfReach}
 use Rattle.rg_heap.specs.Answers.{AllLead, val_of}
 use Rattle.rg_heap.specs.Collects.{Collects}
 use Rattle.rg_heap.specs.Parts.{Parts}
@@ -90,8 +89,9 @@ field-back store frames b k x e = by (slice_get store b) refl e
     by (Some o) f e = (o, f, e)
 
 module _ (old new : Parts) (v : Stack) (at : ℕ) (t : Tree) (code : Code) (s : State) (m : Machine) (z : Beside old v at t code s m)
-    (lead : (s : ℕ) → AllLead new.cells.heap s) (a : Active old v)
-    (c : Collects old new a.window.region a.rec (OutOfReach old.cells.heap a.rec.number (roots_in old v a))) where
+    (lead : (s : ℕ) → AllLead new.cells.heap s) (a : Active old v) (Cell : ℕ → Type 0)
+    (c : Collects old new a.window.region a.rec Cell)
+    (no-root : (x : ℕ) → LiesIn old.cells.heap a.rec.number x → Root old.cells.heap (roots_in old v a) x → Cell x → ⊥) where
   abbrev h : Heap
   h = old.cells.heap
 
@@ -104,17 +104,11 @@ module _ (old new : Parts) (v : Stack) (at : ℕ) (t : Tree) (code : Code) (s : 
   abbrev f : Machine
   f = machine_of old v at
 
-  abbrev Cell : ℕ → Type 0
-  Cell x = OutOfReach h r (roots_in old v a) x
-
   abbrev ws : TopShown (sizes_of (frames_of h v)) a.window r s.windows
   ws = top-shown old v at t code s m z a
 
   pub once : owned_once f ≡ true
   once = once-held t code s (holds h) f m z.fit z.shows z.part
-
-  pub no-root : (x : ℕ) → LiesIn h r x → Root h (roots_in old v a) x → Cell x → ⊥
-  no-root x lies stands cell = cell (0, omega arith, (lies, stands))
 
   keeps : Keeps (holds h) (holds h₂) f
   keeps = collection-keeps old new v at z.serials z.grove lead z.stands once a Cell c no-root (owner-outside (holds h) [] f m [] z.part)
@@ -181,7 +175,8 @@ module _ (old new : Parts) (v : Stack) (at : ℕ) (t : Tree) (code : Code) (s : 
       keeps.temps x.object x.field x.holder (val.Obj n) held (same x.object held ∙ x.there) label x.leads n refl
       (region n (field-held x.object x.field n x.holder held x.there x.leads) is)
 
-  start-kept : (n : ℕ) → In n (starts s.store s.frames s.windows) → region_at s.store n ≡ Some r → holds h₂ n ≡ true
+  -- what a root leads to in the region is kept
+  pub start-kept : (n : ℕ) → In n (starts s.store s.frames s.windows) → region_at s.store n ≡ Some r → holds h₂ n ≡ true
   start-kept n i is = elim (roots-back s ws.top n (subst (In n) (roots-are s ws.top ws.rest ws.is) i)) [
     | inl owner ↦ (let x = owner-back s ws.top.owner n owner in place-kept x.0 n (ws.owner ∙ x.1) x.2 is)
     | inr more ↦ elim more [

@@ -19,13 +19,14 @@ use Rattle.rg_cells.specs.Table.{Heap, Serials, body_at}
 use Rattle.rg_regions.specs.Collection.{OfRegion, roots_of}
 use Rattle.rg_regions.specs.Grove.{Grove, Members}
 use Rattle.rg_regions.specs.Reach.{LiesIn}
+use Rattle.rg_regions.specs.Reach.{Stands as Root}
 use Rattle.rg_regions.specs.Table.{HasNumber, Record, record_at}
 use Rattle.rg_regions.proofs.Callers.Told.{labelled_held}
 use Rattle.rg_frames.specs.declared.rows.Window.{Window as WindowRow}
 use Rattle.rg_frames.specs.Stack.{IsTop, Stack}
 use Rattle.rg_stack.specs.Machine.{Machine}
 use Rattle.rg_stack.specs.Shows.{Shows}
-use Rattle.rg_trace.specs.Collected.{OutOfReach}
+use Rattle.rg_regions.specs.Reach.{OutOfReach}
 use Rattle.rg_heap.specs.declared.answers.Collected.{Collected}
 use Rattle.rg_heap.specs.Answers.{AllLead}
 use Rattle.rg_heap.specs.Collects.{Collects, CollectsBy}
@@ -61,16 +62,22 @@ module _ (old new : Parts) (v : Stack) (at : ℕ) (t : Tree) (code : Code) (s : 
   abbrev r : ℕ
   r = a.rec.number
 
+  abbrev Cell : ℕ → Type 0
+  Cell x = OutOfReach h r (roots_in old v a) x
+
+  no-root : (x : ℕ) → LiesIn h r x → Root h (roots_in old v a) x → Cell x → ⊥
+  no-root x lies stands cell = cell (0, omega arith, (lies, stands))
+
   sole : (i : ℕ) (w : WindowRow) → IsWindow v i w → HasNumber old.regions w.region r → i ≡ length v.windows - 1
   sole i w e has =
       z.stands.opened.differ i (length v.windows - 1) w a.window e a.is
       (z.grove.numbers w.region a.window.region r has (ap (option_map (λ (r : Record). r.number)) a.known))
 
   was : (x : ℕ) (b : Body) → body_at h₂ x ≡ Some b → body_at h x ≡ Some b
-  was x b e = body-was old new v at t code s m z lead a c x b e
+  was x b e = body-was old new v at t code s m z lead a Cell c no-root x b e
 
   -- a cell that is still held in the region has its serial among what is reached
-  kept-in : (x : ℕ) (b : Body) → body_at h₂ x ≡ Some b → LiesIn h₂ r x → In b.serial (plain_reach s)
+  pub kept-in : (x : ℕ) (b : Body) → body_at h₂ x ≡ Some b → LiesIn h₂ r x → In b.serial (plain_reach s)
   kept-in x b e lies = by (among (plain_reach s) b.serial) refl
     where
       before : LiesIn h r x
@@ -106,7 +113,7 @@ module _ (old new : Parts) (v : Stack) (at : ℕ) (t : Tree) (code : Code) (s : 
 
     in-members : (n : ℕ) → In n (plain_reach s) → In n (map serial_at members)
     in-members n i =
-        let k = reach-kept old new v at t code s m z lead a c n i in
+        let k = reach-kept old new v at t code s m z lead a Cell c no-root n i in
         let x = holds-back h₂ n k.0 in
         let before = was x.0 x.1 x.2 in
         let lies : LiesIn h r x.0 = lies-there old v at t code s m z r x.0 x.1 before (ap (region_at s.store) x.3 ∙ k.1) in

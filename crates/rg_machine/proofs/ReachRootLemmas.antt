@@ -77,7 +77,7 @@ module _ (p : Parts) (v : Stack) (at : ℕ) (t : Tree) (code : Code) (s : State)
       by-temp s ws.top b.serial led
 
   -- a root's serial is one of the addresses to which roots lead
-  root-leads : (x : ℕ) (b : Body) → Root h (roots_in p v a) x → body_at h x ≡ Some b → In b.serial (roots_lead s ws.top)
+  pub root-leads : (x : ℕ) (b : Body) → Root h (roots_in p v a) x → body_at h x ≡ Some b → In b.serial (roots_lead s ws.top)
   root-leads x b (is_bridge e) held = bridge-leads p v at t code s m z a sole first x b e held
   root-leads x b (in_slots k e) held = slot-leads k x b (sym (get-drop a.window.base k v.slots) ∙ e) held
   root-leads x b (in_temps i k temp e leads) held = temp-leads i k temp x b e leads held

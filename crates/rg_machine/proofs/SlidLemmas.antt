@@ -43,7 +43,7 @@ pick-off (inl a) off on n = refl
 pick-off (inr a) off on n = absurd (n a)
 
 -- lists with the same at each place
-same-lists : {A : Type 0} (xs ys : List A) → ((i : ℕ) → slice_get xs i ≡ slice_get ys i) → xs ≡ ys
+pub same-lists : {A : Type 0} (xs ys : List A) → ((i : ℕ) → slice_get xs i ≡ slice_get ys i) → xs ≡ ys
 same-lists [] [] h = refl
 same-lists [] (y ∷ ys) h = let e = h 0 in absurd cc
 same-lists (x ∷ xs) [] h = let e = h 0 in absurd cc

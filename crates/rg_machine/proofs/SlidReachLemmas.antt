@@ -19,7 +19,7 @@ use Rattle.rg_frames.specs.Stack.{Stack}
 use Rattle.rg_stack.specs.Machine.{Machine}
 use Rattle.rg_stack.specs.Needs.{owned_once}
 use Rattle.rg_stack.specs.Shows.{Shows}
-use Rattle.rg_trace.specs.Collected.{OutOfReach}
+use Rattle.rg_regions.specs.Reach.{OutOfReach}
 use Rattle.rg_heap.specs.declared.answers.Collected.{Collected}
 use Rattle.rg_heap.specs.Collects.{Collects}
 use Rattle.rg_heap.specs.Ends.{top_temps}
@@ -40,28 +40,28 @@ use Rattle.rg_machine.proofs.UnmovedLemmas.{stayed, unmoved-collects, unmoved-le
 
 module _ (old new : Parts) (v frames : Stack) (at : ℕ) (t : Tree) (code : Code) (s : State) (m : Machine) (z : Beside old v at t code s m)
     (gn : Grove new.cells new.regions) (a : Active old v) (sl : Slides old new a.window.region a.rec v frames) where
-  abbrev left : Parts
+  abbrev pub left : Parts
   left = stayed old new v frames z.serials z.grove z.stands a sl
 
-  abbrev Cell : ℕ → Type 0
+  abbrev pub Cell : ℕ → Type 0
   Cell x = OutOfReach old.cells.heap a.rec.number (roots_in old v a) x
 
-  collects : Collects old left a.window.region a.rec Cell
+  pub collects : Collects old left a.window.region a.rec Cell
   collects =
       subst (λ n. Collects old left a.window.region a.rec
       (OutOfReach old.cells.heap a.rec.number (roots_of a.rec.bridge (drop n v.slots) (top_temps v))))
       (base-is old v z.serials z.grove z.stands a sl.mid frames sl.slid) (unmoved-collects old new v frames z.serials z.grove z.stands a sl)
 
-  once : owned_once (machine_of old v at) ≡ true
+  pub once : owned_once (machine_of old v at) ≡ true
   once = once-held t code s (holds old.cells.heap) (machine_of old v at) m z.fit z.shows z.part
 
-  root : (x : ℕ) → LiesIn old.cells.heap a.rec.number x → Root old.cells.heap (roots_in old v a) x → Cell x → ⊥
+  pub root : (x : ℕ) → LiesIn old.cells.heap a.rec.number x → Root old.cells.heap (roots_in old v a) x → Cell x → ⊥
   root x lies stands cell = cell (0, omega arith, (lies, stands))
 
-  stays : Stands left v
+  pub stays : Stands left v
   stays = stands-behind old left v at z.serials z.grove z.stands once a Cell collects root
 
-  shifted : Shifted (moves old v z.serials z.grove z.stands a sl.mid frames sl.slid) left.cells.heap new.cells.heap
+  pub shifted : Shifted (moves old v z.serials z.grove z.stands a sl.mid frames sl.slid) left.cells.heap new.cells.heap
   shifted = unmoved-shifted old new v frames z.serials z.grove z.stands a sl gn stays
 
   own : record_at new.regions a.window.region ≡ Some sl.slid.own.0

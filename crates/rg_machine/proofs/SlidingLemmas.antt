@@ -14,7 +14,7 @@ use Rattle.rg_regions.specs.Table.{IsBridge}
 use Rattle.rg_frames.specs.Stack.{Stack}
 use Rattle.rg_stack.specs.Machine.{Machine}
 use Rattle.rg_stack.specs.Needs.{owned_once}
-use Rattle.rg_trace.specs.Collected.{OutOfReach}
+use Rattle.rg_regions.specs.Reach.{OutOfReach}
 use Rattle.rg_copy.specs.Slid.{base_of, top_roots}
 use Rattle.rg_heap.specs.declared.answers.Collected.{Collected}
 use Rattle.rg_heap.specs.Collects.{Collects}

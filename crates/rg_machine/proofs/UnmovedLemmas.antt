@@ -16,7 +16,7 @@ use Rattle.rg_regions.specs.Reach.{LiesIn}
 use Rattle.rg_regions.specs.Table.{Record, record_at, HasNumber, IsBridge}
 use Rattle.rg_regions.proofs.Callers.Told.{labelled_held, lies_or_not}
 use Rattle.rg_frames.specs.Stack.{Stack}
-use Rattle.rg_trace.specs.Collected.{OutOfReach}
+use Rattle.rg_regions.specs.Reach.{OutOfReach}
 use Rattle.rg_copy.specs.Slid.{top_roots}
 use Rattle.rg_heap.specs.Answers.{AllLead}
 use Rattle.rg_heap.specs.Collects.{Collects, LostBelow}

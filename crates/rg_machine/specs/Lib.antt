@@ -10,3 +10,4 @@ pub mod Owned
 pub mod Active
 pub mod High
 pub mod Cores
+pub mod Makes

@@ -8,7 +8,7 @@ ghost use Rattle.rg_held.specs.Frees.{free_act};
 ghost use Rattle.rg_stack.specs.Effects.{next_taken};
 ghost use Rattle.rg_stack.specs.Refusals.{Computes, Takes, manner};
 ghost use Rattle.rg_machine.specs.Keeps.{Keeping, asking};
-ghost use Rattle.rg_machine.specs.High.{Making, making};
+ghost use Rattle.rg_machine.specs.Makes.{Making, making};
 ghost use Rattle.rg_machine.specs.Core.{ActIs, Given};
 ghost use Rattle.rg_machine.specs.Parts.{machine_in};
 ghost use Rattle.rg_machine.specs.Cores.{core_of};

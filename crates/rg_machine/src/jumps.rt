@@ -6,7 +6,7 @@ ghost use Rattle.rg_code.specs.declared.op.Op.TheVariants as i;
 ghost use Rattle.rg_stack.specs.Effects.{on_top};
 ghost use Rattle.rg_stack.specs.Refusals.{Chooses, Passes};
 ghost use Rattle.rg_machine.specs.Keeps.{Keeping};
-ghost use Rattle.rg_machine.specs.High.{Making};
+ghost use Rattle.rg_machine.specs.Makes.{Making};
 ghost use Rattle.rg_machine.specs.Parts.{machine_in};
 ghost use Rattle.rg_machine.specs.Cores.{core_of};
 ghost use Rattle.rg_machine.specs.Core.{ActIs, Has};

@@ -7,7 +7,7 @@ ghost use Rattle.rg_stack.specs.Machine.{value_of_word};
 ghost use Rattle.rg_stack.specs.Effects.{on_two, on_top, pushed};
 ghost use Rattle.rg_stack.specs.Refusals.{Computes};
 ghost use Rattle.rg_machine.specs.Keeps.{Keeping};
-ghost use Rattle.rg_machine.specs.High.{Making};
+ghost use Rattle.rg_machine.specs.Makes.{Making};
 ghost use Rattle.rg_machine.specs.Core.{ActIs};
 ghost use Rattle.rg_machine.specs.Parts.{machine_in};
 ghost use Rattle.rg_machine.specs.Cores.{core_of};

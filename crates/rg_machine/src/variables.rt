@@ -7,7 +7,7 @@ ghost use Rattle.rg_stack.specs.Machine.{put_slot, slot_at};
 ghost use Rattle.rg_stack.specs.Effects.{called, on_object, on_top, put_in, with_store};
 ghost use Rattle.rg_stack.specs.Refusals.{Calls, Clears, Computes, Settles};
 ghost use Rattle.rg_machine.specs.Keeps.{Keeping};
-ghost use Rattle.rg_machine.specs.High.{Making};
+ghost use Rattle.rg_machine.specs.Makes.{Making};
 ghost use Rattle.rg_machine.specs.Core.{ActIs, Given, Has};
 ghost use Rattle.rg_machine.specs.Parts.{machine_in};
 ghost use Rattle.rg_machine.specs.Cores.{core_of};

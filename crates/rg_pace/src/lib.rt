@@ -4,11 +4,14 @@
 
 mod doubling;
 mod every_n;
+mod listed;
 mod never;
 mod pacer;
 mod tally;
 
 pub use doubling::Doubling;
 pub use every_n::EveryN;
+pub use listed::Listed;
 pub use never::Never;
 pub use pacer::{Pacer, Pacers};
+pub use tally::Tally;

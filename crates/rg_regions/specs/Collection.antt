@@ -1,13 +1,11 @@
 -- What a collection of one region asks for, and what it leaves, whatever it frees (docs/architecture.md, "Regions").
-use Rattle.std.specs.Prelude.{◌≡◌, ◌≢◌, ℕ, ◌⊎◌, List, Option, Some, None, slice_get, slice_index_or, cond}
+use Rattle.std.specs.Prelude.{◌≡◌, ◌≢◌, ℕ, List, Option, Some, None, slice_get, slice_index_or, cond}
 use Rattle.rg_base.specs.declared.value.Word.{Word}
 use Rattle.rg_base.specs.declared.value.Word.TheVariants.{Slot}
 use Rattle.rg_base.specs.declared.words.Manager.{Manager}
-use Rattle.rg_cells.specs.Table.{Heap, Table, IsHeld, body_at, field_at, width, total, high_of}
+use Rattle.rg_cells.specs.Table.{Heap, IsHeld, field_at, width, total}
 use Rattle.rg_regions.specs.Table.{Record, RegionTable, record_at, HasNumber, Has, Chained}
 use Rattle.rg_regions.specs.Reach.{LiesIn, Roots, belongs}
-use Rattle.rg_regions.specs.Grove.{Members}
-use Rattle.rg_regions.specs.Same.{IsSameCell}
 
 -- the roots of a region
 abbrev pub roots_of : Option ℕ → List Word → List ℕ → Roots
@@ -30,21 +28,6 @@ AllHeld h temps = (i t : ℕ) → slice_get temps i ≡ Some t → IsHeld h t
 
 abbrev pub TempsLeadToHeld : Heap → List ℕ → Type 0
 TempsLeadToHeld h temps = (i t k s : ℕ) → slice_get temps i ≡ Some t → field_at h t k ≡ Some (Slot s) → IsHeld h s
-
--- Cells of one region may have gone, and nothing else has: each body is as it was or gone, and other cells and other
--- regions stay; of the region's own record the members alone change.
-pub record OneShrinks (c : Table) (t : RegionTable) (key : ℕ) (rec : Record) (cells : Table)
-    (regions : RegionTable) : Type 0 where
-  pub fewer : (s : ℕ) → (body_at cells.heap s ≡ body_at c.heap s) ⊎ (body_at cells.heap s ≡ None)
-  pub others : (s : ℕ) → (LiesIn c.heap rec.number s → ⊥) → IsSameCell c cells s
-  -- the next serial, the slots ever held, and the next number stay
-  pub serials : cells.heap.next ≡ c.heap.next
-  pub high : high_of cells.heap ≡ high_of c.heap
-  pub numbers : regions.next ≡ t.next
-  pub records : (k : ℕ) → k ≢ key → record_at regions k ≡ record_at t k
-  pub own : (now : Record) × (record_at regions key ≡ Some now) × (now.number ≡ rec.number)
-      × (now.manager ≡ rec.manager)
-      × (now.bridge ≡ rec.bridge) × Members cells.heap rec.number now.members
 
 -- a region lost its owner: a cell that was freed has a field that leads into it
 pub record Lost (h : Heap) (r : ℕ) (freed : ℕ → Type 0) (q : ℕ) : Type 0 where

@@ -10,3 +10,4 @@ pub mod Dropped
 pub mod Same
 pub mod Inner
 pub mod Ordered
+pub mod Shrinks

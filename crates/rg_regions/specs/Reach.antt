@@ -46,3 +46,7 @@ region_size h r = total (λ b. cond (belongs r b) 1 0) h.slots
 -- what the roots of a region reach, by at most as many links as it has cells
 abbrev pub Reach : Heap → (region : ℕ) → Roots → (slot : ℕ) → Type 0
 Reach h r roots s = (n : ℕ) × (n ≤ region_size h r) × Walk h r roots n s
+
+-- a cell isn't in reach
+abbrev pub OutOfReach : Heap → (region : ℕ) → Roots → (slot : ℕ) → Type 0
+OutOfReach h r roots s = Reach h r roots s → ⊥

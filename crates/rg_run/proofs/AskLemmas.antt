@@ -24,7 +24,7 @@ use Rattle.rg_stack.specs.Machine.{Machine}
 use Rattle.rg_stack.proofs.Callers.DueLemmas.{steps-due}
 use Rattle.rg_step.specs.Asking.{AsksFrom, AsksOn, YesesTold, asks_at, first_makes, raised_if}
 use Rattle.rg_step.specs.Yeses.{paced_by, raised}
-use Rattle.rg_step.specs.Collections.{Asks}
+use Rattle.rg_step.specs.Pacers.{Asks}
 use Rattle.rg_step.specs.Steps.{Leapt, StepsOn}
 use Rattle.rg_run.specs.Asked.{AskedOver}
 use Rattle.rg_run.specs.Inner.{behind}

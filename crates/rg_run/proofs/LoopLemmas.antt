@@ -18,7 +18,7 @@ use Rattle.rg_input.proofs.InputLemmas.{OnInput-map, OnInput-both as turn}
 use Rattle.rg_code.specs.Code.{Code}
 use Rattle.rg_stack.specs.Machine.{Machine}
 use Rattle.rg_machine.specs.Parts.{machine_in}
-use Rattle.rg_step.specs.Collections.{Asks}
+use Rattle.rg_step.specs.Pacers.{Asks}
 use Rattle.rg_step.specs.States.{Chain, OneStep, Standing}
 use Rattle.rg_step.specs.Steps.{Leapt, Runs, StepsOn, counted_by}
 use Rattle.rg_step.specs.Stepping.{Stepping}

@@ -25,7 +25,7 @@ use Rattle.rg_plain.specs.Kept.{shown, items_from}
 use Rattle.rg_plain.specs.Machine.{Machine, Begins}
 use Rattle.rg_plain.specs.Runs.{WroteUpTo}
 use Rattle.rg_plain.proofs.Rows.MachineLemmas.{ends-items_of}
-use Rattle.rg_step.specs.Collections.{Asks}
+use Rattle.rg_step.specs.Pacers.{Asks}
 use Rattle.rg_step.specs.Stepping.{Since, Stepping, fresh}
 use Rattle.rg_run.specs.Asked.{AskedOver, SinceYes, last_yes}
 use Rattle.rg_run.specs.Machine.{IsFresh, Kept}

@@ -5,7 +5,7 @@ use Rattle.rg_base.specs.declared.outcome.Outcome.{Outcome}
 use Rattle.rg_base.specs.declared.words.Manager.{Manager}
 use Rattle.rg_code.specs.Code.{Code}
 use Rattle.rg_machine.specs.Parts.{Parts}
-use Rattle.rg_step.specs.Collections.{Asks}
+use Rattle.rg_step.specs.Pacers.{Asks}
 use Rattle.rg_step.specs.States.{Chain, OneStep, Opens, Standing}
 use Rattle.rg_step.specs.Steps.{is_made}
 use Rattle.rg_step.specs.Stepping.{Stepping, fresh}

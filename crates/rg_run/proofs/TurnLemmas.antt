@@ -31,7 +31,7 @@ use Rattle.rg_plain.proofs.Runs.RunLemmas as run
 use Rattle.rg_plain.proofs.Rows.MachineLemmas.{ends-items_of}
 use Rattle.rg_stack.specs.Machine.{Machine}
 use Rattle.rg_stack.specs.Runs.{opening as opened}
-use Rattle.rg_stack.specs.Simulates.{NoneLeft, SomeLeft}
+use Rattle.rg_stack.specs.Left.{NoneLeft, SomeLeft}
 use Rattle.rg_stack.proofs.Callers.OpeningLemmas.{opening-shows, opening-fit}
 use Rattle.rg_stack.proofs.Callers.RunLemmas.{opening_left}
 use Rattle.rg_held.specs.Shown.{ShowsHeld}
@@ -41,7 +41,7 @@ use Rattle.rg_step.specs.Steps.{opening_machine}
 use Rattle.rg_step.specs.Stepping.{Stepping}
 use Rattle.rg_step.specs.Steps.{Leapt, Runs, IsRunning, StepsOn}
 use Rattle.rg_step.specs.Steps as stepper
-use Rattle.rg_step.specs.Collections.{Asks}
+use Rattle.rg_step.specs.Pacers.{Asks}
 use Rattle.rg_run.specs.Asked.{AskedOver}
 use Rattle.rg_run.specs.Collected.{Tells}
 use Rattle.rg_run.specs.Machine.{Kept, ShowsAt}

@@ -4,7 +4,7 @@ use Rattle.rg_base.specs.declared.outcome.Ended.{Ended}
 use Rattle.rg_tree.specs.Rows.Tables.{Tables}
 use Rattle.rg_tree.specs.Rows.RowTrees.{program_of}
 use Rattle.rg_code.specs.Code.{Code}
-use Rattle.rg_step.specs.Collections.{Asks}
+use Rattle.rg_step.specs.Pacers.{Asks}
 use Rattle.rg_run.specs.Asked.{AskedOver, SinceYes}
 use Rattle.rg_run.specs.Collected.{Tells}
 use Rattle.rg_run.specs.Machine.{Kept}

@@ -10,7 +10,7 @@ use Rattle.rg_stack.specs.Machine.{Machine}
 use Rattle.rg_stack.specs.Effects.{Work}
 use Rattle.rg_stack.specs.Runs.{Stepped, Goes, Ends, Trapped, Lost, with_printed}
 use Rattle.rg_stack.specs.Shows.{ShowsFrames, ShowsWindows, sizes_of, levels_of}
-use Rattle.rg_stack.specs.Simulates.{NoneLeft, SomeLeft}
+use Rattle.rg_stack.specs.Left.{NoneLeft, SomeLeft}
 
 -- a machine mirrors a state, for the code of a program
 pub record Mirrors (classes : List Class) (code : Code) (m : Machine) (p : State) : Type 0 where

@@ -19,7 +19,8 @@ use Rattle.rg_stack.specs.Reads.{reads}
 use Rattle.rg_code.specs.Dues.{due_at}
 use Rattle.rg_stack.specs.Dues.{first_due}
 use Rattle.rg_stack.specs.Refusals.{Orderly}
-use Rattle.rg_stack.specs.Simulates.{Holds, SomeLeft, SameStep, SameRun}
+use Rattle.rg_stack.specs.Simulates.{Holds, SameStep, SameRun}
+use Rattle.rg_stack.specs.Left.{SomeLeft}
 
 -- the opening machine of an accepted program shows its opening state
 abbrev pub OpeningShows : Type 0

@@ -1,8 +1,7 @@
 -- A step of the stack machine does what a step of the machine that never frees does (docs/architecture.md, "The stack machine").
-use Rattle.std.specs.Prelude.{◌≡◌, List, [], ◌∷◌}
+use Rattle.std.specs.Prelude.{◌≡◌, List}
 use Rattle.rg_base.specs.declared.value.Val.{Val}
 use Rattle.rg_tree.specs.Tree.{Class}
-use Rattle.rg_rules.specs.Items.{Item}
 use Rattle.rg_rules.specs.State.{State}
 use Rattle.rg_rules.specs.Steps.{Stepped as Plain, Went, Trapped as Fails}
 use Rattle.rg_rules.specs.Runs.{Ending, Ran as PlainRan}
@@ -11,21 +10,12 @@ use Rattle.rg_code.specs.Code.{Code}
 use Rattle.rg_stack.specs.Effects.{Work}
 use Rattle.rg_stack.specs.Runs.{Stepped, Goes, Ends, Trapped, Lost, Standing, Running, Done, Stopped, Astray, Ran, with_printed}
 use Rattle.rg_stack.specs.Shows.{Shows}
+use Rattle.rg_stack.specs.Left.{NoneLeft, SomeLeft}
 
 -- what the machine works on shows a state and what is left of its input
 pub record Holds (classes : List Class) (code : Code) (w : Work) (p : State) : Type 0 where
   pub shows : Shows classes code w.machine p
   pub input : w.input ≡ p.input
-
--- nothing is left to do
-abbrev pub NoneLeft : List Item → Type 0
-NoneLeft [] = Unit {0}
-NoneLeft (i ∷ rest) = ⊥
-
--- something is left to do
-abbrev pub SomeLeft : List Item → Type 0
-SomeLeft [] = ⊥
-SomeLeft (i ∷ rest) = Unit {0}
 
 -- the machine shows the state that a step made, and the step printed what the output has beside that before it
 pub record Reached (classes : List Class) (code : Code) (before : List Val) (w : Work) (p : State) : Type 0 where

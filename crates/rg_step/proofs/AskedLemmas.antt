@@ -19,7 +19,8 @@ use Rattle.rg_machine.specs.Active.{IsActive}
 use Rattle.rg_machine.specs.Parts.{Parts, machine_in}
 use Rattle.rg_machine.specs.Stands.{Stands}
 use Rattle.rg_step.specs.Asking.{AsksFrom, AsksOn, first_makes, raised_if}
-use Rattle.rg_step.specs.Collections.{Asks, Paces, Serves}
+use Rattle.rg_step.specs.Collections.{Paces, Serves}
+use Rattle.rg_step.specs.Pacers.{Asks}
 use Rattle.rg_step.specs.Steps.{Runs, StepsOn, is_made}
 use Rattle.rg_step.specs.Stepping.{Stepping}
 use Rattle.rg_step.proofs.ActiveLemmas.{shown-manager}

@@ -18,7 +18,8 @@ use Rattle.rg_stack.specs.Refusals.{Orderly, all_compute, calm, orderly_by, orde
 use Rattle.rg_stack.proofs.Callers.OrderLemmas.{calm-mark, orderly-skip}
 use Rattle.rg_stack.proofs.Basics.{and-left, and-right}
 use Rattle.rg_machine.specs.Frames.{calls_next}
-use Rattle.rg_machine.specs.High.{Made, NoneMade, making}
+use Rattle.rg_machine.specs.High.{NoneMade}
+use Rattle.rg_machine.specs.Makes.{Made, making}
 use Rattle.rg_machine.specs.Keeps.{Asks, GoesOn, GoesTo, WantsRoom}
 use Rattle.rg_machine.specs.Parts.{Parts as MachineParts, machine_in}
 use Rattle.rg_machine.proofs.HighLemmas.{none-same, none-then}

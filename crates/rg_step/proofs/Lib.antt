@@ -20,11 +20,11 @@ mod FieldLemmas
 mod WordLemmas
 mod HeldLemmas
 mod OutcomeLemmas
-mod ServeLemmas
+pub mod ServeLemmas
 mod WriteLemmas
-mod ReachedLemmas
+pub mod ReachedLemmas
 mod SlidesLemmas
-mod ActiveLemmas
+pub mod ActiveLemmas
 mod YesLemmas
 mod PacedLemmas
 mod AskedLemmas

@@ -20,7 +20,7 @@ use Rattle.rg_code.specs.Shapes.{IsStep}
 use Rattle.rg_stack.specs.Dues.{first_due, kind_due, paced}
 use Rattle.rg_stack.specs.Machine.{Frame, Machine}
 use Rattle.rg_stack.specs.Shows.{ShowsFrames, levels_of}
-use Rattle.rg_stack.specs.Simulates.{SomeLeft}
+use Rattle.rg_stack.specs.Left.{SomeLeft}
 use Rattle.rg_stack.proofs.Callers.DueLemmas.{steps-due}
 use Rattle.rg_stack.proofs.Judgements.LeftLemmas.{do-other, running-left}
 use Rattle.rg_stack.proofs.Walks.MarkLemmas.{drop-stands, first-drop, lies_at_mark, mark-there}

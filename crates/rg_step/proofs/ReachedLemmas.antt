@@ -27,7 +27,8 @@ use Rattle.rg_machine.proofs.ActiveLemmas.{on-each}
 use Rattle.rg_machine.proofs.PartLemmas.{shown-part}
 use Rattle.rg_machine.proofs.ReachLemmas.{kept-traced}
 use Rattle.rg_machine.proofs.SlidReachLemmas.{slid-traced}
-use Rattle.rg_step.specs.Collections.{Asks, CollectsAsked, CollectsOn, CollectsTop, IsCollected, IsLeft, KeepsReached, Paces, ReachesOn, Serves}
+use Rattle.rg_step.specs.Collections.{CollectsAsked, CollectsOn, CollectsTop, IsCollected, IsLeft, KeepsReached, Paces, ReachesOn, Serves}
+use Rattle.rg_step.specs.Pacers.{Asks}
 use Rattle.rg_step.specs.Collections.{event_of}
 use Rattle.rg_step.specs.Steps.{StepsOn, is_made}
 use Rattle.rg_step.specs.Stepping.{Stepping}

@@ -36,7 +36,8 @@ use Rattle.rg_machine.specs.Parts.{Parts, machine_in}
 use Rattle.rg_machine.specs.Stands.{Stands}
 use Rattle.rg_machine.proofs.ActiveLemmas.{on-each}
 use Rattle.rg_machine.proofs.PartLemmas.{gathers-part, gone-shown, held-shown, once-held, slides-part}
-use Rattle.rg_step.specs.Collections.{Asks, CollectsAsked, CollectsOn, CollectsTop, ForActive, GathersBy, IsLeft, IsRefused, Paces, Serves, ServesBy}
+use Rattle.rg_step.specs.Collections.{CollectsAsked, CollectsOn, CollectsTop, ForActive, GathersBy, IsLeft, IsRefused, Paces, Serves, ServesBy}
+use Rattle.rg_step.specs.Pacers.{Asks}
 use Rattle.rg_step.specs.Collections.{Unasked}
 use Rattle.rg_step.specs.Steps.{IsRunning, Runs, Settles, StepsOn, is_made}
 use Rattle.rg_step.specs.Stepping.{Stepping}

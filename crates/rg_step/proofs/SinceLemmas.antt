@@ -23,7 +23,8 @@ use Rattle.rg_machine.specs.Parts.{Parts, machine_in}
 use Rattle.rg_machine.specs.Stands.{Stands}
 use Rattle.rg_step.specs.Asking.{SinceFrom, SinceOn, asks_at, first_makes, since_behind}
 use Rattle.rg_step.specs.Yeses.{paced_by}
-use Rattle.rg_step.specs.Collections.{Asks, CollectsAsked, CollectsOn, Paces, Serves, since_then}
+use Rattle.rg_step.specs.Collections.{CollectsAsked, CollectsOn, Paces, Serves, since_then}
+use Rattle.rg_step.specs.Pacers.{Asks}
 use Rattle.rg_step.specs.Steps.{Runs, StepsOn, is_made}
 use Rattle.rg_step.specs.Stepping.{Since, Stepping}
 use Rattle.rg_step.proofs.ActiveLemmas.{collected-manager}

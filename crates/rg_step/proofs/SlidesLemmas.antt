@@ -10,7 +10,8 @@ use Rattle.rg_heap.specs.declared.answers.Collected.{Collected}
 use Rattle.rg_heap.specs.Slides.{Slides, SlidesBy}
 use Rattle.rg_machine.specs.Active.{OnActive}
 use Rattle.rg_machine.specs.Parts.{Parts}
-use Rattle.rg_step.specs.Collections.{Asks, CollectsTop, Serves, SlidesAsked, event_of}
+use Rattle.rg_step.specs.Collections.{CollectsTop, Serves, SlidesAsked, event_of}
+use Rattle.rg_step.specs.Pacers.{Asks}
 use Rattle.rg_step.specs.Stepping.{Stepping}
 use Rattle.rg_step.proofs.ReachedLemmas.{last-is, longer, serves-told}
 

@@ -20,7 +20,8 @@ use Rattle.rg_stack.specs.Dues.{first_due}
 use Rattle.rg_stack.proofs.Callers.DueLemmas.{steps-due}
 use Rattle.rg_machine.specs.Active.{IsActive}
 use Rattle.rg_machine.specs.Parts.{Parts, machine_in}
-use Rattle.rg_step.specs.Collections.{Asks, CollectsAsked, IsCollected, Serves, ServesBy, event_of}
+use Rattle.rg_step.specs.Collections.{CollectsAsked, IsCollected, Serves, ServesBy, event_of}
+use Rattle.rg_step.specs.Pacers.{Asks}
 use Rattle.rg_step.specs.States.{OneStep, Standing}
 use Rattle.rg_step.specs.Steps.{Runs, is_made}
 use Rattle.rg_step.specs.Stepping.{Stepping}

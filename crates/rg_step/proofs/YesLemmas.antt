@@ -12,7 +12,8 @@ use Rattle.rg_machine.specs.Parts.{Parts}
 use Rattle.rg_machine.specs.Stands.{Stands}
 use Rattle.rg_step.specs.Asking.{YesesTold, raised_if}
 use Rattle.rg_step.specs.Yeses.{is_paced, raised}
-use Rattle.rg_step.specs.Collections.{Asks, CollectsAsked, CollectsOn, IsCollected, Paces, Serves, event_of}
+use Rattle.rg_step.specs.Collections.{CollectsAsked, CollectsOn, IsCollected, Paces, Serves, event_of}
+use Rattle.rg_step.specs.Pacers.{Asks}
 use Rattle.rg_step.specs.Stepping.{Stepping}
 use Rattle.rg_step.proofs.ActiveLemmas.{collected-manager}
 

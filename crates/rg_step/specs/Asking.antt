@@ -13,7 +13,7 @@ use Rattle.rg_rules.specs.State.{State}
 use Rattle.rg_code.specs.Code.{Code}
 use Rattle.rg_stack.specs.Machine.{Machine}
 use Rattle.rg_pace.specs.Asked.{one_more}
-use Rattle.rg_step.specs.Collections.{Asks}
+use Rattle.rg_step.specs.Pacers.{Asks}
 use Rattle.rg_step.specs.Steps.{Runs}
 use Rattle.rg_step.specs.Stepping.{Since}
 use Rattle.rg_step.specs.Yeses.{raised, paced_by}

@@ -25,11 +25,7 @@ use Rattle.rg_machine.specs.Collects.{Gathers, GathersSliding}
 use Rattle.rg_machine.specs.Parts.{Parts, machine_in}
 use Rattle.rg_step.specs.Steps.{Runs}
 use Rattle.rg_step.specs.Stepping.{Stepping}
-
--- what the two pacers tell of themselves
-pub record Asks : Type 0 where
-  pub count : Asked
-  pub trace : Asked
+use Rattle.rg_step.specs.Pacers.{Asks}
 
 -- what is told of a collection that a step made
 abbrev pub event_of : (step : ℕ) → Cause → Collected → Event

@@ -4,7 +4,7 @@ use Rattle.rg_base.specs.declared.object.Label.TheVariants.{Region}
 use Rattle.rg_base.specs.declared.object.Seen.{Seen}
 use Rattle.rg_regions.specs.Table.{InTable}
 use Rattle.rg_held.specs.Gone.{gone}
-use Rattle.rg_held.specs.Freed.{EndedTemp}
+use Rattle.rg_held.specs.Temps.{EndedTemp}
 use Rattle.rg_held.specs.Shown.{Finds}
 use Rattle.rg_machine.specs.Parts.{Parts, machine_in}
 

@@ -9,3 +9,4 @@ pub mod Sound
 pub mod States
 pub mod Yeses
 pub mod Stepping
+pub mod Pacers

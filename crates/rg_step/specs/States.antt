@@ -11,7 +11,8 @@ use Rattle.rg_code.specs.Dues.{due_at}
 use Rattle.rg_machine.specs.High.{NoneMade, OneMade}
 use Rattle.rg_machine.specs.Parts.{Parts, machine_in}
 use Rattle.rg_step.specs.Asking.{AsksOn, SinceOn, YesesTold}
-use Rattle.rg_step.specs.Collections.{Asks, ReachesOn, ServesBy, SlidesAsked}
+use Rattle.rg_step.specs.Collections.{ReachesOn, ServesBy, SlidesAsked}
+use Rattle.rg_step.specs.Pacers.{Asks}
 use Rattle.rg_step.specs.Frees.{FreesOnly, StaysGone}
 use Rattle.rg_step.specs.Sound.{IsSound}
 use Rattle.rg_step.specs.Steps.{Counts, StepsOn, is_made, opening_machine}

@@ -10,9 +10,10 @@ ghost use Rattle.rg_rules.specs.State.{State};
 ghost use Rattle.rg_sound.specs.Fit.{Fit};
 ghost use Rattle.rg_code.specs.Code.{Code};
 ghost use Rattle.rg_held.specs.Shown.{Finds, ShowsHeld};
+ghost use Rattle.rg_machine.specs.Active.{IsActive};
 ghost use Rattle.rg_machine.specs.Owned.{IsOwned};
 ghost use Rattle.rg_machine.specs.Parts.{Parts, machine_in};
-ghost use Rattle.rg_step.specs.Collections.{Asks};
+ghost use Rattle.rg_step.specs.Pacers.{Asks};
 ghost use Rattle.rg_step.specs.States.{Chain, OneStep, Opens};
 ghost use Rattle.rg_step.specs.Steps.{IsResting, IsRunning, Leapt, Runs};
 ghost use Rattle.rg_step.specs.Stepping.{IsFresh};
@@ -27,7 +28,7 @@ use crate::outcome::outcome;
 use rg_base::{EndNumbers, Event, Manager, Memory, Outcome, Seen};
 use rg_code::CodeList;
 use rg_frames::Frames;
-use rg_heap::Heap;
+use rg_heap::{Active, Heap};
 use rg_input::Numbers;
 use rg_io::Source;
 use rg_machine::Machine;
@@ -117,6 +118,27 @@ impl Stepper {
     {
         match &self.machine {
             Some(p) => Some(p.frames()),
+            None => None,
+        }
+    }
+
+    /// The address of the mark at which the next step begins; 0 before a program begins.
+    pub fn at(&self) -> usize
+        ensures { result ≡ self.now.parts.at }
+    {
+        match &self.machine {
+            Some(p) => p.at(),
+            None => 0,
+        }
+    }
+
+    /// The active region, with its manager and how many cells it has, once a program has begun.
+    pub fn active(&self) -> Option<Active>
+        ensures none { result ≡ None → self.now.parts ≡ nothing }
+        ensures some { IfSome result (IsActive self.now.parts) }
+    {
+        match &self.machine {
+            Some(p) => Some(p.active()),
             None => None,
         }
     }

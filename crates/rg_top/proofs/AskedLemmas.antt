@@ -17,7 +17,7 @@ use Rattle.rg_code.specs.Lowering.{Lowers}
 use Rattle.rg_plain.specs.Runs.{RunShows}
 use Rattle.rg_step.specs.Asking.{YesesTold}
 use Rattle.rg_step.specs.Yeses.{paced_by, raised}
-use Rattle.rg_step.specs.Collections.{Asks}
+use Rattle.rg_step.specs.Pacers.{Asks}
 use Rattle.rg_run.specs.Collected.{Tells}
 use Rattle.rg_run.specs.Machine.{Kept, IsFresh, Shows, ShowsAt}
 use Rattle.rg_run.specs.Sound.{Stands}

@@ -11,7 +11,7 @@ use Rattle.rg_rules.specs.Asks.{asks}
 use Rattle.rg_code.specs.Code.{Code}
 use Rattle.rg_code.specs.Lowering.{Lowers}
 use Rattle.rg_step.specs.Yeses.{paced_by, raised}
-use Rattle.rg_step.specs.Collections.{Asks}
+use Rattle.rg_step.specs.Pacers.{Asks}
 use Rattle.rg_run.specs.Machine.{Kept, IsFresh}
 use Rattle.rg_run.specs.Sound.{Stands}
 use Rattle.rg_run.specs.States.{RunsThrough}

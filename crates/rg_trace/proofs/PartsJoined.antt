@@ -15,7 +15,8 @@ use Rattle.rg_trace.specs.Marking.{Marked}
 use Rattle.rg_trace.specs.Sweeping.{Swept, Sweeps}
 use Rattle.rg_regions.specs.Collection.{ChainsOrphans}
 use Rattle.rg_trace.specs.Orphans.{FollowsWhite}
-use Rattle.rg_trace.specs.Collected.{Collected, OutOfReach}
+use Rattle.rg_trace.specs.Collected.{Collected}
+use Rattle.rg_regions.specs.Reach.{OutOfReach}
 use Rattle.rg_trace.proofs.Marks.Colours.{walk-lies}
 use Rattle.rg_regions.proofs.Callers.Told.{owns_once, lies_or_not}
 

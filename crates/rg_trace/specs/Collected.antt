@@ -1,14 +1,10 @@
 -- What a collection by mark and sweep asks for, and what it leaves (docs/architecture.md, "Mark and sweep").
 use Rattle.std.specs.Prelude.{◌≡◌, ℕ, None, Some}
 use Rattle.rg_base.specs.declared.value.Word.TheVariants.{Slot}
-use Rattle.rg_cells.specs.Table.{Heap, Table, body_at, field_at, mark_at}
+use Rattle.rg_cells.specs.Table.{Table, body_at, field_at, mark_at}
 use Rattle.rg_regions.specs.Table.{Record, RegionTable}
-use Rattle.rg_regions.specs.Reach.{LiesIn, Roots, Reach}
-use Rattle.rg_regions.specs.Collection.{OneShrinks}
-
--- a cell isn't in reach
-abbrev pub OutOfReach : Heap → (region : ℕ) → Roots → (slot : ℕ) → Type 0
-OutOfReach h r roots s = Reach h r roots s → ⊥
+use Rattle.rg_regions.specs.Reach.{LiesIn, OutOfReach, Roots, Reach}
+use Rattle.rg_regions.specs.Shrinks.{OneShrinks}
 
 -- Of the region what is in reach is kept as it was, and all else of it is freed. All other cells and records stay, and
 -- of the region's own record the members alone change.

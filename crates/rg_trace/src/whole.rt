@@ -6,7 +6,8 @@ ghost use Rattle.rg_regions.specs.Grove.{Grove};
 ghost use Rattle.rg_regions.specs.Collection.{HasManager, WordsLeadToHeld, AllHeld};
 ghost use Rattle.rg_regions.specs.Collection.{TempsLeadToHeld, OfRegion, ChainsOrphans};
 ghost use Rattle.rg_regions.specs.Collection.{roots_of, region_fields};
-ghost use Rattle.rg_trace.specs.Collected.{Collected, OutOfReach};
+ghost use Rattle.rg_trace.specs.Collected.{Collected};
+ghost use Rattle.rg_regions.specs.Reach.{OutOfReach};
 
 use crate::mark::mark_region;
 use crate::orphans::chain_orphans;

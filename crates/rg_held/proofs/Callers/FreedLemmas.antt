@@ -24,14 +24,16 @@ use Rattle.rg_stack.specs.Labels.{has_window}
 use Rattle.rg_stack.specs.Given.{given_walk, given_finished, given_step_from, given_step}
 use Rattle.rg_stack.specs.Refusals.{Orderly}
 use Rattle.rg_stack.specs.Shows.{Shows}
-use Rattle.rg_stack.specs.Simulates.{Holds, SomeLeft}
+use Rattle.rg_stack.specs.Simulates.{Holds}
+use Rattle.rg_stack.specs.Left.{SomeLeft}
 use Rattle.rg_stack.proofs.Callers.RefusalLemmas.{steps-orderly}
 use Rattle.rg_stack.proofs.Basics.{none-some}
 use Rattle.rg_stack.proofs.Walks.GivenLemmas.{Less}
 use Rattle.rg_held.specs.Ends.{Match, SameEnd}
 use Rattle.rg_held.specs.Frees.{free_walk, free_finished, free_step_from, free_step}
 use Rattle.rg_held.specs.Gone.{gone}
-use Rattle.rg_held.specs.Freed.{EndedTemp, GoneRegion, StepFrees}
+use Rattle.rg_held.specs.Freed.{GoneRegion, StepFrees}
+use Rattle.rg_held.specs.Temps.{EndedTemp}
 use Rattle.rg_held.specs.Laws.{StepsFree, InOrder, owners_of}
 use Rattle.rg_held.specs.Part.{SomeWindow, Part}
 use Rattle.rg_held.specs.Shown.{Finds}

@@ -12,7 +12,8 @@ use Rattle.rg_code.specs.Code.{Code}
 use Rattle.rg_code.specs.Lowering.{Lowers}
 use Rattle.rg_stack.specs.Effects.{Work}
 use Rattle.rg_stack.specs.Runs.{Stepped, Goes, Ends, Trapped, Lost, Stopped, with_printed, after_step, coded_from, step, opening}
-use Rattle.rg_stack.specs.Simulates.{Holds, SomeLeft}
+use Rattle.rg_stack.specs.Simulates.{Holds}
+use Rattle.rg_stack.specs.Left.{SomeLeft}
 use Rattle.rg_stack.specs.Simulates as shown
 use Rattle.rg_stack.proofs.Callers.StepLemmas.{step-shows}
 use Rattle.rg_stack.proofs.Callers.OpeningLemmas.{opening-shows, opening-fit}

@@ -13,7 +13,8 @@ use Rattle.rg_code.specs.Code.{Code}
 use Rattle.rg_code.specs.Lowering.{Lowers}
 use Rattle.rg_stack.specs.Effects.{Work, Walked, Stops, Returns, Traps, Stuck}
 use Rattle.rg_stack.specs.Runs.{Stepped, Goes, Ends, Trapped, Lost, landed, step}
-use Rattle.rg_stack.specs.Simulates.{Holds, SomeLeft}
+use Rattle.rg_stack.specs.Simulates.{Holds}
+use Rattle.rg_stack.specs.Left.{SomeLeft}
 use Rattle.rg_stack.specs.Simulates as shown
 use Rattle.rg_stack.specs.Given.{given_walk, given_finished, given_step_from, given_step}
 use Rattle.rg_stack.specs.Refusals.{Orderly}

@@ -7,7 +7,7 @@ ghost use Rattle.rg_held.specs.Frees.{free_act};
 ghost use Rattle.rg_stack.specs.Refusals.{Takes};
 ghost use Rattle.rg_machine.specs.Core.{ActIs, Has};
 ghost use Rattle.rg_machine.specs.Keeps.{Keeping};
-ghost use Rattle.rg_machine.specs.High.{Making};
+ghost use Rattle.rg_machine.specs.Makes.{Making};
 ghost use Rattle.rg_machine.specs.Parts.{machine_in};
 ghost use Rattle.rg_machine.specs.Cores.{core_of};
 

@@ -11,7 +11,7 @@ use Rattle.rg_cells.specs.Table.{Table, field_at, body_at, label_at, mark_at}
 use Rattle.rg_regions.specs.Table.{Record, RegionTable, record_at, HasNumber, IsBridge}
 use Rattle.rg_regions.specs.Reach.{LiesIn}
 use Rattle.rg_regions.specs.Grove.{Grove, Members, referrers}
-use Rattle.rg_regions.specs.Collection.{OneShrinks}
+use Rattle.rg_regions.specs.Shrinks.{OneShrinks}
 use Rattle.rg_regions.proofs.Callers.Told.{one_region, lies_or_not}
 use Rattle.rg_regions.proofs.Callers.Fewer.{label_before, field_before, above_before, referrers_kept}
 

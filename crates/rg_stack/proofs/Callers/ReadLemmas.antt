@@ -14,7 +14,7 @@ use Rattle.rg_code.specs.Lowering.{scope_behind, kind_code}
 use Rattle.rg_code.specs.Places.{is_mark, behind_end, scope_of, Level, Lies}
 use Rattle.rg_stack.specs.Machine.{Frame}
 use Rattle.rg_stack.specs.Shows.{ShowsFrames, levels_of}
-use Rattle.rg_stack.specs.Simulates.{SomeLeft}
+use Rattle.rg_stack.specs.Left.{SomeLeft}
 use Rattle.rg_stack.specs.Reads.{reads}
 use Rattle.rg_stack.specs.Refusals.{manner, computes, all_compute}
 use Rattle.rg_stack.specs.Laws.{StepsAsk}

@@ -9,7 +9,7 @@ use Rattle.rg_code.specs.declared.op.Op.{Op}
 use Rattle.rg_code.specs.Places.{scope_of, Level, Lies}
 use Rattle.rg_stack.specs.Machine.{Frame}
 use Rattle.rg_stack.specs.Shows.{ShowsFrames, levels_of}
-use Rattle.rg_stack.specs.Simulates.{SomeLeft}
+use Rattle.rg_stack.specs.Left.{SomeLeft}
 use Rattle.rg_stack.specs.Refusals.{orderly, CalmBehind}
 use Rattle.rg_stack.specs.Laws.{StepsOrderly}
 use Rattle.rg_stack.proofs.Judgements.LeftLemmas.{do-other, leave-other, running-left}

@@ -14,7 +14,8 @@ use Rattle.rg_code.specs.Code.{Code}
 use Rattle.rg_code.specs.Lowering.{Lowers}
 use Rattle.rg_stack.specs.Effects.{Work}
 use Rattle.rg_stack.specs.Runs.{Stepped, Goes, Ends, Trapped, Lost, Running, with_printed, after_step, coded_from, step, opening}
-use Rattle.rg_stack.specs.Simulates.{Holds, NoneLeft, SomeLeft, SameStep, SameEnd, SameRun}
+use Rattle.rg_stack.specs.Simulates.{Holds, SameStep, SameEnd, SameRun}
+use Rattle.rg_stack.specs.Left.{NoneLeft, SomeLeft}
 use Rattle.rg_stack.specs.Laws.{RunShows}
 use Rattle.rg_stack.proofs.Callers.StepLemmas.{step-shows}
 use Rattle.rg_stack.proofs.Callers.OpeningLemmas.{opening-shows, opening-fit}

@@ -18,7 +18,8 @@ use Rattle.rg_stack.specs.Machine.{Machine}
 use Rattle.rg_stack.specs.Effects.{Work}
 use Rattle.rg_stack.specs.Runs.{Stepped, Goes, Ends, Trapped, Lost, step}
 use Rattle.rg_stack.specs.Shows.{Shows}
-use Rattle.rg_stack.specs.Simulates.{Holds, Reached, SomeLeft, SameStep}
+use Rattle.rg_stack.specs.Simulates.{Holds, Reached, SameStep}
+use Rattle.rg_stack.specs.Left.{SomeLeft}
 use Rattle.rg_stack.specs.Given.{given_step}
 use Rattle.rg_stack.specs.Laws.{StepShows, StepsGiven}
 use Rattle.rg_stack.proofs.Mirrors.{Mirrors, MirrorsWork, SameMove}

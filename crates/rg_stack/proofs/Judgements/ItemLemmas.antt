@@ -19,7 +19,7 @@ use Rattle.rg_code.specs.Lowering.{lowered}
 use Rattle.rg_stack.specs.Machine.{Frame, Window, slots_below, end_slots}
 use Rattle.rg_stack.specs.Needs.{needs, owned_once, temps_may_go, owner_leads, top_base}
 use Rattle.rg_stack.specs.Shows.{ShowsWindows, sizes_of}
-use Rattle.rg_stack.specs.Simulates.{SomeLeft}
+use Rattle.rg_stack.specs.Left.{SomeLeft}
 use Rattle.rg_stack.specs.Given.{given_step as step}
 use Rattle.rg_stack.proofs.Mirrors.{Mirrors, SameMove}
 use Rattle.rg_stack.proofs.Walks.FrameLemmas.{work_of, state_of, OpenedBelow}

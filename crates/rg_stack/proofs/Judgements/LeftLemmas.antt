@@ -15,7 +15,7 @@ use Rattle.rg_rules.specs.State.{Local, Target, Frame, Window}
 use Rattle.rg_rules.proofs.PointLemmas.{and_then-some}
 use Rattle.rg_sound.specs.Frames.{leaves, Entered, Waits, WaitsEmpty, Beneath, Running}
 use Rattle.rg_sound.proofs.BaseLemmas.{entered_first}
-use Rattle.rg_stack.specs.Simulates.{SomeLeft}
+use Rattle.rg_stack.specs.Left.{SomeLeft}
 use Rattle.rg_stack.proofs.Judgements.SpotLemmas.{leaves_frame, inner_stays}
 use Rattle.rg_stack.proofs.Judgements.BaseLemmas.{WindowThere, beneath-window}
 use Rattle.rg_stack.proofs.Judgements.BeginLemmas.{body-judged}

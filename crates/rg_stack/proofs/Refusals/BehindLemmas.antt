@@ -22,7 +22,7 @@ use Rattle.rg_code.specs.declared.op.Op.{Op}
 use Rattle.rg_code.specs.declared.op.Op.TheVariants as i
 use Rattle.rg_code.specs.Lowering.{with_slot, scope_behind, assign_op}
 use Rattle.rg_code.specs.Places.{is_drop, Level, TakesResult, Lies}
-use Rattle.rg_stack.specs.Simulates.{SomeLeft}
+use Rattle.rg_stack.specs.Left.{SomeLeft}
 use Rattle.rg_stack.specs.Refusals.{calm}
 use Rattle.rg_stack.proofs.Walks.MarkLemmas.{drop-stands, first-drop}
 use Rattle.rg_stack.proofs.Judgements.LeftLemmas.{spot-ends, left-back, beneath-left}

@@ -23,7 +23,7 @@ use Rattle.rg_stack.specs.Effects.{Work, Walked, Stops, Returns, Traps, Stuck, w
 use Rattle.rg_stack.specs.Runs.{come_to, landed, stopped}
 use Rattle.rg_stack.specs.Needs.{needs, owned_once}
 use Rattle.rg_stack.specs.Shows.{ShowsFrames, ShowsWindows, levels_of}
-use Rattle.rg_stack.specs.Simulates.{NoneLeft, SomeLeft}
+use Rattle.rg_stack.specs.Left.{NoneLeft, SomeLeft}
 use Rattle.rg_stack.specs.Given.{given_finished as finished, given_step as step, given_step_from as step_from, given_walk as walk}
 use Rattle.rg_stack.proofs.Mirrors.{MirrorsWork, SameMove}
 use Rattle.rg_stack.proofs.Walks.WalkLemmas.{Agrees, walk-expr}

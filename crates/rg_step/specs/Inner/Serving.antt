@@ -11,7 +11,8 @@ use Rattle.rg_pace.specs.Asked.{one_more, with_ask}
 use Rattle.rg_step.specs.declared.step.Did.{Did}
 use Rattle.rg_step.specs.declared.step.Did.TheVariants as did
 use Rattle.rg_step.specs.Stepping.{Since}
-use Rattle.rg_step.specs.Collections.{Asks, since_then}
+use Rattle.rg_step.specs.Collections.{since_then}
+use Rattle.rg_step.specs.Pacers.{Asks}
 
 -- what is answered of what a step did and printed
 abbrev pub answer : Did → (printed : Option Val) → Outcome

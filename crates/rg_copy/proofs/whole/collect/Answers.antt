@@ -11,7 +11,7 @@ use Rattle.rg_regions.specs.Collection.{ChainsOrphans, region_fields, roots_of}
 use Rattle.rg_regions.proofs.Callers.Told.{same_members, same_number, same_bridge, led_held, owns_once}
 use Rattle.rg_regions.proofs.Callers.Told.{lies_held}
 use Rattle.rg_regions.proofs.Callers.Ordered.{ordered_links}
-use Rattle.rg_trace.specs.Collected.{OutOfReach}
+use Rattle.rg_regions.specs.Reach.{OutOfReach}
 use Rattle.rg_trace.specs.Marking.{Marked}
 use Rattle.rg_trace.proofs.PartsJoined.{all-white, not-grey}
 use Rattle.rg_copy.specs.Slid.{Slid, top_slots, top_temps, top_roots}

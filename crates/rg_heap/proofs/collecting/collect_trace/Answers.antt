@@ -1,7 +1,7 @@
 use Rattle.std.proofs.Common.{refl}
 use Rattle.rg_base.specs.declared.words.Manager.TheVariants.{Trace}
 use Rattle.rg_regions.specs.Collection.{roots_of}
-use Rattle.rg_trace.specs.Collected.{OutOfReach}
+use Rattle.rg_regions.specs.Reach.{OutOfReach}
 use Rattle.rg_heap.proofs.Orphaned.{of_collected, shrunk_chain, shrunk_collects, shrunk_told}
 use Rattle.rg_heap.proofs.collecting.collect_trace.Goals as goal
 

@@ -8,7 +8,8 @@ use Rattle.rg_regions.specs.Reach.{LiesIn, Roots}
 use Rattle.rg_trace.specs.Marking.{Marked, black_fields}
 use Rattle.rg_trace.specs.Orphans.{FollowsWhite, if_white}
 use Rattle.rg_regions.specs.Collection.{ChainsOrphans, region_fields}
-use Rattle.rg_trace.specs.Collected.{Collected, OutOfReach}
+use Rattle.rg_trace.specs.Collected.{Collected}
+use Rattle.rg_regions.specs.Reach.{OutOfReach}
 use Rattle.rg_trace.proofs.PartsJoined.{all-white, swept-begin, not-grey, collected, orphaning}
 use Rattle.rg_trace.proofs.GroveKept.{grove-kept}
 use Rattle.rg_trace.proofs.StepsBound.{ticks}

@@ -1,0 +1,5 @@
+use Rattle.rg_once.proofs.LawLemmas.{steps-once}
+use Rattle.rg_once.proofs.laws.steps_once.Goals as goal
+
+pub returns : goal.returns
+returns c = steps-once
