@@ -41,6 +41,8 @@ printf 'main arena {\n  print "\xff\xfe\x80";\n}\n' >bytes.rg
 printf 'main arena {\n  print 7; // \xff\xfe\n  print;\n}\n' >comment.rg
 head -c 100000 /dev/urandom >noise.rg
 printf '\0\0\0' >nul.rg
+{ printf 'main arena { print '; head -c 1000000 /dev/zero | tr '\0' 9; printf '; }'; } >digits.rg
+printf 'main arena {\v}' >tab.rg
 
 usage='usage: tools/explain FILE \[--run \[--steps N\] \[--every N\] \[--report\]\]'
 explain=$here/tools/explain
@@ -65,6 +67,8 @@ expect 'explain: the same, in a plain locale' 1 '*## E01 byte*' 'E01 byte at lin
 expect 'explain: such bytes in a comment' 1 '*Here stands `;`*' 'E10 syntax at line 3' "$explain comment.rg"
 expect 'explain: noise' 1 '*## E01 byte*' 'E01 byte at line *' "$explain noise.rg"
 expect 'explain: bytes 0' 1 '*Here stands the byte 0.*' 'E01 byte at line 1' "$explain nul.rg"
+expect 'explain: a million digits' 1 '*## E02 number*' 'E02 number at line 1' "$explain digits.rg"
+expect 'explain: a byte that is no blank' 1 '*Here stands the byte 11.*' 'E01 byte at line 1' "$explain tab.rg"
 expect 'explain: it runs' 0 7 '' "$explain seven.rg --run"
 expect 'explain: a program that never ends' 4 '*Status 4*--steps N*' 'spent at step 1000' "$explain endless.rg --run --steps 1000"
 expect 'explain: a trap' 3 '*>     4    print a.next.v;*Cure: ask first*' 'trap nil at line 4' "$explain trap.rg --run"
