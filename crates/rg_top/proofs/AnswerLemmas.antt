@@ -381,3 +381,17 @@ pub answers-expected : (told : Option Told) (left : Option (List ℕ)) (words : 
     (still : Type 0) → OnTrue (is_answer s) (ForSource told left words (λ c source input. Answers c source input s old new m still)) →
     OnTrue (is_answer s) (IsExpected told left words s)
 answers-expected told left words s old new m still h = on-true _ _ (is_answer s) h (expects-of told left words s old new m still)
+
+-- a status that may be told of sources and inputs that failed may be told of any
+pub may-any : (told : Option Told) (left : Option (List ℕ)) (words : List (List ℕ)) (F I : Type 0) (s : Status) → s ≢ status.OutputFault →
+    MayTell told left words F I s → MayTell told left words (Unit {0}) (Unit {0}) s
+may-any told left words F I status.Done n h = h
+may-any told left words F I (status.Refused f) n h = h
+may-any told left words F I status.Usage n h = h
+may-any told left words F I (status.Trap kind line) n h = h
+may-any told left words F I status.Spent n h = h
+may-any told left words F I status.SourceFault n h = tt
+may-any told left words F I status.InputFault n h = tt
+may-any told left words F I status.OutputFault n h = h
+may-any told left words F I status.Memory n h = tt
+may-any told left words F I status.Long n h = h
