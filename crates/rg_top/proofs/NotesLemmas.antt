@@ -17,7 +17,7 @@ use Rattle.rg_top.specs.declared.status.Status.{Status}
 use Rattle.rg_top.specs.declared.status.Status.TheVariants as status
 use Rattle.rg_top.specs.Commands.{Command, command, Origin, reports, may_report, steps_of}
 use Rattle.rg_top.specs.Statuses.{status_text, ends_run}
-use Rattle.rg_top.specs.Headline.{IsBefore, text_behind, TookPart, TookNotes, ToldFault, steps_asked}
+use Rattle.rg_top.specs.Headline.{IsBefore, text_behind, TookNotes, ToldFault, steps_asked}
 use Rattle.rg_top.specs.Inner.Settled.{status_of_ended, Refuses, Reported, CutText, Gave, Becomes}
 use Rattle.rg_top.proofs.SettledLemmas.{untouched-text, prefix-behind}
 use Rattle.rg_top.proofs.BulkLemmas.{prefix-more}
