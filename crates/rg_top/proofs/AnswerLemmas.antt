@@ -7,7 +7,7 @@ use Rattle.rg_base.specs.declared.limits.TheConstants.{SOURCE_BYTES}
 use Rattle.rg_io.specs.Content.{Rose}
 use Rattle.rg_io.specs.Files.{Told, HasLongFile}
 use Rattle.rg_io.proofs.ContentLemmas.{Rose-since}
-use Rattle.rg_run.specs.Machine.{Kept, IsFresh}
+use Rattle.rg_run.specs.Machine.{Kept, IsFresh, numbers_of}
 use Rattle.rg_top.specs.declared.status.Status.{Status}
 use Rattle.rg_top.specs.declared.status.Status.TheVariants as status
 use Rattle.rg_top.specs.Commands.{Command, command, Origin, in_file, origin_of, reads_input, may_read, opens_file, may_open}
@@ -370,3 +370,28 @@ answer-unread words c P e h = rw e (on-false (reads_input c) h)
 pub answer-unopened : (words : List (List ℕ)) (c : Command) (P : Type 0) → command words ≡ Some c → (opens_file c ≡ false → P) →
     OnFalse (may_open (command words)) P
 answer-unopened words c P e h = rw e (on-false (opens_file c) h)
+
+-- what was answered to a source was expected of it
+expects-of : (told : Option Told) (left : Option (List ℕ)) (words : List (List ℕ)) (s : Status) (old new : Option (List ℕ)) (m : Kept) (still : Type 0) →
+    ForSource told left words (λ c source input. Answers c source input s old new m still) → IsExpected told left words s
+expects-of told left words s old new m still (c, source, asked, has, (input, is, a)) =
+    (c, source, asked, has, (input, is, (numbers_of m, a.text, (a.meaning, a.means, a.expects))))
+
+pub answers-expected : (told : Option Told) (left : Option (List ℕ)) (words : List (List ℕ)) (s : Status) (old new : Option (List ℕ)) (m : Kept)
+    (still : Type 0) → OnTrue (is_answer s) (ForSource told left words (λ c source input. Answers c source input s old new m still)) →
+    OnTrue (is_answer s) (IsExpected told left words s)
+answers-expected told left words s old new m still h = on-true _ _ (is_answer s) h (expects-of told left words s old new m still)
+
+-- a status that may be told of sources and inputs that failed may be told of any
+pub may-any : (told : Option Told) (left : Option (List ℕ)) (words : List (List ℕ)) (F I : Type 0) (s : Status) → s ≢ status.OutputFault →
+    MayTell told left words F I s → MayTell told left words (Unit {0}) (Unit {0}) s
+may-any told left words F I status.Done n h = h
+may-any told left words F I (status.Refused f) n h = h
+may-any told left words F I status.Usage n h = h
+may-any told left words F I (status.Trap kind line) n h = h
+may-any told left words F I status.Spent n h = h
+may-any told left words F I status.SourceFault n h = tt
+may-any told left words F I status.InputFault n h = tt
+may-any told left words F I status.OutputFault n h = h
+may-any told left words F I status.Memory n h = tt
+may-any told left words F I status.Long n h = h

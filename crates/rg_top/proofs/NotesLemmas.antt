@@ -7,17 +7,17 @@ use Rattle.rg_base.specs.declared.fault.Fault.{Fault}
 use Rattle.rg_base.specs.declared.outcome.Ended.{Ended}
 use Rattle.rg_base.specs.declared.outcome.Ended.TheVariants as ended
 use Rattle.rg_base.specs.Report.{end_line}
-use Rattle.rg_io.specs.Content.{Rose, Appends, AppendsPart}
+use Rattle.rg_io.specs.Content.{Rose, Appends, AppendsPart, IsPrefix}
 use Rattle.rg_io.specs.Files.{Told}
 use Rattle.rg_io.proofs.ContentLemmas.{Appends-more}
 use Rattle.rg_step.specs.Stepping.{Stepping}
 use Rattle.rg_run.specs.Machine.{Kept, IsFresh, numbers_of}
-use Rattle.rg_run.specs.Reports.{Reports, event_lines}
+use Rattle.rg_run.specs.Reports.{Reports, event_lines, AreCutLines}
 use Rattle.rg_top.specs.declared.status.Status.{Status}
 use Rattle.rg_top.specs.declared.status.Status.TheVariants as status
 use Rattle.rg_top.specs.Commands.{Command, command, Origin, reports, may_report, steps_of}
 use Rattle.rg_top.specs.Statuses.{status_text, ends_run}
-use Rattle.rg_top.specs.Headline.{IsBefore, text_behind, TookPart, TookNotes, ToldFault, steps_asked}
+use Rattle.rg_top.specs.Headline.{IsBefore, text_behind, TookNotes, ToldFault, steps_asked}
 use Rattle.rg_top.specs.Inner.Settled.{status_of_ended, Refuses, Reported, CutText, Gave, Becomes}
 use Rattle.rg_top.proofs.SettledLemmas.{untouched-text, prefix-behind}
 use Rattle.rg_top.proofs.BulkLemmas.{prefix-more}
@@ -324,3 +324,66 @@ took-report May report steps m given answer old mid new n may memory is ends h g
 pub no-fault-told : (given : Status) (R P : Type 0) → given ≢ status.OutputFault → ¬ R → (given ≡ status.OutputFault) ⊎ R → P
 no-fault-told given R P n none (inl e) = absurd (n e)
 no-fault-told given R P n none (inr r) = absurd (none r)
+
+-- What is told of want of memory alone is what the notes take of it with a report, too, where no run has begun.
+no-lines : (m : Kept) → IsFresh m → length m.stepper.events ≤ 1
+no-lines m fresh =
+    let none : m.stepper.events ≡ [] = ap (λ (s : Stepping). s.events) fresh.stepper in omega (arith, ap length none)
+
+no-lines-cut : (m : Kept) (lines : List ℕ) → IsFresh m → lines ≡ [] → AreCutLines m.stepper.events lines
+no-lines-cut m lines fresh none =
+    subst (AreCutLines m.stepper.events) (sym none) (record {
+      whole = 0;
+      but_last = no-lines m fresh;
+      begins = record { rest = []; whole_is = refl };
+      ends = record { rest = event_lines m.stepper.events; whole_is = refl };
+    })
+
+before-memory : (report : Bool) (m : Kept) (lines : List ℕ) → IsFresh m → lines ≡ [] → IsBefore report status.Memory m.stepper.events lines
+before-memory false m lines fresh none = none
+before-memory true m lines fresh none = (0, no-lines m fresh, none)
+
+before-fault : (report : Bool) (m : Kept) (lines : List ℕ) → IsFresh m → lines ≡ [] → IsBefore report status.OutputFault m.stepper.events lines
+before-fault false m lines fresh none = none
+before-fault true m lines fresh none = no-lines-cut m lines fresh none
+
+memory-text : (report : Bool) (steps : ℕ) (m : Kept) → text_behind report steps m status.Memory ≡ status_text 0 status.Memory
+memory-text false steps m = refl
+memory-text true steps m = append-nil (status_text 0 status.Memory)
+
+pub memory-notes : (Might : Status → Type 0) (report : Bool) (steps : ℕ) (m : Kept) (answer : Status) (old new : Option (List ℕ)) → IsFresh m →
+    Might status.Memory → (answer ≡ status.Memory) ⊎ (answer ≡ status.OutputFault) →
+    TookNotes (λ s. s ≡ status.Memory) false 0 m answer old new → TookNotes Might report steps m answer old new
+memory-notes Might report steps m answer old new fresh might (inl e) h =
+    let P : Status → Type 0 = λ s. TookNotes (λ s. s ≡ status.Memory) false 0 m s old new in
+    let Q : Status → Type 0 = λ s. TookNotes Might report steps m s old new in
+    subst Q (sym e) (memory-taken Might report steps m old new fresh (subst P e h))
+  where
+    memory-taken : (Might : Status → Type 0) (report : Bool) (steps : ℕ) (m : Kept) (old new : Option (List ℕ)) → IsFresh m →
+        TookNotes (λ s. s ≡ status.Memory) false 0 m status.Memory old new → TookNotes Might report steps m status.Memory old new
+    memory-taken Might report steps m old new fresh (lines, none, took) =
+        let R : List ℕ → Type 0 = λ q. Appends old new (lines ++ q) in
+        (lines, before-memory report m lines fresh none, subst R (sym (memory-text report steps m)) took)
+memory-notes Might report steps m answer old new fresh might (inr e) h =
+    let P : Status → Type 0 = λ s. TookNotes (λ s. s ≡ status.Memory) false 0 m s old new in
+    let Q : Status → Type 0 = λ s. TookNotes Might report steps m s old new in
+    subst Q (sym e) (fault-taken Might report steps m old new fresh might (subst P e h))
+  where
+    fault-taken : (Might : Status → Type 0) (report : Bool) (steps : ℕ) (m : Kept) (old new : Option (List ℕ)) → IsFresh m → Might status.Memory →
+        TookNotes (λ s. s ≡ status.Memory) false 0 m status.OutputFault old new → TookNotes Might report steps m status.OutputFault old new
+    fault-taken Might report steps m old new fresh might (inl (lines, none, upto)) = inl (lines, before-fault report m lines fresh none, upto)
+    fault-taken Might report steps m old new fresh might (inr p) =
+        let S : Status → Type 0 = λ s. IsPrefix p.first (text_behind false 0 m s) in
+        let T : List ℕ → Type 0 = λ q. IsPrefix p.first q in
+        inr (record {
+          other = status.Memory;
+          may = might;
+          another = λ e. cc;
+          lines = p.lines;
+          before = before-memory report m p.lines fresh p.before;
+          first = p.first;
+          second = p.second;
+          first_of = subst T (sym (memory-text report steps m)) (subst S p.may p.first_of);
+          second_of = p.second_of;
+          took = p.took;
+        })

@@ -1,15 +1,16 @@
 //! A whole process: the words of the command line, the files of the system and the standard streams
 //! are handed to the top call (docs/language.md, "The command line").
 
-ghost use Rattle.std.specs.Prelude.{◌≡◌, ◌⊎◌, false, map, drop, IfOk};
+ghost use Rattle.std.specs.Prelude.{◌≡◌, ◌⊎◌, false, None, map, drop, IfOk};
+ghost use Rattle.std.specs.Bool.{OnTrue};
 ghost use Rattle.std.specs.Process.{exit_status};
 ghost use Rattle.std.specs.String.{string_bytes};
 ghost use Rattle.std.specs.Vec.Iter.{into_iter_items};
 ghost use Rattle.rg_run.specs.Machine.{Kept};
-ghost use Rattle.rg_top.specs.Commands.{texts};
-ghost use Rattle.rg_top.specs.Headline.{TookNotes};
+ghost use Rattle.rg_top.specs.Commands.{command, texts, may_report};
+ghost use Rattle.rg_top.specs.Headline.{Exactly, IsExpected, MayTell, TookNotes, steps_asked};
 ghost use Rattle.rg_top.specs.Inner.Words.{status_without};
-ghost use Rattle.rg_top.specs.Statuses.{number_of};
+ghost use Rattle.rg_top.specs.Statuses.{number_of, is_answer};
 
 use crate::notes::tell;
 use crate::status::Status;
@@ -83,8 +84,16 @@ fn tell_no_words<R: Sink>(notes: &mut R, why: NoWords) -> Status
 
 /// Calls `reggio` with standard input, standard output and, for the notes, standard error, and with
 /// pacers of its own, which end with the call.
-fn paced<R: Sink>(rt: &HostRuntime, words: &[&str], notes: &mut R) -> Status {
+fn paced<R: Sink>(rt: &HostRuntime, words: &[&str], notes: &mut R) -> Status
+    ensures usage { Exactly result Status.Usage (command (texts words.now) ≡ None) }
+    ensures expected { OnTrue (is_answer result) (IsExpected None None (texts words.now) result) }
+    ensures notes { (m : Kept) × TookNotes
+        (MayTell None None (texts words.now) (Unit {0}) (Unit {0}))
+        (may_report (command (texts words.now))) (steps_asked (command (texts words.now))) m
+        result (R.taken notes.old) (R.taken notes.new) }
+{
     let alloc = rt.alloc();
+    let mut machine = Machine::new(alloc);
     let Ok(mut count) = Box::new(alloc, EveryN::new()) else {
         return tell_no_words(notes, NoWords::Memory);
     };
@@ -100,7 +109,7 @@ fn paced<R: Sink>(rt: &HostRuntime, words: &[&str], notes: &mut R) -> Status {
         notes,
         &mut *count,
         &mut *trace,
-        &mut Machine::new(alloc),
+        &mut machine,
     )
 }
 
