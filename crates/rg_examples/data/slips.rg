@@ -4,6 +4,8 @@ class A {
   down: iso A;
   def paused get(): int { return self.v; }
   def mut put(k: int) { self.v = k; }
+  def mut eat(x: iso A) { }
+  def mut give(x: iso A): iso A { return x; }
   // there
 }
 main arena {

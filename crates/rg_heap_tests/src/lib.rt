@@ -3,6 +3,8 @@
 #![tactic(auto)]
 
 #[cfg(test)]
+mod cargo;
+#[cfg(test)]
 mod cells;
 #[cfg(test)]
 mod collections;

@@ -135,11 +135,19 @@ reports-whole true ended.Done events first now h = h
 reports-whole true ended.Spent events first now h = h
 reports-whole true (ended.Trap kind line) events first now h = h
 reports-whole true ended.InputFault events first now h = h
-reports-whole true ended.OutputFault events first now h =
-    (event_lines events, record { rest = []; whole_is = sym (append-nil (event_lines events)) }, h)
+reports-whole true ended.OutputFault events first now h = (
+  event_lines events,
+  record {
+    whole = length events;
+    but_last = omega arith;
+    begins = record { rest = []; whole_is = ap event_lines (sym (take_all (length events) events (omega arith))) ∙ sym (append-nil _) };
+    ends = record { rest = []; whole_is = sym (append-nil (event_lines events)) };
+  },
+  h,
+)
 reports-whole true ended.Memory events first now h =
     let P : List Event → Type 0 = λ q. Appends first now (event_lines q) in
-    (length events, subst P (sym (take_all (length events) events (omega arith))) h)
+    (length events, omega arith, subst P (sym (take_all (length events) events (omega arith))) h)
 
 -- before the first collection
 pub reports-none : (report : Bool) (content : Option (List ℕ)) → Reports report ended.Spent [] content content
@@ -164,13 +172,21 @@ reports-same report e old new first now same h =
 lines-more : (xs : List Event) (e : Event) → event_lines (xs ++ e ∷ []) ≡ event_lines xs ++ event_line e
 lines-more xs e = flat_map-append event_line xs (e ∷ []) ∙ ap (λ q. event_lines xs ++ q) (append-nil (event_line e))
 
--- the output failed before the last ones were told
-pub reports-part : (report : Bool) (events : List Event) (told : ℕ) (first now : Option (List ℕ)) →
+-- the output failed before the last one was told
+pub reports-part : (report : Bool) (events : List Event) (told : ℕ) (first now : Option (List ℕ)) → length events ≤ told + 1 →
     Reports report ended.Spent (take told events) first now → Reports report ended.OutputFault events first now
-reports-part false events told first now h = h
-reports-part true events told first now h =
-    let whole = ap event_lines (sym (take-append-drop told events)) ∙ flat_map-append event_line (take told events) (drop told events) in
-    (event_lines (take told events), record { rest = event_lines (drop told events); whole_is = whole }, h)
+reports-part false events told first now few h = h
+reports-part true events told first now few h =
+    let whole = ap event_lines (sym (take-append-drop told events)) ∙ flat_map-append event_line (take told events) (drop told events) in (
+      event_lines (take told events),
+      record {
+        whole = told;
+        but_last = few;
+        begins = record { rest = []; whole_is = sym (append-nil (event_lines (take told events))) };
+        ends = record { rest = event_lines (drop told events); whole_is = whole };
+      },
+      h,
+    )
 
 -- Telling one
 
@@ -219,13 +235,18 @@ module _ (events : List Event) (told : ℕ) (e : Event) (there : slice_get event
       let lines = event_lines (take told events) in (
         lines ++ cut.0,
         record {
-          rest = cut.1.rest;
-          whole_is = lines-are ∙ ap (λ q. lines ++ q) cut.1.whole_is ∙ sym (append_assoc lines cut.0 cut.1.rest);
+          whole = told;
+          but_last = small;
+          begins = record { rest = cut.0; whole_is = refl };
+          ends = record {
+            rest = cut.1.rest;
+            whole_is = lines-are ∙ ap (λ q. lines ++ q) cut.1.whole_is ∙ sym (append_assoc lines cut.0 cut.1.rest);
+          };
         },
         Appends-more first now new lines cut.0 h cut.2,
       )
   told-cut true is ended.Memory h cut =
-      let P : Option (List ℕ) → Type 0 = λ q. Appends first q (event_lines (take told events)) in (told, subst P (sym cut) h)
+      let P : Option (List ℕ) → Type 0 = λ q. Appends first q (event_lines (take told events)) in (told, small, subst P (sym cut) h)
 
 pub is-untold : (e : Ended) (old new : Option (List ℕ)) (bytes : List ℕ) → CutsLine e old new bytes → IsUntold e
 is-untold ended.Done old new bytes cut = absurd cut

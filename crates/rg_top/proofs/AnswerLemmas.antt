@@ -14,6 +14,7 @@ use Rattle.rg_top.specs.Commands.{Command, command, Origin, in_file, origin_of, 
 use Rattle.rg_top.specs.Statuses.{is_answer, is_refusal, is_cut_off, is_from_outside}
 use Rattle.rg_top.specs.Expected.{HasSource, ExpectsStatus}
 use Rattle.rg_top.specs.Headline.{ForInput, ForSource, Exactly, ExactlyWhere, Answers, Untouched, CutOffAt, CutAtInput}
+use Rattle.rg_top.specs.Headline.{IsExpected, MayTell}
 use Rattle.rg_top.specs.Inner.Settled.{Settles, Unread, source_fault, memory, SettlesCommand, Refuses, Caused, Tunes, Chooses, Becomes}
 use Rattle.rg_top.proofs.MeaningLemmas.{expects-one, refusal-any}
 use Rattle.rg_top.proofs.SettledLemmas.{answers-of, cut-of, status-of}
@@ -313,6 +314,37 @@ answer-usage {told = told} {left = left} {words = words} {given = given} {answer
       absurd (no-usage told left a.asked old new m still (subst P (given-is given answer a.told_is (λ o. cc) (λ o. cc) ∙ e) a.settles)),
   λ none. let lie : None ≡ Some a.asked = sym none ∙ a.command_is in absurd (cc),
 )
+
+-- a status that is expected, or comes from outside with its cause, may be told
+may-tell : (told : Option Told) (left : Option (List ℕ)) (words : List (List ℕ)) (F I : Type 0) (s : Status) → s ≢ status.OutputFault →
+    s ≢ status.Usage → (s ≡ status.SourceFault → F) → (s ≡ status.InputFault → I) → IsExpected told left words s ⊎ (is_from_outside s ≡ true) →
+    MayTell told left words F I s
+may-tell told left words F I status.Done n u f i (inl h) = h
+may-tell told left words F I status.Done n u f i (inr o) = cc
+may-tell told left words F I (status.Refused fault) n u f i (inl h) = h
+may-tell told left words F I (status.Refused fault) n u f i (inr o) = cc
+may-tell told left words F I status.Usage n u f i h = absurd (u refl)
+may-tell told left words F I (status.Trap kind line) n u f i (inl h) = h
+may-tell told left words F I (status.Trap kind line) n u f i (inr o) = cc
+may-tell told left words F I status.Spent n u f i (inl h) = h
+may-tell told left words F I status.Spent n u f i (inr o) = cc
+may-tell told left words F I status.SourceFault n u f i h = f refl
+may-tell told left words F I status.InputFault n u f i h = i refl
+may-tell told left words F I status.OutputFault n u f i h = absurd (n refl)
+may-tell told left words F I status.Memory n u f i h = tt
+may-tell told left words F I status.Long n u f i (inl h) = h
+may-tell told left words F I status.Long n u f i (inr o) = cc
+
+-- the status that was given to be told is one, and want of memory
+pub answer-may : {told : Option Told} {left : Option (List ℕ)} {words : List (List ℕ)} {given answer : Status} {old new : Option (List ℕ)}
+    {m : Kept} {still : Type 0} → Answered told left words given answer old new m still → (F I : Type 0) → (given ≡ status.SourceFault → F) →
+    (given ≡ status.InputFault → I) → (s : Status) → s ≢ status.OutputFault → (s ≡ given) ⊎ (s ≡ status.Memory) → MayTell told left words F I s
+answer-may {told = told} {left = left} {words = words} {given = given} {old = old} {new = new} {m = m} {still = still} a F I f i s n (inl e) =
+    let P : Status → Type 0 = λ x. SettlesCommand told a.asked left x old new m still in
+    subst (MayTell told left words F I) (sym e)
+    (may-tell told left words F I given (λ o. n (e ∙ o)) (λ u. no-usage told left a.asked old new m still (subst P u a.settles)) f i
+    (file-status told left words a.asked given old new m still a.command_is a.settles))
+answer-may {told = told} {left = left} {words = words} a F I f i s n (inr e) = subst (MayTell told left words F I) (sym e) tt
 
 -- words that are no command are answered a usage, or an output fault, and nothing else
 pub usage-exactly : (told : Option Told) (left : Option (List ℕ)) (words : List (List ℕ)) (answer s : Status) → command words ≡ None →

@@ -1,6 +1,6 @@
 -- What the notes have taken of a call: the lines of a run's collections, then the text of its status, and the line of its end.
 use Rattle.std.proofs.Common.{◌≡◌, ◌≢◌, ℕ, ◌≤◌, ◌⊎◌, inl, inr, Bool, true, false, List, [], ◌++◌, length, take}
-use Rattle.std.proofs.Common.{Option, Some, refl, sym, ap, subst, arith, append-nil, append_assoc}
+use Rattle.std.proofs.Common.{Option, Some, None, refl, sym, ap, subst, arith, append-nil, append_assoc}
 use Rattle.std.proofs.Math.Seq.{take-length}
 use Rattle.rg_base.specs.declared.event.Event.{Event}
 use Rattle.rg_base.specs.declared.fault.Fault.{Fault}
@@ -10,161 +10,127 @@ use Rattle.rg_base.specs.Report.{end_line}
 use Rattle.rg_io.specs.Content.{Rose, Appends, AppendsPart}
 use Rattle.rg_io.specs.Files.{Told}
 use Rattle.rg_io.proofs.ContentLemmas.{Appends-more}
-use Rattle.rg_run.specs.Machine.{Kept, numbers_of}
+use Rattle.rg_step.specs.Stepping.{Stepping}
+use Rattle.rg_run.specs.Machine.{Kept, IsFresh, numbers_of}
 use Rattle.rg_run.specs.Reports.{Reports, event_lines}
 use Rattle.rg_top.specs.declared.status.Status.{Status}
 use Rattle.rg_top.specs.declared.status.Status.TheVariants as status
 use Rattle.rg_top.specs.Commands.{Command, command, Origin, reports, may_report, steps_of}
 use Rattle.rg_top.specs.Statuses.{status_text, ends_run}
-use Rattle.rg_top.specs.Headline.{line_after, notes_text, IsNotes, TookNotes, ToldFault, steps_asked}
+use Rattle.rg_top.specs.Headline.{IsBefore, text_behind, TookPart, TookNotes, ToldFault, steps_asked}
 use Rattle.rg_top.specs.Inner.Settled.{status_of_ended, Refuses, Reported, CutText, Gave, Becomes}
 use Rattle.rg_top.proofs.SettledLemmas.{untouched-text, prefix-behind}
 use Rattle.rg_top.proofs.BulkLemmas.{prefix-more}
 
--- what is told behind the lines of collections
-abbrev pub told_behind : (report : Bool) → (steps : ℕ) → Kept → Status → List ℕ
-told_behind false steps m s = status_text steps s
-told_behind true steps m s = status_text steps s ++ line_after s (numbers_of m)
+-- what the notes have taken before a status is told are the lines before its text
+record Front (report : Bool) (s : Status) (events : List Event) (old mid : Option (List ℕ)) : Type 0 where
+  pub lines : List ℕ
+  pub before : IsBefore report s events lines
+  pub took : Appends old mid lines
 
--- What the notes take of a status begins with what they have taken before it is told.
-record Front (report : Bool) (steps : ℕ) (m : Kept) (s : Status) (old mid : Option (List ℕ)) : Type 0 where
-  pub front : List ℕ
-  pub took : Appends old mid front
-  pub is_notes : IsNotes report steps m s (front ++ told_behind report steps m s)
-
--- nothing was told before
-front-none : (steps : ℕ) (m : Kept) (s : Status) (old mid : Option (List ℕ)) → s ≢ status.OutputFault → mid ≡ old → Front false steps m s old mid
-front-none steps m status.Done old mid n h = record { front = []; took = untouched-text old mid h; is_notes = refl }
-front-none steps m (status.Refused f) old mid n h = record { front = []; took = untouched-text old mid h; is_notes = refl }
-front-none steps m status.Usage old mid n h = record { front = []; took = untouched-text old mid h; is_notes = refl }
-front-none steps m (status.Trap kind line) old mid n h = record { front = []; took = untouched-text old mid h; is_notes = refl }
-front-none steps m status.Spent old mid n h = record { front = []; took = untouched-text old mid h; is_notes = refl }
-front-none steps m status.SourceFault old mid n h = record { front = []; took = untouched-text old mid h; is_notes = refl }
-front-none steps m status.InputFault old mid n h = record { front = []; took = untouched-text old mid h; is_notes = refl }
-front-none steps m status.OutputFault old mid n h = absurd (n refl)
-front-none steps m status.Memory old mid n h = record { front = []; took = untouched-text old mid h; is_notes = refl }
-front-none steps m status.Long old mid n h = record { front = []; took = untouched-text old mid h; is_notes = refl }
-
-front-report : (steps : ℕ) (m : Kept) (s : Status) (old mid : Option (List ℕ)) → s ≢ status.OutputFault → Reported true s m.stepper.events old mid →
-    Front true steps m s old mid
-front-report steps m status.Done old mid n h = record {
-  front = event_lines m.stepper.events;
-  took = h;
-  is_notes = sym (append_assoc (event_lines m.stepper.events) (status_text steps status.Done) (line_after status.Done (numbers_of m)));
-}
-front-report steps m (status.Refused f) old mid n h = record { front = []; took = untouched-text old mid h; is_notes = refl }
-front-report steps m status.Usage old mid n h = record { front = []; took = untouched-text old mid h; is_notes = refl }
-front-report steps m (status.Trap kind line) old mid n h = record {
-  front = event_lines m.stepper.events;
-  took = h;
-  is_notes = sym (append_assoc (event_lines m.stepper.events) (status_text steps (status.Trap kind line))
-      (line_after (status.Trap kind line) (numbers_of m)));
-}
-front-report steps m status.Spent old mid n h = record {
-  front = event_lines m.stepper.events;
-  took = h;
-  is_notes = sym (append_assoc (event_lines m.stepper.events) (status_text steps status.Spent) (line_after status.Spent (numbers_of m)));
-}
-front-report steps m status.SourceFault old mid n h = record { front = []; took = untouched-text old mid h; is_notes = refl }
-front-report steps m status.InputFault old mid n h = record {
-  front = event_lines m.stepper.events;
-  took = h;
-  is_notes = sym (append_assoc (event_lines m.stepper.events) (status_text steps status.InputFault) (line_after status.InputFault (numbers_of m)));
-}
-front-report steps m status.OutputFault old mid n h = absurd (n refl)
-front-report steps m status.Memory old mid n h = record {
-  front = event_lines (take h.0 m.stepper.events);
-  took = h.1;
-  is_notes = (h.0, ap (λ q. event_lines (take h.0 m.stepper.events) ++ q) (append-nil (status_text steps status.Memory)));
-}
-front-report steps m status.Long old mid n h = record { front = []; took = untouched-text old mid h; is_notes = refl }
-
-front-of : (report : Bool) (steps : ℕ) (m : Kept) (s : Status) (old mid : Option (List ℕ)) → s ≢ status.OutputFault →
-    Reported report s m.stepper.events old mid → Front report steps m s old mid
-front-of false steps m s old mid n h = front-none steps m s old mid n h
-front-of true steps m s old mid n h = front-report steps m s old mid n h
+front-of : (report : Bool) (s : Status) (events : List Event) (old mid : Option (List ℕ)) → Reported report s events old mid →
+    Front report s events old mid
+front-of false s events old mid h = record { lines = []; before = refl; took = untouched-text old mid h }
+front-of true status.Done events old mid h = record { lines = event_lines events; before = refl; took = h }
+front-of true (status.Refused f) events old mid h = record { lines = []; before = refl; took = untouched-text old mid h }
+front-of true status.Usage events old mid h = record { lines = []; before = refl; took = untouched-text old mid h }
+front-of true (status.Trap kind line) events old mid h = record { lines = event_lines events; before = refl; took = h }
+front-of true status.Spent events old mid h = record { lines = event_lines events; before = refl; took = h }
+front-of true status.SourceFault events old mid h = record { lines = []; before = refl; took = untouched-text old mid h }
+front-of true status.InputFault events old mid h = record { lines = event_lines events; before = refl; took = h }
+front-of true status.OutputFault events old mid h = record { lines = h.0; before = h.1; took = h.2 }
+front-of true status.Memory events old mid h = record { lines = event_lines (take h.0 events); before = (h.0, h.1, refl); took = h.2 }
+front-of true status.Long events old mid h = record { lines = []; before = refl; took = untouched-text old mid h }
 
 -- the whole text was taken
-took-whole : (report : Bool) (steps : ℕ) (m : Kept) (s : Status) (old new : Option (List ℕ)) (text : List ℕ) → s ≢ status.OutputFault →
-    IsNotes report steps m s text → Appends old new text → TookNotes report steps m s old new
-took-whole report steps m status.Done old new text n is took = (text, is, took)
-took-whole report steps m (status.Refused f) old new text n is took = (text, is, took)
-took-whole report steps m status.Usage old new text n is took = (text, is, took)
-took-whole report steps m (status.Trap kind line) old new text n is took = (text, is, took)
-took-whole report steps m status.Spent old new text n is took = (text, is, took)
-took-whole report steps m status.SourceFault old new text n is took = (text, is, took)
-took-whole report steps m status.InputFault old new text n is took = (text, is, took)
-took-whole report steps m status.OutputFault old new text n is took = absurd (n refl)
-took-whole report steps m status.Memory old new text n is took = (text, is, took)
-took-whole report steps m status.Long old new text n is took = (text, is, took)
+took-whole : (May : Status → Type 0) (report : Bool) (steps : ℕ) (m : Kept) (s : Status) (old new : Option (List ℕ)) (lines : List ℕ) →
+    s ≢ status.OutputFault → IsBefore report s m.stepper.events lines → Appends old new (lines ++ text_behind report steps m s) →
+    TookNotes May report steps m s old new
+took-whole May report steps m status.Done old new lines n is took = (lines, is, took)
+took-whole May report steps m (status.Refused f) old new lines n is took = (lines, is, took)
+took-whole May report steps m status.Usage old new lines n is took = (lines, is, took)
+took-whole May report steps m (status.Trap kind line) old new lines n is took = (lines, is, took)
+took-whole May report steps m status.Spent old new lines n is took = (lines, is, took)
+took-whole May report steps m status.SourceFault old new lines n is took = (lines, is, took)
+took-whole May report steps m status.InputFault old new lines n is took = (lines, is, took)
+took-whole May report steps m status.OutputFault old new lines n is took = absurd (n refl)
+took-whole May report steps m status.Memory old new lines n is took = (lines, is, took)
+took-whole May report steps m status.Long old new lines n is took = (lines, is, took)
 
 -- a status was told behind what the notes had taken
-pub took-told : (report : Bool) (steps : ℕ) (m : Kept) (given answer : Status) (old mid new : Option (List ℕ)) → given ≢ status.OutputFault →
-    Reported report given m.stepper.events old mid → Gave (told_behind report steps m given) given answer mid new →
-    TookNotes report steps m answer old new
-took-told report steps m given answer old mid new n h (inl (e, wrote)) =
-    let f = front-of report steps m given old mid n h in
-    let P : Status → Type 0 = λ s. TookNotes report steps m s old new in
+pub took-told : (May : Status → Type 0) (report : Bool) (steps : ℕ) (m : Kept) (given answer : Status) (old mid new : Option (List ℕ)) →
+    given ≢ status.OutputFault → May given → Reported report given m.stepper.events old mid →
+    Gave (text_behind report steps m given) given answer mid new → TookNotes May report steps m answer old new
+took-told May report steps m given answer old mid new n may h (inl (e, wrote)) =
+    let f = front-of report given m.stepper.events old mid h in
+    let P : Status → Type 0 = λ s. TookNotes May report steps m s old new in
     subst P (sym e)
-    (took-whole report steps m given old new _ n f.is_notes (Appends-more old mid new f.front (told_behind report steps m given) f.took wrote))
-took-told report steps m given answer old mid new n h (inr (e, cut)) =
-    let f = front-of report steps m given old mid n h in
-    let rest = told_behind report steps m given in
-    let P : Status → Type 0 = λ s. TookNotes report steps m s old new in
+    (took-whole May report steps m given old new f.lines n f.before
+    (Appends-more old mid new f.lines (text_behind report steps m given) f.took wrote))
+took-told May report steps m given answer old mid new n may h (inr (e, cut)) =
+    let f = front-of report given m.stepper.events old mid h in
+    let P : Status → Type 0 = λ s. TookNotes May report steps m s old new in
     let Q : List ℕ → Type 0 = λ q. Appends old new q in
-    subst P (sym e) (record {
+    subst P (sym e) (inr (record {
       other = given;
+      may = may;
       another = n;
-      whole = f.front ++ rest;
-      is_whole = f.is_notes;
-      first = f.front ++ cut.first;
+      lines = f.lines;
+      before = f.before;
+      first = cut.first;
       second = cut.second;
-      first_of = prefix-behind f.front cut.first rest cut.first_of;
+      first_of = cut.first_of;
       second_of = cut.second_of;
-      took = subst Q (sym (append_assoc f.front cut.first cut.second))
-          (Appends-more old mid new f.front (cut.first ++ cut.second) f.took cut.took);
-    })
+      took = subst Q (sym (append_assoc f.lines cut.first cut.second))
+          (Appends-more old mid new f.lines (cut.first ++ cut.second) f.took cut.took);
+    }))
 
 -- an output fault was told behind what the notes had taken
-pub took-fault : (report : Bool) (steps : ℕ) (m : Kept) (old mid new : Option (List ℕ)) →
+pub took-fault : (May : Status → Type 0) (report : Bool) (steps : ℕ) (m : Kept) (old mid new : Option (List ℕ)) →
     Reported report status.OutputFault m.stepper.events old mid → AppendsPart mid new (status_text 0 status.OutputFault) →
-    TookNotes report steps m status.OutputFault old new
-took-fault false steps m old mid new h part =
-    let P : Option (List ℕ) → Type 0 = λ q. Appends q new part.0 in
-    record {
-      other = status.Done;
-      another = λ e. cc;
-      whole = [];
-      is_whole = refl;
-      first = [];
-      second = part.0;
-      first_of = record { rest = []; whole_is = refl };
-      second_of = part.1;
-      took = subst P h part.2;
-    }
-took-fault true steps m old mid new h part = record {
-  other = status.InputFault;
-  another = λ e. cc;
-  whole = notes_text true steps m status.InputFault;
-  is_whole = refl;
-  first = h.0;
-  second = part.0;
-  first_of = prefix-more h.0 _ [] (prefix-more h.0 (event_lines m.stepper.events) (status_text steps status.InputFault) h.1);
-  second_of = part.1;
-  took = Appends-more old mid new h.0 part.0 h.2 part.2;
-}
+    TookNotes May report steps m status.OutputFault old new
+took-fault May report steps m old mid new h part =
+    let f = front-of report status.OutputFault m.stepper.events old mid h in
+    inl (f.lines, f.before, (part.0, part.1, Appends-more old mid new f.lines part.0 f.took part.2))
+
+-- a status that may be told may be so by another word for that
+pub took-may : (May Might : Status → Type 0) → ((s : Status) → s ≢ status.OutputFault → May s → Might s) →
+    (report : Bool) (steps : ℕ) (m : Kept) (answer : Status) (old new : Option (List ℕ)) →
+    TookNotes May report steps m answer old new → TookNotes Might report steps m answer old new
+took-may May Might f report steps m status.Done old new h = h
+took-may May Might f report steps m (status.Refused fault) old new h = h
+took-may May Might f report steps m status.Usage old new h = h
+took-may May Might f report steps m (status.Trap kind line) old new h = h
+took-may May Might f report steps m status.Spent old new h = h
+took-may May Might f report steps m status.SourceFault old new h = h
+took-may May Might f report steps m status.InputFault old new h = h
+took-may May Might f report steps m status.OutputFault old new (inl h) = inl h
+took-may May Might f report steps m status.OutputFault old new (inr p) = inr (record {
+  other = p.other;
+  may = f p.other p.another p.may;
+  another = p.another;
+  lines = p.lines;
+  before = p.before;
+  first = p.first;
+  second = p.second;
+  first_of = p.first_of;
+  second_of = p.second_of;
+  took = p.took;
+})
+took-may May Might f report steps m status.Memory old new h = h
+took-may May Might f report steps m status.Long old new h = h
 
 -- and the whole of its text
 pub fault-told : (report : Bool) (events : List Event) (old mid new : Option (List ℕ)) → Reported report status.OutputFault events old mid →
     Appends mid new (status_text 0 status.OutputFault) → ToldFault report events old new
-fault-told false events old mid new h whole =
-    let P : Option (List ℕ) → Type 0 = λ q. Appends q new (status_text 0 status.OutputFault) in subst P h whole
-fault-told true events old mid new h whole = (h.0, h.1, Appends-more old mid new h.0 (status_text 0 status.OutputFault) h.2 whole)
+fault-told report events old mid new h whole =
+    let f = front-of report status.OutputFault events old mid h in
+    (f.lines, f.before, Appends-more old mid new f.lines (status_text 0 status.OutputFault) f.took whole)
 
 -- all lines are the first ones, too
 all-lines : (events : List Event) (old mid : Option (List ℕ)) → Appends old mid (event_lines events) → Reported true status.Memory events old mid
 all-lines events old mid h =
-    let P : List Event → Type 0 = λ q. Appends old mid (event_lines q) in (length events, subst P (sym (take-length events)) h)
+    let P : List Event → Type 0 = λ q. Appends old mid (event_lines q) in (length events, omega arith, subst P (sym (take-length events)) h)
 
 -- a run that came to its end has given all of them
 pub reported-memory : (s : Status) (events : List Event) (old mid : Option (List ℕ)) → ends_run s ≡ true → Reported true s events old mid →
@@ -181,7 +147,7 @@ reported-memory status.Memory events old mid e h = cc
 reported-memory status.Long events old mid e h = cc
 
 -- what is told behind the lines of collections: with a report the line of a run's end stands behind the text of the status
-pub behind-end : (steps : ℕ) (m : Kept) (s : Status) → ends_run s ≡ true → told_behind true steps m s ≡ status_text steps s ++ end_line (numbers_of m)
+pub behind-end : (steps : ℕ) (m : Kept) (s : Status) → ends_run s ≡ true → text_behind true steps m s ≡ status_text steps s ++ end_line (numbers_of m)
 behind-end steps m status.Done e = refl
 behind-end steps m (status.Refused f) e = cc
 behind-end steps m status.Usage e = cc
@@ -194,7 +160,7 @@ behind-end steps m status.Memory e = cc
 behind-end steps m status.Long e = cc
 
 pub behind-other : (report : Bool) (steps : ℕ) (m : Kept) (s : Status) → (report ≡ false) ⊎ (ends_run s ≡ false) →
-    told_behind report steps m s ≡ status_text steps s
+    text_behind report steps m s ≡ status_text steps s
 behind-other false steps m s h = refl
 behind-other true steps m s (inl e) = cc
 behind-other true steps m status.Done (inr e) = cc
@@ -209,24 +175,25 @@ behind-other true steps m status.Memory (inr e) = append-nil _
 behind-other true steps m status.Long (inr e) = append-nil _
 
 -- a status alone is told
-pub took-status : (report : Bool) (steps : ℕ) (m : Kept) (given answer : Status) (old mid new : Option (List ℕ)) → given ≢ status.OutputFault →
-    (report ≡ false) ⊎ (ends_run given ≡ false) → Reported report given m.stepper.events old mid →
-    Gave (status_text steps given) given answer mid new → TookNotes report steps m answer old new
-took-status report steps m given answer old mid new n alone h gave =
+pub took-status : (May : Status → Type 0) (report : Bool) (steps : ℕ) (m : Kept) (given answer : Status) (old mid new : Option (List ℕ)) →
+    given ≢ status.OutputFault → May given → (report ≡ false) ⊎ (ends_run given ≡ false) → Reported report given m.stepper.events old mid →
+    Gave (status_text steps given) given answer mid new → TookNotes May report steps m answer old new
+took-status May report steps m given answer old mid new n may alone h gave =
     let P : List ℕ → Type 0 = λ q. Gave q given answer mid new in
-    took-told report steps m given answer old mid new n h (subst P (sym (behind-other report steps m given alone)) gave)
+    took-told May report steps m given answer old mid new n may h (subst P (sym (behind-other report steps m given alone)) gave)
 
 -- a run's end is told, or that there was no memory for its line
-pub took-end : (steps : ℕ) (m : Kept) (given answer : Status) (old mid new : Option (List ℕ)) → given ≢ status.OutputFault →
-    ends_run given ≡ true → Reported true given m.stepper.events old mid →
+pub took-end : (May : Status → Type 0) (steps : ℕ) (m : Kept) (given answer : Status) (old mid new : Option (List ℕ)) → given ≢ status.OutputFault →
+    May given → May status.Memory → ends_run given ≡ true → Reported true given m.stepper.events old mid →
     Gave (status_text steps given ++ end_line (numbers_of m)) given answer mid new
     ⊎ Gave (status_text steps status.Memory) status.Memory answer mid new →
-    TookNotes true steps m answer old new
-took-end steps m given answer old mid new n ends h (inl gave) =
+    TookNotes May true steps m answer old new
+took-end May steps m given answer old mid new n may memory ends h (inl gave) =
     let P : List ℕ → Type 0 = λ q. Gave q given answer mid new in
-    took-told true steps m given answer old mid new n h (subst P (sym (behind-end steps m given ends)) gave)
-took-end steps m given answer old mid new n ends h (inr gave) =
-    took-status true steps m status.Memory answer old mid new (λ e. cc) (inr refl) (reported-memory given m.stepper.events old mid ends h) gave
+    took-told May true steps m given answer old mid new n may h (subst P (sym (behind-end steps m given ends)) gave)
+took-end May steps m given answer old mid new n may memory ends h (inr gave) =
+    took-status May true steps m status.Memory answer old mid new (λ e. cc) memory (inr refl)
+    (reported-memory given m.stepper.events old mid ends h) gave
 
 -- what was told of a status is that status, or another one that says that it couldn't be told
 pub gave-becomes : (whole : List ℕ) (given answer : Status) (old new : Option (List ℕ)) → Gave whole given answer old new →
@@ -255,23 +222,25 @@ pub quiet-refused : (report : Bool) (f : Fault) (events : List Event) (old : Opt
 quiet-refused false f events old = refl
 quiet-refused true f events old = refl
 
-pub quiet-memory : (report : Bool) (events : List Event) (old : Option (List ℕ)) → Reported report status.Memory events old old
-quiet-memory false events old = refl
-quiet-memory true events old = (0, untouched-text old old refl)
+pub quiet-memory : (report : Bool) (m : Kept) (old : Option (List ℕ)) → IsFresh m → Reported report status.Memory m.stepper.events old old
+quiet-memory false m old fresh = refl
+quiet-memory true m old fresh =
+    let none : m.stepper.events ≡ [] = ap (λ (s : Stepping). s.events) fresh.stepper in
+    (0, omega (arith, ap length none), untouched-text old old refl)
 
-pub quiet-refuses : (report : Bool) (told : Option Told) (origin : Origin) (s : Status) (events : List Event) (old : Option (List ℕ)) →
-    Refuses told origin s → Reported report s events old old
-quiet-refuses false told origin s events old h = refl
-quiet-refuses true told origin status.Done events old h = absurd h
-quiet-refuses true told origin (status.Refused f) events old h = refl
-quiet-refuses true told origin status.Usage events old h = refl
-quiet-refuses true told origin (status.Trap kind line) events old h = absurd h
-quiet-refuses true told origin status.Spent events old h = absurd h
-quiet-refuses true told origin status.SourceFault events old h = refl
-quiet-refuses true told origin status.InputFault events old h = absurd h
-quiet-refuses true told origin status.OutputFault events old h = absurd h
-quiet-refuses true told origin status.Memory events old h = quiet-memory true events old
-quiet-refuses true told origin status.Long events old h = refl
+pub quiet-refuses : (report : Bool) (told : Option Told) (origin : Origin) (s : Status) (m : Kept) (old : Option (List ℕ)) → IsFresh m →
+    Refuses told origin s → Reported report s m.stepper.events old old
+quiet-refuses false told origin s m old fresh h = refl
+quiet-refuses true told origin status.Done m old fresh h = absurd h
+quiet-refuses true told origin (status.Refused f) m old fresh h = refl
+quiet-refuses true told origin status.Usage m old fresh h = refl
+quiet-refuses true told origin (status.Trap kind line) m old fresh h = absurd h
+quiet-refuses true told origin status.Spent m old fresh h = absurd h
+quiet-refuses true told origin status.SourceFault m old fresh h = refl
+quiet-refuses true told origin status.InputFault m old fresh h = absurd h
+quiet-refuses true told origin status.OutputFault m old fresh h = absurd h
+quiet-refuses true told origin status.Memory m old fresh h = quiet-memory true m old fresh
+quiet-refuses true told origin status.Long m old fresh h = refl
 
 -- what the notes have taken of a command that the words give
 module _ (words : List (List ℕ)) (c : Command) (report : Bool) (m : Kept) (given answer : Status) (old mid new : Option (List ℕ))
@@ -279,19 +248,26 @@ module _ (words : List (List ℕ)) (c : Command) (report : Bool) (m : Kept) (giv
   reported-same : Reported report given m.stepper.events old mid
   reported-same = let P : Bool → Type 0 = λ q. Reported q given m.stepper.events old mid in subst P (sym same) h
 
-  pub asked-notes : (steps : ℕ) → steps ≡ steps_of c →
-      ((old : Option (List ℕ)) → Reported report given m.stepper.events old mid → TookNotes report steps m answer old new) →
-      TookNotes (may_report (command words)) (steps_asked (command words)) m answer old new
-  asked-notes steps is took =
-      let P : Bool → Type 0 = λ q. TookNotes q (steps_of c) m answer old new in
-      let Q : ℕ → Type 0 = λ n. TookNotes report n m answer old new in
-      rw asked (subst P same (subst Q is (took old reported-same)))
+  pub asked-notes : (May Might : Status → Type 0) → ((s : Status) → s ≢ status.OutputFault → May s → Might s) → (steps : ℕ) → steps ≡ steps_of c →
+      ((old : Option (List ℕ)) → Reported report given m.stepper.events old mid → TookNotes May report steps m answer old new) →
+      TookNotes Might (may_report (command words)) (steps_asked (command words)) m answer old new
+  asked-notes May Might f steps is took =
+      let P : Bool → Type 0 = λ q. TookNotes Might q (steps_of c) m answer old new in
+      let Q : ℕ → Type 0 = λ n. TookNotes Might report n m answer old new in
+      rw asked (subst P same (subst Q is (took-may May Might f report steps m answer old new (took old reported-same))))
 
   pub asked-fault : ((old : Option (List ℕ)) → Reported report given m.stepper.events old mid → ToldFault report m.stepper.events old new) →
       ToldFault (may_report (command words)) m.stepper.events old new
   asked-fault told =
       let P : Bool → Type 0 = λ q. ToldFault q m.stepper.events old new in
       rw asked (subst P same (told old reported-same))
+
+-- and of words that give none
+pub unasked-notes : (words : List (List ℕ)) (Might : Status → Type 0) (m : Kept) (answer : Status) (old new : Option (List ℕ)) →
+    command words ≡ None → Might status.Usage → TookNotes (λ s. s ≡ status.Usage) false 0 m answer old new →
+    TookNotes Might (may_report (command words)) (steps_asked (command words)) m answer old new
+unasked-notes words Might m answer old new none might took =
+    rw none (took-may (λ s. s ≡ status.Usage) Might (λ s n e. subst Might (sym e) might) false 0 m answer old new took)
 
 -- a fault in a text, and one behind it
 pub cut-front : (text more : List ℕ) (old mid new : Option (List ℕ)) → AppendsPart old mid text →
@@ -334,14 +310,15 @@ becomes-end whole other given answer old new (inr (inl h)) = inr (inr h.0)
 becomes-end whole other given answer old new (inr (inr h)) = inr (inl h.0)
 
 -- a report's end is told
-pub took-report : (report : Bool) (steps : ℕ) (m : Kept) (given answer : Status) (old mid new : Option (List ℕ)) → given ≢ status.OutputFault →
-    report ≡ true → ends_run given ≡ true → Reported report given m.stepper.events old mid →
+pub took-report : (May : Status → Type 0) (report : Bool) (steps : ℕ) (m : Kept) (given answer : Status) (old mid new : Option (List ℕ)) →
+    given ≢ status.OutputFault → May given → May status.Memory → report ≡ true → ends_run given ≡ true →
+    Reported report given m.stepper.events old mid →
     Gave (status_text steps given ++ end_line (numbers_of m)) given answer mid new
     ⊎ Gave (status_text steps status.Memory) status.Memory answer mid new →
-    TookNotes report steps m answer old new
-took-report report steps m given answer old mid new n is ends h gave =
-    let P : Bool → Type 0 = λ b. Reported b given m.stepper.events old mid → TookNotes b steps m answer old new in
-    subst P (sym is) (λ h. took-end steps m given answer old mid new n ends h gave) h
+    TookNotes May report steps m answer old new
+took-report May report steps m given answer old mid new n may memory is ends h gave =
+    let P : Bool → Type 0 = λ b. Reported b given m.stepper.events old mid → TookNotes May b steps m answer old new in
+    subst P (sym is) (λ h. took-end May steps m given answer old mid new n may memory ends h gave) h
 
 -- another status than an output fault isn't told as one without a fault of the notes
 pub no-fault-told : (given : Status) (R P : Type 0) → given ≢ status.OutputFault → ¬ R → (given ≡ status.OutputFault) ⊎ R → P

@@ -1,5 +1,5 @@
 -- The words of the headline: what a call leaves, and from which cause its answer comes (docs/promises.md).
-use Rattle.std.specs.Prelude.{◌≡◌, ◌≢◌, ℕ, ◌-◌, ◌<◌, ◌≤◌, Bool, true, false, ◌⊎◌, List, [], ◌++◌, take, Option, Some, None, IfSome}
+use Rattle.std.specs.Prelude.{◌≡◌, ◌≢◌, ℕ, ◌+◌, ◌-◌, ◌<◌, ◌≤◌, Bool, true, false, ◌⊎◌, ⊤, List, [], ◌++◌, take, length, Option, Some, None, IfSome}
 use Rattle.rg_base.specs.declared.fault.Fault.{Fault}
 use Rattle.rg_base.specs.declared.limits.TheConstants.{MOST_STEPS}
 use Rattle.rg_base.specs.declared.event.Event.{Event}
@@ -18,7 +18,7 @@ use Rattle.rg_rules.specs.Runs as rules
 use Rattle.rg_rules.specs.Texts.{text_of, added}
 use Rattle.rg_rules.specs.Inputs.{first_asks}
 use Rattle.rg_run.specs.Machine.{Kept, IsFresh, numbers_of}
-use Rattle.rg_run.specs.Reports.{event_lines}
+use Rattle.rg_run.specs.Reports.{event_lines, AreCutLines}
 use Rattle.rg_run.specs.Sound.{IsSound, Stands, NeverAsks}
 use Rattle.rg_top.specs.declared.status.Status.{Status}
 use Rattle.rg_top.specs.declared.status.Status.TheVariants as status
@@ -138,20 +138,22 @@ abbrev pub steps_asked : Option Command → ℕ
 steps_asked None = 0
 steps_asked (Some c) = steps_of c
 
--- What stands in front of the text of a status where a report is asked for: the lines of the collections of a run that wasn't cut off.
-abbrev pub lines_before : Status → List Event → List ℕ
-lines_before status.Done events = event_lines events
-lines_before (status.Refused f) events = []
-lines_before status.Usage events = []
-lines_before (status.Trap kind line) events = event_lines events
-lines_before status.Spent events = event_lines events
-lines_before status.SourceFault events = []
-lines_before status.InputFault events = event_lines events
-lines_before status.OutputFault events = []
-lines_before status.Memory events = []
-lines_before status.Long events = []
+-- The lines of collections that the notes take before the text of a status. Without a report, none. With one, those of a run that came to its end or
+-- to a fault of the input; for want of memory the last one may be missing, and where the output or the notes failed any part of it may be there.
+abbrev pub IsBefore : (report : Bool) → Status → List Event → (lines : List ℕ) → Type 0
+IsBefore false s events lines = lines ≡ []
+IsBefore true status.Done events lines = lines ≡ event_lines events
+IsBefore true (status.Refused f) events lines = lines ≡ []
+IsBefore true status.Usage events lines = lines ≡ []
+IsBefore true (status.Trap kind line) events lines = lines ≡ event_lines events
+IsBefore true status.Spent events lines = lines ≡ event_lines events
+IsBefore true status.SourceFault events lines = lines ≡ []
+IsBefore true status.InputFault events lines = lines ≡ event_lines events
+IsBefore true status.OutputFault events lines = AreCutLines events lines
+IsBefore true status.Memory events lines = (k : ℕ) × (length events ≤ k + 1) × (lines ≡ event_lines (take k events))
+IsBefore true status.Long events lines = lines ≡ []
 
--- and what stands behind it: the numbers of a run that came to its end
+-- the line behind the text of a status: the numbers of a run that came to its end
 abbrev pub line_after : Status → EndNumbers → List ℕ
 line_after status.Done n = end_line n
 line_after (status.Refused f) n = []
@@ -164,41 +166,57 @@ line_after status.OutputFault n = []
 line_after status.Memory n = []
 line_after status.Long n = []
 
--- what the notes take of a status, with or without a report
-abbrev pub notes_text : (report : Bool) → (steps : ℕ) → Kept → Status → List ℕ
-notes_text false steps m s = status_text steps s
-notes_text true steps m s = lines_before s m.stepper.events ++ status_text steps s ++ line_after s (numbers_of m)
+-- what the notes take of a status behind the lines of collections: its text, with a report also the line behind it
+abbrev pub text_behind : (report : Bool) → (steps : ℕ) → Kept → Status → List ℕ
+text_behind false steps m s = status_text steps s
+text_behind true steps m s = status_text steps s ++ line_after s (numbers_of m)
 
--- The text that the notes take. With a report and for want of memory, the lines of the first collections, of all or of fewer, each whole, and then
--- the status's text.
-abbrev pub IsNotes : (report : Bool) → (steps : ℕ) → Kept → Status → (text : List ℕ) → Type 0
-IsNotes true steps m status.Memory text = (k : ℕ) × (text ≡ event_lines (take k m.stepper.events) ++ status_text steps status.Memory)
-IsNotes report steps m s text = text ≡ notes_text report steps m s
-
--- After a fault of the output or the notes, the notes have taken a prefix of what they take of another status, and then a prefix of the text of that
--- fault.
-pub record TookPart (report : Bool) (steps : ℕ) (m : Kept) (old new : Option (List ℕ)) : Type 0 where
+-- Another status was told, and the notes failed: they have taken the lines before its text, a prefix of what they take behind them, and then a prefix of
+-- the text of an output fault. `May` says which status that may have been.
+pub record TookPart (May : Status → Type 0) (report : Bool) (steps : ℕ) (m : Kept) (old new : Option (List ℕ)) : Type 0 where
   pub other : Status
+  pub may : May other
   pub another : other ≢ status.OutputFault
-  pub whole : List ℕ
-  pub is_whole : IsNotes report steps m other whole
+  pub lines : List ℕ
+  pub before : IsBefore report other m.stepper.events lines
   pub first : List ℕ
   pub second : List ℕ
-  pub first_of : IsPrefix first whole
+  pub first_of : IsPrefix first (text_behind report steps m other)
   pub second_of : IsPrefix second (status_text steps status.OutputFault)
-  pub took : Appends old new (first ++ second)
+  pub took : Appends old new (lines ++ first ++ second)
 
--- what the notes have taken, where so many steps were asked for
-abbrev pub TookNotes : (report : Bool) → (steps : ℕ) → Kept → Status → (old new : Option (List ℕ)) → Type 0
-TookNotes report steps m status.OutputFault old new = TookPart report steps m old new
-TookNotes report steps m s old new = (text : List ℕ) × IsNotes report steps m s text × Appends old new text
+-- What the notes have taken, where so many steps were asked for. After a fault of the output or the notes that is the lines before its text and a prefix
+-- of the text, or a part of what they take of another status that may have been told.
+abbrev pub TookNotes : (May : Status → Type 0) → (report : Bool) → (steps : ℕ) → Kept → Status → (old new : Option (List ℕ)) → Type 0
+TookNotes May report steps m status.OutputFault old new =
+    ((lines : List ℕ) × IsBefore report status.OutputFault m.stepper.events lines
+    × AppendsUpTo old new lines (status_text steps status.OutputFault))
+    ⊎ TookPart May report steps m old new
+TookNotes May report steps m s old new =
+    (lines : List ℕ) × IsBefore report s m.stepper.events lines × Appends old new (lines ++ text_behind report steps m s)
 
--- What the notes have taken where they took the whole text of an output fault: with a report some first bytes of the lines of the run's collections
--- in front of it.
+-- what the notes have taken where they took the whole text of an output fault
 abbrev pub ToldFault : (report : Bool) → List Event → (old new : Option (List ℕ)) → Type 0
-ToldFault false events old new = Appends old new (status_text 0 status.OutputFault)
-ToldFault true events old new =
-    (front : List ℕ) × IsPrefix front (event_lines events) × Appends old new (front ++ status_text 0 status.OutputFault)
+ToldFault report events old new =
+    (lines : List ℕ) × IsBefore report status.OutputFault events lines × Appends old new (lines ++ status_text 0 status.OutputFault)
+
+-- this status is expected of the program's source and the input
+abbrev pub IsExpected : Option Told → (left : Option (List ℕ)) → (words : List (List ℕ)) → Status → Type 0
+IsExpected told left words s = ForSource told left words (λ c source input. ExpectsStatus c source input s)
+
+-- A status that a call may tell: one that is expected; that the words are no command, where they are none; a fault of the source or of the input,
+-- where it came; and want of memory.
+abbrev pub MayTell : Option Told → (left : Option (List ℕ)) → (words : List (List ℕ)) → (source_failed input_failed : Type 0) → Status → Type 0
+MayTell told left words source_failed input_failed status.Done = IsExpected told left words status.Done
+MayTell told left words source_failed input_failed (status.Refused f) = IsExpected told left words (status.Refused f)
+MayTell told left words source_failed input_failed status.Usage = command words ≡ None
+MayTell told left words source_failed input_failed (status.Trap kind line) = IsExpected told left words (status.Trap kind line)
+MayTell told left words source_failed input_failed status.Spent = IsExpected told left words status.Spent
+MayTell told left words source_failed input_failed status.SourceFault = source_failed
+MayTell told left words source_failed input_failed status.InputFault = input_failed
+MayTell told left words source_failed input_failed status.OutputFault = ⊥
+MayTell told left words source_failed input_failed status.Memory = ⊤
+MayTell told left words source_failed input_failed status.Long = IsExpected told left words status.Long
 
 -- this status is answered exactly where the fact holds, unless the call was cut off from outside
 abbrev pub Exactly : Status → Status → Type 0 → Type 0
@@ -208,7 +226,7 @@ Exactly answer s P = (answer ≡ s → P) × (P → (answer ≡ s) ⊎ (is_from_
 -- outside. Where files and the input's source tell their bytes, these are meant. Of those that don't, the answer says that the
 -- status is expected of some bytes, and where it is expected of all that they may have, it is answered.
 pub record ExactlyWhere (told : Option Told) (left : Option (List ℕ)) (words : List (List ℕ)) (answer s : Status) : Type 0 where
-  pub only : answer ≡ s → ForSource told left words (λ c source input. ExpectsStatus c source input s)
+  pub only : answer ≡ s → IsExpected told left words s
   pub always : (c : Command) → command words ≡ Some c →
       ((source input : List ℕ) → HasSource told (origin_of c) source → HasInput left input → ExpectsStatus c source input s) →
       (answer ≡ s) ⊎ (is_from_outside answer ≡ true)

@@ -135,8 +135,8 @@ pub fn tell<R: Sink>(notes: &mut R, status: Status, steps: u64) -> Status
     ensures told { (result ≡ status) ⊎ (result ≡ Status.OutputFault) }
     ensures failed { result ≡ Status.OutputFault →
         (status ≡ Status.OutputFault) ⊎ Rose (R.faults notes.old) (R.faults notes.new) }
-    ensures took { (m : Kept) →
-        TookNotes false steps m result (R.taken notes.old) (R.taken notes.new) }
+    ensures took { (m : Kept) → TookNotes (λ s. s ≡ status) false steps m result
+        (R.taken notes.old) (R.taken notes.new) }
     ensures output_fault_told { result ≡ Status.OutputFault →
         ¬ Rose (R.faults notes.old) (R.faults notes.new) →
         Appends (R.taken notes.old) (R.taken notes.new) (status_text 0 Status.OutputFault) }
@@ -203,7 +203,8 @@ pub(crate) fn tell_behind<R: Sink>(
         (status ≡ Status.OutputFault) ⊎ Rose (R.faults notes.old) (R.faults notes.new) }
     ensures took { (old : Option (List ℕ)) →
         Reported report status machine.now.stepper.events old (R.taken notes.old) →
-        TookNotes report steps machine.now result old (R.taken notes.new) }
+        TookNotes (λ s. (s ≡ status) ⊎ (s ≡ Status.Memory)) report steps machine.now result
+        old (R.taken notes.new) }
     ensures output_fault_told { (old : Option (List ℕ)) →
         Reported report status machine.now.stepper.events old (R.taken notes.old) →
         result ≡ Status.OutputFault → ¬ Rose (R.faults notes.old) (R.faults notes.new) →

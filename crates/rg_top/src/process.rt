@@ -1,9 +1,12 @@
 //! A whole process: the words of the command line, the files of the system and the standard streams
 //! are handed to the top call (docs/language.md, "The command line").
 
-ghost use Rattle.std.specs.Prelude.{◌≡◌, ◌⊎◌, false};
+ghost use Rattle.std.specs.Prelude.{◌≡◌, ◌⊎◌, false, map, drop, IfOk};
 ghost use Rattle.std.specs.Process.{exit_status};
+ghost use Rattle.std.specs.String.{string_bytes};
+ghost use Rattle.std.specs.Vec.Iter.{into_iter_items};
 ghost use Rattle.rg_run.specs.Machine.{Kept};
+ghost use Rattle.rg_top.specs.Commands.{texts};
 ghost use Rattle.rg_top.specs.Headline.{TookNotes};
 ghost use Rattle.rg_top.specs.Inner.Words.{status_without};
 ghost use Rattle.rg_top.specs.Statuses.{number_of};
@@ -15,7 +18,7 @@ use rg_io::{Sink, StdFiles, StdSink, StdSource};
 use rg_pace::EveryN;
 use rg_run::Machine;
 use std::alloc::{AllocError, Global};
-use std::env;
+use std::env::{self, Args};
 use std::io::ErrorKind;
 use std::process::ExitCode;
 use std::rt::Env;
@@ -28,37 +31,49 @@ enum NoWords {
     Memory,
 }
 
-/// The words of the command line, without the program's name.
+/// All words, in order.
+fn all_of(alloc: Global, args: Args) -> Result<Vec<String>, AllocError>
+    ensures { IfOk result (λ words. words.items ≡ into_iter_items args) }
+{
+    args.collect(alloc)
+}
+
+/// The words of the command line, the program's name first.
 fn arguments(rt: &(impl Env + AllocGlobal)) -> Result<Vec<String>, NoWords> {
-    let mut args = match env::args(rt) {
-        Ok(args) => args,
-        Err(error) => {
-            return match error.kind() {
-                ErrorKind::OutOfMemory => Err(NoWords::Memory),
-                _ => Err(NoWords::NotText),
-            };
-        }
-    };
-    let _ = args.next();
-    let mut words = Vec::new(rt.alloc());
-    for arg in args {
-        if words.push(arg).is_err() {
-            return Err(NoWords::Memory);
-        }
+    match env::args(rt) {
+        Ok(args) => match all_of(rt.alloc(), args) {
+            Ok(words) => Ok(words),
+            Err(_) => Err(NoWords::Memory),
+        },
+        Err(error) => match error.kind() {
+            ErrorKind::OutOfMemory => Err(NoWords::Memory),
+            _ => Err(NoWords::NotText),
+        },
     }
-    Ok(words)
+}
+
+/// The words behind the program's name.
+fn behind_name(words: &[String]) -> &[String]
+    ensures { result.now ≡ drop 1 words.now }
+{
+    match words {
+        [] => words,
+        [_, rest @ ..] => rest,
+    }
 }
 
 /// The same words as texts.
-fn texts(alloc: Global, words: &[String]) -> Result<Vec<&str>, AllocError> {
+fn as_texts(alloc: Global, words: &[String]) -> Result<Vec<&str>, AllocError>
+    ensures { IfOk result (λ all. texts all.items ≡ map string_bytes words.now) }
+{
     words.iter().map(|word| word.as_str()).collect(alloc)
 }
 
 /// Says why there are no words.
 fn tell_no_words<R: Sink>(notes: &mut R, why: NoWords) -> Status
     ensures told { (result ≡ status_without why) ⊎ (result ≡ Status.OutputFault) }
-    ensures took { (m : Kept) →
-        TookNotes false 0 m result (R.taken notes.old) (R.taken notes.new) }
+    ensures took { (m : Kept) → TookNotes (λ s. s ≡ status_without why) false 0 m result
+        (R.taken notes.old) (R.taken notes.new) }
 {
     match why {
         NoWords::NotText => tell(notes, Status::Usage, 0),
@@ -97,7 +112,7 @@ fn called(rt: &HostRuntime) -> Status {
         Err(why) => return tell_no_words(&mut notes, why),
         Ok(words) => words,
     };
-    match texts(alloc, words.as_slice()) {
+    match as_texts(alloc, behind_name(words.as_slice())) {
         Err(_) => tell_no_words(&mut notes, NoWords::Memory),
         Ok(texts) => paced(rt, texts.as_slice(), &mut notes),
     }

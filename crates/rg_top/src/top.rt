@@ -31,7 +31,7 @@ ghost use Rattle.rg_top.specs.Expected.{ExpectsStatus};
 ghost use Rattle.rg_top.specs.Headline.{ForSource, Exactly, ExactlyWhere, Answers};
 ghost use Rattle.rg_top.specs.Headline.{Runs, Untouched, CutOffAt, CutAtInput};
 ghost use Rattle.rg_top.specs.Asked.{Unasked, RunAsks, SayYes, input_for};
-ghost use Rattle.rg_top.specs.Headline.{TookNotes, ToldFault, steps_asked};
+ghost use Rattle.rg_top.specs.Headline.{TookNotes, ToldFault, MayTell, steps_asked};
 ghost use Rattle.rg_top.specs.Inner.Settled.{status_of_ended, RanFrom, PutLine, Settles};
 ghost use Rattle.rg_top.specs.Inner.Settled.{SettlesCommand, IfGenerated, Brings};
 ghost use Rattle.rg_top.specs.Inner.Settled.{Caused, CausedBeside, CausedByOutput};
@@ -630,9 +630,11 @@ pub fn reggio<F: Files, I: Source, O: Sink, R: Sink>(
     ensures cut_at_input { result ≡ Status.InputFault →
         ForSource (F.told files.old) (I.left input.old) (texts words.now) (λ c source bytes.
         CutAtInput c source bytes machine.new (O.taken out.old) (O.taken out.new)) }
-    ensures notes { TookNotes (may_report (command (texts words.now)))
-        (steps_asked (command (texts words.now))) machine.new result
-        (R.taken notes.old) (R.taken notes.new) }
+    ensures notes { TookNotes (MayTell (F.told files.old) (I.left input.old) (texts words.now)
+        (Rose (F.faults files.old) (F.faults files.new))
+        (Rose (I.faults input.old) (I.faults input.new)))
+        (may_report (command (texts words.now))) (steps_asked (command (texts words.now)))
+        machine.new result (R.taken notes.old) (R.taken notes.new) }
     ensures tuned { (c : Command) → command (texts words.now) ≡ Some c → runs_on c ≡ true →
         ¬ IsFresh machine.new →
         (tuned count.new ≡ every_of c) × (tuned trace.new ≡ every_of c) }

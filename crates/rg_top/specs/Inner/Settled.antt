@@ -1,5 +1,5 @@
 -- What the layers under the top call have answered and left, by the status (docs/promises.md).
-use Rattle.std.specs.Prelude.{◌≡◌, ◌≢◌, ◌≤◌, ℕ, ◌⊎◌, ⊤, Bool, true, false, List, [], ◌++◌, take, Option, Some, Result, Ok, Err}
+use Rattle.std.specs.Prelude.{◌≡◌, ◌≢◌, ◌≤◌, ◌+◌, ℕ, ◌⊎◌, ⊤, Bool, true, false, List, [], ◌++◌, take, length, Option, Some, Result, Ok, Err}
 use Rattle.rg_base.specs.declared.event.Event.{Event}
 use Rattle.rg_base.specs.declared.fault.Fault.{Fault}
 use Rattle.rg_base.specs.declared.limits.TheConstants.{MOST_STEPS}
@@ -18,7 +18,7 @@ use Rattle.rg_rules.specs.Runs.{opening}
 use Rattle.rg_rules.specs.Runs as rules
 use Rattle.rg_rules.specs.Texts.{added}
 use Rattle.rg_run.specs.Machine.{Kept, IsFresh, numbers_of}
-use Rattle.rg_run.specs.Reports.{event_lines}
+use Rattle.rg_run.specs.Reports.{event_lines, AreCutLines}
 use Rattle.rg_run.specs.Sound.{Stands, NeverAsks}
 use Rattle.rg_top.specs.Asked.{Unasked, RunAsks, input_for}
 use Rattle.rg_top.specs.declared.status.Status.{Status}
@@ -254,8 +254,8 @@ pub record CausedByOutput (s : Status) (out_old out_new : ℕ) : Type 0 where
   pub output_fault : s ≡ status.OutputFault → Rose out_old out_new
   pub output_never_falls : out_old ≤ out_new
 
--- What the notes have taken before a status is told: with a report the lines of a run's collections, of one that was cut off the first of them,
--- and else nothing.
+-- What the notes have taken before a status is told: with a report the lines of a run's collections, for want of memory maybe without the last, after
+-- a fault of the output or the notes maybe with a part of it, and else nothing.
 abbrev pub Reported : (report : Bool) → Status → List Event → (old new : Option (List ℕ)) → Type 0
 Reported false s events old new = new ≡ old
 Reported true status.Done events old new = Appends old new (event_lines events)
@@ -265,8 +265,8 @@ Reported true (status.Trap kind line) events old new = Appends old new (event_li
 Reported true status.Spent events old new = Appends old new (event_lines events)
 Reported true status.SourceFault events old new = new ≡ old
 Reported true status.InputFault events old new = Appends old new (event_lines events)
-Reported true status.OutputFault events old new = AppendsPart old new (event_lines events)
-Reported true status.Memory events old new = (k : ℕ) × Appends old new (event_lines (take k events))
+Reported true status.OutputFault events old new = (text : List ℕ) × AreCutLines events text × Appends old new text
+Reported true status.Memory events old new = (k : ℕ) × (length events ≤ k + 1) × Appends old new (event_lines (take k events))
 Reported true status.Long events old new = new ≡ old
 
 -- a part of a text, and then a part of the text of an output fault

@@ -14,7 +14,8 @@ pub returns-in-Err-clause-caused : goal.returns-in-Err-clause-caused
 returns-in-Err-clause-caused g c = refuses-caused _ _ c.in-Err.status _ _ _ c.in-Err.ensures.brings
 
 pub returns-in-Err-clause-notes : goal.returns-in-Err-clause-notes
-returns-in-Err-clause-notes g c = quiet-refuses (reports (command_of c.args.request)) _ _ c.in-Err.status _ _ c.in-Err.ensures.brings
+returns-in-Err-clause-notes g c =
+    quiet-refuses (reports (command_of c.args.request)) _ _ c.in-Err.status c.args.machine.now _ c.requires.fresh c.in-Err.ensures.brings
 
 pub returns-in-Ok-clause-settles : goal.returns-in-Ok-clause-settles
 returns-in-Ok-clause-settles g c =

@@ -7,8 +7,8 @@ use Rattle.rg_top.specs.Commands.{texts}
 use Rattle.rg_top.specs.Inner.Requests.{command_of}
 use Rattle.rg_top.proofs.AnswerLemmas.{Answered, answer-answered, answer-cut, answer-input, answer-exactly, answer-refused, answer-complete}
 use Rattle.rg_top.proofs.AnswerLemmas.{answer-unread, answer-unopened, answer-untouched, answer-output, answer-tuned, answer-usage, given-is}
-use Rattle.rg_top.proofs.AnswerLemmas.{answer-chooses, usage-exactly}
-use Rattle.rg_top.proofs.NotesLemmas.{asked-notes, asked-fault}
+use Rattle.rg_top.proofs.AnswerLemmas.{answer-chooses, answer-may, usage-exactly}
+use Rattle.rg_top.proofs.NotesLemmas.{asked-notes, asked-fault, unasked-notes}
 use Rattle.rg_top.proofs.AskedLemmas.{asked-words, yeses-fresh}
 use Rattle.rg_top.proofs.top.reggio.Given.{Over}
 use Rattle.rg_top.proofs.top.reggio.Goals as goal
@@ -39,7 +39,14 @@ returns-in-Some-clause-output_fault g c = output-cause g c
 pub returns-in-Some-clause-notes : goal.returns-in-Some-clause-notes
 returns-in-Some-clause-notes g c =
     asked-notes (texts c.args.words.now) (command_of c.in-Some.request) _ c.answer-status.new.machine _ _ _ _ _ c.in-Some.ensures.is
-    c.reports.ensures c.answer-status.ensures.notes _ c.steps_of.ensures c.tell_behind.ensures.took
+    c.reports.ensures c.answer-status.ensures.notes _ _
+    (answer-may (answered g c) _ _ c.answer-status.ensures.source_fault c.answer-status.ensures.caused.input_fault)
+    _ c.steps_of.ensures c.tell_behind.ensures.took
+
+pub returns-in-None-clause-notes : goal.returns-in-None-clause-notes
+returns-in-None-clause-notes g c =
+    unasked-notes (texts c.args.words.now) _ c.args.machine.now c.tell.result _ _ c.in-None.ensures.is c.in-None.ensures.is
+    (c.tell.ensures.took c.args.machine.now)
 
 pub returns-in-Some-clause-output_fault_told : goal.returns-in-Some-clause-output_fault_told
 returns-in-Some-clause-output_fault_told g c = λ e n.

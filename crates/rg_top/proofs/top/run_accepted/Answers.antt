@@ -17,7 +17,7 @@ pub returns-clause-notes : goal.returns-clause-notes
 returns-clause-notes g c = rw c.status_of.ensures.is (ran-reported c.args.report _ _ _ _ c.run-ran.ensures.notes)
 
 pub returns-in_default-clause-notes : goal.returns-in_default-clause-notes
-returns-in_default-clause-notes g c = quiet-memory c.args.report _ _
+returns-in_default-clause-notes g c = quiet-memory c.args.report c.args.machine.now _ c.requires
 
 pub returns-clause-asked : goal.returns-clause-asked
 returns-clause-asked g c = λ origin source runs.

@@ -15,7 +15,7 @@ pub returns-in-Err-Fault-clause-notes : goal.returns-in-Err-Fault-clause-notes
 returns-in-Err-Fault-clause-notes g c = quiet-refused c.args.report _ _ _
 
 pub returns-in-Err-Memory-clause-notes : goal.returns-in-Err-Memory-clause-notes
-returns-in-Err-Memory-clause-notes g c = quiet-memory c.args.report _ _
+returns-in-Err-Memory-clause-notes g c = quiet-memory c.args.report c.args.machine.now _ c.requires.fresh
 
 pub returns-in-Ok-clause-asked : goal.returns-in-Ok-clause-asked
 returns-in-Ok-clause-asked g c = λ file source means.

@@ -1,0 +1,85 @@
+#!/usr/bin/env bash
+# Tries tools/ on bad input: no file, two files, a folder, an empty file, 1 MiB in one line, bytes that are no UTF-8, a
+# program that never ends, no program and no rt. Each gives the status and the lines that are wanted, and no traceback.
+# It prints a row for each case, `ok` or `WRONG`, and ends with a count; its status is 0 where none is wrong.
+# Not a part of the gate. Usage: bench/tools.sh [PROGRAM]
+set -u
+here=$(cd "$(dirname "$0")/.." && pwd)
+if [ $# = 0 ]; then "$here/build" || exit; fi
+REGGIO=$(readlink -f "${1:-$here/bin/reggio}")
+export REGGIO
+work=$(mktemp -d)
+trap 'rm -rf "$work"' EXIT
+cd "$work" || exit 2
+count=0 wrong=0
+
+# A case: its name, the status, patterns of the output and of the notes, and what is run by bash in $work.
+expect() { # NAME STATUS OUTPUT NOTES COMMAND
+  local status why=
+  count=$((count + 1))
+  timeout 120 bash -c "$5" >output 2>notes
+  status=$?
+  [ $status = "$2" ] || why="status $status"
+  # (patterns)
+  [[ $(tr -d '\0' <output) == $3 ]] || why="output $(head -c 300 output)"
+  [[ $(tr -d '\0' <notes) == $4 ]] || why="notes $(head -c 300 notes)"
+  if grep -q Traceback output notes; then why='a traceback'; fi
+  if awk 'length > 2000 { found = 1 } END { exit !found }' output notes; then why='a line of more than 2,000 characters'; fi
+  if [ -z "$why" ]; then echo "ok    $1"; else wrong=$((wrong + 1)); echo "WRONG $1: $why"; fi
+}
+
+mkdir folder
+: >empty.rg
+printf 'main arena { print 7; }\n' >seven.rg
+printf 'main arena {\n  while true { }\n}\n' >endless.rg
+printf 'class A { v: int; next: mut A; }\nmain arena {\n  let a: mut A = new A;\n  print a.next.v;\n}\n' >trap.rg
+printf 'main arena {\n  let total: int = 1;\n  print totl;\n}\n' >fault.rg
+{ printf 'main arena { '; head -c 1048000 /dev/zero | tr '\0' ' '; printf 'let = 1; }'; } >syntax.rg
+{ printf 'main arena { let k: int = 1; '; yes 'k = k + 1;' | head -n 90000 | tr '\n' ' '; printf 'print x; }'; } >rule.rg
+{ cat seven.rg; head -c 1048577 /dev/zero | tr '\0' ' '; } >long.rg
+printf 'main arena {\n  print "\xff\xfe\x80";\n}\n' >bytes.rg
+printf 'main arena {\n  print 7; // \xff\xfe\n  print;\n}\n' >comment.rg
+head -c 100000 /dev/urandom >noise.rg
+printf '\0\0\0' >nul.rg
+
+usage='usage: tools/explain FILE \[--run \[--steps N\] \[--every N\] \[--report\]\]'
+explain=$here/tools/explain
+expect 'explain: no file' 2 '' "$usage" "$explain"
+expect 'explain: two files' 2 '' "$usage" "$explain seven.rg seven.rg"
+expect 'explain: an option that is none' 2 '' "$usage" "$explain --what"
+expect 'explain: an empty name' 2 '' "$usage" "$explain ''"
+expect 'explain: --help' 0 '*--run*' '' "$explain --help"
+expect 'explain: a missing file' 5 '' 'source fault: missing.rg: No such file or directory' "$explain missing.rg"
+expect 'explain: a folder' 5 '' 'source fault: folder: Is a directory' "$explain folder"
+expect 'explain: a name that is no UTF-8' 5 '' 'source fault: *: No such file or directory' "$explain \$'\\xff.rg'"
+expect 'explain: an empty file' 1 '*The source ends here; there could stand `class`, `tmp` or `main`.*' 'E10 syntax at line 1' "$explain empty.rg"
+expect 'explain: nothing is wrong' 0 accepted '' "$explain seven.rg"
+expect 'explain: a fault' 1 '*>     3    print totl;*^^^^*Is `total` meant?*## E20 unknown*' 'E20 unknown at line 3' "$explain fault.rg"
+expect 'explain: a pipe' 1 '*Is `total` meant?*' 'E20 unknown at line 3' "cat fault.rg | $explain /dev/stdin"
+expect 'explain: 1 MiB in one line, syntax' 1 '*Here stands `=`; there could stand a name.*' 'E10 syntax at line 1' "$explain syntax.rg"
+expect 'explain: 1 MiB in one line, a rule' 1 '*## E20 unknown*' 'E20 unknown at line 1' "$explain rule.rg"
+expect 'explain: more than 1 MiB' 9 '' 'source too long' "$explain long.rg"
+expect 'explain: without an end' 9 '' 'source too long' "$explain /dev/zero"
+expect 'explain: bytes that are no UTF-8' 1 '*## E01 byte*' 'E01 byte at line 2' "$explain bytes.rg"
+expect 'explain: the same, in a plain locale' 1 '*## E01 byte*' 'E01 byte at line 2' "LC_ALL=C PYTHONUTF8=0 $explain bytes.rg"
+expect 'explain: such bytes in a comment' 1 '*Here stands `;`*' 'E10 syntax at line 3' "$explain comment.rg"
+expect 'explain: noise' 1 '*## E01 byte*' 'E01 byte at line *' "$explain noise.rg"
+expect 'explain: bytes 0' 1 '*Here stands the byte 0.*' 'E01 byte at line 1' "$explain nul.rg"
+expect 'explain: it runs' 0 7 '' "$explain seven.rg --run"
+expect 'explain: a program that never ends' 4 '*Status 4*--steps N*' 'spent at step 1000' "$explain endless.rg --run --steps 1000"
+expect 'explain: a trap' 3 '*>     4    print a.next.v;*Cure: ask first*' 'trap nil at line 4' "$explain trap.rg --run"
+expect 'explain: a trap, with a report' 3 '*Cure: ask first*' 'trap nil at line 4*end steps*' "$explain trap.rg --run --report"
+expect 'explain: words that run does not have' 2 '' 'usage: reggio run*' "$explain seven.rg --run --what"
+expect 'explain: a reader that goes' 7 '' 'E20 unknown at line 3' "$explain fault.rg | head -n 0; exit \${PIPESTATUS[0]}"
+
+# A copy of what stands here, without a program.
+mkdir copy && (cd "$here" && tar cf - --exclude=./bin --exclude=./.git --exclude=out .) | tar xf - -C copy
+expect 'explain: no program and no rt' 127 '' "*isn't on the PATH*" "unset REGGIO; PATH=/usr/bin:/bin copy/tools/explain fault.rg"
+
+for tool in "$here"/tools/*; do
+  if [ -f "$tool" ] && [ -x "$tool" ] && [ "$(basename "$tool")" != unproved ]; then
+    expect "$(basename "$tool"): --help" 0 '*?*' '' "$tool --help"
+  fi
+done
+echo "$count cases, $wrong wrong"
+[ $wrong = 0 ]
