@@ -76,9 +76,37 @@ expect 'explain: a trap, with a report' 3 '*Cure: ask first*' 'trap nil at line 
 expect 'explain: words that run does not have' 2 '' 'usage: reggio run*' "$explain seven.rg --run --what"
 expect 'explain: a reader that goes' 7 '' 'E20 unknown at line 3' "$explain fault.rg | head -n 0; exit \${PIPESTATUS[0]}"
 
+draw=$here/tools/draw
+none='draw: no collection is told*'
+expect 'draw: two files' 2 '' 'usage: tools/draw *' "$draw a b"
+expect 'draw: an option that is none' 2 '' 'usage: tools/draw *' "$draw --what"
+expect 'draw: a missing file' 1 '' 'draw: missing: No such file or directory' "$draw missing"
+expect 'draw: a folder' 1 '' 'draw: folder: Is a directory' "$draw folder"
+expect 'draw: an empty file' 1 '' "$none" "$draw empty.rg"
+expect 'draw: 1 MiB in one line' 1 '' "$none" "$draw long.rg"
+expect 'draw: noise' 1 '' "$none" "$draw noise.rg"
+expect 'draw: standard input' 0 '<svg*region 0, trace*</svg>' '' \
+  "echo 'paced step 7 region 0 trace held 2 kept 1 released 0' | $draw -; echo 'paced step 7 region 0 trace held 2 kept 1 released 0' | $draw >same"
+expect 'draw: a reader that goes' 1 '' '' "(sleep 1; echo 'paced step 7 region 0 trace held 2 kept 1 released 0') | $draw | true; exit \${PIPESTATUS[1]}"
+
+compare=$here/tools/compare
+expect 'compare: no file' 2 '' 'usage: tools/compare *' "$compare"
+expect 'compare: three files' 2 '' 'usage: tools/compare *' "$compare a b c"
+expect 'compare: a missing file' 1 '' 'compare: missing: No such file or directory' "$compare missing"
+expect 'compare: a missing input' 1 '' 'compare: missing: No such file or directory' "$compare seven.rg missing"
+expect 'compare: a folder' 1 '' 'compare: folder: Is a directory' "$compare folder"
+expect 'compare: an empty file' 1 '' 'compare: empty.rg: E10 syntax at line 1' "$compare empty.rg"
+expect 'compare: more than 1 MiB' 9 '' 'compare: long.rg: source too long' "$compare long.rg"
+expect 'compare: bytes that are no UTF-8' 1 '' 'compare: bytes.rg: E01 byte at line 2' "$compare bytes.rg"
+expect 'compare: a program' 0 'managers *arena *all wrote the same' '' "$compare seven.rg"
+expect 'compare: a trap' 0 'managers *  3*all wrote the same' '' "$compare trap.rg"
+expect 'compare: a program that never ends' 0 'managers *  4*all wrote the same' '' "$compare endless.rg"
+expect 'compare: no program' 1 '' 'compare: missing: No such file or directory' "REGGIO=missing $compare seven.rg"
+
 # A copy of what stands here, without a program.
 mkdir copy && (cd "$here" && tar cf - --exclude=./bin --exclude=./.git --exclude=out .) | tar xf - -C copy
 expect 'explain: no program and no rt' 127 '' "*isn't on the PATH*" "unset REGGIO; PATH=/usr/bin:/bin copy/tools/explain fault.rg"
+expect 'compare: no program and no rt' 127 '' "*isn't on the PATH*" "unset REGGIO; PATH=/usr/bin:/bin copy/tools/compare seven.rg"
 
 for tool in "$here"/tools/*; do
   if [ -f "$tool" ] && [ -x "$tool" ] && [ "$(basename "$tool")" != unproved ]; then
