@@ -43,7 +43,6 @@ pub record Answer (t : Tree) (code : Code) (old : Standing) (p q : State) (new :
   pub runs : Runs t code (machine_in old.stepper.parts) p
   pub input : p.input ≡ before
   pub went : next t.classes p ≡ Went q
-  pub few : step.serves.mid.frames.next ≤ 2 ^ 64 - 1
 
 serves-of : (due : Option Cause) (old : Stepping) (mid : Parts) (new : Stepping) (before after : Asks) (result : Outcome) → is_made result ≡ true
     → ServesBy due old mid new before after result → Serves due old mid new before after
@@ -129,7 +128,7 @@ module _ {t : Tree} {code : Code} {old : Standing} {p q : State} {new : Standing
     stands = w.step.serves.sound.stands;
     fit = (step-keeps t p q w.runs.accepted w.runs.fits w.went).fit;
     shows = shown.shows;
-    part = shown-part mid shown.grown shown.held w.step.serves.sound.serials w.step.serves.sound.stands w.few shown.beside;
+    part = shown-part mid shown.grown shown.held w.step.serves.sound.serials w.step.serves.sound.stands w.step.serves.sound.windows shown.beside;
   }
 
   -- the active region is that of the state
@@ -160,4 +159,4 @@ module _ {t : Tree} {code : Code} {old : Standing} {p q : State} {new : Standing
     collects-so = collecting t code q mid last shown.grown beside w.step.sound.forest top c.did.told new.stepper.slides c.did.collects
 
     pub few-behind : last.frames.next ≤ 2 ^ 64 - 1
-    few-behind = subst (λ n. n ≤ 2 ^ 64 - 1) (sym gathered.windows_made) w.few
+    few-behind = subst (λ n. n ≤ 2 ^ 64 - 1) (sym gathered.windows_made) w.step.serves.sound.windows

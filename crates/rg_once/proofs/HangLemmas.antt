@@ -154,7 +154,7 @@ module _ {t : Tree} {code : Code} {old : Standing} {p q : State} {new : Standing
   keeps-table : (b r : ℕ) (o : Seen) → before.held b ≡ true → slice_get p.store b ≡ Some o → o.label ≡ Region r → also b ≡ true
       → LeftTable old.stepper.parts (mid u) r → ⊥
   keeps-table b r o h at label now left =
-      let x = held-shown (mid u).heap (mid u).frames (beside u).serials (beside u).stands u.few b now in
+      let x = held-shown (mid u).heap (mid u).frames (beside u).serials (beside u).stands u.step.serves.sound.windows b now in
       x.2 (left.all_gone b o (stood b o h at) label x.0 x.1)
 
   -- an object of a region that doesn't leave the table stays

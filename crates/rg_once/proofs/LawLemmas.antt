@@ -148,7 +148,6 @@ steps-once t code old these those before w = record {
       runs = w.runs;
       input = w.input;
       went = went;
-      few = w.few;
     }
 
     other : State
@@ -156,13 +155,6 @@ steps-once t code old these those before w = record {
 
     also-went : next t.classes w.state ≡ Went other
     also-went = made-went (next t.classes w.state) w.state other w.other w.also_made (w.also.serves.shows t w.state w.runs w.input).1
-
-    few : w.also.serves.mid.frames.next ≤ 2 ^ 64 - 1
-    few =
-        let h = (w.also.serves.shows t w.state w.runs w.input).2 in
-        subst (λ n. n ≤ 2 ^ 64 - 1)
-        (windows-made one ∙ ap (λ (s : State). s.windows_made) (went-is (next t.classes w.state) q other went also-went)
-        ∙ sym (h.beside.windows_made ∙ h.shows.windows_made)) w.few
 
     two : Answer t code old w.state q those
     two = record {
@@ -174,5 +166,4 @@ steps-once t code old these those before w = record {
       runs = w.runs;
       input = w.input;
       went = went;
-      few = few;
     }

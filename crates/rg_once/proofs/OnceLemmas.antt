@@ -62,12 +62,12 @@ module _ {t : Tree} {code : Code} {old : Standing} {p q : State} {new other : St
   pub in-other : Within (mid w).heap.cells.heap (mid u).heap.cells.heap
   in-other =
       within (mid w).heap (mid u).heap (mid w).frames (mid u).frames (beside w).serials (beside u).serials (beside w).stands (beside u).stands
-      w.few same
+      w.step.serves.sound.windows same
 
   pub held-also : (a : ℕ) → holds (mid w).heap.cells.heap a ≡ true → holds (mid u).heap.cells.heap a ≡ true
   held-also =
       held-same (mid w).heap (mid u).heap (mid w).frames (mid u).frames (beside w).serials (beside u).serials (beside w).stands
-      (beside u).stands w.few same
+      (beside u).stands w.step.serves.sound.windows same
 
   same-region : (top w).rec.number ≡ (top u).rec.number
   same-region = region-is w ∙ sym (region-is u)

@@ -1,5 +1,5 @@
 -- That a step is determined: what two answers to it, each by the contract of a step, have in common (docs/architecture.md, "The stepper").
-use Rattle.std.specs.Prelude.{◌≡◌, ◌≤◌, ◌-◌, ◌^◌, ℕ, true, List, [], ◌∷◌, ◌++◌, Some}
+use Rattle.std.specs.Prelude.{◌≡◌, ℕ, true, List, [], ◌∷◌, ◌++◌, Some}
 use Rattle.rg_base.specs.declared.event.Cause.TheVariants.{Asked}
 use Rattle.rg_base.specs.declared.event.Event.{Event}
 use Rattle.rg_base.specs.declared.outcome.Outcome.{Outcome}
@@ -36,8 +36,6 @@ pub record MadeTwice (t : Tree) (code : Code) (old these those : Standing) (befo
   pub rest : List ℕ
   pub also_made : is_made other ≡ true
   pub also : OneStep code old those other before rest
-  -- windows have numbers of 64 bits
-  pub few : step.serves.mid.frames.next ≤ 2 ^ 64 - 1
 
 -- What the two have in common, whatever the pacers said.
 pub record IsOnce (t : Tree) (code : Code) (old these those : Standing) (before : List ℕ) (w : MadeTwice t code old these those before) : Type 0 where

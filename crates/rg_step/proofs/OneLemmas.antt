@@ -146,7 +146,7 @@ module _ (code : Code) (old : Standing) (mid : Parts) (new : Standing) (runs : I
         sound = grown;
         serves = record {
           mid = mid;
-          sound = record { stands = stands; serials = serials; forest = grove };
+          sound = record { stands = stands; serials = serials; forest = grove; windows = windows };
           still = λ asked. still (same_Some why Asked (sym due ∙ asked));
           shows = steps;
           frees = frees;

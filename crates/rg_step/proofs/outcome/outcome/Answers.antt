@@ -138,8 +138,8 @@ returns-clause-frees g c =
     let s = OnInput-some _ _ _ _ (StepIs code (core_of old) (core_of mid) c.step-did.result) c.step-did.ensures.follows c.step-did.ensures.step in
     let frees = did-frees code (core_of old) (core_of mid) c.step-did.result s.0 s.1 runs c.step-did.ensures.leaves s.2 order in
     table-frees old new
-    (record { stands = c.is_sound.ensures.stands; serials = c.is_sound.ensures.serials; forest = c.is_sound.ensures.forest })
-    (record { stands = c.is_sound-2.ensures.stands; serials = c.is_sound-2.ensures.serials; forest = c.is_sound-2.ensures.forest })
+    (record { stands = c.is_sound.ensures.stands; serials = c.is_sound.ensures.serials; forest = c.is_sound.ensures.forest; windows = c.is_sound.ensures.windows })
+    (record { stands = c.is_sound-2.ensures.stands; serials = c.is_sound-2.ensures.serials; forest = c.is_sound-2.ensures.forest; windows = c.is_sound-2.ensures.windows })
     (subst (λ (p : Parts). StoreFrees (machine_in old) (machine_in p)) (sym c.start.ensures) frees)
 
 pub returns-clause-stays_gone : goal.returns-clause-stays_gone

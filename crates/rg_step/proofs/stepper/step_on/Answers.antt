@@ -19,7 +19,7 @@ returns-in_default-clause-step g c =
     OnInput-still _ _ _ _ (OneStep c.args.code.now _ _ outcome.Memory) refl refl
     (one-nothing c.args.code.now _ _ c.requires.runs refl
     (record { shown = refl; events_are = c.make_place.ensures.items; unasked = record { since = refl; pacers = refl } }) refl refl
-    (record { stands = c.is_sound.ensures.stands; serials = c.is_sound.ensures.serials; forest = c.is_sound.ensures.forest }))
+    (record { stands = c.is_sound.ensures.stands; serials = c.is_sound.ensures.serials; forest = c.is_sound.ensures.forest; windows = c.is_sound.ensures.windows }))
 
 pub returns-then-not-made-clause-step : goal.returns-then-not-made-clause-step
 returns-then-not-made-clause-step g c =
@@ -30,7 +30,7 @@ returns-then-not-made-clause-step g c =
     c.outcome-outcome.ensures.step
     (one-refused c.args.code.now _ _ c.requires.runs result c.outcome-outcome.ensures.high c.outcome-outcome.ensures.frees
     c.outcome-outcome.ensures.stays_gone
-    (record { stands = c.is_sound-2.ensures.stands; serials = c.is_sound-2.ensures.serials; forest = c.is_sound-2.ensures.forest }) refl
+    (record { stands = c.is_sound-2.ensures.stands; serials = c.is_sound-2.ensures.serials; forest = c.is_sound-2.ensures.forest; windows = c.is_sound-2.ensures.windows }) refl
     (λ asked. c.outcome-outcome.ensures.still
     (ap is_asked (c.due_at-due.ensures ∙ ap (due_at c.args.code.now.ops) c.at.ensures ∙ asked))) no
     (record {
@@ -50,7 +50,7 @@ returns-in_default-due-clause-step g c =
     c.outcome-outcome.ensures.step
     (one-undue c.args.code.now _ _ c.requires.runs result c.outcome-outcome.ensures.high c.outcome-outcome.ensures.frees
     c.outcome-outcome.ensures.stays_gone
-    (record { stands = c.is_sound-2.ensures.stands; serials = c.is_sound-2.ensures.serials; forest = c.is_sound-2.ensures.forest }) refl made none
+    (record { stands = c.is_sound-2.ensures.stands; serials = c.is_sound-2.ensures.serials; forest = c.is_sound-2.ensures.forest; windows = c.is_sound-2.ensures.windows }) refl made none
     c.make_place.ensures.items (record { since = refl; pacers = refl }) c.one_more-kept.ensures)
 
 pub serve-requires-clause-once : goal.serve-requires-clause-once
@@ -72,7 +72,7 @@ returns-clause-step g c =
     (one-served c.args.code.now _ mid _ c.requires.runs c.is_sound-2.ensures.stands c.is_sound-2.ensures.serials c.is_sound-2.ensures.windows
     c.is_sound-2.ensures.forest c.in-Some.why some c.make_place.new.events.items c.make_place.ensures.items
     (c.serve.ensures.serves c.args.p.now c.args.kept.now.steps)
-    (record { stands = c.is_sound-3.ensures.stands; serials = c.is_sound-3.ensures.serials; forest = c.is_sound-3.ensures.forest })
+    (record { stands = c.is_sound-3.ensures.stands; serials = c.is_sound-3.ensures.serials; forest = c.is_sound-3.ensures.forest; windows = c.is_sound-3.ensures.windows })
     c.serve.ensures.high c.outcome-outcome.ensures.frees c.outcome-outcome.ensures.stays_gone
     (λ asked. c.outcome-outcome.ensures.still (ap is_asked (c.in-Some.is ∙ ap Some asked))) c.serve.ensures.slides result
     c.outcome-outcome.ensures.high made
