@@ -4,8 +4,9 @@ use Rattle.rg_base.specs.declared.object.Label.{Label}
 use Rattle.rg_base.specs.declared.words.Manager.{Manager}
 use Rattle.rg_base.specs.declared.value.Word.{Word}
 use Rattle.rg_base.specs.declared.value.Word.TheVariants.{Slot}
-use Rattle.rg_cells.specs.Table.{Table, Made, Takes, body_at, mark_at, high_of, high_after}
+use Rattle.rg_cells.specs.Table.{Table, Made, Takes, high_of, high_after}
 use Rattle.rg_regions.specs.Table.{Record, RegionTable, record_at, HasNumber, with_room}
+pub use Rattle.rg_cown.specs.Loads.{SameCells, SameRecords}
 use Rattle.rg_frames.specs.declared.rows.Window.{Window}
 use Rattle.rg_frames.specs.Stack.{Stack, IsTop}
 
@@ -24,12 +25,6 @@ pub record Makes (old new : Table) (slot class : ℕ) (label : Label) (fields : 
   pub next : new.heap.next ≡ old.heap.next + 1
   pub high : high_of new.heap ≡ high_after old.heap
 
--- every slot has the body and the mark that it had, and the next serial stays
-pub record SameCells (old new : Table) : Type 0 where
-  pub bodies : (s : ℕ) → body_at new.heap s ≡ body_at old.heap s
-  pub marks : (s : ℕ) → mark_at new s ≡ mark_at old s
-  pub next : new.heap.next ≡ old.heap.next
-
 -- the record of a key becomes another one, whatever its room; other records and the next number stay
 pub record Rewritten (old new : RegionTable) (key : ℕ) (f : Record → Record) : Type 0 where
   pub is : (r : Record) → record_at old key ≡ Some r → (room : ℕ) × (record_at new key ≡ Some (with_room room (f r)))
@@ -43,11 +38,6 @@ with_one slot r = record r { members = r.members ++ slot ∷ [] }
 -- all stays but for the room
 abbrev pub as_it_is : Record → Record
 as_it_is r = r
-
--- every key has the record that it had, and the next number stays
-pub record SameRecords (old new : RegionTable) : Type 0 where
-  pub records : (k : ℕ) → record_at new k ≡ record_at old k
-  pub next : new.next ≡ old.next
 
 -- a region comes with the next number, under a key that none had; the cell at a slot is its bridge and its one member
 pub record Opens (old new : RegionTable) (key slot : ℕ) (manager : Manager) : Type 0 where

@@ -24,6 +24,8 @@ ghost use Rattle.rg_heap.specs.Moves.{BridgeOrNil, CanMove, Freezes, Merges, Not
 ghost use Rattle.rg_heap.specs.Answers.{CanRead, Reads, AllLead, Shows, end_numbers, Tells};
 ghost use Rattle.rg_heap.specs.Answers.{LeadsIntoClosed};
 
+mod cargo;
+
 use crate::answers::{Active, Collected, Refusal};
 use crate::collecting::collect_by;
 use crate::ending::{end_temps, release_one};
