@@ -1,7 +1,11 @@
 //! The pacer (docs/embedding.md, "A pacer of one's own").
 
+ghost use Rattle.std.specs.Prelude.{◌≡◌};
+ghost use Rattle.rg_pace.specs.Asked.{never_asked};
+
 use rg_base::Census;
 use rg_pace::{Pacer, Tally};
+use std::marker::Model;
 
 /// The number of cells at which the pacer says yes first, and below which it never does.
 const LEAST: u64 = 16;
@@ -15,9 +19,19 @@ pub struct Headroom {
     is_behind_yes: bool,
 }
 
+impl Model for Headroom {
+    ghost use Rattle.rg_pace.specs.Asked.{Asked};
+
+    ghost Value = { Asked };
+
+    ghost view = { λ p. p.tally };
+}
+
 impl Headroom {
     /// It was never asked.
-    pub fn new() -> Headroom {
+    pub fn new() -> Headroom
+        ensures { result ≡ never_asked }
+    {
         Headroom {
             tally: Tally::new(),
             limit: LEAST,
@@ -26,19 +40,21 @@ impl Headroom {
     }
 
     /// How often it was asked, how often it said yes, and what it was tuned to.
-    pub fn tally(&self) -> &Tally {
+    pub fn tally(&self) -> &Tally
+        ensures { result.now ≡ self.now }
+    {
         &self.tally
     }
 }
 
 impl Pacer for Headroom {
-    ghost asks = { λ p. p.tally.asks };
+    ghost asks = { λ p. p.asks };
 
-    ghost yeses = { λ p. p.tally.yeses };
+    ghost yeses = { λ p. p.yeses };
 
-    ghost told = { λ p. p.tally.told };
+    ghost told = { λ p. p.told };
 
-    ghost tuned = { λ p. p.tally.tuned };
+    ghost tuned = { λ p. p.tuned };
 
     fn tune(&mut self, every: u64) {
         self.tally.tune(every);

@@ -1,5 +1,5 @@
 -- The active region: its window and its record are there. For callers.
-use Rattle.std.proofs.Common.{◌≡◌, ◌-◌, ℕ, Some, length, sym, ap, subst, ◌∙◌, arith}
+use Rattle.std.proofs.Common.{◌≡◌, ◌-◌, length, sym, ap, subst, ◌∙◌, arith}
 use Rattle.std.proofs.lemmas.Option.{same_Some}
 use Rattle.rg_base.proofs.Callers.Lists.{there}
 use Rattle.rg_regions.specs.Collection.{OfRegion}

@@ -1,5 +1,5 @@
 -- A step is determined.
-use Rattle.std.proofs.Common.{◌≡◌, inl, ◌≤◌, ◌-◌, ◌^◌, ℕ, Bool as Truth, true, false, true≢false, List, [], ◌∷◌, ◌++◌, length, Some, slice_get}
+use Rattle.std.proofs.Common.{◌≡◌, inl, ℕ, Bool as Truth, true, false, true≢false, List, [], ◌∷◌, ◌++◌, length, Some, slice_get}
 use Rattle.std.proofs.Common.{refl, sym, ap, ◌∙◌, subst, arith}
 use Rattle.std.proofs.lemmas.List.{length-append}
 use Rattle.std.proofs.lemmas.Option.{same_Some}
@@ -27,7 +27,7 @@ use Rattle.rg_step.proofs.ReachedLemmas.{longer, went-is}
 use Rattle.rg_step.proofs.ServeLemmas.{made-went}
 use Rattle.rg_once.proofs.Moves.{moves}
 use Rattle.rg_once.specs.Once.{HoldTheSame, StepsOnce, Tells}
-use Rattle.rg_once.proofs.AnswerLemmas.{Answer, does, mid, none-told, rest-is, shown, windows-made}
+use Rattle.rg_once.proofs.AnswerLemmas.{Answer, does, mid, none-told, rest-is, shown}
 use Rattle.rg_once.proofs.ComesLemmas.{step-comes}
 use Rattle.rg_once.proofs.HeldLemmas.{mid-same}
 use Rattle.rg_once.proofs.OnceLemmas.{collected-same}

@@ -8,8 +8,8 @@ use Rattle.rg_base.specs.declared.object.Seen.{Seen}
 use Rattle.rg_base.specs.declared.outcome.Trap.{Trap}
 use Rattle.rg_base.specs.declared.value.Val.{Val}
 use Rattle.rg_base.specs.declared.value.Val.TheVariants.{Nil, Int, Bool, Obj}
-use Rattle.rg_tree.specs.Tree.{Name, Variable, Right, value, new, new_tmp, new_iso, freeze, merge, read, more, result_of, Class}
-use Rattle.rg_tree.specs.Tree.{stmt, StmtKind, declare, assign, call, swap, branch, while, enter, print, collect, return}
+use Rattle.rg_tree.specs.Tree.{Name, Variable, Right, new, Class}
+use Rattle.rg_tree.specs.Tree.{stmt, StmtKind, declare, assign}
 use Rattle.rg_rules.specs.Asks.{kind_makes, right_makes}
 use Rattle.rg_rules.specs.Evaluation.{follow_fields, object_at, with_field}
 use Rattle.rg_rules.specs.Items.{Item, Do, EndAt, LeaveAt, Back}

@@ -1,6 +1,6 @@
 -- What is told of a collection that a step made, beside the plain states before the step and behind it. For callers.
-use Rattle.std.proofs.Common.{◌≡◌, ℕ, true, false, true≢false, List, [], ◌∷◌, ◌++◌, Option, Some, None, length, slice_get, refl, sym, ap, ◌∙◌, subst}
-use Rattle.std.proofs.lemmas.Option.{none-some, same_Some}
+use Rattle.std.proofs.Common.{◌≡◌, ℕ, true, true≢false, List, [], ◌∷◌, ◌++◌, Option, Some, None, length, slice_get, refl, sym, ap, ◌∙◌, subst}
+use Rattle.std.proofs.lemmas.Option.{same_Some}
 use Rattle.rg_base.specs.declared.event.Cause.{Cause}
 use Rattle.rg_base.specs.declared.event.Cause.TheVariants.{Asked, Paced}
 use Rattle.rg_base.specs.declared.event.Event.{Event}
@@ -20,7 +20,7 @@ use Rattle.rg_stack.specs.Dues.{first_due}
 use Rattle.rg_stack.proofs.Callers.DueLemmas.{steps-due}
 use Rattle.rg_machine.specs.Active.{IsActive}
 use Rattle.rg_machine.specs.Parts.{Parts, machine_in}
-use Rattle.rg_step.specs.Collections.{CollectsAsked, IsCollected, Serves, ServesBy, event_of}
+use Rattle.rg_step.specs.Collections.{CollectsAsked, Serves, ServesBy, event_of}
 use Rattle.rg_step.specs.Pacers.{Asks}
 use Rattle.rg_step.specs.States.{OneStep, Standing}
 use Rattle.rg_step.specs.Steps.{Runs, is_made}

@@ -19,7 +19,7 @@ use Rattle.rg_heap.specs.declared.answers.Collected.{Collected}
 use Rattle.rg_heap.specs.Collects.{CollectsBy}
 use Rattle.rg_heap.specs.Ends.{top_temps}
 use Rattle.rg_heap.specs.Slides.{Slides, SlidesBy}
-use Rattle.rg_pace.specs.Asked.{Asked, one_more, with_ask}
+use Rattle.rg_pace.specs.Asked.{one_more, with_ask}
 use Rattle.rg_machine.specs.Active.{IsActive, OnActive}
 use Rattle.rg_machine.specs.Collects.{Gathers, GathersSliding}
 use Rattle.rg_machine.specs.Parts.{Parts, machine_in}

@@ -1,5 +1,4 @@
-use Rattle.std.proofs.Common.{IfOk, ap, subst, sym}
-use Rattle.rg_cells.specs.Table.{Heap}
+use Rattle.std.proofs.Common.{IfOk, subst}
 use Rattle.rg_heap.specs.Answers.{Shows}
 use Rattle.rg_machine.specs.Parts.{Parts}
 use Rattle.rg_machine.proofs.FindLemmas.{finds}
