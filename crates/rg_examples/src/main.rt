@@ -6,11 +6,13 @@
 mod calls;
 mod cells;
 mod changes;
+mod pacers;
 mod programs;
 mod rows;
 mod shown;
 
 use crate::changes::judge_change;
+use crate::pacers::{by_a_list, never};
 use crate::programs::{PROGRAMS, settles, writes};
 use crate::rows::{Verdict, judge};
 use crate::shown::shows;
@@ -98,6 +100,10 @@ fn main(rt: HostRuntime) -> io::Result<()> {
     examples(&rt)?;
     let shown = told(shows(rt.alloc()));
     println!(rt; "what the machine shows of a run: {shown}")?;
+    let by_a_list = told(by_a_list(&rt));
+    println!(rt; "every_second.rg where a pacer says yes and no by turns: {by_a_list}")?;
+    let never = told(never(&rt));
+    println!(rt; "every_second.rg where no pacer says yes: {never}")?;
     told_of(&rt, Table::Changes, "changes.txt")?;
     told_of(&rt, Table::Rows, "rows.txt")
 }
