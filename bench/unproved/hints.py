@@ -32,7 +32,7 @@ def owner_of(block):
     if block["trait"]: return block["trait"]
     parameters = re.findall(r"(?:^|, )(\w+)", block["parameters"] or "")
     trait, found, owner = block["head"].partition(" for ")
-    if not found: return type_word(block["head"], parameters)
+    if not found: return "slice+T" if block["head"].startswith("[T]") else type_word(block["head"], parameters)
     return type_word(owner, parameters) + trait_words(trait, parameters)
 
 
