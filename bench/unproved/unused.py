@@ -1,5 +1,5 @@
 """What is left in a function of tests that were taken out: the conditions that nothing asks for. LLVM would take these out too,
-but by then they have changed what it does with the rest, by 1 % of a program's instructions."""
+but by then they have changed what it does with the rest, by up to 1.4 % of the instructions of a run."""
 import collections
 import re
 
