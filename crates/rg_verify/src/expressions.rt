@@ -1,11 +1,12 @@
 //! Expressions that are raised from their code (docs/architecture.md, "Modules").
 
-ghost use Rattle.std.specs.Prelude.{◌≤◌, List, [], length, drop};
+ghost use Rattle.std.specs.Prelude.{◌≤◌, List, [], length, drop, OnErr};
 ghost use Rattle.rg_verify.specs.Raised.{neg, not};
 ghost use Rattle.rg_verify.specs.Raising as raising;
 ghost use Rattle.rg_verify.specs.Raising.{Item};
 ghost use Rattle.rg_verify.specs.Inner.Stacks.{Piled, IsPiled, Makes, Walks, MakesRows};
 ghost use Rattle.rg_verify.specs.Raises.{RaisesAll};
+ghost use Rattle.rg_verify.specs.Rows.{Extends};
 
 use crate::body::Body;
 use crate::held::Held;
@@ -24,9 +25,10 @@ fn put_neg(
     end: usize,
 ) -> Result<(), Refusal>
     requires { IsPiled program.old body.in_method stack.old.items }
-    ensures { (items : List Item) → Piled program.old body.in_method stack.old.items items →
+    ensures makes { (items : List Item) → Piled program.old body.in_method stack.old.items items →
         Makes program.old program.new body.in_method stack.new.items result
         (raising.from_tree neg end items) }
+    ensures grows { Extends program.old program.new }
 {
     let a = take_row(body, program, stack)?;
     put_tree(body, program, stack, end, ExprRow::Neg(a))
@@ -40,9 +42,10 @@ fn put_not(
     end: usize,
 ) -> Result<(), Refusal>
     requires { IsPiled program.old body.in_method stack.old.items }
-    ensures { (items : List Item) → Piled program.old body.in_method stack.old.items items →
+    ensures makes { (items : List Item) → Piled program.old body.in_method stack.old.items items →
         Makes program.old program.new body.in_method stack.new.items result
         (raising.from_tree not end items) }
+    ensures grows { Extends program.old program.new }
 {
     let a = take_row(body, program, stack)?;
     put_tree(body, program, stack, end, ExprRow::Not(a))
@@ -57,9 +60,10 @@ fn put_operator(
     op: BinOp,
 ) -> Result<(), Refusal>
     requires { IsPiled program.old body.in_method stack.old.items }
-    ensures { (items : List Item) → Piled program.old body.in_method stack.old.items items →
+    ensures makes { (items : List Item) → Piled program.old body.in_method stack.old.items items →
         Makes program.old program.new body.in_method stack.new.items result
         (raising.from_two op end items) }
+    ensures grows { Extends program.old program.new }
 {
     let right = take_row(body, program, stack)?;
     let left = take_row(body, program, stack)?;
@@ -76,9 +80,10 @@ fn act(
     part: Part,
 ) -> Result<(), Refusal>
     requires { IsPiled program.old body.in_method stack.old.items }
-    ensures { (items : List Item) → Piled program.old body.in_method stack.old.items items →
+    ensures makes { (items : List Item) → Piled program.old body.in_method stack.old.items items →
         Makes program.old program.new body.in_method stack.new.items result
         (raising.act part end items) }
+    ensures grows { Extends program.old program.new }
 {
     match part {
         Part::Int { value } => put_tree(body, program, stack, end, ExprRow::Int(value)),
@@ -103,8 +108,9 @@ fn walk(
     from: usize,
 ) -> Result<(Vec<Held>, usize), Refusal>
     requires { from ≤ length code.now.ops }
-    ensures { Walks program.old program.new body.in_method
+    ensures walks { Walks program.old program.new body.in_method
         (raising.walk (drop from code.now.ops) from []) result }
+    ensures grows { Extends program.old program.new }
 {
     let mut stack = Vec::new(body.alloc);
     let mut at = from;
@@ -121,8 +127,9 @@ fn walk(
 // The trees of the stack, as rows in order.
 fn take_rows(body: Body, program: &mut Program, stack: &mut Vec<Held>) -> Result<Vec<u32>, Refusal>
     requires { IsPiled program.old body.in_method stack.old.items }
-    ensures { (items : List Item) → Piled program.old body.in_method stack.old.items items →
+    ensures makes { (items : List Item) → Piled program.old body.in_method stack.old.items items →
         MakesRows program.old program.new body.in_method (raising.trees items []) result }
+    ensures grows { Extends program.old program.new }
 {
     let mut rows = Vec::new(body.alloc);
     while let Some(held) = stack.pop() {
@@ -136,8 +143,9 @@ fn take_rows(body: Body, program: &mut Program, stack: &mut Vec<Held>) -> Result
 }
 
 /// The expressions whose code stands at an address, as rows in order, and the address behind them,
-/// where an instruction stands that no expression has. The stack of trees is the only memory that
-/// it takes beside the program's, and nothing recurses.
+/// where an instruction stands that no expression has. Where it is refused, the program has at most
+/// grown: all that was there stands for the same. The stack of trees is the only memory that it
+/// takes beside the program's, and nothing recurses.
 pub fn raise_expressions(
     alloc: Global,
     program: &mut Program,
@@ -146,7 +154,8 @@ pub fn raise_expressions(
     at: usize,
 ) -> Result<(Vec<u32>, usize), Refusal>
     requires { at ≤ length code.now.ops }
-    ensures { RaisesAll program.old program.new in_method (drop at code.now.ops) at result }
+    ensures raises { RaisesAll program.old program.new in_method (drop at code.now.ops) at result }
+    ensures err { OnErr result (Extends program.old program.new) }
 {
     let body = Body { alloc, in_method };
     let (mut stack, end) = walk(body, program, code, at)?;

@@ -8,6 +8,7 @@ ghost use Rattle.rg_verify.specs.Naming.{variable_in, field_name};
 ghost use Rattle.rg_verify.specs.Raised.{path_named};
 ghost use Rattle.rg_verify.specs.Inner.Adds.{Adds, base_of, IsBaseIn, AreNames, AddsTree};
 ghost use Rattle.rg_verify.specs.Inner.Adds.{IsExprRow};
+ghost use Rattle.rg_verify.specs.Rows.{Extends};
 
 use crate::body::Body;
 use itoa::Buffer;
@@ -32,8 +33,9 @@ pub(crate) fn add_name(
     letter: u8,
     n: u32,
 ) -> Result<u32, Memory>
-    ensures { IfOk result (λ k.
+    ensures adds { IfOk result (λ k.
         Adds name_at IsNameIn program.old program.new k (letter ∷ decimal n)) }
+    ensures grows { Extends program.old program.new }
 {
     let text = name_text(alloc, letter, n)?;
     let number = program.add_name(text.bytes())?;
@@ -49,8 +51,9 @@ fn is_self(in_method: bool, slot: u32) -> bool
 
 // Adds the variable of a slot.
 fn add_base(body: Body, program: &mut Program, slot: u32) -> Result<Option<u32>, Memory>
-    ensures { IfOk result (λ o.
+    ensures adds { IfOk result (λ o.
         Adds base_of IsBaseIn program.old program.new o (variable_in body.in_method slot)) }
+    ensures grows { Extends program.old program.new }
 {
     if is_self(body.in_method, slot) {
         return Ok(None);
@@ -66,9 +69,10 @@ pub(crate) fn path_row(
     slot: u32,
     fields: &[u32],
 ) -> Result<Path, Memory>
-    ensures { (ks : List ℕ) → AreNames program.old fields.now (map field_name ks) →
+    ensures adds { (ks : List ℕ) → AreNames program.old fields.now (map field_name ks) →
         IfOk result (λ p.
         Adds path_of IsPathIn program.old program.new p (path_named body.in_method slot ks)) }
+    ensures grows { Extends program.old program.new }
 {
     let base = add_base(body, program, slot)?;
     let fields = program.add_order(fields)?;
@@ -78,8 +82,9 @@ pub(crate) fn path_row(
 /// Adds an expression, whose names and operands are there.
 pub(crate) fn put_expr(program: &mut Program, row: ExprRow) -> Result<u32, Memory>
     requires { IsExprRow program.old row }
-    ensures { IfOk result (λ n.
+    ensures adds { IfOk result (λ n.
         AddsTree program.old program.new n (expr_of program.old row)) }
+    ensures grows { Extends program.old program.new }
 {
     let number = program.add_expr(row)?;
     Ok(number)

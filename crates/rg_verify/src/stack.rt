@@ -11,6 +11,7 @@ ghost use Rattle.rg_verify.specs.Inner.Adds.{IsExprRow};
 ghost use Rattle.rg_verify.specs.Inner.Stacks.{IsFor, IsItem, Piled, IsPiled, Makes, MakesRow};
 ghost use Rattle.rg_verify.specs.Inner.Stacks.{TakesRow, waiting, TakesWait, Pushes};
 ghost use Rattle.rg_verify.specs.Inner.Stacks.{TakesPath, is_path};
+ghost use Rattle.rg_verify.specs.Rows.{Extends};
 
 use crate::body::Body;
 use crate::held::{Held, Wait};
@@ -22,8 +23,9 @@ use rg_tree::{ExprRow, Program};
 /// Makes a row of what was held.
 pub(crate) fn row_of(body: Body, program: &mut Program, held: Held) -> Result<u32, Refusal>
     requires { IsItem program.old body.in_method held }
-    ensures { (x : Item) → IsFor program.old body.in_method held x →
+    ensures makes { (x : Item) → IsFor program.old body.in_method held x →
         MakesRow program.old program.new body.in_method x result }
+    ensures grows { Extends program.old program.new }
 {
     match held {
         Held::Path { slot, fields } => {
@@ -47,8 +49,9 @@ pub(crate) fn take_row(
     stack: &mut Vec<Held>,
 ) -> Result<u32, Refusal>
     requires { IsPiled program.old body.in_method stack.old.items }
-    ensures { (items : List Item) → Piled program.old body.in_method stack.old.items items →
+    ensures takes { (items : List Item) → Piled program.old body.in_method stack.old.items items →
         TakesRow program.old program.new body.in_method stack.new.items items result }
+    ensures grows { Extends program.old program.new }
 {
     let Some(held) = stack.pop() else {
         return Err(Refusal::NotExpression);
@@ -121,11 +124,12 @@ fn settle(
 ) -> Result<(), Refusal>
     requires pile { IsPiled program.old body.in_method stack.old.items }
     requires tree { (r : Raised) × IsFor program.old body.in_method held (tree r) }
-    ensures { (items : List Item) (r : Raised) →
+    ensures makes { (items : List Item) (r : Raised) →
         Piled program.old body.in_method stack.old.items items →
         IsFor program.old body.in_method held (tree r) →
         Makes program.old program.new body.in_method stack.new.items result
         (Some (raising.settle end r items)) }
+    ensures grows { Extends program.old program.new }
 {
     let mut top = held;
     while let Some(wait) = take_wait(stack, end) {
@@ -155,11 +159,12 @@ pub(crate) fn put_tree(
     requires row { IsExprRow program.old row }
     requires tree { (r : Raised) × (expr_of program.old row ≡ named body.in_method r) ×
         (is_path r ≡ false) }
-    ensures { (items : List Item) (r : Raised) →
+    ensures makes { (items : List Item) (r : Raised) →
         Piled program.old body.in_method stack.old.items items →
         expr_of program.old row ≡ named body.in_method r → is_path r ≡ false →
         Makes program.old program.new body.in_method stack.new.items result
         (Some (raising.settle end r items)) }
+    ensures grows { Extends program.old program.new }
 {
     let Ok(row) = put_expr(program, row) else {
         return Err(Refusal::Memory);
@@ -176,9 +181,10 @@ pub(crate) fn put_path(
     slot: u32,
 ) -> Result<(), Refusal>
     requires { IsPiled program.old body.in_method stack.old.items }
-    ensures { (items : List Item) → Piled program.old body.in_method stack.old.items items →
+    ensures makes { (items : List Item) → Piled program.old body.in_method stack.old.items items →
         Makes program.old program.new body.in_method stack.new.items result
         (Some (raising.settle end (path slot []) items)) }
+    ensures grows { Extends program.old program.new }
 {
     let fields = Vec::new(body.alloc);
     settle(body, program, stack, end, Held::Path { slot, fields })
@@ -193,9 +199,10 @@ pub(crate) fn put_field(
     index: u32,
 ) -> Result<(), Refusal>
     requires { IsPiled program.old body.in_method stack.old.items }
-    ensures { (items : List Item) → Piled program.old body.in_method stack.old.items items →
+    ensures makes { (items : List Item) → Piled program.old body.in_method stack.old.items items →
         Makes program.old program.new body.in_method stack.new.items result
         (from_path (λ s ks. path s (ks ++ index ∷ [])) end items) }
+    ensures grows { Extends program.old program.new }
 {
     let (slot, mut fields) = take_path(stack)?;
     let Ok(name) = add_name(body.alloc, program, b'f', index) else {
@@ -215,9 +222,10 @@ pub(crate) fn put_test(
     end: usize,
 ) -> Result<(), Refusal>
     requires { IsPiled program.old body.in_method stack.old.items }
-    ensures { (items : List Item) → Piled program.old body.in_method stack.old.items items →
+    ensures makes { (items : List Item) → Piled program.old body.in_method stack.old.items items →
         Makes program.old program.new body.in_method stack.new.items result
         (from_path is_nil end items) }
+    ensures grows { Extends program.old program.new }
 {
     let (slot, fields) = take_path(stack)?;
     let Ok(path) = path_row(body, program, slot, fields.as_slice()) else {
@@ -238,9 +246,10 @@ pub(crate) fn put_wait(
     to: usize,
 ) -> Result<(), Refusal>
     requires { IsPiled program.old body.in_method stack.old.items }
-    ensures { (items : List Item) → Piled program.old body.in_method stack.old.items items →
+    ensures makes { (items : List Item) → Piled program.old body.in_method stack.old.items items →
         Makes program.old program.new body.in_method stack.new.items result
         (from_left junction to items) }
+    ensures grows { Extends program.old program.new }
 {
     let left = take_row(body, program, stack)?;
     let wait = Wait { junction, left, to };

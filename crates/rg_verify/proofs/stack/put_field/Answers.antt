@@ -1,4 +1,5 @@
 use Rattle.rg_verify.proofs.PathLemmas.{taken-pile, field-tree, field-put}
+use Rattle.rg_verify.proofs.RowLemmas.{extends-trans}
 use Rattle.rg_verify.proofs.stack.put_field.Goals as goal
 
 pub settle-requires-clause-pile : goal.settle-requires-clause-pile
@@ -7,7 +8,7 @@ settle-requires-clause-pile c =
     let m = c.args.body.in_method in
     let (items, p) = c.requires in
     taken-pile t c.add_name.new.program m c.take_path.new.stack.items items c.in_ok-slot.slot c.in_ok-slot.fields
-    (c.in_ok-slot.ensures t m items p) c.in-Ok.ensures.extends
+    (c.in_ok-slot.ensures t m items p) c.in-Ok.ensures.adds.extends
 
 pub settle-requires-clause-tree : goal.settle-requires-clause-tree
 settle-requires-clause-tree c =
@@ -15,12 +16,15 @@ settle-requires-clause-tree c =
     let m = c.args.body.in_method in
     let (items, p) = c.requires in
     field-tree t c.add_name.new.program m c.take_path.new.stack.items items c.in_ok-slot.slot c.in_ok-slot.fields
-    (c.in_ok-slot.ensures t m items p) c.args.index c.push.new.self c.in-Ok.ensures c.in-Ok-push.ensures.items
+    (c.in_ok-slot.ensures t m items p) c.args.index c.push.new.self c.in-Ok.ensures.adds c.in-Ok-push.ensures.items
 
-pub returns : goal.returns
-returns c items p =
+pub returns-clause-makes : goal.returns-clause-makes
+returns-clause-makes c items p =
     let t = c.args.program.now in
     let m = c.args.body.in_method in
     field-put t c.add_name.new.program m c.take_path.new.stack.items items c.in_ok-slot.slot c.in_ok-slot.fields
-    (c.in_ok-slot.ensures t m items p) c.args.index c.push.new.self c.in-Ok.ensures c.in-Ok-push.ensures.items
-    c.settle.new.program c.settle.new.stack.items c.args.end c.settle.result c.settle.ensures
+    (c.in_ok-slot.ensures t m items p) c.args.index c.push.new.self c.in-Ok.ensures.adds c.in-Ok-push.ensures.items
+    c.settle.new.program c.settle.new.stack.items c.args.end c.settle.result c.settle.ensures.makes
+
+pub returns-clause-grows : goal.returns-clause-grows
+returns-clause-grows c = extends-trans c.in-Ok.ensures.grows c.settle.ensures.grows

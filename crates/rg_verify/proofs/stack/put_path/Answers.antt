@@ -8,8 +8,8 @@ settle-requires-clause-tree c =
     let fields = c.new-fields in
     (path c.args.slot [], for-variable c.args.program.now c.args.body.in_method c.args.slot fields.result fields.ensures.items)
 
-pub returns : goal.returns
-returns c items p =
+pub returns-clause-makes : goal.returns-clause-makes
+returns-clause-makes c items p =
     let fields = c.new-fields in
-    c.settle.ensures items (path c.args.slot []) p
+    c.settle.ensures.makes items (path c.args.slot []) p
     (for-variable c.args.program.now c.args.body.in_method c.args.slot fields.result fields.ensures.items)

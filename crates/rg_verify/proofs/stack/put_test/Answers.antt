@@ -1,5 +1,6 @@
 use Rattle.std.proofs.Common.{List, ℕ, subst}
 use Rattle.rg_verify.proofs.PathLemmas.{PathRow, test-there, test-pile, test-tree, test-put}
+use Rattle.rg_verify.proofs.RowLemmas.{extends-trans}
 use Rattle.rg_verify.proofs.stack.put_test.Goals as goal
 
 pub put_expr-requires : goal.put_expr-requires
@@ -11,7 +12,7 @@ put_expr-requires c =
     let s = c.in_ok-slot.slot in
     let ns = c.in_ok-slot.fields in
     let made : PathRow t u m s ns.items c.in-Ok.path =
-    subst (λ (xs : List ℕ). PathRow t u m s xs c.in-Ok.path) c.as_slice.ensures.value c.in-Ok.ensures in
+    subst (λ (xs : List ℕ). PathRow t u m s xs c.in-Ok.path) c.as_slice.ensures.value c.in-Ok.ensures.adds in
     test-there t u u m c.take_path.new.stack.items items s ns (c.in_ok-slot.ensures t m items p) c.in-Ok.path made
 
 pub settle-requires-clause-pile : goal.settle-requires-clause-pile
@@ -23,9 +24,9 @@ settle-requires-clause-pile c =
     let s = c.in_ok-slot.slot in
     let ns = c.in_ok-slot.fields in
     let made : PathRow t u m s ns.items c.in-Ok.path =
-    subst (λ (xs : List ℕ). PathRow t u m s xs c.in-Ok.path) c.as_slice.ensures.value c.in-Ok.ensures in
+    subst (λ (xs : List ℕ). PathRow t u m s xs c.in-Ok.path) c.as_slice.ensures.value c.in-Ok.ensures.adds in
     test-pile t u c.put_expr.new.program m c.take_path.new.stack.items items s ns (c.in_ok-slot.ensures t m items p) c.in-Ok.path made
-    c.in-Ok-put_expr.ensures
+    c.in-Ok-put_expr.ensures.adds
 
 pub settle-requires-clause-tree : goal.settle-requires-clause-tree
 settle-requires-clause-tree c =
@@ -36,18 +37,25 @@ settle-requires-clause-tree c =
     let s = c.in_ok-slot.slot in
     let ns = c.in_ok-slot.fields in
     let made : PathRow t u m s ns.items c.in-Ok.path =
-    subst (λ (xs : List ℕ). PathRow t u m s xs c.in-Ok.path) c.as_slice.ensures.value c.in-Ok.ensures in
+    subst (λ (xs : List ℕ). PathRow t u m s xs c.in-Ok.path) c.as_slice.ensures.value c.in-Ok.ensures.adds in
     test-tree t u c.put_expr.new.program m c.take_path.new.stack.items items s ns (c.in_ok-slot.ensures t m items p) c.in-Ok.path made
-    c.in-Ok-put_expr.ensures
+    c.in-Ok-put_expr.ensures.adds
 
-pub returns : goal.returns
-returns c items p =
+pub returns-clause-makes : goal.returns-clause-makes
+returns-clause-makes c items p =
     let t = c.args.program.now in
     let m = c.args.body.in_method in
     let u = c.path_row.new.program in
     let s = c.in_ok-slot.slot in
     let ns = c.in_ok-slot.fields in
     let made : PathRow t u m s ns.items c.in-Ok.path =
-    subst (λ (xs : List ℕ). PathRow t u m s xs c.in-Ok.path) c.as_slice.ensures.value c.in-Ok.ensures in
+    subst (λ (xs : List ℕ). PathRow t u m s xs c.in-Ok.path) c.as_slice.ensures.value c.in-Ok.ensures.adds in
     test-put t u c.put_expr.new.program m c.take_path.new.stack.items items s ns (c.in_ok-slot.ensures t m items p) c.in-Ok.path made
-    c.in-Ok-put_expr.ensures c.settle.new.program c.settle.new.stack.items c.args.end c.settle.result c.settle.ensures
+    c.in-Ok-put_expr.ensures.adds c.settle.new.program c.settle.new.stack.items c.args.end c.settle.result c.settle.ensures.makes
+
+pub returns-in_default-put_expr-clause-grows : goal.returns-in_default-put_expr-clause-grows
+returns-in_default-put_expr-clause-grows c = extends-trans c.in-Ok.ensures.grows c.in_default-put_expr.ensures.grows
+
+pub returns-clause-grows : goal.returns-clause-grows
+returns-clause-grows c =
+    extends-trans c.in-Ok.ensures.grows (extends-trans c.in-Ok-put_expr.ensures.grows c.settle.ensures.grows)
