@@ -159,7 +159,8 @@ fn write_two(n: u32, k: u32, out: &mut ByteList) -> Result<(), Memory>
 fn write_operands(op: Op, out: &mut ByteList) -> Result<(), Memory>
     requires { FitsOp op }
     ensures ok { OnOk result (out.new ≡ out.old ++ flat_map operand_bytes (operands op)) }
-    ensures part { OnErr result (AppendsPart out.old out.new (flat_map operand_bytes (operands op))) }
+    ensures part { OnErr result (
+        AppendsPart out.old out.new (flat_map operand_bytes (operands op))) }
 {
     match op {
         Op::Mark { line } => write_u64(line, out),
