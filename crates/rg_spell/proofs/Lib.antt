@@ -3,3 +3,4 @@ pub mod Readers
 pub mod TypeReaders
 pub mod OpReaders
 pub mod Loops
+mod Writers

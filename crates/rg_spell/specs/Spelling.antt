@@ -258,3 +258,12 @@ row_bytes r = op_bytes r.0 ++ map_bytes (is_mark (Some r.0)) r.1
 
 abbrev pub FitsRow : Op × List Ty → Type 0
 FitsRow r = FitsOp r.0 × FitsMap (is_mark (Some r.0)) r.1
+
+-- Where no memory is found
+
+-- a prefix of these bytes came behind the old ones, which stay
+pub record AppendsPart (old new bytes : List ℕ) : Type 0 where
+  pub part : List ℕ
+  pub rest : List ℕ
+  pub bytes_are : bytes ≡ part ++ rest
+  pub new_is : new ≡ old ++ part

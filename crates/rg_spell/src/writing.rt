@@ -1,6 +1,6 @@
 //! Parts of a module, each appended as its bytes (docs/architecture.md, "Modules").
 
-ghost use Rattle.std.specs.Prelude.{◌≡◌, ◌<◌, ◌^◌, ◌∷◌, [], ◌++◌, length, OnOk};
+ghost use Rattle.std.specs.Prelude.{◌≡◌, ◌<◌, ◌^◌, ◌∷◌, [], ◌++◌, length, OnOk, OnErr};
 ghost use Rattle.std.specs.List.{flat_map};
 ghost use Rattle.std.specs.Int.{w32, w64, to_be_bytes};
 ghost use Rattle.rg_code.specs.Places as places;
@@ -9,7 +9,7 @@ ghost use Rattle.rg_spell.specs.Spelling.{counted, Counted, ty_bytes, FitsTy, me
 ghost use Rattle.rg_spell.specs.Spelling.{shape_bytes, FitsShape, result_bytes, head_bytes};
 ghost use Rattle.rg_spell.specs.Spelling.{FitsHead, operands, operand_bytes, op_bytes, FitsOp};
 ghost use Rattle.rg_spell.specs.Spelling.{map_bytes, FitsMap};
-ghost use Rattle.rg_spell.specs.Spelling.{row_bytes, FitsRow};
+ghost use Rattle.rg_spell.specs.Spelling.{row_bytes, FitsRow, AppendsPart};
 
 use crate::numbers::{bool_number, cap_number, manager_number, op_number};
 use crate::ops::is_mark;
@@ -19,28 +19,32 @@ use rg_code::Op;
 
 /// Appends a number of four bytes.
 pub fn write_u32(n: u32, out: &mut ByteList) -> Result<(), Memory>
-    ensures { OnOk result (out.new ≡ out.old ++ four n) }
+    ensures ok { OnOk result (out.new ≡ out.old ++ four n) }
+    ensures err { OnErr result (out.new ≡ out.old) }
 {
     out.extend(&n.to_be_bytes())
 }
 
 // Appends a number of eight bytes.
 fn write_u64(n: u64, out: &mut ByteList) -> Result<(), Memory>
-    ensures { OnOk result (out.new ≡ out.old ++ eight n) }
+    ensures ok { OnOk result (out.new ≡ out.old ++ eight n) }
+    ensures err { OnErr result (out.new ≡ out.old) }
 {
     out.extend(&n.to_be_bytes())
 }
 
 // Appends a number with a sign.
 fn write_i64(z: i64, out: &mut ByteList) -> Result<(), Memory>
-    ensures { OnOk result (out.new ≡ out.old ++ signed z) }
+    ensures ok { OnOk result (out.new ≡ out.old ++ signed z) }
+    ensures err { OnErr result (out.new ≡ out.old) }
 {
     out.extend(&z.to_be_bytes())
 }
 
 // Appends a type.
 fn write_type(ty: Ty, out: &mut ByteList) -> Result<(), Memory>
-    ensures { OnOk result (out.new ≡ out.old ++ ty_bytes ty) }
+    ensures ok { OnOk result (out.new ≡ out.old ++ ty_bytes ty) }
+    ensures part { OnErr result (AppendsPart out.old out.new (ty_bytes ty)) }
 {
     match ty {
         Ty::Int => out.push(0),
@@ -55,7 +59,8 @@ fn write_type(ty: Ty, out: &mut ByteList) -> Result<(), Memory>
 // Appends a count of types, and the types.
 fn write_types(types: &[Ty], out: &mut ByteList) -> Result<(), Memory>
     requires { length types.now < 2 ^ 32 }
-    ensures { OnOk result (out.new ≡ out.old ++ counted ty_bytes types.now) }
+    ensures ok { OnOk result (out.new ≡ out.old ++ counted ty_bytes types.now) }
+    ensures part { OnErr result (AppendsPart out.old out.new (counted ty_bytes types.now)) }
 {
     write_u32(types.len() as u32, out)?;
     for ty in types {
@@ -67,7 +72,8 @@ fn write_types(types: &[Ty], out: &mut ByteList) -> Result<(), Memory>
 // Appends a class.
 fn write_shape(shape: &Shape, out: &mut ByteList) -> Result<(), Memory>
     requires { FitsShape shape.now }
-    ensures { OnOk result (out.new ≡ out.old ++ shape_bytes shape.now) }
+    ensures ok { OnOk result (out.new ≡ out.old ++ shape_bytes shape.now) }
+    ensures part { OnErr result (AppendsPart out.old out.new (shape_bytes shape.now)) }
 {
     out.push(bool_number(shape.is_tmp))?;
     if let Some(element) = shape.element {
@@ -83,7 +89,8 @@ fn write_shape(shape: &Shape, out: &mut ByteList) -> Result<(), Memory>
 /// Appends a count of classes, and the classes.
 pub fn write_shapes(shapes: &[Shape], out: &mut ByteList) -> Result<(), Memory>
     requires { Counted FitsShape shapes.now }
-    ensures { OnOk result (out.new ≡ out.old ++ counted shape_bytes shapes.now) }
+    ensures ok { OnOk result (out.new ≡ out.old ++ counted shape_bytes shapes.now) }
+    ensures part { OnErr result (AppendsPart out.old out.new (counted shape_bytes shapes.now)) }
 {
     write_u32(shapes.len() as u32, out)?;
     for shape in shapes {
@@ -94,7 +101,8 @@ pub fn write_shapes(shapes: &[Shape], out: &mut ByteList) -> Result<(), Memory>
 
 // Appends the result of a method.
 fn write_result(answer: Option<Ty>, out: &mut ByteList) -> Result<(), Memory>
-    ensures { OnOk result (out.new ≡ out.old ++ result_bytes answer) }
+    ensures ok { OnOk result (out.new ≡ out.old ++ result_bytes answer) }
+    ensures part { OnErr result (AppendsPart out.old out.new (result_bytes answer)) }
 {
     let Some(ty) = answer else {
         return out.push(0);
@@ -106,7 +114,8 @@ fn write_result(answer: Option<Ty>, out: &mut ByteList) -> Result<(), Memory>
 // Appends the head of a method.
 fn write_head(head: &Head, out: &mut ByteList) -> Result<(), Memory>
     requires { FitsHead head.now }
-    ensures { OnOk result (out.new ≡ out.old ++ head_bytes head.now) }
+    ensures ok { OnOk result (out.new ≡ out.old ++ head_bytes head.now) }
+    ensures part { OnErr result (AppendsPart out.old out.new (head_bytes head.now)) }
 {
     write_u32(head.class, out)?;
     out.push(cap_number(head.cap))?;
@@ -118,7 +127,8 @@ fn write_head(head: &Head, out: &mut ByteList) -> Result<(), Memory>
 /// Appends a count of heads, and the heads.
 pub fn write_heads(heads: &[Head], out: &mut ByteList) -> Result<(), Memory>
     requires { Counted FitsHead heads.now }
-    ensures { OnOk result (out.new ≡ out.old ++ counted head_bytes heads.now) }
+    ensures ok { OnOk result (out.new ≡ out.old ++ counted head_bytes heads.now) }
+    ensures part { OnErr result (AppendsPart out.old out.new (counted head_bytes heads.now)) }
 {
     write_u32(heads.len() as u32, out)?;
     for head in heads {
@@ -129,14 +139,16 @@ pub fn write_heads(heads: &[Head], out: &mut ByteList) -> Result<(), Memory>
 
 /// Appends a manager.
 pub fn write_manager(manager: Manager, out: &mut ByteList) -> Result<(), Memory>
-    ensures { OnOk result (out.new ≡ out.old ++ manager_number manager ∷ []) }
+    ensures ok { OnOk result (out.new ≡ out.old ++ manager_number manager ∷ []) }
+    ensures err { OnErr result (out.new ≡ out.old) }
 {
     out.push(manager_number(manager))
 }
 
 // Appends two numbers.
 fn write_two(n: u32, k: u32, out: &mut ByteList) -> Result<(), Memory>
-    ensures { OnOk result (out.new ≡ out.old ++ four n ++ four k) }
+    ensures ok { OnOk result (out.new ≡ out.old ++ four n ++ four k) }
+    ensures part { OnErr result (AppendsPart out.old out.new (four n ++ four k)) }
 {
     write_u32(n, out)?;
     write_u32(k, out)?;
@@ -146,7 +158,9 @@ fn write_two(n: u32, k: u32, out: &mut ByteList) -> Result<(), Memory>
 // Appends what stands behind the number of an instruction.
 fn write_operands(op: Op, out: &mut ByteList) -> Result<(), Memory>
     requires { FitsOp op }
-    ensures { OnOk result (out.new ≡ out.old ++ flat_map operand_bytes (operands op)) }
+    ensures ok { OnOk result (out.new ≡ out.old ++ flat_map operand_bytes (operands op)) }
+    ensures part { OnErr result (
+        AppendsPart out.old out.new (flat_map operand_bytes (operands op))) }
 {
     match op {
         Op::Mark { line } => write_u64(line, out),
@@ -189,7 +203,8 @@ fn write_operands(op: Op, out: &mut ByteList) -> Result<(), Memory>
 // Appends the map behind an instruction.
 fn write_map(mark: bool, map: &[Ty], out: &mut ByteList) -> Result<(), Memory>
     requires { FitsMap mark map.now }
-    ensures { OnOk result (out.new ≡ out.old ++ map_bytes mark map.now) }
+    ensures ok { OnOk result (out.new ≡ out.old ++ map_bytes mark map.now) }
+    ensures part { OnErr result (AppendsPart out.old out.new (map_bytes mark map.now)) }
 {
     if !mark {
         return Ok(());
@@ -201,7 +216,8 @@ fn write_map(mark: bool, map: &[Ty], out: &mut ByteList) -> Result<(), Memory>
 /// Appends an instruction and its map.
 pub fn write_row(op: Op, map: &[Ty], out: &mut ByteList) -> Result<(), Memory>
     requires { FitsRow (op, map.now) }
-    ensures { OnOk result (out.new ≡ out.old ++ row_bytes (op, map.now)) }
+    ensures ok { OnOk result (out.new ≡ out.old ++ row_bytes (op, map.now)) }
+    ensures part { OnErr result (AppendsPart out.old out.new (row_bytes (op, map.now))) }
 {
     out.push(op_number(op))?;
     write_operands(op, out)?;

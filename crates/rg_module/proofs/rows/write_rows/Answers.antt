@@ -11,13 +11,13 @@ pub write_row-requires : goal.write_row-requires
 write_row-requires c = row-fits c.args.«module».now c.loop-at.at _ _ c.requires c.op_at.ensures c.map_at.ensures
 
 pub loop-at-init : goal.loop-at-init
-loop-at-init c = rows-start c.args.«module».now c.args.out.now _ _ c.requires.maps c.op_count-count.ensures c.in_ok-write_u32.ensures
+loop-at-init c = rows-start c.args.«module».now c.args.out.now _ _ c.requires.maps c.op_count-count.ensures c.in_ok-write_u32.ensures.ok
 
 pub loop-at-preserved : goal.loop-at-preserved
 loop-at-preserved c =
     let m = c.args.«module».now in
     row-written m (c.args.out.now ++ four (length (rows_of m))) c.loop-at.out _ c.loop-at.at _ _ c.op_at.ensures c.map_at.ensures c.loop-at.invariant
-    c.in_ok-write_row.ensures
+    c.in_ok-write_row.ensures.ok
 
 pub returns : goal.returns
 returns c = rows-end c.args.«module».now c.args.out.now c.loop-at.out c.loop-at.at c.requires.maps (omega arith) c.loop-at.invariant
