@@ -23,10 +23,11 @@ fn turns(alloc: Global) -> Option<Listed> {
     Some(pacer)
 }
 
-/// Whether every_second.rg ends well and prints what it should with this pacer for traced regions,
-/// in so many collections; None where no memory was found.
+/// Whether every_second.rg ends well and prints what it should with these pacers, in so many
+/// collections; None where no memory was found.
 fn prints_in(
     rt: &(impl Files + AllocGlobal),
+    count: &mut dyn Pacer,
     trace: &mut dyn Pacer,
     collections: u64,
 ) -> Option<bool> {
@@ -38,7 +39,7 @@ fn prints_in(
         &["run", "every_second.rg"],
         &mut files,
         &mut streams,
-        &mut Never::new(),
+        count,
         trace,
         &mut machine,
     );
@@ -49,10 +50,11 @@ fn prints_in(
 
 /// With a list of 1,000 answers by turns the region is collected at each yes, and by the program.
 pub fn by_a_list(rt: &(impl Files + AllocGlobal)) -> Option<bool> {
-    prints_in(rt, &mut turns(rt.alloc())?, 501)
+    let mut trace = turns(rt.alloc())?;
+    prints_in(rt, &mut Never::new(), &mut trace, 501)
 }
 
 /// Without a yes it is collected by the program alone.
 pub fn never(rt: &(impl Files + AllocGlobal)) -> Option<bool> {
-    prints_in(rt, &mut Never::new(), 1)
+    prints_in(rt, &mut Never::new(), &mut Never::new(), 1)
 }
