@@ -1,0 +1,100 @@
+//! What a run has made of regions and windows, step by step (docs/embedding.md, "Step by step").
+
+use rg_base::{Manager, Memory};
+use rg_code::{CodeList, Op};
+use rg_step::Stepper;
+use std::alloc::Global;
+
+/// A region that was made: its manager, and the serial of its bridge.
+#[derive(Clone, Copy)]
+pub struct Made {
+    pub manager: Manager,
+    pub bridge: u64,
+}
+
+/// A window that is open: its number, and its region.
+#[derive(Clone, Copy)]
+pub struct Open {
+    pub number: u64,
+    pub region: u64,
+}
+
+/// The regions that were made by `new iso`, region 1 first, and the windows that are open, from the
+/// bottom.
+#[derive(Drop)]
+pub struct Followed {
+    pub made: Vec<Made>,
+    pub open: Vec<Open>,
+}
+
+/// The line of the step that begins at an address; 0 where none does.
+pub fn line_at(code: &CodeList, at: usize) -> u64 {
+    if at < code.len() {
+        if let Op::Mark { line } = code.get(at) {
+            return line;
+        }
+    }
+    0
+}
+
+/// The manager of the region that the step at an address makes, if it makes one.
+pub fn manager_made(code: &CodeList, at: usize) -> Option<Manager> {
+    for k in at..code.len() {
+        let op = code.get(k);
+        if let Op::NewIso { manager, .. } = op {
+            return Some(manager);
+        }
+        if let Op::Mark { .. } = op {
+            if k > at {
+                return None;
+            }
+        }
+    }
+    None
+}
+
+impl Followed {
+    /// A program has begun.
+    pub fn new(alloc: Global) -> Followed {
+        Followed {
+            made: Vec::new(alloc),
+            open: Vec::new(alloc),
+        }
+    }
+
+    /// Follows a step, which may have made a region of this manager, with that bridge.
+    pub fn follow(
+        &mut self,
+        stepper: &Stepper,
+        manager: Option<Manager>,
+        bridge: u64,
+    ) -> Result<(), Memory> {
+        if let Some(manager) = manager {
+            if stepper.numbers().made > bridge {
+                if self.made.push(Made { manager, bridge }).is_err() {
+                    return Err(Memory);
+                }
+            }
+        }
+        let Some(frames) = stepper.frames() else {
+            return Ok(());
+        };
+        let Some(active) = stepper.active() else {
+            return Ok(());
+        };
+        let Some(top) = frames.top_window() else {
+            return Ok(());
+        };
+        self.open.truncate(frames.open_count());
+        if self.open.len() < frames.open_count() {
+            let open = Open {
+                number: top.number,
+                region: active.region,
+            };
+            if self.open.push(open).is_err() {
+                return Err(Memory);
+            }
+        }
+        Ok(())
+    }
+}

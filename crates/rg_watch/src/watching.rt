@@ -1,0 +1,96 @@
+//! The loop of the steps (docs/embedding.md, "Step by step").
+
+ghost use Rattle.std.specs.Prelude.{◌≡◌};
+ghost use Rattle.rg_tree.specs.Rows.RowTrees.{program_of};
+ghost use Rattle.rg_code.specs.Lowering.{Lowers};
+ghost use Rattle.rg_input.specs.Numbers.{Follows};
+ghost use Rattle.rg_watch.specs.Goes.{goes_on};
+
+use crate::following::{Followed, line_at, manager_made};
+use crate::showing::tell_heap;
+use rg_base::{EndNumbers, Outcome, Val};
+use rg_check::Accepted;
+use rg_code::CodeList;
+use rg_input::Numbers;
+use rg_io::Source;
+use rg_pace::Pacer;
+use rg_step::Stepper;
+use std::io;
+
+/// Whether the program goes on behind a step.
+fn goes_on(outcome: Outcome) -> bool
+    ensures { result ≡ goes_on outcome }
+{
+    match outcome {
+        Outcome::Running | Outcome::Printed(_) => true,
+        Outcome::Done | Outcome::Trap { .. } | Outcome::InputFault | Outcome::Memory => false,
+    }
+}
+
+/// Tells a value that a step printed, or how it ended.
+fn tell_outcome(rt: &impl Print, outcome: Outcome) -> io::Result<()> {
+    match outcome {
+        Outcome::Running => Ok(()),
+        Outcome::Printed(Val::Int(n)) => println!(rt; "prints {n}"),
+        Outcome::Printed(Val::Bool(b)) => println!(rt; "prints {b}"),
+        Outcome::Printed(Val::Nil | Val::Obj(_)) => Ok(()),
+        Outcome::Done => println!(rt; "done"),
+        Outcome::Trap { line, .. } => println!(rt; "trap at line {line}"),
+        Outcome::InputFault => println!(rt; "input fault"),
+        Outcome::Memory => println!(rt; "out of memory"),
+    }
+}
+
+/// Tells, behind a word, the number of a step, a line, and the numbers of the heap behind it.
+fn tell_numbers(rt: &impl Print, word: &str, n: EndNumbers, line: u64) -> io::Result<()> {
+    let (steps, held, frozen, regions) = (n.steps, n.held, n.frozen, n.regions);
+    let collections = n.collections;
+    println!(rt;
+        "{word} {steps} line {line} held {held} frozen {frozen} regions {regions} collections {collections}"
+    )
+}
+
+/// Makes at most so many steps of an accepted program, and tells each so-manieth, and then what is
+/// held.
+pub fn watch<S: Source>(
+    rt: &(impl Print + AllocGlobal),
+    accepted: &Accepted,
+    code: &CodeList,
+    steps: u64,
+    every: u64,
+    input: &mut Numbers,
+    source: &mut S,
+    count: &mut dyn Pacer,
+    trace: &mut dyn Pacer,
+) -> io::Result<()>
+    requires lowers { Lowers (program_of accepted.now.program) code.now }
+    requires follows { Follows input.old (S.left source.old) }
+{
+    let program = accepted.program();
+    let manager = program.main_manager();
+    let mut followed = Followed::new(rt.alloc());
+    let mut stepper = Stepper::new(rt.alloc());
+    let Ok(()) = stepper.begin(rt.alloc(), code, manager) else {
+        return println!(rt; "out of memory");
+    };
+    'steps: for _ in 0..steps {
+        let at = stepper.at();
+        let before = stepper.numbers();
+        let outcome = stepper.step(code, input, source, count, trace);
+        let made_region = manager_made(code, at);
+        let Ok(()) = followed.follow(&stepper, made_region, before.made) else {
+            return println!(rt; "out of memory");
+        };
+        let behind = stepper.numbers();
+        if every > 0 && behind.steps > before.steps && behind.steps % every == 0 {
+            tell_numbers(rt, "step", behind, line_at(code, at))?;
+        }
+        tell_outcome(rt, outcome)?;
+        let on = goes_on(outcome);
+        if !on {
+            break 'steps;
+        }
+    }
+    tell_numbers(rt, "stands", stepper.numbers(), line_at(code, stepper.at()))?;
+    tell_heap(rt, &stepper, &followed, manager)
+}
