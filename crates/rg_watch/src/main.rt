@@ -1,6 +1,6 @@
 //! Makes so many steps of a program, tells each so-manieth with its line, and then the regions and
-//! the objects that are held (docs/embedding.md, "Step by step"). The words are the file, the steps,
-//! and how often one is told, 0 for never.
+//! the objects that are held (docs/embedding.md, "Step by step"). The words are the file, the
+//! steps, and how often one is told, 0 for never.
 #![tactic(auto)]
 
 mod following;

@@ -42,11 +42,11 @@ fn tell_outcome(rt: &impl Print, outcome: Outcome) -> io::Result<()> {
 }
 
 /// Tells, behind a word, the number of a step, a line, and the numbers of the heap behind it.
-fn tell_numbers(rt: &impl Print, word: &str, n: EndNumbers, line: u64) -> io::Result<()> {
-    let (steps, held, frozen, regions) = (n.steps, n.held, n.frozen, n.regions);
-    let collections = n.collections;
+fn tell_numbers(rt: &impl Print, word: &str, n: EndNumbers, at: u64) -> io::Result<()> {
+    let (steps, held, frozen) = (n.steps, n.held, n.frozen);
+    let (regions, told) = (n.regions, n.collections);
     println!(rt;
-        "{word} {steps} line {line} held {held} frozen {frozen} regions {regions} collections {collections}"
+        "{word} {steps} line {at} held {held} frozen {frozen} regions {regions} collections {told}"
     )
 }
 
