@@ -103,6 +103,29 @@ expect 'compare: a trap' 0 'managers *  3*all wrote the same' '' "$compare trap.
 expect 'compare: a program that never ends' 0 'managers *  4*all wrote the same' '' "$compare endless.rg"
 expect 'compare: no program' 1 '' 'compare: missing: No such file or directory' "REGGIO=missing $compare seven.rg"
 
+heap=$here/tools/heap
+export REGGIO_WATCH=${REGGIO_WATCH:-$here/crates/rg_watch/out/rg_watch}
+if [ -x "$REGGIO_WATCH" ]; then
+  expect 'heap: no file' 2 '' 'usage: tools/heap *' "$heap"
+  expect 'heap: no steps' 2 '' 'usage: tools/heap *' "$heap seven.rg"
+  expect 'heap: an option that is none' 2 '' 'usage: tools/heap *' "$heap seven.rg 1 --what"
+  expect 'heap: steps that are no number' 2 '' 'heap: 1x is no number*' "$heap seven.rg 1x"
+  expect 'heap: a missing file' 1 '' 'heap: missing: No such file or directory' "$heap missing 1"
+  expect 'heap: a folder' 1 '' 'heap: folder: Is a directory' "$heap folder 1"
+  expect 'heap: an empty file' 1 '' 'heap: empty.rg: not accepted' "$heap empty.rg 1"
+  expect 'heap: more than 1 MiB' 1 '' 'heap: long.rg: not accepted' "$heap long.rg 1"
+  expect 'heap: noise' 1 '' 'heap: noise.rg: not accepted' "$heap noise.rg --time"
+  expect 'heap: a name that is no UTF-8' 0 '<svg*no object*</svg>' '' "cp seven.rg \$'\\xff.rg'; LC_ALL=C PYTHONUTF8=0 $heap \$'\\xff.rg' 1"
+  expect 'heap: no step' 0 '<svg*region 0, arena*</svg>' '' "$heap seven.rg 0"
+  expect 'heap: a trap, as DOT' 0 'digraph*0 A*' '' "$heap trap.rg 9 --dot"
+  expect 'heap: over time, a trap' 0 '<svg*trap at line 4*</svg>' '' "$heap trap.rg --time"
+  expect 'heap: a program that never ends' 0 '<svg*held*</svg>' '' "$heap endless.rg --time"
+  expect 'heap: a missing input' 1 '' 'heap: missing: No such file or directory' "$heap seven.rg 1 --input missing"
+  expect 'heap: no program' 127 '' "heap: missing isn't built*" "REGGIO_WATCH=missing $heap seven.rg 1"
+else
+  echo "left out: heap ($REGGIO_WATCH isn't built)"
+fi
+
 # A copy of what stands here, without a program.
 mkdir copy && (cd "$here" && tar cf - --exclude=./bin --exclude=./.git --exclude=out .) | tar xf - -C copy
 expect 'explain: no program and no rt' 127 '' "*isn't on the PATH*" "unset REGGIO; PATH=/usr/bin:/bin copy/tools/explain fault.rg"
