@@ -25,6 +25,7 @@ for name in "$@"; do
     echo "crates/$name/more-edits has no edit" >&2
     exit 2
   fi
+  mkdir -p "crates/$name/must-fail"
   rm -f "crates/$name/must-fail"/*.edit
   mv "crates/$name/more-edits"/*.edit "crates/$name/must-fail/"
 done
