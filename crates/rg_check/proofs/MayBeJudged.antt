@@ -9,8 +9,8 @@ use Rattle.rg_rules.specs.Answers.{test, at_line}
 use Rattle.rg_rules.specs.Types.{good_type}
 use Rattle.rg_rules.specs.Headers.{among, method_header, member_headers, judge_headers}
 use Rattle.rg_rules.specs.Names.{HasFewNames}
-use Rattle.rg_rules.proofs.AnswersLemmas.{then-ok, at_line-ok}
-use Rattle.rg_rules.proofs.HeaderLemmas.{good_type-type_of, method_header-parts, member_headers-parts, judge_headers-members}
+use Rattle.rg_rules.proofs.Answers.{then-ok, at_line-ok}
+use Rattle.rg_rules.proofs.Header.{good_type-type_of, method_header-parts, member_headers-parts, judge_headers-members}
 use Rattle.rg_check.specs.Inner.Methods.{IsGood, MayBeJudged, MemberMayBeJudged}
 use Rattle.rg_check.proofs.Outcomes.{IfSome-by}
 

@@ -15,7 +15,7 @@ use Rattle.rg_tree.specs.Rows.RowsExist.{IsParamIn}
 use Rattle.rg_rules.specs.Types.{type_of, good_type}
 use Rattle.rg_rules.specs.Environment.{empty, with_variable, ready}
 use Rattle.rg_rules.specs.Bodies.{with_params, method_env}
-use Rattle.rg_rules.proofs.HeaderLemmas.{good_type-type_of}
+use Rattle.rg_rules.proofs.Header.{good_type-type_of}
 use Rattle.rg_names.specs.TreeAnswers.{IsKnown}
 use Rattle.rg_flow.specs.Scope.{Scope, Slot, no_variables, pushed, env_of, IsSlotIn, IsScopeIn}
 use Rattle.rg_check.specs.declared.method.MethodRow.{MethodRow}

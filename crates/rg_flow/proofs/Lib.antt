@@ -1,8 +1,8 @@
 -- The lemmas that the answers of rg_flow use; none is for crates above.
-mod SetLemmas
+mod Set
 mod NameTests
-mod PlaceLemmas
-mod FlowLemmas
+mod Place
+mod Flow
 mod FlowSteps
-mod EnvLemmas
-mod ScopeLemmas
+mod Env
+mod Scope

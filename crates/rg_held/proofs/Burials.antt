@@ -16,12 +16,12 @@ use Rattle.rg_base.specs.declared.value.Val.{Val}
 use Rattle.rg_base.specs.declared.value.Val.TheVariants as val
 use Rattle.rg_base.proofs.Callers.Lists.{there as below-get}
 use Rattle.rg_rules.specs.Regions.{region_of, region_at, in_regions}
-use Rattle.rg_sound.proofs.Stores.MemberLemmas.{In, among-in, in-among}
+use Rattle.rg_sound.proofs.Stores.Member.{In, among-in, in-among}
 use Rattle.rg_stack.specs.Machine.{Frame, Window, Machine}
 use Rattle.rg_stack.specs.Effects.{beneath_by_labels}
 use Rattle.rg_stack.specs.Labels.{is_open, has_window, label_of, lies_in, is_into, is_outside}
 use Rattle.rg_stack.proofs.Basics.{none-some, and-left, and-right, or-left}
-use Rattle.rg_stack.proofs.Needs.LeadLemmas.{region-label}
+use Rattle.rg_stack.proofs.Needs.Lead.{region-label}
 use Rattle.rg_held.specs.Frees.{is_temp, buried, bury}
 use Rattle.rg_held.specs.Gone.{gone}
 use Rattle.rg_held.specs.Part.{leads_to, AllLead, SlotInto, FieldInto, Placed, Part, is_of, OwnerHeld, OwnersHeld}

@@ -1,10 +1,10 @@
 -- What callers cite: what an instruction needs, steps and runs, the opening, what is forgotten, what frees nothing, and what a step
 -- frees, and that what is gone stays so.
-pub mod NeedLemmas
-pub mod ForgetLemmas
-pub mod PlainLemmas
-pub mod OpeningLemmas
-pub mod StepLemmas
-pub mod RunLemmas
-pub mod FreedLemmas
-pub mod GoneLemmas
+pub mod Need
+pub mod Forget
+pub mod Plain
+pub mod Opening
+pub mod Step
+pub mod Run
+pub mod Freed
+pub mod Gone

@@ -13,7 +13,7 @@ use Rattle.rg_base.specs.declared.outcome.Trap.TheVariants as trap
 use Rattle.rg_base.specs.declared.value.Val.{Val}
 use Rattle.rg_base.specs.declared.value.Val.TheVariants as val
 use Rattle.rg_rules.specs.Regions.{region_of, region_at, among, in_regions, relabelled}
-use Rattle.rg_sound.proofs.Stores.MemberLemmas.{In, among-in, in-among, not-among, among-not}
+use Rattle.rg_sound.proofs.Stores.Member.{In, among-in, in-among, not-among, among-not}
 use Rattle.rg_code.specs.declared.op.Op.TheVariants as i
 use Rattle.rg_code.specs.Code.{Code}
 use Rattle.rg_stack.specs.Machine.{Machine, slot_at, put_slot}
@@ -31,7 +31,7 @@ use Rattle.rg_held.proofs.Places.{label-there, region-into, closed-there, label-
 use Rattle.rg_held.proofs.Links.{Link, beneath-links, beneath-first, beneath-all}
 use Rattle.rg_held.proofs.Parts.{shut-above, closed-above, part-owners}
 use Rattle.rg_held.proofs.Burials.{link-held, held-link, closed-link, link-field, region-given, same-region}
-use Rattle.rg_held.proofs.Callers.ForgetLemmas.{match-forgets}
+use Rattle.rg_held.proofs.Callers.Forget.{match-forgets}
 use Rattle.rg_held.proofs.Stack.{match-more, slot-leads, slot-same}
 use Rattle.rg_held.proofs.Slots.{part-put}
 use Rattle.rg_held.proofs.Releases.{slot-at-into, slot-and-field, two-fields}

@@ -14,7 +14,7 @@ use Rattle.rg_base.specs.declared.object.Seen.{Seen}
 use Rattle.rg_base.specs.declared.value.Val.{Val}
 use Rattle.rg_base.specs.declared.value.Val.TheVariants as val
 use Rattle.rg_rules.specs.Regions.{in_regions, relabelled_object, relabelled}
-use Rattle.rg_sound.proofs.Stores.MemberLemmas.{In, among-in}
+use Rattle.rg_sound.proofs.Stores.Member.{In, among-in}
 use Rattle.rg_stack.specs.Machine.{Window, Machine}
 use Rattle.rg_stack.specs.Labels.{is_open, label_of, is_into, is_outside}
 use Rattle.rg_stack.proofs.Basics.{none-some}

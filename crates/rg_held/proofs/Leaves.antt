@@ -14,7 +14,7 @@ use Rattle.rg_base.specs.declared.object.Seen.{Seen}
 use Rattle.rg_base.specs.declared.value.Val.{Val}
 use Rattle.rg_base.specs.declared.value.Val.TheVariants as val
 use Rattle.rg_rules.specs.Regions.{in_regions}
-use Rattle.rg_sound.proofs.Stores.MemberLemmas.{In, in-left, in-right, in-split}
+use Rattle.rg_sound.proofs.Stores.Member.{In, in-left, in-right, in-split}
 use Rattle.rg_code.specs.declared.op.Op.TheVariants as i
 use Rattle.rg_code.specs.Code.{Code}
 use Rattle.rg_stack.specs.Machine.{Frame, Window, Machine, top_slots, end_slots, place_of}
@@ -36,7 +36,7 @@ use Rattle.rg_held.proofs.Places.{closed-back, closed-there}
 use Rattle.rg_held.proofs.Parts.{closed-above, field-frames, closed-same, top-slot}
 use Rattle.rg_held.proofs.Halves.{Half, Lost, whole}
 use Rattle.rg_held.proofs.Burials.{Burial, left_held, is_buried, NotBelow, temp-label, part-bury, unburied}
-use Rattle.rg_held.proofs.Callers.ForgetLemmas.{part-remembers}
+use Rattle.rg_held.proofs.Callers.Forget.{part-remembers}
 use Rattle.rg_held.proofs.Stack.{match-more}
 use Rattle.rg_held.proofs.Slots.{end-back, part-end}
 use Rattle.rg_held.proofs.Releases.{given-in, given-back, top-into, two-slots, slot-and-field, two-fields, Ending, among-in, among-back}

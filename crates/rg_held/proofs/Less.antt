@@ -8,7 +8,7 @@ use Rattle.rg_code.specs.Code.{Code}
 use Rattle.rg_stack.specs.Effects.{Work, Walked, Stops, Returns, Traps, Stuck, Go}
 use Rattle.rg_stack.specs.Runs.{landed}
 use Rattle.rg_stack.specs.Needs.{needs}
-use Rattle.rg_stack.proofs.Walks.GivenLemmas.{Less, LessFrom, SameOrLost, act-less}
+use Rattle.rg_stack.proofs.Walks.Given.{Less, LessFrom, SameOrLost, act-less}
 use Rattle.rg_held.specs.Frees.{given_up, freed, forgotten, behind, free_walk, free_finished, free_step_from, free_step}
 use Rattle.rg_held.specs.Frees.{free_given_walk, free_given_finished, free_given_step_from, free_given_step}
 

@@ -4,10 +4,10 @@ use Rattle.std.proofs.Common.{refl, sym, subst, arith}
 use Rattle.std.specs.Prelude.{flat_map}
 use Rattle.rg_base.specs.declared.object.Seen.{Seen}
 use Rattle.rg_rules.specs.Regions.{region_at, among, joined_with}
-use Rattle.rg_sound.proofs.Stores.MemberLemmas.{In, among-in, among-not, joined-old, joined-new, joined-back, missing, counted, counted-most}
-use Rattle.rg_sound.proofs.Stores.MemberLemmas.{counted-rises}
+use Rattle.rg_sound.proofs.Stores.Member.{In, among-in, among-not, joined-old, joined-new, joined-back, missing, counted, counted-most}
+use Rattle.rg_sound.proofs.Stores.Member.{counted-rises}
 use Rattle.rg_stack.specs.Effects.{led_by_labels, beneath_by_labels}
-use Rattle.rg_stack.proofs.Judgements.LabelLemmas.{LeadsTo, labels_back, labels_in, fields_in, flat_back, flat_in}
+use Rattle.rg_stack.proofs.Judgements.Label.{LeadsTo, labels_back, labels_in, fields_in, flat_back, flat_in}
 
 -- a field of an object of the one region leads into the other
 abbrev pub Link : List Seen → ℕ → ℕ → Type 0

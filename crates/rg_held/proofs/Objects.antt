@@ -20,7 +20,7 @@ use Rattle.rg_base.proofs.Callers.Labels.{region-temp}
 use Rattle.rg_tree.proofs.TreesFrom.{slice_get-push}
 use Rattle.rg_rules.specs.Values.{is_nil_value}
 use Rattle.rg_rules.specs.Evaluation.{object_at}
-use Rattle.rg_sound.proofs.Owners.OwnerLemmas.{get-set}
+use Rattle.rg_sound.proofs.Owners.Owner.{get-set}
 use Rattle.rg_code.specs.declared.op.Op.TheVariants as i
 use Rattle.rg_code.specs.Code.{Code}
 use Rattle.rg_stack.specs.Machine.{Window, Machine, value_of_word, slot_at, put_slot}

@@ -7,7 +7,7 @@ use Rattle.std.specs.Prelude.{◌||◌, nat_lt}
 use Rattle.std.specs.List.{list_any}
 use Rattle.rg_base.specs.declared.value.Val.{Val}
 use Rattle.rg_base.specs.declared.value.Val.TheVariants as val
-use Rattle.rg_sound.proofs.Stores.MemberLemmas.{In, filter-none, filter-some}
+use Rattle.rg_sound.proofs.Stores.Member.{In, filter-none, filter-some}
 use Rattle.rg_stack.specs.Machine.{Machine, top_slots, slot_at, put_slot, end_slots}
 use Rattle.rg_stack.specs.Effects.{beneath_by_labels}
 use Rattle.rg_stack.specs.Needs.{closed_into, loose, owned_once, places_into, size_of}

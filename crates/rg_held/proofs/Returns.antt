@@ -7,7 +7,7 @@ use Rattle.std.proofs.lemmas.Map.Keys.{any_passes_from_place}
 use Rattle.std.specs.Prelude.{◌||◌, ◌&&◌, nat_lt, if◌then◌else◌}
 use Rattle.std.specs.List.{list_any}
 use Rattle.rg_base.specs.declared.value.Val.{Val}
-use Rattle.rg_sound.proofs.Stores.MemberLemmas.{In}
+use Rattle.rg_sound.proofs.Stores.Member.{In}
 use Rattle.rg_code.specs.declared.op.Op.TheVariants as i
 use Rattle.rg_code.specs.Code.{Code}
 use Rattle.rg_stack.specs.Machine.{Frame, Machine, top_slots, slot_at, put_slot, end_slots, slots_below}
@@ -22,7 +22,7 @@ use Rattle.rg_held.specs.Laws.{owners_of, GoesOn}
 use Rattle.rg_held.proofs.Lists.{off, any-at, any-left, any-right, any-split}
 use Rattle.rg_held.proofs.Places.{ClosedRef}
 use Rattle.rg_held.proofs.Parts.{field-frames, part-stack, part-frames, lead-any}
-use Rattle.rg_held.proofs.Callers.ForgetLemmas.{part-remembers}
+use Rattle.rg_held.proofs.Callers.Forget.{part-remembers}
 use Rattle.rg_held.proofs.Burials.{left_held, part-bury}
 use Rattle.rg_held.proofs.Stack.{match-more}
 use Rattle.rg_held.proofs.Releases.{Loose, loose-one, top-into, two-slots, slot-and-field, two-fields, no-place-slot, no-place-field, plain-burial}

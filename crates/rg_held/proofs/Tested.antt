@@ -6,7 +6,7 @@ use Rattle.rg_code.specs.Code.{Code}
 use Rattle.rg_stack.specs.Machine.{Machine}
 use Rattle.rg_stack.specs.Effects.{Walked, Stuck, Go}
 use Rattle.rg_stack.specs.Needs.{needs}
-use Rattle.rg_stack.proofs.Walks.GivenLemmas.{Less, LessFrom, act-less}
+use Rattle.rg_stack.proofs.Walks.Given.{Less, LessFrom, act-less}
 use Rattle.rg_held.specs.Frees.{given_up, freed, behind, free_act, free_walk, free_given_walk}
 use Rattle.rg_held.proofs.Less.{behind-less, walk-less}
 

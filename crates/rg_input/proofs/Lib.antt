@@ -1,8 +1,8 @@
--- Lemmas on blanks, tokens and what is held; InputLemmas is for crates above.
-mod AheadLemmas
-mod HeldLemmas
-pub mod InputLemmas
-mod NextLemmas
-mod NumberLemmas
-mod ReadLemmas
-mod RunLemmas
+-- Lemmas on blanks, tokens and what is held; Input is for crates above.
+mod Ahead
+mod Held
+pub mod Input
+mod Next
+mod Number
+mod Read
+mod Run

@@ -1,8 +1,8 @@
 -- Lemmas of this crate; none is for crates above.
 mod Codes
-mod SlotLemmas
-mod ClassLemmas
-mod TargetLemmas
+mod Slot
+mod Class
+mod Target
 mod BlockSteps
 mod Jumps
 mod BodySteps

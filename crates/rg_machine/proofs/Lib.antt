@@ -1,61 +1,61 @@
 -- The lemmas that the answers of rg_machine use; those with pub are open to crates above.
-mod NumberLemmas
-pub mod WordLemmas
-mod TopLemmas
-mod SlotLemmas
-mod FieldLemmas
-mod GrowLemmas
-mod MakeLemmas
-mod CallLemmas
-mod PopLemmas
-mod FindLemmas
-mod SwapLemmas
-mod TempLemmas
-mod MadeLemmas
-mod KeptLemmas
-mod KnownLemmas
-pub mod HighLemmas
-mod RefuseLemmas
-mod BeginLemmas
-mod SoleLemmas
-mod MoveLemmas
-mod FreezeLemmas
-mod MovedLemmas
-pub mod RetLemmas
-mod WindowLemmas
-mod EnterLemmas
-mod EnterFieldLemmas
-mod ReleaseLemmas
-mod DropLemmas
-mod FewerLemmas
-mod SlotEndLemmas
-mod OwnLemmas
-mod EndingLemmas
-mod TakeLemmas
-mod EmptiedLemmas
-mod LeaveLemmas
-mod LeaveListLemmas
-mod LeaveEffectLemmas
-mod LeaveFreeLemmas
-mod LeaveBehindLemmas
-mod LeaveWholeLemmas
-mod LeaveGivenLemmas
-pub mod CollectLemmas
-pub mod GatherLemmas
-mod CollectingLemmas
-pub mod ShiftLemmas
-pub mod SlidLemmas
-mod UnmovedLemmas
-mod SlidingLemmas
-pub mod PartLemmas
-mod OwnedLemmas
-pub mod ActiveLemmas
-pub mod ReachPathLemmas
-mod ReachSlotLemmas
-pub mod ReachCountLemmas
-pub mod ReachShownLemmas
-mod ReachBridgeLemmas
-pub mod ReachRootLemmas
-pub mod ReachHeldLemmas
-pub mod ReachLemmas
-pub mod SlidReachLemmas
+mod Number
+pub mod Word
+mod Top
+mod Slot
+mod Field
+mod Grow
+mod Make
+mod Call
+mod Pop
+mod Find
+mod Swap
+mod Temp
+mod Made
+mod Kept
+mod Known
+pub mod High
+mod Refuse
+mod Begin
+mod Sole
+mod Move
+mod Freeze
+mod Moved
+pub mod Ret
+mod Window
+mod Enter
+mod EnterField
+mod Release
+mod Drop
+mod Fewer
+mod SlotEnd
+mod Own
+mod Ending
+mod Take
+mod Emptied
+mod Leave
+mod LeaveList
+mod LeaveEffect
+mod LeaveFree
+mod LeaveBehind
+mod LeaveWhole
+mod LeaveGiven
+pub mod Collect
+pub mod Gather
+mod Collecting
+pub mod Shift
+pub mod Slid
+mod Unmoved
+mod Sliding
+pub mod Part
+mod Owned
+pub mod Active
+pub mod ReachPath
+mod ReachSlot
+pub mod ReachCount
+pub mod ReachShown
+mod ReachBridge
+pub mod ReachRoot
+pub mod ReachHeld
+pub mod Reach
+pub mod SlidReach

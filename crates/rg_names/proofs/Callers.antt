@@ -7,7 +7,7 @@ use Rattle.rg_tree.specs.Rows.Tables.{Tables, name_at, numbers_in}
 use Rattle.rg_tree.specs.Rows.RowTrees.{classes_of, param_at}
 use Rattle.rg_tree.proofs.Programs.{length-classes_of}
 use Rattle.rg_rules.specs.Types.{type_of, good_type}
-use Rattle.rg_rules.proofs.HeaderLemmas.{good_type-type_of, judge_headers-method, method_header-parts}
+use Rattle.rg_rules.proofs.Header.{good_type-type_of, judge_headers-method, method_header-parts}
 use Rattle.rg_names.specs.declared.entry.Sig.{Sig}
 use Rattle.rg_names.specs.Table.{Table, IsClass}
 use Rattle.rg_names.specs.TableOf.{IsTableOf}

@@ -14,7 +14,7 @@ use Rattle.rg_tree.specs.Rows.RowsExist.{EachRow, AreRows, IsClassIn}
 use Rattle.rg_tree.proofs.Programs.{member_at-row, classes_of-row}
 use Rattle.rg_rules.specs.Types.{field_member, method_member, members_of as tree_members, fields_of, methods_of, field_place, type_of}
 use Rattle.rg_rules.specs.Headers.{member_headers}
-use Rattle.rg_rules.proofs.HeaderLemmas.{judge_headers-members}
+use Rattle.rg_rules.proofs.Header.{judge_headers-members}
 use Rattle.rg_names.specs.declared.entry.FieldAt.{FieldAt}
 use Rattle.rg_names.specs.declared.entry.Sig.{Sig}
 use Rattle.rg_names.specs.Table.{Table, IsClass, field_in, method_in}

@@ -11,7 +11,7 @@ use Rattle.rg_tree.specs.Rows.RowsExist.{IsMemberIn}
 use Rattle.rg_tree.proofs.Programs.{member_at-row}
 use Rattle.rg_rules.specs.Answers.{◌>>◌, Lined, Passed}
 use Rattle.rg_rules.specs.Headers.{member_headers}
-use Rattle.rg_rules.proofs.HeaderLemmas.{member_name, member_headers-cons}
+use Rattle.rg_rules.proofs.Header.{member_name, member_headers-cons}
 use Rattle.rg_names.specs.declared.entry.Entry.{Entry}
 use Rattle.rg_names.specs.TableOf.{entry_of, fields_with, methods_with, entries_of, methods_with_all, rows_of}
 use Rattle.rg_names.specs.Judged.{FailsAs}

@@ -9,8 +9,8 @@ use Rattle.rg_rules.specs.Answers.{test, at_line}
 use Rattle.rg_rules.specs.Types.{class_named, suits_class, good_type, type_of}
 use Rattle.rg_rules.specs.Headers.{among, suits_field_type, suits_receiver, field_header, param_headers, result_header, method_header, member_headers}
 use Rattle.rg_rules.specs.Headers.{class_names, class_members, judge_headers}
-use Rattle.rg_rules.proofs.AnswersLemmas.{bind-ok, then-ok, test-ok, test-then, ok_or-ok, at_line-ok}
-use Rattle.rg_rules.proofs.HeaderLemmas.{member_headers-parts}
+use Rattle.rg_rules.proofs.Answers.{bind-ok, then-ok, test-ok, test-then, ok_or-ok, at_line-ok}
+use Rattle.rg_rules.proofs.Header.{member_headers-parts}
 use Rattle.rg_names.specs.Laws.{IsGoodType, IsGoodField, IsGoodMethod, IsGoodMember, IsGoodClass, GoodHeaders, member_name}
 use Rattle.rg_names.proofs.NewNames.{AreNew, AreNew-AreDistinct, AreDistinct-AreNew}
 

@@ -15,7 +15,7 @@ use Rattle.rg_tree.specs.Rows.RowTrees.{param_at, block_of, member_of, classes_o
 use Rattle.rg_tree.specs.Rows.RowsExist.{IsMemberIn, IsSpanBelow}
 use Rattle.rg_rules.specs.Types.{type_of, good_type, field_member, method_member}
 use Rattle.rg_rules.specs.Headers.{among, member_headers}
-use Rattle.rg_rules.proofs.HeaderLemmas.{good_type-type_of, field-good, result-good, HeadersParts, member_headers-parts}
+use Rattle.rg_rules.proofs.Header.{good_type-type_of, field-good, result-good, HeadersParts, member_headers-parts}
 use Rattle.rg_names.specs.declared.entry.FieldAt.{FieldAt}
 use Rattle.rg_names.specs.declared.entry.Sig.{Sig}
 use Rattle.rg_names.specs.declared.entry.Entry.{Entry}

@@ -16,7 +16,7 @@ use Rattle.rg_tree.specs.Rows.RowTrees.{class_of, classes_of, type_of as written
 use Rattle.rg_tree.specs.Rows.RowsExist.{EachRow, IsClassIn, IsTypeIn}
 use Rattle.rg_rules.specs.Answers.{◌>>=◌, ◌>>◌, test}
 use Rattle.rg_rules.specs.Types.{suits_class, class_named, class_number, good_type}
-use Rattle.rg_rules.proofs.HeaderLemmas.{good_type-type_of, good_type-known}
+use Rattle.rg_rules.proofs.Header.{good_type-type_of, good_type-known}
 use Rattle.rg_names.specs.Table.{Table, judge_type}
 use Rattle.rg_names.specs.TableOf.{ty_of, IsTableOf}
 use Rattle.rg_names.specs.Inner.Headings.{IsHeadsOf, AreNamed}

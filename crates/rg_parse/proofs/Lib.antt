@@ -11,7 +11,7 @@ mod PathRows
 mod ProgramRows
 mod Ranks
 mod RightRows
-mod SpanLemmas
+mod Span
 mod StmtRows
 mod StuckSources
 mod Tokens

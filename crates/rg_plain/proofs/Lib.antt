@@ -3,4 +3,4 @@ pub mod Rows
 mod Expressions
 mod Statements
 pub mod Runs
-pub mod BehindLemmas
+pub mod Behind

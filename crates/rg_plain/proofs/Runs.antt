@@ -1,6 +1,6 @@
 -- What a whole step answers, and runs of many steps.
-pub mod DispatchLemmas
-pub mod SoundLemmas
-pub mod RunLemmas
-pub mod MachineLemmas
-pub mod CountLemmas
+pub mod Dispatch
+pub mod Sound
+pub mod Run
+pub mod Machine
+pub mod Count

@@ -1,10 +1,10 @@
 -- The step of a statement, and of each form of it.
-pub mod StepLemmas
-pub mod StatementLemmas
-pub mod FieldLemmas
-pub mod MakeLemmas
-pub mod MoveLemmas
-pub mod BindLemmas
-pub mod CallLemmas
-pub mod WindowLemmas
-pub mod InputLemmas
+pub mod Step
+pub mod Statement
+pub mod Field
+pub mod Make
+pub mod Move
+pub mod Bind
+pub mod Call
+pub mod Window
+pub mod Input

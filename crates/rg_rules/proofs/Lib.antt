@@ -1,16 +1,16 @@
 -- Lemmas on the rules and on the machine that never frees; those with pub are for crates above.
-pub mod AnswersLemmas
-pub mod PathLemmas
-pub mod ExpressionLemmas
-pub mod PointLemmas
-pub mod HeaderLemmas
-pub mod AcceptanceLemmas
-pub mod UsesLemmas
-pub mod LocalLemmas
-pub mod RunLemmas
-mod ValueLemmas
-pub mod RegionLemmas
-pub mod StepLemmas
+pub mod Answers
+pub mod Path
+pub mod Expression
+pub mod Point
+pub mod Header
+pub mod Acceptance
+pub mod Uses
+pub mod Local
+pub mod Run
+mod Value
+pub mod Region
+pub mod Step
 mod Sources
 mod FaultExamples
 mod RuleExamples

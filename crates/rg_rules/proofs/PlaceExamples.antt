@@ -16,7 +16,7 @@ use Rattle.rg_rules.specs.Bodies.{main_body}
 use Rattle.rg_rules.specs.Points.{first, Point, here, behind, inside, spot_at, env_at}
 use Rattle.rg_rules.specs.Acceptance.{first_fault}
 use Rattle.rg_rules.proofs.Sources.{var, dot, use_of, to, block, field_named, class_named, program}
-use Rattle.rg_rules.proofs.PointLemmas.{advance}
+use Rattle.rg_rules.proofs.Point.{advance}
 
 -- tmp class T { p: paused A; } class A { x: iso A; n: int; }
 abbrev classes : List Class

@@ -1,16 +1,16 @@
 -- The lemmas that the answers of rg_run use; those with pub are open to crates above.
-mod HoldsLemmas
-mod ShownLemmas
-pub mod SoundLemmas
-mod OutputLemmas
-mod ReportLemmas
-pub mod RunLemmas
-mod TurnLemmas
-mod AskLemmas
-mod SinceLemmas
-mod SinceTurnLemmas
-mod StateLemmas
-mod StepLemmas
-mod NoneLemmas
-mod CollectedLemmas
-mod LoopLemmas
+mod Holds
+mod Shown
+pub mod Sound
+mod Output
+mod Report
+pub mod Run
+mod Turn
+mod Ask
+mod Since
+mod SinceTurn
+mod State
+mod Step
+mod None
+mod Collected
+mod Loop

@@ -1,11 +1,11 @@
 -- Owner references, the windows that come and go, and what moves.
-pub mod OwnerLemmas
-pub mod DataLemmas
-pub mod WindowLemmas
-pub mod LeaveFrameLemmas
-pub mod LeaveLemmas
-pub mod ReceiverLemmas
-pub mod EntranceLemmas
-pub mod EnterLemmas
-pub mod OpenLemmas
-pub mod SwapLemmas
+pub mod Owner
+pub mod Data
+pub mod Window
+pub mod LeaveFrame
+pub mod Leave
+pub mod Receiver
+pub mod Entrance
+pub mod Enter
+pub mod Open
+pub mod Swap

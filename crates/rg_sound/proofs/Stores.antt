@@ -1,14 +1,14 @@
 -- What becomes of the store: fields that are written, objects that are made, regions that are merged and frozen.
-pub mod ReplaceLemmas
-pub mod StoreLemmas
-pub mod FieldLemmas
-pub mod NewLemmas
-pub mod MakeLemmas
-pub mod MergeLabelLemmas
-pub mod MergeLemmas
-pub mod ConsumeLemmas
-pub mod MemberLemmas
-pub mod BeneathLemmas
-pub mod FrozenLabelLemmas
-pub mod FrozenLemmas
-pub mod FreezeLemmas
+pub mod Replace
+pub mod Store
+pub mod Field
+pub mod New
+pub mod Make
+pub mod MergeLabel
+pub mod Merge
+pub mod Consume
+pub mod Member
+pub mod Beneath
+pub mod FrozenLabel
+pub mod Frozen
+pub mod Freeze

@@ -1,12 +1,12 @@
 -- What expressions, arguments and right sides compute to, and the variables that take it.
-pub mod LabelLemmas
-pub mod ValueLemmas
-pub mod RightLemmas
-pub mod LocalLemmas
-pub mod AssignLemmas
-pub mod DeliverLemmas
-pub mod ReturnLemmas
-pub mod ArgumentLemmas
-pub mod CallLemmas
-pub mod LooseLemmas
-pub mod InvokeLemmas
+pub mod Label
+pub mod Value
+pub mod Right
+pub mod Local
+pub mod Assign
+pub mod Deliver
+pub mod Return
+pub mod Argument
+pub mod Call
+pub mod Loose
+pub mod Invoke

@@ -1,8 +1,8 @@
 -- What callers cite: the laws, and what is calm and orderly.
-pub mod OrderLemmas
-pub mod StepLemmas
-pub mod OpeningLemmas
-pub mod RunLemmas
-pub mod RefusalLemmas
-pub mod ReadLemmas
-pub mod DueLemmas
+pub mod Order
+pub mod Step
+pub mod Opening
+pub mod Run
+pub mod Refusal
+pub mod Read
+pub mod Due

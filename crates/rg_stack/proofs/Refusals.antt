@@ -1,7 +1,7 @@
 -- The order of instructions in a step.
-pub mod OrderLemmas
-pub mod KindLemmas
-pub mod BehindLemmas
-pub mod PlainLemmas
-pub mod ReadLemmas
-pub mod DueLemmas
+pub mod Order
+pub mod Kind
+pub mod Behind
+pub mod Plain
+pub mod Read
+pub mod Due

@@ -1,9 +1,9 @@
 -- What each kind of statement does, in the code and in the meaning. For crates above too.
-pub mod RightLemmas
-pub mod AssignLemmas
-pub mod BlockLemmas
-pub mod ReturnLemmas
-pub mod WindowLemmas
-pub mod CallLemmas
-pub mod CalledLemmas
-pub mod BaseLemmas
+pub mod Right
+pub mod Assign
+pub mod Block
+pub mod Return
+pub mod Window
+pub mod Call
+pub mod Called
+pub mod Base

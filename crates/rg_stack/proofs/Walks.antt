@@ -1,11 +1,11 @@
 -- Walks along code, given what instructions need or not. For crates above too.
-pub mod WalkLemmas
-pub mod MarkLemmas
-pub mod SlotLemmas
-pub mod PlaceLemmas
-pub mod EntryLemmas
-pub mod ArgumentLemmas
-pub mod NeedLemmas
-pub mod EndLemmas
-pub mod GivenLemmas
-pub mod FrameLemmas
+pub mod Walk
+pub mod Mark
+pub mod Slot
+pub mod Place
+pub mod Entry
+pub mod Argument
+pub mod Need
+pub mod End
+pub mod Given
+pub mod Frame

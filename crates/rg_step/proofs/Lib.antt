@@ -1,34 +1,34 @@
 -- The lemmas that the answers of rg_step use; those with pub are open to crates above.
-mod TurnLemmas
-mod WalkLemmas
-mod ClearLemmas
-mod StandsLemmas
-mod HighLemmas
-mod LeavesLemmas
-mod RunLemmas
-mod AskLemmas
-mod StepLemmas
-mod ShapeLemmas
-mod UndueLemmas
-mod CallShapeLemmas
-mod FreesLemmas
-mod LeapLemmas
-mod LeapingLemmas
-mod PassLemmas
-mod ShapeNeedLemmas
-mod FieldLemmas
-mod WordLemmas
-mod HeldLemmas
-mod OutcomeLemmas
-pub mod ServeLemmas
-mod WriteLemmas
-pub mod ReachedLemmas
-mod SlidesLemmas
-pub mod ActiveLemmas
-mod YesLemmas
-mod PacedLemmas
-mod AskedLemmas
-mod SinceLemmas
-mod OneLemmas
-pub mod ChainLemmas
-pub mod ToldLemmas
+mod Turn
+mod Walk
+mod Clear
+mod Stands
+mod High
+mod Leaves
+mod Run
+mod Ask
+mod Step
+mod Shape
+mod Undue
+mod CallShape
+mod Frees
+mod Leap
+mod Leaping
+mod Pass
+mod ShapeNeed
+mod Field
+mod Word
+mod Held
+mod Outcome
+pub mod Serve
+mod Write
+pub mod Reached
+mod Slides
+pub mod Active
+mod Yes
+mod Paced
+mod Asked
+mod Since
+mod One
+pub mod Chain
+pub mod Told

@@ -1,3 +1,3 @@
 -- For crates above: labels, and writes to objects.
-pub mod LabelLemmas
-pub mod WriteLemmas
+pub mod Label
+pub mod Write

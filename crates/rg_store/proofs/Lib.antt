@@ -1,10 +1,10 @@
 -- Lemmas on the store of objects; those with pub are for crates above.
 pub mod Callers
-mod ObjectLemmas
-mod OpeningLemmas
-mod AmongLemmas
-mod ListLemmas
-mod LinkedLemmas
-mod BeneathLemmas
-mod LinkLemmas
-mod RelabelLemmas
+mod Object
+mod Opening
+mod Among
+mod List
+mod Linked
+mod Beneath
+mod Link
+mod Relabel

@@ -1,11 +1,11 @@
 -- The lemmas that the answers of rg_top use; none is for crates above.
-mod NumberLemmas
-mod OptionLemmas
+mod Number
+mod Option
 mod CommandExamples
-mod MeaningLemmas
-mod SettledLemmas
-mod RanLemmas
-mod BulkLemmas
-mod NotesLemmas
-mod AskedLemmas
-mod AnswerLemmas
+mod Meaning
+mod Settled
+mod Ran
+mod Bulk
+mod Notes
+mod Asked
+mod Answer

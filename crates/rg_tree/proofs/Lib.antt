@@ -10,7 +10,7 @@ mod Texts
 mod StuckPlaces
 mod RoundTrips
 mod WholePrograms
-mod NameLemmas
+mod Name
 pub mod TreesFrom
 pub mod Grows
 pub mod Programs

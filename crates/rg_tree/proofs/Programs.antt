@@ -22,7 +22,7 @@ use Rattle.rg_tree.proofs.TreesFrom.{Begins-same, Begins-more, Begins-whole, get
 use Rattle.rg_tree.proofs.TreesFrom.{map-EachRow, map-Begins, get_or-map, length-trees_from, trees_from-at, trees_from-grows}
 use Rattle.rg_tree.proofs.Grows.{Grows, IsAbove-Grows, AgreeBelow, IsExprIn-grows, IsKindIn-grows, IsBlockIn-grows, IsParamIn-grows, IsMemberIn-grows}
 use Rattle.rg_tree.proofs.Grows.{IsClassIn-grows, expr_over-grows, stmt_over-grows, param_of-grows, member_of-grows, class_of-grows, block_of-grows}
-use Rattle.rg_tree.proofs.NameLemmas.{AreDistinct-with_name}
+use Rattle.rg_tree.proofs.Name.{AreDistinct-with_name}
 
 -- How many trees there are.
 

@@ -11,7 +11,7 @@ use Rattle.rg_rules.specs.Answers.{at_line}
 use Rattle.rg_rules.specs.Names.{block_names, else_names}
 use Rattle.rg_rules.specs.Environment.{gone, Entry, Env, closed, joined, covers}
 use Rattle.rg_rules.specs.Statements.{judge_test, judge_enter, left, judge_kind, judge_block, judge_else}
-use Rattle.rg_rules.proofs.AnswersLemmas.{at_line-ok}
+use Rattle.rg_rules.proofs.Answers.{at_line-ok}
 use Rattle.rg_flow.specs.Flows.{state_of}
 use Rattle.rg_names.specs.Judged.{FailsAs}
 use Rattle.rg_names.proofs.Fails.{FailsAs-bind}

@@ -14,8 +14,8 @@ use Rattle.rg_rules.specs.Environment.{Entry, Env, entry_of, seen_type, availabl
 use Rattle.rg_rules.specs.Paths.{walk, follow}
 use Rattle.rg_rules.specs.Expressions.{Judged, against, nil_type, judge_path, judge_is_nil, among, operand_type, result_type, judge_expr}
 use Rattle.rg_rules.specs.Rights.{Called, judge_args, judge_call, judge_new, judge_consumed, judge_right}
-use Rattle.rg_rules.proofs.AnswersLemmas.{bind-ok, then-ok, test-then}
-use Rattle.rg_rules.proofs.ExpressionLemmas.{against-ok, binary-ok}
+use Rattle.rg_rules.proofs.Answers.{bind-ok, then-ok, test-then}
+use Rattle.rg_rules.proofs.Expression.{against-ok, binary-ok}
 use Rattle.rg_type.proofs.Alike.{Grows, Grows-same, Grows-trans, Grows-marked}
 
 used-grows : (x : Variable) (e : Entry) (env : Env) → Grows 0 env (used x e env)

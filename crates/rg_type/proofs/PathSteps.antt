@@ -11,7 +11,7 @@ use Rattle.rg_rules.specs.Capabilities.{may_write, pause}
 use Rattle.rg_rules.specs.Environment.{Env}
 use Rattle.rg_rules.specs.Paths.{walk_fields, walk, look_up}
 use Rattle.rg_rules.specs.Statements.{swapped_field}
-use Rattle.rg_rules.proofs.PathLemmas.{all_but_last-append, last_field-append}
+use Rattle.rg_rules.proofs.Path.{all_but_last-append, last_field-append}
 use Rattle.rg_names.specs.TreeAnswers.{IsKnown}
 
 -- from a type some fields have led to another, and others are left

@@ -17,7 +17,7 @@ use Rattle.rg_rules.specs.Rights.{judge_call, judge_right}
 use Rattle.rg_rules.specs.Statements.{judge_declare, is_call, judge_assign, judge_call_alone, swapped_field, judge_swap, judge_test, judge_enter}
 use Rattle.rg_rules.specs.Statements.{left, judge_print, judge_return, last_of, judge_stmt, judge_kind, judge_else, judge_block}
 use Rattle.rg_rules.specs.Names.{stmt_names, kind_names, else_names, block_names}
-use Rattle.rg_rules.proofs.AnswersLemmas.{bind-ok, then-ok, test-then, at_line-ok}
+use Rattle.rg_rules.proofs.Answers.{bind-ok, then-ok, test-then, at_line-ok}
 use Rattle.rg_type.proofs.Alike.{Begin, Begin-same, Begin-trans, Grows, Grows-same, Grows-more, Grows-trans, Grows-marked, Grows-with_variable}
 use Rattle.rg_type.proofs.Alike.{Grows-closed, Grows-joined}
 use Rattle.rg_type.proofs.ExpressionEnvs.{judge_expr-grows, judge_call-grows, judge_right-grows}

@@ -1,3 +1,3 @@
 -- The lemmas that the answers of rg_watch use.
-mod ReadLemmas
-mod StandLemmas
+mod Read
+mod Stand

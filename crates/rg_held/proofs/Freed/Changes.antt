@@ -8,7 +8,7 @@ use Rattle.rg_base.specs.declared.object.Label.TheVariants.{Region, Temp, Frozen
 use Rattle.rg_base.specs.declared.object.Seen.{Seen}
 use Rattle.rg_base.specs.declared.value.Val.{Val}
 use Rattle.rg_rules.specs.Regions.{in_regions, relabelled_object, relabelled}
-use Rattle.rg_sound.proofs.Owners.OwnerLemmas.{get-set}
+use Rattle.rg_sound.proofs.Owners.Owner.{get-set}
 use Rattle.rg_stack.specs.Machine.{Window}
 use Rattle.rg_stack.specs.Effects.{with_value_in}
 use Rattle.rg_stack.specs.Labels.{has_window, is_open}

@@ -8,7 +8,7 @@ use Rattle.rg_base.specs.declared.object.Seen.{Seen}
 use Rattle.rg_base.specs.declared.value.Val.{Val}
 use Rattle.rg_base.specs.declared.value.Val.TheVariants as val
 use Rattle.rg_rules.specs.Regions.{in_regions, relabelled}
-use Rattle.rg_sound.proofs.Stores.MemberLemmas.{In, among-in}
+use Rattle.rg_sound.proofs.Stores.Member.{In, among-in}
 use Rattle.rg_stack.specs.Machine.{Window}
 use Rattle.rg_stack.specs.Effects.{put_in, with_value_in}
 use Rattle.rg_stack.specs.Labels.{has_window, is_open}

@@ -17,7 +17,7 @@ use Rattle.rg_stack.specs.Effects.{top_region}
 use Rattle.rg_stack.specs.Needs.{owned_once, places_into}
 use Rattle.rg_stack.specs.Labels.{is_open, has_window, lies_in, is_into, is_outside}
 use Rattle.rg_stack.proofs.Basics.{none-some}
-use Rattle.rg_stack.proofs.Needs.LeadLemmas.{region-label}
+use Rattle.rg_stack.proofs.Needs.Lead.{region-label}
 use Rattle.rg_held.specs.Gone.{gone}
 use Rattle.rg_held.specs.Part.{leads_to, SlotInto, FieldInto, Placed, Part, is_of, OwnerHeld, OwnersHeld, is_shut_or_above, may_lead, Differ}
 use Rattle.rg_held.specs.Gather.{KeepsOf, Keeps, LinkOut, Loses, first, further, Gathered}

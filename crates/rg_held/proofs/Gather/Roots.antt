@@ -27,9 +27,9 @@ use Rattle.rg_sound.specs.Frames.{FramesFit}
 use Rattle.rg_sound.specs.LocalRoots.{top_owner, lower, IsInFront, bridge, LocalRoots}
 use Rattle.rg_sound.specs.OpenRegions.{AllOwned}
 use Rattle.rg_sound.specs.Windows.{covers, lowest}
-use Rattle.rg_sound.proofs.BaseLemmas.{Based, running-based}
-use Rattle.rg_sound.proofs.LocalRootsLemmas.{fit-local_roots}
-use Rattle.rg_sound.proofs.Stores.MemberLemmas.{in-among}
+use Rattle.rg_sound.proofs.Base.{Based, running-based}
+use Rattle.rg_sound.proofs.LocalRoots.{fit-local_roots}
+use Rattle.rg_sound.proofs.Stores.Member.{in-among}
 use Rattle.rg_code.specs.Code.{Code}
 use Rattle.rg_stack.specs.Machine.{Frame, Window, Machine, slots_below, place_of}
 use Rattle.rg_stack.specs.Effects.{top_region, top_window}
@@ -37,9 +37,9 @@ use Rattle.rg_stack.specs.Needs.{field_of, value_at, top_base}
 use Rattle.rg_stack.specs.Labels.{has_window}
 use Rattle.rg_stack.specs.Shows.{Shows, ShowsFrame, ShowsFrames, ShowsWindows, place_among, sizes_of}
 use Rattle.rg_stack.proofs.Basics.{none-some, and-left, and-right}
-use Rattle.rg_stack.proofs.Statements.BaseLemmas.{total_of, sizes-more, sizes-length, place_top, shown-room, as_many, based-there}
-use Rattle.rg_stack.proofs.Walks.FrameLemmas.{place_below}
-use Rattle.rg_stack.proofs.Needs.LeadLemmas.{shown-number}
+use Rattle.rg_stack.proofs.Statements.Base.{total_of, sizes-more, sizes-length, place_top, shown-room, as_many, based-there}
+use Rattle.rg_stack.proofs.Walks.Frame.{place_below}
+use Rattle.rg_stack.proofs.Needs.Lead.{shown-number}
 use Rattle.rg_held.specs.Gather.{bridge_value, Keeps}
 use Rattle.rg_held.proofs.Lists.{off, push-below, replicate-back}
 use Rattle.rg_held.proofs.Gather.Frees.{Outside}

@@ -3,12 +3,12 @@ use Rattle.std.proofs.Common.{length, sym, subst}
 use Rattle.rg_rules.specs.State.{State}
 use Rattle.rg_tree.specs.Tree.{Tree}
 use Rattle.rg_sound.specs.Fit.{Fit}
-use Rattle.rg_sound.proofs.Owners.DataLemmas.{Data, fit-data}
+use Rattle.rg_sound.proofs.Owners.Data.{Data, fit-data}
 use Rattle.rg_code.specs.Code.{Code}
 use Rattle.rg_stack.specs.Machine.{Machine}
 use Rattle.rg_stack.specs.Shows.{Shows, sizes_of}
-use Rattle.rg_stack.proofs.Needs.LeadLemmas.{ShowsFit}
-use Rattle.rg_stack.proofs.Needs.OnceLemmas.{owned_once-fits}
+use Rattle.rg_stack.proofs.Needs.Lead.{ShowsFit}
+use Rattle.rg_stack.proofs.Needs.Once.{owned_once-fits}
 use Rattle.rg_held.specs.Gather.{GathersFit}
 use Rattle.rg_held.proofs.Gather.Frees.{part-gather}
 use Rattle.rg_held.proofs.Gather.Roots.{roots-outside}

@@ -26,10 +26,10 @@ use Rattle.rg_sound.specs.Objects.{FieldFits, FieldsMeet, ObjectsFit}
 use Rattle.rg_sound.specs.OpenRegions.{IsOwned, OpenFit}
 use Rattle.rg_sound.specs.Numbers.{NumbersFit}
 use Rattle.rg_sound.proofs.Basics.{none-some}
-use Rattle.rg_sound.proofs.OpeningLemmas.{opening-fits}
-use Rattle.rg_sound.proofs.Owners.DataLemmas.{Data, fit-data}
-use Rattle.rg_sound.proofs.HeldLemmas.{slot-meets}
-use Rattle.rg_sound.proofs.LawLemmas.{run-fits}
+use Rattle.rg_sound.proofs.Opening.{opening-fits}
+use Rattle.rg_sound.proofs.Owners.Data.{Data, fit-data}
+use Rattle.rg_sound.proofs.Held.{slot-meets}
+use Rattle.rg_sound.proofs.Law.{run-fits}
 use Rattle.rg_sound.proofs.Examples.Programs.{all_kinds}
 use Rattle.rg_sound.proofs.Examples.Runs.{accepted, at, with_value, label_at}
 

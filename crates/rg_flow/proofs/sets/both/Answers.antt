@@ -1,5 +1,5 @@
 use Rattle.std.proofs.Common.{rules}
-use Rattle.rg_flow.proofs.SetLemmas.{both_sets}
+use Rattle.rg_flow.proofs.Set.{both_sets}
 use Rattle.rg_flow.proofs.sets.both.Goals as goal
 
 pub returns : goal.returns

@@ -1,6 +1,6 @@
 use Rattle.std.proofs.Common.{rules, ap, nat_eq, false, get_or, bit_and, ◌/◌, ◌%◌, ◌*◌, ◌^◌, ◌-◌, arith, w64}
 use Rattle.std.proofs.lemmas.Nat.Bits.{bit_at_clear_same, bit_at_clear_other}
-use Rattle.rg_flow.proofs.SetLemmas.{set_one}
+use Rattle.rg_flow.proofs.Set.{set_one}
 use Rattle.rg_flow.proofs.sets.cut.Goals as goal
 
 pub returns : goal.returns

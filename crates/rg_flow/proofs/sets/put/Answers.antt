@@ -1,6 +1,6 @@
 use Rattle.std.proofs.Common.{rules, ap, nat_eq, true, get_or, bit_or, ◌/◌, ◌%◌, ◌*◌, ◌^◌, arith, w64}
 use Rattle.std.proofs.lemmas.Nat.Bits.{bit_at_set_same, bit_at_set_other}
-use Rattle.rg_flow.proofs.SetLemmas.{set_one}
+use Rattle.rg_flow.proofs.Set.{set_one}
 use Rattle.rg_flow.proofs.sets.put.Goals as goal
 
 pub returns : goal.returns

@@ -1,5 +1,5 @@
 use Rattle.std.proofs.Common.{arith, rules}
-use Rattle.rg_flow.proofs.SetLemmas.{not_within, within_by_words}
+use Rattle.rg_flow.proofs.Set.{not_within, within_by_words}
 use Rattle.rg_flow.proofs.sets.within.Goals as goal
 
 pub returns-then-a-b : goal.returns-then-a-b

@@ -1,5 +1,5 @@
 use Rattle.std.proofs.Common.{rules}
-use Rattle.rg_flow.proofs.SetLemmas.{without_sets}
+use Rattle.rg_flow.proofs.Set.{without_sets}
 use Rattle.rg_flow.proofs.sets.without.Goals as goal
 
 pub returns : goal.returns

@@ -1,4 +1,4 @@
-use Rattle.rg_held.proofs.Callers.FreedLemmas.{steps-free}
+use Rattle.rg_held.proofs.Callers.Freed.{steps-free}
 use Rattle.rg_held.proofs.laws.steps_free.Goals as goal
 
 pub returns : goal.returns

@@ -1,4 +1,4 @@
-use Rattle.rg_held.proofs.Callers.StepLemmas.{steps-same}
+use Rattle.rg_held.proofs.Callers.Step.{steps-same}
 use Rattle.rg_held.proofs.laws.steps_same.Goals as goal
 
 pub returns : goal.returns

@@ -1,7 +1,7 @@
 use Rattle.std.proofs.Common.{arith, refl, sym, subst}
 use Rattle.rg_io.specs.Files.{SameFiles}
-use Rattle.rg_io.proofs.ToldLemmas.{Reads-then, SameFiles-same, SameFiles-read, HasFile-read, HasLongFile-read}
-use Rattle.rg_io.proofs.ToldLemmas.{room-then, refused-long, refused-fault}
+use Rattle.rg_io.proofs.Told.{Reads-then, SameFiles-same, SameFiles-read, HasFile-read, HasLongFile-read}
+use Rattle.rg_io.proofs.Told.{room-then, refused-long, refused-fault}
 use Rattle.rg_io.proofs.files.take_all.Goals as goal
 
 pub returns-in-Err-clause-same_files : goal.returns-in-Err-clause-same_files

@@ -1,5 +1,5 @@
 use Rattle.std.proofs.Common.{arith}
-use Rattle.rg_io.proofs.ContentLemmas.{Appends-taken, AppendsPart-taken}
+use Rattle.rg_io.proofs.Content.{Appends-taken, AppendsPart-taken}
 use Rattle.rg_io.proofs.sink.put_all.Goals as goal
 
 pub loop-at-preserved : goal.loop-at-preserved

@@ -1,4 +1,4 @@
-use Rattle.rg_lower.proofs.ClassLemmas.{callee-tree}
+use Rattle.rg_lower.proofs.Class.{callee-tree}
 use Rattle.rg_lower.proofs.calls.callee.Goals as goal
 
 pub returns-else-class-class_count : goal.returns-else-class-class_count

@@ -1,7 +1,7 @@
 use Rattle.std.proofs.Common.{sym, ◌∙◌}
 use Rattle.rg_tree.specs.Rows.Tables.{name_at}
 use Rattle.rg_tree.specs.Rows.RowTrees.{classes_of}
-use Rattle.rg_lower.proofs.ClassLemmas.{class_number-unnamed}
+use Rattle.rg_lower.proofs.Class.{class_number-unnamed}
 use Rattle.rg_lower.proofs.fields.class_number.Goals as goal
 
 pub returns-in-None : goal.returns-in-None

@@ -5,7 +5,7 @@ use Rattle.rg_tree.specs.Rows.Tables.{name_at, numbers_in}
 use Rattle.rg_tree.specs.Rows.RowTrees.{classes_of}
 use Rattle.rg_tree.specs.Rows.RowsExist.{IsNameIn}
 use Rattle.rg_lower.specs.Inner.Slots.{scope_of, variable_of}
-use Rattle.rg_lower.proofs.TargetLemmas.{holder-front}
+use Rattle.rg_lower.proofs.Target.{holder-front}
 use Rattle.rg_lower.proofs.holders.write_holder.Goals as goal
 
 pub write_walk-requires-clause-fields : goal.write_walk-requires-clause-fields

@@ -1,6 +1,6 @@
 use Rattle.std.proofs.Common.{drop}
 use Rattle.rg_lower.specs.Inner.Slots.{variable_of}
-use Rattle.rg_lower.proofs.SlotLemmas.{SearchedTo}
+use Rattle.rg_lower.proofs.Slot.{SearchedTo}
 use Rattle.rg_lower.proofs.slots.found_in.Given as goal
 
 abbrev pub invariant-loop-one : goal.invariant-loop-one

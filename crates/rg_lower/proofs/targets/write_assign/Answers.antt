@@ -3,7 +3,7 @@ use Rattle.std.proofs.lemmas.Result.{on_ok_weaker}
 use Rattle.rg_tree.specs.Rows.Tables.{name_at, numbers_in}
 use Rattle.rg_tree.specs.Rows.RowTrees.{classes_of, right_of}
 use Rattle.rg_lower.specs.Inner.Slots.{scope_of, variable_of}
-use Rattle.rg_lower.proofs.TargetLemmas.{assign-field}
+use Rattle.rg_lower.proofs.Target.{assign-field}
 use Rattle.rg_lower.proofs.targets.write_assign.Goals as goal
 
 pub returns-in_ok-push-in-Some-2 : goal.returns-in_ok-push-in-Some-2

@@ -2,7 +2,7 @@ use Rattle.rg_base.specs.declared.value.Val.TheVariants.{Int}
 use Rattle.rg_machine.specs.Core.{below_top}
 use Rattle.rg_machine.specs.Parts.{val_in}
 use Rattle.rg_machine.specs.Cores.{core_of}
-use Rattle.rg_machine.proofs.NumberLemmas.{beneath-pop}
+use Rattle.rg_machine.proofs.Number.{beneath-pop}
 use Rattle.rg_machine.proofs.values.binary.Goals as goal
 
 pub set_top-requires-clause-some : goal.set_top-requires-clause-some

@@ -1,6 +1,6 @@
 use Rattle.rg_machine.specs.Parts.{val_in}
 use Rattle.rg_machine.specs.Cores.{core_of}
-use Rattle.rg_machine.proofs.NumberLemmas.{stack-top}
+use Rattle.rg_machine.proofs.Number.{stack-top}
 use Rattle.rg_machine.proofs.values.invert.Goals as goal
 
 pub set_top-requires-clause-some : goal.set_top-requires-clause-some

@@ -1,5 +1,5 @@
 use Rattle.rg_lex.proofs.Spans.{cut-spans}
-use Rattle.rg_parse.proofs.SpanLemmas.{AreWithin-spans}
+use Rattle.rg_parse.proofs.Span.{AreWithin-spans}
 use Rattle.rg_parse.proofs.StuckSources.{stuck-with, stuck-spells_none}
 use Rattle.rg_parse.proofs.whole.parse.Goals as goal
 

@@ -4,7 +4,7 @@ use Rattle.rg_tree.specs.Rows.RowTrees.{block_of}
 use Rattle.rg_rules.specs.Items.{EndAt, items_of}
 use Rattle.rg_plain.specs.Kept.{Kept, shown}
 use Rattle.rg_plain.specs.Machine.{fresh}
-use Rattle.rg_plain.proofs.Rows.ItemLemmas.{shown-none}
+use Rattle.rg_plain.proofs.Rows.Item.{shown-none}
 use Rattle.rg_plain.proofs.machine.begin_parts.Goals as goal
 
 pub returns-clause-begun : goal.returns-clause-begun

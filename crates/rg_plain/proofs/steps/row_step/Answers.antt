@@ -1,7 +1,7 @@
 use Rattle.std.proofs.Common.{inl}
 use Rattle.rg_base.specs.declared.outcome.Outcome.TheVariants as outcome
 use Rattle.rg_plain.specs.Kept.{kept_of}
-use Rattle.rg_plain.proofs.Statements.InputLemmas.{reads_nothing}
+use Rattle.rg_plain.proofs.Statements.Input.{reads_nothing}
 use Rattle.rg_plain.proofs.steps.row_step.Goals as goal
 
 pub returns-in-EndAt-clause-step : goal.returns-in-EndAt-clause-step

@@ -1,5 +1,5 @@
 use Rattle.rg_plain.specs.Kept.{kept_of}
-use Rattle.rg_plain.proofs.Statements.InputLemmas.{does, prints}
+use Rattle.rg_plain.proofs.Statements.Input.{does, prints}
 use Rattle.rg_plain.proofs.steps.statement_step.Goals as goal
 
 pub read_step-requires-clause-left : goal.read_step-requires-clause-left

@@ -1,5 +1,5 @@
 -- The output failed before the collection was told.
-use Rattle.rg_run.proofs.ReportLemmas.{reports-part}
+use Rattle.rg_run.proofs.Report.{reports-part}
 use Rattle.rg_run.proofs.giving.give.Goals as goal
 
 pub returns-in-Err-clause-reports : goal.returns-in-Err-clause-reports

@@ -1,5 +1,5 @@
 -- What a step adds, of what it did.
-use Rattle.rg_run.proofs.StepLemmas.{added, slides, yeses}
+use Rattle.rg_run.proofs.Step.{added, slides, yeses}
 use Rattle.rg_run.proofs.stepping.step.Goals as goal
 
 pub returns-clause-events : goal.returns-clause-events

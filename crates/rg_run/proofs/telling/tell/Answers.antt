@@ -1,7 +1,7 @@
 -- A line is told, or ends the run.
 use Rattle.std.proofs.Common.{refl}
 use Rattle.std.proofs.lemmas.Option.{slice_get_read}
-use Rattle.rg_run.proofs.ReportLemmas.{told-one, told-cut}
+use Rattle.rg_run.proofs.Report.{told-one, told-cut}
 use Rattle.rg_run.proofs.telling.tell.Goals as goal
 
 pub returns-in-Ok-clause-reports : goal.returns-in-Ok-clause-reports

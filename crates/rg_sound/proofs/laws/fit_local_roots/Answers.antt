@@ -1,4 +1,4 @@
-use Rattle.rg_sound.proofs.LocalRootsLemmas.{fit-local_roots}
+use Rattle.rg_sound.proofs.LocalRoots.{fit-local_roots}
 use Rattle.rg_sound.proofs.laws.fit_local_roots.Goals as goal
 
 pub returns : goal.returns

@@ -1,4 +1,4 @@
-use Rattle.rg_sound.proofs.Values.ReturnLemmas.{back-keeps}
+use Rattle.rg_sound.proofs.Values.Return.{back-keeps}
 use Rattle.rg_sound.proofs.steps.back_keeps_fit.Goals as goal
 
 pub returns : goal.returns

@@ -1,4 +1,4 @@
-use Rattle.rg_sound.proofs.Values.InvokeLemmas.{call-keeps}
+use Rattle.rg_sound.proofs.Values.Invoke.{call-keeps}
 use Rattle.rg_sound.proofs.steps.call_keeps_fit.Goals as goal
 
 pub returns : goal.returns

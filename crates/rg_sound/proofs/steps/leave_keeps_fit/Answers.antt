@@ -1,4 +1,4 @@
-use Rattle.rg_sound.proofs.Owners.LeaveLemmas.{leave-keeps}
+use Rattle.rg_sound.proofs.Owners.Leave.{leave-keeps}
 use Rattle.rg_sound.proofs.steps.leave_keeps_fit.Goals as goal
 
 pub returns : goal.returns

@@ -1,4 +1,4 @@
-use Rattle.rg_sound.proofs.Frames.QuietLemmas.{print-keeps}
+use Rattle.rg_sound.proofs.Frames.Quiet.{print-keeps}
 use Rattle.rg_sound.proofs.steps.print_keeps_fit.Goals as goal
 
 pub returns : goal.returns

@@ -1,4 +1,4 @@
-use Rattle.rg_sound.proofs.Values.ReturnLemmas.{return-keeps}
+use Rattle.rg_sound.proofs.Values.Return.{return-keeps}
 use Rattle.rg_sound.proofs.steps.return_keeps_fit.Goals as goal
 
 pub returns : goal.returns

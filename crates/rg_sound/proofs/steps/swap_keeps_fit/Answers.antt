@@ -1,4 +1,4 @@
-use Rattle.rg_sound.proofs.Owners.SwapLemmas.{swap-keeps}
+use Rattle.rg_sound.proofs.Owners.Swap.{swap-keeps}
 use Rattle.rg_sound.proofs.steps.swap_keeps_fit.Goals as goal
 
 pub returns : goal.returns

@@ -1,4 +1,4 @@
-use Rattle.rg_stack.proofs.Callers.OpeningLemmas.{opening-shows}
+use Rattle.rg_stack.proofs.Callers.Opening.{opening-shows}
 use Rattle.rg_stack.proofs.laws.opening_shows.Goals as goal
 
 pub returns : goal.returns

@@ -1,4 +1,4 @@
-use Rattle.rg_stack.proofs.Callers.RunLemmas.{run-shows}
+use Rattle.rg_stack.proofs.Callers.Run.{run-shows}
 use Rattle.rg_stack.proofs.laws.run_shows.Goals as goal
 
 pub returns : goal.returns

@@ -1,4 +1,4 @@
-use Rattle.rg_stack.proofs.Callers.DueLemmas.{steps-due}
+use Rattle.rg_stack.proofs.Callers.Due.{steps-due}
 use Rattle.rg_stack.proofs.laws.steps_due.Goals as goal
 
 pub returns : goal.returns

@@ -5,20 +5,20 @@ use Rattle.rg_base.specs.declared.value.Val.TheVariants.{Int}
 use Rattle.rg_input.specs.declared.refusal.NumberRefusal.{NumberRefusal}
 use Rattle.rg_input.specs.declared.refusal.NumberRefusal.TheVariants as no
 use Rattle.rg_input.specs.Numbers.{Answers, Looks, OnInput}
-use Rattle.rg_input.proofs.InputLemmas.{OnInput-map, OnInput-both}
+use Rattle.rg_input.proofs.Input.{OnInput-map, OnInput-both}
 use Rattle.rg_stack.specs.Effects.{Traps, next_taken}
 use Rattle.rg_held.specs.Frees.{free_given_walk as given_walk}
 use Rattle.rg_machine.specs.Core.{below_top, with_top, work_of}
 use Rattle.rg_step.specs.declared.asks.Come.TheVariants as come
 use Rattle.rg_step.specs.Inner.Refusals.{Unread, StillLeft}
 use Rattle.rg_step.specs.Inner.Walks.{ComesTo, walk_from}
-use Rattle.rg_step.proofs.AskLemmas.{read-on, more-on, unstuck-there}
+use Rattle.rg_step.proofs.Ask.{read-on, more-on, unstuck-there}
 use Rattle.rg_step.specs.Inner.High.{MayMake}
-use Rattle.rg_step.proofs.HighLemmas.{may-most}
-use Rattle.rg_step.proofs.LeavesLemmas.{stands-put, put-backs, no-asking, no-machine, unread-left, unread-number}
+use Rattle.rg_step.proofs.High.{may-most}
+use Rattle.rg_step.proofs.Leaves.{stands-put, put-backs, no-asking, no-machine, unread-left, unread-number}
 use Rattle.rg_machine.specs.Parts.{machine_in}
 use Rattle.rg_machine.specs.Cores.{core_of}
-use Rattle.rg_machine.proofs.RetLemmas.{same-back}
+use Rattle.rg_machine.proofs.Ret.{same-back}
 use Rattle.rg_step.proofs.asks.walk_asking.Goals as goal
 
 pub walk-requires : goal.walk-requires

@@ -2,7 +2,7 @@ use Rattle.std.proofs.Common.{◌≡◌, ◌+◌, Some, true≢false, refl, sym,
 use Rattle.std.proofs.lemmas.Option.{slice_get_within}
 use Rattle.rg_base.specs.declared.event.Cause.TheVariants.{Asked}
 use Rattle.rg_base.specs.declared.outcome.Outcome.TheVariants as outcome
-use Rattle.rg_input.proofs.InputLemmas.{OnInput-map, OnInput-some, OnInput-still}
+use Rattle.rg_input.proofs.Input.{OnInput-map, OnInput-some, OnInput-still}
 use Rattle.rg_input.specs.Numbers.{OnInput}
 use Rattle.rg_code.specs.Dues.{due_at}
 use Rattle.rg_machine.specs.Parts.{Parts, machine_in}
@@ -10,16 +10,16 @@ use Rattle.rg_machine.specs.Cores.{core_of}
 use Rattle.rg_stack.specs.Machine.{Machine}
 use Rattle.rg_held.specs.Freed.{FreesOnly as StoreFrees}
 use Rattle.rg_step.specs.Inner.High.{DidMade}
-use Rattle.rg_step.proofs.HighLemmas.{answer-raises}
+use Rattle.rg_step.proofs.High.{answer-raises}
 use Rattle.rg_step.specs.Inner.Refusals.{DidLeaves, asks_at}
 use Rattle.rg_step.specs.Inner.Serving.{answer}
 use Rattle.rg_step.specs.Inner.Walks.{StepIs}
 use Rattle.rg_step.specs.Steps.{StepsOn, is_made}
 use Rattle.rg_step.specs.Frees.{StaysGone}
-use Rattle.rg_step.proofs.FreesLemmas.{did-frees, did-stays, table-frees}
-use Rattle.rg_step.proofs.OutcomeLemmas.{answer-fault, answer-leaves, answer-settles, never-lost}
-use Rattle.rg_step.proofs.PassLemmas.{asked-step, is-asked, pass-frees, pass-high, pass-rests, pass-stays, pass-steps}
-use Rattle.rg_step.proofs.RunLemmas.{runs-ask, runs-given, runs-orderly, unasked-there}
+use Rattle.rg_step.proofs.Frees.{did-frees, did-stays, table-frees}
+use Rattle.rg_step.proofs.Outcome.{answer-fault, answer-leaves, answer-settles, never-lost}
+use Rattle.rg_step.proofs.Pass.{asked-step, is-asked, pass-frees, pass-high, pass-rests, pass-stays, pass-steps}
+use Rattle.rg_step.proofs.Run.{runs-ask, runs-given, runs-orderly, unasked-there}
 use Rattle.rg_step.proofs.outcome.outcome.Goals as goal
 
 -- the step of a `collect`

@@ -1,14 +1,14 @@
 -- Each end of a step, by the lemma that makes its record.
 use Rattle.std.proofs.Common.{◌≡◌, ◌∙◌, true, false, Some, None, refl, sym, ap}
 use Rattle.rg_base.specs.declared.outcome.Outcome.TheVariants as outcome
-use Rattle.rg_input.proofs.InputLemmas.{OnInput-map, OnInput-still}
+use Rattle.rg_input.proofs.Input.{OnInput-map, OnInput-still}
 use Rattle.rg_code.specs.Dues.{due_at}
 use Rattle.rg_machine.specs.Parts.{machine_in}
 use Rattle.rg_step.specs.Inner.Serving.{is_asked}
 use Rattle.rg_step.specs.States.{OneStep}
 use Rattle.rg_step.specs.Steps.{StepsOn, is_made}
-use Rattle.rg_step.proofs.OneLemmas.{one-nothing, one-refused, one-served, one-undue}
-use Rattle.rg_step.proofs.ServeLemmas.{once-behind}
+use Rattle.rg_step.proofs.One.{one-nothing, one-refused, one-served, one-undue}
+use Rattle.rg_step.proofs.Serve.{once-behind}
 use Rattle.rg_step.proofs.stepper.step_on.Goals as goal
 
 pub outcome-outcome-requires-clause-due : goal.outcome-outcome-requires-clause-due

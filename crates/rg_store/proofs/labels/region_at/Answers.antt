@@ -1,4 +1,4 @@
-use Rattle.rg_store.proofs.Callers.LabelLemmas.{region-made}
+use Rattle.rg_store.proofs.Callers.Label.{region-made}
 use Rattle.rg_store.proofs.labels.region_at.Goals as goal
 
 pub returns-clause-made : goal.returns-clause-made

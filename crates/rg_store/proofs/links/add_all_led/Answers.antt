@@ -1,4 +1,4 @@
-use Rattle.rg_store.proofs.LinkLemmas.{led-turn}
+use Rattle.rg_store.proofs.Link.{led-turn}
 use Rattle.rg_store.proofs.links.add_all_led.Goals as goal
 
 pub loop-value-preserved : goal.loop-value-preserved

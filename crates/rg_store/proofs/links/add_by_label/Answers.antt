@@ -1,8 +1,8 @@
 use Rattle.std.proofs.Common.{sym, ap, filter_map}
 use Rattle.rg_rules.specs.Regions.{region_at, address}
 use Rattle.rg_store.specs.Shown.{seen_of, store_of}
-use Rattle.rg_store.proofs.Callers.LabelLemmas.{some-below}
-use Rattle.rg_store.proofs.LinkLemmas.{listed-added}
+use Rattle.rg_store.proofs.Callers.Label.{some-below}
+use Rattle.rg_store.proofs.Link.{listed-added}
 use Rattle.rg_store.proofs.links.add_by_label.Goals as goal
 
 pub returns-clause-added : goal.returns-clause-added

@@ -1,5 +1,5 @@
 use Rattle.std.proofs.Common.{◌≤◌, length, subst}
-use Rattle.rg_store.proofs.LinkLemmas.{links-turn}
+use Rattle.rg_store.proofs.Link.{links-turn}
 use Rattle.rg_store.proofs.links.add_links.Goals as goal
 
 pub loop-member-preserved : goal.loop-member-preserved

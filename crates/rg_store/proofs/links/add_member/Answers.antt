@@ -5,7 +5,7 @@ use Rattle.rg_tree.specs.Rows.RowTrees.{classes_of, member_at, member_of, type_o
 use Rattle.rg_rules.specs.Types.{field_member}
 use Rattle.rg_store.specs.Inner.Found.{links_in}
 use Rattle.rg_store.specs.Shown.{store_of}
-use Rattle.rg_store.proofs.LinkLemmas.{links-more, links-end}
+use Rattle.rg_store.proofs.Link.{links-more, links-end}
 use Rattle.rg_store.proofs.links.add_member.Goals as goal
 
 pub returns-then-before-values-clause-added : goal.returns-then-before-values-clause-added

@@ -4,8 +4,8 @@ use Rattle.rg_rules.specs.Regions.{region_at, owned_in}
 use Rattle.rg_rules.specs.Types.{fields_of}
 use Rattle.rg_store.specs.Links.{listed}
 use Rattle.rg_store.specs.Shown.{seen_of, store_of}
-use Rattle.rg_store.proofs.Callers.LabelLemmas.{some-below}
-use Rattle.rg_store.proofs.LinkLemmas.{listed-added, owned-label}
+use Rattle.rg_store.proofs.Callers.Label.{some-below}
+use Rattle.rg_store.proofs.Link.{listed-added, owned-label}
 use Rattle.rg_store.proofs.links.add_object.Goals as goal
 
 pub returns-clause-added : goal.returns-clause-added

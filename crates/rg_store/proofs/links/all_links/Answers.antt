@@ -3,9 +3,9 @@ use Rattle.rg_tree.specs.Rows.RowTrees.{classes_of}
 use Rattle.rg_rules.specs.Regions.{in_regions, led_from}
 use Rattle.rg_store.specs.Regions.{LabelFits}
 use Rattle.rg_store.specs.Shown.{seen_of, store_of}
-use Rattle.rg_store.proofs.AmongLemmas.{led-append}
-use Rattle.rg_store.proofs.Callers.LabelLemmas.{LabelsFit-at}
-use Rattle.rg_store.proofs.LinkLemmas.{store_of-more, store_of-whole}
+use Rattle.rg_store.proofs.Among.{led-append}
+use Rattle.rg_store.proofs.Callers.Label.{LabelsFit-at}
+use Rattle.rg_store.proofs.Link.{store_of-more, store_of-whole}
 use Rattle.rg_store.proofs.links.all_links.Goals as goal
 
 pub add_object-requires-clause-label : goal.add_object-requires-clause-label

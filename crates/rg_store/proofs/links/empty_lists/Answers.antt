@@ -1,6 +1,6 @@
 use Rattle.std.proofs.Common.{◌∙◌, ◌+◌, ap, length-append, length}
 use Rattle.rg_store.specs.Links.{listed}
-use Rattle.rg_store.proofs.ListLemmas.{listed-empty}
+use Rattle.rg_store.proofs.List.{listed-empty}
 use Rattle.rg_store.proofs.links.empty_lists.Goals as goal
 
 pub loop-list-preserved : goal.loop-list-preserved

@@ -2,9 +2,9 @@ use Rattle.std.proofs.Common.{◌∙◌, ◌∷◌, [], ◌++◌, take, sym, ap,
 use Rattle.rg_store.specs.Links.{led_by_labels}
 use Rattle.rg_store.specs.Regions.{LabelFits}
 use Rattle.rg_store.specs.Shown.{seen_of, store_of}
-use Rattle.rg_store.proofs.AmongLemmas.{labels-append}
-use Rattle.rg_store.proofs.Callers.LabelLemmas.{LabelsFit-at}
-use Rattle.rg_store.proofs.LinkLemmas.{store_of-more, store_of-whole}
+use Rattle.rg_store.proofs.Among.{labels-append}
+use Rattle.rg_store.proofs.Callers.Label.{LabelsFit-at}
+use Rattle.rg_store.proofs.Link.{store_of-more, store_of-whole}
 use Rattle.rg_store.proofs.links.links_by_labels.Goals as goal
 
 pub add_by_label-requires : goal.add_by_label-requires

@@ -1,6 +1,6 @@
 use Rattle.std.proofs.Common.{[], ◌∷◌, ◌++◌, append-nil, sym, ◌∙◌, ap}
 use Rattle.rg_tree.specs.Rows.RowTrees.{member_at, member_of}
-use Rattle.rg_store.proofs.OpeningLemmas.{opened-turn}
+use Rattle.rg_store.proofs.Opening.{opened-turn}
 use Rattle.rg_store.proofs.made.opening_fields.Goals.{in-Field+in-Ok, in-Method}
 use Rattle.rg_store.proofs.made.opening_fields.Goals as goal
 

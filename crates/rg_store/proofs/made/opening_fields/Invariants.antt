@@ -1,6 +1,6 @@
 use Rattle.std.proofs.Common.{◌≡◌, ◌++◌, map, drop}
 use Rattle.rg_tree.specs.Rows.RowTrees.{member_at}
-use Rattle.rg_store.proofs.OpeningLemmas.{opened}
+use Rattle.rg_store.proofs.Opening.{opened}
 use Rattle.rg_store.proofs.made.opening_fields.Given as goal
 
 abbrev pub invariant-loop-member : goal.invariant-loop-member

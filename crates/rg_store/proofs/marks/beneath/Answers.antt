@@ -3,9 +3,9 @@ use Rattle.rg_tree.specs.Rows.RowTrees.{classes_of}
 use Rattle.rg_rules.specs.Regions.{in_regions, led_from, beneath}
 use Rattle.rg_store.specs.Links.{listed}
 use Rattle.rg_store.specs.Shown.{store_of}
-use Rattle.rg_store.proofs.AmongLemmas.{led-fits}
-use Rattle.rg_store.proofs.BeneathLemmas.{links-there, marks-as}
-use Rattle.rg_store.proofs.LinkedLemmas.{linked-beneath}
+use Rattle.rg_store.proofs.Among.{led-fits}
+use Rattle.rg_store.proofs.Beneath.{links-there, marks-as}
+use Rattle.rg_store.proofs.Linked.{linked-beneath}
 use Rattle.rg_store.proofs.marks.beneath.Goals as goal
 
 pub linked-requires-clause-links : goal.linked-requires-clause-links

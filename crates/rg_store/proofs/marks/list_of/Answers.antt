@@ -1,5 +1,5 @@
 use Rattle.std.proofs.Common.{◌∙◌}
-use Rattle.rg_store.proofs.ListLemmas.{listed-read}
+use Rattle.rg_store.proofs.List.{listed-read}
 use Rattle.rg_store.proofs.marks.list_of.Goals as goal
 
 pub returns : goal.returns

@@ -2,7 +2,7 @@ use Rattle.std.proofs.Common.{◌∙◌, sym}
 use Rattle.rg_tree.specs.Rows.Tables.{name_at}
 use Rattle.rg_tree.specs.Rows.RowTrees.{classes_of}
 use Rattle.rg_store.specs.Shown.{seen_of}
-use Rattle.rg_store.proofs.ObjectLemmas.{field_value-place}
+use Rattle.rg_store.proofs.Object.{field_value-place}
 use Rattle.rg_store.proofs.objects.field_value.Goals as goal
 
 pub returns-in-Some : goal.returns-in-Some

@@ -1,6 +1,6 @@
 use Rattle.rg_store.specs.Read.{with_value_at}
-use Rattle.rg_store.proofs.Callers.LabelLemmas.{LabelsFit-set}
-use Rattle.rg_store.proofs.Callers.WriteLemmas.{store_of-set}
+use Rattle.rg_store.proofs.Callers.Label.{LabelsFit-set}
+use Rattle.rg_store.proofs.Callers.Write.{store_of-set}
 use Rattle.rg_store.proofs.objects.write_at.Goals as goal
 
 pub returns-clause-written : goal.returns-clause-written

@@ -1,8 +1,8 @@
 use Rattle.rg_tree.specs.Rows.Tables.{name_at}
 use Rattle.rg_tree.specs.Rows.RowTrees.{classes_of}
 use Rattle.rg_rules.specs.Evaluation.{with_field}
-use Rattle.rg_store.proofs.Callers.LabelLemmas.{LabelsFit-set}
-use Rattle.rg_store.proofs.Callers.WriteLemmas.{store_of-set}
+use Rattle.rg_store.proofs.Callers.Label.{LabelsFit-set}
+use Rattle.rg_store.proofs.Callers.Write.{store_of-set}
 use Rattle.rg_store.proofs.objects.write_field.Goals as goal
 
 pub returns-clause-written : goal.returns-clause-written

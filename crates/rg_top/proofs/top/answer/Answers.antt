@@ -1,9 +1,9 @@
 use Rattle.std.proofs.Common.{refl, inl}
 use Rattle.rg_top.specs.Inner.Requests.{command_of}
 use Rattle.rg_top.specs.Commands.{reports}
-use Rattle.rg_top.proofs.NotesLemmas.{quiet-refuses}
-use Rattle.rg_top.proofs.AnswerLemmas.{refuses-settles, refuses-caused, settles-inside}
-use Rattle.rg_top.proofs.AskedLemmas.{asked-command, yeses-fresh}
+use Rattle.rg_top.proofs.Notes.{quiet-refuses}
+use Rattle.rg_top.proofs.Answer.{refuses-settles, refuses-caused, settles-inside}
+use Rattle.rg_top.proofs.Asked.{asked-command, yeses-fresh}
 use Rattle.rg_top.proofs.top.answer.Goals as goal
 
 pub returns-in-Err-clause-settles : goal.returns-in-Err-clause-settles

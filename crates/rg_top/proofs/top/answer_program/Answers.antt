@@ -1,8 +1,8 @@
 use Rattle.std.proofs.Common.{inl, refl}
 use Rattle.rg_top.specs.Commands.{fmt, check, code, bulk}
-use Rattle.rg_top.proofs.SettledLemmas.{settles-still}
-use Rattle.rg_top.proofs.AnswerLemmas.{caused-unread}
-use Rattle.rg_top.proofs.AskedLemmas.{asked-generated, yeses-fresh}
+use Rattle.rg_top.proofs.Settled.{settles-still}
+use Rattle.rg_top.proofs.Answer.{caused-unread}
+use Rattle.rg_top.proofs.Asked.{asked-generated, yeses-fresh}
 use Rattle.rg_top.proofs.top.answer_program.Goals as goal
 
 pub returns-in-Run-clause-settles : goal.returns-in-Run-clause-settles

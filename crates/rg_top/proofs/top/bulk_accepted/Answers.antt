@@ -1,5 +1,5 @@
 use Rattle.rg_top.specs.Commands.{generated}
-use Rattle.rg_top.proofs.BulkLemmas.{bulk-settles, generated-stops, no-fault}
+use Rattle.rg_top.proofs.Bulk.{bulk-settles, generated-stops, no-fault}
 use Rattle.rg_top.proofs.top.bulk_accepted.Goals as goal
 
 pub returns-in-Done-clause-settles : goal.returns-in-Done-clause-settles

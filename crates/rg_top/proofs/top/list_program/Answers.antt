@@ -1,5 +1,5 @@
 use Rattle.rg_top.specs.Commands.{in_file}
-use Rattle.rg_top.proofs.RanLemmas.{runs-checked}
+use Rattle.rg_top.proofs.Ran.{runs-checked}
 use Rattle.rg_top.proofs.top.list_program.Goals as goal
 
 pub returns-in-Ok-clause-settles : goal.returns-in-Ok-clause-settles

@@ -1,5 +1,5 @@
-use Rattle.rg_run.proofs.RunLemmas.{begun-some}
-use Rattle.rg_top.proofs.RanLemmas.{on-input, plain-settles}
+use Rattle.rg_run.proofs.Run.{begun-some}
+use Rattle.rg_top.proofs.Ran.{on-input, plain-settles}
 use Rattle.rg_top.proofs.top.plain_accepted.Goals as goal
 
 pub run_counting-ended-requires-clause-left : goal.run_counting-ended-requires-clause-left

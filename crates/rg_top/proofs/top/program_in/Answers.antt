@@ -1,5 +1,5 @@
 use Rattle.std.proofs.Common.{◌∙◌, ap, Err}
-use Rattle.rg_top.proofs.AnswerLemmas.{long-refuses}
+use Rattle.rg_top.proofs.Answer.{long-refuses}
 use Rattle.rg_top.proofs.top.program_in.Goals as goal
 
 pub returns-in-Err-Long-clause-brings : goal.returns-in-Err-Long-clause-brings

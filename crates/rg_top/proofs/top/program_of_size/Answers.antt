@@ -1,4 +1,4 @@
-use Rattle.rg_top.proofs.BulkLemmas.{generated-found}
+use Rattle.rg_top.proofs.Bulk.{generated-found}
 use Rattle.rg_top.proofs.top.program_of_size.Goals as goal
 
 pub returns-in-Ok-clause-brings : goal.returns-in-Ok-clause-brings

@@ -1,4 +1,4 @@
-use Rattle.rg_top.proofs.MeaningLemmas.{few-names}
+use Rattle.rg_top.proofs.Meaning.{few-names}
 use Rattle.rg_top.proofs.top.read.Goals as goal
 
 pub returns-clause-names : goal.returns-clause-names

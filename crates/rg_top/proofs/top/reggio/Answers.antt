@@ -1,15 +1,15 @@
 -- What the top call promises, from what the layers under it have answered.
 use Rattle.std.proofs.Common.{◌≡◌, ◌⊎◌, inl, refl, ◌∙◌}
 use Rattle.rg_io.specs.Content.{Rose}
-use Rattle.rg_io.proofs.ContentLemmas.{Rose-since}
+use Rattle.rg_io.proofs.Content.{Rose-since}
 use Rattle.rg_top.specs.declared.status.Status.TheVariants as status
 use Rattle.rg_top.specs.Commands.{texts}
 use Rattle.rg_top.specs.Inner.Requests.{command_of}
-use Rattle.rg_top.proofs.AnswerLemmas.{Answered, answer-answered, answer-cut, answer-input, answer-exactly, answer-refused, answer-complete}
-use Rattle.rg_top.proofs.AnswerLemmas.{answer-unread, answer-unopened, answer-untouched, answer-output, answer-tuned, answer-usage, given-is}
-use Rattle.rg_top.proofs.AnswerLemmas.{answer-chooses, answer-may, usage-exactly}
-use Rattle.rg_top.proofs.NotesLemmas.{asked-notes, asked-fault, unasked-notes}
-use Rattle.rg_top.proofs.AskedLemmas.{asked-words, yeses-fresh}
+use Rattle.rg_top.proofs.Answer.{Answered, answer-answered, answer-cut, answer-input, answer-exactly, answer-refused, answer-complete}
+use Rattle.rg_top.proofs.Answer.{answer-unread, answer-unopened, answer-untouched, answer-output, answer-tuned, answer-usage, given-is}
+use Rattle.rg_top.proofs.Answer.{answer-chooses, answer-may, usage-exactly}
+use Rattle.rg_top.proofs.Notes.{asked-notes, asked-fault, unasked-notes}
+use Rattle.rg_top.proofs.Asked.{asked-words, yeses-fresh}
 use Rattle.rg_top.proofs.top.reggio.Given.{Over}
 use Rattle.rg_top.proofs.top.reggio.Goals as goal
 

@@ -1,7 +1,7 @@
 use Rattle.std.proofs.Common.{inl, refl}
-use Rattle.rg_top.proofs.RanLemmas.{on-input, run-from}
-use Rattle.rg_top.proofs.NotesLemmas.{ran-reported, quiet-memory}
-use Rattle.rg_top.proofs.AskedLemmas.{asked-from, yeses-of-run, yeses-fresh}
+use Rattle.rg_top.proofs.Ran.{on-input, run-from}
+use Rattle.rg_top.proofs.Notes.{ran-reported, quiet-memory}
+use Rattle.rg_top.proofs.Asked.{asked-from, yeses-of-run, yeses-fresh}
 use Rattle.rg_top.proofs.top.run_accepted.Goals as goal
 
 pub returns-clause-ran : goal.returns-clause-ran

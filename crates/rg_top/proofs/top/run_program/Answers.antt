@@ -1,8 +1,8 @@
 use Rattle.rg_top.specs.Commands.{in_file}
-use Rattle.rg_top.proofs.RanLemmas.{run-settles, runs-checked}
-use Rattle.rg_top.proofs.NotesLemmas.{quiet-refused, quiet-memory}
+use Rattle.rg_top.proofs.Ran.{run-settles, runs-checked}
+use Rattle.rg_top.proofs.Notes.{quiet-refused, quiet-memory}
 use Rattle.std.proofs.Common.{inl, refl}
-use Rattle.rg_top.proofs.AskedLemmas.{yeses-fresh}
+use Rattle.rg_top.proofs.Asked.{yeses-fresh}
 use Rattle.rg_top.proofs.top.run_program.Goals as goal
 
 pub returns-in-Ok-clause-settles : goal.returns-in-Ok-clause-settles

@@ -1,5 +1,5 @@
 use Rattle.std.proofs.Common.{◌∙◌, sym, refl}
-use Rattle.rg_top.proofs.OptionLemmas.{report-and-others, number-and-others}
+use Rattle.rg_top.proofs.Option.{report-and-others, number-and-others}
 use Rattle.rg_top.proofs.words.options_in.Goals as goal
 
 pub loop-left-preserved-then-eq : goal.loop-left-preserved-then-eq

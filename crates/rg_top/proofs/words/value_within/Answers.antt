@@ -1,5 +1,5 @@
 use Rattle.std.proofs.Common.{refl, arith}
-use Rattle.rg_top.proofs.NumberLemmas.{value_up_to-past}
+use Rattle.rg_top.proofs.Number.{value_up_to-past}
 use Rattle.rg_top.proofs.words.value_within.Goals as goal
 
 pub returns-then-value-most-clause-is : goal.returns-then-value-most-clause-is

@@ -1,5 +1,5 @@
 use Rattle.std.proofs.Common.{sym, ◌∙◌}
-use Rattle.rg_verify.proofs.RowLemmas.{base-put, base-self}
+use Rattle.rg_verify.proofs.Row.{base-put, base-self}
 use Rattle.rg_verify.proofs.rows.add_base.Goals as goal
 
 pub returns-then-is_self-clause-adds : goal.returns-then-is_self-clause-adds

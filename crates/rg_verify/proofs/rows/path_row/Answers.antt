@@ -1,4 +1,4 @@
-use Rattle.rg_verify.proofs.RowLemmas.{path-put, extends-trans, extends-by}
+use Rattle.rg_verify.proofs.Row.{path-put, extends-trans, extends-by}
 use Rattle.rg_verify.proofs.rows.path_row.Goals as goal
 
 pub returns-clause-adds : goal.returns-clause-adds

@@ -1,6 +1,6 @@
 use Rattle.std.proofs.Common.{[]}
 use Rattle.rg_verify.specs.Raised.{path}
-use Rattle.rg_verify.proofs.PathLemmas.{for-variable}
+use Rattle.rg_verify.proofs.Path.{for-variable}
 use Rattle.rg_verify.proofs.stack.put_path.Goals as goal
 
 pub settle-requires-clause-tree : goal.settle-requires-clause-tree

@@ -1,6 +1,6 @@
-use Rattle.rg_verify.proofs.StackLemmas.{piled-later}
-use Rattle.rg_verify.proofs.PutLemmas.{puts-tree}
-use Rattle.rg_verify.proofs.RowLemmas.{extends-trans}
+use Rattle.rg_verify.proofs.Stack.{piled-later}
+use Rattle.rg_verify.proofs.Put.{puts-tree}
+use Rattle.rg_verify.proofs.Row.{extends-trans}
 use Rattle.rg_verify.proofs.stack.put_tree.Goals as goal
 
 pub settle-requires-clause-pile : goal.settle-requires-clause-pile

@@ -1,4 +1,4 @@
-use Rattle.rg_verify.proofs.PutLemmas.{put-waiting}
+use Rattle.rg_verify.proofs.Put.{put-waiting}
 use Rattle.rg_verify.proofs.stack.put_wait.Goals as goal
 
 pub returns-clause-makes : goal.returns-clause-makes

@@ -1,5 +1,5 @@
 use Rattle.std.proofs.Common.{length}
-use Rattle.rg_verify.proofs.SettleLemmas.{AllLeft}
+use Rattle.rg_verify.proofs.Settle.{AllLeft}
 use Rattle.rg_verify.proofs.stack.settle.Given as goal
 
 abbrev pub invariant-loop-wait : goal.invariant-loop-wait

@@ -1,7 +1,7 @@
 use Rattle.std.proofs.Common.{◌≡◌, [], ◌∷◌, ◌++◌, length, ap, ◌∙◌, arith}
 use Rattle.rg_verify.specs.declared.held.Held.{Held}
 use Rattle.rg_verify.specs.declared.held.Held.TheVariants as held
-use Rattle.rg_verify.proofs.PathLemmas.{takes-no-path, takes-path}
+use Rattle.rg_verify.proofs.Path.{takes-no-path, takes-path}
 use Rattle.rg_verify.proofs.stack.take_path.Goals as goal
 
 pub returns-in_default : goal.returns-in_default

@@ -1,4 +1,4 @@
-use Rattle.rg_watch.proofs.ReadLemmas.{few-names}
+use Rattle.rg_watch.proofs.Read.{few-names}
 use Rattle.rg_watch.proofs.reading.spelt.Goals as goal
 
 pub returns : goal.returns

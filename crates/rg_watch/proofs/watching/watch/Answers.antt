@@ -4,7 +4,7 @@ use Rattle.rg_tree.specs.Rows.Tables.{Tables}
 use Rattle.rg_tree.specs.Rows.RowTrees.{program_of}
 use Rattle.rg_rules.specs.Acceptance.{Accepted}
 use Rattle.rg_watch.specs.Goes.{goes_on}
-use Rattle.rg_watch.proofs.StandLemmas.{has-begun, is-running, stands-on}
+use Rattle.rg_watch.proofs.Stand.{has-begun, is-running, stands-on}
 use Rattle.rg_watch.proofs.watching.watch.Goals as goal
 
 pub steps-init : goal.steps-init

@@ -2,7 +2,7 @@
 use Rattle.rg_tree.specs.Rows.RowTrees.{program_of}
 use Rattle.rg_input.specs.Numbers.{Follows, OnInput}
 use Rattle.rg_machine.specs.Parts.{machine_in}
-use Rattle.rg_watch.proofs.StandLemmas.{StandsAt}
+use Rattle.rg_watch.proofs.Stand.{StandsAt}
 use Rattle.rg_watch.proofs.watching.watch.Given as goal
 
 abbrev pub invariant-steps : goal.invariant-steps

@@ -1,8 +1,8 @@
 use Rattle.std.proofs.Common.{sym}
 use Rattle.std.specs.Prelude.{Ok, Err}
 use Rattle.rg_base.specs.declared.fault.Code.TheVariants.{Unknown}
-use Rattle.rg_flow.proofs.EnvLemmas.{found-some, found-none}
-use Rattle.rg_flow.proofs.ScopeLemmas.{found-tree}
+use Rattle.rg_flow.proofs.Env.{found-some, found-none}
+use Rattle.rg_flow.proofs.Scope.{found-tree}
 use Rattle.rg_flow.proofs.env.Env.find.Goals as goal
 
 pub returns-in-Some : goal.returns-in-Some

@@ -3,7 +3,7 @@ use Rattle.std.proofs.lemmas.Result.{on_ok_weaker}
 use Rattle.std.specs.Map.{lookup}
 use Rattle.rg_flow.specs.Scope.{same_name}
 use Rattle.rg_flow.specs.Inner.Layout.{place_in}
-use Rattle.rg_flow.proofs.PlaceLemmas.{noted-again, noted-first, noted-anyway}
+use Rattle.rg_flow.proofs.Place.{noted-again, noted-first, noted-anyway}
 use Rattle.rg_flow.proofs.env.places.note_last.Goals as goal
 
 pub returns-in-Some-clause-noted : goal.returns-in-Some-clause-noted

@@ -1,6 +1,6 @@
 use Rattle.std.proofs.Common.{refl, sym, ◌∙◌, length}
 use Rattle.std.proofs.lemmas.Option.{slice_get_past, slice_get_read}
-use Rattle.rg_flow.proofs.PlaceLemmas.{noted-past, noted-same, noted-other}
+use Rattle.rg_flow.proofs.Place.{noted-past, noted-same, noted-other}
 use Rattle.rg_flow.proofs.env.places.place_of.Goals as goal
 
 pub returns-in_err-var-clause-place : goal.returns-in_err-var-clause-place

@@ -1,4 +1,4 @@
-use Rattle.rg_input.proofs.RunLemmas.{IsRead-blanks}
+use Rattle.rg_input.proofs.Run.{IsRead-blanks}
 use Rattle.rg_input.proofs.held.Held.push_blanks.Goals as goal
 
 pub invariant_of-self : goal.invariant_of-self

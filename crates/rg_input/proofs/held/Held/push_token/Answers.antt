@@ -1,6 +1,6 @@
 use Rattle.std.proofs.Common.{arith, length, ◌≤◌, ◌<◌, ◌-◌}
 use Rattle.rg_base.specs.declared.limits.TheConstants.{INPUT_TOKEN}
-use Rattle.rg_input.proofs.RunLemmas.{IsRead-token, IsRead-behind, token-some, short-token}
+use Rattle.rg_input.proofs.Run.{IsRead-token, IsRead-behind, token-some, short-token}
 use Rattle.rg_input.proofs.held.Held.push_token.Goals as goal
 
 pub invariant_of-self : goal.invariant_of-self

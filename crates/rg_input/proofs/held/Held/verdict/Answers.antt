@@ -2,7 +2,7 @@ use Rattle.std.proofs.Common.{◌≡◌, ℕ, ℤ, List, Option, refl, ◌++◌,
 use Rattle.std.specs.Option.{option_to_list}
 use Rattle.std.proofs.lemmas.Int.{to_z-of_z}
 use Rattle.rg_base.specs.Input.{found_or_malformed, token_number}
-use Rattle.rg_input.proofs.ReadLemmas.{enough-empty, says_past, says_end, says_token}
+use Rattle.rg_input.proofs.Read.{enough-empty, says_past, says_end, says_token}
 use Rattle.rg_input.proofs.held.Held.verdict.Goals as goal
 
 -- what was answered of the token

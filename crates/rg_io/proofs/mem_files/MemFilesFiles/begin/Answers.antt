@@ -1,5 +1,5 @@
 use Rattle.std.proofs.Common.{refl, ap}
-use Rattle.rg_io.proofs.ToldLemmas.{Begins-known}
+use Rattle.rg_io.proofs.Told.{Begins-known}
 use Rattle.rg_io.proofs.mem_files.MemFilesFiles.begin.Goals as goal
 
 pub returns-clause-begun : goal.returns-clause-begun

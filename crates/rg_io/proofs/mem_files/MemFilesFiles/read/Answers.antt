@@ -1,5 +1,5 @@
 use Rattle.std.proofs.Common.{ap, arith}
-use Rattle.rg_io.proofs.ToldLemmas.{Reads-moved}
+use Rattle.rg_io.proofs.Told.{Reads-moved}
 use Rattle.rg_io.proofs.mem_files.MemFilesFiles.read.Goals as goal
 
 pub returns-clause-read : goal.returns-clause-read

@@ -1,5 +1,5 @@
 use Rattle.std.proofs.Common.{◌≡◌, ◌+◌, drop, refl, sym, ap, ◌∙◌, arith}
-use Rattle.rg_io.proofs.PieceLemmas.{drop-moved}
+use Rattle.rg_io.proofs.Piece.{drop-moved}
 use Rattle.rg_io.proofs.mem_source.MemSourceSource.read.Goals as goal
 
 pub returns-clause-gave : goal.returns-clause-gave

@@ -7,7 +7,7 @@ use Rattle.rg_stack.specs.Machine.{Machine}
 use Rattle.rg_view.specs.View.{machine_of, values_of}
 use Rattle.rg_machine.specs.Core.{Core}
 use Rattle.rg_machine.specs.Stands.{AllLead, Stands}
-use Rattle.rg_machine.proofs.BeginLemmas.{begin-machine, begin-stands, first-stack}
+use Rattle.rg_machine.proofs.Begin.{begin-machine, begin-stands, first-stack}
 use Rattle.rg_machine.proofs.machine.Machine.begin.Goals as goal
 
 no-slots : (c : goal.After-new) → c.begin.new.self.cells.heap.slots ≡ []

@@ -6,7 +6,7 @@ use Rattle.rg_code.specs.Code.{Code}
 use Rattle.rg_held.specs.Shown.{ShowsHeld}
 use Rattle.rg_machine.specs.Owned.{IsOwned}
 use Rattle.rg_machine.specs.Parts.{Parts, machine_in}
-use Rattle.rg_machine.proofs.OwnedLemmas.{owned-shown}
+use Rattle.rg_machine.proofs.Owned.{owned-shown}
 use Rattle.rg_machine.proofs.machine.Machine.is_owned.Goals as goal
 
 few : (c : goal.After-next_number) → c.self.inside.frames.next ≤ 2 ^ 64 - 1

@@ -1,6 +1,6 @@
 use Rattle.std.proofs.Common.{◌≡◌, ap, length, nat_lt, sym, subst}
 use Rattle.rg_base.specs.declared.limits.TheConstants.{FRAMES}
-use Rattle.rg_view.proofs.Callers.FrameLemmas.{frame-count}
+use Rattle.rg_view.proofs.Callers.Frame.{frame-count}
 use Rattle.rg_machine.specs.Parts.{Parts, machine_in}
 use Rattle.rg_machine.proofs.machine.Machine.may_call.Goals as goal
 

@@ -1,7 +1,7 @@
 use Rattle.std.proofs.Common.{IfOk, subst}
 use Rattle.rg_heap.specs.Answers.{Shows}
 use Rattle.rg_machine.specs.Parts.{Parts}
-use Rattle.rg_machine.proofs.FindLemmas.{finds}
+use Rattle.rg_machine.proofs.Find.{finds}
 use Rattle.rg_machine.proofs.machine.Machine.object.Goals as goal
 
 pub returns-clause-finds : goal.returns-clause-finds

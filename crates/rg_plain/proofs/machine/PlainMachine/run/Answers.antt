@@ -1,8 +1,8 @@
 use Rattle.std.proofs.Common.{◌≡◌, ℕ, List}
-use Rattle.rg_input.proofs.InputLemmas.{OnInput-map}
+use Rattle.rg_input.proofs.Input.{OnInput-map}
 use Rattle.rg_plain.specs.Machine.{state_of}
 use Rattle.rg_plain.specs.Runs.{RunIs}
-use Rattle.rg_plain.proofs.Runs.MachineLemmas.{RunOn, QuietOn}
+use Rattle.rg_plain.proofs.Runs.Machine.{RunOn, QuietOn}
 use Rattle.rg_plain.proofs.machine.PlainMachine.run.Goals as goal
 
 pub returns-clause-run : goal.returns-clause-run

@@ -2,15 +2,15 @@
 use Rattle.std.proofs.Common.{◌≡◌, ◌<◌, ◌+◌, ℕ, Option, Some, None, refl, sym, subst, arith, ◌∙◌}
 use Rattle.rg_base.specs.declared.outcome.Ended.{Ended}
 use Rattle.rg_base.specs.declared.outcome.Ended.TheVariants as ended
-use Rattle.rg_io.proofs.ContentLemmas.{Appends-none}
-use Rattle.rg_input.proofs.InputLemmas.{OnInput-still, OnInput-map}
+use Rattle.rg_io.proofs.Content.{Appends-none}
+use Rattle.rg_input.proofs.Input.{OnInput-still, OnInput-map}
 use Rattle.rg_plain.specs.Inner.Counts.{CountIs}
 use Rattle.rg_plain.specs.Machine.{state_of}
 use Rattle.rg_plain.specs.Runs.{IsState}
-use Rattle.rg_plain.proofs.Runs.DispatchLemmas.{left-shown}
-use Rattle.rg_plain.proofs.Runs.RunLemmas.{RanSoFar, opening, spent}
-use Rattle.rg_plain.proofs.Runs.CountLemmas.{ToldOn, begun_next, left_on, told_on}
-use Rattle.rg_plain.proofs.Runs.MachineLemmas.{RanOn, RunOn, UnreadOn, QuietOn}
+use Rattle.rg_plain.proofs.Runs.Dispatch.{left-shown}
+use Rattle.rg_plain.proofs.Runs.Run.{RanSoFar, opening, spent}
+use Rattle.rg_plain.proofs.Runs.Count.{ToldOn, begun_next, left_on, told_on}
+use Rattle.rg_plain.proofs.Runs.Machine.{RanOn, RunOn, UnreadOn, QuietOn}
 use Rattle.rg_plain.proofs.machine.PlainMachine.run_counting.Goals as goal
 
 pub loop-steps-init : goal.loop-steps-init

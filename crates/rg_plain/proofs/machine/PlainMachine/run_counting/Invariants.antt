@@ -2,7 +2,7 @@
 use Rattle.std.proofs.Common.{◌≡◌, ◌≢◌, ◌-◌, ◌≤◌, []}
 use Rattle.rg_input.specs.Numbers.{Follows, OnInput}
 use Rattle.rg_plain.specs.Machine.{Fits}
-use Rattle.rg_plain.proofs.Runs.MachineLemmas.{RanOn, UnreadOn}
+use Rattle.rg_plain.proofs.Runs.Machine.{RanOn, UnreadOn}
 use Rattle.rg_plain.proofs.machine.PlainMachine.run_counting.Given as goal
 
 abbrev pub invariant-loop-steps : goal.invariant-loop-steps

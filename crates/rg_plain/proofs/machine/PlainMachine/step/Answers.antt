@@ -1,5 +1,5 @@
 use Rattle.std.proofs.Common.{ap, refl, sym, subst, ◌∙◌, Some}
-use Rattle.rg_input.proofs.InputLemmas.{OnInput-map}
+use Rattle.rg_input.proofs.Input.{OnInput-map}
 use Rattle.rg_names.specs.Book.{Known}
 use Rattle.rg_plain.specs.Fits.{PartsFit}
 use Rattle.rg_plain.specs.Outcomes.{EndsMain}
@@ -7,8 +7,8 @@ use Rattle.rg_plain.specs.Inner.Inputs.{SettlesOn}
 use Rattle.rg_plain.specs.Kept.{kept_of, shown}
 use Rattle.rg_rules.specs.Inputs.{first_asks}
 use Rattle.rg_plain.specs.Machine.{Machine, KeepsFit, StepsOn}
-use Rattle.rg_plain.proofs.Rows.MachineLemmas.{fits_parts, fits_again, settles_as}
-use Rattle.rg_plain.proofs.Runs.SoundLemmas.{steps-keep}
+use Rattle.rg_plain.proofs.Rows.Machine.{fits_parts, fits_again, settles_as}
+use Rattle.rg_plain.proofs.Runs.Sound.{steps-keep}
 use Rattle.rg_plain.proofs.machine.PlainMachine.step.Goals as goal
 
 pub whole_step-requires-clause-fit : goal.whole_step-requires-clause-fit

@@ -1,6 +1,6 @@
 use Rattle.std.proofs.Common.{◌+◌, ◌++◌, ◌∷◌, [], ◌∙◌, ap}
 use Rattle.rg_plain.specs.declared.state.rows.ItemRow.TheVariants as row
-use Rattle.rg_plain.proofs.Rows.ItemLemmas.{top_is, advanced, advanced-last, Rest-shorter, ItemsFit-push}
+use Rattle.rg_plain.proofs.Rows.Item.{top_is, advanced, advanced-last, Rest-shorter, ItemsFit-push}
 use Rattle.rg_plain.proofs.state.items.advance.Goals as goal
 
 pub returns-then-from-span-clause-rest : goal.returns-then-from-span-clause-rest

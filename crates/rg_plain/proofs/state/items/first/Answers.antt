@@ -1,5 +1,5 @@
 use Rattle.rg_plain.specs.declared.state.rows.ItemRow.TheVariants as row
-use Rattle.rg_plain.proofs.Rows.ItemLemmas.{is_at, first_within, top_fits}
+use Rattle.rg_plain.proofs.Rows.Item.{is_at, first_within, top_fits}
 use Rattle.rg_plain.proofs.state.items.first.Goals as goal
 
 pub returns-clause-at : goal.returns-clause-at

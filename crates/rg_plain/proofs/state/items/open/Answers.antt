@@ -1,7 +1,7 @@
 use Rattle.std.proofs.Common.{◌∙◌, ap}
 use Rattle.rg_plain.specs.declared.state.rows.ItemRow.TheVariants as row
 use Rattle.rg_plain.specs.Kept.{shown, put_row}
-use Rattle.rg_plain.proofs.Rows.ItemLemmas.{shown-push}
+use Rattle.rg_plain.proofs.Rows.Item.{shown-push}
 use Rattle.rg_plain.proofs.state.items.open.Goals as goal
 
 pub returns-clause-shown : goal.returns-clause-shown

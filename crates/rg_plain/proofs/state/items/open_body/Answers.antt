@@ -4,7 +4,7 @@ use Rattle.rg_rules.specs.Items.{items_of}
 use Rattle.rg_rules.specs.Bodies.{method_end}
 use Rattle.rg_plain.specs.declared.state.rows.ItemRow.TheVariants as row
 use Rattle.rg_plain.specs.Kept.{shown, put_row}
-use Rattle.rg_plain.proofs.Rows.ItemLemmas.{shown-push}
+use Rattle.rg_plain.proofs.Rows.Item.{shown-push}
 use Rattle.rg_plain.proofs.state.items.open_body.Goals as goal
 
 pub returns-in-None-clause-shown : goal.returns-in-None-clause-shown

@@ -1,4 +1,4 @@
-use Rattle.rg_plain.proofs.Rows.ItemLemmas.{top_is, shown-popped}
+use Rattle.rg_plain.proofs.Rows.Item.{top_is, shown-popped}
 use Rattle.rg_plain.proofs.state.items.pop_row.Goals as goal
 
 pub returns-clause-shown : goal.returns-clause-shown

@@ -1,7 +1,7 @@
 use Rattle.std.proofs.Common.{◌∙◌, ap}
 use Rattle.rg_plain.specs.declared.state.rows.ItemRow.TheVariants as row
 use Rattle.rg_plain.specs.Kept.{shown}
-use Rattle.rg_plain.proofs.Rows.ItemLemmas.{shown-push, ItemsFit-push, put_none}
+use Rattle.rg_plain.proofs.Rows.Item.{shown-push, ItemsFit-push, put_none}
 use Rattle.rg_plain.proofs.state.items.put_block.Goals as goal
 
 pub returns-then-body-clause-shown : goal.returns-then-body-clause-shown

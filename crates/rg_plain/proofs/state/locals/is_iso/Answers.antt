@@ -1,6 +1,6 @@
 use Rattle.std.proofs.Common.{Some, None, option_map, ◌∙◌, sym}
 use Rattle.rg_tree.specs.Rows.Tables.{name_at}
-use Rattle.rg_plain.proofs.Rows.LocalLemmas.{is_iso_local-found}
+use Rattle.rg_plain.proofs.Rows.Local.{is_iso_local-found}
 use Rattle.rg_plain.proofs.state.locals.is_iso.Goals as goal
 
 pub returns-in-Some : goal.returns-in-Some

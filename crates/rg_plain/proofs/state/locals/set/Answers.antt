@@ -7,7 +7,7 @@ use Rattle.rg_tree.specs.Rows.Tables.{name_at}
 use Rattle.rg_rules.specs.State.{place_in}
 use Rattle.rg_plain.specs.declared.state.rows.LocalRow.{LocalRow}
 use Rattle.rg_plain.specs.Shown.{local_of, locals_of}
-use Rattle.rg_plain.proofs.Rows.LocalLemmas.{set_in-place, set_in-none}
+use Rattle.rg_plain.proofs.Rows.Local.{set_in-place, set_in-none}
 use Rattle.rg_plain.proofs.state.locals.set.Goals as goal
 
 -- no variable

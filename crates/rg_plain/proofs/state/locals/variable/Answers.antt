@@ -1,6 +1,6 @@
 use Rattle.std.proofs.Common.{Some, None, option_map, ◌∙◌, sym}
 use Rattle.rg_tree.specs.Rows.Tables.{name_at}
-use Rattle.rg_plain.proofs.Rows.LocalLemmas.{value_in-found}
+use Rattle.rg_plain.proofs.Rows.Local.{value_in-found}
 use Rattle.rg_plain.proofs.state.locals.variable.Goals as goal
 
 pub returns-in-Some : goal.returns-in-Some

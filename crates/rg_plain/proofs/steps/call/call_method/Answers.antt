@@ -7,7 +7,7 @@ use Rattle.rg_plain.specs.Inner.Calls.{Enters}
 use Rattle.rg_plain.specs.Kept.{Kept, kept_of, kept_frame, frame_of, target_of}
 use Rattle.rg_plain.specs.Inner.Methods.{method_of}
 use Rattle.rg_rules.specs.Steps.{stepped}
-use Rattle.rg_plain.proofs.Statements.CallLemmas.{may-enter, called-is}
+use Rattle.rg_plain.proofs.Statements.Call.{may-enter, called-is}
 use Rattle.rg_plain.proofs.steps.call.call_method.Goals as goal
 
 pub returns-clause-called : goal.returns-clause-called

@@ -1,7 +1,7 @@
 use Rattle.rg_tree.specs.Tree.{call}
 use Rattle.rg_tree.specs.Rows.RowTrees.{call_of}
 use Rattle.rg_plain.specs.Kept.{kept_of}
-use Rattle.rg_plain.proofs.Statements.StatementLemmas.{statement-is}
+use Rattle.rg_plain.proofs.Statements.Statement.{statement-is}
 use Rattle.rg_plain.proofs.steps.call.call_step.Goals as goal
 
 pub returns-clause-step : goal.returns-clause-step

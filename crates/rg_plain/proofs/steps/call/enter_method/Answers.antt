@@ -1,6 +1,6 @@
 use Rattle.rg_plain.specs.Fits.{TargetFits}
 use Rattle.rg_plain.specs.Shown.{AreNamed}
-use Rattle.rg_plain.proofs.Statements.CallLemmas.{All-under}
+use Rattle.rg_plain.proofs.Statements.Call.{All-under}
 use Rattle.rg_plain.proofs.steps.call.enter_method.Goals as goal
 
 pub returns-clause-fit : goal.returns-clause-fit

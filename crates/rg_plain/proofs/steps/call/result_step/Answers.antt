@@ -7,7 +7,7 @@ use Rattle.rg_rules.specs.Steps.{stepped, Stepped}
 use Rattle.rg_plain.specs.Kept.{kept_of, plain_of}
 use Rattle.rg_plain.specs.Inner.Spots.{statement_of}
 use Rattle.rg_plain.specs.Inner.Steps.{Does}
-use Rattle.rg_plain.proofs.Statements.StatementLemmas.{statement-is}
+use Rattle.rg_plain.proofs.Statements.Statement.{statement-is}
 use Rattle.rg_plain.proofs.steps.call.result_step.Goals as goal
 
 pub call_named-requires-clause-to : goal.call_named-requires-clause-to

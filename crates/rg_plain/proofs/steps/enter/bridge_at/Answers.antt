@@ -1,8 +1,8 @@
 use Rattle.std.proofs.Common.{◌∙◌, sym, ap}
 use Rattle.rg_base.specs.declared.object.Seen.{Seen}
 use Rattle.rg_rules.specs.Regions.{region_of}
-use Rattle.rg_store.proofs.Callers.LabelLemmas.{some-below, LabelsFit-at}
-use Rattle.rg_store.proofs.Callers.WriteLemmas.{seen-there}
+use Rattle.rg_store.proofs.Callers.Label.{some-below, LabelsFit-at}
+use Rattle.rg_store.proofs.Callers.Write.{seen-there}
 use Rattle.rg_plain.proofs.steps.enter.bridge_at.Goals as goal
 
 pub returns-in-Some-clause-bridge : goal.returns-in-Some-clause-bridge

@@ -10,7 +10,7 @@ use Rattle.rg_store.specs.Regions.{LabelsFit}
 use Rattle.rg_store.specs.Shown.{store_of}
 use Rattle.rg_plain.specs.Kept.{Kept, kept_of, plain_of, shown}
 use Rattle.rg_plain.specs.Inner.Windows.{BridgeIs}
-use Rattle.rg_plain.proofs.Statements.WindowLemmas.{owner-refused, enter-cut, enter-at, found}
+use Rattle.rg_plain.proofs.Statements.Window.{owner-refused, enter-cut, enter-at, found}
 use Rattle.rg_plain.proofs.steps.enter.enter_step.Goals as goal
 
 pub returns-in_err-owner-clause-step : goal.returns-in_err-owner-clause-step

@@ -1,6 +1,6 @@
 use Rattle.std.proofs.Common.{length}
 use Rattle.rg_store.specs.Shown.{store_of}
-use Rattle.rg_plain.proofs.Rows.FitLemmas.{RegionsFit-left}
+use Rattle.rg_plain.proofs.Rows.Fit.{RegionsFit-left}
 use Rattle.rg_plain.proofs.steps.enter.leave_step.Goals as goal
 
 pub returns-clause-fit : goal.returns-clause-fit

@@ -1,8 +1,8 @@
 use Rattle.std.proofs.Common.{length, IfSome}
 use Rattle.rg_tree.specs.Rows.RowsExist.{IsNameIn}
 use Rattle.rg_store.specs.Shown.{store_of}
-use Rattle.rg_plain.proofs.Statements.CallLemmas.{All-under}
-use Rattle.rg_plain.proofs.Rows.FitLemmas.{RegionsFit-opened}
+use Rattle.rg_plain.proofs.Statements.Call.{All-under}
+use Rattle.rg_plain.proofs.Rows.Fit.{RegionsFit-opened}
 use Rattle.rg_plain.proofs.steps.enter.open_window.Goals as goal
 
 pub returns-clause-fit : goal.returns-clause-fit

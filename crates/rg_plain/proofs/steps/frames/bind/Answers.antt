@@ -4,7 +4,7 @@ use Rattle.rg_base.specs.declared.value.Val.TheVariants.{Nil}
 use Rattle.rg_tree.specs.Rows.RowTrees.{classes_of, param_at}
 use Rattle.rg_rules.specs.State.{Local}
 use Rattle.rg_plain.specs.Shown.{locals_of}
-use Rattle.rg_plain.proofs.Statements.BindLemmas.{bound-more, locals_of-push, AreNamed-push, local_of-param}
+use Rattle.rg_plain.proofs.Statements.Bind.{bound-more, locals_of-push, AreNamed-push, local_of-param}
 use Rattle.rg_plain.proofs.steps.frames.bind.Goals as goal
 
 pub loop-i-preserved : goal.loop-i-preserved

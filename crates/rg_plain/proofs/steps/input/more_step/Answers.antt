@@ -3,11 +3,11 @@ use Rattle.rg_base.specs.declared.outcome.Outcome.TheVariants as outcome
 use Rattle.rg_base.specs.declared.value.Val.TheVariants.{Bool}
 use Rattle.rg_tree.specs.Tree.{more}
 use Rattle.rg_input.specs.Numbers.{Looks}
-use Rattle.rg_input.proofs.InputLemmas.{OnInput-map}
+use Rattle.rg_input.proofs.Input.{OnInput-map}
 use Rattle.rg_plain.specs.Inner.Inputs.{StepOn}
 use Rattle.rg_plain.specs.Kept.{Kept, kept_of, plain_of, shown}
 use Rattle.rg_plain.specs.Inner.Spots.{use_of}
-use Rattle.rg_plain.proofs.Statements.InputLemmas.{reads_nothing, cut-step, more-step, same-plain}
+use Rattle.rg_plain.proofs.Statements.Input.{reads_nothing, cut-step, more-step, same-plain}
 use Rattle.rg_plain.proofs.steps.input.more_step.Goals as goal
 
 pub returns-in-Err-clause-step : goal.returns-in-Err-clause-step

@@ -3,9 +3,9 @@ use Rattle.std.proofs.lemmas.List.{map-append, length-map}
 use Rattle.rg_store.specs.Shown.{seen_of, store_of}
 use Rattle.rg_plain.specs.Kept.{kept_of}
 use Rattle.rg_tree.specs.Rows.RowTrees.{classes_of}
-use Rattle.rg_plain.proofs.Statements.CallLemmas.{All-under}
-use Rattle.rg_plain.proofs.Rows.FitLemmas.{made-fits}
-use Rattle.rg_plain.proofs.Statements.MakeLemmas.{made-as}
+use Rattle.rg_plain.proofs.Statements.Call.{All-under}
+use Rattle.rg_plain.proofs.Rows.Fit.{made-fits}
+use Rattle.rg_plain.proofs.Statements.Make.{made-as}
 use Rattle.rg_plain.proofs.steps.new.make.Goals as goal
 
 pub returns-clause-made : goal.returns-clause-made

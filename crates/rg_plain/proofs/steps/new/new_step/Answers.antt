@@ -8,7 +8,7 @@ use Rattle.rg_store.specs.Shown.{opened_as, seen_of}
 use Rattle.rg_store.specs.Regions.{LabelFits}
 use Rattle.rg_plain.specs.Kept.{Kept, kept_of, plain_of, shown}
 use Rattle.rg_plain.specs.Inner.Makes.{with_object, use_with, managers_with}
-use Rattle.rg_plain.proofs.Statements.MakeLemmas.{made-step, label-made}
+use Rattle.rg_plain.proofs.Statements.Make.{made-step, label-made}
 use Rattle.rg_plain.proofs.steps.new.new_step.Goals as goal
 
 pub make-requires-clause-class : goal.make-requires-clause-class

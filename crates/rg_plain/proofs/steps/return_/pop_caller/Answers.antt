@@ -1,7 +1,7 @@
 use Rattle.std.proofs.Common.{◌≡◌, refl}
 use Rattle.rg_plain.specs.declared.state.rows.FrameRow.{FrameRow}
 use Rattle.rg_plain.specs.Kept.{kept_frame}
-use Rattle.rg_plain.proofs.Rows.FrameLemmas.{frames-front, frames-last, frames-taken, frames-back}
+use Rattle.rg_plain.proofs.Rows.Frame.{frames-front, frames-last, frames-taken, frames-back}
 use Rattle.rg_plain.proofs.steps.return_.pop_caller.Goals as goal
 
 pub returns-in-Ok-clause-taken : goal.returns-in-Ok-clause-taken

@@ -6,7 +6,7 @@ use Rattle.rg_rules.specs.Evaluation.{field_value}
 use Rattle.rg_rules.specs.State.{State, value_in, put_local}
 use Rattle.rg_rules.specs.Steps.{put_field}
 use Rattle.rg_store.specs.Shown.{seen_of}
-use Rattle.rg_store.proofs.Callers.WriteLemmas.{object-there}
+use Rattle.rg_store.proofs.Callers.Write.{object-there}
 use Rattle.rg_plain.specs.Kept.{kept_of, plain_of}
 use Rattle.rg_plain.specs.Shown.{locals_of}
 use Rattle.rg_plain.proofs.steps.swap.exchange.Goals as goal

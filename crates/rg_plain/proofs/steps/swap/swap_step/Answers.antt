@@ -1,7 +1,7 @@
 use Rattle.rg_base.proofs.Callers.Lists.{there}
 use Rattle.rg_tree.specs.Rows.RowTrees.{path_of}
 use Rattle.rg_plain.specs.Kept.{kept_of}
-use Rattle.rg_plain.proofs.Statements.FieldLemmas.{swap-step, field-spot}
+use Rattle.rg_plain.proofs.Statements.Field.{swap-step, field-spot}
 use Rattle.rg_plain.proofs.steps.swap.swap_step.Goals as goal
 
 pub returns-in-Field-clause-step : goal.returns-in-Field-clause-step

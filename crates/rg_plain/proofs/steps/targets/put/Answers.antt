@@ -6,7 +6,7 @@ use Rattle.rg_rules.specs.State.{State}
 use Rattle.rg_store.specs.declared.objects.ObjectRow.{ObjectRow}
 use Rattle.rg_store.specs.Regions.{LabelsFit}
 use Rattle.rg_store.specs.Shown.{store_of, AreOfClasses}
-use Rattle.rg_store.proofs.Callers.WriteLemmas.{put_field-written}
+use Rattle.rg_store.proofs.Callers.Write.{put_field-written}
 use Rattle.rg_plain.specs.Kept.{kept_of, plain_of}
 use Rattle.rg_plain.specs.Inner.Spots.{use_of}
 use Rattle.rg_plain.proofs.steps.targets.put.Goals as goal

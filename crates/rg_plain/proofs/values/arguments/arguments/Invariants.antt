@@ -3,7 +3,7 @@ use Rattle.rg_tree.specs.Rows.RowTrees.{classes_of, expr_at}
 use Rattle.rg_rules.specs.Evaluation.{values_of}
 use Rattle.rg_store.specs.Shown.{store_of}
 use Rattle.rg_plain.specs.Shown.{locals_of}
-use Rattle.rg_plain.proofs.Expressions.ArgumentLemmas.{values_behind}
+use Rattle.rg_plain.proofs.Expressions.Argument.{values_behind}
 use Rattle.rg_plain.proofs.values.arguments.arguments.Given as goal
 
 abbrev pub invariant-loop-e : goal.invariant-loop-e

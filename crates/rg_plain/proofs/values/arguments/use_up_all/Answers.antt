@@ -1,7 +1,7 @@
 use Rattle.std.proofs.Common.{arith}
 use Rattle.rg_tree.specs.Rows.RowTrees.{expr_at}
 use Rattle.rg_plain.specs.Shown.{locals_of}
-use Rattle.rg_plain.proofs.Expressions.UsingLemmas.{cleared-more}
+use Rattle.rg_plain.proofs.Expressions.Using.{cleared-more}
 use Rattle.rg_plain.proofs.values.arguments.use_up_all.Goals as goal
 
 pub loop-e-preserved : goal.loop-e-preserved

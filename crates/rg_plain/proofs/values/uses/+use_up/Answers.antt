@@ -2,7 +2,7 @@ use Rattle.std.proofs.Common.{◌∙◌, sym, ap}
 use Rattle.rg_tree.specs.Rows.RowTrees.{expr_at, expr_of}
 use Rattle.rg_rules.specs.Evaluation.{uses, cleared}
 use Rattle.rg_plain.specs.Shown.{locals_of}
-use Rattle.rg_plain.proofs.Expressions.UsingLemmas.{cleared-binary}
+use Rattle.rg_plain.proofs.Expressions.Using.{cleared-binary}
 use Rattle.rg_plain.proofs.values.uses.+use_up.Goals as goal
 
 pub returns-in-Binary-clause-cleared : goal.returns-in-Binary-clause-cleared

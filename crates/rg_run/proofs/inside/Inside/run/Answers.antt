@@ -1,23 +1,23 @@
 -- The turns and the ends of a run, by the lemma of each.
 use Rattle.std.proofs.Common.{◌≡◌, ◌-◌, ◌^◌, ◌<◌, ℕ, [], Err, refl, sym, ap, subst, arith, ◌∙◌, true≢false}
 use Rattle.rg_base.specs.declared.outcome.Ended.TheVariants as ended
-use Rattle.rg_io.proofs.ContentLemmas.{Appends-none, Rose-since}
+use Rattle.rg_io.proofs.Content.{Appends-none, Rose-since}
 use Rattle.rg_tree.specs.Rows.Tables.{Tables}
 use Rattle.rg_tree.specs.Rows.RowTrees.{program_of}
 use Rattle.rg_rules.specs.Acceptance.{Accepted}
-use Rattle.rg_input.proofs.InputLemmas.{OnInput-still}
+use Rattle.rg_input.proofs.Input.{OnInput-still}
 use Rattle.rg_machine.specs.Parts.{machine_in}
 use Rattle.rg_step.specs.States.{Opens}
 use Rattle.rg_step.specs.Steps.{opening_machine}
 use Rattle.rg_step.specs.Stepping.{Stepping, fresh}
-use Rattle.rg_run.proofs.AskLemmas.{yeses-none, yeses-of, yeses-more}
-use Rattle.rg_run.proofs.LoopLemmas.{ends-so, goes-on, spent, turned-leapt}
-use Rattle.rg_run.proofs.RunLemmas.{asked-none, not-begun, since-none}
-use Rattle.rg_run.proofs.NoneLemmas.{tells-none}
-use Rattle.rg_run.proofs.StateLemmas.{opened}
-use Rattle.rg_run.proofs.TurnLemmas.{Between, Turns, begins, is-running}
-use Rattle.rg_run.proofs.ReportLemmas.{few-behind, input-failed, rose-since}
-use Rattle.rg_run.proofs.ReportLemmas.{reports-front, reports-none, reports-of, reports-same, reports-unbegun}
+use Rattle.rg_run.proofs.Ask.{yeses-none, yeses-of, yeses-more}
+use Rattle.rg_run.proofs.Loop.{ends-so, goes-on, spent, turned-leapt}
+use Rattle.rg_run.proofs.Run.{asked-none, not-begun, since-none}
+use Rattle.rg_run.proofs.None.{tells-none}
+use Rattle.rg_run.proofs.State.{opened}
+use Rattle.rg_run.proofs.Turn.{Between, Turns, begins, is-running}
+use Rattle.rg_run.proofs.Report.{few-behind, input-failed, rose-since}
+use Rattle.rg_run.proofs.Report.{reports-front, reports-none, reports-of, reports-same, reports-unbegun}
 use Rattle.rg_run.proofs.inside.Inside.run.Goals as goal
 
 pub begin-requires : goal.begin-requires

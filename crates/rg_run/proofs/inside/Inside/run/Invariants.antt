@@ -4,7 +4,7 @@ use Rattle.rg_base.specs.declared.outcome.Ended.TheVariants as ended
 use Rattle.rg_input.specs.Numbers.{Follows, OnInput}
 use Rattle.rg_step.specs.Asking.{YesesTold}
 use Rattle.rg_run.specs.Reports.{Reports}
-use Rattle.rg_run.proofs.TurnLemmas.{Turns}
+use Rattle.rg_run.proofs.Turn.{Turns}
 use Rattle.rg_run.proofs.inside.Inside.run.Given as goal
 
 abbrev pub invariant-loop-self : goal.invariant-loop-self

@@ -7,7 +7,7 @@ use Rattle.rg_held.specs.Shown.{ShowsHeld}
 use Rattle.rg_machine.specs.Owned.{IsOwned}
 use Rattle.rg_machine.specs.Parts.{machine_in}
 use Rattle.rg_step.specs.Stepping.{Stepping}
-use Rattle.rg_step.proofs.HeldLemmas.{shows-some}
+use Rattle.rg_step.proofs.Held.{shows-some}
 use Rattle.rg_step.proofs.stepper.Stepper.is_owned.Goals as goal
 
 abbrev Says : Stepping → Type 0

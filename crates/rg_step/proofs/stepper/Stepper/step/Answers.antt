@@ -2,8 +2,8 @@ use Rattle.std.proofs.Common.{subst, sym}
 use Rattle.rg_machine.specs.Parts.{machine_in}
 use Rattle.rg_step.specs.Steps.{IsRunning}
 use Rattle.rg_step.specs.Stepping.{Stepping}
-use Rattle.rg_step.proofs.HeldLemmas.{rests-some, shows-none, shows-some}
-use Rattle.rg_step.proofs.RunLemmas.{never-fresh}
+use Rattle.rg_step.proofs.Held.{rests-some, shows-none, shows-some}
+use Rattle.rg_step.proofs.Run.{never-fresh}
 use Rattle.rg_step.proofs.stepper.Stepper.step.Goals as goal
 
 pub step_on-requires-clause-runs : goal.step_on-requires-clause-runs

@@ -1,5 +1,5 @@
 use Rattle.std.proofs.Common.{rules}
-use Rattle.rg_tree.proofs.NameLemmas.{slice_get-number_of}
+use Rattle.rg_tree.proofs.Name.{slice_get-number_of}
 use Rattle.rg_tree.proofs.names.Names.add.Goals as goal
 
 pub returns-in-Some-clause-stored : goal.returns-in-Some-clause-stored

@@ -1,5 +1,5 @@
 use Rattle.std.proofs.Common.{rules, bytes_eq}
-use Rattle.rg_tree.proofs.NameLemmas.{position-map}
+use Rattle.rg_tree.proofs.Name.{position-map}
 use Rattle.rg_tree.proofs.names.Names.find.Goals as goal
 
 pub returns-in-Some : goal.returns-in-Some

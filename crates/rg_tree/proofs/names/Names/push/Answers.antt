@@ -1,7 +1,7 @@
 use Rattle.std.proofs.Common.{◌≡◌, ◌∙◌, refl, sym, ap, length, map, None, Some, rules}
 use Rattle.std.proofs.lemmas.List.{length-map}
 use Rattle.rg_tree.specs.Rows.Tables.{number_of}
-use Rattle.rg_tree.proofs.NameLemmas.{map-insert_new, number_of-new, slice_get-number_of}
+use Rattle.rg_tree.proofs.Name.{map-insert_new, number_of-new, slice_get-number_of}
 use Rattle.rg_tree.proofs.names.Names.push.Goals as goal
 
 pub returns-clause-names : goal.returns-clause-names

@@ -1,0 +1,397 @@
+-- From what the layers under the top call have answered to the words of the headline.
+use Rattle.std.proofs.Common.{◌≡◌, ◌≢◌, ℕ, suc, ◌<◌, ◌≤◌, ◌⊎◌, inl, inr, Bool, true, false, List, length, replicate, Option, Some, None, refl}
+use Rattle.std.proofs.Common.{sym, ◌∙◌, ap, subst, arith}
+use Rattle.std.specs.Bool.{OnTrue, OnFalse}
+use Rattle.std.proofs.lemmas.List.{length-replicate}
+use Rattle.rg_base.specs.declared.limits.TheConstants.{SOURCE_BYTES}
+use Rattle.rg_io.specs.Content.{Rose}
+use Rattle.rg_io.specs.Files.{Told, HasLongFile}
+use Rattle.rg_io.proofs.Content.{Rose-since}
+use Rattle.rg_run.specs.Machine.{Kept, IsFresh, numbers_of}
+use Rattle.rg_top.specs.declared.status.Status.{Status}
+use Rattle.rg_top.specs.declared.status.Status.TheVariants as status
+use Rattle.rg_top.specs.Commands.{Command, command, Origin, in_file, origin_of, reads_input, may_read, opens_file, may_open}
+use Rattle.rg_top.specs.Statuses.{is_answer, is_refusal, is_cut_off, is_from_outside}
+use Rattle.rg_top.specs.Expected.{HasSource, ExpectsStatus}
+use Rattle.rg_top.specs.Headline.{ForInput, ForSource, Exactly, ExactlyWhere, Answers, Untouched, CutOffAt, CutAtInput}
+use Rattle.rg_top.specs.Headline.{IsExpected, MayTell}
+use Rattle.rg_top.specs.Inner.Settled.{Settles, Unread, source_fault, memory, SettlesCommand, Refuses, Caused, Tunes, Chooses, Becomes}
+use Rattle.rg_top.proofs.Meaning.{expects-one, refusal-any}
+use Rattle.rg_top.proofs.Settled.{answers-of, cut-of, status-of}
+use Rattle.rg_top.proofs.Bulk.{no-fault}
+use Rattle.rg_top.proofs.Notes.{rose-then}
+
+-- there are lists of any length
+long-list : (n : ℕ) → (source : List ℕ) × (n < length source)
+long-list n = (replicate (suc n) 0, omega (arith, length-replicate {A = ℕ} (suc n) 0))
+
+-- a file that is too long is read as some source that is
+pub long-refuses : (told : Option Told) (file : List ℕ) → HasLongFile told file SOURCE_BYTES → Refuses told (in_file file) status.Long
+long-refuses None file h = let l = long-list SOURCE_BYTES in (l.0, tt, l.1)
+long-refuses (Some t) file h = h
+
+-- where no program came, nothing is done
+pub refuses-settles : (told : Option Told) (c : Command) (s : Status) (left old : Option (List ℕ)) (m : Kept) (still : Type 0) →
+    Refuses told (origin_of c) s → IsFresh m → still → SettlesCommand told c left s old old m still
+refuses-settles told c status.Done left old m still h fresh quiet = absurd h
+refuses-settles told c (status.Refused f) left old m still h fresh quiet = inl (h.0, h.1, (inl h.2, (fresh, refl, quiet)))
+refuses-settles told c status.Usage left old m still h fresh quiet = absurd h
+refuses-settles told c (status.Trap kind line) left old m still h fresh quiet = absurd h
+refuses-settles told c status.Spent left old m still h fresh quiet = absurd h
+refuses-settles told c status.SourceFault left old m still h fresh quiet = inr (source_fault, (fresh, refl, quiet))
+refuses-settles told c status.InputFault left old m still h fresh quiet = absurd h
+refuses-settles told c status.OutputFault left old m still h fresh quiet = absurd h
+refuses-settles told c status.Memory left old m still h fresh quiet = inr (memory, (fresh, refl, quiet))
+refuses-settles told c status.Long left old m still h fresh quiet = inl (h.0, h.1, (h.2, (fresh, refl, quiet)))
+
+-- and neither the input nor the output or the notes failed
+pub refuses-caused : (told : Option Told) (origin : Origin) (s : Status) (i o n : ℕ) → Refuses told origin s → Caused s i i o o n n
+refuses-caused told origin s i o n h = record {
+  input_fault = λ e. let P : Status → Type 0 = Refuses told origin in absurd (subst P e h);
+  output_fault = λ e. let P : Status → Type 0 = Refuses told origin in absurd (subst P e h);
+  input_never_falls = omega arith;
+  output_never_falls = omega arith;
+  notes_never_fall = omega arith;
+}
+
+-- an input that never fails is as good as one that didn't
+pub caused-unread : (s : Status) (i o p n m : ℕ) → Caused s 0 0 o p n m → Caused s i i o p n m
+caused-unread s i o p n m c = record {
+  input_fault = λ e. absurd (no-fault s c.input_fault e);
+  output_fault = c.output_fault;
+  input_never_falls = omega arith;
+  output_never_falls = c.output_never_falls;
+  notes_never_fall = c.notes_never_fall;
+}
+
+-- what was answered to a source is no fault of a file
+pub settles-inside : (c : Command) (source : List ℕ) (left : Option (List ℕ)) (s : Status) (old new : Option (List ℕ)) (m : Kept) (still : Type 0) →
+    Settles c source left s old new m still → s ≢ status.SourceFault
+settles-inside c source left s old new m still h e = let P : Status → Type 0 = λ x. Settles c source left x old new m still in absurd (subst P e h)
+
+-- facts on the status that the layers under the top call gave, on an output fault and on want of memory hold of what was told
+pub told-status : (P : Status → Type 0) (given answer : Status) → P given → P status.OutputFault → P status.Memory → Becomes given answer → P answer
+told-status P given answer h o m (inl e) = subst P (sym e) h
+told-status P given answer h o m (inr (inl e)) = subst P (sym e) o
+told-status P given answer h o m (inr (inr e)) = subst P (sym e) m
+
+-- a fact that holds under a test leads to another
+on-true : (P Q : Type 0) (b : Bool) → OnTrue b P → (P → Q) → OnTrue b Q
+on-true P Q true h f = f h
+on-true P Q false h f = tt
+
+-- a fact holds under any test
+on-fact : (b : Bool) (P : Type 0) → P → OnTrue b P
+on-fact true P h = h
+on-fact false P h = tt
+
+unread-answer : (told : Option Told) (c : Command) (s : Status) (P : Type 0) → Unread told c s → OnTrue (is_answer s) P
+unread-answer told c s P source_fault = tt
+unread-answer told c s P memory = tt
+
+unread-outside : (told : Option Told) (c : Command) (s : Status) → Unread told c s → is_from_outside s ≡ true
+unread-outside told c s source_fault = refl
+unread-outside told c s memory = refl
+
+-- what was answered to a file, by its source
+module _ (told : Option Told) (left : Option (List ℕ)) (words : List (List ℕ)) (c : Command) (s : Status) (old new : Option (List ℕ)) (m : Kept)
+    (still : Type 0) (asked : command words ≡ Some c) where
+  for-source : (P : Command → List ℕ → List ℕ → Type 0) (source : List ℕ) → HasSource told (origin_of c) source → ForInput left (P c source) →
+      ForSource told left words P
+  for-source P source has h = (c, source, asked, has, h)
+
+  file-answers : SettlesCommand told c left s old new m still →
+      OnTrue (is_answer s) (ForSource told left words (λ d source input. Answers d source input s old new m still))
+  file-answers (inl h) = on-true _ _ (is_answer s) (answers-of c h.0 left s old new m still h.2) (for-source _ h.0 h.1)
+  file-answers (inr u) = unread-answer told c s _ u.0
+
+  file-cut : SettlesCommand told c left s old new m still →
+      Untouched m old new still ⊎ ForSource told left words (λ d source input. CutOffAt d source input m old new still)
+  file-cut (inl h) = elim (cut-of c h.0 left s old new m still h.2) [ inl u ↦ inl u | inr k ↦ inr (for-source _ h.0 h.1 k) ]
+  file-cut (inr u) = inl u.1
+
+  file-input : s ≡ status.InputFault → SettlesCommand told c left s old new m still →
+      ForSource told left words (λ d source input. CutAtInput d source input m old new)
+  file-input e (inl h) = let P : Status → Type 0 = λ x. Settles c h.0 left x old new m still in for-source _ h.0 h.1 (subst P e h.2)
+  file-input e (inr u) = absurd (go s u.0 e)
+    where
+      go : (x : Status) → Unread told c x → x ≢ status.InputFault
+      go x source_fault e = cc
+      go x memory e = cc
+
+  -- what is expected, where nothing was cut off
+  file-status : SettlesCommand told c left s old new m still →
+      ForSource told left words (λ d source input. ExpectsStatus d source input s) ⊎ (is_from_outside s ≡ true)
+  file-status (inl h) = elim (status-of c h.0 left s old new m still h.2) [ inl e ↦ inl (for-source _ h.0 h.1 e) | inr o ↦ inr o ]
+  file-status (inr u) = inr (unread-outside told c s u.0)
+
+answer-inside : (s : Status) → is_answer s ≡ true → is_from_outside s ≡ false
+answer-inside status.Done h = refl
+answer-inside (status.Refused f) h = refl
+answer-inside status.Usage h = refl
+answer-inside (status.Trap kind line) h = refl
+answer-inside status.Spent h = refl
+answer-inside status.SourceFault h = cc
+answer-inside status.InputFault h = cc
+answer-inside status.OutputFault h = cc
+answer-inside status.Memory h = cc
+answer-inside status.Long h = refl
+
+-- a status comes exactly where it is expected: it is what was given, or that was cut off
+module _ (told : Option Told) (left : Option (List ℕ)) (words : List (List ℕ)) (given s : Status) (answers : is_answer s ≡ true) where
+  outside-exactly : (behind : Option (List ℕ)) → is_from_outside given ≡ true → ExactlyWhere told behind words given s
+  outside-exactly behind o = record {
+    only = λ e. let n : is_from_outside given ≡ false = ap is_from_outside e ∙ answer-inside s answers in absurd (cc);
+    always = λ c asked all. inr o;
+  }
+
+  exactly-where : ForSource told left words (λ c source input. ExpectsStatus c source input given) ⊎ (is_from_outside given ≡ true) →
+      ExactlyWhere told left words given s
+  exactly-where (inl (c, source, asked, has, (input, is, expects))) = record {
+    only = λ e. let P : Status → Type 0 = λ x. ExpectsStatus c source input x in (c, source, asked, has, (input, is, subst P e expects));
+    always = λ d again all.
+        let same : d ≡ c = cc in
+        let Q : Command → Type 0 = λ x. HasSource told (origin_of x) source → ExpectsStatus x source input s in
+        inl (expects-one c source input given s expects (subst Q same (λ h. all source input h is) has));
+  }
+  exactly-where (inr o) = outside-exactly left o
+
+  -- a refusal is expected whatever the input has
+  exactly-refused : is_refusal s ≡ true → (bytes : List ℕ) →
+      ForSource told left words (λ c source input. ExpectsStatus c source input given) ⊎ (is_from_outside given ≡ true) →
+      ExactlyWhere told (Some bytes) words given s
+  exactly-refused refuses bytes (inl (c, source, asked, has, (input, is, expects))) = record {
+    only = λ e.
+        let P : Status → Type 0 = λ x. ExpectsStatus c source input x in
+        (c, source, asked, has, (bytes, refl, refusal-any c source input bytes s refuses (subst P e expects)));
+    always = λ d again all.
+        let same : d ≡ c = cc in
+        let Q : Command → Type 0 = λ x. HasSource told (origin_of x) source → ExpectsStatus x source bytes s in
+        let there = subst Q same (λ h. all source bytes h refl) has in
+        inl (expects-one c source input given s expects (refusal-any c source bytes input s refuses there));
+  }
+  exactly-refused refuses bytes (inr o) = outside-exactly (Some bytes) o
+
+-- where nothing is cut off but for want of memory, the answer is the expected one
+expected-unless : (P : Type 0) (s : Status) → P ⊎ (is_from_outside s ≡ true) → s ≢ status.SourceFault → s ≢ status.InputFault →
+    s ≢ status.OutputFault → P ⊎ (s ≡ status.Memory)
+expected-unless P s (inl h) x y z = inl h
+expected-unless P status.Done (inr o) x y z = cc
+expected-unless P (status.Refused f) (inr o) x y z = cc
+expected-unless P status.Usage (inr o) x y z = cc
+expected-unless P (status.Trap kind line) (inr o) x y z = cc
+expected-unless P status.Spent (inr o) x y z = cc
+expected-unless P status.SourceFault (inr o) x y z = absurd (x refl)
+expected-unless P status.InputFault (inr o) x y z = absurd (y refl)
+expected-unless P status.OutputFault (inr o) x y z = absurd (z refl)
+expected-unless P status.Memory (inr o) x y z = inr refl
+expected-unless P status.Long (inr o) x y z = cc
+
+-- an answer of another kind is the one that was given
+pub given-is : (given answer : Status) → Becomes given answer → answer ≢ status.OutputFault → answer ≢ status.Memory → given ≡ answer
+given-is given answer (inl t) n m = sym t
+given-is given answer (inr (inl t)) n m = absurd (n t)
+given-is given answer (inr (inr t)) n m = absurd (m t)
+
+-- a fault of the output or the notes came while the command was done, or while its status was told
+pub answer-output : (given : Status) (o p a b c : ℕ) → (given ≡ status.OutputFault → Rose o p ⊎ Rose a b) → a ≤ b → b ≤ c →
+    (given ≡ status.OutputFault) ⊎ Rose b c → Rose o p ⊎ Rose a c
+answer-output given o p a b c h l k (inl e) = elim (h e) [ inl r ↦ inl r | inr r ↦ inr (rose-then a b c r k) ]
+answer-output given o p a b c h l k (inr r) = inr (Rose-since a b c l r)
+
+-- the pacers are tuned to the number of the command that the words give
+pub answer-tuned : (words : List (List ℕ)) (c : Command) (m : Kept) (count trace : ℕ) → command words ≡ Some c → Tunes c m count trace →
+    (d : Command) → command words ≡ Some d → Tunes d m count trace
+answer-tuned words c m count trace e h d again =
+    let same : d ≡ c = cc in
+    let P : Command → Type 0 = λ x. Tunes x m count trace in
+    subst P (sym same) h
+
+-- and whether what is kept moves is chosen by that command
+pub answer-chooses : (words : List (List ℕ)) (c : Command) (m : Kept) → command words ≡ Some c → Chooses c m →
+    (d : Command) → command words ≡ Some d → Chooses d m
+answer-chooses words c m e h d again =
+    let same : d ≡ c = cc in
+    let P : Command → Type 0 = λ x. Chooses x m in
+    subst P (sym same) h
+
+-- What the top call answers behind the layers under it: the words' command, what was answered to its file, and that this was told, or an output
+-- fault or want of memory.
+pub record Answered (told : Option Told) (left : Option (List ℕ)) (words : List (List ℕ)) (given answer : Status) (old new : Option (List ℕ))
+    (m : Kept) (still : Type 0) : Type 0 where
+  pub asked : Command
+  pub command_is : command words ≡ Some asked
+  pub settles : SettlesCommand told asked left given old new m still
+  pub told_is : Becomes given answer
+
+module _ {told : Option Told} {left : Option (List ℕ)} {words : List (List ℕ)} {given answer : Status} {old new : Option (List ℕ)} {m : Kept}
+    {still : Type 0} (a : Answered told left words given answer old new m still) where
+  pub answer-answered : OnTrue (is_answer answer) (ForSource told left words (λ c source input. Answers c source input answer old new m still))
+  answer-answered =
+      told-status (λ s. OnTrue (is_answer s) (ForSource told left words (λ c source input. Answers c source input s old new m still))) given answer
+      (file-answers told left words a.asked given old new m still a.command_is a.settles) tt tt a.told_is
+
+  pub answer-cut : OnTrue (is_cut_off answer)
+      (Untouched m old new still ⊎ ForSource told left words (λ c source input. CutOffAt c source input m old new still))
+  answer-cut = on-fact (is_cut_off answer) _ (file-cut told left words a.asked given old new m still a.command_is a.settles)
+
+  pub answer-input : answer ≡ status.InputFault → ForSource told left words (λ c source input. CutAtInput c source input m old new)
+  answer-input e =
+      file-input told left words a.asked given old new m still a.command_is (given-is given answer a.told_is (λ o. cc) (λ o. cc) ∙ e) a.settles
+
+  -- each answer to a source comes exactly where it is expected
+  pub answer-exactly : (s : Status) → is_answer s ≡ true → ExactlyWhere told left words answer s
+  answer-exactly s i =
+      told-status (λ x. ExactlyWhere told left words x s) given answer
+      (exactly-where told left words given s i (file-status told left words a.asked given old new m still a.command_is a.settles))
+      (outside-exactly told left words status.OutputFault s i left refl) (outside-exactly told left words status.Memory s i left refl) a.told_is
+
+  -- and a refusal whatever the input has
+  pub answer-refused : (s : Status) → is_answer s ≡ true → is_refusal s ≡ true → (bytes : List ℕ) → ExactlyWhere told (Some bytes) words answer s
+  answer-refused s i r bytes =
+      told-status (λ x. ExactlyWhere told (Some bytes) words x s) given answer
+      (exactly-refused told left words given s i r bytes (file-status told left words a.asked given old new m still a.command_is a.settles))
+      (outside-exactly told left words status.OutputFault s i (Some bytes) refl)
+      (outside-exactly told left words status.Memory s i (Some bytes) refl) a.told_is
+
+  -- where no count rose, the answer is the expected one, or there was no memory
+  pub answer-complete : (F I O N : Type 0) → (answer ≡ status.SourceFault → F) → (answer ≡ status.InputFault → I) →
+      (answer ≡ status.OutputFault → O ⊎ N) → ¬ F → ¬ I → ¬ O → ¬ N →
+      ForSource told left words (λ c source input. ExpectsStatus c source input answer) ⊎ (answer ≡ status.Memory)
+  answer-complete F I O N x y z nf ni nout nn = by a.told_is
+    where
+      Expected : Status → Type 0
+      Expected s = ForSource told left words (λ c source input. ExpectsStatus c source input s)
+
+      by : Becomes given answer → Expected answer ⊎ (answer ≡ status.Memory)
+      by (inl e) =
+          let P : Status → Type 0 = λ s. Expected s ⊎ (is_from_outside s ≡ true) in
+          expected-unless (Expected answer) answer
+          (subst P (sym e) (file-status told left words a.asked given old new m still a.command_is a.settles)) (λ i. nf (x i)) (λ i. ni (y i))
+          (λ i. elim (z i) [ inl o ↦ nout o | inr n ↦ nn n ])
+      by (inr (inl e)) = elim (z e) [ inl o ↦ absurd (nout o) | inr n ↦ absurd (nn n) ]
+      by (inr (inr e)) = inr e
+
+-- a refusal leaves nothing
+untouched-of : (told : Option Told) (left : Option (List ℕ)) (c : Command) (s : Status) (old new : Option (List ℕ)) (m : Kept) (still : Type 0) →
+    SettlesCommand told c left s old new m still → OnTrue (is_refusal s) (Untouched m old new still)
+untouched-of told left c status.Done old new m still h = tt
+untouched-of told left c (status.Refused f) old new m still (inl h) = h.2.1
+untouched-of told left c (status.Refused f) old new m still (inr u) = u.1
+untouched-of told left c status.Usage old new m still (inl h) = absurd h.2
+untouched-of told left c status.Usage old new m still (inr u) = u.1
+untouched-of told left c (status.Trap kind line) old new m still h = tt
+untouched-of told left c status.Spent old new m still h = tt
+untouched-of told left c status.SourceFault old new m still (inl h) = absurd h.2
+untouched-of told left c status.SourceFault old new m still (inr u) = u.1
+untouched-of told left c status.InputFault old new m still h = tt
+untouched-of told left c status.OutputFault old new m still h = tt
+untouched-of told left c status.Memory old new m still h = tt
+untouched-of told left c status.Long old new m still (inl h) = h.2.1
+untouched-of told left c status.Long old new m still (inr u) = u.1
+
+pub answer-untouched : {told : Option Told} {left : Option (List ℕ)} {words : List (List ℕ)} {given answer : Status} {old new : Option (List ℕ)}
+    {m : Kept} {still : Type 0} → Answered told left words given answer old new m still → OnTrue (is_refusal answer) (Untouched m old new still)
+answer-untouched {told = told} {left = left} {given = given} {answer = answer} {old = old} {new = new} {m = m} {still = still} a =
+    told-status (λ s. OnTrue (is_refusal s) (Untouched m old new still)) given answer
+    (untouched-of told left a.asked given old new m still a.settles) tt tt a.told_is
+
+-- a command is answered no usage
+usage-unread : (told : Option Told) (c : Command) (s : Status) → Unread told c s → s ≢ status.Usage
+usage-unread told c s source_fault e = cc
+usage-unread told c s memory e = cc
+
+no-usage : (told : Option Told) (left : Option (List ℕ)) (c : Command) (old new : Option (List ℕ)) (m : Kept) (still : Type 0) →
+    SettlesCommand told c left status.Usage old new m still → ⊥
+no-usage told left c old new m still (inl h) = h.2
+no-usage told left c old new m still (inr u) = usage-unread told c status.Usage u.0 refl
+
+pub answer-usage : {told : Option Told} {left : Option (List ℕ)} {words : List (List ℕ)} {given answer : Status} {old new : Option (List ℕ)}
+    {m : Kept} {still : Type 0} → Answered told left words given answer old new m still → Exactly answer status.Usage (command words ≡ None)
+answer-usage {told = told} {left = left} {words = words} {given = given} {answer = answer} {old = old} {new = new} {m = m} {still = still} a = (
+  λ e.
+      let P : Status → Type 0 = λ s. SettlesCommand told a.asked left s old new m still in
+      absurd (no-usage told left a.asked old new m still (subst P (given-is given answer a.told_is (λ o. cc) (λ o. cc) ∙ e) a.settles)),
+  λ none. let lie : None ≡ Some a.asked = sym none ∙ a.command_is in absurd (cc),
+)
+
+-- a status that is expected, or comes from outside with its cause, may be told
+may-tell : (told : Option Told) (left : Option (List ℕ)) (words : List (List ℕ)) (F I : Type 0) (s : Status) → s ≢ status.OutputFault →
+    s ≢ status.Usage → (s ≡ status.SourceFault → F) → (s ≡ status.InputFault → I) → IsExpected told left words s ⊎ (is_from_outside s ≡ true) →
+    MayTell told left words F I s
+may-tell told left words F I status.Done n u f i (inl h) = h
+may-tell told left words F I status.Done n u f i (inr o) = cc
+may-tell told left words F I (status.Refused fault) n u f i (inl h) = h
+may-tell told left words F I (status.Refused fault) n u f i (inr o) = cc
+may-tell told left words F I status.Usage n u f i h = absurd (u refl)
+may-tell told left words F I (status.Trap kind line) n u f i (inl h) = h
+may-tell told left words F I (status.Trap kind line) n u f i (inr o) = cc
+may-tell told left words F I status.Spent n u f i (inl h) = h
+may-tell told left words F I status.Spent n u f i (inr o) = cc
+may-tell told left words F I status.SourceFault n u f i h = f refl
+may-tell told left words F I status.InputFault n u f i h = i refl
+may-tell told left words F I status.OutputFault n u f i h = absurd (n refl)
+may-tell told left words F I status.Memory n u f i h = tt
+may-tell told left words F I status.Long n u f i (inl h) = h
+may-tell told left words F I status.Long n u f i (inr o) = cc
+
+-- the status that was given to be told is one, and want of memory
+pub answer-may : {told : Option Told} {left : Option (List ℕ)} {words : List (List ℕ)} {given answer : Status} {old new : Option (List ℕ)}
+    {m : Kept} {still : Type 0} → Answered told left words given answer old new m still → (F I : Type 0) → (given ≡ status.SourceFault → F) →
+    (given ≡ status.InputFault → I) → (s : Status) → s ≢ status.OutputFault → (s ≡ given) ⊎ (s ≡ status.Memory) → MayTell told left words F I s
+answer-may {told = told} {left = left} {words = words} {given = given} {old = old} {new = new} {m = m} {still = still} a F I f i s n (inl e) =
+    let P : Status → Type 0 = λ x. SettlesCommand told a.asked left x old new m still in
+    subst (MayTell told left words F I) (sym e)
+    (may-tell told left words F I given (λ o. n (e ∙ o)) (λ u. no-usage told left a.asked old new m still (subst P u a.settles)) f i
+    (file-status told left words a.asked given old new m still a.command_is a.settles))
+answer-may {told = told} {left = left} {words = words} a F I f i s n (inr e) = subst (MayTell told left words F I) (sym e) tt
+
+-- words that are no command are answered a usage, or an output fault, and nothing else
+pub usage-exactly : (told : Option Told) (left : Option (List ℕ)) (words : List (List ℕ)) (answer s : Status) → command words ≡ None →
+    (answer ≡ status.Usage) ⊎ (answer ≡ status.OutputFault) → is_answer s ≡ true → ExactlyWhere told left words answer s
+usage-exactly told left words answer s none t i = record { only = only t; always = λ c asked all. absurd (cc) }
+  where
+    only : (answer ≡ status.Usage) ⊎ (answer ≡ status.OutputFault) → answer ≡ s →
+        ForSource told left words (λ c source input. ExpectsStatus c source input s)
+    only (inl u) e = let n : is_answer status.Usage ≡ true = ap is_answer (sym u ∙ e) ∙ i in absurd (cc)
+    only (inr o) e = let n : is_answer status.OutputFault ≡ true = ap is_answer (sym o ∙ e) ∙ i in absurd (cc)
+
+-- what follows where a test fails
+on-false : (b : Bool) {P : Type 0} → (b ≡ false → P) → OnFalse b P
+on-false true h = tt
+on-false false h = h refl
+
+-- a command that reads nothing is one that the words give
+pub answer-unread : (words : List (List ℕ)) (c : Command) (P : Type 0) → command words ≡ Some c → (reads_input c ≡ false → P) →
+    OnFalse (may_read (command words)) P
+answer-unread words c P e h = rw e (on-false (reads_input c) h)
+
+-- a command that opens no file leaves the files
+pub answer-unopened : (words : List (List ℕ)) (c : Command) (P : Type 0) → command words ≡ Some c → (opens_file c ≡ false → P) →
+    OnFalse (may_open (command words)) P
+answer-unopened words c P e h = rw e (on-false (opens_file c) h)
+
+-- what was answered to a source was expected of it
+expects-of : (told : Option Told) (left : Option (List ℕ)) (words : List (List ℕ)) (s : Status) (old new : Option (List ℕ)) (m : Kept) (still : Type 0) →
+    ForSource told left words (λ c source input. Answers c source input s old new m still) → IsExpected told left words s
+expects-of told left words s old new m still (c, source, asked, has, (input, is, a)) =
+    (c, source, asked, has, (input, is, (numbers_of m, a.text, (a.meaning, a.means, a.expects))))
+
+pub answers-expected : (told : Option Told) (left : Option (List ℕ)) (words : List (List ℕ)) (s : Status) (old new : Option (List ℕ)) (m : Kept)
+    (still : Type 0) → OnTrue (is_answer s) (ForSource told left words (λ c source input. Answers c source input s old new m still)) →
+    OnTrue (is_answer s) (IsExpected told left words s)
+answers-expected told left words s old new m still h = on-true _ _ (is_answer s) h (expects-of told left words s old new m still)
+
+-- a status that may be told of sources and inputs that failed may be told of any
+pub may-any : (told : Option Told) (left : Option (List ℕ)) (words : List (List ℕ)) (F I : Type 0) (s : Status) → s ≢ status.OutputFault →
+    MayTell told left words F I s → MayTell told left words (Unit {0}) (Unit {0}) s
+may-any told left words F I status.Done n h = h
+may-any told left words F I (status.Refused f) n h = h
+may-any told left words F I status.Usage n h = h
+may-any told left words F I (status.Trap kind line) n h = h
+may-any told left words F I status.Spent n h = h
+may-any told left words F I status.SourceFault n h = tt
+may-any told left words F I status.InputFault n h = tt
+may-any told left words F I status.OutputFault n h = h
+may-any told left words F I status.Memory n h = tt
+may-any told left words F I status.Long n h = h

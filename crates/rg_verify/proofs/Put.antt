@@ -1,0 +1,168 @@
+-- What comes on a stack of rows, over what was taken of it.
+use Rattle.std.proofs.Common.{◌≡◌, ℕ, ◌<◌, Bool as Truth, false, List, [], ◌∷◌, length, Option, Some, None, Result, Ok, Err}
+use Rattle.std.proofs.Common.{refl, sym, ap, subst, ◌∙◌}
+use Rattle.rg_tree.specs.declared.rows.ExprRow.{ExprRow}
+use Rattle.rg_tree.specs.declared.rows.ExprRow.TheVariants as row
+use Rattle.rg_tree.specs.Tree as syntax
+use Rattle.rg_tree.specs.Tree.{Expr}
+use Rattle.rg_tree.specs.declared.rows.BinOp.{BinOp}
+use Rattle.rg_tree.specs.Rows.Tables.{Tables}
+use Rattle.rg_tree.specs.Rows.RowTrees.{expr_at, expr_of}
+use Rattle.rg_tree.proofs.Callers.{Keeps-same}
+use Rattle.rg_verify.specs.declared.held.Held.{Held}
+use Rattle.rg_verify.specs.declared.held.Held.TheVariants as held
+use Rattle.rg_verify.specs.declared.part.Junction.{Junction}
+use Rattle.rg_verify.specs.declared.refusal.Refusal.{Refusal}
+use Rattle.rg_verify.specs.declared.refusal.Refusal.TheVariants as refusal
+use Rattle.rg_verify.specs.Raised.{Raised, named, binary}
+use Rattle.rg_verify.specs.Raising.{Item, tree, waits, settle, from_tree, from_two, from_left}
+use Rattle.rg_verify.specs.Rows.{Extends}
+use Rattle.rg_verify.specs.Inner.Adds.{AddsTree, IsExprRow}
+use Rattle.rg_verify.specs.Inner.Stacks.{is_path, IsFor, Piled, IsPiled, Makes, TakesRow, Pushes}
+use Rattle.rg_verify.proofs.Row.{extends-trans}
+use Rattle.rg_verify.proofs.Stack.{piled-later, piled-push}
+
+-- what came before a call
+pub makes-behind : {t u : Tables} (v : Tables) (m : Truth) (hs : List Held) (result : Result (Unit {0}) Refusal) (wanted : Option (List Item))
+    → Extends t u
+    → Makes u v m hs result wanted → Makes t v m hs result wanted
+makes-behind v m hs (Ok done) (Some items) g h = record { extends = extends-trans g h.extends; piled = h.piled }
+makes-behind v m hs (Ok done) None g h = absurd h
+makes-behind v m hs (Err refusal.NotExpression) wanted g h = h
+makes-behind v m hs (Err refusal.Memory) wanted g h = tt
+
+-- a call that makes a stack of any that stands for one, over a tree that comes
+abbrev pub Settles : (u v : Tables) → Truth → (now news : List Held) → (end : ℕ) → Held → Result (Unit {0}) Refusal → Type 0
+Settles u v m now news end h result =
+    (items : List Item) (r : Raised) → Piled u m now items → IsFor u m h (tree r) → Makes u v m news result (Some (settle end r items))
+
+-- the same over the row of a tree
+abbrev pub Puts : (u v : Tables) → Truth → (now news : List Held) → (end : ℕ) → ExprRow → Result (Unit {0}) Refusal → Type 0
+Puts u v m now news end x result =
+    (items : List Item) (r : Raised) → Piled u m now items → expr_of u x ≡ named m r → is_path r ≡ false
+    → Makes u v m news result (Some (settle end r items))
+
+-- a row is held
+pub for-row : {t u : Tables} (m : Truth) {n : ℕ} {e : Expr} (r : Raised) → AddsTree t u n e → e ≡ named m r → is_path r ≡ false
+    → IsFor u m (held.Tree n) (tree r)
+for-row m r put e not_path = (record { is = λ w k. put.means.is w k ∙ e; there = put.means.there }, not_path)
+
+pub puts-tree : (t u v : Tables) (m : Truth) (hs news : List Held) (end n : ℕ) (x : ExprRow) (result : Result (Unit {0}) Refusal)
+    → AddsTree t u n (expr_of t x) → Settles u v m hs news end (held.Tree n) result → Puts t v m hs news end x result
+puts-tree t u v m hs news end n x result put h items r p e not_path =
+    makes-behind v m news result (Some (settle end r items)) put.extends
+    (h items r (piled-later m hs items put.extends p) (for-row m r put e not_path))
+
+-- Over a tree that was taken
+
+module _ (t u : Tables) (m : Truth) (now : List Held) where
+  pub took-pile : (items : List Item) (n : ℕ) → TakesRow t u m now items (Ok n) → IsPiled u m now
+  took-pile [] n h = absurd h
+  took-pile (waits j a to ∷ below) n h = absurd h
+  took-pile (tree r ∷ below) n (made, p) = (below, p)
+
+  pub took-there : (items : List Item) (n : ℕ) → TakesRow t u m now items (Ok n) → n < length u.exprs
+  took-there [] n h = absurd h
+  took-there (waits j a to ∷ below) n h = absurd h
+  took-there (tree r ∷ below) n (made, p) = made.means.there u (Keeps-same u)
+
+  pub took-tree : (items : List Item) (n : ℕ) → TakesRow t u m now items (Ok n) → (r : Raised) × (expr_at u n ≡ named m r)
+  took-tree [] n h = absurd h
+  took-tree (waits j a to ∷ below) n h = absurd h
+  took-tree (tree r ∷ below) n (made, p) = (r, made.means.is u (Keeps-same u))
+
+  pub refused-tree : (f : Raised → Raised) (end : ℕ) (items : List Item) (hs : List Held) (e : Refusal) → TakesRow t u m now items (Err e)
+      → Makes t u m hs (Err e) (from_tree f end items)
+  refused-tree f end items hs refusal.Memory h = tt
+  refused-tree f end [] hs refusal.NotExpression h = refl
+  refused-tree f end (waits j a to ∷ below) hs refusal.NotExpression h = refl
+  refused-tree f end (tree r ∷ below) hs refusal.NotExpression h = absurd h
+
+  pub refused-two : (o : BinOp) (end : ℕ) (items : List Item) (hs : List Held) (e : Refusal) → TakesRow t u m now items (Err e)
+      → Makes t u m hs (Err e) (from_two o end items)
+  refused-two o end items hs refusal.Memory h = tt
+  refused-two o end [] hs refusal.NotExpression h = refl
+  refused-two o end (waits j a to ∷ below) hs refusal.NotExpression h = refl
+  refused-two o end (tree r ∷ below) hs refusal.NotExpression h = absurd h
+
+  pub refused-left : (j : Junction) (to : ℕ) (items : List Item) (hs : List Held) (e : Refusal) → TakesRow t u m now items (Err e)
+      → Makes t u m hs (Err e) (from_left j to items)
+  refused-left j to items hs refusal.Memory h = tt
+  refused-left j to [] hs refusal.NotExpression h = refl
+  refused-left j to (waits i a at ∷ below) hs refusal.NotExpression h = refl
+  refused-left j to (tree r ∷ below) hs refusal.NotExpression h = absurd h
+
+  -- another tree comes over it
+  pub put-over : (v : Tables) (news : List Held) (n : ℕ) (x : ExprRow) (f : Raised → Raised) (end : ℕ) (result : Result (Unit {0}) Refusal)
+      (items : List Item) → TakesRow t u m now items (Ok n) → ((r : Raised) → expr_at u n ≡ named m r → expr_of u x ≡ named m (f r))
+      → ((r : Raised) → is_path (f r) ≡ false) → Puts u v m now news end x result → Makes t v m news result (from_tree f end items)
+  put-over v news n x f end result [] h e not_path puts = absurd h
+  put-over v news n x f end result (waits j a to ∷ below) h e not_path puts = absurd h
+  put-over v news n x f end result (tree r ∷ below) (made, p) e not_path puts =
+      makes-behind v m news result (Some (settle end (f r) below)) made.extends
+      (puts below (f r) p (e r (made.means.is u (Keeps-same u))) (not_path r))
+
+  -- it waits for the right operand
+  pub put-waiting : (news : List Held) (n : ℕ) (j : Junction) (to : ℕ) (result : Result (Unit {0}) Refusal) (items : List Item)
+      → TakesRow t u m now items (Ok n) → Pushes now news (held.Waits (record { junction = j; left = n; to = to })) result
+      → Makes t u m news result (from_left j to items)
+  put-waiting news n j to result [] h pushed = absurd h
+  put-waiting news n j to result (waits i a at ∷ below) h pushed = absurd h
+  put-waiting news n j to (Err refusal.Memory) (tree r ∷ below) h pushed = tt
+  put-waiting news n j to (Err refusal.NotExpression) (tree r ∷ below) h pushed = absurd pushed
+  put-waiting news n j to (Ok done) (tree r ∷ below) (made, p) pushed = record {
+    extends = made.extends;
+    piled = piled-push u m now news (held.Waits (record { junction = j; left = n; to = to })) below (waits j r to) pushed (refl, refl, made.means) p;
+  }
+
+-- Over two trees
+
+module _ (t u v : Tables) (m : Truth) (now next : List Held) where
+  -- the second tree, once the first was taken
+  abbrev pub Second : Result ℕ Refusal → Type 0
+  Second result = (below : List Item) → Piled u m now below → TakesRow u v m next below result
+
+  pub both-refused : (o : BinOp) (end : ℕ) (items : List Item) (hs : List Held) (n : ℕ) (e : Refusal) → TakesRow t u m now items (Ok n)
+      → Second (Err e) → Makes t v m hs (Err e) (from_two o end items)
+  both-refused o end [] hs n e h k = absurd h
+  both-refused o end (waits j a to ∷ below) hs n e h k = absurd h
+  both-refused o end (tree r ∷ below) hs n refusal.Memory h k = tt
+  both-refused o end (tree r ∷ []) hs n refusal.NotExpression (made, p) k = refl
+  both-refused o end (tree r ∷ waits j a to ∷ below) hs n refusal.NotExpression (made, p) k = refl
+  both-refused o end (tree r ∷ tree a ∷ below) hs n refusal.NotExpression (made, p) k = absurd (k (tree a ∷ below) p)
+
+  -- both trees
+  pub record Both (items : List Item) (right left : ℕ) : Type 0 where
+    pub b : Raised
+    pub a : Raised
+    pub below : List Item
+    pub items_are : items ≡ tree b ∷ tree a ∷ below
+    pub made : AddsTree t u right (named m b)
+    pub more : AddsTree u v left (named m a)
+    pub piled : Piled v m next below
+
+  pub both : (items : List Item) (right left : ℕ) → TakesRow t u m now items (Ok right) → Second (Ok left) → Both items right left
+  both [] right left h k = absurd h
+  both (waits j a to ∷ below) right left h k = absurd h
+  both (tree b ∷ []) right left (made, p) k = absurd (k [] p)
+  both (tree b ∷ waits j a to ∷ below) right left (made, p) k = absurd (k (waits j a to ∷ below) p)
+  both (tree b ∷ tree a ∷ below) right left (made, p) k =
+      let (more, q) = k (tree a ∷ below) p in
+      record { b = b; a = a; below = below; items_are = refl; made = made; more = more; piled = q }
+
+  module _ (o : BinOp) {items : List Item} {right left : ℕ} (k : Both items right left) where
+    pub both-there : IsExprRow v (row.Binary o left right)
+    both-there = (k.more.means.there v (Keeps-same v), k.made.means.there v k.more.extends.keeps)
+
+    pub both-is : expr_of v (row.Binary o left right) ≡ named m (binary o k.a k.b)
+    both-is =
+        let l : expr_at v left ≡ named m k.a = k.more.means.is v (Keeps-same v) in
+        let r : expr_at v right ≡ named m k.b = k.made.means.is v k.more.extends.keeps in
+        ap (λ (x : Expr). syntax.binary o x (expr_at v right)) l ∙ ap (λ (x : Expr). syntax.binary o (named m k.a) x) r
+
+    pub put-between : (w : Tables) (news : List Held) (end : ℕ) (result : Result (Unit {0}) Refusal)
+        → Puts v w m next news end (row.Binary o left right) result → Makes t w m news result (from_two o end items)
+    put-between w news end result puts =
+        subst (λ (xs : List Item). Makes t w m news result (from_two o end xs)) (sym k.items_are)
+        (makes-behind w m news result (Some (settle end (binary o k.a k.b) k.below)) (extends-trans k.made.extends k.more.extends)
+        (puts k.below (binary o k.a k.b) k.piled both-is refl))
