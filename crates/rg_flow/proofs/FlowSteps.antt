@@ -13,7 +13,7 @@ use Rattle.rg_flow.specs.Flows.{state_of, Sets}
 use Rattle.rg_flow.specs.Scope.{same_name}
 use Rattle.rg_flow.specs.Inner.Layout.{names_at}
 use Rattle.rg_flow.specs.declared.env.var.Var.{Var}
-use Rattle.rg_flow.proofs.Flow.{names_at-is, names_at-past}
+use Rattle.rg_flow.proofs.Flows.{names_at-is, names_at-past}
 
 -- no variable
 abbrev pub no_var : Var

@@ -2,7 +2,7 @@
 mod Set
 mod NameTests
 mod Place
-mod Flow
+mod Flows
 mod FlowSteps
-mod Env
+mod Envs
 mod Scope

@@ -1,6 +1,6 @@
 -- Lemmas on blanks, tokens and what is held; Input is for crates above.
-mod Ahead
-mod Held
+mod LookingAhead
+mod Holding
 pub mod Input
 mod Next
 mod Number

@@ -1,5 +1,5 @@
 -- Lemmas on content and on files in memory; Content is for crates above.
 pub mod Content
 mod Piece
-mod Shelf
+mod Shelves
 mod Told

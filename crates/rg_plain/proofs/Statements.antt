@@ -3,7 +3,7 @@ pub mod Step
 pub mod Statement
 pub mod Field
 pub mod Make
-pub mod Move
+pub mod Moves
 pub mod Bind
 pub mod Call
 pub mod Window

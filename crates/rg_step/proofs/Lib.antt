@@ -28,7 +28,7 @@ pub mod Active
 mod Yes
 mod Paced
 mod Asked
-mod Since
+mod CountingSince
 mod One
 pub mod Chain
 pub mod Told

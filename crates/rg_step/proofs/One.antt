@@ -24,7 +24,7 @@ use Rattle.rg_step.proofs.High.{raises-none}
 use Rattle.rg_step.proofs.Reached.{none-reached, serves-reached}
 use Rattle.rg_step.proofs.Serve.{serves-none, serves-refused, serves-shows, serves-some, steps-nowhere}
 use Rattle.rg_step.proofs.Slides.{none-slid, serves-slid}
-use Rattle.rg_step.proofs.Since.{none-said, since-refused, since-served, since-undue}
+use Rattle.rg_step.proofs.CountingSince.{none-said, since-refused, since-served, since-undue}
 use Rattle.rg_step.proofs.Write.{steps-write}
 use Rattle.rg_step.proofs.Yes.{no-yes, yeses-served}
 

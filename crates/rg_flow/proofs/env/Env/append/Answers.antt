@@ -1,7 +1,7 @@
 use Rattle.std.proofs.Common.{◌≡◌, ◌<◌, ◌∙◌, refl, sym, ap, length}
 use Rattle.rg_flow.specs.Scope.{Scope}
 use Rattle.rg_flow.specs.Inner.Layout.{with_slot, ready_slot}
-use Rattle.rg_flow.proofs.Env.{length-seen, kept-noted, kept-push, scope-push}
+use Rattle.rg_flow.proofs.Envs.{length-seen, kept-noted, kept-push, scope-push}
 use Rattle.rg_flow.proofs.env.Env.append.Goals as goal
 
 pub invariant_of-self-in_default : goal.invariant_of-self-in_default

@@ -1,7 +1,7 @@
 use Rattle.std.proofs.Common.{◌≡◌, ◌≤◌, ◌∙◌, ap, length, subst}
 use Rattle.rg_flow.specs.Scope.{closed_at}
 use Rattle.rg_flow.proofs.FlowSteps.{IsGoneTo}
-use Rattle.rg_flow.proofs.Env.{length-seen, kept-take, scope-take}
+use Rattle.rg_flow.proofs.Envs.{length-seen, kept-take, scope-take}
 use Rattle.rg_flow.proofs.env.Env.close.Goals as goal
 
 pub forget-requires-clause-ordered : goal.forget-requires-clause-ordered

@@ -1,4 +1,4 @@
-use Rattle.rg_flow.proofs.Env.{states-seen, covers-seen}
+use Rattle.rg_flow.proofs.Envs.{states-seen, covers-seen}
 use Rattle.rg_flow.proofs.env.Env.covers.Goals as goal
 
 pub returns : goal.returns

@@ -2,7 +2,7 @@ use Rattle.std.proofs.Common.{◌≡◌, ◌+◌, true, [], ◌∷◌, ◌∙◌
 use Rattle.std.proofs.lemmas.List.{length-append}
 use Rattle.rg_flow.specs.Scope.{Scope}
 use Rattle.rg_flow.specs.Inner.Layout.{ready_slot}
-use Rattle.rg_flow.proofs.Env.{length-seen, kept-deeper}
+use Rattle.rg_flow.proofs.Envs.{length-seen, kept-deeper}
 use Rattle.rg_flow.proofs.env.Env.enter.Goals as goal
 
 pub invariant_of-self : goal.invariant_of-self

@@ -1,7 +1,7 @@
 use Rattle.std.proofs.Common.{sym}
 use Rattle.std.specs.Prelude.{Ok, Err}
 use Rattle.rg_base.specs.declared.fault.Code.TheVariants.{Unknown}
-use Rattle.rg_flow.proofs.Env.{found-some, found-none}
+use Rattle.rg_flow.proofs.Envs.{found-some, found-none}
 use Rattle.rg_flow.proofs.Scope.{found-tree}
 use Rattle.rg_flow.proofs.env.Env.find.Goals as goal
 

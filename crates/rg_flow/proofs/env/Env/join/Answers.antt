@@ -1,7 +1,7 @@
 use Rattle.std.proofs.Common.{◌∙◌, ap}
 use Rattle.rg_flow.specs.States.{joined_with}
-use Rattle.rg_flow.proofs.Flow.{joined-past}
-use Rattle.rg_flow.proofs.Env.{kept-flow, scope-joined}
+use Rattle.rg_flow.proofs.Flows.{joined-past}
+use Rattle.rg_flow.proofs.Envs.{kept-flow, scope-joined}
 use Rattle.std.proofs.Common.{length}
 use Rattle.rg_flow.proofs.env.Env.join.Goals as goal
 

@@ -2,7 +2,7 @@ use Rattle.std.proofs.Common.{◌≡◌, ◌∙◌, sym, ap, subst}
 use Rattle.rg_flow.specs.Scope.{Scope, marked, variable_of, env_of}
 use Rattle.rg_rules.specs.Environment as rules
 use Rattle.rg_flow.specs.States.{readiness_of, IsReadable}
-use Rattle.rg_flow.proofs.Env.{kept-named, scope-named}
+use Rattle.rg_flow.proofs.Envs.{kept-named, scope-named}
 use Rattle.rg_flow.proofs.Scope.{marked-tree, marked-in}
 use Rattle.rg_flow.proofs.env.Env.mark.Goals as goal
 

@@ -1,6 +1,6 @@
 use Rattle.std.proofs.Common.{◌≡◌, ◌∙◌, ap, length}
 use Rattle.rg_flow.specs.States.{restated}
-use Rattle.rg_flow.proofs.Env.{kept-flow, scope-restated, length-seen}
+use Rattle.rg_flow.proofs.Envs.{kept-flow, scope-restated, length-seen}
 use Rattle.rg_flow.proofs.env.Env.restore.Goals as goal
 
 pub invariant_of-self : goal.invariant_of-self

@@ -1,5 +1,5 @@
 use Rattle.std.proofs.Common.{ap, length}
-use Rattle.rg_flow.proofs.Env.{saved-seen}
+use Rattle.rg_flow.proofs.Envs.{saved-seen}
 use Rattle.rg_flow.proofs.env.Env.save.Goals as goal
 
 pub returns : goal.returns

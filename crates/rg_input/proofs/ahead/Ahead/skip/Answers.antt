@@ -1,6 +1,6 @@
 use Rattle.std.proofs.Common.{◌≤◌, length, refl, sym, subst}
 use Rattle.rg_input.specs.Numbers.{Pending}
-use Rattle.rg_input.proofs.Ahead.{skipped}
+use Rattle.rg_input.proofs.LookingAhead.{skipped}
 use Rattle.rg_input.proofs.ahead.Ahead.skip.Goals as goal
 
 pub returns : goal.returns

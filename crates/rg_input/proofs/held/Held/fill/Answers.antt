@@ -1,8 +1,8 @@
 use Rattle.std.proofs.Common.{◌≡◌, ◌∙◌, false, refl, sym, ap, subst, arith, rules}
 use Rattle.rg_input.specs.Numbers.{Pending}
 use Rattle.rg_input.specs.Inner.Held.{has_enough, looked_at, pending, Reads}
-use Rattle.rg_input.proofs.Ahead.{Reads-came, still-held}
-use Rattle.rg_input.proofs.Held.{short-looked, has-more}
+use Rattle.rg_input.proofs.LookingAhead.{Reads-came, still-held}
+use Rattle.rg_input.proofs.Holding.{short-looked, has-more}
 use Rattle.rg_input.proofs.held.Held.fill.Goals as goal
 
 pub loop-ahead-preserved : goal.loop-ahead-preserved

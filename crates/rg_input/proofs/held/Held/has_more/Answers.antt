@@ -2,7 +2,7 @@ use Rattle.std.proofs.Common.{◌∙◌, refl, arith}
 use Rattle.rg_base.specs.Input.{token_number}
 use Rattle.rg_input.specs.declared.held.Verdict.TheVariants as says
 use Rattle.rg_input.proofs.Read.{says_past, says_end, says_token}
-use Rattle.rg_input.proofs.Held.{verdict_on, with-token, more-token}
+use Rattle.rg_input.proofs.Holding.{verdict_on, with-token, more-token}
 use Rattle.rg_input.proofs.held.Held.has_more.Goals as goal
 
 pub returns-then-len-gt-INPUT_BLANKS : goal.returns-then-len-gt-INPUT_BLANKS

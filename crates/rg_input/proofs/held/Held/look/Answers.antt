@@ -1,7 +1,7 @@
 use Rattle.std.proofs.Common.{◌≡◌, true, inl, ap, Ok, subst, sym, rules}
 use Rattle.std.proofs.lemmas.Bool.{false≢true}
 use Rattle.rg_input.specs.Numbers.{Pending, Refuses}
-use Rattle.rg_input.proofs.Held.{Settled-says, sure-refused, verdict-refused}
+use Rattle.rg_input.proofs.Holding.{Settled-says, sure-refused, verdict-refused}
 use Rattle.rg_input.specs.Inner.Held.{has_enough, pending}
 use Rattle.rg_input.proofs.held.Held.look.Goals as goal
 

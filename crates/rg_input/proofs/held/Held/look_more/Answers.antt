@@ -2,7 +2,7 @@ use Rattle.std.proofs.Common.{◌∙◌, Ok, ap, subst, sym}
 use Rattle.std.proofs.lemmas.Bool.{false≢true}
 use Rattle.rg_input.specs.Numbers.{Pending, Refuses}
 use Rattle.rg_input.specs.Inner.Held.{pending}
-use Rattle.rg_input.proofs.Held.{more-refused, sure-refused}
+use Rattle.rg_input.proofs.Holding.{more-refused, sure-refused}
 use Rattle.rg_input.proofs.held.Held.look_more.Goals as goal
 
 pub returns-in_err-fill-clause-refused : goal.returns-in_err-fill-clause-refused

@@ -1,7 +1,7 @@
 use Rattle.std.proofs.Common.{refl, subst}
 use Rattle.rg_input.specs.Numbers.{OnInput, Looks}
 use Rattle.rg_input.specs.Inner.Held.{pending}
-use Rattle.rg_input.proofs.Held.{looks-answered, OnInput-read}
+use Rattle.rg_input.proofs.Holding.{looks-answered, OnInput-read}
 use Rattle.rg_input.proofs.numbers.Numbers.more.Goals as goal
 
 pub returns-clause-looks : goal.returns-clause-looks

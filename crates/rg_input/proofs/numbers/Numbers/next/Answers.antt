@@ -3,7 +3,7 @@ use Rattle.std.proofs.lemmas.Int.{to_z-of_z}
 use Rattle.rg_input.specs.declared.refusal.NumberRefusal.TheVariants as no
 use Rattle.rg_input.specs.Numbers.{Pending, Refuses, OnInput, Answers}
 use Rattle.rg_input.specs.Inner.Held.{looked_at, pending, verdict_of}
-use Rattle.rg_input.proofs.Held.{OnInput-read, found-said, malformed-said, refusal-end}
+use Rattle.rg_input.proofs.Holding.{OnInput-read, found-said, malformed-said, refusal-end}
 use Rattle.rg_input.proofs.numbers.Numbers.next.Goals as goal
 
 pub returns-in-Ok-Number-clause-answers : goal.returns-in-Ok-Number-clause-answers

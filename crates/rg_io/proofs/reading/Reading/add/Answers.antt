@@ -1,4 +1,4 @@
-use Rattle.rg_io.proofs.Shelf.{told-append}
+use Rattle.rg_io.proofs.Shelves.{told-append}
 use Rattle.rg_io.proofs.reading.Reading.add.Goals as goal
 
 pub returns-clause-ok : goal.returns-clause-ok

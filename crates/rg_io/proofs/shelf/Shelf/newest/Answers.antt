@@ -1,6 +1,6 @@
 use Rattle.std.proofs.Common.{◌≡◌, ◌-◌, true, false, sym, arith}
 use Rattle.std.specs.Prelude.{bytes_eq}
-use Rattle.rg_io.proofs.Shelf.{file_bytes-found, file_bytes-other, get_or-seen}
+use Rattle.rg_io.proofs.Shelves.{file_bytes-found, file_bytes-other, get_or-seen}
 use Rattle.rg_io.proofs.shelf.Shelf.newest.Goals as goal
 
 pub returns-then-eq-clause-found : goal.returns-then-eq-clause-found

@@ -11,7 +11,7 @@ use Rattle.rg_plain.specs.declared.state.rows.LocalRow.{LocalRow}
 use Rattle.rg_plain.specs.Kept.{kept_of}
 use Rattle.rg_plain.specs.Shown.{AreNamed, locals_of}
 use Rattle.rg_plain.specs.Inner.Spots.{use_of}
-use Rattle.rg_plain.proofs.Statements.Move.{set-nil}
+use Rattle.rg_plain.proofs.Statements.Moves.{set-nil}
 use Rattle.rg_plain.proofs.steps.move_.carry.Goals as goal
 
 pub put-requires-clause-fit : goal.put-requires-clause-fit

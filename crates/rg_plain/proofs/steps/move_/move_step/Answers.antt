@@ -6,7 +6,7 @@ use Rattle.rg_tree.specs.Rows.RowTrees.{classes_of}
 use Rattle.rg_rules.specs.State.{State}
 use Rattle.rg_plain.specs.Kept.{Kept, kept_of, plain_of, shown}
 use Rattle.rg_plain.specs.Inner.Moves.{regions_with, label_of, carried}
-use Rattle.rg_plain.proofs.Statements.Move.{move-cut, move-held, carried-moved}
+use Rattle.rg_plain.proofs.Statements.Moves.{move-cut, move-held, carried-moved}
 use Rattle.rg_plain.proofs.steps.move_.move_step.Goals as goal
 
 pub returns-in_err-held-clause-step : goal.returns-in_err-held-clause-step

@@ -7,7 +7,7 @@ use Rattle.rg_store.specs.declared.objects.ObjectRow.{ObjectRow}
 use Rattle.rg_store.specs.Regions.{LabelsFit}
 use Rattle.rg_store.specs.Shown.{store_of}
 use Rattle.rg_plain.specs.Shown.{locals_of}
-use Rattle.rg_plain.proofs.Statements.Move.{made-at}
+use Rattle.rg_plain.proofs.Statements.Moves.{made-at}
 use Rattle.rg_plain.proofs.Statements.Window.{found}
 use Rattle.rg_plain.proofs.steps.move_.value_held.Goals as goal
 

@@ -2,7 +2,7 @@ use Rattle.std.proofs.Common.{sym, subst, List, ℕ, All}
 use Rattle.rg_tree.specs.Rows.RowsExist.{IsNameIn}
 use Rattle.rg_store.specs.Shown.{store_of}
 use Rattle.rg_plain.specs.Shown.{locals_of}
-use Rattle.rg_plain.proofs.Expressions.Spot.{is_cut, is_field}
+use Rattle.rg_plain.proofs.Expressions.Spots.{is_cut, is_field}
 use Rattle.rg_plain.proofs.values.paths.spot_of.Goals as goal
 
 pub returns-in-Ok : goal.returns-in-Ok

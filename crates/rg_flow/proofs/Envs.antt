@@ -16,8 +16,8 @@ use Rattle.rg_flow.specs.declared.env.saved.Saved.{Saved}
 use Rattle.rg_flow.specs.Inner.Layout.{slots_from, scope_of, place_in, names_at, IsFoundAt, ready_slot, with_slot, AreNoted, IsKept}
 use Rattle.rg_flow.specs.declared.env.var.Var.{Var}
 use Rattle.rg_flow.proofs.Place.{place_in-take}
-use Rattle.rg_flow.proofs.Flow.{length-slots_from, slots_from-ext, slots_from-push, slots_from-take, slots_from-named, slots_from-restated}
-use Rattle.rg_flow.proofs.Flow.{slots_from-joined, slot_of-place, slot_of-none, state_at-slots_from, names_at-past}
+use Rattle.rg_flow.proofs.Flows.{length-slots_from, slots_from-ext, slots_from-push, slots_from-take, slots_from-named, slots_from-restated}
+use Rattle.rg_flow.proofs.Flows.{slots_from-joined, slot_of-place, slot_of-none, state_at-slots_from, names_at-past}
 use Rattle.rg_flow.proofs.FlowSteps.{IsGoneTo}
 
 other-state : (f g : Flow) (k i : ℕ) (now : Readiness) → Sets f g k now → nat_eq i k ≡ false → state_of g i ≡ state_of f i

@@ -15,7 +15,7 @@ use Rattle.rg_input.specs.declared.refusal.NumberRefusal.TheVariants as no
 use Rattle.rg_input.specs.Inner.Held.{looked_at, pending, Reads, has_enough, IsWhole, with_rest, Says, Settled, says_more, verdict_of}
 use Rattle.rg_input.specs.Numbers.{Pending, IsSure, CanCome, OnInput, is_more, is_input, Looks, Answers, Refuses}
 use Rattle.rg_input.specs.Read.{is_whole}
-use Rattle.rg_input.proofs.Ahead.{not-sure}
+use Rattle.rg_input.proofs.LookingAhead.{not-sure}
 use Rattle.rg_input.proofs.Read.{is_whole-read, is_whole-more}
 
 -- where bytes are told, those that were read stood in front of them
