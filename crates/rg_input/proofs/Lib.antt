@@ -3,6 +3,6 @@ mod LookingAhead
 mod Holding
 pub mod Input
 mod Next
-mod Number
+mod Digits
 mod Read
 mod Run

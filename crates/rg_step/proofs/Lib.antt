@@ -1,25 +1,25 @@
 -- The lemmas that the answers of rg_step use; those with pub are open to crates above.
 mod Turn
-mod Walk
+mod Walks
 mod Clear
 mod Stands
 mod High
 mod Leaves
 mod Run
 mod Ask
-mod Step
+mod Steps
 mod Shape
 mod Undue
 mod CallShape
 mod Frees
-mod Leap
+mod KnownSteps
 mod Leaping
 mod Pass
 mod ShapeNeed
 mod Field
 mod Word
 mod Held
-mod Outcome
+mod Outcomes
 pub mod Serve
 mod Write
 pub mod Reached

@@ -19,7 +19,7 @@ use Rattle.rg_top.specs.Inner.Settled.{Settles, Unread, source_fault, memory, Se
 use Rattle.rg_top.proofs.Meaning.{expects-one, refusal-any}
 use Rattle.rg_top.proofs.Settled.{answers-of, cut-of, status-of}
 use Rattle.rg_top.proofs.Bulk.{no-fault}
-use Rattle.rg_top.proofs.Notes.{rose-then}
+use Rattle.rg_top.proofs.NoteLines.{rose-then}
 
 -- there are lists of any length
 long-list : (n : ℕ) → (source : List ℕ) × (n < length source)

@@ -6,6 +6,6 @@ mod Meaning
 mod Settled
 mod Ran
 mod Bulk
-mod Notes
+mod NoteLines
 mod Asked
 mod Answer

@@ -7,7 +7,7 @@ mod Named
 mod NamedParts
 mod NamedBlocks
 mod Row
-mod Stack
+mod TreeStack
 mod Settle
 mod Put
 mod Path

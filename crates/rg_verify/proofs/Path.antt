@@ -23,7 +23,7 @@ use Rattle.rg_verify.specs.Rows.{Extends}
 use Rattle.rg_verify.specs.Inner.Adds.{Adds, AreNames, AddsTree}
 use Rattle.rg_verify.specs.Inner.Stacks.{is_path, IsFor, Piled, Makes, MakesRow, TakesPath}
 use Rattle.rg_verify.proofs.Row.{extends-trans, adds-same, adds-behind, names-none, names-push}
-use Rattle.rg_verify.proofs.Stack.{piled-later, piled-pop, piled-none}
+use Rattle.rg_verify.proofs.TreeStack.{piled-later, piled-pop, piled-none}
 use Rattle.rg_verify.proofs.Put.{Settles, makes-behind}
 
 -- The topmost path

@@ -20,7 +20,7 @@ use Rattle.rg_verify.specs.Rows.{Extends}
 use Rattle.rg_verify.specs.Inner.Adds.{AddsTree, IsExprRow}
 use Rattle.rg_verify.specs.Inner.Stacks.{is_path, IsFor, Piled, IsPiled, Makes, TakesRow, Pushes}
 use Rattle.rg_verify.proofs.Row.{extends-trans}
-use Rattle.rg_verify.proofs.Stack.{piled-later, piled-push}
+use Rattle.rg_verify.proofs.TreeStack.{piled-later, piled-push}
 
 -- what came before a call
 pub makes-behind : {t u : Tables} (v : Tables) (m : Truth) (hs : List Held) (result : Result (Unit {0}) Refusal) (wanted : Option (List Item))

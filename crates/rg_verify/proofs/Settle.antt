@@ -19,7 +19,7 @@ use Rattle.rg_verify.specs.Inner.Adds.{IsTree, AddsTree, IsExprRow}
 use Rattle.rg_verify.specs.Inner.Stacks.{IsFor, Piled, Makes, MakesRow, TakesWait, Pushes}
 use Rattle.rg_verify.proofs.Row.{extends-same, extends-trans}
 use Rattle.rg_verify.proofs.Settling.{settle-taken}
-use Rattle.rg_verify.proofs.Stack.{piled-later, piled-push}
+use Rattle.rg_verify.proofs.TreeStack.{piled-later, piled-push}
 
 -- what is still to settle is what was to settle
 pub record Left (t u : Tables) (m : Truth) (end : ℕ) (now : List Held) (top : Held) (wanted : List Item) : Type 0 where

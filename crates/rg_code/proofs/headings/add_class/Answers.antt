@@ -4,7 +4,7 @@ use Rattle.rg_tree.specs.Rows.RowTrees.{member_at}
 use Rattle.rg_tree.specs.Rows.Tables.{name_at}
 use Rattle.rg_code.specs.Listing.{member_names}
 use Rattle.rg_code.specs.Inner.Headings.{shown}
-use Rattle.rg_code.proofs.Headings.{member-step, with_headings-end}
+use Rattle.rg_code.proofs.HeadingReads.{member-step, with_headings-end}
 use Rattle.rg_code.proofs.headings.add_class.Goals as goal
 
 pub loop-member-preserved : goal.loop-member-preserved

@@ -1,7 +1,7 @@
 use Rattle.std.proofs.Common.{◌≡◌, refl, ◌∙◌, ap, subst, map, length, slice_get, Some, rules}
 use Rattle.std.proofs.lemmas.Option.{slice_get_read}
 use Rattle.rg_code.specs.Inner.Headings.{shown}
-use Rattle.rg_code.proofs.Headings.{with_headings-push}
+use Rattle.rg_code.proofs.HeadingReads.{with_headings-push}
 use Rattle.rg_code.proofs.headings.add_heading.Goals as goal
 
 pub returns-in-Ok : goal.returns-in-Ok

@@ -3,7 +3,7 @@ use Rattle.rg_tree.specs.Tree.{Member}
 use Rattle.rg_tree.specs.Rows.Tables.{name_at}
 use Rattle.rg_code.specs.Listing.{member_names}
 use Rattle.rg_code.specs.Inner.Headings.{shown, with_headings}
-use Rattle.rg_code.proofs.Headings.{with_headings-nil}
+use Rattle.rg_code.proofs.HeadingReads.{with_headings-nil}
 use Rattle.rg_code.proofs.headings.add_member.Goals as goal
 
 pub returns-in-Field : goal.returns-in-Field

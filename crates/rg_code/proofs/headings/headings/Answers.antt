@@ -3,7 +3,7 @@ use Rattle.std.proofs.lemmas.List.{drop_all}
 use Rattle.rg_tree.specs.Rows.RowTrees.{classes_of, class_of}
 use Rattle.rg_code.specs.Listing.{method_names}
 use Rattle.rg_code.specs.Inner.Headings.{shown}
-use Rattle.rg_code.proofs.Headings.{class-step, with_headings-end}
+use Rattle.rg_code.proofs.HeadingReads.{class-step, with_headings-end}
 use Rattle.rg_code.proofs.headings.headings.Goals as goal
 
 pub loop-i-preserved : goal.loop-i-preserved

@@ -1,6 +1,6 @@
 use Rattle.std.proofs.Common.{map, drop}
 use Rattle.rg_code.specs.Inner.Headings.{shown}
-use Rattle.rg_code.proofs.Headings.{lines-next}
+use Rattle.rg_code.proofs.HeadingReads.{lines-next}
 use Rattle.rg_code.proofs.whole.write_lines.Goals as goal
 
 pub loop-at-preserved : goal.loop-at-preserved

@@ -1,6 +1,6 @@
 use Rattle.std.proofs.Common.{sym, arith}
 use Rattle.rg_base.proofs.Callers.Digits.{value_of-past}
-use Rattle.rg_input.proofs.Number.{number-past}
+use Rattle.rg_input.proofs.Digits.{number-past}
 use Rattle.rg_input.proofs.number.value_within.Goals as goal
 
 pub returns-then-value-most : goal.returns-then-value-most

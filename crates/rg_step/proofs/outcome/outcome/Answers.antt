@@ -17,7 +17,7 @@ use Rattle.rg_step.specs.Inner.Walks.{StepIs}
 use Rattle.rg_step.specs.Steps.{StepsOn, is_made}
 use Rattle.rg_step.specs.Frees.{StaysGone}
 use Rattle.rg_step.proofs.Frees.{did-frees, did-stays, table-frees}
-use Rattle.rg_step.proofs.Outcome.{answer-fault, answer-leaves, answer-settles, never-lost}
+use Rattle.rg_step.proofs.Outcomes.{answer-fault, answer-leaves, answer-settles, never-lost}
 use Rattle.rg_step.proofs.Pass.{asked-step, is-asked, pass-frees, pass-high, pass-rests, pass-stays, pass-steps}
 use Rattle.rg_step.proofs.Run.{runs-ask, runs-given, runs-orderly, unasked-there}
 use Rattle.rg_step.proofs.outcome.outcome.Goals as goal

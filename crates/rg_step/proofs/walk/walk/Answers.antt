@@ -4,7 +4,7 @@ use Rattle.rg_machine.specs.Core.{Core}
 use Rattle.rg_machine.specs.Keeps.{WantsRoom}
 use Rattle.rg_step.specs.Inner.Walks.{walk_from}
 use Rattle.rg_step.specs.Inner.Simple.{Done}
-use Rattle.rg_step.proofs.Walk.{walking-undone}
+use Rattle.rg_step.proofs.Walks.{walking-undone}
 use Rattle.rg_step.proofs.Turn.{given-here, past-code, turn-on, turn-to, turn-back, turn-ends, turn-read, turn-more, turn-room, turn-full}
 use Rattle.rg_step.proofs.Stands.{stands-on, stands-to, stands-back, stands-left, stands-asking, stands-number, stands-free, stands-roomless}
 use Rattle.rg_step.specs.Inner.High.{MayMake, OneAtMost}

@@ -1,6 +1,6 @@
 use Rattle.std.proofs.Common.{inl, inr, refl, ap, ◌∙◌}
 use Rattle.rg_base.specs.Report.{end_line}
-use Rattle.rg_top.proofs.Notes.{cut-front, cut-behind, both-whole}
+use Rattle.rg_top.proofs.NoteLines.{cut-front, cut-behind, both-whole}
 use Rattle.rg_top.proofs.notes.give_end.Goals as goal
 
 pub returns-in_default-put_text-clause-gave : goal.returns-in_default-put_text-clause-gave

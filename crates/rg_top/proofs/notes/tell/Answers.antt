@@ -1,5 +1,5 @@
 use Rattle.std.proofs.Common.{false, refl, inl}
-use Rattle.rg_top.proofs.Notes.{took-fault, took-status, gave-becomes}
+use Rattle.rg_top.proofs.NoteLines.{took-fault, took-status, gave-becomes}
 use Rattle.rg_top.proofs.notes.tell.Goals as goal
 
 pub returns-in-OutputFault-clause-took : goal.returns-in-OutputFault-clause-took

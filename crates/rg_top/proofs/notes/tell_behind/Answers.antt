@@ -1,5 +1,5 @@
 use Rattle.std.proofs.Common.{inl, inr, refl, sym, ◌∙◌}
-use Rattle.rg_top.proofs.Notes.{took-fault, fault-told, took-status, took-report, becomes-told, becomes-end, no-fault-told}
+use Rattle.rg_top.proofs.NoteLines.{took-fault, fault-told, took-status, took-report, becomes-told, becomes-end, no-fault-told}
 use Rattle.rg_top.proofs.notes.tell_behind.Goals as goal
 
 pub returns-in-OutputFault-clause-took : goal.returns-in-OutputFault-clause-took

@@ -4,7 +4,7 @@ use Rattle.rg_io.specs.Content.{Rose}
 use Rattle.rg_top.specs.Commands.{command, texts, may_report}
 use Rattle.rg_top.specs.Headline.{MayTell, steps_asked}
 use Rattle.rg_top.proofs.Answer.{answers-expected, may-any}
-use Rattle.rg_top.proofs.Notes.{took-may, memory-notes}
+use Rattle.rg_top.proofs.NoteLines.{took-may, memory-notes}
 use Rattle.rg_top.proofs.process.paced.Goals as goal
 
 pub returns-clause-expected : goal.returns-clause-expected

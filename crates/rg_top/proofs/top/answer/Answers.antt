@@ -1,7 +1,7 @@
 use Rattle.std.proofs.Common.{refl, inl}
 use Rattle.rg_top.specs.Inner.Requests.{command_of}
 use Rattle.rg_top.specs.Commands.{reports}
-use Rattle.rg_top.proofs.Notes.{quiet-refuses}
+use Rattle.rg_top.proofs.NoteLines.{quiet-refuses}
 use Rattle.rg_top.proofs.Answer.{refuses-settles, refuses-caused, settles-inside}
 use Rattle.rg_top.proofs.Asked.{asked-command, yeses-fresh}
 use Rattle.rg_top.proofs.top.answer.Goals as goal

@@ -8,7 +8,7 @@ use Rattle.rg_top.specs.Inner.Requests.{command_of}
 use Rattle.rg_top.proofs.Answer.{Answered, answer-answered, answer-cut, answer-input, answer-exactly, answer-refused, answer-complete}
 use Rattle.rg_top.proofs.Answer.{answer-unread, answer-unopened, answer-untouched, answer-output, answer-tuned, answer-usage, given-is}
 use Rattle.rg_top.proofs.Answer.{answer-chooses, answer-may, usage-exactly}
-use Rattle.rg_top.proofs.Notes.{asked-notes, asked-fault, unasked-notes}
+use Rattle.rg_top.proofs.NoteLines.{asked-notes, asked-fault, unasked-notes}
 use Rattle.rg_top.proofs.Asked.{asked-words, yeses-fresh}
 use Rattle.rg_top.proofs.top.reggio.Given.{Over}
 use Rattle.rg_top.proofs.top.reggio.Goals as goal

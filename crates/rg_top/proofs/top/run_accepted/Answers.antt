@@ -1,6 +1,6 @@
 use Rattle.std.proofs.Common.{inl, refl}
 use Rattle.rg_top.proofs.Ran.{on-input, run-from}
-use Rattle.rg_top.proofs.Notes.{ran-reported, quiet-memory}
+use Rattle.rg_top.proofs.NoteLines.{ran-reported, quiet-memory}
 use Rattle.rg_top.proofs.Asked.{asked-from, yeses-of-run, yeses-fresh}
 use Rattle.rg_top.proofs.top.run_accepted.Goals as goal
 

@@ -1,6 +1,6 @@
 use Rattle.rg_top.specs.Commands.{in_file}
 use Rattle.rg_top.proofs.Ran.{run-settles, runs-checked}
-use Rattle.rg_top.proofs.Notes.{quiet-refused, quiet-memory}
+use Rattle.rg_top.proofs.NoteLines.{quiet-refused, quiet-memory}
 use Rattle.std.proofs.Common.{inl, refl}
 use Rattle.rg_top.proofs.Asked.{yeses-fresh}
 use Rattle.rg_top.proofs.top.run_program.Goals as goal

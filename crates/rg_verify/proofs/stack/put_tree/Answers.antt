@@ -1,4 +1,4 @@
-use Rattle.rg_verify.proofs.Stack.{piled-later}
+use Rattle.rg_verify.proofs.TreeStack.{piled-later}
 use Rattle.rg_verify.proofs.Put.{puts-tree}
 use Rattle.rg_verify.proofs.Row.{extends-trans}
 use Rattle.rg_verify.proofs.stack.put_tree.Goals as goal

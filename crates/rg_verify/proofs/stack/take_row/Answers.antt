@@ -1,5 +1,5 @@
 use Rattle.std.proofs.Common.{◌≡◌, length, Ok, arith}
-use Rattle.rg_verify.proofs.Stack.{piled-pop, takes-none, takes-row}
+use Rattle.rg_verify.proofs.TreeStack.{piled-pop, takes-none, takes-row}
 use Rattle.rg_verify.proofs.stack.take_row.Goals as goal
 
 pub row_of-requires : goal.row_of-requires

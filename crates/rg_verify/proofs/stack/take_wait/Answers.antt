@@ -1,7 +1,7 @@
 use Rattle.std.proofs.Common.{◌≡◌, ◌-◌, ℕ, List, length, take, rules, slice_get, Some, None, sym, ap, subst, ◌∙◌}
 use Rattle.rg_verify.specs.declared.held.Held.{Held}
 use Rattle.rg_verify.specs.declared.held.Wait.{Wait}
-use Rattle.rg_verify.proofs.Stack.{wait-empty, wait-stays, wait-taken}
+use Rattle.rg_verify.proofs.TreeStack.{wait-empty, wait-stays, wait-taken}
 use Rattle.rg_verify.proofs.stack.take_wait.Goals as goal
 
 pub returns-in_default-clause-takes : goal.returns-in_default-clause-takes
