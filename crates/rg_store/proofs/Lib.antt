@@ -4,7 +4,7 @@ mod Object
 mod Opening
 mod Among
 mod List
-mod Linked
-mod Beneath
+mod LinkedObjects
+mod Subregions
 mod Link
-mod Relabel
+mod Relabelled

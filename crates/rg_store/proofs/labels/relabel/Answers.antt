@@ -1,6 +1,6 @@
 use Rattle.std.proofs.Common.{arith}
 use Rattle.rg_store.specs.Shown.{store_of}
-use Rattle.rg_store.proofs.Relabel.{relabelled-more, relabelled-all, relabelled-AreOfClasses, relabelled-LabelsFit}
+use Rattle.rg_store.proofs.Relabelled.{relabelled-more, relabelled-all, relabelled-AreOfClasses, relabelled-LabelsFit}
 use Rattle.rg_store.proofs.labels.relabel.Goals as goal
 
 pub loop-object-preserved : goal.loop-object-preserved

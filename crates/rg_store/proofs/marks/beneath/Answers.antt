@@ -4,8 +4,8 @@ use Rattle.rg_rules.specs.Regions.{in_regions, led_from, beneath}
 use Rattle.rg_store.specs.Links.{listed}
 use Rattle.rg_store.specs.Shown.{store_of}
 use Rattle.rg_store.proofs.Among.{led-fits}
-use Rattle.rg_store.proofs.Beneath.{links-there, marks-as}
-use Rattle.rg_store.proofs.Linked.{linked-beneath}
+use Rattle.rg_store.proofs.Subregions.{links-there, marks-as}
+use Rattle.rg_store.proofs.LinkedObjects.{linked-beneath}
 use Rattle.rg_store.proofs.marks.beneath.Goals as goal
 
 pub linked-requires-clause-links : goal.linked-requires-clause-links

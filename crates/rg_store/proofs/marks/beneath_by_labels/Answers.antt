@@ -3,8 +3,8 @@ use Rattle.rg_rules.specs.Regions.{among}
 use Rattle.rg_store.specs.Links.{listed, linked, led_by_labels}
 use Rattle.rg_store.specs.Shown.{store_of}
 use Rattle.rg_store.proofs.Among.{labels-fit}
-use Rattle.rg_store.proofs.Beneath.{links-there, marks-as}
-use Rattle.rg_store.proofs.Linked.{linked-same}
+use Rattle.rg_store.proofs.Subregions.{links-there, marks-as}
+use Rattle.rg_store.proofs.LinkedObjects.{linked-same}
 use Rattle.rg_store.proofs.marks.beneath_by_labels.Goals as goal
 
 pub linked-requires-clause-links : goal.linked-requires-clause-links

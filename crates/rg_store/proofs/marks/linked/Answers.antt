@@ -3,7 +3,7 @@ use Rattle.std.proofs.lemmas.List.{length-replicate}
 use Rattle.rg_rules.specs.Regions.{among}
 use Rattle.rg_store.specs.Links.{listed, linked}
 use Rattle.rg_store.specs.Regions.{is_marked, AreMarked}
-use Rattle.rg_store.proofs.Beneath.{Reaches-first, Reaches-more, none-marked}
+use Rattle.rg_store.proofs.Subregions.{Reaches-first, Reaches-more, none-marked}
 use Rattle.rg_store.proofs.marks.linked.Goals as goal
 
 pub mark-requires-clause-fit : goal.mark-requires-clause-fit

@@ -1,6 +1,6 @@
 use Rattle.std.proofs.Common.{◌≡◌, length}
 use Rattle.rg_store.specs.Links.{listed}
-use Rattle.rg_store.proofs.Beneath.{Reaches}
+use Rattle.rg_store.proofs.Subregions.{Reaches}
 use Rattle.rg_store.proofs.marks.linked.Given as goal
 
 abbrev pub invariant-loop-link : goal.invariant-loop-link

@@ -1,5 +1,5 @@
 use Rattle.std.proofs.Common.{refl, rules}
-use Rattle.rg_store.proofs.Beneath.{FindsToo-new}
+use Rattle.rg_store.proofs.Subregions.{FindsToo-new}
 use Rattle.rg_store.proofs.marks.mark.Goals as goal
 
 pub returns : goal.returns

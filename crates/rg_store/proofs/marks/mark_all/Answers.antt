@@ -1,7 +1,7 @@
 use Rattle.std.proofs.Common.{subst, arith}
 use Rattle.std.proofs.lemmas.List.{take_all}
 use Rattle.rg_store.specs.Inner.Found.{FindsToo}
-use Rattle.rg_store.proofs.Beneath.{FindsToo-none, FindsToo-next}
+use Rattle.rg_store.proofs.Subregions.{FindsToo-none, FindsToo-next}
 use Rattle.rg_store.proofs.marks.mark_all.Goals as goal
 
 pub loop-region-init : goal.loop-region-init

@@ -2,7 +2,7 @@ use Rattle.std.proofs.Common.{◌∙◌, ◌<◌, length, sym, subst, flat_map, 
 use Rattle.rg_tree.proofs.TreesFrom.{length-Begins}
 use Rattle.rg_store.specs.Links.{listed}
 use Rattle.rg_store.specs.Inner.Found.{FindsToo}
-use Rattle.rg_store.proofs.Beneath.{FindsToo-none, FindsToo-more, drop-take-none, found-below, list-there}
+use Rattle.rg_store.proofs.Subregions.{FindsToo-none, FindsToo-more, drop-take-none, found-below, list-there}
 use Rattle.rg_store.proofs.marks.mark_led.Goals as goal
 
 pub loop-i-init : goal.loop-i-init

@@ -14,7 +14,7 @@ use Rattle.rg_store.specs.Regions.{is_marked, AreMarked}
 use Rattle.rg_store.specs.Links.{listed, linked}
 use Rattle.rg_store.specs.Inner.Found.{FindsToo}
 use Rattle.rg_store.proofs.Among.{or-false, or-assoc, among-one, among-append, AreMarked-below}
-use Rattle.rg_store.proofs.Linked.{among-linked, linked-suc}
+use Rattle.rg_store.proofs.LinkedObjects.{among-linked, linked-suc}
 
 -- nothing more was found
 pub FindsToo-none : (f : Found) → AreMarked f.marks.items f.regions.items → FindsToo f f []
