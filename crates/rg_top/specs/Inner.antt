@@ -2,4 +2,5 @@
 pub mod Nothing
 pub mod Requests
 pub mod Settled
+pub mod Setting
 pub mod Words

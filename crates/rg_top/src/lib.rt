@@ -8,6 +8,7 @@
 mod no_input;
 mod notes;
 mod process;
+mod setting;
 mod status;
 mod top;
 mod words;

@@ -1,31 +1,23 @@
 use Rattle.std.proofs.Common.{inl, refl}
-use Rattle.rg_top.proofs.Ran.{on-input, run-from}
-use Rattle.rg_top.proofs.NoteLines.{ran-reported, quiet-memory}
-use Rattle.rg_top.proofs.Asked.{asked-from, yeses-of-run, yeses-fresh}
+use Rattle.rg_top.proofs.NoteLines.{quiet-memory}
+use Rattle.rg_top.proofs.Asked.{asked-tuned, yeses-tuned, yeses-fresh}
 use Rattle.rg_top.proofs.top.run_accepted.Goals as goal
 
 pub returns-clause-ran : goal.returns-clause-ran
-returns-clause-ran g c = λ origin source runs.
-    rw c.status_of.ensures.is
-    (run-from origin c.args.steps source _ c.args.accepted.now.program _ _ _ _ _ _ _ _ _ (λ h. h.1) runs
-    (on-input _ _ _ _ _ c.new-numbers.ensures c.run-ran.ensures.follows c.run-ran.ensures.run))
+returns-clause-ran g c = λ origin source runs. (c.run_code.ensures.ran origin source runs).0
 
 pub returns-in_default-clause-ran : goal.returns-in_default-clause-ran
 returns-in_default-clause-ran g c = λ origin source runs. inl (c.requires, refl, refl)
 
-pub returns-clause-notes : goal.returns-clause-notes
-returns-clause-notes g c = rw c.status_of.ensures.is (ran-reported c.args.report _ _ _ _ c.run-ran.ensures.notes)
-
 pub returns-in_default-clause-notes : goal.returns-in_default-clause-notes
-returns-in_default-clause-notes g c = quiet-memory c.args.report c.args.machine.now _ c.requires
+returns-in_default-clause-notes g c = quiet-memory c.args.options.report c.args.setting.now.machine.now _ c.requires
 
 pub returns-clause-asked : goal.returns-clause-asked
 returns-clause-asked g c = λ origin source runs.
-    asked-from origin c.args.steps source _ c.args.accepted.now.program _ _ _ _ _ _ _ _ _ _ c.tune.ensures.1.0 c.tune-2.ensures.1.0 c.in-Ok.ensures runs
-    (on-input _ _ _ _ _ c.new-numbers.ensures c.run-ran.ensures.follows c.run-ran.ensures.run)
+    asked-tuned origin source _ _ _ _ _ _ _ _ c.tune.ensures.1.0 c.tune-2.ensures.1.0 (c.run_code.ensures.ran origin source runs).1
 
 pub returns-clause-yeses : goal.returns-clause-yeses
-returns-clause-yeses g c = yeses-of-run _ _ _ _ _ c.tune.ensures.1.1.0 c.tune-2.ensures.1.1.0 c.run-ran.ensures.yeses
+returns-clause-yeses g c = yeses-tuned _ _ _ _ _ _ _ c.tune.ensures.1.1.0 c.tune-2.ensures.1.1.0 c.run_code.ensures.yeses
 
 pub returns-in_default-clause-asked : goal.returns-in_default-clause-asked
 returns-in_default-clause-asked g c = λ origin source runs.
