@@ -1,54 +1,63 @@
--- A walk of the machine that frees, in which each instruction is given what it needs, is its walk, unless it is stuck; and what most
--- instructions do is what they do over the growing store.
-use Rattle.std.proofs.Common.{ℕ, zero, suc, ◌+◌, true, false, Bool as Truth, if◌then◌else◌, inl, inr, List, [], ◌∷◌, drop}
-use Rattle.std.proofs.Common.{refl, ap, subst}
+-- A walk of the machine that frees, in which each instruction is given what it needs, is its walk, unless it is stuck; and so is one in which
+-- each passes a further test.
+use Rattle.std.proofs.Common.{ℕ, true, false, Bool as Truth, if◌then◌else◌, inl, inr, List, refl, ◌∙◌}
+use Rattle.rg_base.specs.declared.value.Val.{Val}
 use Rattle.rg_code.specs.declared.op.Op.{Op}
 use Rattle.rg_code.specs.declared.op.Op.TheVariants as i
 use Rattle.rg_code.specs.Code.{Code}
-use Rattle.rg_stack.specs.Effects.{Work, Walked, Stops, Returns, Traps, Stuck, Go}
-use Rattle.rg_stack.specs.Runs.{landed}
+use Rattle.rg_stack.specs.Machine.{Machine}
+use Rattle.rg_stack.specs.Effects.{Work, Walked, Stuck, Go, Act, walk_by}
 use Rattle.rg_stack.specs.Needs.{needs}
-use Rattle.rg_stack.proofs.Walks.Given.{Less, LessFrom, SameOrLost, act-less}
-use Rattle.rg_held.specs.Frees.{given_up, freed, forgotten, behind, free_walk, free_finished, free_step_from, free_step}
-use Rattle.rg_held.specs.Frees.{free_given_walk, free_given_finished, free_given_step_from, free_given_step}
+use Rattle.rg_stack.proofs.Walks.Less.{Less, LessFrom, LessAct, SameOrLost, by-need, walk-less-by, step-less-by}
+use Rattle.rg_stack.proofs.Walks.Given.{act-less}
+use Rattle.rg_held.specs.Frees.{given_up, freed, forgotten, behind, free_act, free_walk, free_step, free_given_act, free_given_walk, free_given_step}
 
-module _ (code : Code) where
-  pub behind-less : (o : Op) (go all : Go) → LessFrom go all → LessFrom (behind o go) (behind o all)
-  behind-less (i.Freeze s) go all h = λ skip stack w. h skip stack (forgotten w)
-  behind-less (i.Merge s) go all h = λ skip stack w. h skip stack (forgotten w)
-  behind-less o go all h = h
+behind-less : (o : Op) (go all : Go) → LessFrom go all → LessFrom (behind o go) (behind o all)
+behind-less (i.Freeze s) go all h = λ skip stack w. h skip stack (forgotten w)
+behind-less (i.Merge s) go all h = λ skip stack w. h skip stack (forgotten w)
+behind-less o go all h = h
 
-  by-need : (t : Truth) (x y : Walked) → Less x y → Less (if t then x else Stuck) y
-  by-need true x y h = h
-  by-need false x y h = inl refl
+free-less : LessAct free_act free_act
+free-less code at o go all stack w h =
+    act-less code at o (behind o go) (behind o all) stack (freed (given_up o stack w.machine) w) (behind-less o go all h)
 
-  pub walk-less : (os : List Op) (at : ℕ) → LessFrom (free_given_walk code os at) (free_walk code os at)
-  walk-less [] at skip stack w = inl refl
-  walk-less (o ∷ os) at zero stack w = by-need (needs code o stack w.machine) _ _
-      (act-less code at o (behind o (free_given_walk code os (at + 1))) (behind o (free_walk code os (at + 1))) stack
-      (freed (given_up o stack w.machine) w)
-      (behind-less o (free_given_walk code os (at + 1)) (free_walk code os (at + 1)) (walk-less os (at + 1))))
-  walk-less (o ∷ os) at (suc k) stack w = walk-less os (at + 1) k stack w
+given-less : LessAct free_given_act free_act
+given-less code at o go all stack w h = by-need (needs code o stack w.machine) _ _ (free-less code at o go all stack w h)
 
-  landed-less : (x y : Walked) → Less x y → SameOrLost (landed code x) (landed code y)
-  landed-less x y (inl stuck) = inl (ap (landed code) stuck)
-  landed-less x y (inr same) = inr (ap (landed code) same)
+pub walk-less : (code : Code) (os : List Op) (at : ℕ) → LessFrom (free_given_walk code os at) (free_walk code os at)
+walk-less = walk-less-by free_given_act free_act given-less
 
-  finished-is : (line : ℕ) (x : Walked) → SameOrLost (free_given_finished code line x) (free_finished code line x)
-  finished-is line (Stops at w) = inr refl
-  finished-is line (Returns back stack w) = landed-less _ _ (walk-less (drop back code.ops) back 0 stack w)
-  finished-is line (Traps t) = inr refl
-  finished-is line Stuck = inl refl
+-- a step in which each instruction is given what it needs is lost, or it is the step
+pub step-less : (code : Code) (w : Work) → SameOrLost (free_given_step code w) (free_step code w)
+step-less = step-less-by free_given_act free_act given-less
 
-  finished-less : (line : ℕ) (x y : Walked) → Less x y → SameOrLost (free_given_finished code line x) (free_finished code line y)
-  finished-less line x y (inl stuck) = inl (ap (free_given_finished code line) stuck)
-  finished-less line x y (inr same) = subst (λ z. SameOrLost (free_given_finished code line x) (free_finished code line z)) same (finished-is line x)
+-- a test of an instruction, with the stack and the machine in front of it
+abbrev pub Test : Type 0
+Test = Op → List Val → Machine → Truth
 
-  from-less : (w : Work) (os : List Op) → SameOrLost (free_given_step_from code w os) (free_step_from code w os)
-  from-less w [] = inl refl
-  from-less w (i.Mark line ∷ os) = finished-less line _ _ (walk-less os (w.machine.at + 1) 0 [] w)
-  from-less w (o ∷ os) = inl refl
+-- an instruction that is given what it needs, where it passes a test
+abbrev pub tested_act : Test → Act
+tested_act test code at o go stack w =
+    if needs code o stack w.machine then (if test o stack w.machine then free_act code at o go stack w else Stuck) else Stuck
 
-  -- a step in which each instruction is given what it needs is lost, or it is the step
-  pub step-less : (w : Work) → SameOrLost (free_given_step code w) (free_step code w)
-  step-less w = from-less w (drop w.machine.at code.ops)
+abbrev pub tested_walk : Test → Code → List Op → (at : ℕ) → Go
+tested_walk test = walk_by (tested_act test)
+
+by-tests : (n t : Truth) (x y : Walked) → Less x y → Less (if n then (if t then x else Stuck) else Stuck) (if n then y else Stuck)
+by-tests true true x y h = h
+by-tests true false x y h = inl refl
+by-tests false t x y h = inl refl
+
+-- it is the walk without the test, unless it is stuck
+pub tested-given : (test : Test) (code : Code) (os : List Op) (at : ℕ) → LessFrom (tested_walk test code os at) (free_given_walk code os at)
+tested-given test = walk-less-by (tested_act test) free_given_act
+    (λ code at o go all stack w h. by-tests (needs code o stack w.machine) (test o stack w.machine) _ _ (free-less code at o go all stack w h))
+
+less-less : (x y z : Walked) → Less x y → Less y z → Less x z
+less-less x y z (inl stuck) h = inl stuck
+less-less x y z (inr same) (inl stuck) = inl (same ∙ stuck)
+less-less x y z (inr same) (inr also) = inr (same ∙ also)
+
+-- and so it is the walk
+pub tested-less : (test : Test) (code : Code) (os : List Op) (at : ℕ) → LessFrom (tested_walk test code os at) (free_walk code os at)
+tested-less test code os at skip stack w = less-less _ _ _ (tested-given test code os at skip stack w) (walk-less code os at skip stack w)

@@ -19,7 +19,6 @@ mod Consumes
 mod Enters
 mod Acts
 mod Less
-mod Tested
 mod Walking
 pub mod Gather
 mod Examples

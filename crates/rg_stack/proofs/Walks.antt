@@ -7,5 +7,6 @@ pub mod Entry
 pub mod Argument
 pub mod Need
 pub mod End
+pub mod Less
 pub mod Given
 pub mod Frame

@@ -28,7 +28,7 @@ use Rattle.rg_stack.specs.Simulates.{Holds}
 use Rattle.rg_stack.specs.Left.{SomeLeft}
 use Rattle.rg_stack.proofs.Callers.Refusal.{steps-orderly}
 use Rattle.rg_stack.proofs.Basics.{none-some}
-use Rattle.rg_stack.proofs.Walks.Given.{Less}
+use Rattle.rg_stack.proofs.Walks.Less.{Less}
 use Rattle.rg_held.specs.Ends.{Match, SameEnd}
 use Rattle.rg_held.specs.Frees.{free_walk, free_finished, free_step_from, free_step}
 use Rattle.rg_held.specs.Gone.{gone}
@@ -44,7 +44,7 @@ use Rattle.rg_held.proofs.Freed.Windows.{Numbered, numbered}
 use Rattle.rg_held.proofs.Freed.Fates.{IsGiven, Since, Stay, Move, Go}
 use Rattle.rg_held.proofs.Freed.Shut.{shut, shut-passes}
 use Rattle.rg_held.proofs.Freed.Walks.{Now, Ending, on-walk}
-use Rattle.rg_held.proofs.Tested.{tested_walk, tested-less}
+use Rattle.rg_held.proofs.Less.{tested_walk, tested-less}
 use Rattle.rg_held.proofs.Walking.{drop-next, walks-same, tested-walks-same}
 
 module _ (m grown : Machine) (held : ℕ → Truth) (part : Part held [] m grown []) where

@@ -1,6 +1,6 @@
 -- A walk in which each instruction is given what it needs is the walk, unless it is stuck.
-use Rattle.std.proofs.Common.{◌≡◌, ℕ, zero, suc, ◌+◌, true, false, Bool as Truth, if◌then◌else◌, ◌⊎◌, inl, inr, List, [], ◌∷◌, drop, Result, Ok, Err}
-use Rattle.std.proofs.Common.{refl, ap, subst, length}
+use Rattle.std.proofs.Common.{ℕ, true, false, Bool as Truth, if◌then◌else◌, inl, inr, List, [], ◌∷◌, Result, Ok, Err}
+use Rattle.std.proofs.Common.{refl, length}
 use Rattle.std.specs.Prelude.{nat_lt}
 use Rattle.rg_base.specs.declared.limits.TheConstants.{FRAMES}
 use Rattle.rg_base.specs.Input.{NextNumber, found, malformed, at_end, next_number}
@@ -12,23 +12,14 @@ use Rattle.rg_tree.specs.declared.rows.BinOp.{BinOp}
 use Rattle.rg_tree.specs.declared.rows.BinOp.TheVariants as op
 use Rattle.rg_rules.specs.Evaluation.{object_at}
 use Rattle.rg_rules.specs.Values.{Computed, as_bool, operate}
-use Rattle.rg_code.specs.declared.op.Op.{Op}
 use Rattle.rg_code.specs.declared.op.Op.TheVariants as i
 use Rattle.rg_code.specs.Code.{Code}
 use Rattle.rg_stack.specs.Machine.{Machine, top_slots, place_of}
-use Rattle.rg_stack.specs.Effects.{Work, Walked, Stops, Returns, Traps, Stuck, Go, on_top, on_two, pushed, next_taken, opens_at, begins_by}
-use Rattle.rg_stack.specs.Effects.{act, walk}
-use Rattle.rg_stack.specs.Runs.{Stepped, Lost, landed, finished, step_from, step}
+use Rattle.rg_stack.specs.Effects.{Work, Walked, Traps, Stuck, Go, on_top, on_two, pushed, next_taken, opens_at, begins_by, act}
+use Rattle.rg_stack.specs.Runs.{step}
 use Rattle.rg_stack.specs.Needs.{needs}
-use Rattle.rg_stack.specs.Given.{given_walk, given_finished, given_step_from, given_step}
-
--- the first is stuck, or both are the same
-abbrev pub Less : Walked → Walked → Type 0
-Less x y = (x ≡ Stuck) ⊎ (x ≡ y)
-
--- and so are walks from each stack and machine
-abbrev pub LessFrom : Go → Go → Type 0
-LessFrom go all = (skip : ℕ) (stack : List Val) (w : Work) → Less (go skip stack w) (all skip stack w)
+use Rattle.rg_stack.specs.Given.{given_act, given_step}
+use Rattle.rg_stack.proofs.Walks.Less.{Less, LessFrom, LessAct, SameOrLost, by-need, step-less-by}
 
 top-less : (stack : List Val) (go all : Val → List Val → Walked) → ((v : Val) (rest : List Val) → Less (go v rest) (all v rest))
     → Less (on_top stack go) (on_top stack all)
@@ -65,84 +56,53 @@ opens-less m z a b h =
     if-less (nat_lt z (length (top_slots m.frames))) (if inner then a else Stuck) Stuck (if inner then b else Stuck) Stuck
     (if-less inner a Stuck b Stuck h (inr refl)) (inr refl)
 
--- a step is lost, or both are the same
-abbrev pub SameOrLost : Stepped → Stepped → Type 0
-SameOrLost x y = (x ≡ Lost) ⊎ (x ≡ y)
+pub act-less : LessAct act act
+act-less code at (i.Mark line) go all stack w h = inr refl
+act-less code at (i.Store s) go all stack w h = top-less stack _ _ (λ v rest. h 0 _ _)
+act-less code at (i.Own s) go all stack w h = top-less stack _ _ (λ v rest. h 0 _ _)
+act-less code at (i.Field k) go all stack w h = top-less stack _ _ (λ v rest. object-less (object_at w.machine.store v) _ _ (λ o. h 0 _ _))
+act-less code at i.IsNil go all stack w h = top-less stack _ _ (λ v rest. h 0 _ _)
+act-less code at i.Neg go all stack w h = top-less stack _ _ (λ v rest. pushed-less _ go all rest w h)
+act-less code at i.Add go all stack w h = two-less op.Add go all stack w h
+act-less code at i.Sub go all stack w h = two-less op.Sub go all stack w h
+act-less code at i.Mul go all stack w h = two-less op.Mul go all stack w h
+act-less code at i.Div go all stack w h = two-less op.Div go all stack w h
+act-less code at i.Rem go all stack w h = two-less op.Rem go all stack w h
+act-less code at i.Eq go all stack w h = two-less op.Eq go all stack w h
+act-less code at i.Ne go all stack w h = two-less op.Ne go all stack w h
+act-less code at i.Lt go all stack w h = two-less op.Lt go all stack w h
+act-less code at i.Le go all stack w h = two-less op.Le go all stack w h
+act-less code at i.Gt go all stack w h = two-less op.Gt go all stack w h
+act-less code at i.Ge go all stack w h = two-less op.Ge go all stack w h
+act-less code at i.Not go all stack w h = top-less stack _ _ (λ v rest. h 0 _ _)
+act-less code at (i.Jump t) go all stack w h = inr refl
+act-less code at (i.JumpFalse t) go all stack w h = top-less stack _ _ (λ v rest. if-less (as_bool v) _ _ _ _ (h 0 _ _) (h _ _ _))
+act-less code at (i.And t) go all stack w h = top-less stack _ _ (λ v rest. if-less (as_bool v) _ _ _ _ (h 0 _ _) (h _ _ _))
+act-less code at (i.Or t) go all stack w h = top-less stack _ _ (λ v rest. if-less (as_bool v) _ _ _ _ (h _ _ _) (h 0 _ _))
+act-less code at i.Check go all stack w h = top-less stack _ _ (λ v rest. object-less (object_at w.machine.store v) _ _ (λ o. h 0 _ _))
+act-less code at (i.Put k) go all stack w h = top-less stack _ _ (λ v rest. top-less rest _ _ (λ r under. h 0 _ _))
+act-less code at (i.Swap s k) go all stack w h = top-less stack _ _ (λ v rest. object-less (object_at w.machine.store v) _ _ (λ o. h 0 _ _))
+act-less code at (i.Freeze s) go all stack w h = object-less _ _ _ (λ o. h 0 _ _)
+act-less code at (i.Merge s) go all stack w h = object-less _ _ _ (λ o. h 0 _ _)
+act-less code at i.Read go all stack w h = taken-less (next_number w.input) go all stack w h
+act-less code at i.Room go all stack w h =
+    if-less (nat_lt (length w.machine.frames) FRAMES) _ (Traps trap.Depth) _ (Traps trap.Depth) (h 0 stack w) (inr refl)
+act-less code at (i.Call m) go all stack w h = inr refl
+act-less code at i.Ret go all stack w h = inr refl
+act-less code at i.RetVoid go all stack w h = inr refl
+act-less code at (i.Enter s z) go all stack w h = opens-less w.machine z _ _ (object-less _ _ _ (λ o. h 0 _ _))
+act-less code at (i.EnterField k z) go all stack w h = opens-less w.machine z _ _ (top-less stack _ _ (λ r rest.
+    object-less (object_at w.machine.store r) _ _ (λ o. object-less _ _ _ (λ b. h 0 _ _))))
+act-less code at i.Print go all stack w h = top-less stack _ _ (λ v rest. h 0 _ _)
+act-less code at i.Pop go all stack w h = top-less stack _ _ (λ v rest. h 0 _ _)
+act-less code at i.Drop go all stack w h = top-less stack _ _ (λ v rest. h 0 _ _)
+act-less code at i.Halt go all stack w h = inr refl
+act-less code at _ go all stack w h = h 0 _ _
 
-module _ (code : Code) where
-  pub act-less : (at : ℕ) (o : Op) (go all : Go) (stack : List Val) (w : Work) → LessFrom go all
-      → Less (act code at o go stack w) (act code at o all stack w)
-  act-less at (i.Mark line) go all stack w h = inr refl
-  act-less at (i.Store s) go all stack w h = top-less stack _ _ (λ v rest. h 0 _ _)
-  act-less at (i.Own s) go all stack w h = top-less stack _ _ (λ v rest. h 0 _ _)
-  act-less at (i.Field k) go all stack w h = top-less stack _ _ (λ v rest. object-less (object_at w.machine.store v) _ _ (λ o. h 0 _ _))
-  act-less at i.IsNil go all stack w h = top-less stack _ _ (λ v rest. h 0 _ _)
-  act-less at i.Neg go all stack w h = top-less stack _ _ (λ v rest. pushed-less _ go all rest w h)
-  act-less at i.Add go all stack w h = two-less op.Add go all stack w h
-  act-less at i.Sub go all stack w h = two-less op.Sub go all stack w h
-  act-less at i.Mul go all stack w h = two-less op.Mul go all stack w h
-  act-less at i.Div go all stack w h = two-less op.Div go all stack w h
-  act-less at i.Rem go all stack w h = two-less op.Rem go all stack w h
-  act-less at i.Eq go all stack w h = two-less op.Eq go all stack w h
-  act-less at i.Ne go all stack w h = two-less op.Ne go all stack w h
-  act-less at i.Lt go all stack w h = two-less op.Lt go all stack w h
-  act-less at i.Le go all stack w h = two-less op.Le go all stack w h
-  act-less at i.Gt go all stack w h = two-less op.Gt go all stack w h
-  act-less at i.Ge go all stack w h = two-less op.Ge go all stack w h
-  act-less at i.Not go all stack w h = top-less stack _ _ (λ v rest. h 0 _ _)
-  act-less at (i.Jump t) go all stack w h = inr refl
-  act-less at (i.JumpFalse t) go all stack w h = top-less stack _ _ (λ v rest. if-less (as_bool v) _ _ _ _ (h 0 _ _) (h _ _ _))
-  act-less at (i.And t) go all stack w h = top-less stack _ _ (λ v rest. if-less (as_bool v) _ _ _ _ (h 0 _ _) (h _ _ _))
-  act-less at (i.Or t) go all stack w h = top-less stack _ _ (λ v rest. if-less (as_bool v) _ _ _ _ (h _ _ _) (h 0 _ _))
-  act-less at i.Check go all stack w h = top-less stack _ _ (λ v rest. object-less (object_at w.machine.store v) _ _ (λ o. h 0 _ _))
-  act-less at (i.Put k) go all stack w h = top-less stack _ _ (λ v rest. top-less rest _ _ (λ r under. h 0 _ _))
-  act-less at (i.Swap s k) go all stack w h = top-less stack _ _ (λ v rest. object-less (object_at w.machine.store v) _ _ (λ o. h 0 _ _))
-  act-less at (i.Freeze s) go all stack w h = object-less _ _ _ (λ o. h 0 _ _)
-  act-less at (i.Merge s) go all stack w h = object-less _ _ _ (λ o. h 0 _ _)
-  act-less at i.Read go all stack w h = taken-less (next_number w.input) go all stack w h
-  act-less at i.Room go all stack w h =
-      if-less (nat_lt (length w.machine.frames) FRAMES) _ (Traps trap.Depth) _ (Traps trap.Depth) (h 0 stack w) (inr refl)
-  act-less at (i.Call m) go all stack w h = inr refl
-  act-less at i.Ret go all stack w h = inr refl
-  act-less at i.RetVoid go all stack w h = inr refl
-  act-less at (i.Enter s z) go all stack w h = opens-less w.machine z _ _ (object-less _ _ _ (λ o. h 0 _ _))
-  act-less at (i.EnterField k z) go all stack w h = opens-less w.machine z _ _ (top-less stack _ _ (λ r rest.
-      object-less (object_at w.machine.store r) _ _ (λ o. object-less _ _ _ (λ b. h 0 _ _))))
-  act-less at i.Print go all stack w h = top-less stack _ _ (λ v rest. h 0 _ _)
-  act-less at i.Pop go all stack w h = top-less stack _ _ (λ v rest. h 0 _ _)
-  act-less at i.Drop go all stack w h = top-less stack _ _ (λ v rest. h 0 _ _)
-  act-less at i.Halt go all stack w h = inr refl
-  act-less at _ go all stack w h = h 0 _ _
+-- where each instruction is given what it needs
+given-less : LessAct given_act act
+given-less code at o go all stack w h = by-need (needs code o stack w.machine) _ _ (act-less code at o go all stack w h)
 
-  by_need : (t : Truth) (x y : Walked) → Less x y → Less (if t then x else Stuck) y
-  by_need true x y h = h
-  by_need false x y h = inl refl
-
-  walk-less : (os : List Op) (at : ℕ) → LessFrom (given_walk code os at) (walk code os at)
-  walk-less [] at skip stack w = inl refl
-  walk-less (o ∷ os) at zero stack w =
-      by_need (needs code o stack w.machine) _ _ (act-less at o (given_walk code os (at + 1)) (walk code os (at + 1)) stack w (walk-less os (at + 1)))
-  walk-less (o ∷ os) at (suc k) stack w = walk-less os (at + 1) k stack w
-
-  landed-less : (x y : Walked) → Less x y → SameOrLost (landed code x) (landed code y)
-  landed-less x y (inl stuck) = inl (ap (landed code) stuck)
-  landed-less x y (inr same) = inr (ap (landed code) same)
-
-  finished-same : (line : ℕ) (x : Walked) → SameOrLost (given_finished code line x) (finished code line x)
-  finished-same line (Stops at w) = inr refl
-  finished-same line (Returns back stack w) = landed-less _ _ (walk-less (drop back code.ops) back 0 stack w)
-  finished-same line (Traps t) = inr refl
-  finished-same line Stuck = inl refl
-
-  finished-less : (line : ℕ) (x y : Walked) → Less x y → SameOrLost (given_finished code line x) (finished code line y)
-  finished-less line x y (inl stuck) = inl (ap (given_finished code line) stuck)
-  finished-less line x y (inr same) = subst (λ z. SameOrLost (given_finished code line x) (finished code line z)) same (finished-same line x)
-
-  from-less : (w : Work) (os : List Op) → SameOrLost (given_step_from code w os) (step_from code w os)
-  from-less w [] = inl refl
-  from-less w (i.Mark line ∷ os) = finished-less line _ _ (walk-less os (w.machine.at + 1) 0 [] w)
-  from-less w (o ∷ os) = inl refl
-
-  -- a step in which each instruction is given what it needs is lost, or it is the step
-  pub step-less : (w : Work) → SameOrLost (given_step code w) (step code w)
-  step-less w = from-less w (drop w.machine.at code.ops)
+-- a step in which each instruction is given what it needs is lost, or it is the step
+pub step-less : (code : Code) (w : Work) → SameOrLost (given_step code w) (step code w)
+step-less = step-less-by given_act act given-less
