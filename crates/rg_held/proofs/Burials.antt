@@ -28,7 +28,7 @@ use Rattle.rg_held.specs.Part.{leads_to, AllLead, SlotInto, FieldInto, Placed, P
 use Rattle.rg_held.proofs.Lists.{off}
 use Rattle.rg_held.proofs.Places.{or-right, clash}
 use Rattle.rg_held.proofs.Places.{label-there, into-back, region-into}
-use Rattle.rg_held.proofs.Links.{Link, AllLinks, beneath-links, beneath-first, beneath-all, beneath-from}
+use Rattle.rg_held.proofs.Callers.Beneath.{Link, AllLinks, beneath-links, beneath-first, beneath-all, beneath-from}
 use Rattle.rg_held.proofs.Parts.{shut-above, open-region}
 use Rattle.rg_held.proofs.Halves.{Half, whole}
 

@@ -1,5 +1,6 @@
--- What callers cite: what an instruction needs, steps and runs, the opening, what is forgotten, what frees nothing, and what a step
--- frees, and that what is gone stays so.
+-- What callers cite: what an instruction needs, steps and runs, the opening, which regions are beneath others, what is forgotten, what frees
+-- nothing, and what a step frees, and that what is gone stays so.
+pub mod Beneath
 pub mod Need
 pub mod Forget
 pub mod Plain

@@ -28,7 +28,7 @@ use Rattle.rg_held.specs.Laws.{owners_of, GoesOn}
 use Rattle.rg_held.proofs.Lists.{off, any-at}
 use Rattle.rg_held.proofs.Places.{clash, top-open}
 use Rattle.rg_held.proofs.Places.{label-there, region-into, closed-there, label-into}
-use Rattle.rg_held.proofs.Links.{Link, beneath-links, beneath-first, beneath-all}
+use Rattle.rg_held.proofs.Callers.Beneath.{Link, beneath-links, beneath-first, beneath-all}
 use Rattle.rg_held.proofs.Parts.{shut-above, closed-above, part-owners}
 use Rattle.rg_held.proofs.Burials.{link-held, held-link, closed-link, link-field, region-given, same-region}
 use Rattle.rg_held.proofs.Callers.Forget.{match-forgets}

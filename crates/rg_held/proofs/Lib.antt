@@ -1,7 +1,6 @@
 -- The lemmas by which the laws of rg_held are proved; those with pub are for crates above.
 pub mod Lists
 pub mod Places
-mod Links
 mod Parts
 mod Halves
 mod Burials

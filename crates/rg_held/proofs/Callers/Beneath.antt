@@ -1,4 +1,4 @@
--- The regions beneath others, by labels alone.
+-- The regions beneath others, by labels alone. For callers.
 use Rattle.std.proofs.Common.{◌≡◌, ℕ, zero, suc, ◌<◌, ◌≤◌, ◌⊎◌, inl, inr, true, false, Bool as Truth, List, Some}
 use Rattle.std.proofs.Common.{refl, sym, subst, arith}
 use Rattle.std.specs.Prelude.{flat_map}
