@@ -2,26 +2,9 @@
 pub mod Lists
 pub mod Places
 mod Parts
-mod Halves
-mod Burials
-mod Stack
-mod Slots
-mod Easy
-mod Releases
-mod Returns
-mod Leaves
-mod News
-mod Writes
-mod Objects
-mod Labels
-mod Consumes
-mod Enters
 mod Acts
-mod Less
-mod Walking
+mod Walks
 pub mod Gather
 mod Examples
-mod Stops
-mod Backs
 mod Freed
 pub mod Callers

@@ -7,7 +7,7 @@ use Rattle.rg_rules.specs.Regions.{region_at, among, joined_with}
 use Rattle.rg_sound.proofs.Stores.Member.{In, among-in, among-not, joined-old, joined-new, joined-back, missing, counted, counted-most}
 use Rattle.rg_sound.proofs.Stores.Member.{counted-rises}
 use Rattle.rg_stack.specs.Effects.{led_by_labels, beneath_by_labels}
-use Rattle.rg_stack.proofs.Judgements.Label.{LeadsTo, labels_back, labels_in, fields_in, flat_back, flat_in}
+use Rattle.rg_stack.proofs.Callers.Label.{LeadsTo, labels_back, labels_in, fields_in, flat_back, flat_in}
 
 -- a field of an object of the one region leads into the other
 abbrev pub Link : List Seen → ℕ → ℕ → Type 0

@@ -1,6 +1,6 @@
 -- What is gone stays so, whatever the machine that frees does. For callers.
 use Rattle.std.proofs.Common.{◌≡◌, ℕ, zero, suc, ◌+◌, true, false, Bool as Truth, if◌then◌else◌}
-use Rattle.std.proofs.Common.{List, [], ◌∷◌, ◌++◌, drop, length, Option, Some, None, Result, Ok, Err, refl, slice_get, slice_set}
+use Rattle.std.proofs.Common.{List, [], ◌∷◌, drop, length, Option, Some, None, Result, Ok, Err, refl, slice_get, slice_set}
 use Rattle.std.specs.Prelude.{nat_lt, unwrap_or}
 use Rattle.rg_base.specs.Input.{NextNumber, found, malformed, at_end, next_number}
 use Rattle.rg_base.specs.declared.limits.TheConstants.{FRAMES}
@@ -22,7 +22,7 @@ use Rattle.rg_code.specs.declared.op.Op.TheVariants as i
 use Rattle.rg_code.specs.Code.{Code}
 use Rattle.rg_stack.specs.Machine.{Frame, Machine, top_slots, slot_at, place_of, slots_below}
 use Rattle.rg_stack.specs.Effects.{Work, Walked, Stops, Returns, Traps, Stuck, Go, on_top, on_two, pushed, next_taken, opens_at, begins_by}
-use Rattle.rg_stack.specs.Effects.{called, returned, entered, relabel, beneath_by_labels, top_region, with_store, put_in, with_value_in}
+use Rattle.rg_stack.specs.Effects.{called, returned, entered, relabel, beneath_by_labels, top_region, put_in, with_value_in}
 use Rattle.rg_stack.specs.Runs.{Stepped, Goes, Ends, Trapped, Lost, come_to, landed, stopped}
 use Rattle.rg_base.specs.declared.object.Place.{Place}
 use Rattle.rg_held.specs.Frees.{Given, given_up, regions_freed, freed, free_act, free_walk, free_finished, free_step_from, free_step}

@@ -36,8 +36,8 @@ use Rattle.rg_stack.specs.Labels.{is_open}
 use Rattle.rg_stack.proofs.Basics.{none-some}
 use Rattle.rg_held.specs.Frees.{Given, given_up, regions_freed, window_that_ends, left_with, bury, freed, forgotten, lives, free_act}
 use Rattle.rg_held.specs.Part.{SomeWindow}
-use Rattle.rg_held.proofs.Less.{tested_walk}
-use Rattle.rg_held.proofs.Burials.{same-region}
+use Rattle.rg_held.proofs.Walks.Less.{tested_walk}
+use Rattle.rg_held.proofs.Parts.Burial.{same-region}
 use Rattle.rg_held.proofs.Freed.Changes.{MayTake, region-not}
 use Rattle.rg_held.proofs.Freed.Windows.{numbered-more, number-new, opened-on, without-on, without-shut, without-some, without-numbered}
 use Rattle.rg_held.proofs.Freed.Windows.{that-ends, left-temps}

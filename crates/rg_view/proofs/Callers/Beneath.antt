@@ -8,7 +8,7 @@ use Rattle.rg_base.specs.declared.object.Seen.{Seen}
 use Rattle.rg_rules.specs.Regions.{region_at, among, in_regions, relabelled_object, relabelled}
 use Rattle.rg_sound.proofs.Stores.Member.{among-in, in-among}
 use Rattle.rg_stack.specs.Effects.{beneath_by_labels}
-use Rattle.rg_stack.proofs.Judgements.Label.{LeadsTo}
+use Rattle.rg_stack.proofs.Callers.Label.{LeadsTo}
 use Rattle.rg_cells.specs.Table.{Heap, Serials}
 use Rattle.rg_regions.specs.Table.{RegionTable}
 use Rattle.rg_regions.specs.Grove.{Grove}

@@ -22,7 +22,7 @@ use Rattle.rg_held.specs.Gone.{gone}
 use Rattle.rg_held.specs.Part.{leads_to, AllLead, Placed, Part, is_of, OwnerHeld, OwnersHeld, may_lead}
 use Rattle.rg_held.proofs.Lists.{set-back, set-old, set-apart}
 use Rattle.rg_held.proofs.Places.{clash}
-use Rattle.rg_held.proofs.Parts.{lead-more}
+use Rattle.rg_held.proofs.Parts.Part.{lead-more}
 
 module _ (held : ℕ → Truth) (owners : List Val) (f m : Machine) (stack : List Val) (a : ℕ) (o : Seen) (k : ℕ) (v : Val)
     (p : Part held owners f m stack) (here : held a ≡ true) (there : slice_get m.store a ≡ Some o) (lead : leads_to held v ≡ true)

@@ -18,10 +18,10 @@ use Rattle.rg_held.specs.Part.{leads_to, SlotInto, FieldInto, Placed, Tidy, Part
 use Rattle.rg_held.proofs.Lists.{off, drop-back, any-at}
 use Rattle.rg_held.proofs.Places.{ClosedRef, closed-back, closed-there, into-back, once}
 use Rattle.rg_held.proofs.Places.{slot-counts, field-counts, slot-slot, slot-field, field-field}
-use Rattle.rg_held.proofs.Parts.{field-frames, closed-same, top-slot}
-use Rattle.rg_held.proofs.Burials.{Alone, Burial, left_held, part-bury}
-use Rattle.rg_held.proofs.Stack.{slot-leads, slot-same}
-use Rattle.rg_held.proofs.Slots.{put-back, end-back, put-there, part-put, part-end}
+use Rattle.rg_held.proofs.Parts.Part.{field-frames, closed-same, top-slot}
+use Rattle.rg_held.proofs.Parts.Burial.{Alone, Burial, left_held, part-bury}
+use Rattle.rg_held.proofs.Acts.Stack.{slot-leads, slot-same}
+use Rattle.rg_held.proofs.Parts.Slot.{put-back, end-back, put-there, part-put, part-end}
 
 -- regions into which values lead, by a value
 

@@ -14,15 +14,15 @@ use Rattle.rg_stack.specs.Given.{given_walk}
 use Rattle.rg_stack.specs.Refusals.{Manner, Ends, Clears, Settles, Takes, Computes, Prepares, Calls, Chooses, Passes, manner, room_behind, calm_by}
 use Rattle.rg_stack.specs.Refusals.{calm, computes, all_compute, orderly_by, orderly}
 use Rattle.rg_stack.proofs.Basics.{none-some, and-left, and-right}
-use Rattle.rg_stack.proofs.Walks.Less.{Less}
+use Rattle.rg_stack.proofs.Callers.Less.{Less}
 use Rattle.rg_held.specs.Frees.{free_act, free_walk, free_given_walk}
 use Rattle.rg_held.specs.Ends.{Match, SameEnd}
 use Rattle.rg_held.specs.Laws.{owners_of, may_follow, taken_behind, goes_on, skipped, GoesTo, InOrder, WalksSame}
 use Rattle.rg_held.proofs.Lists.{off}
-use Rattle.rg_held.proofs.Easy.{stop-same}
-use Rattle.rg_held.proofs.Acts.{act-same}
+use Rattle.rg_held.proofs.Acts.Easy.{stop-same}
+use Rattle.rg_held.proofs.Acts.Each.{act-same}
 use Rattle.rg_held.proofs.Callers.Need.{needs-same}
-use Rattle.rg_held.proofs.Less.{Test, tested_walk, tested-given, walk-less}
+use Rattle.rg_held.proofs.Walks.Less.{Test, tested_walk, tested-given, walk-less}
 
 stuck-same : (x : Walked) → SameEnd x Stuck
 stuck-same (Stops at w) = tt

@@ -21,7 +21,7 @@ use Rattle.rg_stack.specs.Machine.{Frame, Window, Machine}
 use Rattle.rg_stack.specs.Effects.{beneath_by_labels}
 use Rattle.rg_stack.specs.Labels.{is_open, has_window, label_of, lies_in, is_into, is_outside}
 use Rattle.rg_stack.proofs.Basics.{none-some, and-left, and-right, or-left}
-use Rattle.rg_stack.proofs.Needs.Lead.{region-label}
+use Rattle.rg_stack.proofs.Callers.Lead.{region-label}
 use Rattle.rg_held.specs.Frees.{is_temp, buried, bury}
 use Rattle.rg_held.specs.Gone.{gone}
 use Rattle.rg_held.specs.Part.{leads_to, AllLead, SlotInto, FieldInto, Placed, Part, is_of, OwnerHeld, OwnersHeld}
@@ -29,8 +29,8 @@ use Rattle.rg_held.proofs.Lists.{off}
 use Rattle.rg_held.proofs.Places.{or-right, clash}
 use Rattle.rg_held.proofs.Places.{label-there, into-back, region-into}
 use Rattle.rg_held.proofs.Callers.Beneath.{Link, AllLinks, beneath-links, beneath-first, beneath-all, beneath-from}
-use Rattle.rg_held.proofs.Parts.{shut-above, open-region}
-use Rattle.rg_held.proofs.Halves.{Half, whole}
+use Rattle.rg_held.proofs.Parts.Part.{shut-above, open-region}
+use Rattle.rg_held.proofs.Parts.Half.{Half, whole}
 
 -- whether an object is freed
 abbrev pub is_buried : (regions : List ℕ) → (temps : Option ℕ) → Seen → Truth

@@ -24,7 +24,7 @@ use Rattle.rg_held.specs.Part.{leads_to, Placed, Part, OwnerHeld, OwnersHeld}
 use Rattle.rg_held.proofs.Lists.{off, push-back, push-old, push-below, push-past}
 use Rattle.rg_held.proofs.Lists.{any-at}
 use Rattle.rg_held.proofs.Places.{or-right, clash, region-into}
-use Rattle.rg_held.proofs.Parts.{lead-any, lead-more, all-more}
+use Rattle.rg_held.proofs.Parts.Part.{lead-any, lead-more, all-more}
 
 -- no reference
 abbrev pub Plain : Val → Type 0

@@ -30,7 +30,7 @@ use Rattle.rg_stack.specs.Machine.{Frame, Window, Machine}
 use Rattle.rg_stack.specs.Shows.{ShowsFrame, ShowsFrames, ShowsWindows}
 use Rattle.rg_stack.specs.Needs.{closed_of, closed_into, is_closed}
 use Rattle.rg_stack.specs.Labels.{is_open, has_window, label_of, lies_in, is_into, is_outside}
-use Rattle.rg_stack.proofs.Needs.List.{slot-local}
+use Rattle.rg_stack.proofs.Callers.List.{slot-local}
 
 -- a machine shows frames and windows whose data fit
 pub record ShowsFit (classes : List Class) (m : Machine) (bodies : List Body) (opened : List Opened) : Type 0 where

@@ -37,12 +37,12 @@ use Rattle.rg_held.specs.Laws.{owners_of, GoesOn}
 use Rattle.rg_held.proofs.Lists.{off, set-new}
 use Rattle.rg_held.proofs.Places.{clash, not-closed, top-open}
 use Rattle.rg_held.proofs.Places.{label-there, into-label}
-use Rattle.rg_held.proofs.Parts.{closed-above, part-owners}
-use Rattle.rg_held.proofs.Stack.{match-more, slot-leads, slot-same, field-leads}
-use Rattle.rg_held.proofs.Slots.{part-put, put-there}
-use Rattle.rg_held.proofs.News.{Plain, NewFits, with_new, part-region, part-new}
-use Rattle.rg_held.proofs.Writes.{part-write}
-use Rattle.rg_held.proofs.Burials.{same-region}
+use Rattle.rg_held.proofs.Parts.Part.{closed-above, part-owners}
+use Rattle.rg_held.proofs.Acts.Stack.{match-more, slot-leads, slot-same, field-leads}
+use Rattle.rg_held.proofs.Parts.Slot.{part-put, put-there}
+use Rattle.rg_held.proofs.Acts.Make.{Plain, NewFits, with_new, part-region, part-new}
+use Rattle.rg_held.proofs.Acts.Write.{part-write}
+use Rattle.rg_held.proofs.Parts.Burial.{same-region}
 
 -- a class opens its fields with no reference
 opened-plain : (ws : List Word) (k : ℕ) (v : Val) → leads_nowhere ws ≡ true → slice_get (map value_of_word ws) k ≡ Some v → Plain v

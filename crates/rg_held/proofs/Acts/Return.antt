@@ -21,12 +21,13 @@ use Rattle.rg_held.specs.Ends.{Match, SameEnd}
 use Rattle.rg_held.specs.Laws.{owners_of, GoesOn}
 use Rattle.rg_held.proofs.Lists.{off, any-at, any-left, any-right, any-split}
 use Rattle.rg_held.proofs.Places.{ClosedRef}
-use Rattle.rg_held.proofs.Parts.{field-frames, part-stack, part-frames, lead-any}
+use Rattle.rg_held.proofs.Parts.Part.{field-frames, part-stack, part-frames, lead-any}
 use Rattle.rg_held.proofs.Callers.Forget.{part-remembers}
-use Rattle.rg_held.proofs.Burials.{left_held, part-bury}
-use Rattle.rg_held.proofs.Stack.{match-more}
-use Rattle.rg_held.proofs.Releases.{Loose, loose-one, top-into, two-slots, slot-and-field, two-fields, no-place-slot, no-place-field, plain-burial}
-use Rattle.rg_held.proofs.Releases.{among-in, among-back, part-own, part-end-freed}
+use Rattle.rg_held.proofs.Parts.Burial.{left_held, part-bury}
+use Rattle.rg_held.proofs.Acts.Stack.{match-more}
+use Rattle.rg_held.proofs.Acts.Release.{Loose, loose-one, top-into, two-slots, slot-and-field, two-fields, no-place-slot, no-place-field}
+use Rattle.rg_held.proofs.Acts.Release.{plain-burial}
+use Rattle.rg_held.proofs.Acts.Release.{among-in, among-back, part-own, part-end-freed}
 
 -- a frame ends
 module _ (held : ℕ → Truth) (f m : Machine) (stack : List Val) (x : Frame) (rest : List Frame) (e : m.frames ≡ x ∷ rest)

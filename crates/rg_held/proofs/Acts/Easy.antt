@@ -28,10 +28,10 @@ use Rattle.rg_held.specs.Ends.{Match, SameEnd}
 use Rattle.rg_held.specs.Laws.{owners_of, GoesOn, GoesTo}
 use Rattle.rg_held.proofs.Lists.{off}
 use Rattle.rg_held.proofs.Places.{closed-there, not-closed}
-use Rattle.rg_held.proofs.Stack.{match-stack, match-owners, match-more, number-plain, slot-leads, slot-same, object-same, field-leads}
-use Rattle.rg_held.proofs.Stack.{pushed-same, push-same}
-use Rattle.rg_held.proofs.Parts.{part-stack, part-owners}
-use Rattle.rg_held.proofs.Slots.{part-put, put-there, part-call}
+use Rattle.rg_held.proofs.Acts.Stack.{match-stack, match-owners, match-more, number-plain, slot-leads, slot-same, object-same, field-leads}
+use Rattle.rg_held.proofs.Acts.Stack.{pushed-same, push-same}
+use Rattle.rg_held.proofs.Parts.Part.{part-stack, part-owners}
+use Rattle.rg_held.proofs.Parts.Slot.{part-put, put-there, part-call}
 
 -- a walk ends at an address
 pub stop-same : (at : ℕ) (taken : Truth) (stack : List Val) (u w : Work) → is_empty stack ≡ true → Match (owners_of taken stack) u w stack

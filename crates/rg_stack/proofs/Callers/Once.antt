@@ -21,10 +21,10 @@ use Rattle.rg_stack.specs.Machine.{Frame, Window, Machine}
 use Rattle.rg_stack.specs.Shows.{ShowsFrames}
 use Rattle.rg_stack.specs.Needs.{closed_into, slots_into, fields_into, places_into, owned_once, loose}
 use Rattle.rg_stack.specs.Labels.{is_open, is_into, is_outside}
-use Rattle.rg_stack.proofs.Needs.List.{all_below-each}
+use Rattle.rg_stack.proofs.Callers.List.{all_below-each}
 use Rattle.rg_stack.proofs.Needs.Count.{AtMostOne, sum-none, sum-one, count-none, count-one}
-use Rattle.rg_stack.proofs.Needs.Lead.{ShowsFit, LeadsInto, into-leads, closed-into, shown-closed, value-owns}
-use Rattle.rg_stack.proofs.Needs.Lead.{frame-leads, leads-more, field-leads}
+use Rattle.rg_stack.proofs.Callers.Lead.{ShowsFit, LeadsInto, into-leads, closed-into, shown-closed, value-owns}
+use Rattle.rg_stack.proofs.Callers.Lead.{frame-leads, leads-more, field-leads}
 
 place-var : (n i m j : ℕ) → ◌≡◌ {A = Place} (place.Var n i) (place.Var m j) → (n ≡ m) × (i ≡ j)
 place-var n i m j e = (grind arith, grind arith)

@@ -29,12 +29,12 @@ use Rattle.rg_held.specs.Laws.{owners_of, GoesOn}
 use Rattle.rg_held.proofs.Lists.{off}
 use Rattle.rg_held.proofs.Places.{or-right, clash, top-open}
 use Rattle.rg_held.proofs.Places.{not-closed, region-into, label-into, label-there, into-label}
-use Rattle.rg_held.proofs.Stack.{match-more, slot-leads, slot-same, field-leads}
-use Rattle.rg_held.proofs.Slots.{part-put}
-use Rattle.rg_held.proofs.Releases.{slot-at-into, slot-and-field, two-fields}
-use Rattle.rg_held.proofs.Parts.{part-stack, part-owners}
-use Rattle.rg_held.proofs.Objects.{top-numbered, writable-open}
-use Rattle.rg_held.proofs.Consumes.{closed-region}
+use Rattle.rg_held.proofs.Acts.Stack.{match-more, slot-leads, slot-same, field-leads}
+use Rattle.rg_held.proofs.Parts.Slot.{part-put}
+use Rattle.rg_held.proofs.Acts.Release.{slot-at-into, slot-and-field, two-fields}
+use Rattle.rg_held.proofs.Parts.Part.{part-stack, part-owners}
+use Rattle.rg_held.proofs.Acts.Object.{top-numbered, writable-open}
+use Rattle.rg_held.proofs.Acts.Consume.{closed-region}
 
 -- a window comes
 module _ (held : ℕ → Truth) (f m : Machine) (p : Part held [] f m []) (w : Window) (fw : List Window) (made : ℕ) (same_windows : fw ≡ w ∷ m.windows)

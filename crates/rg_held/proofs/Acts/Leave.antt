@@ -33,14 +33,14 @@ use Rattle.rg_held.specs.Laws.{owners_of, GoesOn}
 use Rattle.rg_held.proofs.Lists.{off, any-at, drop-back, reverse-back}
 use Rattle.rg_held.proofs.Places.{or-right, clash}
 use Rattle.rg_held.proofs.Places.{closed-back, closed-there}
-use Rattle.rg_held.proofs.Parts.{closed-above, field-frames, closed-same, top-slot}
-use Rattle.rg_held.proofs.Halves.{Half, Lost, whole}
-use Rattle.rg_held.proofs.Burials.{Burial, left_held, is_buried, NotBelow, temp-label, part-bury, unburied}
+use Rattle.rg_held.proofs.Parts.Part.{closed-above, field-frames, closed-same, top-slot}
+use Rattle.rg_held.proofs.Parts.Half.{Half, Lost, whole}
+use Rattle.rg_held.proofs.Parts.Burial.{Burial, left_held, is_buried, NotBelow, temp-label, part-bury, unburied}
 use Rattle.rg_held.proofs.Callers.Forget.{part-remembers}
-use Rattle.rg_held.proofs.Stack.{match-more}
-use Rattle.rg_held.proofs.Slots.{end-back, part-end}
-use Rattle.rg_held.proofs.Releases.{given-in, given-back, top-into, two-slots, slot-and-field, two-fields, Ending, among-in, among-back}
-use Rattle.rg_held.proofs.Releases.{part-end-freed}
+use Rattle.rg_held.proofs.Acts.Stack.{match-more}
+use Rattle.rg_held.proofs.Parts.Slot.{end-back, part-end}
+use Rattle.rg_held.proofs.Acts.Release.{given-in, given-back, top-into, two-slots, slot-and-field, two-fields, Ending, among-in, among-back}
+use Rattle.rg_held.proofs.Acts.Release.{part-end-freed}
 
 -- elements that pass a test, and lists of what they give
 

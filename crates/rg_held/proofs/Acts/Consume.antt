@@ -29,13 +29,13 @@ use Rattle.rg_held.proofs.Lists.{off, any-at}
 use Rattle.rg_held.proofs.Places.{clash, top-open}
 use Rattle.rg_held.proofs.Places.{label-there, region-into, closed-there, label-into}
 use Rattle.rg_held.proofs.Callers.Beneath.{Link, beneath-links, beneath-first, beneath-all}
-use Rattle.rg_held.proofs.Parts.{shut-above, closed-above, part-owners}
-use Rattle.rg_held.proofs.Burials.{link-held, held-link, closed-link, link-field, region-given, same-region}
+use Rattle.rg_held.proofs.Parts.Part.{shut-above, closed-above, part-owners}
+use Rattle.rg_held.proofs.Parts.Burial.{link-held, held-link, closed-link, link-field, region-given, same-region}
 use Rattle.rg_held.proofs.Callers.Forget.{match-forgets}
-use Rattle.rg_held.proofs.Stack.{match-more, slot-leads, slot-same}
-use Rattle.rg_held.proofs.Slots.{part-put}
-use Rattle.rg_held.proofs.Releases.{slot-at-into, slot-and-field, two-fields}
-use Rattle.rg_held.proofs.Labels.{other_label, part-relabel, relabel-tidy}
+use Rattle.rg_held.proofs.Acts.Stack.{match-more, slot-leads, slot-same}
+use Rattle.rg_held.proofs.Parts.Slot.{part-put}
+use Rattle.rg_held.proofs.Acts.Release.{slot-at-into, slot-and-field, two-fields}
+use Rattle.rg_held.proofs.Acts.Label.{other_label, part-relabel, relabel-tidy}
 
 -- a reference that is closed leads into a closed region
 pub closed-region : (m : Machine) (a : ℕ) (o : Seen) → slice_get m.store a ≡ Some o → owns_or_nil m (val.Obj a) ≡ true

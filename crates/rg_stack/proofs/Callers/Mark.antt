@@ -4,7 +4,7 @@ use Rattle.std.proofs.Common.{replicate, refl, sym, ap, ◌∙◌, slice_get, un
 use Rattle.std.proofs.lemmas.List.{take-append-drop, drop-drop}
 use Rattle.rg_base.specs.declared.value.Val.{Val}
 use Rattle.rg_base.specs.declared.value.Val.TheVariants as val
-use Rattle.rg_tree.specs.Tree.{Variable, stmt, StmtKind, declare, assign, call, swap, branch, while, enter, print, collect, return, Class}
+use Rattle.rg_tree.specs.Tree.{Variable, stmt, StmtKind, declare, Class}
 use Rattle.rg_rules.specs.Environment.{same_variable}
 use Rattle.rg_rules.specs.Items.{Item, Do, EndAt, LeaveAt, Back}
 use Rattle.rg_rules.specs.State.{Local, value_in}

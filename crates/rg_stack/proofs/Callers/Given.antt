@@ -19,7 +19,7 @@ use Rattle.rg_stack.specs.Effects.{Work, Walked, Traps, Stuck, Go, on_top, on_tw
 use Rattle.rg_stack.specs.Runs.{step}
 use Rattle.rg_stack.specs.Needs.{needs}
 use Rattle.rg_stack.specs.Given.{given_act, given_step}
-use Rattle.rg_stack.proofs.Walks.Less.{Less, LessFrom, LessAct, SameOrLost, by-need, step-less-by}
+use Rattle.rg_stack.proofs.Callers.Less.{Less, LessFrom, LessAct, SameOrLost, by-need, step-less-by}
 
 top-less : (stack : List Val) (go all : Val → List Val → Walked) → ((v : Val) (rest : List Val) → Less (go v rest) (all v rest))
     → Less (on_top stack go) (on_top stack all)

@@ -14,7 +14,7 @@ use Rattle.rg_stack.proofs.Basics.{none-some}
 use Rattle.rg_held.specs.Part.{leads_to, AllLead, SlotInto, Placed, Part}
 use Rattle.rg_held.proofs.Lists.{off, set-back, set-other, set-new, set-old, ended-back, ended-front, drop-at, any-at}
 use Rattle.rg_held.proofs.Lists.{reverse-back, reverse-in, append-back, append-left, replicate-back, take-whole}
-use Rattle.rg_held.proofs.Parts.{part-frames, slot-cases, slot-of-top, slots-back, top-slot, lead-any}
+use Rattle.rg_held.proofs.Parts.Part.{part-frames, slot-cases, slot-of-top, slots-back, top-slot, lead-any}
 
 -- what leads into a region is no nil
 pub nil-into : {B : Type 0} (m : Machine) (r : ℕ) (v : Val) → v ≡ val.Nil → is_into m.store r v ≡ true → B

@@ -8,8 +8,8 @@ use Rattle.rg_code.specs.Code.{Code}
 use Rattle.rg_stack.specs.Machine.{Machine}
 use Rattle.rg_stack.specs.Effects.{Work, Walked, Stuck, Go, Act, walk_by}
 use Rattle.rg_stack.specs.Needs.{needs}
-use Rattle.rg_stack.proofs.Walks.Less.{Less, LessFrom, LessAct, SameOrLost, by-need, walk-less-by, step-less-by}
-use Rattle.rg_stack.proofs.Walks.Given.{act-less}
+use Rattle.rg_stack.proofs.Callers.Less.{Less, LessFrom, LessAct, SameOrLost, by-need, walk-less-by, step-less-by}
+use Rattle.rg_stack.proofs.Callers.Given.{act-less}
 use Rattle.rg_held.specs.Frees.{given_up, freed, forgotten, behind, free_act, free_walk, free_step, free_given_act, free_given_walk, free_given_step}
 
 behind-less : (o : Op) (go all : Go) → LessFrom go all → LessFrom (behind o go) (behind o all)

@@ -214,10 +214,6 @@ module _ (classes : List Class) (store : List Seen) (windows : List Window) (obj
           ∙ ap (option_and_then (owned_as classes f)) h.value
           ∙ owned_value (type_of classes f.ty) h.address iso
 
-  -- an owner reference is a field that leads there
-  pub record Owner (o : Seen) (k a : ℕ) : Type 0 where
-    pub value : slice_get o.fields k ≡ Some (val.Obj a)
-
   owned_obj : (b : Truth) (v : Val) (a : ℕ) → (if b then address v else None) ≡ Some a → v ≡ val.Obj a
   owned_obj false v a e = none-some a e
   owned_obj true val.Nil a e = none-some a e
