@@ -43,7 +43,7 @@ use Rattle.rg_held.proofs.Freed.Changes.{Stands, NoneLeft, region-not}
 use Rattle.rg_held.proofs.Freed.Windows.{Numbered, numbered}
 use Rattle.rg_held.proofs.Freed.Fates.{IsGiven, Since, Stay, Move, Go}
 use Rattle.rg_held.proofs.Freed.Shut.{shut, shut-passes}
-use Rattle.rg_held.proofs.Freed.Walks.{Now, Ending, on-walk}
+use Rattle.rg_held.proofs.Freed.Walks.{Now, Ending, on-walks}
 use Rattle.rg_held.proofs.Walks.Less.{tested_walk, tested-less}
 use Rattle.rg_held.proofs.Walks.Walk.{drop-next, walks-same, tested-walks-same}
 
@@ -142,7 +142,7 @@ module _ (old : List Seen) (was : Label) (code : Code) where
   walk-ending at room taken stack u w order m leads now =
       ending (tested_walk shut code (drop at code.ops) at 0 stack u) _ (given_walk code (drop at code.ops) at 0 stack w)
       (tested-less shut code (drop at code.ops) at 0 stack u) (tested-walks-same code shut (shut-passes code) at room taken stack u w order m)
-      leads (on-walk old was code (drop at code.ops) at 0 stack u now)
+      leads (on-walks old was code (drop at code.ops) at 0 stack u now)
 
   landed-came : (x : Walked) → Ending old was x → Came old was (landed code x)
   landed-came (Stops at w) now = come-came old was (slice_get code.ops at) (stopped at w) now

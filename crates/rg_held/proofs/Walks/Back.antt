@@ -1,31 +1,29 @@
 -- What a walk returns to is where the topmost frame goes back to, and behind that nothing is refused.
-use Rattle.std.proofs.Common.{◌≡◌, ℕ, zero, suc, ◌+◌, ◌-◌, true, false, Bool as Truth, List, [], ◌∷◌, length, Option, Some, None, Result, Ok, Err}
+use Rattle.std.proofs.Common.{◌≡◌, ℕ, ◌+◌, ◌-◌, true, false, List, [], ◌∷◌, length, Option, Some, None}
 use Rattle.std.proofs.Common.{unwrap_or, drop, slice_get}
-use Rattle.std.specs.Prelude.{nat_lt, neg_ℤ, if◌then◌else◌}
+use Rattle.std.specs.Prelude.{nat_lt, neg_ℤ}
 use Rattle.rg_base.specs.declared.limits.TheConstants.{FRAMES}
 use Rattle.rg_base.specs.declared.object.Label.TheVariants.{Region, Frozen}
 use Rattle.rg_base.specs.declared.object.Place.{Place}
 use Rattle.rg_base.specs.declared.object.Place.TheVariants as place
-use Rattle.rg_base.specs.declared.object.Seen.{Seen}
-use Rattle.rg_base.specs.declared.outcome.Trap.{Trap}
-use Rattle.rg_base.specs.Input.{NextNumber, found, malformed, at_end, next_number}
+use Rattle.rg_base.specs.Input.{next_number}
 use Rattle.rg_base.specs.declared.value.Val.{Val}
 use Rattle.rg_base.specs.declared.value.Val.TheVariants as val
-use Rattle.rg_tree.specs.declared.rows.BinOp.{BinOp}
 use Rattle.rg_tree.specs.declared.rows.BinOp.TheVariants as op
 use Rattle.rg_rules.specs.Evaluation.{object_at}
 use Rattle.rg_rules.specs.Regions.{region_of}
-use Rattle.rg_rules.specs.Values.{Computed, as_int, as_bool, number_value, operate}
+use Rattle.rg_rules.specs.Values.{as_int, as_bool, number_value}
 use Rattle.rg_code.specs.declared.code.Entry.{Entry}
 use Rattle.rg_code.specs.declared.op.Op.{Op}
 use Rattle.rg_code.specs.declared.op.Op.TheVariants as i
 use Rattle.rg_code.specs.Code.{Code}
-use Rattle.rg_stack.specs.Machine.{Frame, Machine, with_slots, slot_at, slots_below, place_of, top_slots}
-use Rattle.rg_stack.specs.Effects.{Work, Walked, Stops, Returns, Traps, Stuck, Go, act, pushed, on_two, on_top, with_store, stored, put_in}
-use Rattle.rg_stack.specs.Effects.{address, relabel, top_region, frame_number, entered, begins_by, returned, opens_at, called, next_taken}
+use Rattle.rg_stack.specs.Machine.{Frame, with_slots, slot_at, slots_below}
+use Rattle.rg_stack.specs.Effects.{Work, Walked, Stops, Returns, Traps, Stuck, Go, act, with_store, stored, put_in}
+use Rattle.rg_stack.specs.Effects.{address, relabel, top_region, frame_number, entered, begins_by, returned, called}
 use Rattle.rg_stack.specs.Needs.{needs}
-use Rattle.rg_stack.specs.Given.{given_walk}
+use Rattle.rg_stack.specs.Given.{given_act, given_walk}
 use Rattle.rg_stack.specs.Refusals.{calm, CalmBehind}
+use Rattle.rg_held.proofs.Walks.Keep.{Kept, Onward, on-top, on-object, on-test, on-pushed, on-two, on-number, on-opened, on-walk}
 
 -- behind the end of the frame that a walk ends nothing is refused
 abbrev pub Back : List Op → Walked → Type 0
@@ -34,9 +32,12 @@ Back code (Returns back stack w) = calm code false (drop back code) ≡ true
 Back code (Traps t) = Unit {0}
 Back code Stuck = Unit {0}
 
--- walks from wherever nothing is refused behind the topmost frame's end
-abbrev GoesBack : List Op → Go → Type 0
-GoesBack code go = (skip : ℕ) (stack : List Val) (w : Work) → CalmBehind code w.machine.frames → Back code (go skip stack w)
+-- nothing is refused behind the end of the topmost frame
+abbrev Calm : List Op → Work → Type 0
+Calm code w = CalmBehind code w.machine.frames
+
+kept : (code : List Op) → Kept (Calm code) (Back code)
+kept code = record { stuck = tt; traps = λ t. tt; read = λ w rest calm. calm }
 
 module _ (code : List Op) where
   slots-behind : (slots : List Val) (fs : List Frame) → CalmBehind code fs → CalmBehind code (with_slots slots fs)
@@ -49,33 +50,6 @@ module _ (code : List Op) where
   entered-behind w owner bridge z None h = h
   entered-behind w owner bridge z (Some r) h = slots-behind _ w.machine.frames h
 
-  top-back : (stack : List Val) (k : Val → List Val → Walked) → ((v : Val) (rest : List Val) → Back code (k v rest)) → Back code (on_top stack k)
-  top-back [] k h = tt
-  top-back (v ∷ rest) k h = h v rest
-
-  object-back : (r : Result Seen Trap) (k : Seen → Walked) → ((o : Seen) → Back code (k o)) → Back code (elim r [ Ok o ↦ k o | Err t ↦ Traps t ])
-  object-back (Ok o) k h = h o
-  object-back (Err t) k h = tt
-
-  if-back : (b : Truth) (x y : Walked) → Back code x → Back code y → Back code (if b then x else y)
-  if-back true x y h k = h
-  if-back false x y h k = k
-
-  pushed-back : (c : Computed) (go : Go) (stack : List Val) (w : Work) → GoesBack code go → CalmBehind code w.machine.frames
-      → Back code (pushed c go stack w)
-  pushed-back (Ok v) go stack w next h = next 0 (v ∷ stack) w h
-  pushed-back (Err t) go stack w next h = tt
-
-  two-back : (o : BinOp) (go : Go) (stack : List Val) (w : Work) → GoesBack code go → CalmBehind code w.machine.frames
-      → Back code (on_two o go stack w)
-  two-back o go [] w next h = tt
-  two-back o go (y ∷ []) w next h = tt
-  two-back o go (y ∷ x ∷ stack) w next h = pushed-back (operate o x y) go stack w next h
-
-  opens-back : (m : Machine) (z : ℕ) (go : Walked) → Back code go → Back code (opens_at m z go)
-  opens-back m z go h = if-back (nat_lt z (length (top_slots m.frames))) _ Stuck
-      (if-back (begins_by m.windows (place_of m.frames z)) go Stuck h tt) tt
-
   called-back : (at : ℕ) (e : Option Entry) (stack : List Val) (w : Work) → Back code (called at e stack w)
   called-back at None stack w = tt
   called-back at (Some e) stack w = tt
@@ -83,90 +57,85 @@ module _ (code : List Op) where
   returned-back : (w : Work) (fs : List Frame) (stack : List Val) → CalmBehind code fs → Back code (returned w fs stack)
   returned-back w [] stack h = tt
   returned-back w (f ∷ []) stack h = tt
-  returned-back w (f ∷ g ∷ fs) stack h = if-back (begins_by w.machine.windows (slots_below (g ∷ fs))) _ Stuck h tt
+  returned-back w (f ∷ g ∷ fs) stack h = on-test (kept code) (begins_by w.machine.windows (slots_below (g ∷ fs))) _ Stuck h tt
 
-  read-back : (n : NextNumber) (go : Go) (stack : List Val) (w : Work) → GoesBack code go → CalmBehind code w.machine.frames
-      → Back code (next_taken n go stack w)
-  read-back (found z rest) go stack w next h = next 0 (val.Int z ∷ stack) (record w { input = rest }) h
-  read-back malformed go stack w next h = tt
-  read-back at_end go stack w next h = tt
-
-act-back : (code : Code) (at : ℕ) (o : Op) (go : Go) (stack : List Val) (w : Work) → GoesBack code.ops go → CalmBehind code.ops w.machine.frames
+act-back : (code : Code) (at : ℕ) (o : Op) (go : Go) (stack : List Val) (w : Work) → Onward (Calm code.ops) (Back code.ops) go → Calm code.ops w
     → Back code.ops (act code at o go stack w)
 act-back code at (i.Mark line) go stack w next h = tt
 act-back code at (i.Clear s) go stack w next h = next 0 stack (stored w s val.Nil) (slots-behind code.ops _ w.machine.frames h)
 act-back code at (i.Store s) go stack w next h =
-    top-back code.ops stack _ (λ v rest. next 0 rest (stored w s v) (slots-behind code.ops _ w.machine.frames h))
+    on-top (kept code.ops) stack _ (λ v rest. next 0 rest (stored w s v) (slots-behind code.ops _ w.machine.frames h))
 act-back code at (i.Own s) go stack w next h =
-    top-back code.ops stack _ (λ v rest. next 0 rest (stored w s v) (slots-behind code.ops _ w.machine.frames h))
+    on-top (kept code.ops) stack _ (λ v rest. next 0 rest (stored w s v) (slots-behind code.ops _ w.machine.frames h))
 act-back code at (i.Field k) go stack w next h =
-    top-back code.ops stack _ (λ v rest. object-back code.ops (object_at w.machine.store v) _ (λ o. next 0 _ w h))
-act-back code at i.IsNil go stack w next h = top-back code.ops stack _ (λ v rest. next 0 _ w h)
+    on-top (kept code.ops) stack _ (λ v rest. on-object (kept code.ops) (object_at w.machine.store v) _ (λ o is. next 0 _ w h))
+act-back code at i.IsNil go stack w next h = on-top (kept code.ops) stack _ (λ v rest. next 0 _ w h)
 act-back code at i.Neg go stack w next h =
-    top-back code.ops stack _ (λ v rest. pushed-back code.ops (number_value (neg_ℤ (as_int v))) go rest w next h)
-act-back code at i.Add go stack w next h = two-back code.ops op.Add go stack w next h
-act-back code at i.Sub go stack w next h = two-back code.ops op.Sub go stack w next h
-act-back code at i.Mul go stack w next h = two-back code.ops op.Mul go stack w next h
-act-back code at i.Div go stack w next h = two-back code.ops op.Div go stack w next h
-act-back code at i.Rem go stack w next h = two-back code.ops op.Rem go stack w next h
-act-back code at i.Eq go stack w next h = two-back code.ops op.Eq go stack w next h
-act-back code at i.Ne go stack w next h = two-back code.ops op.Ne go stack w next h
-act-back code at i.Lt go stack w next h = two-back code.ops op.Lt go stack w next h
-act-back code at i.Le go stack w next h = two-back code.ops op.Le go stack w next h
-act-back code at i.Gt go stack w next h = two-back code.ops op.Gt go stack w next h
-act-back code at i.Ge go stack w next h = two-back code.ops op.Ge go stack w next h
-act-back code at i.Not go stack w next h = top-back code.ops stack _ (λ v rest. next 0 _ w h)
+    on-top (kept code.ops) stack _ (λ v rest. on-pushed (kept code.ops) (number_value (neg_ℤ (as_int v))) go rest w next h)
+act-back code at i.Add go stack w next h = on-two (kept code.ops) op.Add go stack w next h
+act-back code at i.Sub go stack w next h = on-two (kept code.ops) op.Sub go stack w next h
+act-back code at i.Mul go stack w next h = on-two (kept code.ops) op.Mul go stack w next h
+act-back code at i.Div go stack w next h = on-two (kept code.ops) op.Div go stack w next h
+act-back code at i.Rem go stack w next h = on-two (kept code.ops) op.Rem go stack w next h
+act-back code at i.Eq go stack w next h = on-two (kept code.ops) op.Eq go stack w next h
+act-back code at i.Ne go stack w next h = on-two (kept code.ops) op.Ne go stack w next h
+act-back code at i.Lt go stack w next h = on-two (kept code.ops) op.Lt go stack w next h
+act-back code at i.Le go stack w next h = on-two (kept code.ops) op.Le go stack w next h
+act-back code at i.Gt go stack w next h = on-two (kept code.ops) op.Gt go stack w next h
+act-back code at i.Ge go stack w next h = on-two (kept code.ops) op.Ge go stack w next h
+act-back code at i.Not go stack w next h = on-top (kept code.ops) stack _ (λ v rest. next 0 _ w h)
 act-back code at (i.Jump t) go stack w next h = tt
 act-back code at (i.JumpFalse t) go stack w next h =
-    top-back code.ops stack _ (λ v rest. if-back code.ops (as_bool v) _ _ (next 0 rest w h) (next (t - (at + 1)) rest w h))
+    on-top (kept code.ops) stack _ (λ v rest. on-test (kept code.ops) (as_bool v) _ _ (next 0 rest w h) (next (t - (at + 1)) rest w h))
 act-back code at (i.And t) go stack w next h =
-    top-back code.ops stack _ (λ v rest. if-back code.ops (as_bool v) _ _ (next 0 rest w h) (next (t - (at + 1)) (v ∷ rest) w h))
+    on-top (kept code.ops) stack _ (λ v rest. on-test (kept code.ops) (as_bool v) _ _ (next 0 rest w h) (next (t - (at + 1)) (v ∷ rest) w h))
 act-back code at (i.Or t) go stack w next h =
-    top-back code.ops stack _ (λ v rest. if-back code.ops (as_bool v) _ _ (next (t - (at + 1)) (v ∷ rest) w h) (next 0 rest w h))
+    on-top (kept code.ops) stack _ (λ v rest. on-test (kept code.ops) (as_bool v) _ _ (next (t - (at + 1)) (v ∷ rest) w h) (next 0 rest w h))
 act-back code at i.Check go stack w next h =
-    top-back code.ops stack _ (λ v rest. object-back code.ops (object_at w.machine.store v) _ (λ o. next 0 stack w h))
+    on-top (kept code.ops) stack _ (λ v rest. on-object (kept code.ops) (object_at w.machine.store v) _ (λ o is. next 0 stack w h))
 act-back code at (i.New c) go stack w next h = next 0 _ _ h
 act-back code at (i.NewTmp c) go stack w next h = next 0 _ _ h
 act-back code at (i.NewIso c m) go stack w next h = next 0 _ _ h
 act-back code at i.Pace go stack w next h = next 0 stack w h
 act-back code at (i.Put k) go stack w next h =
-    top-back code.ops stack _ (λ v rest. top-back code.ops rest _ (λ r under. next 0 under (with_store w (put_in w.machine.store r k v)) h))
-act-back code at (i.Swap s k) go stack w next h = top-back code.ops stack _ (λ r rest. object-back code.ops (object_at w.machine.store r) _ (λ o.
+    on-top (kept code.ops) stack _ (λ v rest. on-top (kept code.ops) rest _ (λ r under. next 0 under (with_store w (put_in w.machine.store r k v)) h))
+act-back code at (i.Swap s k) go stack w next h = on-top (kept code.ops) stack _ (λ r rest. on-object (kept code.ops) (object_at w.machine.store r) _ (λ o is.
     next 0 rest (stored (with_store w (put_in w.machine.store r k (slot_at w.machine s))) s (unwrap_or (slice_get o.fields k) val.Nil))
     (slots-behind code.ops _ w.machine.frames h)))
-act-back code at (i.Freeze s) go stack w next h = object-back code.ops (object_at w.machine.store (slot_at w.machine s)) _ (λ o.
+act-back code at (i.Freeze s) go stack w next h = on-object (kept code.ops) (object_at w.machine.store (slot_at w.machine s)) _ (λ o is.
     next 0 (slot_at w.machine s ∷ stack) (stored (with_store w (relabel true Frozen w (region_of o.label))) s val.Nil)
     (slots-behind code.ops _ w.machine.frames h))
-act-back code at (i.Merge s) go stack w next h = object-back code.ops (object_at w.machine.store (slot_at w.machine s)) _ (λ o.
+act-back code at (i.Merge s) go stack w next h = on-object (kept code.ops) (object_at w.machine.store (slot_at w.machine s)) _ (λ o is.
     next 0 (slot_at w.machine s ∷ stack)
     (stored (with_store w (relabel false (Region (top_region w.machine.windows)) w (region_of o.label))) s val.Nil)
     (slots-behind code.ops _ w.machine.frames h))
-act-back code at i.Read go stack w next h = read-back code.ops (next_number w.input) go stack w next h
-act-back code at i.Room go stack w next h = if-back code.ops (nat_lt (length w.machine.frames) FRAMES) _ _ (next 0 stack w h) tt
+act-back code at i.Read go stack w next h = on-number (kept code.ops) (next_number w.input) go stack w next h
+act-back code at i.Room go stack w next h = on-test (kept code.ops) (nat_lt (length w.machine.frames) FRAMES) _ _ (next 0 stack w h) tt
 act-back code at (i.Call m) go stack w next h = called-back code.ops at (slice_get code.entries m) stack w
-act-back code at i.Ret go stack w next h = top-back code.ops stack _ (λ v rest. returned-back code.ops w w.machine.frames (v ∷ []) h)
+act-back code at i.Ret go stack w next h = on-top (kept code.ops) stack _ (λ v rest. returned-back code.ops w w.machine.frames (v ∷ []) h)
 act-back code at i.RetVoid go stack w next h = returned-back code.ops w w.machine.frames [] h
 act-back code at (i.Enter s z) go stack w next h =
-    opens-back code.ops w.machine z _ (object-back code.ops (object_at w.machine.store (slot_at w.machine s)) _ (λ o.
+    on-opened (kept code.ops) w.machine z _ (on-object (kept code.ops) (object_at w.machine.store (slot_at w.machine s)) _ (λ o is.
     next 0 stack (entered w (place.Var (frame_number w.machine.frames) s) (slot_at w.machine s) z (region_of o.label))
     (entered-behind code.ops w (place.Var (frame_number w.machine.frames) s) (slot_at w.machine s) z (region_of o.label) h)))
 act-back code at (i.EnterField k z) go stack w next h =
-    opens-back code.ops w.machine z _ (top-back code.ops stack _ (λ r rest. object-back code.ops (object_at w.machine.store r) _ (λ o.
-    object-back code.ops (object_at w.machine.store (unwrap_or (slice_get o.fields k) val.Nil)) _ (λ b.
+    on-opened (kept code.ops) w.machine z _ (on-top (kept code.ops) stack _ (λ r rest. on-object (kept code.ops) (object_at w.machine.store r) _ (λ o is.
+    on-object (kept code.ops) (object_at w.machine.store (unwrap_or (slice_get o.fields k) val.Nil)) _ (λ b there.
     next 0 rest (entered w (place.Field (address r) k) (unwrap_or (slice_get o.fields k) val.Nil) z (region_of b.label))
     (entered-behind code.ops w (place.Field (address r) k) (unwrap_or (slice_get o.fields k) val.Nil) z (region_of b.label) h)))))
 act-back code at (i.Leave s) go stack w next h = next 0 stack _ (slots-behind code.ops _ w.machine.frames h)
 act-back code at (i.End s) go stack w next h = next 0 stack _ (slots-behind code.ops _ w.machine.frames h)
-act-back code at i.Print go stack w next h = top-back code.ops stack _ (λ v rest. next 0 rest (record w { printed = Some v }) h)
+act-back code at i.Print go stack w next h = on-top (kept code.ops) stack _ (λ v rest. next 0 rest (record w { printed = Some v }) h)
 act-back code at i.Collect go stack w next h = next 0 stack w h
-act-back code at i.Pop go stack w next h = top-back code.ops stack _ (λ v rest. next 0 rest w h)
-act-back code at i.Drop go stack w next h = top-back code.ops stack _ (λ v rest. next 0 rest w h)
+act-back code at i.Pop go stack w next h = on-top (kept code.ops) stack _ (λ v rest. next 0 rest w h)
+act-back code at i.Drop go stack w next h = on-top (kept code.ops) stack _ (λ v rest. next 0 rest w h)
 act-back code at i.Halt go stack w next h = tt
 act-back code at _ go stack w next h = next 0 _ w h
 
-pub walk-back : (code : Code) (os : List Op) (at skip : ℕ) (stack : List Val) (w : Work) → CalmBehind code.ops w.machine.frames
-    → Back code.ops (given_walk code os at skip stack w)
-walk-back code [] at skip stack w h = tt
-walk-back code (o ∷ os) at (suc k) stack w h = walk-back code os (at + 1) k stack w h
-walk-back code (o ∷ os) at zero stack w h = if-back code.ops (needs code o stack w.machine) _ Stuck
-    (act-back code at o (given_walk code os (at + 1)) stack w (walk-back code os (at + 1)) h) tt
+given-back : (code : Code) (at : ℕ) (o : Op) (go : Go) (stack : List Val) (w : Work) → Onward (Calm code.ops) (Back code.ops) go → Calm code.ops w
+    → Back code.ops (given_act code at o go stack w)
+given-back code at o go stack w next h =
+    on-test (kept code.ops) (needs code o stack w.machine) _ Stuck (act-back code at o go stack w next h) tt
+
+pub walk-back : (code : Code) (os : List Op) (at : ℕ) → Onward (Calm code.ops) (Back code.ops) (given_walk code os at)
+walk-back code = on-walk (kept code.ops) given_act code (given-back code)
