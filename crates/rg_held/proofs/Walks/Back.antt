@@ -59,83 +59,87 @@ module _ (code : List Op) where
   returned-back w (f ∷ []) stack h = tt
   returned-back w (f ∷ g ∷ fs) stack h = on-test (kept code) (begins_by w.machine.windows (slots_below (g ∷ fs))) _ Stuck h tt
 
-act-back : (code : Code) (at : ℕ) (o : Op) (go : Go) (stack : List Val) (w : Work) → Onward (Calm code.ops) (Back code.ops) go → Calm code.ops w
-    → Back code.ops (act code at o go stack w)
-act-back code at (i.Mark line) go stack w next h = tt
-act-back code at (i.Clear s) go stack w next h = next 0 stack (stored w s val.Nil) (slots-behind code.ops _ w.machine.frames h)
-act-back code at (i.Store s) go stack w next h =
-    on-top (kept code.ops) stack _ (λ v rest. next 0 rest (stored w s v) (slots-behind code.ops _ w.machine.frames h))
-act-back code at (i.Own s) go stack w next h =
-    on-top (kept code.ops) stack _ (λ v rest. next 0 rest (stored w s v) (slots-behind code.ops _ w.machine.frames h))
-act-back code at (i.Field k) go stack w next h =
-    on-top (kept code.ops) stack _ (λ v rest. on-object (kept code.ops) (object_at w.machine.store v) _ (λ o is. next 0 _ w h))
-act-back code at i.IsNil go stack w next h = on-top (kept code.ops) stack _ (λ v rest. next 0 _ w h)
-act-back code at i.Neg go stack w next h =
-    on-top (kept code.ops) stack _ (λ v rest. on-pushed (kept code.ops) (number_value (neg_ℤ (as_int v))) go rest w next h)
-act-back code at i.Add go stack w next h = on-two (kept code.ops) op.Add go stack w next h
-act-back code at i.Sub go stack w next h = on-two (kept code.ops) op.Sub go stack w next h
-act-back code at i.Mul go stack w next h = on-two (kept code.ops) op.Mul go stack w next h
-act-back code at i.Div go stack w next h = on-two (kept code.ops) op.Div go stack w next h
-act-back code at i.Rem go stack w next h = on-two (kept code.ops) op.Rem go stack w next h
-act-back code at i.Eq go stack w next h = on-two (kept code.ops) op.Eq go stack w next h
-act-back code at i.Ne go stack w next h = on-two (kept code.ops) op.Ne go stack w next h
-act-back code at i.Lt go stack w next h = on-two (kept code.ops) op.Lt go stack w next h
-act-back code at i.Le go stack w next h = on-two (kept code.ops) op.Le go stack w next h
-act-back code at i.Gt go stack w next h = on-two (kept code.ops) op.Gt go stack w next h
-act-back code at i.Ge go stack w next h = on-two (kept code.ops) op.Ge go stack w next h
-act-back code at i.Not go stack w next h = on-top (kept code.ops) stack _ (λ v rest. next 0 _ w h)
-act-back code at (i.Jump t) go stack w next h = tt
-act-back code at (i.JumpFalse t) go stack w next h =
-    on-top (kept code.ops) stack _ (λ v rest. on-test (kept code.ops) (as_bool v) _ _ (next 0 rest w h) (next (t - (at + 1)) rest w h))
-act-back code at (i.And t) go stack w next h =
-    on-top (kept code.ops) stack _ (λ v rest. on-test (kept code.ops) (as_bool v) _ _ (next 0 rest w h) (next (t - (at + 1)) (v ∷ rest) w h))
-act-back code at (i.Or t) go stack w next h =
-    on-top (kept code.ops) stack _ (λ v rest. on-test (kept code.ops) (as_bool v) _ _ (next (t - (at + 1)) (v ∷ rest) w h) (next 0 rest w h))
-act-back code at i.Check go stack w next h =
-    on-top (kept code.ops) stack _ (λ v rest. on-object (kept code.ops) (object_at w.machine.store v) _ (λ o is. next 0 stack w h))
-act-back code at (i.New c) go stack w next h = next 0 _ _ h
-act-back code at (i.NewTmp c) go stack w next h = next 0 _ _ h
-act-back code at (i.NewIso c m) go stack w next h = next 0 _ _ h
-act-back code at i.Pace go stack w next h = next 0 stack w h
-act-back code at (i.Put k) go stack w next h =
-    on-top (kept code.ops) stack _ (λ v rest. on-top (kept code.ops) rest _ (λ r under. next 0 under (with_store w (put_in w.machine.store r k v)) h))
-act-back code at (i.Swap s k) go stack w next h = on-top (kept code.ops) stack _ (λ r rest. on-object (kept code.ops) (object_at w.machine.store r) _ (λ o is.
-    next 0 rest (stored (with_store w (put_in w.machine.store r k (slot_at w.machine s))) s (unwrap_or (slice_get o.fields k) val.Nil))
-    (slots-behind code.ops _ w.machine.frames h)))
-act-back code at (i.Freeze s) go stack w next h = on-object (kept code.ops) (object_at w.machine.store (slot_at w.machine s)) _ (λ o is.
-    next 0 (slot_at w.machine s ∷ stack) (stored (with_store w (relabel true Frozen w (region_of o.label))) s val.Nil)
-    (slots-behind code.ops _ w.machine.frames h))
-act-back code at (i.Merge s) go stack w next h = on-object (kept code.ops) (object_at w.machine.store (slot_at w.machine s)) _ (λ o is.
-    next 0 (slot_at w.machine s ∷ stack)
-    (stored (with_store w (relabel false (Region (top_region w.machine.windows)) w (region_of o.label))) s val.Nil)
-    (slots-behind code.ops _ w.machine.frames h))
-act-back code at i.Read go stack w next h = on-number (kept code.ops) (next_number w.input) go stack w next h
-act-back code at i.Room go stack w next h = on-test (kept code.ops) (nat_lt (length w.machine.frames) FRAMES) _ _ (next 0 stack w h) tt
-act-back code at (i.Call m) go stack w next h = called-back code.ops at (slice_get code.entries m) stack w
-act-back code at i.Ret go stack w next h = on-top (kept code.ops) stack _ (λ v rest. returned-back code.ops w w.machine.frames (v ∷ []) h)
-act-back code at i.RetVoid go stack w next h = returned-back code.ops w w.machine.frames [] h
-act-back code at (i.Enter s z) go stack w next h =
-    on-opened (kept code.ops) w.machine z _ (on-object (kept code.ops) (object_at w.machine.store (slot_at w.machine s)) _ (λ o is.
-    next 0 stack (entered w (place.Var (frame_number w.machine.frames) s) (slot_at w.machine s) z (region_of o.label))
-    (entered-behind code.ops w (place.Var (frame_number w.machine.frames) s) (slot_at w.machine s) z (region_of o.label) h)))
-act-back code at (i.EnterField k z) go stack w next h =
-    on-opened (kept code.ops) w.machine z _ (on-top (kept code.ops) stack _ (λ r rest. on-object (kept code.ops) (object_at w.machine.store r) _ (λ o is.
-    on-object (kept code.ops) (object_at w.machine.store (unwrap_or (slice_get o.fields k) val.Nil)) _ (λ b there.
-    next 0 rest (entered w (place.Field (address r) k) (unwrap_or (slice_get o.fields k) val.Nil) z (region_of b.label))
-    (entered-behind code.ops w (place.Field (address r) k) (unwrap_or (slice_get o.fields k) val.Nil) z (region_of b.label) h)))))
-act-back code at (i.Leave s) go stack w next h = next 0 stack _ (slots-behind code.ops _ w.machine.frames h)
-act-back code at (i.End s) go stack w next h = next 0 stack _ (slots-behind code.ops _ w.machine.frames h)
-act-back code at i.Print go stack w next h = on-top (kept code.ops) stack _ (λ v rest. next 0 rest (record w { printed = Some v }) h)
-act-back code at i.Collect go stack w next h = next 0 stack w h
-act-back code at i.Pop go stack w next h = on-top (kept code.ops) stack _ (λ v rest. next 0 rest w h)
-act-back code at i.Drop go stack w next h = on-top (kept code.ops) stack _ (λ v rest. next 0 rest w h)
-act-back code at i.Halt go stack w next h = tt
-act-back code at _ go stack w next h = next 0 _ w h
+module _ (code : Code) where
+  keeps : Kept (Calm code.ops) (Back code.ops)
+  keeps = kept code.ops
 
-given-back : (code : Code) (at : ℕ) (o : Op) (go : Go) (stack : List Val) (w : Work) → Onward (Calm code.ops) (Back code.ops) go → Calm code.ops w
-    → Back code.ops (given_act code at o go stack w)
-given-back code at o go stack w next h =
-    on-test (kept code.ops) (needs code o stack w.machine) _ Stuck (act-back code at o go stack w next h) tt
+  act-back : (at : ℕ) (o : Op) (go : Go) (stack : List Val) (w : Work) → Onward (Calm code.ops) (Back code.ops) go → Calm code.ops w
+      → Back code.ops (act code at o go stack w)
+  act-back at (i.Mark line) go stack w next h = tt
+  act-back at (i.Clear s) go stack w next h = next 0 stack (stored w s val.Nil) (slots-behind code.ops _ w.machine.frames h)
+  act-back at (i.Store s) go stack w next h =
+      on-top keeps stack _ (λ v rest. next 0 rest (stored w s v) (slots-behind code.ops _ w.machine.frames h))
+  act-back at (i.Own s) go stack w next h =
+      on-top keeps stack _ (λ v rest. next 0 rest (stored w s v) (slots-behind code.ops _ w.machine.frames h))
+  act-back at (i.Field k) go stack w next h =
+      on-top keeps stack _ (λ v rest. on-object keeps (object_at w.machine.store v) _ (λ o is. next 0 _ w h))
+  act-back at i.IsNil go stack w next h = on-top keeps stack _ (λ v rest. next 0 _ w h)
+  act-back at i.Neg go stack w next h =
+      on-top keeps stack _ (λ v rest. on-pushed keeps (number_value (neg_ℤ (as_int v))) go rest w next h)
+  act-back at i.Add go stack w next h = on-two keeps op.Add go stack w next h
+  act-back at i.Sub go stack w next h = on-two keeps op.Sub go stack w next h
+  act-back at i.Mul go stack w next h = on-two keeps op.Mul go stack w next h
+  act-back at i.Div go stack w next h = on-two keeps op.Div go stack w next h
+  act-back at i.Rem go stack w next h = on-two keeps op.Rem go stack w next h
+  act-back at i.Eq go stack w next h = on-two keeps op.Eq go stack w next h
+  act-back at i.Ne go stack w next h = on-two keeps op.Ne go stack w next h
+  act-back at i.Lt go stack w next h = on-two keeps op.Lt go stack w next h
+  act-back at i.Le go stack w next h = on-two keeps op.Le go stack w next h
+  act-back at i.Gt go stack w next h = on-two keeps op.Gt go stack w next h
+  act-back at i.Ge go stack w next h = on-two keeps op.Ge go stack w next h
+  act-back at i.Not go stack w next h = on-top keeps stack _ (λ v rest. next 0 _ w h)
+  act-back at (i.Jump t) go stack w next h = tt
+  act-back at (i.JumpFalse t) go stack w next h =
+      on-top keeps stack _ (λ v rest. on-test keeps (as_bool v) _ _ (next 0 rest w h) (next (t - (at + 1)) rest w h))
+  act-back at (i.And t) go stack w next h =
+      on-top keeps stack _ (λ v rest. on-test keeps (as_bool v) _ _ (next 0 rest w h) (next (t - (at + 1)) (v ∷ rest) w h))
+  act-back at (i.Or t) go stack w next h =
+      on-top keeps stack _ (λ v rest. on-test keeps (as_bool v) _ _ (next (t - (at + 1)) (v ∷ rest) w h) (next 0 rest w h))
+  act-back at i.Check go stack w next h =
+      on-top keeps stack _ (λ v rest. on-object keeps (object_at w.machine.store v) _ (λ o is. next 0 stack w h))
+  act-back at (i.New c) go stack w next h = next 0 _ _ h
+  act-back at (i.NewTmp c) go stack w next h = next 0 _ _ h
+  act-back at (i.NewIso c m) go stack w next h = next 0 _ _ h
+  act-back at i.Pace go stack w next h = next 0 stack w h
+  act-back at (i.Put k) go stack w next h =
+      on-top keeps stack _ (λ v rest. on-top keeps rest _ (λ r under. next 0 under (with_store w (put_in w.machine.store r k v)) h))
+  act-back at (i.Swap s k) go stack w next h = on-top keeps stack _ (λ r rest. on-object keeps (object_at w.machine.store r) _ (λ o is.
+      next 0 rest (stored (with_store w (put_in w.machine.store r k (slot_at w.machine s))) s (unwrap_or (slice_get o.fields k) val.Nil))
+      (slots-behind code.ops _ w.machine.frames h)))
+  act-back at (i.Freeze s) go stack w next h = on-object keeps (object_at w.machine.store (slot_at w.machine s)) _ (λ o is.
+      next 0 (slot_at w.machine s ∷ stack) (stored (with_store w (relabel true Frozen w (region_of o.label))) s val.Nil)
+      (slots-behind code.ops _ w.machine.frames h))
+  act-back at (i.Merge s) go stack w next h = on-object keeps (object_at w.machine.store (slot_at w.machine s)) _ (λ o is.
+      next 0 (slot_at w.machine s ∷ stack)
+      (stored (with_store w (relabel false (Region (top_region w.machine.windows)) w (region_of o.label))) s val.Nil)
+      (slots-behind code.ops _ w.machine.frames h))
+  act-back at i.Read go stack w next h = on-number keeps (next_number w.input) go stack w next h
+  act-back at i.Room go stack w next h = on-test keeps (nat_lt (length w.machine.frames) FRAMES) _ _ (next 0 stack w h) tt
+  act-back at (i.Call m) go stack w next h = called-back code.ops at (slice_get code.entries m) stack w
+  act-back at i.Ret go stack w next h = on-top keeps stack _ (λ v rest. returned-back code.ops w w.machine.frames (v ∷ []) h)
+  act-back at i.RetVoid go stack w next h = returned-back code.ops w w.machine.frames [] h
+  act-back at (i.Enter s z) go stack w next h =
+      on-opened keeps w.machine z _ (on-object keeps (object_at w.machine.store (slot_at w.machine s)) _ (λ o is.
+      next 0 stack (entered w (place.Var (frame_number w.machine.frames) s) (slot_at w.machine s) z (region_of o.label))
+      (entered-behind code.ops w (place.Var (frame_number w.machine.frames) s) (slot_at w.machine s) z (region_of o.label) h)))
+  act-back at (i.EnterField k z) go stack w next h =
+      on-opened keeps w.machine z _ (on-top keeps stack _ (λ r rest. on-object keeps (object_at w.machine.store r) _ (λ o is.
+      on-object keeps (object_at w.machine.store (unwrap_or (slice_get o.fields k) val.Nil)) _ (λ b there.
+      next 0 rest (entered w (place.Field (address r) k) (unwrap_or (slice_get o.fields k) val.Nil) z (region_of b.label))
+      (entered-behind code.ops w (place.Field (address r) k) (unwrap_or (slice_get o.fields k) val.Nil) z (region_of b.label) h)))))
+  act-back at (i.Leave s) go stack w next h = next 0 stack _ (slots-behind code.ops _ w.machine.frames h)
+  act-back at (i.End s) go stack w next h = next 0 stack _ (slots-behind code.ops _ w.machine.frames h)
+  act-back at i.Print go stack w next h = on-top keeps stack _ (λ v rest. next 0 rest (record w { printed = Some v }) h)
+  act-back at i.Collect go stack w next h = next 0 stack w h
+  act-back at i.Pop go stack w next h = on-top keeps stack _ (λ v rest. next 0 rest w h)
+  act-back at i.Drop go stack w next h = on-top keeps stack _ (λ v rest. next 0 rest w h)
+  act-back at i.Halt go stack w next h = tt
+  act-back at _ go stack w next h = next 0 _ w h
 
-pub walk-back : (code : Code) (os : List Op) (at : ℕ) → Onward (Calm code.ops) (Back code.ops) (given_walk code os at)
-walk-back code = on-walk (kept code.ops) given_act code (given-back code)
+  given-back : (at : ℕ) (o : Op) (go : Go) (stack : List Val) (w : Work) → Onward (Calm code.ops) (Back code.ops) go → Calm code.ops w
+      → Back code.ops (given_act code at o go stack w)
+  given-back at o go stack w next h =
+      on-test keeps (needs code o stack w.machine) _ Stuck (act-back at o go stack w next h) tt
+
+  pub walk-back : (os : List Op) (at : ℕ) → Onward (Calm code.ops) (Back code.ops) (given_walk code os at)
+  walk-back = on-walk keeps given_act code given-back
