@@ -27,7 +27,7 @@ use Rattle.rg_held.proofs.Places.{closed-back}
 use Rattle.rg_held.proofs.Parts.Burial.{freed-closed}
 use Rattle.rg_held.proofs.Acts.Release.{given-back}
 use Rattle.rg_held.proofs.Acts.Consume.{closed-region}
-use Rattle.rg_held.proofs.Tested.{Test}
+use Rattle.rg_held.proofs.Walks.Less.{Test}
 use Rattle.rg_held.proofs.Walks.Walk.{PassesTest}
 
 -- the region of what a slot leads to
