@@ -32,7 +32,7 @@ use Rattle.rg_held.proofs.Places.{not-closed, region-into, label-into, label-the
 use Rattle.rg_held.proofs.Acts.Stack.{match-more, slot-leads, slot-same, field-leads}
 use Rattle.rg_held.proofs.Parts.Slot.{part-put}
 use Rattle.rg_held.proofs.Acts.Release.{slot-at-into, slot-and-field, two-fields}
-use Rattle.rg_held.proofs.Parts.Part.{part-stack, part-owners}
+use Rattle.rg_held.proofs.Parts.Part.{part-stack, part-owners, slot-over, field-over}
 use Rattle.rg_held.proofs.Acts.Object.{top-numbered, writable-open}
 use Rattle.rg_held.proofs.Acts.Consume.{closed-region}
 
@@ -63,28 +63,8 @@ module _ (held : ℕ → Truth) (f m : Machine) (p : Part held [] f m []) (w : W
   ]
 
   stays : (r : ℕ) → Placed held m r → Placed held wider r
-  stays r (inl s) = inl (record {
-    frame = s.frame;
-    slot = s.slot;
-    holder = s.holder;
-    value = s.value;
-    holder_there = s.holder_there;
-    value_there = s.value_there;
-    into = s.into;
-  })
-  stays r (inr l) = inr (
-    record {
-      object = l.0.object;
-      field = l.0.field;
-      holder = l.0.holder;
-      value = l.0.value;
-      holder_there = l.0.holder_there;
-      value_there = l.0.value_there;
-      outside = by l.0.holder.label l.0.outside;
-      into = l.0.into;
-    },
-    l.1,
-  )
+  stays r (inl s) = inl (slot-over m wider r s s.holder_there s.into)
+  stays r (inr l) = inr (field-over m wider r l.0 l.0.holder_there (by l.0.holder.label l.0.outside) l.0.into, l.1)
     where
       by : (l : Label) → is_outside m.windows r l ≡ true → is_outside (w ∷ m.windows) r l ≡ true
       by (Region q) h = h

@@ -20,6 +20,7 @@ use Rattle.rg_stack.specs.Labels.{is_open, label_of, is_into, is_outside}
 use Rattle.rg_stack.proofs.Basics.{none-some}
 use Rattle.rg_held.specs.Gone.{gone}
 use Rattle.rg_held.specs.Part.{leads_to, Placed, Tidy, Part, is_of, OwnerHeld, OwnersHeld, may_lead}
+use Rattle.rg_held.proofs.Parts.Part.{slot-over}
 use Rattle.rg_held.proofs.Lists.{off, any-at}
 use Rattle.rg_held.proofs.Places.{clash, into-label, label-into}
 
@@ -119,15 +120,7 @@ module _ (held : ℕ → Truth) (owners : List Val) (f m : Machine) (stack : Lis
   there-still a o e = at-map a ∙ ap (option_map (relabelled_object rs new)) e
 
   pub relabel-stays : (r : ℕ) → is_open m.windows r ≡ false → in_regions rs (Region r) ≡ false → Placed held m r → Placed held next r
-  relabel-stays r c other (inl s) = inl (record {
-    frame = s.frame;
-    slot = s.slot;
-    holder = s.holder;
-    value = s.value;
-    holder_there = s.holder_there;
-    value_there = s.value_there;
-    into = into-stays r s.value other s.into;
-  })
+  relabel-stays r c other (inl s) = inl (slot-over m next r s s.holder_there (into-stays r s.value other s.into))
   relabel-stays r c other (inr l) = inr (
     record {
       object = l.0.object;

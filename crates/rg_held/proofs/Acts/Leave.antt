@@ -33,7 +33,7 @@ use Rattle.rg_held.specs.Laws.{owners_of, GoesOn}
 use Rattle.rg_held.proofs.Lists.{off, any-at, drop-back, reverse-back}
 use Rattle.rg_held.proofs.Places.{or-right, clash}
 use Rattle.rg_held.proofs.Places.{closed-back, closed-there}
-use Rattle.rg_held.proofs.Parts.Part.{closed-above, field-frames, closed-same, top-slot}
+use Rattle.rg_held.proofs.Parts.Part.{closed-above, field-frames, closed-same, top-slot, slot-over, field-over}
 use Rattle.rg_held.proofs.Parts.Half.{Half, Lost, whole}
 use Rattle.rg_held.proofs.Parts.Burial.{Burial, left_held, is_buried, NotBelow, temp-label, part-bury, unburied}
 use Rattle.rg_held.proofs.Callers.Forget.{part-remembers}
@@ -111,16 +111,7 @@ module _ (held : ℕ → Truth) (f m : Machine) (p : Half held [] f m []) (w : W
       ]
 
   abbrev field-stays : (r : ℕ) (l : FieldInto m r) → held l.object ≡ true → FieldInto (record m { windows = ws }) r
-  field-stays r l h = record {
-    object = l.object;
-    field = l.field;
-    holder = l.holder;
-    value = l.value;
-    holder_there = l.holder_there;
-    value_there = l.value_there;
-    outside = by l.holder.label refl l.outside;
-    into = l.into;
-  }
+  field-stays r l h = field-over m (record m { windows = ws }) r l l.holder_there (by l.holder.label refl l.outside) l.into
     where
       by : (k : Label) → l.holder.label ≡ k → is_outside m.windows r k ≡ true → is_outside ws r k ≡ true
       by (Region q) lies o = o
@@ -128,15 +119,7 @@ module _ (held : ℕ → Truth) (f m : Machine) (p : Half held [] f m []) (w : W
       by Frozen lies o = o
 
   place-stays : (r : ℕ) → Placed held m r → Placed held (record m { windows = ws }) r
-  place-stays r (inl s) = inl (record {
-    frame = s.frame;
-    slot = s.slot;
-    holder = s.holder;
-    value = s.value;
-    holder_there = s.holder_there;
-    value_there = s.value_there;
-    into = s.into;
-  })
+  place-stays r (inl s) = inl (slot-over m (record m { windows = ws }) r s s.holder_there s.into)
   place-stays r (inr l) = inr (field-stays r l.0 l.1, l.1)
 
   may-stay : (k : ℕ) (l : Label) → may_lead m.windows k l ≡ true → may_lead ws k l ≡ true

@@ -24,7 +24,7 @@ use Rattle.rg_held.specs.Part.{leads_to, Placed, Part, OwnerHeld, OwnersHeld}
 use Rattle.rg_held.proofs.Lists.{off, push-back, push-old, push-below, push-past}
 use Rattle.rg_held.proofs.Lists.{any-at}
 use Rattle.rg_held.proofs.Places.{or-right, clash, region-into}
-use Rattle.rg_held.proofs.Parts.Part.{lead-any, lead-more, all-more}
+use Rattle.rg_held.proofs.Parts.Part.{lead-any, lead-more, all-more, slot-over, field-over}
 
 -- no reference
 abbrev pub Plain : Val → Type 0
@@ -82,28 +82,8 @@ part-region held owners f m stack g p = record {
         push-below f.managers g r more ∙ e ∙ sym (push-below m.managers g r less)
 
     stays : (r : ℕ) → Placed held m r → Placed held (record m { managers = m.managers ++ g ∷ [] }) r
-    stays r (inl s) = inl (record {
-      frame = s.frame;
-      slot = s.slot;
-      holder = s.holder;
-      value = s.value;
-      holder_there = s.holder_there;
-      value_there = s.value_there;
-      into = s.into;
-    })
-    stays r (inr l) = inr (
-      record {
-        object = l.0.object;
-        field = l.0.field;
-        holder = l.0.holder;
-        value = l.0.value;
-        holder_there = l.0.holder_there;
-        value_there = l.0.value_there;
-        outside = l.0.outside;
-        into = l.0.into;
-      },
-      l.1,
-    )
+    stays r (inl s) = inl (slot-over m (record m { managers = m.managers ++ g ∷ [] }) r s s.holder_there s.into)
+    stays r (inr l) = inr (field-over m (record m { managers = m.managers ++ g ∷ [] }) r l.0 l.0.holder_there l.0.outside l.0.into, l.1)
 
 -- an object that may be made
 pub record NewFits (f m : Machine) (o : Seen) : Type 0 where
@@ -165,26 +145,11 @@ module _ (held : ℕ → Truth) (f m : Machine) (stack : List Val) (o : Seen) (p
   ]
 
   stays : (r : ℕ) → Placed held m r → Placed also next r
-  stays r (inl s) = inl (record {
-    frame = s.frame;
-    slot = s.slot;
-    holder = s.holder;
-    value = s.value;
-    holder_there = s.holder_there;
-    value_there = s.value_there;
-    into = into-new r s.value (below s.value (p.slots s.frame s.holder s.slot s.value s.holder_there s.value_there)) s.into;
-  })
+  stays r (inl s) = inl (slot-over m next r s s.holder_there
+      (into-new r s.value (below s.value (p.slots s.frame s.holder s.slot s.value s.holder_there s.value_there)) s.into))
   stays r (inr l) = inr (
-    record {
-      object = l.0.object;
-      field = l.0.field;
-      holder = l.0.holder;
-      value = l.0.value;
-      holder_there = push-old m.store o l.0.holder l.0.object l.0.holder_there;
-      value_there = l.0.value_there;
-      outside = l.0.outside;
-      into = into-new r l.0.value (p.tidy.fields l.0.object l.0.holder l.0.field l.0.value l.0.holder_there l.0.value_there) l.0.into;
-    },
+    field-over m next r l.0 (push-old m.store o l.0.holder l.0.object l.0.holder_there) l.0.outside
+        (into-new r l.0.value (p.tidy.fields l.0.object l.0.holder l.0.field l.0.value l.0.holder_there l.0.value_there) l.0.into),
     more l.0.object l.1,
   )
 

@@ -22,7 +22,7 @@ use Rattle.rg_held.specs.Gone.{gone}
 use Rattle.rg_held.specs.Part.{leads_to, AllLead, Placed, Part, is_of, OwnerHeld, OwnersHeld, may_lead}
 use Rattle.rg_held.proofs.Lists.{set-back, set-old, set-apart}
 use Rattle.rg_held.proofs.Places.{clash}
-use Rattle.rg_held.proofs.Parts.Part.{lead-more}
+use Rattle.rg_held.proofs.Parts.Part.{lead-more, slot-over, field-over}
 
 module _ (held : ℕ → Truth) (owners : List Val) (f m : Machine) (stack : List Val) (a : ℕ) (o : Seen) (k : ℕ) (v : Val)
     (p : Part held owners f m stack) (here : held a ≡ true) (there : slice_get m.store a ≡ Some o) (lead : leads_to held v ≡ true)
@@ -83,15 +83,7 @@ module _ (held : ℕ → Truth) (owners : List Val) (f m : Machine) (stack : Lis
 
   -- a place that leads into a region stays, unless it is the field that is written
   pub write-stays : (r : ℕ) → Placed held m r → Placed held next r ⊎ (is_into m.store r (field_of o k) ≡ true)
-  write-stays r (inl s) = inl (inl (record {
-    frame = s.frame;
-    slot = s.slot;
-    holder = s.holder;
-    value = s.value;
-    holder_there = s.holder_there;
-    value_there = s.value_there;
-    into = into-set r s.value ∙ s.into;
-  }))
+  write-stays r (inl s) = inl (inl (slot-over m next r s s.holder_there (into-set r s.value ∙ s.into)))
   write-stays r (inr l) = elim (set-old m.store a l.0.object n l.0.holder l.0.holder_there) [
     | inl same ↦
         (let holder : o ≡ l.0.holder = same_Some o l.0.holder (sym there ∙ ap (slice_get m.store) same ∙ l.0.holder_there) in
@@ -112,19 +104,7 @@ module _ (held : ℕ → Truth) (owners : List Val) (f m : Machine) (stack : Lis
             here,
           ))
         ])
-    | inr stays ↦ inl (inr (
-      record {
-        object = l.0.object;
-        field = l.0.field;
-        holder = l.0.holder;
-        value = l.0.value;
-        holder_there = stays;
-        value_there = l.0.value_there;
-        outside = l.0.outside;
-        into = into-set r l.0.value ∙ l.0.into;
-      },
-      l.1,
-    ))
+    | inr stays ↦ inl (inr (field-over m next r l.0 stays l.0.outside (into-set r l.0.value ∙ l.0.into), l.1))
   ]
 
   window-owners : (ws : List Window) → OwnersHeld held m.store ws → OwnersHeld held store ws

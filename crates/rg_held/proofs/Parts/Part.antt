@@ -12,7 +12,7 @@ use Rattle.rg_base.specs.declared.value.Val.{Val}
 use Rattle.rg_base.specs.declared.value.Val.TheVariants as val
 use Rattle.rg_stack.specs.Machine.{Frame, Window, Machine, top_slots, with_slots}
 use Rattle.rg_stack.specs.Needs.{closed_of, closed_into}
-use Rattle.rg_stack.specs.Labels.{is_open, label_of, is_into}
+use Rattle.rg_stack.specs.Labels.{is_open, label_of, is_into, is_outside}
 use Rattle.rg_stack.proofs.Basics.{none-some, or-left}
 use Rattle.rg_held.specs.Gone.{gone}
 use Rattle.rg_held.specs.Part.{leads_to, AllLead, SlotInto, FieldInto, Placed, Tidy, Part, is_shut_or_above}
@@ -65,17 +65,34 @@ tidy-frames m fs t = record {
   inside = t.inside;
 }
 
-abbrev pub field-frames : (m : Machine) (fs : List Frame) (r : ℕ) → FieldInto m r → FieldInto (record m { frames = fs }) r
-field-frames m fs r p = record {
-  object = p.object;
-  field = p.field;
-  holder = p.holder;
-  value = p.value;
-  holder_there = p.holder_there;
-  value_there = p.value_there;
-  outside = p.outside;
-  into = p.into;
+-- a slot, and a field, that lead into a region do so in a machine that has them
+abbrev pub slot-over : (m x : Machine) (r : ℕ) (s : SlotInto m r) → slice_get x.frames s.frame ≡ Some s.holder → is_into x.store r s.value ≡ true
+    → SlotInto x r
+slot-over m x r s there into = record {
+  frame = s.frame;
+  slot = s.slot;
+  holder = s.holder;
+  value = s.value;
+  holder_there = there;
+  value_there = s.value_there;
+  into = into;
 }
+
+abbrev pub field-over : (m x : Machine) (r : ℕ) (l : FieldInto m r) → slice_get x.store l.object ≡ Some l.holder
+    → is_outside x.windows r l.holder.label ≡ true → is_into x.store r l.value ≡ true → FieldInto x r
+field-over m x r l there outside into = record {
+  object = l.object;
+  field = l.field;
+  holder = l.holder;
+  value = l.value;
+  holder_there = there;
+  value_there = l.value_there;
+  outside = outside;
+  into = into;
+}
+
+abbrev pub field-frames : (m : Machine) (fs : List Frame) (r : ℕ) → FieldInto m r → FieldInto (record m { frames = fs }) r
+field-frames m fs r p = field-over m (record m { frames = fs }) r p p.holder_there p.outside p.into
 
 -- a slot of the topmost frame
 
@@ -157,35 +174,11 @@ module _ (held : ℕ → Truth) (owners : List Val) (f m : Machine) (stack : Lis
       gone_no None e = none-some o e
       gone_no (Some q) e = no_region (ap (λ (q : Seen). q.label) (same_Some gone o e) ∙ lies)
 
-  -- another stack
-  pub part-stack : (left : List Val) → AllLead held left → Part held owners f m left
-  part-stack left h = record {
-    frames = p.frames;
-    windows = p.windows;
-    windows_made = p.windows_made;
-    at = p.at;
-    managers_made = p.managers_made;
-    open_managers = p.open_managers;
-    held_managers = p.held_managers;
-    objects_made = p.objects_made;
-    there = p.there;
-    same = p.same;
-    others = p.others;
-    temps = p.temps;
-    lost_temps = p.lost_temps;
-    slots = p.slots;
-    on_stack = h;
-    fields = p.fields;
-    owned = p.owned;
-    window_owners = p.window_owners;
-    tidy = p.tidy;
-  }
-
-  -- other values count as owners
-  pub part-owners : (kept : List Val)
+  -- another stack, and other values that count as owners
+  part-over : (kept left : List Val)
       → ((r : ℕ) → is_open m.windows r ≡ false → list_any (is_into m.store r) owners ≡ true
-      → Placed held m r ⊎ (list_any (is_into m.store r) kept ≡ true)) → Part held kept f m stack
-  part-owners kept h = record {
+      → Placed held m r ⊎ (list_any (is_into m.store r) kept ≡ true)) → AllLead held left → Part held kept f m left
+  part-over kept left h lead = record {
     frames = p.frames;
     windows = p.windows;
     windows_made = p.windows_made;
@@ -200,7 +193,7 @@ module _ (held : ℕ → Truth) (owners : List Val) (f m : Machine) (stack : Lis
     temps = p.temps;
     lost_temps = p.lost_temps;
     slots = p.slots;
-    on_stack = p.on_stack;
+    on_stack = lead;
     fields = p.fields;
     owned = λ a o r held_a there lies closed. elim (p.owned a o r held_a there lies closed) [
       | inl placed ↦ inl placed
@@ -209,6 +202,14 @@ module _ (held : ℕ → Truth) (owners : List Val) (f m : Machine) (stack : Lis
     window_owners = p.window_owners;
     tidy = p.tidy;
   }
+
+  pub part-stack : (left : List Val) → AllLead held left → Part held owners f m left
+  part-stack left lead = part-over owners left (λ r closed any. inr any) lead
+
+  pub part-owners : (kept : List Val)
+      → ((r : ℕ) → is_open m.windows r ≡ false → list_any (is_into m.store r) owners ≡ true
+      → Placed held m r ⊎ (list_any (is_into m.store r) kept ≡ true)) → Part held kept f m stack
+  part-owners kept h = part-over kept stack h p.on_stack
 
   -- other frames, the same in both
   pub part-frames : (ff fs : List Frame) (kept left : List Val) → ff ≡ fs

@@ -8,30 +8,11 @@ use Rattle.rg_stack.specs.Effects.{Work}
 use Rattle.rg_stack.specs.Runs.{Lost, come_to, stopped}
 use Rattle.rg_held.specs.Part.{Placed, Part}
 use Rattle.rg_held.specs.Ends.{Match, SameStep}
+use Rattle.rg_held.proofs.Parts.Part.{slot-over, field-over}
 
 placed-at : (held : ℕ → Bool) (m : Machine) (at r : ℕ) → Placed held m r → Placed held (record m { at = at }) r
-placed-at held m at r (inl s) = inl (record {
-  frame = s.frame;
-  slot = s.slot;
-  holder = s.holder;
-  value = s.value;
-  holder_there = s.holder_there;
-  value_there = s.value_there;
-  into = s.into;
-})
-placed-at held m at r (inr l) = inr (
-  record {
-    object = l.0.object;
-    field = l.0.field;
-    holder = l.0.holder;
-    value = l.0.value;
-    holder_there = l.0.holder_there;
-    value_there = l.0.value_there;
-    outside = l.0.outside;
-    into = l.0.into;
-  },
-  l.1,
-)
+placed-at held m at r (inl s) = inl (slot-over m (record m { at = at }) r s s.holder_there s.into)
+placed-at held m at r (inr l) = inr (field-over m (record m { at = at }) r l.0 l.0.holder_there l.0.outside l.0.into, l.1)
 
 -- both stand at another address
 part-at : (held : ℕ → Bool) (owners : List Val) (f m : Machine) (stack : List Val) (at : ℕ) → Part held owners f m stack
