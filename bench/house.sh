@@ -18,7 +18,7 @@ def functions(text):
         start = re.match(r"( *)(?:pub(?:\([^)]*\))? )?(?:const )?(?:unsafe )?fn (\w+)", line)
         if not start: continue
         end = k
-        while end < len(lines) and lines[end] != start[1] + "}" and not (end == k and line.rstrip().endswith("}")): end += 1
+        while end < len(lines) and lines[end] not in (start[1] + "}", start[1] + "{}") and not (end == k and line.rstrip().endswith("}")): end += 1
         whole = "\n".join(lines[k : end + 1])
         depth, count, inside = 0, 0, ""
         for sign in whole[whole.index("(") :]:
@@ -58,10 +58,15 @@ for path in glob.glob("crates/**/*.antt", recursive=True) + glob.glob("crates/**
     for crate, module in re.findall(r"use Rattle\.(\w+)\.proofs\.([\w.]+)", read(path)):
         if crate != path.split("/")[1]: cited[crate].add(module)
 open_, uncited = 0, []
+def names(path): return set(re.findall(r"(?m)^pub mod (\w+)", read(path)))
+def is_open(below, place):
+    parts = place.split(".")
+    return all(part in names(f"{below}/{'/'.join(parts[:k]) or 'Lib'}.antt") for k, part in enumerate(parts))
 for path in glob.glob("crates/*/proofs/**/*.antt", recursive=True):
     crate, below = path.split("/")[1], path.split("/proofs/")[0] + "/proofs"
-    for module in re.findall(r"(?m)^pub mod (\w+)", read(path)):
-        place = os.path.relpath(path, below)[: -len(".antt")].replace("/", ".")
+    place = os.path.relpath(path, below)[: -len(".antt")].replace("/", ".")
+    if place != "Lib" and not is_open(below, place): continue
+    for module in names(path):
         full = module if place == "Lib" else f"{place}.{module}"
         if os.path.exists(f"{below}/{full.replace('.', '/')}"): continue
         open_ += 1

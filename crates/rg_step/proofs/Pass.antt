@@ -22,8 +22,8 @@ use Rattle.rg_stack.specs.Machine.{Frame, Machine}
 use Rattle.rg_stack.specs.Shows.{ShowsFrames, levels_of}
 use Rattle.rg_stack.specs.Left.{SomeLeft}
 use Rattle.rg_stack.proofs.Callers.Due.{steps-due}
-use Rattle.rg_stack.proofs.Judgements.Left.{do-other, running-left}
-use Rattle.rg_stack.proofs.Walks.Mark.{drop-stands, first-drop, lies_at_mark, mark-there}
+use Rattle.rg_stack.proofs.Callers.Left.{do-other, running-left}
+use Rattle.rg_stack.proofs.Callers.Mark.{drop-stands, first-drop, lies_at_mark, mark-there}
 use Rattle.rg_held.specs.Frees.{free_step_from as step_from}
 use Rattle.rg_machine.specs.Parts.{Parts, machine_in}
 use Rattle.rg_machine.proofs.High.{none-same}
