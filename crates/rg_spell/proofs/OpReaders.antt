@@ -171,8 +171,11 @@ op_takes (n ∷ bytes) x fits e =
 -- What is written is read
 
 again : {A : Type 0} {reader : List ℕ → Option (A × List ℕ)} {text : A → List ℕ} {Fits : A → Type 0} (one : Reads reader text Fits)
-    (f : A → Operand) (x : A) (rest : List ℕ) → Fits x → (reader (text x ++ rest) >>= λ n. Some (f n.0, n.1)) ≡ Some (f x, rest)
-again one f x rest fits = ap (λ r. r >>= λ n. Some (f n.0, n.1)) (one.again x rest fits)
+    (f : A → Operand) (x : A) (rest : List ℕ)
+    → Fits x → ◌>>=◌ {B = Operand × List ℕ} (reader (text x ++ rest)) (λ n. Some (f n.0, n.1)) ≡ Some (f x, rest)
+again {A} one f x rest fits =
+    let go : A × List ℕ → Option (Operand × List ℕ) = λ n. Some (f n.0, n.1) in
+    ap (λ r. r >>= go) (one.again x rest fits)
 
 operand_again : (a : Operand) (rest : List ℕ) → FitsOperand a → operand_at a (operand_bytes a ++ rest) ≡ Some (a, rest)
 unfolding operand_at

@@ -48,7 +48,7 @@ second (a ∷ b ∷ ps) = b
 
 -- an instruction with other operands; one that has none stays
 abbrev pub with_operands : Op → List Operand → Op
-with_operands (i.Mark line) ps = i.Mark (line (first ps))
+with_operands (i.Mark n) ps = i.Mark (line (first ps))
 with_operands (i.Int z) ps = i.Int (value (first ps))
 with_operands (i.Bool b) ps = i.Bool (truth (first ps))
 with_operands (i.Load s) ps = i.Load (number (first ps))
