@@ -13,7 +13,9 @@ ghost use Rattle.rg_machine.specs.Core.{ActIs, Given};
 ghost use Rattle.rg_machine.specs.Parts.{machine_in};
 ghost use Rattle.rg_machine.specs.Cores.{core_of};
 
-use crate::creating::{new, new_iso, new_temp};
+mod new;
+
+use crate::instructions::new::{new_iso, new_object, new_temp};
 use crate::jumps::{and, jump_false, or};
 use crate::machine::Machine;
 use crate::next::Next;
@@ -91,7 +93,7 @@ pub fn act(p: &mut Machine, code: &CodeList, at: usize, op: Op) -> Next
         Op::And { to } => and(p, to),
         Op::Or { to } => or(p, to),
         Op::Check => check(p),
-        Op::New { class } => new(p, code, class),
+        Op::New { class } => new_object(p, code, class),
         Op::NewTmp { class } => new_temp(p, code, class),
         Op::NewIso { class, manager } => new_iso(p, code, class, manager),
         Op::Pace => Next::On,

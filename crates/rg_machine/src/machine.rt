@@ -21,14 +21,14 @@ ghost use Rattle.rg_machine.specs.Cores.{core_of};
 ghost use Rattle.rg_machine.specs.Parts.{with_word};
 ghost use Rattle.rg_machine.specs.Stands.{Leads};
 
-mod calls;
+mod call;
 mod collecting;
 mod ending;
-mod making;
-mod moving;
+mod enter;
+mod moves;
+mod new;
 mod numbers;
 mod reading;
-mod windows;
 mod writing;
 
 use rg_base::{FRAMES, Manager, Memory, Seen, Trap, Val, Word};

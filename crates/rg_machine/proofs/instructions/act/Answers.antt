@@ -102,7 +102,7 @@ returns-in-Check c =
 
 pub returns-in-New : goal.returns-in-New
 returns-in-New c =
-    let p = c.new.ensures in rw c.in-New.is (record { effect = p.effect c.args.at; keeps = p.keeps; high = p.high })
+    let p = c.new_object.ensures in rw c.in-New.is (record { effect = p.effect c.args.at; keeps = p.keeps; high = p.high })
 
 pub returns-in-NewTmp : goal.returns-in-NewTmp
 returns-in-NewTmp c =

@@ -1,6 +1,6 @@
 use Rattle.rg_machine.specs.Parts.{val_in}
 use Rattle.rg_machine.specs.Cores.{core_of}
-use Rattle.rg_machine.proofs.Own.{drop-effect}
+use Rattle.rg_machine.proofs.Release.Given.{drop-effect}
 use Rattle.rg_machine.proofs.machine.Machine.drop_top.Goals as goal
 
 pub returns-in-Some-clause-effect : goal.returns-in-Some-clause-effect

@@ -1,5 +1,5 @@
 use Rattle.rg_machine.specs.Cores.{core_of}
-use Rattle.rg_machine.proofs.Take.{end-effect}
+use Rattle.rg_machine.proofs.End.Nil.{end-effect}
 use Rattle.rg_machine.proofs.machine.Machine.end.Goals as goal
 
 pub returns-clause-effect : goal.returns-clause-effect

@@ -19,9 +19,9 @@ use Rattle.rg_machine.specs.Keeps.{SameBacks}
 use Rattle.rg_machine.specs.Parts.{Parts, machine_in}
 use Rattle.rg_machine.specs.Cores.{core_of}
 use Rattle.rg_machine.specs.Stands.{AllLead, Stands}
-use Rattle.rg_machine.proofs.Enter.{can-enter-slot, opens-within, stands-entered, all-still-lead, enter-effect, enter-nil, same-backs}
-use Rattle.rg_machine.proofs.Enter.{CanEnterSlot, entered_stack, no-object}
-use Rattle.rg_machine.proofs.High.{none-same}
+use Rattle.rg_machine.proofs.Enter.Slot.{can-enter-slot, opens-within, stands-entered, all-still-lead, enter-effect, enter-nil, same-backs}
+use Rattle.rg_machine.proofs.Enter.Slot.{CanEnterSlot, entered_stack, no-object}
+use Rattle.rg_machine.proofs.Callers.High.{none-same}
 use Rattle.rg_machine.proofs.machine.Machine.enter.Goals as goal
 use Rattle.rg_machine.proofs.machine.Machine.enter.Goals.{After-set_word}
 

@@ -22,9 +22,9 @@ use Rattle.rg_machine.specs.Keeps.{SameBacks}
 use Rattle.rg_machine.specs.Parts.{Parts, machine_in}
 use Rattle.rg_machine.specs.Cores.{core_of}
 use Rattle.rg_machine.specs.Stands.{AllLead, Stands}
-use Rattle.rg_machine.proofs.Enter.{ParentBeneath, opens-within, stands-entered, all-still-lead, same-backs, Entered, entered_stack, no-object}
-use Rattle.rg_machine.proofs.EnterField.{Holds, holds, field-entered, field-parent, front-lead, enter-field-effect, enter-field-nil}
-use Rattle.rg_machine.proofs.High.{none-same}
+use Rattle.rg_machine.proofs.Enter.Slot.{ParentBeneath, opens-within, stands-entered, all-still-lead, same-backs, Entered, entered_stack, no-object}
+use Rattle.rg_machine.proofs.Enter.Field.{Holds, holds, field-entered, field-parent, front-lead, enter-field-effect, enter-field-nil}
+use Rattle.rg_machine.proofs.Callers.High.{none-same}
 use Rattle.rg_machine.proofs.machine.Machine.enter_field.Goals as goal
 use Rattle.rg_machine.proofs.machine.Machine.enter_field.Goals.{After-set_word}
 

@@ -1,7 +1,7 @@
 use Rattle.std.proofs.Common.{◌∷◌, [], ◌++◌, refl, sym, ap, subst, ◌∙◌}
 use Rattle.rg_heap.specs.Moves.{CanMove, Freezes}
-use Rattle.rg_machine.proofs.Freeze.{Owned, Owns, may-move, owned}
-use Rattle.rg_machine.proofs.Moved.{freeze-backs, freeze-does, freeze-invariant, freeze-owns, no-object-acts, no-slot}
+use Rattle.rg_machine.proofs.Moves.Given.{Owned, Owns, may-move, owned}
+use Rattle.rg_machine.proofs.Moves.Effect.{freeze-backs, freeze-does, freeze-invariant, freeze-owns, no-object-acts, no-slot}
 use Rattle.rg_machine.proofs.machine.Machine.freeze.Goals as goal
 
 pub freeze-requires : goal.freeze-requires

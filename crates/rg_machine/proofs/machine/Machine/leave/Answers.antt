@@ -10,12 +10,12 @@ use Rattle.rg_machine.specs.Keeps.{backs}
 use Rattle.rg_machine.specs.Parts.{Parts, machine_in}
 use Rattle.rg_machine.specs.Cores.{core_of}
 use Rattle.rg_machine.specs.Stands.{Stands}
-use Rattle.rg_machine.proofs.LeaveBehind.{may-leave}
-use Rattle.rg_machine.proofs.LeaveWhole.{whole-stands, whole-effect}
-use Rattle.rg_machine.proofs.LeaveGiven.{once-behind, leave-words, number-fits, backs-same, leave-alone}
-use Rattle.rg_machine.proofs.High.{none-released, none-then}
+use Rattle.rg_machine.proofs.Leave.Heap.{may-leave}
+use Rattle.rg_machine.proofs.Leave.Whole.{whole-stands, whole-effect}
+use Rattle.rg_machine.proofs.Leave.Given.{once-behind, leave-words, number-fits, backs-same, leave-alone}
+use Rattle.rg_machine.proofs.Callers.High.{none-released, none-then}
 use Rattle.rg_machine.proofs.machine.Machine.leave.Goals as goal
-use Rattle.rg_machine.proofs.Collecting.{none-lead}
+use Rattle.rg_machine.proofs.Collect.Effect.{none-lead}
 
 pub leave-requires-clause-temps : goal.leave-requires-clause-temps
 leave-requires-clause-temps c =

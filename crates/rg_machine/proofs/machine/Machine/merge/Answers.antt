@@ -1,7 +1,7 @@
 use Rattle.std.proofs.Common.{◌∷◌, [], ◌++◌, refl, sym, ap, subst, ◌∙◌}
 use Rattle.rg_heap.specs.Moves.{CanMove, Merges}
-use Rattle.rg_machine.proofs.Freeze.{Owned, Owns, active, may-merge, may-move, owned}
-use Rattle.rg_machine.proofs.Moved.{merge-backs, merge-does, merge-invariant, merge-owns, no-object-acts, no-slot}
+use Rattle.rg_machine.proofs.Moves.Given.{Owned, Owns, active, may-merge, may-move, owned}
+use Rattle.rg_machine.proofs.Moves.Effect.{merge-backs, merge-does, merge-invariant, merge-owns, no-object-acts, no-slot}
 use Rattle.rg_machine.proofs.machine.Machine.merge.Goals as goal
 
 pub merge-requires-clause-owned : goal.merge-requires-clause-owned

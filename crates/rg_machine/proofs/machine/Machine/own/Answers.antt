@@ -1,6 +1,6 @@
 use Rattle.rg_machine.specs.Parts.{val_in}
 use Rattle.rg_machine.specs.Cores.{core_of}
-use Rattle.rg_machine.proofs.Own.{own-effect, own-given, own-keeps, own-loose}
+use Rattle.rg_machine.proofs.Release.Given.{own-effect, own-given, own-keeps, own-loose}
 use Rattle.rg_machine.proofs.machine.Machine.own.Goals as goal
 
 pub drop_slot-requires-clause-once : goal.drop_slot-requires-clause-once

@@ -1,8 +1,8 @@
 use Rattle.rg_frames.specs.Stack.{with_slot}
 use Rattle.rg_machine.proofs.Swap.{Swapped, may-swap, swapped}
-use Rattle.rg_machine.proofs.High.{none-written}
+use Rattle.rg_machine.proofs.Callers.High.{none-written}
 use Rattle.rg_machine.proofs.machine.Machine.swap.Goals as goal
-use Rattle.rg_machine.proofs.EnterField.{front-lead as lead-front}
+use Rattle.rg_machine.proofs.Enter.Field.{front-lead as lead-front}
 
 pub swap-held-requires-clause-width : goal.swap-held-requires-clause-width
 swap-held-requires-clause-width c =
