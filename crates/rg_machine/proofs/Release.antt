@@ -1,4 +1,5 @@
 -- What a word owns goes.
+pub mod Stays
 pub mod Behind
 pub mod Effect
 pub mod Fewer

@@ -189,9 +189,6 @@ module _ (old new : Parts) (v : Stack) (at : ℕ) (q : Serials old.cells.heap) (
   field-was s k w e =
       sym (ap (option_and_then (λ (b : Body). slice_get b.fields k)) (same-now s (field-held new.cells.heap s k w e))) ∙ e
 
-  pub held-was : (s : ℕ) → IsHeld new.cells.heap s → IsHeld old.cells.heap s
-  held-was s held = let b = held-body new.cells.heap s held in body-held old.cells.heap s b.0 (was s b.0 b.1)
-
   stays-held : (s : ℕ) → body_at new.cells.heap s ≡ body_at old.cells.heap s → IsHeld old.cells.heap s → IsHeld new.cells.heap s
   stays-held s same held = let b = held-body old.cells.heap s held in body-held new.cells.heap s b.0 (same ∙ b.1)
 

@@ -34,7 +34,7 @@ use Rattle.rg_machine.proofs.End.Slots.{ended-more, ended-none, ending-none, nil
 use Rattle.rg_machine.proofs.Release.Fewer.{fewer-all, fewer-nil, fewer-once, fewer-without, once-nil}
 use Rattle.rg_machine.proofs.End.Slot.{asked-slot, backs-slot, behind-slot, bounded, slot-nil}
 use Rattle.rg_machine.proofs.Write.Slot.{backs-slots}
-use Rattle.rg_machine.proofs.Call.Frames.{stands-nil}
+use Rattle.rg_machine.proofs.Call.Frames.{stands-nil, stands-restacked}
 
 -- A word in a slot leads where one on the stack may
 pub slot-leads : (p : Parts) → Serials p.heap.cells.heap → Grove p.heap.cells p.heap.regions → Stands p.heap p.frames → (j : ℕ) (w : Word)
@@ -80,32 +80,9 @@ ended-length (y ∷ xs) (suc i) =
 stands-slots : (p : HeapParts) (v : Stack) (slots : List Word) → length slots ≡ length v.slots
     → ((j x : ℕ) → slice_get slots j ≡ Some (Slot x) → slice_get v.slots j ≡ Some (Slot x)) → Stands p v → Stands p (record v { slots = slots })
 stands-slots p v slots many back s =
-    let o = s.opened in
-    record {
-      opened = record {
-        as_many = o.as_many;
-        first = o.first;
-        some = o.some;
-        known = o.known;
-        differ = o.differ;
-        temps = o.temps;
-        all_temps = o.all_temps;
-        once = o.once;
-        slots = λ j x e. o.slots j x (back j x e);
-        lead = o.lead;
-        parents = o.parents;
-      };
-      lain = (let P : ℕ → Type 0 = λ n. Nested v.first n (reverse v.frames) in subst P (sym many) s.lain);
-      some = s.some;
-      numbers = s.numbers;
-      bridges = s.bridges;
-      window_numbers = s.window_numbers;
-      windows_next = s.windows_next;
-      temps = s.temps;
-      slots = λ j x r e l b. s.slots j x r (back j x e) l b;
-      fields = s.fields;
-      first_mark = s.first_mark;
-    }
+    stands-restacked p v slots v.first v.frames v.frame_room v.slot_room s
+    (let P : ℕ → Type 0 = λ n. Nested v.first n (reverse v.frames) in subst P (sym many) s.lain) s.some
+    (λ j x e. s.opened.slots j x (back j x e)) (λ j x r e l b. s.slots j x r (back j x e) l b)
 
 pub stands-ended : (p : HeapParts) (v : Stack) (k : ℕ) → Stands p v → Stands p (ended v k)
 stands-ended p v k s =

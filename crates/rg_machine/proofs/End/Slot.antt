@@ -1,6 +1,6 @@
 -- What a slot owns goes: what is asked of its word, and the machine behind it.
-use Rattle.std.proofs.Common.{◌≡◌, ◌<◌, ◌||◌, ℕ, Bool as Truth, true, false, [], ◌∷◌, Option, Some, None, option_and_then}
-use Rattle.std.proofs.Common.{nat_le, length, slice_get, slice_set, refl, sym, ap, ◌∙◌, subst, arith}
+use Rattle.std.proofs.Common.{◌≡◌, ◌<◌, ℕ, true, [], ◌∷◌, Option, Some, None, option_and_then}
+use Rattle.std.proofs.Common.{length, slice_get, slice_set, refl, sym, ap, ◌∙◌, subst, arith}
 use Rattle.std.proofs.lemmas.Option.{none-some}
 use Rattle.rg_base.specs.declared.object.Label.{Label}
 use Rattle.rg_base.specs.declared.object.Label.TheVariants.{Region}
@@ -11,8 +11,8 @@ use Rattle.rg_base.specs.declared.value.Word.{Word}
 use Rattle.rg_rules.specs.Regions.{address, region_of, region_at}
 use Rattle.rg_cells.specs.Table.{Serials}
 use Rattle.rg_regions.specs.Grove.{Grove}
-use Rattle.rg_stack.specs.Machine.{Machine, slot_at, put_slot, top_slots, place_of}
-use Rattle.rg_stack.specs.Needs.{closed_into, loose, may_keep, owned_once, top_base}
+use Rattle.rg_stack.specs.Machine.{Machine, slot_at, put_slot, top_slots}
+use Rattle.rg_stack.specs.Needs.{closed_into, loose, owned_once}
 use Rattle.rg_stack.specs.Labels.{is_into}
 use Rattle.rg_stack.proofs.Walks.Need.{closed-counts}
 use Rattle.rg_view.proofs.Callers.Held.{region-below}
@@ -27,14 +27,6 @@ use Rattle.rg_machine.proofs.Release.Fewer.{closed-back, fewer-loose, fewer-nil,
 use Rattle.rg_machine.proofs.Release.Fewer.{places-nil, places-owned}
 use Rattle.rg_machine.proofs.Release.Behind.{none-loose}
 use Rattle.rg_machine.proofs.Write.Slot.{backs-slots}
-
--- nil may stand in any slot
-pub nil-keeps : (m : Machine) (s : ℕ) → may_keep m s Nil ≡ true
-nil-keeps m s = later (nat_le (top_base m.windows) (place_of m.frames s))
-  where
-    later : (b : Truth) → (b || true) ≡ true
-    later true = refl
-    later false = refl
 
 -- regions of objects are those that were made
 abbrev pub Bounded : Machine → Type 0

@@ -1,20 +1,18 @@
 -- A window that is left: what goes with its temporaries, and what stands behind it.
-use Rattle.std.proofs.Common.{◌≡◌, ◌≤◌, ◌<◌, ◌⊎◌, inl, inr, ℕ, zero, suc, ◌+◌, ◌-◌, Bool as Truth, true, false, List, [], ◌∷◌}
-use Rattle.std.proofs.Common.{length, take, drop, Option, Some, None, option_map, slice_get, slice_index_or, refl, sym, ap}
+use Rattle.std.proofs.Common.{◌≡◌, ◌≤◌, ◌<◌, ◌⊎◌, inl, inr, ℕ, zero, suc, ◌+◌, ◌-◌, true, false, List, [], ◌∷◌}
+use Rattle.std.proofs.Common.{length, take, drop, Option, Some, option_map, slice_get, slice_index_or, refl, sym, ap}
 use Rattle.std.proofs.Common.{◌∙◌, subst, arith}
 use Rattle.std.proofs.lemmas.Bool.{false≢true, cases_lt as order}
 use Rattle.std.proofs.lemmas.List.{length-take-le, get_or_past, get_or_default, take_all}
-use Rattle.std.proofs.lemmas.Option.{none-some, same_Some, slice_get_within, slice_get-get_or}
-use Rattle.rg_base.specs.declared.object.Label.{Label}
+use Rattle.std.proofs.lemmas.Option.{none-some, slice_get_within, slice_get-get_or}
 use Rattle.rg_base.specs.declared.object.Label.TheVariants.{Region, Temp}
-use Rattle.rg_base.specs.declared.value.Word.{Word}
 use Rattle.rg_base.specs.declared.value.Word.TheVariants.{Slot}
 use Rattle.rg_base.proofs.Callers.Labels.{region-same, temp-region}
 use Rattle.rg_rules.specs.Regions.{among}
 use Rattle.rg_sound.proofs.Owners.Owner.{get-take-within}
 use Rattle.rg_cells.specs.declared.cell.Body.{Body}
-use Rattle.rg_cells.specs.Table.{body_at, label_at, field_at, Serials, IsHeld}
-use Rattle.rg_regions.specs.Table.{Record, record_at, HasNumber, InTable, IsBridge}
+use Rattle.rg_cells.specs.Table.{body_at, label_at, field_at, Serials}
+use Rattle.rg_regions.specs.Table.{InTable}
 use Rattle.rg_regions.specs.Reach.{LiesIn}
 use Rattle.rg_regions.specs.Grove.{Grove, Parent, Above, direct, further}
 use Rattle.rg_frames.specs.declared.rows.Window.{Window as WindowRow}
@@ -29,17 +27,17 @@ use Rattle.rg_heap.specs.Opened.{Opened, IsWindow, IsTempOf}
 use Rattle.rg_view.specs.Links.{BelowSome, ByTemp}
 use Rattle.rg_view.specs.Names.{Names, AreTemps}
 use Rattle.rg_view.specs.View.{store_of, windows_of, managers_of, machine_of}
-use Rattle.rg_view.proofs.Callers.Gone.After.{label-was, field-was, key-was, parent-was}
 use Rattle.rg_view.proofs.Callers.Gone.Beneath.{beneath-names}
 use Rattle.rg_view.proofs.Callers.Gone.Managers.{below-closed}
 use Rattle.rg_view.proofs.Callers.Gone.Records.{released-numbers}
 use Rattle.rg_view.proofs.Callers.Leave.{top-temp, temp-top}
 use Rattle.rg_view.proofs.Callers.Need.{keyed}
 use Rattle.rg_view.proofs.Callers.Once.{outside-once, outside-counts}
-use Rattle.rg_view.proofs.Callers.Open.{not-open-closed, window-open}
-use Rattle.rg_view.proofs.Callers.Shown.{get-drop, get-take, held-body, body-held}
+use Rattle.rg_view.proofs.Callers.Open.{not-open-closed}
+use Rattle.rg_view.proofs.Callers.Shown.{get-drop, get-take}
 use Rattle.rg_view.proofs.Callers.Table.{fewer-numbers}
 use Rattle.rg_view.proofs.Callers.Gone.Temporaries.{top-row, top-temps, owned-temp, temp-owned}
+use Rattle.rg_machine.proofs.Release.Stays.{Stays, stays}
 use Rattle.rg_machine.specs.Stands.{BeginsBehind, OpensLater, Stands}
 use Rattle.rg_machine.proofs.Release.Behind.{most-one, slot-counts-one, temp-window}
 
@@ -228,70 +226,15 @@ module _ (old : Parts) (v : Stack) (at : ℕ) (q : Serials old.cells.heap) (g : 
         | inr m ↦ out m.0 m.2 (subst (LiesIn old.cells.heap m.0) same.0 m.1)
       ]
 
-  -- A cell that is no temporary that goes, and lies in no region that does
+  -- What stays
 
-  stays : (x : ℕ) → (IsTopTemp v x → ⊥) → ((r : ℕ) → Goes r → LiesIn old.cells.heap r x → ⊥) → body_at new.cells.heap x ≡ body_at old.cells.heap x
-  stays x keep out = released.cells x out keep
-
-  held-stays : (x : ℕ) → (IsTopTemp v x → ⊥) → ((r : ℕ) → Goes r → LiesIn old.cells.heap r x → ⊥) → IsHeld old.cells.heap x
-      → IsHeld new.cells.heap x
-  held-stays x keep out held =
-      let b = held-body old.cells.heap x held in body-held new.cells.heap x b.0 (stays x keep out ∙ b.1)
-
-  old-label : (x : ℕ) (l : Label) → label_at new.cells.heap x ≡ Some l → label_at old.cells.heap x ≡ Some l
-  old-label x l e = label-was old new tops regions ended (IsTopTemp v) released names cells g x l e
-
-  old-field : (x k : ℕ) (w : Word) → field_at new.cells.heap x k ≡ Some w → field_at old.cells.heap x k ≡ Some w
-  old-field x k w e = field-was old new tops regions ended (IsTopTemp v) released names cells g x k w e
-
-  old-key : (key r : ℕ) → HasNumber new.regions key r → HasNumber old.regions key r
-  old-key key r h = key-was old new tops regions ended (IsTopTemp v) released names cells g key r h
-
-  -- the region of a window
-  pub window-has : (i : ℕ) (w : WindowRow) (n : ℕ) → IsWindow v i w → HasNumber old.regions w.region n → HasNumber new.regions w.region n
-  window-has i w n e h =
-      ap (option_map (λ (r : Record). r.number)) (released.records w.region (λ r b h.
-      false≢true (sym (goes-closed r b) ∙ window-open old.regions v (keyed old v at q g s.opened) r i w e h))) ∙ h
-
-  -- a bridge of a region that some cell lies in
-  bridge-stays : (r x : ℕ) → LiesIn new.cells.heap r x → IsBridge old.regions r x → IsBridge new.regions r x
-  bridge-stays r x lies b = (
-    b.0,
-    b.1,
-    released.records b.0 (λ p goes h.
-        let number : p ≡ r = same_Some p r (sym h ∙ ap (option_map (λ (r : Record). r.number)) b.2 ∙ ap Some b.3) in
-        let gone = released.freed p x goes (old-label x (Region p) (subst (λ n. LiesIn new.cells.heap n x) (sym number) lies)) in
-        none-some (Region r) (sym (ap (option_map (λ (b : Body). b.label)) gone) ∙ lies)) ∙ b.2,
-    b.3,
-    b.4,
-  )
-
-  record-was : (key : ℕ) (r : Record) → record_at new.regions key ≡ Some r → record_at old.regions key ≡ Some r
-  record-was key r e = by (record_at old.regions key) refl
-    where
-      by : (o : Option Record) → record_at old.regions key ≡ o → record_at old.regions key ≡ Some r
-      by None f = absurd (none-some r (sym (released.records key (λ p goes h.
-          none-some p (sym (ap (option_map (λ (r : Record). r.number)) f) ∙ h)) ∙ f) ∙ e))
-      by (Some u) f =
-          released-or-same (among regions u.number) refl
-        where
-          has : HasNumber old.regions key u.number
-          has = ap (option_map (λ (r : Record). r.number)) f
-
-          released-or-same : (t : Truth) → among regions u.number ≡ t → record_at old.regions key ≡ Some r
-          released-or-same true i = absurd (none-some r (sym (released.removed key u.number (names.only u.number i) has) ∙ e))
-          released-or-same false i =
-              sym (released.records key (λ p goes h.
-              let number : u.number ≡ p = same_Some u.number p (sym has ∙ h) in
-              false≢true (sym i ∙ ap (among regions) number ∙ names.all p goes))) ∙ e
+  stay : Stays old new v Goes (IsTopTemp v)
+  stay = stays old new v at q g s tops ended (IsTopTemp v) cells released (λ r b e. false≢true (sym (goes-closed r b) ∙ e))
 
   -- The windows that stay
 
   many : length v.marks ≡ length v.windows
   many = s.opened.as_many
-
-  temp-label : (i x : ℕ) (w : WindowRow) → IsWindow v i w → IsTempOf v i x → label_at old.cells.heap x ≡ Some (Temp w.number)
-  temp-label i x w e t = s.opened.temps i x w e t
 
   label-number : (a b : ℕ) → Some (Temp a) ≡ Some (Temp b) → a ≡ b
   label-number a b e = cc
@@ -307,7 +250,7 @@ module _ (old : Parts) (v : Stack) (at : ℕ) (q : Serials old.cells.heap) (g : 
 
   temp-cell : (i x : ℕ) (w : WindowRow) → IsWindow v i w → i < length v.windows - 1 → label_at old.cells.heap x ≡ Some (Temp w.number)
       → body_at new.cells.heap x ≡ body_at old.cells.heap x
-  temp-cell i x w e lt label = stays x (not-top i x w e lt label) (λ r b l. temp-region w.number r (sym label ∙ l))
+  temp-cell i x w e lt label = released.cells x (λ r b l. temp-region w.number r (sym label ∙ l)) (not-top i x w e lt label)
 
   -- each temporary that is left is one of a window that stays
   temp-of : (j x : ℕ) → slice_get (left v).temps j ≡ Some x → (IsTopTemp v x → ⊥) × ((n : ℕ) × (label_at old.cells.heap x ≡ Some (Temp n)))
@@ -337,9 +280,9 @@ module _ (old : Parts) (v : Stack) (at : ℕ) (q : Serials old.cells.heap) (g : 
             let b = length-take-le last v.windows (omega arith) in
             let m = many in
             omega (arith, a, b, m);
-        first = λ w e. let x = window-was v many two lie 0 w e in window-has 0 w 0 x.0 (o.first w x.0);
+        first = λ w e. let x = window-was v many two lie 0 w e in stay.window 0 w 0 x.0 (o.first w x.0);
         some = let b = length-take-le last v.windows (omega arith) in omega (arith, b, two);
-        known = λ i w e. let x = window-was v many two lie i w e in let n = o.known i w x.0 in (n.0, window-has i w n.0 x.0 n.1);
+        known = λ i w e. let x = window-was v many two lie i w e in let n = o.known i w x.0 in (n.0, stay.window i w n.0 x.0 n.1);
         differ = λ i j w u e f. o.differ i j w u (window-was v many two lie i w e).0 (window-was v many two lie j u f).0;
         temps = λ i x w e t.
             let a = window-was v many two lie i w e in
@@ -347,22 +290,21 @@ module _ (old : Parts) (v : Stack) (at : ℕ) (q : Serials old.cells.heap) (g : 
             ap (option_map (λ (b : Body). b.label)) (temp-cell i x w a.0 a.1 label) ∙ label;
         all_temps = λ i x w e l.
             let a = window-was v many two lie i w e in
-            temp-stays v many two lie i x a.1 (o.all_temps i x w a.0 (old-label x (Temp w.number) l));
+            temp-stays v many two lie i x a.1 (o.all_temps i x w a.0 (stay.label x (Temp w.number) l));
         once = λ j k x e f. o.once j k x (get-take (mark v) j v.temps x e) (get-take (mark v) k v.temps x f);
-        slots = λ j x e. held-stays x (slots_free j x e) (λ r b l. no-slot j x r e l b) (o.slots j x e);
+        slots = λ j x e. stay.held x (slots_free j x e) (λ r b l. no-slot j x r e l b) (o.slots j x e);
         lead = λ j x e k to f.
             let t = temp-of j x e in
-            let was = old-field x k (Slot to) f in
+            let was = stay.field x k (Slot to) f in
             let out : (r : ℕ) → Goes r → LiesIn old.cells.heap r x → ⊥ = λ r b l. temp-region t.1.0 r (sym t.1.1 ∙ l) in
-            held-stays to (λ top. t.0 (fields_free x k to was top)) (λ r b l. no-field x k to r t.0 out was l b)
+            stay.held to (λ top. t.0 (fields_free x k to was top)) (λ r b l. no-field x k to r t.0 out was l b)
             (o.lead j x (get-take (mark v) j v.temps x e) k to was);
         parents = λ i w n p e h a.
             let x = window-was v many two lie i w e in
-            let u = o.parents i w n p x.0 (old-key w.region n h)
-            (parent-was old new tops regions ended (IsTopTemp v) released names cells g p n a) in
+            let u = o.parents i w n p x.0 (stay.key w.region n h) (stay.parent p n a) in
             let lt = x.1 in
             let is = u.2 in
-            (u.0, u.1, u.2, window-stays v many two lie u.0 u.1 u.3 (omega (arith, lt, is)), window-has u.0 u.1 p u.3 u.4);
+            (u.0, u.1, u.2, window-stays v many two lie u.0 u.1 u.3 (omega (arith, lt, is)), stay.window u.0 u.1 p u.3 u.4);
       }
 
   top-window : (i : ℕ) (w : WindowRow) → IsWindow v i w → length v.windows - 1 ≤ i → IsTop v w × (i ≡ length v.windows - 1)
@@ -373,13 +315,13 @@ module _ (old : Parts) (v : Stack) (at : ℕ) (q : Serials old.cells.heap) (g : 
 
   behind-was : (j x r : ℕ) → slice_get v.slots j ≡ Some (Slot x) → BeginsBehind new.regions (left v) j r → BeginsBehind old.regions v j r
   behind-was j x r f b i w e h = elim (order i (length v.windows - 1)) [
-    | inl lt ↦ b i w (window-stays v many two lie i w e lt) (window-has i w r e h)
+    | inl lt ↦ b i w (window-stays v many two lie i w e lt) (stay.window i w r e h)
     | inr le ↦ front j x w f (top-window i w e le).0
   ]
 
   later-was : (j r : ℕ) → j < length v.windows - 1 → OpensLater new.regions (left v) j r → OpensLater old.regions v j r
   later-was j r small b i w e h = elim (order i (length v.windows - 1)) [
-    | inl lt ↦ b i w (window-stays v many two lie i w e lt) (window-has i w r e h)
+    | inl lt ↦ b i w (window-stays v many two lie i w e lt) (stay.window i w r e h)
     | inr le ↦ omega (arith, small, le)
   ]
 
@@ -389,11 +331,11 @@ module _ (old : Parts) (v : Stack) (at : ℕ) (q : Serials old.cells.heap) (g : 
     lain = s.lain;
     some = s.some;
     numbers = fewer-numbers old.regions new.regions (released-numbers old new Goes (IsTopTemp v) regions released names) s.numbers;
-    bridges = λ key r e. s.bridges key r (record-was key r e);
+    bridges = λ key r e. s.bridges key r (stay.was key r e);
     window_numbers = λ i j w u e f. s.window_numbers i j w u (window-was v many two lie i w e).0 (window-was v many two lie j u f).0;
     windows_next = λ i w e. s.windows_next i w (window-was v many two lie i w e).0;
     temps = λ x n e.
-        let label = old-label x (Temp n) e in
+        let label = stay.label x (Temp n) e in
         let t = s.temps x n label in
         elim (order t.0 (length v.windows - 1)) [
           | inl lt ↦ (t.0, t.1, window-stays v many two lie t.0 t.1 t.2 lt, t.3)
@@ -403,10 +345,10 @@ module _ (old : Parts) (v : Stack) (at : ℕ) (q : Serials old.cells.heap) (g : 
               let gone = released.ended x (temp-top old v g s.opened x (subst (λ k. IsTempOf v k x) is own)) in
               absurd (none-some (Temp n) (sym (ap (option_map (λ (b : Body). b.label)) gone) ∙ e)))
         ];
-    slots = λ j x r e l b. bridge-stays r x l (s.slots j x r e (old-label x (Region r) l) (behind-was j x r e b));
+    slots = λ j x r e l b. stay.bridge r x l (s.slots j x r e (stay.label x (Region r) l) (behind-was j x r e b));
     fields = λ i x k to r w e t f l b.
         let a = window-was v many two lie i w e in
-        bridge-stays r to l (s.fields i x k to r w a.0 (temp-was v many two lie i x a.1 t) (old-field x k (Slot to) f)
-        (old-label to (Region r) l) (later-was i r a.1 b));
+        stay.bridge r to l (s.fields i x k to r w a.0 (temp-was v many two lie i x a.1 t) (stay.field x k (Slot to) f)
+        (stay.label to (Region r) l) (later-was i r a.1 b));
     first_mark = λ n e. s.first_mark n (get-take (length v.marks - 1) 0 v.marks n e);
   }

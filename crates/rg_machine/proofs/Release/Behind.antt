@@ -1,5 +1,5 @@
 -- What stands behind a release: nothing that stays leads into a region that went.
-use Rattle.std.proofs.Common.{◌≡◌, ◌≢◌, ◌≤◌, ◌<◌, ◌==◌, ◌||◌, ◌⊎◌, inl, inr, ℕ, zero, suc, ◌+◌, ◌-◌, Bool as Truth, true, false, List, [], ◌∷◌}
+use Rattle.std.proofs.Common.{◌≡◌, ◌≢◌, ◌≤◌, ◌<◌, ◌==◌, ◌||◌, ◌⊎◌, inl, inr, ℕ, zero, suc, ◌+◌, ◌-◌, true, List, [], ◌∷◌}
 use Rattle.std.proofs.Common.{map, length, take, drop, reverse, Option, Some, None, option_map, slice_get, slice_index_or, nat_le}
 use Rattle.std.proofs.Common.{refl, sym, ap, ◌∙◌, subst, arith}
 use Rattle.std.specs.List.{count_by}
@@ -7,18 +7,16 @@ use Rattle.std.proofs.lemmas.Bool.{false≢true, false_from_ne_true as never, ca
 use Rattle.std.proofs.lemmas.List.{length-take-le, get_or_past}
 use Rattle.std.proofs.lemmas.List.Sums.{sum_by-cons}
 use Rattle.std.proofs.lemmas.Option.{none-some, same_Some, slice_get-map, slice_get_within}
-use Rattle.rg_base.specs.declared.object.Label.{Label}
 use Rattle.rg_base.specs.declared.object.Label.TheVariants.{Region, Temp}
 use Rattle.rg_base.specs.declared.value.Val.{Val}
 use Rattle.rg_base.specs.declared.value.Word.{Word}
 use Rattle.rg_base.specs.declared.value.Word.TheVariants as word
 use Rattle.rg_base.proofs.Callers.Labels.{region-same, temp-region}
 use Rattle.rg_base.proofs.Callers.Lists.{there}
-use Rattle.rg_rules.specs.Regions.{among}
 use Rattle.rg_sound.proofs.Owners.Owner.{get-take-within}
 use Rattle.rg_cells.specs.declared.cell.Body.{Body}
-use Rattle.rg_cells.specs.Table.{Heap, body_at, label_at, field_at, Serials, IsHeld}
-use Rattle.rg_regions.specs.Table.{Record, record_at, HasNumber, InTable, IsBridge}
+use Rattle.rg_cells.specs.Table.{Heap, label_at, field_at, Serials, IsHeld}
+use Rattle.rg_regions.specs.Table.{Record, record_at, InTable}
 use Rattle.rg_regions.specs.Reach.{LiesIn}
 use Rattle.rg_regions.specs.Grove.{Grove, Parent, Above, Below, direct, further}
 use Rattle.rg_frames.specs.declared.rows.Frame.{Frame as FrameRow}
@@ -38,7 +36,7 @@ use Rattle.rg_view.specs.Lain.{Nested}
 use Rattle.rg_view.specs.Links.{BelowSome}
 use Rattle.rg_view.specs.Names.{Names}
 use Rattle.rg_view.specs.View.{store_of, frames_of, windows_of, managers_of, machine_of}
-use Rattle.rg_view.proofs.Callers.Gone.After.{no-temps, label-was, field-was, key-was, parent-was}
+use Rattle.rg_view.proofs.Callers.Gone.After.{no-temps}
 use Rattle.rg_view.proofs.Callers.Gone.Beneath.{beneath-names}
 use Rattle.rg_view.proofs.Callers.Frame.{frames_from}
 use Rattle.rg_view.proofs.Callers.Gone.Records.{released-numbers}
@@ -46,9 +44,10 @@ use Rattle.rg_view.proofs.Callers.Label.{one-is, one-there}
 use Rattle.rg_view.proofs.Callers.Manager.{managers-length}
 use Rattle.rg_view.proofs.Callers.Need.{keyed, field-counts, closed-not-above}
 use Rattle.rg_view.proofs.Callers.Once.{outside-once, outside-counts}
-use Rattle.rg_view.proofs.Callers.Open.{closed-not-open, closed-there, not-open-closed, into-there, window-open}
-use Rattle.rg_view.proofs.Callers.Shown.{get-drop, held-body, body-held}
+use Rattle.rg_view.proofs.Callers.Open.{closed-not-open, closed-there, not-open-closed, into-there}
+use Rattle.rg_view.proofs.Callers.Shown.{get-drop}
 use Rattle.rg_view.proofs.Callers.Table.{fewer-numbers}
+use Rattle.rg_machine.proofs.Release.Stays.{Stays, stays}
 use Rattle.rg_machine.specs.Stands.{BeginsBehind, Leads, OpensLater, Stands}
 
 is-zero : (n : ℕ) → (n == 0) ≡ true → n ≡ 0
@@ -265,91 +264,37 @@ module _ (old : Parts) (v : Stack) (at : ℕ) (q : Serials old.cells.heap) (g : 
           absurd (omega (arith, one, zero)))
     ]
 
-    -- A cell that is held and lies in no region that goes
+    -- What stays
 
-    stays : (x : ℕ) → ((r : ℕ) → Goes r → LiesIn old.cells.heap r x → ⊥) → body_at new.cells.heap x ≡ body_at old.cells.heap x
-    stays x out = released.cells x out (λ no. absurd no)
+    stay : Stays old new v Goes NoCell
+    stay = stays old new v at q g s tops None NoCell (no-temps old.cells.heap) released goes-closed
 
-    pub held-stays : (x : ℕ) → ((r : ℕ) → Goes r → LiesIn old.cells.heap r x → ⊥) → IsHeld old.cells.heap x → IsHeld new.cells.heap x
-    held-stays x out held =
-        let b = held-body old.cells.heap x held in body-held new.cells.heap x b.0 (stays x out ∙ b.1)
-
-    -- the cell of a temporary
-    temp-stays : (x n : ℕ) → label_at old.cells.heap x ≡ Some (Temp n) → body_at new.cells.heap x ≡ body_at old.cells.heap x
-    temp-stays x n label = stays x (λ r b l. temp-region n r (sym label ∙ l))
-
-    old-label : (x : ℕ) (l : Label) → label_at new.cells.heap x ≡ Some l → label_at old.cells.heap x ≡ Some l
-    old-label x l e = label-was old new tops regions None NoCell released names (no-temps old.cells.heap) g x l e
-
-    old-field : (x k : ℕ) (w : Word) → field_at new.cells.heap x k ≡ Some w → field_at old.cells.heap x k ≡ Some w
-    old-field x k w e = field-was old new tops regions None NoCell released names (no-temps old.cells.heap) g x k w e
-
-    old-key : (key r : ℕ) → HasNumber new.regions key r → HasNumber old.regions key r
-    old-key key r h = key-was old new tops regions None NoCell released names (no-temps old.cells.heap) g key r h
-
-    -- the region of a window
-    window-stays : (i : ℕ) (w : WindowRow) → IsWindow v i w → record_at new.regions w.region ≡ record_at old.regions w.region
-    window-stays i w e = released.records w.region (λ r b h.
-        goes-closed r b (window-open old.regions v (keyed old v at q g s.opened) r i w e h))
-
-    window-has : (i : ℕ) (w : WindowRow) (n : ℕ) → IsWindow v i w → HasNumber old.regions w.region n → HasNumber new.regions w.region n
-    window-has i w n e h = ap (option_map (λ (r : Record). r.number)) (window-stays i w e) ∙ h
-
-    -- a bridge of a region that some cell lies in
-    bridge-stays : (r x : ℕ) → LiesIn new.cells.heap r x → IsBridge old.regions r x → IsBridge new.regions r x
-    bridge-stays r x lies b = (
-      b.0,
-      b.1,
-      released.records b.0 (λ p goes h.
-          let number : p ≡ r = same_Some p r (sym h ∙ ap (option_map (λ (r : Record). r.number)) b.2 ∙ ap Some b.3) in
-          let gone = released.freed p x goes (old-label x (Region p) (subst (λ n. LiesIn new.cells.heap n x) (sym number) lies)) in
-          none-some (Region r) (sym (ap (option_map (λ (b : Body). b.label)) gone) ∙ lies)) ∙ b.2,
-      b.3,
-      b.4,
-    )
-
-    record-was : (key : ℕ) (r : Record) → record_at new.regions key ≡ Some r → record_at old.regions key ≡ Some r
-    record-was key r e = by (record_at old.regions key) refl
-      where
-        by : (o : Option Record) → record_at old.regions key ≡ o → record_at old.regions key ≡ Some r
-        by None f = absurd (none-some r (sym (released.records key (λ p goes h.
-            none-some p (sym (ap (option_map (λ (r : Record). r.number)) f) ∙ h)) ∙ f) ∙ e))
-        by (Some u) f =
-            released-or-same (among regions u.number) refl
-          where
-            has : HasNumber old.regions key u.number
-            has = ap (option_map (λ (r : Record). r.number)) f
-
-            released-or-same : (t : Truth) → among regions u.number ≡ t → record_at old.regions key ≡ Some r
-            released-or-same true i = absurd (none-some r (sym (released.removed key u.number (names.only u.number i) has) ∙ e))
-            released-or-same false i =
-                sym (released.records key (λ p goes h.
-                let number : u.number ≡ p = same_Some u.number p (sym has ∙ h) in
-                false≢true (sym i ∙ ap (among regions) number ∙ names.all p goes))) ∙ e
+    held-stays : (x : ℕ) → ((r : ℕ) → Goes r → LiesIn old.cells.heap r x → ⊥) → IsHeld old.cells.heap x → IsHeld new.cells.heap x
+    held-stays x out = stay.held x (λ no. absurd no) out
 
     opened : Opened new v
     opened =
         let o = s.opened in
         record {
           as_many = o.as_many;
-          first = λ w e. window-has 0 w 0 e (o.first w e);
+          first = λ w e. stay.window 0 w 0 e (o.first w e);
           some = o.some;
-          known = λ i w e. let n = o.known i w e in (n.0, window-has i w n.0 e n.1);
+          known = λ i w e. let n = o.known i w e in (n.0, stay.window i w n.0 e n.1);
           differ = o.differ;
           temps = λ i x w e t.
               let label = o.temps i x w e t in
-              ap (option_map (λ (b : Body). b.label)) (temp-stays x w.number label) ∙ label;
-          all_temps = λ i x w e l. o.all_temps i x w e (old-label x (Temp w.number) l);
+              ap (option_map (λ (b : Body). b.label))
+              (released.cells x (λ r b l. temp-region w.number r (sym label ∙ l)) (λ no. absurd no)) ∙ label;
+          all_temps = λ i x w e l. o.all_temps i x w e (stay.label x (Temp w.number) l);
           once = o.once;
           slots = λ j x e. held-stays x (λ r b l. no-slot j x r e l b) (o.slots j x e);
           lead = λ j x e k to f.
               let t = temp-of j x e in
-              let was = old-field x k (word.Slot to) f in
+              let was = stay.field x k (word.Slot to) f in
               held-stays to (λ r b l. no-field x t.0 k to r t.1 was l b) (o.lead j x e k to was);
           parents = λ i w n p e h a.
-              let u = o.parents i w n p e (old-key w.region n h)
-              (parent-was old new tops regions None NoCell released names (no-temps old.cells.heap) g p n a) in
-              (u.0, u.1, u.2, u.3, window-has u.0 u.1 p u.3 u.4);
+              let u = o.parents i w n p e (stay.key w.region n h) (stay.parent p n a) in
+              (u.0, u.1, u.2, u.3, stay.window u.0 u.1 p u.3 u.4);
         }
       where
         temp-of : (j x : ℕ) → slice_get v.temps j ≡ Some x → (n : ℕ) × (label_at old.cells.heap x ≡ Some (Temp n))
@@ -358,10 +303,10 @@ module _ (old : Parts) (v : Stack) (at : ℕ) (q : Serials old.cells.heap) (g : 
 
     -- what a window begins behind, it began behind
     behind-was : (j r : ℕ) → BeginsBehind new.regions v j r → BeginsBehind old.regions v j r
-    behind-was j r b i w e h = b i w e (window-has i w r e h)
+    behind-was j r b i w e h = b i w e (stay.window i w r e h)
 
     later-was : (j r : ℕ) → OpensLater new.regions v j r → OpensLater old.regions v j r
-    later-was j r b i w e h = b i w e (window-has i w r e h)
+    later-was j r b i w e h = b i w e (stay.window i w r e h)
 
     pub stands-released : Stands new v
     stands-released = record {
@@ -370,13 +315,13 @@ module _ (old : Parts) (v : Stack) (at : ℕ) (q : Serials old.cells.heap) (g : 
       some = s.some;
       numbers =
           fewer-numbers old.regions new.regions (released-numbers old new Goes NoCell regions released names) s.numbers;
-      bridges = λ key r e. s.bridges key r (record-was key r e);
+      bridges = λ key r e. s.bridges key r (stay.was key r e);
       window_numbers = s.window_numbers;
       windows_next = s.windows_next;
-      temps = λ x n e. s.temps x n (old-label x (Temp n) e);
-      slots = λ j x r e l b. bridge-stays r x l (s.slots j x r e (old-label x (Region r) l) (behind-was j r b));
+      temps = λ x n e. s.temps x n (stay.label x (Temp n) e);
+      slots = λ j x r e l b. stay.bridge r x l (s.slots j x r e (stay.label x (Region r) l) (behind-was j r b));
       fields = λ i x k to r w e t f l b.
-          bridge-stays r to l (s.fields i x k to r w e t (old-field x k (word.Slot to) f) (old-label to (Region r) l) (later-was i r b));
+          stay.bridge r to l (s.fields i x k to r w e t (stay.field x k (word.Slot to) f) (stay.label to (Region r) l) (later-was i r b));
       first_mark = s.first_mark;
     }
 
@@ -386,5 +331,5 @@ module _ (old : Parts) (v : Stack) (at : ℕ) (q : Serials old.cells.heap) (g : 
     leads-released w l out = record {
       held = λ x is. held-stays x (λ r b lies. out x r is lies b) (l.held x is);
       bridge = λ x r is lies closed.
-          bridge-stays r x lies (l.bridge x r is (old-label x (Region r) lies) (closed.0, old-key closed.0 r closed.1, closed.2));
+          stay.bridge r x lies (l.bridge x r is (stay.label x (Region r) lies) (closed.0, stay.key closed.0 r closed.1, closed.2));
     }

@@ -1,4 +1,4 @@
--- `pop`, `drop` and `own`: what they are given, and what they do.
+-- `pop`, `drop` and `own`: what they do, and what `own` is given.
 use Rattle.std.proofs.Common.{◌≡◌, ◌||◌, ◌&&◌, inl, inr, ℕ, zero, suc, Bool as Truth, true, false, not, List, [], ◌∷◌, Option, Some, None}
 use Rattle.std.proofs.Common.{nat_le, nat_lt, slice_get, slice_set, refl, sym, ap, ◌∙◌, subst}
 use Rattle.std.proofs.lemmas.Bool.{false≢true, and_parts}
@@ -6,7 +6,6 @@ use Rattle.std.proofs.lemmas.Option.{none-some, same_Some}
 use Rattle.rg_base.specs.declared.object.Label.{Label}
 use Rattle.rg_base.specs.declared.value.Val.{Val}
 use Rattle.rg_base.specs.declared.value.Val.TheVariants.{Nil}
-use Rattle.rg_base.specs.declared.value.Word.{Word}
 use Rattle.rg_code.specs.Code.{empty}
 use Rattle.rg_code.specs.declared.op.Op.TheVariants as i
 use Rattle.rg_held.specs.Frees.{free_act}
@@ -17,60 +16,14 @@ use Rattle.rg_stack.proofs.Needs.List.{empty-is}
 use Rattle.rg_machine.specs.declared.next.Next.TheVariants as next
 use Rattle.rg_machine.specs.Core.{ActIs, Core, Has, below_top, with_machine, with_top}
 use Rattle.rg_machine.specs.Effects.{AllLoose, without}
-use Rattle.rg_machine.specs.Keeps.{SameBacks, backs}
-use Rattle.rg_machine.specs.Parts.{Parts, val_in}
-use Rattle.rg_machine.specs.Cores.{core_of}
-use Rattle.rg_machine.specs.Stands.{Leads}
-use Rattle.rg_machine.proofs.Release.Effect.{Asked}
 use Rattle.rg_machine.proofs.Release.Fewer.{label-buried, regions-with, store-without}
-use Rattle.rg_machine.proofs.Write.Slot.{backs-slots}
 
--- What `pop` and `drop` are given
-
-pub record Last (c : Core) (v : Val) : Type 0 where
-  pub none : c.stack ≡ []
-  pub once : owned_once c.machine ≡ true
-  pub free : loose c.machine v ≡ true
-
-last-by : (c : Core) (v : Val) → (is_empty c.stack && owned_once c.machine && loose c.machine v) ≡ true → Last c v
-last-by c v e =
-    let a = and_parts (is_empty c.stack && owned_once c.machine) (loose c.machine v) e in
-    let b = and_parts (is_empty c.stack) (owned_once c.machine) a.0 in
-    record { none = empty-is c.stack b.0; once = b.1; free = a.1 }
-
-pub pop-given : (old mid : Core) (v : Val) → old ≡ with_top mid v → Has i.Pop old → Last mid v
-pop-given old mid v e given = last-by mid v (subst (Has i.Pop) e given)
-
-pub drop-given : (old mid : Core) (v : Val) → old ≡ with_top mid v → Has i.Drop old → Last mid v
-drop-given old mid v e given = last-by mid v (subst (Has i.Drop) e given)
-
--- so the word may be released
-pub asked-last : (mid : Parts) (w : Word) → Leads mid.heap mid.frames w → Last (core_of mid) (val_in mid w) → Asked mid w
-asked-last mid w l given = record {
-  leads = l;
-  once = given.once;
-  free = given.free;
-  apart = λ k r x e. absurd (none-some x (sym (ap (λ vs. slice_get vs k) given.none) ∙ e));
-}
-
--- What they do
-
+-- what `pop` and `drop` do
 pub pop-effect : (old mid new : Core) (v : Val) → old ≡ with_top mid v → new ≡ without mid (v ∷ []) → (at : ℕ)
     → ActIs (free_act empty at i.Pop) at old new next.On
 pop-effect old mid new v e f at =
     subst (λ o. ActIs (free_act empty at i.Pop) at o new next.On) (sym e)
     (subst (λ n. ActIs (free_act empty at i.Pop) at (with_top mid v) n next.On) (sym f) (λ go input. refl))
-
-pub drop-effect : (old mid new : Core) (v : Val) → old ≡ with_top mid v → new ≡ without mid (v ∷ []) → (at : ℕ)
-    → ActIs (free_act empty at i.Drop) at old new next.On
-drop-effect old mid new v e f at =
-    subst (λ o. ActIs (free_act empty at i.Drop) at o new next.On) (sym e)
-    (subst (λ n. ActIs (free_act empty at i.Drop) at (with_top mid v) n next.On) (sym f) (λ go input. refl))
-
-pub backs-last : (old mid new : Core) (v : Val) → old ≡ with_top mid v → new ≡ without mid (v ∷ [])
-    → SameBacks old.machine new.machine
-backs-last old mid new v e f =
-    ap (λ (c : Core). backs c.machine.frames) f ∙ sym (ap (λ (c : Core). backs c.machine.frames) e)
 
 -- What `own` is given
 
@@ -161,9 +114,6 @@ module _ (old one two : Core) (s : ℕ) (v u : Val) (e : old ≡ with_top (below
   stack-one : one.stack ≡ v ∷ []
   stack-one = ap (λ (c : Core). c.stack) dropped ∙ ap (λ (c : Core). c.stack) e ∙ ap (λ vs. v ∷ vs) o.none
 
-  pub own-some : one.stack ≡ [] → ⊥
-  own-some none = none-some v (ap (λ vs. slice_get vs 0) (sym none ∙ stack-one))
-
   module _ (popped : one ≡ with_top two u) where
     parts : (u ≡ v) × (two.stack ≡ [])
     parts = top-is u two.stack (sym (ap (λ (c : Core). c.stack) popped) ∙ stack-one)
@@ -200,7 +150,3 @@ module _ (old one two : Core) (s : ℕ) (v u : Val) (e : old ≡ with_top (below
           subst (λ n. ActIs (free_act empty at (i.Own s)) at old n next.On) (sym whole) (λ go input.
           ap (λ vs. free_act empty at (i.Own s) go vs (record { machine = old.machine; input = input; printed = old.printed }))
           (ap (λ (c : Core). c.stack) e ∙ ap (λ vs. v ∷ vs) o.none))
-
-      pub own-backs : SameBacks old.machine new.machine
-      own-backs =
-          ap (λ (c : Core). backs c.machine.frames) whole ∙ backs-slots (slice_set (top_slots old.machine.frames) s v) old.machine.frames

@@ -30,6 +30,7 @@ use Rattle.rg_machine.specs.Keeps.{backs}
 use Rattle.rg_machine.specs.Parts.{Parts as Whole, machine_in, val_in}
 use Rattle.rg_machine.specs.Cores.{core_of}
 use Rattle.rg_machine.specs.Stands.{AllLead, BeginsBehind, Leads, Stands}
+use Rattle.rg_machine.proofs.Call.Frames.{stands-restacked}
 
 -- what stands at a place of a list that is written: it was written there, or stood there before
 pub set-get : {A : Type 0} → (xs : List A) (k j : ℕ) (x y : A) → slice_get (slice_set xs k x) j ≡ Some y
@@ -48,37 +49,17 @@ pub stands-word : (p : Parts) (v : Stack) (s : ℕ) (w : Word) → Stands p v �
     → ((to r : ℕ) → v.first + s < length v.slots → w ≡ word.Slot to → LiesIn p.cells.heap r to → BeginsBehind p.regions v (v.first + s) r
     → IsBridge p.regions r to)
     → Stands p (with_slot v s w)
-stands-word p v s w h held bridge = record {
-  opened = record {
-    as_many = h.opened.as_many;
-    first = h.opened.first;
-    some = h.opened.some;
-    known = h.opened.known;
-    differ = h.opened.differ;
-    temps = h.opened.temps;
-    all_temps = h.opened.all_temps;
-    once = h.opened.once;
-    slots = λ j to e. elim (set-get v.slots (v.first + s) j w (word.Slot to) e) [
+stands-word p v s w h held bridge =
+    stands-restacked p v (slice_set v.slots (v.first + s) w) v.first v.frames v.frame_room v.slot_room h
+    (let P : ℕ → Type 0 = λ n. Nested v.first n (reverse v.frames) in subst P (sym (set-length v.slots (v.first + s) w)) h.lain) h.some
+    (λ j to e. elim (set-get v.slots (v.first + s) j w (word.Slot to) e) [
       | inl at ↦ held to (sym at.1)
       | inr was ↦ h.opened.slots j to was
-    ];
-    lead = h.opened.lead;
-    parents = h.opened.parents;
-  };
-  lain = (let P : ℕ → Type 0 = λ n. Nested v.first n (reverse v.frames) in subst P (sym (set-length v.slots (v.first + s) w)) h.lain);
-  some = h.some;
-  numbers = h.numbers;
-  bridges = h.bridges;
-  window_numbers = h.window_numbers;
-  windows_next = h.windows_next;
-  temps = h.temps;
-  slots = λ j to r e lies behind. elim (set-get v.slots (v.first + s) j w (word.Slot to) e) [
-    | inl at ↦ bridge to r at.2 (sym at.1) lies (λ i u is n. let lt = behind i u is n in omega (arith, lt, at.0))
-    | inr was ↦ h.slots j to r was lies behind
-  ];
-  fields = h.fields;
-  first_mark = h.first_mark;
-}
+    ])
+    (λ j to r e lies behind. elim (set-get v.slots (v.first + s) j w (word.Slot to) e) [
+      | inl at ↦ bridge to r at.2 (sym at.1) lies (λ i u is n. let lt = behind i u is n in omega (arith, lt, at.0))
+      | inr was ↦ h.slots j to r was lies behind
+    ])
 
 -- words lead where they did
 pub leads-slot : (p : Parts) (v : Stack) (s : ℕ) (w x : Word) → Leads p v x → Leads p (with_slot v s w) x
@@ -86,13 +67,6 @@ leads-slot p v s w x l = record { held = l.held; bridge = l.bridge }
 
 pub lead-slot : (p : Parts) (v : Stack) (s : ℕ) (w : Word) (words : List Word) → AllLead p v words → AllLead p (with_slot v s w) words
 lead-slot p v s w words l k x e = leads-slot p v s w x (l k x e)
-
-pub leads-nil : (p : Parts) (v : Stack) → Leads p v word.Nil
-leads-nil p v = record { held = λ s e. absurd cc; bridge = λ s r e. absurd cc }
-
--- nil may be written anywhere
-pub stands-nil : (p : Parts) (v : Stack) (s : ℕ) → Stands p v → Stands p (with_slot v s word.Nil)
-stands-nil p v s h = stands-word p v s word.Nil h (λ to e. absurd cc) (λ to r within e. absurd cc)
 
 -- a word that leads into closed regions to their bridges stands where no window begins behind it, and anywhere if it leads into no open one
 kept-by : (a b : Truth) → (a || not b) ≡ true → (a ≡ true) ⊎ (b ≡ false)

@@ -1,16 +1,12 @@
 //! Windows that open and close (docs/architecture.md, "The machine").
 
-ghost use Rattle.std.specs.Prelude.{◌≡◌, ◌<◌, ℕ, IfSome, None, false, length, true};
+ghost use Rattle.std.specs.Prelude.{◌≡◌, ◌<◌, IfSome, None, false, length, true};
 ghost use Rattle.rg_frames.specs.Stack.{BaseUpTo};
+ghost use Rattle.rg_machine.specs.Acts.{Does};
 ghost use Rattle.rg_machine.specs.Frames.{can_open};
 ghost use Rattle.rg_stack.specs.Machine.{place_of};
-ghost use Rattle.rg_code.specs.Code.{empty};
 ghost use Rattle.rg_code.specs.declared.op.Op.TheVariants as i;
-ghost use Rattle.rg_held.specs.Frees.{free_act};
-ghost use Rattle.rg_stack.specs.Refusals.{Settles, Takes};
-ghost use Rattle.rg_machine.specs.Core.{ActIs, Has};
-ghost use Rattle.rg_machine.specs.Keeps.{Keeping};
-ghost use Rattle.rg_machine.specs.Makes.{Making};
+ghost use Rattle.rg_machine.specs.Core.{Has};
 ghost use Rattle.rg_machine.specs.Parts.{machine_in};
 ghost use Rattle.rg_machine.specs.Cores.{core_of};
 
@@ -40,10 +36,7 @@ impl Machine {
     /// `enter s z`
     pub fn enter(&mut self, s: u32, z: u32) -> Next
         requires given { Has (i.Enter s z) (core_of self.old) }
-        ensures effect { (at : ℕ) → ActIs (free_act empty at (i.Enter s z)) at
-            (core_of self.old) (core_of self.new) result }
-        ensures keeps { Keeping Takes false (machine_in self.old) (machine_in self.new) result }
-        ensures high { Making Takes false self.old.heap self.new.heap result }
+        ensures { Does (i.Enter s z) self.old self.new result }
     {
         let Some(base) = self.base_at(z) else {
             return Next::Lost;
@@ -67,10 +60,7 @@ impl Machine {
     /// `enterf k z`
     pub fn enter_field(&mut self, index: u32, z: u32) -> Next
         requires given { Has (i.EnterField index z) (core_of self.old) }
-        ensures effect { (at : ℕ) → ActIs (free_act empty at (i.EnterField index z)) at
-            (core_of self.old) (core_of self.new) result }
-        ensures keeps { Keeping Takes false (machine_in self.old) (machine_in self.new) result }
-        ensures high { Making Takes false self.old.heap self.new.heap result }
+        ensures { Does (i.EnterField index z) self.old self.new result }
     {
         let Some(base) = self.base_at(z) else {
             return Next::Lost;
@@ -102,10 +92,7 @@ impl Machine {
     /// `leave s`
     pub fn leave(&mut self, s: u32) -> Next
         requires given { Has (i.Leave s) (core_of self.old) }
-        ensures effect { (at : ℕ) → ActIs (free_act empty at (i.Leave s)) at
-            (core_of self.old) (core_of self.new) result }
-        ensures keeps { Keeping Settles false (machine_in self.old) (machine_in self.new) result }
-        ensures high { Making Settles false self.old.heap self.new.heap result }
+        ensures { Does (i.Leave s) self.old self.new result }
     {
         self.heap.is_forest();
         self.end_from(s);

@@ -1,14 +1,8 @@
 //! Regions that are frozen or merged (docs/architecture.md, "The machine").
 
-ghost use Rattle.std.specs.Prelude.{ℕ, false};
-ghost use Rattle.rg_code.specs.Code.{empty};
 ghost use Rattle.rg_code.specs.declared.op.Op.TheVariants as i;
-ghost use Rattle.rg_held.specs.Frees.{free_act};
-ghost use Rattle.rg_stack.specs.Refusals.{Takes};
-ghost use Rattle.rg_machine.specs.Core.{ActIs, Has};
-ghost use Rattle.rg_machine.specs.Keeps.{Keeping};
-ghost use Rattle.rg_machine.specs.Makes.{Making};
-ghost use Rattle.rg_machine.specs.Parts.{machine_in};
+ghost use Rattle.rg_machine.specs.Acts.{Does};
+ghost use Rattle.rg_machine.specs.Core.{Has};
 ghost use Rattle.rg_machine.specs.Cores.{core_of};
 
 use super::Machine;
@@ -19,10 +13,7 @@ impl Machine {
     /// `freeze s`
     pub fn freeze(&mut self, s: u32) -> Next
         requires given { Has (i.Freeze s) (core_of self.old) }
-        ensures effect { (at : ℕ) → ActIs (free_act empty at (i.Freeze s)) at
-            (core_of self.old) (core_of self.new) result }
-        ensures keeps { Keeping Takes false (machine_in self.old) (machine_in self.new) result }
-        ensures high { Making Takes false self.old.heap self.new.heap result }
+        ensures { Does (i.Freeze s) self.old self.new result }
     {
         let w = self.frames.word(s);
         match w {
@@ -44,10 +35,7 @@ impl Machine {
     /// `merge s`
     pub fn merge(&mut self, s: u32) -> Next
         requires given { Has (i.Merge s) (core_of self.old) }
-        ensures effect { (at : ℕ) → ActIs (free_act empty at (i.Merge s)) at
-            (core_of self.old) (core_of self.new) result }
-        ensures keeps { Keeping Takes false (machine_in self.old) (machine_in self.new) result }
-        ensures high { Making Takes false self.old.heap self.new.heap result }
+        ensures { Does (i.Merge s) self.old self.new result }
     {
         let w = self.frames.word(s);
         match w {

@@ -14,7 +14,6 @@ use Rattle.rg_stack.specs.Needs.{owned_once, owns_or_nil, is_writable, may_stand
 use Rattle.rg_heap.specs.Parts.{Parts}
 use Rattle.rg_heap.specs.Answers.{val_of, IsClosed, LeadsIntoClosed}
 use Rattle.rg_heap.specs.Opened.{Opened}
-use Rattle.rg_heap.specs.Ends.{CanEnter}
 use Rattle.rg_heap.specs.Moves.{CanMove, NotBeneath}
 use Rattle.rg_heap.specs.Writes.{Stays, Ownerless, Comes, IsTemp, InActive, LeadsOut}
 use Rattle.rg_view.specs.View.{machine_of}
@@ -31,11 +30,6 @@ module _ (p : Parts) (v : Stack) (at : ℕ) (q : Serials p.cells.heap) (g : Grov
   pub owns : (s : ℕ) → IsHeld p.cells.heap s → owns_or_nil (machine_of p v at) (val_of p.cells.heap (word.Slot s)) ≡ true
       → LeadsIntoClosed p v (word.Slot s)
   owns s held e = owner-leads p v at q (keyed p v at q g o) g.labels s held e
-
-  -- a window can be opened on it
-  pub can-enter : (s : ℕ) → IsHeld p.cells.heap s → owns_or_nil (machine_of p v at) (val_of p.cells.heap (word.Slot s)) ≡ true
-      → CanEnter p.cells.heap (word.Slot s)
-  can-enter s held e = let l = owns s held e in (l.0, subst (LiesIn p.cells.heap l.0) (slot-same l.1 s (sym l.2)) l.3)
 
   -- the region of a slot of the topmost frame that owns has no owner in the heap
   pub slot-ownerless : (s i : ℕ) → Numbers p.regions → IsHeld p.cells.heap s → LeadsToBridge p v (word.Slot s)

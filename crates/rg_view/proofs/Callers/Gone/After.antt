@@ -1,9 +1,9 @@
 -- One release behind another: what goes at the second, and the machine behind both.
-use Rattle.std.proofs.Common.{◌≡◌, ◌<◌, ◌||◌, ◌⊎◌, inl, inr, ℕ, Bool as Truth, true, false, if◌then◌else◌, List, [], ◌∷◌, ◌++◌, map, length}
+use Rattle.std.proofs.Common.{◌≡◌, ◌<◌, ◌||◌, inl, inr, ℕ, Bool as Truth, true, false, if◌then◌else◌, List, [], ◌∷◌, ◌++◌, map, length}
 use Rattle.std.proofs.Common.{Option, Some, None, option_map, option_and_then, slice_get, slice_index_or, refl, sym, ap, ◌∙◌, subst, arith}
 use Rattle.std.specs.List.{list_any, range_with_len}
 use Rattle.std.proofs.lemmas.Bool.{false≢true}
-use Rattle.std.proofs.lemmas.Option.{none-some, same_Some}
+use Rattle.std.proofs.lemmas.Option.{none-some}
 use Rattle.std.proofs.lemmas.List.FromFn.{length-map-range_with_len}
 use Rattle.rg_base.specs.declared.object.Label.{Label}
 use Rattle.rg_base.specs.declared.object.Label.TheVariants.{Region}
@@ -12,7 +12,7 @@ use Rattle.rg_base.specs.declared.value.Word.{Word}
 use Rattle.rg_base.specs.declared.words.Manager.{Manager}
 use Rattle.rg_base.specs.declared.words.Manager.TheVariants.{Arena}
 use Rattle.rg_base.proofs.Callers.Labels.{region-same, temp-region}
-use Rattle.rg_rules.specs.Regions.{among, in_regions}
+use Rattle.rg_rules.specs.Regions.{in_regions}
 use Rattle.rg_cells.specs.declared.cell.Body.{Body}
 use Rattle.rg_cells.specs.Table.{Heap, body_at, label_at, field_at}
 use Rattle.rg_regions.specs.Table.{Record, record_at, HasNumber, InTable}
@@ -28,7 +28,7 @@ use Rattle.rg_view.specs.Links.{BelowSome}
 use Rattle.rg_view.proofs.List.{map-numbers}
 use Rattle.rg_view.proofs.Callers.Gone.Released.{kept-body}
 use Rattle.rg_view.proofs.Callers.Gone.Records.{released-numbers}
-use Rattle.rg_view.proofs.Callers.Gone.Lists.{among-append, bury-more}
+use Rattle.rg_view.proofs.Callers.Gone.Lists.{bury-more}
 use Rattle.rg_view.proofs.Callers.Gone.Managers.{lives_in, remembered, index-of}
 use Rattle.rg_held.specs.Frees.{is_temp, buried, bury, forgotten}
 use Rattle.rg_held.specs.Gone.{gone}
@@ -73,18 +73,6 @@ module _ (old new : Parts) (tops regions : List ℕ) (temps : Option ℕ) (Cell 
       by (Some x) f =
           let u = (released-numbers old new WentFirst Cell regions r names).there key x f in
           ap (option_map (λ (r : Record). r.number)) u.1 ∙ ap Some u.2 ∙ (sym (ap (option_map (λ (r : Record). r.number)) f) ∙ has)
-
-  -- what goes isn't in the table any more, and what stays is
-  pub table-not : (q : ℕ) → InTable new.regions q → WentFirst q → ⊥
-  table-not q known went =
-      none-some q (sym (ap (option_map (λ (r : Record). r.number)) (r.removed known.0 q went (key-was known.0 q known.1))) ∙ known.1)
-
-  pub table-stays : (q : ℕ) → (WentFirst q → ⊥) → InTable old.regions q → InTable new.regions q
-  table-stays q out known = (
-    known.0,
-    ap (option_map (λ (r : Record). r.number))
-        (r.records known.0 (λ p went has. out (subst WentFirst (same_Some p q (sym has ∙ known.1)) went))) ∙ known.1,
-  )
 
   -- and so do its cells
   pub cell-stays : (q s : ℕ) → (WentFirst q → ⊥) → LiesIn old.cells.heap q s → body_at new.cells.heap s ≡ body_at old.cells.heap s
@@ -135,71 +123,6 @@ module _ (old new : Parts) (tops regions : List ℕ) (temps : Option ℕ) (Cell 
   above-stays (further {p = p} {q = m} {r = q} x a) out =
       let mid : WentFirst m → ⊥ = λ w. out (went-along m q a w) in
       further (above-stays x mid) (parent-stays m q mid out a)
-
-  -- what is beneath others behind it was so in front of it
-  pub below-was : (more : List ℕ) (q : ℕ) → BelowSome new.cells.heap new.regions more q → BelowSome old.cells.heap old.regions more q
-  below-was more q b = elim b.2 [
-    | inl is ↦ (b.0, b.1, inl is)
-    | inr x ↦ (b.0, b.1, inr ((x.0.0, key-was x.0.0 q x.0.1), above-was x.1))
-  ]
-
-  -- and it didn't go, where none of the others did
-  pub below-not : (more : List ℕ) → ((t : ℕ) → among more t ≡ true → WentFirst t → ⊥) → (q : ℕ)
-      → BelowSome new.cells.heap new.regions more q → WentFirst q → ⊥
-  below-not more out q b went = elim b.2 [
-    | inl is ↦ out b.0 b.1 (subst WentFirst is went)
-    | inr x ↦ table-not q x.0 went
-  ]
-
-  -- what was beneath others and didn't go still is
-  pub below-stays : (more : List ℕ) (q : ℕ) → BelowSome old.cells.heap old.regions more q → (WentFirst q → ⊥)
-      → BelowSome new.cells.heap new.regions more q
-  below-stays more q b out = elim b.2 [
-    | inl is ↦ (b.0, b.1, inl is)
-    | inr x ↦ (b.0, b.1, inr (table-stays q out x.0, above-stays x.1 out))
-  ]
-
-  -- what goes at two releases, one behind the other, is what would go at one
-  pub below-split : (more : List ℕ) (q : ℕ) → BelowSome old.cells.heap old.regions (tops ++ more) q
-      → WentFirst q ⊎ BelowSome new.cells.heap new.regions more q
-  below-split more q b = by (among tops b.0) refl (sym (among-append tops more b.0) ∙ b.1)
-    where
-      test : (t : Truth) → among regions q ≡ t → among more b.0 ≡ true → WentFirst q ⊎ BelowSome new.cells.heap new.regions more q
-      test true e i = inl (names.only q e)
-      test false e i = inr (below-stays more q (b.0, i, b.2) (λ w. false≢true (sym e ∙ names.all q w)))
-
-      by : (t : Truth) → among tops b.0 ≡ t → (t || among more b.0) ≡ true → WentFirst q ⊎ BelowSome new.cells.heap new.regions more q
-      by true e i = inl (b.0, e, b.2)
-      by false e i = test (among regions q) refl i
-
-  pub below-join : (more : List ℕ) (q : ℕ) → WentFirst q ⊎ BelowSome new.cells.heap new.regions more q
-      → BelowSome old.cells.heap old.regions (tops ++ more) q
-  below-join more q (inl b) = (b.0, among-append tops more b.0 ∙ ap (λ t. t || among more b.0) b.1, b.2)
-  below-join more q (inr b) =
-      let a = below-was more q b in
-      (a.0, among-append tops more a.0 ∙ later (among tops a.0) (among more a.0) a.1, a.2)
-    where
-      later : (t u : Truth) → u ≡ true → (t || u) ≡ true
-      later true u e = refl
-      later false u e = e
-
-  pub names-after : (more late : List ℕ) → Names late (BelowSome new.cells.heap new.regions more)
-      → Names (regions ++ late) (BelowSome old.cells.heap old.regions (tops ++ more))
-  names-after more late n = record {
-    all = λ q b. among-append regions late q ∙ (elim (below-split more q b) [
-      | inl w ↦ ap (λ t. t || among late q) (names.all q w)
-      | inr w ↦ later (among regions q) (among late q) (n.all q w)
-    ]);
-    only = λ q i. by q (among regions q) refl (sym (among-append regions late q) ∙ i);
-  }
-    where
-      later : (t u : Truth) → u ≡ true → (t || u) ≡ true
-      later true u e = refl
-      later false u e = e
-
-      by : (q : ℕ) (t : Truth) → among regions q ≡ t → (t || among late q) ≡ true → BelowSome old.cells.heap old.regions (tops ++ more) q
-      by q true e i = below-join more q (inl (names.only q e))
-      by q false e i = below-join more q (inr (n.only q i))
 
 -- The machine behind both
 

@@ -11,8 +11,7 @@ use Rattle.rg_sound.proofs.Stores.Member.{In, among-in, in-among, joined-old, jo
 use Rattle.rg_sound.proofs.Stores.Member.{counted-rises}
 use Rattle.rg_stack.specs.Effects.{led_by_labels, beneath_by_labels}
 use Rattle.rg_stack.proofs.Judgements.Label.{LeadsTo, labels_back, labels_in, fields_in, flat_back, flat_in}
-use Rattle.rg_cells.specs.Table.{Heap, Serials}
-use Rattle.rg_regions.specs.Table.{RegionTable}
+use Rattle.rg_cells.specs.Table.{Serials}
 use Rattle.rg_regions.specs.Grove.{Grove}
 use Rattle.rg_heap.specs.Parts.{Parts}
 use Rattle.rg_view.specs.View.{store_of, managers_of}
@@ -150,17 +149,6 @@ same-names P xs ys a b n = by (among xs n) refl (among ys n) refl
     by false e true f = absurd (false≢true (sym e ∙ a.all n (b.only n f)))
     by false e false f = e ∙ sym f
 
--- the regions beneath some are those beneath any that are named alike
-pub below-among : (h : Heap) (t : RegionTable) (xs ys : List ℕ) → SameAmong xs ys → (q : ℕ) → BelowSome h t xs q → BelowSome h t ys q
-below-among h t xs ys s q b = (b.0, sym (s b.0) ∙ b.1, b.2)
-
-pub names-among : (h : Heap) (t : RegionTable) (xs ys regions : List ℕ) → SameAmong xs ys → Names regions (BelowSome h t xs)
-    → Names regions (BelowSome h t ys)
-names-among h t xs ys regions s n = record {
-  all = λ q b. n.all q (below-among h t ys xs (λ k. sym (s k)) q b);
-  only = λ q i. below-among h t xs ys s q (n.only q i);
-}
-
 in-same : (xs ys : List ℕ) → SameAmong xs ys → (l : Label) → in_regions xs l ≡ in_regions ys l
 in-same xs ys s (Region r) = s r
 in-same xs ys s (Temp n) = refl
@@ -183,8 +171,3 @@ relabelled-same xs ys s label (o ∷ os) =
 pub bury-names : (P : ℕ → Type 0) (xs ys : List ℕ) → Names xs P → Names ys P → (temps : Option ℕ) (store : List Seen)
     → bury xs temps store ≡ bury ys temps store
 bury-names P xs ys a b temps store = bury-same xs ys (same-names P xs ys a b) temps store
-
--- and so it is for what gets a label
-pub relabelled-names : (P : ℕ → Type 0) (xs ys : List ℕ) → Names xs P → Names ys P → (label : Label) (store : List Seen)
-    → relabelled xs label store ≡ relabelled ys label store
-relabelled-names P xs ys a b label store = relabelled-same xs ys (same-names P xs ys a b) label store

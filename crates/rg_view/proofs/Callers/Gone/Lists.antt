@@ -1,36 +1,13 @@
 -- Lists that name one region and all beneath it, and objects that go in two steps.
 use Rattle.std.proofs.Common.{◌≡◌, ℕ, ◌==◌, ◌||◌, Bool as Truth, true, false, if◌then◌else◌, cond, List, [], ◌∷◌, ◌++◌}
 use Rattle.std.proofs.Common.{Option, Some, None, find, is_some}
-use Rattle.std.proofs.Common.{refl, sym, ap, ◌∙◌, subst}
-use Rattle.std.proofs.lemmas.Option.{same_Some}
+use Rattle.std.proofs.Common.{refl, sym, ap, ◌∙◌}
 use Rattle.rg_base.specs.declared.object.Label.{Label}
 use Rattle.rg_base.specs.declared.object.Label.TheVariants.{Region, Temp, Frozen}
 use Rattle.rg_base.specs.declared.object.Seen.{Seen}
 use Rattle.rg_rules.specs.Regions.{among, in_regions}
-use Rattle.rg_cells.specs.Table.{Heap}
-use Rattle.rg_regions.specs.Table.{RegionTable, HasNumber}
-use Rattle.rg_regions.specs.Grove.{Below}
-use Rattle.rg_move.specs.Closed.{BelowKey}
-use Rattle.rg_view.specs.Names.{Names}
-use Rattle.rg_view.specs.Links.{BelowSome}
-use Rattle.rg_view.proofs.Callers.Label.{one-is, one-there}
 use Rattle.rg_held.specs.Frees.{is_temp, buried, bury}
 use Rattle.rg_held.specs.Gone.{gone}
-
--- a region and all beneath it
-pub one-names : (h : Heap) (t : RegionTable) (top : ℕ) (regions : List ℕ) → Names regions (BelowSome h t (top ∷ [])) → Names regions (Below h t top)
-one-names h t top regions n = record {
-  all = λ r b. n.all r (top, one-there top top refl, b);
-  only = λ r e. let b = n.only r e in subst (λ x. Below h t x r) (sym (one-is top b.0 b.1)) b.2;
-}
-
--- that of a key
-pub key-names : (h : Heap) (t : RegionTable) (key top : ℕ) (regions : List ℕ) → HasNumber t key top → Names regions (Below h t top)
-    → Names regions (BelowKey h t key)
-key-names h t key top regions has n = record {
-  all = λ r b. n.all r (subst (λ x. Below h t x r) (same_Some b.0 top (sym b.1 ∙ has)) b.2);
-  only = λ r e. (top, has, n.only r e);
-}
 
 pub among-append : (ns ms : List ℕ) (n : ℕ) → among (ns ++ ms) n ≡ (among ns n || among ms n)
 among-append [] ms n = refl

@@ -1,5 +1,5 @@
 -- The regions that go with a window's temporaries, in the heap and in the store that it shows.
-use Rattle.std.proofs.Common.{◌≡◌, inl, inr, ℕ, ◌-◌, true, List, map, length, Option, Some, None, option_map, slice_get}
+use Rattle.std.proofs.Common.{◌≡◌, inl, inr, ℕ, ◌-◌, true, map, length, Option, Some, None, option_map, slice_get}
 use Rattle.std.proofs.Common.{refl, sym, ap, ◌∙◌, arith}
 use Rattle.std.proofs.lemmas.Bool.{false≢true, eq-eqb, eqb-true}
 use Rattle.std.proofs.lemmas.Option.{none-some, slice_get-map}
@@ -17,11 +17,11 @@ use Rattle.rg_stack.specs.Effects.{top_window}
 use Rattle.rg_stack.specs.Needs.{is_top_temp, closed_into}
 use Rattle.rg_heap.specs.Parts.{Parts}
 use Rattle.rg_heap.specs.Answers.{val_of}
-use Rattle.rg_heap.specs.Ends.{OwnedByOne, GoesAlong, top_temps, IsTopTemp}
+use Rattle.rg_heap.specs.Ends.{OwnedByOne, top_temps, IsTopTemp}
 use Rattle.rg_heap.specs.Opened.{Opened}
 use Rattle.rg_view.specs.View.{object_of, windows_of, machine_of}
-use Rattle.rg_view.specs.Names.{Names, AreTemps}
-use Rattle.rg_view.specs.Links.{BelowSome, ByTemp}
+use Rattle.rg_view.specs.Names.{AreTemps}
+use Rattle.rg_view.specs.Links.{ByTemp}
 use Rattle.rg_view.proofs.Callers.Look.{store-held}
 use Rattle.rg_view.proofs.Callers.Shown.{field-in}
 use Rattle.rg_view.proofs.Callers.Window.{active-number}
@@ -106,11 +106,3 @@ module _ (p : Parts) (v : Stack) (at : ℕ) (q : Serials p.cells.heap) (g : Grov
       temp-is (Region r) e = absurd (false≢true e)
       temp-is (Temp n) e = ap Temp (eqb-true n (top_window (windows_of p.regions v)) e ∙ number-shown)
       temp-is Frozen e = absurd (false≢true e)
-
-  -- a list that names all beneath these names the regions that go with them
-  pub leave-names : (tops regions : List ℕ) → Names tops (ByTemp (machine_of p v at)) → Names regions (BelowSome p.cells.heap p.regions tops)
-      → Names regions (GoesAlong p v)
-  leave-names tops regions t n = record {
-    all = λ r a. n.all r (a.0, t.all a.0 (owned-temp a.0 a.1), a.2);
-    only = λ r e. let b = n.only r e in (b.0, temp-owned b.0 (t.only b.0 b.1), b.2);
-  }
