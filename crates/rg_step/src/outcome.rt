@@ -5,7 +5,7 @@ ghost use Rattle.std.specs.Prelude.{◌≡◌, ◌≤◌, ◌+◌, ◌<◌, fals
 ghost use Rattle.rg_io.specs.Content.{Rose};
 ghost use Rattle.rg_input.specs.Numbers.{Follows, OnInput};
 ghost use Rattle.rg_tree.specs.Tree.{Tree};
-ghost use Rattle.rg_rules.specs.Inputs.{first_asks};
+ghost use Rattle.rg_rules.specs.Outside.Inputs.{first_asks};
 ghost use Rattle.rg_rules.specs.State.{State};
 ghost use Rattle.rg_code.specs.Dues.{due_at};
 ghost use Rattle.rg_machine.specs.Parts.{machine_in};
