@@ -1,6 +1,6 @@
 -- What is reached in the state of the machine that never frees is kept by a collection of the machine's own heap that lets no root go.
 use Rattle.std.proofs.Common.{◌≡◌, inl, inr, ℕ, zero, suc, List, [], Option, Some, None, option_map, option_and_then, option_to_list, slice_get}
-use Rattle.std.proofs.Common.{map, take, reverse, length, ◌-◌, unwrap_or, true, refl, sym, ap, ◌∙◌, subst}
+use Rattle.std.proofs.Common.{reverse, ◌-◌, unwrap_or, true, refl, sym, ap, ◌∙◌, subst}
 use Rattle.std.proofs.lemmas.Option.{none-some, same_Some}
 use Rattle.rg_base.specs.declared.object.Label.{Label}
 use Rattle.rg_base.specs.declared.object.Label.TheVariants.{Region, Temp, Frozen}
@@ -22,14 +22,14 @@ use Rattle.rg_regions.specs.Reach.{LiesIn}
 use Rattle.rg_regions.specs.Reach.{Stands as Root}
 use Rattle.rg_frames.specs.Stack.{Stack}
 use Rattle.rg_stack.specs.Effects.{top_region, top_window}
-use Rattle.rg_stack.specs.Machine.{Machine, Window}
+use Rattle.rg_stack.specs.Machine.{Machine}
 use Rattle.rg_stack.specs.Needs.{field_of, owned_once}
 use Rattle.rg_stack.specs.Needs.{value_at as shown_at}
 use Rattle.rg_stack.specs.Shows.{sizes_of}
 use Rattle.rg_heap.specs.Answers.{AllLead, val_of}
 use Rattle.rg_heap.specs.Collects.{Collects}
 use Rattle.rg_heap.specs.Parts.{Parts}
-use Rattle.rg_view.specs.View.{frames_of, machine_of, store_of, window_of, windows_of}
+use Rattle.rg_view.specs.View.{frames_of, machine_of, store_of, windows_of}
 use Rattle.rg_view.proofs.Callers.Link.{val-back}
 use Rattle.rg_view.proofs.Callers.Shown.{held-body}
 use Rattle.rg_view.proofs.Callers.Window.{active-number, top-window}
@@ -156,9 +156,6 @@ module _ (old new : Parts) (v : Stack) (at : ℕ) (t : Tree) (code : Code) (s : 
       let held = held-owner old v at t code s m z a b k owner in
       keeps.bridge n (value x.0 (same b held ∙ x.1) x.2) (region n (field-held b k n x.0 held x.1 x.2) is)
     where
-      below : List Window
-      below = map (window_of old.regions) (reverse (take (length v.windows - 1) v.windows))
-
       value : (o : Seen) → slice_get (store_of h) b ≡ Some o → slice_get o.fields k ≡ Some (val.Obj n)
           → bridge_value f (windows_of old.regions v) ≡ val.Obj n
       value o there at =

@@ -1,6 +1,6 @@
 -- Where each closed region is owned once, a slot that leads into one is the only place that does.
-use Rattle.std.proofs.Common.{◌≡◌, ◌≤◌, ◌<◌, ◌==◌, ◌+◌, ◌||◌, inl, inr, ℕ, true, cond, List, [], ◌∷◌, map, take}
-use Rattle.std.proofs.Common.{drop, reverse, length, Option, Some, None, option_map, slice_get, count_by, nat_le, refl, sym, ap, ◌∙◌, subst, arith}
+use Rattle.std.proofs.Common.{◌≡◌, ◌≤◌, ◌==◌, ◌+◌, inl, inr, ℕ, true, cond, List, [], ◌∷◌, map, take}
+use Rattle.std.proofs.Common.{drop, reverse, length, Option, Some, None, option_map, slice_get, count_by, refl, sym, ap, ◌∙◌, subst, arith}
 use Rattle.std.specs.List.{sum_by}
 use Rattle.std.proofs.lemmas.Bool.{cases_eq, eq-eqb as eq-is}
 use Rattle.std.proofs.lemmas.List.{take-map, drop-map, length-take-le}
@@ -14,29 +14,26 @@ use Rattle.rg_base.specs.declared.value.Word.{Word}
 use Rattle.rg_base.specs.declared.value.Word.TheVariants as word
 use Rattle.rg_cells.specs.declared.cell.Body.{Body}
 use Rattle.rg_cells.specs.Table.{Heap, body_at, label_at, field_at, Serials}
-use Rattle.rg_regions.specs.Table.{Record, record_at}
 use Rattle.rg_regions.specs.Reach.{LiesIn}
 use Rattle.rg_regions.specs.Grove.{Grove}
 use Rattle.rg_frames.specs.declared.rows.Frame.{Frame as FrameRow}
 use Rattle.rg_frames.specs.declared.rows.Window.{Window as WindowRow}
 use Rattle.rg_frames.specs.Stack.{Stack}
 use Rattle.rg_stack.specs.Machine.{Frame, Window}
-use Rattle.rg_stack.specs.Needs.{slots_into, fields_into, places_into, owned_once}
-use Rattle.rg_stack.specs.Labels.{is_open, is_into, is_outside, has_window}
+use Rattle.rg_stack.specs.Needs.{slots_into, fields_into, owned_once}
+use Rattle.rg_stack.specs.Labels.{is_into, is_outside, has_window}
 use Rattle.rg_heap.specs.Parts.{Parts}
 use Rattle.rg_heap.specs.Answers.{val_of, IsClosed}
 use Rattle.rg_heap.specs.Opened.{Opened, IsWindow}
 use Rattle.rg_held.proofs.Lists.{sum-one, count-one as count-hit}
-use Rattle.rg_held.proofs.Places.{all-below as all_below-at}
-use Rattle.rg_view.specs.View.{object_of, store_of, window_of, windows_of, managers_of, machine_of}
+use Rattle.rg_view.specs.View.{object_of, store_of, window_of, windows_of, machine_of}
 use Rattle.rg_view.specs.Numbers.{Numbers}
 use Rattle.rg_view.specs.Lain.{Nested, Lain}
 use Rattle.rg_view.proofs.Callers.Look.{store-held}
 use Rattle.rg_view.proofs.Callers.Shown.{field-in}
-use Rattle.rg_view.proofs.Callers.Manager.{managers-length}
 use Rattle.rg_view.proofs.Callers.Frame.{frames_from}
-use Rattle.rg_view.proofs.Callers.Open.{any-map, any-reverse, closed-not-open, into-there}
-use Rattle.rg_view.proofs.Callers.Need.{keyed, weight}
+use Rattle.rg_view.proofs.Callers.Open.{any-map, any-reverse, into-there}
+use Rattle.rg_view.proofs.Callers.Need.{places-most, weight}
 use Rattle.rg_view.proofs.Callers.Once.{count-two}
 
 -- what the slots of all frames count is what all slots do
@@ -60,24 +57,6 @@ slots-count h store r slots first (f ∷ fs) n =
     omega (arith, under, c, low, high, all)
 
 module _ (p : Parts) (v : Stack) (at : ℕ) (q : Serials p.cells.heap) (g : Grove p.cells p.regions) (o : Opened p v) where
-  -- so many places lead into a closed region
-  places-most : (r : ℕ) → Numbers p.regions → IsClosed p.regions v r → owned_once (machine_of p v at) ≡ true
-      → places_into (machine_of p v at) r ≤ 1
-  places-most r n c once =
-      let m = machine_of p v at in
-      let below : r < length (managers_of p.regions) = known (record_at p.regions c.0) refl in
-      let test = all_below-at (length m.managers) (λ r. is_open m.windows r || nat_le (places_into m r) 1) r once below in
-      let most : nat_le (places_into m r) 1 ≡ true =
-      sym (ap (λ b. b || nat_le (places_into m r) 1) (closed-not-open p.regions v (keyed p v at q g o) r c)) ∙ test in
-      grind (arith, most)
-    where
-      known : (x : Option Record) → record_at p.regions c.0 ≡ x → r < length (managers_of p.regions)
-      known None f = absurd (none-some r (sym (ap (option_map (λ (r : Record). r.number)) f) ∙ c.1))
-      known (Some rec) f =
-          let is : rec.number ≡ r = same_Some rec.number r (sym (ap (option_map (λ (r : Record). r.number)) f) ∙ c.1) in
-          let lt = n.below c.0 rec f in
-          omega (arith, is, lt, managers-length p.regions)
-
   into-at : (r j s : ℕ) → slice_get v.slots j ≡ Some (word.Slot s) → slice_get (map (val_of p.cells.heap) v.slots) j
       ≡ Some (val_of p.cells.heap (word.Slot s))
   into-at r j s e = slice_get-map (val_of p.cells.heap) v.slots j ∙ ap (option_map (val_of p.cells.heap)) e
@@ -89,7 +68,7 @@ module _ (p : Parts) (v : Stack) (at : ℕ) (q : Serials p.cells.heap) (g : Grov
   sole-slot r j k s to lain n c once e lies f into = elim (cases_eq j k) [
     | inl is ↦ is
     | inr d ↦
-        let most = places-most r n c once in
+        let most = places-most p v at q g o r n c once in
         let count = slots-count p.cells.heap (store_of p.cells.heap) r v.slots v.first (reverse v.frames) lain in
         let two = count-two (is_into (store_of p.cells.heap) r) (map (val_of p.cells.heap) v.slots) j k
         (val_of p.cells.heap (word.Slot s)) (val_of p.cells.heap (word.Slot to)) (into-at r j s e) (into-at r k to f)
@@ -136,7 +115,7 @@ module _ (p : Parts) (v : Stack) (at : ℕ) (q : Serials p.cells.heap) (g : Grov
       → IsWindow v i w → label_at p.cells.heap s ≡ Some (Temp w.number)
       → field_at p.cells.heap s k ≡ Some (word.Slot to) → LiesIn p.cells.heap r to → ⊥
   sole-temp r j s₂ i s k to w lain n c once e lies is temp leads into =
-      let most = places-most r n c once in
+      let most = places-most p v at q g o r n c once in
       let count = slots-count p.cells.heap (store_of p.cells.heap) r v.slots v.first (reverse v.frames) lain in
       let slot = count-hit (is_into (store_of p.cells.heap) r) (map (val_of p.cells.heap) v.slots) j
       (val_of p.cells.heap (word.Slot s₂)) (into-at r j s₂ e) (into-there p.cells.heap r s₂ q lies) in

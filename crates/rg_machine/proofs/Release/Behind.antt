@@ -1,6 +1,6 @@
 -- What stands behind a release: nothing that stays leads into a region that went.
-use Rattle.std.proofs.Common.{◌≡◌, ◌≢◌, ◌≤◌, ◌<◌, ◌==◌, ◌||◌, ◌⊎◌, inl, inr, ℕ, zero, suc, ◌+◌, ◌-◌, true, List, [], ◌∷◌}
-use Rattle.std.proofs.Common.{map, length, take, drop, reverse, Option, Some, None, option_map, slice_get, slice_index_or, nat_le}
+use Rattle.std.proofs.Common.{◌≡◌, ◌≢◌, ◌≤◌, ◌<◌, ◌==◌, ◌⊎◌, inl, inr, ℕ, zero, suc, ◌+◌, ◌-◌, true, List, [], ◌∷◌}
+use Rattle.std.proofs.Common.{map, length, take, drop, reverse, Option, Some, None, option_map, slice_get, slice_index_or}
 use Rattle.std.proofs.Common.{refl, sym, ap, ◌∙◌, subst, arith}
 use Rattle.std.specs.List.{count_by}
 use Rattle.std.proofs.lemmas.Bool.{false≢true, false_from_ne_true as never, cases_lt as order}
@@ -16,7 +16,7 @@ use Rattle.rg_base.proofs.Callers.Lists.{there}
 use Rattle.rg_sound.proofs.Owners.Owner.{get-take-within}
 use Rattle.rg_cells.specs.declared.cell.Body.{Body}
 use Rattle.rg_cells.specs.Table.{Heap, label_at, field_at, Serials, IsHeld}
-use Rattle.rg_regions.specs.Table.{Record, record_at, InTable}
+use Rattle.rg_regions.specs.Table.{InTable}
 use Rattle.rg_regions.specs.Reach.{LiesIn}
 use Rattle.rg_regions.specs.Grove.{Grove, Parent, Above, Below, direct, further}
 use Rattle.rg_frames.specs.declared.rows.Frame.{Frame as FrameRow}
@@ -31,7 +31,6 @@ use Rattle.rg_heap.specs.Answers.{val_of, IsClosed}
 use Rattle.rg_heap.specs.Ends.{Released, NoCell}
 use Rattle.rg_heap.specs.Opened.{Opened, IsWindow, IsTempOf}
 use Rattle.rg_held.proofs.Lists.{count-one as count-hit}
-use Rattle.rg_held.proofs.Places.{all-below as all_below-at}
 use Rattle.rg_view.specs.Lain.{Nested}
 use Rattle.rg_view.specs.Links.{BelowSome}
 use Rattle.rg_view.specs.Names.{Names}
@@ -41,8 +40,7 @@ use Rattle.rg_view.proofs.Callers.Gone.Beneath.{beneath-names}
 use Rattle.rg_view.proofs.Callers.Frame.{frames_from}
 use Rattle.rg_view.proofs.Callers.Gone.Records.{released-numbers}
 use Rattle.rg_view.proofs.Callers.Label.{one-is, one-there}
-use Rattle.rg_view.proofs.Callers.Manager.{managers-length}
-use Rattle.rg_view.proofs.Callers.Need.{keyed, field-counts, closed-not-above}
+use Rattle.rg_view.proofs.Callers.Need.{keyed, places-most, field-counts, closed-not-above}
 use Rattle.rg_view.proofs.Callers.Once.{outside-once, outside-counts}
 use Rattle.rg_view.proofs.Callers.Open.{closed-not-open, closed-there, not-open-closed, into-there}
 use Rattle.rg_view.proofs.Callers.Shown.{get-drop}
@@ -142,20 +140,7 @@ temp-window v many some zeroth j s e =
 module _ (old : Parts) (v : Stack) (at : ℕ) (q : Serials old.cells.heap) (g : Grove old.cells old.regions) (s : Stands old v) where
   -- at most one place leads into a closed region
   pub most-one : (r : ℕ) → IsClosed old.regions v r → owned_once (machine_of old v at) ≡ true → places_into (machine_of old v at) r ≤ 1
-  most-one r c once =
-      let m = machine_of old v at in
-      let below : r < length (managers_of old.regions) = known (record_at old.regions c.0) refl in
-      let test = all_below-at (length m.managers) (λ r. is_open m.windows r || nat_le (places_into m r) 1) r once below in
-      let most : nat_le (places_into m r) 1 ≡ true =
-      sym (ap (λ b. b || nat_le (places_into m r) 1) (closed-not-open old.regions v (keyed old v at q g s.opened) r c)) ∙ test in
-      grind (arith, most)
-    where
-      known : (x : Option Record) → record_at old.regions c.0 ≡ x → r < length (managers_of old.regions)
-      known None f = absurd (none-some r (sym (ap (option_map (λ (r : Record). r.number)) f) ∙ c.1))
-      known (Some rec) f =
-          let is : rec.number ≡ r = same_Some rec.number r (sym (ap (option_map (λ (r : Record). r.number)) f) ∙ c.1) in
-          let lt = s.numbers.below c.0 rec f in
-          omega (arith, is, lt, managers-length old.regions)
+  most-one r c once = places-most old v at q g s.opened r s.numbers c once
 
   -- a slot that leads into a region is counted
   pub slot-counts-one : (r j x : ℕ) → slice_get v.slots j ≡ Some (word.Slot x) → LiesIn old.cells.heap r x

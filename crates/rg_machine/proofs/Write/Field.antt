@@ -1,5 +1,5 @@
 -- A field is written: what holds behind it, and the machine that is shown.
-use Rattle.std.proofs.Common.{◌≡◌, ◌⊎◌, inl, inr, ◌≤◌, ◌<◌, ◌+◌, ◌-◌, ℕ, Bool as Truth, true, false, not, ◌&&◌, nat_lt}
+use Rattle.std.proofs.Common.{◌≡◌, ◌⊎◌, inl, inr, ◌≤◌, ◌<◌, ◌+◌, ◌-◌, ◌==◌, ℕ, Bool as Truth, true, false, not, ◌&&◌, nat_lt}
 use Rattle.std.proofs.Common.{List, [], ◌∷◌, Option, Some, IsSome, length, option_map, option_and_then, slice_get}
 use Rattle.std.proofs.Common.{Result, Ok, Err, refl, sym, ap, subst, ◌∙◌, arith}
 use Rattle.std.proofs.lemmas.Bool.{false≢true, cases_eq}
@@ -183,6 +183,9 @@ topmost p v at slot b h e may i j o u at_i of is =
     let place : i ≡ length v.windows - 1 = h.window_numbers i (length v.windows - 1) o top.0 at_i top.1 number in
     omega (arith, within, place)
   where
+    equal : (a b : ℕ) → (a == b) ≡ true → a ≡ b
+    equal a b e = grind (arith, e)
+
 -- The cell that `put` writes: it may be written, has the field, and the word may stand there.
 pub record Puts (x : Whole) (slot k : ℕ) (w : Word) : Type 0 where
   pub body : Body

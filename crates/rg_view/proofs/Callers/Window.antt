@@ -48,3 +48,7 @@ module _ (t : RegionTable) where
       (omega (arith, two, length-reverse front, length-take-le (length v.windows - 1) v.windows (omega arith)))
       ∙ sym (ap (λ xs. without_top (map (window_of t) xs)) (last-reverse v.windows w top))
     where
+      two-left : (w : WindowRow) (rest : List WindowRow) → 1 ≤ length rest
+          → map (window_of t) rest ≡ without_top (map (window_of t) (w ∷ rest))
+      two-left w [] some = absurd (omega (arith, some))
+      two-left w (u ∷ us) some = refl
