@@ -6,7 +6,6 @@
 //! a state that fits a program is shown (`IsOwned`).
 #![tactic(auto)]
 
-mod creating;
 mod instructions;
 mod jumps;
 mod machine;

@@ -19,9 +19,9 @@ use Rattle.rg_held.specs.Gather.{Gathered}
 use Rattle.rg_held.specs.Shown.{ShowsHeld}
 use Rattle.rg_machine.specs.Collects.{holds}
 use Rattle.rg_machine.specs.Parts.{Parts, machine_in}
-use Rattle.rg_machine.proofs.Collect.{Active, active}
-use Rattle.rg_machine.proofs.Part.{shown-part}
-use Rattle.rg_machine.proofs.ReachShown.{Beside}
+use Rattle.rg_machine.proofs.Callers.Collect.{Active, active}
+use Rattle.rg_machine.proofs.Callers.Part.{shown-part}
+use Rattle.rg_machine.proofs.Callers.ReachShown.{Beside}
 use Rattle.rg_step.specs.Pacers.{Asks}
 use Rattle.rg_step.specs.Collections.{CollectsAsked, CollectsOn, GathersBy, IsCollected, Paces, Serves, ServesBy, event_of}
 use Rattle.rg_step.specs.States.{OneStep, Standing}

@@ -31,10 +31,10 @@ use Rattle.rg_held.specs.Shown.{ShowsHeld}
 use Rattle.rg_held.proofs.Places.{RefTo, into-back}
 use Rattle.rg_machine.specs.Collects.{holds}
 use Rattle.rg_machine.specs.Parts.{Parts, machine_in}
-use Rattle.rg_machine.proofs.Gather.{holds-back}
-use Rattle.rg_machine.proofs.Part.{gone-shown, held-shown}
-use Rattle.rg_machine.proofs.ReachShown.{lies-there}
-use Rattle.rg_machine.proofs.Slid.{same-lists}
+use Rattle.rg_machine.proofs.Callers.Gather.{holds-back}
+use Rattle.rg_machine.proofs.Callers.Part.{gone-shown, held-shown}
+use Rattle.rg_machine.proofs.Callers.ReachShown.{lies-there}
+use Rattle.rg_machine.proofs.Callers.Slid.{same-lists}
 use Rattle.rg_step.specs.Frees.{LeftTable}
 use Rattle.rg_step.specs.States.{Standing}
 use Rattle.rg_once.specs.Once.{HoldTheSame}

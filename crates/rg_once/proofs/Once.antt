@@ -20,7 +20,7 @@ use Rattle.rg_view.proofs.Callers.Link.{label-in}
 use Rattle.rg_view.proofs.Callers.Look.{store-held}
 use Rattle.rg_machine.specs.Collects.{holds}
 use Rattle.rg_machine.specs.Parts.{Parts, machine_in}
-use Rattle.rg_machine.proofs.Gather.{holds-back}
+use Rattle.rg_machine.proofs.Callers.Gather.{holds-back}
 use Rattle.rg_step.specs.States.{Standing}
 use Rattle.rg_step.proofs.Told.{event-told}
 use Rattle.rg_once.specs.Once.{HoldTheSame, Tells}

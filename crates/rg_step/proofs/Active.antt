@@ -25,7 +25,7 @@ use Rattle.rg_view.proofs.Callers.Window.{active-region}
 use Rattle.rg_held.specs.Shown.{ShowsHeld}
 use Rattle.rg_held.proofs.Places.{top-open}
 use Rattle.rg_machine.specs.Active.{IsActive, OnActive}
-use Rattle.rg_machine.proofs.Active.{on-each}
+use Rattle.rg_machine.proofs.Callers.Active.{on-each}
 use Rattle.rg_machine.specs.Parts.{Parts, machine_in}
 use Rattle.rg_machine.specs.Stands.{Stands}
 use Rattle.rg_step.specs.Collections.{CollectsTop, IsCollected}

@@ -22,7 +22,7 @@ use Rattle.rg_machine.specs.High.{NoneMade}
 use Rattle.rg_machine.specs.Makes.{Made, making}
 use Rattle.rg_machine.specs.Keeps.{Asks, GoesOn, GoesTo, WantsRoom}
 use Rattle.rg_machine.specs.Parts.{Parts as MachineParts, machine_in}
-use Rattle.rg_machine.proofs.High.{none-same, none-then}
+use Rattle.rg_machine.proofs.Callers.High.{none-same, none-then}
 use Rattle.rg_step.specs.declared.step.Did.{Did}
 use Rattle.rg_step.specs.declared.step.Did.TheVariants as did
 use Rattle.rg_step.specs.Inner.High.{Calmed, DidMade, MayMake, OneAtMost, Untouched}

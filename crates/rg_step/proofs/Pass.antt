@@ -26,7 +26,7 @@ use Rattle.rg_stack.proofs.Callers.Left.{do-other, running-left}
 use Rattle.rg_stack.proofs.Callers.Mark.{drop-stands, first-drop, lies_at_mark, mark-there}
 use Rattle.rg_held.specs.Frees.{free_step_from as step_from}
 use Rattle.rg_machine.specs.Parts.{Parts, machine_in}
-use Rattle.rg_machine.proofs.High.{none-same}
+use Rattle.rg_machine.proofs.Callers.High.{none-same}
 use Rattle.rg_step.specs.Frees.{FreesOnly, StaysGone}
 use Rattle.rg_step.specs.Inner.Leaps.{GoesTo, with_left}
 use Rattle.rg_step.specs.Inner.Serving.{is_asked}

@@ -23,10 +23,10 @@ use Rattle.rg_held.specs.Part.{Part}
 use Rattle.rg_machine.specs.Collects.{holds}
 use Rattle.rg_machine.specs.Parts.{Parts, machine_in}
 use Rattle.rg_machine.specs.Stands.{Stands}
-use Rattle.rg_machine.proofs.Active.{on-each}
-use Rattle.rg_machine.proofs.Part.{shown-part}
-use Rattle.rg_machine.proofs.Reach.{kept-traced}
-use Rattle.rg_machine.proofs.SlidReach.{slid-traced}
+use Rattle.rg_machine.proofs.Callers.Active.{on-each}
+use Rattle.rg_machine.proofs.Callers.Part.{shown-part}
+use Rattle.rg_machine.proofs.Callers.Reach.{kept-traced}
+use Rattle.rg_machine.proofs.Callers.SlidReach.{slid-traced}
 use Rattle.rg_step.specs.Collections.{CollectsAsked, CollectsOn, CollectsTop, IsCollected, IsLeft, KeepsReached, Paces, ReachesOn, Serves}
 use Rattle.rg_step.specs.Pacers.{Asks}
 use Rattle.rg_step.specs.Collections.{event_of}

@@ -34,8 +34,8 @@ use Rattle.rg_held.proofs.Gather.Told.{held-as, part-as}
 use Rattle.rg_machine.specs.Collects.{holds}
 use Rattle.rg_machine.specs.Parts.{Parts, machine_in}
 use Rattle.rg_machine.specs.Stands.{Stands}
-use Rattle.rg_machine.proofs.Active.{on-each}
-use Rattle.rg_machine.proofs.Part.{gathers-part, gone-shown, held-shown, once-held, slides-part}
+use Rattle.rg_machine.proofs.Callers.Active.{on-each}
+use Rattle.rg_machine.proofs.Callers.Part.{gathers-part, gone-shown, held-shown, once-held, slides-part}
 use Rattle.rg_step.specs.Collections.{CollectsAsked, CollectsOn, CollectsTop, ForActive, GathersBy, IsLeft, IsRefused, Paces, Serves, ServesBy}
 use Rattle.rg_step.specs.Pacers.{Asks}
 use Rattle.rg_step.specs.Collections.{Unasked}

@@ -18,7 +18,7 @@ use Rattle.rg_step.proofs.High.{may-most}
 use Rattle.rg_step.proofs.Leaves.{stands-put, put-backs, no-asking, no-machine, unread-left, unread-number}
 use Rattle.rg_machine.specs.Parts.{machine_in}
 use Rattle.rg_machine.specs.Cores.{core_of}
-use Rattle.rg_machine.proofs.Ret.{same-back}
+use Rattle.rg_machine.proofs.Callers.Return.{same-back}
 use Rattle.rg_step.proofs.asks.walk_asking.Goals as goal
 
 pub walk-requires : goal.walk-requires

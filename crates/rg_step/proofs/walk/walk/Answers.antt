@@ -12,7 +12,7 @@ use Rattle.rg_step.proofs.High.{high-asks, high-back, high-ends, high-free, high
 use Rattle.rg_step.proofs.Leaves.{on-backs, to-backs, asks-backs, room-backs}
 use Rattle.rg_machine.specs.Parts.{machine_in}
 use Rattle.rg_machine.specs.Cores.{core_of}
-use Rattle.rg_machine.proofs.Ret.{same-back}
+use Rattle.rg_machine.proofs.Callers.Return.{same-back}
 use Rattle.rg_step.proofs.walk.walk.Goals as goal
 
 pub simple-requires : goal.simple-requires
