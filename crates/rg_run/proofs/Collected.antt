@@ -26,7 +26,7 @@ use Rattle.rg_stack.specs.Machine.{Machine}
 use Rattle.rg_stack.proofs.Callers.Due.{steps-due}
 use Rattle.rg_step.specs.States.{OneStep, Standing}
 use Rattle.rg_step.specs.Steps.{Leapt, counted, is_made}
-use Rattle.rg_step.proofs.Told.{EventTold, asked-told, event-told}
+use Rattle.rg_step.proofs.Callers.Told.{EventTold, asked-told, event-told}
 use Rattle.rg_run.specs.Collected.{IsManaged, Tells, Told}
 use Rattle.rg_run.specs.Inner.{Adds, OneMore, behind}
 use Rattle.rg_run.proofs.Ask.{at}

@@ -15,15 +15,6 @@ use Rattle.rg_held.specs.Gone.{gone}
 use Rattle.rg_run.specs.Machine.{Kept, IsShown}
 use Rattle.rg_run.specs.Sound.{HoldsOf}
 
--- what is answered for a serial is the state's object, which is held there
-pub shown-held : (classes : List Class) (m : Kept) (s : State) → HoldsOf classes m s → (serial : ℕ) (o : Seen) → IsShown m serial (Some o) →
-    (h : IsHeld classes s serial) × (h.object ≡ o)
-shown-held classes m s k serial o there = by (k.holds serial) refl
-  where
-    by : (b : Truth) → k.holds serial ≡ b → (h : IsHeld classes s serial) × (h.object ≡ o)
-    by true e = let h = k.held serial e in (h, same_Some h.object o (sym (k.same serial h.object e h.there) ∙ there.0))
-    by false e = absurd (there.1 (k.others serial o e there.0))
-
 -- no window has the number of what is gone
 held-there : (t : Tree) (s : State) → Fit t s → s.windows_made ≤ 2 ^ 64 - 1 → (serial : ℕ) → (h : IsHeld t.classes s serial) → h.object ≡ gone → ⊥
 held-there t s fit few serial h is =

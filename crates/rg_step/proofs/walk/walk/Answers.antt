@@ -4,12 +4,12 @@ use Rattle.rg_machine.specs.Core.{Core}
 use Rattle.rg_machine.specs.Keeps.{WantsRoom}
 use Rattle.rg_step.specs.Inner.Walks.{walk_from}
 use Rattle.rg_step.specs.Inner.Simple.{Done}
-use Rattle.rg_step.proofs.Walks.{walking-undone}
-use Rattle.rg_step.proofs.Turn.{given-here, past-code, turn-on, turn-to, turn-back, turn-ends, turn-read, turn-more, turn-room, turn-full}
-use Rattle.rg_step.proofs.Stands.{stands-on, stands-to, stands-back, stands-left, stands-asking, stands-number, stands-free, stands-roomless}
+use Rattle.rg_step.proofs.Walking.Walks.{walking-undone}
+use Rattle.rg_step.proofs.Walking.Turn.{given-here, past-code, turn-on, turn-to, turn-back, turn-ends, turn-read, turn-more, turn-room, turn-full}
+use Rattle.rg_step.proofs.Walking.Stands.{stands-on, stands-to, stands-back, stands-left, stands-asking, stands-number, stands-free, stands-roomless}
 use Rattle.rg_step.specs.Inner.High.{MayMake, OneAtMost}
-use Rattle.rg_step.proofs.High.{high-asks, high-back, high-ends, high-free, high-none, high-on, high-to}
-use Rattle.rg_step.proofs.Leaves.{on-backs, to-backs, asks-backs, room-backs}
+use Rattle.rg_step.proofs.Walking.High.{high-asks, high-back, high-ends, high-free, high-none, high-on, high-to}
+use Rattle.rg_step.proofs.Walking.Leaves.{on-backs, to-backs, asks-backs, room-backs}
 use Rattle.rg_machine.specs.Parts.{machine_in}
 use Rattle.rg_machine.specs.Cores.{core_of}
 use Rattle.rg_machine.proofs.Ret.{same-back}

@@ -2,7 +2,7 @@ use Rattle.std.proofs.Common.{◌∙◌, ap}
 use Rattle.rg_machine.specs.Core.{Core}
 use Rattle.rg_machine.specs.Parts.{opening}
 use Rattle.rg_step.specs.Stepping.{Stepping}
-use Rattle.rg_step.proofs.KnownSteps.{bare-resting}
+use Rattle.rg_step.proofs.Shapes.KnownSteps.{bare-resting}
 use Rattle.rg_step.proofs.stepper.Stepper.begin.Goals as goal
 
 pub returns-clause-begun : goal.returns-clause-begun
