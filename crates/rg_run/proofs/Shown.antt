@@ -1,10 +1,9 @@
 -- What a machine answers for a serial, beside the state that it shows. For callers.
-use Rattle.std.proofs.Common.{◌≡◌, ℕ, ◌-◌, ◌^◌, ◌≤◌, ◌⊎◌, inl, inr, Bool as Truth, true, false, List, map, Some, None}
-use Rattle.std.proofs.Common.{refl, sym, ap, subst, ◌∙◌, arith}
-use Rattle.std.proofs.lemmas.Option.{same_Some}
+use Rattle.std.proofs.Common.{◌≡◌, ℕ, ◌-◌, ◌^◌, ◌≤◌, Bool as Truth, true, false, map, None}
+use Rattle.std.proofs.Common.{refl, ap, subst, arith}
 use Rattle.rg_base.specs.declared.object.Label.{Label}
 use Rattle.rg_base.specs.declared.object.Seen.{Seen}
-use Rattle.rg_tree.specs.Tree.{Class, Tree}
+use Rattle.rg_tree.specs.Tree.{Tree}
 use Rattle.rg_rules.specs.Owners.{is_temp_of}
 use Rattle.rg_rules.specs.State.{State, Window as Opened}
 use Rattle.rg_sound.specs.Fit.{Fit}

@@ -16,10 +16,8 @@ mod outcome;
 mod quick;
 mod reads;
 mod room;
-mod simple;
 mod step;
 mod stepper;
 mod walk;
-mod words;
 
 pub use stepper::Stepper;

@@ -4,7 +4,6 @@ ghost use Rattle.rg_machine.specs.Cores.{core_of};
 ghost use Rattle.rg_step.specs.Inner.Walks.{Unstuck, WalkEnds, walk_from};
 
 use crate::room::{Roomed, make_room};
-use crate::simple::simple;
 use rg_base::Trap;
 use rg_code::CodeList;
 use rg_machine::{Machine, Next, act};
@@ -36,12 +35,7 @@ pub(crate) fn walk(p: &mut Machine, code: &CodeList, from: usize) -> End
 {
     let mut at = from;
     while at < code.len() {
-        let op = code.get(at);
-        if simple(p, code, op) {
-            at += 1;
-            continue;
-        }
-        match act(p, code, at, op) {
+        match act(p, code, at, code.get(at)) {
             Next::On => at += 1,
             Next::To(to) => {
                 if to > at {
