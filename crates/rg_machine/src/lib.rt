@@ -14,10 +14,8 @@ mod next;
 mod scalars;
 mod values;
 mod variables;
-mod words;
 
 pub use instructions::act;
 pub use machine::Machine;
 pub use next::Next;
 pub use scalars::{leads_nowhere, truth};
-pub use words::{holds, operated};

@@ -19,5 +19,6 @@ mod room;
 mod step;
 mod stepper;
 mod walk;
+mod words;
 
 pub use stepper::Stepper;
