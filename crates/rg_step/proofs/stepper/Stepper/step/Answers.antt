@@ -78,6 +78,9 @@ follow-requires-clause-once g c =
     once-behind code (machine_in c.in-Some.p) (machine_in c.outcome-outcome.new.p) c.outcome-outcome.result _ _ _ _
     (subst P (sym was) c.requires.runs) made c.outcome-outcome.ensures.follows c.outcome-outcome.ensures.step
 
+pub follow-requires-clause-rests : goal.follow-requires-clause-rests
+follow-requires-clause-rests g c = c.outcome-outcome.ensures.did.rests
+
 pub follow-requires-clause-room : goal.follow-requires-clause-room
 follow-requires-clause-room g c = c.outcome-outcome.ensures.room (sym c.is_made.ensures ∙ c.if-not-is_made.false)
 
