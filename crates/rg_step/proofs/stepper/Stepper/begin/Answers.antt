@@ -11,7 +11,12 @@ returns-clause-begun c =
       p,
       record {
         shows = ap (λ (k : Core). k.machine) c.in_ok-machine.ensures.core ∙ ap (λ n. opening n c.args.manager) c.main_slots.ensures;
-        sound = record { stands = c.is_sound.ensures.stands; serials = c.is_sound.ensures.serials; forest = c.is_sound.ensures.forest; windows = c.is_sound.ensures.windows };
+        sound = record {
+          stands = c.is_sound.ensures.stands;
+          serials = c.is_sound.ensures.serials;
+          forest = c.is_sound.ensures.forest;
+          windows = c.is_sound.ensures.windows;
+        };
         high = c.in_ok-machine.ensures.high;
       },
       ap (λ (n : Stepping). record n { parts = p }) c.self.view_is,
