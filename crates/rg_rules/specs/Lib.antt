@@ -10,7 +10,6 @@ pub mod Rights
 pub mod Statements
 pub mod Names
 pub mod Items
-pub mod Inputs
 pub mod Bodies
 pub mod Points
 pub mod Acceptance
@@ -21,7 +20,6 @@ pub mod Regions
 pub mod RightSides
 pub mod Steps
 pub mod Runs
-pub mod Texts
+pub mod Outside
 pub mod Owners
 pub mod Reach
-pub mod Asks

@@ -4,7 +4,7 @@ use Rattle.rg_base.specs.declared.event.Event.{Event}
 use Rattle.rg_base.specs.declared.words.Manager.{Manager}
 use Rattle.rg_base.specs.declared.words.Manager.TheVariants.{Count, Trace}
 use Rattle.rg_tree.specs.Tree.{Tree}
-use Rattle.rg_rules.specs.Asks.{asks}
+use Rattle.rg_rules.specs.Outside.Asks.{asks}
 use Rattle.rg_step.specs.Yeses.{paced_by, raised}
 use Rattle.rg_step.specs.Pacers.{Asks}
 use Rattle.rg_run.specs.Machine.{Kept}

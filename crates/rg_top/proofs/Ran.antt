@@ -9,7 +9,7 @@ use Rattle.rg_rules.specs.Acceptance.{judge_program}
 use Rattle.rg_rules.specs.State.{State}
 use Rattle.rg_rules.specs.Runs.{Ending, Running, Done, Stopped, opening}
 use Rattle.rg_rules.specs.Runs as rules
-use Rattle.rg_rules.specs.Texts.{added}
+use Rattle.rg_rules.specs.Outside.Texts.{added}
 use Rattle.rg_input.specs.Numbers.{Pending, Follows, OnInput}
 use Rattle.rg_input.proofs.Input.{some-comes}
 use Rattle.rg_code.specs.Code.{Code}

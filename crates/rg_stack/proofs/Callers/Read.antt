@@ -4,7 +4,7 @@ use Rattle.std.proofs.Common.{arith}
 use Rattle.std.proofs.Common.{slice_get}
 use Rattle.rg_tree.specs.Tree.{stmt, StmtKind, declare, assign, call, swap, branch, while, enter, print, collect, return, Class, Tree}
 use Rattle.rg_rules.specs.Bodies.{is_return}
-use Rattle.rg_rules.specs.Inputs.{first_asks}
+use Rattle.rg_rules.specs.Outside.Inputs.{first_asks}
 use Rattle.rg_rules.specs.Items.{Item, Do, EndAt, LeaveAt, Back}
 use Rattle.rg_rules.specs.State.{Frame as Body, Window as Opened}
 use Rattle.rg_sound.specs.Frames.{FramesFit}

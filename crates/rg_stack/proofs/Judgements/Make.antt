@@ -5,7 +5,7 @@ use Rattle.rg_base.specs.declared.ty.Ty.{Ty}
 use Rattle.rg_base.specs.declared.words.Cap.TheVariants.{Mut}
 use Rattle.rg_tree.specs.Tree.{Name, Variable, ref, Right, value, new, new_tmp, new_iso, freeze, merge, read, more, result_of}
 use Rattle.rg_tree.specs.Tree.{StmtKind, declare, assign, call, swap, branch, while, enter, print, collect, return, Class}
-use Rattle.rg_rules.specs.Asks.{right_makes}
+use Rattle.rg_rules.specs.Outside.Asks.{right_makes}
 use Rattle.rg_rules.specs.Capabilities.{is_iso, stays_at_depth}
 use Rattle.rg_rules.specs.Environment.{Env, at_depth, entry_of, is_lent, visible}
 use Rattle.rg_rules.specs.Expressions.{Judged}

@@ -8,7 +8,7 @@ use Rattle.rg_tree.specs.Tree.{StmtKind, declare, assign, call, swap, branch, wh
 use Rattle.rg_rules.specs.Capabilities.{is_iso}
 use Rattle.rg_rules.specs.Paths.{all_but_last}
 use Rattle.rg_rules.specs.Bodies.{is_return}
-use Rattle.rg_rules.specs.Inputs.{asks, kind_asks}
+use Rattle.rg_rules.specs.Outside.Inputs.{asks, kind_asks}
 use Rattle.rg_code.specs.declared.op.Op.{Op}
 use Rattle.rg_code.specs.declared.op.Op.TheVariants as i
 use Rattle.rg_code.specs.Lowering.{Scope, type_in, slot_of, path_code, holder_code, held_number}

@@ -11,7 +11,7 @@ use Rattle.rg_base.specs.declared.outcome.Outcome.TheVariants as outcome
 use Rattle.rg_base.specs.declared.words.Manager.{Manager}
 use Rattle.rg_base.specs.declared.words.Manager.TheVariants.{Arena, Count, Trace}
 use Rattle.rg_tree.specs.Tree.{Tree}
-use Rattle.rg_rules.specs.Asks.{is_managed, managed_by, paced_as}
+use Rattle.rg_rules.specs.Outside.Asks.{is_managed, managed_by, paced_as}
 use Rattle.rg_rules.specs.State.{State, active}
 use Rattle.rg_code.specs.Code.{Code}
 use Rattle.rg_heap.specs.declared.answers.Active.{Active}

@@ -10,7 +10,7 @@ use Rattle.rg_base.specs.declared.value.Val.{Val}
 use Rattle.rg_base.specs.declared.value.Val.TheVariants.{Nil, Int, Bool, Obj}
 use Rattle.rg_tree.specs.Tree.{Name, Variable, Right, new, Class}
 use Rattle.rg_tree.specs.Tree.{stmt, StmtKind, declare, assign}
-use Rattle.rg_rules.specs.Asks.{kind_makes, right_makes}
+use Rattle.rg_rules.specs.Outside.Asks.{kind_makes, right_makes}
 use Rattle.rg_rules.specs.Evaluation.{follow_fields, object_at, with_field}
 use Rattle.rg_rules.specs.Items.{Item, Do, EndAt, LeaveAt, Back}
 use Rattle.rg_rules.specs.Paths.{all_but_last, last_field}

@@ -7,7 +7,7 @@ use Rattle.rg_base.specs.declared.event.Cause.{Cause}
 use Rattle.rg_base.specs.declared.event.Cause.TheVariants.{Asked, Paced}
 use Rattle.rg_base.specs.declared.outcome.Outcome.TheVariants as outcome
 use Rattle.rg_tree.specs.Tree.{stmt, StmtKind, declare, assign, collect, Class, Tree}
-use Rattle.rg_rules.specs.Asks.{kind_makes}
+use Rattle.rg_rules.specs.Outside.Asks.{kind_makes}
 use Rattle.rg_rules.specs.Items.{Item, Do, EndAt, LeaveAt, Back}
 use Rattle.rg_rules.specs.State.{Frame as Body, State, Window as Opened}
 use Rattle.rg_sound.specs.Frames.{FramesFit}
