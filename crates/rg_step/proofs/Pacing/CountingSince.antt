@@ -27,8 +27,8 @@ use Rattle.rg_step.specs.Collections.{CollectsAsked, CollectsOn, Paces, Serves, 
 use Rattle.rg_step.specs.Pacers.{Asks}
 use Rattle.rg_step.specs.Steps.{Runs, StepsOn, is_made}
 use Rattle.rg_step.specs.Stepping.{Since, Stepping}
-use Rattle.rg_step.proofs.Active.{collected-manager}
-use Rattle.rg_step.proofs.Asked.{makes-due, paced-in}
+use Rattle.rg_step.proofs.Callers.Active.{collected-manager}
+use Rattle.rg_step.proofs.Pacing.Asked.{makes-due, paced-in}
 
 -- By what was answered
 

@@ -12,7 +12,7 @@ use Rattle.rg_machine.specs.Core.{Core, below_top, started, with_top}
 use Rattle.rg_machine.specs.Keeps.{Asks, GoesBack, GoesOn, GoesTo, SameBacks, WantsRoom, backs}
 use Rattle.rg_step.specs.Inner.Refusals.{asks_at, Stands}
 use Rattle.rg_step.specs.Inner.Refusals.{Asking, Unread, StillLeft}
-use Rattle.rg_step.proofs.Stands.{to-on}
+use Rattle.rg_step.proofs.Walking.Stands.{to-on}
 
 -- instructions that go on leave where frames go back
 pub on-backs : (m : Manner) (old new : Machine) → GoesOn m old new → SameBacks old new

@@ -25,9 +25,9 @@ use Rattle.rg_step.specs.Pacers.{Asks}
 use Rattle.rg_step.specs.States.{OneStep, Standing}
 use Rattle.rg_step.specs.Steps.{Runs, is_made}
 use Rattle.rg_step.specs.Stepping.{Stepping}
-use Rattle.rg_step.proofs.Active.{collected-manager, collected-region, shown-manager, shown-region}
-use Rattle.rg_step.proofs.Reached.{last-is, longer, serves-told, went-is}
-use Rattle.rg_step.proofs.Serve.{made-went}
+use Rattle.rg_step.proofs.Callers.Active.{collected-manager, collected-region, shown-manager, shown-region}
+use Rattle.rg_step.proofs.Callers.Reached.{last-is, longer, serves-told, went-is}
+use Rattle.rg_step.proofs.Callers.Serve.{made-went}
 
 -- a collection of a step with this number, from one state to the next
 pub record EventTold (t : Tree) (p q : State) (number : ℕ) (e : Event) : Type 0 where

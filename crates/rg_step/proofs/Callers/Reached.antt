@@ -32,7 +32,7 @@ use Rattle.rg_step.specs.Pacers.{Asks}
 use Rattle.rg_step.specs.Collections.{event_of}
 use Rattle.rg_step.specs.Steps.{StepsOn, is_made}
 use Rattle.rg_step.specs.Stepping.{Stepping}
-use Rattle.rg_step.proofs.Serve.{fits-behind, made-went}
+use Rattle.rg_step.proofs.Callers.Serve.{fits-behind, made-went}
 
 -- Events
 

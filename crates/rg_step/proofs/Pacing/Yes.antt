@@ -15,7 +15,7 @@ use Rattle.rg_step.specs.Yeses.{is_paced, raised}
 use Rattle.rg_step.specs.Collections.{CollectsAsked, CollectsOn, IsCollected, Paces, Serves, event_of}
 use Rattle.rg_step.specs.Pacers.{Asks}
 use Rattle.rg_step.specs.Stepping.{Stepping}
-use Rattle.rg_step.proofs.Active.{collected-manager}
+use Rattle.rg_step.proofs.Callers.Active.{collected-manager}
 
 -- so many events stand behind the first ones, and the pacers said yes as often
 abbrev Yeses : (events : List Event) → Stepping → (before after : Asks) → Type 0

@@ -32,8 +32,8 @@ use Rattle.rg_step.specs.Inner.Leaps.{GoesTo, with_left}
 use Rattle.rg_step.specs.Inner.Serving.{is_asked}
 use Rattle.rg_step.specs.States.{Raises}
 use Rattle.rg_step.specs.Steps.{IsResting, IsRunning, Runs, StepsOn}
-use Rattle.rg_step.proofs.KnownSteps.{goes-steps}
-use Rattle.rg_step.proofs.Shape.{lands, whole}
+use Rattle.rg_step.proofs.Shapes.KnownSteps.{goes-steps}
+use Rattle.rg_step.proofs.Shapes.Shape.{lands, whole}
 
 -- why a step may collect, where that is what it is for
 

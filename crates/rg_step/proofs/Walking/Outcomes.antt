@@ -1,5 +1,6 @@
 -- What is answered of a step, by what it did and printed.
 use Rattle.std.proofs.Common.{◌≡◌, ℕ, Bool as Truth, true, false, true≢false, List, Option, Some, None, refl, sym, ap, subst}
+use Rattle.rg_base.specs.declared.event.Cause.{Cause}
 use Rattle.rg_base.specs.declared.outcome.Outcome.{Outcome}
 use Rattle.rg_base.specs.declared.outcome.Outcome.TheVariants as outcome
 use Rattle.rg_base.specs.declared.value.Val.{Val}
@@ -9,14 +10,16 @@ use Rattle.rg_code.specs.Code.{Code}
 use Rattle.rg_stack.specs.Machine.{Machine}
 use Rattle.rg_stack.specs.Refusals.{Orderly}
 use Rattle.rg_machine.specs.Core.{Core}
+use Rattle.rg_machine.specs.Parts.{Parts}
 use Rattle.rg_step.specs.declared.step.Did.{Did}
 use Rattle.rg_step.specs.declared.step.Did.TheVariants as did
 use Rattle.rg_step.specs.Inner.Refusals.{DidLeaves, asks_at}
-use Rattle.rg_step.specs.Inner.Serving.{answer}
+use Rattle.rg_step.specs.Inner.Serving.{Instructed, answer}
 use Rattle.rg_step.specs.Inner.Walks.{StepIs}
-use Rattle.rg_step.specs.Steps.{IsRunning, StepsOn, is_made}
-use Rattle.rg_step.proofs.Run.{runs-on}
-use Rattle.rg_step.proofs.Run.{settles-running, settles-printed, settles-last, settles-done, settles-trap, settles-fault, settles-memory}
+use Rattle.rg_step.specs.Steps.{IsResting, IsRunning, StepsOn, is_made}
+use Rattle.rg_step.proofs.Frees.{none-frees, none-stays}
+use Rattle.rg_step.proofs.Walking.Run.{runs-on}
+use Rattle.rg_step.proofs.Walking.Run.{settles-running, settles-printed, settles-last, settles-done, settles-trap, settles-fault, settles-memory}
 
 -- a step comes where code leads
 pub never-lost : (code : Code) (c new : Core) (d : Did) (before after : Pending) (left still : Option (List ℕ)) → IsRunning code c.machine
@@ -69,3 +72,14 @@ answer-fault (did.Trapped kind line) printed e = absurd (true≢false (sym (ap i
 answer-fault did.InputFault printed e = refl
 answer-fault did.Memory printed e = absurd (true≢false (sym (ap is_fault e)))
 answer-fault did.Lost printed e = absurd (true≢false (sym (ap is_fault e)))
+
+-- where no memory was found at once, nothing was done
+pub instructed-nothing : (due : Option Cause) (p : Parts) → IsResting p → Instructed due p p outcome.Memory
+instructed-nothing due p rests = record {
+  refused = λ none. refl;
+  high = tt;
+  frees = none-frees p;
+  stays_gone = none-stays p;
+  still = λ asked. (refl, refl);
+  rests = rests;
+}

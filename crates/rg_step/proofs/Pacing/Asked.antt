@@ -23,10 +23,10 @@ use Rattle.rg_step.specs.Collections.{Paces, Serves}
 use Rattle.rg_step.specs.Pacers.{Asks}
 use Rattle.rg_step.specs.Steps.{Runs, StepsOn, is_made}
 use Rattle.rg_step.specs.Stepping.{Stepping}
-use Rattle.rg_step.proofs.Active.{shown-manager}
-use Rattle.rg_step.proofs.Paced.{first-paced, is_pace, next-stays}
-use Rattle.rg_step.proofs.Run.{with-input}
-use Rattle.rg_step.proofs.Serve.{made-went}
+use Rattle.rg_step.proofs.Callers.Active.{shown-manager}
+use Rattle.rg_step.proofs.Pacing.Paced.{first-paced, is_pace, next-stays}
+use Rattle.rg_step.proofs.Walking.Run.{with-input}
+use Rattle.rg_step.proofs.Callers.Serve.{made-went}
 
 -- By what was answered
 

@@ -41,7 +41,7 @@ use Rattle.rg_step.specs.Pacers.{Asks}
 use Rattle.rg_step.specs.Collections.{Unasked}
 use Rattle.rg_step.specs.Steps.{IsRunning, Runs, Settles, StepsOn, is_made}
 use Rattle.rg_step.specs.Stepping.{Stepping}
-use Rattle.rg_step.proofs.Run.{with-input}
+use Rattle.rg_step.proofs.Walking.Run.{with-input}
 
 -- Behind a step that was made
 

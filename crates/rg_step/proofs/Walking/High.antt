@@ -28,7 +28,7 @@ use Rattle.rg_step.specs.declared.step.Did.TheVariants as did
 use Rattle.rg_step.specs.Inner.High.{Calmed, DidMade, MayMake, OneAtMost, Untouched}
 use Rattle.rg_step.specs.Inner.Serving.{answer}
 use Rattle.rg_step.specs.States.{Raises}
-use Rattle.rg_step.proofs.Stands.{first-there, orderly-free}
+use Rattle.rg_step.proofs.Walking.Stands.{first-there, orderly-free}
 
 -- How many
 
