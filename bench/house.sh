@@ -57,6 +57,13 @@ cited = collections.defaultdict(set)
 for path in glob.glob("crates/**/*.antt", recursive=True) + glob.glob("crates/**/*.rt", recursive=True):
     for crate, module in re.findall(r"use Rattle\.(\w+)\.proofs\.([\w.]+)", read(path)):
         if crate != path.split("/")[1]: cited[crate].add(module)
+def is_open(below, place):
+    """Tells whether a folder of lemma modules is open, and all that it stands in."""
+    above, _, name = ("Lib." + place).rpartition(".")
+    above = above.removeprefix("Lib").lstrip(".")
+    text = read(f"{below}/{above.replace('.', '/') or 'Lib'}.antt")
+    return re.search(rf"(?m)^pub mod {name}$", text) is not None and (not above or is_open(below, above))
+
 open_, uncited = 0, []
 def names(path): return set(re.findall(r"(?m)^pub mod (\w+)", read(path)))
 def is_open(below, place):
@@ -69,6 +76,7 @@ for path in glob.glob("crates/*/proofs/**/*.antt", recursive=True):
     for module in names(path):
         full = module if place == "Lib" else f"{place}.{module}"
         if os.path.exists(f"{below}/{full.replace('.', '/')}"): continue
+        if place != "Lib" and not is_open(below, place): continue
         open_ += 1
         if not any(name == full or name.startswith(full + ".") for name in cited[crate]): uncited.append(f"{crate} {full}")
 for name in sorted(uncited): print(f"{name} is open to crates above, and none cites it")
