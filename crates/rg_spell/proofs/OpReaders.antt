@@ -12,7 +12,7 @@ use Rattle.rg_code.specs.Operands.{number_of, operands_of}
 use Rattle.rg_code.specs.Places.{is_mark}
 use Rattle.rg_spell.specs.declared.makings.TheConstants.{BLANKS}
 use Rattle.rg_spell.specs.Spelling.{operand_bytes, FitsOperand, op_bytes, FitsOp, map_bytes, FitsMap, row_bytes, FitsRow}
-use Rattle.rg_spell.specs.Makings.{with_operands}
+use Rattle.rg_spell.specs.Makings.{with_operands, of_parts}
 use Rattle.rg_spell.specs.Reading.{◌>>=◌, operand_at, operands_at, op_at, map_at, row_at}
 use Rattle.rg_spell.specs.Laws.{IsBytes, Takes, Reads}
 use Rattle.rg_spell.proofs.Readers.{IsBytes-rest, bind_some, some_is, Takes-then, reads_four, reads_eight, reads_signed}
@@ -90,6 +90,10 @@ with_operands-has _ xs = record { number = refl; operands = refl }
 with_operands-same : (o : Op) → with_operands o (operands_of o) ≡ o
 with_operands-same (i.Mark n) = refl
 with_operands-same _ = refl
+
+pub of_parts-same : (o : Op) → of_parts (number_of o) (operands_of o) ≡ Some o
+of_parts-same (i.Mark n) = refl
+of_parts-same _ = refl
 
 -- What is read was written
 

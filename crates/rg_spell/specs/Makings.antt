@@ -1,11 +1,12 @@
 -- An instruction from its number and its operands (docs/architecture.md, "Modules").
-use Rattle.std.specs.Prelude.{ℕ, ℤ, pos, Bool as Truth, false, List, [], ◌∷◌}
+use Rattle.std.specs.Prelude.{ℕ, ℤ, pos, Bool as Truth, false, List, [], ◌∷◌, slice_get, Option, option_map}
 use Rattle.rg_base.specs.declared.words.Manager.{Manager}
 use Rattle.rg_base.specs.declared.words.Manager.TheVariants as managers
 use Rattle.rg_code.specs.declared.op.Op.{Op}
 use Rattle.rg_code.specs.declared.op.Op.TheVariants as i
 use Rattle.rg_code.specs.declared.operands.Operand.{Operand}
 use Rattle.rg_code.specs.declared.operands.Operand.TheVariants as p
+use Rattle.rg_spell.specs.declared.makings.TheConstants.{BLANKS}
 
 -- What an operand has of each kind; what it doesn't have is 0, `false` or `arena`, and so is that of an operand that isn't there.
 
@@ -73,3 +74,7 @@ with_operands (i.EnterField k z) ps = i.EnterField (number (first ps)) (number (
 with_operands (i.Leave s) ps = i.Leave (number (first ps))
 with_operands (i.End s) ps = i.End (number (first ps))
 with_operands o ps = o
+
+-- the instruction with a number and operands, if the number is one's
+abbrev pub of_parts : (number : ℕ) → List Operand → Option Op
+of_parts n ps = option_map (λ o. with_operands o ps) (slice_get BLANKS n)
