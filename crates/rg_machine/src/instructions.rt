@@ -1,7 +1,7 @@
 //! One instruction (docs/architecture.md, "The machine").
 
 ghost use Rattle.std.specs.Prelude.{◌<◌, ◌-◌, ◌^◌};
-ghost use Rattle.rg_base.specs.declared.value.Val.TheVariants.{Bool};
+ghost use Rattle.rg_code.specs.declared.op.Op.TheVariants as i;
 ghost use Rattle.rg_machine.specs.Acts.{Does, DoesAt};
 ghost use Rattle.rg_machine.specs.Core.{Given};
 ghost use Rattle.rg_machine.specs.Cores.{core_of};
