@@ -2,10 +2,12 @@
 use Rattle.std.proofs.Common.{◌≡◌, ℕ, suc, ◌+◌, ◌<◌, ◌≤◌, Bool as Truth, List, [], ◌∷◌, ◌++◌, drop, length, map, slice_get, reverse}
 use Rattle.std.proofs.Common.{Global, option_map, Option, Some, None, Ok, Err, Vec, refl, sym, ap, subst, ◌∙◌, arith}
 use Rattle.std.proofs.lemmas.List.{drop_all, reverse-append, length-append}
-use Rattle.std.proofs.lemmas.List.Elements.{All-nil, All-cons}
+use Rattle.std.proofs.lemmas.List.Elements.{All-cons}
 use Rattle.rg_base.proofs.Callers.Lists.{drop-here}
 use Rattle.rg_tree.specs.Rows.Tables.{Tables}
 use Rattle.rg_tree.specs.Rows.RowsExist.{IsExprNumber}
+use Rattle.rg_tree.specs.Adds.{Extends}
+use Rattle.rg_tree.proofs.Adding.{extends-same, extends-trans, means-later}
 use Rattle.rg_code.specs.declared.op.Op.{Op}
 use Rattle.rg_verify.specs.declared.part.Part.{Part}
 use Rattle.rg_verify.specs.declared.held.Held.{Held}
@@ -14,10 +16,9 @@ use Rattle.rg_verify.specs.declared.refusal.Refusal.TheVariants as refusal
 use Rattle.rg_verify.specs.Raised.{Raised, named}
 use Rattle.rg_verify.specs.Parts.{part_of}
 use Rattle.rg_verify.specs.Raises.{RaisesAll}
-use Rattle.rg_verify.specs.Rows.{Extends, AreTrees}
+use Rattle.rg_verify.specs.Rows.{AreTrees}
 use Rattle.rg_verify.specs.Raising.{Item, tree, waits, act, walk, trees, raised}
-use Rattle.rg_verify.specs.Inner.Stacks.{Piled, IsPiled, Holds, Makes, Walks, TakesRow, MakesRows}
-use Rattle.rg_verify.proofs.Row.{extends-same, extends-trans, means-later}
+use Rattle.rg_verify.specs.Inner.Stacks.{Piled, Holds, Makes, Walks, TakesRow, MakesRows}
 use Rattle.rg_verify.proofs.Raises.{raised-stand}
 use Rattle.rg_verify.proofs.Again.{stand-raised}
 
@@ -91,9 +92,6 @@ module _ {t u : Tables} {m : Truth} {ops : List Op} {from at : ℕ} {hs : List H
           let no : act p (suc at) w.items ≡ None = subst (λ (n : ℕ). act p n w.items ≡ None) one (h w.items w.holds.piled) in
           sym w.same ∙ goes_on None no
 
-  pub walking-pile : IsPiled u m hs
-  walking-pile = (w.items, w.holds.piled)
-
 -- The rows of the trees
 
 -- rows of the topmost trees, the topmost first, and the trees that are left
@@ -104,16 +102,6 @@ pub record Taking (t u : Tables) (m : Truth) (hs : List Held) (rows : List ℕ) 
   pub piled : Piled u m hs items
   pub rows_are : AreTrees u (reverse rows) (map (named m) done)
   pub same : trees items done ≡ wanted
-
-pub taking-start : (t : Tables) (m : Truth) (hs : List Held) (items : List Item) → Piled t m hs items → Taking t t m hs [] (trees items [])
-taking-start t m hs items p = record {
-  items = items;
-  done = [];
-  extends = extends-same t;
-  piled = p;
-  rows_are = record { is = λ u k. refl; there = λ u k. All-nil (IsExprNumber u) };
-  same = refl;
-}
 
 taken-by : (t u v : Tables) (m : Truth) (news : List Held) (rows : List ℕ) (n : ℕ) (wanted : Option (List Raised)) (items : List Item)
     (done : List Raised) → Extends t u → AreTrees u (reverse rows) (map (named m) done) → trees items done ≡ wanted → TakesRow u v m news items (Ok n)
@@ -190,8 +178,6 @@ walk-refused t u m ops at refusal.NotExpression h = refuses t u m ops at (raised
 
 module _ (t u v : Tables) (m : Truth) (ops : List Op) (at end : ℕ) (stack : Vec Held Global)
     (h : Walks t u m (walk ops at []) (Ok (stack, end))) where
-  pub walk-pile : IsPiled u m stack.items
-  walk-pile = let (items, e, holds) = h in (items, holds.piled)
 
   pub rows-refused : (e : Refusal) → ((items : List Item) → Piled u m stack.items items → MakesRows u v m (trees items []) (Err e))
       → RaisesAll t v m ops at (Err e)

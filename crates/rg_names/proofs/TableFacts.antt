@@ -1,4 +1,4 @@
--- For crates above: what the table of a program says of the tree behind its clauses.
+-- What the table of a program says of the tree behind its clauses.
 use Rattle.std.proofs.Common.{◌≡◌, refl, ℕ, suc, ◌<◌, List, [], ◌∷◌, map, length, slice_get, All, Option, Some, None, IfSome, Ok, sym, ap, subst, ◌∙◌}
 use Rattle.std.proofs.lemmas.List.{length-map}
 use Rattle.std.proofs.lemmas.List.Elements.{All-nil, All-cons, All-head, All-tail}
