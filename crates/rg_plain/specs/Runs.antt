@@ -5,9 +5,9 @@ use Rattle.rg_base.specs.declared.outcome.Ended.TheVariants as ended
 use Rattle.rg_io.specs.Content.{Appends, AppendsUpTo}
 use Rattle.rg_tree.specs.Rows.Tables.{Tables}
 use Rattle.rg_rules.specs.State.{State}
-use Rattle.rg_rules.specs.Inputs.{first_asks}
+use Rattle.rg_rules.specs.Outside.Inputs.{first_asks}
 use Rattle.rg_rules.specs.Runs.{Ending, Running, Done, Stopped}
-use Rattle.rg_rules.specs.Texts.{ran, text_of, added}
+use Rattle.rg_rules.specs.Outside.Texts.{ran, text_of, added}
 use Rattle.rg_plain.specs.Machine.{Machine, state_of}
 
 -- the answer of a run that stands so after all its steps

@@ -4,7 +4,7 @@ ghost use Rattle.std.specs.Prelude.{◌≡◌, ◌≢◌, ◌≤◌, [], IfOk, O
 ghost use Rattle.std.specs.Prelude.{true, ℕ};
 ghost use Rattle.rg_tree.specs.Rows.RowTrees.{program_of};
 ghost use Rattle.rg_rules.specs.Acceptance.{Accepted};
-ghost use Rattle.rg_rules.specs.Inputs.{first_asks};
+ghost use Rattle.rg_rules.specs.Outside.Inputs.{first_asks};
 ghost use Rattle.rg_io.specs.Content.{Rose};
 ghost use Rattle.rg_input.specs.Numbers.{Follows, OnInput};
 ghost use Rattle.rg_names.specs.TableOf.{IsTableOf};

@@ -19,7 +19,7 @@ ghost use Rattle.std.specs.Prelude.{◌++◌, ◌∷◌, ◌≡◌, ◌≢◌, �
 ghost use Rattle.rg_tree.specs.Rows.RowTrees.{kind_over, stmt_at};
 ghost use Rattle.rg_tree.specs.Rows.RowsExist.{IsKindIn};
 ghost use Rattle.rg_tree.specs.Tree.{collect};
-ghost use Rattle.rg_rules.specs.Inputs.{first_asks, kind_asks};
+ghost use Rattle.rg_rules.specs.Outside.Inputs.{first_asks, kind_asks};
 ghost use Rattle.rg_io.specs.Content.{Rose};
 ghost use Rattle.rg_input.specs.Numbers.{Follows, OnInput};
 ghost use Rattle.rg_plain.specs.Fits.{PartsFit};

@@ -6,11 +6,11 @@ pub mod Headers
 pub mod Environment
 pub mod Paths
 pub mod Expressions
+pub mod Sides
 pub mod Rights
 pub mod Statements
 pub mod Names
 pub mod Items
-pub mod Inputs
 pub mod Bodies
 pub mod Points
 pub mod Acceptance
@@ -21,7 +21,6 @@ pub mod Regions
 pub mod RightSides
 pub mod Steps
 pub mod Runs
-pub mod Texts
+pub mod Outside
 pub mod Owners
 pub mod Reach
-pub mod Asks

@@ -11,7 +11,7 @@ use Rattle.rg_base.specs.declared.words.Manager.TheVariants.{Count, Trace}
 use Rattle.rg_tree.specs.Tree.{stmt, StmtKind, declare, assign, call, swap, branch, while, enter, print, collect, return, Class}
 use Rattle.rg_tree.specs.Rows.Tables.{Tables}
 use Rattle.rg_tree.specs.Rows.RowTrees.{program_of}
-use Rattle.rg_rules.specs.Asks.{asks, asks_then, asks_after, asks_on, asks_from, item_makes, is_managed, kind_makes}
+use Rattle.rg_rules.specs.Outside.Asks.{asks, asks_then, asks_after, asks_on, asks_from, item_makes, is_managed, kind_makes}
 use Rattle.rg_rules.specs.Items.{Item, Do, EndAt, LeaveAt, Back}
 use Rattle.rg_rules.specs.State.{State}
 use Rattle.rg_rules.specs.Steps.{Stepped, Went, Trapped, step_item, step_first, next}

@@ -11,7 +11,7 @@ use Rattle.rg_io.specs.Content.{Appends, AppendsPart}
 use Rattle.rg_tree.specs.Tree.{Tree}
 use Rattle.rg_tree.specs.Rows.Tables.{Tables}
 use Rattle.rg_tree.specs.Rows.RowTrees.{program_of}
-use Rattle.rg_rules.specs.Inputs.{first_asks}
+use Rattle.rg_rules.specs.Outside.Inputs.{first_asks}
 use Rattle.rg_rules.specs.State.{State}
 use Rattle.rg_input.specs.Numbers.{Pending, OnInput}
 use Rattle.rg_input.proofs.Input.{OnInput-map, OnInput-both as turn}

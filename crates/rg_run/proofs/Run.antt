@@ -12,12 +12,12 @@ use Rattle.rg_io.specs.Content.{Appends, AppendsPart}
 use Rattle.rg_tree.specs.Tree.{Class, Tree, Block, empty as none, then as followed_by}
 use Rattle.rg_tree.specs.Rows.Tables.{Tables}
 use Rattle.rg_tree.specs.Rows.RowTrees.{program_of, block_of}
-use Rattle.rg_rules.specs.Asks.{asks_from}
+use Rattle.rg_rules.specs.Outside.Asks.{asks_from}
 use Rattle.rg_rules.specs.Items.{Item, EndAt, items_of}
 use Rattle.rg_rules.specs.State.{State}
 use Rattle.rg_rules.specs.Steps.{Stepped, Went, Trapped, step_item}
 use Rattle.rg_rules.specs.Runs.{Done, opening, plain, plain_from}
-use Rattle.rg_rules.specs.Texts.{text_of, added}
+use Rattle.rg_rules.specs.Outside.Texts.{text_of, added}
 use Rattle.rg_input.specs.Numbers.{Pending, OnInput}
 use Rattle.rg_input.proofs.Input.{OnInput-still}
 use Rattle.rg_code.specs.Code.{Code}

@@ -8,7 +8,7 @@ use Rattle.rg_base.specs.declared.event.Event.{Event}
 use Rattle.rg_base.specs.declared.words.Manager.{Manager}
 use Rattle.rg_base.specs.declared.words.Manager.TheVariants.{Count, Trace}
 use Rattle.rg_pace.specs.Asked.{one_more}
-use Rattle.rg_rules.specs.Asks.{asks, asks_then}
+use Rattle.rg_rules.specs.Outside.Asks.{asks, asks_then}
 use Rattle.rg_tree.specs.Tree.{Tree}
 use Rattle.rg_step.specs.Asking.{since_behind}
 use Rattle.rg_step.specs.Yeses.{paced_by, raised}

@@ -10,7 +10,7 @@ use Rattle.rg_base.specs.declared.words.Manager.TheVariants.{Count, Trace}
 use Rattle.rg_tree.specs.Tree.{Class}
 use Rattle.rg_tree.specs.Rows.Tables.{Tables}
 use Rattle.rg_tree.specs.Rows.RowTrees.{program_of}
-use Rattle.rg_rules.specs.Asks.{asks, asks_from}
+use Rattle.rg_rules.specs.Outside.Asks.{asks, asks_from}
 use Rattle.rg_rules.specs.State.{State}
 use Rattle.rg_rules.specs.Steps.{Went, next}
 use Rattle.rg_rules.specs.Runs.{opening, plain_from}

@@ -4,7 +4,7 @@ use Rattle.rg_base.specs.declared.event.Event.{Event}
 use Rattle.rg_base.specs.declared.words.Manager.{Manager}
 use Rattle.rg_base.specs.declared.words.Manager.TheVariants.{Count, Trace}
 use Rattle.rg_tree.specs.Tree.{Tree}
-use Rattle.rg_rules.specs.Asks.{asks}
+use Rattle.rg_rules.specs.Outside.Asks.{asks}
 use Rattle.rg_step.specs.Yeses.{paced_by, raised}
 use Rattle.rg_step.specs.Pacers.{Asks}
 use Rattle.rg_run.specs.Machine.{Kept}
@@ -13,6 +13,10 @@ use Rattle.rg_run.specs.Machine.{Kept}
 pub record AskedOver (t : Tree) (input : List ℕ) (steps : ℕ) (before after : Asks) : Type 0 where
   pub count : after.count.asks ≡ raised (length (asks t input steps Count)) before.count.asks
   pub trace : after.trace.asks ≡ raised (length (asks t input steps Trace)) before.trace.asks
+
+-- neither pacer was tuned
+abbrev pub SameTuned : (before after : Asks) → Type 0
+SameTuned before after = (after.count.tuned ≡ before.count.tuned) × (after.trace.tuned ≡ before.trace.tuned)
 
 -- the step of the last of these collections that the pacer of a manager said yes to, and this number where there is none
 abbrev pub last_behind : Manager → (found : ℕ) → List Event → ℕ

@@ -6,7 +6,7 @@ use Rattle.rg_tree.specs.Tree.{Class, Tree}
 use Rattle.rg_tree.specs.Rows.Tables.{Tables}
 use Rattle.rg_tree.specs.Rows.RowTrees.{classes_of, program_of}
 use Rattle.rg_rules.specs.State.{Local, Frame, State, frame_at}
-use Rattle.rg_rules.specs.Inputs.{first_asks}
+use Rattle.rg_rules.specs.Outside.Inputs.{first_asks}
 use Rattle.rg_rules.specs.Runs.{plain}
 use Rattle.rg_sound.specs.Fit.{Fit}
 use Rattle.rg_sound.specs.Held.{IsHeld, NoneStale, LiveFit}

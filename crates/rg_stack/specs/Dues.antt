@@ -3,7 +3,7 @@ use Rattle.std.specs.Prelude.{Bool as Truth, true, false, List, [], ◌∷◌, O
 use Rattle.rg_base.specs.declared.event.Cause.{Cause}
 use Rattle.rg_base.specs.declared.event.Cause.TheVariants.{Asked, Paced}
 use Rattle.rg_tree.specs.Tree.{stmt, StmtKind, declare, assign, call, swap, branch, while, enter, print, collect, return, Class}
-use Rattle.rg_rules.specs.Asks.{kind_makes}
+use Rattle.rg_rules.specs.Outside.Asks.{kind_makes}
 use Rattle.rg_rules.specs.Items.{Item, Do, EndAt, LeaveAt, Back}
 
 -- a statement that makes an object by `new C` may

@@ -7,7 +7,7 @@ use Rattle.rg_base.specs.declared.event.Event.{Event}
 use Rattle.rg_base.specs.declared.outcome.Outcome.{Outcome}
 use Rattle.rg_base.specs.declared.outcome.Outcome.TheVariants as outcome
 use Rattle.rg_tree.specs.Tree.{Class, Tree}
-use Rattle.rg_rules.specs.Asks.{item_makes, is_managed}
+use Rattle.rg_rules.specs.Outside.Asks.{item_makes, is_managed}
 use Rattle.rg_rules.specs.Items.{Item}
 use Rattle.rg_rules.specs.State.{State}
 use Rattle.rg_code.specs.Code.{Code}

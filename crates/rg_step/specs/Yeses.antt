@@ -4,7 +4,7 @@ use Rattle.rg_base.specs.declared.words.Manager.{Manager}
 use Rattle.rg_base.specs.declared.event.Cause.{Cause}
 use Rattle.rg_base.specs.declared.event.Cause.TheVariants.{Asked, Paced}
 use Rattle.rg_base.specs.declared.event.Event.{Event}
-use Rattle.rg_rules.specs.Asks.{paced_as}
+use Rattle.rg_rules.specs.Outside.Asks.{paced_as}
 use Rattle.rg_pace.specs.Asked.{one_more}
 
 -- one more so often; the greatest u64 stays

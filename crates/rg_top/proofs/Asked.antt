@@ -9,7 +9,7 @@ use Rattle.rg_io.specs.Files.{Told}
 use Rattle.rg_tree.specs.Rows.Tables.{Tables}
 use Rattle.rg_tree.specs.Rows.RowTrees.{program_of}
 use Rattle.rg_rules.specs.Acceptance.{Accepted}
-use Rattle.rg_rules.specs.Asks.{asks, asks_from}
+use Rattle.rg_rules.specs.Outside.Asks.{asks, asks_from}
 use Rattle.rg_rules.specs.Runs.{opening, plain}
 use Rattle.rg_rules.specs.State.{State}
 use Rattle.rg_code.specs.Code.{Code}

@@ -15,7 +15,7 @@ use Rattle.rg_rules.specs.Acceptance.{Accepted, first_fault}
 use Rattle.rg_rules.specs.State.{State}
 use Rattle.rg_rules.specs.Runs.{Ending, Running, Done, Stopped, opening}
 use Rattle.rg_rules.specs.Runs as rules
-use Rattle.rg_rules.specs.Texts.{text_of, added}
+use Rattle.rg_rules.specs.Outside.Texts.{text_of, added}
 use Rattle.rg_run.specs.Machine.{Kept, IsFresh, Shows, numbers_of}
 use Rattle.rg_run.specs.Sound.{IsSound, Stands, NeverAsks}
 use Rattle.rg_run.proofs.Sound.{run-is-sound, stands-shown}

@@ -7,7 +7,7 @@ use Rattle.rg_base.specs.declared.outcome.Ended.{Ended}
 use Rattle.rg_tree.specs.Tree.{Tree}
 use Rattle.rg_tree.specs.Rows.Tables.{Tables}
 use Rattle.rg_tree.specs.Rows.RowTrees.{program_of}
-use Rattle.rg_rules.specs.Asks.{asks}
+use Rattle.rg_rules.specs.Outside.Asks.{asks}
 use Rattle.rg_code.specs.Code.{Code}
 use Rattle.rg_code.specs.Lowering.{Lowers}
 use Rattle.rg_step.specs.Yeses.{paced_by, raised}

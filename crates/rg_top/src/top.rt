@@ -34,9 +34,10 @@ ghost use Rattle.rg_top.specs.Headline.{steps_asked};
 ghost use Rattle.rg_top.specs.Asked.{Unasked, RunAsks, SayYes, input_for};
 ghost use Rattle.rg_top.specs.Inner.Settled.{status_of_ended, PutLine, Settles, Brings, Serves};
 ghost use Rattle.rg_top.specs.Inner.Settled.{CausedBeside, CausedByOutput, Tunes, Chooses};
-ghost use Rattle.rg_top.specs.Inner.Settled.{AskedCommand, AskedFrom, RunAsked};
 ghost use Rattle.rg_top.specs.Inner.Setting.{IsLent, SlidesOn, RanIn, SettlesIn, SettlesCommandIn};
 ghost use Rattle.rg_top.specs.Inner.Setting.{ReportedIn, CausedIn};
+ghost use Rattle.rg_top.specs.Inner.Tallies.{TunedTo, TunedAsBefore, RunAskedOf, AskedFromOf};
+ghost use Rattle.rg_top.specs.Inner.Tallies.{AskedCommandOf, SayYesOf};
 
 use crate::no_input::NoInput;
 use crate::notes::{tell, tell_behind};
@@ -112,24 +113,24 @@ fn run_code<I: Source, O: Sink, R: Sink>(
         Runs origin source (program_of lowered.now.accepted.now.program) →
         RanIn O.taken origin options.steps source (I.left input.old) result
         setting.old setting.new (input.new ≡ input.old)
-        × RunAsked origin source (I.left input.old) setting.new.machine.now
-        (asks count.old) (asks count.new) (asks trace.old) (asks trace.new) }
+        × RunAskedOf origin source (I.left input.old) setting.new.machine.now
+        (tally count.old) (tally count.new) (tally trace.old) (tally trace.new) }
     ensures notes { ReportedIn R.taken options.report result setting.old setting.new }
-    ensures tuned { (tuned count.new ≡ tuned count.old) × (tuned trace.new ≡ tuned trace.old) }
-    ensures yeses { SayYes setting.new.machine.now
-        (yeses count.old) (yeses count.new) (yeses trace.old) (yeses trace.new) }
+    ensures tuned { TunedAsBefore (tally count.old) (tally count.new)
+        (tally trace.old) (tally trace.new) }
+    ensures yeses { SayYesOf setting.new.machine.now
+        (tally count.old) (tally count.new) (tally trace.old) (tally trace.new) }
     ensures caused { CausedIn O.faults R.faults result (I.faults input.old) (I.faults input.new)
         setting.old setting.new }
     ensures kept { IsLent setting.old setting.new × SlidesOn setting.old setting.new }
 {
-    let mut numbers = Numbers::new();
     let ran = setting.machine.run(
         setting.alloc,
         lowered.accepted,
         &lowered.code,
         options.steps,
         options.report,
-        &mut numbers,
+        &mut Numbers::new(),
         input,
         setting.out,
         setting.notes,
@@ -154,13 +155,13 @@ fn run_accepted<I: Source, O: Sink, R: Sink>(
         RanIn O.taken origin options.steps source (I.left input.old) result
         setting.old setting.new (input.new ≡ input.old) }
     ensures notes { ReportedIn R.taken options.report result setting.old setting.new }
-    ensures tuned { (tuned count.new ≡ options.every) × (tuned trace.new ≡ options.every) }
+    ensures tuned { TunedTo options.every (tally count.new) (tally trace.new) }
     ensures asked { (origin : Origin) (source : List ℕ) →
         Runs origin source (program_of accepted.now.program) →
-        RunAsked origin source (I.left input.old) setting.new.machine.now
-        (asks count.old) (asks count.new) (asks trace.old) (asks trace.new) }
-    ensures yeses { SayYes setting.new.machine.now
-        (yeses count.old) (yeses count.new) (yeses trace.old) (yeses trace.new) }
+        RunAskedOf origin source (I.left input.old) setting.new.machine.now
+        (tally count.old) (tally count.new) (tally trace.old) (tally trace.new) }
+    ensures yeses { SayYesOf setting.new.machine.now
+        (tally count.old) (tally count.new) (tally trace.old) (tally trace.new) }
     ensures caused { CausedIn O.faults R.faults result (I.faults input.old) (I.faults input.new)
         setting.old setting.new }
     ensures kept { IsLent setting.old setting.new × SlidesOn setting.old setting.new }
@@ -203,13 +204,13 @@ fn run_program<I: Source, O: Sink, R: Sink>(
         source (I.left input.old) result setting.old setting.new (input.new ≡ input.old) }
     ensures notes { ReportedIn R.taken options.report result setting.old setting.new }
     ensures tuned { ¬ IsFresh setting.new.machine.now →
-        (tuned count.new ≡ options.every) × (tuned trace.new ≡ options.every) }
+        TunedTo options.every (tally count.new) (tally trace.new) }
     ensures slides { setting.new.machine.now.stepper.slides ≡ options.slides }
     ensures asked { (file source : List ℕ) → Means source (spelt (program_of program)) →
-        RunAsked (in_file file) source (I.left input.old) setting.new.machine.now
-        (asks count.old) (asks count.new) (asks trace.old) (asks trace.new) }
-    ensures yeses { SayYes setting.new.machine.now
-        (yeses count.old) (yeses count.new) (yeses trace.old) (yeses trace.new) }
+        RunAskedOf (in_file file) source (I.left input.old) setting.new.machine.now
+        (tally count.old) (tally count.new) (tally trace.old) (tally trace.new) }
+    ensures yeses { SayYesOf setting.new.machine.now
+        (tally count.old) (tally count.new) (tally trace.old) (tally trace.new) }
     ensures caused { CausedIn O.faults R.faults result (I.faults input.old) (I.faults input.new)
         setting.old setting.new }
     ensures lent { IsLent setting.old setting.new }
@@ -373,13 +374,13 @@ fn bulk_accepted<O: Sink, R: Sink>(
         Runs (generated size) source (program_of accepted.now.program) →
         SettlesIn O.taken (bulk size) source left result setting.old setting.new (Unit {0}) }
     ensures notes { R.taken setting.new.notes.now ≡ R.taken setting.old.notes.now }
-    ensures tuned { (tuned count.new ≡ 0) × (tuned trace.new ≡ 0) }
+    ensures tuned { TunedTo 0 (tally count.new) (tally trace.new) }
     ensures asked { (source : List ℕ) →
         Runs (generated size) source (program_of accepted.now.program) →
-        RunAsked (generated size) source (Some []) setting.new.machine.now
-        (asks count.old) (asks count.new) (asks trace.old) (asks trace.new) }
-    ensures yeses { SayYes setting.new.machine.now
-        (yeses count.old) (yeses count.new) (yeses trace.old) (yeses trace.new) }
+        RunAskedOf (generated size) source (Some []) setting.new.machine.now
+        (tally count.old) (tally count.new) (tally trace.old) (tally trace.new) }
+    ensures yeses { SayYesOf setting.new.machine.now
+        (tally count.old) (tally count.new) (tally trace.old) (tally trace.new) }
     ensures caused { CausedIn O.faults R.faults result 0 0 setting.old setting.new }
     ensures kept { IsLent setting.old setting.new × SlidesOn setting.old setting.new }
 {
@@ -413,13 +414,13 @@ fn bulk_program<O: Sink, R: Sink>(
         SettlesIn O.taken (bulk size) source left result setting.old setting.new (Unit {0}) }
     ensures notes { R.taken setting.new.notes.now ≡ R.taken setting.old.notes.now }
     ensures tuned { ¬ IsFresh setting.new.machine.now →
-        (tuned count.new ≡ 0) × (tuned trace.new ≡ 0) }
+        TunedTo 0 (tally count.new) (tally trace.new) }
     ensures asked { (source : List ℕ) →
         MeansFrom (generated size) source (spelt (program_of program)) →
-        RunAsked (generated size) source (Some []) setting.new.machine.now
-        (asks count.old) (asks count.new) (asks trace.old) (asks trace.new) }
-    ensures yeses { SayYes setting.new.machine.now
-        (yeses count.old) (yeses count.new) (yeses trace.old) (yeses trace.new) }
+        RunAskedOf (generated size) source (Some []) setting.new.machine.now
+        (tally count.old) (tally count.new) (tally trace.old) (tally trace.new) }
+    ensures yeses { SayYesOf setting.new.machine.now
+        (tally count.old) (tally count.new) (tally trace.old) (tally trace.new) }
     ensures caused { CausedIn O.faults R.faults result 0 0 setting.old setting.new }
     ensures kept { IsLent setting.old setting.new × SlidesOn setting.old setting.new }
 {
@@ -446,17 +447,17 @@ fn answer_program<I: Source, O: Sink, R: Sink>(
         MeansFrom (origin_of (command_of request.entry)) source (spelt (program_of program)) →
         SettlesIn O.taken (command_of request.entry) source (I.left input.old) result
         setting.old setting.new (input.new ≡ input.old)
-        × AskedFrom (origin_of (command_of request.entry)) source (I.left input.old)
+        × AskedFromOf (origin_of (command_of request.entry)) source (I.left input.old)
         setting.new.machine.now
-        (asks count.old) (asks count.new) (asks trace.old) (asks trace.new) }
+        (tally count.old) (tally count.new) (tally trace.old) (tally trace.new) }
     ensures reads_nothing { reads_input (command_of request.entry) ≡ false → input.new ≡ input.old }
     ensures notes { ReportedIn R.taken (reports (command_of request.entry)) result
         setting.old setting.new }
     ensures tuned { Tunes (command_of request.entry) setting.new.machine.now
-        (tuned count.new) (tuned trace.new) }
+        (tally count.new).tuned (tally trace.new).tuned }
     ensures slides { setting.new.machine.now.stepper.slides ≡ is_slide (command_of request.entry) }
-    ensures yeses { SayYes setting.new.machine.now
-        (yeses count.old) (yeses count.new) (yeses trace.old) (yeses trace.new) }
+    ensures yeses { SayYesOf setting.new.machine.now
+        (tally count.old) (tally count.new) (tally trace.old) (tally trace.new) }
     ensures caused { CausedIn O.faults R.faults result (I.faults input.old) (I.faults input.new)
         setting.old setting.new }
     ensures lent { IsLent setting.old setting.new }
@@ -546,13 +547,13 @@ fn answer<F: Files, I: Source, O: Sink, R: Sink>(
     ensures notes { ReportedIn R.taken (reports (command_of request.entry)) result
         setting.old setting.new }
     ensures tuned { Tunes (command_of request.entry) setting.new.machine.now
-        (tuned count.new) (tuned trace.new) }
+        (tally count.new).tuned (tally trace.new).tuned }
     ensures slides { Chooses (command_of request.entry) setting.new.machine.now }
-    ensures asked { AskedCommand (F.told files.old) (origin_of (command_of request.entry))
+    ensures asked { AskedCommandOf (F.told files.old) (origin_of (command_of request.entry))
         (I.left input.old) setting.new.machine.now
-        (asks count.old) (asks count.new) (asks trace.old) (asks trace.new) }
-    ensures yeses { SayYes setting.new.machine.now
-        (yeses count.old) (yeses count.new) (yeses trace.old) (yeses trace.new) }
+        (tally count.old) (tally count.new) (tally trace.old) (tally trace.new) }
+    ensures yeses { SayYesOf setting.new.machine.now
+        (tally count.old) (tally count.new) (tally trace.old) (tally trace.new) }
     ensures source_fault { result ≡ Status.SourceFault →
         Rose (F.faults files.old) (F.faults files.new) }
     ensures files_never_fall { F.faults files.old ≤ F.faults files.new }
@@ -632,16 +633,18 @@ pub fn reggio<F: Files, I: Source, O: Sink, R: Sink>(
         machine.new result (R.taken notes.old) (R.taken notes.new) }
     ensures tuned { (c : Command) → command (texts words.now) ≡ Some c → runs_on c ≡ true →
         ¬ IsFresh machine.new →
-        (tuned count.new ≡ every_of c) × (tuned trace.new ≡ every_of c) }
+        ((tally count.new).tuned ≡ every_of c) × ((tally trace.new).tuned ≡ every_of c) }
     ensures slides { (c : Command) → command (texts words.now) ≡ Some c →
         ¬ IsFresh machine.new → machine.new.stepper.slides ≡ is_slide c }
     ensures asked { Unasked machine.new
-        (asks count.old) (asks count.new) (asks trace.old) (asks trace.new)
+        (tally count.old).asks (tally count.new).asks (tally trace.old).asks (tally trace.new).asks
         ⊎ ForSource (F.told files.old) (I.left input.old) (texts words.now)
         (λ c source bytes. RunAsks (origin_of c) source (input_for (origin_of c) bytes) machine.new
-        (asks count.old) (asks count.new) (asks trace.old) (asks trace.new)) }
+        (tally count.old).asks (tally count.new).asks
+        (tally trace.old).asks (tally trace.new).asks) }
     ensures yeses { SayYes machine.new
-        (yeses count.old) (yeses count.new) (yeses trace.old) (yeses trace.new) }
+        (tally count.old).yeses (tally count.new).yeses
+        (tally trace.old).yeses (tally trace.new).yeses }
     ensures owned { (t : Tables) (bytes : List ℕ) (n : ℕ) → Stands t bytes n machine.new →
         IsOwned machine.new.stepper.parts }
     ensures output_fault_told { result ≡ Status.OutputFault →

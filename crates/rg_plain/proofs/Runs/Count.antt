@@ -8,7 +8,7 @@ use Rattle.rg_tree.specs.Rows.Tables.{Tables}
 use Rattle.rg_tree.specs.Rows.RowTrees.{classes_of}
 use Rattle.rg_input.specs.Numbers.{Pending, OnInput}
 use Rattle.rg_input.proofs.Input.{OnInput-both}
-use Rattle.rg_rules.specs.Inputs.{first_asks}
+use Rattle.rg_rules.specs.Outside.Inputs.{first_asks}
 use Rattle.rg_rules.specs.State.{State}
 use Rattle.rg_rules.specs.Steps.{next}
 use Rattle.rg_plain.specs.Inner.Counts.{CountIs}

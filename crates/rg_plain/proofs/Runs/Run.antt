@@ -18,10 +18,10 @@ use Rattle.rg_rules.specs.State.{State}
 use Rattle.rg_rules.specs.Steps.{next, Went, Trapped}
 use Rattle.rg_rules.specs.Runs.{Ending, Running, Done, Stopped, Ran, ending_of, plain_from}
 use Rattle.rg_rules.proofs.Run.{one_more, one_more-went, one_more-trapped, one_more-done, plain_from-suc, plain_from-stays}
-use Rattle.rg_rules.specs.Inputs.{first_asks}
+use Rattle.rg_rules.specs.Outside.Inputs.{first_asks}
 use Rattle.rg_plain.specs.Outcomes.{Settles}
 use Rattle.rg_plain.specs.Runs.{answer, StandsAt, CutOff, CutAtInput, Whole, NoneAsks}
-use Rattle.rg_rules.specs.Texts.{ran, output_after, text_of, added}
+use Rattle.rg_rules.specs.Outside.Texts.{ran, output_after, text_of, added}
 
 ending-some : (items : List Item) → items ≢ [] → ending_of items ≡ Running
 ending-some [] some = absurd (some refl)

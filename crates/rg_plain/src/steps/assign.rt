@@ -4,7 +4,7 @@ ghost use Rattle.std.specs.Prelude.{◌≡◌, false};
 ghost use Rattle.rg_tree.specs.Rows.RowTrees.{expr_at, right_of};
 ghost use Rattle.rg_tree.specs.Rows.RowsExist.{IsExprNumber, IsRightIn};
 ghost use Rattle.rg_tree.specs.Tree.{value};
-ghost use Rattle.rg_rules.specs.Inputs.{asks};
+ghost use Rattle.rg_rules.specs.Outside.Inputs.{asks};
 ghost use Rattle.rg_plain.specs.Fits.{PartsFit};
 ghost use Rattle.rg_plain.specs.Inner.Spots.{LeftFits, statement_of};
 ghost use Rattle.rg_plain.specs.Inner.Steps.{Makes, Stands};

@@ -4,7 +4,7 @@ ghost use Rattle.std.specs.Prelude.{◌≡◌, false, ℕ};
 ghost use Rattle.rg_tree.specs.Rows.RowTrees.{kind_over, right_of, stmt_at};
 ghost use Rattle.rg_tree.specs.Rows.RowsExist.{IsKindIn};
 ghost use Rattle.rg_tree.specs.Rows.Tables.{Tables};
-ghost use Rattle.rg_rules.specs.Inputs.{asks, kind_asks};
+ghost use Rattle.rg_rules.specs.Outside.Inputs.{asks, kind_asks};
 ghost use Rattle.rg_plain.specs.Inner.Says.{SaysFits, SaysIs, asks_of, prints_of};
 ghost use Rattle.rg_plain.specs.Inner.Spots.{LeftFits, statement_of};
 ghost use Rattle.rg_plain.specs.Outcomes.{prints};

@@ -16,7 +16,7 @@ use Rattle.rg_rules.specs.Acceptance.{Accepted, first_fault}
 use Rattle.rg_rules.specs.Names.{FewNames}
 use Rattle.rg_rules.specs.Runs.{opening}
 use Rattle.rg_rules.specs.Runs as rules
-use Rattle.rg_rules.specs.Texts.{added}
+use Rattle.rg_rules.specs.Outside.Texts.{added}
 use Rattle.rg_run.specs.Machine.{Kept, IsFresh, numbers_of}
 use Rattle.rg_run.specs.Reports.{event_lines, AreCutLines}
 use Rattle.rg_run.specs.Sound.{Stands, NeverAsks}

@@ -1,7 +1,18 @@
-use Rattle.std.proofs.Common.{inl, refl}
+use Rattle.std.proofs.Common.{◌∙◌, ℕ, inl, refl, ap}
+use Rattle.rg_pace.specs.Asked.{Asked}
 use Rattle.rg_top.proofs.NoteLines.{quiet-memory}
 use Rattle.rg_top.proofs.Asked.{asked-tuned, yeses-tuned, yeses-fresh}
 use Rattle.rg_top.proofs.top.run_accepted.Goals as goal
+
+-- the fields of a tally
+abbrev asks : Asked → ℕ
+asks a = a.asks
+
+abbrev yeses : Asked → ℕ
+yeses a = a.yeses
+
+abbrev tuned : Asked → ℕ
+tuned a = a.tuned
 
 pub returns-clause-ran : goal.returns-clause-ran
 returns-clause-ran g c = λ origin source runs. (c.run_code.ensures.ran origin source runs).0
@@ -14,14 +25,21 @@ returns-in_default-clause-notes g c = quiet-memory c.args.options.report c.args.
 
 pub returns-clause-asked : goal.returns-clause-asked
 returns-clause-asked g c = λ origin source runs.
-    asked-tuned origin source _ _ _ _ _ _ _ _ c.tune.ensures.1.0 c.tune-2.ensures.1.0 (c.run_code.ensures.ran origin source runs).1
+    asked-tuned origin source _ _ _ _ _ _ _ _ (ap asks c.tune.ensures) (ap asks c.tune-2.ensures) (c.run_code.ensures.ran origin source runs).1
 
 pub returns-clause-yeses : goal.returns-clause-yeses
-returns-clause-yeses g c = yeses-tuned _ _ _ _ _ _ _ c.tune.ensures.1.1.0 c.tune-2.ensures.1.1.0 c.run_code.ensures.yeses
+returns-clause-yeses g c = yeses-tuned _ _ _ _ _ _ _ (ap yeses c.tune.ensures) (ap yeses c.tune-2.ensures) c.run_code.ensures.yeses
+
+pub returns-clause-tuned : goal.returns-clause-tuned
+returns-clause-tuned g c =
+    let run = c.run_code.ensures.tuned in (run.0 ∙ ap tuned c.tune.ensures, run.1 ∙ ap tuned c.tune-2.ensures)
 
 pub returns-in_default-clause-asked : goal.returns-in_default-clause-asked
 returns-in_default-clause-asked g c = λ origin source runs.
-    inl (record { fresh = c.requires; count = c.tune.ensures.1.0; trace = c.tune-2.ensures.1.0 })
+    inl (record { fresh = c.requires; count = ap asks c.tune.ensures; trace = ap asks c.tune-2.ensures })
 
 pub returns-in_default-clause-yeses : goal.returns-in_default-clause-yeses
-returns-in_default-clause-yeses g c = yeses-fresh _ _ _ _ _ c.requires c.tune.ensures.1.1.0 c.tune-2.ensures.1.1.0
+returns-in_default-clause-yeses g c = yeses-fresh _ _ _ _ _ c.requires (ap yeses c.tune.ensures) (ap yeses c.tune-2.ensures)
+
+pub returns-in_default-clause-tuned : goal.returns-in_default-clause-tuned
+returns-in_default-clause-tuned g c = (ap tuned c.tune.ensures, ap tuned c.tune-2.ensures)

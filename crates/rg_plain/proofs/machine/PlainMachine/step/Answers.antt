@@ -5,7 +5,7 @@ use Rattle.rg_plain.specs.Fits.{PartsFit}
 use Rattle.rg_plain.specs.Outcomes.{EndsMain}
 use Rattle.rg_plain.specs.Inner.Inputs.{SettlesOn}
 use Rattle.rg_plain.specs.Kept.{kept_of, shown}
-use Rattle.rg_rules.specs.Inputs.{first_asks}
+use Rattle.rg_rules.specs.Outside.Inputs.{first_asks}
 use Rattle.rg_plain.specs.Machine.{Machine, KeepsFit, StepsOn}
 use Rattle.rg_plain.proofs.Rows.Machine.{fits_parts, fits_again, settles_as}
 use Rattle.rg_plain.proofs.Runs.Sound.{steps-keep}
