@@ -5,7 +5,6 @@
 //! gives a status's text to the notes. `run_process` is a whole process, `main`'s one call.
 #![tactic(auto)]
 
-mod no_input;
 mod notes;
 mod process;
 mod setting;

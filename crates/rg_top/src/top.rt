@@ -39,9 +39,8 @@ ghost use Rattle.rg_top.specs.Inner.Setting.{ReportedIn, CausedIn};
 ghost use Rattle.rg_top.specs.Inner.Tallies.{TunedTo, TunedAsBefore, RunAskedOf, AskedFromOf};
 ghost use Rattle.rg_top.specs.Inner.Tallies.{AskedCommandOf, SayYesOf};
 
-use crate::no_input::NoInput;
 use crate::notes::{tell, tell_behind};
-use crate::setting::Setting;
+use crate::setting::{NoInput, Setting};
 use crate::status::Status;
 use crate::words::{self, Request, RunOptions};
 use rg_base::{Ended, Fault, MOST_STEPS, SOURCE_BYTES, Stop};

@@ -20,10 +20,9 @@ pub(crate) const USUAL_EVERY: u64 = 1_000;
 /// The greatest number of `--every`.
 pub(crate) const MOST_EVERY: u64 = 1_000_000_000;
 
-/// How `run` or `slide` runs a program.
+/// How `run` or `slide` runs a program: `slides` is whether what a collection keeps moves.
 #[derive(Clone, Copy)]
 pub(crate) struct RunOptions {
-    /// whether what a collection of a traced region keeps moves
     pub(crate) slides: bool,
     pub(crate) steps: u64,
     pub(crate) every: u64,
