@@ -17,3 +17,4 @@ mod variables;
 pub use instructions::act;
 pub use machine::Machine;
 pub use next::Next;
+pub use scalars::{leads_nowhere, truth};

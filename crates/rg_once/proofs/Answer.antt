@@ -27,9 +27,9 @@ use Rattle.rg_step.specs.Collections.{CollectsAsked, CollectsOn, GathersBy, IsCo
 use Rattle.rg_step.specs.States.{OneStep, Standing}
 use Rattle.rg_step.specs.Steps.{Runs, is_made}
 use Rattle.rg_step.specs.Stepping.{Stepping}
-use Rattle.rg_step.proofs.Active.{active-of}
-use Rattle.rg_step.proofs.Reached.{last-is, longer, serves-told, went-is}
-use Rattle.rg_step.proofs.Serve.{made-went}
+use Rattle.rg_step.proofs.Callers.Active.{active-of}
+use Rattle.rg_step.proofs.Callers.Reached.{last-is, longer, serves-told, went-is}
+use Rattle.rg_step.proofs.Callers.Serve.{made-went}
 use Rattle.rg_once.specs.Once.{Tells, TellsNone}
 use Rattle.rg_once.proofs.Kept.{Collecting, collecting}
 

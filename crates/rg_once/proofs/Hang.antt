@@ -21,7 +21,7 @@ use Rattle.rg_sound.proofs.LocalRoots.{label-region}
 use Rattle.rg_stack.specs.Labels.{is_open, is_outside}
 use Rattle.rg_stack.specs.Machine.{Machine}
 use Rattle.rg_stack.specs.Needs.{places_into}
-use Rattle.rg_stack.proofs.Needs.Once.{owned_once-fits}
+use Rattle.rg_stack.proofs.Callers.Once.{owned_once-fits}
 use Rattle.rg_held.specs.Gone.{gone}
 use Rattle.rg_held.specs.Part.{FieldInto, Placed}
 use Rattle.rg_held.specs.Shown.{ShowsHeld}

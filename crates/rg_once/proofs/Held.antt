@@ -165,7 +165,8 @@ module _ {t : Tree} {code : Code} {old : Standing} {p q : State} {new other : St
 
   not-gone : (a : ℕ) → held a ≡ true → slice_get (machine_in (mid w)).store a ≡ Some gone → ⊥
   not-gone a h e =
-      let x = held-shown (mid w).heap (mid w).frames (beside w).serials (beside w).stands w.step.serves.sound.windows a h in x.2 (same_Some x.0 gone (sym x.1 ∙ e))
+      let x = held-shown (mid w).heap (mid w).frames (beside w).serials (beside w).stands w.step.serves.sound.windows a h in
+      x.2 (same_Some x.0 gone (sym x.1 ∙ e))
 
   abbrev before : ShowsHeld t.classes code was p
   before = w.runs.shows

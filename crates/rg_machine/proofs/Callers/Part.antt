@@ -20,7 +20,7 @@ use Rattle.rg_stack.specs.Machine.{Machine, Window}
 use Rattle.rg_stack.specs.Needs.{owned_once}
 use Rattle.rg_stack.specs.Labels.{is_open}
 use Rattle.rg_stack.specs.Shows.{Shows}
-use Rattle.rg_stack.proofs.Needs.Once.{owned_once-fits}
+use Rattle.rg_stack.proofs.Callers.Once.{owned_once-fits}
 use Rattle.rg_heap.specs.Parts.{Parts}
 use Rattle.rg_view.specs.View.{object_of, store_of}
 use Rattle.rg_view.proofs.Callers.Link.{store-back}

@@ -11,7 +11,7 @@ use Rattle.rg_rules.specs.Reach.{addresses, inside, is_region, led_from_object, 
 use Rattle.rg_rules.specs.Regions.{among, joined_with, region_at}
 use Rattle.rg_rules.proofs.Region.{reached-suc}
 use Rattle.rg_sound.proofs.Stores.Member.{In, among-not, in-split, joined-back, joined-new, joined-old}
-use Rattle.rg_stack.proofs.Judgements.Label.{flat_in as flat-in, flat_back as flat-back}
+use Rattle.rg_stack.proofs.Callers.Label.{flat_in as flat-in, flat_back as flat-back}
 
 -- Lists behind each other
 

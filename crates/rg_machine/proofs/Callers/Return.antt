@@ -9,7 +9,7 @@ use Rattle.rg_code.specs.declared.op.Op.TheVariants as i
 use Rattle.rg_stack.specs.Machine.{Frame, Machine, Window, slots_below, top_slots, with_slots, ended_slots}
 use Rattle.rg_stack.specs.Effects.{Work, Returns, Stuck, begins_by, on_top, returned}
 use Rattle.rg_stack.specs.Needs.{is_empty, loose, needs, owned_once}
-use Rattle.rg_stack.proofs.Needs.List.{empty-is}
+use Rattle.rg_stack.proofs.Callers.List.{empty-is}
 use Rattle.rg_held.specs.Frees.{free_act, freed, given_up}
 use Rattle.rg_machine.specs.declared.next.Next.TheVariants as next
 use Rattle.rg_machine.specs.Core.{Core, ActIs, Has, with_machine, work_of}

@@ -20,8 +20,8 @@ use Rattle.rg_frames.proofs.Unwriting.{got-longer}
 use Rattle.rg_stack.specs.Machine.{Frame, place_of, slots_below}
 use Rattle.rg_stack.specs.Shows.{ShowsFrames, place_among, sizes_of}
 use Rattle.rg_heap.specs.Answers.{val_of}
-use Rattle.rg_stack.proofs.Statements.Base.{total_of, sizes-more, sizes-length, place_top, as_many}
-use Rattle.rg_stack.proofs.Walks.Frame.{place_below}
+use Rattle.rg_stack.proofs.Callers.Base.{total_of, sizes-more, sizes-length, place_top, as_many}
+use Rattle.rg_stack.proofs.Callers.Frame.{place_below}
 use Rattle.rg_held.proofs.Lists.{append-back as get-either, push-below as get-before}
 use Rattle.rg_view.specs.Lain.{Nested}
 use Rattle.rg_view.proofs.Callers.Frame.{all-slots, frames_from}

@@ -14,7 +14,7 @@ use Rattle.rg_regions.specs.Grove.{Grove}
 use Rattle.rg_stack.specs.Machine.{Machine, slot_at, put_slot, top_slots}
 use Rattle.rg_stack.specs.Needs.{closed_into, loose, owned_once}
 use Rattle.rg_stack.specs.Labels.{is_into}
-use Rattle.rg_stack.proofs.Walks.Need.{closed-counts}
+use Rattle.rg_stack.proofs.Callers.Need.{closed-counts}
 use Rattle.rg_view.proofs.Callers.Held.{region-below}
 use Rattle.rg_machine.specs.Core.{Core, with_machine}
 use Rattle.rg_machine.specs.Effects.{AllLoose, Apart, without}

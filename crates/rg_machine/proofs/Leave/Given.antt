@@ -12,7 +12,7 @@ use Rattle.rg_heap.specs.Parts.{Parts as HeapParts}
 use Rattle.rg_stack.specs.Machine.{Window, end_slots, place_of, top_slots}
 use Rattle.rg_stack.specs.Effects.{Go, without_top}
 use Rattle.rg_stack.specs.Needs.{is_empty, owned_once, owner_leads, temps_may_go, top_base}
-use Rattle.rg_stack.proofs.Needs.List.{empty-is}
+use Rattle.rg_stack.proofs.Callers.List.{empty-is}
 use Rattle.rg_held.specs.Frees.{free_act, freed, left_with, window_that_ends}
 use Rattle.rg_view.specs.View.{frame_of, frames_of, machine_of}
 use Rattle.rg_view.proofs.Callers.Gone.Temporaries.{top-row}

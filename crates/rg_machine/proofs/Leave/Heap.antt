@@ -19,7 +19,7 @@ use Rattle.rg_heap.specs.Ends.{CanLeave, GoesAlong, IsTopTemp, Released}
 use Rattle.rg_stack.specs.Machine.{ended_slots, place_of, top_slots}
 use Rattle.rg_stack.specs.Effects.{beneath_by_labels}
 use Rattle.rg_stack.specs.Needs.{owned_once, top_base}
-use Rattle.rg_stack.proofs.Needs.List.{get-nils as nil-there}
+use Rattle.rg_stack.proofs.Callers.List.{get-nils as nil-there}
 use Rattle.rg_held.specs.Frees.{bury, closed_by_temps}
 use Rattle.rg_view.specs.Lain.{Nested}
 use Rattle.rg_view.specs.Links.{ByTemp}

@@ -19,7 +19,7 @@ use Rattle.rg_heap.specs.Answers.{val_of}
 use Rattle.rg_stack.specs.Machine.{Frame, Machine, end_slots, ended_slots, place_of, top_slots, with_slots}
 use Rattle.rg_stack.specs.Effects.{Go, beneath_by_labels}
 use Rattle.rg_stack.specs.Needs.{is_empty, owned_once, owner_leads, temps_may_go, top_base}
-use Rattle.rg_stack.proofs.Needs.List.{empty-is}
+use Rattle.rg_stack.proofs.Callers.List.{empty-is}
 use Rattle.rg_held.specs.Frees.{closed_among, closed_by_temps, free_act, window_that_ends}
 use Rattle.rg_view.specs.Links.{Spans}
 use Rattle.rg_view.specs.View.{machine_of, values_of}

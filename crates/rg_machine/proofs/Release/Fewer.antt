@@ -20,7 +20,7 @@ use Rattle.rg_stack.specs.Effects.{beneath_by_labels}
 use Rattle.rg_stack.specs.Needs.{closed_of, closed_into, slots_into, fields_into, places_into}
 use Rattle.rg_stack.specs.Labels.{is_open, label_of, lies_in, is_into, is_outside}
 use Rattle.rg_stack.specs.Needs.{all_below, owned_once, loose}
-use Rattle.rg_stack.proofs.Walks.Need.{closed-counts, below_by as below-more}
+use Rattle.rg_stack.proofs.Callers.Need.{closed-counts, below_by as below-more}
 use Rattle.rg_held.specs.Frees.{is_temp, buried, bury, closed_among, lives}
 use Rattle.rg_held.specs.Gone.{gone}
 use Rattle.rg_held.proofs.Places.{once as once-most}
