@@ -1,7 +1,8 @@
 #!/usr/bin/env bash
 # Prints figures of the repository as a house: how long functions are with their contracts, how many parameters and clauses
-# they have, how large crates and folders are, how much of proofs and definitions stands beside a line of source, and which
-# lemma modules are open to crates above and cited by none. Lists what is past its mark. Not a part of the gate.
+# they have, how large crates and folders are, how much of proofs and definitions stands beside a line of source, which lemma
+# modules are open to crates above and cited by none, and how much stands twice: runs of six equal lines, and statements of
+# lemmas. Lists what is past its mark. Not a part of the gate.
 # Usage: bench/house.sh
 cd "$(dirname "$0")/.." && exec python3 - <<'PY'
 import collections, glob, os, re
@@ -18,7 +19,7 @@ def functions(text):
         start = re.match(r"( *)(?:pub(?:\([^)]*\))? )?(?:const )?(?:unsafe )?fn (\w+)", line)
         if not start: continue
         end = k
-        while end < len(lines) and lines[end] != start[1] + "}" and not (end == k and line.rstrip().endswith("}")): end += 1
+        while end < len(lines) and lines[end] not in (start[1] + "}", start[1] + "{}") and not (end == k and line.rstrip().endswith("}")): end += 1
         whole = "\n".join(lines[k : end + 1])
         depth, count, inside = 0, 0, ""
         for sign in whole[whole.index("(") :]:
@@ -58,19 +59,72 @@ for path in glob.glob("crates/**/*.antt", recursive=True) + glob.glob("crates/**
     for crate, module in re.findall(r"use Rattle\.(\w+)\.proofs\.([\w.]+)", read(path)):
         if crate != path.split("/")[1]: cited[crate].add(module)
 open_, uncited = 0, []
+
+def is_open(below, full):
+    """Whether a module of proofs/ is open to crates above: it and each folder that it lies in is declared with pub."""
+    place, _, name = full.rpartition(".")
+    declared = f"{below}/{place.replace('.', '/') or 'Lib'}.antt"
+    return os.path.exists(declared) and re.search(rf"(?m)^pub mod {name}$", read(declared)) is not None and (not place or is_open(below, place))
+
 for path in glob.glob("crates/*/proofs/**/*.antt", recursive=True):
     crate, below = path.split("/")[1], path.split("/proofs/")[0] + "/proofs"
+    place = os.path.relpath(path, below)[: -len(".antt")].replace("/", ".")
     for module in re.findall(r"(?m)^pub mod (\w+)", read(path)):
-        place = os.path.relpath(path, below)[: -len(".antt")].replace("/", ".")
         full = module if place == "Lib" else f"{place}.{module}"
-        if os.path.exists(f"{below}/{full.replace('.', '/')}"): continue
+        if os.path.exists(f"{below}/{full.replace('.', '/')}") or not is_open(below, full): continue
         open_ += 1
         if not any(name == full or name.startswith(full + ".") for name in cited[crate]): uncited.append(f"{crate} {full}")
 for name in sorted(uncited): print(f"{name} is open to crates above, and none cites it")
+
+RUN = 6
+
+def plain_lines(path):
+    """The lines of a file with white space folded, without blanks, comments and what only names modules."""
+    for line in read(path).split("\n"):
+        line = " ".join(line.split())
+        if line and not re.match(r"(--|//|(pub |ghost )*(use|mod) )", line): yield line
+
+def equal_share(paths):
+    """How many of all lines stand in a run of so many that stands in two places, in percent."""
+    runs, files = collections.defaultdict(list), [list(plain_lines(path)) for path in paths]
+    for number, lines in enumerate(files):
+        for k in range(len(lines) - RUN + 1): runs["\n".join(lines[k : k + RUN])].append((number, k))
+    twice = {(number, k + d) for places in runs.values() if len(places) > 1 for number, k in places for d in range(RUN)}
+    return 100 * len(twice) / max(1, sum(map(len, files)))
+
+def statements(path):
+    """Yields name and type of each lemma of a file, of those with equations alone, white space folded."""
+    lines, k = read(path).split("\n"), 0
+    while k < len(lines):
+        found = re.match(r"( *)(?:abbrev )?(?:pub )?(\S+) : (.*)$", lines[k])
+        k += 1
+        if not found: continue
+        indent, rest = len(found[1]), [found[3]]
+        while k < len(lines) and len(lines[k]) - len(lines[k].lstrip()) > indent:
+            rest.append(lines[k])
+            k += 1
+        if k < len(lines) and re.match(rf" {{{indent}}}{re.escape(found[2])}( |$)", lines[k]):
+            yield found[2] + " : " + " ".join(" ".join(rest).split())
+
+proof_files = sorted(glob.glob("crates/*/proofs/**/*.antt", recursive=True))
+answers = [path for path in proof_files if path.endswith("/Answers.antt")]
+shares = [equal_share(paths) for paths in (
+    sorted(glob.glob("crates/*/src/**/*.rt", recursive=True)),
+    sorted(glob.glob("crates/*/specs/**/*.antt", recursive=True)),
+    answers,
+    sorted(set(proof_files) - set(answers)),
+)]
+stated = collections.defaultdict(set)
+for path in proof_files:
+    for statement in statements(path):
+        if "→" in statement and " : goal." not in statement: stated[statement].add(path)
+shared = sum(len(places) > 1 for places in stated.values())
 
 sizes.sort()
 at = lambda part: sizes[int(part * (len(sizes) - 1))]
 print(f"{all_functions} functions with their contracts: {at(0.5)} lines in the middle, nine in ten up to {at(0.9)}, the longest {sizes[-1]}")
 print(f"{sources} lines of source; {specs / sources:.2f} of definitions and {proofs / sources:.2f} of proofs beside each")
 print(f"{open_} lemma modules are open to crates above, {len(uncited)} of them cited by none")
+print("In runs of six equal lines: {:.1f} % of source, {:.1f} % of definitions, {:.1f} % of answers, {:.1f} % of lemmas".format(*shares))
+print(f"{shared} statements of lemmas stand in more than one file")
 PY

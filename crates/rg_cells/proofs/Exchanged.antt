@@ -1,14 +1,13 @@
 -- What the table shows after two cells change places, for crates that move cells (docs/architecture.md, "Cells").
 use Rattle.std.proofs.Common.{◌≡◌, ◌≢◌, ℕ, ◌+◌, ◌<◌, ◌==◌, zero, suc, List, [], ◌∷◌, length, Option, Some, None, IsSome, get_or, set, refl}
 use Rattle.std.proofs.Common.{ap, sym, ◌∙◌, subst, arith, cond, if◌then◌else◌, inl, inr, is_some, true, count_by}
-use Rattle.std.proofs.Common.{option_map, option_and_then, slice_get}
 use Rattle.std.proofs.lemmas.List.{get_or-set_same, get_or-set_other, length-set}
 use Rattle.std.proofs.lemmas.List.Sums.{sum_by-cons}
 use Rattle.std.proofs.lemmas.Bool.{cases_eq}
 use Rattle.std.proofs.lemmas.Bool.Decides.{eqb_tells}
 use Rattle.rg_cells.specs.declared.cell.Body.{Body}
-use Rattle.rg_cells.specs.Table.{Heap, Table, body_in, body_at, field_at, label_at, IsHeld, mark_at, link_at, total, one, one_frozen, width}
-use Rattle.rg_cells.specs.Table.{held_count, frozen_count, field_total, high_of, Serials, traded, exchanged}
+use Rattle.rg_cells.specs.Table.{Heap, Table, body_in, body_at, IsHeld, mark_at, link_at, total}
+use Rattle.rg_cells.specs.Table.{high_of, Serials, traded, exchanged}
 use Rattle.rg_cells.proofs.Totals.{total-set}
 
 -- the slot whose cell a slot has after the cells at two slots change places
@@ -132,12 +131,6 @@ module _ (t : Table) (a b : ℕ) (p : IsHeld t.heap a) (q : IsHeld t.heap b) whe
   pub body_exchanged : (s : ℕ) → body_at (exchanged t a b).heap s ≡ body_at t.heap (partner a b s)
   body_exchanged s = ap body_in (slot_exchanged s)
 
-  pub label_exchanged : (s : ℕ) → label_at (exchanged t a b).heap s ≡ label_at t.heap (partner a b s)
-  label_exchanged s = ap (option_map (λ (x : Body). x.label)) (body_exchanged s)
-
-  pub field_exchanged : (s k : ℕ) → field_at (exchanged t a b).heap s k ≡ field_at t.heap (partner a b s) k
-  field_exchanged s k = ap (option_and_then (λ (x : Body). slice_get x.fields k)) (body_exchanged s)
-
   pub mark_exchanged : a < length t.marks → b < length t.marks → (s : ℕ) → mark_at (exchanged t a b) s ≡ mark_at t (partner a b s)
   mark_exchanged l m s = traded_at 0 t.marks a b l m s
 
@@ -160,37 +153,9 @@ module _ (t : Table) (a b : ℕ) (p : IsHeld t.heap a) (q : IsHeld t.heap b) whe
   pub held_second : IsHeld (exchanged t a b).heap b
   held_second = let P : Option Body → Type 0 = λ o. IsSome o in subst P (sym body_second) p
 
-  -- the same slots are held
-  pub held_exchanged : (s : ℕ) → IsHeld t.heap s → IsHeld (exchanged t a b).heap s
-  held_exchanged s h = elim (cases_eq s a) [
-    | inl e ↦ let P : ℕ → Type 0 = λ z. IsHeld (exchanged t a b).heap z in subst P (sym e) held_first
-    | inr d ↦ elim (cases_eq s b) [
-      | inl e ↦ let P : ℕ → Type 0 = λ z. IsHeld (exchanged t a b).heap z in subst P (sym e) held_second
-      | inr e ↦ let P : Option Body → Type 0 = λ o. IsSome o in subst P (sym (body_other s d e)) h
-    ]
-  ]
-
-  pub held_before : (s : ℕ) → IsHeld (exchanged t a b).heap s → IsHeld t.heap s
-  held_before s h = elim (cases_eq s a) [
-    | inl e ↦ let P : ℕ → Type 0 = λ z. IsHeld t.heap z in subst P (sym e) p
-    | inr d ↦ elim (cases_eq s b) [
-      | inl e ↦ let P : ℕ → Type 0 = λ z. IsHeld t.heap z in subst P (sym e) q
-      | inr e ↦ let P : Option Body → Type 0 = λ o. IsSome o in subst P (body_other s d e) h
-    ]
-  ]
-
   -- counts stay
   pub total_exchanged : (f : Option Body → ℕ) → total f (exchanged t a b).heap.slots ≡ total f t.heap.slots
   total_exchanged f = total_traded f t.heap.slots a b first_in second_in
-
-  pub held_count_exchanged : held_count (exchanged t a b).heap ≡ held_count t.heap
-  held_count_exchanged = total_exchanged one
-
-  pub frozen_count_exchanged : frozen_count (exchanged t a b).heap ≡ frozen_count t.heap
-  frozen_count_exchanged = total_exchanged one_frozen
-
-  pub field_total_exchanged : field_total (exchanged t a b).heap ≡ field_total t.heap
-  field_total_exchanged = total_exchanged width
 
   pub high_exchanged : high_of (exchanged t a b).heap ≡ high_of t.heap
   high_exchanged =

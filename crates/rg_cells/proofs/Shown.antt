@@ -3,7 +3,8 @@ use Rattle.std.proofs.Common.{◌≡◌, ◌≢◌, ℕ, ◌+◌, ◌<◌, ◌�
 use Rattle.std.proofs.Common.{is_some, count_by, get_or, set, refl, ap, sym, ◌∙◌, subst, arith, cond, ◌==◌, if◌then◌else◌}
 use Rattle.std.proofs.lemmas.List.{map-set, length-map, set-set}
 use Rattle.std.proofs.lemmas.List.Sums.{sum_by-cons}
-use Rattle.slab.specs.Slab.{Slab, get, slab_len, Updates}
+use Rattle.std.proofs.lemmas.Option.{same_Some}
+use Rattle.slab.specs.Slab.{Slab, slab_len, Updates}
 use Rattle.rg_cells.specs.declared.cell.Body.{Body}
 use Rattle.rg_cells.specs.declared.cell.Cell.{Cell}
 use Rattle.rg_cells.specs.declared.cell.Place.{Place}
@@ -235,10 +236,7 @@ wide-le h slot b e = let p = part-le width refl h.slots slot in let q : width (b
 
 pub same_body : (xs : List (Option Place)) (next slot : ℕ) (c : Cell) (b : Body) → get_or xs slot None ≡ Some (Held c)
     → body_at (table_of xs next).heap slot ≡ Some b → c.body ≡ b
-same_body xs next slot c b e f = some_body (c.body) b (sym (body-held xs next slot c e) ∙ f)
-  where
-    some_body : (a b : Body) → Some a ≡ Some b → a ≡ b
-    some_body a b q = cc
+same_body xs next slot c b e f = same_Some (c.body) b (sym (body-held xs next slot c e) ∙ f)
 
 pub made : (places new : Slab Place) (next later slot : ℕ) (c : Cell) → c.mark ≡ 0 → c.link ≡ None → Updates places new slot (Some (Held c))
     → Made (table_of places.slots next) (table_of new.slots later) slot c.body
@@ -259,19 +257,6 @@ high-made places new next later now e l =
     let P : Table → Type 0 = λ t. high_of (table_of new.slots later).heap ≡ (if held_count t.heap == high_of t.heap then high_of t.heap + 1 else
     high_of t.heap) in
     subst P e (count-shown new.slots ∙ l ∙ ap (λ n. if total one (map shown places.slots) == n then n + 1 else n) (sym (count-shown places.slots)))
-
-pub again-made : (places : Slab Place) (next slot : ℕ) (now : Table) → table_of places.slots next ≡ now
-    → (total one (map shown places.slots) < slab_len places → IsSome (get places slot)) → held_count now.heap < high_of now.heap
-    → IsSome (get_or now.heap.slots slot None)
-again-made places next slot now e h =
-    let P : Table → Type 0 = λ t. held_count t.heap < high_of t.heap → IsSome (get_or t.heap.slots slot None) in
-    let Q : Option (Option Body) → Type 0 = λ o. IsSome o in
-    subst P e (λ m. subst Q (sym (shown-at places.slots slot)) (some_shown (get places slot) (h (omega (arith, m, count-shown places.slots)))))
-  where
-    some_shown : (o : Option Place) → IsSome o → IsSome (shown o)
-    some_shown None q = cc
-    some_shown (Some Free) q = refl
-    some_shown (Some (Held c)) q = refl
 
 -- what was found in the places, of the table
 pub find-some : (xs : List (Option Place)) (next serial : ℕ) (now : Table) (r : Option ℕ) → table_of xs next ≡ now

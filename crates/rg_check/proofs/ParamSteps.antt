@@ -10,16 +10,16 @@ use Rattle.rg_base.specs.declared.ty.Ty.TheVariants.{Ref}
 use Rattle.rg_tree.specs.declared.rows.ParamRow.{ParamRow}
 use Rattle.rg_tree.specs.Tree.{Param}
 use Rattle.rg_tree.specs.Rows.Tables.{Tables, name_at, numbers_in}
-use Rattle.rg_tree.specs.Rows.RowTrees.{param_at, param_of, classes_of, type_of as written}
+use Rattle.rg_tree.specs.Rows.RowTrees.{param_at, param_of, classes_of, type_of as written, method_of}
 use Rattle.rg_tree.specs.Rows.RowsExist.{IsParamIn}
+use Rattle.rg_tree.specs.declared.rows.MethodRow.{MethodRow}
 use Rattle.rg_rules.specs.Types.{type_of, good_type}
 use Rattle.rg_rules.specs.Environment.{empty, with_variable, ready}
 use Rattle.rg_rules.specs.Bodies.{with_params, method_env}
 use Rattle.rg_rules.proofs.Header.{good_type-type_of}
 use Rattle.rg_names.specs.TreeAnswers.{IsKnown}
 use Rattle.rg_flow.specs.Scope.{Scope, Slot, no_variables, pushed, env_of, IsSlotIn, IsScopeIn}
-use Rattle.rg_check.specs.declared.method.MethodRow.{MethodRow}
-use Rattle.rg_check.specs.Inner.Methods.{IsGood, method_of}
+use Rattle.rg_check.specs.Inner.Methods.{IsGood}
 
 -- the first i parameters were added
 pub record ParamsUpTo (t : Tables) (front : Scope) (ks : List ℕ) (i : ℕ) (env : Scope) : Type 0 where
@@ -59,13 +59,13 @@ params-step t front ks i env row l tree h in' ty good known out e is =
     })
 
 -- the variables in front of a method are `self` and its parameters
-pub front-is : (t : Tables) (m : MethodRow) (new env : Scope) (these : List ℕ) (r : Result Scope Memory) → new ≡ no_variables →
-    env_of t env ≡ with_variable (env_of t new) None (Ref m.cap m.class) false → these ≡ numbers_in t m.params →
+pub front-is : (t : Tables) (class : ℕ) (m : MethodRow) (new env : Scope) (these : List ℕ) (r : Result Scope Memory) → new ≡ no_variables →
+    env_of t env ≡ with_variable (env_of t new) None (Ref m.cap class) false → these ≡ numbers_in t m.params →
     IfOk r (λ out. env_of t out ≡ with_params (classes_of t) (map (param_at t) these) (env_of t env)) →
-    IfOk r (λ out. env_of t out ≡ method_env (classes_of t) m.class (method_of t m))
-front-is t m new env these r e f g h =
-    let self_only = with_variable empty None (Ref m.cap m.class) false in
-    let front : env_of t env ≡ self_only = f ∙ ap (λ (s : Scope). with_variable (env_of t s) None (Ref m.cap m.class) false) e in
-    let same : with_params (classes_of t) (map (param_at t) these) (env_of t env) ≡ method_env (classes_of t) m.class (method_of t m) =
+    IfOk r (λ out. env_of t out ≡ method_env (classes_of t) class (method_of t m))
+front-is t class m new env these r e f g h =
+    let self_only = with_variable empty None (Ref m.cap class) false in
+    let front : env_of t env ≡ self_only = f ∙ ap (λ (s : Scope). with_variable (env_of t s) None (Ref m.cap class) false) e in
+    let same : with_params (classes_of t) (map (param_at t) these) (env_of t env) ≡ method_env (classes_of t) class (method_of t m) =
     ap (with_params (classes_of t) (map (param_at t) these)) front ∙ ap (λ ks. with_params (classes_of t) (map (param_at t) ks) self_only) g in
     IfOk-weaker r _ _ (λ out k. k ∙ same) h

@@ -9,10 +9,10 @@ ghost use Rattle.rg_names.specs.TableOf.{IsTableOf};
 ghost use Rattle.rg_names.specs.Judged.{JudgedAs};
 ghost use Rattle.rg_check.specs.Inner.Methods as methods;
 
-use crate::method::{MethodRow, judge_method};
+use crate::method::judge_method;
 use rg_base::Stop;
 use rg_names::Classes;
-use rg_tree::{MemberRow, Program};
+use rg_tree::{MemberRow, MethodRow, Program};
 use std::alloc::Global;
 
 /// The methods of each class in order.
@@ -78,7 +78,6 @@ fn judge_member(
             line,
         } => {
             let method = MethodRow {
-                class,
                 cap,
                 name,
                 params,
@@ -86,7 +85,7 @@ fn judge_member(
                 body,
                 line,
             };
-            judge_method(alloc, program, classes, method)
+            judge_method(alloc, program, classes, class, method)
         }
     }
 }

@@ -5,8 +5,8 @@ ghost use Rattle.std.specs.Prelude.{◌≡◌, ◌+◌, ◌<◌, ◌≤◌, suc,
 ghost use Rattle.std.specs.Prelude.{IfSome};
 ghost use Rattle.rg_base.specs.declared.limits.TheConstants.{BODY_NAMES};
 ghost use Rattle.rg_base.specs.declared.fault.Code.TheVariants.{Return};
-ghost use Rattle.rg_tree.specs.Rows.RowTrees.{classes_of, param_at, type_of, block_of};
-ghost use Rattle.rg_tree.specs.Rows.RowsExist.{IsBlockIn, IsTypeIn};
+ghost use Rattle.rg_tree.specs.Rows.RowTrees.{classes_of, param_at, type_of, block_of, method_of};
+ghost use Rattle.rg_tree.specs.Rows.RowsExist.{IsBlockIn, IsTypeIn, IsMethodIn};
 ghost use Rattle.rg_rules.specs.Answers.{at_line, test};
 ghost use Rattle.rg_rules.specs.Types as types;
 ghost use Rattle.rg_rules.specs.Bodies as rules;
@@ -14,42 +14,31 @@ ghost use Rattle.rg_names.specs.TableOf.{IsTableOf};
 ghost use Rattle.rg_names.specs.TreeAnswers.{IsKnown};
 ghost use Rattle.rg_names.specs.Judged.{JudgedAs};
 ghost use Rattle.rg_flow.specs.Scope.{env_of, IsScopeIn};
-ghost use Rattle.rg_check.specs.Inner.Methods.{IsGood, IsMethodIn, MayBeJudged, method_of};
+ghost use Rattle.rg_check.specs.Inner.Methods.{IsGood, MayBeJudged};
 
 use crate::statements::{ends_in_return, judge_block};
 use rg_base::{Cap, Code, Fault, Memory, Stop, Ty};
 use rg_flow::Env;
 use rg_names::Classes;
-use rg_tree::{Program, Span, TypeRow};
+use rg_tree::{MethodRow, Program, TypeRow};
 use std::alloc::Global;
-
-/// A method of the class of a number, as its row has it.
-#[derive(Clone, Copy)]
-pub struct MethodRow {
-    pub class: u32,
-    pub cap: Cap,
-    pub name: u32,
-    pub params: Span,
-    pub result: Option<TypeRow>,
-    pub body: Span,
-    pub line: u64,
-}
 
 /// A method: its body, and then its end.
 pub fn judge_method(
     alloc: Global,
     program: &Program,
     classes: &Classes,
+    class: u32,
     method: MethodRow,
 ) -> Result<(), Stop>
     requires table { IsTableOf program.now classes.now }
-    requires class { method.class < length (classes_of program.now) }
+    requires class { class < length (classes_of program.now) }
     requires row { IsMethodIn program.now method }
     requires method { MayBeJudged (classes_of program.now) (method_of program.now method) }
-    ensures { JudgedAs (rules.judge_method (classes_of program.now) method.class
+    ensures { JudgedAs (rules.judge_method (classes_of program.now) class
         (method_of program.now method)) result }
 {
-    let Ok(front) = method_env(alloc, program, classes, method) else {
+    let Ok(front) = method_env(alloc, program, classes, class, method) else {
         return Err(Stop::Memory);
     };
     let last = result_type(program, classes, method.result);
@@ -62,19 +51,19 @@ fn method_env(
     alloc: Global,
     program: &Program,
     classes: &Classes,
+    class: u32,
     method: MethodRow,
 ) -> Result<Env, Memory>
     requires table { IsTableOf program.now classes.now }
-    requires class { method.class < length (classes_of program.now) }
+    requires class { class < length (classes_of program.now) }
     requires row { IsMethodIn program.now method }
     requires method { MayBeJudged (classes_of program.now) (method_of program.now method) }
     ensures env { IfOk result (λ env. env_of program.now env
-        ≡ rules.method_env (classes_of program.now) method.class (method_of program.now method)) }
+        ≡ rules.method_env (classes_of program.now) class (method_of program.now method)) }
     ensures scope { IfOk result (IsScopeIn program.now) }
     ensures names { IfOk result (λ env.
         length env.slots ≡ suc (length (method_of program.now method).params)) }
 {
-    let class = method.class;
     let receiver = Ty::Ref {
         cap: method.cap,
         class,

@@ -2,7 +2,7 @@
 -- moves its cells").
 use Rattle.std.proofs.Common.{◌≡◌, ◌≢◌, ℕ, ◌+◌, ◌≤◌, cond, List, length, Option, Some, None, IsSome, refl, ap, sym, ◌∙◌}
 use Rattle.std.proofs.Common.{subst, arith, inl, inr, get_or, slice_get, option_map, option_and_then, sum_by}
-use Rattle.std.proofs.lemmas.Option.{slice_get_within, slice_get-get_or}
+use Rattle.std.proofs.lemmas.Option.{slice_get_within, slice_get-get_or, same_Some}
 use Rattle.rg_base.specs.declared.object.Label.TheVariants.{Region, Temp}
 use Rattle.rg_base.specs.declared.value.Word.TheVariants.{Slot}
 use Rattle.rg_cells.specs.declared.cell.Body.{Body}
@@ -148,7 +148,7 @@ swept-start d r members ms = record {
   all = λ s l.
       let a = ms.all s l in
       let b = slice_get_within members a.0 s a.1 in
-      (a.0, b, some_is (get_or members a.0 0) s (sym (slice_get-get_or members a.0 0 b) ∙ a.1));
+      (a.0, b, same_Some (get_or members a.0 0) s (sym (slice_get-get_or members a.0 0 b) ∙ a.1));
   before = λ j l. refl;
   after = λ j l n. absurd (omega (arith, l, n));
   black = λ s l n. refl;
@@ -158,9 +158,6 @@ swept-start d r members ms = record {
   next = refl;
   high = refl;
 }
-  where
-    some_is : (a b : ℕ) → Some a ≡ Some b → a ≡ b
-    some_is a b q = cc
 
 -- the members' fields are those of the region
 pub members-fields : (h : Heap) (r : ℕ) (members : List ℕ) (w : ℕ → ℕ) → Members h r members

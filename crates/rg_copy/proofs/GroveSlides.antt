@@ -1,6 +1,6 @@
 -- A collection that moves cells keeps the forest (docs/architecture.md, "A manager that moves its cells").
-use Rattle.std.proofs.Common.{◌≡◌, ◌≢◌, ℕ, List, Option, Some, None, false, refl, ap, sym, ◌∙◌, subst, inl, inr, cond}
-use Rattle.std.proofs.Common.{slice_get, option_map, option_and_then, count_by}
+use Rattle.std.proofs.Common.{◌≡◌, ◌≢◌, ℕ, List, Option, Some, None, refl, ap, sym, ◌∙◌, subst, inl, inr}
+use Rattle.std.proofs.Common.{slice_get, option_map, option_and_then}
 use Rattle.std.proofs.lemmas.Bool.{cases_eq}
 use Rattle.std.proofs.lemmas.Option.{slice_get-map, same_Some}
 use Rattle.rg_base.specs.declared.object.Label.{Label}
@@ -8,14 +8,15 @@ use Rattle.rg_base.specs.declared.object.Label.TheVariants.{Region, Temp, Frozen
 use Rattle.rg_base.specs.declared.words.Manager.TheVariants.{Count, Trace}
 use Rattle.rg_base.specs.declared.value.Word.{Word}
 use Rattle.rg_base.specs.declared.value.Word.TheVariants.{Nil, Int, Bool as Truth, Slot}
+use Rattle.rg_base.proofs.Callers.Labels.{slot-same, region-number}
 use Rattle.rg_cells.specs.declared.cell.Body.{Body}
 use Rattle.rg_cells.specs.Table.{Heap, Table, body_at, label_at, field_at}
 use Rattle.rg_frames.specs.Stack.{Stack}
 use Rattle.rg_regions.specs.Table.{Record, RegionTable, record_at, HasNumber, IsBridge}
-use Rattle.rg_regions.specs.Reach.{LiesIn, belongs}
-use Rattle.rg_regions.specs.Grove.{Grove, Members, Parent, Above, direct, further, referrers, leads_to}
+use Rattle.rg_regions.specs.Reach.{LiesIn}
+use Rattle.rg_regions.specs.Grove.{Grove, Members, Parent, Above, direct, further, referrers}
 use Rattle.rg_regions.proofs.Callers.Told.{one_region, lies_or_not}
-use Rattle.rg_regions.proofs.Callers.Fewer.{total_alike, belongs_not}
+use Rattle.rg_regions.proofs.Callers.Fewer.{total_alike, belongs_not, weight, weighs_none}
 use Rattle.rg_copy.specs.Inner.Moves.{all_fields, IsTempAt}
 use Rattle.rg_copy.proofs.Stages.{Stages, place, change, body-off, marks-off, IsReached, from, from-place, from-inside}
 use Rattle.rg_copy.proofs.Stages.{body-reached, lies-reached, only-reached, bridge-place, bridge-reached, unmarked-slot}
@@ -69,19 +70,13 @@ module _ {c m p e f s cells : Table} {t u regions : RegionTable} {key : ℕ} {re
   off-of x l q d i =
       let a = back x l q in
       let b = from-inside g x i in
-      d (some_label l (Region rec.number) (sym a ∙ b))
-    where
-      some_label : (a b : Label) → Some a ≡ Some b → a ≡ b
-      some_label a b q = cc
+      d (same_Some l (Region rec.number) (sym a ∙ b))
 
   back-off : (x : ℕ) (l : Label) → label_at cells.heap x ≡ Some l → l ≢ Region rec.number → label_at c.heap x ≡ Some l
   back-off x l q d = ap (label_at c.heap) (sym (at-off x (off-of x l q d))) ∙ back x l q
 
   differs : (q : ℕ) → q ≢ rec.number → Region q ≢ Region rec.number
-  differs q d e = d (number q rec.number e)
-    where
-      number : (a b : ℕ) → Region a ≡ Region b → a ≡ b
-      number a b q = cc
+  differs q d e = d (region-number q rec.number e)
 
   -- a word that is a slot behind the change was one before
   slot-before : (w : Word) (y : ℕ) → Change w ≡ Slot y → (z : ℕ) × (w ≡ Slot z)
@@ -109,10 +104,10 @@ module _ {c m p e f s cells : Table} {t u regions : RegionTable} {key : ℕ} {re
         elim (lies_or_not c.heap rec.number z.0) [
           | inl off ↦
               let n : (i : ℕ) → Slot z.0 ≡ Slot i → Reached i → ⊥ = λ i r n.
-              let j : z.0 ≡ i = slot_is z.0 i r in
+              let j : z.0 ≡ i = slot-same z.0 i r in
               let L : ℕ → Type 0 = λ h. LiesIn c.heap rec.number h in
               off (subst L (sym j) (lies_of g i n)) in
-              let r : z.0 ≡ y = slot_is z.0 y
+              let r : z.0 ≡ y = slot-same z.0 y
               (sym (change-other g (Slot z.0) n) ∙ to) in
               let O : ℕ → Type 0 = λ h. LiesIn c.heap rec.number h → ⊥ in
               let offy : LiesIn c.heap rec.number y → ⊥ = subst O r off in
@@ -123,7 +118,7 @@ module _ {c m p e f s cells : Table} {t u regions : RegionTable} {key : ℕ} {re
               )
           | inr in_region ↦
               let n = reach-closed g a.0 k z.0 a.1 led in_region in
-              let r : Place z.0 ≡ y = slot_is (Place z.0) y
+              let r : Place z.0 ≡ y = slot-same (Place z.0) y
               (sym (change-reached g z.0 n) ∙ to) in
               let there : At y ≡ z.0 = ap At (sym r)
               ∙ from-place g z.0 n in (
@@ -134,16 +129,10 @@ module _ {c m p e f s cells : Table} {t u regions : RegionTable} {key : ℕ} {re
               )
         ]
       where
-        slot_is : (a b : ℕ) → Slot a ≡ Slot b → a ≡ b
-        slot_is a b q = cc
-
-        some_word : (a b : Word) → Some a ≡ Some b → a ≡ b
-        some_word a b q = cc
-
         by_word : (o : Option Word) → option_map Change o ≡ Some (Slot y)
             → (w : Word) × (o ≡ Some w) × (Change w ≡ Slot y)
         by_word None q = cc
-        by_word (Some w) q = (w, refl, some_word (Change w) (Slot y) q)
+        by_word (Some w) q = (w, refl, same_Some (Change w) (Slot y) q)
 
         by_body : (o : Option Body)
             → option_and_then (λ (b : Body). slice_get b.fields k) (option_map (all_fields Change) o) ≡ Some (Slot y)
@@ -156,7 +145,7 @@ module _ {c m p e f s cells : Table} {t u regions : RegionTable} {key : ℕ} {re
     leads-off l q d n w =
         let off = off-of x l q d in
         let was = back-off x l q d in
-        let temp : IsTempAt p.heap x → ⊥ = λ i. n i.0 (some_label l (Temp i.0)
+        let temp : IsTempAt p.heap x → ⊥ = λ i. n i.0 (same_Some l (Temp i.0)
         (sym was ∙ ap (λ (h : Heap). label_at h x) (sym (g.plans.heap ∙ g.marked.heap)) ∙ i.1)) in
         let same = body-off g x off
         ∙ body-e g x temp in
@@ -182,9 +171,6 @@ module _ {c m p e f s cells : Table} {t u regions : RegionTable} {key : ℕ} {re
                     ∙ sym lies ∙ ap (label_at c.heap) (sym there),
               )
         ]
-      where
-        some_label : (a b : Label) → Some a ≡ Some b → a ≡ b
-        some_label a b q = cc
 
   -- records and numbers are those that were there
   has : (k n : ℕ) → HasNumber regions k n → HasNumber t k n
@@ -267,12 +253,6 @@ module _ {c m p e f s cells : Table} {t u regions : RegionTable} {key : ℕ} {re
   stays-in q x d l = stay x (Region q) (λ i. d (one_region c.heap x q rec.number l i)) l
 
   -- so many fields of another region lead to a slot as before
-  abbrev weight : ℕ → ℕ → Option Body → ℕ
-  weight q x b = cond (belongs q b) (elim b [ None ↦ 0 | Some y ↦ count_by (leads_to x) y.fields ]) 0
-
-  weighs_none : (q x : ℕ) (b : Option Body) → belongs q b ≡ false → weight q x b ≡ 0
-  weighs_none q x b e = rw e refl
-
   referrers_stay : (q x : ℕ) → q ≢ rec.number → referrers cells.heap q x ≡ referrers c.heap q x
   referrers_stay q x d = total_alike (weight q x) refl c.heap.slots cells.heap.slots (λ n.
       elim (lies_or_not c.heap q n) [

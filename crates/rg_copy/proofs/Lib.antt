@@ -1,4 +1,4 @@
--- The lemmas that the answers of rg_copy use; those with pub are open to crates above.
+-- The lemmas that the answers of rg_copy use; none is for crates above.
 mod Words
 mod Fields
 mod Passes
@@ -10,4 +10,4 @@ mod Slides
 mod GroveSlides
 mod Between
 mod Examples
-pub mod LocalRoots
+mod LocalRoots

@@ -1,5 +1,5 @@
 -- Why the words of the top window suffice: behind a collection that moves cells every reference still leads to a held
--- cell (docs/architecture.md, "A manager that moves its cells").
+-- cell (docs/architecture.md, "A manager that moves its cells"). A law for readers: no proof cites it.
 use Rattle.std.proofs.Common.{◌≡◌, ℕ, ◌<◌, List, length, Option, Some, None, IsSome, refl, ap, sym, ◌∙◌, subst, arith}
 use Rattle.std.proofs.Common.{inl, inr, option_map, option_and_then, slice_get, drop, get_or}
 use Rattle.std.proofs.lemmas.Option.{slice_get_within, slice_get-get_or, same_Some}

@@ -39,17 +39,6 @@ forwarded-next p t new r slot a w k =
     w.here ∙ ap (option_map (all_fields (moved_word (target t r)))) k
     ∙ fields-agree (target t r) (target p r) (target-agree p t r a.links a.labels) (body_at p.heap slot)
 
--- members
-pub members-begin : (p : Table) (r : ℕ) (members : List ℕ) → MembersForwarded p r members 0 p
-members-begin p r members = record {
-  alike = alike-begin p;
-  marks = refl;
-  black = λ j s l e m. absurd (omega (arith, l));
-  white = λ j s e m. refl;
-  left = λ j s l e. refl;
-  others = λ s n. refl;
-}
-
 pub members-skip : (p t : Table) (r : ℕ) (members : List ℕ) (i slot : ℕ) → slice_get members i ≡ Some slot
     → mark_at t slot ≡ 0 → MembersForwarded p r members i t → MembersForwarded p r members (i + 1) t
 members-skip p t r members i slot e m w = record {
@@ -99,14 +88,6 @@ temp-on p t s a l = (l.0, a.labels s ∙ l.1)
 
 pub temp-back : (p t : Table) (s : ℕ) → Alike p t → IsTempAt t.heap s → IsTempAt p.heap s
 temp-back p t s a l = (l.0, sym (a.labels s) ∙ l.1)
-
--- temporaries
-pub temps-begin : (p : Table) (r : ℕ) (temps : List ℕ) → TempsMarked p r temps 0 p
-temps-begin p r temps = record {
-  alike = alike-begin p;
-  done = λ j s l e n. absurd (omega (arith, l));
-  either = λ s. inl (refl, refl);
-}
 
 pub temps-skip : (p t : Table) (r : ℕ) (temps : List ℕ) (i slot : ℕ) → slice_get temps i ≡ Some slot
     → (IsTempAt t.heap slot → ⊥) → TempsMarked p r temps i t → TempsMarked p r temps (i + 1) t

@@ -89,7 +89,7 @@ module _ {c m p e f s cells : Table} {t u regions : RegionTable} {key : ℕ} {re
     fields = record {
       as_many = refl;
       each = λ k old new a d.
-          let q : old ≡ new = some_word old new (sym a ∙ d) in
+          let q : old ≡ new = same_Some old new (sym a ∙ d) in
           record {
             moved = λ y w n.
                 let lead : field_at c.heap x k ≡ Some (Slot y) =
@@ -102,9 +102,6 @@ module _ {c m p e f s cells : Table} {t u regions : RegionTable} {key : ℕ} {re
           };
     };
   }
-    where
-      some_word : (a b : Word) → Some a ≡ Some b → a ≡ b
-      some_word a b q = cc
 
   temp-becomes : (x : ℕ) (b : Body) → Has (top_temps v) x → (LiesIn c.heap rec.number x → ⊥) → body_at c.heap x ≡ Some b
       → (d : Body) × (body_at cells.heap x ≡ Some d)

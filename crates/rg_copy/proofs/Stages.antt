@@ -339,18 +339,3 @@ module _ {c m p e f s cells : Table} {t u regions : RegionTable} {key : ℕ} {re
             ap (mark_at cells) (sym a.2) ∙ b.1
         | inr q ↦ q.1
       ]
-
-  -- a word that leads to no cell that goes elsewhere
-  pub change-still : (w : Word) → ((x : ℕ) → w ≡ Slot x → IsReached x → place x ≡ x) → change w ≡ w
-  change-still Nil n = refl
-  change-still (Int i) n = refl
-  change-still (Truth b) n = refl
-  change-still (Slot x) n = elim (lies_or_not c.heap rec.number x) [
-    | inl off ↦ ap (λ (o : Option ℕ). Slot (unwrap_or o x)) (target-off x off)
-    | inr l ↦ elim (cases_eq (mark_at p x) 0) [
-      | inl z ↦ ap (λ (o : Option ℕ). Slot (unwrap_or o x)) (target-on x l ∙ planned.white x l z)
-      | inr z ↦
-          let k = marked-reach x l z in
-          change-reached x k ∙ ap (λ y. Slot y) (n x refl k)
-    ]
-  ]

@@ -1,5 +1,5 @@
 -- Each turn of the plan: where the next member goes (docs/architecture.md, "A manager that moves its cells").
-use Rattle.std.proofs.Common.{◌≡◌, ◌≢◌, ℕ, ◌+◌, ◌<◌, ◌≤◌, List, length, Option, Some, None, refl, ap, sym, ◌∙◌, subst}
+use Rattle.std.proofs.Common.{◌≡◌, ◌≢◌, ℕ, ◌+◌, ◌<◌, ◌≤◌, List, length, Option, Some, None, ap, sym, ◌∙◌, subst}
 use Rattle.std.proofs.Common.{arith, ◌⊎◌, inl, inr, get_or, set, slice_get}
 use Rattle.std.proofs.lemmas.List.{get_or-set_same, get_or-set_other}
 use Rattle.std.proofs.lemmas.Bool.{cases_eq, cases_lt}
@@ -16,19 +16,6 @@ bridge-cases (Some a) s = elim (cases_eq a s) [
   | inl e ↦ inl (ap Some e)
   | inr d ↦ inr (λ e. d (same_Some a s e))
 ]
-
-pub plan-begin : (c : Table) (members : List ℕ) (bridge : Option ℕ) → Planned c members bridge 0 0 c
-plan-begin c members bridge = record {
-  heap = refl;
-  marks = refl;
-  behind = omega arith;
-  white = λ j s l e m. absurd (omega (arith, l));
-  bridge_stays = λ j s l e m b. absurd (omega (arith, l));
-  goes = λ j s l e m b. absurd (omega (arith, l));
-  filled = λ m d l e b. absurd (omega (arith, l));
-  apart = λ j k s x d l m e f g h. absurd (omega (arith, l));
-  others = λ s n. refl;
-}
 
 module _ (c t new : Table) (r : ℕ) (members : List ℕ) (bridge : Option ℕ) (i free slot : ℕ) (ms : Members c.heap r members)
     (at : slice_get members i ≡ Some slot) (w : Planned c members bridge i free t) where

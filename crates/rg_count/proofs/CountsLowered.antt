@@ -6,7 +6,7 @@ use Rattle.std.proofs.lemmas.List.{get_or-set_same, get_or-set_other}
 use Rattle.std.proofs.lemmas.Bool.{cases_eq, false≢true}
 use Rattle.std.proofs.lemmas.Bool.Decides.{eqb_tells}
 use Rattle.std.proofs.lemmas.List.Sums.{sum_by-cons, sum_by-drop_more}
-use Rattle.std.proofs.lemmas.Option.{slice_get_within, get_or_from_slice_get}
+use Rattle.std.proofs.lemmas.Option.{slice_get_within, get_or_from_slice_get, same_Some}
 use Rattle.rg_cells.specs.declared.cell.Body.{Body}
 use Rattle.rg_base.specs.declared.value.Word.{Word}
 use Rattle.rg_base.specs.declared.value.Word.TheVariants.{Nil, Int, Bool as Truth, Slot}
@@ -52,13 +52,10 @@ one_if b = cond b 1 0
 count-has : (s : ℕ) (ws : List Word) (k : ℕ) → slice_get ws k ≡ Some (Slot s) → 0 < count_by (leads_to s) ws
 count-has s [] k e = cc
 count-has s (w ∷ ws) zero e =
-    let q : w ≡ Slot s = word_is w (Slot s) e in
+    let q : w ≡ Slot s = same_Some w (Slot s) e in
     let a : cond {A = ℕ} (leads_to s w) 1 0 ≡ 1 = ap (λ z. cond {A = ℕ} (leads_to s z) 1 0) q
     ∙ ap (λ b. cond {A = ℕ} b 1 0) (leads-self s) in
     omega (arith, sum_by-cons (λ z. cond {A = ℕ} (leads_to s z) 1 0) w ws, a)
-  where
-    word_is : (a b : Word) → Some a ≡ Some b → a ≡ b
-    word_is a b q = cc
 count-has s (w ∷ ws) (suc k) e =
     let ih = count-has s ws k e in
     omega (arith, sum_by-cons (λ z. cond {A = ℕ} (leads_to s z) 1 0) w ws, ih)
@@ -137,10 +134,7 @@ all-done h r roots done s p k w e l f = elim (has-cases done p) [
 pub chained-head : (links : List (Option ℕ)) (head : Option ℕ) (keys : List ℕ) (s : ℕ) → Chained links head keys
     → head ≡ Some s → Has keys s
 chained-head links head [] s c e = let q : None ≡ Some s = sym c ∙ e in cc
-chained-head links head (x ∷ keys) s c e = inl (num_is s x (sym e ∙ c.0))
-  where
-    num_is : (a b : ℕ) → Some a ≡ Some b → a ≡ b
-    num_is a b q = cc
+chained-head links head (x ∷ keys) s c e = inl (same_Some s x (sym e ∙ c.0))
 
 -- a word of the cell at work was looked at
 pub count-turn : (h : Heap) (r : ℕ) (roots : Roots) (first : Table) (was rest : ℕ → ℕ) (done zeros : List ℕ)
@@ -321,7 +315,7 @@ pub count-pop : (h : Heap) (r : ℕ) (roots : Roots) (first : Table) (done zeros
     → (rest : List ℕ) × Counts h r roots first (owed h s 0) (s ∷ done) rest t (link_at t s)
 count-pop h r roots first done [] t s c = let q : Some s ≡ None = c.chain in cc
 count-pop h r roots first done (z ∷ rest) t s c =
-    let same : s ≡ z = num_is s z c.chain.0 in
+    let same : s ≡ z = same_Some s z c.chain.0 in
     let lies : LiesIn h r s = c.zero_lies s (inl same) in
     let none : mark_at t s ≡ 0 = c.zero_mark s (inl same) in
     let full : paid h r s done ≡ referrers h r s = omega (arith, c.sum s lies, none) in
@@ -359,9 +353,6 @@ count-pop h r roots first done (z ∷ rest) t s c =
         outside = c.outside;
       },
     )
-  where
-    num_is : (a b : ℕ) → Some a ≡ Some b → a ≡ b
-    num_is a b q = cc
 
 -- behind the last field nothing is owed
 pub count-done : (h : Heap) (r : ℕ) (roots : Roots) (first : Table) (was rest : ℕ → ℕ) (done zeros : List ℕ) (t : Table)
@@ -382,9 +373,6 @@ count-done h r roots first was rest done zeros t head e c = record {
   only = c.only;
   outside = c.outside;
 }
-
-pub lowered-none : (h : Heap) (r slot : ℕ) (t : Table) (head : Option ℕ) → t.heap ≡ h → Lowered h r slot 0 t t head head
-lowered-none h r slot t head e = record { heap = e; counts = λ roots first done zeros c. (zeros, c) }
 
 pub lowers-heap : (r : ℕ) (w : Word) (head result : Option ℕ) (old new : Table) → Lowers r w head result old new
     → new.heap ≡ old.heap

@@ -118,9 +118,6 @@ flagged-then h r P Q S old mid new f g one two back = record {
   ];
 }
 
-pub temps-none : (h : Heap) (r : ℕ) (temps : List ℕ) (t : Table) → t.heap ≡ h → Flagged h r (InTemps h temps 0) t t
-temps-none h r temps t e = flagged-none h r (InTemps h temps 0) t e (λ s p. omega (arith, p.3))
-
 pub temps-more : (h : Heap) (r : ℕ) (temps : List ℕ) (n temp : ℕ) (old mid new : Table) → slice_get temps n ≡ Some temp
     → Flagged h r (InTemps h temps n) old mid
     → Flagged h r (Among (λ k. field_at h temp k) (width (body_at h temp))) mid new

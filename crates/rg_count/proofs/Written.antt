@@ -5,6 +5,7 @@ use Rattle.std.proofs.Common.{option_and_then}
 use Rattle.std.proofs.lemmas.List.{get_or_past}
 use Rattle.std.proofs.lemmas.List.Sums.{sum_by-cons, count_by-le-length}
 use Rattle.std.proofs.lemmas.Bool.{cases_eq, cases_lt}
+use Rattle.std.proofs.lemmas.Option.{same_Some}
 use Rattle.rg_base.specs.declared.object.Label.TheVariants.{Region}
 use Rattle.rg_cells.specs.declared.cell.Body.{Body}
 use Rattle.rg_base.specs.declared.value.Word.{Word}
@@ -48,12 +49,9 @@ count-set : (p : Word → Bool) (ws : List Word) (k : ℕ) (old w : Word) → sl
     → count_by p (set ws k w) + cond {A = ℕ} (p old) 1 0 ≡ count_by p ws + cond {A = ℕ} (p w) 1 0
 count-set p [] k old w e = cc
 count-set p (x ∷ ws) zero old w e =
-    let q : x ≡ old = word_is x old e in
+    let q : x ≡ old = same_Some x old e in
     let z : cond {A = ℕ} (p x) 1 0 ≡ cond {A = ℕ} (p old) 1 0 = ap (λ y. cond {A = ℕ} (p y) 1 0) q in
     omega (arith, z, sum_by-cons (λ y. cond {A = ℕ} (p y) 1 0) x ws, sum_by-cons (λ y. cond {A = ℕ} (p y) 1 0) w ws)
-  where
-    word_is : (a b : Word) → Some a ≡ Some b → a ≡ b
-    word_is a b q = cc
 count-set p (x ∷ ws) (suc k) old w e =
     let ih = count-set p ws k old w e in
     omega (

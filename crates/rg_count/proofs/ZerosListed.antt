@@ -1,6 +1,6 @@
 -- Each turn of the search for cells without a count.
-use Rattle.std.proofs.Common.{◌≡◌, ◌≢◌, ℕ, ◌+◌, ◌<◌, List, [], ◌∷◌, length, Option, Some, None, get_or, set, refl, ap}
-use Rattle.std.proofs.Common.{sym, ◌∙◌, subst, arith, ◌⊎◌, inl, inr, slice_get}
+use Rattle.std.proofs.Common.{◌≡◌, ◌≢◌, ℕ, ◌+◌, ◌<◌, List, ◌∷◌, length, Option, Some, None, get_or, set, refl, ap}
+use Rattle.std.proofs.Common.{sym, ◌∙◌, subst, arith, inl, inr, slice_get}
 use Rattle.std.proofs.lemmas.List.{get_or-set_same, get_or-set_other}
 use Rattle.std.proofs.lemmas.Bool.{cases_eq, cases_lt}
 use Rattle.std.proofs.lemmas.Option.{same_Some}
@@ -9,45 +9,6 @@ use Rattle.rg_regions.specs.Table.{Has, Chained}
 use Rattle.rg_count.specs.Inner.Counting.{Listed}
 use Rattle.rg_regions.proofs.Callers.Chain.{chained_agree}
 use Rattle.rg_count.proofs.CountsLowered.{chained-head}
-
-pub listed-none : (members : List ℕ) (t : Table) → Listed members 0 t t None
-listed-none members t = record {
-  zeros = [];
-  heap = refl;
-  marks = refl;
-  chain = refl;
-  each = λ x m. absurd m;
-  all = λ i x l. absurd (omega (arith, l));
-  same = λ x n. refl;
-  off = λ x m. absurd m;
-}
-
--- a member has a count, or is a root
-pub listed-skip : (members : List ℕ) (n s : ℕ) (old mid : Table) (head : Option ℕ)
-    → ((i j s : ℕ) → slice_get members i ≡ Some s → slice_get members j ≡ Some s → i ≡ j) → slice_get members n ≡ Some s
-    → ((mark_at mid s ≢ 0) ⊎ (link_at mid s ≡ Some s)) → Listed members n old mid head
-    → Listed members (n + 1) old mid head
-listed-skip members n s old mid head once at why w = record {
-  zeros = w.zeros;
-  heap = w.heap;
-  marks = w.marks;
-  chain = w.chain;
-  each = λ x m. let e = w.each x m in (e.0, omega (arith, e.1), e.2, e.3, e.4);
-  all = λ i x l q z d. elim (cases_lt i n) [
-    | inl a ↦ w.all i x a q z d
-    | inr a ↦
-        let e : i ≡ n = omega (arith, l) in
-        let same : s ≡ x = same_Some s x (sym at ∙ ap (slice_get members) (sym e) ∙ q) in
-        let fresh : Has w.zeros s → ⊥ = λ m. let y = w.each s m in let v : y.0 ≡ n = once y.0 n s y.2 at in
-        omega (arith, v, y.1) in
-        elim why [
-          | inl b ↦ absurd (b (ap (λ ms. get_or ms s 0) w.marks ∙ ap (mark_at old) same ∙ z))
-          | inr b ↦ absurd (d (ap (link_at old) (sym same) ∙ sym (w.same s fresh) ∙ b ∙ ap Some same))
-        ]
-  ];
-  same = w.same;
-  off = w.off;
-}
 
 -- a member without a count that is no root
 pub listed-more : (members : List ℕ) (n s : ℕ) (old mid new : Table) (head : Option ℕ)

@@ -21,6 +21,14 @@ use rg_cells::Cells;
 use rg_regions::{Regions, chain_word, removed};
 use std::sync::ledger::Ledger;
 
+/// The roots of a region: its bridge, and its cells in slots and in fields of temporaries.
+#[derive(Clone, Copy)]
+pub struct Roots<'a> {
+    pub bridge: Option<usize>,
+    pub slots: &'a [Word],
+    pub temps: &'a [usize],
+}
+
 /// The heads of the zero list and of the chain of regions without an owner.
 #[derive(Clone, Copy)]
 pub struct Heads {
@@ -96,21 +104,23 @@ fn lower_fields<L: Ledger>(
     regions: &mut Regions,
     region: u64,
     slot: usize,
-    mut zero: Option<usize>,
-    mut orphans: Option<usize>,
+    heads: Heads,
     steps: &mut Steps<L>,
 ) -> Heads
     requires held { IsHeld cells.old.heap slot }
     requires lead { (k s : ℕ) → field_at cells.old.heap slot k ≡ Some (Word.Slot s)
         → IsHeld cells.old.heap s }
     requires labels { AllInTable cells.old.heap regions.old }
-    requires ready { IsReady cells.old.heap region slot cells.old zero }
+    requires ready { IsReady cells.old.heap region slot cells.old heads.zero }
     ensures lowered { Lowered cells.old.heap region slot (width (body_at cells.old.heap slot))
-        cells.old cells.new zero result.zero }
+        cells.old cells.new heads.zero result.zero }
     ensures fields { FollowsFields cells.old.heap Every region slot
-        (width (body_at cells.old.heap slot)) regions.old regions.new orphans result.orphans }
+        (width (body_at cells.old.heap slot)) regions.old regions.new heads.orphans
+        result.orphans }
     ensures cost { steps.new ≡ steps.old + width (body_at cells.old.heap slot) }
 {
+    let mut zero = heads.zero;
+    let mut orphans = heads.orphans;
     for k in 0..cells.field_count(slot) {
         let w = cells.look(slot, k, steps);
         zero = lower(cells, region, w, zero);
@@ -124,28 +134,26 @@ fn flag_roots<L: Ledger>(
     cells: &mut Cells,
     members: &[usize],
     region: u64,
-    bridge: Option<usize>,
-    slots: &[Word],
-    temps: &[usize],
+    roots: &Roots<'_>,
     steps: &mut Steps<L>,
 )
     requires members { Members cells.old.heap region members.now }
-    requires bridge { (s : ℕ) → bridge ≡ Some s → IsHeld cells.old.heap s }
-    requires slots { WordsLeadToHeld cells.old.heap slots.now }
-    requires temps { AllHeld cells.old.heap temps.now }
-    requires temps_lead { TempsLeadToHeld cells.old.heap temps.now }
+    requires bridge { (s : ℕ) → roots.now.bridge ≡ Some s → IsHeld cells.old.heap s }
+    requires slots { WordsLeadToHeld cells.old.heap roots.now.slots.now }
+    requires temps { AllHeld cells.old.heap roots.now.temps.now }
+    requires temps_lead { TempsLeadToHeld cells.old.heap roots.now.temps.now }
     ensures heap { cells.new.heap ≡ cells.old.heap }
     ensures marks { cells.new.marks ≡ cells.old.marks }
     ensures links { LinksStay cells.old.heap region cells.old cells.new }
-    ensures rooted { Rooted cells.old.heap region (roots_of bridge slots.now temps.now)
-        cells.new }
+    ensures rooted { Rooted cells.old.heap region (roots_of roots.now.bridge roots.now.slots.now
+        roots.now.temps.now) cells.new }
     ensures cost { steps.new
-        ≡ steps.old + sum_by (λ t. width (body_at cells.old.heap t)) temps.now }
+        ≡ steps.old + sum_by (λ t. width (body_at cells.old.heap t)) roots.now.temps.now }
 {
     clear(cells, members);
-    flag_bridge(cells, region, bridge);
-    flag_words(cells, region, slots);
-    flag_temps(cells, region, temps, steps);
+    flag_bridge(cells, region, roots.bridge);
+    flag_words(cells, region, roots.slots);
+    flag_temps(cells, region, roots.temps, steps);
 }
 
 /// Counts a region down: spent cells have no count and no flag afterwards, all other cells have a
@@ -156,9 +164,7 @@ pub fn count_down<L: Ledger>(
     regions: &mut Regions,
     key: usize,
     region: u64,
-    bridge: Option<usize>,
-    slots: &[Word],
-    temps: &[usize],
+    roots: &Roots<'_>,
     steps: &mut Steps<L>,
 ) -> Option<usize>
     requires there { (r : Record) × (record_at regions.old key ≡ Some r)
@@ -168,30 +174,24 @@ pub fn count_down<L: Ledger>(
     requires one { LeadsOnce cells.old.heap region }
     requires lead { LeadsToHeld cells.old.heap region }
     requires labels { AllInTable cells.old.heap regions.old }
-    requires bridge { (s : ℕ) → bridge ≡ Some s → IsHeld cells.old.heap s }
-    requires slots { WordsLeadToHeld cells.old.heap slots.now }
-    requires temps { AllHeld cells.old.heap temps.now }
-    requires temps_lead { TempsLeadToHeld cells.old.heap temps.now }
-    ensures { CountedDown cells.old.heap region (roots_of bridge slots.now temps.now) cells.old
-        regions.old (steps.old + sum_by (λ t. width (body_at cells.old.heap t)) temps.now)
-        cells.new regions.new result steps.new }
+    requires bridge { (s : ℕ) → roots.now.bridge ≡ Some s → IsHeld cells.old.heap s }
+    requires slots { WordsLeadToHeld cells.old.heap roots.now.slots.now }
+    requires temps { AllHeld cells.old.heap roots.now.temps.now }
+    requires temps_lead { TempsLeadToHeld cells.old.heap roots.now.temps.now }
+    ensures { CountedDown cells.old.heap region (roots_of roots.now.bridge roots.now.slots.now
+        roots.now.temps.now) cells.old regions.old (steps.old
+        + sum_by (λ t. width (body_at cells.old.heap t)) roots.now.temps.now) cells.new regions.new
+        result steps.new }
 {
-    flag_roots(
-        cells,
-        regions.members(key),
-        region,
-        bridge,
-        slots,
-        temps,
-        steps,
-    );
+    flag_roots(cells, regions.members(key), region, roots, steps);
     let mut left = regions.members(key).len();
     let mut zero = first_zeros(cells, regions.members(key));
     let mut orphans = None;
     'down: while let Some(slot) = zero {
         left -= 1;
-        let next = cells.link(slot);
-        let heads = lower_fields(cells, regions, region, slot, next, orphans, steps);
+        zero = cells.link(slot);
+        let heads = Heads { zero, orphans };
+        let heads = lower_fields(cells, regions, region, slot, heads, steps);
         zero = heads.zero;
         orphans = heads.orphans;
     }

@@ -9,7 +9,7 @@ ghost use Rattle.rg_regions.specs.Collection.{TempsLeadToHeld, OfRegion, ChainsO
 ghost use Rattle.rg_regions.specs.Collection.{roots_of, region_fields};
 ghost use Rattle.rg_count.specs.Counted.{Counted};
 
-use crate::down::count_down;
+use crate::down::{Roots, count_down};
 use crate::sweeping::sweep;
 use rg_base::{Manager, Steps, Word};
 use rg_cells::Cells;
@@ -45,7 +45,12 @@ pub fn collect<L: Ledger>(
 {
     let region = regions.number(key);
     let bridge = regions.bridge(key);
-    let orphans = count_down(cells, regions, key, region, bridge, slots, temps, steps);
+    let roots = Roots {
+        bridge,
+        slots,
+        temps,
+    };
+    let orphans = count_down(cells, regions, key, region, &roots, steps);
     sweep(cells, regions, key);
     Kept {
         kept: regions.members(key).len() as u64,

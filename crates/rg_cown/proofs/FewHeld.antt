@@ -14,13 +14,6 @@ use Rattle.rg_cown.specs.Inner.Reads.{Lasts}
 use Rattle.rg_cown.proofs.ObjectsRead.{lasts_held}
 use Rattle.rg_cown.proofs.Rising.{held_high}
 
-any_has : (xs : List ℕ) (s : ℕ) → list_any (nat_eq s) xs ≡ true → Has xs s
-any_has [] s e = cc
-any_has (x ∷ xs) s e = elim (eqb_tells s x) [
-  | inl t ↦ inl t.1
-  | inr t ↦ inr (any_has xs s (sym (ap (λ z. z || list_any (nat_eq s) xs) t.0) ∙ e))
-]
-
 has_any : (xs : List ℕ) (s : ℕ) → Has xs s → list_any (nat_eq s) xs ≡ true
 has_any [] s m = absurd m
 has_any (x ∷ xs) s m = elim (eqb_tells s x) [

@@ -114,6 +114,3 @@ pub up_to : (old mid new : Heap) (n most : ℕ) → Rises old mid n → n ≤ mo
 up_to old mid new n most r l e =
     let h = r.high in
     record { least = omega (arith, h, e); most = omega (arith, h, e, l) }
-
-pub up_to_none : (old : Heap) (most : ℕ) → HighUpTo old old most
-up_to_none old most = record { least = omega arith; most = omega arith }

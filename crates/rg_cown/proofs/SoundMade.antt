@@ -5,10 +5,12 @@ use Rattle.std.specs.Prelude.{◌==◌}
 use Rattle.std.specs.List.{list_all, range_with_len}
 use Rattle.std.proofs.lemmas.List.Sums.{sum_by-cons}
 use Rattle.std.proofs.lemmas.Bool.Decides.{eqb_tells}
+use Rattle.std.proofs.lemmas.Option.{same_Some}
 use Rattle.rg_base.specs.declared.object.Label.{Label}
 use Rattle.rg_base.specs.declared.object.Label.TheVariants.{Region, Temp, Frozen}
 use Rattle.rg_base.specs.declared.value.Val.{Val}
 use Rattle.rg_base.specs.declared.value.Val.TheVariants.{Nil, Int, Bool, Obj}
+use Rattle.rg_base.proofs.Callers.Labels.{region-same}
 use Rattle.rg_cown.specs.declared.cargo.CargoCell.{CargoCell}
 use Rattle.rg_cown.specs.Loads.{IsFirst}
 use Rattle.rg_cown.specs.Cargo.{CargoList, label_of, regions_named, named_from, region_named, is_in, comes_to}
@@ -68,12 +70,9 @@ sum_single : {X : Type 0} → (f : X → ℕ) (xs : List X) (i : ℕ) (x : X) �
 sum_single f [] i x e h = cc
 sum_single f (z ∷ xs) zero x e h =
     let c = sum_by-cons f z xs in
-    let a = ap f (some_is z x e) in
+    let a = ap f (same_Some z x e) in
     let b = sum_none f xs (λ k y g. h (suc k) y (λ q. omega (arith, q)) g) in
     omega (arith, c, a, b)
-  where
-    some_is : {X : Type 0} → (a b : X) → Some a ≡ Some b → a ≡ b
-    some_is a b q = cc
 sum_single f (z ∷ xs) (suc i) x e h =
     let c = sum_by-cons f z xs in
     let a = h 0 z (λ q. omega (arith, q)) refl in
@@ -92,10 +91,7 @@ label_within (y ∷ ys) (suc k) l e = let z = label_within ys k l e in omega (ar
 
 -- a region that is numbered has an object
 region_there : (cs : List CargoCell) (n m q : ℕ) → regions_named n cs ≡ Some m → n ≤ q → q < m → (k : ℕ) × (label_of cs k ≡ Some (Region q))
-region_there [] n m q e l u = let s = some_number n m e in absurd (omega (arith, s, l, u))
-  where
-    some_number : (a b : ℕ) → Some a ≡ Some b → a ≡ b
-    some_number a b z = cc
+region_there [] n m q e l u = let s = same_Some n m e in absurd (omega (arith, s, l, u))
 region_there (c ∷ cs) n m q e l u =
     let b = between (region_named n c.label) (λ x. regions_named x cs) m e in
     elim (less_or_not q b.0) [
@@ -109,10 +105,7 @@ region_there (c ∷ cs) n m q e l u =
         object_is : (a b : ℕ) → Obj a ≡ Obj b → a ≡ b
         object_is a b z = cc
     new_label (Temp x) y g t = cc
-    new_label Frozen y g t = let s = some_number n y g in absurd (omega (arith, s, l, t))
-      where
-        some_number : (a b : ℕ) → Some a ≡ Some b → a ≡ b
-        some_number a b z = cc
+    new_label Frozen y g t = let s = same_Some n y g in absurd (omega (arith, s, l, t))
 
 -- the first region has the number 0
 pub first_zero : (cs : List CargoCell) (m r : ℕ) → regions_named 0 cs ≡ Some m → label_of cs 0 ≡ Some (Region r) → r ≡ 0
@@ -120,11 +113,8 @@ first_zero [] m r e l = cc
 first_zero (c ∷ cs) m r e l =
     let P : Label → Type 0 = λ z. region_named 0 z ≡ Some (between (region_named 0 c.label) (λ x. regions_named x cs) m e).0 in
     let b = between (region_named 0 c.label) (λ x. regions_named x cs) m e in
-    is_zero r b.0 (subst P (label_some c.label (Region r) l) b.1)
+    is_zero r b.0 (subst P (same_Some c.label (Region r) l) b.1)
   where
-    label_some : (a b : Label) → Some a ≡ Some b → a ≡ b
-    label_some a b z = cc
-
     none_some : (y : ℕ) → None ≡ Some y → ⊥
     none_some y z = cc
 
@@ -210,15 +200,12 @@ module _ (c : CargoList) (h : Holds c) where
       let within = label_within c.cells x (Region q) f.1.lies in
       let apart : x ≢ 0 = (λ z.
       let P : ℕ → Type 0 = λ i. label_of c.cells i ≡ Some (Region q) in
-      let s = region_is q 0 (sym (subst P z f.1.lies) ∙ zero_is) in
+      let s = region-same q 0 (sym (subst P z f.1.lies) ∙ zero_is) in
       omega (arith, s, above)) in
       let n = new_from c.cells 0 1 (length c.cells) x h.numbered.objects (omega (arith, apart)) within in
       let P : ℕ → Type 0 = λ z. slice_get n.3.cell.fields n.1 ≡ Some (Obj z) in
       from_before x f.1 n.0 n.1 n.2 (record { cell = n.3.cell; there = n.3.there; value = subst P (omega arith) n.3.value })
     where
-      region_is : (a b : ℕ) → Some (Region a) ≡ Some (Region b) → a ≡ b
-      region_is a b e = cc
-
       from_before : (x : ℕ) → IsFirst c.cells q x → (i g : ℕ) → i < x → HasField c.cells i g (Obj x)
           → (p : ℕ) × (k : ℕ) × (j : ℕ) × (a : ℕ) × Enters c.cells p q k j a
       from_before x f i g less w = by w.cell.label refl
@@ -253,16 +240,13 @@ module _ (c : CargoList) (h : Holds c) where
       let j = n.2 in
       let w = n.4 in
       let x = w.field.cell in
-      let lab : x.label ≡ Region p = label_some x.label (Region p) (sym (label_is c.cells k x w.field.there) ∙ w.from) in
+      let lab : x.label ≡ Region p = same_Some x.label (Region p) (sym (label_is c.cells k x w.field.there) ∙ w.from) in
       let cells = sum_single (λ (x : CargoCell). entries_of c.cells q x.label x.fields) c.cells k x w.field.there (λ i y d e.
       weighs_none q i y e (λ p₂ j₂ a₂ v. d ((h.once p₂ q i j₂ a₂ p k j n.3 v w).0))) in
       let fields = sum_single (λ y. cond {A = ℕ} (leads_into c.cells q y) 1 0) x.fields j (Obj n.3) w.field.value (λ i v d e.
       ap (λ b. cond {A = ℕ} b 1 0) (leads_not p q k i x v w.field.there lab w.other e
       (λ a₂ z. d ((h.once p q k i a₂ p k j n.3 z w).1)))) in
       cells ∙ weighs c.cells p q k j n.3 w ∙ fields ∙ ap (λ b. cond {A = ℕ} b 1 0) (hits c.cells p q k j n.3 w)
-    where
-      label_some : (a b : Label) → Some a ≡ Some b → a ≡ b
-      label_some a b z = cc
 
   entered : (q : ℕ) → q < length c.managers → is_entered c.cells q ≡ true
   entered q below = elim (eqb_tells q 0) [
@@ -292,8 +276,5 @@ module _ (c : CargoList) (h : Holds c) where
     where
       range_below : (a n k q : ℕ) → slice_get (range_with_len a n) k ≡ Some q → q < a + n
       range_below a zero k q e = cc
-      range_below a (suc n) zero q e = let s = some_number a q e in omega (arith, s)
-        where
-          some_number : (a b : ℕ) → Some a ≡ Some b → a ≡ b
-          some_number a b z = cc
+      range_below a (suc n) zero q e = let s = same_Some a q e in omega (arith, s)
       range_below a (suc n) (suc k) q e = let r = range_below (a + 1) n k q e in omega (arith, r)

@@ -13,6 +13,7 @@ use Rattle.rg_base.specs.declared.words.Manager.{Manager}
 use Rattle.rg_base.specs.declared.value.Val.{Val}
 use Rattle.rg_base.specs.declared.value.Val.TheVariants.{Nil, Int, Bool, Obj}
 use Rattle.rg_base.specs.declared.value.Word.TheVariants as words
+use Rattle.rg_base.proofs.Callers.Labels.{region-number}
 use Rattle.rg_cells.specs.declared.cell.Body.{Body}
 use Rattle.rg_cells.specs.Table.{Heap, Table, body_at, label_at, field_at, high_of}
 use Rattle.rg_regions.specs.Table.{RegionTable, IsBridge}
@@ -180,12 +181,9 @@ module _ (at : ℕ → Seen) (P : ℕ → Type 0) (manager : ℕ → Manager) (m
       let i = position_or_len (nat_eq region) final.regions in
       let z = first_zero final.cells (length final.regions) i regions first in
       let r = label_read 0 i start start_there first in
-      let same : r.0 ≡ region = region_is r.0 region (sym r.1 ∙ h.lies) in
+      let same : r.0 ≡ region = region-number r.0 region (sym r.1 ∙ h.lies) in
       let Q : ℕ → Type 0 = λ y. slice_get final.regions y ≡ Some region in
       subst Q z (r.3 ∙ ap Some same)
-    where
-      region_is : (a b : ℕ) → Region a ≡ Region b → a ≡ b
-      region_is a b q = cc
 
   leads_read : (p q k j y a b : ℕ) → Enters final.cells p q k j y → slice_get final.order k ≡ Some a → slice_get (at a).fields j ≡ Some (Obj b)
       → slice_get final.order y ≡ Some b → (pr : ℕ) × (qr : ℕ) × Leads at pr qr a j b × (slice_get final.regions q ≡ Some qr)

@@ -10,12 +10,12 @@ use Rattle.rg_base.specs.declared.fault.Code.{Code}
 use Rattle.rg_base.specs.declared.fault.Code.TheVariants.{Unknown}
 use Rattle.rg_tree.specs.Tree.{Name}
 use Rattle.rg_tree.specs.Rows.Tables.{Tables, name_at, AreDistinct}
-use Rattle.rg_tree.specs.Rows.RowTrees.{program_of}
+use Rattle.rg_tree.specs.Rows.RowTrees.{program_of, variable_of}
 use Rattle.rg_tree.specs.Rows.RowsExist.{IsNameIn}
 use Rattle.rg_tree.proofs.Callers.{name_at-injective}
 use Rattle.rg_rules.specs.Environment as rules
 use Rattle.rg_names.specs.TreeAnswers.{IsKnown}
-use Rattle.rg_flow.specs.Scope.{Slot, Scope, same_name, marked_slot, marked, variable_of, entry_of, env_of, IsSlotIn}
+use Rattle.rg_flow.specs.Scope.{Slot, Scope, same_name, marked_slot, marked, entry_of, env_of, IsSlotIn}
 use Rattle.rg_flow.specs.Scope.{IsScopeIn}
 use Rattle.rg_flow.specs.States.{readiness_of, slot_of, FoundAs, FoundInTree, IsReadable}
 use Rattle.rg_flow.specs.declared.env.found.Found.{Found}

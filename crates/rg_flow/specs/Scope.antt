@@ -1,10 +1,9 @@
 -- What contracts see of the visible variables: names and classes by their numbers (docs/language.md, "Judgements").
-use Rattle.std.specs.Prelude.{ℕ, ◌+◌, Bool, true, nat_eq, if◌then◌else◌, List, [], ◌∷◌, ◌++◌, take, map, All, IfSome, Option, option_map}
+use Rattle.std.specs.Prelude.{ℕ, ◌+◌, Bool, true, nat_eq, if◌then◌else◌, List, [], ◌∷◌, ◌++◌, take, map, All, IfSome, Option}
 use Rattle.std.specs.Option.{option_eq}
 use Rattle.rg_base.specs.declared.ty.Ty.{Ty}
-use Rattle.rg_tree.specs.Tree.{Variable}
-use Rattle.rg_tree.specs.Rows.Tables.{Tables, name_at}
-use Rattle.rg_tree.specs.Rows.RowTrees.{program_of}
+use Rattle.rg_tree.specs.Rows.Tables.{Tables}
+use Rattle.rg_tree.specs.Rows.RowTrees.{program_of, variable_of}
 use Rattle.rg_tree.specs.Rows.RowsExist.{IsNameIn}
 use Rattle.rg_rules.specs.Environment.{Readiness, ready, Entry, Env}
 use Rattle.rg_names.specs.TreeAnswers.{IsKnown}
@@ -52,13 +51,9 @@ entered scope name ty = pushed (record scope { depth = scope.depth + 1 }) name t
 abbrev pub closed_at : (depth len : ℕ) → Scope → Scope
 closed_at depth len scope = record { depth = depth; slots = take len scope.slots }
 
--- the variable of a number, with its name written out
-abbrev pub variable_of : Tables → Option ℕ → Variable
-variable_of t name = option_map (name_at t) name
-
 -- a variable with its name written out
 abbrev pub entry_of : Tables → Slot → Entry
-entry_of t s = record { name = option_map (name_at t) s.name; ty = s.ty; depth = s.depth; readiness = s.readiness; assignable = s.assignable }
+entry_of t s = record { name = variable_of t s.name; ty = s.ty; depth = s.depth; readiness = s.readiness; assignable = s.assignable }
 
 -- the environment that a scope stands for
 abbrev pub env_of : Tables → Scope → Env

@@ -3,13 +3,13 @@ use Rattle.std.specs.Prelude.{◌≡◌, ℕ, zero, suc, ◌≤◌, IsTrue, if�
 use Rattle.rg_base.specs.declared.fault.Code.{Code}
 use Rattle.rg_base.specs.declared.fault.Code.TheVariants.{Unknown}
 use Rattle.rg_tree.specs.Rows.Tables.{Tables, AreDistinct}
-use Rattle.rg_tree.specs.Rows.RowTrees.{program_of}
+use Rattle.rg_tree.specs.Rows.RowTrees.{program_of, variable_of}
 use Rattle.rg_rules.specs.Answers.{Answer}
 use Rattle.rg_rules.specs.Environment.{Readiness, ready, gone, lent, Entry, joined_readiness, is_ready, entry_of}
 use Rattle.rg_flow.specs.declared.flow.Flow.{Flow}
 use Rattle.rg_flow.specs.Flows.{state_of}
 use Rattle.rg_names.specs.TreeAnswers.{IsKnown}
-use Rattle.rg_flow.specs.Scope.{Slot, Scope, same_name, variable_of, env_of, IsScopeIn}
+use Rattle.rg_flow.specs.Scope.{Slot, Scope, same_name, env_of, IsScopeIn}
 use Rattle.rg_flow.specs.declared.env.states.State.{State}
 use Rattle.rg_flow.specs.declared.env.states.State.TheVariants.{Ready, Gone, Lent}
 use Rattle.rg_flow.specs.declared.env.found.Found.{Found}

@@ -13,12 +13,6 @@ pub layers-push : (slots new : List Word) (first back : ℕ) (frames : List Fram
 layers-push slots new first back frames =
     rw (reverse-append frames (record { back = back; below = first } ∷ []), drop-append_seam slots new, take-append_seam slots new) refl
 
--- where the top frame is taken away, the others are left
-pub layers-pop : (slots : List Word) (first : ℕ) (frames : List Frame) (f : Frame)
-    → layers_from slots first (reverse (frames ++ f ∷ []))
-    ≡ record { slots = drop first slots; back = f.back } ∷ layers_from (take first slots) f.below (reverse frames)
-layers-pop slots first frames f = rw (reverse-append frames (f ∷ [])) refl
-
 -- a write changes the top frame alone
 pub layers-set : (slots : List Word) (first s : ℕ) (w : Word) (f : Frame) (fs : List Frame)
     → layers_from (set slots (first + s) w) first (f ∷ fs)

@@ -14,9 +14,9 @@ use Rattle.rg_cells.specs.declared.cell.Body.{Body}
 use Rattle.rg_cells.specs.Table.{Table, body_at, field_at, label_at, mark_at}
 use Rattle.rg_regions.specs.Table.{Record, RegionTable, record_at, HasNumber, Added, fresh}
 use Rattle.rg_regions.specs.Reach.{LiesIn, belongs}
-use Rattle.rg_regions.specs.Grove.{Grove, Members, Parent, Above, direct, further, referrers, leads_to}
+use Rattle.rg_regions.specs.Grove.{Grove, Members, Parent, referrers, leads_to}
 use Rattle.rg_regions.proofs.Callers.Told.{number_of, record_there}
-use Rattle.rg_regions.proofs.Callers.Fewer.{total_alike}
+use Rattle.rg_regions.proofs.Callers.Fewer.{total_alike, above_by, parent_by}
 
 -- two records are one but for the room
 pub record IsAlike (a b : Record) : Type 0 where
@@ -43,19 +43,9 @@ module _ (c : Table) (t : RegionTable) (cells : Table) (regions : RegionTable) (
   field_back s k v f = sym (ap (option_and_then (λ (b : Body). slice_get b.fields k)) (w.bodies s)) ∙ f
 
   parent_back : (p q : ℕ) → Parent cells.heap p q → Parent c.heap p q
-  parent_back p q e = record {
-    differ = e.differ;
-    from = e.from;
-    field = e.field;
-    to = e.to;
-    lies = label_back e.from (Region p) e.lies;
-    leads = field_back e.from e.field (Slot e.to) e.leads;
-    child_has = label_back e.to (Region q) e.child_has;
-  }
-
-  above_back : (p q : ℕ) → Above cells.heap p q → Above c.heap p q
-  above_back p q (direct a) = direct (parent_back p q a)
-  above_back p q (further {q = m} a e) = further (above_back p m a) (parent_back m q e)
+  parent_back p q e =
+      parent_by c.heap cells.heap p q e (label_back e.from (Region p) e.lies) (field_back e.from e.field (Slot e.to) e.leads)
+      (label_back e.to (Region q) e.child_has)
 
   number_back : (k n : ℕ) → HasNumber regions k n → HasNumber t k n
   number_back k n a =
@@ -112,7 +102,7 @@ module _ (c : Table) (t : RegionTable) (cells : Table) (regions : RegionTable) (
         d2 (label_back s2 (Region p2) l2) (field_back s2 k2 (Slot to2) f2) (label_back to2 (Region q) i2);
     none_into_first = λ p s k to d l f i.
         g.none_into_first p s k to d (label_back s (Region p) l) (field_back s k (Slot to) f) (label_back to (Region 0) i);
-    no_cycle = λ r a. g.no_cycle r (above_back r r a);
+    no_cycle = λ r a. g.no_cycle r (above_by c.heap cells.heap parent_back r r a);
     counts = λ k s z a m l.
         let y = w.back k z a in
         let L : ℕ → Type 0 = λ n. LiesIn c.heap n s in

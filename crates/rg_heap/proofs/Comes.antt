@@ -5,9 +5,9 @@ use Rattle.std.proofs.lemmas.Bool.{cases_eq}
 use Rattle.std.proofs.lemmas.List.{get_or-set_other}
 use Rattle.std.proofs.lemmas.Option.{same_Some}
 use Rattle.rg_base.specs.declared.words.Manager.{Manager}
-use Rattle.rg_base.specs.declared.object.Label.{Label}
 use Rattle.rg_base.specs.declared.object.Label.TheVariants.{Region, Temp}
 use Rattle.rg_base.specs.declared.value.Word.{Word}
+use Rattle.rg_base.proofs.Callers.Labels.{region-number}
 use Rattle.rg_cells.specs.declared.cell.Body.{Body}
 use Rattle.rg_cells.specs.Table.{Table, Made, body_at, body_in, label_at, mark_at, cancelled as cell_cancelled}
 use Rattle.rg_regions.specs.Table.{Record, RegionTable, record_at, HasNumber, IsKey, IsNewest, HasRoom, Roomier, Added, fresh, changed, cancelled}
@@ -124,12 +124,9 @@ module _ (c cells : Table) (slot : ℕ) (b : Body) (vacant : body_at c.heap slot
   lies_back q s l = elim (cases_eq s slot) [
     | inl e ↦
         let P : ℕ → Type 0 = λ z. label_at cells.heap z ≡ Some (Region q) in
-        inl (e, label_is b.label (Region q) (sym label_new ∙ subst P e l))
+        inl (e, same_Some b.label (Region q) (sym label_new ∙ subst P e l))
     | inr d ↦ inr (d, sym (label_other s d) ∙ l)
   ]
-    where
-      label_is : (a b : Label) → Some a ≡ Some b → a ≡ b
-      label_is a b q = cc
 
   -- members of a region to which the new cell doesn't belong
   members_on : (q : ℕ) (members : List ℕ) → (b.label ≡ Region q → ⊥) → Members c.heap q members → Members cells.heap q members
@@ -163,9 +160,6 @@ module _ (c cells : Table) (slot : ℕ) (b : Body) (vacant : body_at c.heap slot
     ];
   }
 
-region_is : (a b : ℕ) → Region a ≡ Region b → a ≡ b
-region_is a b q = cc
-
 kin_self : (r : Record) (members : List ℕ) (room : ℕ) → IsKin r (record r { members = members; room = room })
 kin_self r members room = record { number = refl; manager = refl; bridge = refl }
 
@@ -188,17 +182,14 @@ grove_member c t cells regions key n slot class fields g has plain m w k = grove
     new_is = (w.is r.0 r.1).1
 
     number : n ≡ r.0.number
-    number = some_is n r.0.number (sym has ∙ ap (option_map (λ (y : Record). y.number)) r.1)
-      where
-        some_is : (a b : ℕ) → Some a ≡ Some b → a ≡ b
-        some_is a b q = cc
+    number = same_Some n r.0.number (sym has ∙ ap (option_map (λ (y : Record). y.number)) r.1)
 
     grows : Grows c t cells regions slot b
     grows = record {
       vacant = m.takes.vacant;
       made = m.made;
       plain = plain;
-      known = λ q e. let P : ℕ → Type 0 = λ z. HasNumber t key z in (key, subst P (region_is n q e) has);
+      known = λ q e. let P : ℕ → Type 0 = λ z. HasNumber t key z in (key, subst P (region-number n q e) has);
       back = λ o z a. elim (cases_eq o key) [
         | inl q ↦
             let A : Record → Type 0 = λ y. IsKin r.0 y in
@@ -224,7 +215,7 @@ grove_member c t cells regions key n slot class fields g has plain m w k = grove
         | inr d ↦
             let x = sym (w.others o d) ∙ a in
             members_on c cells slot b m.takes.vacant m.made z.number z.members
-            (λ e. d (g.numbers o key n (number_of t o n z x (sym (region_is n z.number e))) has)) (g.members o z x)
+            (λ e. d (g.numbers o key n (number_of t o n z x (sym (region-number n z.number e))) has)) (g.members o z x)
       ];
     }
 
@@ -365,10 +356,7 @@ pub number_next : (t mid roomy : RegionTable) (key more n : ℕ) (m : Manager) �
     → HasNumber roomy key n → n ≡ t.next
 number_next t mid roomy key more n m a w e =
     let x = ap (λ (z : RegionTable). record_at z key) w.2 ∙ changed_at mid key (fresh t m) (with_room w.0) a.is in
-    some_is n t.next (sym e ∙ ap (option_map (λ (y : Record). y.number)) x)
-  where
-    some_is : (a b : ℕ) → Some a ≡ Some b → a ≡ b
-    some_is a b q = cc
+    same_Some n t.next (sym e ∙ ap (option_map (λ (y : Record). y.number)) x)
 
 -- a slot that isn't held has no mark
 pub vacant_unmarked : (c : Table) (t : RegionTable) (slot : ℕ) → Grove c t → body_at c.heap slot ≡ None → mark_at c slot ≡ 0

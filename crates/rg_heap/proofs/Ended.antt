@@ -3,6 +3,7 @@ use Rattle.std.proofs.Common.{◌≡◌, ◌≢◌, ℕ, ◌+◌, ◌<◌, List,
 use Rattle.std.proofs.Common.{refl, ap, sym, ◌∙◌, subst, ◌⊎◌, inl, inr, slice_get, arith, option_map}
 use Rattle.std.proofs.lemmas.Bool.{cases_eq, cases_lt}
 use Rattle.std.proofs.lemmas.List.{get_or-set_other, get_or-set_same}
+use Rattle.std.proofs.lemmas.Option.{same_Some}
 use Rattle.rg_cells.specs.declared.cell.Body.{Body}
 use Rattle.rg_cells.specs.Table.{Heap, Table, IsHeld, body_at, body_in, mark_at, freed_from}
 use Rattle.rg_cells.proofs.SerialsKept.{none_at}
@@ -39,7 +40,7 @@ freed_more old t slots i s once stands held f =
           | inr m ↦
               let q : j ≡ i = omega (arith, l, m) in
               let P : ℕ → Type 0 = λ n. slice_get slots n ≡ Some x in
-              absurd (d (slot_is x s (sym (subst P q e) ∙ stands)))
+              absurd (d (same_Some x s (sym (subst P q e) ∙ stands)))
         ]
       ];
       others = λ x n.
@@ -49,9 +50,6 @@ freed_more old t slots i s once stands held f =
       serials = f.serials;
       high = count-freed t.heap.slots s o.0 o.1 ∙ f.high;
     }
-  where
-    slot_is : (a b : ℕ) → Some a ≡ Some b → a ≡ b
-    slot_is a b q = cc
 
 -- a body is as it was, or there is none
 pub gone_sub : (c : Table) (t : RegionTable) (keys : List ℕ) (cells : Table) → CellsGo c t cells keys → CellsStay c t cells keys
@@ -76,10 +74,6 @@ gone_none c t keys e = record {
   where
     none : (q : ℕ) → BelowOne c.heap t keys q → ⊥
     none q w = let P : List ℕ → Type 0 = λ ks. Has ks w.key in subst P e w.one
-
-pub none_is : (o : Option ℕ) → ((x : ℕ) → o ≡ Some x → ⊥) → o ≡ None
-none_is None h = refl
-none_is (Some x) h = absurd (h x refl)
 
 pub key_there : (t : RegionTable) (key n : ℕ) → HasNumber t key n → IsKey t key
 key_there t key n a = by_record (record_at t key) a

@@ -2,18 +2,19 @@
 use Rattle.std.proofs.Common.{◌≡◌, ◌≢◌, ℕ, suc, Bool, false, true, cond, List, [], ◌∷◌, Option, Some, None, refl, ap, sym, ◌∙◌}
 use Rattle.std.proofs.Common.{subst, inl, inr, option_map, option_and_then, slice_get, count_by}
 use Rattle.std.proofs.lemmas.Bool.{cases_eq}
-use Rattle.rg_base.specs.declared.object.Label.{Label}
+use Rattle.std.proofs.lemmas.Option.{same_Some}
 use Rattle.rg_base.specs.declared.object.Label.TheVariants.{Region, Frozen}
 use Rattle.rg_base.specs.declared.value.Word.{Word}
 use Rattle.rg_base.specs.declared.value.Word.TheVariants.{Nil, Int, Bool as Truth, Slot}
 use Rattle.rg_cells.specs.declared.cell.Body.{Body}
-use Rattle.rg_cells.specs.Table.{Table, Made, body_at, body_in, field_at, label_at, mark_at}
+use Rattle.rg_cells.specs.Table.{Table, Made, body_at, field_at, label_at, mark_at}
 use Rattle.rg_regions.specs.Table.{Record, RegionTable, record_at, HasNumber, InTable}
 use Rattle.rg_regions.specs.Reach.{LiesIn, belongs}
-use Rattle.rg_regions.specs.Grove.{Grove, Members, Parent, Above, direct, further, referrers, leads_to}
+use Rattle.rg_regions.specs.Grove.{Grove, Members, Parent, referrers, leads_to}
 use Rattle.rg_regions.proofs.Callers.Told.{number_of, record_there, lies_or_not}
-use Rattle.rg_regions.proofs.Callers.Fewer.{total_alike, belongs_not}
+use Rattle.rg_regions.proofs.Callers.Fewer.{total_alike, belongs_not, weight, above_by, parent_by}
 use Rattle.rg_regions.proofs.Callers.RegionComes.{none_leads as none_lead_to}
+use Rattle.rg_regions.proofs.Callers.Beside.{Beside, beside, not_to}
 use Rattle.rg_count.proofs.Written.{referrers-made}
 use Rattle.rg_heap.specs.Changes.{LeadsNowhere}
 
@@ -47,20 +48,8 @@ cond_none true n e = e
 
 module _ (c : Table) (t : RegionTable) (cells : Table) (regions : RegionTable) (slot : ℕ) (b : Body)
     (g : Grove c t) (w : Grows c t cells regions slot b) where
-  same : (s : ℕ) → s ≢ slot → body_at cells.heap s ≡ body_at c.heap s
-  same s d = ap body_in (w.made.others s d)
-
-  held_apart : (s : ℕ) (l : Label) → label_at c.heap s ≡ Some l → s ≢ slot
-  held_apart s l e q =
-      let P : ℕ → Type 0 = λ z. label_at c.heap z ≡ Some l in
-      let z : None ≡ Some l = sym (ap (option_map (λ (b : Body). b.label)) w.vacant) ∙ subst P q e in
-      cc
-
-  pub label_on : (s : ℕ) (l : Label) → label_at c.heap s ≡ Some l → label_at cells.heap s ≡ Some l
-  label_on s l e = ap (option_map (λ (b : Body). b.label)) (same s (held_apart s l e)) ∙ e
-
-  label_back : (s : ℕ) (l : Label) → s ≢ slot → label_at cells.heap s ≡ Some l → label_at c.heap s ≡ Some l
-  label_back s l d e = sym (ap (option_map (λ (b : Body). b.label)) (same s d)) ∙ e
+  near : Beside c cells slot
+  near = beside c cells slot b w.made w.vacant
 
   -- a field that leads somewhere is one of a cell that was there
   lead_back : (s k to : ℕ) → field_at cells.heap s k ≡ Some (Slot to) → (s ≢ slot) × (field_at c.heap s k ≡ Some (Slot to))
@@ -68,14 +57,7 @@ module _ (c : Table) (t : RegionTable) (cells : Table) (regions : RegionTable) (
     | inl e ↦
         let P : ℕ → Type 0 = λ z. field_at cells.heap z k ≡ Some (Slot to) in
         absurd (w.plain k to (sym (ap (option_and_then (λ (b : Body). slice_get b.fields k)) w.made.body) ∙ subst P e f))
-    | inr d ↦ (d, sym (ap (option_and_then (λ (b : Body). slice_get b.fields k)) (same s d)) ∙ f)
-  ]
-
-  -- fields of a region's cells lead to cells that were there
-  not_to : (q s k to : ℕ) → LiesIn c.heap q s → field_at c.heap s k ≡ Some (Slot to) → to ≢ slot
-  not_to q s k to l f = elim (g.fields q s k to l f) [
-    | inl a ↦ held_apart to Frozen a
-    | inr x ↦ elim x [ inl y ↦ held_apart to (Region q) y | inr y ↦ held_apart to (Region y.0) y.2 ]
+    | inr d ↦ (d, sym (ap (option_and_then (λ (b : Body). slice_get b.fields k)) (near.same s d)) ∙ f)
   ]
 
   record Leads (p s k to : ℕ) : Type 0 where
@@ -86,25 +68,13 @@ module _ (c : Table) (t : RegionTable) (cells : Table) (regions : RegionTable) (
   leads_back : (p s k to : ℕ) → LiesIn cells.heap p s → field_at cells.heap s k ≡ Some (Slot to) → Leads p s k to
   leads_back p s k to l f =
       let a = lead_back s k to f in
-      let b = label_back s (Region p) a.0 l in
-      record { lies = b; leads = a.1; other = not_to p s k to b a.1 }
+      let b = near.label_back s (Region p) a.0 l in
+      record { lies = b; leads = a.1; other = not_to c cells t slot g near p s k to b a.1 }
 
   parent_back : (p q : ℕ) → Parent cells.heap p q → Parent c.heap p q
   parent_back p q e =
       let a = leads_back p e.from e.field e.to e.lies e.leads in
-      record {
-        differ = e.differ;
-        from = e.from;
-        field = e.field;
-        to = e.to;
-        lies = a.lies;
-        leads = a.leads;
-        child_has = label_back e.to (Region q) a.other e.child_has;
-      }
-
-  above_back : (p q : ℕ) → Above cells.heap p q → Above c.heap p q
-  above_back p q (direct a) = direct (parent_back p q a)
-  above_back p q (further {q = m} a e) = further (above_back p m a) (parent_back m q e)
+      parent_by c.heap cells.heap p q e a.lies a.leads (near.label_back e.to (Region q) a.other e.child_has)
 
   number_back : (k n : ℕ) → HasNumber regions k n → HasNumber t k n
   number_back k n a =
@@ -117,9 +87,6 @@ module _ (c : Table) (t : RegionTable) (cells : Table) (regions : RegionTable) (
       let y = record_there (record_at t k) n a in
       let z = w.on k y.0 y.1 in
       number_of regions k n z.0 z.1 (sym z.2.number ∙ y.2)
-
-  abbrev weight : ℕ → ℕ → Option Body → ℕ
-  weight q s x = cond (belongs q x) (elim x [ None ↦ 0 | Some y ↦ count_by (leads_to s) y.fields ]) 0
 
   referrers_on : (q s : ℕ) → referrers cells.heap q s ≡ referrers c.heap q s
   referrers_on q s = referrers-made c cells slot q s b w.made w.vacant (none_leads s b.fields w.plain)
@@ -139,7 +106,7 @@ module _ (c : Table) (t : RegionTable) (cells : Table) (regions : RegionTable) (
       by_body n l (Some x) e =
           ap (weight q slot) e
           ∙ cond_none (belongs q (Some x)) (count_by (leads_to slot) x.fields) (none_lead_to slot x.fields (λ k f.
-          not_to q n k slot l (ap (option_and_then (λ (b : Body). slice_get b.fields k)) e ∙ f) refl))
+          not_to c cells t slot g near q n k slot l (ap (option_and_then (λ (b : Body). slice_get b.fields k)) e ∙ f) refl))
 
   pub grove_grows : Grove cells regions
   grove_grows = record {
@@ -148,36 +115,36 @@ module _ (c : Table) (t : RegionTable) (cells : Table) (regions : RegionTable) (
     bridges = λ k s z a e.
         let y = w.back k z a in
         let L : ℕ → Type 0 = λ n. LiesIn c.heap n s in
-        label_on s (Region z.number) (subst L y.2.number (g.bridges k s y.0 y.1 (y.2.bridge ∙ e)));
+        near.label_on s (Region z.number) (subst L y.2.number (g.bridges k s y.0 y.1 (y.2.bridge ∙ e)));
     labels = λ r s l. elim (cases_eq s slot) [
       | inl e ↦
           let P : ℕ → Type 0 = λ z. label_at cells.heap z ≡ Some (Region r) in
-          let a = w.known r (label_is b.label (Region r) (sym (ap (option_map (λ (b : Body). b.label)) w.made.body) ∙ subst P e l)) in
+          let a = w.known r (same_Some b.label (Region r) (sym (ap (option_map (λ (b : Body). b.label)) w.made.body) ∙ subst P e l)) in
           (a.0, number_on a.0 r a.1)
-      | inr d ↦ let a = g.labels r s (label_back s (Region r) d l) in (a.0, number_on a.0 r a.1)
+      | inr d ↦ let a = g.labels r s (near.label_back s (Region r) d l) in (a.0, number_on a.0 r a.1)
     ];
-    frozen = λ s k to l f. let a = lead_back s k to f in label_on to Frozen (g.frozen s k to (label_back s Frozen a.0 l) a.1);
+    frozen = λ s k to l f. let a = lead_back s k to f in near.label_on to Frozen (g.frozen s k to (near.label_back s Frozen a.0 l) a.1);
     fields = λ p s k to l f.
         let a = leads_back p s k to l f in
         elim (g.fields p s k to a.lies a.leads) [
-          | inl a ↦ inl (label_on to Frozen a)
+          | inl a ↦ inl (near.label_on to Frozen a)
           | inr x ↦ elim x [
-            | inl a ↦ inr (inl (label_on to (Region p) a))
+            | inl a ↦ inr (inl (near.label_on to (Region p) a))
             | inr a ↦
                 let v = a.3 in
                 let z = w.on v.0 v.1 v.2 in
-                inr (inr (a.0, a.1, label_on to (Region a.0) a.2, (v.0, z.0, z.1, sym z.2.number ∙ v.3, sym z.2.bridge ∙ v.4)))
+                inr (inr (a.0, a.1, near.label_on to (Region a.0) a.2, (v.0, z.0, z.1, sym z.2.number ∙ v.3, sym z.2.bridge ∙ v.4)))
           ]
         ];
     one_in = λ q p s k to p2 s2 k2 to2 d l f i d2 l2 f2 i2.
         let a = leads_back p s k to l f in
         let a2 = leads_back p2 s2 k2 to2 l2 f2 in
-        g.one_in q p s k to p2 s2 k2 to2 d a.lies a.leads (label_back to (Region q) a.other i)
-        d2 a2.lies a2.leads (label_back to2 (Region q) a2.other i2);
+        g.one_in q p s k to p2 s2 k2 to2 d a.lies a.leads (near.label_back to (Region q) a.other i)
+        d2 a2.lies a2.leads (near.label_back to2 (Region q) a2.other i2);
     none_into_first = λ p s k to d l f i.
         let a = leads_back p s k to l f in
-        g.none_into_first p s k to d a.lies a.leads (label_back to (Region 0) a.other i);
-    no_cycle = λ r a. g.no_cycle r (above_back r r a);
+        g.none_into_first p s k to d a.lies a.leads (near.label_back to (Region 0) a.other i);
+    no_cycle = λ r a. g.no_cycle r (above_by c.heap cells.heap parent_back r r a);
     counts = λ k s z a m l.
         let y = w.back k z a in
         elim (cases_eq s slot) [
@@ -186,7 +153,7 @@ module _ (c : Table) (t : RegionTable) (cells : Table) (regions : RegionTable) (
               subst P (sym e) (w.made.mark ∙ sym (referrers_on z.number slot ∙ referrers_none z.number))
           | inr d ↦
               let L : ℕ → Type 0 = λ n. LiesIn c.heap n s in
-              let x = g.counts k s y.0 y.1 (y.2.manager ∙ m) (subst L (sym y.2.number) (label_back s (Region z.number) d l)) in
+              let x = g.counts k s y.0 y.1 (y.2.manager ∙ m) (subst L (sym y.2.number) (near.label_back s (Region z.number) d l)) in
               w.made.marks s d ∙ x ∙ ap (λ n. referrers c.heap n s) y.2.number ∙ sym (referrers_on z.number s)
         ];
     unmarked = λ s n. elim (cases_eq s slot) [
@@ -194,9 +161,6 @@ module _ (c : Table) (t : RegionTable) (cells : Table) (regions : RegionTable) (
       | inr d ↦ w.made.marks s d ∙ g.unmarked s (λ k y a m l.
           let z = w.on k y a in
           let L : ℕ → Type 0 = λ n. LiesIn cells.heap n s in
-          n k z.0 z.1 (sym z.2.manager ∙ m) (subst L z.2.number (label_on s (Region y.number) l)))
+          n k z.0 z.1 (sym z.2.manager ∙ m) (subst L z.2.number (near.label_on s (Region y.number) l)))
     ];
   }
-    where
-      label_is : (a b : Label) → Some a ≡ Some b → a ≡ b
-      label_is a b q = cc

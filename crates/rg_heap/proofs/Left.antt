@@ -1,19 +1,20 @@
 -- A window is left: its temporaries go, and the regions that they own (docs/architecture.md, "The heap").
-use Rattle.std.proofs.Common.{◌≡◌, ◌≢◌, ℕ, zero, suc, cond, List, [], ◌∷◌, Option, Some, None, length}
-use Rattle.std.proofs.Common.{refl, ap, sym, ◌∙◌, subst, ◌⊎◌, inl, inr, slice_get, option_map, count_by, true, false}
+use Rattle.std.proofs.Common.{◌≡◌, ◌≢◌, ℕ, zero, suc, List, [], ◌∷◌, Option, Some, None, length}
+use Rattle.std.proofs.Common.{refl, ap, sym, ◌∙◌, subst, ◌⊎◌, inl, inr, slice_get, option_map, true, false}
 use Rattle.std.proofs.lemmas.Bool.{cases_eq}
-use Rattle.std.proofs.lemmas.Option.{slice_get_within}
+use Rattle.std.proofs.lemmas.Option.{slice_get_within, same_Some}
 use Rattle.rg_base.specs.declared.object.Label.{Label}
 use Rattle.rg_base.specs.declared.object.Label.TheVariants.{Region, Temp, Frozen}
 use Rattle.rg_base.specs.declared.value.Word.{Word}
 use Rattle.rg_base.specs.declared.value.Word.TheVariants.{Slot}
+use Rattle.rg_base.proofs.Callers.Labels.{region-same}
 use Rattle.rg_cells.specs.declared.cell.Body.{Body}
 use Rattle.rg_cells.specs.Table.{Heap, Table, IsHeld, body_at, field_at, label_at, mark_at}
 use Rattle.rg_regions.specs.Table.{RegionTable, HasNumber, Has}
-use Rattle.rg_regions.specs.Reach.{LiesIn, belongs}
-use Rattle.rg_regions.specs.Grove.{Grove, Below, referrers, leads_to}
+use Rattle.rg_regions.specs.Reach.{LiesIn}
+use Rattle.rg_regions.specs.Grove.{Grove, Below, referrers}
 use Rattle.rg_regions.proofs.Callers.Told.{one_number, labelled_held}
-use Rattle.rg_regions.proofs.Callers.Fewer.{label_before, field_before, above_before, belongs_not, total_alike}
+use Rattle.rg_regions.proofs.Callers.Fewer.{label_before, field_before, above_before, belongs_not, total_alike, weight, weighs_none}
 use Rattle.rg_release.specs.Released.{Unowned, BelowOne}
 use Rattle.rg_frames.specs.Stack.{Stack}
 use Rattle.rg_heap.specs.Parts.{Parts}
@@ -62,18 +63,12 @@ module _ (c cells : Table) (t : RegionTable) (w : (s : ℕ) → StaysOrEnds c ce
   mark_on : (q s : ℕ) → LiesIn c.heap q s → mark_at cells s ≡ mark_at c s
   mark_on q s l = elim (w s) [ inl a ↦ a.1 | inr a ↦ absurd (temp_apart c.heap s q a.0 l) ]
 
-  abbrev weight : ℕ → ℕ → Option Body → ℕ
-  weight q s x = cond (belongs q x) (elim x [ None ↦ 0 | Some y ↦ count_by (leads_to s) y.fields ]) 0
-
-  none_weighs : (q s : ℕ) (x : Option Body) → belongs q x ≡ false → weight q s x ≡ 0
-  none_weighs q s x e = rw e refl
-
   referrers_on : (q s : ℕ) → referrers cells.heap q s ≡ referrers c.heap q s
   referrers_on q s = total_alike (weight q s) refl c.heap.slots cells.heap.slots (λ n. elim (w n) [
     | inl a ↦ ap (weight q s) a.0
     | inr a ↦
         ap (weight q s) a.1
-        ∙ sym (none_weighs q s (body_at c.heap n) (belongs_not q (body_at c.heap n) (λ l. temp_apart c.heap n q a.0 l)))
+        ∙ sym (weighs_none q s (body_at c.heap n) (belongs_not q (body_at c.heap n) (λ l. temp_apart c.heap n q a.0 l)))
   ])
 
   pub grove_ended : Grove c t → Grove cells t
@@ -119,11 +114,8 @@ among (x ∷ xs) s = elim (cases_eq x s) [
   | inr d ↦ elim (among xs s) [ inl a ↦ inl (suc a.0, a.1) | inr n ↦ inr (λ j e. not_there j d n e) ]
 ]
   where
-    slot_is : (a b : ℕ) → Some a ≡ Some b → a ≡ b
-    slot_is a b q = cc
-
     not_there : (j : ℕ) → x ≢ s → ((j : ℕ) → slice_get xs j ≡ Some s → ⊥) → slice_get (x ∷ xs) j ≡ Some s → ⊥
-    not_there zero d n e = d (slot_is x s e)
+    not_there zero d n e = d (same_Some x s e)
     not_there (suc j) d n e = n j e
 
 module _ (c : Table) (t : RegionTable) (v : Stack) (g : Grove c t) (a : CanLeave (record { cells = c; regions = t }) v) where
@@ -164,10 +156,7 @@ module _ (c : Table) (t : RegionTable) (v : Stack) (g : Grove c t) (a : CanLeave
       }
         where
           lies_one : (s p q : ℕ) → LiesIn c.heap p s → LiesIn c.heap q s → p ≡ q
-          lies_one s p q x y = region_is p q (sym x ∙ y)
-            where
-              region_is : (a b : ℕ) → Some (Region a) ≡ Some (Region b) → a ≡ b
-              region_is a b q = cc
+          lies_one s p q x y = region-same p q (sym x ∙ y)
 
       -- what goes along is below a key of the chain, and the other way round
       pub below_one : (q : ℕ) → GoesAlong (record { cells = c; regions = t }) v q → BelowOne c.heap t keys q

@@ -3,6 +3,7 @@ use Rattle.std.proofs.Common.{◌≡◌, ℕ, zero, suc, ◌+◌, ◌-◌, ◌<�
 use Rattle.std.proofs.Common.{sym, ◌∙◌}
 use Rattle.std.proofs.Common.{subst, ◌⊎◌, inl, inr, option_map, option_and_then, slice_get, length, arith}
 use Rattle.std.proofs.lemmas.Bool.Decides.{eqb_tells}
+use Rattle.std.proofs.lemmas.Option.{same_Some}
 use Rattle.rg_base.specs.declared.words.Manager.{Manager}
 use Rattle.rg_base.specs.declared.words.Manager.TheVariants.{Count}
 use Rattle.rg_base.specs.declared.object.Label.TheVariants.{Region, Temp, Frozen}
@@ -35,16 +36,10 @@ pub counting_of : (t : RegionTable) (key n : ℕ) (m : Manager) → option_map (
     → HasNumber t key n → IsCounting t n
 counting_of t key n m a e b = by_record (record_at t key) refl a b
   where
-    manager_is : (x y : Manager) → Some x ≡ Some y → x ≡ y
-    manager_is x y q = cc
-
-    number_is : (x y : ℕ) → Some x ≡ Some y → x ≡ y
-    number_is x y q = cc
-
     by_record : (o : Option Record) → record_at t key ≡ o → option_map (λ (r : Record). r.manager) o ≡ Some m
         → option_map (λ (r : Record). r.number) o ≡ Some n → IsCounting t n
     by_record None q a b = cc
-    by_record (Some r) q a b = (key, r, q, number_is r.number n b, manager_is r.manager m a ∙ e)
+    by_record (Some r) q a b = (key, r, q, same_Some r.number n b, same_Some r.manager m a ∙ e)
 
 -- the region of a cell into which may be written
 pub region_here : (h : Heap) (t : RegionTable) (key slot region : ℕ) (w : Word) → MayWrite h t key slot w → LiesIn h region slot
@@ -80,10 +75,7 @@ not_counting c t key slot w m g may a n r l i =
     let here = region_here c.heap t key slot r w may l in
     let same : i.0 ≡ key = g.numbers i.0 key r (number_of t i.0 r i.1 i.2 i.3) here.0 in
     let P : ℕ → Type 0 = λ z. record_at t z ≡ Some i.1 in
-    n (manager_is m i.1.manager (sym a ∙ ap (option_map (λ (r : Record). r.manager)) (subst P same i.2)) ∙ i.4)
-  where
-    manager_is : (x y : Manager) → Some x ≡ Some y → x ≡ y
-    manager_is x y q = cc
+    n (same_Some m i.1.manager (sym a ∙ ap (option_map (λ (r : Record). r.manager)) (subst P same i.2)) ∙ i.4)
 
 counted_here : (h : Heap) (r : ℕ) (w : Word) (s : ℕ) → LiesIn h r s → counted h r w s ≡ leads_once s w
 counted_here h r w s l =
@@ -123,7 +115,7 @@ recounts c mid cells t region slot k old w i here f e up d down = record {
       let x = counted_here c.heap region w s n in
       let H : Heap → Type 0 = λ h. LiesIn h region s in
       let y = counted_here mid.heap region old s (subst H (sym e) n) in
-      let z : leads_once s old ≡ leads_once s old2 = ap (leads_once s) (word_is old old2 (sym f ∙ f2)) in
+      let z : leads_once s old ≡ leads_once s old2 = ap (leads_once s) (same_Some old old2 (sym f ∙ f2)) in
       omega (arith, a, b, x, y, z);
   uncounted = λ s n.
       let out : LiesIn c.heap region s → ⊥ = λ l. n region here i l in
@@ -133,9 +125,6 @@ recounts c mid cells t region slot k old w i here f e up d down = record {
       let y = counted_there mid.heap region old s (λ l. let H : Heap → Type 0 = λ h. LiesIn h region s in out (subst H e l)) in
       omega (arith, a, b, x, y);
 }
-  where
-    word_is : (x y : Word) → Some x ≡ Some y → x ≡ y
-    word_is x y q = cc
 
 -- the cell and the word at a place of a field
 pub field_there : (h : Heap) (slot k : ℕ) → k < width (body_at h slot) → (b : Body) × (old : Word) × (body_at h slot ≡ Some b)

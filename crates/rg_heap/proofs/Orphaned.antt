@@ -16,7 +16,7 @@ use Rattle.rg_regions.specs.Grove.{Grove, Parent, Above, direct, further}
 use Rattle.rg_regions.specs.Collection.{Lost, Orphaning, ChainsOrphans, HasManager}
 use Rattle.rg_regions.specs.Shrinks.{OneShrinks}
 use Rattle.rg_regions.proofs.Callers.Told.{one_number, one_region, lies_or_not, number_of, same_members}
-use Rattle.rg_regions.proofs.Callers.Fewer.{label_before, field_before, above_both}
+use Rattle.rg_regions.proofs.Callers.Fewer.{label_before, field_before, above_both, above_by, parent_by}
 use Rattle.rg_release.specs.Released.{Unowned, BelowOne}
 use Rattle.rg_heap.specs.Parts.{Parts}
 use Rattle.rg_base.specs.declared.words.Manager.{Manager}
@@ -115,25 +115,13 @@ module _ (c : Table) (t : RegionTable) (key : ℕ) (rec : Record) (mid : Table) 
         }
     | inr d ↦
         let l = w.lay p a.from a.lies in
-        record {
-          differ = a.differ;
-          from = a.from;
-          field = a.field;
-          to = a.to;
-          lies = l;
-          leads = sym (w.fields p a.from a.field d l) ∙ a.leads;
-          child_has = w.lay q a.to a.child_has;
-        }
+        parent_by c.heap mid.heap p q a l (sym (w.fields p a.from a.field d l) ∙ a.leads) (w.lay q a.to a.child_has)
   ]
 
   above_on : (top q : ℕ) → Lost c.heap rec.number Cell top → Above c.heap top q → Above mid.heap top q
   above_on top q l (direct a) = direct (parent_on top q (apart top top l (inl refl)) (apart top q l (inr (direct a))) a)
   above_on top q l (further {q = m} a b) =
       further (above_on top m l a) (parent_on m q (apart top m l (inr a)) (apart top q l (inr (further a b))) b)
-
-  above_back : (top q : ℕ) → Above mid.heap top q → Above c.heap top q
-  above_back top q (direct a) = direct (parent_back top q a)
-  above_back top q (further {q = m} a b) = further (above_back top m a) (parent_back m q b)
 
   abbrev old : Parts
   old = record { cells = c; regions = t }
@@ -226,7 +214,7 @@ module _ (c : Table) (t : RegionTable) (key : ℕ) (rec : Record) (mid : Table) 
       lost_one x.key x.top x.one (number_back x.key x.top x.has),
       elim x.below [
         | inl e ↦ inl e
-        | inr a ↦ inr ((a.0.0, number_back a.0.0 q a.0.1), above_back x.top q a.1)
+        | inr a ↦ inr ((a.0.0, number_back a.0.0 q a.0.1), above_by c.heap mid.heap parent_back x.top q a.1)
       ],
     )
 

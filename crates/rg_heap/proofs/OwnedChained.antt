@@ -1,9 +1,10 @@
 -- The closed regions that some cells own, chained one by one (docs/architecture.md, "The heap").
-use Rattle.std.proofs.Common.{◌≡◌, ◌≢◌, ℕ, ◌+◌, ◌<◌, List, [], ◌∷◌, Option, Some, None, get_or, set, refl, ap, sym, ◌∙◌}
+use Rattle.std.proofs.Common.{◌≡◌, ◌≢◌, ℕ, ◌+◌, ◌<◌, List, ◌∷◌, Option, Some, None, get_or, set, refl, ap, sym, ◌∙◌}
 use Rattle.std.proofs.Common.{subst, ◌⊎◌, inl, inr, slice_get, arith, option_map, false, true}
 use Rattle.std.specs.List.{list_any}
 use Rattle.std.proofs.lemmas.Bool.{cases_lt}
 use Rattle.std.proofs.lemmas.List.{get_or-set_other, get_or-set_same}
+use Rattle.std.proofs.lemmas.Option.{same_Some}
 use Rattle.rg_base.specs.declared.value.Word.{Word}
 use Rattle.rg_base.specs.declared.value.Word.TheVariants.{Slot}
 use Rattle.rg_base.proofs.Callers.Labels.{slot-same}
@@ -70,19 +71,13 @@ split h t v slots i k q slot w stands leads o = elim o.before [
         let b = x.1 in
         let e : o.field ≡ k = omega (arith, b, y) in
         let P : ℕ → Type 0 = λ z. slice_get slots z ≡ Some o.slot in
-        let s : o.slot ≡ slot = slot_is o.slot slot (sym (subst P x.0 o.stands) ∙ stands) in
+        let s : o.slot ≡ slot = same_Some o.slot slot (sym (subst P x.0 o.stands) ∙ stands) in
         let F : ℕ → Type 0 = λ z. field_at h z o.field ≡ Some (Slot o.to) in
         let G : ℕ → Type 0 = λ z. field_at h slot z ≡ Some (Slot o.to) in
-        (o.to, word_is w (Slot o.to) (sym leads ∙ subst G e (subst F s o.leads)), o.lies, o.closed))
+        (o.to, same_Some w (Slot o.to) (sym leads ∙ subst G e (subst F s o.leads)), o.lies, o.closed))
   ]
 ]
   where
-    slot_is : (a b : ℕ) → Some a ≡ Some b → a ≡ b
-    slot_is a b q = cc
-
-    word_is : (a b : Word) → Some a ≡ Some b → a ≡ b
-    word_is a b q = cc
-
     moved : (o.place < i) ⊎ ((o.place ≡ i) × (o.field < k)) → OwnedBefore h t v slots i k q
     moved x = record {
       closed = o.closed;
@@ -210,9 +205,6 @@ chains_next h t v slots i slot now head keys stands c = record {
     wide : ℕ
     wide = width (body_at h slot)
 
-    slot_is : (a b : ℕ) → Some a ≡ Some b → a ≡ b
-    slot_is a b q = cc
-
     before : {q : ℕ} → (o : OwnedBefore h t v slots (i + 1) 0 q) → (o.place < i) ⊎ ((o.place ≡ i) × (o.field < wide))
     before o = elim o.before [
       | inl x ↦ elim (cases_lt o.place i) [
@@ -220,18 +212,9 @@ chains_next h t v slots i slot now head keys stands c = record {
         | inr y ↦
             let e : o.place ≡ i = omega (arith, x, y) in
             let P : ℕ → Type 0 = λ z. slice_get slots z ≡ Some o.slot in
-            let s : o.slot ≡ slot = slot_is o.slot slot (sym (subst P e o.stands) ∙ stands) in
+            let s : o.slot ≡ slot = same_Some o.slot slot (sym (subst P e o.stands) ∙ stands) in
             let F : ℕ → Type 0 = λ z. field_at h z o.field ≡ Some (Slot o.to) in
             inr (e, field_within h slot o.field (Slot o.to) (subst F s o.leads))
       ]
       | inr x ↦ let y = x.1 in absurd (omega (arith, y))
     ]
-
-pub chains_start : (h : Heap) (t : RegionTable) (v : Stack) (slots : List ℕ) → Chains h t v slots 0 0 t None []
-chains_start h t v slots = record {
-  records = refl;
-  next = refl;
-  chain = refl;
-  each = λ key x. absurd x;
-  all = λ key q n o. elim o.before [ inl x ↦ absurd (omega (arith, x)) | inr x ↦ let y = x.1 in absurd (omega (arith, y)) ];
-}

@@ -2,6 +2,7 @@
 use Rattle.std.proofs.Common.{◌≡◌, ℕ, zero, suc, ◌+◌, ◌-◌, ◌≤◌, List, [], ◌∷◌, ◌++◌, Option, Some, None, IsSome, refl, ap, sym, ◌∙◌, subst, arith}
 use Rattle.std.proofs.Common.{length, option_map}
 use Rattle.std.proofs.Common.{option_and_then, slice_get, take, map, add-one}
+use Rattle.std.proofs.lemmas.Option.{same_Some}
 use Rattle.rg_base.specs.declared.words.Manager.{Manager}
 use Rattle.rg_base.specs.declared.object.Label.{Label}
 use Rattle.rg_base.specs.declared.object.Label.TheVariants.{Region, Temp, Frozen}
@@ -9,6 +10,7 @@ use Rattle.rg_cells.specs.declared.cell.Body.{Body}
 use Rattle.rg_base.specs.declared.value.Val.{Val}
 use Rattle.rg_base.specs.declared.value.Word.{Word}
 use Rattle.rg_base.specs.declared.value.Word.TheVariants.{Slot}
+use Rattle.rg_base.proofs.Callers.Labels.{slot-same}
 use Rattle.rg_regions.specs.Grove.{Grove}
 use Rattle.rg_regions.specs.Reach.{LiesIn}
 use Rattle.rg_regions.proofs.Callers.Told.{led_held, labelled_held, one_region}
@@ -23,22 +25,16 @@ use Rattle.rg_heap.proofs.Callers.Opens.{open_not_closed}
 
 -- one window is on top
 pub one_top : (v : Stack) (a b : Window) → IsTop v a → IsTop v b → a ≡ b
-one_top v a b p q = window_is a b (sym p ∙ q)
-  where
-    window_is : (a b : Window) → Some a ≡ Some b → a ≡ b
-    window_is a b q = cc
+one_top v a b p q = same_Some a b (sym p ∙ q)
 
 -- a word into the top window's region leads into no closed one
 pub active_not_closed : (p : Parts) (v : Stack) (at : Word) (slot n : ℕ) (w : Window) → Grove p.cells p.regions → at ≡ Slot slot
     → LiesIn p.cells.heap n slot → IsTop v w → HasNumber p.regions w.region n → LeadsIntoClosed p v at → ⊥
 active_not_closed p v at slot n w g is lies top has closed =
-    let same : closed.1 ≡ slot = slot_is closed.1 slot (sym closed.2 ∙ is) in
+    let same : closed.1 ≡ slot = slot-same closed.1 slot (sym closed.2 ∙ is) in
     let here : LiesIn p.cells.heap n closed.1 = subst (λ s. LiesIn p.cells.heap n s) (sym same) lies in
     let number : closed.0 ≡ n = one_region p.cells.heap closed.1 closed.0 n closed.3 here in
     open_not_closed p v (length v.windows - 1) n w g top has (subst (λ q. IsClosed p.regions v q) number closed.4)
-  where
-    slot_is : (a b : ℕ) → Slot a ≡ Slot b → a ≡ b
-    slot_is a b e = cc
 
 -- what is read of a region's record
 pub tells : (t : RegionTable) (key n : ℕ) (m : Manager) (members : List ℕ) → HasNumber t key n
@@ -46,19 +42,10 @@ pub tells : (t : RegionTable) (key n : ℕ) (m : Manager) (members : List ℕ) �
     → option_map (λ (r : Record). r.members) (record_at t key) ≡ Some members
     → Tells t key (record { region = n; manager = m; held = length members })
 tells t key n m members a b d r e = (
-  number_is n r.number (sym a ∙ ap (option_map (λ (r : Record). r.number)) e),
-  manager_is m r.manager (sym b ∙ ap (option_map (λ (r : Record). r.manager)) e),
-  ap length (members_are members r.members (sym d ∙ ap (option_map (λ (r : Record). r.members)) e)),
+  same_Some n r.number (sym a ∙ ap (option_map (λ (r : Record). r.number)) e),
+  same_Some m r.manager (sym b ∙ ap (option_map (λ (r : Record). r.manager)) e),
+  ap length (same_Some members r.members (sym d ∙ ap (option_map (λ (r : Record). r.members)) e)),
 )
-  where
-    number_is : (a b : ℕ) → Some a ≡ Some b → a ≡ b
-    number_is a b q = cc
-
-    manager_is : (a b : Manager) → Some a ≡ Some b → a ≡ b
-    manager_is a b q = cc
-
-    members_are : (a b : List ℕ) → Some a ≡ Some b → a ≡ b
-    members_are a b q = cc
 
 -- no more cells are frozen than are held
 pub frozen_held : (h : Heap) → frozen_count h ≤ held_count h
@@ -82,12 +69,9 @@ pub shown_more : (f : Word → Val) (ws : List Word) (k : ℕ) (w : Word) → sl
     → map f (take k ws) ++ f w ∷ [] ≡ map f (take (k + 1) ws)
 shown_more f ws k w e = rw (add-one k) (by_place ws k e)
   where
-    word_is : (a b : Word) → Some a ≡ Some b → a ≡ b
-    word_is a b q = cc
-
     by_place : (ws : List Word) (k : ℕ) → slice_get ws k ≡ Some w → map f (take k ws) ++ f w ∷ [] ≡ map f (take (suc k) ws)
     by_place [] k e = cc
-    by_place (x ∷ ws) zero e = ap (λ y. f y ∷ []) (sym (word_is x w e))
+    by_place (x ∷ ws) zero e = ap (λ y. f y ∷ []) (sym (same_Some x w e))
     by_place (x ∷ ws) (suc k) e = ap (λ ys. f x ∷ ys) (by_place ws k e)
 
 pub field_read : (b : Option Body) (k : ℕ) (w : Word) → option_and_then (λ (b : Body). slice_get b.fields k) b ≡ Some w

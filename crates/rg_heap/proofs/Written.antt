@@ -3,7 +3,7 @@ use Rattle.std.proofs.Common.{◌≡◌, ◌≢◌, ℕ, zero, suc, ◌+◌, fal
 use Rattle.std.proofs.Common.{subst, ◌⊎◌, inl, inr, option_map, option_and_then, slice_get, count_by, get_or, set, arith}
 use Rattle.std.proofs.lemmas.Bool.{cases_eq}
 use Rattle.std.proofs.lemmas.List.{get_or-set_other}
-use Rattle.rg_base.specs.declared.object.Label.{Label}
+use Rattle.std.proofs.lemmas.Option.{same_Some}
 use Rattle.rg_base.specs.declared.object.Label.TheVariants.{Region, Frozen}
 use Rattle.rg_base.specs.declared.value.Word.{Word}
 use Rattle.rg_base.specs.declared.value.Word.TheVariants.{Slot}
@@ -13,7 +13,7 @@ use Rattle.rg_regions.specs.Table.{RegionTable}
 use Rattle.rg_regions.specs.Reach.{LiesIn, belongs}
 use Rattle.rg_regions.specs.Grove.{Grove, Parent, Above, direct, further, referrers, leads_to}
 use Rattle.rg_regions.proofs.Callers.Told.{one_region, lies_or_not}
-use Rattle.rg_regions.proofs.Callers.Fewer.{above_both, belongs_not}
+use Rattle.rg_regions.proofs.Callers.Fewer.{above_both, belongs_not, weight}
 use Rattle.rg_count.proofs.Written.{referrers-written}
 use Rattle.rg_heap.specs.Writes.{Ownerless, Comes, Stays, IsCounting}
 use Rattle.rg_heap.specs.Inner.Marks.{leads_once}
@@ -37,10 +37,7 @@ pub record Writes (c : Table) (t : RegionTable) (cells : Table) (slot k : ℕ) (
 set_got : (ws : List Word) (k : ℕ) (w old : Word) (j : ℕ) (x : Word) → slice_get ws k ≡ Some old → slice_get (set ws k w) j ≡ Some x
     → ((j ≡ k) × (w ≡ x)) ⊎ (slice_get ws j ≡ Some x)
 set_got [] k w old j x e f = cc
-set_got (y ∷ ws) zero w old zero x e f = inl (refl, word_is w x f)
-  where
-    word_is : (a b : Word) → Some a ≡ Some b → a ≡ b
-    word_is a b q = cc
+set_got (y ∷ ws) zero w old zero x e f = inl (refl, same_Some w x f)
 set_got (y ∷ ws) zero w old (suc j) x e f = inr f
 set_got (y ∷ ws) (suc k) w old zero x e f = inr f
 set_got (y ∷ ws) (suc k) w old (suc j) x e f = elim (set_got ws k w old j x e f) [ inl a ↦ inl (ap suc a.0, a.1) | inr a ↦ inr a ]
@@ -184,9 +181,6 @@ module _ (c : Table) (t : RegionTable) (cells : Table) (slot k : ℕ) (b : Body)
         ]
       ]
 
-  abbrev weight : ℕ → ℕ → Option Body → ℕ
-  weight q s x = cond (belongs q x) (elim x [ None ↦ 0 | Some y ↦ count_by (leads_to s) y.fields ]) 0
-
   referrers_set : (q s : ℕ) → referrers cells.heap q s + weight q s (Some b) ≡ referrers c.heap q s + weight q s (Some new)
   referrers_set q s = ap (λ (h : Heap). total (weight q s) h.slots + weight q s (Some b)) heap_is
       ∙ total-set (weight q s) c.heap.slots slot b new a.is
@@ -219,7 +213,7 @@ module _ (c : Table) (t : RegionTable) (cells : Table) (slot k : ℕ) (b : Body)
     frozen = λ s j to l f. elim (field_back s j (Slot to) f) [
       | inl e ↦
           let P : ℕ → Type 0 = λ z. label_at c.heap z ≡ Some Frozen in
-          absurd (a.not_frozen (one_label b.label Frozen
+          absurd (a.not_frozen (same_Some b.label Frozen
           (sym (ap (option_map (λ (b : Body). b.label)) a.is) ∙ subst P e.0 (sym (label_on s) ∙ l))))
       | inr e ↦ label_on to ∙ g.frozen s j to (sym (label_on s) ∙ l) e
     ];
@@ -266,6 +260,3 @@ module _ (c : Table) (t : RegionTable) (cells : Table) (slot k : ℕ) (b : Body)
         n y.0 y.1 y.2 y.4 (lies_on y.1.number s (subst P (sym y.3) v)))
         ∙ g.unmarked s (λ o z e m l. n o z e m (lies_on z.number s l));
   }
-    where
-      one_label : (x y : Label) → Some x ≡ Some y → x ≡ y
-      one_label x y e = cc

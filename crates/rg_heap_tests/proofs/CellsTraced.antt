@@ -14,14 +14,11 @@ use Rattle.rg_regions.specs.Reach.{LiesIn}
 use Rattle.rg_regions.specs.Grove.{Grove}
 use Rattle.rg_regions.proofs.Callers.Told.{one_number, number_of}
 use Rattle.rg_regions.proofs.Callers.Changed.{changed_at, changed_other}
-use Rattle.rg_regions.proofs.Callers.CellComes.{CellComes, grove_cell, comes_in, label_on, one_more}
+use Rattle.rg_regions.proofs.Callers.CellComes.{CellComes, grove_cell, comes_in, near, one_more}
 use Rattle.rg_heap_tests.specs.Traced.{InTraced, AllTraced}
 
 pub only_word : (w v : Word) (k : ℕ) → slice_get (w ∷ []) k ≡ Some v → w ≡ v
-only_word w v zero e = word_is w v e
-  where
-    word_is : (a b : Word) → Some a ≡ Some b → a ≡ b
-    word_is a b q = cc
+only_word w v zero e = same_Some w v e
 only_word w v (suc k) e = cc
 
 -- the steps by which a cell comes
@@ -77,7 +74,7 @@ module _ (c c2 : Table) (t t1 t2 : RegionTable) (key slot number room : ℕ) (w 
           with_member slot (with_room room rec),
           comes.is,
           traced,
-          label_on c t c2 t2 key slot rec (with_member slot (with_room room rec)) b g comes s (Region rec.number) i,
+          (near c t c2 t2 key slot rec (with_member slot (with_room room rec)) b g comes).label_on s (Region rec.number) i,
         )
 
 -- a cell more lies in the region

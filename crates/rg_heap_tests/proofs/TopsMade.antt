@@ -1,6 +1,7 @@
 -- Regions one above the other, as a test builds them: the forest stays one (docs/architecture.md, "Tests").
 use Rattle.std.proofs.Common.{◌≡◌, ◌≢◌, ℕ, ◌<◌, ◌≤◌, zero, suc, List, [], ◌∷◌, Option, Some, None, IsSome, get_or, refl, ap, sym, ◌∙◌}
 use Rattle.std.proofs.Common.{subst, arith, inl, inr, option_map, slice_get}
+use Rattle.std.proofs.lemmas.Option.{same_Some}
 use Rattle.rg_base.specs.declared.object.Label.TheVariants.{Region}
 use Rattle.rg_base.specs.declared.words.Manager.{Manager}
 use Rattle.rg_base.specs.declared.words.Manager.TheVariants.{Trace}
@@ -22,10 +23,7 @@ use Rattle.rg_heap_tests.specs.Tops.{IsTop, LeadsToTop}
 use Rattle.rg_heap_tests.specs.Traced.{InTraced}
 
 only_word : (w v : Word) (k : ℕ) → slice_get (w ∷ []) k ≡ Some v → (k ≡ 0) × (w ≡ v)
-only_word w v zero e = (refl, word_is w v e)
-  where
-    word_is : (a b : Word) → Some a ≡ Some b → a ≡ b
-    word_is a b q = cc
+only_word w v zero e = (refl, same_Some w v e)
 only_word w v (suc k) e = cc
 
 -- the steps by which a region comes

@@ -12,22 +12,11 @@ use Rattle.rg_tree.specs.Rows.RowsExist.{Holds, IsSpanBelow, IsBlockIn, IsClassI
 use Rattle.rg_tree.specs.Keeps.{Keeps}
 use Rattle.rg_tree.proofs.Callers.{Keeps-same, Keeps-trans, Holds-keeps, IsAbove-Keeps, block_of-keeps}
 use Rattle.rg_tree.proofs.Grows.{IsBlockIn-grows}
-use Rattle.rg_make.specs.Inner.Adds.{Extends, Means, Adds, AddsAll, AddsBlock, AddsClass, block_with}
-
-pub extends-same : (t : Tables) → Extends t t
-extends-same t = record { keeps = Keeps-same t; classes = refl }
-
-pub extends-trans : {t u v : Tables} → Extends t u → Extends u v → Extends t v
-extends-trans a b = record { keeps = Keeps-trans a.keeps b.keeps; classes = b.classes ∙ a.classes }
-
--- tables that keep what was there, and whose program stays
-pub extends-program : {t u : Tables} → Keeps t u → program_of u ≡ program_of t → Extends t u
-extends-program k e = record { keeps = k; classes = ap (λ (p : Tree). p.classes) e }
+use Rattle.rg_tree.specs.Adds.{Extends, Adds}
+use Rattle.rg_tree.proofs.Adding.{extends-same, extends-trans, means-later, extends-by}
+use Rattle.rg_make.specs.Inner.Adds.{AddsAll, AddsBlock, AddsClass, block_with}
 
 module _ {V A : Type 0} {at : Tables → V → A} {exists : Tables → V → Type 0} where
-  pub means-later : {t u : Tables} {v : V} {a : A} → Means at exists t v a → Extends t u → Means at exists u v a
-  means-later m g = record { is = λ w k. m.is w (Keeps-trans g.keeps k); there = λ w k. m.there w (Keeps-trans g.keeps k) }
-
   -- the row exists
   pub adds-there : {t u : Tables} {v : V} {a : A} → Adds at exists t u v a → exists u v
   adds-there {u = u} a = a.means.there u (Keeps-same u)
@@ -138,7 +127,7 @@ adds-span at size {ks = ks} {s = s} a g h =
 pub adds-order : {A : Type 0} (at : Tables → ℕ → A) (size : Tables → ℕ) {t u v : Tables} {ks : List ℕ} {s : Span} {xs : List A}
     → AddsAll at (λ w k. k < size w) t u ks xs → Keeps u v → program_of v ≡ program_of u → Holds v s ks
     → Adds (λ w s. map (at w) (numbers_in w s)) (λ w. IsSpanBelow w (size w)) t v s xs
-adds-order at size a k p h = adds-span at size a (extends-program k p) h
+adds-order at size a k p h = adds-span at size a (extends-by k p) h
 
 -- the block of a span of statements
 
@@ -148,7 +137,7 @@ block_over-map f (k ∷ ks) = ap (then (f k)) (block_over-map f ks)
 
 pub adds-block : {u v : Tables} {ks : List ℕ} {s : Span} → Keeps u v → program_of v ≡ program_of u → Holds v s ks → AddsBlock u v ks s
 adds-block {s = s} k p h t ss a =
-    let b = adds-span stmt_at (λ w. length w.stmts) a (extends-program k p) h in
+    let b = adds-span stmt_at (λ w. length w.stmts) a (extends-by k p) h in
     record {
       extends = b.extends;
       means = record {

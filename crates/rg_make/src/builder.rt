@@ -7,15 +7,18 @@ ghost use Rattle.rg_tree.specs.Tree as tree;
 ghost use Rattle.rg_tree.specs.Rows.Tables.{name_at};
 ghost use Rattle.rg_tree.specs.Rows.RowTrees.{path_of, type_of, expr_at, expr_of, call_of};
 ghost use Rattle.rg_tree.specs.Rows.RowTrees.{right_of, stmt_at, block_of, param_at, member_at};
-ghost use Rattle.rg_tree.specs.Rows.RowTrees.{member_of};
+ghost use Rattle.rg_tree.specs.Rows.RowTrees.{member_of, variable_of};
 ghost use Rattle.rg_tree.specs.Rows.RowsExist.{IsNameIn, IsPathIn, IsTypeIn, IsExprNumber};
 ghost use Rattle.rg_tree.specs.Rows.RowsExist.{IsCallIn, IsRightIn, IsBlockIn, IsMemberIn};
+ghost use Rattle.rg_tree.specs.Adds.{Adds};
+ghost use Rattle.rg_tree.specs.Rows.RowsExist.{IsStmtNumber, IsParamNumber, IsMemberNumber};
+ghost use Rattle.rg_tree.specs.Rows.RowsExist.{IsVariableIn};
 ghost use Rattle.rg_make.specs.Inner.Parts.{name_text, fields_tree, path_tree, ty_tree};
 ghost use Rattle.rg_make.specs.Inner.Parts.{operand_tree, expr_tree, call_tree, right_tree};
 ghost use Rattle.rg_make.specs.Inner.Parts.{kind_tree, param_tree, method_tree};
-ghost use Rattle.rg_make.specs.Inner.Adds.{Adds, AddsBlock, base_of, IsBaseIn, result_of};
-ghost use Rattle.rg_make.specs.Inner.Adds.{IsResultIn, IsExprRow, kind_of, IsKindRow, IsStmtNumber};
-ghost use Rattle.rg_make.specs.Inner.Adds.{IsParamNumber, IsMemberNumber, names_in, AreNamesIn};
+ghost use Rattle.rg_make.specs.Inner.Adds.{AddsBlock, result_of};
+ghost use Rattle.rg_make.specs.Inner.Adds.{IsResultIn, IsExprRow, kind_of, IsKindRow};
+ghost use Rattle.rg_make.specs.Inner.Adds.{names_in, AreNamesIn};
 ghost use Rattle.rg_make.specs.Inner.Adds.{params_in, AreParamsIn};
 
 use crate::parts::{Expr, Fields, Head, Name, Operand, Path, Right, Stmt, Ty};
@@ -57,7 +60,7 @@ fn add_fields(program: &mut Program, fields: Fields) -> Result<Span, Memory>
 /// Adds the variable of a path.
 fn add_base(program: &mut Program, base: Option<Name>) -> Result<Option<u32>, Memory>
     ensures { IfOk result (λ o.
-        Adds base_of IsBaseIn program.old program.new o (option_map name_text base)) }
+        Adds variable_of IsVariableIn program.old program.new o (option_map name_text base)) }
 {
     match base {
         None => Ok(None),

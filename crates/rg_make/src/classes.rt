@@ -4,8 +4,10 @@
 ghost use Rattle.std.specs.Prelude.{IfOk, OnOk};
 ghost use Rattle.rg_tree.specs.Tree.{stmt};
 ghost use Rattle.rg_tree.specs.Rows.RowTrees.{stmt_at, member_at};
+ghost use Rattle.rg_tree.specs.Adds.{Adds};
+ghost use Rattle.rg_tree.specs.Rows.RowsExist.{IsStmtNumber, IsMemberNumber};
 ghost use Rattle.rg_make.specs.Generated as generated;
-ghost use Rattle.rg_make.specs.Inner.Adds.{Adds, AddsClass, IsStmtNumber, IsMemberNumber};
+ghost use Rattle.rg_make.specs.Inner.Adds.{AddsClass};
 
 use crate::builder::{
     add_block, add_field, add_if, add_let, add_method, add_name, add_set, add_stmt, add_while,

@@ -5,11 +5,11 @@ ghost use Rattle.std.specs.Prelude.{◌≡◌, IfOk, OnOk};
 ghost use Rattle.rg_base.specs.declared.words.Manager.TheVariants as manager;
 ghost use Rattle.rg_tree.specs.Tree.{stmt, declare, int, result_of};
 ghost use Rattle.rg_tree.specs.Rows.RowTrees.{expr_at, stmt_at, block_of, classes_of, program_of};
-ghost use Rattle.rg_tree.specs.Rows.RowsExist.{IsExprNumber, IsBlockIn};
+ghost use Rattle.rg_tree.specs.Rows.RowsExist.{IsExprNumber, IsBlockIn, IsStmtNumber};
+ghost use Rattle.rg_tree.specs.Adds.{Adds};
 ghost use Rattle.rg_make.specs.Generated as generated;
 ghost use Rattle.rg_make.specs.declared.parts.Name.TheVariants as name_is;
 ghost use Rattle.rg_make.specs.Inner.Parts.{name_text, call_tree};
-ghost use Rattle.rg_make.specs.Inner.Adds.{Adds, IsStmtNumber};
 
 use crate::builder::{
     LIST, add_binary, add_block, add_enter, add_let, add_name, add_operand, add_set, add_stmt,

@@ -12,7 +12,7 @@ use Rattle.rg_regions.specs.Reach.{LiesIn, belongs}
 use Rattle.rg_regions.specs.Grove.{Grove, leads_to}
 use Rattle.rg_regions.specs.Chains.{LeadsToHeld}
 use Rattle.rg_regions.specs.Same.{IsSameCell}
-use Rattle.rg_regions.proofs.Callers.Told.{led_held, lies_or_not, owns_once}
+use Rattle.rg_regions.proofs.Callers.Told.{led_held, lies_or_not, owns_once, counts_or_not}
 use Rattle.rg_regions.proofs.Callers.Fewer.{belongs_not}
 use Rattle.rg_move.specs.Closed.{Closed}
 use Rattle.rg_move.specs.Frozen.{labelled, IsLabelled}
@@ -23,7 +23,7 @@ use Rattle.rg_move.specs.Inner.Joins.{Relabels, Marks}
 use Rattle.rg_move.proofs.PartFrozen.{same_held}
 use Rattle.rg_move.proofs.MembersLabelled.{members_labelled, others_kept}
 use Rattle.rg_move.proofs.FieldsCounted.{belongs_there}
-use Rattle.rg_move.proofs.GroveJoined.{counts_or_not, led_none, leads_not, fields_stay, on_moved, was_or_moved}
+use Rattle.rg_move.proofs.GroveJoined.{led_none, leads_not, fields_stay, on_moved, was_or_moved}
 use Rattle.rg_regions.proofs.Callers.Shares.{has_place, distinct_by, parted-le}
 
 sum_none : (f : ℕ → ℕ) (ss : List ℕ) → ((s : ℕ) → Has ss s → f s ≡ 0) → sum_by f ss ≡ 0

@@ -54,14 +54,6 @@ label_kept h s l held =
     let e = label-of h s l b.0 b.1 in
     (ap (λ (z : Heap). z.next) e, ap high_of e ∙ count-kept h.slots s o.0 (Some (record b.0 { label = l })) o.1)
 
-pub labelled_none : (l : Label) (t : Table) (members : List ℕ) → LabelledFirst l t members 0 t
-labelled_none l t members = record {
-  done = λ j m. absurd (omega (arith, m));
-  others = λ s d. (refl, refl, refl);
-  serials = refl;
-  high = refl;
-}
-
 -- the next one is still held
 pub next_held : (l : Label) (old t : Table) (members : List ℕ) (i : ℕ) → AllDiffer members
     → IsHeld old.heap (get_or members i 0)

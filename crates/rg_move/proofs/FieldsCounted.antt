@@ -4,7 +4,7 @@ use Rattle.std.proofs.Common.{get_or, refl, ap, sym, ◌∙◌}
 use Rattle.std.proofs.Common.{subst, arith, inl, inr, option_map, option_and_then, slice_get, count_by}
 use Rattle.std.proofs.lemmas.List.{take_all}
 use Rattle.std.proofs.lemmas.List.Sums.{sum_by_more, sum_by_more_le}
-use Rattle.std.proofs.lemmas.Option.{slice_get_within, get_or_from_slice_get}
+use Rattle.std.proofs.lemmas.Option.{slice_get_within, get_or_from_slice_get, same_Some}
 use Rattle.std.proofs.lemmas.Bool.Decides.{eqb_tells}
 use Rattle.rg_base.specs.declared.object.Label.{Label}
 use Rattle.rg_base.specs.declared.object.Label.TheVariants.{Region}
@@ -23,11 +23,8 @@ belongs_there h r s l = by_body (body_at h s) l
   where
     by_label : (l : Label) → Some l ≡ Some (Region r) → is_region r l ≡ true
     by_label l e =
-        let q : l ≡ Region r = label_is l (Region r) e in
+        let q : l ≡ Region r = same_Some l (Region r) e in
         ap (is_region r) q ∙ elim (eqb_tells r r) [ inl a ↦ a.0 | inr a ↦ absurd (a.1 refl) ]
-      where
-        label_is : (a b : Label) → Some a ≡ Some b → a ≡ b
-        label_is a b q = cc
 
     by_body : (b : Option Body) → option_map (λ (b : Body). b.label) b ≡ Some (Region r) → belongs r b ≡ true
     by_body None e = cc
@@ -36,18 +33,6 @@ belongs_there h r s l = by_body (body_at h s) l
 both : (b : Bool) (m n : ℕ) → cond {A = ℕ} b m 0 + cond {A = ℕ} b n 0 ≡ cond {A = ℕ} b (m + n) 0
 both true m n = refl
 both false m n = refl
-
-pub grown_none : (r : ℕ) (t : Table) (f : ℕ → ℕ) → ((x : ℕ) → f x ≡ 0) → Grown r t f t
-grown_none r t f z = record {
-  heap = refl;
-  links = refl;
-  marks = λ x. by_test (belongs r (body_at t.heap x)) (f x)
-      (z x);
-}
-  where
-    by_test : (b : Bool) (m : ℕ) {n : ℕ} → m ≡ 0 → n ≡ n + cond {A = ℕ} b m 0
-    by_test true m {n} e = omega (arith, e)
-    by_test false m {n} e = omega arith
 
 -- what is counted in two turns
 pub grown_then : (r : ℕ) (old t new : Table) (f g h : ℕ → ℕ) → ((x : ℕ) → f x + g x ≡ h x) → Grown r old f t
@@ -154,9 +139,3 @@ member_room r members i old t n room a =
     ap (λ (z : Heap). led x (body_at z (get_or members i 0))) a.heap in
     omega (arith, sum_by_more_le f members i 0 n, same))
     room a
-
-pub members_grown : (r : ℕ) (members : List ℕ) (i : ℕ) (old new : Table) → length members ≤ i
-    → Grown r old (led_by old.heap (take i members)) new → Grown r old (led_by old.heap members) new
-members_grown r members i old new n a =
-    let P : List ℕ → Type 0 = λ ss. Grown r old (led_by old.heap ss) new in
-    subst P (take_all i members n) a

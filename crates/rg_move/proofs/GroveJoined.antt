@@ -5,9 +5,9 @@ use Rattle.std.proofs.Common.{refl, ap, sym, ◌∙◌, subst, arith, ◌⊎◌,
 use Rattle.std.proofs.lemmas.Bool.{cases_eq}
 use Rattle.std.proofs.lemmas.Option.{same_Some}
 use Rattle.rg_base.specs.declared.object.Label.TheVariants.{Region, Frozen}
-use Rattle.rg_base.specs.declared.words.Manager.{Manager}
-use Rattle.rg_base.specs.declared.words.Manager.TheVariants.{Arena, Count, Trace}
+use Rattle.rg_base.specs.declared.words.Manager.TheVariants.{Count}
 use Rattle.rg_base.specs.declared.value.Word.TheVariants.{Slot}
+use Rattle.rg_base.proofs.Callers.Labels.{region-number}
 use Rattle.rg_cells.specs.declared.cell.Body.{Body}
 use Rattle.rg_cells.specs.Table.{Heap, Table, body_at, field_at, label_at, mark_at}
 use Rattle.rg_regions.specs.Table.{Record, RegionTable, record_at, HasNumber, IsBridge}
@@ -15,7 +15,7 @@ use Rattle.rg_regions.specs.Reach.{LiesIn, belongs}
 use Rattle.rg_regions.specs.Grove.{Grove, Members, Parent, Above, direct, further, referrers}
 use Rattle.rg_regions.proofs.Callers.Told.{one_region, one_number, lies_or_not, number_of, record_there}
 use Rattle.rg_regions.proofs.Callers.Told.{labelled_held}
-use Rattle.rg_regions.proofs.Callers.Fewer.{total_alike, belongs_not, above_both}
+use Rattle.rg_regions.proofs.Callers.Fewer.{total_alike, belongs_not, above_both, weight, weighs_none}
 use Rattle.rg_regions.proofs.Callers.RegionComes.{none_leads}
 use Rattle.rg_regions.proofs.Callers.Shares.{share, sum-agree, parted-all, has_place, place_has, distinct_by}
 use Rattle.rg_move.specs.Closed.{Closed}
@@ -24,14 +24,6 @@ use Rattle.rg_move.specs.Counted.{led, led_by}
 use Rattle.rg_move.specs.Inner.Joins.{Relabels, Marks}
 use Rattle.rg_move.proofs.PartFrozen.{same_fields, label_there, label_only}
 use Rattle.rg_move.proofs.FieldsCounted.{belongs_there}
-
-region_is : (a b : ℕ) → Region a ≡ Region b → a ≡ b
-region_is a b q = cc
-
-pub counts_or_not : (m : Manager) → (m ≡ Count) ⊎ (m ≡ Count → ⊥)
-counts_or_not Arena = inr (λ e. cc)
-counts_or_not Count = inl refl
-counts_or_not Trace = inr (λ e. cc)
 
 -- an element of two lists, one behind the other
 of_both : (xs ys : List ℕ) (i : ℕ) → (slice_get (xs ++ ys) i ≡ slice_get xs i) × (i < length xs)
@@ -54,15 +46,8 @@ of_second (x ∷ xs) ys i s e =
     let z : length (x ∷ xs) + i ≡ suc (length xs + i) = omega arith in
     ap (slice_get (x ∷ (xs ++ ys))) z ∙ of_second xs ys i s e
 
--- what a slot weighs where the fields that lead to x count
-abbrev weight : ℕ → ℕ → Option Body → ℕ
-weight q x o = cond (belongs q o) (led x o) 0
-
 weighs : (q x : ℕ) (o : Option Body) → belongs q o ≡ true → weight q x o ≡ led x o
 weighs q x o e = rw e refl
-
-weighs_none : (q x : ℕ) (o : Option Body) → belongs q o ≡ false → weight q x o ≡ 0
-weighs_none q x o e = rw e refl
 
 weighs_led : (q x : ℕ) (o : Option Body) → led x o ≡ 0 → weight q x o ≡ 0
 weighs_led q x o e = by_test (belongs q o) (led x o) e
@@ -114,10 +99,6 @@ module _ (c : Table) (t : RegionTable) (from into : ℕ) (a b : Record) (g : Gro
   not_from k q d h e = let P : ℕ
       → Type 0 = λ z. HasNumber t z q in d (one_number t from q a.number (subst P e h) has_from)
 
-  not_into : (k q : ℕ) → q ≢ b.number → HasNumber t k q → k ≢ into
-  not_into k q d h e = let P : ℕ
-      → Type 0 = λ z. HasNumber t z q in d (one_number t into q b.number (subst P e h) has_into)
-
   module _ (cells : Table) (j : Relabels c a.number b.number cells) where
     pub fields_stay : (s k : ℕ) → field_at cells.heap s k ≡ field_at c.heap s k
     fields_stay s k = elim (lies_or_not c.heap a.number s) [
@@ -147,7 +128,7 @@ module _ (c : Table) (t : RegionTable) (from into : ℕ) (a b : Record) (g : Gro
       | inr m ↦
           let e = label_only (Region b.number) (Region q) (body_at c.heap s) (ap (option_map (λ (b : Body). b.label))
           (sym (j.moved s m)) ∙ l) in
-          inr (region_is q b.number e, m)
+          inr (region-number q b.number e, m)
     ]
 
     frozen_on : (s : ℕ) → label_at c.heap s ≡ Some Frozen → label_at cells.heap s ≡ Some Frozen

@@ -1,6 +1,7 @@
 -- What is told of cells and regions where some regions are frozen (docs/architecture.md, "Freeze and merge").
 use Rattle.std.proofs.Common.{◌≡◌, ℕ, Option, Some, None, IsSome, refl, ap, sym, ◌∙◌, subst, ◌⊎◌, inl, inr}
 use Rattle.std.proofs.Common.{option_map, option_and_then, slice_get}
+use Rattle.std.proofs.lemmas.Option.{same_Some}
 use Rattle.rg_base.specs.declared.object.Label.{Label}
 use Rattle.rg_base.specs.declared.object.Label.TheVariants.{Region, Temp, Frozen}
 use Rattle.rg_cells.specs.declared.cell.Body.{Body}
@@ -31,10 +32,7 @@ label_there l (Some b) e = refl
 -- a label that a body with another label has is that one
 pub label_only : (l m : Label) (o : Option Body) → option_map (λ (b : Body). b.label) (labelled l o) ≡ Some m → m ≡ l
 label_only l m None e = cc
-label_only l m (Some b) e = label_is m l (sym e)
-  where
-    label_is : (a b : Label) → Some a ≡ Some b → a ≡ b
-    label_is a b q = cc
+label_only l m (Some b) e = same_Some m l (sym e)
 
 -- a cell lies in a region, or in none
 pub some_region : (h : Heap) (s : ℕ) → ((q : ℕ) × LiesIn h q s) ⊎ ((q : ℕ) → LiesIn h q s → ⊥)

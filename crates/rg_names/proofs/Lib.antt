@@ -16,4 +16,4 @@ mod MembersFound
 mod ClassFound
 mod NewNames
 mod GoodHeaders
-pub mod Callers
+mod TableFacts

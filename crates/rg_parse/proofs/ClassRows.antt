@@ -13,23 +13,24 @@ use Rattle.rg_tree.specs.declared.rows.MemberRow.{MemberRow}
 use Rattle.rg_tree.specs.declared.rows.MemberRow.TheVariants as member_row
 use Rattle.rg_tree.specs.Tree.{Param, Member, field, method}
 use Rattle.rg_tree.specs.Forms as form
-use Rattle.rg_tree.specs.Phrases.{Symbol, that, word, mark, class_name, field_name, method_name, param_name, the}
+use Rattle.rg_tree.specs.Phrases.{Symbol, that, mark, class_name, field_name, method_name, param_name, the}
 use Rattle.rg_tree.specs.Phrases as p
 use Rattle.rg_tree.specs.Grammar.{Reads, text, class_row, tmp_class_row, field_row, method_row, no_members, first_param, no_params, next_param}
 use Rattle.rg_tree.specs.Grammar.{no_more_params}
 use Rattle.rg_tree.specs.Stuck.{line_at, fits}
 use Rattle.rg_tree.specs.Rows.RowTrees.{param_at, param_of, member_at, member_of}
-use Rattle.rg_tree.specs.Rows.RowsExist.{IsParamIn}
+use Rattle.rg_tree.specs.Rows.RowsExist.{IsParamIn, IsParamNumber, IsMemberNumber}
 use Rattle.rg_tree.specs.Table.{next, row}
 use Rattle.rg_tree.proofs.Passing.{passes}
 use Rattle.rg_tree.proofs.Stopping.{kind_is}
+use Rattle.rg_tree.specs.Adds.{Means}
 use Rattle.rg_parse.specs.declared.reader.halt.Halt.{Halt}
 use Rattle.rg_parse.specs.declared.reader.halt.Halt.TheVariants as halt
 use Rattle.rg_parse.specs.declared.reader.limits.Role.TheVariants as role
-use Rattle.rg_parse.specs.Inner.Lists.{IsParamNumber, IsMemberNumber, numbers_of, IsListed}
+use Rattle.rg_parse.specs.Inner.Lists.{numbers_of, IsListed}
 use Rattle.rg_parse.specs.Inner.Readings.{FoundClass, FoundMembers, FoundMember, FoundParams, FoundParam, param_symbols, param_row}
 use Rattle.rg_parse.specs.Inner.Readings.{FoundType, FoundCap, FoundResult, FoundBlock}
-use Rattle.rg_parse.specs.Inner.Steps.{State, Means, Took, took, took_brace, took_paren, Declared, declared, found, Kept, kept, Halts}
+use Rattle.rg_parse.specs.Inner.Steps.{State, Took, took, took_brace, took_paren, Declared, declared, found, Kept, kept, Halts}
 use Rattle.rg_parse.proofs.Growing.{extends-same, extends-trans, means-later, means-as}
 use Rattle.rg_parse.proofs.Halting.{halts-none, halts-row, halts-took, halts-declared, halts-found, halts-tables}
 use Rattle.rg_parse.proofs.Loops.{st, Along, along, means-nil, means-push, means-span}

@@ -13,7 +13,7 @@ use Rattle.rg_tree.specs.declared.rows.ExprRow.TheVariants as expr_row
 use Rattle.rg_tree.specs.Counts.{one_sign}
 use Rattle.rg_tree.specs.Tree.{Expr, path, is_nil, neg, not, binary}
 use Rattle.rg_tree.specs.Forms as form
-use Rattle.rg_tree.specs.Phrases.{Symbol, that, sign, word, mark, the}
+use Rattle.rg_tree.specs.Phrases.{Symbol, that, sign, mark, the}
 use Rattle.rg_tree.specs.Phrases as p
 use Rattle.rg_tree.specs.Grammar as grammar
 use Rattle.rg_tree.specs.Grammar.{Reads}
@@ -23,6 +23,7 @@ use Rattle.rg_tree.specs.Rows.RowsExist.{IsExprNumber, IsPathIn}
 use Rattle.rg_tree.specs.Table.{next, row}
 use Rattle.rg_tree.specs.Rows.Tables.{Tables}
 use Rattle.rg_tree.proofs.ByRows.{comparison_of-row, sum_of-row, product_of-row, literal_of-behind}
+use Rattle.rg_tree.specs.Adds.{Means}
 use Rattle.rg_parse.specs.declared.reader.halt.Halt.{Halt}
 use Rattle.rg_parse.specs.declared.reader.kinds.Level.{Level}
 use Rattle.rg_parse.specs.declared.reader.kinds.Level.TheVariants as level
@@ -31,7 +32,7 @@ use Rattle.rg_parse.specs.Inner.Starts.{primary_start}
 use Rattle.rg_parse.specs.declared.reader.starts.PrimaryStart.{PrimaryStart}
 use Rattle.rg_parse.specs.declared.reader.starts.PrimaryStart.TheVariants as start
 use Rattle.rg_parse.specs.Inner.Readings.{FoundChain, FoundOperand, FoundExpr, FoundNot, FoundCmp, FoundUnary, FoundPrimary, FoundPath}
-use Rattle.rg_parse.specs.Inner.Steps.{State, Means, Took, took, took_brace, took_paren, Signed, signed, found, Kept, kept, Extends, Halts}
+use Rattle.rg_parse.specs.Inner.Steps.{State, Took, took, took_brace, took_paren, Signed, signed, found, Kept, kept, Extends, Halts}
 use Rattle.rg_parse.proofs.Growing.{extends-same, extends-trans, means-later}
 use Rattle.rg_parse.proofs.Halting.{halts-row, halts-here, halts-signed, halts-found, halts-kept}
 use Rattle.rg_parse.proofs.Loops.{st}

@@ -1,38 +1,18 @@
 -- Rows stand for the same trees wherever the tables grow.
-use Rattle.std.proofs.Common.{◌≡◌, ℕ, ◌<◌, List, length, Option, None, Some, IfSome, option_map, refl, ap, ◌∙◌, arith}
+use Rattle.std.proofs.Common.{◌≡◌, ℕ, List, Option, None, Some, IfSome, option_map, refl, ap, ◌∙◌}
 use Rattle.rg_tree.specs.declared.rows.Span.{Span}
-use Rattle.rg_tree.specs.Tree.{Expr, Stmt, Param, Member}
 use Rattle.rg_tree.specs.Rows.Tables.{Tables, name_at}
-use Rattle.rg_tree.specs.Rows.RowTrees.{expr_at, stmt_at, param_at, member_at}
-use Rattle.rg_tree.specs.Rows.RowsExist.{IsNameIn, IsExprNumber}
+use Rattle.rg_tree.specs.Rows.RowsExist.{IsNameIn}
 use Rattle.rg_tree.specs.Rows.RowsExist.{Holds}
-use Rattle.rg_tree.proofs.Callers.{IsAbove-Keeps, expr_at-keeps, stmt_at-keeps, param_at-keeps, member_at-keeps, Holds-keeps}
-use Rattle.rg_tree.proofs.Grows.{name_at-grows}
-use Rattle.rg_parse.specs.Inner.Lists.{IsStmtNumber, IsParamNumber, IsMemberNumber, numbers_of, IsListed}
+use Rattle.rg_tree.proofs.Callers.{Holds-keeps}
+use Rattle.rg_parse.specs.Inner.Lists.{numbers_of, IsListed}
 use Rattle.rg_tree.proofs.Callers.{Keeps-same, Keeps-trans}
 use Rattle.rg_base.specs.declared.token.Kind.{Kind}
 use Rattle.rg_base.specs.declared.token.Token.{Token}
 use Rattle.rg_tree.specs.declared.counts.Counts.{Counts}
-use Rattle.rg_parse.specs.Inner.Steps.{State, Means, Extends, Found, found, Took, took, took_brace, took_paren, Signed, signed}
-
-module _ {t : Tables} (n : ℕ) where
-  pub name-means : (x : List ℕ) → name_at t n ≡ x → n < length t.names → Means name_at IsNameIn t n x
-  name-means x e l = record {
-    is = λ u k. name_at-grows (IsAbove-Keeps k) n l ∙ e;
-    there = λ u k. omega (arith, (IsAbove-Keeps k).names);
-  }
-
-  pub expr-means : (x : Expr) → expr_at t n ≡ x → n < length t.exprs → Means expr_at IsExprNumber t n x
-  expr-means x e l = record { is = λ u k. expr_at-keeps k n l ∙ e; there = λ u k. omega (arith, (IsAbove-Keeps k).exprs) }
-
-  pub stmt-means : (x : Stmt) → stmt_at t n ≡ x → n < length t.stmts → Means stmt_at IsStmtNumber t n x
-  stmt-means x e l = record { is = λ u k. stmt_at-keeps k n l ∙ e; there = λ u k. omega (arith, (IsAbove-Keeps k).stmts) }
-
-  pub param-means : (x : Param) → param_at t n ≡ x → n < length t.params → Means param_at IsParamNumber t n x
-  param-means x e l = record { is = λ u k. param_at-keeps k n l ∙ e; there = λ u k. omega (arith, (IsAbove-Keeps k).params) }
-
-  pub member-means : (x : Member) → member_at t n ≡ x → n < length t.members → Means member_at IsMemberNumber t n x
-  member-means x e l = record { is = λ u k. member_at-keeps k n l ∙ e; there = λ u k. omega (arith, (IsAbove-Keeps k).members) }
+use Rattle.rg_tree.specs.Adds.{Means}
+use Rattle.rg_tree.proofs.Adding.{name-means, means-kept}
+use Rattle.rg_parse.specs.Inner.Steps.{State, Extends, Found, found, Took, took, took_brace, took_paren, Signed, signed}
 
 pub order-means : {t : Tables} (s : Span) (ks : List ℕ) → Holds t s ks → Means numbers_of IsListed t s ks
 order-means s ks h = record { is = λ u k. (Holds-keeps k s ks h).these_are; there = λ u k. (Holds-keeps k s ks h).within }
@@ -48,7 +28,7 @@ extends-trans a b = record { keeps = Keeps-trans a.keeps b.keeps; classes = b.cl
 -- what a row stands for stays
 pub means-later : {V A : Type 0} {tree : Tables → V → A} {exists : Tables → V → Type 0} {t u : Tables} {v : V} {a : A} → Means tree exists t v a
     → Extends t u → Means tree exists u v a
-means-later m g = record { is = λ w k. m.is w (Keeps-trans g.keeps k); there = λ w k. m.there w (Keeps-trans g.keeps k) }
+means-later m g = means-kept m g.keeps
 
 pub base-means : {t : Tables} (o : Option ℕ) → IfSome o (IsNameIn t)
     → Means (λ u. option_map (name_at u)) (λ u b. IfSome b (IsNameIn u)) t o (option_map (name_at t) o)

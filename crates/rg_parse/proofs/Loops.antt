@@ -8,9 +8,10 @@ use Rattle.rg_tree.specs.declared.rows.Span.{Span}
 use Rattle.rg_tree.specs.Phrases.{Phrase, the}
 use Rattle.rg_tree.specs.Rows.Tables.{Tables, numbers_in}
 use Rattle.rg_tree.specs.Rows.RowsExist.{IsSpanBelow}
+use Rattle.rg_tree.specs.Adds.{Means}
 use Rattle.rg_parse.specs.declared.reader.halt.Halt.{Halt}
 use Rattle.rg_parse.specs.Inner.Lists.{numbers_of, IsListed}
-use Rattle.rg_parse.specs.Inner.Steps.{State, Means, Extends, Halts}
+use Rattle.rg_parse.specs.Inner.Steps.{State, Extends, Halts}
 
 -- a state by its parts
 abbrev pub st : List ℕ → List Token → Counts → Tables → State

@@ -12,7 +12,7 @@ use Rattle.rg_tree.specs.declared.rows.CallRow.{CallRow}
 use Rattle.rg_base.specs.declared.fault.Code.TheVariants.{Syntax}
 use Rattle.rg_tree.specs.Tree.{Name, Variable, Expr, Call}
 use Rattle.rg_tree.specs.Forms as form
-use Rattle.rg_tree.specs.Phrases.{Symbol, word, mark, name, that, the}
+use Rattle.rg_tree.specs.Phrases.{Symbol, word, mark, name, the}
 use Rattle.rg_tree.specs.Phrases as p
 use Rattle.rg_tree.specs.Grammar.{Reads, text, path_row, next_field, no_fields, call_base, call_start, call_further, call_args, no_args, first_arg}
 use Rattle.rg_tree.specs.Grammar.{next_arg, no_more_args}
@@ -20,6 +20,8 @@ use Rattle.rg_tree.specs.Rows.RowTrees.{expr_at}
 use Rattle.rg_tree.specs.Rows.RowsExist.{IsNameIn, IsExprNumber}
 use Rattle.rg_tree.specs.Table.{next, row}
 use Rattle.rg_tree.specs.Rows.Tables.{Tables, name_at}
+use Rattle.rg_tree.specs.Adds.{Means}
+use Rattle.rg_tree.proofs.Adding.{name-means}
 use Rattle.rg_parse.specs.declared.reader.halt.Halt.{Halt}
 use Rattle.rg_parse.specs.declared.reader.halt.Halt.TheVariants as halt
 use Rattle.rg_parse.specs.Inner.Lists.{numbers_of, IsListed}
@@ -27,8 +29,8 @@ use Rattle.rg_parse.specs.Inner.Starts.{base_start}
 use Rattle.rg_parse.specs.declared.reader.starts.BaseStart.{BaseStart}
 use Rattle.rg_parse.specs.declared.reader.starts.BaseStart.TheVariants as base
 use Rattle.rg_parse.specs.Inner.Readings.{FoundPath, FoundFields, FoundBase, FoundCall, FoundCallRest, FoundCallArgs, FoundArgs, FoundExpr}
-use Rattle.rg_parse.specs.Inner.Steps.{State, Means, Took, took, took_paren, Used, used, found, Kept, kept, Extends, Halts}
-use Rattle.rg_parse.proofs.Growing.{extends-same, extends-trans, means-later, name-means, base-means}
+use Rattle.rg_parse.specs.Inner.Steps.{State, Took, took, took_paren, Used, used, found, Kept, kept, Extends, Halts}
+use Rattle.rg_parse.proofs.Growing.{extends-same, extends-trans, means-later, base-means}
 use Rattle.rg_parse.proofs.Halting.{halts-none, halts-row, halts-here, halts-took, halts-used, halts-found, halts-kept}
 use Rattle.rg_parse.proofs.Loops.{st, MeansAll, Along, along, means-nil, means-push, means-span}
 

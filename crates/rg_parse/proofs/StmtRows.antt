@@ -30,14 +30,16 @@ use Rattle.rg_parse.specs.declared.reader.halt.Halt.{Halt}
 use Rattle.rg_parse.specs.declared.reader.halt.Halt.TheVariants as halt
 use Rattle.rg_tree.specs.Rows.RowTrees.{stmt_at, stmt_of, block_over}
 use Rattle.rg_tree.specs.Table.{next, row}
-use Rattle.rg_parse.specs.Inner.Lists.{IsStmtNumber, numbers_of, IsListed}
+use Rattle.rg_tree.specs.Adds.{Means}
+use Rattle.rg_tree.specs.Rows.RowsExist.{IsStmtNumber}
+use Rattle.rg_parse.specs.Inner.Lists.{numbers_of, IsListed}
 use Rattle.rg_parse.specs.Inner.Starts.{stmt_start}
 use Rattle.rg_parse.specs.declared.reader.starts.StmtStart.{StmtStart}
 use Rattle.rg_parse.specs.declared.reader.starts.StmtStart.TheVariants as start
 use Rattle.std.proofs.lemmas.Bool.{false≢true}
 use Rattle.rg_parse.specs.Inner.Readings.{FoundKind, FoundStmt, FoundBlock, FoundStmts, FoundElse, FoundPath, FoundType, FoundRight, FoundCall}
 use Rattle.rg_parse.specs.Inner.Readings.{FoundExpr}
-use Rattle.rg_parse.specs.Inner.Steps.{State, Means, Took, took, took_brace, Used, used, Declared, declared, Found, found, Kept, kept, Reset, reset}
+use Rattle.rg_parse.specs.Inner.Steps.{State, Took, took, took_brace, Used, used, Declared, declared, Found, found, Kept, kept, Reset, reset}
 use Rattle.rg_parse.specs.Inner.Steps.{Halts}
 use Rattle.rg_parse.proofs.Growing.{extends-same, extends-trans, means-later}
 use Rattle.rg_parse.proofs.Halting.{halts-row, halts-here, halts-found}

@@ -17,12 +17,13 @@ use Rattle.rg_tree.specs.Stuck.{Stops, expected, another, past}
 use Rattle.rg_tree.specs.Table.{next}
 use Rattle.rg_tree.specs.Rows.Tables.{Tables, name_at}
 use Rattle.rg_tree.specs.Rows.RowsExist.{IsNameIn}
+use Rattle.rg_tree.specs.Adds.{Means}
 use Rattle.rg_parse.specs.declared.reader.halt.Halt.{Halt}
 use Rattle.rg_parse.specs.declared.reader.halt.Halt.TheVariants as halt
 use Rattle.rg_parse.specs.declared.reader.limits.Role.{Role}
 use Rattle.rg_parse.specs.declared.reader.limits.Role.TheVariants as role
 use Rattle.rg_parse.specs.Inner.Roles.{symbol_of}
-use Rattle.rg_parse.specs.Inner.Steps.{State, Halts, IsFirst, IsFree, Means, settled, Took, took, took_brace, took_paren, Signed, signed, Used, used}
+use Rattle.rg_parse.specs.Inner.Steps.{State, Halts, IsFirst, IsFree, settled, Took, took, took_brace, took_paren, Signed, signed, Used, used}
 use Rattle.rg_parse.specs.Inner.Steps.{Declared, declared, Extends}
 
 -- another token than the expected one

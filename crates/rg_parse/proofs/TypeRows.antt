@@ -12,20 +12,21 @@ use Rattle.rg_tree.specs.declared.rows.TypeRow.TheVariants as type_row
 use Rattle.rg_tree.specs.Counts.{behind}
 use Rattle.rg_tree.specs.Tree.{int, bool, ref}
 use Rattle.rg_tree.specs.Forms as form
-use Rattle.rg_tree.specs.Phrases.{Symbol, word, mark, name, the}
+use Rattle.rg_tree.specs.Phrases.{Symbol, word, name, the}
 use Rattle.rg_tree.specs.Phrases as p
 use Rattle.rg_tree.specs.Grammar.{Reads, text, cap_row, manager_row, plain_type, ref_type, some_result, no_result}
 use Rattle.rg_tree.specs.Operators.{cap_of, manager_of}
 use Rattle.rg_tree.specs.Table.{next, row}
 use Rattle.rg_tree.specs.Rows.Tables.{Tables}
 use Rattle.rg_tree.proofs.ByRows.{cap_of-behind, manager_of-behind}
+use Rattle.rg_tree.specs.Adds.{Means}
 use Rattle.rg_parse.proofs.Growing.{extends-same, extends-trans, means-later}
 use Rattle.rg_parse.specs.Inner.Levels.{NoneNext}
 use Rattle.rg_parse.specs.Inner.Starts.{type_start}
 use Rattle.rg_parse.specs.declared.reader.starts.TypeStart.{TypeStart}
 use Rattle.rg_parse.specs.declared.reader.starts.TypeStart.TheVariants as type
 use Rattle.rg_parse.specs.Inner.Readings.{FoundCap, FoundManager, FoundType, FoundResult}
-use Rattle.rg_parse.specs.Inner.Steps.{State, Means, Took, took, took_brace, took_paren, Used, used, found, settled, IsFree}
+use Rattle.rg_parse.specs.Inner.Steps.{State, Took, took, took_brace, took_paren, Used, used, found, settled, IsFree}
 use Rattle.rg_parse.proofs.Halting.{free-behind}
 
 -- a value that is its own tree

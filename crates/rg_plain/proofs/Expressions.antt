@@ -1,5 +1,5 @@
 -- What expressions, paths and written types stand for, and what is used up.
-pub mod Type
+pub mod Types
 pub mod Spots
 pub mod Using
 pub mod Argument

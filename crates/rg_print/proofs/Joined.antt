@@ -13,11 +13,6 @@ joined-cons : (x : List ℕ) (texts : List (List ℕ)) → joined (x ∷ texts) 
 joined-cons x [] = rw append-nil refl
 joined-cons x (y ∷ texts) = rw (joined-cons y texts, append_assoc, append_assoc) refl
 
--- no text is left
-pub joined_behind-none : (n : ℕ) → joined_behind n [] ≡ []
-joined_behind-none zero = refl
-joined_behind-none (suc n) = refl
-
 -- the texts of numbers, one by one
 module _ (texts : List ℕ → List (List ℕ)) (text : ℕ → List ℕ) (cons : (k : ℕ) (ks : List ℕ) → texts (k ∷ ks) ≡ text k ∷ texts ks) where
   -- the first one is written, with nothing in front of it

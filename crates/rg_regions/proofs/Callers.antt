@@ -2,6 +2,7 @@
 pub mod Told
 pub mod Chain
 pub mod Fewer
+pub mod Beside
 pub mod RegionComes
 pub mod Changed
 pub mod Freed
@@ -13,4 +14,3 @@ pub mod HandedOver
 pub mod Shares
 pub mod CellComes
 pub mod Ordered
-pub mod GroveOrdered

@@ -6,6 +6,7 @@ use Rattle.std.proofs.lemmas.List.Sums.{sum_by-cons}
 use Rattle.std.proofs.lemmas.Bool.{cases_eq}
 use Rattle.std.proofs.lemmas.Bool.Decides.{eqb_tells}
 use Rattle.std.specs.Map.{lookup}
+use Rattle.std.proofs.lemmas.Option.{same_Some}
 use Rattle.rg_regions.specs.declared.region.Region.{Region}
 use Rattle.rg_regions.specs.Table.{Record, RegionTable, record_at, HasNumber, removed, Added}
 use Rattle.rg_regions.specs.Inner.Layout.{record_of, shown, link_of, table_of, IsIndexed}
@@ -27,10 +28,7 @@ removed-is xs next key = ap (λ ys. record { records = ys; links = map link_of (
 
 -- a number that another key has
 same-key : (entries : List (ℕ × ℕ)) (t : RegionTable) (a b n : ℕ) → IsIndexed entries t → HasNumber t a n → HasNumber t b n → a ≡ b
-same-key entries t a b n i p q = some_is a b (sym (i.all n a p) ∙ i.all n b q)
-  where
-    some_is : (a b : ℕ) → Some a ≡ Some b → a ≡ b
-    some_is a b q = cc
+same-key entries t a b n i p q = same_Some a b (sym (i.all n a p) ∙ i.all n b q)
 
 -- what the slots without one key show
 without : (t : RegionTable) (key k n : ℕ) → HasNumber (removed t key) k n → (k ≢ key) × HasNumber t k n
@@ -60,7 +58,7 @@ indexed-removed entries left t key number is up i = record {
     | inl e ↦ let v : None ≡ Some k = sym (up n ∙ ap (λ b. cond b None (lookup (nat_eq n) entries)) e.0) ∙ l in cc
     | inr e ↦
         let h : HasNumber t k n = i.found n k (sym (up n ∙ ap (λ b. cond b None (lookup (nat_eq n) entries)) e.0) ∙ l) in
-        with_it t key k n (λ q. let P : ℕ → Type 0 = λ z. HasNumber t z n in e.1 (some_is number n (sym is ∙ subst P q h))) h
+        with_it t key k n (λ q. let P : ℕ → Type 0 = λ z. HasNumber t z n in e.1 (same_Some number n (sym is ∙ subst P q h))) h
   ];
   all = λ n k h.
       let w = without t key k n h in
@@ -70,9 +68,6 @@ indexed-removed entries left t key number is up i = record {
       ];
   below = λ n k h. i.below n k (without t key k n h).1;
 }
-  where
-    some_is : (a b : ℕ) → Some a ≡ Some b → a ≡ b
-    some_is a b q = cc
 
 -- the last number is the next one again
 pub indexed-last : (entries : List (ℕ × ℕ)) (t : RegionTable) (number : ℕ) → number + 1 ≡ t.next → ((k : ℕ) → HasNumber t k number → ⊥)
@@ -97,11 +92,11 @@ indexed-added entries more t new key vacant is others next up i =
     let old : (n k : ℕ) → k ≢ key → HasNumber new k n → HasNumber t k n =
     λ n k d h. ap (option_map (λ (r : Record). r.number)) (sym (others k d)) ∙ h in
     let number : (n k : ℕ) → k ≡ key → HasNumber new k n → t.next ≡ n =
-    λ n k q h. let P : ℕ → Type 0 = λ z. HasNumber new z n in some_is t.next n (sym is ∙ subst P q h) in
+    λ n k q h. let P : ℕ → Type 0 = λ z. HasNumber new z n in same_Some t.next n (sym is ∙ subst P q h) in
     record {
       found = λ n k l. elim (eqb_tells t.next n) [
         | inl e ↦
-            let v : key ≡ k = some_is key k (sym (up n ∙ ap (λ b. cond b (Some key) (lookup (nat_eq n) entries)) e.0) ∙ l) in
+            let v : key ≡ k = same_Some key k (sym (up n ∙ ap (λ b. cond b (Some key) (lookup (nat_eq n) entries)) e.0) ∙ l) in
             let P : ℕ → Type 0 = λ z. HasNumber new z n in
             let N : ℕ → Type 0 = λ z. HasNumber new key z in
             subst P v (subst N e.1 is)
@@ -128,9 +123,6 @@ indexed-added entries more t new key vacant is others next up i =
         | inr d ↦ let b = i.below n k (old n k d h) in omega (arith, b, next)
       ];
     }
-  where
-    some_is : (a b : ℕ) → Some a ≡ Some b → a ≡ b
-    some_is a b q = cc
 
 -- no key has the number of a region that has gone
 pub only-one : (entries : List (ℕ × ℕ)) (t : RegionTable) (key : ℕ) → IsIndexed entries t → (k n : ℕ) → HasNumber t key n

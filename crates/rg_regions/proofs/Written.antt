@@ -2,6 +2,7 @@
 use Rattle.std.proofs.Common.{◌≡◌, ℕ, ◌-◌, ◌<◌, zero, suc, List, [], ◌∷◌, length, map, Option, Some, None, IsSome, get_or, set, vec_capacity, refl}
 use Rattle.std.proofs.Common.{ap, sym, ◌∙◌, subst, arith, option_map}
 use Rattle.std.proofs.lemmas.List.{map-set}
+use Rattle.std.proofs.lemmas.Option.{same_Some}
 use Rattle.rg_regions.specs.declared.region.Region.{Region}
 use Rattle.rg_regions.specs.Table.{Record, RegionTable, record_at, changed}
 use Rattle.rg_regions.specs.Inner.Layout.{record_of, shown, link_of, table_of, IsIndexed}
@@ -35,12 +36,9 @@ members_at xs next key place now rec e f l =
     by_option : (o : Option Region) → shown o ≡ Some rec → (r : Region) × (o ≡ Some r) × (place < length r.members.items)
     by_option None q = cc
     by_option (Some r) q =
-        let s : record_of r ≡ rec = rec_is (record_of r) rec q in
+        let s : record_of r ≡ rec = same_Some (record_of r) rec q in
         let n : length r.members.items ≡ length rec.members = ap (λ (z : Record). length z.members) s in
         (r, refl, omega (arith, n, l))
-      where
-        rec_is : (a b : Record) → Some a ≡ Some b → a ≡ b
-        rec_is a b q = cc
 
 -- the links stay
 link-same : (xs : List (Option Region)) (key : ℕ) (r n : Region) → get_or xs key None ≡ Some r → n.link ≡ r.link
@@ -121,12 +119,9 @@ room_at xs next key now rec e f l =
     by_option : (o : Option Region) → shown o ≡ Some rec → (r : Region) × (o ≡ Some r) × (length r.members.items < vec_capacity r.members)
     by_option None q = cc
     by_option (Some r) q =
-        let s : record_of r ≡ rec = rec_is (record_of r) rec q in
+        let s : record_of r ≡ rec = same_Some (record_of r) rec q in
         let n : vec_capacity r.members - length r.members.items ≡ rec.room = ap (λ (z : Record). z.room) s in
         (r, refl, omega (arith, n, l))
-      where
-        rec_is : (a b : Record) → Some a ≡ Some b → a ≡ b
-        rec_is a b q = cc
 
 -- nothing shows a change
 pub same-shown : (xs : List (Option Region)) (next key : ℕ) (r n : Region) → get_or xs key None ≡ Some r → n.link ≡ r.link

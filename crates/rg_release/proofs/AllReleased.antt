@@ -7,30 +7,12 @@ use Rattle.rg_cells.specs.declared.cell.Body.{Body}
 use Rattle.rg_cells.specs.Table.{Table, body_at}
 use Rattle.rg_regions.specs.Table.{Record, RegionTable, record_at, HasNumber, Has}
 use Rattle.rg_regions.specs.Reach.{LiesIn}
-use Rattle.rg_regions.specs.Grove.{Grove}
 use Rattle.rg_regions.proofs.Callers.Told.{number_of}
 use Rattle.rg_regions.proofs.Callers.Fewer.{label_before}
 use Rattle.rg_release.specs.Released.{Unowned, BelowOne, CellsGo, RecordsGo}
 use Rattle.rg_release.specs.Inner.Turns.{Turned, Releasing}
 use Rattle.rg_release.proofs.GroveKept.{fewer, grove_emptied}
 use Rattle.rg_release.proofs.BelowLeft.{below_left, below_before, below_first, unowned_left, alone_first}
-
-pub releasing_begin : (c : Table) (t : RegionTable) (tops : List ℕ) → Grove c t → Unowned c.heap t tops → Releasing c t tops c t tops
-releasing_begin c t tops g l = record {
-  grove = g;
-  unowned = l;
-  sub = λ s. inl refl;
-  records_sub = λ k. inl refl;
-  back = λ q d. d;
-  gone = λ q s d i. inr d;
-  records = λ k q d n. inr d;
-  others = λ s n. (refl, refl, refl);
-  stay = λ k n. (refl, refl);
-  serials = refl;
-  high = refl;
-  numbers = refl;
-  count = omega arith;
-}
 
 module _ (c : Table) (t : RegionTable) (tops : List ℕ) (mid : Table) (was : RegionTable) (key : ℕ) (rec : Record) (rest : List ℕ)
     (cells : Table) (regions : RegionTable) (keys : List ℕ) (e : record_at was key ≡ Some rec) (w : Turned mid was key rec rest cells regions keys)

@@ -1,5 +1,5 @@
 -- Cells that are freed one by one (docs/architecture.md, "Release").
-use Rattle.std.proofs.Common.{◌≡◌, ◌≢◌, ℕ, ◌+◌, ◌<◌, List, length, Option, Some, None, IsSome, get_or, refl}
+use Rattle.std.proofs.Common.{◌≡◌, ◌≢◌, ℕ, ◌+◌, ◌<◌, List, length, Option, Some, None, IsSome, get_or}
 use Rattle.std.proofs.Common.{ap, sym, ◌∙◌, subst, arith, inl, inr}
 use Rattle.std.proofs.lemmas.List.{get_or-set_other}
 use Rattle.std.proofs.lemmas.Bool.{cases_eq, cases_lt}
@@ -9,14 +9,6 @@ use Rattle.rg_cells.proofs.SerialsKept.{none_at}
 use Rattle.rg_regions.proofs.Callers.Freed.{zero_here, count-freed, held_once}
 use Rattle.rg_regions.specs.Same.{IsSameCell, AllDiffer}
 use Rattle.rg_release.specs.Inner.Turns.{FreedFirst}
-
-pub freed_none : (t : Table) (members : List ℕ) → FreedFirst t members 0 t
-freed_none t members = record {
-  gone = λ j l. absurd (omega (arith, l));
-  others = λ s d. (refl, refl, refl);
-  serials = refl;
-  high = refl;
-}
 
 -- the next one is still held
 pub still_held : (old t : Table) (members : List ℕ) (i : ℕ) → AllDiffer members → IsHeld old.heap (get_or members i 0)

@@ -11,7 +11,7 @@ pub mod Run
 mod Value
 pub mod Region
 pub mod Step
-mod Sources
+pub mod Sources
 mod FaultExamples
 mod RuleExamples
 mod PlaceExamples

@@ -13,8 +13,8 @@ use Rattle.rg_rules.specs.Acceptance.{first_fault}
 use Rattle.rg_rules.specs.Runs.{Done, Stopped, plain_from, plain}
 use Rattle.rg_rules.specs.Outside.Asks.{asks_from, asks}
 use Rattle.rg_rules.proofs.Sources.{self, var, dot, dots, use_of, to, call_of, block, field_named, param, method_named, class_named, program}
-use Rattle.rg_rules.proofs.Sources.{on_one_line}
-use Rattle.rg_rules.proofs.RunSources.{self_dot, Source, shown}
+use Rattle.rg_rules.proofs.Sources.{on_one_line, self_dot}
+use Rattle.rg_rules.proofs.RunSources.{Source, shown}
 
 -- a node of a list
 abbrev node : Class

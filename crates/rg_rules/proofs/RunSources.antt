@@ -1,16 +1,12 @@
 -- Words for examples of runs: texts that are accepted, and what is looked at in a run.
-use Rattle.std.proofs.Common.{ℕ, List, [], ◌∷◌, length, None, codes}
+use Rattle.std.proofs.Common.{ℕ, List, [], length, None}
 use Prim.Native.String.{String}
 use Rattle.rg_base.specs.declared.value.Val.{Val}
-use Rattle.rg_tree.specs.Tree.{Path, Tree}
+use Rattle.rg_tree.specs.Tree.{Tree}
 use Rattle.rg_rules.specs.Runs.{Ending, Ran, plain}
 use Rattle.rg_rules.specs.Owners.{live}
 use Rattle.rg_rules.specs.Reach.{plain_reach}
 use Rattle.rg_rules.proofs.Sources.{Example}
-
--- `self.f`
-abbrev pub self_dot : String → Path
-self_dot f = record { base = None; fields = codes f ∷ [] }
 
 -- a text that is accepted, and its tree: the text is the canonical one of the tree, on one line
 abbrev pub Source : (text : List String) → Tree → Type 0

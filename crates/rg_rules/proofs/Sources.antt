@@ -1,4 +1,4 @@
--- Words for examples: the trees of short programs, all of whose lines are 1, their texts and their faults.
+-- Words for examples, also of crates above: the trees of short programs, all of whose lines are 1, their texts and their faults.
 use Rattle.std.proofs.Common.{◌≡◌, ℕ, ◌==◌, List, [], ◌∷◌, ◌++◌, Bool, true, false, ◌&&◌, ◌||◌, Option, Some, None, codes}
 use Prim.Native.String.{String}
 use Rattle.rg_base.specs.declared.fault.Code.{Code}
@@ -24,6 +24,10 @@ dot x f = record { base = Some (codes x); fields = codes f ∷ [] }
 -- `x.f.g`
 abbrev pub dots : String → String → String → Path
 dots x f g = record { base = Some (codes x); fields = codes f ∷ codes g ∷ [] }
+
+-- `self.f`
+abbrev pub self_dot : String → Path
+self_dot f = record { base = None; fields = codes f ∷ [] }
 
 -- `x` as an expression
 abbrev pub use_of : String → Expr

@@ -2,7 +2,7 @@
 pub mod Owner
 pub mod Data
 pub mod Window
-pub mod LeaveFrame
+mod LeaveFrame
 pub mod Leave
 pub mod Receiver
 pub mod Entrance

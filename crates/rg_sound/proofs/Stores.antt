@@ -2,13 +2,13 @@
 pub mod Replace
 pub mod Store
 pub mod Field
-pub mod New
+mod New
 pub mod Make
 pub mod MergeLabel
-pub mod Merge
+mod Merge
 pub mod Consume
 pub mod Member
 pub mod Beneath
-pub mod FrozenLabel
-pub mod Frozen
+mod FrozenLabel
+mod Frozen
 pub mod Freeze

@@ -7,6 +7,6 @@ pub mod Assign
 pub mod Deliver
 pub mod Return
 pub mod Argument
-pub mod Call
-pub mod Loose
+mod Call
+mod Loose
 pub mod Invoke

@@ -1,6 +1,6 @@
 -- Why the roots of the top window suffice: behind a collection every reference still leads to a held cell
--- (docs/architecture.md, "Mark and sweep").
-use Rattle.std.proofs.Common.{◌≡◌, ◌≢◌, ℕ, ◌≤◌, List, Option, Some, None, IsSome, refl, ap, sym, ◌∙◌, subst, arith, ◌⊎◌}
+-- (docs/architecture.md, "Mark and sweep"). A law for readers: of it rg_copy cites only where references may lead.
+use Rattle.std.proofs.Common.{◌≡◌, ℕ, List, Option, Some, None, IsSome, refl, ap, sym, ◌∙◌, subst, arith, ◌⊎◌}
 use Rattle.std.proofs.Common.{inl, inr, option_map}
 use Rattle.std.proofs.Common.{slice_get}
 use Rattle.std.proofs.lemmas.Bool.{cases_eq}
@@ -10,6 +10,7 @@ use Rattle.rg_base.specs.declared.object.Label.TheVariants.{Region, Temp, Frozen
 use Rattle.rg_cells.specs.declared.cell.Body.{Body}
 use Rattle.rg_base.specs.declared.value.Word.{Word}
 use Rattle.rg_base.specs.declared.value.Word.TheVariants.{Slot}
+use Rattle.rg_base.proofs.Callers.Labels.{region-same}
 use Rattle.rg_cells.specs.Table.{Heap, Table, IsHeld, body_at, label_at, field_at}
 use Rattle.rg_regions.specs.Table.{Record, RegionTable, record_at, HasNumber}
 use Rattle.rg_regions.specs.Reach.{LiesIn, Roots, Reach, is_bridge, in_slots, in_temps}
@@ -66,9 +67,9 @@ local-roots c t key rec slots lower temps cells regions g e local held w =
               | inr d ↦ elim (g.fields q s k x a f) [
                 | inl z ↦ let v : Some Frozen ≡ Some (Region r) = sym z ∙ i in cc
                 | inr y ↦ elim y [
-                  | inl z ↦ absurd (d (number_is q r (sym z ∙ i)))
+                  | inl z ↦ absurd (d (region-same q r (sym z ∙ i)))
                   | inr z ↦
-                      let p : z.0 ≡ r = number_is z.0 r (sym z.2 ∙ i) in
+                      let p : z.0 ≡ r = region-same z.0 r (sym z.2 ∙ i) in
                       let v = z.3 in
                       let a2 : HasNumber t v.0 r = ap (option_map (λ (y : Record). y.number)) v.2 ∙ ap Some (v.3 ∙ p) in
                       let a3 : HasNumber t key r = ap (option_map (λ (y : Record). y.number)) e in
@@ -96,9 +97,6 @@ local-roots c t key rec slots lower temps cells regions g e local held w =
       (λ k x f h. safe x h (λ i. by_bridge x i (local.slots k x f i))),
     )
   where
-    number_is : (a b : ℕ) → Some (Region a) ≡ Some (Region b) → a ≡ b
-    number_is a b q = cc
-
     none_has : (h : Heap) (s k : ℕ) (v : Word) → label_at h s ≡ None → field_at h s k ≡ Some v → ⊥
     none_has h s k v a f = by_body (body_at h s) a f
       where

@@ -4,8 +4,8 @@ use Rattle.std.proofs.Common.{◌≡◌, ◌≢◌, ℕ, ◌<◌, List, length, 
 use Rattle.std.proofs.Common.{arith, ◌⊎◌, inl, inr, option_map}
 use Rattle.std.proofs.lemmas.Bool.{cases_eq, cases_lt}
 use Rattle.std.proofs.lemmas.Option.{slice_get_within, slice_get-get_or, same_Some}
-use Rattle.rg_base.specs.declared.object.Label.TheVariants.{Region}
 use Rattle.rg_base.specs.declared.words.Manager.TheVariants.{Count, Trace}
+use Rattle.rg_base.proofs.Callers.Labels.{region-same}
 use Rattle.rg_cells.specs.declared.cell.Body.{Body}
 use Rattle.rg_cells.specs.Table.{Heap, Table, field_at, body_at, body_in, mark_at, high_of}
 use Rattle.rg_regions.specs.Table.{Record, RegionTable, record_at, HasNumber}
@@ -25,16 +25,13 @@ pub all-white : (c : Table) (t : RegionTable) (key : ℕ) (rec : Record) → Gro
     → rec.manager ≡ Trace → (s : ℕ)
     → LiesIn c.heap rec.number s → mark_at c s ≡ 0
 all-white c t key rec g e m s l = g.unmarked s (λ k r f n i.
-    let same : r.number ≡ rec.number = number_is r.number rec.number (sym i ∙ l) in
+    let same : r.number ≡ rec.number = region-same r.number rec.number (sym i ∙ l) in
     let a : HasNumber t k rec.number = ap (option_map (λ (z : Record). z.number)) f ∙ ap Some same in
     let b : HasNumber t key rec.number = ap (option_map (λ (z : Record). z.number)) e in
     let q : k ≡ key = g.numbers k key rec.number a b in
     let z : r ≡ rec = same_Some r rec (sym f ∙ ap (record_at t) q ∙ e) in
     let w : Count ≡ Trace = sym n ∙ ap (λ (y : Record). y.manager) z ∙ m in
     cc)
-  where
-    number_is : (a b : ℕ) → Some (Region a) ≡ Some (Region b) → a ≡ b
-    number_is a b q = cc
 
 -- behind marking, before the first turn of sweeping
 pub swept-begin : (c d : Table) (t : RegionTable) (key : ℕ) (rec : Record) → Grove c t → record_at t key ≡ Some rec
@@ -53,7 +50,7 @@ swept-begin c d t key rec g e h =
           let a = m.all s (subst L h l) in (
             a.0,
             slice_get_within rec.members a.0 s a.1,
-            some_is (get_or rec.members a.0 0) s
+            same_Some (get_or rec.members a.0 0) s
                 (sym (slice_get-get_or rec.members a.0 0 (slice_get_within rec.members a.0 s a.1)) ∙ a.1),
           );
       before = λ j l. refl;
@@ -65,9 +62,6 @@ swept-begin c d t key rec g e h =
       next = refl;
       high = refl;
     }
-  where
-    some_is : (a b : ℕ) → Some a ≡ Some b → a ≡ b
-    some_is a b q = cc
 
 -- what a marked region's marks say, turned round
 pub white-gone : (h : Heap) (r : ℕ) (roots : Roots) (old new : Table) (s : ℕ) → Marked h r roots old new → LiesIn h r s
@@ -206,7 +200,7 @@ orphaning c d t u key rec roots result g e m o =
         all = λ q y l n.
             let a = ms.all l.slot l.from in
             let within = slice_get_within rec.members a.0 l.slot a.1 in
-            let is : get_or rec.members a.0 0 ≡ l.slot = some_is (get_or rec.members a.0 0) l.slot
+            let is : get_or rec.members a.0 0 ≡ l.slot = same_Some (get_or rec.members a.0 0) l.slot
             (sym (slice_get-get_or rec.members a.0 0 within) ∙ a.1) in
             k.1.all q y (record {
               place = a.0;
@@ -223,8 +217,5 @@ orphaning c d t u key rec roots result g e m o =
       },
     )
   where
-    some_is : (a b : ℕ) → Some a ≡ Some b → a ≡ b
-    some_is a b q = cc
-
     by_none : {A : Type 0} → ⊥ ⊎ A → A
     by_none o = elim o [ inl x ↦ absurd x | inr a ↦ a ]

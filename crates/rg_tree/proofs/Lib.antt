@@ -15,4 +15,5 @@ pub mod TreesFrom
 pub mod Grows
 pub mod Programs
 pub mod Callers
+pub mod Adding
 mod BuiltPrograms

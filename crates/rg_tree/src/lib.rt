@@ -14,6 +14,6 @@ pub use counts::Counts;
 pub use laws::{at_most_one_tree, spelt_is_not_stuck, stuck_once};
 pub use program::Program;
 pub use rows::{
-    BinOp, CallRow, ClassRow, ExprRow, MemberRow, ParamRow, Path, Right, Span, StmtKind, StmtRow,
-    TypeRow,
+    BinOp, CallRow, ClassRow, ExprRow, MemberRow, MethodRow, ParamRow, Path, Right, Span, StmtKind,
+    StmtRow, TypeRow,
 };

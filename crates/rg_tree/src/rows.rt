@@ -39,6 +39,17 @@ pub enum MemberRow {
     },
 }
 
+/// A member that is a method, in one piece.
+#[derive(Clone, Copy)]
+pub struct MethodRow {
+    pub cap: Cap,
+    pub name: u32,
+    pub params: Span,
+    pub result: Option<TypeRow>,
+    pub body: Span,
+    pub line: u64,
+}
+
 /// `a: T`
 #[derive(Clone, Copy)]
 pub struct ParamRow {

@@ -4,13 +4,13 @@ ghost use Rattle.std.specs.Prelude.{◌≡◌, ◌<◌, ◌==◌, ◌++◌, ◌�
 ghost use Rattle.std.specs.Prelude.{length, map, IfOk, IfSome};
 ghost use Rattle.rg_tree.specs.Rows.Tables.{name_at};
 ghost use Rattle.rg_tree.specs.Tree.{Class};
-ghost use Rattle.rg_tree.specs.Rows.RowTrees.{path_of, program_of};
+ghost use Rattle.rg_tree.specs.Rows.RowTrees.{path_of, program_of, variable_of};
 ghost use Rattle.rg_tree.specs.Rows.RowsExist.{IsNameIn, IsPathIn};
 ghost use Rattle.rg_rules.specs.Capabilities as tables;
 ghost use Rattle.rg_rules.specs.Paths as rules;
 ghost use Rattle.rg_rules.specs.Statements as statements;
 ghost use Rattle.rg_names.specs.TreeAnswers.{IsKnown};
-ghost use Rattle.rg_flow.specs.Scope.{env_of, variable_of};
+ghost use Rattle.rg_flow.specs.Scope.{env_of};
 ghost use Rattle.rg_flow.specs.States.{IsReadable};
 ghost use Rattle.rg_type.specs.Inner.Walks.{followed_of, looked_of};
 

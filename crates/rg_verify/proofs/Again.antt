@@ -2,6 +2,7 @@
 use Rattle.std.proofs.Common.{◌≡◌, ℕ, suc, ◌+◌, ◌<◌, ◌≤◌, List, [], ◌∷◌, ◌++◌, map, length, Some}
 use Rattle.std.proofs.Common.{refl, sym, ap, subst, ◌∙◌, append_assoc, arith}
 use Rattle.std.proofs.lemmas.List.{append-nil, length-append, length-map}
+use Rattle.std.proofs.lemmas.Option.{same_Some}
 use Rattle.rg_tree.specs.declared.rows.BinOp.{BinOp}
 use Rattle.rg_tree.specs.declared.rows.BinOp.TheVariants as op
 use Rattle.rg_code.specs.declared.op.Op.{Op}
@@ -218,12 +219,9 @@ pub stand-raised : (ops : List Op) (at : ℕ) (rs : List Raised) (end : ℕ) →
 stand-raised ops at rs end s =
     rw s.parts (raised-again rs at s.rest s.ends) ∙ ap (λ (n : ℕ). Some (rs, n)) (sym s.place)
 
-some_is : {A : Type 0} (x y : A) → Some x ≡ Some y → x ≡ y
-some_is x y e = cc
-
 pub stand-once : StandOnce
 stand-once ops at rs ss m n s t =
     let x : List Raised × ℕ = (rs, m) in
     let y : List Raised × ℕ = (ss, n) in
-    let both : x ≡ y = some_is x y (sym (stand-raised ops at rs m s) ∙ stand-raised ops at ss n t) in
+    let both : x ≡ y = same_Some x y (sym (stand-raised ops at rs m s) ∙ stand-raised ops at ss n t) in
     (ap (λ (z : List Raised × ℕ). z.0) both, ap (λ (z : List Raised × ℕ). z.1) both)

@@ -11,7 +11,7 @@ mod TreeStack
 mod Settle
 mod Put
 mod Path
-mod Walk
+mod Walking
 mod Examples
 mod BlockExamples
 mod Pieces

@@ -11,6 +11,8 @@ use Rattle.rg_tree.specs.Rows.Tables.{Tables, name_at}
 use Rattle.rg_tree.specs.Rows.RowTrees.{expr_of, path_of}
 use Rattle.rg_tree.specs.Rows.RowsExist.{IsNameIn, IsPathIn}
 use Rattle.rg_tree.proofs.Callers.{Keeps-same}
+use Rattle.rg_tree.specs.Adds.{Extends, Adds}
+use Rattle.rg_tree.proofs.Adding.{extends-trans}
 use Rattle.rg_verify.specs.Naming.{field_name}
 use Rattle.rg_verify.specs.declared.held.Held.{Held}
 use Rattle.rg_verify.specs.declared.held.Held.TheVariants as held
@@ -19,10 +21,9 @@ use Rattle.rg_verify.specs.declared.refusal.Refusal.{Refusal}
 use Rattle.rg_verify.specs.declared.refusal.Refusal.TheVariants as refusal
 use Rattle.rg_verify.specs.Raised.{Raised, named, path, is_nil, path_named}
 use Rattle.rg_verify.specs.Raising.{Item, tree, waits, settle, from_path}
-use Rattle.rg_verify.specs.Rows.{Extends}
-use Rattle.rg_verify.specs.Inner.Adds.{Adds, AreNames, AddsTree}
+use Rattle.rg_verify.specs.Inner.Adds.{AreNames, AddsTree}
 use Rattle.rg_verify.specs.Inner.Stacks.{is_path, IsFor, Piled, Makes, MakesRow, TakesPath}
-use Rattle.rg_verify.proofs.Row.{extends-trans, adds-same, adds-behind, names-none, names-push}
+use Rattle.rg_verify.proofs.Row.{adds-same, adds-behind, names-none, names-push}
 use Rattle.rg_verify.proofs.TreeStack.{piled-later, piled-pop, piled-none}
 use Rattle.rg_verify.proofs.Put.{Settles, makes-behind}
 
@@ -56,24 +57,6 @@ module _ (t : Tables) (m : Truth) (news : List Held) (items : List Item) where
       → from_path f end (x ∷ xs) ≡ None
   not-wait w (waits j a to) xs is f end = refl
   not-wait w (tree r) xs is f end = absurd is
-
-  pub takes-tree : (hs : List Held) (n : ℕ) → hs ≡ news ++ held.Tree n ∷ [] → Piled t m hs items
-      → TakesPath t m news items (Err refusal.NotExpression)
-  takes-tree hs n e p =
-      let (x, xs, same, is, below) = piled-pop t m hs news (held.Tree n) items e p in
-      λ f end. rw same (not-tree n x xs is f end)
-
-  pub takes-wait : (hs : List Held) (w : Wait) → hs ≡ news ++ held.Waits w ∷ [] → Piled t m hs items
-      → TakesPath t m news items (Err refusal.NotExpression)
-  takes-wait hs w e p =
-      let (x, xs, same, is, below) = piled-pop t m hs news (held.Waits w) items e p in
-      λ f end. rw same (not-wait w x xs is f end)
-
--- a refused path refuses what would be made of it
-pub refused-path : (t : Tables) (m : Truth) (now : List Held) (f : ℕ → List ℕ → Raised) (end : ℕ) (items : List Item) (hs : List Held) (e : Refusal)
-    → TakesPath t m now items (Err e) → Makes t t m hs (Err e) (from_path f end items)
-refused-path t m now f end items hs refusal.Memory h = tt
-refused-path t m now f end items hs refusal.NotExpression h = h f end
 
 -- a variable is held
 pub for-variable : (t : Tables) (m : Truth) (s : ℕ) (ns : Vec ℕ Global) → ns.items ≡ [] → IsFor t m (held.Path s ns) (tree (path s []))

@@ -3,6 +3,7 @@ use Rattle.std.proofs.Common.{◌≡◌, ◌==◌, ℕ, suc, Bool as Truth, true
 use Rattle.std.proofs.Common.{refl, sym, ap, ◌∙◌, subst, append_assoc, arith}
 use Rattle.std.proofs.lemmas.Bool.{eqb-true}
 use Rattle.std.proofs.lemmas.List.{drop-drop, length-append}
+use Rattle.std.proofs.lemmas.Option.{same_Some}
 use Rattle.rg_base.specs.declared.ty.Ty.{Ty}
 use Rattle.rg_base.proofs.Callers.Lists.{drop-get}
 use Rattle.rg_code.specs.declared.op.Op.{Op}
@@ -24,7 +25,7 @@ use Rattle.rg_verify.specs.Statements.{right_ops}
 use Rattle.rg_verify.specs.Signs.{making_of, target_of, close_of, open_of, walk_of, behind_of, mark_of, clear_of, call_of, put_of, jump_of, end_of}
 use Rattle.rg_verify.specs.Signs.{leave_of, left_of, pace_of}
 use Rattle.rg_verify.specs.Blocks.{◌>>=◌, ◌>>◌, test, Given, sign, exprs, path_in, cleared, right_of, Piece}
-use Rattle.rg_verify.proofs.Raises.{some_is, raised-stand}
+use Rattle.rg_verify.proofs.Raises.{raised-stand}
 
 -- What a block that told something says of its parts
 
@@ -68,13 +69,13 @@ drop-front (x ∷ xs) ys = drop-front xs ys
 -- What an instruction is
 
 pub making-is : (types : List Ty) (at : ℕ) (o : Op) (m : Making) → making_of o ≡ Some m → o ∷ [] ≡ right_ops types at (right_of m)
-making-is types at (i.New c) m e = ap (λ (n : Making). right_ops types at (right_of n)) (some_is _ _ e)
-making-is types at (i.NewTmp c) m e = ap (λ (n : Making). right_ops types at (right_of n)) (some_is _ _ e)
-making-is types at (i.NewIso c g) m e = ap (λ (n : Making). right_ops types at (right_of n)) (some_is _ _ e)
-making-is types at (i.Freeze s) m e = ap (λ (n : Making). right_ops types at (right_of n)) (some_is _ _ e)
-making-is types at (i.Merge s) m e = ap (λ (n : Making). right_ops types at (right_of n)) (some_is _ _ e)
-making-is types at i.Read m e = ap (λ (n : Making). right_ops types at (right_of n)) (some_is _ _ e)
-making-is types at i.More m e = ap (λ (n : Making). right_ops types at (right_of n)) (some_is _ _ e)
+making-is types at (i.New c) m e = ap (λ (n : Making). right_ops types at (right_of n)) (same_Some _ _ e)
+making-is types at (i.NewTmp c) m e = ap (λ (n : Making). right_ops types at (right_of n)) (same_Some _ _ e)
+making-is types at (i.NewIso c g) m e = ap (λ (n : Making). right_ops types at (right_of n)) (same_Some _ _ e)
+making-is types at (i.Freeze s) m e = ap (λ (n : Making). right_ops types at (right_of n)) (same_Some _ _ e)
+making-is types at (i.Merge s) m e = ap (λ (n : Making). right_ops types at (right_of n)) (same_Some _ _ e)
+making-is types at i.Read m e = ap (λ (n : Making). right_ops types at (right_of n)) (same_Some _ _ e)
+making-is types at i.More m e = ap (λ (n : Making). right_ops types at (right_of n)) (same_Some _ _ e)
 making-is types at o m e = absurd cc
 
 -- the instruction of each sign
@@ -112,62 +113,62 @@ abbrev pub Tells : {A : Type 0} → (Op → Option A) → (A → Op) → Type 0
 Tells {A} of op = (o : Op) (x : A) → of o ≡ Some x → o ≡ op x
 
 pub target-is : Tells target_of target_op
-target-is (i.Store s) x e = ap target_op (some_is _ _ e)
-target-is (i.Own s) x e = ap target_op (some_is _ _ e)
+target-is (i.Store s) x e = ap target_op (same_Some _ _ e)
+target-is (i.Own s) x e = ap target_op (same_Some _ _ e)
 target-is o x e = absurd cc
 
 pub close-is : Tells close_of close_op
-close-is i.Print x e = ap close_op (some_is _ _ e)
-close-is i.Ret x e = ap close_op (some_is _ _ e)
-close-is (i.JumpFalse t) x e = ap close_op (some_is _ _ e)
+close-is i.Print x e = ap close_op (same_Some _ _ e)
+close-is i.Ret x e = ap close_op (same_Some _ _ e)
+close-is (i.JumpFalse t) x e = ap close_op (same_Some _ _ e)
 close-is o x e = absurd cc
 
 pub open-is : Tells open_of open_op
-open-is i.Collect x e = ap open_op (some_is _ _ e)
-open-is (i.Enter s z) x e = ap open_op (some_is _ _ e)
+open-is i.Collect x e = ap open_op (same_Some _ _ e)
+open-is (i.Enter s z) x e = ap open_op (same_Some _ _ e)
 open-is o x e = absurd cc
 
 pub walk-is : Tells walk_of walk_op
-walk-is i.Check x e = ap walk_op (some_is _ _ e)
-walk-is (i.EnterField k z) x e = ap walk_op (some_is _ _ e)
+walk-is i.Check x e = ap walk_op (same_Some _ _ e)
+walk-is (i.EnterField k z) x e = ap walk_op (same_Some _ _ e)
 walk-is o x e = absurd cc
 
 pub behind-is : Tells behind_of behind_op
-behind-is i.Room x e = ap behind_op (some_is _ _ e)
-behind-is (i.Swap s k) x e = ap behind_op (some_is _ _ e)
+behind-is i.Room x e = ap behind_op (same_Some _ _ e)
+behind-is (i.Swap s k) x e = ap behind_op (same_Some _ _ e)
 behind-is o x e = absurd cc
 
 pub mark-is : Tells mark_of i.Mark
-mark-is (i.Mark l) x e = ap i.Mark (some_is _ _ e)
+mark-is (i.Mark l) x e = ap i.Mark (same_Some _ _ e)
 mark-is o x e = absurd cc
 
 pub clear-is : Tells clear_of i.Clear
-clear-is (i.Clear s) x e = ap i.Clear (some_is _ _ e)
+clear-is (i.Clear s) x e = ap i.Clear (same_Some _ _ e)
 clear-is o x e = absurd cc
 
 pub call-is : Tells call_of i.Call
-call-is (i.Call m) x e = ap i.Call (some_is _ _ e)
+call-is (i.Call m) x e = ap i.Call (same_Some _ _ e)
 call-is o x e = absurd cc
 
 pub put-is : Tells put_of i.Put
-put-is (i.Put k) x e = ap i.Put (some_is _ _ e)
+put-is (i.Put k) x e = ap i.Put (same_Some _ _ e)
 put-is o x e = absurd cc
 
 pub jump-is : Tells jump_of i.Jump
-jump-is (i.Jump t) x e = ap i.Jump (some_is _ _ e)
+jump-is (i.Jump t) x e = ap i.Jump (same_Some _ _ e)
 jump-is o x e = absurd cc
 
 pub end-is : Tells end_of i.End
-end-is (i.End s) x e = ap i.End (some_is _ _ e)
+end-is (i.End s) x e = ap i.End (same_Some _ _ e)
 end-is o x e = absurd cc
 
 pub leave-is : Tells leave_of i.Leave
-leave-is (i.Leave s) x e = ap i.Leave (some_is _ _ e)
+leave-is (i.Leave s) x e = ap i.Leave (same_Some _ _ e)
 leave-is o x e = absurd cc
 
 pub left-is : Tells left_of left_op
-left-is i.Pop x e = ap left_op (some_is _ _ e)
-left-is i.Drop x e = ap left_op (some_is _ _ e)
+left-is i.Pop x e = ap left_op (same_Some _ _ e)
+left-is i.Drop x e = ap left_op (same_Some _ _ e)
 left-is o x e = absurd cc
 
 pub pace-is : Tells pace_of pace_op
@@ -175,7 +176,7 @@ pace-is i.Pace x e = refl
 pace-is o x e = absurd cc
 
 pub path-is : (e : Raised) (p : ℕ × List ℕ) → path_in e ≡ Some p → e ≡ path p.0 p.1
-path-is (path s ks) p e = let same : (s, ks) ≡ p = some_is _ _ e in ap (λ (q : ℕ × List ℕ). path q.0 q.1) same
+path-is (path s ks) p e = let same : (s, ks) ≡ p = same_Some _ _ e in ap (λ (q : ℕ × List ℕ). path q.0 q.1) same
 path-is r p e = absurd cc
 
 module _ (g : Given) where
@@ -202,7 +203,7 @@ module _ (g : Given) where
       record { parts = s.parts ∙ ap (λ (os : List Op). body ++ os) (sym rest); place = s.place }
 
   pub cleared-piece : (ss : List ℕ) (at end : ℕ) → cleared g.ops ss at ≡ Some end → Piece g.ops at (clears ss) end
-  cleared-piece [] at end e = subst (λ (n : ℕ). Piece g.ops at [] n) (some_is _ _ e) (piece-nil g.ops at)
+  cleared-piece [] at end e = subst (λ (n : ℕ). Piece g.ops at [] n) (same_Some _ _ e) (piece-nil g.ops at)
   cleared-piece (s ∷ ss) at end e =
       let (t, there, f) = bind-some (sign clear_of g.ops at) _ end e in
       let (same, h) = test-some (t == s) (cleared g.ops ss (suc at)) end f in

@@ -9,6 +9,8 @@ use Rattle.rg_tree.specs.declared.rows.BinOp.{BinOp}
 use Rattle.rg_tree.specs.Rows.Tables.{Tables}
 use Rattle.rg_tree.specs.Rows.RowTrees.{expr_at, expr_of}
 use Rattle.rg_tree.proofs.Callers.{Keeps-same}
+use Rattle.rg_tree.specs.Adds.{Extends}
+use Rattle.rg_tree.proofs.Adding.{extends-trans}
 use Rattle.rg_verify.specs.declared.held.Held.{Held}
 use Rattle.rg_verify.specs.declared.held.Held.TheVariants as held
 use Rattle.rg_verify.specs.declared.part.Junction.{Junction}
@@ -16,10 +18,8 @@ use Rattle.rg_verify.specs.declared.refusal.Refusal.{Refusal}
 use Rattle.rg_verify.specs.declared.refusal.Refusal.TheVariants as refusal
 use Rattle.rg_verify.specs.Raised.{Raised, named, binary}
 use Rattle.rg_verify.specs.Raising.{Item, tree, waits, settle, from_tree, from_two, from_left}
-use Rattle.rg_verify.specs.Rows.{Extends}
 use Rattle.rg_verify.specs.Inner.Adds.{AddsTree, IsExprRow}
-use Rattle.rg_verify.specs.Inner.Stacks.{is_path, IsFor, Piled, IsPiled, Makes, TakesRow, Pushes}
-use Rattle.rg_verify.proofs.Row.{extends-trans}
+use Rattle.rg_verify.specs.Inner.Stacks.{is_path, IsFor, Piled, Makes, TakesRow, Pushes}
 use Rattle.rg_verify.proofs.TreeStack.{piled-later, piled-push}
 
 -- what came before a call
@@ -56,10 +56,6 @@ puts-tree t u v m hs news end n x result put h items r p e not_path =
 -- Over a tree that was taken
 
 module _ (t u : Tables) (m : Truth) (now : List Held) where
-  pub took-pile : (items : List Item) (n : ℕ) → TakesRow t u m now items (Ok n) → IsPiled u m now
-  took-pile [] n h = absurd h
-  took-pile (waits j a to ∷ below) n h = absurd h
-  took-pile (tree r ∷ below) n (made, p) = (below, p)
 
   pub took-there : (items : List Item) (n : ℕ) → TakesRow t u m now items (Ok n) → n < length u.exprs
   took-there [] n h = absurd h
@@ -70,27 +66,6 @@ module _ (t u : Tables) (m : Truth) (now : List Held) where
   took-tree [] n h = absurd h
   took-tree (waits j a to ∷ below) n h = absurd h
   took-tree (tree r ∷ below) n (made, p) = (r, made.means.is u (Keeps-same u))
-
-  pub refused-tree : (f : Raised → Raised) (end : ℕ) (items : List Item) (hs : List Held) (e : Refusal) → TakesRow t u m now items (Err e)
-      → Makes t u m hs (Err e) (from_tree f end items)
-  refused-tree f end items hs refusal.Memory h = tt
-  refused-tree f end [] hs refusal.NotExpression h = refl
-  refused-tree f end (waits j a to ∷ below) hs refusal.NotExpression h = refl
-  refused-tree f end (tree r ∷ below) hs refusal.NotExpression h = absurd h
-
-  pub refused-two : (o : BinOp) (end : ℕ) (items : List Item) (hs : List Held) (e : Refusal) → TakesRow t u m now items (Err e)
-      → Makes t u m hs (Err e) (from_two o end items)
-  refused-two o end items hs refusal.Memory h = tt
-  refused-two o end [] hs refusal.NotExpression h = refl
-  refused-two o end (waits j a to ∷ below) hs refusal.NotExpression h = refl
-  refused-two o end (tree r ∷ below) hs refusal.NotExpression h = absurd h
-
-  pub refused-left : (j : Junction) (to : ℕ) (items : List Item) (hs : List Held) (e : Refusal) → TakesRow t u m now items (Err e)
-      → Makes t u m hs (Err e) (from_left j to items)
-  refused-left j to items hs refusal.Memory h = tt
-  refused-left j to [] hs refusal.NotExpression h = refl
-  refused-left j to (waits i a at ∷ below) hs refusal.NotExpression h = refl
-  refused-left j to (tree r ∷ below) hs refusal.NotExpression h = absurd h
 
   -- another tree comes over it
   pub put-over : (v : Tables) (news : List Held) (n : ℕ) (x : ExprRow) (f : Raised → Raised) (end : ℕ) (result : Result (Unit {0}) Refusal)
@@ -121,15 +96,6 @@ module _ (t u v : Tables) (m : Truth) (now next : List Held) where
   -- the second tree, once the first was taken
   abbrev pub Second : Result ℕ Refusal → Type 0
   Second result = (below : List Item) → Piled u m now below → TakesRow u v m next below result
-
-  pub both-refused : (o : BinOp) (end : ℕ) (items : List Item) (hs : List Held) (n : ℕ) (e : Refusal) → TakesRow t u m now items (Ok n)
-      → Second (Err e) → Makes t v m hs (Err e) (from_two o end items)
-  both-refused o end [] hs n e h k = absurd h
-  both-refused o end (waits j a to ∷ below) hs n e h k = absurd h
-  both-refused o end (tree r ∷ below) hs n refusal.Memory h k = tt
-  both-refused o end (tree r ∷ []) hs n refusal.NotExpression (made, p) k = refl
-  both-refused o end (tree r ∷ waits j a to ∷ below) hs n refusal.NotExpression (made, p) k = refl
-  both-refused o end (tree r ∷ tree a ∷ below) hs n refusal.NotExpression (made, p) k = absurd (k (tree a ∷ below) p)
 
   -- both trees
   pub record Both (items : List Item) (right left : ℕ) : Type 0 where

@@ -2,6 +2,7 @@
 use Rattle.std.proofs.Common.{◌≡◌, ℕ, suc, ◌+◌, List, [], ◌∷◌, ◌++◌, map, length, Option, Some, None, option_map}
 use Rattle.std.proofs.Common.{refl, sym, ap, ◌∙◌, append_assoc, arith}
 use Rattle.std.proofs.lemmas.List.{append-nil, length-append, map-append}
+use Rattle.std.proofs.lemmas.Option.{same_Some}
 use Rattle.rg_tree.specs.declared.rows.BinOp.{BinOp}
 use Rattle.rg_code.specs.declared.op.Op.{Op}
 use Rattle.rg_code.specs.declared.op.Op.TheVariants as i
@@ -15,12 +16,9 @@ use Rattle.rg_verify.specs.Raising.{Item, tree, settle, from_path, act, walk, tr
 use Rattle.rg_verify.proofs.Settling.{jump_of, items_ops, settle-ops, trees-ops}
 use Rattle.rg_verify.proofs.Parts.{IsOf, Stands, is-of}
 
-pub some_is : {A : Type 0} (x y : A) → Some x ≡ Some y → x ≡ y
-some_is x y e = cc
-
 path-taken : (f : ℕ → List ℕ → Raised) (end : ℕ) (items new : List Item) → from_path f end items ≡ Some new
     → (s : ℕ) × (ks : List ℕ) × (below : List Item) × (items ≡ tree (path s ks) ∷ below) × (new ≡ settle end (f s ks) below)
-path-taken f end (tree (path s ks) ∷ below) new e = (s, ks, below, refl, sym (some_is _ _ e))
+path-taken f end (tree (path s ks) ∷ below) new e = (s, ks, below, refl, sym (same_Some _ _ e))
 path-taken f end items new e = absurd cc
 
 module _ (at here : ℕ) (o : Op) where
@@ -31,7 +29,7 @@ module _ (at here : ℕ) (o : Op) where
       let front = items_ops at items in
       let long : length (ops_of (at + length front) r) ≡ 1 = ap length (one (at + length front)) in
       let end : suc here ≡ at + length front + length (ops_of (at + length front) r) = omega (arith, place, long) in
-      ap (items_ops at) (sym (some_is _ _ e)) ∙ settle-ops at (suc here) r items end ∙ ap (λ (os : List Op). front ++ os) (one (at + length front))
+      ap (items_ops at) (sym (same_Some _ _ e)) ∙ settle-ops at (suc here) r items end ∙ ap (λ (os : List Op). front ++ os) (one (at + length front))
 
   -- a tree comes in place of another, with one instruction more
   replaced : (a r : Raised) (below new : List Item) → ((n : ℕ) → ops_of n r ≡ ops_of n a ++ o ∷ [])
@@ -90,17 +88,17 @@ module _ (at here : ℕ) (o : Op) where
       replaced (path s ks) (is_nil s ks) below new more there new_is
       ∙ ap (λ (xs : List Item). items_ops at xs ++ o ∷ []) (sym items_are)
   act-ops part.Neg (tree a ∷ below) new is place e =
-      replaced a (neg a) below new (λ n. ap (λ (o : Op). ops_of n a ++ o ∷ []) (sym is)) place (sym (some_is _ _ e))
+      replaced a (neg a) below new (λ n. ap (λ (o : Op). ops_of n a ++ o ∷ []) (sym is)) place (sym (same_Some _ _ e))
   act-ops part.Neg items new is place e = absurd cc
   act-ops part.Not (tree a ∷ below) new is place e =
-      replaced a (not a) below new (λ n. ap (λ (o : Op). ops_of n a ++ o ∷ []) (sym is)) place (sym (some_is _ _ e))
+      replaced a (not a) below new (λ n. ap (λ (o : Op). ops_of n a ++ o ∷ []) (sym is)) place (sym (same_Some _ _ e))
   act-ops part.Not items new is place e = absurd cc
-  act-ops (part.Operator b) (tree y ∷ tree x ∷ below) new is place e = joined b x y below new is place (sym (some_is _ _ e))
+  act-ops (part.Operator b) (tree y ∷ tree x ∷ below) new is place e = joined b x y below new is place (sym (same_Some _ _ e))
   act-ops (part.Operator b) items new is place e = absurd cc
   act-ops (part.Between j to) (tree a ∷ below) new is place e =
       let front = items_ops at below in
       let left = ops_of (at + length front) a in
-      ap (items_ops at) (sym (some_is _ _ e)) ∙ sym (append_assoc front left (jump_of j to ∷ []))
+      ap (items_ops at) (sym (same_Some _ _ e)) ∙ sym (append_assoc front left (jump_of j to ∷ []))
       ∙ ap (λ (o : Op). (front ++ left) ++ o ∷ []) (sym is)
   act-ops (part.Between j to) items new is place e = absurd cc
 
@@ -115,7 +113,7 @@ pub walk-ops : (ops : List Op) (at here : ℕ) (items new : List Item) (end : �
     → walk ops here items ≡ Some (new, end) → Walked at (items_ops at items ++ ops) new end
 unfolding walk
 walk-ops [] at here items new end place e =
-    let both : (items, here) ≡ (new, end) = some_is _ _ e in
+    let both : (items, here) ≡ (new, end) = same_Some _ _ e in
     let same : items ≡ new = ap (λ (x : List Item × ℕ). x.0) both in
     let there : here ≡ end = ap (λ (x : List Item × ℕ). x.1) both in
     record {
@@ -149,7 +147,7 @@ walk-ops (o ∷ os) at here items new end place e =
         (elim q [ None ↦ Some (items, here) | Some p ↦ elim (act p (suc here) items) [ None ↦ None | Some next ↦ walk os (suc here) next ] ])
         (Some (new, end)) → Walked at (items_ops at items ++ o ∷ os) new end
     of others None f h =
-        let both : (items, here) ≡ (new, end) = some_is _ _ h in
+        let both : (items, here) ≡ (new, end) = same_Some _ _ h in
         let same : items ≡ new = ap (λ (x : List Item × ℕ). x.0) both in
         let there : here ≡ end = ap (λ (x : List Item × ℕ). x.1) both in
         record {
@@ -170,7 +168,7 @@ raised-stand ops at rs end e = of (walk ops at []) refl e
     there items here (Some xs) f g h =
         let x : List Raised × ℕ = (xs, here) in
         let y : List Raised × ℕ = (rs, end) in
-        let both : x ≡ y = some_is x y h in
+        let both : x ≡ y = same_Some x y h in
         let same : xs ≡ rs = ap (λ (x : List Raised × ℕ). x.0) both in
         let last : here ≡ end = ap (λ (x : List Raised × ℕ). x.1) both in
         let zeroth : at ≡ at + 0 = omega arith in

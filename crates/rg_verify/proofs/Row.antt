@@ -1,67 +1,29 @@
 -- Rows that stand for trees, put together.
-use Rattle.std.proofs.Common.{◌≡◌, ℕ, ◌<◌, ◌==◌, ◌&&◌, Bool as Truth, zero, suc, true, false, List, [], ◌∷◌, ◌++◌, All, map, length, Option}
+use Rattle.std.proofs.Common.{◌≡◌, ℕ, ◌==◌, ◌&&◌, Bool as Truth, zero, suc, true, false, List, [], ◌∷◌, ◌++◌, All, map, Option}
 use Rattle.std.proofs.Common.{Some, None}
 use Rattle.std.proofs.Common.{refl, sym, ◌∙◌, ap, subst, arith, true≢false}
 use Rattle.std.proofs.lemmas.Bool.Decides.{nat_tests}
 use Rattle.std.proofs.lemmas.List.{map-append}
 use Rattle.std.proofs.lemmas.List.Elements.{All-nil, All-push}
-use Rattle.rg_base.proofs.Callers.Lists.{below}
 use Rattle.rg_tree.specs.declared.rows.Span.{Span}
-use Rattle.rg_tree.specs.declared.rows.ExprRow.{ExprRow}
-use Rattle.rg_tree.specs.Tree.{Name, Variable, Expr}
+use Rattle.rg_tree.specs.Tree.{Name, Variable}
 use Rattle.rg_tree.specs.Rows.Tables.{Tables, name_at, numbers_in}
-use Rattle.rg_tree.specs.Rows.RowTrees.{expr_at, path_of, program_of}
-use Rattle.rg_tree.specs.Rows.RowsExist.{Holds, IsNameIn, IsPathIn}
+use Rattle.rg_tree.specs.Rows.RowTrees.{path_of, program_of, variable_of}
+use Rattle.rg_tree.specs.Rows.RowsExist.{Holds, IsNameIn, IsPathIn, IsVariableIn}
 use Rattle.rg_tree.specs.Keeps.{Keeps}
-use Rattle.rg_tree.proofs.Callers.{Keeps-same, Keeps-trans, Holds-keeps, IsAbove-Keeps, expr_at-keeps}
-use Rattle.rg_tree.proofs.Grows.{name_at-grows}
+use Rattle.rg_tree.proofs.Callers.{Holds-keeps}
+use Rattle.rg_tree.specs.Adds.{Extends, Means, Adds}
+use Rattle.rg_tree.proofs.Adding.{extends-same, extends-trans, extends-by, means-later}
 use Rattle.rg_verify.specs.Naming.{variable_name, variable_in}
-use Rattle.rg_verify.specs.Rows.{Extends, Means}
-use Rattle.rg_verify.specs.Inner.Adds.{Adds, base_of, IsBaseIn, AreNames, AddsTree}
-
-pub extends-same : (t : Tables) → Extends t t
-extends-same t = record { keeps = Keeps-same t; program = refl }
-
-pub extends-trans : {t u v : Tables} → Extends t u → Extends u v → Extends t v
-extends-trans a b = record { keeps = Keeps-trans a.keeps b.keeps; program = b.program ∙ a.program }
-
-pub extends-by : {t u : Tables} → Keeps t u → program_of u ≡ program_of t → Extends t u
-extends-by k p = record { keeps = k; program = p }
+use Rattle.rg_verify.specs.Inner.Adds.{AreNames}
 
 module _ {V A : Type 0} {at : Tables → V → A} {exists : Tables → V → Type 0} where
-  pub means-later : {t u : Tables} {v : V} {a : A} → Means at exists t v a → Extends t u → Means at exists u v a
-  means-later m g = record { is = λ w k. m.is w (Keeps-trans g.keeps k); there = λ w k. m.there w (Keeps-trans g.keeps k) }
-
   -- what is there was added to what it is in
   pub adds-same : {t : Tables} {v : V} {a : A} → Means at exists t v a → Adds at exists t t v a
   adds-same {t} m = record { extends = extends-same t; means = m }
 
   pub adds-behind : {t u w : Tables} {v : V} {a : A} → Extends t u → Adds at exists u w v a → Adds at exists t w v a
   adds-behind g a = record { extends = extends-trans g a.extends; means = a.means }
-
--- a name that was put last
-pub name-put : {u v : Tables} (n : ℕ) → Keeps u v → program_of v ≡ program_of u → (x : Name) → name_at v n ≡ x → n < length v.names
-    → Adds name_at IsNameIn u v n x
-name-put n k p x e l = record {
-  extends = extends-by k p;
-  means = record {
-    is = λ w j. name_at-grows (IsAbove-Keeps j) n l ∙ e;
-    there = λ w j. omega (arith, l, (IsAbove-Keeps j).names);
-  };
-}
-
--- an expression that was put last
-pub expr-put : {u v : Tables} (n : ℕ) → Keeps u v → program_of v ≡ program_of u → (r : ExprRow) {a : Expr} → n ≡ length u.exprs
-    → expr_at v n ≡ a → v ≡ record u { exprs = u.exprs ++ r ∷ [] } → AddsTree u v n a
-expr-put {u} {v} n k p r l e w =
-    let lt = below u.exprs v.exprs r n (ap (λ (x : Tables). x.exprs) w) l in
-    record {
-      extends = extends-by k p;
-      means = record {
-        is = λ x j. expr_at-keeps j n lt ∙ e;
-        there = λ x j. omega (arith, lt, (IsAbove-Keeps j).exprs);
-      };
-    }
 
 -- no names, and one more
 pub names-none : (t : Tables) → AreNames t [] []
@@ -77,7 +39,7 @@ names-push {ns = ns} {n = n} m b =
     }
 
 -- a path over its variable and the names of its fields
-pub path-put : {t u v : Tables} {o : Option ℕ} {x : Variable} {s : Span} {ns : List ℕ} {xs : List Name} → Adds base_of IsBaseIn t u o x
+pub path-put : {t u v : Tables} {o : Option ℕ} {x : Variable} {s : Span} {ns : List ℕ} {xs : List Name} → Adds variable_of IsVariableIn t u o x
     → AreNames t ns xs → Keeps u v → program_of v ≡ program_of u → Holds v s ns
     → Adds path_of IsPathIn t v (record { base = o; fields = s }) (record { base = x; fields = xs })
 path-put {o = o} {x = x} {s = s} {ns = ns} {xs = xs} a m k p h =
@@ -112,13 +74,13 @@ is-self true (suc s) h =
     absurd (true≢false (sym h ∙ no))
 
 pub base-put : {t u : Tables} {n : ℕ} (m : Truth) (s : ℕ) → (m && (s == 0)) ≡ false → Adds name_at IsNameIn t u n (variable_name s)
-    → Adds base_of IsBaseIn t u (Some n) (variable_in m s)
+    → Adds variable_of IsVariableIn t u (Some n) (variable_in m s)
 base-put m s h a = record {
   extends = a.extends;
   means = record { is = λ w k. ap Some (a.means.is w k) ∙ sym (has-name m s h); there = a.means.there };
 }
 
-pub base-self : (t : Tables) (m : Truth) (s : ℕ) → (m && (s == 0)) ≡ true → Adds base_of IsBaseIn t t None (variable_in m s)
+pub base-self : (t : Tables) (m : Truth) (s : ℕ) → (m && (s == 0)) ≡ true → Adds variable_of IsVariableIn t t None (variable_in m s)
 base-self t m s h = record {
   extends = extends-same t;
   means = record { is = λ w k. sym (is-self m s h); there = λ w k. tt };

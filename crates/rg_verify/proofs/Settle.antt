@@ -1,25 +1,24 @@
 -- A tree that comes on a stack of rows, and what waits for it.
-use Rattle.std.proofs.Common.{◌≡◌, ℕ, Bool as Truth, List, [], ◌∷◌, ◌++◌, Option, Some, None, Result, Ok, Err}
-use Rattle.std.proofs.Common.{refl, sym, ap, subst, ◌∙◌}
+use Rattle.std.proofs.Common.{◌≡◌, ℕ, Bool as Truth, List, [], ◌∷◌, Some}
+use Rattle.std.proofs.Common.{refl, sym, ap, ◌∙◌}
 use Rattle.rg_tree.specs.declared.rows.ExprRow.TheVariants as row
 use Rattle.rg_tree.specs.Tree as syntax
 use Rattle.rg_tree.specs.Rows.Tables.{Tables}
 use Rattle.rg_tree.specs.Rows.RowTrees.{expr_at, expr_of}
 use Rattle.rg_tree.proofs.Callers.{Keeps-same}
+use Rattle.rg_tree.specs.Adds.{Extends}
+use Rattle.rg_tree.proofs.Adding.{extends-trans}
 use Rattle.rg_verify.specs.declared.held.Held.{Held}
 use Rattle.rg_verify.specs.declared.held.Held.TheVariants as held
 use Rattle.rg_verify.specs.declared.held.Wait.{Wait}
 use Rattle.rg_verify.specs.declared.part.Junction.{Junction}
-use Rattle.rg_verify.specs.declared.refusal.Refusal.{Refusal}
 use Rattle.rg_verify.specs.declared.refusal.Refusal.TheVariants as refusal
 use Rattle.rg_verify.specs.Raised.{Raised, named, binary}
 use Rattle.rg_verify.specs.Raising.{operator_of, Item, tree, waits, settle}
-use Rattle.rg_verify.specs.Rows.{Extends}
 use Rattle.rg_verify.specs.Inner.Adds.{IsTree, AddsTree, IsExprRow}
-use Rattle.rg_verify.specs.Inner.Stacks.{IsFor, Piled, Makes, MakesRow, TakesWait, Pushes}
-use Rattle.rg_verify.proofs.Row.{extends-same, extends-trans}
+use Rattle.rg_verify.specs.Inner.Stacks.{IsFor, Piled, TakesWait}
 use Rattle.rg_verify.proofs.Settling.{settle-taken}
-use Rattle.rg_verify.proofs.TreeStack.{piled-later, piled-push}
+use Rattle.rg_verify.proofs.TreeStack.{piled-later}
 
 -- what is still to settle is what was to settle
 pub record Left (t u : Tables) (m : Truth) (end : ℕ) (now : List Held) (top : Held) (wanted : List Item) : Type 0 where
@@ -34,26 +33,6 @@ pub record Left (t u : Tables) (m : Truth) (end : ℕ) (now : List Held) (top : 
 abbrev pub AllLeft : (t u : Tables) → Truth → (end : ℕ) → (old now : List Held) → (first top : Held) → Type 0
 AllLeft t u m end old now first top =
     (items : List Item) (r : Raised) → Piled t m old items → IsFor t m first (tree r) → Left t u m end now top (settle end r items)
-
-pub left-first : (t : Tables) (m : Truth) (end : ℕ) (old : List Held) (first : Held) → AllLeft t t m end old old first first
-left-first t m end old first items r p f = record { items = items; r = r; extends = extends-same t; piled = p; is = f; same = refl }
-
--- nothing waits: the tree is pushed
-pub left-done : {t u : Tables} {m : Truth} {end : ℕ} {now : List Held} {top : Held} {wanted : List Item} (again news : List Held)
-    (result : Result (Unit {0}) Refusal)
-    → Left t u m end now top wanted → ((items : List Item) → Piled u m now items → TakesWait u m end now again items None)
-    → Pushes again news top result → Makes t u m news result (Some wanted)
-left-done again news (Err refusal.Memory) l w p = tt
-left-done again news (Err refusal.NotExpression) l w p = absurd p
-left-done {u = u} {m = m} {now = now} {top = top} {wanted = wanted} again news (Ok done) l w p =
-    let (stays, on_top) = w l.items l.piled in
-    let pushed : news ≡ now ++ top ∷ [] = p ∙ ap (λ (hs : List Held). hs ++ top ∷ []) stays in
-    let is : tree l.r ∷ l.items ≡ wanted = sym (on_top l.r) ∙ l.same in
-    record {
-      extends = l.extends;
-      piled = subst (λ (xs : List Item). Piled u m news xs) is
-          (piled-push u m now news top l.items (tree l.r) pushed l.is l.piled);
-    }
 
 -- the row of a junction with both operands
 module _ {u v : Tables} (m : Truth) (w : Wait) {right : ℕ} {j : Junction} (a r : Raised) (junction : w.junction ≡ j)
@@ -121,9 +100,3 @@ left-next {m = m} {news = news} {w = w} {n = n} k made put =
       is = (record { is = λ y j. put.means.is y j ∙ is; there = put.means.there }, refl);
       same = k.same;
     }
-
--- a row that is refused for a tree is so for want of memory
-pub left-refused : (t u v : Tables) (m : Truth) (hs : List Held) (r : Raised) (wanted : Option (List Item)) (e : Refusal)
-    → MakesRow u v m (tree r) (Err e) → Makes t v m hs (Err e) wanted
-left-refused t u v m hs r wanted refusal.Memory h = tt
-left-refused t u v m hs r wanted refusal.NotExpression h = absurd h

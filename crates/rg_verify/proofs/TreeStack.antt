@@ -6,6 +6,8 @@ use Rattle.std.proofs.lemmas.List.{same_from_push, length-append, take-append-dr
 use Rattle.std.proofs.lemmas.Option.{slice_get_cases}
 use Rattle.rg_base.proofs.Callers.Lists.{drop-here}
 use Rattle.rg_tree.specs.Rows.Tables.{Tables}
+use Rattle.rg_tree.specs.Adds.{Extends}
+use Rattle.rg_tree.proofs.Adding.{means-later}
 use Rattle.rg_verify.specs.declared.held.Held.{Held}
 use Rattle.rg_verify.specs.declared.held.Held.TheVariants as held
 use Rattle.rg_verify.specs.declared.held.Wait.{Wait}
@@ -13,10 +15,8 @@ use Rattle.rg_verify.specs.declared.refusal.Refusal.{Refusal}
 use Rattle.rg_verify.specs.declared.refusal.Refusal.TheVariants as refusal
 use Rattle.rg_verify.specs.Raised.{Raised, named}
 use Rattle.rg_verify.specs.Raising.{Item, tree, waits, settle}
-use Rattle.rg_verify.specs.Rows.{Extends}
 use Rattle.rg_verify.specs.Inner.Adds.{IsTree}
 use Rattle.rg_verify.specs.Inner.Stacks.{IsFor, Piled, MakesRow, TakesRow, waiting, TakesWait}
-use Rattle.rg_verify.proofs.Row.{means-later}
 
 -- the tables grow
 

@@ -4,13 +4,14 @@ use Rattle.std.specs.List.{AllByRecursion}
 use Rattle.std.specs.declared.alloc.Global.{Global}
 use Rattle.rg_tree.specs.Tree.{Class}
 use Rattle.rg_tree.specs.Rows.Tables.{Tables}
+use Rattle.rg_tree.specs.Adds.{Extends}
 use Rattle.rg_code.specs.Lowering.{Scope, exprs_code}
 use Rattle.rg_code.specs.declared.op.Op.{Op}
 use Rattle.rg_verify.specs.declared.refusal.Refusal.{Refusal}
 use Rattle.rg_verify.specs.declared.refusal.Refusal.TheVariants as refusal
 use Rattle.rg_verify.specs.Raised.{Raised, all_ops, named, IsFound}
 use Rattle.rg_verify.specs.Parts.{Ends}
-use Rattle.rg_verify.specs.Rows.{Extends, AreTrees}
+use Rattle.rg_verify.specs.Rows.{AreTrees}
 
 -- the code of expressions stands in front, up to an address, and behind it no instruction of an expression
 pub record Stand (ops : List Op) (at : ℕ) (rs : List Raised) (end : ℕ) : Type 0 where

@@ -5,8 +5,8 @@ ghost use Rattle.rg_verify.specs.Raised.{neg, not};
 ghost use Rattle.rg_verify.specs.Raising as raising;
 ghost use Rattle.rg_verify.specs.Raising.{Item};
 ghost use Rattle.rg_verify.specs.Inner.Stacks.{Piled, IsPiled, Makes, Walks, MakesRows};
+ghost use Rattle.rg_tree.specs.Adds.{Extends};
 ghost use Rattle.rg_verify.specs.Raises.{RaisesAll};
-ghost use Rattle.rg_verify.specs.Rows.{Extends};
 
 use crate::body::Body;
 use crate::held::Held;

@@ -2,13 +2,13 @@
 
 ghost use Rattle.std.specs.Prelude.{◌≡◌, ◌==◌, ◌&&◌, ℕ, List, ◌∷◌, decimal, map, IfOk};
 ghost use Rattle.rg_tree.specs.Rows.Tables.{name_at};
-ghost use Rattle.rg_tree.specs.Rows.RowTrees.{path_of, expr_of};
-ghost use Rattle.rg_tree.specs.Rows.RowsExist.{IsNameIn, IsPathIn};
+ghost use Rattle.rg_tree.specs.Rows.RowTrees.{path_of, expr_of, variable_of};
+ghost use Rattle.rg_tree.specs.Rows.RowsExist.{IsNameIn, IsPathIn, IsVariableIn};
+ghost use Rattle.rg_tree.specs.Adds.{Extends, Adds};
 ghost use Rattle.rg_verify.specs.Naming.{variable_in, field_name};
 ghost use Rattle.rg_verify.specs.Raised.{path_named};
-ghost use Rattle.rg_verify.specs.Inner.Adds.{Adds, base_of, IsBaseIn, AreNames, AddsTree};
+ghost use Rattle.rg_verify.specs.Inner.Adds.{AreNames, AddsTree};
 ghost use Rattle.rg_verify.specs.Inner.Adds.{IsExprRow};
-ghost use Rattle.rg_verify.specs.Rows.{Extends};
 
 use crate::body::Body;
 use itoa::Buffer;
@@ -52,7 +52,7 @@ fn is_self(in_method: bool, slot: u32) -> bool
 // Adds the variable of a slot.
 fn add_base(body: Body, program: &mut Program, slot: u32) -> Result<Option<u32>, Memory>
     ensures adds { IfOk result (λ o.
-        Adds base_of IsBaseIn program.old program.new o (variable_in body.in_method slot)) }
+        Adds variable_of IsVariableIn program.old program.new o (variable_in body.in_method slot)) }
     ensures grows { Extends program.old program.new }
 {
     if is_self(body.in_method, slot) {

@@ -4,6 +4,7 @@ ghost use Rattle.std.specs.Prelude.{◌≡◌, ◌<◌, ℕ, Bool as Truth, List
 ghost use Rattle.std.specs.Prelude.{false, Some, IfSome};
 ghost use Rattle.rg_tree.specs.Rows.Tables.{Tables};
 ghost use Rattle.rg_tree.specs.Rows.RowTrees.{expr_of};
+ghost use Rattle.rg_tree.specs.Adds.{Extends};
 ghost use Rattle.rg_verify.specs.Raised.{Raised, named, path, is_nil};
 ghost use Rattle.rg_verify.specs.Raising as raising;
 ghost use Rattle.rg_verify.specs.Raising.{Item, tree, from_path, from_left};
@@ -11,7 +12,6 @@ ghost use Rattle.rg_verify.specs.Inner.Adds.{IsExprRow};
 ghost use Rattle.rg_verify.specs.Inner.Stacks.{IsFor, IsItem, Piled, IsPiled, Makes, MakesRow};
 ghost use Rattle.rg_verify.specs.Inner.Stacks.{TakesRow, waiting, TakesWait, Pushes};
 ghost use Rattle.rg_verify.specs.Inner.Stacks.{TakesPath, is_path};
-ghost use Rattle.rg_verify.specs.Rows.{Extends};
 
 use crate::body::Body;
 use crate::held::{Held, Wait};

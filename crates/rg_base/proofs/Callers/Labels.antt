@@ -6,6 +6,9 @@ use Rattle.rg_base.specs.declared.value.Word.TheVariants.{Slot}
 pub region-same : (a b : ℕ) → Some (Region a) ≡ Some (Region b) → a ≡ b
 region-same a b e = cc
 
+pub region-number : (a b : ℕ) → Region a ≡ Region b → a ≡ b
+region-number a b e = cc
+
 pub temp-region : (n r : ℕ) → Some (Temp n) ≡ Some (Region r) → ⊥
 temp-region n r e = cc
 

@@ -1,16 +1,13 @@
 -- What is known of a method whose header has no fault, in front of its body; and methods as the private layers of this crate hand them on
 -- (docs/language.md, "Acceptance").
-use Rattle.std.specs.Prelude.{◌≡◌, ℕ, ◌≤◌, ⊤, List, All, length, map, option_map, Ok, IfSome}
+use Rattle.std.specs.Prelude.{◌≡◌, ℕ, ◌≤◌, ⊤, List, All, Ok, IfSome}
 use Rattle.rg_base.specs.declared.limits.TheConstants.{BODY_NAMES}
 use Rattle.rg_tree.specs.Tree.{Ty as Written, Method, Member, field, method, Class}
-use Rattle.rg_tree.specs.Rows.Tables.{Tables, name_at, numbers_in}
 use Rattle.rg_tree.specs.Rows.RowTrees as rows
-use Rattle.rg_tree.specs.Rows.RowsExist.{IsSpanBelow, IsTypeIn, IsBlockIn}
 use Rattle.rg_rules.specs.Answers.{Lined, Passed}
 use Rattle.rg_rules.specs.Types.{type_of, good_type}
 use Rattle.rg_rules.specs.Names.{method_names}
 use Rattle.rg_rules.specs.Bodies.{judge_method}
-use Rattle.rg_check.specs.declared.method.MethodRow.{MethodRow}
 
 -- a type's class is known, and its capability goes with that class
 abbrev pub IsGood : List Class → Written → Type 0
@@ -31,20 +28,3 @@ MemberMayBeJudged classes (method m) = MayBeJudged classes m
 abbrev pub judge_member : List Class → ℕ → Member → Lined Passed
 judge_member classes c (field f) = Ok tt
 judge_member classes c (method m) = judge_method classes c m
-
--- the method of a row
-abbrev pub method_of : Tables → MethodRow → Method
-method_of t m = record {
-  receiver = m.cap;
-  name = name_at t m.name;
-  params = map (rows.param_at t) (numbers_in t m.params);
-  result = option_map (rows.type_of t) m.result;
-  body = rows.block_of t m.body;
-  line = m.line;
-}
-
--- the numbers of a method's row name parameters, names and statements
-pub record IsMethodIn (t : Tables) (m : MethodRow) : Type 0 where
-  pub params : IsSpanBelow t (length t.params) m.params
-  pub result : IfSome m.result (IsTypeIn t)
-  pub body : IsBlockIn t m.body

@@ -239,14 +239,11 @@ slides-down = record {
     other zero d = absurd (d refl)
     other (suc k) d = refl
 
-    some_slot : (a b : ℕ) → Some a ≡ Some b → a ≡ b
-    some_slot a b q = cc
-
     by_two : (i s : ℕ) → slice_get (0 ∷ 1 ∷ []) i ≡ Some s → LiesIn behind.heap 0 s
     by_two zero s e =
-        let P : ℕ → Type 0 = λ y. LiesIn behind.heap 0 y in subst P (some_slot 0 s e) refl
+        let P : ℕ → Type 0 = λ y. LiesIn behind.heap 0 y in subst P (same_Some 0 s e) refl
     by_two (suc zero) s e =
-        let P : ℕ → Type 0 = λ y. LiesIn behind.heap 0 y in subst P (some_slot 1 s e) refl
+        let P : ℕ → Type 0 = λ y. LiesIn behind.heap 0 y in subst P (same_Some 1 s e) refl
     by_two (suc (suc i)) s e = cc
 
     two_all : (s : ℕ) → LiesIn behind.heap 0 s → (i : ℕ) × (slice_get (0 ∷ 1 ∷ []) i ≡ Some s)
@@ -259,10 +256,10 @@ slides-down = record {
     two_once : (i j s : ℕ) → slice_get (0 ∷ 1 ∷ []) i ≡ Some s → slice_get (0 ∷ 1 ∷ []) j ≡ Some s → i ≡ j
     two_once zero zero s e f = refl
     two_once zero (suc zero) s e f =
-        let q : 0 ≡ 1 = some_slot 0 s e ∙ sym (some_slot 1 s f) in absurd (omega (arith, q))
+        let q : 0 ≡ 1 = same_Some 0 s e ∙ sym (same_Some 1 s f) in absurd (omega (arith, q))
     two_once zero (suc (suc j)) s e f = cc
     two_once (suc zero) zero s e f =
-        let q : 0 ≡ 1 = some_slot 0 s f ∙ sym (some_slot 1 s e) in absurd (omega (arith, q))
+        let q : 0 ≡ 1 = same_Some 0 s f ∙ sym (same_Some 1 s e) in absurd (omega (arith, q))
     two_once (suc zero) (suc zero) s e f = refl
     two_once (suc zero) (suc (suc j)) s e f = cc
     two_once (suc (suc i)) j s e f = cc

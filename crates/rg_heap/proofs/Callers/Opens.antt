@@ -4,24 +4,22 @@ use Rattle.std.proofs.Common.{inl, inr, Bool, true, false, ◌||◌, slice_get, 
 use Rattle.std.specs.List.{list_any}
 use Rattle.std.proofs.lemmas.Bool.Decides.{eqb_tells}
 use Rattle.std.proofs.Math.Seq.{take-length}
+use Rattle.std.proofs.lemmas.Option.{same_Some}
 use Rattle.rg_regions.specs.Table.{HasNumber}
 use Rattle.rg_regions.specs.Grove.{Grove, Above, direct, further}
 use Rattle.rg_frames.specs.declared.rows.Window.{Window}
 use Rattle.rg_frames.specs.Stack.{Stack, has_region, mark}
 use Rattle.rg_heap.specs.Parts.{Parts}
 use Rattle.rg_heap.specs.Answers.{IsClosed}
-use Rattle.rg_heap.specs.Ends.{CanLeave, OneOutside, top_temps}
+use Rattle.rg_heap.specs.Ends.{top_temps}
 use Rattle.rg_heap.specs.Opened.{Opened, IsWindow, IsTempOf}
 
 -- a region that a window has is open
 pub any_at : (ws : List Window) (i key : ℕ) (w : Window) → slice_get ws i ≡ Some w → w.region ≡ key → list_any (has_region key) ws ≡ true
 any_at [] i key w e r = cc
 any_at (x ∷ ws) zero key w e r =
-    let q : x.region ≡ key = ap (λ (y : Window). y.region) (window_is x w e) ∙ r in
+    let q : x.region ≡ key = ap (λ (y : Window). y.region) (same_Some x w e) ∙ r in
     elim (eqb_tells x.region key) [ inl y ↦ rw y.0 refl | inr y ↦ absurd (y.1 q) ]
-  where
-    window_is : (a b : Window) → Some a ≡ Some b → a ≡ b
-    window_is a b q = cc
 any_at (x ∷ ws) (suc i) key w e r = rw (any_at ws i key w e r) (or_true (has_region key x))
   where
     or_true : (b : Bool) → (b || true) ≡ true
@@ -43,13 +41,6 @@ above_open p v q n o (direct a) i w e has = let x = o.parents i w n q e has a in
 above_open p v q n o (further {q = m} a b) i w e has =
     let x = o.parents i w n m e has b in
     above_open p v q m o a x.0 x.1 x.3 x.4
-
--- so no closed region is above an open one
-pub closed_not_above : (p : Parts) (v : Stack) (q n i : ℕ) (w : Window) → Grove p.cells p.regions → Opened p v → IsClosed p.regions v q
-    → IsWindow v i w → HasNumber p.regions w.region n → Above p.cells.heap q n → ⊥
-closed_not_above p v q n i w g o c e has a =
-    let x = above_open p v q n o a i w e has in
-    open_not_closed p v x.0 q x.1 g x.2 x.3 c
 
 -- an element of what is left of a list
 got_drop : (n : ℕ) (xs : List ℕ) (i s : ℕ) → slice_get (drop n xs) i ≡ Some s → (j : ℕ) × (j ≡ n + i) × (slice_get xs j ≡ Some s)
@@ -78,24 +69,3 @@ window_at : (ws : List Window) (i : ℕ) → i < length ws → (w : Window) × (
 window_at [] i l = absurd (omega (arith, l))
 window_at (w ∷ ws) zero l = (w, refl)
 window_at (w ∷ ws) (suc i) l = window_at ws i (omega (arith, l))
-
--- a window can be left
-pub can_leave : (p : Parts) (v : Stack) → Grove p.cells p.regions → Opened p v → OneOutside p v → CanLeave p v
-can_leave p v g o once =
-    let zero_at = window_at v.windows 0 o.some in
-    let some = o.some in
-    let top_at = window_at v.windows (length v.windows - 1) (omega (arith, some)) in
-    record {
-      first = λ key n. any_at v.windows 0 key zero_at.0 zero_at.1 (g.numbers zero_at.0.region key 0 (o.first zero_at.0 zero_at.1) n);
-      temps = λ i s e.
-          (top_at.0.number, o.temps (length v.windows - 1) s top_at.0 top_at.1 (top_temp v i s o.as_many o.some e));
-      once = λ i j s e f.
-          let a = got_drop (mark v) v.temps i s e in
-          let b = got_drop (mark v) v.temps j s f in
-          let q = o.once a.0 b.0 s a.2 b.2 in
-          let x = a.1 in
-          let y = b.1 in
-          omega (arith, q, x, y);
-      lead = λ i s e. let a = got_drop (mark v) v.temps i s e in o.lead a.0 s a.2;
-      one_outside = once;
-    }

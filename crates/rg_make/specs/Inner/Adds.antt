@@ -1,54 +1,25 @@
 -- What is added to tables: a row that stands for a tree, now and wherever the tables grow (docs/language.md, "The generated program").
-use Rattle.std.specs.Prelude.{ℕ, ◌≡◌, ◌<◌, List, [], ◌∷◌, ◌++◌, length, All, map, Option, option_map, IfSome}
+use Rattle.std.specs.Prelude.{ℕ, ◌≡◌, List, [], ◌∷◌, ◌++◌, length, All, map, Option, option_map, IfSome}
 use Rattle.rg_tree.specs.declared.rows.Span.{Span}
 use Rattle.rg_tree.specs.declared.rows.ExprRow.{ExprRow}
 use Rattle.rg_tree.specs.declared.rows.StmtKind.{StmtKind}
-use Rattle.rg_tree.specs.declared.rows.StmtRow.{StmtRow}
 use Rattle.rg_tree.specs.declared.rows.TypeRow.{TypeRow}
 use Rattle.rg_tree.specs.Tree as tree
-use Rattle.rg_tree.specs.Tree.{Name, Variable, Expr, Stmt, Param, Member}
+use Rattle.rg_tree.specs.Tree.{Name, Expr, Stmt, Param, Member}
 use Rattle.rg_tree.specs.Rows.Tables.{Tables, name_at, numbers_in}
 use Rattle.rg_tree.specs.Rows.RowTrees.{type_of, expr_at, kind_over, stmt_at, block_of, param_at, member_at, classes_of}
-use Rattle.rg_tree.specs.Rows.RowsExist.{IsNameIn, IsTypeIn, IsExprIn, IsKindIn, IsStmtIn, IsBlockIn, IsSpanBelow}
+use Rattle.rg_tree.specs.Rows.RowsExist.{IsTypeIn, IsExprIn, IsKindIn, IsBlockIn, IsSpanBelow, IsStmtNumber}
 use Rattle.rg_tree.specs.Keeps.{Keeps}
-
--- the tables grow, by no class
-pub record Extends (old new : Tables) : Type 0 where
-  pub keeps : Keeps old new
-  pub classes : classes_of new ≡ classes_of old
-
--- the row v stands for that tree, now and wherever the tables grow
-pub record Means {V A : Type 0} (at : Tables → V → A) (exists : Tables → V → Type 0) (t : Tables) (v : V) (a : A) : Type 0 where
-  pub is : (u : Tables) → Keeps t u → at u v ≡ a
-  pub there : (u : Tables) → Keeps t u → exists u v
-
--- the tables grow, by no class, and the row v stands for that tree
-pub record Adds {V A : Type 0} (at : Tables → V → A) (exists : Tables → V → Type 0) (old new : Tables) (v : V) (a : A) : Type 0 where
-  pub extends : Extends old new
-  pub means : Means at exists new v a
+use Rattle.rg_tree.specs.Adds.{Adds}
 
 -- rows of these numbers stand for those trees
 abbrev pub AddsAll : {A : Type 0} → (Tables → ℕ → A) → (Tables → ℕ → Type 0) → (old new : Tables) → List ℕ → List A → Type 0
 AddsAll at exists = Adds (λ u. map (at u)) (λ u. All (exists u))
 
--- the numbers of rows
-
-abbrev pub IsStmtNumber : Tables → ℕ → Type 0
-IsStmtNumber t n = n < length t.stmts
-
-abbrev pub IsParamNumber : Tables → ℕ → Type 0
-IsParamNumber t n = n < length t.params
-
-abbrev pub IsMemberNumber : Tables → ℕ → Type 0
-IsMemberNumber t n = n < length t.members
-
 -- rows that name rows which exist
 
 abbrev pub IsExprRow : Tables → ExprRow → Type 0
 IsExprRow t r = IsExprIn t (length t.exprs) r
-
-abbrev pub IsStmtRow : Tables → StmtRow → Type 0
-IsStmtRow t r = IsStmtIn t (length t.stmts) r
 
 abbrev pub IsKindRow : Tables → StmtKind → Type 0
 IsKindRow t k = IsKindIn t (length t.stmts) k
@@ -56,14 +27,6 @@ IsKindRow t k = IsKindIn t (length t.stmts) k
 -- what a statement says
 abbrev pub kind_of : Tables → StmtKind → tree.StmtKind
 kind_of t k = kind_over t (stmt_at t) k
-
--- a name that may be missing
-
-abbrev pub base_of : Tables → Option ℕ → Variable
-base_of t o = option_map (name_at t) o
-
-abbrev pub IsBaseIn : Tables → Option ℕ → Type 0
-IsBaseIn t o = IfSome o (IsNameIn t)
 
 -- a type that may be missing
 
@@ -92,14 +55,8 @@ members_in t s = map (member_at t) (numbers_in t s)
 abbrev pub AreNamesIn : Tables → Span → Type 0
 AreNamesIn t = IsSpanBelow t (length t.names)
 
-abbrev pub AreExprsIn : Tables → Span → Type 0
-AreExprsIn t = IsSpanBelow t (length t.exprs)
-
 abbrev pub AreParamsIn : Tables → Span → Type 0
 AreParamsIn t = IsSpanBelow t (length t.params)
-
-abbrev pub AreMembersIn : Tables → Span → Type 0
-AreMembersIn t = IsSpanBelow t (length t.members)
 
 -- statements one behind another
 abbrev pub block_with : List Stmt → tree.Block

@@ -25,11 +25,10 @@ use Rattle.rg_tree.specs.Rows.Tables.{Tables, name_at, numbers_in}
 use Rattle.rg_tree.specs.Rows.RowTrees.{path_of, type_of, expr_at, call_of, right_of, stmt_at, block_of, kind_over, else_over, param_at, member_at}
 use Rattle.rg_tree.specs.Rows.RowTrees.{member_of, class_of}
 use Rattle.rg_tree.specs.Rows.RowsExist.{IsSpanBelow, IsNameIn, IsPathIn, IsTypeIn, IsCallIn, IsRightIn, IsKindIn, IsBlockIn, IsExprNumber}
-use Rattle.rg_tree.specs.Rows.RowsExist.{IsMemberIn, IsClassIn}
+use Rattle.rg_tree.specs.Rows.RowsExist.{IsMemberIn, IsClassIn, IsStmtNumber, IsParamNumber}
 use Rattle.rg_parse.specs.declared.reader.halt.Halt.{Halt}
 use Rattle.rg_parse.specs.declared.reader.kinds.Level.{Level}
 use Rattle.rg_parse.specs.Inner.Levels.{ReadsChain, ReadsOperand}
-use Rattle.rg_parse.specs.Inner.Lists.{IsStmtNumber, IsParamNumber}
 use Rattle.rg_parse.specs.Inner.Steps.{State, Found, Halts}
 
 -- a capability, and a manager

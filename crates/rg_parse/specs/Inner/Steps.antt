@@ -15,6 +15,7 @@ use Rattle.rg_tree.specs.Stuck.{Stops}
 use Rattle.rg_tree.specs.Rows.Tables.{Tables, name_at}
 use Rattle.rg_tree.specs.Rows.RowsExist.{IsNameIn}
 use Rattle.rg_tree.specs.Keeps.{Keeps}
+use Rattle.rg_tree.specs.Adds.{Means}
 use Rattle.rg_parse.specs.Inner.Heads.{IsWithin, AreWithin}
 
 -- the source, the tokens that are left, what is counted so far, and the tables that are built
@@ -80,11 +81,6 @@ pub data Signed (x : Kind) : State → State → Type 0 where
 pub record Extends (old new : Tables) : Type 0 where
   pub keeps : Keeps old new
   pub classes : new.classes ≡ old.classes
-
--- The row v stands for that tree, now and wherever the tables grow.
-pub record Means {V A : Type 0} (tree : Tables → V → A) (exists : Tables → V → Type 0) (t : Tables) (v : V) (a : A) : Type 0 where
-  pub is : (u : Tables) → Keeps t u → tree u v ≡ a
-  pub there : (u : Tables) → Keeps t u → exists u v
 
 -- a name that is used is passed, and has that number
 pub data Used : State → ℕ → State → Type 0 where

@@ -5,10 +5,11 @@ ghost use Rattle.std.specs.Prelude.{◌≡◌, ◌≤◌, [], ◌∷◌, ◌++�
 ghost use Rattle.rg_tree.specs.Rows.RowTrees.{expr_at, expr_of, stmt_at, stmt_of, param_at};
 ghost use Rattle.rg_tree.specs.Rows.RowTrees.{param_of, member_at, member_of, block_of, program_of};
 ghost use Rattle.rg_tree.specs.Rows.RowsExist.{IsExprIn, IsStmtIn, IsParamIn, IsMemberIn};
-ghost use Rattle.rg_tree.specs.Rows.RowsExist.{IsClassIn, IsBlockIn, IsExprNumber};
-ghost use Rattle.rg_parse.specs.Inner.Steps.{Kept, Means};
+ghost use Rattle.rg_tree.specs.Rows.RowsExist.{IsClassIn, IsBlockIn, IsExprNumber, IsStmtNumber};
+ghost use Rattle.rg_tree.specs.Adds.{Means};
+ghost use Rattle.rg_tree.specs.Rows.RowsExist.{IsParamNumber, IsMemberNumber};
+ghost use Rattle.rg_parse.specs.Inner.Steps.{Kept};
 ghost use Rattle.rg_parse.specs.Inner.Programs.{Classed};
-ghost use Rattle.rg_parse.specs.Inner.Lists.{IsStmtNumber, IsParamNumber, IsMemberNumber};
 ghost use Rattle.rg_parse.specs.Inner.Lists.{numbers_of, IsListed};
 
 use crate::reader::Reader;
@@ -37,7 +38,9 @@ impl<'a> Reader<'a> {
         ensures shorter { OnOk result (length self.new.rest ≤ length self.old.rest) }
         ensures fault { IfErr result (λ e. e ≡ Halt.Memory) }
     {
-        let number = self.program.add_expr(row)?;
+        let Ok(number) = self.program.add_expr(row) else {
+            return Err(Halt::Memory);
+        };
         Ok(number)
     }
 
@@ -50,7 +53,9 @@ impl<'a> Reader<'a> {
         ensures shorter { OnOk result (length self.new.rest ≤ length self.old.rest) }
         ensures fault { IfErr result (λ e. e ≡ Halt.Memory) }
     {
-        let number = self.program.add_stmt(row)?;
+        let Ok(number) = self.program.add_stmt(row) else {
+            return Err(Halt::Memory);
+        };
         Ok(number)
     }
 
@@ -63,7 +68,9 @@ impl<'a> Reader<'a> {
         ensures shorter { OnOk result (length self.new.rest ≤ length self.old.rest) }
         ensures fault { IfErr result (λ e. e ≡ Halt.Memory) }
     {
-        let number = self.program.add_param(row)?;
+        let Ok(number) = self.program.add_param(row) else {
+            return Err(Halt::Memory);
+        };
         Ok(number)
     }
 
@@ -76,7 +83,9 @@ impl<'a> Reader<'a> {
         ensures shorter { OnOk result (length self.new.rest ≤ length self.old.rest) }
         ensures fault { IfErr result (λ e. e ≡ Halt.Memory) }
     {
-        let number = self.program.add_member(row)?;
+        let Ok(number) = self.program.add_member(row) else {
+            return Err(Halt::Memory);
+        };
         Ok(number)
     }
 

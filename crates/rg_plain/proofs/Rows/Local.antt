@@ -1,7 +1,7 @@
 -- Variables at their places.
 use Rattle.std.proofs.Common.{◌≡◌, ℕ, zero, suc, ◌≤◌, Bool, true, false, if◌then◌else◌, List, [], ◌∷◌, length, option_map, Option, Some, None}
 use Rattle.std.proofs.Common.{slice_get, slice_set, arith, refl, sym, ◌∙◌, ap}
-use Rattle.std.proofs.lemmas.Option.{slice_get-map}
+use Rattle.std.proofs.lemmas.Option.{slice_get-map, same_Some}
 use Rattle.rg_base.specs.declared.value.Val.{Val}
 use Rattle.rg_base.specs.declared.value.Val.TheVariants.{Nil}
 use Rattle.rg_tree.specs.Tree.{Variable}
@@ -73,9 +73,6 @@ pub is_iso_local-found : (t : Tables) (ls : List LocalRow) (x : Variable) (k : �
 is_iso_local-found t ls x k o k_is there =
     sym (is_iso_local-place (locals_of t ls) x ∙ ap iso_at (get-locals_of t ls x k o k_is there) ∙ iso-row t o)
 
-some-inj : (m l : LocalRow) → Some m ≡ Some l → m ≡ l
-some-inj m l e = cc
-
 -- a write to the variable at a place
 pub set_in-place : (t : Tables) (ls : List LocalRow) (x : Variable) (v : Val) (k : ℕ) (l : LocalRow) → k ≡ place_in (locals_of t ls) x →
     slice_get ls k ≡ Some l → locals_of t (slice_set ls k (record l { value = v })) ≡ set_in x v (locals_of t ls)
@@ -87,7 +84,7 @@ set_in-place t (m ∷ ms) x v k l k_is there = by (same_variable (local_of t m).
         locals_of t (slice_set ms j (record r { value = v })) ≡ set_in x v (locals_of t ms)) →
         locals_of t (slice_set (m ∷ ms) k (record l { value = v }))
         ≡ (if b then record (local_of t m) { value = v } ∷ locals_of t ms else local_of t m ∷ set_in x v (locals_of t ms))
-    by true zero k_is there rest = ap (λ (r : LocalRow). record (local_of t r) { value = v } ∷ locals_of t ms) (sym (some-inj m l there))
+    by true zero k_is there rest = ap (λ (r : LocalRow). record (local_of t r) { value = v } ∷ locals_of t ms) (sym (same_Some m l there))
     by true (suc k) k_is there rest = absurd (omega arith)
     by false zero k_is there rest = absurd (omega arith)
     by false (suc k) k_is there rest = ap (λ q. local_of t m ∷ q) (rest k l (omega arith) there)

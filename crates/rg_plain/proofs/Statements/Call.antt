@@ -12,20 +12,18 @@ use Rattle.rg_base.specs.declared.value.Val.{Val}
 use Rattle.rg_tree.specs.Tree.{Call, Class, Method}
 use Rattle.rg_tree.specs.declared.rows.CallRow.{CallRow}
 use Rattle.rg_tree.specs.Rows.Tables.{Tables, numbers_in}
-use Rattle.rg_tree.specs.Rows.RowTrees.{classes_of, expr_at, stmt_at, call_of}
+use Rattle.rg_tree.specs.Rows.RowTrees.{classes_of, expr_at, stmt_at, call_of, method_of}
+use Rattle.rg_tree.specs.declared.rows.MethodRow.{MethodRow}
 use Rattle.rg_rules.specs.Items.{Item, Do}
-use Rattle.rg_rules.specs.Answers.{◌>>=◌}
 use Rattle.rg_rules.specs.Types.{method_named}
 use Rattle.rg_rules.specs.Values.{Computed}
 use Rattle.rg_rules.specs.State.{Frame, State, Target, top_locals}
 use Rattle.rg_rules.specs.Evaluation.{object_at, path_value, values_of, uses, cleared}
 use Rattle.rg_rules.specs.RightSides.{called, called_frame, step_call}
-use Rattle.rg_plain.specs.declared.values.methods.MethodRow.{MethodRow}
 use Rattle.rg_plain.specs.declared.values.paths.Receiver.{Receiver}
 use Rattle.rg_plain.specs.declared.state.rows.TargetRow.{TargetRow}
 use Rattle.rg_plain.specs.Inner.Calls.{Enters, receiver_of}
 use Rattle.rg_plain.specs.Kept.{Kept, FrameKept, frame_of, plain_of, shown, target_of}
-use Rattle.rg_plain.specs.Inner.Methods.{method_of}
 use Rattle.rg_plain.specs.Shown.{locals_of}
 
 -- what holds of each element and of one more

@@ -6,22 +6,20 @@ use Rattle.rg_base.specs.declared.outcome.Trap.{Trap}
 use Rattle.rg_tree.specs.declared.rows.CallRow.{CallRow}
 use Rattle.rg_tree.specs.Tree.{Class, Path}
 use Rattle.rg_tree.specs.Rows.Tables.{Tables, name_at}
-use Rattle.rg_tree.specs.Rows.RowTrees.{classes_of, expr_at, stmt_at, call_of}
-use Rattle.rg_rules.specs.Answers.{◌>>=◌}
+use Rattle.rg_tree.specs.Rows.RowTrees.{classes_of, expr_at, stmt_at, call_of, method_of}
+use Rattle.rg_tree.specs.declared.rows.MethodRow.{MethodRow}
 use Rattle.rg_rules.specs.Items.{Item, Do, items_of}
 use Rattle.rg_rules.specs.Bodies.{method_end}
 use Rattle.rg_rules.specs.State.{Local, set_in}
 use Rattle.rg_rules.specs.Evaluation.{object_at, path_value, uses, cleared}
 use Rattle.rg_rules.specs.RightSides.{called, step_call}
 use Rattle.rg_rules.specs.Steps.{stepped}
-use Rattle.rg_plain.specs.declared.values.methods.MethodRow.{MethodRow}
 use Rattle.rg_plain.specs.declared.values.paths.Receiver.{Receiver}
 use Rattle.rg_plain.specs.declared.state.rows.FrameRow.{FrameRow}
 use Rattle.rg_plain.specs.declared.state.rows.TargetRow.{TargetRow}
 use Rattle.rg_plain.specs.declared.state.rows.TargetRow.TheVariants as target
 use Rattle.rg_plain.specs.declared.steps.refusal.Refusal.{Refusal}
 use Rattle.rg_plain.specs.Kept.{Kept, FrameKept, kept_frame, plain_of, shown, target_of}
-use Rattle.rg_plain.specs.Inner.Methods.{method_of}
 use Rattle.rg_plain.specs.Shown.{locals_of}
 use Rattle.rg_plain.specs.Inner.Steps.{Does}
 

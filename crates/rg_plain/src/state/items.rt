@@ -1,18 +1,16 @@
 //! What is still to do, and the statement that comes next (docs/language.md, "Steps").
 
 ghost use Rattle.std.specs.Prelude.{◌++◌, ◌+◌, ◌<◌, ◌∷◌, ◌≡◌, ◌≤◌, [], List, length, vec_capacity};
-ghost use Rattle.rg_tree.specs.Rows.RowTrees.{stmt_at};
-ghost use Rattle.rg_tree.specs.Rows.RowsExist.{IsBlockIn};
+ghost use Rattle.rg_tree.specs.Rows.RowTrees.{stmt_at, method_of};
+ghost use Rattle.rg_tree.specs.Rows.RowsExist.{IsBlockIn, IsMethodIn};
 ghost use Rattle.rg_rules.specs.Bodies.{method_end};
 ghost use Rattle.rg_rules.specs.Items.{Do, EndAt, items_of};
-ghost use Rattle.rg_plain.specs.Inner.Methods.{MethodFits, method_of};
 ghost use Rattle.rg_plain.specs.Inner.Steps.{IsAt};
 ghost use Rattle.rg_plain.specs.Kept.{ItemsFit, put_row, shown};
 
 use crate::state::rows::ItemRow;
-use crate::values::methods::MethodRow;
 use rg_names::Book;
-use rg_tree::Span;
+use rg_tree::{MethodRow, Span};
 
 /// The row in which a statement stands, its number and its line.
 #[derive(Clone, Copy)]
@@ -89,7 +87,7 @@ pub(crate) fn pop_row(book: &Book, items: &mut Vec<ItemRow>, row: ItemRow)
 /// Puts the statements of a method in front, and its end where it has no result.
 pub(crate) fn open_body(book: &Book, items: &mut Vec<ItemRow>, method: MethodRow)
     requires room { length items.old.items + 2 ≤ vec_capacity items.old }
-    requires method { MethodFits book.now.program method }
+    requires method { IsMethodIn book.now.program method }
     requires fit { ItemsFit book.now.program items.old.items }
     ensures shown { shown book.now.program items.new.items ≡ items_of (method_of book.now.program
         method).body (method_end (method_of book.now.program method).result ++ shown

@@ -5,13 +5,12 @@
 ghost use Rattle.std.specs.Prelude.{◌+◌, ◌<◌, ◌≡◌, ◌≤◌, flat_map, length, map, nat_lt, not};
 ghost use Rattle.std.specs.Prelude.{vec_capacity, ℕ};
 ghost use Rattle.rg_tree.specs.Rows.RowTrees.{call_of, expr_at};
-ghost use Rattle.rg_tree.specs.Rows.RowsExist.{IsCallIn, IsSpanBelow};
+ghost use Rattle.rg_tree.specs.Rows.RowsExist.{IsCallIn, IsSpanBelow, IsMethodIn};
 ghost use Rattle.rg_tree.specs.Rows.Tables.{Tables, numbers_in};
 ghost use Rattle.rg_tree.specs.Tree.{call, result_of};
 ghost use Rattle.rg_rules.specs.Evaluation.{cleared, uses};
 ghost use Rattle.rg_plain.specs.Fits.{PartsFit, TargetFits};
 ghost use Rattle.rg_plain.specs.Inner.Calls.{CallIs, CalledIs, Enters};
-ghost use Rattle.rg_plain.specs.Inner.Methods.{MethodFits};
 ghost use Rattle.rg_plain.specs.Inner.Spots.{AimFits, LeftFits, sent_to, statement_of};
 ghost use Rattle.rg_plain.specs.Inner.Steps.{IsAt, Makes, Stands};
 ghost use Rattle.rg_plain.specs.Kept.{kept_of, target_of};
@@ -24,11 +23,11 @@ use crate::steps::frames::{Callee, new_frame};
 use crate::steps::refusal::Refusal;
 use crate::steps::targets::{Aim, Assignment, aim_of};
 use crate::values::arguments::{arguments, use_up_all};
-use crate::values::methods::{MethodRow, method_of};
+use crate::values::methods::method_of;
 use crate::values::paths::find_receiver;
 use rg_base::{FRAMES, Trap};
 use rg_names::Book;
-use rg_tree::{CallRow, Span};
+use rg_tree::{CallRow, MethodRow, Span};
 use std::alloc::Global;
 use std::mem;
 
@@ -56,7 +55,7 @@ fn enter_method(book: &Book, m: &mut Parts, at: At, args: Span, method: MethodRo
     requires fit { PartsFit book.now.program m.old }
     requires at { IsAt book.now.program m.old.items.items at.span at.number }
     requires args { IsSpanBelow book.now.program (length book.now.program.exprs) args }
-    requires method { MethodFits book.now.program method }
+    requires method { IsMethodIn book.now.program method }
     requires frame { AreNamed book.now.program frame.locals.items × TargetFits book.now.program
         frame.target }
     requires below { length m.old.below.items < vec_capacity m.old.below }
@@ -86,7 +85,7 @@ fn call_method(
     requires at { IsAt book.now.program m.old.items.items at.span at.number }
     requires call { IsCallIn book.now.program call }
     requires to { TargetFits book.now.program callee.to }
-    requires method { MethodFits book.now.program callee.method }
+    requires method { IsMethodIn book.now.program callee.method }
     ensures called { CalledIs book.now.program (kept_of m.old) (kept_of m.new) at.number at.line
         callee.to call callee.found callee.method result }
     ensures fit { PartsFit book.now.program m.new }

@@ -2,14 +2,13 @@
 
 ghost use Rattle.std.specs.Prelude.{◌++◌, ◌+◌, ◌<◌, ◌≡◌, ◌≤◌, All, IfOk, None, length, map};
 ghost use Rattle.std.specs.Prelude.{slice_get, unwrap_or, vec_capacity};
-ghost use Rattle.rg_tree.specs.Rows.RowTrees.{classes_of, param_at};
+ghost use Rattle.rg_tree.specs.Rows.RowTrees.{classes_of, param_at, method_of};
+ghost use Rattle.rg_tree.specs.Rows.RowsExist.{IsMethodIn};
 ghost use Rattle.rg_rules.specs.RightSides.{bound, called_frame};
-ghost use Rattle.rg_plain.specs.Inner.Methods.{MethodFits, method_of};
 ghost use Rattle.rg_plain.specs.Kept.{frame_of, kept_frame, target_of};
 ghost use Rattle.rg_plain.specs.Shown.{AreNamed, locals_of};
 
 use crate::state::rows::{FrameRow, LocalRow, TargetRow};
-use crate::values::methods::MethodRow;
 use crate::values::paths::Receiver;
 use crate::values::types::written_type;
 use rg_base::{Memory, Ty, Val};
@@ -61,7 +60,7 @@ pub(crate) fn new_frame(
     callee: Callee,
     args: &[Val],
 ) -> Result<FrameRow, Memory>
-    requires method { MethodFits book.now.program callee.method }
+    requires method { IsMethodIn book.now.program callee.method }
     ensures frame { IfOk result (λ f. frame_of book.now.program (kept_frame f)
         ≡ called_frame (classes_of book.now.program) (target_of book.now.program callee.to)
         (method_of book.now.program callee.method) callee.found.class callee.found.value args.now) }

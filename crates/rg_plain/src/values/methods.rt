@@ -7,20 +7,8 @@ ghost use Rattle.rg_tree.specs.Rows.RowsExist.{IsNameIn};
 ghost use Rattle.rg_tree.specs.Rows.Tables.{name_at};
 ghost use Rattle.rg_plain.specs.Inner.Methods.{MemberIs, MethodIs};
 
-use rg_base::Cap;
 use rg_names::Book;
-use rg_tree::{MemberRow, Span, TypeRow};
-
-/// `def mut m(a: T): R { .. }`
-#[derive(Clone, Copy)]
-pub struct MethodRow {
-    pub cap: Cap,
-    pub name: u32,
-    pub params: Span,
-    pub result: Option<TypeRow>,
-    pub body: Span,
-    pub line: u64,
-}
+use rg_tree::{MemberRow, MethodRow};
 
 /// A member, where it is the method of a name.
 fn as_method(book: &Book, member: u32, name: u32) -> Option<MethodRow>

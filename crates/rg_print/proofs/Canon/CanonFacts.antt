@@ -78,10 +78,6 @@ pub more_params-goes : (ps : List Param) (rest : List Lexeme) → goes_on (text_
 more_params-goes [] rest g = g
 more_params-goes (q ∷ ps) rest g = refl
 
-pub result-goes : (o : Option Ty) (rest : List Lexeme) → goes_on (text_of rest) ≡ false → goes_on (text_of (result_lexemes o rest)) ≡ false
-result-goes None rest g = g
-result-goes (Some t) rest g = refl
-
 -- what words and names tell
 pub plain_type-plain : (x : Kind) (t : Ty) → plain_type_of x ≡ Some t → TyPlain t
 plain_type-plain (k.Word w.Int) t h = let e : int ≡ t = cc in subst TyPlain e tt

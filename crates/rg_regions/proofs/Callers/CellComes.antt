@@ -1,23 +1,21 @@
 -- A cell comes into a region that doesn't count, and leads within it: the forest stays one (docs/architecture.md,
 -- "Regions").
-use Rattle.std.proofs.Common.{◌≡◌, ◌≢◌, ℕ, zero, suc, false, cond, List, [], ◌∷◌, ◌++◌, length, Option, Some}
+use Rattle.std.proofs.Common.{◌≡◌, ◌≢◌, ℕ, zero, suc, false, List, [], ◌∷◌, ◌++◌, length, Some}
 use Rattle.std.proofs.Common.{None}
 use Rattle.std.proofs.Common.{refl, ap, sym, ◌∙◌, subst, ◌⊎◌, inl, inr, option_map, option_and_then, slice_get}
-use Rattle.std.proofs.Common.{count_by}
 use Rattle.std.proofs.lemmas.Bool.{cases_eq}
 use Rattle.std.proofs.lemmas.Option.{same_Some}
-use Rattle.rg_base.specs.declared.object.Label.{Label}
 use Rattle.rg_base.specs.declared.object.Label.TheVariants.{Region, Frozen}
 use Rattle.rg_base.specs.declared.words.Manager.TheVariants.{Count}
-use Rattle.rg_base.specs.declared.value.Word.{Word}
 use Rattle.rg_base.specs.declared.value.Word.TheVariants.{Slot}
 use Rattle.rg_cells.specs.declared.cell.Body.{Body}
-use Rattle.rg_cells.specs.Table.{Table, Made, body_at, body_in, field_at, label_at, mark_at}
+use Rattle.rg_cells.specs.Table.{Table, Made, body_at, field_at, label_at, mark_at}
 use Rattle.rg_regions.specs.Table.{Record, RegionTable, record_at, HasNumber, IsBridge}
 use Rattle.rg_regions.specs.Reach.{LiesIn, belongs}
-use Rattle.rg_regions.specs.Grove.{Grove, Members, Parent, Above, direct, further, referrers, leads_to}
+use Rattle.rg_regions.specs.Grove.{Grove, Members, Parent, referrers}
 use Rattle.rg_regions.proofs.Callers.Told.{one_region, number_of}
-use Rattle.rg_regions.proofs.Callers.Fewer.{total_alike, belongs_not}
+use Rattle.rg_regions.proofs.Callers.Fewer.{total_alike, belongs_not, weight, weighs_none, above_by, parent_by}
+use Rattle.rg_regions.proofs.Callers.Beside.{Beside, beside, not_to}
 
 -- What comes: a cell at a slot that wasn't held, as the last member of a region, whose fields lead to cells of the
 -- region.
@@ -57,57 +55,35 @@ last_one (y ∷ xs) x = last_one xs x
 module _ (c : Table) (t : RegionTable) (cells : Table) (regions : RegionTable) (key slot : ℕ) (rec now : Record)
     (b : Body)
     (g : Grove c t) (w : CellComes c t cells regions key slot rec now b) where
-  same : (s : ℕ) → s ≢ slot → body_at cells.heap s ≡ body_at c.heap s
-  same s d = ap body_in (w.made.others s d)
+  pub near : Beside c cells slot
+  near = beside c cells slot b w.made w.vacant
 
   pub comes_in : LiesIn cells.heap rec.number slot
   comes_in = ap (option_map (λ (b : Body). b.label)) w.made.body ∙ ap Some w.label
-
-  held_apart : (s : ℕ) (l : Label) → label_at c.heap s ≡ Some l → s ≢ slot
-  held_apart s l e q =
-      let P : ℕ → Type 0 = λ z. label_at c.heap z ≡ Some l in
-      let z : None ≡ Some l = sym (ap (option_map (λ (b : Body). b.label)) w.vacant) ∙ subst P q e in
-      cc
-
-  pub label_on : (s : ℕ) (l : Label) → label_at c.heap s ≡ Some l → label_at cells.heap s ≡ Some l
-  label_on s l e = ap (option_map (λ (b : Body). b.label)) (same s (held_apart s l e)) ∙ e
-
-  label_back : (s : ℕ) (l : Label) → s ≢ slot → label_at cells.heap s ≡ Some l → label_at c.heap s ≡ Some l
-  label_back s l d e = sym (ap (option_map (λ (b : Body). b.label)) (same s d)) ∙ e
 
   lies_back : (q s : ℕ) → LiesIn cells.heap q s → ((q ≡ rec.number) × (s ≡ slot)) ⊎ ((s ≢ slot) × LiesIn c.heap q s)
   lies_back q s l = elim (cases_eq s slot) [
     | inl e ↦
         let P : ℕ → Type 0 = λ z. LiesIn cells.heap q z in
         inl (one_region cells.heap slot q rec.number (subst P e l) comes_in, e)
-    | inr d ↦ inr (d, label_back s (Region q) d l)
+    | inr d ↦ inr (d, near.label_back s (Region q) d l)
   ]
-
-  field_back : (s k : ℕ) (v : Word) → s ≢ slot → field_at cells.heap s k ≡ Some v → field_at c.heap s k ≡ Some v
-  field_back s k v d f = sym (ap (option_and_then (λ (b : Body). slice_get b.fields k)) (same s d)) ∙ f
 
   led_new : (s k to : ℕ) → s ≡ slot → field_at cells.heap s k ≡ Some (Slot to) → LiesIn c.heap rec.number to
   led_new s k to e f =
       let P : ℕ → Type 0 = λ z. field_at cells.heap z k ≡ Some (Slot to) in
       w.leads k to (sym (ap (option_and_then (λ (b : Body). slice_get b.fields k)) w.made.body) ∙ subst P e f)
 
-  -- no field leads to the new cell
-  not_to : (q s k to : ℕ) → LiesIn c.heap q s → field_at c.heap s k ≡ Some (Slot to) → to ≢ slot
-  not_to q s k to l f = elim (g.fields q s k to l f) [
-    | inl a ↦ held_apart to Frozen a
-    | inr x ↦ elim x [ inl y ↦ held_apart to (Region q) y | inr y ↦ held_apart to (Region y.0) y.2 ]
-  ]
-
   -- a field that leads out of its region did so before
   led_out : (p q s k to : ℕ) → p ≢ q → LiesIn cells.heap p s → field_at cells.heap s k ≡ Some (Slot to)
       → LiesIn cells.heap q to → LiesIn c.heap p s × (field_at c.heap s k ≡ Some (Slot to)) × LiesIn c.heap q to
   led_out p q s k to d l f i = elim (lies_back p s l) [
     | inl e ↦
-        let m = label_on to (Region rec.number) (led_new s k to e.1 f) in
+        let m = near.label_on to (Region rec.number) (led_new s k to e.1 f) in
         absurd (d (e.0 ∙ one_region cells.heap to rec.number q m i))
     | inr x ↦
-        let f0 = field_back s k (Slot to) x.0 f in
-        (x.1, f0, label_back to (Region q) (not_to p s k to x.1 f0) i)
+        let f0 = near.field_back s k (Slot to) x.0 f in
+        (x.1, f0, near.label_back to (Region q) (not_to c cells t slot g near p s k to x.1 f0) i)
   ]
 
   number_now : HasNumber regions key rec.number
@@ -166,25 +142,7 @@ module _ (c : Table) (t : RegionTable) (cells : Table) (regions : RegionTable) (
   parent_back : (p q : ℕ) → Parent cells.heap p q → Parent c.heap p q
   parent_back p q a =
       let x = led_out p q a.from a.field a.to a.differ a.lies a.leads a.child_has in
-      record {
-        differ = a.differ;
-        from = a.from;
-        field = a.field;
-        to = a.to;
-        lies = x.0;
-        leads = x.1;
-        child_has = x.2;
-      }
-
-  above_back : (p q : ℕ) → Above cells.heap p q → Above c.heap p q
-  above_back p q (direct a) = direct (parent_back p q a)
-  above_back p q (further {q = m} a e) = further (above_back p m a) (parent_back m q e)
-
-  abbrev weight : ℕ → ℕ → Option Body → ℕ
-  weight q s x = cond (belongs q x) (elim x [ None ↦ 0 | Some y ↦ count_by (leads_to s) y.fields ]) 0
-
-  weighs_none : (q s : ℕ) (x : Option Body) → belongs q x ≡ false → weight q s x ≡ 0
-  weighs_none q s x e = rw e refl
+      parent_by c.heap cells.heap p q a x.0 x.1 x.2
 
   referrers_on : (q s : ℕ) → q ≢ rec.number → referrers cells.heap q s ≡ referrers c.heap q s
   referrers_on q s d = total_alike (weight q s) refl c.heap.slots cells.heap.slots (λ n. elim (cases_eq n slot) [
@@ -192,18 +150,18 @@ module _ (c : Table) (t : RegionTable) (cells : Table) (regions : RegionTable) (
         let off : belongs q (body_at cells.heap n) ≡ false =
         belongs_not q (body_at cells.heap n) (λ l. elim (lies_back q n l) [ inl y ↦ d y.0 | inr y ↦ y.0 e ]) in
         weighs_none q s (body_at cells.heap n) off ∙ sym (ap (weight q s) (ap (body_at c.heap) e ∙ w.vacant))
-    | inr a ↦ ap (weight q s) (same n a)
+    | inr a ↦ ap (weight q s) (near.same n a)
   ])
 
   own : Members cells.heap rec.number (rec.members ++ slot ∷ [])
   own =
       let m = g.members key rec w.there in
       let apart : (i : ℕ) → slice_get rec.members i ≡ Some slot → ⊥ = λ i e.
-      held_apart slot (Region rec.number) (m.lie i slot e) refl in
+      near.apart slot (Region rec.number) (m.lie i slot e) refl in
       let S : (i : ℕ) → ℕ → Type 0 = λ i z. slice_get rec.members i ≡ Some z in
       record {
         lie = λ i s e. elim (one_more rec.members slot i s e) [
-          | inl a ↦ label_on s (Region rec.number) (m.lie i s a)
+          | inl a ↦ near.label_on s (Region rec.number) (m.lie i s a)
           | inr a ↦ let P : ℕ → Type 0 = λ z. LiesIn cells.heap rec.number z in subst P (sym a.1) comes_in
         ];
         all = λ s l. elim (lies_back rec.number s l) [
@@ -234,7 +192,7 @@ module _ (c : Table) (t : RegionTable) (cells : Table) (regions : RegionTable) (
       | inr o ↦
           let m = g.members k z o.1 in
           record {
-            lie = λ i s q. label_on s (Region z.number) (m.lie i s q);
+            lie = λ i s q. near.label_on s (Region z.number) (m.lie i s q);
             all = λ s l. elim (lies_back z.number s l) [ inl e ↦ absurd (o.0 e.0) | inr x ↦ m.all s x.1 ];
             once = m.once;
           }
@@ -244,8 +202,8 @@ module _ (c : Table) (t : RegionTable) (cells : Table) (regions : RegionTable) (
           let q : rec.bridge ≡ Some s = sym w.bridge ∙ sym (ap (λ (y : Record). y.bridge) e) ∙ x in
           let L : Record → Type 0 = λ y. LiesIn cells.heap y.number s in
           let N : ℕ → Type 0 = λ n. LiesIn cells.heap n s in
-          subst L (sym e) (subst N (sym w.number) (label_on s (Region rec.number) (g.bridges key s rec w.there q)))
-      | inr o ↦ label_on s (Region z.number) (g.bridges k s z o.1 x)
+          subst L (sym e) (subst N (sym w.number) (near.label_on s (Region rec.number) (g.bridges key s rec w.there q)))
+      | inr o ↦ near.label_on s (Region z.number) (g.bridges k s z o.1 x)
     ];
     labels = λ q s l. elim (lies_back q s l) [
       | inl e ↦ (key, let P : ℕ → Type 0 = λ n. HasNumber regions key n in subst P (sym e.0) number_now)
@@ -256,16 +214,16 @@ module _ (c : Table) (t : RegionTable) (cells : Table) (regions : RegionTable) (
         let P : ℕ → Type 0 = λ y. label_at cells.heap y ≡ Some Frozen in
         let q : Some Frozen ≡ Some (Region rec.number) = sym (subst P e l) ∙ comes_in in
         cc in
-        label_on to Frozen (g.frozen s k to (label_back s Frozen d l) (field_back s k (Slot to) d f));
+        near.label_on to Frozen (g.frozen s k to (near.label_back s Frozen d l) (near.field_back s k (Slot to) d f));
     fields = λ p s k to l f. elim (lies_back p s l) [
       | inl e ↦
           let P : ℕ → Type 0 = λ n. LiesIn cells.heap n to in
-          inr (inl (subst P (sym e.0) (label_on to (Region rec.number) (led_new s k to e.1 f))))
-      | inr x ↦ elim (g.fields p s k to x.1 (field_back s k (Slot to) x.0 f)) [
-        | inl a ↦ inl (label_on to Frozen a)
+          inr (inl (subst P (sym e.0) (near.label_on to (Region rec.number) (led_new s k to e.1 f))))
+      | inr x ↦ elim (g.fields p s k to x.1 (near.field_back s k (Slot to) x.0 f)) [
+        | inl a ↦ inl (near.label_on to Frozen a)
         | inr y ↦ elim y [
-          | inl a ↦ inr (inl (label_on to (Region p) a))
-          | inr a ↦ inr (inr (a.0, a.1, label_on to (Region a.0) a.2, bridge_on a.0 to a.3))
+          | inl a ↦ inr (inl (near.label_on to (Region p) a))
+          | inr a ↦ inr (inr (a.0, a.1, near.label_on to (Region a.0) a.2, bridge_on a.0 to a.3))
         ]
       ]
     ];
@@ -275,7 +233,7 @@ module _ (c : Table) (t : RegionTable) (cells : Table) (regions : RegionTable) (
         g.one_in q p s k to p2 s2 k2 to2 d x.0 x.1 x.2 d2 y.0 y.1 y.2;
     none_into_first = λ p s k to d l f i.
         let x = led_out p 0 s k to d l f i in g.none_into_first p s k to d x.0 x.1 x.2;
-    no_cycle = λ r a. g.no_cycle r (above_back r r a);
+    no_cycle = λ r a. g.no_cycle r (above_by c.heap cells.heap parent_back r r a);
     counts = λ k s z a m l. elim (record_back k z a) [
       | inl e ↦ absurd (w.uncounted (sym w.manager ∙ sym (ap (λ (y : Record). y.manager) e) ∙ m))
       | inr o ↦ elim (lies_back z.number s l) [
@@ -289,7 +247,7 @@ module _ (c : Table) (t : RegionTable) (cells : Table) (regions : RegionTable) (
         | inl e ↦
             let r : z ≡ rec = same_Some z rec (sym a ∙ ap (record_at t) e ∙ w.there) in
             w.uncounted (sym (ap (λ (y : Record). y.manager) r) ∙ m)
-        | inr o ↦ n k z (w.others k o ∙ a) m (label_on s (Region z.number) l)
+        | inr o ↦ n k z (w.others k o ∙ a) m (near.label_on s (Region z.number) l)
       ])
     ];
   }

@@ -29,28 +29,46 @@ field_before h new s k w sub e = elim sub [
   | inr q ↦ let z : None ≡ Some w = sym (ap (option_and_then (λ (b : Body). slice_get b.fields k)) q) ∙ e in cc
 ]
 
-pub parent_before : (h new : Heap) → ((s : ℕ) → (body_at new s ≡ body_at h s) ⊎ (body_at new s ≡ None))
-    → (p q : ℕ) → Parent new p q → Parent h p q
-parent_before h new sub p q w = record {
+-- a field that leads on is told of both its ends and itself
+pub parent_by : (h new : Heap) (p q : ℕ) (w : Parent new p q) → LiesIn h p w.from → field_at h w.from w.field ≡ Some (Slot w.to)
+    → LiesIn h q w.to → Parent h p q
+parent_by h new p q w lies leads child = record {
   differ = w.differ;
   from = w.from;
   field = w.field;
   to = w.to;
-  lies = label_before h new w.from (Region p) (sub w.from) w.lies;
-  leads = field_before h new w.from w.field (Slot w.to) (sub w.from) w.leads;
-  child_has = label_before h new w.to (Region q) (sub w.to) w.child_has;
+  lies = lies;
+  leads = leads;
+  child_has = child;
 }
+
+-- chains of parents, link by link
+pub above_by : (h new : Heap) → ((p q : ℕ) → Parent new p q → Parent h p q) → (p q : ℕ) → Above new p q → Above h p q
+above_by h new f p q (direct w) = direct (f p q w)
+above_by h new f p q (further {q = m} a w) = further (above_by h new f p m a) (f m q w)
+
+pub parent_before : (h new : Heap) → ((s : ℕ) → (body_at new s ≡ body_at h s) ⊎ (body_at new s ≡ None))
+    → (p q : ℕ) → Parent new p q → Parent h p q
+parent_before h new sub p q w =
+    parent_by h new p q w (label_before h new w.from (Region p) (sub w.from) w.lies)
+    (field_before h new w.from w.field (Slot w.to) (sub w.from) w.leads)
+    (label_before h new w.to (Region q) (sub w.to) w.child_has)
 
 pub above_before : (h new : Heap) → ((s : ℕ) → (body_at new s ≡ body_at h s) ⊎ (body_at new s ≡ None))
     → (p q : ℕ) → Above new p q → Above h p q
-above_before h new sub p q (direct w) = direct (parent_before h new sub p q w)
-above_before h new sub p q (further {q = m} a w) = further (above_before h new sub p m a)
-    (parent_before h new sub m q w)
+above_before h new sub = above_by h new (parent_before h new sub)
 
 -- chains of parents, one behind the other
 pub above_both : (h : Heap) (p q r : ℕ) → Above h p q → Above h q r → Above h p r
 above_both h p q r a (direct w) = further a w
 above_both h p q r a (further {q = m} b w) = further (above_both h p q m a b) w
+
+-- what a slot weighs where the fields of a region's cells that lead to x are counted
+abbrev pub weight : ℕ → ℕ → Option Body → ℕ
+weight q x o = cond (belongs q o) (elim o [ None ↦ 0 | Some y ↦ count_by (leads_to x) y.fields ]) 0
+
+pub weighs_none : (q x : ℕ) (o : Option Body) → belongs q o ≡ false → weight q x o ≡ 0
+weighs_none q x o e = rw e refl
 
 -- totals of lists that weigh the same at each place
 pub total_alike : (f : Option Body → ℕ) → f None ≡ 0 → (xs ys : List (Option (Option Body)))

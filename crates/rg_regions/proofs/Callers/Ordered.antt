@@ -1,11 +1,10 @@
 -- What holds of a region whose members were put in order (docs/architecture.md, "Regions").
 use Rattle.std.proofs.Common.{◌≡◌, ◌≢◌, ℕ, ◌<◌, ◌≤◌, List, length, Some, slice_get, get_or, ap, sym, ◌∙◌}
-use Rattle.std.proofs.Common.{arith, inl, inr}
+use Rattle.std.proofs.Common.{arith}
 use Rattle.std.specs.List.{swap}
 use Rattle.std.proofs.lemmas.Option.{slice_get_within, slice_get-get_or, same_Some}
-use Rattle.std.proofs.lemmas.Bool.{cases_lt, cases_eq}
 use Rattle.std.proofs.lemmas.List.Edits.{swap_is}
-use Rattle.std.proofs.lemmas.List.Sorted.{IsPermutation-keeps, length_permutation}
+use Rattle.std.proofs.lemmas.List.Sorted.{IsPermutation-keeps}
 use Rattle.rg_cells.specs.Table.{Heap}
 use Rattle.rg_cells.proofs.Exchanged.{partner, by_partner, partner_back, partner_once, traded_at, traded_length}
 use Rattle.rg_regions.specs.Table.{Record, RegionTable, record_at}
@@ -71,22 +70,6 @@ module _ (old new : RegionTable) (key : ℕ) (o : Orders old new key) where
     pub ordered_at : record_at new key ≡ Some (with_members o.members r)
     ordered_at = ap (λ t. record_at t key) o.changed ∙ changed_at old key r (with_members o.members) e
 
-    pub ordered_length : length o.members ≡ length r.members
-    ordered_length = length_permutation r.members o.members (o.same r e)
-
     pub ordered_members : (h : Heap) (n : ℕ) → Members h n r.members → Members h n o.members
     ordered_members h n w =
         IsPermutation-keeps r.members (Members h n) w (λ xs i j l m q. members_swapped xs i j l m h n q) o.members (o.same r e)
-
-    -- members differ, so one in front is less
-    pub ordered_above : (h : Heap) (n : ℕ) → Members h n r.members → (i j a b : ℕ) → i < j → slice_get o.members i ≡ Some a
-        → slice_get o.members j ≡ Some b → a < b
-    ordered_above h n w i j a b p f g = elim (cases_eq a b) [
-      | inl q ↦
-          let same : i ≡ j = (ordered_members h n w).once i j b (f ∙ ap Some q) g in
-          absurd (omega (arith, p, same))
-      | inr d ↦ elim (cases_lt a b) [
-        | inl l ↦ l
-        | inr l ↦ absurd (d (omega (arith, l, ordered_rise i j a b (omega (arith, p)) f g)))
-      ]
-    ]

@@ -4,6 +4,7 @@ use Rattle.std.proofs.Common.{sym, ◌∙◌}
 use Rattle.std.proofs.Common.{subst, arith, ◌⊎◌, inl, inr, option_map}
 use Rattle.std.proofs.lemmas.List.{get_or-set_same, get_or-set_other}
 use Rattle.std.proofs.lemmas.Bool.{cases_lt}
+use Rattle.std.proofs.lemmas.Option.{same_Some}
 use Rattle.rg_base.specs.declared.value.Word.{Word}
 use Rattle.rg_base.specs.declared.value.Word.TheVariants.{Slot}
 use Rattle.rg_cells.specs.Table.{Heap, field_at, body_at, width}
@@ -244,10 +245,6 @@ module _ (h : Heap) (goes : ℕ → Type 0) (r : ℕ) (members : List ℕ) where
           },
         )
 
-pub fields_none : (h : Heap) (goes : ℕ → Type 0) (r slot : ℕ) (t : RegionTable) (head : Option ℕ)
-    → FollowsFields h goes r slot 0 t t head head
-fields_none h goes r slot t head = record { records = refl; chained = λ members rest s i o f l e a q. q }
-
 -- a word of a member was followed
 pub fields_more : (h : Heap) (goes : ℕ → Type 0) (r slot k : ℕ) (old mid new : RegionTable)
     (head middle result : Option ℕ) (w : Word) → field_at h slot k ≡ Some w
@@ -262,7 +259,7 @@ fields_more h goes r slot k old mid new head middle result w at g f = elim g [
         records = f.records;
         chained = λ members rest t i o n l e a q.
             owned_skip h goes r members rest t i k mid middle
-            (λ to n f b d. s.none to n (word_is w (Slot to) (sym at ∙ ap (λ y. field_at h y k) (sym e) ∙ f)) b d)
+            (λ to n f b d. s.none to n (same_Some w (Slot to) (sym at ∙ ap (λ y. field_at h y k) (sym e) ∙ f)) b d)
             (f.chained members rest t i o n l e a q);
       }))
   | inr j ↦ record {
@@ -273,9 +270,6 @@ fields_more h goes r slot k old mid new head middle result w at g f = elim g [
         (f.chained members rest t i o n l e a q);
   }
 ]
-  where
-    word_is : (a b : Word) → Some a ≡ Some b → a ≡ b
-    word_is a b q = cc
 
 pub members_none : (h : Heap) (r : ℕ) (members : List ℕ) (t : RegionTable) (head : Option ℕ)
     → FollowsMembers h r members 0 t t head head

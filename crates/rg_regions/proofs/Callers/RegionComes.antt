@@ -1,20 +1,20 @@
 -- A region comes with one cell, its bridge: the forest stays one (docs/architecture.md, "Regions").
-use Rattle.std.proofs.Common.{◌≡◌, ◌≢◌, ℕ, zero, suc, Bool, false, true, cond, List, [], ◌∷◌, Option, Some, None, refl, ap, sym, ◌∙◌}
+use Rattle.std.proofs.Common.{◌≡◌, ◌≢◌, ℕ, zero, suc, Bool, false, true, cond, List, [], ◌∷◌, Some, None, refl, ap, sym, ◌∙◌}
 use Rattle.std.proofs.Common.{subst, ◌⊎◌, inl, inr, option_map, option_and_then, slice_get, count_by}
 use Rattle.std.proofs.lemmas.Bool.{cases_eq}
 use Rattle.std.proofs.lemmas.Bool.Decides.{eqb_tells}
 use Rattle.std.proofs.lemmas.Option.{same_Some}
-use Rattle.rg_base.specs.declared.object.Label.{Label}
 use Rattle.rg_base.specs.declared.object.Label.TheVariants.{Region, Frozen}
 use Rattle.rg_base.specs.declared.value.Word.{Word}
 use Rattle.rg_base.specs.declared.value.Word.TheVariants.{Nil, Int, Bool as Truth, Slot}
 use Rattle.rg_cells.specs.declared.cell.Body.{Body}
-use Rattle.rg_cells.specs.Table.{Table, Made, body_at, body_in, field_at, label_at, mark_at}
+use Rattle.rg_cells.specs.Table.{Table, Made, body_at, field_at, label_at, mark_at}
 use Rattle.rg_regions.specs.Table.{Record, RegionTable, record_at, HasNumber, IsBridge}
 use Rattle.rg_regions.specs.Reach.{LiesIn, belongs}
 use Rattle.rg_regions.specs.Grove.{Grove, Members, Parent, Above, direct, further, referrers, leads_to}
 use Rattle.rg_regions.proofs.Callers.Told.{one_region, lies_or_not, number_of}
-use Rattle.rg_regions.proofs.Callers.Fewer.{total_alike, belongs_not}
+use Rattle.rg_regions.proofs.Callers.Fewer.{total_alike, belongs_not, weight, weighs_none, parent_by}
+use Rattle.rg_regions.proofs.Callers.Beside.{Beside, beside, not_to}
 
 -- a region with a bridge at that slot, not region 0, into which no field of another region's cell leads
 pub record OwnedByNone (c : Table) (t : RegionTable) (to : ℕ) : Type 0 where
@@ -57,24 +57,11 @@ none_leads s (Slot x ∷ ws) h = elim (eqb_tells s x) [
 
 module _ (c : Table) (t : RegionTable) (cells : Table) (regions : RegionTable) (key slot : ℕ) (rec : Record) (b : Body)
     (g : Grove c t) (w : RegionComes c t cells regions key slot rec b) where
-  -- cells that were there are as they were
-  same : (s : ℕ) → s ≢ slot → body_at cells.heap s ≡ body_at c.heap s
-  same s d = ap body_in (w.made.others s d)
+  near : Beside c cells slot
+  near = beside c cells slot b w.made w.vacant
 
   lies_new : LiesIn cells.heap rec.number slot
   lies_new = ap (option_map (λ (b : Body). b.label)) w.made.body ∙ ap Some w.label
-
-  held_apart : (s : ℕ) (l : Label) → label_at c.heap s ≡ Some l → s ≢ slot
-  held_apart s l e q =
-      let P : ℕ → Type 0 = λ z. label_at c.heap z ≡ Some l in
-      let z : None ≡ Some l = sym (ap (option_map (λ (b : Body). b.label)) w.vacant) ∙ subst P q e in
-      cc
-
-  label_on : (s : ℕ) (l : Label) → label_at c.heap s ≡ Some l → label_at cells.heap s ≡ Some l
-  label_on s l e = ap (option_map (λ (b : Body). b.label)) (same s (held_apart s l e)) ∙ e
-
-  label_back : (s : ℕ) (l : Label) → s ≢ slot → label_at cells.heap s ≡ Some l → label_at c.heap s ≡ Some l
-  label_back s l d e = sym (ap (option_map (λ (b : Body). b.label)) (same s d)) ∙ e
 
   none_lay : (s : ℕ) → LiesIn c.heap rec.number s → ⊥
   none_lay s l = let a = g.labels rec.number s l in w.fresh a.0 a.1
@@ -84,28 +71,18 @@ module _ (c : Table) (t : RegionTable) (cells : Table) (regions : RegionTable) (
   lies_back q s l = elim (cases_eq s slot) [
     | inl e ↦ let P : ℕ → Type 0 = λ z. LiesIn cells.heap q z in inl (one_region cells.heap slot q rec.number (subst P e l) lies_new, e)
     | inr d ↦
-        let a = label_back s (Region q) d l in
+        let a = near.label_back s (Region q) d l in
         let P : ℕ → Type 0 = λ z. LiesIn c.heap z s in
         inr ((λ z. none_lay s (subst P z a)), d, a)
   ]
-
-  field_back : (s k : ℕ) (v : Word) → s ≢ slot → field_at cells.heap s k ≡ Some v → field_at c.heap s k ≡ Some v
-  field_back s k v d f = sym (ap (option_and_then (λ (b : Body). slice_get b.fields k)) (same s d)) ∙ f
 
   field_new : (s k : ℕ) (v : Word) → s ≡ slot → field_at cells.heap s k ≡ Some v → slice_get b.fields k ≡ Some v
   field_new s k v e f =
       let P : ℕ → Type 0 = λ z. field_at cells.heap z k ≡ Some v in
       sym (ap (option_and_then (λ (b : Body). slice_get b.fields k)) w.made.body) ∙ subst P e f
 
-  -- no field leads to the new cell
-  not_to : (q s k to : ℕ) → LiesIn c.heap q s → field_at c.heap s k ≡ Some (Slot to) → to ≢ slot
-  not_to q s k to l f = elim (g.fields q s k to l f) [
-    | inl a ↦ held_apart to Frozen a
-    | inr x ↦ elim x [ inl y ↦ held_apart to (Region q) y | inr y ↦ held_apart to (Region y.0) y.2 ]
-  ]
-
   not_from : (k to : ℕ) → slice_get b.fields k ≡ Some (Slot to) → to ≢ slot
-  not_from k to f = elim (w.leads k to f) [ inl a ↦ held_apart to Frozen a | inr y ↦ held_apart to (Region y.number) y.lies ]
+  not_from k to f = elim (w.leads k to f) [ inl a ↦ near.apart to Frozen a | inr y ↦ near.apart to (Region y.number) y.lies ]
 
   -- a field of another region's cell leads into no new region, and nothing leads there
   pub alone_new : (p s k to : ℕ) → p ≢ rec.number → LiesIn cells.heap p s → field_at cells.heap s k ≡ Some (Slot to)
@@ -113,7 +90,7 @@ module _ (c : Table) (t : RegionTable) (cells : Table) (regions : RegionTable) (
   alone_new p s k to d l f i = elim (lies_back p s l) [
     | inl e ↦ d e.0
     | inr x ↦ elim (lies_back rec.number to i) [
-      | inl e ↦ not_to p s k to x.2 (field_back s k (Slot to) x.1 f) e.1
+      | inl e ↦ not_to c cells t slot g near p s k to x.2 (near.field_back s k (Slot to) x.1 f) e.1
       | inr y ↦ y.0 refl
     ]
   ]
@@ -171,15 +148,7 @@ module _ (c : Table) (t : RegionTable) (cells : Table) (regions : RegionTable) (
     | inl e ↦ absurd (d e.0)
     | inr x ↦ elim (lies_back q a.to a.child_has) [
       | inl e ↦ absurd (not_child p q a e.0)
-      | inr y ↦ record {
-        differ = a.differ;
-        from = a.from;
-        field = a.field;
-        to = a.to;
-        lies = x.2;
-        leads = field_back a.from a.field (Slot a.to) x.1 a.leads;
-        child_has = y.2;
-      }
+      | inr y ↦ parent_by c.heap cells.heap p q a x.2 (near.field_back a.from a.field (Slot a.to) x.1 a.leads) y.2
     ]
   ]
 
@@ -194,19 +163,13 @@ module _ (c : Table) (t : RegionTable) (cells : Table) (regions : RegionTable) (
   not_own_child p q (further {q = m} a e) = not_child m q e
 
   -- counts of the fields that lead to a cell
-  abbrev weight : ℕ → ℕ → Option Body → ℕ
-  weight q s x = cond (belongs q x) (elim x [ None ↦ 0 | Some y ↦ count_by (leads_to s) y.fields ]) 0
-
-  weighs_none : (q s : ℕ) (x : Option Body) → belongs q x ≡ false → weight q s x ≡ 0
-  weighs_none q s x e = rw e refl
-
   referrers_on : (q s : ℕ) → q ≢ rec.number → referrers cells.heap q s ≡ referrers c.heap q s
   referrers_on q s d = total_alike (weight q s) refl c.heap.slots cells.heap.slots (λ n. elim (cases_eq n slot) [
     | inl e ↦
         let off : belongs q (body_at cells.heap n) ≡ false =
         belongs_not q (body_at cells.heap n) (λ l. elim (lies_back q n l) [ inl y ↦ d y.0 | inr y ↦ y.1 e ]) in
         weighs_none q s (body_at cells.heap n) off ∙ sym (ap (weight q s) (ap (body_at c.heap) e ∙ w.vacant))
-    | inr a ↦ ap (weight q s) (same n a)
+    | inr a ↦ ap (weight q s) (near.same n a)
   ])
 
   referrers_new : referrers cells.heap rec.number slot ≡ 0
@@ -244,7 +207,7 @@ module _ (c : Table) (t : RegionTable) (cells : Table) (regions : RegionTable) (
       | inr o ↦
           let m = g.members k z o.1 in
           record {
-            lie = λ i s q. label_on s (Region z.number) (m.lie i s q);
+            lie = λ i s q. near.label_on s (Region z.number) (m.lie i s q);
             all = λ s l. elim (lies_back z.number s l) [ inl e ↦ absurd (o.0 e.0) | inr x ↦ m.all s x.2 ];
             once = m.once;
           }
@@ -256,7 +219,7 @@ module _ (c : Table) (t : RegionTable) (cells : Table) (regions : RegionTable) (
           let L : Record → Type 0 = λ y. LiesIn cells.heap y.number s in
           let S : ℕ → Type 0 = λ y. LiesIn cells.heap rec.number y in
           subst L (sym e) (subst S (sym q) lies_new)
-      | inr o ↦ label_on s (Region z.number) (g.bridges k s z o.1 x)
+      | inr o ↦ near.label_on s (Region z.number) (g.bridges k s z o.1 x)
     ];
     labels = λ q s l. elim (lies_back q s l) [
       | inl e ↦ (key, number_of regions key q rec w.is (sym e.0))
@@ -267,20 +230,20 @@ module _ (c : Table) (t : RegionTable) (cells : Table) (regions : RegionTable) (
         let P : ℕ → Type 0 = λ y. label_at cells.heap y ≡ Some Frozen in
         let q : Some Frozen ≡ Some (Region rec.number) = sym (subst P e l) ∙ lies_new in
         cc in
-        label_on to Frozen (g.frozen s k to (label_back s Frozen d l) (field_back s k (Slot to) d f));
+        near.label_on to Frozen (g.frozen s k to (near.label_back s Frozen d l) (near.field_back s k (Slot to) d f));
     fields = λ p s k to l f. elim (lies_back p s l) [
       | inl e ↦ elim (w.leads k to (field_new s k (Slot to) e.1 f)) [
-        | inl a ↦ inl (label_on to Frozen a)
+        | inl a ↦ inl (near.label_on to Frozen a)
         | inr y ↦
             let P : ℕ → Type 0 = λ z. LiesIn c.heap z to in
             let d : y.number ≢ p = λ z. none_lay to (subst P (z ∙ e.0) y.lies) in
-            inr (inr (y.number, d, label_on to (Region y.number) y.lies, bridge_on y.number to y.bridge))
+            inr (inr (y.number, d, near.label_on to (Region y.number) y.lies, bridge_on y.number to y.bridge))
       ]
-      | inr x ↦ elim (g.fields p s k to x.2 (field_back s k (Slot to) x.1 f)) [
-        | inl a ↦ inl (label_on to Frozen a)
+      | inr x ↦ elim (g.fields p s k to x.2 (near.field_back s k (Slot to) x.1 f)) [
+        | inl a ↦ inl (near.label_on to Frozen a)
         | inr y ↦ elim y [
-          | inl a ↦ inr (inl (label_on to (Region p) a))
-          | inr a ↦ inr (inr (a.0, a.1, label_on to (Region a.0) a.2, bridge_on a.0 to a.3))
+          | inl a ↦ inr (inl (near.label_on to (Region p) a))
+          | inr a ↦ inr (inr (a.0, a.1, near.label_on to (Region a.0) a.2, bridge_on a.0 to a.3))
         ]
       ]
     ];
@@ -294,11 +257,11 @@ module _ (c : Table) (t : RegionTable) (cells : Table) (regions : RegionTable) (
           elim (lies_back p s l) [
             | inl e ↦ elim (lies_back p2 s2 l2) [
               | inl e2 ↦ (e.1 ∙ sym e2.1, w.once k k2 q to to2 (field_new s k (Slot to) e.1 f) (field_new s2 k2 (Slot to2) e2.1 f2) o o2)
-              | inr x2 ↦ absurd (alone_old q k to p2 s2 k2 to2 (field_new s k (Slot to) e.1 f) o d2 x2.2 (field_back s2 k2 (Slot to2) x2.1 f2) o2)
+              | inr x2 ↦ absurd (alone_old q k to p2 s2 k2 to2 (field_new s k (Slot to) e.1 f) o d2 x2.2 (near.field_back s2 k2 (Slot to2) x2.1 f2) o2)
             ]
             | inr x ↦ elim (lies_back p2 s2 l2) [
-              | inl e2 ↦ absurd (alone_old q k2 to2 p s k to (field_new s2 k2 (Slot to2) e2.1 f2) o2 d x.2 (field_back s k (Slot to) x.1 f) o)
-              | inr x2 ↦ g.one_in q p s k to p2 s2 k2 to2 d x.2 (field_back s k (Slot to) x.1 f) o d2 x2.2 (field_back s2 k2 (Slot to2) x2.1 f2) o2
+              | inl e2 ↦ absurd (alone_old q k2 to2 p s k to (field_new s2 k2 (Slot to2) e2.1 f2) o2 d x.2 (near.field_back s k (Slot to) x.1 f) o)
+              | inr x2 ↦ g.one_in q p s k to p2 s2 k2 to2 d x.2 (near.field_back s k (Slot to) x.1 f) o d2 x2.2 (near.field_back s2 k2 (Slot to2) x2.1 f2) o2
             ]
           ]
     ];
@@ -308,7 +271,7 @@ module _ (c : Table) (t : RegionTable) (cells : Table) (regions : RegionTable) (
           let o = was 0 to n i in
           elim (lies_back p s l) [
             | inl e ↦ let y = owned_new 0 k to (field_new s k (Slot to) e.1 f) o in y.0.not_first y.1
-            | inr x ↦ g.none_into_first p s k to d x.2 (field_back s k (Slot to) x.1 f) o
+            | inr x ↦ g.none_into_first p s k to d x.2 (near.field_back s k (Slot to) x.1 f) o
           ]
     ];
     no_cycle = λ r a. g.no_cycle r (above_back r r (not_own_child r r a) a).1;
@@ -330,7 +293,7 @@ module _ (c : Table) (t : RegionTable) (cells : Table) (regions : RegionTable) (
       | inl e ↦ ap (mark_at cells) e ∙ w.made.mark
       | inr d ↦
           w.made.marks s d
-          ∙ g.unmarked s (λ k z a m l. n k z (w.others k (other_key k z a) ∙ a) m (label_on s (Region z.number) l))
+          ∙ g.unmarked s (λ k z a m l. n k z (w.others k (other_key k z a) ∙ a) m (near.label_on s (Region z.number) l))
     ];
   }
     where

@@ -2,12 +2,15 @@
 use Rattle.std.proofs.Common.{◌≡◌, ℕ, zero, suc, ◌<◌, List, Option, Some, None, IsSome, refl, ap, sym, ◌∙◌, ◌⊎◌, inl, inr}
 use Rattle.std.proofs.Common.{option_map, option_and_then, slice_get, get_or}
 use Rattle.std.proofs.lemmas.Bool.{cases_eq}
-use Rattle.std.proofs.lemmas.Option.{slice_get_within, slice_get-get_or}
+use Rattle.std.proofs.lemmas.Option.{slice_get_within, slice_get-get_or, same_Some}
 use Rattle.rg_base.specs.declared.object.Label.{Label}
 use Rattle.rg_base.specs.declared.object.Label.TheVariants.{Region, Temp, Frozen}
 use Rattle.rg_base.specs.declared.value.Word.{Word}
 use Rattle.rg_base.specs.declared.value.Word.TheVariants.{Slot}
 use Rattle.rg_base.proofs.Callers.Options.{some-there}
+use Rattle.rg_base.proofs.Callers.Labels.{region-same}
+use Rattle.rg_base.specs.declared.words.Manager.{Manager}
+use Rattle.rg_base.specs.declared.words.Manager.TheVariants.{Arena, Count, Trace}
 use Rattle.rg_cells.specs.declared.cell.Body.{Body}
 use Rattle.rg_cells.specs.Table.{Heap, Table, body_at, field_at, label_at, width, IsHeld}
 use Rattle.rg_regions.specs.Table.{Record, RegionTable, record_at, IsKey, HasNumber}
@@ -45,10 +48,7 @@ reach_lies h r roots s x = by_walk x.0 x.2
 
 -- a cell lies in one region
 pub one_region : (h : Heap) (s a b : ℕ) → LiesIn h a s → LiesIn h b s → a ≡ b
-one_region h s a b p q = some_is a b (sym p ∙ q)
-  where
-    some_is : (a b : ℕ) → Some (Region a) ≡ Some (Region b) → a ≡ b
-    some_is a b q = cc
+one_region h s a b p q = region-same a b (sym p ∙ q)
 
 -- a cell lies in a region, or doesn't
 pub lies_or_not : (h : Heap) (r s : ℕ) → (LiesIn h r s → ⊥) ⊎ LiesIn h r s
@@ -56,10 +56,7 @@ lies_or_not h r s = by_body (body_at h s)
   where
     by_label : (l : Label) → (Some l ≡ Some (Region r) → ⊥) ⊎ (Some l ≡ Some (Region r))
     by_label (Region q) = elim (cases_eq q r)
-        [ inl e ↦ inr (ap (λ k. Some (Region k)) e) | inr d ↦ inl (λ e. d (number q r e)) ]
-      where
-        number : (a b : ℕ) → Some (Region a) ≡ Some (Region b) → a ≡ b
-        number a b q = cc
+        [ inl e ↦ inr (ap (λ k. Some (Region k)) e) | inr d ↦ inl (λ e. d (region-same q r e)) ]
     by_label (Temp n) = inl (λ e. cc)
     by_label Frozen = inl (λ e. cc)
 
@@ -71,10 +68,7 @@ lies_or_not h r s = by_body (body_at h s)
 
 -- a region has one number
 pub one_number : (t : RegionTable) (key a b : ℕ) → HasNumber t key a → HasNumber t key b → a ≡ b
-one_number t key a b p q = some_is a b (sym p ∙ q)
-  where
-    some_is : (a b : ℕ) → Some a ≡ Some b → a ≡ b
-    some_is a b q = cc
+one_number t key a b p q = same_Some a b (sym p ∙ q)
 
 pub number_of : (t : RegionTable) (key n : ℕ) (r : Record) → record_at t key ≡ Some r → r.number ≡ n → HasNumber t key n
 number_of t key n r a b = ap (option_map (λ (y : Record). y.number)) a ∙ ap Some b
@@ -82,35 +76,27 @@ number_of t key n r a b = ap (option_map (λ (y : Record). y.number)) a ∙ ap S
 -- the members that a key has are those of its record
 pub same_members : (o : Option Record) (r : Record) (members : List ℕ) → o ≡ Some r
     → option_map (λ (r : Record). r.members) o ≡ Some members → r.members ≡ members
-same_members o r members e f = some_is r.members members (sym (ap (option_map (λ (r : Record). r.members)) e) ∙ f)
-  where
-    some_is : (a b : List ℕ) → Some a ≡ Some b → a ≡ b
-    some_is a b q = cc
+same_members o r members e f = same_Some r.members members (sym (ap (option_map (λ (r : Record). r.members)) e) ∙ f)
 
--- .. and so are its number and its bridge
+-- .. and so are its number, its manager and its bridge
 pub same_number : (o : Option Record) (r : Record) (n : ℕ) → o ≡ Some r
     → option_map (λ (r : Record). r.number) o ≡ Some n → r.number ≡ n
-same_number o r n e f = some_is r.number n (sym (ap (option_map (λ (r : Record). r.number)) e) ∙ f)
-  where
-    some_is : (a b : ℕ) → Some a ≡ Some b → a ≡ b
-    some_is a b q = cc
+same_number o r n e f = same_Some r.number n (sym (ap (option_map (λ (r : Record). r.number)) e) ∙ f)
+
+pub same_manager : (o : Option Record) (r : Record) (m : Manager) → o ≡ Some r
+    → option_map (λ (r : Record). r.manager) o ≡ Some m → r.manager ≡ m
+same_manager o r m e f = same_Some r.manager m (sym (ap (option_map (λ (r : Record). r.manager)) e) ∙ f)
 
 pub same_bridge : (o : Option Record) (r : Record) (b : Option ℕ) → o ≡ Some r
     → option_map (λ (r : Record). r.bridge) o ≡ Some b
     → r.bridge ≡ b
-same_bridge o r b e f = some_is r.bridge b (sym (ap (option_map (λ (r : Record). r.bridge)) e) ∙ f)
-  where
-    some_is : (a b : Option ℕ) → Some a ≡ Some b → a ≡ b
-    some_is a b q = cc
+same_bridge o r b e f = same_Some r.bridge b (sym (ap (option_map (λ (r : Record). r.bridge)) e) ∙ f)
 
 -- the record that has a number
 pub record_there : (o : Option Record) (n : ℕ) → option_map (λ (r : Record). r.number) o ≡ Some n
     → (r : Record) × (o ≡ Some r) × (r.number ≡ n)
 record_there None n e = cc
-record_there (Some r) n e = (r, refl, some_is r.number n e)
-  where
-    some_is : (a b : ℕ) → Some a ≡ Some b → a ≡ b
-    some_is a b q = cc
+record_there (Some r) n e = (r, refl, same_Some r.number n e)
 
 -- a key of the table has a record
 pub record_of_key : (t : RegionTable) (key : ℕ) → IsKey t key → (r : Record) × (record_at t key ≡ Some r)
@@ -148,3 +134,9 @@ pub members_read : (old now : RegionTable) (key : ℕ) (rec : Record) (members :
     → option_map (λ (r : Record). r.members) (record_at now key) ≡ Some members → rec.members ≡ members
 members_read old now key rec members e at is =
     same_members (record_at now key) rec members (same_record old now key rec e at) is
+
+-- a manager counts, or doesn't
+pub counts_or_not : (m : Manager) → (m ≡ Count) ⊎ (m ≡ Count → ⊥)
+counts_or_not Arena = inr (λ e. cc)
+counts_or_not Count = inl refl
+counts_or_not Trace = inr (λ e. cc)

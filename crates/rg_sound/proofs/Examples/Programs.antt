@@ -5,44 +5,21 @@ use Rattle.rg_base.specs.declared.words.Cap.{Cap}
 use Rattle.rg_base.specs.declared.words.Cap.TheVariants as cap
 use Rattle.rg_base.specs.declared.words.Manager.TheVariants as manager
 use Rattle.rg_tree.specs.declared.rows.BinOp.TheVariants as op
-use Rattle.rg_tree.specs.Tree.{Path, Ty, ref, int, Expr, number, path, is_nil, binary, Call, value, new, new_tmp, new_iso, freeze, merge, result_of}
+use Rattle.rg_tree.specs.Tree.{Ty, int, number, is_nil, binary, value, new, new_tmp, new_iso, freeze, merge, result_of}
 use Rattle.rg_tree.specs.Tree.{StmtKind, stmt, declare, assign, call, swap, branch, no_else, while, enter, print, return, Block, empty, then}
-use Rattle.rg_tree.specs.Tree.{Param, Member, field, method, Class, Tree}
-
-abbrev pub var : String → Path
-var x = record { base = Some (codes x); fields = [] }
-
-abbrev pub dot : String → String → Path
-dot x f = record { base = Some (codes x); fields = codes f ∷ [] }
-
-abbrev pub self_dot : String → Path
-self_dot f = record { base = None; fields = codes f ∷ [] }
-
-abbrev pub use_of : String → Expr
-use_of x = path (var x)
-
-abbrev pub to : Cap → String → Ty
-to k c = ref k (codes c)
-
-abbrev pub call_of : Path → String → List Expr → Call
-call_of q m args = record { target = q; method = codes m; args = args }
+use Rattle.rg_tree.specs.Tree.{Param, Member, method, Class, Tree}
+use Rattle.rg_rules.proofs.Sources.{var, dot, self_dot, use_of, to, call_of, field_named, param}
 
 -- statements on the lines from one on
 abbrev pub lines : ℕ → List StmtKind → Block
 lines n [] = empty
 lines n (k ∷ ks) = then (stmt n k) (lines (suc n) ks)
 
-abbrev pub field_named : String → Ty → Member
-field_named x t = field (record { name = codes x; ty = t; line = 1 })
-
 abbrev pub class_named : String → List Member → Class
 class_named c members = record { name = codes c; is_tmp = false; members = members; line = 1 }
 
 abbrev pub tmp_class : String → List Member → Class
 tmp_class c members = record { name = codes c; is_tmp = true; members = members; line = 1 }
-
-abbrev pub param : String → Ty → Param
-param a t = record { name = codes a; ty = t }
 
 abbrev pub method_named : Cap → String → List Param → Option Ty → Block → Member
 method_named k m ps r body = method (record { receiver = k; name = codes m; params = ps; result = r; body = body; line = 1 })

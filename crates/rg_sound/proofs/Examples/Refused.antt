@@ -6,7 +6,8 @@ use Rattle.rg_base.specs.declared.words.Cap.TheVariants as cap
 use Rattle.rg_base.specs.declared.words.Manager.TheVariants as manager
 use Rattle.rg_tree.specs.Tree.{int, boolean, nil, number, value, new, new_iso, StmtKind, declare, assign, swap, branch, no_else, enter, return, Tree}
 use Rattle.rg_rules.specs.Acceptance.{first_fault}
-use Rattle.rg_sound.proofs.Examples.Programs.{var, dot, use_of, to, lines, field_named, class_named, method_named}
+use Rattle.rg_rules.proofs.Sources.{var, dot, use_of, to, field_named}
+use Rattle.rg_sound.proofs.Examples.Programs.{lines, class_named, method_named}
 
 -- class N { v: int; next: mut N; down: iso N; } main arena { let a: mut N = new N; let y: iso N = new iso N in trace; .. }
 abbrev with_body : List StmtKind → Tree

@@ -1,5 +1,5 @@
 -- The variables of a frame by the names of an environment's entries.
-use Rattle.std.proofs.Common.{◌≡◌, refl, ap, ℕ, zero, suc, Bool, true, false, if◌then◌else◌, List, [], ◌∷◌, ◌++◌, length, take, find, Some, slice_get}
+use Rattle.std.proofs.Common.{◌≡◌, refl, ap, ℕ, zero, suc, Bool, true, false, if◌then◌else◌, List, [], ◌∷◌, ◌++◌, length, find, Some, slice_get}
 use Rattle.std.proofs.Common.{arith}
 use Rattle.rg_base.specs.declared.value.Val.{Val}
 use Rattle.rg_base.specs.declared.value.Val.TheVariants.{Nil}
@@ -23,13 +23,6 @@ Named-snoc [] [] e l h a b = (a, b, tt)
 Named-snoc [] (m ∷ ls) e l h a b = absurd h
 Named-snoc (f ∷ es) [] e l h a b = absurd h
 Named-snoc (f ∷ es) (m ∷ ls) e l h a b = (h.0, h.1, Named-snoc es ls e l h.2 a b)
-
-pub Named-take : (k : ℕ) (es : List Entry) (ls : List Local) → Named es ls → Named (take k es) (take k ls)
-Named-take zero es ls h = tt
-Named-take (suc k) [] [] h = tt
-Named-take (suc k) [] (m ∷ ls) h = absurd h
-Named-take (suc k) (e ∷ es) [] h = absurd h
-Named-take (suc k) (e ∷ es) (l ∷ ls) h = (h.0, h.1, Named-take k es ls h.2)
 
 -- a variable and the entry at its place
 pub record Pair (e : Entry) (l : Local) : Type 0 where

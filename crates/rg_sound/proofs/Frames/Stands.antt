@@ -66,11 +66,6 @@ elsewhere-before : (n k : ℕ) (p : Place) → IsElsewhere n p → IsBefore n k 
 elsewhere-before n k (Var m i) h = inl h
 elsewhere-before n k (Field a j) h = tt
 
-pub before-not : (n k : ℕ) (p : Place) → IsBefore n k p → p ≢ Var n k
-before-not n k (Var m i) (inl h) e = h (grind arith)
-before-not n k (Var m i) (inr h) e = let same : i ≡ k = grind arith in absurd (omega (arith, same, h))
-before-not n k (Field a j) h e = grind arith
-
 enters-frame : (n : ℕ) (ls : List Local) (x : Variable) (fs : List Name) (p : Place) → Enters n ls x fs (Some p) → (m : ℕ) → m ≢ n → IsElsewhere m p
 enters-frame n ls x [] (Var q i) h m d = λ e. d (sym e ∙ h.0)
 enters-frame n ls x [] (Field a k) h m d = tt

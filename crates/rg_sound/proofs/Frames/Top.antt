@@ -6,7 +6,7 @@ use Rattle.std.proofs.lemmas.Bool.{eqb-false}
 use Rattle.rg_base.specs.declared.object.Place.{Place}
 use Rattle.rg_base.specs.declared.object.Place.TheVariants.{Var, Field}
 use Rattle.rg_base.specs.declared.object.Seen.{Seen}
-use Rattle.rg_tree.specs.Tree.{Tree, Path, Class}
+use Rattle.rg_tree.specs.Tree.{Tree, Class}
 use Rattle.rg_rules.specs.Acceptance.{Accepted}
 use Rattle.rg_rules.specs.Environment.{Entry, Readiness, ready, gone, lent, is_lent, at_depth}
 use Rattle.rg_rules.specs.Items.{Item}
@@ -37,9 +37,6 @@ pub record Top (t : Tree) (f : Frame) (fs : List Frame) (ws : List Window) (item
   pub elsewhere : AllOwners r.under (IsElsewhere (length fs))
   pub here : (i : ℕ) (e : Entry) → slice_get r.spot.env.entries i ≡ Some e → at_depth r.spot.env e ≡ true → windows_of (length fs) i ws ≡ ws
   pub next : windows_of (length fs) (length f.locals) ws ≡ ws
-
-reverse-nil : (ps : List Path) → length (reverse ps) ≡ length ps
-reverse-nil ps = length-reverse ps
 
 pub running-top : (t : Tree) → Accepted t → (store : List Seen) (f : Frame) (fs : List Frame) (ws : List Window) (items : List Item)
     (r : Running t f fs ws items) →

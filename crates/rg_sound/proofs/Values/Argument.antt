@@ -1,32 +1,28 @@
 -- The arguments of a call: the variables that they use up, and what their values own, which is owned nowhere else then.
 use Rattle.std.proofs.Common.{◌≡◌, refl, sym, ◌∙◌, ap, subst, inl, inr, ℕ, ◌==◌, Bool as Truth, true, false, if◌then◌else◌, List, [], ◌∷◌, ◌++◌}
-use Rattle.std.proofs.Common.{length, Option, Some, None, option_and_then, slice_get, Result, Ok, arith}
+use Rattle.std.proofs.Common.{length, Option, Some, None, option_and_then, slice_get, arith}
 use Rattle.rg_base.specs.declared.ty.Ty.{Ty}
 use Rattle.rg_base.specs.declared.object.Place.{Place}
 use Rattle.rg_base.specs.declared.object.Place.TheVariants.{Var, Field}
 use Rattle.rg_base.specs.declared.object.Seen.{Seen}
 use Rattle.rg_base.specs.declared.value.Val.{Val}
 use Rattle.rg_base.specs.declared.value.Val.TheVariants.{Nil}
-use Rattle.rg_base.specs.declared.outcome.Trap.{Trap}
-use Rattle.rg_tree.specs.Tree.{Variable, Expr, number, boolean, nil, path, is_nil, neg, not, binary, Tree}
+use Rattle.rg_tree.specs.Tree.{Variable, Expr, Tree}
 use Rattle.rg_rules.specs.Capabilities.{is_iso}
-use Rattle.rg_rules.specs.Environment.{Env, Entry, Readiness, ready, gone, lent, entry_of, available, is_lent}
-use Rattle.rg_rules.specs.Expressions.{Judged, judge_expr}
+use Rattle.rg_rules.specs.Environment.{Env, Entry, Readiness, ready, gone, lent, entry_of, is_lent}
 use Rattle.rg_rules.specs.State.{Local, Frame, Window, value_in, place_in, set_in}
-use Rattle.rg_rules.specs.Evaluation.{value_of, uses, cleared, is_iso_local}
+use Rattle.rg_rules.specs.Evaluation.{uses, cleared}
 use Rattle.rg_rules.specs.Regions.{region_at, address, owned}
 use Rattle.rg_rules.specs.Owners.{owned_by_local, leads_into}
-use Rattle.rg_rules.proofs.Uses.{judge_expr-uses}
 use Rattle.rg_sound.specs.Values.{Meets, FrameMeets}
 use Rattle.rg_sound.specs.Frames.{Named}
 use Rattle.rg_sound.proofs.Basics.{none-some}
-use Rattle.rg_sound.proofs.Frames.Named.{Named-iso, Named-cleared, first-at}
+use Rattle.rg_sound.proofs.Frames.Named.{Named-cleared, first-at}
 use Rattle.rg_sound.proofs.Frames.Entry.{settled_readiness, Keeps, Keeps-at, Keeps-flip, Keeps-find, Stays}
-use Rattle.rg_sound.proofs.Values.Value.{Sees, value-meets}
+use Rattle.rg_sound.proofs.Values.Value.{Sees}
 use Rattle.rg_sound.proofs.Owners.Owner.{leads-top}
 use Rattle.rg_sound.proofs.Owners.Data.{Data, NotOwner, leads-put, Puts, puts-set}
-use Rattle.rg_sound.proofs.Values.Right.{OwnsFreshAs, not_iso-fresh, nil-fresh, IsoExpr, is_variable, is_none, iso-expr, take-variable}
-use Rattle.rg_sound.proofs.Values.Right.{ready-not_lent}
+use Rattle.rg_sound.proofs.Values.Right.{OwnsFreshAs, take-variable}
 use Rattle.rg_rules.proofs.Local.{set_in-at}
 
 -- what is known of the variables of the topmost frame in an environment
@@ -81,95 +77,6 @@ take-was t store f fs x e env names there iso r h =
     ∙ ap (λ (b : Truth). option_and_then (region_at store) (if b then address a.local.value else None)) local_iso
     ∙ ap (λ v. option_and_then (region_at store) (address v)) (sym a.value) ∙ h
 
-expression-takes : (t : Tree) (store : List Seen) (f : Frame) (fs : List Frame) (ws : List Window) (regions made : ℕ) (env : Env) →
-    View store f fs ws env →
-    Data t.classes store (f ∷ fs) ws regions made → (w : Option Ty) (e : Expr) (j : Judged) → judge_expr t.classes env w e ≡ Ok j → (v : Val) →
-    value_of t.classes store f.locals e ≡ Ok v →
-    Took t store f fs ws regions made env e j.ty v
-expression-takes t store f fs ws regions made env view d w e j typed v value =
-    by_type (is_iso j.ty) refl (value-meets t.classes store ws (length fs) env f.locals d.objects view.sees w e j v typed value)
-  where
-    none_used : uses f.locals e ≡ [] → Meets store ws j.ty v → OwnsFreshAs t.classes store (f ∷ fs) j.ty v →
-        ((r : ℕ) → option_and_then (region_at store) (owned j.ty v) ≡ Some r → (q : Place) × (leads_into t.classes store (f ∷ fs) q ≡ Some r)) →
-        Took t store f fs ws regions made env e j.ty v
-    none_used u m fresh was =
-        let F : List Variable → Frame = λ q. record f { locals = cleared q f.locals } in
-        let P : List Variable → Type 0 = λ q. Named env.entries (cleared q f.locals) in
-        let Q : List Variable → Type 0 = λ q. Data t.classes store (F q ∷ fs) ws regions made in
-        let R : List Variable → Type 0 = λ q. OwnsFreshAs t.classes store (F q ∷ fs) j.ty v in
-        let S : List Variable → Type 0 = λ y. (q : Place) (r : ℕ) → leads_into t.classes store (F y ∷ fs) q ≡ Some r →
-        leads_into t.classes store (f ∷ fs) q ≡ Some r in
-        record {
-          fits = subst Q (sym u) d;
-          named = subst P (sym u) view.sees.named;
-          meets = m;
-          fresh = subst R (sym u) fresh;
-          less =
-              subst S (sym u) (λ q r h. h);
-          was = was;
-        }
-
-    by_expr : (x : Expr) → IsoExpr t.classes env x j → x ≡ e → is_iso j.ty ≡ true → Meets store ws j.ty v →
-        Took t store f fs ws regions made env e j.ty v
-    by_expr (number z) h same iso m = elim h [ ]
-    by_expr (boolean b) h same iso m = elim h [ ]
-    by_expr (is_nil q) h same iso m = elim h [ ]
-    by_expr (neg a) h same iso m = elim h [ ]
-    by_expr (not a) h same iso m = elim h [ ]
-    by_expr (binary op a b) h same iso m = elim h [ ]
-    by_expr nil is_none same iso m =
-        let none_there : uses f.locals e ≡ [] = ap (uses f.locals) (sym same) in
-        let both : ◌≡◌ {A = Result Val Trap} (Ok Nil) (Ok v) = ap (value_of t.classes store f.locals) same ∙ value in
-        let is : Nil ≡ v = grind arith in
-        let P : Val → Type 0 = λ q. OwnsFreshAs t.classes store (f ∷ fs) j.ty q in
-        let Q : Val → Type 0 = λ q. (r : ℕ) → option_and_then (region_at store) (owned j.ty q) ≡ Some r →
-        (p : Place) × (leads_into t.classes store (f ∷ fs) p ≡ Some r) in
-        none_used none_there m (subst P is (nil-fresh t.classes store (f ∷ fs) j.ty))
-        (subst Q is (λ r h. none-some (sym (nothing (is_iso j.ty)) ∙ h)))
-      where
-        nothing : (b : Truth) → option_and_then (region_at store) (if b then address Nil else None) ≡ None
-        nothing true = refl
-        nothing false = refl
-    by_expr (path q) (is_variable {x = x} entry there ty_iso is_free ty) same iso m =
-        let a = first-at env.entries f.locals x entry view.sees.named there in
-        let used_is : uses f.locals (path (record { base = x; fields = [] })) ≡ x ∷ [] = let i : is_iso_local f.locals x ≡ true = a.iso ∙ ty_iso in
-        rw i refl in
-        let one : uses f.locals e ≡ x ∷ [] = ap (uses f.locals) (sym same) ∙ used_is in
-        let both : ◌≡◌ {A = Result Val Trap} (Ok (value_in f.locals x)) (Ok v) = ap (value_of t.classes store f.locals) same ∙ value in
-        let is : value_in f.locals x ≡ v = grind arith in
-        let k = take-variable t store f fs ws regions made x entry env d view.sees.named there ty_iso
-        (view.free (place_in f.locals x) entry a.entry_at (ready-not_lent entry.readiness is_free)) in
-        let F : List Variable → Frame = λ y. record f { locals = cleared y f.locals } in
-        let P : List Variable → Type 0 = λ y. Named env.entries (cleared y f.locals) in
-        let Q : List Variable → Type 0 = λ y. Data t.classes store (F y ∷ fs) ws regions made in
-        let R : List Variable → Type 0 = λ y. OwnsFreshAs t.classes store (F y ∷ fs) j.ty v in
-        let S : List Variable → Type 0 = λ y. (z : Place) (r : ℕ) → leads_into t.classes store (F y ∷ fs) z ≡ Some r →
-        leads_into t.classes store (f ∷ fs) z ≡ Some r in
-        let led : (r : ℕ) → option_and_then (region_at store) (owned j.ty v) ≡ Some r →
-        option_and_then (region_at store) (address (value_in f.locals x)) ≡ Some r = λ r h.
-        ap (λ y. option_and_then (region_at store) (address y)) is
-        ∙ ap (λ (b : Truth). option_and_then (region_at store) (if b then address v else None)) (sym iso) ∙ h in
-        record {
-          fits = subst Q (sym one) k.fits;
-          named = subst P (sym one) (Named-cleared (x ∷ []) env.entries f.locals view.sees.named);
-          meets = m;
-          fresh = subst R (sym one) (λ r h. k.unowned r (led r h));
-          less =
-              subst S (sym one) (take-less t store f fs x entry env view.sees.named there);
-          was = λ r h. (Var (length fs) (place_in f.locals x), take-was t store f fs x entry env view.sees.named there ty_iso r (led r h));
-        }
-
-    by_type : (b : Truth) → is_iso j.ty ≡ b → Meets store ws j.ty v → Took t store f fs ws regions made env e j.ty v
-    by_type false n m =
-        none_used (judge_expr-uses t.classes env f.locals (Named-iso env f.locals view.sees.named) w e j typed n) m
-        (not_iso-fresh t.classes store (f ∷ fs) j.ty v n)
-        (λ r h. absurd ((not_iso-fresh t.classes store (f ∷ fs) j.ty v n r h).0 (never (is_iso j.ty) n r h)))
-      where
-        never : (b : Truth) → b ≡ false → (r : ℕ) → option_and_then (region_at store) (if b then address v else None) ≡ Some r → r ≡ 0
-        never true e r h = grind arith
-        never false e r h = none-some h
-    by_type true n m = by_expr e (iso-expr t.classes env w e j typed n) refl n m
-
 -- The next argument
 
 named-over : (es os : List Entry) (ls : List Local) → Keeps es os → length os ≡ length es → Named es ls → Named os ls
@@ -211,10 +118,6 @@ view-next store f g fs ws env out v s named values =
           v.free k e.0 e.1 (settled-lent e.0.readiness o.readiness (ap (λ (q : Entry). q.readiness) e.2) ∙ l);
     }
 
--- variables that may be used have the same values
-abbrev pub SameValues : Env → (old new : List Local) → Type 0
-SameValues env old new = (x : Variable) (e : Entry) → entry_of env x ≡ Some e → available e ≡ true → value_in new x ≡ value_in old x
-
 -- The variables that arguments use up
 
 -- a variable that may be used up: it is `iso`, and not lent
@@ -237,10 +140,6 @@ source-back env out s x h =
       iso = ap (λ (q : Entry). is_iso q.ty) e.2 ∙ h.iso;
       free = settled-lent e.0.readiness h.entry.readiness (ap (λ (q : Entry). q.readiness) e.2) ∙ h.free;
     }
-
-sources-back : (env out : Env) → Stays env out → (xs : List Variable) → AllSources out xs → AllSources env xs
-sources-back env out s [] h = tt
-sources-back env out s (x ∷ xs) h = (source-back env out s x h.0, sources-back env out s xs h.1)
 
 pub cleared-append : (xs ys : List Variable) (ls : List Local) → cleared (xs ++ ys) ls ≡ cleared ys (cleared xs ls)
 cleared-append [] ys ls = refl

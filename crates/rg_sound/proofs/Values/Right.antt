@@ -191,9 +191,6 @@ pub record Taken (t : Tree) (store : List Seen) (f : Frame) (fs : List Frame) (w
   pub unowned : (r : ℕ) → option_and_then (region_at store) (address (value_in f.locals x)) ≡ Some r →
       (r ≢ 0) × ((q : Place) → ¬ (leads_into t.classes store (record f { locals = set_in x Nil f.locals } ∷ fs) q ≡ Some r))
 
-not_same : (n m i k : ℕ) → (n ≡ m → i ≡ k → ⊥) → Var n i ≢ Var m k
-not_same n m i k h e = let both : (n ≡ m) × (i ≡ k) = (grind arith, grind arith) in h both.0 both.1
-
 pub take-variable : (t : Tree) (store : List Seen) (f : Frame) (fs : List Frame) (ws : List Window) (regions made : ℕ) (x : Variable) (e : Entry)
     (env : Env) →
     Data t.classes store (f ∷ fs) ws regions made → Named env.entries f.locals → entry_of env x ≡ Some e → is_iso e.ty ≡ true →

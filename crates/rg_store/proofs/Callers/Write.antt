@@ -1,6 +1,7 @@
 -- Writes to objects, as they are shown.
 use Rattle.std.proofs.Common.{◌≡◌, ℕ, zero, suc, ◌<◌, List, [], ◌∷◌, length, get_or, slice_get, slice_set, Some, refl, sym, ◌∙◌, ap, arith}
 use Rattle.std.proofs.lemmas.List.{map-set}
+use Rattle.std.proofs.lemmas.Option.{same_Some}
 use Rattle.rg_base.specs.declared.object.Seen.{Seen}
 use Rattle.rg_base.specs.declared.value.Val.{Val}
 use Rattle.rg_base.specs.declared.value.Val.TheVariants.{Obj}
@@ -11,14 +12,11 @@ use Rattle.rg_tree.specs.Tree.{Name, Class}
 use Rattle.rg_store.specs.declared.objects.ObjectRow.{ObjectRow}
 use Rattle.rg_store.specs.Shown.{seen_of, store_of}
 
-some-same : (o p : Seen) → Some o ≡ Some p → o ≡ p
-some-same o p e = cc
-
 -- the object at a place, as it is read
 pub object-there : (store : List ObjectRow) (k : ℕ) (d : ObjectRow) (o : Seen) → k < length store → slice_get (store_of store) k ≡ Some o →
     seen_of (get_or store k d) ≡ o
 object-there [] k d o within there = absurd (omega arith)
-object-there (r ∷ rows) zero d o within there = some-same (seen_of r) o there
+object-there (r ∷ rows) zero d o within there = same_Some (seen_of r) o there
 object-there (r ∷ rows) (suc k) d o within there = object-there rows k d o (omega arith) there
 
 -- the object at a place within the store

@@ -4,6 +4,7 @@ use Rattle.std.proofs.Common.{◌≡◌, ◌≢◌, ℕ, ◌+◌, ◌<◌, zero,
 use Rattle.std.proofs.Common.{set, refl, ap, sym, ◌∙◌, subst, arith, inl, inr}
 use Rattle.std.proofs.lemmas.List.{get_or-set_same, get_or-set_other}
 use Rattle.std.proofs.lemmas.Bool.{cases_eq}
+use Rattle.std.proofs.lemmas.Option.{same_Some}
 use Rattle.rg_cells.specs.Table.{Heap}
 use Rattle.rg_regions.specs.Reach.{LiesIn, Roots, Walk, Reach}
 use Rattle.rg_trace.specs.Inner.Marking.{known_count, GreyChain, TriColour, BlackDone}
@@ -127,7 +128,7 @@ pub popped : (h : Heap) (r : ℕ) (roots : Roots) (marks : List ℕ) (links : Li
     × TriColour h r roots (set marks s 2) links (get_or links s None) rest
 popped h r roots marks links s [] l tri = let e : Some s ≡ None = tri.chain in cc
 popped h r roots marks links s (x ∷ rest) l tri =
-    let e : s ≡ x = some_is s x tri.chain.0 in
+    let e : s ≡ x = same_Some s x tri.chain.0 in
     let L : ℕ → Type 0 = λ k. LiesIn h r k in
     let lies : LiesIn h r s = subst L (sym e) tri.chain.1 in
     let one : get_or marks s 0 ≡ 1 = ap (λ k. get_or marks k 0) e ∙ tri.chain.2 in
@@ -159,9 +160,6 @@ popped h r roots marks links s (x ∷ rest) l tri =
         ];
       },
     )
-  where
-    some_is : (a b : ℕ) → Some a ≡ Some b → a ≡ b
-    some_is a b q = cc
 
 -- at the end what is marked is what is in reach
 pub reached-marked : (h : Heap) (r : ℕ) (roots : Roots) (marks : List ℕ) (links : List (Option ℕ)) (grey : List ℕ)

@@ -83,16 +83,6 @@ turn h r w old new head result e g =
           (turn-taken r t.slot old head t.lies t.white t.within t.in_links)))
     ])
 
-pub scanned-none : (h : Heap) (r : ℕ) (word : ℕ → Option Word) (t : Table) (head : Option ℕ) → t.heap ≡ h
-    → Scanned h r word 0 t t head head
-scanned-none h r word t head e = record {
-  heap = e;
-  went = went-none h r t.marks;
-  links = λ s n. refl;
-  found = λ k s l. absurd (omega arith);
-  marking = λ roots near m. m;
-}
-
 pub scanned-more : (h : Heap) (r : ℕ) (word : ℕ → Option Word) (n : ℕ) (old mid new : Table)
     (head middle result : Option ℕ) (w : Word) → word n
     ≡ Some w → Scanned h r word n old mid head middle → Turn h r w mid new middle result
@@ -110,18 +100,6 @@ scanned-more h r word n old mid new head middle result w at a b = record {
       (a.marking roots near m);
 }
 
--- a temporary more
-pub traced-none : (h : Heap) (r : ℕ) (temps : List ℕ) (t : Table) (head : Option ℕ) → t.heap ≡ h
-    → ScannedTemps h r temps 0 t t head head
-traced-none h r temps t head e = record {
-  heap = e;
-  went = went-none h r t.marks;
-  links = λ s n. refl;
-  found = λ i k s temp l. absurd (omega arith);
-  marking = λ roots
-      same m. m;
-}
-
 pub traced-more : (h : Heap) (r : ℕ) (temps : List ℕ) (n : ℕ) (old mid new : Table) (head middle result : Option ℕ)
     (temp : ℕ) → slice_get temps n
     ≡ Some temp → ScannedTemps h r temps n old mid head middle
@@ -135,7 +113,7 @@ traced-more h r temps n old mid new head middle result temp at a b = record {
     | inl m ↦ b.went.grows s (a.found i k s other m e f lies)
     | inr m ↦
         let q : i ≡ n = omega arith in
-        let same : temp ≡ other = number_is temp other (sym at ∙ ap (slice_get temps) (sym q) ∙ e) in
+        let same : temp ≡ other = same_Some temp other (sym at ∙ ap (slice_get temps) (sym q) ∙ e) in
         let here : field_at h temp k ≡ Some (Slot s) = ap (λ z. field_at h z k) same ∙ f in
         b.found k s (field_within h temp k (Slot s) here) here lies
   ];
@@ -143,9 +121,6 @@ traced-more h r temps n old mid new head middle result temp at a b = record {
       (λ k s f lies. (0, omega arith, (lies, in_temps n k temp (ap (λ ts. slice_get ts n) same ∙ at) f)))
       (a.marking roots same m);
 }
-  where
-    number_is : (a b : ℕ) → Some a ≡ Some b → a ≡ b
-    number_is a b q = cc
 
 -- the first grey cell becomes black, and its fields are looked at
 pub goes-more : (h : Heap) (r : ℕ) (roots : Roots) (first : Table) (old mid new : Table) (s : ℕ) (result : Option ℕ)
@@ -251,12 +226,9 @@ pending-less h r roots first old mid new s l e g w =
 pub head-lies : (h : Heap) (r : ℕ) (roots : Roots) (t : Table) (s : ℕ) → Marking h r roots t (Some s) → LiesIn h r s
 head-lies h r roots t s m = by_list m.0 m.1.chain
   where
-    some_is : (a b : ℕ) → Some a ≡ Some b → a ≡ b
-    some_is a b q = cc
-
     by_list : (grey : List ℕ) → GreyChain h r t.marks t.links (Some s) grey → LiesIn h r s
     by_list [] c = let e : Some s ≡ None = c in cc
-    by_list (x ∷ grey) c = let L : ℕ → Type 0 = λ k. LiesIn h r k in subst L (sym (some_is s x c.0)) c.1
+    by_list (x ∷ grey) c = let L : ℕ → Type 0 = λ k. LiesIn h r k in subst L (sym (same_Some s x c.0)) c.1
 
 -- where all marks of a region are 0, no cell of it is black
 weighed-zero : (f : Option Body → ℕ → ℕ) (xs : List (Option (Option Body))) (ms : List ℕ)
@@ -288,16 +260,6 @@ fields-white h r marks white = weighed-zero (λ b m. cond (belongs r b) (if_blac
     cond-zero true = refl
     cond-zero false = refl
 
--- the bridge is looked at
-pub bridged-none : (r : ℕ) (t : Table) → ScannedBridge t.heap r None t t None
-bridged-none r t = record {
-  heap = refl;
-  went = went-none t.heap r t.marks;
-  links = λ s n. refl;
-  found = λ s e. let q : None ≡ Some s = e in cc;
-  marking = λ roots e m. m;
-}
-
 pub bridged-some : (r s : ℕ) (old new : Table) (result : Option ℕ) → Greys r (Slot s) None result old new
     → ScannedBridge old.heap r (Some s) old new result
 bridged-some r s old new result g =
@@ -306,13 +268,10 @@ bridged-some r s old new result g =
       heap = b.heap;
       went = b.went;
       links = b.links;
-      found = λ x e l. b.found x (ap Slot (number_is s x e)) l;
+      found = λ x e l. b.found x (ap Slot (same_Some s x e)) l;
       marking = λ roots e m. b.marking roots (λ x q l. (0, omega arith, (l, is_bridge (e ∙ ap Some (slot-same s x q)))))
           m;
     }
-  where
-    number_is : (a b : ℕ) → Some a ≡ Some b → a ≡ b
-    number_is a b q = cc
 
 -- the bridge, the slots and the temporaries were looked at
 pub goes-begin : (h : Heap) (r : ℕ) (bridge : Option ℕ) (slots : List Word) (temps : List ℕ) (a b c d : Table)

@@ -6,6 +6,7 @@ use Rattle.rg_tree.specs.declared.rows.Path as row_path
 use Rattle.rg_tree.specs.declared.rows.ClassRow.{ClassRow}
 use Rattle.rg_tree.specs.declared.rows.MemberRow.{MemberRow}
 use Rattle.rg_tree.specs.declared.rows.MemberRow.TheVariants.{Field, Method}
+use Rattle.rg_tree.specs.declared.rows.MethodRow.{MethodRow}
 use Rattle.rg_tree.specs.declared.rows.ParamRow.{ParamRow}
 use Rattle.rg_tree.specs.declared.rows.TypeRow.{TypeRow}
 use Rattle.rg_tree.specs.declared.rows.TypeRow.TheVariants as type_row
@@ -17,9 +18,10 @@ use Rattle.rg_tree.specs.declared.rows.StmtKind.TheVariants as kind_row
 use Rattle.rg_tree.specs.declared.rows.StmtRow.{StmtRow}
 use Rattle.rg_tree.specs.declared.rows.ExprRow.{ExprRow}
 use Rattle.rg_tree.specs.declared.rows.ExprRow.TheVariants as expr_row
-use Rattle.rg_tree.specs.Tree.{Path, Ty, int, bool, ref, Expr, number, boolean, nil, path, is_nil, neg, not, binary, Call, Right, value, new, new_tmp}
-use Rattle.rg_tree.specs.Tree.{new_iso, freeze, merge, read, more, result_of, Stmt, stmt, StmtKind, declare, assign, call, swap, branch, while, enter}
-use Rattle.rg_tree.specs.Tree.{print, collect, return, Else, no_else, otherwise, Block, empty, then, Param, Member, field, method, Class, Tree}
+use Rattle.rg_tree.specs.Tree.{Variable, Path, Ty, int, bool, ref, Expr, number, boolean, nil, path, is_nil, neg, not, binary, Call, Right, value, new}
+use Rattle.rg_tree.specs.Tree.{new_tmp, new_iso, freeze, merge, read, more, result_of, Stmt, stmt, StmtKind, declare, assign, call, swap, branch, while, enter}
+use Rattle.rg_tree.specs.Tree.{print, collect, return, Else, no_else, otherwise, Block, empty, then, Param, Method as MethodTree, Member, field, method}
+use Rattle.rg_tree.specs.Tree.{Class, Tree}
 use Rattle.rg_tree.specs.Rows.Tables.{Tables, name_at, numbers_in}
 
 -- the trees of the rows of a table, behind those that are done: each is made over the trees of the rows before it
@@ -27,9 +29,13 @@ abbrev pub trees_from : {R T : Type 0} → T → ((ℕ → T) → R → T) → L
 trees_from none tree done [] = done
 trees_from none tree done (r ∷ rs) = trees_from none tree (done ++ tree (λ k. slice_index_or done k none) r ∷ []) rs
 
+-- a variable, by the number of its name
+abbrev pub variable_of : Tables → Option ℕ → Variable
+variable_of t o = option_map (name_at t) o
+
 -- a path
 abbrev pub path_of : Tables → row_path.Path → Path
-path_of t p = record { base = option_map (name_at t) p.base; fields = map (name_at t) (numbers_in t p.fields) }
+path_of t p = record { base = variable_of t p.base; fields = map (name_at t) (numbers_in t p.fields) }
 
 -- a type
 abbrev pub type_of : Tables → TypeRow → Ty
@@ -139,17 +145,22 @@ no_param = record { name = []; ty = int }
 abbrev pub param_at : Tables → ℕ → Param
 param_at t k = slice_index_or (params_of t) k no_param
 
+-- a method
+abbrev pub method_of : Tables → MethodRow → MethodTree
+method_of t m = record {
+  receiver = m.cap;
+  name = name_at t m.name;
+  params = map (param_at t) (numbers_in t m.params);
+  result = option_map (type_of t) m.result;
+  body = block_of t m.body;
+  line = m.line;
+}
+
 -- a field or a method
 abbrev pub member_of : Tables → MemberRow → Member
 member_of t (Field n y line) = field (record { name = name_at t n; ty = type_of t y; line = line })
-member_of t (Method c n ps r b line) = method (record {
-  receiver = c;
-  name = name_at t n;
-  params = map (param_at t) (numbers_in t ps);
-  result = option_map (type_of t) r;
-  body = block_of t b;
-  line = line;
-})
+member_of t (Method c n ps r b line) =
+    method (method_of t (record { cap = c; name = n; params = ps; result = r; body = b; line = line }))
 
 -- the members of the tables
 unfoldable pub members_of : Tables → List Member

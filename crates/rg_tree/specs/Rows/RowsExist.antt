@@ -1,10 +1,11 @@
 -- Rows whose numbers name rows that exist (docs/language.md, "The tree").
-use Rattle.std.specs.Prelude.{ℕ, ◌≡◌, ◌^◌, ◌<◌, ◌≤◌, ⊤, List, length, All, Some, IfSome, slice_get}
+use Rattle.std.specs.Prelude.{ℕ, ◌≡◌, ◌^◌, ◌<◌, ◌≤◌, ⊤, List, length, All, Option, Some, IfSome, slice_get}
 use Rattle.rg_tree.specs.declared.rows.Span.{Span}
 use Rattle.rg_tree.specs.declared.rows.Path.{Path}
 use Rattle.rg_tree.specs.declared.rows.ClassRow.{ClassRow}
 use Rattle.rg_tree.specs.declared.rows.MemberRow.{MemberRow}
 use Rattle.rg_tree.specs.declared.rows.MemberRow.TheVariants.{Field, Method}
+use Rattle.rg_tree.specs.declared.rows.MethodRow.{MethodRow}
 use Rattle.rg_tree.specs.declared.rows.ParamRow.{ParamRow}
 use Rattle.rg_tree.specs.declared.rows.TypeRow.{TypeRow}
 use Rattle.rg_tree.specs.declared.rows.TypeRow.TheVariants as type_row
@@ -37,9 +38,25 @@ pub record Holds (t : Tables) (s : Span) (these : List ℕ) : Type 0 where
 abbrev pub IsNameIn : Tables → ℕ → Type 0
 IsNameIn t n = n < length t.names
 
+-- the variable is `self`, or its number names a name
+abbrev pub IsVariableIn : Tables → Option ℕ → Type 0
+IsVariableIn t o = IfSome o (IsNameIn t)
+
 -- the number names an expression
 abbrev pub IsExprNumber : Tables → ℕ → Type 0
 IsExprNumber t e = e < length t.exprs
+
+-- the number names a statement
+abbrev pub IsStmtNumber : Tables → ℕ → Type 0
+IsStmtNumber t n = n < length t.stmts
+
+-- the number names a parameter
+abbrev pub IsParamNumber : Tables → ℕ → Type 0
+IsParamNumber t n = n < length t.params
+
+-- the number names a member
+abbrev pub IsMemberNumber : Tables → ℕ → Type 0
+IsMemberNumber t n = n < length t.members
 
 -- each number in the path names a name
 pub record IsPathIn (t : Tables) (p : Path) : Type 0 where
@@ -111,6 +128,12 @@ pub record IsParamIn (t : Tables) (r : ParamRow) : Type 0 where
 abbrev pub IsMemberIn : Tables → MemberRow → Type 0
 IsMemberIn t (Field n y line) = IsNameIn t n × IsTypeIn t y
 IsMemberIn t (Method c n ps r b line) = IsNameIn t n × IsSpanBelow t (length t.params) ps × IfSome r (IsTypeIn t) × IsBlockIn t b
+
+-- the numbers in the method name parameters, a class and statements
+pub record IsMethodIn (t : Tables) (m : MethodRow) : Type 0 where
+  pub params : IsSpanBelow t (length t.params) m.params
+  pub result : IfSome m.result (IsTypeIn t)
+  pub body : IsBlockIn t m.body
 
 -- the numbers in the class name a name and members
 pub record IsClassIn (t : Tables) (r : ClassRow) : Type 0 where

@@ -1,7 +1,7 @@
 //! Paths as values, and their tests for nil (docs/language.md, "Judgements").
 
 ghost use Rattle.std.specs.Prelude.{◌≡◌, ◌||◌, not as negated, [], IfOk, IfSome, OnOk};
-ghost use Rattle.rg_tree.specs.Rows.RowTrees.{path_of, program_of};
+ghost use Rattle.rg_tree.specs.Rows.RowTrees.{path_of, program_of, variable_of};
 ghost use Rattle.rg_tree.specs.Rows.RowsExist.{IsNameIn, IsPathIn};
 ghost use Rattle.rg_rules.specs.Capabilities as tables;
 ghost use Rattle.rg_base.specs.declared.fault.Code.TheVariants.{Mismatch};
@@ -9,7 +9,7 @@ ghost use Rattle.rg_rules.specs.Answers.{test};
 ghost use Rattle.rg_rules.specs.Environment as states;
 ghost use Rattle.rg_rules.specs.Expressions as rules;
 ghost use Rattle.rg_names.specs.TreeAnswers.{IsKnown};
-ghost use Rattle.rg_flow.specs.Scope.{env_of, variable_of};
+ghost use Rattle.rg_flow.specs.Scope.{env_of};
 ghost use Rattle.rg_flow.specs.States.{readiness_of, IsReadable};
 ghost use Rattle.rg_type.specs.Inner.Changing.{HasField, TypedAs};
 

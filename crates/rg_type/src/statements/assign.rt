@@ -2,10 +2,10 @@
 
 ghost use Rattle.std.specs.Prelude.{◌≡◌, [], OnOk, IfSome};
 ghost use Rattle.rg_tree.specs.Rows.Tables.{Tables};
-ghost use Rattle.rg_tree.specs.Rows.RowTrees.{path_of, program_of, right_of};
+ghost use Rattle.rg_tree.specs.Rows.RowTrees.{path_of, program_of, right_of, variable_of};
 ghost use Rattle.rg_tree.specs.Rows.RowsExist.{IsNameIn, IsPathIn, IsRightIn};
 ghost use Rattle.rg_rules.specs.Statements as rules;
-ghost use Rattle.rg_flow.specs.Scope.{env_of, variable_of};
+ghost use Rattle.rg_flow.specs.Scope.{env_of};
 ghost use Rattle.rg_flow.specs.States.{IsReadable};
 ghost use Rattle.rg_type.specs.Inner.Changing.{DoneAs, HasField};
 

@@ -3,12 +3,12 @@
 ghost use Rattle.std.specs.Prelude.{◌≡◌, ◌<◌, length, [], true, Some, OnErr, OnOk, IfOk, IfSome};
 ghost use Rattle.rg_base.specs.declared.limits.TheConstants.{BODY_NAMES};
 ghost use Rattle.rg_tree.specs.Rows.Tables.{Tables, name_at};
-ghost use Rattle.rg_tree.specs.Rows.RowTrees.{path_of, program_of};
+ghost use Rattle.rg_tree.specs.Rows.RowTrees.{path_of, program_of, variable_of};
 ghost use Rattle.rg_tree.specs.Rows.RowsExist.{IsNameIn, IsPathIn};
 ghost use Rattle.rg_rules.specs.Answers.{at_line};
 ghost use Rattle.rg_rules.specs.Environment.{deeper, with_variable};
 ghost use Rattle.rg_rules.specs.Statements as rules;
-ghost use Rattle.rg_flow.specs.Scope.{entered, env_of, variable_of};
+ghost use Rattle.rg_flow.specs.Scope.{entered, env_of};
 ghost use Rattle.rg_flow.specs.States.{IsReadable};
 ghost use Rattle.rg_type.specs.Inner.Changing.{EnteredAs, HasField, LeavesAs};
 

@@ -2,6 +2,7 @@
 use Rattle.std.specs.Prelude.{◌≡◌, ℕ, Bool as Truth, false, true, List, [], ◌∷◌, ◌++◌, map, Option, Some, None, Result, Ok, Err, Vec}
 use Rattle.std.specs.declared.alloc.Global.{Global}
 use Rattle.rg_tree.specs.Rows.Tables.{Tables}
+use Rattle.rg_tree.specs.Adds.{Extends}
 use Rattle.rg_verify.specs.declared.held.Held.{Held}
 use Rattle.rg_verify.specs.declared.held.Held.TheVariants as held
 use Rattle.rg_verify.specs.declared.held.Wait.{Wait}
@@ -10,7 +11,7 @@ use Rattle.rg_verify.specs.declared.refusal.Refusal.TheVariants as refusal
 use Rattle.rg_verify.specs.Naming.{field_name}
 use Rattle.rg_verify.specs.Raised.{Raised, path, named}
 use Rattle.rg_verify.specs.Raising.{Item, tree, waits, settle, from_path}
-use Rattle.rg_verify.specs.Rows.{Extends, AreTrees}
+use Rattle.rg_verify.specs.Rows.{AreTrees}
 use Rattle.rg_verify.specs.Inner.Adds.{AreNames, IsTree, AddsTree}
 
 -- whether an expression is a path

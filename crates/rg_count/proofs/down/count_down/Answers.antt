@@ -1,5 +1,6 @@
-use Rattle.std.proofs.Common.{◌≡◌, ℕ, ◌+◌, ◌≤◌, List, length, Option, Some, None, sym, arith, subst, refl, sum_by}
+use Rattle.std.proofs.Common.{◌≡◌, ℕ, ◌+◌, ◌≤◌, List, length, Option, Some, sym, arith, subst, sum_by}
 use Rattle.rg_base.specs.declared.value.Word.TheVariants.{Slot}
+use Rattle.rg_base.proofs.Callers.Options.{none-is}
 use Rattle.rg_cells.specs.Table.{Heap, width, body_at, field_at, IsHeld, link_at}
 use Rattle.rg_regions.specs.Table.{Record, InTable}
 use Rattle.rg_regions.specs.Reach.{LiesIn, region_size}
@@ -22,7 +23,7 @@ down-init g c =
     same_members _ rec c.members-left.result.now c.requires.there.1 c.members-left.ensures in
     let M : List ℕ → Type 0 = λ z. Members h c.args.region z in
     let S : List ℕ → Type 0 = λ z. region_size h c.args.region ≤ length z in (
-      down-begin h c.args.region (record { bridge = c.args.bridge; slots = c.args.slots.now; temps = c.args.temps.now })
+      down-begin h c.args.region (record { bridge = c.args.roots.now.bridge; slots = c.args.roots.now.slots.now; temps = c.args.roots.now.temps.now })
           c.args.cells.now c.members-2.result.now c.args.regions.now c.flag_roots.new.cells c.first_zeros-zero.new.cells
           c.first_zeros-zero.result (length c.members-left.result.now) _ c.flag_roots.new.steps
           c.flag_roots.ensures.cost
@@ -35,20 +36,20 @@ pub overflow_sub-left : goal.overflow_sub-left
 overflow_sub-left g c =
     let D : Option ℕ → Type 0 = λ o.
     Down c.args.cells.now.heap c.args.region
-    (record { bridge = c.args.bridge; slots = c.args.slots.now; temps = c.args.temps.now }) c.args.cells.now
+    (record { bridge = c.args.roots.now.bridge; slots = c.args.roots.now.slots.now; temps = c.args.roots.now.temps.now }) c.args.cells.now
     c.args.regions.now (length c.members-left.result.now)
-    (c.args.steps.now + sum_by (λ t. width (body_at c.args.cells.now.heap t)) c.args.temps.now) c.down.cells
+    (c.args.steps.now + sum_by (λ t. width (body_at c.args.cells.now.heap t)) c.args.roots.now.temps.now) c.down.cells
     c.down.regions o c.down.orphans c.down.left c.down.steps in
     let l = down-left _ _ _ _ _ _ _ _ _ _ _ _ _ c.down.invariant.1 (subst D c.in-Some.is c.down.invariant.0) in
     omega (arith, l)
 
-pub link-next-requires : goal.link-next-requires
-link-next-requires g c =
+pub link-zero-requires : goal.link-zero-requires
+link-zero-requires g c =
     let D : Option ℕ → Type 0 = λ o.
     Down c.args.cells.now.heap c.args.region
-    (record { bridge = c.args.bridge; slots = c.args.slots.now; temps = c.args.temps.now }) c.args.cells.now
+    (record { bridge = c.args.roots.now.bridge; slots = c.args.roots.now.slots.now; temps = c.args.roots.now.temps.now }) c.args.cells.now
     c.args.regions.now (length c.members-left.result.now)
-    (c.args.steps.now + sum_by (λ t. width (body_at c.args.cells.now.heap t)) c.args.temps.now) c.down.cells
+    (c.args.steps.now + sum_by (λ t. width (body_at c.args.cells.now.heap t)) c.args.roots.now.temps.now) c.down.cells
     c.down.regions o c.down.orphans c.down.left c.down.steps in
     let d = subst D c.in-Some.is c.down.invariant.0 in
     let lies = down-lies _ _ _ _ _ _ _ _ _ _ _ _ _ d in
@@ -59,9 +60,9 @@ pub lower_fields-heads-requires : goal.lower_fields-heads-requires
 lower_fields-heads-requires g c =
     let h = c.args.cells.now.heap in
     let D : Option ℕ → Type 0 = λ o.
-    Down h c.args.region (record { bridge = c.args.bridge; slots = c.args.slots.now; temps = c.args.temps.now })
+    Down h c.args.region (record { bridge = c.args.roots.now.bridge; slots = c.args.roots.now.slots.now; temps = c.args.roots.now.temps.now })
     c.args.cells.now c.args.regions.now (length c.members-left.result.now)
-    (c.args.steps.now + sum_by (λ t. width (body_at h t)) c.args.temps.now) c.down.cells c.down.regions o
+    (c.args.steps.now + sum_by (λ t. width (body_at h t)) c.args.roots.now.temps.now) c.down.cells c.down.regions o
     c.down.orphans c.down.left c.down.steps in
     let d = subst D c.in-Some.is c.down.invariant.0 in
     let lies : LiesIn h c.args.region c.in-Some.slot = down-lies _ _ _ _ _ _ _ _ _ _ _ _ _ d in
@@ -78,16 +79,16 @@ lower_fields-heads-requires g c =
       held = subst H back (lies_held h c.args.region c.in-Some.slot lies);
       lead = subst F back (λ k s f. c.requires.lead c.in-Some.slot k s lies f);
       labels = subst L back (subst T (sym d.owned.1.records) c.requires.labels);
-      ready = subst N (sym c.link-next.ensures) (subst R back (down-ready _ _ _ _ _ _ _ _ _ _ _ _ _ d));
+      ready = subst N (sym c.link-zero.ensures) (subst R back (down-ready _ _ _ _ _ _ _ _ _ _ _ _ _ d));
     }
 
 pub down-smaller : goal.down-smaller
 down-smaller g c =
     let D : Option ℕ → Type 0 = λ o.
     Down c.args.cells.now.heap c.args.region
-    (record { bridge = c.args.bridge; slots = c.args.slots.now; temps = c.args.temps.now }) c.args.cells.now
+    (record { bridge = c.args.roots.now.bridge; slots = c.args.roots.now.slots.now; temps = c.args.roots.now.temps.now }) c.args.cells.now
     c.args.regions.now (length c.members-left.result.now)
-    (c.args.steps.now + sum_by (λ t. width (body_at c.args.cells.now.heap t)) c.args.temps.now) c.down.cells
+    (c.args.steps.now + sum_by (λ t. width (body_at c.args.cells.now.heap t)) c.args.roots.now.temps.now) c.down.cells
     c.down.regions o c.down.orphans c.down.left c.down.steps in
     let l = down-left _ _ _ _ _ _ _ _ _ _ _ _ _ c.down.invariant.1 (subst D c.in-Some.is c.down.invariant.0) in
     omega (arith, l)
@@ -96,16 +97,16 @@ pub down-preserved : goal.down-preserved
 down-preserved g c =
     let h = c.args.cells.now.heap in
     let D : Option ℕ → Type 0 = λ o.
-    Down h c.args.region (record { bridge = c.args.bridge; slots = c.args.slots.now; temps = c.args.temps.now })
+    Down h c.args.region (record { bridge = c.args.roots.now.bridge; slots = c.args.roots.now.slots.now; temps = c.args.roots.now.temps.now })
     c.args.cells.now c.args.regions.now (length c.members-left.result.now)
-    (c.args.steps.now + sum_by (λ t. width (body_at h t)) c.args.temps.now) c.down.cells c.down.regions o
+    (c.args.steps.now + sum_by (λ t. width (body_at h t)) c.args.roots.now.temps.now) c.down.cells c.down.regions o
     c.down.orphans c.down.left c.down.steps in
     let d = subst D c.in-Some.is c.down.invariant.0 in
     let s = c.in-Some.slot in
     let l = down-left _ _ _ _ _ _ _ _ _ _ _ _ _ c.down.invariant.1 d in
     let same : c.down.cells.heap ≡ h = d.counts.heap in
     let L : Heap → Type 0 = λ z. Lowered z c.args.region s
-    (width (body_at z s)) c.down.cells c.lower_fields-heads.new.cells c.link-next.result
+    (width (body_at z s)) c.down.cells c.lower_fields-heads.new.cells c.link-zero.result
     c.lower_fields-heads.result.zero in
     let L2 : Option ℕ → Type 0 = λ o.
     Lowered h c.args.region s (width (body_at h s)) c.down.cells c.lower_fields-heads.new.cells o
@@ -118,22 +119,18 @@ down-preserved g c =
           (length c.members-left.result.now) _ c.down.cells c.lower_fields-heads.new.cells c.down.regions
           c.lower_fields-heads.new.regions s c.lower_fields-heads.result.zero c.down.orphans
           c.lower_fields-heads.result.orphans c.down.left c.down.steps c.lower_fields-heads.new.steps
-          c.requires.one l (subst L2 c.link-next.ensures (subst L same c.lower_fields-heads.ensures.lowered))
+          c.requires.one l (subst L2 c.link-zero.ensures (subst L same c.lower_fields-heads.ensures.lowered))
           (subst F same c.lower_fields-heads.ensures.fields) (subst C same c.lower_fields-heads.ensures.cost) d,
       c.down.invariant.1,
     )
-
-none_is : (o : Option ℕ) → ((x : ℕ) → o ≡ Some x → ⊥) → o ≡ None
-none_is None h = refl
-none_is (Some x) h = absurd (h x refl)
 
 pub returns : goal.returns
 returns g c =
     let h = c.args.cells.now.heap in
     let D : Option ℕ → Type 0 = λ o.
-    Down h c.args.region (record { bridge = c.args.bridge; slots = c.args.slots.now; temps = c.args.temps.now })
+    Down h c.args.region (record { bridge = c.args.roots.now.bridge; slots = c.args.roots.now.slots.now; temps = c.args.roots.now.temps.now })
     c.args.cells.now c.args.regions.now (length c.members-left.result.now)
-    (c.args.steps.now + sum_by (λ t. width (body_at h t)) c.args.temps.now) c.down.cells c.down.regions o
+    (c.args.steps.now + sum_by (λ t. width (body_at h t)) c.args.roots.now.temps.now) c.down.cells c.down.regions o
     c.down.orphans c.down.left c.down.steps in
-    let d = subst D (none_is c.down.zero c.in_default.not-Some) c.down.invariant.0 in
+    let d = subst D (none-is c.down.zero c.in_default.not-Some) c.down.invariant.0 in
     down-ended _ _ _ _ _ _ _ _ _ _ _ _ d

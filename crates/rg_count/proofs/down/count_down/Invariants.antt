@@ -6,9 +6,9 @@ use Rattle.rg_count.proofs.down.count_down.Given as goal
 
 abbrev pub invariant-down : goal.invariant-down
 invariant-down g l =
-    Down l.fn.cells.heap l.region (record { bridge = l.fn.bridge; slots = l.slots; temps = l.temps }) l.fn.cells
+    Down l.fn.cells.heap l.region (record { bridge = l.roots.bridge; slots = l.roots.slots.now; temps = l.roots.temps.now }) l.fn.cells
     l.fn.regions l.initial.left
-    (l.fn.steps + sum_by (λ t. width (body_at l.fn.cells.heap t)) l.temps) l.cells l.regions l.zero l.orphans l.left
+    (l.fn.steps + sum_by (λ t. width (body_at l.fn.cells.heap t)) l.roots.temps.now) l.cells l.regions l.zero l.orphans l.left
     l.steps
     × (region_size l.fn.cells.heap l.region ≤ l.initial.left)
 

@@ -13,14 +13,14 @@ returns-clause-rooted g c =
     let d = c.flag_words.new.cells in
     let e = c.flag_temps.new.cells in
     let one : a.heap ≡ h = c.clear.ensures.heap in
-    let B : Heap → Type 0 = λ z. Flagged z r (λ s. c.args.bridge ≡ Some s) a b in
+    let B : Heap → Type 0 = λ z. Flagged z r (λ s. c.args.roots.now.bridge ≡ Some s) a b in
     let fb = subst B one c.flag_bridge.ensures in
-    let W : Heap → Type 0 = λ z. Flagged z r (Among (λ k. slice_get c.args.slots.now k)
-    (length c.args.slots.now)) b d in
+    let W : Heap → Type 0 = λ z. Flagged z r (Among (λ k. slice_get c.args.roots.now.slots.now k)
+    (length c.args.roots.now.slots.now)) b d in
     let fw = subst W fb.heap c.flag_words.ensures in
-    let T : Heap → Type 0 = λ z. Flagged z r (InTemps z c.args.temps.now (length c.args.temps.now)) d e in
+    let T : Heap → Type 0 = λ z. Flagged z r (InTemps z c.args.roots.now.temps.now (length c.args.roots.now.temps.now)) d e in
     let ft = subst T fw.heap c.flag_temps.ensures.flagged in
-    rooted-of h r c.args.members.now c.args.bridge c.args.slots.now c.args.temps.now c.args.cells.now a b d e
+    rooted-of h r c.args.members.now c.args.roots.now.bridge c.args.roots.now.slots.now c.args.roots.now.temps.now c.args.cells.now a b d e
     c.requires.members c.clear.ensures fb fw ft
 
 pub returns-clause-links : goal.returns-clause-links
@@ -32,14 +32,14 @@ returns-clause-links g c =
     let d = c.flag_words.new.cells in
     let e = c.flag_temps.new.cells in
     let one : a.heap ≡ h = c.clear.ensures.heap in
-    let B : Heap → Type 0 = λ z. Flagged z r (λ s. c.args.bridge ≡ Some s) a b in
+    let B : Heap → Type 0 = λ z. Flagged z r (λ s. c.args.roots.now.bridge ≡ Some s) a b in
     let fb = subst B one c.flag_bridge.ensures in
-    let W : Heap → Type 0 = λ z. Flagged z r (Among (λ k. slice_get c.args.slots.now k)
-    (length c.args.slots.now)) b d in
+    let W : Heap → Type 0 = λ z. Flagged z r (Among (λ k. slice_get c.args.roots.now.slots.now k)
+    (length c.args.roots.now.slots.now)) b d in
     let fw = subst W fb.heap c.flag_words.ensures in
-    let T : Heap → Type 0 = λ z. Flagged z r (InTemps z c.args.temps.now (length c.args.temps.now)) d e in
+    let T : Heap → Type 0 = λ z. Flagged z r (InTemps z c.args.roots.now.temps.now (length c.args.roots.now.temps.now)) d e in
     let ft = subst T fw.heap c.flag_temps.ensures.flagged in
-    links-of h r c.args.members.now (λ s. c.args.bridge ≡ Some s)
-    (Among (λ k. slice_get c.args.slots.now k) (length c.args.slots.now))
-    (InTemps h c.args.temps.now (length c.args.temps.now)) c.args.cells.now a b d e c.requires.members c.clear.ensures
+    links-of h r c.args.members.now (λ s. c.args.roots.now.bridge ≡ Some s)
+    (Among (λ k. slice_get c.args.roots.now.slots.now k) (length c.args.roots.now.slots.now))
+    (InTemps h c.args.roots.now.temps.now (length c.args.roots.now.temps.now)) c.args.cells.now a b d e c.requires.members c.clear.ensures
     fb fw ft

@@ -1,5 +1,5 @@
+use Rattle.rg_tree.proofs.Adding.{name-put}
 use Rattle.std.proofs.Common.{◌∙◌}
-use Rattle.rg_make.proofs.Numbers.{name-put}
 use Rattle.rg_make.proofs.builder.add_name.Goals as goal
 
 pub returns : goal.returns

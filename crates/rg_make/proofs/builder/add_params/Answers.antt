@@ -1,6 +1,6 @@
 use Rattle.std.proofs.Common.{length}
 use Rattle.rg_tree.specs.Rows.RowTrees.{param_at}
-use Rattle.rg_make.specs.Inner.Adds.{IsParamNumber}
+use Rattle.rg_tree.specs.Rows.RowsExist.{IsParamNumber}
 use Rattle.rg_make.proofs.Adding.{adds-none, adds-push, adds-order}
 use Rattle.rg_make.proofs.builder.add_params.Goals as goal
 

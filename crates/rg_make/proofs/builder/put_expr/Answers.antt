@@ -1,4 +1,4 @@
-use Rattle.rg_make.proofs.Numbers.{expr-put}
+use Rattle.rg_tree.proofs.Adding.{expr-put}
 use Rattle.rg_make.proofs.builder.put_expr.Goals as goal
 
 pub returns : goal.returns

@@ -1,7 +1,6 @@
 use Rattle.std.proofs.Common.{length, false, refl}
 use Rattle.rg_tree.specs.Rows.RowTrees.{member_at, class_of}
-use Rattle.rg_tree.specs.Rows.RowsExist.{IsClassIn}
-use Rattle.rg_make.specs.Inner.Adds.{IsMemberNumber}
+use Rattle.rg_tree.specs.Rows.RowsExist.{IsClassIn, IsMemberNumber}
 use Rattle.rg_make.proofs.Adding.{adds-none, adds-push, adds-order, adds-two, adds-there, adds-class}
 use Rattle.rg_make.proofs.classes.add_list_class.Goals as goal
 

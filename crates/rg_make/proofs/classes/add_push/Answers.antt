@@ -3,7 +3,7 @@ use Rattle.rg_base.specs.declared.words.Cap.TheVariants as cap
 use Rattle.rg_tree.specs.Tree as tree
 use Rattle.rg_make.specs.Generated as generated
 use Rattle.rg_tree.specs.Rows.RowTrees.{stmt_at}
-use Rattle.rg_make.specs.Inner.Adds.{IsStmtNumber}
+use Rattle.rg_tree.specs.Rows.RowsExist.{IsStmtNumber}
 use Rattle.rg_make.proofs.Adding.{adds-none, adds-push, adds-there, adds-over}
 use Rattle.rg_make.proofs.classes.add_push.Goals as goal
 

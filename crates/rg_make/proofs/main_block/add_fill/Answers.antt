@@ -2,7 +2,7 @@ use Rattle.rg_tree.specs.declared.rows.BinOp.TheVariants as op
 use Rattle.rg_tree.specs.Tree as tree
 use Rattle.rg_make.specs.Generated as generated
 use Rattle.rg_tree.specs.Rows.RowTrees.{stmt_at}
-use Rattle.rg_make.specs.Inner.Adds.{IsStmtNumber}
+use Rattle.rg_tree.specs.Rows.RowsExist.{IsStmtNumber}
 use Rattle.rg_make.proofs.Adding.{adds-none, adds-push, adds-there, adds-over}
 use Rattle.rg_make.proofs.main_block.add_fill.Goals as goal
 

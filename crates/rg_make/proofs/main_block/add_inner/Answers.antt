@@ -1,5 +1,5 @@
 use Rattle.rg_tree.specs.Rows.RowTrees.{stmt_at}
-use Rattle.rg_make.specs.Inner.Adds.{IsStmtNumber}
+use Rattle.rg_tree.specs.Rows.RowsExist.{IsStmtNumber}
 use Rattle.rg_make.proofs.Adding.{adds-none, adds-push}
 use Rattle.rg_make.proofs.main_block.add_inner.Goals as goal
 

@@ -1,7 +1,7 @@
 use Rattle.std.proofs.Common.{codes}
 use Rattle.rg_tree.specs.Tree as tree
 use Rattle.rg_tree.specs.Rows.RowTrees.{stmt_at}
-use Rattle.rg_make.specs.Inner.Adds.{IsStmtNumber}
+use Rattle.rg_tree.specs.Rows.RowsExist.{IsStmtNumber}
 use Rattle.rg_make.specs.Generated as generated
 use Rattle.rg_make.proofs.Adding.{adds-none, adds-push, adds-there, adds-over, main-set}
 use Rattle.rg_make.proofs.main_block.add_main.Goals as goal

@@ -1,5 +1,6 @@
 use Rattle.std.proofs.Common.{◌≡◌, ℕ, List, [], ◌∷◌, Option, Some, None, refl, ap, ◌∙◌, subst, get_or, inl}
 use Rattle.std.proofs.lemmas.List.{get_or-set_same, get_or-set_other}
+use Rattle.rg_base.proofs.Callers.Options.{none-is}
 use Rattle.rg_regions.specs.Table.{RegionTable, record_at, Chained}
 use Rattle.rg_regions.proofs.Callers.Told.{record_there}
 use Rattle.rg_regions.proofs.Callers.Chain.{chained_none, chained_some}
@@ -65,15 +66,11 @@ next-preserved c =
           c.requires.closed g rec.0 rec.1 new.cells new.regions c.freeze_first-next.result t.1 t.0 t.2,
     )
 
-none_is : (o : Option ℕ) → ((x : ℕ) → o ≡ Some x → ⊥) → o ≡ None
-none_is None h = refl
-none_is (Some x) h = absurd (h x refl)
-
 -- no key is left
 ended : (c : goal.In_default) → Freezing c.args.cells.now c.args.regions.now c.args.key c.next.cells c.next.regions []
 ended c =
     let i = c.next.invariant in
-    let none = chained_none c.next.regions.links c.next.next i.0 (none_is c.next.next c.in_default.not-Some) i.1 in
+    let none = chained_none c.next.regions.links c.next.next i.0 (none-is c.next.next c.in_default.not-Some) i.1 in
     let G : List ℕ → Type 0 = λ ks. Freezing c.args.cells.now c.args.regions.now c.args.key c.next.cells c.next.regions
     ks in
     subst G none i.2

@@ -1,13 +1,12 @@
-use Rattle.std.proofs.Common.{◌≡◌, ◌<◌, ℕ, List, length, Option, Some, ap, sym, ◌∙◌, subst, refl, get_or}
-use Rattle.std.proofs.Common.{option_map}
+use Rattle.std.proofs.Common.{◌≡◌, ◌<◌, ℕ, List, length, ap, sym, ◌∙◌, subst, refl, get_or}
 use Rattle.rg_base.specs.declared.object.Label.TheVariants.{Region}
 use Rattle.rg_base.specs.declared.words.Manager.{Manager}
 use Rattle.rg_cells.specs.Table.{Table}
-use Rattle.rg_regions.specs.Table.{Record, record_at}
+use Rattle.rg_regions.specs.Table.{record_at}
 use Rattle.rg_regions.specs.Reach.{LiesIn}
 use Rattle.rg_regions.specs.Chains.{LeadsToHeld}
 use Rattle.rg_regions.specs.Same.{AllHeld, AllDiffer}
-use Rattle.rg_regions.proofs.Callers.Told.{record_there, same_members, owns_once}
+use Rattle.rg_regions.proofs.Callers.Told.{record_there, same_members, owns_once, same_manager}
 use Rattle.rg_move.specs.Inner.Labels.{LabelledFirst}
 use Rattle.rg_move.specs.Counted.{HasRoomFor, led_by, Counts}
 use Rattle.rg_move.specs.Inner.Joins.{Merges}
@@ -16,14 +15,6 @@ use Rattle.rg_move.proofs.CellsJoined.{lie_now, leads_now, room_now, relabels, m
 use Rattle.rg_move.proofs.RecordsJoined.{from_roomy, into_roomy, has_room, records_merge, numbers_kept}
 use Rattle.rg_move.proofs.MergeTold.{cells_move, others_stay, grove_merged}
 use Rattle.rg_move.proofs.merging.merge.Goals as goal
-
--- the manager that was read
-manager_read : (o : Option Record) (r : Record) (m : Manager) → o ≡ Some r
-    → option_map (λ (r : Record). r.manager) o ≡ Some m → r.manager ≡ m
-manager_read o r m e f = manager_is r.manager m (sym (ap (option_map (λ (r : Record). r.manager)) e) ∙ f)
-  where
-    manager_is : (a b : Manager) → Some a ≡ Some b → a ≡ b
-    manager_is a b q = cc
 
 -- the cells are labelled and counted, by the record's own number, members and manager
 labelled_by : (n m : ℕ) (xs ys : List ℕ) (c mid : Table) → n ≡ m → xs ≡ ys
@@ -145,7 +136,7 @@ done c =
     let l = labelled_by b.0.number c.number-number.result a.0.members c.members-2.result.now cells mid b.2 mem
     c.label_members.ensures in
     let now = same_members (record_at roomy from) a.0 c.members-3.result.now on c.members-3.ensures in
-    let read = manager_read (record_at old into) b.0 c.manager-manager.result b.1 c.manager-manager.ensures in
+    let read = same_manager (record_at old into) b.0 c.manager-manager.result b.1 c.manager-manager.ensures in
     let new = c.count_members.new.cells in
     let w = counted_by b.0.manager c.manager-manager.result b.0.number c.number-number.result a.0.members
     c.members-3.result.now

@@ -1,15 +1,13 @@
-use Rattle.std.proofs.Common.{◌≡◌, Some, refl, ap, ◌∙◌, subst, IsPermutation}
+use Rattle.std.proofs.Common.{◌≡◌, refl, ap, ◌∙◌, subst, IsPermutation}
+use Rattle.std.proofs.lemmas.Option.{same_Some}
 use Rattle.rg_regions.specs.declared.region.Region.{Region}
 use Rattle.rg_regions.specs.Ordered.{with_members}
 use Rattle.rg_regions.specs.Inner.Layout.{record_of}
 use Rattle.rg_regions.proofs.places.order_members.Goals as goal
 
-region_is : (a b : Region) → Some a ≡ Some b → a ≡ b
-region_is a b q = cc
-
 pub returns : goal.returns
 returns c = λ r e.
-    let same : c.in-Some.region.now ≡ r = region_is c.in-Some.region.now r (c.in-Some.ensures.value ∙ e) in
+    let same : c.in-Some.region.now ≡ r = same_Some c.in-Some.region.now r (c.in-Some.ensures.value ∙ e) in
     let now : Region = c.sort.new.region in
     let P : Region → Type 0 = λ z. IsPermutation z.members.items now.members.items in (
       now,

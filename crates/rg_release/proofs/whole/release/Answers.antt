@@ -1,4 +1,5 @@
-use Rattle.std.proofs.Common.{◌≡◌, ℕ, List, [], Option, Some, None, subst, refl}
+use Rattle.std.proofs.Common.{ℕ, List, Option, Some, subst, []}
+use Rattle.rg_base.proofs.Callers.Options.{none-is}
 use Rattle.rg_regions.specs.Table.{Chained}
 use Rattle.rg_regions.proofs.Callers.Chain.{chained_one, chained_none, chained_some}
 use Rattle.rg_release.specs.Released.{Unowned}
@@ -31,10 +32,6 @@ next-preserved c = λ tops chain unowned.
           new.cells new.regions t.2 t.1 t.4 g c.release_first-next.ensures.count,
     )
 
-none_is : (o : Option ℕ) → ((x : ℕ) → o ≡ Some x → ⊥) → o ≡ None
-none_is None h = refl
-none_is (Some x) h = absurd (h x refl)
-
 -- no key is left
 ended : (c : goal.After-count) (keys : List ℕ) → Chained c.args.regions.now.links (Some c.args.head) keys
     → Releasing c.args.cells.now c.args.regions.now keys c.next.cells c.next.regions []
@@ -43,7 +40,7 @@ ended c keys chain =
     let U : List ℕ → Type 0 = λ ks. Unowned c.args.cells.now.heap old ks in
     let same = chained_one old.links (Some c.args.head) c.requires.unowned.0 keys c.requires.unowned.1 chain in
     let i = c.next.invariant keys chain (subst U same c.requires.unowned.2) in
-    let none = chained_none c.next.regions.links c.next.next i.0 (none_is c.next.next c.in_default.not-Some) i.1 in
+    let none = chained_none c.next.regions.links c.next.next i.0 (none-is c.next.next c.in_default.not-Some) i.1 in
     let G : List ℕ → Type 0 = λ ks. Releasing c.args.cells.now old keys c.next.cells c.next.regions ks in
     subst G none i.2
 

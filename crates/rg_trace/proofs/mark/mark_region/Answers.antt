@@ -1,6 +1,7 @@
-use Rattle.std.proofs.Common.{◌≡◌, ℕ, ◌+◌, length, slice_get, sum_by, subst, sym, ap, ◌∙◌, arith, refl, Some, None}
+use Rattle.std.proofs.Common.{◌≡◌, ℕ, ◌+◌, length, slice_get, sum_by, subst, sym, ap, ◌∙◌, arith, refl, Some}
 use Rattle.std.proofs.Common.{Option}
 use Rattle.rg_base.specs.declared.value.Word.TheVariants.{Slot}
+use Rattle.rg_base.proofs.Callers.Options.{none-is}
 use Rattle.rg_cells.specs.Table.{Heap, Table, IsHeld, body_at, field_at, width}
 use Rattle.rg_regions.specs.Reach.{Roots}
 use Rattle.rg_trace.specs.Inner.Marking.{Scanned, ScannedTemps, MarkingGoes}
@@ -118,10 +119,6 @@ grey-smaller g c =
     c.in-Some.slot
     c.set_mark.ensures.within c.set_mark.ensures.set j s.went
 
-none_is : (o : Option ℕ) → ((x : ℕ) → o ≡ Some x → ⊥) → o ≡ None
-none_is None h = refl
-none_is (Some x) h = absurd (h x refl)
-
 pub returns : goal.returns
 returns g c =
     let h = c.args.cells.now.heap in
@@ -129,6 +126,6 @@ returns g c =
     let G : Option ℕ → Type 0 = λ o. MarkingGoes h c.args.region roots c.args.cells.now c.grey.cells o in
     record {
       marked = goes-done h c.args.region roots c.args.cells.now c.args.cells.now c.grey.cells refl
-          (subst G (none_is c.grey.head c.in_default.not-Some) c.grey.invariant.0);
+          (subst G (none-is c.grey.head c.in_default.not-Some) c.grey.invariant.0);
       cost = c.grey.invariant.1;
     }

@@ -1,9 +1,9 @@
 use Rattle.std.proofs.Common.{ap, refl}
 use Rattle.rg_tree.specs.declared.rows.ExprRow.TheVariants as row
 use Rattle.rg_tree.specs.Tree as syntax
+use Rattle.rg_tree.proofs.Adding.{extends-trans}
 use Rattle.rg_verify.specs.Raised.{neg}
 use Rattle.rg_verify.proofs.Put.{took-tree, put-over, took-there}
-use Rattle.rg_verify.proofs.Row.{extends-trans}
 use Rattle.rg_verify.proofs.expressions.put_neg.Goals as goal
 
 pub put_tree-requires-clause-tree : goal.put_tree-requires-clause-tree

@@ -1,7 +1,7 @@
 use Rattle.std.proofs.Common.{refl}
 use Rattle.rg_verify.specs.Raised.{binary}
+use Rattle.rg_tree.proofs.Adding.{extends-trans}
 use Rattle.rg_verify.proofs.Put.{both, both-there, both-is, put-between}
-use Rattle.rg_verify.proofs.Row.{extends-trans}
 use Rattle.rg_verify.proofs.expressions.put_operator.Goals as goal
 
 pub put_tree-requires-clause-row : goal.put_tree-requires-clause-row

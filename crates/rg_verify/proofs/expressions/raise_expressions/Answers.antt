@@ -1,6 +1,6 @@
 use Rattle.std.proofs.Common.{drop}
 use Rattle.std.proofs.lemmas.Result.{err_from_is_err_and}
-use Rattle.rg_verify.proofs.Walk.{walk-refused, rows-refused, rows-raised}
+use Rattle.rg_verify.proofs.Walking.{walk-refused, rows-refused, rows-raised}
 use Rattle.rg_verify.proofs.expressions.raise_expressions.Goals as goal
 
 pub returns-in_err-stack-clause-raises : goal.returns-in_err-stack-clause-raises

@@ -3,8 +3,8 @@ use Rattle.std.proofs.lemmas.List.{length-append}
 use Rattle.std.proofs.lemmas.Result.{err_from_is_err_and}
 use Rattle.rg_verify.specs.declared.held.Held.{Held}
 use Rattle.rg_verify.proofs.TreeStack.{piled-pop, takes-row}
-use Rattle.rg_verify.proofs.Walk.{taking-next, taking-refused, taking-end}
-use Rattle.rg_verify.proofs.Row.{extends-trans}
+use Rattle.rg_tree.proofs.Adding.{extends-trans}
+use Rattle.rg_verify.proofs.Walking.{taking-next, taking-refused, taking-end}
 use Rattle.rg_verify.proofs.expressions.take_rows.Goals as goal
 
 pub row_of-requires : goal.row_of-requires

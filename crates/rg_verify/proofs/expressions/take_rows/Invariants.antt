@@ -1,7 +1,7 @@
 use Rattle.std.proofs.Common.{List, [], length}
 use Rattle.rg_verify.specs.Raising.{Item, trees}
 use Rattle.rg_verify.specs.Inner.Stacks.{Piled}
-use Rattle.rg_verify.proofs.Walk.{Taking}
+use Rattle.rg_verify.proofs.Walking.{Taking}
 use Rattle.rg_verify.proofs.expressions.take_rows.Given as goal
 
 abbrev pub invariant-loop-held : goal.invariant-loop-held

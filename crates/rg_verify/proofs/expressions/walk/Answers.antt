@@ -1,7 +1,7 @@
 use Rattle.std.proofs.Common.{refl, sym, ◌∙◌, arith}
 use Rattle.std.proofs.lemmas.Option.{slice_get_within}
 use Rattle.std.proofs.lemmas.Result.{err_from_is_err_and}
-use Rattle.rg_verify.proofs.Walk.{walking-start, walking-past, walking-ends, walking-next, walking-refused}
+use Rattle.rg_verify.proofs.Walking.{walking-start, walking-past, walking-ends, walking-next, walking-refused}
 use Rattle.rg_verify.proofs.expressions.walk.Goals as goal
 
 pub loop-at-init : goal.loop-at-init

@@ -1,5 +1,5 @@
 use Rattle.std.proofs.Common.{length, ◌-◌}
-use Rattle.rg_verify.proofs.Walk.{Walking}
+use Rattle.rg_verify.proofs.Walking.{Walking}
 use Rattle.rg_verify.proofs.expressions.walk.Given as goal
 
 abbrev pub invariant-loop-at : goal.invariant-loop-at

@@ -1,5 +1,5 @@
+use Rattle.rg_tree.proofs.Adding.{name-put}
 use Rattle.std.proofs.Common.{◌∙◌}
-use Rattle.rg_verify.proofs.Row.{name-put}
 use Rattle.rg_verify.proofs.rows.add_name.Goals as goal
 
 pub returns-clause-adds : goal.returns-clause-adds

@@ -1,4 +1,5 @@
-use Rattle.rg_verify.proofs.Row.{path-put, extends-trans, extends-by}
+use Rattle.rg_tree.proofs.Adding.{extends-trans, extends-by}
+use Rattle.rg_verify.proofs.Row.{path-put}
 use Rattle.rg_verify.proofs.rows.path_row.Goals as goal
 
 pub returns-clause-adds : goal.returns-clause-adds

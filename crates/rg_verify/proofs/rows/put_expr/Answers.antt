@@ -1,4 +1,4 @@
-use Rattle.rg_verify.proofs.Row.{expr-put}
+use Rattle.rg_tree.proofs.Adding.{expr-put}
 use Rattle.rg_verify.proofs.rows.put_expr.Goals as goal
 
 pub returns-clause-adds : goal.returns-clause-adds

@@ -1,5 +1,5 @@
+use Rattle.rg_tree.proofs.Adding.{extends-trans}
 use Rattle.rg_verify.proofs.Path.{taken-pile, field-tree, field-put}
-use Rattle.rg_verify.proofs.Row.{extends-trans}
 use Rattle.rg_verify.proofs.stack.put_field.Goals as goal
 
 pub settle-requires-clause-pile : goal.settle-requires-clause-pile

@@ -1,6 +1,6 @@
 use Rattle.std.proofs.Common.{List, ℕ, subst}
+use Rattle.rg_tree.proofs.Adding.{extends-trans}
 use Rattle.rg_verify.proofs.Path.{PathRow, test-there, test-pile, test-tree, test-put}
-use Rattle.rg_verify.proofs.Row.{extends-trans}
 use Rattle.rg_verify.proofs.stack.put_test.Goals as goal
 
 pub put_expr-requires : goal.put_expr-requires

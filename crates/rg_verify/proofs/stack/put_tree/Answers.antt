@@ -1,6 +1,6 @@
 use Rattle.rg_verify.proofs.TreeStack.{piled-later}
+use Rattle.rg_tree.proofs.Adding.{extends-trans}
 use Rattle.rg_verify.proofs.Put.{puts-tree}
-use Rattle.rg_verify.proofs.Row.{extends-trans}
 use Rattle.rg_verify.proofs.stack.put_tree.Goals as goal
 
 pub settle-requires-clause-pile : goal.settle-requires-clause-pile

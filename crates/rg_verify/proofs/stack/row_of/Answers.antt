@@ -1,8 +1,8 @@
 use Rattle.std.proofs.Common.{List, ℕ, subst}
 use Rattle.rg_verify.specs.declared.held.Held.{Held}
 use Rattle.rg_verify.specs.Inner.Stacks.{IsFor}
+use Rattle.rg_tree.proofs.Adding.{extends-trans}
 use Rattle.rg_verify.proofs.Path.{PathRow, path-there, path-row, row-row, wait-row}
-use Rattle.rg_verify.proofs.Row.{extends-trans}
 use Rattle.rg_verify.proofs.stack.row_of.Goals as goal
 
 pub put_expr-requires : goal.put_expr-requires

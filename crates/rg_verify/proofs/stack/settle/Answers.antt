@@ -2,10 +2,10 @@ use Rattle.std.proofs.Common.{subst, refl}
 use Rattle.rg_tree.specs.declared.rows.BinOp.{BinOp}
 use Rattle.rg_tree.specs.declared.rows.ExprRow.TheVariants as row
 use Rattle.rg_tree.specs.Rows.RowTrees.{expr_of}
+use Rattle.rg_tree.proofs.Adding.{extends-trans}
 use Rattle.rg_verify.specs.Inner.Adds.{AddsTree}
 use Rattle.rg_verify.specs.Raising.{tree}
 use Rattle.rg_verify.proofs.Settle.{left-taken, left-next, junction-there}
-use Rattle.rg_verify.proofs.Row.{extends-trans}
 use Rattle.rg_verify.proofs.stack.settle.Goals as goal
 
 pub row_of-requires : goal.row_of-requires

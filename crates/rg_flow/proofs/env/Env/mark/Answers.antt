@@ -1,5 +1,6 @@
 use Rattle.std.proofs.Common.{◌≡◌, ◌∙◌, sym, ap, subst}
-use Rattle.rg_flow.specs.Scope.{Scope, marked, variable_of, env_of}
+use Rattle.rg_tree.specs.Rows.RowTrees.{variable_of}
+use Rattle.rg_flow.specs.Scope.{Scope, marked, env_of}
 use Rattle.rg_rules.specs.Environment as rules
 use Rattle.rg_flow.specs.States.{readiness_of, IsReadable}
 use Rattle.rg_flow.proofs.Envs.{kept-named, scope-named}

@@ -1,6 +1,6 @@
 use Rattle.std.proofs.Common.{◌≡◌, ◌≢◌, ◌≤◌, ◌<◌, ◌+◌, ◌-◌, ℕ, List, Some, rules, length, slice_get, slice_set, get_or, ap, sym}
 use Rattle.std.proofs.Common.{◌∙◌, subst, arith, refl}
-use Rattle.std.proofs.lemmas.Option.{slice_get-get_or, slice_get_within}
+use Rattle.std.proofs.lemmas.Option.{slice_get-get_or, slice_get_within, same_Some}
 use Rattle.std.proofs.lemmas.List.{length-set, length-drop}
 use Rattle.rg_base.specs.declared.value.Word.{Word}
 use Rattle.rg_base.specs.declared.value.Word.TheVariants.{Nil}
@@ -17,10 +17,7 @@ is_last : (ws : List Window) (n : ℕ) (t u : Window) → n ≡ length ws → sl
 is_last ws n t u m e f =
     let last : slice_get ws (length ws - 1) ≡ Some (get_or ws (length ws - 1) u) =
     slice_get-get_or ws (length ws - 1) u (slice_get_within ws (length ws - 1) t e) in
-    some_is t u (sym e ∙ last ∙ ap (λ k. Some (get_or ws (k - 1) u)) (sym m) ∙ ap Some (sym f))
-  where
-    some_is : (a b : Window) → Some a ≡ Some b → a ≡ b
-    some_is a b q = cc
+    same_Some t u (sym e ∙ last ∙ ap (λ k. Some (get_or ws (k - 1) u)) (sym m) ∙ ap Some (sym f))
 
 -- a place that is shown is one of the slots
 shown_within : (v : Stack) (k n : ℕ) (u : Window) → IsShown v k → n ≡ length v.windows → u ≡ get_or v.windows (n - 1) u

@@ -3,7 +3,7 @@ use Rattle.rg_tree.specs.Rows.RowTrees.{classes_of}
 use Rattle.rg_tree.specs.Rows.Tables.{Tables}
 use Rattle.rg_names.specs.Table.{Table, IsClass}
 use Rattle.rg_names.specs.TableOf.{IsTableOf}
-use Rattle.rg_names.proofs.Callers.{IsClass-table}
+use Rattle.rg_names.proofs.TableFacts.{IsClass-table}
 use Rattle.rg_names.proofs.book.Book.class_of.Goals as goal
 
 within : (t : Tables) (table : Table) (o : Option ℕ) → IsTableOf t table → IfSome o (IsClass table) → IfSome o (λ c. c < length (classes_of t))

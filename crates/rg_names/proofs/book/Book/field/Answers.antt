@@ -1,4 +1,4 @@
-use Rattle.rg_names.proofs.Callers.{IsClass-tree}
+use Rattle.rg_names.proofs.TableFacts.{IsClass-tree}
 use Rattle.rg_names.proofs.book.Book.field.Goals as goal
 
 pub field-requires : goal.field-requires

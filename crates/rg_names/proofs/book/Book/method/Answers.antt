@@ -1,7 +1,7 @@
 use Rattle.std.proofs.Common.{IfSome, subst}
 use Rattle.rg_names.specs.Book.{Known}
 use Rattle.rg_names.specs.TreeAnswers.{HasGoodParams}
-use Rattle.rg_names.proofs.Callers.{IsClass-tree, MethodAnswer-params}
+use Rattle.rg_names.proofs.TableFacts.{IsClass-tree, MethodAnswer-params}
 use Rattle.rg_names.proofs.book.Book.method.Goals as goal
 
 pub method-requires : goal.method-requires

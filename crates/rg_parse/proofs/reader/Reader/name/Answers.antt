@@ -1,8 +1,8 @@
 use Rattle.std.proofs.Common.{ap, refl}
 use Rattle.std.proofs.lemmas.Result.{IfOk-from_err}
 use Rattle.rg_parse.proofs.Exits.{no-ok}
+use Rattle.rg_tree.proofs.Adding.{name-means}
 use Rattle.rg_parse.proofs.Tokens.{halts-another, used-first}
-use Rattle.rg_parse.proofs.Growing.{name-means}
 use Rattle.rg_parse.proofs.reader.Reader.name.Goals as goal
 
 pub returns-in_default-clause-fault : goal.returns-in_default-clause-fault

@@ -1,11 +1,10 @@
 use Rattle.std.proofs.Common.{◌≡◌, refl, subst, ◌∙◌, ap, rules}
 use Rattle.std.proofs.Math.ListN.{length-map}
-use Rattle.rg_tree.specs.Rows.RowTrees.{classes_of}
+use Rattle.rg_tree.specs.Rows.RowTrees.{classes_of, method_of}
 use Rattle.rg_rules.specs.RightSides.{called_frame}
 use Rattle.rg_tree.specs.Rows.Tables.{numbers_in}
 use Rattle.rg_plain.specs.Inner.Calls.{Enters}
 use Rattle.rg_plain.specs.Kept.{Kept, kept_of, kept_frame, frame_of, target_of}
-use Rattle.rg_plain.specs.Inner.Methods.{method_of}
 use Rattle.rg_rules.specs.Steps.{stepped}
 use Rattle.rg_plain.proofs.Statements.Call.{may-enter, called-is}
 use Rattle.rg_plain.proofs.steps.call.call_method.Goals as goal

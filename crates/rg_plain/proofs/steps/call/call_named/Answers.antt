@@ -1,8 +1,7 @@
 use Rattle.std.proofs.Common.{Some, sym, ap, subst, rules}
-use Rattle.rg_tree.specs.Rows.RowTrees.{classes_of, call_of}
+use Rattle.rg_tree.specs.Rows.RowTrees.{classes_of, call_of, method_of}
 use Rattle.rg_rules.specs.Steps.{stepped, Stepped}
 use Rattle.rg_plain.specs.Kept.{kept_of, plain_of, target_of}
-use Rattle.rg_plain.specs.Inner.Methods.{method_of}
 use Rattle.rg_plain.specs.Inner.Steps.{Does}
 use Rattle.rg_plain.proofs.Statements.Call.{step_call-found}
 use Rattle.rg_plain.proofs.steps.call.call_named.Goals as goal

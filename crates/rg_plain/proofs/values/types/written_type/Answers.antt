@@ -3,7 +3,7 @@ use Rattle.rg_base.specs.declared.ty.Ty.TheVariants.{Ref}
 use Rattle.rg_tree.specs.Rows.Tables.{name_at}
 use Rattle.rg_tree.specs.Rows.RowTrees.{classes_of, type_of as written}
 use Rattle.rg_rules.specs.Types.{type_of}
-use Rattle.rg_plain.proofs.Expressions.Type.{class_number-unplaced}
+use Rattle.rg_plain.proofs.Expressions.Types.{class_number-unplaced}
 use Rattle.rg_plain.proofs.values.types.written_type.Goals as goal
 
 pub returns-in-None : goal.returns-in-None

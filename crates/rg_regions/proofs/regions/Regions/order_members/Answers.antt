@@ -1,4 +1,5 @@
 use Rattle.std.proofs.Common.{◌≡◌, Some, ap, ◌∙◌, subst, sym, IsPermutation}
+use Rattle.std.proofs.lemmas.Option.{same_Some}
 use Rattle.slab.specs.Slab.{Slab}
 use Rattle.rg_regions.specs.declared.region.Region.{Region}
 use Rattle.rg_regions.specs.Table.{Record, RegionTable, record_at, changed}
@@ -6,9 +7,6 @@ use Rattle.rg_regions.specs.Ordered.{with_members}
 use Rattle.rg_regions.specs.Inner.Layout.{record_of, shown, table_of, IsIndexed}
 use Rattle.rg_regions.proofs.Written.{region_at, rewritten, indexed-written, shown-at}
 use Rattle.rg_regions.proofs.regions.Regions.order_members.Goals as goal
-
-record_is : (a b : Record) → Some a ≡ Some b → a ≡ b
-record_is a b q = cc
 
 pub order_members-requires : goal.order_members-requires
 order_members-requires c = let s = c.self.inside in region_at s.records.slots s.next c.args.key c.args.self.now c.self.view_is c.requires
@@ -35,7 +33,7 @@ returns c =
       rise = n.4;
       same = λ r e.
           let Q : Record → Type 0 = λ z. IsPermutation z.members n.0.members.items in
-          subst Q (record_is (record_of h.0) r (sym (subst P c.self.view_is there) ∙ e)) n.5;
+          subst Q (same_Some (record_of h.0) r (sym (subst P c.self.view_is there) ∙ e)) n.5;
       changed = ap (λ (p : Slab Region). table_of p.slots s.next) n.1
           ∙ rewritten s.records.slots s.next c.args.key h.0 n.0 (with_members n.0.members.items) h.1 n.2 n.3
           ∙ ap (λ (t : RegionTable). changed t c.args.key (with_members n.0.members.items)) c.self.view_is;
