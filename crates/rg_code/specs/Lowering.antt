@@ -15,6 +15,7 @@ use Rattle.rg_rules.specs.Capabilities.{is_iso}
 use Rattle.rg_rules.specs.Types.{class_number, type_of, fields_of, field_place, field_type, method_named, method_result}
 use Rattle.rg_rules.specs.Environment.{same_variable}
 use Rattle.rg_rules.specs.Paths.{all_but_last, last_field}
+use Rattle.rg_rules.specs.Sides.{right_made}
 use Rattle.rg_code.specs.declared.op.Op.{Op}
 use Rattle.rg_code.specs.declared.op.Op.TheVariants as i
 use Rattle.rg_base.specs.declared.value.Word.{Word}
@@ -229,15 +230,10 @@ right_code classes scope at (result_of c) = call_code classes scope at c
 
 -- what comes last where a right side makes an object by `new C`
 abbrev pub pace_code : Right → List Op
-pace_code (value e) = []
-pace_code (new x) = i.Pace ∷ []
-pace_code (new_tmp x) = []
-pace_code (new_iso x m) = []
-pace_code (freeze y) = []
-pace_code (merge y) = []
-pace_code read = []
-pace_code more = []
-pace_code (result_of c) = []
+pace_code r = elim (right_made r) [
+  | None ↦ []
+  | Some x ↦ i.Pace ∷ []
+]
 
 -- a value goes into a slot that is there: what an `iso` variable owns is released
 abbrev pub assign_op : Scope → Variable → Op

@@ -40,7 +40,8 @@ use Rattle.rg_sound.proofs.Values.Right.{OwnsFreshAs}
 use Rattle.rg_sound.proofs.Values.Deliver.{waits-doing, pop-leads, elsewhere-leads, call-result}
 use Rattle.rg_sound.proofs.Frames.Body.{method_end-free}
 use Rattle.rg_sound.proofs.Values.Return.{result-below}
-use Rattle.rg_sound.specs.Frames.{Entered, Waits, WaitsEmpty, Beneath, Running, right_call, with_target, assigned_call, call_of}
+use Rattle.rg_rules.specs.Sides.{right_call}
+use Rattle.rg_sound.specs.Frames.{Entered, Waits, WaitsEmpty, Beneath, Running, with_target, assigned_call, call_of}
 use Rattle.rg_code.specs.Lowering.{assign_op, lowered}
 use Rattle.rg_code.specs.Places.{scope_of}
 use Rattle.rg_stack.specs.Machine.{Frame as Shown, slots_below}

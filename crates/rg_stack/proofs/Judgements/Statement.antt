@@ -39,7 +39,8 @@ use Rattle.rg_sound.proofs.Owners.Data.{Data}
 use Rattle.rg_sound.proofs.Values.Right.{OwnsFreshAs, below-iso, ready-not_lent}
 use Rattle.rg_sound.proofs.Values.Value.{seen-meets, below-meets}
 use Rattle.rg_sound.proofs.Values.Local.{fresh-as}
-use Rattle.rg_sound.specs.Frames.{Named, Running, right_call, with_target, assigned_call, call_of}
+use Rattle.rg_rules.specs.Sides.{right_call}
+use Rattle.rg_sound.specs.Frames.{Named, Running, with_target, assigned_call, call_of}
 use Rattle.rg_code.specs.Code.{Code}
 use Rattle.rg_code.specs.Lowering.{slot_of, type_in, type_along, used_slots, held_number, lowered, target_class}
 use Rattle.rg_code.specs.Places.{scope_of}
