@@ -304,6 +304,8 @@ class Call:
             return True, change
         if re.search(r"(result ≡ (Some|Ok|true)\b|IsOk result|IsSome result)[^→]*$", body) and body != text and not m:
             if "result ≡ " in body[:9] or body.startswith(("IsOk", "IsSome")): return True, frozenset()
+        # an equation of what is left, in which the answer is an argument, holds for each answer
+        if (m := re.match(r"([^→≡]*\.new[^→≡]*) ≡ [^→≡]*$", body)) and not has(m[1], "result"): return False, change
         # that it is answered somewhere isn't that it is answered only there
         if body != text and re.match(r"\(?result ≡ Err\b", body): return False, change
         tells = told(text, "result", None, self.imports, 0, tuple(self.written))

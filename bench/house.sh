@@ -68,8 +68,8 @@ def is_open(below, full):
 
 for path in glob.glob("crates/*/proofs/**/*.antt", recursive=True):
     crate, below = path.split("/")[1], path.split("/proofs/")[0] + "/proofs"
+    place = os.path.relpath(path, below)[: -len(".antt")].replace("/", ".")
     for module in re.findall(r"(?m)^pub mod (\w+)", read(path)):
-        place = os.path.relpath(path, below)[: -len(".antt")].replace("/", ".")
         full = module if place == "Lib" else f"{place}.{module}"
         if os.path.exists(f"{below}/{full.replace('.', '/')}") or not is_open(below, full): continue
         open_ += 1

@@ -2,71 +2,37 @@
 -- its numbers, and a line in front of each body.
 use Rattle.std.specs.Prelude.{ℕ, suc, ◌==◌, if◌then◌else◌, List, [], ◌∷◌, ◌++◌, codes}
 use Rattle.std.specs.Fmt.{decimal, signed_decimal}
+use Rattle.std.specs.List.{flat_map}
 use Rattle.rg_base.specs.Text.{bool_text}
 use Rattle.rg_tree.specs.Tree.{Name, Member, field, method, Class, Tree}
 use Rattle.rg_tree.specs.Canonical.{manager_text}
 use Rattle.rg_code.specs.declared.op.Op.{Op}
-use Rattle.rg_code.specs.declared.op.Op.TheVariants as i
+use Rattle.rg_code.specs.declared.operands.Operand.{Operand}
+use Rattle.rg_code.specs.declared.operands.Operand.TheVariants as p
 use Rattle.rg_code.specs.declared.code.Entry.{Entry}
 use Rattle.rg_code.specs.Code.{Code}
+use Rattle.rg_code.specs.Operands.{name_of, operands_of}
 
--- a number behind a blank
-abbrev pub and_number : ℕ → List ℕ
-and_number n = 32 ∷ decimal n
+-- an operand
+abbrev pub operand_text : Operand → List ℕ
+operand_text (p.Line n) = decimal n
+operand_text (p.Int z) = signed_decimal z
+operand_text (p.Bool b) = bool_text b
+operand_text (p.Slot s) = decimal s
+operand_text (p.From s) = decimal s
+operand_text (p.Field k) = decimal k
+operand_text (p.Class c) = decimal c
+operand_text (p.Method m) = decimal m
+operand_text (p.Address t) = decimal t
+operand_text (p.Manager m) = manager_text m
 
--- an instruction: its name and its numbers
+-- operands, each behind a blank
+abbrev pub operands_text : List Operand → List ℕ
+operands_text ps = flat_map (λ a. 32 ∷ operand_text a) ps
+
+-- an instruction: its name and its operands
 abbrev pub op_text : Op → List ℕ
-op_text (i.Mark line) = codes "mark" ++ and_number line
-op_text (i.Int z) = codes "int " ++ signed_decimal z
-op_text (i.Bool b) = codes "bool " ++ bool_text b
-op_text i.Nil = codes "nil"
-op_text (i.Load s) = codes "load" ++ and_number s
-op_text (i.Clear s) = codes "clear" ++ and_number s
-op_text (i.Store s) = codes "store" ++ and_number s
-op_text (i.Own s) = codes "own" ++ and_number s
-op_text (i.Field k) = codes "field" ++ and_number k
-op_text i.IsNil = codes "isnil"
-op_text i.Neg = codes "neg"
-op_text i.Add = codes "add"
-op_text i.Sub = codes "sub"
-op_text i.Mul = codes "mul"
-op_text i.Div = codes "div"
-op_text i.Rem = codes "rem"
-op_text i.Eq = codes "eq"
-op_text i.Ne = codes "ne"
-op_text i.Lt = codes "lt"
-op_text i.Le = codes "le"
-op_text i.Gt = codes "gt"
-op_text i.Ge = codes "ge"
-op_text i.Not = codes "not"
-op_text (i.Jump t) = codes "jump" ++ and_number t
-op_text (i.JumpFalse t) = codes "jfalse" ++ and_number t
-op_text (i.And t) = codes "and" ++ and_number t
-op_text (i.Or t) = codes "or" ++ and_number t
-op_text i.Check = codes "check"
-op_text (i.New c) = codes "new" ++ and_number c
-op_text (i.NewTmp c) = codes "newtmp" ++ and_number c
-op_text (i.NewIso c m) = codes "newiso" ++ and_number c ++ codes " " ++ manager_text m
-op_text i.Pace = codes "pace"
-op_text (i.Put k) = codes "put" ++ and_number k
-op_text (i.Swap s k) = codes "swap" ++ and_number s ++ and_number k
-op_text (i.Freeze s) = codes "freeze" ++ and_number s
-op_text (i.Merge s) = codes "merge" ++ and_number s
-op_text i.Read = codes "read"
-op_text i.More = codes "more"
-op_text i.Room = codes "room"
-op_text (i.Call m) = codes "call" ++ and_number m
-op_text i.Ret = codes "ret"
-op_text i.RetVoid = codes "retv"
-op_text (i.Enter s z) = codes "enter" ++ and_number s ++ and_number z
-op_text (i.EnterField k z) = codes "enterf" ++ and_number k ++ and_number z
-op_text (i.Leave s) = codes "leave" ++ and_number s
-op_text (i.End s) = codes "end" ++ and_number s
-op_text i.Print = codes "print"
-op_text i.Collect = codes "collect"
-op_text i.Pop = codes "pop"
-op_text i.Drop = codes "drop"
-op_text i.Halt = codes "halt"
+op_text o = name_of o ++ operands_text (operands_of o)
 
 -- an instruction at its address
 abbrev pub op_line : (at : ℕ) → Op → List ℕ

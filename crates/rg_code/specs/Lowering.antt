@@ -15,12 +15,14 @@ use Rattle.rg_rules.specs.Capabilities.{is_iso}
 use Rattle.rg_rules.specs.Types.{class_number, type_of, fields_of, field_place, field_type, method_named, method_result}
 use Rattle.rg_rules.specs.Environment.{same_variable}
 use Rattle.rg_rules.specs.Paths.{all_but_last, last_field}
+use Rattle.rg_rules.specs.Sides.{right_made}
 use Rattle.rg_code.specs.declared.op.Op.{Op}
 use Rattle.rg_code.specs.declared.op.Op.TheVariants as i
 use Rattle.rg_base.specs.declared.value.Word.{Word}
 use Rattle.rg_base.specs.declared.value.Word.TheVariants as word
 use Rattle.rg_code.specs.declared.code.Entry.{Entry}
 use Rattle.rg_code.specs.Code.{Code}
+use Rattle.rg_code.specs.Operands.{operands_of, slots_in, above_all}
 
 -- Slots
 
@@ -228,15 +230,10 @@ right_code classes scope at (result_of c) = call_code classes scope at c
 
 -- what comes last where a right side makes an object by `new C`
 abbrev pub pace_code : Right → List Op
-pace_code (value e) = []
-pace_code (new x) = i.Pace ∷ []
-pace_code (new_tmp x) = []
-pace_code (new_iso x m) = []
-pace_code (freeze y) = []
-pace_code (merge y) = []
-pace_code read = []
-pace_code more = []
-pace_code (result_of c) = []
+pace_code r = elim (right_made r) [
+  | None ↦ []
+  | Some x ↦ i.Pace ∷ []
+]
 
 -- a value goes into a slot that is there: what an `iso` variable owns is released
 abbrev pub assign_op : Scope → Variable → Op
@@ -356,57 +353,7 @@ main_code t = block_code t.classes [] 0 t.body ++ i.Mark t.line ∷ i.End 0 ∷ 
 
 -- the least number above the slots that an instruction names; the slot of `end` doesn't count
 abbrev pub above : Op → ℕ
-above (i.Mark line) = 0
-above (i.Int z) = 0
-above (i.Bool b) = 0
-above i.Nil = 0
-above (i.Load s) = s + 1
-above (i.Clear s) = s + 1
-above (i.Store s) = s + 1
-above (i.Own s) = s + 1
-above (i.Field k) = 0
-above i.IsNil = 0
-above i.Neg = 0
-above i.Add = 0
-above i.Sub = 0
-above i.Mul = 0
-above i.Div = 0
-above i.Rem = 0
-above i.Eq = 0
-above i.Ne = 0
-above i.Lt = 0
-above i.Le = 0
-above i.Gt = 0
-above i.Ge = 0
-above i.Not = 0
-above (i.Jump t) = 0
-above (i.JumpFalse t) = 0
-above (i.And t) = 0
-above (i.Or t) = 0
-above i.Check = 0
-above (i.New c) = 0
-above (i.NewTmp c) = 0
-above (i.NewIso c m) = 0
-above i.Pace = 0
-above (i.Put k) = 0
-above (i.Swap s k) = s + 1
-above (i.Freeze s) = s + 1
-above (i.Merge s) = s + 1
-above i.Read = 0
-above i.More = 0
-above i.Room = 0
-above (i.Call m) = 0
-above i.Ret = 0
-above i.RetVoid = 0
-above (i.Enter s z) = max (s + 1) (z + 1)
-above (i.EnterField k z) = z + 1
-above (i.Leave s) = s + 1
-above (i.End s) = 0
-above i.Print = 0
-above i.Collect = 0
-above i.Pop = 0
-above i.Drop = 0
-above i.Halt = 0
+above o = above_all (slots_in (operands_of o))
 
 -- the number of slots of a body: the least one that isn't below `given` and is above all slots that it names
 abbrev pub slots_of : (given : ℕ) → List Op → ℕ

@@ -10,6 +10,7 @@ mod dues;
 mod headings;
 mod instructions;
 mod op;
+mod operands;
 mod shape;
 mod shapes;
 mod texts;
@@ -17,5 +18,6 @@ mod whole;
 
 pub use code::{CodeList, Entry};
 pub use op::Op;
+pub use operands::{Operand, Operands, above, name_of, number_of, operands_of};
 pub use shape::Shape;
 pub use whole::listing;

@@ -48,13 +48,7 @@ impl Headroom {
 }
 
 impl Pacer for Headroom {
-    ghost asks = { λ p. p.asks };
-
-    ghost yeses = { λ p. p.yeses };
-
-    ghost told = { λ p. p.told };
-
-    ghost tuned = { λ p. p.tuned };
+    ghost tally = { λ p. p };
 
     fn tune(&mut self, every: u64) {
         self.tally.tune(every);

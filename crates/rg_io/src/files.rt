@@ -7,6 +7,7 @@ ghost use Rattle.rg_io.specs.Files.{SameFiles, HasFile, HasLongFile};
 ghost use Rattle.rg_io.specs.Inner.Pieces.{AddsPiece};
 
 use crate::failed::Failed;
+use crate::pieces::PIECE;
 use rg_base::ByteList;
 use std::alloc::Global;
 
@@ -33,6 +34,7 @@ pub trait Files {
         ensures end { IfOk result (λ n. n ≡ 0 → NothingLeft (told self.old)) }
         ensures failed { OnErr result (Rose (faults self.old) (faults self.new)) }
         ensures kept { OnErr result (told self.new ≡ told self.old) }
+        ensures buffer_kept { OnErr result (buf.new ≡ buf.old) }
         ensures never_falls { faults self.old ≤ faults self.new };
 }
 
@@ -46,9 +48,6 @@ pub enum Taken {
     /// no memory was found
     Memory,
 }
-
-/// The largest piece that `take_all` reads at once.
-const PIECE: usize = 4096;
 
 /// Appends a piece of a file of which so many bytes may still come, and answers how many may then.
 fn add_piece(bytes: &mut ByteList, piece: &[u8], left: usize) -> Result<usize, Taken>

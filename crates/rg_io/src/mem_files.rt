@@ -99,6 +99,7 @@ impl Files for MemFiles {
         ensures end { IfOk result (λ n. n ≡ 0 → NothingLeft (Some self.old.told)) }
         ensures failed { OnErr result (Rose self.old.calls.faults self.new.calls.faults) }
         ensures kept { OnErr result (Some self.new.told ≡ Some self.old.told) }
+        ensures buffer_kept { OnErr result (buf.new ≡ buf.old) }
         ensures never_falls { self.old.calls.faults ≤ self.new.calls.faults }
 
         ensures fails_where_named { IsErr result ↔ IsNextFailing self.old.calls }
@@ -108,7 +109,6 @@ impl Files for MemFiles {
           told = record self.old.told { rest = drop n self.old.told.rest };
           calls = with_call self.old.calls;
         }) }
-        ensures buffer_kept { OnErr result (buf.new ≡ buf.old) }
         ensures refused { OnErr result (self.new ≡
             record self.old { calls = with_fault self.old.calls }) }
     {

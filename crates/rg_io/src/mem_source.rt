@@ -95,6 +95,7 @@ impl Source for MemSource {
             IfSome (Some self.old.left) (λ bytes. bytes ≡ [])) }
         ensures failed { OnErr result (Rose self.old.calls.faults self.new.calls.faults) }
         ensures kept { OnErr result (Some self.new.left ≡ Some self.old.left) }
+        ensures buffer_kept { OnErr result (buf.new ≡ buf.old) }
         ensures never_falls { self.old.calls.faults ≤ self.new.calls.faults }
 
         ensures fails_where_named { IsErr result ↔ IsNextFailing self.old.calls }
@@ -103,7 +104,6 @@ impl Source for MemSource {
         ensures moved { IfOk result (λ n. buf.new ≡ take n self.old.left ++ drop n buf.old) }
         ensures passed { IfOk result (λ n. self.new ≡
             record self.old { left = drop n self.old.left; calls = with_call self.old.calls }) }
-        ensures buffer_kept { OnErr result (buf.new ≡ buf.old) }
         ensures refused { OnErr result (self.new ≡
             record self.old { calls = with_fault self.old.calls }) }
     {

@@ -22,5 +22,6 @@ pub trait Source {
         ensures end { IfOk result (λ n. n ≡ 0 → IfSome (left self.old) (λ bytes. bytes ≡ [])) }
         ensures failed { OnErr result (Rose (faults self.old) (faults self.new)) }
         ensures kept { OnErr result (left self.new ≡ left self.old) }
+        ensures buffer_kept { OnErr result (buf.new ≡ buf.old) }
         ensures never_falls { faults self.old ≤ faults self.new };
 }

@@ -8,6 +8,7 @@ ghost use Rattle.rg_io.specs.Untold.{untold_files};
 use crate::calls::one_more;
 use crate::failed::Failed;
 use crate::files::Files;
+use crate::pieces::read_piece;
 use std::fs::File;
 use std::io::Read;
 use std::marker::Model;
@@ -47,14 +48,13 @@ impl<R: SystemFiles> StdFiles<R> {
 // Reads on in the file that was begun, and closes it at its end.
 fn read_on<F: Read + Drop>(file: &mut Option<F>, buf: &mut [u8]) -> Result<usize, Failed>
     requires { 0 < length buf.old }
-    ensures { IfOk result (λ n. n ≤ length buf.new) }
+    ensures within { IfOk result (λ n. n ≤ length buf.new) }
+    ensures buffer_kept { OnErr result (buf.new ≡ buf.old) }
 {
     let Some(open) = file else {
         return Ok(0);
     };
-    let Ok(n) = open.read(buf) else {
-        return Err(Failed);
-    };
+    let n = read_piece(open, buf)?;
     if n == 0 {
         *file = None;
     }
@@ -96,6 +96,7 @@ impl<R: SystemFiles> Files for StdFiles<R> {
         ensures end { IfOk result (λ n. n ≡ 0 → NothingLeft (untold_files self.old)) }
         ensures failed { OnErr result (Rose self.old self.new) }
         ensures kept { OnErr result (untold_files self.new ≡ untold_files self.old) }
+        ensures buffer_kept { OnErr result (buf.new ≡ buf.old) }
         ensures never_falls { self.old ≤ self.new }
 
         ensures same { OnOk result (self.new ≡ self.old) }

@@ -6,6 +6,7 @@ ghost use Rattle.rg_io.specs.Untold.{untold_bytes};
 
 use crate::calls::one_more;
 use crate::failed::Failed;
+use crate::pieces::read_piece;
 use crate::source::Source;
 use std::io::Read;
 use std::marker::Model;
@@ -49,12 +50,13 @@ impl<R: Read> Source for StdSource<R> {
             IfSome (untold_bytes self.old) (λ bytes. bytes ≡ [])) }
         ensures failed { OnErr result (Rose self.old self.new) }
         ensures kept { OnErr result (untold_bytes self.new ≡ untold_bytes self.old) }
+        ensures buffer_kept { OnErr result (buf.new ≡ buf.old) }
         ensures never_falls { self.old ≤ self.new }
 
         ensures same { OnOk result (self.new ≡ self.old) }
         ensures counted { OnErr result (self.new ≡ one_more self.old) }
     {
-        match self.system.read(buf) {
+        match read_piece(&mut self.system, buf) {
             Ok(n) => Ok(n),
             Err(_) => {
                 self.faults = one_more(self.faults);

@@ -11,7 +11,7 @@ use Rattle.rg_heap.specs.Answers.{IsClosed}
 use Rattle.rg_heap.specs.Opened.{IsWindow}
 use Rattle.rg_view.specs.Numbers.{Numbers}
 use Rattle.rg_machine.specs.Stands.{Stands}
-use Rattle.rg_machine.proofs.Grow.{one-key}
+use Rattle.rg_machine.proofs.New.Grow.{one-key}
 use Rattle.rg_machine.proofs.Kept.{numbered}
 
 -- the topmost window

@@ -53,12 +53,12 @@ use Rattle.rg_machine.specs.Collects.{holds}
 use Rattle.rg_machine.specs.Owned.{Holder, Owner, Owns, IsOwned, in_slot, in_field}
 use Rattle.rg_machine.specs.Parts.{Parts as Whole, machine_in}
 use Rattle.rg_machine.specs.Stands.{Stands}
-use Rattle.rg_machine.proofs.Collect.{has-record}
-use Rattle.rg_machine.proofs.Gather.{field-there, frame-slot, holds-there}
+use Rattle.rg_machine.proofs.Callers.Collect.{has-record}
+use Rattle.rg_machine.proofs.Callers.Gather.{field-there, frame-slot, holds-there}
 use Rattle.rg_machine.proofs.Known.{open-not}
-use Rattle.rg_machine.proofs.Part.{once-held, shown-part}
-use Rattle.rg_machine.proofs.Release.{most-one, slot-counts-one, slots-count}
-use Rattle.rg_machine.proofs.Grow.{field-held}
+use Rattle.rg_machine.proofs.Callers.Part.{once-held, shown-part}
+use Rattle.rg_machine.proofs.Release.Behind.{most-one, slot-counts-one, slots-count}
+use Rattle.rg_machine.proofs.New.Grow.{field-held}
 
 -- Counts
 

@@ -32,7 +32,7 @@ use Rattle.rg_heap.specs.Answers.{IsClosed, val_of}
 use Rattle.rg_heap.specs.Opened.{IsWindow}
 use Rattle.rg_heap.specs.Writes.{Comes, InActive, IsTemp, LeadsOut}
 use Rattle.rg_view.specs.View.{frames_of, machine_of, object_of, values_of}
-use Rattle.rg_view.proofs.Callers.Call.{can-swap, owns}
+use Rattle.rg_view.proofs.Callers.Instructions.{can-swap, owns}
 use Rattle.rg_view.proofs.Callers.Frame.{slot-there, top-size}
 use Rattle.rg_view.proofs.Callers.Held.{all-lead}
 use Rattle.rg_view.proofs.Callers.Need.{closed-other, keyed, write-place}
@@ -46,9 +46,9 @@ use Rattle.rg_machine.specs.Parts.{Parts as Whole, machine_in, val_in}
 use Rattle.rg_machine.specs.Cores.{core_of}
 use Rattle.rg_machine.specs.Stands.{AllLead, Leads, Stands}
 use Rattle.rg_machine.specs.declared.next.Next.TheVariants as next
-use Rattle.rg_machine.proofs.Slot.{core-slot, lead-slot, put-backs, stands-word}
-use Rattle.rg_machine.proofs.Field.{Written, core-written, lead-written, leads-written, stands-written, topmost, written}
-use Rattle.rg_machine.proofs.EnterField.{front-lead as lead-front}
+use Rattle.rg_machine.proofs.Write.Slot.{core-slot, lead-slot, put-backs, stands-word}
+use Rattle.rg_machine.proofs.Write.Field.{Written, core-written, lead-written, leads-written, stands-written, topmost, written}
+use Rattle.rg_machine.proofs.Enter.Field.{front-lead as lead-front}
 
 -- words behind which one more stands
 pub get-front : {A : Type 0} → (xs : List A) (y : A) (k : ℕ) (x : A) → slice_get xs k ≡ Some x → slice_get (xs ++ y ∷ []) k ≡ Some x

@@ -11,3 +11,4 @@ pub mod Active
 pub mod High
 pub mod Cores
 pub mod Makes
+pub mod Acts

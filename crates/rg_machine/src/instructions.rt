@@ -1,19 +1,14 @@
 //! One instruction (docs/architecture.md, "The machine").
 
-ghost use Rattle.std.specs.Prelude.{false, true, ◌<◌, ◌-◌, ◌^◌, ◌∷◌, ℕ};
-ghost use Rattle.rg_base.specs.Input.{next_number};
-ghost use Rattle.rg_base.specs.declared.value.Val.TheVariants.{Bool};
-ghost use Rattle.rg_rules.specs.RightSides.{is_left};
-ghost use Rattle.rg_held.specs.Frees.{free_act};
-ghost use Rattle.rg_stack.specs.Effects.{next_taken};
-ghost use Rattle.rg_stack.specs.Refusals.{Computes, Takes, manner};
-ghost use Rattle.rg_machine.specs.Keeps.{Keeping, asking};
-ghost use Rattle.rg_machine.specs.Makes.{Making, making};
-ghost use Rattle.rg_machine.specs.Core.{ActIs, Given};
-ghost use Rattle.rg_machine.specs.Parts.{machine_in};
+ghost use Rattle.std.specs.Prelude.{◌<◌, ◌-◌, ◌^◌};
+ghost use Rattle.rg_code.specs.declared.op.Op.TheVariants as i;
+ghost use Rattle.rg_machine.specs.Acts.{Does, DoesAt};
+ghost use Rattle.rg_machine.specs.Core.{Given};
 ghost use Rattle.rg_machine.specs.Cores.{core_of};
 
-use crate::creating::{new, new_iso, new_temp};
+mod new;
+
+use crate::instructions::new::{new_iso, new_object, new_temp};
 use crate::jumps::{and, jump_false, or};
 use crate::machine::Machine;
 use crate::next::Next;
@@ -25,10 +20,7 @@ use rg_tree::BinOp;
 
 /// Leaves a place on the stack for the next number.
 fn ask_number(p: &mut Machine) -> Next
-    ensures effect { (at : ℕ) → ActIs (λ go stack x. next_taken (next_number x.input) go stack x)
-        at (core_of p.old) (core_of p.new) result }
-    ensures keeps { Keeping Takes true (machine_in p.old) (machine_in p.new) result }
-    ensures high { Making Takes false p.old.heap p.new.heap result }
+    ensures { Does i.Read p.old p.new result }
 {
     match p.push(Word::Nil) {
         Ok(()) => Next::Read,
@@ -38,11 +30,7 @@ fn ask_number(p: &mut Machine) -> Next
 
 /// Leaves a place on the stack for whether anything is left.
 fn ask_more(p: &mut Machine) -> Next
-    ensures effect { (at : ℕ) → ActIs (λ go stack x.
-        go 0 (Bool (is_left (next_number x.input)) ∷ stack) x)
-        at (core_of p.old) (core_of p.new) result }
-    ensures keeps { Keeping Computes true (machine_in p.old) (machine_in p.new) result }
-    ensures high { Making Computes false p.old.heap p.new.heap result }
+    ensures { Does i.More p.old p.new result }
 {
     match p.push(Word::Nil) {
         Ok(()) => Next::More,
@@ -55,9 +43,7 @@ fn ask_more(p: &mut Machine) -> Next
 pub fn act(p: &mut Machine, code: &CodeList, at: usize, op: Op) -> Next
     requires near { at < 2 ^ 64 - 1 }
     requires given { Given code.now op (core_of p.old) }
-    ensures effect { ActIs (free_act code.now at op) at (core_of p.old) (core_of p.new) result }
-    ensures keeps { Keeping (manner op) (asking op) (machine_in p.old) (machine_in p.new) result }
-    ensures high { Making (manner op) (making op) p.old.heap p.new.heap result }
+    ensures { DoesAt code.now at op p.old p.new result }
 {
     match op {
         Op::Mark { line: _ } => Next::Stop(at),
@@ -91,7 +77,7 @@ pub fn act(p: &mut Machine, code: &CodeList, at: usize, op: Op) -> Next
         Op::And { to } => and(p, to),
         Op::Or { to } => or(p, to),
         Op::Check => check(p),
-        Op::New { class } => new(p, code, class),
+        Op::New { class } => new_object(p, code, class),
         Op::NewTmp { class } => new_temp(p, code, class),
         Op::NewIso { class, manager } => new_iso(p, code, class, manager),
         Op::Pace => Next::On,
@@ -112,7 +98,7 @@ pub fn act(p: &mut Machine, code: &CodeList, at: usize, op: Op) -> Next
         Op::Print => print(p),
         Op::Collect => Next::On,
         Op::Pop => p.pop_top(),
-        Op::Drop => p.drop_top(),
+        Op::Drop => p.pop_top(),
         Op::Halt => Next::Stop(at),
     }
 }

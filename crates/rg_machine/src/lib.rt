@@ -6,7 +6,6 @@
 //! a state that fits a program is shown (`IsOwned`).
 #![tactic(auto)]
 
-mod creating;
 mod instructions;
 mod jumps;
 mod machine;
@@ -18,3 +17,4 @@ mod variables;
 pub use instructions::act;
 pub use machine::Machine;
 pub use next::Next;
+pub use scalars::{leads_nowhere, truth};

@@ -1,7 +1,7 @@
 //! What the machine holds (docs/architecture.md, "The machine").
 
 ghost use Rattle.std.specs.Prelude.{◌≡◌, ◌∷◌, [], None, Some, Ok, Err, IfOk, IfErr};
-ghost use Rattle.std.specs.Prelude.{IfSome, OnErr, OnOk, drop, length, nat_lt, slice_get};
+ghost use Rattle.std.specs.Prelude.{IfSome, OnErr, OnOk, length, nat_lt, slice_get};
 ghost use Rattle.std.specs.Prelude.{unwrap_or};
 ghost use Rattle.rg_base.specs.declared.limits.TheConstants.{FRAMES as FRAMES_MOST};
 ghost use Rattle.rg_base.specs.declared.object.Seen.{Seen as Object};
@@ -12,23 +12,23 @@ ghost use Rattle.rg_heap.specs.Answers.{Shows};
 ghost use Rattle.rg_held.specs.Shown.{Finds};
 ghost use Rattle.rg_rules.specs.Evaluation.{object_at};
 ghost use Rattle.rg_code.specs.declared.op.Op.TheVariants as i;
-ghost use Rattle.rg_stack.specs.Machine.{put_slot, slot_at};
+ghost use Rattle.rg_stack.specs.Machine.{slot_at};
 ghost use Rattle.rg_stack.specs.Effects.{frame_number};
-ghost use Rattle.rg_machine.specs.Core.{Has, below_top, started, with_machine, with_top};
-ghost use Rattle.rg_machine.specs.Keeps.{GoesBack, SameBacks};
+ghost use Rattle.rg_machine.specs.Core.{Has, below_top, with_top};
+ghost use Rattle.rg_machine.specs.Keeps.{GoesBack};
 ghost use Rattle.rg_machine.specs.Parts.{SameStore, machine_in, opening, val_in};
 ghost use Rattle.rg_machine.specs.Cores.{core_of};
 ghost use Rattle.rg_machine.specs.Parts.{with_word};
 ghost use Rattle.rg_machine.specs.Stands.{Leads};
 
-mod calls;
+mod call;
 mod collecting;
 mod ending;
-mod making;
-mod moving;
+mod enter;
+mod moves;
+mod new;
 mod numbers;
 mod reading;
-mod windows;
 mod writing;
 
 use rg_base::{FRAMES, Manager, Memory, Seen, Trap, Val, Word};

@@ -8,7 +8,7 @@ ghost use Rattle.rg_module.specs.Follows as follows;
 ghost use Rattle.rg_module.specs.Follows.{opening, body, entries};
 
 use rg_base::{Memory, Ty, Word};
-use rg_code::{CodeList, Entry, Op};
+use rg_code::{CodeList, Entry, Op, above};
 use rg_spell::{Head, Shape};
 use std::alloc::Global;
 
@@ -64,47 +64,16 @@ fn add_openings(alloc: Global, code: &mut CodeList, shapes: &[Shape]) -> Result<
 fn ends_body(op: Op) -> bool
     ensures { result ≡ follows.ends_body op }
 {
-    match op {
-        Op::Ret | Op::RetVoid | Op::Halt => true,
-        Op::Mark { .. } | Op::Int { .. } | Op::Bool { .. } | Op::Nil => false,
-        Op::Load { .. } | Op::Clear { .. } | Op::Store { .. } | Op::Own { .. } => false,
-        Op::Field { .. } | Op::IsNil | Op::Neg | Op::Not => false,
-        Op::Add | Op::Sub | Op::Mul | Op::Div | Op::Rem => false,
-        Op::Eq | Op::Ne | Op::Lt | Op::Le | Op::Gt | Op::Ge => false,
-        Op::Jump { .. } | Op::JumpFalse { .. } | Op::And { .. } | Op::Or { .. } => false,
-        Op::Check | Op::New { .. } | Op::NewTmp { .. } | Op::NewIso { .. } | Op::Pace => false,
-        Op::Put { .. } | Op::Swap { .. } | Op::Freeze { .. } | Op::Merge { .. } => false,
-        Op::Read | Op::More | Op::Room | Op::Call { .. } => false,
-        Op::Enter { .. } | Op::EnterField { .. } | Op::Leave { .. } | Op::End { .. } => false,
-        Op::Print | Op::Collect | Op::Pop | Op::Drop => false,
+    if let Op::Ret = op {
+        return true;
     }
-}
-
-// The least number above the slots that an instruction names; the slot of `end` doesn't count.
-fn above(op: Op) -> u64
-    ensures { result ≡ lowering.above op }
-{
-    match op {
-        Op::Load { slot } => slot as u64 + 1,
-        Op::Clear { slot } => slot as u64 + 1,
-        Op::Store { slot } => slot as u64 + 1,
-        Op::Own { slot } => slot as u64 + 1,
-        Op::Swap { slot, .. } => slot as u64 + 1,
-        Op::Freeze { slot } => slot as u64 + 1,
-        Op::Merge { slot } => slot as u64 + 1,
-        Op::Leave { slot } => slot as u64 + 1,
-        Op::Enter { slot, bridge } => greater(slot as u64 + 1, bridge as u64 + 1),
-        Op::EnterField { bridge, .. } => bridge as u64 + 1,
-        Op::Mark { .. } | Op::Int { .. } | Op::Bool { .. } | Op::Nil => 0,
-        Op::Field { .. } | Op::IsNil | Op::Neg | Op::Not => 0,
-        Op::Add | Op::Sub | Op::Mul | Op::Div | Op::Rem => 0,
-        Op::Eq | Op::Ne | Op::Lt | Op::Le | Op::Gt | Op::Ge => 0,
-        Op::Jump { .. } | Op::JumpFalse { .. } | Op::And { .. } | Op::Or { .. } => 0,
-        Op::Check | Op::New { .. } | Op::NewTmp { .. } | Op::NewIso { .. } | Op::Pace => 0,
-        Op::Put { .. } | Op::Read | Op::More | Op::Room | Op::Call { .. } => 0,
-        Op::End { .. } | Op::Ret | Op::RetVoid => 0,
-        Op::Print | Op::Collect | Op::Pop | Op::Drop | Op::Halt => 0,
+    if let Op::RetVoid = op {
+        return true;
     }
+    if let Op::Halt = op {
+        return true;
+    }
+    false
 }
 
 // The greater of two numbers.

@@ -19,17 +19,17 @@ use Rattle.rg_held.specs.Gather.{Gathered}
 use Rattle.rg_held.specs.Shown.{ShowsHeld}
 use Rattle.rg_machine.specs.Collects.{holds}
 use Rattle.rg_machine.specs.Parts.{Parts, machine_in}
-use Rattle.rg_machine.proofs.Collect.{Active, active}
-use Rattle.rg_machine.proofs.Part.{shown-part}
-use Rattle.rg_machine.proofs.ReachShown.{Beside}
+use Rattle.rg_machine.proofs.Callers.Collect.{Active, active}
+use Rattle.rg_machine.proofs.Callers.Part.{shown-part}
+use Rattle.rg_machine.proofs.Callers.ReachShown.{Beside}
 use Rattle.rg_step.specs.Pacers.{Asks}
 use Rattle.rg_step.specs.Collections.{CollectsAsked, CollectsOn, GathersBy, IsCollected, Paces, Serves, ServesBy, event_of}
 use Rattle.rg_step.specs.States.{OneStep, Standing}
 use Rattle.rg_step.specs.Steps.{Runs, is_made}
 use Rattle.rg_step.specs.Stepping.{Stepping}
-use Rattle.rg_step.proofs.Active.{active-of}
-use Rattle.rg_step.proofs.Reached.{last-is, longer, serves-told, went-is}
-use Rattle.rg_step.proofs.Serve.{made-went}
+use Rattle.rg_step.proofs.Callers.Active.{active-of}
+use Rattle.rg_step.proofs.Callers.Reached.{last-is, longer, serves-told, went-is}
+use Rattle.rg_step.proofs.Callers.Serve.{made-went}
 use Rattle.rg_once.specs.Once.{Tells, TellsNone}
 use Rattle.rg_once.proofs.Kept.{Collecting, collecting}
 

@@ -18,11 +18,11 @@ use Rattle.rg_view.proofs.Callers.Look.{store-held}
 use Rattle.rg_view.proofs.Callers.Shown.{held-body}
 use Rattle.rg_machine.specs.Collects.{holds}
 use Rattle.rg_machine.specs.Stands.{Stands}
-use Rattle.rg_machine.proofs.Gather.{holds-back, holds-there}
-use Rattle.rg_machine.proofs.Part.{gone-shown, held-shown}
-use Rattle.rg_machine.proofs.ReachCount.{distinct-map, mapped-back, mapped-in, serial_in}
-use Rattle.rg_machine.proofs.ReachPath.{no-longer}
-use Rattle.rg_machine.proofs.ReachShown.{label-of}
+use Rattle.rg_machine.proofs.Callers.Gather.{holds-back, holds-there}
+use Rattle.rg_machine.proofs.Callers.Part.{gone-shown, held-shown}
+use Rattle.rg_machine.proofs.Callers.ReachCount.{distinct-map, mapped-back, mapped-in, serial_in}
+use Rattle.rg_machine.proofs.Callers.ReachPath.{no-longer}
+use Rattle.rg_machine.proofs.Callers.ReachShown.{label-of}
 
 -- a cell with the serial of a body, and the same label and fields
 pub record Also (h g : Heap) (b : Body) : Type 0 where

@@ -4,7 +4,7 @@ use Rattle.std.proofs.lemmas.Bool.{cases_lt as order}
 use Rattle.rg_sound.proofs.Stores.Member.{In}
 use Rattle.rg_cells.specs.Table.{Heap}
 use Rattle.rg_regions.specs.Grove.{Above, Parent, direct, further}
-use Rattle.rg_machine.proofs.ReachPath.{Distinct, no-longer}
+use Rattle.rg_machine.proofs.Callers.ReachPath.{Distinct, no-longer}
 
 -- the numbers below another one
 abbrev upto : ℕ → List ℕ

@@ -9,7 +9,7 @@ use Rattle.rg_stack.specs.Effects.{top_region}
 use Rattle.rg_stack.specs.Machine.{Machine}
 use Rattle.rg_held.specs.Gather.{Gathered, LinkOut, Loses, first, further}
 use Rattle.rg_held.specs.Gone.{gone}
-use Rattle.rg_machine.proofs.Slid.{same-lists}
+use Rattle.rg_machine.proofs.Callers.Slid.{same-lists}
 
 -- truth values each of which follows from the other
 pub both-ways : (x y : Truth) → (x ≡ true → y ≡ true) → (y ≡ true → x ≡ true) → x ≡ y

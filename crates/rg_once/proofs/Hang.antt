@@ -21,7 +21,7 @@ use Rattle.rg_sound.proofs.LocalRoots.{label-region}
 use Rattle.rg_stack.specs.Labels.{is_open, is_outside}
 use Rattle.rg_stack.specs.Machine.{Machine}
 use Rattle.rg_stack.specs.Needs.{places_into}
-use Rattle.rg_stack.proofs.Needs.Once.{owned_once-fits}
+use Rattle.rg_stack.proofs.Callers.Once.{owned_once-fits}
 use Rattle.rg_held.specs.Gone.{gone}
 use Rattle.rg_held.specs.Part.{FieldInto, Placed}
 use Rattle.rg_held.specs.Shown.{ShowsHeld}
@@ -29,7 +29,7 @@ use Rattle.rg_held.proofs.Gather.Whole.{shows-fit}
 use Rattle.rg_held.proofs.Places.{field-field, once, region-into, slot-field}
 use Rattle.rg_machine.specs.Collects.{holds}
 use Rattle.rg_machine.specs.Parts.{machine_in}
-use Rattle.rg_machine.proofs.Part.{gone-shown, held-shown}
+use Rattle.rg_machine.proofs.Callers.Part.{gone-shown, held-shown}
 use Rattle.rg_step.specs.Frees.{LeftTable}
 use Rattle.rg_step.specs.States.{Standing}
 use Rattle.rg_once.proofs.Answer.{Answer, beside, mid, shown}

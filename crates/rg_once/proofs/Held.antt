@@ -31,10 +31,10 @@ use Rattle.rg_held.specs.Shown.{ShowsHeld}
 use Rattle.rg_held.proofs.Places.{RefTo, into-back}
 use Rattle.rg_machine.specs.Collects.{holds}
 use Rattle.rg_machine.specs.Parts.{Parts, machine_in}
-use Rattle.rg_machine.proofs.Gather.{holds-back}
-use Rattle.rg_machine.proofs.Part.{gone-shown, held-shown}
-use Rattle.rg_machine.proofs.ReachShown.{lies-there}
-use Rattle.rg_machine.proofs.Slid.{same-lists}
+use Rattle.rg_machine.proofs.Callers.Gather.{holds-back}
+use Rattle.rg_machine.proofs.Callers.Part.{gone-shown, held-shown}
+use Rattle.rg_machine.proofs.Callers.ReachShown.{lies-there}
+use Rattle.rg_machine.proofs.Callers.Slid.{same-lists}
 use Rattle.rg_step.specs.Frees.{LeftTable}
 use Rattle.rg_step.specs.States.{Standing}
 use Rattle.rg_once.specs.Once.{HoldTheSame}
@@ -165,7 +165,8 @@ module _ {t : Tree} {code : Code} {old : Standing} {p q : State} {new other : St
 
   not-gone : (a : ℕ) → held a ≡ true → slice_get (machine_in (mid w)).store a ≡ Some gone → ⊥
   not-gone a h e =
-      let x = held-shown (mid w).heap (mid w).frames (beside w).serials (beside w).stands w.step.serves.sound.windows a h in x.2 (same_Some x.0 gone (sym x.1 ∙ e))
+      let x = held-shown (mid w).heap (mid w).frames (beside w).serials (beside w).stands w.step.serves.sound.windows a h in
+      x.2 (same_Some x.0 gone (sym x.1 ∙ e))
 
   abbrev before : ShowsHeld t.classes code was p
   before = w.runs.shows

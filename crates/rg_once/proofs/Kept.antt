@@ -36,17 +36,17 @@ use Rattle.rg_view.proofs.Callers.Link.{label-in}
 use Rattle.rg_view.proofs.Callers.Shown.{held-body}
 use Rattle.rg_machine.specs.Collects.{holds}
 use Rattle.rg_machine.specs.Parts.{Parts as Whole}
-use Rattle.rg_machine.proofs.Active.{on-each}
-use Rattle.rg_machine.proofs.Collect.{Active, lead-behind, root-stays, roots_in, was}
-use Rattle.rg_machine.proofs.Gather.{holds-back, holds-there}
-use Rattle.rg_machine.proofs.Part.{once-held}
-use Rattle.rg_machine.proofs.ReachHeld.{body-was, reach-kept, start-kept}
-use Rattle.rg_machine.proofs.Reach.{kept-in}
-use Rattle.rg_machine.proofs.ReachRoot.{root-leads}
-use Rattle.rg_machine.proofs.ReachShown.{Beside, TopShown, label-of, region-there, roots-are, top-shown}
-use Rattle.rg_machine.proofs.Shift.{holds-shift}
-use Rattle.rg_machine.proofs.Slid.{moves}
-use Rattle.rg_machine.proofs.SlidReach.{collects, left, shifted}
+use Rattle.rg_machine.proofs.Callers.Active.{on-each}
+use Rattle.rg_machine.proofs.Callers.Collect.{Active, lead-behind, root-stays, roots_in, was}
+use Rattle.rg_machine.proofs.Callers.Gather.{holds-back, holds-there}
+use Rattle.rg_machine.proofs.Callers.Part.{once-held}
+use Rattle.rg_machine.proofs.Callers.ReachHeld.{body-was, reach-kept, start-kept}
+use Rattle.rg_machine.proofs.Callers.Reach.{kept-in}
+use Rattle.rg_machine.proofs.Callers.ReachRoot.{root-leads}
+use Rattle.rg_machine.proofs.Callers.ReachShown.{Beside, TopShown, label-of, region-there, roots-are, top-shown}
+use Rattle.rg_machine.proofs.Callers.Shift.{holds-shift}
+use Rattle.rg_machine.proofs.Callers.Slid.{moves}
+use Rattle.rg_machine.proofs.Callers.SlidReach.{collects, left, shifted}
 use Rattle.rg_stack.specs.Shows.{sizes_of}
 use Rattle.rg_view.specs.View.{frames_of}
 use Rattle.rg_step.specs.Collections.{CollectsTop}

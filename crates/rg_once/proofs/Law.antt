@@ -22,9 +22,9 @@ use Rattle.rg_machine.specs.Parts.{Parts, machine_in}
 use Rattle.rg_step.specs.Collections.{CollectsAsked, Serves, event_of}
 use Rattle.rg_step.specs.States.{Standing}
 use Rattle.rg_step.specs.Steps.{Counts, Settles, counted, is_made}
-use Rattle.rg_step.proofs.Active.{shown-manager}
-use Rattle.rg_step.proofs.Reached.{longer, went-is}
-use Rattle.rg_step.proofs.Serve.{made-went}
+use Rattle.rg_step.proofs.Callers.Active.{shown-manager}
+use Rattle.rg_step.proofs.Callers.Reached.{longer, went-is}
+use Rattle.rg_step.proofs.Callers.Serve.{made-went}
 use Rattle.rg_once.proofs.Moves.{moves}
 use Rattle.rg_once.specs.Once.{HoldTheSame, StepsOnce, Tells}
 use Rattle.rg_once.proofs.Answer.{Answer, does, mid, none-told, rest-is, shown}

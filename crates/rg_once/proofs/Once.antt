@@ -20,9 +20,9 @@ use Rattle.rg_view.proofs.Callers.Link.{label-in}
 use Rattle.rg_view.proofs.Callers.Look.{store-held}
 use Rattle.rg_machine.specs.Collects.{holds}
 use Rattle.rg_machine.specs.Parts.{Parts, machine_in}
-use Rattle.rg_machine.proofs.Gather.{holds-back}
+use Rattle.rg_machine.proofs.Callers.Gather.{holds-back}
 use Rattle.rg_step.specs.States.{Standing}
-use Rattle.rg_step.proofs.Told.{event-told}
+use Rattle.rg_step.proofs.Callers.Told.{event-told}
 use Rattle.rg_once.specs.Once.{HoldTheSame, Tells}
 use Rattle.rg_once.proofs.Answer.{Answer, Made, beside, collects-so, few-behind, gathered, last, made-of, mid, region-is, top, top-is}
 use Rattle.rg_once.proofs.Cell.{Within, held-same, members-fewer, within}

@@ -28,7 +28,7 @@ use Rattle.rg_held.specs.Part.{Part, leads_to}
 use Rattle.rg_held.specs.Shown.{ShowsHeld}
 use Rattle.rg_machine.specs.Collects.{holds}
 use Rattle.rg_machine.specs.Parts.{machine_in}
-use Rattle.rg_machine.proofs.Part.{gone-shown}
+use Rattle.rg_machine.proofs.Callers.Part.{gone-shown}
 use Rattle.rg_step.specs.States.{Standing}
 use Rattle.rg_once.proofs.Answer.{Answer, beside, mid, shown}
 use Rattle.rg_once.proofs.Held.{longer-get, numbers-shown, regions-shown}

@@ -13,8 +13,8 @@ use Rattle.rg_regions.specs.Table.{InTable, Record, record_at}
 use Rattle.rg_frames.specs.Stack.{Stack}
 use Rattle.rg_heap.specs.Parts.{Parts}
 use Rattle.rg_machine.specs.Stands.{Stands}
-use Rattle.rg_machine.proofs.Collect.{has-record}
-use Rattle.rg_machine.proofs.ReachPath.{Distinct, no-longer}
+use Rattle.rg_machine.proofs.Callers.Collect.{has-record}
+use Rattle.rg_machine.proofs.Callers.ReachPath.{Distinct, no-longer}
 use Rattle.rg_once.proofs.Cell.{Within, mate, mates-lie}
 
 abbrev numbers_in : List (Option Record) → List ℕ

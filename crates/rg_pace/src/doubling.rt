@@ -41,13 +41,7 @@ impl Doubling {
 }
 
 impl Pacer for Doubling {
-    ghost asks = { λ p. p.tally.asks };
-
-    ghost yeses = { λ p. p.tally.yeses };
-
-    ghost told = { λ p. p.tally.told };
-
-    ghost tuned = { λ p. p.tally.tuned };
+    ghost tally = { λ p. p.tally };
 
     fn tune(&mut self, every: u64)
         ensures { self.new ≡

@@ -35,13 +35,7 @@ impl EveryN {
 }
 
 impl Pacer for EveryN {
-    ghost asks = { λ p. p.asks };
-
-    ghost yeses = { λ p. p.yeses };
-
-    ghost told = { λ p. p.told };
-
-    ghost tuned = { λ p. p.tuned };
+    ghost tally = { λ p. p };
 
     fn tune(&mut self, every: u64)
         ensures { self.new ≡ with_tune self.old every }

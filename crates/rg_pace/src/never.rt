@@ -34,13 +34,7 @@ impl Never {
 }
 
 impl Pacer for Never {
-    ghost asks = { λ p. p.asks };
-
-    ghost yeses = { λ p. p.yeses };
-
-    ghost told = { λ p. p.told };
-
-    ghost tuned = { λ p. p.tuned };
+    ghost tally = { λ p. p };
 
     fn tune(&mut self, every: u64)
         ensures { self.new ≡ with_tune self.old every }

@@ -1,36 +1,22 @@
 //! What a pacer is, and the two that a run takes (docs/architecture.md, "Pacers").
 
-ghost use Rattle.std.specs.Prelude.{◌≡◌, ℕ, if◌then◌else◌};
-ghost use Rattle.rg_base.specs.declared.event.Census.{Census};
-ghost use Rattle.rg_pace.specs.Asked.{one_more};
+ghost use Rattle.std.specs.Prelude.{◌≡◌};
+ghost use Rattle.rg_pace.specs.Asked.{Asked, with_ask, with_tune};
 
 use rg_base::Census;
 
 /// Says whether the active region is to be collected. It tells how often it was asked, how often
-/// it said yes, what it was told last, and the number that it was tuned to.
+/// it said yes, what it was told last, and the number that it was tuned to: its tally.
 pub trait Pacer: Drop {
-    ghost asks: { Self → ℕ };
+    ghost tally: { Self → Asked };
 
-    ghost yeses: { Self → ℕ };
-
-    ghost told: { Self → Census };
-
-    ghost tuned: { Self → ℕ };
-
-    /// Sets the number of `--every`.
+    /// Sets the number of `--every`, and nothing else.
     fn tune(&mut self, every: u64)
-        ensures tuned { tuned self.new ≡ every }
-        ensures asks { asks self.new ≡ asks self.old }
-        ensures yeses { yeses self.new ≡ yeses self.old }
-        ensures told { told self.new ≡ told self.old };
+        ensures { tally self.new ≡ with_tune (tally self.old) every };
 
     /// Asks whether the region of this census is to be collected. What is answered is free.
     fn ask(&mut self, census: Census) -> bool
-        ensures asks { asks self.new ≡ one_more (asks self.old) }
-        ensures yeses { yeses self.new ≡
-            (if result then one_more (yeses self.old) else yeses self.old) }
-        ensures told { told self.new ≡ census }
-        ensures tuned { tuned self.new ≡ tuned self.old };
+        ensures { tally self.new ≡ with_ask (tally self.old) census result };
 }
 
 /// A pacer for regions of each manager that collects.

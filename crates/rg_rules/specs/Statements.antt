@@ -1,12 +1,12 @@
 -- The environment behind a statement or a block, or the first fault (docs/language.md, "Judgements").
-use Rattle.std.specs.Prelude.{ℕ, Bool as Truth, true, false, not as negated, ◌||◌, List, [], ◌∷◌, Option, Some, None, ok_or, Ok, Err}
+use Rattle.std.specs.Prelude.{ℕ, Bool as Truth, true, false, not as negated, ◌||◌, List, [], ◌∷◌, Option, Some, None, is_some, ok_or, Ok, Err}
 use Rattle.rg_base.specs.declared.words.Cap.TheVariants.{Mut}
 use Rattle.rg_base.specs.declared.ty.Ty.{Ty}
 use Rattle.rg_base.specs.declared.ty.Ty.TheVariants.{Bool, Ref}
 use Rattle.rg_base.specs.declared.fault.Code.TheVariants.{Unknown, Duplicate, Mismatch, Unavailable, OutsideWindow, Loop, IsoField, Return}
 use Rattle.rg_base.specs.declared.fault.Code.TheVariants.{CallTarget}
-use Rattle.rg_tree.specs.Tree.{Name, Variable, Ty as Written, Path, Expr, Call, Right, value, new, new_tmp, new_iso, freeze, merge, read, more}
-use Rattle.rg_tree.specs.Tree.{result_of, Stmt, stmt, StmtKind, declare, assign, call, swap, branch, while, enter, print, collect, return, Else}
+use Rattle.rg_tree.specs.Tree.{Name, Variable, Ty as Written, Path, Expr, Call, Right}
+use Rattle.rg_tree.specs.Tree.{Stmt, stmt, StmtKind, declare, assign, call, swap, branch, while, enter, print, collect, return, Else}
 use Rattle.rg_tree.specs.Tree.{no_else, otherwise, Block, empty as none, then as next, Class}
 use Rattle.rg_rules.specs.Answers.{◌>>=◌, ◌>>◌, test, Answer, Lined, at_line}
 use Rattle.rg_rules.specs.Capabilities.{is_iso, iso_class, same_type, stays_at_depth, printable}
@@ -15,6 +15,7 @@ use Rattle.rg_rules.specs.Environment.{Env, entry_of, visible, at_depth, with_va
 use Rattle.rg_rules.specs.Environment.{joined, covers}
 use Rattle.rg_rules.specs.Paths.{writable_field}
 use Rattle.rg_rules.specs.Expressions.{judge_expr}
+use Rattle.rg_rules.specs.Sides.{right_call}
 use Rattle.rg_rules.specs.Rights.{judge_call, judge_right}
 
 -- `let x: T = r;`
@@ -27,15 +28,7 @@ judge_declare classes env x t r = do
 
 -- whether a right side is a call
 abbrev pub is_call : Right → Truth
-is_call (value e) = false
-is_call (new x) = false
-is_call (new_tmp x) = false
-is_call (new_iso x m) = false
-is_call (freeze y) = false
-is_call (merge y) = false
-is_call read = false
-is_call more = false
-is_call (result_of c) = true
+is_call r = is_some (right_call r)
 
 -- `x = r;` and `q.f = r;`
 abbrev pub judge_assign : List Class → Env → Variable → List Name → Right → Answer Env

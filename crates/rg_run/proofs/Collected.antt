@@ -1,7 +1,7 @@
 -- The collections of a run, one step after another.
 use Rattle.std.proofs.Common.{◌≡◌, ◌≢◌, ◌-◌, ◌^◌, ◌≤◌, ◌<◌, ◌⊎◌, inl, inr, ℕ, zero, suc, ◌+◌, true, List, [], ◌∷◌, ◌++◌, length, Option, Some, None}
-use Rattle.std.proofs.Common.{refl, sym, ap, subst, ◌∙◌, arith, slice_get, add-one, append-nil}
-use Rattle.std.proofs.lemmas.Option.{none-some, same_Some, slice_get_within}
+use Rattle.std.proofs.Common.{refl, sym, ap, subst, ◌∙◌, arith, slice_get, add-one}
+use Rattle.std.proofs.lemmas.Option.{none-some, same_Some}
 use Rattle.std.proofs.lemmas.Bool.{cases_lt as order}
 use Rattle.std.proofs.lemmas.List.{append_cancel_left}
 use Rattle.rg_base.specs.declared.event.Cause.TheVariants.{Asked}
@@ -16,7 +16,7 @@ use Rattle.rg_tree.specs.Rows.RowTrees.{program_of}
 use Rattle.rg_rules.specs.Items.{Item}
 use Rattle.rg_rules.specs.State.{State, active}
 use Rattle.rg_rules.specs.Steps.{Went, next}
-use Rattle.rg_rules.specs.Runs.{Running, opening, plain, plain_from}
+use Rattle.rg_rules.specs.Runs.{opening, plain, plain_from}
 use Rattle.rg_rules.proofs.Run.{one_more, one_more-went, plain_from-suc}
 use Rattle.rg_code.specs.Code.{Code}
 use Rattle.rg_code.specs.Dues.{due_at}
@@ -26,7 +26,7 @@ use Rattle.rg_stack.specs.Machine.{Machine}
 use Rattle.rg_stack.proofs.Callers.Due.{steps-due}
 use Rattle.rg_step.specs.States.{OneStep, Standing}
 use Rattle.rg_step.specs.Steps.{Leapt, counted, is_made}
-use Rattle.rg_step.proofs.Told.{EventTold, asked-told, event-told}
+use Rattle.rg_step.proofs.Callers.Told.{EventTold, asked-told, event-told}
 use Rattle.rg_run.specs.Collected.{IsManaged, Tells, Told}
 use Rattle.rg_run.specs.Inner.{Adds, OneMore, behind}
 use Rattle.rg_run.proofs.Ask.{at}

@@ -31,8 +31,8 @@ use Rattle.rg_code.specs.Code.{Code}
 use Rattle.rg_stack.specs.Machine.{Frame, Machine}
 use Rattle.rg_stack.specs.Labels.{is_open}
 use Rattle.rg_stack.specs.Shows.{Shows, ShowsFrame, ShowsFrames, sizes_of}
-use Rattle.rg_stack.proofs.Needs.Lead.{ShowsFit, LeadsInto, into-leads, shown-closed, open-shown, shown-number}
-use Rattle.rg_stack.proofs.Needs.Lead.{frame-leads, leads-more, field-leads}
+use Rattle.rg_stack.proofs.Callers.Lead.{ShowsFit, LeadsInto, into-leads, shown-closed, open-shown, shown-number}
+use Rattle.rg_stack.proofs.Callers.Lead.{frame-leads, leads-more, field-leads}
 use Rattle.rg_held.specs.Gone.{gone}
 use Rattle.rg_held.specs.Part.{leads_to, SlotInto, FieldInto, Placed, Part}
 use Rattle.rg_held.specs.Shown.{ShowsHeld}

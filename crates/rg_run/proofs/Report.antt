@@ -24,13 +24,10 @@ use Rattle.rg_step.specs.Stepping.{Stepping}
 use Rattle.rg_step.specs.Collections.{IsCollected, IsLeft, CollectsOn, CollectsAsked, Paces, Serves, ServesBy, event_of}
 use Rattle.rg_step.specs.Pacers.{Asks}
 use Rattle.rg_run.specs.Inner.{CutsLine, Gives, IsUntold, OneMore, Adds, behind}
+use Rattle.rg_run.specs.Asked.{SameTuned}
 use Rattle.rg_run.specs.Reports.{Reports, event_lines}
 
 -- What a step adds
-
--- the numbers that the pacers were tuned to are the same
-abbrev pub SameTuned : (before after : Asks) → Type 0
-SameTuned before after = (after.count.tuned ≡ before.count.tuned) × (after.trace.tuned ≡ before.trace.tuned)
 
 left-more : (mid : Parts) (events : List Event) (new : Stepping) → IsLeft mid events new → OneMore new.steps events new.events
 left-more mid events new h = inl h.events_are
@@ -200,18 +197,6 @@ split [] told e there small = none-some there
 split (x ∷ xs) zero e there small = only x xs e (same_Some x e there) (omega (arith, small))
 split (x ∷ xs) (suc i) e there small = ap (λ q. x ∷ q) (split xs i e there (omega (arith, small)))
 
--- without a report
-pub told-none : (report : Bool) (xs ys : List Event) (first now : Option (List ℕ)) → report ≡ false →
-    Reports report ended.Spent xs first now → Reports report ended.Spent ys first now
-told-none false xs ys first now is h = h
-told-none true xs ys first now is h = absurd (true≢false is)
-
--- none is left to tell
-pub told-all : (report : Bool) (events : List Event) (told : ℕ) (first now : Option (List ℕ)) → length events ≤ told →
-    Reports report ended.Spent (take told events) first now → Reports report ended.Spent events first now
-told-all report events told first now all h =
-    let P : List Event → Type 0 = λ q. Reports report ended.Spent q first now in subst P (take_all told events all) h
-
 module _ (events : List Event) (told : ℕ) (e : Event) (there : slice_get events told ≡ Some e) (small : length events ≤ told + 1)
     (first now new : Option (List ℕ)) where
   lines-are : event_lines events ≡ event_lines (take told events) ++ event_line e
@@ -247,14 +232,6 @@ module _ (events : List Event) (told : ℕ) (e : Event) (there : slice_get event
       )
   told-cut true is ended.Memory h cut =
       let P : Option (List ℕ) → Type 0 = λ q. Appends first q (event_lines (take told events)) in (told, small, subst P (sym cut) h)
-
-pub is-untold : (e : Ended) (old new : Option (List ℕ)) (bytes : List ℕ) → CutsLine e old new bytes → IsUntold e
-is-untold ended.Done old new bytes cut = absurd cut
-is-untold ended.Spent old new bytes cut = absurd cut
-is-untold (ended.Trap kind line) old new bytes cut = absurd cut
-is-untold ended.InputFault old new bytes cut = absurd cut
-is-untold ended.OutputFault old new bytes cut = inr refl
-is-untold ended.Memory old new bytes cut = inl refl
 
 -- Where the input or the output failed
 

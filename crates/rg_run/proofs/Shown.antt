@@ -1,10 +1,9 @@
 -- What a machine answers for a serial, beside the state that it shows. For callers.
-use Rattle.std.proofs.Common.{◌≡◌, ℕ, ◌-◌, ◌^◌, ◌≤◌, ◌⊎◌, inl, inr, Bool as Truth, true, false, List, map, Some, None}
-use Rattle.std.proofs.Common.{refl, sym, ap, subst, ◌∙◌, arith}
-use Rattle.std.proofs.lemmas.Option.{same_Some}
+use Rattle.std.proofs.Common.{◌≡◌, ℕ, ◌-◌, ◌^◌, ◌≤◌, Bool as Truth, true, false, map, None}
+use Rattle.std.proofs.Common.{refl, ap, subst, arith}
 use Rattle.rg_base.specs.declared.object.Label.{Label}
 use Rattle.rg_base.specs.declared.object.Seen.{Seen}
-use Rattle.rg_tree.specs.Tree.{Class, Tree}
+use Rattle.rg_tree.specs.Tree.{Tree}
 use Rattle.rg_rules.specs.Owners.{is_temp_of}
 use Rattle.rg_rules.specs.State.{State, Window as Opened}
 use Rattle.rg_sound.specs.Fit.{Fit}
@@ -14,15 +13,6 @@ use Rattle.rg_sound.proofs.LocalRoots.{in-number}
 use Rattle.rg_held.specs.Gone.{gone}
 use Rattle.rg_run.specs.Machine.{Kept, IsShown}
 use Rattle.rg_run.specs.Sound.{HoldsOf}
-
--- what is answered for a serial is the state's object, which is held there
-pub shown-held : (classes : List Class) (m : Kept) (s : State) → HoldsOf classes m s → (serial : ℕ) (o : Seen) → IsShown m serial (Some o) →
-    (h : IsHeld classes s serial) × (h.object ≡ o)
-shown-held classes m s k serial o there = by (k.holds serial) refl
-  where
-    by : (b : Truth) → k.holds serial ≡ b → (h : IsHeld classes s serial) × (h.object ≡ o)
-    by true e = let h = k.held serial e in (h, same_Some h.object o (sym (k.same serial h.object e h.there) ∙ there.0))
-    by false e = absurd (there.1 (k.others serial o e there.0))
 
 -- no window has the number of what is gone
 held-there : (t : Tree) (s : State) → Fit t s → s.windows_made ≤ 2 ^ 64 - 1 → (serial : ℕ) → (h : IsHeld t.classes s serial) → h.object ≡ gone → ⊥

@@ -9,7 +9,7 @@ use Rattle.rg_step.specs.Pacers.{Asks}
 use Rattle.rg_step.specs.States.{Chain, OneStep, Opens, Standing}
 use Rattle.rg_step.specs.Steps.{is_made}
 use Rattle.rg_step.specs.Stepping.{Stepping, fresh}
-use Rattle.rg_step.proofs.Chain.{chain-none, chain-one, chain-then}
+use Rattle.rg_step.proofs.Callers.Chain.{chain-none, chain-one, chain-then}
 use Rattle.rg_run.specs.Inner.{IsUntold}
 use Rattle.rg_run.specs.Machine.{Kept}
 use Rattle.rg_run.specs.States.{LeavesAt, RunsThrough}

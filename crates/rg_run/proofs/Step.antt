@@ -9,7 +9,8 @@ use Rattle.rg_code.specs.Dues.{due_at}
 use Rattle.rg_step.specs.Asking.{YesesTold}
 use Rattle.rg_step.specs.States.{OneStep, Standing}
 use Rattle.rg_run.specs.Inner.{Adds}
-use Rattle.rg_run.proofs.Report.{SameTuned, step-adds}
+use Rattle.rg_run.specs.Asked.{SameTuned}
+use Rattle.rg_run.proofs.Report.{step-adds}
 
 module _ {code : Code} {old new : Standing} {result : Outcome} {a b : Pending} {la lb : Option (List ℕ)} (follows : Follows b lb)
     (step : OnInput a b la lb (OneStep code old new result)) where

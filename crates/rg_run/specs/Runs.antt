@@ -1,7 +1,8 @@
 -- What a call of the machine has answered, written and left (docs/language.md, "Steps").
-use Rattle.std.specs.Prelude.{◌≡◌, ◌⊎◌, ℕ, true, List, Option}
+use Rattle.std.specs.Prelude.{◌≡◌, ◌⊎◌, ◌≤◌, ℕ, true, List, Option}
 use Rattle.rg_base.specs.declared.outcome.Ended.{Ended}
 use Rattle.rg_base.specs.declared.outcome.Ended.TheVariants as ended
+use Rattle.rg_io.specs.Content.{Rose}
 use Rattle.rg_tree.specs.Rows.Tables.{Tables}
 use Rattle.rg_tree.specs.Rows.RowTrees.{program_of}
 use Rattle.rg_rules.specs.Runs.{opening}
@@ -23,6 +24,15 @@ pub record Ran (t : Tables) (n : ℕ) (old new : Option (List ℕ)) (m : Kept) (
   pub run : RunShows t (opening (program_of t) before) n m.steps (ShowsAt t m after) old new result
   pub sound : IsSound (program_of t) before n
   pub unread : NeverAsks (program_of t) before n → still
+
+-- A run names a fault of the input only where its count rose, and one of the output only where its own count or that of the notes rose; and no
+-- count falls.
+pub record Caused (result : Ended) (source_old source_new out_old out_new notes_old notes_new : ℕ) : Type 0 where
+  pub input_fault : result ≡ ended.InputFault → Rose source_old source_new
+  pub output_fault : result ≡ ended.OutputFault → Rose out_old out_new ⊎ Rose notes_old notes_new
+  pub source_never_falls : source_old ≤ source_new
+  pub sink_never_falls : out_old ≤ out_new
+  pub notes_never_fall : notes_old ≤ notes_new
 
 -- what a call is told of the input before and after it
 abbrev pub RunsOn : Tables → (n : ℕ) → (old new : Option (List ℕ)) → Kept → Ended → (still : Type 0) → (before after : List ℕ) → Type 0

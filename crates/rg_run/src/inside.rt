@@ -1,15 +1,17 @@
 //! What a machine holds, and the loop of its steps (docs/language.md, "Steps").
 
-ghost use Rattle.std.specs.Prelude.{◌≡◌, ◌≢◌, ◌≤◌, ◌⊎◌, false, true};
+ghost use Rattle.std.specs.Prelude.{◌≡◌, ◌≢◌, false, true};
 ghost use Rattle.rg_tree.specs.Rows.RowTrees.{program_of};
 ghost use Rattle.rg_code.specs.Lowering.{Lowers};
-ghost use Rattle.rg_io.specs.Content.{Rose};
 ghost use Rattle.rg_input.specs.Numbers.{Follows, OnInput};
 ghost use Rattle.rg_step.specs.Stepping.{IsFresh as IsAtStart};
 ghost use Rattle.rg_run.specs.Inner.{kept_of};
 ghost use Rattle.rg_step.specs.Asking.{YesesTold};
+ghost use Rattle.rg_step.specs.Pacers.{both};
 ghost use Rattle.rg_run.specs.Machine.{IsFresh};
+ghost use Rattle.rg_run.specs.Asked.{SameTuned};
 ghost use Rattle.rg_run.specs.Reports.{Reports};
+ghost use Rattle.rg_run.specs.Runs.{Caused};
 ghost use Rattle.rg_run.specs.Whole.{WholeRun};
 
 use crate::giving::{counted, give};
@@ -54,80 +56,20 @@ impl Inside {
         ensures run { OnInput input.old input.new (I.left source.old) (I.left source.new)
             (WholeRun accepted.now.program code.now n (O.taken out.old) (O.taken out.new)
             (kept_of self.new) result ((input.new ≡ input.old) × (source.new ≡ source.old))
-            (record {
-              count = record {
-                asks = asks count.old;
-                yeses = yeses count.old;
-                told = told count.old;
-                tuned = tuned count.old;
-              };
-              trace = record {
-                asks = asks trace.old;
-                yeses = yeses trace.old;
-                told = told trace.old;
-                tuned = tuned trace.old;
-              };
-            })
-            (record {
-              count = record {
-                asks = asks count.new;
-                yeses = yeses count.new;
-                told = told count.new;
-                tuned = tuned count.new;
-              };
-              trace = record {
-                asks = asks trace.new;
-                yeses = yeses trace.new;
-                told = told trace.new;
-                tuned = tuned trace.new;
-              };
-            })) }
+            (both (tally count.old) (tally trace.old)) (both (tally count.new) (tally trace.new))) }
         ensures begun { result ≢ Ended.Memory → self.new.begun ≡ true }
         ensures kept { self.new.begun ≡ false →
             IsAtStart self.new.stepper × (self.new.steps ≡ 0) }
         ensures slides { self.new.stepper.slides ≡ self.old.stepper.slides }
         ensures notes { Reports report result self.new.stepper.events
             (R.taken notes.old) (R.taken notes.new) }
-        ensures tuned { (tuned count.new ≡ tuned count.old) × (tuned trace.new ≡ tuned trace.old) }
+        ensures tuned { SameTuned
+            (both (tally count.old) (tally trace.old)) (both (tally count.new) (tally trace.new)) }
         ensures yeses { YesesTold self.new.stepper.events
-            (record {
-              count = record {
-                asks = asks count.old;
-                yeses = yeses count.old;
-                told = told count.old;
-                tuned = tuned count.old;
-              };
-              trace = record {
-                asks = asks trace.old;
-                yeses = yeses trace.old;
-                told = told trace.old;
-                tuned = tuned trace.old;
-              };
-            })
-            (record {
-              count = record {
-                asks = asks count.new;
-                yeses = yeses count.new;
-                told = told count.new;
-                tuned = tuned count.new;
-              };
-              trace = record {
-                asks = asks trace.new;
-                yeses = yeses trace.new;
-                told = told trace.new;
-                tuned = tuned trace.new;
-              };
-            }) }
+            (both (tally count.old) (tally trace.old)) (both (tally count.new) (tally trace.new)) }
         ensures follows { Follows input.new (I.left source.new) }
-
-        ensures input_fault { result ≡ Ended.InputFault →
-            Rose (I.faults source.old) (I.faults source.new) }
-        ensures output_fault { result ≡ Ended.OutputFault →
-            Rose (O.faults out.old) (O.faults out.new)
-            ⊎ Rose (R.faults notes.old) (R.faults notes.new) }
-        ensures source_never_falls { I.faults source.old ≤ I.faults source.new }
-        ensures sink_never_falls { O.faults out.old ≤ O.faults out.new }
-        ensures notes_never_fall { R.faults notes.old ≤ R.faults notes.new }
+        ensures caused { Caused result (I.faults source.old) (I.faults source.new)
+            (O.faults out.old) (O.faults out.new) (R.faults notes.old) (R.faults notes.new) }
     {
         let program = accepted.program();
         let Ok(()) = self.stepper.begin(alloc, code, program.main_manager()) else {

@@ -1,16 +1,15 @@
 //! A step of the stack machine, as the loop of a run takes it (docs/language.md, "Steps").
 
-ghost use Rattle.std.specs.Prelude.{◌≡◌, ◌≤◌, ◌++◌, List, false, true};
+ghost use Rattle.std.specs.Prelude.{◌≡◌, ◌≤◌, ◌++◌, List};
 ghost use Rattle.rg_io.specs.Content.{Rose};
 ghost use Rattle.rg_input.specs.Numbers.{Follows, OnInput};
 ghost use Rattle.rg_machine.specs.Parts.{machine_in};
-ghost use Rattle.rg_rules.specs.Outside.Inputs.{first_asks};
-ghost use Rattle.rg_rules.specs.State.{State};
 ghost use Rattle.rg_step.specs.Asking.{YesesTold};
-ghost use Rattle.rg_step.specs.States.{OneStep};
-ghost use Rattle.rg_step.specs.Steps.{IsRunning, Runs};
-ghost use Rattle.rg_tree.specs.Tree.{Tree};
+ghost use Rattle.rg_step.specs.Pacers.{both};
+ghost use Rattle.rg_step.specs.States.{OneStep, standing};
+ghost use Rattle.rg_step.specs.Steps.{AsksFirst, IsRunning, UnlessAsking};
 ghost use Rattle.rg_run.specs.Inner.{Adds};
+ghost use Rattle.rg_run.specs.Asked.{SameTuned};
 
 use rg_base::{Event, Outcome};
 use rg_code::CodeList;
@@ -31,80 +30,19 @@ pub(crate) fn step<S: Source>(
     requires runs { IsRunning code.now (machine_in stepper.old.parts) }
     requires follows { Follows input.old (S.left source.old) }
     ensures one { OnInput input.old input.new (S.left source.old) (S.left source.new)
-        (OneStep code.now
-        (record {
-          stepper = stepper.old;
-          pacers = record {
-            count = record {
-              asks = asks count.old;
-              yeses = yeses count.old;
-              told = told count.old;
-              tuned = tuned count.old;
-            };
-            trace = record {
-              asks = asks trace.old;
-              yeses = yeses trace.old;
-              told = told trace.old;
-              tuned = tuned trace.old;
-            };
-          };
-        })
-        (record {
-          stepper = stepper.new;
-          pacers = record {
-            count = record {
-              asks = asks count.new;
-              yeses = yeses count.new;
-              told = told count.new;
-              tuned = tuned count.new;
-            };
-            trace = record {
-              asks = asks trace.new;
-              yeses = yeses trace.new;
-              told = told trace.new;
-              tuned = tuned trace.new;
-            };
-          };
-        }) result) }
+        (OneStep code.now (standing stepper.old (tally count.old) (tally trace.old))
+        (standing stepper.new (tally count.new) (tally trace.new)) result) }
     ensures events { Adds stepper.new.steps stepper.old.events stepper.new.events result }
     ensures slides { stepper.new.slides ≡ stepper.old.slides }
-    ensures count { tuned count.new ≡ tuned count.old }
-    ensures trace { tuned trace.new ≡ tuned trace.old }
+    ensures tuned { SameTuned
+        (both (tally count.old) (tally trace.old)) (both (tally count.new) (tally trace.new)) }
     ensures yeses { (behind : List Event) × (stepper.new.events ≡ stepper.old.events ++ behind)
         × YesesTold behind
-        (record {
-          count = record {
-            asks = asks count.old;
-            yeses = yeses count.old;
-            told = told count.old;
-            tuned = tuned count.old;
-          };
-          trace = record {
-            asks = asks trace.old;
-            yeses = yeses trace.old;
-            told = told trace.old;
-            tuned = tuned trace.old;
-          };
-        })
-        (record {
-          count = record {
-            asks = asks count.new;
-            yeses = yeses count.new;
-            told = told count.new;
-            tuned = tuned count.new;
-          };
-          trace = record {
-            asks = asks trace.new;
-            yeses = yeses trace.new;
-            told = told trace.new;
-            tuned = tuned trace.new;
-          };
-        }) }
-    ensures reads_nothing { (t : Tree) (p : State) →
-        Runs t code.now (machine_in stepper.old.parts) p →
-        first_asks p.items ≡ false → (input.new ≡ input.old) × (source.new ≡ source.old) }
-    ensures input_fault { result ≡ Outcome.InputFault → (t : Tree) (p : State) →
-        Runs t code.now (machine_in stepper.old.parts) p → first_asks p.items ≡ true }
+        (both (tally count.old) (tally trace.old)) (both (tally count.new) (tally trace.new)) }
+    ensures reads_nothing { UnlessAsking code.now (machine_in stepper.old.parts)
+        ((input.new ≡ input.old) × (source.new ≡ source.old)) }
+    ensures input_fault { result ≡ Outcome.InputFault →
+        AsksFirst code.now (machine_in stepper.old.parts) }
     ensures follows { Follows input.new (S.left source.new) }
     ensures fault { result ≡ Outcome.InputFault →
         Rose (S.faults source.old) (S.faults source.new) }

@@ -3,6 +3,9 @@
 use Rattle.std.specs.Prelude.{◌≡◌, ◌<◌, ◌^◌, ℕ, List, [], ◌∷◌, ◌++◌, get_or, Option, Some}
 use Rattle.std.specs.Int.{w32}
 use Rattle.rg_spell.specs.Spelling.{four, manager_number, counted, Counted, shape_bytes, FitsShape, head_bytes, FitsHead, row_bytes, FitsRow}
+use Rattle.rg_code.specs.declared.op.Op.{Op}
+use Rattle.rg_code.specs.Operands.{number_of, operands_of}
+use Rattle.rg_spell.specs.Makings.{of_parts}
 use Rattle.rg_spell.specs.Reading.{number_at, manager_at, counted_at, shape_at, head_at, row_at}
 
 -- a list of bytes
@@ -26,3 +29,5 @@ pub record AreReadBack : Type 0 where
   pub classes : Reads (counted_at shape_at) (counted shape_bytes) (Counted FitsShape)
   pub heads : Reads (counted_at head_at) (counted head_bytes) (Counted FitsHead)
   pub rows : Reads (counted_at row_at) (counted row_bytes) (Counted FitsRow)
+  -- an instruction is the one that its number and its operands make
+  pub parts : (o : Op) → of_parts (number_of o) (operands_of o) ≡ Some o

@@ -10,15 +10,16 @@ use Rattle.rg_base.specs.declared.words.Manager.TheVariants as managers
 use Rattle.rg_base.specs.declared.ty.Ty.{Ty}
 use Rattle.rg_base.specs.declared.ty.Ty.TheVariants as ty
 use Rattle.rg_code.specs.declared.op.Op.{Op}
-use Rattle.rg_code.specs.declared.op.Op.TheVariants as i
+use Rattle.rg_code.specs.declared.operands.Operand.{Operand}
+use Rattle.rg_code.specs.declared.operands.Operand.TheVariants as p
+use Rattle.rg_code.specs.Operands.{operands_of}
 use Rattle.rg_code.specs.Places.{is_mark}
 use Rattle.rg_spell.specs.declared.refusal.Refusal.{Refusal}
 use Rattle.rg_spell.specs.declared.refusal.Refusal.TheVariants as refusal
-use Rattle.rg_spell.specs.declared.numbers.TheConstants.{BLANKS}
-use Rattle.rg_spell.specs.declared.numbers.Kind.{Kind}
-use Rattle.rg_spell.specs.declared.numbers.Kind.TheVariants as kinds
+use Rattle.rg_spell.specs.declared.makings.TheConstants.{BLANKS}
 use Rattle.rg_spell.specs.declared.rows.Shape.{Shape}
 use Rattle.rg_spell.specs.declared.rows.Head.{Head}
+use Rattle.rg_spell.specs.Makings.{with_operands}
 
 infixl 10 ◌>>=◌
 abbrev pub ◌>>=◌ : {A B : Type 0} → Option A → (A → Option B) → Option B
@@ -156,111 +157,53 @@ head_at bytes = do
 
 -- Instructions
 
--- what stands behind the number of an instruction
-abbrev pub kind_of : Op → Kind
-kind_of (i.Mark n) = kinds.Line
-kind_of (i.Int z) = kinds.Int
-kind_of (i.Bool b) = kinds.Bool
-kind_of (i.Load s) = kinds.Slot
-kind_of (i.Clear s) = kinds.Slot
-kind_of (i.Store s) = kinds.Slot
-kind_of (i.Own s) = kinds.Slot
-kind_of (i.Field k) = kinds.Number
-kind_of (i.Jump t) = kinds.Number
-kind_of (i.JumpFalse t) = kinds.Number
-kind_of (i.And t) = kinds.Number
-kind_of (i.Or t) = kinds.Number
-kind_of (i.New c) = kinds.Number
-kind_of (i.NewTmp c) = kinds.Number
-kind_of (i.NewIso c m) = kinds.Region
-kind_of (i.Put k) = kinds.Number
-kind_of (i.Swap s k) = kinds.SlotField
-kind_of (i.Freeze s) = kinds.Slot
-kind_of (i.Merge s) = kinds.Slot
-kind_of (i.Call m) = kinds.Number
-kind_of (i.Enter s z) = kinds.TwoSlots
-kind_of (i.EnterField k z) = kinds.FieldSlot
-kind_of (i.Leave s) = kinds.Slot
-kind_of (i.End s) = kinds.Slot
-kind_of o = kinds.Nothing
+-- an operand of the kind of a given one
+unfoldable pub operand_at : Operand → List ℕ → Option (Operand × List ℕ)
+operand_at (p.Line n) bytes = do
+  x ← number_at w64 bytes
+  Some (p.Line x.0, x.1)
+operand_at (p.Int z) bytes = do
+  x ← signed_at bytes
+  Some (p.Int x.0, x.1)
+operand_at (p.Bool b) bytes = do
+  x ← bool_at bytes
+  Some (p.Bool x.0, x.1)
+operand_at (p.Slot s) bytes = do
+  x ← slot_at bytes
+  Some (p.Slot x.0, x.1)
+operand_at (p.From s) bytes = do
+  x ← slot_at bytes
+  Some (p.From x.0, x.1)
+operand_at (p.Field k) bytes = do
+  x ← number_at w32 bytes
+  Some (p.Field x.0, x.1)
+operand_at (p.Class c) bytes = do
+  x ← number_at w32 bytes
+  Some (p.Class x.0, x.1)
+operand_at (p.Method m) bytes = do
+  x ← number_at w32 bytes
+  Some (p.Method x.0, x.1)
+operand_at (p.Address t) bytes = do
+  x ← number_at w32 bytes
+  Some (p.Address x.0, x.1)
+operand_at (p.Manager m) bytes = do
+  x ← manager_at bytes
+  Some (p.Manager x.0, x.1)
 
--- an instruction with another slot
-abbrev pub with_slot : Op → ℕ → Op
-with_slot (i.Load s) n = i.Load n
-with_slot (i.Clear s) n = i.Clear n
-with_slot (i.Store s) n = i.Store n
-with_slot (i.Own s) n = i.Own n
-with_slot (i.Freeze s) n = i.Freeze n
-with_slot (i.Merge s) n = i.Merge n
-with_slot (i.Leave s) n = i.Leave n
-with_slot (i.End s) n = i.End n
-with_slot o n = o
-
--- an instruction with another number of a field, a class or a method, or with another address
-abbrev pub with_number : Op → ℕ → Op
-with_number (i.Field k) n = i.Field n
-with_number (i.Jump t) n = i.Jump n
-with_number (i.JumpFalse t) n = i.JumpFalse n
-with_number (i.And t) n = i.And n
-with_number (i.Or t) n = i.Or n
-with_number (i.New c) n = i.New n
-with_number (i.NewTmp c) n = i.NewTmp n
-with_number (i.Put k) n = i.Put n
-with_number (i.Call m) n = i.Call n
-with_number o n = o
-
-unfoldable pub region_at : List ℕ → Option (Op × List ℕ)
-region_at bytes = do
-  c ← number_at w32 bytes
-  m ← manager_at c.1
-  Some (i.NewIso c.0 m.0, m.1)
-
-unfoldable pub swap_at : List ℕ → Option (Op × List ℕ)
-swap_at bytes = do
-  s ← slot_at bytes
-  k ← number_at w32 s.1
-  Some (i.Swap s.0 k.0, k.1)
-
-unfoldable pub enter_at : List ℕ → Option (Op × List ℕ)
-enter_at bytes = do
-  s ← slot_at bytes
-  z ← slot_at s.1
-  Some (i.Enter s.0 z.0, z.1)
-
-unfoldable pub enter_field_at : List ℕ → Option (Op × List ℕ)
-enter_field_at bytes = do
-  k ← number_at w32 bytes
-  z ← slot_at k.1
-  Some (i.EnterField k.0 z.0, z.1)
-
--- an instruction, behind its number
-unfoldable pub filled : Kind → Op → List ℕ → Option (Op × List ℕ)
-filled kinds.Nothing o bytes = Some (o, bytes)
-filled kinds.Line o bytes = do
-  n ← number_at w64 bytes
-  Some (i.Mark n.0, n.1)
-filled kinds.Int o bytes = do
-  z ← signed_at bytes
-  Some (i.Int z.0, z.1)
-filled kinds.Bool o bytes = do
-  b ← bool_at bytes
-  Some (i.Bool b.0, b.1)
-filled kinds.Slot o bytes = do
-  s ← slot_at bytes
-  Some (with_slot o s.0, s.1)
-filled kinds.Number o bytes = do
-  n ← number_at w32 bytes
-  Some (with_number o n.0, n.1)
-filled kinds.Region o bytes = region_at bytes
-filled kinds.SlotField o bytes = swap_at bytes
-filled kinds.TwoSlots o bytes = enter_at bytes
-filled kinds.FieldSlot o bytes = enter_field_at bytes
+-- operands of the kinds of given ones
+unfoldable pub operands_at : List Operand → List ℕ → Option (List Operand × List ℕ)
+operands_at [] bytes = Some ([], bytes)
+operands_at (a ∷ ps) bytes = do
+  first ← operand_at a bytes
+  others ← operands_at ps first.1
+  Some (first.0 ∷ others.0, others.1)
 
 unfoldable pub op_at : List ℕ → Option (Op × List ℕ)
 op_at bytes = do
   n ← byte_at bytes
   o ← slice_get BLANKS n.0
-  filled (kind_of o) o n.1
+  ps ← operands_at (operands_of o) n.1
+  Some (with_operands o ps.0, ps.1)
 
 -- the map of a mark, and nothing behind any other instruction
 unfoldable pub map_at : (mark : Truth) → List ℕ → Option (List Ty × List ℕ)

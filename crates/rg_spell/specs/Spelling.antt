@@ -10,7 +10,9 @@ use Rattle.rg_base.specs.declared.words.Manager.TheVariants as managers
 use Rattle.rg_base.specs.declared.ty.Ty.{Ty}
 use Rattle.rg_base.specs.declared.ty.Ty.TheVariants as ty
 use Rattle.rg_code.specs.declared.op.Op.{Op}
-use Rattle.rg_code.specs.declared.op.Op.TheVariants as i
+use Rattle.rg_code.specs.declared.operands.Operand.{Operand}
+use Rattle.rg_code.specs.declared.operands.Operand.TheVariants as p
+use Rattle.rg_code.specs.Operands.{number_of, operands_of}
 use Rattle.rg_code.specs.Places.{is_mark}
 use Rattle.rg_spell.specs.declared.rows.Shape.{Shape}
 use Rattle.rg_spell.specs.declared.rows.Head.{Head}
@@ -103,145 +105,36 @@ pub record FitsHead (h : Head) : Type 0 where
 
 -- Instructions
 
--- The number of an instruction. Instructions on arrays will have 51 to 57, and the one that gives a region back where its window ends 58;
--- they aren't built, so today no module has these numbers.
-abbrev pub op_number : Op → ℕ
-op_number (i.Mark line) = 0
-op_number (i.Int z) = 1
-op_number (i.Bool b) = 2
-op_number i.Nil = 3
-op_number (i.Load s) = 4
-op_number (i.Clear s) = 5
-op_number (i.Store s) = 6
-op_number (i.Own s) = 7
-op_number (i.Field k) = 8
-op_number i.IsNil = 9
-op_number i.Neg = 10
-op_number i.Add = 11
-op_number i.Sub = 12
-op_number i.Mul = 13
-op_number i.Div = 14
-op_number i.Rem = 15
-op_number i.Eq = 16
-op_number i.Ne = 17
-op_number i.Lt = 18
-op_number i.Le = 19
-op_number i.Gt = 20
-op_number i.Ge = 21
-op_number i.Not = 22
-op_number (i.Jump t) = 23
-op_number (i.JumpFalse t) = 24
-op_number (i.And t) = 25
-op_number (i.Or t) = 26
-op_number i.Check = 27
-op_number (i.New c) = 28
-op_number (i.NewTmp c) = 29
-op_number (i.NewIso c m) = 30
-op_number i.Pace = 31
-op_number (i.Put k) = 32
-op_number (i.Swap s k) = 33
-op_number (i.Freeze s) = 34
-op_number (i.Merge s) = 35
-op_number i.Read = 36
-op_number i.More = 37
-op_number i.Room = 38
-op_number (i.Call m) = 39
-op_number i.Ret = 40
-op_number i.RetVoid = 41
-op_number (i.Enter s z) = 42
-op_number (i.EnterField k z) = 43
-op_number (i.Leave s) = 44
-op_number (i.End s) = 45
-op_number i.Print = 46
-op_number i.Collect = 47
-op_number i.Pop = 48
-op_number i.Drop = 49
-op_number i.Halt = 50
-
--- what stands behind the number of an instruction: a line, a value, a slot, an address or another number, a manager
-pub data Operand : Type 0 where
-  line : ℕ → Operand
-  int : ℤ → Operand
-  bool : Truth → Operand
-  slot : ℕ → Operand
-  number : ℕ → Operand
-  manager : Manager → Operand
-
-abbrev pub operands : Op → List Operand
-operands (i.Mark n) = line n ∷ []
-operands (i.Int z) = int z ∷ []
-operands (i.Bool b) = bool b ∷ []
-operands i.Nil = []
-operands (i.Load s) = slot s ∷ []
-operands (i.Clear s) = slot s ∷ []
-operands (i.Store s) = slot s ∷ []
-operands (i.Own s) = slot s ∷ []
-operands (i.Field k) = number k ∷ []
-operands i.IsNil = []
-operands i.Neg = []
-operands i.Add = []
-operands i.Sub = []
-operands i.Mul = []
-operands i.Div = []
-operands i.Rem = []
-operands i.Eq = []
-operands i.Ne = []
-operands i.Lt = []
-operands i.Le = []
-operands i.Gt = []
-operands i.Ge = []
-operands i.Not = []
-operands (i.Jump t) = number t ∷ []
-operands (i.JumpFalse t) = number t ∷ []
-operands (i.And t) = number t ∷ []
-operands (i.Or t) = number t ∷ []
-operands i.Check = []
-operands (i.New c) = number c ∷ []
-operands (i.NewTmp c) = number c ∷ []
-operands (i.NewIso c m) = number c ∷ manager m ∷ []
-operands i.Pace = []
-operands (i.Put k) = number k ∷ []
-operands (i.Swap s k) = slot s ∷ number k ∷ []
-operands (i.Freeze s) = slot s ∷ []
-operands (i.Merge s) = slot s ∷ []
-operands i.Read = []
-operands i.More = []
-operands i.Room = []
-operands (i.Call m) = number m ∷ []
-operands i.Ret = []
-operands i.RetVoid = []
-operands (i.Enter s z) = slot s ∷ slot z ∷ []
-operands (i.EnterField k z) = number k ∷ slot z ∷ []
-operands (i.Leave s) = slot s ∷ []
-operands (i.End s) = slot s ∷ []
-operands i.Print = []
-operands i.Collect = []
-operands i.Pop = []
-operands i.Drop = []
-operands i.Halt = []
-
 abbrev pub operand_bytes : Operand → List ℕ
-operand_bytes (line n) = eight n
-operand_bytes (int z) = signed z
-operand_bytes (bool b) = bool_number b ∷ []
-operand_bytes (slot s) = four s
-operand_bytes (number n) = four n
-operand_bytes (manager m) = manager_number m ∷ []
+operand_bytes (p.Line n) = eight n
+operand_bytes (p.Int z) = signed z
+operand_bytes (p.Bool b) = bool_number b ∷ []
+operand_bytes (p.Slot s) = four s
+operand_bytes (p.From s) = four s
+operand_bytes (p.Field k) = four k
+operand_bytes (p.Class c) = four c
+operand_bytes (p.Method m) = four m
+operand_bytes (p.Address t) = four t
+operand_bytes (p.Manager m) = manager_number m ∷ []
 
 abbrev pub FitsOperand : Operand → Type 0
-FitsOperand (line n) = n < 2 ^ 64
-FitsOperand (int z) = FitsSigned w64 z
-FitsOperand (bool b) = Unit {0}
-FitsOperand (slot s) = s ≤ 256
-FitsOperand (number n) = n < 2 ^ 32
-FitsOperand (manager m) = Unit {0}
+FitsOperand (p.Line n) = n < 2 ^ 64
+FitsOperand (p.Int z) = FitsSigned w64 z
+FitsOperand (p.Bool b) = Unit {0}
+FitsOperand (p.Slot s) = s ≤ 256
+FitsOperand (p.From s) = s ≤ 256
+FitsOperand (p.Field k) = k < 2 ^ 32
+FitsOperand (p.Class c) = c < 2 ^ 32
+FitsOperand (p.Method m) = m < 2 ^ 32
+FitsOperand (p.Address t) = t < 2 ^ 32
+FitsOperand (p.Manager m) = Unit {0}
 
 -- an instruction
 abbrev pub op_bytes : Op → List ℕ
-op_bytes o = op_number o ∷ flat_map operand_bytes (operands o)
+op_bytes o = number_of o ∷ flat_map operand_bytes (operands_of o)
 
 abbrev pub FitsOp : Op → Type 0
-FitsOp o = AllByRecursion FitsOperand (operands o)
+FitsOp o = AllByRecursion FitsOperand (operands_of o)
 
 -- what stands behind an instruction: the map of a mark, nothing behind any other
 abbrev pub map_bytes : (mark : Truth) → List Ty → List ℕ

@@ -9,6 +9,7 @@
 #![tactic(auto)]
 
 mod laws;
+mod makings;
 mod numbers;
 mod ops;
 mod reading;

@@ -1,21 +1,22 @@
 //! Parts of a module, each appended as its bytes (docs/architecture.md, "Modules").
 
 ghost use Rattle.std.specs.Prelude.{◌≡◌, ◌<◌, ◌^◌, ◌∷◌, [], ◌++◌, length, OnOk, OnErr};
-ghost use Rattle.std.specs.List.{flat_map};
+ghost use Rattle.std.specs.List.{flat_map, AllByRecursion};
 ghost use Rattle.std.specs.Int.{w32, w64, to_be_bytes};
+ghost use Rattle.rg_code.specs.Operands.{listed};
 ghost use Rattle.rg_code.specs.Places as places;
 ghost use Rattle.rg_spell.specs.Spelling.{four, eight, signed, bool_number, manager_number};
 ghost use Rattle.rg_spell.specs.Spelling.{counted, Counted, ty_bytes, FitsTy, members_bytes};
 ghost use Rattle.rg_spell.specs.Spelling.{shape_bytes, FitsShape, result_bytes, head_bytes};
-ghost use Rattle.rg_spell.specs.Spelling.{FitsHead, operands, operand_bytes, op_bytes, FitsOp};
+ghost use Rattle.rg_spell.specs.Spelling.{FitsHead, operand_bytes, FitsOperand};
 ghost use Rattle.rg_spell.specs.Spelling.{map_bytes, FitsMap};
 ghost use Rattle.rg_spell.specs.Spelling.{row_bytes, FitsRow, AppendsPart};
 
-use crate::numbers::{bool_number, cap_number, manager_number, op_number};
+use crate::numbers::{bool_number, cap_number, manager_number};
 use crate::ops::is_mark;
 use crate::rows::{Head, Shape};
 use rg_base::{ByteList, Manager, Memory, Ty};
-use rg_code::Op;
+use rg_code::{Op, Operand, Operands, number_of, operands_of};
 
 /// Appends a number of four bytes.
 pub fn write_u32(n: u32, out: &mut ByteList) -> Result<(), Memory>
@@ -145,58 +146,40 @@ pub fn write_manager(manager: Manager, out: &mut ByteList) -> Result<(), Memory>
     out.push(manager_number(manager))
 }
 
-// Appends two numbers.
-fn write_two(n: u32, k: u32, out: &mut ByteList) -> Result<(), Memory>
-    ensures ok { OnOk result (out.new ≡ out.old ++ four n ++ four k) }
-    ensures part { OnErr result (AppendsPart out.old out.new (four n ++ four k)) }
+// Appends an operand.
+fn write_operand(operand: Operand, out: &mut ByteList) -> Result<(), Memory>
+    requires { FitsOperand operand }
+    ensures ok { OnOk result (out.new ≡ out.old ++ operand_bytes operand) }
+    ensures err { OnErr result (out.new ≡ out.old) }
 {
-    write_u32(n, out)?;
-    write_u32(k, out)?;
-    Ok(())
+    match operand {
+        Operand::Line(line) => write_u64(line, out),
+        Operand::Int(value) => write_i64(value, out),
+        Operand::Bool(value) => out.push(bool_number(value)),
+        Operand::Slot(n)
+        | Operand::From(n)
+        | Operand::Field(n)
+        | Operand::Class(n)
+        | Operand::Method(n) => write_u32(n, out),
+        Operand::Address(to) => write_u32(to as u32, out),
+        Operand::Manager(manager) => write_manager(manager, out),
+    }
 }
 
-// Appends what stands behind the number of an instruction.
-fn write_operands(op: Op, out: &mut ByteList) -> Result<(), Memory>
-    requires { FitsOp op }
-    ensures ok { OnOk result (out.new ≡ out.old ++ flat_map operand_bytes (operands op)) }
+// Appends operands.
+fn write_operands(operands: Operands, out: &mut ByteList) -> Result<(), Memory>
+    requires { AllByRecursion FitsOperand (listed operands) }
+    ensures ok { OnOk result (out.new ≡ out.old ++ flat_map operand_bytes (listed operands)) }
     ensures part { OnErr result (
-        AppendsPart out.old out.new (flat_map operand_bytes (operands op))) }
+        AppendsPart out.old out.new (flat_map operand_bytes (listed operands))) }
 {
-    match op {
-        Op::Mark { line } => write_u64(line, out),
-        Op::Int { value } => write_i64(value, out),
-        Op::Bool { value } => out.push(bool_number(value)),
-        Op::Load { slot: n }
-        | Op::Clear { slot: n }
-        | Op::Store { slot: n }
-        | Op::Own { slot: n }
-        | Op::Freeze { slot: n }
-        | Op::Merge { slot: n }
-        | Op::Leave { slot: n }
-        | Op::End { slot: n }
-        | Op::Field { index: n }
-        | Op::Put { index: n }
-        | Op::New { class: n }
-        | Op::NewTmp { class: n }
-        | Op::Call { method: n } => write_u32(n, out),
-        Op::Jump { to } | Op::JumpFalse { to } | Op::And { to } | Op::Or { to } => {
-            write_u32(to as u32, out)
+    match operands {
+        Operands::Nothing => Ok(()),
+        Operands::One(a) => write_operand(a, out),
+        Operands::Two(a, b) => {
+            write_operand(a, out)?;
+            write_operand(b, out)
         }
-        Op::NewIso { class, manager } => {
-            write_u32(class, out)?;
-            write_manager(manager, out)
-        }
-        Op::Swap { slot: n, index: k }
-        | Op::Enter { slot: n, bridge: k }
-        | Op::EnterField {
-            index: n,
-            bridge: k,
-        } => write_two(n, k, out),
-        Op::Nil | Op::IsNil | Op::Neg | Op::Not | Op::Check | Op::Pace => Ok(()),
-        Op::Add | Op::Sub | Op::Mul | Op::Div | Op::Rem => Ok(()),
-        Op::Eq | Op::Ne | Op::Lt | Op::Le | Op::Gt | Op::Ge => Ok(()),
-        Op::Read | Op::More | Op::Room | Op::Ret | Op::RetVoid => Ok(()),
-        Op::Print | Op::Collect | Op::Pop | Op::Drop | Op::Halt => Ok(()),
     }
 }
 
@@ -219,8 +202,8 @@ pub fn write_row(op: Op, map: &[Ty], out: &mut ByteList) -> Result<(), Memory>
     ensures ok { OnOk result (out.new ≡ out.old ++ row_bytes (op, map.now)) }
     ensures part { OnErr result (AppendsPart out.old out.new (row_bytes (op, map.now))) }
 {
-    out.push(op_number(op))?;
-    write_operands(op, out)?;
+    out.push(number_of(op))?;
+    write_operands(operands_of(op), out)?;
     write_map(is_mark(op), map, out)?;
     Ok(())
 }

@@ -8,8 +8,6 @@ pub mod Middle
 pub mod Statement
 pub mod Begin
 pub mod Spot
-pub mod Left
 pub mod Item
 pub mod Make
-pub mod Label
 pub mod Base

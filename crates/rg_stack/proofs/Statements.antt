@@ -1,4 +1,4 @@
--- What each kind of statement does, in the code and in the meaning. For crates above too.
+-- What each kind of statement does, in the code and in the meaning.
 pub mod Right
 pub mod Assign
 pub mod Block
@@ -6,4 +6,3 @@ pub mod Return
 pub mod Window
 pub mod Call
 pub mod Called
-pub mod Base

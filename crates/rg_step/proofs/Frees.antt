@@ -33,8 +33,8 @@ use Rattle.rg_step.specs.Inner.Refusals.{DidLeaves, asks_at}
 use Rattle.rg_step.specs.Sound.{IsSound}
 use Rattle.rg_step.specs.Inner.Walks.{StepIs}
 use Rattle.rg_step.specs.Steps.{IsRunning}
-use Rattle.rg_step.proofs.Run.{runs-on}
-use Rattle.rg_step.proofs.Serve.{has-record}
+use Rattle.rg_step.proofs.Walking.Run.{runs-on}
+use Rattle.rg_step.proofs.Callers.Serve.{has-record}
 
 -- By the store that is shown
 

@@ -1,5 +1,5 @@
 -- What a step did, in one record, by how it ended.
-use Rattle.std.proofs.Common.{◌≡◌, ◌≤◌, ◌-◌, ◌^◌, ℕ, true, false, true≢false, List, ◌++◌, Some, None, refl, sym, ap, ◌∙◌, subst}
+use Rattle.std.proofs.Common.{◌≡◌, ◌≤◌, ◌-◌, ◌^◌, ℕ, true, false, true≢false, List, ◌++◌, Option, Some, None, refl, sym, ap, ◌∙◌, subst}
 use Rattle.std.proofs.lemmas.Option.{none-some, same_Some}
 use Rattle.rg_base.specs.declared.event.Cause.{Cause}
 use Rattle.rg_base.specs.declared.event.Cause.TheVariants.{Asked}
@@ -15,18 +15,18 @@ use Rattle.rg_machine.specs.Parts.{Parts, machine_in}
 use Rattle.rg_machine.specs.Stands.{Stands}
 use Rattle.rg_step.specs.Collections.{IsRefused, Serves, Unasked}
 use Rattle.rg_step.specs.Frees.{FreesOnly, StaysGone}
+use Rattle.rg_step.specs.Inner.Serving.{Instructed, is_asked}
 use Rattle.rg_step.specs.Sound.{IsSound}
 use Rattle.rg_step.specs.States.{OneStep, Raises, Standing}
 use Rattle.rg_step.specs.Steps.{Counts, IsRunning, StepsOn, counted, is_made}
-use Rattle.rg_step.proofs.Asked.{asks-refused, asks-served, asks-undue}
-use Rattle.rg_step.proofs.Frees.{none-frees, none-stays}
-use Rattle.rg_step.proofs.High.{raises-none}
-use Rattle.rg_step.proofs.Reached.{none-reached, serves-reached}
-use Rattle.rg_step.proofs.Serve.{serves-none, serves-refused, serves-shows, serves-some, steps-nowhere}
+use Rattle.rg_step.proofs.Pacing.Asked.{asks-refused, asks-served, asks-undue}
+use Rattle.rg_step.proofs.Walking.High.{raises-none}
+use Rattle.rg_step.proofs.Callers.Reached.{none-reached, serves-reached}
+use Rattle.rg_step.proofs.Callers.Serve.{serves-none, serves-refused, serves-shows, serves-some}
 use Rattle.rg_step.proofs.Slides.{none-slid, serves-slid}
-use Rattle.rg_step.proofs.CountingSince.{none-said, since-refused, since-served, since-undue}
+use Rattle.rg_step.proofs.Pacing.CountingSince.{none-said, since-refused, since-served, since-undue}
 use Rattle.rg_step.proofs.Write.{steps-write}
-use Rattle.rg_step.proofs.Yes.{no-yes, yeses-served}
+use Rattle.rg_step.proofs.Pacing.Yes.{no-yes, yeses-served}
 
 -- Counts
 
@@ -112,17 +112,6 @@ module _ (code : Code) (old new : Standing) (runs : IsRunning code (machine_in o
     counts = counts-made old.stepper.steps new.stepper.steps result made more;
   }
 
--- nothing was done
-pub one-nothing : (code : Code) (old new : Standing) → IsRunning code (machine_in old.stepper.parts) → new.stepper.parts ≡ old.stepper.parts
-    → IsRefused old.stepper new.stepper old.pacers new.pacers → new.stepper.steps ≡ old.stepper.steps → new.stepper.slides ≡ old.stepper.slides
-    → IsSound new.stepper.parts.heap new.stepper.parts.frames → (bytes : List ℕ) → OneStep code old new outcome.Memory bytes bytes
-one-nothing code old new runs there refused same slides sound bytes =
-    one-refused code old new runs outcome.Memory tt (subst (λ (p : Parts). FreesOnly old.stepper.parts p) (sym there) (none-frees old.stepper.parts))
-    (subst (λ (p : Parts). StaysGone old.stepper.parts p) (sym there) (none-stays old.stepper.parts)) sound slides
-    (λ asked. (ap (λ (p : Parts). p.heap) there, ap (λ (p : Parts). p.frames) there)) refl refused same bytes bytes
-    (subst (λ (p : Parts). StepsOn code (machine_in old.stepper.parts) (machine_in p) outcome.Memory bytes bytes) (sym there)
-    (steps-nowhere code (machine_in old.stepper.parts) bytes))
-
 -- It was made, and what was due was done: behind its instructions, which left `mid`, where these events had been told.
 module _ (code : Code) (old : Standing) (mid : Parts) (new : Standing) (runs : IsRunning code (machine_in old.stepper.parts))
     (stands : Stands mid.heap mid.frames) (serials : Serials mid.heap.cells.heap) (windows : mid.frames.next ≤ 2 ^ 64 - 1)
@@ -134,7 +123,7 @@ module _ (code : Code) (old : Standing) (mid : Parts) (new : Standing) (runs : I
     (none : NoneMade mid.heap new.stepper.parts.heap) (frees : FreesOnly old.stepper.parts mid) (stays : StaysGone old.stepper.parts mid)
     (still : why ≡ Asked → (mid.heap ≡ old.stepper.parts.heap) × (mid.frames ≡ old.stepper.parts.frames))
     (slides : new.stepper.slides ≡ old.stepper.slides) where
-  pub one-served : (result : Outcome) → Raises result old.stepper.parts mid → is_made result ≡ true
+  one-served : (result : Outcome) → Raises result old.stepper.parts mid → is_made result ≡ true
       → new.stepper.steps ≡ counted old.stepper.steps → (before after : List ℕ)
       → StepsOn code (machine_in old.stepper.parts) (machine_in mid) result before after → OneStep code old new result before after
   one-served result high made more before after steps =
@@ -166,3 +155,22 @@ module _ (code : Code) (old : Standing) (mid : Parts) (new : Standing) (runs : I
         high = raises-none result old.stepper.parts mid new.stepper.parts high none;
         counts = counts-made old.stepper.steps new.stepper.steps result made more;
       }
+
+-- It was made: what was due was done behind its instructions, or nothing was due.
+pub one-made : (code : Code) (old : Standing) (mid : Parts) (new : Standing) → IsRunning code (machine_in old.stepper.parts)
+    → IsSound mid.heap mid.frames → (due : Option Cause) → due_at code.ops old.stepper.parts.at ≡ due → (events : List Event)
+    → events ≡ old.stepper.events → Serves due (record old.stepper { events = events }) mid new.stepper old.pacers new.pacers
+    → IsSound new.stepper.parts.heap new.stepper.parts.frames → NoneMade mid.heap new.stepper.parts.heap → (result : Outcome)
+    → Instructed due old.stepper.parts mid result → new.stepper.slides ≡ old.stepper.slides → is_made result ≡ true
+    → new.stepper.steps ≡ counted old.stepper.steps → (before after : List ℕ)
+    → StepsOn code (machine_in old.stepper.parts) (machine_in mid) result before after → OneStep code old new result before after
+one-made code old mid new runs sound None due events told serves grown none result did slides made more before after steps =
+    let there = sym serves.0.parts in
+    one-undue code old new runs result (subst (λ (p : Parts). Raises result old.stepper.parts p) there did.high)
+    (subst (λ (p : Parts). FreesOnly old.stepper.parts p) there did.frees)
+    (subst (λ (p : Parts). StaysGone old.stepper.parts p) there did.stays_gone)
+    grown slides made due (serves.0.events_are ∙ told) (record { since = serves.1.since; pacers = serves.1.pacers }) more before after
+    (subst (λ (p : Parts). StepsOn code (machine_in old.stepper.parts) (machine_in p) result before after) there steps)
+one-made code old mid new runs sound (Some why) due events told serves grown none result did slides made more before after steps =
+    one-served code old mid new runs sound.stands sound.serials sound.windows sound.forest why due events told serves grown none did.frees
+    did.stays_gone (λ e. did.still (ap (λ w. is_asked (Some w)) e)) slides result did.high made more before after steps

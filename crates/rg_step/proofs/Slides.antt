@@ -13,7 +13,7 @@ use Rattle.rg_machine.specs.Parts.{Parts}
 use Rattle.rg_step.specs.Collections.{CollectsTop, Serves, SlidesAsked, event_of}
 use Rattle.rg_step.specs.Pacers.{Asks}
 use Rattle.rg_step.specs.Stepping.{Stepping}
-use Rattle.rg_step.proofs.Reached.{last-is, longer, serves-told}
+use Rattle.rg_step.proofs.Callers.Reached.{last-is, longer, serves-told}
 
 -- where nothing was told, nothing is said
 pub none-slid : (old new : Stepping) → new.events ≡ old.events → SlidesAsked old new

@@ -18,8 +18,8 @@ use Rattle.rg_held.specs.Gone.{gone}
 use Rattle.rg_held.specs.Shown.{ShowsHeld}
 use Rattle.rg_step.specs.Steps.{IsRunning, Settles, StepsOn}
 use Rattle.rg_step.specs.Writes.{WritesOnly}
-use Rattle.rg_step.proofs.Run.{with-input}
-use Rattle.rg_step.proofs.Active.{active-of}
+use Rattle.rg_step.proofs.Walking.Run.{with-input}
+use Rattle.rg_step.proofs.Callers.Active.{active-of}
 
 -- an object that a machine shows, and that isn't gone, is the state's
 shown-there : (t : Tree) (code : Code) (m : Machine) (p : State) → ShowsHeld t.classes code m p → (a : ℕ) (o : Seen)

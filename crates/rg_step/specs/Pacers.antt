@@ -5,3 +5,6 @@ use Rattle.rg_pace.specs.Asked.{Asked}
 pub record Asks : Type 0 where
   pub count : Asked
   pub trace : Asked
+
+abbrev pub both : (count trace : Asked) → Asks
+both count trace = record { count = count; trace = trace }

@@ -1,6 +1,6 @@
 -- A step as a whole, and the states of a run of steps (docs/architecture.md, "The stepper").
 use Rattle.std.specs.Prelude.{◌≡◌, ◌⊎◌, ℕ, zero, suc, true, List, ◌++◌, Some}
-use Rattle.rg_base.specs.declared.event.Cause.TheVariants.{Asked}
+use Rattle.rg_base.specs.declared.event.Cause.TheVariants as cause
 use Rattle.rg_base.specs.declared.event.Event.{Event}
 use Rattle.rg_base.specs.declared.outcome.Outcome.{Outcome}
 use Rattle.rg_base.specs.declared.outcome.Outcome.TheVariants as outcome
@@ -12,7 +12,8 @@ use Rattle.rg_machine.specs.High.{NoneMade, OneMade}
 use Rattle.rg_machine.specs.Parts.{Parts, machine_in}
 use Rattle.rg_step.specs.Asking.{AsksOn, SinceOn, YesesTold}
 use Rattle.rg_step.specs.Collections.{ReachesOn, ServesBy, SlidesAsked}
-use Rattle.rg_step.specs.Pacers.{Asks}
+use Rattle.rg_pace.specs.Asked.{Asked}
+use Rattle.rg_step.specs.Pacers.{Asks, both}
 use Rattle.rg_step.specs.Frees.{FreesOnly, StaysGone}
 use Rattle.rg_step.specs.Sound.{IsSound}
 use Rattle.rg_step.specs.Steps.{Counts, StepsOn, is_made, opening_machine}
@@ -24,6 +25,9 @@ pub record Standing : Type 0 where
   pub stepper : Stepping
   pub pacers : Asks
 
+abbrev pub standing : Stepping → (count trace : Asked) → Standing
+standing s count trace = record { stepper = s; pacers = both count trace }
+
 -- one slot more was ever held exactly where an object was made while all that ever were held an object; a want of memory says nothing
 abbrev pub Raises : Outcome → (old new : Parts) → Type 0
 Raises outcome.Memory old new = Unit {0}
@@ -34,7 +38,7 @@ pub record Served (code : Code) (old new : Standing) (result : Outcome) (before 
   -- its instructions left these parts, of which holds what always does; those of a `collect` left the heap and the frames
   pub mid : Parts
   pub sound : IsSound mid.heap mid.frames
-  pub still : due_at code.ops old.stepper.parts.at ≡ Some Asked → (mid.heap ≡ old.stepper.parts.heap) × (mid.frames ≡ old.stepper.parts.frames)
+  pub still : due_at code.ops old.stepper.parts.at ≡ Some cause.Asked → (mid.heap ≡ old.stepper.parts.heap) × (mid.frames ≡ old.stepper.parts.frames)
   -- they show what the plain step makes of each state that was shown
   pub shows : StepsOn code (machine_in old.stepper.parts) (machine_in mid) result before after
   -- the instructions free nothing but temporaries of a window that they end and regions that they give up, and nothing that is gone comes back

@@ -16,7 +16,6 @@ mod outcome;
 mod quick;
 mod reads;
 mod room;
-mod simple;
 mod step;
 mod stepper;
 mod walk;

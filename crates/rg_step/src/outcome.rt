@@ -1,33 +1,30 @@
 //! A step, without what may follow for its `collect` or its `pace` (docs/architecture.md, "The
 //! stepper").
 
-ghost use Rattle.std.specs.Prelude.{◌≡◌, ◌≤◌, ◌+◌, ◌<◌, false, true};
+ghost use Rattle.std.specs.Prelude.{◌≡◌, ◌≤◌, ◌+◌, ◌<◌, true};
 ghost use Rattle.rg_io.specs.Content.{Rose};
 ghost use Rattle.rg_input.specs.Numbers.{Follows, OnInput};
-ghost use Rattle.rg_tree.specs.Tree.{Tree};
-ghost use Rattle.rg_rules.specs.Outside.Inputs.{first_asks};
-ghost use Rattle.rg_rules.specs.State.{State};
 ghost use Rattle.rg_code.specs.Dues.{due_at};
 ghost use Rattle.rg_machine.specs.Parts.{machine_in};
-ghost use Rattle.rg_step.specs.Steps.{IsResting, IsRunning, Runs, StepsOn, is_made};
-ghost use Rattle.rg_step.specs.Frees.{FreesOnly, StaysGone};
-ghost use Rattle.rg_step.specs.States.{Raises};
-ghost use Rattle.rg_step.specs.Inner.Serving.{answer, is_asked};
+ghost use Rattle.rg_step.specs.Steps.{AsksFirst, IsResting, IsRunning, StepsOn, UnlessAsking};
+ghost use Rattle.rg_step.specs.Steps.{is_made};
+ghost use Rattle.rg_step.specs.Inner.Serving.{HasPlace, Instructed, answer, is_asked};
 
+use crate::collecting::make_place;
 use crate::step::{Did, step};
-use rg_base::{Cause, Outcome, Val};
+use rg_base::{Cause, Event, Outcome, Val};
 use rg_code::CodeList;
 use rg_input::Numbers;
 use rg_io::Source;
 use rg_machine::Machine;
 
-/// Makes one step, in front of which is told why it may collect. One that was refused leaves what
-/// is shown and the input; the input is asked at most where the first thing to do asks. The step of
-/// a `collect` leaves the heap and the frames.
+/// Makes one step, in front of which is told why it may collect, with room for an event that may
+/// come. The input is asked at most where the first thing to do asks.
 pub(crate) fn outcome<S: Source>(
     p: &mut Machine,
     code: &CodeList,
     due: Option<Cause>,
+    events: &mut Vec<Event>,
     input: &mut Numbers,
     source: &mut S,
 ) -> Outcome
@@ -37,22 +34,20 @@ pub(crate) fn outcome<S: Source>(
     requires follows { Follows input.old (S.left source.old) }
     ensures step { OnInput input.old input.new (S.left source.old) (S.left source.new)
         (StepsOn code.now (machine_in p.old) (machine_in p.new) result) }
-    ensures refused { is_made result ≡ false → machine_in p.new ≡ machine_in p.old }
-    ensures high { Raises result p.old p.new }
-    ensures frees { FreesOnly p.old p.new }
-    ensures stays_gone { StaysGone p.old p.new }
-    ensures still { is_asked due ≡ true →
-        (p.new.heap ≡ p.old.heap) × (p.new.frames ≡ p.old.frames) }
-    ensures rests { IsResting p.new }
-    ensures reads_nothing { (t : Tree) (s : State) → Runs t code.now (machine_in p.old) s →
-        first_asks s.items ≡ false → (input.new ≡ input.old) × (source.new ≡ source.old) }
-    ensures input_fault { result ≡ Outcome.InputFault → (t : Tree) (s : State) →
-        Runs t code.now (machine_in p.old) s → first_asks s.items ≡ true }
+    ensures did { Instructed due p.old p.new result }
+    ensures events { events.new.items ≡ events.old.items }
+    ensures room { is_made result ≡ true → HasPlace due events.new }
+    ensures reads_nothing { UnlessAsking code.now (machine_in p.old)
+        ((input.new ≡ input.old) × (source.new ≡ source.old)) }
+    ensures input_fault { result ≡ Outcome.InputFault → AsksFirst code.now (machine_in p.old) }
     ensures follows { Follows input.new (S.left source.new) }
     ensures fault { result ≡ Outcome.InputFault →
         Rose (S.faults source.old) (S.faults source.new) }
     ensures never_falls { S.faults source.old ≤ S.faults source.new }
 {
+    let Ok(()) = make_place(due, events) else {
+        return Outcome::Memory;
+    };
     if is_asked(due) {
         p.go_to(behind_collect(p.at(), code.len()));
         return Outcome::Running;

@@ -1,11 +1,10 @@
 //! The stepper (docs/architecture.md, "The stepper").
 
 ghost use Rattle.std.specs.Prelude.{◌≡◌, ◌≤◌, ℕ, List, None, IfOk, IfSome, OnErr, OnOk};
-ghost use Rattle.std.specs.Prelude.{false, true};
+ghost use Rattle.std.specs.Prelude.{true};
 ghost use Rattle.rg_io.specs.Content.{Rose};
 ghost use Rattle.rg_input.specs.Numbers.{Follows, OnInput};
 ghost use Rattle.rg_tree.specs.Tree.{Tree};
-ghost use Rattle.rg_rules.specs.Outside.Inputs.{first_asks};
 ghost use Rattle.rg_rules.specs.State.{State};
 ghost use Rattle.rg_sound.specs.Fit.{Fit};
 ghost use Rattle.rg_code.specs.Code.{Code};
@@ -14,14 +13,13 @@ ghost use Rattle.rg_machine.specs.Active.{IsActive};
 ghost use Rattle.rg_machine.specs.Owned.{IsOwned};
 ghost use Rattle.rg_machine.specs.Parts.{Parts, machine_in};
 ghost use Rattle.rg_step.specs.Pacers.{Asks};
-ghost use Rattle.rg_step.specs.States.{Chain, OneStep, Opens};
-ghost use Rattle.rg_step.specs.Steps.{IsResting, IsRunning, Leapt, Runs};
+ghost use Rattle.rg_step.specs.States.{Chain, OneStep, Opens, standing};
+ghost use Rattle.rg_step.specs.Steps.{AsksFirst, IsRunning, Leapt, UnlessAsking};
 ghost use Rattle.rg_step.specs.Stepping.{IsFresh};
 ghost use Rattle.rg_step.specs.Steps.{counted_by};
 ghost use Rattle.rg_step.specs.Stepping.{fresh, nothing, numbers_of};
-ghost use Rattle.rg_step.specs.Inner.Held.{stepping};
 
-use crate::collecting::{is_made, make_place, one_more, serve};
+use crate::collecting::{follow, is_made};
 use crate::kept::{Kept, Since};
 use crate::leap::leap;
 use crate::outcome::outcome;
@@ -234,46 +232,12 @@ impl Stepper {
         requires runs { IsRunning code.now (machine_in self.old.parts) }
         requires follows { Follows input.old (S.left source.old) }
         ensures step { OnInput input.old input.new (S.left source.old) (S.left source.new)
-            (OneStep code.now
-            (record {
-              stepper = self.old;
-              pacers = record {
-                count = record {
-                  asks = asks count.old;
-                  yeses = yeses count.old;
-                  told = told count.old;
-                  tuned = tuned count.old;
-                };
-                trace = record {
-                  asks = asks trace.old;
-                  yeses = yeses trace.old;
-                  told = told trace.old;
-                  tuned = tuned trace.old;
-                };
-              };
-            })
-            (record {
-              stepper = self.new;
-              pacers = record {
-                count = record {
-                  asks = asks count.new;
-                  yeses = yeses count.new;
-                  told = told count.new;
-                  tuned = tuned count.new;
-                };
-                trace = record {
-                  asks = asks trace.new;
-                  yeses = yeses trace.new;
-                  told = told trace.new;
-                  tuned = tuned trace.new;
-                };
-              };
-            }) result) }
-        ensures reads_nothing { (t : Tree) (p : State) →
-            Runs t code.now (machine_in self.old.parts) p →
-            first_asks p.items ≡ false → (input.new ≡ input.old) × (source.new ≡ source.old) }
-        ensures input_fault { result ≡ Outcome.InputFault → (t : Tree) (p : State) →
-            Runs t code.now (machine_in self.old.parts) p → first_asks p.items ≡ true }
+            (OneStep code.now (standing self.old (tally count.old) (tally trace.old))
+            (standing self.new (tally count.new) (tally trace.new)) result) }
+        ensures reads_nothing { UnlessAsking code.now (machine_in self.old.parts)
+            ((input.new ≡ input.old) × (source.new ≡ source.old)) }
+        ensures input_fault { result ≡ Outcome.InputFault →
+            AsksFirst code.now (machine_in self.old.parts) }
         ensures follows { Follows input.new (S.left source.new) }
         ensures fault { result ≡ Outcome.InputFault →
             Rose (S.faults source.old) (S.faults source.new) }
@@ -282,7 +246,16 @@ impl Stepper {
         let Some(p) = &mut self.machine else {
             unreachable!();
         };
-        step_on(p, &mut self.kept, code, input, source, count, trace)
+        let due = code.due_at(p.at());
+        p.is_sound();
+        let outcome = outcome(p, code, due, &mut self.kept.events, input, source);
+        p.is_sound();
+        if !is_made(outcome) {
+            return outcome;
+        }
+        follow(p, due, &mut self.kept, count, trace);
+        p.is_sound();
+        outcome
     }
 }
 
@@ -295,83 +268,4 @@ fn more(steps: u64, made: u64) -> u64
     } else {
         u64::MAX
     }
-}
-
-/// Makes one step, and what may follow for its `collect` or its `pace`.
-fn step_on<S: Source>(
-    p: &mut Machine,
-    kept: &mut Kept,
-    code: &CodeList,
-    input: &mut Numbers,
-    source: &mut S,
-    count: &mut dyn Pacer,
-    trace: &mut dyn Pacer,
-) -> Outcome
-    requires runs { IsRunning code.now (machine_in p.old) }
-    requires rests { IsResting p.old }
-    requires follows { Follows input.old (S.left source.old) }
-    ensures rests { IsResting p.new }
-    ensures step { OnInput input.old input.new (S.left source.old) (S.left source.new)
-        (OneStep code.now
-        (record {
-          stepper = stepping p.old kept.old;
-          pacers = record {
-            count = record {
-              asks = asks count.old;
-              yeses = yeses count.old;
-              told = told count.old;
-              tuned = tuned count.old;
-            };
-            trace = record {
-              asks = asks trace.old;
-              yeses = yeses trace.old;
-              told = told trace.old;
-              tuned = tuned trace.old;
-            };
-          };
-        })
-        (record {
-          stepper = stepping p.new kept.new;
-          pacers = record {
-            count = record {
-              asks = asks count.new;
-              yeses = yeses count.new;
-              told = told count.new;
-              tuned = tuned count.new;
-            };
-            trace = record {
-              asks = asks trace.new;
-              yeses = yeses trace.new;
-              told = told trace.new;
-              tuned = tuned trace.new;
-            };
-          };
-        }) result) }
-    ensures reads_nothing { (t : Tree) (s : State) → Runs t code.now (machine_in p.old) s →
-        first_asks s.items ≡ false → (input.new ≡ input.old) × (source.new ≡ source.old) }
-    ensures input_fault { result ≡ Outcome.InputFault → (t : Tree) (s : State) →
-        Runs t code.now (machine_in p.old) s → first_asks s.items ≡ true }
-    ensures follows { Follows input.new (S.left source.new) }
-    ensures fault { result ≡ Outcome.InputFault →
-        Rose (S.faults source.old) (S.faults source.new) }
-    ensures never_falls { S.faults source.old ≤ S.faults source.new }
-{
-    let due = code.due_at(p.at());
-    p.is_sound();
-    let Ok(()) = make_place(due, &mut kept.events) else {
-        return Outcome::Memory;
-    };
-    let outcome = outcome(p, code, due, input, source);
-    p.is_sound();
-    let made = is_made(outcome);
-    if !made {
-        return outcome;
-    }
-    kept.steps = one_more(kept.steps);
-    let Some(why) = due else {
-        return outcome;
-    };
-    serve(p, why, kept, count, trace);
-    p.is_sound();
-    outcome
 }

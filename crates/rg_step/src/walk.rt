@@ -1,16 +1,9 @@
 //! The loop over the instructions of a step (docs/architecture.md, "The stepper").
 
-ghost use Rattle.std.specs.Prelude.{Bool as Truth};
-ghost use Rattle.rg_stack.specs.Machine.{Machine as StackMachine};
-ghost use Rattle.rg_machine.specs.Parts.{machine_in};
 ghost use Rattle.rg_machine.specs.Cores.{core_of};
-ghost use Rattle.rg_heap.specs.Parts.{Parts as HeapParts};
-ghost use Rattle.rg_step.specs.Inner.High.{EndMade, MayMake};
-ghost use Rattle.rg_step.specs.Inner.Refusals.{EndBacks, EndLeaves, Stands};
-ghost use Rattle.rg_step.specs.Inner.Walks.{Unstuck, WalkIs, walk_from};
+ghost use Rattle.rg_step.specs.Inner.Walks.{Unstuck, WalkEnds, walk_from};
 
 use crate::room::{Roomed, make_room};
-use crate::simple::simple;
 use rg_base::Trap;
 use rg_code::CodeList;
 use rg_machine::{Machine, Next, act};
@@ -38,22 +31,11 @@ pub(crate) enum End {
 /// input.
 pub(crate) fn walk(p: &mut Machine, code: &CodeList, from: usize) -> End
     requires { Unstuck (walk_from code.now from (core_of p.old)) }
-    ensures walk { WalkIs code.now from (core_of p.old) (core_of p.new) result }
-    ensures leaves { (start : StackMachine) (asks : Truth) →
-        Stands code.now.ops start asks from (machine_in p.old) →
-        EndLeaves code.now.ops start asks (machine_in p.new) result }
-    ensures backs { EndBacks (machine_in p.old) (machine_in p.new) result }
-    ensures high { (start : HeapParts) → MayMake code.now.ops start from p.old.heap →
-        EndMade code.now.ops start p.new.heap result }
+    ensures { WalkEnds code.now from p.old p.new result }
 {
     let mut at = from;
     while at < code.len() {
-        let op = code.get(at);
-        if simple(p, code, op) {
-            at += 1;
-            continue;
-        }
-        match act(p, code, at, op) {
+        match act(p, code, at, code.get(at)) {
             Next::On => at += 1,
             Next::To(to) => {
                 if to > at {

@@ -19,6 +19,7 @@ use Rattle.rg_step.specs.Pacers.{Asks}
 use Rattle.rg_run.specs.Collected.{Tells}
 use Rattle.rg_run.specs.Machine.{Kept, IsFresh, ShowsAt}
 use Rattle.rg_run.specs.Sound.{Stands, NeverAsks}
+use Rattle.rg_run.specs.Runs.{Caused as RunCaused}
 use Rattle.rg_run.specs.Whole.{WholeRun}
 use Rattle.rg_run.proofs.Sound.{run-is-sound, stands-shown}
 use Rattle.rg_run.proofs.Run.{wrote-part}
@@ -27,7 +28,7 @@ use Rattle.rg_top.specs.declared.status.Status.TheVariants as status
 use Rattle.rg_top.specs.Commands.{run, plain, Origin, in_file}
 use Rattle.rg_top.specs.Expected.{status_of, spelt, MeansFrom}
 use Rattle.rg_top.specs.Headline.{HasInput, ForInput, Runs, StandsAfter, CutOffAt, AsksAfter}
-use Rattle.rg_top.specs.Inner.Settled.{status_of_ended, RanWhole, RanBeside, RanFrom, Settles}
+use Rattle.rg_top.specs.Inner.Settled.{Caused, status_of_ended, RanWhole, RanBeside, RanFrom, Settles}
 
 -- what a call on fresh numbers is told of the input holds of bytes that the source has
 pub on-input : (n new : Pending) (left behind : Option (List ℕ)) (P : List ℕ → List ℕ → Type 0) → n ≡ record { held = []; ended = false } →
@@ -44,6 +45,32 @@ status-answer : (e : Ending) → status_of_ended (answer e) ≡ status_of e
 status-answer Running = refl
 status-answer Done = refl
 status-answer (Stopped kind line) = refl
+
+-- a status names a fault where its ending does
+input-ended : (e : Ended) → status_of_ended e ≡ status.InputFault → e ≡ ended.InputFault
+input-ended ended.InputFault is = refl
+input-ended ended.Done is = absurd cc
+input-ended ended.Spent is = absurd cc
+input-ended (ended.Trap kind line) is = absurd cc
+input-ended ended.OutputFault is = absurd cc
+input-ended ended.Memory is = absurd cc
+
+output-ended : (e : Ended) → status_of_ended e ≡ status.OutputFault → e ≡ ended.OutputFault
+output-ended ended.OutputFault is = refl
+output-ended ended.Done is = absurd cc
+output-ended ended.Spent is = absurd cc
+output-ended (ended.Trap kind line) is = absurd cc
+output-ended ended.InputFault is = absurd cc
+output-ended ended.Memory is = absurd cc
+
+pub caused-by : (e : Ended) (i j o p n m : ℕ) → RunCaused e i j o p n m → Caused (status_of_ended e) i j o p n m
+caused-by e i j o p n m h = record {
+  input_fault = λ is. h.input_fault (input-ended e is);
+  output_fault = λ is. h.output_fault (output-ended e is);
+  input_never_falls = h.source_never_falls;
+  output_never_falls = h.sink_never_falls;
+  notes_never_fall = h.notes_never_fall;
+}
 
 module _ (origin : Origin) (n : ℕ) (source : List ℕ) (left : Option (List ℕ)) (t : Tables) (runs : Runs origin source (program_of t)) (input : List ℕ)
     (is : HasInput left input) (k : ℕ) (Shown : State → Type 0) (old new : Option (List ℕ)) where

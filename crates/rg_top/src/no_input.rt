@@ -24,6 +24,7 @@ impl Source for NoInput {
             IfSome (nothing_left self.old) (λ bytes. bytes ≡ [])) }
         ensures failed { OnErr result (Rose (no_faults self.old) (no_faults self.new)) }
         ensures kept { OnErr result (nothing_left self.new ≡ nothing_left self.old) }
+        ensures buffer_kept { OnErr result (buf.new ≡ buf.old) }
         ensures never_falls { no_faults self.old ≤ no_faults self.new }
     {
         Ok(0)

@@ -111,14 +111,16 @@ fn run_accepted<I: Source, O: Sink, R: Sink>(
         (O.taken out.old) (O.taken out.new) machine.new (input.new ≡ input.old) }
     ensures notes { Reported report result machine.new.stepper.events
         (R.taken notes.old) (R.taken notes.new) }
-    ensures tuned { (tuned count.new ≡ every) × (tuned trace.new ≡ every) }
+    ensures tuned { ((tally count.new).tuned ≡ every) × ((tally trace.new).tuned ≡ every) }
     ensures slides { machine.new.stepper.slides ≡ machine.old.stepper.slides }
     ensures asked { (origin : Origin) (source : List ℕ) →
         Runs origin source (program_of accepted.now.program) →
         RunAsked origin source (I.left input.old) machine.new
-        (asks count.old) (asks count.new) (asks trace.old) (asks trace.new) }
+        (tally count.old).asks (tally count.new).asks
+        (tally trace.old).asks (tally trace.new).asks }
     ensures yeses { SayYes machine.new
-        (yeses count.old) (yeses count.new) (yeses trace.old) (yeses trace.new) }
+        (tally count.old).yeses (tally count.new).yeses
+        (tally trace.old).yeses (tally trace.new).yeses }
     ensures caused { Caused result (I.faults input.old) (I.faults input.new)
         (O.faults out.old) (O.faults out.new) (R.faults notes.old) (R.faults notes.new) }
 {
@@ -167,13 +169,15 @@ fn run_program<I: Source, O: Sink, R: Sink>(
     ensures notes { Reported report result machine.new.stepper.events
         (R.taken notes.old) (R.taken notes.new) }
     ensures tuned { ¬ IsFresh machine.new →
-        (tuned count.new ≡ every) × (tuned trace.new ≡ every) }
+        ((tally count.new).tuned ≡ every) × ((tally trace.new).tuned ≡ every) }
     ensures slides { machine.new.stepper.slides ≡ machine.old.stepper.slides }
     ensures asked { (file source : List ℕ) → Means source (spelt (program_of program)) →
         RunAsked (in_file file) source (I.left input.old) machine.new
-        (asks count.old) (asks count.new) (asks trace.old) (asks trace.new) }
+        (tally count.old).asks (tally count.new).asks
+        (tally trace.old).asks (tally trace.new).asks }
     ensures yeses { SayYes machine.new
-        (yeses count.old) (yeses count.new) (yeses trace.old) (yeses trace.new) }
+        (tally count.old).yeses (tally count.new).yeses
+        (tally trace.old).yeses (tally trace.new).yeses }
     ensures caused { Caused result (I.faults input.old) (I.faults input.new)
         (O.faults out.old) (O.faults out.new) (R.faults notes.old) (R.faults notes.new) }
 {
@@ -342,14 +346,16 @@ fn bulk_accepted<O: Sink, R: Sink>(
         Settles (bulk size) source left result
         (O.taken out.old) (O.taken out.new) machine.new (Unit {0}) }
     ensures notes { R.taken notes.new ≡ R.taken notes.old }
-    ensures tuned { (tuned count.new ≡ 0) × (tuned trace.new ≡ 0) }
+    ensures tuned { ((tally count.new).tuned ≡ 0) × ((tally trace.new).tuned ≡ 0) }
     ensures slides { machine.new.stepper.slides ≡ machine.old.stepper.slides }
     ensures asked { (source : List ℕ) →
         Runs (generated size) source (program_of accepted.now.program) →
         RunAsked (generated size) source (Some []) machine.new
-        (asks count.old) (asks count.new) (asks trace.old) (asks trace.new) }
+        (tally count.old).asks (tally count.new).asks
+        (tally trace.old).asks (tally trace.new).asks }
     ensures yeses { SayYes machine.new
-        (yeses count.old) (yeses count.new) (yeses trace.old) (yeses trace.new) }
+        (tally count.old).yeses (tally count.new).yeses
+        (tally trace.old).yeses (tally trace.new).yeses }
     ensures caused { Caused result 0 0
         (O.faults out.old) (O.faults out.new) (R.faults notes.old) (R.faults notes.new) }
 {
@@ -382,14 +388,17 @@ fn bulk_program<O: Sink, R: Sink>(
         Settles (bulk size) source left result
         (O.taken out.old) (O.taken out.new) machine.new (Unit {0}) }
     ensures notes { R.taken notes.new ≡ R.taken notes.old }
-    ensures tuned { ¬ IsFresh machine.new → (tuned count.new ≡ 0) × (tuned trace.new ≡ 0) }
+    ensures tuned { ¬ IsFresh machine.new →
+        ((tally count.new).tuned ≡ 0) × ((tally trace.new).tuned ≡ 0) }
     ensures slides { machine.new.stepper.slides ≡ machine.old.stepper.slides }
     ensures asked { (source : List ℕ) →
         MeansFrom (generated size) source (spelt (program_of program)) →
         RunAsked (generated size) source (Some []) machine.new
-        (asks count.old) (asks count.new) (asks trace.old) (asks trace.new) }
+        (tally count.old).asks (tally count.new).asks
+        (tally trace.old).asks (tally trace.new).asks }
     ensures yeses { SayYes machine.new
-        (yeses count.old) (yeses count.new) (yeses trace.old) (yeses trace.new) }
+        (tally count.old).yeses (tally count.new).yeses
+        (tally trace.old).yeses (tally trace.new).yeses }
     ensures caused { Caused result 0 0
         (O.faults out.old) (O.faults out.new) (R.faults notes.old) (R.faults notes.new) }
 {
@@ -438,14 +447,16 @@ fn answer_program<I: Source, O: Sink, R: Sink>(
     ensures notes { Reported (reports (command_of request.entry)) result
         machine.new.stepper.events (R.taken notes.old) (R.taken notes.new) }
     ensures tuned { Tunes (command_of request.entry) machine.new
-        (tuned count.new) (tuned trace.new) }
+        (tally count.new).tuned (tally trace.new).tuned }
     ensures slides { machine.new.stepper.slides ≡ is_slide (command_of request.entry) }
     ensures asked { (source : List ℕ) →
         MeansFrom (origin_of (command_of request.entry)) source (spelt (program_of program)) →
         AskedFrom (origin_of (command_of request.entry)) source (I.left input.old) machine.new
-        (asks count.old) (asks count.new) (asks trace.old) (asks trace.new) }
+        (tally count.old).asks (tally count.new).asks
+        (tally trace.old).asks (tally trace.new).asks }
     ensures yeses { SayYes machine.new
-        (yeses count.old) (yeses count.new) (yeses trace.old) (yeses trace.new) }
+        (tally count.old).yeses (tally count.new).yeses
+        (tally trace.old).yeses (tally trace.new).yeses }
     ensures caused { Caused result (I.faults input.old) (I.faults input.new)
         (O.faults out.old) (O.faults out.new) (R.faults notes.old) (R.faults notes.new) }
 {
@@ -551,13 +562,15 @@ fn answer<F: Files, I: Source, O: Sink, R: Sink>(
     ensures notes { Reported (reports (command_of request.entry)) result
         machine.new.stepper.events (R.taken notes.old) (R.taken notes.new) }
     ensures tuned { Tunes (command_of request.entry) machine.new
-        (tuned count.new) (tuned trace.new) }
+        (tally count.new).tuned (tally trace.new).tuned }
     ensures slides { Chooses (command_of request.entry) machine.new }
     ensures asked { AskedCommand (F.told files.old) (origin_of (command_of request.entry))
         (I.left input.old) machine.new
-        (asks count.old) (asks count.new) (asks trace.old) (asks trace.new) }
+        (tally count.old).asks (tally count.new).asks
+        (tally trace.old).asks (tally trace.new).asks }
     ensures yeses { SayYes machine.new
-        (yeses count.old) (yeses count.new) (yeses trace.old) (yeses trace.new) }
+        (tally count.old).yeses (tally count.new).yeses
+        (tally trace.old).yeses (tally trace.new).yeses }
     ensures source_fault { result ≡ Status.SourceFault →
         Rose (F.faults files.old) (F.faults files.new) }
     ensures files_never_fall { F.faults files.old ≤ F.faults files.new }
@@ -637,16 +650,18 @@ pub fn reggio<F: Files, I: Source, O: Sink, R: Sink>(
         machine.new result (R.taken notes.old) (R.taken notes.new) }
     ensures tuned { (c : Command) → command (texts words.now) ≡ Some c → runs_on c ≡ true →
         ¬ IsFresh machine.new →
-        (tuned count.new ≡ every_of c) × (tuned trace.new ≡ every_of c) }
+        ((tally count.new).tuned ≡ every_of c) × ((tally trace.new).tuned ≡ every_of c) }
     ensures slides { (c : Command) → command (texts words.now) ≡ Some c →
         ¬ IsFresh machine.new → machine.new.stepper.slides ≡ is_slide c }
     ensures asked { Unasked machine.new
-        (asks count.old) (asks count.new) (asks trace.old) (asks trace.new)
+        (tally count.old).asks (tally count.new).asks (tally trace.old).asks (tally trace.new).asks
         ⊎ ForSource (F.told files.old) (I.left input.old) (texts words.now)
         (λ c source bytes. RunAsks (origin_of c) source (input_for (origin_of c) bytes) machine.new
-        (asks count.old) (asks count.new) (asks trace.old) (asks trace.new)) }
+        (tally count.old).asks (tally count.new).asks
+        (tally trace.old).asks (tally trace.new).asks) }
     ensures yeses { SayYes machine.new
-        (yeses count.old) (yeses count.new) (yeses trace.old) (yeses trace.new) }
+        (tally count.old).yeses (tally count.new).yeses
+        (tally trace.old).yeses (tally trace.new).yeses }
     ensures owned { (t : Tables) (bytes : List ℕ) (n : ℕ) → Stands t bytes n machine.new →
         IsOwned machine.new.stepper.parts }
     ensures output_fault_told { result ≡ Status.OutputFault →

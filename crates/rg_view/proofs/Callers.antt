@@ -1,10 +1,10 @@
 -- What callers cite.
 pub mod Look
 pub mod Shown
-pub mod Make
+pub mod New
 pub mod Write
 pub mod Become
-pub mod Release
+pub mod Gone
 pub mod Manager
 pub mod Frame
 pub mod Window
@@ -13,15 +13,9 @@ pub mod Link
 pub mod Open
 pub mod Need
 pub mod Table
-pub mod Gone
 pub mod Leave
 pub mod Read
-pub mod Call
-pub mod Temp
-pub mod Key
+pub mod Instructions
 pub mod Machine
 pub mod Held
-pub mod Beneath
-pub mod Forget
 pub mod Once
-pub mod After

@@ -28,7 +28,7 @@ use Rattle.rg_stack.specs.Simulates.{Holds}
 use Rattle.rg_stack.specs.Left.{SomeLeft}
 use Rattle.rg_stack.proofs.Callers.Refusal.{steps-orderly}
 use Rattle.rg_stack.proofs.Basics.{none-some}
-use Rattle.rg_stack.proofs.Walks.Given.{Less}
+use Rattle.rg_stack.proofs.Callers.Less.{Less}
 use Rattle.rg_held.specs.Ends.{Match, SameEnd}
 use Rattle.rg_held.specs.Frees.{free_walk, free_finished, free_step_from, free_step}
 use Rattle.rg_held.specs.Gone.{gone}
@@ -37,15 +37,15 @@ use Rattle.rg_held.specs.Temps.{EndedTemp}
 use Rattle.rg_held.specs.Laws.{StepsFree, InOrder, owners_of}
 use Rattle.rg_held.specs.Part.{SomeWindow, Part}
 use Rattle.rg_held.specs.Shown.{Finds}
-use Rattle.rg_held.proofs.Backs.{Back, walk-back}
+use Rattle.rg_held.proofs.Walks.Back.{Back, walk-back}
 use Rattle.rg_held.proofs.Callers.Step.{step-leads}
 use Rattle.rg_held.proofs.Freed.Changes.{Stands, NoneLeft, region-not}
 use Rattle.rg_held.proofs.Freed.Windows.{Numbered, numbered}
 use Rattle.rg_held.proofs.Freed.Fates.{IsGiven, Since, Stay, Move, Go}
 use Rattle.rg_held.proofs.Freed.Shut.{shut, shut-passes}
-use Rattle.rg_held.proofs.Freed.Walks.{Now, Ending, on-walk}
-use Rattle.rg_held.proofs.Tested.{tested_walk, tested-less}
-use Rattle.rg_held.proofs.Walking.{drop-next, walks-same, tested-walks-same}
+use Rattle.rg_held.proofs.Freed.Walks.{Now, Ending, on-walks}
+use Rattle.rg_held.proofs.Walks.Less.{tested_walk, tested-less}
+use Rattle.rg_held.proofs.Walks.Walk.{drop-next, walks-same, tested-walks-same}
 
 module _ (m grown : Machine) (held : ℕ → Truth) (part : Part held [] m grown []) where
   lost : (o : Seen) (x : Option Seen) → Some o ≡ option_map (λ (u : Seen). gone) x → o ≡ gone
@@ -142,7 +142,7 @@ module _ (old : List Seen) (was : Label) (code : Code) where
   walk-ending at room taken stack u w order m leads now =
       ending (tested_walk shut code (drop at code.ops) at 0 stack u) _ (given_walk code (drop at code.ops) at 0 stack w)
       (tested-less shut code (drop at code.ops) at 0 stack u) (tested-walks-same code shut (shut-passes code) at room taken stack u w order m)
-      leads (on-walk old was code (drop at code.ops) at 0 stack u now)
+      leads (on-walks old was code (drop at code.ops) at 0 stack u now)
 
   landed-came : (x : Walked) → Ending old was x → Came old was (landed code x)
   landed-came (Stops at w) now = come-came old was (slice_get code.ops at) (stopped at w) now

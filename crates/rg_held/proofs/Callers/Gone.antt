@@ -1,33 +1,32 @@
 -- What is gone stays so, whatever the machine that frees does. For callers.
-use Rattle.std.proofs.Common.{◌≡◌, ℕ, zero, suc, ◌+◌, true, false, Bool as Truth, if◌then◌else◌}
-use Rattle.std.proofs.Common.{List, [], ◌∷◌, ◌++◌, drop, length, Option, Some, None, Result, Ok, Err, refl, slice_get, slice_set}
+use Rattle.std.proofs.Common.{◌≡◌, ℕ, ◌+◌, true, false, Bool as Truth}
+use Rattle.std.proofs.Common.{List, [], ◌∷◌, drop, length, Option, Some, None, refl, slice_get, slice_set}
 use Rattle.std.specs.Prelude.{nat_lt, unwrap_or}
-use Rattle.rg_base.specs.Input.{NextNumber, found, malformed, at_end, next_number}
+use Rattle.rg_base.specs.Input.{next_number}
 use Rattle.rg_base.specs.declared.limits.TheConstants.{FRAMES}
 use Rattle.rg_base.specs.declared.object.Label.{Label}
 use Rattle.rg_base.specs.declared.object.Label.TheVariants.{Region, Frozen}
 use Rattle.rg_base.specs.declared.object.Seen.{Seen}
-use Rattle.rg_base.specs.declared.outcome.Trap.{Trap}
 use Rattle.rg_base.specs.declared.outcome.Trap.TheVariants as trap
 use Rattle.rg_base.specs.declared.value.Val.{Val}
 use Rattle.rg_base.specs.declared.value.Val.TheVariants as val
-use Rattle.rg_tree.specs.declared.rows.BinOp.{BinOp}
 use Rattle.rg_tree.specs.declared.rows.BinOp.TheVariants as op
 use Rattle.rg_rules.specs.Evaluation.{object_at}
 use Rattle.rg_rules.specs.Regions.{region_of}
-use Rattle.rg_rules.specs.Values.{Computed, as_bool, operate}
+use Rattle.rg_rules.specs.Values.{as_bool}
 use Rattle.rg_code.specs.declared.code.Entry.{Entry}
 use Rattle.rg_code.specs.declared.op.Op.{Op}
 use Rattle.rg_code.specs.declared.op.Op.TheVariants as i
 use Rattle.rg_code.specs.Code.{Code}
-use Rattle.rg_stack.specs.Machine.{Frame, Machine, top_slots, slot_at, place_of, slots_below}
-use Rattle.rg_stack.specs.Effects.{Work, Walked, Stops, Returns, Traps, Stuck, Go, on_top, on_two, pushed, next_taken, opens_at, begins_by}
-use Rattle.rg_stack.specs.Effects.{called, returned, entered, relabel, beneath_by_labels, top_region, with_store, put_in, with_value_in}
+use Rattle.rg_stack.specs.Machine.{Frame, Machine, slot_at, slots_below}
+use Rattle.rg_stack.specs.Effects.{Work, Walked, Stops, Returns, Traps, Stuck, Go, begins_by}
+use Rattle.rg_stack.specs.Effects.{called, returned, entered, relabel, beneath_by_labels, top_region, put_in, with_value_in}
 use Rattle.rg_stack.specs.Runs.{Stepped, Goes, Ends, Trapped, Lost, come_to, landed, stopped}
 use Rattle.rg_base.specs.declared.object.Place.{Place}
 use Rattle.rg_held.specs.Frees.{Given, given_up, regions_freed, freed, free_act, free_walk, free_finished, free_step_from, free_step}
 use Rattle.rg_held.specs.Gone.{gone}
 use Rattle.rg_held.proofs.Lists.{push-old}
+use Rattle.rg_held.proofs.Walks.Keep.{Kept, Onward, on-top, on-object, on-test, on-pushed, on-two, on-number, on-opened, on-walk}
 use Rattle.rg_held.proofs.Freed.Changes.{written-gone, moved-gone, bury-gone}
 
 -- what is gone of one store is gone of the other
@@ -50,39 +49,8 @@ module _ (a : ℕ) where
   Came (Trapped t line) = Unit {0}
   Came Lost = Unit {0}
 
-  abbrev Onward : Go → Type 0
-  Onward go = (skip : ℕ) (stack : List Val) (w : Work) → Now w → Ending (go skip stack w)
-
-  on-top : (stack : List Val) (go : Val → List Val → Walked) → ((v : Val) (rest : List Val) → Ending (go v rest)) → Ending (on_top stack go)
-  on-top [] go h = tt
-  on-top (v ∷ rest) go h = h v rest
-
-  on-object : (r : Result Seen Trap) (go : Seen → Walked) → ((o : Seen) → Ending (go o)) → Ending (elim r [ Ok o ↦ go o | Err t ↦ Traps t ])
-  on-object (Ok o) go h = h o
-  on-object (Err t) go h = tt
-
-  on-test : (t : Truth) (x y : Walked) → Ending x → Ending y → Ending (if t then x else y)
-  on-test true x y h k = h
-  on-test false x y h k = k
-
-  on-pushed : (c : Computed) (go : Go) (stack : List Val) (w : Work) → Onward go → Now w → Ending (pushed c go stack w)
-  on-pushed (Ok v) go stack w h now = h 0 (v ∷ stack) w now
-  on-pushed (Err t) go stack w h now = tt
-
-  on-two : (o : BinOp) (go : Go) (stack : List Val) (w : Work) → Onward go → Now w → Ending (on_two o go stack w)
-  on-two o go [] w h now = tt
-  on-two o go (y ∷ []) w h now = tt
-  on-two o go (y ∷ x ∷ stack) w h now = on-pushed (operate o x y) go stack w h now
-
-  on-number : (n : NextNumber) (go : Go) (stack : List Val) (w : Work) → Onward go → Now w → Ending (next_taken n go stack w)
-  on-number (found z rest) go stack w h now = h 0 _ _ now
-  on-number malformed go stack w h now = tt
-  on-number at_end go stack w h now = tt
-
-  on-opened : (m : Machine) (z : ℕ) (x : Walked) → Ending x → Ending (opens_at m z x)
-  on-opened m z x h =
-      let inner = begins_by m.windows (place_of m.frames z) in
-      on-test (nat_lt z (length (top_slots m.frames))) (if inner then x else Stuck) Stuck (on-test inner x Stuck h tt) tt
+  kept : Kept Now Ending
+  kept = record { stuck = tt; traps = λ t. tt; read = λ w rest now. now }
 
   on-called : (at : ℕ) (e : Option Entry) (stack : List Val) (w : Work) → Now w → Ending (called at e stack w)
   on-called at None stack w now = tt
@@ -91,7 +59,7 @@ module _ (a : ℕ) where
   on-returned : (w : Work) (fs : List Frame) (stack : List Val) → Now w → Ending (returned w fs stack)
   on-returned w [] stack now = tt
   on-returned w (f ∷ []) stack now = tt
-  on-returned w (f ∷ g ∷ fs) stack now = on-test (begins_by w.machine.windows (slots_below (g ∷ fs))) _ Stuck now tt
+  on-returned w (f ∷ g ∷ fs) stack now = on-test kept (begins_by w.machine.windows (slots_below (g ∷ fs))) _ Stuck now tt
 
   now-entered : (w : Work) (owner : Place) (bridge : Val) (z : ℕ) (r : Option ℕ) → Now w → Now (entered w owner bridge z r)
   now-entered w owner bridge z None now = now
@@ -119,65 +87,63 @@ module _ (a : ℕ) where
       by (Some o) here = written-gone store b k v o here a now
 
   module _ (code : Code) where
-    on-act : (at : ℕ) (o : Op) (go : Go) (stack : List Val) (w : Work) → Onward go → Now w → Ending (free_act code at o go stack w)
+    on-act : (at : ℕ) (o : Op) (go : Go) (stack : List Val) (w : Work) → Onward Now Ending go → Now w → Ending (free_act code at o go stack w)
     on-act at (i.Mark line) go stack w h now = now
-    on-act at (i.Store s) go stack w h now = on-top stack _ (λ v rest. h 0 _ _ now)
-    on-act at (i.Own s) go stack w h now = on-top stack _ (λ v rest. h 0 _ _ (now-freed w (given_up (i.Own s) stack w.machine) now))
-    on-act at (i.Field k) go stack w h now = on-top stack _ (λ v rest. on-object (object_at w.machine.store v) _ (λ o. h 0 _ _ now))
-    on-act at i.IsNil go stack w h now = on-top stack _ (λ v rest. h 0 _ _ now)
-    on-act at i.Neg go stack w h now = on-top stack _ (λ v rest. on-pushed _ go rest w h now)
-    on-act at i.Add go stack w h now = on-two op.Add go stack w h now
-    on-act at i.Sub go stack w h now = on-two op.Sub go stack w h now
-    on-act at i.Mul go stack w h now = on-two op.Mul go stack w h now
-    on-act at i.Div go stack w h now = on-two op.Div go stack w h now
-    on-act at i.Rem go stack w h now = on-two op.Rem go stack w h now
-    on-act at i.Eq go stack w h now = on-two op.Eq go stack w h now
-    on-act at i.Ne go stack w h now = on-two op.Ne go stack w h now
-    on-act at i.Lt go stack w h now = on-two op.Lt go stack w h now
-    on-act at i.Le go stack w h now = on-two op.Le go stack w h now
-    on-act at i.Gt go stack w h now = on-two op.Gt go stack w h now
-    on-act at i.Ge go stack w h now = on-two op.Ge go stack w h now
-    on-act at i.Not go stack w h now = on-top stack _ (λ v rest. h 0 _ _ now)
+    on-act at (i.Store s) go stack w h now = on-top kept stack _ (λ v rest. h 0 _ _ now)
+    on-act at (i.Own s) go stack w h now = on-top kept stack _ (λ v rest. h 0 _ _ (now-freed w (given_up (i.Own s) stack w.machine) now))
+    on-act at (i.Field k) go stack w h now = on-top kept stack _ (λ v rest. on-object kept (object_at w.machine.store v) _ (λ o is. h 0 _ _ now))
+    on-act at i.IsNil go stack w h now = on-top kept stack _ (λ v rest. h 0 _ _ now)
+    on-act at i.Neg go stack w h now = on-top kept stack _ (λ v rest. on-pushed kept _ go rest w h now)
+    on-act at i.Add go stack w h now = on-two kept op.Add go stack w h now
+    on-act at i.Sub go stack w h now = on-two kept op.Sub go stack w h now
+    on-act at i.Mul go stack w h now = on-two kept op.Mul go stack w h now
+    on-act at i.Div go stack w h now = on-two kept op.Div go stack w h now
+    on-act at i.Rem go stack w h now = on-two kept op.Rem go stack w h now
+    on-act at i.Eq go stack w h now = on-two kept op.Eq go stack w h now
+    on-act at i.Ne go stack w h now = on-two kept op.Ne go stack w h now
+    on-act at i.Lt go stack w h now = on-two kept op.Lt go stack w h now
+    on-act at i.Le go stack w h now = on-two kept op.Le go stack w h now
+    on-act at i.Gt go stack w h now = on-two kept op.Gt go stack w h now
+    on-act at i.Ge go stack w h now = on-two kept op.Ge go stack w h now
+    on-act at i.Not go stack w h now = on-top kept stack _ (λ v rest. h 0 _ _ now)
     on-act at (i.Jump to) go stack w h now = now
-    on-act at (i.JumpFalse to) go stack w h now = on-top stack _ (λ v rest. on-test (as_bool v) _ _ (h 0 _ _ now) (h _ _ _ now))
-    on-act at (i.And to) go stack w h now = on-top stack _ (λ v rest. on-test (as_bool v) _ _ (h 0 _ _ now) (h _ _ _ now))
-    on-act at (i.Or to) go stack w h now = on-top stack _ (λ v rest. on-test (as_bool v) _ _ (h _ _ _ now) (h 0 _ _ now))
-    on-act at i.Check go stack w h now = on-top stack _ (λ v rest. on-object (object_at w.machine.store v) _ (λ o. h 0 _ _ now))
+    on-act at (i.JumpFalse to) go stack w h now = on-top kept stack _ (λ v rest. on-test kept (as_bool v) _ _ (h 0 _ _ now) (h _ _ _ now))
+    on-act at (i.And to) go stack w h now = on-top kept stack _ (λ v rest. on-test kept (as_bool v) _ _ (h 0 _ _ now) (h _ _ _ now))
+    on-act at (i.Or to) go stack w h now = on-top kept stack _ (λ v rest. on-test kept (as_bool v) _ _ (h _ _ _ now) (h 0 _ _ now))
+    on-act at i.Check go stack w h now = on-top kept stack _ (λ v rest. on-object kept (object_at w.machine.store v) _ (λ o is. h 0 _ _ now))
     on-act at (i.New c) go stack w h now = h 0 _ _ (push-old w.machine.store _ gone a now)
     on-act at (i.NewTmp c) go stack w h now = h 0 _ _ (push-old w.machine.store _ gone a now)
     on-act at (i.NewIso c m) go stack w h now = h 0 _ _ (push-old w.machine.store _ gone a now)
-    on-act at (i.Put k) go stack w h now = on-top stack _ (λ v rest. on-top rest _ (λ r under. h 0 _ _ (now-put w.machine.store r k v now)))
-    on-act at (i.Swap s k) go stack w h now = on-top stack _ (λ r rest. on-object (object_at w.machine.store r) _
-        (λ o. h 0 _ _ (now-put w.machine.store r k (slot_at w.machine s) now)))
-    on-act at (i.Freeze s) go stack w h now = on-object (object_at w.machine.store (slot_at w.machine s)) _
-        (λ o. h 0 _ _ (now-moved true Frozen w (region_of o.label) now))
-    on-act at (i.Merge s) go stack w h now = on-object (object_at w.machine.store (slot_at w.machine s)) _
-        (λ o. h 0 _ _ (now-moved false (Region (top_region w.machine.windows)) w (region_of o.label) now))
-    on-act at i.Read go stack w h now = on-number (next_number w.input) go stack w h now
-    on-act at i.Room go stack w h now = on-test (nat_lt (length w.machine.frames) FRAMES) _ (Traps trap.Depth) (h 0 stack w now) tt
+    on-act at (i.Put k) go stack w h now = on-top kept stack _ (λ v rest. on-top kept rest _ (λ r under. h 0 _ _ (now-put w.machine.store r k v now)))
+    on-act at (i.Swap s k) go stack w h now = on-top kept stack _ (λ r rest. on-object kept (object_at w.machine.store r) _
+        (λ o is. h 0 _ _ (now-put w.machine.store r k (slot_at w.machine s) now)))
+    on-act at (i.Freeze s) go stack w h now = on-object kept (object_at w.machine.store (slot_at w.machine s)) _
+        (λ o is. h 0 _ _ (now-moved true Frozen w (region_of o.label) now))
+    on-act at (i.Merge s) go stack w h now = on-object kept (object_at w.machine.store (slot_at w.machine s)) _
+        (λ o is. h 0 _ _ (now-moved false (Region (top_region w.machine.windows)) w (region_of o.label) now))
+    on-act at i.Read go stack w h now = on-number kept (next_number w.input) go stack w h now
+    on-act at i.Room go stack w h now = on-test kept (nat_lt (length w.machine.frames) FRAMES) _ (Traps trap.Depth) (h 0 stack w now) tt
     on-act at (i.Call m) go stack w h now = on-called at (slice_get code.entries m) stack w now
-    on-act at i.Ret go stack w h now = on-top stack _ (λ v rest.
+    on-act at i.Ret go stack w h now = on-top kept stack _ (λ v rest.
         on-returned (freed (given_up i.Ret stack w.machine) w) w.machine.frames (v ∷ []) (now-freed w (given_up i.Ret stack w.machine) now))
     on-act at i.RetVoid go stack w h now =
         on-returned (freed (given_up i.RetVoid stack w.machine) w) w.machine.frames [] (now-freed w (given_up i.RetVoid stack w.machine) now)
-    on-act at (i.Enter s z) go stack w h now = on-opened w.machine z _ (on-object (object_at w.machine.store (slot_at w.machine s)) _
-        (λ o. h 0 _ _ (now-entered w _ _ z (region_of o.label) now)))
-    on-act at (i.EnterField k z) go stack w h now = on-opened w.machine z _ (on-top stack _ (λ r rest.
-        on-object (object_at w.machine.store r) _ (λ o.
-        on-object (object_at w.machine.store (unwrap_or (slice_get o.fields k) val.Nil)) _ (λ b.
+    on-act at (i.Enter s z) go stack w h now = on-opened kept w.machine z _ (on-object kept (object_at w.machine.store (slot_at w.machine s)) _
+        (λ o is. h 0 _ _ (now-entered w _ _ z (region_of o.label) now)))
+    on-act at (i.EnterField k z) go stack w h now = on-opened kept w.machine z _ (on-top kept stack _ (λ r rest.
+        on-object kept (object_at w.machine.store r) _ (λ o is.
+        on-object kept (object_at w.machine.store (unwrap_or (slice_get o.fields k) val.Nil)) _ (λ b there.
         h 0 _ _ (now-entered w _ _ z (region_of b.label) now)))))
     on-act at (i.Leave s) go stack w h now = h 0 _ _ (now-freed w (given_up (i.Leave s) stack w.machine) now)
     on-act at (i.End s) go stack w h now = h 0 _ _ (now-freed w (given_up (i.End s) stack w.machine) now)
-    on-act at i.Print go stack w h now = on-top stack _ (λ v rest. h 0 _ _ now)
-    on-act at i.Pop go stack w h now = on-top stack _ (λ v rest. h 0 _ _ (now-freed w (given_up i.Pop stack w.machine) now))
-    on-act at i.Drop go stack w h now = on-top stack _ (λ v rest. h 0 _ _ (now-freed w (given_up i.Drop stack w.machine) now))
+    on-act at i.Print go stack w h now = on-top kept stack _ (λ v rest. h 0 _ _ now)
+    on-act at i.Pop go stack w h now = on-top kept stack _ (λ v rest. h 0 _ _ (now-freed w (given_up i.Pop stack w.machine) now))
+    on-act at i.Drop go stack w h now = on-top kept stack _ (λ v rest. h 0 _ _ (now-freed w (given_up i.Drop stack w.machine) now))
     on-act at i.Halt go stack w h now = now
     on-act at _ go stack w h now = h 0 _ _ now
 
-    on-walk : (os : List Op) (at : ℕ) → Onward (free_walk code os at)
-    on-walk [] at skip stack w now = tt
-    on-walk (o ∷ os) at zero stack w now = on-act at o (free_walk code os (at + 1)) stack w (on-walk os (at + 1)) now
-    on-walk (o ∷ os) at (suc k) stack w now = on-walk os (at + 1) k stack w now
+    on-walks : (os : List Op) (at : ℕ) → Onward Now Ending (free_walk code os at)
+    on-walks = on-walk kept free_act code on-act
 
     came-to : (o : Option Op) (w : Work) → Now w → Came (come_to o w)
     came-to None w now = tt
@@ -194,14 +160,14 @@ module _ (a : ℕ) where
     came-finished : (line : ℕ) (x : Walked) → Ending x → Came (free_finished code line x)
     came-finished line (Stops at w) now = came-to (slice_get code.ops at) (stopped at w) now
     came-finished line (Returns back stack w) now =
-        came-landed (free_walk code (drop back code.ops) back 0 stack w) (on-walk (drop back code.ops) back 0 stack w now)
+        came-landed (free_walk code (drop back code.ops) back 0 stack w) (on-walks (drop back code.ops) back 0 stack w now)
     came-finished line (Traps t) now = tt
     came-finished line Stuck now = tt
 
     came-from : (w : Work) (os : List Op) → Now w → Came (free_step_from code w os)
     came-from w [] now = tt
     came-from w (i.Mark line ∷ os) now =
-        came-finished line (free_walk code os (w.machine.at + 1) 0 [] w) (on-walk os (w.machine.at + 1) 0 [] w now)
+        came-finished line (free_walk code os (w.machine.at + 1) 0 [] w) (on-walks os (w.machine.at + 1) 0 [] w now)
     came-from w (o ∷ os) now = tt
 
     came : (w : Work) → Now w → Came (free_step code w)

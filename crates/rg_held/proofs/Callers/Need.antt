@@ -32,12 +32,12 @@ use Rattle.rg_stack.specs.Needs.{places_into, all_below, owned_once, loose, owns
 use Rattle.rg_stack.specs.Needs.{top_base, is_open_label, may_keep}
 use Rattle.rg_stack.specs.Needs.{may_stand, field_of, of_object, is_field, value_at, owner_leads, is_empty, of_top, needs}
 use Rattle.rg_stack.proofs.Basics.{none-some, and-left, and-right}
-use Rattle.rg_stack.proofs.Walks.Need.{below_by}
+use Rattle.rg_stack.proofs.Callers.Need.{below_by}
 use Rattle.rg_held.specs.Gone.{gone}
 use Rattle.rg_held.specs.Part.{leads_to, AllLead, Part, OwnerHeld, OwnersHeld}
 use Rattle.rg_held.specs.Laws.{NeedsSame}
 use Rattle.rg_held.proofs.Lists.{off, any-at, reverse-back, ended-back}
-use Rattle.rg_held.proofs.Parts.{top-slot, slots-back}
+use Rattle.rg_held.proofs.Parts.Part.{top-slot, slots-back}
 
 -- tests of which the one follows from the other
 

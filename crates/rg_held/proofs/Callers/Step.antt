@@ -23,10 +23,10 @@ use Rattle.rg_stack.proofs.Callers.Refusal.{steps-orderly}
 use Rattle.rg_held.specs.Frees.{free_given_walk, free_given_finished, free_given_step_from, free_given_step}
 use Rattle.rg_held.specs.Ends.{Match, SameEnd, SameStep}
 use Rattle.rg_held.specs.Laws.{StepsSame, FreeGivenSame}
-use Rattle.rg_held.proofs.Walking.{drop-next, given-walks-same}
-use Rattle.rg_held.proofs.Less.{step-less}
-use Rattle.rg_held.proofs.Stops.{come-same}
-use Rattle.rg_held.proofs.Backs.{Back, walk-back}
+use Rattle.rg_held.proofs.Walks.Walk.{drop-next, given-walks-same}
+use Rattle.rg_held.proofs.Walks.Less.{step-less}
+use Rattle.rg_held.proofs.Walks.Stop.{come-same}
+use Rattle.rg_held.proofs.Walks.Back.{Back, walk-back}
 
 -- the walk behind a frame's end stops
 landed-same : (code : Code) (x y : Walked) → SameEnd x y → (landed code y ≡ Lost → ⊥) → SameStep (landed code x) (landed code y)

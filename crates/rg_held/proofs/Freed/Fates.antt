@@ -16,7 +16,7 @@ use Rattle.rg_held.specs.Frees.{is_temp, bury}
 use Rattle.rg_held.specs.Gone.{gone}
 use Rattle.rg_held.specs.Part.{SomeWindow}
 use Rattle.rg_held.proofs.Lists.{off, push-old}
-use Rattle.rg_held.proofs.Burials.{temp-label}
+use Rattle.rg_held.proofs.Parts.Burial.{temp-label}
 use Rattle.rg_held.proofs.Freed.Changes.{Stands, NoneLies, NoneLeft, MayTake, region-not, frozen-not}
 use Rattle.rg_held.proofs.Freed.Changes.{written-stands, written-gone, written-none, made-none}
 use Rattle.rg_held.proofs.Freed.Windows.{Numbered, EndedOn}

@@ -24,11 +24,11 @@ use Rattle.rg_held.specs.Frees.{Given, given_up, regions_freed, closed_among, cl
 use Rattle.rg_held.specs.Part.{Part}
 use Rattle.rg_held.proofs.Lists.{off}
 use Rattle.rg_held.proofs.Places.{closed-back}
-use Rattle.rg_held.proofs.Burials.{freed-closed}
-use Rattle.rg_held.proofs.Releases.{given-back}
-use Rattle.rg_held.proofs.Consumes.{closed-region}
-use Rattle.rg_held.proofs.Tested.{Test}
-use Rattle.rg_held.proofs.Walking.{PassesTest}
+use Rattle.rg_held.proofs.Parts.Burial.{freed-closed}
+use Rattle.rg_held.proofs.Acts.Release.{given-back}
+use Rattle.rg_held.proofs.Acts.Consume.{closed-region}
+use Rattle.rg_held.proofs.Walks.Less.{Test}
+use Rattle.rg_held.proofs.Walks.Walk.{PassesTest}
 
 -- the region of what a slot leads to
 abbrev pub region_in : Machine → (slot : ℕ) → Option ℕ

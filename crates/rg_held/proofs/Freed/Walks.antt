@@ -1,12 +1,12 @@
 -- Instructions and walks of the machine that frees: what had a label when the step began has it still, has moved, or is gone.
-use Rattle.std.proofs.Common.{◌≡◌, ◌≢◌, ℕ, zero, suc, ◌+◌, ◌<◌, true, false, not, true≢false, Bool as Truth, if◌then◌else◌}
+use Rattle.std.proofs.Common.{◌≡◌, ◌≢◌, ℕ, ◌+◌, ◌<◌, true, false, not, true≢false, Bool as Truth, if◌then◌else◌}
 use Rattle.std.proofs.Common.{List, [], ◌∷◌, ◌++◌, length, Option, Some, None, Result, Ok, Err, refl, sym, ap, subst, ◌∙◌, arith, slice_get}
 use Rattle.std.specs.Prelude.{nat_lt, slice_index_or, unwrap_or, ◌||◌}
 use Rattle.std.specs.List.{list_any}
 use Rattle.std.proofs.lemmas.List.FromFn.{length-map-range_with_len}
 use Rattle.std.proofs.lemmas.Bool.{eq-eqb, ne_eqb}
 use Rattle.std.proofs.lemmas.List.{length_push}
-use Rattle.rg_base.specs.Input.{NextNumber, found, malformed, at_end, next_number}
+use Rattle.rg_base.specs.Input.{next_number}
 use Rattle.rg_base.specs.declared.limits.TheConstants.{FRAMES}
 use Rattle.rg_base.specs.declared.object.Label.{Label}
 use Rattle.rg_base.specs.declared.object.Label.TheVariants.{Region, Temp, Frozen}
@@ -18,26 +18,26 @@ use Rattle.rg_base.specs.declared.value.Val.{Val}
 use Rattle.rg_base.specs.declared.value.Val.TheVariants as val
 use Rattle.rg_base.specs.declared.words.Manager.{Manager}
 use Rattle.rg_base.specs.declared.words.Manager.TheVariants.{Arena}
-use Rattle.rg_tree.specs.declared.rows.BinOp.{BinOp}
 use Rattle.rg_tree.specs.declared.rows.BinOp.TheVariants as op
 use Rattle.rg_rules.specs.Evaluation.{object_at}
 use Rattle.rg_rules.specs.Regions.{region_of}
-use Rattle.rg_rules.specs.Values.{Computed, as_bool, operate}
+use Rattle.rg_rules.specs.Values.{as_bool}
 use Rattle.rg_sound.proofs.LocalRoots.{label-region}
 use Rattle.rg_code.specs.declared.code.Entry.{Entry}
 use Rattle.rg_code.specs.declared.op.Op.{Op}
 use Rattle.rg_code.specs.declared.op.Op.TheVariants as i
 use Rattle.rg_code.specs.Code.{Code}
-use Rattle.rg_stack.specs.Machine.{Frame, Window, Machine, top_slots, slot_at, place_of, slots_below}
-use Rattle.rg_stack.specs.Effects.{Work, Walked, Stops, Returns, Traps, Stuck, Go, on_top, on_two, pushed, next_taken, opens_at, begins_by}
+use Rattle.rg_stack.specs.Machine.{Frame, Window, slot_at, place_of, slots_below}
+use Rattle.rg_stack.specs.Effects.{Work, Walked, Stops, Returns, Traps, Stuck, Go, begins_by}
 use Rattle.rg_stack.specs.Effects.{called, returned, entered, relabel, without_top, top_region, with_store, put_in, stored}
 use Rattle.rg_stack.specs.Needs.{needs}
 use Rattle.rg_stack.specs.Labels.{is_open}
 use Rattle.rg_stack.proofs.Basics.{none-some}
 use Rattle.rg_held.specs.Frees.{Given, given_up, regions_freed, window_that_ends, left_with, bury, freed, forgotten, lives, free_act}
 use Rattle.rg_held.specs.Part.{SomeWindow}
-use Rattle.rg_held.proofs.Tested.{tested_walk}
-use Rattle.rg_held.proofs.Burials.{same-region}
+use Rattle.rg_held.proofs.Walks.Less.{tested_act, tested_walk}
+use Rattle.rg_held.proofs.Walks.Keep.{Kept, Onward, on-top, on-object, on-test, on-pushed, on-two, on-number, on-opened, on-walk}
+use Rattle.rg_held.proofs.Parts.Burial.{same-region}
 use Rattle.rg_held.proofs.Freed.Changes.{MayTake, region-not}
 use Rattle.rg_held.proofs.Freed.Windows.{numbered-more, number-new, opened-on, without-on, without-shut, without-some, without-numbered}
 use Rattle.rg_held.proofs.Freed.Windows.{that-ends, left-temps}
@@ -69,41 +69,8 @@ module _ (old : List Seen) (was : Label) where
   Ending (Traps t) = Unit {0}
   Ending Stuck = Unit {0}
 
-  -- and of how it goes on
-  abbrev Onward : Go → Type 0
-  Onward go = (skip : ℕ) (stack : List Val) (w : Work) → Now w → Ending (go skip stack w)
-
-  on-top : (stack : List Val) (go : Val → List Val → Walked) → ((v : Val) (rest : List Val) → Ending (go v rest)) → Ending (on_top stack go)
-  on-top [] go h = tt
-  on-top (v ∷ rest) go h = h v rest
-
-  on-object : (r : Result Seen Trap) (go : Seen → Walked) → ((o : Seen) → r ≡ Ok o → Ending (go o))
-      → Ending (elim r [ Ok o ↦ go o | Err t ↦ Traps t ])
-  on-object (Ok o) go h = h o refl
-  on-object (Err t) go h = tt
-
-  on-test : (t : Truth) (a b : Walked) → Ending a → Ending b → Ending (if t then a else b)
-  on-test true a b h k = h
-  on-test false a b h k = k
-
-  on-pushed : (c : Computed) (go : Go) (stack : List Val) (w : Work) → Onward go → Now w → Ending (pushed c go stack w)
-  on-pushed (Ok v) go stack w h now = h 0 (v ∷ stack) w now
-  on-pushed (Err t) go stack w h now = tt
-
-  on-two : (o : BinOp) (go : Go) (stack : List Val) (w : Work) → Onward go → Now w → Ending (on_two o go stack w)
-  on-two o go [] w h now = tt
-  on-two o go (y ∷ []) w h now = tt
-  on-two o go (y ∷ x ∷ stack) w h now = on-pushed (operate o x y) go stack w h now
-
-  on-number : (n : NextNumber) (go : Go) (stack : List Val) (w : Work) → Onward go → Now w → Ending (next_taken n go stack w)
-  on-number (found z rest) go stack w h now = h 0 _ _ now
-  on-number malformed go stack w h now = tt
-  on-number at_end go stack w h now = tt
-
-  on-opened : (m : Machine) (z : ℕ) (a : Walked) → Ending a → Ending (opens_at m z a)
-  on-opened m z a h =
-      let inner = begins_by m.windows (place_of m.frames z) in
-      on-test (nat_lt z (length (top_slots m.frames))) (if inner then a else Stuck) Stuck (on-test inner a Stuck h tt) tt
+  kept : Kept Now Ending
+  kept = record { stuck = tt; traps = λ t. tt; read = λ w rest now. now }
 
   on-called : (at : ℕ) (e : Option Entry) (stack : List Val) (w : Work) → Now w → Ending (called at e stack w)
   on-called at None stack w now = tt
@@ -112,7 +79,7 @@ module _ (old : List Seen) (was : Label) where
   on-returned : (w : Work) (fs : List Frame) (stack : List Val) → Now w → Ending (returned w fs stack)
   on-returned w [] stack now = tt
   on-returned w (f ∷ []) stack now = tt
-  on-returned w (f ∷ g ∷ fs) stack now = on-test (begins_by w.machine.windows (slots_below (g ∷ fs))) _ Stuck now tt
+  on-returned w (f ∷ g ∷ fs) stack now = on-test kept (begins_by w.machine.windows (slots_below (g ∷ fs))) _ Stuck now tt
 
   now-entered : (w : Work) (owner : Place) (bridge : Val) (z : ℕ) (v : Val) (o : Seen) → object_at w.machine.store v ≡ Ok o → Now w
       → Now (entered w owner bridge z (region_of o.label))
@@ -217,62 +184,62 @@ module _ (old : List Seen) (was : Label) where
       since-put old was w.machine.store w.machine.windows w.machine.windows_made (length w.machine.managers) r k v now
 
   module _ (code : Code) where
-    on-act : (at : ℕ) (o : Op) (go : Go) (stack : List Val) (w : Work) → Onward go → shut o stack w.machine ≡ true → Now w
+    on-act : (at : ℕ) (o : Op) (go : Go) (stack : List Val) (w : Work) → Onward Now Ending go → shut o stack w.machine ≡ true → Now w
         → Ending (free_act code at o go stack w)
     on-act at (i.Mark line) go stack w h t now = now
-    on-act at (i.Store s) go stack w h t now = on-top stack _ (λ v rest. h 0 _ _ now)
-    on-act at (i.Own s) go stack w h t now = on-top stack _ (λ v rest. h 0 _ _ (now-freed w _ refl t now))
-    on-act at (i.Field k) go stack w h t now = on-top stack _ (λ v rest. on-object (object_at w.machine.store v) _ (λ o e. h 0 _ _ now))
-    on-act at i.IsNil go stack w h t now = on-top stack _ (λ v rest. h 0 _ _ now)
-    on-act at i.Neg go stack w h t now = on-top stack _ (λ v rest. on-pushed _ go rest w h now)
-    on-act at i.Add go stack w h t now = on-two op.Add go stack w h now
-    on-act at i.Sub go stack w h t now = on-two op.Sub go stack w h now
-    on-act at i.Mul go stack w h t now = on-two op.Mul go stack w h now
-    on-act at i.Div go stack w h t now = on-two op.Div go stack w h now
-    on-act at i.Rem go stack w h t now = on-two op.Rem go stack w h now
-    on-act at i.Eq go stack w h t now = on-two op.Eq go stack w h now
-    on-act at i.Ne go stack w h t now = on-two op.Ne go stack w h now
-    on-act at i.Lt go stack w h t now = on-two op.Lt go stack w h now
-    on-act at i.Le go stack w h t now = on-two op.Le go stack w h now
-    on-act at i.Gt go stack w h t now = on-two op.Gt go stack w h now
-    on-act at i.Ge go stack w h t now = on-two op.Ge go stack w h now
-    on-act at i.Not go stack w h t now = on-top stack _ (λ v rest. h 0 _ _ now)
+    on-act at (i.Store s) go stack w h t now = on-top kept stack _ (λ v rest. h 0 _ _ now)
+    on-act at (i.Own s) go stack w h t now = on-top kept stack _ (λ v rest. h 0 _ _ (now-freed w _ refl t now))
+    on-act at (i.Field k) go stack w h t now = on-top kept stack _ (λ v rest. on-object kept (object_at w.machine.store v) _ (λ o e. h 0 _ _ now))
+    on-act at i.IsNil go stack w h t now = on-top kept stack _ (λ v rest. h 0 _ _ now)
+    on-act at i.Neg go stack w h t now = on-top kept stack _ (λ v rest. on-pushed kept _ go rest w h now)
+    on-act at i.Add go stack w h t now = on-two kept op.Add go stack w h now
+    on-act at i.Sub go stack w h t now = on-two kept op.Sub go stack w h now
+    on-act at i.Mul go stack w h t now = on-two kept op.Mul go stack w h now
+    on-act at i.Div go stack w h t now = on-two kept op.Div go stack w h now
+    on-act at i.Rem go stack w h t now = on-two kept op.Rem go stack w h now
+    on-act at i.Eq go stack w h t now = on-two kept op.Eq go stack w h now
+    on-act at i.Ne go stack w h t now = on-two kept op.Ne go stack w h now
+    on-act at i.Lt go stack w h t now = on-two kept op.Lt go stack w h now
+    on-act at i.Le go stack w h t now = on-two kept op.Le go stack w h now
+    on-act at i.Gt go stack w h t now = on-two kept op.Gt go stack w h now
+    on-act at i.Ge go stack w h t now = on-two kept op.Ge go stack w h now
+    on-act at i.Not go stack w h t now = on-top kept stack _ (λ v rest. h 0 _ _ now)
     on-act at (i.Jump to) go stack w h t now = now
-    on-act at (i.JumpFalse to) go stack w h t now = on-top stack _ (λ v rest. on-test (as_bool v) _ _ (h 0 _ _ now) (h _ _ _ now))
-    on-act at (i.And to) go stack w h t now = on-top stack _ (λ v rest. on-test (as_bool v) _ _ (h 0 _ _ now) (h _ _ _ now))
-    on-act at (i.Or to) go stack w h t now = on-top stack _ (λ v rest. on-test (as_bool v) _ _ (h _ _ _ now) (h 0 _ _ now))
-    on-act at i.Check go stack w h t now = on-top stack _ (λ v rest. on-object (object_at w.machine.store v) _ (λ o e. h 0 _ _ now))
+    on-act at (i.JumpFalse to) go stack w h t now = on-top kept stack _ (λ v rest. on-test kept (as_bool v) _ _ (h 0 _ _ now) (h _ _ _ now))
+    on-act at (i.And to) go stack w h t now = on-top kept stack _ (λ v rest. on-test kept (as_bool v) _ _ (h 0 _ _ now) (h _ _ _ now))
+    on-act at (i.Or to) go stack w h t now = on-top kept stack _ (λ v rest. on-test kept (as_bool v) _ _ (h _ _ _ now) (h 0 _ _ now))
+    on-act at i.Check go stack w h t now = on-top kept stack _ (λ v rest. on-object kept (object_at w.machine.store v) _ (λ o e. h 0 _ _ now))
     on-act at (i.New c) go stack w h t now = h 0 _ _ (now-made w _ (top-apart w.machine.windows now.some_window) now)
     on-act at (i.NewTmp c) go stack w h t now = h 0 _ _ (now-made w _ (λ r closed. temp-apart _ r) now)
     on-act at (i.NewIso c m) go stack w h t now = h 0 _ _ (now-region w m _ refl now)
-    on-act at (i.Put k) go stack w h t now = on-top stack _ (λ v rest. on-top rest _ (λ r under. h 0 _ _ (now-put w r k v now)))
-    on-act at (i.Swap s k) go stack w h t now = on-top stack _ (λ r rest. on-object (object_at w.machine.store r) _
+    on-act at (i.Put k) go stack w h t now = on-top kept stack _ (λ v rest. on-top kept rest _ (λ r under. h 0 _ _ (now-put w r k v now)))
+    on-act at (i.Swap s k) go stack w h t now = on-top kept stack _ (λ r rest. on-object kept (object_at w.machine.store r) _
         (λ o e. h 0 _ _ (now-put w r k (slot_at w.machine s) now)))
-    on-act at (i.Freeze s) go stack w h t now = on-object (object_at w.machine.store (slot_at w.machine s)) _
+    on-act at (i.Freeze s) go stack w h t now = on-object kept (object_at w.machine.store (slot_at w.machine s)) _
         (λ o e. h 0 _ _ (now-forgotten (stored (with_store w (relabel true Frozen w (region_of o.label))) s val.Nil)
         (now-moves true Frozen s w o e tt (λ q closed. frozen-apart q) t now)))
-    on-act at (i.Merge s) go stack w h t now = on-object (object_at w.machine.store (slot_at w.machine s)) _
+    on-act at (i.Merge s) go stack w h t now = on-object kept (object_at w.machine.store (slot_at w.machine s)) _
         (λ o e. (let label = Region (top_region w.machine.windows) in
         h 0 _ _ (now-forgotten (stored (with_store w (relabel false label w (region_of o.label))) s val.Nil)
         (now-moves false label s w o e tt (top-apart w.machine.windows now.some_window) t now))))
-    on-act at i.Read go stack w h t now = on-number (next_number w.input) go stack w h now
-    on-act at i.Room go stack w h t now = on-test (nat_lt (length w.machine.frames) FRAMES) _ (Traps trap.Depth) (h 0 stack w now) tt
+    on-act at i.Read go stack w h t now = on-number kept (next_number w.input) go stack w h now
+    on-act at i.Room go stack w h t now = on-test kept (nat_lt (length w.machine.frames) FRAMES) _ (Traps trap.Depth) (h 0 stack w now) tt
     on-act at (i.Call m) go stack w h t now = on-called at (slice_get code.entries m) stack w now
-    on-act at i.Ret go stack w h t now = on-top stack _ (λ v rest.
+    on-act at i.Ret go stack w h t now = on-top kept stack _ (λ v rest.
         on-returned (freed (given_up i.Ret stack w.machine) w) w.machine.frames (v ∷ []) (now-freed w _ refl t now))
     on-act at i.RetVoid go stack w h t now =
         on-returned (freed (given_up i.RetVoid stack w.machine) w) w.machine.frames [] (now-freed w _ refl t now)
-    on-act at (i.Enter s z) go stack w h t now = on-opened w.machine z _ (on-object (object_at w.machine.store (slot_at w.machine s)) _
+    on-act at (i.Enter s z) go stack w h t now = on-opened kept w.machine z _ (on-object kept (object_at w.machine.store (slot_at w.machine s)) _
         (λ o e. h 0 _ _ (now-entered w _ _ z (slot_at w.machine s) o e now)))
-    on-act at (i.EnterField k z) go stack w h t now = on-opened w.machine z _ (on-top stack _ (λ r rest.
-        on-object (object_at w.machine.store r) _ (λ o e.
-        on-object (object_at w.machine.store (unwrap_or (slice_get o.fields k) val.Nil)) _ (λ b is.
+    on-act at (i.EnterField k z) go stack w h t now = on-opened kept w.machine z _ (on-top kept stack _ (λ r rest.
+        on-object kept (object_at w.machine.store r) _ (λ o e.
+        on-object kept (object_at w.machine.store (unwrap_or (slice_get o.fields k) val.Nil)) _ (λ b is.
         h 0 _ _ (now-entered w _ _ z (unwrap_or (slice_get o.fields k) val.Nil) b is now)))))
     on-act at (i.Leave s) go stack w h t now = h 0 _ _ (now-ended w s t now)
     on-act at (i.End s) go stack w h t now = h 0 _ _ (now-freed w _ refl t now)
-    on-act at i.Print go stack w h t now = on-top stack _ (λ v rest. h 0 _ _ now)
-    on-act at i.Pop go stack w h t now = on-top stack _ (λ v rest. h 0 _ _ (now-freed w _ refl t now))
-    on-act at i.Drop go stack w h t now = on-top stack _ (λ v rest. h 0 _ _ (now-freed w _ refl t now))
+    on-act at i.Print go stack w h t now = on-top kept stack _ (λ v rest. h 0 _ _ now)
+    on-act at i.Pop go stack w h t now = on-top kept stack _ (λ v rest. h 0 _ _ (now-freed w _ refl t now))
+    on-act at i.Drop go stack w h t now = on-top kept stack _ (λ v rest. h 0 _ _ (now-freed w _ refl t now))
     on-act at i.Halt go stack w h t now = now
     on-act at _ go stack w h t now = h 0 _ _ now
 
@@ -281,8 +248,10 @@ module _ (old : List Seen) (was : Label) where
     on-shut true false x h = tt
     on-shut false t x h = tt
 
-    pub on-walk : (os : List Op) (at : ℕ) → Onward (tested_walk shut code os at)
-    on-walk [] at skip stack w now = tt
-    on-walk (o ∷ os) at zero stack w now = on-shut (needs code o stack w.machine) (shut o stack w.machine) _
-        (λ t. on-act at o (tested_walk shut code os (at + 1)) stack w (on-walk os (at + 1)) t now)
-    on-walk (o ∷ os) at (suc k) stack w now = on-walk os (at + 1) k stack w now
+    on-tested : (at : ℕ) (o : Op) (go : Go) (stack : List Val) (w : Work) → Onward Now Ending go → Now w
+        → Ending (tested_act shut code at o go stack w)
+    on-tested at o go stack w h now =
+        on-shut (needs code o stack w.machine) (shut o stack w.machine) _ (λ t. on-act at o go stack w h t now)
+
+    pub on-walks : (os : List Op) (at : ℕ) → Onward Now Ending (tested_walk shut code os at)
+    on-walks = on-walk kept (tested_act shut) code on-tested

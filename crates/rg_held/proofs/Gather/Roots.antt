@@ -37,9 +37,9 @@ use Rattle.rg_stack.specs.Needs.{field_of, value_at, top_base}
 use Rattle.rg_stack.specs.Labels.{has_window}
 use Rattle.rg_stack.specs.Shows.{Shows, ShowsFrame, ShowsFrames, ShowsWindows, place_among, sizes_of}
 use Rattle.rg_stack.proofs.Basics.{none-some, and-left, and-right}
-use Rattle.rg_stack.proofs.Statements.Base.{total_of, sizes-more, sizes-length, place_top, shown-room, as_many, based-there}
-use Rattle.rg_stack.proofs.Walks.Frame.{place_below}
-use Rattle.rg_stack.proofs.Needs.Lead.{shown-number}
+use Rattle.rg_stack.proofs.Callers.Base.{total_of, sizes-more, sizes-length, place_top, shown-room, as_many, based-there}
+use Rattle.rg_stack.proofs.Callers.Frame.{place_below}
+use Rattle.rg_stack.proofs.Callers.Lead.{shown-number}
 use Rattle.rg_held.specs.Gather.{bridge_value, Keeps}
 use Rattle.rg_held.proofs.Lists.{off, push-below, replicate-back}
 use Rattle.rg_held.proofs.Gather.Frees.{Outside}

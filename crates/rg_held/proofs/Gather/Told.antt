@@ -12,7 +12,7 @@ use Rattle.rg_stack.specs.Machine.{Window, Machine}
 use Rattle.rg_stack.proofs.Basics.{none-some}
 use Rattle.rg_held.specs.Gone.{gone}
 use Rattle.rg_held.specs.Part.{leads_to, Placed, Part, OwnerHeld, OwnersHeld}
-use Rattle.rg_held.proofs.Parts.{lead-more, all-more}
+use Rattle.rg_held.proofs.Parts.Part.{lead-more, all-more}
 
 module _ (held also : ℕ → Truth) (owners : List Val) (f m : Machine) (stack : List Val) (p : Part held owners f m stack) where
   -- with the same objects held

@@ -7,8 +7,8 @@ use Rattle.rg_sound.proofs.Owners.Data.{Data, fit-data}
 use Rattle.rg_code.specs.Code.{Code}
 use Rattle.rg_stack.specs.Machine.{Machine}
 use Rattle.rg_stack.specs.Shows.{Shows, sizes_of}
-use Rattle.rg_stack.proofs.Needs.Lead.{ShowsFit}
-use Rattle.rg_stack.proofs.Needs.Once.{owned_once-fits}
+use Rattle.rg_stack.proofs.Callers.Lead.{ShowsFit}
+use Rattle.rg_stack.proofs.Callers.Once.{owned_once-fits}
 use Rattle.rg_held.specs.Gather.{GathersFit}
 use Rattle.rg_held.proofs.Gather.Frees.{part-gather}
 use Rattle.rg_held.proofs.Gather.Roots.{roots-outside}

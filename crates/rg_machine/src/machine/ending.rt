@@ -1,19 +1,16 @@
 //! What ends with slots, and what they own (docs/architecture.md, "The machine").
 
-ghost use Rattle.std.specs.Prelude.{◌≡◌, ◌<◌, ◌∷◌, [], ℕ, Some, false, length, slice_get};
+ghost use Rattle.std.specs.Prelude.{◌≡◌, ◌<◌, ◌∷◌, [], Some, length};
 ghost use Rattle.std.specs.Prelude.{true};
 ghost use Rattle.rg_base.specs.declared.value.Val.TheVariants.{Nil};
-ghost use Rattle.rg_code.specs.Code.{empty};
 ghost use Rattle.rg_code.specs.declared.op.Op.TheVariants as i;
-ghost use Rattle.rg_held.specs.Frees.{free_act};
 ghost use Rattle.rg_stack.specs.Machine.{put_slot, slot_at, top_slots};
 ghost use Rattle.rg_stack.specs.Needs.{loose, owned_once};
-ghost use Rattle.rg_stack.specs.Refusals.{Settles};
-ghost use Rattle.rg_machine.specs.Core.{ActIs, Has, with_machine};
+ghost use Rattle.rg_machine.specs.Acts.{Does};
+ghost use Rattle.rg_machine.specs.Core.{Has, with_machine};
 ghost use Rattle.rg_machine.specs.Effects.{Apart, AllLoose, emptied, ending, without};
-ghost use Rattle.rg_machine.specs.Keeps.{Keeping, SameBacks};
+ghost use Rattle.rg_machine.specs.Keeps.{SameBacks};
 ghost use Rattle.rg_machine.specs.High.{NoneMade};
-ghost use Rattle.rg_machine.specs.Makes.{Making};
 ghost use Rattle.rg_machine.specs.Parts.{machine_in, val_in};
 ghost use Rattle.rg_machine.specs.Cores.{core_of};
 ghost use Rattle.rg_machine.specs.Stands.{Leads};
@@ -154,10 +151,7 @@ impl Machine {
     /// `own s`
     pub fn own(&mut self, s: u32) -> Next
         requires given { Has (i.Own s) (core_of self.old) }
-        ensures effect { (at : ℕ) → ActIs (free_act empty at (i.Own s)) at
-            (core_of self.old) (core_of self.new) result }
-        ensures keeps { Keeping Settles false (machine_in self.old) (machine_in self.new) result }
-        ensures high { Making Settles false self.old.heap self.new.heap result }
+        ensures { Does (i.Own s) self.old self.new result }
     {
         let Some(_) = self.top() else {
             return Next::Lost;
@@ -175,39 +169,16 @@ impl Machine {
     /// `end s`
     pub fn end(&mut self, s: u32) -> Next
         requires given { Has (i.End s) (core_of self.old) }
-        ensures effect { (at : ℕ) → ActIs (free_act empty at (i.End s)) at
-            (core_of self.old) (core_of self.new) result }
-        ensures keeps { Keeping Settles false (machine_in self.old) (machine_in self.new) result }
-        ensures high { Making Settles false self.old.heap self.new.heap result }
+        ensures { Does (i.End s) self.old self.new result }
     {
         self.end_from(s);
         Next::On
     }
 
-    /// `pop`
+    /// `pop` and `drop`, which do the same.
     pub fn pop_top(&mut self) -> Next
         requires given { Has i.Pop (core_of self.old) }
-        ensures effect { (at : ℕ) → ActIs (free_act empty at i.Pop) at
-            (core_of self.old) (core_of self.new) result }
-        ensures keeps { Keeping Settles false (machine_in self.old) (machine_in self.new) result }
-        ensures high { Making Settles false self.old.heap self.new.heap result }
-    {
-        match self.pop() {
-            Some(w) => {
-                self.release(w);
-                Next::On
-            }
-            None => Next::Lost,
-        }
-    }
-
-    /// `drop`
-    pub fn drop_top(&mut self) -> Next
-        requires given { Has i.Drop (core_of self.old) }
-        ensures effect { (at : ℕ) → ActIs (free_act empty at i.Drop) at
-            (core_of self.old) (core_of self.new) result }
-        ensures keeps { Keeping Settles false (machine_in self.old) (machine_in self.new) result }
-        ensures high { Making Settles false self.old.heap self.new.heap result }
+        ensures { Does i.Pop self.old self.new result }
     {
         match self.pop() {
             Some(w) => {

@@ -1,6 +1,6 @@
 //! Numbers on the stack (docs/architecture.md, "The machine").
 
-ghost use Rattle.std.specs.Prelude.{◌≡◌, ◌∷◌, IfSome};
+ghost use Rattle.std.specs.Prelude.{◌≡◌, IfSome};
 ghost use Rattle.rg_base.specs.declared.value.Val.TheVariants.{Int};
 ghost use Rattle.rg_machine.specs.Core.{below_top, with_top};
 ghost use Rattle.rg_machine.specs.Cores.{core_of};

@@ -1,17 +1,14 @@
 //! Slots and fields that are written (docs/architecture.md, "The machine").
 
-ghost use Rattle.std.specs.Prelude.{◌≡◌, ◌∷◌, [], ℕ, false, true};
+ghost use Rattle.std.specs.Prelude.{◌≡◌, ◌∷◌, [], true};
 ghost use Rattle.rg_code.specs.declared.op.Op.TheVariants as i;
-ghost use Rattle.rg_held.specs.Frees.{free_act};
-ghost use Rattle.rg_code.specs.Code.{empty};
 ghost use Rattle.rg_stack.specs.Machine.{put_slot};
 ghost use Rattle.rg_stack.specs.Effects.{put_in};
 ghost use Rattle.rg_stack.specs.Needs.{may_keep};
-ghost use Rattle.rg_stack.specs.Refusals.{Takes};
-ghost use Rattle.rg_machine.specs.Core.{ActIs, Has, with_machine};
-ghost use Rattle.rg_machine.specs.Keeps.{Keeping, SameBacks};
+ghost use Rattle.rg_machine.specs.Acts.{Does};
+ghost use Rattle.rg_machine.specs.Core.{Has, with_machine};
+ghost use Rattle.rg_machine.specs.Keeps.{SameBacks};
 ghost use Rattle.rg_machine.specs.High.{NoneMade};
-ghost use Rattle.rg_machine.specs.Makes.{Making};
 ghost use Rattle.rg_machine.specs.Parts.{machine_in, val_in};
 ghost use Rattle.rg_machine.specs.Cores.{core_of};
 ghost use Rattle.rg_machine.specs.Stands.{Leads};
@@ -64,10 +61,7 @@ impl Machine {
     /// `swap s k`
     pub fn swap(&mut self, s: u32, index: u32) -> Next
         requires given { Has (i.Swap s index) (core_of self.old) }
-        ensures effect { (at : ℕ) → ActIs (free_act empty at (i.Swap s index)) at
-            (core_of self.old) (core_of self.new) result }
-        ensures keeps { Keeping Takes false (machine_in self.old) (machine_in self.new) result }
-        ensures high { Making Takes false self.old.heap self.new.heap result }
+        ensures { Does (i.Swap s index) self.old self.new result }
     {
         self.heap.is_forest();
         let Some(r) = self.stack.pop() else {

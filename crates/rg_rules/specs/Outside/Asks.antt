@@ -1,11 +1,12 @@
 -- The steps at which a pacer is asked: those that make an object by `new C` while the active region has its manager
 -- (docs/language.md, "Steps").
-use Rattle.std.specs.Prelude.{ℕ, zero, suc, ◌+◌, Bool as Truth, true, false, ◌&&◌, List, [], ◌∷◌, Option, Some, None, is_some, slice_get}
+use Rattle.std.specs.Prelude.{ℕ, zero, suc, ◌+◌, Bool as Truth, true, false, ◌&&◌, List, [], ◌∷◌, Option, Some, None, is_some, unwrap_or}
+use Rattle.std.specs.Prelude.{option_map, option_and_then, slice_get}
 use Rattle.rg_base.specs.declared.words.Manager.{Manager}
 use Rattle.rg_base.specs.declared.words.Manager.TheVariants.{Arena, Count, Trace}
-use Rattle.rg_tree.specs.Tree.{Right, value, new, new_tmp, new_iso, freeze, merge, read, more, result_of, stmt, StmtKind, declare, assign, call, swap}
-use Rattle.rg_tree.specs.Tree.{branch, while, enter, print, collect, return, Class, Tree}
+use Rattle.rg_tree.specs.Tree.{Right, stmt, StmtKind, Class, Tree}
 use Rattle.rg_rules.specs.Types.{class_named}
+use Rattle.rg_rules.specs.Sides.{right_of, right_made}
 use Rattle.rg_rules.specs.Items.{Item, Do, EndAt, LeaveAt, Back}
 use Rattle.rg_rules.specs.State.{State, active}
 use Rattle.rg_rules.specs.Steps.{Stepped, Went, Trapped, step_item}
@@ -13,28 +14,11 @@ use Rattle.rg_rules.specs.Runs.{opening}
 
 -- whether a right side is `new C` of a class that is there
 abbrev pub right_makes : List Class → Right → Truth
-right_makes classes (value e) = false
-right_makes classes (new x) = is_some (class_named classes x)
-right_makes classes (new_tmp x) = false
-right_makes classes (new_iso x m) = false
-right_makes classes (freeze y) = false
-right_makes classes (merge y) = false
-right_makes classes read = false
-right_makes classes more = false
-right_makes classes (result_of c) = false
+right_makes classes r = is_some (option_and_then (class_named classes) (right_made r))
 
 -- whether a statement has such a right side
 abbrev pub kind_makes : List Class → StmtKind → Truth
-kind_makes classes (declare x t r) = right_makes classes r
-kind_makes classes (assign p r) = right_makes classes r
-kind_makes classes (call c) = false
-kind_makes classes (swap y p) = false
-kind_makes classes (branch e first other) = false
-kind_makes classes (while e body) = false
-kind_makes classes (enter p z body) = false
-kind_makes classes (print e) = false
-kind_makes classes collect = false
-kind_makes classes (return e) = false
+kind_makes classes k = unwrap_or (option_map (right_makes classes) (right_of k)) false
 
 -- whether an item makes an object by `new C`
 abbrev pub item_makes : List Class → Item → Truth

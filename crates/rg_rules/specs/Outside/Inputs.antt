@@ -1,7 +1,7 @@
 -- Which steps ask for the input (docs/language.md, "Steps").
-use Rattle.std.specs.Prelude.{Bool as Truth, true, false, List, [], ◌∷◌}
-use Rattle.rg_tree.specs.Tree.{stmt, StmtKind, declare, assign, call, swap, branch, while, enter, print, collect, return, Right, value, new as makes}
-use Rattle.rg_tree.specs.Tree.{new_tmp, new_iso, freeze, merge, read, more, result_of}
+use Rattle.std.specs.Prelude.{Bool as Truth, true, false, List, [], ◌∷◌, unwrap_or, option_map}
+use Rattle.rg_tree.specs.Tree.{stmt, StmtKind, Right, value, new as makes, new_tmp, new_iso, freeze, merge, read, more, result_of}
+use Rattle.rg_rules.specs.Sides.{right_of}
 use Rattle.rg_rules.specs.Items.{Item, Do, EndAt, LeaveAt, Back}
 
 -- whether a right side asks for the input
@@ -18,16 +18,7 @@ asks (result_of c) = false
 
 -- whether a statement does
 abbrev pub kind_asks : StmtKind → Truth
-kind_asks (declare x t r) = asks r
-kind_asks (assign p r) = asks r
-kind_asks (call c) = false
-kind_asks (swap y p) = false
-kind_asks (branch e first other) = false
-kind_asks (while e body) = false
-kind_asks (enter p z body) = false
-kind_asks (print e) = false
-kind_asks collect = false
-kind_asks (return e) = false
+kind_asks k = unwrap_or (option_map asks (right_of k)) false
 
 -- whether the first thing to do asks for the input
 abbrev pub first_asks : List Item → Truth

@@ -25,7 +25,8 @@ use Rattle.rg_rules.proofs.Header.{good_type-type_of}
 use Rattle.rg_rules.proofs.Expression.{against-ok, against-below, judge_expr-below}
 use Rattle.rg_rules.proofs.Step.{stepped-went, computed-ok}
 use Rattle.rg_sound.specs.OpenRegions.{AllOwned}
-use Rattle.rg_sound.specs.Frames.{leaves, Named, FramesFit, Running, Beneath, WaitsEmpty, Calls, with_target, right_call}
+use Rattle.rg_sound.specs.Frames.{leaves, Named, FramesFit, Running, Beneath, WaitsEmpty, Calls, with_target}
+use Rattle.rg_rules.specs.Sides.{right_call}
 use Rattle.rg_sound.specs.Values.{Meets}
 use Rattle.rg_sound.specs.Fit.{Fit}
 use Rattle.rg_sound.specs.Laws.{StaysFit, ReturnKeeps, BackKeeps}

@@ -12,7 +12,7 @@ use Rattle.rg_stack.specs.Shows.{ShowsFrames, levels_of}
 use Rattle.rg_stack.specs.Left.{SomeLeft}
 use Rattle.rg_stack.specs.Refusals.{orderly, CalmBehind}
 use Rattle.rg_stack.specs.Laws.{StepsOrderly}
-use Rattle.rg_stack.proofs.Judgements.Left.{do-other, leave-other, running-left}
+use Rattle.rg_stack.proofs.Callers.Left.{do-other, leave-other, running-left}
 use Rattle.rg_stack.proofs.Refusals.Kind.{statement-orderly, end-orderly, leave-orderly, back-orderly}
 use Rattle.rg_stack.proofs.Refusals.Behind.{calm-back, running-leaves}
 

@@ -23,8 +23,9 @@ use Rattle.rg_stack.specs.Left.{SomeLeft}
 use Rattle.rg_stack.specs.Given.{given_step}
 use Rattle.rg_stack.specs.Laws.{StepShows, StepsGiven}
 use Rattle.rg_stack.proofs.Mirrors.{Mirrors, MirrorsWork, SameMove}
-use Rattle.rg_stack.proofs.Walks.Frame.{work_of}
-use Rattle.rg_stack.proofs.Walks.Given.{SameOrLost, step-less}
+use Rattle.rg_stack.proofs.Callers.Frame.{work_of}
+use Rattle.rg_stack.proofs.Callers.Less.{SameOrLost}
+use Rattle.rg_stack.proofs.Callers.Given.{step-less}
 use Rattle.rg_stack.proofs.Judgements.Item.{all-move}
 
 -- with what is held, a machine that mirrors a state shows it

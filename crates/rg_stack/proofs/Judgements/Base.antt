@@ -11,7 +11,7 @@ use Rattle.rg_sound.proofs.Base.{running-based, running-based-beneath}
 use Rattle.rg_stack.specs.Machine.{Frame as Shown, Window as Opened, slots_below}
 use Rattle.rg_stack.specs.Effects.{begins_by}
 use Rattle.rg_stack.specs.Shows.{ShowsFrames, ShowsWindows, sizes_of}
-use Rattle.rg_stack.proofs.Statements.Base.{based-bound, lower-within, covered-bound, begins-there}
+use Rattle.rg_stack.proofs.Callers.Base.{based-bound, lower-within, covered-bound, begins-there}
 
 -- a window, and those beneath it
 pub record WindowThere (ws : List Window) : Type 0 where

@@ -6,8 +6,8 @@ use Rattle.rg_base.specs.declared.ty.Ty.{Ty}
 use Rattle.rg_base.specs.declared.value.Val.{Val}
 use Rattle.rg_base.specs.declared.object.Seen.{Seen}
 use Rattle.rg_base.specs.declared.words.Manager.{Manager}
-use Rattle.rg_tree.specs.Tree.{Name, Variable, Expr, Call, Right, value, new, new_tmp, new_iso, freeze, merge, read, more}
-use Rattle.rg_tree.specs.Tree.{result_of, stmt, StmtKind, declare, assign, call, swap, branch, while, enter, print, collect, return, Method, Class}
+use Rattle.rg_tree.specs.Tree.{Name, Variable, Expr, Call, Right}
+use Rattle.rg_tree.specs.Tree.{result_of, stmt, StmtKind, declare, assign, call, return, Method, Class}
 use Rattle.rg_tree.specs.Tree.{Tree}
 use Rattle.rg_base.specs.declared.fault.Code.TheVariants.{Unknown}
 use Rattle.std.proofs.lemmas.Option.{none-some, same_Some}
@@ -40,7 +40,8 @@ use Rattle.rg_sound.proofs.Values.Right.{OwnsFreshAs}
 use Rattle.rg_sound.proofs.Values.Deliver.{waits-doing, pop-leads, elsewhere-leads, call-result}
 use Rattle.rg_sound.proofs.Frames.Body.{method_end-free}
 use Rattle.rg_sound.proofs.Values.Return.{result-below}
-use Rattle.rg_sound.specs.Frames.{Entered, Waits, WaitsEmpty, Beneath, Running, right_call, with_target, assigned_call, call_of}
+use Rattle.rg_rules.specs.Sides.{right_call}
+use Rattle.rg_sound.specs.Frames.{Entered, Waits, WaitsEmpty, Beneath, Running, with_target, assigned_call, call_of}
 use Rattle.rg_code.specs.Lowering.{assign_op, lowered}
 use Rattle.rg_code.specs.Places.{scope_of}
 use Rattle.rg_stack.specs.Machine.{Frame as Shown, slots_below}
@@ -50,11 +51,11 @@ use Rattle.rg_stack.specs.Shows.{ShowsFrames, ShowsWindows, sizes_of}
 use Rattle.rg_stack.specs.Needs.{needs, owned_once, loose, top_base}
 use Rattle.rg_stack.proofs.Mirrors.{SameMove}
 use Rattle.rg_stack.proofs.Walks.Place.{GoesOn}
-use Rattle.rg_stack.proofs.Walks.Frame.{OpenedBelow, windows_below}
+use Rattle.rg_stack.proofs.Callers.Frame.{OpenedBelow, windows_below}
 use Rattle.rg_stack.proofs.Walks.End.{Round, work, state}
-use Rattle.rg_stack.proofs.Statements.Base.{as_many, sizes-more}
-use Rattle.rg_stack.proofs.Needs.Lead.{ShowsFit}
-use Rattle.rg_stack.proofs.Needs.Once.{owned_once-fits, loose-fits}
+use Rattle.rg_stack.proofs.Callers.Base.{as_many, sizes-more}
+use Rattle.rg_stack.proofs.Callers.Lead.{ShowsFit}
+use Rattle.rg_stack.proofs.Callers.Once.{owned_once-fits, loose-fits}
 use Rattle.rg_stack.proofs.Statements.Return.{TargetHas, TargetNeeds, above}
 use Rattle.rg_stack.proofs.Judgements.Base.{beneath-begins}
 use Rattle.rg_stack.proofs.Judgements.Fit.{found-named, running-beneath}

@@ -31,7 +31,7 @@ use Rattle.rg_sound.specs.Objects.{FieldFits, FieldsMeet, ObjectsFit}
 use Rattle.rg_sound.specs.Frames.{Named, Entered, Waits, WaitsEmpty, Beneath, Running}
 use Rattle.rg_code.specs.Lowering.{type_in}
 use Rattle.rg_code.specs.Places.{scope_of}
-use Rattle.rg_stack.proofs.Walks.Frame.{OpenedBelow}
+use Rattle.rg_stack.proofs.Callers.Frame.{OpenedBelow}
 use Rattle.rg_stack.proofs.Walks.Slot.{Has}
 use Rattle.rg_stack.proofs.Statements.Right.{InRegion}
 use Rattle.rg_stack.proofs.Basics.{err-ok}

@@ -22,21 +22,21 @@ use Rattle.rg_stack.specs.Shows.{ShowsWindows, sizes_of}
 use Rattle.rg_stack.specs.Left.{SomeLeft}
 use Rattle.rg_stack.specs.Given.{given_step as step}
 use Rattle.rg_stack.proofs.Mirrors.{Mirrors, SameMove}
-use Rattle.rg_stack.proofs.Walks.Frame.{work_of, state_of, OpenedBelow}
+use Rattle.rg_stack.proofs.Callers.Frame.{work_of, state_of, OpenedBelow}
 use Rattle.rg_stack.proofs.Walks.Place.{GoesOn}
 use Rattle.rg_stack.proofs.Walks.End.{Round}
-use Rattle.rg_stack.proofs.Needs.Lead.{ShowsFit}
-use Rattle.rg_stack.proofs.Needs.Once.{owned_once-fits}
+use Rattle.rg_stack.proofs.Callers.Lead.{ShowsFit}
+use Rattle.rg_stack.proofs.Callers.Once.{owned_once-fits}
 use Rattle.rg_stack.proofs.Needs.Leave.{leave-fits}
 use Rattle.rg_stack.proofs.Statements.Block.{end-mirrors}
-use Rattle.rg_stack.proofs.Statements.Base.{as_many, base_is, starts-behind}
+use Rattle.rg_stack.proofs.Callers.Base.{as_many, base_is, starts-behind}
 use Rattle.rg_stack.proofs.Statements.Window.{leave-mirrors}
 use Rattle.rg_stack.proofs.Statements.Return.{back-mirrors}
 use Rattle.rg_stack.proofs.Judgements.Base.{beneath-begins}
 use Rattle.rg_stack.proofs.Judgements.Fit.{running-beneath}
 use Rattle.rg_stack.proofs.Judgements.Spot.{leaves_frame}
 use Rattle.rg_stack.proofs.Judgements.Begin.{alone, fit-statement, fit-return}
-use Rattle.rg_stack.proofs.Judgements.Left.{do-other, leave-other, back-other, running-left, main-stays, leaving-windows}
+use Rattle.rg_stack.proofs.Callers.Left.{do-other, leave-other, back-other, running-left, main-stays, leaving-windows}
 
 -- what both machines have
 module _ (t : Tree) (accepted : Accepted t) (store : List Seen) (managers : List Manager) (made at : ℕ) (input : List ℕ) (output : List Val) where

@@ -11,8 +11,8 @@ use Rattle.rg_base.specs.declared.object.Seen.{Seen}
 use Rattle.rg_base.specs.declared.fault.Code.TheVariants.{Unknown, Mismatch, Capability}
 use Rattle.rg_tree.specs.declared.rows.BinOp.{BinOp}
 use Rattle.rg_tree.specs.declared.rows.BinOp.TheVariants as op
-use Rattle.rg_tree.specs.Tree.{Name, Variable, Expr, number, boolean, nil, path, is_nil, neg, not, binary, StmtKind, stmt, declare, assign, call}
-use Rattle.rg_tree.specs.Tree.{swap, branch, while, enter, print, collect, return, Block, empty as none, then as more_of, Class}
+use Rattle.rg_tree.specs.Tree.{Name, Variable, Expr, number, boolean, nil, path, is_nil, neg, not, binary, StmtKind, stmt}
+use Rattle.rg_tree.specs.Tree.{return, Block, empty as none, then as more_of, Class}
 use Rattle.rg_rules.specs.Answers.{◌>>=◌}
 use Rattle.rg_rules.specs.Capabilities.{is_iso, below, pause, adapt}
 use Rattle.rg_rules.specs.Types.{fields_of, field_place, field_type}

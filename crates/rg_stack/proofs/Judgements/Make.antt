@@ -3,8 +3,8 @@ use Rattle.std.proofs.Common.{◌≡◌, ℕ, List, [], ◌∷◌, Option, Some,
 use Rattle.rg_base.specs.declared.fault.Code.TheVariants.{Unknown}
 use Rattle.rg_base.specs.declared.ty.Ty.{Ty}
 use Rattle.rg_base.specs.declared.words.Cap.TheVariants.{Mut}
-use Rattle.rg_tree.specs.Tree.{Name, Variable, ref, Right, value, new, new_tmp, new_iso, freeze, merge, read, more, result_of}
-use Rattle.rg_tree.specs.Tree.{StmtKind, declare, assign, call, swap, branch, while, enter, print, collect, return, Class}
+use Rattle.rg_tree.specs.Tree.{Name, Variable, ref, Right, new}
+use Rattle.rg_tree.specs.Tree.{StmtKind, declare, assign, Class}
 use Rattle.rg_rules.specs.Outside.Asks.{right_makes}
 use Rattle.rg_rules.specs.Capabilities.{is_iso, stays_at_depth}
 use Rattle.rg_rules.specs.Environment.{Env, at_depth, entry_of, is_lent, visible}
@@ -16,7 +16,7 @@ use Rattle.rg_rules.specs.Types.{good_type}
 use Rattle.rg_rules.proofs.Answers.{at_line-ok, bind-ok, test-then}
 use Rattle.rg_stack.specs.Dues.{kind_due, paced}
 use Rattle.rg_stack.proofs.Judgements.Owes.{named_class}
-use Rattle.rg_stack.proofs.Refusals.Due.{right_due, written_due}
+use Rattle.rg_stack.proofs.Refusals.Tell.{right_due, written_due}
 
 right-written : (classes : List Class) (env : Env) (wanted : Ty) (r : Right) (j : Judged) → judge_right classes env wanted r ≡ Ok j
     → paced (right_makes classes r) ≡ right_due r

@@ -60,12 +60,12 @@ use Rattle.rg_stack.specs.Shows.{ShowsFrames, ShowsWindows, sizes_of}
 use Rattle.rg_stack.specs.Needs.{needs, closed_of, is_closed, owned_once, owns_or_nil, loose, size_of, field_of, is_field, may_stand}
 use Rattle.rg_stack.specs.Labels.{is_open}
 use Rattle.rg_stack.specs.Needs.{top_base, may_keep}
-use Rattle.rg_stack.proofs.Needs.Lead.{ShowsFit}
-use Rattle.rg_stack.proofs.Needs.Once.{owned_once-fits, loose-fits}
+use Rattle.rg_stack.proofs.Callers.Lead.{ShowsFit}
+use Rattle.rg_stack.proofs.Callers.Once.{owned_once-fits, loose-fits}
 use Rattle.rg_stack.proofs.Needs.Closed.{slot-closed, behind-closed, slot-owns, field-owns}
 use Rattle.rg_stack.proofs.Needs.Keep.{base-by, keep-here, keep-away, fresh-open, plain-open}
 use Rattle.rg_stack.proofs.Needs.Holder.{top-field, field-closed, may_stand-fits}
-use Rattle.rg_stack.proofs.Walks.Need.{same}
+use Rattle.rg_stack.proofs.Callers.Need.{same}
 use Rattle.rg_stack.proofs.Walks.Slot.{ShowsSlots, slot_place}
 use Rattle.rg_stack.proofs.Walks.End.{Round, work, state}
 use Rattle.rg_stack.proofs.Statements.Right.{Gave, RightNeeds, kept}

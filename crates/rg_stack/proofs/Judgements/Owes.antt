@@ -44,7 +44,7 @@ use Rattle.rg_stack.proofs.Statements.Call.{BodyFits, Called}
 use Rattle.rg_stack.proofs.Walks.Entry.{entry_of as code_entry}
 use Rattle.rg_stack.proofs.Judgements.Follow.{class_is, read-class, field_of_type}
 use Rattle.rg_stack.proofs.Judgements.Judge.{seen-class, expr-agrees, walk-follows, walk-reaches}
-use Rattle.rg_stack.proofs.Judgements.Label.{by-labels}
+use Rattle.rg_stack.proofs.Callers.Label.{by-labels}
 use Rattle.rg_stack.proofs.Judgements.Fit.{facts_of, variable-in_region}
 
 -- an environment's names and types behind an expression

@@ -39,7 +39,8 @@ use Rattle.rg_sound.proofs.Owners.Data.{Data}
 use Rattle.rg_sound.proofs.Values.Right.{OwnsFreshAs, below-iso, ready-not_lent}
 use Rattle.rg_sound.proofs.Values.Value.{seen-meets, below-meets}
 use Rattle.rg_sound.proofs.Values.Local.{fresh-as}
-use Rattle.rg_sound.specs.Frames.{Named, Running, right_call, with_target, assigned_call, call_of}
+use Rattle.rg_rules.specs.Sides.{right_call}
+use Rattle.rg_sound.specs.Frames.{Named, Running, with_target, assigned_call, call_of}
 use Rattle.rg_code.specs.Code.{Code}
 use Rattle.rg_code.specs.Lowering.{slot_of, type_in, type_along, used_slots, held_number, lowered, target_class}
 use Rattle.rg_code.specs.Places.{scope_of}
@@ -51,12 +52,12 @@ use Rattle.rg_stack.specs.Shows.{ShowsFrames, ShowsWindows, sizes_of}
 use Rattle.rg_stack.proofs.Mirrors.{SameMove}
 use Rattle.rg_stack.proofs.Walks.Walk.{Agrees, IsTruth, is_shut}
 use Rattle.rg_stack.proofs.Walks.Place.{GoesOn, AllGoOn}
-use Rattle.rg_stack.proofs.Walks.Frame.{OpenedBelow}
+use Rattle.rg_stack.proofs.Callers.Frame.{OpenedBelow}
 use Rattle.rg_stack.proofs.Walks.Slot.{Has, cleared_slots, slot_place}
 use Rattle.rg_stack.proofs.Walks.End.{Round, work, state, UsesUp, middle_whole, keeps_same}
 use Rattle.rg_stack.proofs.Needs.Closed.{not_iso-closed, behind-closed}
 use Rattle.rg_stack.proofs.Needs.Keep.{base-by}
-use Rattle.rg_stack.proofs.Needs.Once.{owned_once-fits, loose-fits}
+use Rattle.rg_stack.proofs.Callers.Once.{owned_once-fits, loose-fits}
 use Rattle.rg_stack.proofs.Statements.Right.{RightOwes, RightNeeds}
 use Rattle.rg_stack.proofs.Statements.Assign.{declare-mirrors, assign-mirrors, put-mirrors}
 use Rattle.rg_stack.proofs.Statements.Block.{branch-mirrors, branch-else-mirrors, while-mirrors, print-mirrors, collect-mirrors}
@@ -67,7 +68,7 @@ use Rattle.rg_stack.proofs.Judgements.Follow.{class_is}
 use Rattle.rg_stack.proofs.Judgements.Judge.{Facts, expr-agrees, expr-truth, holder-follows, holder-owes, holder-type, block-goes_on}
 use Rattle.rg_stack.proofs.Judgements.Judge.{block-gives}
 use Rattle.rg_stack.specs.Effects.{begins_by}
-use Rattle.rg_stack.proofs.Statements.Base.{as_many}
+use Rattle.rg_stack.proofs.Callers.Base.{as_many}
 use Rattle.rg_stack.proofs.Judgements.Base.{top-begins}
 use Rattle.rg_stack.proofs.Judgements.Fit.{facts_of, variable-in_region, variable-there, field-in_region, running-below}
 use Rattle.rg_stack.proofs.Judgements.Owes.{SeenMeets, call-gives, right-owes, callee_of, class_in, iso_type}

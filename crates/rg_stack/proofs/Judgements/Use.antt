@@ -6,7 +6,7 @@ use Rattle.rg_base.specs.declared.ty.Ty.{Ty}
 use Rattle.rg_base.specs.declared.object.Seen.{Seen}
 use Rattle.rg_base.specs.declared.value.Val.{Val}
 use Rattle.rg_base.specs.declared.value.Val.TheVariants as val
-use Rattle.rg_tree.specs.Tree.{Variable, Expr, number, boolean, nil, path, is_nil, neg, not, binary, Class}
+use Rattle.rg_tree.specs.Tree.{Variable, Expr, nil, path, Class}
 use Rattle.rg_rules.specs.Capabilities.{is_iso}
 use Rattle.rg_rules.specs.Environment.{Env}
 use Rattle.rg_rules.specs.Expressions.{Judged, judge_expr}
@@ -21,7 +21,7 @@ use Rattle.rg_sound.proofs.Values.Right.{IsoExpr, is_variable, is_none, iso-expr
 use Rattle.rg_code.specs.Lowering.{slot_of, type_in, used_slots, used_by_all}
 use Rattle.rg_code.specs.Places.{scope_of}
 use Rattle.rg_stack.proofs.Basics.{ok-is}
-use Rattle.rg_stack.proofs.Walks.Need.{AmongValues, AllOnStack}
+use Rattle.rg_stack.proofs.Callers.Need.{AmongValues, AllOnStack}
 use Rattle.rg_stack.proofs.Walks.Slot.{ShowsSlots, used-uses}
 use Rattle.rg_stack.proofs.Walks.End.{UsesUp, slots_hold}
 use Rattle.rg_stack.proofs.Judgements.Owes.{expr-named}
@@ -53,11 +53,6 @@ module _ (classes : List Class) (store : List Seen) (slots : List Val) (locals :
       by true n = iso_up env j e stack (iso-expr classes env w e j typed n)
 
   -- Arguments
-
-  among_left : (u : Val) (xs ys : List Val) → AmongValues u xs → AmongValues u (xs ++ ys)
-  among_left u [] ys h = absurd h
-  among_left u (x ∷ xs) ys (inl is) = inl is
-  among_left u (x ∷ xs) ys (inr h) = inr (among_left u xs ys h)
 
   among_right : (u : Val) (xs ys : List Val) → AmongValues u ys → AmongValues u (xs ++ ys)
   among_right u [] ys h = h

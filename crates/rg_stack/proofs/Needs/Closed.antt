@@ -38,8 +38,8 @@ use Rattle.rg_stack.specs.Machine.{Frame, Machine, top_slots, slot_at}
 use Rattle.rg_stack.specs.Shows.{ShowsFrames}
 use Rattle.rg_stack.specs.Needs.{is_closed, owns_or_nil, field_of}
 use Rattle.rg_stack.specs.Labels.{is_open}
-use Rattle.rg_stack.proofs.Needs.List.{refused, get-nils}
-use Rattle.rg_stack.proofs.Needs.Lead.{ShowsFit, LeadsInto, IntoClosed, not-closed, into-closed, shown-closed, open-shown, value-owns}
+use Rattle.rg_stack.proofs.Callers.List.{refused, get-nils}
+use Rattle.rg_stack.proofs.Callers.Lead.{ShowsFit, LeadsInto, IntoClosed, not-closed, into-closed, shown-closed, open-shown, value-owns}
 
 -- what a type that isn't `iso` owns
 pub none-owned : (store : List Seen) (t : Ty) (v : Val) (r : ℕ) → is_iso t ≡ false → option_and_then (region_at store) (owned t v) ≡ Some r → ⊥

@@ -27,7 +27,7 @@ use Rattle.rg_stack.specs.Effects.{top_region, top_window}
 use Rattle.rg_stack.specs.Shows.{ShowsWindows}
 use Rattle.rg_stack.specs.Needs.{is_closed, is_writable, is_field, may_stand, field_of}
 use Rattle.rg_stack.specs.Labels.{is_open, has_window, is_outside}
-use Rattle.rg_stack.proofs.Needs.Lead.{ShowsFit, not-closed, field-leads}
+use Rattle.rg_stack.proofs.Callers.Lead.{ShowsFit, not-closed, field-leads}
 use Rattle.rg_stack.proofs.Needs.Closed.{none-owned, not_iso-closed}
 use Rattle.rg_stack.proofs.Basics.{or-left}
 

@@ -22,8 +22,8 @@ use Rattle.rg_stack.specs.Machine.{Window, Machine, place_of}
 use Rattle.rg_stack.specs.Effects.{begins_by}
 use Rattle.rg_stack.specs.Needs.{top_base, is_open_label, leads_open, may_keep}
 use Rattle.rg_stack.specs.Labels.{is_open}
-use Rattle.rg_stack.proofs.Needs.List.{refused}
-use Rattle.rg_stack.proofs.Needs.Lead.{ShowsFit, LeadsInto, open-shown}
+use Rattle.rg_stack.proofs.Callers.List.{refused}
+use Rattle.rg_stack.proofs.Callers.Lead.{ShowsFit, LeadsInto, open-shown}
 use Rattle.rg_stack.proofs.Needs.Closed.{iso-owns}
 
 -- a value that leads into no open region

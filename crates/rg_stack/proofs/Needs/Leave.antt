@@ -12,7 +12,7 @@ use Rattle.rg_stack.specs.Machine.{Frame, Machine, top_slots, with_slots, ended_
 use Rattle.rg_stack.specs.Shows.{ShowsFrames, ShowsWindows}
 use Rattle.rg_stack.specs.Needs.{temps_may_go, owner_leads}
 use Rattle.rg_stack.proofs.Statements.Block.{shows_ended}
-use Rattle.rg_stack.proofs.Needs.Lead.{ShowsFit}
+use Rattle.rg_stack.proofs.Callers.Lead.{ShowsFit}
 use Rattle.rg_stack.proofs.Needs.Owner.{owner_leads-fits}
 use Rattle.rg_stack.proofs.Needs.Temp.{temps_may_go-fits}
 

@@ -27,9 +27,9 @@ use Rattle.rg_stack.specs.Machine.{Frame, Window, Machine}
 use Rattle.rg_stack.specs.Shows.{ShowsFrame, ShowsFrames, ShowsWindows}
 use Rattle.rg_stack.specs.Needs.{field_of, value_at, owner_leads}
 use Rattle.rg_stack.specs.Labels.{is_into}
-use Rattle.rg_stack.proofs.Needs.Lead.{ShowsFit, LeadsInto, leads-is_into}
+use Rattle.rg_stack.proofs.Callers.Lead.{ShowsFit, LeadsInto, leads-is_into}
 use Rattle.rg_stack.proofs.Needs.Closed.{shown-at}
-use Rattle.rg_stack.proofs.Statements.Base.{as_many}
+use Rattle.rg_stack.proofs.Callers.Base.{as_many}
 
 -- what is owned leads there
 owned-leads : (store : List Seen) (t : Ty) (v : Val) (r : ℕ) → option_and_then (region_at store) (owned t v) ≡ Some r → LeadsInto store r v

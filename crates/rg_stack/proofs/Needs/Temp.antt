@@ -32,8 +32,8 @@ use Rattle.rg_stack.specs.Effects.{top_window}
 use Rattle.rg_stack.specs.Shows.{ShowsFrames, ShowsWindows}
 use Rattle.rg_stack.specs.Needs.{is_top_temp, is_to_temp, outlives, temps_may_go}
 use Rattle.rg_stack.specs.Labels.{has_window}
-use Rattle.rg_stack.proofs.Needs.List.{none-passes, refused, slot-local}
-use Rattle.rg_stack.proofs.Needs.Lead.{ShowsFit, shown-number}
+use Rattle.rg_stack.proofs.Callers.List.{none-passes, refused, slot-local}
+use Rattle.rg_stack.proofs.Callers.Lead.{ShowsFit, shown-number}
 
 -- Where temporaries are led to from
 

@@ -24,8 +24,8 @@ use Rattle.rg_code.specs.Lowering.{with_slot, scope_behind, assign_op}
 use Rattle.rg_code.specs.Places.{is_drop, Level, TakesResult, Lies}
 use Rattle.rg_stack.specs.Left.{SomeLeft}
 use Rattle.rg_stack.specs.Refusals.{calm}
-use Rattle.rg_stack.proofs.Walks.Mark.{drop-stands, first-drop}
-use Rattle.rg_stack.proofs.Judgements.Left.{spot-ends, left-back, beneath-left}
+use Rattle.rg_stack.proofs.Callers.Mark.{drop-stands, first-drop}
+use Rattle.rg_stack.proofs.Callers.Left.{spot-ends, left-back, beneath-left}
 use Rattle.rg_stack.proofs.Refusals.Order.{calm-assign}
 use Rattle.rg_stack.proofs.Refusals.Kind.{calm-lies}
 

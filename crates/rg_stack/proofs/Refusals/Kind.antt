@@ -16,7 +16,7 @@ use Rattle.rg_code.specs.Lowering.{call_result, assign_code, assign_op, swap_cod
 use Rattle.rg_code.specs.Places.{Stands, StandsIn, is_mark, behind_end, Level, Lies}
 use Rattle.rg_stack.proofs.Basics.{is_halt}
 use Rattle.rg_stack.specs.Refusals.{calm, orderly}
-use Rattle.rg_stack.proofs.Walks.Mark.{drop-stands, first-drop, lies_at_mark}
+use Rattle.rg_stack.proofs.Callers.Mark.{drop-stands, first-drop, lies_at_mark}
 use Rattle.rg_stack.proofs.Walks.Place.{back_in, block_starts, GoesOn}
 use Rattle.rg_stack.proofs.Callers.Order.{calm-mark, calm-orderly}
 use Rattle.rg_stack.proofs.Refusals.Order.{Before, before-path, Quiet, quiet-append, quiet-whole, quiet-call, quiet-right, calm-pace}

@@ -5,8 +5,8 @@ use Rattle.std.proofs.lemmas.Bool.{and_from}
 use Rattle.rg_base.specs.declared.ty.Ty.{Ty}
 use Rattle.rg_tree.specs.declared.rows.BinOp.{BinOp}
 use Rattle.rg_tree.specs.declared.rows.BinOp.TheVariants as op
-use Rattle.rg_tree.specs.Tree.{Name, Variable, Expr, number, boolean, nil, path, is_nil, neg, not, binary, Call, Right, value, new, new_tmp}
-use Rattle.rg_tree.specs.Tree.{new_iso, freeze, merge, read, more, result_of, Class}
+use Rattle.rg_tree.specs.Tree.{Name, Variable, Expr, number, boolean, nil, path, is_nil, neg, not, binary, Call, Right, value}
+use Rattle.rg_tree.specs.Tree.{more, result_of, Class}
 use Rattle.rg_rules.specs.Capabilities.{is_iso}
 use Rattle.rg_code.specs.declared.op.Op.{Op}
 use Rattle.rg_code.specs.declared.op.Op.TheVariants as i

@@ -35,13 +35,13 @@ use Rattle.rg_stack.specs.Shows.{levels_of}
 use Rattle.rg_stack.proofs.Mirrors.{SameMove}
 use Rattle.rg_stack.proofs.Walks.Walk.{FollowsPath, walk-path}
 use Rattle.rg_stack.proofs.Walks.Place.{roomy-back}
-use Rattle.rg_stack.proofs.Walks.Frame.{room_of, shows_next}
+use Rattle.rg_stack.proofs.Callers.Frame.{room_of, shows_next}
 use Rattle.rg_stack.proofs.Walks.Slot.{ShowsSlots, Has, shows_put, slot_place, scope-length, scope_set}
 use Rattle.rg_stack.proofs.Walks.End.{EndsAs, value_ends, Round, work, state, level, RoundShows, Middle, Keeps, keeps_same, slots_hold}
 use Rattle.rg_stack.proofs.Walks.End.{finish_at, statement_step}
-use Rattle.rg_stack.proofs.Walks.Need.{given, nil-open, free_slot}
+use Rattle.rg_stack.proofs.Callers.Need.{given, nil-open, free_slot}
 use Rattle.rg_stack.proofs.Needs.Keep.{keep-here}
-use Rattle.rg_stack.proofs.Statements.Base.{if_ends}
+use Rattle.rg_stack.proofs.Callers.Base.{if_ends}
 use Rattle.rg_stack.proofs.Statements.Right.{Opens, RightOwes, RightNeeds, Gave, right_ends, walk-pace}
 use Rattle.rg_stack.proofs.Basics.{and-left}
 

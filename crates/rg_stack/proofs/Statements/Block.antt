@@ -29,13 +29,13 @@ use Rattle.rg_stack.proofs.Mirrors.{Mirrors}
 use Rattle.rg_stack.specs.Shows.{levels_of}
 use Rattle.rg_stack.proofs.Mirrors.{SameMove}
 use Rattle.rg_stack.proofs.Walks.Walk.{Agrees, IsTruth, walk-skip}
-use Rattle.rg_stack.proofs.Walks.Mark.{drop-stands, first-drop, mark-there, lies_at_mark, walk_at_mark, walk_to_items}
+use Rattle.rg_stack.proofs.Callers.Mark.{drop-stands, first-drop, mark-there, lies_at_mark, walk_at_mark, walk_to_items}
 use Rattle.rg_stack.proofs.Walks.Place.{front_in, back_in, get-stands, stands-front, stands-back, block_starts, AllGoOn, lies_block}
 use Rattle.rg_stack.proofs.Walks.Place.{take-block_scope, block_scope}
 use Rattle.rg_stack.proofs.Walks.Slot.{ShowsSlots, values_in, shows_at, cleared_slots}
 use Rattle.rg_stack.proofs.Walks.End.{EndsAs, ended, computed_ends, Round, work, state, level, finish, finish_at, statement_step, walk-whole}
 use Rattle.rg_stack.proofs.Walks.End.{middle_whole, UsesUp}
-use Rattle.rg_stack.proofs.Statements.Base.{if_ends}
+use Rattle.rg_stack.proofs.Callers.Base.{if_ends}
 use Rattle.rg_stack.proofs.Statements.Assign.{round_of, middle_of}
 
 -- two ways on both sides

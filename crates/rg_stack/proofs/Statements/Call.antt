@@ -38,15 +38,15 @@ use Rattle.rg_stack.specs.Shows.{ShowsWindows, sizes_of, levels_of}
 use Rattle.rg_stack.proofs.Mirrors.{SameMove}
 use Rattle.rg_stack.proofs.Walks.Walk.{FollowsPath, walk-path}
 use Rattle.rg_stack.proofs.Walks.Place.{front_in, back_in, get-stands, stands-back, GoesOn, AllGoOn, lies_behind, lies_block}
-use Rattle.rg_stack.proofs.Walks.Frame.{OpenedBelow}
+use Rattle.rg_stack.proofs.Callers.Frame.{OpenedBelow}
 use Rattle.rg_stack.proofs.Walks.Argument.{AllAgree, walk-exprs}
 use Rattle.rg_stack.proofs.Statements.Called.{values-length, from_stack, bound-values, bound-scope, windows_above}
 use Rattle.rg_stack.proofs.Walks.Slot.{ShowsSlots, shows_at, cleared_slots, cleared-length, shows_clears, scope_cleared, used-all}
 use Rattle.rg_stack.proofs.Walks.End.{EndsAs, value_ends, object_ends, values_ends, Round, work, state, level, RoundShows, slots_hold}
 use Rattle.rg_stack.proofs.Walks.End.{statement_step, walk-clears}
-use Rattle.rg_stack.proofs.Walks.Need.{given, call-given, AllOnStack}
+use Rattle.rg_stack.proofs.Callers.Need.{given, call-given, AllOnStack}
 use Rattle.rg_stack.proofs.Statements.Assign.{round_of}
-use Rattle.rg_stack.proofs.Statements.Base.{as_many}
+use Rattle.rg_stack.proofs.Callers.Base.{as_many}
 
 -- Bodies that give a result
 

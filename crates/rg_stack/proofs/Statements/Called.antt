@@ -18,7 +18,7 @@ use Rattle.rg_code.specs.Places.{scope_of}
 use Rattle.rg_stack.proofs.Basics.{ok-is, err-ok}
 use Rattle.rg_stack.specs.Machine.{Window}
 use Rattle.rg_stack.specs.Shows.{ShowsWindows}
-use Rattle.rg_stack.proofs.Walks.Frame.{OpenedBelow, place_below}
+use Rattle.rg_stack.proofs.Callers.Frame.{OpenedBelow, place_below}
 
 length_by : (c : Computed) (r : Result (List Val) Trap) (vs : List Val) (n : ℕ) → ◌>>=◌ c (λ v. ◌>>=◌ r (λ us. Ok (v ∷ us))) ≡ Ok vs
     → ((us : List Val) → r ≡ Ok us → length us ≡ n) → length vs ≡ suc n

@@ -29,14 +29,14 @@ use Rattle.rg_stack.proofs.Mirrors.{Mirrors}
 use Rattle.rg_stack.specs.Shows.{ShowsWindows, sizes_of, levels_of}
 use Rattle.rg_stack.proofs.Mirrors.{SameMove}
 use Rattle.rg_stack.proofs.Walks.Walk.{Agrees}
-use Rattle.rg_stack.proofs.Walks.Mark.{mark-there, drop-stands, first-drop, walk_to_items}
-use Rattle.rg_stack.proofs.Walks.Frame.{work_of, state_of, room_of, shows_next, OpenedBelow, windows_below}
+use Rattle.rg_stack.proofs.Callers.Mark.{mark-there, drop-stands, first-drop, walk_to_items}
+use Rattle.rg_stack.proofs.Callers.Frame.{work_of, state_of, room_of, shows_next, OpenedBelow, windows_below}
 use Rattle.rg_stack.proofs.Walks.Slot.{ShowsSlots, Has, cleared_slots, shows_put, slot_place, scope_set}
-use Rattle.rg_stack.proofs.Walks.Need.{given, nil-open, free_slot}
+use Rattle.rg_stack.proofs.Callers.Need.{given, nil-open, free_slot}
 use Rattle.rg_stack.proofs.Walks.End.{comes, Landed, EndsAs, computed_ends, Round, work, state, level, RoundShows, finish, statement_step}
 use Rattle.rg_stack.proofs.Walks.End.{walk-whole, UsesUp}
 use Rattle.rg_stack.proofs.Needs.Keep.{keep-here}
-use Rattle.rg_stack.proofs.Statements.Base.{if_ends}
+use Rattle.rg_stack.proofs.Callers.Base.{if_ends}
 use Rattle.rg_stack.proofs.Statements.Assign.{walk-assign}
 use Rattle.rg_stack.proofs.Basics.{and-left}
 

@@ -35,7 +35,7 @@ use Rattle.rg_stack.proofs.Walks.Walk.{Agrees}
 use Rattle.rg_stack.proofs.Walks.Slot.{ShowsSlots, cleared_slots, shows_clear, scope_set, slot_place}
 use Rattle.rg_stack.proofs.Walks.End.{EndsAs, object_ends, computed_ends, Round, work, state, RoundShows, Middle, Keeps, slots_hold}
 use Rattle.rg_stack.proofs.Walks.End.{walk-whole, middle_whole, UsesUp}
-use Rattle.rg_stack.proofs.Statements.Base.{if_ends}
+use Rattle.rg_stack.proofs.Callers.Base.{if_ends}
 
 -- what a new object starts with
 

@@ -37,15 +37,15 @@ use Rattle.rg_stack.proofs.Mirrors.{Mirrors}
 use Rattle.rg_stack.specs.Shows.{levels_of}
 use Rattle.rg_stack.proofs.Mirrors.{SameMove}
 use Rattle.rg_stack.proofs.Walks.Walk.{FollowsPath, walk-path}
-use Rattle.rg_stack.proofs.Walks.Mark.{drop-stands, mark-there, walk_at_mark}
+use Rattle.rg_stack.proofs.Callers.Mark.{drop-stands, mark-there, walk_at_mark}
 use Rattle.rg_stack.proofs.Walks.Place.{roomy-back, front_in, back_in, get-stands, stands-back, block_starts, block_scope, extends}
 use Rattle.rg_stack.proofs.Walks.Place.{AllGoOn, lies_block}
-use Rattle.rg_stack.proofs.Walks.Frame.{room_of, shows_next}
+use Rattle.rg_stack.proofs.Callers.Frame.{room_of, shows_next}
 use Rattle.rg_stack.proofs.Walks.Slot.{ShowsSlots, Has, shows_put, slot_place, scope_set}
 use Rattle.rg_stack.proofs.Walks.End.{EndsAs, ended, value_ends, object_ends, Round, work, state, level, RoundShows, keeps_same, slots_hold}
 use Rattle.rg_stack.proofs.Walks.End.{finish, finish_at, statement_step}
-use Rattle.rg_stack.proofs.Walks.Need.{given}
-use Rattle.rg_stack.proofs.Statements.Base.{as_many, base_is, opens_ends, if_ends}
+use Rattle.rg_stack.proofs.Callers.Need.{given}
+use Rattle.rg_stack.proofs.Callers.Base.{as_many, base_is, opens_ends, if_ends}
 use Rattle.rg_stack.proofs.Statements.Assign.{round_of, put_is, HolderOwes}
 use Rattle.rg_stack.proofs.Statements.Block.{shows_ended, ended-length}
 use Rattle.rg_stack.proofs.Basics.{and-left}

@@ -27,9 +27,9 @@ use Rattle.rg_stack.specs.Left.{NoneLeft, SomeLeft}
 use Rattle.rg_stack.specs.Given.{given_finished as finished, given_step as step, given_step_from as step_from, given_walk as walk}
 use Rattle.rg_stack.proofs.Mirrors.{MirrorsWork, SameMove}
 use Rattle.rg_stack.proofs.Walks.Walk.{Agrees, walk-expr}
-use Rattle.rg_stack.proofs.Walks.Mark.{lies_at_mark, drop-stands, shown_slot, walk_to_items}
-use Rattle.rg_stack.proofs.Walks.Frame.{work_of, state_of}
-use Rattle.rg_stack.proofs.Walks.Need.{given, clear-given, once-cleared, AllOnStack, all-cleared}
+use Rattle.rg_stack.proofs.Callers.Mark.{lies_at_mark, drop-stands, shown_slot, walk_to_items}
+use Rattle.rg_stack.proofs.Callers.Frame.{work_of, state_of}
+use Rattle.rg_stack.proofs.Callers.Need.{given, clear-given, once-cleared, AllOnStack, all-cleared}
 use Rattle.rg_stack.proofs.Walks.Argument.{with_values, each_value}
 use Rattle.rg_stack.proofs.Walks.Slot.{ShowsSlots, cleared_slots, cleared-length, shows_clears, scope_cleared, used-uses}
 

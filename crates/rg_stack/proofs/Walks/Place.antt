@@ -3,14 +3,14 @@ use Rattle.std.proofs.Common.{◌≡◌, ℕ, ◌+◌, true, ◌&&◌, List, [],
 use Rattle.std.proofs.Common.{ap, subst, ◌∙◌, arith, append_assoc, append-nil, length-append, slice_get}
 use Rattle.std.proofs.Math.Seq.{drop-append_seam, take-append_seam}
 use Rattle.std.proofs.lemmas.List.{drop-drop}
-use Rattle.rg_tree.specs.Tree.{stmt, StmtKind, declare, assign, call, swap, branch, while, enter, print, collect, return, Block, empty as none}
+use Rattle.rg_tree.specs.Tree.{stmt, StmtKind, declare, return, Block, empty as none}
 use Rattle.rg_tree.specs.Tree.{then as next, Class}
 use Rattle.rg_rules.specs.Items.{Item, items_of}
 use Rattle.rg_code.specs.declared.op.Op.{Op}
 use Rattle.rg_code.specs.declared.op.Op.TheVariants as i
 use Rattle.rg_code.specs.Lowering.{Scope, scope_behind, kind_code, block_code}
 use Rattle.rg_code.specs.Places.{Stands, StandsIn, roomy, is_mark, Level, Lies, LiesBehind, Lying}
-use Rattle.rg_stack.proofs.Walks.Mark.{drop-stands, first-drop, starts}
+use Rattle.rg_stack.proofs.Callers.Mark.{drop-stands, first-drop, starts}
 use Rattle.rg_stack.proofs.Basics.{and-left, and-right}
 
 pub stands-of : (code : List Op) (at : ℕ) (ops more : List Op) → drop at code ≡ ops ++ more → Stands code at ops

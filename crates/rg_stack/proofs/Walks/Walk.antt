@@ -9,7 +9,7 @@ use Rattle.rg_base.specs.declared.ty.Ty.{Ty}
 use Rattle.rg_base.specs.declared.outcome.Trap.{Trap}
 use Rattle.rg_tree.specs.declared.rows.BinOp.{BinOp}
 use Rattle.rg_tree.specs.declared.rows.BinOp.TheVariants as op
-use Rattle.rg_tree.specs.Tree.{Name, Variable, Path, Expr, number, boolean, nil, path, is_nil, neg, not, binary, Class}
+use Rattle.rg_tree.specs.Tree.{Name, Variable, Path, Expr, path, is_nil, neg, not, binary, Class}
 use Rattle.rg_rules.specs.Answers.{◌>>=◌}
 use Rattle.rg_rules.specs.State.{Local, value_in}
 use Rattle.rg_rules.specs.Values.{Computed, as_int, as_bool, is_nil_value, number_value, operate, decides}

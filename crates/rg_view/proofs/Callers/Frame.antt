@@ -1,7 +1,7 @@
 -- Frames as the machine sees them: a slot that is read or written, slots that end, frames that come and go, and places.
 use Rattle.std.proofs.Common.{◌≡◌, ◌≤◌, ◌<◌, ℕ, zero, suc, ◌+◌, ◌-◌, List, [], ◌∷◌, ◌++◌, Some, length, take, drop, map, replicate, reverse}
 use Rattle.std.proofs.Common.{unwrap_or, slice_get, slice_set, length-append, refl, sym, ap, ◌∙◌, arith, subst}
-use Rattle.std.proofs.lemmas.List.{take_more, map-set, set_past, length-take-le, length-drop, map-append, take-map, drop-take, reverse-append}
+use Rattle.std.proofs.lemmas.List.{take_more, map-set, length-take-le, length-drop, map-append, take-map, drop-take, reverse-append}
 use Rattle.std.proofs.lemmas.List.{length-map, length-reverse, take-append-le, drop-append-le}
 use Rattle.std.proofs.lemmas.Option.{slice_get_past, slice_get_within, slice_get-map, get_or_from_slice_get}
 use Rattle.std.proofs.Math.Seq.{take-length}
@@ -88,15 +88,6 @@ module _ (heap : Heap) where
       ap (map (frame_of heap)) (layers-set slots first s w f fs)
       ∙ ap (λ vs. framed vs f.back (frames_from (take first slots) f.below fs)) (map-set (val_of heap) (drop first slots) s w)
 
-  -- nothing is written past them
-  pub set-past : (slots : List Word) (first s : ℕ) (v : Val) (fs : List FrameRow) → length slots - first ≤ s
-      → frames_from slots first fs ≡ with_slots (slice_set (top_slots (frames_from slots first fs)) s v) (frames_from slots first fs)
-  set-past slots first s v [] past = refl
-  set-past slots first s v (f ∷ fs) past =
-      let dropped = length-drop first slots in
-      let mapped = length-map (drop first slots) (val_of heap) in
-      rw (set_past (map (val_of heap) (drop first slots)) s v (omega (arith, dropped, mapped, past))) refl
-
   pub map-nil : (n : ℕ) → map (val_of heap) (replicate n Nil) ≡ replicate n val.Nil
   map-nil zero = refl
   map-nil (suc n) = ap (λ vs. val.Nil ∷ vs) (map-nil n)
@@ -182,11 +173,6 @@ module _ (heap : Heap) where
   pub pushed-lain : (v : Stack) (back : ℕ) (words : List Word) → Lain v → Lain (pushed_of v back words)
   pushed-lain v back words h =
       rw (reverse-append v.frames (record { back = back; below = v.first } ∷ [])) (omega (arith, length-append v.slots words), h)
-
-  -- the topmost frame goes
-  pub popped-frames : (v : Stack) (f : FrameRow) → IsTopFrame v f
-      → frames_of heap v ≡ framed (map (val_of heap) (drop v.first v.slots)) f.back (frames_of heap (popped v f))
-  popped-frames v f top = ap (frames_from v.slots v.first) (last-reverse v.frames f top)
 
   -- a slot of the topmost frame is written
   pub slot-frames : (v : Stack) (s : ℕ) (w : Word)

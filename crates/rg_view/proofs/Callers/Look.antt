@@ -69,10 +69,6 @@ look h a = by (body_with a h.slots) refl
         let r = found-in a h.slots b e in
         inl (record { slot = r.0; body = b; held = r.1; serial = r.2; shown = ap (object_of h) e })
 
--- two held slots with one serial are one slot
-pub one_slot : (h : Heap) (s o : ℕ) (b d : Body) → Serials h → body_at h s ≡ Some b → body_at h o ≡ Some d → b.serial ≡ d.serial → s ≡ o
-one_slot h s o b d q e f same = q.differ s o b d e f same
-
 -- a held cell shows itself
 pub seen-held : (h : Heap) (s : ℕ) (b : Body) → Serials h → body_at h s ≡ Some b → seen_of h b.serial ≡ object_of h (Some b)
 seen-held h s b q e = elim (look h b.serial) [

@@ -21,9 +21,9 @@ use Rattle.rg_view.specs.View.{store_of, frames_of, windows_of, managers_of, num
 use Rattle.rg_view.specs.Names.{Names, AreTemps}
 use Rattle.rg_view.specs.Numbers.{Numbers}
 use Rattle.rg_view.proofs.Callers.Shown.{frames-same}
-use Rattle.rg_view.proofs.Callers.Make.{made-same, made-plain}
+use Rattle.rg_view.proofs.Callers.New.{made-same, made-plain}
 use Rattle.rg_view.proofs.Callers.Write.{written-same, written-store}
-use Rattle.rg_view.proofs.Callers.Release.{kept-same, released-store}
+use Rattle.rg_view.proofs.Callers.Gone.Released.{kept-same, released-store}
 use Rattle.rg_view.proofs.Callers.Label.{Labels, labels-same, labels-store}
 use Rattle.rg_view.proofs.Callers.Manager.{SameNumbers, same-managers, opens-managers}
 use Rattle.rg_view.proofs.Callers.Table.{kept-windows, same-windows, opens-windows}

@@ -194,19 +194,16 @@ module _ (p : Parts) (v : Stack) (at : ℕ) (q : Serials p.cells.heap) (g : Grov
           let hit = sum-one (λ (f : Frame). count_by (is_into (store_of p.cells.heap) r) f.slots) (f ∷ fs) 0 f refl in
           omega (arith, one, hit)
 
-  -- and where each closed region is owned once, that of a slot of the topmost frame by the slot
-  pub ownerless-slot : (r s i : ℕ) → Numbers p.regions → LiesIn p.cells.heap r s → IsClosed p.regions v r → IsBridge p.regions r s
-      → slot_at (machine_of p v at) i ≡ val_of p.cells.heap (word.Slot s) → owned_once (machine_of p v at) ≡ true
-      → Ownerless p.cells.heap p.regions r s
-  ownerless-slot r s i n lies c bridge is once =
+  -- where each closed region is owned once, at most one place leads into it
+  pub places-most : (r : ℕ) → Numbers p.regions → IsClosed p.regions v r → owned_once (machine_of p v at) ≡ true
+      → places_into (machine_of p v at) r ≤ 1
+  places-most r n c once =
       let m = machine_of p v at in
       let below : r < length (managers_of p.regions) = known (record_at p.regions c.0) refl in
       let test = all-below (length m.managers) (λ r. is_open m.windows r || nat_le (places_into m r) 1) r once below in
       let most : nat_le (places_into m r) 1 ≡ true =
       sym (ap (λ b. b || nat_le (places_into m r) 1) (closed-not-open p.regions v keyed r c)) ∙ test in
-      let one = slot-counts r i (ap (is_into (store_of p.cells.heap) r) is ∙ into-there p.cells.heap r s q lies) in
-      let le : places_into m r ≤ 1 = grind (arith, most) in
-      ownerless r s lies c bridge (omega (arith, one, le))
+      grind (arith, most)
     where
       known : (x : Option Record) → record_at p.regions c.0 ≡ x → r < length (managers_of p.regions)
       known None f = absurd (none-some r (sym (ap (option_map (λ (r : Record). r.number)) f) ∙ c.1))
@@ -214,6 +211,15 @@ module _ (p : Parts) (v : Stack) (at : ℕ) (q : Serials p.cells.heap) (g : Grov
           let is : rec.number ≡ r = same_Some rec.number r (sym (ap (option_map (λ (r : Record). r.number)) f) ∙ c.1) in
           let lt = n.below c.0 rec f in
           omega (arith, is, lt, managers-length p.regions)
+
+  -- and where each closed region is owned once, that of a slot of the topmost frame by the slot
+  pub ownerless-slot : (r s i : ℕ) → Numbers p.regions → LiesIn p.cells.heap r s → IsClosed p.regions v r → IsBridge p.regions r s
+      → slot_at (machine_of p v at) i ≡ val_of p.cells.heap (word.Slot s) → owned_once (machine_of p v at) ≡ true
+      → Ownerless p.cells.heap p.regions r s
+  ownerless-slot r s i n lies c bridge is once =
+      let one = slot-counts r i (ap (is_into (store_of p.cells.heap) r) is ∙ into-there p.cells.heap r s q lies) in
+      let le = places-most r n c once in
+      ownerless r s lies c bridge (omega (arith, one, le))
 
   -- Open and closed regions in the forest
 

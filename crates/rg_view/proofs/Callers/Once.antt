@@ -1,6 +1,6 @@
 -- Where each closed region is owned once, at most one field from outside leads into it.
-use Rattle.std.proofs.Common.{◌≡◌, ◌≢◌, ◌≤◌, ◌<◌, ◌==◌, ◌||◌, ◌+◌, inl, inr, ℕ, zero, suc, Bool as Truth, true, cond, not, List, [], ◌∷◌}
-use Rattle.std.proofs.Common.{map, reverse, length, Option, Some, None, option_map, option_and_then, slice_get, count_by, nat_le}
+use Rattle.std.proofs.Common.{◌≡◌, ◌≢◌, ◌≤◌, ◌==◌, ◌+◌, inl, inr, ℕ, zero, suc, Bool as Truth, true, cond, not, List, [], ◌∷◌}
+use Rattle.std.proofs.Common.{map, reverse, Option, Some, None, option_map, option_and_then, slice_get, count_by}
 use Rattle.std.proofs.Common.{refl, sym, ap, ◌∙◌, subst, arith}
 use Rattle.std.specs.List.{sum_by}
 use Rattle.std.proofs.lemmas.Bool.{cases_eq, eq-eqb, ne_eqb}
@@ -14,27 +14,24 @@ use Rattle.rg_base.specs.declared.value.Val.{Val}
 use Rattle.rg_base.specs.declared.value.Word.TheVariants as word
 use Rattle.rg_cells.specs.declared.cell.Body.{Body}
 use Rattle.rg_cells.specs.Table.{body_at, label_at, field_at, Serials}
-use Rattle.rg_regions.specs.Table.{Record, record_at}
 use Rattle.rg_regions.specs.Reach.{LiesIn}
 use Rattle.rg_regions.specs.Grove.{Grove}
 use Rattle.rg_frames.specs.declared.rows.Window.{Window as WindowRow}
 use Rattle.rg_frames.specs.Stack.{Stack}
 use Rattle.rg_stack.specs.Machine.{Window}
-use Rattle.rg_stack.specs.Needs.{fields_into, places_into, owned_once}
-use Rattle.rg_stack.specs.Labels.{is_open, is_into, is_outside, has_window}
+use Rattle.rg_stack.specs.Needs.{fields_into, owned_once}
+use Rattle.rg_stack.specs.Labels.{is_into, is_outside, has_window}
 use Rattle.rg_heap.specs.Parts.{Parts}
 use Rattle.rg_heap.specs.Answers.{val_of, IsClosed}
 use Rattle.rg_heap.specs.Ends.{OneOutside}
 use Rattle.rg_heap.specs.Opened.{Opened}
 use Rattle.rg_held.proofs.Lists.{sum-one}
-use Rattle.rg_held.proofs.Places.{all-below}
-use Rattle.rg_view.specs.View.{object_of, store_of, window_of, windows_of, managers_of, machine_of}
+use Rattle.rg_view.specs.View.{object_of, store_of, window_of, windows_of, machine_of}
 use Rattle.rg_view.specs.Numbers.{Numbers}
 use Rattle.rg_view.proofs.Callers.Look.{store-held}
 use Rattle.rg_view.proofs.Callers.Shown.{field-in}
-use Rattle.rg_view.proofs.Callers.Manager.{managers-length}
-use Rattle.rg_view.proofs.Callers.Open.{any-map, any-reverse, closed-not-open, into-there}
-use Rattle.rg_view.proofs.Callers.Need.{keyed, weight}
+use Rattle.rg_view.proofs.Callers.Open.{any-map, any-reverse, into-there}
+use Rattle.rg_view.proofs.Callers.Need.{places-most, weight}
 use Rattle.rg_view.proofs.Callers.Held.{TempsOfWindows}
 
 -- two elements together
@@ -132,21 +129,7 @@ module _ (p : Parts) (v : Stack) (at : ℕ) (q : Serials p.cells.heap) (g : Grov
   -- the fields from outside that lead into a closed region
   fields-most : (r : ℕ) → Numbers p.regions → IsClosed p.regions v r → owned_once (machine_of p v at) ≡ true
       → fields_into (store_of p.cells.heap) (windows_of p.regions v) r (store_of p.cells.heap) ≤ 1
-  fields-most r n c once =
-      let m = machine_of p v at in
-      let below : r < length (managers_of p.regions) = known (record_at p.regions c.0) refl in
-      let test = all-below (length m.managers) (λ r. is_open m.windows r || nat_le (places_into m r) 1) r once below in
-      let most : nat_le (places_into m r) 1 ≡ true =
-      sym (ap (λ b. b || nat_le (places_into m r) 1) (closed-not-open p.regions v (keyed p v at q g o) r c)) ∙ test in
-      let le : places_into m r ≤ 1 = grind (arith, most) in
-      omega (arith, le)
-    where
-      known : (x : Option Record) → record_at p.regions c.0 ≡ x → r < length (managers_of p.regions)
-      known None f = absurd (none-some r (sym (ap (option_map (λ (r : Record). r.number)) f) ∙ c.1))
-      known (Some rec) f =
-          let is : rec.number ≡ r = same_Some rec.number r (sym (ap (option_map (λ (r : Record). r.number)) f) ∙ c.1) in
-          let lt = n.below c.0 rec f in
-          omega (arith, is, lt, managers-length p.regions)
+  fields-most r n c once = let le = places-most p v at q g o r n c once in omega (arith, le)
 
   -- two fields of one cell would count two
   one-field : (r s k k₂ : ℕ) → (x : Outside r s k) (y : Outside r s k₂)

@@ -10,9 +10,9 @@ use Rattle.rg_frames.specs.declared.rows.Window.{Window as WindowRow}
 use Rattle.rg_frames.specs.Stack.{Stack}
 use Rattle.rg_heap.specs.Changes.{Rewritten, SameRecords, Opens}
 use Rattle.rg_held.proofs.Lists.{reverse-back}
-use Rattle.rg_view.specs.View.{number_in, number_of, managers_of, windows_of}
+use Rattle.rg_view.specs.View.{number_in, number_of, windows_of}
 use Rattle.rg_view.specs.Numbers.{Numbers}
-use Rattle.rg_view.proofs.Callers.Manager.{SameNumbers, manager-at}
+use Rattle.rg_view.proofs.Callers.Manager.{SameNumbers}
 use Rattle.rg_view.proofs.Callers.Window.{windows-same}
 
 -- a record that changes but for its number and manager
@@ -97,16 +97,6 @@ fewer-numbers old new f q = record {
       let w = f.there m x g in
       q.differ k m u.0 w.0 u.1 w.1 (u.2 ∙ same ∙ sym w.2);
 }
-
--- and regions that are left show their managers
-pub fewer-managers : (old new : RegionTable) (key : ℕ) (r : Record) → FewerNumbers old new → Numbers old → record_at new key ≡ Some r
-    → slice_get (managers_of new) r.number ≡ slice_get (managers_of old) r.number
-fewer-managers old new key r f q e =
-    let u = f.there key r e in
-    manager-at new key r (fewer-numbers old new f q) e
-    ∙ ap Some (sym u.3)
-    ∙ sym (manager-at old key u.0 q u.1)
-    ∙ ap (slice_get (managers_of old)) u.2
 
 -- where records go or stay, as at a release, a freeze and a merge
 pub gone-or-same : (old new : RegionTable) → new.next ≡ old.next

@@ -1,5 +1,5 @@
 -- Windows as the machine sees them.
-use Rattle.std.proofs.Common.{◌≡◌, ◌≤◌, ◌<◌, ℕ, suc, ◌-◌, List, [], ◌∷◌, Some, length, take, map, reverse, slice_get, nat_le, refl, sym, ap}
+use Rattle.std.proofs.Common.{◌≡◌, ◌≤◌, ℕ, suc, ◌-◌, List, [], ◌∷◌, Some, length, take, map, reverse, slice_get, nat_le, refl, sym, ap}
 use Rattle.std.proofs.Common.{◌∙◌, arith}
 use Rattle.std.proofs.lemmas.List.{reverse-append, length-reverse, length-take-le}
 use Rattle.rg_base.specs.declared.object.Place.{Place}
@@ -52,12 +52,3 @@ module _ (t : RegionTable) where
           → map (window_of t) rest ≡ without_top (map (window_of t) (w ∷ rest))
       two-left w [] some = absurd (omega (arith, some))
       two-left w (u ∷ us) some = refl
-
-  -- the last one stays
-  pub last-window : (v : Stack) → length v.windows < 2 → without_top (windows_of t v) ≡ windows_of t v
-  last-window v few = few-left (reverse v.windows) (omega (arith, few, length-reverse v.windows))
-    where
-      few-left : (ws : List WindowRow) → length ws < 2 → without_top (map (window_of t) ws) ≡ map (window_of t) ws
-      few-left [] few = refl
-      few-left (w ∷ []) few = refl
-      few-left (w ∷ u ∷ ws) few = absurd (omega (arith, few))

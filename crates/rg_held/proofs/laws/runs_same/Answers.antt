@@ -1,4 +1,4 @@
-use Rattle.rg_held.proofs.Callers.Run.{runs-same}
+use Rattle.rg_held.proofs.Walks.Run.{runs-same}
 use Rattle.rg_held.proofs.laws.runs_same.Goals as goal
 
 pub returns : goal.returns

@@ -21,8 +21,7 @@ returns-in-Store c =
     let p = c.store.ensures in rw c.in-Store.is (record { effect = p.effect c.args.at; keeps = p.keeps; high = p.high })
 
 pub returns-in-Own : goal.returns-in-Own
-returns-in-Own c =
-    let p = c.own.ensures in rw c.in-Own.is (record { effect = p.effect c.args.at; keeps = p.keeps; high = p.high })
+returns-in-Own c = rw c.in-Own.is (c.own.ensures c.args.at)
 
 pub returns-in-Field : goal.returns-in-Field
 returns-in-Field c =
@@ -85,93 +84,74 @@ returns-in-Not c =
     let p = c.invert.ensures in rw c.in-Not.is (record { effect = p.effect c.args.at; keeps = p.keeps; high = p.high })
 
 pub returns-in-JumpFalse : goal.returns-in-JumpFalse
-returns-in-JumpFalse c =
-    let p = c.jump_false.ensures in rw c.in-JumpFalse.is (record { effect = p.effect c.args.at; keeps = p.keeps; high = p.high })
+returns-in-JumpFalse c = rw c.in-JumpFalse.is (c.jump_false.ensures c.args.at)
 
 pub returns-in-And : goal.returns-in-And
-returns-in-And c =
-    let p = c.and.ensures in rw c.in-And.is (record { effect = p.effect c.args.at; keeps = p.keeps; high = p.high })
+returns-in-And c = rw c.in-And.is (c.and.ensures c.args.at)
 
 pub returns-in-Or : goal.returns-in-Or
-returns-in-Or c =
-    let p = c.or.ensures in rw c.in-Or.is (record { effect = p.effect c.args.at; keeps = p.keeps; high = p.high })
+returns-in-Or c = rw c.in-Or.is (c.or.ensures c.args.at)
 
 pub returns-in-Check : goal.returns-in-Check
 returns-in-Check c =
     let p = c.check.ensures in rw c.in-Check.is (record { effect = p.effect c.args.at; keeps = p.keeps; high = p.high })
 
 pub returns-in-New : goal.returns-in-New
-returns-in-New c =
-    let p = c.new.ensures in rw c.in-New.is (record { effect = p.effect c.args.at; keeps = p.keeps; high = p.high })
+returns-in-New c = rw c.in-New.is (c.new_object.ensures c.args.at)
 
 pub returns-in-NewTmp : goal.returns-in-NewTmp
-returns-in-NewTmp c =
-    let p = c.new_temp.ensures in rw c.in-NewTmp.is (record { effect = p.effect c.args.at; keeps = p.keeps; high = p.high })
+returns-in-NewTmp c = rw c.in-NewTmp.is (c.new_temp.ensures c.args.at)
 
 pub returns-in-NewIso : goal.returns-in-NewIso
-returns-in-NewIso c =
-    let p = c.new_iso.ensures in rw c.in-NewIso.is (record { effect = p.effect c.args.at; keeps = p.keeps; high = p.high })
+returns-in-NewIso c = rw c.in-NewIso.is (c.new_iso.ensures c.args.at)
 
 pub returns-in-Put : goal.returns-in-Put
 returns-in-Put c =
     let p = c.put.ensures in rw c.in-Put.is (record { effect = p.effect c.args.at; keeps = p.keeps; high = p.high })
 
 pub returns-in-Swap : goal.returns-in-Swap
-returns-in-Swap c =
-    let p = c.swap.ensures in rw c.in-Swap.is (record { effect = p.effect c.args.at; keeps = p.keeps; high = p.high })
+returns-in-Swap c = rw c.in-Swap.is (c.swap.ensures c.args.at)
 
 pub returns-in-Freeze : goal.returns-in-Freeze
-returns-in-Freeze c =
-    let p = c.freeze.ensures in rw c.in-Freeze.is (record { effect = p.effect c.args.at; keeps = p.keeps; high = p.high })
+returns-in-Freeze c = rw c.in-Freeze.is (c.freeze.ensures c.args.at)
 
 pub returns-in-Merge : goal.returns-in-Merge
-returns-in-Merge c =
-    let p = c.merge.ensures in rw c.in-Merge.is (record { effect = p.effect c.args.at; keeps = p.keeps; high = p.high })
+returns-in-Merge c = rw c.in-Merge.is (c.merge.ensures c.args.at)
 
 pub returns-in-Read : goal.returns-in-Read
-returns-in-Read c =
-    let p = c.ask_number.ensures in rw c.in-Read.is (record { effect = p.effect c.args.at; keeps = p.keeps; high = p.high })
+returns-in-Read c = rw c.in-Read.is (c.ask_number.ensures c.args.at)
 
 pub returns-in-More : goal.returns-in-More
-returns-in-More c =
-    let p = c.ask_more.ensures in rw c.in-More.is (record { effect = p.effect c.args.at; keeps = p.keeps; high = p.high })
+returns-in-More c = rw c.in-More.is (c.ask_more.ensures c.args.at)
 
 pub returns-in-Call : goal.returns-in-Call
 returns-in-Call c =
     let p = c.call.ensures in rw c.in-Call.is (record { effect = p.effect; keeps = p.keeps; high = p.high })
 
 pub returns-in-Ret : goal.returns-in-Ret
-returns-in-Ret c =
-    let p = c.ret.ensures in rw c.in-Ret.is (record { effect = p.effect c.args.at; keeps = p.keeps; high = p.high })
+returns-in-Ret c = rw c.in-Ret.is (c.ret.ensures c.args.at)
 
 pub returns-in-RetVoid : goal.returns-in-RetVoid
-returns-in-RetVoid c =
-    let p = c.ret_void.ensures in rw c.in-RetVoid.is (record { effect = p.effect c.args.at; keeps = p.keeps; high = p.high })
+returns-in-RetVoid c = rw c.in-RetVoid.is (c.ret_void.ensures c.args.at)
 
 pub returns-in-Enter : goal.returns-in-Enter
-returns-in-Enter c =
-    let p = c.enter.ensures in rw c.in-Enter.is (record { effect = p.effect c.args.at; keeps = p.keeps; high = p.high })
+returns-in-Enter c = rw c.in-Enter.is (c.enter.ensures c.args.at)
 
 pub returns-in-EnterField : goal.returns-in-EnterField
-returns-in-EnterField c =
-    let p = c.enter_field.ensures in rw c.in-EnterField.is (record { effect = p.effect c.args.at; keeps = p.keeps; high = p.high })
+returns-in-EnterField c = rw c.in-EnterField.is (c.enter_field.ensures c.args.at)
 
 pub returns-in-Leave : goal.returns-in-Leave
-returns-in-Leave c =
-    let p = c.leave.ensures in rw c.in-Leave.is (record { effect = p.effect c.args.at; keeps = p.keeps; high = p.high })
+returns-in-Leave c = rw c.in-Leave.is (c.leave.ensures c.args.at)
 
 pub returns-in-End : goal.returns-in-End
-returns-in-End c =
-    let p = c.end.ensures in rw c.in-End.is (record { effect = p.effect c.args.at; keeps = p.keeps; high = p.high })
+returns-in-End c = rw c.in-End.is (c.end.ensures c.args.at)
 
 pub returns-in-Print : goal.returns-in-Print
 returns-in-Print c =
     let p = c.print.ensures in rw c.in-Print.is (record { effect = p.effect c.args.at; keeps = p.keeps; high = p.high })
 
 pub returns-in-Pop : goal.returns-in-Pop
-returns-in-Pop c =
-    let p = c.pop_top.ensures in rw c.in-Pop.is (record { effect = p.effect c.args.at; keeps = p.keeps; high = p.high })
+returns-in-Pop c = rw c.in-Pop.is (c.pop_top.ensures c.args.at)
 
 pub returns-in-Drop : goal.returns-in-Drop
-returns-in-Drop c =
-    let p = c.drop_top.ensures in rw c.in-Drop.is (record { effect = p.effect c.args.at; keeps = p.keeps; high = p.high })
+returns-in-Drop c = rw c.in-Drop.is (c.pop_top-in-Drop.ensures c.args.at)

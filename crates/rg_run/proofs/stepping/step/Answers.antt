@@ -5,11 +5,8 @@ use Rattle.rg_run.proofs.stepping.step.Goals as goal
 pub returns-clause-events : goal.returns-clause-events
 returns-clause-events g c = (added c.step.ensures.follows c.step.ensures.step).0
 
-pub returns-clause-count : goal.returns-clause-count
-returns-clause-count g c = (added c.step.ensures.follows c.step.ensures.step).1.0
-
-pub returns-clause-trace : goal.returns-clause-trace
-returns-clause-trace g c = (added c.step.ensures.follows c.step.ensures.step).1.1
+pub returns-clause-tuned : goal.returns-clause-tuned
+returns-clause-tuned g c = (added c.step.ensures.follows c.step.ensures.step).1
 
 pub returns-clause-slides : goal.returns-clause-slides
 returns-clause-slides g c = slides c.step.ensures.follows c.step.ensures.step

@@ -12,13 +12,13 @@ use Rattle.rg_machine.specs.Core.{below_top, with_top, work_of}
 use Rattle.rg_step.specs.declared.asks.Come.TheVariants as come
 use Rattle.rg_step.specs.Inner.Refusals.{Unread, StillLeft}
 use Rattle.rg_step.specs.Inner.Walks.{ComesTo, walk_from}
-use Rattle.rg_step.proofs.Ask.{read-on, more-on, unstuck-there}
+use Rattle.rg_step.proofs.Walking.Ask.{read-on, more-on, unstuck-there}
 use Rattle.rg_step.specs.Inner.High.{MayMake}
-use Rattle.rg_step.proofs.High.{may-most}
-use Rattle.rg_step.proofs.Leaves.{stands-put, put-backs, no-asking, no-machine, unread-left, unread-number}
+use Rattle.rg_step.proofs.Walking.High.{may-most}
+use Rattle.rg_step.proofs.Walking.Leaves.{stands-put, put-backs, no-asking, no-machine, unread-left, unread-number}
 use Rattle.rg_machine.specs.Parts.{machine_in}
 use Rattle.rg_machine.specs.Cores.{core_of}
-use Rattle.rg_machine.proofs.Ret.{same-back}
+use Rattle.rg_machine.proofs.Callers.Return.{same-back}
 use Rattle.rg_step.proofs.asks.walk_asking.Goals as goal
 
 pub walk-requires : goal.walk-requires

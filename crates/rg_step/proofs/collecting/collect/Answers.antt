@@ -1,5 +1,5 @@
 use Rattle.std.proofs.Common.{sym, subst}
-use Rattle.rg_machine.proofs.Active.{on-there}
+use Rattle.rg_machine.proofs.Callers.Active.{on-there}
 use Rattle.rg_step.specs.Collections.{CollectsTop, GathersBy}
 use Rattle.rg_step.proofs.collecting.collect.Goals as goal
 

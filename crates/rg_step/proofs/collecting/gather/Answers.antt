@@ -1,4 +1,4 @@
-use Rattle.rg_step.proofs.Serve.{told-some}
+use Rattle.rg_step.proofs.Callers.Serve.{told-some}
 use Rattle.rg_step.proofs.collecting.gather.Goals as goal
 
 pub unreachable-requires : goal.unreachable-requires

@@ -10,17 +10,31 @@ use Rattle.rg_machine.specs.Cores.{core_of}
 use Rattle.rg_stack.specs.Machine.{Machine}
 use Rattle.rg_held.specs.Freed.{FreesOnly as StoreFrees}
 use Rattle.rg_step.specs.Inner.High.{DidMade}
-use Rattle.rg_step.proofs.High.{answer-raises}
+use Rattle.rg_step.proofs.Walking.High.{answer-raises}
 use Rattle.rg_step.specs.Inner.Refusals.{DidLeaves, asks_at}
 use Rattle.rg_step.specs.Inner.Serving.{answer}
 use Rattle.rg_step.specs.Inner.Walks.{StepIs}
-use Rattle.rg_step.specs.Steps.{StepsOn, is_made}
+use Rattle.rg_step.specs.Steps.{IsResting, StepsOn, is_made}
 use Rattle.rg_step.specs.Frees.{StaysGone}
 use Rattle.rg_step.proofs.Frees.{did-frees, did-stays, table-frees}
-use Rattle.rg_step.proofs.Outcomes.{answer-fault, answer-leaves, answer-settles, never-lost}
-use Rattle.rg_step.proofs.Pass.{asked-step, is-asked, pass-frees, pass-high, pass-rests, pass-stays, pass-steps}
-use Rattle.rg_step.proofs.Run.{runs-ask, runs-given, runs-orderly, unasked-there}
+use Rattle.rg_step.proofs.Walking.Outcomes.{answer-fault, answer-leaves, answer-settles, instructed-nothing, never-lost}
+use Rattle.rg_step.proofs.Shapes.Pass.{asked-step, is-asked, pass-frees, pass-high, pass-rests, pass-stays, pass-steps}
+use Rattle.rg_step.proofs.Walking.Run.{runs-ask, runs-given, runs-orderly, unasked-there}
+use Rattle.rg_step.proofs.Callers.Serve.{steps-nowhere}
 use Rattle.rg_step.proofs.outcome.outcome.Goals as goal
+
+-- where there is no room for an event
+
+pub returns-in_default-clause-step : goal.returns-in_default-clause-step
+returns-in_default-clause-step g c =
+    let m = machine_in c.args.p.now in
+    OnInput-still _ _ _ _ (StepsOn c.args.code.now m m outcome.Memory) refl refl (steps-nowhere c.args.code.now m)
+
+pub returns-in_default-clause-did : goal.returns-in_default-clause-did
+returns-in_default-clause-did g c = instructed-nothing c.args.due c.args.p.now c.requires.rests
+
+pub returns-in_default-clause-room : goal.returns-in_default-clause-room
+returns-in_default-clause-room g c made = absurd (true≢false (sym made))
 
 -- the step of a `collect`
 
@@ -45,37 +59,23 @@ returns-then-is_asked-clause-step g c =
     c.go_to.ensures ∙ ap (λ n. record old { at = n }) (c.behind_collect.ensures ∙ ap (λ n. n + 2) c.at.ensures) in
     OnInput-still _ _ _ _ (StepsOn code (machine_in old) (machine_in new) outcome.Running) refl refl (pass-steps code old new is c.requires.runs due)
 
-pub returns-then-is_asked-clause-refused : goal.returns-then-is_asked-clause-refused
-returns-then-is_asked-clause-refused g c none = absurd (true≢false none)
-
-pub returns-then-is_asked-clause-high : goal.returns-then-is_asked-clause-high
-returns-then-is_asked-clause-high g c =
+pub returns-then-is_asked-clause-did : goal.returns-then-is_asked-clause-did
+returns-then-is_asked-clause-did g c =
+    let code = c.args.code.now in
     let old = c.args.p.now in
-    pass-high c.args.code.now old c.go_to.new.self
-    (c.go_to.ensures ∙ ap (λ n. record old { at = n }) (c.behind_collect.ensures ∙ ap (λ n. n + 2) c.at.ensures))
-
-pub returns-then-is_asked-clause-frees : goal.returns-then-is_asked-clause-frees
-returns-then-is_asked-clause-frees g c =
-    let old = c.args.p.now in
-    pass-frees c.args.code.now old c.go_to.new.self
-    (c.go_to.ensures ∙ ap (λ n. record old { at = n }) (c.behind_collect.ensures ∙ ap (λ n. n + 2) c.at.ensures))
-
-pub returns-then-is_asked-clause-stays_gone : goal.returns-then-is_asked-clause-stays_gone
-returns-then-is_asked-clause-stays_gone g c =
-    let old = c.args.p.now in
-    pass-stays c.args.code.now old c.go_to.new.self
-    (c.go_to.ensures ∙ ap (λ n. record old { at = n }) (c.behind_collect.ensures ∙ ap (λ n. n + 2) c.at.ensures))
-
-pub returns-then-is_asked-clause-rests : goal.returns-then-is_asked-clause-rests
-returns-then-is_asked-clause-rests g c =
-    let old = c.args.p.now in
-    pass-rests c.args.code.now old c.go_to.new.self
-    (c.go_to.ensures ∙ ap (λ n. record old { at = n }) (c.behind_collect.ensures ∙ ap (λ n. n + 2) c.at.ensures)) c.requires.rests
+    let new = c.go_to.new.self in
+    let is : new ≡ record old { at = old.at + 2 } =
+    c.go_to.ensures ∙ ap (λ n. record old { at = n }) (c.behind_collect.ensures ∙ ap (λ n. n + 2) c.at.ensures) in
+    record {
+      refused = λ none. absurd (true≢false none);
+      high = pass-high code old new is;
+      frees = pass-frees code old new is;
+      stays_gone = pass-stays code old new is;
+      still = λ asked. (ap (λ (p : Parts). p.heap) is, ap (λ (p : Parts). p.frames) is);
+      rests = pass-rests code old new is c.requires.rests;
+    }
 
 -- any other
-
-pub returns-clause-still : goal.returns-clause-still
-returns-clause-still g c asked = absurd (true≢false (sym asked ∙ sym c.is_asked.ensures ∙ c.if-is_asked.false))
 
 pub step-did-requires-clause-given : goal.step-did-requires-clause-given
 step-did-requires-clause-given g c = runs-given c.args.code.now (core_of c.args.p.now) c.requires.runs
@@ -118,48 +118,42 @@ pub returns-clause-fault : goal.returns-clause-fault
 returns-clause-fault g c e =
     c.step-did.ensures.fault (answer-fault c.step-did.result c.printed-printed.result (sym c.answer.ensures ∙ e))
 
-pub returns-clause-high : goal.returns-clause-high
-returns-clause-high g c =
-    let runs = c.requires.runs in
-    let old = c.args.p.now in
-    let d = c.step-did.result in
-    let made = c.step-did.ensures.high (runs-orderly runs.0 c.args.code.now (machine_in old) runs.1 runs.2) in
-    let there : DidMade old.heap c.start.new.self.heap d = subst (λ (p : Parts). DidMade old.heap p.heap d) (sym c.start.ensures) made in
-    rw c.answer.ensures (answer-raises old c.start.new.self d c.printed-printed.result there)
-
-pub returns-clause-frees : goal.returns-clause-frees
-returns-clause-frees g c =
+pub returns-clause-did : goal.returns-clause-did
+returns-clause-did g c =
     let code = c.args.code.now in
     let old = c.args.p.now in
     let mid = c.step-did.new.p in
     let new = c.start.new.self in
+    let d = c.step-did.result in
+    let m = machine_in old in
     let runs = c.requires.runs in
-    let order = runs-orderly runs.0 code (machine_in old) runs.1 runs.2 in
-    let s = OnInput-some _ _ _ _ (StepIs code (core_of old) (core_of mid) c.step-did.result) c.step-did.ensures.follows c.step-did.ensures.step in
-    let frees = did-frees code (core_of old) (core_of mid) c.step-did.result s.0 s.1 runs c.step-did.ensures.leaves s.2 order in
-    table-frees old new
-    (record { stands = c.is_sound.ensures.stands; serials = c.is_sound.ensures.serials; forest = c.is_sound.ensures.forest; windows = c.is_sound.ensures.windows })
-    (record { stands = c.is_sound-2.ensures.stands; serials = c.is_sound-2.ensures.serials; forest = c.is_sound-2.ensures.forest; windows = c.is_sound-2.ensures.windows })
-    (subst (λ (p : Parts). StoreFrees (machine_in old) (machine_in p)) (sym c.start.ensures) frees)
-
-pub returns-clause-stays_gone : goal.returns-clause-stays_gone
-returns-clause-stays_gone g c =
-    let code = c.args.code.now in
-    let old = c.args.p.now in
-    let mid = c.step-did.new.p in
-    let runs = c.requires.runs in
-    let order = runs-orderly runs.0 code (machine_in old) runs.1 runs.2 in
-    let s = OnInput-some _ _ _ _ (StepIs code (core_of old) (core_of mid) c.step-did.result) c.step-did.ensures.follows c.step-did.ensures.step in
-    subst (λ (p : Parts). StaysGone old p) (sym c.start.ensures)
-    (did-stays code (core_of old) (core_of mid) c.step-did.result s.0 s.1 runs c.step-did.ensures.leaves s.2 order)
-
-pub returns-clause-refused : goal.returns-clause-refused
-returns-clause-refused g c none =
-    let m = machine_in c.args.p.now in
-    let runs = c.requires.runs in
-    let left = c.step-did.ensures.leaves (runs-orderly runs.0 c.args.code.now m runs.1 runs.2) in
-    let led = never-lost c.args.code.now (core_of c.args.p.now) (core_of c.step-did.new.p) c.step-did.result _ _ _ _ runs
-    c.step-did.ensures.follows c.step-did.ensures.step in
-    ap machine_in c.start.ensures
-    ∙ answer-leaves (asks_at c.args.code.now.ops m) m (machine_in c.step-did.new.p) c.step-did.result c.printed-printed.result led
-    (ap is_made (sym c.answer.ensures) ∙ none) left
+    let order = runs-orderly runs.0 code m runs.1 runs.2 in
+    let s = OnInput-some _ _ _ _ (StepIs code (core_of old) (core_of mid) d) c.step-did.ensures.follows c.step-did.ensures.step in
+    let there : DidMade old.heap new.heap d =
+    subst (λ (p : Parts). DidMade old.heap p.heap d) (sym c.start.ensures) (c.step-did.ensures.high order) in
+    let led = never-lost code (core_of old) (core_of mid) d _ _ _ _ runs c.step-did.ensures.follows c.step-did.ensures.step in
+    record {
+      refused = λ none. ap machine_in c.start.ensures
+          ∙ answer-leaves (asks_at code.ops m) m (machine_in mid) d c.printed-printed.result led (ap is_made (sym c.answer.ensures) ∙ none)
+          (c.step-did.ensures.leaves order);
+      high = rw c.answer.ensures (answer-raises old new d c.printed-printed.result there);
+      frees = table-frees old new
+          (record {
+            stands = c.is_sound.ensures.stands;
+            serials = c.is_sound.ensures.serials;
+            forest = c.is_sound.ensures.forest;
+            windows = c.is_sound.ensures.windows;
+          })
+          (record {
+            stands = c.is_sound-2.ensures.stands;
+            serials = c.is_sound-2.ensures.serials;
+            forest = c.is_sound-2.ensures.forest;
+            windows = c.is_sound-2.ensures.windows;
+          })
+          (subst (λ (p : Parts). StoreFrees m (machine_in p)) (sym c.start.ensures)
+          (did-frees code (core_of old) (core_of mid) d s.0 s.1 runs c.step-did.ensures.leaves s.2 order));
+      stays_gone = subst (λ (p : Parts). StaysGone old p) (sym c.start.ensures)
+          (did-stays code (core_of old) (core_of mid) d s.0 s.1 runs c.step-did.ensures.leaves s.2 order);
+      still = λ asked. absurd (true≢false (sym asked ∙ sym c.is_asked.ensures ∙ c.if-is_asked.false));
+      rests = subst IsResting (sym c.start.ensures) (record { words = refl; printed = refl });
+    }

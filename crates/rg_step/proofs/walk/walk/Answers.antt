@@ -3,151 +3,127 @@ use Rattle.rg_stack.specs.Refusals.{manner}
 use Rattle.rg_machine.specs.Core.{Core}
 use Rattle.rg_machine.specs.Keeps.{WantsRoom}
 use Rattle.rg_step.specs.Inner.Walks.{walk_from}
-use Rattle.rg_step.specs.Inner.Simple.{Done}
-use Rattle.rg_step.proofs.Walks.{walking-undone}
-use Rattle.rg_step.proofs.Turn.{given-here, past-code, turn-on, turn-to, turn-back, turn-ends, turn-read, turn-more, turn-room, turn-full}
-use Rattle.rg_step.proofs.Stands.{stands-on, stands-to, stands-back, stands-left, stands-asking, stands-number, stands-free, stands-roomless}
+use Rattle.rg_step.proofs.Walking.Turn.{given-here, past-code, turn-on, turn-to, turn-back, turn-ends, turn-read, turn-more, turn-room, turn-full}
+use Rattle.rg_step.proofs.Walking.Stands.{stands-on, stands-to, stands-back, stands-left, stands-asking, stands-number, stands-free, stands-roomless}
 use Rattle.rg_step.specs.Inner.High.{MayMake, OneAtMost}
-use Rattle.rg_step.proofs.High.{high-asks, high-back, high-ends, high-free, high-none, high-on, high-to}
-use Rattle.rg_step.proofs.Leaves.{on-backs, to-backs, asks-backs, room-backs}
+use Rattle.rg_step.proofs.Walking.High.{high-asks, high-back, high-ends, high-free, high-none, high-on, high-to}
+use Rattle.rg_step.proofs.Walking.Leaves.{on-backs, to-backs, asks-backs, room-backs}
 use Rattle.rg_machine.specs.Parts.{machine_in}
 use Rattle.rg_machine.specs.Cores.{core_of}
-use Rattle.rg_machine.proofs.Ret.{same-back}
+use Rattle.rg_machine.proofs.Callers.Return.{same-back}
 use Rattle.rg_step.proofs.walk.walk.Goals as goal
-
-pub simple-requires : goal.simple-requires
-simple-requires c = given-here c.args.code.now c.loop-at.at c.get-op.result
-    (core_of c.loop-at.p) _ c.requires c.loop-at.invariant.walks c.get-op.ensures
-
-pub loop-at-preserved-then-simple : goal.loop-at-preserved-then-simple
-loop-at-preserved-then-simple c =
-    let code = c.args.code.now in
-    let i = c.loop-at.invariant in
-    let at = c.loop-at.at in
-    let old = c.loop-at.p in
-    let new = c.simple.new.p in
-    let op = c.get-op.result in
-    let went = subst (Done code op old new) c.if-simple.true c.simple.ensures in
-    record {
-      further = omega (arith, i.further);
-      walks = turn-on code at op (core_of old) (core_of new) _ c.requires i.walks c.get-op.ensures (went.effect at);
-      stands = λ start asks h. stands-on code.ops start asks at (machine_in old) (machine_in new) op c.get-op.ensures went.keeps
-          (i.stands start asks h);
-      backs = on-backs (manner op) (machine_in old) (machine_in new) went.keeps ∙ i.backs;
-      high = λ start h. high-on code.ops start at old new op c.get-op.ensures went.keeps went.high (i.high start h);
-    }
 
 pub act-requires-clause-given : goal.act-requires-clause-given
 act-requires-clause-given c =
-    let i = walking-undone c.get-op.result c.simple.new.p c.simple.result c.simple.ensures c.if-simple.false c.loop-at.invariant in
-    given-here c.args.code.now c.loop-at.at c.get-op.result (core_of c.simple.new.p) _ c.requires i.walks c.get-op.ensures
+    let i = c.loop-at.invariant in
+    given-here c.args.code.now c.loop-at.at c.get.result (core_of c.loop-at.p) _ c.requires i.walks c.get.ensures
 
 pub make_room-requires : goal.make_room-requires
 make_room-requires c lt =
-    let i = walking-undone c.get-op.result c.simple.new.p c.simple.result c.simple.ensures c.if-simple.false c.loop-at.invariant in
+    let i = c.loop-at.invariant in
     let some = c.requires in (
       some.0,
-      λ stuck. some.1 (turn-room c.args.code.now c.loop-at.at c.get-op.result (core_of c.simple.new.p)
-          (core_of c.act.new.p) _ some i.walks c.get-op.ensures
+      λ stuck. some.1 (turn-room c.args.code.now c.loop-at.at c.get.result (core_of c.loop-at.p)
+          (core_of c.act.new.p) _ some i.walks c.get.ensures
           c.in-Room.ensures.effect lt some.0 ∙ stuck),
     )
 
 pub loop-at-preserved-in-On : goal.loop-at-preserved-in-On
 loop-at-preserved-in-On c =
     let code = c.args.code.now in
-    let i = walking-undone c.get-op.result c.simple.new.p c.simple.result c.simple.ensures c.if-simple.false c.loop-at.invariant in
-    let old = (core_of c.simple.new.p) in
+    let i = c.loop-at.invariant in
+    let old = (core_of c.loop-at.p) in
     let new = (core_of c.act.new.p) in
-    let op = c.get-op.result in
+    let op = c.get.result in
     record {
       further = omega (arith, i.further);
-      walks = turn-on code c.loop-at.at op old new _ c.requires i.walks c.get-op.ensures c.in-On.ensures.effect;
-      stands = λ start asks h. stands-on code.ops start asks c.loop-at.at old.machine new.machine op c.get-op.ensures c.in-On.ensures.keeps
+      walks = turn-on code c.loop-at.at op old new _ c.requires i.walks c.get.ensures c.in-On.ensures.effect;
+      stands = λ start asks h. stands-on code.ops start asks c.loop-at.at old.machine new.machine op c.get.ensures c.in-On.ensures.keeps
           (i.stands start asks h);
       backs = on-backs (manner op) old.machine new.machine c.in-On.ensures.keeps ∙ i.backs;
-      high = λ start h. high-on c.args.code.now.ops start c.loop-at.at c.simple.new.p c.act.new.p op c.get-op.ensures
+      high = λ start h. high-on c.args.code.now.ops start c.loop-at.at c.loop-at.p c.act.new.p op c.get.ensures
           c.in-On.ensures.keeps c.in-On.ensures.high (i.high start h);
     }
 
 pub loop-at-preserved-then-to-at : goal.loop-at-preserved-then-to-at
 loop-at-preserved-then-to-at c =
     let code = c.args.code.now in
-    let i = walking-undone c.get-op.result c.simple.new.p c.simple.result c.simple.ensures c.if-simple.false c.loop-at.invariant in
-    let old = (core_of c.simple.new.p) in
+    let i = c.loop-at.invariant in
+    let old = (core_of c.loop-at.p) in
     let new = (core_of c.act.new.p) in
-    let op = c.get-op.result in
+    let op = c.get.result in
     record {
       further = omega (arith, i.further, c.if-to-at.true);
-      walks = turn-to code c.loop-at.at c.in-To.to op old new _ c.requires i.walks c.get-op.ensures (omega (arith, c.if-to-at.true))
+      walks = turn-to code c.loop-at.at c.in-To.to op old new _ c.requires i.walks c.get.ensures (omega (arith, c.if-to-at.true))
           c.in-To.ensures.effect;
-      stands = λ start asks h. stands-to code.ops start asks c.loop-at.at old.machine new.machine op c.get-op.ensures c.in-To.to
+      stands = λ start asks h. stands-to code.ops start asks c.loop-at.at old.machine new.machine op c.get.ensures c.in-To.to
           (omega (arith, c.if-to-at.true))
           c.in-To.ensures.keeps (i.stands start asks h);
       backs = to-backs (manner op) c.in-To.to old.machine new.machine c.in-To.ensures.keeps ∙ i.backs;
-      high = λ start h. high-to c.args.code.now.ops start c.loop-at.at c.simple.new.p c.act.new.p op c.get-op.ensures
+      high = λ start h. high-to c.args.code.now.ops start c.loop-at.at c.loop-at.p c.act.new.p op c.get.ensures
           c.in-To.to (omega (arith, c.if-to-at.true)) c.in-To.ensures.keeps c.in-To.ensures.high (i.high start h);
     }
 
 pub loop-at-preserved-else-to-at : goal.loop-at-preserved-else-to-at
 loop-at-preserved-else-to-at c =
     let code = c.args.code.now in
-    let i = walking-undone c.get-op.result c.simple.new.p c.simple.result c.simple.ensures c.if-simple.false c.loop-at.invariant in
-    let old = (core_of c.simple.new.p) in
+    let i = c.loop-at.invariant in
+    let old = (core_of c.loop-at.p) in
     let new = (core_of c.act.new.p) in
-    let op = c.get-op.result in
+    let op = c.get.result in
     record {
       further = omega (arith, i.further);
-      walks = turn-back code c.loop-at.at c.in-To.to op old new _ c.requires i.walks c.get-op.ensures (omega (arith, c.if-to-at.false))
+      walks = turn-back code c.loop-at.at c.in-To.to op old new _ c.requires i.walks c.get.ensures (omega (arith, c.if-to-at.false))
           c.in-To.ensures.effect;
-      stands = λ start asks h. stands-back code.ops start asks c.loop-at.at old.machine new.machine op c.get-op.ensures c.in-To.to
+      stands = λ start asks h. stands-back code.ops start asks c.loop-at.at old.machine new.machine op c.get.ensures c.in-To.to
           c.in-To.ensures.keeps (i.stands start asks h);
       backs = to-backs (manner op) c.in-To.to old.machine new.machine c.in-To.ensures.keeps ∙ i.backs;
-      high = λ start h. high-back c.args.code.now.ops start c.loop-at.at c.simple.new.p c.act.new.p op c.get-op.ensures
+      high = λ start h. high-back c.args.code.now.ops start c.loop-at.at c.loop-at.p c.act.new.p op c.get.ensures
           c.in-To.to c.in-To.ensures.keeps c.in-To.ensures.high (i.high start h);
     }
 
 pub loop-at-preserved : goal.loop-at-preserved
 loop-at-preserved c =
     let code = c.args.code.now in
-    let i = walking-undone c.get-op.result c.simple.new.p c.simple.result c.simple.ensures c.if-simple.false c.loop-at.invariant in
-    let old = (core_of c.simple.new.p) in
+    let i = c.loop-at.invariant in
+    let old = (core_of c.loop-at.p) in
     let new = (core_of c.make_room.new.p) in
-    let op = c.get-op.result in
+    let op = c.get.result in
     let W : Core → Type 0 = λ n. WantsRoom (manner op) old.machine n.machine in
     let wants = subst W (sym c.in-Free.ensures.room.0) c.in-Room.ensures.keeps in
     record {
       further = omega (arith, i.further);
-      walks = λ input. turn-room code c.loop-at.at op old (core_of c.act.new.p) _ c.requires i.walks c.get-op.ensures c.in-Room.ensures.effect
+      walks = λ input. turn-room code c.loop-at.at op old (core_of c.act.new.p) _ c.requires i.walks c.get.ensures c.in-Room.ensures.effect
           c.in-Free.ensures.room.1 input
           ∙ sym (ap (λ n. walk_from code (c.loop-at.at + 1) n input) c.in-Free.ensures.room.0);
-      stands = λ start asks h. stands-free code.ops start asks c.loop-at.at old.machine new.machine op c.get-op.ensures wants c.in-Free.ensures.room.2
+      stands = λ start asks h. stands-free code.ops start asks c.loop-at.at old.machine new.machine op c.get.ensures wants c.in-Free.ensures.room.2
           (i.stands start asks h);
       backs = room-backs (manner op) old.machine new.machine wants ∙ i.backs;
       high = λ start h. subst (MayMake code.ops start (c.loop-at.at + 1)) (sym c.make_room.ensures.heap)
-          (high-free c.args.code.now.ops start c.loop-at.at c.simple.new.p c.act.new.p op c.get-op.ensures
+          (high-free c.args.code.now.ops start c.loop-at.at c.loop-at.p c.act.new.p op c.get.ensures
           c.in-Room.ensures.keeps c.in-Free.ensures.room.2 c.in-Room.ensures.high (i.high start h));
     }
 
 pub returns-in-Called : goal.returns-in-Called
 returns-in-Called c =
-    let i = walking-undone c.get-op.result c.simple.new.p c.simple.result c.simple.ensures c.if-simple.false c.loop-at.invariant in record {
-      walk = λ input. turn-room c.args.code.now c.loop-at.at c.get-op.result (core_of c.simple.new.p)
-          (core_of c.act.new.p) _ c.requires i.walks c.get-op.ensures
+    let i = c.loop-at.invariant in record {
+      walk = λ input. turn-room c.args.code.now c.loop-at.at c.get.result (core_of c.loop-at.p)
+          (core_of c.act.new.p) _ c.requires i.walks c.get.ensures
           c.in-Room.ensures.effect
           c.in-Called.ensures.room.0 input
           ∙ c.in-Called.ensures.room.1 input;
       leaves = λ start asks h. tt;
       backs = tt;
       high = λ start h. subst (OneAtMost start) (sym c.make_room.ensures.heap)
-          (high-ends c.args.code.now.ops start c.loop-at.at c.simple.new.p c.act.new.p c.get-op.result c.get-op.ensures
+          (high-ends c.args.code.now.ops start c.loop-at.at c.loop-at.p c.act.new.p c.get.result c.get.ensures
           c.in-Room.ensures.high (i.high start h));
     }
 
 pub returns-in-Lost-make_room : goal.returns-in-Lost-make_room
 returns-in-Lost-make_room c =
-    let i = walking-undone c.get-op.result c.simple.new.p c.simple.result c.simple.ensures c.if-simple.false c.loop-at.invariant in record {
-      walk = λ input. turn-room c.args.code.now c.loop-at.at c.get-op.result (core_of c.simple.new.p)
-          (core_of c.act.new.p) _ c.requires i.walks c.get-op.ensures
+    let i = c.loop-at.invariant in record {
+      walk = λ input. turn-room c.args.code.now c.loop-at.at c.get.result (core_of c.loop-at.p)
+          (core_of c.act.new.p) _ c.requires i.walks c.get.ensures
           c.in-Room.ensures.effect
           c.in-Lost-make_room.ensures.room.0 input
           ∙ c.in-Lost-make_room.ensures.room.1 input;
@@ -158,30 +134,30 @@ returns-in-Lost-make_room c =
 
 pub returns-in-Full : goal.returns-in-Full
 returns-in-Full c =
-    let i = walking-undone c.get-op.result c.simple.new.p c.simple.result c.simple.ensures c.if-simple.false c.loop-at.invariant in
-    let op = c.get-op.result in
+    let i = c.loop-at.invariant in
+    let op = c.get.result in
     let same = c.in-Full.ensures.room.0 in
     record {
-      walk = turn-full c.args.code.now c.loop-at.at op (core_of c.simple.new.p)
-          (core_of c.act.new.p) _ c.requires i.walks c.get-op.ensures c.in-Room.ensures.effect
+      walk = turn-full c.args.code.now c.loop-at.at op (core_of c.loop-at.p)
+          (core_of c.act.new.p) _ c.requires i.walks c.get.ensures c.in-Room.ensures.effect
           c.in-Full.ensures.room.1;
       leaves = λ start asks h. ap (λ (n : Core). n.machine) same
-          ∙ stands-roomless c.args.code.now.ops start asks c.loop-at.at (machine_in c.simple.new.p) (machine_in c.act.new.p) op c.get-op.ensures
+          ∙ stands-roomless c.args.code.now.ops start asks c.loop-at.at (machine_in c.loop-at.p) (machine_in c.act.new.p) op c.get.ensures
           c.in-Room.ensures.keeps (i.stands start asks h);
       backs = tt;
       high = λ start h. subst (OneAtMost start) (sym c.make_room.ensures.heap)
-          (high-ends c.args.code.now.ops start c.loop-at.at c.simple.new.p c.act.new.p c.get-op.result c.get-op.ensures
+          (high-ends c.args.code.now.ops start c.loop-at.at c.loop-at.p c.act.new.p c.get.result c.get.ensures
           c.in-Room.ensures.high (i.high start h));
     }
 
 pub returns-in-Memory-make_room : goal.returns-in-Memory-make_room
 returns-in-Memory-make_room c =
-    let i = walking-undone c.get-op.result c.simple.new.p c.simple.result c.simple.ensures c.if-simple.false c.loop-at.invariant in
-    let op = c.get-op.result in
+    let i = c.loop-at.invariant in
+    let op = c.get.result in
     record {
       walk = tt;
       leaves = λ start asks h. ap (λ (n : Core). n.machine) c.in-Memory-make_room.ensures.room
-          ∙ stands-roomless c.args.code.now.ops start asks c.loop-at.at (machine_in c.simple.new.p) (machine_in c.act.new.p) op c.get-op.ensures
+          ∙ stands-roomless c.args.code.now.ops start asks c.loop-at.at (machine_in c.loop-at.p) (machine_in c.act.new.p) op c.get.ensures
           c.in-Room.ensures.keeps (i.stands start asks h);
       backs = tt;
       high = λ start h. tt;
@@ -189,49 +165,49 @@ returns-in-Memory-make_room c =
 
 pub returns-in-Stop : goal.returns-in-Stop
 returns-in-Stop c =
-    let i = walking-undone c.get-op.result c.simple.new.p c.simple.result c.simple.ensures c.if-simple.false c.loop-at.invariant in
+    let i = c.loop-at.invariant in
     record {
-      walk = turn-ends c.args.code.now c.loop-at.at c.get-op.result (core_of c.simple.new.p) _ _ c.requires i.walks c.get-op.ensures
+      walk = turn-ends c.args.code.now c.loop-at.at c.get.result (core_of c.loop-at.p) _ _ c.requires i.walks c.get.ensures
           c.in-Stop.ensures.effect;
       leaves = λ start asks h. tt;
       backs = tt;
-      high = λ start h. high-ends c.args.code.now.ops start c.loop-at.at c.simple.new.p c.act.new.p c.get-op.result
-          c.get-op.ensures c.in-Stop.ensures.high (i.high start h);
+      high = λ start h. high-ends c.args.code.now.ops start c.loop-at.at c.loop-at.p c.act.new.p c.get.result
+          c.get.ensures c.in-Stop.ensures.high (i.high start h);
     }
 
 pub returns-in-Return : goal.returns-in-Return
 returns-in-Return c =
-    let i = walking-undone c.get-op.result c.simple.new.p c.simple.result c.simple.ensures c.if-simple.false c.loop-at.invariant in
+    let i = c.loop-at.invariant in
     record {
-      walk = turn-ends c.args.code.now c.loop-at.at c.get-op.result (core_of c.simple.new.p) _ _ c.requires i.walks c.get-op.ensures
+      walk = turn-ends c.args.code.now c.loop-at.at c.get.result (core_of c.loop-at.p) _ _ c.requires i.walks c.get.ensures
           c.in-Return.ensures.effect;
       leaves = λ start asks h. tt;
-      backs = same-back (machine_in c.args.p.now).frames (machine_in c.simple.new.p).frames c.in-Return.back i.backs c.in-Return.ensures.keeps;
-      high = λ start h. high-ends c.args.code.now.ops start c.loop-at.at c.simple.new.p c.act.new.p c.get-op.result
-          c.get-op.ensures c.in-Return.ensures.high (i.high start h);
+      backs = same-back (machine_in c.args.p.now).frames (machine_in c.loop-at.p).frames c.in-Return.back i.backs c.in-Return.ensures.keeps;
+      high = λ start h. high-ends c.args.code.now.ops start c.loop-at.at c.loop-at.p c.act.new.p c.get.result
+          c.get.ensures c.in-Return.ensures.high (i.high start h);
     }
 
 pub returns-in-Trap : goal.returns-in-Trap
 returns-in-Trap c =
-    let i = walking-undone c.get-op.result c.simple.new.p c.simple.result c.simple.ensures c.if-simple.false c.loop-at.invariant in
+    let i = c.loop-at.invariant in
     record {
-      walk = turn-ends c.args.code.now c.loop-at.at c.get-op.result (core_of c.simple.new.p) _ _ c.requires i.walks c.get-op.ensures
+      walk = turn-ends c.args.code.now c.loop-at.at c.get.result (core_of c.loop-at.p) _ _ c.requires i.walks c.get.ensures
           c.in-Trap.ensures.effect;
-      leaves = λ start asks h. stands-left c.args.code.now.ops start asks c.loop-at.at (machine_in c.simple.new.p)
-          (machine_in c.act.new.p) c.get-op.result c.get-op.ensures
+      leaves = λ start asks h. stands-left c.args.code.now.ops start asks c.loop-at.at (machine_in c.loop-at.p)
+          (machine_in c.act.new.p) c.get.result c.get.ensures
           c.in-Trap.ensures.keeps (i.stands start asks h);
       backs = tt;
-      high = λ start h. high-none c.args.code.now.ops start c.loop-at.at c.simple.new.p c.act.new.p
+      high = λ start h. high-none c.args.code.now.ops start c.loop-at.at c.loop-at.p c.act.new.p
           c.in-Trap.ensures.high (i.high start h);
     }
 
 pub returns-in-Memory : goal.returns-in-Memory
 returns-in-Memory c =
-    let i = walking-undone c.get-op.result c.simple.new.p c.simple.result c.simple.ensures c.if-simple.false c.loop-at.invariant in
+    let i = c.loop-at.invariant in
     record {
       walk = tt;
-      leaves = λ start asks h. stands-left c.args.code.now.ops start asks c.loop-at.at (machine_in c.simple.new.p)
-          (machine_in c.act.new.p) c.get-op.result c.get-op.ensures
+      leaves = λ start asks h. stands-left c.args.code.now.ops start asks c.loop-at.at (machine_in c.loop-at.p)
+          (machine_in c.act.new.p) c.get.result c.get.ensures
           c.in-Memory.ensures.keeps (i.stands start asks h);
       backs = tt;
       high = λ start h. tt;
@@ -239,9 +215,9 @@ returns-in-Memory c =
 
 pub returns-in-Lost : goal.returns-in-Lost
 returns-in-Lost c =
-    let i = walking-undone c.get-op.result c.simple.new.p c.simple.result c.simple.ensures c.if-simple.false c.loop-at.invariant in
+    let i = c.loop-at.invariant in
     record {
-      walk = turn-ends c.args.code.now c.loop-at.at c.get-op.result (core_of c.simple.new.p) _ _ c.requires i.walks c.get-op.ensures
+      walk = turn-ends c.args.code.now c.loop-at.at c.get.result (core_of c.loop-at.p) _ _ c.requires i.walks c.get.ensures
           c.in-Lost.ensures.effect;
       leaves = λ start asks h. tt;
       backs = tt;
@@ -250,36 +226,36 @@ returns-in-Lost c =
 
 pub returns-in-Read : goal.returns-in-Read
 returns-in-Read c =
-    let i = walking-undone c.get-op.result c.simple.new.p c.simple.result c.simple.ensures c.if-simple.false c.loop-at.invariant in
-    let op = c.get-op.result in
-    let r = turn-read c.args.code.now c.loop-at.at op (core_of c.simple.new.p)
-    (core_of c.act.new.p) _ c.requires i.walks c.get-op.ensures c.in-Read.ensures.effect in
+    let i = c.loop-at.invariant in
+    let op = c.get.result in
+    let r = turn-read c.args.code.now c.loop-at.at op (core_of c.loop-at.p)
+    (core_of c.act.new.p) _ c.requires i.walks c.get.ensures c.in-Read.ensures.effect in
     record {
       walk = (i.further, omega (arith, c.loop-at-test.true, c.len.ensures), r.0, r.1);
       leaves = λ start asks h. (
-        stands-asking c.args.code.now.ops start asks c.loop-at.at (machine_in c.simple.new.p) (machine_in c.act.new.p) op c.get-op.ensures
+        stands-asking c.args.code.now.ops start asks c.loop-at.at (machine_in c.loop-at.p) (machine_in c.act.new.p) op c.get.ensures
             c.in-Read.ensures.keeps.0 c.in-Read.ensures.keeps.1 (i.stands start asks h),
-        stands-number c.args.code.now.ops start asks c.loop-at.at (machine_in c.simple.new.p) (machine_in c.act.new.p) op c.get-op.ensures
+        stands-number c.args.code.now.ops start asks c.loop-at.at (machine_in c.loop-at.p) (machine_in c.act.new.p) op c.get.ensures
             c.in-Read.ensures.keeps.2 c.in-Read.ensures.keeps.1 (i.stands start asks h),
       );
-      backs = asks-backs (manner op) (machine_in c.simple.new.p) (machine_in c.act.new.p) c.in-Read.ensures.keeps.1 ∙ i.backs;
-      high = λ start h. high-asks c.args.code.now.ops start c.loop-at.at c.simple.new.p c.act.new.p op c.get-op.ensures
+      backs = asks-backs (manner op) (machine_in c.loop-at.p) (machine_in c.act.new.p) c.in-Read.ensures.keeps.1 ∙ i.backs;
+      high = λ start h. high-asks c.args.code.now.ops start c.loop-at.at c.loop-at.p c.act.new.p op c.get.ensures
           c.in-Read.ensures.keeps.1 c.in-Read.ensures.high (i.high start h);
     }
 
 pub returns-in-More : goal.returns-in-More
 returns-in-More c =
-    let i = walking-undone c.get-op.result c.simple.new.p c.simple.result c.simple.ensures c.if-simple.false c.loop-at.invariant in
-    let op = c.get-op.result in
-    let r = turn-more c.args.code.now c.loop-at.at op (core_of c.simple.new.p)
-    (core_of c.act.new.p) _ c.requires i.walks c.get-op.ensures c.in-More.ensures.effect in
+    let i = c.loop-at.invariant in
+    let op = c.get.result in
+    let r = turn-more c.args.code.now c.loop-at.at op (core_of c.loop-at.p)
+    (core_of c.act.new.p) _ c.requires i.walks c.get.ensures c.in-More.ensures.effect in
     record {
       walk = (i.further, omega (arith, c.loop-at-test.true, c.len.ensures), r.0, r.1);
-      leaves = λ start asks h. stands-asking c.args.code.now.ops start asks c.loop-at.at (machine_in c.simple.new.p)
-          (machine_in c.act.new.p) op c.get-op.ensures
+      leaves = λ start asks h. stands-asking c.args.code.now.ops start asks c.loop-at.at (machine_in c.loop-at.p)
+          (machine_in c.act.new.p) op c.get.ensures
           c.in-More.ensures.keeps.0 c.in-More.ensures.keeps.1 (i.stands start asks h);
-      backs = asks-backs (manner op) (machine_in c.simple.new.p) (machine_in c.act.new.p) c.in-More.ensures.keeps.1 ∙ i.backs;
-      high = λ start h. high-asks c.args.code.now.ops start c.loop-at.at c.simple.new.p c.act.new.p op c.get-op.ensures
+      backs = asks-backs (manner op) (machine_in c.loop-at.p) (machine_in c.act.new.p) c.in-More.ensures.keeps.1 ∙ i.backs;
+      high = λ start h. high-asks c.args.code.now.ops start c.loop-at.at c.loop-at.p c.act.new.p op c.get.ensures
           c.in-More.ensures.keeps.1 c.in-More.ensures.high (i.high start h);
     }
 

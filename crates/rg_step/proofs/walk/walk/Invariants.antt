@@ -1,5 +1,5 @@
 use Rattle.std.proofs.Common.{◌-◌, length}
-use Rattle.rg_step.proofs.Walks.{Walking}
+use Rattle.rg_step.proofs.Walking.Walks.{Walking}
 use Rattle.rg_step.proofs.walk.walk.Given as goal
 
 abbrev pub invariant-loop-at : goal.invariant-loop-at

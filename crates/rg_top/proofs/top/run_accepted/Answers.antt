@@ -1,5 +1,6 @@
-use Rattle.std.proofs.Common.{inl, refl}
-use Rattle.rg_top.proofs.Ran.{on-input, run-from}
+use Rattle.std.proofs.Common.{◌∙◌, ℕ, inl, refl, ap}
+use Rattle.rg_pace.specs.Asked.{Asked}
+use Rattle.rg_top.proofs.Ran.{caused-by, on-input, run-from}
 use Rattle.rg_top.proofs.NoteLines.{ran-reported, quiet-memory}
 use Rattle.rg_top.proofs.Asked.{asked-from, yeses-of-run, yeses-fresh}
 use Rattle.rg_top.proofs.top.run_accepted.Goals as goal
@@ -21,15 +22,32 @@ returns-in_default-clause-notes g c = quiet-memory c.args.report c.args.machine.
 
 pub returns-clause-asked : goal.returns-clause-asked
 returns-clause-asked g c = λ origin source runs.
-    asked-from origin c.args.steps source _ c.args.accepted.now.program _ _ _ _ _ _ _ _ _ _ c.tune.ensures.1.0 c.tune-2.ensures.1.0 c.in-Ok.ensures runs
-    (on-input _ _ _ _ _ c.new-numbers.ensures c.run-ran.ensures.follows c.run-ran.ensures.run)
+    let asks : Asked → ℕ = λ a. a.asks in
+    asked-from origin c.args.steps source _ c.args.accepted.now.program _ _ _ _ _ _ _ _ _ _ (ap asks c.tune.ensures) (ap asks c.tune-2.ensures)
+    c.in-Ok.ensures runs (on-input _ _ _ _ _ c.new-numbers.ensures c.run-ran.ensures.follows c.run-ran.ensures.run)
 
 pub returns-clause-yeses : goal.returns-clause-yeses
-returns-clause-yeses g c = yeses-of-run _ _ _ _ _ c.tune.ensures.1.1.0 c.tune-2.ensures.1.1.0 c.run-ran.ensures.yeses
+returns-clause-yeses g c =
+    let yeses : Asked → ℕ = λ a. a.yeses in
+    yeses-of-run _ _ _ _ _ (ap yeses c.tune.ensures) (ap yeses c.tune-2.ensures) c.run-ran.ensures.yeses
 
 pub returns-in_default-clause-asked : goal.returns-in_default-clause-asked
 returns-in_default-clause-asked g c = λ origin source runs.
-    inl (record { fresh = c.requires; count = c.tune.ensures.1.0; trace = c.tune-2.ensures.1.0 })
+    let asks : Asked → ℕ = λ a. a.asks in
+    inl (record { fresh = c.requires; count = ap asks c.tune.ensures; trace = ap asks c.tune-2.ensures })
 
 pub returns-in_default-clause-yeses : goal.returns-in_default-clause-yeses
-returns-in_default-clause-yeses g c = yeses-fresh _ _ _ _ _ c.requires c.tune.ensures.1.1.0 c.tune-2.ensures.1.1.0
+returns-in_default-clause-yeses g c =
+    let yeses : Asked → ℕ = λ a. a.yeses in
+    yeses-fresh _ _ _ _ _ c.requires (ap yeses c.tune.ensures) (ap yeses c.tune-2.ensures)
+
+pub returns-clause-tuned : goal.returns-clause-tuned
+returns-clause-tuned g c =
+    let run = c.run-ran.ensures.tuned in
+    (run.0 ∙ ap (λ (a : Asked). a.tuned) c.tune.ensures, run.1 ∙ ap (λ (a : Asked). a.tuned) c.tune-2.ensures)
+
+pub returns-in_default-clause-tuned : goal.returns-in_default-clause-tuned
+returns-in_default-clause-tuned g c = (ap (λ (a : Asked). a.tuned) c.tune.ensures, ap (λ (a : Asked). a.tuned) c.tune-2.ensures)
+
+pub returns-clause-caused : goal.returns-clause-caused
+returns-clause-caused g c = rw c.status_of.ensures.is (caused-by _ _ _ _ _ _ _ c.run-ran.ensures.caused)

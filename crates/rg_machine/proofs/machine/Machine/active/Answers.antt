@@ -1,7 +1,7 @@
 use Rattle.std.proofs.Common.{subst}
 use Rattle.rg_machine.specs.Active.{IsActive}
 use Rattle.rg_machine.specs.Parts.{Parts}
-use Rattle.rg_machine.proofs.Active.{on-there}
+use Rattle.rg_machine.proofs.Callers.Active.{on-there}
 use Rattle.rg_machine.proofs.machine.Machine.active.Goals as goal
 
 pub returns : goal.returns

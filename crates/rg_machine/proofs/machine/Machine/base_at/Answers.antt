@@ -1,6 +1,6 @@
 use Rattle.std.proofs.Common.{◌∙◌, arith}
 use Rattle.std.proofs.lemmas.Bool.{le-leb as le-true, lt-leb as le-false}
-use Rattle.rg_machine.proofs.Window.{past-top, in-top}
+use Rattle.rg_machine.proofs.Enter.Place.{past-top, in-top}
 use Rattle.rg_machine.proofs.machine.Machine.base_at.Goals as goal
 
 pub returns-then-z-size-clause-none : goal.returns-then-z-size-clause-none

@@ -5,7 +5,7 @@ use Rattle.rg_frames.specs.Stack.{Stack, IsTopFrame}
 use Rattle.rg_view.specs.View.{frames_of}
 use Rattle.rg_machine.specs.Keeps.{GoesBack}
 use Rattle.rg_machine.specs.Parts.{Parts, machine_in}
-use Rattle.rg_machine.proofs.Top.{goes-back}
+use Rattle.rg_machine.proofs.Call.Top.{goes-back}
 use Rattle.rg_machine.proofs.machine.Machine.behind.Goals as goal
 
 by : (heap : Heap) (v : Stack) (r : Option ℕ) → 2 ≤ length v.frames → IfSome r (λ back. (f : FrameRow) × IsTopFrame v f × (f.back ≡ back))

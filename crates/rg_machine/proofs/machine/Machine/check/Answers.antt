@@ -1,5 +1,5 @@
 use Rattle.std.proofs.Common.{subst}
-use Rattle.rg_machine.proofs.Word.{Known, word-object}
+use Rattle.rg_machine.proofs.Callers.Word.{Known, word-object}
 use Rattle.rg_machine.proofs.machine.Machine.check.Goals as goal
 
 pub returns-in-Slot-clause-ok : goal.returns-in-Slot-clause-ok

@@ -1,7 +1,7 @@
 use Rattle.std.proofs.Common.{◌≡◌, [], sym, subst, true}
 use Rattle.rg_stack.specs.Needs.{owned_once}
 use Rattle.rg_machine.specs.Parts.{Parts, machine_in}
-use Rattle.rg_machine.proofs.Collecting.{asks-leads, asks-temps, collected-gathers, collected-high, collected-stands, none-lead}
+use Rattle.rg_machine.proofs.Collect.Effect.{asks-leads, asks-temps, collected-gathers, collected-high, collected-stands, none-lead}
 use Rattle.rg_machine.proofs.machine.Machine.collect.Goals as goal
 
 pub collect-told-requires-clause-temps : goal.collect-told-requires-clause-temps

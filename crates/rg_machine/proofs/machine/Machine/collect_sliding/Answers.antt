@@ -1,8 +1,8 @@
 use Rattle.std.proofs.Common.{◌≡◌, [], sym, subst, true}
 use Rattle.rg_stack.specs.Needs.{owned_once}
 use Rattle.rg_machine.specs.Parts.{Parts, machine_in}
-use Rattle.rg_machine.proofs.Collecting.{asks-leads, asks-temps, none-lead}
-use Rattle.rg_machine.proofs.Sliding.{sliding-gathers, sliding-high, sliding-stands}
+use Rattle.rg_machine.proofs.Collect.Effect.{asks-leads, asks-temps, none-lead}
+use Rattle.rg_machine.proofs.Collect.Sliding.{sliding-gathers, sliding-high, sliding-stands}
 use Rattle.rg_machine.proofs.machine.Machine.collect_sliding.Goals as goal
 
 pub collect_sliding-told-requires-clause-temps : goal.collect_sliding-told-requires-clause-temps

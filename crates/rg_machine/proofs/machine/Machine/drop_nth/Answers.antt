@@ -6,7 +6,7 @@ use Rattle.rg_machine.specs.Keeps.{backs}
 use Rattle.rg_machine.specs.Parts.{machine_in}
 use Rattle.rg_machine.specs.Cores.{core_of}
 use Rattle.rg_machine.specs.contracts.machine.Machine.{the_view}
-use Rattle.rg_machine.proofs.Take.{asked-taken, backs-taken, gone-taken, in-top, next-core, stands-taken}
+use Rattle.rg_machine.proofs.End.Nil.{asked-taken, backs-taken, gone-taken, in-top, next-core, stands-taken}
 use Rattle.rg_machine.proofs.machine.Machine.drop_nth.Goals as goal
 
 pub nth_word-w-requires : goal.nth_word-w-requires

@@ -1,7 +1,7 @@
 use Rattle.std.proofs.Common.{subst}
 use Rattle.rg_machine.specs.Parts.{machine_in}
 use Rattle.rg_machine.specs.contracts.machine.Machine.{the_view}
-use Rattle.rg_machine.proofs.SlotEnd.{Bounded, asked-slot, bounded}
+use Rattle.rg_machine.proofs.End.Slot.{Bounded, asked-slot, bounded}
 use Rattle.rg_machine.proofs.machine.Machine.drop_slot.Goals as goal
 
 pub release-requires-clause-once : goal.release-requires-clause-once

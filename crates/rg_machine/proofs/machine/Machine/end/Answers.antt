@@ -1,6 +1,12 @@
 use Rattle.rg_machine.specs.Cores.{core_of}
-use Rattle.rg_machine.proofs.Take.{end-effect}
+use Rattle.rg_machine.proofs.End.Nil.{end-effect}
 use Rattle.rg_machine.proofs.machine.Machine.end.Goals as goal
 
-pub returns-clause-effect : goal.returns-clause-effect
-returns-clause-effect c = end-effect (core_of c.args.self.now) (core_of c.end_from.new.self) c.args.s c.end_from.ensures.ended
+pub returns : goal.returns
+returns c at =
+    record {
+      effect =
+          end-effect (core_of c.args.self.now) (core_of c.end_from.new.self) c.args.s c.end_from.ensures.ended at;
+      keeps = search rules;
+      high = search rules;
+    }

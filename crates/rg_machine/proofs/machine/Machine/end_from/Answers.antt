@@ -2,7 +2,7 @@ use Rattle.std.proofs.Common.{◌≡◌, subst}
 use Rattle.rg_machine.specs.Effects.{ending}
 use Rattle.rg_machine.specs.Cores.{core_of}
 use Rattle.rg_machine.specs.contracts.machine.Machine.{the_view}
-use Rattle.rg_machine.proofs.Take.{ending-live}
+use Rattle.rg_machine.proofs.End.Nil.{ending-live}
 use Rattle.rg_machine.proofs.machine.Machine.end_from.Goals as goal
 
 pub returns-then-live-s-clause-ended : goal.returns-then-live-s-clause-ended

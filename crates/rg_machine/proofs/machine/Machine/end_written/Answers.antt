@@ -2,7 +2,7 @@ use Rattle.std.proofs.Common.{◌≡◌, ◌∙◌, ap, subst, sym}
 use Rattle.rg_machine.specs.Effects.{emptied, ending}
 use Rattle.rg_machine.specs.Cores.{core_of}
 use Rattle.rg_machine.specs.contracts.machine.Machine.{the_view}
-use Rattle.rg_machine.proofs.Take.{backs-ending, ended-core, stands-emptied}
+use Rattle.rg_machine.proofs.End.Nil.{backs-ending, ended-core, stands-emptied}
 use Rattle.rg_machine.proofs.machine.Machine.end_written.Goals as goal
 
 pub invariant_of-self : goal.invariant_of-self

@@ -19,9 +19,9 @@ use Rattle.rg_machine.specs.Keeps.{SameBacks}
 use Rattle.rg_machine.specs.Parts.{Parts, machine_in}
 use Rattle.rg_machine.specs.Cores.{core_of}
 use Rattle.rg_machine.specs.Stands.{AllLead, Stands}
-use Rattle.rg_machine.proofs.Enter.{can-enter-slot, opens-within, stands-entered, all-still-lead, enter-effect, enter-nil, same-backs}
-use Rattle.rg_machine.proofs.Enter.{CanEnterSlot, entered_stack, no-object}
-use Rattle.rg_machine.proofs.High.{none-same}
+use Rattle.rg_machine.proofs.Enter.Slot.{can-enter-slot, opens-within, stands-entered, all-still-lead, enter-effect, enter-nil, same-backs}
+use Rattle.rg_machine.proofs.Enter.Slot.{CanEnterSlot, entered_stack, no-object}
+use Rattle.rg_machine.proofs.Callers.High.{none-same}
 use Rattle.rg_machine.proofs.machine.Machine.enter.Goals as goal
 use Rattle.rg_machine.proofs.machine.Machine.enter.Goals.{After-set_word}
 
@@ -109,10 +109,11 @@ new-is c b =
     ∙ ap (λ (p : HeapParts). record { heap = p; frames = c.set_word.new.self; words = m.stack.items; at = m.at; printed = m.printed })
     (sym c.enter.ensures.same)
 
-pub returns-clause-effect : goal.returns-clause-effect
-returns-clause-effect c =
+pub returns : goal.returns
+returns c at =
     let m = c.self.inside in
     let b = behind c in
+    let e = b.x.entered in
     let owner : Place = place.Var c.depth.result c.args.s in
     let depth = subst (λ (m : Parts). c.depth.result ≡ frame_number (machine_in m).frames) (sym c.self.view_is) c.depth.ensures in
     let new : Parts = record {
@@ -122,49 +123,36 @@ returns-clause-effect c =
       at = m.at;
       printed = m.printed;
     } in
-    λ at go input.
-    subst (λ (m : Parts). free_act empty at (i.Enter c.args.s c.args.z) go (core_of m).stack (work_of (core_of m) input)
-    ≡ go 0 (core_of new).stack (work_of (core_of new) input)) c.self.view_is (
-    enter-effect m.heap m.frames m.at c.self.invariant.0 c.args.s c.args.z c.in-Slot.field-0 m.stack.items m.printed owner at b.x
-    (ap (λ n. place.Var n c.args.s) depth) b.opens go input
-    ∙ ap (λ (x : Parts). go 0 (core_of x).stack (work_of (core_of x) input)) (new-is c b))
-
-pub returns-clause-keeps : goal.returns-clause-keeps
-returns-clause-keeps c =
-    let m = c.self.inside in
-    let b = behind c in
-    let e = b.x.entered in
-    let new : Parts = record {
-      heap = c.enter.new.self;
-      frames = c.set_word.new.self;
-      words = m.stack.items;
-      at = m.at;
-      printed = m.printed;
-    } in
-    let owner : Place = place.Var c.depth.result c.args.s in
-    subst (λ (m : Parts). SameBacks (machine_in m) (machine_in new)) c.self.view_is
-    (subst (λ (n : Parts). SameBacks (machine_in (record {
-      heap = m.heap;
-      frames = m.frames;
-      words = m.stack.items;
-      at = m.at;
-      printed = m.printed;
-    })) (machine_in n)) (new-is c b)
-    (same-backs m.heap m.frames e.closed.0 owner c.args.z e.region c.in-Slot.field-0 c.self.invariant.0 e.closed.1 e.closed.2 e.lies m.at))
+    record {
+      effect = λ go input.
+          subst (λ (m : Parts). free_act empty at (i.Enter c.args.s c.args.z) go (core_of m).stack (work_of (core_of m) input)
+          ≡ go 0 (core_of new).stack (work_of (core_of new) input)) c.self.view_is (
+          enter-effect m.heap m.frames m.at c.self.invariant.0 c.args.s c.args.z c.in-Slot.field-0 m.stack.items m.printed owner at b.x
+          (ap (λ n. place.Var n c.args.s) depth) b.opens go input
+          ∙ ap (λ (x : Parts). go 0 (core_of x).stack (work_of (core_of x) input)) (new-is c b));
+      keeps =
+          subst (λ (m : Parts). SameBacks (machine_in m) (machine_in new)) c.self.view_is
+          (subst (λ (n : Parts). SameBacks (machine_in (record {
+            heap = m.heap;
+            frames = m.frames;
+            words = m.stack.items;
+            at = m.at;
+            printed = m.printed;
+          })) (machine_in n)) (new-is c b)
+          (same-backs m.heap m.frames e.closed.0 owner c.args.z e.region c.in-Slot.field-0 c.self.invariant.0 e.closed.1 e.closed.2 e.lies m.at));
+      high = rw (← c.self.view_is) (none-same m.heap c.enter.new.self c.enter.ensures.same);
+    }
 
 pub returns-in_default-bridge : goal.returns-in_default-bridge
-returns-in_default-bridge c =
+returns-in_default-bridge c at =
     let m = c.self.inside in
     let none = no-object m.heap.cells.heap c.word-bridge.result c.in_default-bridge.not-Slot in
     let opens = subst (λ (m : Parts). can_open (machine_in m) c.args.z ≡ true) (sym c.self.view_is) c.in-Some.ensures.some.0 in
     record {
-      effect = λ at go input.
+      effect = λ go input.
           subst (λ (m : Parts). free_act empty at (i.Enter c.args.s c.args.z) go (core_of m).stack (work_of (core_of m) input) ≡ Traps trap.Nil)
           c.self.view_is (enter-nil m.heap m.frames m.at c.self.invariant.0 c.args.s c.args.z m.stack.items m.printed at c.word-bridge.result
           (sym c.word-bridge.ensures) none opens go input);
       keeps = refl;
       high = record { made = refl; high = refl };
     }
-
-pub returns-clause-high : goal.returns-clause-high
-returns-clause-high c = rw (← c.self.view_is) (none-same c.self.inside.heap c.enter.new.self c.enter.ensures.same)

@@ -22,9 +22,9 @@ use Rattle.rg_machine.specs.Keeps.{SameBacks}
 use Rattle.rg_machine.specs.Parts.{Parts, machine_in}
 use Rattle.rg_machine.specs.Cores.{core_of}
 use Rattle.rg_machine.specs.Stands.{AllLead, Stands}
-use Rattle.rg_machine.proofs.Enter.{ParentBeneath, opens-within, stands-entered, all-still-lead, same-backs, Entered, entered_stack, no-object}
-use Rattle.rg_machine.proofs.EnterField.{Holds, holds, field-entered, field-parent, front-lead, enter-field-effect, enter-field-nil}
-use Rattle.rg_machine.proofs.High.{none-same}
+use Rattle.rg_machine.proofs.Enter.Slot.{ParentBeneath, opens-within, stands-entered, all-still-lead, same-backs, Entered, entered_stack, no-object}
+use Rattle.rg_machine.proofs.Enter.Field.{Holds, holds, field-entered, field-parent, front-lead, enter-field-effect, enter-field-nil}
+use Rattle.rg_machine.proofs.Callers.High.{none-same}
 use Rattle.rg_machine.proofs.machine.Machine.enter_field.Goals as goal
 use Rattle.rg_machine.proofs.machine.Machine.enter_field.Goals.{After-set_word}
 
@@ -158,12 +158,15 @@ invariant_of-self-2 c =
     in
     (subst (λ (n : Parts). Stands n.heap n.frames) b.is stands, subst (λ (n : Parts). AllLead n.heap n.frames n.words) b.is lead)
 
-pub returns-clause-effect : goal.returns-clause-effect
-returns-clause-effect c =
+pub returns : goal.returns
+returns c at =
     let m = c.self.inside in
     let h = c.self.invariant.0 in
     let b = behind c in
+    let e = b.e in
+    let owner : Place = place.Field c.serial.result c.args.index in
     let rest = c.pop.new.self.items in
+    let old : Parts = record { heap = m.heap; frames = m.frames; words = m.stack.items; at = m.at; printed = m.printed } in
     let new : Parts = record { heap = c.enter.new.self; frames = c.set_word.new.self; words = rest; at = m.at; printed = m.printed } in
     let start : Entered m.heap m.frames m.at h c.in-Slot-bridge.field-0 → Parts = λ e. record {
       heap = m.heap;
@@ -172,28 +175,22 @@ returns-clause-effect c =
       at = m.at;
       printed = m.printed;
     } in
-    λ at go input.
-    subst (λ (m : Parts). free_act empty at (i.EnterField c.args.index c.args.z) go (core_of m).stack (work_of (core_of m) input)
-    ≡ go 0 (core_of new).stack (work_of (core_of new) input)) c.self.view_is (
-    enter-field-effect m.heap m.frames m.at h c.is_forest.ensures.serials c.is_forest.ensures.forest c.in-Slot.holder c.args.index c.args.z
-    c.in-Slot-bridge.field-0 c.serial.result m.stack.items rest m.printed at b.x b.leads b.words c.serial.ensures b.opens go input
-    ∙ ap (λ (x : Parts). go 0 (core_of x).stack (work_of (core_of x) input)) (ap start (sym b.e_is) ∙ b.is))
-
-pub returns-clause-keeps : goal.returns-clause-keeps
-returns-clause-keeps c =
-    let m = c.self.inside in
-    let b = behind c in
-    let e = b.e in
-    let owner : Place = place.Field c.serial.result c.args.index in
-    let old : Parts = record { heap = m.heap; frames = m.frames; words = m.stack.items; at = m.at; printed = m.printed } in
-    let new : Parts = record { heap = c.enter.new.self; frames = c.set_word.new.self; words = c.pop.new.self.items; at = m.at; printed = m.printed }
-    in
-    subst (λ (m : Parts). SameBacks (machine_in m) (machine_in new)) c.self.view_is
-    (subst (λ (n : Parts). SameBacks (machine_in old) (machine_in n)) b.is
-    (same-backs m.heap m.frames e.closed.0 owner c.args.z e.region c.in-Slot-bridge.field-0 c.self.invariant.0 e.closed.1 e.closed.2 e.lies m.at))
+    record {
+      effect = λ go input.
+          subst (λ (m : Parts). free_act empty at (i.EnterField c.args.index c.args.z) go (core_of m).stack (work_of (core_of m) input)
+          ≡ go 0 (core_of new).stack (work_of (core_of new) input)) c.self.view_is (
+          enter-field-effect m.heap m.frames m.at h c.is_forest.ensures.serials c.is_forest.ensures.forest c.in-Slot.holder c.args.index c.args.z
+          c.in-Slot-bridge.field-0 c.serial.result m.stack.items rest m.printed at b.x b.leads b.words c.serial.ensures b.opens go input
+          ∙ ap (λ (x : Parts). go 0 (core_of x).stack (work_of (core_of x) input)) (ap start (sym b.e_is) ∙ b.is));
+      keeps =
+          subst (λ (m : Parts). SameBacks (machine_in m) (machine_in new)) c.self.view_is
+          (subst (λ (n : Parts). SameBacks (machine_in old) (machine_in n)) b.is
+          (same-backs m.heap m.frames e.closed.0 owner c.args.z e.region c.in-Slot-bridge.field-0 h e.closed.1 e.closed.2 e.lies m.at));
+      high = rw (← c.self.view_is) (none-same m.heap c.enter.new.self c.enter.ensures.same);
+    }
 
 pub returns-in_default-bridge : goal.returns-in_default-bridge
-returns-in_default-bridge c =
+returns-in_default-bridge c at =
     let m = c.self.inside in
     let h = c.self.invariant.0 in
     let rest = c.pop.new.self.items in
@@ -207,7 +204,7 @@ returns-in_default-bridge c =
     let none = no-object m.heap.cells.heap u c.in_default-bridge.not-Slot in
     let opens = subst (λ (m : Parts). can_open (machine_in m) c.args.z ≡ true) (sym c.self.view_is) c.in-Some.ensures.some.0 in
     record {
-      effect = λ at go input.
+      effect = λ go input.
           subst (λ (m : Parts). free_act empty at (i.EnterField c.args.index c.args.z) go (core_of m).stack (work_of (core_of m) input)
           ≡ Traps trap.Nil)
           c.self.view_is (enter-field-nil m.heap m.frames m.at h c.is_forest.ensures.serials c.is_forest.ensures.forest c.in-Slot.holder
@@ -215,6 +212,3 @@ returns-in_default-bridge c =
       keeps = ap machine_in c.self.view_is;
       high = none-same c.args.self.now.heap m.heap (ap (λ (m : Parts). m.heap) c.self.view_is);
     }
-
-pub returns-clause-high : goal.returns-clause-high
-returns-clause-high c = rw (← c.self.view_is) (none-same c.self.inside.heap c.enter.new.self c.enter.ensures.same)

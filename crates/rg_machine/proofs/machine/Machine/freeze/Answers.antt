@@ -1,7 +1,7 @@
 use Rattle.std.proofs.Common.{◌∷◌, [], ◌++◌, refl, sym, ap, subst, ◌∙◌}
 use Rattle.rg_heap.specs.Moves.{CanMove, Freezes}
-use Rattle.rg_machine.proofs.Freeze.{Owned, Owns, may-move, owned}
-use Rattle.rg_machine.proofs.Moved.{freeze-backs, freeze-does, freeze-invariant, freeze-owns, no-object-acts, no-slot}
+use Rattle.rg_machine.proofs.Moves.Given.{Owned, Owns, may-move, owned}
+use Rattle.rg_machine.proofs.Moves.Effect.{freeze-backs, freeze-does, freeze-invariant, freeze-owns, no-object-acts, no-slot}
 use Rattle.rg_machine.proofs.machine.Machine.freeze.Goals as goal
 
 pub freeze-requires : goal.freeze-requires
@@ -31,27 +31,26 @@ invariant_of-self-in-Slot c =
     (freeze-invariant x.heap x.frames x.at c.is_forest.ensures.serials c.is_forest.ensures.forest c.self.invariant.0 c.args.s
     c.in-Slot.field-0 (owns c) (region c) x.stack.items c.self.invariant.1 c.freeze.new.self (freezes c))
 
-pub returns-in-Ok-clause-effect : goal.returns-in-Ok-clause-effect
-returns-in-Ok-clause-effect c =
-    freeze-does _ _ c.self.view_is c.is_forest.ensures.serials c.is_forest.ensures.forest c.self.invariant.0 c.args.s c.in-Slot.field-0
-    (owns c) (region c) c.freeze.new.self c.is_forest-in-Slot.ensures.forest _ c.set_word.ensures _
-    (c.push_reserved.ensures.items ∙ ap (λ ws. ws ++ c.word-w.result ∷ []) c.reserve.ensures.items
-    ∙ ap (λ w. c.self.inside.stack.items ++ w ∷ []) c.in-Slot.is) (freezes c)
-
-pub returns-in-Ok-clause-keeps : goal.returns-in-Ok-clause-keeps
-returns-in-Ok-clause-keeps c =
+pub returns-in-Ok : goal.returns-in-Ok
+returns-in-Ok c at =
     let x = c.self.inside in
-    rw (← c.self.view_is, c.set_word.ensures)
-    (freeze-backs x.heap x.frames x.at c.is_forest.ensures.serials c.is_forest.ensures.forest c.self.invariant.0 c.args.s
-    c.in-Slot.field-0 (owns c) (region c) c.freeze.new.self (freezes c))
+    record {
+      effect =
+          freeze-does _ _ c.self.view_is c.is_forest.ensures.serials c.is_forest.ensures.forest c.self.invariant.0 c.args.s c.in-Slot.field-0
+          (owns c) (region c) c.freeze.new.self c.is_forest-in-Slot.ensures.forest _ c.set_word.ensures _
+          (c.push_reserved.ensures.items ∙ ap (λ ws. ws ++ c.word-w.result ∷ []) c.reserve.ensures.items
+          ∙ ap (λ w. c.self.inside.stack.items ++ w ∷ []) c.in-Slot.is) (freezes c) at;
+      keeps =
+          rw (← c.self.view_is, c.set_word.ensures)
+          (freeze-backs x.heap x.frames x.at c.is_forest.ensures.serials c.is_forest.ensures.forest c.self.invariant.0 c.args.s
+          c.in-Slot.field-0 (owns c) (region c) c.freeze.new.self (freezes c));
+      high = rw (← c.self.view_is) (record { made = (freezes c).serials; high = (freezes c).high });
+    }
 
 pub returns-in-Nil : goal.returns-in-Nil
-returns-in-Nil c =
+returns-in-Nil c at =
     record {
-      effect = λ at go input. no-object-acts _ _ c.self.view_is c.self.invariant.0 c.args.s _ c.word-w.ensures (no-slot _ c.in-Nil.is) _;
+      effect = λ go input. no-object-acts _ _ c.self.view_is c.self.invariant.0 c.args.s _ c.word-w.ensures (no-slot _ c.in-Nil.is) _;
       keeps = refl;
       high = record { made = refl; high = refl };
     }
-
-pub returns-in-Ok-clause-high : goal.returns-in-Ok-clause-high
-returns-in-Ok-clause-high c = rw (← c.self.view_is) (record { made = (freezes c).serials; high = (freezes c).high })

@@ -9,10 +9,10 @@ use Rattle.rg_machine.specs.Core.{with_made}
 use Rattle.rg_machine.specs.Parts.{Parts, machine_in}
 use Rattle.rg_machine.specs.Cores.{core_of}
 use Rattle.rg_machine.specs.Stands.{AllLead, Stands}
-use Rattle.rg_machine.proofs.Made.{nowhere}
-use Rattle.rg_machine.proofs.Make.{Pushed, make-pushed}
-use Rattle.rg_machine.proofs.Refuse.{Refused, make-refused, on-err}
-use Rattle.rg_machine.proofs.High.{one-active}
+use Rattle.rg_machine.proofs.New.Cells.{nowhere}
+use Rattle.rg_machine.proofs.New.Object.{Pushed, make-pushed}
+use Rattle.rg_machine.proofs.New.Refused.{Refused, make-refused, on-err}
+use Rattle.rg_machine.proofs.Callers.High.{one-active}
 use Rattle.rg_machine.proofs.machine.Machine.make.Goals as goal
 
 pub make-requires-clause-plain : goal.make-requires-clause-plain

@@ -8,9 +8,9 @@ use Rattle.rg_machine.specs.Core.{with_machine, with_made}
 use Rattle.rg_machine.specs.Parts.{Parts, machine_in}
 use Rattle.rg_machine.specs.Cores.{core_of}
 use Rattle.rg_machine.specs.Stands.{AllLead, Stands}
-use Rattle.rg_machine.proofs.Made.{nowhere}
-use Rattle.rg_machine.proofs.Make.{Pushed, region-pushed}
-use Rattle.rg_machine.proofs.Refuse.{Refused, region-refused, on-err}
+use Rattle.rg_machine.proofs.New.Cells.{nowhere}
+use Rattle.rg_machine.proofs.New.Object.{Pushed, region-pushed}
+use Rattle.rg_machine.proofs.New.Refused.{Refused, region-refused, on-err}
 use Rattle.rg_machine.proofs.machine.Machine.make_region.Goals as goal
 
 pub make_region-requires : goal.make_region-requires

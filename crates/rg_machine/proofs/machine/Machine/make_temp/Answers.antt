@@ -10,10 +10,10 @@ use Rattle.rg_machine.specs.Core.{with_made}
 use Rattle.rg_machine.specs.Parts.{Parts, machine_in}
 use Rattle.rg_machine.specs.Cores.{core_of}
 use Rattle.rg_machine.specs.Stands.{AllLead, Stands}
-use Rattle.rg_machine.proofs.Made.{nowhere}
-use Rattle.rg_machine.proofs.Make.{Pushed, temp-pushed}
-use Rattle.rg_machine.proofs.Refuse.{Refused, temp-refused, on-err}
-use Rattle.rg_machine.proofs.High.{one-temp}
+use Rattle.rg_machine.proofs.New.Cells.{nowhere}
+use Rattle.rg_machine.proofs.New.Object.{Pushed, temp-pushed}
+use Rattle.rg_machine.proofs.New.Refused.{Refused, temp-refused, on-err}
+use Rattle.rg_machine.proofs.Callers.High.{one-temp}
 use Rattle.rg_machine.proofs.machine.Machine.make_temp.Goals as goal
 
 pub make_tmp-requires-clause-plain : goal.make_tmp-requires-clause-plain

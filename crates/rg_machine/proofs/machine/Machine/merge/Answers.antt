@@ -1,7 +1,7 @@
 use Rattle.std.proofs.Common.{◌∷◌, [], ◌++◌, refl, sym, ap, subst, ◌∙◌}
 use Rattle.rg_heap.specs.Moves.{CanMove, Merges}
-use Rattle.rg_machine.proofs.Freeze.{Owned, Owns, active, may-merge, may-move, owned}
-use Rattle.rg_machine.proofs.Moved.{merge-backs, merge-does, merge-invariant, merge-owns, no-object-acts, no-slot}
+use Rattle.rg_machine.proofs.Moves.Given.{Owned, Owns, active, may-merge, may-move, owned}
+use Rattle.rg_machine.proofs.Moves.Effect.{merge-backs, merge-does, merge-invariant, merge-owns, no-object-acts, no-slot}
 use Rattle.rg_machine.proofs.machine.Machine.merge.Goals as goal
 
 pub merge-requires-clause-owned : goal.merge-requires-clause-owned
@@ -43,27 +43,26 @@ invariant_of-self-in-Slot c =
     (merge-invariant x.heap x.frames x.at c.is_forest.ensures.serials c.is_forest.ensures.forest c.self.invariant.0 c.args.s
     c.in-Ok-merge.field-0 (owns c) (region c) x.stack.items c.self.invariant.1 c.merge.new.self (merges c))
 
-pub returns-in-Ok-merge-clause-effect : goal.returns-in-Ok-merge-clause-effect
-returns-in-Ok-merge-clause-effect c =
-    merge-does _ _ c.self.view_is c.is_forest.ensures.serials c.is_forest.ensures.forest c.self.invariant.0 c.args.s c.in-Ok-merge.field-0
-    (owns c) (region c) c.merge.new.self c.is_forest-in-Slot.ensures.forest _ c.set_word.ensures _
-    (c.push_reserved.ensures.items ∙ ap (λ ws. ws ++ c.word-w.result ∷ []) c.reserve.ensures.items
-    ∙ ap (λ w. c.self.inside.stack.items ++ w ∷ []) c.in-Ok-merge.ensures.slot) (merges c)
-
-pub returns-in-Ok-merge-clause-keeps : goal.returns-in-Ok-merge-clause-keeps
-returns-in-Ok-merge-clause-keeps c =
+pub returns-in-Ok-merge : goal.returns-in-Ok-merge
+returns-in-Ok-merge c at =
     let x = c.self.inside in
-    rw (← c.self.view_is, c.set_word.ensures)
-    (merge-backs x.heap x.frames x.at c.is_forest.ensures.serials c.is_forest.ensures.forest c.self.invariant.0 c.args.s
-    c.in-Ok-merge.field-0 (owns c) (region c) c.merge.new.self (merges c))
+    record {
+      effect =
+          merge-does _ _ c.self.view_is c.is_forest.ensures.serials c.is_forest.ensures.forest c.self.invariant.0 c.args.s c.in-Ok-merge.field-0
+          (owns c) (region c) c.merge.new.self c.is_forest-in-Slot.ensures.forest _ c.set_word.ensures _
+          (c.push_reserved.ensures.items ∙ ap (λ ws. ws ++ c.word-w.result ∷ []) c.reserve.ensures.items
+          ∙ ap (λ w. c.self.inside.stack.items ++ w ∷ []) c.in-Ok-merge.ensures.slot) (merges c) at;
+      keeps =
+          rw (← c.self.view_is, c.set_word.ensures)
+          (merge-backs x.heap x.frames x.at c.is_forest.ensures.serials c.is_forest.ensures.forest c.self.invariant.0 c.args.s
+          c.in-Ok-merge.field-0 (owns c) (region c) c.merge.new.self (merges c));
+      high = rw (← c.self.view_is) (record { made = (merges c).serials; high = (merges c).high });
+    }
 
 pub returns-in-Nil : goal.returns-in-Nil
-returns-in-Nil c =
+returns-in-Nil c at =
     record {
-      effect = λ at go input. no-object-acts _ _ c.self.view_is c.self.invariant.0 c.args.s _ c.word-w.ensures (no-slot _ c.in-Nil.is) _;
+      effect = λ go input. no-object-acts _ _ c.self.view_is c.self.invariant.0 c.args.s _ c.word-w.ensures (no-slot _ c.in-Nil.is) _;
       keeps = refl;
       high = record { made = refl; high = refl };
     }
-
-pub returns-in-Ok-merge-clause-high : goal.returns-in-Ok-merge-clause-high
-returns-in-Ok-merge-clause-high c = rw (← c.self.view_is) (record { made = (merges c).serials; high = (merges c).high })

@@ -2,7 +2,7 @@ use Rattle.std.proofs.Common.{◌≡◌, IfSome, subst}
 use Rattle.rg_machine.specs.Core.{with_top}
 use Rattle.rg_machine.specs.Parts.{Parts, val_in}
 use Rattle.rg_machine.specs.Cores.{core_of}
-use Rattle.rg_machine.proofs.Word.{core-popped, popped-leads}
+use Rattle.rg_machine.proofs.Callers.Word.{core-popped, popped-leads}
 use Rattle.rg_machine.proofs.machine.Machine.pop.Goals as goal
 
 pub returns-clause-core : goal.returns-clause-core

@@ -1,7 +1,7 @@
 use Rattle.std.proofs.Common.{sym, subst}
 use Rattle.rg_machine.specs.Parts.{Parts}
 use Rattle.rg_machine.specs.Stands.{Leads}
-use Rattle.rg_machine.proofs.Word.{leads-pushed}
+use Rattle.rg_machine.proofs.Callers.Word.{leads-pushed}
 use Rattle.rg_machine.proofs.machine.Machine.push.Goals as goal
 
 pub invariant_of-self : goal.invariant_of-self

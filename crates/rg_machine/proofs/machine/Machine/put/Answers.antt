@@ -1,10 +1,10 @@
 use Rattle.std.proofs.Common.{sym, subst}
-use Rattle.rg_view.proofs.Callers.Call.{can-write}
+use Rattle.rg_view.proofs.Callers.Instructions.{can-write}
 use Rattle.rg_view.proofs.Callers.Read.{field-within}
 use Rattle.rg_machine.specs.Parts.{Parts}
 use Rattle.rg_machine.specs.Stands.{Leads}
-use Rattle.rg_machine.proofs.Field.{core-written, lead-written, put-region, puts, stands-written, topmost, written}
-use Rattle.rg_machine.proofs.High.{none-written}
+use Rattle.rg_machine.proofs.Write.Field.{core-written, lead-written, put-region, puts, stands-written, topmost, written}
+use Rattle.rg_machine.proofs.Callers.High.{none-written}
 use Rattle.rg_machine.proofs.machine.Machine.put.Goals as goal
 
 pub write-requires-clause-width : goal.write-requires-clause-width

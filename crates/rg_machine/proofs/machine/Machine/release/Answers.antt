@@ -5,8 +5,8 @@ use Rattle.rg_machine.specs.Effects.{without}
 use Rattle.rg_machine.specs.Parts.{Parts, machine_in, val_in}
 use Rattle.rg_machine.specs.Cores.{core_of}
 use Rattle.rg_machine.specs.contracts.machine.Machine.{the_view}
-use Rattle.rg_machine.proofs.Drop.{Asked, may-release, stands-behind, lead-behind, core-behind, core-same, closed-none, filter-none}
-use Rattle.rg_machine.proofs.High.{none-dropped}
+use Rattle.rg_machine.proofs.Release.Effect.{Asked, may-release, stands-behind, lead-behind, core-behind, core-same, closed-none, filter-none}
+use Rattle.rg_machine.proofs.Callers.High.{none-dropped}
 use Rattle.rg_machine.proofs.machine.Machine.release.Goals as goal
 
 pub drop_iso-requires : goal.drop_iso-requires

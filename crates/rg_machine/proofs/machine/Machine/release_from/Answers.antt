@@ -4,7 +4,7 @@ use Rattle.rg_machine.specs.Effects.{AllLoose, emptied, ending}
 use Rattle.rg_machine.specs.Parts.{machine_in}
 use Rattle.rg_machine.specs.Cores.{core_of}
 use Rattle.rg_machine.specs.contracts.machine.Machine.{the_view}
-use Rattle.rg_machine.proofs.Emptied.{Ending, backs-emptied, emptied-live, ending-final, ending-init, ending-on, ending-there}
+use Rattle.rg_machine.proofs.End.Emptied.{Ending, backs-emptied, emptied-live, ending-final, ending-init, ending-on, ending-there}
 use Rattle.rg_machine.proofs.machine.Machine.release_from.Goals as goal
 
 pub slots-init : goal.slots-init

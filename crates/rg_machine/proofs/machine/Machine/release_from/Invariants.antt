@@ -1,4 +1,4 @@
-use Rattle.rg_machine.proofs.Emptied.{Ending}
+use Rattle.rg_machine.proofs.End.Emptied.{Ending}
 use Rattle.rg_machine.proofs.machine.Machine.release_from.Given as goal
 
 abbrev pub invariant-slots : goal.invariant-slots

@@ -4,8 +4,8 @@ use Rattle.rg_machine.specs.Effects.{emptied, without}
 use Rattle.rg_machine.specs.Parts.{Parts, machine_in}
 use Rattle.rg_machine.specs.Cores.{core_of}
 use Rattle.rg_machine.specs.contracts.machine.Machine.{the_view}
-use Rattle.rg_machine.proofs.Emptied.{slot-dropped, slot-stays}
-use Rattle.rg_machine.proofs.Take.{in-top, loose-next, once-next, slot-leads}
+use Rattle.rg_machine.proofs.End.Emptied.{slot-dropped, slot-stays}
+use Rattle.rg_machine.proofs.End.Nil.{in-top, loose-next, once-next, slot-leads}
 use Rattle.rg_machine.proofs.machine.Machine.release_nth.Goals as goal
 
 pub nth_word-w-requires : goal.nth_word-w-requires

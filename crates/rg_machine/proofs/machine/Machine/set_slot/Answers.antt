@@ -2,7 +2,7 @@ use Rattle.std.proofs.Common.{◌≡◌, true, sym, subst}
 use Rattle.rg_stack.specs.Needs.{may_keep}
 use Rattle.rg_machine.specs.Parts.{Parts, machine_in, val_in}
 use Rattle.rg_machine.specs.Stands.{Leads}
-use Rattle.rg_machine.proofs.Slot.{core-slot, lead-slot, slot-backs, stands-slot}
+use Rattle.rg_machine.proofs.Write.Slot.{core-slot, lead-slot, slot-backs, stands-slot}
 use Rattle.rg_machine.proofs.machine.Machine.set_slot.Goals as goal
 
 pub invariant_of-self : goal.invariant_of-self

@@ -2,8 +2,8 @@ use Rattle.std.proofs.Common.{◌≡◌, ◌∙◌, ◌+◌, sym, ap, subst}
 use Rattle.rg_stack.specs.Machine.{slot_at}
 use Rattle.rg_machine.specs.Parts.{Parts, val_in, machine_in}
 use Rattle.rg_machine.specs.Stands.{Leads}
-use Rattle.rg_machine.proofs.Top.{slot-any}
-use Rattle.rg_machine.proofs.Word.{slot-leads}
+use Rattle.rg_machine.proofs.Call.Top.{slot-any}
+use Rattle.rg_machine.proofs.Callers.Word.{slot-leads}
 use Rattle.rg_machine.proofs.machine.Machine.slot.Goals as goal
 
 pub returns-clause-value : goal.returns-clause-value

@@ -1,8 +1,8 @@
 use Rattle.rg_frames.specs.Stack.{with_slot}
 use Rattle.rg_machine.proofs.Swap.{Swapped, may-swap, swapped}
-use Rattle.rg_machine.proofs.High.{none-written}
+use Rattle.rg_machine.proofs.Callers.High.{none-written}
 use Rattle.rg_machine.proofs.machine.Machine.swap.Goals as goal
-use Rattle.rg_machine.proofs.EnterField.{front-lead as lead-front}
+use Rattle.rg_machine.proofs.Enter.Field.{front-lead as lead-front}
 
 pub swap-held-requires-clause-width : goal.swap-held-requires-clause-width
 swap-held-requires-clause-width c =
@@ -40,13 +40,12 @@ invariant_of-self-in-Nil c =
       lead-front x.heap x.frames x.stack.items c.pop.new.self.items c.in-Some.r c.in-Some.ensures.items c.self.invariant.1,
     )
 
-pub returns-in-Slot-clause-effect : goal.returns-in-Slot-clause-effect
-returns-in-Slot-clause-effect c = rw (c.set_word.ensures, ← c.self.view_is) (all c).effect
-
-pub returns-in-Slot-clause-keeps : goal.returns-in-Slot-clause-keeps
-returns-in-Slot-clause-keeps c = rw (c.set_word.ensures, ← c.self.view_is) (all c).backs
-
-pub returns-in-Slot-clause-high : goal.returns-in-Slot-clause-high
-returns-in-Slot-clause-high c =
-    rw (← c.self.view_is)
-    (none-written c.self.inside.heap c.swap-held.new.self c.in-Slot.slot c.args.index c.word-w.result c.swap-held.ensures.heap)
+pub returns-in-Slot : goal.returns-in-Slot
+returns-in-Slot c at =
+    record {
+      effect = rw (c.set_word.ensures, ← c.self.view_is) ((all c).effect at);
+      keeps = rw (c.set_word.ensures, ← c.self.view_is) (all c).backs;
+      high =
+          rw (← c.self.view_is)
+          (none-written c.self.inside.heap c.swap-held.new.self c.in-Slot.slot c.args.index c.word-w.result c.swap-held.ensures.heap);
+    }

@@ -46,8 +46,7 @@ loop-self-init g c =
       source_never_falls = omega arith;
       sink_never_falls = omega arith;
       notes_never_fall = omega arith;
-      count_tuned = refl;
-      trace_tuned = refl;
+      tuned = (refl, refl);
       reports = reports-same c.args.report ended.Spent [] c.begin.new.self.events _ _ (ap (λ (s : Stepping). s.events) begun)
           (reports-none c.args.report (g.R.Sink.taken c.args.notes.now));
       yeses = yeses-none c.begin.new.self.events _ (ap (λ (s : Stepping). s.events) begun);
@@ -97,8 +96,7 @@ loop-self-preserved g c =
       source_never_falls = omega (arith, so_far.source_never_falls, step.never_falls);
       sink_never_falls = omega (arith, so_far.sink_never_falls, given.sink_never_falls);
       notes_never_fall = omega (arith, so_far.notes_never_fall, given.notes_never_fall);
-      count_tuned = step.count ∙ so_far.count_tuned;
-      trace_tuned = step.trace ∙ so_far.trace_tuned;
+      tuned = (step.tuned.0 ∙ so_far.tuned.0, step.tuned.1 ∙ so_far.tuned.1);
       reports = reports-same c.args.report ended.Spent new.events c.leap.new.self.events _ _ leap.events
           (reports-of c.args.report ended.Spent c.events-events.result.now new.events _ _ c.events-events.ensures
           (given.reports (g.R.Sink.taken c.args.notes.now)
@@ -161,11 +159,12 @@ returns-in_default-clause-slides g c = ap (λ (s : Stepping). s.slides) c.in_def
 
 pub returns-in-Err-clause-tuned : goal.returns-in-Err-clause-tuned
 returns-in-Err-clause-tuned g c =
-    (c.step-outcome.ensures.count ∙ c.loop-self.invariant.count_tuned, c.step-outcome.ensures.trace ∙ c.loop-self.invariant.trace_tuned)
+    let step = c.step-outcome.ensures.tuned in
+    let so_far = c.loop-self.invariant.tuned in
+    (step.0 ∙ so_far.0, step.1 ∙ so_far.1)
 
 pub returns-clause-tuned : goal.returns-clause-tuned
-returns-clause-tuned g c =
-    (c.loop-self.invariant.count_tuned, c.loop-self.invariant.trace_tuned)
+returns-clause-tuned g c = c.loop-self.invariant.tuned
 
 pub returns-in-Err-clause-begun : goal.returns-in-Err-clause-begun
 returns-in-Err-clause-begun g c = λ h. c.loop-self.invariant.begun
@@ -176,23 +175,18 @@ returns-in-Err-clause-kept g c = λ e. absurd (true≢false (sym c.loop-self.inv
 pub returns-in-Err-clause-follows : goal.returns-in-Err-clause-follows
 returns-in-Err-clause-follows g c = c.step-outcome.ensures.follows
 
-pub returns-in-Err-clause-source_never_falls : goal.returns-in-Err-clause-source_never_falls
-returns-in-Err-clause-source_never_falls g c = omega (arith, c.loop-self.invariant.source_never_falls, c.step-outcome.ensures.never_falls)
-
-pub returns-in-Err-clause-sink_never_falls : goal.returns-in-Err-clause-sink_never_falls
-returns-in-Err-clause-sink_never_falls g c = omega (arith, c.loop-self.invariant.sink_never_falls, c.in-Err.ensures.sink_never_falls)
-
-pub returns-in-Err-clause-notes_never_fall : goal.returns-in-Err-clause-notes_never_fall
-returns-in-Err-clause-notes_never_fall g c = omega (arith, c.loop-self.invariant.notes_never_fall, c.in-Err.ensures.notes_never_fall)
-
-pub returns-in-Err-clause-input_fault : goal.returns-in-Err-clause-input_fault
-returns-in-Err-clause-input_fault g c = λ h.
-    Rose-since _ _ _ c.loop-self.invariant.source_never_falls
-    (c.step-outcome.ensures.fault (input-failed _ _ _ c.step-outcome.result c.in-Err.ensures.gives h))
-
-pub returns-in-Err-clause-output_fault : goal.returns-in-Err-clause-output_fault
-returns-in-Err-clause-output_fault g c = λ h.
-    rose-since c.loop-self.invariant.sink_never_falls c.loop-self.invariant.notes_never_fall (c.in-Err.ensures.failed (ap Err h))
+pub returns-in-Err-clause-caused : goal.returns-in-Err-clause-caused
+returns-in-Err-clause-caused g c =
+    let so_far = c.loop-self.invariant in
+    let step = c.step-outcome.ensures in
+    let given = c.in-Err.ensures in
+    record {
+      input_fault = λ h. Rose-since _ _ _ so_far.source_never_falls (step.fault (input-failed _ _ _ c.step-outcome.result given.gives h));
+      output_fault = λ h. rose-since so_far.sink_never_falls so_far.notes_never_fall (given.failed (ap Err h));
+      source_never_falls = omega (arith, so_far.source_never_falls, step.never_falls);
+      sink_never_falls = omega (arith, so_far.sink_never_falls, given.sink_never_falls);
+      notes_never_fall = omega (arith, so_far.notes_never_fall, given.notes_never_fall);
+    }
 
 pub returns-clause-begun : goal.returns-clause-begun
 returns-clause-begun g c = λ h. c.loop-self.invariant.begun
@@ -203,17 +197,22 @@ returns-clause-kept g c = λ e. absurd (true≢false (sym c.loop-self.invariant.
 pub returns-clause-follows : goal.returns-clause-follows
 returns-clause-follows g c = c.loop-self.invariant.follows
 
-pub returns-clause-source_never_falls : goal.returns-clause-source_never_falls
-returns-clause-source_never_falls g c = c.loop-self.invariant.source_never_falls
+pub returns-clause-caused : goal.returns-clause-caused
+returns-clause-caused g c =
+    let so_far = c.loop-self.invariant in
+    record {
+      input_fault = λ h. cc;
+      output_fault = λ h. cc;
+      source_never_falls = so_far.source_never_falls;
+      sink_never_falls = so_far.sink_never_falls;
+      notes_never_fall = so_far.notes_never_fall;
+    }
 
-pub returns-clause-sink_never_falls : goal.returns-clause-sink_never_falls
-returns-clause-sink_never_falls g c = c.loop-self.invariant.sink_never_falls
-
-pub returns-clause-notes_never_fall : goal.returns-clause-notes_never_fall
-returns-clause-notes_never_fall g c = c.loop-self.invariant.notes_never_fall
-
-pub returns-clause-input_fault : goal.returns-clause-input_fault
-returns-clause-input_fault g c = λ h. cc
-
-pub returns-clause-output_fault : goal.returns-clause-output_fault
-returns-clause-output_fault g c = λ h. cc
+pub returns-in_default-clause-caused : goal.returns-in_default-clause-caused
+returns-in_default-clause-caused g c = record {
+  input_fault = λ h. cc;
+  output_fault = λ h. cc;
+  source_never_falls = omega arith;
+  sink_never_falls = omega arith;
+  notes_never_fall = omega arith;
+}

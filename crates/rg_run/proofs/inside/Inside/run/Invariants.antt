@@ -3,6 +3,8 @@ use Rattle.std.proofs.Common.{◌≡◌, ◌-◌, ◌≤◌, true}
 use Rattle.rg_base.specs.declared.outcome.Ended.TheVariants as ended
 use Rattle.rg_input.specs.Numbers.{Follows, OnInput}
 use Rattle.rg_step.specs.Asking.{YesesTold}
+use Rattle.rg_step.specs.Pacers.{both}
+use Rattle.rg_run.specs.Asked.{SameTuned}
 use Rattle.rg_run.specs.Reports.{Reports}
 use Rattle.rg_run.proofs.Turn.{Turns}
 use Rattle.rg_run.proofs.inside.Inside.run.Given as goal
@@ -16,67 +18,18 @@ invariant-loop-self g l = record {
   source_never_falls : g.I.Source.faults l.fn.source ≤ g.I.Source.faults l.source;
   sink_never_falls : g.O.Sink.faults l.fn.out ≤ g.O.Sink.faults l.out;
   notes_never_fall : g.R.Sink.faults l.fn.notes ≤ g.R.Sink.faults l.notes;
-  count_tuned : (goal.Pacer-dyn g l.count.now).tuned l.count.now.1 ≡ (goal.Pacer-dyn g l.fn.count.now).tuned l.fn.count.now.1;
-  trace_tuned : (goal.Pacer-dyn g l.trace.now).tuned l.trace.now.1 ≡ (goal.Pacer-dyn g l.fn.trace.now).tuned l.fn.trace.now.1;
+  tuned : SameTuned
+      (both ((goal.Pacer-dyn g l.fn.count.now).tally l.fn.count.now.1) ((goal.Pacer-dyn g l.fn.trace.now).tally l.fn.trace.now.1))
+      (both ((goal.Pacer-dyn g l.count.now).tally l.count.now.1) ((goal.Pacer-dyn g l.trace.now).tally l.trace.now.1));
   reports : Reports l.report ended.Spent l.self.stepper.events (g.R.Sink.taken l.fn.notes) (g.R.Sink.taken l.notes);
-  yeses : YesesTold l.self.stepper.events (record {
-    count = record {
-      asks = (goal.Pacer-dyn g l.fn.count.now).asks l.fn.count.now.1;
-      yeses = (goal.Pacer-dyn g l.fn.count.now).yeses l.fn.count.now.1;
-      told = (goal.Pacer-dyn g l.fn.count.now).told l.fn.count.now.1;
-      tuned = (goal.Pacer-dyn g l.fn.count.now).tuned l.fn.count.now.1;
-    };
-    trace = record {
-      asks = (goal.Pacer-dyn g l.fn.trace.now).asks l.fn.trace.now.1;
-      yeses = (goal.Pacer-dyn g l.fn.trace.now).yeses l.fn.trace.now.1;
-      told = (goal.Pacer-dyn g l.fn.trace.now).told l.fn.trace.now.1;
-      tuned = (goal.Pacer-dyn g l.fn.trace.now).tuned l.fn.trace.now.1;
-    };
-  })
-      (record {
-        count = record {
-          asks = (goal.Pacer-dyn g l.count.now).asks l.count.now.1;
-          yeses = (goal.Pacer-dyn g l.count.now).yeses l.count.now.1;
-          told = (goal.Pacer-dyn g l.count.now).told l.count.now.1;
-          tuned = (goal.Pacer-dyn g l.count.now).tuned l.count.now.1;
-        };
-        trace = record {
-          asks = (goal.Pacer-dyn g l.trace.now).asks l.trace.now.1;
-          yeses = (goal.Pacer-dyn g l.trace.now).yeses l.trace.now.1;
-          told = (goal.Pacer-dyn g l.trace.now).told l.trace.now.1;
-          tuned = (goal.Pacer-dyn g l.trace.now).tuned l.trace.now.1;
-        };
-      });
+  yeses : YesesTold l.self.stepper.events
+      (both ((goal.Pacer-dyn g l.fn.count.now).tally l.fn.count.now.1) ((goal.Pacer-dyn g l.fn.trace.now).tally l.fn.trace.now.1))
+      (both ((goal.Pacer-dyn g l.count.now).tally l.count.now.1) ((goal.Pacer-dyn g l.trace.now).tally l.trace.now.1));
   turns : OnInput l.fn.input l.input (g.I.Source.left l.fn.source) (g.I.Source.left l.source)
       (Turns l.accepted.program l.code l.self.steps l.self.stepper (g.O.Sink.taken l.fn.out) (g.O.Sink.taken l.out)
-      ((l.input ≡ l.fn.input) × (l.source ≡ l.fn.source)) (record {
-        count = record {
-          asks = (goal.Pacer-dyn g l.fn.count.now).asks l.fn.count.now.1;
-          yeses = (goal.Pacer-dyn g l.fn.count.now).yeses l.fn.count.now.1;
-          told = (goal.Pacer-dyn g l.fn.count.now).told l.fn.count.now.1;
-          tuned = (goal.Pacer-dyn g l.fn.count.now).tuned l.fn.count.now.1;
-        };
-        trace = record {
-          asks = (goal.Pacer-dyn g l.fn.trace.now).asks l.fn.trace.now.1;
-          yeses = (goal.Pacer-dyn g l.fn.trace.now).yeses l.fn.trace.now.1;
-          told = (goal.Pacer-dyn g l.fn.trace.now).told l.fn.trace.now.1;
-          tuned = (goal.Pacer-dyn g l.fn.trace.now).tuned l.fn.trace.now.1;
-        };
-      })
-      (record {
-        count = record {
-          asks = (goal.Pacer-dyn g l.count.now).asks l.count.now.1;
-          yeses = (goal.Pacer-dyn g l.count.now).yeses l.count.now.1;
-          told = (goal.Pacer-dyn g l.count.now).told l.count.now.1;
-          tuned = (goal.Pacer-dyn g l.count.now).tuned l.count.now.1;
-        };
-        trace = record {
-          asks = (goal.Pacer-dyn g l.trace.now).asks l.trace.now.1;
-          yeses = (goal.Pacer-dyn g l.trace.now).yeses l.trace.now.1;
-          told = (goal.Pacer-dyn g l.trace.now).told l.trace.now.1;
-          tuned = (goal.Pacer-dyn g l.trace.now).tuned l.trace.now.1;
-        };
-      }));
+      ((l.input ≡ l.fn.input) × (l.source ≡ l.fn.source))
+      (both ((goal.Pacer-dyn g l.fn.count.now).tally l.fn.count.now.1) ((goal.Pacer-dyn g l.fn.trace.now).tally l.fn.trace.now.1))
+      (both ((goal.Pacer-dyn g l.count.now).tally l.count.now.1) ((goal.Pacer-dyn g l.trace.now).tally l.trace.now.1)));
 }
 
 abbrev pub decreases-loop-self : goal.decreases-loop-self

@@ -5,8 +5,8 @@ use Rattle.rg_step.specs.States.{Chain}
 use Rattle.rg_step.specs.Steps.{IsRunning, Leapt}
 use Rattle.rg_step.specs.Stepping.{Stepping}
 use Rattle.rg_step.proofs.Held.{rests-some, shows-none, shows-some}
-use Rattle.rg_step.proofs.Run.{never-fresh}
-use Rattle.rg_step.proofs.KnownSteps.{leaps-counted, leapt}
+use Rattle.rg_step.proofs.Walking.Run.{never-fresh}
+use Rattle.rg_step.proofs.Shapes.KnownSteps.{leaps-counted, leapt}
 use Rattle.rg_step.proofs.stepper.Stepper.leap.Goals as goal
 
 pub returns-clause-leaps : goal.returns-clause-leaps

@@ -1,0 +1,249 @@
+-- What the two machines share, and changes of both that leave objects as they are.
+use Rattle.std.proofs.Common.{◌≡◌, ℕ, zero, suc, ◌-◌, ◌^◌, ◌==◌, ◌⊎◌, inl, inr, true, false, true≢false, Bool as Truth, List, [], ◌∷◌}
+use Rattle.std.proofs.Common.{Option, Some, None, option_and_then, option_map, refl, sym, ap, ◌∙◌, slice_get}
+use Rattle.std.proofs.lemmas.Option.{same_Some}
+use Rattle.std.proofs.lemmas.Bool.{cases_Bool}
+use Rattle.std.specs.Prelude.{◌||◌, if◌then◌else◌}
+use Rattle.std.specs.List.{list_any}
+use Rattle.rg_base.specs.declared.object.Label.{Label}
+use Rattle.rg_base.specs.declared.object.Label.TheVariants.{Region, Temp, Frozen}
+use Rattle.rg_base.specs.declared.object.Seen.{Seen}
+use Rattle.rg_base.specs.declared.value.Val.{Val}
+use Rattle.rg_base.specs.declared.value.Val.TheVariants as val
+use Rattle.rg_stack.specs.Machine.{Frame, Window, Machine, top_slots, with_slots}
+use Rattle.rg_stack.specs.Needs.{closed_of, closed_into}
+use Rattle.rg_stack.specs.Labels.{is_open, label_of, is_into, is_outside}
+use Rattle.rg_stack.proofs.Basics.{none-some, or-left}
+use Rattle.rg_held.specs.Gone.{gone}
+use Rattle.rg_held.specs.Part.{leads_to, AllLead, SlotInto, FieldInto, Placed, Tidy, Part, is_shut_or_above}
+use Rattle.rg_held.proofs.Places.{clash, or-right}
+
+-- a closed region has none above it, and may be led to
+
+pub shut-above : (ws : List Window) (q p : ℕ) → is_shut_or_above ws q p ≡ true → is_open ws p ≡ false → is_open ws q ≡ false
+shut-above [] q p e c = refl
+shut-above (w ∷ ws) q p e c = by (w.region == q) refl e (shut-above ws q p)
+  where
+    by : (b : Truth) → (w.region == q) ≡ b → (if b then is_open ws p else is_shut_or_above ws q p) ≡ true
+        → (is_shut_or_above ws q p ≡ true → is_open ws p ≡ false → is_open ws q ≡ false) → is_open (w ∷ ws) q ≡ false
+    by true h e rest = clash (is_open ws p) e (or-right (w.region == p) (is_open ws p) c)
+    by false h e rest = ap (λ b. b || is_open ws q) h ∙ rest e (or-right (w.region == p) (is_open ws p) c)
+
+pub closed-above : (ws : List Window) (q p : ℕ) → is_open ws q ≡ false → is_shut_or_above ws q p ≡ true
+closed-above [] q p c = refl
+closed-above (w ∷ ws) q p c =
+    ap (λ b. if b then is_open ws p else is_shut_or_above ws q p) (or-left (w.region == q) (is_open ws q) c)
+    ∙ closed-above ws q p (or-right (w.region == q) (is_open ws q) c)
+
+-- all values on the stack lead to what passes a test
+
+pub lead-any : (test : ℕ → Truth) (vs : List Val) (i : ℕ) (v : Val) → AllLead test vs → slice_get vs i ≡ Some v → leads_to test v ≡ true
+lead-any test [] i v a e = none-some v e
+lead-any test (u ∷ vs) zero v a e = ap (leads_to test) (sym (same_Some u v e)) ∙ a.0
+lead-any test (u ∷ vs) (suc i) v a e = lead-any test vs i v a.1 e
+
+pub lead-more : (test also : ℕ → Truth) (v : Val) → ((a : ℕ) → test a ≡ true → also a ≡ true) → leads_to test v ≡ true → leads_to also v ≡ true
+lead-more test also val.Nil h e = refl
+lead-more test also (val.Int z) h e = refl
+lead-more test also (val.Bool b) h e = refl
+lead-more test also (val.Obj a) h e = h a e
+
+pub all-more : (test also : ℕ → Truth) (vs : List Val) → ((a : ℕ) → test a ≡ true → also a ≡ true) → AllLead test vs → AllLead also vs
+all-more test also [] h a = a
+all-more test also (v ∷ vs) h a = (lead-more test also v h a.0, all-more test also vs h a.1)
+
+-- frames change, and nothing else
+
+pub tidy-frames : (m : Machine) (fs : List Frame) → Tidy m → Tidy (record m { frames = fs })
+tidy-frames m fs t = record {
+  some_window = t.some_window;
+  differ = t.differ;
+  numbers = t.numbers;
+  regions = t.regions;
+  labels = t.labels;
+  fields = t.fields;
+  inside = t.inside;
+}
+
+-- a slot, and a field, that lead into a region do so in a machine that has them
+abbrev pub slot-over : (m x : Machine) (r : ℕ) (s : SlotInto m r) → slice_get x.frames s.frame ≡ Some s.holder → is_into x.store r s.value ≡ true
+    → SlotInto x r
+slot-over m x r s there into = record {
+  frame = s.frame;
+  slot = s.slot;
+  holder = s.holder;
+  value = s.value;
+  holder_there = there;
+  value_there = s.value_there;
+  into = into;
+}
+
+abbrev pub field-over : (m x : Machine) (r : ℕ) (l : FieldInto m r) → slice_get x.store l.object ≡ Some l.holder
+    → is_outside x.windows r l.holder.label ≡ true → is_into x.store r l.value ≡ true → FieldInto x r
+field-over m x r l there outside into = record {
+  object = l.object;
+  field = l.field;
+  holder = l.holder;
+  value = l.value;
+  holder_there = there;
+  value_there = l.value_there;
+  outside = outside;
+  into = into;
+}
+
+abbrev pub field-frames : (m : Machine) (fs : List Frame) (r : ℕ) → FieldInto m r → FieldInto (record m { frames = fs }) r
+field-frames m fs r p = field-over m (record m { frames = fs }) r p p.holder_there p.outside p.into
+
+-- a slot of the topmost frame
+
+pub slot-of-top : (m : Machine) (slots : List Val) (r j : ℕ) (u v : Val) → slice_get (top_slots m.frames) j ≡ Some u → slice_get slots j ≡ Some v
+    → is_into m.store r v ≡ true → SlotInto (record m { frames = with_slots slots m.frames }) r
+slot-of-top m slots r j u v old new into = by m.frames refl old
+  where
+    by : (fs : List Frame) → m.frames ≡ fs → slice_get (top_slots fs) j ≡ Some u → SlotInto (record m { frames = with_slots slots m.frames }) r
+    by [] e old = none-some u old
+    by (f ∷ fs) e old = record {
+      frame = 0;
+      slot = j;
+      holder = record f { slots = slots };
+      value = v;
+      holder_there = ap (λ l. slice_get (with_slots slots l) 0) e;
+      value_there = new;
+      into = into;
+    }
+
+-- a slot that leads into a region is one of the topmost frame, or stays where that changes
+pub slot-cases : (m : Machine) (slots : List Val) (r : ℕ) → SlotInto m r
+    → ((j : ℕ) × ((v : Val) × (slice_get (top_slots m.frames) j ≡ Some v) × (is_into m.store r v ≡ true)))
+    ⊎ SlotInto (record m { frames = with_slots slots m.frames }) r
+slot-cases m slots r p = by m.frames refl p.frame p.holder_there
+  where
+    by : (fs : List Frame) → m.frames ≡ fs → (n : ℕ) → slice_get fs n ≡ Some p.holder
+        → ((j : ℕ) × ((v : Val) × (slice_get (top_slots fs) j ≡ Some v) × (is_into m.store r v ≡ true)))
+        ⊎ SlotInto (record m { frames = with_slots slots m.frames }) r
+    by [] e n h = none-some p.holder h
+    by (f ∷ fs) e zero h = inl (p.slot, (p.value, ap (λ (f : Frame). slice_get f.slots p.slot) (same_Some f p.holder h) ∙ p.value_there, p.into))
+    by (f ∷ fs) e (suc n) h = inr (record {
+      frame = suc n;
+      slot = p.slot;
+      holder = p.holder;
+      value = p.value;
+      holder_there = ap (λ l. slice_get (with_slots slots l) (suc n)) e ∙ h;
+      value_there = p.value_there;
+      into = p.into;
+    })
+
+-- a slot behind such a change is one of the topmost frame's new ones, or was there
+pub slots-back : (fs : List Frame) (slots : List Val) (n : ℕ) (h : Frame) (j : ℕ) (u : Val) → slice_get (with_slots slots fs) n ≡ Some h
+    → slice_get h.slots j ≡ Some u
+    → ((n ≡ 0) × (slice_get slots j ≡ Some u)) ⊎ ((g : Frame) × (slice_get fs n ≡ Some g) × (slice_get g.slots j ≡ Some u))
+slots-back [] slots n h j u there e = none-some h there
+slots-back (f ∷ fs) slots zero h j u there e =
+    inl (refl, ap (λ (g : Frame). slice_get g.slots j) (same_Some (record f { slots = slots }) h there) ∙ e)
+slots-back (f ∷ fs) slots (suc n) h j u there e = inr (h, there, e)
+
+-- the slots of the topmost frame are slots
+pub top-slot : (fs : List Frame) (j : ℕ) (u : Val) → slice_get (top_slots fs) j ≡ Some u
+    → (g : Frame) × (slice_get fs 0 ≡ Some g) × (slice_get g.slots j ≡ Some u)
+top-slot [] j u e = none-some u e
+top-slot (f ∷ fs) j u e = (f, refl, e)
+
+module _ (held : ℕ → Truth) (owners : List Val) (f m : Machine) (stack : List Val) (p : Part held owners f m stack) where
+  -- what is held is seen the same
+  pub label-same : (v : Val) → leads_to held v ≡ true → label_of f.store v ≡ label_of m.store v
+  label-same val.Nil h = refl
+  label-same (val.Int z) h = refl
+  label-same (val.Bool b) h = refl
+  label-same (val.Obj a) h = ap (option_and_then (λ (o : Seen). Some o.label)) (p.same a h)
+
+  pub closed-same : (v : Val) → leads_to held v ≡ true → closed_into f v ≡ closed_into m v
+  closed-same v h = ap (λ ws. option_and_then (closed_of ws) (label_of f.store v)) p.windows
+      ∙ ap (option_and_then (closed_of m.windows)) (label-same v h)
+
+  -- an object that is there in the machine that frees, and isn't gone, is held
+  pub open-region : (a : ℕ) (o : Seen) (r : ℕ) → slice_get f.store a ≡ Some o → o.label ≡ Region r → held a ≡ true
+  open-region a o r there lies = elim (cases_Bool (held a)) [
+    | inl h ↦ h
+    | inr n ↦ absurd (gone_no (slice_get m.store a) (sym (p.others a n) ∙ there))
+  ]
+    where
+      no_region : Temp (2 ^ 64 - 1) ≡ Region r → ⊥
+      no_region e = true≢false (ap (λ (l : Label). elim l [ Region q ↦ false | Temp n ↦ true | Frozen ↦ false ]) e)
+
+      gone_no : (s : Option Seen) → option_map (λ (q : Seen). gone) s ≡ Some o → ⊥
+      gone_no None e = none-some o e
+      gone_no (Some q) e = no_region (ap (λ (q : Seen). q.label) (same_Some gone o e) ∙ lies)
+
+  -- another stack, and other values that count as owners
+  part-over : (kept left : List Val)
+      → ((r : ℕ) → is_open m.windows r ≡ false → list_any (is_into m.store r) owners ≡ true
+      → Placed held m r ⊎ (list_any (is_into m.store r) kept ≡ true)) → AllLead held left → Part held kept f m left
+  part-over kept left h lead = record {
+    frames = p.frames;
+    windows = p.windows;
+    windows_made = p.windows_made;
+    at = p.at;
+    managers_made = p.managers_made;
+    open_managers = p.open_managers;
+    held_managers = p.held_managers;
+    objects_made = p.objects_made;
+    there = p.there;
+    same = p.same;
+    others = p.others;
+    temps = p.temps;
+    lost_temps = p.lost_temps;
+    slots = p.slots;
+    on_stack = lead;
+    fields = p.fields;
+    owned = λ a o r held_a there lies closed. elim (p.owned a o r held_a there lies closed) [
+      | inl placed ↦ inl placed
+      | inr any ↦ h r closed any
+    ];
+    window_owners = p.window_owners;
+    tidy = p.tidy;
+  }
+
+  pub part-stack : (left : List Val) → AllLead held left → Part held owners f m left
+  part-stack left lead = part-over owners left (λ r closed any. inr any) lead
+
+  pub part-owners : (kept : List Val)
+      → ((r : ℕ) → is_open m.windows r ≡ false → list_any (is_into m.store r) owners ≡ true
+      → Placed held m r ⊎ (list_any (is_into m.store r) kept ≡ true)) → Part held kept f m stack
+  part-owners kept h = part-over kept stack h p.on_stack
+
+  -- other frames, the same in both
+  pub part-frames : (ff fs : List Frame) (kept left : List Val) → ff ≡ fs
+      → ((n : ℕ) (h : Frame) (s : ℕ) (v : Val) → slice_get fs n ≡ Some h → slice_get h.slots s ≡ Some v → leads_to held v ≡ true)
+      → AllLead held left
+      → ((r : ℕ) → is_open m.windows r ≡ false → SlotInto m r
+      → SlotInto (record m { frames = fs }) r ⊎ (list_any (is_into m.store r) kept ≡ true))
+      → ((r : ℕ) → is_open m.windows r ≡ false → list_any (is_into m.store r) owners ≡ true
+      → Placed held (record m { frames = fs }) r ⊎ (list_any (is_into m.store r) kept ≡ true))
+      → Part held kept (record f { frames = ff }) (record m { frames = fs }) left
+  part-frames ff fs kept left same slots lead stay move = record {
+    frames = same;
+    windows = p.windows;
+    windows_made = p.windows_made;
+    at = p.at;
+    managers_made = p.managers_made;
+    open_managers = p.open_managers;
+    held_managers = p.held_managers;
+    objects_made = p.objects_made;
+    there = p.there;
+    same = p.same;
+    others = p.others;
+    temps = p.temps;
+    lost_temps = p.lost_temps;
+    slots = slots;
+    on_stack = lead;
+    fields = p.fields;
+    owned = λ a o r held_a there lies closed. elim (p.owned a o r held_a there lies closed) [
+      | inl placed ↦ elim placed [
+        | inl slot ↦ elim (stay r closed slot) [ inl s ↦ inl (inl s) | inr k ↦ inr k ]
+        | inr field ↦ inl (inr (field-frames m fs r field.0, field.1))
+      ]
+      | inr any ↦ move r closed any
+    ];
+    window_owners = p.window_owners;
+    tidy = tidy-frames m fs p.tidy;
+  }

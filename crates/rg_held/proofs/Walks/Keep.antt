@@ -1,0 +1,65 @@
+-- What holds of the machine in front of each instruction, and what then holds where its walk ends: said of any two such facts.
+use Rattle.std.proofs.Common.{◌≡◌, ℕ, zero, suc, ◌+◌, true, false, Bool as Truth, if◌then◌else◌, List, [], ◌∷◌, Result, Ok, Err, refl, length}
+use Rattle.std.specs.Prelude.{nat_lt}
+use Rattle.rg_base.specs.Input.{NextNumber, found, malformed, at_end}
+use Rattle.rg_base.specs.declared.object.Seen.{Seen}
+use Rattle.rg_base.specs.declared.outcome.Trap.{Trap}
+use Rattle.rg_base.specs.declared.outcome.Trap.TheVariants as trap
+use Rattle.rg_base.specs.declared.value.Val.{Val}
+use Rattle.rg_tree.specs.declared.rows.BinOp.{BinOp}
+use Rattle.rg_rules.specs.Values.{Computed, operate}
+use Rattle.rg_code.specs.declared.op.Op.{Op}
+use Rattle.rg_code.specs.Code.{Code}
+use Rattle.rg_stack.specs.Machine.{Machine, top_slots, place_of}
+use Rattle.rg_stack.specs.Effects.{Work, Walked, Traps, Stuck, Go, Act, walk_by, on_top, on_two, pushed, next_taken, opens_at, begins_by}
+
+-- a walk that is stuck or traps needs nothing, and the input may be read
+pub record Kept (Now : Work → Type 0) (Ending : Walked → Type 0) : Type 0 where
+  pub stuck : Ending Stuck
+  pub traps : (t : Trap) → Ending (Traps t)
+  pub read : (w : Work) (rest : List ℕ) → Now w → Now (record w { input = rest })
+
+-- how a walk goes on
+abbrev pub Onward : (Now : Work → Type 0) (Ending : Walked → Type 0) → Go → Type 0
+Onward Now Ending go = (skip : ℕ) (stack : List Val) (w : Work) → Now w → Ending (go skip stack w)
+
+module _ {Now : Work → Type 0} {Ending : Walked → Type 0} (k : Kept Now Ending) where
+  pub on-top : (stack : List Val) (go : Val → List Val → Walked) → ((v : Val) (rest : List Val) → Ending (go v rest)) → Ending (on_top stack go)
+  on-top [] go h = k.stuck
+  on-top (v ∷ rest) go h = h v rest
+
+  pub on-object : (r : Result Seen Trap) (go : Seen → Walked) → ((o : Seen) → r ≡ Ok o → Ending (go o))
+      → Ending (elim r [ Ok o ↦ go o | Err t ↦ Traps t ])
+  on-object (Ok o) go h = h o refl
+  on-object (Err t) go h = k.traps t
+
+  pub on-test : (t : Truth) (x y : Walked) → Ending x → Ending y → Ending (if t then x else y)
+  on-test true x y h other = h
+  on-test false x y h other = other
+
+  pub on-pushed : (c : Computed) (go : Go) (stack : List Val) (w : Work) → Onward Now Ending go → Now w → Ending (pushed c go stack w)
+  on-pushed (Ok v) go stack w h now = h 0 (v ∷ stack) w now
+  on-pushed (Err t) go stack w h now = k.traps t
+
+  pub on-two : (o : BinOp) (go : Go) (stack : List Val) (w : Work) → Onward Now Ending go → Now w → Ending (on_two o go stack w)
+  on-two o go [] w h now = k.stuck
+  on-two o go (y ∷ []) w h now = k.stuck
+  on-two o go (y ∷ x ∷ stack) w h now = on-pushed (operate o x y) go stack w h now
+
+  pub on-number : (n : NextNumber) (go : Go) (stack : List Val) (w : Work) → Onward Now Ending go → Now w → Ending (next_taken n go stack w)
+  on-number (found z rest) go stack w h now = h 0 _ _ (k.read w rest now)
+  on-number malformed go stack w h now = k.traps trap.Input
+  on-number at_end go stack w h now = k.traps trap.End
+
+  pub on-opened : (m : Machine) (z : ℕ) (x : Walked) → Ending x → Ending (opens_at m z x)
+  on-opened m z x h =
+      let inner = begins_by m.windows (place_of m.frames z) in
+      on-test (nat_lt z (length (top_slots m.frames))) (if inner then x else Stuck) Stuck (on-test inner x Stuck h k.stuck) k.stuck
+
+  -- where each instruction keeps it, a walk does
+  pub on-walk : (each : Act) (code : Code)
+      → ((at : ℕ) (o : Op) (go : Go) (stack : List Val) (w : Work) → Onward Now Ending go → Now w → Ending (each code at o go stack w))
+      → (os : List Op) (at : ℕ) → Onward Now Ending (walk_by each code os at)
+  on-walk each code h [] at skip stack w now = k.stuck
+  on-walk each code h (o ∷ os) at zero stack w now = h at o (walk_by each code os (at + 1)) stack w (on-walk each code h os (at + 1)) now
+  on-walk each code h (o ∷ os) at (suc n) stack w now = on-walk each code h os (at + 1) n stack w now

@@ -1,0 +1,6 @@
+-- New objects.
+pub mod Grow
+pub mod Object
+mod Temporary
+pub mod Cells
+pub mod Refused

@@ -1,0 +1,3 @@
+-- Slots and fields that are written.
+pub mod Slot
+pub mod Field

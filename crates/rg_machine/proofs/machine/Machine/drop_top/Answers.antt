@@ -1,9 +1,0 @@
-use Rattle.rg_machine.specs.Parts.{val_in}
-use Rattle.rg_machine.specs.Cores.{core_of}
-use Rattle.rg_machine.proofs.Own.{drop-effect}
-use Rattle.rg_machine.proofs.machine.Machine.drop_top.Goals as goal
-
-pub returns-in-Some-clause-effect : goal.returns-in-Some-clause-effect
-returns-in-Some-clause-effect c =
-    drop-effect (core_of c.args.self.now) (core_of c.pop.new.self) (core_of c.release.new.self) (val_in c.pop.new.self c.in-Some.w)
-    c.in-Some.ensures.core c.release.ensures.gone

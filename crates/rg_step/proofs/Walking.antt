@@ -1,0 +1,11 @@
+-- The walk along the code of a step: its turns, what a refusal leaves, what is made, and how it ends.
+pub mod Turn
+pub mod Walks
+pub mod Clear
+pub mod Stands
+pub mod High
+pub mod Leaves
+pub mod Ask
+pub mod Run
+pub mod Steps
+pub mod Outcomes
