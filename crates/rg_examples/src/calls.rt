@@ -4,7 +4,7 @@ ghost use Rattle.std.specs.Prelude.{◌≡◌, false};
 ghost use Rattle.rg_run.specs.Machine.{IsFresh};
 
 use rg_io::{Files, MemSink, MemSource};
-use rg_pace::{EveryN, Pacer};
+use rg_pace::EveryN;
 use rg_run::Machine;
 use rg_top::reggio;
 use std::alloc::Global;
@@ -45,14 +45,12 @@ pub fn streams_of(alloc: Global, bytes: &[u8]) -> Option<Streams> {
     Some(Streams { input, out, notes })
 }
 
-/// Calls the program with these words and pacers, and answers the number of its status.
-pub fn call_paced<F: Files>(
+/// Calls the program with these words and two `EveryN`, and answers the number of its status.
+pub fn call_on<F: Files>(
     alloc: Global,
     words: &[&str],
     files: &mut F,
     streams: &mut Streams,
-    count: &mut dyn Pacer,
-    trace: &mut dyn Pacer,
     machine: &mut Machine,
 ) -> u8
     requires fresh { IsFresh machine.old }
@@ -65,28 +63,11 @@ pub fn call_paced<F: Files>(
         &mut streams.input,
         &mut streams.out,
         &mut streams.notes,
-        count,
-        trace,
+        &mut EveryN::new(),
+        &mut EveryN::new(),
         machine,
     );
     status.number()
-}
-
-/// Calls the program with these words and two `EveryN`, and answers the number of its status.
-pub fn call_on<F: Files>(
-    alloc: Global,
-    words: &[&str],
-    files: &mut F,
-    streams: &mut Streams,
-    machine: &mut Machine,
-) -> u8
-    requires fresh { IsFresh machine.old }
-    requires stays { machine.old.stepper.slides ≡ false }
-{
-    let (mut count, mut trace) = (EveryN::new(), EveryN::new());
-    call_paced(
-        alloc, words, files, streams, &mut count, &mut trace, machine,
-    )
 }
 
 /// Calls the program with these words, this input and a machine of its own; None where no memory

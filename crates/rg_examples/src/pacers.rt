@@ -1,10 +1,11 @@
 //! A program that prints the same whatever its pacers say, with pacers that answer as they like
 //! (docs/architecture.md, "Tests").
 
-use crate::calls::{call_paced, streams_of};
+use crate::calls::streams_of;
 use rg_io::{StdFiles, take_all};
 use rg_pace::{Listed, Never, Pacer};
 use rg_run::Machine;
+use rg_top::reggio;
 use std::alloc::Global;
 use std::rt::Files;
 
@@ -34,18 +35,20 @@ fn prints_in(
     let mut files = StdFiles::new(rt);
     let mut streams = streams_of(rt.alloc(), &[])?;
     let mut machine = Machine::new(rt.alloc());
-    let status = call_paced(
+    let status = reggio(
         rt.alloc(),
         &["run", "every_second.rg"],
         &mut files,
-        &mut streams,
+        &mut streams.input,
+        &mut streams.out,
+        &mut streams.notes,
         count,
         trace,
         &mut machine,
     );
     let expected = take_all(rt.alloc(), &mut files, "every_second.out", MOST).ok()?;
     let counted = machine.numbers().collections == collections;
-    Some(status == 0 && counted && streams.out.taken() == expected.bytes())
+    Some(status.number() == 0 && counted && streams.out.taken() == expected.bytes())
 }
 
 /// With a list of 1,000 answers by turns the region is collected at each yes, and by the program.

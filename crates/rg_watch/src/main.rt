@@ -9,38 +9,27 @@ mod showing;
 mod watching;
 
 use crate::reading::accepted_in;
-use crate::watching::watch;
+use crate::watching::{Wanted, watch};
 use rg_input::Numbers;
 use rg_io::StdSource;
 use rg_lower::lower;
-use rg_pace::{EveryN, Pacer};
 use std::{env, io};
 
-/// What `reggio` tunes its pacers to.
-const EVERY: u64 = 1_000;
-
 /// Watches the program of a file.
-fn watch_file(rt: &HostRuntime, name: &str, steps: u64, every: u64) -> io::Result<()> {
+fn watch_file(rt: &HostRuntime, name: &str, wanted: Wanted) -> io::Result<()> {
     let Some(accepted) = accepted_in(rt, name) else {
         return println!(rt; "not accepted");
     };
     let Ok(code) = lower(rt.alloc(), &accepted) else {
         return println!(rt; "out of memory");
     };
-    let mut count = EveryN::new();
-    let mut trace = EveryN::new();
-    count.tune(EVERY);
-    trace.tune(EVERY);
     watch(
         rt,
         &accepted,
         &code,
-        steps,
-        every,
+        wanted,
         &mut Numbers::new(),
         &mut StdSource::new(rt.stdin()),
-        &mut count,
-        &mut trace,
     )
 }
 
@@ -59,5 +48,5 @@ fn main(rt: HostRuntime) -> io::Result<()> {
     let (Some(steps), Some(every)) = (steps, every) else {
         return println!(rt; "usage: FILE STEPS EVERY");
     };
-    watch_file(&rt, name.as_str(), steps, every)
+    watch_file(&rt, name.as_str(), Wanted { steps, every })
 }

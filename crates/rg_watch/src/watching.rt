@@ -13,7 +13,7 @@ use rg_check::Accepted;
 use rg_code::CodeList;
 use rg_input::Numbers;
 use rg_io::Source;
-use rg_pace::Pacer;
+use rg_pace::{EveryN, Pacer};
 use rg_step::Stepper;
 use std::io;
 
@@ -50,38 +50,53 @@ fn tell_numbers(rt: &impl Print, word: &str, n: EndNumbers, at: u64) -> io::Resu
     )
 }
 
+/// How many steps are made, and which of them are told: each so-manieth, or none for 0.
+#[derive(Clone, Copy)]
+pub struct Wanted {
+    pub steps: u64,
+    pub every: u64,
+}
+
+/// What `reggio` tunes its pacers to.
+const EVERY: u64 = 1_000;
+
+/// A pacer as `reggio` has two.
+fn tuned() -> EveryN {
+    let mut pacer = EveryN::new();
+    pacer.tune(EVERY);
+    pacer
+}
+
 /// Makes at most so many steps of an accepted program, and tells each so-manieth, and then what is
 /// held.
 pub fn watch<S: Source>(
     rt: &(impl Print + AllocGlobal),
     accepted: &Accepted,
     code: &CodeList,
-    steps: u64,
-    every: u64,
+    wanted: Wanted,
     input: &mut Numbers,
     source: &mut S,
-    count: &mut dyn Pacer,
-    trace: &mut dyn Pacer,
 ) -> io::Result<()>
     requires lowers { Lowers (program_of accepted.now.program) code.now }
     requires follows { Follows input.old (S.left source.old) }
 {
-    let program = accepted.program();
-    let manager = program.main_manager();
+    let manager = accepted.program().main_manager();
+    let (mut count, mut trace) = (tuned(), tuned());
     let mut followed = Followed::new(rt.alloc());
     let mut stepper = Stepper::new(rt.alloc());
     let Ok(()) = stepper.begin(rt.alloc(), code, manager) else {
         return println!(rt; "out of memory");
     };
-    'steps: for _ in 0..steps {
+    'steps: for _ in 0..wanted.steps {
         let at = stepper.at();
         let before = stepper.numbers();
-        let outcome = stepper.step(code, input, source, count, trace);
+        let outcome = stepper.step(code, input, source, &mut count, &mut trace);
         let made_region = manager_made(code, at);
         let Ok(()) = followed.follow(&stepper, made_region, before.made) else {
             return println!(rt; "out of memory");
         };
         let behind = stepper.numbers();
+        let every = wanted.every;
         if every > 0 && behind.steps > before.steps && behind.steps % every == 0 {
             tell_numbers(rt, "step", behind, line_at(code, at))?;
         }
