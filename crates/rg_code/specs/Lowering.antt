@@ -15,7 +15,7 @@ use Rattle.rg_rules.specs.Capabilities.{is_iso}
 use Rattle.rg_rules.specs.Types.{class_number, type_of, fields_of, field_place, field_type, method_named, method_result}
 use Rattle.rg_rules.specs.Environment.{same_variable}
 use Rattle.rg_rules.specs.Paths.{all_but_last, last_field}
-use Rattle.rg_rules.specs.Sides.{right_made}
+use Rattle.rg_rules.specs.Rights.{right_made}
 use Rattle.rg_code.specs.declared.op.Op.{Op}
 use Rattle.rg_code.specs.declared.op.Op.TheVariants as i
 use Rattle.rg_base.specs.declared.value.Word.{Word}

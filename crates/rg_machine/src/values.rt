@@ -1,16 +1,10 @@
 //! Instructions on the values of the stack (docs/architecture.md, "The machine").
 
-ghost use Rattle.std.specs.Prelude.{false, ◌≡◌, ◌∷◌, ℕ, not, neg_ℤ};
-ghost use Rattle.rg_base.specs.declared.value.Val.TheVariants.{Bool};
-ghost use Rattle.rg_rules.specs.Values.{as_bool, as_int, is_nil_value, number_value};
+ghost use Rattle.std.specs.Prelude.{◌≡◌, ◌∷◌, ℕ};
 ghost use Rattle.rg_stack.specs.Machine.{value_of_word};
-ghost use Rattle.rg_stack.specs.Effects.{on_two, on_top, pushed};
-ghost use Rattle.rg_stack.specs.Refusals.{Computes};
-ghost use Rattle.rg_machine.specs.Keeps.{Keeping};
-ghost use Rattle.rg_machine.specs.Makes.{Making};
-ghost use Rattle.rg_machine.specs.Core.{ActIs};
-ghost use Rattle.rg_machine.specs.Parts.{machine_in};
-ghost use Rattle.rg_machine.specs.Cores.{core_of};
+ghost use Rattle.rg_stack.specs.Effects.{on_two};
+ghost use Rattle.rg_code.specs.declared.op.Op.TheVariants as i;
+ghost use Rattle.rg_machine.specs.Acts.{Computing, Does};
 
 use crate::machine::Machine;
 use crate::next::Next;
@@ -23,11 +17,7 @@ use rg_tree::BinOp;
 #[inline]
 pub(crate) fn constant(p: &mut Machine, w: Word) -> Next
     requires { (s : ℕ) → w ≡ Word.Slot s → ⊥ }
-    ensures effect { (at : ℕ) →
-        ActIs (λ go stack x. go 0 (value_of_word w ∷ stack) x)
-        at (core_of p.old) (core_of p.new) result }
-    ensures keeps { Keeping Computes false (machine_in p.old) (machine_in p.new) result }
-    ensures high { Making Computes false p.old.heap p.new.heap result }
+    ensures { Computing (λ go stack x. go 0 (value_of_word w ∷ stack) x) p.old p.new result }
 {
     match p.push(w) {
         Ok(()) => Next::On,
@@ -38,9 +28,7 @@ pub(crate) fn constant(p: &mut Machine, w: Word) -> Next
 /// An operator on the two topmost values, whatever they are.
 #[inline(never)]
 fn operate_values(p: &mut Machine, op: BinOp) -> Next
-    ensures effect { (at : ℕ) → ActIs (on_two op) at (core_of p.old) (core_of p.new) result }
-    ensures keeps { Keeping Computes false (machine_in p.old) (machine_in p.new) result }
-    ensures high { Making Computes false p.old.heap p.new.heap result }
+    ensures { Computing (on_two op) p.old p.new result }
 {
     let Some(y) = p.pop() else {
         return Next::Lost;
@@ -59,9 +47,7 @@ fn operate_values(p: &mut Machine, op: BinOp) -> Next
 
 /// An operator on the two topmost values.
 pub(crate) fn binary(p: &mut Machine, op: BinOp) -> Next
-    ensures effect { (at : ℕ) → ActIs (on_two op) at (core_of p.old) (core_of p.new) result }
-    ensures keeps { Keeping Computes false (machine_in p.old) (machine_in p.new) result }
-    ensures high { Making Computes false p.old.heap p.new.heap result }
+    ensures { Computing (on_two op) p.old p.new result }
 {
     let Some((x, y)) = p.two_numbers() else {
         return operate_values(p, op);
@@ -78,11 +64,7 @@ pub(crate) fn binary(p: &mut Machine, op: BinOp) -> Next
 
 /// `neg`
 pub(crate) fn negate(p: &mut Machine) -> Next
-    ensures effect { (at : ℕ) → ActIs (λ go stack x. on_top stack (λ v rest.
-        pushed (number_value (neg_ℤ (as_int v))) go rest x))
-        at (core_of p.old) (core_of p.new) result }
-    ensures keeps { Keeping Computes false (machine_in p.old) (machine_in p.new) result }
-    ensures high { Making Computes false p.old.heap p.new.heap result }
+    ensures { Does i.Neg p.old p.new result }
 {
     let Some(w) = p.top() else {
         return Next::Lost;
@@ -98,10 +80,7 @@ pub(crate) fn negate(p: &mut Machine) -> Next
 
 /// `not`
 pub(crate) fn invert(p: &mut Machine) -> Next
-    ensures effect { (at : ℕ) → ActIs (λ go stack x. on_top stack (λ v rest.
-        go 0 (Bool (not (as_bool v)) ∷ rest) x)) at (core_of p.old) (core_of p.new) result }
-    ensures keeps { Keeping Computes false (machine_in p.old) (machine_in p.new) result }
-    ensures high { Making Computes false p.old.heap p.new.heap result }
+    ensures { Does i.Not p.old p.new result }
 {
     let Some(w) = p.top() else {
         return Next::Lost;
@@ -112,10 +91,7 @@ pub(crate) fn invert(p: &mut Machine) -> Next
 
 /// `isnil`
 pub(crate) fn test_nil(p: &mut Machine) -> Next
-    ensures effect { (at : ℕ) → ActIs (λ go stack x. on_top stack (λ v rest.
-        go 0 (Bool (is_nil_value v) ∷ rest) x)) at (core_of p.old) (core_of p.new) result }
-    ensures keeps { Keeping Computes false (machine_in p.old) (machine_in p.new) result }
-    ensures high { Making Computes false p.old.heap p.new.heap result }
+    ensures { Does i.IsNil p.old p.new result }
 {
     let Some(w) = p.top() else {
         return Next::Lost;

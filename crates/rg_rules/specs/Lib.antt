@@ -6,7 +6,6 @@ pub mod Headers
 pub mod Environment
 pub mod Paths
 pub mod Expressions
-pub mod Sides
 pub mod Rights
 pub mod Statements
 pub mod Names

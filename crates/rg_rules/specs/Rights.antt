@@ -1,17 +1,56 @@
--- The type of a right side or a call and the environment after it, or the first code (docs/language.md, "Judgements").
-use Rattle.std.specs.Prelude.{◌==◌, List, [], ◌∷◌, length, Option, Some, ok_or, Ok}
+-- Right sides: which statement has one, what it makes or calls, and its type with the environment after it, or the first code; calls likewise
+-- (docs/language.md, "Judgements").
+use Rattle.std.specs.Prelude.{◌==◌, List, [], ◌∷◌, length, Option, Some, None, ok_or, Ok}
 use Rattle.rg_base.specs.declared.words.Cap.{Cap}
 use Rattle.rg_base.specs.declared.words.Cap.TheVariants.{Mut, Tmp, Imm, Iso}
 use Rattle.rg_base.specs.declared.ty.Ty.{Ty}
 use Rattle.rg_base.specs.declared.ty.Ty.TheVariants.{Int, Bool, Ref}
 use Rattle.rg_base.specs.declared.fault.Code.TheVariants.{Unknown, Mismatch, Unavailable, Capability, Arity}
-use Rattle.rg_tree.specs.Tree.{Name, ref, Expr, Call, Right, value, new, new_tmp, new_iso, freeze, merge, read, more, result_of, Class}
+use Rattle.rg_tree.specs.Tree.{Name, ref, Expr, Call, Right, value, new, new_tmp, new_iso, freeze, merge, read, more, result_of, Class, StmtKind}
+use Rattle.rg_tree.specs.Tree.{declare, assign, call, swap, branch, while, enter, print, collect, return}
 use Rattle.rg_rules.specs.Answers.{◌>>=◌, ◌>>◌, test, Answer}
 use Rattle.rg_rules.specs.Capabilities.{below, iso_class}
 use Rattle.rg_rules.specs.Types.{good_type, method_named, param_types, method_result}
 use Rattle.rg_rules.specs.Environment.{Env, entry_of, is_ready, marked, gone}
 use Rattle.rg_rules.specs.Paths.{walk, follow}
 use Rattle.rg_rules.specs.Expressions.{Judged, against, judge_expr}
+
+-- the right side of a statement
+abbrev pub right_of : StmtKind → Option Right
+right_of (declare x t r) = Some r
+right_of (assign p r) = Some r
+right_of (call c) = None
+right_of (swap y p) = None
+right_of (branch e first other) = None
+right_of (while e body) = None
+right_of (enter p z body) = None
+right_of (print e) = None
+right_of collect = None
+right_of (return e) = None
+
+-- the class of which a right side makes an object by `new C`
+abbrev pub right_made : Right → Option Name
+right_made (value e) = None
+right_made (new x) = Some x
+right_made (new_tmp x) = None
+right_made (new_iso x m) = None
+right_made (freeze y) = None
+right_made (merge y) = None
+right_made read = None
+right_made more = None
+right_made (result_of c) = None
+
+-- the call that a right side makes
+abbrev pub right_call : Right → Option Call
+right_call (value e) = None
+right_call (new x) = None
+right_call (new_tmp x) = None
+right_call (new_iso x m) = None
+right_call (freeze y) = None
+right_call (merge y) = None
+right_call read = None
+right_call more = None
+right_call (result_of c) = Some c
 
 -- the type of a call's result, if its method has one, and the environment afterwards
 pub record Called : Type 0 where

@@ -15,8 +15,7 @@ use Rattle.rg_rules.specs.Environment.{Env, entry_of, visible, at_depth, with_va
 use Rattle.rg_rules.specs.Environment.{joined, covers}
 use Rattle.rg_rules.specs.Paths.{writable_field}
 use Rattle.rg_rules.specs.Expressions.{judge_expr}
-use Rattle.rg_rules.specs.Sides.{right_call}
-use Rattle.rg_rules.specs.Rights.{judge_call, judge_right}
+use Rattle.rg_rules.specs.Rights.{judge_call, judge_right, right_call}
 
 -- `let x: T = r;`
 abbrev pub judge_declare : List Class → Env → Name → Written → Right → Answer Env

@@ -2,6 +2,7 @@
 use Rattle.std.proofs.Common.{◌≡◌, ◌==◌, ℕ, zero, suc, ◌+◌, if◌then◌else◌, Bool as Truth, true, false, not, List, [], ◌∷◌, ◌++◌, length, slice_get}
 use Rattle.std.proofs.Common.{Option, Some, None, refl, sym, ap, ◌∙◌, subst, arith}
 use Rattle.std.proofs.lemmas.List.{append-nil}
+use Rattle.std.proofs.lemmas.Option.{same_Some}
 use Rattle.rg_base.specs.declared.ty.Ty.{Ty}
 use Rattle.rg_rules.specs.Capabilities.{is_iso}
 use Rattle.rg_code.specs.declared.op.Op.{Op}
@@ -28,7 +29,6 @@ use Rattle.rg_verify.specs.Blocks.{Given, sign, slot_type, bridge_class, exprs, 
 use Rattle.rg_verify.specs.Blocks.{paces, paced, stored, taken_by, taken, dropped, call_by, written_to, object_by, object, ended, Inner}
 use Rattle.rg_verify.specs.Blocks.{otherwise_told, jumped, tested, close_by, window, expr_by, open_by, kind_by, kind_told, starts_by, starts}
 use Rattle.rg_verify.specs.Blocks.{is_last, followed, block_by, statements, block_told, Piece, RaisedBlocksStand}
-use Rattle.rg_verify.proofs.Raises.{some_is}
 use Rattle.rg_verify.proofs.Pieces.{bind-some, then-some, test-some, equal, piece-nil, piece-then, piece-is, target_op, behind_op, left_op}
 use Rattle.rg_verify.proofs.Pieces.{target-is, close-is, open-is, walk-is, behind-is, mark-is, call-is, put-is, jump-is, end-is, leave-is, left-is}
 use Rattle.rg_verify.proofs.Pieces.{pace-is, path-is, sign-piece, making-piece, exprs-piece, cleared-piece}
@@ -63,13 +63,13 @@ module _ (g : Given) where
   call-as : (types : List Ty) (at : ℕ) (made c : Call) (fin end : ℕ) → ◌≡◌ {A = Option (Call × ℕ)} (Some (made, fin)) (Some (c, end))
       → Piece g.ops at (call_ops types at made) fin → Piece g.ops at (call_ops types at c) end
   call-as types at made c fin end e p =
-      let same : (made, fin) ≡ (c, end) = some_is _ _ e in
+      let same : (made, fin) ≡ (c, end) = same_Some _ _ e in
       subst (λ (x : Call × ℕ). Piece g.ops at (call_ops types at x.0) x.1) same p
 
   right-as : (types : List Ty) (at : ℕ) (made r : Right) (fin end : ℕ) → ◌≡◌ {A = Option (Right × ℕ)} (Some (made, fin)) (Some (r, end))
       → Piece g.ops at (right_ops types at made) fin → Piece g.ops at (right_ops types at r) end
   right-as types at made r fin end e p =
-      let same : (made, fin) ≡ (r, end) = some_is _ _ e in
+      let same : (made, fin) ≡ (r, end) = same_Some _ _ e in
       subst (λ (x : Right × ℕ). Piece g.ops at (right_ops types at x.0) x.1) same p
 
   called-piece : (types : List Ty) (at b d end : ℕ) (e : Raised) (args : List Raised) (c : Call) → Piece g.ops at (all_ops at (e ∷ [])) b
@@ -113,12 +113,12 @@ module _ (g : Given) where
   right-piece types at b end (e ∷ f ∷ es) r front h = absurd cc
 
   stays : (at end : ℕ) → Some at ≡ Some end → Piece g.ops at [] end
-  stays at end e = subst (λ (n : ℕ). Piece g.ops at [] n) (some_is _ _ e) (piece-nil g.ops at)
+  stays at end e = subst (λ (n : ℕ). Piece g.ops at [] n) (same_Some _ _ e) (piece-nil g.ops at)
 
   paced-piece : (r : Right) (at end : ℕ) → paced g.ops (paces r) at ≡ Some end → Piece g.ops at (pace_ops r) end
   paced-piece (new c) at end h =
       let (u, there, f) = then-some (sign pace_of g.ops at) (Some (suc at)) end h in
-      subst (λ (n : ℕ). Piece g.ops at (i.Pace ∷ []) n) (some_is _ _ f) (sign-piece g pace-is at u there)
+      subst (λ (n : ℕ). Piece g.ops at (i.Pace ∷ []) n) (same_Some _ _ f) (sign-piece g pace-is at u there)
   paced-piece _ at end h = stays at end h
 
   dropped-piece : (t : Option Ty) (at end : ℕ) → dropped g.ops t at ≡ Some end → Piece g.ops at (dropped_code t) end
@@ -126,7 +126,7 @@ module _ (g : Given) where
   dropped-piece (Some t) at end h =
       let (owns, there, h1) = bind-some (sign left_of g.ops at) _ end h in
       let (is, h2) = test-some (if is_iso t then owns else not owns) (Some (suc at)) end h1 in
-      subst (λ (n : ℕ). Piece g.ops at (dropped_code (Some t)) n) (some_is _ _ h2)
+      subst (λ (n : ℕ). Piece g.ops at (dropped_code (Some t)) n) (same_Some _ _ h2)
       (piece-is g.ops (left-code (is_iso t) owns is) (sign-piece g left-is at owns there))
 
   ended-piece : {of : Op → Option ℕ} {op : ℕ → Op} → ((o : Op) (x : ℕ) → of o ≡ Some x → o ≡ op x) → (line n at end : ℕ)
@@ -140,7 +140,7 @@ module _ (g : Given) where
       piece-is g.ops (ap (λ (m : ℕ). i.Mark m ∷ []) (equal l line l_is)) (sign-piece g mark-is at l le) in
       let close : Piece g.ops (suc at) (op n ∷ []) (suc (suc at)) =
       piece-is g.ops (ap (λ (m : ℕ). op m ∷ []) (equal s n s_is)) (sign-piece g tells (suc at) s se) in
-      subst (λ (m : ℕ). Piece g.ops at (i.Mark line ∷ op n ∷ []) m) (some_is _ _ h4) (piece-then g.ops mark close)
+      subst (λ (m : ℕ). Piece g.ops at (i.Mark line ∷ op n ∷ []) m) (same_Some _ _ h4) (piece-then g.ops mark close)
 
   -- Statements, whose mark stands at `start`
 
@@ -149,7 +149,7 @@ module _ (g : Given) where
     Stands k end = Piece g.ops start (kind_ops types start line k) end
 
     stands-as : (made k : Kind) (fin end : ℕ) → ◌≡◌ {A = Option (Kind × ℕ)} (Some (made, fin)) (Some (k, end)) → Stands made fin → Stands k end
-    stands-as made k fin end e p = let same : (made, fin) ≡ (k, end) = some_is _ _ e in subst (λ (x : Kind × ℕ). Stands x.0 x.1) same p
+    stands-as made k fin end e p = let same : (made, fin) ≡ (k, end) = same_Some _ _ e in subst (λ (x : Kind × ℕ). Stands x.0 x.1) same p
 
     mark-piece : Piece g.ops start (i.Mark line ∷ []) (suc start)
     mark-piece = sign-piece g mark-is start line marked
@@ -167,12 +167,12 @@ module _ (g : Given) where
     stored-code r fin s true k f h =
         let (t, te, h1) = bind-some (slot_type g.ops g.maps fin s) _ k h in
         ap (λ (n : ℕ). i.Mark line ∷ right_ops types (start + 1) r ++ i.Store n ∷ pace_ops r) (equal s (length types) f)
-        ∙ ap (kind_ops types start line) (some_is (declare t r) k h1)
+        ∙ ap (kind_ops types start line) (same_Some (declare t r) k h1)
     stored-code r fin s false k f h =
         let (is, h1) = test-some (not (is_iso (type_at types s))) _ k h in
         let no : is_iso (type_at types s) ≡ false = not-true (is_iso (type_at types s)) is in
         ap (λ (b : Truth). i.Mark line ∷ right_ops types (start + 1) r ++ (if b then i.Own s else i.Store s) ∷ pace_ops r) (sym no)
-        ∙ ap (kind_ops types start line) (some_is (assign s r) k h1)
+        ∙ ap (kind_ops types start line) (same_Some (assign s r) k h1)
 
     taken-code : (r : Right) (fin : ℕ) (t : Target) (k : Kind) → taken_by g types r fin t ≡ Some k
         → i.Mark line ∷ right_ops types (start + 1) r ++ target_op t ∷ pace_ops r ≡ kind_ops types start line k
@@ -180,7 +180,7 @@ module _ (g : Given) where
     taken-code r fin (target.Own s) k h =
         let (owns, h1) = test-some (is_iso (type_at types s)) _ k h in
         ap (λ (b : Truth). i.Mark line ∷ right_ops types (start + 1) r ++ (if b then i.Own s else i.Store s) ∷ pace_ops r) (sym owns)
-        ∙ ap (kind_ops types start line) (some_is (assign s r) k h1)
+        ∙ ap (kind_ops types start line) (same_Some (assign s r) k h1)
 
     taken-piece : (r : Right) (at end : ℕ) (k : Kind) → Piece g.ops (suc start) (right_ops types (start + 1) r) at
         → taken g types r at ≡ Some (k, end) → Stands k end
@@ -245,7 +245,7 @@ module _ (g : Given) where
           → Piece g.ops at (block_ops (types_inside types made.0) at made.1 ++ i.Mark line ∷ i.Leave (length types) ∷ []) fin
           → Piece g.ops at (block_ops (types_inside types w.0) at w.1 ++ i.Mark line ∷ i.Leave (length types) ∷ []) end
       window-as made w at fin end e p =
-          let same : (made, fin) ≡ (w, end) = some_is _ _ e in
+          let same : (made, fin) ≡ (w, end) = same_Some _ _ e in
           subst (λ (x : (ℕ × Block) × ℕ).
           Piece g.ops at (block_ops (types_inside types x.0.0) at x.0.1 ++ i.Mark line ∷ i.Leave (length types) ∷ []) x.1) same p
 
@@ -407,7 +407,7 @@ module _ (g : Given) where
       le ∙ ap Some (by l (sign closing_of g.ops (suc at)) h1)
     where
       by : (l : ℕ) (closes : Option (Unit {0})) → starts_by l closes ≡ Some line → l ≡ line
-      by l None h = some_is _ _ h
+      by l None h = same_Some _ _ h
       by l (Some closes) h = absurd cc
 
   abbrev Sound : Inner → Type 0
@@ -416,7 +416,7 @@ module _ (g : Given) where
   block-as : (types : List Ty) (at : ℕ) (made b : Block) (fin end : ℕ) → ◌≡◌ {A = Option (Block × ℕ)} (Some (made, fin)) (Some (b, end))
       → Piece g.ops at (block_ops types at made) fin → Piece g.ops at (block_ops types at b) end
   block-as types at made b fin end e p =
-      let same : (made, fin) ≡ (b, end) = some_is _ _ e in
+      let same : (made, fin) ≡ (b, end) = same_Some _ _ e in
       subst (λ (x : Block × ℕ). Piece g.ops at (block_ops types at x.0) x.1) same p
 
   followed-piece : (others : Inner) → Sound others → (types : List Ty) (at line mid : ℕ) (k : Kind) (last : Truth) (b : Block) (end : ℕ)

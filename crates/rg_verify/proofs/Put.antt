@@ -56,7 +56,6 @@ puts-tree t u v m hs news end n x result put h items r p e not_path =
 -- Over a tree that was taken
 
 module _ (t u : Tables) (m : Truth) (now : List Held) where
-
   pub took-there : (items : List Item) (n : ℕ) → TakesRow t u m now items (Ok n) → n < length u.exprs
   took-there [] n h = absurd h
   took-there (waits j a to ∷ below) n h = absurd h

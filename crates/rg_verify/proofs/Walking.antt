@@ -178,7 +178,6 @@ walk-refused t u m ops at refusal.NotExpression h = refuses t u m ops at (raised
 
 module _ (t u v : Tables) (m : Truth) (ops : List Op) (at end : ℕ) (stack : Vec Held Global)
     (h : Walks t u m (walk ops at []) (Ok (stack, end))) where
-
   pub rows-refused : (e : Refusal) → ((items : List Item) → Piled u m stack.items items → MakesRows u v m (trees items []) (Err e))
       → RaisesAll t v m ops at (Err e)
   rows-refused refusal.Memory k = tt

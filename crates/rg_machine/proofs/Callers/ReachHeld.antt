@@ -1,6 +1,6 @@
 -- What is reached in the state of the machine that never frees is kept by a collection of the machine's own heap that lets no root go.
 use Rattle.std.proofs.Common.{◌≡◌, inl, inr, ℕ, zero, suc, List, [], Option, Some, None, option_map, option_and_then, option_to_list, slice_get}
-use Rattle.std.proofs.Common.{reverse, ◌-◌, unwrap_or, true, refl, sym, ap, ◌∙◌, subst}
+use Rattle.std.proofs.Common.{reverse, unwrap_or, true, refl, sym, ap, ◌∙◌, subst}
 use Rattle.std.proofs.lemmas.Option.{none-some, same_Some}
 use Rattle.rg_base.specs.declared.object.Label.{Label}
 use Rattle.rg_base.specs.declared.object.Label.TheVariants.{Region, Temp, Frozen}

@@ -1,6 +1,6 @@
 -- What stays where regions go with all beneath them, and maybe some cells besides: cells and records are as they were, and windows keep their
 -- regions.
-use Rattle.std.proofs.Common.{◌≡◌, ℕ, Bool as Truth, true, false, List, Option, Some, None, length, option_map, sym, ap, ◌∙◌, subst}
+use Rattle.std.proofs.Common.{◌≡◌, ℕ, Bool as Truth, true, false, List, Option, Some, None, length, option_map, refl, sym, ap, ◌∙◌, subst}
 use Rattle.std.proofs.lemmas.Bool.{false≢true}
 use Rattle.std.proofs.lemmas.Option.{none-some, same_Some}
 use Rattle.rg_base.specs.declared.object.Label.{Label}

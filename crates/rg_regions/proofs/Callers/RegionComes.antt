@@ -257,11 +257,14 @@ module _ (c : Table) (t : RegionTable) (cells : Table) (regions : RegionTable) (
           elim (lies_back p s l) [
             | inl e ↦ elim (lies_back p2 s2 l2) [
               | inl e2 ↦ (e.1 ∙ sym e2.1, w.once k k2 q to to2 (field_new s k (Slot to) e.1 f) (field_new s2 k2 (Slot to2) e2.1 f2) o o2)
-              | inr x2 ↦ absurd (alone_old q k to p2 s2 k2 to2 (field_new s k (Slot to) e.1 f) o d2 x2.2 (near.field_back s2 k2 (Slot to2) x2.1 f2) o2)
+              | inr x2 ↦
+                  absurd (alone_old q k to p2 s2 k2 to2 (field_new s k (Slot to) e.1 f) o d2 x2.2 (near.field_back s2 k2 (Slot to2) x2.1 f2) o2)
             ]
             | inr x ↦ elim (lies_back p2 s2 l2) [
               | inl e2 ↦ absurd (alone_old q k2 to2 p s k to (field_new s2 k2 (Slot to2) e2.1 f2) o2 d x.2 (near.field_back s k (Slot to) x.1 f) o)
-              | inr x2 ↦ g.one_in q p s k to p2 s2 k2 to2 d x.2 (near.field_back s k (Slot to) x.1 f) o d2 x2.2 (near.field_back s2 k2 (Slot to2) x2.1 f2) o2
+              | inr x2 ↦
+                  g.one_in q p s k to p2 s2 k2 to2 d x.2 (near.field_back s k (Slot to) x.1 f) o d2 x2.2
+                  (near.field_back s2 k2 (Slot to2) x2.1 f2) o2
             ]
           ]
     ];

@@ -6,7 +6,7 @@ use Rattle.rg_base.specs.declared.words.Manager.{Manager}
 use Rattle.rg_base.specs.declared.words.Manager.TheVariants.{Arena, Count, Trace}
 use Rattle.rg_tree.specs.Tree.{Right, stmt, StmtKind, Class, Tree}
 use Rattle.rg_rules.specs.Types.{class_named}
-use Rattle.rg_rules.specs.Sides.{right_of, right_made}
+use Rattle.rg_rules.specs.Rights.{right_of, right_made}
 use Rattle.rg_rules.specs.Items.{Item, Do, EndAt, LeaveAt, Back}
 use Rattle.rg_rules.specs.State.{State, active}
 use Rattle.rg_rules.specs.Steps.{Stepped, Went, Trapped, step_item}

@@ -1,7 +1,7 @@
 -- Which steps ask for the input (docs/language.md, "Steps").
 use Rattle.std.specs.Prelude.{Bool as Truth, true, false, List, [], ◌∷◌, unwrap_or, option_map}
 use Rattle.rg_tree.specs.Tree.{stmt, StmtKind, Right, value, new as makes, new_tmp, new_iso, freeze, merge, read, more, result_of}
-use Rattle.rg_rules.specs.Sides.{right_of}
+use Rattle.rg_rules.specs.Rights.{right_of}
 use Rattle.rg_rules.specs.Items.{Item, Do, EndAt, LeaveAt, Back}
 
 -- whether a right side asks for the input

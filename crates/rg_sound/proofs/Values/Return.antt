@@ -12,7 +12,7 @@ use Rattle.rg_rules.specs.Capabilities.{below}
 use Rattle.rg_rules.specs.Types.{type_of}
 use Rattle.rg_rules.specs.Environment.{Env, empty}
 use Rattle.rg_rules.specs.Expressions.{Judged, judge_expr}
-use Rattle.rg_rules.specs.Rights.{Called, judge_call, judge_right}
+use Rattle.rg_rules.specs.Rights.{Called, judge_call, judge_right, right_call}
 use Rattle.rg_rules.specs.Statements.{judge_declare, judge_assign}
 use Rattle.rg_rules.specs.Items.{Item, Do, EndAt, Back, items_of}
 use Rattle.rg_rules.specs.Bodies.{Body, main_body, method_body, method_end}
@@ -26,7 +26,6 @@ use Rattle.rg_rules.proofs.Expression.{against-ok, against-below, judge_expr-bel
 use Rattle.rg_rules.proofs.Step.{stepped-went, computed-ok}
 use Rattle.rg_sound.specs.OpenRegions.{AllOwned}
 use Rattle.rg_sound.specs.Frames.{leaves, Named, FramesFit, Running, Beneath, WaitsEmpty, Calls, with_target}
-use Rattle.rg_rules.specs.Sides.{right_call}
 use Rattle.rg_sound.specs.Values.{Meets}
 use Rattle.rg_sound.specs.Fit.{Fit}
 use Rattle.rg_sound.specs.Laws.{StaysFit, ReturnKeeps, BackKeeps}

@@ -20,7 +20,7 @@ use Rattle.rg_rules.specs.Capabilities.{below, stays_at_depth}
 use Rattle.rg_rules.specs.Items.{Item, Do}
 use Rattle.rg_rules.specs.Bodies.{Body, method_body}
 use Rattle.rg_rules.specs.Answers.{at_line}
-use Rattle.rg_rules.specs.Rights.{Called, judge_call, judge_right}
+use Rattle.rg_rules.specs.Rights.{Called, judge_call, judge_right, right_call}
 use Rattle.rg_rules.specs.Statements.{judge_block, judge_kind, judge_assign}
 use Rattle.rg_rules.specs.State.{Local, Target, Declares, Assigns, Drops, Frame, Window, State}
 use Rattle.rg_rules.specs.Owners.{leads_into}
@@ -40,7 +40,6 @@ use Rattle.rg_sound.proofs.Values.Right.{OwnsFreshAs}
 use Rattle.rg_sound.proofs.Values.Deliver.{waits-doing, pop-leads, elsewhere-leads, call-result}
 use Rattle.rg_sound.proofs.Frames.Body.{method_end-free}
 use Rattle.rg_sound.proofs.Values.Return.{result-below}
-use Rattle.rg_rules.specs.Sides.{right_call}
 use Rattle.rg_sound.specs.Frames.{Entered, Waits, WaitsEmpty, Beneath, Running, with_target, assigned_call, call_of}
 use Rattle.rg_code.specs.Lowering.{assign_op, lowered}
 use Rattle.rg_code.specs.Places.{scope_of}

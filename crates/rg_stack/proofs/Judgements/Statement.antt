@@ -25,7 +25,7 @@ use Rattle.rg_rules.specs.Paths.{walk_receiver, writable_field, all_but_last, la
 use Rattle.rg_rules.specs.Items.{Item, Do}
 use Rattle.rg_rules.specs.Bodies.{gives_result, method_body}
 use Rattle.rg_rules.specs.Expressions.{Judged, judge_expr}
-use Rattle.rg_rules.specs.Rights.{Called as CallJudged, judge_call, judge_right}
+use Rattle.rg_rules.specs.Rights.{Called as CallJudged, judge_call, judge_right, right_call}
 use Rattle.rg_rules.specs.Statements.{judge_test, judge_block, judge_kind, is_call, judge_assign, judge_swap, judge_enter, swapped_field}
 use Rattle.rg_rules.specs.State.{Local, Target, Declares, Assigns, Drops, place_in}
 use Rattle.rg_rules.specs.Evaluation.{object_at, path_value, value_of, uses, cleared}
@@ -39,7 +39,6 @@ use Rattle.rg_sound.proofs.Owners.Data.{Data}
 use Rattle.rg_sound.proofs.Values.Right.{OwnsFreshAs, below-iso, ready-not_lent}
 use Rattle.rg_sound.proofs.Values.Value.{seen-meets, below-meets}
 use Rattle.rg_sound.proofs.Values.Local.{fresh-as}
-use Rattle.rg_rules.specs.Sides.{right_call}
 use Rattle.rg_sound.specs.Frames.{Named, Running, with_target, assigned_call, call_of}
 use Rattle.rg_code.specs.Code.{Code}
 use Rattle.rg_code.specs.Lowering.{slot_of, type_in, type_along, used_slots, held_number, lowered, target_class}

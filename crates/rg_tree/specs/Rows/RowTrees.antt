@@ -18,10 +18,10 @@ use Rattle.rg_tree.specs.declared.rows.StmtKind.TheVariants as kind_row
 use Rattle.rg_tree.specs.declared.rows.StmtRow.{StmtRow}
 use Rattle.rg_tree.specs.declared.rows.ExprRow.{ExprRow}
 use Rattle.rg_tree.specs.declared.rows.ExprRow.TheVariants as expr_row
-use Rattle.rg_tree.specs.Tree.{Variable, Path, Ty, int, bool, ref, Expr, number, boolean, nil, path, is_nil, neg, not, binary, Call, Right, value, new}
-use Rattle.rg_tree.specs.Tree.{new_tmp, new_iso, freeze, merge, read, more, result_of, Stmt, stmt, StmtKind, declare, assign, call, swap, branch, while, enter}
-use Rattle.rg_tree.specs.Tree.{print, collect, return, Else, no_else, otherwise, Block, empty, then, Param, Method as MethodTree, Member, field, method}
-use Rattle.rg_tree.specs.Tree.{Class, Tree}
+use Rattle.rg_tree.specs.Tree.{Variable, Path, Ty, int, bool, ref, Expr, number, boolean, nil, path, is_nil, neg, not, binary, Call, Right, value}
+use Rattle.rg_tree.specs.Tree.{new, new_tmp, new_iso, freeze, merge, read, more, result_of, Stmt, stmt, StmtKind, declare, assign, call, swap}
+use Rattle.rg_tree.specs.Tree.{branch, while, enter, print, collect, return, Else, no_else, otherwise, Block, empty, then, Param}
+use Rattle.rg_tree.specs.Tree.{Method as MethodTree, Member, field, method, Class, Tree}
 use Rattle.rg_tree.specs.Rows.Tables.{Tables, name_at, numbers_in}
 
 -- the trees of the rows of a table, behind those that are done: each is made over the trees of the rows before it

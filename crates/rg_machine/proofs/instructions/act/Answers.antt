@@ -1,87 +1,67 @@
 use Rattle.rg_machine.proofs.instructions.act.Goals as goal
 
 pub returns-in-Bool : goal.returns-in-Bool
-returns-in-Bool c =
-    let p = c.constant.ensures in rw c.in-Bool.is (record { effect = p.effect c.args.at; keeps = p.keeps; high = p.high })
+returns-in-Bool c = rw c.in-Bool.is (c.constant.ensures c.args.at)
 
 pub returns-in-Nil : goal.returns-in-Nil
-returns-in-Nil c =
-    let p = c.constant-in-Nil.ensures in rw c.in-Nil.is (record { effect = p.effect c.args.at; keeps = p.keeps; high = p.high })
+returns-in-Nil c = rw c.in-Nil.is (c.constant-in-Nil.ensures c.args.at)
 
 pub returns-in-Load : goal.returns-in-Load
-returns-in-Load c =
-    let p = c.load.ensures in rw c.in-Load.is (record { effect = p.effect c.args.at; keeps = p.keeps; high = p.high })
+returns-in-Load c = rw c.in-Load.is (c.load.ensures c.args.at)
 
 pub returns-in-Clear : goal.returns-in-Clear
-returns-in-Clear c =
-    let p = c.clear.ensures in rw c.in-Clear.is (record { effect = p.effect c.args.at; keeps = p.keeps; high = p.high })
+returns-in-Clear c = rw c.in-Clear.is (c.clear.ensures c.args.at)
 
 pub returns-in-Store : goal.returns-in-Store
-returns-in-Store c =
-    let p = c.store.ensures in rw c.in-Store.is (record { effect = p.effect c.args.at; keeps = p.keeps; high = p.high })
+returns-in-Store c = rw c.in-Store.is (c.store.ensures c.args.at)
 
 pub returns-in-Own : goal.returns-in-Own
 returns-in-Own c = rw c.in-Own.is (c.own.ensures c.args.at)
 
 pub returns-in-Field : goal.returns-in-Field
-returns-in-Field c =
-    let p = c.field.ensures in rw c.in-Field.is (record { effect = p.effect c.args.at; keeps = p.keeps; high = p.high })
+returns-in-Field c = rw c.in-Field.is (c.field.ensures c.args.at)
 
 pub returns-in-IsNil : goal.returns-in-IsNil
-returns-in-IsNil c =
-    let p = c.test_nil.ensures in rw c.in-IsNil.is (record { effect = p.effect c.args.at; keeps = p.keeps; high = p.high })
+returns-in-IsNil c = rw c.in-IsNil.is (c.test_nil.ensures c.args.at)
 
 pub returns-in-Neg : goal.returns-in-Neg
-returns-in-Neg c =
-    let p = c.negate.ensures in rw c.in-Neg.is (record { effect = p.effect c.args.at; keeps = p.keeps; high = p.high })
+returns-in-Neg c = rw c.in-Neg.is (c.negate.ensures c.args.at)
 
 pub returns-in-Add : goal.returns-in-Add
-returns-in-Add c =
-    let p = c.binary.ensures in rw c.in-Add.is (record { effect = p.effect c.args.at; keeps = p.keeps; high = p.high })
+returns-in-Add c = rw c.in-Add.is (c.binary.ensures c.args.at)
 
 pub returns-in-Sub : goal.returns-in-Sub
-returns-in-Sub c =
-    let p = c.binary-in-Sub.ensures in rw c.in-Sub.is (record { effect = p.effect c.args.at; keeps = p.keeps; high = p.high })
+returns-in-Sub c = rw c.in-Sub.is (c.binary-in-Sub.ensures c.args.at)
 
 pub returns-in-Mul : goal.returns-in-Mul
-returns-in-Mul c =
-    let p = c.binary-in-Mul.ensures in rw c.in-Mul.is (record { effect = p.effect c.args.at; keeps = p.keeps; high = p.high })
+returns-in-Mul c = rw c.in-Mul.is (c.binary-in-Mul.ensures c.args.at)
 
 pub returns-in-Div : goal.returns-in-Div
-returns-in-Div c =
-    let p = c.binary-in-Div.ensures in rw c.in-Div.is (record { effect = p.effect c.args.at; keeps = p.keeps; high = p.high })
+returns-in-Div c = rw c.in-Div.is (c.binary-in-Div.ensures c.args.at)
 
 pub returns-in-Rem : goal.returns-in-Rem
-returns-in-Rem c =
-    let p = c.binary-in-Rem.ensures in rw c.in-Rem.is (record { effect = p.effect c.args.at; keeps = p.keeps; high = p.high })
+returns-in-Rem c = rw c.in-Rem.is (c.binary-in-Rem.ensures c.args.at)
 
 pub returns-in-Eq : goal.returns-in-Eq
-returns-in-Eq c =
-    let p = c.binary-in-Eq.ensures in rw c.in-Eq.is (record { effect = p.effect c.args.at; keeps = p.keeps; high = p.high })
+returns-in-Eq c = rw c.in-Eq.is (c.binary-in-Eq.ensures c.args.at)
 
 pub returns-in-Ne : goal.returns-in-Ne
-returns-in-Ne c =
-    let p = c.binary-in-Ne.ensures in rw c.in-Ne.is (record { effect = p.effect c.args.at; keeps = p.keeps; high = p.high })
+returns-in-Ne c = rw c.in-Ne.is (c.binary-in-Ne.ensures c.args.at)
 
 pub returns-in-Lt : goal.returns-in-Lt
-returns-in-Lt c =
-    let p = c.binary-in-Lt.ensures in rw c.in-Lt.is (record { effect = p.effect c.args.at; keeps = p.keeps; high = p.high })
+returns-in-Lt c = rw c.in-Lt.is (c.binary-in-Lt.ensures c.args.at)
 
 pub returns-in-Le : goal.returns-in-Le
-returns-in-Le c =
-    let p = c.binary-in-Le.ensures in rw c.in-Le.is (record { effect = p.effect c.args.at; keeps = p.keeps; high = p.high })
+returns-in-Le c = rw c.in-Le.is (c.binary-in-Le.ensures c.args.at)
 
 pub returns-in-Gt : goal.returns-in-Gt
-returns-in-Gt c =
-    let p = c.binary-in-Gt.ensures in rw c.in-Gt.is (record { effect = p.effect c.args.at; keeps = p.keeps; high = p.high })
+returns-in-Gt c = rw c.in-Gt.is (c.binary-in-Gt.ensures c.args.at)
 
 pub returns-in-Ge : goal.returns-in-Ge
-returns-in-Ge c =
-    let p = c.binary-in-Ge.ensures in rw c.in-Ge.is (record { effect = p.effect c.args.at; keeps = p.keeps; high = p.high })
+returns-in-Ge c = rw c.in-Ge.is (c.binary-in-Ge.ensures c.args.at)
 
 pub returns-in-Not : goal.returns-in-Not
-returns-in-Not c =
-    let p = c.invert.ensures in rw c.in-Not.is (record { effect = p.effect c.args.at; keeps = p.keeps; high = p.high })
+returns-in-Not c = rw c.in-Not.is (c.invert.ensures c.args.at)
 
 pub returns-in-JumpFalse : goal.returns-in-JumpFalse
 returns-in-JumpFalse c = rw c.in-JumpFalse.is (c.jump_false.ensures c.args.at)
@@ -93,8 +73,7 @@ pub returns-in-Or : goal.returns-in-Or
 returns-in-Or c = rw c.in-Or.is (c.or.ensures c.args.at)
 
 pub returns-in-Check : goal.returns-in-Check
-returns-in-Check c =
-    let p = c.check.ensures in rw c.in-Check.is (record { effect = p.effect c.args.at; keeps = p.keeps; high = p.high })
+returns-in-Check c = rw c.in-Check.is (c.check.ensures c.args.at)
 
 pub returns-in-New : goal.returns-in-New
 returns-in-New c = rw c.in-New.is (c.new_object.ensures c.args.at)
@@ -106,8 +85,7 @@ pub returns-in-NewIso : goal.returns-in-NewIso
 returns-in-NewIso c = rw c.in-NewIso.is (c.new_iso.ensures c.args.at)
 
 pub returns-in-Put : goal.returns-in-Put
-returns-in-Put c =
-    let p = c.put.ensures in rw c.in-Put.is (record { effect = p.effect c.args.at; keeps = p.keeps; high = p.high })
+returns-in-Put c = rw c.in-Put.is (c.put.ensures c.args.at)
 
 pub returns-in-Swap : goal.returns-in-Swap
 returns-in-Swap c = rw c.in-Swap.is (c.swap.ensures c.args.at)
@@ -125,8 +103,7 @@ pub returns-in-More : goal.returns-in-More
 returns-in-More c = rw c.in-More.is (c.ask_more.ensures c.args.at)
 
 pub returns-in-Call : goal.returns-in-Call
-returns-in-Call c =
-    let p = c.call.ensures in rw c.in-Call.is (record { effect = p.effect; keeps = p.keeps; high = p.high })
+returns-in-Call c = rw c.in-Call.is c.call.ensures
 
 pub returns-in-Ret : goal.returns-in-Ret
 returns-in-Ret c = rw c.in-Ret.is (c.ret.ensures c.args.at)
@@ -147,8 +124,7 @@ pub returns-in-End : goal.returns-in-End
 returns-in-End c = rw c.in-End.is (c.end.ensures c.args.at)
 
 pub returns-in-Print : goal.returns-in-Print
-returns-in-Print c =
-    let p = c.print.ensures in rw c.in-Print.is (record { effect = p.effect c.args.at; keeps = p.keeps; high = p.high })
+returns-in-Print c = rw c.in-Print.is (c.print.ensures c.args.at)
 
 pub returns-in-Pop : goal.returns-in-Pop
 returns-in-Pop c = rw c.in-Pop.is (c.pop_top.ensures c.args.at)

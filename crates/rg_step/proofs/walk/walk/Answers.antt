@@ -259,6 +259,11 @@ returns-in-More c =
           c.in-More.ensures.keeps.1 c.in-More.ensures.high (i.high start h);
     }
 
-pub returns-clause-walk : goal.returns-clause-walk
-returns-clause-walk c input = c.loop-at.invariant.walks input
-    ∙ past-code c.args.code.now c.loop-at.at (core_of c.loop-at.p) input (omega (arith, c.loop-at-test.false, c.len.ensures))
+pub returns : goal.returns
+returns c = record {
+  walk = λ input. c.loop-at.invariant.walks input
+      ∙ past-code c.args.code.now c.loop-at.at (core_of c.loop-at.p) input (omega (arith, c.loop-at-test.false, c.len.ensures));
+  leaves = λ start asks h. tt;
+  backs = tt;
+  high = λ start h. tt;
+}

@@ -23,29 +23,12 @@ pub invariant_of-self : goal.invariant_of-self
 invariant_of-self c =
     stands-taken (the_view c.self.inside) c.clear_word.new.self c.args.k c.clear_word.ensures c.self.invariant.0 c.self.invariant.1
 
-pub release-requires-clause-leads : goal.release-requires-clause-leads
-release-requires-clause-leads c =
-    (asked-taken (the_view c.self.inside) c.is_forest.ensures.serials c.is_forest.ensures.forest c.self.invariant.0 c.args.k c.nth_word-w.result
-    c.nth_word-w.ensures (subst (λ p. owned_once (machine_in p) ≡ true) (sym c.self.view_is) c.requires.once)
-    (subst (λ p. AllLoose (core_of p)) (sym c.self.view_is) c.requires.stack) c.clear_word.new.self c.clear_word.ensures).leads
-
-pub release-requires-clause-once : goal.release-requires-clause-once
-release-requires-clause-once c =
-    (asked-taken (the_view c.self.inside) c.is_forest.ensures.serials c.is_forest.ensures.forest c.self.invariant.0 c.args.k c.nth_word-w.result
-    c.nth_word-w.ensures (subst (λ p. owned_once (machine_in p) ≡ true) (sym c.self.view_is) c.requires.once)
-    (subst (λ p. AllLoose (core_of p)) (sym c.self.view_is) c.requires.stack) c.clear_word.new.self c.clear_word.ensures).once
-
-pub release-requires-clause-loose : goal.release-requires-clause-loose
-release-requires-clause-loose c =
-    (asked-taken (the_view c.self.inside) c.is_forest.ensures.serials c.is_forest.ensures.forest c.self.invariant.0 c.args.k c.nth_word-w.result
-    c.nth_word-w.ensures (subst (λ p. owned_once (machine_in p) ≡ true) (sym c.self.view_is) c.requires.once)
-    (subst (λ p. AllLoose (core_of p)) (sym c.self.view_is) c.requires.stack) c.clear_word.new.self c.clear_word.ensures).free
-
-pub release-requires-clause-stack : goal.release-requires-clause-stack
-release-requires-clause-stack c =
-    (asked-taken (the_view c.self.inside) c.is_forest.ensures.serials c.is_forest.ensures.forest c.self.invariant.0 c.args.k c.nth_word-w.result
-    c.nth_word-w.ensures (subst (λ p. owned_once (machine_in p) ≡ true) (sym c.self.view_is) c.requires.once)
-    (subst (λ p. AllLoose (core_of p)) (sym c.self.view_is) c.requires.stack) c.clear_word.new.self c.clear_word.ensures).apart
+pub release-requires : goal.release-requires
+release-requires c =
+    let a = asked-taken (the_view c.self.inside) c.is_forest.ensures.serials c.is_forest.ensures.forest c.self.invariant.0 c.args.k
+    c.nth_word-w.result c.nth_word-w.ensures (subst (λ p. owned_once (machine_in p) ≡ true) (sym c.self.view_is) c.requires.once)
+    (subst (λ p. AllLoose (core_of p)) (sym c.self.view_is) c.requires.stack) c.clear_word.new.self c.clear_word.ensures in
+    record { leads = a.leads; once = a.once; loose = a.free; stack = a.apart }
 
 pub returns-clause-gone : goal.returns-clause-gone
 returns-clause-gone c =

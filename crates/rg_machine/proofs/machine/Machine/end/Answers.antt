@@ -1,3 +1,4 @@
+use Rattle.std.proofs.Common.{rules}
 use Rattle.rg_machine.specs.Cores.{core_of}
 use Rattle.rg_machine.proofs.End.Nil.{end-effect}
 use Rattle.rg_machine.proofs.machine.Machine.end.Goals as goal

@@ -1,4 +1,4 @@
-use Rattle.std.proofs.Common.{◌≡◌, ◌≤◌, ◌<◌, length, refl, ◌∙◌, sym, ap, subst, arith}
+use Rattle.std.proofs.Common.{◌≡◌, ◌≤◌, ◌<◌, length, refl, ◌∙◌, sym, ap, subst, arith, rules}
 use Rattle.rg_code.specs.Code.{empty}
 use Rattle.rg_code.specs.declared.op.Op.TheVariants as i
 use Rattle.rg_frames.specs.Layers.{layers}
@@ -105,8 +105,7 @@ returns-else-open_count-ge2 c at =
           subst (λ (x : Parts). free_act empty at (i.Leave c.args.s) go (core_of c.args.self.now).stack (work_of (core_of c.args.self.now) input)
           ≡ go 0 (core_of x).stack (work_of (core_of x) input)) c.self-2.view_is
           (subst (λ (x : Parts). free_act empty at (i.Leave c.args.s) go (core_of x).stack (work_of (core_of x) input)
-          ≡ go 0 (core_of mid).stack (work_of (core_of mid) input)) c.self.view_is (leave-alone p mid c.args.s e few at go input))
-      ;
+          ≡ go 0 (core_of mid).stack (work_of (core_of mid) input)) c.self.view_is (leave-alone p mid c.args.s e few at go input));
       keeps = search rules;
       high = search rules;
     }

@@ -1,3 +1,4 @@
+use Rattle.std.proofs.Common.{rules}
 use Rattle.rg_machine.specs.Parts.{val_in}
 use Rattle.rg_machine.specs.Cores.{core_of}
 use Rattle.rg_machine.proofs.Release.Given.{own-effect, own-given, own-keeps, own-loose}
