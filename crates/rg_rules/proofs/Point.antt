@@ -20,18 +20,12 @@ advance (inside side p) = inside side (advance p)
 
 -- what doesn't begin with a statement
 abbrev pub BeginsFree : List Item → Type 0
-BeginsFree [] = Unit {0}
 BeginsFree (Do s ∷ after) = ⊥
-BeginsFree (EndAt k ∷ after) = Unit {0}
-BeginsFree (LeaveAt k ∷ after) = Unit {0}
-BeginsFree (Back ∷ after) = Unit {0}
+BeginsFree _ = Unit {0}
 
 free-not_do : {B : Type 0} (after : List Item) (t : Stmt) (mine : List Item) → BeginsFree after → after ≡ Do t ∷ mine → B
-free-not_do [] t mine f e = grind arith
 free-not_do (Do s ∷ after) t mine f e = absurd f
-free-not_do (EndAt k ∷ after) t mine f e = grind arith
-free-not_do (LeaveAt k ∷ after) t mine f e = grind arith
-free-not_do (Back ∷ after) t mine f e = grind arith
+free-not_do _ t mine f e = grind arith
 
 -- what a chain of options that gave a value says of its parts
 pub and_then-some : {A B : Type 0} (o : Option A) (go : A → Option B) (b : B) →

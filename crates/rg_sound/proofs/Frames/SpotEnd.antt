@@ -26,9 +26,7 @@ use Rattle.rg_sound.proofs.Frames.Spot.{inner-spot}
 -- a statement isn't the end of anything
 abbrev pub IsEnd : Item → Type 0
 IsEnd (Do s) = ⊥
-IsEnd (EndAt k) = Unit {0}
-IsEnd (LeaveAt k) = Unit {0}
-IsEnd Back = Unit {0}
+IsEnd _ = Unit {0}
 
 -- at the end of a block of an `if` or a `while` there are the variables behind it, and maybe more
 pub record EndsAt (k : ℕ) (env : Env) (enters : List Path) (s : Spot) : Type 0 where
@@ -53,10 +51,9 @@ pub record LeavesAt (k : ℕ) (env : Env) (enters : List Path) (s : Spot) : Type
 
 -- how the end of a block leads behind it
 abbrev pub Closes : Item → Env → (enters : List Path) → Spot → Type 0
-Closes (Do u) env enters s = ⊥
 Closes (EndAt k) env enters s = EndsAt k env enters s
 Closes (LeaveAt k) env enters s = LeavesAt k env enters s
-Closes Back env enters s = ⊥
+Closes _ env enters s = ⊥
 
 -- the end of an inner block, with the spot behind it
 pub record EndsInner (classes : List Class) (result : Option Ty) (env : Env) (b : Block) (after : List Item) (round : List Path) (s : Spot) (i : Item)
