@@ -2,12 +2,12 @@
 use Rattle.std.proofs.Common.{◌≡◌, refl, sym, ◌∙◌, ap, ℕ, List, [], ◌∷◌, ◌++◌, length, Option, Some, None, option_and_then, Ok, Err, arith}
 use Rattle.std.specs.Result.{result_ok}
 use Rattle.rg_base.specs.declared.ty.Ty.{Ty}
-use Rattle.rg_tree.specs.Tree.{no_else, otherwise, Path, Stmt, stmt, StmtKind, declare, assign, call, swap, branch, while, enter, print, collect}
-use Rattle.rg_tree.specs.Tree.{return, Block, empty as none, then as next, Class}
+use Rattle.rg_tree.specs.Tree.{no_else, otherwise, Path, Stmt, stmt, StmtKind, branch, while, enter}
+use Rattle.rg_tree.specs.Tree.{Block, empty as none, then as next, Class}
 use Rattle.rg_rules.specs.Answers.{◌>>=◌, Answer, Lined, at_line}
 use Rattle.rg_rules.specs.Environment.{Env}
 use Rattle.rg_rules.specs.Statements.{judge_stmt, judge_kind, judge_block, judge_test, judge_enter, last_of}
-use Rattle.rg_rules.specs.Items.{Item, Do, EndAt, LeaveAt, Back, items_of}
+use Rattle.rg_rules.specs.Items.{Item, Do, items_of}
 use Rattle.rg_rules.specs.Points.{Side, first, second, Point, here, behind, inside, Spot, spot_in, Opened, opened, inner_block, block_end}
 use Rattle.rg_rules.specs.Points.{entered_path}
 use Rattle.rg_rules.proofs.Answers.{bind-ok, at_line-ok}

@@ -7,7 +7,7 @@ use Rattle.rg_base.specs.declared.object.Seen.{Seen}
 use Rattle.rg_base.specs.declared.words.Manager.{Manager}
 use Rattle.rg_base.specs.declared.value.Val.{Val}
 use Rattle.rg_tree.specs.Tree.{Name, Variable, Ty as Written, Call, Right, value, new, new_tmp, new_iso, freeze, merge, read, more, result_of}
-use Rattle.rg_tree.specs.Tree.{StmtKind, declare, assign, call, swap, branch, while, enter, print, collect, return, stmt, Path, Method, Class, Tree}
+use Rattle.rg_tree.specs.Tree.{StmtKind, declare, assign, call, return, stmt, Path, Method, Class, Tree}
 use Rattle.rg_rules.specs.Capabilities.{below}
 use Rattle.rg_rules.specs.Types.{type_of}
 use Rattle.rg_rules.specs.Environment.{Env, empty}

@@ -3,10 +3,10 @@ use Rattle.std.proofs.Common.{◌≡◌, ℕ, arith, true, false, true≢false, 
 use Rattle.std.specs.Result.{result_ok}
 use Rattle.std.specs.Prelude.{Bool as Truth, option_and_then}
 use Rattle.rg_base.specs.declared.ty.Ty.{Ty}
-use Rattle.rg_tree.specs.Tree.{Path, Stmt, stmt, StmtKind, declare, assign, call, swap, branch, while, enter, print, collect, return, Block}
+use Rattle.rg_tree.specs.Tree.{Path, Stmt, stmt, StmtKind, branch, while, enter, return, Block}
 use Rattle.rg_tree.specs.Tree.{empty as none, then as more_of, Class}
 use Rattle.rg_rules.specs.Environment.{Env}
-use Rattle.rg_rules.specs.Items.{Item, Do, EndAt, LeaveAt, Back, items_of}
+use Rattle.rg_rules.specs.Items.{Item, Do, Back, items_of}
 use Rattle.rg_rules.specs.Statements.{judge_stmt, judge_block}
 use Rattle.rg_rules.specs.Points.{Point, here, behind, inside, Spot, Opened, Side, spot_in, inner_block, block_end, entered_path}
 use Rattle.rg_rules.proofs.Answers.{bind-ok}
