@@ -18,8 +18,11 @@ def functions(text):
     for k, line in enumerate(lines):
         start = re.match(r"( *)(?:pub(?:\([^)]*\))? )?(?:const )?(?:unsafe )?fn (\w+)", line)
         if not start: continue
-        end = k
-        while end < len(lines) and lines[end] not in (start[1] + "}", start[1] + "{}") and not (end == k and line.rstrip().endswith("}")): end += 1
+        end, depth = k, 0
+        while end < len(lines) and lines[end] not in (start[1] + "}", start[1] + "{}") and not (end == k and line.rstrip().endswith("}")):
+            depth += sum(lines[end].count(sign) for sign in "([{") - sum(lines[end].count(sign) for sign in ")]}")
+            if depth == 0 and lines[end].endswith(";"): break # (a method of a trait, which has no body)
+            end += 1
         whole = "\n".join(lines[k : end + 1])
         depth, count, inside = 0, 0, ""
         for sign in whole[whole.index("(") :]:

@@ -188,7 +188,7 @@ pub adds-class : {t u v : Tables} {r : ClassRow} {c : Class} → Adds class_of I
     → program_of v ≡ record (program_of u) { classes = classes_of u ++ class_of u r ∷ [] } → AddsClass t v c
 adds-class {u = u} a k e =
     let same = a.means.is u (Keeps-same u) in
-    let old = a.extends.classes in
+    let old = ap (λ (p : Tree). p.classes) a.extends.program in
     record {
       keeps = Keeps-trans a.extends.keeps k;
       classes = ap (λ (p : Tree). p.classes) e ∙ cc;
@@ -200,5 +200,5 @@ pub main-set : {t u : Tables} (v : Tables) {m : Manager} {s : Span} {b : Block} 
     → program_of v ≡ record { classes = classes_of t; manager = m; body = b; line = line }
 main-set {u = u} v a e =
     let same = a.means.is u (Keeps-same u) in
-    let old = a.extends.classes in
+    let old = ap (λ (p : Tree). p.classes) a.extends.program in
     e ∙ cc

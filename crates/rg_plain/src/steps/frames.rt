@@ -13,6 +13,7 @@ use crate::values::paths::Receiver;
 use crate::values::types::written_type;
 use rg_base::{Memory, Ty, Val};
 use rg_names::Book;
+use rg_tree::MethodRow;
 use std::alloc::Global;
 
 /// The value at a place, or nil where there is none.
