@@ -1,8 +1,8 @@
 #!/usr/bin/env bash
 # Prints figures of the repository as a house: how long functions are with their contracts, how many parameters and clauses
 # they have, how large crates and folders are, how much of proofs and definitions stands beside a line of source, which lemma
-# modules are open to crates above and cited by none, and how much stands twice: runs of six equal lines, and statements of
-# lemmas. Lists what is past its mark. Not a part of the gate.
+# modules are open to crates above and cited by none, how much stands twice (runs of six equal lines, and statements of
+# lemmas), and how many rows new forms would want. Lists what is past its mark. Not a part of the gate.
 # Usage: bench/house.sh
 cd "$(dirname "$0")/.." && exec python3 - <<'PY'
 import collections, glob, os, re
@@ -123,6 +123,43 @@ for path in proof_files:
         if "→" in statement and " : goal." not in statement: stated[statement].add(path)
 shared = sum(len(places) > 1 for places in stated.values())
 
+# What an extension would add: so many forms, of the types of these names in the definitions and in the sources.
+FORMS = (
+    (1, "crates/rg_tree/specs/Tree.antt", "StmtKind", "crates/rg_tree/src/rows.rt", "StmtKind"),
+    (2, "crates/rg_tree/specs/Tree.antt", "Expr", "crates/rg_tree/src/rows.rt", "ExprRow"),
+    (1, "crates/rg_rules/specs/Items.antt", "Item", None, None),
+    (8, "crates/rg_code/src/op.rt", "Op", "crates/rg_code/src/op.rt", "Op"),
+)
+
+def forms(path, name):
+    """The constructors of a type of the definitions, or the variants of an enum of a source."""
+    found, rest = re.search(rf"(?ms)^( *)pub (?:data|enum) {name}\b[^\n]*\n(.*)", read(path)).groups()
+    body = re.split(rf"(?m)^ {{0,{len(found)}}}\S", rest)[0]
+    return set(re.findall(rf"(?m)^{found}(?:  |    )(\w+)(?= :|,|\(| {{)", body))
+
+def full_tables(path, names, prefix):
+    """How many functions of a file of definitions or lemmas have a row for each of these constructors."""
+    rows = collections.defaultdict(set)
+    for line in read(path).split("\n"):
+        row = re.match(r"\s*([^\s(){}:]+)\s(.*?)\s=(?:\s|$)", line)
+        if not row or " : " in row[2] or re.match(r"\s*(--|use )", line): continue
+        rows[row[1]].update(re.findall(rf"(?<=[ (]){prefix}(\w+)(?=[ )])", f" {row[2]} "))
+    return sum(names <= found for found in rows.values())
+
+def full_matches(path, names, enum):
+    """How many functions of a source have an arm for each of these variants, and none for all others."""
+    pieces = [part for part in re.split(r"\n(?=\s*(?:///|pub |fn |pub\(crate\) ))", read(path)) if "=>" in part and "_ =>" not in part]
+    return sum(names <= set(re.findall(rf"\b{enum}::(\w+)(?: {{|[^=\n]*(?:=>|\|))", part)) for part in pieces)
+
+wanted, tables = 0, [path for path in proof_files + glob.glob("crates/*/specs/**/*.antt", recursive=True) if "xample" not in path]
+for count, defined, name, source, enum in FORMS:
+    names = forms(defined, name)
+    prefix = r"\w+\." if name == "Op" else r"(?:\w+\.)?"
+    wanted += count * sum(full_tables(path, names, prefix) for path in tables)
+    if enum:
+        variants = forms(source, enum)
+        wanted += count * sum(full_matches(path, variants, enum) for path in glob.glob("crates/*/src/**/*.rt", recursive=True))
+
 sizes.sort()
 at = lambda part: sizes[int(part * (len(sizes) - 1))]
 print(f"{all_functions} functions with their contracts: {at(0.5)} lines in the middle, nine in ten up to {at(0.9)}, the longest {sizes[-1]}")
@@ -130,4 +167,6 @@ print(f"{sources} lines of source; {specs / sources:.2f} of definitions and {pro
 print(f"{open_} lemma modules are open to crates above, {len(uncited)} of them cited by none")
 print("In runs of six equal lines: {:.1f} % of source, {:.1f} % of definitions, {:.1f} % of answers, {:.1f} % of lemmas".format(*shares))
 print(f"{shared} statements of lemmas stand in more than one file")
+print(f"{wanted} rows would be wanted by one more statement, two expressions, an item of the plain machine and eight instructions: "
+    "for each new form one in each table of definitions and lemmas, and each match of source, that names all forms of its type (examples apart)")
 PY

@@ -2,12 +2,12 @@
 use Rattle.std.proofs.Common.{◌≡◌, refl, sym, ◌∙◌, ap, ℕ, List, [], ◌∷◌, ◌++◌, length, Option, Some, None, option_and_then, Ok, Err, arith}
 use Rattle.std.specs.Result.{result_ok}
 use Rattle.rg_base.specs.declared.ty.Ty.{Ty}
-use Rattle.rg_tree.specs.Tree.{no_else, otherwise, Path, Stmt, stmt, StmtKind, declare, assign, call, swap, branch, while, enter, print, collect}
-use Rattle.rg_tree.specs.Tree.{return, Block, empty as none, then as next, Class}
+use Rattle.rg_tree.specs.Tree.{no_else, otherwise, Path, Stmt, stmt, StmtKind, branch, while, enter}
+use Rattle.rg_tree.specs.Tree.{Block, empty as none, then as next, Class}
 use Rattle.rg_rules.specs.Answers.{◌>>=◌, Answer, Lined, at_line}
 use Rattle.rg_rules.specs.Environment.{Env}
 use Rattle.rg_rules.specs.Statements.{judge_stmt, judge_kind, judge_block, judge_test, judge_enter, last_of}
-use Rattle.rg_rules.specs.Items.{Item, Do, EndAt, LeaveAt, Back, items_of}
+use Rattle.rg_rules.specs.Items.{Item, Do, items_of}
 use Rattle.rg_rules.specs.Points.{Side, first, second, Point, here, behind, inside, Spot, spot_in, Opened, opened, inner_block, block_end}
 use Rattle.rg_rules.specs.Points.{entered_path}
 use Rattle.rg_rules.proofs.Answers.{bind-ok, at_line-ok}
@@ -20,18 +20,12 @@ advance (inside side p) = inside side (advance p)
 
 -- what doesn't begin with a statement
 abbrev pub BeginsFree : List Item → Type 0
-BeginsFree [] = Unit {0}
 BeginsFree (Do s ∷ after) = ⊥
-BeginsFree (EndAt k ∷ after) = Unit {0}
-BeginsFree (LeaveAt k ∷ after) = Unit {0}
-BeginsFree (Back ∷ after) = Unit {0}
+BeginsFree _ = Unit {0}
 
 free-not_do : {B : Type 0} (after : List Item) (t : Stmt) (mine : List Item) → BeginsFree after → after ≡ Do t ∷ mine → B
-free-not_do [] t mine f e = grind arith
 free-not_do (Do s ∷ after) t mine f e = absurd f
-free-not_do (EndAt k ∷ after) t mine f e = grind arith
-free-not_do (LeaveAt k ∷ after) t mine f e = grind arith
-free-not_do (Back ∷ after) t mine f e = grind arith
+free-not_do _ t mine f e = grind arith
 
 -- what a chain of options that gave a value says of its parts
 pub and_then-some : {A B : Type 0} (o : Option A) (go : A → Option B) (b : B) →

@@ -3,12 +3,12 @@ use Rattle.std.proofs.Common.{◌≡◌, refl, sym, ◌∙◌, ap, subst, ◌⊎
 use Rattle.std.proofs.Common.{Ok, arith}
 use Rattle.std.proofs.lemmas.List.{append-nil}
 use Rattle.rg_base.specs.declared.ty.Ty.{Ty}
-use Rattle.rg_tree.specs.Tree.{Name, Variable, Path, Expr, Stmt, stmt, StmtKind, declare, assign, call, swap, branch, while, enter, print, collect}
-use Rattle.rg_tree.specs.Tree.{return, Else, no_else, otherwise, Block, empty as none, then as next, Class}
+use Rattle.rg_tree.specs.Tree.{Name, Variable, Path, Expr, Stmt, stmt, StmtKind, branch, while, enter}
+use Rattle.rg_tree.specs.Tree.{Else, no_else, otherwise, Block, empty as none, then as next, Class}
 use Rattle.rg_rules.specs.Answers.{at_line}
 use Rattle.rg_rules.specs.Environment.{Env, Entry, Readiness, ready, gone, is_ready, is_lent, entry_of, lent, closed, joined}
 use Rattle.rg_rules.specs.Statements.{judge_stmt, judge_kind, judge_else, judge_block, judge_test, judge_enter, left, last_of}
-use Rattle.rg_rules.specs.Items.{Item, Do, EndAt, LeaveAt, Back, items_of}
+use Rattle.rg_rules.specs.Items.{Item, Do, EndAt, LeaveAt, items_of}
 use Rattle.rg_rules.specs.Points.{Side, first, second, Point, here, behind, inside, Spot, spot_in, Opened, inner_block, block_end, entered_path}
 use Rattle.rg_rules.proofs.Answers.{bind-ok, at_line-ok}
 use Rattle.rg_rules.proofs.Point.{and_then-some, inner_block-judged, opened-some, from_ok, to_ok}
@@ -26,9 +26,7 @@ use Rattle.rg_sound.proofs.Frames.Spot.{inner-spot}
 -- a statement isn't the end of anything
 abbrev pub IsEnd : Item → Type 0
 IsEnd (Do s) = ⊥
-IsEnd (EndAt k) = Unit {0}
-IsEnd (LeaveAt k) = Unit {0}
-IsEnd Back = Unit {0}
+IsEnd _ = Unit {0}
 
 -- at the end of a block of an `if` or a `while` there are the variables behind it, and maybe more
 pub record EndsAt (k : ℕ) (env : Env) (enters : List Path) (s : Spot) : Type 0 where
@@ -53,10 +51,9 @@ pub record LeavesAt (k : ℕ) (env : Env) (enters : List Path) (s : Spot) : Type
 
 -- how the end of a block leads behind it
 abbrev pub Closes : Item → Env → (enters : List Path) → Spot → Type 0
-Closes (Do u) env enters s = ⊥
 Closes (EndAt k) env enters s = EndsAt k env enters s
 Closes (LeaveAt k) env enters s = LeavesAt k env enters s
-Closes Back env enters s = ⊥
+Closes _ env enters s = ⊥
 
 -- the end of an inner block, with the spot behind it
 pub record EndsInner (classes : List Class) (result : Option Ty) (env : Env) (b : Block) (after : List Item) (round : List Path) (s : Spot) (i : Item)

@@ -7,7 +7,7 @@ use Rattle.rg_base.specs.declared.object.Seen.{Seen}
 use Rattle.rg_base.specs.declared.words.Manager.{Manager}
 use Rattle.rg_base.specs.declared.value.Val.{Val}
 use Rattle.rg_tree.specs.Tree.{Name, Variable, Ty as Written, Call, Right, value, new, new_tmp, new_iso, freeze, merge, read, more, result_of}
-use Rattle.rg_tree.specs.Tree.{StmtKind, declare, assign, call, swap, branch, while, enter, print, collect, return, stmt, Path, Method, Class, Tree}
+use Rattle.rg_tree.specs.Tree.{StmtKind, declare, assign, call, return, stmt, Path, Method, Class, Tree}
 use Rattle.rg_rules.specs.Capabilities.{below}
 use Rattle.rg_rules.specs.Types.{type_of}
 use Rattle.rg_rules.specs.Environment.{Env, empty}
@@ -126,13 +126,7 @@ deliver-fits t s line (call m) rest d callee target c ty gives after v g frames 
     let pair : (m, Drops) ≡ (c.made, target) = let h = c.made_is in grind arith in
     let n = drop-finish t s line m rest d after frames g.windows g.items fits in
     let R : Target → Type 0 = λ q. Fit t (deliver q after v) in subst R (ap (λ (q : Call × Target). q.1) pair) n
-deliver-fits t s line (swap y p) rest d callee target c ty gives after v g frames fits = none-some c.made_is
-deliver-fits t s line (branch e a b) rest d callee target c ty gives after v g frames fits = none-some c.made_is
-deliver-fits t s line (while e a) rest d callee target c ty gives after v g frames fits = none-some c.made_is
-deliver-fits t s line (enter p z a) rest d callee target c ty gives after v g frames fits = none-some c.made_is
-deliver-fits t s line (print e) rest d callee target c ty gives after v g frames fits = none-some c.made_is
-deliver-fits t s line collect rest d callee target c ty gives after v g frames fits = none-some c.made_is
-deliver-fits t s line (return e) rest d callee target c ty gives after v g frames fits = none-some c.made_is
+deliver-fits t s line _ rest d callee target c ty gives after v g frames fits = none-some c.made_is
 
 -- the end of a method without a result
 back-fits : (t : Tree) (s : State) (line : ℕ) (k : StmtKind) (rest : List Item) (d : Doing t s line k rest) (callee : Body) (target : Target)
@@ -164,13 +158,7 @@ back-fits t s line (assign p r) rest d callee target c nothing after frames wind
     by_path p d c = by_fields p.base p.fields d c
 back-fits t s line (call m) rest d callee target c nothing after frames windows items fits =
     drop-finish t s line m rest d after frames windows items fits
-back-fits t s line (swap y p) rest d callee target c nothing after frames windows items fits = none-some c.made_is
-back-fits t s line (branch e a b) rest d callee target c nothing after frames windows items fits = none-some c.made_is
-back-fits t s line (while e a) rest d callee target c nothing after frames windows items fits = none-some c.made_is
-back-fits t s line (enter p z a) rest d callee target c nothing after frames windows items fits = none-some c.made_is
-back-fits t s line (print e) rest d callee target c nothing after frames windows items fits = none-some c.made_is
-back-fits t s line collect rest d callee target c nothing after frames windows items fits = none-some c.made_is
-back-fits t s line (return e) rest d callee target c nothing after frames windows items fits = none-some c.made_is
+back-fits t s line _ rest d callee target c nothing after frames windows items fits = none-some c.made_is
 
 -- the topmost frame goes; it has no window of its own
 pop-data : (t : Tree) (s : State) (f : Frame) (fs : List Frame) (under : List Window) (regions : ℕ) → AllOwners under (IsElsewhere (length fs)) →

@@ -73,10 +73,8 @@ main-left t b p s first more is at begins other =
 
 -- whether an item is the end of a block
 abbrev is_end : Item → Truth
-is_end (Do s) = false
 is_end (EndAt k) = true
-is_end (LeaveAt k) = false
-is_end Back = false
+is_end _ = false
 
 pub do-other : (s : Stmt) → Do s ≡ EndAt 0 → ⊥
 do-other s e = true≢false (sym (ap is_end e))
@@ -122,9 +120,7 @@ main-stays t accepted top ws first rest h leaves =
       where
         kind_leaves : (k : _) → leaves_frame (Do (stmt line k) ∷ xs) ≡ leaves_frame (Do (stmt line k) ∷ ys)
         kind_leaves k = grind arith
-    first_leaves (EndAt k) xs ys = refl
-    first_leaves (LeaveAt k) xs ys = refl
-    first_leaves Back xs ys = refl
+    first_leaves _ xs ys = refl
 
 -- windows
 

@@ -6,7 +6,7 @@ use Rattle.rg_base.specs.declared.value.Val.{Val}
 use Rattle.rg_base.specs.declared.value.Val.TheVariants as val
 use Rattle.rg_tree.specs.Tree.{Variable, stmt, StmtKind, declare, Class}
 use Rattle.rg_rules.specs.Environment.{same_variable}
-use Rattle.rg_rules.specs.Items.{Item, Do, EndAt, LeaveAt, Back}
+use Rattle.rg_rules.specs.Items.{Item, Do}
 use Rattle.rg_rules.specs.State.{Local, value_in}
 use Rattle.rg_code.specs.declared.op.Op.{Op}
 use Rattle.rg_code.specs.declared.op.Op.TheVariants as i
@@ -64,9 +64,7 @@ lies_at_mark classes code [] j rest at h = absurd h
 lies_at_mark classes code (l ∷ ls) (Do (stmt line k)) rest at h = ap is_mark
     (sym (first-drop code at) ∙ ap (λ l. slice_get l 0) (drop-stands code at (kind_code classes l.scope at line k) h.0.0))
     ∙ starts classes l.scope at line k (drop (at + length (kind_code classes l.scope at line k)) code)
-lies_at_mark classes code (l ∷ ls) (EndAt k) rest at h = h.0
-lies_at_mark classes code (l ∷ ls) (LeaveAt k) rest at h = h.0
-lies_at_mark classes code (l ∷ ls) Back rest at h = h.0
+lies_at_mark classes code (l ∷ ls) _ rest at h = h.0
 
 -- a walk ends where items begin
 pub walk_to_items : (classes : List Class) (code : Code) (ls : List Level) (j : Item) (rest : List Item) (at : ℕ) (w : Work)

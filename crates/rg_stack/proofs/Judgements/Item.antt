@@ -6,7 +6,7 @@ use Rattle.std.proofs.lemmas.Bool.{and_from}
 use Rattle.rg_base.specs.declared.value.Val.{Val}
 use Rattle.rg_base.specs.declared.object.Seen.{Seen}
 use Rattle.rg_base.specs.declared.words.Manager.{Manager}
-use Rattle.rg_tree.specs.Tree.{stmt, StmtKind, declare, assign, call, swap, branch, while, enter, print, collect, return, Tree}
+use Rattle.rg_tree.specs.Tree.{stmt, StmtKind, return, Tree}
 use Rattle.rg_rules.specs.Acceptance.{Accepted}
 use Rattle.rg_rules.specs.Items.{Item, Do, EndAt, LeaveAt, Back}
 use Rattle.rg_rules.specs.State.{Frame as Body, Window as Opened}
@@ -144,16 +144,8 @@ module _ (t : Tree) (accepted : Accepted t) (store : List Seen) (managers : List
       (rest : List Item)
       → Running t f fs ws (Do (stmt line k) ∷ j ∷ rest) → Data t.classes store (f ∷ fs) ws (length managers) made
       → Showing (mf ∷ mfs) mws (f ∷ fs) ws (Do (stmt line k) ∷ j ∷ rest) → Moves (mf ∷ mfs) mws (f ∷ fs) ws (Do (stmt line k) ∷ j ∷ rest)
-  do-moves mf mfs mws f fs ws line (declare x ty r) j rest h a s = statement-moves mf mfs mws f fs ws line (declare x ty r) j rest tt h a s
-  do-moves mf mfs mws f fs ws line (assign p r) j rest h a s = statement-moves mf mfs mws f fs ws line (assign p r) j rest tt h a s
-  do-moves mf mfs mws f fs ws line (call d) j rest h a s = statement-moves mf mfs mws f fs ws line (call d) j rest tt h a s
-  do-moves mf mfs mws f fs ws line (swap y p) j rest h a s = statement-moves mf mfs mws f fs ws line (swap y p) j rest tt h a s
-  do-moves mf mfs mws f fs ws line (branch e d other) j rest h a s = statement-moves mf mfs mws f fs ws line (branch e d other) j rest tt h a s
-  do-moves mf mfs mws f fs ws line (while e d) j rest h a s = statement-moves mf mfs mws f fs ws line (while e d) j rest tt h a s
-  do-moves mf mfs mws f fs ws line (enter p z d) j rest h a s = statement-moves mf mfs mws f fs ws line (enter p z d) j rest tt h a s
-  do-moves mf mfs mws f fs ws line (print e) j rest h a s = statement-moves mf mfs mws f fs ws line (print e) j rest tt h a s
-  do-moves mf mfs mws f fs ws line collect j rest h a s = statement-moves mf mfs mws f fs ws line collect j rest tt h a s
   do-moves mf mfs mws f fs ws line (return e) j rest h a s = return-moves mf mfs mws f fs ws line e j rest h a s
+  do-moves mf mfs mws f fs ws line k j rest h a s = statement-moves mf mfs mws f fs ws line k j rest tt h a s
 
   -- each item that has one behind it
   behind-moves : (mf : Frame) (mfs : List Frame) (mws : List Window) (f : Body) (fs : List Body) (ws : List Opened) (i : Item) (rest : List Item)

@@ -3,10 +3,10 @@ use Rattle.std.proofs.Common.{◌≡◌, ℕ, arith, true, false, true≢false, 
 use Rattle.std.specs.Result.{result_ok}
 use Rattle.std.specs.Prelude.{Bool as Truth, option_and_then}
 use Rattle.rg_base.specs.declared.ty.Ty.{Ty}
-use Rattle.rg_tree.specs.Tree.{Path, Stmt, stmt, StmtKind, declare, assign, call, swap, branch, while, enter, print, collect, return, Block}
+use Rattle.rg_tree.specs.Tree.{Path, Stmt, stmt, StmtKind, branch, while, enter, return, Block}
 use Rattle.rg_tree.specs.Tree.{empty as none, then as more_of, Class}
 use Rattle.rg_rules.specs.Environment.{Env}
-use Rattle.rg_rules.specs.Items.{Item, Do, EndAt, LeaveAt, Back, items_of}
+use Rattle.rg_rules.specs.Items.{Item, Do, Back, items_of}
 use Rattle.rg_rules.specs.Statements.{judge_stmt, judge_block}
 use Rattle.rg_rules.specs.Points.{Point, here, behind, inside, Spot, Opened, Side, spot_in, inner_block, block_end, entered_path}
 use Rattle.rg_rules.proofs.Answers.{bind-ok}
@@ -16,25 +16,14 @@ use Rattle.rg_stack.proofs.Judgements.Judge.{block-goes_on}
 
 -- whether items begin with what ends a frame
 abbrev pub leaves_frame : List Item → Truth
-leaves_frame [] = false
 leaves_frame (Do (stmt line (return e)) ∷ rest) = true
-leaves_frame (Do s ∷ rest) = false
-leaves_frame (EndAt k ∷ rest) = false
-leaves_frame (LeaveAt k ∷ rest) = false
 leaves_frame (Back ∷ rest) = true
+leaves_frame _ = false
 
 goes_on_items : (b : Block) (after : List Item) → AllGoOn b → leaves_frame after ≡ false → leaves_frame (items_of b after) ≡ false
 goes_on_items none after g h = h
-goes_on_items (more_of (stmt line (declare x t r)) b) after g h = refl
-goes_on_items (more_of (stmt line (assign p r)) b) after g h = refl
-goes_on_items (more_of (stmt line (call c)) b) after g h = refl
-goes_on_items (more_of (stmt line (swap y p)) b) after g h = refl
-goes_on_items (more_of (stmt line (branch e c other)) b) after g h = refl
-goes_on_items (more_of (stmt line (while e c)) b) after g h = refl
-goes_on_items (more_of (stmt line (enter p z c)) b) after g h = refl
-goes_on_items (more_of (stmt line (print e)) b) after g h = refl
-goes_on_items (more_of (stmt line collect) b) after g h = refl
 goes_on_items (more_of (stmt line (return e)) b) after g h = absurd g.0
+goes_on_items (more_of (stmt line _) b) after g h = refl
 
 ends_block : (classes : List Class) (env : Env) (n line : ℕ) (k : StmtKind) (side : Side) (i : Opened) (more : List Item)
     → inner_block classes env k side ≡ Some i → leaves_frame (block_end n line k ++ more) ≡ false

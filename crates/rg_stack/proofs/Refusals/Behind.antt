@@ -5,7 +5,7 @@ use Rattle.std.proofs.Common.{ap, subst, ◌∙◌, arith, slice_get}
 use Rattle.std.proofs.lemmas.List.{drop-drop}
 use Rattle.std.specs.Result.{result_ok}
 use Rattle.rg_base.specs.declared.ty.Ty.{Ty}
-use Rattle.rg_tree.specs.Tree.{Path, Ty as Written, stmt, Stmt, StmtKind, declare, assign, call, swap, branch, while, enter, print, collect, return}
+use Rattle.rg_tree.specs.Tree.{Path, Ty as Written, stmt, Stmt, StmtKind, declare, return}
 use Rattle.rg_tree.specs.Tree.{Block, empty as none, then as more_of, Method, Class, Tree}
 use Rattle.rg_rules.specs.Acceptance.{Accepted}
 use Rattle.rg_rules.specs.Types.{type_of, method_named}
@@ -38,17 +38,15 @@ ByKind _ last rest = rest
 abbrev pub Leaves : List Item → Type 0
 Leaves [] = ⊥
 Leaves (Do (stmt line k) ∷ rest) = ByKind k (Unit {0}) (Leaves rest)
-Leaves (EndAt k ∷ rest) = Leaves rest
-Leaves (LeaveAt k ∷ rest) = Leaves rest
 Leaves (Back ∷ rest) = Unit {0}
+Leaves (_ ∷ rest) = Leaves rest
 
 -- and others stand behind it
 abbrev pub LeavesOn : List Item → Type 0
 LeavesOn [] = ⊥
 LeavesOn (Do (stmt line k) ∷ rest) = ByKind k (SomeLeft rest) (LeavesOn rest)
-LeavesOn (EndAt k ∷ rest) = LeavesOn rest
-LeavesOn (LeaveAt k ∷ rest) = LeavesOn rest
 LeavesOn (Back ∷ rest) = SomeLeft rest
+LeavesOn (_ ∷ rest) = LeavesOn rest
 
 by_kind : (k : StmtKind) (A B C D : Type 0) → (A → C) → (B → D) → ByKind k A B → ByKind k C D
 by_kind (return e) A B C D f g h = f h
@@ -58,31 +56,21 @@ leaves-on : (xs rest : List Item) → Leaves xs → SomeLeft rest → LeavesOn (
 leaves-on [] rest h s = absurd h
 leaves-on (Do (stmt line k) ∷ xs) rest h s = by_kind k (Unit {0}) (Leaves xs) (SomeLeft (xs ++ rest)) (LeavesOn (xs ++ rest))
     (λ u. left-back xs rest s) (λ l. leaves-on xs rest l s) h
-leaves-on (EndAt k ∷ xs) rest h s = leaves-on xs rest h s
-leaves-on (LeaveAt k ∷ xs) rest h s = leaves-on xs rest h s
 leaves-on (Back ∷ xs) rest h s = left-back xs rest s
+leaves-on (_ ∷ xs) rest h s = leaves-on xs rest h s
 
 kind_leaves : (k : StmtKind) (A : Type 0) → A → ByKind k (Unit {0}) A
 kind_leaves k A a = by_kind k A A (Unit {0}) A (λ x. tt) (λ x. x) (same k)
   where
     same : (k : StmtKind) → ByKind k A A
-    same (declare x t r) = a
-    same (assign p r) = a
-    same (call c) = a
-    same (swap y p) = a
-    same (branch e b other) = a
-    same (while e b) = a
-    same (enter p z b) = a
-    same (print e) = a
-    same collect = a
     same (return e) = a
+    same _ = a
 
 leaves-back : (xs ys : List Item) → Leaves ys → Leaves (xs ++ ys)
 leaves-back [] ys h = h
 leaves-back (Do (stmt line k) ∷ xs) ys h = kind_leaves k (Leaves (xs ++ ys)) (leaves-back xs ys h)
-leaves-back (EndAt k ∷ xs) ys h = leaves-back xs ys h
-leaves-back (LeaveAt k ∷ xs) ys h = leaves-back xs ys h
 leaves-back (Back ∷ xs) ys h = tt
+leaves-back (_ ∷ xs) ys h = leaves-back xs ys h
 
 -- a body that ends in `return`
 
@@ -173,16 +161,9 @@ pub calm-back : (classes : List Class) (code : List Op) (items : List Item) (l :
 calm-back classes code [] l ls at leaves h = absurd leaves
 calm-back classes code (Do (stmt line (declare x t r)) ∷ rest) l ls at leaves h = calm-back classes code rest
     (record l { scope = scope_behind classes l.scope (declare x t r) }) ls _ leaves h.1
-calm-back classes code (Do (stmt line (assign p r)) ∷ rest) l ls at leaves h = calm-back classes code rest l ls _ leaves h.1
-calm-back classes code (Do (stmt line (call c)) ∷ rest) l ls at leaves h = calm-back classes code rest l ls _ leaves h.1
-calm-back classes code (Do (stmt line (swap y p)) ∷ rest) l ls at leaves h = calm-back classes code rest l ls _ leaves h.1
-calm-back classes code (Do (stmt line (branch e b other)) ∷ rest) l ls at leaves h = calm-back classes code rest l ls _ leaves h.1
-calm-back classes code (Do (stmt line (while e b)) ∷ rest) l ls at leaves h = calm-back classes code rest l ls _ leaves h.1
-calm-back classes code (Do (stmt line (enter p z b)) ∷ rest) l ls at leaves h = calm-back classes code rest l ls _ leaves h.1
-calm-back classes code (Do (stmt line (print e)) ∷ rest) l ls at leaves h = calm-back classes code rest l ls _ leaves h.1
-calm-back classes code (Do (stmt line collect) ∷ rest) l ls at leaves h = calm-back classes code rest l ls _ leaves h.1
 calm-back classes code (Do (stmt line (return e)) ∷ []) l ls at leaves h = absurd leaves
 calm-back classes code (Do (stmt line (return e)) ∷ j ∷ rest) l ls at leaves h = taken_calm classes code l.target l.back ls j rest h.1
+calm-back classes code (Do (stmt line _) ∷ rest) l ls at leaves h = calm-back classes code rest l ls _ leaves h.1
 calm-back classes code (EndAt k ∷ rest) l ls at leaves h = calm-back classes code rest (record l { scope = take k l.scope }) ls _ leaves h.2
 calm-back classes code (LeaveAt k ∷ rest) l ls at leaves h = calm-back classes code rest (record l { scope = take k l.scope }) ls _ leaves h.2
 calm-back classes code (Back ∷ []) l ls at leaves h = absurd leaves

@@ -263,15 +263,8 @@ module _ (classes : List Class) (code : List Op) where
       → Lies classes code (l ∷ ls) (Do (stmt line k) ∷ j ∷ rest) at → orderly code (at + 1) false (drop (at + 1) code) ≡ true
   statement-orderly l ls line (declare x t r) j rest at h = do-orderly l ls line (declare x t r) j rest at tt h
       (record l { scope = scope_behind classes l.scope (declare x t r) } ∷ ls) h.1
-  statement-orderly l ls line (assign p r) j rest at h = do-orderly l ls line (assign p r) j rest at tt h (l ∷ ls) h.1
-  statement-orderly l ls line (call c) j rest at h = do-orderly l ls line (call c) j rest at tt h (l ∷ ls) h.1
-  statement-orderly l ls line (swap y p) j rest at h = do-orderly l ls line (swap y p) j rest at tt h (l ∷ ls) h.1
-  statement-orderly l ls line (branch e b other) j rest at h = do-orderly l ls line (branch e b other) j rest at tt h (l ∷ ls) h.1
-  statement-orderly l ls line (while e b) j rest at h = do-orderly l ls line (while e b) j rest at tt h (l ∷ ls) h.1
-  statement-orderly l ls line (enter p z b) j rest at h = do-orderly l ls line (enter p z b) j rest at tt h (l ∷ ls) h.1
-  statement-orderly l ls line (print e) j rest at h = do-orderly l ls line (print e) j rest at tt h (l ∷ ls) h.1
-  statement-orderly l ls line collect j rest at h = do-orderly l ls line collect j rest at tt h (l ∷ ls) h.1
   statement-orderly l ls line (return e) j rest at h = return-orderly l at line e h.0
+  statement-orderly l ls line k j rest at h = do-orderly l ls line k j rest at tt h (l ∷ ls) h.1
 
   pub end-orderly : (l : Level) (ls : List Level) (k : ℕ) (rest : List Item) (at : ℕ) → Lies classes code (l ∷ ls) (EndAt k ∷ rest) at
       → orderly code (at + 1) false (drop (at + 1) code) ≡ true
