@@ -16,6 +16,8 @@ import glob, os, re, sys
 MEMORY = {"Memory", "AllocError"}
 # Of a type that a call answers, the variants that aren't the usual answer.
 ANSWERS = {"Next": ["Trap", "Lost", "Memory"], "Outcome": ["Done", "Printed", "Trap", "InputFault", "Memory"]}
+# Of a type that tells an answer beside something else, the field that has the answer, and the answer's type.
+FIELDS = {"CountedRun": ("ended", "Ended")}
 # These say yes, or tell something, only to be quick: their other answer may come at any time, and callers go the long way.
 FREE = {
     "rg_code::CodeList::known": "None", "rg_heap::Heap::is_at_home": "false", "rg_machine::Machine::behind": "None",
@@ -246,6 +248,9 @@ class Call:
         self.args, self.ret = args, ret
         self.asks = [l or "·" for kind, l, _ in clauses if kind == "requires"]
         self.says = [(l or "·", t) for kind, l, t in clauses if kind == "ensures"]
+        if ret in FIELDS:
+            field, self.ret = FIELDS[ret]
+            self.says = [(l, t.replace(f"result.{field}", "result")) for l, t in self.says]
         self.imports = imports(read(file))
         self.reads = not re.search(r"&(?:'\w+ )?mut ", args)
         self.written = [n for n, t in re.findall(r"(\w+): &(?:'\w+ )?mut (\[?\w+)", args) if t != "Steps"]

@@ -1,6 +1,7 @@
 //! The members of one class, in the order in which they were judged (docs/language.md, "Headers").
 
-ghost use Rattle.std.specs.Prelude.{◌≡◌, ◌≤◌, [], ◌∷◌, ◌++◌, length, OnOk, IfOk};
+ghost use Rattle.std.specs.Prelude.{◌≡◌, ◌≤◌, suc, [], ◌∷◌, ◌++◌, length, OnOk, IfOk};
+ghost use Rattle.rg_tree.specs.declared.rows.MemberRow.TheVariants as member;
 ghost use Rattle.rg_tree.specs.Rows.RowTrees.{member_of, class_of, program_of};
 ghost use Rattle.rg_tree.specs.Rows.RowsExist.{IsMemberIn, IsClassIn};
 ghost use Rattle.rg_tree.specs.Rows.Tables.{numbers_in};
@@ -8,13 +9,13 @@ ghost use Rattle.rg_rules.specs.Headers.{member_headers};
 ghost use Rattle.rg_names.specs.TableOf.{entry_of, entries_of, fields_with, methods_with};
 ghost use Rattle.rg_names.specs.TableOf.{methods_with_all, rows_of};
 ghost use Rattle.rg_names.specs.Judged.{JudgedAs};
-ghost use Rattle.rg_names.specs.Inner.Headings.{IsHeadsOf, AreNamed, names_behind};
+ghost use Rattle.rg_names.specs.Inner.Headings.{IsHeadsOf, AreNamed, names_behind, as_member};
 
 use crate::by_name::ByName;
 use crate::entry::{Entry, FieldAt, Sig};
-use crate::headers::{MethodRow, field_type, signature};
-use rg_base::Stop;
-use rg_tree::{ClassRow, MemberRow, Program};
+use crate::headers::{field_type, signature};
+use rg_base::{Cap, Stop};
+use rg_tree::{ClassRow, MemberRow, MethodRow, Program, Span, TypeRow};
 use std::alloc::Global;
 
 /// Members of a class, with the number of fields among them and that of all methods so far.
@@ -63,44 +64,108 @@ impl Found {
     {
         match row {
             MemberRow::Field { name, ty, line } => {
-                self.entries.fresh(name, line)?;
-                let ty = field_type(heads, class.is_tmp, ty, line)?;
-                let index = self.fields;
-                self.entries
-                    .push(name, Entry::Field(FieldAt { index, ty }))?;
-                self.fields += 1;
-                Ok(())
+                self.add_field(program, heads, class, name, ty, line)
             },
             MemberRow::Method {
                 cap,
                 name,
                 params,
                 result,
+                body,
                 line,
-                ..
             } => {
-                let method = MethodRow {
-                    cap,
-                    params,
-                    result,
-                    line,
-                };
-                self.entries.fresh(name, method.line)?;
-                let result = signature(alloc, program, heads, class.is_tmp, method)?;
-                if self.methods == u32::MAX {
-                    return Err(Stop::Memory);
-                }
-                let sig = Sig {
-                    number: self.methods,
-                    cap,
-                    params,
-                    result,
-                };
-                self.entries.push(name, Entry::Method(sig))?;
-                self.methods += 1;
-                Ok(())
+                let method = method_row(cap, name, params, result, body, line);
+                self.add_method(alloc, program, heads, class, method)
             },
         }
+    }
+
+    // Adds a field whose header has no fault.
+    fn add_field(
+        &mut self,
+        program: &Program,
+        heads: &ByName<bool>,
+        class: ClassRow,
+        name: u32,
+        ty: TypeRow,
+        line: u64,
+    ) -> Result<(), Stop>
+        requires heads { IsHeadsOf program.now heads.now }
+        requires row { IsMemberIn program.now (member.Field name ty line) }
+        requires named { AreNamed program.now self.old.entries }
+        requires fields { self.old.fields ≤ length self.old.entries }
+        ensures judged { JudgedAs (member_headers (program_of program.now).classes
+            (class_of program.now class) (names_behind program.now self.old.entries)
+            (member_of program.now (member.Field name ty line) ∷ [])) result }
+        ensures entries { OnOk result (self.new.entries ≡ self.old.entries ++ entry_of program.now
+            self.old.fields self.old.methods (member.Field name ty line) ∷ []) }
+        ensures fields { OnOk result (self.new.fields ≡ suc self.old.fields) }
+        ensures methods { OnOk result (self.new.methods ≡ self.old.methods) }
+    {
+        self.entries.fresh(name, line)?;
+        let ty = field_type(heads, class.is_tmp, ty, line)?;
+        let index = self.fields;
+        self.entries
+            .push(name, Entry::Field(FieldAt { index, ty }))?;
+        self.fields += 1;
+        Ok(())
+    }
+
+    // Adds a method whose header has no fault.
+    fn add_method(
+        &mut self,
+        alloc: Global,
+        program: &Program,
+        heads: &ByName<bool>,
+        class: ClassRow,
+        method: MethodRow,
+    ) -> Result<(), Stop>
+        requires heads { IsHeadsOf program.now heads.now }
+        requires row { IsMemberIn program.now (as_member method) }
+        requires named { AreNamed program.now self.old.entries }
+        ensures judged { JudgedAs (member_headers (program_of program.now).classes
+            (class_of program.now class) (names_behind program.now self.old.entries)
+            (member_of program.now (as_member method) ∷ [])) result }
+        ensures entries { OnOk result (self.new.entries ≡ self.old.entries
+            ++ entry_of program.now self.old.fields self.old.methods (as_member method) ∷ []) }
+        ensures fields { OnOk result (self.new.fields ≡ self.old.fields) }
+        ensures methods { OnOk result (self.new.methods ≡ suc self.old.methods) }
+    {
+        self.entries.fresh(method.name, method.line)?;
+        let result = signature(alloc, program, heads, class.is_tmp, method)?;
+        if self.methods == u32::MAX {
+            return Err(Stop::Memory);
+        }
+        let sig = Sig {
+            number: self.methods,
+            cap: method.cap,
+            params: method.params,
+            result,
+        };
+        self.entries.push(method.name, Entry::Method(sig))?;
+        self.methods += 1;
+        Ok(())
+    }
+}
+
+// A method in one piece.
+fn method_row(
+    cap: Cap,
+    name: u32,
+    params: Span,
+    ty: Option<TypeRow>,
+    body: Span,
+    line: u64,
+) -> MethodRow
+    ensures { as_member result ≡ member.Method cap name params ty body line }
+{
+    MethodRow {
+        cap,
+        name,
+        params,
+        result: ty,
+        body,
+        line,
     }
 }
 

@@ -18,17 +18,8 @@ ghost use Rattle.rg_names.specs.Inner.Headings.{signature_header};
 use crate::by_name::ByName;
 use crate::suits::{is_field_of, is_receiver_of, names_class};
 use rg_base::{Cap, Code, Fault, Stop, Ty};
-use rg_tree::{Program, Span, TypeRow};
+use rg_tree::{MethodRow, Program, TypeRow};
 use std::alloc::Global;
-
-/// What a method says in front of its body.
-#[derive(Clone, Copy)]
-pub struct MethodRow {
-    pub cap: Cap,
-    pub params: Span,
-    pub result: Option<TypeRow>,
-    pub line: u64,
-}
 
 /// The type that is written so, or E20 or E22.
 pub fn type_named(heads: &ByName<bool>, row: TypeRow) -> Result<Ty, Code>

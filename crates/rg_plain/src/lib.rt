@@ -11,4 +11,4 @@ mod steps;
 mod values;
 
 pub use line::put_value;
-pub use machine::PlainMachine;
+pub use machine::{CountedRun, PlainMachine};

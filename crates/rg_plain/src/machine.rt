@@ -43,6 +43,16 @@ impl Model for PlainMachine {
     ghost view = { λ m. record { classes = m.classes; kept = kept_of m.parts } };
 }
 
+/// How a run ended, and how far it came.
+#[derive(Clone, Copy, Debug, PartialEq, Eq)]
+pub struct CountedRun {
+    /// how it ended
+    pub ended: Ended,
+    /// whole steps of this run; one that changed nothing isn't counted, one whose line the sink
+    /// refused is
+    pub steps: u64,
+}
+
 /// The class table of an accepted program.
 fn table(alloc: Global, program: &Program) -> Result<Classes, Memory>
     requires { Accepted (program_of program.now) }
@@ -202,50 +212,48 @@ impl PlainMachine {
         ensures source_never_falls { S.faults source.old ≤ S.faults source.new }
         ensures sink_never_falls { O.faults out.old ≤ O.faults out.new }
     {
-        let mut steps = 0;
-        self.run_counting(alloc, program, n, &mut steps, input, source, out)
+        self.run_counting(alloc, program, n, input, source, out).ended
     }
 
-    /// Makes at most `n` steps, as `run` does, and counts the whole ones in `steps`.
+    /// Makes at most `n` steps, as `run` does, and counts the whole ones.
     pub fn run_counting<S: Source, O: Sink>(
         &mut self,
         alloc: Global,
         program: &Program,
         n: u64,
-        steps: &mut u64,
         input: &mut Numbers,
         source: &mut S,
         out: &mut O,
-    ) -> Ended
+    ) -> CountedRun
         requires left { self.old.kept.items ≢ [] }
         requires fits { Fits program.now self.old }
         requires follows { Follows input.old (S.left source.old) }
-        requires none { steps.old ≡ 0 }
         ensures run { OnInput input.old input.new (S.left source.old) (S.left source.new)
-            (λ before after. RunIs program.now (state_of program.now self.old before) n steps.new
-            self.new after (O.taken out.old) (O.taken out.new) result) }
-        ensures within { begun result steps.new ≤ n }
+            (λ before after. RunIs program.now (state_of program.now self.old before) n result.steps
+            self.new after (O.taken out.old) (O.taken out.new) result.ended) }
+        ensures within { begun result.ended result.steps ≤ n }
         ensures reads_nothing { OnInput input.old input.new (S.left source.old) (S.left source.new)
             (λ before after. let start = state_of program.now self.old before in RunIs program.now
-            start n steps.new self.new after (O.taken out.old) (O.taken out.new) result × (NoneAsks
-            program.now start (begun result steps.new) → (input.new ≡ input.old) × (source.new ≡
-            source.old))) }
+            start n result.steps self.new after (O.taken out.old) (O.taken out.new) result.ended ×
+            (NoneAsks program.now start (begun result.ended result.steps) → (input.new ≡ input.old)
+            × (source.new ≡ source.old))) }
         ensures fits { Fits program.now self.new }
         ensures follows { Follows input.new (S.left source.new) }
 
-        ensures input_fault { result ≡ Ended.InputFault →
+        ensures input_fault { result.ended ≡ Ended.InputFault →
             Rose (S.faults source.old) (S.faults source.new) }
-        ensures output_fault { result ≡ Ended.OutputFault →
+        ensures output_fault { result.ended ≡ Ended.OutputFault →
             Rose (O.faults out.old) (O.faults out.new) }
         ensures source_never_falls { S.faults source.old ≤ S.faults source.new }
         ensures sink_never_falls { O.faults out.old ≤ O.faults out.new }
     {
-        while *steps < n {
-            if let Some(ended) = count(self.step(alloc, program, input, source), steps, out) {
-                return ended;
+        let mut steps = 0;
+        while steps < n {
+            if let Some(ended) = count(self.step(alloc, program, input, source), &mut steps, out) {
+                return CountedRun { ended, steps };
             }
         }
-        Ended::Spent
+        CountedRun { ended: Ended::Spent, steps }
     }
 
     /// How many objects were made.

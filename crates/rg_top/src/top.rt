@@ -243,9 +243,8 @@ fn plain_accepted<I: Source, O: Sink>(
         return Status::Memory;
     };
     let mut numbers = Numbers::new();
-    let mut made = 0;
-    let ended = machine.run_counting(alloc, program, steps, &mut made, &mut numbers, input, out);
-    status_of(ended)
+    let counted = machine.run_counting(alloc, program, steps, &mut numbers, input, out);
+    status_of(counted.ended)
 }
 
 /// Checks a program, and runs it on a machine of its own.

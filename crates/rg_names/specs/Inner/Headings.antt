@@ -3,6 +3,9 @@ use Rattle.std.specs.Prelude.{◌≡◌, ℕ, ◌<◌, ⊤, Bool as Truth, true,
 use Rattle.rg_base.specs.declared.words.Cap.{Cap}
 use Rattle.rg_base.specs.declared.ty.Ty.{Ty}
 use Rattle.rg_base.specs.declared.fault.Code.TheVariants.{BadType}
+use Rattle.rg_tree.specs.declared.rows.MemberRow.{MemberRow}
+use Rattle.rg_tree.specs.declared.rows.MemberRow.TheVariants as member
+use Rattle.rg_tree.specs.declared.rows.MethodRow.{MethodRow}
 use Rattle.rg_tree.specs.declared.rows.TypeRow.{TypeRow}
 use Rattle.rg_tree.specs.declared.rows.TypeRow.TheVariants as row
 use Rattle.rg_tree.specs.Tree.{Name, Ty as Written, Param, Class}
@@ -26,6 +29,10 @@ AreNamed t (e ∷ es) = (e.0 < length t.names) × AreNamed t es
 -- the names of earlier entries, the last one first
 abbrev pub names_behind : {V : Type 0} → Tables → List (ℕ × V) → List Name
 names_behind t es = reverse (map (λ e. name_at t e.0) es)
+
+-- a method as a member
+abbrev pub as_member : MethodRow → MemberRow
+as_member m = member.Method m.cap m.name m.params m.result m.body m.line
 
 -- whether a field of a type may stand in a class
 abbrev pub suits_row : TypeRow → (is_tmp : Truth) → Truth

@@ -14,6 +14,7 @@ use Rattle.rg_tree.specs.declared.rows.CallRow.{CallRow}
 use Rattle.rg_tree.specs.Rows.Tables.{Tables, numbers_in}
 use Rattle.rg_tree.specs.Rows.RowTrees.{classes_of, expr_at, stmt_at, call_of, method_of}
 use Rattle.rg_tree.specs.declared.rows.MethodRow.{MethodRow}
+use Rattle.rg_rules.specs.Answers.{◌>>=◌}
 use Rattle.rg_rules.specs.Items.{Item, Do}
 use Rattle.rg_rules.specs.Types.{method_named}
 use Rattle.rg_rules.specs.Values.{Computed}

@@ -8,6 +8,7 @@ use Rattle.rg_tree.specs.Tree.{Class, Path}
 use Rattle.rg_tree.specs.Rows.Tables.{Tables, name_at}
 use Rattle.rg_tree.specs.Rows.RowTrees.{classes_of, expr_at, stmt_at, call_of, method_of}
 use Rattle.rg_tree.specs.declared.rows.MethodRow.{MethodRow}
+use Rattle.rg_rules.specs.Answers.{◌>>=◌}
 use Rattle.rg_rules.specs.Items.{Item, Do, items_of}
 use Rattle.rg_rules.specs.Bodies.{method_end}
 use Rattle.rg_rules.specs.State.{Local, set_in}

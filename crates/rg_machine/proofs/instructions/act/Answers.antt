@@ -106,10 +106,12 @@ pub returns-in-Call : goal.returns-in-Call
 returns-in-Call c = rw c.in-Call.is c.call.ensures
 
 pub returns-in-Ret : goal.returns-in-Ret
-returns-in-Ret c = rw c.in-Ret.is (c.ret.ensures c.args.at)
+returns-in-Ret c =
+    let p = c.ret.ensures in rw c.in-Ret.is (record { effect = p.effect c.args.at; keeps = p.keeps; high = p.high })
 
 pub returns-in-RetVoid : goal.returns-in-RetVoid
-returns-in-RetVoid c = rw c.in-RetVoid.is (c.ret_void.ensures c.args.at)
+returns-in-RetVoid c =
+    let p = c.ret_void.ensures in rw c.in-RetVoid.is (record { effect = p.effect c.args.at; keeps = p.keeps; high = p.high })
 
 pub returns-in-Enter : goal.returns-in-Enter
 returns-in-Enter c = rw c.in-Enter.is (c.enter.ensures c.args.at)

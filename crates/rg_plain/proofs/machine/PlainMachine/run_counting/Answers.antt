@@ -1,5 +1,5 @@
 -- The turns and the ends of a run, by the lemma of a step.
-use Rattle.std.proofs.Common.{◌≡◌, ◌<◌, ◌+◌, ℕ, Option, Some, None, refl, sym, subst, arith, ◌∙◌}
+use Rattle.std.proofs.Common.{◌≡◌, ◌<◌, ◌+◌, Option, Some, None, refl, subst, arith, ◌∙◌}
 use Rattle.rg_base.specs.declared.outcome.Ended.{Ended}
 use Rattle.rg_base.specs.declared.outcome.Ended.TheVariants as ended
 use Rattle.rg_io.proofs.Content.{Appends-none}
@@ -8,7 +8,7 @@ use Rattle.rg_plain.specs.Inner.Counts.{CountIs}
 use Rattle.rg_plain.specs.Machine.{state_of}
 use Rattle.rg_plain.specs.Runs.{IsState}
 use Rattle.rg_plain.proofs.Runs.Dispatch.{left-shown}
-use Rattle.rg_plain.proofs.Runs.Run.{RanSoFar, opening, spent}
+use Rattle.rg_plain.proofs.Runs.Run.{opening, spent}
 use Rattle.rg_plain.proofs.Runs.Count.{ToldOn, begun_next, left_on, told_on}
 use Rattle.rg_plain.proofs.Runs.Machine.{RanOn, RunOn, UnreadOn, QuietOn}
 use Rattle.rg_plain.proofs.machine.PlainMachine.run_counting.Goals as goal
@@ -23,16 +23,14 @@ loop-steps-init g c =
       left = c.requires.left;
       fits = c.requires.fits;
       follows = c.requires.follows;
-      within = omega (arith, c.requires.none);
+      within = omega arith;
       source_never_falls = omega arith;
       sink_never_falls = omega arith;
-      so_far = OnInput-still _ _ _ _ (RanOn t m c.args.steps.now m content content) refl refl (λ bytes.
-          let P : ℕ → Type 0 = λ k. RanSoFar t (state_of t m bytes) k (state_of t m bytes) content content in
-          subst P (sym c.requires.none) (opening t (state_of t m bytes) content some (Appends-none content)));
-      unread = OnInput-still _ _ _ _ (UnreadOn t m c.args.steps.now m content content
+      so_far = OnInput-still _ _ _ _ (RanOn t m 0 m content content) refl refl (λ bytes.
+          opening t (state_of t m bytes) content some (Appends-none content));
+      unread = OnInput-still _ _ _ _ (UnreadOn t m 0 m content content
           ((c.args.input.now ≡ c.args.input.now) × (c.args.source.now ≡ c.args.source.now))) refl refl (λ bytes.
-          let P : ℕ → Type 0 = λ k. RanSoFar t (state_of t m bytes) k (state_of t m bytes) content content in
-          (subst P (sym c.requires.none) (opening t (state_of t m bytes) content some (Appends-none content)), λ none. (refl, refl)));
+          (opening t (state_of t m bytes) content some (Appends-none content), λ none. (refl, refl)));
     }
 
 pub loop-steps-preserved : goal.loop-steps-preserved
