@@ -18,7 +18,7 @@ use Rattle.rg_tree.specs.Tree.{Method, Class}
 use Rattle.rg_rules.specs.Answers.{test}
 use Rattle.rg_rules.specs.Types.{class_named, method_named, type_of}
 use Rattle.rg_rules.specs.Paths.{all_but_last, last_field}
-use Rattle.rg_rules.specs.Items.{Item, Do, EndAt, LeaveAt, Back, items_of}
+use Rattle.rg_rules.specs.Items.{Item, Do, EndAt, LeaveAt, items_of}
 use Rattle.rg_rules.specs.Bodies.{method_end}
 use Rattle.rg_rules.specs.State.{Target, Declares, Assigns, Drops, Frame, Window, State, locals_of, value_in, put_local, add_local, deliver}
 use Rattle.rg_rules.specs.Values.{as_bool}
@@ -256,16 +256,8 @@ behind : (s u : State) → Goes s u → Behind s.items u
 behind s u g = (g.front, g.items)
 
 step_kind-behind : (classes : List Class) (s u : State) (line : ℕ) (k : StmtKind) → step_kind classes s line k ≡ Ok u → Behind s.items u
-step_kind-behind classes s u line (declare x t r) h = behind s u (step_kind-goes classes s u line (declare x t r) refl h)
-step_kind-behind classes s u line (assign p r) h = behind s u (step_kind-goes classes s u line (assign p r) refl h)
-step_kind-behind classes s u line (call c) h = behind s u (step_kind-goes classes s u line (call c) refl h)
-step_kind-behind classes s u line (swap y p) h = behind s u (step_kind-goes classes s u line (swap y p) refl h)
-step_kind-behind classes s u line (branch e first other) h = behind s u (step_kind-goes classes s u line (branch e first other) refl h)
-step_kind-behind classes s u line (while e body) h = behind s u (step_kind-goes classes s u line (while e body) refl h)
-step_kind-behind classes s u line (enter p z body) h = behind s u (step_kind-goes classes s u line (enter p z body) refl h)
 step_kind-behind classes s u line (print e) h = ([], step_kind-print classes s u line e h)
-step_kind-behind classes s u line collect h = behind s u (step_kind-goes classes s u line collect refl h)
-step_kind-behind classes s u line (return e) h = behind s u (step_kind-goes classes s u line (return e) refl h)
+step_kind-behind classes s u line k h = behind s u (step_kind-goes classes s u line k refl h)
 
 leave-keeps : (k : ℕ) (s : State) (ws : List Window) → ((step_leave k s ws).items ≡ s.items) × ((step_leave k s ws).output ≡ s.output)
 leave-keeps k s [] = (refl, refl)
@@ -276,9 +268,8 @@ leave-keeps k s (w ∷ v ∷ ws) = (refl, refl)
 step_item-output : (classes : List Class) (s u : State) (i : Item) → item_prints i ≡ false → step_item classes s i ≡ Went u → u.output ≡ s.output
 step_item-output classes s u (Do (stmt line k)) q h = (step_kind-goes classes s u line k q (stepped-went line (step_kind classes s line k) u
     h)).output
-step_item-output classes s u (EndAt k) q h = ap (λ a. a.output) (sym (went_is _ _ h))
 step_item-output classes s u (LeaveAt k) q h = ap (λ a. a.output) (sym (went_is _ _ h)) ∙ (leave-keeps k s s.windows).1
-step_item-output classes s u Back q h = ap (λ a. a.output) (sym (went_is _ _ h))
+step_item-output classes s u _ q h = ap (λ a. a.output) (sym (went_is _ _ h))
 
 append-some : (front rest : List Item) (j : Item) → front ++ j ∷ rest ≢ []
 append-some [] rest j e = cc
@@ -311,10 +302,9 @@ step_item-ends : (classes : List Class) (s u : State) (i : Item) (rest : List It
 step_item-ends classes s u (Do (stmt line k)) rest e ends h =
     let b = step_kind-behind classes s u line k (stepped-went line (step_kind classes s line k) u h) in
     (left-behind u rest (stmt line k) ends (b.0, b.1 ∙ ap (λ q. b.0 ++ q) e)).1
-step_item-ends classes s u (EndAt k) rest e ends h = ends-same u (EndAt k) rest ends (ap (λ a. a.items) (sym (went_is _ _ h)) ∙ e)
 step_item-ends classes s u (LeaveAt k) rest e ends h =
     ends-same u (LeaveAt k) rest ends (ap (λ a. a.items) (sym (went_is _ _ h)) ∙ (leave-keeps k s s.windows).0 ∙ e)
-step_item-ends classes s u Back rest e ends h = ends-same u Back rest ends (ap (λ a. a.items) (sym (went_is _ _ h)) ∙ e)
+step_item-ends classes s u i rest e ends h = ends-same u i rest ends (ap (λ a. a.items) (sym (went_is _ _ h)) ∙ e)
 
 no-longer : (xs : List Val) (v : Val) → xs ≡ xs ++ v ∷ [] → ⊥
 no-longer xs v e = omega (arith, ap length e, length-append xs (v ∷ []))
@@ -325,11 +315,7 @@ step_item-printed : (classes : List Class) (s u : State) (i : Item) (rest : List
 step_item-printed classes s u (Do (stmt line k)) rest v e ends h out =
     let b = step_kind-behind classes s u line k (stepped-went line (step_kind classes s line k) u h) in
     (left-behind u rest (stmt line k) ends (b.0, b.1 ∙ ap (λ q. b.0 ++ q) e)).0
-step_item-printed classes s u (EndAt k) rest v e ends h out = absurd (no-longer s.output v (sym (step_item-output classes s u (EndAt k) refl h) ∙
-    out))
-step_item-printed classes s u (LeaveAt k) rest v e ends h out =
-    absurd (no-longer s.output v (sym (step_item-output classes s u (LeaveAt k) refl h) ∙ out))
-step_item-printed classes s u Back rest v e ends h out = absurd (no-longer s.output v (sym (step_item-output classes s u Back refl h) ∙ out))
+step_item-printed classes s u i rest v e ends h out = absurd (no-longer s.output v (sym (step_item-output classes s u i refl h) ∙ out))
 
 -- what is known of a step that has been made
 pub record MadeOf (classes : List Class) (s u : State) (r : Outcome) (empty : Bool) : Type 0 where
