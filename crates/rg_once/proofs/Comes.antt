@@ -5,7 +5,7 @@ use Rattle.rg_tree.specs.Tree.{Name, Right, StmtKind, Tree, Ty as Written, Varia
 use Rattle.rg_tree.specs.Tree.{declare, enter, print, return, stmt, swap, while}
 use Rattle.rg_rules.specs.Acceptance.{Accepted}
 use Rattle.rg_rules.specs.Evaluation.{computed, follow_fields, object_at}
-use Rattle.rg_rules.specs.Items.{Back, Do, EndAt, Item, LeaveAt}
+use Rattle.rg_rules.specs.Items.{Do, Item, LeaveAt}
 use Rattle.rg_rules.specs.Paths.{all_but_last, last_field}
 use Rattle.rg_rules.specs.State.{Assigns, Declares, Drops, Local, State, add_local, locals_of, put_local, top_locals, value_in}
 use Rattle.rg_rules.specs.Steps.{Went, begin_block, begin_else, next, put_field, step_first, step_item, step_kind}
@@ -149,6 +149,5 @@ step-comes t accepted p q fit went quiet = by p.items refl quiet
     by (Do (stmt line k) ∷ rest) is e =
         kind-comes t accepted p q line rest fit k e is
         (stepped-went line (step_kind t.classes (record p { items = rest }) line k) q (started (Do (stmt line k)) rest is))
-    by (EndAt k ∷ rest) is e = same _ (started (EndAt k) rest is) refl
     by (LeaveAt k ∷ rest) is e = same _ (started (LeaveAt k) rest is) (leave-store k (record p { items = rest }) p.windows)
-    by (Back ∷ rest) is e = same _ (started Back rest is) refl
+    by (i ∷ rest) is e = same _ (started i rest is) refl

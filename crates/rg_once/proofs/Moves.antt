@@ -1,8 +1,7 @@
 -- Which steps move objects out of their region: those that freeze or merge.
 use Rattle.std.proofs.Common.{Bool as Truth, true, false, List, [], ◌∷◌}
-use Rattle.rg_tree.specs.Tree.{Right, value, new, new_tmp, new_iso, freeze, merge, read, more, result_of, stmt, StmtKind, declare, assign, call, swap}
-use Rattle.rg_tree.specs.Tree.{branch, while, enter, print, collect, return}
-use Rattle.rg_rules.specs.Items.{Item, Do, EndAt, LeaveAt, Back}
+use Rattle.rg_tree.specs.Tree.{Right, value, new, new_tmp, new_iso, freeze, merge, read, more, result_of, stmt, StmtKind, declare, assign}
+use Rattle.rg_rules.specs.Items.{Item, Do}
 
 -- whether a right side freezes or merges
 abbrev pub right_moves : Right → Truth
@@ -20,19 +19,9 @@ right_moves (result_of c) = false
 abbrev pub kind_moves : StmtKind → Truth
 kind_moves (declare x t r) = right_moves r
 kind_moves (assign p r) = right_moves r
-kind_moves (call c) = false
-kind_moves (swap y p) = false
-kind_moves (branch e first other) = false
-kind_moves (while e body) = false
-kind_moves (enter p z body) = false
-kind_moves (print e) = false
-kind_moves collect = false
-kind_moves (return e) = false
+kind_moves _ = false
 
 -- whether the first thing to do does
 abbrev pub moves : List Item → Truth
-moves [] = false
 moves (Do (stmt line k) ∷ rest) = kind_moves k
-moves (EndAt k ∷ rest) = false
-moves (LeaveAt k ∷ rest) = false
-moves (Back ∷ rest) = false
+moves _ = false

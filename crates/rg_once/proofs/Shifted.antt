@@ -7,13 +7,13 @@ use Rattle.rg_base.specs.declared.object.Seen.{Seen}
 use Rattle.rg_base.specs.declared.ty.Ty.{Ty}
 use Rattle.rg_base.specs.declared.value.Val.TheVariants as val
 use Rattle.rg_base.specs.declared.words.Cap.TheVariants.{Imm, Mut}
-use Rattle.rg_tree.specs.Tree.{Name, Right, StmtKind, Tree, Ty as Written, Variable, assign, branch, call, collect, declare, enter, freeze, merge}
+use Rattle.rg_tree.specs.Tree.{Name, Right, StmtKind, Tree, Ty as Written, Variable, assign, declare, freeze, merge}
 use Rattle.rg_tree.specs.Tree.{more}
-use Rattle.rg_tree.specs.Tree.{new, new_iso, new_tmp, print, read, result_of, return, stmt, swap, value, while}
+use Rattle.rg_tree.specs.Tree.{new, new_iso, new_tmp, read, result_of, stmt, value}
 use Rattle.rg_rules.specs.Acceptance.{Accepted}
 use Rattle.rg_rules.specs.Evaluation.{follow_fields, object_at}
 use Rattle.rg_rules.specs.Expressions.{Judged}
-use Rattle.rg_rules.specs.Items.{Back, Do, EndAt, Item, LeaveAt}
+use Rattle.rg_rules.specs.Items.{Do, Item}
 use Rattle.rg_rules.specs.Paths.{all_but_last, last_field}
 use Rattle.rg_rules.specs.Regions.{beneath, region_of}
 use Rattle.rg_rules.specs.Rights.{judge_right}
@@ -152,27 +152,17 @@ module _ (t : Tree) (accepted : Accepted t) (p q : State) (line : ℕ) (rest : L
           → step_kind t.classes begun line (assign (record { base = x; fields = fs }) r) ≡ Ok q → Shifts t.classes p q
       by x [] items e = assign-moves x r moved items e
       by x (f ∷ fs) items e = field-moves x f fs r moved items e
-  kind-shifts (call c) moved items e = absurd cc
-  kind-shifts (swap y a) moved items e = absurd cc
-  kind-shifts (branch a first other) moved items e = absurd cc
-  kind-shifts (while a body) moved items e = absurd cc
-  kind-shifts (enter a z body) moved items e = absurd cc
-  kind-shifts (print a) moved items e = absurd cc
-  kind-shifts collect moved items e = absurd cc
-  kind-shifts (return a) moved items e = absurd cc
+  kind-shifts _ moved items e = absurd cc
 
 -- a step that freezes or merges
 pub step-shifts : (t : Tree) → Accepted t → (p q : State) → Fit t p → next t.classes p ≡ Went q → moves p.items ≡ true → Shifts t.classes p q
 step-shifts t accepted p q fit went moved = by p.items refl moved
   where
     by : (items : List Item) → p.items ≡ items → moves items ≡ true → Shifts t.classes p q
-    by [] is e = absurd cc
     by (Do (stmt line k) ∷ rest) is e =
         kind-shifts t accepted p q line rest fit k e is
         (stepped-went line (step_kind t.classes (record p { items = rest }) line k) q (ap (λ is. step_first t.classes p is) (sym is) ∙ went))
-    by (EndAt k ∷ rest) is e = absurd cc
-    by (LeaveAt k ∷ rest) is e = absurd cc
-    by (Back ∷ rest) is e = absurd cc
+    by _ is e = absurd cc
 
 module _ {t : Tree} {code : Code} {old : Standing} {p q : State} {new : Standing} (u : Answer t code old p q new) (s : Shifts t.classes p q) where
   was-held : (a : ℕ) (o : Seen) → slice_get p.store a ≡ Some o → slice_get (machine_in old.stepper.parts).store a ≡ Some o → o ≢ gone

@@ -8,11 +8,11 @@ use Rattle.rg_base.specs.declared.outcome.Outcome.TheVariants as outcome
 use Rattle.rg_base.specs.declared.outcome.Trap.{Trap}
 use Rattle.rg_base.specs.declared.words.Manager.{Manager}
 use Rattle.rg_base.specs.declared.words.Manager.TheVariants.{Count, Trace}
-use Rattle.rg_tree.specs.Tree.{stmt, StmtKind, declare, assign, call, swap, branch, while, enter, print, collect, return, Class}
+use Rattle.rg_tree.specs.Tree.{stmt, StmtKind, declare, assign, Class}
 use Rattle.rg_tree.specs.Rows.Tables.{Tables}
 use Rattle.rg_tree.specs.Rows.RowTrees.{program_of}
 use Rattle.rg_rules.specs.Outside.Asks.{asks, asks_then, asks_after, asks_on, asks_from, item_makes, is_managed, kind_makes}
-use Rattle.rg_rules.specs.Items.{Item, Do, EndAt, LeaveAt, Back}
+use Rattle.rg_rules.specs.Items.{Item, Do}
 use Rattle.rg_rules.specs.State.{State}
 use Rattle.rg_rules.specs.Steps.{Stepped, Went, Trapped, step_item, step_first, next}
 use Rattle.rg_rules.specs.Runs.{Ran, Running, Done, Stopped, after_step, run_on, opening, plain_from}
@@ -163,11 +163,8 @@ undue-kind classes (assign p r) undue = paced-none (kind_makes classes (assign p
 undue-kind classes _ undue = refl
 
 undue-makes : (classes : List Class) (items : List Item) → first_due classes items ≡ None → first_makes classes items ≡ false
-undue-makes classes [] undue = refl
 undue-makes classes (Do (stmt line k) ∷ rest) undue = undue-kind classes k undue
-undue-makes classes (EndAt k ∷ rest) undue = refl
-undue-makes classes (LeaveAt k ∷ rest) undue = refl
-undue-makes classes (Back ∷ rest) undue = refl
+undue-makes classes _ undue = refl
 
 -- steps that were made at once ask nobody
 pub asks-leapt : (t : Tables) (code : Code) (k j : ℕ) (manager : Manager) (m new : Machine) (Still : Type 0) (before between : List ℕ)

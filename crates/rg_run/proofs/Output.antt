@@ -3,9 +3,9 @@ use Rattle.std.proofs.Common.{◌≡◌, inl, ℕ, zero, suc, ◌+◌, true, fal
 use Rattle.std.proofs.Common.{arith}
 use Rattle.rg_base.specs.declared.value.Val.{Val}
 use Rattle.rg_base.specs.declared.outcome.Outcome.TheVariants as outcome
-use Rattle.rg_tree.specs.Tree.{Expr, stmt, declare, assign, call, swap, branch, while, enter, print, collect, return}
+use Rattle.rg_tree.specs.Tree.{Expr, stmt, print}
 use Rattle.rg_tree.specs.Tree.{Class}
-use Rattle.rg_rules.specs.Items.{Item, Do, EndAt, LeaveAt, Back}
+use Rattle.rg_rules.specs.Items.{Item, Do}
 use Rattle.rg_rules.specs.State.{State}
 use Rattle.rg_rules.specs.Evaluation.{computed}
 use Rattle.rg_rules.specs.Steps.{next, Stepped, Went, Trapped, step_first, step_kind}
@@ -48,19 +48,8 @@ module _ (classes : List Class) (s u : State) (first : Item) (rest : List Item) 
   next-ends = ends_by classes s u first rest items ends outcome.Running went
 
   next-goes_on : (i : Item) → first ≡ i → GoesOn s.output u.output
-  next-goes_on (Do (stmt line (declare x t r))) is = quiet (ap item_prints is)
-  next-goes_on (Do (stmt line (assign p r))) is = quiet (ap item_prints is)
-  next-goes_on (Do (stmt line (call c))) is = quiet (ap item_prints is)
-  next-goes_on (Do (stmt line (swap y p))) is = quiet (ap item_prints is)
-  next-goes_on (Do (stmt line (branch e a b))) is = quiet (ap item_prints is)
-  next-goes_on (Do (stmt line (while e body))) is = quiet (ap item_prints is)
-  next-goes_on (Do (stmt line (enter p z body))) is = quiet (ap item_prints is)
   next-goes_on (Do (stmt line (print e))) is = printed line e is
-  next-goes_on (Do (stmt line collect)) is = quiet (ap item_prints is)
-  next-goes_on (Do (stmt line (return e))) is = quiet (ap item_prints is)
-  next-goes_on (EndAt k) is = quiet (ap item_prints is)
-  next-goes_on (LeaveAt k) is = quiet (ap item_prints is)
-  next-goes_on Back is = quiet (ap item_prints is)
+  next-goes_on _ is = quiet (ap item_prints is)
 
 -- a run behind another one: its output goes on, and the last thing to do still ends main
 pub record Later (r q : Ran) : Type 0 where

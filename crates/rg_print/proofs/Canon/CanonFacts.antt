@@ -10,8 +10,8 @@ use Rattle.rg_base.specs.declared.token.Token.{Token}
 use Rattle.rg_base.specs.Pieces.{is_blank}
 use Rattle.rg_base.specs.Tokens.{line_behind}
 use Rattle.rg_tree.specs.declared.counts.Counts.{Counts}
-use Rattle.rg_tree.specs.Tree.{Name, Variable, Path, Ty, int, bool, Right, read, more, Stmt, stmt, StmtKind, declare, assign, call, swap, branch}
-use Rattle.rg_tree.specs.Tree.{while, enter, print, collect, return, Else, Block, empty, then, Param, Member, Class, Tree}
+use Rattle.rg_tree.specs.Tree.{Name, Variable, Path, Ty, int, bool, Right, read, more, Stmt, stmt, StmtKind, assign}
+use Rattle.rg_tree.specs.Tree.{Else, Block, empty, then, Param, Member, Class, Tree}
 use Rattle.rg_tree.specs.Lineless.{kind_lineless, stmt_lineless, block_lineless, else_lineless, member_lineless, class_lineless, lineless}
 use Rattle.rg_tree.specs.Phrases.{the}
 use Rattle.rg_tree.specs.Phrases as p
@@ -42,16 +42,8 @@ base-begins None xs = record { stmts = refl; no_else = refl }
 base-begins (Some x) xs = record { stmts = refl; no_else = refl }
 
 pub stmt-begins : (n : ℕ) (a : Stmt) (rest : List Lexeme) → StmtBegins (first_kind (stmt_lexemes n a rest))
-stmt-begins n (stmt l (declare x t r)) rest = record { stmts = refl; no_else = refl }
 stmt-begins n (stmt l (assign q r)) rest = base-begins q.base _
-stmt-begins n (stmt l (call a)) rest = record { stmts = refl; no_else = refl }
-stmt-begins n (stmt l (swap x q)) rest = record { stmts = refl; no_else = refl }
-stmt-begins n (stmt l (branch e b o)) rest = record { stmts = refl; no_else = refl }
-stmt-begins n (stmt l (while e b)) rest = record { stmts = refl; no_else = refl }
-stmt-begins n (stmt l (enter q x b)) rest = record { stmts = refl; no_else = refl }
-stmt-begins n (stmt l (print e)) rest = record { stmts = refl; no_else = refl }
-stmt-begins n (stmt l collect) rest = record { stmts = refl; no_else = refl }
-stmt-begins n (stmt l (return e)) rest = record { stmts = refl; no_else = refl }
+stmt-begins n (stmt l _) rest = record { stmts = refl; no_else = refl }
 
 -- no else comes behind a statement
 pub block-begins : (n : ℕ) (b : Block) (rest : List Lexeme) → first_kind rest ≡ Some (k.Mark s.CloseBrace)

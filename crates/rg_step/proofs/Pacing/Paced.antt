@@ -12,7 +12,7 @@ use Rattle.rg_tree.specs.Tree.{Name, Variable, Right, new, Class}
 use Rattle.rg_tree.specs.Tree.{stmt, StmtKind, declare, assign}
 use Rattle.rg_rules.specs.Outside.Asks.{kind_makes, right_makes}
 use Rattle.rg_rules.specs.Evaluation.{follow_fields, object_at, with_field}
-use Rattle.rg_rules.specs.Items.{Item, Do, EndAt, LeaveAt, Back}
+use Rattle.rg_rules.specs.Items.{Item, Do}
 use Rattle.rg_rules.specs.Paths.{all_but_last, last_field}
 use Rattle.rg_rules.specs.RightSides.{Use, made, new_object, with_right}
 use Rattle.rg_rules.specs.State.{Assigns, Declares, Drops, State, Target, add_local, locals_of, put_local, value_in}
@@ -40,11 +40,8 @@ kind-paced classes (assign p r) = paced-back (right_makes classes r)
 kind-paced classes _ = refl
 
 pub first-paced : (classes : List Class) (items : List Item) → first_makes classes items ≡ is_pace (first_due classes items)
-first-paced classes [] = refl
 first-paced classes (Do (stmt line k) ∷ rest) = kind-paced classes k
-first-paced classes (EndAt k ∷ rest) = refl
-first-paced classes (LeaveAt k ∷ rest) = refl
-first-paced classes (Back ∷ rest) = refl
+first-paced classes _ = refl
 
 -- What such a step keeps
 
@@ -101,14 +98,11 @@ kind-stays classes s line _ makes q is = absurd (true≢false (sym makes))
 
 first-stays : (classes : List Class) (s : State) (items : List Item) → first_makes classes items ≡ true → (q : State)
     → step_first classes s items ≡ Went q → Stays s q
-first-stays classes s [] makes q is = absurd (true≢false (sym makes))
 first-stays classes s (Do (stmt line k) ∷ rest) makes q is =
     let u = record s { items = rest } in
     let h = kind-stays classes u line k makes q (stepped-ok line (step_kind classes u line k) q is) in
     record { windows = h.windows; managers = h.managers }
-first-stays classes s (EndAt k ∷ rest) makes q is = absurd (true≢false (sym makes))
-first-stays classes s (LeaveAt k ∷ rest) makes q is = absurd (true≢false (sym makes))
-first-stays classes s (Back ∷ rest) makes q is = absurd (true≢false (sym makes))
+first-stays classes s _ makes q is = absurd (true≢false (sym makes))
 
 pub next-stays : (classes : List Class) (s q : State) → first_makes classes s.items ≡ true → next classes s ≡ Went q → Stays s q
 next-stays classes s q makes is = first-stays classes s s.items makes q is

@@ -8,7 +8,7 @@ use Rattle.rg_base.specs.declared.event.Cause.TheVariants.{Asked, Paced}
 use Rattle.rg_base.specs.declared.outcome.Outcome.TheVariants as outcome
 use Rattle.rg_tree.specs.Tree.{stmt, StmtKind, declare, assign, collect, Class, Tree}
 use Rattle.rg_rules.specs.Outside.Asks.{kind_makes}
-use Rattle.rg_rules.specs.Items.{Item, Do, EndAt, LeaveAt, Back}
+use Rattle.rg_rules.specs.Items.{Item, Do, EndAt}
 use Rattle.rg_rules.specs.State.{Frame as Body, State, Window as Opened}
 use Rattle.rg_sound.specs.Frames.{FramesFit}
 use Rattle.rg_code.specs.declared.op.Op.{Op}
@@ -72,9 +72,7 @@ module _ (classes : List Class) (code : List Op) where
   item-step : (l : Level) (ls : List Level) (j : Item) (rest : List Item) (at : ℕ) → ((j ≡ EndAt 0 → ⊥) → SomeLeft rest)
       → first_due classes (j ∷ rest) ≡ Some Asked → Lies classes code (l ∷ ls) (j ∷ rest) at → IsStep code at (i.Collect ∷ [])
   item-step l ls (Do (stmt line k)) rest at left due h = kind-step l ls line k rest at (left (do-other (stmt line k))) due h
-  item-step l ls (EndAt k) rest at left due h = absurd (none-some Asked due)
-  item-step l ls (LeaveAt k) rest at left due h = absurd (none-some Asked due)
-  item-step l ls Back rest at left due h = absurd (none-some Asked due)
+  item-step l ls _ rest at left due h = absurd (none-some Asked due)
 
 all-steps : (t : Tree) (code : List Op) (at : ℕ) (mfs : List Frame) (fs : List Body) (ws : List Opened) (items : List Item) → SomeLeft items
     → FramesFit t fs ws items → ShowsFrames mfs fs → Lies t.classes code (levels_of mfs fs) items at
