@@ -212,7 +212,8 @@ impl PlainMachine {
         ensures source_never_falls { S.faults source.old ≤ S.faults source.new }
         ensures sink_never_falls { O.faults out.old ≤ O.faults out.new }
     {
-        self.run_counting(alloc, program, n, input, source, out).ended
+        self.run_counting(alloc, program, n, input, source, out)
+            .ended
     }
 
     /// Makes at most `n` steps, as `run` does, and counts the whole ones.
@@ -253,7 +254,10 @@ impl PlainMachine {
                 return CountedRun { ended, steps };
             }
         }
-        CountedRun { ended: Ended::Spent, steps }
+        CountedRun {
+            ended: Ended::Spent,
+            steps,
+        }
     }
 
     /// How many objects were made.
