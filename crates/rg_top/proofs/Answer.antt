@@ -224,14 +224,6 @@ pub record Answered (told : Option Told) (left : Option (List ℕ)) (words : Lis
   pub settles : SettlesCommand told asked left given old new m still
   pub told_is : Becomes given answer
 
--- what was answered, with the output and the machine by other names
-pub settles-moved : (told : Option Told) (c : Command) (left : Option (List ℕ)) (s : Status) (old new behind : Option (List ℕ)) (m n : Kept)
-    (still : Type 0) → new ≡ behind → m ≡ n → SettlesCommand told c left s old new m still → SettlesCommand told c left s old behind n still
-settles-moved told c left s old new behind m n still out_is machine_is h =
-    let P : Option (List ℕ) → Type 0 = λ q. SettlesCommand told c left s old q m still in
-    let Q : Kept → Type 0 = λ q. SettlesCommand told c left s old behind q still in
-    subst Q machine_is (subst P out_is h)
-
 module _ {told : Option Told} {left : Option (List ℕ)} {words : List (List ℕ)} {given answer : Status} {old new : Option (List ℕ)} {m : Kept}
     {still : Type 0} (a : Answered told left words given answer old new m still) where
   pub answer-answered : OnTrue (is_answer answer) (ForSource told left words (λ c source input. Answers c source input answer old new m still))

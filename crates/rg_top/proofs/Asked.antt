@@ -100,21 +100,6 @@ asked-from origin n source left t code m e old new quiet first last count trace 
       )
     ]
 
--- pacers that were tuned had been asked as often before
-pub asked-tuned : (origin : Origin) (source : List ℕ) (left : Option (List ℕ)) (m : Kept) (c d e t u v : ℕ) → d ≡ c → u ≡ t →
-    RunAsked origin source left m d e u v → RunAsked origin source left m c e t v
-asked-tuned origin source left m c d e t u v count trace h =
-    let P : ℕ → Type 0 = λ q. RunAsked origin source left m q e u v in
-    let Q : ℕ → Type 0 = λ q. RunAsked origin source left m c e q v in
-    subst Q trace (subst P count h)
-
--- and had said yes as often
-pub yeses-tuned : (m : Kept) (c d e t u v : ℕ) → d ≡ c → u ≡ t → SayYes m d e u v → SayYes m c e t v
-yeses-tuned m c d e t u v count trace h =
-    let P : ℕ → Type 0 = λ q. SayYes m q e u v in
-    let Q : ℕ → Type 0 = λ q. SayYes m c e q v in
-    subst Q trace (subst P count h)
-
 -- an empty input is the only one of a source that has nothing left
 pub asked-generated : (size : ℕ) (source : List ℕ) (left : Option (List ℕ)) (m : Kept) (c d t u : ℕ) →
     RunAsked (generated size) source (Some []) m c d t u → AskedFrom (generated size) source left m c d t u

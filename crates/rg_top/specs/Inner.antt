@@ -2,6 +2,4 @@
 pub mod Nothing
 pub mod Requests
 pub mod Settled
-pub mod Setting
-pub mod Tallies
 pub mod Words
