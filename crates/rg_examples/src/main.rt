@@ -6,12 +6,14 @@
 mod calls;
 mod cells;
 mod changes;
+mod cuts;
 mod pacers;
 mod programs;
 mod rows;
 mod shown;
 
 use crate::changes::judge_change;
+use crate::cuts::cut_anywhere;
 use crate::pacers::{by_a_list, never};
 use crate::programs::{PROGRAMS, settles, writes};
 use crate::rows::{Verdict, judge};
@@ -104,6 +106,8 @@ fn main(rt: HostRuntime) -> io::Result<()> {
     println!(rt; "every_second.rg where a pacer says yes and no by turns: {by_a_list}")?;
     let never = told(never(&rt));
     println!(rt; "every_second.rg where no pacer says yes: {never}")?;
+    let cut = told(cut_anywhere(&rt));
+    println!(rt; "every_second.rg cut off before its last brace: {cut}")?;
     told_of(&rt, Table::Changes, "changes.txt")?;
     told_of(&rt, Table::Rows, "rows.txt")
 }

@@ -7,9 +7,13 @@ use rg_io::MemFiles;
 use rg_run::Machine;
 use std::alloc::Global;
 
+/// The number of the status of a source that could not be read.
+const SOURCE_FAULT: u8 = 5;
+
 /// A row: `words | input | source | output | notes | status | failing`. The last cell may be left
-/// out. It has the calls of the files, the input, the output and the notes that fail, and the steps
-/// that the machine has made then; such an input comes byte by byte.
+/// out. It has the calls of the files, the input, the output and the notes that fail (0: none), the
+/// steps that the machine has made then (`-`: any), and maybe the most bytes that one call of the
+/// output takes; such an input comes byte by byte.
 #[derive(Drop)]
 struct Row<'a> {
     words: &'a str,
@@ -97,6 +101,10 @@ fn ample(alloc: Global, row: &Row<'_>) -> Option<Handed> {
 /// Names the calls that fail; None where no memory was found.
 fn let_fail(handed: &mut Handed, failing: &str) -> Option<()> {
     handed.streams.input.piece(1);
+    let most = number_at(failing, 5);
+    if most != 0 {
+        handed.streams.out.piece(most as usize);
+    }
     handed.files.fail_at(number_at(failing, 0)).ok()?;
     handed.streams.input.fail_at(number_at(failing, 1)).ok()?;
     handed.streams.out.fail_at(number_at(failing, 2)).ok()?;
@@ -108,6 +116,18 @@ fn is_told(alloc: Global, row: &Row<'_>, streams: &Streams) -> Option<bool> {
     let notes = are_as(alloc, row.notes, streams.notes.taken())?;
     let output = expanded(alloc, row.output)?;
     Some(notes && streams.out.taken() == output.as_slice())
+}
+
+/// Whether the machine has made the steps that a cell of failing calls says, and none, nor begun,
+/// where the source could not be read.
+fn is_left_so(machine: &Machine, failing: &str, status: u8) -> bool {
+    if status == SOURCE_FAULT && !machine.is_fresh() {
+        return false;
+    }
+    match failing.split_whitespace().nth(4) {
+        Some("-") | None => true,
+        Some(word) => word.parse() == Ok(machine.numbers().steps),
+    }
 }
 
 /// Whether the call of a row gives what it says; None where no memory was found.
@@ -125,8 +145,7 @@ fn gives(alloc: Global, row: &Row<'_>) -> Option<bool> {
         &mut handed.streams,
         &mut machine,
     );
-    let steps = number_at(row.failing, 4);
-    if row.status.parse() != Ok(status) || steps != 0 && machine.numbers().steps != steps {
+    if row.status.parse() != Ok(status) || !is_left_so(&machine, row.failing, status) {
         return Some(false);
     }
     is_told(alloc, row, &handed.streams)
