@@ -80,8 +80,7 @@ pub fn watch<S: Source>(
     requires lowers { Lowers (program_of accepted.now.program) code.now }
     requires follows { Follows input.old (S.left source.old) }
 {
-    let program = accepted.program();
-    let manager = program.main_manager();
+    let manager = accepted.program().main_manager();
     let (mut count, mut trace) = (tuned(), tuned());
     let mut followed = Followed::new(rt.alloc());
     let mut stepper = Stepper::new(rt.alloc());
