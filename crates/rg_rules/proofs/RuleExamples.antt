@@ -1,13 +1,13 @@
 -- Short programs and their first faults, computed: for each subject some of what is refused and allowed, and the order of
 -- tests. Beside each text stands its tree.
-use Rattle.std.proofs.Common.{refl, [], ◌∷◌, true, false, Some, None, codes, pos}
+use Rattle.std.proofs.Common.{refl, List, [], ◌∷◌, true, false, Some, None, codes, pos}
 use Rattle.std.specs.Fmt.{digits}
 use Rattle.rg_base.specs.declared.words.Cap.TheVariants as cap
 use Rattle.rg_base.specs.declared.words.Manager.TheVariants as manager
 use Rattle.rg_base.specs.declared.fault.Code.TheVariants as code
 use Rattle.rg_tree.specs.declared.rows.BinOp.TheVariants as op
 use Rattle.rg_tree.specs.Tree.{int, bool, number, boolean, nil, path, is_nil, binary, value, new, new_tmp, freeze, merge, result_of, declare, assign}
-use Rattle.rg_tree.specs.Tree.{swap, branch, no_else, otherwise, enter, print, return}
+use Rattle.rg_tree.specs.Tree.{swap, branch, no_else, otherwise, enter, print, return, Class}
 use Rattle.rg_rules.proofs.Sources.{self, var, dot, use_of, to, call_of, block, field_named, param, method_named, class_named, program, fault}
 use Rattle.rg_rules.proofs.Sources.{Example}
 
@@ -81,16 +81,21 @@ field_of_number : Example ("main arena { let k: int = 1; print k.v; }" ∷ []) (
 unfolding digits
 field_of_number = (refl, refl)
 
+-- a class of one number and a region beneath, which several programs have:
+-- class A { n: int; o: iso A; def mut f(y: iso A): iso A { return y; } def imm g() { } }
+abbrev one_class : List Class
+one_class =
+    class_named "A" false (field_named "n" int
+    ∷ field_named "o" (to cap.Iso "A")
+    ∷ method_named cap.Mut "f" (param "y" (to cap.Iso "A") ∷ []) (Some (to cap.Iso "A")) (return (use_of "y") ∷ [])
+    ∷ method_named cap.Imm "g" [] None [] ∷ []) ∷ []
+
 -- an `iso` variable isn't followed, be it ready or gone
 field_behind_iso : Example
     ("class A { n: int; o: iso A; def mut f(y: iso A): iso A { return y; } def imm g() { } }"
     ∷ "main arena { let y: iso A = nil; let z: iso A = y; print y.n; }" ∷ [])
     (fault code.Capability)
-    (program (class_named "A" false (field_named "n" int
-    ∷ field_named "o" (to cap.Iso "A")
-    ∷ method_named cap.Mut "f" (param "y" (to cap.Iso "A") ∷ []) (Some (to cap.Iso "A")) (return (use_of "y") ∷ [])
-    ∷ method_named cap.Imm "g" [] None [] ∷ []) ∷ [])
-    manager.Arena
+    (program one_class manager.Arena
     (declare (codes "y") (to cap.Iso "A") (value nil)
     ∷ declare (codes "z") (to cap.Iso "A") (value (use_of "y"))
     ∷ print (path (dot "y" "n")) ∷ []))
@@ -108,11 +113,7 @@ iso_field_behind_paused : Example
     ("class A { n: int; o: iso A; def mut f(y: iso A): iso A { return y; } def imm g() { } }"
     ∷ "main arena { let a: mut A = nil; let p: paused A = a; print p.o is nil; }" ∷ [])
     (fault code.Capability)
-    (program (class_named "A" false (field_named "n" int
-    ∷ field_named "o" (to cap.Iso "A")
-    ∷ method_named cap.Mut "f" (param "y" (to cap.Iso "A") ∷ []) (Some (to cap.Iso "A")) (return (use_of "y") ∷ [])
-    ∷ method_named cap.Imm "g" [] None [] ∷ []) ∷ [])
-    manager.Arena
+    (program one_class manager.Arena
     (declare (codes "a") (to cap.Mut "A") (value nil)
     ∷ declare (codes "p") (to cap.Paused "A") (value (use_of "a"))
     ∷ print (is_nil (dot "p" "o")) ∷ []))
@@ -124,11 +125,7 @@ iso_field_behind_imm : Example
     ("class A { n: int; o: iso A; def mut f(y: iso A): iso A { return y; } def imm g() { } }"
     ∷ "main arena { let p: imm A = nil; let q: imm A = p.o; }" ∷ [])
     None
-    (program (class_named "A" false (field_named "n" int
-    ∷ field_named "o" (to cap.Iso "A")
-    ∷ method_named cap.Mut "f" (param "y" (to cap.Iso "A") ∷ []) (Some (to cap.Iso "A")) (return (use_of "y") ∷ [])
-    ∷ method_named cap.Imm "g" [] None [] ∷ []) ∷ [])
-    manager.Arena
+    (program one_class manager.Arena
     (declare (codes "p") (to cap.Imm "A") (value nil) ∷ declare (codes "q") (to cap.Imm "A") (value (path (dot "p" "o"))) ∷ []))
 unfolding digits
 iso_field_behind_imm = (refl, refl)
@@ -241,11 +238,7 @@ receiver_not_below : Example
     ("class A { n: int; o: iso A; def mut f(y: iso A): iso A { return y; } def imm g() { } }"
     ∷ "main arena { let y: iso A = nil; let a: mut A = nil; let p: paused A = a; y = call p.f(y); }" ∷ [])
     (fault code.Capability)
-    (program (class_named "A" false (field_named "n" int
-    ∷ field_named "o" (to cap.Iso "A")
-    ∷ method_named cap.Mut "f" (param "y" (to cap.Iso "A") ∷ []) (Some (to cap.Iso "A")) (return (use_of "y") ∷ [])
-    ∷ method_named cap.Imm "g" [] None [] ∷ []) ∷ [])
-    manager.Arena
+    (program one_class manager.Arena
     (declare (codes "y") (to cap.Iso "A") (value nil)
     ∷ declare (codes "a") (to cap.Mut "A") (value nil)
     ∷ declare (codes "p") (to cap.Paused "A") (value (use_of "a"))
@@ -258,11 +251,7 @@ arity_before_types : Example
     ("class A { n: int; o: iso A; def mut f(y: iso A): iso A { return y; } def imm g() { } }"
     ∷ "main arena { let y: iso A = nil; let a: mut A = nil; y = call a.f(1, 2); }" ∷ [])
     (fault code.Arity)
-    (program (class_named "A" false (field_named "n" int
-    ∷ field_named "o" (to cap.Iso "A")
-    ∷ method_named cap.Mut "f" (param "y" (to cap.Iso "A") ∷ []) (Some (to cap.Iso "A")) (return (use_of "y") ∷ [])
-    ∷ method_named cap.Imm "g" [] None [] ∷ []) ∷ [])
-    manager.Arena
+    (program one_class manager.Arena
     (declare (codes "y") (to cap.Iso "A") (value nil)
     ∷ declare (codes "a") (to cap.Mut "A") (value nil)
     ∷ assign (var "y") (result_of (call_of (var "a") "f" ((number (pos 1)) ∷ (number (pos 2)) ∷ []))) ∷ []))
@@ -274,11 +263,7 @@ no_result : Example
     ("class A { n: int; o: iso A; def mut f(y: iso A): iso A { return y; } def imm g() { } }"
     ∷ "main arena { let p: imm A = nil; let k: int = call p.g(); }" ∷ [])
     (fault code.Mismatch)
-    (program (class_named "A" false (field_named "n" int
-    ∷ field_named "o" (to cap.Iso "A")
-    ∷ method_named cap.Mut "f" (param "y" (to cap.Iso "A") ∷ []) (Some (to cap.Iso "A")) (return (use_of "y") ∷ [])
-    ∷ method_named cap.Imm "g" [] None [] ∷ []) ∷ [])
-    manager.Arena
+    (program one_class manager.Arena
     (declare (codes "p") (to cap.Imm "A") (value nil) ∷ declare (codes "k") int (result_of (call_of (var "p") "g" [])) ∷ []))
 unfolding digits
 no_result = (refl, refl)
@@ -312,11 +297,7 @@ taken_back : Example
     ("class A { n: int; o: iso A; def mut f(y: iso A): iso A { return y; } def imm g() { } }"
     ∷ "main arena { let y: iso A = nil; let a: mut A = nil; y = call a.f(y); }" ∷ [])
     None
-    (program (class_named "A" false (field_named "n" int
-    ∷ field_named "o" (to cap.Iso "A")
-    ∷ method_named cap.Mut "f" (param "y" (to cap.Iso "A") ∷ []) (Some (to cap.Iso "A")) (return (use_of "y") ∷ [])
-    ∷ method_named cap.Imm "g" [] None [] ∷ []) ∷ [])
-    manager.Arena
+    (program one_class manager.Arena
     (declare (codes "y") (to cap.Iso "A") (value nil)
     ∷ declare (codes "a") (to cap.Mut "A") (value nil)
     ∷ assign (var "y") (result_of (call_of (var "a") "f" ((use_of "y") ∷ []))) ∷ []))
@@ -383,11 +364,7 @@ iso_field_before_call : Example
     ("class A { n: int; o: iso A; def mut f(y: iso A): iso A { return y; } def imm g() { } }"
     ∷ "main arena { let y: iso A = nil; let a: mut A = nil; a.o = call a.f(y); }" ∷ [])
     (fault code.IsoField)
-    (program (class_named "A" false (field_named "n" int
-    ∷ field_named "o" (to cap.Iso "A")
-    ∷ method_named cap.Mut "f" (param "y" (to cap.Iso "A") ∷ []) (Some (to cap.Iso "A")) (return (use_of "y") ∷ [])
-    ∷ method_named cap.Imm "g" [] None [] ∷ []) ∷ [])
-    manager.Arena
+    (program one_class manager.Arena
     (declare (codes "y") (to cap.Iso "A") (value nil)
     ∷ declare (codes "a") (to cap.Mut "A") (value nil)
     ∷ assign (dot "a" "o") (result_of (call_of (var "a") "f" ((use_of "y") ∷ []))) ∷ []))
@@ -405,11 +382,7 @@ swap_with_number : Example
     ("class A { n: int; o: iso A; def mut f(y: iso A): iso A { return y; } def imm g() { } }"
     ∷ "main arena { let y: iso A = nil; let a: mut A = nil; swap y, a.n; }" ∷ [])
     (fault code.Mismatch)
-    (program (class_named "A" false (field_named "n" int
-    ∷ field_named "o" (to cap.Iso "A")
-    ∷ method_named cap.Mut "f" (param "y" (to cap.Iso "A") ∷ []) (Some (to cap.Iso "A")) (return (use_of "y") ∷ [])
-    ∷ method_named cap.Imm "g" [] None [] ∷ []) ∷ [])
-    manager.Arena
+    (program one_class manager.Arena
     (declare (codes "y") (to cap.Iso "A") (value nil)
     ∷ declare (codes "a") (to cap.Mut "A") (value nil)
     ∷ swap (codes "y") (dot "a" "n") ∷ []))
@@ -428,11 +401,7 @@ field_entered : Example
     ("class A { n: int; o: iso A; def mut f(y: iso A): iso A { return y; } def imm g() { } }"
     ∷ "main arena { let a: mut A = nil; enter a.o as z { z.n = 1; } }" ∷ [])
     None
-    (program (class_named "A" false (field_named "n" int
-    ∷ field_named "o" (to cap.Iso "A")
-    ∷ method_named cap.Mut "f" (param "y" (to cap.Iso "A") ∷ []) (Some (to cap.Iso "A")) (return (use_of "y") ∷ [])
-    ∷ method_named cap.Imm "g" [] None [] ∷ []) ∷ [])
-    manager.Arena
+    (program one_class manager.Arena
     (declare (codes "a") (to cap.Mut "A") (value nil)
     ∷ enter (dot "a" "o") (codes "z") (block (assign (dot "z" "n") (value (number (pos 1))) ∷ [])) ∷ []))
 unfolding digits

@@ -7,7 +7,8 @@ use Rattle.rg_tree.specs.declared.rows.BinOp.TheVariants as op
 use Rattle.rg_tree.specs.Tree.{int, number, binary, value, new, read, result_of, declare, assign, branch, no_else}
 use Rattle.rg_tree.specs.Tree.{print, return, Tree, stmt, then, empty}
 use Rattle.rg_code.specs.Lowering.{lowered}
-use Rattle.rg_code.proofs.Examples.Words.{self, var, use_of, to, call_of, param, method_on, class_on, program_on, Lists}
+use Rattle.rg_rules.proofs.Sources.{self, var, use_of, to, call_of, param}
+use Rattle.rg_code.proofs.Examples.Words.{method_on, class_on, program_on, Lists}
 
 abbrev pub recursion : Tree
 recursion = program_on 10

@@ -5,7 +5,8 @@ use Rattle.rg_base.specs.declared.words.Cap.TheVariants as cap
 use Rattle.rg_base.specs.declared.words.Manager.TheVariants as manager
 use Rattle.rg_tree.specs.declared.rows.BinOp.TheVariants as op
 use Rattle.rg_tree.specs.Tree.{int, number, boolean, nil, path, is_nil, neg, not, binary, value, declare, print, Tree, stmt, then, empty}
-use Rattle.rg_code.proofs.Examples.Words.{var, dot, to, field_on, class_on, program_on, Lists}
+use Rattle.rg_rules.proofs.Sources.{var, dot, to}
+use Rattle.rg_code.proofs.Examples.Words.{field_on, class_on, program_on, Lists}
 
 -- one number is printed; the program stands on one line
 abbrev one_number : Tree

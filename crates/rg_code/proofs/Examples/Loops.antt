@@ -7,7 +7,8 @@ use Rattle.rg_base.specs.declared.value.Word.TheVariants as word
 use Rattle.rg_tree.specs.Tree.{int, bool, is_nil, value, new, new_tmp, new_iso, merge, more, declare, assign, call, branch, otherwise, while}
 use Rattle.rg_tree.specs.Tree.{collect, return, Tree, StmtKind, stmt, then, empty}
 use Rattle.rg_code.specs.Lowering.{lowered}
-use Rattle.rg_code.proofs.Examples.Words.{var, dot, use_of, to, call_of, param, field_on, method_on, class_on, program_on, Lists}
+use Rattle.rg_rules.proofs.Sources.{var, dot, use_of, to, call_of, param}
+use Rattle.rg_code.proofs.Examples.Words.{field_on, method_on, class_on, program_on, Lists}
 
 -- `if y is nil { .. } else { .. }`
 abbrev pub choice : StmtKind

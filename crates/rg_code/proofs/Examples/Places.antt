@@ -8,7 +8,7 @@ use Rattle.rg_rules.specs.Items.{Do, EndAt, LeaveAt, Back}
 use Rattle.rg_rules.specs.State.{Declares, Drops}
 use Rattle.rg_code.specs.Lowering.{Scope, lowered}
 use Rattle.rg_code.specs.Places.{Level, Lies}
-use Rattle.rg_code.proofs.Examples.Words.{var, dot, dots, use_of, to, call_of}
+use Rattle.rg_rules.proofs.Sources.{var, dot, dots, use_of, to, call_of}
 use Rattle.rg_code.proofs.Examples.Calls.{recursion}
 use Rattle.rg_code.proofs.Examples.Windows.{regions}
 use Rattle.rg_code.proofs.Examples.Loops.{loop, merging}

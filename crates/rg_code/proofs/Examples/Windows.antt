@@ -6,7 +6,8 @@ use Rattle.rg_base.specs.declared.words.Manager.TheVariants as manager
 use Rattle.rg_base.specs.declared.value.Word.TheVariants as word
 use Rattle.rg_tree.specs.Tree.{int, number, path, value, new_iso, freeze, declare, assign, call, swap, enter, print, return, Tree, stmt, then, empty}
 use Rattle.rg_code.specs.Lowering.{lowered}
-use Rattle.rg_code.proofs.Examples.Words.{self_dot, var, dot, dots, use_of, to, call_of, param, field_on, method_on, class_on, program_on, Lists}
+use Rattle.rg_rules.proofs.Sources.{self_dot, var, dot, dots, use_of, to, call_of, param}
+use Rattle.rg_code.proofs.Examples.Words.{field_on, method_on, class_on, program_on, Lists}
 
 abbrev pub regions : Tree
 regions = program_on 11

@@ -108,35 +108,7 @@ module _ (S source : List ℕ) where
       let n = text source u in
       let name = name-of source u f fine.1.1.0 in (
         record {
-          apart = λ rest y. (
-            refl,
-            (
-              refl,
-              (
-                refl,
-                (
-                  refl,
-                  (
-                    name,
-                    refl,
-                    (
-                      refl,
-                      (
-                        tt,
-                        (
-                          refl,
-                          r.0.apart (mark s.CloseBrace ∷ newline ∷ rest) (
-                            tt,
-                            (refl, y),
-                          ),
-                        ),
-                      ),
-                    ),
-                  ),
-                ),
-              ),
-            ),
-          );
+          apart = λ rest y. (refl, (refl, (refl, (refl, (name, refl, (refl, (tt, (refl, r.0.apart (mark s.CloseBrace ∷ newline ∷ rest) (tt, (refl, y))))))))));
           reads = λ from line rest y.
               let q = r.0.reads (from + 3 + 1 + 5 + 1 + length n + 1 + 1 + 1) (line_behind line (10 ∷ []))
               (mark s.CloseBrace ∷ newline ∷ rest) refl y.1 in
@@ -164,21 +136,7 @@ module _ (S source : List ℕ) where
       let n = text source t in
       let name = name-of source t e fine.0 in (
         record {
-          apart = λ rest v. (
-            refl,
-            (
-              name,
-              refl,
-              (
-                tt,
-                (
-                  refl,
-                  ty-apart y (mark s.Semicolon ∷ newline ∷ members_lexemes ms rest) r.0.0 refl
-                      (tt, (refl, q.0.apart rest v)),
-                ),
-              ),
-            ),
-          );
+          apart = λ rest v. (refl, (name, refl, (tt, (refl, ty-apart y (mark s.Semicolon ∷ newline ∷ members_lexemes ms rest) r.0.0 refl (tt, (refl, q.0.apart rest v))))));
           reads = λ from line rest m v.
               let u = leads S _ _ _ r.0.1 (ty-read S y _ (from + 2 + length n + 1 + 1) line
               (mark s.Semicolon ∷ newline ∷ members_lexemes ms rest) v.1) in
@@ -279,18 +237,7 @@ module _ (S source : List ℕ) where
       let n = text source t in
       let name = name-of source t e fine.0 in (
         record {
-          apart = λ rest o v. (
-            name,
-            refl,
-            (
-              tt,
-              (
-                refl,
-                ty-apart y (more_param_lexemes ps rest) r.0.0 (more_params-goes ps rest o)
-                    (q.0.apart rest o v),
-              ),
-            ),
-          );
+          apart = λ rest o v. (name, refl, (tt, (refl, ty-apart y (more_param_lexemes ps rest) r.0.0 (more_params-goes ps rest o) (q.0.apart rest o v))));
           reads = λ from line rest m v.
               let u = leads S _ _ _ r.0.1 (ty-read S y _ (from + length n + 1 + 1) line (more_param_lexemes ps rest) v.1) in
               let o = q.0.reads u.from u.line rest m u.spelt in
@@ -317,24 +264,7 @@ module _ (S source : List ℕ) where
       let n = text source t in
       let name = name-of source t f fine.1.0 in (
         record {
-          apart = λ rest o v. (
-            tt,
-            (
-              refl,
-              (
-                name,
-                refl,
-                (
-                  tt,
-                  (
-                    refl,
-                    ty-apart y (more_param_lexemes ps rest) r.0.0 (more_params-goes ps rest o)
-                        (q.0.apart rest o v),
-                  ),
-                ),
-              ),
-            ),
-          );
+          apart = λ rest o v. (tt, (refl, (name, refl, (tt, (refl, ty-apart y (more_param_lexemes ps rest) r.0.0 (more_params-goes ps rest o) (q.0.apart rest o v))))));
           reads = λ from line rest m v.
               let u = leads S _ _ _ r.0.1 (ty-read S y _ (from + 1 + 1 + length n + 1 + 1) line (more_param_lexemes ps rest) v.1) in
               let o = q.0.reads u.from u.line rest m u.spelt in
@@ -553,14 +483,7 @@ module _ (S source : List ℕ) where
       let r = told x fine.1 in
       let q = told y r.1 in (
         record {
-          apart = λ d rest v. (
-            refl,
-            (
-              refl,
-              expr-apart a r.0.plain (space ∷ braces d (block_lexemes (suc d) b) rest) refl
-                  (refl, q.0.apart d rest v),
-            ),
-          );
+          apart = λ d rest v. (refl, (refl, expr-apart a r.0.plain (space ∷ braces d (block_lexemes (suc d) b) rest) refl (refl, q.0.apart d rest v)));
           reads = λ d from line rest m v.
               let i = expr-read S a _ _ (from + 5 + 1) line (space ∷ braces d (block_lexemes (suc d) b) rest) r.0 ends-brace v in
               let j = q.0.reads d (i.from + 1) i.line rest i.spelt in
