@@ -132,12 +132,12 @@ module _ (S : ℕ → List ℕ → ℕ → Table → Type 0) (t : RegionTable) (
     abbrev before : ℕ → List ℕ → Type 0
     before r ms = S r ms place cells
 
-    pub turn_of : ((r : ℕ) (ms : List ℕ) → S r ms place cells → (place ≤ length ms) × Lists cells.heap r ms)
+    pub turn_of : ((ms : List ℕ) → S rec.number ms place cells → (place ≤ length ms) × Lists cells.heap rec.number ms)
         → (members : List ℕ) → option_map (λ (r : Record). r.members) (record_at regions key) ≡ Some members
         → Turn cells.heap regions key place (get_or members (place - 1) 0)
     turn_of said members is =
         let s = left_now t key rec e before before regions w in
-        let a = said rec.number s.0.members s.2 in
+        let a = said s.0.members s.2 in
         let same : s.0.members ≡ members = same_members (record_at regions key) s.0 members s.1 is in
         let H : List ℕ → Type 0 = λ z. IsHeld cells.heap (get_or z (place - 1) 0) in
         record {
@@ -156,18 +156,18 @@ module _ (S : ℕ → List ℕ → ℕ → Table → Type 0) (t : RegionTable) (
       -- the member is freed and dropped
       pub turn_drops : (next : RegionTable) (new : Table) → next ≡ changed regions key (without_member (place - 1))
           → new ≡ freed_from cells slot
-          → ((r : ℕ) (ms : List ℕ) (p : ℕ) → get_or ms p 0 ≡ slot → S r ms (p + 1) cells
-          → S r (swap_remove ms p 0) p (freed_from cells slot))
+          → ((ms : List ℕ) (p : ℕ) → get_or ms p 0 ≡ slot → S rec.number ms (p + 1) cells
+          → S rec.number (swap_remove ms p 0) p (freed_from cells slot))
           → MembersLeft t key (λ r ms. S r ms (place - 1) new) next
       turn_drops next new n a turn =
           left_drop t key rec e before (λ r ms. S r ms (place - 1) new) regions w x.now x.there (place - 1) next n (λ s.
           let N : Table → Type 0 = λ z. S rec.number (swap_remove x.now.members (place - 1) 0) (place - 1) z in
-          subst N (sym a) (turn rec.number x.now.members (place - 1) x.is (one_more s)))
+          subst N (sym a) (turn x.now.members (place - 1) x.is (one_more s)))
 
       -- the member is kept
       pub turn_keeps : (new : Table)
-          → ((r : ℕ) (ms : List ℕ) (p : ℕ) → get_or ms p 0 ≡ slot → S r ms (p + 1) cells → S r ms p new)
+          → ((ms : List ℕ) (p : ℕ) → get_or ms p 0 ≡ slot → S rec.number ms (p + 1) cells → S rec.number ms p new)
           → MembersLeft t key (λ r ms. S r ms (place - 1) new) regions
       turn_keeps new turn =
           left_keep t key rec e before (λ r ms. S r ms (place - 1) new) regions w x.now x.there
-          (λ s. turn rec.number x.now.members (place - 1) x.is (one_more s))
+          (λ s. turn x.now.members (place - 1) x.is (one_more s))
