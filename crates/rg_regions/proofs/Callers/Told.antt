@@ -92,6 +92,11 @@ pub same_bridge : (o : Option Record) (r : Record) (b : Option ℕ) → o ≡ So
     → r.bridge ≡ b
 same_bridge o r b e f = same_Some r.bridge b (sym (ap (option_map (λ (r : Record). r.bridge)) e) ∙ f)
 
+pub same_told : (o : Option Record) (r : Record) (n : ℕ) (b : Option ℕ) → o ≡ Some r
+    → option_map (λ (r : Record). r.number) o ≡ Some n → option_map (λ (r : Record). r.bridge) o ≡ Some b
+    → (r.number ≡ n) × (r.bridge ≡ b)
+same_told o r n b e f h = (same_number o r n e f, same_bridge o r b e h)
+
 -- the record that has a number
 pub record_there : (o : Option Record) (n : ℕ) → option_map (λ (r : Record). r.number) o ≡ Some n
     → (r : Record) × (o ≡ Some r) × (r.number ≡ n)
