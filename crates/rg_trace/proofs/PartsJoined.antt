@@ -10,7 +10,7 @@ use Rattle.rg_cells.specs.declared.cell.Body.{Body}
 use Rattle.rg_cells.specs.Table.{Heap, Table, field_at, body_at, body_in, mark_at, high_of}
 use Rattle.rg_regions.specs.Table.{Record, RegionTable, record_at, HasNumber}
 use Rattle.rg_regions.specs.Reach.{LiesIn, Roots, Reach}
-use Rattle.rg_regions.specs.Grove.{Grove}
+use Rattle.rg_regions.specs.Grove.{Grove, Members}
 use Rattle.rg_trace.specs.Marking.{Marked}
 use Rattle.rg_trace.specs.Sweeping.{Swept, Sweeps}
 use Rattle.rg_regions.specs.Collection.{ChainsOrphans}
@@ -19,7 +19,7 @@ use Rattle.rg_trace.specs.Collected.{Collected}
 use Rattle.rg_regions.specs.Reach.{OutOfReach}
 use Rattle.rg_trace.proofs.CellsSwept.{swept-lists}
 use Rattle.rg_trace.proofs.Marks.Colours.{walk-lies}
-use Rattle.rg_regions.proofs.Callers.MembersSwept.{Lists, lists_of, members_of}
+use Rattle.rg_regions.proofs.Callers.MembersSwept.{lists_of, members_of}
 use Rattle.rg_regions.proofs.Callers.Told.{owns_once, lies_or_not}
 
 -- a cell of a trace region is white
@@ -35,20 +35,18 @@ all-white c t key rec g e m s l = g.unmarked s (λ k r f n i.
     let w : Count ≡ Trace = sym n ∙ ap (λ (y : Record). y.manager) z ∙ m in
     cc)
 
--- behind marking, before the first turn of sweeping
-pub swept-begin : (c d : Table) (t : RegionTable) (key : ℕ) (rec : Record) → Grove c t → record_at t key ≡ Some rec
-    → d.heap ≡ c.heap
-    → Swept d rec.number rec.members (length rec.members) d
-swept-begin c d t key rec g e h =
-    let L : Heap → Type 0 = λ z. Lists z rec.number rec.members in
-    let a = subst L (sym h) (lists_of c.heap rec.number rec.members (g.members key rec e)) in
+-- before the first turn of sweeping
+pub swept-start : (d : Table) (r : ℕ) (members : List ℕ) → Members d.heap r members
+    → Swept d r members (length members) d
+swept-start d r members ms =
+    let a = lists_of d.heap r members ms in
     record {
       fits = omega arith;
       lie = a.lie;
       once = a.once;
       all = a.all;
       before = λ j l. refl;
-      after = λ j l n. absurd (omega arith);
+      after = λ j l n. absurd (omega (arith, l, n));
       black = λ s l n. refl;
       others = λ s l. (refl, refl, refl);
       only = λ s l. refl;
@@ -56,6 +54,14 @@ swept-begin c d t key rec g e h =
       next = refl;
       high = refl;
     }
+
+-- the same behind marking
+pub swept-begin : (c d : Table) (t : RegionTable) (key : ℕ) (rec : Record) → Grove c t → record_at t key ≡ Some rec
+    → d.heap ≡ c.heap
+    → Swept d rec.number rec.members (length rec.members) d
+swept-begin c d t key rec g e h =
+    let M : Heap → Type 0 = λ z. Members z rec.number rec.members in
+    swept-start d rec.number rec.members (subst M (sym h) (g.members key rec e))
 
 -- what a marked region's marks say, turned round
 pub white-gone : (h : Heap) (r : ℕ) (roots : Roots) (old new : Table) (s : ℕ) → Marked h r roots old new → LiesIn h r s
