@@ -1,6 +1,6 @@
 //! Frames, windows and temporaries (docs/architecture.md, "Frames").
 
-ghost use Rattle.std.specs.Prelude.{◌≡◌, ◌≤◌, ◌+◌, ◌-◌, ◌<◌, ◌^◌, ◌++◌, ◌↔◌, None, Some, Ok, Err};
+ghost use Rattle.std.specs.Prelude.{◌≡◌, ◌≤◌, ◌+◌, ◌-◌, ◌<◌, ◌^◌, ◌++◌, ◌↔◌, None, Some, Ok, Err, slice_set};
 ghost use Rattle.std.specs.Prelude.{IfSome, IsNone, OnOk, OnErr, length, drop, take, replicate};
 ghost use Rattle.std.specs.Prelude.{slice_get, slice_set, unwrap_or, vec_len, vec_capacity};
 ghost use Rattle.std.specs.Prelude.{true, ℕ, List};
@@ -265,19 +265,28 @@ impl Frames {
         }
     }
 
-    /// Writes a slot of the top frame, where there is one.
+    // Writes a place of the top frame, where it has one there.
     #[inline]
-    pub fn set_word(&mut self, s: u32, w: Word)
-        ensures { self.new ≡ with_slot self.old s w }
+    fn put_word(&mut self, place: usize, w: Word)
+        requires { self.old.first ≤ place }
+        ensures { self.new ≡ record self.old { slots = slice_set self.old.slots place w } }
     {
         let len = self.slots.len();
-        let place = self.first + s as usize;
         if place < len {
             self.slots[place] = w;
             if self.live <= place {
                 self.live = place + 1;
             }
         }
+    }
+
+    /// Writes a slot of the top frame, where there is one.
+    #[inline]
+    pub fn set_word(&mut self, s: u32, w: Word)
+        ensures { self.new ≡ with_slot self.old s w }
+    {
+        let place = self.first + s as usize;
+        self.put_word(place, w);
     }
 
     /// The word in a slot of the top frame, whatever its number.
@@ -293,14 +302,8 @@ impl Frames {
         requires { InTop self.old s }
         ensures { self.new ≡ with_slot self.old s Nil }
     {
-        let len = self.slots.len();
         let place = self.first + s;
-        if place < len {
-            self.slots[place] = Word::Nil;
-            if self.live <= place {
-                self.live = place + 1;
-            }
-        }
+        self.put_word(place, Word::Nil);
     }
 
     /// Makes nil the slots of the top frame from one on, where there are any.
