@@ -12,9 +12,10 @@ use Rattle.rg_move.specs.Counted.{HasRoomFor, led_by, Counts}
 use Rattle.rg_move.specs.Inner.Joins.{Merges}
 use Rattle.rg_move.proofs.MembersLabelled.{members_held, members_differ}
 use Rattle.rg_move.proofs.CellsJoined.{lie_now, leads_now, room_now, relabels, marks, links_kept}
-use Rattle.rg_move.proofs.RecordsJoined.{both, has_room, records_merge, numbers_kept}
+use Rattle.rg_move.proofs.RecordsJoined.{Both, both, has_room, records_merge, numbers_kept}
 use Rattle.rg_move.proofs.MergeTold.{cells_move, others_stay, grove_merged}
 use Rattle.rg_move.proofs.merging.merge.Goals as goal
+use Rattle.rg_move.proofs.merging.merge.Goals.{In_ok-reserve}
 
 -- the cells are labelled and counted, by the record's own number, members and manager
 labelled_by : (o : Option Record) (r : Record) (n m : ℕ) (ys : List ℕ) (c mid : Table) → o ≡ Some r → n ≡ m
@@ -33,14 +34,19 @@ counted_by o r k l n m ys mid done is d e f w =
     let R : List ℕ → Type 0 = λ z. Counts k n mid z done in
     subst R (sym (same_members o r ys is f)) (subst Q (sym e) (subst P (sym d) w))
 
+-- the two records, before room was made and behind it
+two : (c : In_ok-reserve) → Both c.args.regions.now c.reserve.new.self c.args.from c.args.into
+    (length c.members.result.now) c.number-number.result
+two c = both c.args.regions.now c.reserve.new.self c.args.from c.args.into _ _ _ c.requires.into.differ
+    c.requires.closed.has c.number-number.ensures c.in_ok-reserve.ensures.ok
+
 pub label_members-requires : goal.label_members-requires
 label_members-requires c =
     let old = c.args.regions.now in
     let cells = c.args.cells.now in
     let from = c.args.from in
     let into = c.args.into in
-    let w = both old c.reserve.new.self from into (length c.members.result.now) _ _ c.requires.into.differ c.requires.closed.has
-    c.number-number.ensures c.in_ok-reserve.ensures.ok in
+    let w = two (goal.at.label_members-requires c).In_ok-reserve in
     let own = owns_once cells old from w.one c.requires.grove w.at in
     let mem = same_members (record_at c.reserve.new.self from) w.one c.members-2.result.now w.left c.members-2.ensures in
     let H : List ℕ → Type 0 = λ z. AllHeld cells.heap z in
@@ -56,8 +62,7 @@ count_members-requires c =
     let cells = c.args.cells.now in
     let from = c.args.from in
     let into = c.args.into in
-    let w = both old c.reserve.new.self from into (length c.members.result.now) _ _ c.requires.into.differ c.requires.closed.has
-    c.number-number.ensures c.in_ok-reserve.ensures.ok in
+    let w = two (goal.at.count_members-requires c).In_ok-reserve in
     let mid = c.label_members.new.cells in
     let l = labelled_by _ w.one w.other.number c.number-number.result c.members-2.result.now cells mid w.left w.number
     c.members-2.ensures c.label_members.ensures in
@@ -84,8 +89,7 @@ move_members-requires c =
     let old = c.args.regions.now in
     let from = c.args.from in
     let into = c.args.into in
-    let w = both old c.reserve.new.self from into (length c.members.result.now) _ _ c.requires.into.differ c.requires.closed.has
-    c.number-number.ensures c.in_ok-reserve.ensures.ok in
+    let w = two (goal.at.move_members-requires c).In_ok-reserve in
     let two = same_members (record_at old from) w.one c.members.result.now w.at c.members.ensures in
     has_room old c.reserve.new.self from into (length c.members.result.now) w.one w.other c.requires.into.differ w.at w.to w.room (ap (length {A = ℕ}) (sym two))
 
@@ -94,8 +98,7 @@ remove-requires c =
     let old = c.args.regions.now in
     let from = c.args.from in
     let into = c.args.into in
-    let w = both old c.reserve.new.self from into (length c.members.result.now) _ _ c.requires.into.differ c.requires.closed.has
-    c.number-number.ensures c.in_ok-reserve.ensures.ok in
+    let w = two (goal.at.remove-requires c).In_ok-reserve in
     let p = c.move_members.ensures w.one _ w.left w.wide in
     rw (p.others from c.requires.into.differ ∙ w.left) refl
 
@@ -149,8 +152,7 @@ returns-clause-numbers c =
     let old = c.args.regions.now in
     let from = c.args.from in
     let into = c.args.into in
-    let w = both old c.reserve.new.self from into (length c.members.result.now) _ _ c.requires.into.differ c.requires.closed.has
-    c.number-number.ensures c.in_ok-reserve.ensures.ok in
+    let w = two (goal.at.returns-clause-numbers c).In_ok-reserve in
     let p = c.move_members.ensures w.one _ w.left w.wide in
     numbers_kept old c.reserve.new.self from into _ w.one w.other c.requires.into.differ w.at w.to w.room c.move_members.new.regions
     c.remove.new.self p c.remove.ensures.gone
