@@ -82,18 +82,8 @@ impl Frames {
         ensures err { OnErr result
             (self.new ≡ roomed self.old self.new.frame_room self.new.slot_room) }
     {
-        let Ok(()) = self.frames.reserve(1) else {
-            return Err(Memory);
-        };
-        let Ok(()) = self.kept.reserve(1) else {
-            return Err(Memory);
-        };
-        let Ok(()) = self.windows.reserve(1) else {
-            return Err(Memory);
-        };
-        let Ok(()) = self.marks.reserve(1) else {
-            return Err(Memory);
-        };
+        reserve_both(&mut self.frames, &mut self.kept)?;
+        reserve_both(&mut self.windows, &mut self.marks)?;
         let Ok(()) = self.slots.resize(slots as usize, Word::Nil) else {
             return Err(Memory);
         };
@@ -138,12 +128,7 @@ impl Frames {
         ensures same { self.new ≡ roomed self.old self.new.frame_room self.new.slot_room }
         ensures ok { OnOk result (HasRoom self.new slots) }
     {
-        let Ok(()) = self.frames.reserve(1) else {
-            return Err(Memory);
-        };
-        let Ok(()) = self.kept.reserve(1) else {
-            return Err(Memory);
-        };
+        reserve_both(&mut self.frames, &mut self.kept)?;
         let Ok(()) = self.slots.reserve(slots) else {
             return Err(Memory);
         };
@@ -386,12 +371,7 @@ impl Frames {
         if self.next >= u64::MAX - 1 {
             return Err(Memory);
         }
-        let Ok(()) = self.windows.reserve(1) else {
-            return Err(Memory);
-        };
-        let Ok(()) = self.marks.reserve(1) else {
-            return Err(Memory);
-        };
+        reserve_both(&mut self.windows, &mut self.marks)?;
         let number = self.next;
         self.windows.push_reserved(Window {
             number,
@@ -516,6 +496,22 @@ fn has(windows: &[Window], region: usize) -> bool
         }
     }
     false
+}
+
+// Makes room for one more in each of two lists.
+fn reserve_both<A, B>(a: &mut Vec<A>, b: &mut Vec<B>) -> Result<(), Memory>
+    ensures first { a.new.items ≡ a.old.items }
+    ensures second { b.new.items ≡ b.old.items }
+    ensures room { OnOk result (vec_len a.new + 1 ≤ vec_capacity a.new) }
+    ensures more { OnOk result (vec_len b.new + 1 ≤ vec_capacity b.new) }
+{
+    let Ok(()) = a.reserve(1) else {
+        return Err(Memory);
+    };
+    let Ok(()) = b.reserve(1) else {
+        return Err(Memory);
+    };
+    Ok(())
 }
 
 // Words more, within the room.
