@@ -11,6 +11,7 @@ use Rattle.rg_regions.specs.Grove.{Grove, referrers}
 use Rattle.rg_regions.specs.Owned.{Every, ChainsOwned}
 use Rattle.rg_regions.specs.Collection.{ChainsOrphans}
 use Rattle.rg_regions.specs.Same.{IsSameCell}
+use Rattle.rg_regions.proofs.Callers.OwnedFound.{lost_each}
 use Rattle.rg_regions.proofs.Callers.Fewer.{total_alike}
 use Rattle.rg_regions.proofs.Callers.Told.{lies_or_not}
 use Rattle.rg_count.specs.Inner.Counting.{weight, nothing, in_turn, Counts}
@@ -147,23 +148,10 @@ orphaning c d t u r roots first done result k o = (
   o.0,
   record {
     chain = o.1.chain;
-    each = λ y n.
-        let w = by_none (o.1.each y n) in
-        let own = w.2 in
-        let s : ℕ = get_or (in_turn done) own.place 0 in (
-          w.0,
-          w.1,
-          record {
-            slot = s;
-            field = own.field;
-            to = own.to;
-            from = spends-lie c.heap r roots done k.spends s (turn-has done own.place own.within);
-            gone = done-spent c.heap r roots done s k.spends (turn-has done own.place own.within);
-            leads = own.leads;
-            lies = own.lies;
-            other = own.other;
-          },
-        );
+    each = lost_each c.heap Every (Spent c.heap r roots) r (in_turn done) t (length (in_turn done)) 0 u result o.0 (λ p l g. (
+      spends-lie c.heap r roots done k.spends (get_or (in_turn done) p 0) (turn-has done p l),
+      done-spent c.heap r roots done (get_or (in_turn done) p 0) k.spends (turn-has done p l),
+    )) o.1;
     all = λ q y l n.
         let a = has-turn done l.slot (spent-done c.heap r roots first done d k l.slot l.gone) in
         o.1.all q y (record {
@@ -180,6 +168,3 @@ orphaning c d t u r roots first done result k o = (
     apart = o.1.apart;
   },
 )
-  where
-    by_none : {A : Type 0} → ⊥ ⊎ A → A
-    by_none o = elim o [ inl x ↦ absurd x | inr a ↦ a ]

@@ -13,12 +13,13 @@ use Rattle.rg_regions.specs.Reach.{LiesIn, Roots, Reach}
 use Rattle.rg_regions.specs.Grove.{Grove, Members}
 use Rattle.rg_trace.specs.Marking.{Marked}
 use Rattle.rg_trace.specs.Sweeping.{Swept, Sweeps}
-use Rattle.rg_regions.specs.Collection.{ChainsOrphans}
-use Rattle.rg_trace.specs.Orphans.{FollowsWhite}
+use Rattle.rg_regions.specs.Collection.{ChainsOrphans, Lost}
+use Rattle.rg_trace.specs.Orphans.{FollowsWhite, IsWhite}
 use Rattle.rg_trace.specs.Collected.{Collected}
 use Rattle.rg_regions.specs.Reach.{OutOfReach}
 use Rattle.rg_trace.proofs.CellsSwept.{swept-lists}
 use Rattle.rg_trace.proofs.Marks.Colours.{walk-lies}
+use Rattle.rg_regions.proofs.Callers.OwnedFound.{lost_each}
 use Rattle.rg_regions.proofs.Callers.MembersSwept.{lists_of, members_of}
 use Rattle.rg_regions.proofs.Callers.Told.{owns_once, lies_or_not}
 
@@ -145,30 +146,19 @@ orphaning c d t u key rec roots result g e m o =
     let k = o.orphans in
     let ms = g.members key rec e in
     let ow = owns_once c t key rec g e in
-    let lies_of : (q x : ℕ) → LiesIn d.heap q x → LiesIn c.heap q x = λ q x l. let P : Heap
-    → Type 0 = λ z. LiesIn z q x in subst P h l in
     let of_lies : (q x : ℕ) → LiesIn c.heap q x → LiesIn d.heap q x = λ q x l. let P : Heap
     → Type 0 = λ z. LiesIn z q x in subst P (sym h) l in (
       k.0,
       record {
         chain = k.1.chain;
         each = λ y n.
-            let w = by_none (k.1.each y n) in
-            let own = w.2 in
-            let s : ℕ = get_or rec.members own.place 0 in (
-              w.0,
-              w.1,
-              record {
-                slot = s;
-                field = own.field;
-                to = own.to;
-                from = ow.lie own.place own.within;
-                gone = λ r. let z = m.reached s r in omega (arith, z, own.gone);
-                leads = ap (λ (z : Heap). field_at z s own.field) (sym h) ∙ own.leads;
-                lies = lies_of w.0 own.to own.lies;
-                other = own.other;
-              },
-            );
+            let w = lost_each d.heap (IsWhite d.marks) (OutOfReach c.heap rec.number roots) rec.number rec.members t
+            (length rec.members) 0 u result k.0 (λ p l g. (
+              of_lies rec.number (get_or rec.members p 0) (ow.lie p l),
+              λ r. let z = m.reached (get_or rec.members p 0) r in omega (arith, z, g),
+            )) k.1 y n in
+            let P : Heap → Type 0 = λ z. Lost z rec.number (OutOfReach c.heap rec.number roots) w.0 in
+            (w.0, w.1, subst P h w.2);
         all = λ q y l n.
             let a = ms.all l.slot l.from in
             let within = slice_get_within rec.members a.0 l.slot a.1 in
@@ -188,6 +178,3 @@ orphaning c d t u key rec roots result g e m o =
         apart = k.1.apart;
       },
     )
-  where
-    by_none : {A : Type 0} → ⊥ ⊎ A → A
-    by_none o = elim o [ inl x ↦ absurd x | inr a ↦ a ]

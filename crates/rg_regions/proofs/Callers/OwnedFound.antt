@@ -1,5 +1,5 @@
 -- Each turn of the search for the regions that cells own which go (docs/architecture.md, "Regions").
-use Rattle.std.proofs.Common.{◌≡◌, ◌≢◌, ℕ, ◌+◌, ◌<◌, ◌≤◌, List, ◌∷◌, length, Option, Some, None, get_or, set, refl, ap}
+use Rattle.std.proofs.Common.{◌≡◌, ◌≢◌, ℕ, ◌+◌, ◌<◌, ◌≤◌, List, [], ◌∷◌, length, Option, Some, None, get_or, set, refl, ap}
 use Rattle.std.proofs.Common.{sym, ◌∙◌}
 use Rattle.std.proofs.Common.{subst, arith, ◌⊎◌, inl, inr, option_map}
 use Rattle.std.proofs.lemmas.List.{get_or-set_same, get_or-set_other}
@@ -10,10 +10,11 @@ use Rattle.rg_base.specs.declared.value.Word.TheVariants.{Slot}
 use Rattle.rg_cells.specs.Table.{Heap, field_at, body_at, width}
 use Rattle.rg_regions.specs.Table.{Record, RegionTable, HasNumber, Has, Chained}
 use Rattle.rg_regions.specs.Reach.{LiesIn}
+use Rattle.rg_regions.specs.Collection.{Lost}
 use Rattle.rg_regions.specs.Chains.{PutFirst, Follows, OwnsOnce}
 use Rattle.rg_regions.proofs.Callers.Told.{field_within, one_region, one_number}
 use Rattle.rg_regions.proofs.Callers.Chain.{chained_agree}
-use Rattle.rg_regions.specs.Owned.{Owned, ChainsOwned, OwnsNone, Every, FollowsFields, FollowsMembers}
+use Rattle.rg_regions.specs.Owned.{Owned, OwnedInFront, ChainsOwned, OwnsNone, Every, FollowsFields, FollowsMembers}
 
 slot_is : (a b : ℕ) → Some (Slot a) ≡ Some (Slot b) → a ≡ b
 slot_is a b q = cc
@@ -35,6 +36,32 @@ owned_alike h goes r members more rest t i k m n now head on back o = (
     apart = o.1.apart;
   },
 )
+
+-- with nothing behind them, each key that is chained is that of a region which lost its owner
+pub lost_each : (h : Heap) (goes freed : ℕ → Type 0) (r : ℕ) (members : List ℕ) (t : RegionTable) (i k : ℕ)
+    (now : RegionTable) (head : Option ℕ) (keys : List ℕ)
+    → ((p : ℕ) → p < length members → goes (get_or members p 0) → LiesIn h r (get_or members p 0) × freed (get_or members p 0))
+    → OwnedInFront h goes r members [] t i k now head keys → (key : ℕ) → Has keys key
+    → (q : ℕ) × HasNumber t key q × Lost h r freed q
+lost_each h goes freed r members t i k now head keys lost o key m = elim (o.each key m) [
+  | inl x ↦ absurd x
+  | inr w ↦
+      let own = w.2 in
+      let a = lost own.place own.within own.gone in (
+        w.0,
+        w.1,
+        record {
+          slot = get_or members own.place 0;
+          field = own.field;
+          to = own.to;
+          from = a.0;
+          gone = a.1;
+          leads = own.leads;
+          lies = own.lies;
+          other = own.other;
+        },
+      )
+]
 
 module _ (h : Heap) (goes : ℕ → Type 0) (r : ℕ) (members : List ℕ) where
   -- it is owned by the fields that are meant

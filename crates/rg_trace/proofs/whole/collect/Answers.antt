@@ -85,8 +85,8 @@ sweep-requires g c =
       subst L (sym h) (not-grey c.args.cells.now.heap rec.number _ c.args.cells.now c.mark_region.new.cells m),
     )
 
-pub members-requires : goal.members-requires
-members-requires g c =
+pub left-requires : goal.left-requires
+left-requires g c =
     let rec = c.requires.trace.0 in
     let e = c.requires.trace.1 in
     let s = c.chain_orphans-orphans.ensures.searched rec e in
@@ -150,6 +150,6 @@ returns g c =
           c.sweep.new.cells c.sweep.new.regions
           c.requires.grove e c.requires.trace.2 whole;
       collected = λ r f. subst C (same_Some rec r (sym e ∙ f)) whole;
-      orphans = λ r f. subst O (same_Some rec r (sym e ∙ f)) (subst K (sym c.sweep.ensures.links) o);
-      kept = λ r f. sym (ap (length {A = ℕ}) (same_members _ r c.members.result.now f c.members.ensures));
+      orphans = λ r f. rw c.left.ensures.orphans (subst O (same_Some rec r (sym e ∙ f)) (subst K (sym c.sweep.ensures.links) o));
+      kept = c.left.ensures.kept;
     }
