@@ -252,10 +252,10 @@ returns g c =
     ∙ (ordered_links c.chain_orphans-orphans.new.regions c.order_members.new.self c.args.key c.order_members.ensures).0 in
     record {
       slid = λ r f. subst S (same_Some rec r (sym e ∙ f)) (slides all);
-      orphans = λ r f. subst O (same_Some rec r (sym e ∙ f))
+      orphans = λ r f. rw c.left.ensures.orphans (subst O (same_Some rec r (sym e ∙ f))
           (orphans-told all c.chain_orphans-orphans.new.regions c.number-region.result c.chain_orphans-orphans.result said.0
-          searched links);
-      kept = λ r f. sym (ap (length {A = ℕ}) (same_members _ r c.members-4.result.now f c.members-4.ensures));
+          searched links));
+      kept = c.left.ensures.kept;
       cost = λ r f. subst C (same_Some rec r (sym e ∙ f)) most;
       grove = grove-slides all;
     }
