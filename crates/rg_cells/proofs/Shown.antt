@@ -42,6 +42,11 @@ held_cell xs next slot h =
     let P : Option (Option Body) → Type 0 = λ o. IsSome (body_in o) in
     held_place (get_or xs slot None) (subst P (shown-at xs slot) h)
 
+-- the same of the table that the places are seen as
+pub held_in : (xs : List (Option Place)) (next slot : ℕ) (t : Table) → table_of xs next ≡ t → IsHeld t.heap slot → (c : Cell)
+    × (get_or xs slot None ≡ Some (Held c))
+held_in xs next slot t same h = let P : Table → Type 0 = λ z. IsHeld z.heap slot in held_cell xs next slot (subst P (sym same) h)
+
 pub body-held : (xs : List (Option Place)) (next slot : ℕ) (c : Cell) → get_or xs slot None ≡ Some (Held c)
     → body_at (table_of xs next).heap slot ≡ Some c.body
 body-held xs next slot c e = ap body_in (shown-at xs slot) ∙ ap (λ o. body_in (shown o)) e

@@ -2,7 +2,6 @@
 -- moves its cells").
 use Rattle.std.proofs.Common.{◌≡◌, ◌≢◌, ℕ, ◌+◌, ◌≤◌, cond, List, length, Option, Some, None, IsSome, refl, ap, sym, ◌∙◌}
 use Rattle.std.proofs.Common.{subst, arith, inl, inr, get_or, slice_get, option_map, option_and_then, sum_by}
-use Rattle.std.proofs.lemmas.Option.{slice_get_within, slice_get-get_or, same_Some}
 use Rattle.rg_base.specs.declared.object.Label.TheVariants.{Region, Temp}
 use Rattle.rg_base.specs.declared.value.Word.TheVariants.{Slot}
 use Rattle.rg_cells.specs.declared.cell.Body.{Body}
@@ -21,7 +20,6 @@ use Rattle.rg_regions.proofs.Callers.Ordered.{ordered_at, ordered_other, ordered
 use Rattle.rg_regions.specs.Reach.{OutOfReach}
 use Rattle.rg_trace.specs.Marking.{black_fields}
 use Rattle.rg_trace.specs.Orphans.{FollowsWhite, if_white}
-use Rattle.rg_trace.specs.Sweeping.{Swept}
 use Rattle.rg_trace.proofs.PartsJoined.{orphaning}
 use Rattle.rg_trace.proofs.StepsBound.{ticks}
 use Rattle.rg_copy.specs.Slid.{top_roots}
@@ -133,30 +131,6 @@ members-behind f s r i members from w ms = record {
   lie = λ j x e. ap (option_map (λ (b : Body). b.label)) (w.bodies x) ∙ w.inside x (ms.lie j x e);
   all = λ x l. ms.all x (lies-behind f s r i members from x w l).1;
   once = ms.once;
-}
-
--- before the first turn of sweeping
-pub swept-start : (d : Table) (r : ℕ) (members : List ℕ) → Members d.heap r members
-    → Swept d r members (length members) d
-swept-start d r members ms = record {
-  fits = omega arith;
-  lie = λ j l. ms.lie j (get_or members j 0) (slice_get-get_or members j 0 l);
-  once = λ j k l n z.
-      let a : j ≡ k = ms.once j k (get_or members k 0)
-      (slice_get-get_or members j 0 (omega (arith, l, n)) ∙ ap Some z) (slice_get-get_or members k 0 n) in
-      omega (arith, a, l);
-  all = λ s l.
-      let a = ms.all s l in
-      let b = slice_get_within members a.0 s a.1 in
-      (a.0, b, same_Some (get_or members a.0 0) s (sym (slice_get-get_or members a.0 0 b) ∙ a.1));
-  before = λ j l. refl;
-  after = λ j l n. absurd (omega (arith, l, n));
-  black = λ s l n. refl;
-  others = λ s l. (refl, refl, refl);
-  only = λ s l. refl;
-  either = λ s l. inl refl;
-  next = refl;
-  high = refl;
 }
 
 -- the members' fields are those of the region

@@ -15,6 +15,7 @@ use Rattle.rg_frames.specs.Stack.{Stack}
 use Rattle.rg_regions.specs.Table.{Record, RegionTable, record_at, HasNumber, IsBridge}
 use Rattle.rg_regions.specs.Reach.{LiesIn}
 use Rattle.rg_regions.specs.Grove.{Grove, Members, Parent, Above, direct, further, referrers}
+use Rattle.rg_regions.proofs.Callers.OneShrinks.{bridge_stays}
 use Rattle.rg_regions.proofs.Callers.Told.{one_region, lies_or_not}
 use Rattle.rg_regions.proofs.Callers.Fewer.{total_alike, belongs_not, weight, weighs_none}
 use Rattle.rg_copy.specs.Inner.Moves.{all_fields, IsTempAt}
@@ -207,19 +208,9 @@ module _ {c m p e f s cells : Table} {t u regions : RegionTable} {key : ℕ} {re
       d (g.grove.numbers k key rec.number (number_is k rec.number z a n) (number_is key rec.number rec g.there refl))
 
   bridge_to : (q to : ℕ) → IsBridge t q to → IsBridge regions q to
-  bridge_to q to b =
+  bridge_to =
       let w = slides g in
-      elim (cases_eq b.0 key) [
-        | inl a ↦
-            let same : b.1 ≡ rec = same_Some b.1 rec (sym b.2 ∙ ap (record_at t) a ∙ g.there) in (
-              key,
-              w.own.0,
-              w.own.1,
-              w.own.2 ∙ sym (ap (λ (z : Record). z.number) same) ∙ b.3,
-              w.own.4 ∙ sym (ap (λ (z : Record). z.bridge) same) ∙ b.4,
-            )
-        | inr d ↦ (b.0, b.1, w.records b.0 d ∙ b.2, b.3, b.4)
-      ]
+      bridge_stays t regions key rec w.own.0 g.there w.own.1 w.own.2 w.own.4 w.records
 
   -- a cell of any region leads as it led
   leads : (q x k y : ℕ) → LiesIn cells.heap q x → field_at cells.heap x k ≡ Some (Slot y) → Leads x k y

@@ -3,8 +3,8 @@
 use Rattle.std.proofs.Common.{◌≡◌, ◌≢◌, ℕ, ◌<◌, cond, List, length, map, Option, Some, None, refl, ap, sym}
 use Rattle.std.proofs.Common.{◌∙◌, subst, arith, inl, inr, get_or, slice_get, option_map, unwrap_or}
 use Rattle.std.proofs.lemmas.List.{length-map}
-use Rattle.std.proofs.lemmas.Bool.{cases_eq, cases_lt}
-use Rattle.std.proofs.lemmas.Option.{slice_get_within, slice_get-get_or, slice_get-map, same_Some, none-some}
+use Rattle.std.proofs.lemmas.Bool.{cases_eq}
+use Rattle.std.proofs.lemmas.Option.{slice_get_within, slice_get-map, same_Some, none-some}
 use Rattle.rg_base.specs.declared.object.Label.TheVariants.{Region, Temp}
 use Rattle.rg_base.specs.declared.value.Word.{Word}
 use Rattle.rg_base.specs.declared.value.Word.TheVariants.{Nil, Int, Bool as Truth, Slot}
@@ -17,6 +17,7 @@ use Rattle.rg_regions.specs.Ordered.{with_members}
 use Rattle.rg_regions.specs.Reach.{LiesIn, Reach, is_bridge}
 use Rattle.rg_regions.specs.Grove.{Grove, Members}
 use Rattle.rg_regions.specs.Collection.{roots_of}
+use Rattle.rg_regions.proofs.Callers.MembersSwept.{members_of}
 use Rattle.rg_regions.proofs.Callers.Told.{lies_or_not, reach_lies}
 use Rattle.rg_regions.proofs.Callers.Fewer.{belongs_not, lies_belongs}
 use Rattle.rg_trace.specs.Marking.{Marked}
@@ -53,26 +54,7 @@ Stages c m p e f s cells t u regions key rec v frames members =
 
 -- what sweeping leaves are the region's members
 pub swept-members : (d t : Table) (r : ℕ) (members : List ℕ) → Swept d r members 0 t → Members t.heap r members
-swept-members d t r members w = record {
-  lie = λ j x q.
-      let l = slice_get_within members j x q in
-      let e : get_or members j 0 ≡ x = same_Some (get_or members j 0) x (sym (slice_get-get_or members j 0 l) ∙ q) in
-      let L : ℕ → Type 0 = λ y. LiesIn t.heap r y in
-      subst L e (w.lie j l);
-  all = λ x l. let p = w.all x l in (p.0, slice_get-get_or members p.0 0 p.1 ∙ ap Some p.2);
-  once = λ i j x p q.
-      let a = slice_get_within members i x p in
-      let b = slice_get_within members j x q in
-      let z : get_or members i 0 ≡ get_or members j 0 = same_Some (get_or members i 0) (get_or members j 0)
-      (sym (slice_get-get_or members i 0 a) ∙ p ∙ sym q ∙ slice_get-get_or members j 0 b) in
-      elim (cases_lt i j) [
-        | inl y ↦ absurd (w.once i j y b z)
-        | inr y ↦ elim (cases_eq i j) [
-          | inl k ↦ k
-          | inr k ↦ let n : j < i = omega (arith, y, k) in absurd (w.once j i n a (sym z))
-        ]
-      ];
-}
+swept-members d t r members w = members_of t.heap r members (record { lie = w.lie; once = w.once; all = w.all })
 
 module _ {c m p e f s cells : Table} {t u regions : RegionTable} {key : ℕ} {rec : Record} {v frames : Stack}
     {members : List ℕ} (g : Stages c m p e f s cells t u regions key rec v frames members) where
@@ -222,15 +204,25 @@ module _ {c m p e f s cells : Table} {t u regions : RegionTable} {key : ℕ} {re
       ∙ fields-agree (target e rec.number) (target p rec.number) target-e (body_at e.heap x)
       ∙ ap (option_map (all_fields change)) (body-e x (temp-not x (lies_of x n)))
 
-  pub body-off : (x : ℕ) → (LiesIn c.heap rec.number x → ⊥) → body_at cells.heap x ≡ body_at e.heap x
-  body-off x n =
+  -- outside of the region nothing moved and nothing was swept
+  slot-off : (x : ℕ) → (LiesIn c.heap rec.number x → ⊥) → (from x ≡ x)
+      × (get_or cells.heap.slots x None ≡ get_or s.heap.slots x None) × (mark_at cells x ≡ mark_at s x)
+      × (link_at cells x ≡ link_at s x)
+  slot-off x n =
       let w = g.swept.left (with_members members rec) g.now in
       let sh = g.shifted.1 in
       let o : LiesIn f.heap rec.number x → ⊥ = λ l. n (sym (label-f x) ∙ l) in
       let same = sh.outside x o in
       let os : LiesIn s.heap rec.number x → ⊥ = λ l.
       o (sym (ap (option_map (λ (b : Body). b.label)) (sh.bodies x ∙ ap (body_at f.heap) same)) ∙ l) in
-      ap body_in (w.5.others x os).0 ∙ sh.bodies x ∙ ap (body_at f.heap) same
+      let k = w.5.others x os in
+      (same, k.0, k.1, k.2)
+
+  pub body-off : (x : ℕ) → (LiesIn c.heap rec.number x → ⊥) → body_at cells.heap x ≡ body_at e.heap x
+  body-off x n =
+      let sh = g.shifted.1 in
+      let a = slot-off x n in
+      ap body_in a.1 ∙ sh.bodies x ∙ ap (body_at f.heap) a.0
       ∙ g.forwarded.others x (λ l. n (lies-e x l))
 
   pub label-off : (x : ℕ) → (LiesIn c.heap rec.number x → ⊥) → label_at cells.heap x ≡ label_at c.heap x
@@ -240,17 +232,12 @@ module _ {c m p e f s cells : Table} {t u regions : RegionTable} {key : ℕ} {re
   pub marks-off : (x : ℕ) → (LiesIn c.heap rec.number x → ⊥)
       → (mark_at cells x ≡ mark_at c x) × (link_at cells x ≡ link_at c x)
   marks-off x n =
-      let w = g.swept.left (with_members members rec) g.now in
       let sh = g.shifted.1 in
-      let o : LiesIn f.heap rec.number x → ⊥ = λ l. n (sym (label-f x) ∙ l) in
-      let same = sh.outside x o in
-      let os : LiesIn s.heap rec.number x → ⊥ = λ l.
-      o (sym (ap (option_map (λ (b : Body). b.label)) (sh.bodies x ∙ ap (body_at f.heap) same)) ∙ l) in
-      let a = w.5.others x os in
+      let a = slot-off x n in
       let k = g.marked.outside x n in
       let L : Heap → Type 0 = λ h. LiesIn h rec.number x in (
-        a.1 ∙ sh.marks x ∙ ap (mark_at f) same ∙ mark-f x ∙ k.0,
-        a.2 ∙ sh.links x ∙ ap (link_at f) same ∙ link-f x ∙ g.plans.others x (λ l. n (subst L g.marked.heap l)) ∙ k.1,
+        a.2 ∙ sh.marks x ∙ ap (mark_at f) a.0 ∙ mark-f x ∙ k.0,
+        a.3 ∙ sh.links x ∙ ap (link_at f) a.0 ∙ link-f x ∙ g.plans.others x (λ l. n (subst L g.marked.heap l)) ∙ k.1,
       )
 
   -- what stands at a slot of the region

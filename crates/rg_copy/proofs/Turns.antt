@@ -58,6 +58,48 @@ module _ (c t new : Table) (r : ℕ) (members : List ℕ) (bridge : Option ℕ) 
     others_are : (s : ℕ) → ((j : ℕ) → slice_get members j ≡ Some s → ⊥) → link_at new s ≡ link_at c s
     others_are s k = there s (λ q. k i (at ∙ ap Some (sym q))) ∙ w.others s k
 
+    -- what was planned for earlier members
+    goes_old : (j s : ℕ) → j ≢ i → j < i + 1 → slice_get members j ≡ Some s → mark_at c s ≢ 0 → bridge ≢ Some s
+        → (m d : ℕ) × (m < free) × (m ≤ j) × (slice_get members m ≡ Some d) × (bridge ≢ Some d)
+        × (link_at new s ≡ Some d)
+    goes_old j s d l g k b =
+        let a = w.goes j s (omega (arith, l, d)) g k b in
+        (a.0, a.1, a.2, a.3, a.4, a.5, there s (off j s g d) ∙ a.6)
+
+    filled_old : (m d : ℕ) → m < free → slice_get members m ≡ Some d → bridge ≢ Some d
+        → (j s : ℕ) × (j < i + 1) × (slice_get members j ≡ Some s) × (mark_at c s ≢ 0) × (bridge ≢ Some s)
+        × (link_at new s ≡ Some d)
+    filled_old k d l g b =
+        let a = w.filled k d l g b in
+        let q : a.0 ≢ i = λ z. omega (arith, z, a.2) in
+        (a.0, a.1, omega (arith, a.2), a.3, a.4, a.5, there a.1 (off a.0 a.1 a.3 q) ∙ a.6)
+
+    apart_old : (j k s x d : ℕ) → j ≢ i → k ≢ i → j < i + 1 → k < i + 1 → slice_get members j ≡ Some s
+        → slice_get members k ≡ Some x → link_at new s ≡ Some d → link_at new x ≡ Some d → j ≡ k
+    apart_old j k s x d q z l u g h a b =
+        w.apart j k s x d (omega (arith, l, q)) (omega (arith, u, z)) g h (sym (there s (off j s g q)) ∙ a)
+        (sym (there x (off k x h z)) ∙ b)
+
+    -- a slot to which no earlier member goes is the new member's alone
+    apart_new : (to : ℕ) → v ≡ Some to
+        → ((k x d : ℕ) → k < i → slice_get members k ≡ Some x → link_at t x ≡ Some d → d ≡ to → ⊥) → (j k s x d : ℕ)
+        → j < i + 1 → k < i + 1 → slice_get members j ≡ Some s → slice_get members k ≡ Some x → link_at new s ≡ Some d
+        → link_at new x ≡ Some d → j ≡ k
+    apart_new to e none j k s x d l u g h a b = elim (cases_eq j i) [
+      | inl q ↦ elim (cases_eq k i) [
+        | inl z ↦ q ∙ sym z
+        | inr z ↦
+            let y : to ≡ d = same_Some to d (sym e ∙ sym here ∙ ap (link_at new) (sym (is_slot j s g q)) ∙ a) in
+            absurd (none k x d (omega (arith, u, z)) h (sym (there x (off k x h z)) ∙ b) (sym y))
+      ]
+      | inr q ↦ elim (cases_eq k i) [
+        | inl z ↦
+            let y : to ≡ d = same_Some to d (sym e ∙ sym here ∙ ap (link_at new) (sym (is_slot k x h z)) ∙ b) in
+            absurd (none j s d (omega (arith, l, q)) g (sym (there s (off j s g q)) ∙ a) (sym y))
+        | inr z ↦ apart_old j k s x d q z l u g h a b
+      ]
+    ]
+
     -- a white member goes nowhere
     pub plan-white : mark_at c slot ≡ 0 → v ≡ None → Planned c members bridge (i + 1) free new
     plan-white m e = record {
@@ -74,20 +116,14 @@ module _ (c t new : Table) (r : ℕ) (members : List ℕ) (bridge : Option ℕ) 
       ];
       goes = λ j s l g k b. elim (cases_eq j i) [
         | inl q ↦ absurd (k (ap (mark_at c) (is_slot j s g q) ∙ m))
-        | inr d ↦
-            let a = w.goes j s (omega (arith, l, d)) g k b in
-            (a.0, a.1, a.2, a.3, a.4, a.5, there s (off j s g d) ∙ a.6)
+        | inr d ↦ goes_old j s d l g k b
       ];
-      filled = λ k d l g b.
-          let a = w.filled k d l g b in
-          let q : a.0 ≢ i = λ z. omega (arith, z, a.2) in
-          (a.0, a.1, omega (arith, a.2), a.3, a.4, a.5, there a.1 (off a.0 a.1 a.3 q) ∙ a.6);
+      filled = filled_old;
       apart = λ j k s x d l u g h a b. elim (cases_eq j i) [
         | inl q ↦ absurd (none-some d (sym (ap (link_at new) (is_slot j s g q) ∙ here ∙ e) ∙ a))
         | inr q ↦ elim (cases_eq k i) [
           | inl z ↦ absurd (none-some d (sym (ap (link_at new) (is_slot k x h z) ∙ here ∙ e) ∙ b))
-          | inr z ↦ w.apart j k s x d (omega (arith, l, q)) (omega (arith, u, z)) g h
-              (sym (there s (off j s g q)) ∙ a) (sym (there x (off k x h z)) ∙ b)
+          | inr z ↦ apart_old j k s x d q z l u g h a b
         ]
       ];
       others = others_are;
@@ -115,29 +151,10 @@ module _ (c t new : Table) (r : ℕ) (members : List ℕ) (bridge : Option ℕ) 
           ];
           goes = λ j s l g k b. elim (cases_eq j i) [
             | inl q ↦ absurd (b (is ∙ ap Some (sym (is_slot j s g q))))
-            | inr d ↦
-                let a = w.goes j s (omega (arith, l, d)) g k b in
-                (a.0, a.1, a.2, a.3, a.4, a.5, there s (off j s g d) ∙ a.6)
+            | inr d ↦ goes_old j s d l g k b
           ];
-          filled = λ k d l g b.
-              let a = w.filled k d l g b in
-              let q : a.0 ≢ i = λ z. omega (arith, z, a.2) in
-              (a.0, a.1, omega (arith, a.2), a.3, a.4, a.5, there a.1 (off a.0 a.1 a.3 q) ∙ a.6);
-          apart = λ j k s x d l u g h a b. elim (cases_eq j i) [
-            | inl q ↦ elim (cases_eq k i) [
-              | inl z ↦ q ∙ sym z
-              | inr z ↦
-                  let y : slot ≡ d = same_Some slot d (sym e ∙ sym here ∙ ap (link_at new) (sym (is_slot j s g q)) ∙ a) in
-                  absurd (none k x d (omega (arith, u, z)) h (sym (there x (off k x h z)) ∙ b) (sym y))
-            ]
-            | inr q ↦ elim (cases_eq k i) [
-              | inl z ↦
-                  let y : slot ≡ d = same_Some slot d (sym e ∙ sym here ∙ ap (link_at new) (sym (is_slot k x h z)) ∙ b) in
-                  absurd (none j s d (omega (arith, l, q)) g (sym (there s (off j s g q)) ∙ a) (sym y))
-              | inr z ↦ w.apart j k s x d (omega (arith, l, q)) (omega (arith, u, z)) g h
-                  (sym (there s (off j s g q)) ∙ a) (sym (there x (off k x h z)) ∙ b)
-            ]
-          ];
+          filled = filled_old;
+          apart = apart_new slot e none;
           others = others_are;
         }
 
@@ -179,27 +196,10 @@ module _ (c t new : Table) (r : ℕ) (members : List ℕ) (bridge : Option ℕ) 
                 (a.0, a.1, omega (arith, a.2, low), a.3, a.4, a.5, there s (off j s g d) ∙ a.6)
           ];
           filled = λ k d l g b. elim (next k d l g b) [
-            | inl y ↦
-                let a = w.filled k d y g b in
-                let q : a.0 ≢ i = λ z. omega (arith, z, a.2) in
-                (a.0, a.1, omega (arith, a.2), a.3, a.4, a.5, there a.1 (off a.0 a.1 a.3 q) ∙ a.6)
+            | inl y ↦ filled_old k d y g b
             | inr y ↦ (i, slot, omega arith, at, m, is, here ∙ e ∙ ap Some (sym y))
           ];
-          apart = λ j k s x d l u g h a b. elim (cases_eq j i) [
-            | inl q ↦ elim (cases_eq k i) [
-              | inl z ↦ q ∙ sym z
-              | inr z ↦
-                  let y : d0 ≡ d = same_Some d0 d (sym e ∙ sym here ∙ ap (link_at new) (sym (is_slot j s g q)) ∙ a) in
-                  absurd (none k x d (omega (arith, u, z)) h (sym (there x (off k x h z)) ∙ b) (sym y))
-            ]
-            | inr q ↦ elim (cases_eq k i) [
-              | inl z ↦
-                  let y : d0 ≡ d = same_Some d0 d (sym e ∙ sym here ∙ ap (link_at new) (sym (is_slot k x h z)) ∙ b) in
-                  absurd (none j s d (omega (arith, l, q)) g (sym (there s (off j s g q)) ∙ a) (sym y))
-              | inr z ↦ w.apart j k s x d (omega (arith, l, q)) (omega (arith, u, z)) g h
-                  (sym (there s (off j s g q)) ∙ a) (sym (there x (off k x h z)) ∙ b)
-            ]
-          ];
+          apart = apart_new d0 e none;
           others = others_are;
         }
 

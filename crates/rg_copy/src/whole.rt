@@ -60,8 +60,5 @@ pub fn collect<L: Ledger>(
     forward_slots(cells, region, frames);
     shift(cells, regions.members(key), region);
     sweep(cells, regions, key);
-    Kept {
-        kept: regions.members(key).len() as u64,
-        orphans,
-    }
+    regions.left(key, orphans)
 }

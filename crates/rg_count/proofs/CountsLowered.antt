@@ -136,6 +136,26 @@ pub chained-head : (links : List (Option ℕ)) (head : Option ℕ) (keys : List 
 chained-head links head [] s c e = let q : None ≡ Some s = sym c ∙ e in cc
 chained-head links head (x ∷ keys) s c e = inl (same_Some s x (sym e ∙ c.0))
 
+-- where as much is owed of each cell of the region, the same counts
+pub count-done : (h : Heap) (r : ℕ) (roots : Roots) (first : Table) (was rest : ℕ → ℕ) (done zeros : List ℕ) (t : Table)
+    (head : Option ℕ) → ((s : ℕ) → LiesIn h r s → was s ≡ rest s) → Counts h r roots first was done zeros t head
+    → Counts h r roots first rest done zeros t head
+count-done h r roots first was rest done zeros t head e c = record {
+  heap = c.heap;
+  sum = λ x l. omega (arith, c.sum x l, e x l);
+  spends = c.spends;
+  chain = c.chain;
+  zero_lies = c.zero_lies;
+  zero_mark = c.zero_mark;
+  zero_root = c.zero_root;
+  zero_done = c.zero_done;
+  done_mark = c.done_mark;
+  all = c.all;
+  rooted = c.rooted;
+  only = c.only;
+  outside = c.outside;
+}
+
 -- a word of the cell at work was looked at
 pub count-turn : (h : Heap) (r : ℕ) (roots : Roots) (first : Table) (was rest : ℕ → ℕ) (done zeros : List ℕ)
     (old new : Table) (head result : Option ℕ) (w : Word) → ((s : ℕ) → was s ≡ cond {A = ℕ} (leads_to s w) 1 0 + rest s)
@@ -147,28 +167,13 @@ count-turn h r roots first was rest done zeros old new head result w less g c = 
       let C1 : Table → Type 0 = λ t. C t head in
       let C2 : Option ℕ → Type 0 = λ o. C new o in (
         zeros,
-        subst C2 (sym p.head_is) (subst C1 (sym p.same) (record {
-          heap = c.heap;
-          sum = λ x l.
-              let off : leads_to x w ≡ false = elim (bool-cases (leads_to x w)) [
-                | inl y ↦ let L : Heap → Type 0 = λ z. LiesIn z r x in
-                    absurd (p.none x (leads-is x w y) (subst L (sym c.heap) l))
-                | inr y ↦ y
-              ] in
-              let z : cond {A = ℕ} (leads_to x w) 1 0 ≡ 0 = ap (λ b. cond {A = ℕ} b 1 0) off in
-              omega (arith, c.sum x l, less x, z);
-          spends = c.spends;
-          chain = c.chain;
-          zero_lies = c.zero_lies;
-          zero_mark = c.zero_mark;
-          zero_root = c.zero_root;
-          zero_done = c.zero_done;
-          done_mark = c.done_mark;
-          all = c.all;
-          rooted = c.rooted;
-          only = c.only;
-          outside = c.outside;
-        })),
+        subst C2 (sym p.head_is) (subst C1 (sym p.same) (count-done h r roots first was rest done zeros old head (λ x l.
+            let off : leads_to x w ≡ false = elim (bool-cases (leads_to x w)) [
+              | inl y ↦ let L : Heap → Type 0 = λ z. LiesIn z r x in absurd (p.none x (leads-is x w y) (subst L (sym c.heap) l))
+              | inr y ↦ y
+            ] in
+            let z : cond {A = ℕ} (leads_to x w) 1 0 ≡ 0 = ap (λ b. cond {A = ℕ} b 1 0) off in
+            omega (arith, less x, z)) c)),
       )
   | inr q ↦ elim q [
     | inl p ↦
@@ -353,26 +358,6 @@ count-pop h r roots first done (z ∷ rest) t s c =
         outside = c.outside;
       },
     )
-
--- behind the last field nothing is owed
-pub count-done : (h : Heap) (r : ℕ) (roots : Roots) (first : Table) (was rest : ℕ → ℕ) (done zeros : List ℕ) (t : Table)
-    (head : Option ℕ) → ((s : ℕ) → was s ≡ rest s) → Counts h r roots first was done zeros t head
-    → Counts h r roots first rest done zeros t head
-count-done h r roots first was rest done zeros t head e c = record {
-  heap = c.heap;
-  sum = λ x l. omega (arith, c.sum x l, e x);
-  spends = c.spends;
-  chain = c.chain;
-  zero_lies = c.zero_lies;
-  zero_mark = c.zero_mark;
-  zero_root = c.zero_root;
-  zero_done = c.zero_done;
-  done_mark = c.done_mark;
-  all = c.all;
-  rooted = c.rooted;
-  only = c.only;
-  outside = c.outside;
-}
 
 pub lowers-heap : (r : ℕ) (w : Word) (head result : Option ℕ) (old new : Table) → Lowers r w head result old new
     → new.heap ≡ old.heap

@@ -5,7 +5,6 @@ mod ZerosListed
 mod SpentInTurn
 mod CountsBegun
 mod CellsSwept
-mod RecordsSwept
 mod PartsJoined
 mod GroveKept
 pub mod Written

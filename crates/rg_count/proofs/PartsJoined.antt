@@ -1,8 +1,6 @@
 -- From the forest to the parts of a collection, and from the parts to the whole.
-use Rattle.std.proofs.Common.{◌≡◌, ℕ, ◌<◌, List, [], length, Option, Some, None, get_or, refl, ap, sym, ◌∙◌, subst}
+use Rattle.std.proofs.Common.{◌≡◌, ℕ, List, [], length, Option, Some, None, get_or, refl, ap, sym, ◌∙◌, subst}
 use Rattle.std.proofs.Common.{arith, ◌⊎◌, inl, inr, option_map}
-use Rattle.std.proofs.lemmas.Bool.{cases_eq, cases_lt}
-use Rattle.std.proofs.lemmas.Option.{slice_get_within, slice_get-get_or, same_Some}
 use Rattle.rg_cells.specs.declared.cell.Body.{Body}
 use Rattle.rg_base.specs.declared.object.Label.TheVariants.{Region}
 use Rattle.rg_cells.specs.Table.{Heap, Table, field_at, body_at, body_in, mark_at, link_at, high_of}
@@ -13,13 +11,15 @@ use Rattle.rg_regions.specs.Grove.{Grove, referrers}
 use Rattle.rg_regions.specs.Owned.{Every, ChainsOwned}
 use Rattle.rg_regions.specs.Collection.{ChainsOrphans}
 use Rattle.rg_regions.specs.Same.{IsSameCell}
+use Rattle.rg_regions.proofs.Callers.OwnedFound.{lost_each}
 use Rattle.rg_regions.proofs.Callers.Fewer.{total_alike}
 use Rattle.rg_regions.proofs.Callers.Told.{lies_or_not}
-use Rattle.rg_regions.proofs.Callers.Told.{owns_once}
 use Rattle.rg_count.specs.Inner.Counting.{weight, nothing, in_turn, Counts}
 use Rattle.rg_count.specs.Inner.Sweeping.{Goes, Swept, Sweeps}
 use Rattle.rg_count.specs.Counted.{Counted}
 use Rattle.rg_regions.proofs.Callers.Shares.{has-cases, without, without-off, without-in, parted}
+use Rattle.rg_regions.proofs.Callers.MembersSwept.{Lists, lists_of, members_of}
+use Rattle.rg_count.proofs.CellsSwept.{swept-lists}
 use Rattle.rg_count.proofs.CountsLowered.{referrers-total, spends-distinct, spends-lie}
 use Rattle.rg_count.proofs.SpentInTurn.{done-spent, spent-done, has-turn, turn-has, no-root}
 
@@ -27,21 +27,13 @@ use Rattle.rg_count.proofs.SpentInTurn.{done-spent, spent-done, has-turn, turn-h
 pub swept-begin : (c d : Table) (t : RegionTable) (key : ℕ) (rec : Record) → Grove c t → record_at t key ≡ Some rec
     → d.heap ≡ c.heap → Swept d rec.number rec.members (length rec.members) d
 swept-begin c d t key rec g e h =
-    let m = g.members key rec e in
-    let o = owns_once c t key rec g e in
+    let L : Heap → Type 0 = λ z. Lists z rec.number rec.members in
+    let a = subst L (sym h) (lists_of c.heap rec.number rec.members (g.members key rec e)) in
     record {
       fits = omega arith;
-      lie = λ j l. let Q : Heap → Type 0 = λ z. LiesIn z rec.number (get_or rec.members j 0) in
-          subst Q (sym h) (o.lie j l);
-      once = λ j k l n z. let q : j ≡ k = o.once j k (omega arith) n z in omega (arith, q);
-      all = λ s l.
-          let L : Heap → Type 0 = λ z. LiesIn z rec.number s in
-          let a = m.all s (subst L h l) in (
-            a.0,
-            slice_get_within rec.members a.0 s a.1,
-            same_Some (get_or rec.members a.0 0) s
-                (sym (slice_get-get_or rec.members a.0 0 (slice_get_within rec.members a.0 s a.1)) ∙ a.1),
-          );
+      lie = a.lie;
+      once = a.once;
+      all = a.all;
       after = λ j l n q. absurd (omega (arith, l, n));
       either = λ s l. inl (refl, refl, refl);
       others = λ s l. (refl, refl, refl);
@@ -131,31 +123,7 @@ counted c d t u key rec roots first done cells regions fm e k a b w =
         high = s.5.high ∙ ap high_of h;
         numbers = w.next ∙ b;
         records = λ k n. w.others k n ∙ ap (λ (rs : List (Option Record)). get_or rs k None) a;
-        own = (
-          s.0,
-          s.1,
-          s.2,
-          s.3,
-          s.4,
-          record {
-            lie = λ j x q. let e = same_Some (get_or s.0.members j 0) x
-                (sym (slice_get-get_or s.0.members j 0 (slice_get_within s.0.members j x q)) ∙ q) in
-                let L : ℕ → Type 0 = λ y. LiesIn cells.heap rec.number y in
-                subst L e (s.5.lie j (slice_get_within s.0.members j x q));
-            all = λ x l. let p = s.5.all x l in (p.0, slice_get-get_or s.0.members p.0 0 p.1 ∙ ap Some p.2);
-            once = λ i j x p q.
-                let a = slice_get_within s.0.members i x p in
-                let b = slice_get_within s.0.members j x q in
-                let z : get_or s.0.members i 0 ≡ get_or s.0.members j 0 = same_Some (get_or s.0.members i 0)
-                (get_or s.0.members j 0) (sym (slice_get-get_or s.0.members i 0 a) ∙ p ∙ sym q
-                ∙ slice_get-get_or s.0.members j 0 b) in
-                elim (cases_lt i j) [
-                  | inl y ↦ absurd (s.5.once i j y b z)
-                  | inr y ↦ elim (cases_eq i j)
-                      [ inl k ↦ k | inr k ↦ let v : j < i = omega arith in absurd (s.5.once j i v a (sym z)) ]
-                ];
-          },
-        );
+        own = (s.0, s.1, s.2, s.3, s.4, members_of cells.heap r s.0.members (swept-lists d r s.0.members 0 cells s.5));
       };
       kept = λ x l n. stay x (λ m. n (is_spent x m));
       gone = λ x m. (gone x (is_done x m)).0;
@@ -180,23 +148,10 @@ orphaning c d t u r roots first done result k o = (
   o.0,
   record {
     chain = o.1.chain;
-    each = λ y n.
-        let w = by_none (o.1.each y n) in
-        let own = w.2 in
-        let s : ℕ = get_or (in_turn done) own.place 0 in (
-          w.0,
-          w.1,
-          record {
-            slot = s;
-            field = own.field;
-            to = own.to;
-            from = spends-lie c.heap r roots done k.spends s (turn-has done own.place own.within);
-            gone = done-spent c.heap r roots done s k.spends (turn-has done own.place own.within);
-            leads = own.leads;
-            lies = own.lies;
-            other = own.other;
-          },
-        );
+    each = lost_each c.heap Every (Spent c.heap r roots) r (in_turn done) t (length (in_turn done)) 0 u result o.0 (λ p l g. (
+      spends-lie c.heap r roots done k.spends (get_or (in_turn done) p 0) (turn-has done p l),
+      done-spent c.heap r roots done (get_or (in_turn done) p 0) k.spends (turn-has done p l),
+    )) o.1;
     all = λ q y l n.
         let a = has-turn done l.slot (spent-done c.heap r roots first done d k l.slot l.gone) in
         o.1.all q y (record {
@@ -213,6 +168,3 @@ orphaning c d t u r roots first done result k o = (
     apart = o.1.apart;
   },
 )
-  where
-    by_none : {A : Type 0} → ⊥ ⊎ A → A
-    by_none o = elim o [ inl x ↦ absurd x | inr a ↦ a ]

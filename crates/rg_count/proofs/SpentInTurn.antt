@@ -17,7 +17,7 @@ use Rattle.rg_regions.specs.Grove.{Members, leads_to}
 use Rattle.rg_regions.specs.Spent.{IsSpentOrder, Spent}
 use Rattle.rg_regions.specs.Chains.{OwnsOnce, LeadsOnce}
 use Rattle.rg_regions.specs.Owned.{Every, Owned, ChainsOwned, FollowsFields}
-use Rattle.rg_regions.proofs.Callers.OwnedFound.{owned_next}
+use Rattle.rg_regions.proofs.Callers.OwnedFound.{owned_alike, owned_next}
 use Rattle.rg_regions.proofs.Callers.Told.{lies_or_not}
 use Rattle.rg_regions.proofs.Callers.Fewer.{belongs_not}
 use Rattle.rg_regions.proofs.Callers.Fewer.{lies_belongs}
@@ -268,18 +268,8 @@ turn-owners h r roots done one w = record {
 owned-grow : (h : Heap) (r : ℕ) (xs : List ℕ) (s : ℕ) (t now : RegionTable) (head : Option ℕ)
     → ChainsOwned h Every r xs [] t (length xs) 0 now head
     → ChainsOwned h Every r (xs ++ s ∷ []) [] t (length xs) 0 now head
-owned-grow h r xs s t now head o = (
-  o.0,
-  record {
-    records = o.1.records;
-    next = o.1.next;
-    chain = o.1.chain;
-    old = o.1.old;
-    each = λ key m. elim (o.1.each key m) [ inl a ↦ inl a | inr e ↦ inr (e.0, e.1, up e.0 e.2) ];
-    all = λ q key w n. o.1.all q key (back q w) n;
-    apart = o.1.apart;
-  },
-)
+owned-grow h r xs s t now head =
+    owned_alike h Every r xs (xs ++ s ∷ []) [] t (length xs) 0 (length xs) 0 now head up back
   where
     up : (q : ℕ) → Owned h Every r xs (length xs) 0 q → Owned h Every r (xs ++ s ∷ []) (length xs) 0 q
     up q w = record {
@@ -321,7 +311,7 @@ down-more h r roots first before most start old new mid next s zr orphans result
     let a = count-pop h r roots first d.done d.zeros old s d.counts in
     let b = low.counts roots first (s ∷ d.done) a.0 a.1 in
     let c = count-done h r roots first (owed h s (width (body_at h s))) nothing (s ∷ d.done) b.0 new zr
-    (λ x. owed-none h s x) b.1 in
+    (λ x l. owed-none h s x) b.1 in
     let xs = in_turn d.done in
     let ow = turn-owners h r roots (s ∷ d.done) one c.spends in
     let long = snoc-length xs s in

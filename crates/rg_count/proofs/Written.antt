@@ -2,15 +2,15 @@
 use Rattle.std.proofs.Common.{◌≡◌, ℕ, ◌+◌, ◌<◌, ◌≤◌, zero, suc, Bool, true, false, cond, List, [], ◌∷◌, length, Option}
 use Rattle.std.proofs.Common.{Some, None, set, refl, ap, sym, ◌∙◌, arith, inl, inr, slice_get, count_by, option_map}
 use Rattle.std.proofs.Common.{option_and_then}
-use Rattle.std.proofs.lemmas.List.{get_or_past}
 use Rattle.std.proofs.lemmas.List.Sums.{sum_by-cons, count_by-le-length}
-use Rattle.std.proofs.lemmas.Bool.{cases_eq, cases_lt}
+use Rattle.std.proofs.lemmas.Bool.{cases_eq}
 use Rattle.std.proofs.lemmas.Option.{same_Some}
 use Rattle.rg_base.specs.declared.object.Label.TheVariants.{Region}
 use Rattle.rg_cells.specs.declared.cell.Body.{Body}
 use Rattle.rg_base.specs.declared.value.Word.{Word}
 use Rattle.rg_cells.specs.Table.{Heap, Table, body_at, body_in, field_at, field_total, total, width, with_field}
 use Rattle.rg_cells.specs.Table.{with_body, Made}
+use Rattle.rg_regions.proofs.Callers.Freed.{lies_within}
 use Rattle.rg_regions.specs.Reach.{LiesIn, belongs}
 use Rattle.rg_regions.specs.Grove.{leads_to, referrers}
 use Rattle.rg_regions.proofs.Callers.Fewer.{lies_belongs}
@@ -68,13 +68,7 @@ pub referrers-written : (h : Heap) (r s k x : ℕ) (old w : Word) → LiesIn h r
 referrers-written h r s k x old w l f = by_body (body_at h s) refl
   where
     room : s < length h.slots
-    room = elim (cases_lt s (length h.slots)) [
-      | inl m ↦ m
-      | inr m ↦
-          let e : body_at h s ≡ None = ap body_in (get_or_past h.slots s None m) in
-          let q : None ≡ Some (Region r) = sym (ap (option_map (λ (b : Body). b.label)) e) ∙ l in
-          cc
-    ]
+    room = lies_within h r s l
 
     by_body : (o : Option Body) → body_at h s ≡ o
         → referrers (with_field h s k w) r x + cond {A = ℕ} (leads_to x old) 1 0 ≡ referrers h r x + cond {A = ℕ}

@@ -16,9 +16,9 @@ ghost use Rattle.rg_count.specs.Inner.Flags.{Rooted};
 ghost use Rattle.rg_regions.specs.Same.{LinksStay};
 
 use crate::roots::{clear, flag_bridge, flag_temps, flag_words};
-use rg_base::{Label, Steps, Word};
+use rg_base::{Steps, Word};
 use rg_cells::Cells;
-use rg_regions::{Regions, chain_word, removed};
+use rg_regions::{Regions, chain_word, removed, slot_in};
 use std::sync::ledger::Ledger;
 
 /// The roots of a region: its bridge, and its cells in slots and in fields of temporaries.
@@ -56,15 +56,9 @@ fn lower(cells: &mut Cells, region: u64, w: Word, head: Option<usize>) -> Option
         → 0 < mark_at cells.old s }
     ensures { Lowers region w head result cells.old cells.new }
 {
-    let Word::Slot(slot) = w else {
+    let Some(slot) = slot_in(cells, region, w) else {
         return head;
     };
-    let Label::Region(number) = cells.label(slot) else {
-        return head;
-    };
-    if number != region {
-        return head;
-    }
     removed(cells, slot);
     if cells.mark(slot) != 0 {
         return head;

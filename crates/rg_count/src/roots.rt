@@ -6,8 +6,9 @@ ghost use Rattle.rg_cells.specs.Table.{IsHeld, body_at, field_at, width};
 ghost use Rattle.rg_regions.specs.Collection.{WordsLeadToHeld, AllHeld, TempsLeadToHeld};
 ghost use Rattle.rg_count.specs.Inner.Flags.{Cleared, Flags, Flagged, Among, InTemps};
 
-use rg_base::{Label, Steps, Word};
+use rg_base::{Steps, Word};
 use rg_cells::Cells;
+use rg_regions::slot_in;
 use std::sync::ledger::Ledger;
 
 /// No member links to a cell.
@@ -25,15 +26,9 @@ fn flag(cells: &mut Cells, region: u64, w: Word)
     requires { (s : ℕ) → w ≡ Word.Slot s → IsHeld cells.old.heap s }
     ensures { Flags region w cells.old cells.new }
 {
-    let Word::Slot(slot) = w else {
+    let Some(slot) = slot_in(cells, region, w) else {
         return;
     };
-    let Label::Region(number) = cells.label(slot) else {
-        return;
-    };
-    if number != region {
-        return;
-    }
     cells.set_link(slot, Some(slot));
 }
 

@@ -52,8 +52,5 @@ pub fn collect<L: Ledger>(
     };
     let orphans = count_down(cells, regions, key, region, &roots, steps);
     sweep(cells, regions, key);
-    Kept {
-        kept: regions.members(key).len() as u64,
-        orphans,
-    }
+    regions.left(key, orphans)
 }

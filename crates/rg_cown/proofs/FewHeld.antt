@@ -6,6 +6,7 @@ use Rattle.std.specs.Prelude.{eqb}
 use Rattle.std.specs.List.{list_any, IsDistinct, AllByRecursion}
 use Rattle.std.proofs.lemmas.List.Sums.{sum_by-cons}
 use Rattle.std.proofs.lemmas.Bool.Decides.{eqb_tells}
+use Rattle.std.proofs.lemmas.Bool.{false≢true}
 use Rattle.rg_cells.specs.declared.cell.Body.{Body}
 use Rattle.rg_cells.specs.Table.{Heap, body_at, one, high_of}
 use Rattle.rg_regions.specs.Table.{Has}
@@ -27,12 +28,9 @@ has_any (x ∷ xs) s m = elim (eqb_tells s x) [
 apart : (x : ℕ) (xs : List ℕ) → AllByRecursion (λ y. eqb x y ≡ false) xs → Has xs x → ⊥
 apart x [] a m = m
 apart x (y ∷ xs) a m = elim m [
-  | inl q ↦ elim (eqb_tells x y) [ inl t ↦ true_false (sym t.0 ∙ a.0) | inr t ↦ t.1 q ]
+  | inl q ↦ elim (eqb_tells x y) [ inl t ↦ false≢true (sym a.0 ∙ t.0) | inr t ↦ t.1 q ]
   | inr n ↦ apart x xs a.1 n
 ]
-  where
-    true_false : true ≡ false → ⊥
-    true_false z = cc
 
 pub distinct : (xs : List ℕ) → IsDistinct eqb xs → Distinct xs
 unfolding IsDistinct

@@ -6,6 +6,7 @@ use Rattle.std.specs.List.{list_all, range_with_len}
 use Rattle.std.proofs.lemmas.List.Sums.{sum_by-cons}
 use Rattle.std.proofs.lemmas.Bool.Decides.{eqb_tells}
 use Rattle.std.proofs.lemmas.Option.{same_Some}
+use Rattle.std.proofs.lemmas.Bool.{false≢true}
 use Rattle.rg_base.specs.declared.object.Label.{Label}
 use Rattle.rg_base.specs.declared.object.Label.TheVariants.{Region, Temp, Frozen}
 use Rattle.rg_base.specs.declared.value.Val.{Val}
@@ -16,7 +17,7 @@ use Rattle.rg_cown.specs.Loads.{IsFirst}
 use Rattle.rg_cown.specs.Cargo.{CargoList, label_of, regions_named, named_from, region_named, is_in, comes_to}
 use Rattle.rg_cown.specs.Cargo.{stays_frozen, frozen_fits, is_frozen, leads_into, entries_of, entries, is_entered, SoundCargo}
 use Rattle.rg_cown.proofs.GroveLoaded.{first_there}
-use Rattle.rg_cown.proofs.SoundParts.{HasField, Enters, less_or_not, named_new, new_from, between, temps_none, hits, weighs}
+use Rattle.rg_cown.proofs.SoundParts.{HasField, Enters, label_within, less_or_not, named_new, new_from, between, temps_none, hits, weighs}
 
 -- all that is named is there, and is numbered by its first mention
 pub record AllNumbered (c : CargoList) : Type 0 where
@@ -48,10 +49,7 @@ all_from p (x ∷ xs) h = and_true (p x) (list_all p xs) (h 0 x refl) (all_from 
 
 pub is_in_true : (q : ℕ) (o : Option Label) → is_in q o ≡ true → o ≡ Some (Region q)
 is_in_true q None e = cc
-is_in_true q (Some (Region r)) e = elim (eqb_tells r q) [ inl t ↦ ap (λ z. Some (Region z)) t.1 | inr t ↦ absurd (false_true (sym t.0 ∙ e)) ]
-  where
-    false_true : false ≡ true → ⊥
-    false_true z = cc
+is_in_true q (Some (Region r)) e = elim (eqb_tells r q) [ inl t ↦ ap (λ z. Some (Region z)) t.1 | inr t ↦ absurd (false≢true (sym t.0 ∙ e)) ]
 is_in_true q (Some (Temp n)) e = cc
 is_in_true q (Some Frozen) e = cc
 
@@ -83,11 +81,6 @@ sum_single f (z ∷ xs) (suc i) x e h =
 
 label_is : (cells : List CargoCell) (k : ℕ) (c : CargoCell) → slice_get cells k ≡ Some c → label_of cells k ≡ Some c.label
 label_is cells k c e = ap (option_map (λ (x : CargoCell). x.label)) e
-
-label_within : (cells : List CargoCell) (k : ℕ) (l : Label) → label_of cells k ≡ Some l → k < length cells
-label_within [] k l e = cc
-label_within (y ∷ ys) zero l e = omega arith
-label_within (y ∷ ys) (suc k) l e = let z = label_within ys k l e in omega (arith, z)
 
 -- a region that is numbered has an object
 region_there : (cs : List CargoCell) (n m q : ℕ) → regions_named n cs ≡ Some m → n ≤ q → q < m → (k : ℕ) × (label_of cs k ≡ Some (Region q))

@@ -1,6 +1,6 @@
 //! Frames, windows and temporaries (docs/architecture.md, "Frames").
 
-ghost use Rattle.std.specs.Prelude.{◌≡◌, ◌≤◌, ◌+◌, ◌-◌, ◌<◌, ◌^◌, ◌++◌, ◌↔◌, None, Some, Ok, Err};
+ghost use Rattle.std.specs.Prelude.{◌≡◌, ◌≤◌, ◌+◌, ◌-◌, ◌<◌, ◌^◌, ◌++◌, ◌↔◌, None, Some, Ok, Err, slice_set};
 ghost use Rattle.std.specs.Prelude.{IfSome, IsNone, OnOk, OnErr, length, drop, take, replicate};
 ghost use Rattle.std.specs.Prelude.{slice_get, slice_set, unwrap_or, vec_len, vec_capacity};
 ghost use Rattle.std.specs.Prelude.{true, ℕ, List};
@@ -82,18 +82,8 @@ impl Frames {
         ensures err { OnErr result
             (self.new ≡ roomed self.old self.new.frame_room self.new.slot_room) }
     {
-        let Ok(()) = self.frames.reserve(1) else {
-            return Err(Memory);
-        };
-        let Ok(()) = self.kept.reserve(1) else {
-            return Err(Memory);
-        };
-        let Ok(()) = self.windows.reserve(1) else {
-            return Err(Memory);
-        };
-        let Ok(()) = self.marks.reserve(1) else {
-            return Err(Memory);
-        };
+        reserve_both(&mut self.frames, &mut self.kept)?;
+        reserve_both(&mut self.windows, &mut self.marks)?;
         let Ok(()) = self.slots.resize(slots as usize, Word::Nil) else {
             return Err(Memory);
         };
@@ -138,12 +128,7 @@ impl Frames {
         ensures same { self.new ≡ roomed self.old self.new.frame_room self.new.slot_room }
         ensures ok { OnOk result (HasRoom self.new slots) }
     {
-        let Ok(()) = self.frames.reserve(1) else {
-            return Err(Memory);
-        };
-        let Ok(()) = self.kept.reserve(1) else {
-            return Err(Memory);
-        };
+        reserve_both(&mut self.frames, &mut self.kept)?;
         let Ok(()) = self.slots.reserve(slots) else {
             return Err(Memory);
         };
@@ -265,19 +250,28 @@ impl Frames {
         }
     }
 
-    /// Writes a slot of the top frame, where there is one.
+    // Writes a place of the top frame, where it has one there.
     #[inline]
-    pub fn set_word(&mut self, s: u32, w: Word)
-        ensures { self.new ≡ with_slot self.old s w }
+    fn put_word(&mut self, place: usize, w: Word)
+        requires { self.old.first ≤ place }
+        ensures { self.new ≡ record self.old { slots = slice_set self.old.slots place w } }
     {
         let len = self.slots.len();
-        let place = self.first + s as usize;
         if place < len {
             self.slots[place] = w;
             if self.live <= place {
                 self.live = place + 1;
             }
         }
+    }
+
+    /// Writes a slot of the top frame, where there is one.
+    #[inline]
+    pub fn set_word(&mut self, s: u32, w: Word)
+        ensures { self.new ≡ with_slot self.old s w }
+    {
+        let place = self.first + s as usize;
+        self.put_word(place, w);
     }
 
     /// The word in a slot of the top frame, whatever its number.
@@ -293,14 +287,8 @@ impl Frames {
         requires { InTop self.old s }
         ensures { self.new ≡ with_slot self.old s Nil }
     {
-        let len = self.slots.len();
         let place = self.first + s;
-        if place < len {
-            self.slots[place] = Word::Nil;
-            if self.live <= place {
-                self.live = place + 1;
-            }
-        }
+        self.put_word(place, Word::Nil);
     }
 
     /// Makes nil the slots of the top frame from one on, where there are any.
@@ -383,12 +371,7 @@ impl Frames {
         if self.next >= u64::MAX - 1 {
             return Err(Memory);
         }
-        let Ok(()) = self.windows.reserve(1) else {
-            return Err(Memory);
-        };
-        let Ok(()) = self.marks.reserve(1) else {
-            return Err(Memory);
-        };
+        reserve_both(&mut self.windows, &mut self.marks)?;
         let number = self.next;
         self.windows.push_reserved(Window {
             number,
@@ -513,6 +496,22 @@ fn has(windows: &[Window], region: usize) -> bool
         }
     }
     false
+}
+
+// Makes room for one more in each of two lists.
+fn reserve_both<A, B>(a: &mut Vec<A>, b: &mut Vec<B>) -> Result<(), Memory>
+    ensures first { a.new.items ≡ a.old.items }
+    ensures second { b.new.items ≡ b.old.items }
+    ensures room { OnOk result (vec_len a.new + 1 ≤ vec_capacity a.new) }
+    ensures more { OnOk result (vec_len b.new + 1 ≤ vec_capacity b.new) }
+{
+    let Ok(()) = a.reserve(1) else {
+        return Err(Memory);
+    };
+    let Ok(()) = b.reserve(1) else {
+        return Err(Memory);
+    };
+    Ok(())
 }
 
 // Words more, within the room.

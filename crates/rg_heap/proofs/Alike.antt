@@ -17,6 +17,8 @@ use Rattle.rg_regions.specs.Reach.{LiesIn, belongs}
 use Rattle.rg_regions.specs.Grove.{Grove, Members, Parent, referrers, leads_to}
 use Rattle.rg_regions.proofs.Callers.Told.{number_of, record_there}
 use Rattle.rg_regions.proofs.Callers.Fewer.{total_alike, above_by, parent_by}
+use Rattle.rg_regions.proofs.Callers.Beside.{leads_on}
+use Rattle.rg_heap.proofs.Kin.{IsKin, Kin, kin_of}
 
 -- two records are one but for the room
 pub record IsAlike (a b : Record) : Type 0 where
@@ -47,17 +49,12 @@ module _ (c : Table) (t : RegionTable) (cells : Table) (regions : RegionTable) (
       parent_by c.heap cells.heap p q e (label_back e.from (Region p) e.lies) (field_back e.from e.field (Slot e.to) e.leads)
       (label_back e.to (Region q) e.child_has)
 
-  number_back : (k n : ℕ) → HasNumber regions k n → HasNumber t k n
-  number_back k n a =
-      let z = record_there (record_at regions k) n a in
-      let y = w.back k z.0 z.1 in
-      number_of t k n y.0 y.1 (y.2.number ∙ z.2)
-
-  number_on : (k n : ℕ) → HasNumber t k n → HasNumber regions k n
-  number_on k n a =
-      let y = record_there (record_at t k) n a in
-      let z = w.on k y.0 y.1 in
-      number_of regions k n z.0 z.1 (sym z.2.number ∙ y.2)
+  kin : Kin t regions
+  kin =
+      let kept : (y z : Record) → IsAlike y z → IsKin y z =
+      λ y z a. record { number = a.number; manager = a.manager; bridge = a.bridge } in
+      kin_of t regions (λ k z e. let y = w.back k z e in (y.0, y.1, kept y.0 z y.2))
+      (λ k y e. let z = w.on k y e in (z.0, z.1, kept y z.0 z.2))
 
   referrers_on : (q s : ℕ) → referrers cells.heap q s ≡ referrers c.heap q s
   referrers_on q s =
@@ -66,7 +63,7 @@ module _ (c : Table) (t : RegionTable) (cells : Table) (regions : RegionTable) (
 
   pub grove_alike : Grove c t → Grove cells regions
   grove_alike g = record {
-    numbers = λ k o n x y. g.numbers k o n (number_back k n x) (number_back o n y);
+    numbers = λ k o n x y. g.numbers k o n (kin.number_back k n x) (kin.number_back o n y);
     members = λ k z a.
         let y = w.back k z a in
         let m = g.members k y.0 y.1 in
@@ -84,18 +81,10 @@ module _ (c : Table) (t : RegionTable) (cells : Table) (regions : RegionTable) (
         let y = w.back k z a in
         let L : ℕ → Type 0 = λ n. LiesIn c.heap n s in
         label_on s (Region z.number) (subst L y.2.number (g.bridges k s y.0 y.1 (y.2.bridge ∙ e)));
-    labels = λ r s l. let a = g.labels r s (label_back s (Region r) l) in (a.0, number_on a.0 r a.1);
+    labels = λ r s l. let a = g.labels r s (label_back s (Region r) l) in (a.0, kin.number_on a.0 r a.1);
     frozen = λ s k to l f. label_on to Frozen (g.frozen s k to (label_back s Frozen l) (field_back s k (Slot to) f));
-    fields = λ p s k to l f. elim (g.fields p s k to (label_back s (Region p) l) (field_back s k (Slot to) f)) [
-      | inl a ↦ inl (label_on to Frozen a)
-      | inr x ↦ elim x [
-        | inl a ↦ inr (inl (label_on to (Region p) a))
-        | inr a ↦
-            let v = a.3 in
-            let z = w.on v.0 v.1 v.2 in
-            inr (inr (a.0, a.1, label_on to (Region a.0) a.2, (v.0, z.0, z.1, sym z.2.number ∙ v.3, sym z.2.bridge ∙ v.4)))
-      ]
-    ];
+    fields = λ p s k to l f. leads_on c cells t regions label_on kin.bridge_on p to
+        (g.fields p s k to (label_back s (Region p) l) (field_back s k (Slot to) f));
     one_in = λ q p s k to p2 s2 k2 to2 d l f i d2 l2 f2 i2.
         g.one_in q p s k to p2 s2 k2 to2
         d (label_back s (Region p) l) (field_back s k (Slot to) f) (label_back to (Region q) i)

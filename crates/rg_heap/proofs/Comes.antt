@@ -20,7 +20,8 @@ use Rattle.rg_regions.proofs.Callers.RegionComes.{grove_comes}
 use Rattle.rg_regions.proofs.Callers.CellComes.{one_more, old_one, last_one}
 use Rattle.rg_heap.specs.Changes.{LeadsNowhere, Makes, SameCells, SameRecords, Opens, OpensOne, Rewritten, as_it_is, with_one}
 use Rattle.rg_heap.proofs.Alike.{Alike, IsAlike, grove_alike}
-use Rattle.rg_heap.proofs.Grows.{Grows, IsKin, grove_grows}
+use Rattle.rg_heap.proofs.Grows.{Grows, grove_grows}
+use Rattle.rg_heap.proofs.Kin.{IsKin}
 
 -- records that stay but for the room
 pub rewritten_same : (t regions : RegionTable) (key : ℕ) → regions ≡ t → Rewritten t regions key as_it_is

@@ -14,15 +14,10 @@ use Rattle.rg_regions.specs.Grove.{Grove, Members, Parent, referrers, leads_to}
 use Rattle.rg_regions.proofs.Callers.Told.{number_of, record_there, lies_or_not}
 use Rattle.rg_regions.proofs.Callers.Fewer.{total_alike, belongs_not, weight, above_by, parent_by}
 use Rattle.rg_regions.proofs.Callers.RegionComes.{none_leads as none_lead_to}
-use Rattle.rg_regions.proofs.Callers.Beside.{Beside, beside, not_to}
+use Rattle.rg_regions.proofs.Callers.Beside.{Beside, beside, not_to, leads_on}
 use Rattle.rg_count.proofs.Written.{referrers-made}
 use Rattle.rg_heap.specs.Changes.{LeadsNowhere}
-
--- two records have the same number, manager and bridge
-pub record IsKin (a b : Record) : Type 0 where
-  pub number : a.number ≡ b.number
-  pub manager : a.manager ≡ b.manager
-  pub bridge : a.bridge ≡ b.bridge
+use Rattle.rg_heap.proofs.Kin.{IsKin, Kin, kin_of}
 
 -- a cell comes at a slot that wasn't held, and records stay but for members and room
 pub record Grows (c : Table) (t : RegionTable) (cells : Table) (regions : RegionTable) (slot : ℕ) (b : Body) : Type 0 where
@@ -76,17 +71,8 @@ module _ (c : Table) (t : RegionTable) (cells : Table) (regions : RegionTable) (
       let a = leads_back p e.from e.field e.to e.lies e.leads in
       parent_by c.heap cells.heap p q e a.lies a.leads (near.label_back e.to (Region q) a.other e.child_has)
 
-  number_back : (k n : ℕ) → HasNumber regions k n → HasNumber t k n
-  number_back k n a =
-      let z = record_there (record_at regions k) n a in
-      let y = w.back k z.0 z.1 in
-      number_of t k n y.0 y.1 (y.2.number ∙ z.2)
-
-  number_on : (k n : ℕ) → HasNumber t k n → HasNumber regions k n
-  number_on k n a =
-      let y = record_there (record_at t k) n a in
-      let z = w.on k y.0 y.1 in
-      number_of regions k n z.0 z.1 (sym z.2.number ∙ y.2)
+  kin : Kin t regions
+  kin = kin_of t regions w.back w.on
 
   referrers_on : (q s : ℕ) → referrers cells.heap q s ≡ referrers c.heap q s
   referrers_on q s = referrers-made c cells slot q s b w.made w.vacant (none_leads s b.fields w.plain)
@@ -110,7 +96,7 @@ module _ (c : Table) (t : RegionTable) (cells : Table) (regions : RegionTable) (
 
   pub grove_grows : Grove cells regions
   grove_grows = record {
-    numbers = λ k o n x y. g.numbers k o n (number_back k n x) (number_back o n y);
+    numbers = λ k o n x y. g.numbers k o n (kin.number_back k n x) (kin.number_back o n y);
     members = w.members;
     bridges = λ k s z a e.
         let y = w.back k z a in
@@ -120,22 +106,13 @@ module _ (c : Table) (t : RegionTable) (cells : Table) (regions : RegionTable) (
       | inl e ↦
           let P : ℕ → Type 0 = λ z. label_at cells.heap z ≡ Some (Region r) in
           let a = w.known r (same_Some b.label (Region r) (sym (ap (option_map (λ (b : Body). b.label)) w.made.body) ∙ subst P e l)) in
-          (a.0, number_on a.0 r a.1)
-      | inr d ↦ let a = g.labels r s (near.label_back s (Region r) d l) in (a.0, number_on a.0 r a.1)
+          (a.0, kin.number_on a.0 r a.1)
+      | inr d ↦ let a = g.labels r s (near.label_back s (Region r) d l) in (a.0, kin.number_on a.0 r a.1)
     ];
     frozen = λ s k to l f. let a = lead_back s k to f in near.label_on to Frozen (g.frozen s k to (near.label_back s Frozen a.0 l) a.1);
     fields = λ p s k to l f.
         let a = leads_back p s k to l f in
-        elim (g.fields p s k to a.lies a.leads) [
-          | inl a ↦ inl (near.label_on to Frozen a)
-          | inr x ↦ elim x [
-            | inl a ↦ inr (inl (near.label_on to (Region p) a))
-            | inr a ↦
-                let v = a.3 in
-                let z = w.on v.0 v.1 v.2 in
-                inr (inr (a.0, a.1, near.label_on to (Region a.0) a.2, (v.0, z.0, z.1, sym z.2.number ∙ v.3, sym z.2.bridge ∙ v.4)))
-          ]
-        ];
+        leads_on c cells t regions near.label_on kin.bridge_on p to (g.fields p s k to a.lies a.leads);
     one_in = λ q p s k to p2 s2 k2 to2 d l f i d2 l2 f2 i2.
         let a = leads_back p s k to l f in
         let a2 = leads_back p2 s2 k2 to2 l2 f2 in

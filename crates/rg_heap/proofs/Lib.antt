@@ -1,5 +1,6 @@
 -- The lemmas that the answers of rg_heap use; those with pub are open to crates above.
 mod Readers
+mod Kin
 mod Alike
 mod Grows
 mod Comes

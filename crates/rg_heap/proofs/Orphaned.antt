@@ -15,7 +15,7 @@ use Rattle.rg_regions.specs.Reach.{LiesIn, Roots}
 use Rattle.rg_regions.specs.Grove.{Grove, Parent, Above, direct, further}
 use Rattle.rg_regions.specs.Collection.{Lost, Orphaning, ChainsOrphans, HasManager}
 use Rattle.rg_regions.specs.Shrinks.{OneShrinks}
-use Rattle.rg_regions.proofs.Callers.Told.{one_number, one_region, lies_or_not, number_of, same_members}
+use Rattle.rg_regions.proofs.Callers.Told.{one_number, one_region, lies_or_not, number_of, same_members, lost_parent}
 use Rattle.rg_regions.proofs.Callers.Fewer.{label_before, field_before, above_both, above_by, parent_by}
 use Rattle.rg_release.specs.Released.{Unowned, BelowOne}
 use Rattle.rg_heap.specs.Parts.{Parts}
@@ -68,15 +68,7 @@ module _ (c : Table) (t : RegionTable) (key : ℕ) (rec : Record) (mid : Table) 
 
   -- the collected region isn't beneath one that lost its owner
   parent_of : (top : ℕ) → Lost c.heap rec.number Cell top → Parent c.heap rec.number top
-  parent_of top l = record {
-    differ = λ e. l.other (sym e);
-    from = l.slot;
-    field = l.field;
-    to = l.to;
-    lies = l.from;
-    leads = l.leads;
-    child_has = l.lies;
-  }
+  parent_of top = lost_parent c.heap rec.number top Cell
 
   apart : (top q : ℕ) → Lost c.heap rec.number Cell top → (q ≡ top) ⊎ Above c.heap top q → q ≢ rec.number
   apart top q l b e = elim b [

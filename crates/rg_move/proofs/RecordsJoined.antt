@@ -3,9 +3,10 @@ use Rattle.std.proofs.Common.{◌≡◌, ◌≢◌, ℕ, ◌-◌, ◌≤◌, Lis
 use Rattle.std.proofs.Common.{subst, arith}
 use Rattle.std.proofs.lemmas.List.{get_or-set_other, take_all}
 use Rattle.std.proofs.lemmas.Option.{same_Some}
-use Rattle.rg_regions.specs.Table.{Record, RegionTable, record_at, link_at, with_room, Roomier, removed}
+use Rattle.rg_regions.specs.Table.{Record, RegionTable, record_at, link_at, with_room, Roomier, HasNumber, removed}
 use Rattle.rg_regions.proofs.Callers.Changed.{changed_at, changed_other, changed_links}
 use Rattle.rg_regions.proofs.Callers.Removed.{none_there}
+use Rattle.rg_regions.proofs.Callers.Told.{record_there}
 use Rattle.rg_move.specs.Merged.{RecordsMerge}
 use Rattle.rg_move.specs.Inner.Moves.{PushedFirst, HasRoomToMove}
 
@@ -64,4 +65,31 @@ module _ (t roomy : RegionTable) (from into more : ℕ) (a b : Record) (d : from
         record_on k e ∙ p.others k f ∙ ap (λ z. record_at z k) r.2 ∙ changed_other t into (with_room r.0) k f,
         link_on k e,
       );
+    }
+
+-- the record of the region that goes and that of the region that takes its cells, before room was made and behind it
+pub record Both (t roomy : RegionTable) (from into more m : ℕ) : Type 0 where
+  pub one : Record
+  pub other : Record
+  pub at : record_at t from ≡ Some one
+  pub to : record_at t into ≡ Some other
+  pub number : other.number ≡ m
+  pub room : Roomier t roomy into more
+  pub left : record_at roomy from ≡ Some one
+  pub wide : record_at roomy into ≡ Some (with_room room.0 other)
+
+pub both : (t roomy : RegionTable) (from into more n m : ℕ) → from ≢ into → HasNumber t from n → HasNumber t into m
+    → Roomier t roomy into more → Both t roomy from into more m
+both t roomy from into more n m d x y r =
+    let a = record_there (record_at t from) n x in
+    let b = record_there (record_at t into) m y in
+    record {
+      one = a.0;
+      other = b.0;
+      at = a.1;
+      to = b.1;
+      number = b.2;
+      room = r;
+      left = from_roomy t roomy from into more a.0 b.0 d a.1 b.1 r;
+      wide = into_roomy t roomy from into more a.0 b.0 d a.1 b.1 r;
     }

@@ -9,6 +9,7 @@ pub mod Freed
 pub mod OwnedFound
 pub mod OneShrinks
 pub mod Dropped
+pub mod MembersSwept
 pub mod Removed
 pub mod HandedOver
 pub mod Shares

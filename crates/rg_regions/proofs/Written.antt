@@ -3,6 +3,7 @@ use Rattle.std.proofs.Common.{◌≡◌, ℕ, ◌-◌, ◌<◌, zero, suc, List,
 use Rattle.std.proofs.Common.{ap, sym, ◌∙◌, subst, arith, option_map}
 use Rattle.std.proofs.lemmas.List.{map-set}
 use Rattle.std.proofs.lemmas.Option.{same_Some}
+use Rattle.slab.specs.Slab.{Slab, with_value}
 use Rattle.rg_regions.specs.declared.region.Region.{Region}
 use Rattle.rg_regions.specs.Table.{Record, RegionTable, record_at, changed}
 use Rattle.rg_regions.specs.Inner.Layout.{record_of, shown, link_of, table_of, IsIndexed}
@@ -129,3 +130,11 @@ pub same-shown : (xs : List (Option Region)) (next key : ℕ) (r n : Region) →
 same-shown xs next key r n e l s =
     ap (λ ys. record { records = ys; links = map link_of (set xs key (Some n)); next = next }) (shown-same xs key r n e s)
     ∙ ap (λ ys. record { records = map shown xs; links = ys; next = next }) (link-same xs key r n e l)
+
+-- the same of the records as a call left them, with one region written
+pub index-stays : (entries : List (ℕ × ℕ)) (old new : Slab Region) (next key : ℕ) (r n : Region) → get_or old.slots key None ≡ Some r
+    → new ≡ with_value old key n → n.number ≡ r.number
+    → IsIndexed entries (table_of old.slots next) → IsIndexed entries (table_of new.slots next)
+index-stays entries old new next key r n e is same i =
+    let P : Slab Region → Type 0 = λ p. IsIndexed entries (table_of p.slots next) in
+    subst P (sym is) (indexed-written entries old.slots next key r n e same i)

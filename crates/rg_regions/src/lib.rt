@@ -11,7 +11,7 @@ mod places;
 mod region;
 mod regions;
 
-pub use chains::chain_word;
+pub use chains::{chain_word, slot_in};
 pub use counts::{added, removed};
 pub use owned::chain_owned;
 pub use region::Kept;

@@ -9,10 +9,11 @@ ghost use Rattle.rg_regions.specs.Table.{HasPlace, HasRoom, IsNewest};
 ghost use Rattle.rg_regions.specs.Table.{changed, removed, cancelled, Added, Roomier};
 ghost use Rattle.rg_regions.specs.Table.{with_bridge, with_member, without_member, fresh};
 ghost use Rattle.rg_regions.specs.Ordered.{Orders};
+ghost use Rattle.rg_regions.specs.Collection.{OfRegion};
 ghost use Rattle.rg_regions.specs.Inner.Layout.{record_of};
 
 use crate::places;
-use crate::region::Region;
+use crate::region::{Kept, Region};
 use indexmap::IndexMap;
 use rg_base::{Manager, Memory};
 use slab::Slab;
@@ -137,6 +138,19 @@ impl Regions {
             ≡ Some result.now }
     {
         &self.region(key).members
+    }
+
+    /// What a collection kept of a region, with the chain of the regions that it left without an
+    /// owner.
+    pub fn left(&self, key: usize, orphans: Option<usize>) -> Kept
+        requires { IsKey self.now key }
+        ensures kept { OfRegion self.now key (λ r. result.kept ≡ length r.members) }
+        ensures orphans { result.orphans ≡ orphans }
+    {
+        Kept {
+            kept: self.members(key).len() as u64,
+            orphans,
+        }
     }
 
     /// The link of a region.

@@ -1,72 +1,44 @@
 -- Each turn of sweeping: a white member is freed, a black one becomes white (docs/architecture.md, "Mark and sweep").
-use Rattle.std.proofs.Common.{◌≡◌, ◌≢◌, ℕ, ◌+◌, ◌-◌, ◌<◌, List, length, None, get_or, set, ap}
+use Rattle.std.proofs.Common.{◌≡◌, ◌≢◌, ℕ, ◌+◌, ◌<◌, List, length, None, get_or, set, ap}
 use Rattle.std.proofs.Common.{sym, ◌∙◌, subst, arith, inl, inr, option_map}
 use Rattle.std.specs.List.{swap_remove}
 use Rattle.std.proofs.lemmas.List.{get_or-set_other}
-use Rattle.std.proofs.lemmas.Bool.{cases_eq, cases_lt}
+use Rattle.std.proofs.lemmas.Bool.{cases_eq}
 use Rattle.rg_cells.specs.declared.cell.Body.{Body}
 use Rattle.rg_cells.specs.Table.{Table, body_at, body_in, mark_at, freed, freed_from}
 use Rattle.rg_regions.specs.Reach.{LiesIn}
 use Rattle.rg_trace.specs.Sweeping.{Swept}
 use Rattle.rg_regions.proofs.Callers.Freed.{zero_here, count-freed, held_once, lies_within, freed_here, freed_other}
-use Rattle.rg_regions.proofs.Callers.Freed.{lies_freed, freed_lies, swapped, swapped-length, swapped-here}
+use Rattle.rg_regions.proofs.Callers.Freed.{lies_freed, swapped, swapped-length}
 use Rattle.rg_regions.proofs.Callers.Freed.{swapped-other}
+use Rattle.rg_regions.proofs.Callers.MembersSwept.{Lists, lists-here, lists-apart, lists-freed}
 use Rattle.rg_regions.proofs.Callers.Told.{lies_held}
+
+-- what is said of the members
+pub swept-lists : (c : Table) (r : ℕ) (members : List ℕ) (p : ℕ) (t : Table) → Swept c r members p t → Lists t.heap r members
+swept-lists c r members p t w = record { lie = w.lie; once = w.once; all = w.all }
 
 -- a white member is freed
 pub swept-free : (c : Table) (r : ℕ) (members : List ℕ) (p s : ℕ) (t : Table) → get_or members p 0 ≡ s → mark_at t s ≡ 0
     → Swept c r members (p + 1) t → Swept c r (swap_remove members p 0) p (freed_from t s)
 swept-free c r members p s t is white w =
     let inside : p < length members = omega (arith, w.fits) in
-    let P : ℕ → Type 0 = λ z. LiesIn t.heap r z in
-    let lies : LiesIn t.heap r s = subst P is (w.lie p inside) in
+    let lies = lists-here t.heap r members p s inside is (swept-lists c r members (p + 1) t w) in
     let room : s < length t.heap.slots = lies_within t.heap r s lies in
     let was : get_or c.marks s 0 ≡ 0 = ap (λ z. get_or c.marks z 0) (sym is) ∙ sym (w.before p (omega arith))
     ∙ ap (λ z. mark_at t z) is ∙ white in
     let here : LiesIn c.heap r s = ap (option_map (λ (b : Body). b.label)) (sym (w.only s lies)) ∙ lies in
     let n = swapped-length members p inside in
-    let apart : (k : ℕ) → k < length members → k ≢ p → get_or members k 0 ≢ s = λ k l d e. elim (cases_lt k p) [
-      | inl m ↦ w.once k p m inside (e ∙ sym is)
-      | inr m ↦ let q : p < k = omega arith in w.once p k q l (is ∙ sym e)
-    ] in
+    let on = swept-lists c r members (p + 1) t w in
+    let apart = lists-apart t.heap r members p s inside is on in
+    let left = lists-freed t.heap r members p s inside is on in
     let mark : (x : ℕ) → x ≢ s → get_or (set t.marks s 0) x 0 ≡ get_or t.marks x 0 =
     λ x d. get_or-set_other t.marks s x 0 0 d in
     record {
       fits = omega (arith, n, inside);
-      lie = λ j l.
-          let e = swapped members p j inside (omega (arith, n, l)) in
-          let L : ℕ → Type 0 = λ z. LiesIn (freed t.heap s) r z in
-          subst L (sym e.3) (freed_lies t.heap r s (get_or members e.0 0) (apart e.0 e.1 e.2) (w.lie e.0 e.1));
-      once = λ j k m l q.
-          let a = swapped members p j inside (omega (arith, n, l)) in
-          let b = swapped members p k inside (omega (arith, n, l)) in
-          let same : get_or members a.0 0 ≡ get_or members b.0 0 = sym a.3 ∙ q ∙ b.3 in
-          let d : a.0 ≢ b.0 = λ z. elim (a.4) [
-            | inl x ↦ elim (b.4) [
-              | inl y ↦ absurd (omega (arith, x.1, y.1))
-              | inr y ↦ absurd (omega (arith, x.1, y.1, n, l))
-            ]
-            | inr x ↦ elim (b.4) [
-              | inl y ↦ absurd (omega (arith, x.1, y.1, n, l))
-              | inr y ↦ absurd (omega (arith, x.0, y.0))
-            ]
-          ] in
-          elim (cases_lt a.0 b.0) [
-            | inl z ↦ w.once a.0 b.0 z b.1 same
-            | inr z ↦ let v : b.0 < a.0 = omega arith in
-                w.once b.0 a.0 v a.1 (sym same)
-          ];
-      all = λ x i.
-          let f = lies_freed t.heap r s x room i in
-          let a = w.all x f.1 in
-          let off : a.0 ≢ p = λ z. f.0 (sym a.2 ∙ ap (λ k. get_or members k 0) z ∙ is) in
-          elim (cases_lt (a.0 + 1) (length members)) [
-            | inl m ↦ (a.0, omega (arith, n, m), swapped-other members p a.0 off m ∙ a.2)
-            | inr m ↦
-                let last : a.0 ≡ length members - 1 = omega (arith, a.1) in
-                let z : p + 1 < length members = omega (arith, inside) in
-                (p, omega (arith, n, z), swapped-here members p z ∙ ap (λ k. get_or members k 0) (sym last) ∙ a.2)
-          ];
+      lie = left.lie;
+      once = left.once;
+      all = left.all;
       before = λ j l.
           let d : j ≢ p = omega arith in
           let e = swapped-other members p j d (omega (arith, inside)) in
@@ -113,18 +85,14 @@ pub swept-keep : (c : Table) (r : ℕ) (members : List ℕ) (p s : ℕ) (t : Tab
     → Swept c r members p (record t { marks = set t.marks s 0 })
 swept-keep c r members p s t is black none w =
     let inside : p < length members = omega (arith, w.fits) in
-    let P : ℕ → Type 0 = λ z. LiesIn t.heap r z in
-    let lies : LiesIn t.heap r s = subst P is (w.lie p inside) in
+    let lies = lists-here t.heap r members p s inside is (swept-lists c r members (p + 1) t w) in
     let here : LiesIn c.heap r s = ap (option_map (λ (b : Body). b.label)) (sym (w.only s lies)) ∙ lies in
     let was : mark_at t s ≡ get_or c.marks s 0 = ap (λ z. mark_at t z) (sym is) ∙ w.before p (omega arith)
     ∙ ap (λ z. get_or c.marks z 0) is in
     let deep : 1 < get_or c.marks s 0 = let z = none s here in omega (arith, was, black, z) in
     let mark : (x : ℕ) → x ≢ s → get_or (set t.marks s 0) x 0 ≡ get_or t.marks x 0 =
     λ x d. get_or-set_other t.marks s x 0 0 d in
-    let apart : (k : ℕ) → k < length members → k ≢ p → get_or members k 0 ≢ s = λ k l d e. elim (cases_lt k p) [
-      | inl m ↦ w.once k p m inside (e ∙ sym is)
-      | inr m ↦ let q : p < k = omega arith in w.once p k q l (is ∙ sym e)
-    ] in
+    let apart = lists-apart t.heap r members p s inside is (swept-lists c r members (p + 1) t w) in
     record {
       fits = omega (arith, w.fits);
       lie = w.lie;

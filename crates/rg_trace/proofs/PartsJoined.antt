@@ -1,8 +1,8 @@
 -- From the forest to the parts of a collection, and from the parts to the whole (docs/architecture.md, "Mark and
 -- sweep").
-use Rattle.std.proofs.Common.{◌≡◌, ◌≢◌, ℕ, ◌<◌, List, length, Option, Some, None, get_or, refl, ap, sym, ◌∙◌, subst}
+use Rattle.std.proofs.Common.{◌≡◌, ◌≢◌, ℕ, List, length, Option, Some, None, get_or, refl, ap, sym, ◌∙◌, subst}
 use Rattle.std.proofs.Common.{arith, ◌⊎◌, inl, inr, option_map}
-use Rattle.std.proofs.lemmas.Bool.{cases_eq, cases_lt}
+use Rattle.std.proofs.lemmas.Bool.{cases_eq}
 use Rattle.std.proofs.lemmas.Option.{slice_get_within, slice_get-get_or, same_Some}
 use Rattle.rg_base.specs.declared.words.Manager.TheVariants.{Count, Trace}
 use Rattle.rg_base.proofs.Callers.Labels.{region-same}
@@ -10,14 +10,17 @@ use Rattle.rg_cells.specs.declared.cell.Body.{Body}
 use Rattle.rg_cells.specs.Table.{Heap, Table, field_at, body_at, body_in, mark_at, high_of}
 use Rattle.rg_regions.specs.Table.{Record, RegionTable, record_at, HasNumber}
 use Rattle.rg_regions.specs.Reach.{LiesIn, Roots, Reach}
-use Rattle.rg_regions.specs.Grove.{Grove}
+use Rattle.rg_regions.specs.Grove.{Grove, Members}
 use Rattle.rg_trace.specs.Marking.{Marked}
 use Rattle.rg_trace.specs.Sweeping.{Swept, Sweeps}
-use Rattle.rg_regions.specs.Collection.{ChainsOrphans}
-use Rattle.rg_trace.specs.Orphans.{FollowsWhite}
+use Rattle.rg_regions.specs.Collection.{ChainsOrphans, Lost}
+use Rattle.rg_trace.specs.Orphans.{FollowsWhite, IsWhite}
 use Rattle.rg_trace.specs.Collected.{Collected}
 use Rattle.rg_regions.specs.Reach.{OutOfReach}
+use Rattle.rg_trace.proofs.CellsSwept.{swept-lists}
 use Rattle.rg_trace.proofs.Marks.Colours.{walk-lies}
+use Rattle.rg_regions.proofs.Callers.OwnedFound.{lost_each}
+use Rattle.rg_regions.proofs.Callers.MembersSwept.{lists_of, members_of}
 use Rattle.rg_regions.proofs.Callers.Told.{owns_once, lies_or_not}
 
 -- a cell of a trace region is white
@@ -33,28 +36,18 @@ all-white c t key rec g e m s l = g.unmarked s (λ k r f n i.
     let w : Count ≡ Trace = sym n ∙ ap (λ (y : Record). y.manager) z ∙ m in
     cc)
 
--- behind marking, before the first turn of sweeping
-pub swept-begin : (c d : Table) (t : RegionTable) (key : ℕ) (rec : Record) → Grove c t → record_at t key ≡ Some rec
-    → d.heap ≡ c.heap
-    → Swept d rec.number rec.members (length rec.members) d
-swept-begin c d t key rec g e h =
-    let m = g.members key rec e in
-    let o = owns_once c t key rec g e in
-    let P : Heap → ℕ → Type 0 = λ z j. LiesIn z rec.number (get_or rec.members j 0) in
+-- before the first turn of sweeping
+pub swept-start : (d : Table) (r : ℕ) (members : List ℕ) → Members d.heap r members
+    → Swept d r members (length members) d
+swept-start d r members ms =
+    let a = lists_of d.heap r members ms in
     record {
       fits = omega arith;
-      lie = λ j l. let Q : Heap → Type 0 = λ z. P z j in subst Q (sym h) (o.lie j l);
-      once = λ j k l n z. let q : j ≡ k = o.once j k (omega arith) n z in omega (arith, q);
-      all = λ s l.
-          let L : Heap → Type 0 = λ z. LiesIn z rec.number s in
-          let a = m.all s (subst L h l) in (
-            a.0,
-            slice_get_within rec.members a.0 s a.1,
-            same_Some (get_or rec.members a.0 0) s
-                (sym (slice_get-get_or rec.members a.0 0 (slice_get_within rec.members a.0 s a.1)) ∙ a.1),
-          );
+      lie = a.lie;
+      once = a.once;
+      all = a.all;
       before = λ j l. refl;
-      after = λ j l n. absurd (omega arith);
+      after = λ j l n. absurd (omega (arith, l, n));
       black = λ s l n. refl;
       others = λ s l. (refl, refl, refl);
       only = λ s l. refl;
@@ -62,6 +55,14 @@ swept-begin c d t key rec g e h =
       next = refl;
       high = refl;
     }
+
+-- the same behind marking
+pub swept-begin : (c d : Table) (t : RegionTable) (key : ℕ) (rec : Record) → Grove c t → record_at t key ≡ Some rec
+    → d.heap ≡ c.heap
+    → Swept d rec.number rec.members (length rec.members) d
+swept-begin c d t key rec g e h =
+    let M : Heap → Type 0 = λ z. Members z rec.number rec.members in
+    swept-start d rec.number rec.members (subst M (sym h) (g.members key rec e))
 
 -- what a marked region's marks say, turned round
 pub white-gone : (h : Heap) (r : ℕ) (roots : Roots) (old new : Table) (s : ℕ) → Marked h r roots old new → LiesIn h r s
@@ -102,35 +103,7 @@ collected c d t u key rec roots cells regions e m a b w =
         high = s.5.high ∙ ap high_of h;
         numbers = w.next ∙ b;
         records = λ k n. w.others k n ∙ ap (λ (rs : List (Option Record)). get_or rs k None) a;
-        own = (
-          s.0,
-          s.1,
-          s.2,
-          s.3,
-          s.4,
-          record {
-            lie = λ j x q. let e = same_Some (get_or s.0.members j 0) x
-                (sym (slice_get-get_or s.0.members j 0 (slice_get_within s.0.members j x q)) ∙ q) in let L : ℕ
-                → Type 0 = λ y. LiesIn cells.heap rec.number y in
-                subst L e (s.5.lie j (slice_get_within s.0.members j x q));
-            all = λ x l. let p = s.5.all x l in (p.0, slice_get-get_or s.0.members p.0 0 p.1 ∙ ap Some p.2);
-            once = λ i j x p q.
-                let a = slice_get_within s.0.members i x p in
-                let b = slice_get_within s.0.members j x q in
-                let z : get_or s.0.members i 0 ≡ get_or s.0.members j 0 = same_Some (get_or s.0.members i 0)
-                (get_or s.0.members j 0)
-                (sym (slice_get-get_or s.0.members i 0 a) ∙ p ∙ sym q ∙ slice_get-get_or s.0.members j 0 b) in
-                elim (cases_lt i j) [
-                  | inl y ↦ absurd (s.5.once i j y b z)
-                  | inr y
-                      ↦ elim (cases_eq i j) [
-                        | inl k ↦ k
-                        | inr k ↦ let v : j < i = omega arith in
-                            absurd (s.5.once j i v a (sym z))
-                      ]
-                ];
-          },
-        );
+        own = (s.0, s.1, s.2, s.3, s.4, members_of cells.heap rec.number s.0.members (swept-lists d rec.number s.0.members 0 cells s.5));
       };
       kept = λ x r. s.5.black x (to_d x (walk-lies c.heap rec.number roots r.0 x r.2)) (m.reached x r) ∙ bodies x;
       gone = λ x l n.
@@ -173,30 +146,19 @@ orphaning c d t u key rec roots result g e m o =
     let k = o.orphans in
     let ms = g.members key rec e in
     let ow = owns_once c t key rec g e in
-    let lies_of : (q x : ℕ) → LiesIn d.heap q x → LiesIn c.heap q x = λ q x l. let P : Heap
-    → Type 0 = λ z. LiesIn z q x in subst P h l in
     let of_lies : (q x : ℕ) → LiesIn c.heap q x → LiesIn d.heap q x = λ q x l. let P : Heap
     → Type 0 = λ z. LiesIn z q x in subst P (sym h) l in (
       k.0,
       record {
         chain = k.1.chain;
         each = λ y n.
-            let w = by_none (k.1.each y n) in
-            let own = w.2 in
-            let s : ℕ = get_or rec.members own.place 0 in (
-              w.0,
-              w.1,
-              record {
-                slot = s;
-                field = own.field;
-                to = own.to;
-                from = ow.lie own.place own.within;
-                gone = λ r. let z = m.reached s r in omega (arith, z, own.gone);
-                leads = ap (λ (z : Heap). field_at z s own.field) (sym h) ∙ own.leads;
-                lies = lies_of w.0 own.to own.lies;
-                other = own.other;
-              },
-            );
+            let w = lost_each d.heap (IsWhite d.marks) (OutOfReach c.heap rec.number roots) rec.number rec.members t
+            (length rec.members) 0 u result k.0 (λ p l g. (
+              of_lies rec.number (get_or rec.members p 0) (ow.lie p l),
+              λ r. let z = m.reached (get_or rec.members p 0) r in omega (arith, z, g),
+            )) k.1 y n in
+            let P : Heap → Type 0 = λ z. Lost z rec.number (OutOfReach c.heap rec.number roots) w.0 in
+            (w.0, w.1, subst P h w.2);
         all = λ q y l n.
             let a = ms.all l.slot l.from in
             let within = slice_get_within rec.members a.0 l.slot a.1 in
@@ -216,6 +178,3 @@ orphaning c d t u key rec roots result g e m o =
         apart = k.1.apart;
       },
     )
-  where
-    by_none : {A : Type 0} → ⊥ ⊎ A → A
-    by_none o = elim o [ inl x ↦ absurd x | inr a ↦ a ]

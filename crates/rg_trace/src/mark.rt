@@ -11,8 +11,9 @@ ghost use Rattle.rg_trace.specs.Inner.Marking.{Greys, Scanned, ScannedTemps};
 ghost use Rattle.rg_trace.specs.Marking.{Marked, black_fields};
 ghost use Rattle.rg_trace.specs.Inner.Marking.{ScannedBridge};
 
-use rg_base::{Label, Steps, Word};
+use rg_base::{Steps, Word};
 use rg_cells::Cells;
+use rg_regions::slot_in;
 use std::sync::ledger::Ledger;
 
 /// A white cell of the region to which a word leads becomes grey, and the new head of the list.
@@ -20,15 +21,9 @@ fn grey(cells: &mut Cells, region: u64, w: Word, head: Option<usize>) -> Option<
     requires { (s : ℕ) → w ≡ Word.Slot s → IsHeld cells.old.heap s }
     ensures { Greys region w head result cells.old cells.new }
 {
-    let Word::Slot(slot) = w else {
+    let Some(slot) = slot_in(cells, region, w) else {
         return head;
     };
-    let Label::Region(number) = cells.label(slot) else {
-        return head;
-    };
-    if number != region {
-        return head;
-    }
     if cells.mark(slot) != 0 {
         return head;
     }

@@ -48,8 +48,5 @@ pub fn collect<L: Ledger>(
     mark_region(cells, region, bridge, slots, temps, steps);
     let orphans = chain_orphans(cells, regions, key, region, steps);
     sweep(cells, regions, key);
-    Kept {
-        kept: regions.members(key).len() as u64,
-        orphans,
-    }
+    regions.left(key, orphans)
 }

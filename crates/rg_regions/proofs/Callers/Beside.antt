@@ -1,13 +1,13 @@
 -- A cell was made at a slot that wasn't held, and all other cells stay: what labels and fields tell of that (docs/architecture.md,
 -- "Regions").
-use Rattle.std.proofs.Common.{◌≡◌, ◌≢◌, ℕ, Option, Some, None, ap, sym, ◌∙◌, subst, inl, inr, option_map, option_and_then, slice_get}
+use Rattle.std.proofs.Common.{◌≡◌, ◌≢◌, ℕ, ◌⊎◌, Some, None, ap, sym, ◌∙◌, subst, inl, inr, option_map, option_and_then, slice_get}
 use Rattle.rg_base.specs.declared.object.Label.{Label}
 use Rattle.rg_base.specs.declared.object.Label.TheVariants.{Region, Frozen}
 use Rattle.rg_base.specs.declared.value.Word.{Word}
 use Rattle.rg_base.specs.declared.value.Word.TheVariants.{Slot}
 use Rattle.rg_cells.specs.declared.cell.Body.{Body}
 use Rattle.rg_cells.specs.Table.{Table, Made, body_at, body_in, field_at, label_at}
-use Rattle.rg_regions.specs.Table.{RegionTable}
+use Rattle.rg_regions.specs.Table.{RegionTable, IsBridge}
 use Rattle.rg_regions.specs.Reach.{LiesIn}
 use Rattle.rg_regions.specs.Grove.{Grove}
 
@@ -42,4 +42,20 @@ pub not_to : (c cells : Table) (t : RegionTable) (slot : ℕ) → Grove c t → 
 not_to c cells t slot g n q s k to l f = elim (g.fields q s k to l f) [
   | inl a ↦ n.apart to Frozen a
   | inr x ↦ elim x [ inl y ↦ n.apart to (Region q) y | inr y ↦ n.apart to (Region y.0) y.2 ]
+]
+
+-- where a field leads to is kept, where labels and bridges are
+pub leads_on : (c cells : Table) (t regions : RegionTable)
+    → ((s : ℕ) (l : Label) → label_at c.heap s ≡ Some l → label_at cells.heap s ≡ Some l)
+    → ((q s : ℕ) → IsBridge t q s → IsBridge regions q s) → (p to : ℕ)
+    → (label_at c.heap to ≡ Some Frozen) ⊎ LiesIn c.heap p to
+    ⊎ ((q : ℕ) × (q ≢ p) × LiesIn c.heap q to × IsBridge t q to)
+    → (label_at cells.heap to ≡ Some Frozen) ⊎ LiesIn cells.heap p to
+    ⊎ ((q : ℕ) × (q ≢ p) × LiesIn cells.heap q to × IsBridge regions q to)
+leads_on c cells t regions label bridge p to w = elim w [
+  | inl a ↦ inl (label to Frozen a)
+  | inr y ↦ elim y [
+    | inl a ↦ inr (inl (label to (Region p) a))
+    | inr a ↦ inr (inr (a.0, a.1, label to (Region a.0) a.2, bridge a.0 to a.3))
+  ]
 ]

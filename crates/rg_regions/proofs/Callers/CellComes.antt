@@ -15,7 +15,7 @@ use Rattle.rg_regions.specs.Reach.{LiesIn, belongs}
 use Rattle.rg_regions.specs.Grove.{Grove, Members, Parent, referrers}
 use Rattle.rg_regions.proofs.Callers.Told.{one_region, number_of}
 use Rattle.rg_regions.proofs.Callers.Fewer.{total_alike, belongs_not, weight, weighs_none, above_by, parent_by}
-use Rattle.rg_regions.proofs.Callers.Beside.{Beside, beside, not_to}
+use Rattle.rg_regions.proofs.Callers.Beside.{Beside, beside, not_to, leads_on}
 
 -- What comes: a cell at a slot that wasn't held, as the last member of a region, whose fields lead to cells of the
 -- region.
@@ -219,13 +219,7 @@ module _ (c : Table) (t : RegionTable) (cells : Table) (regions : RegionTable) (
       | inl e ↦
           let P : ℕ → Type 0 = λ n. LiesIn cells.heap n to in
           inr (inl (subst P (sym e.0) (near.label_on to (Region rec.number) (led_new s k to e.1 f))))
-      | inr x ↦ elim (g.fields p s k to x.1 (near.field_back s k (Slot to) x.0 f)) [
-        | inl a ↦ inl (near.label_on to Frozen a)
-        | inr y ↦ elim y [
-          | inl a ↦ inr (inl (near.label_on to (Region p) a))
-          | inr a ↦ inr (inr (a.0, a.1, near.label_on to (Region a.0) a.2, bridge_on a.0 to a.3))
-        ]
-      ]
+      | inr x ↦ leads_on c cells t regions near.label_on bridge_on p to (g.fields p s k to x.1 (near.field_back s k (Slot to) x.0 f))
     ];
     one_in = λ q p s k to p2 s2 k2 to2 d l f i d2 l2 f2 i2.
         let x = led_out p q s k to d l f i in

@@ -34,23 +34,31 @@ module _ (t : RegionTable) (key : ℕ) (rec : Record) (e : record_at t key ≡ S
           let S : Record → Type 0 = λ y. P r.number y.members in
           subst R (sym (same_Some rec r (sym e ∙ q))) (subst S (is_now z g) p)
 
+      -- the record is another one, which says all that it said but for its members
+      goes_on : (next : RegionTable) (new : Record) → record_at next key ≡ Some new → new.number ≡ now.number
+          → new.manager ≡ now.manager → new.bridge ≡ now.bridge
+          → (P rec.number now.members → Q rec.number new.members) → (r : Record) → record_at t key ≡ Some r
+          → (z : Record) × (record_at next key ≡ Some z) × (z.number ≡ r.number) × (z.manager ≡ r.manager)
+          × (z.bridge ≡ r.bridge) × Q r.number z.members
+      goes_on next new at number manager bridge turn r q =
+          let s = w.left r q in
+          let same = is_now s.0 s.1 in
+          let S : Record → Type 0 = λ y. Q y.number new.members in (
+            new,
+            at,
+            number ∙ sym (ap (λ (z : Record). z.number) same) ∙ s.2,
+            manager ∙ sym (ap (λ (z : Record). z.manager) same) ∙ s.3,
+            bridge ∙ sym (ap (λ (z : Record). z.bridge) same) ∙ s.4,
+            subst S (same_Some rec r (sym e ∙ q)) (turn (of_now r s.0 q s.1 s.5)),
+          )
+
       -- a member is kept
       pub left_keep : (P rec.number now.members → Q rec.number now.members) → MembersLeft t key Q regions
       left_keep turn = record {
         links = w.links;
         next = w.next;
         others = w.others;
-        left = λ r q.
-            let s = w.left r q in
-            let same = is_now s.0 s.1 in
-            let S : Record → Type 0 = λ y. Q y.number now.members in (
-              now,
-              f,
-              sym (ap (λ (z : Record). z.number) same) ∙ s.2,
-              sym (ap (λ (z : Record). z.manager) same) ∙ s.3,
-              sym (ap (λ (z : Record). z.bridge) same) ∙ s.4,
-              subst S (same_Some rec r (sym e ∙ q)) (turn (of_now r s.0 q s.1 s.5)),
-            );
+        left = goes_on regions now f refl refl refl turn;
       }
 
       -- a member is dropped
@@ -63,15 +71,7 @@ module _ (t : RegionTable) (key : ℕ) (rec : Record) (e : record_at t key ≡ S
             next = ap (λ (z : RegionTable). z.next) n ∙ l.1 ∙ w.next;
             others = λ k d. ap (λ (z : RegionTable). record_at z k) n
                 ∙ changed_other regions key (without_member place) k d ∙ w.others k d;
-            left = λ r q.
-                let s = w.left r q in
-                let same = is_now s.0 s.1 in
-                let S : Record → Type 0 = λ y. Q y.number (swap_remove now.members place 0) in (
-                  without_member place now,
-                  ap (λ (z : RegionTable). record_at z key) n ∙ changed_at regions key now (without_member place) f,
-                  sym (ap (λ (z : Record). z.number) same) ∙ s.2,
-                  sym (ap (λ (z : Record). z.manager) same) ∙ s.3,
-                  sym (ap (λ (z : Record). z.bridge) same) ∙ s.4,
-                  subst S (same_Some rec r (sym e ∙ q)) (turn (of_now r s.0 q s.1 s.5)),
-                );
+            left = goes_on next (without_member place now)
+                (ap (λ (z : RegionTable). record_at z key) n ∙ changed_at regions key now (without_member place) f)
+                refl refl refl turn;
           }

@@ -15,6 +15,22 @@ use Rattle.rg_regions.specs.Shrinks.{OneShrinks}
 use Rattle.rg_regions.proofs.Callers.Told.{one_region, lies_or_not}
 use Rattle.rg_regions.proofs.Callers.Fewer.{label_before, field_before, above_before, referrers_kept}
 
+-- a bridge stays one where one region's record has changed, and keeps its number and its bridge
+pub bridge_stays : (t regions : RegionTable) (key : ℕ) (rec now : Record) → record_at t key ≡ Some rec
+    → record_at regions key ≡ Some now → now.number ≡ rec.number → now.bridge ≡ rec.bridge
+    → ((k : ℕ) → k ≢ key → record_at regions k ≡ record_at t k) → (q to : ℕ) → IsBridge t q to → IsBridge regions q to
+bridge_stays t regions key rec now e f number bridge others q to b = elim (cases_eq b.0 key) [
+  | inl p ↦
+      let same : b.1 ≡ rec = same_Some b.1 rec (sym b.2 ∙ ap (record_at t) p ∙ e) in (
+        key,
+        now,
+        f,
+        number ∙ sym (ap (λ (z : Record). z.number) same) ∙ b.3,
+        bridge ∙ sym (ap (λ (z : Record). z.bridge) same) ∙ b.4,
+      )
+  | inr d ↦ (b.0, b.1, others b.0 d ∙ b.2, b.3, b.4)
+]
+
 -- The forest is kept where one region shrinks: its bridge stays, cells that are left lead within it to cells that are
 -- left, and its marks are as the forest wants them.
 pub grove_shrinks : (c : Table) (t : RegionTable) (key : ℕ) (rec : Record) (cells : Table) (regions : RegionTable)
@@ -64,17 +80,7 @@ grove_shrinks c t key rec cells regions g e w bridge closed counts unmarked =
     → HasNumber t k n = λ k n z a b. ap (option_map (λ (y : Record). y.number)) a ∙ ap Some b in
     let apart : (k : ℕ) (z : Record) → k ≢ key → record_at t k ≡ Some z
     → z.number ≢ r = λ k z d a n. d (g.numbers k key r (number_of k r z a n) (number_of key r rec e refl)) in
-    let bridge_to : (q to : ℕ) → IsBridge t q to → IsBridge regions q to = λ q to b. elim (cases_eq b.0 key) [
-      | inl p ↦
-          let same : b.1 ≡ rec = same_Some b.1 rec (sym b.2 ∙ ap (record_at t) p ∙ e) in (
-            key,
-            w.own.0,
-            w.own.1,
-            w.own.2 ∙ sym (ap (λ (z : Record). z.number) same) ∙ b.3,
-            w.own.4 ∙ sym (ap (λ (z : Record). z.bridge) same) ∙ b.4,
-          )
-      | inr d ↦ (b.0, b.1, w.records b.0 d ∙ b.2, b.3, b.4)
-    ] in
+    let bridge_to = bridge_stays t regions key rec w.own.0 e w.own.1 w.own.2 w.own.4 w.records in
     record {
       numbers = λ k o n a b. g.numbers k o n (has k n a) (has o n b);
       members = λ k z a. elim (cases_eq k key) [
@@ -108,9 +114,8 @@ grove_shrinks c t key rec cells regions g e w bridge closed counts unmarked =
       frozen = λ s k to l f. ice to (g.frozen s k to (label_before c.heap cells.heap s Frozen (w.fewer s) l)
           (fld s k (Slot to) f));
       fields = λ p s k to l f.
-          let a = lie p s l in
           let b = fld s k (Slot to) f in
-          elim (g.fields p s k to a b) [
+          elim (g.fields p s k to (lie p s l) b) [
             | inl x ↦ inl (ice to x)
             | inr y ↦ elim y [
               | inl x ↦ inr (inl (elim (cases_eq p r) [

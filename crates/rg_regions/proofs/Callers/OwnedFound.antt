@@ -1,5 +1,5 @@
 -- Each turn of the search for the regions that cells own which go (docs/architecture.md, "Regions").
-use Rattle.std.proofs.Common.{◌≡◌, ◌≢◌, ℕ, ◌+◌, ◌<◌, ◌≤◌, List, ◌∷◌, length, Option, Some, None, get_or, set, refl, ap}
+use Rattle.std.proofs.Common.{◌≡◌, ◌≢◌, ℕ, ◌+◌, ◌<◌, ◌≤◌, List, [], ◌∷◌, length, Option, Some, None, get_or, set, refl, ap}
 use Rattle.std.proofs.Common.{sym, ◌∙◌}
 use Rattle.std.proofs.Common.{subst, arith, ◌⊎◌, inl, inr, option_map}
 use Rattle.std.proofs.lemmas.List.{get_or-set_same, get_or-set_other}
@@ -10,30 +10,60 @@ use Rattle.rg_base.specs.declared.value.Word.TheVariants.{Slot}
 use Rattle.rg_cells.specs.Table.{Heap, field_at, body_at, width}
 use Rattle.rg_regions.specs.Table.{Record, RegionTable, HasNumber, Has, Chained}
 use Rattle.rg_regions.specs.Reach.{LiesIn}
+use Rattle.rg_regions.specs.Collection.{Lost}
 use Rattle.rg_regions.specs.Chains.{PutFirst, Follows, OwnsOnce}
 use Rattle.rg_regions.proofs.Callers.Told.{field_within, one_region, one_number}
 use Rattle.rg_regions.proofs.Callers.Chain.{chained_agree}
-use Rattle.rg_regions.specs.Owned.{Owned, ChainsOwned, OwnsNone, Every, FollowsFields, FollowsMembers}
+use Rattle.rg_regions.specs.Owned.{Owned, OwnedInFront, ChainsOwned, OwnsNone, Every, FollowsFields, FollowsMembers}
 
 slot_is : (a b : ℕ) → Some (Slot a) ≡ Some (Slot b) → a ≡ b
 slot_is a b q = cc
 
-module _ (h : Heap) (goes : ℕ → Type 0) (r : ℕ) (members : List ℕ) where
-  -- what is owned by earlier fields is owned by more fields
-  later : (i k m n q : ℕ) → ((p f : ℕ) → ((p < i) ⊎ ((p ≡ i) × (f < k))) → (p < m) ⊎ ((p ≡ m) × (f < n)))
-      → Owned h goes r members i k q → Owned h goes r members m n q
-  later i k m n q w o = record {
-    place = o.place;
-    field = o.field;
-    to = o.to;
-    early = w o.place o.field o.early;
-    within = o.within;
-    gone = o.gone;
-    leads = o.leads;
-    lies = o.lies;
-    other = o.other;
-  }
+-- exactly the same regions are chained where exactly the same are owned
+pub owned_alike : (h : Heap) (goes : ℕ → Type 0) (r : ℕ) (members more rest : List ℕ) (t : RegionTable) (i k m n : ℕ)
+    (now : RegionTable) (head : Option ℕ) → ((q : ℕ) → Owned h goes r members i k q → Owned h goes r more m n q)
+    → ((q : ℕ) → Owned h goes r more m n q → Owned h goes r members i k q)
+    → ChainsOwned h goes r members rest t i k now head → ChainsOwned h goes r more rest t m n now head
+owned_alike h goes r members more rest t i k m n now head on back o = (
+  o.0,
+  record {
+    records = o.1.records;
+    next = o.1.next;
+    chain = o.1.chain;
+    old = o.1.old;
+    each = λ key w. elim (o.1.each key w) [ inl a ↦ inl a | inr e ↦ inr (e.0, e.1, on e.0 e.2) ];
+    all = λ q key w a. o.1.all q key (back q w) a;
+    apart = o.1.apart;
+  },
+)
 
+-- with nothing behind them, each key that is chained is that of a region which lost its owner
+pub lost_each : (h : Heap) (goes freed : ℕ → Type 0) (r : ℕ) (members : List ℕ) (t : RegionTable) (i k : ℕ)
+    (now : RegionTable) (head : Option ℕ) (keys : List ℕ)
+    → ((p : ℕ) → p < length members → goes (get_or members p 0) → LiesIn h r (get_or members p 0) × freed (get_or members p 0))
+    → OwnedInFront h goes r members [] t i k now head keys → (key : ℕ) → Has keys key
+    → (q : ℕ) × HasNumber t key q × Lost h r freed q
+lost_each h goes freed r members t i k now head keys lost o key m = elim (o.each key m) [
+  | inl x ↦ absurd x
+  | inr w ↦
+      let own = w.2 in
+      let a = lost own.place own.within own.gone in (
+        w.0,
+        w.1,
+        record {
+          slot = get_or members own.place 0;
+          field = own.field;
+          to = own.to;
+          from = a.0;
+          gone = a.1;
+          leads = own.leads;
+          lies = own.lies;
+          other = own.other;
+        },
+      )
+]
+
+module _ (h : Heap) (goes : ℕ → Type 0) (r : ℕ) (members : List ℕ) where
   -- it is owned by the fields that are meant
   earlier : (i k m n q : ℕ) (o : Owned h goes r members i k q) → ((o.place < m) ⊎ ((o.place ≡ m) × (o.field < n)))
       → Owned h goes r members m n q
@@ -48,6 +78,11 @@ module _ (h : Heap) (goes : ℕ → Type 0) (r : ℕ) (members : List ℕ) where
     lies = o.lies;
     other = o.other;
   }
+
+  -- what is owned by earlier fields is owned by more fields
+  later : (i k m n q : ℕ) → ((p f : ℕ) → ((p < i) ⊎ ((p ≡ i) × (f < k))) → (p < m) ⊎ ((p ≡ m) × (f < n)))
+      → Owned h goes r members i k q → Owned h goes r members m n q
+  later i k m n q w o = earlier i k m n q o (w o.place o.field o.early)
 
   next_field : (i k q : ℕ) → Owned h goes r members i k q → Owned h goes r members i (k + 1) q
   next_field i k q = later i k i (k + 1) q (λ p f w. elim w [ inl a ↦ inl a | inr b ↦ inr (b.0, omega (arith, b.1)) ])
@@ -84,18 +119,8 @@ module _ (h : Heap) (goes : ℕ → Type 0) (r : ℕ) (members : List ℕ) where
     pub owned_skip : (i k : ℕ) (now : RegionTable) (head : Option ℕ)
         → ((to q : ℕ) → field_at h (get_or members i 0) k ≡ Some (Slot to) → LiesIn h q to → q ≢ r → ⊥)
         → ChainsOwned h goes r members rest t i k now head → ChainsOwned h goes r members rest t i (k + 1) now head
-    owned_skip i k now head none o = (
-      o.0,
-      record {
-        records = o.1.records;
-        next = o.1.next;
-        chain = o.1.chain;
-        old = o.1.old;
-        each = λ key m. elim (o.1.each key m) [ inl a ↦ inl a | inr e ↦ inr (e.0, e.1, next_field i k e.0 e.2) ];
-        all = λ q key w n. o.1.all q key (back q w) n;
-        apart = o.1.apart;
-      },
-    )
+    owned_skip i k now head none =
+        owned_alike h goes r members members rest t i k i (k + 1) now head (next_field i k) back
       where
         back : (q : ℕ) → Owned h goes r members i (k + 1) q → Owned h goes r members i k q
         back q w = elim (w.early) [
@@ -109,21 +134,8 @@ module _ (h : Heap) (goes : ℕ → Type 0) (r : ℕ) (members : List ℕ) where
     -- all fields of a member were followed
     pub owned_next : (i k : ℕ) (now : RegionTable) (head : Option ℕ) → width (body_at h (get_or members i 0)) ≤ k
         → ChainsOwned h goes r members rest t i k now head → ChainsOwned h goes r members rest t (i + 1) 0 now head
-    owned_next i k now head l o = (
-      o.0,
-      record {
-        records = o.1.records;
-        next = o.1.next;
-        chain = o.1.chain;
-        old = o.1.old;
-        each = λ key m. elim (o.1.each key m) [
-          | inl a ↦ inl a
-          | inr e ↦ inr (e.0, e.1, next_member i k e.0 e.2)
-        ];
-        all = λ q key w n. o.1.all q key (back q w) n;
-        apart = o.1.apart;
-      },
-    )
+    owned_next i k now head l =
+        owned_alike h goes r members members rest t i k (i + 1) 0 now head (next_member i k) back
       where
         back : (q : ℕ) → Owned h goes r members (i + 1) 0 q → Owned h goes r members i k q
         back q w = elim (cases_lt w.place i) [
@@ -141,21 +153,8 @@ module _ (h : Heap) (goes : ℕ → Type 0) (r : ℕ) (members : List ℕ) where
     -- a member that stays owns nothing that is lost
     pub owned_stays : (i : ℕ) (now : RegionTable) (head : Option ℕ) → (goes (get_or members i 0) → ⊥)
         → ChainsOwned h goes r members rest t i 0 now head → ChainsOwned h goes r members rest t (i + 1) 0 now head
-    owned_stays i now head stays o = (
-      o.0,
-      record {
-        records = o.1.records;
-        next = o.1.next;
-        chain = o.1.chain;
-        old = o.1.old;
-        each = λ key m. elim (o.1.each key m) [
-          | inl a ↦ inl a
-          | inr e ↦ inr (e.0, e.1, next_member i 0 e.0 e.2)
-        ];
-        all = λ q key w n. o.1.all q key (back q w) n;
-        apart = o.1.apart;
-      },
-    )
+    owned_stays i now head stays =
+        owned_alike h goes r members members rest t i 0 (i + 1) 0 now head (next_member i 0) back
       where
         back : (q : ℕ) → Owned h goes r members (i + 1) 0 q → Owned h goes r members i 0 q
         back q w = elim (cases_lt w.place i) [

@@ -14,7 +14,7 @@ use Rattle.rg_regions.specs.Reach.{LiesIn, belongs}
 use Rattle.rg_regions.specs.Grove.{Grove, Members, Parent, Above, direct, further, referrers, leads_to}
 use Rattle.rg_regions.proofs.Callers.Told.{one_region, lies_or_not, number_of}
 use Rattle.rg_regions.proofs.Callers.Fewer.{total_alike, belongs_not, weight, weighs_none, parent_by}
-use Rattle.rg_regions.proofs.Callers.Beside.{Beside, beside, not_to}
+use Rattle.rg_regions.proofs.Callers.Beside.{Beside, beside, not_to, leads_on}
 
 -- a region with a bridge at that slot, not region 0, into which no field of another region's cell leads
 pub record OwnedByNone (c : Table) (t : RegionTable) (to : ℕ) : Type 0 where
@@ -239,13 +239,7 @@ module _ (c : Table) (t : RegionTable) (cells : Table) (regions : RegionTable) (
             let d : y.number ≢ p = λ z. none_lay to (subst P (z ∙ e.0) y.lies) in
             inr (inr (y.number, d, near.label_on to (Region y.number) y.lies, bridge_on y.number to y.bridge))
       ]
-      | inr x ↦ elim (g.fields p s k to x.2 (near.field_back s k (Slot to) x.1 f)) [
-        | inl a ↦ inl (near.label_on to Frozen a)
-        | inr y ↦ elim y [
-          | inl a ↦ inr (inl (near.label_on to (Region p) a))
-          | inr a ↦ inr (inr (a.0, a.1, near.label_on to (Region a.0) a.2, bridge_on a.0 to a.3))
-        ]
-      ]
+      | inr x ↦ leads_on c cells t regions near.label_on bridge_on p to (g.fields p s k to x.2 (near.field_back s k (Slot to) x.1 f))
     ];
     one_in = λ q p s k to p2 s2 k2 to2 d l f i d2 l2 f2 i2. elim (cases_eq q rec.number) [
       | inl e ↦

@@ -15,7 +15,8 @@ use Rattle.rg_cells.specs.declared.cell.Body.{Body}
 use Rattle.rg_cells.specs.Table.{Heap, Table, body_at, field_at, label_at, width, IsHeld}
 use Rattle.rg_regions.specs.Table.{Record, RegionTable, record_at, IsKey, HasNumber}
 use Rattle.rg_regions.specs.Reach.{LiesIn, Roots, Walk, Reach}
-use Rattle.rg_regions.specs.Grove.{Grove}
+use Rattle.rg_regions.specs.Grove.{Grove, Parent}
+use Rattle.rg_regions.specs.Collection.{Lost}
 use Rattle.rg_regions.specs.Chains.{OwnsOnce}
 
 -- a field that can be read is one of the cell's
@@ -92,6 +93,11 @@ pub same_bridge : (o : Option Record) (r : Record) (b : Option ℕ) → o ≡ So
     → r.bridge ≡ b
 same_bridge o r b e f = same_Some r.bridge b (sym (ap (option_map (λ (r : Record). r.bridge)) e) ∙ f)
 
+pub same_told : (o : Option Record) (r : Record) (n : ℕ) (b : Option ℕ) → o ≡ Some r
+    → option_map (λ (r : Record). r.number) o ≡ Some n → option_map (λ (r : Record). r.bridge) o ≡ Some b
+    → (r.number ≡ n) × (r.bridge ≡ b)
+same_told o r n b e f h = (same_number o r n e f, same_bridge o r b e h)
+
 -- the record that has a number
 pub record_there : (o : Option Record) (n : ℕ) → option_map (λ (r : Record). r.number) o ≡ Some n
     → (r : Record) × (o ≡ Some r) × (r.number ≡ n)
@@ -109,6 +115,18 @@ led_held c t g r p k s l f = elim (g.fields r p k s l f) [
   | inl a ↦ labelled_held c.heap s Frozen a
   | inr b ↦ elim b [ inl x ↦ labelled_held c.heap s (Region r) x | inr y ↦ labelled_held c.heap s (Region y.0) y.2 ]
 ]
+
+-- a region that lost its owner is a child of the region that lost the cell
+pub lost_parent : (h : Heap) (r q : ℕ) (freed : ℕ → Type 0) → Lost h r freed q → Parent h r q
+lost_parent h r q freed l = record {
+  differ = λ e. l.other (sym e);
+  from = l.slot;
+  field = l.field;
+  to = l.to;
+  lies = l.from;
+  leads = l.leads;
+  child_has = l.lies;
+}
 
 -- the members of a region of the forest own each other region at most once
 pub owns_once : (c : Table) (t : RegionTable) (key : ℕ) (rec : Record) → Grove c t → record_at t key ≡ Some rec

@@ -5,6 +5,18 @@ use Rattle.rg_regions.proofs.Callers.Told.{lies_held}
 use Rattle.rg_copy.specs.Inner.Plans.{Planned}
 use Rattle.rg_copy.proofs.Turns.{plan-white, plan-bridge, plan-goes, plan-whole, free-below, free-next, free-off}
 use Rattle.rg_copy.proofs.plan.plan.Goals as goal
+use Rattle.rg_copy.proofs.plan.plan.Goals.{In-loop-place}
+
+-- the member of a turn is held
+member_held : (c : In-loop-place) → IsHeld c.loop-place.cells.heap (get_or c.args.members.now c.loop-place.place 0)
+member_held c =
+    let i = c.loop-place.place in
+    let slot : ℕ = get_or c.args.members.now i 0 in
+    let at : slice_get c.args.members.now i ≡ Some slot =
+    slice_get-get_or c.args.members.now i 0 c.loop-place-test.true in
+    let H : Heap → Type 0 = λ z. IsHeld z slot in
+    subst H (sym c.loop-place.invariant.heap)
+    (lies_held c.args.cells.now.heap c.args.region slot (c.requires.members.lie i slot at))
 
 pub loop-place-preserved-then-mark-eq0 : goal.loop-place-preserved-then-mark-eq0
 loop-place-preserved-then-mark-eq0 c =
@@ -19,14 +31,7 @@ loop-place-preserved-then-mark-eq0 c =
     c.set_link.ensures.set marks refl
 
 pub set_link-requires-then-is_bridge : goal.set_link-requires-then-is_bridge
-set_link-requires-then-is_bridge c =
-    let i = c.loop-place.place in
-    let slot : ℕ = get_or c.args.members.now i 0 in
-    let at : slice_get c.args.members.now i ≡ Some slot =
-    slice_get-get_or c.args.members.now i 0 c.loop-place-test.true in
-    let H : Heap → Type 0 = λ z. IsHeld z slot in
-    subst H (sym c.loop-place.invariant.heap)
-    (lies_held c.args.cells.now.heap c.args.region slot (c.requires.members.lie i slot at))
+set_link-requires-then-is_bridge c = member_held (goal.at.set_link-requires-then-is_bridge c).In-loop-place
 
 pub loop-place-preserved-then-is_bridge : goal.loop-place-preserved-then-is_bridge
 loop-place-preserved-then-is_bridge c =
@@ -52,14 +57,7 @@ bounds-members-at c =
     omega (arith, z, c.loop-place-test.true)
 
 pub set_link-requires-in-loop-place : goal.set_link-requires-in-loop-place
-set_link-requires-in-loop-place c =
-    let i = c.loop-place.place in
-    let slot : ℕ = get_or c.args.members.now i 0 in
-    let at : slice_get c.args.members.now i ≡ Some slot =
-    slice_get-get_or c.args.members.now i 0 c.loop-place-test.true in
-    let H : Heap → Type 0 = λ z. IsHeld z slot in
-    subst H (sym c.loop-place.invariant.heap)
-    (lies_held c.args.cells.now.heap c.args.region slot (c.requires.members.lie i slot at))
+set_link-requires-in-loop-place c = member_held (goal.at.set_link-requires-in-loop-place c).In-loop-place
 
 pub loop-place-preserved : goal.loop-place-preserved
 loop-place-preserved c =

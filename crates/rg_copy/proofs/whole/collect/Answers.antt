@@ -8,12 +8,12 @@ use Rattle.rg_regions.specs.Ordered.{with_members}
 use Rattle.rg_regions.specs.Reach.{LiesIn}
 use Rattle.rg_regions.specs.Chains.{OwnsOnce, LeadsToHeld}
 use Rattle.rg_regions.specs.Collection.{ChainsOrphans, region_fields, roots_of}
-use Rattle.rg_regions.proofs.Callers.Told.{same_members, same_number, same_bridge, led_held, owns_once}
+use Rattle.rg_regions.proofs.Callers.Told.{same_members, same_told, led_held, owns_once}
 use Rattle.rg_regions.proofs.Callers.Told.{lies_held}
 use Rattle.rg_regions.proofs.Callers.Ordered.{ordered_links}
 use Rattle.rg_regions.specs.Reach.{OutOfReach}
 use Rattle.rg_trace.specs.Marking.{Marked}
-use Rattle.rg_trace.proofs.PartsJoined.{all-white, not-grey}
+use Rattle.rg_trace.proofs.PartsJoined.{all-white, not-grey, swept-start}
 use Rattle.rg_copy.specs.Slid.{Slid, top_slots, top_temps, top_roots}
 use Rattle.rg_copy.specs.Inner.Moves.{TempsForwarded, MembersForwarded}
 use Rattle.rg_copy.specs.Inner.Shifts.{Shifted, Shifts}
@@ -22,17 +22,39 @@ use Rattle.rg_copy.proofs.Shown.{top_window, base-is}
 use Rattle.rg_copy.proofs.Stages.{StagesAt}
 use Rattle.rg_copy.proofs.Slides.{slides}
 use Rattle.rg_copy.proofs.GroveSlides.{grove-slides}
-use Rattle.rg_copy.proofs.Between.{in-order, read-is, read-members, read-rises, members-labels, members-behind}
-use Rattle.rg_copy.proofs.Between.{lies-behind, leads-kept, downward-on, swept-start, orphans-told, marking-cost}
+use Rattle.rg_copy.proofs.Between.{InOrder, in-order, read-is, read-members, read-rises, members-labels, members-behind}
+use Rattle.rg_copy.proofs.Between.{lies-behind, leads-kept, downward-on, orphans-told, marking-cost}
 use Rattle.rg_copy.proofs.Between.{members-cost}
+use Rattle.rg_copy.proofs.whole.collect.Given.{Over}
 use Rattle.rg_copy.proofs.whole.collect.Goals as goal
+use Rattle.rg_copy.proofs.whole.collect.Goals.{After-bridge-bridge, After-order_members, After-forward_members}
+
+-- the number and the bridge that were read are the record's
+told : (g : Over) (c : After-bridge-bridge g)
+    → (c.requires.trace.0.number ≡ c.number-region.result) × (c.requires.trace.0.bridge ≡ c.bridge-bridge.result)
+told g c = same_told _ c.requires.trace.0 c.number-region.result c.bridge-bridge.result c.requires.trace.1
+    c.number-region.ensures c.bridge-bridge.ensures
+
+-- the table behind the sorting of the members
+ordered : (g : Over) (c : After-order_members g) → InOrder c.args.cells.now c.args.regions.now c.order_members.new.self
+    c.args.key c.requires.trace.0 c.order_members.ensures.members
+ordered g c =
+    let s = c.chain_orphans-orphans.ensures.searched c.requires.trace.0 c.requires.trace.1 in
+    in-order c.args.cells.now c.args.regions.now c.chain_orphans-orphans.new.regions c.order_members.new.self c.args.key
+    c.requires.trace.0 c.order_members.ensures c.requires.grove c.requires.trace.1 s.records s.orphans.1.next
+
+-- no pass before the cells move changes a label
+labelled : (g : Over) (c : After-forward_members g) → (x : ℕ)
+    → label_at c.forward_members.new.cells.heap x ≡ label_at c.args.cells.now.heap x
+labelled g c x =
+    c.forward_members.ensures.forwarded.alike.labels x ∙ c.forward_temps.ensures.forwarded.alike.labels x
+    ∙ ap (λ (z : Heap). label_at z x) (c.plan.ensures.heap ∙ c.mark_region.ensures.marked.heap)
 
 pub mark_region-requires-clause-white : goal.mark_region-requires-clause-white
 mark_region-requires-clause-white g c =
     let rec = c.requires.trace.0 in
     let e = c.requires.trace.1 in
-    let num : rec.number ≡ c.number-region.result =
-    same_number _ rec c.number-region.result e c.number-region.ensures in
+    let num = (told g (goal.at.mark_region-requires-clause-white g c).After-bridge-bridge).0 in
     let W : ℕ → Type 0 = λ n. (s : ℕ) → LiesIn c.args.cells.now.heap n s → mark_at c.args.cells.now s ≡ 0 in
     subst W num (all-white c.args.cells.now c.args.regions.now c.args.key rec c.requires.grove e c.requires.trace.2)
 
@@ -44,11 +66,8 @@ pub mark_region-requires-clause-bridge : goal.mark_region-requires-clause-bridge
 mark_region-requires-clause-bridge g c s q =
     let rec = c.requires.trace.0 in
     let e = c.requires.trace.1 in
-    let num : rec.number ≡ c.number-region.result =
-    same_number _ rec c.number-region.result e c.number-region.ensures in
-    let bri : rec.bridge ≡ c.bridge-bridge.result =
-    same_bridge _ rec c.bridge-bridge.result e c.bridge-bridge.ensures in
-    lies_held c.args.cells.now.heap rec.number s (c.requires.grove.bridges c.args.key s rec e (bri ∙ q))
+    let said = told g (goal.at.mark_region-requires-clause-bridge g c).After-bridge-bridge in
+    lies_held c.args.cells.now.heap rec.number s (c.requires.grove.bridges c.args.key s rec e (said.1 ∙ q))
 
 pub mark_region-requires-clause-slots : goal.mark_region-requires-clause-slots
 mark_region-requires-clause-slots g c k s q =
@@ -61,8 +80,7 @@ pub chain_orphans-orphans-requires-clause-there : goal.chain_orphans-orphans-req
 chain_orphans-orphans-requires-clause-there g c =
     let rec = c.requires.trace.0 in
     let e = c.requires.trace.1 in
-    let num : rec.number ≡ c.number-region.result =
-    same_number _ rec c.number-region.result e c.number-region.ensures in
+    let num = (told g (goal.at.chain_orphans-orphans-requires-clause-there g c).After-bridge-bridge).0 in
     let O : ℕ → Type 0 = λ n. OwnsOnce c.args.cells.now.heap n rec.members in
     let P : Heap → Type 0 = λ z. OwnsOnce z c.number-region.result rec.members in (
       rec,
@@ -73,37 +91,21 @@ chain_orphans-orphans-requires-clause-there g c =
 
 pub plan-requires-clause-members : goal.plan-requires-clause-members
 plan-requires-clause-members g c =
-    let rec = c.requires.trace.0 in
-    let e = c.requires.trace.1 in
-    let num : rec.number ≡ c.number-region.result =
-    same_number _ rec c.number-region.result e c.number-region.ensures in
-    let searched = c.chain_orphans-orphans.ensures.searched rec e in
-    let w = in-order c.args.cells.now c.args.regions.now c.chain_orphans-orphans.new.regions c.order_members.new.self
-    c.args.key rec c.order_members.ensures c.requires.grove e searched.records searched.orphans.1.next in
+    let num = (told g (goal.at.plan-requires-clause-members g c).After-bridge-bridge).0 in
+    let w = ordered g (goal.at.plan-requires-clause-members g c).After-order_members in
     let labels : (x : ℕ) → label_at c.mark_region.new.cells.heap x ≡ label_at c.args.cells.now.heap x = λ x.
     ap (λ (z : Heap). label_at z x) c.mark_region.ensures.marked.heap in
     read-members c.mark_region.new.cells.heap c.number-region.result c.members.result.now w num c.members.ensures labels
 
 pub plan-requires-clause-rise : goal.plan-requires-clause-rise
 plan-requires-clause-rise g c =
-    let rec = c.requires.trace.0 in
-    let e = c.requires.trace.1 in
-    let num : rec.number ≡ c.number-region.result =
-    same_number _ rec c.number-region.result e c.number-region.ensures in
-    let searched = c.chain_orphans-orphans.ensures.searched rec e in
-    let w = in-order c.args.cells.now c.args.regions.now c.chain_orphans-orphans.new.regions c.order_members.new.self
-    c.args.key rec c.order_members.ensures c.requires.grove e searched.records searched.orphans.1.next in
+    let w = ordered g (goal.at.plan-requires-clause-rise g c).After-order_members in
     read-rises c.members.result.now w c.members.ensures
 
 pub forward_members-requires-clause-members : goal.forward_members-requires-clause-members
 forward_members-requires-clause-members g c =
-    let rec = c.requires.trace.0 in
-    let e = c.requires.trace.1 in
-    let num : rec.number ≡ c.number-region.result =
-    same_number _ rec c.number-region.result e c.number-region.ensures in
-    let searched = c.chain_orphans-orphans.ensures.searched rec e in
-    let w = in-order c.args.cells.now c.args.regions.now c.chain_orphans-orphans.new.regions c.order_members.new.self
-    c.args.key rec c.order_members.ensures c.requires.grove e searched.records searched.orphans.1.next in
+    let num = (told g (goal.at.forward_members-requires-clause-members g c).After-bridge-bridge).0 in
+    let w = ordered g (goal.at.forward_members-requires-clause-members g c).After-order_members in
     let labels : (x : ℕ) → label_at c.forward_temps.new.cells.heap x ≡ label_at c.args.cells.now.heap x = λ x.
     c.forward_temps.ensures.forwarded.alike.labels x
     ∙ ap (λ (z : Heap). label_at z x) (c.plan.ensures.heap ∙ c.mark_region.ensures.marked.heap) in
@@ -119,28 +121,15 @@ forward_members-requires-clause-lead g c =
 
 pub shift-requires-clause-members : goal.shift-requires-clause-members
 shift-requires-clause-members g c =
-    let rec = c.requires.trace.0 in
-    let e = c.requires.trace.1 in
-    let num : rec.number ≡ c.number-region.result =
-    same_number _ rec c.number-region.result e c.number-region.ensures in
-    let searched = c.chain_orphans-orphans.ensures.searched rec e in
-    let w = in-order c.args.cells.now c.args.regions.now c.chain_orphans-orphans.new.regions c.order_members.new.self
-    c.args.key rec c.order_members.ensures c.requires.grove e searched.records searched.orphans.1.next in
-    let labels : (x : ℕ) → label_at c.forward_members.new.cells.heap x ≡ label_at c.args.cells.now.heap x = λ x.
-    c.forward_members.ensures.forwarded.alike.labels x ∙ c.forward_temps.ensures.forwarded.alike.labels x
-    ∙ ap (λ (z : Heap). label_at z x) (c.plan.ensures.heap ∙ c.mark_region.ensures.marked.heap) in
+    let num = (told g (goal.at.shift-requires-clause-members g c).After-bridge-bridge).0 in
+    let w = ordered g (goal.at.shift-requires-clause-members g c).After-order_members in
+    let labels = labelled g (goal.at.shift-requires-clause-members g c).After-forward_members in
     read-members c.forward_members.new.cells.heap c.number-region.result c.members-3.result.now w num c.members-3.ensures
     labels
 
 pub shift-requires-clause-rise : goal.shift-requires-clause-rise
 shift-requires-clause-rise g c =
-    let rec = c.requires.trace.0 in
-    let e = c.requires.trace.1 in
-    let num : rec.number ≡ c.number-region.result =
-    same_number _ rec c.number-region.result e c.number-region.ensures in
-    let searched = c.chain_orphans-orphans.ensures.searched rec e in
-    let w = in-order c.args.cells.now c.args.regions.now c.chain_orphans-orphans.new.regions c.order_members.new.self
-    c.args.key rec c.order_members.ensures c.requires.grove e searched.records searched.orphans.1.next in
+    let w = ordered g (goal.at.shift-requires-clause-rise g c).After-order_members in
     read-rises c.members-3.result.now w c.members-3.ensures
 
 pub shift-requires-clause-plan : goal.shift-requires-clause-plan
@@ -156,15 +145,9 @@ shift-requires-clause-plan g c =
 pub sweep-requires : goal.sweep-requires
 sweep-requires g c =
     let rec = c.requires.trace.0 in
-    let e = c.requires.trace.1 in
-    let num : rec.number ≡ c.number-region.result =
-    same_number _ rec c.number-region.result e c.number-region.ensures in
-    let searched = c.chain_orphans-orphans.ensures.searched rec e in
-    let w = in-order c.args.cells.now c.args.regions.now c.chain_orphans-orphans.new.regions c.order_members.new.self
-    c.args.key rec c.order_members.ensures c.requires.grove e searched.records searched.orphans.1.next in
-    let labels : (x : ℕ) → label_at c.forward_members.new.cells.heap x ≡ label_at c.args.cells.now.heap x = λ x.
-    c.forward_members.ensures.forwarded.alike.labels x ∙ c.forward_temps.ensures.forwarded.alike.labels x
-    ∙ ap (λ (z : Heap). label_at z x) (c.plan.ensures.heap ∙ c.mark_region.ensures.marked.heap) in
+    let num = (told g (goal.at.sweep-requires g c).After-bridge-bridge).0 in
+    let w = ordered g (goal.at.sweep-requires g c).After-order_members in
+    let labels = labelled g (goal.at.sweep-requires g c).After-forward_members in
     let from = c.shift.ensures.0 in
     let ms = read-is c.members-3.result.now w c.members-3.ensures in
     let SM : List ℕ → Type 0 = λ xs. Shifted c.forward_members.new.cells c.number-region.result xs (length xs)
@@ -196,13 +179,9 @@ pub returns : goal.returns
 returns g c =
     let rec = c.requires.trace.0 in
     let e = c.requires.trace.1 in
-    let num : rec.number ≡ c.number-region.result =
-    same_number _ rec c.number-region.result e c.number-region.ensures in
-    let bri : rec.bridge ≡ c.bridge-bridge.result =
-    same_bridge _ rec c.bridge-bridge.result e c.bridge-bridge.ensures in
+    let said = told g (goal.at.returns g c).After-bridge-bridge in
     let searched = c.chain_orphans-orphans.ensures.searched rec e in
-    let w = in-order c.args.cells.now c.args.regions.now c.chain_orphans-orphans.new.regions c.order_members.new.self
-    c.args.key rec c.order_members.ensures c.requires.grove e searched.records searched.orphans.1.next in
+    let w = ordered g (goal.at.returns g c).After-order_members in
     let top = top_window c.args.frames.now c.requires.begun in
     let slots : c.slots.result.now ≡ top_slots c.args.frames.now = c.slots.ensures top.0 top.1
     ∙ ap (λ d. drop d c.args.frames.now.slots) (sym (base-is c.args.frames.now top.0 top.1)) in
@@ -238,7 +217,7 @@ returns g c =
     let AS : List Word → Type 0 = λ z. A rec.number rec.bridge z c.temps.result.now in
     let AB : Option ℕ → Type 0 = λ z. A rec.number z c.slots.result.now c.temps.result.now in
     let AN : ℕ → Type 0 = λ z. A z c.bridge-bridge.result c.slots.result.now c.temps.result.now in
-    let all = subst AT c.temps.ensures (subst AS slots (subst AB (sym bri) (subst AN (sym num) first))) in
+    let all = subst AT c.temps.ensures (subst AS slots (subst AB (sym said.1) (subst AN (sym said.0) first))) in
     let S : Record → Type 0 = λ r. Slid c.args.cells.now c.args.regions.now c.args.key r c.args.frames.now
     c.sweep.new.cells c.sweep.new.regions c.forward_slots.new.frames in
     let O : Record → Type 0 = λ r. ChainsOrphans c.args.cells.now.heap c.args.regions.now r.number
@@ -259,7 +238,7 @@ returns g c =
     ap (W c.forward_temps.new.cells.heap) (read-is c.members-2.result.now w c.members-2.ensures) in
     let most : C rec = omega (
       arith,
-      marking-cost all c.number-region.result num,
+      marking-cost all c.number-region.result said.0,
       members-cost all,
       first_temps,
       later_temps,
@@ -273,10 +252,10 @@ returns g c =
     ∙ (ordered_links c.chain_orphans-orphans.new.regions c.order_members.new.self c.args.key c.order_members.ensures).0 in
     record {
       slid = λ r f. subst S (same_Some rec r (sym e ∙ f)) (slides all);
-      orphans = λ r f. subst O (same_Some rec r (sym e ∙ f))
-          (orphans-told all c.chain_orphans-orphans.new.regions c.number-region.result c.chain_orphans-orphans.result num
-          searched links);
-      kept = λ r f. sym (ap (length {A = ℕ}) (same_members _ r c.members-4.result.now f c.members-4.ensures));
+      orphans = λ r f. rw c.left.ensures.orphans (subst O (same_Some rec r (sym e ∙ f))
+          (orphans-told all c.chain_orphans-orphans.new.regions c.number-region.result c.chain_orphans-orphans.result said.0
+          searched links));
+      kept = c.left.ensures.kept;
       cost = λ r f. subst C (same_Some rec r (sym e ∙ f)) most;
       grove = grove-slides all;
     }

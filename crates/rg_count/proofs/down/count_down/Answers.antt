@@ -1,4 +1,4 @@
-use Rattle.std.proofs.Common.{◌≡◌, ℕ, ◌+◌, ◌≤◌, List, length, Option, Some, sym, arith, subst, sum_by}
+use Rattle.std.proofs.Common.{◌≡◌, ℕ, ◌+◌, ◌<◌, ◌≤◌, List, length, Option, Some, None, sym, arith, subst, sum_by}
 use Rattle.rg_base.specs.declared.value.Word.TheVariants.{Slot}
 use Rattle.rg_base.proofs.Callers.Options.{none-is}
 use Rattle.rg_cells.specs.Table.{Heap, width, body_at, field_at, IsHeld, link_at}
@@ -11,7 +11,28 @@ use Rattle.rg_regions.proofs.Callers.Told.{lies_held}
 use Rattle.rg_count.specs.Inner.Counting.{Down, Lowered, IsReady}
 use Rattle.rg_count.proofs.CountsBegun.{down-begin}
 use Rattle.rg_count.proofs.SpentInTurn.{down-more, down-left, down-lies, down-ready, down-ended, size-members}
+use Rattle.rg_count.proofs.down.count_down.Given.{Over}
 use Rattle.rg_count.proofs.down.count_down.Goals as goal
+use Rattle.rg_count.proofs.down.count_down.Goals.{At-down}
+
+-- what a turn keeps, of the head of the zero list
+keeps : (g : Over) (c : At-down g) (o : Option ℕ) → c.down.zero ≡ o → Down c.args.cells.now.heap c.args.region
+    (record { bridge = c.args.roots.now.bridge; slots = c.args.roots.now.slots.now; temps = c.args.roots.now.temps.now }) c.args.cells.now
+    c.args.regions.now (length c.members-left.result.now)
+    (c.args.steps.now + sum_by (λ t. width (body_at c.args.cells.now.heap t)) c.args.roots.now.temps.now) c.down.cells
+    c.down.regions o c.down.orphans c.down.left c.down.steps
+keeps g c o e =
+    let h = c.args.cells.now.heap in
+    let D : Option ℕ → Type 0 = λ o.
+    Down h c.args.region (record { bridge = c.args.roots.now.bridge; slots = c.args.roots.now.slots.now; temps = c.args.roots.now.temps.now })
+    c.args.cells.now c.args.regions.now (length c.members-left.result.now)
+    (c.args.steps.now + sum_by (λ t. width (body_at h t)) c.args.roots.now.temps.now) c.down.cells c.down.regions o
+    c.down.orphans c.down.left c.down.steps in
+    subst D e c.down.invariant.0
+
+-- while the list has a head, cells are left
+more_left : (g : Over) (c : At-down g) (s : ℕ) → c.down.zero ≡ Some s → 0 < c.down.left
+more_left g c s e = down-left _ _ _ _ _ _ _ _ _ _ _ _ _ c.down.invariant.1 (keeps g c (Some s) e)
 
 pub down-init : goal.down-init
 down-init g c =
@@ -34,24 +55,12 @@ down-init g c =
 
 pub overflow_sub-left : goal.overflow_sub-left
 overflow_sub-left g c =
-    let D : Option ℕ → Type 0 = λ o.
-    Down c.args.cells.now.heap c.args.region
-    (record { bridge = c.args.roots.now.bridge; slots = c.args.roots.now.slots.now; temps = c.args.roots.now.temps.now }) c.args.cells.now
-    c.args.regions.now (length c.members-left.result.now)
-    (c.args.steps.now + sum_by (λ t. width (body_at c.args.cells.now.heap t)) c.args.roots.now.temps.now) c.down.cells
-    c.down.regions o c.down.orphans c.down.left c.down.steps in
-    let l = down-left _ _ _ _ _ _ _ _ _ _ _ _ _ c.down.invariant.1 (subst D c.in-Some.is c.down.invariant.0) in
+    let l = more_left g (goal.at.overflow_sub-left g c).At-down c.in-Some.slot c.in-Some.is in
     omega (arith, l)
 
 pub link-zero-requires : goal.link-zero-requires
 link-zero-requires g c =
-    let D : Option ℕ → Type 0 = λ o.
-    Down c.args.cells.now.heap c.args.region
-    (record { bridge = c.args.roots.now.bridge; slots = c.args.roots.now.slots.now; temps = c.args.roots.now.temps.now }) c.args.cells.now
-    c.args.regions.now (length c.members-left.result.now)
-    (c.args.steps.now + sum_by (λ t. width (body_at c.args.cells.now.heap t)) c.args.roots.now.temps.now) c.down.cells
-    c.down.regions o c.down.orphans c.down.left c.down.steps in
-    let d = subst D c.in-Some.is c.down.invariant.0 in
+    let d = keeps g (goal.at.link-zero-requires g c).At-down (Some c.in-Some.slot) c.in-Some.is in
     let lies = down-lies _ _ _ _ _ _ _ _ _ _ _ _ _ d in
     let H : Heap → Type 0 = λ z. IsHeld z c.in-Some.slot in
     subst H (sym d.counts.heap) (lies_held c.args.cells.now.heap c.args.region c.in-Some.slot lies)
@@ -59,12 +68,7 @@ link-zero-requires g c =
 pub lower_fields-heads-requires : goal.lower_fields-heads-requires
 lower_fields-heads-requires g c =
     let h = c.args.cells.now.heap in
-    let D : Option ℕ → Type 0 = λ o.
-    Down h c.args.region (record { bridge = c.args.roots.now.bridge; slots = c.args.roots.now.slots.now; temps = c.args.roots.now.temps.now })
-    c.args.cells.now c.args.regions.now (length c.members-left.result.now)
-    (c.args.steps.now + sum_by (λ t. width (body_at h t)) c.args.roots.now.temps.now) c.down.cells c.down.regions o
-    c.down.orphans c.down.left c.down.steps in
-    let d = subst D c.in-Some.is c.down.invariant.0 in
+    let d = keeps g (goal.at.lower_fields-heads-requires g c).At-down (Some c.in-Some.slot) c.in-Some.is in
     let lies : LiesIn h c.args.region c.in-Some.slot = down-lies _ _ _ _ _ _ _ _ _ _ _ _ _ d in
     let back : h ≡ c.down.cells.heap = sym d.counts.heap in
     let H : Heap → Type 0 = λ z. IsHeld z c.in-Some.slot in
@@ -84,26 +88,15 @@ lower_fields-heads-requires g c =
 
 pub down-smaller : goal.down-smaller
 down-smaller g c =
-    let D : Option ℕ → Type 0 = λ o.
-    Down c.args.cells.now.heap c.args.region
-    (record { bridge = c.args.roots.now.bridge; slots = c.args.roots.now.slots.now; temps = c.args.roots.now.temps.now }) c.args.cells.now
-    c.args.regions.now (length c.members-left.result.now)
-    (c.args.steps.now + sum_by (λ t. width (body_at c.args.cells.now.heap t)) c.args.roots.now.temps.now) c.down.cells
-    c.down.regions o c.down.orphans c.down.left c.down.steps in
-    let l = down-left _ _ _ _ _ _ _ _ _ _ _ _ _ c.down.invariant.1 (subst D c.in-Some.is c.down.invariant.0) in
+    let l = more_left g (goal.at.down-smaller g c).At-down c.in-Some.slot c.in-Some.is in
     omega (arith, l)
 
 pub down-preserved : goal.down-preserved
 down-preserved g c =
     let h = c.args.cells.now.heap in
-    let D : Option ℕ → Type 0 = λ o.
-    Down h c.args.region (record { bridge = c.args.roots.now.bridge; slots = c.args.roots.now.slots.now; temps = c.args.roots.now.temps.now })
-    c.args.cells.now c.args.regions.now (length c.members-left.result.now)
-    (c.args.steps.now + sum_by (λ t. width (body_at h t)) c.args.roots.now.temps.now) c.down.cells c.down.regions o
-    c.down.orphans c.down.left c.down.steps in
-    let d = subst D c.in-Some.is c.down.invariant.0 in
+    let d = keeps g (goal.at.down-preserved g c).At-down (Some c.in-Some.slot) c.in-Some.is in
     let s = c.in-Some.slot in
-    let l = down-left _ _ _ _ _ _ _ _ _ _ _ _ _ c.down.invariant.1 d in
+    let l = more_left g (goal.at.down-preserved g c).At-down c.in-Some.slot c.in-Some.is in
     let same : c.down.cells.heap ≡ h = d.counts.heap in
     let L : Heap → Type 0 = λ z. Lowered z c.args.region s
     (width (body_at z s)) c.down.cells c.lower_fields-heads.new.cells c.link-zero.result
@@ -125,12 +118,5 @@ down-preserved g c =
     )
 
 pub returns : goal.returns
-returns g c =
-    let h = c.args.cells.now.heap in
-    let D : Option ℕ → Type 0 = λ o.
-    Down h c.args.region (record { bridge = c.args.roots.now.bridge; slots = c.args.roots.now.slots.now; temps = c.args.roots.now.temps.now })
-    c.args.cells.now c.args.regions.now (length c.members-left.result.now)
-    (c.args.steps.now + sum_by (λ t. width (body_at h t)) c.args.roots.now.temps.now) c.down.cells c.down.regions o
-    c.down.orphans c.down.left c.down.steps in
-    let d = subst D (none-is c.down.zero c.in_default.not-Some) c.down.invariant.0 in
-    down-ended _ _ _ _ _ _ _ _ _ _ _ _ d
+returns g c = down-ended _ _ _ _ _ _ _ _ _ _ _ _
+    (keeps g (goal.at.returns g c).At-down None (none-is c.down.zero c.in_default.not-Some))

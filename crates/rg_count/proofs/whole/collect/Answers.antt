@@ -54,8 +54,8 @@ sweep-requires g c =
           d.counts.heap,
     )
 
-pub members-requires : goal.members-requires
-members-requires g c =
+pub left-requires : goal.left-requires
+left-requires g c =
     let rec = c.requires.count.0 in
     let e = c.requires.count.1 in
     let d = c.count_down-orphans.ensures in
@@ -110,7 +110,7 @@ returns g c =
       grove = grove-kept old c.args.regions.now c.args.key rec c.args.slots.now c.args.temps.now c.sweep.new.cells
           c.sweep.new.regions c.requires.grove e c.requires.count.2 whole;
       counted = λ r f. subst C (same_Some rec r (sym e ∙ f)) whole;
-      orphans = λ r f. subst O (same_Some rec r (sym e ∙ f)) (subst K (sym c.sweep.ensures.links) o);
+      orphans = λ r f. rw c.left.ensures.orphans (subst O (same_Some rec r (sym e ∙ f)) (subst K (sym c.sweep.ensures.links) o));
       cost = λ r f. subst Q (same_Some rec r (sym e ∙ f)) most;
-      kept = λ r f. sym (ap (length {A = ℕ}) (same_members _ r c.members.result.now f c.members.ensures));
+      kept = c.left.ensures.kept;
     }

@@ -5,6 +5,20 @@ use Rattle.rg_regions.proofs.Callers.Told.{same_members}
 use Rattle.rg_move.specs.Inner.Moves.{PushedFirst}
 use Rattle.rg_move.proofs.MembersMoved.{pushed_more}
 use Rattle.rg_move.proofs.merging.move_members.Goals as goal
+use Rattle.rg_move.proofs.merging.move_members.Goals.{After-members}
+
+-- the place of a turn is one of the record's members, and these are the members that were read
+member : (c : After-members) → (c.loop-place.place < length c.requires.one.members)
+    × (c.requires.one.members ≡ c.members.result.now)
+member c =
+    let w = c.requires in
+    let p = c.loop-place.invariant w.one w.other w.at w.to in
+    let end = same_members (record_at c.args.regions.now c.args.from) w.one c.members-place-end.result.now w.at
+    c.members-place-end.ensures in (
+      omega (arith, ap (length {A = ℕ}) end, c.loop-place-test.true),
+      same_members (record_at c.loop-place.regions c.args.from) w.one c.members.result.now
+          (p.others c.args.from w.differ ∙ w.at) c.members.ensures,
+    )
 
 pub members-requires : goal.members-requires
 members-requires c =
@@ -13,51 +27,21 @@ members-requires c =
 
 pub bounds-members-place : goal.bounds-members-place
 bounds-members-place c =
-    let w = c.requires in
-    let old = c.args.regions.now in
-    let p = c.loop-place.invariant w.one w.other w.at w.to in
-    let end = same_members (record_at old c.args.from)
-    w.one c.members-place-end.result.now w.at c.members-place-end.ensures in
-    let there : c.loop-place.place < length w.one.members = omega (
-      arith,
-      ap (length {A = ℕ})
-          end,
-      c.loop-place-test.true,
-    ) in
-    let now = same_members (record_at c.loop-place.regions c.args.from) w.one c.members.result.now
-    (p.others c.args.from w.differ ∙ w.at) c.members.ensures in
-    omega (arith, ap (length {A = ℕ}) now, there)
+    let m = member (goal.at.bounds-members-place c).After-members in
+    omega (arith, ap (length {A = ℕ}) m.1, m.0)
 
 pub push_member-requires : goal.push_member-requires
 push_member-requires c =
     let w = c.requires in
-    let old = c.args.regions.now in
     let p = c.loop-place.invariant w.one w.other w.at w.to in
-    let end = same_members (record_at old c.args.from)
-    w.one c.members-place-end.result.now w.at c.members-place-end.ensures in
-    let there : c.loop-place.place < length w.one.members = omega (
-      arith,
-      ap (length {A = ℕ})
-          end,
-      c.loop-place-test.true,
-    ) in
-    (_, p.pushed, omega (arith, there, w.room))
+    let m = member (goal.at.push_member-requires c).After-members in
+    (_, p.pushed, omega (arith, m.0, w.room))
 
 pub loop-place-preserved : goal.loop-place-preserved
 loop-place-preserved c = λ a b e f.
     let w = c.requires in
-    let old = c.args.regions.now in
     let p = c.loop-place.invariant w.one w.other w.at w.to in
-    let end = same_members (record_at old c.args.from)
-    w.one c.members-place-end.result.now w.at c.members-place-end.ensures in
-    let there : c.loop-place.place < length w.one.members = omega (
-      arith,
-      ap (length {A = ℕ})
-          end,
-      c.loop-place-test.true,
-    ) in
-    let now = same_members (record_at c.loop-place.regions c.args.from) w.one c.members.result.now
-    (p.others c.args.from w.differ ∙ w.at) c.members.ensures in
+    let m = member (goal.at.loop-place-preserved c).After-members in
     let G : Record → Type 0 = λ z. PushedFirst c.args.regions.now c.args.from c.args.into z b (c.loop-place.place + 1)
     c.push_member.new.self in
     let H : Record → Type 0 = λ z. PushedFirst c.args.regions.now c.args.from c.args.into w.one z
@@ -65,7 +49,7 @@ loop-place-preserved c = λ a b e f.
     subst G (same_Some w.one a (sym w.at ∙ e)) (subst H (same_Some w.other b (sym w.to ∙ f))
     (pushed_more c.args.regions.now c.loop-place.regions c.push_member.new.self c.args.from c.args.into w.one w.other
     c.loop-place.place
-    (get_or c.members.result.now c.loop-place.place 0) there (ap (λ (z : List ℕ). get_or z c.loop-place.place 0) now)
+    (get_or c.members.result.now c.loop-place.place 0) m.0 (ap (λ (z : List ℕ). get_or z c.loop-place.place 0) m.1)
     p c.push_member.ensures))
 
 pub returns : goal.returns

@@ -3,12 +3,32 @@ use Rattle.std.proofs.Common.{Option}
 use Rattle.rg_base.specs.declared.value.Word.TheVariants.{Slot}
 use Rattle.rg_base.proofs.Callers.Options.{none-is}
 use Rattle.rg_cells.specs.Table.{Heap, Table, IsHeld, body_at, field_at, width}
-use Rattle.rg_regions.specs.Reach.{Roots}
+use Rattle.rg_regions.specs.Reach.{Roots, LiesIn}
 use Rattle.rg_trace.specs.Inner.Marking.{Scanned, ScannedTemps, MarkingGoes}
 use Rattle.rg_trace.proofs.Marks.Turns.{goes-begin, fields-begin, goes-more, fields-more, pending-less, head-lies}
 use Rattle.rg_trace.proofs.Marks.Turns.{goes-done}
 use Rattle.rg_trace.proofs.mark.mark_region.Goals as goal
+use Rattle.rg_trace.proofs.mark.mark_region.Given.{Over}
+use Rattle.rg_trace.proofs.mark.mark_region.Goals.{In-Some}
 use Rattle.rg_regions.proofs.Callers.Told.{lies_held}
+
+-- what a turn keeps, of the head of the list
+goes : (g : Over) (c : In-Some g) → MarkingGoes c.args.cells.now.heap c.args.region
+    (record { bridge = c.args.bridge; slots = c.args.slots.now; temps = c.args.temps.now }) c.args.cells.now c.grey.cells
+    (Some c.in-Some.slot)
+goes g c =
+    let G : Option ℕ → Type 0 = λ o. MarkingGoes c.args.cells.now.heap c.args.region
+    (record { bridge = c.args.bridge; slots = c.args.slots.now; temps = c.args.temps.now }) c.args.cells.now c.grey.cells o in
+    subst G c.in-Some.is c.grey.invariant.0
+
+-- the head is a held cell of the region
+head_lies : (g : Over) (c : In-Some g) → LiesIn c.args.cells.now.heap c.args.region c.in-Some.slot
+head_lies g c = head-lies c.args.cells.now.heap c.args.region _ c.grey.cells c.in-Some.slot (goes g c).marking
+
+head_held : (g : Over) (c : In-Some g) → IsHeld c.grey.cells.heap c.in-Some.slot
+head_held g c =
+    let H : Heap → Type 0 = λ z. IsHeld z c.in-Some.slot in
+    subst H (sym c.grey.invariant.0.heap) (lies_held c.args.cells.now.heap c.args.region c.in-Some.slot (head_lies g c))
 
 pub grey-init : goal.grey-init
 grey-init g c =
@@ -39,35 +59,15 @@ grey-init g c =
     )
 
 pub link-head-requires : goal.link-head-requires
-link-head-requires g c =
-    let i = c.grey.invariant.0 in
-    let G : Option ℕ → Type 0 = λ o. MarkingGoes c.args.cells.now.heap c.args.region
-    (record { bridge = c.args.bridge; slots = c.args.slots.now; temps = c.args.temps.now }) c.args.cells.now
-    c.grey.cells o in
-    let j = subst G c.in-Some.is i in
-    let H : Heap → Type 0 = λ z. IsHeld z c.in-Some.slot in
-    subst H (sym i.heap) (lies_held c.args.cells.now.heap c.args.region c.in-Some.slot
-    (head-lies c.args.cells.now.heap c.args.region _ c.grey.cells c.in-Some.slot j.marking))
+link-head-requires g c = head_held g (goal.at.link-head-requires g c).In-Some
 
 pub set_mark-requires : goal.set_mark-requires
-set_mark-requires g c =
-    let i = c.grey.invariant.0 in
-    let G : Option ℕ → Type 0 = λ o. MarkingGoes c.args.cells.now.heap c.args.region
-    (record { bridge = c.args.bridge; slots = c.args.slots.now; temps = c.args.temps.now }) c.args.cells.now
-    c.grey.cells o in
-    let j = subst G c.in-Some.is i in
-    let H : Heap → Type 0 = λ z. IsHeld z c.in-Some.slot in
-    subst H (sym i.heap) (lies_held c.args.cells.now.heap c.args.region c.in-Some.slot
-    (head-lies c.args.cells.now.heap c.args.region _ c.grey.cells c.in-Some.slot j.marking))
+set_mark-requires g c = head_held g (goal.at.set_mark-requires g c).In-Some
 
 pub grey_fields-head-requires : goal.grey_fields-head-requires
 grey_fields-head-requires g c =
     let i = c.grey.invariant.0 in
-    let G : Option ℕ → Type 0 = λ o. MarkingGoes c.args.cells.now.heap c.args.region
-    (record { bridge = c.args.bridge; slots = c.args.slots.now; temps = c.args.temps.now }) c.args.cells.now
-    c.grey.cells o in
-    let j = subst G c.in-Some.is i in
-    let lies = head-lies c.args.cells.now.heap c.args.region _ c.grey.cells c.in-Some.slot j.marking in
+    let lies = head_lies g (goal.at.grey_fields-head-requires g c).In-Some in
     let same : c.set_mark.new.self.heap ≡ c.args.cells.now.heap = ap (λ (t : Table). t.heap) c.set_mark.ensures.set
     ∙ i.heap in
     let H : Heap → Type 0 = λ z. IsHeld z c.in-Some.slot in
@@ -82,8 +82,7 @@ grey-preserved g c =
     let i = c.grey.invariant.0 in
     let h = c.args.cells.now.heap in
     let roots : Roots = record { bridge = c.args.bridge; slots = c.args.slots.now; temps = c.args.temps.now } in
-    let G : Option ℕ → Type 0 = λ o. MarkingGoes h c.args.region roots c.args.cells.now c.grey.cells o in
-    let j = subst G c.in-Some.is i in
+    let j = goes g (goal.at.grey-preserved g c).In-Some in
     let same : c.set_mark.new.self.heap ≡ h = ap (λ (t : Table). t.heap) c.set_mark.ensures.set ∙ i.heap in
     let S : Heap → Type 0 = λ z. Scanned z c.args.region (λ k. field_at z c.in-Some.slot k)
     (width (body_at z c.in-Some.slot)) c.set_mark.new.self
@@ -108,8 +107,7 @@ grey-smaller g c =
     let i = c.grey.invariant.0 in
     let h = c.args.cells.now.heap in
     let roots : Roots = record { bridge = c.args.bridge; slots = c.args.slots.now; temps = c.args.temps.now } in
-    let G : Option ℕ → Type 0 = λ o. MarkingGoes h c.args.region roots c.args.cells.now c.grey.cells o in
-    let j = subst G c.in-Some.is i in
+    let j = goes g (goal.at.grey-smaller g c).In-Some in
     let same : c.set_mark.new.self.heap ≡ h = ap (λ (t : Table). t.heap) c.set_mark.ensures.set ∙ i.heap in
     let S : Heap → Type 0 = λ z. Scanned z c.args.region (λ k. field_at z c.in-Some.slot k)
     (width (body_at z c.in-Some.slot)) c.set_mark.new.self

@@ -9,7 +9,38 @@ use Rattle.rg_regions.specs.Reach.{LiesIn}
 use Rattle.rg_trace.specs.Orphans.{FollowsWhite, if_white}
 use Rattle.rg_trace.proofs.OrphansFound.{searched-none, searched-white, searched-black, white-width, black-width}
 use Rattle.rg_trace.proofs.orphans.chain_orphans.Goals as goal
-use Rattle.rg_regions.proofs.Callers.Told.{same_members, lies_held}
+use Rattle.rg_trace.proofs.orphans.chain_orphans.Given.{Over}
+use Rattle.rg_trace.proofs.orphans.chain_orphans.Goals.{After-members}
+use Rattle.rg_regions.proofs.Callers.Told.{same_members, members_read, lies_held}
+
+-- the members that a turn reads are the record's, and its member is a cell of the region
+member : (g : Over) (c : After-members g) → (c.requires.there.0.members ≡ c.members.result.now)
+    × (c.loop-place.place < length c.requires.there.0.members)
+    × (get_or c.requires.there.0.members c.loop-place.place 0 ≡ get_or c.members.result.now c.loop-place.place 0)
+    × LiesIn c.args.cells.now.heap c.args.region (get_or c.members.result.now c.loop-place.place 0)
+member g c =
+    let rec = c.requires.there.0 in
+    let inv = c.loop-place.invariant rec c.requires.there.1 in
+    let mem = members_read c.args.regions.now c.loop-place.regions c.args.key rec c.members.result.now inv.0.records
+    c.requires.there.1 c.members.ensures in
+    let end = same_members _ rec c.members-place-end.result.now c.requires.there.1 c.members-place-end.ensures in
+    let room : c.loop-place.place < length rec.members =
+    omega (arith, ap (length {A = ℕ}) end, c.loop-place-test.true) in
+    let is = ap (λ (z : List ℕ). get_or z c.loop-place.place 0) mem in
+    let L : ℕ → Type 0 = λ z. LiesIn c.args.cells.now.heap c.args.region z in
+    (mem, room, is, subst L is (c.requires.there.2.lie c.loop-place.place room))
+
+-- with it, its fields are counted if it is white
+weighs : (g : Over) (c : After-members g)
+    → sum_by (if_white c.args.cells.now.heap c.args.cells.now.marks) (take (c.loop-place.place + 1) c.requires.there.0.members)
+    ≡ sum_by (if_white c.args.cells.now.heap c.args.cells.now.marks) (take c.loop-place.place c.requires.there.0.members)
+    + if_white c.args.cells.now.heap c.args.cells.now.marks (get_or c.members.result.now c.loop-place.place 0)
+weighs g c =
+    let m = member g c in
+    sum_by_more (if_white c.args.cells.now.heap c.args.cells.now.marks) c.requires.there.0.members c.loop-place.place 0 m.1
+    ∙ ap (λ (n : ℕ). sum_by (if_white c.args.cells.now.heap c.args.cells.now.marks)
+    (take c.loop-place.place c.requires.there.0.members) + n)
+    (ap (if_white c.args.cells.now.heap c.args.cells.now.marks) m.2)
 
 pub loop-place-init : goal.loop-place-init
 loop-place-init g c = λ r e. (
@@ -29,57 +60,19 @@ members-requires g c =
 
 pub bounds-members-place : goal.bounds-members-place
 bounds-members-place g c =
-    let rec = c.requires.there.0 in
-    let inv = c.loop-place.invariant rec c.requires.there.1 in
-    let at : record_at c.loop-place.regions c.args.key ≡ Some rec =
-    ap (λ (rs : List (Option Record)). get_or rs c.args.key None) inv.0.records
-    ∙ c.requires.there.1 in
-    let mem : rec.members ≡ c.members.result.now = same_members _ rec c.members.result.now at c.members.ensures in
-    let end : rec.members ≡ c.members-place-end.result.now =
-    same_members _ rec c.members-place-end.result.now c.requires.there.1
-    c.members-place-end.ensures in
-    let room : c.loop-place.place < length rec.members =
-    omega (arith, ap (length {A = ℕ}) end, c.loop-place-test.true) in
-    omega (arith, ap (length {A = ℕ}) mem, room)
+    let m = member g (goal.at.bounds-members-place g c).After-members in
+    omega (arith, ap (length {A = ℕ}) m.0, m.1)
 
 pub mark-requires : goal.mark-requires
 mark-requires g c =
-    let rec = c.requires.there.0 in
-    let inv = c.loop-place.invariant rec c.requires.there.1 in
-    let at : record_at c.loop-place.regions c.args.key ≡ Some rec =
-    ap (λ (rs : List (Option Record)). get_or rs c.args.key None) inv.0.records
-    ∙ c.requires.there.1 in
-    let mem : rec.members ≡ c.members.result.now = same_members _ rec c.members.result.now at c.members.ensures in
-    let end : rec.members ≡ c.members-place-end.result.now =
-    same_members _ rec c.members-place-end.result.now c.requires.there.1
-    c.members-place-end.ensures in
-    let room : c.loop-place.place < length rec.members =
-    omega (arith, ap (length {A = ℕ}) end, c.loop-place-test.true) in
-    let slot : ℕ = get_or c.members.result.now c.loop-place.place 0 in
-    let is : get_or rec.members c.loop-place.place 0 ≡ slot = ap (λ (z : List ℕ). get_or z c.loop-place.place 0) mem in
-    let L : ℕ → Type 0 = λ z. LiesIn c.args.cells.now.heap c.args.region z in
-    let lies : LiesIn c.args.cells.now.heap c.args.region slot =
-    subst L is (c.requires.there.2.lie c.loop-place.place room) in
-    lies_held c.args.cells.now.heap c.args.region slot lies
+    lies_held c.args.cells.now.heap c.args.region (get_or c.members.result.now c.loop-place.place 0)
+    (member g (goal.at.mark-requires g c).After-members).3
 
 pub chain_fields-head-requires : goal.chain_fields-head-requires
 chain_fields-head-requires g c =
-    let rec = c.requires.there.0 in
-    let inv = c.loop-place.invariant rec c.requires.there.1 in
-    let at : record_at c.loop-place.regions c.args.key ≡ Some rec =
-    ap (λ (rs : List (Option Record)). get_or rs c.args.key None) inv.0.records
-    ∙ c.requires.there.1 in
-    let mem : rec.members ≡ c.members.result.now = same_members _ rec c.members.result.now at c.members.ensures in
-    let end : rec.members ≡ c.members-place-end.result.now =
-    same_members _ rec c.members-place-end.result.now c.requires.there.1
-    c.members-place-end.ensures in
-    let room : c.loop-place.place < length rec.members =
-    omega (arith, ap (length {A = ℕ}) end, c.loop-place-test.true) in
+    let inv = c.loop-place.invariant c.requires.there.0 c.requires.there.1 in
     let slot : ℕ = get_or c.members.result.now c.loop-place.place 0 in
-    let is : get_or rec.members c.loop-place.place 0 ≡ slot = ap (λ (z : List ℕ). get_or z c.loop-place.place 0) mem in
-    let L : ℕ → Type 0 = λ z. LiesIn c.args.cells.now.heap c.args.region z in
-    let lies : LiesIn c.args.cells.now.heap c.args.region slot =
-    subst L is (c.requires.there.2.lie c.loop-place.place room) in
+    let lies = (member g (goal.at.chain_fields-head-requires g c).After-members).3 in
     record {
       held = lies_held c.args.cells.now.heap c.args.region slot lies;
       lead = λ k s f. c.requires.lead slot k s lies f;
@@ -92,24 +85,11 @@ pub loop-place-preserved-then-mark-ne0 : goal.loop-place-preserved-then-mark-ne0
 loop-place-preserved-then-mark-ne0 g c = λ r e.
     let rec = c.requires.there.0 in
     let inv = c.loop-place.invariant rec c.requires.there.1 in
-    let at : record_at c.loop-place.regions c.args.key ≡ Some rec =
-    ap (λ (rs : List (Option Record)). get_or rs c.args.key None) inv.0.records
-    ∙ c.requires.there.1 in
-    let mem : rec.members ≡ c.members.result.now = same_members _ rec c.members.result.now at c.members.ensures in
-    let end : rec.members ≡ c.members-place-end.result.now =
-    same_members _ rec c.members-place-end.result.now c.requires.there.1
-    c.members-place-end.ensures in
-    let room : c.loop-place.place < length rec.members =
-    omega (arith, ap (length {A = ℕ}) end, c.loop-place-test.true) in
+    let m = member g (goal.at.loop-place-preserved-then-mark-ne0 g c).After-members in
     let slot : ℕ = get_or c.members.result.now c.loop-place.place 0 in
-    let is : get_or rec.members c.loop-place.place 0 ≡ slot = ap (λ (z : List ℕ). get_or z c.loop-place.place 0) mem in
     let black : get_or c.args.cells.now.marks slot 0 ≢ 0 = λ q. c.if-mark-ne0.true (c.mark.ensures ∙ q) in
-    let more = sum_by_more (if_white c.args.cells.now.heap c.args.cells.now.marks) rec.members c.loop-place.place 0
-    room in
     let none = black-width c.args.cells.now.heap c.args.cells.now.marks slot black in
-    let same : if_white c.args.cells.now.heap c.args.cells.now.marks (get_or rec.members c.loop-place.place 0)
-    ≡ if_white c.args.cells.now.heap c.args.cells.now.marks slot =
-    ap (if_white c.args.cells.now.heap c.args.cells.now.marks) is in
+    let more = weighs g (goal.at.loop-place-preserved-then-mark-ne0 g c).After-members in
     let G : Record → Type 0 = λ z. FollowsWhite c.args.cells.now.heap c.args.cells.now.marks c.args.region z.members
     (c.loop-place.place + 1)
     c.args.regions.now c.loop-place.regions c.loop-place.head
@@ -118,32 +98,19 @@ loop-place-preserved-then-mark-ne0 g c = λ r e.
     subst G (same_Some rec r (sym c.requires.there.1 ∙ e)) (
       searched-black c.args.cells.now.heap c.args.cells.now.marks c.args.region rec.members c.loop-place.place slot
           c.args.regions.now
-          c.loop-place.regions c.loop-place.head is black inv.0,
-      omega (arith, inv.1, more, none, same),
+          c.loop-place.regions c.loop-place.head m.2 black inv.0,
+      omega (arith, inv.1, more, none),
     )
 
 pub loop-place-preserved : goal.loop-place-preserved
 loop-place-preserved g c = λ r e.
     let rec = c.requires.there.0 in
     let inv = c.loop-place.invariant rec c.requires.there.1 in
-    let at : record_at c.loop-place.regions c.args.key ≡ Some rec =
-    ap (λ (rs : List (Option Record)). get_or rs c.args.key None) inv.0.records
-    ∙ c.requires.there.1 in
-    let mem : rec.members ≡ c.members.result.now = same_members _ rec c.members.result.now at c.members.ensures in
-    let end : rec.members ≡ c.members-place-end.result.now =
-    same_members _ rec c.members-place-end.result.now c.requires.there.1
-    c.members-place-end.ensures in
-    let room : c.loop-place.place < length rec.members =
-    omega (arith, ap (length {A = ℕ}) end, c.loop-place-test.true) in
+    let m = member g (goal.at.loop-place-preserved g c).After-members in
     let slot : ℕ = get_or c.members.result.now c.loop-place.place 0 in
-    let is : get_or rec.members c.loop-place.place 0 ≡ slot = ap (λ (z : List ℕ). get_or z c.loop-place.place 0) mem in
     let white : get_or c.args.cells.now.marks slot 0 ≡ 0 = sym c.mark.ensures ∙ c.if-mark-ne0.false in
-    let more = sum_by_more (if_white c.args.cells.now.heap c.args.cells.now.marks) rec.members c.loop-place.place 0
-    room in
     let wide = white-width c.args.cells.now.heap c.args.cells.now.marks slot white in
-    let same : if_white c.args.cells.now.heap c.args.cells.now.marks (get_or rec.members c.loop-place.place 0)
-    ≡ if_white c.args.cells.now.heap c.args.cells.now.marks slot =
-    ap (if_white c.args.cells.now.heap c.args.cells.now.marks) is in
+    let more = weighs g (goal.at.loop-place-preserved g c).After-members in
     let G : Record → Type 0 = λ z. FollowsWhite c.args.cells.now.heap c.args.cells.now.marks c.args.region z.members
     (c.loop-place.place + 1)
     c.args.regions.now c.chain_fields-head.new.regions c.chain_fields-head.result
@@ -153,9 +120,9 @@ loop-place-preserved g c = λ r e.
       searched-white c.args.cells.now.heap c.args.cells.now.marks c.args.region rec.members c.loop-place.place slot
           c.args.regions.now
           c.loop-place.regions c.chain_fields-head.new.regions c.loop-place.head c.chain_fields-head.result
-          c.requires.there.2 room is white
+          c.requires.there.2 m.1 m.2 white
           c.chain_fields-head.ensures.fields inv.0,
-      omega (arith, inv.1, more, wide, same, c.chain_fields-head.ensures.cost),
+      omega (arith, inv.1, more, wide, c.chain_fields-head.ensures.cost),
     )
 
 pub returns : goal.returns

@@ -11,6 +11,7 @@ use Rattle.rg_frames.specs.Stack.{Stack, IsTop, IsShown}
 use Rattle.rg_frames.proofs.Unwriting.{lies-set}
 use Rattle.rg_frames.proofs.Raised.{unwritten-live, unwritten-over}
 use Rattle.rg_frames.proofs.frames.Frames.set_shown.Goals as goal
+use Rattle.rg_frames.proofs.frames.Frames.set_shown.Goals.{After-index}
 
 -- the window on top is the last one
 is_last : (ws : List Window) (n : ℕ) (t u : Window) → n ≡ length ws → slice_get ws (length ws - 1) ≡ Some t → u ≡ get_or ws (n - 1) u → t ≡ u
@@ -25,6 +26,14 @@ shown_within : (v : Stack) (k n : ℕ) (u : Window) → IsShown v k → n ≡ le
 shown_within v k n u h m f =
     let same : h.0.base ≡ u.base = ap (λ (w : Window). w.base) (is_last v.windows n h.0 u m h.1 f) in
     omega (arith, same, h.2, length-drop h.0.base v.slots)
+
+-- the window that was read is the one on top
+top_is : (c : After-index) (t : Window) → IsTop c.args.self.now t → t ≡ c.index.result.now
+top_is c t e =
+    let s = c.self.inside in
+    let P : Stack → Type 0 = λ v. IsTop v t in
+    is_last s.windows.items c.len.result t c.index.result.now (omega (arith, c.len.ensures, s.windows.ok.0)) (subst P (sym c.self.view_is) e)
+    c.index.ensures
 
 pub invariant_of-self : goal.invariant_of-self
 invariant_of-self c =
@@ -62,20 +71,12 @@ invariant_of-self-else-eq c =
 
 pub returns-then-eq : goal.returns-then-eq
 returns-then-eq c = λ t e.
-    let s = c.self.inside in
-    let P : Stack → Type 0 = λ v. IsTop v t in
-    let same : t ≡ c.index.result.now =
-    is_last s.windows.items c.len.result t c.index.result.now (omega (arith, c.len.ensures, s.windows.ok.0)) (subst P (sym c.self.view_is) e)
-    c.index.ensures in
-    let long = length-set s.slots.items (c.index.result.now.base + c.args.k) c.args.w in
+    let same = top_is (goal.at.returns-then-eq c).After-index t e in
+    let long = length-set c.self.inside.slots.items (c.index.result.now.base + c.args.k) c.args.w in
     rw (← c.self.view_is, same, c.raise.ensures.len, c.raise.ensures.capacity, long) refl
 
 pub returns-else-eq : goal.returns-else-eq
 returns-else-eq c = λ t e.
-    let s = c.self.inside in
-    let P : Stack → Type 0 = λ v. IsTop v t in
-    let same : t ≡ c.index.result.now =
-    is_last s.windows.items c.len.result t c.index.result.now (omega (arith, c.len.ensures, s.windows.ok.0)) (subst P (sym c.self.view_is) e)
-    c.index.ensures in
-    let long = length-set s.slots.items (c.index.result.now.base + c.args.k) c.args.w in
+    let same = top_is (goal.at.returns-else-eq c).After-index t e in
+    let long = length-set c.self.inside.slots.items (c.index.result.now.base + c.args.k) c.args.w in
     rw (← c.self.view_is, same, long) refl

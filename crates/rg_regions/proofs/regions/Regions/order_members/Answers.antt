@@ -4,8 +4,8 @@ use Rattle.slab.specs.Slab.{Slab}
 use Rattle.rg_regions.specs.declared.region.Region.{Region}
 use Rattle.rg_regions.specs.Table.{Record, RegionTable, record_at, changed}
 use Rattle.rg_regions.specs.Ordered.{with_members}
-use Rattle.rg_regions.specs.Inner.Layout.{record_of, shown, table_of, IsIndexed}
-use Rattle.rg_regions.proofs.Written.{region_at, rewritten, indexed-written, shown-at}
+use Rattle.rg_regions.specs.Inner.Layout.{record_of, shown, table_of}
+use Rattle.rg_regions.proofs.Written.{region_at, rewritten, index-stays, shown-at}
 use Rattle.rg_regions.proofs.regions.Regions.order_members.Goals as goal
 
 pub order_members-requires : goal.order_members-requires
@@ -16,9 +16,7 @@ invariant_of-self c =
     let s = c.self.inside in
     let h = region_at s.records.slots s.next c.args.key c.args.self.now c.self.view_is c.requires in
     let n = c.order_members.ensures h.0 h.1 in
-    let P : Slab Region → Type 0 = λ p. IsIndexed s.keys.entries (table_of p.slots s.next) in
-    let number = ap (λ (z : Record). z.number) n.3 in
-    subst P (sym n.1) (indexed-written s.keys.entries s.records.slots s.next c.args.key h.0 n.0 h.1 number c.self.invariant)
+    index-stays s.keys.entries s.records _ s.next c.args.key h.0 n.0 h.1 n.1 (ap (λ (z : Record). z.number) n.3) c.self.invariant
 
 pub returns : goal.returns
 returns c =

@@ -1,9 +1,9 @@
-use Rattle.std.proofs.Common.{ap, ◌∙◌, subst, sym}
+use Rattle.std.proofs.Common.{ap, ◌∙◌}
 use Rattle.slab.specs.Slab.{Slab}
 use Rattle.rg_regions.specs.declared.region.Region.{Region}
 use Rattle.rg_regions.specs.Table.{Record, RegionTable, changed, with_member}
-use Rattle.rg_regions.specs.Inner.Layout.{table_of, IsIndexed}
-use Rattle.rg_regions.proofs.Written.{room_at, rewritten, indexed-written}
+use Rattle.rg_regions.specs.Inner.Layout.{table_of}
+use Rattle.rg_regions.proofs.Written.{room_at, rewritten, index-stays}
 use Rattle.rg_regions.proofs.regions.Regions.push_member.Goals as goal
 
 pub put_member-requires : goal.put_member-requires
@@ -16,9 +16,7 @@ invariant_of-self c =
     let s = c.self.inside in
     let h = room_at s.records.slots s.next c.args.key c.args.self.now c.requires.0 c.self.view_is c.requires.1 c.requires.2 in
     let n = c.put_member.ensures h.0 h.1 in
-    let P : Slab Region → Type 0 = λ p. IsIndexed s.keys.entries (table_of p.slots s.next) in
-    let number = ap (λ (z : Record). z.number) n.3 in
-    subst P (sym n.1) (indexed-written s.keys.entries s.records.slots s.next c.args.key h.0 n.0 h.1 number c.self.invariant)
+    index-stays s.keys.entries s.records _ s.next c.args.key h.0 n.0 h.1 n.1 (ap (λ (z : Record). z.number) n.3) c.self.invariant
 
 pub returns : goal.returns
 returns c =
