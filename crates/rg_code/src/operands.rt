@@ -1,7 +1,7 @@
 //! What stands in an instruction: its number, its name and its operands (docs/language.md,
 //! "Instructions and lowering").
 
-ghost use Rattle.std.specs.Prelude.{◌≡◌, ◌∷◌, [], max};
+ghost use Rattle.std.specs.Prelude.{◌≡◌, ◌∷◌, []};
 ghost use Rattle.rg_code.specs.Lowering.{above};
 ghost use Rattle.rg_code.specs.Operands as operands;
 ghost use Rattle.rg_code.specs.Operands.{form, listed, slots_in, above_all};
@@ -168,13 +168,6 @@ fn above_operand(operand: Operand) -> u64
     0
 }
 
-// The greater of two numbers.
-fn greater(a: u64, b: u64) -> u64
-    ensures { result ≡ max a b }
-{
-    if a < b { b } else { a }
-}
-
 /// The least number above the slots that an instruction names; the slot of `end` doesn't count.
 pub fn above(op: Op) -> u64
     ensures { result ≡ above op }
@@ -182,6 +175,6 @@ pub fn above(op: Op) -> u64
     match operands_of(op) {
         Operands::Nothing => 0,
         Operands::One(a) => above_operand(a),
-        Operands::Two(a, b) => greater(above_operand(a), above_operand(b)),
+        Operands::Two(a, b) => above_operand(a).max(above_operand(b)),
     }
 }

@@ -1,6 +1,7 @@
 //! A program of one's own that runs a program of the language (docs/embedding.md, "The top call"):
-//! its text stands here, its notes are taken into memory, and its pacers are those of another crate.
-//! Then it runs it once more, for some steps, and tells the objects that are held behind them.
+//! its text stands here, its notes are taken into memory, and its pacers are those of another
+//! crate. Then it runs it once more, for some steps, and tells the objects that are held behind
+//! them.
 #![tactic(auto)]
 
 mod shown;

@@ -1,8 +1,9 @@
 //! Calls on an object in memory, of which some are to fail (docs/architecture.md).
 
-ghost use Rattle.std.specs.Prelude.{◌≡◌, ◌↔◌, IsTrue, OnOk, OnErr};
+ghost use Rattle.std.specs.Prelude.{◌≡◌, ◌↔◌, IsTrue, IsErr, OnOk, OnErr};
 ghost use Rattle.rg_io.specs.Content.{one_more};
 
+use crate::failed::Failed;
 use rg_base::Memory;
 use std::alloc::Global;
 use std::marker::Model;
@@ -12,6 +13,14 @@ pub(crate) fn one_more(n: u64) -> u64
     ensures { result ≡ one_more n }
 {
     if n < u64::MAX { n + 1 } else { n }
+}
+
+/// Counts a fault, and says that the call failed.
+pub(crate) fn count_fault(faults: &mut u64) -> Failed
+    ensures { faults.new ≡ one_more faults.old }
+{
+    *faults = one_more(*faults);
+    Failed
 }
 
 /// How many calls were made, which are to fail, and how many failed. Calls are numbered from 1.
@@ -61,6 +70,20 @@ impl Calls {
         ensures { IsTrue result ↔ IsNextFailing self.now }
     {
         self.failing.contains(&one_more(self.made))
+    }
+
+    /// Counts the next call, and fails where it was named.
+    pub(crate) fn count(&mut self) -> Result<(), Failed>
+        ensures fails { IsErr result ↔ IsNextFailing self.old }
+        ensures passed { OnOk result (self.new ≡ with_call self.old) }
+        ensures refused { OnErr result (self.new ≡ with_fault self.old) }
+    {
+        if self.is_next_failing() {
+            self.fail();
+            return Err(Failed);
+        }
+        self.pass();
+        Ok(())
     }
 
     /// Counts a call that went well.

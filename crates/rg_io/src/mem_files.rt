@@ -112,11 +112,7 @@ impl Files for MemFiles {
         ensures refused { OnErr result (self.new ≡
             record self.old { calls = with_fault self.old.calls }) }
     {
-        if self.calls.is_next_failing() {
-            self.calls.fail();
-            return Err(Failed);
-        }
-        self.calls.pass();
+        self.calls.count()?;
         Ok(self.reading.read(buf))
     }
 }

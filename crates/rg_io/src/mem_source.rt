@@ -107,11 +107,7 @@ impl Source for MemSource {
         ensures refused { OnErr result (self.new ≡
             record self.old { calls = with_fault self.old.calls }) }
     {
-        if self.calls.is_next_failing() {
-            self.calls.fail();
-            return Err(Failed);
-        }
-        self.calls.pass();
+        self.calls.count()?;
         let left = bytes_from(&self.bytes, self.given);
         let n = buf.len().min(left.len()).min(self.largest);
         copy_first(left, buf, n);

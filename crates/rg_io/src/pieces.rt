@@ -26,8 +26,8 @@ pub(crate) fn copy_first(from: &[u8], to: &mut [u8], n: usize)
     to[..n].copy_from_slice(&from[..n]);
 }
 
-/// Reads a piece into the buffer, and leaves the buffer alone where that fails: what the system then
-/// left of its own copy isn't known.
+/// Reads a piece into the buffer, and leaves the buffer alone where that fails: what the system
+/// then left of its own copy isn't known.
 pub(crate) fn read_piece<R: Read>(system: &mut R, buf: &mut [u8]) -> Result<usize, Failed>
     ensures within { IfOk result (λ n. n ≤ length buf.new) }
     ensures buffer_kept { OnErr result (buf.new ≡ buf.old) }

@@ -5,7 +5,7 @@ ghost use Rattle.rg_io.specs.Content.{Rose, one_more};
 ghost use Rattle.rg_io.specs.Files.{Begins, Reads, NothingLeft};
 ghost use Rattle.rg_io.specs.Untold.{untold_files};
 
-use crate::calls::one_more;
+use crate::calls::count_fault;
 use crate::failed::Failed;
 use crate::files::Files;
 use crate::pieces::read_piece;
@@ -81,10 +81,7 @@ impl<R: SystemFiles> Files for StdFiles<R> {
                 self.file = Some(file);
                 Ok(())
             }
-            Err(_) => {
-                self.faults = one_more(self.faults);
-                Err(Failed)
-            }
+            Err(_) => Err(count_fault(&mut self.faults)),
         }
     }
 
@@ -104,10 +101,7 @@ impl<R: SystemFiles> Files for StdFiles<R> {
     {
         match read_on(&mut self.file, buf) {
             Ok(n) => Ok(n),
-            Err(Failed) => {
-                self.faults = one_more(self.faults);
-                Err(Failed)
-            }
+            Err(_) => Err(count_fault(&mut self.faults)),
         }
     }
 }

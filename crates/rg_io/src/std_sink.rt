@@ -4,7 +4,7 @@ ghost use Rattle.std.specs.Prelude.{◌≡◌, ◌≤◌, ◌<◌, length, take,
 ghost use Rattle.rg_io.specs.Content.{Rose, Appends, one_more};
 ghost use Rattle.rg_io.specs.Untold.{untold_bytes};
 
-use crate::calls::one_more;
+use crate::calls::count_fault;
 use crate::failed::Failed;
 use crate::sink::Sink;
 use std::io::Write;
@@ -60,7 +60,6 @@ impl<W: Write> Sink for StdSink<W> {
             }
             Err(_) => {}
         }
-        self.faults = one_more(self.faults);
-        Err(Failed)
+        Err(count_fault(&mut self.faults))
     }
 }

@@ -4,7 +4,7 @@ ghost use Rattle.std.specs.Prelude.{◌≡◌, ◌≤◌, ◌<◌, [], length, t
 ghost use Rattle.rg_io.specs.Content.{Rose, Gives, one_more};
 ghost use Rattle.rg_io.specs.Untold.{untold_bytes};
 
-use crate::calls::one_more;
+use crate::calls::count_fault;
 use crate::failed::Failed;
 use crate::pieces::read_piece;
 use crate::source::Source;
@@ -58,10 +58,7 @@ impl<R: Read> Source for StdSource<R> {
     {
         match read_piece(&mut self.system, buf) {
             Ok(n) => Ok(n),
-            Err(_) => {
-                self.faults = one_more(self.faults);
-                Err(Failed)
-            }
+            Err(_) => Err(count_fault(&mut self.faults)),
         }
     }
 }

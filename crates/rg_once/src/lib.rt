@@ -1,5 +1,5 @@
-//! That a step is determined (docs/architecture.md, "The stepper"): a law on the contract of a step,
-//! as a function whose contract it is.
+//! That a step is determined (docs/architecture.md, "The stepper"): a law on the contract of a
+//! step, as a function whose contract it is.
 #![tactic(auto)]
 
 mod laws;

@@ -191,9 +191,9 @@ no_more-row (Some (k.Mark s.Comma)) h i = absurd (h refl)
 no_more-row (Some (k.Mark s.CloseParen)) h i = absurd (i refl)
 no_more-row _ h i = refl
 
-pub params-none : {a m : State} {ks : List ℕ} → AlongParams a ks m → next m.rest ≢ Some (k.Mark s.Comma) → next m.rest ≢ Some (k.Mark s.CloseParen)
-    → Halts (the p.Params ∷ []) a (halt.At Syntax) m
-params-none (along {us = us} done m g reads halts) h i = halts (halt.At Syntax) _ (halts-none _ (no_more-row (next us) h i))
+pub params-none : {a m : State} {ks : List ℕ} (e : Halt) → AlongParams a ks m → next m.rest ≢ Some (k.Mark s.Comma)
+    → (e ≡ halt.At Syntax) × (next m.rest ≢ Some (k.Mark s.CloseParen)) → Halts (the p.Params ∷ []) a e m
+params-none e (along {us = us} done m g reads halts) h i = rw i.0 (halts (halt.At Syntax) _ (halts-none _ (no_more-row (next us) h i.1)))
 
 pub params-end : {a m n : State} {ks : List ℕ} {x : Span} → AlongParams a ks m → next m.rest ≡ Some (k.Mark s.CloseParen) → Kept m n
     → Means numbers_of IsListed n.tables x ks → FoundParams a x n

@@ -10,9 +10,10 @@ use Rattle.rg_tree.proofs.Callers.{Keeps-same, Keeps-trans}
 use Rattle.rg_base.specs.declared.token.Kind.{Kind}
 use Rattle.rg_base.specs.declared.token.Token.{Token}
 use Rattle.rg_tree.specs.declared.counts.Counts.{Counts}
+use Rattle.rg_tree.specs.Keeps.{Keeps}
 use Rattle.rg_tree.specs.Adds.{Means}
 use Rattle.rg_tree.proofs.Adding.{name-means, means-kept}
-use Rattle.rg_parse.specs.Inner.Steps.{State, Extends, Found, found, Took, took, took_brace, took_paren, Signed, signed}
+use Rattle.rg_parse.specs.Inner.Steps.{State, Extends, Kept, kept, Found, found, Took, took, took_brace, took_paren, Signed, signed}
 
 pub order-means : {t : Tables} (s : Span) (ks : List ℕ) → Holds t s ks → Means numbers_of IsListed t s ks
 order-means s ks h = record { is = λ u k. (Holds-keeps k s ks h).these_are; there = λ u k. (Holds-keeps k s ks h).within }
@@ -24,6 +25,11 @@ extends-same t = record { keeps = Keeps-same t; classes = refl }
 
 pub extends-trans : {t u v : Tables} → Extends t u → Extends u v → Extends t v
 extends-trans a b = record { keeps = Keeps-trans a.keeps b.keeps; classes = b.classes ∙ a.classes }
+
+-- nothing is read where rows of no class are added
+pub kept-with : {source : List ℕ} {ts : List Token} {c : Counts} {u v : Tables} → Keeps u v → v.classes ≡ u.classes
+    → Kept (record { source = source; rest = ts; counts = c; tables = u }) (record { source = source; rest = ts; counts = c; tables = v })
+kept-with k e = kept (record { keeps = k; classes = e })
 
 -- what a row stands for stays
 pub means-later : {V A : Type 0} {tree : Tables → V → A} {exists : Tables → V → Type 0} {t u : Tables} {v : V} {a : A} → Means tree exists t v a

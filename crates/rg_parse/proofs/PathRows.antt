@@ -241,9 +241,9 @@ no_more-row (Some (k.Mark s.Comma)) h i = absurd (h refl)
 no_more-row (Some (k.Mark s.CloseParen)) h i = absurd (i refl)
 no_more-row _ h i = refl
 
-pub args-none : {a m : State} {ks : List ℕ} → AlongArgs a ks m → next m.rest ≢ Some (k.Mark s.Comma) → next m.rest ≢ Some (k.Mark s.CloseParen)
-    → Halts (the p.Args ∷ []) a (halt.At Syntax) m
-args-none (along {us = us} done m g reads halts) h i = halts (halt.At Syntax) _ (halts-none _ (no_more-row (next us) h i))
+pub args-none : {a m : State} {ks : List ℕ} (e : Halt) → AlongArgs a ks m → next m.rest ≢ Some (k.Mark s.Comma)
+    → (e ≡ halt.At Syntax) × (next m.rest ≢ Some (k.Mark s.CloseParen)) → Halts (the p.Args ∷ []) a e m
+args-none e (along {us = us} done m g reads halts) h i = rw i.0 (halts (halt.At Syntax) _ (halts-none _ (no_more-row (next us) h i.1)))
 
 pub args-end : {a m n : State} {ks : List ℕ} {x : Span} → AlongArgs a ks m → next m.rest ≡ Some (k.Mark s.CloseParen) → Kept m n
     → Means numbers_of IsListed n.tables x ks → FoundArgs a x n

@@ -22,7 +22,7 @@ use crate::key::key_of;
 use crate::reader::halt::Halt;
 use crate::reader::kinds::is_same;
 use crate::reader::limits::{Role, behind, counted, one_sign};
-use rg_base::{Code, Kind, Token};
+use rg_base::{Code, Kind, Sign, Token};
 use rg_tree::{Counts, Program};
 use std::alloc::Global;
 use std::marker::Model;
@@ -103,6 +103,18 @@ impl<'a> Reader<'a> {
             [] => Ok(()),
             [_, ..] => Err(Halt::At(Code::Syntax)),
         }
+    }
+
+    /// A closing parenthesis is expected; it isn't passed.
+    pub(crate) fn closes(&self) -> Result<(), Halt>
+        ensures ok { OnOk result (next self.now.rest ≡ Some (Kind.Mark Sign.CloseParen)) }
+        ensures fault { IfErr result (λ e. (e ≡ Halt.At Code.Syntax)
+            × (next self.now.rest ≢ Some (Kind.Mark Sign.CloseParen))) }
+    {
+        if !self.is_next(Kind::Mark(Sign::CloseParen)) {
+            return Err(Halt::At(Code::Syntax));
+        }
+        Ok(())
     }
 
     /// The kind of the token that stands next; none at the end.

@@ -173,9 +173,7 @@ impl<'a> Reader<'a> {
             let param = self.param()?;
             keep(&mut numbers, param)?;
         }
-        if !self.is_next(Kind::Mark(Sign::CloseParen)) {
-            return Err(Halt::At(Code::Syntax));
-        }
+        self.closes()?;
         let span = self.add_order(&numbers)?;
         Ok(span)
     }

@@ -215,9 +215,7 @@ impl<'a> Reader<'a> {
             let arg = self.expr()?;
             keep(&mut numbers, arg)?;
         }
-        if !self.is_next(Kind::Mark(Sign::CloseParen)) {
-            return Err(Halt::At(Code::Syntax));
-        }
+        self.closes()?;
         let span = self.add_order(&numbers)?;
         Ok(span)
     }

@@ -9,9 +9,6 @@ returns-clause-classed c = rw (← c.self.view_is) (classed (ap (λ r. r.classes
 pub add_class-requires : goal.add_class-requires
 add_class-requires c = rw (← c.self.view_is) at c.requires
 
-pub invariant_of-self : goal.invariant_of-self
-invariant_of-self c = c.self.invariant
-
 pub returns-in_err-_number-clause-classed : goal.returns-in_err-_number-clause-classed
 returns-in_err-_number-clause-classed c = no-ok _ _ c.from_residual.ensures.0
 
@@ -20,9 +17,6 @@ returns-in_err-_number-clause-shorter c = no-ok _ _ c.from_residual.ensures.0
 
 pub returns-in_err-_number-clause-fault : goal.returns-in_err-_number-clause-fault
 returns-in_err-_number-clause-fault c = no-memory _ c.from_residual.ensures.1
-
-pub invariant_of-self-2 : goal.invariant_of-self-2
-invariant_of-self-2 c = c.self.invariant
 
 pub returns-clause-shorter : goal.returns-clause-shorter
 returns-clause-shorter c = rw (← c.self.view_is) (omega arith)

@@ -13,9 +13,6 @@ returns-clause-kept c =
 pub returns-clause-means : goal.returns-clause-means
 returns-clause-means c = order-means c.in_ok-span.span c.args.numbers.now c.in_ok-span.ensures.span
 
-pub invariant_of-self : goal.invariant_of-self
-invariant_of-self c = c.self.invariant
-
 pub returns-in_err-span-clause-kept : goal.returns-in_err-span-clause-kept
 returns-in_err-span-clause-kept c = no-ok _ _ c.from_residual.ensures.0
 
@@ -27,9 +24,6 @@ returns-in_err-span-clause-shorter c = no-ok _ _ c.from_residual.ensures.0
 
 pub returns-in_err-span-clause-fault : goal.returns-in_err-span-clause-fault
 returns-in_err-span-clause-fault c = no-memory _ c.from_residual.ensures.1
-
-pub invariant_of-self-2 : goal.invariant_of-self-2
-invariant_of-self-2 c = c.self.invariant
 
 pub returns-clause-shorter : goal.returns-clause-shorter
 returns-clause-shorter c = rw (← c.self.view_is) (omega arith)

@@ -32,9 +32,10 @@ loop-self-preserved c = record {
       (arith, c.in_ok-take.ensures.shorter, c.in_ok-param.ensures.shorter);
 }
 
-pub returns-then-not-is_next-clause-fault : goal.returns-then-not-is_next-clause-fault
-returns-then-not-is_next-clause-fault c = params-none c.loop-self.invariant.read c.loop-self-test.ensures c.if-not-is_next.ensures
+pub returns-in_err-closes-clause-fault : goal.returns-in_err-closes-clause-fault
+returns-in_err-closes-clause-fault c = exit _ c.from_residual-in_err-closes.ensures.1
+    (params-none _ c.loop-self.invariant.read c.loop-self-test.ensures c.in_err-closes.ensures.fault)
 
 pub returns-clause-ok : goal.returns-clause-ok
-returns-clause-ok c = params-end c.loop-self.invariant.read c.if-not-is_next.ensures c.in_ok-span.ensures.kept
+returns-clause-ok c = params-end c.loop-self.invariant.read c.in_ok-closes.ensures.ok c.in_ok-span.ensures.kept
     (rw c.deref.ensures.value at c.in_ok-span.ensures.means)
