@@ -21,9 +21,9 @@ use Rattle.rg_stack.proofs.Basics.{none-some}
 use Rattle.rg_held.specs.Gone.{gone}
 use Rattle.rg_held.specs.Part.{leads_to, Placed, Tidy, Part, is_of, OwnerHeld, OwnersHeld, may_lead}
 use Rattle.rg_held.proofs.Parts.Half.{around-objects, tidy-objects, whole}
-use Rattle.rg_held.proofs.Parts.Part.{slot-over}
+use Rattle.rg_held.proofs.Parts.Part.{owners-over, slot-over}
 use Rattle.rg_held.proofs.Lists.{off, any-at}
-use Rattle.rg_held.proofs.Places.{clash, into-label, label-into, open-more}
+use Rattle.rg_held.proofs.Places.{clash, into-label, label-into}
 
 -- a label behind it
 abbrev pub other_label : List ℕ → Label → Label → Label
@@ -139,28 +139,23 @@ module _ (held : ℕ → Truth) (owners : List Val) (f m : Machine) (stack : Lis
 
   window-owners : (ws : List Window) → ((r : ℕ) → is_open ws r ≡ true → is_open m.windows r ≡ true) → OwnersHeld held m.store ws
       → OwnersHeld held store ws
-  window-owners [] opened h = tt
-  window-owners (w ∷ ws) opened h = (by w.owner h.0, window-owners ws (λ r e. opened r (open-more w ws r e)) h.1)
+  window-owners ws opened h = owners-over held held m.store store ws (λ vs a o up here at is. (
+    here,
+    (
+      relabelled_object rs new o,
+      there-still a o at,
+      ap (is_of vs) (label-is (in_regions rs o.label) o ∙ ap (λ b. if b then new else o.label) (stays vs (λ r e. opened r (up r e)) o.label is)) ∙ is,
+    ),
+  )) h
     where
-      stays : (l : Label) → is_of ws l ≡ true → in_regions rs l ≡ false
-      stays (Region r) h = elim (cases_Bool (in_regions rs (Region r))) [
-        | inl i ↦ clash (is_open m.windows r) (opened r (open-more w ws r h)) (shut r (among-in rs r i))
+      stays : (vs : List Window) → ((r : ℕ) → is_open vs r ≡ true → is_open m.windows r ≡ true) → (l : Label) → is_of vs l ≡ true
+          → in_regions rs l ≡ false
+      stays vs up (Region r) h = elim (cases_Bool (in_regions rs (Region r))) [
+        | inl i ↦ clash (is_open m.windows r) (up r h) (shut r (among-in rs r i))
         | inr n ↦ n
       ]
-      stays (Temp n) h = refl
-      stays Frozen h = off h
-
-      by : (at : Option Place) → OwnerHeld held m.store ws at → OwnerHeld held store ws at
-      by None h = tt
-      by (Some (place.Var i j)) h = tt
-      by (Some (place.Field a k)) h = (
-        h.0,
-        (
-          relabelled_object rs new h.1.0,
-          there-still a h.1.0 h.1.1,
-          ap (is_of ws) (label-is (in_regions rs h.1.0.label) h.1.0 ∙ ap (λ b. if b then new else h.1.0.label) (stays h.1.0.label h.1.2)) ∙ h.1.2,
-        ),
-      )
+      stays vs up (Temp n) h = refl
+      stays vs up Frozen h = off h
 
   same : (a : ℕ) → held a ≡ true → slice_get (relabelled rf new f.store) a ≡ slice_get store a
   same a h = slice_get-map (relabelled_object rf new) f.store a ∙ ap (option_map (relabelled_object rf new)) (p.same a h)

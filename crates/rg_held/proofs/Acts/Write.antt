@@ -23,7 +23,7 @@ use Rattle.rg_held.specs.Part.{leads_to, AllLead, Placed, Part, is_of, OwnerHeld
 use Rattle.rg_held.proofs.Lists.{set-back, set-old, set-apart}
 use Rattle.rg_held.proofs.Places.{clash, field-into}
 use Rattle.rg_held.proofs.Parts.Half.{around-objects, tidy-objects, whole}
-use Rattle.rg_held.proofs.Parts.Part.{lead-more, slot-over, field-over}
+use Rattle.rg_held.proofs.Parts.Part.{owners-over, lead-more, slot-over, field-over}
 
 module _ (held : ℕ → Truth) (owners : List Val) (f m : Machine) (stack : List Val) (a : ℕ) (o : Seen) (k : ℕ) (v : Val)
     (p : Part held owners f m stack) (here : held a ≡ true) (there : slice_get m.store a ≡ Some o) (lead : leads_to held v ≡ true)
@@ -101,22 +101,16 @@ module _ (held : ℕ → Truth) (owners : List Val) (f m : Machine) (stack : Lis
   ]
 
   window-owners : (ws : List Window) → OwnersHeld held m.store ws → OwnersHeld held store ws
-  window-owners [] h = tt
-  window-owners (w ∷ ws) h = (by w.owner h.0, window-owners ws h.1)
+  window-owners ws h = owners-over held held m.store store ws (λ vs b q up here at is. (here, of vs b q at is)) h
     where
-      of : (b : ℕ) (q : Seen) → slice_get m.store b ≡ Some q → is_of ws q.label ≡ true
-          → (q : Seen) × (slice_get store b ≡ Some q) × (is_of ws q.label ≡ true)
-      of b q at is = elim (set-old m.store a b n q at) [
+      of : (vs : List Window) (b : ℕ) (q : Seen) → slice_get m.store b ≡ Some q → is_of vs q.label ≡ true
+          → (q : Seen) × (slice_get store b ≡ Some q) × (is_of vs q.label ≡ true)
+      of vs b q at is = elim (set-old m.store a b n q at) [
         | inl same ↦
             (let e : o ≡ q = same_Some o q (sym there ∙ ap (slice_get m.store) same ∙ at) in
-            (n, ap (slice_get store) (sym same) ∙ get-set m.store a n o there, ap (λ (q : Seen). is_of ws q.label) e ∙ is))
+            (n, ap (slice_get store) (sym same) ∙ get-set m.store a n o there, ap (λ (q : Seen). is_of vs q.label) e ∙ is))
         | inr stays ↦ (q, stays, is)
       ]
-
-      by : (at : Option Place) → OwnerHeld held m.store ws at → OwnerHeld held store ws at
-      by None h = tt
-      by (Some (place.Var i j)) h = tt
-      by (Some (place.Field b j)) h = (h.0, of b h.1.0 h.1.1 h.1.2)
 
   size : length store ≡ length m.store
   size = length-set m.store a n

@@ -1,23 +1,25 @@
 -- What the two machines share, and changes of both that leave objects as they are.
 use Rattle.std.proofs.Common.{◌≡◌, ◌≤◌, ℕ, zero, suc, ◌-◌, ◌^◌, ◌==◌, ◌⊎◌, inl, inr, true, false, true≢false, Bool as Truth, List, [], ◌∷◌}
-use Rattle.std.proofs.Common.{Option, Some, None, option_and_then, option_map, length, refl, sym, ap, ◌∙◌, arith, slice_get}
+use Rattle.std.proofs.Common.{Option, Some, None, option_and_then, option_map, unwrap_or, length, refl, sym, ap, ◌∙◌, arith, slice_get}
 use Rattle.std.proofs.lemmas.Option.{same_Some}
 use Rattle.std.proofs.lemmas.Bool.{cases_Bool}
 use Rattle.std.specs.Prelude.{◌||◌, if◌then◌else◌}
 use Rattle.std.specs.List.{list_any}
 use Rattle.rg_base.specs.declared.object.Label.{Label}
 use Rattle.rg_base.specs.declared.object.Label.TheVariants.{Region, Temp, Frozen}
+use Rattle.rg_base.specs.declared.object.Place.{Place}
+use Rattle.rg_base.specs.declared.object.Place.TheVariants as place
 use Rattle.rg_base.specs.declared.object.Seen.{Seen}
 use Rattle.rg_base.specs.declared.value.Val.{Val}
 use Rattle.rg_base.specs.declared.words.Manager.{Manager}
 use Rattle.rg_base.specs.declared.value.Val.TheVariants as val
-use Rattle.rg_stack.specs.Machine.{Frame, Window, Machine, top_slots, with_slots}
+use Rattle.rg_stack.specs.Machine.{Frame, Window, Machine, slot_at, top_slots, with_slots}
 use Rattle.rg_stack.specs.Needs.{closed_of, closed_into}
 use Rattle.rg_stack.specs.Labels.{is_open, label_of, is_into, is_outside}
 use Rattle.rg_stack.proofs.Basics.{none-some, or-left}
 use Rattle.rg_held.specs.Gone.{gone}
-use Rattle.rg_held.specs.Part.{leads_to, AllLead, SlotInto, FieldInto, Placed, Part, is_shut_or_above}
-use Rattle.rg_held.proofs.Places.{clash, field-into, or-right, slot-into}
+use Rattle.rg_held.specs.Part.{leads_to, AllLead, SlotInto, FieldInto, OwnerHeld, OwnersHeld, Placed, Part, is_of, is_shut_or_above}
+use Rattle.rg_held.proofs.Places.{clash, field-into, open-more, or-right, slot-into}
 
 -- a closed region has none above it, and may be led to
 
@@ -103,6 +105,32 @@ pub top-slot : (fs : List Frame) (j : ℕ) (u : Val) → slice_get (top_slots fs
     → (g : Frame) × (slice_get fs 0 ≡ Some g) × (slice_get g.slots j ≡ Some u)
 top-slot [] j u e = none-some u e
 top-slot (f ∷ fs) j u e = (f, refl, e)
+
+-- what a slot of the topmost frame holds leads to what is held, where all slots do
+pub top-leads : (held : ℕ → Truth) (m : Machine) (s : ℕ)
+    → ((n : ℕ) (h : Frame) (s : ℕ) (v : Val) → slice_get m.frames n ≡ Some h → slice_get h.slots s ≡ Some v → leads_to held v ≡ true)
+    → leads_to held (slot_at m s) ≡ true
+top-leads held m s slots = by (slice_get (top_slots m.frames) s) refl
+  where
+    by : (o : Option Val) → slice_get (top_slots m.frames) s ≡ o → leads_to held (unwrap_or o val.Nil) ≡ true
+    by None e = refl
+    by (Some v) e = let h = top-slot m.frames s v e in slots 0 h.0 s v h.1 h.2
+
+-- owners of windows stay in what is held, where each object of a window beneath does
+pub owners-over : (held also : ℕ → Truth) (store next : List Seen) (ws : List Window)
+    → ((vs : List Window) (a : ℕ) (o : Seen) → ((r : ℕ) → is_open vs r ≡ true → is_open ws r ≡ true) → held a ≡ true → slice_get store a ≡ Some o
+    → is_of vs o.label ≡ true → (also a ≡ true) × ((q : Seen) × (slice_get next a ≡ Some q) × (is_of vs q.label ≡ true)))
+    → OwnersHeld held store ws → OwnersHeld also next ws
+owners-over held also store next [] stays h = tt
+owners-over held also store next (w ∷ ws) stays h = (
+  by w.owner h.0,
+  owners-over held also store next ws (λ vs a o up. stays vs a o (λ r e. open-more w ws r (up r e))) h.1,
+)
+  where
+    by : (at : Option Place) → OwnerHeld held store ws at → OwnerHeld also next ws at
+    by None h = tt
+    by (Some (place.Var i j)) h = tt
+    by (Some (place.Field a k)) h = stays ws a h.1.0 (λ r e. open-more w ws r e) h.0 h.1.1 h.1.2
 
 module _ (held : ℕ → Truth) (owners : List Val) (f m : Machine) (stack : List Val) (p : Part held owners f m stack) where
   -- what is held is seen the same
