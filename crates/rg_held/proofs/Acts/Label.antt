@@ -8,8 +8,6 @@ use Rattle.std.proofs.lemmas.Bool.{cases_Bool, ne_eqb}
 use Rattle.std.proofs.lemmas.Map.Keys.{any_passes_from_place}
 use Rattle.rg_base.specs.declared.object.Label.{Label}
 use Rattle.rg_base.specs.declared.object.Label.TheVariants.{Region, Temp, Frozen}
-use Rattle.rg_base.specs.declared.object.Place.{Place}
-use Rattle.rg_base.specs.declared.object.Place.TheVariants as place
 use Rattle.rg_base.specs.declared.object.Seen.{Seen}
 use Rattle.rg_base.specs.declared.value.Val.{Val}
 use Rattle.rg_base.specs.declared.value.Val.TheVariants as val
@@ -19,7 +17,7 @@ use Rattle.rg_stack.specs.Machine.{Window, Machine}
 use Rattle.rg_stack.specs.Labels.{is_open, label_of, is_into, is_outside}
 use Rattle.rg_stack.proofs.Basics.{none-some}
 use Rattle.rg_held.specs.Gone.{gone}
-use Rattle.rg_held.specs.Part.{leads_to, Placed, Tidy, Part, is_of, OwnerHeld, OwnersHeld, may_lead}
+use Rattle.rg_held.specs.Part.{leads_to, Placed, Tidy, Part, is_of, OwnersHeld, may_lead}
 use Rattle.rg_held.proofs.Parts.Half.{around-objects, tidy-objects, whole}
 use Rattle.rg_held.proofs.Parts.Part.{owners-over, slot-over}
 use Rattle.rg_held.proofs.Lists.{off, any-at}

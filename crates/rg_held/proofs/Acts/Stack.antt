@@ -20,7 +20,7 @@ use Rattle.rg_held.specs.Part.{leads_to, AllLead, Placed, Part}
 use Rattle.rg_held.specs.Ends.{Match, SameEnd}
 use Rattle.rg_held.specs.Laws.{owners_of, GoesOn}
 use Rattle.rg_held.proofs.Lists.{off}
-use Rattle.rg_held.proofs.Parts.Part.{top-leads, part-stack, part-owners, top-slot}
+use Rattle.rg_held.proofs.Parts.Part.{top-leads, part-stack, part-owners}
 
 -- another stack
 abbrev pub match-stack : (owners : List Val) (u w : Work) (stack left : List Val) (m : Match owners u w stack) → AllLead m.0 left

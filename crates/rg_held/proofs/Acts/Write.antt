@@ -8,8 +8,6 @@ use Rattle.std.proofs.lemmas.Option.{same_Some}
 use Rattle.std.proofs.lemmas.Bool.{eqb-true, cases_Bool}
 use Rattle.rg_base.specs.declared.object.Label.{Label}
 use Rattle.rg_base.specs.declared.object.Label.TheVariants.{Region}
-use Rattle.rg_base.specs.declared.object.Place.{Place}
-use Rattle.rg_base.specs.declared.object.Place.TheVariants as place
 use Rattle.rg_base.specs.declared.object.Seen.{Seen}
 use Rattle.rg_base.specs.declared.value.Val.{Val}
 use Rattle.rg_base.specs.declared.value.Val.TheVariants as val
@@ -19,7 +17,7 @@ use Rattle.rg_stack.specs.Effects.{with_value_in}
 use Rattle.rg_stack.specs.Needs.{field_of}
 use Rattle.rg_stack.specs.Labels.{is_open, label_of, lies_in, is_into, is_outside}
 use Rattle.rg_held.specs.Gone.{gone}
-use Rattle.rg_held.specs.Part.{leads_to, AllLead, Placed, Part, is_of, OwnerHeld, OwnersHeld, may_lead}
+use Rattle.rg_held.specs.Part.{leads_to, AllLead, Placed, Part, is_of, OwnersHeld, may_lead}
 use Rattle.rg_held.proofs.Lists.{set-back, set-old, set-apart}
 use Rattle.rg_held.proofs.Places.{clash, field-into}
 use Rattle.rg_held.proofs.Parts.Half.{around-objects, tidy-objects, whole}

@@ -23,13 +23,12 @@ use Rattle.rg_rules.specs.Evaluation.{object_at}
 use Rattle.rg_rules.specs.Regions.{region_of}
 use Rattle.rg_rules.specs.Values.{as_bool}
 use Rattle.rg_sound.proofs.LocalRoots.{label-region}
-use Rattle.rg_code.specs.declared.code.Entry.{Entry}
 use Rattle.rg_code.specs.declared.op.Op.{Op}
 use Rattle.rg_code.specs.declared.op.Op.TheVariants as i
 use Rattle.rg_code.specs.Code.{Code}
-use Rattle.rg_stack.specs.Machine.{Frame, Window, slot_at, place_of, slots_below}
-use Rattle.rg_stack.specs.Effects.{Work, Walked, Stops, Returns, Traps, Stuck, Go, begins_by}
-use Rattle.rg_stack.specs.Effects.{called, returned, entered, relabel, without_top, top_region, with_store, put_in, stored}
+use Rattle.rg_stack.specs.Machine.{Window, slot_at, place_of}
+use Rattle.rg_stack.specs.Effects.{Work, Walked, Traps, Stuck, Go}
+use Rattle.rg_stack.specs.Effects.{entered, relabel, without_top, top_region, with_store, put_in, stored}
 use Rattle.rg_stack.specs.Needs.{needs}
 use Rattle.rg_stack.specs.Labels.{is_open}
 use Rattle.rg_stack.proofs.Basics.{none-some}

@@ -15,7 +15,7 @@ use Rattle.rg_base.proofs.Callers.Labels.{temp-region}
 use Rattle.rg_rules.specs.Regions.{region_of, region_at}
 use Rattle.rg_stack.specs.Machine.{Frame, Window, Machine}
 use Rattle.rg_stack.specs.Effects.{top_region}
-use Rattle.rg_stack.specs.Needs.{owned_once, places_into}
+use Rattle.rg_stack.specs.Needs.{owned_once}
 use Rattle.rg_stack.specs.Labels.{is_open, has_window, lies_in, is_into, is_outside}
 use Rattle.rg_stack.proofs.Basics.{none-some}
 use Rattle.rg_stack.proofs.Callers.Lead.{region-label}
@@ -23,7 +23,7 @@ use Rattle.rg_held.specs.Gone.{gone}
 use Rattle.rg_held.specs.Part.{leads_to, SlotInto, FieldInto, Placed, Part, is_of, OwnerHeld, OwnersHeld, is_shut_or_above, may_lead, Differ}
 use Rattle.rg_held.specs.Gather.{KeepsOf, Keeps, LinkOut, Loses, first, further, Gathered}
 use Rattle.rg_held.proofs.Lists.{off}
-use Rattle.rg_held.proofs.Places.{or-right, clash, field-into, into-back, once, slot-into}
+use Rattle.rg_held.proofs.Places.{or-right, clash, field-into, into-back, slot-into}
 use Rattle.rg_held.proofs.Places.{slot-field, field-field}
 use Rattle.rg_held.proofs.Parts.Part.{shut-above}
 use Rattle.rg_held.proofs.Parts.Burial.{same-region}
