@@ -25,10 +25,44 @@ pub or-right : (a b : Truth) → (a || b) ≡ false → b ≡ false
 or-right true b e = absurd (true≢false e)
 or-right false b e = e
 
+-- a slot, and a field from outside, that lead into a region
+abbrev pub slot-into : {m : Machine} {r : ℕ} (n s : ℕ) (h : Frame) (v : Val) → slice_get m.frames n ≡ Some h → slice_get h.slots s ≡ Some v
+    → is_into m.store r v ≡ true → SlotInto m r
+slot-into n s h v there at into = record {
+  frame = n;
+  slot = s;
+  holder = h;
+  value = v;
+  holder_there = there;
+  value_there = at;
+  into = into;
+}
+
+abbrev pub field-into : {m : Machine} {r : ℕ} (a k : ℕ) (o : Seen) (v : Val) → slice_get m.store a ≡ Some o → slice_get o.fields k ≡ Some v
+    → is_outside m.windows r o.label ≡ true → is_into m.store r v ≡ true → FieldInto m r
+field-into a k o v there at outside into = record {
+  object = a;
+  field = k;
+  holder = o;
+  value = v;
+  holder_there = there;
+  value_there = at;
+  outside = outside;
+  into = into;
+}
+
 -- the region of the topmost window is open
 pub top-open : (ws : List Window) → SomeWindow ws → is_open ws (top_region ws) ≡ true
 top-open [] h = absurd h
 top-open (w ∷ ws) h = ap (λ b. b || is_open ws w.region) (eq-eqb w.region w.region refl)
+
+-- what is open beneath is open
+pub open-more : (w : Window) (ws : List Window) (r : ℕ) → is_open ws r ≡ true → is_open (w ∷ ws) r ≡ true
+open-more w ws r e = by (w.region == r)
+  where
+    by : (t : Truth) → (t || is_open ws r) ≡ true
+    by true = refl
+    by false = e
 
 pub clash : {B : Type 0} (b : Truth) → b ≡ true → b ≡ false → B
 clash b t f = absurd (true≢false (sym t ∙ f))

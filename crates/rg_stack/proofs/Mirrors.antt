@@ -27,6 +27,25 @@ pub record MirrorsWork (classes : List Class) (code : Code) (before : List Val) 
   pub input : w.input ≡ p.input
   pub output : p.output ≡ with_printed before w.printed
 
+-- from its parts
+abbrev pub mirrors-work : (classes : List Class) (code : Code) (before : List Val) (w : Work) (p : State)
+    → ShowsFrames w.machine.frames p.frames → ShowsWindows (sizes_of w.machine.frames) w.machine.windows p.windows
+    → Lies classes code.ops (levels_of w.machine.frames p.frames) p.items w.machine.at
+    → w.machine.windows_made ≡ p.windows_made → w.machine.managers ≡ p.managers → w.machine.store ≡ p.store
+    → w.input ≡ p.input → p.output ≡ with_printed before w.printed → MirrorsWork classes code before w p
+mirrors-work classes code before w p slots windows places made managers store input output = record {
+  mirrors = record {
+    slots = slots;
+    windows = windows;
+    places = places;
+    windows_made = made;
+    managers = managers;
+    store = store;
+  };
+  input = input;
+  output = output;
+}
+
 -- the steps from a state of an output: both go on, both end, or both trap, at the same line
 abbrev pub SameMove : List Class → Code → (before : List Val) → Plain → Stepped → Type 0
 SameMove classes code before (Went p) (Goes w) = MirrorsWork classes code before w p × SomeLeft p.items

@@ -26,7 +26,7 @@ use Rattle.rg_held.specs.Part.{leads_to, Placed, Tidy, Part, may_lead, is_shut_o
 use Rattle.rg_held.specs.Ends.{Match, SameEnd}
 use Rattle.rg_held.specs.Laws.{owners_of, GoesOn}
 use Rattle.rg_held.proofs.Lists.{off, any-at}
-use Rattle.rg_held.proofs.Places.{clash, top-open}
+use Rattle.rg_held.proofs.Places.{clash, field-into, top-open}
 use Rattle.rg_held.proofs.Places.{label-there, region-into, closed-there, label-into}
 use Rattle.rg_held.proofs.Callers.Beneath.{Link, beneath-links, beneath-first, beneath-all}
 use Rattle.rg_held.proofs.Parts.Part.{shut-above, closed-above, part-owners}
@@ -202,17 +202,10 @@ module _ (held : ℕ → Truth) (f m : Machine) (stack : List Val) (p : Part hel
           by true from true to e = same-top q (same-region t q e)
           by true from false to e = own q l (p.tidy.inside a o r k v l there (in-one o.label from) at is) to
           by false from false to e = p.tidy.inside a o q k v l there e at is
-          by false from true to e = slot-and-field m p.tidy once r c (slot-at-into m s r into).0 (record {
-            object = a;
-            field = k;
-            holder = o;
-            value = v;
-            holder_there = there;
-            value_there = at;
-            outside = ap (is_outside m.windows r) e ∙ ap not (ne_eqb q r
-                (λ same. clash (in_regions (r ∷ []) o.label) (ap (in_regions (r ∷ [])) e ∙ in-among (r ∷ []) q (inl (sym same))) from));
-            into = label-into m.store r v (is ∙ ap Some (in-one l to));
-          })
+          by false from true to e = slot-and-field m p.tidy once r c (slot-at-into m s r into).0 (field-into a k o v there at
+              (ap (is_outside m.windows r) e ∙ ap not (ne_eqb q r
+              (λ same. clash (in_regions (r ∷ []) o.label) (ap (in_regions (r ∷ [])) e ∙ in-among (r ∷ []) q (inl (sym same))) from)))
+              (label-into m.store r v (is ∙ ap Some (in-one l to))))
 
   pub part-merge : Part held (slot_at m s ∷ stack) (put_slot (record f { store = relabelled (r ∷ []) (Region t) f.store }) s val.Nil)
       (put_slot (record m { store = relabelled (r ∷ []) (Region t) m.store }) s val.Nil) (slot_at m s ∷ stack)
@@ -284,20 +277,28 @@ module _ (code : Code) (at : ℕ) (also go : Go) (u w : Work) (taken : Truth) wh
   forgets-on : GoesOn true also go → GoesOn true forgets go
   forgets-on next stack x y m = next stack (forgotten x) y (match-forgets stack x y stack m)
 
+  -- no value on the stack owns, each closed region is owned once, and the slot owns one or is nil
+  lone : (s : ℕ) (stack : List Val) (m : Match stack u w stack)
+      → (not (list_any (is_closed w.machine) stack) && owned_once w.machine && owns_or_nil w.machine (slot_at w.machine s)) ≡ true
+      → Part m.0 [] u.machine w.machine stack × (owned_once w.machine ≡ true) × (owns_or_nil w.machine (slot_at w.machine s) ≡ true)
+  lone s stack m n =
+      let none = not (list_any (is_closed w.machine) stack) in
+      let first = and-left (none && owned_once w.machine) (owns_or_nil w.machine (slot_at w.machine s)) n in (
+        none-own m.0 u.machine w.machine stack
+            (not-true (list_any (is_closed w.machine) stack) (and-left none (owned_once w.machine) first)) m.1.machine,
+        and-right none (owned_once w.machine) first,
+        and-right (none && owned_once w.machine) (owns_or_nil w.machine (slot_at w.machine s)) n,
+      )
+
   pub freeze-same : (s : ℕ) (stack : List Val) → needs code (i.Freeze s) stack w.machine ≡ true → Match (owners_of taken stack) u w stack
       → GoesOn true also go → SameEnd (free_act code at (i.Freeze s) also stack u) (act code at (i.Freeze s) go stack w)
   freeze-same s stack n m next =
       let now = match-more taken u w stack m in
-      let none = not (list_any (is_closed w.machine) stack) in
-      let first = and-left (none && owned_once w.machine) (owns_or_nil w.machine (slot_at w.machine s)) n in
-      take-same forgets go u w s stack (relabel true Frozen u) (relabel true Frozen w)
-      (and-right (none && owned_once w.machine) (owns_or_nil w.machine (slot_at w.machine s)) n) now (forgets-on next) (λ r c into. (
+      let x = lone s stack now n in
+      take-same forgets go u w s stack (relabel true Frozen u) (relabel true Frozen w) x.2 now (forgets-on next) (λ r c into. (
         now.0,
         record {
-          machine = part-freeze now.0 u.machine w.machine stack
-              (none-own now.0 u.machine w.machine stack
-              (not-true (list_any (is_closed w.machine) stack) (and-left none (owned_once w.machine) first)) now.1.machine)
-              (and-right none (owned_once w.machine) first) s r c into;
+          machine = part-freeze now.0 u.machine w.machine stack x.0 x.1 s r c into;
           input = now.1.input;
           printed = now.1.printed;
         },
@@ -307,20 +308,15 @@ module _ (code : Code) (at : ℕ) (also go : Go) (u w : Work) (taken : Truth) wh
       → GoesOn true also go → SameEnd (free_act code at (i.Merge s) also stack u) (act code at (i.Merge s) go stack w)
   merge-same s stack n m next =
       let now = match-more taken u w stack m in
-      let none = not (list_any (is_closed w.machine) stack) in
-      let first = and-left (none && owned_once w.machine) (owns_or_nil w.machine (slot_at w.machine s)) n in
+      let x = lone s stack now n in
       subst (λ z. SameEnd (on_object u.machine.store (slot_at u.machine s)
       (λ o. forgets 0 (slot_at u.machine s ∷ stack) (stored (with_store u (relabel false (Region z) u (region_of o.label))) s val.Nil)))
       (act code at (i.Merge s) go stack w)) (sym (ap top_region now.1.machine.windows))
       (take-same forgets go u w s stack (relabel false (Region (top_region w.machine.windows)) u)
-      (relabel false (Region (top_region w.machine.windows)) w)
-      (and-right (none && owned_once w.machine) (owns_or_nil w.machine (slot_at w.machine s)) n) now (forgets-on next) (λ r c into. (
+      (relabel false (Region (top_region w.machine.windows)) w) x.2 now (forgets-on next) (λ r c into. (
         now.0,
         record {
-          machine = part-merge now.0 u.machine w.machine stack
-              (none-own now.0 u.machine w.machine stack
-              (not-true (list_any (is_closed w.machine) stack) (and-left none (owned_once w.machine) first)) now.1.machine)
-              (and-right none (owned_once w.machine) first) s r c into;
+          machine = part-merge now.0 u.machine w.machine stack x.0 x.1 s r c into;
           input = now.1.input;
           printed = now.1.printed;
         },

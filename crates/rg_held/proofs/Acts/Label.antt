@@ -8,8 +8,6 @@ use Rattle.std.proofs.lemmas.Bool.{cases_Bool, ne_eqb}
 use Rattle.std.proofs.lemmas.Map.Keys.{any_passes_from_place}
 use Rattle.rg_base.specs.declared.object.Label.{Label}
 use Rattle.rg_base.specs.declared.object.Label.TheVariants.{Region, Temp, Frozen}
-use Rattle.rg_base.specs.declared.object.Place.{Place}
-use Rattle.rg_base.specs.declared.object.Place.TheVariants as place
 use Rattle.rg_base.specs.declared.object.Seen.{Seen}
 use Rattle.rg_base.specs.declared.value.Val.{Val}
 use Rattle.rg_base.specs.declared.value.Val.TheVariants as val
@@ -19,8 +17,9 @@ use Rattle.rg_stack.specs.Machine.{Window, Machine}
 use Rattle.rg_stack.specs.Labels.{is_open, label_of, is_into, is_outside}
 use Rattle.rg_stack.proofs.Basics.{none-some}
 use Rattle.rg_held.specs.Gone.{gone}
-use Rattle.rg_held.specs.Part.{leads_to, Placed, Tidy, Part, is_of, OwnerHeld, OwnersHeld, may_lead}
-use Rattle.rg_held.proofs.Parts.Part.{slot-over}
+use Rattle.rg_held.specs.Part.{leads_to, Placed, Tidy, Part, is_of, OwnersHeld, may_lead}
+use Rattle.rg_held.proofs.Parts.Half.{around-objects, tidy-objects, whole}
+use Rattle.rg_held.proofs.Parts.Part.{owners-over, slot-over}
 use Rattle.rg_held.proofs.Lists.{off, any-at}
 use Rattle.rg_held.proofs.Places.{clash, into-label, label-into}
 
@@ -138,35 +137,23 @@ module _ (held : ℕ → Truth) (owners : List Val) (f m : Machine) (stack : Lis
 
   window-owners : (ws : List Window) → ((r : ℕ) → is_open ws r ≡ true → is_open m.windows r ≡ true) → OwnersHeld held m.store ws
       → OwnersHeld held store ws
-  window-owners [] opened h = tt
-  window-owners (w ∷ ws) opened h = (by w.owner h.0, window-owners ws (λ r e. opened r (more r e)) h.1)
+  window-owners ws opened h = owners-over held held m.store store ws (λ vs a o up here at is. (
+    here,
+    (
+      relabelled_object rs new o,
+      there-still a o at,
+      ap (is_of vs) (label-is (in_regions rs o.label) o ∙ ap (λ b. if b then new else o.label) (stays vs (λ r e. opened r (up r e)) o.label is)) ∙ is,
+    ),
+  )) h
     where
-      more : (r : ℕ) → is_open ws r ≡ true → is_open (w ∷ ws) r ≡ true
-      more r e = at (w.region == r)
-        where
-          at : (t : Truth) → (t || is_open ws r) ≡ true
-          at true = refl
-          at false = e
-
-      stays : (l : Label) → is_of ws l ≡ true → in_regions rs l ≡ false
-      stays (Region r) h = elim (cases_Bool (in_regions rs (Region r))) [
-        | inl i ↦ clash (is_open m.windows r) (opened r (more r h)) (shut r (among-in rs r i))
+      stays : (vs : List Window) → ((r : ℕ) → is_open vs r ≡ true → is_open m.windows r ≡ true) → (l : Label) → is_of vs l ≡ true
+          → in_regions rs l ≡ false
+      stays vs up (Region r) h = elim (cases_Bool (in_regions rs (Region r))) [
+        | inl i ↦ clash (is_open m.windows r) (up r h) (shut r (among-in rs r i))
         | inr n ↦ n
       ]
-      stays (Temp n) h = refl
-      stays Frozen h = off h
-
-      by : (at : Option Place) → OwnerHeld held m.store ws at → OwnerHeld held store ws at
-      by None h = tt
-      by (Some (place.Var i j)) h = tt
-      by (Some (place.Field a k)) h = (
-        h.0,
-        (
-          relabelled_object rs new h.1.0,
-          there-still a h.1.0 h.1.1,
-          ap (is_of ws) (label-is (in_regions rs h.1.0.label) h.1.0 ∙ ap (λ b. if b then new else h.1.0.label) (stays h.1.0.label h.1.2)) ∙ h.1.2,
-        ),
-      )
+      stays vs up (Temp n) h = refl
+      stays vs up Frozen h = off h
 
   same : (a : ℕ) → held a ≡ true → slice_get (relabelled rf new f.store) a ≡ slice_get store a
   same a h = slice_get-map (relabelled_object rf new) f.store a ∙ ap (option_map (relabelled_object rf new)) (p.same a h)
@@ -212,13 +199,8 @@ module _ (held : ℕ → Truth) (owners : List Val) (f m : Machine) (stack : Lis
       by false e = inl e
 
   pub part-relabel : Tidy next → Part held owners (record f { store = relabelled rf new f.store }) next stack
-  part-relabel tidy = record {
-    frames = p.frames;
-    windows = p.windows;
-    windows_made = p.windows_made;
-    at = p.at;
-    managers_made = p.managers_made;
-    open_managers = p.open_managers;
+  part-relabel tidy = whole held owners (record f { store = relabelled rf new f.store }) next stack (record {
+    around = around-objects held owners f m stack p (relabelled rf new f.store) store;
     held_managers = λ a h r e at lies. (let w = was a h at in elim (given w.before.label r (sym w.label ∙ lies)) [
       | inl old ↦ p.held_managers a w.before r e w.found old
       | inr opened ↦ p.open_managers r opened
@@ -228,8 +210,6 @@ module _ (held : ℕ → Truth) (owners : List Val) (f m : Machine) (stack : Lis
     same = same;
     others = others;
     temps = λ a h n e at lies. (let w = was a h at in p.temps a w.before n e w.found (temp-back w.before.label n (sym w.label ∙ lies)));
-    lost_temps = λ a h n e at lies. (let w = was a h at in
-        p.lost_temps a w.before n e w.found (temp-back w.before.label n (sym w.label ∙ lies)));
     slots = p.slots;
     on_stack = p.on_stack;
     fields = λ a h k v e at field. (let w = was a h at in
@@ -243,27 +223,23 @@ module _ (held : ℕ → Truth) (owners : List Val) (f m : Machine) (stack : Lis
         ]);
     window_owners = window-owners m.windows (λ r e. e) p.window_owners;
     tidy = tidy;
-  }
+  }) (λ a h n e at lies. (let w = was a h at in
+        p.lost_temps a w.before n e w.found (temp-back w.before.label n (sym w.label ∙ lies))))
 
   -- what always holds, where links lead as they may
   pub relabel-tidy : ((a : ℕ) (o : Seen) (k : ℕ) (v : Val) (l : Label) (q : ℕ) → slice_get m.store a ≡ Some o → slice_get o.fields k ≡ Some v
       → label_of m.store v ≡ Some l → other_label rs new o.label ≡ Region q → may_lead m.windows q (other_label rs new l) ≡ true) → Tidy next
-  relabel-tidy may = record {
-    some_window = p.tidy.some_window;
-    differ = p.tidy.differ;
-    numbers = p.tidy.numbers;
-    regions = p.tidy.regions;
-    labels = λ a h r at lies. (let w = was a h at in elim (given w.before.label r (sym w.label ∙ lies)) [
+  relabel-tidy may = tidy-objects m store p.tidy
+      (λ a h r at lies. (let w = was a h at in elim (given w.before.label r (sym w.label ∙ lies)) [
       | inl old ↦ p.tidy.labels a w.before r w.found old
       | inr opened ↦ p.tidy.regions r opened
-    ]);
-    fields = λ a h k v at field. (let w = was a h at in ap (λ n. leads_to (λ b. nat_lt b n) v) (length-map m.store (relabelled_object rs new))
-        ∙ p.tidy.fields a w.before k v w.found (ap (λ vs. slice_get vs k) (sym w.fields) ∙ field));
-    inside = λ a h q k v l at lies field is. (let w = was a h at in
+    ]))
+      (λ a h k v at field. (let w = was a h at in ap (λ n. leads_to (λ b. nat_lt b n) v) (length-map m.store (relabelled_object rs new))
+        ∙ p.tidy.fields a w.before k v w.found (ap (λ vs. slice_get vs k) (sym w.fields) ∙ field)))
+      (λ a h q k v l at lies field is. (let w = was a h at in
         by q v l (label_of m.store v) refl (sym (label-map v) ∙ is) (λ j e. may a w.before k v j q w.found
         (ap (λ vs. slice_get vs k) (sym w.fields) ∙ field) e
-        (sym w.label ∙ lies)));
-  }
+        (sym w.label ∙ lies))))
     where
       by : (q : ℕ) (v : Val) (l : Label) (o : Option Label) → label_of m.store v ≡ o → option_map (other_label rs new) o ≡ Some l
           → ((j : Label) → label_of m.store v ≡ Some j → may_lead m.windows q (other_label rs new j) ≡ true) → may_lead m.windows q l ≡ true

@@ -31,7 +31,7 @@ use Rattle.rg_held.specs.Part.{may_lead, Differ}
 use Rattle.rg_held.specs.Ends.{Match, SameEnd}
 use Rattle.rg_held.specs.Laws.{owners_of, GoesOn}
 use Rattle.rg_held.proofs.Lists.{off, any-at, drop-back, reverse-back}
-use Rattle.rg_held.proofs.Places.{or-right, clash}
+use Rattle.rg_held.proofs.Places.{or-right, clash, field-into, slot-into}
 use Rattle.rg_held.proofs.Places.{closed-back, closed-there}
 use Rattle.rg_held.proofs.Parts.Part.{closed-above, field-frames, closed-same, top-slot, slot-over, field-over}
 use Rattle.rg_held.proofs.Parts.Half.{Half, Lost, whole}
@@ -147,12 +147,14 @@ module _ (held : ℕ → Truth) (f m : Machine) (p : Half held [] f m []) (w : W
 
   pub half-close : Half held [] (record f { windows = ws }) (record m { windows = ws }) []
   half-close = record {
-    frames = p.frames;
-    windows = refl;
-    windows_made = p.windows_made;
-    at = p.at;
-    managers_made = p.managers_made;
-    open_managers = λ r h. p.open_managers r (opened r h);
+    around = record {
+      frames = p.around.frames;
+      windows = refl;
+      windows_made = p.around.windows_made;
+      at = p.around.at;
+      managers_made = p.around.managers_made;
+      open_managers = λ r h. p.around.open_managers r (opened r h);
+    };
     held_managers = p.held_managers;
     objects_made = p.objects_made;
     there = p.there;
@@ -199,15 +201,7 @@ module _ (held : ℕ → Truth) (f m : Machine) (p : Half held [] f m []) (w v :
       by : (s : Option Val) → slice_get h.slots j ≡ s → is_into m.store w.region (unwrap_or s val.Nil) ≡ true
           → SlotInto (record m { windows = ws }) w.region
       by None at into = off into
-      by (Some x) at into = record {
-        frame = n;
-        slot = j;
-        holder = h;
-        value = x;
-        holder_there = there;
-        value_there = at;
-        into = into;
-      }
+      by (Some x) at into = slot-into n j h x there at into
 
   in-object : (a : ℕ) (h : Seen) (k : ℕ) → slice_get m.store a ≡ Some h → is_of ws h.label ≡ true → is_into m.store w.region (field_of h k) ≡ true
       → (l : FieldInto (record m { windows = ws }) w.region) × (l.object ≡ a)
@@ -224,19 +218,7 @@ module _ (held : ℕ → Truth) (f m : Machine) (p : Half held [] f m []) (w v :
       by : (s : Option Val) → slice_get h.fields k ≡ s → is_into m.store w.region (unwrap_or s val.Nil) ≡ true
           → (l : FieldInto (record m { windows = ws }) w.region) × (l.object ≡ a)
       by None at into = off into
-      by (Some x) at into = (
-        record {
-          object = a;
-          field = k;
-          holder = h;
-          value = x;
-          holder_there = there;
-          value_there = at;
-          outside = outside h.label of;
-          into = into;
-        },
-        refl,
-      )
+      by (Some x) at into = (field-into a k h x there at (outside h.label of) into, refl)
 
   pub owner-placed : Placed held (record m { windows = ws }) w.region
   owner-placed = by w.owner mine leads

@@ -24,7 +24,8 @@ use Rattle.rg_held.specs.Part.{leads_to, Placed, Part, OwnerHeld, OwnersHeld}
 use Rattle.rg_held.proofs.Lists.{off, push-back, push-old, push-below, push-past}
 use Rattle.rg_held.proofs.Lists.{any-at}
 use Rattle.rg_held.proofs.Places.{or-right, clash, region-into}
-use Rattle.rg_held.proofs.Parts.Part.{lead-any, lead-more, all-more, slot-over, field-over}
+use Rattle.rg_held.proofs.Parts.Half.{around-objects, tidy-objects, whole}
+use Rattle.rg_held.proofs.Parts.Part.{lead-any, lead-more, all-more, part-beside, slot-over, field-over}
 
 -- no reference
 abbrev pub Plain : Val → Type 0
@@ -45,45 +46,18 @@ plain-label store (val.Obj a) l h e = off h
 -- a region that is made
 pub part-region : (held : ℕ → Truth) (owners : List Val) (f m : Machine) (stack : List Val) (g : Manager) → Part held owners f m stack
     → Part held owners (record f { managers = f.managers ++ g ∷ [] }) (record m { managers = m.managers ++ g ∷ [] }) stack
-part-region held owners f m stack g p = record {
-  frames = p.frames;
-  windows = p.windows;
-  windows_made = p.windows_made;
-  at = p.at;
-  managers_made = (let a = length_push f.managers g in let b = length_push m.managers g in let c = p.managers_made in omega (arith, a, b, c));
-  open_managers = λ r o. below r (p.tidy.regions r o) (p.open_managers r o);
-  held_managers = λ a o r h there lies. below r (p.tidy.labels a o r there lies) (p.held_managers a o r h there lies);
-  objects_made = p.objects_made;
-  there = p.there;
-  same = p.same;
-  others = p.others;
-  temps = p.temps;
-  lost_temps = p.lost_temps;
-  slots = p.slots;
-  on_stack = p.on_stack;
-  fields = p.fields;
-  owned = λ a o r h there lies c. elim (p.owned a o r h there lies c) [ inl placed ↦ inl (stays r placed) | inr any ↦ inr any ];
-  window_owners = p.window_owners;
-  tidy = record {
-    some_window = p.tidy.some_window;
-    differ = p.tidy.differ;
-    numbers = p.tidy.numbers;
-    regions = λ r o. (let a = p.tidy.regions r o in let b = length_push m.managers g in omega (arith, a, b));
-    labels = λ a o r there lies. (let x = p.tidy.labels a o r there lies in let b = length_push m.managers g in omega (arith, x, b));
-    fields = p.tidy.fields;
-    inside = p.tidy.inside;
-  };
-}
+part-region held owners f m stack g p =
+    part-beside held owners f m stack p f.frames m.frames (f.managers ++ g ∷ []) (m.managers ++ g ∷ []) f.at m.at owners stack p.frames p.at
+    (let a = length_push f.managers g in let b = length_push m.managers g in let c = p.managers_made in omega (arith, a, b, c))
+    (let b = length_push m.managers g in omega (arith, b)) (λ r o. below r (p.tidy.regions r o) (p.open_managers r o))
+    (λ a o r h there lies. below r (p.tidy.labels a o r there lies) (p.held_managers a o r h there lies)) p.slots p.on_stack
+    (λ r c s. inl (slot-over m (record m { managers = m.managers ++ g ∷ [] }) r s s.holder_there s.into)) (λ r c any. inr any)
   where
     below : (r : ℕ) → r < length m.managers → slice_get f.managers r ≡ slice_get m.managers r
         → slice_get (f.managers ++ g ∷ []) r ≡ slice_get (m.managers ++ g ∷ []) r
     below r less e =
         let made = p.managers_made in let more : r < length f.managers = omega (arith, less, made) in
         push-below f.managers g r more ∙ e ∙ sym (push-below m.managers g r less)
-
-    stays : (r : ℕ) → Placed held m r → Placed held (record m { managers = m.managers ++ g ∷ [] }) r
-    stays r (inl s) = inl (slot-over m (record m { managers = m.managers ++ g ∷ [] }) r s s.holder_there s.into)
-    stays r (inr l) = inr (field-over m (record m { managers = m.managers ++ g ∷ [] }) r l.0 l.0.holder_there l.0.outside l.0.into, l.1)
 
 -- an object that may be made
 pub record NewFits (f m : Machine) (o : Seen) : Type 0 where
@@ -184,13 +158,8 @@ module _ (held : ℕ → Truth) (f m : Machine) (stack : List Val) (o : Seen) (p
   ]
 
   pub part-new : Part also (val.Obj n ∷ stack) (record f { store = f.store ++ o ∷ [] }) next (val.Obj n ∷ stack)
-  part-new = record {
-    frames = p.frames;
-    windows = p.windows;
-    windows_made = p.windows_made;
-    at = p.at;
-    managers_made = p.managers_made;
-    open_managers = p.open_managers;
+  part-new = whole also (val.Obj n ∷ stack) (record f { store = f.store ++ o ∷ [] }) next (val.Obj n ∷ stack) (record {
+    around = around-objects held stack f m stack p (f.store ++ o ∷ []) (m.store ++ o ∷ []);
     held_managers = λ a h r e there lies. elim (found a h e there) [
       | inl new ↦ fits.managers r (ap (λ (q : Seen). q.label) (sym new) ∙ lies)
       | inr was ↦ p.held_managers a h r was.1 was.0 lies
@@ -211,10 +180,6 @@ module _ (held : ℕ → Truth) (f m : Machine) (stack : List Val) (o : Seen) (p
       | inl new ↦ fits.temps k (ap (λ (q : Seen). q.label) (sym new) ∙ lies)
       | inr was ↦ p.temps a h k was.1 was.0 lies
     ];
-    lost_temps = λ a h k e there lies. elim (push-back m.store o h a there) [
-      | inl new ↦ clash (a == n) (eq-eqb a n new.0) (or-right (held a) (a == n) e)
-      | inr was ↦ p.lost_temps a h k (or-left (held a) (a == n) e) was lies
-    ];
     slots = λ i h s v there at. lead-more held also v more (p.slots i h s v there at);
     on_stack = (is-new, all-more held also stack more p.on_stack);
     fields = λ a h k v e there at. elim (found a h e there) [
@@ -227,25 +192,23 @@ module _ (held : ℕ → Truth) (f m : Machine) (stack : List Val) (o : Seen) (p
       | inr was ↦ elim (p.owned a h r was.1 was.0 lies c) [ inl placed ↦ inl (stays r placed) | inr any ↦ inr (on-stack r any) ]
     ];
     window_owners = window-owners m.windows p.window_owners;
-    tidy = record {
-      some_window = p.tidy.some_window;
-      differ = p.tidy.differ;
-      numbers = p.tidy.numbers;
-      regions = p.tidy.regions;
-      labels = λ a h r there lies. elim (push-back m.store o h a there) [
+    tidy = tidy-objects m (m.store ++ o ∷ []) p.tidy
+        (λ a h r there lies. elim (push-back m.store o h a there) [
         | inl new ↦ fits.regions r (ap (λ (q : Seen). q.label) (sym new.1) ∙ lies)
         | inr was ↦ p.tidy.labels a h r was lies
-      ];
-      fields = λ a h k v there at. elim (push-back m.store o h a there) [
+      ])
+        (λ a h k v there at. elim (push-back m.store o h a there) [
         | inl new ↦ plain-leads (λ b. nat_lt b (length (m.store ++ o ∷ []))) v
             (fits.plain k v (ap (λ (q : Seen). slice_get q.fields k) (sym new.1) ∙ at))
         | inr was ↦ lead-more (λ b. nat_lt b n) (λ b. nat_lt b (length (m.store ++ o ∷ []))) v (λ b e.
             (let l = ltb-true b n e in let g = length_push m.store o in lt-ltb b (length (m.store ++ o ∷ [])) (omega (arith, l, g))))
             (p.tidy.fields a h k v was at)
-      ];
-      inside = λ a h q k v l there lies at is. elim (push-back m.store o h a there) [
+      ])
+        (λ a h q k v l there lies at is. elim (push-back m.store o h a there) [
         | inl new ↦ plain-label (m.store ++ o ∷ []) v l (fits.plain k v (ap (λ (q : Seen). slice_get q.fields k) (sym new.1) ∙ at)) is
         | inr was ↦ p.tidy.inside a h q k v l was lies at (sym (label-new v (p.tidy.fields a h k v was at)) ∙ is)
-      ];
-    };
-  }
+      ]);
+  }) (λ a h k e there lies. elim (push-back m.store o h a there) [
+    | inl new ↦ clash (a == n) (eq-eqb a n new.0) (or-right (held a) (a == n) e)
+    | inr was ↦ p.lost_temps a h k (or-left (held a) (a == n) e) was lies
+  ])

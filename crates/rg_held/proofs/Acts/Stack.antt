@@ -20,7 +20,7 @@ use Rattle.rg_held.specs.Part.{leads_to, AllLead, Placed, Part}
 use Rattle.rg_held.specs.Ends.{Match, SameEnd}
 use Rattle.rg_held.specs.Laws.{owners_of, GoesOn}
 use Rattle.rg_held.proofs.Lists.{off}
-use Rattle.rg_held.proofs.Parts.Part.{part-stack, part-owners, top-slot}
+use Rattle.rg_held.proofs.Parts.Part.{top-leads, part-stack, part-owners}
 
 -- another stack
 abbrev pub match-stack : (owners : List Val) (u w : Work) (stack left : List Val) (m : Match owners u w stack) → AllLead m.0 left
@@ -90,11 +90,7 @@ operator-plain op.Rem test x y v e = divided-plain test (as_int x) (as_int y) (i
 -- what a slot of the topmost frame holds leads to what is held
 pub slot-leads : (held : ℕ → Truth) (owners : List Val) (f m : Machine) (stack : List Val) → Part held owners f m stack → (s : ℕ)
     → leads_to held (slot_at m s) ≡ true
-slot-leads held owners f m stack p s = by (slice_get (top_slots m.frames) s) refl
-  where
-    by : (o : Option Val) → slice_get (top_slots m.frames) s ≡ o → leads_to held (unwrap_or o val.Nil) ≡ true
-    by None e = refl
-    by (Some v) e = let h = top-slot m.frames s v e in p.slots 0 h.0 s v h.1 h.2
+slot-leads held owners f m stack p s = top-leads held m s p.slots
 
 pub slot-same : (held : ℕ → Truth) (owners : List Val) (f m : Machine) (stack : List Val) → Part held owners f m stack → (s : ℕ)
     → slot_at f s ≡ slot_at m s

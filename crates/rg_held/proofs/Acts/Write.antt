@@ -8,8 +8,6 @@ use Rattle.std.proofs.lemmas.Option.{same_Some}
 use Rattle.std.proofs.lemmas.Bool.{eqb-true, cases_Bool}
 use Rattle.rg_base.specs.declared.object.Label.{Label}
 use Rattle.rg_base.specs.declared.object.Label.TheVariants.{Region}
-use Rattle.rg_base.specs.declared.object.Place.{Place}
-use Rattle.rg_base.specs.declared.object.Place.TheVariants as place
 use Rattle.rg_base.specs.declared.object.Seen.{Seen}
 use Rattle.rg_base.specs.declared.value.Val.{Val}
 use Rattle.rg_base.specs.declared.value.Val.TheVariants as val
@@ -19,10 +17,11 @@ use Rattle.rg_stack.specs.Effects.{with_value_in}
 use Rattle.rg_stack.specs.Needs.{field_of}
 use Rattle.rg_stack.specs.Labels.{is_open, label_of, lies_in, is_into, is_outside}
 use Rattle.rg_held.specs.Gone.{gone}
-use Rattle.rg_held.specs.Part.{leads_to, AllLead, Placed, Part, is_of, OwnerHeld, OwnersHeld, may_lead}
+use Rattle.rg_held.specs.Part.{leads_to, AllLead, Placed, Part, is_of, OwnersHeld, may_lead}
 use Rattle.rg_held.proofs.Lists.{set-back, set-old, set-apart}
-use Rattle.rg_held.proofs.Places.{clash}
-use Rattle.rg_held.proofs.Parts.Part.{lead-more, slot-over, field-over}
+use Rattle.rg_held.proofs.Places.{clash, field-into}
+use Rattle.rg_held.proofs.Parts.Half.{around-objects, tidy-objects, whole}
+use Rattle.rg_held.proofs.Parts.Part.{owners-over, lead-more, slot-over, field-over}
 
 module _ (held : ℕ → Truth) (owners : List Val) (f m : Machine) (stack : List Val) (a : ℕ) (o : Seen) (k : ℕ) (v : Val)
     (p : Part held owners f m stack) (here : held a ≡ true) (there : slice_get m.store a ≡ Some o) (lead : leads_to held v ≡ true)
@@ -91,16 +90,8 @@ module _ (held : ℕ → Truth) (owners : List Val) (f m : Machine) (stack : Lis
         elim (set-old o.fields k l.0.field v l.0.value at) [
           | inl it ↦ inr (ap (λ (s : Option Val). is_into m.store r (unwrap_or s val.Nil)) (ap (slice_get o.fields) it ∙ at) ∙ l.0.into)
           | inr stays ↦ inl (inr (
-            record {
-              object = a;
-              field = l.0.field;
-              holder = n;
-              value = l.0.value;
-              holder_there = get-set m.store a n o there;
-              value_there = stays;
-              outside = ap (λ (q : Seen). is_outside m.windows r q.label) holder ∙ l.0.outside;
-              into = into-set r l.0.value ∙ l.0.into;
-            },
+            field-into a l.0.field n l.0.value (get-set m.store a n o there) stays
+                (ap (λ (q : Seen). is_outside m.windows r q.label) holder ∙ l.0.outside) (into-set r l.0.value ∙ l.0.into),
             here,
           ))
         ])
@@ -108,22 +99,16 @@ module _ (held : ℕ → Truth) (owners : List Val) (f m : Machine) (stack : Lis
   ]
 
   window-owners : (ws : List Window) → OwnersHeld held m.store ws → OwnersHeld held store ws
-  window-owners [] h = tt
-  window-owners (w ∷ ws) h = (by w.owner h.0, window-owners ws h.1)
+  window-owners ws h = owners-over held held m.store store ws (λ vs b q up here at is. (here, of vs b q at is)) h
     where
-      of : (b : ℕ) (q : Seen) → slice_get m.store b ≡ Some q → is_of ws q.label ≡ true
-          → (q : Seen) × (slice_get store b ≡ Some q) × (is_of ws q.label ≡ true)
-      of b q at is = elim (set-old m.store a b n q at) [
+      of : (vs : List Window) (b : ℕ) (q : Seen) → slice_get m.store b ≡ Some q → is_of vs q.label ≡ true
+          → (q : Seen) × (slice_get store b ≡ Some q) × (is_of vs q.label ≡ true)
+      of vs b q at is = elim (set-old m.store a b n q at) [
         | inl same ↦
             (let e : o ≡ q = same_Some o q (sym there ∙ ap (slice_get m.store) same ∙ at) in
-            (n, ap (slice_get store) (sym same) ∙ get-set m.store a n o there, ap (λ (q : Seen). is_of ws q.label) e ∙ is))
+            (n, ap (slice_get store) (sym same) ∙ get-set m.store a n o there, ap (λ (q : Seen). is_of vs q.label) e ∙ is))
         | inr stays ↦ (q, stays, is)
       ]
-
-      by : (at : Option Place) → OwnerHeld held m.store ws at → OwnerHeld held store ws at
-      by None h = tt
-      by (Some (place.Var i j)) h = tt
-      by (Some (place.Field b j)) h = (h.0, of b h.1.0 h.1.1 h.1.2)
 
   size : length store ≡ length m.store
   size = length-set m.store a n
@@ -137,13 +122,8 @@ module _ (held : ℕ → Truth) (owners : List Val) (f m : Machine) (stack : Lis
       → ((r : ℕ) → is_open m.windows r ≡ false → list_any (is_into m.store r) owners ≡ true
       → Placed held next r ⊎ (list_any (is_into m.store r) kept ≡ true))
       → Part held kept (record f { store = slice_set f.store a n }) next left
-  part-write kept left leads lost move = record {
-    frames = p.frames;
-    windows = p.windows;
-    windows_made = p.windows_made;
-    at = p.at;
-    managers_made = p.managers_made;
-    open_managers = p.open_managers;
+  part-write kept left leads lost move = whole held kept (record f { store = slice_set f.store a n }) next left (record {
+    around = around-objects held owners f m stack p (slice_set f.store a n) store;
     held_managers = λ b h r e at lies. (let w = was b h at in p.held_managers b w.before r e w.found (w.label ∙ lies));
     objects_made = length-set f.store a n ∙ p.objects_made ∙ sym size;
     there = λ b e. (let l = p.there b e in let s = size in omega (arith, l, s));
@@ -160,7 +140,6 @@ module _ (held : ℕ → Truth) (owners : List Val) (f m : Machine) (stack : Lis
           ∙ ap (option_map (λ (q : Seen). gone)) (sym (set-apart m.store a b n (differs b other)))
     ];
     temps = λ b h i e at lies. (let w = was b h at in p.temps b w.before i e w.found (w.label ∙ lies));
-    lost_temps = λ b h i e at lies. (let w = was b h at in p.lost_temps b w.before i e w.found (w.label ∙ lies));
     slots = p.slots;
     on_stack = leads;
     fields = λ b h j u e at field. (let w = was b h at in elim (w.fields j u field) [
@@ -175,20 +154,15 @@ module _ (held : ℕ → Truth) (owners : List Val) (f m : Machine) (stack : Lis
       | inr any ↦ elim (move r c any) [ inl placed ↦ inl placed | inr any ↦ inr (any-set r kept ∙ any) ]
     ]);
     window_owners = window-owners m.windows p.window_owners;
-    tidy = record {
-      some_window = p.tidy.some_window;
-      differ = p.tidy.differ;
-      numbers = p.tidy.numbers;
-      regions = p.tidy.regions;
-      labels = λ b h r at lies. (let w = was b h at in p.tidy.labels b w.before r w.found (w.label ∙ lies));
-      fields = λ b h j u at field. (let w = was b h at in made-leads u (elim (w.fields j u field) [
+    tidy = tidy-objects m store p.tidy
+        (λ b h r at lies. (let w = was b h at in p.tidy.labels b w.before r w.found (w.label ∙ lies)))
+        (λ b h j u at field. (let w = was b h at in made-leads u (elim (w.fields j u field) [
         | inl is ↦ ap (leads_to (λ b. nat_lt b (length m.store))) is.0
             ∙ lead-more held (λ b. nat_lt b (length m.store)) v (λ b e. (let l = p.there b e in grind (arith, l))) lead
         | inr old ↦ p.tidy.fields b w.before j u w.found old
-      ]));
-      inside = λ b h q j u l at lies field is. (let w = was b h at in elim (w.fields j u field) [
+      ])))
+        (λ b h q j u l at lies field is. (let w = was b h at in elim (w.fields j u field) [
         | inl new ↦ may q l (new.1 ∙ lies) (ap (label_of m.store) (sym new.0) ∙ sym (label-set u) ∙ is)
         | inr old ↦ p.tidy.inside b w.before q j u l w.found (w.label ∙ lies) old (sym (label-set u) ∙ is)
-      ]);
-    };
-  }
+      ]));
+  }) (λ b h i e at lies. (let w = was b h at in p.lost_temps b w.before i e w.found (w.label ∙ lies)))

@@ -1,7 +1,7 @@
 -- The managers of regions that don't live any more are forgotten, and the two machines still match: they agree on those of regions that are
 -- open, or of which an object is held, and these live.
 use Rattle.std.proofs.Common.{◌≡◌, ◌<◌, ℕ, zero, suc, ◌+◌, true, false, if◌then◌else◌, Bool as Truth, List, length, map, Some, option_map}
-use Rattle.std.proofs.Common.{refl, sym, ap, ◌∙◌, arith, slice_get, slice_index_or}
+use Rattle.std.proofs.Common.{inl, inr, refl, sym, ap, ◌∙◌, arith, slice_get, slice_index_or}
 use Rattle.std.specs.Prelude.{◌||◌}
 use Rattle.std.specs.List.{list_any, range_with_len}
 use Rattle.std.proofs.lemmas.List.FromFn.{length-map-range_with_len}
@@ -19,6 +19,7 @@ use Rattle.rg_stack.specs.Labels.{is_open, lies_in}
 use Rattle.rg_held.specs.Frees.{lives, forgotten}
 use Rattle.rg_held.specs.Part.{Part}
 use Rattle.rg_held.specs.Ends.{Match}
+use Rattle.rg_held.proofs.Parts.Part.{part-beside}
 
 -- elements of lists that are made of their places
 
@@ -60,28 +61,12 @@ module _ (x : Machine) where
 pub part-remembers : (held : ℕ → Truth) (owners : List Val) (f m : Machine) (stack : List Val) → Part held owners f m stack → (ws : List Window)
     → ((r : ℕ) → is_open m.windows r ≡ true → is_open ws r ≡ true)
     → Part held owners (record f { managers = remembered (record f { windows = ws }) }) m stack
-part-remembers held owners f m stack p ws opened = record {
-  frames = p.frames;
-  windows = p.windows;
-  windows_made = p.windows_made;
-  at = p.at;
-  managers_made = remembered-made x ∙ p.managers_made;
-  open_managers = λ r e. same-manager x r (below r (p.tidy.regions r e)) (open-lives x r (opened r e)) ∙ p.open_managers r e;
-  held_managers = λ a o r h there lies. same-manager x r (below r (p.tidy.labels a o r there lies))
-      (object-lives x a o r (p.same a h ∙ there) lies) ∙ p.held_managers a o r h there lies;
-  objects_made = p.objects_made;
-  there = p.there;
-  same = p.same;
-  others = p.others;
-  temps = p.temps;
-  lost_temps = p.lost_temps;
-  slots = p.slots;
-  on_stack = p.on_stack;
-  fields = p.fields;
-  owned = p.owned;
-  window_owners = p.window_owners;
-  tidy = p.tidy;
-}
+part-remembers held owners f m stack p ws opened =
+    part-beside held owners f m stack p f.frames m.frames (remembered x) m.managers f.at m.at owners stack p.frames p.at
+    (remembered-made x ∙ p.managers_made) (omega arith)
+    (λ r e. same-manager x r (below r (p.tidy.regions r e)) (open-lives x r (opened r e)) ∙ p.open_managers r e)
+    (λ a o r h there lies. same-manager x r (below r (p.tidy.labels a o r there lies)) (object-lives x a o r (p.same a h ∙ there) lies)
+    ∙ p.held_managers a o r h there lies) p.slots p.on_stack (λ r c s. inl s) (λ r c any. inr any)
   where
     x : Machine
     x = record f { windows = ws }

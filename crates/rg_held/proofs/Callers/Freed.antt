@@ -43,7 +43,8 @@ use Rattle.rg_held.proofs.Freed.Changes.{Stands, NoneLeft, region-not}
 use Rattle.rg_held.proofs.Freed.Windows.{Numbered, numbered}
 use Rattle.rg_held.proofs.Freed.Fates.{IsGiven, Since, Stay, Move, Go}
 use Rattle.rg_held.proofs.Freed.Shut.{shut, shut-passes}
-use Rattle.rg_held.proofs.Freed.Walks.{Now, Ending, on-walks}
+use Rattle.rg_held.proofs.Walks.Keep.{Ending}
+use Rattle.rg_held.proofs.Freed.Walks.{Now, on-walks}
 use Rattle.rg_held.proofs.Walks.Less.{tested_walk, tested-less}
 use Rattle.rg_held.proofs.Walks.Walk.{drop-next, walks-same, tested-walks-same}
 
@@ -125,8 +126,8 @@ come-came old was (Some o) w now = tt
 
 module _ (old : List Seen) (was : Label) (code : Code) where
   -- a walk that is stuck or the other one, beside one over the growing store that leads on, is the other one
-  ending : (x y z : Walked) → Less x y → SameEnd x z → (z ≡ Stuck → ⊥) → Ending old was x → Ending old was y
-  ending x y z (inr same) h leads end = subst (Ending old was) same end
+  ending : (x y z : Walked) → Less x y → SameEnd x z → (z ≡ Stuck → ⊥) → Ending (Now old was) x → Ending (Now old was) y
+  ending x y z (inr same) h leads end = subst (Ending (Now old was)) same end
   ending x y z (inl stuck) h leads end = absurd (by z (subst (λ q. SameEnd q z) stuck h) leads)
     where
       by : (z : Walked) → SameEnd Stuck z → (z ≡ Stuck → ⊥) → ⊥
@@ -138,26 +139,26 @@ module _ (old : List Seen) (was : Label) (code : Code) where
   -- a walk that leads on over the growing store
   walk-ending : (at : ℕ) (room taken : Truth) (stack : List Val) (u w : Work) → InOrder code.ops at room taken (drop at code.ops)
       → Match (owners_of taken stack) u w stack → (given_walk code (drop at code.ops) at 0 stack w ≡ Stuck → ⊥) → Now old was u
-      → Ending old was (free_walk code (drop at code.ops) at 0 stack u)
+      → Ending (Now old was) (free_walk code (drop at code.ops) at 0 stack u)
   walk-ending at room taken stack u w order m leads now =
       ending (tested_walk shut code (drop at code.ops) at 0 stack u) _ (given_walk code (drop at code.ops) at 0 stack w)
       (tested-less shut code (drop at code.ops) at 0 stack u) (tested-walks-same code shut (shut-passes code) at room taken stack u w order m)
       leads (on-walks old was code (drop at code.ops) at 0 stack u now)
 
-  landed-came : (x : Walked) → Ending old was x → Came old was (landed code x)
+  landed-came : (x : Walked) → Ending (Now old was) x → Came old was (landed code x)
   landed-came (Stops at w) now = come-came old was (slice_get code.ops at) (stopped at w) now
   landed-came (Returns back stack w) now = tt
   landed-came (Traps t) now = tt
   landed-came Stuck now = tt
 
-  finished-came : (line : ℕ) (x y : Walked) → SameEnd x y → Back code.ops y → (given_finished code line y ≡ Lost → ⊥) → Ending old was x
+  finished-came : (line : ℕ) (x y : Walked) → SameEnd x y → Back code.ops y → (given_finished code line y ≡ Lost → ⊥) → Ending (Now old was) x
       → Came old was (free_finished code line x)
   finished-came line (Stops at u) y same back h now = come-came old was (slice_get code.ops at) (stopped at u) now
   finished-came line (Returns back stack u) (Stops at w) same calm h now = absurd same
   finished-came line (Returns back stack u) (Returns here left w) same calm h now =
       landed-came (free_walk code (drop back code.ops) back 0 stack u)
-      (subst (λ n. Ending old was (free_walk code (drop n code.ops) n 0 stack u)) (sym same.0)
-      (subst (λ s. Ending old was (free_walk code (drop here code.ops) here 0 s u)) (sym same.1)
+      (subst (λ n. Ending (Now old was) (free_walk code (drop n code.ops) n 0 stack u)) (sym same.0)
+      (subst (λ s. Ending (Now old was) (free_walk code (drop here code.ops) here 0 s u)) (sym same.1)
       (walk-ending here false true left u w calm same.2 (λ e. h (ap (landed code) e)) now)))
   finished-came line (Returns back stack u) (Traps t) same calm h now = absurd same
   finished-came line (Returns back stack u) Stuck same calm h now = absurd (h refl)
@@ -175,7 +176,7 @@ module _ (old : List Seen) (was : Label) (code : Code) where
       subst (λ n. Came old was (free_finished code line (free_walk code os (n + 1) 0 [] u))) (sym at)
       (finished-came line (free_walk code os next 0 [] u) (given_walk code os next 0 [] w) walks
       (walk-back code os next 0 [] w order.behind) h
-      (subst (λ l. Ending old was (free_walk code l next 0 [] u)) behind
+      (subst (λ l. Ending (Now old was) (free_walk code l next 0 [] u)) behind
       (walk-ending next false false [] u w order.here m
       (λ e. h (ap (given_finished code line) (sym (ap (λ l. given_walk code l next 0 [] w) behind) ∙ e))) now)))
   step-came u w (o ∷ os) here at m order h now = tt

@@ -14,19 +14,19 @@ use Rattle.rg_tree.specs.declared.rows.BinOp.TheVariants as op
 use Rattle.rg_rules.specs.Evaluation.{object_at}
 use Rattle.rg_rules.specs.Regions.{region_of}
 use Rattle.rg_rules.specs.Values.{as_bool}
-use Rattle.rg_code.specs.declared.code.Entry.{Entry}
 use Rattle.rg_code.specs.declared.op.Op.{Op}
 use Rattle.rg_code.specs.declared.op.Op.TheVariants as i
 use Rattle.rg_code.specs.Code.{Code}
-use Rattle.rg_stack.specs.Machine.{Frame, Machine, slot_at, slots_below}
-use Rattle.rg_stack.specs.Effects.{Work, Walked, Stops, Returns, Traps, Stuck, Go, begins_by}
-use Rattle.rg_stack.specs.Effects.{called, returned, entered, relabel, beneath_by_labels, top_region, put_in, with_value_in}
+use Rattle.rg_stack.specs.Machine.{Machine, slot_at}
+use Rattle.rg_stack.specs.Effects.{Work, Walked, Stops, Returns, Traps, Stuck, Go}
+use Rattle.rg_stack.specs.Effects.{entered, relabel, beneath_by_labels, top_region, put_in, with_value_in}
 use Rattle.rg_stack.specs.Runs.{Stepped, Goes, Ends, Trapped, Lost, come_to, landed, stopped}
 use Rattle.rg_base.specs.declared.object.Place.{Place}
 use Rattle.rg_held.specs.Frees.{Given, given_up, regions_freed, freed, free_act, free_walk, free_finished, free_step_from, free_step}
 use Rattle.rg_held.specs.Gone.{gone}
 use Rattle.rg_held.proofs.Lists.{push-old}
-use Rattle.rg_held.proofs.Walks.Keep.{Kept, Onward, on-top, on-object, on-test, on-pushed, on-two, on-number, on-opened, on-walk}
+use Rattle.rg_held.proofs.Walks.Keep.{Kept, Ending, Onward, ending-kept, on-called, on-returned, on-top, on-object, on-test, on-pushed}
+use Rattle.rg_held.proofs.Walks.Keep.{on-two, on-number, on-opened, on-walk}
 use Rattle.rg_held.proofs.Freed.Changes.{written-gone, moved-gone, bury-gone}
 
 -- what is gone of one store is gone of the other
@@ -37,29 +37,14 @@ module _ (a : ℕ) where
   abbrev Now : Work → Type 0
   Now w = slice_get w.machine.store a ≡ Some gone
 
-  abbrev Ending : Walked → Type 0
-  Ending (Stops at w) = Now w
-  Ending (Returns back stack w) = Now w
-  Ending (Traps t) = Unit {0}
-  Ending Stuck = Unit {0}
-
   abbrev Came : Stepped → Type 0
   Came (Goes w) = Now w
   Came (Ends w) = Now w
   Came (Trapped t line) = Unit {0}
   Came Lost = Unit {0}
 
-  kept : Kept Now Ending
-  kept = record { stuck = tt; traps = λ t. tt; read = λ w rest now. now }
-
-  on-called : (at : ℕ) (e : Option Entry) (stack : List Val) (w : Work) → Now w → Ending (called at e stack w)
-  on-called at None stack w now = tt
-  on-called at (Some e) stack w now = now
-
-  on-returned : (w : Work) (fs : List Frame) (stack : List Val) → Now w → Ending (returned w fs stack)
-  on-returned w [] stack now = tt
-  on-returned w (f ∷ []) stack now = tt
-  on-returned w (f ∷ g ∷ fs) stack now = on-test kept (begins_by w.machine.windows (slots_below (g ∷ fs))) _ Stuck now tt
+  kept : Kept Now (Ending Now)
+  kept = ending-kept Now (λ w rest now. now) (λ w fs now. now)
 
   now-entered : (w : Work) (owner : Place) (bridge : Val) (z : ℕ) (r : Option ℕ) → Now w → Now (entered w owner bridge z r)
   now-entered w owner bridge z None now = now
@@ -87,7 +72,7 @@ module _ (a : ℕ) where
       by (Some o) here = written-gone store b k v o here a now
 
   module _ (code : Code) where
-    on-act : (at : ℕ) (o : Op) (go : Go) (stack : List Val) (w : Work) → Onward Now Ending go → Now w → Ending (free_act code at o go stack w)
+    on-act : (at : ℕ) (o : Op) (go : Go) (stack : List Val) (w : Work) → Onward Now (Ending Now) go → Now w → Ending Now (free_act code at o go stack w)
     on-act at (i.Mark line) go stack w h now = now
     on-act at (i.Store s) go stack w h now = on-top kept stack _ (λ v rest. h 0 _ _ now)
     on-act at (i.Own s) go stack w h now = on-top kept stack _ (λ v rest. h 0 _ _ (now-freed w (given_up (i.Own s) stack w.machine) now))
@@ -123,11 +108,13 @@ module _ (a : ℕ) where
         (λ o is. h 0 _ _ (now-moved false (Region (top_region w.machine.windows)) w (region_of o.label) now))
     on-act at i.Read go stack w h now = on-number kept (next_number w.input) go stack w h now
     on-act at i.Room go stack w h now = on-test kept (nat_lt (length w.machine.frames) FRAMES) _ (Traps trap.Depth) (h 0 stack w now) tt
-    on-act at (i.Call m) go stack w h now = on-called at (slice_get code.entries m) stack w now
+    on-act at (i.Call m) go stack w h now = on-called Now (λ w rest now. now) (λ w fs now. now) at (slice_get code.entries m) stack w now
     on-act at i.Ret go stack w h now = on-top kept stack _ (λ v rest.
-        on-returned (freed (given_up i.Ret stack w.machine) w) w.machine.frames (v ∷ []) (now-freed w (given_up i.Ret stack w.machine) now))
+        on-returned Now (λ w rest now. now) (λ w fs now. now) (freed (given_up i.Ret stack w.machine) w) w.machine.frames (v ∷ [])
+        (now-freed w (given_up i.Ret stack w.machine) now))
     on-act at i.RetVoid go stack w h now =
-        on-returned (freed (given_up i.RetVoid stack w.machine) w) w.machine.frames [] (now-freed w (given_up i.RetVoid stack w.machine) now)
+        on-returned Now (λ w rest now. now) (λ w fs now. now) (freed (given_up i.RetVoid stack w.machine) w) w.machine.frames []
+        (now-freed w (given_up i.RetVoid stack w.machine) now)
     on-act at (i.Enter s z) go stack w h now = on-opened kept w.machine z _ (on-object kept (object_at w.machine.store (slot_at w.machine s)) _
         (λ o is. h 0 _ _ (now-entered w _ _ z (region_of o.label) now)))
     on-act at (i.EnterField k z) go stack w h now = on-opened kept w.machine z _ (on-top kept stack _ (λ r rest.
@@ -142,7 +129,7 @@ module _ (a : ℕ) where
     on-act at i.Halt go stack w h now = now
     on-act at _ go stack w h now = h 0 _ _ now
 
-    on-walks : (os : List Op) (at : ℕ) → Onward Now Ending (free_walk code os at)
+    on-walks : (os : List Op) (at : ℕ) → Onward Now (Ending Now) (free_walk code os at)
     on-walks = on-walk kept free_act code on-act
 
     came-to : (o : Option Op) (w : Work) → Now w → Came (come_to o w)
@@ -151,13 +138,13 @@ module _ (a : ℕ) where
     came-to (Some i.Halt) w now = now
     came-to (Some o) w now = tt
 
-    came-landed : (x : Walked) → Ending x → Came (landed code x)
+    came-landed : (x : Walked) → Ending Now x → Came (landed code x)
     came-landed (Stops at w) now = came-to (slice_get code.ops at) (stopped at w) now
     came-landed (Returns back stack w) now = tt
     came-landed (Traps t) now = tt
     came-landed Stuck now = tt
 
-    came-finished : (line : ℕ) (x : Walked) → Ending x → Came (free_finished code line x)
+    came-finished : (line : ℕ) (x : Walked) → Ending Now x → Came (free_finished code line x)
     came-finished line (Stops at w) now = came-to (slice_get code.ops at) (stopped at w) now
     came-finished line (Returns back stack w) now =
         came-landed (free_walk code (drop back code.ops) back 0 stack w) (on-walks (drop back code.ops) back 0 stack w now)

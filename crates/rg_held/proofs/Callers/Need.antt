@@ -37,7 +37,7 @@ use Rattle.rg_held.specs.Gone.{gone}
 use Rattle.rg_held.specs.Part.{leads_to, AllLead, Part, OwnerHeld, OwnersHeld}
 use Rattle.rg_held.specs.Laws.{NeedsSame}
 use Rattle.rg_held.proofs.Lists.{off, any-at, reverse-back, ended-back}
-use Rattle.rg_held.proofs.Parts.Part.{top-slot, slots-back}
+use Rattle.rg_held.proofs.Parts.Part.{top-leads, top-slot, slots-back}
 
 -- tests of which the one follows from the other
 
@@ -156,11 +156,7 @@ module _ (held : ℕ → Truth) (store : List Seen) (managers : List Manager) (m
   -- what slots and fields of held objects hold leads to what is held
 
   slot-leads : (s : ℕ) → leads_to held (slot_at m s) ≡ true
-  slot-leads s = by (slice_get (top_slots m.frames) s) refl
-    where
-      by : (o : Option Val) → slice_get (top_slots m.frames) s ≡ o → leads_to held (unwrap_or o val.Nil) ≡ true
-      by None e = refl
-      by (Some v) e = let h = top-slot m.frames s v e in b.slots 0 h.0 s v h.1 h.2
+  slot-leads s = top-leads held m s b.slots
 
   field-leads : (a : ℕ) (o : Seen) (k : ℕ) → held a ≡ true → slice_get m.store a ≡ Some o → leads_to held (field_of o k) ≡ true
   field-leads a o k h there = by (slice_get o.fields k) refl

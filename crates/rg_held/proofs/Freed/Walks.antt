@@ -23,20 +23,20 @@ use Rattle.rg_rules.specs.Evaluation.{object_at}
 use Rattle.rg_rules.specs.Regions.{region_of}
 use Rattle.rg_rules.specs.Values.{as_bool}
 use Rattle.rg_sound.proofs.LocalRoots.{label-region}
-use Rattle.rg_code.specs.declared.code.Entry.{Entry}
 use Rattle.rg_code.specs.declared.op.Op.{Op}
 use Rattle.rg_code.specs.declared.op.Op.TheVariants as i
 use Rattle.rg_code.specs.Code.{Code}
-use Rattle.rg_stack.specs.Machine.{Frame, Window, slot_at, place_of, slots_below}
-use Rattle.rg_stack.specs.Effects.{Work, Walked, Stops, Returns, Traps, Stuck, Go, begins_by}
-use Rattle.rg_stack.specs.Effects.{called, returned, entered, relabel, without_top, top_region, with_store, put_in, stored}
+use Rattle.rg_stack.specs.Machine.{Window, slot_at, place_of}
+use Rattle.rg_stack.specs.Effects.{Work, Walked, Traps, Stuck, Go}
+use Rattle.rg_stack.specs.Effects.{entered, relabel, without_top, top_region, with_store, put_in, stored}
 use Rattle.rg_stack.specs.Needs.{needs}
 use Rattle.rg_stack.specs.Labels.{is_open}
 use Rattle.rg_stack.proofs.Basics.{none-some}
 use Rattle.rg_held.specs.Frees.{Given, given_up, regions_freed, window_that_ends, left_with, bury, freed, forgotten, lives, free_act}
 use Rattle.rg_held.specs.Part.{SomeWindow}
 use Rattle.rg_held.proofs.Walks.Less.{tested_act, tested_walk}
-use Rattle.rg_held.proofs.Walks.Keep.{Kept, Onward, on-top, on-object, on-test, on-pushed, on-two, on-number, on-opened, on-walk}
+use Rattle.rg_held.proofs.Walks.Keep.{Kept, Ending, Onward, ending-kept, on-called, on-returned, on-top, on-object, on-test, on-pushed}
+use Rattle.rg_held.proofs.Walks.Keep.{on-two, on-number, on-opened, on-walk}
 use Rattle.rg_held.proofs.Parts.Burial.{same-region}
 use Rattle.rg_held.proofs.Freed.Changes.{MayTake, region-not}
 use Rattle.rg_held.proofs.Freed.Windows.{numbered-more, number-new, opened-on, without-on, without-shut, without-some, without-numbered}
@@ -62,24 +62,8 @@ module _ (old : List Seen) (was : Label) where
   abbrev pub Now : Work → Type 0
   Now w = Since old was w.machine.store w.machine.windows w.machine.windows_made (length w.machine.managers)
 
-  -- the same of where a walk ends
-  abbrev pub Ending : Walked → Type 0
-  Ending (Stops at w) = Now w
-  Ending (Returns back stack w) = Now w
-  Ending (Traps t) = Unit {0}
-  Ending Stuck = Unit {0}
-
-  kept : Kept Now Ending
-  kept = record { stuck = tt; traps = λ t. tt; read = λ w rest now. now }
-
-  on-called : (at : ℕ) (e : Option Entry) (stack : List Val) (w : Work) → Now w → Ending (called at e stack w)
-  on-called at None stack w now = tt
-  on-called at (Some e) stack w now = now
-
-  on-returned : (w : Work) (fs : List Frame) (stack : List Val) → Now w → Ending (returned w fs stack)
-  on-returned w [] stack now = tt
-  on-returned w (f ∷ []) stack now = tt
-  on-returned w (f ∷ g ∷ fs) stack now = on-test kept (begins_by w.machine.windows (slots_below (g ∷ fs))) _ Stuck now tt
+  kept : Kept Now (Ending Now)
+  kept = ending-kept Now (λ w rest now. now) (λ w fs now. now)
 
   now-entered : (w : Work) (owner : Place) (bridge : Val) (z : ℕ) (v : Val) (o : Seen) → object_at w.machine.store v ≡ Ok o → Now w
       → Now (entered w owner bridge z (region_of o.label))
@@ -184,8 +168,8 @@ module _ (old : List Seen) (was : Label) where
       since-put old was w.machine.store w.machine.windows w.machine.windows_made (length w.machine.managers) r k v now
 
   module _ (code : Code) where
-    on-act : (at : ℕ) (o : Op) (go : Go) (stack : List Val) (w : Work) → Onward Now Ending go → shut o stack w.machine ≡ true → Now w
-        → Ending (free_act code at o go stack w)
+    on-act : (at : ℕ) (o : Op) (go : Go) (stack : List Val) (w : Work) → Onward Now (Ending Now) go → shut o stack w.machine ≡ true → Now w
+        → Ending Now (free_act code at o go stack w)
     on-act at (i.Mark line) go stack w h t now = now
     on-act at (i.Store s) go stack w h t now = on-top kept stack _ (λ v rest. h 0 _ _ now)
     on-act at (i.Own s) go stack w h t now = on-top kept stack _ (λ v rest. h 0 _ _ (now-freed w _ refl t now))
@@ -224,11 +208,13 @@ module _ (old : List Seen) (was : Label) where
         (now-moves false label s w o e tt (top-apart w.machine.windows now.some_window) t now))))
     on-act at i.Read go stack w h t now = on-number kept (next_number w.input) go stack w h now
     on-act at i.Room go stack w h t now = on-test kept (nat_lt (length w.machine.frames) FRAMES) _ (Traps trap.Depth) (h 0 stack w now) tt
-    on-act at (i.Call m) go stack w h t now = on-called at (slice_get code.entries m) stack w now
+    on-act at (i.Call m) go stack w h t now = on-called Now (λ w rest now. now) (λ w fs now. now) at (slice_get code.entries m) stack w now
     on-act at i.Ret go stack w h t now = on-top kept stack _ (λ v rest.
-        on-returned (freed (given_up i.Ret stack w.machine) w) w.machine.frames (v ∷ []) (now-freed w _ refl t now))
+        on-returned Now (λ w rest now. now) (λ w fs now. now) (freed (given_up i.Ret stack w.machine) w) w.machine.frames (v ∷ [])
+        (now-freed w _ refl t now))
     on-act at i.RetVoid go stack w h t now =
-        on-returned (freed (given_up i.RetVoid stack w.machine) w) w.machine.frames [] (now-freed w _ refl t now)
+        on-returned Now (λ w rest now. now) (λ w fs now. now) (freed (given_up i.RetVoid stack w.machine) w) w.machine.frames []
+        (now-freed w _ refl t now)
     on-act at (i.Enter s z) go stack w h t now = on-opened kept w.machine z _ (on-object kept (object_at w.machine.store (slot_at w.machine s)) _
         (λ o e. h 0 _ _ (now-entered w _ _ z (slot_at w.machine s) o e now)))
     on-act at (i.EnterField k z) go stack w h t now = on-opened kept w.machine z _ (on-top kept stack _ (λ r rest.
@@ -243,15 +229,15 @@ module _ (old : List Seen) (was : Label) where
     on-act at i.Halt go stack w h t now = now
     on-act at _ go stack w h t now = h 0 _ _ now
 
-    on-shut : (n : Truth) (t : Truth) (x : Walked) → (t ≡ true → Ending x) → Ending (if n then (if t then x else Stuck) else Stuck)
+    on-shut : (n : Truth) (t : Truth) (x : Walked) → (t ≡ true → Ending Now x) → Ending Now (if n then (if t then x else Stuck) else Stuck)
     on-shut true true x h = h refl
     on-shut true false x h = tt
     on-shut false t x h = tt
 
-    on-tested : (at : ℕ) (o : Op) (go : Go) (stack : List Val) (w : Work) → Onward Now Ending go → Now w
-        → Ending (tested_act shut code at o go stack w)
+    on-tested : (at : ℕ) (o : Op) (go : Go) (stack : List Val) (w : Work) → Onward Now (Ending Now) go → Now w
+        → Ending Now (tested_act shut code at o go stack w)
     on-tested at o go stack w h now =
         on-shut (needs code o stack w.machine) (shut o stack w.machine) _ (λ t. on-act at o go stack w h t now)
 
-    pub on-walks : (os : List Op) (at : ℕ) → Onward Now Ending (tested_walk shut code os at)
+    pub on-walks : (os : List Op) (at : ℕ) → Onward Now (Ending Now) (tested_walk shut code os at)
     on-walks = on-walk kept (tested_act shut) code on-tested

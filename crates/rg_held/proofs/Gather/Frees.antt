@@ -11,10 +11,11 @@ use Rattle.rg_base.specs.declared.object.Seen.{Seen}
 use Rattle.rg_base.specs.declared.value.Val.{Val}
 use Rattle.rg_base.specs.declared.value.Val.TheVariants as val
 use Rattle.rg_base.proofs.Callers.Lists.{there as below-get}
+use Rattle.rg_base.proofs.Callers.Labels.{temp-region}
 use Rattle.rg_rules.specs.Regions.{region_of, region_at}
 use Rattle.rg_stack.specs.Machine.{Frame, Window, Machine}
 use Rattle.rg_stack.specs.Effects.{top_region}
-use Rattle.rg_stack.specs.Needs.{owned_once, places_into}
+use Rattle.rg_stack.specs.Needs.{owned_once}
 use Rattle.rg_stack.specs.Labels.{is_open, has_window, lies_in, is_into, is_outside}
 use Rattle.rg_stack.proofs.Basics.{none-some}
 use Rattle.rg_stack.proofs.Callers.Lead.{region-label}
@@ -22,19 +23,17 @@ use Rattle.rg_held.specs.Gone.{gone}
 use Rattle.rg_held.specs.Part.{leads_to, SlotInto, FieldInto, Placed, Part, is_of, OwnerHeld, OwnersHeld, is_shut_or_above, may_lead, Differ}
 use Rattle.rg_held.specs.Gather.{KeepsOf, Keeps, LinkOut, Loses, first, further, Gathered}
 use Rattle.rg_held.proofs.Lists.{off}
-use Rattle.rg_held.proofs.Places.{or-right, clash, into-back, once}
+use Rattle.rg_held.proofs.Places.{or-right, clash, field-into, into-back, slot-into}
 use Rattle.rg_held.proofs.Places.{slot-field, field-field}
 use Rattle.rg_held.proofs.Parts.Part.{shut-above}
 use Rattle.rg_held.proofs.Parts.Burial.{same-region}
+use Rattle.rg_held.proofs.Acts.Release.{most}
 
 -- what leads into the active region from outside leads to what is kept
 pub record Outside (held kept : ℕ → Truth) (m : Machine) : Type 0 where
   pub slots : (n s : ℕ) (h : Frame) (v : Val) → slice_get m.frames n ≡ Some h → slice_get h.slots s ≡ Some v → KeepsOf kept m v
   pub fields : (a k : ℕ) (o : Seen) (v : Val) → held a ≡ true → slice_get m.store a ≡ Some o → (o.label ≡ Region (top_region m.windows) → ⊥)
       → ((n : ℕ) → o.label ≡ Temp n → has_window m.windows n ≡ true) → slice_get o.fields k ≡ Some v → KeepsOf kept m v
-
-temp-region : (n r : ℕ) → Temp n ≡ Region r → ⊥
-temp-region n r e = cc
 
 -- where the topmost window's objects may lead, but to their own region, is closed
 top-closed : (ws : List Window) (q : ℕ) → Differ ws → (top_region ws ≡ q → ⊥) → may_lead ws (top_region ws) (Region q) ≡ true
@@ -55,17 +54,10 @@ module _ (held kept : ℕ → Truth) (f after m : Machine) (p : Part held [] f m
 
   -- a link is a field from outside
   abbrev link-field : (a q : ℕ) → LinkOut held m a q → FieldInto m q
-  link-field a q l = record {
-    object = l.object;
-    field = l.field;
-    holder = l.holder;
-    value = val.Obj l.address;
-    holder_there = l.there;
-    value_there = l.value;
-    outside = ap (is_outside m.windows q) l.lies ∙ ap not (ne_eqb a q l.differ);
-    into = ap (λ (o : Option Label). elim o [ None ↦ false | Some l ↦ lies_in q l ]) (region-label m.store l.address q l.leads)
-        ∙ eq-eqb q q refl;
-  }
+  link-field a q l =
+      field-into l.object l.field l.holder (val.Obj l.address) l.there l.value
+      (ap (is_outside m.windows q) l.lies ∙ ap not (ne_eqb a q l.differ))
+      (ap (λ (o : Option Label). elim o [ None ↦ false | Some l ↦ lies_in q l ]) (region-label m.store l.address q l.leads) ∙ eq-eqb q q refl)
 
   link-leads : (a q : ℕ) (l : LinkOut held m a q) → may_lead m.windows a (Region q) ≡ true
   link-leads a q l = p.tidy.inside l.object l.holder a l.field (val.Obj l.address) (Region q) l.there l.lies l.value
@@ -99,16 +91,13 @@ module _ (held kept : ℕ → Truth) (f after m : Machine) (p : Part held [] f m
   open-stays q o l = clash (is_open m.windows q) o (lost-place q l).closed
 
   module _ (single : owned_once m ≡ true) where
-    most : (q : ℕ) (v : Val) → is_open m.windows q ≡ false → is_into m.store q v ≡ true → places_into m q ≤ 1
-    most q v c into = let r = into-back m.store q v into in once m q single (p.tidy.labels r.address r.object q r.there r.label) c
-
     no-slot : (q : ℕ) → Loses held kept m q → SlotInto m q → ⊥
-    no-slot q l s = let at = lost-place q l in slot-field m q (most q s.value at.closed s.into) s at.place
+    no-slot q l s = let at = lost-place q l in slot-field m q (most m p.tidy single q s.value at.closed s.into) s at.place
 
     no-field : (q : ℕ) → Loses held kept m q → (x : FieldInto m q) → kept x.object ≡ true → ⊥
     no-field q l x stays =
         let at = lost-place q l in
-        let same = field-field m q (most q x.value at.closed x.into) x at.place in
+        let same = field-field m q (most m p.tidy single q x.value at.closed x.into) x at.place in
         clash (kept x.object) stays (ap kept same.0 ∙ at.goes)
 
     -- a value that leads to what is held, and into no lost region, leads to what is kept
@@ -144,29 +133,12 @@ module _ (held kept : ℕ → Truth) (f after m : Machine) (p : Part held [] f m
 
     module _ (keeps : Keeps held kept m) (out : Outside held kept m) where
       kept-slots : (n : ℕ) (h : Frame) (s : ℕ) (v : Val) → slice_get m.frames n ≡ Some h → slice_get h.slots s ≡ Some v → leads_to kept v ≡ true
-      kept-slots n h s v there at = reach v (p.slots n h s v there at) (out.slots n s h v there at) (λ q lost into. no-slot q lost (record {
-        frame = n;
-        slot = s;
-        holder = h;
-        value = v;
-        holder_there = there;
-        value_there = at;
-        into = into;
-      }))
+      kept-slots n h s v there at = reach v (p.slots n h s v there at) (out.slots n s h v there at) (λ q lost into. no-slot q lost (slot-into n s h v there at into))
 
       kept-fields : (a : ℕ) (o : Seen) (k : ℕ) (v : Val) → kept a ≡ true → slice_get m.store a ≡ Some o → slice_get o.fields k ≡ Some v
           → leads_to kept v ≡ true
       kept-fields a o k v stays there at = reach v (p.fields a o k v here there at) (active o.label refl)
-          (λ q lost into. no-field q lost (record {
-            object = a;
-            field = k;
-            holder = o;
-            value = v;
-            holder_there = there;
-            value_there = at;
-            outside = outside q lost o.label refl;
-            into = into;
-          }) stays)
+          (λ q lost into. no-field q lost (field-into a k o v there at (outside q lost o.label refl) into) stays)
         where
           here : held a ≡ true
           here = g.fewer a stays
@@ -284,8 +256,8 @@ module _ (held kept : ℕ → Truth) (f after m : Machine) (p : Part held [] f m
         others = gone-there;
         temps = λ a o n stays there l. p.temps a o n (g.fewer a stays) there l;
         lost_temps = λ a o n away there l. p.lost_temps a o n (elim (cases_Bool (held a)) [
-          | inl here ↦ clash (kept a) (g.stays a o here there (λ x. temp-region n (top_region m.windows) (sym l ∙ x))
-              (λ q x lost. temp-region n q (sym l ∙ x))) away
+          | inl here ↦ clash (kept a) (g.stays a o here there (λ x. temp-region n (top_region m.windows) (ap Some (sym l ∙ x)))
+              (λ q x lost. temp-region n q (ap Some (sym l ∙ x)))) away
           | inr no_more ↦ no_more
         ]) there l;
         slots = kept-slots;

@@ -40,6 +40,7 @@ use Rattle.rg_stack.proofs.Basics.{none-some, and-left, and-right}
 use Rattle.rg_stack.proofs.Callers.Base.{total_of, sizes-more, sizes-length, place_top, shown-room, as_many, based-there}
 use Rattle.rg_stack.proofs.Callers.Frame.{place_below}
 use Rattle.rg_stack.proofs.Callers.Lead.{shown-number}
+use Rattle.rg_stack.proofs.Callers.Mark.{shown-at}
 use Rattle.rg_held.specs.Gather.{bridge_value, Keeps}
 use Rattle.rg_held.proofs.Lists.{off, push-below, replicate-back}
 use Rattle.rg_held.proofs.Gather.Frees.{Outside}
@@ -195,7 +196,7 @@ covered (f ∷ fs) (b ∷ bs) p shows (inr based) (suc n) s number h there count
 
 -- The bridge
 
-owned-value : (t : Ty) (v : Val) (a : ℕ) → owned t v ≡ Some a → v ≡ val.Obj a
+pub owned-value : (t : Ty) (v : Val) (a : ℕ) → owned t v ≡ Some a → v ≡ val.Obj a
 owned-value t v a e = by (is_iso t) v e
   where
     by : (b : Truth) (v : Val) → (if b then address v else None) ≡ Some a → v ≡ val.Obj a
@@ -218,12 +219,6 @@ var-value m bs h n i a e = by (frame_at bs n) refl e
         ∙ ap (λ q. unwrap_or (slice_get q i) val.Nil) s.2
         ∙ ap (λ q. unwrap_or q val.Nil) (shown-at b.locals (length s.0.slots - length b.locals) i l there)
         ∙ owned-value l.ty l.value a e
-      where
-        shown-at : (locals : List Local) (k i : ℕ) (l : Local) → slice_get locals i ≡ Some l →
-            slice_get (map (λ (l : Local). l.value) locals ++ replicate k val.Nil) i ≡ Some l.value
-        shown-at [] k i l e = none-some l e
-        shown-at (x ∷ ls) k zero l e = ap (λ q. Some q.value) (same_Some x l e)
-        shown-at (x ∷ ls) k (suc i) l e = shown-at ls k i l e
 
     by : (q : Option Body) → frame_at bs n ≡ q →
         option_and_then owned_by_local (option_and_then (λ (b : Body). slice_get b.locals i) q) ≡ Some a → value_at m (place.Var n i) ≡ val.Obj a

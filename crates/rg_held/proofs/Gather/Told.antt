@@ -12,32 +12,27 @@ use Rattle.rg_stack.specs.Machine.{Window, Machine}
 use Rattle.rg_stack.proofs.Basics.{none-some}
 use Rattle.rg_held.specs.Gone.{gone}
 use Rattle.rg_held.specs.Part.{leads_to, Placed, Part, OwnerHeld, OwnersHeld}
+use Rattle.rg_held.proofs.Parts.Half.{around-objects, whole}
 use Rattle.rg_held.proofs.Parts.Part.{lead-more, all-more}
 
 module _ (held also : ℕ → Truth) (owners : List Val) (f m : Machine) (stack : List Val) (p : Part held owners f m stack) where
   -- with the same objects held
   pub part-as : ((a : ℕ) → held a ≡ also a) → Part also owners f m stack
-  part-as eq = record {
-    frames = p.frames;
-    windows = p.windows;
-    windows_made = p.windows_made;
-    at = p.at;
-    managers_made = p.managers_made;
-    open_managers = p.open_managers;
+  part-as eq = whole also owners f m stack (record {
+    around = around-objects held owners f m stack p f.store m.store;
     held_managers = λ a o r here there lies. p.held_managers a o r (eq a ∙ here) there lies;
     objects_made = p.objects_made;
     there = λ a here. p.there a (eq a ∙ here);
     same = λ a here. p.same a (eq a ∙ here);
     others = λ a away. p.others a (eq a ∙ away);
     temps = λ a o n here there l. p.temps a o n (eq a ∙ here) there l;
-    lost_temps = λ a o n away there l. p.lost_temps a o n (eq a ∙ away) there l;
     slots = λ n h s v there at. lead v (p.slots n h s v there at);
     on_stack = all-more held also stack now p.on_stack;
     fields = λ a o k v here there at. lead v (p.fields a o k v (eq a ∙ here) there at);
     owned = λ a o r here there lies shut. elim (p.owned a o r (eq a ∙ here) there lies shut) [ inl x ↦ inl (placed r x) | inr e ↦ inr e ];
     window_owners = all-owners m.windows p.window_owners;
     tidy = p.tidy;
-  }
+  }) (λ a o n away there l. p.lost_temps a o n (eq a ∙ away) there l)
     where
       now : (a : ℕ) → held a ≡ true → also a ≡ true
       now a here = sym (eq a) ∙ here

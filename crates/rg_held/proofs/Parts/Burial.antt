@@ -26,11 +26,11 @@ use Rattle.rg_held.specs.Frees.{is_temp, buried, bury}
 use Rattle.rg_held.specs.Gone.{gone}
 use Rattle.rg_held.specs.Part.{leads_to, AllLead, SlotInto, FieldInto, Placed, Part, is_of, OwnerHeld, OwnersHeld}
 use Rattle.rg_held.proofs.Lists.{off}
-use Rattle.rg_held.proofs.Places.{or-right, clash}
+use Rattle.rg_held.proofs.Places.{or-right, clash, field-into, open-more, slot-into}
 use Rattle.rg_held.proofs.Places.{label-there, into-back, region-into}
 use Rattle.rg_held.proofs.Callers.Beneath.{Link, AllLinks, beneath-links, beneath-first, beneath-all, beneath-from}
 use Rattle.rg_held.proofs.Parts.Part.{shut-above, open-region}
-use Rattle.rg_held.proofs.Parts.Half.{Half, whole}
+use Rattle.rg_held.proofs.Parts.Half.{Half, around-objects, whole}
 
 -- whether an object is freed
 abbrev pub is_buried : (regions : List ℕ) → (temps : Option ℕ) → Seen → Truth
@@ -128,17 +128,10 @@ module _ (held : ℕ → Truth) (owners : List Val) (f m : Machine) (stack : Lis
 
   -- a link from another region is a field from outside
   abbrev pub link-field : (q r : ℕ) → (q ≡ r → ⊥) → Link m.store q r → FieldInto m r
-  link-field q r other l = record {
-    object = l.object;
-    field = l.field;
-    holder = l.holder;
-    value = val.Obj l.address;
-    holder_there = l.there;
-    value_there = l.value;
-    outside = ap (is_outside m.windows r) l.lies ∙ ap not (ne_eqb q r other);
-    into = ap (λ (o : Option Label). elim o [ None ↦ false | Some l ↦ lies_in r l ]) (region-label m.store l.address r l.leads)
-        ∙ eq-eqb r r refl;
-  }
+  link-field q r other l =
+      field-into l.object l.field l.holder (val.Obj l.address) l.there l.value
+      (ap (is_outside m.windows r) l.lies ∙ ap not (ne_eqb q r other))
+      (ap (λ (o : Option Label). elim o [ None ↦ false | Some l ↦ lies_in r l ]) (region-label m.store l.address r l.leads) ∙ eq-eqb r r refl)
 
   module _ (regions : List ℕ) (temps : Option ℕ) where
     -- all that is freed
@@ -285,16 +278,7 @@ module _ (held : ℕ → Truth) (owners : List Val) (f m : Machine) (stack : Lis
   field-free : (a : ℕ) (o : Seen) (k : ℕ) (v : Val) (q : ℕ) → left a ≡ true → slice_get m.store a ≡ Some o → slice_get o.fields k ≡ Some v
       → In q all → is_into m.store q v ≡ true → ⊥
   field-free a o k v q e there at i into =
-      let mine : FieldInto m q = record {
-        object = a;
-        field = k;
-        holder = o;
-        value = v;
-        holder_there = there;
-        value_there = at;
-        outside = outside a o q e there i;
-        into = into;
-      } in
+      let mine : FieldInto m q = field-into a k o v there at (outside a o q e there i) into in
       let stay = stays a o e there in elim (from q i) [
         | inl given ↦ b.no_field q given mine (or-right (in_regions all o.label) (is_temp temps o.label) stay)
         | inr h ↦
@@ -340,22 +324,15 @@ module _ (held : ℕ → Truth) (owners : List Val) (f m : Machine) (stack : Lis
   window-owners [] opened below h = tt
   window-owners (w ∷ ws) opened below h = (
     of w.owner h.0,
-    window-owners ws (λ r e. opened r (more r e)) (λ k e. not-below ws k (below k e)) h.1,
+    window-owners ws (λ r e. opened r (open-more w ws r e)) (λ k e. not-below ws k (below k e)) h.1,
   )
     where
-      more : (r : ℕ) → is_open ws r ≡ true → is_open (w ∷ ws) r ≡ true
-      more r e = by (w.region == r)
-        where
-          by : (t : Truth) → (t || is_open ws r) ≡ true
-          by true = refl
-          by false = e
-
       no-temp : (l : Label) → is_of ws l ≡ true → is_temp temps l ≡ true → ⊥
       no-temp l e t = let h = temp-label temps l t in clash (has_window ws h.0) (ap (is_of ws) (sym h.2) ∙ e) (below h.0 h.1)
 
       no-region : (l : Label) → is_of ws l ≡ true → in_regions all l ≡ true → ⊥
       no-region l e t = let h = in-label all l t in
-          clash (is_open m.windows h.0) (opened h.0 (more h.0 (ap (is_of ws) (sym h.1) ∙ e))) (shut h.0 h.2)
+          clash (is_open m.windows h.0) (opened h.0 (open-more w ws h.0 (ap (is_of ws) (sym h.1) ∙ e))) (shut h.0 h.2)
 
       buried-not : (o : Seen) → is_of ws o.label ≡ true → (t : Truth) → is_buried all temps o ≡ t → t ≡ false
       buried-not o e false h = refl
@@ -380,12 +357,7 @@ module _ (held : ℕ → Truth) (owners : List Val) (f m : Machine) (stack : Lis
 
   pub half-bury : Half left kept (record f { store = bury all temps f.store }) m stack
   half-bury = record {
-    frames = p.frames;
-    windows = p.windows;
-    windows_made = p.windows_made;
-    at = p.at;
-    managers_made = p.managers_made;
-    open_managers = p.open_managers;
+    around = around-objects held owners f m stack p (bury all temps f.store) m.store;
     held_managers = λ a o r e. p.held_managers a o r (was-held a e);
     objects_made = length-map f.store (buried all temps) ∙ p.objects_made;
     there = λ a e. p.there a (was-held a e);
@@ -393,15 +365,7 @@ module _ (held : ℕ → Truth) (owners : List Val) (f m : Machine) (stack : Lis
     others = object-gone;
     temps = λ a o n e. p.temps a o n (was-held a e);
     slots = λ n h s v there at. leads v (p.slots n h s v there at)
-        (λ q i into. slot-free q i (record {
-          frame = n;
-          slot = s;
-          holder = h;
-          value = v;
-          holder_there = there;
-          value_there = at;
-          into = into;
-        })) (λ k t l. b.slots_stay n h s v k there at t l);
+        (λ q i into. slot-free q i (slot-into n s h v there at into)) (λ k t l. b.slots_stay n h s v k there at t l);
     on_stack = on-stack stack (λ i v e. (i, e)) p.on_stack;
     fields = λ a o k v e there at. leads v (p.fields a o k v (was-held a e) there at) (λ q i into. field-free a o k v q e there at i into)
         (λ n t l. b.fields_stay a o k v n (was-held a e) there

@@ -1,22 +1,25 @@
 -- What the two machines share, and changes of both that leave objects as they are.
-use Rattle.std.proofs.Common.{◌≡◌, ℕ, zero, suc, ◌-◌, ◌^◌, ◌==◌, ◌⊎◌, inl, inr, true, false, true≢false, Bool as Truth, List, [], ◌∷◌}
-use Rattle.std.proofs.Common.{Option, Some, None, option_and_then, option_map, refl, sym, ap, ◌∙◌, slice_get}
+use Rattle.std.proofs.Common.{◌≡◌, ◌≤◌, ℕ, zero, suc, ◌-◌, ◌^◌, ◌==◌, ◌⊎◌, inl, inr, true, false, true≢false, Bool as Truth, List, [], ◌∷◌}
+use Rattle.std.proofs.Common.{Option, Some, None, option_and_then, option_map, unwrap_or, length, refl, sym, ap, ◌∙◌, arith, slice_get}
 use Rattle.std.proofs.lemmas.Option.{same_Some}
 use Rattle.std.proofs.lemmas.Bool.{cases_Bool}
 use Rattle.std.specs.Prelude.{◌||◌, if◌then◌else◌}
 use Rattle.std.specs.List.{list_any}
 use Rattle.rg_base.specs.declared.object.Label.{Label}
 use Rattle.rg_base.specs.declared.object.Label.TheVariants.{Region, Temp, Frozen}
+use Rattle.rg_base.specs.declared.object.Place.{Place}
+use Rattle.rg_base.specs.declared.object.Place.TheVariants as place
 use Rattle.rg_base.specs.declared.object.Seen.{Seen}
 use Rattle.rg_base.specs.declared.value.Val.{Val}
+use Rattle.rg_base.specs.declared.words.Manager.{Manager}
 use Rattle.rg_base.specs.declared.value.Val.TheVariants as val
-use Rattle.rg_stack.specs.Machine.{Frame, Window, Machine, top_slots, with_slots}
+use Rattle.rg_stack.specs.Machine.{Frame, Window, Machine, slot_at, top_slots, with_slots}
 use Rattle.rg_stack.specs.Needs.{closed_of, closed_into}
 use Rattle.rg_stack.specs.Labels.{is_open, label_of, is_into, is_outside}
 use Rattle.rg_stack.proofs.Basics.{none-some, or-left}
 use Rattle.rg_held.specs.Gone.{gone}
-use Rattle.rg_held.specs.Part.{leads_to, AllLead, SlotInto, FieldInto, Placed, Tidy, Part, is_shut_or_above}
-use Rattle.rg_held.proofs.Places.{clash, or-right}
+use Rattle.rg_held.specs.Part.{leads_to, AllLead, SlotInto, FieldInto, OwnerHeld, OwnersHeld, Placed, Part, is_of, is_shut_or_above}
+use Rattle.rg_held.proofs.Places.{clash, field-into, open-more, or-right, slot-into}
 
 -- a closed region has none above it, and may be led to
 
@@ -52,44 +55,14 @@ pub all-more : (test also : ℕ → Truth) (vs : List Val) → ((a : ℕ) → te
 all-more test also [] h a = a
 all-more test also (v ∷ vs) h a = (lead-more test also v h a.0, all-more test also vs h a.1)
 
--- frames change, and nothing else
-
-pub tidy-frames : (m : Machine) (fs : List Frame) → Tidy m → Tidy (record m { frames = fs })
-tidy-frames m fs t = record {
-  some_window = t.some_window;
-  differ = t.differ;
-  numbers = t.numbers;
-  regions = t.regions;
-  labels = t.labels;
-  fields = t.fields;
-  inside = t.inside;
-}
-
 -- a slot, and a field, that lead into a region do so in a machine that has them
 abbrev pub slot-over : (m x : Machine) (r : ℕ) (s : SlotInto m r) → slice_get x.frames s.frame ≡ Some s.holder → is_into x.store r s.value ≡ true
     → SlotInto x r
-slot-over m x r s there into = record {
-  frame = s.frame;
-  slot = s.slot;
-  holder = s.holder;
-  value = s.value;
-  holder_there = there;
-  value_there = s.value_there;
-  into = into;
-}
+slot-over m x r s there into = slot-into s.frame s.slot s.holder s.value there s.value_there into
 
 abbrev pub field-over : (m x : Machine) (r : ℕ) (l : FieldInto m r) → slice_get x.store l.object ≡ Some l.holder
     → is_outside x.windows r l.holder.label ≡ true → is_into x.store r l.value ≡ true → FieldInto x r
-field-over m x r l there outside into = record {
-  object = l.object;
-  field = l.field;
-  holder = l.holder;
-  value = l.value;
-  holder_there = there;
-  value_there = l.value_there;
-  outside = outside;
-  into = into;
-}
+field-over m x r l there outside into = field-into l.object l.field l.holder l.value there l.value_there outside into
 
 abbrev pub field-frames : (m : Machine) (fs : List Frame) (r : ℕ) → FieldInto m r → FieldInto (record m { frames = fs }) r
 field-frames m fs r p = field-over m (record m { frames = fs }) r p p.holder_there p.outside p.into
@@ -102,15 +75,7 @@ slot-of-top m slots r j u v old new into = by m.frames refl old
   where
     by : (fs : List Frame) → m.frames ≡ fs → slice_get (top_slots fs) j ≡ Some u → SlotInto (record m { frames = with_slots slots m.frames }) r
     by [] e old = none-some u old
-    by (f ∷ fs) e old = record {
-      frame = 0;
-      slot = j;
-      holder = record f { slots = slots };
-      value = v;
-      holder_there = ap (λ l. slice_get (with_slots slots l) 0) e;
-      value_there = new;
-      into = into;
-    }
+    by (f ∷ fs) e old = slot-into 0 j (record f { slots = slots }) v (ap (λ l. slice_get (with_slots slots l) 0) e) new into
 
 -- a slot that leads into a region is one of the topmost frame, or stays where that changes
 pub slot-cases : (m : Machine) (slots : List Val) (r : ℕ) → SlotInto m r
@@ -123,15 +88,8 @@ slot-cases m slots r p = by m.frames refl p.frame p.holder_there
         ⊎ SlotInto (record m { frames = with_slots slots m.frames }) r
     by [] e n h = none-some p.holder h
     by (f ∷ fs) e zero h = inl (p.slot, (p.value, ap (λ (f : Frame). slice_get f.slots p.slot) (same_Some f p.holder h) ∙ p.value_there, p.into))
-    by (f ∷ fs) e (suc n) h = inr (record {
-      frame = suc n;
-      slot = p.slot;
-      holder = p.holder;
-      value = p.value;
-      holder_there = ap (λ l. slice_get (with_slots slots l) (suc n)) e ∙ h;
-      value_there = p.value_there;
-      into = p.into;
-    })
+    by (f ∷ fs) e (suc n) h =
+        inr (slot-into (suc n) p.slot p.holder p.value (ap (λ l. slice_get (with_slots slots l) (suc n)) e ∙ h) p.value_there p.into)
 
 -- a slot behind such a change is one of the topmost frame's new ones, or was there
 pub slots-back : (fs : List Frame) (slots : List Val) (n : ℕ) (h : Frame) (j : ℕ) (u : Val) → slice_get (with_slots slots fs) n ≡ Some h
@@ -147,6 +105,32 @@ pub top-slot : (fs : List Frame) (j : ℕ) (u : Val) → slice_get (top_slots fs
     → (g : Frame) × (slice_get fs 0 ≡ Some g) × (slice_get g.slots j ≡ Some u)
 top-slot [] j u e = none-some u e
 top-slot (f ∷ fs) j u e = (f, refl, e)
+
+-- what a slot of the topmost frame holds leads to what is held, where all slots do
+pub top-leads : (held : ℕ → Truth) (m : Machine) (s : ℕ)
+    → ((n : ℕ) (h : Frame) (s : ℕ) (v : Val) → slice_get m.frames n ≡ Some h → slice_get h.slots s ≡ Some v → leads_to held v ≡ true)
+    → leads_to held (slot_at m s) ≡ true
+top-leads held m s slots = by (slice_get (top_slots m.frames) s) refl
+  where
+    by : (o : Option Val) → slice_get (top_slots m.frames) s ≡ o → leads_to held (unwrap_or o val.Nil) ≡ true
+    by None e = refl
+    by (Some v) e = let h = top-slot m.frames s v e in slots 0 h.0 s v h.1 h.2
+
+-- owners of windows stay in what is held, where each object of a window beneath does
+pub owners-over : (held also : ℕ → Truth) (store next : List Seen) (ws : List Window)
+    → ((vs : List Window) (a : ℕ) (o : Seen) → ((r : ℕ) → is_open vs r ≡ true → is_open ws r ≡ true) → held a ≡ true → slice_get store a ≡ Some o
+    → is_of vs o.label ≡ true → (also a ≡ true) × ((q : Seen) × (slice_get next a ≡ Some q) × (is_of vs q.label ≡ true)))
+    → OwnersHeld held store ws → OwnersHeld also next ws
+owners-over held also store next [] stays h = tt
+owners-over held also store next (w ∷ ws) stays h = (
+  by w.owner h.0,
+  owners-over held also store next ws (λ vs a o up. stays vs a o (λ r e. open-more w ws r (up r e))) h.1,
+)
+  where
+    by : (at : Option Place) → OwnerHeld held store ws at → OwnerHeld also next ws at
+    by None h = tt
+    by (Some (place.Var i j)) h = tt
+    by (Some (place.Field a k)) h = stays ws a h.1.0 (λ r e. open-more w ws r e) h.0 h.1.1 h.1.2
 
 module _ (held : ℕ → Truth) (owners : List Val) (f m : Machine) (stack : List Val) (p : Part held owners f m stack) where
   -- what is held is seen the same
@@ -174,60 +158,26 @@ module _ (held : ℕ → Truth) (owners : List Val) (f m : Machine) (stack : Lis
       gone_no None e = none-some o e
       gone_no (Some q) e = no_region (ap (λ (q : Seen). q.label) (same_Some gone o e) ∙ lies)
 
-  -- another stack, and other values that count as owners
-  part-over : (kept left : List Val)
-      → ((r : ℕ) → is_open m.windows r ≡ false → list_any (is_into m.store r) owners ≡ true
-      → Placed held m r ⊎ (list_any (is_into m.store r) kept ≡ true)) → AllLead held left → Part held kept f m left
-  part-over kept left h lead = record {
-    frames = p.frames;
-    windows = p.windows;
-    windows_made = p.windows_made;
-    at = p.at;
-    managers_made = p.managers_made;
-    open_managers = p.open_managers;
-    held_managers = p.held_managers;
-    objects_made = p.objects_made;
-    there = p.there;
-    same = p.same;
-    others = p.others;
-    temps = p.temps;
-    lost_temps = p.lost_temps;
-    slots = p.slots;
-    on_stack = lead;
-    fields = p.fields;
-    owned = λ a o r held_a there lies closed. elim (p.owned a o r held_a there lies closed) [
-      | inl placed ↦ inl placed
-      | inr any ↦ h r closed any
-    ];
-    window_owners = p.window_owners;
-    tidy = p.tidy;
-  }
-
-  pub part-stack : (left : List Val) → AllLead held left → Part held owners f m left
-  part-stack left lead = part-over owners left (λ r closed any. inr any) lead
-
-  pub part-owners : (kept : List Val)
-      → ((r : ℕ) → is_open m.windows r ≡ false → list_any (is_into m.store r) owners ≡ true
-      → Placed held m r ⊎ (list_any (is_into m.store r) kept ≡ true)) → Part held kept f m stack
-  part-owners kept h = part-over kept stack h p.on_stack
-
-  -- other frames, the same in both
-  pub part-frames : (ff fs : List Frame) (kept left : List Val) → ff ≡ fs
+  -- other frames, managers and addresses, where store and windows stay
+  pub part-beside : (ff fs : List Frame) (gf gm : List Manager) (af am : ℕ) (kept left : List Val) → ff ≡ fs → af ≡ am
+      → length gf ≡ length gm → length m.managers ≤ length gm
+      → ((r : ℕ) → is_open m.windows r ≡ true → slice_get gf r ≡ slice_get gm r)
+      → ((a : ℕ) (o : Seen) (r : ℕ) → held a ≡ true → slice_get m.store a ≡ Some o → o.label ≡ Region r → slice_get gf r ≡ slice_get gm r)
       → ((n : ℕ) (h : Frame) (s : ℕ) (v : Val) → slice_get fs n ≡ Some h → slice_get h.slots s ≡ Some v → leads_to held v ≡ true)
       → AllLead held left
       → ((r : ℕ) → is_open m.windows r ≡ false → SlotInto m r
-      → SlotInto (record m { frames = fs }) r ⊎ (list_any (is_into m.store r) kept ≡ true))
+      → SlotInto (record m { frames = fs; managers = gm; at = am }) r ⊎ (list_any (is_into m.store r) kept ≡ true))
       → ((r : ℕ) → is_open m.windows r ≡ false → list_any (is_into m.store r) owners ≡ true
-      → Placed held (record m { frames = fs }) r ⊎ (list_any (is_into m.store r) kept ≡ true))
-      → Part held kept (record f { frames = ff }) (record m { frames = fs }) left
-  part-frames ff fs kept left same slots lead stay move = record {
+      → Placed held (record m { frames = fs; managers = gm; at = am }) r ⊎ (list_any (is_into m.store r) kept ≡ true))
+      → Part held kept (record f { frames = ff; managers = gf; at = af }) (record m { frames = fs; managers = gm; at = am }) left
+  part-beside ff fs gf gm af am kept left same at made more open_managers held_managers slots lead stay move = record {
     frames = same;
     windows = p.windows;
     windows_made = p.windows_made;
-    at = p.at;
-    managers_made = p.managers_made;
-    open_managers = p.open_managers;
-    held_managers = p.held_managers;
+    at = at;
+    managers_made = made;
+    open_managers = open_managers;
+    held_managers = held_managers;
     objects_made = p.objects_made;
     there = p.there;
     same = p.same;
@@ -240,10 +190,48 @@ module _ (held : ℕ → Truth) (owners : List Val) (f m : Machine) (stack : Lis
     owned = λ a o r held_a there lies closed. elim (p.owned a o r held_a there lies closed) [
       | inl placed ↦ elim placed [
         | inl slot ↦ elim (stay r closed slot) [ inl s ↦ inl (inl s) | inr k ↦ inr k ]
-        | inr field ↦ inl (inr (field-frames m fs r field.0, field.1))
+        | inr field ↦ inl (inr (
+          field-over m (record m { frames = fs; managers = gm; at = am }) r field.0 field.0.holder_there field.0.outside field.0.into,
+          field.1,
+        ))
       ]
       | inr any ↦ move r closed any
     ];
     window_owners = p.window_owners;
-    tidy = tidy-frames m fs p.tidy;
+    tidy = record {
+      some_window = p.tidy.some_window;
+      differ = p.tidy.differ;
+      numbers = p.tidy.numbers;
+      regions = λ r o. (let l = p.tidy.regions r o in omega (arith, l, more));
+      labels = λ a o r there lies. (let l = p.tidy.labels a o r there lies in omega (arith, l, more));
+      fields = p.tidy.fields;
+      inside = p.tidy.inside;
+    };
   }
+
+  -- other frames, the same in both
+  pub part-frames : (ff fs : List Frame) (kept left : List Val) → ff ≡ fs
+      → ((n : ℕ) (h : Frame) (s : ℕ) (v : Val) → slice_get fs n ≡ Some h → slice_get h.slots s ≡ Some v → leads_to held v ≡ true)
+      → AllLead held left
+      → ((r : ℕ) → is_open m.windows r ≡ false → SlotInto m r
+      → SlotInto (record m { frames = fs }) r ⊎ (list_any (is_into m.store r) kept ≡ true))
+      → ((r : ℕ) → is_open m.windows r ≡ false → list_any (is_into m.store r) owners ≡ true
+      → Placed held (record m { frames = fs }) r ⊎ (list_any (is_into m.store r) kept ≡ true))
+      → Part held kept (record f { frames = ff }) (record m { frames = fs }) left
+  part-frames ff fs kept left same slots lead stay move =
+      part-beside ff fs f.managers m.managers f.at m.at kept left same p.at p.managers_made (omega arith) p.open_managers p.held_managers slots
+      lead stay move
+
+  -- another stack, and other values that count as owners
+  part-over : (kept left : List Val)
+      → ((r : ℕ) → is_open m.windows r ≡ false → list_any (is_into m.store r) owners ≡ true
+      → Placed held m r ⊎ (list_any (is_into m.store r) kept ≡ true)) → AllLead held left → Part held kept f m left
+  part-over kept left h lead = part-frames f.frames m.frames kept left p.frames p.slots lead (λ r c slot. inl slot) h
+
+  pub part-stack : (left : List Val) → AllLead held left → Part held owners f m left
+  part-stack left lead = part-over owners left (λ r closed any. inr any) lead
+
+  pub part-owners : (kept : List Val)
+      → ((r : ℕ) → is_open m.windows r ≡ false → list_any (is_into m.store r) owners ≡ true
+      → Placed held m r ⊎ (list_any (is_into m.store r) kept ≡ true)) → Part held kept f m stack
+  part-owners kept h = part-over kept stack h p.on_stack

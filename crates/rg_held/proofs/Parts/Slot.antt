@@ -14,6 +14,7 @@ use Rattle.rg_stack.proofs.Basics.{none-some}
 use Rattle.rg_held.specs.Part.{leads_to, AllLead, SlotInto, Placed, Part}
 use Rattle.rg_held.proofs.Lists.{off, set-back, set-other, set-new, set-old, ended-back, ended-front, drop-at, any-at}
 use Rattle.rg_held.proofs.Lists.{reverse-back, reverse-in, append-back, append-left, replicate-back, take-whole}
+use Rattle.rg_held.proofs.Places.{slot-into}
 use Rattle.rg_held.proofs.Parts.Part.{part-frames, slot-cases, slot-of-top, slots-back, top-slot, lead-any}
 
 -- what leads into a region is no nil
@@ -62,29 +63,10 @@ put-back m s v r p = by m.frames refl p.frame p.holder_there
         let same = same_Some (record g { slots = slice_set g.slots s v }) p.holder there in
         elim (set-other g.slots s p.slot v p.value (ap (λ (h : Frame). slice_get h.slots p.slot) same ∙ p.value_there)) [
           | inl new ↦ inl (ap (is_into m.store r) (sym new) ∙ p.into)
-          | inr old ↦ inr (
-            record {
-              frame = 0;
-              slot = p.slot;
-              holder = g;
-              value = p.value;
-              holder_there = ap (λ l. slice_get l 0) e;
-              value_there = old.0;
-              into = p.into;
-            },
-            λ zero_is at. old.1 (sym at),
-          )
+          | inr old ↦ inr (slot-into 0 p.slot g p.value (ap (λ l. slice_get l 0) e) old.0 p.into, λ zero_is at. old.1 (sym at))
         ]
     by (g ∷ gs) e (suc n) there = inr (
-      record {
-        frame = suc n;
-        slot = p.slot;
-        holder = p.holder;
-        value = p.value;
-        holder_there = ap (λ l. slice_get l (suc n)) e ∙ there;
-        value_there = p.value_there;
-        into = p.into;
-      },
+      slot-into (suc n) p.slot p.holder p.value (ap (λ l. slice_get l (suc n)) e ∙ there) p.value_there p.into,
       λ is at. omega (arith, is),
     )
 
@@ -101,28 +83,12 @@ end-back m s r p = by m.frames refl p.frame p.holder_there
         (ap (λ (h : Frame). slice_get h.slots p.slot) same ∙ p.value_there)) [
           | inl nil ↦ nil-into m r p.value nil p.into
           | inr old ↦ (
-            record {
-              frame = 0;
-              slot = p.slot;
-              holder = g;
-              value = p.value;
-              holder_there = ap (λ l. slice_get l 0) e;
-              value_there = old.0;
-              into = p.into;
-            },
+            slot-into 0 p.slot g p.value (ap (λ l. slice_get l 0) e) old.0 p.into,
             λ j from zero_is at. (let less = old.1 in omega (arith, less, from, at)),
           )
         ]
     by (g ∷ gs) e (suc n) there = (
-      record {
-        frame = suc n;
-        slot = p.slot;
-        holder = p.holder;
-        value = p.value;
-        holder_there = ap (λ l. slice_get l (suc n)) e ∙ there;
-        value_there = p.value_there;
-        into = p.into;
-      },
+      slot-into (suc n) p.slot p.holder p.value (ap (λ l. slice_get l (suc n)) e ∙ there) p.value_there p.into,
       λ j from is at. omega (arith, is),
     )
 
@@ -185,15 +151,7 @@ module _ (held : ℕ → Truth) (owners : List Val) (f m : Machine) (stack : Lis
       (record m { frames = record { slots = reverse (take n stack) ++ replicate k val.Nil; back = back } ∷ m.frames }) []
   part-call n k back size on_stack =
       part-frames held owners f m stack p (top ∷ f.frames) (top ∷ m.frames) [] [] (ap (λ fs. top ∷ fs) p.frames) slots tt
-      (λ r c at. inl (record {
-        frame = suc at.frame;
-        slot = at.slot;
-        holder = at.holder;
-        value = at.value;
-        holder_there = at.holder_there;
-        value_there = at.value_there;
-        into = at.into;
-      })) (λ r c any. inl (inl (found r (any-at (is_into m.store r) stack (on_stack r c any)))))
+      (λ r c at. inl (slot-into (suc at.frame) at.slot at.holder at.value at.holder_there at.value_there at.into)) (λ r c any. inl (inl (found r (any-at (is_into m.store r) stack (on_stack r c any)))))
     where
       top : Frame
       top = record { slots = reverse (take n stack) ++ replicate k val.Nil; back = back }
@@ -214,12 +172,5 @@ module _ (held : ℕ → Truth) (owners : List Val) (f m : Machine) (stack : Lis
       found : (r : ℕ) → ((i : ℕ) × ((x : Val) × (slice_get stack i ≡ Some x) × (is_into m.store r x ≡ true)))
           → SlotInto (record m { frames = top ∷ m.frames }) r
       found r h =
-          let j = reverse-in (take n stack) h.0 h.1.0 (ap (λ l. slice_get l h.0) whole ∙ h.1.1) in record {
-            frame = 0;
-            slot = j.0;
-            holder = top;
-            value = h.1.0;
-            holder_there = refl;
-            value_there = append-left (reverse (take n stack)) (replicate k val.Nil) j.0 h.1.0 j.1;
-            into = h.1.2;
-          }
+          let j = reverse-in (take n stack) h.0 h.1.0 (ap (λ l. slice_get l h.0) whole ∙ h.1.1) in
+          slot-into 0 j.0 top h.1.0 refl (append-left (reverse (take n stack)) (replicate k val.Nil) j.0 h.1.0 j.1) h.1.2

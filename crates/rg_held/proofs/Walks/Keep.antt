@@ -1,5 +1,5 @@
 -- What holds of the machine in front of each instruction, and what then holds where its walk ends: said of any two such facts.
-use Rattle.std.proofs.Common.{◌≡◌, ℕ, zero, suc, ◌+◌, true, false, Bool as Truth, if◌then◌else◌, List, [], ◌∷◌, Result, Ok, Err, refl, length}
+use Rattle.std.proofs.Common.{◌≡◌, ℕ, zero, suc, ◌+◌, true, false, Bool as Truth, if◌then◌else◌, List, [], ◌∷◌, Result, Ok, Err, refl, length, Option, Some, None}
 use Rattle.std.specs.Prelude.{nat_lt}
 use Rattle.rg_base.specs.Input.{NextNumber, found, malformed, at_end}
 use Rattle.rg_base.specs.declared.object.Seen.{Seen}
@@ -8,16 +8,25 @@ use Rattle.rg_base.specs.declared.outcome.Trap.TheVariants as trap
 use Rattle.rg_base.specs.declared.value.Val.{Val}
 use Rattle.rg_tree.specs.declared.rows.BinOp.{BinOp}
 use Rattle.rg_rules.specs.Values.{Computed, operate}
+use Rattle.rg_code.specs.declared.code.Entry.{Entry}
 use Rattle.rg_code.specs.declared.op.Op.{Op}
 use Rattle.rg_code.specs.Code.{Code}
-use Rattle.rg_stack.specs.Machine.{Machine, top_slots, place_of}
-use Rattle.rg_stack.specs.Effects.{Work, Walked, Traps, Stuck, Go, Act, walk_by, on_top, on_two, pushed, next_taken, opens_at, begins_by}
+use Rattle.rg_stack.specs.Machine.{Frame, Machine, top_slots, place_of, slots_below}
+use Rattle.rg_stack.specs.Effects.{Work, Walked, Stops, Returns, Traps, Stuck, Go, Act, walk_by, on_top, on_two, pushed, next_taken, opens_at}
+use Rattle.rg_stack.specs.Effects.{begins_by, called, returned}
 
 -- a walk that is stuck or traps needs nothing, and the input may be read
 pub record Kept (Now : Work → Type 0) (Ending : Walked → Type 0) : Type 0 where
   pub stuck : Ending Stuck
   pub traps : (t : Trap) → Ending (Traps t)
   pub read : (w : Work) (rest : List ℕ) → Now w → Now (record w { input = rest })
+
+-- what holds of what a walk works on holds where it ends
+abbrev pub Ending : (Now : Work → Type 0) → Walked → Type 0
+Ending Now (Stops at w) = Now w
+Ending Now (Returns back stack w) = Now w
+Ending Now (Traps t) = Unit {0}
+Ending Now Stuck = Unit {0}
 
 -- how a walk goes on
 abbrev pub Onward : (Now : Work → Type 0) (Ending : Walked → Type 0) → Go → Type 0
@@ -63,3 +72,19 @@ module _ {Now : Work → Type 0} {Ending : Walked → Type 0} (k : Kept Now Endi
   on-walk each code h [] at skip stack w now = k.stuck
   on-walk each code h (o ∷ os) at zero stack w now = h at o (walk_by each code os (at + 1)) stack w (on-walk each code h os (at + 1)) now
   on-walk each code h (o ∷ os) at (suc n) stack w now = on-walk each code h os (at + 1) n stack w now
+
+-- what speaks of neither the input nor frames
+module _ (Now : Work → Type 0) (read : (w : Work) (rest : List ℕ) → Now w → Now (record w { input = rest }))
+    (framed : (w : Work) (fs : List Frame) → Now w → Now (record w { machine = record w.machine { frames = fs } })) where
+  pub ending-kept : Kept Now (Ending Now)
+  ending-kept = record { stuck = tt; traps = λ t. tt; read = read }
+
+  pub on-called : (at : ℕ) (e : Option Entry) (stack : List Val) (w : Work) → Now w → Ending Now (called at e stack w)
+  on-called at None stack w now = tt
+  on-called at (Some e) stack w now = framed w _ now
+
+  pub on-returned : (w : Work) (fs : List Frame) (stack : List Val) → Now w → Ending Now (returned w fs stack)
+  on-returned w [] stack now = tt
+  on-returned w (f ∷ []) stack now = tt
+  on-returned w (f ∷ g ∷ fs) stack now =
+      on-test ending-kept (begins_by w.machine.windows (slots_below (g ∷ fs))) _ Stuck (framed w (g ∷ fs) now) tt

@@ -1,6 +1,7 @@
 -- A step of the stack machine is one of the machine that never frees: what all kinds of statement share.
 use Rattle.std.proofs.Common.{◌≡◌, ℕ, zero, suc, ◌+◌, true, false, Bool as Truth, true≢false, if◌then◌else◌, List, [], ◌∷◌, ◌++◌, length, map, drop}
-use Rattle.std.proofs.Common.{replicate, refl, sym, ap, ◌∙◌, slice_get, unwrap_or}
+use Rattle.std.proofs.Common.{replicate, Some, refl, sym, ap, ◌∙◌, slice_get, unwrap_or}
+use Rattle.std.proofs.lemmas.Option.{same_Some}
 use Rattle.std.proofs.lemmas.List.{take-append-drop, drop-drop}
 use Rattle.rg_base.specs.declared.value.Val.{Val}
 use Rattle.rg_base.specs.declared.value.Val.TheVariants as val
@@ -13,6 +14,7 @@ use Rattle.rg_code.specs.declared.op.Op.TheVariants as i
 use Rattle.rg_code.specs.Code.{Code}
 use Rattle.rg_code.specs.Lowering.{Scope, slot_of, kind_code}
 use Rattle.rg_code.specs.Places.{Stands, is_mark, scope_of, Level, Lies}
+use Rattle.rg_sound.proofs.Basics.{none-some}
 use Rattle.rg_stack.specs.Effects.{Work, Stops}
 use Rattle.rg_stack.specs.Given.{given_walk as walk}
 
@@ -37,6 +39,13 @@ pub shown_slot : (locals : List Local) (k : ℕ) (x : Variable)
     → unwrap_or (slice_get (map (λ (l : Local). l.value) locals ++ replicate k val.Nil) (slot_of (scope_of locals) x)) val.Nil ≡ value_in locals x
 shown_slot [] k x = none_first k
 shown_slot (l ∷ ls) k x = shown_by (same_variable l.name x) l.value _ _ _ (shown_slot ls k x)
+
+-- and that of the variable at a place
+pub shown-at : (locals : List Local) (k i : ℕ) (l : Local) → slice_get locals i ≡ Some l →
+    slice_get (map (λ (l : Local). l.value) locals ++ replicate k val.Nil) i ≡ Some l.value
+shown-at [] k i l e = none-some e
+shown-at (x ∷ ls) k zero l e = ap (λ q. Some q.value) (same_Some x l e)
+shown-at (x ∷ ls) k (suc i) l e = shown-at ls k i l e
 
 -- a statement begins with its mark
 pub starts : (classes : List Class) (scope : Scope) (at line : ℕ) (k : StmtKind) (more : List Op)

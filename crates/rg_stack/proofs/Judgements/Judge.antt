@@ -273,19 +273,27 @@ module _ (classes : List Class) (env : Env) (store : List Seen) (windows : List 
       → FollowsPath classes store windows locals (scope_of locals) (record { base = x; fields = all_but_last f fs })
   holder-follows x f fs r h = let p = bind-ok (walk classes env x (all_but_last f fs)) _ r h in walk-follows x (all_but_last f fs) p.0 p.1
 
+  -- the class of that object is the one in which the field was looked up
+  holder-class : (x : Variable) (f : Name) (fs : List Name) (r : Looked) (u : Val) (o : Seen) → walk_receiver classes env x f fs ≡ Ok r
+      → path_value classes store locals (record { base = x; fields = all_but_last f fs }) ≡ Ok u → object_at store u ≡ Ok o
+      → (class : ℕ) × (o.class ≡ class) × (class_is (type_along classes (type_in (scope_of locals) x) (all_but_last f fs)) ≡ Some class)
+      × (field_type classes class (last_field f fs) ≡ Some r.ty)
+  holder-class x f fs r u o h got there =
+      let p = bind-ok (walk classes env x (all_but_last f fs)) _ r h in
+      let k = look_up-ok classes p.0 (last_field f fs) r p.2 in
+      let at = walk-reaches x (all_but_last f fs) p.0 u p.1 got in
+      let is = sym at.class ∙ ap class_is k.reference in
+      (k.class, same_Some o.class k.class (sym (at.value.0 o there) ∙ is), is, k.declared)
+
   pub holder-owes : (x : Variable) (f : Name) (fs : List Name) (r : Looked) → walk_receiver classes env x f fs ≡ Ok r
       → HolderOwes classes store locals (scope_of locals) x f fs
   holder-owes x f fs r h u o got there =
       let g = last_field f fs in
-      let p = bind-ok (walk classes env x (all_but_last f fs)) _ r h in
-      let k = look_up-ok classes p.0 g r p.2 in
+      let k = holder-class x f fs r u o h got there in
       let d = type_along classes (type_in (scope_of locals) x) (all_but_last f fs) in
-      let at = walk-reaches x (all_but_last f fs) p.0 u p.1 got in
-      let class_of_d : class_is d ≡ Some k.class = sym at.class ∙ ap class_is k.reference in
-      let class_of_o : o.class ≡ k.class = same_Some o.class k.class (sym (at.value.0 o there) ∙ class_of_d) in
-      let place = place_if_type classes (fields_of classes k.class) g r.ty k.declared in
-      let number : field_number classes d g ≡ place.0 = (field_of_type classes d g k.class class_of_d).0 ∙ ap (λ k. unwrap_or k 0) place.1 in
-      ap (λ c. field_place (fields_of classes c) g) class_of_o ∙ place.1 ∙ ap Some (sym number)
+      let place = place_if_type classes (fields_of classes k.0) g r.ty k.3 in
+      let number : field_number classes d g ≡ place.0 = (field_of_type classes d g k.0 k.2).0 ∙ ap (λ k. unwrap_or k 0) place.1 in
+      ap (λ c. field_place (fields_of classes c) g) k.1 ∙ place.1 ∙ ap Some (sym number)
 
   -- and the declared type of that field
   pub holder-type : (x : Variable) (f : Name) (fs : List Name) (r : Looked) (u : Val) (o : Seen) → walk_receiver classes env x f fs ≡ Ok r
@@ -293,15 +301,10 @@ module _ (classes : List Class) (env : Env) (store : List Seen) (windows : List 
       → (field_type classes o.class (last_field f fs) ≡ Some r.ty) × (type_along classes (type_in (scope_of locals) x) (f ∷ fs) ≡ r.ty)
   holder-type x f fs r u o h got there =
       let g = last_field f fs in
-      let p = bind-ok (walk classes env x (all_but_last f fs)) _ r h in
-      let k = look_up-ok classes p.0 g r p.2 in
-      let d = type_along classes (type_in (scope_of locals) x) (all_but_last f fs) in
-      let at = walk-reaches x (all_but_last f fs) p.0 u p.1 got in
-      let class_of_d : class_is d ≡ Some k.class = sym at.class ∙ ap class_is k.reference in
-      let class_of_o : o.class ≡ k.class = same_Some o.class k.class (sym (at.value.0 o there) ∙ class_of_d) in (
-        ap (λ c. field_type classes c g) class_of_o ∙ k.declared,
-        along-last classes (type_in (scope_of locals) x) f fs ∙ (field_of_type classes d g k.class class_of_d).1
-            ∙ ap (λ d. unwrap_or d Int) k.declared,
+      let k = holder-class x f fs r u o h got there in
+      let d = type_along classes (type_in (scope_of locals) x) (all_but_last f fs) in (
+        ap (λ c. field_type classes c g) k.1 ∙ k.3,
+        along-last classes (type_in (scope_of locals) x) f fs ∙ (field_of_type classes d g k.0 k.2).1 ∙ ap (λ d. unwrap_or d Int) k.3,
       )
 
 -- Blocks

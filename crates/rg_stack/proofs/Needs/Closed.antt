@@ -40,6 +40,7 @@ use Rattle.rg_stack.specs.Needs.{is_closed, owns_or_nil, field_of}
 use Rattle.rg_stack.specs.Labels.{is_open}
 use Rattle.rg_stack.proofs.Callers.List.{refused, get-nils}
 use Rattle.rg_stack.proofs.Callers.Lead.{ShowsFit, LeadsInto, IntoClosed, not-closed, into-closed, shown-closed, open-shown, value-owns}
+use Rattle.rg_stack.proofs.Callers.Mark.{shown-at}
 
 -- what a type that isn't `iso` owns
 pub none-owned : (store : List Seen) (t : Ty) (v : Val) (r : ℕ) → is_iso t ≡ false → option_and_then (region_at store) (owned t v) ≡ Some r → ⊥
@@ -54,12 +55,6 @@ not_iso-closed classes m bodies opened us d up t v meets iso = not-closed m v (�
     (value-owns m.store us t v r meets (λ o. shown-closed d.sizes m.windows opened r d.windows c.closed (up (Region r) o)) c.leads))
 
 -- Slots
-
-pub shown-at : (locals : List Local) (k i : ℕ) (l : Local) → slice_get locals i ≡ Some l →
-    slice_get (map (λ (l : Local). l.value) locals ++ replicate k val.Nil) i ≡ Some l.value
-shown-at [] k i l e = none-some e
-shown-at (x ∷ ls) k zero l e = ap (λ q. Some q.value) (same_Some x l e)
-shown-at (x ∷ ls) k (suc i) l e = shown-at ls k i l e
 
 behind-at : (locals : List Local) (k i : ℕ) → length locals ≤ i →
     unwrap_or (slice_get (map (λ (l : Local). l.value) locals ++ replicate k val.Nil) i) val.Nil ≡ val.Nil

@@ -28,7 +28,7 @@ use Rattle.rg_stack.specs.Shows.{ShowsFrame, ShowsFrames, ShowsWindows}
 use Rattle.rg_stack.specs.Needs.{field_of, value_at, owner_leads}
 use Rattle.rg_stack.specs.Labels.{is_into}
 use Rattle.rg_stack.proofs.Callers.Lead.{ShowsFit, LeadsInto, leads-is_into}
-use Rattle.rg_stack.proofs.Needs.Closed.{shown-at}
+use Rattle.rg_stack.proofs.Callers.Mark.{shown-at}
 use Rattle.rg_stack.proofs.Callers.Base.{as_many}
 
 -- what is owned leads there

@@ -27,7 +27,7 @@ use Rattle.rg_stack.specs.Effects.{Work, Walked, Stops, Stuck}
 use Rattle.rg_stack.specs.Needs.{is_closed, owned_once}
 use Rattle.rg_stack.proofs.Mirrors.{Mirrors}
 use Rattle.rg_stack.specs.Shows.{levels_of}
-use Rattle.rg_stack.proofs.Mirrors.{SameMove}
+use Rattle.rg_stack.proofs.Mirrors.{SameMove, mirrors-work}
 use Rattle.rg_stack.proofs.Walks.Walk.{Agrees, IsTruth, walk-skip}
 use Rattle.rg_stack.proofs.Callers.Mark.{drop-stands, first-drop, mark-there, lies_at_mark, walk_at_mark, walk_to_items}
 use Rattle.rg_stack.proofs.Walks.Place.{front_in, back_in, get-stands, stands-front, stands-back, block_starts, AllGoOn, lies_block}
@@ -241,6 +241,38 @@ module _ (classes : List Class) (code : Code) (r : Round) (store : List Seen) (s
       (round_of classes code r store slots locals managers input after h)
       (subst (λ s. Lies classes code.ops (level r s (length slots) ∷ levels) (j ∷ rest) end) (sym m.scope_is) lies)
 
+  -- where the parts of a test's code and of a block behind it stand
+  record Blocked (test block closing : List Op) (jump : ℕ) : Type 0 where
+    to_end : jump ≡ r.at + length (i.Mark line ∷ (test ++ (i.JumpFalse jump ∷ (block ++ closing))))
+    skip : jump - (r.at + 1 + length test + 1) ≡ length (block ++ closing)
+    behind : r.at + 1 + length test + 1 + length (block ++ closing)
+        ≡ r.at + length (i.Mark line ∷ (test ++ (i.JumpFalse jump ∷ (block ++ closing))))
+    in_block : StandsIn code.ops top (r.at + 1 + length test + 1) (block ++ closing)
+    closed : StandsIn code.ops top (r.at + 1 + length test + 1 + length block) closing
+
+  blocked : (test block closing : List Op) (jump : ℕ) → jump ≡ r.at + 1 + length test + 1 + length block + length closing
+      → StandsIn code.ops top r.at (i.Mark line ∷ (test ++ (i.JumpFalse jump ∷ (block ++ closing)))) → Blocked test block closing jump
+  blocked test block closing jump is stands =
+      let inside = r.at + 1 + length test + 1 in
+      let inner = block ++ closing in
+      let end = r.at + length (i.Mark line ∷ (test ++ (i.JumpFalse jump ∷ inner))) in
+      let front = i.Mark line ∷ (test ++ i.JumpFalse jump ∷ []) in
+      let to_inside : r.at + length front ≡ inside = omega (arith, length-append test (i.JumpFalse jump ∷ [])) in
+      let to_end : jump ≡ end = omega (arith, is, length-append test (i.JumpFalse jump ∷ inner), length-append block closing) in
+      let skip : jump - inside ≡ length inner = omega (arith, is, length-append block closing) in
+      let behind : inside + length inner ≡ end = omega (arith, is, length-append block closing, to_end) in
+      let flat : i.Mark line ∷ (test ++ (i.JumpFalse jump ∷ inner)) ≡ front ++ inner =
+      ap (λ l. i.Mark line ∷ l) (sym (append_assoc test (i.JumpFalse jump ∷ []) inner)) in
+      let in_block = subst (λ n. StandsIn code.ops top n inner) to_inside
+      (back_in code.ops top r.at front inner (subst (StandsIn code.ops top r.at) flat stands)) in
+      record {
+        to_end = to_end;
+        skip = skip;
+        behind = behind;
+        in_block = in_block;
+        closed = back_in code.ops top inside block closing in_block;
+      }
+
   -- `if e { .. }`
   pub branch-mirrors : (e : Expr) (b : Block) (j : Item) (rest : List Item) → Showing (Do (stmt line (branch e b no_else)) ∷ j ∷ rest)
       → Agrees classes store r.windows locals (scope_of locals) e → owned_once (work r store slots managers input).machine ≡ true
@@ -258,22 +290,14 @@ module _ (classes : List Class) (code : Code) (r : Round) (store : List Seen) (s
       let more = test ++ (i.JumpFalse jump ∷ inner) in
       let end = r.at + length (i.Mark line ∷ more) in
       let tail = drop end code.ops in
-      let front = i.Mark line ∷ (test ++ i.JumpFalse jump ∷ []) in
-      let to_inside : r.at + length front ≡ inside = omega (arith, length-append test (i.JumpFalse jump ∷ [])) in
-      let to_end : jump ≡ end = omega (arith, length-append test (i.JumpFalse jump ∷ inner), length-append block closing) in
-      let skip : jump - inside ≡ length inner = omega (arith, length-append block closing) in
-      let behind : inside + length inner ≡ end = omega (arith, length-append block closing, to_end) in
-      let flat : i.Mark line ∷ more ≡ front ++ inner = ap (λ l. i.Mark line ∷ l) (sym (append_assoc test (i.JumpFalse jump ∷ []) inner)) in
-      let in_block = subst (λ n. StandsIn code.ops top n inner) to_inside
-      (back_in code.ops top r.at front inner (subst (StandsIn code.ops top r.at) flat h.places.0)) in
-      let closed = back_in code.ops top inside block closing in_block in
-      let two_on : inside + length block + 2 ≡ end = to_end in
+      let stand = blocked test block closing jump refl h.places.0 in
+      let two_on : inside + length block + 2 ≡ end = stand.to_end in
       let leads : behind_end (slice_get code.ops (inside + length block + 2)) (inside + length block + 2) ≡ end =
       ap (λ n. behind_end (slice_get code.ops n) n) two_on
       ∙ behind_mark (slice_get code.ops end) end (lies_at_mark classes code.ops (top ∷ levels) j rest end h.places.1) in
       let body = lies_block classes code.ops b top levels inside (EndAt (length scope) ∷ j ∷ rest)
-      (front_in code.ops top inside block closing in_block) goes
-      (block_end classes code.ops top levels b (inside + length block) line [] (j ∷ rest) closed
+      (front_in code.ops top inside block closing stand.in_block) goes
+      (block_end classes code.ops top levels b (inside + length block) line [] (j ∷ rest) stand.closed
       (subst (Lies classes code.ops (top ∷ levels) (j ∷ rest)) (sym leads) h.places.1)) in
       let w = work r store (slots_after e) managers input in
       let begins : is_mark (slice_get (inner ++ tail) 0) ≡ true = ap (λ l. is_mark (slice_get l 0)) (append_assoc block closing tail)
@@ -287,8 +311,8 @@ module _ (classes : List Class) (code : Code) (r : Round) (store : List Seen) (s
       (sym (walk_at_mark classes code (inner ++ tail) inside w begins))
       (into_block e b (item ∷ j ∷ rest) (length scope) inside h refl (j ∷ rest) body))
       (subst (λ x. EndsAs classes code r.output (Ok (state r store (locals_after e) managers input (j ∷ rest))) x)
-      (sym (ap (λ k. walk code (inner ++ tail) inside k [] w) skip ∙ walk-skip classes code inner tail inside [] w))
-      (over_block e (item ∷ j ∷ rest) j rest (inside + length inner) end h behind h.places.1))))
+      (sym (ap (λ k. walk code (inner ++ tail) inside k [] w) stand.skip ∙ walk-skip classes code inner tail inside [] w))
+      (over_block e (item ∷ j ∷ rest) j rest (inside + length inner) end h stand.behind h.places.1))))
 
   -- `if e { .. } else { .. }`
   pub branch-else-mirrors : (e : Expr) (b c : Block) (j : Item) (rest : List Item) → Showing (Do (stmt line (branch e b (otherwise c))) ∷ j ∷ rest)
@@ -386,22 +410,14 @@ module _ (classes : List Class) (code : Code) (r : Round) (store : List Seen) (s
       let more = test ++ (i.JumpFalse jump ∷ inner) in
       let end = r.at + length (i.Mark line ∷ more) in
       let tail = drop end code.ops in
-      let front = i.Mark line ∷ (test ++ i.JumpFalse jump ∷ []) in
-      let to_inside : r.at + length front ≡ inside = omega (arith, length-append test (i.JumpFalse jump ∷ [])) in
-      let to_end : jump ≡ end = omega (arith, length-append test (i.JumpFalse jump ∷ inner), length-append block closing) in
-      let skip : jump - inside ≡ length inner = omega (arith, length-append block closing) in
-      let behind : inside + length inner ≡ end = omega (arith, length-append block closing, to_end) in
-      let flat : i.Mark line ∷ more ≡ front ++ inner = ap (λ l. i.Mark line ∷ l) (sym (append_assoc test (i.JumpFalse jump ∷ []) inner)) in
-      let in_block = subst (λ n. StandsIn code.ops top n inner) to_inside
-      (back_in code.ops top r.at front inner (subst (StandsIn code.ops top r.at) flat h.places.0)) in
-      let closed = back_in code.ops top inside block closing in_block in
+      let stand = blocked test block closing jump refl h.places.0 in
       let jumps = get-stands code.ops (inside + length block + 2) (i.Jump r.at) []
-      (stands-back code.ops (inside + length block) (i.Mark line ∷ i.End (length scope) ∷ []) (i.Jump r.at ∷ []) closed.0) in
+      (stands-back code.ops (inside + length block) (i.Mark line ∷ i.End (length scope) ∷ []) (i.Jump r.at ∷ []) stand.closed.0) in
       let leads : behind_end (slice_get code.ops (inside + length block + 2)) (inside + length block + 2)
       ≡ r.at = ap (λ o. behind_end o (inside + length block + 2)) jumps in
       let body = lies_block classes code.ops b top levels inside (EndAt (length scope) ∷ item ∷ j ∷ rest)
-      (front_in code.ops top inside block closing in_block) goes
-      (block_end classes code.ops top levels b (inside + length block) line (i.Jump r.at ∷ []) (item ∷ j ∷ rest) closed
+      (front_in code.ops top inside block closing stand.in_block) goes
+      (block_end classes code.ops top levels b (inside + length block) line (i.Jump r.at ∷ []) (item ∷ j ∷ rest) stand.closed
       (subst (Lies classes code.ops (top ∷ levels) (item ∷ j ∷ rest)) (sym leads) h.places)) in
       let w = work r store (slots_after e) managers input in
       let begins : is_mark (slice_get (inner ++ tail) 0) ≡ true = ap (λ l. is_mark (slice_get l 0)) (append_assoc block closing tail)
@@ -417,8 +433,8 @@ module _ (classes : List Class) (code : Code) (r : Round) (store : List Seen) (s
       (sym (walk_at_mark classes code (inner ++ tail) inside w begins))
       (into_block e b (item ∷ j ∷ rest) (length scope) inside h refl (item ∷ j ∷ rest) body))
       (subst (λ x. EndsAs classes code r.output (Ok (state r store (locals_after e) managers input (j ∷ rest))) x)
-      (sym (ap (λ k. walk code (inner ++ tail) inside k [] w) skip ∙ walk-skip classes code inner tail inside [] w))
-      (over_block e (item ∷ j ∷ rest) j rest (inside + length inner) end h behind h.places.1))))
+      (sym (ap (λ k. walk code (inner ++ tail) inside k [] w) stand.skip ∙ walk-skip classes code inner tail inside [] w))
+      (over_block e (item ∷ j ∷ rest) j rest (inside + length inner) end h stand.behind h.places.1))))
 
   -- `print e;`
   pub print-mirrors : (e : Expr) (j : Item) (rest : List Item) → Showing (Do (stmt line (print e)) ∷ j ∷ rest)
@@ -452,15 +468,4 @@ module _ (classes : List Class) (code : Code) (r : Round) (store : List Seen) (s
       rest end w lies))
       (let ended = finish classes code r store (slots_after e) (locals_after e) managers input (j ∷ rest) (length slots) end m.shows m.size_is round
       lies in
-      record {
-        mirrors = record {
-          slots = ended.mirrors.slots;
-          windows = ended.mirrors.windows;
-          places = ended.mirrors.places;
-          windows_made = refl;
-          managers = refl;
-          store = refl;
-        };
-        input = refl;
-        output = refl;
-      })))))
+      mirrors-work classes code r.output _ _ ended.mirrors.slots ended.mirrors.windows ended.mirrors.places refl refl refl refl refl)))))

@@ -35,7 +35,7 @@ use Rattle.rg_stack.specs.Needs.{needs, owned_once}
 use Rattle.rg_stack.specs.Given.{given_step as step, given_walk as walk}
 use Rattle.rg_stack.proofs.Mirrors.{Mirrors}
 use Rattle.rg_stack.specs.Shows.{ShowsWindows, sizes_of, levels_of}
-use Rattle.rg_stack.proofs.Mirrors.{SameMove}
+use Rattle.rg_stack.proofs.Mirrors.{SameMove, mirrors-work}
 use Rattle.rg_stack.proofs.Walks.Walk.{FollowsPath, walk-path}
 use Rattle.rg_stack.proofs.Walks.Place.{front_in, back_in, get-stands, stands-back, GoesOn, AllGoOn, lies_behind, lies_block}
 use Rattle.rg_stack.proofs.Callers.Frame.{OpenedBelow}
@@ -162,22 +162,14 @@ module _ (classes : List Class) (code : Code) (j : Item) (rest : List Item) wher
       (with_slot [] None (Ref m.receiver d)) in
       let ls = level r (scope_of locals) (length slots) ∷ levels_of r.frames r.bodies in
       let l : Level = record { scope = scope; slots = length whole; target = target; back = back } in
-      record {
-        mirrors = record {
-          slots = (new_frame d m e target v vs size callee.given, (shows, round.frames));
-          windows = subst (λ k. ShowsWindows k r.windows r.opened)
-              (sym (reverse-append (length whole ∷ []) (length slots ∷ map (λ (f : Frame). length f.slots) r.frames)))
-              (windows_above (sizes_of (record { slots = slots; back = r.back } ∷ r.frames)) (length whole) r.windows r.opened below round.windows);
-          places = subst (λ s. Lies classes code.ops (record { scope = s; slots = length whole; target = target; back = back } ∷ ls)
-              (items_of m.body (method_end m.result ++ j ∷ rest)) e.at) names
-              (lies_method m.result m.line m.body l ls e.at (callee.stands, callee.room (length whole) enough) callee.fits behind);
-          windows_made = refl;
-          managers = refl;
-          store = refl;
-        };
-        input = refl;
-        output = refl;
-      }
+      mirrors-work classes code r.output _ _ (new_frame d m e target v vs size callee.given, (shows, round.frames))
+      (subst (λ k. ShowsWindows k r.windows r.opened)
+      (sym (reverse-append (length whole ∷ []) (length slots ∷ map (λ (f : Frame). length f.slots) r.frames)))
+      (windows_above (sizes_of (record { slots = slots; back = r.back } ∷ r.frames)) (length whole) r.windows r.opened below round.windows))
+      (subst (λ s. Lies classes code.ops (record { scope = s; slots = length whole; target = target; back = back } ∷ ls)
+      (items_of m.body (method_end m.result ++ j ∷ rest)) e.at) names
+      (lies_method m.result m.line m.body l ls e.at (callee.stands, callee.room (length whole) enough) callee.fits behind))
+      refl refl refl refl refl
 
   -- what the rules, the code and the invariant give of a call
   pub record CallOwes (r : Round) (store : List Seen) (slots : List Val) (locals : List Local) (c : Call) (d : ℕ) (m : Method) (e : Entry) : Type 0
@@ -286,6 +278,14 @@ module _ (classes : List Class) (code : Code) (j : Item) (rest : List Item) wher
   drop_there true top back h = (ap is_drop (get-stands code.ops back i.Drop [] h.0), refl)
   drop_there false top back h = (ap is_drop (get-stands code.ops back i.Pop [] h.0), refl)
 
+  -- where one instruction stands behind the others of a statement
+  one_behind : (top : Level) (at line : ℕ) (ops : List Op) (o : Op) → StandsIn code.ops top at (i.Mark line ∷ (ops ++ o ∷ []))
+      → StandsIn code.ops top (at + 1 + length ops) (o ∷ []) × (at + length (i.Mark line ∷ (ops ++ o ∷ [])) ≡ at + 1 + length ops + 1)
+  one_behind top at line ops o h =
+      let back : at + length (i.Mark line ∷ ops) ≡ at + 1 + length ops = omega arith in
+      let end : at + length (i.Mark line ∷ (ops ++ o ∷ [])) ≡ at + 1 + length ops + 1 = omega (arith, length-append ops (o ∷ [])) in
+      (subst (λ n. StandsIn code.ops top n (o ∷ [])) back (back_in code.ops top at (i.Mark line ∷ ops) (o ∷ []) h), end)
+
   -- what lies behind a call as a statement
   behind_call : (result : Option Written) (top : Level) (levels : List Level) (back : ℕ)
       → StandsIn code.ops top back (dropped_code (option_map (type_of classes) result))
@@ -354,12 +354,10 @@ module _ (classes : List Class) (code : Code) (j : Item) (rest : List Item) wher
         let more = ops ++ o ∷ [] in
         let tail = drop (r.at + length (i.Mark line ∷ more)) code.ops in
         let back = r.at + 1 + length ops in
-        let at_back : r.at + length (i.Mark line ∷ ops) ≡ back = omega arith in
-        let end : r.at + length (i.Mark line ∷ more) ≡ back + 1 = omega (arith, length-append ops (o ∷ [])) in
-        let stands = subst (λ n. StandsIn code.ops top n (o ∷ [])) at_back (back_in code.ops top r.at (i.Mark line ∷ ops) (o ∷ []) h.places.0) in
-        let lies = subst (Lies classes code.ops (record top { scope = with_slot scope (Some x) (type_of classes t) } ∷ levels) (j ∷ rest)) end
+        let last = one_behind top r.at line ops o h.places.0 in
+        let lies = subst (Lies classes code.ops (record top { scope = with_slot scope (Some x) (type_of classes t) } ∷ levels) (j ∷ rest)) last.1
         h.places.1 in
-        let behind : Behind (Some u) target back (top ∷ levels) = (stands, lies) in
+        let behind : Behind (Some u) target back (top ∷ levels) = (last.0, lies) in
         statement_step classes code r store slots locals managers input line (declare x t (result_of c)) more (j ∷ rest) h.places.0.0
         (subst (λ l. EndsAs classes code r.output (step_call classes (state r store locals managers input (j ∷ rest)) target c)
         (walk code l (r.at + 1) 0 [] (work r store slots managers input))) (sym (append_assoc ops (o ∷ []) tail))
@@ -382,11 +380,11 @@ module _ (classes : List Class) (code : Code) (j : Item) (rest : List Item) wher
         let more = ops ++ o ∷ [] in
         let tail = drop (r.at + length (i.Mark line ∷ more)) code.ops in
         let back = r.at + 1 + length ops in
-        let at_back : r.at + length (i.Mark line ∷ ops) ≡ back = omega arith in
-        let end : r.at + length (i.Mark line ∷ more) ≡ back + 1 = omega (arith, length-append ops (o ∷ [])) in
-        let stands = subst (λ n. StandsIn code.ops top n (o ∷ [])) at_back (back_in code.ops top r.at (i.Mark line ∷ ops) (o ∷ []) h.places.0) in
-        let lies = subst (Lies classes code.ops (top ∷ levels) (j ∷ rest)) end h.places.1 in
-        let behind : Behind (Some u) target back (top ∷ levels) = (stands, lies) in
+        let last = one_behind top r.at line ops o h.places.0 in
+        let behind : Behind (Some u) target back (top ∷ levels) = (
+          last.0,
+          subst (Lies classes code.ops (top ∷ levels) (j ∷ rest)) last.1 h.places.1,
+        ) in
         let k = assign (record { base = x; fields = [] }) (result_of c) in
         statement_step classes code r store slots locals managers input line k more (j ∷ rest) h.places.0.0
         (subst (λ l. EndsAs classes code r.output (step_call classes (state r store locals managers input (j ∷ rest)) target c)

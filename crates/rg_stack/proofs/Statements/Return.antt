@@ -27,7 +27,7 @@ use Rattle.rg_stack.specs.Runs.{landed}
 use Rattle.rg_stack.specs.Given.{given_finished as finished, given_step as step, given_step_from as step_from, given_walk as walk}
 use Rattle.rg_stack.proofs.Mirrors.{Mirrors}
 use Rattle.rg_stack.specs.Shows.{ShowsWindows, sizes_of, levels_of}
-use Rattle.rg_stack.proofs.Mirrors.{SameMove}
+use Rattle.rg_stack.proofs.Mirrors.{SameMove, mirrors-work}
 use Rattle.rg_stack.proofs.Walks.Walk.{Agrees}
 use Rattle.rg_stack.proofs.Callers.Mark.{mark-there, drop-stands, first-drop, walk_to_items}
 use Rattle.rg_stack.proofs.Callers.Frame.{work_of, state_of, room_of, shows_next, OpenedBelow, windows_below}
@@ -207,16 +207,7 @@ back-mirrors classes code store mf mg mfs ws managers made at input f g fs pws o
     ∙ ap (landed code) (walk_to_items classes code levels j rest mf.back x h.places.3) in
     subst (λ t. SameMove classes code output (next classes (state_of store (f ∷ g ∷ fs) pws managers made input output (Back ∷ j ∷ rest))) t)
     (sym (ap (step_from code w) front ∙ lands))
-    (comes classes code output mf.back x (state_of store (g ∷ fs) pws managers made input output (j ∷ rest)) (record {
-      mirrors = record {
-        slots = h.slots.1;
-        windows = windows_below (sizes_of (mg ∷ mfs)) (length mf.slots) ws pws below
-            (subst (λ k. ShowsWindows k ws pws) (reverse-append (length mf.slots ∷ []) (map (λ (f : Frame). length f.slots) (mg ∷ mfs))) h.windows);
-        places = h.places.3;
-        windows_made = refl;
-        managers = refl;
-        store = refl;
-      };
-      input = refl;
-      output = refl;
-    }))
+    (comes classes code output mf.back x (state_of store (g ∷ fs) pws managers made input output (j ∷ rest)) (mirrors-work classes code output _ _ h.slots.1
+    (windows_below (sizes_of (mg ∷ mfs)) (length mf.slots) ws pws below
+    (subst (λ k. ShowsWindows k ws pws) (reverse-append (length mf.slots ∷ []) (map (λ (f : Frame). length f.slots) (mg ∷ mfs))) h.windows))
+    h.places.3 refl refl refl refl refl))

@@ -1,6 +1,6 @@
 -- Right sides: the code of each leaves the value that the step uses, in the middle of a step.
 use Rattle.std.proofs.Common.{◌≡◌, ℕ, zero, suc, ◌+◌, true, false, true≢false, Bool as Truth, if◌then◌else◌, List, [], ◌∷◌, ◌++◌, length, map}
-use Rattle.std.proofs.Common.{Option, Some, None, option_map, Ok, Err, refl, sym, ap, subst, ◌∙◌, arith, slice_get, slice_set, unwrap_or}
+use Rattle.std.proofs.Common.{Option, Some, None, option_map, Result, Ok, Err, refl, sym, ap, subst, ◌∙◌, arith, slice_get, slice_set, unwrap_or}
 use Rattle.std.proofs.lemmas.List.{length-set}
 use Rattle.std.proofs.lemmas.Option.{none-some}
 use Rattle.std.specs.Prelude.{filter_map}
@@ -12,6 +12,7 @@ use Rattle.rg_base.specs.declared.object.Label.{Label}
 use Rattle.rg_base.specs.declared.object.Label.TheVariants.{Region, Temp, Frozen}
 use Rattle.rg_base.specs.declared.words.Manager.{Manager}
 use Rattle.rg_base.specs.Input.{NextNumber, found, malformed, at_end, next_number}
+use Rattle.rg_base.specs.declared.outcome.Trap.{Trap}
 use Rattle.rg_tree.specs.Tree.{Name, Variable, Ty as Written, int, bool, ref, Field, Right, value, new, new_tmp, new_iso, freeze, merge, read, more}
 use Rattle.rg_tree.specs.Tree.{result_of, Member, field, method, Class}
 use Rattle.rg_rules.specs.Answers.{◌>>=◌}
@@ -214,13 +215,17 @@ module _ (classes : List Class) (code : Code) (r : Round) (scope : Scope) (n : �
       → EndsAs classes code r.output (Ok (put (state r store locals managers input items) v))
       (walk code tail end 0 (v ∷ stack) (work r store slots managers input))
 
-  new_ends : (put : Use) (x : Name) (label : Label) (tail : List Op) (end : ℕ) (stack : List Val) (store : List Seen) (slots : List Val)
-      (locals : List Local) (managers : List Manager) (input : List ℕ)
-      → (k : Class) → class_named classes x ≡ Some k
-      → EndsAs classes code r.output (Ok (put (state r (store ++ new_object classes x label ∷ []) locals managers input items)
-      (val.Obj (length store)))) (walk code tail end 0 (val.Obj (length store) ∷ stack)
-      (work r (store ++ new_object classes x label ∷ []) slots managers input))
-      → Opens classes code → (here : Label) → here ≡ label
+  -- an object that is made and then used
+  made_ends : (put : Use) (x : Name) (label here : Label) (tail : List Op) (end : ℕ) (stack : List Val) (store : List Seen) (slots : List Val)
+      (locals : List Local) (managers : List Manager) (input : List ℕ) (known : Known) → (k : Class) × (class_named classes x ≡ Some k)
+      → Middle scope n old store slots locals → Opens classes code → here ≡ label
+      → (◌≡◌ {A = Result State Trap} (Ok (elim (class_named classes x) [
+        | None ↦ state r store locals managers input items
+        | Some c
+            ↦ kept (state r (store ++ new_object classes x label ∷ []) locals managers input items) (val.Obj (length store))
+      ])) (Ok (kept (state r (store ++ new_object classes x label ∷ []) locals managers input items) (val.Obj (length store))))
+      → known (store ++ new_object classes x label ∷ []) locals managers input (val.Obj (length store)))
+      → Then known put tail end stack
       → EndsAs classes code r.output (Ok (elim (class_named classes x) [
         | None ↦ state r store locals managers input items
         | Some c
@@ -233,7 +238,15 @@ module _ (classes : List Class) (code : Code) (r : Round) (scope : Scope) (n : �
             (unwrap_or (slice_get code.openings (class_number classes x)) []);
         label = here;
       } ∷ []) slots managers input) else Stuck)
-  new_ends put x label tail end stack store slots locals managers input k named h opens here same =
+  made_ends put x label here tail end stack store slots locals managers input known owes m opens same gave go =
+      let q = new_object classes x label in
+      let used = go (store ++ q ∷ []) slots locals managers input (val.Obj (length store))
+      (middle_store scope n old store (store ++ q ∷ []) slots locals (keeps_append old store q m.keeps) m)
+      (gave (ap (λ k. Ok (elim k [
+        | None ↦ state r store locals managers input items
+        | Some c
+            ↦ kept (state r (store ++ q ∷ []) locals managers input items) (val.Obj (length store))
+      ])) owes.1)) in
       if_ends classes code r.output (Ok (elim (class_named classes x) [
         | None ↦ state r store locals managers input items
         | Some c
@@ -244,21 +257,21 @@ module _ (classes : List Class) (code : Code) (r : Round) (scope : Scope) (n : �
         fields = map value_of_word
             (unwrap_or (slice_get code.openings (class_number classes x)) []);
         label = here;
-      } ∷ []) slots managers input)) Stuck (plain-opens classes code x k opens named)
+      } ∷ []) slots managers input)) Stuck (plain-opens classes code x owes.0 opens owes.1)
       (subst (λ q. EndsAs classes code r.output (Ok (elim (class_named classes x) [
         | None ↦ state r store locals managers input items
         | Some c
             ↦ put (state r (store ++ new_object classes x label ∷ []) locals managers input items) (val.Obj (length store))
       ]))
       (walk code tail end 0 (val.Obj (length store) ∷ stack) (work r (store ++ q ∷ []) slots managers input)))
-      (sym (seen_is classes code x k label here opens named same))
+      (sym (seen_is classes code x owes.0 label here opens owes.1 same))
       (subst (λ o. EndsAs classes code r.output (Ok (elim o [
         | None ↦ state r store locals managers input items
         | Some c
             ↦ put (state r (store ++ new_object classes x label ∷ []) locals managers input items) (val.Obj (length store))
       ]))
       (walk code tail end 0 (val.Obj (length store) ∷ stack) (work r (store ++ new_object classes x label ∷ []) slots managers input)))
-      (sym named) h))
+      (sym owes.1) used))
 
   read_ends : (put : Use) (next : NextNumber) (tail : List Op) (end : ℕ) (stack : List Val) (store : List Seen) (slots : List Val)
       (locals : List Local) (managers : List Manager) (input : List ℕ)
@@ -331,29 +344,13 @@ module _ (classes : List Class) (code : Code) (r : Round) (scope : Scope) (n : �
       (λ done. Ok (kept done.0 done.1)))
       is)))
   right_ends target put (new x) tail here stack store slots locals managers input round opens m owes need go =
-      let label = Region (active r.opened) in
-      let q = new_object classes x label in
-      new_ends put x label tail (here + 1) stack store slots locals managers input owes.0 owes.1
-      (go (store ++ q ∷ []) slots locals managers input (val.Obj (length store))
-      (middle_store scope n old store (store ++ q ∷ []) slots locals (keeps_append old store q m.keeps) m)
-      (ap (λ k. Ok (elim k [
-        | None ↦ state r store locals managers input items
-        | Some c
-            ↦ kept (state r (store ++ q ∷ []) locals managers input items) (val.Obj (length store))
-      ])) owes.1))
-      opens (Region (top_region r.windows)) (ap Region (same_region _ r.windows r.opened round.windows))
+      made_ends put x (Region (active r.opened)) (Region (top_region r.windows)) tail (here + 1) stack store slots locals managers input
+      (Gave classes r items store locals managers input target (new x)) owes m opens
+      (ap Region (same_region _ r.windows r.opened round.windows)) (λ e. e) go
   right_ends target put (new_tmp x) tail here stack store slots locals managers input round opens m owes need go =
-      let label = Temp (top_number r.opened) in
-      let q = new_object classes x label in
-      new_ends put x label tail (here + 1) stack store slots locals managers input owes.0 owes.1
-      (go (store ++ q ∷ []) slots locals managers input (val.Obj (length store))
-      (middle_store scope n old store (store ++ q ∷ []) slots locals (keeps_append old store q m.keeps) m)
-      (ap (λ k. Ok (elim k [
-        | None ↦ state r store locals managers input items
-        | Some c
-            ↦ kept (state r (store ++ q ∷ []) locals managers input items) (val.Obj (length store))
-      ])) owes.1))
-      opens (Temp (top_window r.windows)) (ap Temp (same_window _ r.windows r.opened round.windows))
+      made_ends put x (Temp (top_number r.opened)) (Temp (top_window r.windows)) tail (here + 1) stack store slots locals managers input
+      (Gave classes r items store locals managers input target (new_tmp x)) owes m opens
+      (ap Temp (same_window _ r.windows r.opened round.windows)) (λ e. e) go
   right_ends target put (new_iso x k) tail here stack store slots locals managers input round opens m owes need go =
       let label = Region (length managers) in
       let q = new_object classes x label in

@@ -25,7 +25,7 @@ use Rattle.rg_stack.specs.Needs.{needs, owned_once}
 use Rattle.rg_stack.specs.Shows.{ShowsFrames, ShowsWindows, levels_of}
 use Rattle.rg_stack.specs.Left.{NoneLeft, SomeLeft}
 use Rattle.rg_stack.specs.Given.{given_finished as finished, given_step as step, given_step_from as step_from, given_walk as walk}
-use Rattle.rg_stack.proofs.Mirrors.{MirrorsWork, SameMove}
+use Rattle.rg_stack.proofs.Mirrors.{MirrorsWork, SameMove, mirrors-work}
 use Rattle.rg_stack.proofs.Walks.Walk.{Agrees, walk-expr}
 use Rattle.rg_stack.proofs.Callers.Mark.{lies_at_mark, drop-stands, shown_slot, walk_to_items}
 use Rattle.rg_stack.proofs.Callers.Frame.{work_of, state_of}
@@ -172,18 +172,11 @@ pub finish : (classes : List Class) (code : Code) (r : Round) (store : List Seen
     → Lies classes code.ops (level r (scope_of locals) n ∷ levels_of r.frames r.bodies) items end
     → EndsAs classes code r.output (Ok (state r store locals managers input items)) (Stops end (work r store slots managers input))
 finish classes code r store slots locals managers input items n end shows size round lies =
-    record {
-      mirrors = record {
-        slots = (shows, round.frames);
-        windows = subst (λ k. ShowsWindows (reverse (k ∷ map (λ (f : Frame). length f.slots) r.frames)) r.windows r.opened) (sym size) round.windows;
-        places = subst (λ k. Lies classes code.ops (level r (scope_of locals) k ∷ levels_of r.frames r.bodies) items end) (sym size) lies;
-        windows_made = refl;
-        managers = refl;
-        store = refl;
-      };
-      input = refl;
-      output = refl;
-    }
+    mirrors-work classes code r.output (stopped end (work r store slots managers input)) (state r store locals managers input items)
+    (shows, round.frames)
+    (subst (λ k. ShowsWindows (reverse (k ∷ map (λ (f : Frame). length f.slots) r.frames)) r.windows r.opened) (sym size) round.windows)
+    (subst (λ k. Lies classes code.ops (level r (scope_of locals) k ∷ levels_of r.frames r.bodies) items end) (sym size) lies)
+    refl refl refl refl refl
 
 -- the same at the end of the code of a statement
 pub finish_at : (classes : List Class) (code : Code) (r : Round) (store : List Seen) (slots : List Val) (locals : List Local)

@@ -25,6 +25,20 @@ use Rattle.rg_view.proofs.Callers.Look.{look, store-at, store-held, store-length
 use Rattle.rg_view.proofs.Callers.Shown.{field-in}
 use Rattle.rg_held.specs.Gone.{gone}
 
+-- a link from its parts
+abbrev pub link-at : {store : List Seen} {p r : ℕ} (object : ℕ) (holder : Seen) (field address : ℕ) → slice_get store object ≡ Some holder
+    → holder.label ≡ Region p → slice_get holder.fields field ≡ Some (val.Obj address) → region_at store address ≡ Some r → Link store p r
+link-at object holder field address there lies value leads = record {
+  object = object;
+  holder = holder;
+  there = there;
+  lies = lies;
+  field = field;
+  address = address;
+  value = value;
+  leads = leads;
+}
+
 -- a held cell whose object is shown
 pub record HeldAs (h : Heap) (a : ℕ) (o : Seen) : Type 0 where
   pub slot : ℕ

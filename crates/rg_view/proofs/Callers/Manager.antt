@@ -107,7 +107,7 @@ module _ (old new : RegionTable) (key slot : ℕ) (manager : Manager) (o : Opens
   abbrev fresh : Record
   fresh = record { number = old.next; manager = manager; members = slot ∷ []; bridge = Some slot; room = o.is.0 }
 
-  kept : (k : ℕ) (r : Record) → record_at old k ≡ Some r → record_at new k ≡ Some r
+  pub kept : (k : ℕ) (r : Record) → record_at old k ≡ Some r → record_at new k ≡ Some r
   kept k r e = o.others k (λ is. none-some r (sym o.vacant ∙ ap (record_at old) (sym is) ∙ e)) ∙ e
 
   was : (k : ℕ) (r : Record) → record_at new k ≡ Some r → ((k ≡ key) × (r ≡ fresh)) ⊎ (record_at old k ≡ Some r)

@@ -12,6 +12,7 @@ use Rattle.rg_base.specs.declared.value.Val.TheVariants as val
 use Rattle.rg_base.specs.declared.value.Word.{Word}
 use Rattle.rg_base.specs.declared.value.Word.TheVariants as word
 use Rattle.rg_base.proofs.Callers.Lists.{there}
+use Rattle.rg_base.proofs.Callers.Labels.{region-same}
 use Rattle.rg_cells.specs.declared.cell.Body.{Body}
 use Rattle.rg_cells.specs.Table.{body_at, label_at, field_at, Serials, IsHeld}
 use Rattle.rg_regions.specs.Table.{Record, record_at, HasNumber, IsBridge}
@@ -131,22 +132,23 @@ module _ (p : Parts) (v : Stack) (at : ℕ) (q : Serials p.cells.heap) (g : Grov
 
   -- Owners
 
-  -- a field of another region's cell that leads into a region is counted
-  pub field-counts : (r p₂ s k x : ℕ) → p₂ ≢ r → LiesIn p.cells.heap p₂ s → field_at p.cells.heap s k ≡ Some (word.Slot x) → LiesIn p.cells.heap r x
+  -- a field from outside that leads into a region is counted
+  pub label-counts : (r s k x : ℕ) (l : Label) → label_at p.cells.heap s ≡ Some l → is_outside (windows_of p.regions v) r l ≡ true
+      → field_at p.cells.heap s k ≡ Some (word.Slot x) → LiesIn p.cells.heap r x
       → 1 ≤ fields_into (store_of p.cells.heap) (windows_of p.regions v) r (store_of p.cells.heap)
-  field-counts r p₂ s k x d lies leads into = by (body_at p.cells.heap s) refl
+  label-counts r s k x l labelled from leads into = by (body_at p.cells.heap s) refl
     where
       by : (c : Option Body) → body_at p.cells.heap s ≡ c
           → 1 ≤ fields_into (store_of p.cells.heap) (windows_of p.regions v) r (store_of p.cells.heap)
-      by None e = absurd (none-some (Region p₂) (sym (ap (option_map (λ (b : Body). b.label)) e) ∙ lies))
+      by None e = absurd (none-some l (sym (ap (option_map (λ (b : Body). b.label)) e) ∙ labelled))
       by (Some b) e =
           let one = count-one (is_into (store_of p.cells.heap) r) (map (val_of p.cells.heap) b.fields) k (val_of p.cells.heap (word.Slot x))
           (slice_get-map (val_of p.cells.heap) b.fields k
           ∙ ap (option_map (val_of p.cells.heap)) (sym (field-in p.cells.heap s k b e) ∙ leads))
           (into-there p.cells.heap r x q into) in
-          let label : b.label ≡ Region p₂ = same_Some b.label (Region p₂) (sym (ap (option_map (λ (b : Body). b.label)) e) ∙ lies) in
+          let label : b.label ≡ l = same_Some b.label l (sym (ap (option_map (λ (b : Body). b.label)) e) ∙ labelled) in
           let outside : is_outside (windows_of p.regions v) r b.label ≡ true =
-          ap (is_outside (windows_of p.regions v) r) label ∙ ap not (ne_eqb p₂ r d) in
+          ap (is_outside (windows_of p.regions v) r) label ∙ from in
           let counts : cond (is_outside (windows_of p.regions v) r b.label)
           (count_by (is_into (store_of p.cells.heap) r) (map (val_of p.cells.heap) b.fields)) 0
           ≡ count_by (is_into (store_of p.cells.heap) r) (map (val_of p.cells.heap) b.fields) =
@@ -155,6 +157,11 @@ module _ (p : Parts) (v : Stack) (at : ℕ) (q : Serials p.cells.heap) (g : Grov
           (count_by (is_into (store_of p.cells.heap) r) o.fields) 0) (store_of p.cells.heap) b.serial (object_of p.cells.heap (Some b))
           (store-held p.cells.heap s b q e) in
           omega (arith, one, counts, hit)
+
+  -- a field of another region's cell that leads into a region is counted
+  pub field-counts : (r p₂ s k x : ℕ) → p₂ ≢ r → LiesIn p.cells.heap p₂ s → field_at p.cells.heap s k ≡ Some (word.Slot x) → LiesIn p.cells.heap r x
+      → 1 ≤ fields_into (store_of p.cells.heap) (windows_of p.regions v) r (store_of p.cells.heap)
+  field-counts r p₂ s k x d lies leads into = label-counts r s k x (Region p₂) lies (ap not (ne_eqb p₂ r d)) leads into
 
   -- a closed region into which no such field leads has a bridge without an owner
   ownerless : (r s : ℕ) → LiesIn p.cells.heap r s → IsClosed p.regions v r → IsBridge p.regions r s
@@ -247,9 +254,6 @@ module _ (p : Parts) (v : Stack) (at : ℕ) (q : Serials p.cells.heap) (g : Grov
         | inr x ↦ closed-not-above r m c (ap (is_open (windows_of p.regions v)) number ∙ active-open)
             (subst (λ z. Above p.cells.heap z m) same x.1)
       ]
-    where
-      region-same : (a b : ℕ) → Some (Region a) ≡ Some (Region b) → a ≡ b
-      region-same a b e = cc
 
   -- What a swap asks for
 
@@ -275,6 +279,3 @@ module _ (p : Parts) (v : Stack) (at : ℕ) (q : Serials p.cells.heap) (g : Grov
     where
       slot-same : (a b : ℕ) → word.Slot a ≡ word.Slot b → a ≡ b
       slot-same a b e = cc
-
-      region-same : (a b : ℕ) → Some (Region a) ≡ Some (Region b) → a ≡ b
-      region-same a b e = cc

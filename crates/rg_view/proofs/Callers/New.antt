@@ -23,7 +23,7 @@ module _ (old new : Table) (slot class : ℕ) (label : Label) (fields : List Wor
   other-slot : (s : ℕ) (b : Body) → body_at old.heap s ≡ Some b → s ≢ slot
   other-slot s b e is = none-some b (sym m.takes.vacant ∙ ap (body_at old.heap) (sym is) ∙ e)
 
-  other-body : (s : ℕ) → s ≢ slot → body_at new.heap s ≡ body_at old.heap s
+  pub other-body : (s : ℕ) → s ≢ slot → body_at new.heap s ≡ body_at old.heap s
   other-body s d = ap body_in (m.made.others s d)
 
   -- cells that were held keep their bodies

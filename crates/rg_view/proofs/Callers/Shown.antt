@@ -38,7 +38,7 @@ vals-same old new (w ∷ ws) h =
     ∙ ap (λ vs. val_of old w ∷ vs) (vals-same old new ws (λ k s e. h (suc k) s e))
 
 -- an object of these parts
-abbrev object : (class : ℕ) → Label → List Val → Seen
+abbrev pub object : (class : ℕ) → Label → List Val → Seen
 object c l vs = record { class = c; fields = vs; label = l }
 
 pub object-same : (old new : Heap) (b : Body) → LeadToSame old new b.fields → object_of new (Some b) ≡ object_of old (Some b)
@@ -85,7 +85,7 @@ get-take (suc n) zero (y ∷ xs) x e = e
 get-take (suc n) (suc k) (y ∷ xs) x e = get-take n k xs x e
 
 -- a frame in front of others
-abbrev framed : ℕ → List Frame → List Val → List Frame
+abbrev pub framed : ℕ → List Frame → List Val → List Frame
 framed back fs vs = record { slots = vs; back = back } ∷ fs
 
 layers-same : (old new : Heap) (slots : List Word) (first : ℕ) (fs : List FrameRow) → LeadToSame old new slots

@@ -38,6 +38,24 @@ use Rattle.rg_held.proofs.Callers.Forget.{made-at}
 pub no-temps : (h : Heap) → AreTemps h None NoCell
 no-temps h = record { all = λ s n e is. absurd (none-some n is); only = λ s c. absurd c }
 
+-- labels and fields were there where bodies were
+
+pub labels-were : (old new : Heap) → ((s : ℕ) (b : Body) → body_at new s ≡ Some b → body_at old s ≡ Some b) → (s : ℕ) (l : Label)
+    → label_at new s ≡ Some l → label_at old s ≡ Some l
+labels-were old new was s l e = by (body_at new s) refl
+  where
+    by : (c : Option Body) → body_at new s ≡ c → label_at old s ≡ Some l
+    by None f = absurd (none-some l (sym (ap (option_map (λ (b : Body). b.label)) f) ∙ e))
+    by (Some b) f = ap (option_map (λ (b : Body). b.label)) (was s b f ∙ sym f) ∙ e
+
+pub fields-were : (old new : Heap) → ((s : ℕ) (b : Body) → body_at new s ≡ Some b → body_at old s ≡ Some b) → (s k : ℕ) (w : Word)
+    → field_at new s k ≡ Some w → field_at old s k ≡ Some w
+fields-were old new was s k w e = by (body_at new s) refl
+  where
+    by : (c : Option Body) → body_at new s ≡ c → field_at old s k ≡ Some w
+    by None f = absurd (none-some w (sym (ap (option_and_then (λ (b : Body). slice_get b.fields k)) f) ∙ e))
+    by (Some b) f = ap (option_and_then (λ (b : Body). slice_get b.fields k)) (was s b f ∙ sym f) ∙ e
+
 -- The regions that go
 
 module _ (old new : Parts) (tops regions : List ℕ) (temps : Option ℕ) (Cell : ℕ → Type 0)
@@ -52,18 +70,10 @@ module _ (old new : Parts) (tops regions : List ℕ) (temps : Option ℕ) (Cell 
   was s b e = kept-body old new WentFirst Cell regions temps r names cells s b e
 
   pub label-was : (s : ℕ) (l : Label) → label_at new.cells.heap s ≡ Some l → label_at old.cells.heap s ≡ Some l
-  label-was s l e = by (body_at new.cells.heap s) refl
-    where
-      by : (c : Option Body) → body_at new.cells.heap s ≡ c → label_at old.cells.heap s ≡ Some l
-      by None f = absurd (none-some l (sym (ap (option_map (λ (b : Body). b.label)) f) ∙ e))
-      by (Some b) f = ap (option_map (λ (b : Body). b.label)) (was s b f ∙ sym f) ∙ e
+  label-was s l e = labels-were old.cells.heap new.cells.heap was s l e
 
   pub field-was : (s k : ℕ) (w : Word) → field_at new.cells.heap s k ≡ Some w → field_at old.cells.heap s k ≡ Some w
-  field-was s k w e = by (body_at new.cells.heap s) refl
-    where
-      by : (c : Option Body) → body_at new.cells.heap s ≡ c → field_at old.cells.heap s k ≡ Some w
-      by None f = absurd (none-some w (sym (ap (option_and_then (λ (b : Body). slice_get b.fields k)) f) ∙ e))
-      by (Some b) f = ap (option_and_then (λ (b : Body). slice_get b.fields k)) (was s b f ∙ sym f) ∙ e
+  field-was s k w e = fields-were old.cells.heap new.cells.heap was s k w e
 
   pub key-was : (key q : ℕ) → HasNumber new.regions key q → HasNumber old.regions key q
   key-was key q has = by (record_at new.regions key) refl

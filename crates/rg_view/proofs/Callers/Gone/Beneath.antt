@@ -17,22 +17,13 @@ use Rattle.rg_view.specs.Names.{Names}
 use Rattle.rg_view.specs.Numbers.{Numbers}
 use Rattle.rg_view.specs.Links.{Link, Reached, first, next, Spans, BelowSome}
 use Rattle.rg_view.proofs.Callers.Held.{region-below}
-use Rattle.rg_view.proofs.Callers.Link.{spans-below}
+use Rattle.rg_view.proofs.Callers.Link.{link-at, spans-below}
 use Rattle.rg_held.specs.Frees.{is_temp, buried, bury}
 use Rattle.rg_held.specs.Gone.{gone}
 use Rattle.rg_held.proofs.Callers.Beneath.{beneath-first, beneath-links, beneath-all}
 
 link-of : (store : List Seen) (p r : ℕ) → LeadsTo store store p r → Link store p r
-link-of store p r l = record {
-  object = l.object;
-  holder = l.holder;
-  there = l.there;
-  lies = l.lies;
-  field = l.field;
-  address = l.address;
-  value = l.value;
-  leads = l.leads;
-}
+link-of store p r l = link-at l.object l.holder l.field l.address l.there l.lies l.value l.leads
 
 leads-of : (store : List Seen) (p r : ℕ) → Link store p r → LeadsTo store store p r
 leads-of store p r l = record {
