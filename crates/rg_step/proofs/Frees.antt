@@ -1,6 +1,6 @@
 -- What a step frees: by the law on the store that is shown, and by the table of regions beside it.
 use Rattle.std.proofs.Common.{◌≡◌, ◌≢◌, inl, inr, ℕ, zero, suc, true, List, [], Option, Some, None, option_map, slice_get}
-use Rattle.std.proofs.Common.{IsSome, refl, sym, ap, ◌∙◌, subst, arith}
+use Rattle.std.proofs.Common.{IfErr, IsSome, Result, Ok, Err, refl, sym, ap, ◌∙◌, subst, arith}
 use Rattle.std.proofs.lemmas.Bool.{false≢true}
 use Rattle.std.proofs.lemmas.Option.{same_Some}
 use Rattle.rg_base.specs.declared.object.Label.TheVariants.{Region}
@@ -27,13 +27,14 @@ use Rattle.rg_machine.specs.Core.{Core, started, work_of}
 use Rattle.rg_machine.specs.Parts.{Parts, machine_in}
 use Rattle.rg_step.specs.declared.step.Did.{Did}
 use Rattle.rg_step.specs.declared.step.Did.TheVariants as did
+use Rattle.rg_step.specs.declared.stopped.Stopped.{Stopped}
 use Rattle.rg_step.specs.Frees.{FreesOnly, StaysGone}
 use Rattle.rg_step.specs.Inner.Leaps.{GoesOn, with_left}
-use Rattle.rg_step.specs.Inner.Refusals.{DidLeaves, asks_at}
+use Rattle.rg_step.specs.Inner.Refusals.{StopLeaves, asks_at}
 use Rattle.rg_step.specs.Sound.{IsSound}
 use Rattle.rg_step.specs.Inner.Walks.{StepIs}
 use Rattle.rg_step.specs.Steps.{IsRunning}
-use Rattle.rg_step.proofs.Walking.Run.{runs-on}
+use Rattle.rg_step.proofs.Walking.Stops.{stop-same}
 use Rattle.rg_step.proofs.Callers.Serve.{has-record}
 
 -- By the store that is shown
@@ -44,22 +45,19 @@ still-frees old new same serial o was live away =
     absurd (live (away o (ap (λ (m : Machine). slice_get m.store serial) same ∙ was)))
 
 -- a step frees what the law says
-pub did-frees : (code : Code) (c new : Core) (d : Did) (before after : List ℕ) → IsRunning code c.machine
-    → (Orderly code.ops c.machine → DidLeaves (asks_at code.ops c.machine) c.machine new.machine d) → StepIs code c new d before after
+pub did-frees : (code : Code) (c new : Core) (d : Result Did Stopped) (before after : List ℕ) → IsRunning code c.machine
+    → (Orderly code.ops c.machine → IfErr d (StopLeaves c.machine (asks_at code.ops c.machine) new.machine)) → StepIs code c new d before after
     → Orderly code.ops c.machine → StoreFrees c.machine new.machine
 did-frees code c new d before after (t, p, r) leaves is o = by d (leaves o) is
   where
     law : StepFrees c.machine (step code (work_of (started c) before))
     law = steps-free t code (work_of (started c) before) p r.accepted r.lowers r.fits r.shows refl r.left
 
-    by : (d : Did) → DidLeaves (asks_at code.ops c.machine) c.machine new.machine d → StepIs code c new d before after
+    by : (d : Result Did Stopped) → IfErr d (StopLeaves c.machine (asks_at code.ops c.machine) new.machine) → StepIs code c new d before after
         → StoreFrees c.machine new.machine
-    by did.Goes left is = subst (StepFrees c.machine) is.0 law
-    by did.Ends left is = subst (StepFrees c.machine) is.0 law
-    by (did.Trapped kind line) left is = still-frees c.machine new.machine left
-    by did.InputFault left is = still-frees c.machine new.machine left.1
-    by did.Memory left is = still-frees c.machine new.machine left
-    by did.Lost left is = absurd (runs-on code c new before after (t, p, r) is)
+    by (Ok did.Goes) left is = subst (StepFrees c.machine) is.0 law
+    by (Ok did.Ends) left is = subst (StepFrees c.machine) is.0 law
+    by (Err why) left is = still-frees c.machine new.machine (stop-same why c.machine (asks_at code.ops c.machine) new.machine left)
 
 -- so does a known one
 pub goes-frees : (code : Code) (old new : Machine) → IsRunning code old → GoesOn code old new → StoreFrees old new
@@ -73,22 +71,19 @@ same-gone : (old new : Machine) → new ≡ old → StoreStays old.store new.sto
 same-gone old new same a e = ap (λ (m : Machine). slice_get m.store a) same ∙ e
 
 -- behind a step
-pub did-stays : (code : Code) (c new : Core) (d : Did) (before after : List ℕ) → IsRunning code c.machine
-    → (Orderly code.ops c.machine → DidLeaves (asks_at code.ops c.machine) c.machine new.machine d) → StepIs code c new d before after
+pub did-stays : (code : Code) (c new : Core) (d : Result Did Stopped) (before after : List ℕ)
+    → (Orderly code.ops c.machine → IfErr d (StopLeaves c.machine (asks_at code.ops c.machine) new.machine)) → StepIs code c new d before after
     → Orderly code.ops c.machine → StoreStays c.machine.store new.machine.store
-did-stays code c new d before after runs leaves is o = by d (leaves o) is
+did-stays code c new d before after leaves is o = by d (leaves o) is
   where
     law : StepStays c.machine (step code (work_of (started c) before))
     law = step-stays code (work_of (started c) before)
 
-    by : (d : Did) → DidLeaves (asks_at code.ops c.machine) c.machine new.machine d → StepIs code c new d before after
+    by : (d : Result Did Stopped) → IfErr d (StopLeaves c.machine (asks_at code.ops c.machine) new.machine) → StepIs code c new d before after
         → StoreStays c.machine.store new.machine.store
-    by did.Goes left is = subst (StepStays c.machine) is.0 law
-    by did.Ends left is = subst (StepStays c.machine) is.0 law
-    by (did.Trapped kind line) left is = same-gone c.machine new.machine left
-    by did.InputFault left is = same-gone c.machine new.machine left.1
-    by did.Memory left is = same-gone c.machine new.machine left
-    by did.Lost left is = absurd (runs-on code c new before after runs is)
+    by (Ok did.Goes) left is = subst (StepStays c.machine) is.0 law
+    by (Ok did.Ends) left is = subst (StepStays c.machine) is.0 law
+    by (Err why) left is = same-gone c.machine new.machine (stop-same why c.machine (asks_at code.ops c.machine) new.machine left)
 
 -- and a known one
 pub goes-stays : (code : Code) (old new : Machine) → GoesOn code old new → StoreStays old.store new.store

@@ -6,6 +6,8 @@ pub mod Stands
 pub mod High
 pub mod Leaves
 pub mod Ask
+pub mod Stops
+pub mod Landings
 pub mod Run
 pub mod Steps
 pub mod Outcomes

@@ -18,6 +18,7 @@ mod reads;
 mod room;
 mod step;
 mod stepper;
+mod stopped;
 mod walk;
 mod words;
 

@@ -1,10 +1,12 @@
 //! A step, without what may follow for its `collect` or its `pace` (docs/architecture.md, "The
 //! stepper").
 
-ghost use Rattle.std.specs.Prelude.{◌≡◌, ◌≤◌, ◌+◌, ◌<◌, true};
+ghost use Rattle.std.specs.Prelude.{◌≡◌, ◌≤◌, ◌+◌, ◌<◌, ℕ, Some, slice_get, true};
 ghost use Rattle.rg_io.specs.Content.{Rose};
 ghost use Rattle.rg_input.specs.Numbers.{Follows, OnInput};
+ghost use Rattle.rg_code.specs.declared.op.Op.TheVariants as i;
 ghost use Rattle.rg_code.specs.Dues.{due_at};
+ghost use Rattle.rg_code.specs.Shapes.{IsMark};
 ghost use Rattle.rg_machine.specs.Parts.{machine_in};
 ghost use Rattle.rg_step.specs.Steps.{AsksFirst, IsResting, IsRunning, StepsOn, UnlessAsking};
 ghost use Rattle.rg_step.specs.Steps.{is_made};
@@ -12,8 +14,9 @@ ghost use Rattle.rg_step.specs.Inner.Serving.{HasPlace, Instructed, answer, is_a
 
 use crate::collecting::make_place;
 use crate::step::{Did, step};
+use crate::stopped::Stopped;
 use rg_base::{Cause, Event, Outcome, Val};
-use rg_code::CodeList;
+use rg_code::{CodeList, Op};
 use rg_input::Numbers;
 use rg_io::Source;
 use rg_machine::Machine;
@@ -53,11 +56,12 @@ pub(crate) fn outcome<S: Source>(
         return Outcome::Running;
     }
     p.is_sound();
+    let at = p.at();
     let did = step(p, code, input, source);
     let printed = p.printed();
     p.start();
     p.is_sound();
-    answer(did, printed)
+    answer(code, at, did, printed)
 }
 
 /// Whether a step may collect since that is what it is for.
@@ -79,23 +83,37 @@ fn behind_collect(at: usize, len: usize) -> usize
     at + 2
 }
 
-/// What is answered of what a step did, and printed.
-fn answer(did: Did, printed: Option<Val>) -> Outcome
-    requires { did ≡ Did.Lost → ⊥ }
-    ensures { result ≡ answer did printed }
+/// The line of the step at an address.
+fn line_at(code: &CodeList, at: usize) -> u64
+    requires { IsMark code.now.ops at }
+    ensures { slice_get code.now.ops at ≡ Some (i.Mark result) }
+{
+    let Op::Mark { line } = code.get(at) else {
+        unreachable!();
+    };
+    line
+}
+
+/// What is answered of what the step at an address did, and printed.
+fn answer(code: &CodeList, at: usize, did: Result<Did, Stopped>, printed: Option<Val>) -> Outcome
+    requires { IsMark code.now.ops at }
+    ensures { (line : ℕ) → slice_get code.now.ops at ≡ Some (i.Mark line) →
+        result ≡ answer did line printed }
 {
     match did {
-        Did::Goes => match printed {
+        Ok(Did::Goes) => match printed {
             Some(v) => Outcome::Printed(v),
             None => Outcome::Running,
         },
-        Did::Ends => match printed {
+        Ok(Did::Ends) => match printed {
             Some(v) => Outcome::Printed(v),
             None => Outcome::Done,
         },
-        Did::Trapped { kind, line } => Outcome::Trap { kind, line },
-        Did::InputFault => Outcome::InputFault,
-        Did::Memory => Outcome::Memory,
-        Did::Lost => unreachable!(),
+        Err(Stopped::Trap(kind)) => Outcome::Trap {
+            kind,
+            line: line_at(code, at),
+        },
+        Err(Stopped::InputFault) => Outcome::InputFault,
+        Err(Stopped::Memory) => Outcome::Memory,
     }
 }

@@ -3,14 +3,14 @@
 ghost use Rattle.rg_machine.specs.Cores.{core_of};
 ghost use Rattle.rg_step.specs.Inner.Walks.{Unstuck, WalkEnds, walk_from};
 
-use crate::room::{Roomed, make_room};
-use rg_base::Trap;
+use crate::room::make_room;
+use crate::stopped::Stopped;
 use rg_code::CodeList;
 use rg_machine::{Machine, Next, act};
 
-/// How a walk along the code ends.
+/// Where a walk along the code pauses.
 #[derive(Clone, Copy)]
-pub(crate) enum End {
+pub(crate) enum Pause {
     /// the step comes to an address
     Stop(usize),
     /// a frame has ended, and its call stands in front of this address
@@ -19,17 +19,11 @@ pub(crate) enum End {
     Read(usize),
     /// the instruction at this address asks whether anything is left
     More(usize),
-    /// the step traps
-    Trap(Trap),
-    /// no memory was found
-    Memory,
-    /// no code leads on
-    Lost,
 }
 
 /// Walks along the code from an address on, up to the step's end or an instruction that asks the
 /// input.
-pub(crate) fn walk(p: &mut Machine, code: &CodeList, from: usize) -> End
+pub(crate) fn walk(p: &mut Machine, code: &CodeList, from: usize) -> Result<Pause, Stopped>
     requires { Unstuck (walk_from code.now from (core_of p.old)) }
     ensures { WalkEnds code.now from p.old p.new result }
 {
@@ -44,21 +38,18 @@ pub(crate) fn walk(p: &mut Machine, code: &CodeList, from: usize) -> End
                     at += 1;
                 }
             }
-            Next::Read => return End::Read(at),
-            Next::More => return End::More(at),
-            Next::Room => match make_room(p, code, at + 1) {
-                Roomed::Free => at += 1,
-                Roomed::Called(to) => return End::Stop(to),
-                Roomed::Full => return End::Trap(Trap::Depth),
-                Roomed::Memory => return End::Memory,
-                Roomed::Lost => return End::Lost,
+            Next::Read => return Ok(Pause::Read(at)),
+            Next::More => return Ok(Pause::More(at)),
+            Next::Room => match make_room(p, code, at + 1)? {
+                None => at += 1,
+                Some(to) => return Ok(Pause::Stop(to)),
             },
-            Next::Stop(to) => return End::Stop(to),
-            Next::Return(back) => return End::Return(back),
-            Next::Trap(kind) => return End::Trap(kind),
-            Next::Memory => return End::Memory,
-            Next::Lost => return End::Lost,
+            Next::Stop(to) => return Ok(Pause::Stop(to)),
+            Next::Return(back) => return Ok(Pause::Return(back)),
+            Next::Trap(kind) => return Err(Stopped::Trap(kind)),
+            Next::Memory => return Err(Stopped::Memory),
+            Next::Lost => unreachable!(),
         }
     }
-    End::Lost
+    unreachable!()
 }

@@ -1,7 +1,7 @@
 -- One object is made at most by a walk along orderly code: what makes one stands where the heap is still that of the start, and nothing
 -- behind it may be refused.
 use Rattle.std.proofs.Common.{◌≡◌, ◌<◌, ℕ, inl, inr, List, Bool as Truth, true, false, true≢false, drop, slice_get}
-use Rattle.std.proofs.Common.{Option, Some, None, refl, ap, subst, sym, ◌∙◌}
+use Rattle.std.proofs.Common.{Option, Some, None, Result, Ok, Err, refl, ap, subst, sym, ◌∙◌}
 use Rattle.std.proofs.Common.{◌+◌, ◌-◌, arith}
 use Rattle.std.proofs.lemmas.List.{drop-drop}
 use Rattle.rg_base.specs.declared.outcome.Outcome.{Outcome}
@@ -25,7 +25,9 @@ use Rattle.rg_machine.specs.Parts.{Parts as MachineParts, machine_in}
 use Rattle.rg_machine.proofs.Callers.High.{none-same, none-then}
 use Rattle.rg_step.specs.declared.step.Did.{Did}
 use Rattle.rg_step.specs.declared.step.Did.TheVariants as did
-use Rattle.rg_step.specs.Inner.High.{Calmed, DidMade, MayMake, OneAtMost, Untouched}
+use Rattle.rg_step.specs.declared.stopped.Stopped.{Stopped}
+use Rattle.rg_step.specs.declared.stopped.Stopped.TheVariants as stopped
+use Rattle.rg_step.specs.Inner.High.{Calmed, MadeAtMost, MayMake, OneAtMost, Untouched}
 use Rattle.rg_step.specs.Inner.Serving.{answer}
 use Rattle.rg_step.specs.States.{Raises}
 use Rattle.rg_step.proofs.Walking.Stands.{first-there, orderly-free}
@@ -53,25 +55,16 @@ pub may-most : (code : List Op) (start : Parts) (at : ℕ) (heap : Parts) → Ma
 may-most code start at heap (inl u) = inl (none-same start heap u.same)
 may-most code start at heap (inr c) = c.made
 
--- the heap stays
-pub did-same : (old new : Parts) (d : Did) → new ≡ old → DidMade old new d
-did-same old new did.Goes same = inl (none-same old new same)
-did-same old new did.Ends same = inl (none-same old new same)
-did-same old new (did.Trapped kind line) same = inl (none-same old new same)
-did-same old new did.InputFault same = inl (none-same old new same)
-did-same old new did.Memory same = tt
-did-same old new did.Lost same = tt
-
 -- what is answered
-pub answer-raises : (old new : MachineParts) (d : Did) (printed : Option Val) → DidMade old.heap new.heap d → Raises (answer d printed) old new
-answer-raises old new did.Goes (Some v) h = h
-answer-raises old new did.Goes None h = h
-answer-raises old new did.Ends (Some v) h = h
-answer-raises old new did.Ends None h = h
-answer-raises old new (did.Trapped kind line) printed h = h
-answer-raises old new did.InputFault printed h = h
-answer-raises old new did.Memory printed h = tt
-answer-raises old new did.Lost printed h = tt
+pub answer-raises : (old new : MachineParts) (d : Result Did Stopped) (line : ℕ) (printed : Option Val) → MadeAtMost old.heap new.heap d
+    → Raises (answer d line printed) old new
+answer-raises old new (Ok did.Goes) line (Some v) h = h
+answer-raises old new (Ok did.Goes) line None h = h
+answer-raises old new (Ok did.Ends) line (Some v) h = h
+answer-raises old new (Ok did.Ends) line None h = h
+answer-raises old new (Err (stopped.Trap kind)) line printed h = h
+answer-raises old new (Err stopped.InputFault) line printed h = h
+answer-raises old new (Err stopped.Memory) line printed h = tt
 
 -- where none is made before or behind
 pub raises-none : (result : Outcome) (old mid new : MachineParts) → Raises result old mid → NoneMade mid.heap new.heap → Raises result old new

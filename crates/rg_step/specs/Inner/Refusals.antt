@@ -1,16 +1,20 @@
 -- What a refusal leaves of the machine and of the input, and where frames go back (docs/architecture.md, "The stepper").
 use Rattle.std.specs.Prelude.{◌≡◌, ◌⊎◌, ℕ, ◌+◌, List, drop, Bool as Truth, true, false}
+use Rattle.rg_base.specs.declared.outcome.Trap.{Trap}
+use Rattle.rg_base.specs.declared.outcome.Trap.TheVariants as trap
 use Rattle.rg_code.specs.declared.op.Op.{Op}
 use Rattle.rg_stack.specs.Machine.{Machine}
 use Rattle.rg_stack.specs.Refusals.{Orderly, calm, orderly}
 use Rattle.rg_stack.specs.Reads.{reads}
 use Rattle.rg_machine.specs.Keeps.{GoesBack, SameBacks}
-use Rattle.rg_step.specs.declared.asks.Come.{Come}
-use Rattle.rg_step.specs.declared.asks.Come.TheVariants as come
-use Rattle.rg_step.specs.declared.step.Did.{Did}
-use Rattle.rg_step.specs.declared.step.Did.TheVariants as did
-use Rattle.rg_step.specs.declared.walk.End.{End}
-use Rattle.rg_step.specs.declared.walk.End.TheVariants as end
+use Rattle.rg_input.specs.declared.refusal.NumberRefusal.{NumberRefusal}
+use Rattle.rg_input.specs.declared.refusal.NumberRefusal.TheVariants as no
+use Rattle.rg_step.specs.declared.asks.Landing.{Landing}
+use Rattle.rg_step.specs.declared.asks.Landing.TheVariants as landing
+use Rattle.rg_step.specs.declared.stopped.Stopped.{Stopped}
+use Rattle.rg_step.specs.declared.stopped.Stopped.TheVariants as stopped
+use Rattle.rg_step.specs.declared.walk.Pause.{Pause}
+use Rattle.rg_step.specs.declared.walk.Pause.TheVariants as pause
 
 -- At an address, the machine is that of the step's start, what stands here is orderly, and asks the input only where the step does.
 pub record AtStart (code : List Op) (start : Machine) (asks : Truth) (at : ℕ) (m : Machine) : Type 0 where
@@ -28,25 +32,42 @@ pub record Asking (code : List Op) (start : Machine) (asks : Truth) (at : ℕ) (
   pub same : m ≡ start
   pub stands : Stands code start asks (at + 1) m
 
--- what a walk's end leaves
-abbrev pub EndLeaves : (code : List Op) → (start : Machine) → (asks : Truth) → (new : Machine) → End → Type 0
-EndLeaves code start asks new (end.Stop t) = Unit {0}
-EndLeaves code start asks new (end.Return t) = Unit {0}
-EndLeaves code start asks new (end.Read at) = Asking code start asks at new × (calm code false (drop (at + 1) code) ≡ true)
-EndLeaves code start asks new (end.More at) = Asking code start asks at new
-EndLeaves code start asks new (end.Trap k) = new ≡ start
-EndLeaves code start asks new end.Memory = new ≡ start
-EndLeaves code start asks new end.Lost = Unit {0}
+-- why a step stops that wants the next number, where there is none
+abbrev pub stopped_by : NumberRefusal → Stopped
+stopped_by no.End = stopped.Trap trap.End
+stopped_by no.Input = stopped.Trap trap.Input
+stopped_by no.InputFault = stopped.InputFault
 
--- where frames go back at a walk's end
-abbrev pub EndBacks : (old new : Machine) → End → Type 0
-EndBacks old new (end.Stop t) = Unit {0}
-EndBacks old new (end.Return t) = GoesBack old.frames t
-EndBacks old new (end.Read at) = SameBacks old new
-EndBacks old new (end.More at) = SameBacks old new
-EndBacks old new (end.Trap k) = Unit {0}
-EndBacks old new end.Memory = Unit {0}
-EndBacks old new end.Lost = Unit {0}
+-- what a stop says of what the definition gives, which traps as it does
+abbrev pub StopIs : {A : Type 0} → (traps : Trap → A) → (given : A) → Stopped → Type 0
+StopIs traps given (stopped.Trap k) = given ≡ traps k
+StopIs traps given stopped.InputFault = Unit {0}
+StopIs traps given stopped.Memory = Unit {0}
+
+-- what a stop leaves: the machine of the step's start; the input is at fault only where the step asks it
+abbrev pub StopLeaves : (start : Machine) → (asks : Truth) → (new : Machine) → Stopped → Type 0
+StopLeaves start asks new (stopped.Trap k) = new ≡ start
+StopLeaves start asks new stopped.InputFault = (asks ≡ true) × (new ≡ start)
+StopLeaves start asks new stopped.Memory = new ≡ start
+
+-- what a walk leaves where it pauses
+abbrev pub PauseLeaves : (code : List Op) → (start : Machine) → (asks : Truth) → (new : Machine) → Pause → Type 0
+PauseLeaves code start asks new (pause.Stop t) = Unit {0}
+PauseLeaves code start asks new (pause.Return t) = Unit {0}
+PauseLeaves code start asks new (pause.Read at) = Asking code start asks at new × (calm code false (drop (at + 1) code) ≡ true)
+PauseLeaves code start asks new (pause.More at) = Asking code start asks at new
+
+-- where frames go back where a walk pauses
+abbrev pub PauseBacks : (old new : Machine) → Pause → Type 0
+PauseBacks old new (pause.Stop t) = Unit {0}
+PauseBacks old new (pause.Return t) = GoesBack old.frames t
+PauseBacks old new (pause.Read at) = SameBacks old new
+PauseBacks old new (pause.More at) = SameBacks old new
+
+-- where the frame goes back that ended where a walk lands
+abbrev pub LandingBacks : (old : Machine) → Landing → Type 0
+LandingBacks old (landing.Stop t) = Unit {0}
+LandingBacks old (landing.Return t) = GoesBack old.frames t
 
 -- a number is read at most where nothing is refused from there on: up to an address all of the input is left, or nothing is refused there
 abbrev pub Unread : (code : List Op) → (from : ℕ) → (old : Machine) → (at : ℕ) → (before after : List ℕ) → Type 0
@@ -57,42 +78,6 @@ Unread code from old at before after =
 abbrev pub StillLeft : (code : List Op) → (from : ℕ) → (old : Machine) → (before after : List ℕ) → Type 0
 StillLeft code from old before after = (start : Machine) (asks : Truth) → Stands code start asks from old → after ≡ before
 
--- what a walk leaves that asked the input
-abbrev pub ComeLeaves : (start : Machine) → (asks : Truth) → (new : Machine) → Come → Type 0
-ComeLeaves start asks new (come.Stop t) = Unit {0}
-ComeLeaves start asks new (come.Return t) = Unit {0}
-ComeLeaves start asks new (come.Trap k) = new ≡ start
-ComeLeaves start asks new come.InputFault = (asks ≡ true) × (new ≡ start)
-ComeLeaves start asks new come.Memory = new ≡ start
-ComeLeaves start asks new come.Lost = Unit {0}
-
--- where the frame that ended goes back
-abbrev pub ComeBacks : (old : Machine) → Come → Type 0
-ComeBacks old (come.Stop t) = Unit {0}
-ComeBacks old (come.Return t) = GoesBack old.frames t
-ComeBacks old (come.Trap k) = Unit {0}
-ComeBacks old come.InputFault = Unit {0}
-ComeBacks old come.Memory = Unit {0}
-ComeBacks old come.Lost = Unit {0}
-
--- what a step leaves that was refused, or asks
-abbrev pub DidLeaves : (asks : Truth) → (old new : Machine) → Did → Type 0
-DidLeaves asks old new did.Goes = Unit {0}
-DidLeaves asks old new did.Ends = Unit {0}
-DidLeaves asks old new (did.Trapped kind line) = new ≡ old
-DidLeaves asks old new did.InputFault = (asks ≡ true) × (new ≡ old)
-DidLeaves asks old new did.Memory = new ≡ old
-DidLeaves asks old new did.Lost = Unit {0}
-
 -- whether the step at a machine's place asks the input
 abbrev pub asks_at : List Op → Machine → Truth
 asks_at code m = reads (drop (m.at + 1) code)
-
--- a step that was refused leaves all of the input
-abbrev pub DidLeave : (code : List Op) → (old : Machine) → Did → (before after : List ℕ) → Type 0
-DidLeave code old did.Goes before after = Unit {0}
-DidLeave code old did.Ends before after = Unit {0}
-DidLeave code old (did.Trapped kind line) before after = Orderly code old → after ≡ before
-DidLeave code old did.InputFault before after = Orderly code old → after ≡ before
-DidLeave code old did.Memory before after = Orderly code old → after ≡ before
-DidLeave code old did.Lost before after = Unit {0}

@@ -1,5 +1,5 @@
 -- What a step does behind its instructions (docs/architecture.md, "The stepper").
-use Rattle.std.specs.Prelude.{◌≡◌, ◌<◌, ℕ, Bool, true, false, Option, Some, None, length, vec_capacity}
+use Rattle.std.specs.Prelude.{◌≡◌, ◌<◌, ℕ, Bool, true, false, Option, Some, None, Result, Ok, Err, length, vec_capacity}
 use Rattle.std.specs.declared.vec.Vec.{Vec}
 use Rattle.rg_base.specs.declared.words.Manager.{Manager}
 use Rattle.rg_base.specs.declared.words.Manager.TheVariants.{Arena, Count, Trace}
@@ -12,6 +12,8 @@ use Rattle.rg_base.specs.declared.outcome.Outcome.TheVariants as outcome
 use Rattle.rg_pace.specs.Asked.{one_more, with_ask}
 use Rattle.rg_step.specs.declared.step.Did.{Did}
 use Rattle.rg_step.specs.declared.step.Did.TheVariants as did
+use Rattle.rg_step.specs.declared.stopped.Stopped.{Stopped}
+use Rattle.rg_step.specs.declared.stopped.Stopped.TheVariants as stopped
 use Rattle.rg_machine.specs.Parts.{Parts, machine_in}
 use Rattle.rg_step.specs.Frees.{FreesOnly, StaysGone}
 use Rattle.rg_step.specs.States.{Raises}
@@ -20,16 +22,15 @@ use Rattle.rg_step.specs.Stepping.{Since}
 use Rattle.rg_step.specs.Collections.{since_then}
 use Rattle.rg_step.specs.Pacers.{Asks}
 
--- what is answered of what a step did and printed
-abbrev pub answer : Did → (printed : Option Val) → Outcome
-answer did.Goes (Some v) = outcome.Printed v
-answer did.Goes None = outcome.Running
-answer did.Ends (Some v) = outcome.Printed v
-answer did.Ends None = outcome.Done
-answer (did.Trapped kind line) printed = outcome.Trap kind line
-answer did.InputFault printed = outcome.InputFault
-answer did.Memory printed = outcome.Memory
-answer did.Lost printed = outcome.Memory
+-- what is answered of what a step did and printed, or why it stopped, where its mark has this line
+abbrev pub answer : Result Did Stopped → (line : ℕ) → (printed : Option Val) → Outcome
+answer (Ok did.Goes) line (Some v) = outcome.Printed v
+answer (Ok did.Goes) line None = outcome.Running
+answer (Ok did.Ends) line (Some v) = outcome.Printed v
+answer (Ok did.Ends) line None = outcome.Done
+answer (Err (stopped.Trap kind)) line printed = outcome.Trap kind line
+answer (Err stopped.InputFault) line printed = outcome.InputFault
+answer (Err stopped.Memory) line printed = outcome.Memory
 
 -- whether a step may collect since that is what it is for
 abbrev pub is_asked : Option Cause → Bool

@@ -1,25 +1,27 @@
-use Rattle.std.proofs.Common.{◌≡◌, ◌+◌, Some, true≢false, refl, sym, ap, subst, ◌∙◌, arith}
+use Rattle.std.proofs.Common.{◌≡◌, ◌+◌, Some, IfErr, slice_get, true≢false, refl, sym, ap, subst, ◌∙◌, arith}
 use Rattle.std.proofs.lemmas.Option.{slice_get_within}
 use Rattle.rg_base.specs.declared.event.Cause.TheVariants.{Asked}
 use Rattle.rg_base.specs.declared.outcome.Outcome.TheVariants as outcome
 use Rattle.rg_input.proofs.Input.{OnInput-map, OnInput-some, OnInput-still}
 use Rattle.rg_input.specs.Numbers.{OnInput}
 use Rattle.rg_code.specs.Dues.{due_at}
+use Rattle.rg_code.specs.Shapes.{IsMark}
 use Rattle.rg_machine.specs.Parts.{Parts, machine_in}
 use Rattle.rg_machine.specs.Cores.{core_of}
 use Rattle.rg_stack.specs.Machine.{Machine}
 use Rattle.rg_held.specs.Freed.{FreesOnly as StoreFrees}
-use Rattle.rg_step.specs.Inner.High.{DidMade}
+use Rattle.rg_step.specs.Inner.High.{MadeAtMost}
 use Rattle.rg_step.proofs.Walking.High.{answer-raises}
-use Rattle.rg_step.specs.Inner.Refusals.{DidLeaves, asks_at}
+use Rattle.rg_step.specs.Inner.Refusals.{StopLeaves, asks_at}
 use Rattle.rg_step.specs.Inner.Serving.{answer}
 use Rattle.rg_step.specs.Inner.Walks.{StepIs}
 use Rattle.rg_step.specs.Steps.{IsResting, StepsOn, is_made}
 use Rattle.rg_step.specs.Frees.{StaysGone}
 use Rattle.rg_step.proofs.Frees.{did-frees, did-stays, table-frees}
-use Rattle.rg_step.proofs.Walking.Outcomes.{answer-fault, answer-leaves, answer-settles, instructed-nothing, never-lost}
+use Rattle.rg_step.proofs.Walking.Outcomes.{answer-fault, answer-leaves, answer-settles, instructed-nothing}
 use Rattle.rg_step.proofs.Shapes.Pass.{asked-step, is-asked, pass-frees, pass-high, pass-rests, pass-stays, pass-steps}
 use Rattle.rg_step.proofs.Walking.Run.{runs-ask, runs-given, runs-orderly, unasked-there}
+use Rattle.rg_step.proofs.Walking.Steps.{mark-there}
 use Rattle.rg_step.proofs.Callers.Serve.{steps-nowhere}
 use Rattle.rg_step.proofs.outcome.outcome.Goals as goal
 
@@ -82,24 +84,25 @@ step-did-requires-clause-given g c = runs-given c.args.code.now (core_of c.args.
 
 pub answer-requires : goal.answer-requires
 answer-requires g c =
-    never-lost c.args.code.now (core_of c.args.p.now) (core_of c.step-did.new.p) c.step-did.result _ _ _ _ c.requires.runs
-    c.step-did.ensures.follows c.step-did.ensures.step
+    subst (IsMark c.args.code.now.ops) (sym c.at-at.ensures)
+    (mark-there c.args.code.now (core_of c.args.p.now) (runs-given c.args.code.now (core_of c.args.p.now) c.requires.runs))
 
 pub returns-clause-step : goal.returns-clause-step
 returns-clause-step g c =
     let code = c.args.code.now in
     let old = core_of c.args.p.now in
     let new = core_of c.step-did.new.p in
-    let result = answer c.step-did.result c.printed-printed.result in
+    let d = c.step-did.result in
+    let printed = c.printed-printed.result in
+    let mark = mark-there code old (runs-given code old c.requires.runs) in
+    let told = c.answer.ensures mark.0 (ap (slice_get code.ops) c.at-at.ensures ∙ mark.1) in
     let same : machine_in c.start.new.self ≡ new.machine = ap machine_in c.start.ensures in
     let On : Machine → Type 0 = λ m. OnInput c.args.input.now c.step-did.new.input (g.S.Source.left c.args.source.now)
     (g.S.Source.left c.step-did.new.source)
     (StepsOn code old.machine m c.answer.result) in
-    subst On (sym same) (rw c.answer.ensures (OnInput-map _ _ _ _ (StepIs code old new c.step-did.result)
-    (StepsOn code old.machine new.machine result)
+    subst On (sym same) (rw told (OnInput-map _ _ _ _ (StepIs code old new d) (StepsOn code old.machine new.machine (answer d mark.0 printed))
     c.step-did.ensures.step
-    (λ before after is. answer-settles code old new c.step-did.result c.printed-printed.result before after c.requires.runs
-    (sym c.printed-printed.ensures) c.step-did.ensures.leaves is)))
+    (λ before after is. answer-settles code old new d mark.0 printed before after mark.1 (sym c.printed-printed.ensures) c.step-did.ensures.leaves is)))
 
 pub returns-clause-reads_nothing : goal.returns-clause-reads_nothing
 returns-clause-reads_nothing g c t s r e =
@@ -108,15 +111,21 @@ returns-clause-reads_nothing g c t s r e =
 
 pub returns-clause-input_fault : goal.returns-clause-input_fault
 returns-clause-input_fault g c e t s r =
+    let code = c.args.code.now in
     let m = machine_in c.args.p.now in
-    let fault = answer-fault c.step-did.result c.printed-printed.result (sym c.answer.ensures ∙ e) in
-    let left = subst (DidLeaves (asks_at c.args.code.now.ops m) m (machine_in c.step-did.new.p)) fault
-    (c.step-did.ensures.leaves (runs-orderly t c.args.code.now m s r)) in
-    sym (runs-ask t c.args.code.now m s r) ∙ left.0
+    let mark = mark-there code (core_of c.args.p.now) (runs-given code (core_of c.args.p.now) c.requires.runs) in
+    let told = c.answer.ensures mark.0 (ap (slice_get code.ops) c.at-at.ensures ∙ mark.1) in
+    let fault = answer-fault c.step-did.result mark.0 c.printed-printed.result (sym told ∙ e) in
+    let left = subst (λ d. IfErr d (StopLeaves m (asks_at code.ops m) (machine_in c.step-did.new.p))) fault
+    (c.step-did.ensures.leaves (runs-orderly t code m s r)) in
+    sym (runs-ask t code m s r) ∙ left.0
 
 pub returns-clause-fault : goal.returns-clause-fault
 returns-clause-fault g c e =
-    c.step-did.ensures.fault (answer-fault c.step-did.result c.printed-printed.result (sym c.answer.ensures ∙ e))
+    let code = c.args.code.now in
+    let mark = mark-there code (core_of c.args.p.now) (runs-given code (core_of c.args.p.now) c.requires.runs) in
+    let told = c.answer.ensures mark.0 (ap (slice_get code.ops) c.at-at.ensures ∙ mark.1) in
+    c.step-did.ensures.fault (answer-fault c.step-did.result mark.0 c.printed-printed.result (sym told ∙ e))
 
 pub returns-clause-did : goal.returns-clause-did
 returns-clause-did g c =
@@ -128,15 +137,16 @@ returns-clause-did g c =
     let m = machine_in old in
     let runs = c.requires.runs in
     let order = runs-orderly runs.0 code m runs.1 runs.2 in
+    let mark = mark-there code (core_of old) (runs-given code (core_of old) runs) in
+    let told = c.answer.ensures mark.0 (ap (slice_get code.ops) c.at-at.ensures ∙ mark.1) in
     let s = OnInput-some _ _ _ _ (StepIs code (core_of old) (core_of mid) d) c.step-did.ensures.follows c.step-did.ensures.step in
-    let there : DidMade old.heap new.heap d =
-    subst (λ (p : Parts). DidMade old.heap p.heap d) (sym c.start.ensures) (c.step-did.ensures.high order) in
-    let led = never-lost code (core_of old) (core_of mid) d _ _ _ _ runs c.step-did.ensures.follows c.step-did.ensures.step in
+    let there : MadeAtMost old.heap new.heap d =
+    subst (λ (p : Parts). MadeAtMost old.heap p.heap d) (sym c.start.ensures) (c.step-did.ensures.high order) in
     record {
       refused = λ none. ap machine_in c.start.ensures
-          ∙ answer-leaves (asks_at code.ops m) m (machine_in mid) d c.printed-printed.result led (ap is_made (sym c.answer.ensures) ∙ none)
+          ∙ answer-leaves (asks_at code.ops m) m (machine_in mid) d mark.0 c.printed-printed.result (ap is_made (sym told) ∙ none)
           (c.step-did.ensures.leaves order);
-      high = rw c.answer.ensures (answer-raises old new d c.printed-printed.result there);
+      high = rw told (answer-raises old new d mark.0 c.printed-printed.result there);
       frees = table-frees old new
           (record {
             stands = c.is_sound.ensures.stands;
@@ -153,7 +163,7 @@ returns-clause-did g c =
           (subst (λ (p : Parts). StoreFrees m (machine_in p)) (sym c.start.ensures)
           (did-frees code (core_of old) (core_of mid) d s.0 s.1 runs c.step-did.ensures.leaves s.2 order));
       stays_gone = subst (λ (p : Parts). StaysGone old p) (sym c.start.ensures)
-          (did-stays code (core_of old) (core_of mid) d s.0 s.1 runs c.step-did.ensures.leaves s.2 order);
+          (did-stays code (core_of old) (core_of mid) d s.0 s.1 c.step-did.ensures.leaves s.2 order);
       still = λ asked. absurd (true≢false (sym asked ∙ sym c.is_asked.ensures ∙ c.if-is_asked.false));
       rests = subst IsResting (sym c.start.ensures) (record { words = refl; printed = refl });
     }
