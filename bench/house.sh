@@ -25,7 +25,7 @@ def functions(text):
             end += 1
         whole = "\n".join(lines[k : end + 1])
         depth, count, inside = 0, 0, ""
-        for sign in whole[whole.index("(") :]:
+        for sign in whole[whole.index("(", start.end()) :]:
             if sign in "([{<": depth += 1
             if sign in ")]}>": depth -= 1
             inside += sign

@@ -207,6 +207,13 @@ answer-tuned words c m count trace e h d again =
     let P : Command → Type 0 = λ x. Tunes x m count trace in
     subst P (sym same) h
 
+-- the same of a machine that is equal
+pub tuned-moved : (words : List (List ℕ)) (m n : Kept) (count trace : ℕ) → m ≡ n → ((d : Command) → command words ≡ Some d → Tunes d m count trace) →
+    (d : Command) → command words ≡ Some d → Tunes d n count trace
+tuned-moved words m n count trace same h =
+    let P : Kept → Type 0 = λ q. (d : Command) → command words ≡ Some d → Tunes d q count trace in
+    subst P same h
+
 -- and whether what is kept moves is chosen by that command
 pub answer-chooses : (words : List (List ℕ)) (c : Command) (m : Kept) → command words ≡ Some c → Chooses c m →
     (d : Command) → command words ≡ Some d → Chooses d m
@@ -223,6 +230,14 @@ pub record Answered (told : Option Told) (left : Option (List ℕ)) (words : Lis
   pub command_is : command words ≡ Some asked
   pub settles : SettlesCommand told asked left given old new m still
   pub told_is : Becomes given answer
+
+-- what was answered, with the output and the machine by other names
+pub settles-moved : (told : Option Told) (c : Command) (left : Option (List ℕ)) (s : Status) (old new behind : Option (List ℕ)) (m n : Kept)
+    (still : Type 0) → new ≡ behind → m ≡ n → SettlesCommand told c left s old new m still → SettlesCommand told c left s old behind n still
+settles-moved told c left s old new behind m n still out_is machine_is h =
+    let P : Option (List ℕ) → Type 0 = λ q. SettlesCommand told c left s old q m still in
+    let Q : Kept → Type 0 = λ q. SettlesCommand told c left s old behind q still in
+    subst Q machine_is (subst P out_is h)
 
 module _ {told : Option Told} {left : Option (List ℕ)} {words : List (List ℕ)} {given answer : Status} {old new : Option (List ℕ)} {m : Kept}
     {still : Type 0} (a : Answered told left words given answer old new m still) where

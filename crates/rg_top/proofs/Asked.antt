@@ -100,6 +100,21 @@ asked-from origin n source left t code m e old new quiet first last count trace 
       )
     ]
 
+-- pacers that were tuned had been asked as often before
+pub asked-tuned : (origin : Origin) (source : List ℕ) (left : Option (List ℕ)) (m : Kept) (c d e t u v : ℕ) → d ≡ c → u ≡ t →
+    RunAsked origin source left m d e u v → RunAsked origin source left m c e t v
+asked-tuned origin source left m c d e t u v count trace h =
+    let P : ℕ → Type 0 = λ q. RunAsked origin source left m q e u v in
+    let Q : ℕ → Type 0 = λ q. RunAsked origin source left m c e q v in
+    subst Q trace (subst P count h)
+
+-- and had said yes as often
+pub yeses-tuned : (m : Kept) (c d e t u v : ℕ) → d ≡ c → u ≡ t → SayYes m d e u v → SayYes m c e t v
+yeses-tuned m c d e t u v count trace h =
+    let P : ℕ → Type 0 = λ q. SayYes m q e u v in
+    let Q : ℕ → Type 0 = λ q. SayYes m c e q v in
+    subst Q trace (subst P count h)
+
 -- an empty input is the only one of a source that has nothing left
 pub asked-generated : (size : ℕ) (source : List ℕ) (left : Option (List ℕ)) (m : Kept) (c d t u : ℕ) →
     RunAsked (generated size) source (Some []) m c d t u → AskedFrom (generated size) source left m c d t u
@@ -123,6 +138,15 @@ pub asked-words : (told : Option Told) (words : List (List ℕ)) (asked : Comman
     Unasked m c d t u ⊎ ForSource told left words (λ k source bytes. RunAsks (origin_of k) source (input_for (origin_of k) bytes) m c d t u)
 asked-words told words asked left m c d t u is (inl none) = inl none
 asked-words told words asked left m c d t u is (inr h) = inr (asked, h.0, is, h.1, h.2)
+
+-- the same of a machine that is equal
+pub asked-moved : (told : Option Told) (words : List (List ℕ)) (left : Option (List ℕ)) (m n : Kept) (c d t u : ℕ) → m ≡ n →
+    Unasked m c d t u ⊎ ForSource told left words (λ k source bytes. RunAsks (origin_of k) source (input_for (origin_of k) bytes) m c d t u) →
+    Unasked n c d t u ⊎ ForSource told left words (λ k source bytes. RunAsks (origin_of k) source (input_for (origin_of k) bytes) n c d t u)
+asked-moved told words left m n c d t u same h =
+    let P : Kept → Type 0 = λ q.
+    Unasked q c d t u ⊎ ForSource told left words (λ k source bytes. RunAsks (origin_of k) source (input_for (origin_of k) bytes) q c d t u) in
+    subst P same h
 
 -- a machine on which no run has begun has no collection
 pub yeses-fresh : (m : Kept) (c d t u : ℕ) → IsFresh m → d ≡ c → u ≡ t → SayYes m c d t u

@@ -146,6 +146,21 @@ reported-memory status.OutputFault events old mid e h = cc
 reported-memory status.Memory events old mid e h = cc
 reported-memory status.Long events old mid e h = cc
 
+-- what the notes have taken, with the machine and the notes by other names
+pub took-moved : (May : Status → Type 0) (report : Bool) (steps : ℕ) (m n : Kept) (s : Status) (old new behind : Option (List ℕ)) → m ≡ n →
+    new ≡ behind → TookNotes May report steps m s old new → TookNotes May report steps n s old behind
+took-moved May report steps m n s old new behind machine_is notes_are h =
+    let P : Kept → Type 0 = λ q. TookNotes May report steps q s old new in
+    let Q : Option (List ℕ) → Type 0 = λ q. TookNotes May report steps n s old q in
+    subst Q notes_are (subst P machine_is h)
+
+pub fault-moved : (report : Bool) (m n : Kept) (old new behind : Option (List ℕ)) → m ≡ n → new ≡ behind →
+    ToldFault report m.stepper.events old new → ToldFault report n.stepper.events old behind
+fault-moved report m n old new behind machine_is notes_are h =
+    let P : Kept → Type 0 = λ q. ToldFault report q.stepper.events old new in
+    let Q : Option (List ℕ) → Type 0 = λ q. ToldFault report n.stepper.events old q in
+    subst Q notes_are (subst P machine_is h)
+
 -- what is told behind the lines of collections: with a report the line of a run's end stands behind the text of the status
 pub behind-end : (steps : ℕ) (m : Kept) (s : Status) → ends_run s ≡ true → text_behind true steps m s ≡ status_text steps s ++ end_line (numbers_of m)
 behind-end steps m status.Done e = refl

@@ -2,4 +2,6 @@
 pub mod Nothing
 pub mod Requests
 pub mod Settled
+pub mod Setting
+pub mod Tallies
 pub mod Words

@@ -5,9 +5,9 @@
 //! gives a status's text to the notes. `run_process` is a whole process, `main`'s one call.
 #![tactic(auto)]
 
-mod no_input;
 mod notes;
 mod process;
+mod setting;
 mod status;
 mod top;
 mod words;

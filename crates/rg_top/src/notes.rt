@@ -8,9 +8,11 @@ ghost use Rattle.rg_io.specs.Content.{Rose, Appends, AppendsPart};
 ghost use Rattle.rg_run.specs.Machine.{Kept, numbers_of};
 ghost use Rattle.rg_top.specs.Headline.{TookNotes, ToldFault};
 ghost use Rattle.rg_top.specs.Inner.Settled.{Reported, Gave, Becomes};
+ghost use Rattle.rg_top.specs.Inner.Setting.{IsLent};
 ghost use Rattle.rg_base.specs.Report as report;
 ghost use Rattle.rg_top.specs.Statuses.{status_text, trap_text, ends_run};
 
+use crate::setting::Setting;
 use crate::status::Status;
 use arrayvec::ArrayVec;
 use rg_base::Trap;
@@ -190,35 +192,40 @@ fn give_end<R: Sink>(
 
 /// Gives to the notes what stands behind the lines of a run's collections: the text of the status
 /// and, with a report, the line of the run's end.
-pub(crate) fn tell_behind<R: Sink>(
-    alloc: Global,
-    notes: &mut R,
+pub(crate) fn tell_behind<O: Sink, R: Sink>(
+    setting: &mut Setting<'_, O, R>,
     status: Status,
     steps: u64,
     report: bool,
-    machine: &Machine,
 ) -> Status
     ensures told { Becomes status result }
-    ensures failed { result ≡ Status.OutputFault →
-        (status ≡ Status.OutputFault) ⊎ Rose (R.faults notes.old) (R.faults notes.new) }
+    ensures failed { result ≡ Status.OutputFault → (status ≡ Status.OutputFault)
+        ⊎ Rose (R.faults setting.old.notes.now) (R.faults setting.new.notes.now) }
     ensures took { (old : Option (List ℕ)) →
-        Reported report status machine.now.stepper.events old (R.taken notes.old) →
-        TookNotes (λ s. (s ≡ status) ⊎ (s ≡ Status.Memory)) report steps machine.now result
-        old (R.taken notes.new) }
+        Reported report status setting.old.machine.now.stepper.events old
+        (R.taken setting.old.notes.now) →
+        TookNotes (λ s. (s ≡ status) ⊎ (s ≡ Status.Memory)) report steps
+        setting.old.machine.now result old (R.taken setting.new.notes.now) }
     ensures output_fault_told { (old : Option (List ℕ)) →
-        Reported report status machine.now.stepper.events old (R.taken notes.old) →
-        result ≡ Status.OutputFault → ¬ Rose (R.faults notes.old) (R.faults notes.new) →
-        ToldFault report machine.now.stepper.events old (R.taken notes.new) }
-    ensures never_falls { R.faults notes.old ≤ R.faults notes.new }
+        Reported report status setting.old.machine.now.stepper.events old
+        (R.taken setting.old.notes.now) →
+        result ≡ Status.OutputFault →
+        ¬ Rose (R.faults setting.old.notes.now) (R.faults setting.new.notes.now) →
+        ToldFault report setting.old.machine.now.stepper.events old
+        (R.taken setting.new.notes.now) }
+    ensures never_falls { R.faults setting.old.notes.now ≤ R.faults setting.new.notes.now }
+    ensures out { setting.new.out.now ≡ setting.old.out.now }
+    ensures machine { setting.new.machine.now ≡ setting.old.machine.now }
+    ensures lent { IsLent setting.old setting.new }
 {
     if let Status::OutputFault = status {
-        return tell_output_fault(notes);
+        return tell_output_fault(setting.notes);
     }
     if !report {
-        return give(notes, status, steps);
+        return give(setting.notes, status, steps);
     }
     if !ends_run(status) {
-        return give(notes, status, steps);
+        return give(setting.notes, status, steps);
     }
-    give_end(alloc, notes, status, steps, machine)
+    give_end(setting.alloc, setting.notes, status, steps, setting.machine)
 }

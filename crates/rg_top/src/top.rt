@@ -2,7 +2,7 @@
 //! (docs/promises.md).
 
 ghost use Rattle.std.specs.Prelude.{◌≡◌, ◌≢◌, ◌≤◌, ◌⊎◌, ℕ, List, true, false, length, Option};
-ghost use Rattle.std.specs.Prelude.{Bool, Some, None, Err, IfOk, []};
+ghost use Rattle.std.specs.Prelude.{Some, None, Err, IfOk, []};
 ghost use Rattle.std.specs.Bool.{OnTrue, OnFalse};
 ghost use Rattle.rg_base.specs.declared.fault.Fault.{Fault};
 ghost use Rattle.rg_base.specs.declared.limits.TheConstants.{SOURCE_BYTES};
@@ -11,7 +11,8 @@ ghost use Rattle.rg_base.specs.Report as report;
 ghost use Rattle.rg_base.specs.Tokens.{cut};
 ghost use Rattle.rg_tree.specs.Rows.Tables.{Tables};
 ghost use Rattle.rg_tree.specs.Rows.RowTrees.{program_of};
-ghost use Rattle.rg_io.specs.Content.{Rose, Appends};
+ghost use Rattle.rg_code.specs.Lowering.{Lowers};
+ghost use Rattle.rg_io.specs.Content.{Rose};
 ghost use Rattle.rg_io.specs.Files.{Told};
 ghost use Rattle.rg_make.specs.declared.whole.TheConstants.{MOST_SIZE};
 ghost use Rattle.rg_machine.specs.Owned.{IsOwned};
@@ -20,31 +21,31 @@ ghost use Rattle.rg_run.specs.Machine.{IsFresh, Kept, numbers_of};
 ghost use Rattle.rg_rules.specs.Acceptance.{Accepted as IsAccepted};
 ghost use Rattle.rg_rules.specs.Names.{FewNames};
 ghost use Rattle.rg_top.specs.Commands.{Command, command, texts, run, plain, fmt, check, code};
-ghost use Rattle.rg_top.specs.Commands.{bulk};
-ghost use Rattle.rg_top.specs.Commands.{Origin, in_file, generated, origin_of};
-ghost use Rattle.rg_top.specs.Commands.{steps_of, opens_file, may_open, reads_input, may_read};
-ghost use Rattle.rg_top.specs.Commands.{every_of, runs_on, is_slide, reports, may_report};
+ghost use Rattle.rg_top.specs.Commands.{bulk, Origin, in_file, generated, origin_of, steps_of};
+ghost use Rattle.rg_top.specs.Commands.{opens_file, may_open, reads_input, may_read, every_of};
+ghost use Rattle.rg_top.specs.Commands.{runs_on, is_slide, reports, may_report};
 ghost use Rattle.rg_top.specs.Inner.Requests.{command_of, AsksWithin};
-ghost use Rattle.rg_top.specs.Statuses.{status_text, is_answer, is_refusal, is_cut_off};
+ghost use Rattle.rg_top.specs.Statuses.{is_answer, is_refusal, is_cut_off};
 ghost use Rattle.rg_top.specs.Expected.{spelt, Means, MeansFrom, IsStuck, SpellsTree};
 ghost use Rattle.rg_top.specs.Expected.{ExpectsStatus};
-ghost use Rattle.rg_top.specs.Headline.{ForSource, Exactly, ExactlyWhere, Answers};
-ghost use Rattle.rg_top.specs.Headline.{Runs, Untouched, CutOffAt, CutAtInput};
+ghost use Rattle.rg_top.specs.Headline.{ForSource, Exactly, ExactlyWhere, Answers, Runs, Untouched};
+ghost use Rattle.rg_top.specs.Headline.{CutOffAt, CutAtInput, TookNotes, ToldFault, MayTell};
+ghost use Rattle.rg_top.specs.Headline.{steps_asked};
 ghost use Rattle.rg_top.specs.Asked.{Unasked, RunAsks, SayYes, input_for};
-ghost use Rattle.rg_top.specs.Headline.{TookNotes, ToldFault, MayTell, steps_asked};
-ghost use Rattle.rg_top.specs.Inner.Settled.{status_of_ended, RanFrom, PutLine, Settles};
-ghost use Rattle.rg_top.specs.Inner.Settled.{SettlesCommand, IfGenerated, Brings};
-ghost use Rattle.rg_top.specs.Inner.Settled.{Caused, CausedBeside, CausedByOutput};
-ghost use Rattle.rg_top.specs.Inner.Settled.{Reported, Tunes, Chooses};
-ghost use Rattle.rg_top.specs.Inner.Settled.{AskedCommand, AskedFrom, RunAsked};
+ghost use Rattle.rg_top.specs.Inner.Settled.{status_of_ended, PutLine, Settles, Brings, Serves};
+ghost use Rattle.rg_top.specs.Inner.Settled.{CausedBeside, CausedByOutput, Tunes, Chooses};
+ghost use Rattle.rg_top.specs.Inner.Setting.{IsLent, SlidesOn, RanIn, SettlesIn, SettlesCommandIn};
+ghost use Rattle.rg_top.specs.Inner.Setting.{ReportedIn, CausedIn};
+ghost use Rattle.rg_top.specs.Inner.Tallies.{TunedTo, TunedAsBefore, RunAskedOf, AskedFromOf};
+ghost use Rattle.rg_top.specs.Inner.Tallies.{AskedCommandOf, SayYesOf};
 
-use crate::no_input::NoInput;
 use crate::notes::{tell, tell_behind};
+use crate::setting::{NoInput, Setting};
 use crate::status::Status;
-use crate::words::{self, Request};
+use crate::words::{self, Request, RunOptions};
 use rg_base::{Ended, Fault, MOST_STEPS, SOURCE_BYTES, Stop};
 use rg_check::{Accepted, check, spelt_has_few_names};
-use rg_code::listing;
+use rg_code::{CodeList, listing};
 use rg_input::Numbers;
 use rg_io::{Files, Sink, Source, Taken, put_all, take_all};
 use rg_lex::tokens;
@@ -89,104 +90,135 @@ fn read(alloc: Global, source: &[u8]) -> Result<Program, Stop>
     parse(alloc, source, &found)
 }
 
-/// Tunes both pacers, lowers an accepted program and runs its code on the machine for at most so
-/// many steps. With a report, the lines of collections are given to the notes.
-fn run_accepted<I: Source, O: Sink, R: Sink>(
-    alloc: Global,
-    accepted: &Accepted,
-    steps: u64,
-    every: u64,
-    report: bool,
+/// An accepted program with its code.
+#[derive(Drop)]
+struct Lowered<'a> {
+    accepted: &'a Accepted,
+    code: CodeList,
+}
+
+/// Runs code on the machine. With a report, the lines of collections are given to the notes.
+fn run_code<I: Source, O: Sink, R: Sink>(
+    lowered: &Lowered<'_>,
+    options: RunOptions,
     input: &mut I,
-    out: &mut O,
-    notes: &mut R,
+    setting: &mut Setting<'_, O, R>,
     count: &mut dyn Pacer,
     trace: &mut dyn Pacer,
-    machine: &mut Machine,
 ) -> Status
-    requires { IsFresh machine.old }
+    requires fresh { IsFresh setting.old.machine.now }
+    requires lowers { Lowers (program_of lowered.now.accepted.now.program) lowered.now.code }
     ensures ran { (origin : Origin) (source : List ℕ) →
-        Runs origin source (program_of accepted.now.program) →
-        RanFrom origin steps source (I.left input.old) result
-        (O.taken out.old) (O.taken out.new) machine.new (input.new ≡ input.old) }
-    ensures notes { Reported report result machine.new.stepper.events
-        (R.taken notes.old) (R.taken notes.new) }
-    ensures tuned { ((tally count.new).tuned ≡ every) × ((tally trace.new).tuned ≡ every) }
-    ensures slides { machine.new.stepper.slides ≡ machine.old.stepper.slides }
-    ensures asked { (origin : Origin) (source : List ℕ) →
-        Runs origin source (program_of accepted.now.program) →
-        RunAsked origin source (I.left input.old) machine.new
-        (tally count.old).asks (tally count.new).asks
-        (tally trace.old).asks (tally trace.new).asks }
-    ensures yeses { SayYes machine.new
-        (tally count.old).yeses (tally count.new).yeses
-        (tally trace.old).yeses (tally trace.new).yeses }
-    ensures caused { Caused result (I.faults input.old) (I.faults input.new)
-        (O.faults out.old) (O.faults out.new) (R.faults notes.old) (R.faults notes.new) }
+        Runs origin source (program_of lowered.now.accepted.now.program) →
+        RanIn O.taken origin options.steps source (I.left input.old) result
+        setting.old setting.new (input.new ≡ input.old)
+        × RunAskedOf origin source (I.left input.old) setting.new.machine.now
+        (tally count.old) (tally count.new) (tally trace.old) (tally trace.new) }
+    ensures notes { ReportedIn R.taken options.report result setting.old setting.new }
+    ensures tuned { TunedAsBefore (tally count.old) (tally count.new)
+        (tally trace.old) (tally trace.new) }
+    ensures yeses { SayYesOf setting.new.machine.now
+        (tally count.old) (tally count.new) (tally trace.old) (tally trace.new) }
+    ensures caused { CausedIn O.faults R.faults result (I.faults input.old) (I.faults input.new)
+        setting.old setting.new }
+    ensures kept { IsLent setting.old setting.new × SlidesOn setting.old setting.new }
 {
-    count.tune(every);
-    trace.tune(every);
-    let Ok(code) = lower(alloc, accepted) else {
-        return Status::Memory;
-    };
-    let mut numbers = Numbers::new();
-    let ran = machine.run(
-        alloc,
-        accepted,
-        &code,
-        steps,
-        report,
-        &mut numbers,
+    let ran = setting.machine.run(
+        setting.alloc,
+        lowered.accepted,
+        &lowered.code,
+        options.steps,
+        options.report,
+        &mut Numbers::new(),
         input,
-        out,
-        notes,
+        setting.out,
+        setting.notes,
         count,
         trace,
     );
     status_of(ran)
 }
 
-/// Checks a program, and runs it on the machine.
-fn run_program<I: Source, O: Sink, R: Sink>(
-    alloc: Global,
-    program: Program,
-    steps: u64,
-    every: u64,
-    report: bool,
+/// Tunes both pacers, lowers an accepted program and runs its code.
+fn run_accepted<I: Source, O: Sink, R: Sink>(
+    accepted: &Accepted,
+    options: RunOptions,
     input: &mut I,
-    out: &mut O,
-    notes: &mut R,
+    setting: &mut Setting<'_, O, R>,
     count: &mut dyn Pacer,
     trace: &mut dyn Pacer,
-    machine: &mut Machine,
 ) -> Status
-    requires fresh { IsFresh machine.old }
-    requires names { FewNames (program_of program) }
-    ensures settles { (slides : Bool) (file source : List ℕ) →
-        Means source (spelt (program_of program)) →
-        Settles (run slides file steps every report) source (I.left input.old) result
-        (O.taken out.old) (O.taken out.new) machine.new (input.new ≡ input.old) }
-    ensures notes { Reported report result machine.new.stepper.events
-        (R.taken notes.old) (R.taken notes.new) }
-    ensures tuned { ¬ IsFresh machine.new →
-        ((tally count.new).tuned ≡ every) × ((tally trace.new).tuned ≡ every) }
-    ensures slides { machine.new.stepper.slides ≡ machine.old.stepper.slides }
-    ensures asked { (file source : List ℕ) → Means source (spelt (program_of program)) →
-        RunAsked (in_file file) source (I.left input.old) machine.new
-        (tally count.old).asks (tally count.new).asks
-        (tally trace.old).asks (tally trace.new).asks }
-    ensures yeses { SayYes machine.new
-        (tally count.old).yeses (tally count.new).yeses
-        (tally trace.old).yeses (tally trace.new).yeses }
-    ensures caused { Caused result (I.faults input.old) (I.faults input.new)
-        (O.faults out.old) (O.faults out.new) (R.faults notes.old) (R.faults notes.new) }
+    requires { IsFresh setting.old.machine.now }
+    ensures ran { (origin : Origin) (source : List ℕ) →
+        Runs origin source (program_of accepted.now.program) →
+        RanIn O.taken origin options.steps source (I.left input.old) result
+        setting.old setting.new (input.new ≡ input.old) }
+    ensures notes { ReportedIn R.taken options.report result setting.old setting.new }
+    ensures tuned { TunedTo options.every (tally count.new) (tally trace.new) }
+    ensures asked { (origin : Origin) (source : List ℕ) →
+        Runs origin source (program_of accepted.now.program) →
+        RunAskedOf origin source (I.left input.old) setting.new.machine.now
+        (tally count.old) (tally count.new) (tally trace.old) (tally trace.new) }
+    ensures yeses { SayYesOf setting.new.machine.now
+        (tally count.old) (tally count.new) (tally trace.old) (tally trace.new) }
+    ensures caused { CausedIn O.faults R.faults result (I.faults input.old) (I.faults input.new)
+        setting.old setting.new }
+    ensures kept { IsLent setting.old setting.new × SlidesOn setting.old setting.new }
 {
-    match check(alloc, program) {
+    count.tune(options.every);
+    trace.tune(options.every);
+    let Ok(code) = lower(setting.alloc, accepted) else {
+        return Status::Memory;
+    };
+    let lowered = Lowered { accepted, code };
+    run_code(&lowered, options, input, setting, count, trace)
+}
+
+/// Chooses whether what a collection of a traced region keeps moves.
+fn choose(slides: bool, machine: &mut Machine)
+    requires fresh { IsFresh machine.old }
+    requires stays { machine.old.stepper.slides ≡ false }
+    ensures fresh { IsFresh machine.new }
+    ensures slides { machine.new.stepper.slides ≡ slides }
+{
+    if slides {
+        machine.slide();
+    }
+}
+
+/// Checks a program, and runs it on the machine.
+fn run_program<I: Source, O: Sink, R: Sink>(
+    program: Program,
+    options: RunOptions,
+    input: &mut I,
+    setting: &mut Setting<'_, O, R>,
+    count: &mut dyn Pacer,
+    trace: &mut dyn Pacer,
+) -> Status
+    requires fresh { IsFresh setting.old.machine.now }
+    requires stays { setting.old.machine.now.stepper.slides ≡ false }
+    requires names { FewNames (program_of program) }
+    ensures settles { (file source : List ℕ) → Means source (spelt (program_of program)) →
+        SettlesIn O.taken (run options.slides file options.steps options.every options.report)
+        source (I.left input.old) result setting.old setting.new (input.new ≡ input.old) }
+    ensures notes { ReportedIn R.taken options.report result setting.old setting.new }
+    ensures tuned { ¬ IsFresh setting.new.machine.now →
+        TunedTo options.every (tally count.new) (tally trace.new) }
+    ensures slides { setting.new.machine.now.stepper.slides ≡ options.slides }
+    ensures asked { (file source : List ℕ) → Means source (spelt (program_of program)) →
+        RunAskedOf (in_file file) source (I.left input.old) setting.new.machine.now
+        (tally count.old) (tally count.new) (tally trace.old) (tally trace.new) }
+    ensures yeses { SayYesOf setting.new.machine.now
+        (tally count.old) (tally count.new) (tally trace.old) (tally trace.new) }
+    ensures caused { CausedIn O.faults R.faults result (I.faults input.old) (I.faults input.new)
+        setting.old setting.new }
+    ensures lent { IsLent setting.old setting.new }
+{
+    choose(options.slides, setting.machine);
+    match check(setting.alloc, program) {
         Err(Stop::Fault(fault)) => Status::Refused(fault),
         Err(Stop::Memory) => Status::Memory,
-        Ok(accepted) => run_accepted(
-            alloc, &accepted, steps, every, report, input, out, notes, count, trace, machine,
-        ),
+        Ok(accepted) => run_accepted(&accepted, options, input, setting, count, trace),
     }
 }
 
@@ -327,158 +359,115 @@ fn put_bulk_line<O: Sink>(alloc: Global, size: u32, out: &mut O, machine: &Machi
     }
 }
 
-/// Runs a generated program on the machine, without an input, and tells the machine's numbers
-/// behind it.
+/// Runs a generated program without an input, and tells the machine's numbers behind it.
 fn bulk_accepted<O: Sink, R: Sink>(
-    alloc: Global,
     accepted: &Accepted,
     size: u32,
-    out: &mut O,
-    notes: &mut R,
+    setting: &mut Setting<'_, O, R>,
     count: &mut dyn Pacer,
     trace: &mut dyn Pacer,
-    machine: &mut Machine,
 ) -> Status
-    requires { IsFresh machine.old }
+    requires { IsFresh setting.old.machine.now }
     ensures settles { (source : List ℕ) (left : Option (List ℕ)) →
         Runs (generated size) source (program_of accepted.now.program) →
-        Settles (bulk size) source left result
-        (O.taken out.old) (O.taken out.new) machine.new (Unit {0}) }
-    ensures notes { R.taken notes.new ≡ R.taken notes.old }
-    ensures tuned { ((tally count.new).tuned ≡ 0) × ((tally trace.new).tuned ≡ 0) }
-    ensures slides { machine.new.stepper.slides ≡ machine.old.stepper.slides }
+        SettlesIn O.taken (bulk size) source left result setting.old setting.new (Unit {0}) }
+    ensures notes { R.taken setting.new.notes.now ≡ R.taken setting.old.notes.now }
+    ensures tuned { TunedTo 0 (tally count.new) (tally trace.new) }
     ensures asked { (source : List ℕ) →
         Runs (generated size) source (program_of accepted.now.program) →
-        RunAsked (generated size) source (Some []) machine.new
-        (tally count.old).asks (tally count.new).asks
-        (tally trace.old).asks (tally trace.new).asks }
-    ensures yeses { SayYes machine.new
-        (tally count.old).yeses (tally count.new).yeses
-        (tally trace.old).yeses (tally trace.new).yeses }
-    ensures caused { Caused result 0 0
-        (O.faults out.old) (O.faults out.new) (R.faults notes.old) (R.faults notes.new) }
+        RunAskedOf (generated size) source (Some []) setting.new.machine.now
+        (tally count.old) (tally count.new) (tally trace.old) (tally trace.new) }
+    ensures yeses { SayYesOf setting.new.machine.now
+        (tally count.old) (tally count.new) (tally trace.old) (tally trace.new) }
+    ensures caused { CausedIn O.faults R.faults result 0 0 setting.old setting.new }
+    ensures kept { IsLent setting.old setting.new × SlidesOn setting.old setting.new }
 {
     let mut input = NoInput;
-    let ran = run_accepted(
-        alloc, accepted, MOST_STEPS, 0, false, &mut input, out, notes, count, trace, machine,
-    );
+    let options = RunOptions {
+        slides: false,
+        steps: MOST_STEPS,
+        every: 0,
+        report: false,
+    };
+    let ran = run_accepted(accepted, options, &mut input, setting, count, trace);
     if let Status::Done = ran {
-        return put_bulk_line(alloc, size, out, machine);
+        return put_bulk_line(setting.alloc, size, setting.out, setting.machine);
     }
     ran
 }
 
 /// Runs a generated program: it is accepted.
 fn bulk_program<O: Sink, R: Sink>(
-    alloc: Global,
     program: Program,
     size: u32,
-    out: &mut O,
-    notes: &mut R,
+    setting: &mut Setting<'_, O, R>,
     count: &mut dyn Pacer,
     trace: &mut dyn Pacer,
-    machine: &mut Machine,
 ) -> Status
-    requires fresh { IsFresh machine.old }
+    requires fresh { IsFresh setting.old.machine.now }
     requires names { FewNames (program_of program) }
     requires accepted { IsAccepted (program_of program) }
     ensures settles { (source : List ℕ) (left : Option (List ℕ)) →
         MeansFrom (generated size) source (spelt (program_of program)) →
-        Settles (bulk size) source left result
-        (O.taken out.old) (O.taken out.new) machine.new (Unit {0}) }
-    ensures notes { R.taken notes.new ≡ R.taken notes.old }
-    ensures tuned { ¬ IsFresh machine.new →
-        ((tally count.new).tuned ≡ 0) × ((tally trace.new).tuned ≡ 0) }
-    ensures slides { machine.new.stepper.slides ≡ machine.old.stepper.slides }
+        SettlesIn O.taken (bulk size) source left result setting.old setting.new (Unit {0}) }
+    ensures notes { R.taken setting.new.notes.now ≡ R.taken setting.old.notes.now }
+    ensures tuned { ¬ IsFresh setting.new.machine.now →
+        TunedTo 0 (tally count.new) (tally trace.new) }
     ensures asked { (source : List ℕ) →
         MeansFrom (generated size) source (spelt (program_of program)) →
-        RunAsked (generated size) source (Some []) machine.new
-        (tally count.old).asks (tally count.new).asks
-        (tally trace.old).asks (tally trace.new).asks }
-    ensures yeses { SayYes machine.new
-        (tally count.old).yeses (tally count.new).yeses
-        (tally trace.old).yeses (tally trace.new).yeses }
-    ensures caused { Caused result 0 0
-        (O.faults out.old) (O.faults out.new) (R.faults notes.old) (R.faults notes.new) }
+        RunAskedOf (generated size) source (Some []) setting.new.machine.now
+        (tally count.old) (tally count.new) (tally trace.old) (tally trace.new) }
+    ensures yeses { SayYesOf setting.new.machine.now
+        (tally count.old) (tally count.new) (tally trace.old) (tally trace.new) }
+    ensures caused { CausedIn O.faults R.faults result 0 0 setting.old setting.new }
+    ensures kept { IsLent setting.old setting.new × SlidesOn setting.old setting.new }
 {
-    match check(alloc, program) {
+    match check(setting.alloc, program) {
         Err(Stop::Fault(_)) => unreachable!(),
         Err(Stop::Memory) => Status::Memory,
-        Ok(accepted) => bulk_accepted(alloc, &accepted, size, out, notes, count, trace, machine),
-    }
-}
-
-/// Chooses whether what a collection of a traced region keeps moves.
-fn choose(slides: bool, machine: &mut Machine)
-    requires fresh { IsFresh machine.old }
-    requires stays { machine.old.stepper.slides ≡ false }
-    ensures fresh { IsFresh machine.new }
-    ensures slides { machine.new.stepper.slides ≡ slides }
-{
-    if slides {
-        machine.slide();
+        Ok(accepted) => bulk_accepted(&accepted, size, setting, count, trace),
     }
 }
 
 /// Does what is asked for with its program.
 fn answer_program<I: Source, O: Sink, R: Sink>(
-    alloc: Global,
     request: Request<'_>,
     program: Program,
     input: &mut I,
-    out: &mut O,
-    notes: &mut R,
+    setting: &mut Setting<'_, O, R>,
     count: &mut dyn Pacer,
     trace: &mut dyn Pacer,
-    machine: &mut Machine,
 ) -> Status
-    requires fresh { IsFresh machine.old }
-    requires stays { machine.old.stepper.slides ≡ false }
-    requires names { FewNames (program_of program) }
-    requires accepted { IfGenerated (origin_of (command_of request))
-        (IsAccepted (program_of program)) }
+    requires fresh { IsFresh setting.old.machine.now }
+    requires stays { setting.old.machine.now.stepper.slides ≡ false }
+    requires program { Serves (command_of request) (program_of program) }
     ensures settles { (source : List ℕ) →
         MeansFrom (origin_of (command_of request.entry)) source (spelt (program_of program)) →
-        Settles (command_of request.entry) source (I.left input.old) result
-        (O.taken out.old) (O.taken out.new) machine.new (input.new ≡ input.old) }
-    ensures reads_nothing { reads_input (command_of request.entry) ≡ false →
-        input.new ≡ input.old }
-    ensures notes { Reported (reports (command_of request.entry)) result
-        machine.new.stepper.events (R.taken notes.old) (R.taken notes.new) }
-    ensures tuned { Tunes (command_of request.entry) machine.new
+        SettlesIn O.taken (command_of request.entry) source (I.left input.old) result
+        setting.old setting.new (input.new ≡ input.old)
+        × AskedFromOf (origin_of (command_of request.entry)) source (I.left input.old)
+        setting.new.machine.now
+        (tally count.old) (tally count.new) (tally trace.old) (tally trace.new) }
+    ensures reads_nothing { reads_input (command_of request.entry) ≡ false → input.new ≡ input.old }
+    ensures notes { ReportedIn R.taken (reports (command_of request.entry)) result
+        setting.old setting.new }
+    ensures tuned { Tunes (command_of request.entry) setting.new.machine.now
         (tally count.new).tuned (tally trace.new).tuned }
-    ensures slides { machine.new.stepper.slides ≡ is_slide (command_of request.entry) }
-    ensures asked { (source : List ℕ) →
-        MeansFrom (origin_of (command_of request.entry)) source (spelt (program_of program)) →
-        AskedFrom (origin_of (command_of request.entry)) source (I.left input.old) machine.new
-        (tally count.old).asks (tally count.new).asks
-        (tally trace.old).asks (tally trace.new).asks }
-    ensures yeses { SayYes machine.new
-        (tally count.old).yeses (tally count.new).yeses
-        (tally trace.old).yeses (tally trace.new).yeses }
-    ensures caused { Caused result (I.faults input.old) (I.faults input.new)
-        (O.faults out.old) (O.faults out.new) (R.faults notes.old) (R.faults notes.new) }
+    ensures slides { setting.new.machine.now.stepper.slides ≡ is_slide (command_of request.entry) }
+    ensures yeses { SayYesOf setting.new.machine.now
+        (tally count.old) (tally count.new) (tally trace.old) (tally trace.new) }
+    ensures caused { CausedIn O.faults R.faults result (I.faults input.old) (I.faults input.new)
+        setting.old setting.new }
+    ensures lent { IsLent setting.old setting.new }
 {
+    let alloc = setting.alloc;
     match request {
-        Request::Run {
-            slides,
-            steps,
-            every,
-            report,
-            ..
-        } => {
-            choose(slides, machine);
-            run_program(
-                alloc, program, steps, every, report, input, out, notes, count, trace, machine,
-            )
-        }
-        Request::Plain { steps, .. } => plain_program(alloc, program, steps, input, out),
-        Request::Format { .. } => format_program(alloc, &program, out),
-        Request::Check { .. } => check_program(alloc, program, out),
-        Request::Code { .. } => list_program(alloc, program, out),
-        Request::Bulk { size } => {
-            bulk_program(alloc, program, size, out, notes, count, trace, machine)
-        }
+        Request::Run { options, .. } => run_program(program, options, input, setting, count, trace),
+        Request::Plain { steps, .. } => plain_program(alloc, program, steps, input, setting.out),
+        Request::Format { .. } => format_program(alloc, &program, setting.out),
+        Request::Check { .. } => check_program(alloc, program, setting.out),
+        Request::Code { .. } => list_program(alloc, program, setting.out),
+        Request::Bulk { size } => bulk_program(program, size, setting, count, trace),
     }
 }
 
@@ -538,49 +527,41 @@ fn program_from<F: Files>(
 
 /// Does what is asked for.
 fn answer<F: Files, I: Source, O: Sink, R: Sink>(
-    alloc: Global,
     request: Request<'_>,
     files: &mut F,
     input: &mut I,
-    out: &mut O,
-    notes: &mut R,
+    setting: &mut Setting<'_, O, R>,
     count: &mut dyn Pacer,
     trace: &mut dyn Pacer,
-    machine: &mut Machine,
 ) -> Status
-    requires fresh { IsFresh machine.old }
-    requires stays { machine.old.stepper.slides ≡ false }
+    requires fresh { IsFresh setting.old.machine.now }
+    requires stays { setting.old.machine.now.stepper.slides ≡ false }
     requires within { AsksWithin request }
-    ensures settles { SettlesCommand (F.told files.old) (command_of request.entry)
-        (I.left input.old) result (O.taken out.old) (O.taken out.new) machine.new
-        (input.new ≡ input.old) }
+    ensures settles { SettlesCommandIn O.taken (F.told files.old) (command_of request.entry)
+        (I.left input.old) result setting.old setting.new (input.new ≡ input.old) }
     ensures files_unread { opens_file (command_of request.entry) ≡ false →
         files.new ≡ files.old }
-    ensures reads_nothing { reads_input (command_of request.entry) ≡ false →
-        input.new ≡ input.old }
-    ensures notes { Reported (reports (command_of request.entry)) result
-        machine.new.stepper.events (R.taken notes.old) (R.taken notes.new) }
-    ensures tuned { Tunes (command_of request.entry) machine.new
+    ensures reads_nothing { reads_input (command_of request.entry) ≡ false → input.new ≡ input.old }
+    ensures notes { ReportedIn R.taken (reports (command_of request.entry)) result
+        setting.old setting.new }
+    ensures tuned { Tunes (command_of request.entry) setting.new.machine.now
         (tally count.new).tuned (tally trace.new).tuned }
-    ensures slides { Chooses (command_of request.entry) machine.new }
-    ensures asked { AskedCommand (F.told files.old) (origin_of (command_of request.entry))
-        (I.left input.old) machine.new
-        (tally count.old).asks (tally count.new).asks
-        (tally trace.old).asks (tally trace.new).asks }
-    ensures yeses { SayYes machine.new
-        (tally count.old).yeses (tally count.new).yeses
-        (tally trace.old).yeses (tally trace.new).yeses }
+    ensures slides { Chooses (command_of request.entry) setting.new.machine.now }
+    ensures asked { AskedCommandOf (F.told files.old) (origin_of (command_of request.entry))
+        (I.left input.old) setting.new.machine.now
+        (tally count.old) (tally count.new) (tally trace.old) (tally trace.new) }
+    ensures yeses { SayYesOf setting.new.machine.now
+        (tally count.old) (tally count.new) (tally trace.old) (tally trace.new) }
     ensures source_fault { result ≡ Status.SourceFault →
         Rose (F.faults files.old) (F.faults files.new) }
     ensures files_never_fall { F.faults files.old ≤ F.faults files.new }
-    ensures caused { Caused result (I.faults input.old) (I.faults input.new)
-        (O.faults out.old) (O.faults out.new) (R.faults notes.old) (R.faults notes.new) }
+    ensures caused { CausedIn O.faults R.faults result (I.faults input.old) (I.faults input.new)
+        setting.old setting.new }
+    ensures lent { IsLent setting.old setting.new }
 {
-    match program_from(alloc, request, files) {
+    match program_from(setting.alloc, request, files) {
         Err(status) => status,
-        Ok(program) => answer_program(
-            alloc, request, program, input, out, notes, count, trace, machine,
-        ),
+        Ok(program) => answer_program(request, program, input, setting, count, trace),
     }
 }
 
@@ -589,7 +570,8 @@ fn steps_of(request: Request<'_>) -> u64
     ensures { result ≡ steps_of (command_of request.entry) }
 {
     match request {
-        Request::Run { steps, .. } | Request::Plain { steps, .. } => steps,
+        Request::Run { options, .. } => options.steps,
+        Request::Plain { steps, .. } => steps,
         Request::Format { .. } | Request::Check { .. } | Request::Code { .. } => 0,
         Request::Bulk { .. } => MOST_STEPS,
     }
@@ -600,7 +582,7 @@ fn reports(request: Request<'_>) -> bool
     ensures { result ≡ reports (command_of request.entry) }
 {
     match request {
-        Request::Run { report, .. } => report,
+        Request::Run { options, .. } => options.report,
         Request::Plain { .. } | Request::Format { .. } | Request::Check { .. } => false,
         Request::Code { .. } | Request::Bulk { .. } => false,
     }
@@ -712,18 +694,16 @@ pub fn reggio<F: Files, I: Source, O: Sink, R: Sink>(
             tell(notes, Status::Usage, 0)
         }
         Some(request) => {
-            let status = answer(
-                alloc, request, files, input, out, notes, count, trace, machine,
-            );
-            machine.is_owned();
-            tell_behind(
+            let mut setting = Setting {
                 alloc,
-                notes,
-                status,
-                steps_of(request),
-                reports(request),
-                machine,
-            )
+                out: &mut *out,
+                notes: &mut *notes,
+                machine: &mut *machine,
+            };
+            let status = answer(request, files, input, &mut setting, count, trace);
+            let told = tell_behind(&mut setting, status, steps_of(request), reports(request));
+            machine.is_owned();
+            told
         }
     }
 }

@@ -20,38 +20,30 @@ pub(crate) const USUAL_EVERY: u64 = 1_000;
 /// The greatest number of `--every`.
 pub(crate) const MOST_EVERY: u64 = 1_000_000_000;
 
+/// How `run` or `slide` runs a program: `slides` is whether what a collection keeps moves.
+#[derive(Clone, Copy)]
+pub(crate) struct RunOptions {
+    pub(crate) slides: bool,
+    pub(crate) steps: u64,
+    pub(crate) every: u64,
+    pub(crate) report: bool,
+}
+
 /// What the words ask for, with the file that they name or the size of a generated program.
 #[derive(Clone, Copy)]
 pub(crate) enum Request<'a> {
     /// `run FILE --steps N --every N --report`, or `slide` with the same words
-    Run {
-        slides: bool,
-        file: &'a str,
-        steps: u64,
-        every: u64,
-        report: bool,
-    },
+    Run { file: &'a str, options: RunOptions },
     /// `plain FILE --steps N`
-    Plain {
-        file: &'a str,
-        steps: u64,
-    },
+    Plain { file: &'a str, steps: u64 },
     /// `fmt FILE`
-    Format {
-        file: &'a str,
-    },
+    Format { file: &'a str },
     /// `check FILE`
-    Check {
-        file: &'a str,
-    },
+    Check { file: &'a str },
     /// `code FILE`
-    Code {
-        file: &'a str,
-    },
+    Code { file: &'a str },
     /// `bulk N`
-    Bulk {
-        size: u32,
-    },
+    Bulk { size: u32 },
 }
 
 /// What the words behind the file of `run` or `slide` have given so far.
@@ -116,11 +108,10 @@ fn number(word: &str, most: u64) -> Option<u64>
     ensures within { IfSome result (λ value. value ≤ most) }
 {
     let bytes = word.as_bytes();
-    if writes_number(bytes) {
-        value_within(bytes, most)
-    } else {
-        None
+    if !writes_number(bytes) {
+        return None;
     }
+    value_within(bytes, most)
 }
 
 impl Options {
@@ -211,13 +202,13 @@ fn run<'a>(slides: bool, file: &'a str, words: &[&str]) -> Option<Request<'a>>
     ensures within { IfSome result AsksWithin }
 {
     let given = options_in(words)?;
-    Some(Request::Run {
+    let options = RunOptions {
         slides,
-        file,
         steps: given.steps.unwrap_or(USUAL_STEPS),
         every: given.every.unwrap_or(USUAL_EVERY),
         report: given.report,
-    })
+    };
+    Some(Request::Run { file, options })
 }
 
 /// The number of steps that the words behind the file of `plain` ask for.
@@ -226,13 +217,7 @@ fn steps(options: &[&str]) -> Option<u64>
 {
     match options {
         [] => Some(USUAL_STEPS),
-        [option, value] => {
-            if *option == "--steps" {
-                number(value, MOST_STEPS)
-            } else {
-                None
-            }
-        }
+        [option, value] if *option == "--steps" => number(value, MOST_STEPS),
         _ => None,
     }
 }
@@ -249,10 +234,8 @@ fn size(word: &str) -> Option<u32>
     ensures is { result ≡ number_in word.now MOST_SIZE }
     ensures within { IfSome result (λ size. size ≤ MOST_SIZE) }
 {
-    match number(word, u64::from(MOST_SIZE)) {
-        Some(size) => Some(size as u32),
-        None => None,
-    }
+    let size = number(word, u64::from(MOST_SIZE))?;
+    Some(size as u32)
 }
 
 /// The command on a file that a name and the words behind the file give.
@@ -268,28 +251,20 @@ fn named<'a>(name: &str, file: &'a str, options: &[&str]) -> Option<Request<'a>>
         return run(true, file, options);
     }
     if name == "plain" {
-        return match steps(options) {
-            Some(steps) => Some(Request::Plain { file, steps }),
-            None => None,
-        };
+        let steps = steps(options)?;
+        return Some(Request::Plain { file, steps });
     }
+    let [] = options else {
+        return None;
+    };
     if name == "fmt" {
-        return match options {
-            [] => Some(Request::Format { file }),
-            [_, ..] => None,
-        };
+        return Some(Request::Format { file });
     }
     if name == "check" {
-        return match options {
-            [] => Some(Request::Check { file }),
-            [_, ..] => None,
-        };
+        return Some(Request::Check { file });
     }
     if name == "code" {
-        return match options {
-            [] => Some(Request::Code { file }),
-            [_, ..] => None,
-        };
+        return Some(Request::Code { file });
     }
     None
 }
@@ -300,13 +275,11 @@ fn sized<'a>(number: &str, more: &[&str]) -> Option<Request<'a>>
         (λ r. sized number.now (texts more.now) ≡ Some (command_of r)) }
     ensures within { IfSome result AsksWithin }
 {
-    match more {
-        [] => match size(number) {
-            Some(size) => Some(Request::Bulk { size }),
-            None => None,
-        },
-        [_, ..] => None,
-    }
+    let [] = more else {
+        return None;
+    };
+    let size = size(number)?;
+    Some(Request::Bulk { size })
 }
 
 /// The command that the words give, if they give one. They don't include the program's name.

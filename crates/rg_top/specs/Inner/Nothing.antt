@@ -1,6 +1,6 @@
 -- What an input without bytes tells (docs/architecture.md).
 use Rattle.std.specs.Prelude.{ℕ, List, [], Option, Some}
-use Rattle.rg_top.specs.declared.no_input.NoInput.{NoInput}
+use Rattle.rg_top.specs.declared.setting.NoInput.{NoInput}
 
 -- it has nothing left
 abbrev pub nothing_left : NoInput → Option (List ℕ)

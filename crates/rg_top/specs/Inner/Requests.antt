@@ -7,7 +7,7 @@ use Rattle.rg_top.specs.Commands.{Command, run, plain, fmt, check, code, bulk, O
 
 -- the command that is asked for
 abbrev pub command_of : Request → Command
-command_of (request.Run slides file steps every report) = run slides file.now steps every report
+command_of (request.Run file options) = run options.slides file.now options.steps options.every options.report
 command_of (request.Plain file steps) = plain file.now steps
 command_of (request.Format file) = fmt file.now
 command_of (request.Check file) = check file.now

@@ -206,6 +206,11 @@ abbrev pub IfGenerated : Origin → Type 0 → Type 0
 IfGenerated (in_file file) P = ⊤
 IfGenerated (generated size) P = P
 
+-- what a command asks of its program: few names, and a generated one is accepted
+pub record Serves (c : Command) (t : Tree) : Type 0 where
+  pub few_names : FewNames t
+  pub accepted : IfGenerated (origin_of c) (Accepted t)
+
 -- the program that comes from there
 pub record Found (told : Option Told) (origin : Origin) (t : Tree) : Type 0 where
   pub source : List ℕ

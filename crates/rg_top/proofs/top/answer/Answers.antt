@@ -15,16 +15,16 @@ returns-in-Err-clause-caused g c = refuses-caused _ _ c.in-Err.status _ _ _ c.in
 
 pub returns-in-Err-clause-notes : goal.returns-in-Err-clause-notes
 returns-in-Err-clause-notes g c =
-    quiet-refuses (reports (command_of c.args.request)) _ _ c.in-Err.status c.args.machine.now _ c.requires.fresh c.in-Err.ensures.brings
+    quiet-refuses (reports (command_of c.args.request)) _ _ c.in-Err.status c.args.setting.now.machine.now _ c.requires.fresh c.in-Err.ensures.brings
 
 pub returns-in-Ok-clause-settles : goal.returns-in-Ok-clause-settles
 returns-in-Ok-clause-settles g c =
-    let found = c.in-Ok.ensures.brings in inl (found.source, found.has, c.answer_program.ensures.settles found.source found.means)
+    let found = c.in-Ok.ensures.brings in inl (found.source, found.has, (c.answer_program.ensures.settles found.source found.means).0)
 
 pub returns-in-Ok-clause-source_fault : goal.returns-in-Ok-clause-source_fault
 returns-in-Ok-clause-source_fault g c =
     let found = c.in-Ok.ensures.brings in
-    λ e. absurd (settles-inside (command_of c.args.request) found.source _ _ _ _ _ _ (c.answer_program.ensures.settles found.source found.means) e)
+    λ e. absurd (settles-inside (command_of c.args.request) found.source _ _ _ _ _ _ (c.answer_program.ensures.settles found.source found.means).0 e)
 
 pub returns-in-Err-clause-asked : goal.returns-in-Err-clause-asked
 returns-in-Err-clause-asked g c = inl (record { fresh = c.requires.fresh; count = refl; trace = refl })
@@ -35,7 +35,7 @@ returns-in-Err-clause-yeses g c = yeses-fresh _ _ _ _ _ c.requires.fresh refl re
 pub returns-in-Ok-clause-asked : goal.returns-in-Ok-clause-asked
 returns-in-Ok-clause-asked g c =
     let found = c.in-Ok.ensures.brings in
-    asked-command _ _ found.source _ _ _ _ _ _ found.has (c.answer_program.ensures.asked found.source found.means)
+    asked-command _ _ found.source _ _ _ _ _ _ found.has (c.answer_program.ensures.settles found.source found.means).1
 
 pub returns-in-Ok-clause-yeses : goal.returns-in-Ok-clause-yeses
 returns-in-Ok-clause-yeses g c = c.answer_program.ensures.yeses

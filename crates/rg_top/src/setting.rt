@@ -1,12 +1,23 @@
-//! An input without bytes, on which a generated program runs (docs/architecture.md).
+//! What a command works with beside its words and files (docs/architecture.md).
 
 ghost use Rattle.std.specs.Prelude.{◌≡◌, ◌≤◌, ◌<◌, [], length, take, IfOk, IfSome, OnErr};
 ghost use Rattle.rg_io.specs.Content.{Rose, Gives};
 ghost use Rattle.rg_top.specs.Inner.Nothing.{nothing_left, no_faults};
 
 use rg_io::{Failed, Source};
+use rg_run::Machine;
+use std::alloc::Global;
 
-/// A source that has nothing left and never fails.
+/// Memory, the output and the notes, and the machine that a run is made on.
+#[derive(Drop)]
+pub(crate) struct Setting<'a, O, R> {
+    pub(crate) alloc: Global,
+    pub(crate) out: &'a mut O,
+    pub(crate) notes: &'a mut R,
+    pub(crate) machine: &'a mut Machine,
+}
+
+/// The input of a generated program: it has nothing left and never fails.
 #[derive(Drop)]
 pub(crate) struct NoInput;
 
