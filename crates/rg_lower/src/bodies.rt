@@ -16,22 +16,11 @@ use crate::fields::type_of;
 use crate::slots::Slots;
 use crate::statements::write_block;
 use crate::writer::Writer;
-use rg_base::{Cap, Memory, Ty};
+use rg_base::{Memory, Ty};
 use rg_code::{Entry, Op};
 use rg_names::Book;
-use rg_tree::{MemberRow, Span, TypeRow};
+use rg_tree::{MemberRow, MethodRow, TypeRow};
 use std::alloc::Global;
-
-/// A method: `def mut m(a: T): R { .. }`
-#[derive(Clone, Copy)]
-pub struct MethodRow {
-    pub cap: Cap,
-    pub name: u32,
-    pub params: Span,
-    pub result: Option<TypeRow>,
-    pub body: Span,
-    pub line: u64,
-}
 
 /// Appends the code of a member of a class, of which only a method has a body.
 pub fn write_member(

@@ -1,7 +1,7 @@
 //! What of a module's code follows from the rest: how classes open, where methods begin, and the
 //! numbers of slots (docs/architecture.md, "Modules").
 
-ghost use Rattle.std.specs.Prelude.{◌≡◌, suc, ◌+◌, ◌≤◌, ◌++◌, max, map, length, drop, OnOk, IfOk};
+ghost use Rattle.std.specs.Prelude.{◌≡◌, suc, ◌+◌, ◌≤◌, ◌++◌, map, length, drop, OnOk, IfOk};
 ghost use Rattle.rg_code.specs.Code.{empty, with_opening, with_entry};
 ghost use Rattle.rg_code.specs.Lowering as lowering;
 ghost use Rattle.rg_module.specs.Follows as follows;
@@ -76,13 +76,6 @@ fn ends_body(op: Op) -> bool
     false
 }
 
-// The greater of two numbers.
-fn greater(a: u64, b: u64) -> u64
-    ensures { result ≡ max a b }
-{
-    if a < b { b } else { a }
-}
-
 // The end of the body that begins at an address, and its number of slots.
 fn body_at(code: &CodeList, from: usize, given: u64) -> (usize, u64)
     requires { from ≤ length code.now.ops }
@@ -93,7 +86,7 @@ fn body_at(code: &CodeList, from: usize, given: u64) -> (usize, u64)
     let mut at = from;
     while at < code.len() {
         let op = code.get(at);
-        slots = greater(slots, above(op));
+        slots = slots.max(above(op));
         at += 1;
         if ends_body(op) {
             return (at, slots);

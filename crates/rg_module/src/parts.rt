@@ -6,6 +6,7 @@ ghost use Rattle.rg_code.specs.Shapes.{IsMark};
 ghost use Rattle.rg_module.specs.Parts.{parts_of, with_code, with_class, with_head};
 ghost use Rattle.rg_module.specs.Inner.Rows.{IsPadded};
 
+use crate::rows::Read;
 use rg_base::{Manager, Memory, Ty};
 use rg_code::{CodeList, Op};
 use rg_spell::{Head, Shape, Tys};
@@ -71,19 +72,18 @@ impl Module {
         manager: Manager,
         classes: Vec<Shape>,
         methods: Vec<Head>,
-        code: CodeList,
-        maps: Vec<Tys>,
+        read: Read,
     ) -> Module
-        requires { length maps.items ≤ length code.ops }
-        ensures { result ≡ parts_of manager classes.items methods.items code maps.items }
+        requires { length read.maps.items ≤ length read.code.ops }
+        ensures { result ≡ parts_of manager classes.items methods.items read.code read.maps.items }
     {
         Module {
             alloc,
             manager,
             classes,
             methods,
-            code,
-            maps,
+            code: read.code,
+            maps: read.maps,
         }
     }
 

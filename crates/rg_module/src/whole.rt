@@ -89,11 +89,16 @@ fn whole(
     ensures { Gives (λ m. m) result (Some (module_of manager classes.items methods.items
         (rows_of found.code found.maps.items))) }
 {
-    let mut code = found.code;
-    let Ok(()) = complete(alloc, &mut code, classes.as_slice(), methods.as_slice()) else {
+    let mut read = found;
+    let Ok(()) = complete(
+        alloc,
+        &mut read.code,
+        classes.as_slice(),
+        methods.as_slice(),
+    ) else {
         return Err(Refusal::Memory);
     };
-    Ok(Module::of(alloc, manager, classes, methods, code, found.maps))
+    Ok(Module::of(alloc, manager, classes, methods, read))
 }
 
 // The rest of a module, from the count of its methods on.

@@ -254,10 +254,8 @@ impl PlainMachine {
                 return CountedRun { ended, steps };
             }
         }
-        CountedRun {
-            ended: Ended::Spent,
-            steps,
-        }
+        let ended = Ended::Spent;
+        CountedRun { ended, steps }
     }
 
     /// How many objects were made.

@@ -36,7 +36,7 @@ use crate::steps::assign::right_step;
 use crate::steps::branch::{branch_step, end_step, while_step};
 use crate::steps::call::call_step;
 use crate::steps::enter::{enter_step, leave_step};
-use crate::steps::input::{more_step, read_step};
+use crate::steps::input::{Wanted, input_step};
 use crate::steps::print::print_step;
 use crate::steps::refusal::{Refusal, outcome, printed};
 use crate::steps::return_::{back_step, return_step};
@@ -121,8 +121,14 @@ fn statement_step<S: Source>(
         line: row.line,
     };
     match said(row.kind) {
-        Says::Reads(left) => read_step(book, m, Assignment { at, left }, numbers, source),
-        Says::Asks(left) => more_step(book, m, Assignment { at, left }, numbers, source),
+        Says::Reads(left) => {
+            let to = Assignment { at, left };
+            input_step(book, m, to, Wanted::Number, numbers, source)
+        }
+        Says::Asks(left) => {
+            let to = Assignment { at, left };
+            input_step(book, m, to, Wanted::More, numbers, source)
+        }
         Says::Prints(e) => printed(print_step(book, m, at, e), at.line),
         Says::Nothing => outcome(kind_step(alloc, book, m, at, row.kind), at.line),
     }

@@ -121,7 +121,10 @@ no-memory t u m (waits j a to) = tt
 
 -- a test for nil
 module _ (t u v : Tables) (m : Truth) (now : List Held) (items : List Item) (s : ℕ) (ns : Vec ℕ Global) (taken : TakesPath t m now items (Ok (s, ns)))
-    (p : row_path.Path) (made : PathRow t u m s ns.items p) where
+    (p : row_path.Path) {fields : List ℕ} (same_fields : fields ≡ ns.items) (row_made : PathRow t u m s fields p) where
+  made : PathRow t u m s ns.items p
+  made = subst (λ (xs : List ℕ). PathRow t u m s xs p) same_fields row_made
+
   pub test-there : IsPathIn u p
   test-there = let (ks, below, same, names, q) = taken in (made ks names).means.there u (Keeps-same u)
 

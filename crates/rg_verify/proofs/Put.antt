@@ -18,8 +18,11 @@ use Rattle.rg_verify.specs.declared.refusal.Refusal.{Refusal}
 use Rattle.rg_verify.specs.declared.refusal.Refusal.TheVariants as refusal
 use Rattle.rg_verify.specs.Raised.{Raised, named, binary}
 use Rattle.rg_verify.specs.Raising.{Item, tree, waits, settle, from_tree, from_two, from_left}
+use Rattle.rg_verify.specs.declared.expressions.Unary.{Unary}
+use Rattle.rg_verify.specs.declared.expressions.Unary.TheVariants as unary
 use Rattle.rg_verify.specs.Inner.Adds.{AddsTree, IsExprRow}
-use Rattle.rg_verify.specs.Inner.Stacks.{is_path, IsFor, Piled, Makes, TakesRow, Pushes}
+use Rattle.rg_verify.specs.Inner.Unaries.{row_over, tree_over}
+use Rattle.rg_verify.specs.Inner.Stacks.{is_path, IsFor, Piled, IsPiled, Makes, TakesRow, Pushes}
 use Rattle.rg_verify.proofs.TreeStack.{piled-later, piled-push}
 
 -- what came before a call
@@ -88,6 +91,25 @@ module _ (t u : Tables) (m : Truth) (now : List Held) where
     extends = made.extends;
     piled = piled-push u m now news (held.Waits (record { junction = j; left = n; to = to })) below (waits j r to) pushed (refl, refl, made.means) p;
   }
+
+-- it has a row, of whichever stack it was taken
+pub taken-there : {t u : Tables} {m : Truth} {before now : List Held} {n : ℕ} → IsPiled t m before
+    → ((items : List Item) → Piled t m before items → TakesRow t u m now items (Ok n)) → n < length u.exprs
+taken-there {t} {u} {m} {before} {now} {n} (items, p) takes = took-there t u m now items n (takes items p)
+
+-- an operator over it
+pub over-there : (x : Unary) (u : Tables) (n : ℕ) → n < length u.exprs → IsExprRow u (row_over x n)
+over-there unary.Neg u n there = there
+over-there unary.Not u n there = there
+
+pub over-is : (x : Unary) (u : Tables) (m : Truth) (n : ℕ) (r : Raised) → expr_at u n ≡ named m r
+    → expr_of u (row_over x n) ≡ named m (tree_over x r)
+over-is unary.Neg u m n r e = ap syntax.neg e
+over-is unary.Not u m n r e = ap syntax.not e
+
+pub over-no-path : (x : Unary) (r : Raised) → is_path (tree_over x r) ≡ false
+over-no-path unary.Neg r = refl
+over-no-path unary.Not r = refl
 
 -- Over two trees
 

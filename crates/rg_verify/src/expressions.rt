@@ -1,10 +1,10 @@
 //! Expressions that are raised from their code (docs/architecture.md, "Modules").
 
-ghost use Rattle.std.specs.Prelude.{◌≤◌, List, [], length, drop, OnErr};
-ghost use Rattle.rg_verify.specs.Raised.{neg, not};
+ghost use Rattle.std.specs.Prelude.{◌≡◌, ◌≤◌, List, [], length, drop, OnErr};
 ghost use Rattle.rg_verify.specs.Raising as raising;
 ghost use Rattle.rg_verify.specs.Raising.{Item};
 ghost use Rattle.rg_verify.specs.Inner.Stacks.{Piled, IsPiled, Makes, Walks, MakesRows};
+ghost use Rattle.rg_verify.specs.Inner.Unaries.{row_over, tree_over};
 ghost use Rattle.rg_tree.specs.Adds.{Extends};
 ghost use Rattle.rg_verify.specs.Raises.{RaisesAll};
 
@@ -17,38 +17,41 @@ use rg_code::CodeList;
 use rg_tree::{BinOp, ExprRow, Program};
 use std::alloc::Global;
 
-// The topmost tree, negated.
-fn put_neg(
-    body: Body,
-    program: &mut Program,
-    stack: &mut Vec<Held>,
-    end: usize,
-) -> Result<(), Refusal>
-    requires { IsPiled program.old body.in_method stack.old.items }
-    ensures makes { (items : List Item) → Piled program.old body.in_method stack.old.items items →
-        Makes program.old program.new body.in_method stack.new.items result
-        (raising.from_tree neg end items) }
-    ensures grows { Extends program.old program.new }
-{
-    let a = take_row(body, program, stack)?;
-    put_tree(body, program, stack, end, ExprRow::Neg(a))
+/// An operator of one operand.
+#[derive(Clone, Copy)]
+pub enum Unary {
+    /// `-`
+    Neg,
+    /// `not`
+    Not,
 }
 
-// The topmost tree, inverted.
-fn put_not(
+// The row of an operator, over that of its operand.
+fn row_over(unary: Unary, a: u32) -> ExprRow
+    ensures { result ≡ row_over unary a }
+{
+    match unary {
+        Unary::Neg => ExprRow::Neg(a),
+        Unary::Not => ExprRow::Not(a),
+    }
+}
+
+// An operator over the topmost tree.
+fn put_unary(
     body: Body,
     program: &mut Program,
     stack: &mut Vec<Held>,
     end: usize,
+    unary: Unary,
 ) -> Result<(), Refusal>
     requires { IsPiled program.old body.in_method stack.old.items }
     ensures makes { (items : List Item) → Piled program.old body.in_method stack.old.items items →
         Makes program.old program.new body.in_method stack.new.items result
-        (raising.from_tree not end items) }
+        (raising.from_tree (tree_over unary) end items) }
     ensures grows { Extends program.old program.new }
 {
     let a = take_row(body, program, stack)?;
-    put_tree(body, program, stack, end, ExprRow::Not(a))
+    put_tree(body, program, stack, end, row_over(unary, a))
 }
 
 // An operator between the two topmost trees.
@@ -92,8 +95,8 @@ fn act(
         Part::Load { slot } => put_path(body, program, stack, end, slot),
         Part::Field { index } => put_field(body, program, stack, end, index),
         Part::IsNil => put_test(body, program, stack, end),
-        Part::Neg => put_neg(body, program, stack, end),
-        Part::Not => put_not(body, program, stack, end),
+        Part::Neg => put_unary(body, program, stack, end, Unary::Neg),
+        Part::Not => put_unary(body, program, stack, end, Unary::Not),
         Part::Operator { op } => put_operator(body, program, stack, end, op),
         Part::Between { junction, to } => put_wait(body, program, stack, junction, to),
     }

@@ -6,7 +6,7 @@ use Rattle.rg_tree.specs.Rows.RowTrees as rows
 use Rattle.rg_code.specs.declared.op.Op.{Op}
 use Rattle.rg_code.specs.Code.{Code}
 use Rattle.rg_code.specs.Lowering.{Methods, slots_of, method_code, opening_words}
-use Rattle.rg_lower.specs.declared.bodies.MethodRow.{MethodRow}
+use Rattle.rg_tree.specs.declared.rows.MethodRow.{MethodRow}
 
 -- the method of a row
 abbrev pub method_of : Tables → MethodRow → Method

@@ -13,9 +13,13 @@ use Rattle.rg_rules.specs.Items.{Item, Do}
 use Rattle.rg_rules.specs.RightSides.{taken, is_left}
 use Rattle.rg_rules.specs.State.{State}
 use Rattle.rg_rules.specs.Steps.{Stepped, Went, stepped, next}
+use Rattle.rg_input.specs.declared.refusal.NumberRefusal.{NumberRefusal}
+use Rattle.rg_input.specs.declared.refusal.NumberRefusal.TheVariants as no
 use Rattle.rg_input.specs.Numbers.{Pending, OnInput, Answers, Looks, is_more}
 use Rattle.rg_input.proofs.Input.{OnInput-still}
 use Rattle.rg_plain.specs.declared.state.rows.ItemRow.{ItemRow}
+use Rattle.rg_plain.specs.declared.steps.input.Wanted.{Wanted}
+use Rattle.rg_plain.specs.declared.steps.input.Wanted.TheVariants as wanted
 use Rattle.rg_plain.specs.declared.steps.targets.Left.{Left}
 use Rattle.rg_plain.specs.declared.steps.targets.Aim.{Aim}
 use Rattle.rg_plain.specs.declared.steps.refusal.Refusal.{Refusal}
@@ -23,7 +27,7 @@ use Rattle.rg_plain.specs.declared.steps.refusal.Refusal.TheVariants as refused
 use Rattle.rg_plain.specs.Inner.Steps.{StepIs, Does, DoesPrint, Makes, Prints, outcome_of, printed_of}
 use Rattle.rg_plain.specs.Kept.{Kept, plain_of, shown}
 use Rattle.rg_plain.specs.Inner.Spots.{AimIs, statement_of, use_of}
-use Rattle.rg_plain.specs.Inner.Inputs.{StepOn}
+use Rattle.rg_plain.specs.Inner.Inputs.{StepOn, Gave, refused_by, right_for}
 use Rattle.rg_plain.proofs.Statements.Step.{next-at}
 
 -- a step that reads nothing
@@ -43,7 +47,7 @@ cut-step t k number line l kind r rest is shown_is tree input =
     (next-at t (classes_of t) k input number line (statement_of t l r) rest shown_is tree ∙ ap (stepped line) (is input rest line r), refl)
 
 -- a number was taken
-pub read-step : (t : Tables) (k new : Kept) (number line : ℕ) (l : Left) (a : Aim) (items : List ItemRow) (z : ℤ) → AimIs t k l (Ok a) →
+read-step : (t : Tables) (k new : Kept) (number line : ℕ) (l : Left) (a : Aim) (items : List ItemRow) (z : ℤ) → AimIs t k l (Ok a) →
     shown t k.items ≡ Do (stmt_at t number) ∷ shown t items → stmt_at t number ≡ stmt line (statement_of t l read) →
     ((input : List ℕ) → plain_of t new input ≡ use_of t a (plain_of t (record k { items = items }) input) (Int z)) →
     (before after : List ℕ) → Answers (Ok z) before after → StepOn t k new outcome.Running before after
@@ -59,7 +63,7 @@ is_more-is_left malformed = refl
 is_more-is_left at_end = refl
 
 -- it was asked whether a number comes
-pub more-step : (t : Tables) (k new : Kept) (number line : ℕ) (l : Left) (a : Aim) (items : List ItemRow) (b : Truth) → AimIs t k l (Ok a) →
+more-step : (t : Tables) (k new : Kept) (number line : ℕ) (l : Left) (a : Aim) (items : List ItemRow) (b : Truth) → AimIs t k l (Ok a) →
     shown t k.items ≡ Do (stmt_at t number) ∷ shown t items → stmt_at t number ≡ stmt line (statement_of t l more) →
     ((input : List ℕ) → plain_of t new input ≡ use_of t a (plain_of t (record k { items = items }) input) (Bool b)) →
     (before after : List ℕ) → Looks (Ok b) before after → StepOn t k new outcome.Running before after
@@ -70,6 +74,32 @@ more-step t k new number line l a items b is shown_is tree new_is before after a
     ∙ ap (λ q. Went (use_of t a s (Bool q))) (sym (answer.0 ∙ is_more-is_left (next_number before)))
     ∙ ap Went (sym (new_is before))
     ∙ ap (λ q. Went (plain_of t new q)) (sym answer.1)
+
+-- a value was given
+pub value-step : (t : Tables) (k new : Kept) (number line : ℕ) (l : Left) (a : Aim) (items : List ItemRow) (w : Wanted) (v : Val) → AimIs t k l (Ok a) →
+    shown t k.items ≡ Do (stmt_at t number) ∷ shown t items → stmt_at t number ≡ stmt line (statement_of t l (right_for w)) →
+    ((input : List ℕ) → plain_of t new input ≡ use_of t a (plain_of t (record k { items = items }) input) v) →
+    (before after : List ℕ) → Gave w (Ok v) before after → StepOn t k new outcome.Running before after
+value-step t k new number line l a items wanted.Number (Int z) is shown_is tree new_is before after gave =
+    read-step t k new number line l a items z is shown_is tree new_is before after gave
+value-step t k new number line l a items wanted.Number v is shown_is tree new_is before after gave = absurd gave
+value-step t k new number line l a items wanted.More (Bool b) is shown_is tree new_is before after gave =
+    more-step t k new number line l a items b is shown_is tree new_is before after gave
+value-step t k new number line l a items wanted.More v is shown_is tree new_is before after gave = absurd gave
+
+-- no value was given
+pub no-value : (t : Tables) (k new : Kept) (number line : ℕ) (l : Left) (a : Aim) (rest : List Item) (w : Wanted) (r : NumberRefusal) → AimIs t k l (Ok a) →
+    shown t k.items ≡ Do (stmt_at t number) ∷ rest → stmt_at t number ≡ stmt line (statement_of t l (right_for w)) → new ≡ k →
+    (before after : List ℕ) → Gave w (Err r) before after → StepOn t k new (refused_by r line) before after
+no-value t k new number line l a rest wanted.Number no.InputFault is shown_is tree kept before after gave = same-plain t k new before after kept gave
+no-value t k new number line l a rest wanted.Number r is shown_is tree kept before after gave =
+    let s : State = record (plain_of t k before) { items = rest } in (
+      next-at t (classes_of t) k before number line (statement_of t l read) rest shown_is tree
+          ∙ ap (stepped line) (is.1 before rest line read ∙ ap (taken s (use_of t a)) gave.0),
+      same-plain t k new before after kept gave.1,
+    )
+no-value t k new number line l a rest wanted.More no.InputFault is shown_is tree kept before after gave = same-plain t k new before after kept gave
+no-value t k new number line l a rest wanted.More r is shown_is tree kept before after gave = absurd gave
 
 -- a step that prints nothing and reads nothing, as its outcome says
 does-is : (step : Stepped) (old new : State) (line : ℕ) (r : Result (Unit {0}) Refusal) → Does step old new line r →

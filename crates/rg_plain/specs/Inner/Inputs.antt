@@ -1,13 +1,19 @@
 -- Steps that may read the input, of the bytes that are left before and after them (docs/language.md, "Steps").
-use Rattle.std.specs.Prelude.{ℕ, List}
+use Rattle.std.specs.Prelude.{◌≡◌, ℕ, List, Result, Ok, Err}
 use Rattle.rg_base.specs.declared.outcome.Outcome.{Outcome}
 use Rattle.rg_base.specs.declared.outcome.Outcome.TheVariants as outcome
 use Rattle.rg_base.specs.declared.outcome.Trap.TheVariants.{Input, End}
+use Rattle.rg_base.specs.declared.value.Val.{Val}
+use Rattle.rg_base.specs.declared.value.Val.TheVariants as val
+use Rattle.rg_tree.specs.Tree.{Right, read, more}
 use Rattle.rg_tree.specs.Rows.Tables.{Tables}
 use Rattle.rg_tree.specs.Rows.RowTrees.{classes_of}
 use Rattle.rg_rules.specs.Steps.{next}
 use Rattle.rg_input.specs.declared.refusal.NumberRefusal.{NumberRefusal}
 use Rattle.rg_input.specs.declared.refusal.NumberRefusal.TheVariants as no
+use Rattle.rg_input.specs.Numbers.{Answers, Looks}
+use Rattle.rg_plain.specs.declared.steps.input.Wanted.{Wanted}
+use Rattle.rg_plain.specs.declared.steps.input.Wanted.TheVariants as wanted
 use Rattle.rg_plain.specs.Kept.{Kept, plain_of}
 use Rattle.rg_plain.specs.Outcomes.{Settles}
 use Rattle.rg_plain.specs.Inner.Steps.{StepIs}
@@ -27,3 +33,23 @@ abbrev pub refused_by : NumberRefusal → (line : ℕ) → Outcome
 refused_by no.End line = outcome.Trap End line
 refused_by no.Input line = outcome.Trap Input line
 refused_by no.InputFault line = outcome.InputFault
+
+-- the right side that asks for it
+abbrev pub right_for : Wanted → Right
+right_for wanted.Number = read
+right_for wanted.More = more
+
+-- what the input gave where it was asked, of the bytes left before and after that
+abbrev pub Gave : Wanted → Result Val NumberRefusal → (before after : List ℕ) → Type 0
+Gave wanted.Number (Ok (val.Int z)) before after = Answers (Ok z) before after
+Gave wanted.Number (Ok (val.Bool b)) before after = ⊥
+Gave wanted.Number (Ok (val.Obj a)) before after = ⊥
+Gave wanted.Number (Ok val.Nil) before after = ⊥
+Gave wanted.Number (Err r) before after = Answers (Err r) before after
+Gave wanted.More (Ok (val.Bool b)) before after = Looks (Ok b) before after
+Gave wanted.More (Ok (val.Int z)) before after = ⊥
+Gave wanted.More (Ok (val.Obj a)) before after = ⊥
+Gave wanted.More (Ok val.Nil) before after = ⊥
+Gave wanted.More (Err no.InputFault) before after = after ≡ before
+Gave wanted.More (Err no.End) before after = ⊥
+Gave wanted.More (Err no.Input) before after = ⊥

@@ -1,22 +1,31 @@
 //! The steps of `read` and `more` (docs/language.md, "Steps").
 
-ghost use Rattle.std.specs.Prelude.{◌≡◌, ◌≤◌};
-ghost use Rattle.rg_tree.specs.Tree.{more, read};
+ghost use Rattle.std.specs.Prelude.{◌≡◌, ◌≤◌, Err};
 ghost use Rattle.rg_io.specs.Content.{Rose};
 ghost use Rattle.rg_input.specs.Numbers.{Follows, OnInput};
 ghost use Rattle.rg_plain.specs.Fits.{PartsFit};
-ghost use Rattle.rg_plain.specs.Inner.Inputs.{StepOn, refused_by};
+ghost use Rattle.rg_plain.specs.Inner.Inputs.{Gave, StepOn, refused_by, right_for};
 ghost use Rattle.rg_plain.specs.Inner.Spots.{LeftFits, statement_of};
 ghost use Rattle.rg_plain.specs.Inner.Steps.{Stands};
 ghost use Rattle.rg_plain.specs.Kept.{kept_of};
 
 use crate::state::items::advance;
 use crate::state::parts::Parts;
+use crate::steps::refusal::{Refusal, ended};
 use crate::steps::targets::{Assignment, aim_of, make_room, put};
 use rg_base::{Outcome, Trap, Val};
 use rg_input::{InputFault, NumberRefusal, Numbers};
 use rg_io::Source;
 use rg_names::Book;
+
+/// What is asked of the input.
+#[derive(Clone, Copy)]
+pub enum Wanted {
+    /// `read`: the next number, which is taken
+    Number,
+    /// `more`: whether anything but blanks is left
+    More,
+}
 
 /// How a step ends that has no number.
 fn refused(refusal: NumberRefusal, line: u64) -> Outcome
@@ -35,16 +44,43 @@ fn refused(refusal: NumberRefusal, line: u64) -> Outcome
     }
 }
 
-/// Takes the next number of the input.
-pub(crate) fn read_step<S: Source>(
+/// Asks the input for a value. A refusal takes nothing.
+fn fetch<S: Source>(
+    wanted: Wanted,
+    numbers: &mut Numbers,
+    source: &mut S,
+) -> Result<Val, NumberRefusal>
+    requires { Follows numbers.old (S.left source.old) }
+    ensures gave { OnInput numbers.old numbers.new (S.left source.old) (S.left source.new)
+        (Gave wanted result) }
+    ensures follows { Follows numbers.new (S.left source.new) }
+    ensures fault { result ≡ Err NumberRefusal.InputFault →
+        Rose (S.faults source.old) (S.faults source.new) }
+    ensures never_falls { S.faults source.old ≤ S.faults source.new }
+{
+    match wanted {
+        Wanted::Number => match numbers.next(source) {
+            Ok(z) => Ok(Val::Int(z)),
+            Err(refusal) => Err(refusal),
+        },
+        Wanted::More => match numbers.more(source) {
+            Ok(b) => Ok(Val::Bool(b)),
+            Err(InputFault) => Err(NumberRefusal::InputFault),
+        },
+    }
+}
+
+/// Takes what is asked of the input.
+pub(crate) fn input_step<S: Source>(
     book: &Book,
     m: &mut Parts,
     to: Assignment,
+    wanted: Wanted,
     numbers: &mut Numbers,
     source: &mut S,
 ) -> Outcome
     requires stands { Stands book.now.program m.old to.at (statement_of book.now.program to.left
-        read) }
+        (right_for wanted)) }
     requires left { LeftFits book.now.program to.left }
     requires follows { Follows numbers.old (S.left source.old) }
 
@@ -58,59 +94,16 @@ pub(crate) fn read_step<S: Source>(
 {
     let aim = match aim_of(book, m, to.left) {
         Ok(aim) => aim,
-        Err(kind) => return Outcome::Trap {
-            kind,
-            line: to.at.line,
-        },
+        Err(kind) => return ended(Refusal::Trap(kind), to.at.line),
     };
     let Ok(()) = make_room(book, m, aim) else {
         return Outcome::Memory;
     };
-    let z = match numbers.next(source) {
-        Ok(z) => z,
+    let value = match fetch(wanted, numbers, source) {
+        Ok(value) => value,
         Err(refusal) => return refused(refusal, to.at.line),
     };
     advance(book, &mut m.items, to.at.span, to.at.number);
-    put(book, m, aim, Val::Int(z));
-    Outcome::Running
-}
-
-/// Asks whether anything but blanks is left of the input. It takes nothing.
-pub(crate) fn more_step<S: Source>(
-    book: &Book,
-    m: &mut Parts,
-    to: Assignment,
-    numbers: &mut Numbers,
-    source: &mut S,
-) -> Outcome
-    requires stands { Stands book.now.program m.old to.at (statement_of book.now.program to.left
-        more) }
-    requires left { LeftFits book.now.program to.left }
-    requires follows { Follows numbers.old (S.left source.old) }
-
-    ensures step { OnInput numbers.old numbers.new (S.left source.old) (S.left source.new)
-        (StepOn book.now.program (kept_of m.old) (kept_of m.new) result) }
-    ensures fit { PartsFit book.now.program m.new }
-
-    ensures follows { Follows numbers.new (S.left source.new) }
-    ensures fault { result ≡ Outcome.InputFault → Rose (S.faults source.old) (S.faults source.new) }
-    ensures never_falls { S.faults source.old ≤ S.faults source.new }
-{
-    let aim = match aim_of(book, m, to.left) {
-        Ok(aim) => aim,
-        Err(kind) => return Outcome::Trap {
-            kind,
-            line: to.at.line,
-        },
-    };
-    let Ok(()) = make_room(book, m, aim) else {
-        return Outcome::Memory;
-    };
-    let b = match numbers.more(source) {
-        Ok(b) => b,
-        Err(InputFault) => return Outcome::InputFault,
-    };
-    advance(book, &mut m.items, to.at.span, to.at.number);
-    put(book, m, aim, Val::Bool(b));
+    put(book, m, aim, value);
     Outcome::Running
 }

@@ -16,7 +16,7 @@ returns-then-ends_body-clause-slots c =
     let ops = c.args.code.now.ops in
     let there = c.get-op.ensures in
     let lt = slice_get_within ops c.loop-at.at c.get-op.result there in
-    c.greater-slots.ensures ∙ ap (max c.loop-at.slots) c.above.ensures
+    c.max-slots.ensures ∙ ap (max c.loop-at.slots) c.above.ensures
     ∙ along-slots ops c.args.from c.args.given c.loop-at.at c.loop-at.slots c.get-op.result there lt c.loop-at.invariant
     (sym c.ends_body.ensures ∙ c.if-ends_body.true)
 
@@ -25,7 +25,7 @@ loop-at-preserved c =
     let ops = c.args.code.now.ops in
     let there = c.get-op.ensures in
     let lt = slice_get_within ops c.loop-at.at c.get-op.result there in
-    rw (c.greater-slots.ensures, c.above.ensures)
+    rw (c.max-slots.ensures, c.above.ensures)
     (along-goes ops c.args.from c.args.given c.loop-at.at c.loop-at.slots c.get-op.result there lt c.loop-at.invariant
     (sym c.ends_body.ensures ∙ c.if-ends_body.false))
 

@@ -2,11 +2,11 @@ use Rattle.rg_plain.specs.Kept.{kept_of}
 use Rattle.rg_plain.proofs.Statements.Input.{does, prints}
 use Rattle.rg_plain.proofs.steps.statement_step.Goals as goal
 
-pub read_step-requires-clause-left : goal.read_step-requires-clause-left
-read_step-requires-clause-left g c = c.in-Reads.ensures.fits c.args.book.now.program c.first-number.result c.stmt-row.ensures.below
+pub input_step-requires-clause-left : goal.input_step-requires-clause-left
+input_step-requires-clause-left g c = c.in-Reads.ensures.fits c.args.book.now.program c.first-number.result c.stmt-row.ensures.below
 
-pub more_step-requires-clause-left : goal.more_step-requires-clause-left
-more_step-requires-clause-left g c = c.in-Asks.ensures.fits c.args.book.now.program c.first-number.result c.stmt-row.ensures.below
+pub input_step-requires-in-Asks-clause-left : goal.input_step-requires-in-Asks-clause-left
+input_step-requires-in-Asks-clause-left g c = c.in-Asks.ensures.fits c.args.book.now.program c.first-number.result c.stmt-row.ensures.below
 
 pub print_step-requires-clause-there : goal.print_step-requires-clause-there
 print_step-requires-clause-there g c = c.in-Prints.ensures.fits c.args.book.now.program c.first-number.result c.stmt-row.ensures.below

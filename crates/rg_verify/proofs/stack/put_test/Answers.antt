@@ -1,6 +1,5 @@
-use Rattle.std.proofs.Common.{List, ℕ, subst}
 use Rattle.rg_tree.proofs.Adding.{extends-trans}
-use Rattle.rg_verify.proofs.Path.{PathRow, test-there, test-pile, test-tree, test-put}
+use Rattle.rg_verify.proofs.Path.{test-there, test-pile, test-tree, test-put}
 use Rattle.rg_verify.proofs.stack.put_test.Goals as goal
 
 pub put_expr-requires : goal.put_expr-requires
@@ -8,24 +7,16 @@ put_expr-requires c =
     let (items, p) = c.requires in
     let t = c.args.program.now in
     let m = c.args.body.in_method in
-    let u = c.path_row.new.program in
-    let s = c.in_ok-slot.slot in
-    let ns = c.in_ok-slot.fields in
-    let made : PathRow t u m s ns.items c.in-Ok.path =
-    subst (λ (xs : List ℕ). PathRow t u m s xs c.in-Ok.path) c.as_slice.ensures.value c.in-Ok.ensures.adds in
-    test-there t u u m c.take_path.new.stack.items items s ns (c.in_ok-slot.ensures t m items p) c.in-Ok.path made
+    test-there t c.path_row.new.program c.path_row.new.program m c.take_path.new.stack.items items c.in_ok-slot.slot c.in_ok-slot.fields (c.in_ok-slot.ensures t m items p)
+    c.in-Ok.path c.as_slice.ensures.value c.in-Ok.ensures.adds
 
 pub settle-requires-clause-pile : goal.settle-requires-clause-pile
 settle-requires-clause-pile c =
     let (items, p) = c.requires in
     let t = c.args.program.now in
     let m = c.args.body.in_method in
-    let u = c.path_row.new.program in
-    let s = c.in_ok-slot.slot in
-    let ns = c.in_ok-slot.fields in
-    let made : PathRow t u m s ns.items c.in-Ok.path =
-    subst (λ (xs : List ℕ). PathRow t u m s xs c.in-Ok.path) c.as_slice.ensures.value c.in-Ok.ensures.adds in
-    test-pile t u c.put_expr.new.program m c.take_path.new.stack.items items s ns (c.in_ok-slot.ensures t m items p) c.in-Ok.path made
+    test-pile t c.path_row.new.program c.put_expr.new.program m c.take_path.new.stack.items items c.in_ok-slot.slot c.in_ok-slot.fields (c.in_ok-slot.ensures t m items p)
+    c.in-Ok.path c.as_slice.ensures.value c.in-Ok.ensures.adds
     c.in-Ok-put_expr.ensures.adds
 
 pub settle-requires-clause-tree : goal.settle-requires-clause-tree
@@ -33,24 +24,16 @@ settle-requires-clause-tree c =
     let (items, p) = c.requires in
     let t = c.args.program.now in
     let m = c.args.body.in_method in
-    let u = c.path_row.new.program in
-    let s = c.in_ok-slot.slot in
-    let ns = c.in_ok-slot.fields in
-    let made : PathRow t u m s ns.items c.in-Ok.path =
-    subst (λ (xs : List ℕ). PathRow t u m s xs c.in-Ok.path) c.as_slice.ensures.value c.in-Ok.ensures.adds in
-    test-tree t u c.put_expr.new.program m c.take_path.new.stack.items items s ns (c.in_ok-slot.ensures t m items p) c.in-Ok.path made
+    test-tree t c.path_row.new.program c.put_expr.new.program m c.take_path.new.stack.items items c.in_ok-slot.slot c.in_ok-slot.fields (c.in_ok-slot.ensures t m items p)
+    c.in-Ok.path c.as_slice.ensures.value c.in-Ok.ensures.adds
     c.in-Ok-put_expr.ensures.adds
 
 pub returns-clause-makes : goal.returns-clause-makes
 returns-clause-makes c items p =
     let t = c.args.program.now in
     let m = c.args.body.in_method in
-    let u = c.path_row.new.program in
-    let s = c.in_ok-slot.slot in
-    let ns = c.in_ok-slot.fields in
-    let made : PathRow t u m s ns.items c.in-Ok.path =
-    subst (λ (xs : List ℕ). PathRow t u m s xs c.in-Ok.path) c.as_slice.ensures.value c.in-Ok.ensures.adds in
-    test-put t u c.put_expr.new.program m c.take_path.new.stack.items items s ns (c.in_ok-slot.ensures t m items p) c.in-Ok.path made
+    test-put t c.path_row.new.program c.put_expr.new.program m c.take_path.new.stack.items items c.in_ok-slot.slot c.in_ok-slot.fields (c.in_ok-slot.ensures t m items p)
+    c.in-Ok.path c.as_slice.ensures.value c.in-Ok.ensures.adds
     c.in-Ok-put_expr.ensures.adds c.settle.new.program c.settle.new.stack.items c.args.end c.settle.result c.settle.ensures.makes
 
 pub returns-in_default-put_expr-clause-grows : goal.returns-in_default-put_expr-clause-grows

@@ -93,18 +93,6 @@ returns-in-Some-clause-run g c =
     OnInput-map _ _ _ _ (QuietOn t start c.args.n after new old out c.in-Some.ended After)
     (RunOn t start c.args.n after new old out c.in-Some.ended) (returns-in-Some-clause-reads_nothing g c) (λ x z both. both.0)
 
-pub returns-clause-run : goal.returns-clause-run
-returns-clause-run g c =
-    let t = c.args.program.now in
-    let start = c.args.self.now in
-    let k = c.loop-steps.steps in
-    let m = c.loop-steps.self in
-    let old = g.O.Sink.taken c.args.out.now in
-    let out = g.O.Sink.taken c.loop-steps.out in
-    let all : k ≡ c.args.n = omega (arith, c.loop-steps-test.false, c.loop-steps.invariant.within) in
-    OnInput-map _ _ _ _ (RanOn t start k m old out) (RunOn t start c.args.n k m old out ended.Spent) c.loop-steps.invariant.so_far
-    (λ before after ran. spent t (state_of t start before) c.args.n k (state_of t m after) (IsState t m after) old out all ran refl)
-
 pub returns-clause-reads_nothing : goal.returns-clause-reads_nothing
 returns-clause-reads_nothing g c =
     let t = c.args.program.now in
@@ -118,3 +106,13 @@ returns-clause-reads_nothing g c =
     OnInput-map _ _ _ _ (UnreadOn t start k m old out Before) (QuietOn t start c.args.n k m old out ended.Spent Before)
     c.loop-steps.invariant.unread
     (λ before after ran. (spent t (state_of t start before) c.args.n k (state_of t m after) (IsState t m after) old out all ran.0 refl, ran.1))
+
+pub returns-clause-run : goal.returns-clause-run
+returns-clause-run g c =
+    let m = c.loop-steps.self in
+    let old = g.O.Sink.taken c.args.out.now in
+    let out = g.O.Sink.taken c.loop-steps.out in
+    let Before : Type 0 = (c.loop-steps.input ≡ c.args.input.now) × (c.loop-steps.source ≡ c.args.source.now) in
+    OnInput-map _ _ _ _ (QuietOn c.args.program.now c.args.self.now c.args.n c.loop-steps.steps m old out ended.Spent Before)
+    (RunOn c.args.program.now c.args.self.now c.args.n c.loop-steps.steps m old out ended.Spent) (returns-clause-reads_nothing g c)
+    (λ x z both. both.0)
