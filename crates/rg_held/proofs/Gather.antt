@@ -1,6 +1,6 @@
 -- A collection of the active region leaves the machine that frees beside the one over a growing store.
 mod Frees
-mod Roots
+pub mod Roots
 mod Held
 pub mod Told
 pub mod Whole

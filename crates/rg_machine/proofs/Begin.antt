@@ -6,7 +6,6 @@ use Rattle.std.proofs.lemmas.Bool.{cases_eq}
 use Rattle.std.proofs.lemmas.Option.{none-some, same_Some}
 use Rattle.rg_base.specs.declared.object.Label.{Label}
 use Rattle.rg_base.specs.declared.object.Label.TheVariants.{Region, Temp}
-use Rattle.rg_base.specs.declared.object.Seen.{Seen}
 use Rattle.rg_base.specs.declared.value.Val.{Val}
 use Rattle.rg_base.specs.declared.value.Val.TheVariants as val
 use Rattle.rg_base.specs.declared.value.Word.TheVariants.{Nil, Slot}
@@ -16,7 +15,7 @@ use Rattle.rg_cells.specs.Table.{Heap, body_in, label_at}
 use Rattle.rg_regions.specs.Table.{Record, RegionTable, Added, fresh, record_at, HasNumber}
 use Rattle.rg_frames.specs.declared.rows.Window.{Window}
 use Rattle.rg_frames.specs.Stack.{Stack, begun, roomed}
-use Rattle.rg_stack.specs.Machine.{Frame, Machine, Window as WindowOf}
+use Rattle.rg_stack.specs.Machine.{Frame, Window as WindowOf}
 use Rattle.rg_heap.specs.Parts.{Parts}
 use Rattle.rg_heap.specs.Answers.{val_of}
 use Rattle.rg_heap.specs.Opened.{Opened, IsTempOf}
@@ -27,6 +26,7 @@ use Rattle.rg_view.proofs.Callers.Manager.{manager-of}
 use Rattle.rg_view.proofs.Callers.Shown.{get-drop, get-take}
 use Rattle.rg_machine.specs.Parts.{opening}
 use Rattle.rg_machine.specs.Stands.{Stands}
+use Rattle.rg_machine.proofs.New.Refused.{machine}
 
 -- the one element of a list
 the-one : {A : Type 0} → (x y : A) (i : ℕ) → slice_get (x ∷ []) i ≡ Some y → (i ≡ 0) × (x ≡ y)
@@ -123,16 +123,13 @@ module _ (p : Parts) (old : RegionTable) (key n a b : ℕ) (manager : Manager) (
 
   pub begin-machine : machine_of p (first-stack key n a b) 0 ≡ opening n manager
   begin-machine =
-      ap (λ m. machine (map (seen_of p.cells.heap) (range_with_len 0 m)) (frames (map-of n)) (windows (number_of p.regions key))
+      let v = first-stack key n a b in
+      ap (λ m. machine v 0 (map (seen_of p.cells.heap) (range_with_len 0 m)) (frames (map-of n)) (windows (number_of p.regions key))
       (managers_of p.regions)) serials
-      ∙ ap (λ vs. machine [] (frames vs) (windows (number_of p.regions key)) (managers_of p.regions)) (map-nil p.cells.heap n)
-      ∙ ap (λ r. machine [] (frames (replicate n val.Nil)) (windows r) (managers_of p.regions)) (ap number_in added.is ∙ next)
-      ∙ ap (machine [] (frames (replicate n val.Nil)) (windows 0)) begin-managers
+      ∙ ap (λ vs. machine v 0 [] (frames vs) (windows (number_of p.regions key)) (managers_of p.regions)) (map-nil p.cells.heap n)
+      ∙ ap (λ r. machine v 0 [] (frames (replicate n val.Nil)) (windows r) (managers_of p.regions)) (ap number_in added.is ∙ next)
+      ∙ ap (machine v 0 [] (frames (replicate n val.Nil)) (windows 0)) begin-managers
     where
-      machine : List Seen → List Frame → List WindowOf → List Manager → Machine
-      machine store frames windows managers =
-          record { store = store; frames = frames; windows = windows; managers = managers; windows_made = 1; at = 0 }
-
       frames : List Val → List Frame
       frames vs = record { slots = vs; back = 0 } ∷ []
 

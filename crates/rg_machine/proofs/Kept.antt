@@ -8,6 +8,7 @@ use Rattle.rg_regions.proofs.Callers.Told.{record_of_key, number_of as has-numbe
 use Rattle.rg_heap.specs.Changes.{Opens, Rewritten, SameRecords}
 use Rattle.rg_view.specs.Numbers.{Bridged, HasBridges, Numbers}
 use Rattle.rg_view.proofs.Callers.Manager.{SameNumbers, opens-numbers}
+use Rattle.rg_view.proofs.Callers.Manager.{kept}
 
 -- The regions
 
@@ -108,8 +109,8 @@ equal-kept old new e q b = subst (λ (t : RegionTable). Kept old t) (sym e) (rec
 pub opens-kept : (old new : RegionTable) (key slot : ℕ) (manager : Manager) → Opens old new key slot manager → Numbers old → HasBridges old
     → 0 < old.next → Kept old new
 opens-kept old new key slot manager o q b made = record {
-  number = λ k n h. let r = numbered old k n h in has-number new k n r.0 (kept k r.0 r.1) r.2;
-  bridge = λ r s h. (h.0, h.1, kept h.0 h.1 h.2, h.3, h.4);
+  number = λ k n h. let r = numbered old k n h in has-number new k n r.0 (kept old new key slot manager o q k r.0 r.1) r.2;
+  bridge = λ r s h. (h.0, h.1, kept old new key slot manager o q h.0 h.1 h.2, h.3, h.4);
   numbers = opens-numbers old new key slot manager o q;
   bridges = λ k r e. elim (cases_eq k key) [
     | inl is ↦
@@ -122,9 +123,6 @@ opens-kept old new key slot manager o q b made = record {
   where
     fresh : Record
     fresh = record { number = old.next; manager = manager; members = slot ∷ []; bridge = Some slot; room = o.is.0 }
-
-    kept : (k : ℕ) (r : Record) → record_at old k ≡ Some r → record_at new k ≡ Some r
-    kept k r e = o.others k (λ is. none-some r (sym o.vacant ∙ ap (record_at old) (sym is) ∙ e)) ∙ e
 
 -- the new region has its bridge
 pub opens-bridge : (old new : RegionTable) (key slot : ℕ) (manager : Manager) → Opens old new key slot manager → IsBridge new old.next slot

@@ -12,3 +12,4 @@ pub mod High
 pub mod Cores
 pub mod Makes
 pub mod Acts
+pub mod Inner

@@ -3,17 +3,15 @@ use Rattle.std.proofs.Common.{◌≡◌, ◌≢◌, ◌⊎◌, ◌≤◌, inl, i
 use Rattle.std.proofs.Common.{Option, Some, None, option_and_then, slice_get, refl, sym, ap, ◌∙◌, subst}
 use Rattle.std.specs.List.{list_any}
 use Rattle.std.proofs.lemmas.Bool.{ne_eqb}
-use Rattle.std.proofs.lemmas.Option.{none-some, same_Some}
+use Rattle.std.proofs.lemmas.Option.{none-some}
 use Rattle.rg_base.specs.declared.object.Label.{Label}
 use Rattle.rg_base.specs.declared.object.Label.TheVariants.{Region, Temp, Frozen}
 use Rattle.rg_base.specs.declared.object.Seen.{Seen}
-use Rattle.rg_base.specs.declared.ty.Ty.{Ty}
 use Rattle.rg_base.specs.declared.value.Val.{Val}
 use Rattle.rg_base.specs.declared.value.Val.TheVariants as val
 use Rattle.rg_tree.specs.Tree.{Class, Field, Tree}
-use Rattle.rg_rules.specs.Capabilities.{is_iso}
 use Rattle.rg_rules.specs.Owners.{Above, Parent, direct, further, owned_by_field, owned_by_slot}
-use Rattle.rg_rules.specs.Regions.{address, owned, owned_as, region_at, region_of}
+use Rattle.rg_rules.specs.Regions.{owned, owned_as, region_at, region_of}
 use Rattle.rg_rules.specs.State.{State, Window as Opened}
 use Rattle.rg_rules.specs.Types.{fields_of, type_of}
 use Rattle.rg_code.specs.Code.{Code}
@@ -27,6 +25,7 @@ use Rattle.rg_held.specs.Part.{FieldInto, Placed}
 use Rattle.rg_held.specs.Shown.{ShowsHeld}
 use Rattle.rg_held.proofs.Gather.Whole.{shows-fit}
 use Rattle.rg_held.proofs.Places.{field-field, once, region-into, slot-field}
+use Rattle.rg_held.proofs.Gather.Roots.{owned-value}
 use Rattle.rg_machine.specs.Collects.{holds}
 use Rattle.rg_machine.specs.Parts.{machine_in}
 use Rattle.rg_machine.proofs.Callers.Part.{gone-shown, held-shown}
@@ -57,22 +56,12 @@ pub record Shifts (classes : List Class) (p q : State) : Type 0 where
       → (v : Seen) × (slice_get q.store a ≡ Some v) × (v.fields ≡ o.fields)
 
 -- an owner reference in a field is the field's value
-owned-is : (t : Ty) (x : Val) (a : ℕ) → owned t x ≡ Some a → x ≡ val.Obj a
-owned-is t x a e = by (is_iso t) x e
-  where
-    by : (b : Truth) (x : Val) → (if b then address x else None) ≡ Some a → x ≡ val.Obj a
-    by false x e = absurd (none-some a e)
-    by true val.Nil e = absurd (none-some a e)
-    by true (val.Int n) e = absurd (none-some a e)
-    by true (val.Bool b) e = absurd (none-some a e)
-    by true (val.Obj b) e = ap val.Obj (same_Some b a e)
-
 slot-is : (classes : List Class) (o : Seen) (k a : ℕ) → owned_by_slot classes o k ≡ Some a → slice_get o.fields k ≡ Some (val.Obj a)
 slot-is classes o k a e = by (slice_get (fields_of classes o.class) k) e
   where
     on : (f : Field) (x : Option Val) → option_and_then (owned_as classes f) x ≡ Some a → x ≡ Some (val.Obj a)
     on f None e = absurd (none-some a e)
-    on f (Some x) e = ap Some (owned-is (type_of classes f.ty) x a e)
+    on f (Some x) e = ap Some (owned-value (type_of classes f.ty) x a e)
 
     by : (f : Option Field) → option_and_then (λ (f : Field). option_and_then (owned_as classes f) (slice_get o.fields k)) f ≡ Some a
         → slice_get o.fields k ≡ Some (val.Obj a)

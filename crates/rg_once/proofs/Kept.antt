@@ -1,5 +1,5 @@
 -- What a collection of the active region keeps of it: what the state reaches, or what isn't spent.
-use Rattle.std.proofs.Common.{◌≡◌, ◌⊎◌, inl, inr, ℕ, ◌-◌, Bool as Truth, true, false, drop, length, Option, Some, None, option_map, refl, sym, ap}
+use Rattle.std.proofs.Common.{◌≡◌, ◌⊎◌, inl, inr, ℕ, ◌-◌, Bool as Truth, true, false, drop, Option, Some, None, refl, sym, ap}
 use Rattle.std.proofs.Common.{◌∙◌, subst, arith}
 use Rattle.std.proofs.lemmas.Option.{none-some, same_Some}
 use Rattle.rg_base.specs.declared.object.Label.TheVariants.{Region}
@@ -18,7 +18,7 @@ use Rattle.rg_regions.specs.Grove.{Grove}
 use Rattle.rg_regions.specs.Reach.{LiesIn}
 use Rattle.rg_regions.specs.Reach.{Stands as Root}
 use Rattle.rg_regions.specs.Spent.{Spent}
-use Rattle.rg_regions.specs.Table.{HasNumber, Record, record_at}
+use Rattle.rg_regions.specs.Table.{Record, record_at}
 use Rattle.rg_frames.specs.declared.rows.Window.{Window as WindowRow}
 use Rattle.rg_frames.specs.Stack.{Stack}
 use Rattle.rg_stack.specs.Machine.{Machine}
@@ -28,7 +28,6 @@ use Rattle.rg_heap.specs.declared.answers.Collected.{Collected}
 use Rattle.rg_heap.specs.Answers.{AllLead}
 use Rattle.rg_heap.specs.Collects.{Collects, CollectsBy, Told}
 use Rattle.rg_heap.specs.Ends.{top_temps}
-use Rattle.rg_heap.specs.Opened.{IsWindow}
 use Rattle.rg_heap.specs.Parts.{Parts}
 use Rattle.rg_heap.specs.Slides.{Slides, SlidesBy}
 use Rattle.rg_view.specs.View.{machine_of}
@@ -37,7 +36,7 @@ use Rattle.rg_view.proofs.Callers.Shown.{held-body}
 use Rattle.rg_machine.specs.Collects.{holds}
 use Rattle.rg_machine.specs.Parts.{Parts as Whole}
 use Rattle.rg_machine.proofs.Callers.Active.{on-each}
-use Rattle.rg_machine.proofs.Callers.Collect.{Active, lead-behind, root-stays, roots_in, was}
+use Rattle.rg_machine.proofs.Callers.Collect.{Active, lead-behind, root-stays, roots_in, sole-window, was}
 use Rattle.rg_machine.proofs.Callers.Gather.{holds-back, holds-there}
 use Rattle.rg_machine.proofs.Callers.Part.{once-held}
 use Rattle.rg_machine.proofs.Callers.ReachHeld.{body-was, reach-kept, start-kept}
@@ -47,6 +46,7 @@ use Rattle.rg_machine.proofs.Callers.ReachShown.{Beside, TopShown, label-of, reg
 use Rattle.rg_machine.proofs.Callers.Shift.{holds-shift}
 use Rattle.rg_machine.proofs.Callers.Slid.{moves}
 use Rattle.rg_machine.proofs.Callers.SlidReach.{collects, left, shifted}
+use Rattle.rg_machine.proofs.Callers.Active.{trace-apart}
 use Rattle.rg_stack.specs.Shows.{sizes_of}
 use Rattle.rg_view.specs.View.{frames_of}
 use Rattle.rg_step.specs.Collections.{CollectsTop}
@@ -213,16 +213,11 @@ module _ (old : Parts) (v : Stack) (at : ℕ) (t : Tree) (code : Code) (s : Stat
   abbrev ws : TopShown (sizes_of (frames_of old.cells.heap v)) a.window a.rec.number s.windows
   ws = top-shown old v at t code s m z a
 
-  sole : (i : ℕ) (w : WindowRow) → IsWindow v i w → HasNumber old.regions w.region a.rec.number → i ≡ length v.windows - 1
-  sole i w f has =
-      z.stands.opened.differ i (length v.windows - 1) w a.window f a.is
-      (z.grove.numbers w.region a.window.region a.rec.number has (ap (option_map (λ (c : Record). c.number)) a.known))
-
   pub root-starts : (x : ℕ) (b : Body) → Root old.cells.heap (roots_in old v a) x → body_at old.cells.heap x ≡ Some b
       → In b.serial (starts s.store s.frames s.windows)
   root-starts x b root e =
       subst (In b.serial) (sym (roots-are s ws.top ws.rest ws.is))
-      (root-leads old v at t code s m z a sole (z.stands.bridges a.window.region a.rec a.known).1 x b root e)
+      (root-leads old v at t code s m z a (sole-window old v z.grove z.stands.opened a) (z.stands.bridges a.window.region a.rec a.known).1 x b root e)
 
 -- Two collections of the same region
 
@@ -267,15 +262,12 @@ module _ (t : Tree) (code : Code) (s : State) (p n : Parts) (v : Stack) (at : �
       → holds n₂.cells.heap b.serial ≡ true
   kept-also told told₂ c c₂ x b e lies kept = by c.way c₂.way
     where
-      counts : Trace ≡ Count → ⊥
-      counts f = cc
-
       by : ((a.rec.manager ≡ Trace) × Traced s near a.rec.number (holds n.cells.heap))
           ⊎ ((a.rec.manager ≡ Count) × Collects p n a.window.region a.rec (IsSpent p n v at t code s m z a))
           → ((a₂.rec.manager ≡ Trace) × Traced s far a₂.rec.number (holds n₂.cells.heap))
           ⊎ ((a₂.rec.manager ≡ Count) × Collects p₂ n₂ a₂.window.region a₂.rec (IsSpent p₂ n₂ v₂ at₂ t code s m₂ z₂ a₂))
           → holds n₂.cells.heap b.serial ≡ true
       by (inl (is, y)) (inl (is₂, y₂)) = y₂.on b.serial (y.back x b e lies kept)
-      by (inl (is, y)) (inr (is₂, y₂)) = absurd (counts (sym is ∙ manager ∙ is₂))
-      by (inr (is, y)) (inl (is₂, y₂)) = absurd (counts (sym is₂ ∙ sym manager ∙ is))
+      by (inl (is, y)) (inr (is₂, y₂)) = absurd (trace-apart (sym is ∙ manager ∙ is₂))
+      by (inr (is, y)) (inl (is₂, y₂)) = absurd (trace-apart (sym is₂ ∙ sym manager ∙ is))
       by (inr (is, y)) (inr (is₂, y₂)) = counted y y₂ x b e lies kept

@@ -48,7 +48,7 @@ use Rattle.rg_sound.proofs.Values.Right.{ready-not_lent, take-variable}
 use Rattle.rg_sound.proofs.Values.Value.{seen-meets}
 use Rattle.rg_once.proofs.Hang.{Hangs, Shifts}
 use Rattle.rg_once.proofs.Made.{receiver-led}
-use Rattle.rg_once.proofs.Seen.{Led}
+use Rattle.rg_once.proofs.Seen.{IsSeen, Led}
 
 -- a variable was taken whose region, with some beneath it, gets another label
 pub record Taken (t : Tree) (p : State) (f : Frame) (fs : List Frame) (entries : List Entry) : Type 0 where
@@ -209,57 +209,60 @@ module _ (t : Tree) (p : State) (f : Frame) (fs : List Frame) (entries : List En
   after-count : length k.after.store ≡ length p.store
   after-count = ap length k.store ∙ length-map p.store (relabelled_object k.regions k.label)
 
-  -- in a new variable
-  pub declare-shifts : (x : Variable) (ty : Ty) → Shifts t.classes p (add_local x ty k.after (val.Obj k.address))
-  declare-shifts x ty = record {
+  -- from what is seen of the reference behind it
+  shifts-by : (q : State) → q.windows ≡ p.windows → IsSeen p q k.address → length q.store ≡ length p.store
+      → ((a : ℕ) (o v : Seen) → slice_get p.store a ≡ Some o → slice_get q.store a ≡ Some v
+      → (v.label ≡ o.label) ⊎ ((r : ℕ) × (o.label ≡ Region r) × Hangs t.classes p.store k.region r))
+      → ((a : ℕ) (o : Seen) (r : ℕ) → slice_get p.store a ≡ Some o → o.label ≡ Region r → Hangs t.classes p.store k.region r
+      → (v : Seen) × (slice_get q.store a ≡ Some v) × (v.fields ≡ o.fields)) → Shifts t.classes p q
+  shifts-by q windows seen count labels fields = record {
     first = k.region;
     root = k.address;
     object = k.object;
     there = k.there;
     lies = k.lies;
     led = k.led;
-    seen = inl (record {
-      top = record f { locals = k.locals ++ record { name = x; ty = ty; value = val.Obj k.address } ∷ [] };
-      rest = fs;
-      frames = ap (λ gs. with_top (top_locals gs ++ record { name = x; ty = ty; value = val.Obj k.address } ∷ []) gs) k.frames;
-      place = length k.locals;
-      local = record { name = x; ty = ty; value = val.Obj k.address };
-      there = slice_get-push k.locals (record { name = x; ty = ty; value = val.Obj k.address });
-      leads = refl;
-    });
-    windows = k.windows;
-    count = after-count;
-    labels = after-labels;
-    fields = λ a o r e label hangs. after-fields a o e;
+    seen = seen;
+    windows = windows;
+    count = count;
+    labels = labels;
+    fields = fields;
   }
+
+  -- and where the store is that behind the move
+  shifts-after : (q : State) → q.windows ≡ p.windows → q.store ≡ k.after.store → IsSeen p q k.address → Shifts t.classes p q
+  shifts-after q windows store seen =
+      shifts-by q windows seen (ap length store ∙ after-count)
+      (λ a o v e g. after-labels a o v e (ap (λ l. slice_get l a) (sym store) ∙ g))
+      (λ a o r e label hangs. (let v = after-fields a o e in (v.0, ap (λ l. slice_get l a) store ∙ v.1, v.2)))
+
+  -- in a new variable
+  pub declare-shifts : (x : Variable) (ty : Ty) → Shifts t.classes p (add_local x ty k.after (val.Obj k.address))
+  declare-shifts x ty = shifts-after (add_local x ty k.after (val.Obj k.address)) k.windows refl (inl (record {
+    top = record f { locals = k.locals ++ record { name = x; ty = ty; value = val.Obj k.address } ∷ [] };
+    rest = fs;
+    frames = ap (λ gs. with_top (top_locals gs ++ record { name = x; ty = ty; value = val.Obj k.address } ∷ []) gs) k.frames;
+    place = length k.locals;
+    local = record { name = x; ty = ty; value = val.Obj k.address };
+    there = slice_get-push k.locals (record { name = x; ty = ty; value = val.Obj k.address });
+    leads = refl;
+  }))
 
   -- in a variable that is there
   pub assign-shifts : (x : Variable) (e : Entry) → find (λ (o : Entry). same_variable o.name x) entries ≡ Some e
       → Shifts t.classes p (put_local x k.after (val.Obj k.address))
   assign-shifts x e found =
       let m = first-at entries k.locals x e k.named found in
-      record {
-        first = k.region;
-        root = k.address;
-        object = k.object;
-        there = k.there;
-        lies = k.lies;
-        led = k.led;
-        seen = inl (record {
-          top = record f { locals = set_in x (val.Obj k.address) k.locals };
-          rest = fs;
-          frames = ap (λ gs. with_top (set_in x (val.Obj k.address) (top_locals gs)) gs) k.frames;
-          place = place_in k.locals x;
-          local = record m.local { value = val.Obj k.address };
-          there = ap (λ ls. slice_get ls (place_in k.locals x)) (set_in-at x (val.Obj k.address) k.locals m.local m.local_at)
-              ∙ get-set k.locals (place_in k.locals x) (record m.local { value = val.Obj k.address }) m.local m.local_at;
-          leads = refl;
-        });
-        windows = k.windows;
-        count = after-count;
-        labels = after-labels;
-        fields = λ a o r e label hangs. after-fields a o e;
-      }
+      shifts-after (put_local x k.after (val.Obj k.address)) k.windows refl (inl (record {
+        top = record f { locals = set_in x (val.Obj k.address) k.locals };
+        rest = fs;
+        frames = ap (λ gs. with_top (set_in x (val.Obj k.address) (top_locals gs)) gs) k.frames;
+        place = place_in k.locals x;
+        local = record m.local { value = val.Obj k.address };
+        there = ap (λ ls. slice_get ls (place_in k.locals x)) (set_in-at x (val.Obj k.address) k.locals m.local m.local_at)
+            ∙ get-set k.locals (place_in k.locals x) (record m.local { value = val.Obj k.address }) m.local m.local_at;
+        leads = refl;
+      }))
 
   -- in a field of an object of the topmost window
   module _ (at : Val) (name : Name) (host : Seen) (b n : ℕ) (x : Val) (is : at ≡ val.Obj b) (stood : slice_get p.store b ≡ Some host)
@@ -312,28 +315,16 @@ module _ (t : Tree) (p : State) (f : Frame) (fs : List Frame) (entries : List En
     ]
 
     pub field-shifts : Shifts t.classes p (put_field t.classes at name k.after (val.Obj k.address))
-    field-shifts = subst (Shifts t.classes p) (sym q-is) (record {
-      first = k.region;
-      root = k.address;
-      object = k.object;
-      there = k.there;
-      lies = k.lies;
-      led = k.led;
-      seen = inr (record {
-        object = b;
-        host = host;
-        stood = stood;
-        top = top;
-        windows = k.windows;
-        now = now;
-        there = get-set k.after.store b now host was;
-        label = refl;
-        field = n;
-        leads = get-set host.fields n (val.Obj k.address) x value;
-        led = led;
-      });
+    field-shifts = subst (Shifts t.classes p) (sym q-is) (shifts-by q k.windows (inr (record {
+      object = b;
+      host = host;
+      stood = stood;
+      top = top;
       windows = k.windows;
-      count = length-set k.after.store b now ∙ after-count;
-      labels = q-labels;
-      fields = q-fields;
-    })
+      now = now;
+      there = get-set k.after.store b now host was;
+      label = refl;
+      field = n;
+      leads = get-set host.fields n (val.Obj k.address) x value;
+      led = led;
+    })) (length-set k.after.store b now ∙ after-count) q-labels q-fields)

@@ -2,6 +2,7 @@
 use Rattle.std.proofs.Common.{◌≡◌, ◌-◌, length, sym, ap, subst, ◌∙◌, arith}
 use Rattle.std.proofs.lemmas.Option.{same_Some}
 use Rattle.rg_base.proofs.Callers.Lists.{there}
+use Rattle.rg_base.specs.declared.words.Manager.TheVariants.{Count, Trace}
 use Rattle.rg_regions.specs.Collection.{OfRegion}
 use Rattle.rg_regions.specs.Table.{Record, record_at}
 use Rattle.rg_frames.specs.declared.rows.Window.{Window}
@@ -10,6 +11,10 @@ use Rattle.rg_machine.specs.Active.{OnActive}
 use Rattle.rg_machine.specs.Parts.{Parts}
 use Rattle.rg_machine.specs.Stands.{Stands}
 use Rattle.rg_machine.proofs.Callers.Collect.{has-record}
+
+-- the managers that count and that trace are two
+pub trace-apart : Trace ≡ Count → ⊥
+trace-apart e = cc
 
 module _ (p : Parts) (P : Window → Record → Type 0) where
   -- what holds if they are there holds of them

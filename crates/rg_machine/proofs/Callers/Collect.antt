@@ -1,44 +1,42 @@
 -- What stands behind a collection of the active region: what its roots lead to is kept, and nothing that stays leads into a region that went.
 use Rattle.std.proofs.Common.{◌≡◌, ◌≤◌, ◌<◌, inl, inr, ℕ, ◌+◌, ◌-◌, true, drop, length}
-use Rattle.std.proofs.Common.{Option, Some, None, option_map, option_and_then, slice_get, refl, sym, ap, ◌∙◌, subst, arith}
+use Rattle.std.proofs.Common.{Option, Some, None, option_map, slice_get, refl, sym, ap, ◌∙◌, subst, arith}
 use Rattle.std.proofs.lemmas.Bool.{cases_eq, false_from_ne_true as never, cases_lt as order}
 use Rattle.std.proofs.lemmas.Option.{none-some, same_Some, slice_get_within}
-use Rattle.rg_base.specs.declared.object.Label.{Label}
 use Rattle.rg_base.specs.declared.object.Label.TheVariants.{Region, Temp}
-use Rattle.rg_base.specs.declared.value.Word.{Word}
 use Rattle.rg_base.specs.declared.value.Word.TheVariants as word
 use Rattle.rg_base.proofs.Callers.Labels.{region-same, temp-region}
 use Rattle.rg_base.proofs.Callers.Lists.{there}
 use Rattle.rg_cells.specs.declared.cell.Body.{Body}
-use Rattle.rg_cells.specs.Table.{body_at, label_at, field_at, Serials, IsHeld}
+use Rattle.rg_cells.specs.Table.{Heap, body_at, label_at, field_at, Serials, IsHeld}
 use Rattle.rg_regions.specs.Collection.{Lost, roots_of}
-use Rattle.rg_regions.specs.Grove.{Grove, Parent, Above, direct, further}
+use Rattle.rg_regions.specs.Grove.{Grove, Parent}
 use Rattle.rg_regions.specs.Reach.{LiesIn, Roots, in_slots, in_temps, is_bridge}
 use Rattle.rg_regions.specs.Reach.{Stands as Root}
-use Rattle.rg_regions.specs.Table.{Record, record_at, HasNumber, InTable, IsBridge}
+use Rattle.rg_regions.specs.Table.{Record, record_at, HasNumber, IsBridge}
 use Rattle.rg_regions.proofs.Callers.Told.{labelled_held}
 use Rattle.rg_frames.specs.declared.rows.Window.{Window as WindowRow}
 use Rattle.rg_frames.specs.Stack.{Stack, IsTop}
 use Rattle.rg_stack.specs.Effects.{top_region}
-use Rattle.rg_stack.specs.Needs.{fields_into, owned_once}
+use Rattle.rg_stack.specs.Needs.{owned_once}
 use Rattle.rg_stack.specs.Labels.{is_open}
 use Rattle.rg_heap.specs.Answers.{AllLead, IsClosed}
 use Rattle.rg_heap.specs.Collects.{Collects, LostBelow}
 use Rattle.rg_heap.specs.Ends.{top_temps}
 use Rattle.rg_heap.specs.Opened.{Opened, IsWindow, IsTempOf}
 use Rattle.rg_heap.specs.Parts.{Parts}
-use Rattle.rg_view.specs.View.{store_of, windows_of, machine_of}
+use Rattle.rg_view.specs.View.{windows_of, machine_of}
 use Rattle.rg_view.proofs.Callers.Held.{all-lead}
 use Rattle.rg_view.proofs.Callers.Leave.{temp-top}
-use Rattle.rg_view.proofs.Callers.Need.{keyed, field-counts, closed-not-above}
+use Rattle.rg_view.proofs.Callers.Need.{keyed, closed-not-above}
 use Rattle.rg_view.proofs.Callers.Once.{outside-once}
 use Rattle.rg_view.proofs.Callers.Open.{not-open-closed, number-is, open-back, window-open}
 use Rattle.rg_view.proofs.Callers.Shown.{get-drop, held-body, body-held}
 use Rattle.rg_view.proofs.Callers.Table.{FewerNumbers, fewer-numbers}
 use Rattle.rg_view.proofs.Callers.Window.{active-region}
+use Rattle.rg_view.proofs.Callers.Gone.After.{fields-were, labels-were}
 use Rattle.rg_machine.proofs.Kept.{bridged-as}
-use Rattle.rg_machine.proofs.Release.Behind.{temp-window, most-one, slot-counts-one}
-use Rattle.rg_machine.proofs.New.Grow.{field-held}
+use Rattle.rg_machine.proofs.Release.Behind.{last-parent, most-one, parent-counts, shut-closed, slot-counts-one, temp-window}
 use Rattle.rg_machine.specs.Stands.{BeginsBehind, Stands}
 
 -- the topmost window with its region
@@ -74,6 +72,25 @@ active p v o =
 abbrev pub roots_in : (p : Parts) (v : Stack) → Active p v → Roots
 roots_in p v a = roots_of a.rec.bridge (drop a.window.base v.slots) (top_temps v)
 
+-- no other window has the active region
+pub sole-window : (p : Parts) (v : Stack) → Grove p.cells p.regions → Opened p v → (a : Active p v) → (i : ℕ) (w : WindowRow) → IsWindow v i w
+    → HasNumber p.regions w.region a.rec.number → i ≡ length v.windows - 1
+sole-window p v g o a i w e h =
+    o.differ i (length v.windows - 1) w a.window e a.is
+    (g.numbers w.region a.window.region a.rec.number h (ap (option_map (λ (r : Record). r.number)) a.known))
+
+-- a region leads into one of whose owner references one is lost
+abbrev pub lost-parent : (h : Heap) (n : ℕ) (Cell : ℕ → Type 0) (r : ℕ) → Lost h n Cell r → Parent h n r
+lost-parent h n Cell r l = record {
+  differ = λ e. l.other (sym e);
+  from = l.slot;
+  field = l.field;
+  to = l.to;
+  lies = l.from;
+  leads = l.leads;
+  child_has = l.lies;
+}
+
 module _ (old new : Parts) (v : Stack) (at : ℕ) (q : Serials old.cells.heap) (g : Grove old.cells old.regions) (st : Stands old v)
     (once : owned_once (machine_of old v at) ≡ true) (a : Active old v) (Cell : ℕ → Type 0)
     (c : Collects old new a.window.region a.rec Cell)
@@ -83,11 +100,6 @@ module _ (old new : Parts) (v : Stack) (at : ℕ) (q : Serials old.cells.heap) (
   has : HasNumber old.regions a.window.region a.rec.number
   has = ap (option_map (λ (r : Record). r.number)) a.known
 
-  -- no other window has it
-  pub sole : (i : ℕ) (w : WindowRow) → IsWindow v i w → HasNumber old.regions w.region a.rec.number → i ≡ length v.windows - 1
-  sole i w e h =
-      st.opened.differ i (length v.windows - 1) w a.window e a.is (g.numbers w.region a.window.region a.rec.number h has)
-
   active-open : is_open (windows_of old.regions v) a.rec.number ≡ true
   active-open = window-open old.regions v (keyed old v at q g st.opened) a.rec.number (length v.windows - 1) a.window a.is has
 
@@ -96,24 +108,12 @@ module _ (old new : Parts) (v : Stack) (at : ℕ) (q : Serials old.cells.heap) (
   abbrev pub Goes : ℕ → Type 0
   Goes r = LostBelow old a.rec.number Cell r
 
-  -- the active region leads into one that loses its owner
-  parent : (r : ℕ) → Lost old.cells.heap a.rec.number Cell r → Parent old.cells.heap a.rec.number r
-  parent r l = record {
-    differ = λ e. l.other (sym e);
-    from = l.slot;
-    field = l.field;
-    to = l.to;
-    lies = l.from;
-    leads = l.leads;
-    child_has = l.lies;
-  }
-
   -- it isn't open
   top-not-open : (r : ℕ) → Lost old.cells.heap a.rec.number Cell r → is_open (windows_of old.regions v) r ≡ true → ⊥
   top-not-open r l e =
       let w = open-back old.regions v (keyed old v at q g st.opened) r e in
-      let u = st.opened.parents w.0 w.1 r a.rec.number w.2 w.3 (parent r l) in
-      let last = sole u.0 u.1 u.3 u.4 in
+      let u = st.opened.parents w.0 w.1 r a.rec.number w.2 w.3 (lost-parent old.cells.heap a.rec.number Cell r l) in
+      let last = sole-window old v g st.opened a u.0 u.1 u.3 u.4 in
       let on = u.2 in
       let within = slice_get_within v.windows w.0 w.1 w.2 in
       let some = st.opened.some in
@@ -130,35 +130,23 @@ module _ (old new : Parts) (v : Stack) (at : ℕ) (q : Serials old.cells.heap) (
     | inr x ↦ closed-not-above old v at q g st.opened b.0 r (top-closed b.0 b.1) e x.1
   ]
 
-  closed-in : (r : ℕ) → Goes r → InTable old.regions r → IsClosed old.regions v r
-  closed-in r b known =
-      not-open-closed old.regions v (keyed old v at q g st.opened) r known (never (is_open (windows_of old.regions v) r) (goes-closed r b))
-
   pub not-active : Goes a.rec.number → ⊥
   not-active b = goes-closed a.rec.number b active-open
 
   -- another region leads into it
   owner : (r : ℕ) → Goes r → (p : ℕ) × Parent old.cells.heap p r
   owner r b = elim b.2 [
-    | inl is ↦ subst (λ x. (p : ℕ) × Parent old.cells.heap p x) (sym is) (a.rec.number, parent b.0 b.1)
-    | inr x ↦ last x.1
+    | inl is ↦ subst (λ x. (p : ℕ) × Parent old.cells.heap p x) (sym is) (a.rec.number, lost-parent old.cells.heap a.rec.number Cell b.0 b.1)
+    | inr x ↦ last-parent old.cells.heap x.1
   ]
-    where
-      last : {t r : ℕ} → Above old.cells.heap t r → (p : ℕ) × Parent old.cells.heap p r
-      last (direct {p = p} {r = r} x) = (p, x)
-      last (further {p = p} {q = m} {r = r} x y) = (m, y)
-
-  owner-counts : (p r : ℕ) → Parent old.cells.heap p r
-      → 1 ≤ fields_into (store_of old.cells.heap) (windows_of old.regions v) r (store_of old.cells.heap)
-  owner-counts p r x = field-counts old v at q g st.opened r p x.from x.field x.to x.differ x.lies x.leads x.child_has
 
   -- no slot leads there
   pub no-slot : (j x r : ℕ) → slice_get v.slots j ≡ Some (word.Slot x) → LiesIn old.cells.heap r x → Goes r → ⊥
   no-slot j x r e lies b =
       let one = slot-counts-one old v at q g st r j x e lies in
       let y = owner r b in
-      let two = owner-counts y.0 r y.1 in
-      let most = most-one old v at q g st r (closed-in r b (g.labels r x lies)) once in
+      let two = parent-counts old v at q g st y.0 r y.1 in
+      let most = most-one old v at q g st r (shut-closed old v at q g st r (goes-closed r b) (g.labels r x lies)) once in
       omega (arith, one, two, most)
 
   -- nor does a field of a temporary
@@ -168,7 +156,7 @@ module _ (old new : Parts) (v : Stack) (at : ℕ) (q : Serials old.cells.heap) (
       let y = owner r b in
       let away : LiesIn old.cells.heap r x → ⊥ = λ l. temp-region n r (sym label ∙ l) in
       let single = outside-once old v at q g st.opened st.temps st.numbers once in
-      let same = single r y.1.from y.1.field y.1.to x k to (closed-in r b (g.labels r to lies))
+      let same = single r y.1.from y.1.field y.1.to x k to (shut-closed old v at q g st r (goes-closed r b) (g.labels r to lies))
       (λ l. y.1.differ (region-same y.0 r (sym y.1.lies ∙ l))) y.1.leads y.1.child_has away e lies in
       temp-region n y.0 (sym label ∙ sym (ap (label_at old.cells.heap) same.0) ∙ y.1.lies)
 
@@ -181,13 +169,6 @@ module _ (old new : Parts) (v : Stack) (at : ℕ) (q : Serials old.cells.heap) (
 
   pub same-now : (s : ℕ) → IsHeld new.cells.heap s → body_at new.cells.heap s ≡ body_at old.cells.heap s
   same-now s held = let b = held-body new.cells.heap s held in b.1 ∙ sym (was s b.0 b.1)
-
-  pub label-was : (s : ℕ) (l : Label) → label_at new.cells.heap s ≡ Some l → label_at old.cells.heap s ≡ Some l
-  label-was s l e = sym (ap (option_map (λ (b : Body). b.label)) (same-now s (labelled_held new.cells.heap s l e))) ∙ e
-
-  pub field-was : (s k : ℕ) (w : Word) → field_at new.cells.heap s k ≡ Some w → field_at old.cells.heap s k ≡ Some w
-  field-was s k w e =
-      sym (ap (option_and_then (λ (b : Body). slice_get b.fields k)) (same-now s (field-held new.cells.heap s k w e))) ∙ e
 
   stays-held : (s : ℕ) → body_at new.cells.heap s ≡ body_at old.cells.heap s → IsHeld old.cells.heap s → IsHeld new.cells.heap s
   stays-held s same held = let b = held-body old.cells.heap s held in body-held new.cells.heap s b.0 (same ∙ b.1)
@@ -224,7 +205,7 @@ module _ (old new : Parts) (v : Stack) (at : ℕ) (q : Serials old.cells.heap) (
     where
       behind : j < a.window.base → BeginsBehind old.regions v j a.rec.number
       behind lt i w is h =
-          let at = sole i w is h in
+          let at = sole-window old v g st.opened a i w is h in
           let same : w ≡ a.window = same_Some w a.window (sym is ∙ ap (slice_get v.windows) at ∙ a.is) in
           subst (λ (x : WindowRow). j < x.base) (sym same) lt
 
@@ -236,7 +217,7 @@ module _ (old new : Parts) (v : Stack) (at : ℕ) (q : Serials old.cells.heap) (
         let x = temp-top old v g st.opened s (subst (λ i. IsTempOf v i s) last t) in
         root to lies (in_temps x.0 k s x.1 e)
     | inr d ↦ bridge-root to lies (st.fields i s k to a.rec.number w is t e lies (λ j u at h.
-        let last = sole j u at h in
+        let last = sole-window old v g st.opened a j u at h in
         let within = slice_get_within v.windows i w is in
         omega (arith, last, within, d)))
   ]
@@ -299,7 +280,7 @@ module _ (old new : Parts) (v : Stack) (at : ℕ) (q : Serials old.cells.heap) (
       b.1,
       c.records b.0 d (λ p goes h.
           let number : p ≡ r = same_Some p r (sym h ∙ ap (option_map (λ (r : Record). r.number)) b.2 ∙ ap Some b.3) in
-          let gone = c.lost p s goes (label-was s (Region p) (subst (λ n. LiesIn new.cells.heap n s) (sym number) lies)) in
+          let gone = c.lost p s goes (labels-were old.cells.heap new.cells.heap was s (Region p) (subst (λ n. LiesIn new.cells.heap n s) (sym number) lies)) in
           none-some (Region r) (sym (ap (option_map (λ (b : Body). b.label)) gone) ∙ lies)) ∙ b.2,
       b.3,
       b.4,
@@ -314,9 +295,9 @@ module _ (old new : Parts) (v : Stack) (at : ℕ) (q : Serials old.cells.heap) (
     from = x.from;
     field = x.field;
     to = x.to;
-    lies = label-was x.from (Region p) x.lies;
-    leads = field-was x.from x.field (word.Slot x.to) x.leads;
-    child_has = label-was x.to (Region r) x.child_has;
+    lies = labels-were old.cells.heap new.cells.heap was x.from (Region p) x.lies;
+    leads = fields-were old.cells.heap new.cells.heap was x.from x.field (word.Slot x.to) x.leads;
+    child_has = labels-were old.cells.heap new.cells.heap was x.to (Region r) x.child_has;
   }
 
   pub opened-behind : Opened new v
@@ -331,10 +312,10 @@ module _ (old new : Parts) (v : Stack) (at : ℕ) (q : Serials old.cells.heap) (
         temps = λ i s w e t.
             let label = o.temps i s w e t in
             ap (option_map (λ (b : Body). b.label)) (temp-stays s w.number label) ∙ label;
-        all_temps = λ i s w e l. o.all_temps i s w e (label-was s (Temp w.number) l);
+        all_temps = λ i s w e l. o.all_temps i s w e (labels-were old.cells.heap new.cells.heap was s (Temp w.number) l);
         once = o.once;
         slots = λ j s e. stays-held s (slot-stays j s e) (o.slots j s e);
-        lead = λ j s e k to f. temp-lead j s e k to (field-was s k (word.Slot to) f);
+        lead = λ j s e k to f. temp-lead j s e k to (fields-were old.cells.heap new.cells.heap was s k (word.Slot to) f);
         parents = λ i w n p e h x.
             let u = o.parents i w n p e (old-key w.region n h) (parent-was p n x) in
             (u.0, u.1, u.2, u.3, window-has u.0 u.1 p u.3 u.4);
@@ -358,11 +339,11 @@ module _ (old new : Parts) (v : Stack) (at : ℕ) (q : Serials old.cells.heap) (
     bridges = λ key r e. let u = record-was key r e in bridged-as u.0 r u.2 u.4 (st.bridges key u.0 u.1);
     window_numbers = st.window_numbers;
     windows_next = st.windows_next;
-    temps = λ s n e. st.temps s n (label-was s (Temp n) e);
+    temps = λ s n e. st.temps s n (labels-were old.cells.heap new.cells.heap was s (Temp n) e);
     slots = λ j s r e l b.
-        bridge-stays r s l (st.slots j s r e (label-was s (Region r) l) (λ i w is h. b i w is (window-has i w r is h)));
+        bridge-stays r s l (st.slots j s r e (labels-were old.cells.heap new.cells.heap was s (Region r) l) (λ i w is h. b i w is (window-has i w r is h)));
     fields = λ i s k to r w e t f l b.
-        bridge-stays r to l (st.fields i s k to r w e t (field-was s k (word.Slot to) f) (label-was to (Region r) l)
+        bridge-stays r to l (st.fields i s k to r w e t (fields-were old.cells.heap new.cells.heap was s k (word.Slot to) f) (labels-were old.cells.heap new.cells.heap was to (Region r) l)
         (λ j u is h. b j u is (window-has j u r is h)));
     first_mark = st.first_mark;
   }

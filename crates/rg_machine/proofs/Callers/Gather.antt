@@ -49,7 +49,7 @@ use Rattle.rg_held.proofs.Lists.{reverse-back as reverse-get}
 use Rattle.rg_machine.specs.Collects.{OwnerOutside, holds}
 use Rattle.rg_machine.specs.Stands.{Stands}
 use Rattle.rg_machine.proofs.Callers.Collect.{Active, roots_in}
-use Rattle.rg_machine.proofs.Callers.Collect.{bridge-root, fewer, opened-behind}
+use Rattle.rg_machine.proofs.Callers.Collect.{bridge-root, fewer, lost-parent, opened-behind}
 use Rattle.rg_machine.proofs.Callers.Collect.{root-stays, same-now, serials-behind, slot-root, slot-stays, temp-root, was}
 
 -- Lists
@@ -447,16 +447,7 @@ module _ (old new : Parts) (v : Stack) (at : ℕ) (q : Serials old.cells.heap) (
 
   lost-loses : (n : ℕ) → Lost h r Cell n → L n
   lost-loses n l =
-      let y : Parent h r n = record {
-        differ = λ e. l.other (sym e);
-        from = l.slot;
-        field = l.field;
-        to = l.to;
-        lies = l.from;
-        leads = l.leads;
-        child_has = l.lies;
-      } in
-      let x = link-out r n y in
+      let x = link-out r n (lost-parent h r Cell n l) in
       loses r (sym a.shown) x.link
       (ap (holds h₂) x.object ∙ freed-not l.slot x.body x.held (c.freed l.slot l.from l.gone))
     where

@@ -1,6 +1,6 @@
 -- What callers cite: a collection by mark and sweep keeps as many objects of the active region as the state of the machine that never frees
 -- reaches in it from the topmost window's owner, its variables and its temporaries.
-use Rattle.std.proofs.Common.{◌≡◌, ℕ, ◌-◌, Bool as Truth, true, false, List, [], drop, length, map, Some, option_map, slice_get}
+use Rattle.std.proofs.Common.{◌≡◌, ℕ, ◌-◌, Bool as Truth, true, false, List, [], drop, length, map, Some, slice_get}
 use Rattle.std.proofs.Common.{refl, sym, ap, ◌∙◌, subst, arith}
 use Rattle.std.proofs.lemmas.List.{length-map}
 use Rattle.std.proofs.lemmas.Option.{none-some, same_Some}
@@ -20,7 +20,7 @@ use Rattle.rg_regions.specs.Collection.{OfRegion, roots_of}
 use Rattle.rg_regions.specs.Grove.{Grove, Members}
 use Rattle.rg_regions.specs.Reach.{LiesIn}
 use Rattle.rg_regions.specs.Reach.{Stands as Root}
-use Rattle.rg_regions.specs.Table.{HasNumber, Record, record_at}
+use Rattle.rg_regions.specs.Table.{Record, record_at}
 use Rattle.rg_regions.proofs.Callers.Told.{labelled_held}
 use Rattle.rg_frames.specs.declared.rows.Window.{Window as WindowRow}
 use Rattle.rg_frames.specs.Stack.{IsTop, Stack}
@@ -31,7 +31,6 @@ use Rattle.rg_heap.specs.declared.answers.Collected.{Collected}
 use Rattle.rg_heap.specs.Answers.{AllLead}
 use Rattle.rg_heap.specs.Collects.{Collects, CollectsBy}
 use Rattle.rg_heap.specs.Ends.{top_temps}
-use Rattle.rg_heap.specs.Opened.{IsWindow}
 use Rattle.rg_heap.specs.Parts.{OnTop, Parts}
 use Rattle.rg_view.specs.View.{number_in}
 use Rattle.rg_view.proofs.Callers.Shown.{held-body}
@@ -41,7 +40,7 @@ use Rattle.rg_view.proofs.Callers.Link.{label-in as label-there}
 use Rattle.rg_machine.specs.Collects.{holds}
 use Rattle.rg_machine.specs.Parts.{Parts as Whole, machine_in}
 use Rattle.rg_machine.specs.Stands.{Stands}
-use Rattle.rg_machine.proofs.Callers.Collect.{Active, active, lead-behind, roots_in}
+use Rattle.rg_machine.proofs.Callers.Collect.{Active, active, lead-behind, roots_in, sole-window}
 use Rattle.rg_machine.proofs.Callers.Gather.{holds-back}
 use Rattle.rg_machine.proofs.Callers.Part.{once-held}
 use Rattle.rg_machine.proofs.Callers.ReachCount.{distinct-map, mapped-back, mapped-in, serial_in}
@@ -49,6 +48,7 @@ use Rattle.rg_machine.proofs.Callers.ReachHeld.{body-was, reach-kept}
 use Rattle.rg_machine.proofs.Callers.ReachPath.{distinct-reach, no-longer}
 use Rattle.rg_machine.proofs.Callers.ReachRoot.{reach-in}
 use Rattle.rg_machine.proofs.Callers.ReachShown.{Beside, label-of, lies-there}
+use Rattle.rg_machine.proofs.Callers.Active.{trace-apart}
 
 module _ (old new : Parts) (v : Stack) (at : ℕ) (t : Tree) (code : Code) (s : State) (m : Machine) (z : Beside old v at t code s m)
     (lead : (s : ℕ) → AllLead new.cells.heap s) (a : Active old v)
@@ -68,11 +68,6 @@ module _ (old new : Parts) (v : Stack) (at : ℕ) (t : Tree) (code : Code) (s : 
   no-root : (x : ℕ) → LiesIn h r x → Root h (roots_in old v a) x → Cell x → ⊥
   no-root x lies stands cell = cell (0, omega arith, (lies, stands))
 
-  sole : (i : ℕ) (w : WindowRow) → IsWindow v i w → HasNumber old.regions w.region r → i ≡ length v.windows - 1
-  sole i w e has =
-      z.stands.opened.differ i (length v.windows - 1) w a.window e a.is
-      (z.grove.numbers w.region a.window.region r has (ap (option_map (λ (r : Record). r.number)) a.known))
-
   was : (x : ℕ) (b : Body) → body_at h₂ x ≡ Some b → body_at h x ≡ Some b
   was x b e = body-was old new v at t code s m z lead a Cell c no-root x b e
 
@@ -86,7 +81,7 @@ module _ (old new : Parts) (v : Stack) (at : ℕ) (t : Tree) (code : Code) (s : 
       by : (y : Truth) → among (plain_reach s) b.serial ≡ y → In b.serial (plain_reach s)
       by true is = among-in (plain_reach s) b.serial is
       by false is = absurd (none-some b (sym (c.freed x before (λ reach. among-not (plain_reach s) b.serial is
-          (reach-in old v at t code s m z a sole (z.stands.bridges a.window.region a.rec a.known).1 x b reach (was x b e)))) ∙ e))
+          (reach-in old v at t code s m z a (sole-window old v z.grove z.stands.opened a) (z.stands.bridges a.window.region a.rec a.known).1 x b reach (was x b e)))) ∙ e))
 
   abbrev serial_at : ℕ → ℕ
   serial_at x = serial_in (body_at h₂ x)
@@ -187,9 +182,6 @@ kept-traced t code s mid new m told fit shows part serials g gn st collects is =
     a : Active mid.heap mid.frames
     a = active mid.heap mid.frames st.opened
 
-    counts : Trace ≡ Count → ⊥
-    counts e = cc
-
     by : (manager : Manager) → a.rec.manager ≡ manager
         → CollectsBy manager mid.heap new.heap a.window.region a.rec (roots_of a.rec.bridge (drop a.window.base mid.frames.slots)
         (top_temps mid.frames))
@@ -197,5 +189,5 @@ kept-traced t code s mid new m told fit shows part serials g gn st collects is =
         → told.kept ≡ length (plain_reach s)
     by Arena e x = absurd (none-some told (sym x.0))
     by Count e x =
-        absurd (counts (sym is ∙ ap (λ (x : Collected). x.manager) (same_Some told x.0 x.1) ∙ x.2.manager ∙ e))
+        absurd (trace-apart (sym is ∙ ap (λ (x : Collected). x.manager) (same_Some told x.0 x.1) ∙ x.2.manager ∙ e))
     by Trace e x = kept-reached t code s mid new m a.window a.rec told fit shows part serials g gn st a.is a.known x

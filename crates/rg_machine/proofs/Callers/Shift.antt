@@ -8,8 +8,6 @@ use Rattle.std.proofs.lemmas.List.{length-map, take-map, drop-map}
 use Rattle.std.proofs.lemmas.Option.{none-some, same_Some, slice_get-map}
 use Rattle.rg_base.specs.declared.object.Label.{Label}
 use Rattle.rg_base.specs.declared.object.Label.TheVariants.{Region, Temp}
-use Rattle.rg_base.specs.declared.object.Seen.{Seen}
-use Rattle.rg_base.specs.declared.value.Val.{Val}
 use Rattle.rg_base.specs.declared.value.Word.{Word}
 use Rattle.rg_base.specs.declared.value.Word.TheVariants as word
 use Rattle.rg_base.proofs.Callers.Labels.{slot-same}
@@ -22,14 +20,13 @@ use Rattle.rg_regions.proofs.Callers.Told.{labelled_held}
 use Rattle.rg_frames.specs.declared.rows.Frame.{Frame as FrameRow}
 use Rattle.rg_frames.specs.Layers.{layers_from}
 use Rattle.rg_frames.specs.Stack.{Stack}
-use Rattle.rg_stack.specs.Machine.{Frame}
 use Rattle.rg_heap.specs.Answers.{val_of, obj_of, AllLead}
 use Rattle.rg_heap.specs.Opened.{Opened}
 use Rattle.rg_heap.specs.Parts.{Parts}
 use Rattle.rg_view.specs.Lain.{Nested}
 use Rattle.rg_view.specs.View.{frame_of, frames_of, machine_of, object_of, seen_of, store_of}
 use Rattle.rg_view.proofs.Callers.Look.{look, seen-gone, seen-held}
-use Rattle.rg_view.proofs.Callers.Shown.{body-held, field-in, get-drop, get-take, held-body}
+use Rattle.rg_view.proofs.Callers.Shown.{body-held, field-in, framed, get-drop, get-take, held-body, object}
 use Rattle.rg_machine.specs.Collects.{holds}
 use Rattle.rg_machine.specs.Stands.{Stands}
 use Rattle.rg_machine.proofs.Callers.Gather.{holds-back, holds-there}
@@ -74,13 +71,6 @@ shifted-slot f ws k s e = by (slice_get ws k) refl
     by (Some w) g =
         let x = shift-slot f w s (same_Some (shift f w) (word.Slot s) (sym (slice_get-map (shift f) ws k ∙ ap (option_map (shift f)) g) ∙ e)) in
         (x.0, g ∙ ap Some x.1, x.2)
-
--- an object of these parts, and a frame in front of others
-abbrev object : (class : ℕ) → Label → List Val → Seen
-object c l vs = record { class = c; fields = vs; label = l }
-
-abbrev framed : ℕ → List Frame → List Val → List Frame
-framed back fs vs = record { slots = vs; back = back } ∷ fs
 
 -- words that lead to held cells
 abbrev AllHeld : Heap → List Word → Type 0

@@ -37,6 +37,7 @@ use Rattle.rg_machine.proofs.Callers.ReachShown.{Beside}
 use Rattle.rg_machine.proofs.Callers.Shift.{Shifted, members-back}
 use Rattle.rg_machine.proofs.Callers.Slid.{base-is, moves}
 use Rattle.rg_machine.proofs.Collect.Unmoved.{stayed, unmoved-collects, unmoved-leads, unmoved-shifted}
+use Rattle.rg_machine.proofs.Callers.Active.{trace-apart}
 
 module _ (old new : Parts) (v frames : Stack) (at : ℕ) (t : Tree) (code : Code) (s : State) (m : Machine) (z : Beside old v at t code s m)
     (gn : Grove new.cells new.regions) (a : Active old v) (sl : Slides old new a.window.region a.rec v frames) where
@@ -89,9 +90,6 @@ slid-traced t code s mid new m told fit shows part serials g gn st slides is =
     a : Active mid.heap mid.frames
     a = active mid.heap mid.frames st.opened
 
-    counts : Trace ≡ Count → ⊥
-    counts e = cc
-
     z : Beside mid.heap mid.frames mid.at t code s m
     z = record { serials = serials; grove = g; stands = st; fit = fit; shows = shows; part = part }
 
@@ -100,7 +98,7 @@ slid-traced t code s mid new m told fit shows part serials g gn st slides is =
         → told.kept ≡ length (plain_reach s)
     by Arena e x = absurd (none-some told (sym x.0))
     by Count e x =
-        absurd (counts (sym is ∙ ap (λ (x : Collected). x.manager) (same_Some told x.0.0 x.0.1) ∙ x.0.2.manager ∙ e))
+        absurd (trace-apart (sym is ∙ ap (λ (x : Collected). x.manager) (same_Some told x.0.0 x.0.1) ∙ x.0.2.manager ∙ e))
     by Trace e x =
         ap (λ (x : Collected). x.kept) (same_Some told x.0 x.1) ∙ x.2.kept x.3.slid.own.0 (x.3.own ∙ x.3.slid.own.1)
         ∙ slid-members mid.heap new.heap mid.frames new.frames mid.at t code s m z gn a x.3

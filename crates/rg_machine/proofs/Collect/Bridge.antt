@@ -1,10 +1,9 @@
 -- The bridge of the active region is what the topmost window's owner leads to in the state of the machine that never frees.
-use Rattle.std.proofs.Common.{◌≡◌, ◌≢◌, ◌<◌, ◌⊎◌, inl, inr, ℕ, ◌-◌, Bool as Truth, true, false, if◌then◌else◌, List, [], ◌∷◌}
+use Rattle.std.proofs.Common.{◌≡◌, ◌≢◌, ◌<◌, ◌⊎◌, inl, inr, ℕ, ◌-◌, true, if◌then◌else◌, List, [], ◌∷◌}
 use Rattle.std.proofs.Common.{length, reverse, Option, Some, None, option_map, option_and_then, option_to_list, slice_get, refl, sym, ap, ◌∙◌, subst}
 use Rattle.std.proofs.Common.{arith}
 use Rattle.std.proofs.lemmas.Bool.{cases_eq}
 use Rattle.std.proofs.lemmas.Option.{none-some, same_Some, slice_get_within}
-use Rattle.rg_base.specs.declared.ty.Ty.{Ty}
 use Rattle.rg_base.specs.declared.object.Label.{Label}
 use Rattle.rg_base.specs.declared.object.Label.TheVariants.{Region, Temp, Frozen}
 use Rattle.rg_base.specs.declared.object.Place.{Place}
@@ -16,7 +15,6 @@ use Rattle.rg_base.specs.declared.value.Word.{Word}
 use Rattle.rg_base.specs.declared.value.Word.TheVariants as word
 use Rattle.rg_base.proofs.Callers.Labels.{region-same}
 use Rattle.rg_tree.specs.Tree.{Class, Field, Tree}
-use Rattle.rg_rules.specs.Capabilities.{is_iso}
 use Rattle.rg_rules.specs.Owners.{owned_at, owned_by_field, owned_by_local, owned_by_slot, owned_in_field, owned_in_frame}
 use Rattle.rg_rules.specs.Reach.{value_at}
 use Rattle.rg_rules.specs.Regions.{address, owned, owned_as, region_at}
@@ -34,6 +32,7 @@ use Rattle.rg_frames.specs.declared.rows.Window.{Window as WindowRow}
 use Rattle.rg_frames.specs.Stack.{Stack}
 use Rattle.rg_stack.specs.Machine.{Machine}
 use Rattle.rg_stack.specs.Shows.{sizes_of}
+use Rattle.rg_held.proofs.Gather.Roots.{owned-value}
 use Rattle.rg_heap.specs.Opened.{IsWindow}
 use Rattle.rg_heap.specs.Parts.{Parts}
 use Rattle.rg_view.specs.View.{frames_of, object_of}
@@ -48,16 +47,6 @@ use Rattle.rg_machine.proofs.Callers.ReachShown.{by-owner, owner_leads, roots_le
 use Rattle.rg_machine.proofs.Collect.Slots.{in-front, variable-at}
 
 -- An owner reference is what stands at its place
-
-owned-value : (t : Ty) (x : Val) (a : ℕ) → owned t x ≡ Some a → x ≡ val.Obj a
-owned-value t x a e = by (is_iso t) x e
-  where
-    by : (b : Truth) (x : Val) → (if b then address x else None) ≡ Some a → x ≡ val.Obj a
-    by false x e = absurd (none-some a e)
-    by true val.Nil e = absurd (none-some a e)
-    by true (val.Int n) e = absurd (none-some a e)
-    by true (val.Bool b) e = absurd (none-some a e)
-    by true (val.Obj b) e = ap val.Obj (same_Some b a e)
 
 -- a variable that holds a reference
 pub record VariableOf (frames : List BodyRow) (n i a : ℕ) : Type 0 where

@@ -21,18 +21,14 @@ use Rattle.rg_machine.proofs.Release.Effect.{closed-none, core-same, filter-none
 use Rattle.rg_machine.proofs.End.Slots.{ending-step, frames-less, slot-less}
 use Rattle.rg_machine.proofs.Callers.High.{none-same, none-then}
 use Rattle.rg_machine.proofs.End.Slot.{Bounded, bounded, slot-nil}
-use Rattle.rg_machine.proofs.End.Nil.{backs-ending, ended-core, ending-ended, ending-live, ending-size, list-ended, live-within, next-core}
-use Rattle.rg_machine.proofs.End.Nil.{slot-shown}
+use Rattle.rg_machine.proofs.End.Nil.{backs-ending, ended-core, ending-ended, ending-live, ending-size, live-within, next-core}
+use Rattle.rg_machine.proofs.End.Nil.{size-ended, slot-shown}
 use Rattle.rg_machine.proofs.Write.Slot.{backs-slots}
 
 -- One slot
 
 emptied-size : (c : Core) (s : ℕ) → length (top_slots (emptied c s).machine.frames) ≡ length (top_slots c.machine.frames)
-emptied-size c s = by c.machine.frames
-  where
-    by : (fs : List Frame) → length (top_slots (with_slots (ended_slots s (top_slots fs)) fs)) ≡ length (top_slots fs)
-    by [] = refl
-    by (f ∷ fs) = list-ended f.slots s
+emptied-size c s = size-ended c.machine.frames s
 
 emptied-more : (c : Core) (k : ℕ) → k < length (top_slots c.machine.frames) → slot-nil (emptied c (suc k)) k ≡ emptied c k
 emptied-more c k lt = ap (λ fs. with_machine c (record c.machine { frames = fs })) (frames-less c.machine.frames k lt)

@@ -142,12 +142,12 @@ list-ended (v ∷ vs) (suc s) =
     ap (λ n. suc (length (take s vs ++ replicate n val.Nil))) e ∙ ap suc (list-ended vs s)
 
 -- the topmost frame has as many slots
+pub size-ended : (fs : List Frame) (s : ℕ) → length (top_slots (with_slots (ended_slots s (top_slots fs)) fs)) ≡ length (top_slots fs)
+size-ended [] s = refl
+size-ended (f ∷ fs) s = list-ended f.slots s
+
 pub ending-size : (c : Core) (s : ℕ) → length (top_slots (ending c s).machine.frames) ≡ length (top_slots c.machine.frames)
-ending-size c s = by c.machine.frames
-  where
-    by : (fs : List Frame) → length (top_slots (with_slots (ended_slots s (top_slots fs)) fs)) ≡ length (top_slots fs)
-    by [] = refl
-    by (f ∷ fs) = list-ended f.slots s
+ending-size c s = size-ended c.machine.frames s
 
 -- behind one slot more
 abbrev pub next-core : Core → (k : ℕ) → Core

@@ -23,7 +23,8 @@ use Rattle.rg_machine.specs.Parts.{Parts, machine_in, val_in}
 use Rattle.rg_machine.specs.Cores.{core_of}
 use Rattle.rg_machine.specs.Stands.{Leads, Stands}
 use Rattle.rg_machine.proofs.Release.Effect.{Asked}
-use Rattle.rg_machine.proofs.Release.Fewer.{closed-back, fewer-loose, fewer-nil, loose-none, once-nil, weight}
+use Rattle.rg_machine.proofs.Release.Fewer.{closed-back, fewer-loose, fewer-nil, loose-none, once-nil}
+use Rattle.rg_view.proofs.Callers.Need.{weight}
 use Rattle.rg_machine.proofs.Release.Fewer.{places-nil, places-owned}
 use Rattle.rg_machine.proofs.Release.Behind.{none-loose}
 use Rattle.rg_machine.proofs.Write.Slot.{backs-slots}

@@ -31,6 +31,7 @@ use Rattle.rg_view.proofs.Callers.Gone.Managers.{lives_in, remembered}
 use Rattle.rg_view.proofs.Callers.Gone.Beneath.{beneath-spans, bury-names}
 use Rattle.rg_view.proofs.Callers.Gone.Lists.{among-append, bury-more}
 use Rattle.rg_view.proofs.Callers.Label.{one-is, one-there}
+use Rattle.rg_view.proofs.Callers.Link.{link-at}
 use Rattle.rg_machine.specs.Core.{Core, with_machine}
 use Rattle.rg_machine.specs.Effects.{ending, without}
 use Rattle.rg_machine.proofs.Release.Fewer.{closed-back, closed-buried, store-without}
@@ -92,28 +93,14 @@ module _ (store : List Seen) (regions : List ℕ) where
           ap (option_and_then (λ (o : Seen). region_of o.label)) (there-stays a o r f (label-region o.label r lies) out) ∙ lies
 
   link-was : (p r : ℕ) → Link (bury regions None store) p r → Link store p r
-  link-was p r l = record {
-    object = l.object;
-    holder = l.holder;
-    there = there-was l.object l.holder p l.there l.lies;
-    lies = l.lies;
-    field = l.field;
-    address = l.address;
-    value = l.value;
-    leads = region-was l.address r l.leads;
-  }
+  link-was p r l =
+      link-at l.object l.holder l.field l.address (there-was l.object l.holder p l.there l.lies) l.lies l.value
+      (region-was l.address r l.leads)
 
   link-stays : (p r : ℕ) → among regions p ≡ false → among regions r ≡ false → Link store p r → Link (bury regions None store) p r
-  link-stays p r from to l = record {
-    object = l.object;
-    holder = l.holder;
-    there = there-stays l.object l.holder p l.there l.lies from;
-    lies = l.lies;
-    field = l.field;
-    address = l.address;
-    value = l.value;
-    leads = region-stays l.address r l.leads to;
-  }
+  link-stays p r from to l =
+      link-at l.object l.holder l.field l.address (there-stays l.object l.holder p l.there l.lies from) l.lies l.value
+      (region-stays l.address r l.leads to)
 
 module _ (store : List Seen) (n : ℕ) (bounded : (a r : ℕ) → region_at store a ≡ Some r → r < n) (early late asked : List ℕ) where
   -- what goes at first, and then
@@ -243,14 +230,11 @@ label-stays : (store : List Seen) (regions : List ℕ) (v : Val) (r : ℕ) → l
     → label_of (bury regions None store) v ≡ Some (Region r)
 label-stays store regions v r e out = by (address v) e
   where
-    label-same : (k l : Label) → Some k ≡ Some l → k ≡ l
-    label-same k l e = cc
-
     at : (a : ℕ) (o : Option Seen) → slice_get store a ≡ o → option_and_then (λ (o : Seen). Some o.label) (slice_get store a) ≡ Some (Region r)
         → option_and_then (λ (o : Seen). Some o.label) (slice_get (bury regions None store) a) ≡ Some (Region r)
     at a None f e = absurd (none-some (Region r) (sym (ap (option_and_then (λ (o : Seen). Some o.label)) f) ∙ e))
     at a (Some o) f e =
-        let lies : o.label ≡ Region r = label-same o.label (Region r) (sym (ap (option_and_then (λ (o : Seen). Some o.label)) f) ∙ e) in
+        let lies : o.label ≡ Region r = same_Some o.label (Region r) (sym (ap (option_and_then (λ (o : Seen). Some o.label)) f) ∙ e) in
         ap (option_and_then (λ (o : Seen). Some o.label)) (there-stays store regions a o r f lies out) ∙ ap Some lies
 
     by : (x : Option ℕ) → option_and_then (λ a. option_and_then (λ (o : Seen). Some o.label) (slice_get store a)) x ≡ Some (Region r)

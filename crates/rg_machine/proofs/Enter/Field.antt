@@ -11,6 +11,7 @@ use Rattle.rg_base.specs.declared.outcome.Trap.TheVariants as trap
 use Rattle.rg_base.specs.declared.value.Val.{Val}
 use Rattle.rg_base.specs.declared.value.Word.{Word}
 use Rattle.rg_base.specs.declared.value.Word.TheVariants.{Slot}
+use Rattle.rg_base.proofs.Callers.Labels.{region-same}
 use Rattle.rg_rules.specs.Evaluation.{object_at}
 use Rattle.rg_rules.specs.Regions.{region_of}
 use Rattle.rg_code.specs.Code.{empty}
@@ -25,7 +26,7 @@ use Rattle.rg_heap.specs.Parts.{Parts}
 use Rattle.rg_heap.specs.Answers.{val_of}
 use Rattle.rg_stack.specs.Machine.{slot_at, place_of, top_slots}
 use Rattle.rg_stack.specs.Needs.{is_closed, is_empty, is_field, is_writable, field_of, of_object, of_top, owned_once, owns_or_nil}
-use Rattle.rg_stack.specs.Effects.{Go, Traps, address, begins_by, entered, on_object, on_top, top_region}
+use Rattle.rg_stack.specs.Effects.{Go, Traps, Walked, address, begins_by, entered, on_object, on_top, top_region}
 use Rattle.rg_held.specs.Frees.{free_act}
 use Rattle.rg_held.proofs.Lists.{append-left as got-there}
 use Rattle.rg_view.specs.View.{machine_of, object_of, store_of, values_of, windows_of}
@@ -37,6 +38,7 @@ use Rattle.rg_view.proofs.Callers.Once.{outside-once}
 use Rattle.rg_view.proofs.Callers.Read.{field-there, field-within, object-tested, object-there, pushed-value}
 use Rattle.rg_machine.specs.Core.{Has, work_of}
 use Rattle.rg_machine.specs.Frames.{can_open}
+use Rattle.rg_machine.specs.Parts.{Parts as Whole}
 use Rattle.rg_machine.specs.Cores.{core_of}
 use Rattle.rg_machine.specs.Stands.{AllLead, Stands}
 use Rattle.rg_machine.proofs.Enter.Slot.{ParentBeneath, Entered, entered-by, entered_stack, machine-entered, opens-both}
@@ -104,9 +106,6 @@ module _ (p : Parts) (v : Stack) (at : ℕ) (h : Stands p v) (q : Serials p.cell
       (sym (ap (is_writable (machine_of p v at)) (label-is holder x.body (Region n) x.held lies)) ∙ x.writable)
       ∙ (top p v at q g h.opened).shown
 
-  region-same : (a b : ℕ) → Some (Region a) ≡ Some (Region b) → a ≡ b
-  region-same a b e = cc
-
   -- and has no parent but that of the holder
   pub field-parent : (holder k z b : ℕ) (x : Holds holder k z) (leads : field_at p.cells.heap holder k ≡ Some (Slot b))
       → ParentBeneath p v (field-entered holder k z b x leads).region
@@ -120,6 +119,28 @@ module _ (p : Parts) (v : Stack) (at : ℕ) (h : Stands p v) (q : Serials p.cell
       let is : n ≡ t.number = active-lies holder k z n x (subst (LiesIn p.cells.heap n) same.0 a.lies) in
       let some = h.opened.some in
       (length v.windows - 1, t.window, omega (arith, some), t.is, subst (HasNumber p.regions t.window.region) (sym is) t.has)
+
+  -- up to the field that is looked at
+  to-the-field : (holder k z : ℕ) (words rest : List Word) (printed : Option Val) (code_at : ℕ) (x : Holds holder k z)
+      → words ≡ rest ++ Slot holder ∷ [] → can_open (machine_of p v at) z ≡ true → (go : Go) (input : List ℕ)
+      → free_act empty code_at (i.EnterField k z) go (values_of p.cells.heap words)
+      (work_of (core_of (record { heap = p; frames = v; words = words; at = at; printed = printed })) input)
+      ≡ on_object (store_of p.cells.heap) (field_of (object_of p.cells.heap (Some x.body)) k) (λ b. go 0 (values_of p.cells.heap rest)
+      (entered (work_of (core_of (record { heap = p; frames = v; words = words; at = at; printed = printed })) input)
+      (place.Field (address (val_of p.cells.heap (Slot holder))) k) (field_of (object_of p.cells.heap (Some x.body)) k) z (region_of b.label)))
+  to-the-field holder k z words rest printed code_at x is opens go input =
+      let m = machine_of p v at in
+      let heap = p.cells.heap in
+      let w = work_of (core_of (record { heap = p; frames = v; words = words; at = at; printed = printed })) input in
+      let go_on : List Val → Walked = λ vs. on_top vs (λ r rest. on_object m.store r (λ u. on_object m.store (field_of u k) (λ b.
+      go 0 rest (entered w (place.Field (address r) k) (field_of u k) z (region_of b.label))))) in
+      opens-both (nat_lt z (length (top_slots m.frames))) (begins_by m.windows (place_of m.frames z)) (go_on (values_of heap words)) opens
+      ∙ ap go_on (ap (values_of heap) is ∙ pushed-value heap rest (Slot holder))
+      ∙ ap (λ r. elim r [
+        | Ok u ↦ on_object m.store (field_of u k) (λ b. go 0 (values_of heap rest)
+            (entered w (place.Field (address (val_of heap (Slot holder))) k) (field_of u k) z (region_of b.label)))
+        | Err t ↦ Traps t
+      ]) (object-there heap holder x.body q x.held)
 
   pub enter-field-effect : (holder k z b serial : ℕ) (words rest : List Word) (printed : Option Val) (code_at : ℕ) (x : Holds holder k z)
       (leads : field_at p.cells.heap holder k ≡ Some (Slot b)) → words ≡ rest ++ Slot holder ∷ []
@@ -141,20 +162,11 @@ module _ (p : Parts) (v : Stack) (at : ℕ) (h : Stands p v) (q : Serials p.cell
       let e = field-entered holder k z b x leads in
       let V = val_of heap (Slot holder) in
       let R = values_of heap rest in
-      let shown : values_of heap words ≡ V ∷ R = ap (values_of heap) is ∙ pushed-value heap rest (Slot holder) in
       let o = place.Field (address V) k in
       let serial_is : serial ≡ address V =
       same_Some serial x.body.serial (sym named ∙ ap (option_map (λ (b : Body). b.serial)) x.held)
       ∙ sym (ap address (val-held heap holder x.body x.held)) in
-      opens-both (nat_lt z (length (top_slots m.frames))) (begins_by m.windows (place_of m.frames z))
-      (on_top (values_of heap words) (λ r rest. on_object m.store r (λ u. on_object m.store (field_of u k) (λ b.
-      go 0 rest (entered w (place.Field (address r) k) (field_of u k) z (region_of b.label)))))) opens
-      ∙ ap (λ vs. on_top vs (λ r rest. on_object m.store r (λ u. on_object m.store (field_of u k) (λ b.
-      go 0 rest (entered w (place.Field (address r) k) (field_of u k) z (region_of b.label)))))) shown
-      ∙ ap (λ r. elim r [
-        | Ok u ↦ on_object m.store (field_of u k) (λ b. go 0 R (entered w o (field_of u k) z (region_of b.label)))
-        | Err t ↦ Traps t
-      ]) (object-there heap holder x.body q x.held)
+      to-the-field holder k z words rest printed code_at x is opens go input
       ∙ ap (λ y. on_object m.store y (λ b. go 0 R (entered w o y z (region_of b.label)))) (field-there heap holder k x.body (Slot b) x.held leads)
       ∙ ap (λ r. elim r [ Ok u ↦ go 0 R (entered w o (val_of heap (Slot b)) z (region_of u.label)) | Err t ↦ Traps t ]) e.there
       ∙ ap (λ r. go 0 R (entered w o (val_of heap (Slot b)) z r)) e.label
@@ -175,16 +187,15 @@ module _ (p : Parts) (v : Stack) (at : ℕ) (h : Stands p v) (q : Serials p.cell
       let w = work_of (core_of (record { heap = p; frames = v; words = words; at = at; printed = printed })) input in
       let V = val_of heap (Slot holder) in
       let R = values_of heap rest in
-      let shown : values_of heap words ≡ V ∷ R = ap (values_of heap) is ∙ pushed-value heap rest (Slot holder) in
       let o = place.Field (address V) k in
-      opens-both (nat_lt z (length (top_slots m.frames))) (begins_by m.windows (place_of m.frames z))
-      (on_top (values_of heap words) (λ r rest. on_object m.store r (λ u. on_object m.store (field_of u k) (λ b.
-      go 0 rest (entered w (place.Field (address r) k) (field_of u k) z (region_of b.label)))))) opens
-      ∙ ap (λ vs. on_top vs (λ r rest. on_object m.store r (λ u. on_object m.store (field_of u k) (λ b.
-      go 0 rest (entered w (place.Field (address r) k) (field_of u k) z (region_of b.label)))))) shown
-      ∙ ap (λ r. elim r [
-        | Ok u ↦ on_object m.store (field_of u k) (λ b. go 0 R (entered w o (field_of u k) z (region_of b.label)))
-        | Err t ↦ Traps t
-      ]) (object-there heap holder x.body q x.held)
+      to-the-field holder k z words rest printed code_at x is opens go input
       ∙ ap (λ y. on_object m.store y (λ b. go 0 R (entered w o y z (region_of b.label)))) (field-there heap holder k x.body u x.held leads)
       ∙ ap (λ r. elim r [ Ok b ↦ go 0 R (entered w o (val_of heap u) z (region_of b.label)) | Err t ↦ Traps t ]) none
+
+-- the same, where the code has the machine and its parts, and took its topmost word
+pub holds-of : (m old : Whole) (h : Stands m.heap m.frames) (q : Serials m.heap.cells.heap) (g : Grove m.heap.cells m.heap.regions)
+    (holder k z : ℕ) (rest : List Word) (w : Word) → m ≡ old → AllLead m.heap m.frames m.words → m.words ≡ rest ++ w ∷ [] → w ≡ Slot holder
+    → Has (i.EnterField k z) (core_of old) → Holds m.heap m.frames m.at h q g holder k z
+holds-of m old h q g holder k z rest w view lead words is given =
+    holds m.heap m.frames m.at h q g holder k z m.words rest m.printed lead (words ∙ ap (λ w. rest ++ w ∷ []) is)
+    (subst (λ (m : Whole). Has (i.EnterField k z) (core_of m)) (sym view) given)

@@ -59,6 +59,7 @@ use Rattle.rg_view.proofs.Callers.Need.{ownerless-slot}
 use Rattle.rg_view.proofs.Callers.Instructions.{owns}
 use Rattle.rg_machine.specs.Core.{Has, work_of}
 use Rattle.rg_machine.specs.Frames.{can_open}
+use Rattle.rg_machine.specs.Parts.{Parts as Whole}
 use Rattle.rg_machine.specs.Cores.{core_of}
 use Rattle.rg_machine.specs.Keeps.{SameBacks, backs}
 use Rattle.rg_machine.specs.Stands.{Leads, AllLead, Stands}
@@ -441,6 +442,21 @@ module _ (p : Parts) (v : Stack) (at : ℕ) (h : Stands p v) where
         parent = λ n a. absurd (alone.alone n a.from a.field a.to a.differ a.lies a.leads a.child_has);
       }
 
+  -- up to the slot that is looked at
+  to-the-slot : (s z : ℕ) (words : List Word) (printed : Option Val) (code_at : ℕ) → can_open (machine_of p v at) z ≡ true
+      → (go : Go) (input : List ℕ)
+      → free_act empty code_at (i.Enter s z) go (values_of p.cells.heap words)
+      (work_of (core_of (record { heap = p; frames = v; words = words; at = at; printed = printed })) input)
+      ≡ on_object (store_of p.cells.heap) (slot_at (machine_of p v at) s) (λ u. go 0 (values_of p.cells.heap words)
+      (entered (work_of (core_of (record { heap = p; frames = v; words = words; at = at; printed = printed })) input)
+      (place.Var (frame_number (frames_of p.cells.heap v)) s) (slot_at (machine_of p v at) s) z (region_of u.label)))
+  to-the-slot s z words printed code_at opens go input =
+      let m = machine_of p v at in
+      let w = work_of (core_of (record { heap = p; frames = v; words = words; at = at; printed = printed })) input in
+      opens-both (nat_lt z (length (top_slots m.frames))) (begins_by m.windows (place_of m.frames z))
+      (on_object m.store (slot_at m s) (λ u. go 0 (values_of p.cells.heap words)
+      (entered w (place.Var (frame_number m.frames) s) (slot_at m s) z (region_of u.label)))) opens
+
   pub enter-effect : (s z b : ℕ) (words : List Word) (printed : Option Val) (owner : Place) (code_at : ℕ) (x : CanEnterSlot s b)
       → owner ≡ place.Var (frame_number (frames_of p.cells.heap v)) s → can_open (machine_of p v at) z ≡ true
       → (go : Go) (input : List ℕ)
@@ -458,8 +474,7 @@ module _ (p : Parts) (v : Stack) (at : ℕ) (h : Stands p v) where
       let w = work_of (core_of (record { heap = p; frames = v; words = words; at = at; printed = printed })) input in
       let stack = values_of p.cells.heap words in
       let o = place.Var (frame_number m.frames) s in
-      opens-both (nat_lt z (length (top_slots m.frames))) (begins_by m.windows (place_of m.frames z))
-      (on_object m.store (slot_at m s) (λ u. go 0 stack (entered w o (slot_at m s) z (region_of u.label)))) opens
+      to-the-slot s z words printed code_at opens go input
       ∙ ap (λ y. on_object m.store y (λ u. go 0 stack (entered w o y z (region_of u.label)))) x.shown
       ∙ ap (λ r. elim r [ Ok u ↦ go 0 stack (entered w o (val_of p.cells.heap (Slot b)) z (region_of u.label)) | Err t ↦ Traps t ])
       x.entered.there
@@ -480,7 +495,13 @@ module _ (p : Parts) (v : Stack) (at : ℕ) (h : Stands p v) where
       let w = work_of (core_of (record { heap = p; frames = v; words = words; at = at; printed = printed })) input in
       let stack = values_of p.cells.heap words in
       let o = place.Var (frame_number m.frames) s in
-      opens-both (nat_lt z (length (top_slots m.frames))) (begins_by m.windows (place_of m.frames z))
-      (on_object m.store (slot_at m s) (λ u. go 0 stack (entered w o (slot_at m s) z (region_of u.label)))) opens
+      to-the-slot s z words printed code_at opens go input
       ∙ ap (λ y. on_object m.store y (λ u. go 0 stack (entered w o y z (region_of u.label)))) (slot-word s ∙ ap (val_of p.cells.heap) is)
       ∙ ap (λ r. elim r [ Ok x ↦ go 0 stack (entered w o (val_of p.cells.heap u) z (region_of x.label)) | Err t ↦ Traps t ]) none
+
+-- the same, where the code has the machine and its parts
+pub can-enter-of : (m old : Whole) (h : Stands m.heap m.frames) (s z b : ℕ) → Serials m.heap.cells.heap → Grove m.heap.cells m.heap.regions
+    → m ≡ old → Has (i.Enter s z) (core_of old) → unwrap_or (slice_get m.frames.slots (m.frames.first + s)) Nil ≡ Slot b
+    → CanEnterSlot m.heap m.frames m.at h s b
+can-enter-of m old h s z b q g view given is =
+    can-enter-slot m.heap m.frames m.at h s z b m.words m.printed q g (subst (λ (m : Whole). Has (i.Enter s z) (core_of m)) (sym view) given) is

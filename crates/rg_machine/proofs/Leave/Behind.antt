@@ -39,7 +39,7 @@ use Rattle.rg_view.proofs.Callers.Table.{fewer-numbers}
 use Rattle.rg_view.proofs.Callers.Gone.Temporaries.{top-row, top-temps, owned-temp, temp-owned}
 use Rattle.rg_machine.proofs.Release.Stays.{Stays, stays}
 use Rattle.rg_machine.specs.Stands.{BeginsBehind, OpensLater, Stands}
-use Rattle.rg_machine.proofs.Release.Behind.{most-one, slot-counts-one, temp-window}
+use Rattle.rg_machine.proofs.Release.Behind.{most-one, released-as, slot-counts-one, temp-window}
 
 -- Fronts of lists
 
@@ -134,16 +134,7 @@ module _ (old : Parts) (v : Stack) (at : ℕ) (q : Serials old.cells.heap) (g : 
   from-along r a = (a.0, tops_are.all a.0 (owned-temp old v at q g s.opened a.0 a.1), a.2)
 
   pub released : Released old new Goes (IsTopTemp v)
-  released = record {
-    freed = λ r x b l. rel.freed r x (along r b) l;
-    ended = rel.ended;
-    cells = λ x out keep. rel.cells x (λ r b l. out r (from-along r b) l) keep;
-    removed = λ key r b h. rel.removed key r (along r b) h;
-    records = λ key out. rel.records key (λ r b h. out r (from-along r b) h);
-    serials = rel.serials;
-    high = rel.high;
-    numbers = rel.numbers;
-  }
+  released = released-as old new (GoesAlong old v) Goes (IsTopTemp v) along from-along rel
 
   abbrev pub regions : List ℕ
   regions = beneath_by_labels (store_of old.cells.heap) (length (managers_of old.regions)) tops

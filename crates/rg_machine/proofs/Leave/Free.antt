@@ -36,6 +36,7 @@ use Rattle.rg_view.proofs.Callers.Gone.Temporaries.{top-row, number-shown}
 use Rattle.rg_view.proofs.Callers.Once.{temp-outside}
 use Rattle.rg_machine.specs.Stands.{Stands}
 use Rattle.rg_machine.proofs.Leave.Lists.{seen-was}
+use Rattle.rg_machine.proofs.Leave.Lists.{sooner}
 
 -- what stands in a slot stands in a slot of a frame
 any-slot : (heap : Heap) (test : Val → Truth) (slots : List Word) (first j : ℕ) (fs : List FrameRow) (w : Word) → Nested first (length slots) fs
@@ -69,10 +70,6 @@ any-slot heap test slots first j (f ∷ fs) w n e is = elim (order j first) [
     later : (t : Truth) {u : Truth} → u ≡ true → (t || u) ≡ true
     later true e = refl
     later false e = e
-
-    sooner : (t u : Truth) → t ≡ true → (t || u) ≡ true
-    sooner true u e = refl
-    sooner false u e = absurd (false≢true e)
 
 not-true : (b : Truth) → not b ≡ true → b ≡ true → ⊥
 not-true true n e = false≢true n

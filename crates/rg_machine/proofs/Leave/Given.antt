@@ -8,6 +8,7 @@ use Rattle.rg_cells.specs.Table.{Heap, Serials}
 use Rattle.rg_regions.specs.Grove.{Grove}
 use Rattle.rg_frames.specs.Layers.{Layer, layers}
 use Rattle.rg_frames.specs.Stack.{Stack, MarksLie}
+use Rattle.rg_heap.specs.Ends.{CanLeave, GoesAlong, IsTopTemp, Released}
 use Rattle.rg_heap.specs.Parts.{Parts as HeapParts}
 use Rattle.rg_stack.specs.Machine.{Window, end_slots, place_of, top_slots}
 use Rattle.rg_stack.specs.Effects.{Go, without_top}
@@ -23,9 +24,10 @@ use Rattle.rg_machine.specs.Parts.{Parts, machine_in}
 use Rattle.rg_machine.specs.Cores.{core_of}
 use Rattle.rg_machine.specs.Stands.{Stands}
 use Rattle.rg_machine.proofs.Release.Fewer.{fewer-ended, fewer-once, fewer-without}
-use Rattle.rg_machine.proofs.Leave.Heap.{number}
+use Rattle.rg_machine.proofs.Leave.Behind.{left}
+use Rattle.rg_machine.proofs.Leave.Heap.{may-leave, number}
 use Rattle.rg_machine.proofs.Leave.Effect.{ends-none}
-use Rattle.rg_machine.proofs.Leave.Whole.{empty-words}
+use Rattle.rg_machine.proofs.Leave.Whole.{empty-words, whole-effect, whole-stands}
 
 -- nothing is on the stack, and each closed region is owned once
 leave-front : (c : Core) (s : ℕ) → Has (i.Leave s) c → (is_empty c.stack ≡ true) × (owned_once c.machine ≡ true)
@@ -91,3 +93,36 @@ leave-alone p mid s e few at go input =
     ∙ ap (λ ws. go 0 c.stack (record { machine = record (ending c s).machine { windows = ws }; input = input; printed = c.printed }))
     (alone-stays m.windows ends)
     ∙ sym (ap (λ (k : Core). go 0 k.stack (work_of k input)) e)
+
+-- all of it in one, where the code has the machine and its parts (p), and the same behind the end of the slots (mid)
+module _ (p old mid ended : Parts) (s : ℕ) (view : p ≡ old) (behind : mid ≡ ended) (ends : core_of ended ≡ ending (core_of old) s)
+    (has : Has (i.Leave s) (core_of old)) where
+  pub mid-ended : core_of mid ≡ ending (core_of p) s
+  mid-ended = ap core_of behind ∙ ends ∙ ap (λ (x : Parts). ending (core_of x) s) (sym view)
+
+  pub mid-given : Has (i.Leave s) (core_of p)
+  mid-given = subst (λ (x : Parts). Has (i.Leave s) (core_of x)) (sym view) has
+
+  mid-once : owned_once (machine_in mid) ≡ true
+  mid-once = once-behind (core_of p) (core_of mid) s mid-ended mid-given
+
+  module _ (q : Serials mid.heap.cells.heap) (g : Grove mid.heap.cells mid.heap.regions) (h : Stands mid.heap mid.frames)
+      (two : 2 ≤ length mid.frames.windows) (lie : MarksLie mid.frames) where
+    pub mid-may-leave : CanLeave mid.heap mid.frames
+    mid-may-leave = may-leave mid.heap mid.frames mid.at q g h two mid-once lie
+
+    module _ (fits : mid.frames.next < 2 ^ 64) (q0 : Serials p.heap.cells.heap) (g0 : Grove p.heap.cells p.heap.regions)
+        (h0 : Stands p.heap p.frames) (new : Parts) (gn : Grove new.heap.cells new.heap.regions)
+        (rel : Released mid.heap new.heap (GoesAlong mid.heap mid.frames) (IsTopTemp mid.frames)) where
+      pub mid-stands : Stands new.heap (left mid.frames)
+      mid-stands =
+          whole-stands p mid s q0 g0 h0 q g h mid-ended mid-given mid-once two lie
+          (number-fits mid.heap mid.frames mid.at q g h two mid-once lie fits) new gn rel
+
+      pub mid-effect : new.frames ≡ left mid.frames → new.words ≡ mid.words → new.at ≡ mid.at → new.printed ≡ mid.printed
+          → (at : ℕ) (go : Go) (input : List ℕ)
+          → free_act empty at (i.Leave s) go (core_of p).stack (work_of (core_of p) input)
+          ≡ go 0 (core_of new).stack (work_of (core_of new) input)
+      mid-effect =
+          whole-effect p mid s q0 g0 h0 q g h mid-ended mid-given mid-once two lie
+          (number-fits mid.heap mid.frames mid.at q g h two mid-once lie fits) new gn rel

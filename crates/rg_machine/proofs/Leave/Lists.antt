@@ -21,6 +21,7 @@ use Rattle.rg_held.specs.Gone.{gone}
 use Rattle.rg_view.specs.Links.{ByTemp, Link, Reached, first, next, Spans}
 use Rattle.rg_view.specs.Names.{Names}
 use Rattle.rg_view.proofs.Callers.Gone.Lists.{among-append}
+use Rattle.rg_view.proofs.Callers.Link.{link-at}
 
 -- An object of a store in which some are buried
 
@@ -89,29 +90,14 @@ module _ (store : List Seen) (regions : List ℕ) where
   link-was : (p r : ℕ) → Link less p r → Link store p r
   link-was p r l = elim (seen-was regions store l.object l.holder l.there) [
     | inl is ↦ absurd (gone-region p l.holder is l.lies)
-    | inr was ↦ record {
-      object = l.object;
-      holder = l.holder;
-      there = was.0;
-      lies = l.lies;
-      field = l.field;
-      address = l.address;
-      value = l.value;
-      leads = region-was l.address r l.leads;
-    }
+    | inr was ↦ link-at l.object l.holder l.field l.address was.0 l.lies l.value (region-was l.address r l.leads)
   ]
 
   link-stays : (p r : ℕ) → Link store p r → among regions p ≡ false → among regions r ≡ false → Link less p r
-  link-stays p r l from to = record {
-    object = l.object;
-    holder = l.holder;
-    there = seen-stays regions store l.object l.holder l.there (ap (in_regions regions) l.lies ∙ from);
-    lies = l.lies;
-    field = l.field;
-    address = l.address;
-    value = l.value;
-    leads = region-stays l.address r l.leads to;
-  }
+  link-stays p r l from to =
+      link-at l.object l.holder l.field l.address
+      (seen-stays regions store l.object l.holder l.there (ap (in_regions regions) l.lies ∙ from)) l.lies l.value
+      (region-stays l.address r l.leads to)
 
   -- Values that lead into closed regions
 
@@ -212,16 +198,17 @@ spans-names store tops regions s = record { all = reach; only = s.only }
     reach r (first i) = s.start r i
     reach r (next {p = p} {r = q} x l) = s.along p q (reach p x) l
 
+-- a test that the first of two passes
+pub sooner : (t u : Truth) → t ≡ true → (t || u) ≡ true
+sooner true u e = refl
+sooner false u e = absurd (false≢true e)
+
 module _ (store : List Seen) (early more left regions late : List ℕ) (one : Spans store early regions)
     (two : Spans (bury regions None store) left late) (was : (r : ℕ) → among left r ≡ true → among more r ≡ true)
     (stays : (r : ℕ) → among more r ≡ true → among regions r ≡ false → among left r ≡ true) where
   later : (t u : Truth) → u ≡ true → (t || u) ≡ true
   later true u e = refl
   later false u e = e
-
-  sooner : (t u : Truth) → t ≡ true → (t || u) ≡ true
-  sooner true u e = refl
-  sooner false u e = absurd (false≢true e)
 
   reach-more : (r : ℕ) → Reached store early r → Reached store (early ++ more) r
   reach-more r (first i) = first (among-append early more r ∙ sooner (among early r) (among more r) i)

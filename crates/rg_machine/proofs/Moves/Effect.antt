@@ -1,6 +1,6 @@
 -- The machine behind a freeze and a merge, and what these do.
 use Rattle.std.proofs.Common.{◌≡◌, ◌⊎◌, inl, inr, ℕ, zero, suc, ◌+◌, ◌&&◌, Bool as Truth, true, false, not, List, [], ◌∷◌, ◌++◌, map}
-use Rattle.std.proofs.Common.{Option, Result, Some, None, Ok, Err, ok_or, option_map, slice_get, slice_set, unwrap_or, sym, ap, subst, ◌∙◌}
+use Rattle.std.proofs.Common.{Option, Result, Some, None, Ok, Err, ok_or, option_map, slice_get, slice_set, unwrap_or, refl, sym, ap, subst, ◌∙◌}
 use Rattle.std.specs.Prelude.{ℤ}
 use Rattle.std.specs.List.{list_any}
 use Rattle.std.proofs.lemmas.List.{reverse-append}
@@ -37,7 +37,10 @@ use Rattle.rg_view.proofs.Callers.Frame.{slot-frames}
 use Rattle.rg_view.proofs.Callers.Label.{labels-same}
 use Rattle.rg_view.proofs.Callers.Gone.Managers.{labelled-forgotten}
 use Rattle.rg_held.specs.Frees.{forgotten, free_act}
-use Rattle.rg_machine.specs.Core.{Core, Has, work_of}
+use Rattle.rg_stack.specs.Refusals.{Takes}
+use Rattle.rg_machine.specs.declared.next.Next.TheVariants as next
+use Rattle.rg_machine.specs.Acts.{Acts}
+use Rattle.rg_machine.specs.Core.{ActIs, Core, Effect, Has, work_of}
 use Rattle.rg_machine.specs.Keeps.{backs}
 use Rattle.rg_machine.specs.Parts.{Parts as Whole, machine_in}
 use Rattle.rg_machine.specs.Cores.{core_of}
@@ -157,6 +160,11 @@ no-object-acts y now same st k w is n F =
     (ap (λ (r : Result Seen Trap). elim r [ Ok o ↦ F o | Err t ↦ Traps t ])
     (ap (object_at (store_of y.heap.cells.heap)) (slot-shown y.heap y.frames y.at st k ∙ ap (val_of y.heap.cells.heap) (sym is))
     ∙ no-object y.heap (store_of y.heap.cells.heap) w n))
+
+-- what takes an object from a slot traps where there is none, and changes nothing
+pub takes-nothing : {f : Effect} {at : ℕ} (p : Whole) → ActIs f at (core_of p) (core_of p) (next.Trap trap.Nil)
+    → Acts f at Takes false false p p (next.Trap trap.Nil)
+takes-nothing p effect = record { effect = effect; keeps = refl; high = record { made = refl; high = refl } }
 
 -- an element of a list, or the one behind it
 behind-last : (words : List Word) (w y : Word) (j : ℕ) → slice_get (words ++ w ∷ []) j ≡ Some y → (slice_get words j ≡ Some y) ⊎ (w ≡ y)

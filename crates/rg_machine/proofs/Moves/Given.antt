@@ -11,6 +11,7 @@ use Rattle.rg_base.specs.declared.outcome.Trap.TheVariants as trap
 use Rattle.rg_base.specs.declared.value.Val.TheVariants as val
 use Rattle.rg_base.specs.declared.value.Word.{Word}
 use Rattle.rg_base.specs.declared.value.Word.TheVariants as word
+use Rattle.rg_base.proofs.Callers.Labels.{temp-region}
 use Rattle.rg_rules.specs.Evaluation.{object_at}
 use Rattle.rg_rules.specs.Regions.{among}
 use Rattle.rg_cells.specs.Table.{field_at, Serials, IsHeld}
@@ -50,9 +51,6 @@ region-frozen r e = cc
 
 temp-frozen : (n : ℕ) → Temp n ≡ Frozen → ⊥
 temp-frozen n e = cc
-
-temp-region : (n r : ℕ) → Temp n ≡ Region r → ⊥
-temp-region n r e = cc
 
 region-same : (a b : ℕ) → Region a ≡ Region b → a ≡ b
 region-same a b e = cc
@@ -324,7 +322,7 @@ module _ (p : Parts) (v : Stack) (at : ℕ) (q : Serials p.cells.heap) (g : Grov
     pub merge-moves : Moves p new v (v.first + k) (x.region ∷ []) (Region active.number)
     merge-moves = record {
       labels = merged-labels;
-      no_temp = λ n e. temp-region n active.number e;
+      no_temp = λ n e. temp-region n active.number (ap Some e);
       closed = λ n a. ap (is_open (windows_of p.regions v)) (sym (one-is x.region n a)) ∙ not-open;
       numbers = merge-numbers p new x.key active.window.region from.0 into.0 m from.1 into.1;
       kept = merged-kept;

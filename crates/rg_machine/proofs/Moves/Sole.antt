@@ -1,19 +1,18 @@
 -- Where each closed region is owned once, a slot that leads into one is the only place that does.
-use Rattle.std.proofs.Common.{◌≡◌, ◌≤◌, ◌==◌, ◌+◌, inl, inr, ℕ, true, cond, List, [], ◌∷◌, map, take}
-use Rattle.std.proofs.Common.{drop, reverse, length, Option, Some, None, option_map, slice_get, count_by, refl, sym, ap, ◌∙◌, subst, arith}
+use Rattle.std.proofs.Common.{◌≡◌, ◌≤◌, ◌==◌, ◌+◌, inl, inr, ℕ, true, List, [], ◌∷◌, map, take}
+use Rattle.std.proofs.Common.{drop, reverse, length, Some, option_map, slice_get, count_by, refl, sym, ap, ◌∙◌, subst, arith}
 use Rattle.std.specs.List.{sum_by}
 use Rattle.std.proofs.lemmas.Bool.{cases_eq, eq-eqb as eq-is}
 use Rattle.std.proofs.lemmas.List.{take-map, drop-map, length-take-le}
 use Rattle.std.proofs.lemmas.List.Sums.{sum_by-cons, sum_by-take-drop}
-use Rattle.std.proofs.lemmas.Option.{none-some, same_Some, slice_get-map}
+use Rattle.std.proofs.lemmas.Option.{slice_get-map}
 use Rattle.std.proofs.lemmas.Map.Keys.{any_passes_from_place as any-in}
 use Rattle.rg_base.specs.declared.object.Label.TheVariants.{Temp}
 use Rattle.rg_base.specs.declared.object.Seen.{Seen}
 use Rattle.rg_base.specs.declared.value.Val.{Val}
 use Rattle.rg_base.specs.declared.value.Word.{Word}
 use Rattle.rg_base.specs.declared.value.Word.TheVariants as word
-use Rattle.rg_cells.specs.declared.cell.Body.{Body}
-use Rattle.rg_cells.specs.Table.{Heap, body_at, label_at, field_at, Serials}
+use Rattle.rg_cells.specs.Table.{Heap, label_at, field_at, Serials}
 use Rattle.rg_regions.specs.Reach.{LiesIn}
 use Rattle.rg_regions.specs.Grove.{Grove}
 use Rattle.rg_frames.specs.declared.rows.Frame.{Frame as FrameRow}
@@ -21,19 +20,17 @@ use Rattle.rg_frames.specs.declared.rows.Window.{Window as WindowRow}
 use Rattle.rg_frames.specs.Stack.{Stack}
 use Rattle.rg_stack.specs.Machine.{Frame, Window}
 use Rattle.rg_stack.specs.Needs.{slots_into, fields_into, owned_once}
-use Rattle.rg_stack.specs.Labels.{is_into, is_outside, has_window}
+use Rattle.rg_stack.specs.Labels.{is_into, has_window}
 use Rattle.rg_heap.specs.Parts.{Parts}
 use Rattle.rg_heap.specs.Answers.{val_of, IsClosed}
 use Rattle.rg_heap.specs.Opened.{Opened, IsWindow}
-use Rattle.rg_held.proofs.Lists.{sum-one, count-one as count-hit}
-use Rattle.rg_view.specs.View.{object_of, store_of, window_of, windows_of, machine_of}
+use Rattle.rg_held.proofs.Lists.{count-one as count-hit}
+use Rattle.rg_view.specs.View.{store_of, window_of, windows_of, machine_of}
 use Rattle.rg_view.specs.Numbers.{Numbers}
 use Rattle.rg_view.specs.Lain.{Nested, Lain}
-use Rattle.rg_view.proofs.Callers.Look.{store-held}
-use Rattle.rg_view.proofs.Callers.Shown.{field-in}
 use Rattle.rg_view.proofs.Callers.Frame.{frames_from}
 use Rattle.rg_view.proofs.Callers.Open.{any-map, any-reverse, into-there}
-use Rattle.rg_view.proofs.Callers.Need.{places-most, weight}
+use Rattle.rg_view.proofs.Callers.Need.{label-counts, places-most, weight}
 use Rattle.rg_view.proofs.Callers.Once.{count-two}
 
 -- what the slots of all frames count is what all slots do
@@ -80,33 +77,13 @@ module _ (p : Parts) (v : Stack) (at : ℕ) (q : Serials p.cells.heap) (g : Grov
   temp-counts : (r i s k to : ℕ) (w : WindowRow) → IsWindow v i w → label_at p.cells.heap s ≡ Some (Temp w.number)
       → field_at p.cells.heap s k ≡ Some (word.Slot to) → LiesIn p.cells.heap r to
       → 1 ≤ fields_into (store_of p.cells.heap) (windows_of p.regions v) r (store_of p.cells.heap)
-  temp-counts r i s k to w is temp leads into = by (body_at p.cells.heap s) refl
+  temp-counts r i s k to w is temp leads into = label-counts p v at q g o r s k to (Temp w.number) temp has leads into
     where
       has : has_window (windows_of p.regions v) w.number ≡ true
       has =
           any-map (window_of p.regions) (λ (u : Window). u.number == w.number) (reverse v.windows)
           ∙ any-reverse (λ (u : WindowRow). u.number == w.number) v.windows
           ∙ any-in (λ (u : WindowRow). u.number == w.number) v.windows i w is (eq-is w.number w.number refl)
-
-      by : (c : Option Body) → body_at p.cells.heap s ≡ c
-          → 1 ≤ fields_into (store_of p.cells.heap) (windows_of p.regions v) r (store_of p.cells.heap)
-      by None e = absurd (none-some (Temp w.number) (sym (ap (option_map (λ (b : Body). b.label)) e) ∙ temp))
-      by (Some b) e =
-          let one = count-hit (is_into (store_of p.cells.heap) r) (map (val_of p.cells.heap) b.fields) k (val_of p.cells.heap (word.Slot to))
-          (slice_get-map (val_of p.cells.heap) b.fields k
-          ∙ ap (option_map (val_of p.cells.heap)) (sym (field-in p.cells.heap s k b e) ∙ leads))
-          (into-there p.cells.heap r to q into) in
-          let label : b.label ≡ Temp w.number = same_Some b.label (Temp w.number) (sym (ap (option_map (λ (b : Body). b.label)) e) ∙ temp) in
-          let outside : is_outside (windows_of p.regions v) r b.label ≡ true =
-          ap (is_outside (windows_of p.regions v) r) label ∙ has in
-          let counts : cond (is_outside (windows_of p.regions v) r b.label)
-          (count_by (is_into (store_of p.cells.heap) r) (map (val_of p.cells.heap) b.fields)) 0
-          ≡ count_by (is_into (store_of p.cells.heap) r) (map (val_of p.cells.heap) b.fields) =
-          ap (λ t. cond t (count_by (is_into (store_of p.cells.heap) r) (map (val_of p.cells.heap) b.fields)) 0) outside in
-          let hit = sum-one (λ (x : Seen). cond (is_outside (windows_of p.regions v) r x.label)
-          (count_by (is_into (store_of p.cells.heap) r) x.fields) 0) (store_of p.cells.heap) b.serial (object_of p.cells.heap (Some b))
-          (store-held p.cells.heap s b q e) in
-          omega (arith, one, counts, hit)
 
   -- beside a slot no field of a temporary leads into a closed region
   pub sole-temp : (r j s₂ i s k to : ℕ) (w : WindowRow) → Lain v → Numbers p.regions → IsClosed p.regions v r

@@ -7,11 +7,11 @@ use Rattle.rg_base.specs.declared.object.Label.{Label}
 use Rattle.rg_base.specs.declared.value.Word.{Word}
 use Rattle.rg_base.specs.declared.value.Word.TheVariants.{Nil, Int, Bool, Slot}
 use Rattle.rg_cells.specs.declared.cell.Body.{Body}
-use Rattle.rg_cells.specs.Table.{Table, body_at, body_in, field_at, label_at, IsHeld}
+use Rattle.rg_cells.specs.Table.{Table, body_at, field_at, label_at, IsHeld}
 use Rattle.rg_regions.proofs.Callers.Told.{labelled_held}
 use Rattle.rg_stack.specs.Needs.{leads_nowhere}
 use Rattle.rg_heap.specs.Changes.{LeadsNowhere, Makes}
-use Rattle.rg_view.proofs.Callers.New.{made-body}
+use Rattle.rg_view.proofs.Callers.New.{made-body, other-body}
 use Rattle.rg_view.proofs.Callers.Shown.{held-body, body-held}
 
 -- words of which the test says that none leads anywhere
@@ -29,9 +29,6 @@ nowhere (Slot x ∷ ws) h k s e = false≢true h
 
 module _ (old new : Table) (slot class : ℕ) (label : Label) (fields : List Word) (m : Makes old new slot class label fields)
     (plain : LeadsNowhere fields) where
-  other-body : (s : ℕ) → s ≢ slot → body_at new.heap s ≡ body_at old.heap s
-  other-body s d = ap body_in (m.made.others s d)
-
   pub held-other : (s : ℕ) → IsHeld old.heap s → s ≢ slot
   held-other s h is = let b = held-body old.heap s h in none-some b.0 (sym m.takes.vacant ∙ ap (body_at old.heap) (sym is) ∙ b.1)
 
@@ -39,7 +36,7 @@ module _ (old new : Table) (slot class : ℕ) (label : Label) (fields : List Wor
   made-held s h = let b = held-body old.heap s h in body-held new.heap s b.0 (made-body old new slot class label fields m s b.0 b.1)
 
   pub label-held : (s : ℕ) → IsHeld old.heap s → label_at new.heap s ≡ label_at old.heap s
-  label-held s h = ap (option_map (λ (b : Body). b.label)) (other-body s (held-other s h))
+  label-held s h = ap (option_map (λ (b : Body). b.label)) (other-body old new slot class label fields m s (held-other s h))
 
   pub made-label : (s : ℕ) (l : Label) → label_at old.heap s ≡ Some l → label_at new.heap s ≡ Some l
   made-label s l e = label-held s (labelled_held old.heap s l e) ∙ e
@@ -54,7 +51,7 @@ module _ (old new : Table) (slot class : ℕ) (label : Label) (fields : List Wor
   pub label-was : (s : ℕ) (l : Label) → label_at new.heap s ≡ Some l → (label_at old.heap s ≡ Some l) ⊎ ((s ≡ slot) × (label ≡ l))
   label-was s l e = elim (cases_eq s slot) [
     | inl is ↦ inr (is, same_Some label l (sym label-new ∙ ap (label_at new.heap) (sym is) ∙ e))
-    | inr d ↦ inl (sym (ap (option_map (λ (b : Body). b.label)) (other-body s d)) ∙ e)
+    | inr d ↦ inl (sym (ap (option_map (λ (b : Body). b.label)) (other-body old new slot class label fields m s d)) ∙ e)
   ]
 
   pub made-field : (s k to : ℕ) → field_at new.heap s k ≡ Some (Slot to) → field_at old.heap s k ≡ Some (Slot to)
@@ -62,7 +59,7 @@ module _ (old new : Table) (slot class : ℕ) (label : Label) (fields : List Wor
     | inl is ↦
         absurd (plain k to (sym (ap (option_and_then (λ (b : Body). slice_get b.fields k)) m.made.body)
         ∙ ap (λ x. field_at new.heap x k) (sym is) ∙ e))
-    | inr d ↦ sym (ap (option_and_then (λ (b : Body). slice_get b.fields k)) (other-body s d)) ∙ e
+    | inr d ↦ sym (ap (option_and_then (λ (b : Body). slice_get b.fields k)) (other-body old new slot class label fields m s d)) ∙ e
   ]
 
   pub held-new : IsHeld new.heap slot

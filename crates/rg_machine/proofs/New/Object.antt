@@ -21,7 +21,7 @@ use Rattle.rg_stack.specs.Effects.{top_region, top_window}
 use Rattle.rg_heap.specs.Parts.{Parts, OnTop}
 use Rattle.rg_heap.specs.Answers.{AllLead as FieldsLead, val_of, obj_of, IsClosed}
 use Rattle.rg_heap.specs.Changes.{LeadsNowhere, Makes, OnActive, OpensOne, Rewritten, with_one}
-use Rattle.rg_heap.specs.Opened.{IsTempOf}
+use Rattle.rg_heap.specs.Opened.{IsTempOf, IsWindow}
 use Rattle.rg_held.proofs.Lists.{reverse-back}
 use Rattle.rg_view.specs.View.{machine_of, managers_of, store_of, values_of, windows_of}
 use Rattle.rg_view.proofs.Callers.Look.{store-length}
@@ -36,7 +36,7 @@ use Rattle.rg_view.proofs.Callers.Window.{active-region, active-number}
 use Rattle.rg_machine.specs.Core.{Core, with_machine, with_made}
 use Rattle.rg_machine.specs.Cores.{core_of}
 use Rattle.rg_machine.specs.Stands.{AllLead, Leads, Stands}
-use Rattle.rg_machine.proofs.New.Grow.{Grown, grown-stands, grown-more-lead}
+use Rattle.rg_machine.proofs.New.Grow.{Grown, grown-stands, grown-more-lead, with_temps}
 use Rattle.rg_machine.proofs.New.Temporary.{temp-on, temp-back, temp-new, temp-held}
 use Rattle.rg_machine.proofs.New.Cells.{held-other, made-held, made-label, made-back, label-new, label-was, made-field, held-new}
 use Rattle.rg_machine.proofs.Kept.{Kept, rewritten-kept, equal-kept, opens-kept, opens-bridge, equal-numbers}
@@ -54,25 +54,37 @@ made-values old new v words slot class label fields m l =
     let j = reverse-back words k (Slot s) e in
     made-same old.cells new.cells slot class label fields m s ((l j.0 (Slot s) j.1).held s refl)))
 
+-- what comes with an object
+grown-by : (old new : Parts) (v : Stack) (slot class : ℕ) (label : Label) (fields : List Word)
+    → Makes old.cells new.cells slot class label fields → LeadsNowhere fields → Kept old.regions new.regions → (ts : List ℕ)
+    → ((i s : ℕ) (w : Window) → IsWindow v i w → IsTempOf (with_temps v ts) i s → label_at new.cells.heap s ≡ Some (Temp w.number))
+    → ((i s : ℕ) (w : Window) → IsWindow v i w → label_at new.cells.heap s ≡ Some (Temp w.number) → IsTempOf (with_temps v ts) i s)
+    → ((j k s : ℕ) → slice_get ts j ≡ Some s → slice_get ts k ≡ Some s → j ≡ k)
+    → ((s n : ℕ) → label_at new.cells.heap s ≡ Some (Temp n) → (i : ℕ) × (w : Window) × IsWindow v i w × (w.number ≡ n))
+    → Grown old new v ts
+grown-by old new v slot class label fields m plain k ts temps all_temps once windows = record {
+  held = made-held old.cells new.cells slot class label fields m plain;
+  label = made-label old.cells new.cells slot class label fields m plain;
+  label_back = made-back old.cells new.cells slot class label fields m plain;
+  field_back = made-field old.cells new.cells slot class label fields m plain;
+  number = k.number;
+  bridge = k.bridge;
+  numbers = k.numbers;
+  bridges = k.bridges;
+  temps = temps;
+  all_temps = all_temps;
+  once = once;
+  windows = windows;
+}
+
 module _ (old new : Parts) (v : Stack) (slot class : ℕ) (label : Label) (fields : List Word)
     (m : Makes old.cells new.cells slot class label fields) (plain : LeadsNowhere fields) (g : Grove old.cells old.regions) (st : Stands old v)
     (k : Kept old.regions new.regions) where
   -- an object of a region comes
   made-grown : (r : ℕ) → label ≡ Region r → Grown old new v v.temps
-  made-grown r is = record {
-    held = made-held old.cells new.cells slot class label fields m plain;
-    label = made-label old.cells new.cells slot class label fields m plain;
-    label_back = made-back old.cells new.cells slot class label fields m plain;
-    field_back = made-field old.cells new.cells slot class label fields m plain;
-    number = k.number;
-    bridge = k.bridge;
-    numbers = k.numbers;
-    bridges = k.bridges;
-    temps = λ i s w e t. made-label old.cells new.cells slot class label fields m plain s (Temp w.number) (st.opened.temps i s w e t);
-    all_temps = λ i s w e l. st.opened.all_temps i s w e (was s w.number l);
-    once = st.opened.once;
-    windows = λ s n l. st.temps s n (was s n l);
-  }
+  made-grown r is = grown-by old new v slot class label fields m plain k v.temps
+      (λ i s w e t. made-label old.cells new.cells slot class label fields m plain s (Temp w.number) (st.opened.temps i s w e t))
+      (λ i s w e l. st.opened.all_temps i s w e (was s w.number l)) st.opened.once (λ s n l. st.temps s n (was s n l))
     where
       was : (s n : ℕ) → label_at new.cells.heap s ≡ Some (Temp n) → label_at old.cells.heap s ≡ Some (Temp n)
       was s n e = elim (label-was old.cells new.cells slot class label fields m plain s (Temp n) e) [
@@ -201,32 +213,24 @@ module _ (old new : Parts) (v : Stack) (words : List Word) (at : ℕ) (printed :
         let k = equal-kept old.regions new.regions same st.numbers st.bridges in
         let many = st.opened.as_many in
         let some = st.opened.some in
-        record {
-          held = made-held old.cells new.cells slot class label fields m plain;
-          label = made-label old.cells new.cells slot class label fields m plain;
-          label_back = made-back old.cells new.cells slot class label fields m plain;
-          field_back = made-field old.cells new.cells slot class label fields m plain;
-          number = k.number;
-          bridge = k.bridge;
-          numbers = k.numbers;
-          bridges = k.bridges;
-          temps = λ i s u e t. elim (temp-back v marks slot i s t) [
+        grown-by old new v slot class label fields m plain k (v.temps ++ slot ∷ [])
+        (λ i s u e t. elim (temp-back v marks slot i s t) [
             | inl was ↦ made-label old.cells new.cells slot class label fields m plain s (Temp u.number) (st.opened.temps i s u e was)
             | inr here ↦
                 let le = here.1 in
                 let lt = slice_get_within v.windows i u e in
                 let last : length v.windows - 1 ≡ i = omega (arith, le, lt, many) in
                 fresh-temp s u here.0 (same_Some w u (sym top ∙ ap (slice_get v.windows) last ∙ e))
-          ];
-          all_temps = λ i s u e h. elim (temp-was s (Temp u.number) h) [
+          ])
+        (λ i s u e h. elim (temp-was s (Temp u.number) h) [
             | inl was ↦ temp-on v marks slot i s (st.opened.all_temps i s u e was)
             | inr here ↦
                 let last : length v.windows - 1 ≡ i =
                 st.window_numbers (length v.windows - 1) i w u top e (number-is-of w.number u.number here.1) in
                 subst (λ x. IsTempOf (with_temp v slot) i x) (sym here.0)
                 (temp-new v marks slot i (omega (arith, last, many, some)) (omega (arith, last, many, some)))
-          ];
-          once = λ j k s e f. elim (in-front-or v.temps slot s j e) [
+          ])
+        (λ j k s e f. elim (in-front-or v.temps slot s j e) [
             | inl a ↦ elim (in-front-or v.temps slot s k f) [
               | inl b ↦ st.opened.once j k s a b
               | inr b ↦ absurd (held-other old.cells new.cells slot class label fields m plain s (temp-held old v st j s a) (sym b.1))
@@ -235,12 +239,11 @@ module _ (old new : Parts) (v : Stack) (words : List Word) (at : ℕ) (printed :
               | inl b ↦ absurd (held-other old.cells new.cells slot class label fields m plain s (temp-held old v st k s b) (sym a.1))
               | inr b ↦ a.0 ∙ sym b.0
             ]
-          ];
-          windows = λ s n h. elim (temp-was s (Temp n) h) [
+          ])
+        (λ s n h. elim (temp-was s (Temp n) h) [
             | inl was ↦ st.temps s n was
             | inr here ↦ (length v.windows - 1, w, top, number-is-of w.number n here.1)
-          ];
-        }
+          ])
 
     temp-lead : Leads new (with_temp v slot) (Slot slot)
     temp-lead = record {

@@ -35,8 +35,9 @@ pub record Refused (old new : Parts) (v : Stack) (words : List Word) (at : ℕ) 
   pub lead : AllLead new v words
   pub machine : machine_of new v at ≡ machine_of old v at
 
+-- the machine that a stack and an address make of what is shown
 module _ (v : Stack) (at : ℕ) where
-  abbrev machine : List Seen → List Frame → List WindowOf → List Manager → Machine
+  abbrev pub machine : List Seen → List Frame → List WindowOf → List Manager → Machine
   machine store frames windows managers =
       record { store = store; frames = frames; windows = windows; managers = managers; windows_made = v.next; at = at }
 

@@ -63,6 +63,11 @@ module _ (v : Stack) (m : MarksLie v) (slot : ℕ) where
   longer : length (with_temp v slot).temps ≡ length v.temps + 1
   longer = one-longer v.temps slot
 
+  -- the next window's mark ends a window's temporaries as before
+  same-end : (i : ℕ) → i + 1 < length v.marks
+      → slice_index_or v.marks (i + 1) (length v.temps) ≡ slice_index_or v.marks (i + 1) (length (with_temp v slot).temps)
+  same-end i lt = get_or_default v.marks (i + 1) (length v.temps) (length (with_temp v slot).temps) lt
+
   -- a temporary of a window stays one
   pub temp-on : (i s : ℕ) → IsTempOf v i s → IsTempOf (with_temp v slot) i s
   temp-on i s t =
@@ -71,10 +76,7 @@ module _ (v : Stack) (m : MarksLie v) (slot : ℕ) where
         place = b.place;
         from = b.from;
         to = elim (order (i + 1) (length v.marks)) [
-          | inl lt ↦
-              let same = get_or_default v.marks (i + 1) (length v.temps) (length (with_temp v slot).temps) lt in
-              let to = b.to in
-              omega (arith, same, to)
+          | inl lt ↦ (let same = same-end i lt in let to = b.to in omega (arith, same, to))
           | inr le ↦
               let end = get_or_past v.marks (i + 1) (length (with_temp v slot).temps) le in
               let within = slice_get_within v.temps b.place s b.stands in
@@ -94,10 +96,7 @@ module _ (v : Stack) (m : MarksLie v) (slot : ℕ) where
           place = b.place;
           from = b.from;
           to = elim (order (i + 1) (length v.marks)) [
-            | inl lt ↦
-                let same = get_or_default v.marks (i + 1) (length v.temps) (length (with_temp v slot).temps) lt in
-                let to = b.to in
-                omega (arith, same, to)
+            | inl lt ↦ (let same = same-end i lt in let to = b.to in omega (arith, same, to))
             | inr le ↦
                 let end = get_or_past v.marks (i + 1) (length v.temps) le in
                 let within = slice_get_within v.temps b.place s was in

@@ -137,6 +137,25 @@ temp-window v many some zeroth j s e =
       (j - begins-at v.marks a.0, temp-at v.temps (begins-at v.marks a.0) (ends-at v.marks (length v.temps) a.0) j s le a.3 e),
     )
 
+-- the region that leads into one at the end of a way
+pub last-parent : (h : Heap) {t r : ℕ} → Above h t r → (p : ℕ) × Parent h p r
+last-parent h (direct {p = p} {r = r} a) = (p, a)
+last-parent h (further {p = p} {q = m} {r = r} x a) = (m, a)
+
+-- what went, told by another test that the same regions pass
+pub released-as : (old new : Parts) (A B Cell : ℕ → Type 0) → ((r : ℕ) → B r → A r) → ((r : ℕ) → A r → B r) → Released old new A Cell
+    → Released old new B Cell
+released-as old new A B Cell back on rel = record {
+  freed = λ r x b l. rel.freed r x (back r b) l;
+  ended = rel.ended;
+  cells = λ x out keep. rel.cells x (λ r a l. out r (on r a) l) keep;
+  removed = λ key r b h. rel.removed key r (back r b) h;
+  records = λ key out. rel.records key (λ r a h. out r (on r a) h);
+  serials = rel.serials;
+  high = rel.high;
+  numbers = rel.numbers;
+}
+
 module _ (old : Parts) (v : Stack) (at : ℕ) (q : Serials old.cells.heap) (g : Grove old.cells old.regions) (s : Stands old v) where
   -- at most one place leads into a closed region
   pub most-one : (r : ℕ) → IsClosed old.regions v r → owned_once (machine_of old v at) ≡ true → places_into (machine_of old v at) r ≤ 1
@@ -147,6 +166,16 @@ module _ (old : Parts) (v : Stack) (at : ℕ) (q : Serials old.cells.heap) (g : 
       → 1 ≤ slots_into (store_of old.cells.heap) r (frames_of old.cells.heap v)
   slot-counts-one r j x e lies =
       slots-count old.cells.heap r j (word.Slot x) v.slots v.first (reverse v.frames) s.lain e (into-there old.cells.heap r x q lies)
+
+  -- a region that isn't open is closed
+  pub shut-closed : (r : ℕ) → (is_open (windows_of old.regions v) r ≡ true → ⊥) → InTable old.regions r → IsClosed old.regions v r
+  shut-closed r shut known =
+      not-open-closed old.regions v (keyed old v at q g s.opened) r known (never (is_open (windows_of old.regions v) r) shut)
+
+  -- the field by which another region does is counted
+  pub parent-counts : (p r : ℕ) → Parent old.cells.heap p r
+      → 1 ≤ fields_into (store_of old.cells.heap) (windows_of old.regions v) r (store_of old.cells.heap)
+  parent-counts p r a = field-counts old v at q g s.opened r p a.from a.field a.to a.differ a.lies a.leads a.child_has
 
   module _ (new : Parts) (top : ℕ) (c : IsClosed old.regions v top) (once : owned_once (machine_of old v at) ≡ true)
       (none : places_into (machine_of old v at) top ≡ 0) (rel : Released old new (Below old.cells.heap old.regions top) NoCell)
@@ -165,16 +194,7 @@ module _ (old : Parts) (v : Stack) (at : ℕ) (q : Serials old.cells.heap) (g : 
     from-top r b = (top, one-there top top refl, b)
 
     pub released : Released old new Goes NoCell
-    released = record {
-      freed = λ r x b l. rel.freed r x (to-top r b) l;
-      ended = rel.ended;
-      cells = λ x out no. rel.cells x (λ r b l. out r (from-top r b) l) no;
-      removed = λ key r b h. rel.removed key r (to-top r b) h;
-      records = λ key out. rel.records key (λ r b h. out r (from-top r b) h);
-      serials = rel.serials;
-      high = rel.high;
-      numbers = rel.numbers;
-    }
+    released = released-as old new (Below old.cells.heap old.regions top) Goes NoCell to-top from-top rel
 
     abbrev pub regions : List ℕ
     regions = beneath_by_labels (store_of old.cells.heap) (length (managers_of old.regions)) tops
@@ -190,25 +210,12 @@ module _ (old : Parts) (v : Stack) (at : ℕ) (q : Serials old.cells.heap) (g : 
       | inr a ↦ closed-not-above old v at q g s.opened top r c e a.1
     ]
 
-    closed-in : (r : ℕ) → Goes r → InTable old.regions r → IsClosed old.regions v r
-    closed-in r b known = not-open-closed old.regions v (keyed old v at q g s.opened) r known
-        (never (is_open (windows_of old.regions v) r) (goes-closed r b))
-
     -- beneath the topmost one, a region is led into from another one
     owner : (r : ℕ) → Goes r → (r ≡ top) ⊎ ((p : ℕ) × Parent old.cells.heap p r)
     owner r b = elim (to-top r b) [
       | inl is ↦ inl is
-      | inr a ↦ inr (last a.1)
+      | inr a ↦ inr (last-parent old.cells.heap a.1)
     ]
-      where
-        last : {t r : ℕ} → Above old.cells.heap t r → (p : ℕ) × Parent old.cells.heap p r
-        last (direct {p = p} {r = r} a) = (p, a)
-        last (further {p = p} {q = m} {r = r} x a) = (m, a)
-
-    -- by the field that does, it is counted
-    owner-counts : (p r : ℕ) → Parent old.cells.heap p r
-        → 1 ≤ fields_into (store_of old.cells.heap) (windows_of old.regions v) r (store_of old.cells.heap)
-    owner-counts p r a = field-counts old v at q g s.opened r p a.from a.field a.to a.differ a.lies a.leads a.child_has
 
     -- no slot leads there
     pub no-slot : (j x r : ℕ) → slice_get v.slots j ≡ Some (word.Slot x) → LiesIn old.cells.heap r x → Goes r → ⊥
@@ -217,8 +224,8 @@ module _ (old : Parts) (v : Stack) (at : ℕ) (q : Serials old.cells.heap) (g : 
         elim (owner r b) [
           | inl is ↦ (let zero : places_into (machine_of old v at) r ≡ 0 = ap (places_into (machine_of old v at)) is ∙ none in
               absurd (omega (arith, one, zero)))
-          | inr a ↦ (let two = owner-counts a.0 r a.1 in
-              let most = most-one r (closed-in r b (g.labels r x lies)) once in absurd (omega (arith, one, two, most)))
+          | inr a ↦ (let two = parent-counts a.0 r a.1 in
+              let most = most-one r (shut-closed r (goes-closed r b) (g.labels r x lies)) once in absurd (omega (arith, one, two, most)))
         ]
 
     -- nor does a field of a temporary
@@ -232,7 +239,7 @@ module _ (old : Parts) (v : Stack) (at : ℕ) (q : Serials old.cells.heap) (g : 
               absurd (omega (arith, one, zero)))
           | inr a ↦
               (let once = outside-once old v at q g s.opened s.temps s.numbers once in
-              let same = once r a.1.from a.1.field a.1.to x k to (closed-in r b (g.labels r to lies))
+              let same = once r a.1.from a.1.field a.1.to x k to (shut-closed r (goes-closed r b) (g.labels r to lies))
               (λ l. a.1.differ (region-same a.0 r (sym a.1.lies ∙ l))) a.1.leads a.1.child_has away e lies in
               temp-region n a.0 (sym label ∙ sym (ap (label_at old.cells.heap) same.0) ∙ a.1.lies))
         ]
@@ -243,9 +250,9 @@ module _ (old : Parts) (v : Stack) (at : ℕ) (q : Serials old.cells.heap) (g : 
     no-word x r lies free d b = elim (owner r b) [
       | inl is ↦ d is
       | inr a ↦
-          (let one = owner-counts a.0 r a.1 in
+          (let one = parent-counts a.0 r a.1 in
           let zero : places_into (machine_of old v at) r ≡ 0 = none-loose (machine_of old v at) (val_of old.cells.heap (word.Slot x)) r
-          (closed-there old v at q (keyed old v at q g s.opened) g.labels x r lies (closed-in r b (g.labels r x lies))) free in
+          (closed-there old v at q (keyed old v at q g s.opened) g.labels x r lies (shut-closed r (goes-closed r b) (g.labels r x lies))) free in
           absurd (omega (arith, one, zero)))
     ]
 

@@ -27,6 +27,7 @@ use Rattle.rg_held.proofs.Places.{once as once-most}
 use Rattle.rg_machine.specs.Core.{Core}
 use Rattle.rg_machine.specs.Effects.{AllLoose, without}
 use Rattle.rg_machine.proofs.Release.Behind.{none-loose}
+use Rattle.rg_view.proofs.Callers.Need.{weight}
 
 -- Counts
 
@@ -38,10 +39,6 @@ sum-fewer f g h (x ∷ xs) le =
     let one = le x in
     let rest = sum-fewer f g h xs le in
     omega (arith, a, b, one, rest)
-
--- one where a test passes
-abbrev pub weight : Truth → ℕ
-weight b = cond b 1 0
 
 weight-le : (a b : Truth) → (a ≡ true → b ≡ true) → weight a ≤ weight b
 weight-le true b h = let e : weight b ≡ weight true = ap weight (h refl) in omega (arith, e)
@@ -220,10 +217,7 @@ pub label-buried : (regions : List ℕ) (temps : Option ℕ) (store : List Seen)
 label-buried regions temps store v l e = by (address v) e
   where
     label : (o : Seen) (b : Truth) → Some (if b then gone else o).label ≡ Some l → (l ≡ gone.label) ⊎ (Some o.label ≡ Some l)
-    label o true e = inl (sym (label-same gone.label l e))
-      where
-        label-same : (k l : Label) → Some k ≡ Some l → k ≡ l
-        label-same k l e = cc
+    label o true e = inl (sym (same_Some gone.label l e))
     label o false e = inr e
 
     at : (o : Option Seen) → option_and_then (λ (o : Seen). Some o.label) (option_map (buried regions temps) o) ≡ Some l

@@ -2,7 +2,7 @@
 use Rattle.std.proofs.Common.{◌≡◌, ◌⊎◌, inl, inr, ◌≤◌, ◌<◌, ◌+◌, ◌-◌, ◌==◌, ℕ, Bool as Truth, true, false, not, ◌&&◌, nat_lt}
 use Rattle.std.proofs.Common.{List, [], ◌∷◌, Option, Some, IsSome, length, option_map, option_and_then, slice_get}
 use Rattle.std.proofs.Common.{Result, Ok, Err, refl, sym, ap, subst, ◌∙◌, arith}
-use Rattle.std.proofs.lemmas.Bool.{false≢true, cases_eq}
+use Rattle.std.proofs.lemmas.Bool.{false≢true, cases_eq, eqb-true}
 use Rattle.std.proofs.lemmas.Option.{same_Some, slice_get_within}
 use Rattle.rg_base.specs.declared.object.Label.TheVariants.{Region, Temp, Frozen}
 use Rattle.rg_base.specs.declared.object.Seen.{Seen}
@@ -178,13 +178,10 @@ topmost p v at slot b h e may i j o u at_i of is =
     let label : b.label ≡ Temp o.number =
     same_Some b.label (Temp o.number) (sym (ap (option_map (λ (b : Body). b.label)) e) ∙ h.opened.temps i slot o at_i of) in
     let number : o.number ≡ top.0.number =
-    equal o.number (top_window (windows_of p.regions v)) (sym (ap (is_writable (machine_of p v at)) label) ∙ may)
+    eqb-true o.number (top_window (windows_of p.regions v)) (sym (ap (is_writable (machine_of p v at)) label) ∙ may)
     ∙ active-number p.regions v top.0 top.1 in
     let place : i ≡ length v.windows - 1 = h.window_numbers i (length v.windows - 1) o top.0 at_i top.1 number in
     omega (arith, within, place)
-  where
-    equal : (a b : ℕ) → (a == b) ≡ true → a ≡ b
-    equal a b e = grind (arith, e)
 
 -- The cell that `put` writes: it may be written, has the field, and the word may stand there.
 pub record Puts (x : Whole) (slot k : ℕ) (w : Word) : Type 0 where

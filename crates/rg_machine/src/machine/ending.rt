@@ -8,6 +8,7 @@ ghost use Rattle.rg_stack.specs.Machine.{put_slot, slot_at, top_slots};
 ghost use Rattle.rg_stack.specs.Needs.{loose, owned_once};
 ghost use Rattle.rg_machine.specs.Acts.{Does};
 ghost use Rattle.rg_machine.specs.Core.{Has, with_machine};
+ghost use Rattle.rg_machine.specs.Inner.Ends.{MayEnd};
 ghost use Rattle.rg_machine.specs.Effects.{Apart, AllLoose, emptied, ending, without};
 ghost use Rattle.rg_machine.specs.Keeps.{SameBacks};
 ghost use Rattle.rg_machine.specs.High.{NoneMade};
@@ -97,19 +98,17 @@ impl Machine {
 
     /// What the slots of the topmost frame from one on own goes; they are to end or to go.
     pub(super) fn release_from(&mut self, s: u32)
-        requires once { owned_once (machine_in self.old) ≡ true }
-        requires stack { AllLoose (core_of self.old) }
+        requires { MayEnd self.old }
         ensures ended { emptied (core_of self.new) s ≡ ending (core_of self.old) s }
         ensures words { self.new.words ≡ self.old.words }
         ensures backs { SameBacks (machine_in self.old) (machine_in self.new) }
         ensures high { NoneMade self.old.heap self.new.heap }
     {
         self.heap.is_forest();
-        let live = self.frames.live();
-        if live <= s as usize {
+        let mut left = self.frames.live();
+        if left <= s as usize {
             return;
         }
-        let mut left = live;
         'slots: while left > s as usize {
             left -= 1;
             self.release_nth(left);
@@ -137,8 +136,7 @@ impl Machine {
     /// The same, also where some of them were written.
     #[inline(never)]
     fn end_written(&mut self, s: u32)
-        requires once { owned_once (machine_in self.old) ≡ true }
-        requires stack { AllLoose (core_of self.old) }
+        requires { MayEnd self.old }
         ensures ended { core_of self.new ≡ ending (core_of self.old) s }
         ensures words { self.new.words ≡ self.old.words }
         ensures backs { SameBacks (machine_in self.old) (machine_in self.new) }

@@ -13,13 +13,14 @@ use Rattle.rg_stack.specs.Machine.{place_of}
 use Rattle.rg_base.specs.declared.outcome.Trap.TheVariants as trap
 use Rattle.rg_base.proofs.Callers.Labels.{slot-same}
 use Rattle.rg_stack.specs.Effects.{Traps}
-use Rattle.rg_machine.specs.Core.{Has, work_of}
+use Rattle.rg_machine.specs.Core.{work_of}
 use Rattle.rg_machine.specs.Frames.{can_open}
 use Rattle.rg_machine.specs.Keeps.{SameBacks}
 use Rattle.rg_machine.specs.Parts.{Parts, machine_in}
 use Rattle.rg_machine.specs.Cores.{core_of}
 use Rattle.rg_machine.specs.Stands.{AllLead, Stands}
-use Rattle.rg_machine.proofs.Enter.Slot.{can-enter-slot, opens-within, stands-entered, all-still-lead, enter-effect, enter-nil, same-backs}
+use Rattle.rg_machine.specs.contracts.machine.Machine.{the_view}
+use Rattle.rg_machine.proofs.Enter.Slot.{can-enter-of, opens-within, stands-entered, all-still-lead, enter-effect, enter-nil, same-backs}
 use Rattle.rg_machine.proofs.Enter.Slot.{CanEnterSlot, entered_stack, no-object}
 use Rattle.rg_machine.proofs.Callers.High.{none-same}
 use Rattle.rg_machine.proofs.machine.Machine.enter.Goals as goal
@@ -27,37 +28,24 @@ use Rattle.rg_machine.proofs.machine.Machine.enter.Goals.{After-set_word}
 
 pub enter-requires-clause-region : goal.enter-requires-clause-region
 enter-requires-clause-region c =
-    let m = c.self.inside in
-    let h = c.self.invariant.0 in
-    let b = c.in-Slot.field-0 in
-    let x = can-enter-slot m.heap m.frames m.at h c.args.s c.args.z b m.stack.items m.printed
-    c.is_forest.ensures.serials c.is_forest.ensures.forest
-    (subst (λ (m : Parts). Has (i.Enter c.args.s c.args.z) (core_of m)) (sym c.self.view_is) c.requires.given)
-    (sym c.word-bridge.ensures ∙ c.in-Slot.is) in
-    subst (CanEnter m.heap.cells.heap) (sym c.in-Slot.is) (x.entered.region, x.entered.lies)
+    let x = can-enter-of (the_view c.self.inside) _ c.self.invariant.0 c.args.s c.args.z c.in-Slot.field-0 c.is_forest.ensures.serials
+    c.is_forest.ensures.forest c.self.view_is c.requires.given (sym c.word-bridge.ensures ∙ c.in-Slot.is) in
+    subst (CanEnter c.self.inside.heap.cells.heap) (sym c.in-Slot.is) (x.entered.region, x.entered.lies)
 
 -- what stands behind the call
 record Behind (c : After-set_word) : Type 0 where
   x : CanEnterSlot c.self.inside.heap c.self.inside.frames c.self.inside.at c.self.invariant.0 c.args.s c.in-Slot.field-0
-  opens : can_open (machine_in (record {
-    heap = c.self.inside.heap;
-    frames = c.self.inside.frames;
-    words = c.self.inside.stack.items;
-    at = c.self.inside.at;
-    printed = c.self.inside.printed;
-  })) c.args.z ≡ true
+  opens : can_open (machine_in (the_view c.self.inside)) c.args.z ≡ true
   is : c.set_word.new.self
       ≡ entered_stack c.self.inside.frames x.entered.closed.0 (place.Var c.depth.result c.args.s) c.args.z c.in-Slot.field-0
 
-behind : (c : After-set_word) → Behind c
-behind c =
+slot-entered : (c : After-set_word) → Behind c
+slot-entered c =
     let m = c.self.inside in
     let h = c.self.invariant.0 in
     let b = c.in-Slot.field-0 in
-    let x = can-enter-slot m.heap m.frames m.at h c.args.s c.args.z b m.stack.items m.printed
-    c.is_forest.ensures.serials c.is_forest.ensures.forest
-    (subst (λ (m : Parts). Has (i.Enter c.args.s c.args.z) (core_of m)) (sym c.self.view_is) c.requires.given)
-    (sym c.word-bridge.ensures ∙ c.in-Slot.is) in
+    let x = can-enter-of (the_view c.self.inside) _ c.self.invariant.0 c.args.s c.args.z c.in-Slot.field-0 c.is_forest.ensures.serials
+    c.is_forest.ensures.forest c.self.view_is c.requires.given (sym c.word-bridge.ensures ∙ c.in-Slot.is) in
     let opens = subst (λ (m : Parts). can_open (machine_in m) c.args.z ≡ true) (sym c.self.view_is) c.in-Some.ensures.some.0 in
     let base = subst (λ (m : Parts). c.in-Some.base ≡ place_of (machine_in m).frames c.args.z) (sym c.self.view_is) c.in-Some.ensures.some.1 in
     let at = base ∙ (opens-within m.heap m.frames m.at h c.args.z opens).1 in
@@ -79,7 +67,7 @@ pub invariant_of-self-2 : goal.invariant_of-self-2
 invariant_of-self-2 c =
     let m = c.self.inside in
     let h = c.self.invariant.0 in
-    let b = behind c in
+    let b = slot-entered c in
     let e = b.x.entered in
     let owner : Place = place.Var c.depth.result c.args.s in
     let stands = stands-entered m.heap m.frames e.closed.0 owner c.args.z e.region c.in-Slot.field-0 h e.closed.1 e.closed.2 e.lies b.x.parent in
@@ -90,19 +78,11 @@ invariant_of-self-2 c =
           (subst (λ v. AllLead m.heap v m.stack.items) (sym b.is) lead),
     )
 
-new-is : (c : After-set_word) → (b : Behind c) → ◌≡◌ {A = Parts} (record {
-  heap = c.self.inside.heap;
-  frames = entered_stack c.self.inside.frames b.x.entered.closed.0 (place.Var c.depth.result c.args.s) c.args.z c.in-Slot.field-0;
-  words = c.self.inside.stack.items;
-  at = c.self.inside.at;
-  printed = c.self.inside.printed;
-}) (record {
-  heap = c.enter.new.self;
-  frames = c.set_word.new.self;
-  words = c.self.inside.stack.items;
-  at = c.self.inside.at;
-  printed = c.self.inside.printed;
-})
+new-is : (c : After-set_word) → (b : Behind c)
+    → record (the_view c.self.inside) {
+      frames = entered_stack c.self.inside.frames b.x.entered.closed.0 (place.Var c.depth.result c.args.s) c.args.z c.in-Slot.field-0;
+    }
+    ≡ record (the_view c.self.inside) { heap = c.enter.new.self; frames = c.set_word.new.self; }
 new-is c b =
     let m = c.self.inside in
     ap (λ (v : Stack). record { heap = m.heap; frames = v; words = m.stack.items; at = m.at; printed = m.printed }) (sym b.is)
@@ -112,17 +92,11 @@ new-is c b =
 pub returns : goal.returns
 returns c at =
     let m = c.self.inside in
-    let b = behind c in
+    let b = slot-entered c in
     let e = b.x.entered in
     let owner : Place = place.Var c.depth.result c.args.s in
     let depth = subst (λ (m : Parts). c.depth.result ≡ frame_number (machine_in m).frames) (sym c.self.view_is) c.depth.ensures in
-    let new : Parts = record {
-      heap = c.enter.new.self;
-      frames = c.set_word.new.self;
-      words = m.stack.items;
-      at = m.at;
-      printed = m.printed;
-    } in
+    let new : Parts = record (the_view m) { heap = c.enter.new.self; frames = c.set_word.new.self; } in
     record {
       effect = λ go input.
           subst (λ (m : Parts). free_act empty at (i.Enter c.args.s c.args.z) go (core_of m).stack (work_of (core_of m) input)
@@ -132,13 +106,7 @@ returns c at =
           ∙ ap (λ (x : Parts). go 0 (core_of x).stack (work_of (core_of x) input)) (new-is c b));
       keeps =
           subst (λ (m : Parts). SameBacks (machine_in m) (machine_in new)) c.self.view_is
-          (subst (λ (n : Parts). SameBacks (machine_in (record {
-            heap = m.heap;
-            frames = m.frames;
-            words = m.stack.items;
-            at = m.at;
-            printed = m.printed;
-          })) (machine_in n)) (new-is c b)
+          (subst (λ (n : Parts). SameBacks (machine_in (the_view m)) (machine_in n)) (new-is c b)
           (same-backs m.heap m.frames e.closed.0 owner c.args.z e.region c.in-Slot.field-0 c.self.invariant.0 e.closed.1 e.closed.2 e.lies m.at));
       high = rw (← c.self.view_is) (none-same m.heap c.enter.new.self c.enter.ensures.same);
     }

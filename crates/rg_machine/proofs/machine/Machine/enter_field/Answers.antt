@@ -1,4 +1,4 @@
-use Rattle.std.proofs.Common.{◌≡◌, ◌+◌, ◌∷◌, ◌++◌, [], Some, Result, Ok, refl, true, ◌∙◌, sym, ap, subst}
+use Rattle.std.proofs.Common.{◌≡◌, ◌+◌, ◌∷◌, ◌++◌, [], Option, Some, Result, Ok, refl, true, ◌∙◌, sym, ap, subst}
 use Rattle.rg_base.specs.declared.object.Place.{Place}
 use Rattle.rg_base.specs.declared.object.Place.TheVariants as place
 use Rattle.rg_base.specs.declared.outcome.Trap.{Trap}
@@ -16,14 +16,15 @@ use Rattle.rg_heap.specs.Ends.{CanEnter}
 use Rattle.rg_held.specs.Frees.{free_act}
 use Rattle.rg_stack.specs.Effects.{Traps}
 use Rattle.rg_stack.specs.Machine.{place_of}
-use Rattle.rg_machine.specs.Core.{Has, work_of}
+use Rattle.rg_machine.specs.Core.{work_of}
 use Rattle.rg_machine.specs.Frames.{can_open}
 use Rattle.rg_machine.specs.Keeps.{SameBacks}
 use Rattle.rg_machine.specs.Parts.{Parts, machine_in}
 use Rattle.rg_machine.specs.Cores.{core_of}
 use Rattle.rg_machine.specs.Stands.{AllLead, Stands}
+use Rattle.rg_machine.specs.contracts.machine.Machine.{the_view}
 use Rattle.rg_machine.proofs.Enter.Slot.{ParentBeneath, opens-within, stands-entered, all-still-lead, same-backs, Entered, entered_stack, no-object}
-use Rattle.rg_machine.proofs.Enter.Field.{Holds, holds, field-entered, field-parent, front-lead, enter-field-effect, enter-field-nil}
+use Rattle.rg_machine.proofs.Enter.Field.{Holds, holds-of, field-entered, field-parent, front-lead, enter-field-effect, enter-field-nil}
 use Rattle.rg_machine.proofs.Callers.High.{none-same}
 use Rattle.rg_machine.proofs.machine.Machine.enter_field.Goals as goal
 use Rattle.rg_machine.proofs.machine.Machine.enter_field.Goals.{After-set_word}
@@ -31,33 +32,24 @@ use Rattle.rg_machine.proofs.machine.Machine.enter_field.Goals.{After-set_word}
 same-ok : (u w : Word) → ◌≡◌ {A = Result Word Trap} (Ok u) (Ok w) → u ≡ w
 same-ok u w e = cc
 
+-- the word that was read stands in the field
+read-leads : (r u w : Word) {o : Option Word} → o ≡ Some r → ◌≡◌ {A = Result Word Trap} (Ok u) (Ok r) → u ≡ w → o ≡ Some w
+read-leads r u w at got is = at ∙ ap Some (same-ok r u (sym got) ∙ is)
+
 pub read-requires : goal.read-requires
 read-requires c =
-    let m = c.self.inside in
-    let h = c.self.invariant.0 in
-    let rest = c.pop.new.self.items in
-    let is = c.in-Some-pop.ensures.items ∙ ap (λ w. rest ++ w ∷ []) c.in-Slot.is in
-    let x = holds m.heap m.frames m.at h c.is_forest.ensures.serials c.is_forest.ensures.forest c.in-Slot.holder c.args.index c.args.z
-    m.stack.items rest m.printed c.self.invariant.1 is
-    (subst (λ (m : Parts). Has (i.EnterField c.args.index c.args.z) (core_of m)) (sym c.self.view_is) c.requires.given) in
-    x.within
+    (holds-of (the_view c.self.inside) _ c.self.invariant.0 c.is_forest.ensures.serials c.is_forest.ensures.forest c.in-Slot.holder
+    c.args.index c.args.z c.pop.new.self.items _ c.self.view_is c.self.invariant.1 c.in-Some-pop.ensures.items c.in-Slot.is
+    c.requires.given).within
 
 pub enter-requires-clause-region : goal.enter-requires-clause-region
 enter-requires-clause-region c =
-    let m = c.self.inside in
-    let h = c.self.invariant.0 in
-    let rest = c.pop.new.self.items in
-    let is = c.in-Some-pop.ensures.items ∙ ap (λ w. rest ++ w ∷ []) c.in-Slot.is in
-    let x = holds m.heap m.frames m.at h c.is_forest.ensures.serials c.is_forest.ensures.forest c.in-Slot.holder c.args.index c.args.z
-    m.stack.items rest m.printed c.self.invariant.1 is
-    (subst (λ (m : Parts). Has (i.EnterField c.args.index c.args.z) (core_of m)) (sym c.self.view_is) c.requires.given) in
-    let r = c.in-Ok.ensures in
-    let b = c.in-Slot-bridge.field-0 in
-    let leads : field_at m.heap.cells.heap c.in-Slot.holder c.args.index ≡ Some (Slot b) =
-    r.2 ∙ ap Some (same-ok r.0 c.in-Ok.bridge (sym r.1) ∙ c.in-Slot-bridge.is) in
-    let e = field-entered m.heap m.frames m.at h c.is_forest.ensures.serials c.is_forest.ensures.forest c.in-Slot.holder c.args.index c.args.z b
-    x leads in
-    subst (CanEnter m.heap.cells.heap) (sym c.in-Slot-bridge.is) (e.region, e.lies)
+    let x = holds-of (the_view c.self.inside) _ c.self.invariant.0 c.is_forest.ensures.serials c.is_forest.ensures.forest c.in-Slot.holder
+    c.args.index c.args.z c.pop.new.self.items _ c.self.view_is c.self.invariant.1 c.in-Some-pop.ensures.items c.in-Slot.is c.requires.given in
+    let e = field-entered c.self.inside.heap c.self.inside.frames c.self.inside.at c.self.invariant.0 c.is_forest.ensures.serials
+    c.is_forest.ensures.forest c.in-Slot.holder c.args.index c.args.z c.in-Slot-bridge.field-0 x
+    (read-leads c.in-Ok.ensures.0 c.in-Ok.bridge _ c.in-Ok.ensures.2 c.in-Ok.ensures.1 c.in-Slot-bridge.is) in
+    subst (CanEnter c.self.inside.heap.cells.heap) (sym c.in-Slot-bridge.is) (e.region, e.lies)
 
 pub invariant_of-self-in_default-enter : goal.invariant_of-self-in_default-enter
 invariant_of-self-in_default-enter c =
@@ -79,40 +71,22 @@ record Behind (c : After-set_word) : Type 0 where
   e : Entered c.self.inside.heap c.self.inside.frames c.self.inside.at c.self.invariant.0 c.in-Slot-bridge.field-0
   e_is : e ≡ field-entered c.self.inside.heap c.self.inside.frames c.self.inside.at c.self.invariant.0 c.is_forest.ensures.serials
       c.is_forest.ensures.forest c.in-Slot.holder c.args.index c.args.z c.in-Slot-bridge.field-0 x leads
-  opens : can_open (machine_in (record {
-    heap = c.self.inside.heap;
-    frames = c.self.inside.frames;
-    words = c.self.inside.stack.items;
-    at = c.self.inside.at;
-    printed = c.self.inside.printed;
-  })) c.args.z ≡ true
-  is : ◌≡◌ {A = Parts} (record {
-    heap = c.self.inside.heap;
-    frames = entered_stack c.self.inside.frames e.closed.0 (place.Field c.serial.result c.args.index) c.args.z c.in-Slot-bridge.field-0;
-    words = c.pop.new.self.items;
-    at = c.self.inside.at;
-    printed = c.self.inside.printed;
-  }) (record {
-    heap = c.enter.new.self;
-    frames = c.set_word.new.self;
-    words = c.pop.new.self.items;
-    at = c.self.inside.at;
-    printed = c.self.inside.printed;
-  })
+  opens : can_open (machine_in (the_view c.self.inside)) c.args.z ≡ true
+  is : record (the_view c.self.inside) {
+        frames = entered_stack c.self.inside.frames e.closed.0 (place.Field c.serial.result c.args.index) c.args.z c.in-Slot-bridge.field-0;
+        words = c.pop.new.self.items;
+      }
+      ≡ record (the_view c.self.inside) { heap = c.enter.new.self; frames = c.set_word.new.self; words = c.pop.new.self.items; }
 
-behind : (c : After-set_word) → Behind c
-behind c =
+bridge-entered : (c : After-set_word) → Behind c
+bridge-entered c =
     let m = c.self.inside in
     let h = c.self.invariant.0 in
     let rest = c.pop.new.self.items in
-    let is = c.in-Some-pop.ensures.items ∙ ap (λ w. rest ++ w ∷ []) c.in-Slot.is in
-    let x = holds m.heap m.frames m.at h c.is_forest.ensures.serials c.is_forest.ensures.forest c.in-Slot.holder c.args.index c.args.z
-    m.stack.items rest m.printed c.self.invariant.1 is
-    (subst (λ (m : Parts). Has (i.EnterField c.args.index c.args.z) (core_of m)) (sym c.self.view_is) c.requires.given) in
-    let r = c.in-Ok.ensures in
+    let x = holds-of (the_view c.self.inside) _ c.self.invariant.0 c.is_forest.ensures.serials c.is_forest.ensures.forest c.in-Slot.holder
+    c.args.index c.args.z c.pop.new.self.items _ c.self.view_is c.self.invariant.1 c.in-Some-pop.ensures.items c.in-Slot.is c.requires.given in
     let b = c.in-Slot-bridge.field-0 in
-    let leads : field_at m.heap.cells.heap c.in-Slot.holder c.args.index ≡ Some (Slot b) =
-    r.2 ∙ ap Some (same-ok r.0 c.in-Ok.bridge (sym r.1) ∙ c.in-Slot-bridge.is) in
+    let leads = read-leads c.in-Ok.ensures.0 c.in-Ok.bridge _ c.in-Ok.ensures.2 c.in-Ok.ensures.1 c.in-Slot-bridge.is in
     let e = field-entered m.heap m.frames m.at h c.is_forest.ensures.serials c.is_forest.ensures.forest c.in-Slot.holder c.args.index c.args.z b
     x leads in
     let opens = subst (λ (m : Parts). can_open (machine_in m) c.args.z ≡ true) (sym c.self.view_is) c.in-Some.ensures.some.0 in
@@ -129,7 +103,7 @@ behind c =
     ∙ ap (λ w. with_slot (opened m.frames key owner (m.frames.first + c.args.z)) c.args.z w) c.in-Slot-bridge.is in
     record {
       x = x;
-      words = is;
+      words = c.in-Some-pop.ensures.items ∙ ap (λ w. rest ++ w ∷ []) c.in-Slot.is;
       leads = leads;
       e = e;
       e_is = refl;
@@ -145,7 +119,7 @@ invariant_of-self-2 c =
     let m = c.self.inside in
     let h = c.self.invariant.0 in
     let rest = c.pop.new.self.items in
-    let b = behind c in
+    let b = bridge-entered c in
     let e = b.e in
     let owner : Place = place.Field c.serial.result c.args.index in
     let parent = field-parent m.heap m.frames m.at h c.is_forest.ensures.serials c.is_forest.ensures.forest c.in-Slot.holder c.args.index c.args.z
@@ -162,18 +136,15 @@ pub returns : goal.returns
 returns c at =
     let m = c.self.inside in
     let h = c.self.invariant.0 in
-    let b = behind c in
+    let b = bridge-entered c in
     let e = b.e in
     let owner : Place = place.Field c.serial.result c.args.index in
     let rest = c.pop.new.self.items in
-    let old : Parts = record { heap = m.heap; frames = m.frames; words = m.stack.items; at = m.at; printed = m.printed } in
-    let new : Parts = record { heap = c.enter.new.self; frames = c.set_word.new.self; words = rest; at = m.at; printed = m.printed } in
-    let start : Entered m.heap m.frames m.at h c.in-Slot-bridge.field-0 → Parts = λ e. record {
-      heap = m.heap;
+    let old : Parts = the_view m in
+    let new : Parts = record old { heap = c.enter.new.self; frames = c.set_word.new.self; words = rest; } in
+    let start : Entered m.heap m.frames m.at h c.in-Slot-bridge.field-0 → Parts = λ e. record old {
       frames = entered_stack m.frames e.closed.0 (place.Field c.serial.result c.args.index) c.args.z c.in-Slot-bridge.field-0;
       words = rest;
-      at = m.at;
-      printed = m.printed;
     } in
     record {
       effect = λ go input.
@@ -195,12 +166,10 @@ returns-in_default-bridge c at =
     let h = c.self.invariant.0 in
     let rest = c.pop.new.self.items in
     let is = c.in-Some-pop.ensures.items ∙ ap (λ w. rest ++ w ∷ []) c.in-Slot.is in
-    let x = holds m.heap m.frames m.at h c.is_forest.ensures.serials c.is_forest.ensures.forest c.in-Slot.holder c.args.index c.args.z
-    m.stack.items rest m.printed c.self.invariant.1 is
-    (subst (λ (m : Parts). Has (i.EnterField c.args.index c.args.z) (core_of m)) (sym c.self.view_is) c.requires.given) in
-    let r = c.in-Ok.ensures in
+    let x = holds-of (the_view c.self.inside) _ c.self.invariant.0 c.is_forest.ensures.serials c.is_forest.ensures.forest c.in-Slot.holder
+    c.args.index c.args.z c.pop.new.self.items _ c.self.view_is c.self.invariant.1 c.in-Some-pop.ensures.items c.in-Slot.is c.requires.given in
     let u = c.in-Ok.bridge in
-    let leads : field_at m.heap.cells.heap c.in-Slot.holder c.args.index ≡ Some u = r.2 ∙ ap Some (same-ok r.0 u (sym r.1)) in
+    let leads = read-leads c.in-Ok.ensures.0 u u c.in-Ok.ensures.2 c.in-Ok.ensures.1 refl in
     let none = no-object m.heap.cells.heap u c.in_default-bridge.not-Slot in
     let opens = subst (λ (m : Parts). can_open (machine_in m) c.args.z ≡ true) (sym c.self.view_is) c.in-Some.ensures.some.0 in
     record {

@@ -1,7 +1,7 @@
-use Rattle.std.proofs.Common.{◌∷◌, [], ◌++◌, refl, sym, ap, subst, ◌∙◌}
+use Rattle.std.proofs.Common.{◌∷◌, [], ◌++◌, sym, ap, subst, ◌∙◌}
 use Rattle.rg_heap.specs.Moves.{CanMove, Freezes}
 use Rattle.rg_machine.proofs.Moves.Given.{Owned, Owns, may-move, owned}
-use Rattle.rg_machine.proofs.Moves.Effect.{freeze-backs, freeze-does, freeze-invariant, freeze-owns, no-object-acts, no-slot}
+use Rattle.rg_machine.proofs.Moves.Effect.{freeze-backs, freeze-does, freeze-invariant, freeze-owns, no-object-acts, no-slot, takes-nothing}
 use Rattle.rg_machine.proofs.machine.Machine.freeze.Goals as goal
 
 pub freeze-requires : goal.freeze-requires
@@ -49,8 +49,4 @@ returns-in-Ok c at =
 
 pub returns-in-Nil : goal.returns-in-Nil
 returns-in-Nil c at =
-    record {
-      effect = λ go input. no-object-acts _ _ c.self.view_is c.self.invariant.0 c.args.s _ c.word-w.ensures (no-slot _ c.in-Nil.is) _;
-      keeps = refl;
-      high = record { made = refl; high = refl };
-    }
+    takes-nothing _ (λ go input. no-object-acts _ _ c.self.view_is c.self.invariant.0 c.args.s _ c.word-w.ensures (no-slot _ c.in-Nil.is) _)

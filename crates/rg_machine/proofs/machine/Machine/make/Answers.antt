@@ -9,6 +9,7 @@ use Rattle.rg_machine.specs.Core.{with_made}
 use Rattle.rg_machine.specs.Parts.{Parts, machine_in}
 use Rattle.rg_machine.specs.Cores.{core_of}
 use Rattle.rg_machine.specs.Stands.{AllLead, Stands}
+use Rattle.rg_machine.specs.contracts.machine.Machine.{the_view}
 use Rattle.rg_machine.proofs.New.Cells.{nowhere}
 use Rattle.rg_machine.proofs.New.Object.{Pushed, make-pushed}
 use Rattle.rg_machine.proofs.New.Refused.{Refused, make-refused, on-err}
@@ -53,13 +54,7 @@ invariant_of-self-2 c =
 
 pub returns-clause-ok : goal.returns-clause-ok
 returns-clause-ok c =
-    let made : List Word → Parts = λ ws. record {
-      heap = c.make.new.self;
-      frames = c.self.inside.frames;
-      words = ws;
-      at = c.self.inside.at;
-      printed = c.self.inside.printed;
-    } in
+    let made : List Word → Parts = λ ws. record (the_view c.self.inside) { heap = c.make.new.self; words = ws; } in
     let P : Parts → Type 0 = λ m.
     core_of (made (c.self.inside.stack.items ++ Slot c.in_ok-slot.slot ∷ []))
     ≡ with_made (core_of m) c.args.class (map value_of_word c.args.words.now) (Region (top_region (windows_of m.heap.regions m.frames))) in

@@ -8,6 +8,7 @@ use Rattle.rg_machine.specs.Core.{with_machine, with_made}
 use Rattle.rg_machine.specs.Parts.{Parts, machine_in}
 use Rattle.rg_machine.specs.Cores.{core_of}
 use Rattle.rg_machine.specs.Stands.{AllLead, Stands}
+use Rattle.rg_machine.specs.contracts.machine.Machine.{the_view}
 use Rattle.rg_machine.proofs.New.Cells.{nowhere}
 use Rattle.rg_machine.proofs.New.Object.{Pushed, region-pushed}
 use Rattle.rg_machine.proofs.New.Refused.{Refused, region-refused, on-err}
@@ -51,13 +52,7 @@ invariant_of-self-2 c =
 
 pub returns-clause-ok : goal.returns-clause-ok
 returns-clause-ok c =
-    let made : List Word → Parts = λ ws. record {
-      heap = c.make_region.new.self;
-      frames = c.self.inside.frames;
-      words = ws;
-      at = c.self.inside.at;
-      printed = c.self.inside.printed;
-    } in
+    let made : List Word → Parts = λ ws. record (the_view c.self.inside) { heap = c.make_region.new.self; words = ws; } in
     let P : Parts → Type 0 = λ m.
     core_of (made (c.self.inside.stack.items ++ Slot c.in_ok-slot.slot ∷ []))
     ≡ with_made (with_machine (core_of m) (record (machine_in m) { managers = (machine_in m).managers ++ c.args.manager ∷ [] })) c.args.class

@@ -1,7 +1,7 @@
-use Rattle.std.proofs.Common.{◌∷◌, [], ◌++◌, refl, sym, ap, subst, ◌∙◌}
+use Rattle.std.proofs.Common.{◌∷◌, [], ◌++◌, sym, ap, subst, ◌∙◌}
 use Rattle.rg_heap.specs.Moves.{CanMove, Merges}
 use Rattle.rg_machine.proofs.Moves.Given.{Owned, Owns, active, may-merge, may-move, owned}
-use Rattle.rg_machine.proofs.Moves.Effect.{merge-backs, merge-does, merge-invariant, merge-owns, no-object-acts, no-slot}
+use Rattle.rg_machine.proofs.Moves.Effect.{merge-backs, merge-does, merge-invariant, merge-owns, no-object-acts, no-slot, takes-nothing}
 use Rattle.rg_machine.proofs.machine.Machine.merge.Goals as goal
 
 pub merge-requires-clause-owned : goal.merge-requires-clause-owned
@@ -61,8 +61,4 @@ returns-in-Ok-merge c at =
 
 pub returns-in-Nil : goal.returns-in-Nil
 returns-in-Nil c at =
-    record {
-      effect = λ go input. no-object-acts _ _ c.self.view_is c.self.invariant.0 c.args.s _ c.word-w.ensures (no-slot _ c.in-Nil.is) _;
-      keeps = refl;
-      high = record { made = refl; high = refl };
-    }
+    takes-nothing _ (λ go input. no-object-acts _ _ c.self.view_is c.self.invariant.0 c.args.s _ c.word-w.ensures (no-slot _ c.in-Nil.is) _)

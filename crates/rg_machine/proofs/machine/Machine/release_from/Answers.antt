@@ -12,9 +12,9 @@ slots-init c =
     let p = the_view c.self.inside in
     let once = subst (λ p. owned_once (machine_in p) ≡ true) (sym c.self.view_is) c.requires.once in
     let all = subst (λ p. AllLoose (core_of p)) (sym c.self.view_is) c.requires.stack in
-    subst (λ p. Ending p p c.args.s c.live-live.result) c.self.view_is
-    (ending-init p c.is_forest.ensures.serials c.is_forest.ensures.forest c.self.invariant.0 c.args.s c.live-live.result c.live-live.ensures.nil
-    c.live-live.ensures.within (omega (arith, c.if-live-s.false)) once all)
+    subst (λ p. Ending p p c.args.s c.live-left.result) c.self.view_is
+    (ending-init p c.is_forest.ensures.serials c.is_forest.ensures.forest c.self.invariant.0 c.args.s c.live-left.result c.live-left.ensures.nil
+    c.live-left.ensures.within (omega (arith, c.if-left-s.false)) once all)
 
 pub release_nth-requires-clause-there : goal.release_nth-requires-clause-there
 release_nth-requires-clause-there c = ending-there _ _ _ _ _ c.slots.invariant (omega (arith, c.slots-test.true))
@@ -33,8 +33,8 @@ returns-clause-backs c =
     backs-emptied (core_of c.args.self.now) (core_of c.slots.self) c.args.s
     (ending-final c.args.self.now c.slots.self c.args.s c.slots.left c.slots.invariant c.slots-test.false)
 
-pub returns-then-live-s-clause-ended : goal.returns-then-live-s-clause-ended
-returns-then-live-s-clause-ended c =
+pub returns-then-left-s-clause-ended : goal.returns-then-left-s-clause-ended
+returns-then-left-s-clause-ended c =
     subst (λ p. emptied (core_of p) c.args.s ≡ ending (core_of p) c.args.s) c.self.view_is
-    (emptied-live (the_view c.self.inside) c.is_forest.ensures.serials c.is_forest.ensures.forest c.self.invariant.0 c.live-live.result c.args.s
-    c.live-live.ensures.nil c.if-live-s.true)
+    (emptied-live (the_view c.self.inside) c.is_forest.ensures.serials c.is_forest.ensures.forest c.self.invariant.0 c.live-left.result c.args.s
+    c.live-left.ensures.nil c.if-left-s.true)
