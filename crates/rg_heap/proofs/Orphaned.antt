@@ -10,21 +10,24 @@ use Rattle.rg_base.specs.declared.value.Word.{Word}
 use Rattle.rg_base.specs.declared.value.Word.TheVariants.{Slot}
 use Rattle.rg_cells.specs.declared.cell.Body.{Body}
 use Rattle.rg_cells.specs.Table.{Table, body_at, field_at}
+use Rattle.rg_regions.specs.declared.region.Kept.{Kept}
 use Rattle.rg_regions.specs.Table.{Record, RegionTable, record_at, HasNumber, Has, Chained}
 use Rattle.rg_regions.specs.Reach.{LiesIn, Roots}
 use Rattle.rg_regions.specs.Grove.{Grove, Parent, Above, direct, further}
-use Rattle.rg_regions.specs.Collection.{Lost, Orphaning, ChainsOrphans, HasManager}
+use Rattle.rg_regions.specs.Collection.{Lost, Orphaning, ChainsOrphans, HasManager, OfRegion}
 use Rattle.rg_regions.specs.Shrinks.{OneShrinks}
 use Rattle.rg_regions.proofs.Callers.Told.{one_number, one_region, lies_or_not, number_of, same_members, lost_parent}
 use Rattle.rg_regions.proofs.Callers.Fewer.{label_before, field_before, above_both, above_by, parent_by}
 use Rattle.rg_release.specs.Released.{Unowned, BelowOne}
+use Rattle.rg_heap.specs.declared.answers.Collected.{Collected as Tells}
 use Rattle.rg_heap.specs.Parts.{Parts}
 use Rattle.rg_base.specs.declared.words.Manager.{Manager}
+use Rattle.rg_base.specs.declared.words.Manager.TheVariants.{Arena, Count, Trace}
 use Rattle.rg_regions.specs.Spent.{Spent}
 use Rattle.rg_count.specs.Counted.{Counted}
 use Rattle.rg_trace.specs.Collected.{Collected}
 use Rattle.rg_regions.specs.Reach.{OutOfReach}
-use Rattle.rg_heap.specs.Collects.{Collects, LostBelow, Told}
+use Rattle.rg_heap.specs.Collects.{Collects, CollectsBy, LostBelow, Told}
 use Rattle.rg_heap.specs.Inner.Chains.{Gone}
 use Rattle.rg_heap.proofs.Ended.{gone_sub}
 
@@ -351,3 +354,58 @@ module _ (c : Table) (t : RegionTable) (key : ℕ) (rec : Record) (mid : Table) 
         (record { region = number; manager = m; held = held; kept = kept; released = released })
     shrunk_told = tells c t key rec mid tm Cell g at shrunk tm.links head w.orphans.0 w.orphans.1 cells regions
         (n w.orphans.0 w.orphans.1.chain)
+
+-- a collection by that manager left of the region of a key what that manager keeps, and tells how much that is
+abbrev pub LeftBy : Manager → (c : Table) (t : RegionTable) (key : ℕ) → Record → Roots → (mid : Table) (tm : RegionTable) → Kept → Type 0
+LeftBy Arena c t key rec roots mid tm k = ⊥
+LeftBy Count c t key rec roots mid tm k =
+    Shrunk c t key rec mid tm (Spent c.heap rec.number roots) k.orphans × OfRegion tm key (λ now. k.kept ≡ length now.members)
+LeftBy Trace c t key rec roots mid tm k =
+    Shrunk c t key rec mid tm (OutOfReach c.heap rec.number roots) k.orphans × OfRegion tm key (λ now. k.kept ≡ length now.members)
+
+pub left_alike : (m n : Manager) (c : Table) (t : RegionTable) (key : ℕ) (rec : Record) (roots : Roots) (mid cells : Table)
+    (tm regions : RegionTable) (k l : Kept) → m ≡ n → mid ≡ cells → tm ≡ regions → k ≡ l
+    → LeftBy n c t key rec roots cells regions l → LeftBy m c t key rec roots mid tm k
+left_alike m n c t key rec roots mid cells tm regions k l a b d e w = rw (a, b, d, e) w
+
+module _ (c : Table) (t : RegionTable) (key : ℕ) (rec : Record) (roots : Roots) (mid : Table) (tm : RegionTable) (k : Kept)
+    (g : Grove c t) (at : record_at t key ≡ Some rec) where
+  pub left_chain : (m : Manager) → LeftBy m c t key rec roots mid tm k
+      → (keys : List ℕ) × Chained tm.links k.orphans keys × Unowned mid.heap tm keys
+  left_chain Arena w = absurd w
+  left_chain Count w = shrunk_chain c t key rec mid tm _ k.orphans g at w.0
+  left_chain Trace w = shrunk_chain c t key rec mid tm _ k.orphans g at w.0
+
+  module _ (cells : Table) (regions : RegionTable)
+      (n : (keys : List ℕ) → Chained tm.links k.orphans keys → Gone mid tm keys cells regions)
+      (number held released : ℕ) (members : List ℕ) (is : HasNumber t key number)
+      (has : option_map (λ (z : Record). z.members) (record_at t key) ≡ Some members) (all : held ≡ length members)
+      (count : released + count_by is_some regions.records ≡ count_by is_some tm.records) where
+    collects_by : (m : Manager) → rec.manager ≡ m → LeftBy m c t key rec roots mid tm k
+        → CollectsBy m (record { cells = c; regions = t }) (record { cells = cells; regions = regions }) key rec roots
+        (Some (record { region = number; manager = m; held = held; kept = k.kept; released = released }))
+    collects_by Arena e w = absurd w
+    collects_by Count e w = (
+      _,
+      refl,
+      shrunk_told c t key rec mid tm _ k.orphans g at w.0 cells regions n number held k.kept released Count members is (rec, at, e)
+          has all w.1 count,
+      shrunk_collects c t key rec mid tm _ k.orphans g at w.0 cells regions n,
+    )
+    collects_by Trace e w = (
+      _,
+      refl,
+      shrunk_told c t key rec mid tm _ k.orphans g at w.0 cells regions n number held k.kept released Trace members is (rec, at, e)
+          has all w.1 count,
+      shrunk_collects c t key rec mid tm _ k.orphans g at w.0 cells regions n,
+    )
+
+    -- the manager is the one that was read
+    pub collected_by : (m : Manager) → rec.manager ≡ m → LeftBy m c t key rec roots mid tm k
+        → CollectsBy rec.manager (record { cells = c; regions = t }) (record { cells = cells; regions = regions }) key rec roots
+        (Some (record { region = number; manager = m; held = held; kept = k.kept; released = released }))
+    collected_by m e w =
+        let told : Tells = record { region = number; manager = m; held = held; kept = k.kept; released = released } in
+        let P : Manager → Type 0 = λ z. CollectsBy z (record { cells = c; regions = t }) (record { cells = cells; regions = regions })
+        key rec roots (Some told) in
+        subst P (sym e) (collects_by m e w)

@@ -1,27 +1,32 @@
 -- A region is collected and its cells move, and the regions that lost their owner are released (docs/architecture.md, "The heap").
 use Rattle.std.proofs.Common.{◌≡◌, ◌≢◌, ℕ, ◌+◌, true, List, [], ◌∷◌, Option, Some, None, refl, ap, sym, ◌∙◌, subst, ◌⊎◌}
-use Rattle.std.proofs.Common.{inl, inr, arith, option_map, option_and_then, slice_get, length, count_by, is_some}
+use Rattle.std.proofs.Common.{inl, inr, arith, ◌<◌, ◌-◌, drop, get_or, option_map, option_and_then, slice_get, length, count_by, is_some}
 use Rattle.std.proofs.lemmas.Bool.{cases_eq}
 use Rattle.std.proofs.lemmas.Option.{slice_get_cases, slice_get_past, same_Some}
+use Rattle.std.proofs.lemmas.Option.{slice_get-get_or}
 use Rattle.rg_base.specs.declared.object.Label.TheVariants.{Region, Frozen}
 use Rattle.rg_base.specs.declared.words.Manager.{Manager}
+use Rattle.rg_base.specs.declared.words.Manager.TheVariants.{Count}
 use Rattle.rg_base.specs.declared.value.Word.{Word}
 use Rattle.rg_base.specs.declared.value.Word.TheVariants.{Nil, Int, Bool as Truth, Slot}
 use Rattle.rg_base.proofs.Callers.Labels.{slot-same}
 use Rattle.rg_cells.specs.declared.cell.Body.{Body}
 use Rattle.rg_cells.specs.Table.{Heap, Table, body_at, field_at, label_at}
-use Rattle.rg_frames.specs.Stack.{Stack}
+use Rattle.rg_frames.specs.declared.rows.Window.{Window}
+use Rattle.rg_frames.specs.Stack.{Stack, IsTop}
 use Rattle.rg_regions.specs.Table.{Record, RegionTable, record_at, HasNumber, Has, Chained}
 use Rattle.rg_regions.specs.Reach.{LiesIn, Roots, Reach, is_bridge}
 use Rattle.rg_regions.specs.Grove.{Grove}
-use Rattle.rg_regions.specs.Collection.{AllHeld, ChainsOrphans, HasManager}
+use Rattle.rg_regions.specs.Collection.{AllHeld, ChainsOrphans, HasManager, roots_of}
 use Rattle.rg_regions.proofs.Callers.Told.{one_region, lies_or_not, lies_held, number_of, reach_lies}
 use Rattle.rg_regions.proofs.Callers.Shares.{has_place}
 use Rattle.rg_release.specs.Released.{Unowned}
 use Rattle.rg_regions.specs.Reach.{OutOfReach}
-use Rattle.rg_copy.specs.Slid.{Slid, Becomes, AllBecome, top_roots, top_temps}
-use Rattle.rg_heap.specs.Collects.{Told}
-use Rattle.rg_heap.specs.Slides.{Slides}
+use Rattle.rg_copy.specs.Slid.{Slid, Becomes, AllBecome, top_roots, top_slots, top_temps}
+use Rattle.rg_heap.specs.declared.answers.Collected.{Collected}
+use Rattle.rg_heap.specs.Parts.{Parts}
+use Rattle.rg_heap.specs.Collects.{CollectsBy, Told}
+use Rattle.rg_heap.specs.Slides.{Slides, SlidesBy}
 use Rattle.rg_heap.specs.Inner.Chains.{Gone}
 use Rattle.rg_heap.proofs.Orphaned.{Leaves, unowned, below_one, lost_below, lost_apart, own_stays, tells}
 
@@ -218,3 +223,22 @@ module _ (c : Table) (t : RegionTable) (key : ℕ) (rec : Record) (v : Stack) (m
           → Told (record { cells = c; regions = t }) (record { cells = cells; regions = regions }) key rec
           (record { region = number; manager = m; held = held; kept = kept; released = released })
       slid_told = tells c t key rec mid tm (OutOfReach c.heap rec.number (top_roots rec v)) g at leaves tm.links head o.0 o.1 cells regions gone
+
+-- the words from the base of the top window, which is there
+pub shown_is : (v : Stack) (slots : List Word) → 0 < length v.windows → ((w : Window) → IsTop v w → slots ≡ drop w.base v.slots)
+    → slots ≡ top_slots v
+shown_is v slots b w =
+    let last = get_or v.windows (length v.windows - 1) (record { number = 0; region = 0; owner = None; base = 0 }) in
+    let is = slice_get-get_or v.windows (length v.windows - 1) _ (omega (arith, b)) in
+    let F : Option Window → ℕ = λ o. elim o [ None ↦ 0 | Some w ↦ w.base ] in
+    w last is ∙ ap (λ n. drop n v.slots) (sym (ap F is))
+
+-- a region that counts is collected, and nothing moves
+pub slides_still : (old new : Parts) (key : ℕ) (rec : Record) (v : Stack) (result : Option Collected) (slots : List Word) (temps : List ℕ)
+    → Some rec.manager ≡ Some Count → slots ≡ top_slots v → temps ≡ top_temps v
+    → CollectsBy rec.manager old new key rec (roots_of rec.bridge slots temps) result → SlidesBy rec.manager old new key rec v v result
+slides_still old new key rec v result slots temps m s t w =
+    let P : Manager → Type 0 = λ k. CollectsBy k old new key rec (top_roots rec v) result → SlidesBy k old new key rec v v result in
+    let C : List Word → List ℕ → Type 0 = λ s t. CollectsBy rec.manager old new key rec (roots_of rec.bridge s t) result in
+    let on = subst (λ t. C (top_slots v) t) t (subst (λ s. C s temps) s w) in
+    subst P (sym (same_Some _ _ m)) (λ w. (w, refl)) on

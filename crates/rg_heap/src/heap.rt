@@ -30,13 +30,13 @@ use crate::answers::{Active, Collected, Refusal};
 use crate::collecting::collect_by;
 use crate::ending::{end_temps, release_one};
 use crate::making::{make_bridge, make_in};
-use crate::moving::{freeze_one, merge_into};
 use crate::reading::{region_of, vals};
 use crate::sliding::slide_by;
 use crate::writing::write_field;
 use rg_base::{EndNumbers, Label, Manager, Memory, Place, Seen, Steps, Trap, Word};
 use rg_cells::Cells;
 use rg_frames::Frames;
+use rg_move::{freeze, merge};
 use rg_regions::Regions;
 use std::alloc::Global;
 use std::marker::Model;
@@ -284,7 +284,7 @@ impl Heap {
         let Some(key) = region_of(&self.cells, &self.regions, slot) else {
             unreachable!();
         };
-        freeze_one(&mut self.cells, &mut self.regions, key);
+        freeze(&mut self.cells, &mut self.regions, key);
         Ok(slot)
     }
 
@@ -311,7 +311,7 @@ impl Heap {
             unreachable!();
         };
         let into = frames.top().region;
-        let Ok(()) = merge_into(&mut self.cells, &mut self.regions, key, into) else {
+        let Ok(()) = merge(&mut self.cells, &mut self.regions, key, into) else {
             return Err(Refusal::Memory);
         };
         Ok(slot)

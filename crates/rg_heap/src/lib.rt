@@ -8,7 +8,6 @@ mod collecting;
 mod ending;
 mod heap;
 mod making;
-mod moving;
 mod reading;
 mod sliding;
 mod writing;

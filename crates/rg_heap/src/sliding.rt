@@ -2,7 +2,7 @@
 //! (docs/architecture.md, "The heap").
 
 ghost use Rattle.std.specs.Prelude.{◌≡◌, ◌+◌, ◌*◌, ◌≤◌, Some, sum_by};
-ghost use Rattle.rg_base.specs.declared.words.Manager.TheVariants.{Count, Trace};
+ghost use Rattle.rg_base.specs.declared.words.Manager.TheVariants.{Trace};
 ghost use Rattle.rg_cells.specs.Table.{body_at, width};
 ghost use Rattle.rg_frames.specs.Stack.{Begun};
 ghost use Rattle.rg_regions.specs.Table.{IsKey};
@@ -13,7 +13,7 @@ ghost use Rattle.rg_copy.specs.Slid.{top_slots, top_temps};
 ghost use Rattle.rg_heap.specs.Slides.{SlidesBy};
 
 use crate::answers::Collected;
-use crate::collecting::collect_count;
+use crate::collecting::collect_by;
 use crate::ending::release_all;
 use rg_base::{Manager, Steps};
 use rg_cells::Cells;
@@ -58,34 +58,6 @@ fn collect_slid<L: Ledger>(
     }
 }
 
-// Of a counting region goes what is spent, and nothing moves.
-fn collect_still<L: Ledger>(
-    cells: &mut Cells,
-    regions: &mut Regions,
-    key: usize,
-    frames: &Frames,
-    steps: &mut Steps<L>,
-) -> Collected
-    requires grove { Grove cells.old regions.old }
-    requires count { HasManager regions.old key Count }
-    requires begun { Begun frames.now }
-    requires slots { WordsLeadToHeld cells.old.heap (top_slots frames.now) }
-    requires temps { AllHeld cells.old.heap (top_temps frames.now) }
-    requires temps_lead { TempsLeadToHeld cells.old.heap (top_temps frames.now) }
-    ensures slides { OfRegion regions.old key (λ r. SlidesBy Count
-        (record { cells = cells.old; regions = regions.old })
-        (record { cells = cells.new; regions = regions.new }) key r
-        frames.now frames.now (Some result)) }
-    ensures cost { OfRegion regions.old key (λ r. steps.new
-        ≤ steps.old + sum_by (λ t. width (body_at cells.old.heap t)) (top_temps frames.now)
-        + region_fields cells.old.heap r.number) }
-    ensures grove { Grove cells.new regions.new }
-{
-    let slots = frames.slots();
-    let temps = frames.temps();
-    collect_count(cells, regions, key, slots, temps, steps)
-}
-
 /// Collects the top window's region by its manager, and moves what it keeps where the region is
 /// traced; None where the manager is an arena.
 pub fn slide_by<L: Ledger>(
@@ -112,7 +84,11 @@ pub fn slide_by<L: Ledger>(
 {
     match regions.manager(key) {
         Manager::Arena => None,
-        Manager::Count => Some(collect_still(cells, regions, key, frames, steps)),
+        Manager::Count => {
+            let slots = frames.slots();
+            let temps = frames.temps();
+            collect_by(cells, regions, key, slots, temps, steps)
+        }
         Manager::Trace => Some(collect_slid(cells, regions, key, frames, steps)),
     }
 }
