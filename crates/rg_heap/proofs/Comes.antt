@@ -1,9 +1,7 @@
 -- What holds where an object is made, or where there was no memory for it (docs/architecture.md, "The heap").
-use Rattle.std.proofs.Common.{◌≡◌, ◌≢◌, ℕ, zero, suc, ◌+◌, ◌-◌, ◌≤◌, List, [], ◌∷◌, ◌++◌, Option, Some, None, refl, ap, sym, ◌∙◌}
+use Rattle.std.proofs.Common.{◌≡◌, ◌≢◌, ℕ, zero, suc, ◌+◌, ◌-◌, List, [], ◌∷◌, ◌++◌, Option, Some, None, refl, ap, sym, ◌∙◌}
 use Rattle.std.proofs.Common.{subst, ◌⊎◌, inl, inr, option_map, slice_get, length, arith, get_or, set}
-use Rattle.std.specs.Prelude.{◌==◌, if◌then◌else◌}
 use Rattle.std.proofs.lemmas.Bool.{cases_eq}
-use Rattle.std.proofs.lemmas.Bool.Decides.{eqb_tells}
 use Rattle.std.proofs.lemmas.List.{get_or-set_other}
 use Rattle.std.proofs.lemmas.Option.{same_Some}
 use Rattle.rg_base.specs.declared.words.Manager.{Manager}
@@ -11,8 +9,7 @@ use Rattle.rg_base.specs.declared.object.Label.TheVariants.{Region, Temp}
 use Rattle.rg_base.specs.declared.value.Word.{Word}
 use Rattle.rg_base.proofs.Callers.Labels.{region-number}
 use Rattle.rg_cells.specs.declared.cell.Body.{Body}
-use Rattle.rg_cells.specs.Table.{Table, Made, body_at, body_in, label_at, mark_at, cancelled as cell_cancelled, held_count, high_of, high_after}
-use Rattle.rg_cown.proofs.Rising.{high_back}
+use Rattle.rg_cells.specs.Table.{Table, Made, body_at, body_in, label_at, mark_at, cancelled as cell_cancelled}
 use Rattle.rg_regions.specs.Table.{Record, RegionTable, record_at, HasNumber, IsKey, IsNewest, HasRoom, Roomier, Added, fresh, changed, cancelled}
 use Rattle.rg_regions.specs.Table.{with_room, with_member, with_bridge}
 use Rattle.rg_regions.specs.Reach.{LiesIn}
@@ -367,26 +364,3 @@ pub vacant_unmarked : (c : Table) (t : RegionTable) (slot : ℕ) → Grove c t �
 vacant_unmarked c t slot g e = g.unmarked slot (λ k r a m l.
     let z : None ≡ Some (Region r.number) = sym (ap (option_map (λ (b : Body). b.label)) e) ∙ l in
     cc)
-
--- behind one cell more, at least as many slots were ever held
-no_less : (held high : ℕ) → high ≤ (if held == high then high + 1 else high)
-no_less held high = elim (eqb_tells held high) [
-  | inl t ↦ let q : (if held == high then high + 1 else high) ≡ high + 1 = ap (λ z. if z then high + 1 else high) t.0 in omega (arith, q)
-  | inr t ↦ let q : (if held == high then high + 1 else high) ≡ high = ap (λ z. if z then high + 1 else high) t.0 in omega (arith, q)
-]
-
--- no cell came
-pub high_as_before : (c cells : Table) → cells ≡ c → (high_of c.heap ≤ high_of cells.heap) × (high_of cells.heap ≤ high_after c.heap)
-high_as_before c cells e =
-    let s = ap (λ (z : Table). high_of z.heap) e in
-    let l = no_less (held_count c.heap) (high_of c.heap) in
-    (omega (arith, s), omega (arith, s, l))
-
--- the cell that came was taken back
-pub high_taken_back : (c mid cells : Table) (slot : ℕ) (b : Body) → Made c mid slot b → b.serial ≡ c.heap.next → mid.heap.next ≡ c.heap.next + 1
-    → high_of mid.heap ≡ high_after c.heap → cells ≡ cell_cancelled mid slot
-    → (high_of c.heap ≤ high_of cells.heap) × (high_of cells.heap ≤ high_after c.heap)
-high_taken_back c mid cells slot b m serial n h e =
-    let s = high_back mid cells slot (b, m.body, ap (λ z. z + 1) serial ∙ sym n) e in
-    let l = no_less (held_count c.heap) (high_of c.heap) in
-    (omega (arith, s, h, l), omega (arith, s, h))
