@@ -5,7 +5,7 @@ ghost use Rattle.std.specs.Prelude.{Some, Err, ◌⊎◌, ◌≤◌, ◌↔◌, 
 ghost use Rattle.rg_base.specs.declared.object.Label.TheVariants.{Region, Temp};
 ghost use Rattle.rg_cells.specs.declared.cell.Body.{Body as BodyOf};
 ghost use Rattle.rg_cells.specs.Table.{IsHeld, body_at, field_at, label_at, width, with_field};
-ghost use Rattle.rg_cells.specs.Table.{Serials};
+ghost use Rattle.rg_cells.specs.Table.{Serials, high_of, high_after};
 ghost use Rattle.rg_regions.specs.Table.{IsKey, Added, fresh};
 ghost use Rattle.rg_regions.specs.Grove.{Below, Grove};
 ghost use Rattle.rg_frames.specs.Stack.{BaseUpTo, Begun, closed, opened, with_temp};
@@ -124,6 +124,8 @@ impl Heap {
             Makes self.old.cells self.new.cells slot class (Temp w.number) fields.now)) }
         ensures temp { IfOk result (λ slot. frames.new ≡ with_temp frames.old slot) }
         ensures cells { OnErr result (SameCells self.old.cells self.new.cells) }
+        ensures high { OnErr result ((high_of self.old.cells.heap ≤ high_of self.new.cells.heap)
+            × (high_of self.new.cells.heap ≤ high_after self.old.cells.heap)) }
         ensures frames { OnErr result (frames.new ≡ frames.old) }
         ensures regions { self.new.regions ≡ self.old.regions }
     {
