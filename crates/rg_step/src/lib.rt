@@ -14,7 +14,6 @@ mod kept;
 mod leap;
 mod outcome;
 mod quick;
-mod reads;
 mod room;
 mod step;
 mod stepper;

@@ -1,5 +1,5 @@
 -- Where a walk that asks the input lands, by where the walk along the code paused, or why it stopped.
-use Rattle.std.proofs.Common.{◌≡◌, ℕ, ℤ, ◌+◌, inr, List, Bool as Truth, true, false, true≢false, Ok, Err, drop, sym, subst, ◌∙◌}
+use Rattle.std.proofs.Common.{◌≡◌, ℕ, ℤ, ◌+◌, inr, List, Bool as Truth, false, true≢false, Ok, Err, sym, subst, ◌∙◌}
 use Rattle.rg_base.specs.declared.value.Val.{Val}
 use Rattle.rg_base.specs.declared.value.Val.TheVariants.{Bool, Int}
 use Rattle.rg_input.specs.declared.refusal.NumberRefusal.{NumberRefusal}
@@ -7,8 +7,7 @@ use Rattle.rg_input.specs.Numbers.{Answers, Looks}
 use Rattle.rg_code.specs.Code.{Code}
 use Rattle.rg_stack.specs.Effects.{Traps}
 use Rattle.rg_stack.specs.Machine.{Machine}
-use Rattle.rg_held.specs.Frees.{free_given_walk as given_walk}
-use Rattle.rg_machine.specs.Core.{Core, below_top, with_top, work_of}
+use Rattle.rg_machine.specs.Core.{below_top, with_top}
 use Rattle.rg_machine.specs.Cores.{core_of}
 use Rattle.rg_machine.specs.Parts.{Parts, machine_in}
 use Rattle.rg_machine.proofs.Callers.Return.{same-back}

@@ -4,7 +4,7 @@ use Rattle.rg_base.specs.declared.outcome.Trap.{Trap}
 use Rattle.rg_base.specs.declared.outcome.Trap.TheVariants as trap
 use Rattle.rg_code.specs.declared.op.Op.{Op}
 use Rattle.rg_stack.specs.Machine.{Machine}
-use Rattle.rg_stack.specs.Refusals.{Orderly, calm, orderly}
+use Rattle.rg_stack.specs.Refusals.{calm, orderly}
 use Rattle.rg_stack.specs.Reads.{reads}
 use Rattle.rg_machine.specs.Keeps.{GoesBack, SameBacks}
 use Rattle.rg_input.specs.declared.refusal.NumberRefusal.{NumberRefusal}

@@ -1,17 +1,15 @@
-use Rattle.std.proofs.Common.{◌≡◌, ◌∙◌, ◌+◌, ◌≤◌, Ok, Err, length, subst, ap, to_z, of_z, w64, arith}
+use Rattle.std.proofs.Common.{◌≡◌, ◌∙◌, ◌+◌, Ok, Err, subst, ap, to_z, of_z, w64, arith}
 use Rattle.std.proofs.lemmas.Int.{to_z-of_z}
 use Rattle.std.proofs.lemmas.Result.{err_from_is_err_and}
 use Rattle.rg_base.specs.declared.value.Val.TheVariants.{Bool, Int}
 use Rattle.rg_io.proofs.Content.{Rose-since}
-use Rattle.rg_input.specs.declared.refusal.NumberRefusal.TheVariants as no
 use Rattle.rg_input.specs.Numbers.{Answers, Looks}
 use Rattle.rg_input.proofs.Input.{OnInput-map, OnInput-both}
 use Rattle.rg_machine.specs.Core.{below_top, with_top}
 use Rattle.rg_step.specs.declared.asks.Landing.TheVariants as landing
 use Rattle.rg_step.specs.declared.stopped.Stopped.TheVariants as stopped
-use Rattle.rg_step.specs.declared.walk.Pause.TheVariants as pause
 use Rattle.rg_step.specs.Inner.Refusals.{stopped_by}
-use Rattle.rg_step.specs.Inner.Walks.{ComesTo, Unstuck, WalkEnds, walk_from}
+use Rattle.rg_step.specs.Inner.Walks.{ComesTo, WalkEnds, walk_from}
 use Rattle.rg_step.proofs.Walking.Ask.{unstuck-there}
 use Rattle.rg_step.proofs.Walking.Landings.{along-more, along-read, comes-back, comes-nowhere, comes-stop, comes-unread, comes-unseen}
 use Rattle.rg_step.proofs.Walking.Landings.{lands-back, lands-nowhere, lands-stop, lands-unread, lands-unseen, never-looks, never-reads, reads-on, sees-on}
