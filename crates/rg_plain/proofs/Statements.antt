@@ -8,3 +8,4 @@ pub mod Bind
 pub mod Call
 pub mod Window
 pub mod Input
+pub mod Unasked

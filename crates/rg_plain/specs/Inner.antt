@@ -1,4 +1,5 @@
 -- What joins the private layers of this crate; no clause of a public call cites it (docs/language.md, "Steps").
+pub mod Assignments
 pub mod Calls
 pub mod Counts
 pub mod Inputs

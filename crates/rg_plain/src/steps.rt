@@ -23,10 +23,10 @@ ghost use Rattle.rg_rules.specs.Outside.Inputs.{first_asks, kind_asks};
 ghost use Rattle.rg_io.specs.Content.{Rose};
 ghost use Rattle.rg_input.specs.Numbers.{Follows, OnInput};
 ghost use Rattle.rg_plain.specs.Fits.{PartsFit};
-ghost use Rattle.rg_plain.specs.Inner.Inputs.{SettlesOn, StepOn};
+ghost use Rattle.rg_plain.specs.Inner.Inputs.{MadeOn, SettlesOn};
 ghost use Rattle.rg_plain.specs.Inner.Steps.{Makes, Stands};
 ghost use Rattle.rg_plain.specs.Kept.{kept_of, shown};
-ghost use Rattle.rg_plain.specs.Outcomes.{EndsMain, LeavesRows, QuietOrPrints, prints};
+ghost use Rattle.rg_plain.specs.Outcomes.{EndsMain, LeavesRows, prints};
 ghost use Rattle.rg_plain.specs.Outcomes.{settled_outcome};
 
 use crate::state::items::{At, advance, first};
@@ -99,19 +99,8 @@ fn statement_step<S: Source>(
     requires top { (below : List ItemRow) × (m.old.items.items ≡ below ++ ItemRow.Rest span ∷ []) }
     requires fit { PartsFit book.now.program m.old }
     requires follows { Follows numbers.old (S.left source.old) }
-
-    ensures step { OnInput numbers.old numbers.new (S.left source.old) (S.left source.new)
-        (StepOn book.now.program (kept_of m.old) (kept_of m.new) result) }
-    ensures reads_nothing { first_asks (shown book.now.program m.old.items.items) ≡ false →
-        (numbers.new ≡ numbers.old) × (source.new ≡ source.old) }
-    ensures fit { PartsFit book.now.program m.new }
-    ensures quiet { QuietOrPrints (shown book.now.program m.old.items.items) result }
-
-    ensures follows { Follows numbers.new (S.left source.new) }
-    ensures input_fault { result ≡ Outcome.InputFault →
-        first_asks (shown book.now.program m.old.items.items) ≡ true }
-    ensures fault { result ≡ Outcome.InputFault → Rose (S.faults source.old) (S.faults source.new) }
-    ensures never_falls { S.faults source.old ≤ S.faults source.new }
+    ensures { MadeOn S.left S.faults book.now.program m.old m.new numbers.old numbers.new source.old
+        source.new result }
 {
     let number = first(book, &m.items, span);
     let row = book.stmt(number);
@@ -139,27 +128,17 @@ fn row_step<S: Source>(
     alloc: Global,
     book: &Book,
     m: &mut Parts,
+    row: ItemRow,
     numbers: &mut Numbers,
     source: &mut S,
 ) -> Outcome
-    requires left { m.old.items.items ≢ [] }
+    requires top { (below : List ItemRow) × (m.old.items.items ≡ below ++ row ∷ []) }
     requires fit { PartsFit book.now.program m.old }
     requires follows { Follows numbers.old (S.left source.old) }
-
-    ensures step { OnInput numbers.old numbers.new (S.left source.old) (S.left source.new)
-        (StepOn book.now.program (kept_of m.old) (kept_of m.new) result) }
-    ensures reads_nothing { first_asks (shown book.now.program m.old.items.items) ≡ false →
-        (numbers.new ≡ numbers.old) × (source.new ≡ source.old) }
-    ensures fit { PartsFit book.now.program m.new }
-    ensures quiet { QuietOrPrints (shown book.now.program m.old.items.items) result }
-
-    ensures follows { Follows numbers.new (S.left source.new) }
-    ensures input_fault { result ≡ Outcome.InputFault →
-        first_asks (shown book.now.program m.old.items.items) ≡ true }
-    ensures fault { result ≡ Outcome.InputFault → Rose (S.faults source.old) (S.faults source.new) }
-    ensures never_falls { S.faults source.old ≤ S.faults source.new }
+    ensures { MadeOn S.left S.faults book.now.program m.old m.new numbers.old numbers.new source.old
+        source.new result }
 {
-    match m.items[m.items.len() - 1] {
+    match row {
         ItemRow::Rest(span) => { statement_step(alloc, book, m, span, numbers, source) }
         ItemRow::EndAt(kept) => {
             end_step(book, m, kept);
@@ -223,7 +202,8 @@ pub(crate) fn whole_step<S: Source>(
     ensures fault { result ≡ Outcome.InputFault → Rose (S.faults source.old) (S.faults source.new) }
     ensures never_falls { S.faults source.old ≤ S.faults source.new }
 {
-    let outcome = row_step(alloc, book, m, numbers, source);
+    let row = m.items[m.items.len() - 1];
+    let outcome = row_step(alloc, book, m, row, numbers, source);
     settled(outcome, m.items.is_empty())
 }
 

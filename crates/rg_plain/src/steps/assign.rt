@@ -6,8 +6,8 @@ ghost use Rattle.rg_tree.specs.Rows.RowsExist.{IsExprNumber, IsRightIn};
 ghost use Rattle.rg_tree.specs.Tree.{value};
 ghost use Rattle.rg_rules.specs.Outside.Inputs.{asks};
 ghost use Rattle.rg_plain.specs.Fits.{PartsFit};
-ghost use Rattle.rg_plain.specs.Inner.Spots.{LeftFits, statement_of};
-ghost use Rattle.rg_plain.specs.Inner.Steps.{Makes, Stands};
+ghost use Rattle.rg_plain.specs.Inner.Assignments.{AssignStands};
+ghost use Rattle.rg_plain.specs.Inner.Steps.{Makes};
 ghost use Rattle.rg_plain.specs.Kept.{kept_of};
 
 use crate::state::parts::Parts;
@@ -29,9 +29,8 @@ pub(crate) fn value_step(
     to: Assignment,
     right: u32,
 ) -> Result<(), Refusal>
-    requires stands { Stands book.now.program m.old to.at (statement_of book.now.program to.left
-        (value (expr_at book.now.program right))) }
-    requires left { LeftFits book.now.program to.left }
+    requires assigns { AssignStands book.now.program m.old to
+        (value (expr_at book.now.program right)) }
     requires there { IsExprNumber book.now.program right }
     ensures step { Makes book.now.program (kept_of m.old) (kept_of m.new) to.at.line result }
     ensures fit { PartsFit book.now.program m.new }
@@ -52,9 +51,8 @@ pub(crate) fn right_step(
     to: Assignment,
     right: Right,
 ) -> Result<(), Refusal>
-    requires stands { Stands book.now.program m.old to.at (statement_of book.now.program to.left
-        (right_of book.now.program right)) }
-    requires left { LeftFits book.now.program to.left }
+    requires assigns { AssignStands book.now.program m.old to
+        (right_of book.now.program right) }
     requires right { IsRightIn book.now.program right }
     requires asks_nothing { asks (right_of book.now.program right) ≡ false }
     ensures step { Makes book.now.program (kept_of m.old) (kept_of m.new) to.at.line result }

@@ -10,8 +10,9 @@ ghost use Rattle.rg_tree.specs.Rows.Tables.{Tables, numbers_in};
 ghost use Rattle.rg_tree.specs.Tree.{call, result_of};
 ghost use Rattle.rg_rules.specs.Evaluation.{cleared, uses};
 ghost use Rattle.rg_plain.specs.Fits.{PartsFit, TargetFits};
+ghost use Rattle.rg_plain.specs.Inner.Assignments.{AssignStands};
 ghost use Rattle.rg_plain.specs.Inner.Calls.{CallIs, CalledIs, Enters};
-ghost use Rattle.rg_plain.specs.Inner.Spots.{AimFits, LeftFits, sent_to, statement_of};
+ghost use Rattle.rg_plain.specs.Inner.Spots.{AimFits, sent_to};
 ghost use Rattle.rg_plain.specs.Inner.Steps.{IsAt, Makes, Stands};
 ghost use Rattle.rg_plain.specs.Kept.{kept_of, target_of};
 ghost use Rattle.rg_plain.specs.Shown.{AreNamed, locals_of};
@@ -168,9 +169,8 @@ pub(crate) fn result_step(
     to: Assignment,
     row: CallRow,
 ) -> Result<(), Refusal>
-    requires stands { Stands book.now.program m.old to.at (statement_of book.now.program to.left
-        (result_of (call_of book.now.program row))) }
-    requires left { LeftFits book.now.program to.left }
+    requires assigns { AssignStands book.now.program m.old to
+        (result_of (call_of book.now.program row)) }
     requires row { IsCallIn book.now.program row }
     ensures step { Makes book.now.program (kept_of m.old) (kept_of m.new) to.at.line result }
     ensures fit { PartsFit book.now.program m.new }

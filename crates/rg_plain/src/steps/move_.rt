@@ -8,10 +8,11 @@ ghost use Rattle.rg_tree.specs.Rows.Tables.{Tables};
 ghost use Rattle.rg_rules.specs.Regions.{beneath};
 ghost use Rattle.rg_store.specs.Regions.{AreMarked, AreRegions, LabelFits};
 ghost use Rattle.rg_plain.specs.Fits.{PartsFit};
+ghost use Rattle.rg_plain.specs.Inner.Assignments.{AssignStands};
 ghost use Rattle.rg_plain.specs.Inner.Moves.{HeldIs, carried, label_of, regions_with, right_of};
 ghost use Rattle.rg_plain.specs.Inner.Rooms.{HasRoom};
-ghost use Rattle.rg_plain.specs.Inner.Spots.{AimFits, LeftFits, statement_of};
-ghost use Rattle.rg_plain.specs.Inner.Steps.{Makes, Stands};
+ghost use Rattle.rg_plain.specs.Inner.Spots.{AimFits};
+ghost use Rattle.rg_plain.specs.Inner.Steps.{Makes};
 ghost use Rattle.rg_plain.specs.Kept.{kept_of, plain_of};
 
 use crate::state::items::advance;
@@ -134,9 +135,8 @@ pub(crate) fn move_step(
     name: u32,
     how: Move,
 ) -> Result<(), Refusal>
-    requires stands { Stands book.now.program m.old to.at
-        (statement_of book.now.program to.left (right_of book.now.program name how)) }
-    requires left { LeftFits book.now.program to.left }
+    requires assigns { AssignStands book.now.program m.old to
+        (right_of book.now.program name how) }
     requires name { IsNameIn book.now.program name }
     ensures step { Makes book.now.program (kept_of m.old) (kept_of m.new) to.at.line result }
     ensures fit { PartsFit book.now.program m.new }

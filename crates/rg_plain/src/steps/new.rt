@@ -7,10 +7,11 @@ ghost use Rattle.rg_tree.specs.Rows.Tables.{Tables};
 ghost use Rattle.rg_store.specs.Shown.{seen_of};
 ghost use Rattle.rg_store.specs.Regions.{LabelFits};
 ghost use Rattle.rg_plain.specs.Fits.{PartsFit};
+ghost use Rattle.rg_plain.specs.Inner.Assignments.{AssignStands};
 ghost use Rattle.rg_plain.specs.Inner.Makes.{HasRooms, label_of, managers_with};
 ghost use Rattle.rg_plain.specs.Inner.Makes.{right_of, use_with, with_object};
-ghost use Rattle.rg_plain.specs.Inner.Spots.{AimFits, LeftFits, statement_of};
-ghost use Rattle.rg_plain.specs.Inner.Steps.{Makes, Stands};
+ghost use Rattle.rg_plain.specs.Inner.Spots.{AimFits};
+ghost use Rattle.rg_plain.specs.Inner.Steps.{Makes};
 ghost use Rattle.rg_plain.specs.Kept.{kept_of, plain_of};
 
 use crate::state::items::advance;
@@ -102,9 +103,8 @@ pub(crate) fn new_step(
     name: u32,
     kind: Kind,
 ) -> Result<(), Refusal>
-    requires stands { Stands book.now.program m.old to.at
-        (statement_of book.now.program to.left (right_of book.now.program name kind)) }
-    requires left { LeftFits book.now.program to.left }
+    requires assigns { AssignStands book.now.program m.old to
+        (right_of book.now.program name kind) }
     requires name { IsNameIn book.now.program name }
     ensures step { Makes book.now.program (kept_of m.old) (kept_of m.new) to.at.line result }
     ensures fit { PartsFit book.now.program m.new }

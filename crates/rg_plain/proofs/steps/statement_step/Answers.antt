@@ -1,5 +1,8 @@
-use Rattle.rg_plain.specs.Kept.{kept_of}
+use Rattle.std.proofs.Common.{◌≡◌, false, inl, inr, rules}
+use Rattle.rg_plain.specs.Kept.{kept_of, shown}
+use Rattle.rg_plain.specs.Outcomes.{first_prints}
 use Rattle.rg_plain.proofs.Statements.Input.{does, prints}
+use Rattle.rg_plain.proofs.Statements.Unasked.{unasked}
 use Rattle.rg_plain.proofs.steps.statement_step.Goals as goal
 
 pub input_step-requires-clause-left : goal.input_step-requires-clause-left
@@ -11,12 +14,21 @@ input_step-requires-in-Asks-clause-left g c = c.in-Asks.ensures.fits c.args.book
 pub print_step-requires-clause-there : goal.print_step-requires-clause-there
 print_step-requires-clause-there g c = c.in-Prints.ensures.fits c.args.book.now.program c.first-number.result c.stmt-row.ensures.below
 
-pub returns-in-Prints-clause-step : goal.returns-in-Prints-clause-step
-returns-in-Prints-clause-step g c =
-    prints c.args.book.now.program (kept_of c.args.m.now) (kept_of c.print_step.new.m) c.stmt-row.result.line c.print_step.result c.printed.result _ _
-    c.printed.ensures.is c.print_step.ensures.step
+pub returns-in-Prints : goal.returns-in-Prints
+returns-in-Prints g c =
+    let t = c.args.book.now.program in
+    let new = c.print_step.new.m in
+    unasked _ _ t c.args.m.now new _ _ c.printed.result
+    (prints t (kept_of c.args.m.now) (kept_of new) c.stmt-row.result.line c.print_step.result c.printed.result _ _ c.printed.ensures.is
+    c.print_step.ensures.step)
+    (inr c.printed.ensures.prints) c.print_step.ensures.fit c.printed.ensures.asks_nothing c.requires.follows
 
-pub returns-in-Nothing-clause-step : goal.returns-in-Nothing-clause-step
-returns-in-Nothing-clause-step g c =
-    does c.args.book.now.program (kept_of c.args.m.now) (kept_of c.kind_step.new.m) c.stmt-row.result.line c.kind_step.result c.outcome.result _ _
-    c.outcome.ensures.is c.kind_step.ensures.step
+pub returns-in-Nothing : goal.returns-in-Nothing
+returns-in-Nothing g c =
+    let t = c.args.book.now.program in
+    let new = c.kind_step.new.m in
+    let quiet : first_prints (shown t c.args.m.now.items.items) ≡ false = search rules in
+    unasked _ _ t c.args.m.now new _ _ c.outcome.result
+    (does t (kept_of c.args.m.now) (kept_of new) c.stmt-row.result.line c.kind_step.result c.outcome.result _ _ c.outcome.ensures.is
+    c.kind_step.ensures.step)
+    (inl quiet) c.kind_step.ensures.fit c.outcome.ensures.asks_nothing c.requires.follows

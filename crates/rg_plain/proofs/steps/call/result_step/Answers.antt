@@ -16,14 +16,14 @@ call_named-requires-clause-to c = c.sent_to.ensures.fits c.args.book.now.program
 pub returns-clause-step : goal.returns-clause-step
 returns-clause-step c input =
     let t = c.args.book.now.program in
-    let at = c.requires.stands.at in
+    let at = c.requires.assigns.stands.at in
     let line = c.args.to.at.line in
     let old = plain_of t (kept_of c.args.m.now) input in
     let s : State = record old { items = at.rest } in
     let r = result_of (call_of t c.args.row) in
     let Is : Stepped → Type 0 = λ step. Does step old (plain_of t (kept_of c.call_named.new.m) input) line c.call_named.result in
     statement-is t (kept_of c.args.m.now) (kept_of c.call_named.new.m) input at.rest c.args.to.at.number line (statement_of t c.args.to.left r)
-    c.call_named.result at.items c.requires.stands.tree
+    c.call_named.result at.items c.requires.assigns.stands.tree
     (subst Is
     (ap (λ (to : Target). stepped line (step_call (classes_of t) s to (call_of t c.args.row))) (c.sent_to.ensures.target t)
     ∙ ap (stepped line) (sym (c.in_ok-aim.ensures.1 input at.rest line r)))

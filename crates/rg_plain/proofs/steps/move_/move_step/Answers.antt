@@ -15,8 +15,8 @@ returns-in_err-held-clause-step c input =
     let p = err_from_is_err_and c.from_residual-in_err-held.result c.from_residual-in_err-held.ensures.1 in
     rw (p.1, p.2) (
       move-cut t (kept_of c.args.m.now) input c.args.to.at.number c.args.to.at.line c.args.to.left c.args.name c.args.how c.in_ok-aim.aim
-          c.requires.stands.at.rest _
-          c.in_ok-aim.ensures c.in_err-held.ensures c.requires.stands.at.items c.requires.stands.tree,
+          c.requires.assigns.stands.at.rest _
+          c.in_ok-aim.ensures c.in_err-held.ensures c.requires.assigns.stands.at.items c.requires.assigns.stands.tree,
       refl,
     )
 
@@ -25,7 +25,7 @@ returns-in_default-clause-step c input =
     let t = c.args.book.now.program in
     move-held t (kept_of c.args.m.now) input c.args.to.at.number c.args.to.at.line c.args.to.left c.args.name c.args.how c.in_ok-aim.aim
     c.in_ok-held.held None c.advance.new.items.items _ c.in_ok-aim.ensures c.in_ok-held.ensures c.in_default.is c.advance.ensures.rest
-    c.requires.stands.tree refl
+    c.requires.assigns.stands.tree refl
 
 pub regions_with-requires-clause-made : goal.regions_with-requires-clause-made
 regions_with-requires-clause-made c =
@@ -57,7 +57,7 @@ returns-clause-step c input =
     λ q l v. carried t aim c.args.name (plain_of t (record q { items = items }) input) (regions_with cs q.store (length q.managers) how region) l v in
     move-held t k input c.args.to.at.number c.args.to.at.line c.args.to.left c.args.name how aim held (Some region) items _ c.in_ok-aim.ensures holds
     c.in-Some.is
-    (sym (ap (λ (q : Kept). shown t q.items) kept) ∙ c.advance-2.ensures.rest) c.requires.stands.tree
+    (sym (ap (λ (q : Kept). shown t q.items) kept) ∙ c.advance-2.ensures.rest) c.requires.assigns.stands.tree
     (c.carry.ensures.carried input (regions_with cs room.store (length room.managers) how region) c.in_ok-regions.ensures
     ∙ ap (λ l. new room l held.value) (c.new_label-label.ensures.label t input)
     ∙ ap (λ (q : Kept). new q (label_of (plain_of t q input).windows how) held.value) kept

@@ -20,7 +20,7 @@ make-requires-clause-label c =
     let m = c.args.m.now in
     let windows = (plain_of c.args.book.now.program (kept_of m) []).windows in
     let o = c.in_ok-object.object in
-    let made = label-made c.args.kind m.managers.items windows c.requires.stands.fit.regions.active in
+    let made = label-made c.args.kind m.managers.items windows c.requires.assigns.stands.fit.regions.active in
     let label_is = ap (λ (q : Seen). q.label) c.in_ok-object.ensures.shown ∙ c.label.ensures c.args.book.now.program [] in
     subst (λ (q : Kept). LabelFits (length (managers_with c.args.kind q.managers)) o.label) (sym c.in_ok-make_rooms.ensures.kept)
     (subst (λ (q : Label). LabelFits (length (managers_with c.args.kind m.managers.items)) q) (sym label_is) made)
@@ -35,7 +35,7 @@ returns-clause-step c input =
     λ q o. use_with t c.in_ok-aim.aim c.args.kind (with_object (plain_of t (record q { items = items }) input) o) (Obj (length q.store)) in
     let label_is = c.label.ensures t input in
     made-step t k input c.args.to.at.number c.args.to.at.line c.args.to.left c.args.name c.in-Some.class c.args.kind c.in_ok-aim.aim items _
-    c.in_ok-aim.ensures (sym (ap (λ (q : Kept). shown t q.items) kept) ∙ c.advance-2.ensures.rest) c.requires.stands.tree
+    c.in_ok-aim.ensures (sym (ap (λ (q : Kept). shown t q.items) kept) ∙ c.advance-2.ensures.rest) c.requires.assigns.stands.tree
     c.in-Some.ensures.is
     (c.make.ensures.made input ∙ ap (λ q. new q (seen_of c.in_ok-object.object)) kept
     ∙ ap (new k) (c.in_ok-object.ensures.shown ∙ ap (opened_as (classes_of t) c.in-Some.class) label_is))

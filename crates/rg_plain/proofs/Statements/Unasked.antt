@@ -1,0 +1,38 @@
+-- Steps that leave the input and its source alone.
+use Rattle.std.proofs.Common.{◌≡◌, ◌≢◌, ℕ, List, Option, refl, arith, inl, false}
+use Rattle.rg_base.specs.declared.outcome.Outcome.{Outcome}
+use Rattle.rg_base.specs.declared.outcome.Outcome.TheVariants as outcome
+use Rattle.rg_tree.specs.Rows.Tables.{Tables}
+use Rattle.rg_input.specs.Numbers.{Follows, OnInput, Pending}
+use Rattle.rg_plain.specs.declared.state.parts.Parts.{Parts}
+use Rattle.rg_plain.specs.Fits.{PartsFit}
+use Rattle.rg_plain.specs.Inner.Inputs.{MadeOn, StepOn}
+use Rattle.rg_plain.specs.Inner.Steps.{GoesOn}
+use Rattle.rg_plain.specs.Kept.{kept_of, shown}
+use Rattle.rg_plain.specs.Outcomes.{QuietOrPrints, first_prints}
+use Rattle.rg_plain.proofs.Statements.Input.{reads_nothing}
+
+-- one that doesn't end with a fault of the input
+pub unasked : {S : Type 0} (left : S → Option (List ℕ)) (faults : S → ℕ) (t : Tables) (old new : Parts) (n : Pending) (source : S) (r : Outcome) →
+    OnInput n n (left source) (left source) (StepOn t (kept_of old) (kept_of new) r) → QuietOrPrints (shown t old.items.items) r → PartsFit t new →
+    r ≢ outcome.InputFault → Follows n (left source) → MadeOn left faults t old new n n source source r
+unasked left faults t old new n source r step quiet fit no_fault follows =
+    record {
+      step = step;
+      reads_nothing = λ asks. (refl, refl);
+      fit = fit;
+      quiet = quiet;
+      follows = follows;
+      input_fault = λ e. absurd (no_fault e);
+      fault = λ e. absurd (no_fault e);
+      never_falls = omega arith;
+    }
+
+-- one that can't be refused
+pub goes-on : {S : Type 0} (left : S → Option (List ℕ)) (faults : S → ℕ) (t : Tables) (old new : Parts) (n : Pending) (source : S) →
+    GoesOn t (kept_of old) (kept_of new) → first_prints (shown t old.items.items) ≡ false → PartsFit t new → Follows n (left source) →
+    MadeOn left faults t old new n n source source outcome.Running
+goes-on left faults t old new n source step quiet fit follows =
+    let no_fault : outcome.Running ≢ outcome.InputFault = λ e. cc in
+    unasked left faults t old new n source outcome.Running (reads_nothing t (kept_of old) (kept_of new) outcome.Running n (left source) step)
+    (inl quiet) fit no_fault follows
