@@ -14,3 +14,4 @@ mod Step
 mod None
 mod Collected
 mod Loop
+mod Moved

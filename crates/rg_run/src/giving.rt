@@ -4,14 +4,14 @@
 ghost use Rattle.std.specs.Prelude.{◌≡◌, ◌⊎◌, ◌+◌, ◌-◌, ◌^◌, ◌<◌, ◌≤◌, ℕ, List, Option, Err};
 ghost use Rattle.std.specs.Prelude.{length, take};
 ghost use Rattle.rg_io.specs.Content.{Rose};
-ghost use Rattle.rg_run.specs.Inner.{Gives, behind, ended_by};
+ghost use Rattle.rg_run.specs.Inner.{Gives, IsLent, behind, ended_by};
 ghost use Rattle.rg_run.specs.Reports.{Reports};
 
+use crate::task::{Sinks, Task};
 use crate::telling::tell;
 use rg_base::{Ended, Event, Outcome};
 use rg_io::{Failed, Sink};
 use rg_plain::put_value;
-use std::alloc::Global;
 
 /// The whole steps behind one more; one that was refused isn't counted.
 pub(crate) fn counted(steps: u64, outcome: Outcome) -> u64
@@ -28,32 +28,34 @@ pub(crate) fn counted(steps: u64, outcome: Outcome) -> u64
 /// Gives the lines of a step: of the value that it printed, and of its collection, the one behind
 /// the first ones, so many. An `Err` is the end of the run.
 pub(crate) fn give<O: Sink, R: Sink>(
-    alloc: Global,
-    report: bool,
+    task: &Task<'_>,
+    sinks: &mut Sinks<'_, O, R>,
     events: &[Event],
     told: usize,
     outcome: Outcome,
-    out: &mut O,
-    notes: &mut R,
 ) -> Result<(), Ended>
     requires few { length events.now ≤ behind told outcome }
-    ensures gives { Gives outcome result (O.taken out.old) (O.taken out.new) }
+    ensures gives { Gives outcome result
+        (O.taken sinks.old.out.now) (O.taken sinks.new.out.now) }
     ensures reports { (first : Option (List ℕ)) →
-        Reports report Ended.Spent (take told events.now) first (R.taken notes.old) →
-        Reports report (ended_by result) events.now first (R.taken notes.new) }
+        Reports task.now.report Ended.Spent (take told events.now) first
+        (R.taken sinks.old.notes.now) →
+        Reports task.now.report (ended_by result) events.now first
+        (R.taken sinks.new.notes.now) }
     ensures failed { result ≡ Err Ended.OutputFault →
-        Rose (O.faults out.old) (O.faults out.new)
-        ⊎ Rose (R.faults notes.old) (R.faults notes.new) }
-    ensures sink_never_falls { O.faults out.old ≤ O.faults out.new }
-    ensures notes_never_fall { R.faults notes.old ≤ R.faults notes.new }
+        Rose (O.faults sinks.old.out.now) (O.faults sinks.new.out.now)
+        ⊎ Rose (R.faults sinks.old.notes.now) (R.faults sinks.new.notes.now) }
+    ensures sink_never_falls { O.faults sinks.old.out.now ≤ O.faults sinks.new.out.now }
+    ensures notes_never_fall { R.faults sinks.old.notes.now ≤ R.faults sinks.new.notes.now }
+    ensures lent { IsLent sinks.old sinks.new }
 {
     match outcome {
-        Outcome::Running => tell(alloc, report, events, told, notes),
-        Outcome::Printed(value) => match put_value(out, value) {
-            Ok(()) => tell(alloc, report, events, told, notes),
+        Outcome::Running => tell(task, events, told, sinks.notes),
+        Outcome::Printed(value) => match put_value(sinks.out, value) {
+            Ok(()) => tell(task, events, told, sinks.notes),
             Err(Failed) => Err(Ended::OutputFault),
         },
-        Outcome::Done => match tell(alloc, report, events, told, notes) {
+        Outcome::Done => match tell(task, events, told, sinks.notes) {
             Ok(()) => Err(Ended::Done),
             Err(ended) => Err(ended),
         },

@@ -9,6 +9,7 @@ mod giving;
 mod inside;
 mod machine;
 mod stepping;
+mod task;
 mod telling;
 
 pub use machine::Machine;

@@ -16,6 +16,7 @@ ghost use Rattle.rg_run.specs.Sound.{Stands};
 ghost use Rattle.rg_run.specs.Whole.{WholeRun};
 
 use crate::inside::Inside;
+use crate::task::{Sinks, Task};
 use rg_base::{EndNumbers, Ended, Event, Memory, Seen};
 use rg_check::Accepted;
 use rg_code::CodeList;
@@ -160,8 +161,9 @@ impl Machine {
         ensures caused { Caused result (I.faults source.old) (I.faults source.new)
             (O.faults out.old) (O.faults out.new) (R.faults notes.old) (R.faults notes.new) }
     {
-        self.inside.run(
-            alloc, accepted, code, n, report, input, source, out, notes, count, trace,
-        )
+        let task = Task::new(alloc, accepted, code, n, report);
+        let mut sinks = Sinks { out, notes };
+        self.inside
+            .run(&task, input, source, &mut sinks, count, trace)
     }
 }
