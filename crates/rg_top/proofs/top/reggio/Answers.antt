@@ -153,7 +153,7 @@ returns-in-None-clause-long g c = λ bytes. usage-exactly _ _ _ _ status.Long c.
 
 pub returns-in-Some-clause-asked : goal.returns-in-Some-clause-asked
 returns-in-Some-clause-asked g c =
-    asked-moved _ _ _ c.answer-status.new.self.machine.now _ _ _ _ _ (search rules)
+    asked-moved _ (texts c.args.words.now) _ c.answer-status.new.self.machine.now _ _ _ _ _ (search rules)
     (asked-words _ (texts c.args.words.now) (command_of c.in-Some.request) _ _ _ _ _ _ c.in-Some.ensures.is c.answer-status.ensures.asked)
 
 pub returns-in-Some-clause-yeses : goal.returns-in-Some-clause-yeses

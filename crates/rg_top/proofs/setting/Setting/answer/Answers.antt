@@ -4,7 +4,7 @@ use Rattle.rg_top.specs.Commands.{reports}
 use Rattle.rg_top.proofs.NoteLines.{quiet-refuses}
 use Rattle.rg_top.proofs.Answer.{refuses-settles, refuses-caused, settles-inside}
 use Rattle.rg_top.proofs.Asked.{asked-command, yeses-fresh}
-use Rattle.rg_top.proofs.top.Setting.answer.Goals as goal
+use Rattle.rg_top.proofs.setting.Setting.answer.Goals as goal
 
 pub returns-in-Err-clause-settles : goal.returns-in-Err-clause-settles
 returns-in-Err-clause-settles g c =

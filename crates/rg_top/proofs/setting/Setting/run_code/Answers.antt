@@ -2,7 +2,7 @@ use Rattle.std.proofs.Common.{refl}
 use Rattle.rg_top.proofs.Ran.{caused-by, on-input, run-from}
 use Rattle.rg_top.proofs.NoteLines.{ran-reported}
 use Rattle.rg_top.proofs.Asked.{asked-from, yeses-of-run}
-use Rattle.rg_top.proofs.top.Setting.run_code.Goals as goal
+use Rattle.rg_top.proofs.setting.Setting.run_code.Goals as goal
 
 pub returns-clause-ran : goal.returns-clause-ran
 returns-clause-ran g c = λ origin source runs.

@@ -2,7 +2,7 @@ use Rattle.std.proofs.Common.{◌∙◌, ℕ, inl, refl, ap}
 use Rattle.rg_pace.specs.Asked.{Asked}
 use Rattle.rg_top.proofs.NoteLines.{quiet-memory}
 use Rattle.rg_top.proofs.Asked.{asked-tuned, yeses-tuned, yeses-fresh}
-use Rattle.rg_top.proofs.top.Setting.run_accepted.Goals as goal
+use Rattle.rg_top.proofs.setting.Setting.run_accepted.Goals as goal
 
 -- the fields of a tally
 abbrev asks : Asked → ℕ

@@ -5,7 +5,7 @@ use Rattle.rg_top.specs.Commands.{fmt, check, code, bulk}
 use Rattle.rg_top.proofs.Settled.{settles-still}
 use Rattle.rg_top.proofs.Answer.{caused-unread}
 use Rattle.rg_top.proofs.Asked.{asked-generated, yeses-fresh}
-use Rattle.rg_top.proofs.top.Setting.answer_program.Goals as goal
+use Rattle.rg_top.proofs.setting.Setting.answer_program.Goals as goal
 
 -- no run has begun, and no pacer was asked
 unasked : (m : Kept) (count trace : ℕ) → IsFresh m → Unasked m count count trace trace
