@@ -34,9 +34,10 @@ ghost use Rattle.rg_top.specs.Headline.{steps_asked};
 ghost use Rattle.rg_top.specs.Asked.{Unasked, RunAsks, SayYes, input_for};
 ghost use Rattle.rg_top.specs.Inner.Settled.{status_of_ended, PutLine, Settles, Brings, Serves};
 ghost use Rattle.rg_top.specs.Inner.Settled.{CausedBeside, CausedByOutput, Tunes, Chooses};
-ghost use Rattle.rg_top.specs.Inner.Setting.{IsLent, SlidesOn, RanIn, SettlesIn, SettlesCommandIn};
-ghost use Rattle.rg_top.specs.Inner.Setting.{ReportedIn, CausedIn};
-ghost use Rattle.rg_top.specs.Inner.Tallies.{TunedTo, TunedAsBefore, RunAskedOf, AskedFromOf};
+ghost use Rattle.rg_top.specs.Inner.Setting.{IsUnused, IsLent, SlidesOn, SlidesTo, RanIn};
+ghost use Rattle.rg_top.specs.Inner.Setting.{SettlesIn, SettlesCommandIn, ReportedIn, CausedIn};
+ghost use Rattle.rg_top.specs.Inner.Setting.{ReportedOf, PacedIn};
+ghost use Rattle.rg_top.specs.Inner.Tallies.{TunedTo, RunAskedOf, AskedFromOf};
 ghost use Rattle.rg_top.specs.Inner.Tallies.{AskedCommandOf, SayYesOf};
 
 use crate::notes::{tell, tell_behind};
@@ -97,83 +98,6 @@ struct Lowered<'a> {
     code: CodeList,
 }
 
-/// Runs code on the machine. With a report, the lines of collections are given to the notes.
-fn run_code<I: Source, O: Sink, R: Sink>(
-    lowered: &Lowered<'_>,
-    options: RunOptions,
-    input: &mut I,
-    setting: &mut Setting<'_, O, R>,
-    count: &mut dyn Pacer,
-    trace: &mut dyn Pacer,
-) -> Status
-    requires fresh { IsFresh setting.old.machine.now }
-    requires lowers { Lowers (program_of lowered.now.accepted.now.program) lowered.now.code }
-    ensures ran { (origin : Origin) (source : List ℕ) →
-        Runs origin source (program_of lowered.now.accepted.now.program) →
-        RanIn O.taken origin options.steps source (I.left input.old) result
-        setting.old setting.new (input.new ≡ input.old)
-        × RunAskedOf origin source (I.left input.old) setting.new.machine.now
-        (tally count.old) (tally count.new) (tally trace.old) (tally trace.new) }
-    ensures notes { ReportedIn R.taken options.report result setting.old setting.new }
-    ensures tuned { TunedAsBefore (tally count.old) (tally count.new)
-        (tally trace.old) (tally trace.new) }
-    ensures yeses { SayYesOf setting.new.machine.now
-        (tally count.old) (tally count.new) (tally trace.old) (tally trace.new) }
-    ensures caused { CausedIn O.faults R.faults result (I.faults input.old) (I.faults input.new)
-        setting.old setting.new }
-    ensures kept { IsLent setting.old setting.new × SlidesOn setting.old setting.new }
-{
-    let ran = setting.machine.run(
-        setting.alloc,
-        lowered.accepted,
-        &lowered.code,
-        options.steps,
-        options.report,
-        &mut Numbers::new(),
-        input,
-        setting.out,
-        setting.notes,
-        count,
-        trace,
-    );
-    status_of(ran)
-}
-
-/// Tunes both pacers, lowers an accepted program and runs its code.
-fn run_accepted<I: Source, O: Sink, R: Sink>(
-    accepted: &Accepted,
-    options: RunOptions,
-    input: &mut I,
-    setting: &mut Setting<'_, O, R>,
-    count: &mut dyn Pacer,
-    trace: &mut dyn Pacer,
-) -> Status
-    requires { IsFresh setting.old.machine.now }
-    ensures ran { (origin : Origin) (source : List ℕ) →
-        Runs origin source (program_of accepted.now.program) →
-        RanIn O.taken origin options.steps source (I.left input.old) result
-        setting.old setting.new (input.new ≡ input.old) }
-    ensures notes { ReportedIn R.taken options.report result setting.old setting.new }
-    ensures tuned { TunedTo options.every (tally count.new) (tally trace.new) }
-    ensures asked { (origin : Origin) (source : List ℕ) →
-        Runs origin source (program_of accepted.now.program) →
-        RunAskedOf origin source (I.left input.old) setting.new.machine.now
-        (tally count.old) (tally count.new) (tally trace.old) (tally trace.new) }
-    ensures yeses { SayYesOf setting.new.machine.now
-        (tally count.old) (tally count.new) (tally trace.old) (tally trace.new) }
-    ensures caused { CausedIn O.faults R.faults result (I.faults input.old) (I.faults input.new)
-        setting.old setting.new }
-    ensures kept { IsLent setting.old setting.new × SlidesOn setting.old setting.new }
-{
-    count.tune(options.every);
-    trace.tune(options.every);
-    let Ok(code) = lower(setting.alloc, accepted) else {
-        return Status::Memory;
-    };
-    let lowered = Lowered { accepted, code };
-    run_code(&lowered, options, input, setting, count, trace)
-}
-
 /// Chooses whether what a collection of a traced region keeps moves.
 fn choose(slides: bool, machine: &mut Machine)
     requires fresh { IsFresh machine.old }
@@ -183,42 +107,6 @@ fn choose(slides: bool, machine: &mut Machine)
 {
     if slides {
         machine.slide();
-    }
-}
-
-/// Checks a program, and runs it on the machine.
-fn run_program<I: Source, O: Sink, R: Sink>(
-    program: Program,
-    options: RunOptions,
-    input: &mut I,
-    setting: &mut Setting<'_, O, R>,
-    count: &mut dyn Pacer,
-    trace: &mut dyn Pacer,
-) -> Status
-    requires fresh { IsFresh setting.old.machine.now }
-    requires stays { setting.old.machine.now.stepper.slides ≡ false }
-    requires names { FewNames (program_of program) }
-    ensures settles { (file source : List ℕ) → Means source (spelt (program_of program)) →
-        SettlesIn O.taken (run options.slides file options.steps options.every options.report)
-        source (I.left input.old) result setting.old setting.new (input.new ≡ input.old) }
-    ensures notes { ReportedIn R.taken options.report result setting.old setting.new }
-    ensures tuned { ¬ IsFresh setting.new.machine.now →
-        TunedTo options.every (tally count.new) (tally trace.new) }
-    ensures slides { setting.new.machine.now.stepper.slides ≡ options.slides }
-    ensures asked { (file source : List ℕ) → Means source (spelt (program_of program)) →
-        RunAskedOf (in_file file) source (I.left input.old) setting.new.machine.now
-        (tally count.old) (tally count.new) (tally trace.old) (tally trace.new) }
-    ensures yeses { SayYesOf setting.new.machine.now
-        (tally count.old) (tally count.new) (tally trace.old) (tally trace.new) }
-    ensures caused { CausedIn O.faults R.faults result (I.faults input.old) (I.faults input.new)
-        setting.old setting.new }
-    ensures lent { IsLent setting.old setting.new }
-{
-    choose(options.slides, setting.machine);
-    match check(setting.alloc, program) {
-        Err(Stop::Fault(fault)) => Status::Refused(fault),
-        Err(Stop::Memory) => Status::Memory,
-        Ok(accepted) => run_accepted(&accepted, options, input, setting, count, trace),
     }
 }
 
@@ -359,118 +247,6 @@ fn put_bulk_line<O: Sink>(alloc: Global, size: u32, out: &mut O, machine: &Machi
     }
 }
 
-/// Runs a generated program without an input, and tells the machine's numbers behind it.
-fn bulk_accepted<O: Sink, R: Sink>(
-    accepted: &Accepted,
-    size: u32,
-    setting: &mut Setting<'_, O, R>,
-    count: &mut dyn Pacer,
-    trace: &mut dyn Pacer,
-) -> Status
-    requires { IsFresh setting.old.machine.now }
-    ensures settles { (source : List ℕ) (left : Option (List ℕ)) →
-        Runs (generated size) source (program_of accepted.now.program) →
-        SettlesIn O.taken (bulk size) source left result setting.old setting.new (Unit {0}) }
-    ensures notes { R.taken setting.new.notes.now ≡ R.taken setting.old.notes.now }
-    ensures tuned { TunedTo 0 (tally count.new) (tally trace.new) }
-    ensures asked { (source : List ℕ) →
-        Runs (generated size) source (program_of accepted.now.program) →
-        RunAskedOf (generated size) source (Some []) setting.new.machine.now
-        (tally count.old) (tally count.new) (tally trace.old) (tally trace.new) }
-    ensures yeses { SayYesOf setting.new.machine.now
-        (tally count.old) (tally count.new) (tally trace.old) (tally trace.new) }
-    ensures caused { CausedIn O.faults R.faults result 0 0 setting.old setting.new }
-    ensures kept { IsLent setting.old setting.new × SlidesOn setting.old setting.new }
-{
-    let mut input = NoInput;
-    let options = RunOptions {
-        slides: false,
-        steps: MOST_STEPS,
-        every: 0,
-        report: false,
-    };
-    let ran = run_accepted(accepted, options, &mut input, setting, count, trace);
-    if let Status::Done = ran {
-        return put_bulk_line(setting.alloc, size, setting.out, setting.machine);
-    }
-    ran
-}
-
-/// Runs a generated program: it is accepted.
-fn bulk_program<O: Sink, R: Sink>(
-    program: Program,
-    size: u32,
-    setting: &mut Setting<'_, O, R>,
-    count: &mut dyn Pacer,
-    trace: &mut dyn Pacer,
-) -> Status
-    requires fresh { IsFresh setting.old.machine.now }
-    requires names { FewNames (program_of program) }
-    requires accepted { IsAccepted (program_of program) }
-    ensures settles { (source : List ℕ) (left : Option (List ℕ)) →
-        MeansFrom (generated size) source (spelt (program_of program)) →
-        SettlesIn O.taken (bulk size) source left result setting.old setting.new (Unit {0}) }
-    ensures notes { R.taken setting.new.notes.now ≡ R.taken setting.old.notes.now }
-    ensures tuned { ¬ IsFresh setting.new.machine.now →
-        TunedTo 0 (tally count.new) (tally trace.new) }
-    ensures asked { (source : List ℕ) →
-        MeansFrom (generated size) source (spelt (program_of program)) →
-        RunAskedOf (generated size) source (Some []) setting.new.machine.now
-        (tally count.old) (tally count.new) (tally trace.old) (tally trace.new) }
-    ensures yeses { SayYesOf setting.new.machine.now
-        (tally count.old) (tally count.new) (tally trace.old) (tally trace.new) }
-    ensures caused { CausedIn O.faults R.faults result 0 0 setting.old setting.new }
-    ensures kept { IsLent setting.old setting.new × SlidesOn setting.old setting.new }
-{
-    match check(setting.alloc, program) {
-        Err(Stop::Fault(_)) => unreachable!(),
-        Err(Stop::Memory) => Status::Memory,
-        Ok(accepted) => bulk_accepted(&accepted, size, setting, count, trace),
-    }
-}
-
-/// Does what is asked for with its program.
-fn answer_program<I: Source, O: Sink, R: Sink>(
-    request: Request<'_>,
-    program: Program,
-    input: &mut I,
-    setting: &mut Setting<'_, O, R>,
-    count: &mut dyn Pacer,
-    trace: &mut dyn Pacer,
-) -> Status
-    requires fresh { IsFresh setting.old.machine.now }
-    requires stays { setting.old.machine.now.stepper.slides ≡ false }
-    requires program { Serves (command_of request) (program_of program) }
-    ensures settles { (source : List ℕ) →
-        MeansFrom (origin_of (command_of request.entry)) source (spelt (program_of program)) →
-        SettlesIn O.taken (command_of request.entry) source (I.left input.old) result
-        setting.old setting.new (input.new ≡ input.old)
-        × AskedFromOf (origin_of (command_of request.entry)) source (I.left input.old)
-        setting.new.machine.now
-        (tally count.old) (tally count.new) (tally trace.old) (tally trace.new) }
-    ensures reads_nothing { reads_input (command_of request.entry) ≡ false → input.new ≡ input.old }
-    ensures notes { ReportedIn R.taken (reports (command_of request.entry)) result
-        setting.old setting.new }
-    ensures tuned { Tunes (command_of request.entry) setting.new.machine.now
-        (tally count.new).tuned (tally trace.new).tuned }
-    ensures slides { setting.new.machine.now.stepper.slides ≡ is_slide (command_of request.entry) }
-    ensures yeses { SayYesOf setting.new.machine.now
-        (tally count.old) (tally count.new) (tally trace.old) (tally trace.new) }
-    ensures caused { CausedIn O.faults R.faults result (I.faults input.old) (I.faults input.new)
-        setting.old setting.new }
-    ensures lent { IsLent setting.old setting.new }
-{
-    let alloc = setting.alloc;
-    match request {
-        Request::Run { options, .. } => run_program(program, options, input, setting, count, trace),
-        Request::Plain { steps, .. } => plain_program(alloc, program, steps, input, setting.out),
-        Request::Format { .. } => format_program(alloc, &program, setting.out),
-        Request::Check { .. } => check_program(alloc, program, setting.out),
-        Request::Code { .. } => list_program(alloc, program, setting.out),
-        Request::Bulk { size } => bulk_program(program, size, setting, count, trace),
-    }
-}
-
 /// The program of a file, or the status of the call without one.
 fn program_in<F: Files>(alloc: Global, name: &str, files: &mut F) -> Result<Program, Status>
     ensures brings { Brings (F.told files.old) (in_file name.now) result }
@@ -525,43 +301,264 @@ fn program_from<F: Files>(
     }
 }
 
-/// Does what is asked for.
-fn answer<F: Files, I: Source, O: Sink, R: Sink>(
-    request: Request<'_>,
-    files: &mut F,
-    input: &mut I,
-    setting: &mut Setting<'_, O, R>,
-    count: &mut dyn Pacer,
-    trace: &mut dyn Pacer,
-) -> Status
-    requires fresh { IsFresh setting.old.machine.now }
-    requires stays { setting.old.machine.now.stepper.slides ≡ false }
-    requires within { AsksWithin request }
-    ensures settles { SettlesCommandIn O.taken (F.told files.old) (command_of request.entry)
-        (I.left input.old) result setting.old setting.new (input.new ≡ input.old) }
-    ensures files_unread { opens_file (command_of request.entry) ≡ false →
-        files.new ≡ files.old }
-    ensures reads_nothing { reads_input (command_of request.entry) ≡ false → input.new ≡ input.old }
-    ensures notes { ReportedIn R.taken (reports (command_of request.entry)) result
-        setting.old setting.new }
-    ensures tuned { Tunes (command_of request.entry) setting.new.machine.now
-        (tally count.new).tuned (tally trace.new).tuned }
-    ensures slides { Chooses (command_of request.entry) setting.new.machine.now }
-    ensures asked { AskedCommandOf (F.told files.old) (origin_of (command_of request.entry))
-        (I.left input.old) setting.new.machine.now
-        (tally count.old) (tally count.new) (tally trace.old) (tally trace.new) }
-    ensures yeses { SayYesOf setting.new.machine.now
-        (tally count.old) (tally count.new) (tally trace.old) (tally trace.new) }
-    ensures source_fault { result ≡ Status.SourceFault →
-        Rose (F.faults files.old) (F.faults files.new) }
-    ensures files_never_fall { F.faults files.old ≤ F.faults files.new }
-    ensures caused { CausedIn O.faults R.faults result (I.faults input.old) (I.faults input.new)
-        setting.old setting.new }
-    ensures lent { IsLent setting.old setting.new }
-{
-    match program_from(setting.alloc, request, files) {
-        Err(status) => status,
-        Ok(program) => answer_program(request, program, input, setting, count, trace),
+impl<O: Sink, R: Sink> Setting<'_, O, R> {
+    /// Runs code on the machine. With a report, the lines of collections are given to the notes.
+    fn run_code<I: Source>(
+        &mut self,
+        lowered: &Lowered<'_>,
+        options: RunOptions,
+        input: &mut I,
+        count: &mut dyn Pacer,
+        trace: &mut dyn Pacer,
+    ) -> Status
+        requires fresh { IsFresh self.old.machine.now }
+        requires lowers { Lowers (program_of lowered.now.accepted.now.program) lowered.now.code }
+        ensures ran { (origin : Origin) (source : List ℕ) →
+            Runs origin source (program_of lowered.now.accepted.now.program) →
+            RanIn O.taken origin options.steps source (I.left input.old) result
+            self.old self.new (input.new ≡ input.old)
+            × RunAskedOf origin source (I.left input.old) self.new.machine.now
+            (tally count.old) (tally count.new) (tally trace.old) (tally trace.new) }
+        ensures notes { ReportedIn R.taken options.report result self.old self.new }
+        ensures paced { PacedIn self.new
+            (tally count.old) (tally count.new) (tally trace.old) (tally trace.new) }
+        ensures caused { CausedIn O.faults R.faults result (I.faults input.old) (I.faults input.new)
+            self.old self.new }
+        ensures kept { IsLent self.old self.new × SlidesOn self.old self.new }
+    {
+        let ran = self.machine.run(
+            self.alloc,
+            lowered.accepted,
+            &lowered.code,
+            options.steps,
+            options.report,
+            &mut Numbers::new(),
+            input,
+            self.out,
+            self.notes,
+            count,
+            trace,
+        );
+        status_of(ran)
+    }
+
+    /// Tunes both pacers, lowers an accepted program and runs its code.
+    fn run_accepted<I: Source>(
+        &mut self,
+        accepted: &Accepted,
+        options: RunOptions,
+        input: &mut I,
+        count: &mut dyn Pacer,
+        trace: &mut dyn Pacer,
+    ) -> Status
+        requires { IsFresh self.old.machine.now }
+        ensures ran { (origin : Origin) (source : List ℕ) →
+            Runs origin source (program_of accepted.now.program) →
+            RanIn O.taken origin options.steps source (I.left input.old) result
+            self.old self.new (input.new ≡ input.old) }
+        ensures notes { ReportedIn R.taken options.report result self.old self.new }
+        ensures tuned { TunedTo options.every (tally count.new) (tally trace.new) }
+        ensures asked { (origin : Origin) (source : List ℕ) →
+            Runs origin source (program_of accepted.now.program) →
+            RunAskedOf origin source (I.left input.old) self.new.machine.now
+            (tally count.old) (tally count.new) (tally trace.old) (tally trace.new) }
+        ensures yeses { SayYesOf self.new.machine.now
+            (tally count.old) (tally count.new) (tally trace.old) (tally trace.new) }
+        ensures caused { CausedIn O.faults R.faults result (I.faults input.old) (I.faults input.new)
+            self.old self.new }
+        ensures kept { IsLent self.old self.new × SlidesOn self.old self.new }
+    {
+        count.tune(options.every);
+        trace.tune(options.every);
+        let Ok(code) = lower(self.alloc, accepted) else {
+            return Status::Memory;
+        };
+        let lowered = Lowered { accepted, code };
+        self.run_code(&lowered, options, input, count, trace)
+    }
+
+    /// Checks a program, and runs it on the machine.
+    fn run_program<I: Source>(
+        &mut self,
+        program: Program,
+        options: RunOptions,
+        input: &mut I,
+        count: &mut dyn Pacer,
+        trace: &mut dyn Pacer,
+    ) -> Status
+        requires unused { IsUnused self.old }
+        requires names { FewNames (program_of program) }
+        ensures settles { (file source : List ℕ) → Means source (spelt (program_of program)) →
+            SettlesIn O.taken (run options.slides file options.steps options.every options.report)
+            source (I.left input.old) result self.old self.new (input.new ≡ input.old) }
+        ensures notes { ReportedIn R.taken options.report result self.old self.new }
+        ensures tuned { ¬ IsFresh self.new.machine.now →
+            TunedTo options.every (tally count.new) (tally trace.new) }
+        ensures asked { (file source : List ℕ) → Means source (spelt (program_of program)) →
+            RunAskedOf (in_file file) source (I.left input.old) self.new.machine.now
+            (tally count.old) (tally count.new) (tally trace.old) (tally trace.new) }
+        ensures yeses { SayYesOf self.new.machine.now
+            (tally count.old) (tally count.new) (tally trace.old) (tally trace.new) }
+        ensures caused { CausedIn O.faults R.faults result (I.faults input.old) (I.faults input.new)
+            self.old self.new }
+        ensures kept { IsLent self.old self.new × SlidesTo options.slides self.new }
+    {
+        choose(options.slides, self.machine);
+        match check(self.alloc, program) {
+            Err(Stop::Fault(fault)) => Status::Refused(fault),
+            Err(Stop::Memory) => Status::Memory,
+            Ok(accepted) => self.run_accepted(&accepted, options, input, count, trace),
+        }
+    }
+
+    /// Runs a generated program without an input, and tells the machine's numbers behind it.
+    fn bulk_accepted(
+        &mut self,
+        accepted: &Accepted,
+        size: u32,
+        count: &mut dyn Pacer,
+        trace: &mut dyn Pacer,
+    ) -> Status
+        requires { IsFresh self.old.machine.now }
+        ensures settles { (source : List ℕ) (left : Option (List ℕ)) →
+            Runs (generated size) source (program_of accepted.now.program) →
+            SettlesIn O.taken (bulk size) source left result self.old self.new (Unit {0}) }
+        ensures notes { R.taken self.new.notes.now ≡ R.taken self.old.notes.now }
+        ensures tuned { TunedTo 0 (tally count.new) (tally trace.new) }
+        ensures asked { (source : List ℕ) →
+            Runs (generated size) source (program_of accepted.now.program) →
+            RunAskedOf (generated size) source (Some []) self.new.machine.now
+            (tally count.old) (tally count.new) (tally trace.old) (tally trace.new) }
+        ensures yeses { SayYesOf self.new.machine.now
+            (tally count.old) (tally count.new) (tally trace.old) (tally trace.new) }
+        ensures caused { CausedIn O.faults R.faults result 0 0 self.old self.new }
+        ensures kept { IsLent self.old self.new × SlidesOn self.old self.new }
+    {
+        let mut input = NoInput;
+        let options = RunOptions {
+            slides: false,
+            steps: MOST_STEPS,
+            every: 0,
+            report: false,
+        };
+        let ran = self.run_accepted(accepted, options, &mut input, count, trace);
+        if let Status::Done = ran {
+            return put_bulk_line(self.alloc, size, self.out, self.machine);
+        }
+        ran
+    }
+
+    /// Runs a generated program: it is accepted.
+    fn bulk_program(
+        &mut self,
+        program: Program,
+        size: u32,
+        count: &mut dyn Pacer,
+        trace: &mut dyn Pacer,
+    ) -> Status
+        requires fresh { IsFresh self.old.machine.now }
+        requires names { FewNames (program_of program) }
+        requires accepted { IsAccepted (program_of program) }
+        ensures settles { (source : List ℕ) (left : Option (List ℕ)) →
+            MeansFrom (generated size) source (spelt (program_of program)) →
+            SettlesIn O.taken (bulk size) source left result self.old self.new (Unit {0}) }
+        ensures notes { R.taken self.new.notes.now ≡ R.taken self.old.notes.now }
+        ensures tuned { ¬ IsFresh self.new.machine.now →
+            TunedTo 0 (tally count.new) (tally trace.new) }
+        ensures asked { (source : List ℕ) →
+            MeansFrom (generated size) source (spelt (program_of program)) →
+            RunAskedOf (generated size) source (Some []) self.new.machine.now
+            (tally count.old) (tally count.new) (tally trace.old) (tally trace.new) }
+        ensures yeses { SayYesOf self.new.machine.now
+            (tally count.old) (tally count.new) (tally trace.old) (tally trace.new) }
+        ensures caused { CausedIn O.faults R.faults result 0 0 self.old self.new }
+        ensures kept { IsLent self.old self.new × SlidesOn self.old self.new }
+    {
+        match check(self.alloc, program) {
+            Err(Stop::Fault(_)) => unreachable!(),
+            Err(Stop::Memory) => Status::Memory,
+            Ok(accepted) => self.bulk_accepted(&accepted, size, count, trace),
+        }
+    }
+
+    /// Does what is asked for with its program.
+    fn answer_program<I: Source>(
+        &mut self,
+        request: Request<'_>,
+        program: Program,
+        input: &mut I,
+        count: &mut dyn Pacer,
+        trace: &mut dyn Pacer,
+    ) -> Status
+        requires unused { IsUnused self.old }
+        requires program { Serves (command_of request) (program_of program) }
+        ensures settles { (source : List ℕ) →
+            MeansFrom (origin_of (command_of request.entry)) source (spelt (program_of program)) →
+            SettlesIn O.taken (command_of request.entry) source (I.left input.old) result
+            self.old self.new (input.new ≡ input.old)
+            × AskedFromOf (origin_of (command_of request.entry)) source (I.left input.old)
+            self.new.machine.now
+            (tally count.old) (tally count.new) (tally trace.old) (tally trace.new) }
+        ensures reads_nothing { reads_input (command_of request.entry) ≡ false →
+            input.new ≡ input.old }
+        ensures notes { ReportedOf R.taken (command_of request.entry) result self.old self.new }
+        ensures tuned { Tunes (command_of request.entry) self.new.machine.now
+            (tally count.new).tuned (tally trace.new).tuned }
+        ensures yeses { SayYesOf self.new.machine.now
+            (tally count.old) (tally count.new) (tally trace.old) (tally trace.new) }
+        ensures caused { CausedIn O.faults R.faults result (I.faults input.old) (I.faults input.new)
+            self.old self.new }
+        ensures kept { IsLent self.old self.new
+            × SlidesTo (is_slide (command_of request.entry)) self.new }
+    {
+        let alloc = self.alloc;
+        match request {
+            Request::Run { options, .. } => self.run_program(program, options, input, count, trace),
+            Request::Plain { steps, .. } => plain_program(alloc, program, steps, input, self.out),
+            Request::Format { .. } => format_program(alloc, &program, self.out),
+            Request::Check { .. } => check_program(alloc, program, self.out),
+            Request::Code { .. } => list_program(alloc, program, self.out),
+            Request::Bulk { size } => self.bulk_program(program, size, count, trace),
+        }
+    }
+
+    /// Does what is asked for.
+    fn answer<F: Files, I: Source>(
+        &mut self,
+        request: Request<'_>,
+        files: &mut F,
+        input: &mut I,
+        count: &mut dyn Pacer,
+        trace: &mut dyn Pacer,
+    ) -> Status
+        requires unused { IsUnused self.old }
+        requires within { AsksWithin request }
+        ensures settles { SettlesCommandIn O.taken (F.told files.old) (command_of request.entry)
+            (I.left input.old) result self.old self.new (input.new ≡ input.old) }
+        ensures files_unread { opens_file (command_of request.entry) ≡ false →
+            files.new ≡ files.old }
+        ensures reads_nothing { reads_input (command_of request.entry) ≡ false →
+            input.new ≡ input.old }
+        ensures notes { ReportedOf R.taken (command_of request.entry) result self.old self.new }
+        ensures tuned { Tunes (command_of request.entry) self.new.machine.now
+            (tally count.new).tuned (tally trace.new).tuned }
+        ensures slides { Chooses (command_of request.entry) self.new.machine.now }
+        ensures asked { AskedCommandOf (F.told files.old) (origin_of (command_of request.entry))
+            (I.left input.old) self.new.machine.now
+            (tally count.old) (tally count.new) (tally trace.old) (tally trace.new) }
+        ensures yeses { SayYesOf self.new.machine.now
+            (tally count.old) (tally count.new) (tally trace.old) (tally trace.new) }
+        ensures source_fault { result ≡ Status.SourceFault →
+            Rose (F.faults files.old) (F.faults files.new) }
+        ensures files_never_fall { F.faults files.old ≤ F.faults files.new }
+        ensures caused { CausedIn O.faults R.faults result (I.faults input.old) (I.faults input.new)
+            self.old self.new }
+        ensures lent { IsLent self.old self.new }
+    {
+        match program_from(self.alloc, request, files) {
+            Err(status) => status,
+            Ok(program) => self.answer_program(request, program, input, count, trace),
+        }
     }
 }
 
@@ -700,7 +697,7 @@ pub fn reggio<F: Files, I: Source, O: Sink, R: Sink>(
                 notes: &mut *notes,
                 machine: &mut *machine,
             };
-            let status = answer(request, files, input, &mut setting, count, trace);
+            let status = setting.answer(request, files, input, count, trace);
             let told = tell_behind(&mut setting, status, steps_of(request), reports(request));
             machine.is_owned();
             told

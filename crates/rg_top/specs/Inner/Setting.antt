@@ -1,10 +1,18 @@
 -- What is said of what a command works with, before it and behind it (docs/architecture.md).
-use Rattle.std.specs.Prelude.{◌≡◌, ℕ, Bool, List, Option}
+use Rattle.std.specs.Prelude.{◌≡◌, ℕ, Bool, false, List, Option}
+use Rattle.rg_pace.specs.Asked.{Asked}
+use Rattle.rg_run.specs.Machine.{IsFresh}
 use Rattle.rg_top.specs.declared.setting.Setting.{Setting}
 use Rattle.rg_top.specs.declared.status.Status.{Status}
-use Rattle.rg_top.specs.Commands.{Command, Origin}
+use Rattle.rg_top.specs.Commands.{Command, Origin, reports}
 use Rattle.rg_io.specs.Files.{Told}
 use Rattle.rg_top.specs.Inner.Settled.{RanFrom, Settles, SettlesCommand, Reported, Caused}
+use Rattle.rg_top.specs.Inner.Tallies.{TunedAsBefore, SayYesOf}
+
+-- no run has begun on its machine, and what is kept doesn't move there
+pub record IsUnused {O R : Type 0} (s : Setting O R) : Type 0 where
+  pub fresh : IsFresh s.machine.now
+  pub stays : s.machine.now.stepper.slides ≡ false
 
 -- it still has the output, the notes and the machine that it was made with
 abbrev pub IsLent : {O R : Type 0} → Setting O R → Setting O R → Type 0
@@ -15,6 +23,15 @@ IsLent old new =
 -- whether what is kept moves was left as it was
 abbrev pub SlidesOn : {O R : Type 0} → Setting O R → Setting O R → Type 0
 SlidesOn old new = new.machine.now.stepper.slides ≡ old.machine.now.stepper.slides
+
+-- whether what is kept moves was chosen so
+abbrev pub SlidesTo : {O R : Type 0} → Bool → Setting O R → Type 0
+SlidesTo slides s = s.machine.now.stepper.slides ≡ slides
+
+-- a run on its machine tuned no pacer, and each yes was a collection
+abbrev pub PacedIn : {O R : Type 0} → Setting O R → (count_old count_new trace_old trace_new : Asked) → Type 0
+PacedIn s count_old count_new trace_old trace_new =
+    TunedAsBefore count_old count_new trace_old trace_new × SayYesOf s.machine.now count_old count_new trace_old trace_new
 
 -- what a run on its machine has answered, and given to its output
 abbrev pub RanIn : {O R : Type 0} → (O → Option (List ℕ)) → Origin → (n : ℕ) → (source : List ℕ) → (left : Option (List ℕ)) → Status
@@ -36,6 +53,10 @@ SettlesCommandIn taken told c left s old new still =
 -- what its notes have taken of its machine's collections
 abbrev pub ReportedIn : {O R : Type 0} → (R → Option (List ℕ)) → (report : Bool) → Status → (old new : Setting O R) → Type 0
 ReportedIn taken report s old new = Reported report s new.machine.now.stepper.events (taken old.notes.now) (taken new.notes.now)
+
+-- the same of a command
+abbrev pub ReportedOf : {O R : Type 0} → (R → Option (List ℕ)) → Command → Status → (old new : Setting O R) → Type 0
+ReportedOf taken c s old new = ReportedIn taken (reports c) s old new
 
 -- from which count a fault comes: that of an input, or of its output or notes
 abbrev pub CausedIn : {O R : Type 0} → (O → ℕ) → (R → ℕ) → Status → (input_old input_new : ℕ) → (old new : Setting O R) → Type 0

@@ -17,7 +17,7 @@ use Rattle.rg_top.proofs.top.reggio.Goals as goal
 
 -- the answer behind the layers under it, with the output and the machine as the call leaves them
 answered : (g : Over) (c : goal.After-is_owned-in-Some g) {out : Option (List ℕ)} {m : Kept} →
-    g.O.Sink.taken c.answer-status.new.setting.out.now ≡ out → c.answer-status.new.setting.machine.now ≡ m →
+    g.O.Sink.taken c.answer-status.new.self.out.now ≡ out → c.answer-status.new.self.machine.now ≡ m →
     Answered (g.F.Files.told c.args.files.now) (g.I.Source.left c.args.input.now) (texts c.args.words.now) c.answer-status.result
     c.tell_behind-told.result (g.O.Sink.taken c.args.out.now) out m (c.answer-status.new.input ≡ c.args.input.now)
 answered g c out_is machine_is = record {
@@ -28,7 +28,7 @@ answered g c out_is machine_is = record {
 }
 
 -- from which count an output fault comes
-output-cause : (g : Over) (c : goal.After-is_owned-in-Some g) {o n : ℕ} → g.O.Sink.faults c.answer-status.new.setting.out.now ≡ o →
+output-cause : (g : Over) (c : goal.After-is_owned-in-Some g) {o n : ℕ} → g.O.Sink.faults c.answer-status.new.self.out.now ≡ o →
     g.R.Sink.faults c.tell_behind-told.new.setting.notes.now ≡ n → c.tell_behind-told.result ≡ status.OutputFault →
     Rose (g.O.Sink.faults c.args.out.now) o ⊎ Rose (g.R.Sink.faults c.args.notes.now) n
 output-cause g c {o = o} {n = n} out_is notes_are = λ e.
@@ -57,7 +57,7 @@ returns-in-Some-clause-notes_never_fall g c =
 pub returns-in-Some-clause-notes : goal.returns-in-Some-clause-notes
 returns-in-Some-clause-notes g c =
     took-moved _ _ _ _ _ _ _ _ _ (search rules) (search rules)
-    (asked-notes (texts c.args.words.now) (command_of c.in-Some.request) _ c.answer-status.new.setting.machine.now _ _ _ _ _ c.in-Some.ensures.is
+    (asked-notes (texts c.args.words.now) (command_of c.in-Some.request) _ c.answer-status.new.self.machine.now _ _ _ _ _ c.in-Some.ensures.is
     c.reports.ensures c.answer-status.ensures.notes _ _
     (answer-may (answered g c refl refl) _ _ c.answer-status.ensures.source_fault c.answer-status.ensures.caused.input_fault)
     _ c.steps_of.ensures c.tell_behind-told.ensures.took)
@@ -71,7 +71,7 @@ pub returns-in-Some-clause-output_fault_told : goal.returns-in-Some-clause-outpu
 returns-in-Some-clause-output_fault_told g c = λ e n.
     let R : ℕ → Type 0 = λ q. ¬ Rose (g.R.Sink.faults c.args.notes.now) q in
     let never : ¬ Rose (g.R.Sink.faults c.args.notes.now) (g.R.Sink.faults c.tell_behind-told.new.setting.notes.now) = subst R (search rules) n in
-    let told = asked-fault (texts c.args.words.now) (command_of c.in-Some.request) _ c.answer-status.new.setting.machine.now _ status.OutputFault _ _ _
+    let told = asked-fault (texts c.args.words.now) (command_of c.in-Some.request) _ c.answer-status.new.self.machine.now _ status.OutputFault _ _ _
     c.in-Some.ensures.is c.reports.ensures c.answer-status.ensures.notes
     (λ old h. c.tell_behind-told.ensures.output_fault_told old h e
     (λ r. never (Rose-since _ _ _ c.answer-status.ensures.caused.notes_never_fall r))) in
@@ -79,7 +79,7 @@ returns-in-Some-clause-output_fault_told g c = λ e n.
 
 pub returns-in-Some-clause-tuned : goal.returns-in-Some-clause-tuned
 returns-in-Some-clause-tuned g c =
-    tuned-moved (texts c.args.words.now) c.answer-status.new.setting.machine.now _ _ _ (search rules)
+    tuned-moved (texts c.args.words.now) c.answer-status.new.self.machine.now _ _ _ (search rules)
     (answer-tuned (texts c.args.words.now) (command_of c.in-Some.request) _ _ _ c.in-Some.ensures.is c.answer-status.ensures.tuned)
 
 pub returns-in-Some-clause-slides : goal.returns-in-Some-clause-slides
@@ -153,7 +153,7 @@ returns-in-None-clause-long g c = λ bytes. usage-exactly _ _ _ _ status.Long c.
 
 pub returns-in-Some-clause-asked : goal.returns-in-Some-clause-asked
 returns-in-Some-clause-asked g c =
-    asked-moved _ _ _ c.answer-status.new.setting.machine.now _ _ _ _ _ (search rules)
+    asked-moved _ (texts c.args.words.now) _ c.answer-status.new.self.machine.now _ _ _ _ _ (search rules)
     (asked-words _ (texts c.args.words.now) (command_of c.in-Some.request) _ _ _ _ _ _ c.in-Some.ensures.is c.answer-status.ensures.asked)
 
 pub returns-in-Some-clause-yeses : goal.returns-in-Some-clause-yeses

@@ -1,6 +1,6 @@
 use Rattle.rg_top.specs.Commands.{generated}
 use Rattle.rg_top.proofs.Bulk.{bulk-settles, generated-stops, no-fault}
-use Rattle.rg_top.proofs.top.bulk_accepted.Goals as goal
+use Rattle.rg_top.proofs.setting.Setting.bulk_accepted.Goals as goal
 
 pub returns-in-Done-clause-settles : goal.returns-in-Done-clause-settles
 returns-in-Done-clause-settles g c = λ source left runs.

@@ -4,18 +4,18 @@ use Rattle.rg_top.specs.Commands.{reports}
 use Rattle.rg_top.proofs.NoteLines.{quiet-refuses}
 use Rattle.rg_top.proofs.Answer.{refuses-settles, refuses-caused, settles-inside}
 use Rattle.rg_top.proofs.Asked.{asked-command, yeses-fresh}
-use Rattle.rg_top.proofs.top.answer.Goals as goal
+use Rattle.rg_top.proofs.setting.Setting.answer.Goals as goal
 
 pub returns-in-Err-clause-settles : goal.returns-in-Err-clause-settles
 returns-in-Err-clause-settles g c =
-    refuses-settles _ (command_of c.args.request) c.in-Err.status _ _ _ _ c.in-Err.ensures.brings c.requires.fresh refl
+    refuses-settles _ (command_of c.args.request) c.in-Err.status _ _ _ _ c.in-Err.ensures.brings c.requires.unused.fresh refl
 
 pub returns-in-Err-clause-caused : goal.returns-in-Err-clause-caused
 returns-in-Err-clause-caused g c = refuses-caused _ _ c.in-Err.status _ _ _ c.in-Err.ensures.brings
 
 pub returns-in-Err-clause-notes : goal.returns-in-Err-clause-notes
 returns-in-Err-clause-notes g c =
-    quiet-refuses (reports (command_of c.args.request)) _ _ c.in-Err.status c.args.setting.now.machine.now _ c.requires.fresh c.in-Err.ensures.brings
+    quiet-refuses (reports (command_of c.args.request)) _ _ c.in-Err.status c.args.self.now.machine.now _ c.requires.unused.fresh c.in-Err.ensures.brings
 
 pub returns-in-Ok-clause-settles : goal.returns-in-Ok-clause-settles
 returns-in-Ok-clause-settles g c =
@@ -27,10 +27,10 @@ returns-in-Ok-clause-source_fault g c =
     λ e. absurd (settles-inside (command_of c.args.request) found.source _ _ _ _ _ _ (c.answer_program.ensures.settles found.source found.means).0 e)
 
 pub returns-in-Err-clause-asked : goal.returns-in-Err-clause-asked
-returns-in-Err-clause-asked g c = inl (record { fresh = c.requires.fresh; count = refl; trace = refl })
+returns-in-Err-clause-asked g c = inl (record { fresh = c.requires.unused.fresh; count = refl; trace = refl })
 
 pub returns-in-Err-clause-yeses : goal.returns-in-Err-clause-yeses
-returns-in-Err-clause-yeses g c = yeses-fresh _ _ _ _ _ c.requires.fresh refl refl
+returns-in-Err-clause-yeses g c = yeses-fresh _ _ _ _ _ c.requires.unused.fresh refl refl
 
 pub returns-in-Ok-clause-asked : goal.returns-in-Ok-clause-asked
 returns-in-Ok-clause-asked g c =

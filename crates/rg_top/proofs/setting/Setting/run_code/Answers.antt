@@ -2,7 +2,7 @@ use Rattle.std.proofs.Common.{refl}
 use Rattle.rg_top.proofs.Ran.{caused-by, on-input, run-from}
 use Rattle.rg_top.proofs.NoteLines.{ran-reported}
 use Rattle.rg_top.proofs.Asked.{asked-from, yeses-of-run}
-use Rattle.rg_top.proofs.top.run_code.Goals as goal
+use Rattle.rg_top.proofs.setting.Setting.run_code.Goals as goal
 
 pub returns-clause-ran : goal.returns-clause-ran
 returns-clause-ran g c = λ origin source runs.
@@ -15,8 +15,8 @@ returns-clause-ran g c = λ origin source runs.
 pub returns-clause-notes : goal.returns-clause-notes
 returns-clause-notes g c = rw c.status_of.ensures.is (ran-reported c.args.options.report _ _ _ _ c.run-ran.ensures.notes)
 
-pub returns-clause-yeses : goal.returns-clause-yeses
-returns-clause-yeses g c = yeses-of-run _ _ _ _ _ refl refl c.run-ran.ensures.yeses
+pub returns-clause-paced : goal.returns-clause-paced
+returns-clause-paced g c = (c.run-ran.ensures.tuned, yeses-of-run _ _ _ _ _ refl refl c.run-ran.ensures.yeses)
 
 pub returns-clause-caused : goal.returns-clause-caused
 returns-clause-caused g c = rw c.status_of.ensures.is (caused-by _ _ _ _ _ _ _ c.run-ran.ensures.caused)

@@ -3,7 +3,7 @@ use Rattle.rg_top.proofs.Ran.{run-settles, runs-checked}
 use Rattle.rg_top.proofs.NoteLines.{quiet-refused, quiet-memory}
 use Rattle.std.proofs.Common.{inl, refl}
 use Rattle.rg_top.proofs.Asked.{yeses-fresh}
-use Rattle.rg_top.proofs.top.run_program.Goals as goal
+use Rattle.rg_top.proofs.setting.Setting.run_program.Goals as goal
 
 pub returns-in-Ok-clause-settles : goal.returns-in-Ok-clause-settles
 returns-in-Ok-clause-settles g c = λ file source means.

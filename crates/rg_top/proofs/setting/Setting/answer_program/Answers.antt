@@ -5,7 +5,7 @@ use Rattle.rg_top.specs.Commands.{fmt, check, code, bulk}
 use Rattle.rg_top.proofs.Settled.{settles-still}
 use Rattle.rg_top.proofs.Answer.{caused-unread}
 use Rattle.rg_top.proofs.Asked.{asked-generated, yeses-fresh}
-use Rattle.rg_top.proofs.top.answer_program.Goals as goal
+use Rattle.rg_top.proofs.setting.Setting.answer_program.Goals as goal
 
 -- no run has begun, and no pacer was asked
 unasked : (m : Kept) (count trace : ℕ) → IsFresh m → Unasked m count count trace trace
@@ -20,35 +20,35 @@ returns-in-Run-clause-settles g c = λ source means. (
 pub returns-in-Plain-clause-settles : goal.returns-in-Plain-clause-settles
 returns-in-Plain-clause-settles g c = λ source means. (
   rw c.in-Plain.is
-      (c.plain_program.ensures.settles c.in-Plain.file.now source c.args.setting.now.machine.now (rw c.in-Plain.is at means) c.requires.fresh),
-  inl (unasked _ _ _ c.requires.fresh),
+      (c.plain_program.ensures.settles c.in-Plain.file.now source c.args.self.now.machine.now (rw c.in-Plain.is at means) c.requires.unused.fresh),
+  inl (unasked _ _ _ c.requires.unused.fresh),
 )
 
 pub returns-in-Format-clause-settles : goal.returns-in-Format-clause-settles
 returns-in-Format-clause-settles g c = λ source means. (
   rw c.in-Format.is
-      (settles-still _ _ _ _ c.args.setting.now.machine.now _ refl (fmt c.in-Format.file.now) _ refl
-      (c.format_program.ensures.settles c.in-Format.file.now source (g.I.Source.left c.args.input.now) c.args.setting.now.machine.now
-      (rw c.in-Format.is at means) c.requires.fresh)),
-  inl (unasked _ _ _ c.requires.fresh),
+      (settles-still _ _ _ _ c.args.self.now.machine.now _ refl (fmt c.in-Format.file.now) _ refl
+      (c.format_program.ensures.settles c.in-Format.file.now source (g.I.Source.left c.args.input.now) c.args.self.now.machine.now
+      (rw c.in-Format.is at means) c.requires.unused.fresh)),
+  inl (unasked _ _ _ c.requires.unused.fresh),
 )
 
 pub returns-in-Check-clause-settles : goal.returns-in-Check-clause-settles
 returns-in-Check-clause-settles g c = λ source means. (
   rw c.in-Check.is
-      (settles-still _ _ _ _ c.args.setting.now.machine.now _ refl (check c.in-Check.file.now) _ refl
-      (c.check_program.ensures.settles c.in-Check.file.now source (g.I.Source.left c.args.input.now) c.args.setting.now.machine.now
-      (rw c.in-Check.is at means) c.requires.fresh)),
-  inl (unasked _ _ _ c.requires.fresh),
+      (settles-still _ _ _ _ c.args.self.now.machine.now _ refl (check c.in-Check.file.now) _ refl
+      (c.check_program.ensures.settles c.in-Check.file.now source (g.I.Source.left c.args.input.now) c.args.self.now.machine.now
+      (rw c.in-Check.is at means) c.requires.unused.fresh)),
+  inl (unasked _ _ _ c.requires.unused.fresh),
 )
 
 pub returns-in-Code-clause-settles : goal.returns-in-Code-clause-settles
 returns-in-Code-clause-settles g c = λ source means. (
   rw c.in-Code.is
-      (settles-still _ _ _ _ c.args.setting.now.machine.now _ refl (code c.in-Code.file.now) _ refl
-      (c.list_program.ensures.settles c.in-Code.file.now source (g.I.Source.left c.args.input.now) c.args.setting.now.machine.now
-      (rw c.in-Code.is at means) c.requires.fresh)),
-  inl (unasked _ _ _ c.requires.fresh),
+      (settles-still _ _ _ _ c.args.self.now.machine.now _ refl (code c.in-Code.file.now) _ refl
+      (c.list_program.ensures.settles c.in-Code.file.now source (g.I.Source.left c.args.input.now) c.args.self.now.machine.now
+      (rw c.in-Code.is at means) c.requires.unused.fresh)),
+  inl (unasked _ _ _ c.requires.unused.fresh),
 )
 
 pub returns-in-Bulk-clause-settles : goal.returns-in-Bulk-clause-settles
@@ -71,13 +71,13 @@ pub returns-in-Bulk-clause-yeses : goal.returns-in-Bulk-clause-yeses
 returns-in-Bulk-clause-yeses g c = c.bulk_program.ensures.yeses
 
 pub returns-in-Plain-clause-yeses : goal.returns-in-Plain-clause-yeses
-returns-in-Plain-clause-yeses g c = yeses-fresh _ _ _ _ _ c.requires.fresh refl refl
+returns-in-Plain-clause-yeses g c = yeses-fresh _ _ _ _ _ c.requires.unused.fresh refl refl
 
 pub returns-in-Format-clause-yeses : goal.returns-in-Format-clause-yeses
-returns-in-Format-clause-yeses g c = yeses-fresh _ _ _ _ _ c.requires.fresh refl refl
+returns-in-Format-clause-yeses g c = yeses-fresh _ _ _ _ _ c.requires.unused.fresh refl refl
 
 pub returns-in-Check-clause-yeses : goal.returns-in-Check-clause-yeses
-returns-in-Check-clause-yeses g c = yeses-fresh _ _ _ _ _ c.requires.fresh refl refl
+returns-in-Check-clause-yeses g c = yeses-fresh _ _ _ _ _ c.requires.unused.fresh refl refl
 
 pub returns-in-Code-clause-yeses : goal.returns-in-Code-clause-yeses
-returns-in-Code-clause-yeses g c = yeses-fresh _ _ _ _ _ c.requires.fresh refl refl
+returns-in-Code-clause-yeses g c = yeses-fresh _ _ _ _ _ c.requires.unused.fresh refl refl

@@ -2,7 +2,7 @@ use Rattle.rg_top.specs.Commands.{generated}
 use Rattle.rg_top.proofs.Ran.{runs-checked}
 use Rattle.std.proofs.Common.{inl, refl}
 use Rattle.rg_top.proofs.Asked.{yeses-fresh}
-use Rattle.rg_top.proofs.top.bulk_program.Goals as goal
+use Rattle.rg_top.proofs.setting.Setting.bulk_program.Goals as goal
 
 pub returns-in-Ok-clause-settles : goal.returns-in-Ok-clause-settles
 returns-in-Ok-clause-settles g c = λ source left means.
