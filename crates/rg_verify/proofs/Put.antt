@@ -93,9 +93,9 @@ module _ (t u : Tables) (m : Truth) (now : List Held) where
   }
 
 -- it has a row, of whichever stack it was taken
-pub taken-there : {t u : Tables} {m : Truth} {before now : List Held} {n : ℕ} → IsPiled t m before
+pub taken-there : {t u : Tables} (m : Truth) {before now : List Held} {n : ℕ} → IsPiled t m before
     → ((items : List Item) → Piled t m before items → TakesRow t u m now items (Ok n)) → n < length u.exprs
-taken-there {t} {u} {m} {before} {now} {n} (items, p) takes = took-there t u m now items n (takes items p)
+taken-there {t} {u} m {before} {now} {n} (items, p) takes = took-there t u m now items n (takes items p)
 
 -- an operator over it
 pub over-there : (x : Unary) (u : Tables) (n : ℕ) → n < length u.exprs → IsExprRow u (row_over x n)

@@ -7,7 +7,7 @@ use Rattle.rg_verify.proofs.expressions.put_unary.Goals as goal
 
 pub put_tree-requires-clause-row : goal.put_tree-requires-clause-row
 put_tree-requires-clause-row c =
-    rw c.row_over.ensures (over-there c.args.unary _ c.in_ok-a.a (taken-there c.requires c.in_ok-a.ensures.takes))
+    rw c.row_over.ensures (over-there c.args.unary _ c.in_ok-a.a (taken-there c.args.body.in_method c.requires c.in_ok-a.ensures.takes))
 
 pub put_tree-requires-clause-tree : goal.put_tree-requires-clause-tree
 put_tree-requires-clause-tree c =
