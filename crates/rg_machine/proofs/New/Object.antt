@@ -215,35 +215,35 @@ module _ (old new : Parts) (v : Stack) (words : List Word) (at : ℕ) (printed :
         let some = st.opened.some in
         grown-by old new v slot class label fields m plain k (v.temps ++ slot ∷ [])
         (λ i s u e t. elim (temp-back v marks slot i s t) [
-            | inl was ↦ made-label old.cells new.cells slot class label fields m plain s (Temp u.number) (st.opened.temps i s u e was)
-            | inr here ↦
-                let le = here.1 in
-                let lt = slice_get_within v.windows i u e in
-                let last : length v.windows - 1 ≡ i = omega (arith, le, lt, many) in
-                fresh-temp s u here.0 (same_Some w u (sym top ∙ ap (slice_get v.windows) last ∙ e))
-          ])
+          | inl was ↦ made-label old.cells new.cells slot class label fields m plain s (Temp u.number) (st.opened.temps i s u e was)
+          | inr here ↦
+              let le = here.1 in
+              let lt = slice_get_within v.windows i u e in
+              let last : length v.windows - 1 ≡ i = omega (arith, le, lt, many) in
+              fresh-temp s u here.0 (same_Some w u (sym top ∙ ap (slice_get v.windows) last ∙ e))
+        ])
         (λ i s u e h. elim (temp-was s (Temp u.number) h) [
-            | inl was ↦ temp-on v marks slot i s (st.opened.all_temps i s u e was)
-            | inr here ↦
-                let last : length v.windows - 1 ≡ i =
-                st.window_numbers (length v.windows - 1) i w u top e (number-is-of w.number u.number here.1) in
-                subst (λ x. IsTempOf (with_temp v slot) i x) (sym here.0)
-                (temp-new v marks slot i (omega (arith, last, many, some)) (omega (arith, last, many, some)))
-          ])
+          | inl was ↦ temp-on v marks slot i s (st.opened.all_temps i s u e was)
+          | inr here ↦
+              let last : length v.windows - 1 ≡ i =
+              st.window_numbers (length v.windows - 1) i w u top e (number-is-of w.number u.number here.1) in
+              subst (λ x. IsTempOf (with_temp v slot) i x) (sym here.0)
+              (temp-new v marks slot i (omega (arith, last, many, some)) (omega (arith, last, many, some)))
+        ])
         (λ j k s e f. elim (in-front-or v.temps slot s j e) [
-            | inl a ↦ elim (in-front-or v.temps slot s k f) [
-              | inl b ↦ st.opened.once j k s a b
-              | inr b ↦ absurd (held-other old.cells new.cells slot class label fields m plain s (temp-held old v st j s a) (sym b.1))
-            ]
-            | inr a ↦ elim (in-front-or v.temps slot s k f) [
-              | inl b ↦ absurd (held-other old.cells new.cells slot class label fields m plain s (temp-held old v st k s b) (sym a.1))
-              | inr b ↦ a.0 ∙ sym b.0
-            ]
-          ])
+          | inl a ↦ elim (in-front-or v.temps slot s k f) [
+            | inl b ↦ st.opened.once j k s a b
+            | inr b ↦ absurd (held-other old.cells new.cells slot class label fields m plain s (temp-held old v st j s a) (sym b.1))
+          ]
+          | inr a ↦ elim (in-front-or v.temps slot s k f) [
+            | inl b ↦ absurd (held-other old.cells new.cells slot class label fields m plain s (temp-held old v st k s b) (sym a.1))
+            | inr b ↦ a.0 ∙ sym b.0
+          ]
+        ])
         (λ s n h. elim (temp-was s (Temp n) h) [
-            | inl was ↦ st.temps s n was
-            | inr here ↦ (length v.windows - 1, w, top, number-is-of w.number n here.1)
-          ])
+          | inl was ↦ st.temps s n was
+          | inr here ↦ (length v.windows - 1, w, top, number-is-of w.number n here.1)
+        ])
 
     temp-lead : Leads new (with_temp v slot) (Slot slot)
     temp-lead = record {

@@ -82,7 +82,7 @@ new-is : (c : After-set_word) → (b : Behind c)
     → record (the_view c.self.inside) {
       frames = entered_stack c.self.inside.frames b.x.entered.closed.0 (place.Var c.depth.result c.args.s) c.args.z c.in-Slot.field-0;
     }
-    ≡ record (the_view c.self.inside) { heap = c.enter.new.self; frames = c.set_word.new.self; }
+    ≡ record (the_view c.self.inside) { heap = c.enter.new.self; frames = c.set_word.new.self }
 new-is c b =
     let m = c.self.inside in
     ap (λ (v : Stack). record { heap = m.heap; frames = v; words = m.stack.items; at = m.at; printed = m.printed }) (sym b.is)
@@ -96,7 +96,7 @@ returns c at =
     let e = b.x.entered in
     let owner : Place = place.Var c.depth.result c.args.s in
     let depth = subst (λ (m : Parts). c.depth.result ≡ frame_number (machine_in m).frames) (sym c.self.view_is) c.depth.ensures in
-    let new : Parts = record (the_view m) { heap = c.enter.new.self; frames = c.set_word.new.self; } in
+    let new : Parts = record (the_view m) { heap = c.enter.new.self; frames = c.set_word.new.self } in
     record {
       effect = λ go input.
           subst (λ (m : Parts). free_act empty at (i.Enter c.args.s c.args.z) go (core_of m).stack (work_of (core_of m) input)

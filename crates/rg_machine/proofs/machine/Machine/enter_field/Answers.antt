@@ -73,10 +73,10 @@ record Behind (c : After-set_word) : Type 0 where
       c.is_forest.ensures.forest c.in-Slot.holder c.args.index c.args.z c.in-Slot-bridge.field-0 x leads
   opens : can_open (machine_in (the_view c.self.inside)) c.args.z ≡ true
   is : record (the_view c.self.inside) {
-        frames = entered_stack c.self.inside.frames e.closed.0 (place.Field c.serial.result c.args.index) c.args.z c.in-Slot-bridge.field-0;
-        words = c.pop.new.self.items;
-      }
-      ≡ record (the_view c.self.inside) { heap = c.enter.new.self; frames = c.set_word.new.self; words = c.pop.new.self.items; }
+    frames = entered_stack c.self.inside.frames e.closed.0 (place.Field c.serial.result c.args.index) c.args.z c.in-Slot-bridge.field-0;
+    words = c.pop.new.self.items;
+  }
+      ≡ record (the_view c.self.inside) { heap = c.enter.new.self; frames = c.set_word.new.self; words = c.pop.new.self.items }
 
 bridge-entered : (c : After-set_word) → Behind c
 bridge-entered c =
@@ -141,7 +141,7 @@ returns c at =
     let owner : Place = place.Field c.serial.result c.args.index in
     let rest = c.pop.new.self.items in
     let old : Parts = the_view m in
-    let new : Parts = record old { heap = c.enter.new.self; frames = c.set_word.new.self; words = rest; } in
+    let new : Parts = record old { heap = c.enter.new.self; frames = c.set_word.new.self; words = rest } in
     let start : Entered m.heap m.frames m.at h c.in-Slot-bridge.field-0 → Parts = λ e. record old {
       frames = entered_stack m.frames e.closed.0 (place.Field c.serial.result c.args.index) c.args.z c.in-Slot-bridge.field-0;
       words = rest;

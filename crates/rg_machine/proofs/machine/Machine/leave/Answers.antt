@@ -25,7 +25,7 @@ pub invariant_of-self : goal.invariant_of-self
 invariant_of-self c =
     let p = the_view c.self.inside in
     let mid = the_view c.self-2.inside in
-    let new : Parts = record mid { heap = c.leave.new.self; frames = c.leave.new.frames; } in
+    let new : Parts = record mid { heap = c.leave.new.self; frames = c.leave.new.frames } in
     let given = mid-given p _ mid _ c.args.s c.self.view_is c.self-2.view_is c.end_from.ensures.ended c.requires.given in
     let words = ap (λ (x : Parts). x.words) c.self-2.view_is ∙ c.end_from.ensures.words ∙ ap (λ (x : Parts). x.words) (sym c.self.view_is) in (
       subst (Stands c.leave.new.self) (sym c.leave.ensures.window)
@@ -41,7 +41,7 @@ pub returns-then-open_count-ge2 : goal.returns-then-open_count-ge2
 returns-then-open_count-ge2 c at =
     let p = the_view c.self.inside in
     let mid = the_view c.self-2.inside in
-    let new : Parts = record mid { heap = c.leave.new.self; frames = c.leave.new.frames; } in
+    let new : Parts = record mid { heap = c.leave.new.self; frames = c.leave.new.frames } in
     record {
       effect = λ go input.
           subst (λ (x : Parts). free_act empty at (i.Leave c.args.s) go (core_of x).stack (work_of (core_of x) input)

@@ -54,7 +54,7 @@ invariant_of-self-2 c =
 
 pub returns-clause-ok : goal.returns-clause-ok
 returns-clause-ok c =
-    let made : List Word → Parts = λ ws. record (the_view c.self.inside) { heap = c.make.new.self; words = ws; } in
+    let made : List Word → Parts = λ ws. record (the_view c.self.inside) { heap = c.make.new.self; words = ws } in
     let P : Parts → Type 0 = λ m.
     core_of (made (c.self.inside.stack.items ++ Slot c.in_ok-slot.slot ∷ []))
     ≡ with_made (core_of m) c.args.class (map value_of_word c.args.words.now) (Region (top_region (windows_of m.heap.regions m.frames))) in

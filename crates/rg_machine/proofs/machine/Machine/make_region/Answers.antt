@@ -52,7 +52,7 @@ invariant_of-self-2 c =
 
 pub returns-clause-ok : goal.returns-clause-ok
 returns-clause-ok c =
-    let made : List Word → Parts = λ ws. record (the_view c.self.inside) { heap = c.make_region.new.self; words = ws; } in
+    let made : List Word → Parts = λ ws. record (the_view c.self.inside) { heap = c.make_region.new.self; words = ws } in
     let P : Parts → Type 0 = λ m.
     core_of (made (c.self.inside.stack.items ++ Slot c.in_ok-slot.slot ∷ []))
     ≡ with_made (with_machine (core_of m) (record (machine_in m) { managers = (machine_in m).managers ++ c.args.manager ∷ [] })) c.args.class
