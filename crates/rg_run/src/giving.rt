@@ -27,6 +27,7 @@ pub(crate) fn counted(steps: u64, outcome: Outcome) -> u64
 
 /// Gives the lines of a step: of the value that it printed, and of its collection, the one behind
 /// the first ones, so many. An `Err` is the end of the run.
+#[inline(always)]
 pub(crate) fn give<O: Sink, R: Sink>(
     task: &Task<'_>,
     sinks: &mut Sinks<'_, O, R>,
