@@ -224,22 +224,22 @@ module _ (held : ℕ → Truth) (owners : List Val) (f m : Machine) (stack : Lis
     window_owners = window-owners m.windows (λ r e. e) p.window_owners;
     tidy = tidy;
   }) (λ a h n e at lies. (let w = was a h at in
-        p.lost_temps a w.before n e w.found (temp-back w.before.label n (sym w.label ∙ lies))))
+      p.lost_temps a w.before n e w.found (temp-back w.before.label n (sym w.label ∙ lies))))
 
   -- what always holds, where links lead as they may
   pub relabel-tidy : ((a : ℕ) (o : Seen) (k : ℕ) (v : Val) (l : Label) (q : ℕ) → slice_get m.store a ≡ Some o → slice_get o.fields k ≡ Some v
       → label_of m.store v ≡ Some l → other_label rs new o.label ≡ Region q → may_lead m.windows q (other_label rs new l) ≡ true) → Tidy next
   relabel-tidy may = tidy-objects m store p.tidy
       (λ a h r at lies. (let w = was a h at in elim (given w.before.label r (sym w.label ∙ lies)) [
-      | inl old ↦ p.tidy.labels a w.before r w.found old
-      | inr opened ↦ p.tidy.regions r opened
-    ]))
+        | inl old ↦ p.tidy.labels a w.before r w.found old
+        | inr opened ↦ p.tidy.regions r opened
+      ]))
       (λ a h k v at field. (let w = was a h at in ap (λ n. leads_to (λ b. nat_lt b n) v) (length-map m.store (relabelled_object rs new))
-        ∙ p.tidy.fields a w.before k v w.found (ap (λ vs. slice_get vs k) (sym w.fields) ∙ field)))
+      ∙ p.tidy.fields a w.before k v w.found (ap (λ vs. slice_get vs k) (sym w.fields) ∙ field)))
       (λ a h q k v l at lies field is. (let w = was a h at in
-        by q v l (label_of m.store v) refl (sym (label-map v) ∙ is) (λ j e. may a w.before k v j q w.found
-        (ap (λ vs. slice_get vs k) (sym w.fields) ∙ field) e
-        (sym w.label ∙ lies))))
+      by q v l (label_of m.store v) refl (sym (label-map v) ∙ is) (λ j e. may a w.before k v j q w.found
+      (ap (λ vs. slice_get vs k) (sym w.fields) ∙ field) e
+      (sym w.label ∙ lies))))
     where
       by : (q : ℕ) (v : Val) (l : Label) (o : Option Label) → label_of m.store v ≡ o → option_map (other_label rs new) o ≡ Some l
           → ((j : Label) → label_of m.store v ≡ Some j → may_lead m.windows q (other_label rs new j) ≡ true) → may_lead m.windows q l ≡ true

@@ -194,20 +194,20 @@ module _ (held : ℕ → Truth) (f m : Machine) (stack : List Val) (o : Seen) (p
     window_owners = window-owners m.windows p.window_owners;
     tidy = tidy-objects m (m.store ++ o ∷ []) p.tidy
         (λ a h r there lies. elim (push-back m.store o h a there) [
-        | inl new ↦ fits.regions r (ap (λ (q : Seen). q.label) (sym new.1) ∙ lies)
-        | inr was ↦ p.tidy.labels a h r was lies
-      ])
+          | inl new ↦ fits.regions r (ap (λ (q : Seen). q.label) (sym new.1) ∙ lies)
+          | inr was ↦ p.tidy.labels a h r was lies
+        ])
         (λ a h k v there at. elim (push-back m.store o h a there) [
-        | inl new ↦ plain-leads (λ b. nat_lt b (length (m.store ++ o ∷ []))) v
-            (fits.plain k v (ap (λ (q : Seen). slice_get q.fields k) (sym new.1) ∙ at))
-        | inr was ↦ lead-more (λ b. nat_lt b n) (λ b. nat_lt b (length (m.store ++ o ∷ []))) v (λ b e.
-            (let l = ltb-true b n e in let g = length_push m.store o in lt-ltb b (length (m.store ++ o ∷ [])) (omega (arith, l, g))))
-            (p.tidy.fields a h k v was at)
-      ])
+          | inl new ↦ plain-leads (λ b. nat_lt b (length (m.store ++ o ∷ []))) v
+              (fits.plain k v (ap (λ (q : Seen). slice_get q.fields k) (sym new.1) ∙ at))
+          | inr was ↦ lead-more (λ b. nat_lt b n) (λ b. nat_lt b (length (m.store ++ o ∷ []))) v (λ b e.
+              (let l = ltb-true b n e in let g = length_push m.store o in lt-ltb b (length (m.store ++ o ∷ [])) (omega (arith, l, g))))
+              (p.tidy.fields a h k v was at)
+        ])
         (λ a h q k v l there lies at is. elim (push-back m.store o h a there) [
-        | inl new ↦ plain-label (m.store ++ o ∷ []) v l (fits.plain k v (ap (λ (q : Seen). slice_get q.fields k) (sym new.1) ∙ at)) is
-        | inr was ↦ p.tidy.inside a h q k v l was lies at (sym (label-new v (p.tidy.fields a h k v was at)) ∙ is)
-      ]);
+          | inl new ↦ plain-label (m.store ++ o ∷ []) v l (fits.plain k v (ap (λ (q : Seen). slice_get q.fields k) (sym new.1) ∙ at)) is
+          | inr was ↦ p.tidy.inside a h q k v l was lies at (sym (label-new v (p.tidy.fields a h k v was at)) ∙ is)
+        ]);
   }) (λ a h k e there lies. elim (push-back m.store o h a there) [
     | inl new ↦ clash (a == n) (eq-eqb a n new.0) (or-right (held a) (a == n) e)
     | inr was ↦ p.lost_temps a h k (or-left (held a) (a == n) e) was lies

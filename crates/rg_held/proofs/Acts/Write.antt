@@ -157,12 +157,12 @@ module _ (held : ℕ → Truth) (owners : List Val) (f m : Machine) (stack : Lis
     tidy = tidy-objects m store p.tidy
         (λ b h r at lies. (let w = was b h at in p.tidy.labels b w.before r w.found (w.label ∙ lies)))
         (λ b h j u at field. (let w = was b h at in made-leads u (elim (w.fields j u field) [
-        | inl is ↦ ap (leads_to (λ b. nat_lt b (length m.store))) is.0
-            ∙ lead-more held (λ b. nat_lt b (length m.store)) v (λ b e. (let l = p.there b e in grind (arith, l))) lead
-        | inr old ↦ p.tidy.fields b w.before j u w.found old
-      ])))
+          | inl is ↦ ap (leads_to (λ b. nat_lt b (length m.store))) is.0
+              ∙ lead-more held (λ b. nat_lt b (length m.store)) v (λ b e. (let l = p.there b e in grind (arith, l))) lead
+          | inr old ↦ p.tidy.fields b w.before j u w.found old
+        ])))
         (λ b h q j u l at lies field is. (let w = was b h at in elim (w.fields j u field) [
-        | inl new ↦ may q l (new.1 ∙ lies) (ap (label_of m.store) (sym new.0) ∙ sym (label-set u) ∙ is)
-        | inr old ↦ p.tidy.inside b w.before q j u l w.found (w.label ∙ lies) old (sym (label-set u) ∙ is)
-      ]));
+          | inl new ↦ may q l (new.1 ∙ lies) (ap (label_of m.store) (sym new.0) ∙ sym (label-set u) ∙ is)
+          | inr old ↦ p.tidy.inside b w.before q j u l w.found (w.label ∙ lies) old (sym (label-set u) ∙ is)
+        ]));
   }) (λ b h i e at lies. (let w = was b h at in p.lost_temps b w.before i e w.found (w.label ∙ lies)))
