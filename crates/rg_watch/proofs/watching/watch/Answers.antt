@@ -11,11 +11,11 @@ pub steps-init : goal.steps-init
 steps-init g c =
     let P : Tables → Type 0 = λ q. Accepted (program_of q) in
     let accepted : P c.args.accepted.now.program =
-    subst P c.program-program.ensures.program c.program-program.ensures.accepted in
+    subst P c.program.ensures.program c.program.ensures.accepted in
     record {
       follows = c.requires.follows;
       stands = has-begun (program_of c.args.accepted.now.program) c.args.code.now _ _ _ _ _ _ accepted c.requires.lowers
-          (c.main_manager-manager.ensures ∙ ap (λ (q : Tables). q.manager) c.program-program.ensures.program) c.in-Ok.ensures.begun _ _;
+          (c.main_manager-manager.ensures ∙ ap (λ (q : Tables). q.manager) c.program.ensures.program) c.in-Ok.ensures.begun _ _;
     }
 
 pub step-outcome-requires-clause-runs : goal.step-outcome-requires-clause-runs
