@@ -1,4 +1,4 @@
-//! What a run works with beside its machine, its input and the pacers (docs/architecture.md).
+//! What a run works with beside its machine, its input and the pacers (docs/language.md, "Steps").
 
 ghost use Rattle.std.specs.Prelude.{◌≡◌};
 
