@@ -1,22 +1,24 @@
 #!/usr/bin/env bash
 # Refuses each call for memory of a run in turn (bench/refuse.c, preloaded). The run must be the right one all the same, or end
 # with status 8: then its output is the first whole lines of the right one, and its notes are the first whole lines of the right
-# ones with `out of memory` behind them. Without a file: all programs of examples/ with `--every 1 --report`, and `bulk 300`.
+# ones with `out of memory` behind them. Without a file: all programs of examples/ with `--every 1 --report`, `bulk 300`, and
+# each source that examples/rows.txt gives to `slide`, and every_second.rg, by `run` and `slide` with and without a report.
 # It needs a C compiler, and isn't a part of the gate. Usage: bench/memory.sh [FILE [OPTION..]]
 set -eu
 words=("$@")
 set --
 . "$(dirname "$0")/common.sh"
 cc -shared -fPIC -O1 -o "$work/refuse.so" "$here/bench/refuse.c"
-python3 - "$program" "$work/refuse.so" "$here/examples" ${words[@]+"${words[@]}"} <<'PY'
-import os, subprocess, sys
+python3 - "$program" "$work" "$here/examples" ${words[@]+"${words[@]}"} <<'PY'
+import os, re, subprocess, sys
 from pathlib import Path
-program, refuse, examples, words = sys.argv[1], sys.argv[2], Path(sys.argv[3]), sys.argv[4:]
+program, work, examples, words = sys.argv[1], Path(sys.argv[2]), Path(sys.argv[3]), sys.argv[4:]
+refuse = str(work / "refuse.so")
 CUT = b"out of memory\n"
 
 def run(words, number):
     """Status, output and notes of a run, and whether its call for memory of that number came, which is refused; 0 refuses none."""
-    source = Path(words[1]).with_suffix(".in") if words[0] == "run" else None
+    source = Path(words[1]).with_suffix(".in") if words[0] != "bulk" else None
     given = source.read_bytes() if source and source.exists() else b""
     reads, writes = os.pipe()
     environment = dict(os.environ, LD_PRELOAD=refuse, REFUSE=str(number), REFUSED=str(writes))
@@ -43,8 +45,25 @@ def tried(words):
         number += 1
         spared += ran == whole
 
-runs = [["run", *words]] if words else [["run", str(path), "--every", "1", "--report"] for path in sorted(examples.glob("*.rg"))] + [["bulk", "300"]]
+def slid():
+    """The files of the sources that the rows give to `slide`, each once, and every_second.rg."""
+    cells = [line.split(" | ") for line in (examples / "rows.txt").read_text("utf-8").splitlines() if line.startswith("slide ")]
+    for number, source in enumerate(dict.fromkeys(row[2] for row in cells if not re.search(r"\[\d+:", row[2]))):
+        path = work / f"row{number}.rg"
+        path.write_text(source.replace("~", "\n"), "utf-8")
+        yield str(path)
+    yield str(examples / "every_second.rg")
+
+REPORTS = [], ["--report"], ["--report", "--every", "1"]
+runs = [["run", *words]] if words else [
+    *(["run", str(path), "--every", "1", "--report"] for path in sorted(examples.glob("*.rg"))),
+    ["bulk", "300"],
+    *([command, path, *report] for path in slid() for command in ("run", "slide") for report in REPORTS),
+]
+total = 0
 for words in runs:
     calls, spared = tried(words)
+    total += calls
     print(f"{' '.join(words)}: {calls} calls for memory, each refused in turn: {calls - spared} times 8 with whole lines, {spared} times the right run", flush=True)
+print(f"{total} calls for memory, each refused in turn")
 PY
