@@ -54,14 +54,14 @@ def slid():
         yield str(path)
     yield str(examples / "every_second.rg")
 
-REPORTS = [], ["--report"], ["--report", "--every", "1"]
+REPORTS = [], ["--report"], ["--every", "1", "--report"]
 runs = [["run", *words]] if words else [
     *(["run", str(path), "--every", "1", "--report"] for path in sorted(examples.glob("*.rg"))),
     ["bulk", "300"],
     *([command, path, *report] for path in slid() for command in ("run", "slide") for report in REPORTS),
 ]
 total = 0
-for words in runs:
+for words in dict.fromkeys(map(tuple, runs)): # (each once)
     calls, spared = tried(words)
     total += calls
     print(f"{' '.join(words)}: {calls} calls for memory, each refused in turn: {calls - spared} times 8 with whole lines, {spared} times the right run", flush=True)
