@@ -5,9 +5,10 @@ use Rattle.rg_base.specs.declared.fault.Code.TheVariants.{Mismatch}
 use Rattle.rg_base.specs.declared.ty.Ty.{Ty}
 use Rattle.rg_base.specs.declared.ty.Ty.TheVariants.{Int, Bool}
 use Rattle.rg_tree.specs.declared.rows.BinOp.{BinOp}
-use Rattle.rg_tree.specs.Tree.{Expr, number, boolean, nil, path, is_nil, neg, not, binary, Class}
-use Rattle.rg_rules.specs.Answers.{◌>>=◌, ◌>>◌, test, Answer, Passed}
+use Rattle.rg_tree.specs.Tree.{Expr, number, boolean, nil, path, is_nil, neg, not, binary, size, element, Class}
+use Rattle.rg_rules.specs.Answers.{◌>>=◌, ◌>>◌, test, Answer}
 use Rattle.rg_rules.specs.Environment.{Env}
+use Rattle.rg_rules.specs.Paths.{Looked, read_through, walk_array}
 use Rattle.rg_rules.specs.Expressions.{Judged, Operators, among, operand_type, agree, result_type, against, nil_type, judge_is_nil, judge_expr}
 use Rattle.rg_type.specs.Inner.Changing.{TypedAs}
 use Rattle.rg_type.specs.Inner.Operations.{operation_of, own_type_of}
@@ -18,9 +19,21 @@ then_tested : {A : Type 0} (r : Answer A) (f : A → Judged) (go : Judged → An
 then_tested (Ok a) f go = refl
 then_tested (Err code) f go = refl
 
-passed_tested : (r : Answer Passed) (j : Judged) (go : Judged → Answer Judged) → ◌>>◌ r (go j) ≡ ◌>>=◌ (◌>>◌ r (Ok j)) go
+passed_tested : {A : Type 0} (r : Answer A) (j : Judged) (go : Judged → Answer Judged) → ◌>>◌ r (go j) ≡ ◌>>=◌ (◌>>◌ r (Ok j)) go
 passed_tested (Ok u) j go = refl
 passed_tested (Err code) j go = refl
+
+index_tested : (t : Answer Ty) (i : Answer Judged) (go : Judged → Answer Judged) →
+    ◌>>=◌ t (λ ty. ◌>>=◌ i (λ j. go (record { ty = ty; env = j.env })))
+    ≡ ◌>>=◌ (◌>>=◌ t (λ ty. ◌>>=◌ i (λ j. Ok (record { ty = ty; env = j.env })))) go
+index_tested (Ok ty) i go = then_tested i (λ j. record { ty = ty; env = j.env }) go
+index_tested (Err code) i go = refl
+
+array_tested : (a : Answer Looked) (i : Answer Judged) (go : Judged → Answer Judged) →
+    ◌>>=◌ a (λ l. ◌>>=◌ (read_through l.receiver l.ty) (λ ty. ◌>>=◌ i (λ j. go (record { ty = ty; env = j.env }))))
+    ≡ ◌>>=◌ (◌>>=◌ a (λ l. ◌>>=◌ (read_through l.receiver l.ty) (λ ty. ◌>>=◌ i (λ j. Ok (record { ty = ty; env = j.env }))))) go
+array_tested (Ok l) i go = index_tested (read_through l.receiver l.ty) i go
+array_tested (Err code) i go = refl
 
 test_tested : (b : Truth) (j : Judged) (go : Judged → Answer Judged) →
     ◌>>◌ (test b Mismatch) (go j) ≡ ◌>>=◌ (◌>>◌ (test b Mismatch) (Ok j)) go
@@ -51,6 +64,10 @@ judge_expr-own classes env wanted (binary op a b) =
     left_tested (judge_expr classes env (operand_type (among op)) a) (λ l. judge_expr classes l.env (operand_type (among op)) b)
     (λ l r. agree (among op) l.ty r.ty)
     (λ r. record { ty = result_type (among op); env = r.env }) (λ j. against wanted j.ty j.env)
+judge_expr-own classes env wanted (size q) =
+    passed_tested (walk_array classes env q.base q.fields) (record { ty = Int; env = env }) (λ j. against wanted j.ty j.env)
+judge_expr-own classes env wanted (element q e) =
+    array_tested (walk_array classes env q.base q.fields) (judge_expr classes env (Some Int) e) (λ j. against wanted j.ty j.env)
 judge_expr-own classes env wanted _ = refl
 
 -- it has no type of its own

@@ -3,15 +3,15 @@
 mod path;
 
 ghost use Rattle.std.specs.Prelude.{◌≡◌, IfOk, IfSome, List, OnOk};
-ghost use Rattle.rg_tree.specs.Rows.RowTrees.{expr_at, program_of};
-ghost use Rattle.rg_tree.specs.Rows.RowsExist.{IsExprNumber};
+ghost use Rattle.rg_tree.specs.Rows.RowTrees.{expr_at, path_of, program_of};
+ghost use Rattle.rg_tree.specs.Rows.RowsExist.{IsExprNumber, IsPathIn};
 ghost use Rattle.rg_tree.specs.Tree.{Class};
 ghost use Rattle.rg_rules.specs.Environment.{Env as Variables};
 ghost use Rattle.rg_rules.specs.Expressions as rules;
 ghost use Rattle.rg_names.specs.TableOf.{IsTableOf};
 ghost use Rattle.rg_names.specs.TreeAnswers.{IsKnown};
 ghost use Rattle.rg_type.specs.Inner.Changing.{TypedAs};
-ghost use Rattle.rg_type.specs.Inner.Operations.{operation_of, own_type_of};
+ghost use Rattle.rg_type.specs.Inner.Operations.{element_of, operation_of, own_type_of};
 ghost use Rattle.rg_type.specs.Judging.{ExprJudgedAs};
 ghost use Rattle.rg_flow.specs.Scope.{env_of, IsScopeIn};
 ghost use Rattle.rg_flow.specs.States.{IsReadable};
@@ -19,12 +19,13 @@ ghost use Rattle.rg_flow.specs.States.{IsReadable};
 use crate::faults::fault;
 use crate::judged::Judged;
 use crate::operators::Operators;
+use crate::paths::{read_through, walk_array};
 use path::{is_nil, path};
 use rg_base::{Code, Stop, Ty};
 use rg_flow::Env;
 use rg_names::{Book, Classes};
 use rg_rules::below;
-use rg_tree::{BinOp, ExprRow, Program};
+use rg_tree::{BinOp, ExprRow, Path, Program};
 
 /// The type of an expression, of which a type may be expected, and the variables afterwards; or the
 /// first fault, at the line of its statement.
@@ -100,7 +101,30 @@ fn own_type(env: &mut Env, book: &Book, e: u32, wanted: Option<Ty>) -> Result<Ty
             Ok(Ty::Bool)
         },
         ExprRow::Binary { op, left, right } => operation(env, book, op, left, right),
+        ExprRow::Size(read) => {
+            walk_array(env, book, read)?;
+            Ok(Ty::Int)
+        },
+        ExprRow::At { path, index } => element(env, book, path, index),
     }
+}
+
+// `q[e]`: the array is found before its index is judged.
+#[cycle(expression)]
+fn element(env: &mut Env, book: &Book, path: Path, index: u32) -> Result<Ty, Code>
+    requires path { IsPathIn book.now.program path }
+    requires index { IsExprNumber book.now.program index }
+    requires scope { IsReadable book.now.program env.old }
+    ensures judged { let t = book.now.program in
+        TypedAs (element_of (program_of t).classes (env_of t env.old) (path_of t path)
+        (expr_at t index)) (env_of t env.new) result }
+    ensures scope { OnOk result (IsReadable book.now.program env.new) }
+    ensures known { IfOk result (IsKnown (program_of book.now.program).classes) }
+{
+    let array = walk_array(env, book, path)?;
+    let ty = read_through(array.receiver, array.ty)?;
+    expression(env, book, index, Some(Ty::Int))?;
+    Ok(ty)
 }
 
 // An operator between two operands, of which the left one is judged first.

@@ -27,7 +27,7 @@ pub struct Followed {
     pub class: u32,
 }
 
-/// A field: what its receiver permits, and its declared type.
+/// A field or the elements of an array: what the reference in front permits, and the declared type.
 #[derive(Clone, Copy)]
 pub struct Looked {
     pub receiver: Cap,
@@ -45,6 +45,27 @@ pub fn walk(env: &Env, book: &Book, path: Path) -> Result<Ty, Code>
     let found = env.find(path.base)?;
     let ty = seen(env, &found);
     walk_fields(book, ty, book.order(path.fields))
+}
+
+/// The array at the end of a path: what its reference permits, and the declared type of its
+/// elements.
+pub fn walk_array(env: &Env, book: &Book, path: Path) -> Result<Looked, Code>
+    requires path { IsPathIn book.now.program path }
+    requires scope { IsReadable book.now.program env.now }
+    ensures judged { let t = book.now.program in let p = path_of t path in
+        looked_of result ≡ rules.walk_array (program_of t).classes (env_of t env.now)
+        p.base p.fields }
+    ensures known { IfOk result (λ l. IsKnown (program_of book.now.program).classes l.ty) }
+{
+    let ty = walk(env, book, path)?;
+    let followed = follow(ty)?;
+    match book.element(followed.class) {
+        Some(ty) => Ok(Looked {
+            receiver: followed.cap,
+            ty,
+        }),
+        None => Err(Code::Mismatch),
+    }
 }
 
 /// The type of the field at the end of a path, which may be written.
@@ -151,8 +172,8 @@ pub fn follow(ty: Ty) -> Result<Followed, Code>
     }
 }
 
-// The type as which a field is read through its receiver.
-fn read_through(receiver: Cap, ty: Ty) -> Result<Ty, Code>
+/// The type as which a field or an element is read through its receiver.
+pub fn read_through(receiver: Cap, ty: Ty) -> Result<Ty, Code>
     ensures judged { result ≡ rules.read_through receiver ty }
     ensures known { (classes : List Class) → IsKnown classes ty → IfOk result (IsKnown classes) }
 {
@@ -165,8 +186,8 @@ fn read_through(receiver: Cap, ty: Ty) -> Result<Ty, Code>
     }
 }
 
-// Whether fields may be written through a capability.
-fn may_write(cap: Cap) -> bool
+/// Whether fields and elements may be written through a capability.
+pub fn may_write(cap: Cap) -> bool
     ensures { result ≡ tables.may_write cap }
 {
     match cap {

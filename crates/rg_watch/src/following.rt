@@ -19,8 +19,8 @@ pub struct Open {
     pub region: u64,
 }
 
-/// The regions that were made by `new iso`, region 1 first, and the windows that are open, from the
-/// bottom.
+/// The regions that were made by `new iso C` or `new iso C [e]`, region 1 first, and the windows
+/// that are open, from the bottom.
 #[derive(Drop)]
 pub struct Followed {
     pub made: Vec<Made>,
@@ -37,11 +37,20 @@ pub fn line_at(code: &CodeList, at: usize) -> u64 {
     0
 }
 
+/// The manager of the region that an instruction makes, if it makes one.
+fn manager_of(op: Op) -> Option<Manager> {
+    match op {
+        Op::NewIso { manager, .. } => Some(manager),
+        Op::NewIsoArray { manager, .. } => Some(manager),
+        _ => None,
+    }
+}
+
 /// The manager of the region that the step at an address makes, if it makes one.
 pub fn manager_made(code: &CodeList, at: usize) -> Option<Manager> {
     for k in at..code.len() {
         let op = code.get(k);
-        if let Op::NewIso { manager, .. } = op {
+        if let Some(manager) = manager_of(op) {
             return Some(manager);
         }
         if let Op::Mark { .. } = op {

@@ -4,9 +4,10 @@ use Rattle.rg_base.specs.declared.ty.Ty.{Ty}
 use Rattle.rg_base.specs.declared.ty.Ty.TheVariants.{Int, Bool}
 use Rattle.rg_base.specs.declared.fault.Code.TheVariants.{Mismatch}
 use Rattle.rg_tree.specs.declared.rows.BinOp.{BinOp}
-use Rattle.rg_tree.specs.Tree.{Expr, number, boolean, nil, path, is_nil, neg, not, binary, Class}
+use Rattle.rg_tree.specs.Tree.{Path, Expr, number, boolean, nil, path, is_nil, neg, not, binary, size, element, Class}
 use Rattle.rg_rules.specs.Answers.{◌>>=◌, ◌>>◌, test, Answer}
 use Rattle.rg_rules.specs.Environment.{Env}
+use Rattle.rg_rules.specs.Paths.{read_through, walk_array}
 use Rattle.rg_rules.specs.Expressions.{Judged, nil_type, judge_path, judge_is_nil, among, operand_type, agree, result_type, judge_expr}
 use Rattle.rg_rules.specs.Expressions as rules
 use Rattle.rg_type.specs.declared.operators.Operators.{Operators}
@@ -27,6 +28,14 @@ operation_of classes env op a b = do
   test (agree (among op) l.ty r.ty) Mismatch
   Ok (record { ty = result_type (among op); env = r.env })
 
+-- an element, whose array is found before the index is judged
+abbrev pub element_of : List Class → Env → Path → (index : Expr) → Answer Judged
+element_of classes env q e = do
+  a ← walk_array classes env q.base q.fields
+  t ← read_through a.receiver a.ty
+  j ← judge_expr classes env (Some Int) e
+  Ok (record { ty = t; env = j.env })
+
 -- the type of an expression by itself, in front of the last test; `nil` has the expected one
 abbrev pub own_type_of : List Class → Env → (wanted : Option Ty) → Expr → Answer Judged
 own_type_of classes env wanted (number z) = Ok (record { ty = Int; env = env })
@@ -45,3 +54,7 @@ own_type_of classes env wanted (not a) = do
   j ← judge_expr classes env (Some Bool) a
   Ok (record { ty = Bool; env = j.env })
 own_type_of classes env wanted (binary op a b) = operation_of classes env op a b
+own_type_of classes env wanted (size q) = do
+  walk_array classes env q.base q.fields
+  Ok (record { ty = Int; env = env })
+own_type_of classes env wanted (element q e) = element_of classes env q e

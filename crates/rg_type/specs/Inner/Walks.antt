@@ -11,7 +11,7 @@ abbrev pub followed_of : Result Followed Code → Answer rules.Followed
 followed_of (Ok f) = Ok (record { cap = f.cap; class = f.class })
 followed_of (Err code) = Err code
 
--- a field that is looked up
+-- a field that is looked up, or an array that is found
 abbrev pub looked_of : Result Looked Code → Answer rules.Looked
 looked_of (Ok l) = Ok (record { receiver = l.receiver; ty = l.ty })
 looked_of (Err code) = Err code
