@@ -8,7 +8,7 @@ use Rattle.std.proofs.lemmas.List.Concat.{flat_map-append}
 use Rattle.rg_base.specs.declared.value.Val.{Val}
 use Rattle.rg_base.specs.declared.value.Val.TheVariants.{Nil}
 use Rattle.rg_tree.specs.declared.rows.BinOp.{BinOp}
-use Rattle.rg_tree.specs.Tree.{Name, Variable, Expr, number, boolean, nil, path, is_nil, neg, not, binary, element}
+use Rattle.rg_tree.specs.Tree.{Name, Variable, Expr, path, neg, not, binary, element}
 use Rattle.rg_rules.specs.Environment.{same_variable}
 use Rattle.rg_rules.specs.State.{Local, set_in}
 use Rattle.rg_rules.specs.Evaluation.{is_iso_local, uses_path, uses, cleared}

@@ -3,13 +3,11 @@ use Rattle.std.proofs.Common.{◌≡◌, ℕ, List, Result, Ok, Err, refl, ◌�
 use Rattle.rg_base.specs.declared.object.Seen.{Seen}
 use Rattle.rg_base.specs.declared.outcome.Trap.{Trap}
 use Rattle.rg_base.specs.declared.value.Val.{Val}
-use Rattle.rg_base.specs.declared.value.Val.TheVariants.{Obj}
 use Rattle.rg_tree.specs.declared.rows.Path as row_path
 use Rattle.rg_tree.specs.Tree.{Path, Expr, Right, Class}
 use Rattle.rg_tree.specs.Rows.Tables.{Tables}
 use Rattle.rg_tree.specs.Rows.RowTrees.{classes_of, path_of, expr_at}
 use Rattle.rg_rules.specs.Answers.{◌>>=◌}
-use Rattle.rg_rules.specs.Items.{Item}
 use Rattle.rg_rules.specs.State.{Drops, State, locals_of}
 use Rattle.rg_rules.specs.Evaluation.{object_at, element_place, path_value, value_of}
 use Rattle.rg_rules.specs.RightSides.{with_right}

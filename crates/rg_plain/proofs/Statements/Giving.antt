@@ -1,5 +1,5 @@
 -- The end of the block of an `enter` with `giving`.
-use Rattle.std.proofs.Common.{◌≡◌, ◌≢◌, ◌∙◌, refl, sym, ap, ℕ, ◌<◌, List, [], ◌∷◌, length, map, reverse, Some, Ok, Err, arith}
+use Rattle.std.proofs.Common.{◌≡◌, ◌≢◌, ◌∙◌, refl, sym, ap, ℕ, List, [], ◌∷◌, length, map, reverse, Some, Ok, Err, arith}
 use Rattle.std.proofs.lemmas.List.{length-map, length-reverse}
 use Rattle.rg_base.specs.declared.object.Seen.{Seen}
 use Rattle.rg_base.specs.declared.outcome.Trap.{Trap}

@@ -173,6 +173,16 @@ made-refused t k input number line l m class a rest (refused.Trap trap) aim_is s
     (made-cut t k input number line l m class a rest trap aim_is shown_is tree found is, refl)
 made-refused t k input number line l m class a rest refused.Memory aim_is shown_is tree found is = refl
 
+-- what was made, without a size and with one
+pub made-object : (t : Tables) (k : Kept) (class : ℕ) (label : Label) (size : Option ℕ) (o : Seen) → size ≡ None →
+    o ≡ opened_as (classes_of t) class label → made_of t k class label (option_map (expr_at t) size) ≡ Ok o
+made-object t k class label size o none is = rw (none, is) refl
+
+pub made-elements : (t : Tables) (k : Kept) (class : ℕ) (label : Label) (size : Option ℕ) (e : ℕ) (v : Val) (n : ℕ) (o : Seen) →
+    size ≡ Some e → value_of (classes_of t) k.store (rows_shown.locals_of t k.frame.locals) (expr_at t e) ≡ Ok v → array_size v ≡ Ok n →
+    o ≡ array_as (classes_of t) class n label → made_of t k class label (option_map (expr_at t) size) ≡ Ok o
+made-elements t k class label size e v n o some value number is = rw (some, value, number, is) refl
+
 -- what was made belongs where it was to
 pub made-label : (t : Tables) (k : Kept) (class : ℕ) (label : Label) (size : Option Expr) (o : Seen) → made_of t k class label size ≡ Ok o →
     o.label ≡ label

@@ -49,10 +49,12 @@ pub(crate) fn put_owner(book: &Book, m: &mut Parts, place: Option<Place>, v: Val
         ≡ put_at place (plain_of book.now.program (kept_of m.old) input) v }
     ensures fit { PartsFit book.now.program m.new }
 {
+    let Some(place) = place else {
+        return;
+    };
     match place {
-        None => {}
-        Some(Place::Var { frame, slot }) => put_variable(book, m, frame, slot, v),
-        Some(Place::Field { serial, index }) => {
+        Place::Var { frame, slot } => put_variable(book, m, frame, slot, v),
+        Place::Field { serial, index } => {
             if serial < m.store.len() as u64 {
                 put_element(book, m, serial as usize, index as usize, v);
             }

@@ -1,6 +1,6 @@
-use Rattle.std.proofs.Common.{◌≡◌, List, length, map, reverse, ap, sym, ◌∙◌, arith}
+use Rattle.std.proofs.Common.{◌≡◌, length, map, reverse, ap, sym, ◌∙◌, arith}
 use Rattle.std.proofs.lemmas.List.{length-map, length-reverse}
-use Rattle.rg_rules.specs.State.{State, Frame}
+use Rattle.rg_rules.specs.State.{State}
 use Rattle.rg_plain.specs.Kept.{frame_of, kept_frame, kept_of, plain_of}
 use Rattle.rg_plain.proofs.Rows.Numbered.{set-past}
 use Rattle.rg_plain.proofs.steps.owners.put_variable.Goals as goal
