@@ -25,7 +25,7 @@ use Rattle.rg_names.specs.declared.entry.Sig.{Sig}
 use Rattle.rg_names.specs.TreeAnswers.{IsKnown, MethodIs, HasGoodParams}
 use Rattle.rg_flow.specs.Scope.{Scope, env_of}
 use Rattle.rg_flow.specs.States.{IsReadable}
-use Rattle.rg_type.specs.Inner.Changing.{TypedAs}
+use Rattle.rg_expressions.specs.Judging.{TypedAs}
 use Rattle.rg_type.specs.Inner.Calls.{LeadsAs, method_behind, param_type, SigAs}
 
 -- `new C` and the like: the class is good, and its size is

@@ -9,13 +9,12 @@ ghost use Rattle.rg_rules.specs.Rights as rules;
 ghost use Rattle.rg_names.specs.TreeAnswers.{IsGoodParam, IsKnown};
 ghost use Rattle.rg_flow.specs.Scope.{env_of};
 ghost use Rattle.rg_flow.specs.States.{IsReadable};
-ghost use Rattle.rg_type.specs.Inner.Changing.{CalledAs, DoneAs, TypedAs};
+ghost use Rattle.rg_expressions.specs.Judging.{TypedAs};
+ghost use Rattle.rg_type.specs.Inner.Changing.{CalledAs, DoneAs};
 ghost use Rattle.rg_type.specs.Inner.Calls.{method_behind, param_type, SigAs};
 
-use crate::expressions::{against, expression};
-use crate::paths::{follow, walk};
-use crate::types::iso_class;
 use rg_base::{Cap, Code, Ty};
+use rg_expressions::{against, expression, follow, iso_class, walk};
 use rg_flow::{Env, State};
 use rg_names::{Book, Sig};
 use rg_rules::below;

@@ -23,11 +23,12 @@ ghost use Rattle.rg_flow.specs.States.{IsReadable};
 ghost use Rattle.rg_type.specs.Judging.{StmtJudgedAs};
 ghost use Rattle.rg_type.specs.Inner.Changing.{LeavesAs};
 
-use crate::faults::{at_line, fault};
+use crate::faults::at_line;
 use assign::{assign, assign_element};
 use declare::declare;
 use enter::{Entrance, enter, given, leave};
 use rg_base::{Code, Stop, Ty};
+use rg_expressions::fault;
 use rg_flow::Env;
 use rg_names::{Book, Classes};
 use rg_tree::{Program, Span, StmtKind};

@@ -7,13 +7,12 @@ ghost use Rattle.rg_tree.specs.Rows.RowsExist.{IsExprNumber, IsNameIn, IsPathIn,
 ghost use Rattle.rg_rules.specs.Statements as rules;
 ghost use Rattle.rg_flow.specs.Scope.{env_of};
 ghost use Rattle.rg_flow.specs.States.{IsReadable};
-ghost use Rattle.rg_type.specs.Inner.Changing.{DoneAs, HasField};
+ghost use Rattle.rg_expressions.specs.Judging.{HasField};
+ghost use Rattle.rg_type.specs.Inner.Changing.{DoneAs};
 
-use crate::expressions::expression;
-use crate::paths::{may_write, target, walk_array};
 use crate::rights::right_side;
-use crate::types::{is_iso, stays_at_depth};
 use rg_base::{Code, Ty};
+use rg_expressions::{expression, is_iso, may_write, stays_at_depth, target, walk_array};
 use rg_flow::{Env, State};
 use rg_names::Book;
 use rg_tree::{Path, Right};

@@ -12,12 +12,11 @@ ghost use Rattle.rg_rules.specs.Statements as rules;
 ghost use Rattle.rg_names.specs.Judged.{JudgedAs};
 ghost use Rattle.rg_flow.specs.Scope.{entered, env_of};
 ghost use Rattle.rg_flow.specs.States.{IsReadable};
-ghost use Rattle.rg_type.specs.Inner.Changing.{EnteredAs, HasField, LeavesAs};
+ghost use Rattle.rg_expressions.specs.Judging.{HasField};
+ghost use Rattle.rg_type.specs.Inner.Changing.{EnteredAs, LeavesAs};
 
-use crate::faults::fault;
-use crate::paths::{seen, target};
-use crate::types::{is_same_type, iso_class};
 use rg_base::{Cap, Code, Memory, Stop, Ty};
+use rg_expressions::{fault, is_same_type, iso_class, seen, target};
 use rg_flow::{Env, State};
 use rg_names::Book;
 use rg_tree::Path;

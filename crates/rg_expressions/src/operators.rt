@@ -5,7 +5,7 @@ ghost use Rattle.rg_tree.specs.Tree.{Class};
 ghost use Rattle.rg_rules.specs.Capabilities as tables;
 ghost use Rattle.rg_rules.specs.Expressions as rules;
 ghost use Rattle.rg_names.specs.TreeAnswers.{IsKnown};
-ghost use Rattle.rg_type.specs.Inner.Operations.{operators_of};
+ghost use Rattle.rg_expressions.specs.Inner.Operations.{operators_of};
 
 use rg_base::{Cap, Ty};
 use rg_tree::BinOp;

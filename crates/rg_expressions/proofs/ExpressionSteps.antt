@@ -10,8 +10,8 @@ use Rattle.rg_rules.specs.Answers.{◌>>=◌, ◌>>◌, test, Answer}
 use Rattle.rg_rules.specs.Environment.{Env}
 use Rattle.rg_rules.specs.Paths.{Looked, read_through, walk_array}
 use Rattle.rg_rules.specs.Expressions.{Judged, Operators, among, operand_type, agree, result_type, against, nil_type, judge_is_nil, judge_expr}
-use Rattle.rg_type.specs.Inner.Changing.{TypedAs}
-use Rattle.rg_type.specs.Inner.Operations.{operation_of, own_type_of}
+use Rattle.rg_expressions.specs.Judging.{TypedAs}
+use Rattle.rg_expressions.specs.Inner.Operations.{operation_of, own_type_of}
 
 -- what was answered before the last test
 then_tested : {A : Type 0} (r : Answer A) (f : A → Judged) (go : Judged → Answer Judged) →

@@ -2,7 +2,7 @@ use Rattle.std.proofs.Common.{◌≡◌, ◌∷◌, ◌++◌, [], Some, sym, ◌
 use Rattle.std.proofs.lemmas.List.Elements.{All-pop}
 use Rattle.rg_tree.specs.Rows.Tables.{numbers_in}
 use Rattle.rg_tree.specs.Rows.RowsExist.{IsNameIn}
-use Rattle.rg_type.proofs.paths.target.Goals as goal
+use Rattle.rg_expressions.proofs.paths.target.Goals as goal
 
 pub writable-requires-clause-fields : goal.writable-requires-clause-fields
 writable-requires-clause-fields c =

@@ -1,6 +1,6 @@
 use Rattle.std.proofs.Common.{rules}
-use Rattle.rg_type.proofs.PathSteps.{swapped_field-append}
-use Rattle.rg_type.proofs.paths.writable.Goals as goal
+use Rattle.rg_expressions.proofs.PathSteps.{swapped_field-append}
+use Rattle.rg_expressions.proofs.paths.writable.Goals as goal
 
 pub returns-in_err-found-clause-judged : goal.returns-in_err-found-clause-judged
 returns-in_err-found-clause-judged c = rw swapped_field-append (search rules)

@@ -1,6 +1,6 @@
 use Rattle.std.specs.Prelude.{◌==◌}
-use Rattle.rg_type.proofs.PathSteps.{IsKnown-seen}
-use Rattle.rg_type.proofs.paths.seen.Goals as goal
+use Rattle.rg_expressions.proofs.PathSteps.{IsKnown-seen}
+use Rattle.rg_expressions.proofs.paths.seen.Goals as goal
 
 pub returns-clause-known : goal.returns-clause-known
 returns-clause-known c classes h =

@@ -11,7 +11,7 @@ ghost use Rattle.rg_rules.specs.Expressions as rules;
 ghost use Rattle.rg_names.specs.TreeAnswers.{IsKnown};
 ghost use Rattle.rg_flow.specs.Scope.{env_of};
 ghost use Rattle.rg_flow.specs.States.{readiness_of, IsReadable};
-ghost use Rattle.rg_type.specs.Inner.Changing.{HasField, TypedAs};
+ghost use Rattle.rg_expressions.specs.Judging.{HasField, TypedAs};
 
 use crate::paths::{seen, walk};
 use crate::types::is_iso;

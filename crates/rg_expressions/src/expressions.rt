@@ -10,9 +10,9 @@ ghost use Rattle.rg_rules.specs.Environment.{Env as Variables};
 ghost use Rattle.rg_rules.specs.Expressions as rules;
 ghost use Rattle.rg_names.specs.TableOf.{IsTableOf};
 ghost use Rattle.rg_names.specs.TreeAnswers.{IsKnown};
-ghost use Rattle.rg_type.specs.Inner.Changing.{TypedAs};
-ghost use Rattle.rg_type.specs.Inner.Operations.{element_of, operation_of, own_type_of};
-ghost use Rattle.rg_type.specs.Judging.{ExprJudgedAs};
+ghost use Rattle.rg_expressions.specs.Judging.{TypedAs};
+ghost use Rattle.rg_expressions.specs.Inner.Operations.{element_of, operation_of, own_type_of};
+ghost use Rattle.rg_expressions.specs.Judging.{ExprJudgedAs};
 ghost use Rattle.rg_flow.specs.Scope.{env_of, IsScopeIn};
 ghost use Rattle.rg_flow.specs.States.{IsReadable};
 

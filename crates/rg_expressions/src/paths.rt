@@ -12,7 +12,7 @@ ghost use Rattle.rg_rules.specs.Statements as statements;
 ghost use Rattle.rg_names.specs.TreeAnswers.{IsKnown};
 ghost use Rattle.rg_flow.specs.Scope.{env_of};
 ghost use Rattle.rg_flow.specs.States.{IsReadable};
-ghost use Rattle.rg_type.specs.Inner.Walks.{followed_of, looked_of};
+ghost use Rattle.rg_expressions.specs.Walks.{followed_of, looked_of};
 
 use rg_base::{Cap, Code, Ty};
 use rg_flow::{Env, Found};

@@ -3,8 +3,8 @@ use Rattle.std.proofs.lemmas.Result.{err_from_is_err_and}
 use Rattle.rg_tree.specs.Rows.RowTrees.{classes_of, expr_at}
 use Rattle.rg_rules.specs.Expressions.{among, operand_type, agree, result_type}
 use Rattle.rg_flow.specs.Scope.{env_of}
-use Rattle.rg_type.proofs.ExpressionSteps.{Operands, own-fails, own-passes, operation-passes}
-use Rattle.rg_type.proofs.expressions.+expression.Goals as goal
+use Rattle.rg_expressions.proofs.ExpressionSteps.{Operands, own-fails, own-passes, operation-passes}
+use Rattle.rg_expressions.proofs.expressions.+expression.Goals as goal
 
 pub expression-returns-in_err-ty-clause-judged : goal.expression-returns-in_err-ty-clause-judged
 expression-returns-in_err-ty-clause-judged t c =

@@ -3,8 +3,8 @@ use Rattle.std.specs.Prelude.{Result, Ok, Err}
 use Rattle.rg_base.specs.declared.fault.Code.{Code}
 use Rattle.rg_rules.specs.Answers.{Answer}
 use Rattle.rg_rules.specs.Paths as rules
-use Rattle.rg_type.specs.declared.paths.Followed.{Followed}
-use Rattle.rg_type.specs.declared.paths.Looked.{Looked}
+use Rattle.rg_expressions.specs.declared.paths.Followed.{Followed}
+use Rattle.rg_expressions.specs.declared.paths.Looked.{Looked}
 
 -- a reference that is followed
 abbrev pub followed_of : Result Followed Code → Answer rules.Followed

@@ -10,8 +10,8 @@ use Rattle.rg_rules.specs.Environment.{Env}
 use Rattle.rg_rules.specs.Paths.{read_through, walk_array}
 use Rattle.rg_rules.specs.Expressions.{Judged, nil_type, judge_path, judge_is_nil, among, operand_type, agree, result_type, judge_expr}
 use Rattle.rg_rules.specs.Expressions as rules
-use Rattle.rg_type.specs.declared.operators.Operators.{Operators}
-use Rattle.rg_type.specs.declared.operators.Operators.TheVariants.{Arithmetic, Order, Equality, Logic}
+use Rattle.rg_expressions.specs.declared.operators.Operators.{Operators}
+use Rattle.rg_expressions.specs.declared.operators.Operators.TheVariants.{Arithmetic, Order, Equality, Logic}
 
 -- the operators of one rule
 abbrev pub operators_of : Operators → rules.Operators
