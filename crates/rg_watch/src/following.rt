@@ -1,6 +1,8 @@
 //! What a run has made of regions and windows, step by step (docs/embedding.md, "Step by step").
 
-use rg_base::{Manager, Memory};
+ghost use Rattle.rg_watch.specs.Leads.{SlotsLead};
+
+use rg_base::{Manager, Memory, Word};
 use rg_code::{CodeList, Op};
 use rg_step::Stepper;
 use std::alloc::Global;
@@ -62,12 +64,61 @@ pub fn manager_made(code: &CodeList, at: usize) -> Option<Manager> {
     None
 }
 
+/// The slot whose object becomes the bridge of the region that the step at an address leaves, if it
+/// ends a window with `giving`.
+fn slot_given(code: &CodeList, at: usize) -> Option<u32> {
+    let behind = at.saturating_add(1);
+    if behind < code.len() {
+        if let Op::LeaveGiving { given, .. } = code.get(behind) {
+            return Some(given);
+        }
+    }
+    None
+}
+
+/// The serial of the object to which a slot of the top frame leads, if it leads to one.
+fn serial_in(stepper: &Stepper, slot: u32) -> Option<u64>
+    requires { SlotsLead stepper.now.parts }
+{
+    let heap = stepper.heap()?;
+    let frames = stepper.frames()?;
+    let Word::Slot(k) = frames.word(slot) else {
+        return None;
+    };
+    Some(heap.serial(k))
+}
+
+/// The serial of the object that becomes the bridge of the region that the step at an address
+/// leaves, if it ends a window with `giving`.
+pub fn bridge_given(stepper: &Stepper, code: &CodeList, at: usize) -> Option<u64>
+    requires { SlotsLead stepper.now.parts }
+{
+    let slot = slot_given(code, at)?;
+    serial_in(stepper, slot)
+}
+
 impl Followed {
     /// A program has begun.
     pub fn new(alloc: Global) -> Followed {
         Followed {
             made: Vec::new(alloc),
             open: Vec::new(alloc),
+        }
+    }
+
+    /// The region of the topmost window gets another bridge, if there is one.
+    pub fn give(&mut self, bridge: Option<u64>) {
+        let Some(bridge) = bridge else {
+            return;
+        };
+        let Some(top) = self.open.last() else {
+            return;
+        };
+        let region = top.region;
+        if region > 0 {
+            if let Some(made) = self.made.get_mut((region - 1) as usize) {
+                made.bridge = bridge;
+            }
         }
     }
 
